@@ -1,0 +1,206 @@
+-- Where the points of an answer are decoded.
+use Rattle.std.proofs.Common.{inl, inr, ◌≡◌, ℕ, zero, suc, ◌+◌, ◌*◌, ◌/◌, ℤ, pos, negsuc, neg_ℤ, ◌<ℤ◌, ◌*ℤ◌, ◌+ℤ◌, ◌-ℤ◌, true, false, List, [], ◌∷◌, ◌++◌, length, take, map, ◌<◌, ◌≤◌, Option, Some, None, is_some, IsTrue, cond, Bool, refl, sym, ap, ◌∙◌, subst, arith, nat_le, MatchOption}
+use Rattle.std.specs.Prelude.{nat_abs, slice_get}
+use Rattle.std.proofs.lemmas.Bool.{le-leb, leb-true}
+use Rattle.std.proofs.lemmas.Int.{ints}
+use Rattle.std.specs.List.{slice_index}
+use Rattle.olr_spec.specs.Coordinates.{abs24, from_abs24, nearest, relative, from_rel16}
+use Rattle.olr_spec.specs.Map.{Map, IsMap, has_line, place_at}
+use Rattle.olr_spec.specs.Extension.{Path, is_path, has, extended}
+use Rattle.olr_spec.specs.Points.{node_at, Follow}
+use Rattle.olr_spec.specs.Bearings.{Leg}
+use Rattle.olr_spec.specs.Reference.{Middle, Reference, legs, position, first_kept, last_kept, kept, last_two, middle_points, reference_of, reference_by, reference}
+use Rattle.olr_spec.specs.Reference as fields
+use Rattle.olr_spec.specs.Encoding.{Points, Refused, Refusal, path_fault, Encoding, Encodes, IsPoint}
+use Rattle.olr_spec.specs.Decoded.{lon_steps, lat_steps, steps_sum, decoded, decoded_bound, IsNear}
+use Rattle.olr_spec.proofs.ListLemmas.{has_cases}
+use Rattle.olr_spec.proofs.AnswerLemmas.{sound_lines, all_first, all_last, path_nonempty, one_follow}
+use Rattle.olr_spec.proofs.ChainLemmas.{one_tried}
+use Rattle.olr_spec.proofs.KeptLemmas.{two_kept}
+use Rattle.olr_spec.proofs.FieldLemmas.{position_is}
+use Rattle.olr_spec.proofs.FitLemmas.{kept_ends, extended_sound, answered}
+
+-- ---- one rounding
+
+-- a and b are less than n apart
+record Close (n : ℕ) (a b : ℤ) : Type 0 where
+  below : a <ℤ (b +ℤ pos n)
+  above : b <ℤ (a +ℤ pos n)
+
+close_abs : (n : ℕ) (a b : ℤ) → Close n a b → nat_abs (a -ℤ b) < n
+close_abs n a b c = let p = c.below in let q = c.above in size (a -ℤ b) (omega (arith, ints)) (omega (arith, ints))
+  where
+    size : (z : ℤ) → z <ℤ pos n → neg_ℤ (pos n) <ℤ z → nat_abs z < n
+    size (pos m) h k = omega (arith, ints)
+    size (negsuc m) h k = omega (arith, ints)
+
+above24 : (m q : ℕ) → q ≡ (m + 3515625) / 7031250 → Close 7031250 (from_abs24 (pos q)) (pos m)
+above24 m zero e = record { below = omega (arith, ints); above = omega (arith, ints) }
+above24 m (suc q) e = record { below = omega (arith, ints); above = omega (arith, ints) }
+
+below24 : (m q : ℕ) → q ≡ (suc m + 3515625) / 7031250 → Close 7031250 (from_abs24 (neg_ℤ (pos q))) (negsuc m)
+below24 m zero e = record { below = omega (arith, ints); above = omega (arith, ints) }
+below24 m (suc q) e = record { below = omega (arith, ints); above = omega (arith, ints) }
+
+plus_one : (n : ℕ) → pos 1 *ℤ pos n ≡ pos n
+plus_one n = omega (arith, ints)
+
+minus_one : (n : ℕ) → negsuc 0 *ℤ pos n ≡ neg_ℤ (pos n)
+minus_one n = omega (arith, ints)
+
+-- a place and the 24-bit step that it is put into
+close24 : (z : ℤ) → Close 7031250 (from_abs24 (abs24 z)) z
+close24 (pos zero) = record { below = omega (arith, ints); above = omega (arith, ints) }
+close24 (pos (suc n)) = subst (λ (k : ℤ). Close 7031250 (from_abs24 k) (pos (suc n))) (sym (plus_one ((suc n + 3515625) / 7031250))) (above24 (suc n) ((suc n + 3515625) / 7031250) refl)
+close24 (negsuc n) = subst (λ (k : ℤ). Close 7031250 (from_abs24 k) (negsuc n)) (sym (minus_one ((suc n + 3515625) / 7031250))) (below24 n ((suc n + 3515625) / 7031250) refl)
+
+-- a difference and its relative value: at most half a relative step
+close16 : (z : ℤ) → Close 1638401 (from_rel16 (nearest 1638400 3276800 z)) z
+close16 (pos zero) = record { below = omega (arith, ints); above = omega (arith, ints) }
+close16 (pos (suc n)) = record { below = omega (arith, ints); above = omega (arith, ints) }
+close16 (negsuc n) = record { below = omega (arith, ints); above = omega (arith, ints) }
+
+-- ---- one after another
+
+-- the relative values from h to the first of ks, from there to the second, and so on; f is a coordinate of each
+abbrev relatives : (ℕ → ℤ) → ℕ → List ℕ → List ℤ
+relatives f h [] = []
+relatives f h (i ∷ ks) = relative (f h) (f i) ∷ relatives f i ks
+
+-- one relative value more
+close_step : (n : ℕ) (a r x y : ℤ) → Close n a x → Close 1638401 r (y -ℤ x) → Close (n + 1638400) (a +ℤ r) y
+close_step n a r x y c d = let p = c.below in let q = c.above in let s = d.below in let t = d.above in record { below = omega (arith, ints); above = omega (arith, ints) }
+
+close_same : (n m : ℕ) (a b y : ℤ) → n ≡ m → a ≡ b → Close n a y → Close m b y
+close_same n m a b y e f c = subst (λ (k : ℕ). Close k b y) e (subst (λ (z : ℤ). Close n z y) f c)
+
+close_on : (f : ℕ → ℤ) (n h k : ℕ) (ks : List ℕ) (a : ℤ) → Close n a (f h) → k ≤ length ks → Close (n + k * 1638400) (a +ℤ steps_sum (take k (relatives f h ks))) (f (slice_index (h ∷ ks) k))
+close_on f n h zero ks a c le = close_same n (n + zero * 1638400) a (a +ℤ pos 0) (f h) (omega arith) (omega (arith, ints)) c
+close_on f n h (suc k) [] a c le = absurd (omega arith)
+close_on f n h (suc k) (i ∷ ks) a c le =
+    let r = from_rel16 (relative (f h) (f i)) in
+    let rest = close_on f (n + 1638400) i k ks (a +ℤ r) (close_step n a r (f h) (f i) c (close16 (f i -ℤ f h))) (omega arith) in
+    close_same (n + 1638400 + k * 1638400) (n + suc k * 1638400) (a +ℤ r +ℤ steps_sum (take k (relatives f i ks))) (a +ℤ (r +ℤ steps_sum (take k (relatives f i ks)))) (f (slice_index (i ∷ ks) k)) (omega arith)
+    (assoc a r (steps_sum (take k (relatives f i ks)))) rest
+  where
+    assoc : (a b c : ℤ) → a +ℤ b +ℤ c ≡ a +ℤ (b +ℤ c)
+    assoc a b c = omega (arith, ints)
+
+-- ---- the fields of a reference
+
+lon_relatives : (gs : List Leg) (h i : ℕ) (js : List ℕ) → map (λ (m : Middle). m.dlon) (middle_points gs h i js) ++ (fields.last_point gs (last_two h i js).0 (last_two h i js).1).dlon ∷ [] ≡ relatives (λ k. (position gs k).lon) h (i ∷ js)
+lon_relatives gs h i [] = refl
+lon_relatives gs h i (j ∷ js) = ap (λ (zs : List ℤ). relative (position gs h).lon (position gs i).lon ∷ zs) (lon_relatives gs i j js)
+
+lat_relatives : (gs : List Leg) (h i : ℕ) (js : List ℕ) → map (λ (m : Middle). m.dlat) (middle_points gs h i js) ++ (fields.last_point gs (last_two h i js).0 (last_two h i js).1).dlat ∷ [] ≡ relatives (λ k. (position gs k).lat) h (i ∷ js)
+lat_relatives gs h i [] = refl
+lat_relatives gs h i (j ∷ js) = ap (λ (zs : List ℤ). relative (position gs h).lat (position gs i).lat ∷ zs) (lat_relatives gs i j js)
+
+middle_count : (gs : List Leg) (h i : ℕ) (js : List ℕ) → length (middle_points gs h i js) ≡ length js
+middle_count gs h i [] = refl
+middle_count gs h i (j ∷ js) = ap suc (middle_count gs i j js)
+
+near_of : (gs : List Leg) (p q h i : ℕ) (js : List ℕ) (k : ℕ) → k ≤ length (i ∷ js) → (d : ℤ × ℤ) × (decoded (reference_of gs p q h i js) k ≡ Some d) × IsNear k d (position gs (slice_index (h ∷ i ∷ js) k))
+near_of gs p q h i js k le =
+    let r = reference_of gs p q h i js in
+    let lon = close_on (λ n. (position gs n).lon) 7031250 h k (i ∷ js) (from_abs24 r.first.lon) (close24 (position gs h).lon) le in
+    let lat = close_on (λ n. (position gs n).lat) 7031250 h k (i ∷ js) (from_abs24 r.first.lat) (close24 (position gs h).lat) le in
+    let lons = lon_relatives gs h i js in
+    let lats = lat_relatives gs h i js in
+    let there : nat_le k (length r.middle + 1) ≡ true = le-leb k (length r.middle + 1) (let n = middle_count gs h i js in omega arith) in (
+      (from_abs24 r.first.lon +ℤ steps_sum (take k (lon_steps r)), from_abs24 r.first.lat +ℤ steps_sum (take k (lat_steps r))),
+      ap (λ (b : Bool). cond b (Some (from_abs24 r.first.lon +ℤ steps_sum (take k (lon_steps r)), from_abs24 r.first.lat +ℤ steps_sum (take k (lat_steps r)))) None) there,
+      record {
+        lon = close_abs (decoded_bound k) _ _ (subst (λ (zs : List ℤ). Close (decoded_bound k) (from_abs24 r.first.lon +ℤ steps_sum (take k zs)) (position gs (slice_index (h ∷ i ∷ js) k)).lon) (sym lons) lon);
+        lat = close_abs (decoded_bound k) _ _ (subst (λ (zs : List ℤ). Close (decoded_bound k) (from_abs24 r.first.lat +ℤ steps_sum (take k zs)) (position gs (slice_index (h ∷ i ∷ js) k)).lat) (sym lats) lat);
+      },
+    )
+
+-- ---- the points of an answer
+
+-- a list with two different numbers has two elements
+two_of : (ks : List ℕ) (a b : ℕ) → has ks a ≡ true → has ks b ≡ true → a < b → (h i : ℕ) × (js : List ℕ) × (ks ≡ h ∷ i ∷ js)
+two_of [] a b p q lt = absurd cc
+two_of (h ∷ []) a b p q lt =
+    elim (has_cases h [] a p) [
+      | inr g ↦ absurd cc
+      | inl e ↦ elim (has_cases h [] b q) [ inr g ↦ absurd cc | inl f ↦ absurd (omega arith) ]
+    ]
+two_of (h ∷ i ∷ js) a b p q lt = (h, i, js, refl)
+
+-- what is decoded of the points ks: one place for each, near its own
+record Decodes (gs : List Leg) (ks : List ℕ) (r : Reference) : Type 0 where
+  count : length r.middle + 2 ≡ length ks
+  near : (k : ℕ) → k < length ks → (d : ℤ × ℤ) × (decoded r k ≡ Some d) × IsNear k d (position gs (slice_index ks k))
+
+decodes : (gs : List Leg) (p q : ℕ) (ks : List ℕ) → (h i : ℕ) × (js : List ℕ) × (ks ≡ h ∷ i ∷ js) → Decodes gs ks (reference_by gs p q ks)
+decodes gs p q ks t =
+    subst (λ (zs : List ℕ). Decodes gs zs (reference_by gs p q zs)) (sym t.3) (record {
+      count = let n = middle_count gs t.0 t.1 t.2 in omega arith;
+      near = λ k lt. near_of gs p q t.0 t.1 t.2 k (omega arith);
+    })
+
+answer_decodes : (M : Map) → (P : Path) → IsTrue (is_path P.lines) → path_fault M P ≡ None → (r : Reference) → (e : Encoding M P (Points r))
+    → Decodes (legs M (extended M P e.before e.after).lines) (kept (legs M (extended M P e.before e.after).lines) (extended M P e.before e.after).pos (extended M P e.before e.after).neg e.points) r
+answer_decodes M P is none r e =
+    let E = extended M P e.before e.after in
+    let gs = legs M E.lines in
+    let s = extended_sound M P is none e.before e.after e.tried in
+    let a = answered M E e.points r e.answer in
+    let ends = kept_ends M E.lines e.points E.pos E.neg e.follow a.0 s.long in
+    let two = two_kept M E.lines e.points E.pos E.neg e.follow a.0 s.long in
+    subst (Decodes gs (kept gs E.pos E.neg e.points)) (sym a.1)
+    (decodes gs _ _ (kept gs E.pos E.neg e.points) (two_of (kept gs E.pos E.neg e.points) (first_kept gs E.pos e.points) (last_kept gs E.neg e.points) ends.0 ends.1 two))
+
+got_index : (ks : List ℕ) (k i : ℕ) → slice_get ks k ≡ Some i → (k < length ks) × (slice_index ks k ≡ i)
+got_index [] k i e = absurd cc
+got_index (x ∷ ks) zero i e = (omega arith, cc)
+got_index (x ∷ ks) (suc k) i e = let r = got_index ks k i e in (omega (arith, r.0), r.1)
+
+index_got : (ks : List ℕ) (k : ℕ) → k < length ks → slice_get ks k ≡ Some (slice_index ks k)
+index_got [] k lt = absurd (omega arith)
+index_got (x ∷ ks) zero lt = refl
+index_got (x ∷ ks) (suc k) lt = index_got ks k (omega arith)
+
+module _ (M : Map) (m : IsMap M) (P : Path) (is : IsTrue (is_path P.lines)) (none : path_fault M P ≡ None) (r : Reference) (e : Encoding M P (Points r)) where
+  near_point : (k v : ℕ) → IsPoint M P k v → (d : ℤ × ℤ) × (decoded r k ≡ Some d) × IsNear k d (place_at M v)
+  near_point k v p =
+      let Known : ℕ → Type 0 = λ x. IsTrue (has_line M x) in
+      let n = path_nonempty P.lines is in
+      let known = sound_lines M P none in
+      let E = extended M P e.before e.after in
+      let chains = one_tried M m P n (all_first Known P.lines n known) (all_last Known P.lines n known) e.before e.after p.before p.after e.tried p.tried in
+      let same : E ≡ extended M P p.before p.after = λ i. extended M P (chains.0 i) (chains.1 i) in
+      let points : e.points ≡ p.points = one_follow M E.lines 0 e.points p.points e.follow (subst (λ (E : Path). Follow M E.lines 0 p.points) (sym same) p.follow) in
+      let stands : slice_get (kept (legs M E.lines) E.pos E.neg e.points) k ≡ Some p.position = (λ i. slice_get (kept (legs M (same i).lines) (same i).pos (same i).neg (points i)) k) ∙ p.stands in
+      let node : node_at M E.lines p.position ≡ v = (λ i. node_at M (same i).lines p.position) ∙ p.node in
+      let at = got_index (kept (legs M E.lines) E.pos E.neg e.points) k p.position stands in
+      let near = (answer_decodes M P is none r e).near k at.0 in
+      let s = extended_sound M P is none e.before e.after e.tried in
+      let place : position (legs M E.lines) (slice_index (kept (legs M E.lines) E.pos E.neg e.points) k) ≡ place_at M v = ap (position (legs M E.lines)) at.1 ∙ position_is M m E.lines s.known p.position s.size ∙ ap (place_at M) node in
+      (near.0, near.1, subst (IsNear k near.0) place near.2)
+
+  point_at : (k : ℕ) → is_some (decoded r k) ≡ true → (v : ℕ) × IsPoint M P k v
+  point_at k h =
+      let E = extended M P e.before e.after in
+      let ks = kept (legs M E.lines) E.pos E.neg e.points in
+      let count = (answer_decodes M P is none r e).count in
+      let low : k ≤ length r.middle + 1 = leb-true k (length r.middle + 1) (taken (nat_le k (length r.middle + 1)) _ h) in (
+        node_at M E.lines (slice_index ks k),
+        record { before = e.before; after = e.after; points = e.points; position = slice_index ks k; tried = e.tried; follow = e.follow; stands = index_got ks k (omega arith); node = refl },
+      )
+    where
+      taken : (b : Bool) (d : ℤ × ℤ) → is_some (cond b (Some d) None) ≡ true → b ≡ true
+      taken true d h = refl
+      taken false d h = absurd cc
+
+-- the same of an answer
+by_fault : (M : Map) (P : Path) (r : Reference) (o : Option Refusal) → path_fault M P ≡ o → MatchOption o (Encoding M P (Points r)) (λ f. Points r ≡ Refused f) → (path_fault M P ≡ None) × Encoding M P (Points r)
+by_fault M P r None f e = (f, e)
+by_fault M P r (Some g) f e = absurd cc
+
+pub decoded_near : (M : Map) → IsMap M → (P : Path) → IsTrue (is_path P.lines) → (r : Reference) → Encodes M P (Points r) → (k v : ℕ) → IsPoint M P k v → (d : ℤ × ℤ) × (decoded r k ≡ Some d) × IsNear k d (place_at M v)
+decoded_near M m P is r e = let p = by_fault M P r (path_fault M P) refl e in near_point M m P is p.0 r p.1
+
+pub decoded_points : (M : Map) → IsMap M → (P : Path) → IsTrue (is_path P.lines) → (r : Reference) → Encodes M P (Points r) → (k : ℕ) → IsTrue (is_some (decoded r k)) → (v : ℕ) × IsPoint M P k v
+decoded_points M m P is r e = let p = by_fault M P r (path_fault M P) refl e in point_at M m P is p.0 r p.1

@@ -1,0 +1,310 @@
+-- Bytes have no fault exactly where some reference spells them.
+use Rattle.std.proofs.Common.{inl, inr, ◌≡◌, ℕ, zero, suc, ◌+◌, ◌-◌, ◌*◌, ◌/◌, ◌%◌, ◌<◌, ◌≤◌, ℤ, pos, negsuc, ◌≤ℤ◌, Bool, true, false, cond, not, ◌||◌, List, [], ◌∷◌, ◌++◌, length, Option, Some, None, IfSome, IsTrue, refl, sym, ap, ◌∙◌, subst, arith, nat_lt, nat_le, ◌==◌, length-append, ◌↔◌}
+use Rattle.std.proofs.lemmas.Bool.{cases_lt, and_from, or_parts, eqb-true, eq-eqb, leb-false, le-ltb, lt-leb, ltb-false, not-false}
+use Rattle.std.proofs.lemmas.Int.{ints}
+use Rattle.std.proofs.lemmas.List.{get_or-append-add}
+use Rattle.std.specs.Int.RustNames.{int_le}
+use Rattle.std.specs.List.{All, AllByRecursion, flat_map, list_any, slice_index}
+use Rattle.olr_spec.specs.Coordinates.{within, fits16}
+use Rattle.olr_spec.specs.Reference.{Attrs, First, Middle, Last, Reference}
+use Rattle.olr_spec.specs.Bytes.{AreAttrs, IsFirst, IsMiddle, IsLast, IsReference, fits24, residue, signed16, signed24, attribute1, attribute4, attr_bytes, first_bytes, middle_bytes, last_bytes, flag, offset_bytes, status, spelling, Spells, V3Fault, Length, Status, Flags, Reserved, extra, bit, flags_of, attribute1_bytes, has_reserved, v3_fault}
+use Rattle.olr_spec.proofs.SectorLemmas.{le_test}
+
+abbrev AreBytes : List ℕ → Type 0
+AreBytes xs = AllByRecursion (λ x. x < 256) xs
+
+are_bytes : (xs : List ℕ) → All (λ x. x < 256) xs → AreBytes xs
+are_bytes [] h = tt
+are_bytes (x ∷ xs) h = (h 0 x (omega arith), are_bytes xs (λ k d lt. h (suc k) d (omega arith)))
+
+bytes_before : (xs ys : List ℕ) → AreBytes (xs ++ ys) → AreBytes xs
+bytes_before [] ys h = tt
+bytes_before (x ∷ xs) ys h = (h.0, bytes_before xs ys h.1)
+
+-- ---- fields read back
+
+-- a number below twice suc h, as the two's complement of a whole number
+signed_of : (h v : ℕ) → v < suc h + suc h → (z : ℤ) × (negsuc h ≤ℤ z) × (z ≤ℤ pos h) × (residue (suc h + suc h) z ≡ v)
+signed_of h v lt =
+    elim (cases_lt v (suc h)) [
+      | inl low ↦ (pos v, omega (arith, ints), omega (arith, ints), refl)
+      | inr high ↦ (negsuc (suc (h + h) - v), omega (arith, ints), omega (arith, ints), omega arith)
+    ]
+
+in_range : (a b z : ℤ) → a ≤ℤ z → z ≤ℤ b → IsTrue (within a b z)
+in_range a b z h k = and_from (int_le a z) (int_le z b) (le_test a z h) (le_test z b k)
+
+read16 : (a b : ℕ) → a < 256 → b < 256 → (z : ℤ) × IsTrue (fits16 z) × (signed16 z ≡ a ∷ b ∷ [])
+read16 a b la lb =
+    let s = signed_of 32767 (256 * a + b) (omega arith) in
+    let r : residue 65536 s.0 ≡ 256 * a + b = s.3 in
+    let p : residue 65536 s.0 / 256 % 256 ≡ a = omega arith in
+    let q : residue 65536 s.0 % 256 ≡ b = omega arith in
+    (s.0, in_range (negsuc 32767) (pos 32767) s.0 s.1 s.2, λ i. p i ∷ q i ∷ [])
+
+read24 : (a b c : ℕ) → a < 256 → b < 256 → c < 256 → (z : ℤ) × IsTrue (fits24 z) × (signed24 z ≡ a ∷ b ∷ c ∷ [])
+read24 a b c la lb lc =
+    let s = signed_of 8388607 (65536 * a + 256 * b + c) (omega arith) in
+    let r : residue 16777216 s.0 ≡ 65536 * a + 256 * b + c = s.3 in
+    let p : residue 16777216 s.0 / 65536 % 256 ≡ a = omega arith in
+    let q : residue 16777216 s.0 / 256 % 256 ≡ b = omega arith in
+    let t : residue 16777216 s.0 % 256 ≡ c = omega arith in
+    (s.0, in_range (negsuc 8388607) (pos 8388607) s.0 s.1 s.2, λ i. p i ∷ q i ∷ t i ∷ [])
+
+read_attrs : (a b c : ℕ) → a < 64 → b < 256 → c < 256 → (t : Attrs) × AreAttrs t × (attr_bytes t ≡ a ∷ b ∷ c ∷ [])
+read_attrs a b c la lb lc =
+    let p : 8 * (a / 8) + a % 8 ≡ a = omega arith in
+    let q : 32 * (b / 32) + b % 32 ≡ b = omega arith in (
+      record { frc = a / 8; fow = a % 8; lfrc = b / 32; bearing = b % 32; dnp = c },
+      record { frc = omega arith; fow = omega arith; lfrc = omega arith; bearing = omega arith; dnp = lc },
+      λ i. p i ∷ q i ∷ c ∷ [],
+    )
+
+read_first : (a b c d e f g h k : ℕ) → AreBytes (a ∷ b ∷ c ∷ d ∷ e ∷ f ∷ g ∷ h ∷ k ∷ []) → g < 64 → (p : First) × IsFirst p × (first_bytes p ≡ a ∷ b ∷ c ∷ d ∷ e ∷ f ∷ g ∷ h ∷ k ∷ [])
+read_first a b c d e f g h k w lt =
+    let lon = read24 a b c w.0 w.1.0 w.1.1.0 in
+    let rest = w.1.1.1 in
+    let lat = read24 d e f rest.0 rest.1.0 rest.1.1.0 in
+    let attrs = read_attrs g h k lt rest.1.1.1.1.0 rest.1.1.1.1.1.0 in (
+      record { lon = lon.0; lat = lat.0; attrs = attrs.0 },
+      record { lon = lon.1; lat = lat.1; attrs = attrs.1 },
+      λ i. lon.2 i ++ lat.2 i ++ attrs.2 i,
+    )
+
+read_middle : (a b c d e f g : ℕ) → AreBytes (a ∷ b ∷ c ∷ d ∷ e ∷ f ∷ g ∷ []) → e < 64 → (p : Middle) × IsMiddle p × (middle_bytes p ≡ a ∷ b ∷ c ∷ d ∷ e ∷ f ∷ g ∷ [])
+read_middle a b c d e f g w lt =
+    let lon = read16 a b w.0 w.1.0 in
+    let rest = w.1.1 in
+    let lat = read16 c d rest.0 rest.1.0 in
+    let attrs = read_attrs e f g lt rest.1.1.1.0 rest.1.1.1.1.0 in (
+      record { dlon = lon.0; dlat = lat.0; attrs = attrs.0 },
+      record { dlon = lon.1; dlat = lat.1; attrs = attrs.1 },
+      λ i. lon.2 i ++ lat.2 i ++ attrs.2 i,
+    )
+
+-- ---- places in the bytes
+
+-- attribute bytes behind other bytes
+attributes_behind : (xs ys : List ℕ) (i n : ℕ) → attribute1_bytes (xs ++ ys) (length xs + i) n ≡ attribute1_bytes ys i n
+attributes_behind xs ys i zero = refl
+attributes_behind xs ys i (suc n) =
+    let here = get_or-append-add xs ys i 0 in
+    let on : length xs + i + 7 ≡ length xs + (i + 7) = omega arith in
+    let rest : attribute1_bytes (xs ++ ys) (length xs + i + 7) n ≡ attribute1_bytes ys (i + 7) n = ap (λ (k : ℕ). attribute1_bytes (xs ++ ys) k n) on ∙ attributes_behind xs ys (i + 7) n in
+    λ j. here j ∷ rest j
+
+abbrev reserved : List ℕ → Bool
+reserved xs = list_any (λ a. nat_le 64 a) xs
+
+-- ---- the points after the first, and the offsets
+
+-- the bytes t are those of some points, up to the end
+record Points (t : List ℕ) : Type 0 where
+  middle : List Middle
+  last : Last
+  positive : Option ℕ
+  negative : Option ℕ
+  are_middle : AllByRecursion IsMiddle middle
+  is_last : IsLast last
+  is_positive : IfSome positive (λ n. n < 256)
+  is_negative : IfSome negative (λ n. n < 256)
+  spelled : t ≡ flat_map middle_bytes middle ++ last_bytes last positive negative
+
+-- the last point, whose flags are those of the offsets
+last_with : (a b c d f g : ℕ) (positive negative : Option ℕ) → AreBytes (a ∷ b ∷ c ∷ d ∷ f ∷ g ∷ []) → f < 64 → 64 * flag positive + 32 * flag negative + g % 32 ≡ g
+    → IfSome positive (λ n. n < 256) → IfSome negative (λ n. n < 256) → Points (a ∷ b ∷ c ∷ d ∷ f ∷ g ∷ (offset_bytes positive ++ offset_bytes negative))
+last_with a b c d f g positive negative w lt e p n =
+    let lon = read16 a b w.0 w.1.0 in
+    let rest = w.1.1 in
+    let lat = read16 c d rest.0 rest.1.0 in
+    let first : 8 * (f / 8) + f % 8 ≡ f = omega arith in
+    record {
+      middle = [];
+      last = record { dlon = lon.0; dlat = lat.0; frc = f / 8; fow = f % 8; bearing = g % 32 };
+      positive = positive;
+      negative = negative;
+      are_middle = tt;
+      is_last = record { dlon = lon.1; dlat = lat.1; frc = omega arith; fow = omega arith; bearing = omega arith };
+      is_positive = p;
+      is_negative = n;
+      spelled = sym (λ i. lon.2 i ++ lat.2 i ++ first i ∷ e i ∷ (offset_bytes positive ++ offset_bytes negative));
+    }
+
+read_last : (a b c d f g : ℕ) (rest : List ℕ) → AreBytes (a ∷ b ∷ c ∷ d ∷ f ∷ g ∷ rest) → f < 64 → g < 128 → bit 6 g + bit 5 g ≡ length rest → Points (a ∷ b ∷ c ∷ d ∷ f ∷ g ∷ rest)
+read_last a b c d f g [] w lf lg e = last_with a b c d f g None None w lf (omega arith) tt tt
+read_last a b c d f g (h ∷ []) w lf lg e =
+    let front : AreBytes (a ∷ b ∷ c ∷ d ∷ f ∷ g ∷ []) = bytes_before (a ∷ b ∷ c ∷ d ∷ f ∷ g ∷ []) (h ∷ []) w in
+    let off = w.1.1.1.1.1.1.0 in
+    elim (cases_lt g 64) [
+      | inl low ↦ last_with a b c d f g None (Some h) front lf (omega arith) tt off
+      | inr high ↦ last_with a b c d f g (Some h) None front lf (omega arith) off tt
+    ]
+read_last a b c d f g (h ∷ k ∷ []) w lf lg e =
+    let front : AreBytes (a ∷ b ∷ c ∷ d ∷ f ∷ g ∷ []) = bytes_before (a ∷ b ∷ c ∷ d ∷ f ∷ g ∷ []) (h ∷ k ∷ []) w in
+    let offs = w.1.1.1.1.1.1 in
+    last_with a b c d f g (Some h) (Some k) front lf (omega arith) offs.0 offs.1.0
+read_last a b c d f g (h ∷ k ∷ l ∷ rest) w lf lg e = absurd (omega arith)
+
+-- m points before the last
+read_points : (m : ℕ) (t : List ℕ) → AreBytes t → 7 * m + 6 ≤ length t → bit 6 (slice_index t (7 * m + 5)) + bit 5 (slice_index t (7 * m + 5)) ≡ length t - (7 * m + 6)
+    → slice_index t (7 * m + 5) < 128 → reserved (attribute1_bytes t 4 (suc m)) ≡ false → Points t
+read_points zero [] w long flags top free = absurd (omega arith)
+read_points zero (a ∷ []) w long flags top free = absurd (omega arith)
+read_points zero (a ∷ b ∷ []) w long flags top free = absurd (omega arith)
+read_points zero (a ∷ b ∷ c ∷ []) w long flags top free = absurd (omega arith)
+read_points zero (a ∷ b ∷ c ∷ d ∷ []) w long flags top free = absurd (omega arith)
+read_points zero (a ∷ b ∷ c ∷ d ∷ f ∷ []) w long flags top free = absurd (omega arith)
+read_points zero (a ∷ b ∷ c ∷ d ∷ f ∷ g ∷ rest) w long flags top free =
+    let low : f < 64 = leb-false 64 f (or_parts (nat_le 64 f) false free).0 in
+    read_last a b c d f g rest w low top (let size : suc (suc (suc (suc (suc (suc (length rest)))))) - 6 ≡ length rest = omega arith in flags ∙ size)
+read_points (suc m) [] w long flags top free = absurd (omega arith)
+read_points (suc m) (a ∷ []) w long flags top free = absurd (omega arith)
+read_points (suc m) (a ∷ b ∷ []) w long flags top free = absurd (omega arith)
+read_points (suc m) (a ∷ b ∷ c ∷ []) w long flags top free = absurd (omega arith)
+read_points (suc m) (a ∷ b ∷ c ∷ d ∷ []) w long flags top free = absurd (omega arith)
+read_points (suc m) (a ∷ b ∷ c ∷ d ∷ e ∷ []) w long flags top free = absurd (omega arith)
+read_points (suc m) (a ∷ b ∷ c ∷ d ∷ e ∷ f ∷ []) w long flags top free = absurd (omega arith)
+read_points (suc m) (a ∷ b ∷ c ∷ d ∷ e ∷ f ∷ g ∷ t) w long flags top free =
+    let cut : List ℕ = a ∷ b ∷ c ∷ d ∷ e ∷ f ∷ g ∷ [] in
+    let front : AreBytes cut = bytes_before cut t w in
+    let parts = or_parts (nat_le 64 e) (reserved (attribute1_bytes (cut ++ t) 11 (suc m))) free in
+    let p = read_middle a b c d e f g front (leb-false 64 e parts.0) in
+    let place : 7 * suc m + 5 ≡ 7 + (7 * m + 5) = omega arith in
+    let same : slice_index (cut ++ t) (7 * suc m + 5) ≡ slice_index t (7 * m + 5) = ap (slice_index (cut ++ t)) place ∙ get_or-append-add cut t (7 * m + 5) 0 in
+    let left : suc (suc (suc (suc (suc (suc (suc (length t))))))) - (7 * suc m + 6) ≡ length t - (7 * m + 6) = omega arith in
+    let rest =
+    read_points m t w.1.1.1.1.1.1.1 (omega arith) (ap (λ (x : ℕ). bit 6 x + bit 5 x) (sym same) ∙ flags ∙ left) (subst (λ (x : ℕ). x < 128) same top)
+    (ap reserved (sym (attributes_behind cut t 4 (suc m))) ∙ parts.1) in
+    record {
+      middle = p.0 ∷ rest.middle;
+      last = rest.last;
+      positive = rest.positive;
+      negative = rest.negative;
+      are_middle = (p.1, rest.are_middle);
+      is_last = rest.is_last;
+      is_positive = rest.is_positive;
+      is_negative = rest.is_negative;
+      spelled = λ i. sym p.2 i ++ rest.spelled i;
+    }
+
+-- ---- bytes without a fault
+
+no_fault : (b : Bool) (f : V3Fault) (o : Option V3Fault) → cond b (Some f) o ≡ None → (b ≡ false) × (o ≡ None)
+no_fault true f o e = absurd cc
+no_fault false f o e = (refl, e)
+
+-- what the tests of the four faults say where none comes
+record Passes (b : List ℕ) : Type 0 where
+  long : 16 ≤ length b
+  few : extra b ≤ 2
+  status : slice_index b 0 ≡ 11
+  flags : bit 6 (flags_of b) + bit 5 (flags_of b) ≡ extra b
+  free : reserved (slice_index b 7 ∷ attribute1_bytes b 14 ((length b - 16) / 7 + 1)) ≡ false
+  top : flags_of b < 128
+
+passes : (b : List ℕ) → v3_fault b ≡ None → Passes b
+passes b e =
+    let p = no_fault (nat_lt (length b) 16 || nat_lt 2 (extra b)) Length _ e in
+    let q = no_fault (not (slice_index b 0 == status)) Status _ p.1 in
+    let r = no_fault (not (bit 6 (flags_of b) + bit 5 (flags_of b) == extra b)) Flags _ q.1 in
+    let s = no_fault (has_reserved b) Reserved None r.1 in
+    let size = or_parts (nat_lt (length b) 16) (nat_lt 2 (extra b)) p.0 in
+    let clear = or_parts (reserved (slice_index b 7 ∷ attribute1_bytes b 14 ((length b - 16) / 7 + 1))) (nat_le 128 (flags_of b)) s.0 in
+    record {
+      long = ltb-false (length b) 16 size.0;
+      few = ltb-false 2 (extra b) size.1;
+      status = eqb-true (slice_index b 0) 11 (not-false (slice_index b 0 == status) q.0);
+      flags = eqb-true _ _ (not-false _ r.0);
+      free = clear.0;
+      top = leb-false 128 (flags_of b) clear.1;
+    }
+
+-- the first ten bytes, and the others
+read_bytes : (b : List ℕ) → AreBytes b → Passes b → (r : Reference) × Spells r b
+read_bytes [] w p = let h = p.long in absurd (omega arith)
+read_bytes (s ∷ []) w p = let h = p.long in absurd (omega arith)
+read_bytes (s ∷ a ∷ []) w p = let h = p.long in absurd (omega arith)
+read_bytes (s ∷ a ∷ b ∷ []) w p = let h = p.long in absurd (omega arith)
+read_bytes (s ∷ a ∷ b ∷ c ∷ []) w p = let h = p.long in absurd (omega arith)
+read_bytes (s ∷ a ∷ b ∷ c ∷ d ∷ []) w p = let h = p.long in absurd (omega arith)
+read_bytes (s ∷ a ∷ b ∷ c ∷ d ∷ e ∷ []) w p = let h = p.long in absurd (omega arith)
+read_bytes (s ∷ a ∷ b ∷ c ∷ d ∷ e ∷ f ∷ []) w p = let h = p.long in absurd (omega arith)
+read_bytes (s ∷ a ∷ b ∷ c ∷ d ∷ e ∷ f ∷ g ∷ []) w p = let h = p.long in absurd (omega arith)
+read_bytes (s ∷ a ∷ b ∷ c ∷ d ∷ e ∷ f ∷ g ∷ k ∷ []) w p = let h = p.long in absurd (omega arith)
+read_bytes (s ∷ a ∷ b ∷ c ∷ d ∷ e ∷ f ∷ g ∷ k ∷ l ∷ t) w p =
+    let cut : List ℕ = s ∷ a ∷ b ∷ c ∷ d ∷ e ∷ f ∷ g ∷ k ∷ l ∷ [] in
+    let h = p.long in
+    let few = p.few in
+    let m : ℕ = (length (cut ++ t) - 16) / 7 in
+    let front = bytes_before cut t w in
+    let parts = or_parts (nat_le 64 g) (reserved (attribute1_bytes (cut ++ t) 14 (m + 1))) p.free in
+    let first = read_first a b c d e f g k l front.1 (leb-false 64 g parts.0) in
+    let place : length (cut ++ t) - 1 - extra (cut ++ t) ≡ 10 + (7 * m + 5) = omega arith in
+    let same : flags_of (cut ++ t) ≡ slice_index t (7 * m + 5) = ap (slice_index (cut ++ t)) place ∙ get_or-append-add cut t (7 * m + 5) 0 in
+    let left : extra (cut ++ t) ≡ length t - (7 * m + 6) = omega arith in
+    let count : m + 1 ≡ suc m = omega arith in
+    let rest =
+    read_points m t w.1.1.1.1.1.1.1.1.1.1 (omega arith) (ap (λ (x : ℕ). bit 6 x + bit 5 x) (sym same) ∙ p.flags ∙ left) (subst (λ (x : ℕ). x < 128) same p.top)
+    (ap reserved (sym (attributes_behind cut t 4 (suc m)) ∙ ap (attribute1_bytes (cut ++ t) 14) (sym count)) ∙ parts.1) in (
+      record { first = first.0; middle = rest.middle; last = rest.last; pos = rest.positive; neg = rest.negative },
+      (record { first = first.1; middle = rest.are_middle; last = rest.is_last; pos = rest.is_positive; neg = rest.is_negative }, λ i. p.status i ∷ sym first.2 i ++ rest.spelled i),
+    )
+
+pub read_spelled : (b : List ℕ) → All (λ x. x < 256) b → v3_fault b ≡ None → (r : Reference) × Spells r b
+read_spelled b h e = read_bytes b (are_bytes b h) (passes b e)
+
+-- ---- bytes that are spelled
+
+middles_length : (ps : List Middle) → length (flat_map middle_bytes ps) ≡ 7 * length ps
+middles_length [] = refl
+middles_length (p ∷ ps) = omega (arith, length-append (middle_bytes p) (flat_map middle_bytes ps), middles_length ps)
+
+flag_is : (o : Option ℕ) → length (offset_bytes o) ≡ flag o
+flag_is None = refl
+flag_is (Some n) = refl
+
+flag_most : (o : Option ℕ) → flag o ≤ 1
+flag_most None = omega arith
+flag_most (Some n) = omega arith
+
+-- none of the points' attribute bytes has a reserved bit
+unreserved : (ps : List Middle) (l : Last) (positive negative : Option ℕ) → AllByRecursion IsMiddle ps → IsLast l
+    → reserved (attribute1_bytes (flat_map middle_bytes ps ++ last_bytes l positive negative) 4 (suc (length ps))) ≡ false
+unreserved [] l positive negative h k =
+    let low : nat_le 64 (attribute1 l.frc l.fow) ≡ false = lt-leb 64 (attribute1 l.frc l.fow) (let f = k.frc in let g = k.fow in omega arith) in
+    ap (λ (b : Bool). b || false) low
+unreserved (p ∷ ps) l positive negative h k =
+    let rest = flat_map middle_bytes ps ++ last_bytes l positive negative in
+    let low : nat_le 64 (attribute1 p.attrs.frc p.attrs.fow) ≡ false = lt-leb 64 (attribute1 p.attrs.frc p.attrs.fow) (let f = h.0.attrs.frc in let g = h.0.attrs.fow in omega arith) in
+    let others : reserved (attribute1_bytes (middle_bytes p ++ rest) 11 (suc (length ps))) ≡ false = ap reserved (attributes_behind (middle_bytes p) rest 4 (suc (length ps))) ∙ unreserved ps l positive negative h.1 k in
+    λ i. low i || others i
+
+pub spelled_passes : (r : Reference) → IsReference r → v3_fault (spelling r) ≡ None
+spelled_passes r h =
+    let b = spelling r in
+    let cut : List ℕ = status ∷ first_bytes r.first in
+    let middles = flat_map middle_bytes r.middle in
+    let ends = last_bytes r.last r.pos r.neg in
+    let m = length r.middle in
+    let n = flag r.pos + flag r.neg in
+    let few : n ≤ 2 = omega (arith, flag_most r.pos, flag_most r.neg) in
+    let tail : length ends ≡ 6 + n = omega (arith, length-append (offset_bytes r.pos) (offset_bytes r.neg), flag_is r.pos, flag_is r.neg) in
+    let size : length b ≡ 16 + (7 * m + n) = omega (arith, length-append middles ends, middles_length r.middle) in
+    let over : extra b ≡ n = omega arith in
+    let count : (length b - 16) / 7 + 1 ≡ suc m = omega arith in
+    let place : length b - 1 - extra b ≡ 10 + (length middles + 5) = omega (arith, middles_length r.middle) in
+    let flags : flags_of b ≡ attribute4 r.pos r.neg r.last.bearing =
+    ap (slice_index b) place ∙ get_or-append-add cut (middles ++ ends) (length middles + 5) 0 ∙ get_or-append-add middles ends 5 0 in
+    let bearing = h.last.bearing in
+    let sum : bit 6 (flags_of b) + bit 5 (flags_of b) ≡ extra b = omega (arith, flag_most r.pos, flag_most r.neg) in
+    let long : nat_lt (length b) 16 ≡ false = le-ltb (length b) 16 (omega arith) in
+    let short : nat_lt 2 (extra b) ≡ false = le-ltb 2 (extra b) (omega arith) in
+    let flagged : (bit 6 (flags_of b) + bit 5 (flags_of b) == extra b) ≡ true = eq-eqb (bit 6 (flags_of b) + bit 5 (flags_of b)) (extra b) sum in
+    let low : nat_le 64 (slice_index b 7) ≡ false = lt-leb 64 (slice_index b 7) (let f = h.first.attrs.frc in let g = h.first.attrs.fow in omega arith) in
+    let clear : reserved (attribute1_bytes b 14 ((length b - 16) / 7 + 1)) ≡ false =
+    ap (λ (k : ℕ). reserved (attribute1_bytes b 14 k)) count ∙ ap reserved (attributes_behind cut (middles ++ ends) 4 (suc m)) ∙ unreserved r.middle r.last r.pos r.neg h.middle h.last in
+    let top : nat_le 128 (flags_of b) ≡ false = lt-leb 128 (flags_of b) (omega (arith, flag_most r.pos, flag_most r.neg)) in
+    λ i. cond (long i || short i) (Some Length) (cond (not true) (Some Status) (cond (not (flagged i)) (Some Flags) (cond ((low i || clear i) || top i) (Some Reserved) None)))
+
+pub no_fault_where_spelled : (b : List ℕ) → All (λ x. x < 256) b → (v3_fault b ≡ None) ↔ ((r : Reference) × Spells r b)
+no_fault_where_spelled b h = (read_spelled b h, λ p. ap v3_fault p.1.1 ∙ spelled_passes p.0 p.1.0)

@@ -1,0 +1,72 @@
+-- The answer of a path on a map, from nothing: no earlier map or answer is in it.
+--     Answer, Refusal      a reference, or why there is none
+--     path_fault M P      the first of the refusals that the path's own lines give
+--     Encodes M P A      A is the answer
+--     IsPoint M P k v      node v is point k of its reference
+use Rattle.std.specs.Prelude.{◌≡◌, ℕ, suc, ◌+◌, List, [], ◌∷◌, length, find, nat_le, ◌==◌, not, slice_get, Option, Some, None, option_map, MatchOption, if◌then◌else◌}
+use Rattle.std.specs.Option.{option_or}
+use Rattle.olr_spec.specs.Map.{Map, has_line, start, end}
+use Rattle.olr_spec.specs.Walks.{dm_of}
+use Rattle.olr_spec.specs.Extension.{Path, Tried, extended}
+use Rattle.olr_spec.specs.Points.{node_at, Follow, last_point}
+use Rattle.olr_spec.specs.Reference.{Reference, legs, kept, reference}
+
+-- a line that isn't on the map; the place of a line that the next doesn't join; offsets as long as the path; a position that no point may
+-- follow. In this order (profile)
+pub data Refusal : Type 0 where
+  Unknown_line : (line : ℕ) → Refusal
+  Broken : (k : ℕ) → Refusal
+  Offset_too_long : Refusal
+  No_next_point : (k : ℕ) → Refusal
+
+pub data Answer : Type 0 where
+  Points : (reference : Reference) → Answer
+  Refused : (refusal : Refusal) → Answer
+
+-- the first line that isn't on the map
+abbrev pub first_unknown : Map → List ℕ → Option ℕ
+first_unknown M ls = find (λ x. not (has_line M x)) ls
+
+-- the first place, counted from k, where a line doesn't end where the next begins
+abbrev pub first_break : Map → ℕ → List ℕ → Option ℕ
+first_break M k [] = None
+first_break M k (x ∷ []) = None
+first_break M k (x ∷ y ∷ ls) = if end M x == start M y then first_break M (suc k) (y ∷ ls) else Some k
+
+-- the offsets together stay below the path's length (White Paper, data format rules)
+abbrev pub path_fault : Map → Path → Option Refusal
+path_fault M P =
+    option_or (option_map Unknown_line (first_unknown M P.lines))
+    (option_or (option_map Broken (first_break M 0 P.lines))
+    (if nat_le (dm_of M P.lines) (P.pos + P.neg) then Some Offset_too_long else None))
+
+-- of an extended path E, by the points after position 0: a reference where they lead to the end
+abbrev pub answer_of : Map → Path → List ℕ → Answer
+answer_of M E js =
+    if last_point 0 js == length E.lines
+    then Points (reference (legs M E.lines) E.pos E.neg js)
+    else Refused (No_next_point (last_point 0 js))
+
+-- the tried chains, and the points after position 0
+pub record Encoding (M : Map) (P : Path) (A : Answer) : Type 0 where
+  pub before : List ℕ
+  pub after : List ℕ
+  pub points : List ℕ
+  pub tried : Tried M P before after
+  pub follow : Follow M (extended M P before after).lines 0 points
+  pub answer : A ≡ answer_of M (extended M P before after) points
+
+-- a refusal of the path's own, or else what its points give (White Paper, encoding steps)
+abbrev pub Encodes : Map → Path → Answer → Type 0
+Encodes M P A = MatchOption (path_fault M P) (Encoding M P A) (λ r. A ≡ Refused r)
+
+-- node v is point k of the path's reference, counted from 0
+pub record IsPoint (M : Map) (P : Path) (k v : ℕ) : Type 0 where
+  pub before : List ℕ
+  pub after : List ℕ
+  pub points : List ℕ
+  pub position : ℕ
+  pub tried : Tried M P before after
+  pub follow : Follow M (extended M P before after).lines 0 points
+  pub stands : let E = extended M P before after in slice_get (kept (legs M E.lines) E.pos E.neg points) k ≡ Some position
+  pub node : node_at M (extended M P before after).lines position ≡ v

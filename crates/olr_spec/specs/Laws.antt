@@ -1,0 +1,197 @@
+-- The laws: what follows from the definitions, in the order of their files. Each is proved for all maps, paths, references and bytes.
+--     maps       lines in and out of a node rise and are exactly these; an accepted edit keeps a map sound
+--     walks      there is one least and one sole walk, and the front of one is one
+--     answers    a path has exactly one answer; its reference fits its bits; the routes between its points join to the path
+--     bytes      a direction has one sector, a reference one spelling, bytes one reference or one fault
+--     locality   an answer rests on its footprint alone
+use Rattle.std.specs.Prelude.{◌≡◌, ℕ, ◌+◌, ◌<◌, ◌≤◌, ℤ, pos, List, [], ◌++◌, length, Option, Some, None, is_some, All, Ok, ◌↔◌, IsTrue, IsFalse, ⊤}
+use Rattle.std.specs.List.Sorted.{IsStrictlyIncreasing}
+use Rattle.olr_spec.specs.Coordinates.{is_coord}
+use Rattle.olr_spec.specs.Map.{Map, empty_map, IsMap, Line, are_coords, has_line, place_at, lines_in, lines_out, Edit, Add_node, Move_node, Add_line, Set_line, edited, touched_nodes, touched_lines, Enters, Leaves, Agree}
+use Rattle.olr_spec.specs.Walks.{Walk, dm_of, Least, Sole}
+use Rattle.olr_spec.specs.Labels.{Settled}
+use Rattle.olr_spec.specs.Extension.{Path, is_path, has, first, last, LongestStart, LongestEnd}
+use Rattle.olr_spec.specs.Points.{Next, Follow, last_point}
+use Rattle.olr_spec.specs.Bearings.{IsSector, sector}
+use Rattle.olr_spec.specs.Reference.{Reference, legs, first_kept, last_kept, kept}
+use Rattle.olr_spec.specs.Encoding.{Answer, Points, Encodes, IsPoint}
+use Rattle.olr_spec.specs.Bytes.{IsReference, Spells, v3_fault}
+use Rattle.olr_spec.specs.Decoded.{decoded, IsNear}
+use Rattle.olr_spec.specs.Joins.{Joins}
+use Rattle.olr_spec.specs.Footprint.{Foot}
+
+-- ---- maps
+
+-- each place that an edit brings is in range
+abbrev pub HasPlace : Edit → Type 0
+HasPlace (Add_node v c) = IsTrue (is_coord c)
+HasPlace (Move_node v c) = IsTrue (is_coord c)
+HasPlace (Add_line x l) = IsTrue (are_coords l.shape)
+HasPlace (Set_line x frc fow len shape) = IsTrue (are_coords shape)
+HasPlace _ = ⊤
+
+-- the lines that enter and leave a node rise by number
+abbrev pub LinesRise : Type 0
+LinesRise = (M : Map) (v : ℕ) → IsStrictlyIncreasing (lines_in M v) × IsStrictlyIncreasing (lines_out M v)
+
+-- and are exactly these
+abbrev pub LinesIn : Type 0
+LinesIn = (M : Map) (v x : ℕ) → IsTrue (has (lines_in M v) x) ↔ ((l : Line) × Enters M v x l)
+
+abbrev pub LinesOut : Type 0
+LinesOut = (M : Map) (v x : ℕ) → IsTrue (has (lines_out M v) x) ↔ ((l : Line) × Leaves M v x l)
+
+-- an accepted edit keeps a map sound, if each place that it brings is in range
+abbrev pub EditsKeep : Type 0
+EditsKeep = (M N : Map) (e : Edit) → IsMap M → HasPlace e → edited M e ≡ Ok N → IsMap N
+
+-- one edit takes an accepted edit back
+abbrev pub EditsUndo : Type 0
+EditsUndo = (M N : Map) (e : Edit) → IsMap M → edited M e ≡ Ok N → (f : Edit) × (edited N f ≡ Ok M)
+
+-- the map without nodes and lines is sound
+abbrev pub EmptyIsSound : Type 0
+EmptyIsSound = IsMap empty_map
+
+-- ---- walks
+
+-- of two different, equally long walks neither is a suffix of the other
+abbrev pub NoLongerSuffix : Type 0
+NoLongerSuffix = (M : Map) → IsMap M → (s t : ℕ) (front xs : List ℕ) → Walk M s t (front ++ xs) → dm_of M (front ++ xs) ≡ dm_of M xs → front ≡ []
+
+-- at most one walk is the least
+abbrev pub OneLeast : Type 0
+OneLeast = (M : Map) → IsMap M → (s t : ℕ) (xs ys : List ℕ) → Least M s t xs → Least M s t ys → xs ≡ ys
+
+-- the front of the least walk is the least walk to its end
+abbrev pub PrefixOfLeast : Type 0
+PrefixOfLeast = (M : Map) (s v t : ℕ) (xs ys : List ℕ) → Least M s t (xs ++ ys) → Walk M s v xs → Walk M v t ys → Least M s v xs
+
+-- from a node to itself the least walk is the empty one
+abbrev pub EmptyIsLeast : Type 0
+EmptyIsLeast = (M : Map) (s : ℕ) → Least M s s []
+
+-- a sole walk is the least one
+abbrev pub SoleIsLeast : Type 0
+SoleIsLeast = (M : Map) (s t : ℕ) (xs : List ℕ) → Sole M s t xs → Least M s t xs
+
+-- at most one walk is sole
+abbrev pub OneSole : Type 0
+OneSole = (M : Map) (s t : ℕ) (xs ys : List ℕ) → Sole M s t xs → Sole M s t ys → xs ≡ ys
+
+-- the front of a sole walk is the sole walk to its end
+abbrev pub PrefixOfSole : Type 0
+PrefixOfSole = (M : Map) (s v t : ℕ) (xs ys : List ℕ) → Sole M s t (xs ++ ys) → Walk M s v xs → Walk M v t ys → Sole M s v xs
+
+-- from a node to itself the empty walk is sole
+abbrev pub EmptyIsSole : Type 0
+EmptyIsSole = (M : Map) → IsMap M → (s : ℕ) → Sole M s s []
+
+-- ---- labels
+
+-- labels that no line improves trace least walks
+abbrev pub SettledIsLeast : Type 0
+SettledIsLeast =
+    (M : Map) → IsMap M → (s limit : ℕ) (dist : ℕ → Option ℕ) (trace : ℕ → List ℕ) → Settled M s limit dist trace
+    → (v d : ℕ) → dist v ≡ Some d → Least M s v (trace v)
+
+-- and stand at each node that a walk within the limit reaches
+abbrev pub SettledReaches : Type 0
+SettledReaches =
+    (M : Map) → IsMap M → (s limit : ℕ) (dist : ℕ → Option ℕ) (trace : ℕ → List ℕ) → Settled M s limit dist trace
+    → (v : ℕ) (ys : List ℕ) → Walk M s v ys → dm_of M ys ≤ limit → (d : ℕ) × (dist v ≡ Some d)
+
+-- ---- answers
+
+-- at most one chain is the longest at the start of a list of lines
+abbrev pub OneStartChain : Type 0
+OneStartChain = (M : Map) → IsMap M → (ls c d : List ℕ) → IsTrue (has_line M (first ls)) → LongestStart M c ls → LongestStart M d ls → c ≡ d
+
+-- and one at its end
+abbrev pub OneEndChain : Type 0
+OneEndChain = (M : Map) → IsMap M → (ls c d : List ℕ) → IsTrue (has_line M (last ls)) → LongestEnd M ls c → LongestEnd M ls d → c ≡ d
+
+-- a point has at most one next point
+abbrev pub OneNext : Type 0
+OneNext = (M : Map) (ls : List ℕ) (i j k : ℕ) → Next M ls i j → Next M ls i k → j ≡ k
+
+-- so there is at most one list of points
+abbrev pub OnePoints : Type 0
+OnePoints = (M : Map) (ls : List ℕ) (i : ℕ) (js ks : List ℕ) → Follow M ls i js → Follow M ls i ks → js ≡ ks
+
+-- a path has at most one answer
+abbrev pub OneAnswer : Type 0
+OneAnswer = (M : Map) → IsMap M → (P : Path) → IsTrue (is_path P.lines) → (A B : Answer) → Encodes M P A → Encodes M P B → A ≡ B
+
+-- and at least one
+abbrev pub SomeAnswer : Type 0
+SomeAnswer = (M : Map) → IsMap M → (P : Path) → IsTrue (is_path P.lines) → (A : Answer) × Encodes M P A
+
+-- the reference of an answer fits its bits, so that bytes spell it
+abbrev pub AnswerFits : Type 0
+AnswerFits = (M : Map) → IsMap M → (P : Path) → IsTrue (is_path P.lines) → (r : Reference) → Encodes M P (Points r) → IsReference r
+
+-- ---- points
+
+-- where the offsets leave some of the path, at least two points are kept
+abbrev pub TwoKept : Type 0
+TwoKept =
+    (M : Map) (ls js : List ℕ) (positive negative : ℕ) → Follow M ls 0 js → last_point 0 js ≡ length ls → positive + negative < dm_of M ls
+    → first_kept (legs M ls) positive js < last_kept (legs M ls) negative js
+
+-- and the routes between them join to the path
+abbrev pub RoutesJoin : Type 0
+RoutesJoin =
+    (M : Map) (ls js : List ℕ) (positive negative : ℕ) → Follow M ls 0 js → last_point 0 js ≡ length ls
+    → Joins M ls (kept (legs M ls) positive negative js)
+
+-- each point of an answer is decoded near its place on the map
+abbrev pub DecodedNear : Type 0
+DecodedNear =
+    (M : Map) → IsMap M → (P : Path) → IsTrue (is_path P.lines) → (r : Reference) → Encodes M P (Points r)
+    → (k v : ℕ) → IsPoint M P k v → (p : ℤ × ℤ) × (decoded r k ≡ Some p) × IsNear k p (place_at M v)
+
+-- and nothing else is decoded
+abbrev pub DecodedPoints : Type 0
+DecodedPoints =
+    (M : Map) → IsMap M → (P : Path) → IsTrue (is_path P.lines) → (r : Reference) → Encodes M P (Points r)
+    → (k : ℕ) → IsTrue (is_some (decoded r k)) → (v : ℕ) × IsPoint M P k v
+
+-- ---- sectors and bytes
+
+-- a direction lies in at most one sector
+abbrev pub OneSector : Type 0
+OneSector = (east north : ℤ) (j k : ℕ) → IsSector east north j → IsSector east north k → j ≡ k
+
+-- each but (0, 0) lies in the one that is computed
+abbrev pub SomeSector : Type 0
+SomeSector = (east north : ℤ) → ¬ ((east ≡ pos 0) × (north ≡ pos 0)) → IsSector east north (sector east north)
+
+-- a reference has at most one spelling, and one where its fields fit their bits
+abbrev pub OneSpelling : Type 0
+OneSpelling = (r : Reference) (b c : List ℕ) → Spells r b → Spells r c → b ≡ c
+
+-- no bytes spell two references
+abbrev pub OneSpelled : Type 0
+OneSpelled = (r s : Reference) (b : List ℕ) → Spells r b → Spells s b → r ≡ s
+
+-- and bytes have no fault exactly where they spell one
+abbrev pub NoFault : Type 0
+NoFault = (b : List ℕ) → All (λ byte. byte < 256) b → (v3_fault b ≡ None) ↔ ((r : Reference) × Spells r b)
+
+-- ---- locality
+
+-- a map that agrees on the footprint and on the path's own lines gives the same answer
+abbrev pub LocalAnswer : Type 0
+LocalAnswer = (M N : Map) → IsMap M → IsMap N → (P : Path) → IsTrue (is_path P.lines) → Agree M N P.lines (Foot M P) → (A : Answer) → Encodes M P A → Encodes N P A
+
+-- and the same footprint
+abbrev pub LocalFoot : Type 0
+LocalFoot = (M N : Map) → IsMap M → IsMap N → (P : Path) → IsTrue (is_path P.lines) → Agree M N P.lines (Foot M P) → (v : ℕ) → Foot M P v ↔ Foot N P v
+
+-- an edit that touches no node of the footprint and no line of the path leaves an agreeing map
+abbrev pub EditsAreLocal : Type 0
+EditsAreLocal =
+    (M N : Map) (e : Edit) (P : Path) → edited M e ≡ Ok N
+    → ((v : ℕ) → IsTrue (has (touched_nodes M e) v) → ¬ Foot M P v) → ((x : ℕ) → IsTrue (has (touched_lines e) x) → IsFalse (has P.lines x))
+    → Agree M N P.lines (Foot M P)

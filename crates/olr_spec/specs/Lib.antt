@@ -1,0 +1,17 @@
+pub mod Coordinates
+pub mod Degrees
+pub mod Map
+pub mod Walks
+pub mod Labels
+pub mod Extension
+pub mod Points
+pub mod Bearings
+pub mod Reference
+pub mod Encoding
+pub mod Bytes
+pub mod Decoded
+pub mod Joins
+pub mod Footprint
+pub mod Laws
+pub mod Rows
+pub mod Codes

@@ -1,0 +1,172 @@
+-- The directed road map, its edits, and what two maps have in common round some nodes (White Paper, map model).
+--     Line, ShapePoint, Map      a line from a node to a node, its class and form, its length and the distances `at` in decimetres; nodes and lines by number
+--     is_good l      classes, length and shape in range.        IsMap M      every line good, both its ends there, and every place in range
+--     line_at M x, start, end, dm      the record of line x, and its parts.        lines_in M v, lines_out M v      the lines that enter and leave v, rising
+--     Edit, edited M e      the map after an edit, or the first fault.        touched_nodes M e, touched_lines e      what it touches
+--     Agree M N P F      the maps have the same round the nodes of F, and the same lines of the list P
+use Rattle.std.specs.Prelude.{◌≡◌, ℕ, pos, Bool, true, not, cond, ◌&&◌, ◌||◌, List, [], ◌∷◌, length, map, filter, Some, is_some, unwrap_or, Result, Ok, Err, nat_lt, nat_le, ◌==◌, ◌↔◌, IsTrue}
+use Rattle.std.specs.List.{list_all, list_any, AllByRecursion}
+use Rattle.std.specs.Ordering.{nat_cmp}
+use Rattle.std.specs.FinMap.{FinMap, get, insert, remove, entries, empty}
+use Rattle.olr_spec.specs.Coordinates.{Coord, is_coord}
+
+-- a place on the way of a line, at so many decimetres from its begin
+pub record ShapePoint : Type 0 where
+  pub at : ℕ
+  pub place : Coord
+
+-- frc: the functional road class, 0 to 7, 0 the most important. fow: the form of way, 0 to 7 (White Paper, attributes).
+-- len: in whole decimetres (profile). A two-way road is two lines
+pub record Line : Type 0 where
+  pub from : ℕ
+  pub to : ℕ
+  pub frc : ℕ
+  pub fow : ℕ
+  pub len : ℕ
+  pub shape : List ShapePoint
+
+-- the places of the nodes, and the lines, by number
+pub record Map : Type 0 where
+  pub nodes : FinMap nat_cmp Coord
+  pub lines : FinMap nat_cmp Line
+
+abbrev pub empty_map : Map
+empty_map = record { nodes = empty; lines = empty }
+
+-- the distances rise strictly, and lie strictly between low and high
+abbrev pub rises_between : ℕ → List ShapePoint → ℕ → Bool
+rises_between low [] high = true
+rises_between low (s ∷ ss) high = nat_lt low s.at && nat_lt s.at high && rises_between s.at ss high
+
+-- a line may begin where it ends, and others may join the same two nodes; at most 100 km and 1,000 shape points (profile)
+abbrev pub is_good : Line → Bool
+is_good l = nat_le l.frc 7 && nat_le l.fow 7 && nat_le 1 l.len && nat_le l.len 1000000 && nat_le (length l.shape) 1000 && rises_between 0 l.shape l.len
+
+-- each shape point has its place in range
+abbrev pub are_coords : List ShapePoint → Bool
+are_coords ss = list_all (λ s. is_coord s.place) ss
+
+abbrev pub has_node : Map → ℕ → Bool
+has_node M v = is_some (get M.nodes v)
+
+abbrev pub has_line : Map → ℕ → Bool
+has_line M x = is_some (get M.lines x)
+
+-- what stands for a line, and for a node's place, that isn't there
+abbrev pub no_line : Line
+no_line = record { from = 0; to = 0; frc = 0; fow = 0; len = 0; shape = [] }
+
+abbrev pub no_place : Coord
+no_place = record { lon = pos 0; lat = pos 0 }
+
+abbrev pub line_at : Map → ℕ → Line
+line_at M x = unwrap_or (get M.lines x) no_line
+
+abbrev pub place_at : Map → ℕ → Coord
+place_at M v = unwrap_or (get M.nodes v) no_place
+
+-- where line x begins and ends, and its length
+abbrev pub start : Map → ℕ → ℕ
+start M x = (line_at M x).from
+
+abbrev pub end : Map → ℕ → ℕ
+end M x = (line_at M x).to
+
+abbrev pub dm : Map → ℕ → ℕ
+dm M x = (line_at M x).len
+
+-- a sound map
+pub record IsMap (M : Map) : Type 0 where
+  pub good : (x : ℕ) → IsTrue (has_line M x) → IsTrue (is_good (line_at M x))
+  pub starts : (x : ℕ) → IsTrue (has_line M x) → IsTrue (has_node M (start M x))
+  pub ends : (x : ℕ) → IsTrue (has_line M x) → IsTrue (has_node M (end M x))
+  pub places : (v : ℕ) → IsTrue (has_node M v) → IsTrue (is_coord (place_at M v))
+  pub shapes : (x : ℕ) → IsTrue (has_line M x) → IsTrue (are_coords (line_at M x).shape)
+
+-- the numbers of the lines that pass, rising
+abbrev pub lines_where : Map → (Line → Bool) → List ℕ
+lines_where M test = map (λ e. e.0) (filter (λ e. test e.1) (entries M.lines))
+
+-- that enter v
+abbrev pub lines_in : Map → ℕ → List ℕ
+lines_in M v = lines_where M (λ l. l.to == v)
+
+-- that leave v
+abbrev pub lines_out : Map → ℕ → List ℕ
+lines_out M v = lines_where M (λ l. l.from == v)
+
+-- ---- edits
+
+pub data Edit : Type 0 where
+  Add_node : (node : ℕ) (place : Coord) → Edit
+  Move_node : (node : ℕ) (place : Coord) → Edit
+  Drop_node : (node : ℕ) → Edit
+  Add_line : (number : ℕ) (line : Line) → Edit
+  Set_line : (number frc fow len : ℕ) (shape : List ShapePoint) → Edit
+  Drop_line : (number : ℕ) → Edit
+
+pub data MapFault : Type 0 where
+  Node_exists No_node Line_exists No_line Node_in_use Bad_shape : MapFault
+
+-- a line enters or leaves the node
+abbrev pub in_use : Map → ℕ → Bool
+in_use M v = list_any (λ e. e.1.to == v || e.1.from == v) (entries M.lines)
+
+-- the first fault whose condition holds, or else the value
+abbrev pub unless : {A F : Type 0} → Bool → F → Result A F → Result A F
+unless {A} {F} b f r = cond b (Err f) r
+
+-- the tests of each edit in order, and its update of one of the two finite maps; a line that is set keeps its ends (profile)
+abbrev pub edited : Map → Edit → Result Map MapFault
+edited M (Add_node v c) = unless (has_node M v) Node_exists (Ok (record M { nodes = insert M.nodes v c }))
+edited M (Move_node v c) = unless (not (has_node M v)) No_node (Ok (record M { nodes = insert M.nodes v c }))
+edited M (Drop_node v) = unless (not (has_node M v)) No_node (unless (in_use M v) Node_in_use (Ok (record M { nodes = remove M.nodes v })))
+edited M (Add_line x l) =
+    unless (has_line M x) Line_exists (unless (not (has_node M l.from && has_node M l.to)) No_node (unless (not (is_good l)) Bad_shape
+    (Ok (record M { lines = insert M.lines x l }))))
+edited M (Set_line x frc fow len shape) =
+    let l : Line = record { from = start M x; to = end M x; frc = frc; fow = fow; len = len; shape = shape } in
+    unless (not (has_line M x)) No_line (unless (not (is_good l)) Bad_shape (Ok (record M { lines = insert M.lines x l })))
+edited M (Drop_line x) = unless (not (has_line M x)) No_line (Ok (record M { lines = remove M.lines x }))
+
+-- the nodes that an edit touches: its own, or both ends of its line
+abbrev pub touched_nodes : Map → Edit → List ℕ
+touched_nodes M (Add_node v c) = v ∷ []
+touched_nodes M (Move_node v c) = v ∷ []
+touched_nodes M (Drop_node v) = v ∷ []
+touched_nodes M (Add_line x l) = l.from ∷ l.to ∷ []
+touched_nodes M (Set_line x frc fow len shape) = start M x ∷ end M x ∷ []
+touched_nodes M (Drop_line x) = start M x ∷ end M x ∷ []
+
+-- and the line
+abbrev pub touched_lines : Edit → List ℕ
+touched_lines (Add_node v c) = []
+touched_lines (Move_node v c) = []
+touched_lines (Drop_node v) = []
+touched_lines (Add_line x l) = x ∷ []
+touched_lines (Set_line x frc fow len shape) = x ∷ []
+touched_lines (Drop_line x) = x ∷ []
+
+-- ---- agreement
+
+-- line x is there, and goes to v, or from v, with this record
+abbrev pub Enters : Map → ℕ → ℕ → Line → Type 0
+Enters M v x l = (get M.lines x ≡ Some l) × (l.to ≡ v)
+
+abbrev pub Leaves : Map → ℕ → ℕ → Line → Type 0
+Leaves M v x l = (get M.lines x ≡ Some l) × (l.from ≡ v)
+
+-- the record of line x is the same, or there is none in both
+abbrev pub SameLine : Map → Map → ℕ → Type 0
+SameLine M N x = get M.lines x ≡ get N.lines x
+
+-- node v has the same place, and the same lines enter and leave it, with the same records
+pub record SameRound (M N : Map) (v : ℕ) : Type 0 where
+  pub place : get M.nodes v ≡ get N.nodes v
+  pub entering : (x : ℕ) (l : Line) → Enters M v x l ↔ Enters N v x l
+  pub leaving : (x : ℕ) (l : Line) → Leaves M v x l ↔ Leaves N v x l
+
+-- a footprint F and a path's lines P see no difference between the maps
+pub record Agree (M N : Map) (P : List ℕ) (F : ℕ → Type 0) : Type 0 where
+  pub nodes : (v : ℕ) → F v → SameRound M N v
+  pub lines : AllByRecursion (SameLine M N) P

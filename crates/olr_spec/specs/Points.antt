@@ -1,0 +1,67 @@
+-- The location reference points of an extended path, by position: position i below n is the start of line i, and position n the end of the
+-- last line (White Paper, encoding steps, intermediate points).
+--     node_at M ls i, stretch ls i j      the node at position i;  the lines from position i to position j
+--     Covered M ls i j      the route from line i to the last line of the stretch is the path's own
+--     Candidate M ls i j, Next M ls i j      j may follow i as a point;  j follows i
+--     Follow M ls i js      js are the points after i, up to the one that has no next
+use Rattle.std.specs.Prelude.{◌≡◌, ℕ, ◌+◌, ◌-◌, ◌<◌, ◌≤◌, min, Bool, ◌&&◌, List, [], ◌∷◌, length, nat_lt, slice_index, slice_range, if◌then◌else◌, IsTrue, IsFalse}
+use Rattle.olr_spec.specs.Coordinates.{Coord, relative, fits16}
+use Rattle.olr_spec.specs.Map.{Map, start, end, place_at}
+use Rattle.olr_spec.specs.Walks.{dm_of, Route}
+use Rattle.olr_spec.specs.Extension.{passing, last, limit}
+
+-- the node at position i
+abbrev pub node_at : Map → List ℕ → ℕ → ℕ
+node_at M ls i = if nat_lt i (length ls) then start M (slice_index ls i) else end M (last ls)
+
+-- lines i .. j - 1
+abbrev pub stretch {ℓ} : {A : Type ℓ} → List A → ℕ → ℕ → List A
+stretch ls i j = slice_range ls i j
+
+-- from the end of line i to the start of line m, where m is j, or the last line where j is the end: the lines between are the route.
+-- Nothing is asked from the last line to the end (White Paper, encoding steps, coverage by shortest paths)
+abbrev pub Covered : Map → List ℕ → ℕ → ℕ → Type 0
+Covered M ls i j =
+    let m = min j (length ls - 1) in
+    i < m → Route M (end M (slice_index ls i)) (start M (slice_index ls m)) (stretch ls (i + 1) m)
+
+-- the relative coordinates from p to q fit 16 bits each (White Paper, binary format)
+abbrev pub fit16 : Coord → Coord → Bool
+fit16 p q = fits16 (relative p.lon q.lon) && fits16 (relative p.lat q.lat)
+
+-- at most 15,000 m on (White Paper, data format rules)
+pub record Candidate (M : Map) (ls : List ℕ) (i j : ℕ) : Type 0 where
+  pub after : i < j
+  pub upto : j ≤ length ls
+  pub covered : Covered M ls i j
+  pub near : dm_of M (stretch ls i j) ≤ limit
+  pub fits : IsTrue (fit16 (place_at M (node_at M ls i)) (place_at M (node_at M ls j)))
+
+-- a candidate at a valid node
+abbrev pub ValidCandidate : Map → List ℕ → ℕ → ℕ → Type 0
+ValidCandidate M ls i j = Candidate M ls i j × IsFalse (passing M (node_at M ls j))
+
+-- j is the greatest number with P
+pub record Greatest (P : ℕ → Type 0) (j : ℕ) : Type 0 where
+  pub holds : P j
+  pub others : (k : ℕ) → P k → k ≤ j
+
+-- the end where it is a candidate, else the greatest candidate at a valid node, else the greatest candidate (profile)
+pub data Next (M : Map) (ls : List ℕ) (i j : ℕ) : Type 0 where
+  To_end : j ≡ length ls → Candidate M ls i (length ls) → Next M ls i j
+  To_valid : ¬ Candidate M ls i (length ls) → Greatest (ValidCandidate M ls i) j → Next M ls i j
+  To_passing : ¬ Candidate M ls i (length ls) → ((k : ℕ) → ¬ ValidCandidate M ls i k) → Greatest (Candidate M ls i) j → Next M ls i j
+
+-- nothing may follow i
+abbrev pub NoNext : Map → List ℕ → ℕ → Type 0
+NoNext M ls i = (j : ℕ) → ¬ Candidate M ls i j
+
+-- js are the next of i, the next of that, and so on, up to a position without a next. The end, position n, is one
+abbrev pub Follow : Map → List ℕ → ℕ → List ℕ → Type 0
+Follow M ls i [] = NoNext M ls i
+Follow M ls i (j ∷ js) = Next M ls i j × Follow M ls j js
+
+-- the last of i and js
+abbrev pub last_point : ℕ → List ℕ → ℕ
+last_point i [] = i
+last_point i (j ∷ js) = last_point j js

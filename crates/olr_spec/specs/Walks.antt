@@ -1,0 +1,41 @@
+-- Walks on a map, their order, and the sole walk that no other is as short as.
+--     Walk M s t xs      the lines xs lead from s to t, each beginning where the one before ends.        dm_of M xs      their length
+--     Before M xs ys      xs is shorter, or equally long with the smaller number at the first difference, counted from the end
+--     Least M s t xs      a walk from s to t that none is before.        Sole M s t xs      a walk such that every other is longer
+--     Route M s t xs      the walk that joins two points of a reference
+use Rattle.std.specs.Prelude.{◌≡◌, ◌≢◌, ℕ, ◌+◌, ◌<◌, List, [], ◌∷◌, reverse, ◌⊎◌, IsTrue}
+use Rattle.olr_spec.specs.Map.{Map, has_line, start, end, dm}
+
+-- a line may be walked more than once, and a U-turn is a walk
+abbrev pub Walk : Map → ℕ → ℕ → List ℕ → Type 0
+Walk M s t [] = s ≡ t
+Walk M s t (x ∷ xs) = IsTrue (has_line M x) × (start M x ≡ s) × Walk M (end M x) t xs
+
+-- in decimetres
+abbrev pub dm_of : Map → List ℕ → ℕ
+dm_of M [] = 0
+dm_of M (x ∷ xs) = dm M x + dm_of M xs
+
+-- xs has the smaller number at the first difference
+abbrev pub FirstSmaller : List ℕ → List ℕ → Type 0
+FirstSmaller [] ys = ⊥
+FirstSmaller (x ∷ xs) [] = ⊥
+FirstSmaller (x ∷ xs) (y ∷ ys) = (x < y) ⊎ ((x ≡ y) × FirstSmaller xs ys)
+
+-- of walks with the same ends (profile)
+abbrev pub Before : Map → List ℕ → List ℕ → Type 0
+Before M xs ys = (dm_of M xs < dm_of M ys) ⊎ ((dm_of M xs ≡ dm_of M ys) × FirstSmaller (reverse xs) (reverse ys))
+
+-- what the labels of a search tell
+pub record Least (M : Map) (s t : ℕ) (xs : List ℕ) : Type 0 where
+  pub walk : Walk M s t xs
+  pub first : (ys : List ℕ) → Walk M s t ys → ¬ Before M ys xs
+
+-- where two walks are equally short none is sole, since a decoder may take either
+pub record Sole (M : Map) (s t : ℕ) (xs : List ℕ) : Type 0 where
+  pub walk : Walk M s t xs
+  pub others : (ys : List ℕ) → Walk M s t ys → ys ≢ xs → dm_of M xs < dm_of M ys
+
+-- the shortest path between two points (White Paper, encoding steps); that no other walk is as short: profile
+abbrev pub Route : Map → ℕ → ℕ → List ℕ → Type 0
+Route M s t xs = Sole M s t xs
