@@ -1,0 +1,8 @@
+-- The faults of a text of degrees, as the definition of `read_degrees` tells them.
+use Rattle.olr_spec.specs.Degrees.{CoordFault as Fault, Text as No_degrees, Range as Too_far}
+use Rattle.olr_coords.specs.declared.degrees.CoordFault.{CoordFault}
+use Rattle.olr_coords.specs.declared.degrees.CoordFault.TheVariants.{Text, Range}
+
+abbrev pub fault_of : CoordFault → Fault
+fault_of Text = No_degrees
+fault_of Range = Too_far
