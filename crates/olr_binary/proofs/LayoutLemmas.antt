@@ -1,0 +1,95 @@
+-- The places of the parts of a reference.
+use Rattle.std.proofs.Common.{◌≡◌, ℕ, zero, suc, ◌+◌, ◌-◌, ◌*◌, ◌/◌, ◌<◌, ◌≤◌, Bool, true, false, not, ◌||◌, ◌==◌, nat_lt, if◌then◌else◌, List, length, Some, None, nat_le, slice_index, refl, sym, subst, ◌∙◌, arith, add-zero}
+use Rattle.std.specs.List.{list_any}
+use Rattle.std.proofs.lemmas.Bool.{or_parts, leb-false, eqb-true}
+use Rattle.std.proofs.lemmas.Bool.Decides.{nat_tests}
+use Rattle.olr_spec.specs.Bytes.{Length, Status, Flags, Reserved, status, bit, extra, flags_of, attribute1_bytes, has_reserved, v3_fault}
+use Rattle.olr_binary.specs.Layout.{IsLayout}
+
+-- some of the attribute bytes 1 of n points, of which the first stands at place i, has a reserved bit
+abbrev pub some_reserved : List ℕ → ℕ → ℕ → Bool
+some_reserved b i n = list_any (λ a. nat_le 64 a) (attribute1_bytes b i n)
+
+-- a byte with no such bit is passed
+pub some_reserved-more : (b : List ℕ) (i n : ℕ) → i < n → slice_index b (7 + 7 * i) < 64 → some_reserved b (7 + 7 * (i + 1)) (n - (i + 1)) ≡ some_reserved b (7 + 7 * i) (n - i)
+some_reserved-more b i n within low =
+    let left : n - i ≡ suc (n - (i + 1)) = omega arith in
+    let next : 7 + 7 * i + 7 ≡ 7 + 7 * (i + 1) = omega arith in
+    let free : nat_le 64 (slice_index b (7 + 7 * i)) ≡ false = grind (arith, nat_tests) in
+    rw (left, free, next) refl
+
+pub some_reserved-none : (b : List ℕ) (i n k : ℕ) → n ≤ k → some_reserved b i (n - k) ≡ false
+some_reserved-none b i n k past =
+    let left : n - k ≡ 0 = omega arith in
+    rw left refl
+
+-- each byte is free of them
+pub some_reserved-at : (b : List ℕ) (i n : ℕ) → some_reserved b i n ≡ false → (k : ℕ) → k < n → slice_index b (i + 7 * k) < 64
+some_reserved-at b i zero none k within = absurd (omega arith)
+some_reserved-at b i (suc n) none zero within =
+    let here = (or_parts (nat_le 64 (slice_index b i)) _ none).0 in
+    let low = leb-false 64 (slice_index b i) here in
+    rw add-zero low
+some_reserved-at b i (suc n) none (suc k) within =
+    let next : i + 7 + 7 * k ≡ i + 7 * suc k = omega arith in
+    let rest = (or_parts (nat_le 64 (slice_index b i)) _ none).1 in
+    subst (λ (j : ℕ). slice_index b j < 64) next (some_reserved-at b (i + 7) n rest k (omega arith))
+
+module _ (b : List ℕ) (m o : ℕ) (w : IsLayout b m o) where
+  pub extra-is : extra b ≡ o
+  extra-is = omega (arith, w.size, w.few)
+
+  count-is : (length b - 16) / 7 ≡ m
+  count-is = omega (arith, w.size, w.few)
+
+  pub has_reserved-is : has_reserved b ≡ (some_reserved b 7 (m + 2) || nat_le 128 (slice_index b (length b - 1 - o)))
+  has_reserved-is =
+      let more : m + 2 ≡ suc (m + 1) = omega arith in
+      rw (more, extra-is, count-is) refl
+
+-- what bytes with no fault are
+pub record HasNoFault (b : List ℕ) : Type 0 where
+  pub state : slice_index b 0 ≡ status
+  pub flags : bit 6 (flags_of b) + bit 5 (flags_of b) ≡ extra b
+  pub reserved : has_reserved b ≡ false
+
+no_fault_tests : (p q r s : Bool)
+    → (if p then Some Length else (if not q then Some Status else (if not r then Some Flags else (if s then Some Reserved else None)))) ≡ None
+    → (q ≡ true) × (r ≡ true) × (s ≡ false)
+no_fault_tests true q r s e = absurd cc
+no_fault_tests false false r s e = absurd cc
+no_fault_tests false true false s e = absurd cc
+no_fault_tests false true true true e = absurd cc
+no_fault_tests false true true false e = (refl, refl, refl)
+
+pub no_fault : (b : List ℕ) → v3_fault b ≡ None → HasNoFault b
+no_fault b e =
+    let t = no_fault_tests (nat_lt (length b) 16 || nat_lt 2 (extra b)) (slice_index b 0 == status) (bit 6 (flags_of b) + bit 5 (flags_of b) == extra b) (has_reserved b) e in
+    record { state = eqb-true (slice_index b 0) status t.0; flags = eqb-true (bit 6 (flags_of b) + bit 5 (flags_of b)) (extra b) t.1; reserved = t.2 }
+
+-- places of attribute bytes
+module _ (b : List ℕ) (m o : ℕ) (w : IsLayout b m o) (e : v3_fault b ≡ None) where
+  -- byte 1 of point k, of all points
+  pub low_attribute1 : (k : ℕ) → k < m + 2 → slice_index b (7 + 7 * k) < 64
+  low_attribute1 k within =
+      let none = (or_parts (some_reserved b 7 (m + 2)) _ (sym (has_reserved-is b m o w) ∙ (no_fault b e).reserved)).0 in
+      some_reserved-at b 7 (m + 2) none k within
+
+  flags_place : length b - 1 - extra b ≡ 15 + 7 * m
+  flags_place =
+      let x = extra-is b m o w in
+      omega (arith, w.size)
+
+  pub low_attribute4 : slice_index b (15 + 7 * m) < 128
+  low_attribute4 =
+      let none = (or_parts (some_reserved b 7 (m + 2)) _ (sym (has_reserved-is b m o w) ∙ (no_fault b e).reserved)).1 in
+      let x = extra-is b m o w in
+      let place : length b - 1 - o ≡ 15 + 7 * m = omega (arith, w.size) in
+      subst (λ (i : ℕ). slice_index b i < 128) place (leb-false 128 _ none)
+
+  pub flag_bits : bit 6 (slice_index b (15 + 7 * m)) + bit 5 (slice_index b (15 + 7 * m)) ≡ o
+  flag_bits =
+      subst (λ (i : ℕ). bit 6 (slice_index b i) + bit 5 (slice_index b i) ≡ o) flags_place ((no_fault b e).flags ∙ extra-is b m o w)
+
+  pub status-is : slice_index b 0 ≡ status
+  status-is = (no_fault b e).state

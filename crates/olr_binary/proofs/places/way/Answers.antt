@@ -1,0 +1,52 @@
+use Rattle.std.proofs.Common.{◌≡◌, ◌+ℤ◌, ap, sym, ◌∙◌, rules, arith, List, w16, w32, w64, FitsSigned}
+use Rattle.std.specs.Int.{w128}
+use Rattle.std.proofs.lemmas.Int.{ints, to_z-of_z}
+use Rattle.olr_spec.specs.Coordinates.{from_abs24, from_rel16}
+use Rattle.olr_spec.specs.Reference.{First, Middle}
+use Rattle.olr_binary.proofs.PlaceLemmas.{add_none, place-more}
+use Rattle.olr_binary.proofs.places.way.Goals as goal
+
+pub loop-point-init : goal.loop-point-init
+loop-point-init c =
+    let lon_32 : FitsSigned w32 c.first.inside.lon = search rules in
+    let lat_32 : FitsSigned w32 c.first.inside.lat = search rules in
+    let lon_64 : FitsSigned w64 c.from_abs24.result = record { sfits = c.from_abs24.type_inv } in
+    let lat_64 : FitsSigned w64 c.from_abs24-2.result = record { sfits = c.from_abs24-2.type_inv } in
+    let lon_128 : FitsSigned w128 c.from-lon.result = record { sfits = c.from-lon.type_inv } in
+    let lat_128 : FitsSigned w128 c.from-lat.result = record { sfits = c.from-lat.type_inv } in
+    let lon : c.from-lon.result ≡ from_abs24 c.args.first.lon =
+    simp to_z-of_z at c.from-lon.ensures ∙ simp to_z-of_z at c.from_abs24.ensures ∙ ap (λ (p : First). from_abs24 p.lon) c.first.view_is
+    in
+    let lat : c.from-lat.result ≡ from_abs24 c.args.first.lat =
+    simp to_z-of_z at c.from-lat.ensures ∙ simp to_z-of_z at c.from_abs24-2.ensures ∙ ap (λ (p : First). from_abs24 p.lat) c.first.view_is
+    in
+    record {
+      lon = to_z-of_z w128 c.from-lon.result lon_128 ∙ lon ∙ sym (add_none (from_abs24 c.args.first.lon));
+      lat = to_z-of_z w128 c.from-lat.result lat_128 ∙ lat ∙ sym (add_none (from_abs24 c.args.first.lat));
+      lon_bound = omega (arith, ints, c.from-lon.ensures);
+      lat_bound = omega (arith, ints, c.from-lat.ensures);
+    }
+
+pub loop-point-preserved : goal.loop-point-preserved
+loop-point-preserved c =
+    let lon_16 : FitsSigned w16 c.point.inside.dlon = search rules in
+    let lat_16 : FitsSigned w16 c.point.inside.dlat = search rules in
+    let lon_128 : FitsSigned w128 c.moved-lon.result = record { sfits = c.moved-lon.type_inv } in
+    let lat_128 : FitsSigned w128 c.moved-lat.result = record { sfits = c.moved-lat.type_inv } in
+    let ps : List Middle = c.args.points.now in
+    let i = c.loop-point.point-index in
+    let p : Middle = c.point-item.result in
+    let lon_moved = simp to_z-of_z at c.moved-lon.ensures.value in
+    let lat_moved = simp to_z-of_z at c.moved-lat.ensures.value in
+    let lon_more = place-more (from_abs24 c.args.first.lon) (λ m. m.dlon) ps i p c.loop-point-test.true c.point-item.is in
+    let lat_more = place-more (from_abs24 c.args.first.lat) (λ m. m.dlat) ps i p c.loop-point-test.true c.point-item.is in
+    let lon_before = c.loop-point.invariant.lon in
+    let lat_before = c.loop-point.invariant.lat in
+    let lon_is : c.point.inside.dlon ≡ p.dlon = ap (λ (q : Middle). q.dlon) c.point.view_is in
+    let lat_is : c.point.inside.dlat ≡ p.dlat = ap (λ (q : Middle). q.dlat) c.point.view_is in
+    record {
+      lon = to_z-of_z w128 c.moved-lon.result lon_128 ∙ lon_moved ∙ (λ j. lon_before j +ℤ from_rel16 (lon_is j)) ∙ lon_more;
+      lat = to_z-of_z w128 c.moved-lat.result lat_128 ∙ lat_moved ∙ (λ j. lat_before j +ℤ from_rel16 (lat_is j)) ∙ lat_more;
+      lon_bound = omega (arith, ints, c.moved-lon.ensures.bound);
+      lat_bound = omega (arith, ints, c.moved-lat.ensures.bound);
+    }

@@ -1,0 +1,109 @@
+//! The attribute bytes, and numbers of 24 bits.
+ghost use Rattle.std.specs.Prelude.{◌≡◌, ◌<◌, IsTrue};
+ghost use Rattle.std.specs.Int.{from_bool};
+ghost use Rattle.olr_spec.specs.Coordinates.{fits16};
+ghost use Rattle.olr_spec.specs.Bytes.{bit, fits24, signed24, signed16, attribute1, attribute2, attribute4};
+
+/// The bit of attribute byte 4 that flags a positive offset.
+const POSITIVE: u8 = 6;
+/// The bit of attribute byte 4 that flags a negative offset.
+const NEGATIVE: u8 = 5;
+
+/// A number in three bytes, the highest first.
+pub(crate) fn signed24(value: i32) -> [u8; 3]
+    requires { IsTrue (fits24 value) }
+    ensures { result ≡ signed24 value }
+{
+    let [_, high, middle, low] = value.to_be_bytes();
+    [high, middle, low]
+}
+
+/// A number in two bytes, the highest first.
+pub(crate) fn signed16(value: i16) -> [u8; 2]
+    ensures { result ≡ signed16 value }
+{
+    value.to_be_bytes()
+}
+
+/// Attribute byte 1: the functional road class in bits 5 to 3, the form of way in bits 2 to 0.
+pub(crate) fn attribute1(frc: u8, fow: u8) -> u8
+    requires frc { frc < 8 }
+    requires fow { fow < 8 }
+    ensures { result ≡ attribute1 frc fow }
+{
+    (frc << 3) | fow
+}
+
+/// Attribute byte 2: the lowest class on the way to the next point in bits 7 to 5, the bearing in bits 4 to 0.
+pub(crate) fn attribute2(lfrc: u8, bearing: u8) -> u8
+    requires lfrc { lfrc < 8 }
+    requires bearing { bearing < 32 }
+    ensures { result ≡ attribute2 lfrc bearing }
+{
+    (lfrc << 5) | bearing
+}
+
+/// Attribute byte 4: the flags of the two offsets in bits 6 and 5, the bearing in bits 4 to 0.
+pub(crate) fn attribute4(pos: Option<u8>, neg: Option<u8>, bearing: u8) -> u8
+    requires bearing { bearing < 32 }
+    ensures { result ≡ attribute4 pos neg bearing }
+{
+    let positive = if pos.is_some() { 1 << POSITIVE } else { 0 };
+    let negative = if neg.is_some() { 1 << NEGATIVE } else { 0 };
+    positive | negative | bearing
+}
+
+/// The number that three bytes write, the highest first.
+pub(crate) fn read_signed24(bytes: [u8; 3]) -> i32
+    ensures spelled { signed24 result ≡ bytes }
+    ensures fits { IsTrue (fits24 result) }
+{
+    let [high, middle, low] = bytes;
+    let value = i32::from_be_bytes([0, high, middle, low]);
+    if value < 1 << 23 {
+        value
+    } else {
+        value - (1 << 24)
+    }
+}
+
+/// The number that two bytes write, the highest first.
+pub(crate) fn read_signed16(bytes: [u8; 2]) -> i16
+    ensures spelled { signed16 result ≡ bytes }
+    ensures fits { IsTrue (fits16 result) }
+{
+    i16::from_be_bytes(bytes)
+}
+
+/// The functional road class and the form of way of attribute byte 1.
+pub(crate) fn read_attribute1(byte: u8) -> (u8, u8)
+    requires { byte < 64 }
+    ensures spelled { attribute1 result.0 result.1 ≡ byte }
+    ensures frc { result.0 < 8 }
+    ensures fow { result.1 < 8 }
+{
+    (byte >> 3, byte & 0b111)
+}
+
+/// The lowest class on the way to the next point and the bearing of attribute byte 2.
+pub(crate) fn read_attribute2(byte: u8) -> (u8, u8)
+    ensures spelled { attribute2 result.0 result.1 ≡ byte }
+    ensures lfrc { result.0 < 8 }
+    ensures bearing { result.1 < 32 }
+{
+    (byte >> 5, byte & 0b1_1111)
+}
+
+/// Whether attribute byte 4 flags a positive offset.
+pub(crate) fn has_positive(byte: u8) -> bool
+    ensures { from_bool result ≡ bit 6 byte }
+{
+    (byte >> POSITIVE) & 1 == 1
+}
+
+/// Whether attribute byte 4 flags a negative offset.
+pub(crate) fn has_negative(byte: u8) -> bool
+    ensures { from_bool result ≡ bit 5 byte }
+{
+    (byte >> NEGATIVE) & 1 == 1
+}

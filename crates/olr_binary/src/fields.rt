@@ -1,0 +1,135 @@
+//! The fields of a line location reference.
+use std::marker::Model;
+
+/// What is published of each point but the last, of the line that leaves it and of the way to the next point.
+#[derive(Clone, Copy, Debug, PartialEq, Eq)]
+pub struct Attrs {
+    /// The functional road class of the line, from 0 to 7; 0 is the most important.
+    pub frc: u8,
+    /// The form of way of the line, from 0 to 7.
+    pub fow: u8,
+    /// The lowest functional road class on the way to the next point, so the greatest number, from 0 to 7.
+    pub lfrc: u8,
+    /// The sector of the bearing, from 0 to 31, each of 11.25 degrees, clockwise from north.
+    pub bearing: u8,
+    /// The distance to the next point, in steps of 58.6 m, rounded down (profile).
+    pub dnp: u8,
+}
+
+impl Model for Attrs {
+    ghost use Rattle.olr_spec.specs.Reference.{Attrs as Fields};
+    ghost use Rattle.olr_binary.specs.Codes.{coded_attrs};
+
+    ghost Value = { Fields };
+
+    ghost coded = { coded_attrs };
+
+    ghost view = { λ a. record { frc = a.frc; fow = a.fow; lfrc = a.lfrc; bearing = a.bearing; dnp = a.dnp } };
+
+    ghost inverse = { λ a. record { frc = a.frc; fow = a.fow; lfrc = a.lfrc; bearing = a.bearing; dnp = a.dnp } };
+}
+
+/// The first point.
+#[derive(Clone, Copy, Debug, PartialEq, Eq)]
+pub struct First {
+    /// The longitude, in 24-bit steps of 360 degrees / 2^24.
+    pub lon: i32,
+    /// The latitude, in the same steps.
+    pub lat: i32,
+    /// The attributes.
+    pub attrs: Attrs,
+}
+
+impl Model for First {
+    ghost use Rattle.olr_spec.specs.Reference.{First as Fields};
+    ghost use Rattle.olr_binary.specs.Codes.{coded_first};
+
+    ghost Value = { Fields };
+
+    ghost coded = { coded_first };
+
+    ghost view = { λ p. record { lon = p.lon; lat = p.lat; attrs = p.attrs } };
+
+    ghost inverse = { λ p. record { lon = p.lon; lat = p.lat; attrs = p.attrs } };
+}
+
+/// A point between the first and the last.
+#[derive(Clone, Copy, Debug, PartialEq, Eq)]
+pub struct Middle {
+    /// The longitude less that of the point before, in steps of 10^-5 degree.
+    pub dlon: i16,
+    /// The latitude less that of the point before, in the same steps.
+    pub dlat: i16,
+    /// The attributes.
+    pub attrs: Attrs,
+}
+
+impl Model for Middle {
+    ghost use Rattle.olr_spec.specs.Reference.{Middle as Fields};
+    ghost use Rattle.olr_binary.specs.Codes.{coded_middle};
+
+    ghost Value = { Fields };
+
+    ghost coded = { coded_middle };
+
+    ghost view = { λ p. record { dlon = p.dlon; dlat = p.dlat; attrs = p.attrs } };
+
+    ghost inverse = { λ p. record { dlon = p.dlon; dlat = p.dlat; attrs = p.attrs } };
+}
+
+/// The last point, with what is published of the line that enters it.
+#[derive(Clone, Copy, Debug, PartialEq, Eq)]
+pub struct Last {
+    /// The longitude less that of the point before, in steps of 10^-5 degree.
+    pub dlon: i16,
+    /// The latitude less that of the point before, in the same steps.
+    pub dlat: i16,
+    /// The functional road class of the line, from 0 to 7.
+    pub frc: u8,
+    /// The form of way of the line, from 0 to 7.
+    pub fow: u8,
+    /// The sector of the bearing back along the line, from 0 to 31.
+    pub bearing: u8,
+}
+
+impl Model for Last {
+    ghost use Rattle.olr_spec.specs.Reference.{Last as Fields};
+    ghost use Rattle.olr_binary.specs.Codes.{coded_last};
+
+    ghost Value = { Fields };
+
+    ghost coded = { coded_last };
+
+    ghost view = { λ p. record { dlon = p.dlon; dlat = p.dlat; frc = p.frc; fow = p.fow; bearing = p.bearing } };
+
+    ghost inverse = { λ p. record { dlon = p.dlon; dlat = p.dlat; frc = p.frc; fow = p.fow; bearing = p.bearing } };
+}
+
+/// A line location reference. Its fields fit the bits that the binary format has for them.
+#[derive(Debug, Drop)]
+pub struct Reference {
+    /// The first point.
+    pub first: First,
+    /// The points between, in order.
+    pub middle: Vec<Middle>,
+    /// The last point.
+    pub last: Last,
+    /// Where there is one, the positive offset in 256ths of the first stretch, rounded down.
+    pub pos: Option<u8>,
+    /// Where there is one, the negative offset in 256ths of the last stretch, rounded down.
+    pub neg: Option<u8>,
+}
+
+impl Model for Reference {
+    ghost use Rattle.olr_spec.specs.Reference.{Reference as Fields};
+    ghost use Rattle.olr_spec.specs.Bytes.{IsReference};
+    ghost use Rattle.olr_binary.specs.Codes.{coded_reference, reference};
+
+    ghost Value = { Fields };
+
+    ghost coded = { coded_reference };
+
+    ghost view = { λ r. reference r.first r.middle.items r.last r.pos r.neg };
+
+    ghost invariant = { λ r. IsReference (reference r.first r.middle.items r.last r.pos r.neg) };
+}

@@ -1,0 +1,22 @@
+//! Line location references in the binary physical format of OpenLR, version 3, and as base64 text: their fields
+//! (`fields`), their bytes (`write`, `read`), their text (`text`), and where their points lie (`places`). Bytes and
+//! references spell each other, and so do texts: what is written is read again as it was, and the other way round.
+#![tactic(auto)]
+
+mod bits;
+pub mod faults;
+pub mod fields;
+pub mod places;
+pub mod read;
+pub mod text;
+pub mod write;
+
+pub use faults::{TextFault, V3Fault};
+pub use fields::{Attrs, First, Last, Middle, Reference};
+pub use places::decoded;
+pub use read::read_v3;
+pub use text::{from_text, to_text};
+pub use write::write_v3;
+
+#[cfg(test)]
+mod tests;

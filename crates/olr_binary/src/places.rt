@@ -1,0 +1,51 @@
+//! Where the points of a reference lie, as far as its fields tell it.
+ghost use Rattle.std.specs.Prelude.{◌≡◌, ◌+◌, ◌*◌, ◌^◌, ◌≤◌, ◌+ℤ◌, length, map, nat_abs};
+ghost use Rattle.olr_spec.specs.Coordinates.{from_abs24, from_rel16};
+ghost use Rattle.olr_spec.specs.Bytes.{IsFirst};
+ghost use Rattle.olr_spec.specs.Decoded.{decoded, steps_sum};
+
+use crate::fields::{First, Middle, Reference};
+use olr_coords::{from_abs24, from_rel16};
+
+/// A coordinate, in units, moved on by relative steps.
+fn moved(coordinate: i128, steps: i16) -> i128
+    requires { nat_abs coordinate ≤ 2 ^ 120 }
+    ensures value { result ≡ coordinate +ℤ from_rel16 steps }
+    ensures bound { nat_abs result ≤ nat_abs coordinate + 2 ^ 37 }
+{
+    coordinate + i128::from(from_rel16(steps))
+}
+
+/// The longitude and the latitude, in units, to which the points between lead on from the first one.
+fn way(first: First, points: &[Middle]) -> (i128, i128)
+    requires { IsFirst first }
+    ensures lon { result.0 ≡ from_abs24 first.lon +ℤ steps_sum (map (λ m. m.dlon) points.now) }
+    ensures lat { result.1 ≡ from_abs24 first.lat +ℤ steps_sum (map (λ m. m.dlat) points.now) }
+    ensures lon_bound { nat_abs result.0 ≤ 2 ^ 63 + length points.now * 2 ^ 37 }
+    ensures lat_bound { nat_abs result.1 ≤ 2 ^ 63 + length points.now * 2 ^ 37 }
+{
+    let mut lon = i128::from(from_abs24(first.lon));
+    let mut lat = i128::from(from_abs24(first.lat));
+    for point in points {
+        lon = moved(lon, point.dlon);
+        lat = moved(lat, point.dlat);
+    }
+    (lon, lat)
+}
+
+/// The longitude and the latitude, in units, of point `k` of a reference, counted from 0: those of the first by its
+/// 24-bit steps, those of each later one by adding its relative steps. None exactly past the last point.
+pub fn decoded(reference: &Reference, k: usize) -> Option<(i128, i128)>
+    ensures { result ≡ decoded reference.now k }
+{
+    let between = reference.middle.len();
+    if k > between + 1 {
+        return None;
+    }
+    let (lon, lat) = way(reference.first, &reference.middle[..k.min(between)]);
+    if k <= between {
+        return Some((lon, lat));
+    }
+    let last = reference.last;
+    Some((moved(lon, last.dlon), moved(lat, last.dlat)))
+}

@@ -1,0 +1,228 @@
+//! Reading version 3.
+ghost use Rattle.std.specs.Prelude.{◌≡◌, ◌+◌, ◌*◌, ◌<◌, [], ◌∷◌, ◌++◌, length, slice_index, slice_range, IsSome, IfSome, IfNone, IfOk, IfErr, OnOk};
+ghost use Rattle.std.specs.List.{AllByRecursion, flat_map};
+ghost use Rattle.olr_spec.specs.Reference.{Reference as Fields};
+ghost use Rattle.olr_spec.specs.Bytes.{AreAttrs, IsFirst, IsMiddle, IsLast, Spells, Length as Wrong_length, attr_bytes, bit, first_bytes, flag, has_reserved, last_bytes, middle_bytes, offset_bytes, v3_fault};
+ghost use Rattle.olr_binary.specs.Faults.{fault_of};
+ghost use Rattle.olr_binary.specs.Layout.{IsLayout};
+
+use crate::bits::{
+    has_negative, has_positive, read_attribute1, read_attribute2, read_signed16, read_signed24,
+};
+use crate::faults::V3Fault;
+use crate::fields::{Attrs, First, Last, Middle, Reference};
+use crate::write::STATUS;
+use std::alloc::{AllocError, Global};
+
+/// Bytes of a reference of two points and no offset.
+const LEAST: usize = 16;
+/// The place of the first point.
+const FIRST: usize = 1;
+/// The place of the point after it.
+const MIDDLE: usize = 10;
+/// Bytes of a point between.
+const POINT: usize = 7;
+/// Bytes of the last point.
+const LAST: usize = 6;
+/// The place of attribute byte 1 of the first point. That of each later point stands `POINT` bytes further.
+const ATTRIBUTE_1: usize = 7;
+/// What attribute byte 1 stays below, and so keeps its reserved bits free.
+const ATTRIBUTE_1_END: u8 = 1 << 6;
+/// What attribute byte 4 stays below.
+const ATTRIBUTE_4_END: u8 = 1 << 7;
+
+/// Attributes, of their three bytes.
+fn read_attrs(one: u8, two: u8, dnp: u8) -> Attrs
+    requires { one < 64 }
+    ensures spelled { attr_bytes result ≡ one ∷ two ∷ dnp ∷ [] }
+    ensures fits { AreAttrs result }
+{
+    let (frc, fow) = read_attribute1(one);
+    let (lfrc, bearing) = read_attribute2(two);
+    Attrs {
+        frc,
+        fow,
+        lfrc,
+        bearing,
+        dnp,
+    }
+}
+
+/// The first point, of its nine bytes.
+fn read_first(bytes: &[u8]) -> First
+    requires nine { length bytes.now ≡ 9 }
+    requires reserved { slice_index bytes.now 6 < 64 }
+    ensures spelled { first_bytes result ≡ bytes.now }
+    ensures fits { IsFirst result }
+{
+    let &[
+        lon_high,
+        lon_middle,
+        lon_low,
+        lat_high,
+        lat_middle,
+        lat_low,
+        one,
+        two,
+        dnp,
+    ] = bytes
+    else {
+        unreachable!();
+    };
+    First {
+        lon: read_signed24([lon_high, lon_middle, lon_low]),
+        lat: read_signed24([lat_high, lat_middle, lat_low]),
+        attrs: read_attrs(one, two, dnp),
+    }
+}
+
+/// A point between, of its seven bytes.
+fn read_middle(bytes: &[u8]) -> Middle
+    requires seven { length bytes.now ≡ 7 }
+    requires reserved { slice_index bytes.now 4 < 64 }
+    ensures spelled { middle_bytes result ≡ bytes.now }
+    ensures fits { IsMiddle result }
+{
+    let &[lon_high, lon_low, lat_high, lat_low, one, two, dnp] = bytes else {
+        unreachable!();
+    };
+    Middle {
+        dlon: read_signed16([lon_high, lon_low]),
+        dlat: read_signed16([lat_high, lat_low]),
+        attrs: read_attrs(one, two, dnp),
+    }
+}
+
+/// The offsets that attribute byte 4 flags, of their bytes.
+fn read_offsets(four: u8, bytes: &[u8]) -> (Option<u8>, Option<u8>)
+    requires { length bytes.now ≡ bit 6 four + bit 5 four }
+    ensures spelled { offset_bytes result.0 ++ offset_bytes result.1 ≡ bytes.now }
+    ensures positive { flag result.0 ≡ bit 6 four }
+    ensures negative { flag result.1 ≡ bit 5 four }
+{
+    match bytes {
+        [] => (None, None),
+        [byte] if has_positive(four) => (Some(*byte), None),
+        [byte] => (None, Some(*byte)),
+        [pos, neg] => (Some(*pos), Some(*neg)),
+        _ => unreachable!(),
+    }
+}
+
+/// The last point and the offsets, of the six bytes of the point and the offset bytes.
+fn read_last(bytes: &[u8]) -> (Last, Option<u8>, Option<u8>)
+    requires size { let four = slice_index bytes.now 5 in
+        length bytes.now ≡ 6 + (bit 6 four + bit 5 four) }
+    requires reserved_1 { slice_index bytes.now 4 < 64 }
+    requires reserved_4 { slice_index bytes.now 5 < 128 }
+    ensures spelled { last_bytes result.0 result.1 result.2 ≡ bytes.now }
+    ensures fits { IsLast result.0 }
+{
+    let (point, offsets) = bytes.split_at(LAST);
+    let &[lon_high, lon_low, lat_high, lat_low, one, four] = point else {
+        unreachable!();
+    };
+    let (frc, fow) = read_attribute1(one);
+    let (pos, neg) = read_offsets(four, offsets);
+    let last = Last {
+        dlon: read_signed16([lon_high, lon_low]),
+        dlat: read_signed16([lat_high, lat_low]),
+        frc,
+        fow,
+        bearing: four & 0b1_1111,
+    };
+    (last, pos, neg)
+}
+
+/// What bytes of a right number hold.
+#[derive(Clone, Copy)]
+struct Layout {
+    /// The points between.
+    middle: usize,
+    /// The offset bytes.
+    offsets: usize,
+}
+
+/// The layout of bytes. None where no reference has so many.
+fn layout_of(bytes: &[u8]) -> Option<Layout>
+    ensures some { IfSome result (λ l. IsLayout bytes.now l.middle l.offsets) }
+    ensures none { IfNone result (v3_fault bytes.now ≡ Some Wrong_length) }
+{
+    let beyond = bytes.len().checked_sub(LEAST)?;
+    let layout = Layout {
+        middle: beyond / POINT,
+        offsets: beyond % POINT,
+    };
+    (layout.offsets <= 2).then_some(layout)
+}
+
+/// Whether a bit is set that is always 0.
+fn has_reserved(bytes: &[u8], layout: Layout) -> bool
+    requires { IsLayout bytes.now layout.middle layout.offsets }
+    ensures { result ≡ has_reserved bytes.now }
+{
+    for i in 0..layout.middle + 2 {
+        if bytes[ATTRIBUTE_1 + POINT * i] >= ATTRIBUTE_1_END {
+            return true;
+        }
+    }
+    bytes[bytes.len() - 1 - layout.offsets] >= ATTRIBUTE_4_END
+}
+
+/// The layout of bytes that spell a reference, or else their first fault.
+fn check(bytes: &[u8]) -> Result<Layout, V3Fault>
+    ensures ok { IfOk result (λ l. IsLayout bytes.now l.middle l.offsets) }
+    ensures sound { OnOk result (v3_fault bytes.now ≡ None) }
+    ensures fault { IfErr result (λ fault. v3_fault bytes.now ≡ fault_of fault) }
+    ensures no_memory { IfErr result (λ fault. IsSome (fault_of fault)) }
+{
+    let layout = layout_of(bytes).ok_or(V3Fault::Length)?;
+    if bytes[0] != STATUS {
+        return Err(V3Fault::Status);
+    }
+    let four = bytes[bytes.len() - 1 - layout.offsets];
+    if usize::from(has_positive(four)) + usize::from(has_negative(four)) != layout.offsets {
+        return Err(V3Fault::Flags);
+    }
+    if has_reserved(bytes, layout) {
+        return Err(V3Fault::Reserved);
+    }
+    Ok(layout)
+}
+
+/// The points between.
+fn read_points(alloc: Global, bytes: &[u8], layout: Layout) -> Result<Vec<Middle>, AllocError>
+    requires layout { IsLayout bytes.now layout.middle layout.offsets }
+    requires sound { v3_fault bytes.now ≡ None }
+    ensures spelled { IfOk result (λ v.
+        flat_map middle_bytes v.items ≡ slice_range bytes.now 10 (10 + 7 * layout.middle)) }
+    ensures fits { IfOk result (λ v. AllByRecursion IsMiddle v.items) }
+{
+    let mut points = Vec::with_capacity(alloc, layout.middle)?;
+    for i in 0..layout.middle {
+        let place = MIDDLE + POINT * i;
+        points.push(read_middle(&bytes[place..place + POINT]))?;
+    }
+    Ok(points)
+}
+
+/// The reference that bytes in version 3 spell, or else their first fault. `Memory` comes only for bytes without one.
+/// All other bytes are accepted as they are, coordinates past the poles and offset bytes of 0 among them.
+pub fn read_v3(alloc: Global, bytes: &[u8]) -> Result<Reference, V3Fault>
+    ensures ok { IfOk result (λ r. Spells r bytes.now) }
+    ensures fault { IfErr result (λ fault. v3_fault bytes.now ≡ fault_of fault) }
+    ensures unspelled { IfErr result (λ fault.
+        IsSome (fault_of fault) → (r : Fields) → ¬ Spells r bytes.now) }
+{
+    let layout = check(bytes)?;
+    let middle = read_points(alloc, bytes, layout).map_err(|_| V3Fault::Memory)?;
+    let first = read_first(&bytes[FIRST..MIDDLE]);
+    let (last, pos, neg) = read_last(&bytes[MIDDLE + POINT * layout.middle..]);
+    Ok(Reference {
+        first,
+        middle,
+        last,
+        pos,
+        neg,
+    })
+}

@@ -1,0 +1,89 @@
+//! Writing version 3.
+ghost use Rattle.std.specs.Prelude.{◌≡◌, ◌++◌, IfOk, OnOk};
+ghost use Rattle.olr_spec.specs.Bytes.{IsFirst, IsMiddle, IsLast, AreAttrs, Spells, attr_bytes, first_bytes, middle_bytes, last_bytes, offset_bytes};
+
+use crate::bits::{attribute1, attribute2, attribute4, signed16, signed24};
+use crate::fields::{Attrs, First, Last, Middle, Reference};
+use std::alloc::{AllocError, Global};
+
+/// The first byte: version 3, with attributes.
+pub(crate) const STATUS: u8 = 0x0b;
+/// Bytes of a reference of two points and two offsets.
+const TWO_POINTS: usize = 18;
+/// Bytes of a point between.
+const POINT: usize = 7;
+
+/// Attribute bytes 1 and 2, and the distance to the next point.
+fn attr_bytes(attrs: Attrs) -> [u8; 3]
+    requires { AreAttrs attrs }
+    ensures { result ≡ attr_bytes attrs }
+{
+    [
+        attribute1(attrs.frc, attrs.fow),
+        attribute2(attrs.lfrc, attrs.bearing),
+        attrs.dnp,
+    ]
+}
+
+/// The bytes of the first point.
+fn first_bytes(point: First) -> [u8; 9]
+    requires { IsFirst point }
+    ensures { result ≡ first_bytes point }
+{
+    let [lon_high, lon_middle, lon_low] = signed24(point.lon);
+    let [lat_high, lat_middle, lat_low] = signed24(point.lat);
+    let [one, two, dnp] = attr_bytes(point.attrs);
+    [
+        lon_high, lon_middle, lon_low, lat_high, lat_middle, lat_low, one, two, dnp,
+    ]
+}
+
+/// The bytes of a point between.
+fn middle_bytes(point: Middle) -> [u8; 7]
+    requires { IsMiddle point }
+    ensures { result ≡ middle_bytes point }
+{
+    let [lon_high, lon_low] = signed16(point.dlon);
+    let [lat_high, lat_low] = signed16(point.dlat);
+    let [one, two, dnp] = attr_bytes(point.attrs);
+    [lon_high, lon_low, lat_high, lat_low, one, two, dnp]
+}
+
+/// The bytes of the last point, less the offset bytes.
+fn last_bytes(point: Last, pos: Option<u8>, neg: Option<u8>) -> [u8; 6]
+    requires { IsLast point }
+    ensures { result ++ offset_bytes pos ++ offset_bytes neg ≡ last_bytes point pos neg }
+{
+    let [lon_high, lon_low] = signed16(point.dlon);
+    let [lat_high, lat_low] = signed16(point.dlat);
+    let one = attribute1(point.frc, point.fow);
+    let four = attribute4(pos, neg, point.bearing);
+    [lon_high, lon_low, lat_high, lat_low, one, four]
+}
+
+/// Puts an offset byte at the end, where there is one.
+fn push_offset(bytes: &mut Vec<u8>, offset: Option<u8>) -> Result<(), AllocError>
+    ensures { OnOk result (bytes.new.items ≡ bytes.old.items ++ offset_bytes offset) }
+{
+    if let Some(byte) = offset {
+        bytes.push(byte)?;
+    }
+    Ok(())
+}
+
+/// The bytes of a reference in version 3, whatever the number of its points. Each reference has one spelling.
+pub fn write_v3(alloc: Global, reference: &Reference) -> Result<Vec<u8>, AllocError>
+    ensures { IfOk result (λ bytes. Spells reference.now bytes.items) }
+{
+    let points = reference.middle.as_slice();
+    let mut bytes = Vec::with_capacity(alloc, TWO_POINTS + POINT * points.len())?;
+    bytes.push(STATUS)?;
+    bytes.extend_from_slice(&first_bytes(reference.first))?;
+    for point in points {
+        bytes.extend_from_slice(&middle_bytes(*point))?;
+    }
+    bytes.extend_from_slice(&last_bytes(reference.last, reference.pos, reference.neg))?;
+    push_offset(&mut bytes, reference.pos)?;
+    push_offset(&mut bytes, reference.neg)?;
+    Ok(bytes)
+}
