@@ -1,0 +1,15 @@
+pub mod Rising
+pub mod Merging
+pub mod Looks
+pub mod Numbers
+pub mod Undoing
+pub mod Using
+pub mod Kept
+pub mod LineLists
+pub mod Rooms
+pub mod Making
+pub mod Ends
+pub mod ReadLemmas
+pub mod Log
+pub mod Growing
+pub mod Sizes

@@ -1,0 +1,63 @@
+-- When a node is in use, by its two lists.
+use Rattle.std.proofs.Common.{◌≡◌, ◌==◌, ◌||◌, ◌<◌, ℕ, Bool, true, false, List, [], ◌∷◌, Option, Some, None, Result, Ok, Err, not, length, refl, sym, ap, ◌∙◌, subst, arith}
+use Rattle.std.specs.FinMap.{get, remove}
+use Rattle.std.specs.Result.{MatchResult}
+use Rattle.std.proofs.lemmas.Bool.{eq-eqb, or_left, or_right, or_from, false_from_ne_true, not_from_true}
+use Rattle.std.proofs.lemmas.List.{nil_from_length}
+use Rattle.olr_spec.specs.Map.{Map, Line, lines_where, lines_in, lines_out, in_use, has_node, unless, edited, MapFault, No_node, Node_in_use, Drop_node}
+use Rattle.olr_spec.specs.Extension.{has}
+use Rattle.olr_spec.proofs.MapLemmas.{has-lines_where, passes_at}
+use Rattle.olr_map.specs.Edits.{fault_of}
+use Rattle.olr_map.specs.declared.edit.EditFault.{EditFault}
+use Rattle.olr_map.proofs.Undoing.{used_by, unused_by, passes}
+
+passing : (test : Line → Bool) (o : Option Line) → passes_at test o ≡ true → (l : Line) × (o ≡ Some l) × (test l ≡ true)
+passing test None h = absurd cc
+passing test (Some l) h = (l, refl, h)
+
+-- a line that is listed uses the node
+module _ (M : Map) (v : ℕ) (f : Line → ℕ) (uses : (l : Line) → (f l == v) ≡ true → (l.to == v || l.from == v) ≡ true) where
+  first_uses : (zs : List ℕ) → zs ≡ lines_where M (λ l. f l == v) → 0 < length zs → in_use M v ≡ true
+  first_uses [] is long = absurd (omega arith)
+  first_uses (x ∷ xs) is long =
+      let here : has (lines_where M (λ l. f l == v)) x ≡ true = ap (λ zs. has zs x) (sym is) ∙ or_left (x == x) (has xs x) (eq-eqb x x refl) in
+      let p = passing (λ l. f l == v) (get M.lines x) (sym (has-lines_where M (λ l. f l == v) x) ∙ here) in
+      used_by M (λ l. l.to == v || l.from == v) x p.0 p.1 (uses p.0 p.2)
+
+  none_uses : lines_where M (λ l. f l == v) ≡ [] → (x : ℕ) (l : Line) → get M.lines x ≡ Some l → (f l == v) ≡ false
+  none_uses none x l e =
+      false_from_ne_true (f l == v) (λ t.
+      let yes : has (lines_where M (λ k. f k == v)) x ≡ true = has-lines_where M (λ k. f k == v) x ∙ ap (passes_at (λ k. f k == v)) e ∙ t in
+      let no : has (lines_where M (λ k. f k == v)) x ≡ false = ap (λ zs. has zs x) none in
+      cc)
+
+pub used_out : (M : Map) (v : ℕ) → 0 < length (lines_out M v) → in_use M v ≡ true
+used_out M v long = first_uses M v (λ l. l.from) (λ l h. or_right (l.to == v) (l.from == v) h) (lines_out M v) refl long
+
+pub used_in : (M : Map) (v : ℕ) → 0 < length (lines_in M v) → in_use M v ≡ true
+used_in M v long = first_uses M v (λ l. l.to) (λ l h. or_left (l.to == v) (l.from == v) h) (lines_in M v) refl long
+
+pub unused_if_empty : (M : Map) (v : ℕ) → length (lines_out M v) ≡ 0 → length (lines_in M v) ≡ 0 → in_use M v ≡ false
+unused_if_empty M v out in' =
+    unused_by M (λ l. l.to == v || l.from == v)
+    (λ x l e. or_from (l.to == v) (l.from == v)
+    (none_uses M v (λ k. k.to) (λ k h. or_left (k.to == v) (k.from == v) h) (nil_from_length (lines_in M v) in') x l e)
+    (none_uses M v (λ k. k.from) (λ k h. or_right (k.to == v) (k.from == v) h) (nil_from_length (lines_out M v) out) x l e))
+
+-- ---- what a drop of a node answers
+
+pub drop_taken : (M : Map) (v : ℕ) → has_node M v ≡ true → in_use M v ≡ false → edited M (Drop_node v) ≡ Ok (record M { nodes = remove M.nodes v })
+drop_taken M v there free =
+    passes (not (has_node M v)) No_node _ (not_from_true (has_node M v) there) ∙ passes (in_use M v) Node_in_use _ free
+
+pub drop_refused : (M : Map) (v : ℕ) → has_node M v ≡ true → in_use M v ≡ true → edited M (Drop_node v) ≡ Err Node_in_use
+drop_refused M v there used =
+    passes (not (has_node M v)) No_node _ (not_from_true (has_node M v) there)
+    ∙ ap (λ (b : Bool). unless b Node_in_use (Ok (record M { nodes = remove M.nodes v }))) used
+
+-- the answer at either outcome
+pub at_ok : (r : Result Map MapFault) (N : Map) → r ≡ Ok N → MatchResult r (λ _. ◌≡◌ {A = Option EditFault} None None) (λ f. ◌≡◌ {A = Option EditFault} None (Some (fault_of f)))
+at_ok r N e = subst (λ (s : Result Map MapFault). MatchResult s (λ _. ◌≡◌ {A = Option EditFault} None None) (λ f. ◌≡◌ {A = Option EditFault} None (Some (fault_of f)))) (sym e) refl
+
+pub at_err : (r : Result Map MapFault) (f : MapFault) → r ≡ Err f → MatchResult r (λ _. ◌≡◌ {A = Option EditFault} (Some (fault_of f)) None) (λ g. ◌≡◌ {A = Option EditFault} (Some (fault_of f)) (Some (fault_of g)))
+at_err r f e = subst (λ (s : Result Map MapFault). MatchResult s (λ _. ◌≡◌ {A = Option EditFault} (Some (fault_of f)) None) (λ g. ◌≡◌ {A = Option EditFault} (Some (fault_of f)) (Some (fault_of g)))) (sym e) refl

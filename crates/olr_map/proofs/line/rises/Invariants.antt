@@ -1,0 +1,11 @@
+use Rattle.std.proofs.Common.{◌≡◌, drop, take, true}
+use Rattle.olr_spec.specs.Map.{rises_between, are_coords}
+use Rattle.olr_map.proofs.line.rises.Given as goal
+
+-- what is left rises above the last distance exactly where the whole rises, and the places so far are in range
+abbrev pub invariant-loop-point : goal.invariant-loop-point
+invariant-loop-point l =
+    record {
+      rises : rises_between l.low (drop l.point-index l.shape) l.len ≡ rises_between 0 l.fn.shape l.len;
+      placed : are_coords (take l.point-index l.shape) ≡ true;
+    }

@@ -1,0 +1,16 @@
+use Rattle.std.proofs.Common.{◌≡◌, true, false, is_some, Err, ap}
+use Rattle.olr_spec.specs.Map.{has_node}
+use Rattle.olr_map.specs.Places.{Place}
+use Rattle.olr_map.specs.Tables.{node_ids}
+use Rattle.olr_map.specs.RoadMaps.{map_of}
+use Rattle.olr_map.proofs.Numbers.{place_not}
+use Rattle.olr_map.proofs.ReadLemmas.{node_missing}
+use Rattle.olr_map.proofs.road_map.RoadMap.found_node.Goals as goal
+
+pub unreachable-requires : goal.unreachable-requires
+unreachable-requires c =
+    let t = c.args.self.now.tables in
+    let place : Place (node_ids t.nodes.items) c.args.id (Err c.in-Err.field-0) = rw c.deref.ensures.value at c.in-Err.ensures in
+    let absent : has_node (map_of c.args.self.now) c.args.id ≡ false = ap (λ o. is_some o) (node_missing t c.args.id (place_not (node_ids t.nodes.items) c.args.id c.in-Err.field-0 place)) in
+    let there : has_node (map_of c.args.self.now) c.args.id ≡ true = c.requires in
+    cc

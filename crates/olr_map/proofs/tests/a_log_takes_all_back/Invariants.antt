@@ -1,0 +1,6 @@
+use Rattle.olr_map.specs.RoadMaps.{CanUndoAll}
+use Rattle.olr_map.proofs.tests.a_log_takes_all_back.Given as goal
+
+-- what the log knows can be taken back
+abbrev pub invariant-loop-edit : goal.invariant-loop-edit
+invariant-loop-edit g l = CanUndoAll l.map l.log

@@ -1,0 +1,44 @@
+-- Edits and their faults as the definitions of a map see them.
+--     edit_of e      the edit
+--     fault_of f      the answer where the map refuses with f;  want of memory is no fault of the map
+--     fault_number f, fault_word f      how replies name a fault
+use Rattle.std.specs.Prelude.{ℕ, List, codes}
+use Rattle.olr_spec.specs.Map as map
+use Rattle.olr_map.specs.declared.edit.Edit.{Edit}
+use Rattle.olr_map.specs.declared.edit.Edit.TheVariants.{AddNode, MoveNode, DropNode, AddLine, SetLine, DropLine}
+use Rattle.olr_map.specs.declared.edit.EditFault.{EditFault}
+use Rattle.olr_map.specs.declared.edit.EditFault.TheVariants.{NodeExists, NoNode, LineExists, NoLine, NodeInUse, BadShape, Memory}
+
+abbrev pub edit_of : Edit → map.Edit
+edit_of (AddNode id place) = map.Add_node id place
+edit_of (MoveNode id place) = map.Move_node id place
+edit_of (DropNode id) = map.Drop_node id
+edit_of (AddLine id line) = map.Add_line id line
+edit_of (SetLine id frc fow len shape) = map.Set_line id frc fow len shape.items
+edit_of (DropLine id) = map.Drop_line id
+
+abbrev pub fault_of : map.MapFault → EditFault
+fault_of map.Node_exists = NodeExists
+fault_of map.No_node = NoNode
+fault_of map.Line_exists = LineExists
+fault_of map.No_line = NoLine
+fault_of map.Node_in_use = NodeInUse
+fault_of map.Bad_shape = BadShape
+
+abbrev pub fault_number : EditFault → ℕ
+fault_number NodeExists = 3
+fault_number NoNode = 4
+fault_number LineExists = 5
+fault_number NoLine = 6
+fault_number NodeInUse = 7
+fault_number BadShape = 8
+fault_number Memory = 13
+
+abbrev pub fault_word : EditFault → List ℕ
+fault_word NodeExists = codes "NodeExists"
+fault_word NoNode = codes "NoNode"
+fault_word LineExists = codes "LineExists"
+fault_word NoLine = codes "NoLine"
+fault_word NodeInUse = codes "NodeInUse"
+fault_word BadShape = codes "BadShape"
+fault_word Memory = codes "Memory"

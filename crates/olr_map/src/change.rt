@@ -1,0 +1,23 @@
+//! Changes of the tables of a map. Each is taken back by another, so that an edit is undone by a change as well.
+
+use crate::ids::{LineId, NodeId};
+use crate::line::Line;
+use crate::tables::NodeEntry;
+use olr_coords::Coord;
+
+/// A change of the tables.
+#[derive(Drop, Debug)]
+pub enum Change {
+    /// Puts a node's entry in its place.
+    PutNode(NodeEntry),
+    /// Gives a node another place on the earth.
+    MoveNode(NodeId, Coord),
+    /// Takes a node's entry out.
+    TakeNode(NodeId),
+    /// Puts a line in its place, and its number into the lists of its ends.
+    PutLine(LineId, Line),
+    /// Puts another line with the same ends in a line's place.
+    SetLine(LineId, Line),
+    /// Takes a line out, and its number out of the lists of its ends.
+    TakeLine(LineId),
+}

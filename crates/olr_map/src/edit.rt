@@ -1,0 +1,91 @@
+//! Edits of a map, and why one is refused.
+ghost use Rattle.std.specs.Prelude.{◌≡◌};
+
+use crate::ids::{LineId, NodeId};
+use crate::line::{Line, Shape};
+use olr_coords::Coord;
+use thiserror::Error;
+
+/// An edit of a map.
+#[derive(Drop, Debug)]
+pub enum Edit {
+    /// A new node at a place.
+    AddNode(NodeId, Coord),
+    /// Another place for a node.
+    MoveNode(NodeId, Coord),
+    /// Takes a node away that no line uses.
+    DropNode(NodeId),
+    /// A new line between two nodes of the map.
+    AddLine(LineId, Line),
+    /// Other classes, another length (in decimetres) and another shape for a line; its ends stay.
+    SetLine {
+        id: LineId,
+        frc: u8,
+        fow: u8,
+        len: u32,
+        shape: Vec<Shape>,
+    },
+    /// Takes a line away.
+    DropLine(LineId),
+}
+
+/// Why an edit is refused. The map is then as it was.
+#[derive(Clone, Copy, Debug, PartialEq, Eq, Error)]
+pub enum EditFault {
+    /// The new node is in the map already.
+    #[error("NodeExists")]
+    NodeExists,
+    /// The node, or an end of the new line, is not in the map.
+    #[error("NoNode")]
+    NoNode,
+    /// The new line is in the map already.
+    #[error("LineExists")]
+    LineExists,
+    /// The line is not in the map.
+    #[error("NoLine")]
+    NoLine,
+    /// A line enters or leaves the node.
+    #[error("NodeInUse")]
+    NodeInUse,
+    /// The line would not be good.
+    #[error("BadShape")]
+    BadShape,
+    /// There was no memory for what the edit adds.
+    #[error("Memory")]
+    Memory,
+}
+
+impl EditFault {
+    ghost use Rattle.std.specs.Prelude.{◌≡◌};
+    ghost use Rattle.olr_map.specs.Edits.{fault_number, fault_word};
+
+    /// The number by which replies name the fault.
+    pub fn number(self) -> u8
+        ensures { result ≡ fault_number self }
+    {
+        match self {
+            EditFault::NodeExists => 3,
+            EditFault::NoNode => 4,
+            EditFault::LineExists => 5,
+            EditFault::NoLine => 6,
+            EditFault::NodeInUse => 7,
+            EditFault::BadShape => 8,
+            EditFault::Memory => 13,
+        }
+    }
+
+    /// The word that stands beside the number.
+    pub fn word(self) -> &'static str
+        ensures { result.now ≡ fault_word self }
+    {
+        match self {
+            EditFault::NodeExists => "NodeExists",
+            EditFault::NoNode => "NoNode",
+            EditFault::LineExists => "LineExists",
+            EditFault::NoLine => "NoLine",
+            EditFault::NodeInUse => "NodeInUse",
+            EditFault::BadShape => "BadShape",
+            EditFault::Memory => "Memory",
+        }
+    }
+}

@@ -1,0 +1,110 @@
+//! Sets of nodes.
+ghost use Rattle.std.specs.Prelude.{◌≡◌, ◌↔◌, ◌⊎◌, ℕ, Contains, IsTrue, IfOk, OnOk, OnErr, [], ◌≤◌, length};
+ghost use Rattle.std.specs.List.Sorted.{IsStrictlyIncreasing};
+
+use crate::ids::NodeId;
+use std::alloc::{AllocError, Global};
+use std::cmp::Ordering;
+use std::marker::Model;
+
+/// A set of node numbers, kept and lent in rising order.
+#[derive(Drop, Debug)]
+pub struct Footprint {
+    nodes: Vec<NodeId>,
+}
+
+impl Model for Footprint {
+    ghost use Rattle.std.specs.Prelude.{List, ℕ};
+    ghost use Rattle.std.specs.List.Sorted.{IsStrictlyIncreasing};
+
+    ghost Value = { List ℕ };
+
+    ghost view = { λ a. a.nodes.items };
+
+    ghost invariant = { λ a. IsStrictlyIncreasing a.nodes.items };
+}
+
+impl Footprint {
+    /// The set of no nodes. Takes no memory.
+    pub fn new(alloc: Global) -> Footprint
+        ensures { result ≡ [] }
+    {
+        Footprint {
+            nodes: Vec::new(alloc),
+        }
+    }
+
+    /// The nodes, rising.
+    pub fn as_slice(&self) -> &[NodeId]
+        ensures same { result.now ≡ self.now }
+        ensures rising { IsStrictlyIncreasing self.now }
+    {
+        self.nodes.as_slice()
+    }
+
+    /// Whether a node is in the set, by binary search.
+    pub fn has(&self, node: NodeId) -> bool
+        ensures { IsTrue result ↔ (Contains self.now node) }
+    {
+        self.nodes.binary_search(&node).is_ok()
+    }
+
+    /// Puts one node in. After a refusal the set is as before.
+    pub fn note(&mut self, node: NodeId) -> Result<(), AllocError>
+        ensures ok { OnOk result
+            ((n : ℕ) → (Contains self.new n) ↔ ((Contains self.old n) ⊎ (n ≡ node))) }
+        ensures err { OnErr result (self.new ≡ self.old) }
+    {
+        if let Err(place) = self.nodes.binary_search(&node) {
+            self.nodes.insert(place, node)?;
+        }
+        Ok(())
+    }
+
+    /// Puts all these nodes in, by one merge into room that is made at once. After a refusal the set is as before.
+    pub fn note_all(&mut self, rising: &[NodeId]) -> Result<(), AllocError>
+        requires rising { IsStrictlyIncreasing rising.now }
+        ensures ok { OnOk result
+            ((n : ℕ) → (Contains self.new n) ↔ ((Contains self.old n) ⊎ (Contains rising.now n))) }
+        ensures grows { OnOk result (length self.old ≤ length self.new) }
+        ensures err { OnErr result (self.new ≡ self.old) }
+    {
+        let alloc = *self.nodes.allocator();
+        self.nodes = merged(alloc, &self.nodes, rising)?;
+        Ok(())
+    }
+}
+
+/// The numbers of both lists, rising.
+fn merged(alloc: Global, left: &[NodeId], right: &[NodeId]) -> Result<Vec<NodeId>, AllocError>
+    requires left { IsStrictlyIncreasing left.now }
+    requires right { IsStrictlyIncreasing right.now }
+    ensures rising { IfOk result (λ v. IsStrictlyIncreasing v.items) }
+    ensures holds { IfOk result
+        (λ v. (n : ℕ) → (Contains v.items n) ↔ ((Contains left.now n) ⊎ (Contains right.now n))) }
+{
+    let mut both = Vec::with_capacity(alloc, left.len() + right.len())?;
+    let mut i = 0;
+    let mut j = 0;
+    while i < left.len() && j < right.len() {
+        let (next_left, next_right) = (left[i], right[j]);
+        match next_left.cmp(&next_right) {
+            Ordering::Less => {
+                both.push(next_left)?;
+                i += 1;
+            }
+            Ordering::Equal => {
+                both.push(next_left)?;
+                i += 1;
+                j += 1;
+            }
+            Ordering::Greater => {
+                both.push(next_right)?;
+                j += 1;
+            }
+        }
+    }
+    both.extend_from_slice(&left[i..])?;
+    both.extend_from_slice(&right[j..])?;
+    Ok(both)
+}

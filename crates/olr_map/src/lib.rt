@@ -1,0 +1,29 @@
+//! The road map: numbers of nodes and lines, lines with their shapes, what the layers above read of a map, sets of nodes,
+//! and edits that can be undone.
+#![tactic(auto)]
+
+mod change;
+pub mod edit;
+pub mod footprint;
+pub mod ids;
+pub mod line;
+mod links;
+pub mod plain_map;
+pub mod read;
+mod refusal;
+pub mod road_map;
+mod tables;
+#[cfg(test)]
+mod tests;
+pub mod touched;
+pub mod undo;
+
+pub use edit::{Edit, EditFault};
+pub use footprint::Footprint;
+pub use ids::{LineId, NodeId};
+pub use line::{Line, Shape};
+pub use plain_map::PlainMap;
+pub use read::MapRead;
+pub use road_map::RoadMap;
+pub use touched::{line_touched, nodes_touched};
+pub use undo::{Undo, UndoLog};

@@ -1,0 +1,107 @@
+//! Lines of the road map and their shapes.
+ghost use Rattle.std.specs.Prelude.{◌≡◌, IsTrue};
+ghost use Rattle.std.specs.Bool.{OnTrue};
+ghost use Rattle.olr_spec.specs.Map.{is_good, are_coords, rises_between};
+
+use crate::ids::NodeId;
+use olr_coords::Coord;
+use std::marker::Model;
+
+/// The greatest functional road class, and the greatest form of way.
+pub const GREATEST_CLASS: u8 = 7;
+/// The greatest length of a line, in decimetres.
+pub const GREATEST_LEN: u32 = 1_000_000;
+/// The greatest number of shape points of a line.
+pub const MOST_SHAPE_POINTS: usize = 1000;
+
+/// A place of a line between its two ends.
+#[derive(Clone, Copy, Debug, PartialEq, Eq)]
+pub struct Shape {
+    /// The distance from the line's begin along the line, in decimetres.
+    pub at: u32,
+    /// Where it is.
+    pub place: Coord,
+}
+
+impl Model for Shape {
+    ghost use Rattle.olr_spec.specs.Map.{ShapePoint};
+    ghost use Rattle.olr_spec.specs.Codes.{coded_shape_point};
+
+    ghost Value = { ShapePoint };
+
+    ghost coded = { coded_shape_point };
+
+    ghost view = { λ s. record { at = s.at; place = s.place } };
+
+    ghost inverse = { λ p. record { at = p.at; place = p.place } };
+}
+
+/// A directed line from a node to a node. A road that is used both ways is two lines.
+#[derive(Drop, Debug)]
+pub struct Line {
+    /// The node where the line begins.
+    pub from: NodeId,
+    /// The node where it ends.
+    pub to: NodeId,
+    /// The functional road class; 0 is the most important.
+    pub frc: u8,
+    /// The form of way.
+    pub fow: u8,
+    /// The length, in decimetres.
+    pub len: u32,
+    /// The places between the two ends, in order.
+    pub shape: Vec<Shape>,
+}
+
+impl Model for Line {
+    ghost use Rattle.olr_spec.specs.Map.{Line as Record};
+    ghost use Rattle.olr_spec.specs.Codes.{coded_line};
+
+    ghost Value = { Record };
+
+    ghost coded = { coded_line };
+
+    ghost view = { λ l. record { from = l.from; to = l.to; frc = l.frc; fow = l.fow; len = l.len; shape = l.shape.items } };
+}
+
+impl Line {
+    /// Whether both classes are at most 7, the length is from 1 to 1,000,000 dm, and at most 1,000 shape points stand at
+    /// distances that rise strictly and lie strictly between the two ends.
+    pub fn is_good(&self) -> bool
+        ensures good { result ≡ is_good self.now }
+        ensures placed { OnTrue result (IsTrue (are_coords self.now.shape)) }
+    {
+        has_good_fields(self.frc, self.fow, self.len, &self.shape)
+    }
+}
+
+/// Whether a line with these classes, this length in decimetres and this shape is good.
+pub fn has_good_fields(frc: u8, fow: u8, len: u32, shape: &[Shape]) -> bool
+    ensures good { result
+        ≡ is_good (record { from = 0; to = 0; frc = frc; fow = fow; len = len; shape = shape.now }) }
+    ensures placed { OnTrue result (IsTrue (are_coords shape.now)) }
+{
+    frc <= GREATEST_CLASS
+        && fow <= GREATEST_CLASS
+        && len >= 1
+        && len <= GREATEST_LEN
+        && shape.len() <= MOST_SHAPE_POINTS
+        && rises(shape, len)
+}
+
+/// Whether the distances rise strictly, and lie strictly between 0 and `len`.
+fn rises(shape: &[Shape], len: u32) -> bool
+    ensures rises { result ≡ rises_between 0 shape.now len }
+    ensures placed { OnTrue result (IsTrue (are_coords shape.now)) }
+{
+    let mut low = 0;
+    for point in shape {
+        if point.at <= low || point.at >= len {
+            return false;
+        }
+        // The place is in range, as every `Coord` is.
+        let _latitude = point.place.lat();
+        low = point.at;
+    }
+    true
+}

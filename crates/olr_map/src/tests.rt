@@ -1,0 +1,546 @@
+//! Worked edits, with expected values by hand, and the two maps against each other.
+
+use super::*;
+use olr_coords::Coord;
+use std::alloc::{AllocError, Global};
+use std::process::Abort;
+use std::test::Fail;
+
+/// The node with this number.
+fn node(rt: &impl Abort, number: u32) -> NodeId {
+    NodeId::new(number).expect(rt, "a number of a node")
+}
+
+/// The line with this number.
+fn line(rt: &impl Abort, number: u32) -> LineId {
+    LineId::new(number).expect(rt, "a number of a line")
+}
+
+/// The place with this longitude and latitude, in 1/100,000 degree.
+fn place(rt: &impl Abort, lon: i32, lat: i32) -> Coord {
+    Coord::new(i64::from(lon) * 3_276_800, i64::from(lat) * 3_276_800).expect(rt, "a place")
+}
+
+/// The shape with points at these distances, all at one place.
+fn shape(rt: &impl Abort, alloc: Global, distances: &[u32]) -> Result<Vec<Shape>, AllocError> {
+    let mut points = Vec::new(alloc);
+    for at in distances {
+        points.push(Shape {
+            at: *at,
+            place: place(rt, 612_000, 4_960_000),
+        })?;
+    }
+    Ok(points)
+}
+
+/// The edit that adds a line of class 3 and form 2.
+fn new_line(
+    rt: &impl Abort,
+    alloc: Global,
+    id: u32,
+    from: u32,
+    to: u32,
+    len: u32,
+    distances: &[u32],
+) -> Result<Edit, AllocError> {
+    Ok(Edit::AddLine(
+        line(rt, id),
+        Line {
+            from: node(rt, from),
+            to: node(rt, to),
+            frc: 3,
+            fow: 2,
+            len,
+            shape: shape(rt, alloc, distances)?,
+        },
+    ))
+}
+
+/// The edit that gives a line class 4 and form 3.
+fn other_line(
+    rt: &impl Abort,
+    alloc: Global,
+    id: u32,
+    len: u32,
+    distances: &[u32],
+) -> Result<Edit, AllocError> {
+    Ok(Edit::SetLine {
+        id: line(rt, id),
+        frc: 4,
+        fow: 3,
+        len,
+        shape: shape(rt, alloc, distances)?,
+    })
+}
+
+/// Makes an edit, which the map must take, and lets it stand.
+fn take(rt: &impl Abort, map: &mut RoadMap, edit: Edit) {
+    match map.apply(edit) {
+        Ok(undo) => map.keep(undo),
+        Err(fault) => assert_eq!(rt; fault.word(), "no fault"),
+    }
+}
+
+/// The map with four nodes and four lines: 10 from 1 to 2, 20 and 99 from 2 to 3, 30 from 3 to 4.
+fn base(rt: &impl Abort, alloc: Global) -> Result<RoadMap, AllocError> {
+    let mut map = RoadMap::new(alloc);
+    take(
+        rt,
+        &mut map,
+        Edit::AddNode(node(rt, 1), place(rt, 612_683, 4_960_852)),
+    );
+    take(
+        rt,
+        &mut map,
+        Edit::AddNode(node(rt, 2), place(rt, 612_838, 4_960_399)),
+    );
+    take(
+        rt,
+        &mut map,
+        Edit::AddNode(node(rt, 3), place(rt, 612_790, 4_960_350)),
+    );
+    take(
+        rt,
+        &mut map,
+        Edit::AddNode(node(rt, 4), place(rt, 612_817, 4_960_306)),
+    );
+    take(rt, &mut map, new_line(rt, alloc, 99, 2, 3, 1500, &[])?);
+    take(
+        rt,
+        &mut map,
+        new_line(rt, alloc, 10, 1, 2, 5610, &[200, 5410])?,
+    );
+    take(rt, &mut map, new_line(rt, alloc, 20, 2, 3, 2000, &[200])?);
+    take(rt, &mut map, new_line(rt, alloc, 30, 3, 4, 740, &[540])?);
+    Ok(map)
+}
+
+/// That two maps answer alike at all numbers up to 100.
+fn assert_alike<M: MapRead, N: MapRead>(rt: &impl Abort, one: &M, other: &N) {
+    for number in 1..=100 {
+        let id = node(rt, number);
+        assert_eq!(rt; one.node(id), other.node(id), "node {number}");
+        assert_eq!(rt;
+            one.out_lines(id),
+            other.out_lines(id),
+            "lines from {number}"
+        );
+        assert_eq!(rt; one.in_lines(id), other.in_lines(id), "lines to {number}");
+        let id = line(rt, number);
+        match (one.line(id), other.line(id)) {
+            (Some(first), Some(second)) => {
+                assert_eq!(rt; first.from, second.from, "line {number}");
+                assert_eq!(rt; first.to, second.to, "line {number}");
+                assert_eq!(rt; first.frc, second.frc, "line {number}");
+                assert_eq!(rt; first.fow, second.fow, "line {number}");
+                assert_eq!(rt; first.len, second.len, "line {number}");
+                assert_eq!(rt;
+                    first.shape.as_slice(),
+                    second.shape.as_slice(),
+                    "line {number}"
+                );
+            }
+            (None, None) => {}
+            _ => assert!(rt; false, "line {number} is in one map alone"),
+        }
+    }
+}
+
+/// That the map refuses an edit with this fault, and is as before.
+fn assert_refused(
+    rt: &impl Abort,
+    alloc: Global,
+    edit: Edit,
+    number: u8,
+    word: &str,
+) -> Result<(), AllocError> {
+    let mut map = base(rt, alloc)?;
+    match map.apply(edit) {
+        Ok(undo) => {
+            map.undo(undo);
+            assert_eq!(rt; word, "taken");
+        }
+        Err(fault) => {
+            assert_eq!(rt; fault.number(), number);
+            assert_eq!(rt; fault.word(), word);
+        }
+    }
+    assert_alike(rt, &map, &base(rt, alloc)?);
+    Ok(())
+}
+
+#[test]
+fn reads_the_base_map(rt: HostRuntime) -> Result<(), Fail> {
+    let map = base(&rt, rt.alloc())?;
+    assert_eq!(rt;
+        map.node(node(&rt, 2)),
+        Some(place(&rt, 612_838, 4_960_399))
+    );
+    assert_eq!(rt; map.node(node(&rt, 5)), None);
+    assert_eq!(rt;
+        map.out_lines(node(&rt, 2)),
+        [line(&rt, 20), line(&rt, 99)].as_slice()
+    );
+    assert_eq!(rt;
+        map.in_lines(node(&rt, 3)),
+        [line(&rt, 20), line(&rt, 99)].as_slice()
+    );
+    assert!(rt; map.out_lines(node(&rt, 4)).is_empty());
+    assert!(rt; map.in_lines(node(&rt, 5)).is_empty());
+    match map.line(line(&rt, 10)) {
+        Some(found) => {
+            assert_eq!(rt; found.from.number(), 1);
+            assert_eq!(rt; found.to.number(), 2);
+            assert_eq!(rt; found.len, 5610);
+            assert_eq!(rt; found.shape.len(), 2);
+            assert!(rt; found.is_good());
+        }
+        None => assert!(rt; false, "line 10"),
+    }
+    assert!(rt; map.line(line(&rt, 11)).is_none());
+    assert!(rt; NodeId::new(0).is_none());
+    assert!(rt; LineId::new(0).is_none());
+    Ok(())
+}
+
+#[test]
+fn refuses_in_order(rt: HostRuntime) -> Result<(), Fail> {
+    let alloc = rt.alloc();
+    let here = place(&rt, 0, 0);
+    assert_refused(
+        &rt,
+        alloc,
+        Edit::AddNode(node(&rt, 1), here),
+        3,
+        "NodeExists",
+    )?;
+    assert_refused(&rt, alloc, Edit::MoveNode(node(&rt, 9), here), 4, "NoNode")?;
+    assert_refused(&rt, alloc, Edit::DropNode(node(&rt, 9)), 4, "NoNode")?;
+    assert_refused(&rt, alloc, Edit::DropNode(node(&rt, 1)), 7, "NodeInUse")?;
+    assert_refused(&rt, alloc, Edit::DropNode(node(&rt, 4)), 7, "NodeInUse")?;
+    assert_refused(
+        &rt,
+        alloc,
+        new_line(&rt, alloc, 99, 2, 3, 1500, &[])?,
+        5,
+        "LineExists",
+    )?;
+    assert_refused(
+        &rt,
+        alloc,
+        new_line(&rt, alloc, 99, 9, 3, 0, &[])?,
+        5,
+        "LineExists",
+    )?;
+    assert_refused(
+        &rt,
+        alloc,
+        new_line(&rt, alloc, 98, 9, 3, 0, &[])?,
+        4,
+        "NoNode",
+    )?;
+    assert_refused(
+        &rt,
+        alloc,
+        new_line(&rt, alloc, 98, 3, 9, 1500, &[])?,
+        4,
+        "NoNode",
+    )?;
+    assert_refused(
+        &rt,
+        alloc,
+        new_line(&rt, alloc, 98, 2, 3, 1500, &[1500])?,
+        8,
+        "BadShape",
+    )?;
+    assert_refused(&rt, alloc, other_line(&rt, alloc, 98, 0, &[])?, 6, "NoLine")?;
+    assert_refused(
+        &rt,
+        alloc,
+        other_line(&rt, alloc, 99, 0, &[])?,
+        8,
+        "BadShape",
+    )?;
+    assert_refused(
+        &rt,
+        alloc,
+        other_line(&rt, alloc, 99, 9, &[3, 3])?,
+        8,
+        "BadShape",
+    )?;
+    assert_refused(
+        &rt,
+        alloc,
+        other_line(&rt, alloc, 99, 9, &[0])?,
+        8,
+        "BadShape",
+    )?;
+    assert_refused(&rt, alloc, Edit::DropLine(line(&rt, 98)), 6, "NoLine")?;
+    Ok(())
+}
+
+#[test]
+fn lines_at_their_limits(rt: HostRuntime) -> Result<(), Fail> {
+    let alloc = rt.alloc();
+    for (frc, fow, len, points, good) in [
+        (7, 7, 1, 0, true),
+        (8, 7, 1, 0, false),
+        (7, 8, 1, 0, false),
+        (0, 0, 0, 0, false),
+        (0, 0, 1_000_000, 1000, true),
+        (0, 0, 1_000_000, 1001, false),
+        (0, 0, 1_000_001, 0, false),
+        (0, 0, 1001, 1000, true),
+        (0, 0, 1000, 1000, false),
+    ] {
+        let mut distances = Vec::new(alloc);
+        for at in 1..points + 1 {
+            distances.push(at)?;
+        }
+        let tried = Line {
+            from: node(&rt, 1),
+            to: node(&rt, 1),
+            frc,
+            fow,
+            len,
+            shape: shape(&rt, alloc, &distances)?,
+        };
+        assert_eq!(rt; tried.is_good(), good, "{frc} {fow} {len} {points}");
+    }
+    Ok(())
+}
+
+#[test]
+fn edits_come_and_go(rt: HostRuntime) -> Result<(), Fail> {
+    let alloc = rt.alloc();
+    let mut map = base(&rt, alloc)?;
+    take(&rt, &mut map, Edit::DropLine(line(&rt, 10)));
+    take(&rt, &mut map, Edit::DropNode(node(&rt, 1)));
+    match map.apply(new_line(&rt, alloc, 10, 1, 2, 5610, &[200, 5410])?) {
+        Ok(undo) => {
+            map.keep(undo);
+            assert!(rt; false, "node 1 is not there");
+        }
+        Err(fault) => assert_eq!(rt; fault, EditFault::NoNode),
+    }
+    take(
+        &rt,
+        &mut map,
+        Edit::AddNode(node(&rt, 1), place(&rt, 612_683, 4_960_852)),
+    );
+    take(
+        &rt,
+        &mut map,
+        new_line(&rt, alloc, 10, 1, 2, 5610, &[200, 5410])?,
+    );
+    assert_alike(&rt, &map, &base(&rt, alloc)?);
+    Ok(())
+}
+
+#[test]
+fn undo_takes_each_edit_back(rt: HostRuntime) -> Result<(), Fail> {
+    let alloc = rt.alloc();
+    let mut map = base(&rt, alloc)?;
+    let edits = vec![in alloc;
+        Edit::AddNode(node(&rt, 5), place(&rt, 0, 0)),
+        Edit::MoveNode(node(&rt, 2), place(&rt, 0, 0)),
+        new_line(&rt, alloc, 50, 3, 2, 700, &[])?,
+        new_line(&rt, alloc, 50, 2, 2, 700, &[1])?,
+        new_line(&rt, alloc, 50, 2, 3, 700, &[])?,
+        other_line(&rt, alloc, 20, 900, &[100, 200])?,
+        Edit::DropLine(line(&rt, 20)),
+        Edit::DropLine(line(&rt, 99)),
+    ]?;
+    for edit in edits {
+        match map.apply(edit) {
+            Ok(undo) => map.undo(undo),
+            Err(fault) => assert_eq!(rt; fault.word(), "no fault"),
+        }
+        assert_alike(&rt, &map, &base(&rt, alloc)?);
+    }
+    Ok(())
+}
+
+#[test]
+fn a_log_takes_all_back(rt: HostRuntime) -> Result<(), Fail> {
+    let alloc = rt.alloc();
+    let mut map = base(&rt, alloc)?;
+    let mut log = UndoLog::new(alloc);
+    let edits = vec![in alloc;
+        Edit::DropLine(line(&rt, 10)),
+        Edit::DropNode(node(&rt, 1)),
+        Edit::DropNode(node(&rt, 1)),
+        Edit::AddNode(node(&rt, 1), place(&rt, 7, 7)),
+        new_line(&rt, alloc, 11, 1, 1, 700, &[])?,
+        new_line(&rt, alloc, 10, 2, 1, 700, &[600])?,
+        other_line(&rt, alloc, 10, 5, &[])?,
+        Edit::MoveNode(node(&rt, 2), place(&rt, 8, 8)),
+        Edit::DropLine(line(&rt, 99)),
+        Edit::DropLine(line(&rt, 20)),
+    ]?;
+    let mut faults = 0;
+    for edit in edits {
+        if map.apply_into(edit, &mut log).is_err() {
+            faults = 1;
+        }
+    }
+    assert_eq!(rt; faults, 1, "node 1 goes once");
+    assert_eq!(rt; map.node(node(&rt, 1)), Some(place(&rt, 7, 7)));
+    assert_eq!(rt; map.out_lines(node(&rt, 1)), [line(&rt, 11)].as_slice());
+    assert_eq!(rt;
+        map.in_lines(node(&rt, 1)),
+        [line(&rt, 10), line(&rt, 11)].as_slice()
+    );
+    map.undo_all(log);
+    assert_alike(&rt, &map, &base(&rt, alloc)?);
+    Ok(())
+}
+
+#[test]
+fn a_log_lets_all_stand(rt: HostRuntime) -> Result<(), Fail> {
+    let alloc = rt.alloc();
+    let mut map = PlainMap::new(alloc);
+    let mut log = UndoLog::new(alloc);
+    map.apply_into(Edit::AddNode(node(&rt, 1), place(&rt, 7, 7)), &mut log)?;
+    map.keep_all(log);
+    let mut log = UndoLog::new(alloc);
+    map.apply_into(Edit::AddNode(node(&rt, 2), place(&rt, 7, 7)), &mut log)?;
+    map.undo_all(log);
+    assert!(rt; map.node(node(&rt, 1)).is_some());
+    assert!(rt; map.node(node(&rt, 2)).is_none());
+    let mut other = base(&rt, alloc)?;
+    let mut log = UndoLog::new(alloc);
+    other.apply_into(Edit::DropLine(line(&rt, 99)), &mut log)?;
+    other.keep_all(log);
+    assert!(rt; other.line(line(&rt, 99)).is_none());
+    Ok(())
+}
+
+#[test]
+fn tells_what_an_edit_touches(rt: HostRuntime) -> Result<(), Fail> {
+    let alloc = rt.alloc();
+    let map = base(&rt, alloc)?;
+    let (second, third) = (node(&rt, 2), node(&rt, 3));
+    let drop = Edit::DropLine(line(&rt, 99));
+    assert_eq!(rt; nodes_touched(&map, &drop), Some((second, third)));
+    assert_eq!(rt; line_touched(&drop), Some(line(&rt, 99)));
+    let absent = other_line(&rt, alloc, 98, 5, &[])?;
+    assert_eq!(rt; nodes_touched(&map, &absent), None);
+    assert_eq!(rt; line_touched(&absent), Some(line(&rt, 98)));
+    let new = new_line(&rt, alloc, 98, 3, 2, 5, &[])?;
+    assert_eq!(rt; nodes_touched(&map, &new), Some((third, second)));
+    let drop = Edit::DropNode(second);
+    assert_eq!(rt; nodes_touched(&map, &drop), Some((second, second)));
+    assert_eq!(rt; line_touched(&drop), None);
+    Ok(())
+}
+
+#[test]
+fn a_footprint_is_a_set(rt: HostRuntime) -> Result<(), Fail> {
+    let mut set = Footprint::new(rt.alloc());
+    for number in [5, 2, 9, 2] {
+        set.note(node(&rt, number))?;
+    }
+    let mut other = Footprint::new(rt.alloc());
+    for number in [12, 7, 1, 5] {
+        other.note(node(&rt, number))?;
+    }
+    set.note_all(other.as_slice())?;
+    let mut numbers = Vec::new(rt.alloc());
+    for id in set.as_slice() {
+        numbers.push(id.number())?;
+    }
+    assert_eq!(rt; numbers.as_slice(), [1, 2, 5, 7, 9, 12].as_slice());
+    assert!(rt; set.has(node(&rt, 7)));
+    assert!(rt; !set.has(node(&rt, 8)));
+    Ok(())
+}
+
+/// One of many edits of six nodes and nine lines.
+fn edit_by(rt: &impl Abort, alloc: Global, seed: u64) -> Result<Edit, AllocError> {
+    let from = ((seed >> 20) % 6 + 1) as u32;
+    let to = ((seed >> 30) % 6 + 1) as u32;
+    let id = ((seed >> 50) % 9 + 1) as u32;
+    let len = ((seed >> 10) % 1000) as u32;
+    match (seed >> 40) % 8 {
+        0 | 1 => Ok(Edit::AddNode(node(rt, from), place(rt, 0, 7))),
+        2 => Ok(Edit::MoveNode(node(rt, from), place(rt, 7, 0))),
+        3 => Ok(Edit::DropNode(node(rt, from))),
+        4 | 5 => new_line(rt, alloc, id, from, to, len, &[300]),
+        6 => other_line(rt, alloc, id, len, &[100, 200]),
+        _ => Ok(Edit::DropLine(line(rt, id))),
+    }
+}
+
+#[test]
+fn both_maps_agree(rt: HostRuntime) -> Result<(), Fail> {
+    let alloc = rt.alloc();
+    let mut map = RoadMap::new(alloc);
+    let mut plain = PlainMap::new(alloc);
+    let mut seed: u64 = 1;
+    for step in 0..400 {
+        seed = seed
+            .wrapping_mul(6_364_136_223_846_793_005)
+            .wrapping_add(1_442_695_040_888_963_407);
+        let first = match map.apply(edit_by(&rt, alloc, seed)?) {
+            Ok(undo) => {
+                if step % 3 == 0 {
+                    map.undo(undo);
+                } else {
+                    map.keep(undo);
+                }
+                None
+            }
+            Err(fault) => Some(fault),
+        };
+        let second = match plain.apply(edit_by(&rt, alloc, seed)?) {
+            Ok(undo) => {
+                if step % 3 == 0 {
+                    plain.undo(undo);
+                } else {
+                    plain.keep(undo);
+                }
+                None
+            }
+            Err(fault) => Some(fault),
+        };
+        assert_eq!(rt; first, second, "step {step}");
+        assert_alike(&rt, &map, &plain);
+    }
+    Ok(())
+}
+
+/// Makes an edit twice if need be: a refused growth leaves the map as the other one is.
+fn take_or_try_again(rt: &impl Abort, alloc: Global, map: &mut RoadMap, twin: &RoadMap, seed: u64) {
+    for _ in 0..2 {
+        let Ok(edit) = edit_by(rt, alloc, seed) else {
+            continue;
+        };
+        match map.apply(edit) {
+            Ok(undo) => map.keep(undo),
+            Err(EditFault::Memory) => {
+                assert_alike(rt, map, twin);
+                continue;
+            }
+            Err(_) => {}
+        }
+        return;
+    }
+}
+
+/// Run with one growth refused after another: each leaves the map as it was.
+#[test]
+fn survives_refused_growths(rt: HostRuntime) {
+    let alloc = rt.alloc();
+    let mut map = RoadMap::new(alloc);
+    let mut twin = RoadMap::new(alloc);
+    let mut seed: u64 = 1;
+    for _ in 0..60 {
+        seed = seed
+            .wrapping_mul(6_364_136_223_846_793_005)
+            .wrapping_add(1_442_695_040_888_963_407);
+        take_or_try_again(&rt, alloc, &mut map, &twin, seed);
+        take_or_try_again(&rt, alloc, &mut twin, &map, seed);
+    }
+    assert_alike(&rt, &map, &twin);
+}
