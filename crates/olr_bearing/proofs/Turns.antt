@@ -1,0 +1,83 @@
+-- A quarter turn of a direction turns its sector, so that the sectors of one quarter give those of the others.
+use Rattle.std.proofs.Common.{◌≡◌, ℕ, suc, ◌+◌, ◌<◌, ℤ, pos, ◌-ℤ◌, ◌*ℤ◌, neg_ℤ, ◌<ℤ◌, ◌&&◌, map, take, drop, get_or, IsTrue, refl, sym, ap, ◌∙◌, subst, arith}
+use Rattle.std.proofs.lemmas.Int.{ints}
+use Rattle.std.proofs.lemmas.List.{get_or-drop, get_or-take, get_or-map}
+use Rattle.std.specs.Int.RustNames.{int_le, int_lt}
+use Rattle.olr_spec.specs.Bearings.{Vector, vector, boundary, boundaries, turned, beyond, lies_between, IsSector, sector}
+use Rattle.olr_spec.proofs.SectorLemmas.{one_sector, sector_is}
+use Rattle.olr_bearing.proofs.Products.{times_minus, minus_times}
+
+-- ---- one quarter turn
+
+all_turned : map turned (take 25 boundaries) ≡ drop 8 boundaries
+all_turned = refl
+
+nowhere : Vector
+nowhere = vector (pos 0) (pos 0)
+
+boundary_turned : (k : ℕ) → k < 25 → boundary (8 + k) ≡ turned (boundary k)
+unfolding nowhere
+boundary_turned k h =
+    sym (get_or-drop 8 boundaries k nowhere)
+    ∙ ap (λ bs. get_or bs k nowhere) (sym all_turned)
+    ∙ get_or-map turned (take 25 boundaries) k nowhere nowhere h
+    ∙ ap turned (get_or-take 25 boundaries k nowhere h)
+
+cross_turned : (be bn ve vn : ℤ) → vn *ℤ neg_ℤ be -ℤ neg_ℤ ve *ℤ bn ≡ ve *ℤ bn -ℤ vn *ℤ be
+cross_turned be bn ve vn = omega (arith, ints, times_minus vn be, minus_times ve bn)
+
+beyond_turned : (b v : Vector) → beyond (turned b) (turned v) ≡ beyond b v
+beyond_turned b v = cross_turned b.east b.north v.east v.north
+
+between_turned : (b c v : Vector) → lies_between (turned b) (turned c) (turned v) ≡ lies_between b c v
+between_turned b c v =
+    ap (λ z. int_le (pos 0) z && int_lt (beyond (turned c) (turned v)) (pos 0)) (beyond_turned b v)
+    ∙ ap (λ z. int_le (pos 0) (beyond b v) && int_lt z (pos 0)) (beyond_turned c v)
+
+-- between the turned boundaries
+between_these : (b c v b' c' : Vector) → b' ≡ turned b → c' ≡ turned c → IsTrue (lies_between b c v) → IsTrue (lies_between b' c' (turned v))
+between_these b c v b' c' p q h =
+    subst (λ x. IsTrue (lies_between x c' (turned v))) (sym p)
+    (subst (λ y. IsTrue (lies_between (turned b) y (turned v))) (sym q) (subst IsTrue (sym (between_turned b c v)) h))
+
+-- (e, n) is (a, b) turned by a quarter
+sector_turned : (a b e n : ℤ) (j k : ℕ) → IsSector a b k → e ≡ b → n ≡ neg_ℤ a → k < 24 → j ≡ 8 + k → IsSector e n j
+sector_turned a b e n j k s p q h is =
+    let here : boundary (8 + k) ≡ turned (boundary k) = boundary_turned k (omega arith) in
+    let after : suc (8 + k) ≡ 8 + suc k = omega arith in
+    let next : boundary (suc (8 + k)) ≡ turned (boundary (suc k)) = ap boundary after ∙ boundary_turned (suc k) (omega arith) in
+    let whole : IsSector b (neg_ℤ a) (8 + k) = (omega arith, between_these (boundary k) (boundary (suc k)) (vector a b) (boundary (8 + k)) (boundary (suc (8 + k))) here next s.1) in
+    subst (IsSector e n) (sym is) (subst (λ m. IsSector e m (8 + k)) (sym q) (subst (λ d. IsSector d (neg_ℤ a) (8 + k)) (sym p) whole))
+
+-- ---- the sector of a direction
+
+-- a direction's own sector
+pub in_sector : (e n : ℤ) (k : ℕ) → k ≡ sector e n → ¬ ((e ≡ pos 0) × (n ≡ pos 0)) → IsSector e n k
+in_sector e n k is ne = subst (IsSector e n) (sym is) (sector_is e n ne)
+
+pub nowhere_sector : (e n : ℤ) → e ≡ pos 0 → n ≡ pos 0 → 0 ≡ sector e n
+nowhere_sector e n p q = sym (ap (λ d. sector d n) p ∙ ap (sector (pos 0)) q)
+
+-- ---- the four quarters, from the sector of the direction (a, b) of the first
+
+the_sector : (e n : ℤ) (k : ℕ) → ¬ ((e ≡ pos 0) × (n ≡ pos 0)) → IsSector e n k → k ≡ sector e n
+the_sector e n k ne s = one_sector e n k (sector e n) s (sector_is e n ne)
+
+pub first_quarter_is : (e n a b : ℤ) (k : ℕ) → IsSector a b k → a ≡ e → b ≡ n → pos 0 <ℤ n → k ≡ sector e n
+first_quarter_is e n a b k s p q north =
+    the_sector e n k (λ z. omega (arith, ints, z.1)) (subst (λ m. IsSector e m k) q (subst (λ d. IsSector d b k) p s))
+
+pub second_quarter_is : (e n a b : ℤ) (k : ℕ) → IsSector a b k → a ≡ neg_ℤ n → b ≡ e → k < 8 → pos 0 <ℤ e → 8 + k ≡ sector e n
+second_quarter_is e n a b k s p q h east =
+    the_sector e n (8 + k) (λ z. omega (arith, ints, z.0)) (sector_turned a b e n (8 + k) k s (sym q) (omega (arith, ints)) (omega arith) refl)
+
+pub third_quarter_is : (e n a b : ℤ) (k : ℕ) → IsSector a b k → a ≡ neg_ℤ e → b ≡ neg_ℤ n → k < 8 → n <ℤ pos 0 → 16 + k ≡ sector e n
+third_quarter_is e n a b k s p q h south =
+    let once : IsSector (neg_ℤ n) e (8 + k) = sector_turned a b (neg_ℤ n) e (8 + k) k s (sym q) (omega (arith, ints)) (omega arith) refl in
+    the_sector e n (16 + k) (λ z. omega (arith, ints, z.1)) (sector_turned (neg_ℤ n) e e n (16 + k) (8 + k) once refl (omega (arith, ints)) (omega arith) (omega arith))
+
+pub fourth_quarter_is : (e n a b : ℤ) (k : ℕ) → IsSector a b k → a ≡ n → b ≡ neg_ℤ e → k < 8 → e <ℤ pos 0 → 24 + k ≡ sector e n
+fourth_quarter_is e n a b k s p q h west =
+    let once : IsSector (neg_ℤ e) (neg_ℤ n) (8 + k) = sector_turned a b (neg_ℤ e) (neg_ℤ n) (8 + k) k s (sym q) (omega (arith, ints)) (omega arith) refl in
+    let twice : IsSector (neg_ℤ n) e (16 + k) = sector_turned (neg_ℤ e) (neg_ℤ n) (neg_ℤ n) e (16 + k) (8 + k) once refl (omega (arith, ints)) (omega arith) (omega arith) in
+    the_sector e n (24 + k) (λ z. omega (arith, ints, z.0)) (sector_turned (neg_ℤ n) e e n (24 + k) (16 + k) twice refl (omega (arith, ints)) (omega arith) (omega arith))

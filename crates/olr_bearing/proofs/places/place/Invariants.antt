@@ -1,0 +1,19 @@
+use Rattle.std.proofs.Common.{◌≡◌, ℕ, ◌<◌, ◌≤◌, List, [], ◌∷◌, ◌++◌, IsTrue, drop}
+use Rattle.olr_spec.specs.Map.{ShapePoint, rises_between}
+use Rattle.olr_spec.specs.Bearings.{Leg, scaled_on, scaled_place}
+use Rattle.olr_bearing.specs.Legs.{leg}
+use Rattle.olr_bearing.proofs.places.place.Given as goal
+
+-- the line's end, as the last of its shape points
+abbrev pub end_point : Leg → ShapePoint
+end_point g = record { at = g.line.len; place = g.finish }
+
+-- the place at `at` lies past the shape point `from`, and is to be found among the points `rest` and the line's end
+pub record Reached (g : Leg) (at : ℕ) (from : ShapePoint) (rest : List ShapePoint) : Type 0 where
+  pub behind : from.at ≤ at
+  pub inside : from.at < g.line.len
+  pub rises : IsTrue (rises_between from.at rest g.line.len)
+  pub found : scaled_on from (rest ++ end_point g ∷ []) at ≡ scaled_place g at
+
+abbrev pub invariant-loop-to : goal.invariant-loop-to
+invariant-loop-to l = Reached (leg l.line l.ends) l.at l.from (drop l.to-index l.to-items)

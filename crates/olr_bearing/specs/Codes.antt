@@ -1,0 +1,8 @@
+-- How a scaled place is coded, for an `impl Model` whose value it is.
+use Rattle.std.specs.Prelude.{ℕ, ℤ}
+use Rattle.std.specs.Coded.{Coded, code_by, coded_ℕ, coded_ℤ, coded×}
+use Rattle.std.proofs.Common.{refl}
+use Rattle.olr_spec.specs.Bearings.{Scaled}
+
+abbrev pub coded_scaled : Coded Scaled
+coded_scaled = code_by (ℤ × (ℤ × ℕ)) (coded× coded_ℤ (coded× coded_ℤ coded_ℕ)) (λ s. (s.lon, (s.lat, s.width))) (λ p. record { lon = p.0; lat = p.1.0; width = p.1.1 }) (λ _. refl)

@@ -1,0 +1,7 @@
+-- A line with its ends, as the definitions of bearings see it.
+use Rattle.olr_spec.specs.Map.{Line}
+use Rattle.olr_spec.specs.Bearings.{Leg}
+use Rattle.olr_bearing.specs.declared.places.Ends.{Ends}
+
+abbrev pub leg : Line → Ends → Leg
+leg l e = record { line = l; begin = e.from; finish = e.to }

@@ -1,0 +1,87 @@
+//! The bearings at a line's two ends.
+ghost use Rattle.std.specs.Prelude.{◌≡◌, ◌*◌, ◌<◌, ◌≤◌, pos, ◌+ℤ◌, ◌-ℤ◌, ◌*ℤ◌, IsTrue};
+ghost use Rattle.olr_spec.specs.Map.{is_good};
+ghost use Rattle.olr_spec.specs.Bearings.{bearing, bearing_back, bearing_out, thousandths};
+ghost use Rattle.olr_bearing.specs.Legs.{leg};
+ghost use Rattle.olr_bearing.specs.Ranges.{IsFactor, IsInRange, IsPart, IsWithin, degrees};
+
+use crate::places::{Ends, Scaled, place};
+use crate::sectors::sector;
+use olr_coords::Coord;
+use olr_map::Line;
+
+/// How much of a line its bearing is taken over, in decimetres: BEARDIST.
+const BEARING_DISTANCE: u32 = 200;
+/// A thousandth of a degree, in units.
+const THOUSANDTH: i64 = 327_680_000;
+
+/// The bearing of a point where a good line leaves: the sector, 0 to 31, of the direction from the line's begin to the
+/// place 200 dm along it, or to its end where it is shorter.
+pub fn bearing_out(line: &Line, ends: Ends) -> u8
+    requires { IsTrue (is_good line.now) }
+    ensures value { result ≡ bearing_out (leg line.now ends) }
+    ensures below { result < 32 }
+{
+    let at = BEARING_DISTANCE.min(line.len);
+    bearing(ends.from, place(line, ends, at))
+}
+
+/// The bearing of a last point, where a good line comes in: the sector, 0 to 31, of the direction from the line's end
+/// back to the place 200 dm before it, or to its begin where it is shorter.
+pub fn bearing_back(line: &Line, ends: Ends) -> u8
+    requires { IsTrue (is_good line.now) }
+    ensures value { result ≡ bearing_back (leg line.now ends) }
+    ensures below { result < 32 }
+{
+    let at = line.len.saturating_sub(BEARING_DISTANCE);
+    bearing(ends.to, place(line, ends, at))
+}
+
+/// The sector of the direction from `origin` to `place`. The part to the east is shortened by the cosine of the
+/// origin's latitude.
+fn bearing(origin: Coord, place: Scaled) -> u8
+    requires short { place.width ≤ 1000000 }
+    requires in_range { IsInRange place }
+    ensures value { result ≡ bearing origin place }
+    ensures below { result < 32 }
+{
+    let Scaled { lon, lat, width } = place;
+    let cosine = cosine_at(origin);
+    let east = part(cosine.numerator, lon, width, origin.lon());
+    let north = part(cosine.denominator, lat, width, origin.lat());
+    sector(east, north)
+}
+
+/// A part of a direction: how far a coordinate, times `width`, lies from `origin`, times a factor of the cosine.
+fn part(factor: i128, scaled: i128, width: u32, origin: i64) -> i128
+    requires factor { IsFactor factor }
+    requires short { width ≤ 1000000 }
+    requires place { IsWithin (width * degrees 180) scaled }
+    requires origin { IsWithin (degrees 180) origin }
+    ensures value { result ≡ factor *ℤ (scaled -ℤ pos width *ℤ origin) }
+    ensures in_range { IsPart result }
+{
+    factor * (scaled - i128::from(width) * i128::from(origin))
+}
+
+/// A cosine above 0, as the quotient of two whole numbers.
+#[derive(Clone, Copy)]
+struct Cosine {
+    numerator: i128,
+    denominator: i128,
+}
+
+/// The cosine of a place's latitude (profile): for `x` degrees Bhaskara's `4 (8100 - x^2) / (32400 + x^2)`, with `x` in
+/// whole thousandths, cut toward zero.
+fn cosine_at(place: Coord) -> Cosine
+    ensures numerator { let m = thousandths place.lat in result.numerator ≡ pos 4 *ℤ (pos 8100000000 -ℤ m *ℤ m) }
+    ensures denominator { let m = thousandths place.lat in result.denominator ≡ pos 32400000000 +ℤ m *ℤ m }
+    ensures in_range { IsFactor result.numerator × IsFactor result.denominator }
+{
+    let thousandths = i128::from(place.lat() / THOUSANDTH);
+    let square = thousandths * thousandths;
+    Cosine {
+        numerator: 4 * (8_100_000_000 - square),
+        denominator: 32_400_000_000 + square,
+    }
+}

@@ -1,0 +1,97 @@
+//! Places on a line.
+ghost use Rattle.std.specs.Prelude.{◌≡◌, ◌<◌, ◌≤◌, IsTrue, pos, ◌+ℤ◌, ◌-ℤ◌, ◌*ℤ◌};
+ghost use Rattle.olr_spec.specs.Map.{is_good};
+ghost use Rattle.olr_spec.specs.Bearings.{scaled_place, scaled_between};
+ghost use Rattle.olr_bearing.specs.Ranges.{IsInRange};
+ghost use Rattle.olr_bearing.specs.Legs.{leg};
+
+use olr_coords::Coord;
+use olr_map::{Line, Shape};
+use std::marker::Model;
+
+/// The places of a line's two ends.
+#[derive(Clone, Copy, Debug, PartialEq, Eq)]
+pub struct Ends {
+    /// Where the line begins.
+    pub from: Coord,
+    /// Where it ends.
+    pub to: Coord,
+}
+
+/// A place, times a width: so a place between two shape points is whole.
+#[derive(Clone, Copy, Debug, PartialEq, Eq)]
+pub struct Scaled {
+    /// The longitude in units of 1/327,680,000,000 degree, times the width.
+    pub lon: i128,
+    /// The latitude in the same units, times the width.
+    pub lat: i128,
+    /// The width of the interval between the two shape points, in decimetres.
+    pub width: u32,
+}
+
+impl Model for Scaled {
+    ghost use Rattle.olr_spec.specs.Bearings.{Scaled as Record};
+    ghost use Rattle.olr_bearing.specs.Codes.{coded_scaled};
+
+    ghost Value = { Record };
+
+    ghost coded = { coded_scaled };
+
+    ghost view = { λ s. record { lon = s.lon; lat = s.lat; width = s.width } };
+
+    ghost inverse = { λ s. record { lon = s.lon; lat = s.lat; width = s.width } };
+}
+
+/// The place `at` decimetres along a good line, at most the line's length. Places between neighbouring shape points
+/// are linear. At a shape point the interval is the one that ends there.
+pub fn place(line: &Line, ends: Ends, at: u32) -> Scaled
+    requires good { IsTrue (is_good line.now) }
+    requires on_line { at ≤ line.now.len }
+    ensures value { result ≡ scaled_place (leg line.now ends) at }
+    ensures positive { 0 < result.width }
+    ensures short { result.width ≤ line.now.len }
+    ensures in_range { IsInRange result }
+{
+    let mut from = Shape {
+        at: 0,
+        place: ends.from,
+    };
+    for to in &line.shape {
+        if at <= to.at {
+            return place_between(from, *to, at);
+        }
+        from = *to;
+    }
+    let end = Shape {
+        at: line.len,
+        place: ends.to,
+    };
+    place_between(from, end, at)
+}
+
+/// The place `at` decimetres along a line, on the straight way between two neighbouring shape points.
+fn place_between(from: Shape, to: Shape, at: u32) -> Scaled
+    requires wide { from.at < to.at }
+    requires low { from.at ≤ at }
+    requires high { at ≤ to.at }
+    ensures value { result ≡ scaled_between from to at }
+    ensures in_range { IsInRange result }
+{
+    let width = to.at - from.at;
+    let done = at - from.at;
+    Scaled {
+        lon: along(from.place.lon(), to.place.lon(), done, width),
+        lat: along(from.place.lat(), to.place.lat(), done, width),
+        width,
+    }
+}
+
+/// The coordinate that lies `done` of `width` decimetres on from `from` to `to`, times `width`.
+fn along(from: i64, to: i64, done: u32, width: u32) -> i128
+    ensures { result ≡ pos width *ℤ from +ℤ pos done *ℤ (to -ℤ from) }
+{
+    let from = i128::from(from);
+    let to = i128::from(to);
+    let done = i128::from(done);
+    i128::from(width) * from + done * (to - from)
+}

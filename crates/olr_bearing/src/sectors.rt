@@ -1,0 +1,71 @@
+//! The 32 sectors of the compass, of 11.25 degrees each, clockwise from north.
+ghost use Rattle.std.specs.Prelude.{◌≡◌, ◌<◌, pos, ◌≤ℤ◌, ◌<ℤ◌};
+ghost use Rattle.olr_spec.specs.Bearings.{sector, IsSector};
+ghost use Rattle.olr_bearing.specs.Ranges.{IsPart};
+
+/// One, in millionths.
+const ONE: i128 = 1_000_000;
+/// The tangent of 11.25 degrees, in millionths.
+const TANGENT_11: i128 = 198_912;
+/// The tangent of 22.5 degrees, in millionths.
+const TANGENT_22: i128 = 414_214;
+/// The tangent of 33.75 degrees, in millionths.
+const TANGENT_33: i128 = 668_179;
+
+/// The sector of a direction, from its parts to the east and to the north: 0 to 31, clockwise from north. Both parts
+/// are at most 10^31 either way.
+///
+/// A direction on a boundary belongs to the sector that begins there, and (0, 0) to sector 0 (profile).
+pub fn sector(east: i128, north: i128) -> u8
+    requires east { IsPart east }
+    requires north { IsPart north }
+    ensures value { result ≡ sector east north }
+    ensures between { ¬ ((east ≡ pos 0) × (north ≡ pos 0)) → IsSector east north result }
+    ensures below { result < 32 }
+{
+    if east == 0 && north == 0 {
+        0
+    } else if east >= 0 && north > 0 {
+        quarter_sector(east, north)
+    } else if east > 0 {
+        8 + quarter_sector(-north, east)
+    } else if north < 0 {
+        16 + quarter_sector(-east, -north)
+    } else {
+        24 + quarter_sector(north, -east)
+    }
+}
+
+/// The sector of a direction of the first quarter, from north on and before east.
+fn quarter_sector(east: i128, north: i128) -> u8
+    requires east { IsPart east }
+    requires north { IsPart north }
+    requires eastward { pos 0 ≤ℤ east }
+    requires northward { pos 0 <ℤ north }
+    ensures below { result < 8 }
+    ensures between { IsSector east north result }
+{
+    if east < north {
+        if east * ONE < north * TANGENT_22 {
+            if east * ONE < north * TANGENT_11 {
+                0
+            } else {
+                1
+            }
+        } else if east * ONE < north * TANGENT_33 {
+            2
+        } else {
+            3
+        }
+    } else if east * TANGENT_22 < north * ONE {
+        if east * TANGENT_33 < north * ONE {
+            4
+        } else {
+            5
+        }
+    } else if east * TANGENT_11 < north * ONE {
+        6
+    } else {
+        7
+    }
+}
