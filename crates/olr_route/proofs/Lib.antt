@@ -1,0 +1,9 @@
+mod WalkEnds
+mod LabelLemmas
+mod ExtendLemmas
+mod ViewLemmas
+mod StretchLemmas
+mod ReadLemmas
+mod EqualLemmas
+mod MarkLemmas
+mod HeapLemmas

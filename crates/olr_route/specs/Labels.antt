@@ -1,0 +1,67 @@
+-- The labels of a search: at each node that it reaches, the length and the last line of the least walk there.
+--     Labels      the source, the limit in decimetres, and the labels by node
+--     dist_at, last_at      the parts of the label at a node.        count_of x      how many labels there are
+--     Reaches M s limit v      a walk of at most the limit leads from s to v
+--     AreLabels M x      the labels stand at exactly the nodes that are reached, and are those of the least walks
+--     LeastWithin, SoleWithin M x t xs      the least walk from the source to t, or the sole one, of at most the limit
+use Rattle.std.specs.Prelude.{◌≡◌, ℕ, ◌≤◌, ◌↔◌, List, [], ◌∷◌, Option, Some, None, IsSome, option_and_then}
+use Rattle.std.specs.Option.{option_map}
+use Rattle.std.specs.Coded.{Coded, code_by, coded_ℕ, coded_option, coded×}
+use Rattle.std.specs.Ordering.{nat_cmp}
+use Rattle.std.specs.FinMap.{FinMap, get, len, code}
+use Rattle.std.proofs.Common.{refl}
+use Rattle.olr_spec.specs.Map.{Map}
+use Rattle.olr_spec.specs.Walks.{Walk, dm_of, Least, Sole}
+
+-- a walk's length, and its last line, if it has lines
+abbrev pub Label : Type 0
+Label = ℕ × Option ℕ
+
+pub record Labels : Type 0 where
+  pub source : ℕ
+  pub limit : ℕ
+  pub by_node : FinMap nat_cmp Label
+
+abbrev pub coded_labels : Coded Labels
+coded_labels =
+    code_by (ℕ × (ℕ × FinMap nat_cmp Label)) (coded× coded_ℕ (coded× coded_ℕ (code coded_ℕ (coded× coded_ℕ (coded_option coded_ℕ)))))
+    (λ x. (x.source, (x.limit, x.by_node))) (λ p. record { source = p.0; limit = p.1.0; by_node = p.1.1 }) (λ _. refl)
+
+abbrev pub label_at : Labels → ℕ → Option Label
+label_at x v = get x.by_node v
+
+abbrev pub dist_at : Labels → ℕ → Option ℕ
+dist_at x v = option_map (λ k. k.0) (label_at x v)
+
+abbrev pub last_at : Labels → ℕ → Option ℕ
+last_at x v = option_and_then (λ k. k.1) (label_at x v)
+
+abbrev pub count_of : Labels → ℕ
+count_of x = len x.by_node
+
+abbrev pub Reaches : Map → ℕ → ℕ → ℕ → Type 0
+Reaches M s limit v = (xs : List ℕ) × Walk M s v xs × (dm_of M xs ≤ limit)
+
+abbrev pub last_of : List ℕ → Option ℕ
+last_of [] = None
+last_of (x ∷ []) = Some x
+last_of (x ∷ y ∷ xs) = last_of (y ∷ xs)
+
+-- the least walk from s to v has this length and this last line
+pub record IsLabel (M : Map) (s v dist : ℕ) (last : Option ℕ) : Type 0 where
+  pub lines : List ℕ
+  pub least : Least M s v lines
+  pub long : dm_of M lines ≡ dist
+  pub ends : last_of lines ≡ last
+
+pub record AreLabels (M : Map) (x : Labels) : Type 0 where
+  pub reached : (v : ℕ) → IsSome (label_at x v) ↔ Reaches M x.source x.limit v
+  pub least : (v dist : ℕ) (last : Option ℕ) → label_at x v ≡ Some (dist, last) → IsLabel M x.source v dist last
+
+pub record LeastWithin (M : Map) (x : Labels) (t : ℕ) (xs : List ℕ) : Type 0 where
+  pub least : Least M x.source t xs
+  pub within : dm_of M xs ≤ x.limit
+
+pub record SoleWithin (M : Map) (x : Labels) (t : ℕ) (xs : List ℕ) : Type 0 where
+  pub sole : Sole M x.source t xs
+  pub within : dm_of M xs ≤ x.limit

@@ -1,0 +1,4 @@
+pub mod Labels
+pub mod Counts
+pub mod Marks
+pub mod Ends

@@ -1,0 +1,295 @@
+//! Searches and walks on small maps.
+ghost use Rattle.std.specs.Prelude.{◌≡◌, ◌≤◌, ℕ};
+ghost use Rattle.std.specs.Bool.{OnTrue};
+ghost use Rattle.olr_spec.specs.Walks.{Walk};
+ghost use Rattle.olr_route.specs.Labels.{AreLabels};
+
+use crate::lines::{end_of, start_of};
+use crate::{
+    GREATEST_LIMIT, Labels, Work, extends_least, extends_sole, is_least, is_sole, plain, search,
+};
+use olr_coords::Coord;
+use olr_map::{Edit, Footprint, Line, LineId, MapRead, NodeId, RoadMap};
+use std::alloc::Global;
+use std::process::Abort;
+use std::test::Fail;
+
+fn node(rt: &impl Abort, number: u32) -> NodeId {
+    NodeId::new(number).expect(rt, "a node's number")
+}
+
+fn line(rt: &impl Abort, number: u32) -> LineId {
+    LineId::new(number).expect(rt, "a line's number")
+}
+
+fn edit(rt: &impl Abort, map: &mut RoadMap, edit: Edit) {
+    match map.apply(edit) {
+        Ok(undo) => map.keep(undo),
+        Err(_) => panic!(rt; "a refused edit"),
+    }
+}
+
+/// A map with the nodes from 1 to `nodes`, all at one place, and lines given by number, begin, end and length.
+fn made(rt: &impl Abort, alloc: Global, nodes: u32, lines: &[(u32, u32, u32, u32)]) -> RoadMap {
+    let mut map = RoadMap::new(alloc);
+    let place = Coord::new(0, 0).expect(rt, "a place");
+    for number in 0..nodes {
+        edit(
+            rt,
+            &mut map,
+            Edit::AddNode(node(rt, number.saturating_add(1)), place),
+        );
+    }
+    for (number, from, to, len) in lines {
+        let record = Line {
+            from: node(rt, *from),
+            to: node(rt, *to),
+            frc: 3,
+            fow: 3,
+            len: *len,
+            shape: Vec::new(alloc),
+        };
+        edit(rt, &mut map, Edit::AddLine(line(rt, *number), record));
+    }
+    map
+}
+
+/// The worked map: a road of three lines from node 1 to node 4, and a shorter line beside the second.
+fn base(rt: &impl Abort, alloc: Global) -> RoadMap {
+    made(
+        rt,
+        alloc,
+        4,
+        &[
+            (10, 1, 2, 5610),
+            (20, 2, 3, 2000),
+            (30, 3, 4, 740),
+            (99, 2, 3, 1500),
+        ],
+    )
+}
+
+/// Two ways of equal length from node 1 to node 4, and a line on to node 5.
+fn diamond(rt: &impl Abort, alloc: Global) -> RoadMap {
+    made(
+        rt,
+        alloc,
+        5,
+        &[
+            (5, 1, 2, 100),
+            (6, 1, 3, 100),
+            (7, 3, 4, 100),
+            (8, 2, 4, 100),
+            (9, 4, 5, 100),
+        ],
+    )
+}
+
+/// The labels of a search from a node of the map.
+fn labels_from<M: MapRead>(
+    rt: &impl Abort,
+    alloc: Global,
+    map: &M,
+    source: NodeId,
+    limit: u32,
+) -> Labels
+    requires { limit ≤ GREATEST_LIMIT }
+    ensures from { result.source ≡ source }
+    ensures labels { AreLabels (M.map map.now) result }
+{
+    assert!(rt; map.node(source).is_some());
+    let mut footprint = Footprint::new(alloc);
+    let mut work = Work::default();
+    match search(alloc, map, source, limit, &mut footprint, &mut work) {
+        Ok(labels) => labels,
+        Err(_) => panic!(rt; "no memory"),
+    }
+}
+
+/// Whether the lines are in the map, the first begins at the source and each other where the one before ends.
+fn is_walk<M: MapRead>(map: &M, source: NodeId, lines: &[LineId]) -> bool
+    ensures { OnTrue result ((t : ℕ) × Walk (M.map map.now) source t lines.now) }
+{
+    let mut at = source;
+    for id in lines {
+        if map.line(*id).is_none() {
+            return false;
+        }
+        let (from, _) = start_of(map, *id);
+        if from != at {
+            return false;
+        }
+        let (to, _) = end_of(map, *id);
+        at = to;
+    }
+    true
+}
+
+/// Whether a walk is the least one, and whether it is the sole one, by a search from where it begins.
+fn judged<M: MapRead>(
+    rt: &impl Abort,
+    alloc: Global,
+    map: &M,
+    source: NodeId,
+    numbers: &[u32],
+) -> (bool, bool) {
+    let labels = labels_from(rt, alloc, map, source, GREATEST_LIMIT);
+    let mut lines = Vec::new(alloc);
+    for number in numbers {
+        let pushed = lines.push(line(rt, *number));
+        assert!(rt; pushed.is_ok());
+    }
+    assert!(rt; is_walk(map, source, &lines));
+    (
+        is_least(map, &labels, &lines),
+        is_sole(map, &labels, &lines),
+    )
+}
+
+/// A node's label: the length, and the number of the last line.
+fn label(rt: &impl Abort, labels: &Labels, number: u32) -> (Option<u32>, Option<u32>) {
+    let node = node(rt, number);
+    (
+        labels.dist(node),
+        labels.last_line(node).map(|line| line.number()),
+    )
+}
+
+#[test]
+fn search_on_the_base_map(rt: HostRuntime) -> Result<(), Fail> {
+    let mut map = base(&rt, rt.alloc());
+    let source = node(&rt, 2);
+    assert!(rt; map.node(source).is_some());
+    let mut footprint = Footprint::new(rt.alloc());
+    let mut work = Work::default();
+    let labels = search(rt.alloc(), &map, source, 150_000, &mut footprint, &mut work)?;
+    assert_eq!(rt; label(&rt, &labels, 1), (None, None));
+    assert_eq!(rt; label(&rt, &labels, 2), (Some(0), None));
+    assert_eq!(rt; label(&rt, &labels, 3), (Some(1500), Some(99)));
+    assert_eq!(rt; label(&rt, &labels, 4), (Some(2240), Some(30)));
+    assert_eq!(rt;
+        footprint.as_slice(),
+        [source, node(&rt, 3), node(&rt, 4)].as_slice()
+    );
+    assert_eq!(rt;
+        work,
+        Work {
+            encodings: 0,
+            searches: 1,
+            settled: 3
+        }
+    );
+
+    for (limit, end) in [(1500, Some(1500)), (1499, None)] {
+        let near = labels_from(&rt, rt.alloc(), &map, source, limit);
+        assert_eq!(rt; label(&rt, &near, 2), (Some(0), None));
+        assert_eq!(rt; near.dist(node(&rt, 3)), end);
+        assert_eq!(rt; label(&rt, &near, 4), (None, None));
+    }
+
+    let tie = Edit::SetLine {
+        id: line(&rt, 99),
+        frc: 3,
+        fow: 3,
+        len: 2000,
+        shape: Vec::new(rt.alloc()),
+    };
+    edit(&rt, &mut map, tie);
+    let tied = labels_from(&rt, rt.alloc(), &map, source, GREATEST_LIMIT);
+    assert_eq!(rt; label(&rt, &tied, 3), (Some(2000), Some(20)));
+    Ok(())
+}
+
+#[test]
+fn least_and_sole_walks(rt: HostRuntime) {
+    let map = base(&rt, rt.alloc());
+    let source = node(&rt, 2);
+    for (lines, least) in [
+        (&[][..], true),
+        (&[99], true),
+        (&[99, 30], true),
+        (&[20], false),
+    ] {
+        assert_eq!(rt;
+            judged(&rt, rt.alloc(), &map, source, lines),
+            (least, least)
+        );
+    }
+
+    let map = diamond(&rt, rt.alloc());
+    let source = node(&rt, 1);
+    let labels = labels_from(&rt, rt.alloc(), &map, source, GREATEST_LIMIT);
+    assert_eq!(rt; label(&rt, &labels, 4), (Some(200), Some(7)));
+    assert_eq!(rt; judged(&rt, rt.alloc(), &map, source, &[]), (true, true));
+    assert_eq!(rt; judged(&rt, rt.alloc(), &map, source, &[6]), (true, true));
+    assert_eq!(rt;
+        judged(&rt, rt.alloc(), &map, source, &[6, 7]),
+        (true, false)
+    );
+    assert_eq!(rt;
+        judged(&rt, rt.alloc(), &map, source, &[5, 8]),
+        (false, false)
+    );
+    assert_eq!(rt;
+        judged(&rt, rt.alloc(), &map, source, &[6, 7, 9]),
+        (true, false)
+    );
+}
+
+#[test]
+fn lines_that_prolong_walks(rt: HostRuntime) {
+    let map = diamond(&rt, rt.alloc());
+    let labels = labels_from(&rt, rt.alloc(), &map, node(&rt, 1), GREATEST_LIMIT);
+    for (number, least, sole) in [(6, true, true), (7, true, false), (8, false, false)] {
+        let line = line(&rt, number);
+        assert!(rt; map.line(line).is_some());
+        assert_eq!(rt; extends_least(&map, &labels, line), least);
+        assert_eq!(rt; extends_sole(&map, &labels, line), sole);
+    }
+}
+
+#[test]
+fn loops_and_parallel_lines(rt: HostRuntime) {
+    let map = made(
+        &rt,
+        rt.alloc(),
+        2,
+        &[(1, 1, 1, 50), (3, 1, 2, 100), (2, 1, 2, 100)],
+    );
+    let source = node(&rt, 1);
+    let labels = labels_from(&rt, rt.alloc(), &map, source, GREATEST_LIMIT);
+    assert_eq!(rt; label(&rt, &labels, 1), (Some(0), None));
+    assert_eq!(rt; label(&rt, &labels, 2), (Some(100), Some(2)));
+    assert_eq!(rt; judged(&rt, rt.alloc(), &map, source, &[1]), (false, false));
+    assert_eq!(rt; judged(&rt, rt.alloc(), &map, source, &[2]), (true, false));
+    assert_eq!(rt; judged(&rt, rt.alloc(), &map, source, &[3]), (false, false));
+
+    let here = labels_from(&rt, rt.alloc(), &map, source, 0);
+    assert_eq!(rt; label(&rt, &here, 1), (Some(0), None));
+    assert_eq!(rt; label(&rt, &here, 2), (None, None));
+}
+
+#[test]
+fn plain_search_on_the_base_map(rt: HostRuntime) -> Result<(), Fail> {
+    let map = base(&rt, rt.alloc());
+    let source = node(&rt, 2);
+    assert!(rt; map.node(source).is_some());
+    let mut footprint = Footprint::new(rt.alloc());
+    let mut work = Work {
+        encodings: 7,
+        searches: u64::MAX,
+        settled: 0,
+    };
+    let labels = plain::search(rt.alloc(), &map, source, 150_000, &mut footprint, &mut work)?;
+    assert_eq!(rt; label(&rt, &labels, 3), (Some(1500), Some(99)));
+    assert_eq!(rt; label(&rt, &labels, 4), (Some(2240), Some(30)));
+    assert_eq!(rt;
+        work,
+        Work {
+            encodings: 7,
+            searches: u64::MAX,
+            settled: 3
+        }
+    );
+    Ok(())
+}

@@ -1,0 +1,100 @@
+//! Whether a walk is the least, or the sole, one to its end, by the labels of a search from its begin.
+ghost use Rattle.std.specs.Prelude.{◌≡◌, ◌↔◌, ◌≤◌, ◌+◌, ℕ, List, [], ◌∷◌, ◌++◌, Some, IsTrue};
+ghost use Rattle.olr_spec.specs.Map.{has_line, start, end};
+ghost use Rattle.olr_spec.specs.Walks.{Walk};
+ghost use Rattle.olr_route.specs.Labels.{AreLabels, LeastWithin, SoleWithin, last_at, dist_at};
+ghost use Rattle.olr_route.specs.Ends.{Alone};
+
+use crate::labels::Labels;
+use crate::lines::{end_of, start_of};
+use olr_map::{LineId, MapRead, NodeId};
+
+/// Whether the label where a line ends has this line as its last.
+fn is_last<M: MapRead>(map: &M, labels: &Labels, line: LineId) -> bool
+    requires { IsTrue (has_line (M.map map.now) line) }
+    ensures { IsTrue result ↔ (last_at labels.now (end (M.map map.now) line) ≡ Some line) }
+{
+    let (to, _) = end_of(map, line);
+    labels.last_line(to) == Some(line)
+}
+
+/// Whether a line of length `len` from a labelled node is no longer than `dist` in all.
+fn leads_within(labels: &Labels, from: NodeId, len: u32, dist: u32) -> bool
+    ensures { IsTrue result ↔ ((d : ℕ) × (dist_at labels.now from ≡ Some d) × (d + len ≤ dist)) }
+{
+    match labels.dist(from) {
+        None => false,
+        Some(near) => len <= dist && near <= dist - len,
+    }
+}
+
+/// Whether no other line leads to where this one ends within the length of the label there.
+fn is_alone<M: MapRead>(map: &M, labels: &Labels, line: LineId) -> bool
+    requires { IsTrue (has_line (M.map map.now) line) }
+    ensures { IsTrue result ↔ Alone (M.map map.now) labels.now line }
+{
+    let (to, _) = end_of(map, line);
+    let Some(dist) = labels.dist(to) else {
+        return true;
+    };
+    for other in map.in_lines(to) {
+        if *other != line {
+            let (from, len) = start_of(map, *other);
+            if leads_within(labels, from, len, dist) {
+                return false;
+            }
+        }
+    }
+    true
+}
+
+/// Whether a line prolongs the least walk to where it begins, within the limit of the labels, to the least walk to where
+/// it ends, still within the limit. Nothing is said where no walk within the limit leads to where the line begins.
+pub fn extends_least<M: MapRead>(map: &M, labels: &Labels, line: LineId) -> bool
+    requires labels { AreLabels (M.map map.now) labels.now }
+    requires line { IsTrue (has_line (M.map map.now) line) }
+    ensures { (walk : List ℕ) → LeastWithin (M.map map.now) labels.now (start (M.map map.now) line) walk
+        → (IsTrue result ↔ LeastWithin (M.map map.now) labels.now (end (M.map map.now) line) (walk ++ line ∷ [])) }
+{
+    is_last(map, labels, line)
+}
+
+/// Whether a line prolongs the sole walk to where it begins, within the limit of the labels, to the sole walk to where
+/// it ends, still within the limit. Nothing is said where the labels have no sole walk to where the line begins.
+pub fn extends_sole<M: MapRead>(map: &M, labels: &Labels, line: LineId) -> bool
+    requires labels { AreLabels (M.map map.now) labels.now }
+    requires line { IsTrue (has_line (M.map map.now) line) }
+    ensures { (walk : List ℕ) → SoleWithin (M.map map.now) labels.now (start (M.map map.now) line) walk
+        → (IsTrue result ↔ SoleWithin (M.map map.now) labels.now (end (M.map map.now) line) (walk ++ line ∷ [])) }
+{
+    is_last(map, labels, line) && is_alone(map, labels, line)
+}
+
+/// Whether a walk from the source of the labels is the least walk to its end, and within their limit.
+pub fn is_least<M: MapRead>(map: &M, labels: &Labels, lines: &[LineId]) -> bool
+    requires labels { AreLabels (M.map map.now) labels.now }
+    requires walk { (t : ℕ) × Walk (M.map map.now) labels.now.source t lines.now }
+    ensures { IsTrue result ↔ ((t : ℕ) × LeastWithin (M.map map.now) labels.now t lines.now) }
+{
+    for line in lines {
+        if !extends_least(map, labels, *line) {
+            return false;
+        }
+    }
+    true
+}
+
+/// Whether a walk from the source of the labels is the sole walk to its end, every other one being longer, and within
+/// their limit.
+pub fn is_sole<M: MapRead>(map: &M, labels: &Labels, lines: &[LineId]) -> bool
+    requires labels { AreLabels (M.map map.now) labels.now }
+    requires walk { (t : ℕ) × Walk (M.map map.now) labels.now.source t lines.now }
+    ensures { IsTrue result ↔ ((t : ℕ) × SoleWithin (M.map map.now) labels.now t lines.now) }
+{
+    for line in lines {
+        if !extends_sole(map, labels, *line) {
+            return false;
+        }
+    }
+    true
+}
