@@ -1,0 +1,110 @@
+-- The ends of the lines of a list, put behind other nodes.
+use Rattle.std.proofs.Common.{◌⊎◌, inl, inr, ◌↔◌, ◌≡◌, ◌==◌, ℕ, ◌+◌, ◌<◌, ◌≤◌, ◌||◌, List, [], ◌∷◌, ◌++◌, length, take, get_or, eqb, Contains, IsPermutation, sym, ◌∙◌, subst, arith}
+use Rattle.std.specs.List.{dedup}
+use Rattle.std.proofs.lemmas.Bool.{or_cases, or_left, or_right, eq-eqb, eqb-true}
+use Rattle.std.proofs.lemmas.List.{take_all}
+use Rattle.std.proofs.lemmas.List.Elements.{Contains-append_left, Contains-push, Contains-push_cases}
+use Rattle.std.proofs.lemmas.List.Folds.{list_any_more}
+use Rattle.std.proofs.lemmas.List.Kept.{Contains-dedup_nat, Contains-from_dedup}
+use Rattle.std.proofs.lemmas.List.Sorted.{IsPermutation-sym, Contains-permutation}
+use Rattle.olr_spec.specs.Map.{Map, start, end}
+use Rattle.olr_spec.specs.Extension.{has}
+use Rattle.olr_spec.specs.Footprint.{NodeOf}
+
+-- one of the ends of line x
+abbrev pub EndOf : Map → ℕ → ℕ → Type 0
+EndOf M x v = (start M x ≡ v) ⊎ (end M x ≡ v)
+
+-- ns has the nodes of F and the ends of the lines ls
+abbrev pub HasEnds : Map → List ℕ → List ℕ → List ℕ → Type 0
+HasEnds M F ls ns = (v : ℕ) → Contains ns v ↔ (Contains F v ⊎ NodeOf M ls v)
+
+pub no_ends : (M : Map) (F : List ℕ) → HasEnds M F [] F
+no_ends M F v = (λ h. inl h, λ h. elim h [ inl k ↦ k | inr n ↦ absurd cc ])
+
+module _ (M : Map) (ls : List ℕ) (i x : ℕ) (inside : i < length ls) (is : x ≡ get_or ls i x) where
+  more : (y : ℕ) → has (take (i + 1) ls) y ≡ (has (take i ls) y || (get_or ls i x == y))
+  more y = list_any_more (λ z. z == y) ls i x inside
+
+  ends_cases : (v : ℕ) → NodeOf M (take (i + 1) ls) v → NodeOf M (take i ls) v ⊎ EndOf M x v
+  ends_cases v n =
+      elim (or_cases (has (take i ls) n.0) (get_or ls i x == n.0) (sym (more n.0) ∙ n.1)) [
+        | inl low ↦ inl (n.0, low, n.2)
+        | inr e ↦ inr (subst (λ (y : ℕ). EndOf M y v) (sym (is ∙ eqb-true (get_or ls i x) n.0 e)) n.2)
+      ]
+
+  ends_kept : (v : ℕ) → NodeOf M (take i ls) v → NodeOf M (take (i + 1) ls) v
+  ends_kept v n = (n.0, more n.0 ∙ or_left _ _ n.1, n.2)
+
+  ends_here : (v : ℕ) → EndOf M x v → NodeOf M (take (i + 1) ls) v
+  ends_here v e = (x, more x ∙ or_right _ _ (eq-eqb (get_or ls i x) x (sym is)), e)
+
+  pub ends_more : (F ns : List ℕ) → HasEnds M F (take i ls) ns → HasEnds M F (take (i + 1) ls) ((ns ++ start M x ∷ []) ++ end M x ∷ [])
+  ends_more F ns h v = (one_of, among)
+    where
+      below : Contains ns v → Contains F v ⊎ NodeOf M (take (i + 1) ls) v
+      below k = elim ((h v).0 k) [ inl f ↦ inl f | inr n ↦ inr (ends_kept v n) ]
+
+      one_of : Contains ((ns ++ start M x ∷ []) ++ end M x ∷ []) v → Contains F v ⊎ NodeOf M (take (i + 1) ls) v
+      one_of k =
+          elim (Contains-push_cases (ns ++ start M x ∷ []) (end M x) v k) [
+            | inl j ↦ elim (Contains-push_cases ns (start M x) v j) [ inl low ↦ below low | inr e ↦ inr (ends_here v (inl e)) ]
+            | inr e ↦ inr (ends_here v (inr e))
+          ]
+
+      front : Contains (ns ++ start M x ∷ []) v → Contains ((ns ++ start M x ∷ []) ++ end M x ∷ []) v
+      front k = Contains-append_left (ns ++ start M x ∷ []) (end M x ∷ []) v k
+
+      low : Contains ns v → Contains ((ns ++ start M x ∷ []) ++ end M x ∷ []) v
+      low k = front (Contains-append_left ns (start M x ∷ []) v k)
+
+      at_start : start M x ≡ v → Contains ((ns ++ start M x ∷ []) ++ end M x ∷ []) v
+      at_start e = front (subst (λ (n : ℕ). Contains (ns ++ start M x ∷ []) n) e (Contains-push ns (start M x)))
+
+      at_end : end M x ≡ v → Contains ((ns ++ start M x ∷ []) ++ end M x ∷ []) v
+      at_end e = subst (λ (n : ℕ). Contains ((ns ++ start M x ∷ []) ++ end M x ∷ []) n) e (Contains-push (ns ++ start M x ∷ []) (end M x))
+
+      ends : EndOf M x v → Contains ((ns ++ start M x ∷ []) ++ end M x ∷ []) v
+      ends (inl e) = at_start e
+      ends (inr e) = at_end e
+
+      among : Contains F v ⊎ NodeOf M (take (i + 1) ls) v → Contains ((ns ++ start M x ∷ []) ++ end M x ∷ []) v
+      among (inl f) = low ((h v).1 (inl f))
+      among (inr n) = elim (ends_cases v n) [ inl m ↦ low ((h v).1 (inr m)) | inr e ↦ ends e ]
+
+pub all_ends : (M : Map) (F ls ns : List ℕ) (i : ℕ) → length ls ≤ i → HasEnds M F (take i ls) ns → HasEnds M F ls ns
+all_ends M F ls ns i h ends = subst (λ (zs : List ℕ). HasEnds M F zs ns) (take_all i ls h) ends
+
+-- ---- sorted, and none twice
+
+pub same_once : (ns sorted once : List ℕ) → IsPermutation ns sorted → once ≡ dedup eqb sorted → (v : ℕ) → Contains once v ↔ Contains ns v
+same_once ns sorted once moved is v = (
+  λ h. Contains-permutation sorted ns v (IsPermutation-sym ns sorted moved) (Contains-from_dedup eqb sorted v (subst (λ (zs : List ℕ). Contains zs v) is h)),
+  λ h. subst (λ (zs : List ℕ). Contains zs v) (sym is) (Contains-dedup_nat sorted v (Contains-permutation ns sorted v moved h)),
+)
+
+-- what three lists put there, one after the other
+pub three_lists : (M : Map) (ls b a xs ys zs : List ℕ) → HasEnds M [] ls xs → HasEnds M xs b ys → HasEnds M ys a zs → (v : ℕ) → Contains zs v ↔ (NodeOf M ls v ⊎ (NodeOf M b v ⊎ NodeOf M a v))
+three_lists M ls b a xs ys zs f g h v = (one_of, among)
+  where
+    first_list : Contains xs v → NodeOf M ls v
+    first_list k = elim ((f v).0 k) [ inl none ↦ absurd (omega (arith, none.1)) | inr n ↦ n ]
+
+    one_of : Contains zs v → NodeOf M ls v ⊎ (NodeOf M b v ⊎ NodeOf M a v)
+    one_of k =
+        elim ((h v).0 k) [
+          | inl j ↦ elim ((g v).0 j) [ inl i ↦ inl (first_list i) | inr n ↦ inr (inl n) ]
+          | inr n ↦ inr (inr n)
+        ]
+
+    among : NodeOf M ls v ⊎ (NodeOf M b v ⊎ NodeOf M a v) → Contains zs v
+    among (inl n) = (h v).1 (inl ((g v).1 (inl ((f v).1 (inr n)))))
+    among (inr (inl n)) = (h v).1 (inl ((g v).1 (inr n)))
+    among (inr (inr n)) = (h v).1 (inr n)
+
+-- a set that grew by numbers grew by what these stand for
+pub grown_by : (F G once : List ℕ) (Is : ℕ → Type 0) → ((v : ℕ) → Contains once v ↔ Is v) → ((v : ℕ) → Contains G v ↔ (Contains F v ⊎ Contains once v)) → (v : ℕ) → Contains G v ↔ (Contains F v ⊎ Is v)
+grown_by F G once Is is grew v = (
+  λ h. elim ((grew v).0 h) [ inl f ↦ inl f | inr o ↦ inr ((is v).0 o) ],
+  λ h. (grew v).1 (elim h [ inl f ↦ inl f | inr n ↦ inr ((is v).1 n) ]),
+)

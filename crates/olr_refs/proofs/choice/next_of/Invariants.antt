@@ -1,0 +1,5 @@
+use Rattle.olr_refs.proofs.Choosing.{Scanned}
+use Rattle.olr_refs.proofs.choice.next_of.Given as goal
+
+abbrev pub invariant-loop-k : goal.invariant-loop-k
+invariant-loop-k g l = Scanned (g.M.MapRead.map l.map) l.lines l.i l.reach l.k l.last

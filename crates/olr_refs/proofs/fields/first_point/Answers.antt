@@ -1,0 +1,15 @@
+use Rattle.std.proofs.Common.{rules, ap, ◌∙◌}
+use mir.Syntax.{w32}
+use Rattle.olr_spec.specs.Coordinates.{Coord, abs24}
+use Rattle.olr_spec.specs.Reference.{legs}
+use Rattle.olr_refs.proofs.PlaceLemmas.{stored}
+use Rattle.olr_refs.proofs.PointLemmas.{first_read}
+use Rattle.olr_refs.proofs.fields.first_point.Goals as goal
+
+pub returns : goal.returns
+returns g c =
+    let gs = legs (g.M.MapRead.map c.args.map.now) c.args.lines.now in
+    first_read gs c.args.i c.args.j _ _ _
+    (stored w32 abs24 _ _ _ (search rules) (c.lon.ensures.value ∙ ap (λ (p : Coord). p.lon) c.position-place.ensures) (search rules) c.abs24.ensures)
+    (stored w32 abs24 _ _ _ (search rules) (c.lat.ensures.value ∙ ap (λ (p : Coord). p.lat) c.position-place.ensures) (search rules) c.abs24-2.ensures)
+    c.attrs.ensures

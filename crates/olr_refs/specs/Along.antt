@@ -1,0 +1,40 @@
+-- Positions along the lines of a path.
+--     AreJoined M ls      the lines are in the map, and each ends where the next begins
+--     AreDistances M ls ds      ds are the distances of all positions from the start, in decimetres
+use Rattle.std.specs.Prelude.{◌≡◌, ℕ, ◌+◌, ◌<◌, ◌≤◌, List, length, take, slice_index}
+use Rattle.olr_spec.specs.Map.{Map, start, end}
+use Rattle.olr_spec.specs.Walks.{Walk, dm_of}
+use Rattle.olr_spec.specs.Extension.{first, last, limit}
+use Rattle.olr_spec.specs.Points.{stretch, Covered}
+
+abbrev pub AreJoined : Map → List ℕ → Type 0
+AreJoined M ls = Walk M (start M (first ls)) (end M (last ls)) ls
+
+-- the distances of positions 0 to n
+pub record DistancesTo (M : Map) (ls : List ℕ) (n : ℕ) (ds : List ℕ) : Type 0 where
+  pub long : length ds ≡ n + 1
+  pub each : (k : ℕ) → k ≤ n → slice_index ds k ≡ dm_of M (take k ls)
+
+abbrev pub AreDistances : Map → List ℕ → List ℕ → Type 0
+AreDistances M ls ds = DistancesTo M ls (length ls) ds
+
+-- k is the greatest position from i on that is within the limit of it
+pub record IsFarthest (ds : List ℕ) (i k : ℕ) : Type 0 where
+  pub from : i ≤ k
+  pub upto : k < length ds
+  pub near : slice_index ds k ≤ slice_index ds i + limit
+  pub beyond : (j : ℕ) → k < j → j < length ds → slice_index ds i + limit < slice_index ds j
+
+-- the positions after i that are covered and within the limit are those up to k
+pub record IsReach (M : Map) (ls : List ℕ) (i k : ℕ) : Type 0 where
+  pub from : i ≤ k
+  pub upto : k ≤ length ls
+  pub within : (j : ℕ) → i < j → j ≤ k → Covered M ls i j × (dm_of M (stretch ls i j) ≤ limit)
+  pub beyond : (j : ℕ) → k < j → j ≤ length ls → Covered M ls i j → limit < dm_of M (stretch ls i j)
+
+-- the positions after i within the limit are those up to k
+pub record IsFar (M : Map) (ls : List ℕ) (i k : ℕ) : Type 0 where
+  pub from : i ≤ k
+  pub upto : k ≤ length ls
+  pub near : (j : ℕ) → i < j → j ≤ k → dm_of M (stretch ls i j) ≤ limit
+  pub beyond : (j : ℕ) → k < j → j ≤ length ls → limit < dm_of M (stretch ls i j)

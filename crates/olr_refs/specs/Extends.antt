@@ -1,0 +1,13 @@
+-- What moving the ends of a path out to valid nodes answers, and what it notes.
+--     Extends M P E F G      E is the extended path of P, and the set G has the nodes of F, those of E and those of both tried chains
+use Rattle.std.specs.Prelude.{◌≡◌, ℕ, ◌⊎◌, ◌↔◌, List, Contains}
+use Rattle.olr_spec.specs.Map.{Map}
+use Rattle.olr_spec.specs.Extension.{Path, Tried, extended}
+use Rattle.olr_spec.specs.Footprint.{NodeOf}
+
+pub record Extends (M : Map) (P E : Path) (F G : List ℕ) : Type 0 where
+  pub before : List ℕ
+  pub after : List ℕ
+  pub tried : Tried M P before after
+  pub path : E ≡ extended M P before after
+  pub noted : (v : ℕ) → Contains G v ↔ (Contains F v ⊎ (NodeOf M E.lines v ⊎ (NodeOf M before v ⊎ NodeOf M after v)))

@@ -1,0 +1,217 @@
+//! Chains of lines through passing nodes, which move the ends of a path out to valid nodes.
+ghost use Rattle.std.specs.Prelude.{◌≡◌, ◌<◌, ◌≤◌, ◌+◌, ◌⊎◌, ℕ, IsTrue, IsFalse, not, if◌then◌else◌, IfOk, IfSome, IfNone, MatchOption, length, [], ◌∷◌, ◌++◌};
+ghost use Rattle.olr_spec.specs.Map.{has_line, start, end, dm};
+ghost use Rattle.olr_spec.specs.Walks.{dm_of};
+ghost use Rattle.olr_spec.specs.Extension.{has, passing, first, last, limit, MayPrecede, MayFollow, LongestStart, LongestEnd};
+
+use crate::line_set::LineSet;
+use crate::lines::{end_of, ends_of, len_of, start_of};
+use crate::nodes::passing;
+use olr_map::{LineId, MapRead};
+use std::alloc::{AllocError, Global};
+
+/// The greatest length of a chain, in decimetres (profile).
+pub(crate) const LONGEST_CHAIN: u32 = 150_000;
+
+/// A chain of lines that leads through passing nodes to the first line of a list, or from its last one.
+#[derive(Drop, Debug)]
+pub(crate) struct Chain {
+    /// The lines, in the order of travel.
+    pub(crate) lines: Vec<LineId>,
+    /// Their length together, in decimetres.
+    pub(crate) len: u32,
+    /// Whether the node at the far end is valid; of an empty chain, the node at that end of the list.
+    pub(crate) valid: bool,
+}
+
+impl Chain {
+    /// What is taken of the chain, and the length of that: all of it where it leads to a valid node, and else nothing.
+    pub(crate) fn taken(&self) -> (&[LineId], u32)
+        ensures lines { result.0.now ≡ (if self.now.valid then self.now.lines.items else []) }
+        ensures len { result.1 ≡ (if self.now.valid then self.now.len else 0) }
+    {
+        if self.valid {
+            (&self.lines, self.len)
+        } else {
+            (&[], 0)
+        }
+    }
+}
+
+/// The longest chain within the limit that leads to the first of these lines. The valid start of a list, the common case,
+/// takes no memory.
+pub(crate) fn chain_before<M: MapRead>(
+    alloc: Global,
+    map: &M,
+    lines: &[LineId],
+) -> Result<Chain, AllocError>
+    requires some { 0 < length lines.now }
+    requires known { IsTrue (has_line (M.map map.now) (first lines.now)) }
+    ensures longest { IfOk result
+        (λ chain. LongestStart (M.map map.now) chain.lines.items lines.now) }
+    ensures len { IfOk result (λ chain. chain.len ≡ dm_of (M.map map.now) chain.lines.items) }
+    ensures valid { IfOk result (λ chain. chain.valid
+        ≡ not (passing (M.map map.now) (start (M.map map.now) (first (chain.lines.items ++ lines.now))))) }
+{
+    let first = lines[0];
+    if line_before(map, first).is_some() {
+        return grown_before(alloc, map, lines);
+    }
+    Ok(Chain {
+        lines: Vec::new(alloc),
+        len: 0,
+        valid: !passing(map, start_of(map, first)),
+    })
+}
+
+/// The longest chain within the limit that leads from the last of these lines. The valid end of a list, the common case,
+/// takes no memory.
+pub(crate) fn chain_after<M: MapRead>(
+    alloc: Global,
+    map: &M,
+    lines: &[LineId],
+) -> Result<Chain, AllocError>
+    requires some { 0 < length lines.now }
+    requires known { IsTrue (has_line (M.map map.now) (last lines.now)) }
+    ensures longest { IfOk result
+        (λ chain. LongestEnd (M.map map.now) lines.now chain.lines.items) }
+    ensures len { IfOk result (λ chain. chain.len ≡ dm_of (M.map map.now) chain.lines.items) }
+    ensures valid { IfOk result (λ chain. chain.valid
+        ≡ not (passing (M.map map.now) (end (M.map map.now) (last (lines.now ++ chain.lines.items))))) }
+{
+    let last = lines[lines.len() - 1];
+    if line_after(map, last).is_some() {
+        return grown_after(alloc, map, lines);
+    }
+    Ok(Chain {
+        lines: Vec::new(alloc),
+        len: 0,
+        valid: !passing(map, end_of(map, last)),
+    })
+}
+
+/// The longest chain before these lines, line by line.
+fn grown_before<M: MapRead>(alloc: Global, map: &M, lines: &[LineId]) -> Result<Chain, AllocError>
+    requires some { 0 < length lines.now }
+    requires known { IsTrue (has_line (M.map map.now) (first lines.now)) }
+    ensures longest { IfOk result
+        (λ chain. LongestStart (M.map map.now) chain.lines.items lines.now) }
+    ensures len { IfOk result (λ chain. chain.len ≡ dm_of (M.map map.now) chain.lines.items) }
+    ensures valid { IfOk result (λ chain. chain.valid
+        ≡ not (passing (M.map map.now) (start (M.map map.now) (first (chain.lines.items ++ lines.now))))) }
+{
+    let ahead = LineSet::of(alloc, lines)?;
+    let mut chain = Vec::new(alloc);
+    let mut first = lines[0];
+    let mut len = 0;
+    while let Some(line) = step_before(map, first, len, &ahead) {
+        chain.push(line)?;
+        len += len_of(map, line);
+        first = line;
+    }
+    chain.reverse();
+    Ok(Chain {
+        lines: chain,
+        len,
+        valid: !passing(map, start_of(map, first)),
+    })
+}
+
+/// The longest chain behind these lines, line by line.
+fn grown_after<M: MapRead>(alloc: Global, map: &M, lines: &[LineId]) -> Result<Chain, AllocError>
+    requires some { 0 < length lines.now }
+    requires known { IsTrue (has_line (M.map map.now) (last lines.now)) }
+    ensures longest { IfOk result
+        (λ chain. LongestEnd (M.map map.now) lines.now chain.lines.items) }
+    ensures len { IfOk result (λ chain. chain.len ≡ dm_of (M.map map.now) chain.lines.items) }
+    ensures valid { IfOk result (λ chain. chain.valid
+        ≡ not (passing (M.map map.now) (end (M.map map.now) (last (lines.now ++ chain.lines.items))))) }
+{
+    let passed = LineSet::of(alloc, lines)?;
+    let mut chain = Vec::new(alloc);
+    let mut last = lines[lines.len() - 1];
+    let mut len = 0;
+    while let Some(line) = step_after(map, last, len, &passed) {
+        chain.push(line)?;
+        len += len_of(map, line);
+        last = line;
+    }
+    Ok(Chain {
+        lines: chain,
+        len,
+        valid: !passing(map, end_of(map, last)),
+    })
+}
+
+/// The line that a chain of the length `len` grows by at its first line: the one before that, where the list that the
+/// chain leads to lacks it and the chain stays within its limit. No chain meets a line of its own before one of the list.
+fn step_before<M: MapRead>(map: &M, first: LineId, len: u32, used: &LineSet) -> Option<LineId>
+    requires known { IsTrue (has_line (M.map map.now) first) }
+    requires within { len ≤ limit }
+    ensures before { IfSome result (λ line. MayPrecede (M.map map.now) line (first ∷ [])) }
+    ensures fresh { IfSome result (λ line. IsFalse (has used.now line)) }
+    ensures near { IfSome result (λ line. len + dm (M.map map.now) line ≤ limit) }
+    ensures none { IfNone result ((x : ℕ) → MayPrecede (M.map map.now) x (first ∷ [])
+        → IsTrue (has used.now x) ⊎ (limit < len + dm (M.map map.now) x)) }
+{
+    let before = line_before(map, first)?;
+    if used.has(before) || len_of(map, before) > LONGEST_CHAIN - len {
+        return None;
+    }
+    Some(before)
+}
+
+/// The line that a chain of the length `len` grows by at its last line: the one behind that, where the list that the
+/// chain leads from lacks it and the chain stays within its limit. No chain meets a line of its own before one of the
+/// list.
+fn step_after<M: MapRead>(map: &M, last: LineId, len: u32, used: &LineSet) -> Option<LineId>
+    requires known { IsTrue (has_line (M.map map.now) last) }
+    requires within { len ≤ limit }
+    ensures behind { IfSome result (λ line. MayFollow (M.map map.now) (last ∷ []) line) }
+    ensures fresh { IfSome result (λ line. IsFalse (has used.now line)) }
+    ensures near { IfSome result (λ line. len + dm (M.map map.now) line ≤ limit) }
+    ensures none { IfNone result ((x : ℕ) → MayFollow (M.map map.now) (last ∷ []) x
+        → IsTrue (has used.now x) ⊎ (limit < len + dm (M.map map.now) x)) }
+{
+    let behind = line_after(map, last)?;
+    if used.has(behind) || len_of(map, behind) > LONGEST_CHAIN - len {
+        return None;
+    }
+    Some(behind)
+}
+
+/// The one line that may stand before `next`: it enters the node where `next` begins, which is passing, and doesn't come
+/// from where `next` ends. None where that node is valid.
+fn line_before<M: MapRead>(map: &M, next: LineId) -> Option<LineId>
+    requires { IsTrue (has_line (M.map map.now) next) }
+    ensures { MatchOption result ((x : ℕ) → ¬ MayPrecede (M.map map.now) x (next ∷ []))
+        (λ line. MayPrecede (M.map map.now) line (next ∷ [])) }
+{
+    let (node, beyond) = ends_of(map, next);
+    if passing(map, node) {
+        for line in map.in_lines(node) {
+            if start_of(map, *line) != beyond {
+                return Some(*line);
+            }
+        }
+    }
+    None
+}
+
+/// The one line that may stand behind `last`: it leaves the node where `last` ends, which is passing, and doesn't go to
+/// where `last` begins. None where that node is valid.
+fn line_after<M: MapRead>(map: &M, last: LineId) -> Option<LineId>
+    requires { IsTrue (has_line (M.map map.now) last) }
+    ensures { MatchOption result ((x : ℕ) → ¬ MayFollow (M.map map.now) (last ∷ []) x)
+        (λ line. MayFollow (M.map map.now) (last ∷ []) line) }
+{
+    let (beyond, node) = ends_of(map, last);
+    if passing(map, node) {
+        for line in map.out_lines(node) {
+            if end_of(map, *line) != beyond {
+                return Some(*line);
+            }
+        }
+    }
+    None
+}

@@ -1,0 +1,217 @@
+//! What is published of the points of an extended path, and of its offsets (White Paper, location reference points and
+//! their attributes).
+ghost use Rattle.std.specs.Prelude.{◌≡◌, ℕ, ◌+◌, ◌<◌, ◌≤◌, IsTrue, IfOk, length, slice_index};
+ghost use Rattle.olr_spec.specs.Coordinates.{fits16, relative};
+ghost use Rattle.olr_coords.specs.Bounds.{is_degrees};
+ghost use Rattle.olr_spec.specs.Map.{has_line, has_node, is_good, line_at, place_at};
+ghost use Rattle.olr_spec.specs.Points.{fit16, Candidate};
+ghost use Rattle.olr_spec.specs.Extension.{limit};
+ghost use Rattle.olr_spec.specs.Reference.{attrs, first_point, last_point, legs, middle_point, offset, position};
+ghost use Rattle.olr_refs.specs.Along.{AreDistances, AreJoined};
+ghost use Rattle.olr_refs.specs.Fields.{lowest_class, middle_points_of};
+ghost use Rattle.olr_refs.specs.Kept.{AreLinked};
+
+use crate::along::{line_of, node_at, place_of};
+use olr_bearing::{Ends, bearing_back, bearing_out};
+use olr_binary::{Attrs, First, Last, Middle};
+use olr_coords::{Coord, abs24, rel16};
+use olr_map::{Line, LineId, MapRead};
+use std::alloc::{AllocError, Global};
+
+/// A step of the distance to the next point, in decimetres: 58.6 m.
+const DISTANCE_STEP: u128 = 586;
+/// So many parts of a stretch are told apart by an offset.
+const OFFSET_PARTS: u128 = 256;
+
+/// The record of line `k`.
+fn line_at<'a, M: MapRead>(map: &'a M, lines: &[LineId], k: usize) -> &'a Line
+    requires joined { AreJoined (M.map map.now) lines.now }
+    requires within { k < length lines.now }
+    ensures value { result.now ≡ line_at (M.map map.now) (slice_index lines.now k) }
+    ensures good { IsTrue (is_good result.now) }
+    ensures from { IsTrue (has_node (M.map map.now) result.now.from) }
+    ensures to { IsTrue (has_node (M.map map.now) result.now.to) }
+{
+    line_of(map, lines[k])
+}
+
+/// The places of the ends of a line.
+fn ends_of<M: MapRead>(map: &M, line: &Line) -> Ends
+    requires from { IsTrue (has_node (M.map map.now) line.now.from) }
+    requires to { IsTrue (has_node (M.map map.now) line.now.to) }
+    ensures from { result.from ≡ place_at (M.map map.now) line.now.from }
+    ensures to { result.to ≡ place_at (M.map map.now) line.now.to }
+{
+    Ends {
+        from: place_of(map, line.from),
+        to: place_of(map, line.to),
+    }
+}
+
+/// The place of position `k`.
+fn position<M: MapRead>(map: &M, lines: &[LineId], k: usize) -> Coord
+    requires joined { AreJoined (M.map map.now) lines.now }
+    requires some { 0 < length lines.now }
+    requires within { k ≤ length lines.now }
+    ensures { result ≡ position (legs (M.map map.now) lines.now) k }
+{
+    place_of(map, node_at(map, lines, k))
+}
+
+/// The difference between two coordinates, in relative steps, where it fits 16 bits.
+fn difference(from: i64, to: i64) -> i16
+    requires from { IsTrue (is_degrees from) }
+    requires to { IsTrue (is_degrees to) }
+    requires fits { IsTrue (fits16 (relative from to)) }
+    ensures { result ≡ relative from to }
+{
+    let Some(difference) = rel16(from, to) else {
+        unreachable!()
+    };
+    difference
+}
+
+/// The differences of longitude and latitude from one place to another, in relative steps.
+fn differences(from: Coord, to: Coord) -> (i16, i16)
+    requires { IsTrue (fit16 from to) }
+    ensures lon { result.0 ≡ relative from.lon to.lon }
+    ensures lat { result.1 ≡ relative from.lat to.lat }
+{
+    (
+        difference(from.lon(), to.lon()),
+        difference(from.lat(), to.lat()),
+    )
+}
+
+/// The lowest functional road class of some lines, so the greatest number.
+fn lowest_class<M: MapRead>(map: &M, lines: &[LineId]) -> u8
+    requires { (k : ℕ) → k < length lines.now → IsTrue (has_line (M.map map.now) (slice_index lines.now k)) }
+    ensures { result ≡ lowest_class (legs (M.map map.now) lines.now) }
+{
+    let mut lowest = 0;
+    for line in lines {
+        lowest = line_of(map, *line).frc.max(lowest);
+    }
+    lowest
+}
+
+/// The attributes of the point at position `i`, of which the one at position `j` is the next.
+fn attrs<M: MapRead>(map: &M, lines: &[LineId], distances: &[u128], i: usize, j: usize) -> Attrs
+    requires joined { AreJoined (M.map map.now) lines.now }
+    requires distances { AreDistances (M.map map.now) lines.now distances.now }
+    requires candidate { Candidate (M.map map.now) lines.now i j }
+    ensures { result ≡ attrs (legs (M.map map.now) lines.now) i j }
+{
+    let line = line_at(map, lines, i);
+    Attrs {
+        frc: line.frc,
+        fow: line.fow,
+        lfrc: lowest_class(map, &lines[i..j]),
+        bearing: bearing_out(line, ends_of(map, line)),
+        dnp: ((distances[j] - distances[i]) / DISTANCE_STEP) as u8,
+    }
+}
+
+/// The first point, at position `i`, of which the one at position `j` is the next.
+pub fn first_point<M: MapRead>(
+    map: &M,
+    lines: &[LineId],
+    distances: &[u128],
+    i: usize,
+    j: usize,
+) -> First
+    requires joined { AreJoined (M.map map.now) lines.now }
+    requires distances { AreDistances (M.map map.now) lines.now distances.now }
+    requires candidate { Candidate (M.map map.now) lines.now i j }
+    ensures { result ≡ first_point (legs (M.map map.now) lines.now) i j }
+{
+    let place = position(map, lines, i);
+    First {
+        lon: abs24(place.lon()),
+        lat: abs24(place.lat()),
+        attrs: attrs(map, lines, distances, i, j),
+    }
+}
+
+/// The point at position `i`, between those at positions `h` and `j`.
+fn middle_point<M: MapRead>(
+    map: &M,
+    lines: &[LineId],
+    distances: &[u128],
+    h: usize,
+    i: usize,
+    j: usize,
+) -> Middle
+    requires joined { AreJoined (M.map map.now) lines.now }
+    requires distances { AreDistances (M.map map.now) lines.now distances.now }
+    requires candidate { Candidate (M.map map.now) lines.now h i }
+    requires next { Candidate (M.map map.now) lines.now i j }
+    ensures { result ≡ middle_point (legs (M.map map.now) lines.now) h i j }
+{
+    let (dlon, dlat) = differences(position(map, lines, h), position(map, lines, i));
+    Middle {
+        dlon,
+        dlat,
+        attrs: attrs(map, lines, distances, i, j),
+    }
+}
+
+/// The last point, at position `i`, after the one at position `h`.
+pub fn last_point<M: MapRead>(map: &M, lines: &[LineId], h: usize, i: usize) -> Last
+    requires joined { AreJoined (M.map map.now) lines.now }
+    requires candidate { Candidate (M.map map.now) lines.now h i }
+    ensures { result ≡ last_point (legs (M.map map.now) lines.now) h i }
+{
+    let (dlon, dlat) = differences(position(map, lines, h), position(map, lines, i));
+    let line = line_at(map, lines, i - 1);
+    Last {
+        dlon,
+        dlat,
+        frc: line.frc,
+        fow: line.fow,
+        bearing: bearing_back(line, ends_of(map, line)),
+    }
+}
+
+/// The points between the first and the last of `points`.
+pub fn middle_points<M: MapRead>(
+    alloc: Global,
+    map: &M,
+    lines: &[LineId],
+    distances: &[u128],
+    points: &[usize],
+) -> Result<Vec<Middle>, AllocError>
+    requires joined { AreJoined (M.map map.now) lines.now }
+    requires distances { AreDistances (M.map map.now) lines.now distances.now }
+    requires linked { AreLinked (M.map map.now) lines.now points.now }
+    requires two { 2 ≤ length points.now }
+    ensures { IfOk result (λ middle. middle.items ≡ middle_points_of (legs (M.map map.now) lines.now) points.now) }
+{
+    let mut middle = Vec::with_capacity(alloc, points.len() - 2)?;
+    for k in 1..points.len() - 1 {
+        let point = middle_point(
+            map,
+            lines,
+            distances,
+            points[k - 1],
+            points[k],
+            points[k + 1],
+        );
+        middle.push(point)?;
+    }
+    Ok(middle)
+}
+
+/// What is left of an offset, in 256ths of the stretch that it lies in, rounded down; both are in decimetres. None where
+/// nothing is left (White Paper, binary format; rounding: profile).
+pub fn offset(left: u128, stretch: u128) -> Option<u8>
+    requires within { left < stretch }
+    requires short { stretch ≤ limit }
+    ensures { result ≡ offset left stretch }
+{
+    if left == 0 {
+        None
+    } else {
+        Some((OFFSET_PARTS * left / stretch) as u8)
+    }
+}

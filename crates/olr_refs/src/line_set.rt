@@ -1,0 +1,42 @@
+//! The lines of a list, for look-ups.
+ghost use Rattle.std.specs.Prelude.{◌≡◌, ℕ, IfOk};
+ghost use Rattle.olr_spec.specs.Extension.{has};
+
+use olr_map::LineId;
+use std::alloc::{AllocError, Global};
+use std::marker::Model;
+
+/// The lines of a list, sorted.
+#[derive(Drop, Debug)]
+pub(crate) struct LineSet {
+    sorted: Vec<LineId>,
+}
+
+impl Model for LineSet {
+    ghost use Rattle.std.specs.Prelude.{List, ℕ};
+    ghost use Rattle.std.specs.List.Sorted.{IsNonDecreasing};
+
+    ghost Value = { List ℕ };
+
+    ghost view = { λ s. s.sorted.items };
+
+    ghost invariant = { λ s. IsNonDecreasing s.sorted.items };
+}
+
+impl LineSet {
+    /// The lines of this list.
+    pub(crate) fn of(alloc: Global, lines: &[LineId]) -> Result<LineSet, AllocError>
+        ensures { IfOk result (λ set. (x : ℕ) → has set x ≡ has lines.now x) }
+    {
+        let mut sorted = Vec::from_slice(alloc, lines)?;
+        sorted.sort_unstable();
+        Ok(LineSet { sorted })
+    }
+
+    /// Whether a line is among them, by binary search.
+    pub(crate) fn has(&self, line: LineId) -> bool
+        ensures { result ≡ has self.now line }
+    {
+        self.sorted.binary_search(&line).is_ok()
+    }
+}

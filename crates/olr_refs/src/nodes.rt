@@ -1,0 +1,33 @@
+//! Nodes that a road only passes through.
+ghost use Rattle.std.specs.Prelude.{◌≡◌};
+ghost use Rattle.olr_spec.specs.Extension.{passing, apart};
+
+use crate::lines::{end_of, start_of};
+use olr_map::{MapRead, NodeId};
+
+/// Whether a node is passing: its lines have exactly two other ends, different and neither of them the node, and lead
+/// either from one of them to the other, or once from each and once to each. Every other node is valid (White Paper,
+/// rules on valid nodes; the exact test is the profile's). An absent node isn't passing.
+pub fn passing<M: MapRead>(map: &M, node: NodeId) -> bool
+    ensures { result ≡ passing (M.map map.now) node }
+{
+    match (map.in_lines(node), map.out_lines(node)) {
+        ([entering], [leaving]) => are_apart(node, start_of(map, *entering), end_of(map, *leaving)),
+        ([from_one, from_other], [to_one, to_other]) => {
+            let one = start_of(map, *from_one);
+            let other = start_of(map, *from_other);
+            let first = end_of(map, *to_one);
+            let second = end_of(map, *to_other);
+            are_apart(node, one, other)
+                && ((first == one && second == other) || (first == other && second == one))
+        }
+        _ => false,
+    }
+}
+
+/// Whether two nodes are different, and neither of them is `node`.
+fn are_apart(node: NodeId, one: NodeId, other: NodeId) -> bool
+    ensures { result ≡ apart node one other }
+{
+    one != node && other != node && one != other
+}
