@@ -1,13 +1,11 @@
 -- The choice of the next point, from the last position that is covered and near enough back to the first.
-use Rattle.std.proofs.Common.{◌≡◌, ◌≢◌, ◌<◌, ◌≤◌, ◌-◌, ◌+◌, ℕ, Bool, true, false, List, length, refl, sym, ap, ◌∙◌, subst, arith, inl, inr, ◌⊎◌, Option, Some, None, MatchOption}
+use Rattle.std.proofs.Common.{◌≡◌, ◌<◌, ◌≤◌, ◌-◌, ◌+◌, ℕ, Bool, true, false, List, length, sym, subst, arith, inl, inr, Option, Some, None, MatchOption}
 use Rattle.std.proofs.lemmas.Bool.{cases_order}
-use Rattle.std.specs.Prelude.{IsTrue, IsFalse}
 use Rattle.std.specs.Option.{option_or}
 use Rattle.olr_spec.specs.Coordinates.{Coord}
 use Rattle.olr_spec.specs.Map.{Map, place_at}
-use Rattle.olr_spec.specs.Walks.{dm_of}
-use Rattle.olr_spec.specs.Extension.{passing, limit}
-use Rattle.olr_spec.specs.Points.{node_at, stretch, fit16, Covered, Candidate, ValidCandidate, Greatest, Next, To_end, To_valid, To_passing, NoNext}
+use Rattle.olr_spec.specs.Extension.{passing}
+use Rattle.olr_spec.specs.Points.{node_at, fit16, Candidate, ValidCandidate, Greatest, Next, To_end, To_valid, To_passing, NoNext}
 use Rattle.olr_refs.specs.Along.{IsReach}
 
 abbrev pub fit : Map → List ℕ → ℕ → ℕ → Bool

@@ -1,10 +1,10 @@
 -- The lines of an extended path are joined.
-use Rattle.std.proofs.Common.{◌≡◌, ◌<◌, ◌+◌, ℕ, Bool, true, false, cond, List, [], ◌∷◌, ◌++◌, length, refl, sym, ap, ◌∙◌, subst, arith, length-append, append_assoc}
+use Rattle.std.proofs.Common.{◌≡◌, ◌<◌, ℕ, Bool, true, false, cond, List, [], ◌∷◌, ◌++◌, length, refl, sym, ap, ◌∙◌, subst, arith, length-append, append_assoc}
 use Rattle.std.proofs.lemmas.List.{append-nil}
 use Rattle.std.specs.Prelude.{IsTrue}
 use Rattle.olr_spec.specs.Map.{Map, has_line, start, end}
-use Rattle.olr_spec.specs.Walks.{Walk, dm_of}
-use Rattle.olr_spec.specs.Extension.{Path, Tried, first, last, passing, StartChain, EndChain, from_start, taken_start, taken_end, extended}
+use Rattle.olr_spec.specs.Walks.{Walk}
+use Rattle.olr_spec.specs.Extension.{Path, Tried, first, last, passing, StartChain, EndChain, from_start, extended}
 use Rattle.olr_spec.proofs.WalkLemmas.{Walk-append}
 use Rattle.olr_refs.specs.Along.{AreJoined}
 

@@ -1,18 +1,17 @@
 -- What is known of a path whose own lines give no refusal.
-use Rattle.std.proofs.Common.{◌≡◌, ◌<◌, ◌≤◌, ◌-◌, ◌+◌, ◌*◌, ◌==◌, ℕ, zero, suc, Bool, true, false, not, cond, List, [], ◌∷◌, ◌++◌, length, take, drop, get_or, Option, Some, None, refl, sym, ap, ◌∙◌, subst, arith, inl, inr, ◌⊎◌}
+use Rattle.std.proofs.Common.{◌≡◌, ◌<◌, ◌≤◌, ◌-◌, ◌+◌, ◌==◌, ℕ, suc, Bool, true, false, not, List, [], ◌∷◌, length, drop, get_or, Some, None, refl, sym, ap, ◌∙◌, subst, arith, inl, inr}
 use Rattle.std.proofs.lemmas.Bool.{eqb-true, eq-eqb, cases_eq}
 use Rattle.std.proofs.lemmas.Bool.Decides.{nat_tests}
 use Rattle.std.proofs.lemmas.List.{get_or_default, drop_more, drop_all}
 use Rattle.std.specs.Prelude.{IsTrue, if◌then◌else◌}
 use Rattle.std.specs.List.{slice_index}
-use Rattle.olr_spec.specs.Map.{Map, IsMap, has_line, start, end, dm}
-use Rattle.olr_spec.specs.Walks.{Walk, dm_of}
-use Rattle.olr_spec.specs.Extension.{first, last}
+use Rattle.olr_spec.specs.Map.{Map, has_line, start, end}
+use Rattle.olr_spec.specs.Walks.{Walk}
+use Rattle.olr_spec.specs.Extension.{last}
 use Rattle.olr_spec.specs.Encoding.{first_unknown, first_break}
 use Rattle.olr_spec.proofs.ListLemmas.{Each, Each-head, Each-tail, has_index}
 use Rattle.olr_refs.specs.Along.{AreJoined}
 use Rattle.olr_refs.proofs.Extending.{Known, all_known}
-use Rattle.olr_refs.proofs.Joined.{dm_short}
 
 -- what was read at place k is in the map
 pub each_read : (M : Map) (ls : List ℕ) (k x : ℕ) → first_unknown M ls ≡ None → k < length ls → x ≡ get_or ls k x → IsTrue (has_line M x)

@@ -1,9 +1,9 @@
 -- What searches note, and the counts that they raise.
-use Rattle.std.proofs.Common.{◌≡◌, ◌<◌, ◌≤◌, ◌-◌, ◌+◌, ◌*◌, ◌^◌, ℕ, zero, suc, min, Bool, true, false, cond, List, [], ◌∷◌, ◌++◌, length, refl, sym, ap, ◌∙◌, subst, arith, inl, inr, ◌⊎◌, ◌==◌}
-use Rattle.std.specs.Prelude.{IsTrue, IsSome, ◌↔◌, Contains, count_by, nat_lt, if◌then◌else◌}
+use Rattle.std.proofs.Common.{◌≡◌, ◌<◌, ◌≤◌, ◌+◌, ◌*◌, ℕ, zero, suc, cond, List, [], ◌∷◌, ◌++◌, length, refl, sym, ap, ◌∙◌, subst, arith, inl, inr, ◌⊎◌, ◌==◌}
+use Rattle.std.specs.Prelude.{IsSome, ◌↔◌, Contains, nat_lt}
 use Rattle.std.specs.List.{slice_index}
 use Rattle.olr_spec.specs.Map.{Map, end}
-use Rattle.olr_spec.specs.Extension.{limit, has}
+use Rattle.olr_spec.specs.Extension.{limit}
 use Rattle.olr_spec.specs.Points.{Next, Follow, NoNext, last_point}
 use Rattle.olr_spec.specs.Footprint.{Reach, Searched}
 use Rattle.std.proofs.Math.Nat.{mul-le-mul_left, mul-add, mul_comm}

@@ -1,13 +1,12 @@
 -- Stretches of joined lines: they are walks, and one stretch goes on where another ends.
-use Rattle.std.proofs.Common.{◌≡◌, ◌<◌, ◌≤◌, ◌-◌, ◌+◌, ℕ, zero, suc, List, [], ◌∷◌, ◌++◌, length, take, drop, refl, sym, ap, ◌∙◌, subst, arith, take-append-drop, length-drop}
+use Rattle.std.proofs.Common.{◌≡◌, ◌<◌, ◌≤◌, ◌-◌, ◌+◌, ℕ, zero, suc, List, [], ◌∷◌, ◌++◌, length, take, drop, refl, sym, ap, ◌∙◌, subst, arith, take-append-drop}
 use Rattle.std.proofs.lemmas.List.{drop-drop, drop_more}
 use Rattle.std.specs.List.{slice_index}
-use Rattle.olr_spec.specs.Map.{Map, start, end, dm}
+use Rattle.olr_spec.specs.Map.{Map, start, end}
 use Rattle.olr_spec.specs.Walks.{Walk, dm_of}
 use Rattle.olr_spec.specs.Points.{stretch}
 use Rattle.olr_spec.proofs.WalkLemmas.{Walk-split, dm_of-append}
-use Rattle.olr_spec.proofs.JoinLemmas.{stretch_first}
-use Rattle.olr_refs.specs.Along.{AreJoined, DistancesTo, AreDistances, IsFarthest, IsFar}
+use Rattle.olr_refs.specs.Along.{AreJoined, AreDistances, IsFarthest, IsFar}
 
 take_none : (n : ℕ) → take {A = ℕ} n [] ≡ []
 take_none zero = refl

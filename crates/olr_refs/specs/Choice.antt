@@ -9,8 +9,8 @@ use Rattle.olr_spec.specs.Points.{Follow, last_point}
 use Rattle.olr_spec.specs.Footprint.{Reach, Searched}
 use Rattle.olr_route.specs.declared.work.Work.{Work}
 use Rattle.olr_route.specs.Counts.{counted}
-use Rattle.olr_refs.specs.declared.points.Choice.{Choice}
-use Rattle.olr_refs.specs.declared.points.Choice.TheVariants.{Positions, NoNext}
+use Rattle.olr_refs.specs.declared.chosen.Choice.{Choice}
+use Rattle.olr_refs.specs.declared.chosen.Choice.TheVariants.{Positions, NoNext}
 
 abbrev pub ForPoints : Map → List ℕ → (List ℕ → Type 0) → Type 0
 ForPoints M ls P = (js : List ℕ) × Follow M ls 0 js × P js

@@ -13,10 +13,10 @@ ghost use Rattle.olr_refs.specs.Referring.{OfPath, JoinsOf, SearchesOf};
 
 use crate::along::distances;
 use crate::answer::{Answer, Refusal};
+use crate::chosen::{Choice, points};
 use crate::extension::{Extended, extend};
 use crate::faults::path_fault;
 use crate::path::Path;
-use crate::points::{Choice, points_along};
 use crate::reference::reference_of;
 use olr_map::{Footprint, MapRead};
 use olr_route::Work;
@@ -89,10 +89,10 @@ fn answer_along<M: MapRead>(
     ensures work { OnOk result (ForPoints (M.map map.now) extended.now.lines
         (λ js. Searches work.old work.new (searches_of extended.now.lines (0 ∷ js)) (length footprint.new))) }
 {
-    let lines = &extended.lines;
-    match points_along(alloc, map, lines, footprint, work)? {
+    match points(alloc, map, extended, footprint, work)? {
         Choice::NoNext(k) => Ok(Answer::Refused(Refusal::NoNextPoint(k))),
         Choice::Positions(points) => {
+            let lines = &extended.lines;
             let distances = distances(alloc, map, lines)?;
             let reference = reference_of(
                 alloc,

@@ -5,6 +5,7 @@ mod along;
 pub mod answer;
 mod chains;
 mod choice;
+mod chosen;
 mod encoding;
 pub mod extension;
 mod faults;
@@ -13,18 +14,17 @@ mod line_set;
 pub mod lines;
 pub mod nodes;
 pub mod path;
-pub mod points;
 mod reach;
 mod reference;
 mod trim;
 
 pub use answer::{Answer, Refusal};
+pub use chosen::{Choice, points};
 pub use encoding::refer;
 pub use extension::{Extended, extend};
 pub use lines::unknown_line;
 pub use nodes::passing;
 pub use path::{Path, PathFault};
-pub use points::Choice;
 
 #[cfg(test)]
 mod tests;

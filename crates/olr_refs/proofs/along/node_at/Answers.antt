@@ -1,6 +1,5 @@
-use Rattle.std.proofs.Common.{rules, ◌≡◌, ℕ, ◌-◌, length, sym, ap, ◌∙◌, arith}
+use Rattle.std.proofs.Common.{◌≡◌, sym, ap, ◌∙◌, arith}
 use Rattle.std.proofs.lemmas.List.{get_or_default}
-use Rattle.std.specs.List.{slice_index}
 use Rattle.olr_spec.specs.Map.{end}
 use Rattle.olr_spec.specs.Extension.{last}
 use Rattle.olr_spec.specs.Points.{node_at}

@@ -1,9 +1,6 @@
-use Rattle.std.proofs.Common.{◌≡◌, ◌≤◌, ◌<◌, ◌-◌, ◌+◌, ℕ, Bool, true, false, ap, sym, ◌∙◌, subst, arith, rules}
-use Rattle.std.specs.Option.{option_or}
-use Rattle.std.specs.Prelude.{Some}
-use Rattle.olr_spec.specs.Map.{place_at}
+use Rattle.std.proofs.Common.{◌≡◌, ◌-◌, true, false, ap, sym, ◌∙◌, subst, arith}
 use Rattle.olr_spec.specs.Extension.{passing}
-use Rattle.olr_spec.specs.Points.{fit16, node_at}
+use Rattle.olr_spec.specs.Points.{node_at}
 use Rattle.olr_refs.proofs.Choosing.{fit, fit_read, Scanned, scan_unfit, scan_passing, next_valid}
 use Rattle.olr_refs.proofs.choice.next_of.Goals as goal
 

@@ -1,4 +1,4 @@
-use Rattle.std.proofs.Common.{◌≡◌, sym, refl}
+use Rattle.std.proofs.Common.{sym}
 use Rattle.olr_refs.specs.Answers.{answer_of, refusal_of}
 use Rattle.olr_refs.proofs.Referring.{local_by, foot_by, if_ok, on_ok, and_ok, encodes_by, refused_by, nowhere, searches_by}
 use Rattle.olr_refs.proofs.encoding.refer.Goals as goal

@@ -1,4 +1,4 @@
-use Rattle.std.proofs.Common.{◌≡◌, ◌∷◌, ℕ, List, length}
+use Rattle.std.proofs.Common.{◌∷◌, length}
 use Rattle.olr_refs.specs.Choice.{Searches, searches_of}
 use Rattle.olr_refs.proofs.Referring.{whole_joined, whole_short, encoding_of, joins_of, foot_of, of_path}
 use Rattle.olr_refs.proofs.encoding.refer_whole.Goals as goal

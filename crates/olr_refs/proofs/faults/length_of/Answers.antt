@@ -1,6 +1,5 @@
-use Rattle.std.proofs.Common.{◌≡◌, ◌+◌, ◌*◌, ◌≤◌, ℕ, ap, ◌∙◌, sym, take, arith, rules}
+use Rattle.std.proofs.Common.{◌≡◌, ◌+◌, ℕ, ap, ◌∙◌, sym, arith, rules}
 use Rattle.olr_spec.specs.Map.{dm}
-use Rattle.olr_spec.specs.Walks.{dm_of}
 use Rattle.olr_refs.proofs.Joined.{longer_by, dm_short}
 use Rattle.olr_refs.proofs.Faulting.{each_read}
 use Rattle.olr_refs.proofs.faults.length_of.Goals as goal

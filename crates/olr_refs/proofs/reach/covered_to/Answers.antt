@@ -1,4 +1,4 @@
-use Rattle.std.proofs.Common.{◌≡◌, ◌∙◌, subst, sym, arith, min, ◌-◌, ◌≤◌, ◌+◌, length}
+use Rattle.std.proofs.Common.{◌≡◌, ◌∙◌, subst, arith, min, ◌-◌, length}
 use Rattle.std.proofs.lemmas.List.{get_or_default}
 use Rattle.std.specs.List.{slice_index}
 use Rattle.olr_refs.proofs.Joined.{known_read}

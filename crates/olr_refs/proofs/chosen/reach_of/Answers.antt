@@ -1,4 +1,4 @@
-use Rattle.std.proofs.Common.{rules, ◌≡◌, ◌≤◌, ℕ, ◌+◌, ◌-◌, length, refl, sym, subst, arith, true, false, nat_lt, inl, inr, ap, ◌∙◌}
+use Rattle.std.proofs.Common.{◌≡◌, ℕ, length, refl, subst, arith, ap, ◌∙◌}
 use Rattle.std.proofs.lemmas.Bool.Decides.{nat_tests}
 use Rattle.std.proofs.lemmas.List.{get_or_default}
 use Rattle.std.specs.List.{slice_index}
@@ -8,7 +8,7 @@ use Rattle.olr_refs.specs.Choice.{Searches, searches_at}
 use Rattle.olr_refs.proofs.Joined.{known_read, end_known}
 use Rattle.olr_refs.proofs.Stretches.{distances_rise, far_of}
 use Rattle.olr_refs.proofs.Reaching.{reach_near_end}
-use Rattle.olr_refs.proofs.points.reach_of.Goals as goal
+use Rattle.olr_refs.proofs.chosen.reach_of.Goals as goal
 
 pub farthest-far-requires-clause-rising : goal.farthest-far-requires-clause-rising
 farthest-far-requires-clause-rising g c = distances_rise (g.M.MapRead.map c.args.map.now) c.args.lines.now c.args.distances.now c.requires.distances

@@ -1,7 +1,6 @@
-use Rattle.std.proofs.Common.{◌≡◌, ◌∙◌, ℕ, sym, arith, length}
-use Rattle.olr_spec.specs.Points.{last_point}
+use Rattle.std.proofs.Common.{◌≡◌, ◌∙◌, sym, arith, length}
 use Rattle.olr_refs.proofs.Noting.{gone_more, ended, ended_there, follows, follows_end, last_is}
-use Rattle.olr_refs.proofs.points.points_along.Goals as goal
+use Rattle.olr_refs.proofs.chosen.points_along.Goals as goal
 
 pub loop-last-preserved : goal.loop-last-preserved
 loop-last-preserved g c =

@@ -1,7 +1,6 @@
 use Rattle.std.proofs.Common.{◌-◌, length}
-use Rattle.olr_refs.specs.Along.{AreDistances}
 use Rattle.olr_refs.proofs.Noting.{Gone}
-use Rattle.olr_refs.proofs.points.points_along.Given as goal
+use Rattle.olr_refs.proofs.chosen.points_along.Given as goal
 
 abbrev pub invariant-loop-last : goal.invariant-loop-last
 invariant-loop-last g l = Gone (g.M.MapRead.map l.map) l.lines l.positions.items l.last l.initial.footprint l.footprint l.initial.work l.work

@@ -1,11 +1,11 @@
 //! The location reference points of an extended path.
-ghost use Rattle.std.specs.Prelude.{◌≡◌, ℕ, ◌+◌, ◌<◌, ◌≤◌, ◌↔◌, ◌⊎◌, ◌∷◌, IfOk, OnOk, MatchOption, Contains, length, slice_index, if◌then◌else◌, nat_lt};
-ghost use Rattle.olr_spec.specs.Map.{end};
-ghost use Rattle.olr_spec.specs.Points.{Next, NoNext};
-ghost use Rattle.olr_spec.specs.Footprint.{Reach, Searched};
+ghost use Rattle.std.specs.Prelude.{◌<◌, ◌≤◌, ◌∷◌, IfOk, OnOk, length};
+ghost use Rattle.olr_refs.specs.Along.{AreDistances, AreJoined, IsReach};
+ghost use Rattle.olr_refs.specs.Choice.{ForPoints, IsChoice, NotesReach, NotesSearched, Searches, searches_at, searches_of};
 
 use crate::along::distances;
 use crate::choice::{farthest, next_of};
+use crate::extension::Extended;
 use crate::lines::end_of;
 use crate::reach::covered_to;
 use olr_map::{Footprint, LineId, MapRead};
@@ -21,10 +21,6 @@ pub enum Choice {
     /// No point can follow the point at this position.
     NoNext(usize),
 }
-
-ghost use Rattle.olr_refs.specs.Along.{AreJoined, AreDistances};
-ghost use Rattle.olr_refs.specs.Along.{IsReach};
-ghost use Rattle.olr_refs.specs.Choice.{ForPoints, IsChoice, Searches, searches_of, searches_at, NotesReach, NotesSearched};
 
 /// How far the positions after `i` are covered and near enough, by one search where two lines or more follow line `i`.
 fn reach_of<M: MapRead>(
@@ -54,7 +50,7 @@ fn reach_of<M: MapRead>(
 }
 
 /// The points of the lines of an extended path, by position.
-pub fn points_along<M: MapRead>(
+fn points_along<M: MapRead>(
     alloc: Global,
     map: &M,
     lines: &[LineId],
@@ -81,4 +77,23 @@ pub fn points_along<M: MapRead>(
         }
     }
     Ok(Choice::Positions(positions))
+}
+
+/// The location reference points of an extended path, by position: the first position, the one that follows it as a
+/// point, and so on to the end, or the position that none can follow (White Paper, intermediate points and the 15,000 m
+/// rule; which one follows is the profile's choice). Each point that two lines or more follow is searched from once, and
+/// what its search labels is noted. After a refusal footprint and work may hold more than before.
+pub fn points<M: MapRead>(
+    alloc: Global,
+    map: &M,
+    extended: &Extended,
+    footprint: &mut Footprint,
+    work: &mut Work,
+) -> Result<Choice, AllocError>
+    requires joined { AreJoined (M.map map.now) extended.now.lines }
+    ensures choice { IfOk result (λ choice. ForPoints (M.map map.now) extended.now.lines (λ js. IsChoice extended.now.lines js choice)) }
+    ensures footprint { OnOk result (ForPoints (M.map map.now) extended.now.lines (NotesSearched (M.map map.now) extended.now.lines footprint.old footprint.new)) }
+    ensures work { OnOk result (ForPoints (M.map map.now) extended.now.lines (λ js. Searches work.old work.new (searches_of extended.now.lines (0 ∷ js)) (length footprint.new))) }
+{
+    points_along(alloc, map, &extended.lines, footprint, work)
 }
