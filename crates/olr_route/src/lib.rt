@@ -1,5 +1,8 @@
 //! Least routes within a limit: a search from a node that labels what it reaches, and the tests, by these labels,
 //! whether a walk is the least or the sole one. All of it reads the map through `MapRead` alone.
+//!
+//! The White Paper (version 1.5, revision 2) covers a location by shortest paths between its points. Which of equally
+//! long walks is the least, and that only a sole one joins two points, are choices of this project (profile).
 #![tactic(auto)]
 
 mod heap;
