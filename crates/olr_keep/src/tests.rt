@@ -176,6 +176,49 @@ fn edits_come_and_go(rt: HostRuntime) -> Result<(), Fail> {
 }
 
 #[test]
+fn passing_node(rt: HostRuntime) -> Result<(), Fail> {
+    expect(
+        &rt,
+        "node,1,0,0\nnode,2,0.001,0\nnode,3,0.002,0\nline,10,1,2,4,3,1000\nline,11,2,1,4,3,1000\nline,20,2,3,4,3,1000\nline,21,3,2,4,3,1000\npath,a,0,0,20\nnode,4,0.001,0.001\nline,40,2,4,4,3,1000\nshow,a\n",
+        "ok,0\nok,0\nok,0\nok,0\nok,0\nok,0\nok,0\nok,1\na,text,CwAAAAAAACOIAwDIAAAjWIA=\nok,0\nok,0\nok,1\na,text,CwAALwAAACOIAQBkAAAjGA==\n",
+        Status::AllAccepted,
+    )
+}
+
+#[test]
+fn offset_swallows_the_chain(rt: HostRuntime) -> Result<(), Fail> {
+    expect(
+        &rt,
+        "node,1,0,0\nnode,2,0,0.1\nnode,3,0,0.2\nline,10,1,2,0,1,150000\nline,20,2,3,0,1,1000\npath,a,0,0,20\nset-line,10,0,1,150001\nshow,a\n",
+        "ok,0\nok,0\nok,0\nok,0\nok,0\nok,1\na,text,CwAAAAASNAEAAQAAJxABEA==\nok,0\nok,1\na,text,CwAAAAASNAEAAQAAJxABEA==\n",
+        Status::AllAccepted,
+    )
+}
+
+/// A way round the second line of the base map's path, with a middle line of this length.
+fn expect_detour<R: Abort + AllocGlobal>(rt: &R, len: u32) -> Result<(), Fail> {
+    let records = format!(in rt.alloc();
+        "drop-line,99\nnode,6,6.129,49.604\nnode,7,6.129,49.6035\nline,60,2,6,4,3,700\nline,61,6,7,4,3,1000\nline,62,7,3,4,3,700\npath,a,1500,0,10,20,30\nset-line,61,4,3,{len}\nshow,a\n"
+    )?;
+    expect_on_base(
+        rt,
+        records.as_str(),
+        "ok,0\nok,0\nok,0\nok,0\nok,0\nok,0\nok,1\na,text,CwRbWyNG9RqsDgCG/d4rWS0=\nok,0\nok,1\na,text,CwRbWyNG9RpsCQCb/jsbtAT/6/+jK1lE\n",
+        Status::AllAccepted,
+    )
+}
+
+#[test]
+fn detour_off_the_path(rt: HostRuntime) -> Result<(), Fail> {
+    expect_detour(&rt, 100)
+}
+
+#[test]
+fn detour_equally_long(rt: HostRuntime) -> Result<(), Fail> {
+    expect_detour(&rt, 600)
+}
+
+#[test]
 fn unknown_line(rt: HostRuntime) -> Result<(), Fail> {
     expect(
         &rt,
