@@ -509,38 +509,3 @@ fn both_maps_agree(rt: HostRuntime) -> Result<(), Fail> {
     }
     Ok(())
 }
-
-/// Makes an edit twice if need be: a refused growth leaves the map as the other one is.
-fn take_or_try_again(rt: &impl Abort, alloc: Global, map: &mut RoadMap, twin: &RoadMap, seed: u64) {
-    for _ in 0..2 {
-        let Ok(edit) = edit_by(rt, alloc, seed) else {
-            continue;
-        };
-        match map.apply(edit) {
-            Ok(undo) => map.keep(undo),
-            Err(EditFault::Memory) => {
-                assert_alike(rt, map, twin);
-                continue;
-            }
-            Err(_) => {}
-        }
-        return;
-    }
-}
-
-/// Run with one growth refused after another: each leaves the map as it was.
-#[test]
-fn survives_refused_growths(rt: HostRuntime) {
-    let alloc = rt.alloc();
-    let mut map = RoadMap::new(alloc);
-    let mut twin = RoadMap::new(alloc);
-    let mut seed: u64 = 1;
-    for _ in 0..60 {
-        seed = seed
-            .wrapping_mul(6_364_136_223_846_793_005)
-            .wrapping_add(1_442_695_040_888_963_407);
-        take_or_try_again(&rt, alloc, &mut map, &twin, seed);
-        take_or_try_again(&rt, alloc, &mut twin, &map, seed);
-    }
-    assert_alike(&rt, &map, &twin);
-}
