@@ -79,6 +79,7 @@ impl RoadMap {
     ghost use Rattle.olr_spec.specs.Map.{MapFault, empty_map, edited, has_node, has_line};
     ghost use Rattle.olr_map.specs.Edits.{edit_of, fault_of};
     ghost use Rattle.olr_map.specs.Changes.{room_of, change_edit, HasRoom, IsWhole, IsWithin, CanMake, IsMade, made, room_after};
+    ghost use Rattle.olr_map.specs.Undos.{changes_of};
     ghost use Rattle.olr_map.specs.declared.change.Change.TheVariants.{PutNode, MoveNode, TakeNode, PutLine, SetLine, TakeLine};
     ghost use Rattle.olr_map.specs.RoadMaps.{map_of, CanUndo, map_undone, CanUndoAll, map_before};
 
@@ -341,6 +342,7 @@ impl RoadMap {
             ↔ (edited (map_of self.old) (edit_of edit) ≡ Err f) }
         ensures done { OnOk result (edited (map_of self.old) (edit_of edit) ≡ Ok (map_of self.new)) }
         ensures same { OnErr result (map_of self.new ≡ map_of self.old) }
+        ensures same_log { OnErr result (changes_of log.new ≡ changes_of log.old) }
         ensures can_undo { CanUndoAll self.new log.new }
         ensures before { map_before self.new log.new ≡ map_before self.old log.old }
     {
