@@ -10,7 +10,7 @@ pub mod line;
 mod links;
 pub mod plain_map;
 pub mod read;
-mod refusal;
+pub mod refusal;
 pub mod road_map;
 mod tables;
 #[cfg(test)]

@@ -27,6 +27,15 @@ fn node_place(nodes: &[NodeEntry], id: NodeId) -> Result<usize, usize>
     requires { IsStrictlyIncreasing (node_ids nodes.now) }
     ensures { Place (node_ids nodes.now) id result }
 {
+    if let Some(first) = nodes.first() {
+        // Where the numbers have no gaps this is the place.
+        let guess = id.number().saturating_sub(first.id.number()) as usize;
+        if let Some(entry) = nodes.get(guess)
+            && entry.id == id
+        {
+            return Ok(guess);
+        }
+    }
     nodes.binary_search_by_key(&id, |entry| entry.id)
 }
 
@@ -35,6 +44,15 @@ fn line_place(lines: &[LineEntry], id: LineId) -> Result<usize, usize>
     requires { IsStrictlyIncreasing (line_ids lines.now) }
     ensures { Place (line_ids lines.now) id result }
 {
+    if let Some(first) = lines.first() {
+        // Where the numbers have no gaps this is the place.
+        let guess = id.number().saturating_sub(first.id.number()) as usize;
+        if let Some(entry) = lines.get(guess)
+            && entry.id == id
+        {
+            return Ok(guess);
+        }
+    }
     lines.binary_search_by_key(&id, |entry| entry.id)
 }
 
