@@ -1,0 +1,7 @@
+pub mod NameLemmas
+pub mod StateLemmas
+pub mod ReplyLemmas
+pub mod CountLemmas
+pub mod HistoryLemmas
+pub mod OutcomeLemmas
+pub mod SomeLemmas

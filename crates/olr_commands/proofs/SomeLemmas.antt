@@ -1,0 +1,137 @@
+-- An accepted command has a reply.
+use Rattle.std.proofs.Common.{inl, inr, ◌⊎◌, ◌≡◌, ◌≢◌, ℕ, suc, true, false, not, List, [], ◌∷◌, length, Option, Some, None, is_some, Ok, IsTrue, refl, sym, ap, ◌∙◌, subst}
+use Rattle.std.specs.Prelude.{◌==◌}
+use Rattle.std.proofs.lemmas.Bool.{cases_Bool, both_ways, eqb-true, eqb-false}
+use lib.Pointwise.{bytes_decides}
+use Rattle.olr_spec.specs.Map.{Map, IsMap}
+use Rattle.olr_spec.specs.Extension.{Path, is_path}
+use Rattle.olr_spec.specs.Reference.{Reference}
+use Rattle.olr_spec.specs.Encoding.{Answer, Points, Refused, Refusal, Unknown_line, Broken, Offset_too_long, No_next_point, Encodes}
+use Rattle.olr_spec.specs.Bytes.{IsReference, spelling}
+use Rattle.olr_spec.proofs.DecideLemmas.{some_answer}
+use Rattle.olr_spec.proofs.FitLemmas.{encoded_fits}
+use Rattle.olr_spec.proofs.BytesLemmas.{one_spelled}
+use Rattle.olr_commands.specs.State.{Named, Content, path_named, same_name, ArePaths, IsContent, has_path, No_path, Change, Command, Make, Show, Report, Explain, Begin, Commit, Abort, HasPlaces, State, step, IsState}
+use Rattle.olr_commands.specs.Reply.{Entry, entry, Reply, Paths, Held, HasAnswer, AllOf, ChangedOf, Differences, Shown, IsHeld, IsReply}
+use Rattle.olr_commands.proofs.StateLemmas.{when_ok, steps_keep}
+use Rattle.olr_commands.proofs.ReplyLemmas.{named_path, one_has}
+
+-- ---- answers are the same, or not
+
+Is_or_not : {A : Type 0} → A → A → Type 0
+Is_or_not a b = (a ≡ b) ⊎ (a ≢ b)
+
+decide_by : {A B : Type 0} (f : A → B) (g : B → A) → ((a : A) → g (f a) ≡ a) → (a b : A) → Is_or_not (f a) (f b) → Is_or_not a b
+unfolding Is_or_not
+decide_by f g back a b (inl e) = inl (sym (back a) ∙ ap g e ∙ back b)
+decide_by f g back a b (inr n) = inr (λ e. n (ap f e))
+
+numbers_decide : (n m : ℕ) → Is_or_not n m
+unfolding Is_or_not
+numbers_decide n m = elim (cases_Bool (n == m)) [ inl t ↦ inl (eqb-true n m t) | inr f ↦ inr (eqb-false n m f) ]
+
+lists_decide : (xs ys : List ℕ) → Is_or_not xs ys
+unfolding Is_or_not
+lists_decide xs ys =
+    elim (cases_Bool (same_name xs ys)) [
+      | inl t ↦ inl ((bytes_decides xs ys).0 t)
+      | inr f ↦ inr (λ e. both_ways (same_name xs ys) f ((bytes_decides xs ys).1 e))
+    ]
+
+-- a refusal by its kind and its number
+refusals_decide : (x y : Refusal) → Is_or_not x y
+unfolding Is_or_not
+refusals_decide (Unknown_line n) (Unknown_line m) = elim (numbers_decide n m) [ inl e ↦ inl (ap (λ (k : ℕ). Unknown_line k) e) | inr ne ↦ inr (λ e. ne cc) ]
+refusals_decide (Broken n) (Broken m) = elim (numbers_decide n m) [ inl e ↦ inl (ap (λ (k : ℕ). Broken k) e) | inr ne ↦ inr (λ e. ne cc) ]
+refusals_decide (No_next_point n) (No_next_point m) = elim (numbers_decide n m) [ inl e ↦ inl (ap (λ (k : ℕ). No_next_point k) e) | inr ne ↦ inr (λ e. ne cc) ]
+refusals_decide Offset_too_long Offset_too_long = inl refl
+refusals_decide (Unknown_line n) (Broken m) = inr (λ e. absurd cc)
+refusals_decide (Unknown_line n) Offset_too_long = inr (λ e. absurd cc)
+refusals_decide (Unknown_line n) (No_next_point m) = inr (λ e. absurd cc)
+refusals_decide (Broken n) (Unknown_line m) = inr (λ e. absurd cc)
+refusals_decide (Broken n) Offset_too_long = inr (λ e. absurd cc)
+refusals_decide (Broken n) (No_next_point m) = inr (λ e. absurd cc)
+refusals_decide Offset_too_long (Unknown_line m) = inr (λ e. absurd cc)
+refusals_decide Offset_too_long (Broken m) = inr (λ e. absurd cc)
+refusals_decide Offset_too_long (No_next_point m) = inr (λ e. absurd cc)
+refusals_decide (No_next_point n) (Unknown_line m) = inr (λ e. absurd cc)
+refusals_decide (No_next_point n) (Broken m) = inr (λ e. absurd cc)
+refusals_decide (No_next_point n) Offset_too_long = inr (λ e. absurd cc)
+
+-- a reference by its spelling
+Fits : Answer → Type 0
+Fits (Points r) = IsReference r
+Fits (Refused f) = ◌≡◌ {A = Refusal} f f
+
+answers_decide : (A B : Answer) → Fits A → Fits B → Is_or_not A B
+unfolding Is_or_not Fits
+answers_decide (Points r) (Points q) f g =
+    elim (lists_decide (spelling r) (spelling q)) [
+      | inl e ↦ inl (ap (λ (x : Reference). Points x) (one_spelled r q f g e))
+      | inr ne ↦ inr (λ e. let same : r ≡ q = cc in ne (ap spelling same))
+    ]
+answers_decide (Refused x) (Refused y) f g = elim (refusals_decide x y) [ inl e ↦ inl (ap (λ (k : Refusal). Refused k) e) | inr ne ↦ inr (λ e. ne cc) ]
+answers_decide (Points r) (Refused y) f g = inr (λ e. absurd cc)
+answers_decide (Refused x) (Points q) f g = inr (λ e. absurd cc)
+
+answer_fits : (M : Map) → IsMap M → (P : Path) → IsTrue (is_path P.lines) → (A : Answer) → Encodes M P A → Fits A
+unfolding Fits
+answer_fits M m P i (Points r) e = encoded_fits M m P i r e
+answer_fits M m P i (Refused f) e = refl
+
+-- ---- replies
+
+-- whether a path had this answer
+had : (c : Content) → IsContent c → (name : List ℕ) (A : Answer) → Fits A → HasAnswer c name A ⊎ (¬ HasAnswer c name A)
+unfolding Is_or_not
+had c i name A f = by_path (path_named c.paths name) refl where
+  by_path : (o : Option Path) → path_named c.paths name ≡ o → HasAnswer c name A ⊎ (¬ HasAnswer c name A)
+  by_path None e = inr (λ h. absurd (let no : ◌≡◌ {A = Option Path} None (Some h.0) = sym e ∙ h.1 in cc))
+  by_path (Some P) e =
+      let sound = named_path c.paths name P i.paths e in
+      let some = some_answer c.map i.map P sound in
+      elim (answers_decide A some.0 f (answer_fits c.map i.map P sound some.0 some.1)) [
+        | inl same ↦ inl (P, e, subst (λ (B : Answer). Encodes c.map P B) (sym same) some.1)
+        | inr other ↦ inr (λ h. other (one_has c i name A some.0 h (P, e, some.1)))
+      ]
+
+some_changed : (c : Content) → IsContent c → (M : Map) → IsMap M → (ps : List Named) → ArePaths ps → (es : List Entry) × ChangedOf c M ps es
+some_changed c i M m [] a = ([], refl)
+some_changed c i M m (p ∷ ps) a =
+    let some = some_answer M m p.path a.0 in
+    let rest = some_changed c i M m ps a.1 in
+    elim (had c i p.name some.0 (answer_fits M m p.path a.0 some.0 some.1)) [
+      | inl h ↦ (rest.0, (some.0, rest.0, some.1, rest.1, inl (h, refl)))
+      | inr n ↦ (entry p.name some.0 ∷ rest.0, (some.0, rest.0, some.1, rest.1, inr (n, refl)))
+    ]
+
+some_all : (M : Map) → IsMap M → (ps : List Named) → ArePaths ps → (es : List Entry) × AllOf M ps es
+some_all M m [] a = ([], refl)
+some_all M m (p ∷ ps) a =
+    let some = some_answer M m p.path a.0 in
+    let rest = some_all M m ps a.1 in
+    (entry p.name some.0 ∷ rest.0, (some.0, rest.0, some.1, rest.1, refl))
+
+some_shown : (c : Content) → IsContent c → (name : List ℕ) → not (has_path c name) ≡ false → (es : List Entry) × Shown c name es
+some_shown c i name h = by_path (path_named c.paths name) refl where
+  by_path : (o : Option Path) → path_named c.paths name ≡ o → (es : List Entry) × Shown c name es
+  by_path None e = absurd (both_ways true (ap (λ (o : Option Path). not (is_some o)) (sym e) ∙ h) refl)
+  by_path (Some P) e =
+      let some = some_answer c.map i.map P (named_path c.paths name P i.paths e) in
+      (entry name some.0 ∷ [], (some.0, (P, e, some.1), refl))
+
+some_difference : (c d : Content) → IsContent c → IsContent d → (es : List Entry) × Differences c d es
+some_difference c d i j = some_changed c i d.map j.map d.paths j.paths
+
+some_held : (b : Option (List Change)) (c d : Content) → IsContent c → IsContent d → (reply : Reply) × IsHeld b c d reply
+some_held None c d i j = let es = some_difference c d i j in (Paths es.0, es.1)
+some_held (Some xs) c d i j = (Held (suc (length xs)), refl)
+
+pub some_reply : (s t : State) (c : Command) → IsState s → HasPlaces c → step s c ≡ Ok t → ((text : List ℕ) → c ≢ Explain text) → (reply : Reply) × IsReply s c t reply
+some_reply s t (Make x) i h is n = some_held s.batch s.content t.content i.content (steps_keep s t (Make x) i h is).content
+some_reply s t (Show name) i h is n = let es = some_shown s.content i.content name (when_ok (not (has_path s.content name)) No_path (Ok s) t is).0 in (Paths es.0, es.1)
+some_reply s t Report i h is n = let es = some_all s.content.map i.content.map s.content.paths i.content.paths in (Paths es.0, es.1)
+some_reply s t (Explain text) i h is n = absurd (n text refl)
+some_reply s t Begin i h is n = (Paths [], refl)
+some_reply s t (Commit count) i h is n = let es = some_difference s.content t.content i.content (steps_keep s t (Commit count) i h is).content in (Paths es.0, es.1)
+some_reply s t Abort i h is n = (Paths [], refl)

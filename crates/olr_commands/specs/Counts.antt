@@ -1,0 +1,49 @@
+-- By how much an accepted command raises the count of encodings.
+--     Concerns c xs p      the changes xs, made from the content c, concern the named path p
+--     CountIs P ps n      P holds of n of the elements
+--     Raises s c t n      the accepted command, which leads from s to t, raises the count by n
+use Rattle.std.specs.Prelude.{◌≡◌, ℕ, suc, List, [], ◌∷◌, ◌++◌, flat_map, ◌⊎◌, IsTrue}
+use Rattle.std.specs.List.{list_any}
+use Rattle.olr_spec.specs.Map.{Map, touched_nodes, touched_lines}
+use Rattle.olr_spec.specs.Extension.{has}
+use Rattle.olr_spec.specs.Footprint.{Foot}
+use Rattle.olr_commands.specs.State.{Named, Content, same_name, Change, On_map, Add_path, Set_path, next, State, Command, brought}
+
+-- the nodes and the lines that a change touches, and the path that it gives
+abbrev pub nodes_of : Map → Change → List ℕ
+nodes_of M (On_map e) = touched_nodes M e
+nodes_of M _ = []
+
+abbrev pub lines_of : Change → List ℕ
+lines_of (On_map e) = touched_lines e
+lines_of _ = []
+
+abbrev pub names_of : Change → List (List ℕ)
+names_of (Add_path name path) = name ∷ []
+names_of (Set_path name path) = name ∷ []
+names_of _ = []
+
+-- each change touches the nodes of the map that it finds
+abbrev pub all_nodes : Content → List Change → List ℕ
+all_nodes c [] = []
+all_nodes c (x ∷ xs) = nodes_of c.map x ++ all_nodes (next c x) xs
+
+abbrev pub all_lines : List Change → List ℕ
+all_lines xs = flat_map lines_of xs
+
+abbrev pub all_names : List Change → List (List ℕ)
+all_names xs = flat_map names_of xs
+
+-- a change gives the path, or touches a node of its footprint on the map before them all, or one of its lines
+pub data Concerns (c : Content) (xs : List Change) (p : Named) : Type 0 where
+  By_name : IsTrue (list_any (same_name p.name) (all_names xs)) → Concerns c xs p
+  By_node : (v : ℕ) → IsTrue (has (all_nodes c xs) v) → Foot c.map p.path v → Concerns c xs p
+  By_line : (x : ℕ) → IsTrue (has (all_lines xs) x) → IsTrue (has p.path.lines x) → Concerns c xs p
+
+abbrev pub CountIs : {A : Type 0} → (A → Type 0) → List A → ℕ → Type 0
+CountIs P [] n = n ≡ 0
+CountIs P (x ∷ xs) n = (P x × ((m : ℕ) × CountIs P xs m × (n ≡ suc m))) ⊎ ((¬ P x) × CountIs P xs n)
+
+-- each path of the later list that is concerned, once
+abbrev pub Raises : State → Command → State → ℕ → Type 0
+Raises s c t n = CountIs (Concerns s.content (brought s c)) t.content.paths n

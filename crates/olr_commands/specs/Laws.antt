@@ -1,0 +1,44 @@
+-- The laws of the definitions.
+use Rattle.std.specs.Prelude.{◌≡◌, ◌≢◌, ℕ, List, [], None, Ok, IsFalse}
+use Rattle.olr_spec.specs.Extension.{Path}
+use Rattle.olr_commands.specs.State.{Content, Add_path, Set_path, Make, State, Command, Explain, Begin, Commit, Abort, HasPlaces, IsState, step, brought}
+use Rattle.olr_commands.specs.Reply.{Reply, IsReply, Outcome, IsOutcome, lacks_memory}
+use Rattle.olr_commands.specs.Counts.{Raises}
+
+abbrev pub StepsKeep : Type 0
+StepsKeep = (s t : State) (c : Command) → IsState s → HasPlaces c → step s c ≡ Ok t → IsState t
+
+-- a command that is accepted has at most one reply
+abbrev pub OneReply : Type 0
+OneReply = (s t : State) (c : Command) (r q : Reply) → IsState s → IsState t → IsReply s c t r → IsReply s c t q → r ≡ q
+
+-- a batch that holds nothing leaves the content, and an abort the state from before begin
+abbrev pub EmptyCommit : Type 0
+EmptyCommit = (s t u : State) → step s Begin ≡ Ok t → step t (Commit 0) ≡ Ok u → u ≡ s
+
+abbrev pub AbortGivesBack : Type 0
+AbortGivesBack = (c : Content) (b u : State) → b.content ≡ c → step b Abort ≡ Ok u → u ≡ record { content = c; batch = None }
+
+-- the count rises by one number, and by none for the commands that bring nothing
+abbrev pub OneRise : Type 0
+OneRise = (s t : State) (c : Command) (n m : ℕ) → Raises s c t n → Raises s c t m → n ≡ m
+
+abbrev pub NoRise : Type 0
+NoRise = (s t : State) (c : Command) (n : ℕ) → brought s c ≡ [] → Raises s c t n → n ≡ 0
+
+-- want of memory aside, a command has one outcome
+abbrev pub OneOutcome : Type 0
+OneOutcome =
+    (s t u : State) (c : Command) (o q : Outcome) → IsState s → HasPlaces c → IsFalse (lacks_memory o) → IsFalse (lacks_memory q)
+    → IsOutcome s c o t → IsOutcome s c q u → (o ≡ q) × (t ≡ u)
+
+-- an accepted command has a reply; of explain that is what reading the bytes shows
+abbrev pub SomeReply : Type 0
+SomeReply = (s t : State) (c : Command) → IsState s → HasPlaces c → step s c ≡ Ok t → ((text : List ℕ) → c ≢ Explain text) → (reply : Reply) × IsReply s c t reply
+
+-- outside of batches an added or a set path raises it by one
+abbrev pub PathsRaiseOne : Type 0
+PathsRaiseOne =
+    (s t : State) (name : List ℕ) (path : Path) → IsState s → s.batch ≡ None
+    → (step s (Make (Add_path name path)) ≡ Ok t → Raises s (Make (Add_path name path)) t 1)
+    × (step s (Make (Set_path name path)) ≡ Ok t → Raises s (Make (Set_path name path)) t 1)

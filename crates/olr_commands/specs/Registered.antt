@@ -1,0 +1,36 @@
+-- A register as its callers see it, and what its calls promise of whole commands.
+--     Registered      what is held of the state, and the counts
+--     Applied old c o new      from each state in which it stood, the command leads with this outcome to one in which it stands
+--     Counted old c new      by how much an accepted command raises the count of encodings
+use Rattle.std.specs.Prelude.{◌≡◌, ℕ, ◌+◌, ◌<◌, ◌^◌, None}
+use Rattle.std.specs.Coded.{Coded, code_by, coded_ℕ, coded×}
+use Rattle.std.proofs.Common.{refl}
+use Rattle.olr_route.specs.declared.work.Work.{Work}
+use Rattle.olr_commands.specs.State.{State, no_content, Command}
+use Rattle.olr_commands.specs.Reply.{Outcome, IsOutcome}
+use Rattle.olr_commands.specs.Counts.{Raises}
+use Rattle.olr_commands.specs.Kept.{Kept, Stands, coded_kept}
+
+pub record Registered : Type 0 where
+  pub kept : Kept
+  pub work : Work
+
+abbrev pub coded_work : Coded Work
+coded_work =
+    code_by (ℕ × (ℕ × ℕ)) (coded× coded_ℕ (coded× coded_ℕ coded_ℕ)) (λ w. (w.encodings, (w.searches, w.settled)))
+    (λ t. record { encodings = t.0; searches = t.1.0; settled = t.1.1 }) (λ _. refl)
+
+abbrev pub coded_registered : Coded Registered
+coded_registered = code_by (Kept × Work) (coded× coded_kept coded_work) (λ r. (r.kept, r.work)) (λ t. record { kept = t.0; work = t.1 }) (λ _. refl)
+
+-- nothing is held, and nothing was counted
+abbrev pub nothing_registered : Registered
+nothing_registered = record { kept = record { content = no_content; batch = None }; work = record { encodings = 0; searches = 0; settled = 0 } }
+
+abbrev pub Applied : Registered → Command → Outcome → Registered → Type 0
+Applied old c o new = (s : State) → Stands old.kept s → (t : State) × Stands new.kept t × IsOutcome s c o t
+
+-- the number is given: each of two registers that stand in states of such a step raises by it
+abbrev pub Counted : Registered → Command → Registered → Type 0
+Counted old c new =
+    (s t : State) → Stands old.kept s → Stands new.kept t → (n : ℕ) × Raises s c t n × (old.work.encodings + n < 2 ^ 64 → new.work.encodings ≡ old.work.encodings + n)

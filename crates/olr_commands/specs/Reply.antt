@@ -1,0 +1,138 @@
+-- Replies, and the outcomes of a command.
+--     Entry, Reply      what an accepted command answers
+--     Published c name answer, PublishedText c name text      what stands published under a name
+--     IsReply s c t reply      the reply to an accepted command that leads from s to t
+--     IsOutcome s c outcome t      the command may lead from s to t with this reply, or this fault
+use Rattle.std.specs.Prelude.{◌≡◌, ℕ, suc, Bool, true, false, not, List, [], ◌∷◌, length, Option, Some, None, option_and_then, IsSomeAnd, MatchOption, Result, Ok, Err, ◌⊎◌, IsTrue}
+use Rattle.std.specs.Result.{result_ok}
+use Rattle.base64.specs.Engines.{standard}
+use Rattle.base64.specs.GeneralPurpose.{encode_of, decoded_of}
+use Rattle.olr_spec.specs.Map.{Map}
+use Rattle.olr_spec.specs.Extension.{Path}
+use Rattle.olr_spec.specs.Reference.{Reference}
+use Rattle.olr_spec.specs.Encoding.{Answer, Points, Refused, Refusal, Encodes}
+use Rattle.olr_spec.specs.Bytes.{spelling, Spells}
+use Rattle.olr_commands.specs.State.{Named, Content, path_named, Fault, Syntax, Range, Map_fault, Path_exists, No_path, Bad_path, Not_a_reference, Memory, Batch_open, No_batch, Count_differs, Batch_full, Change, State, Command, Make, Show, Report, Explain, Begin, Commit, Abort, step}
+
+-- the bytes of a reference in base64
+unfoldable pub text_of : Reference → List ℕ
+text_of r = encode_of standard (spelling r)
+
+-- a path's string, or why it has none
+pub record Entry : Type 0 where
+  pub name : List ℕ
+  pub published : Result (List ℕ) Refusal
+
+pub data Reply : Type 0 where
+  Paths : (entries : List Entry) → Reply
+  Fields : (reference : Reference) → Reply
+  Held : (count : ℕ) → Reply
+
+abbrev pub published : Answer → Result (List ℕ) Refusal
+published (Points r) = Ok (text_of r)
+published (Refused refusal) = Err refusal
+
+abbrev pub entry : List ℕ → Answer → Entry
+entry name answer = record { name = name; published = published answer }
+
+-- ---- what is published
+
+-- the path of that name has this answer on the map
+abbrev pub HasAnswer : Content → List ℕ → Answer → Type 0
+HasAnswer c name A = (P : Path) × (path_named c.paths name ≡ Some P) × Encodes c.map P A
+
+abbrev pub Published : Content → List ℕ → Option Answer → Type 0
+Published c name answer = MatchOption (path_named c.paths name) (answer ≡ None) (λ P. IsSomeAnd answer (λ A. Encodes c.map P A))
+
+-- its string, where it has one
+abbrev pub PublishedText : Content → List ℕ → Option (List ℕ) → Type 0
+PublishedText c name text = (answer : Option Answer) × Published c name answer × (text ≡ option_and_then (λ A. result_ok (published A)) answer)
+
+-- ---- replies
+
+-- each path with its answer
+abbrev pub AllOf : Map → List Named → List Entry → Type 0
+AllOf M [] es = es ≡ []
+AllOf M (p ∷ ps) es = (A : Answer) × (rest : List Entry) × Encodes M p.path A × AllOf M ps rest × (es ≡ entry p.name A ∷ rest)
+
+-- those that are new, or whose answer is another than before
+abbrev pub ChangedOf : Content → Map → List Named → List Entry → Type 0
+ChangedOf before M [] es = es ≡ []
+ChangedOf before M (p ∷ ps) es =
+    (A : Answer) × (rest : List Entry) × Encodes M p.path A × ChangedOf before M ps rest
+    × ((HasAnswer before p.name A × (es ≡ rest)) ⊎ ((¬ HasAnswer before p.name A) × (es ≡ entry p.name A ∷ rest)))
+
+abbrev pub Differences : Content → Content → List Entry → Type 0
+Differences before later es = ChangedOf before later.map later.paths es
+
+abbrev pub Shown : Content → List ℕ → List Entry → Type 0
+Shown c name es = (A : Answer) × HasAnswer c name A × (es ≡ entry name A ∷ [])
+
+-- the text is the base64 text of bytes that spell the reference
+abbrev pub Explained : List ℕ → Reference → Type 0
+Explained text r = (b : List ℕ) × (decoded_of standard text ≡ Some b) × Spells r b
+
+abbrev pub IsPaths : Reply → (List Entry → Type 0) → Type 0
+IsPaths (Paths es) P = P es
+IsPaths _ P = ⊥
+
+abbrev pub IsFields : Reply → (Reference → Type 0) → Type 0
+IsFields (Fields r) P = P r
+IsFields _ P = ⊥
+
+-- to a change in the batch that holds so many, or outside of batches
+abbrev pub IsHeld : Option (List Change) → Content → Content → Reply → Type 0
+IsHeld None before later reply = IsPaths reply (Differences before later)
+IsHeld (Some xs) before later reply = reply ≡ Held (suc (length xs))
+
+abbrev pub IsReply : State → Command → State → Reply → Type 0
+IsReply s (Make x) t reply = IsHeld s.batch s.content t.content reply
+IsReply s (Show name) t reply = IsPaths reply (Shown s.content name)
+IsReply s Report t reply = IsPaths reply (AllOf s.content.map s.content.paths)
+IsReply s (Explain text) t reply = IsFields reply (Explained text)
+IsReply s Begin t reply = reply ≡ Paths []
+IsReply s (Commit count) t reply = IsPaths reply (Differences s.content t.content)
+IsReply s Abort t reply = reply ≡ Paths []
+
+-- ---- outcomes
+
+-- a fault that is told before want of memory
+abbrev pub is_told_first : Fault → Bool
+is_told_first (Map_fault fault) = true
+is_told_first Path_exists = true
+is_told_first No_path = true
+is_told_first Batch_open = true
+is_told_first No_batch = true
+is_told_first Count_differs = true
+is_told_first Batch_full = true
+is_told_first Bad_path = false
+is_told_first (Not_a_reference fault) = false
+is_told_first Memory = false
+is_told_first Syntax = false
+is_told_first Range = false
+
+-- want of memory is an outcome where step has no such fault, but never of an abort
+abbrev pub may_want : Result State Fault → Bool
+may_want (Ok t) = true
+may_want (Err fault) = not (is_told_first fault)
+
+abbrev pub may_lack : State → Command → Bool
+may_lack s Abort = false
+may_lack s c = may_want (step s c)
+
+pub data IsRefusal (s : State) (c : Command) (fault : Fault) : Type 0 where
+  Told : step s c ≡ Err fault → IsRefusal s c fault
+  Lacks : fault ≡ Memory → IsTrue (may_lack s c) → IsRefusal s c fault
+
+abbrev pub Outcome : Type 0
+Outcome = Result Reply Fault
+
+-- a refused command leaves the state
+abbrev pub IsOutcome : State → Command → Outcome → State → Type 0
+IsOutcome s c (Ok reply) t = (step s c ≡ Ok t) × IsReply s c t reply
+IsOutcome s c (Err fault) t = IsRefusal s c fault × (t ≡ s)
+
+-- want of memory
+abbrev pub lacks_memory : Outcome → Bool
+lacks_memory (Err Memory) = true
+lacks_memory _ = false

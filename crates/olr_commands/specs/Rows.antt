@@ -1,0 +1,24 @@
+-- Worked values.
+use Rattle.std.specs.Prelude.{List, [], ◌∷◌, codes, pos, neg_ℤ, None, Some}
+use Rattle.olr_spec.specs.Reference.{Reference}
+use Rattle.olr_spec.specs.Rows.{reference1}
+use Rattle.olr_commands.specs.State.{no_content, State, Change, Add_path}
+
+-- the reference of the second worked path
+abbrev pub reference2 : Reference
+reference2 =
+    record {
+      first = reference1.first;
+      middle = [];
+      last = record { dlon = pos 155; dlat = neg_ℤ (pos 453); frc = 3; fow = 2; bearing = 28 };
+      pos = None;
+      neg = None;
+    }
+
+-- a state with a batch that holds these
+abbrev pub in_batch : List Change → State
+in_batch xs = record { content = no_content; batch = Some xs }
+
+-- a path of one line, under the name a
+abbrev pub path_a : Change
+path_a = Add_path (codes "a") (record { lines = 10 ∷ []; pos = 0; neg = 0 })

@@ -1,0 +1,30 @@
+//! The laws of states, replies and counts, and the claims on whole runs.
+ghost use Rattle.olr_commands.specs.History;
+ghost use Rattle.olr_commands.specs.Laws;
+
+/// What commands keep, and that a reply is determined.
+pub fn laws_of_states()
+    ensures kept { Laws.StepsKeep }
+    ensures one_reply { Laws.OneReply }
+    ensures empty { Laws.EmptyCommit }
+    ensures abort { Laws.AbortGivesBack }
+    ensures one_outcome { Laws.OneOutcome }
+    ensures some_reply { Laws.SomeReply }
+{}
+
+/// The count of encodings rises by one number.
+pub fn laws_of_counts()
+    ensures one { Laws.OneRise }
+    ensures none { Laws.NoRise }
+    ensures paths { Laws.PathsRaiseOne }
+{}
+
+/// The claims on whole runs of commands.
+pub fn claims()
+    ensures published { History.PublishedAnswers }
+    ensures joined { History.RoutesOfReferences }
+    ensures named { History.RepliesName }
+    ensures told { History.RepliesTell }
+    ensures no_differences { History.NoDifferences }
+    ensures refused { History.RefusedChangeNothing }
+{}
