@@ -1,0 +1,56 @@
+-- A list of named paths, each with what is published of it.
+--     Made      an answer and its footprint.        IsMade M P m      they are those of the path on the map
+--     Item      a name, its path and, where it was encoded, what was made.        items l      those of a list
+--     AreMade M is      each path was encoded, and rightly for the map
+use Rattle.std.specs.Prelude.{◌≡◌, ℕ, List, [], ◌∷◌, map, Contains, if◌then◌else◌, Option, Some, None, option_map, string_bytes, ◌↔◌, ⊤}
+use Rattle.olr_spec.specs.Map.{Map}
+use Rattle.olr_spec.specs.Extension.{Path}
+use Rattle.olr_spec.specs.Encoding.{Answer, Encodes}
+use Rattle.olr_spec.specs.Footprint.{Foot}
+use Rattle.olr_refs.specs.Answers.{answer_of}
+use Rattle.olr_commands.specs.State.{Named, same_name}
+use Rattle.olr_paths.specs.declared.published.Published.{Published as Encoded}
+use Rattle.olr_paths.specs.declared.listing.Listing.{Listing}
+
+pub record Made : Type 0 where
+  pub answer : Answer
+  pub nodes : List ℕ
+
+pub record Item : Type 0 where
+  pub name : List ℕ
+  pub path : Path
+  pub made : Option Made
+
+-- ---- what Rust keeps, as these
+
+abbrev pub made_of : Encoded → Made
+made_of p = record { answer = answer_of p.answer; nodes = p.footprint }
+
+abbrev pub items : Listing → List Item
+items l = map (λ e. record { name = string_bytes e.0; path = e.1.path.value; made = option_map (λ p. made_of p.value) e.1.published }) l.paths.entries
+
+-- ---- what is right on a map
+
+pub record IsMade (M : Map) (P : Path) (m : Made) : Type 0 where
+  pub answer : Encodes M P m.answer
+  pub nodes : (v : ℕ) → Contains m.nodes v ↔ Foot M P v
+
+abbrev pub AreMade : Map → List Item → Type 0
+AreMade M [] = ⊤
+AreMade M (i ∷ is) = ((m : Made) × (i.made ≡ Some m) × IsMade M i.path m) × AreMade M is
+
+-- ---- the list as the register's definitions see it
+
+abbrev pub named : Item → Named
+named i = record { name = i.name; path = i.path }
+
+abbrev pub all_named : List Item → List Named
+all_named is = map named is
+
+-- what was made of the path of that name
+abbrev pub made_in : List Item → List ℕ → Option Made
+made_in [] name = None
+made_in (i ∷ is) name = if same_name i.name name then i.made else made_in is name
+
+abbrev pub answer_in : List Item → List ℕ → Option Answer
+answer_in is name = option_map (λ m. m.answer) (made_in is name)

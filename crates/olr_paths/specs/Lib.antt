@@ -1,0 +1,4 @@
+pub mod Items
+pub mod Changes
+pub mod Touching
+pub mod Renewing

@@ -1,0 +1,46 @@
+//! The entries of replies.
+ghost use Rattle.std.specs.Prelude.{◌≡◌, IfOk};
+ghost use Rattle.olr_commands.specs.Reply.{entry};
+ghost use Rattle.olr_commands.specs.Words.{entry_of};
+
+use crate::listing::Listing;
+use olr_commands::Entry;
+use std::alloc::{AllocError, Global};
+
+impl Listing {
+    ghost use Rattle.std.specs.Prelude.{◌≡◌, [], Some, map, IfOk};
+    ghost use Rattle.olr_spec.specs.Encoding.{Answer};
+    ghost use Rattle.olr_paths.specs.Items.{items, answer_in};
+    ghost use Rattle.olr_paths.specs.Changes.{AreEncoded, Reported};
+
+    /// The entry of the path of that name, which was encoded.
+    pub fn entry(&self, alloc: Global, name: &str) -> Result<Entry, AllocError>
+        requires encoded { (A : Answer) × (answer_in (items self.now) name.now ≡ Some A) }
+        ensures { IfOk result (λ e. (A : Answer) × (answer_in (items self.now) name.now ≡ Some A)
+            × (entry_of e ≡ entry name.now A)) }
+    {
+        match self.published(name) {
+            Some(published) => published.entry(alloc, name),
+            None => unreachable!(),
+        }
+    }
+
+    /// The entries of all paths, in order. Each of them was encoded.
+    pub fn entries(&self, alloc: Global) -> Result<Vec<Entry>, AllocError>
+        requires encoded { AreEncoded (items self.now) }
+        ensures { IfOk result (λ es. Reported [] (items self.now) (map entry_of es.items)) }
+    {
+        let count = self.paths.len();
+        let mut entries = Vec::with_capacity(alloc, count)?;
+        for k in 0..count {
+            let Some((name, named)) = self.paths.get_index(k) else {
+                unreachable!()
+            };
+            let Some(published) = &named.published else {
+                unreachable!()
+            };
+            entries.push(published.entry(alloc, name.as_str())?)?;
+        }
+        Ok(entries)
+    }
+}

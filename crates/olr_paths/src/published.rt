@@ -1,0 +1,71 @@
+//! What is published of a path.
+ghost use Rattle.std.specs.Prelude.{◌≡◌, option_map, string_bytes};
+ghost use Rattle.std.specs.Result.{result_ok};
+ghost use Rattle.olr_refs.specs.Answers.{answer_of};
+ghost use Rattle.olr_commands.specs.Reply.{published};
+
+use olr_commands::Entry;
+use olr_map::Footprint;
+use olr_refs::Answer;
+use std::alloc::{AllocError, Global};
+
+/// A path's answer, its text and its footprint.
+#[derive(Drop, Debug)]
+pub struct Published {
+    pub(crate) answer: Answer,
+    pub(crate) text: Option<String>,
+    pub(crate) footprint: Footprint,
+    ghost spelled: { option_map string_bytes text ≡ result_ok (published (answer_of answer)) },
+}
+
+impl Published {
+    ghost use Rattle.std.specs.Prelude.{◌↔◌, IsTrue, IfOk};
+    ghost use Rattle.olr_commands.specs.Reply.{entry};
+    ghost use Rattle.olr_commands.specs.Words.{entry_of};
+    ghost use Rattle.olr_paths.specs.Items.{made_of};
+
+    /// The answer.
+    pub fn answer(&self) -> &Answer
+        ensures { answer_of result.now ≡ (made_of self.now).answer }
+    {
+        &self.answer
+    }
+
+    /// The text of the reference. None where the path has none.
+    pub fn text(&self) -> Option<&str>
+        ensures { option_map (λ t. t.now) result ≡ result_ok (published (made_of self.now).answer) }
+    {
+        self.text.as_deref()
+    }
+
+    /// Whether the other has the same answer, by their texts or their refusals.
+    pub fn has_answer_of(&self, other: &Published) -> bool
+        ensures { IsTrue result ↔ ((made_of self.now).answer ≡ (made_of other.now).answer) }
+    {
+        match (&self.answer, &other.answer) {
+            (Answer::Points(one), Answer::Points(another)) => {
+                let (_, _) = (one.pos, another.pos);
+                self.text() == other.text()
+            }
+            (Answer::Refused(one), Answer::Refused(another)) => one == another,
+            _ => false,
+        }
+    }
+
+    /// What a reply says of it under a name: the text, or the refusal.
+    pub fn entry(&self, alloc: Global, name: &str) -> Result<Entry, AllocError>
+        ensures { IfOk result (λ e. entry_of e ≡ entry name.now (made_of self.now).answer) }
+    {
+        let published = match &self.answer {
+            Answer::Points(_) => match self.text() {
+                Some(text) => Ok(String::from_str(alloc, text)?),
+                None => unreachable!(),
+            },
+            Answer::Refused(refusal) => Err(*refusal),
+        };
+        Ok(Entry {
+            name: String::from_str(alloc, name)?,
+            published,
+        })
+    }
+}

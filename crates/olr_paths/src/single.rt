@@ -1,0 +1,107 @@
+//! Paths that are added or set one at a time, and encoded at once.
+ghost use Rattle.std.specs.Prelude.{◌≡◌, ◌≢◌, ◌+◌, ◌^◌, ◌<◌, ◌⊎◌, [], ◌∷◌, ◌++◌, false, Some, map as list_map, is_some, string_bytes, option_map, IfOk, OnOk, OnErr};
+ghost use Rattle.olr_spec.specs.Encoding.{Answer};
+ghost use Rattle.olr_commands.specs.State.{path_named};
+ghost use Rattle.olr_commands.specs.Reply.{entry};
+ghost use Rattle.olr_commands.specs.Words.{entry_of};
+ghost use Rattle.olr_paths.specs.Items.{Made, IsMade, items, made_of, all_named, answer_in};
+ghost use Rattle.olr_paths.specs.Changes.{set_item};
+
+use crate::encoding::publish;
+use crate::listing::{Listing, NamedPath};
+use crate::published::Published;
+use olr_commands::Entry;
+use olr_map::MapRead;
+use olr_refs::Path;
+use olr_route::Work;
+use std::alloc::{AllocError, Global};
+use std::rc::Rc;
+
+impl Listing {
+    /// Encodes a path and puts it last. The reply names it. After a refusal list and work are as before.
+    pub fn add<M: MapRead>(
+        &mut self,
+        alloc: Global,
+        map: &M,
+        name: String,
+        path: Path,
+        work: &mut Work,
+    ) -> Result<Vec<Entry>, AllocError>
+        requires { is_some (path_named (all_named (items self.old)) (string_bytes name)) ≡ false }
+        ensures added { IfOk result (λ es. (m : Made) × IsMade (M.map map.now) path m
+            × (items self.new ≡ items self.old ++ record { name = string_bytes name; path = path; made = Some m } ∷ [])
+            × (list_map entry_of es.items ≡ entry (string_bytes name) m.answer ∷ [])) }
+        ensures counted { OnOk result
+            (work.old.encodings + 1 < 2 ^ 64 → work.new.encodings ≡ work.old.encodings + 1) }
+        ensures err { OnErr result (items self.new ≡ items self.old) }
+        ensures err_work { OnErr result (work.new ≡ work.old) }
+    {
+        let mut tried = *work;
+        let published = publish(alloc, map, &path, &mut tried)?;
+        let mut entries = Vec::with_capacity(alloc, 1)?;
+        entries.push(published.entry(alloc, name.as_str())?)?;
+        let named = NamedPath {
+            path: Rc::new(alloc, path)?,
+            published: Some(Rc::new(alloc, published)?),
+        };
+        self.put_last(name, named)?;
+        *work = tried;
+        Ok(entries)
+    }
+
+    /// Encodes another path under a name. It keeps its place, and the reply names it if its answer is another than before.
+    /// After a refusal list and work are as before.
+    pub fn set<M: MapRead>(
+        &mut self,
+        alloc: Global,
+        map: &M,
+        name: &str,
+        path: Path,
+        work: &mut Work,
+    ) -> Result<Vec<Entry>, AllocError>
+        requires { (A : Answer) × (answer_in (items self.old) name.now ≡ Some A) }
+        ensures set { IfOk result (λ es. (m : Made) × IsMade (M.map map.now) path m
+            × (items self.new ≡ list_map (set_item name.now path (Some m)) (items self.old))
+            × (((answer_in (items self.old) name.now ≡ Some m.answer) × (list_map entry_of es.items ≡ []))
+            ⊎ ((answer_in (items self.old) name.now ≢ Some m.answer)
+            × (list_map entry_of es.items ≡ entry name.now m.answer ∷ [])))) }
+        ensures counted { OnOk result
+            (work.old.encodings + 1 < 2 ^ 64 → work.new.encodings ≡ work.old.encodings + 1) }
+        ensures err { OnErr result (items self.new ≡ items self.old) }
+        ensures err_work { OnErr result (work.new ≡ work.old) }
+    {
+        let mut tried = *work;
+        let published = publish(alloc, map, &path, &mut tried)?;
+        let entries = self.told_if_other(alloc, name, &published)?;
+        let named = NamedPath {
+            path: Rc::new(alloc, path)?,
+            published: Some(Rc::new(alloc, published)?),
+        };
+        self.put_other(name, named);
+        *work = tried;
+        Ok(entries)
+    }
+
+    /// The entry of what is to be published under a name, unless the answer there is the same already.
+    fn told_if_other(
+        &self,
+        alloc: Global,
+        name: &str,
+        published: &Published,
+    ) -> Result<Vec<Entry>, AllocError>
+        ensures { IfOk result (λ es.
+            ((answer_in (items self.now) name.now ≡ Some (made_of published.now).answer) × (list_map entry_of es.items ≡ []))
+            ⊎ ((answer_in (items self.now) name.now ≢ Some (made_of published.now).answer)
+            × (list_map entry_of es.items ≡ entry name.now (made_of published.now).answer ∷ []))) }
+    {
+        let same = match self.published(name) {
+            Some(before) => before.has_answer_of(published),
+            None => false,
+        };
+        let mut entries = Vec::new(alloc);
+        if !same {
+            entries.push(published.entry(alloc, name)?)?;
+        }
+        Ok(entries)
+    }
+}

@@ -1,0 +1,103 @@
+//! What changes of a map touched.
+ghost use Rattle.std.specs.Prelude.{◌≡◌, ◌==◌, ◌||◌, ◌+◌, ◌≤◌, ℕ, vec_len, vec_capacity};
+ghost use Rattle.std.specs.List.Sorted.{IsStrictlyIncreasing};
+ghost use Rattle.olr_spec.specs.Extension.{has};
+
+use olr_map::{LineId, NodeId};
+use std::alloc::{AllocError, Global};
+
+/// The nodes and the lines that edits touched, each once, rising.
+#[derive(Drop, Debug)]
+pub struct Touched {
+    pub(crate) nodes: Vec<NodeId>,
+    pub(crate) lines: Vec<LineId>,
+    ghost nodes_rise: { IsStrictlyIncreasing nodes.items },
+    ghost lines_rise: { IsStrictlyIncreasing lines.items },
+}
+
+impl Touched {
+    ghost use Rattle.std.specs.Prelude.{◌≡◌, ◌==◌, ◌||◌, ℕ, [], OnOk, OnErr, IsTrue, Some};
+    ghost use Rattle.std.specs.Option.{option_to_list};
+    ghost use Rattle.olr_spec.specs.Extension.{has};
+    ghost use Rattle.olr_paths.specs.Touching.{nodes_of, lines_of, HasRoom};
+
+    /// Nothing touched. Takes no memory.
+    pub fn new(alloc: Global) -> Touched
+        ensures nodes { nodes_of result ≡ [] }
+        ensures lines { lines_of result ≡ [] }
+    {
+        Touched {
+            nodes: Vec::new(alloc),
+            lines: Vec::new(alloc),
+        }
+    }
+
+    /// Makes room for what one more edit touches.
+    pub fn reserve(&mut self) -> Result<(), AllocError>
+        ensures nodes { nodes_of self.new ≡ nodes_of self.old }
+        ensures lines { lines_of self.new ≡ lines_of self.old }
+        ensures room { OnOk result (HasRoom self.new) }
+    {
+        self.nodes.reserve(2)?;
+        self.lines.reserve(1)
+    }
+
+    /// Notes two nodes, which may be the same, and a line. Takes no memory.
+    pub fn note(&mut self, nodes: (NodeId, NodeId), line: Option<LineId>)
+        requires { HasRoom self.old }
+        ensures nodes { (v : ℕ) → has (nodes_of self.new) v ≡ (has (nodes_of self.old) v || ((nodes.0 == v) || (nodes.1 == v))) }
+        ensures lines { (x : ℕ) → has (lines_of self.new) x ≡ (has (lines_of self.old) x || has (option_to_list line) x) }
+    {
+        put_node(&mut self.nodes, nodes.0);
+        put_node(&mut self.nodes, nodes.1);
+        if let Some(line) = line {
+            put_line(&mut self.lines, line);
+        }
+    }
+
+    /// Whether the node was touched, by binary search.
+    pub fn has_node(&self, node: NodeId) -> bool
+        ensures { result ≡ has (nodes_of self.now) node }
+    {
+        self.nodes.binary_search(&node).is_ok()
+    }
+
+    /// Whether the line was touched, by binary search.
+    pub fn has_line(&self, line: LineId) -> bool
+        ensures { result ≡ has (lines_of self.now) line }
+    {
+        self.lines.binary_search(&line).is_ok()
+    }
+}
+
+/// Puts a node among rising ones, unless it is there. Takes no memory.
+fn put_node(nodes: &mut Vec<NodeId>, node: NodeId)
+    requires rise { IsStrictlyIncreasing nodes.old.items }
+    requires room { vec_len nodes.old + 1 ≤ vec_capacity nodes.old }
+    ensures rise { IsStrictlyIncreasing nodes.new.items }
+    ensures holds { (v : ℕ) → has nodes.new.items v ≡ (has nodes.old.items v || (node == v)) }
+    ensures len { vec_len nodes.new ≤ vec_len nodes.old + 1 }
+    ensures capacity { vec_capacity nodes.old ≤ vec_capacity nodes.new }
+{
+    if let Err(place) = nodes.binary_search(&node) {
+        match nodes.insert(place, node) {
+            Ok(()) => (),
+            Err(_) => unreachable!(),
+        }
+    }
+}
+
+/// Puts a line among rising ones, unless it is there. Takes no memory.
+fn put_line(lines: &mut Vec<LineId>, line: LineId)
+    requires rise { IsStrictlyIncreasing lines.old.items }
+    requires room { vec_len lines.old + 1 ≤ vec_capacity lines.old }
+    ensures rise { IsStrictlyIncreasing lines.new.items }
+    ensures holds { (x : ℕ) → has lines.new.items x ≡ (has lines.old.items x || (line == x)) }
+{
+    if let Err(place) = lines.binary_search(&line) {
+        match lines.insert(place, line) {
+            Ok(()) => (),
+            Err(_) => unreachable!(),
+        }
+    }
+}
