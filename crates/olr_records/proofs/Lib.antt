@@ -1,0 +1,4 @@
+pub mod FieldLemmas
+pub mod LoopLemmas
+pub mod RowLemmas
+pub mod TextLemmas

@@ -1,0 +1,93 @@
+-- Items of a record, read one after another.
+--     onto x y      those of x, and then those of y
+use Rattle.std.proofs.Common.{◌≡◌, ℕ, suc, ◌+◌, ◌<◌, ◌≤◌, List, [], ◌∷◌, ◌++◌, length, drop, Ok, Err, refl, sym, ap, ◌∙◌, append_assoc, drop-cons, arith}
+use Rattle.std.specs.Prelude.{slice_index_or}
+use Rattle.std.proofs.lemmas.List.{append-nil, drop_all, length-drop}
+use Rattle.olr_spec.specs.Map.{ShapePoint}
+use Rattle.olr_records.specs.Records.{Field, Read, Bad_form, Out_of_range, ◌⊛◌, number, numbers, point, shape}
+
+abbrev pub onto : {A : Type 0} → Read (List A) → Read (List A) → Read (List A)
+onto x y = Ok (λ xs ys. xs ++ ys) ⊛ x ⊛ y
+
+pub onto-nothing : {A : Type 0} (x : Read (List A)) → onto x (Ok []) ≡ x
+onto-nothing (Ok xs) = ap (λ ys. Ok ys) (append-nil xs)
+onto-nothing (Err f) = refl
+
+pub nothing-onto : {A : Type 0} (y : Read (List A)) → onto (Ok []) y ≡ y
+nothing-onto (Ok ys) = refl
+nothing-onto (Err f) = refl
+
+pub onto-bad : {A : Type 0} (x : Read (List A)) → onto x (Err Bad_form) ≡ Err Bad_form
+onto-bad (Ok xs) = refl
+onto-bad (Err Bad_form) = refl
+onto-bad (Err Out_of_range) = refl
+
+-- an item more
+onto_more : {A : Type 0} (x : Read (List A)) (p : Read A) (y : Read (List A))
+    → onto (Ok (λ ts t. ts ++ t ∷ []) ⊛ x ⊛ p) y ≡ onto x (Ok (λ t ts. t ∷ ts) ⊛ p ⊛ y)
+onto_more (Ok xs) (Ok a) (Ok ys) = ap (λ zs. Ok zs) (append_assoc xs (a ∷ []) ys)
+onto_more (Ok xs) (Ok a) (Err f) = refl
+onto_more (Ok xs) (Err f) (Ok ys) = refl
+onto_more (Ok xs) (Err f) (Err g) = refl
+onto_more (Err f) (Ok a) (Ok ys) = refl
+onto_more (Err f) (Ok a) (Err g) = refl
+onto_more (Err f) (Err g) (Ok ys) = refl
+onto_more (Err Bad_form) (Err g) (Err h) = refl
+onto_more (Err Out_of_range) (Err g) (Err h) = refl
+
+-- what has been read, and one item more
+abbrev pub with : {A : Type 0} → Read (List A) → Read A → Read (List A)
+with x p = Ok (λ ts t. ts ++ t ∷ []) ⊛ x ⊛ p
+
+-- the field at a place
+abbrev pub at : List Field → ℕ → Field
+at fs k = slice_index_or fs k []
+
+short : (fs : List Field) → 0 < length fs → length fs < 3 → shape fs ≡ Err Bad_form
+short [] some few = absurd (omega arith)
+short (a ∷ []) some few = refl
+short (a ∷ b ∷ []) some few = refl
+short (a ∷ b ∷ c ∷ fs) some few = absurd (omega arith)
+
+module _ (fs : List Field) (k : ℕ) where
+  numbers_next : k < length fs → numbers (drop k fs) ≡ Ok (λ x xs. x ∷ xs) ⊛ number (at fs k) ⊛ numbers (drop (k + 1) fs)
+  numbers_next lt =
+      let n : suc k ≡ k + 1 = omega arith in
+      ap (λ (r : List Field). numbers r) (drop-cons fs k [] lt ∙ ap (λ (i : ℕ). at fs k ∷ drop i fs) n)
+
+  pub numbers-more : (x w : Read (List ℕ)) → k < length fs → onto x (numbers (drop k fs)) ≡ w → onto (with x (number (at fs k))) (numbers (drop (k + 1) fs)) ≡ w
+  numbers-more x w lt e =
+      onto_more x (number (at fs k)) (numbers (drop (k + 1) fs)) ∙ ap (λ y. onto x y) (sym (numbers_next lt)) ∙ e
+
+  pub numbers-end : (x w : Read (List ℕ)) → length fs ≤ k → onto x (numbers (drop k fs)) ≡ w → x ≡ w
+  numbers-end x w past e = sym (onto-nothing x) ∙ ap (λ y. onto x (numbers y)) (sym (drop_all k fs past)) ∙ e
+
+  -- three fields, and those after them
+  three : k + 3 ≤ length fs → drop k fs ≡ at fs k ∷ at fs (k + 1) ∷ at fs (k + 2) ∷ drop (k + 3) fs
+  three few =
+      let a = drop-cons fs k [] (omega arith) in
+      let b = drop-cons fs (k + 1) [] (omega arith) in
+      let c = drop-cons fs (k + 2) [] (omega arith) in
+      let m : suc k ≡ k + 1 = omega arith in
+      let n : suc (k + 1) ≡ k + 2 = omega arith in
+      let o : suc (k + 2) ≡ k + 3 = omega arith in
+      a ∙ ap (λ (i : ℕ). at fs k ∷ drop i fs) m ∙ ap (λ (r : List Field). at fs k ∷ r) b ∙ ap (λ (i : ℕ). at fs k ∷ at fs (k + 1) ∷ drop i fs) n
+      ∙ ap (λ (r : List Field). at fs k ∷ at fs (k + 1) ∷ r) c ∙ ap (λ (i : ℕ). at fs k ∷ at fs (k + 1) ∷ at fs (k + 2) ∷ drop i fs) o
+
+  over : k < length fs → length fs < k + 3 → shape (drop k fs) ≡ Err Bad_form
+  over some few = short (drop k fs) (omega (arith, length-drop k fs)) (omega (arith, length-drop k fs))
+
+  shape_next : k + 3 ≤ length fs → shape (drop k fs) ≡ Ok (λ p ps. p ∷ ps) ⊛ point (at fs k) (at fs (k + 1)) (at fs (k + 2)) ⊛ shape (drop (k + 3) fs)
+  shape_next few = rw (three few) refl
+
+  pub shape-more : (x w : Read (List ShapePoint)) → k + 3 ≤ length fs → onto x (shape (drop k fs)) ≡ w
+      → onto (with x (point (at fs k) (at fs (k + 1)) (at fs (k + 2)))) (shape (drop (k + 3) fs)) ≡ w
+  shape-more x w few e =
+      onto_more x (point (at fs k) (at fs (k + 1)) (at fs (k + 2))) (shape (drop (k + 3) fs)) ∙ ap (λ y. onto x y) (sym (shape_next few)) ∙ e
+
+  pub shape-end : (x w : Read (List ShapePoint)) → length fs ≤ k → onto x (shape (drop k fs)) ≡ w → x ≡ w
+  shape-end x w past e = sym (onto-nothing x) ∙ ap (λ y. onto x (shape y)) (sym (drop_all k fs past)) ∙ e
+
+  -- one or two fields over
+  pub shape-over : (x w : Read (List ShapePoint)) → k < length fs → length fs < k + 3 → onto x (shape (drop k fs)) ≡ w → w ≡ Err Bad_form
+  shape-over x w some few e = sym e ∙ ap (λ y. onto x y) (over some few) ∙ onto-bad x

@@ -1,0 +1,46 @@
+-- Rows by the places of their fields.
+use Rattle.std.proofs.Common.{◌≡◌, ◌≤◌, Bool, true, false, List, [], ◌∷◌, length, drop, Ok, Err, refl, sym, subst, arith}
+use Rattle.std.specs.Prelude.{IsUtf8}
+use Rattle.std.specs.List.{list_all}
+use Rattle.std.proofs.lemmas.Bool.{and_parts}
+use Rattle.std.proofs.lemmas.Slice.Eq.{bytes_eq-Decides}
+use Rattle.olr_spec.specs.Map.{Add_line}
+use Rattle.olr_commands.specs.State.{same_name, Command}
+use Rattle.olr_records.specs.Records.{Field, Read, Bad_form, ◌⊛◌, number, place, node_fields, course, whole_line, line_row, rows, read_by, read}
+use Rattle.olr_records.proofs.FieldLemmas.{is_low, low-text}
+use Rattle.olr_records.proofs.LoopLemmas.{at}
+
+pub line-row : (fs : List Field) → 7 ≤ length fs
+    → line_row (drop 1 fs) ≡ Ok (λ x l. Add_line x l) ⊛ number (at fs 1) ⊛ whole_line (at fs 2) (at fs 3) (course (at fs 4) (at fs 5) (at fs 6) (drop 7 fs))
+line-row [] h = absurd (omega arith)
+line-row (a ∷ []) h = absurd (omega arith)
+line-row (a ∷ b ∷ []) h = absurd (omega arith)
+line-row (a ∷ b ∷ c ∷ []) h = absurd (omega arith)
+line-row (a ∷ b ∷ c ∷ d ∷ []) h = absurd (omega arith)
+line-row (a ∷ b ∷ c ∷ d ∷ e ∷ []) h = absurd (omega arith)
+line-row (a ∷ b ∷ c ∷ d ∷ e ∷ f ∷ []) h = absurd (omega arith)
+line-row (a ∷ b ∷ c ∷ d ∷ e ∷ f ∷ g ∷ fs) h = refl
+
+pub node-fields : (fs : List Field) → length fs ≡ 4 → node_fields (drop 1 fs) ≡ Ok (λ x p. (x, p)) ⊛ number (at fs 1) ⊛ place (at fs 2) (at fs 3)
+node-fields [] h = absurd (omega arith)
+node-fields (a ∷ []) h = absurd (omega arith)
+node-fields (a ∷ b ∷ []) h = absurd (omega arith)
+node-fields (a ∷ b ∷ c ∷ []) h = absurd (omega arith)
+node-fields (a ∷ b ∷ c ∷ d ∷ []) h = refl
+node-fields (a ∷ b ∷ c ∷ d ∷ e ∷ fs) h = absurd (omega arith)
+
+-- a word that is no text begins no row
+module _ (word : Field) (other : ¬ IsUtf8 word) (fs : List Field) where
+  differs : (w : Field) → list_all is_low w ≡ true → (b : Bool) → same_name word w ≡ b → b ≡ false
+  differs w low false e = refl
+  differs w low true e = absurd (other (subst IsUtf8 (sym ((bytes_eq-Decides word w).0 e)) (low-text w low)))
+
+  no_row : (rs : List (Field × (List Field → Read Command))) → list_all (λ r. list_all is_low r.0) rs ≡ true → read_by rs word fs ≡ Err Bad_form
+  no_row [] h = refl
+  no_row (r ∷ rs) h =
+      let p = and_parts (list_all is_low r.0) (list_all (λ q. list_all is_low q.0) rs) h in
+      rw (differs r.0 p.0 (same_name word r.0) refl) (no_row rs p.1)
+
+pub no-word : (fs : List Field) → ¬ IsUtf8 (at fs 0) → read fs ≡ Err Bad_form
+no-word [] other = refl
+no-word (word ∷ fs) other = no_row word other fs rows refl

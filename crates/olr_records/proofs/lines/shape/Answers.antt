@@ -1,0 +1,37 @@
+use Rattle.std.proofs.Common.{ℕ, ◌+◌, ◌≤◌, List, [], drop, length, Ok, ap, sym, subst, arith}
+use Rattle.csv.specs.Records.{fields_of}
+use Rattle.olr_spec.specs.Map.{ShapePoint}
+use Rattle.olr_records.specs.Records.{Read, point, shape}
+use Rattle.olr_records.specs.Words.{Reads}
+use Rattle.olr_records.proofs.LoopLemmas.{at, with, nothing-onto, shape-more, shape-over}
+use Rattle.olr_records.proofs.lines.shape.Goals as goal
+
+pub loop-k-init : goal.loop-k-init
+loop-k-init c = record {
+  within = c.requires;
+  gathered = (Ok [], ap (λ (xs : List ShapePoint). Ok xs) (sym c.new.ensures.items), nothing-onto (shape (drop c.args.start (fields_of c.args.row.now))));
+}
+
+pub loop-k-preserved : goal.loop-k-preserved
+loop-k-preserved c =
+    let fs = fields_of c.args.row.now in
+    let k : ℕ = c.loop-k.k in
+    let x = c.loop-k.invariant.gathered.0 in
+    let one = point (at fs k) (at fs (k + 1)) (at fs (k + 2)) in
+    let few : k + 3 ≤ length fs = omega arith in
+    let read = subst (λ (q : Read ShapePoint). Reads (λ p. p) q c.shape_point-point.result)
+    (λ i. point (c.field.ensures i) (c.field-in-loop-k.ensures i) (c.field-in-loop-k-2.ensures i)) c.shape_point-point.ensures
+    in
+    record {
+      within = few;
+      gathered = (
+        with x one,
+        c.pushed-points.ensures x one c.loop-k.invariant.gathered.1 read,
+        shape-more fs k x (shape (drop c.args.start fs)) few c.loop-k.invariant.gathered.2,
+      );
+    }
+
+pub returns-then-k-len : goal.returns-then-k-len
+returns-then-k-len c =
+    let fs = fields_of c.args.row.now in
+    shape-over fs c.loop-k.k c.loop-k.invariant.gathered.0 (shape (drop c.args.start fs)) (omega arith) (omega arith) c.loop-k.invariant.gathered.2

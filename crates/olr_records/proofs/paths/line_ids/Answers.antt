@@ -1,0 +1,26 @@
+use Rattle.std.proofs.Common.{ℕ, List, [], drop, Ok, ap, sym, subst, arith}
+use Rattle.csv.specs.Records.{fields_of}
+use Rattle.olr_records.specs.Records.{Field, Read, number, numbers}
+use Rattle.olr_records.specs.Words.{Reads}
+use Rattle.olr_records.proofs.LoopLemmas.{at, with, nothing-onto, numbers-more, numbers-end}
+use Rattle.olr_records.proofs.paths.line_ids.Goals as goal
+
+pub loop-k-init : goal.loop-k-init
+loop-k-init c = (Ok [], ap (λ (xs : List ℕ). Ok xs) (sym c.new.ensures.items), nothing-onto (numbers (drop 4 (fields_of c.args.row.now))))
+
+pub loop-k-preserved : goal.loop-k-preserved
+loop-k-preserved c =
+    let fs = fields_of c.args.row.now in
+    let x = c.loop-k.invariant.0 in
+    let one = number (at fs c.loop-k.k) in
+    let read = subst (λ (f : Field). Reads (λ n. n) (number f) c.line_id.result) c.field.ensures c.line_id.ensures in (
+      with x one,
+      c.pushed-ids.ensures x one c.loop-k.invariant.1 read,
+      numbers-more fs c.loop-k.k x (numbers (drop 4 fs)) (omega arith) c.loop-k.invariant.2,
+    )
+
+pub returns : goal.returns
+returns c =
+    let fs = fields_of c.args.row.now in
+    subst (λ (x : Read (List ℕ)). Reads (λ v. v.items) x c.loop-k.ids)
+    (numbers-end fs c.loop-k.k c.loop-k.invariant.0 (numbers (drop 4 fs)) (omega arith) c.loop-k.invariant.2) c.loop-k.invariant.1

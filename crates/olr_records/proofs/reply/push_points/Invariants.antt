@@ -1,0 +1,7 @@
+use Rattle.std.proofs.Common.{◌≡◌, ◌++◌, map, take}
+use Rattle.std.specs.List.{concat}
+use Rattle.olr_records.specs.ReplyText.{middle_line}
+use Rattle.olr_records.proofs.reply.push_points.Given as goal
+
+abbrev pub invariant-loop-point : goal.invariant-loop-point
+invariant-loop-point l = l.text.items ≡ l.initial.text.items ++ concat (map middle_line (take l.point-index l.points))

@@ -1,0 +1,3 @@
+pub mod Records
+pub mod ReplyText
+pub mod Words

@@ -1,0 +1,176 @@
+-- What command the fields of a record read as.
+--     Read A      a value, or why there is none.        g ⊛ r      both read: where neither is, Syntax is told before Range
+--     digits low high f, longitude f, latitude f, name f      a field as a number, a coordinate or a name
+--     read fields      the command
+use Rattle.std.specs.Prelude.{ℕ, Bool, ◌&&◌, ◌||◌, List, [], ◌∷◌, length, nat_le, ◌==◌, ℤ, Option, Some, None, Result, Ok, Err, codes, if◌then◌else◌}
+use Rattle.std.specs.List.{list_all}
+use Rattle.std.specs.Char.{is_ascii_alphanumeric}
+use Rattle.olr_spec.specs.Coordinates.{Coord, is_longitude, is_latitude}
+use Rattle.olr_spec.specs.Degrees.{are_digits, digits_value, degrees}
+use Rattle.olr_spec.specs.Map.{ShapePoint, Line, Edit, Add_node, Move_node, Drop_node, Add_line, Set_line, Drop_line}
+use Rattle.olr_spec.specs.Extension.{Path}
+use Rattle.olr_commands.specs.State.{same_name, Fault, Syntax, Range, Change, On_map, Add_path, Set_path, Drop_path, Command, Make, Show, Report, Explain, Begin, Commit, Abort}
+
+-- the fields of a record, or one field, by their bytes
+abbrev pub Field : Type 0
+Field = List ℕ
+
+pub data ReadFault : Type 0 where
+  Bad_form Out_of_range : ReadFault
+
+abbrev pub Read : Type 0 → Type 0
+Read A = Result A ReadFault
+
+-- of two faults the one that is told
+abbrev pub worse : ReadFault → ReadFault → ReadFault
+worse Bad_form f = Bad_form
+worse Out_of_range f = f
+
+infixl 60 ◌⊛◌
+abbrev pub ◌⊛◌ : {A B : Type 0} → Read (A → B) → Read A → Read B
+◌⊛◌ (Ok g) (Ok a) = Ok (g a)
+◌⊛◌ (Ok g) (Err f) = Err f
+◌⊛◌ (Err f) (Ok a) = Err f
+◌⊛◌ (Err f) (Err h) = Err (worse f h)
+
+abbrev pub bounded : {A : Type 0} → Bool → A → Read A
+bounded b a = if b then Ok a else Err Out_of_range
+
+-- ---- fields
+
+-- one or more digits, of a value from low to high
+abbrev pub digits : ℕ → ℕ → Field → Read ℕ
+digits low high f =
+    if are_digits f then bounded (nat_le low (digits_value f) && nat_le (digits_value f) high) (digits_value f) else Err Bad_form
+
+-- the greatest number of 32 bits
+abbrev pub max32 : ℕ
+max32 = 4294967295
+
+abbrev pub number : Field → Read ℕ
+number f = digits 1 max32 f
+
+abbrev pub amount : Field → Read ℕ
+amount f = digits 0 max32 f
+
+abbrev pub class : Field → Read ℕ
+class f = digits 0 7 f
+
+abbrev pub coordinate : (ℤ → Bool) → Option ℤ → Read ℤ
+coordinate test None = Err Bad_form
+coordinate test (Some z) = bounded (test z) z
+
+abbrev pub longitude : Field → Read ℤ
+longitude f = coordinate is_longitude (degrees f)
+
+abbrev pub latitude : Field → Read ℤ
+latitude f = coordinate is_latitude (degrees f)
+
+abbrev pub place : Field → Field → Read Coord
+place lon lat = Ok (λ x y. record { lon = x; lat = y }) ⊛ longitude lon ⊛ latitude lat
+
+-- a letter, a digit, `-`, `_` or `.`
+abbrev pub is_name_byte : ℕ → Bool
+is_name_byte c = is_ascii_alphanumeric c || (c == 45) || (c == 95) || (c == 46)
+
+-- 1 to 64 such bytes
+abbrev pub is_name : Field → Bool
+is_name f = nat_le 1 (length f) && nat_le (length f) 64 && list_all is_name_byte f
+
+abbrev pub name : Field → Read (List ℕ)
+name f = if is_name f then Ok f else Err Bad_form
+
+abbrev pub numbers : List Field → Read (List ℕ)
+numbers [] = Ok []
+numbers (f ∷ fs) = Ok (λ x xs. x ∷ xs) ⊛ number f ⊛ numbers fs
+
+-- a distance and a place
+abbrev pub point : Field → Field → Field → Read ShapePoint
+point at lon lat = Ok (λ x p. record { at = x; place = p }) ⊛ digits 1 999999 at ⊛ place lon lat
+
+-- fields in threes
+abbrev pub shape : List Field → Read (List ShapePoint)
+shape [] = Ok []
+shape (at ∷ []) = Err Bad_form
+shape (at ∷ lon ∷ []) = Err Bad_form
+shape (at ∷ lon ∷ lat ∷ fs) = Ok (λ p ps. p ∷ ps) ⊛ point at lon lat ⊛ shape fs
+
+-- ---- rows
+
+abbrev pub edit : Read Edit → Read Command
+edit e = Ok (λ x. Make (On_map x)) ⊛ e
+
+-- a row of one field, and of none
+abbrev pub one : {A B : Type 0} → (A → B) → (Field → Read A) → List Field → Read B
+one g read (f ∷ []) = Ok g ⊛ read f
+one g read _ = Err Bad_form
+
+abbrev pub none : Command → List Field → Read Command
+none c [] = Ok c
+none c _ = Err Bad_form
+
+-- a node and its place
+abbrev pub node_fields : List Field → Read (ℕ × Coord)
+node_fields (node ∷ lon ∷ lat ∷ []) = Ok (λ x p. (x, p)) ⊛ number node ⊛ place lon lat
+node_fields _ = Err Bad_form
+
+abbrev pub node_row : (ℕ → Coord → Edit) → List Field → Read Edit
+node_row g fs = Ok (λ p. g p.0 p.1) ⊛ node_fields fs
+
+abbrev pub line : ℕ → ℕ → ℕ → ℕ → ℕ → List ShapePoint → Line
+line from to frc fow len shape = record { from = from; to = to; frc = frc; fow = fow; len = len; shape = shape }
+
+-- what a line has beside its ends
+abbrev pub course : Field → Field → Field → List Field → Read (ℕ × ℕ × ℕ × List ShapePoint)
+course frc fow len fs = Ok (λ a b c d. (a, b, c, d)) ⊛ class frc ⊛ class fow ⊛ digits 1 1000000 len ⊛ shape fs
+
+abbrev pub whole_line : Field → Field → Read (ℕ × ℕ × ℕ × List ShapePoint) → Read Line
+whole_line from to rest = Ok (λ a b c. line a b c.0 c.1 c.2 c.3) ⊛ number from ⊛ number to ⊛ rest
+
+abbrev pub line_row : List Field → Read Edit
+line_row (x ∷ from ∷ to ∷ frc ∷ fow ∷ len ∷ fs) = Ok (λ x l. Add_line x l) ⊛ number x ⊛ whole_line from to (course frc fow len fs)
+line_row _ = Err Bad_form
+
+abbrev pub set_line_row : List Field → Read Edit
+set_line_row (x ∷ frc ∷ fow ∷ len ∷ fs) = Ok (λ x c. Set_line x c.0 c.1 c.2 c.3) ⊛ number x ⊛ course frc fow len fs
+set_line_row _ = Err Bad_form
+
+-- a name, two offsets and the lines
+abbrev pub path_fields : List Field → Read (List ℕ × Path)
+path_fields (n ∷ pos ∷ neg ∷ fs) = Ok (λ n p q ls. (n, record { lines = ls; pos = p; neg = q })) ⊛ name n ⊛ amount pos ⊛ amount neg ⊛ numbers fs
+path_fields _ = Err Bad_form
+
+abbrev pub path_row : (List ℕ → Path → Change) → List Field → Read Command
+path_row g fs = Ok (λ p. Make (g p.0 p.1)) ⊛ path_fields fs
+
+-- by the first field, how the fields after it read
+abbrev pub rows : List (Field × (List Field → Read Command))
+rows =
+    (codes "node", λ fs. edit (node_row Add_node fs))
+    ∷ (codes "move", λ fs. edit (node_row Move_node fs))
+    ∷ (codes "drop-node", λ fs. edit (one Drop_node number fs))
+    ∷ (codes "line", λ fs. edit (line_row fs))
+    ∷ (codes "set-line", λ fs. edit (set_line_row fs))
+    ∷ (codes "drop-line", λ fs. edit (one Drop_line number fs))
+    ∷ (codes "path", λ fs. path_row Add_path fs)
+    ∷ (codes "repath", λ fs. path_row Set_path fs)
+    ∷ (codes "drop-path", λ fs. one (λ n. Make (Drop_path n)) name fs)
+    ∷ (codes "show", λ fs. one Show name fs)
+    ∷ (codes "report", λ fs. none Report fs)
+    ∷ (codes "explain", λ fs. one Explain (λ f. Ok f) fs)
+    ∷ (codes "begin", λ fs. none Begin fs)
+    ∷ (codes "commit", λ fs. one Commit amount fs)
+    ∷ (codes "abort", λ fs. none Abort fs)
+    ∷ []
+
+abbrev pub read_by : List (Field × (List Field → Read Command)) → Field → List Field → Read Command
+read_by [] word fs = Err Bad_form
+read_by (r ∷ rs) word fs = if same_name word r.0 then r.1 fs else read_by rs word fs
+
+abbrev pub read : List Field → Read Command
+read [] = Err Bad_form
+read (word ∷ fs) = read_by rows word fs
+
+abbrev pub read_fault : ReadFault → Fault
+read_fault Bad_form = Syntax
+read_fault Out_of_range = Range

@@ -1,0 +1,107 @@
+-- The bytes of replies and faults. Each line ends with a line feed, and its fields have commas between them.
+--     reply_text r, fault_text f, outcome_text o
+use Rattle.std.specs.Prelude.{ℕ, List, [], ◌∷◌, ◌++◌, map, length, Option, Some, None, Result, Ok, Err, codes, decimal}
+use Rattle.std.specs.List.{join_with_byte, concat}
+use Rattle.std.specs.Fmt.{signed_decimal}
+use Rattle.olr_spec.specs.Map.{MapFault, Node_exists, No_node, Line_exists, No_line, Node_in_use, Bad_shape}
+use Rattle.olr_spec.specs.Reference.{Attrs, First, Middle, Last, Reference}
+use Rattle.olr_spec.specs.Encoding.{Refusal, Unknown_line, Broken, Offset_too_long, No_next_point}
+use Rattle.olr_spec.specs.Bytes.{V3Fault, Length, Flags, Reserved}
+use Rattle.olr_spec.specs.Bytes as b
+use Rattle.olr_commands.specs.State.{TextFault, Not_base64, Not_v3, Fault, Syntax, Range, Map_fault, Path_exists, No_path, Bad_path, Not_a_reference, Memory, Batch_open, No_batch, Count_differs, Batch_full}
+use Rattle.olr_commands.specs.Reply.{Entry, Reply, Paths, Fields, Held, Outcome}
+
+-- each field after a comma
+abbrev pub after_commas : List (List ℕ) → List ℕ
+after_commas [] = []
+after_commas (f ∷ fs) = 44 ∷ (f ++ after_commas fs)
+
+abbrev pub line : List (List ℕ) → List ℕ
+line fields = join_with_byte 44 fields ++ 10 ∷ []
+
+-- ---- entries
+
+abbrev pub refusal_fields : Refusal → List (List ℕ)
+refusal_fields (Unknown_line x) = codes "1" ∷ decimal x ∷ []
+refusal_fields (Broken k) = codes "2" ∷ decimal k ∷ []
+refusal_fields Offset_too_long = codes "3" ∷ []
+refusal_fields (No_next_point k) = codes "4" ∷ decimal k ∷ []
+
+abbrev pub published_fields : Result (List ℕ) Refusal → List (List ℕ)
+published_fields (Ok text) = codes "text" ∷ text ∷ []
+published_fields (Err refusal) = codes "refused" ∷ refusal_fields refusal
+
+abbrev pub entry_line : Entry → List ℕ
+entry_line e = line (e.name ∷ published_fields e.published)
+
+-- ---- fields of a reference
+
+abbrev pub attr_fields : Attrs → List (List ℕ)
+attr_fields a = decimal a.frc ∷ decimal a.fow ∷ decimal a.lfrc ∷ decimal a.bearing ∷ decimal a.dnp ∷ []
+
+abbrev pub first_line : First → List ℕ
+first_line p = line (codes "first" ∷ signed_decimal p.lon ∷ signed_decimal p.lat ∷ attr_fields p.attrs)
+
+abbrev pub middle_line : Middle → List ℕ
+middle_line p = line (codes "middle" ∷ signed_decimal p.dlon ∷ signed_decimal p.dlat ∷ attr_fields p.attrs)
+
+abbrev pub last_line : Last → List ℕ
+last_line p = line (codes "last" ∷ signed_decimal p.dlon ∷ signed_decimal p.dlat ∷ decimal p.frc ∷ decimal p.fow ∷ decimal p.bearing ∷ [])
+
+-- a byte, where there is an offset
+abbrev pub offset_lines : List ℕ → Option ℕ → List (List ℕ)
+offset_lines word None = []
+offset_lines word (Some n) = line (word ∷ decimal n ∷ []) ∷ []
+
+abbrev pub reference_lines : Reference → List (List ℕ)
+reference_lines r =
+    first_line r.first ∷ (map middle_line r.middle ++ last_line r.last ∷ (offset_lines (codes "positive") r.pos ++ offset_lines (codes "negative") r.neg))
+
+-- ---- replies
+
+-- their number, and the lines
+abbrev pub accepted : List (List ℕ) → List ℕ
+accepted lines = line (codes "ok" ∷ decimal (length lines) ∷ []) ++ concat lines
+
+abbrev pub reply_text : Reply → List ℕ
+reply_text (Paths es) = accepted (map entry_line es)
+reply_text (Fields r) = accepted (reference_lines r)
+reply_text (Held n) = line (codes "held" ∷ decimal n ∷ [])
+
+-- ---- faults
+
+abbrev pub fault_line : ℕ → List ℕ → List (List ℕ) → List ℕ
+fault_line n word more = line (codes "fault" ∷ decimal n ∷ word ∷ more)
+
+abbrev pub cause : TextFault → ℕ
+cause (Not_v3 Length) = 1
+cause (Not_v3 b.Status) = 2
+cause (Not_v3 Flags) = 3
+cause (Not_v3 Reserved) = 4
+cause Not_base64 = 6
+
+abbrev pub map_fault_text : MapFault → List ℕ
+map_fault_text Node_exists = fault_line 3 (codes "NodeExists") []
+map_fault_text No_node = fault_line 4 (codes "NoNode") []
+map_fault_text Line_exists = fault_line 5 (codes "LineExists") []
+map_fault_text No_line = fault_line 6 (codes "NoLine") []
+map_fault_text Node_in_use = fault_line 7 (codes "NodeInUse") []
+map_fault_text Bad_shape = fault_line 8 (codes "BadShape") []
+
+abbrev pub fault_text : Fault → List ℕ
+fault_text Syntax = fault_line 1 (codes "Syntax") []
+fault_text Range = fault_line 2 (codes "Range") []
+fault_text (Map_fault fault) = map_fault_text fault
+fault_text Path_exists = fault_line 9 (codes "PathExists") []
+fault_text No_path = fault_line 10 (codes "NoPath") []
+fault_text Bad_path = fault_line 11 (codes "BadPath") []
+fault_text (Not_a_reference fault) = fault_line 12 (codes "NotAReference") (decimal (cause fault) ∷ [])
+fault_text Memory = fault_line 13 (codes "Memory") []
+fault_text Batch_open = fault_line 14 (codes "BatchOpen") []
+fault_text No_batch = fault_line 15 (codes "NoBatch") []
+fault_text Count_differs = fault_line 16 (codes "CountDiffers") []
+fault_text Batch_full = fault_line 17 (codes "BatchFull") []
+
+abbrev pub outcome_text : Outcome → List ℕ
+outcome_text (Ok reply) = reply_text reply
+outcome_text (Err fault) = fault_text fault

@@ -1,0 +1,39 @@
+-- What is read of a record, as Rust's values say it.
+--     Reads view x r      r is what x reads, seen by `view`; want of memory may come whatever the record says
+--     IsRead x r      the same of a command
+--     worse_fault f g      of two faults the one that is told.        both r s      what two parts of a record read as
+--     read_fault_of f      the fault that a record's own fault is told as
+use Rattle.std.specs.Prelude.{◌≡◌, Result, Ok, Err, ⊤}
+use Rattle.olr_commands.specs.State as state
+use Rattle.olr_commands.specs.Words.{command_of}
+use Rattle.olr_commands.specs.declared.command.Command.{Command}
+use Rattle.olr_records.specs.Records.{Read, Bad_form, Out_of_range}
+use Rattle.olr_records.specs.declared.faults.ReadFault.{ReadFault}
+use Rattle.olr_records.specs.declared.faults.ReadFault.TheVariants.{Syntax, Range, Memory}
+
+abbrev pub Reads : {A B : Type 0} → (A → B) → Read B → Result A ReadFault → Type 0
+Reads view x (Ok a) = x ≡ Ok (view a)
+Reads view x (Err Syntax) = x ≡ Err Bad_form
+Reads view x (Err Range) = x ≡ Err Out_of_range
+Reads view x (Err Memory) = ⊤
+
+abbrev pub IsRead : Read state.Command → Result Command ReadFault → Type 0
+IsRead x r = Reads command_of x r
+
+-- want of memory, or else Syntax before Range
+abbrev pub worse_fault : ReadFault → ReadFault → ReadFault
+worse_fault Memory g = Memory
+worse_fault Syntax Memory = Memory
+worse_fault Syntax g = Syntax
+worse_fault Range g = g
+
+abbrev pub both : {A B : Type 0} → Result A ReadFault → Result B ReadFault → Result (A × B) ReadFault
+both (Ok a) (Ok b) = Ok (a, b)
+both (Ok a) (Err f) = Err f
+both (Err f) (Ok b) = Err f
+both (Err f) (Err g) = Err (worse_fault f g)
+
+abbrev pub read_fault_of : ReadFault → state.Fault
+read_fault_of Syntax = state.Syntax
+read_fault_of Range = state.Range
+read_fault_of Memory = state.Memory

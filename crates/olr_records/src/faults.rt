@@ -1,0 +1,108 @@
+//! Why a record is no command, and the texts of refusals.
+ghost use Rattle.std.specs.Prelude.{◌≡◌};
+ghost use Rattle.olr_commands.specs.Words.{fault_of, map_fault_of, text_fault_of};
+ghost use Rattle.olr_records.specs.ReplyText as texts;
+ghost use Rattle.olr_records.specs.Words.{read_fault_of};
+
+use olr_binary::{TextFault, V3Fault};
+use olr_commands::CommandFault;
+use olr_map::EditFault;
+use std::alloc::{AllocError, AllocFailed};
+use thiserror::Error;
+
+/// Why a record is no command.
+#[derive(Clone, Copy, Debug, PartialEq, Eq, Error)]
+pub enum ReadFault {
+    /// It has the form of no command.
+    #[error("Syntax")]
+    Syntax,
+    /// It has the form of a command, and a value out of bounds.
+    #[error("Range")]
+    Range,
+    /// There was no memory to read it.
+    #[error("Memory")]
+    Memory,
+}
+
+impl From<AllocError> for ReadFault {
+    ghost use Rattle.std.specs.Prelude.{◌≡◌};
+    ghost use Rattle.olr_records.specs.declared.faults.ReadFault.TheVariants.{Memory};
+
+    ghost from_gives = { λ _ fault. fault ≡ Memory };
+
+    fn from(_error: AllocError) -> ReadFault {
+        ReadFault::Memory
+    }
+}
+
+impl<T: Drop> From<AllocFailed<T>> for ReadFault {
+    ghost use Rattle.std.specs.Prelude.{◌≡◌};
+    ghost use Rattle.olr_records.specs.declared.faults.ReadFault.TheVariants.{Memory};
+
+    ghost from_gives = { λ _ fault. fault ≡ Memory };
+
+    fn from(_error: AllocFailed<T>) -> ReadFault {
+        ReadFault::Memory
+    }
+}
+
+/// The line of want of memory, which has one number wherever it was told.
+const MEMORY: &str = "fault,13,Memory\n";
+
+/// The line of a refused command. It takes no memory, so that want of memory can be told too.
+pub fn fault_text(fault: CommandFault) -> &'static str
+    ensures { result.now ≡ texts.fault_text (fault_of fault) }
+{
+    match fault {
+        CommandFault::Map(fault) => map_fault_text(fault),
+        CommandFault::PathExists => "fault,9,PathExists\n",
+        CommandFault::NoPath => "fault,10,NoPath\n",
+        CommandFault::BadPath => "fault,11,BadPath\n",
+        CommandFault::NotAReference(fault) => text_fault_text(fault),
+        CommandFault::Memory => MEMORY,
+        CommandFault::BatchOpen => "fault,14,BatchOpen\n",
+        CommandFault::NoBatch => "fault,15,NoBatch\n",
+        CommandFault::CountDiffers => "fault,16,CountDiffers\n",
+        CommandFault::BatchFull => "fault,17,BatchFull\n",
+    }
+}
+
+/// The line of an edit that the map refuses.
+fn map_fault_text(fault: EditFault) -> &'static str
+    ensures { result.now ≡ texts.fault_text (map_fault_of fault) }
+{
+    match fault {
+        EditFault::NodeExists => "fault,3,NodeExists\n",
+        EditFault::NoNode => "fault,4,NoNode\n",
+        EditFault::LineExists => "fault,5,LineExists\n",
+        EditFault::NoLine => "fault,6,NoLine\n",
+        EditFault::NodeInUse => "fault,7,NodeInUse\n",
+        EditFault::BadShape => "fault,8,BadShape\n",
+        EditFault::Memory => MEMORY,
+    }
+}
+
+/// The line of a text that is no reference, with the number of its cause.
+fn text_fault_text(fault: TextFault) -> &'static str
+    ensures { result.now ≡ texts.fault_text (text_fault_of fault) }
+{
+    match fault {
+        TextFault::Bytes(V3Fault::Length) => "fault,12,NotAReference,1\n",
+        TextFault::Bytes(V3Fault::Status) => "fault,12,NotAReference,2\n",
+        TextFault::Bytes(V3Fault::Flags) => "fault,12,NotAReference,3\n",
+        TextFault::Bytes(V3Fault::Reserved) => "fault,12,NotAReference,4\n",
+        TextFault::Bytes(V3Fault::Memory) => MEMORY,
+        TextFault::NotBase64 => "fault,12,NotAReference,6\n",
+    }
+}
+
+/// The line of a record that is no command. It takes no memory.
+pub fn read_fault_text(fault: ReadFault) -> &'static str
+    ensures { result.now ≡ texts.fault_text (read_fault_of fault) }
+{
+    match fault {
+        ReadFault::Syntax => "fault,1,Syntax\n",
+        ReadFault::Range => "fault,2,Range\n",
+        ReadFault::Memory => MEMORY,
+    }
+}

@@ -1,0 +1,208 @@
+//! The fields of a record, each read by its form and then by its bounds.
+ghost use Rattle.std.specs.Prelude.{◌≡◌, ◌≤◌, [], IsTrue, IfOk, IfSome, is_some, slice_index_or, string_bytes};
+ghost use Rattle.std.specs.Char.{is_ascii_digit};
+ghost use Rattle.std.specs.List.{list_all};
+ghost use Rattle.csv.specs.Records.{fields_of};
+ghost use Rattle.olr_spec.specs.Degrees.{are_digits};
+ghost use Rattle.olr_spec.specs.Degrees as text_of;
+ghost use Rattle.olr_spec.specs.Coordinates.{is_longitude, is_latitude};
+ghost use Rattle.olr_coords.specs.Bounds.{is_degrees};
+ghost use Rattle.olr_records.specs.Records as records;
+ghost use Rattle.olr_records.specs.Words.{Reads};
+
+use crate::faults::ReadFault;
+use crate::parts::both;
+use csv::ByteRecord;
+use olr_coords::{Coord, CoordFault, read_degrees};
+use olr_map::{LineId, NodeId, Shape};
+use std::alloc::Global;
+
+/// The greatest functional road class, and the greatest form of way.
+const GREATEST_CLASS: u32 = 7;
+/// The greatest length of a line, in decimetres.
+const GREATEST_LENGTH: u32 = 1_000_000;
+/// The greatest distance of a shape point from the line's begin, in decimetres.
+const GREATEST_DISTANCE: u32 = 999_999;
+/// The most bytes of a name.
+const LONGEST_NAME: usize = 64;
+
+/// The field at place `k`, or no bytes past the last one.
+pub(crate) fn field(row: &ByteRecord, k: usize) -> &[u8]
+    ensures { result.now ≡ slice_index_or (fields_of row.now) k [] }
+{
+    match row.get(k) {
+        Some(field) => field,
+        None => &[],
+    }
+}
+
+/// Whether a field is one or more digits.
+fn are_digits(field: &[u8]) -> bool
+    ensures { result ≡ are_digits field.now }
+{
+    !field.is_empty() && has_only_digits(field)
+}
+
+/// Whether each byte is a digit.
+fn has_only_digits(field: &[u8]) -> bool
+    ensures { result ≡ list_all is_ascii_digit field.now }
+{
+    field.iter().all(|byte| byte.is_ascii_digit())
+}
+
+/// The field as a text, where it is one or more digits.
+fn numeral(field: &[u8]) -> Option<&str>
+    ensures form { is_some result ≡ are_digits field.now }
+    ensures same { IfSome result (λ text. text.now ≡ field.now) }
+{
+    if !are_digits(field) {
+        return None;
+    }
+    match std::str::from_utf8(field) {
+        Ok(text) => Some(text),
+        Err(_) => None,
+    }
+}
+
+/// One or more digits, of a value from `low` to `high`. Leading zeros are accepted.
+pub(crate) fn number(field: &[u8], low: u32, high: u32) -> Result<u32, ReadFault>
+    ensures reads { Reads (λ n. n) (records.digits low high field.now) result }
+    ensures within { IfOk result (λ n. (low ≤ n) × (n ≤ high)) }
+{
+    let Some(digits) = numeral(field) else {
+        return Err(ReadFault::Syntax);
+    };
+    let Ok(value) = digits.parse::<u32>() else {
+        return Err(ReadFault::Range);
+    };
+    if low <= value && value <= high {
+        Ok(value)
+    } else {
+        Err(ReadFault::Range)
+    }
+}
+
+/// The number of a node.
+pub(crate) fn node_id(field: &[u8]) -> Result<NodeId, ReadFault>
+    ensures { Reads (λ n. n) (records.number field.now) result }
+{
+    NodeId::new(number(field, 1, u32::MAX)?).ok_or(ReadFault::Range)
+}
+
+/// The number of a line.
+pub(crate) fn line_id(field: &[u8]) -> Result<LineId, ReadFault>
+    ensures { Reads (λ n. n) (records.number field.now) result }
+{
+    LineId::new(number(field, 1, u32::MAX)?).ok_or(ReadFault::Range)
+}
+
+/// An offset in decimetres, or a count: any number of 32 bits.
+pub(crate) fn amount(field: &[u8]) -> Result<u32, ReadFault>
+    ensures { Reads (λ n. n) (records.amount field.now) result }
+{
+    number(field, 0, u32::MAX)
+}
+
+/// A functional road class or a form of way, from 0 to 7.
+pub(crate) fn class(field: &[u8]) -> Result<u8, ReadFault>
+    ensures { Reads (λ n. n) (records.class field.now) result }
+{
+    Ok(number(field, 0, GREATEST_CLASS)? as u8)
+}
+
+/// The length of a line, from 1 to 1,000,000 dm.
+pub(crate) fn length(field: &[u8]) -> Result<u32, ReadFault>
+    ensures { Reads (λ n. n) (records.digits 1 1000000 field.now) result }
+{
+    number(field, 1, GREATEST_LENGTH)
+}
+
+/// A longitude or a latitude, in units, within 180 degrees either way.
+fn degrees(field: &[u8]) -> Result<i64, ReadFault>
+    ensures { Reads (λ z. z) (records.coordinate is_degrees (text_of.degrees field.now)) result }
+{
+    let Ok(text) = std::str::from_utf8(field) else {
+        return Err(ReadFault::Syntax);
+    };
+    match read_degrees(text) {
+        Ok(units) => Ok(units),
+        Err(CoordFault::Text) => Err(ReadFault::Syntax),
+        Err(CoordFault::Range) => Err(ReadFault::Range),
+    }
+}
+
+/// A longitude, in units: that of some place on the equator.
+fn longitude(field: &[u8]) -> Result<i64, ReadFault>
+    ensures reads { Reads (λ z. z) (records.longitude field.now) result }
+    ensures within { IfOk result (λ z. IsTrue (is_longitude z)) }
+{
+    let units = degrees(field)?;
+    if Coord::new(units, 0).is_some() {
+        Ok(units)
+    } else {
+        Err(ReadFault::Range)
+    }
+}
+
+/// A latitude, in units: that of some place on the meridian of 0.
+fn latitude(field: &[u8]) -> Result<i64, ReadFault>
+    ensures reads { Reads (λ z. z) (records.latitude field.now) result }
+    ensures within { IfOk result (λ z. IsTrue (is_latitude z)) }
+{
+    let units = degrees(field)?;
+    if Coord::new(0, units).is_some() {
+        Ok(units)
+    } else {
+        Err(ReadFault::Range)
+    }
+}
+
+/// A place, by its longitude and its latitude.
+pub(crate) fn coord(lon: &[u8], lat: &[u8]) -> Result<Coord, ReadFault>
+    ensures { Reads (λ c. c) (records.place lon.now lat.now) result }
+{
+    let (lon, lat) = both(longitude(lon), latitude(lat))?;
+    Coord::new(lon, lat).ok_or(ReadFault::Range)
+}
+
+/// A place of a line's shape, by its distance from the line's begin, from 1 to 999,999 dm.
+pub(crate) fn shape_point(at: &[u8], lon: &[u8], lat: &[u8]) -> Result<Shape, ReadFault>
+    ensures { Reads (λ p. p) (records.point at.now lon.now lat.now) result }
+{
+    let (at, place) = both(number(at, 1, GREATEST_DISTANCE), coord(lon, lat))?;
+    Ok(Shape { at, place })
+}
+
+/// The name of a path: 1 to 64 ASCII letters, digits, `-`, `_` and `.`.
+pub(crate) fn name(alloc: Global, field: &[u8]) -> Result<String, ReadFault>
+    ensures { Reads string_bytes (records.name field.now) result }
+{
+    if !is_name(field) {
+        return Err(ReadFault::Syntax);
+    }
+    match std::str::from_utf8(field) {
+        Ok(text) => Ok(String::from_str(alloc, text)?),
+        Err(_) => Err(ReadFault::Syntax),
+    }
+}
+
+/// Whether a field has the form of a name.
+fn is_name(field: &[u8]) -> bool
+    ensures { result ≡ records.is_name field.now }
+{
+    !field.is_empty() && field.len() <= LONGEST_NAME && has_only_name_bytes(field)
+}
+
+/// Whether each byte may stand in a name.
+fn has_only_name_bytes(field: &[u8]) -> bool
+    ensures { result ≡ list_all records.is_name_byte field.now }
+{
+    field.iter().all(|byte| is_name_byte(*byte))
+}
+
+/// Whether a byte may stand in a name.
+fn is_name_byte(byte: u8) -> bool
+    ensures { result ≡ records.is_name_byte byte }
+{
+    byte.is_ascii_alphanumeric() || byte == b'-' || byte == b'_' || byte == b'.'
+}

@@ -1,0 +1,16 @@
+//! Records of comma-separated fields read as commands, and the texts of replies and refusals.
+#![tactic(auto)]
+
+mod edits;
+pub mod faults;
+mod fields;
+mod lines;
+mod parts;
+mod paths;
+pub mod read;
+pub mod reply;
+mod texts;
+
+pub use faults::{ReadFault, fault_text, read_fault_text};
+pub use read::read_command;
+pub use reply::reply_text;

@@ -1,0 +1,45 @@
+//! Parts of one record, read one by one and put together.
+ghost use Rattle.std.specs.Prelude.{◌≡◌, ◌∷◌, ◌++◌, [], List, Ok};
+ghost use Rattle.olr_records.specs.Records.{Read, ◌⊛◌};
+ghost use Rattle.olr_records.specs.Words.{Reads, both, worse_fault};
+
+use crate::faults::ReadFault;
+
+/// Of two faults of one record the one that is told: want of memory, or else `Syntax` before `Range`.
+fn worse(first: ReadFault, second: ReadFault) -> ReadFault
+    ensures { result ≡ worse_fault first second }
+{
+    match (first, second) {
+        (ReadFault::Memory, _) | (_, ReadFault::Memory) => ReadFault::Memory,
+        (ReadFault::Range, ReadFault::Range) => ReadFault::Range,
+        _ => ReadFault::Syntax,
+    }
+}
+
+/// Two parts of one record.
+pub(crate) fn both<A: Drop, B: Drop>(
+    first: Result<A, ReadFault>,
+    second: Result<B, ReadFault>,
+) -> Result<(A, B), ReadFault>
+    ensures { result ≡ both first second }
+{
+    match (first, second) {
+        (Ok(a), Ok(b)) => Ok((a, b)),
+        (Err(fault), Ok(_)) | (Ok(_), Err(fault)) => Err(fault),
+        (Err(first), Err(second)) => Err(worse(first, second)),
+    }
+}
+
+/// One more item after those read so far.
+pub(crate) fn pushed<T: Drop>(
+    items: Result<Vec<T>, ReadFault>,
+    item: Result<T, ReadFault>,
+) -> Result<Vec<T>, ReadFault>
+    ensures { (xs : Read (List T)) (x : Read T) → Reads (λ v. v.items) xs items
+        → Reads (λ t. t) x item
+        → Reads (λ v. v.items) (Ok (λ ts t. ts ++ t ∷ []) ⊛ xs ⊛ x) result }
+{
+    let (mut items, item) = both(items, item)?;
+    items.push(item)?;
+    Ok(items)
+}

@@ -1,0 +1,172 @@
+//! The texts of replies.
+ghost use Rattle.std.specs.Prelude.{◌≡◌, ◌≤◌, ◌++◌, ◌∷◌, [], ℕ, List, decimal, length, map, IfOk, OnOk};
+ghost use Rattle.std.specs.List.{concat};
+ghost use Rattle.olr_refs.specs.Answers.{refusal_of};
+ghost use Rattle.olr_commands.specs.Words.{reply_of, entry_of};
+ghost use Rattle.olr_records.specs.ReplyText as texts;
+ghost use Rattle.olr_records.specs.ReplyText.{after_commas};
+
+use crate::texts::{push_field, push_number, push_point};
+use olr_binary::{Attrs, First, Last, Middle, Reference};
+use olr_commands::{Entry, Reply};
+use olr_refs::Refusal;
+use std::alloc::{AllocError, Global};
+
+/// The lines of a reply to an accepted command. It fails where there is no memory for them.
+pub fn reply_text(alloc: Global, reply: &Reply) -> Result<Vec<u8>, AllocError>
+    ensures { IfOk result (λ text. text.items ≡ texts.reply_text (reply_of reply.now)) }
+{
+    match reply {
+        Reply::Paths(entries) => entries_text(alloc, entries),
+        Reply::Fields(reference) => reference_text(alloc, reference),
+        Reply::Held(count) => counted(alloc, b"held", *count as usize),
+    }
+}
+
+/// The line of a word and a count.
+fn counted(alloc: Global, word: &[u8], count: usize) -> Result<Vec<u8>, AllocError>
+    ensures { IfOk result (λ text. text.items ≡ texts.line (word.now ∷ decimal count ∷ [])) }
+{
+    let mut text = Vec::from_slice(alloc, word)?;
+    push_number(&mut text, count)?;
+    text.push(b'\n')?;
+    Ok(text)
+}
+
+/// Each path with its string or its refusal.
+fn entries_text(alloc: Global, entries: &[Entry]) -> Result<Vec<u8>, AllocError>
+    ensures { IfOk result (λ text. text.items ≡ texts.accepted (map (λ e. texts.entry_line (entry_of e)) entries.now)) }
+{
+    let mut text = counted(alloc, b"ok", entries.len())?;
+    push_entries(&mut text, entries)?;
+    Ok(text)
+}
+
+/// The lines of these paths.
+fn push_entries(text: &mut Vec<u8>, entries: &[Entry]) -> Result<(), AllocError>
+    ensures { OnOk result (text.new.items ≡ text.old.items ++ concat (map (λ e. texts.entry_line (entry_of e)) entries.now)) }
+{
+    for entry in entries {
+        push_entry(text, entry)?;
+    }
+    Ok(())
+}
+
+/// The line of one path.
+fn push_entry(text: &mut Vec<u8>, entry: &Entry) -> Result<(), AllocError>
+    ensures { OnOk result (text.new.items ≡ text.old.items ++ texts.entry_line (entry_of entry.now)) }
+{
+    text.extend_from_slice(entry.name.as_bytes())?;
+    match &entry.published {
+        Ok(string) => {
+            push_field(text, b"text")?;
+            push_field(text, string.as_bytes())?;
+        }
+        Err(refusal) => {
+            push_field(text, b"refused")?;
+            push_refusal(text, *refusal)?;
+        }
+    }
+    text.push(b'\n')?;
+    Ok(())
+}
+
+/// The number of a refusal, and what it names.
+fn push_refusal(text: &mut Vec<u8>, refusal: Refusal) -> Result<(), AllocError>
+    ensures { OnOk result (text.new.items ≡ text.old.items ++ after_commas (texts.refusal_fields (refusal_of refusal))) }
+{
+    match refusal {
+        Refusal::UnknownLine(line) => {
+            push_field(text, b"1")?;
+            push_number(text, line.number())
+        }
+        Refusal::Broken(k) => {
+            push_field(text, b"2")?;
+            push_number(text, k)
+        }
+        Refusal::OffsetTooLong => push_field(text, b"3"),
+        Refusal::NoNextPoint(k) => {
+            push_field(text, b"4")?;
+            push_number(text, k)
+        }
+    }
+}
+
+/// The fields of a reference, point by point.
+fn reference_text(alloc: Global, reference: &Reference) -> Result<Vec<u8>, AllocError>
+    ensures { IfOk result (λ text. text.items ≡ texts.accepted (texts.reference_lines reference.now)) }
+{
+    let points = reference.middle.as_slice();
+    let offsets = offset_count(reference.pos) + offset_count(reference.neg);
+    let mut text = counted(alloc, b"ok", points.len() + 2 + offsets)?;
+    push_first(&mut text, reference.first)?;
+    push_points(&mut text, points)?;
+    push_last(&mut text, reference.last)?;
+    push_offset(&mut text, b"positive", reference.pos)?;
+    push_offset(&mut text, b"negative", reference.neg)?;
+    Ok(text)
+}
+
+/// How many lines an offset takes.
+fn offset_count(offset: Option<u8>) -> usize
+    ensures lines { (word : List ℕ) → length (texts.offset_lines word offset) ≡ result }
+    ensures one { result ≤ 1 }
+{
+    match offset {
+        Some(_) => 1,
+        None => 0,
+    }
+}
+
+/// The lines of the points between the first and the last.
+fn push_points(text: &mut Vec<u8>, points: &[Middle]) -> Result<(), AllocError>
+    ensures { OnOk result (text.new.items ≡ text.old.items ++ concat (map texts.middle_line points.now)) }
+{
+    for point in points {
+        push_middle(text, *point)?;
+    }
+    Ok(())
+}
+
+/// What is published of each point but the last, in the order of its line.
+fn attr_numbers(attrs: Attrs) -> [u8; 5]
+    ensures { map decimal result ≡ texts.attr_fields attrs }
+{
+    [attrs.frc, attrs.fow, attrs.lfrc, attrs.bearing, attrs.dnp]
+}
+
+/// The line of the first point.
+fn push_first(text: &mut Vec<u8>, point: First) -> Result<(), AllocError>
+    ensures { OnOk result (text.new.items ≡ text.old.items ++ texts.first_line point) }
+{
+    let numbers = attr_numbers(point.attrs);
+    push_point(text, b"first", point.lon, point.lat, &numbers)
+}
+
+/// The line of a point between the first and the last.
+fn push_middle(text: &mut Vec<u8>, point: Middle) -> Result<(), AllocError>
+    ensures { OnOk result (text.new.items ≡ text.old.items ++ texts.middle_line point) }
+{
+    let numbers = attr_numbers(point.attrs);
+    push_point(text, b"middle", point.dlon, point.dlat, &numbers)
+}
+
+/// The line of the last point.
+fn push_last(text: &mut Vec<u8>, point: Last) -> Result<(), AllocError>
+    ensures { OnOk result (text.new.items ≡ text.old.items ++ texts.last_line point) }
+{
+    let numbers = [point.frc, point.fow, point.bearing];
+    push_point(text, b"last", point.dlon, point.dlat, &numbers)
+}
+
+/// The line of an offset, where there is one.
+fn push_offset(text: &mut Vec<u8>, word: &[u8], offset: Option<u8>) -> Result<(), AllocError>
+    ensures { OnOk result (text.new.items ≡ text.old.items ++ concat (texts.offset_lines word.now offset)) }
+{
+    if let Some(byte) = offset {
+        text.extend_from_slice(word)?;
+        push_number(text, byte)?;
+        text.push(b'\n')?;
+    }
+    Ok(())
+}
