@@ -2,3 +2,4 @@ pub mod FieldLemmas
 pub mod LoopLemmas
 pub mod RowLemmas
 pub mod TextLemmas
+pub mod ReadLemmas

@@ -1,3 +1,5 @@
+pub mod Laws
 pub mod Records
 pub mod ReplyText
+pub mod Rows
 pub mod Words

@@ -29,7 +29,8 @@ fn node(row: &ByteRecord) -> Result<(NodeId, Coord), ReadFault>
 
 /// `node,NODE,LON,LAT`
 pub(crate) fn add_node(row: &ByteRecord) -> Result<Command, ReadFault>
-    ensures { IsRead (records.edit (records.node_row Add_node (drop 1 (fields_of row.now)))) result }
+    ensures { IsRead (records.edit (records.node_row Add_node (drop 1 (fields_of row.now))))
+        result }
 {
     let (id, place) = node(row)?;
     Ok(Command::Edit(Edit::AddNode(id, place)))
@@ -37,7 +38,8 @@ pub(crate) fn add_node(row: &ByteRecord) -> Result<Command, ReadFault>
 
 /// `move,NODE,LON,LAT`
 pub(crate) fn move_node(row: &ByteRecord) -> Result<Command, ReadFault>
-    ensures { IsRead (records.edit (records.node_row Move_node (drop 1 (fields_of row.now)))) result }
+    ensures { IsRead (records.edit (records.node_row Move_node (drop 1 (fields_of row.now))))
+        result }
 {
     let (id, place) = node(row)?;
     Ok(Command::Edit(Edit::MoveNode(id, place)))
@@ -45,7 +47,9 @@ pub(crate) fn move_node(row: &ByteRecord) -> Result<Command, ReadFault>
 
 /// `drop-node,NODE`
 pub(crate) fn drop_node(row: &ByteRecord) -> Result<Command, ReadFault>
-    ensures { IsRead (records.edit (records.one Drop_node records.number (drop 1 (fields_of row.now)))) result }
+    ensures { IsRead
+        (records.edit (records.one Drop_node records.number (drop 1 (fields_of row.now))))
+        result }
 {
     if row.len() != 2 {
         return Err(ReadFault::Syntax);
@@ -84,7 +88,9 @@ pub(crate) fn set_line(alloc: Global, row: &ByteRecord) -> Result<Command, ReadF
 
 /// `drop-line,LINE`
 pub(crate) fn drop_line(row: &ByteRecord) -> Result<Command, ReadFault>
-    ensures { IsRead (records.edit (records.one Drop_line records.number (drop 1 (fields_of row.now)))) result }
+    ensures { IsRead
+        (records.edit (records.one Drop_line records.number (drop 1 (fields_of row.now))))
+        result }
 {
     if row.len() != 2 {
         return Err(ReadFault::Syntax);

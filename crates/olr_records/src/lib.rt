@@ -4,11 +4,15 @@
 mod edits;
 pub mod faults;
 mod fields;
+pub mod laws;
 mod lines;
 mod parts;
 mod paths;
 pub mod read;
 pub mod reply;
+pub mod rows;
+#[cfg(test)]
+mod tests;
 mod texts;
 
 pub use faults::{ReadFault, fault_text, read_fault_text};

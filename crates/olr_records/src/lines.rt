@@ -16,7 +16,10 @@ use std::alloc::Global;
 pub(crate) fn line(alloc: Global, row: &ByteRecord) -> Result<Line, ReadFault>
     requires { 7 ≤ length (fields_of row.now) }
     ensures { let f : ℕ → Field = λ k. slice_index_or (fields_of row.now) k [] in
-        Reads (λ l. l) (records.whole_line (f 2) (f 3) (records.course (f 4) (f 5) (f 6) (drop 7 (fields_of row.now)))) result }
+        Reads (λ l. l)
+        (records.whole_line (f 2) (f 3)
+        (records.course (f 4) (f 5) (f 6) (drop 7 (fields_of row.now))))
+        result }
 {
     let ends = both(node_id(field(row, 2)), node_id(field(row, 3)));
     let ((from, to), (frc, fow, len, shape)) = both(ends, course(alloc, row, 4))?;
@@ -39,7 +42,9 @@ pub(crate) fn course(
     requires near { k ≤ 4 }
     requires within { k + 3 ≤ length (fields_of row.now) }
     ensures { let f : ℕ → Field = λ n. slice_index_or (fields_of row.now) n [] in
-        Reads (λ p. (p.0, p.1, p.2, p.3.items)) (records.course (f k) (f (k + 1)) (f (k + 2)) (drop (k + 3) (fields_of row.now))) result }
+        Reads (λ p. (p.0, p.1, p.2, p.3.items))
+        (records.course (f k) (f (k + 1)) (f (k + 2)) (drop (k + 3) (fields_of row.now)))
+        result }
 {
     let classes = both(class(field(row, k)), class(field(row, k + 1)));
     let measured = both(classes, length(field(row, k + 2)));

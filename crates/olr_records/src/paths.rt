@@ -16,7 +16,9 @@ use std::alloc::Global;
 
 /// A name, two offsets in decimetres and line numbers: all that stands behind the word.
 fn path(alloc: Global, row: &ByteRecord) -> Result<(String, u32, u32, Vec<LineId>), ReadFault>
-    ensures { Reads (λ p. (string_bytes p.0, path_along p.3.items p.1 p.2)) (records.path_fields (drop 1 (fields_of row.now))) result }
+    ensures { Reads (λ p. (string_bytes p.0, path_along p.3.items p.1 p.2))
+        (records.path_fields (drop 1 (fields_of row.now)))
+        result }
 {
     if row.len() < 4 {
         return Err(ReadFault::Syntax);
@@ -56,7 +58,9 @@ pub(crate) fn set_path(alloc: Global, row: &ByteRecord) -> Result<Command, ReadF
 
 /// `drop-path,NAME`
 pub(crate) fn drop_path(alloc: Global, row: &ByteRecord) -> Result<Command, ReadFault>
-    ensures { IsRead (records.one (λ n. Make (Drop_path n)) records.name (drop 1 (fields_of row.now))) result }
+    ensures { IsRead
+        (records.one (λ n. Make (Drop_path n)) records.name (drop 1 (fields_of row.now)))
+        result }
 {
     if row.len() != 2 {
         return Err(ReadFault::Syntax);

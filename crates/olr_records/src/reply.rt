@@ -35,7 +35,8 @@ fn counted(alloc: Global, word: &[u8], count: usize) -> Result<Vec<u8>, AllocErr
 
 /// Each path with its string or its refusal.
 fn entries_text(alloc: Global, entries: &[Entry]) -> Result<Vec<u8>, AllocError>
-    ensures { IfOk result (λ text. text.items ≡ texts.accepted (map (λ e. texts.entry_line (entry_of e)) entries.now)) }
+    ensures { IfOk result (λ text. text.items
+        ≡ texts.accepted (map (λ e. texts.entry_line (entry_of e)) entries.now)) }
 {
     let mut text = counted(alloc, b"ok", entries.len())?;
     push_entries(&mut text, entries)?;
@@ -44,7 +45,8 @@ fn entries_text(alloc: Global, entries: &[Entry]) -> Result<Vec<u8>, AllocError>
 
 /// The lines of these paths.
 fn push_entries(text: &mut Vec<u8>, entries: &[Entry]) -> Result<(), AllocError>
-    ensures { OnOk result (text.new.items ≡ text.old.items ++ concat (map (λ e. texts.entry_line (entry_of e)) entries.now)) }
+    ensures { OnOk result (text.new.items
+        ≡ text.old.items ++ concat (map (λ e. texts.entry_line (entry_of e)) entries.now)) }
 {
     for entry in entries {
         push_entry(text, entry)?;
@@ -73,7 +75,8 @@ fn push_entry(text: &mut Vec<u8>, entry: &Entry) -> Result<(), AllocError>
 
 /// The number of a refusal, and what it names.
 fn push_refusal(text: &mut Vec<u8>, refusal: Refusal) -> Result<(), AllocError>
-    ensures { OnOk result (text.new.items ≡ text.old.items ++ after_commas (texts.refusal_fields (refusal_of refusal))) }
+    ensures { OnOk result (text.new.items
+        ≡ text.old.items ++ after_commas (texts.refusal_fields (refusal_of refusal))) }
 {
     match refusal {
         Refusal::UnknownLine(line) => {
@@ -120,7 +123,8 @@ fn offset_count(offset: Option<u8>) -> usize
 
 /// The lines of the points between the first and the last.
 fn push_points(text: &mut Vec<u8>, points: &[Middle]) -> Result<(), AllocError>
-    ensures { OnOk result (text.new.items ≡ text.old.items ++ concat (map texts.middle_line points.now)) }
+    ensures { OnOk result (text.new.items
+        ≡ text.old.items ++ concat (map texts.middle_line points.now)) }
 {
     for point in points {
         push_middle(text, *point)?;
@@ -161,7 +165,8 @@ fn push_last(text: &mut Vec<u8>, point: Last) -> Result<(), AllocError>
 
 /// The line of an offset, where there is one.
 fn push_offset(text: &mut Vec<u8>, word: &[u8], offset: Option<u8>) -> Result<(), AllocError>
-    ensures { OnOk result (text.new.items ≡ text.old.items ++ concat (texts.offset_lines word.now offset)) }
+    ensures { OnOk result (text.new.items
+        ≡ text.old.items ++ concat (texts.offset_lines word.now offset)) }
 {
     if let Some(byte) = offset {
         text.extend_from_slice(word)?;

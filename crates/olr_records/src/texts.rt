@@ -22,7 +22,8 @@ pub(crate) fn push_number<I: Integer>(text: &mut Vec<u8>, number: I) -> Result<(
 
 /// A comma before each of these numbers.
 fn push_numbers(text: &mut Vec<u8>, numbers: &[u8]) -> Result<(), AllocError>
-    ensures { OnOk result (text.new.items ≡ text.old.items ++ after_commas (map decimal numbers.now)) }
+    ensures { OnOk result (text.new.items
+        ≡ text.old.items ++ after_commas (map decimal numbers.now)) }
 {
     for number in numbers {
         push_number(text, *number)?;
@@ -38,7 +39,8 @@ pub(crate) fn push_point<I: Integer>(
     lat: I,
     numbers: &[u8],
 ) -> Result<(), AllocError>
-    ensures { OnOk result (text.new.items ≡ text.old.items ++ line (word.now ∷ I.text lon ∷ I.text lat ∷ map decimal numbers.now)) }
+    ensures { OnOk result (text.new.items
+        ≡ text.old.items ++ line (word.now ∷ I.text lon ∷ I.text lat ∷ map decimal numbers.now)) }
 {
     text.extend_from_slice(word)?;
     push_number(text, lon)?;

@@ -1,0 +1,14 @@
+-- Worked values.
+use Rattle.std.specs.Prelude.{ℕ, ℤ, pos, List, [], ◌∷◌, ◌++◌, flat_map}
+use Rattle.olr_spec.specs.Coordinates.{Coord}
+
+-- a coordinate in units
+abbrev pub at : ℤ → ℤ → Coord
+at lon lat = record { lon = lon; lat = lat }
+
+abbrev pub zero : Coord
+zero = at (pos 0) (pos 0)
+
+-- a text of these lines
+abbrev pub lines_of : List (List ℕ) → List ℕ
+lines_of ls = flat_map (λ l. l ++ 10 ∷ []) ls

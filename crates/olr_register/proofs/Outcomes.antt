@@ -1,0 +1,130 @@
+-- What it takes to answer a command that leaves the register as it was.
+use Rattle.std.proofs.Common.{inr, ◌≡◌, ℕ, ◌+◌, ◌<◌, ◌^◌, Bool, true, false, not, List, [], ◌∷◌, Option, Some, None, is_some, Ok, Err, IsTrue, refl, sym, ap, ◌∙◌, subst, add-zero}
+use Rattle.std.specs.Prelude.{◌==◌}
+use Rattle.olr_spec.specs.Map.{Map}
+use Rattle.olr_spec.specs.Extension.{Path}
+use Rattle.olr_spec.specs.Reference.{Reference}
+use Rattle.olr_commands.specs.State as state
+use Rattle.olr_commands.specs.State.{Named, Content, path_named, has_path, when, Change, Command, State, step, step_in, brought, TextFault, text_fault, unless_fault, No_path, Memory, Not_a_reference}
+use Rattle.olr_commands.specs.Reply as told
+use Rattle.olr_commands.specs.Reply.{IsReply, IsRefusal, Told, Lacks, AllOf, Shown, Explained, may_want, may_lack}
+use Rattle.olr_commands.specs.Counts.{Concerns, By_name, By_node, By_line, CountIs}
+use Rattle.olr_commands.specs.Kept.{Stands}
+use Rattle.olr_commands.specs.Registered.{Registered}
+use Rattle.olr_commands.specs.Words.{reply_of, fault_of}
+use Rattle.olr_commands.specs.declared.reply.Reply.{Reply}
+use Rattle.olr_commands.specs.declared.fault.CommandFault.{CommandFault}
+use Rattle.olr_register.specs.Answering.{Answered}
+
+unconcerned : (c : Content) (p : Named) → ¬ Concerns c [] p
+unconcerned c p (By_name h) = absurd cc
+unconcerned c p (By_node v h f) = absurd cc
+unconcerned c p (By_line x h f) = absurd cc
+
+-- no change raises nothing
+pub nothing_raised : (c : Content) (ps : List Named) → CountIs (Concerns c []) ps 0
+nothing_raised c [] = refl
+nothing_raised c (p ∷ ps) = inr (unconcerned c p, nothing_raised c ps)
+
+pub answered_same : (x : Registered) (c : Command) (r : Reply) → ((s : State) → Stands x.kept s → (step s c ≡ Ok s) × IsReply s c s (reply_of r)) → ((s : State) → brought s c ≡ [])
+    → Answered x c (Ok r) x
+answered_same x c r h none = record {
+  outcome = λ s stands. (s, stands, h s stands);
+  counted = λ s t stands later. (0, subst (λ (xs : List Change). CountIs (Concerns s.content xs) t.content.paths 0) (sym (none s)) (nothing_raised s.content t.content.paths), λ few. sym (add-zero _));
+  unchanged = tt;
+}
+
+pub answered_refused : (x : Registered) (c : Command) (f : CommandFault) → ((s : State) → Stands x.kept s → IsRefusal s c (fault_of f)) → Answered x c (Err f) x
+answered_refused x c f h = record { outcome = λ s stands. (s, stands, (h s stands, refl)); counted = tt; unchanged = refl }
+
+-- ---- show
+
+show_step : (c : Content) (b : Option (List Change)) (name : List ℕ) → step_in c b (state.Show name) ≡ when (not (has_path c name)) No_path (Ok (record { content = c; batch = b }))
+show_step c None name = refl
+show_step c (Some xs) name = refl
+
+brings_none : (b : Option (List Change)) (c : Command) → brought (record { content = state.no_content; batch = b }) c ≡ [] → (s : State) → s.batch ≡ b → brought s c ≡ []
+brings_none b c h s e = ap (λ (o : Option (List Change)). brought (record { content = s.content; batch = o }) c) e ∙ h
+
+show_brings : (b : Option (List Change)) (name : List ℕ) → state.brought_in b (state.Show name) ≡ []
+show_brings None name = refl
+show_brings (Some xs) name = refl
+
+has_if : (c : Content) (name : List ℕ) (P : Path) → path_named c.paths name ≡ Some P → has_path c name ≡ true
+has_if c name P e = ap (λ (o : Option Path). is_some o) e
+
+show_ok : (s : State) (name : List ℕ) → has_path s.content name ≡ true → step s (state.Show name) ≡ Ok s
+show_ok s name h = show_step s.content s.batch name ∙ ap (λ (b : Bool). when (not b) No_path (Ok s)) h
+
+pub show_answered : (x : Registered) (name : List ℕ) (r : Reply) (es : List told.Entry) → reply_of r ≡ told.Paths es → Shown x.kept.content name es → Answered x (state.Show name) (Ok r) x
+show_answered x name r es is shown =
+    answered_same x (state.Show name) r (λ s stands.
+    let there : Shown s.content name es = subst (λ (c : Content). Shown c name es) stands.0 shown in (
+      show_ok s name (has_if s.content name there.1.0 there.1.1),
+      subst (λ (q : told.Reply). IsReply s (state.Show name) s q) (sym is) there,
+    ))
+    (λ s. show_brings s.batch name)
+
+pub show_unknown : (x : Registered) (name : List ℕ) (f : CommandFault) → fault_of f ≡ No_path → has_path x.kept.content name ≡ false → Answered x (state.Show name) (Err f) x
+show_unknown x name f is none =
+    answered_refused x (state.Show name) f (λ s stands.
+    let there : has_path s.content name ≡ false = ap (λ (c : Content). has_path c name) (sym stands.0) ∙ none in
+    Told (show_step s.content s.batch name ∙ ap (λ (b : Bool). when (not b) No_path (Ok s)) there ∙ ap (λ (g : state.Fault). Err g) (sym is)))
+
+pub show_lacks : (x : Registered) (name : List ℕ) (f : CommandFault) → fault_of f ≡ Memory → has_path x.kept.content name ≡ true → Answered x (state.Show name) (Err f) x
+show_lacks x name f is some =
+    answered_refused x (state.Show name) f (λ s stands.
+    let there : has_path s.content name ≡ true = ap (λ (c : Content). has_path c name) (sym stands.0) ∙ some in
+    Lacks is (ap may_want (show_ok s name there)))
+
+-- ---- report
+
+report_ok : (c : Content) (b : Option (List Change)) → step_in c b state.Report ≡ Ok (record { content = c; batch = b })
+report_ok c None = refl
+report_ok c (Some xs) = refl
+
+report_brings : (b : Option (List Change)) → state.brought_in b state.Report ≡ []
+report_brings None = refl
+report_brings (Some xs) = refl
+
+pub report_answered : (x : Registered) (r : Reply) (es : List told.Entry) → reply_of r ≡ told.Paths es → AllOf x.kept.content.map x.kept.content.paths es → Answered x state.Report (Ok r) x
+report_answered x r es is all =
+    answered_same x state.Report r (λ s stands. (
+      report_ok s.content s.batch,
+      subst (λ (q : told.Reply). IsReply s state.Report s q) (sym is) (subst (λ (c : Content). AllOf c.map c.paths es) stands.0 all),
+    ))
+    (λ s. report_brings s.batch)
+
+pub report_lacks : (x : Registered) (f : CommandFault) → fault_of f ≡ Memory → Answered x state.Report (Err f) x
+report_lacks x f is = answered_refused x state.Report f (λ s stands. Lacks is (ap may_want (report_ok s.content s.batch)))
+
+-- ---- explain
+
+explain_step : (c : Content) (b : Option (List Change)) (text : List ℕ) → step_in c b (state.Explain text) ≡ unless_fault (record { content = c; batch = b }) (text_fault text)
+explain_step c None text = refl
+explain_step c (Some xs) text = refl
+
+explain_brings : (b : Option (List Change)) (text : List ℕ) → state.brought_in b (state.Explain text) ≡ []
+explain_brings None text = refl
+explain_brings (Some xs) text = refl
+
+pub explain_answered : (x : Registered) (text : List ℕ) (r : Reply) (q : Reference) → reply_of r ≡ told.Fields q → text_fault text ≡ None → Explained text q → Answered x (state.Explain text) (Ok r) x
+explain_answered x text r q is none explained =
+    answered_same x (state.Explain text) r (λ s stands. (
+      explain_step s.content s.batch text ∙ ap (unless_fault s) none,
+      subst (λ (w : told.Reply). IsReply s (state.Explain text) s w) (sym is) explained,
+    ))
+    (λ s. explain_brings s.batch text)
+
+pub explain_refused : (x : Registered) (text : List ℕ) (f : CommandFault) (g : TextFault) → fault_of f ≡ Not_a_reference g → text_fault text ≡ Some g → Answered x (state.Explain text) (Err f) x
+explain_refused x text f g is fault =
+    answered_refused x (state.Explain text) f (λ s stands. Told (explain_step s.content s.batch text ∙ ap (unless_fault s) fault ∙ ap (λ (h : state.Fault). Err h) (sym is)))
+
+-- want of memory may come in place of a fault of the text
+pub explain_lacks : (x : Registered) (text : List ℕ) (f : CommandFault) → fault_of f ≡ Memory → Answered x (state.Explain text) (Err f) x
+explain_lacks x text f is =
+    answered_refused x (state.Explain text) f (λ s stands. Lacks is (ap may_want (explain_step s.content s.batch text) ∙ may (record { content = s.content; batch = s.batch }) (text_fault text)))
+  where
+    may : (s : State) (o : Option TextFault) → may_want (unless_fault s o) ≡ true
+    may s None = refl
+    may s (Some g) = refl

@@ -1,0 +1,44 @@
+use Rattle.std.proofs.Common.{arith, sym, ◌∙◌, subst}
+use Rattle.std.proofs.lemmas.Iterator.Adapters.{YieldsList-from_vec}
+use Rattle.std.proofs.lemmas.Iterator.Consumers.{YieldsList-end}
+use Rattle.olr_commands.specs.State.{start_state}
+use Rattle.olr_register.proofs.Runs.{HasRun, map_same, run_starts, sound_at_start, run_goes_on, run_named, run_refused, run_history, is_published, is_joined}
+use Rattle.olr_register.proofs.applying.replay.Goals as goal
+
+pub loop-command-init : goal.loop-command-init
+loop-command-init c = record {
+  run = run_starts c.new-register.result _ c.new-register.ensures c.new-outcomes.ensures.items;
+  sound = sound_at_start c.new-register.result c.new-register.ensures;
+}
+
+pub loop-command-preserved : goal.loop-command-preserved
+loop-command-preserved c = record {
+  run = run_goes_on c.loop-command.register c.apply-outcome.new.self c.loop-command.yielded c.in-Some.command c.loop-command.outcomes.items _ c.apply-outcome.result c.loop-command.invariant.run
+      c.apply-outcome.ensures.outcome c.apply-outcome.ensures.sound c.in_ok-push.ensures.items;
+  sound = c.apply-outcome.ensures.sound;
+}
+
+-- where all commands lead
+whole_run : (c : goal.After-drop-command-iterator-2) → HasRun c.loop-command.register c.args.commands.items c.loop-command.outcomes.items
+whole_run c =
+    let from = c.into_iter-command-iterator.ensures.into_iter_gives in
+    let whole = YieldsList-from_vec c.args.commands.items from.0 (omega (arith, from.1, c.args.commands.ok.0)) in
+    let all = YieldsList-end whole c.loop-command.yielded c.loop-command.command-iterator c.loop-command.yielded_by c.next.result c.next.new.self c.in-None.is c.next.ensures.steps in
+    subst (λ cs. HasRun c.loop-command.register cs c.loop-command.outcomes.items) (sym (map_same c.loop-command.yielded) ∙ all.0) c.loop-command.invariant.run
+
+pub returns-clause-history : goal.returns-clause-history
+returns-clause-history c = let run = whole_run c in (run.0, run.1, run_history start_state run.0 _ _ run.2)
+
+pub returns-clause-published : goal.returns-clause-published
+returns-clause-published c =
+    let run = whole_run c in
+    is_published c.loop-command.register.kept run.0 _ _ run.1 c.loop-command.invariant.sound (run_history start_state run.0 _ _ run.2)
+
+pub returns-clause-joined : goal.returns-clause-joined
+returns-clause-joined c = is_joined c.loop-command.register.kept.content
+
+pub returns-clause-named : goal.returns-clause-named
+returns-clause-named c = let run = whole_run c in (run.0, run.1, run_named start_state run.0 _ _ run.2)
+
+pub returns-clause-refused : goal.returns-clause-refused
+returns-clause-refused c = let run = whole_run c in (run.0, run.1, run_refused start_state run.0 _ _ run.2)

@@ -1,0 +1,84 @@
+//! Commands, and whole runs of them.
+ghost use Rattle.std.specs.Prelude.{map, IfOk};
+ghost use Rattle.olr_commands.specs.State.{State, start_state};
+ghost use Rattle.olr_commands.specs.Kept.{Stands};
+ghost use Rattle.olr_commands.specs.History.{History};
+ghost use Rattle.olr_commands.specs.Words.{command_of, outcome_of};
+ghost use Rattle.olr_register.specs.Replays.{EachStep, IsNamed, IsRefused, IsPublished, IsJoined};
+
+use crate::register::Register;
+use olr_commands::{Command, CommandFault, Reply};
+use std::alloc::{AllocError, Global};
+
+impl Register {
+    ghost use Rattle.std.specs.Prelude.{◌≡◌, OnOk, OnErr};
+    ghost use Rattle.olr_commands.specs.State.{IsContent};
+    ghost use Rattle.olr_commands.specs.Registered.{Applied, Counted};
+    ghost use Rattle.olr_register.specs.Answering.{Answered};
+
+    /// The answer to a command.
+    fn answer_to(&mut self, command: Command) -> Result<Reply, CommandFault>
+        ensures { Answered self.old (command_of command) result self.new }
+    {
+        let open = self.is_open();
+        match command {
+            Command::Edit(edit) if open => self.hold_edit(edit),
+            Command::Edit(edit) => self.edit_now(edit),
+            Command::AddPath(name, lines, pos, neg) if open => {
+                self.hold_add(name, lines, pos, neg)
+            }
+            Command::AddPath(name, lines, pos, neg) => self.add_now(name, lines, pos, neg),
+            Command::SetPath(name, lines, pos, neg) if open => {
+                self.hold_set(&name, lines, pos, neg)
+            }
+            Command::SetPath(name, lines, pos, neg) => self.set_now(&name, lines, pos, neg),
+            Command::DropPath(name) if open => self.hold_drop(&name),
+            Command::DropPath(name) => self.drop_now(&name),
+            Command::Show(name) => self.show(&name),
+            Command::Report => self.report(),
+            Command::Explain(text) => self.explain(&text),
+            Command::Begin => self.begin(),
+            Command::Commit(count) => self.commit(count),
+            Command::Abort => self.abort(),
+        }
+    }
+
+    /// Carries a command out. In an open batch edits and path commands are held; elsewhere they are accepted at once, and
+    /// the reply tells the paths that are new or whose answer is another than before. After a fault map, paths, answers,
+    /// texts, counts and an open batch are as they were. `Memory` comes only where no fault is told before it.
+    pub fn apply(&mut self, command: Command) -> Result<Reply, CommandFault>
+        ensures outcome { Applied self.old (command_of command) (outcome_of result) self.new }
+        ensures counted { OnOk result (Counted self.old (command_of command) self.new) }
+        ensures unchanged { OnErr result (self.new ≡ self.old) }
+        ensures sound { IsContent self.new.kept.content }
+    {
+        let result = self.answer_to(command);
+        // The content is sound, as that of every register.
+        let _encodings = self.work.encodings;
+        result
+    }
+}
+
+/// The register after these commands, one after another from the empty one, and what each of them answered.
+pub fn replay(
+    alloc: Global,
+    commands: Vec<Command>,
+) -> Result<(Register, Vec<Result<Reply, CommandFault>>), AllocError>
+    ensures history { IfOk result (λ r. (t : State) × Stands r.0.kept t
+        × History start_state (map command_of commands.items) (map outcome_of r.1.items) t) }
+    ensures published { IfOk result
+        (λ r. IsPublished r.0.kept.content (map command_of commands.items) (map outcome_of r.1.items)) }
+    ensures joined { IfOk result (λ r. IsJoined r.0.kept.content) }
+    ensures named { IfOk result (λ r. (t : State) × Stands r.0.kept t
+        × EachStep IsNamed start_state (map command_of commands.items) (map outcome_of r.1.items) t) }
+    ensures refused { IfOk result (λ r. (t : State) × Stands r.0.kept t
+        × EachStep IsRefused start_state (map command_of commands.items) (map outcome_of r.1.items) t) }
+{
+    let mut register = Register::new(alloc);
+    let mut outcomes = Vec::new(alloc);
+    for command in commands {
+        let outcome = register.apply(command);
+        outcomes.push(outcome)?;
+    }
+    Ok((register, outcomes))
+}

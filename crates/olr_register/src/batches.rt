@@ -1,0 +1,75 @@
+//! Opening a batch, and its two ends.
+ghost use Rattle.olr_commands.specs.State.{Begin, Commit, Abort};
+
+use crate::batch::Batch;
+use crate::register::Register;
+use olr_commands::{CommandFault, Reply};
+use olr_map::UndoLog;
+use olr_paths::Touched;
+
+impl Register {
+    ghost use Rattle.olr_register.specs.Answering.{Answered};
+
+    /// Opens a batch, which holds the changes that follow. Where there is no memory for it none is open.
+    pub(crate) fn begin(&mut self) -> Result<Reply, CommandFault>
+        ensures { Answered self.old Begin result self.new }
+    {
+        if self.batch.is_some() {
+            return Err(CommandFault::BatchOpen);
+        }
+        match self.paths.share(self.alloc) {
+            Ok(paths) => {
+                self.batch = Some(Batch {
+                    log: UndoLog::new(self.alloc),
+                    paths,
+                    count: 0,
+                    touched: Touched::new(self.alloc),
+                });
+                Ok(Reply::Paths(Vec::new(self.alloc)))
+            }
+            Err(_) => Err(CommandFault::Memory),
+        }
+    }
+
+    /// Accepts all held changes at once, if there are so many, and encodes the paths that they concern. After a refusal the
+    /// batch is open as before.
+    pub(crate) fn commit(&mut self, count: u32) -> Result<Reply, CommandFault>
+        ensures { Answered self.old (Commit count) result self.new }
+    {
+        let Some(mut batch) = self.batch.take() else {
+            return Err(CommandFault::NoBatch);
+        };
+        if batch.count != count {
+            self.batch = Some(batch);
+            return Err(CommandFault::CountDiffers);
+        }
+        let Ok(entries) = batch.paths.renew_after(
+            self.alloc,
+            &self.roads,
+            &self.paths,
+            &batch.touched,
+            &mut self.work,
+        )
+        else {
+            self.batch = Some(batch);
+            return Err(CommandFault::Memory);
+        };
+        let Batch { log, paths, .. } = batch;
+        self.roads.keep_all(log);
+        self.paths = paths;
+        Ok(Reply::Paths(entries))
+    }
+
+    /// Drops all held changes: the map is the one before the batch. Takes no memory.
+    pub(crate) fn abort(&mut self) -> Result<Reply, CommandFault>
+        ensures { Answered self.old Abort result self.new }
+    {
+        match self.batch.take() {
+            Some(Batch { log, .. }) => {
+                self.roads.undo_all(log);
+                Ok(Reply::Paths(Vec::new(self.alloc)))
+            }
+            None => Err(CommandFault::NoBatch),
+        }
+    }
+}

@@ -1,0 +1,15 @@
+//! The register: a road map and named paths, whose published answers are right after every command.
+#![tactic(auto)]
+
+mod applying;
+pub mod batch;
+#[cfg(test)]
+mod batch_tests;
+mod batches;
+mod holds;
+mod questions;
+pub mod register;
+mod single;
+
+pub use applying::replay;
+pub use register::Register;

@@ -1,0 +1,68 @@
+//! Commands that ask, and change nothing.
+ghost use Rattle.std.specs.Prelude.{◌≡◌, [], ◌∷◌, IfOk};
+ghost use Rattle.olr_commands.specs.Words.{fault_of, text_fault_of};
+
+use crate::register::Register;
+use olr_binary::{TextFault, V3Fault, from_text};
+use olr_commands::{CommandFault, Entry, Reply};
+use std::alloc::{AllocError, Global};
+
+/// The list of one entry.
+fn alone(alloc: Global, entry: Entry) -> Result<Vec<Entry>, AllocError>
+    ensures { IfOk result (λ v. v.items ≡ entry ∷ []) }
+{
+    let mut entries = Vec::new(alloc);
+    entries.push(entry)?;
+    Ok(entries)
+}
+
+/// The refusal of a text that is no reference; for want of memory `Memory`.
+fn text_refusal(fault: TextFault) -> CommandFault
+    ensures { fault_of result ≡ text_fault_of fault }
+{
+    match fault {
+        TextFault::Bytes(V3Fault::Memory) => CommandFault::Memory,
+        _ => CommandFault::NotAReference(fault),
+    }
+}
+
+impl Register {
+    ghost use Rattle.olr_commands.specs.State.{Show, Report, Explain};
+    ghost use Rattle.olr_register.specs.Answering.{Answered};
+
+    /// What is published of one path. `NoPath` is told before `Memory`.
+    pub fn show(&self, name: &str) -> Result<Reply, CommandFault>
+        ensures { Answered self.now (Show name.now) result self.now }
+    {
+        if !self.paths.has(name) {
+            return Err(CommandFault::NoPath);
+        }
+        let Ok(entry) = self.paths.entry(self.alloc, name) else {
+            return Err(CommandFault::Memory);
+        };
+        match alone(self.alloc, entry) {
+            Ok(entries) => Ok(Reply::Paths(entries)),
+            Err(_) => Err(CommandFault::Memory),
+        }
+    }
+
+    /// What is published of every path, in order.
+    pub fn report(&self) -> Result<Reply, CommandFault>
+        ensures { Answered self.now Report result self.now }
+    {
+        match self.paths.entries(self.alloc) {
+            Ok(entries) => Ok(Reply::Paths(entries)),
+            Err(_) => Err(CommandFault::Memory),
+        }
+    }
+
+    /// What the reference says whose text this is. Where it is none, why; for want of memory `Memory`.
+    pub fn explain(&self, text: &[u8]) -> Result<Reply, CommandFault>
+        ensures { Answered self.now (Explain text.now) result self.now }
+    {
+        match from_text(self.alloc, text) {
+            Ok(reference) => Ok(Reply::Fields(reference)),
+            Err(fault) => Err(text_refusal(fault)),
+        }
+    }
+}

@@ -1,0 +1,103 @@
+//! The register.
+
+use crate::batch::Batch;
+use olr_map::RoadMap;
+use olr_paths::Listing;
+use olr_refs::Answer;
+use olr_route::Work;
+use std::alloc::Global;
+use std::marker::Model;
+
+/// A road map and named paths with what is published of them, and an open batch if there is one.
+#[derive(Drop, Debug)]
+pub struct Register {
+    pub(crate) alloc: Global,
+    /// The map; while a batch is open, the batch's.
+    pub(crate) roads: RoadMap,
+    pub(crate) paths: Listing,
+    pub(crate) work: Work,
+    pub(crate) batch: Option<Batch>,
+}
+
+impl Model for Register {
+    ghost use Rattle.olr_commands.specs.Registered.{Registered, coded_registered};
+    ghost use Rattle.olr_paths.specs.Items.{items};
+    ghost use Rattle.olr_register.specs.Holding.{kept_of, IsRegister};
+
+    ghost Value = { Registered };
+
+    ghost coded = { coded_registered };
+
+    ghost view = { λ r. record { kept = kept_of r.roads (items r.paths) r.batch; work = r.work } };
+
+    ghost invariant = { λ r. IsRegister r.roads (items r.paths) r.batch };
+}
+
+impl Register {
+    ghost use Rattle.std.specs.Prelude.{◌≡◌, length, map, option_map, is_some, slice_get};
+    ghost use Rattle.olr_commands.specs.Registered.{nothing_registered};
+    ghost use Rattle.olr_commands.specs.Reply.{Published, PublishedText};
+    ghost use Rattle.olr_refs.specs.Answers.{answer_of};
+
+    /// The register of no map and no paths. Takes no memory.
+    pub fn new(alloc: Global) -> Register
+        ensures { result ≡ nothing_registered }
+    {
+        Register {
+            alloc,
+            roads: RoadMap::new(alloc),
+            paths: Listing::new(alloc),
+            work: Work {
+                encodings: 0,
+                searches: 0,
+                settled: 0,
+            },
+            batch: None,
+        }
+    }
+
+    /// What is published of the path of that name. None where no path has it. An open batch is left out of account.
+    pub fn answer(&self, name: &str) -> Option<&Answer>
+        ensures { Published self.now.kept.content name.now (option_map (λ a. answer_of a.now) result) }
+    {
+        let published = self.paths.published(name)?;
+        Some(published.answer())
+    }
+
+    /// The text of that path's reference. None where no path has the name, or it was refused.
+    pub fn text(&self, name: &str) -> Option<&str>
+        ensures { PublishedText self.now.kept.content name.now (option_map (λ t. t.now) result) }
+    {
+        let published = self.paths.published(name)?;
+        published.text()
+    }
+
+    /// How many paths there are, those of an open batch left out.
+    pub fn len(&self) -> usize
+        ensures { result ≡ length self.now.kept.content.paths }
+    {
+        self.paths.len()
+    }
+
+    /// The name of path k, from 0. None past the last.
+    pub fn name_at(&self, k: usize) -> Option<&str>
+        ensures { option_map (λ n. n.now) result
+            ≡ slice_get (map (λ p. p.name) self.now.kept.content.paths) k }
+    {
+        self.paths.name_at(k)
+    }
+
+    /// Whether a batch is open.
+    pub fn is_open(&self) -> bool
+        ensures { result ≡ is_some self.now.kept.batch }
+    {
+        self.batch.is_some()
+    }
+
+    /// How much was done for accepted commands.
+    pub fn work(&self) -> Work
+        ensures { result ≡ self.now.work }
+    {
+        self.work
+    }
+}

@@ -1,0 +1,112 @@
+//! Changes that are made at once, outside of a batch.
+ghost use Rattle.olr_map.specs.Edits.{edit_of};
+
+use crate::holds::path_of;
+use crate::register::Register;
+use olr_commands::{CommandFault, Reply};
+use olr_map::refusal::refusal;
+use olr_map::{Edit, LineId, line_touched, nodes_touched};
+use olr_paths::Touched;
+
+impl Register {
+    ghost use Rattle.std.specs.Prelude.{◌≡◌, None, string_bytes};
+    ghost use Rattle.olr_commands.specs.State.{Make, On_map, Add_path, Set_path, Drop_path};
+    ghost use Rattle.olr_commands.specs.Words.{path_along};
+    ghost use Rattle.olr_register.specs.Answering.{Answered};
+
+    /// Makes an edit of the map and encodes anew the paths that it concerns. The map's own faults are told before `Memory`.
+    pub(crate) fn edit_now(&mut self, edit: Edit) -> Result<Reply, CommandFault>
+        requires { self.old.kept.batch ≡ None }
+        ensures { Answered self.old (Make (On_map (edit_of edit))) result self.new }
+    {
+        if let Some(fault) = refusal(&self.roads, &edit) {
+            return Err(CommandFault::Map(fault));
+        }
+        let mut touched = Touched::new(self.alloc);
+        if touched.reserve().is_err() {
+            return Err(CommandFault::Memory);
+        }
+        let Some(nodes) = nodes_touched(&self.roads, &edit) else {
+            unreachable!()
+        };
+        touched.note(nodes, line_touched(&edit));
+        match self.roads.apply(edit) {
+            Ok(undo) => {
+                match self
+                    .paths
+                    .renew(self.alloc, &self.roads, &touched, &mut self.work)
+                {
+                    Ok(entries) => {
+                        self.roads.keep(undo);
+                        Ok(Reply::Paths(entries))
+                    }
+                    Err(_) => {
+                        self.roads.undo(undo);
+                        Err(CommandFault::Memory)
+                    }
+                }
+            }
+            Err(fault) => Err(CommandFault::Map(fault)),
+        }
+    }
+
+    /// Encodes a new path and puts it last. Told are `PathExists`, `BadPath`, `Memory`, in this order.
+    pub(crate) fn add_now(
+        &mut self,
+        name: String,
+        lines: Vec<LineId>,
+        pos: u32,
+        neg: u32,
+    ) -> Result<Reply, CommandFault>
+        requires { self.old.kept.batch ≡ None }
+        ensures { Answered self.old (Make (Add_path (string_bytes name) (path_along lines.items pos neg))) result self.new }
+    {
+        if self.paths.has(&name) {
+            return Err(CommandFault::PathExists);
+        }
+        let path = path_of(self.alloc, lines, pos, neg)?;
+        let Ok(entries) = self
+            .paths
+            .add(self.alloc, &self.roads, name, path, &mut self.work)
+        else {
+            return Err(CommandFault::Memory);
+        };
+        Ok(Reply::Paths(entries))
+    }
+
+    /// Encodes another path under a name. Told are `NoPath`, `BadPath`, `Memory`, in this order.
+    pub(crate) fn set_now(
+        &mut self,
+        name: &str,
+        lines: Vec<LineId>,
+        pos: u32,
+        neg: u32,
+    ) -> Result<Reply, CommandFault>
+        requires { self.old.kept.batch ≡ None }
+        ensures { Answered self.old (Make (Set_path name.now (path_along lines.items pos neg))) result self.new }
+    {
+        if !self.paths.has(name) {
+            return Err(CommandFault::NoPath);
+        }
+        let path = path_of(self.alloc, lines, pos, neg)?;
+        let Ok(entries) = self
+            .paths
+            .set(self.alloc, &self.roads, name, path, &mut self.work)
+        else {
+            return Err(CommandFault::Memory);
+        };
+        Ok(Reply::Paths(entries))
+    }
+
+    /// Takes a path away; those after it close up. Takes no memory.
+    pub(crate) fn drop_now(&mut self, name: &str) -> Result<Reply, CommandFault>
+        requires { self.old.kept.batch ≡ None }
+        ensures { Answered self.old (Make (Drop_path name.now)) result self.new }
+    {
+        if !self.paths.has(name) {
+            return Err(CommandFault::NoPath);
+        }
+        self.paths.drop_path(name);
+        Ok(Reply::Paths(Vec::new(self.alloc)))
+    }
+}
