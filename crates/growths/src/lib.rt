@@ -1,6 +1,13 @@
 //! Tests that are run with one growth refused: `rt try --test --fail-alloc N` in this folder, for each N from 1 on. After a
-//! refusal the map, and a log beside it, must be as before, and the edit must then be taken.
+//! refusal a map, a log beside it and a set of nodes must be as before, and the call must then be taken; and a path that was
+//! not encoded must be encoded by the next call.
 #![tactic(auto)]
 
+#[cfg(test)]
+mod encodings;
+#[cfg(test)]
+mod registers;
+#[cfg(test)]
+mod sets;
 #[cfg(test)]
 mod tests;

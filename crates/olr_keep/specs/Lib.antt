@@ -1,0 +1,5 @@
+pub mod Output
+pub mod Laws
+pub mod Rows
+pub mod Options
+pub mod Runs

@@ -1,39 +1,50 @@
 //! `olr-keep`: keeps published OpenLR strings right while the road map under them is edited.
 //!
-//! Commands come as CSV records on standard input, and replies go to standard output.
+//! Commands come as CSV records from a file and from standard input, and replies go to standard output.
 #![tactic(auto)]
 
-mod command;
-mod fields;
-mod register;
-mod reply;
+mod answers;
+mod arguments;
+mod both;
+mod command_line;
+mod ends;
+mod output;
+mod program;
 mod run;
 
-use register::Register;
-use run::{RunFault, Status};
-use std::io;
+use ends::RunFault;
+use olr_register::Register;
 use std::process::ExitCode;
+use std::{env, fs, io};
 
-#[cfg(test)]
-mod tests;
+/// The words of the command line. They fail where one is no text, or for want of memory.
+fn words(rt: &HostRuntime) -> io::Result<Vec<String>> {
+    let words = env::args(rt)?.collect(rt.alloc())?;
+    Ok(words)
+}
 
-/// The status that a run gives the program: 0 where every command was accepted, 1 where some command was refused, 3 where
-/// reading or writing failed or the records were too many, and 4 where there was no memory to go on.
-fn exit_code(outcome: &Result<Status, RunFault>) -> u8 {
-    match outcome {
-        Ok(Status::AllAccepted) => 0,
-        Ok(Status::SomeRefused | Status::Stopped) => 1,
-        Err(RunFault::Read | RunFault::Write | RunFault::TooMany) => 3,
-        Err(RunFault::Memory) => 4,
+/// Tells why there are no words, and gives the status.
+fn without_words(rt: &HostRuntime, error: &io::Error) -> u8 {
+    if error.kind() == io::ErrorKind::OutOfMemory {
+        return program::tell_fault(RunFault::Memory, &mut rt.stderr());
     }
+    let _ = eprintln!(rt; "olr-keep: a word of the command line is no text");
+    program::WRONG_WORDS
 }
 
 fn main(rt: HostRuntime) -> ExitCode {
+    let words = match words(&rt) {
+        Ok(words) => words,
+        Err(error) => return ExitCode::from(without_words(&rt, &error)),
+    };
     let mut register = Register::new(rt.alloc());
-    let mut output = io::writer(&rt);
-    let outcome = run::run(rt.alloc(), &mut register, rt.reader(), &mut output, false);
-    if let Err(fault) = &outcome {
-        let _ = eprintln!(rt; "olr-keep: {fault}");
-    }
-    ExitCode::from(exit_code(&outcome))
+    ExitCode::from(program::program(
+        rt.alloc(),
+        &mut register,
+        words.as_slice(),
+        |name: &str| fs::open(&rt, name),
+        rt.reader(),
+        &mut io::writer(&rt),
+        &mut rt.stderr(),
+    ))
 }

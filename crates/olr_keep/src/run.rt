@@ -1,128 +1,67 @@
 //! A whole run: the records of an input, one after another, each answered before the next is taken.
 
-use crate::command::read_command;
-use crate::fields::ReadFault;
-use crate::register::Register;
-use crate::reply::{fault_text, read_fault_text, reply_text};
-use csv::{ByteRecord, ErrorKind, ReaderBuilder};
+ghost use Rattle.std.specs.Prelude.{◌≢◌, IfOk, IfErr};
+ghost use Rattle.csv.specs.Records.{fields_of};
+ghost use Rattle.olr_keep.specs.Runs.{Takes, RanOn, FaultedOn};
+
+use crate::answers::tell;
+use crate::ends::{RunFault, Status};
+use csv::{ByteRecord, ErrorKind, Reader, ReaderBuilder};
+use olr_register::Register;
 use std::alloc::Global;
 use std::io::{Read, Write};
-use thiserror::Error;
 
 /// The most records of one run, 2^40.
 const MOST_RECORDS: u64 = 1 << 40;
 
-/// How a run ended that came to its end.
-#[derive(Clone, Copy, Debug, PartialEq, Eq)]
-pub enum Status {
-    /// Every command was accepted.
-    AllAccepted,
-    /// Some command was refused.
-    SomeRefused,
-    /// It stopped at the first refused command, as it was asked to.
-    Stopped,
+/// Whether there was one more record, which is then in `row`.
+fn next_record<R: Read + Drop>(
+    reader: &mut Reader<R>,
+    row: &mut ByteRecord,
+) -> Result<bool, RunFault>
+    ensures took { IfOk result (λ found. Takes R.remaining reader.old reader.new found (fields_of row.new)) }
+    ensures failed { IfErr result (λ e. e ≢ RunFault.TooMany) }
+{
+    match reader.read_byte_record(row) {
+        Ok(found) => Ok(found),
+        Err(error) => match error.kind() {
+            ErrorKind::OutOfMemory => Err(RunFault::Memory),
+            _ => Err(RunFault::Read),
+        },
+    }
 }
 
-/// Why a run was cut off.
-#[derive(Clone, Copy, Debug, PartialEq, Eq, Error)]
-pub enum RunFault {
-    /// The reader failed.
-    #[error("read fault")]
-    Read,
-    /// The writer failed, or took nothing.
-    #[error("write fault")]
-    Write,
-    /// There was no memory for a record or a reply's text.
-    #[error("no memory")]
-    Memory,
-    /// There were more than 2^40 records.
-    #[error("too many records")]
-    TooMany,
-}
-
-/// Takes the records of the input, and writes a reply or a fault for each. Where `stop` is set it takes none after the
-/// first refused one.
+/// Takes the records of the input, and writes a reply or a refusal for each before it takes the next. Where `stop` is set
+/// it takes none after the first refused one. After a fault the register stands after the records that were taken, and
+/// all of their answers are written but for a rest of the last.
 pub fn run<R: Read + Drop, W: Write>(
     alloc: Global,
     register: &mut Register,
     input: R,
     output: &mut W,
     stop: bool,
-) -> Result<Status, RunFault> {
+) -> Result<Status, RunFault>
+    ensures ran { IfOk result (λ end. RanOn stop register.old (R.remaining input) (W.contents output.old) register.new (W.contents output.new) end) }
+    ensures faulted { IfErr result (λ e. FaultedOn stop register.old (R.remaining input) (W.contents output.old) register.new (W.contents output.new) e) }
+{
     let mut reader = ReaderBuilder::new()
         .has_headers(false)
         .flexible(true)
         .from_reader(alloc, input);
-    let mut record = ByteRecord::new(alloc);
+    let mut row = ByteRecord::new(alloc);
     let mut status = Status::AllAccepted;
-    for _ in 0..MOST_RECORDS {
-        if !next_record(&mut reader, &mut record)? {
-            return Ok(status);
+    let mut answered: u64 = 0;
+    'records: while next_record(&mut reader, &mut row)? {
+        if answered == MOST_RECORDS {
+            return Err(RunFault::TooMany);
         }
-        if !answer(alloc, register, &record, output)? {
-            status = Status::SomeRefused;
+        answered += 1;
+        if !tell(alloc, register, &row, output)? {
             if stop {
                 return Ok(Status::Stopped);
             }
+            status = Status::SomeRefused;
         }
     }
-    if next_record(&mut reader, &mut record)? {
-        Err(RunFault::TooMany)
-    } else {
-        Ok(status)
-    }
-}
-
-/// Whether there was one more record, which is then in `record`.
-fn next_record<R: Read + Drop>(
-    reader: &mut csv::Reader<R>,
-    record: &mut ByteRecord,
-) -> Result<bool, RunFault> {
-    reader
-        .read_byte_record(record)
-        .map_err(|fault| match fault.kind() {
-            ErrorKind::OutOfMemory => RunFault::Memory,
-            _ => RunFault::Read,
-        })
-}
-
-/// Carries out what a record asks for and writes the answer. Whether it was accepted.
-fn answer<W: Write>(
-    alloc: Global,
-    register: &mut Register,
-    record: &ByteRecord,
-    output: &mut W,
-) -> Result<bool, RunFault> {
-    match read_command(alloc, record) {
-        Err(fault) => {
-            write_all(output, read_fault_text(fault).as_bytes())?;
-            Ok(false)
-        }
-        Ok(command) => match register.apply(alloc, command) {
-            Err(fault) => {
-                write_all(output, fault_text(fault).as_bytes())?;
-                Ok(false)
-            }
-            Ok(reply) => {
-                let text = reply_text(alloc, &reply).map_err(|_| RunFault::Memory)?;
-                write_all(output, &text)?;
-                Ok(true)
-            }
-        },
-    }
-}
-
-/// Writes all bytes, as often as the writer takes some.
-fn write_all<W: Write>(output: &mut W, bytes: &[u8]) -> Result<(), RunFault> {
-    let mut rest = bytes;
-    for _ in 0..bytes.len() {
-        if rest.is_empty() {
-            break;
-        }
-        match output.write(rest) {
-            Ok(0) | Err(_) => return Err(RunFault::Write),
-            Ok(taken) => rest = &rest[taken..],
-        }
-    }
-    Ok(())
+    Ok(status)
 }

@@ -14,8 +14,8 @@ use csv::ByteRecord;
 use olr_commands::Command;
 use std::alloc::Global;
 
-/// The command that a record spells. A record of no command's form is `Syntax`; one that has the form of a command and a
-/// value out of bounds is `Range`. `Memory` may come in place of either, and of the command.
+/// The command that a record spells. A record of no command's form is `Syntax`; one that has the form of a command and
+/// a value out of bounds is `Range`, wherever the two stand. `Memory` may come in place of either, and of the command.
 pub fn read_command(alloc: Global, row: &ByteRecord) -> Result<Command, ReadFault>
     ensures { IsRead (records.read (fields_of row.now)) result }
 {

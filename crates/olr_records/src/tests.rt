@@ -166,14 +166,20 @@ fn bytes_that_are_no_text(rt: HostRuntime) -> Result<(), Fail> {
     Ok(())
 }
 
-/// A path's entry.
-fn entry(alloc: Global, name: &str, published: Result<&str, Refusal>) -> Result<Entry, Fail> {
-    let name = String::from_str(alloc, name)?;
-    let published = match published {
-        Ok(text) => Ok(String::from_str(alloc, text)?),
-        Err(refusal) => Err(refusal),
-    };
-    Ok(Entry { name, published })
+/// A path's entry with a string.
+fn told(alloc: Global, name: &str, text: &str) -> Result<Entry, Fail> {
+    Ok(Entry {
+        name: String::from_str(alloc, name)?,
+        published: Ok(String::from_str(alloc, text)?),
+    })
+}
+
+/// A path's entry with a refusal.
+fn refused(alloc: Global, name: &str, refusal: Refusal) -> Result<Entry, Fail> {
+    Ok(Entry {
+        name: String::from_str(alloc, name)?,
+        published: Err(refusal),
+    })
 }
 
 /// Asserts the text of a reply.
@@ -189,11 +195,11 @@ fn replies_of_paths(rt: HostRuntime) -> Result<(), Fail> {
     expect_reply(&rt, &Reply::Paths(Vec::new(alloc)), "ok,0\n")?;
     let line = LineId::new(20).expect(&rt, "a number from 1");
     let mut entries = Vec::new(alloc);
-    entries.push(entry(alloc, "a", Ok("CwRbWyNG9RpsCQCb/jsaHA=="))?)?;
-    entries.push(entry(alloc, "a", Err(Refusal::UnknownLine(line)))?)?;
-    entries.push(entry(alloc, "b", Err(Refusal::Broken(0)))?)?;
-    entries.push(entry(alloc, "b", Err(Refusal::OffsetTooLong))?)?;
-    entries.push(entry(alloc, "a", Err(Refusal::NoNextPoint(12)))?)?;
+    entries.push(told(alloc, "a", "CwRbWyNG9RpsCQCb/jsaHA==")?)?;
+    entries.push(refused(alloc, "a", Refusal::UnknownLine(line))?)?;
+    entries.push(refused(alloc, "b", Refusal::Broken(0))?)?;
+    entries.push(refused(alloc, "b", Refusal::OffsetTooLong)?)?;
+    entries.push(refused(alloc, "a", Refusal::NoNextPoint(12))?)?;
     expect_reply(
         &rt,
         &Reply::Paths(entries),

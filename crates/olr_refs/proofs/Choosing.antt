@@ -1,11 +1,11 @@
 -- The choice of the next point, from the last position that is covered and near enough back to the first.
-use Rattle.std.proofs.Common.{◌≡◌, ◌<◌, ◌≤◌, ◌-◌, ◌+◌, ℕ, Bool, true, false, List, length, sym, subst, arith, inl, inr, Option, Some, None, MatchOption}
+use Rattle.std.proofs.Common.{◌≡◌, ◌<◌, ◌≤◌, ◌-◌, ℕ, Bool, true, false, List, length, sym, subst, arith, inl, inr, Option, Some, None, MatchOption}
 use Rattle.std.proofs.lemmas.Bool.{cases_order}
 use Rattle.std.specs.Option.{option_or}
 use Rattle.olr_spec.specs.Coordinates.{Coord}
 use Rattle.olr_spec.specs.Map.{Map, place_at}
 use Rattle.olr_spec.specs.Extension.{passing}
-use Rattle.olr_spec.specs.Points.{node_at, fit16, Candidate, ValidCandidate, Greatest, Next, To_end, To_valid, To_passing, NoNext}
+use Rattle.olr_spec.specs.Points.{node_at, fit16, Candidate, ValidCandidate, Greatest, Next, To_valid}
 use Rattle.olr_refs.specs.Along.{IsReach}
 
 abbrev pub fit : Map → List ℕ → ℕ → ℕ → Bool
@@ -18,14 +18,6 @@ fit_read M ls i j v w p q b hv hp hw hq hb = simp (hv, hp, hw, hq) at (sym hb)
 candidate_of : (M : Map) (ls : List ℕ) (i r j : ℕ) → IsReach M ls i r → i < j → j ≤ r → fit M ls i j ≡ true → Candidate M ls i j
 candidate_of M ls i r j a h k f = let u = a.upto in record { after = h; upto = omega arith; covered = (a.within j h k).0; near = (a.within j h k).1; fits = f }
 
-candidate_within : (M : Map) (ls : List ℕ) (i r j : ℕ) → IsReach M ls i r → Candidate M ls i j → j ≤ r
-candidate_within M ls i r j a c =
-    elim (cases_order j r) [
-      | inl e ↦ omega arith
-      | inr (inl lt) ↦ omega arith
-      | inr (inr gt) ↦ let far = a.beyond j gt c.upto c.covered in let near = c.near in absurd (omega arith)
-    ]
-
 -- no candidate from k on, or the greatest of all
 abbrev Last : Map → List ℕ → ℕ → ℕ → Option ℕ → Type 0
 Last M ls i k last = MatchOption last ((j : ℕ) → k ≤ j → ¬ Candidate M ls i j) (λ m. Greatest (Candidate M ls i) m)
@@ -35,17 +27,6 @@ pub record Scanned (M : Map) (ls : List ℕ) (i r k : ℕ) (last : Option ℕ) :
   pub not_end : ¬ Candidate M ls i (length ls)
   pub no_valid : (j : ℕ) → k ≤ j → ¬ ValidCandidate M ls i j
   pub greatest : Last M ls i k last
-
-pub scan_start : (M : Map) (ls : List ℕ) (i r : ℕ) → IsReach M ls i r → (r ≡ length ls → fit M ls i r ≡ false) → Scanned M ls i r (r + 1) None
-scan_start M ls i r a h =
-    record {
-      not_end = λ c. let u = a.upto in let in_reach = candidate_within M ls i r (length ls) a c in
-          let e : r ≡ length ls = omega arith in
-          let f : fit M ls i (length ls) ≡ false = subst (λ (n : ℕ). fit M ls i n ≡ false) e (h e) in
-          let t : fit M ls i (length ls) ≡ true = c.fits in cc;
-      no_valid = λ j k v. let in_reach = candidate_within M ls i r j a v.0 in omega arith;
-      greatest = λ j k c. let in_reach = candidate_within M ls i r j a c in omega arith;
-    }
 
 -- one position more, which doesn't fit
 not_fit : (M : Map) (ls : List ℕ) (i k j : ℕ) → fit M ls i (k - 1) ≡ false → j ≡ k - 1 → ¬ Candidate M ls i j
@@ -92,11 +73,6 @@ scan_passing M ls i r k last p after upto a s f through =
     }
 
 -- what is answered
-pub next_end : (M : Map) (ls : List ℕ) (i r : ℕ) → IsReach M ls i r → i < length ls → r ≡ length ls → fit M ls i r ≡ true → Next M ls i r
-next_end M ls i r a h e f =
-    let f' : fit M ls i (length ls) ≡ true = subst (λ (n : ℕ). fit M ls i n ≡ true) e f in
-    To_end e (candidate_of M ls i r (length ls) a h (omega arith) f')
-
 pub next_valid : (M : Map) (ls : List ℕ) (i r k : ℕ) (last : Option ℕ) → 0 < k → i < k - 1 → k - 1 ≤ r → IsReach M ls i r → Scanned M ls i r k last → fit M ls i (k - 1) ≡ true → passing M (node_at M ls (k - 1)) ≡ false
     → Next M ls i (k - 1)
 next_valid M ls i r k last p after upto a s f valid =
@@ -104,7 +80,3 @@ next_valid M ls i r k last p after upto a s f valid =
       holds = (candidate_of M ls i r (k - 1) a after upto f, valid);
       others = λ j v. elim (cases_order j (k - 1)) [ inl e ↦ omega arith | inr (inl lt) ↦ omega arith | inr (inr gt) ↦ absurd (s.no_valid j (omega arith) v) ];
     }
-
-pub scan_end : (M : Map) (ls : List ℕ) (i r k : ℕ) (last : Option ℕ) → k ≤ i + 1 → Scanned M ls i r k last → MatchOption last (NoNext M ls i) (Next M ls i)
-scan_end M ls i r k None h s = λ j c. let after = c.after in s.greatest j (omega arith) c
-scan_end M ls i r k (Some m) h s = To_passing s.not_end (λ j v. let after = v.0.after in s.no_valid j (omega arith) v) s.greatest

@@ -1,8 +1,8 @@
 -- The lines that enter a node, and those that leave it, as a loop over them reads them.
-use Rattle.std.proofs.Common.{inl, inr, ◌≡◌, ℕ, ◌+◌, ◌<◌, ◌≤◌, true, ◌==◌, List, length, take, get_or, IsTrue, MatchOption, false, Option, Some, None, is_some, unwrap_or, refl, sym, ap, ◌∙◌, subst}
-use Rattle.std.proofs.lemmas.Bool.{or_cases, eq-eqb, eqb-true}
+use Rattle.std.proofs.Common.{◌≡◌, ℕ, ◌<◌, ◌≤◌, true, ◌==◌, List, length, take, get_or, IsTrue, MatchOption, false, Option, Some, None, is_some, unwrap_or, refl, sym, ap, ◌∙◌, subst}
+use Rattle.std.proofs.lemmas.Bool.{eq-eqb}
 use Rattle.std.proofs.lemmas.List.{take_all}
-use Rattle.std.proofs.lemmas.List.Folds.{list_any_more, list_any_at}
+use Rattle.std.proofs.lemmas.List.Folds.{list_any_at}
 use Rattle.std.specs.FinMap.{get}
 use Rattle.olr_spec.specs.Map.{Map, Line, no_line, has_line, lines_in, lines_out, start, end}
 use Rattle.olr_spec.specs.Extension.{has}
@@ -37,13 +37,6 @@ leaving M v x k e =
 
 pub has_read : (xs : List ℕ) (i x : ℕ) → i < length xs → x ≡ get_or xs i x → has xs x ≡ true
 has_read xs i x h is = list_any_at (λ y. y == x) xs i x h (eq-eqb (get_or xs i x) x (sym is))
-
-pub Each-more : (P : ℕ → Type 0) (xs : List ℕ) (i x : ℕ) → i < length xs → x ≡ get_or xs i x → Each P (take i xs) → P x → Each P (take (i + 1) xs)
-Each-more P xs i x h is below here y at =
-    elim (or_cases (has (take i xs) y) (get_or xs i x == y) (sym (list_any_more (λ z. z == y) xs i x h) ∙ at)) [
-      | inl low ↦ below y low
-      | inr e ↦ subst P (is ∙ eqb-true (get_or xs i x) y e) here
-    ]
 
 pub Each-all : (P : ℕ → Type 0) (xs : List ℕ) (i : ℕ) → length xs ≤ i → Each P (take i xs) → Each P xs
 Each-all P xs i h below = subst (Each P) (take_all i xs h) below

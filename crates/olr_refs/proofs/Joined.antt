@@ -13,7 +13,8 @@ use Rattle.olr_spec.proofs.WalkLemmas.{dm_of-append}
 use Rattle.olr_spec.proofs.ListLemmas.{Each, Each-cons, Each-nil, has_index}
 use Rattle.olr_refs.specs.Along.{AreJoined, DistancesTo}
 
-walk_known : (M : Map) (s t : ℕ) (xs : List ℕ) → Walk M s t xs → Each (λ x. IsTrue (has_line M x)) xs
+-- each line of a walk is in the map
+pub walk_known : (M : Map) (s t : ℕ) (xs : List ℕ) → Walk M s t xs → Each (λ x. IsTrue (has_line M x)) xs
 walk_known M s t [] w = Each-nil _
 walk_known M s t (x ∷ xs) w = Each-cons (λ x. IsTrue (has_line M x)) x xs w.0 (walk_known M (end M x) t xs w.2)
 

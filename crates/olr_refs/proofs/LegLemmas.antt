@@ -1,26 +1,23 @@
 -- The legs of joined lines, by the lines and their distances.
-use Rattle.std.proofs.Common.{◌≡◌, ◌<◌, ◌≤◌, ◌-◌, ◌/◌, ℕ, List, [], ◌∷◌, length, take, drop, sym, ap, ◌∙◌, subst, arith}
+use Rattle.std.proofs.Common.{◌≡◌, ◌<◌, ◌≤◌, ◌-◌, ◌/◌, ℕ, List, length, take, drop, sym, ap, ◌∙◌, subst, arith}
 use Rattle.std.proofs.lemmas.List.{get_or-map, drop-map, take-map}
 use Rattle.std.specs.List.{slice_index, slice_range}
 use Rattle.std.specs.Prelude.{IsTrue}
 use Rattle.olr_spec.specs.Map.{Map, IsMap, Line, is_good, has_line, has_node, line_at, place_at, start, end}
-use Rattle.olr_spec.specs.Walks.{Walk, dm_of}
+use Rattle.olr_spec.specs.Walks.{dm_of}
 use Rattle.olr_spec.specs.Extension.{limit}
 use Rattle.olr_spec.specs.Points.{node_at, stretch, Candidate}
 use Rattle.olr_spec.specs.Bearings.{Leg, bearing_out}
 use Rattle.olr_spec.specs.Reference.{Attrs, attrs, leg, legs, leg_at, no_leg, position, dm_along, dm_between}
-use Rattle.olr_spec.proofs.ListLemmas.{Each, Each-cons, Each-nil}
+use Rattle.olr_spec.proofs.ListLemmas.{Each}
 use Rattle.olr_spec.proofs.KeptLemmas.{dm_along-legs}
 use Rattle.olr_spec.proofs.FieldLemmas.{position_is}
 use Rattle.olr_bearing.specs.Legs as ends
 use Rattle.olr_bearing.specs.declared.places.Ends.{Ends}
 use Rattle.olr_refs.specs.Along.{AreJoined, AreDistances}
 use Rattle.olr_refs.specs.Fields.{lowest_class}
+use Rattle.olr_refs.proofs.Joined.{walk_known}
 use Rattle.olr_refs.proofs.Stretches.{dm_stretch}
-
-walk_known : (M : Map) (s t : ℕ) (xs : List ℕ) → Walk M s t xs → Each (λ x. IsTrue (has_line M x)) xs
-walk_known M s t [] w = Each-nil _
-walk_known M s t (x ∷ xs) w = Each-cons (λ x. IsTrue (has_line M x)) x xs w.0 (walk_known M (end M x) t xs w.2)
 
 -- each of them is in the map
 pub joined_known : (M : Map) (ls : List ℕ) → AreJoined M ls → Each (λ x. IsTrue (has_line M x)) ls

@@ -15,7 +15,7 @@ use Rattle.olr_spec.proofs.ListLemmas.{has_here, has_cases}
 use Rattle.olr_spec.proofs.AnswerLemmas.{Next-candidate}
 use Rattle.olr_route.specs.declared.work.Work.{Work}
 use Rattle.olr_route.specs.Labels.{Labels, AreLabels, Reaches, label_at}
-use Rattle.olr_route.specs.Counts.{counted}
+use Rattle.olr_route.specs.Counts.{counted, after_search}
 use Rattle.olr_refs.specs.Choice.{NotesReach, Searches, raised, searches_at, searches_of}
 
 labelled_reach : (M : Map) (ls : List ℕ) (i : ℕ) (x : Labels) → AreLabels M x → x.source ≡ end M (slice_index ls i) → x.limit ≡ limit → (v : ℕ) → IsSome (label_at x v) ↔ Reach M (end M (slice_index ls i)) v
@@ -79,8 +79,16 @@ searches_more a b c n m s t f g h =
     record {
       encodings = g.encodings ∙ f.encodings;
       searches = g.searches ∙ ap (λ (k : ℕ). raised k m) f.searches ∙ raised_more a.searches n m;
+      rises = let x = f.rises in let y = g.rises in omega arith;
       settled = settled_more a.settled b.settled c.settled n m s t f.settled g.settled h;
     }
+
+-- where two lines or more follow line i it is searched from once
+pub one_search : (ls : List ℕ) (i : ℕ) (before after : Work) (labels size : ℕ) → i + 2 < length ls → after ≡ after_search before labels → labels ≤ size → Searches before after (searches_at ls i) size
+one_search ls i before after labels size h e f =
+    let one : 1 ≡ searches_at ls i = grind (arith, nat_tests) in
+    subst (λ (n : ℕ). Searches before after n size) one
+    (subst (λ (w : Work). Searches before w 1 size) (sym e) record { encodings = refl; searches = refl; rises = omega arith; settled = omega arith })
 
 searched_one_more : (M : Map) (ls done : List ℕ) (k v : ℕ) → Searched M ls (done ++ k ∷ []) v ↔ ((Searched M ls done v) ⊎ ((k + 2 < length ls) × Reach M (end M (slice_index ls k)) v))
 searched_one_more M ls done k v = (forth, back)
@@ -146,7 +154,7 @@ ended_there M ls ps last old now before work s h =
     let none : 0 ≡ searches_at ls last = grind (arith, nat_tests) in
     ended M ls ps last old now now before work work s
     (λ v. ((λ c. inl c), (λ e. elim e [ inl c ↦ c | inr far ↦ absurd (omega arith) ])))
-    (subst (λ (k : ℕ). Searches work work k (length now)) none record { encodings = refl; searches = refl; settled = omega arith }) (omega arith)
+    (subst (λ (k : ℕ). Searches work work k (length now)) none record { encodings = refl; searches = refl; rises = omega arith; settled = omega arith }) (omega arith)
 
 -- no position follows the end
 no_next_end : (M : Map) (ls : List ℕ) (k : ℕ) → length ls ≤ k → NoNext M ls k

@@ -24,7 +24,7 @@ use Rattle.olr_refs.specs.Along.{AreJoined}
 use Rattle.olr_route.specs.declared.work.Work.{Work}
 use Rattle.olr_refs.specs.Choice.{ForPoints, NotesSearched, Searches, searches_of}
 use Rattle.olr_refs.specs.Extends.{Extends}
-use Rattle.olr_refs.specs.Kept.{later, ArePoints}
+use Rattle.olr_refs.specs.Kept.{later}
 use Rattle.olr_refs.specs.Referring.{OfPath, JoinsOf, SearchesOf}
 use Rattle.olr_refs.proofs.ExtendedJoined.{extended_joined}
 use Rattle.olr_refs.proofs.Faulting.{joined_of}
@@ -62,12 +62,6 @@ points_answer M E ls ps r e c a =
       subst (λ (xs : List ℕ). Follow M xs 0 c.0) e c.1,
       ap spec.Points is ∙ sym (ap (λ (b : Bool). cond b (spec.Points (reference (legs M E.lines) E.pos E.neg c.0)) (spec.Refused (spec.No_next_point (last_point 0 c.0)))) test),
     )
-
--- the points of a choice that leads to the end
-pub are_points : (M : Map) (ls ps qs : List ℕ) → ForPoints M ls (λ js. (last_point 0 js ≡ length ls) × (ps ≡ 0 ∷ js)) → qs ≡ ps → ArePoints M ls qs
-are_points M ls ps qs c e =
-    let is : qs ≡ 0 ∷ c.0 = e ∙ c.2.1 in
-    subst (λ (zs : List ℕ). ArePoints M ls zs) (sym is) record { from_start = refl; follow = c.1; to_end = c.2.0 }
 
 pub encoding_of : (M : Map) (P E : Path) (F G : List ℕ) (A : spec.Answer) → Extends M P E F G → ForPoints M E.lines (λ js. A ≡ answer_of M E js) → Encoding M P A
 encoding_of M P E F G A x a =

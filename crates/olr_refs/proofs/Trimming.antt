@@ -6,7 +6,7 @@ use Rattle.std.proofs.lemmas.List.{take-map, take_all, get_or-take, get_or-drop}
 use Rattle.std.specs.List.{slice_index, slice_range, filter}
 use Rattle.olr_spec.specs.Map.{Map}
 use Rattle.olr_spec.specs.Walks.{dm_of}
-use Rattle.olr_spec.specs.Points.{Candidate, Follow, last_point}
+use Rattle.olr_spec.specs.Points.{Candidate, last_point}
 use Rattle.olr_spec.specs.Reference.{leg, legs, dm_along, from_front, to_back, last_where, first_where, first_kept, last_kept, kept, reference, reference_by}
 use Rattle.olr_spec.proofs.JoinLemmas.{Linked, follow_linked, between}
 use Rattle.olr_spec.proofs.KeptLemmas.{dm_along-legs, whole}
@@ -15,10 +15,6 @@ use Rattle.olr_refs.specs.Kept.{later, AreAlong, ArePoints, AreLinked, AreTrimme
 use Rattle.olr_refs.proofs.Stretches.{distances_rise}
 
 -- ---- the points
-
--- as they are followed to the end
-pub points_followed : (M : Map) (ls ps js : List ℕ) → ps ≡ 0 ∷ js → Follow M ls 0 js → last_point 0 js ≡ length ls → ArePoints M ls ps
-points_followed M ls ps js e f end = subst (ArePoints M ls) (sym e) (record { from_start = refl; follow = f; to_end = end })
 
 linked_at : (M : Map) (ls ps : List ℕ) → Linked M ls ps → AreLinked M ls ps
 linked_at M ls [] l k h = absurd (omega arith)

@@ -42,4 +42,5 @@ raised count (suc n) = counted (raised count n + 1)
 pub record Searches (old new : Work) (n size : ℕ) : Type 0 where
   pub encodings : new.encodings ≡ old.encodings
   pub searches : new.searches ≡ raised old.searches n
+  pub rises : counted old.settled ≤ new.settled
   pub settled : new.settled ≤ old.settled + n * size

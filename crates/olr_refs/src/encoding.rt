@@ -41,6 +41,7 @@ pub fn refer<M: MapRead>(
         (work.old.encodings + 1 < 2 ^ 64 → work.new.encodings ≡ work.old.encodings + 1) }
     ensures searches { OnOk result ((n : ℕ) × SearchesOf (M.map map.now) path.now n
         × (work.new.searches ≡ raised work.old.searches n)) }
+    ensures settled_rises { OnOk result (work.old.settled < 2 ^ 64 → work.old.settled ≤ work.new.settled) }
     ensures settled { IfOk result (λ r. (n : ℕ) × SearchesOf (M.map map.now) path.now n
         × (work.new.settled ≤ work.old.settled + n * length r.1)) }
 {

@@ -186,9 +186,9 @@ fn chain_at_its_limit(rt: HostRuntime) -> Result<(), Fail> {
     let mut map = map_of(&rt, alloc, &places, &roads);
     let course = ([20].as_slice(), 0, 0);
     // Lines 10 and 15 are put before, and node 2 is a point, since node 3 is too far north of node 1 for 16 bits. The
-    // offset of 150,000 dm leaves 50,000 of the 51,000 dm behind node 2: 256 * 50000 / 51000 is 250.98, so the byte fa.
+    // offset of 150,000 dm leaves 50,000 of the 51,000 dm behind node 2: 256 * 50000 / 51000 is 250.98, so 0xfa.
     expect_text(&rt, alloc, &map, course, "CwAAAAAkaQEAVwAAToQBUPo=")?;
-    // One decimetre more, and nothing is put before: 1000 dm from node 3, at 0.4 degree or 48d1, to node 4.
+    // One decimetre more, and nothing is put before: 1000 dm from node 3, at 0.4 degree or 0x48d1, to node 4.
     set_line(&rt, alloc, &mut map, (15, 2, 3, 0, 1, 50_001, STRAIGHT));
     expect_text(&rt, alloc, &map, course, "CwAAAABI0QEAAQAAAGQBEA==")
 }

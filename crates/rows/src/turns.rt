@@ -79,7 +79,7 @@ fn turn_in_the_path(rt: HostRuntime) -> Result<(), Fail> {
     ];
     let map = map_of(&rt, alloc, &places, &roads);
     // Node 2 is passing, so the path becomes 10, 20, 21, 11 with 1000 dm cut off at each end. The dead end, node 3, is
-    // a point: 200 steps east and 30 north, and back. 2100 dm are 3 steps, and 256 * 1000 / 2100 is 121.9, the byte 79.
+    // a point: 200 steps east and 30 north, and back. 2100 dm are 3 steps, and 256 * 1000 / 2100 is 121.9, so 0x79.
     expect_text(
         &rt,
         alloc,

@@ -3,7 +3,7 @@ use Rattle.std.proofs.lemmas.Bool.Decides.{nat_tests}
 use Rattle.std.proofs.lemmas.List.{get_or_default}
 use Rattle.std.specs.List.{slice_index}
 use Rattle.olr_spec.specs.Map.{end}
-use Rattle.olr_refs.proofs.Noting.{notes_reach}
+use Rattle.olr_refs.proofs.Noting.{notes_reach, one_search}
 use Rattle.olr_refs.specs.Choice.{Searches, searches_at}
 use Rattle.olr_refs.proofs.Joined.{known_read, end_known}
 use Rattle.olr_refs.proofs.Stretches.{distances_rise, far_of}
@@ -22,7 +22,7 @@ returns-then-lines-i-le2-clause-reach g c =
 pub returns-then-lines-i-le2-clause-work : goal.returns-then-lines-i-le2-clause-work
 returns-then-lines-i-le2-clause-work g c =
     let none : 0 ≡ searches_at c.args.lines.now c.args.i = grind (arith, nat_tests) in
-    subst (λ (n : ℕ). Searches c.args.work.now c.args.work.now n (length c.args.footprint.now)) none record { encodings = refl; searches = refl; settled = omega arith }
+    subst (λ (n : ℕ). Searches c.args.work.now c.args.work.now n (length c.args.footprint.now)) none record { encodings = refl; searches = refl; rises = omega arith; settled = omega arith }
 
 pub end_of-source-requires : goal.end_of-source-requires
 end_of-source-requires g c = known_read (g.M.MapRead.map c.args.map.now) _ _ _ c.requires.joined c.requires.some c.index-lines-i.is
@@ -41,3 +41,7 @@ pub search-requires-clause-source : goal.search-requires-clause-source
 search-requires-clause-source g c =
     let M = g.M.MapRead.map c.args.map.now in
     end_known M (g.met.M.MapRead.sound c.args.map.now) c.index-lines-i.result c.end_of-source.result (known_read M _ _ _ c.requires.joined c.requires.some c.index-lines-i.is) c.end_of-source.ensures
+
+pub returns-clause-work : goal.returns-clause-work
+returns-clause-work g c =
+    one_search c.args.lines.now c.args.i c.args.work.now c.search.new.work _ _ (omega arith) c.in_ok-labels.ensures.work c.in_ok-labels.ensures.few

@@ -1,4 +1,4 @@
-use Rattle.std.proofs.Common.{sym}
+use Rattle.std.proofs.Common.{sym, arith}
 use Rattle.olr_refs.specs.Answers.{answer_of, refusal_of}
 use Rattle.olr_refs.proofs.Referring.{local_by, foot_by, if_ok, on_ok, and_ok, encodes_by, refused_by, nowhere, searches_by}
 use Rattle.olr_refs.proofs.encoding.refer.Goals as goal
@@ -31,3 +31,8 @@ pub returns-in-None-clause-settled : goal.returns-in-None-clause-settled
 returns-in-None-clause-settled g c =
     let M = g.M.MapRead.map c.args.map.now in
     if_ok c.refer_whole.result _ _ (λ r o. let s = searches_by M c.args.path.now _ _ _ (sym c.in-None.ensures.fault) o in (s.0, s.1, s.2.settled)) c.refer_whole.ensures.work
+
+pub returns-in-None-clause-settled_rises : goal.returns-in-None-clause-settled_rises
+returns-in-None-clause-settled_rises g c =
+    let M = g.M.MapRead.map c.args.map.now in
+    on_ok c.refer_whole.result _ _ (λ r o h. let s = searches_by M c.args.path.now _ _ _ (sym c.in-None.ensures.fault) o in let rises = s.2.rises in omega arith) c.refer_whole.ensures.work

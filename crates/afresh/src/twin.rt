@@ -1,0 +1,148 @@
+//! A map and named paths that are changed by the same commands as a register, and encoded from nothing.
+
+use olr_commands::Command;
+use olr_map::{Edit, Footprint, LineId, NodeId, RoadMap, line_touched, nodes_touched};
+use olr_refs::{Answer, Path, refer};
+use olr_route::Work;
+use std::alloc::Global;
+use std::test::Fail;
+
+/// A path and its name.
+#[derive(Drop)]
+pub struct Named {
+    pub name: String,
+    pub lines: Vec<LineId>,
+    pub pos: u32,
+    pub neg: u32,
+}
+
+/// A map, named paths, and what the commands of a batch touched and gave.
+#[derive(Drop)]
+pub struct Twin {
+    pub roads: RoadMap,
+    pub paths: Vec<Named>,
+    nodes: Vec<NodeId>,
+    lines: Vec<LineId>,
+    given: Vec<String>,
+}
+
+impl Named {
+    /// The path's answer and footprint on a map.
+    pub fn encoded(&self, alloc: Global, roads: &RoadMap) -> Result<(Answer, Footprint), Fail> {
+        let lines = Vec::from_slice(alloc, &self.lines)?;
+        let path = Path::new(alloc, lines, self.pos, self.neg)?;
+        let mut work = Work::default();
+        Ok(refer(alloc, roads, &path, &mut work)?)
+    }
+}
+
+impl Twin {
+    pub fn new(alloc: Global) -> Twin {
+        Twin {
+            roads: RoadMap::new(alloc),
+            paths: Vec::new(alloc),
+            nodes: Vec::new(alloc),
+            lines: Vec::new(alloc),
+            given: Vec::new(alloc),
+        }
+    }
+
+    /// Where the path of that name stands.
+    fn place(&self, name: &str) -> Option<usize> {
+        self.paths
+            .iter()
+            .position(|named| named.name.as_str() == name)
+    }
+
+    /// Forgets what was touched and given so far.
+    pub fn forget(&mut self) {
+        self.nodes.clear();
+        self.lines.clear();
+        self.given.clear();
+    }
+
+    /// Makes a change. Whether it was taken.
+    pub fn change(&mut self, alloc: Global, command: Command) -> Result<bool, Fail> {
+        match command {
+            Command::Edit(edit) => self.edit(edit),
+            Command::AddPath(name, lines, pos, neg) => {
+                if self.place(&name).is_some() || !is_path(alloc, &lines)? {
+                    return Ok(false);
+                }
+                self.given.push(name.clone()?)?;
+                self.paths.push(Named {
+                    name,
+                    lines,
+                    pos,
+                    neg,
+                })?;
+                Ok(true)
+            }
+            Command::SetPath(name, lines, pos, neg) => match self.place(&name) {
+                Some(place) if is_path(alloc, &lines)? => {
+                    self.given.push(name.clone()?)?;
+                    self.paths[place] = Named {
+                        name,
+                        lines,
+                        pos,
+                        neg,
+                    };
+                    Ok(true)
+                }
+                _ => Ok(false),
+            },
+            Command::DropPath(name) => match self.place(&name) {
+                Some(place) => {
+                    let _ = self.paths.remove(place);
+                    Ok(true)
+                }
+                None => Ok(false),
+            },
+            _ => Ok(false),
+        }
+    }
+
+    fn edit(&mut self, edit: Edit) -> Result<bool, Fail> {
+        let nodes = nodes_touched(&self.roads, &edit);
+        let line = line_touched(&edit);
+        match self.roads.apply(edit) {
+            Ok(undo) => {
+                self.roads.keep(undo);
+                if let Some((from, to)) = nodes {
+                    self.nodes.push(from)?;
+                    self.nodes.push(to)?;
+                }
+                if let Some(line) = line {
+                    self.lines.push(line)?;
+                }
+                Ok(true)
+            }
+            Err(_) => Ok(false),
+        }
+    }
+
+    /// How many of this twin's paths the changes since `forget` concern, which found the map `before`.
+    pub fn concerned(&self, alloc: Global, before: &RoadMap) -> Result<u64, Fail> {
+        let mut count = 0u64;
+        for named in &self.paths {
+            let (_, footprint) = named.encoded(alloc, before)?;
+            let given = self
+                .given
+                .iter()
+                .any(|name| name.as_str() == named.name.as_str());
+            if given
+                || self.nodes.iter().any(|node| footprint.has(*node))
+                || self.lines.iter().any(|line| named.lines.contains(line))
+            {
+                count += 1;
+            }
+        }
+        Ok(count)
+    }
+}
+
+/// Whether the lines are those of a path.
+fn is_path(alloc: Global, lines: &[LineId]) -> Result<bool, Fail> {
+    let lines = Vec::from_slice(alloc, lines)?;
+    Ok(Path::new(alloc, lines, 0, 0).is_ok())
+}

@@ -1,0 +1,74 @@
+//! Sets of nodes and their twins, which are given each node once more.
+
+use olr_map::{Footprint, NodeId};
+use std::alloc::Global;
+use std::process::Abort;
+
+fn node(rt: &impl Abort, number: u32) -> NodeId {
+    NodeId::new(number).expect(rt, "a number of a node")
+}
+
+/// Notes a node, a second time where a growth was refused.
+fn note(rt: &impl Abort, set: &mut Footprint, node: NodeId) {
+    if set.note(node).is_err() {
+        let again = set.note(node);
+        assert!(rt; again.is_ok());
+    }
+}
+
+/// Notes the nodes of another set, a second time where a growth was refused.
+fn note_all(rt: &impl Abort, set: &mut Footprint, other: &Footprint) {
+    if set.note_all(other.as_slice()).is_err() {
+        let again = set.note_all(other.as_slice());
+        assert!(rt; again.is_ok());
+    }
+}
+
+fn assert_same(rt: &impl Abort, one: &Footprint, other: &Footprint) {
+    assert_eq!(rt; one.as_slice(), other.as_slice());
+}
+
+/// Every third of the numbers from this one on, ten of them.
+fn thirds(rt: &impl Abort, alloc: Global, first: u32) -> Footprint {
+    let mut set = Footprint::new(alloc);
+    for step in 0..10 {
+        note(rt, &mut set, node(rt, first.saturating_add(3 * step)));
+    }
+    set
+}
+
+#[test]
+fn a_set_survives(rt: HostRuntime) {
+    let alloc = rt.alloc();
+    let mut set = Footprint::new(alloc);
+    let mut twin = Footprint::new(alloc);
+    for step in 0..40 {
+        // in a row without order, and each node twice
+        let next = node(&rt, step * 7 % 20 + 1);
+        if set.note(next).is_err() {
+            assert_same(&rt, &set, &twin);
+            let again = set.note(next);
+            assert!(rt; again.is_ok());
+        }
+        note(&rt, &mut twin, next);
+        assert_same(&rt, &set, &twin);
+        assert!(rt; set.has(next));
+    }
+}
+
+#[test]
+fn a_merged_set_survives(rt: HostRuntime) {
+    let alloc = rt.alloc();
+    let mut set = Footprint::new(alloc);
+    let mut twin = Footprint::new(alloc);
+    for first in [2, 1, 2, 20] {
+        let other = thirds(&rt, alloc, first);
+        if set.note_all(other.as_slice()).is_err() {
+            assert_same(&rt, &set, &twin);
+            let again = set.note_all(other.as_slice());
+            assert!(rt; again.is_ok());
+        }
+        note_all(&rt, &mut twin, &other);
+        assert_same(&rt, &set, &twin);
+    }
+}

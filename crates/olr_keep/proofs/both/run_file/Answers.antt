@@ -1,0 +1,8 @@
+use Rattle.std.proofs.Common.{Option, sym, subst}
+use Rattle.olr_keep.specs.Runs.{RanOn, known_file}
+use Rattle.olr_keep.specs.declared.ends.Status.TheVariants.{AllAccepted}
+use Rattle.olr_keep.proofs.Joining.{no_file}
+use Rattle.olr_keep.proofs.both.run_file.Goals as goal
+
+pub returns-in-None-clause-ran : goal.returns-in-None-clause-ran
+returns-in-None-clause-ran g c = rw c.in-None.is (no_file c.args.stop c.args.register.now (g.W.Write.contents c.args.output.now))
