@@ -72,7 +72,11 @@ impl Pair {
         let accepted = self.register.apply(command(alloc, record)?).is_ok();
         assert_eq!(rt; accepted, rise.is_some(), "whether {record} is accepted");
         let after = self.register.work().encodings;
-        assert_eq!(rt; after, before + rise.unwrap_or(0), "encodings after {record}");
+        assert_eq!(rt;
+            after,
+            before.saturating_add(rise.unwrap_or(0)),
+            "encodings after {record}"
+        );
         self.assert_alike(rt, record)
     }
 
@@ -90,7 +94,7 @@ impl Pair {
             }
             Command::Commit(count) => self.commit(alloc, count),
             Command::Abort => Ok(self.held.take().map(|_| 0)),
-            Command::Show(name) => Ok(self.register.text(&name).map(|_| 0)),
+            Command::Show(name) => Ok(self.register.answer(&name).map(|_| 0)),
             Command::Report => Ok(Some(0)),
             change => self.changed(alloc, change, record),
         }
@@ -107,7 +111,7 @@ impl Pair {
             if !held.change(alloc, change)? {
                 return Ok(None);
             }
-            self.count += 1;
+            self.count = self.count.saturating_add(1);
             push_line(&mut self.pending, record)?;
             return Ok(Some(0));
         }
@@ -138,22 +142,43 @@ impl Pair {
     /// That the register answers what encoding each path of the twin afresh gives.
     fn assert_alike<R: Abort + AllocGlobal>(&self, rt: &R, record: &str) -> Result<(), Fail> {
         let alloc = rt.alloc();
-        assert_eq!(rt; self.register.len(), self.twin.paths.len(), "after {record}");
-        for (k, named) in self.twin.paths.iter().enumerate() {
-            let name = named.name.as_str();
-            assert_eq!(rt; self.register.name_at(k), Some(name), "after {record}");
-            match named.encoded(alloc, &self.twin.roads)?.0 {
-                Answer::Points(reference) => {
-                    let text = to_text(alloc, &reference)?;
-                    assert_eq!(rt; self.register.text(name), Some(text.as_str()), "{name} after {record}");
-                }
-                Answer::Refused(refusal) => match self.register.answer(name) {
-                    Some(Answer::Refused(kept)) => {
-                        assert_eq!(rt; *kept, refusal, "{name} after {record}")
-                    }
-                    _ => panic!(rt; "{name} has a string after {record}"),
-                },
+        assert_eq!(rt;
+            self.register.len(),
+            self.twin.paths.len(),
+            "after {record}"
+        );
+        for k in 0..self.twin.paths.len() {
+            self.assert_path(rt, k, record)?;
+        }
+        Ok(())
+    }
+
+    /// That it answers so of path k.
+    fn assert_path<R: Abort + AllocGlobal>(
+        &self,
+        rt: &R,
+        k: usize,
+        record: &str,
+    ) -> Result<(), Fail> {
+        let alloc = rt.alloc();
+        let Some(named) = self.twin.paths.get(k) else {
+            return Ok(());
+        };
+        let name = named.name.as_str();
+        assert_eq!(rt; self.register.name_at(k), Some(name), "after {record}");
+        let (answer, _) = named.encoded(alloc, &self.twin.roads)?;
+        match answer {
+            Answer::Points(reference) => {
+                let text = to_text(alloc, &reference)?;
+                let kept = self.register.text(name);
+                assert_eq!(rt; kept, Some(text.as_str()), "{name} after {record}");
             }
+            Answer::Refused(refusal) => match self.register.answer(name) {
+                Some(Answer::Refused(kept)) => {
+                    assert_eq!(rt; *kept, refusal, "{name} after {record}");
+                }
+                _ => panic!(rt; "{name} has a string after {record}"),
+            },
         }
         Ok(())
     }
@@ -189,7 +214,12 @@ impl Pair {
             9 => format!(in alloc; "drop-node,{node}")?,
             10 | 11 => format!(in alloc; "path,p{name},0,{},{}", len % 50, line % 8 + 1)?,
             12 | 13 => format!(in alloc; "path,p{name},{},0,{},{}", len % 400, next, next % 8 + 1)?,
-            14 => format!(in alloc; "repath,p{name},0,0,{},{},{}", next, next % 8 + 1, (next % 8 + 1) % 8 + 1)?,
+            14 => format!(in alloc;
+                "repath,p{name},0,0,{},{},{}",
+                next,
+                next % 8 + 1,
+                (next % 8 + 1) % 8 + 1
+            )?,
             15 => format!(in alloc; "drop-path,p{name}")?,
             16 => format!(in alloc; "begin")?,
             17 | 18 => format!(in alloc; "commit,{}", self.count)?,
@@ -203,7 +233,7 @@ impl Pair {
 fn ends(line: u32) -> (u32, u32) {
     match line {
         1..=8 => (line, line % 8 + 1),
-        9..=14 => ((line - 8) % 8 + 1, line - 8),
-        _ => (line - 14, line - 12),
+        9..=14 => (line.saturating_sub(8) % 8 + 1, line.saturating_sub(8)),
+        _ => (line.saturating_sub(14), line.saturating_sub(12)),
     }
 }

@@ -78,27 +78,47 @@ impl Twin {
                 })?;
                 Ok(true)
             }
-            Command::SetPath(name, lines, pos, neg) => match self.place(&name) {
-                Some(place) if is_path(alloc, &lines)? => {
-                    self.given.push(name.clone()?)?;
-                    self.paths[place] = Named {
-                        name,
-                        lines,
-                        pos,
-                        neg,
-                    };
-                    Ok(true)
+            Command::SetPath(name, lines, pos, neg) => {
+                let given = name.clone()?;
+                let named = Named {
+                    name,
+                    lines,
+                    pos,
+                    neg,
+                };
+                if !is_path(alloc, &named.lines)? || !self.put(named) {
+                    return Ok(false);
                 }
-                _ => Ok(false),
-            },
-            Command::DropPath(name) => match self.place(&name) {
-                Some(place) => {
-                    let _ = self.paths.remove(place);
-                    Ok(true)
-                }
-                None => Ok(false),
-            },
+                self.given.push(given)?;
+                Ok(true)
+            }
+            Command::DropPath(name) => Ok(self.take(&name)),
             _ => Ok(false),
+        }
+    }
+
+    /// Puts a path in the place of the one of its name. Whether there is one.
+    fn put(&mut self, named: Named) -> bool {
+        let Some(place) = self.place(&named.name) else {
+            return false;
+        };
+        match self.paths.get_mut(place) {
+            Some(stands) => {
+                *stands = named;
+                true
+            }
+            None => false,
+        }
+    }
+
+    /// Takes the path of that name away. Whether there is one.
+    fn take(&mut self, name: &str) -> bool {
+        match self.place(name) {
+            Some(place) if place < self.paths.len() => {
+                let _ = self.paths.remove(place);
+                true
+            }
+            _ => false,
         }
     }
 
@@ -134,7 +154,7 @@ impl Twin {
                 || self.nodes.iter().any(|node| footprint.has(*node))
                 || self.lines.iter().any(|line| named.lines.contains(line))
             {
-                count += 1;
+                count = count.saturating_add(1);
             }
         }
         Ok(count)

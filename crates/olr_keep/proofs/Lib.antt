@@ -1,4 +1,5 @@
 pub mod RecordLemmas
+pub mod RunLemmas
 pub mod Answering
 pub mod Writing
 pub mod Running

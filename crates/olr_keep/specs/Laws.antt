@@ -1,17 +1,13 @@
 -- The laws of the definitions.
-use Rattle.std.specs.Prelude.{◌≡◌, ℕ, Bool, List, [], ◌++◌, None, Ok}
+use Rattle.std.specs.Prelude.{◌≡◌, ℕ, Bool, List, [], ◌++◌, None}
 use Rattle.csv.specs.Machine.{next_record}
 use Rattle.csv.specs.Reading.{Reached, default_config, strip_bom}
 use Rattle.csv.specs.declared.parser.State.{State as CsvState}
 use Rattle.csv.specs.declared.parser.State.TheVariants as st
-use Rattle.olr_commands.specs.State.{State, Command, HasPlaces, IsState}
+use Rattle.olr_commands.specs.State.{State, IsState}
 use Rattle.olr_commands.specs.Reply.{Outcome}
-use Rattle.olr_records.specs.Records.{Field, read}
+use Rattle.olr_records.specs.Records.{Field}
 use Rattle.olr_keep.specs.Output.{Status, Outcomes, Ran, AllHadMemory, records_of}
-
--- the places that are read are in range
-abbrev pub PlacesRead : Type 0
-PlacesRead = (fields : List Field) (c : Command) → read fields ≡ Ok c → HasPlaces c
 
 -- outcomes keep the register sound
 abbrev pub OutcomesKeep : Type 0

@@ -15,10 +15,12 @@ use std::convert::AsStr;
 const ABOUT: &str = "Keeps published OpenLR strings right while the road map under them is edited.";
 
 const AFTER_HELP: &str =
-    "Commands are records of comma-separated fields, such as `node,1,6.12683,49.60852`. \
-Each is answered on standard output by `ok,N` and N lines, by `held,N` in a batch, or by `fault,NUMBER,WORD`.
+    "Commands are records of comma-separated fields, such as `node,1,6.12683,49.60852`.
+Each is answered on standard output by `ok,N` and N lines, by `held,N` in a batch,
+or by `fault,NUMBER,WORD`.
 
-Status: 0 all accepted, 1 some refused, 2 wrong words, 3 a file or a stream failed, 4 no memory.";
+Status: 0 all accepted, 1 some refused, 2 wrong words, 3 a file or a stream failed,
+4 no memory.";
 
 /// The program's arguments.
 fn command<'a>(alloc: Global) -> Result<Command<'a>, AllocError>

@@ -8,9 +8,13 @@ mod arguments;
 mod both;
 mod command_line;
 mod ends;
+mod laws;
 mod output;
 mod program;
+mod rows;
 mod run;
+#[cfg(test)]
+mod tests;
 
 use ends::RunFault;
 use olr_register::Register;

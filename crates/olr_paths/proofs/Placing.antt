@@ -2,7 +2,7 @@
 use Rattle.std.proofs.Common.{◌≡◌, ℕ, zero, suc, ◌≤◌, List, [], ◌∷◌, ◌++◌, length, refl, sym, ap, ◌∙◌, arith}
 use Rattle.olr_paths.specs.Items.{Made, Item}
 use Rattle.olr_paths.specs.Changes.{with_made}
-use Rattle.std.proofs.Common.{map, slice_get, Option, Some, None}
+use Rattle.std.proofs.Common.{slice_get, Option, Some, None}
 use Rattle.std.proofs.lemmas.List.{map-append}
 use Rattle.std.specs.Option.{option_to_list}
 use Rattle.std.specs.Prelude.{string_bytes}

@@ -3,15 +3,14 @@
 --     through_none, through_kept, through_made      no path; one more that stays; one more that was encoded
 use Rattle.std.proofs.Common.{◌≡◌, ◌≢◌, ℕ, map, zero, suc, cond, take, is_some, ◌+◌, ◌<◌, ◌^◌, Bool, true, false, List, [], ◌∷◌, ◌++◌, length, filter, slice_get, Option, None, Some, option_map, ◌⊎◌, inl, inr, refl, sym, ap, subst, ◌∙◌, append_assoc, arith}
 use Rattle.std.proofs.lemmas.Bool.{both_ways}
-use Rattle.std.proofs.lemmas.List.{append-nil}
 use Rattle.olr_spec.specs.Map.{Map}
 use Rattle.olr_spec.specs.Encoding.{Answer}
 use Rattle.olr_commands.specs.Reply.{Entry, entry}
 use Rattle.olr_paths.specs.Items.{Made, Item, IsMade, answer_in}
 use Rattle.olr_paths.specs.Changes.{is_concerned, with_made, IsRenewed, AreRenewed, Reported, Follows, how_many}
-use Rattle.olr_paths.specs.Renewing.{put, all_put, Told}
-use Rattle.std.proofs.lemmas.List.{length-take-le, take_more}
-use Rattle.std.proofs.lemmas.Option.{slice_get_within, get_or_from_slice_get}
+use Rattle.olr_paths.specs.Renewing.{all_put, Told}
+use Rattle.std.proofs.lemmas.List.{length-take-le}
+use Rattle.std.proofs.lemmas.Option.{slice_get_within}
 use Rattle.std.specs.Prelude.{if◌then◌else◌}
 use Rattle.olr_spec.specs.Extension.{Path}
 use Rattle.olr_route.specs.declared.work.Work.{Work}
@@ -22,6 +21,7 @@ use Rattle.olr_paths.specs.Renewing.{puts_of, made_at}
 use Rattle.olr_commands.specs.Words.{entry_of}
 use Rattle.olr_commands.specs.declared.reply.Entry.{Entry as Written}
 use Rattle.olr_paths.specs.declared.renewal.Renewal.{Renewal}
+use Rattle.olr_paths.proofs.NamedEntries.{take_more_items}
 use Rattle.olr_paths.proofs.Placing.{put_behind, all_put-push}
 use lib.Pointwise.{bytes_decides}
 
@@ -148,9 +148,7 @@ Encoded M before place name path r s =
 
 module _ (M : Map) (nodes lines : List ℕ) (before is : List Item) (place : ℕ) (i : Item) (follows : Follows before is) (at : slice_get is place ≡ Some i) (r : Renewal) (old now : Work) (h : SoFar M nodes lines before is place r old now) where
   more : take (place + 1) is ≡ take place is ++ i ∷ []
-  more =
-      let within : place < length is = slice_get_within is place i at in
-      take_more is place i within ∙ ap (λ (j : Item). take place is ++ j ∷ []) (get_or_from_slice_get is place i i at)
+  more = take_more_items is place i at
 
   pub so_far_kept : is_concerned nodes lines i ≡ false → SoFar M nodes lines before is (place + 1) r old now
   so_far_kept unconcerned =

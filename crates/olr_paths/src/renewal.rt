@@ -56,12 +56,12 @@ fn touches_line(touched: &Touched, lines: &[LineId]) -> bool
 }
 
 /// Whether a path has to be encoded: it was not yet, its footprint holds a touched node, or one of its lines was touched.
-fn concerns(touched: &Touched, entry: &NamedPath) -> bool
-    ensures { result ≡ is_concerned (nodes_of touched.now) (lines_of touched.now) (item_of [] entry.now) }
+fn concerns(touched: &Touched, named: &NamedPath) -> bool
+    ensures { result ≡ is_concerned (nodes_of touched.now) (lines_of touched.now) (item_of [] named.now) }
 {
-    match &entry.published {
+    match &named.published {
         Some(published) => {
-            touches_node(touched, &published.footprint) || touches_line(touched, entry.path.lines())
+            touches_node(touched, &published.footprint) || touches_line(touched, named.path.lines())
         }
         None => true,
     }
@@ -151,17 +151,17 @@ fn made<M: MapRead>(
         entries: Vec::new(alloc),
     };
     for position in 0..list.paths.len() {
-        let Some((name, entry)) = list.paths.get_index(position) else {
+        let Some((name, named)) = list.paths.get_index(position) else {
             unreachable!()
         };
-        if concerns(touched, entry) {
+        if concerns(touched, named) {
             renewal.encode(
                 alloc,
                 map,
                 before,
                 position,
                 name.as_str(),
-                &entry.path,
+                &named.path,
                 work,
             )?;
         }
@@ -174,8 +174,8 @@ fn place(list: &mut Listing, mut fresh: Vec<(usize, Rc<Published>)>)
     ensures { items list.new ≡ all_put (items list.old) (puts_of fresh.items) }
 {
     while let Some((position, published)) = fresh.pop() {
-        if let Some(entry) = list.paths.get_index_mut(position) {
-            entry.published = Some(published);
+        if let Some(named) = list.paths.get_index_mut(position) {
+            named.published = Some(published);
         }
     }
 }

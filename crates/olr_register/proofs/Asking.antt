@@ -1,10 +1,9 @@
 -- What the register shows of its paths.
-use Rattle.std.proofs.Common.{◌≡◌, ℕ, Bool, true, false, cond, List, [], ◌∷◌, map, Option, Some, None, refl, sym, ap, ◌∙◌, subst}
+use Rattle.std.proofs.Common.{◌≡◌, ℕ, true, false, cond, List, [], ◌∷◌, map, Option, Some, None, refl, sym, ap, ◌∙◌, subst}
 use Rattle.std.specs.Prelude.{is_some, slice_get, option_map, option_and_then, MatchOption, IsSomeAnd}
 use Rattle.std.specs.Result.{result_ok}
 use Rattle.olr_spec.specs.Map.{Map}
 use Rattle.olr_spec.specs.Encoding.{Answer, Encodes}
-use Rattle.olr_spec.specs.Extension.{Path}
 use Rattle.olr_commands.specs.State.{Named, Content, IsContent, same_name, path_named}
 use Rattle.olr_commands.specs.Reply.{Entry, entry, Published, PublishedText, published, Shown, AllOf}
 use Rattle.olr_paths.specs.Items.{Made, Item, AreMade, all_named, made_in, answer_in}

@@ -1,7 +1,5 @@
 -- What it takes to answer a command that leaves the register as it was.
-use Rattle.std.proofs.Common.{inr, ◌≡◌, ℕ, ◌+◌, ◌<◌, ◌^◌, Bool, true, false, not, List, [], ◌∷◌, Option, Some, None, is_some, Ok, Err, IsTrue, refl, sym, ap, ◌∙◌, subst, add-zero}
-use Rattle.std.specs.Prelude.{◌==◌}
-use Rattle.olr_spec.specs.Map.{Map}
+use Rattle.std.proofs.Common.{inr, ◌≡◌, ℕ, Bool, true, false, not, List, [], ◌∷◌, Option, Some, None, is_some, Ok, Err, refl, sym, ap, ◌∙◌, subst, add-zero}
 use Rattle.olr_spec.specs.Extension.{Path}
 use Rattle.olr_spec.specs.Reference.{Reference}
 use Rattle.olr_commands.specs.State as state

@@ -1,12 +1,10 @@
 -- Whole runs.
-use Rattle.std.proofs.Common.{◌≡◌, ℕ, Bool, true, false, List, [], ◌∷◌, ◌++◌, map, Option, Some, None, Result, Ok, Err, IsTrue, refl, sym, ap, ◌∙◌, subst}
+use Rattle.std.proofs.Common.{◌≡◌, ℕ, true, List, [], ◌∷◌, ◌++◌, map, Option, Some, None, Result, Ok, Err, refl, sym, ap, ◌∙◌, subst}
 use Rattle.std.specs.Prelude.{IsSomeAnd, MatchOption}
 use Rattle.std.specs.Result.{result_unwrap_or}
-use Rattle.olr_spec.specs.Map.{Map}
 use Rattle.olr_spec.specs.Extension.{Path}
 use Rattle.olr_spec.specs.Encoding.{Answer, Encodes}
-use Rattle.olr_commands.specs.State as state
-use Rattle.olr_commands.specs.State.{Content, no_content, path_named, IsContent, Fault, Change, after, Command, Make, Show, Report, Explain, Begin, Commit, Abort, State, start_state, step, brought}
+use Rattle.olr_commands.specs.State.{Content, path_named, IsContent, Fault, Change, after, Command, Make, Show, Report, Explain, Begin, Commit, Abort, State, start_state, step, brought}
 use Rattle.olr_commands.specs.Reply.{Entry, Reply, Paths, Differences, IsReply, Published, Outcome, IsOutcome}
 use Rattle.olr_commands.specs.Kept.{Kept, Stands}
 use Rattle.olr_commands.specs.History.{History, OneOf, next_state, all_brought}

@@ -1,7 +1,6 @@
 -- An edit of the map that is made at once.
-use Rattle.std.proofs.Common.{inl, inr, ◌⊎◌, ◌≡◌, ℕ, ◌+◌, ◌<◌, ◌^◌, Bool, true, false, List, [], ◌∷◌, ◌++◌, map, Option, Some, None, Result, Ok, Err, refl, sym, ap, ◌∙◌, subst}
-use Rattle.std.specs.Prelude.{MatchResult, IfNone, ◌==◌, ◌||◌}
-use Rattle.std.specs.Option.{option_to_list}
+use Rattle.std.proofs.Common.{◌≡◌, ℕ, ◌+◌, ◌<◌, ◌^◌, Bool, List, [], Option, Some, None, Result, Ok, Err, refl, sym, ap, ◌∙◌, subst}
+use Rattle.std.specs.Prelude.{MatchResult, ◌||◌}
 use Rattle.olr_spec.specs.Map.{Map, Edit, MapFault, edited, touched_nodes, touched_lines}
 use Rattle.olr_spec.specs.Laws.{HasPlace}
 use Rattle.olr_spec.specs.Extension.{has}
@@ -19,7 +18,7 @@ use Rattle.olr_commands.specs.Words.{reply_of, fault_of, map_fault_of}
 use Rattle.olr_commands.specs.declared.reply.Reply.{Reply}
 use Rattle.olr_commands.specs.declared.fault.CommandFault.{CommandFault}
 use Rattle.olr_commands.specs.declared.fault.CommandFault.TheVariants as fault
-use Rattle.olr_paths.specs.Items.{Item, AreMade, all_named}
+use Rattle.olr_paths.specs.Items.{Item, all_named}
 use Rattle.olr_paths.specs.Changes.{AreRenewed, Reported, how_many}
 use Rattle.olr_register.specs.Holding.{IsRegister}
 use Rattle.olr_register.specs.Answering.{Answered}

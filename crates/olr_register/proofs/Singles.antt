@@ -1,5 +1,5 @@
 -- Changes that are made at once.
-use Rattle.std.proofs.Common.{inl, inr, ◌⊎◌, ◌≡◌, ℕ, ◌+◌, ◌<◌, ◌^◌, Bool, true, false, not, List, [], ◌∷◌, ◌++◌, map, Option, Some, None, is_some, Result, Ok, Err, IsTrue, refl, sym, ap, ◌∙◌, subst, ◌↔◌}
+use Rattle.std.proofs.Common.{◌≡◌, ℕ, Bool, true, List, map, Option, Some, None, is_some, Result, Ok, Err, refl, sym, ap, ◌∙◌, subst, ◌↔◌}
 use Rattle.olr_spec.specs.Map.{Map, MapFault}
 use Rattle.olr_map.specs.Edits as edits
 use Rattle.olr_map.specs.declared.edit.EditFault.{EditFault}
@@ -12,12 +12,11 @@ use Rattle.olr_commands.specs.State as state
 use Rattle.olr_commands.specs.State.{Content, IsContent, path_named, has_path, Fault, Map_fault, Change, On_map, with_map, changed, made, Make, State, step}
 use Rattle.olr_commands.specs.Reply as told
 use Rattle.olr_commands.specs.Reply.{Differences, IsReply, IsOutcome, IsRefusal, Told, Lacks, may_want}
-use Rattle.olr_commands.specs.Kept.{Stands, StandsIn}
+use Rattle.olr_commands.specs.Kept.{StandsIn}
 use Rattle.olr_commands.specs.Registered.{Registered, Counted}
 use Rattle.olr_commands.specs.Words.{reply_of, fault_of, map_fault_of}
 use Rattle.olr_commands.specs.declared.reply.Reply.{Reply}
 use Rattle.olr_commands.specs.declared.fault.CommandFault.{CommandFault}
-use Rattle.olr_commands.specs.declared.fault.CommandFault.TheVariants as fault
 use Rattle.olr_paths.specs.Items.{Item, AreMade, all_named}
 use Rattle.olr_register.specs.Holding.{kept_of, IsRegister}
 use Rattle.olr_register.specs.Answering.{Answered}

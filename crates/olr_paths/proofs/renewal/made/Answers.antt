@@ -1,11 +1,9 @@
-use Rattle.std.proofs.Common.{◌≡◌, ◌+◌, Some, slice_get, sym, ap, subst, ◌∙◌}
-use Rattle.std.proofs.lemmas.Option.{slice_get-map}
-use Rattle.std.specs.Prelude.{option_map, string_bytes}
+use Rattle.std.proofs.Common.{◌≡◌, ◌+◌, Some, slice_get, sym, subst, ◌∙◌}
 use Rattle.olr_route.specs.declared.work.Work.{Work}
 use Rattle.olr_paths.specs.Items.{Item, items}
 use Rattle.olr_paths.specs.Touching.{nodes_of, lines_of}
 use Rattle.olr_paths.specs.declared.renewal.Renewal.{Renewal}
-use Rattle.olr_paths.proofs.NamedEntries.{item_of}
+use Rattle.olr_paths.proofs.NamedEntries.{item_of, item_at}
 use Rattle.olr_paths.proofs.Through.{SoFar, so_far_none, so_far_kept, so_far_made}
 use Rattle.olr_paths.proofs.renewal.made.Goals as goal
 use Rattle.olr_paths.proofs.renewal.made.Goals.{then-concerns+in_ok-encode, else-concerns}
@@ -22,8 +20,8 @@ loop-position-preserved g c =
     let before = items c.args.before.now in
     let is = items c.args.list.now in
     let position = c.loop-position.position in
-    let i : Item = item_of (c.in-Some.name.now, c.in-Some.entry.now) in
-    let at : slice_get is position ≡ Some i = slice_get-map item_of c.args.list.now.paths.entries position ∙ ap (option_map item_of) (sym c.in-Some.ensures.entry) in
+    let i : Item = item_of (c.in-Some.name.now, c.in-Some.named.now) in
+    let at : slice_get is position ≡ Some i = item_at c.args.list.now.paths.entries position (c.in-Some.name.now, c.in-Some.named.now) (sym c.in-Some.ensures.entry) in
     elim c.if-concerns.branch [
       | then-concerns+in_ok-encode w ↦
           subst (λ (r : Renewal). SoFar M nodes lines before is (position + 1) r c.args.work.now c.if-concerns.work) (sym w.renewal-is)

@@ -1,4 +1,4 @@
-use Rattle.std.proofs.Common.{◌≡◌, ◌∙◌, ℕ, List, ap, sym}
+use Rattle.std.proofs.Common.{◌∙◌, ℕ, List, ap}
 use Rattle.std.specs.List.{list_any}
 use Rattle.olr_spec.specs.Extension.{has}
 use Rattle.olr_paths.proofs.Touches.{shared}

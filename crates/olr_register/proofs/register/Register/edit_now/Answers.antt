@@ -1,4 +1,4 @@
-use Rattle.std.proofs.Common.{◌≡◌, ◌==◌, ◌||◌, ℕ, Ok, None, List, refl, ap, ◌∙◌, subst, sym}
+use Rattle.std.proofs.Common.{◌==◌, ◌||◌, ℕ, Ok, None, List, refl, ap, ◌∙◌, subst, sym}
 use Rattle.olr_spec.specs.Map.{Map, touched_nodes, touched_lines}
 use Rattle.olr_spec.specs.Extension.{has}
 use Rattle.olr_map.specs.Edits.{edit_of}

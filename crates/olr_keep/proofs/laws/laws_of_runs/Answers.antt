@@ -1,0 +1,12 @@
+use Rattle.olr_keep.proofs.RecordLemmas.{first_records}
+use Rattle.olr_keep.proofs.RunLemmas.{outcomes_keep, one_run}
+use Rattle.olr_keep.proofs.laws.laws_of_runs.Goals as goal
+
+pub returns-clause-kept : goal.returns-clause-kept
+returns-clause-kept c = outcomes_keep
+
+pub returns-clause-one : goal.returns-clause-one
+returns-clause-one c = one_run
+
+pub returns-clause-first : goal.returns-clause-first
+returns-clause-first c = first_records

@@ -1,0 +1,11 @@
+//! The laws of whole runs.
+
+ghost use Rattle.olr_keep.specs.Laws;
+
+/// Outcomes keep the register sound; where memory never lacks, the state at entry and the bytes that are read determine
+/// what is written, the status and the state at the end; and records that are taken one after another are the first ones.
+pub fn laws_of_runs()
+    ensures kept { Laws.OutcomesKeep }
+    ensures one { Laws.OneRun }
+    ensures first { Laws.FirstRecords }
+{}
