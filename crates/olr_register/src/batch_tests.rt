@@ -1,84 +1,18 @@
 //! Batches over a worked map, with texts and counts from outside.
 
 use crate::Register;
+use crate::worked::{
+    SIDE_ROAD_DROPPED, WORKED, assert_quiet, assert_refused, assert_told, line, lines, name,
+    new_node, node, place, road,
+};
 use olr_commands::{CommandFault, Reply};
-use olr_coords::Coord;
-use olr_map::{Edit, EditFault, Line, LineId, NodeId, Shape};
+use olr_map::{Edit, EditFault};
 use std::alloc::{AllocError, Global};
 use std::process::Abort;
 use std::test::Fail;
 
-/// The text of the worked path.
-const WORKED: &str = "CwRbWyNG9RpsCQCb/jsbtAT/6/+jK1lE";
-/// Its text without the side road.
-const SIDE_ROAD_DROPPED: &str = "CwRbWyNG9RqsDgCG/d4rWS0=";
-/// Its text with an offset past the first stretch.
+/// The text of the worked path with an offset past the first stretch.
 const OFFSET_PAST_THE_FIRST: &str = "CwRboyNGIRu0BP/r/6MrWSQ=";
-
-fn line(rt: &impl Abort, number: u32) -> LineId {
-    LineId::new(number).expect(rt, "a number from 1")
-}
-
-/// The place with this longitude and latitude, in 1/100,000 degree.
-fn place(rt: &impl Abort, lon: i32, lat: i32) -> Coord {
-    Coord::new(i64::from(lon) * 3_276_800, i64::from(lat) * 3_276_800).expect(rt, "a place")
-}
-
-fn node(rt: &impl Abort, number: u32) -> NodeId {
-    NodeId::new(number).expect(rt, "a number from 1")
-}
-
-fn new_node(rt: &impl Abort, number: u32, lon: i32, lat: i32) -> Edit {
-    Edit::AddNode(node(rt, number), place(rt, lon, lat))
-}
-
-/// Line 10, 20, 30 or the side road 99.
-fn road(rt: &impl Abort, alloc: Global, number: u32) -> Result<Edit, AllocError> {
-    let (from, to, frc, fow, len, points) = match number {
-        10 => (
-            1,
-            2,
-            3,
-            2,
-            5610,
-            [(200, 612_701, 4_960_838), (5410, 612_820, 4_960_413)].as_slice(),
-        ),
-        20 => (2, 3, 3, 3, 2000, [(200, 612_820, 4_960_389)].as_slice()),
-        30 => (3, 4, 5, 3, 740, [(540, 612_792, 4_960_311)].as_slice()),
-        _ => (2, 3, 4, 3, 1500, [].as_slice()),
-    };
-    let mut shape = Vec::new(alloc);
-    for (at, lon, lat) in points {
-        shape.push(Shape {
-            at: *at,
-            place: place(rt, *lon, *lat),
-        })?;
-    }
-    let (from, to) = (node(rt, from), node(rt, to));
-    Ok(Edit::AddLine(
-        line(rt, number),
-        Line {
-            from,
-            to,
-            frc,
-            fow,
-            len,
-            shape,
-        },
-    ))
-}
-
-fn lines(rt: &impl Abort, alloc: Global, numbers: &[u32]) -> Result<Vec<LineId>, AllocError> {
-    let mut ids = Vec::new(alloc);
-    for number in numbers {
-        ids.push(line(rt, *number))?;
-    }
-    Ok(ids)
-}
-
-fn name(alloc: Global, text: &str) -> Result<String, AllocError> {
-    String::from_str(alloc, text)
-}
 
 /// Gives an edit to the open batch.
 fn give(rt: &impl Abort, register: &mut Register, edit: Edit) -> Result<Reply, CommandFault> {
@@ -92,35 +26,6 @@ fn assert_held(rt: &impl Abort, outcome: Result<Reply, CommandFault>, count: u32
         Ok(Reply::Held(held)) => assert_eq!(rt; held, count),
         _ => assert!(rt; false, "not held as {count}"),
     }
-}
-
-/// That it was accepted, and told no path.
-fn assert_quiet(rt: &impl Abort, outcome: Result<Reply, CommandFault>) {
-    match outcome {
-        Ok(Reply::Paths(entries)) => assert_eq!(rt; entries.len(), 0),
-        _ => assert!(rt; false, "not accepted"),
-    }
-}
-
-/// That it was accepted, and told path `a` with this text.
-fn assert_told(rt: &impl Abort, outcome: Result<Reply, CommandFault>, text: &str) {
-    match outcome {
-        Ok(Reply::Paths(entries)) => {
-            assert_eq!(rt; entries.len(), 1);
-            for entry in &entries {
-                assert_eq!(rt; entry.name.as_str(), "a");
-                match &entry.published {
-                    Ok(published) => assert_eq!(rt; published.as_str(), text),
-                    Err(_) => assert!(rt; false, "no text"),
-                }
-            }
-        }
-        _ => assert!(rt; false, "not accepted"),
-    }
-}
-
-fn assert_refused(rt: &impl Abort, outcome: Result<Reply, CommandFault>, fault: CommandFault) {
-    assert_eq!(rt; outcome.err(), Some(fault));
 }
 
 /// The register of the worked map and path, made by one batch.

@@ -10,6 +10,10 @@ mod holds;
 mod questions;
 pub mod register;
 mod single;
+#[cfg(test)]
+mod tests;
+#[cfg(test)]
+mod worked;
 
 pub use applying::replay;
 pub use register::Register;
