@@ -1,5 +1,5 @@
 -- The outcome of a record, by what was read of it.
-use Rattle.std.proofs.Common.{◌≡◌, List, Ok, Err, inl, inr, refl, sym, subst}
+use Rattle.std.proofs.Common.{List, Ok, Err, inl, inr, refl, sym, subst}
 use Rattle.olr_commands.specs.State as state
 use Rattle.olr_commands.specs.State.{State}
 use Rattle.olr_commands.specs.Reply.{Outcome, IsOutcome}

@@ -1,6 +1,5 @@
 -- Two runs on one register.
-use Rattle.std.proofs.Common.{◌≡◌, ◌≢◌, Bool, List, [], ◌++◌, None, Some, inl, inr, refl, sym, subst}
-use Rattle.std.specs.Io.KnownBytes.{Appends}
+use Rattle.std.proofs.Common.{◌≡◌, ◌≢◌, Bool, [], ◌++◌, None, Some, inl, inr, refl, sym, subst}
 use Rattle.std.proofs.KnownBytes.{Appends-nil, Appends-trans}
 use Rattle.csv.proofs.OnLiterals.{csv_on_literals}
 use Rattle.olr_commands.specs.Registered.{Registered}

@@ -1,10 +1,9 @@
 -- The records that a run has answered so far.
-use Rattle.std.proofs.Common.{◌≡◌, ◌∙◌, ◌+◌, ◌<◌, ℕ, Bool, true, false, List, [], ◌∷◌, ◌++◌, length, Option, option_map, None, Some, IfSome, Result, Ok, Err, IfErr, IsTrue, inl, inr, refl, sym, ap, subst, arith, append_assoc, length-append}
+use Rattle.std.proofs.Common.{◌≡◌, ◌∙◌, ◌+◌, ◌<◌, ℕ, Bool, true, false, List, [], ◌∷◌, ◌++◌, length, option_map, None, Some, IfSome, Result, Ok, Err, IfErr, IsTrue, inl, inr, refl, sym, ap, subst, arith, length-append}
 use Rattle.std.specs.Prelude.{◌&&◌, ◌||◌, is_err, is_ok, IsErrAnd, if◌then◌else◌}
 use Rattle.std.proofs.lemmas.List.{append-nil}
 use Rattle.std.proofs.lemmas.List.Concat.{flat_map-append}
 use Rattle.std.proofs.lemmas.List.Folds.{list_any-append}
-use Rattle.std.proofs.lemmas.Bool.{cases_Bool}
 use Rattle.std.specs.Io.KnownBytes.{Appends}
 use Rattle.std.proofs.KnownBytes.{Appends-nil, Appends-trans}
 use Rattle.csv.specs.Machine.{next_record}
@@ -25,7 +24,6 @@ use Rattle.olr_keep.specs.Runs.{Known, IsPlain, status_of, Told}
 use Rattle.olr_keep.specs.declared.ends.Status.{Status}
 use Rattle.olr_keep.specs.declared.ends.Status.TheVariants as ended
 use Rattle.olr_keep.specs.declared.ends.RunFault.{RunFault}
-use Rattle.olr_keep.specs.declared.ends.RunFault.TheVariants as fault
 use Rattle.olr_keep.proofs.RecordLemmas.{first_records}
 
 -- ---- outcomes

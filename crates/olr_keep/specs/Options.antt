@@ -2,7 +2,7 @@
 --     keep_app      the program's arguments, -m FILE and -s, beside the flags for help and the version
 --     Options, options words      a file and whether to stop, by clap's matches of the words
 --     IsAnswer kinds fault      clap's answer is of one of these kinds, or there was no memory
-use Rattle.std.specs.Prelude.{◌≡◌, ℕ, Bool, true, false, List, Option, Some, None, option_map, codes, ⊤}
+use Rattle.std.specs.Prelude.{ℕ, Bool, true, false, List, Option, Some, None, option_map, codes, ⊤}
 use Rattle.std.specs.Str.{bytes_eq}
 use Rattle.clap.specs.Kinds.{Kinds, IsAmong}
 use Rattle.clap.specs.Simple.{App, on_top, new_app, new_rule, with_rule, matches_of}

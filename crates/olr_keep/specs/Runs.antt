@@ -5,7 +5,7 @@
 --     Told old fields new before later r      the same, and its text was written
 --     RanOn, FaultedOn      a run.        BothRanOn, BothFaultedOn      two runs
 --     exit_code r      the status of the program
-use Rattle.std.specs.Prelude.{◌≡◌, ◌≢◌, ℕ, ◌<◌, Bool, List, [], ◌++◌, ◌⊎◌, length, Option, Some, Result, Ok, Err, IfOk, IfSome, is_ok}
+use Rattle.std.specs.Prelude.{◌≡◌, ℕ, ◌<◌, Bool, List, [], ◌++◌, ◌⊎◌, length, Option, Some, Result, Ok, Err, IfSome, is_ok}
 use Rattle.std.specs.Io.KnownBytes.{Appends}
 use Rattle.std.specs.Option.{option_map_or}
 use Rattle.std.specs.Borrow.{Bor}

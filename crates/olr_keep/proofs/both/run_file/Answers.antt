@@ -1,6 +1,3 @@
-use Rattle.std.proofs.Common.{Option, sym, subst}
-use Rattle.olr_keep.specs.Runs.{RanOn, known_file}
-use Rattle.olr_keep.specs.declared.ends.Status.TheVariants.{AllAccepted}
 use Rattle.olr_keep.proofs.Joining.{no_file}
 use Rattle.olr_keep.proofs.both.run_file.Goals as goal
 

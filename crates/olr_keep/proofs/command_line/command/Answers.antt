@@ -1,5 +1,5 @@
 -- The builder's calls make the definition of the arguments.
-use Rattle.std.proofs.Common.{rules, ◌≡◌, ◌∙◌, true, false, codes, refl, ap, ap₂, Some}
+use Rattle.std.proofs.Common.{rules, ◌≡◌, ◌∙◌, true, codes, ap, ap₂, Some}
 use Rattle.std.proofs.lemmas.Result.{IfOk-weaker}
 use Rattle.clap.specs.Simple.{App, app_of, app_of_fields, new_app, new_rule, on_top, with_rule}
 use Rattle.clap.specs.Walk.{Rule, rule_of}

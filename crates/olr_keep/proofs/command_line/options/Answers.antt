@@ -1,15 +1,14 @@
 -- By clap's rows of the words, which are those of the definition.
-use Rattle.std.proofs.Common.{rules, ◌≡◌, ◌∙◌, ℕ, List, [], map, Option, Bool, sym, ap, ap₂, codes, false, true}
+use Rattle.std.proofs.Common.{◌≡◌, ◌∙◌, map, sym, ap, codes, false, true}
 use Rattle.std.proofs.lemmas.Bool.{false≢true}
 use Rattle.clap.specs.Faults.{fault_of, is_simple_and_free}
 use Rattle.clap.specs.Matches.{found_of}
 use Rattle.clap.specs.Simple.{App, app_of, is_simple, matches_of}
 use Rattle.clap.specs.Takes.{takes}
 use Rattle.clap.specs.Walk.{Text, first_of, rows_of}
-use Rattle.clap.specs.Values.{kind_of}
 use Rattle.clap.specs.declared.error.kind.ErrorKind.TheVariants.{OutOfMemory}
 use Rattle.clap.proofs.WalkLemmas.{first_value-rows}
-use Rattle.olr_keep.specs.Options.{Options, keep_app, is_set}
+use Rattle.olr_keep.specs.Options.{keep_app, is_set}
 use Rattle.olr_keep.proofs.command_line.options.Goals as goal
 
 pub returns-in-Ok-try_get_matches_from-clause-ok : goal.returns-in-Ok-try_get_matches_from-clause-ok

@@ -1,11 +1,10 @@
 -- Each end of a run, by the records so far.
-use Rattle.std.proofs.Common.{rules, ◌≡◌, ◌∙◌, ◌+◌, ◌≤◌, inl, inr, ap, arith, true, false}
+use Rattle.std.proofs.Common.{rules, ◌≡◌, ◌∙◌, inr, ap, arith, true}
 use Rattle.std.specs.Prelude.{IsErrAnd}
 use Rattle.csv.specs.Reading.{builder_config, builder_trim, builder_names_headers, with_flexible}
 use Rattle.csv.specs.Records.{fields_of}
 use Rattle.csv.specs.declared.reader.ReaderBuilder.{ReaderBuilder}
 use Rattle.csv.proofs.ReadFacts.{rows-end}
-use Rattle.olr_keep.specs.Output.{most_records}
 use Rattle.olr_keep.proofs.Running.{within, at_start, fault_is, one_more, accepted_so_far, refused_so_far, ran_whole, ran_stopped, faulted_between, faulted_answer, too_many}
 use Rattle.olr_keep.proofs.run.run.Goals as goal
 

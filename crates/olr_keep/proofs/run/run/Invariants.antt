@@ -1,4 +1,4 @@
-use Rattle.std.proofs.Common.{◌≤◌, ◌-◌, ◌^◌}
+use Rattle.std.proofs.Common.{◌≤◌, ◌-◌}
 use Rattle.std.specs.Prelude.{IfSome}
 use Rattle.csv.specs.Reading.{source_of, reader_state}
 use Rattle.olr_keep.specs.Output.{most_records}
