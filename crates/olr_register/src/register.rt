@@ -68,8 +68,8 @@ impl Register {
     pub fn text(&self, name: &str) -> Option<&str>
         ensures { PublishedText self.now.kept.content name.now (option_map (λ t. t.now) result) }
     {
-        let published = self.paths.published(name)?;
-        published.text()
+        let shown = self.paths.published(name)?;
+        shown.text()
     }
 
     /// How many paths there are, those of an open batch left out.
