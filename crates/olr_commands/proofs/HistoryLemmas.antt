@@ -1,13 +1,11 @@
 -- Whole runs.
-use Rattle.std.proofs.Common.{inl, inr, ◌≡◌, ℕ, Bool, true, false, cond, not, List, [], ◌∷◌, ◌++◌, length, Option, Some, None, is_some, Result, Ok, Err, IsTrue, refl, sym, ap, ◌∙◌, subst}
+use Rattle.std.proofs.Common.{inl, inr, ◌≡◌, ℕ, Bool, true, false, cond, not, List, [], ◌∷◌, ◌++◌, length, Option, Some, None, is_some, Result, Ok, Err, refl, sym, ap, ◌∙◌, subst}
 use Rattle.std.specs.Prelude.{nat_le, ◌==◌, ◌||◌, ◌↔◌, MatchOption}
 use Rattle.std.specs.List.{list_any, AllByRecursion}
 use Rattle.std.specs.Result.{result_unwrap_or}
-use Rattle.std.specs.Ordering.{nat_cmp}
-use Rattle.std.specs.FinMap.{get-empty}
 use Rattle.std.proofs.lemmas.Bool.{cases_Bool, both_ways, eqb-true}
 use lib.Pointwise.{bytes_decides}
-use Rattle.olr_spec.specs.Map.{Map, IsMap, empty_map, has_line, has_node}
+use Rattle.olr_spec.specs.Map.{Map, IsMap}
 use Rattle.olr_spec.specs.Extension.{Path, extended}
 use Rattle.olr_spec.specs.Points.{last_point}
 use Rattle.olr_spec.specs.Reference.{Reference, legs, reference}

@@ -8,7 +8,6 @@ use Rattle.olr_spec.specs.Map as map_faults
 use Rattle.olr_map.specs.Edits.{edit_of}
 use Rattle.olr_map.specs.declared.edit.EditFault.{EditFault}
 use Rattle.olr_map.specs.declared.edit.EditFault.TheVariants as edit
-use Rattle.olr_binary.specs.declared.faults.V3Fault.{V3Fault}
 use Rattle.olr_binary.specs.declared.faults.V3Fault.TheVariants as bytes
 use Rattle.olr_binary.specs.declared.faults.TextFault.{TextFault}
 use Rattle.olr_binary.specs.declared.faults.TextFault.TheVariants as text
