@@ -1,47 +1,27 @@
 -- Numbers written in digits.
-use Rattle.std.proofs.Common.{◌≡◌, ℕ, ◌+◌, ◌*◌, ◌-◌, ◌<◌, ◌≤◌, ◌^◌, true, false, ◌&&◌, ◌==◌, List, [], ◌∷◌, length, fold, pos, Option, Some, None, Result, Ok, Err, IfSome, nat_le, refl, ap, sym, subst, ◌∙◌, arith, rules, if◌then◌else◌}
-use Rattle.std.specs.Result.{OkIff, result_ok}
+use Rattle.std.proofs.Common.{◌≡◌, ℕ, ◌+◌, ◌*◌, ◌-◌, ◌<◌, ◌≤◌, ◌^◌, true, false, ◌==◌, List, [], ◌∷◌, length, fold, pos, refl, ap, sym, subst, ◌∙◌, arith, rules, take, not, get_or, zero, suc}
 use Rattle.std.specs.Option.{option_map}
 use Rattle.std.specs.List.{list_all}
 use Rattle.std.specs.Char.{is_ascii_digit}
-use Rattle.std.specs.Str.Parse.{ParsesUnsigned}
 use Rattle.std.proofs.lemmas.Bool.Decides.{nat_tests}
+use Rattle.std.proofs.lemmas.Bool.{and_parts}
+use Rattle.std.proofs.lemmas.List.{length-take}
+use Rattle.std.proofs.lemmas.List.Sums.{take_while-cons}
 use Rattle.std.proofs.lemmas.Nat.{pow-add}
 use Rattle.std.proofs.Math.Nat.{mul-lt-mul_of_pos_right}
-use Rattle.std.proofs.lemmas.Str.Parse.{IsNumeralModel, numerals_by_fold, parse_digits, digits_value_short}
-use Rattle.olr_spec.specs.Degrees.{are_digits, digits_value, unsigned, degrees}
+use Rattle.std.proofs.lemmas.Str.Parse.{IsNumeralModel, numerals_by_fold, digits_value_short}
+use Rattle.olr_spec.specs.Degrees.{before_point, digits_value, unsigned, degrees}
 
 pub own : IsNumeralModel (λ ds. list_all is_ascii_digit ds ≡ true) digits_value
 own = numerals_by_fold _ (search rules) (λ n ds. fold (λ m d. 10 * m + (d - 48)) n ds) (search rules)
 
--- digits, and no more than so many
-abbrev pub number_of : List ℕ → ℕ → Option ℕ
-number_of ds most = if are_digits ds && nat_le (length ds) most then Some (digits_value ds) else None
-
-module _ (ds : List ℕ) (most : ℕ) (all : list_all is_ascii_digit ds ≡ true) (short : length ds ≤ most) (small : most ≤ 7) where
-  short_value : digits_value ds < 10 ^ 7
-  short_value = digits_value_short own ds 7 all (omega arith)
-
-  number_of-some : 0 < length ds → number_of ds most ≡ Some (digits_value ds)
-  number_of-some some = rw all (grind (arith, nat_tests))
-
-  number_of-none : ¬ (0 < length ds) → number_of ds most ≡ None
-  number_of-none none = rw all (grind (arith, nat_tests))
-
-  by_digits : {E : Type 0} (r : Result ℕ E) → OkIff r ((0 < length ds) × (digits_value ds < 2 ^ 64)) (digits_value ds) → result_ok r ≡ number_of ds most
-  by_digits (Ok n) h = ap Some h.1 ∙ sym (number_of-some h.0.0)
-  by_digits (Err e) h =
-      let below = short_value in
-      sym (number_of-none (λ some. h (some, omega arith)))
-
-  -- what `parse` gives
-  pub number_of-parse : {E : Type 0} (r : Result ℕ E) → ParsesUnsigned 64 10 ds r → result_ok r ≡ number_of ds most
-  number_of-parse r h = by_digits r (parse_digits own 64 ds r h all)
+-- few digits have a small value
+pub few-digits : (ds : List ℕ) (k : ℕ) → list_all is_ascii_digit (take k ds) ≡ true → length ds ≤ 7 → digits_value (take k ds) < 10 ^ 7
+few-digits ds k all few = digits_value_short own (take k ds) 7 all (omega (arith, length-take k ds))
 
 -- digits write a number below a power of ten
-pub number_of-lt : (ds : List ℕ) (most : ℕ) → list_all is_ascii_digit ds ≡ true → IfSome (number_of ds most) (λ n. n < 10 ^ length ds)
-number_of-lt ds most all =
-    elim (are_digits ds && nat_le (length ds) most) as (λ b. IfSome (if b then Some (digits_value ds) else None) (λ n. n < 10 ^ length ds)) [ true ↦ digits_value_short own ds (length ds) all (omega arith) | false ↦ tt ]
+pub digits-lt : (ds : List ℕ) (k : ℕ) → list_all is_ascii_digit (take k ds) ≡ true → length ds ≤ k → digits_value (take k ds) < 10 ^ length ds
+digits-lt ds k all whole = digits_value_short own (take k ds) (length ds) all (omega (arith, length-take k ds))
 
 -- a fraction is below one
 pub scaled-lt : (n k : ℕ) → n < 10 ^ k → k ≤ 7 → n * 10 ^ (7 - k) < 10 ^ 7
@@ -52,6 +32,27 @@ scaled-lt n k below few =
     in
     let scale : 0 < 10 ^ (7 - k) = search rules in
     subst (λ (m : ℕ). n * 10 ^ (7 - k) < m) whole (mul-lt-mul_of_pos_right below scale)
+
+before-more : (c : ℕ) (text : List ℕ) → not (c == 46) ≡ true → before_point (c ∷ text) ≡ c ∷ before_point text
+before-more c text other = take_while-cons (λ d. not (d == 46)) c text ∙ rw other refl
+
+before-none : (c : ℕ) (text : List ℕ) → c ≡ 46 → before_point (c ∷ text) ≡ []
+before-none c text point = take_while-cons (λ d. not (d == 46)) c text ∙ rw point refl
+
+-- where the first point stands
+pub point-at : (text : List ℕ) (i : ℕ) → i < length text → list_all (λ c. not (c == 46)) (take i text) ≡ true → get_or text i 0 ≡ 46 → i ≡ length (before_point text)
+point-at [] i lt all e = absurd (omega arith)
+point-at (c ∷ text) zero lt all e = ap (λ (t : List ℕ). length t) (sym (before-none c text e))
+point-at (c ∷ text) (suc i) lt all e =
+    let p = and_parts (not (c == 46)) (list_all (λ d. not (d == 46)) (take i text)) all in
+    ap suc (point-at text i (omega arith) p.1 e) ∙ ap (λ (t : List ℕ). length t) (sym (before-more c text p.0))
+
+pub no-point : (text : List ℕ) (k : ℕ) → length text ≤ k → list_all (λ c. not (c == 46)) (take k text) ≡ true → length text ≡ length (before_point text)
+no-point [] k few all = refl
+no-point (c ∷ text) zero few all = absurd (omega arith)
+no-point (c ∷ text) (suc k) few all =
+    let p = and_parts (not (c == 46)) (list_all (λ d. not (d == 46)) (take k text)) all in
+    ap suc (no-point text k (omega arith) p.1) ∙ ap (λ (t : List ℕ). length t) (sym (before-more c text p.0))
 
 -- a text with no minus sign
 pub degrees-unsigned : (text : List ℕ) → ((rest : List ℕ) → ¬ (text ≡ 45 ∷ rest)) → degrees text ≡ option_map pos (unsigned text)

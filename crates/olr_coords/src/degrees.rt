@@ -1,8 +1,6 @@
 //! Degrees as text.
-ghost use Rattle.std.specs.Prelude.{◌≡◌, ◌^◌, ◌<◌, ◌≤◌, ◌&&◌, ◌∷◌, length, nat_le, if◌then◌else◌, IfSome, IfOk, IfErr};
-ghost use Rattle.std.specs.List.{list_all};
-ghost use Rattle.std.specs.Char.{is_ascii_digit};
-ghost use Rattle.olr_spec.specs.Degrees.{are_digits, digits_value, whole, fraction, unsigned, degrees, read_degrees};
+ghost use Rattle.std.specs.Prelude.{◌≡◌, ◌^◌, ◌<◌, ◌≤◌, ◌&&◌, length, nat_le, if◌then◌else◌, IfSome, IfOk, IfErr};
+ghost use Rattle.olr_spec.specs.Degrees.{are_digits, before_point, digits_value, whole, fraction, unsigned, degrees, read_degrees};
 ghost use Rattle.olr_coords.specs.Faults.{fault_of};
 
 /// The digits of whole degrees, at most.
@@ -27,15 +25,8 @@ pub enum CoordFault {
     Range,
 }
 
-/// Whether a text has no other characters than digits.
-fn is_numeral(text: &str) -> bool
-    ensures { result ≡ list_all is_ascii_digit text.now }
-{
-    text.bytes().all(|byte| byte.is_ascii_digit())
-}
-
-/// The number that digits write. None for a text with no digits, more than `most`, or another character.
-fn number(digits: &str, most: usize) -> Option<u64>
+/// The number that digits write. None for no digits, for more than `most`, and for another byte among them.
+fn number(digits: &[u8], most: usize) -> Option<u64>
     requires { most ≤ 7 }
     ensures value { result
         ≡ (if are_digits digits.now && nat_le (length digits.now) most
@@ -43,55 +34,78 @@ fn number(digits: &str, most: usize) -> Option<u64>
         else None) }
     ensures bound { IfSome result (λ n. n < 10 ^ length digits.now) }
 {
-    if digits.len() > most || !is_numeral(digits) {
+    if digits.is_empty() || digits.len() > most {
         return None;
     }
-    digits.parse().ok()
+    let mut value: u64 = 0;
+    for byte in digits {
+        if !byte.is_ascii_digit() {
+            return None;
+        }
+        value = 10 * value + u64::from(*byte - b'0');
+    }
+    Some(value)
 }
 
 /// Whole degrees, in the finest steps.
-fn whole(digits: &str) -> Option<u64>
+fn whole(digits: &[u8]) -> Option<u64>
     ensures value { result ≡ whole digits.now }
     ensures bound { IfSome result (λ n. n < 10 ^ 10) }
 {
     Some(number(digits, WHOLE_DIGITS)? * STEPS)
 }
 
-/// The digits after the point, in the finest steps.
-fn fraction(digits: &str) -> Option<u64>
-    ensures value { result ≡ fraction (46 ∷ digits.now) }
+/// What follows the whole degrees, nothing or a point and digits, in the finest steps.
+fn fraction(text: &[u8]) -> Option<u64>
+    ensures value { result ≡ fraction text.now }
     ensures bound { IfSome result (λ n. n < 10 ^ 7) }
 {
+    let Some((first, digits)) = text.split_first() else {
+        return Some(0);
+    };
+    if *first != b'.' {
+        return None;
+    }
     let value = number(digits, FRACTION_DIGITS)?;
     let scale = FRACTION_DIGITS - digits.len();
     Some(value * 10_u64.pow(scale as u32))
 }
 
+/// How many bytes stand before the first point.
+fn point(text: &[u8]) -> usize
+    ensures { result ≡ length (before_point text.now) }
+{
+    for i in 0..text.len() {
+        if text[i] == b'.' {
+            return i;
+        }
+    }
+    text.len()
+}
+
 /// Degrees without a sign, in units.
-fn unsigned(text: &str) -> Option<u64>
+fn unsigned(text: &[u8]) -> Option<u64>
     ensures value { result ≡ unsigned text.now }
     ensures bound { IfSome result (λ n. n < 2 ^ 60) }
 {
-    let steps = match text.split_once('.') {
-        Some((before, after)) => whole(before)? + fraction(after)?,
-        None => whole(text)?,
-    };
+    let (before, rest) = text.split_at(point(text));
+    let steps = whole(before)? + fraction(rest)?;
     Some(steps * STEP)
 }
 
 /// Degrees, in units.
-fn degrees(text: &str) -> Option<i64>
+fn degrees(text: &[u8]) -> Option<i64>
     ensures { result ≡ degrees text.now }
 {
-    match text.strip_prefix('-') {
-        Some(rest) => Some(-(unsigned(rest)? as i64)),
-        None => Some(unsigned(text)? as i64),
+    match text {
+        [b'-', rest @ ..] => Some(-(unsigned(rest)? as i64)),
+        _ => Some(unsigned(text)? as i64),
     }
 }
 
 /// The coordinate, in units, that a text of degrees writes: an optional `-`, 1 to 3 digits, and optionally `.` with
 /// 1 to 7 digits (profile). A text of another form is the fault `Text`; degrees beyond 180 either way are `Range`.
-pub fn read_degrees(text: &str) -> Result<i64, CoordFault>
+pub fn read_degrees(text: &[u8]) -> Result<i64, CoordFault>
     ensures ok { IfOk result (λ units. read_degrees text.now ≡ Ok units) }
     ensures fault { IfErr result (λ fault. read_degrees text.now ≡ Err (fault_of fault)) }
 {

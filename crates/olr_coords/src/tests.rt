@@ -20,19 +20,19 @@ fn coordinates_lie_within_the_ranges(rt: HostRuntime) -> Result<(), Fail> {
 
 #[test]
 fn degrees_are_read(rt: HostRuntime) {
-    assert_eq!(rt; read_degrees("6.12683"), Ok(61_268_300 * FINEST));
-    assert_eq!(rt; read_degrees("49.60852"), Ok(496_085_200 * FINEST));
-    assert_eq!(rt; read_degrees("-0.0000001"), Ok(-FINEST));
-    assert_eq!(rt; read_degrees("-0"), Ok(0));
-    assert_eq!(rt; read_degrees("007.5000000"), Ok(75_000_000 * FINEST));
-    assert_eq!(rt; read_degrees("180.0"), Ok(1_800_000_000 * FINEST));
-    assert_eq!(rt; read_degrees("-180"), Ok(-1_800_000_000 * FINEST));
+    assert_eq!(rt; read_degrees(b"6.12683"), Ok(61_268_300 * FINEST));
+    assert_eq!(rt; read_degrees(b"49.60852"), Ok(496_085_200 * FINEST));
+    assert_eq!(rt; read_degrees(b"-0.0000001"), Ok(-FINEST));
+    assert_eq!(rt; read_degrees(b"-0"), Ok(0));
+    assert_eq!(rt; read_degrees(b"007.5000000"), Ok(75_000_000 * FINEST));
+    assert_eq!(rt; read_degrees(b"180.0"), Ok(1_800_000_000 * FINEST));
+    assert_eq!(rt; read_degrees(b"-180"), Ok(-1_800_000_000 * FINEST));
 }
 
 #[test]
 fn degrees_beyond_180_are_out_of_range(rt: HostRuntime) {
     for text in ["180.0000001", "-180.0000001", "181", "-999.9999999"] {
-        assert_eq!(rt; read_degrees(text), Err(CoordFault::Range));
+        assert_eq!(rt; read_degrees(text.as_bytes()), Err(CoordFault::Range));
     }
 }
 
@@ -50,12 +50,12 @@ fn other_texts_are_no_degrees(rt: HostRuntime) {
         "0180",
         "1.23456789",
     ] {
-        assert_eq!(rt; read_degrees(text), Err(CoordFault::Text));
+        assert_eq!(rt; read_degrees(text.as_bytes()), Err(CoordFault::Text));
     }
     for text in [
         "+1", "--1", "1-", " 1", "1 ", "1e1", "1,5", "x", "1.x", "9999.5", "\u{661}",
     ] {
-        assert_eq!(rt; read_degrees(text), Err(CoordFault::Text));
+        assert_eq!(rt; read_degrees(text.as_bytes()), Err(CoordFault::Text));
     }
 }
 

@@ -19,15 +19,10 @@ use Rattle.olr_spec.proofs.ChainMoves.{EndChain-push}
 
 -- ---- facts that can be decided
 
-dec_and : {A B : Type 0} → Dec A → Dec B → Dec (A × B)
+pub dec_and : {A B : Type 0} → Dec A → Dec B → Dec (A × B)
 dec_and (yes a) (yes b) = yes (a, b)
 dec_and (yes a) (no b) = no (λ p. b p.1)
 dec_and (no a) d = no (λ p. a p.0)
-
-dec_or : {A B : Type 0} → Dec A → Dec B → Dec (A ⊎ B)
-dec_or (yes a) d = yes (inl a)
-dec_or (no a) (yes b) = yes (inr b)
-dec_or (no a) (no b) = no (λ s. elim s [ inl p ↦ a p | inr q ↦ b q ])
 
 dec_not : {A : Type 0} → Dec A → Dec (¬ A)
 dec_not (yes a) = no (λ f. f a)
@@ -45,7 +40,7 @@ dec_eq m n = elim (cases_eq m n) [ inl e ↦ yes e | inr ne ↦ no ne ]
 dec_lt : (m n : ℕ) → Dec (m < n)
 dec_lt m n = elim (cases_lt m n) [ inl h ↦ yes h | inr h ↦ no (λ lt. absurd (omega arith)) ]
 
-dec_le : (m n : ℕ) → Dec (m ≤ n)
+pub dec_le : (m n : ℕ) → Dec (m ≤ n)
 dec_le m n = elim (cases_lt n m) [ inl h ↦ no (λ le. absurd (omega arith)) | inr h ↦ yes h ]
 
 -- of each number of a list
@@ -147,7 +142,7 @@ dec_Route M m s t xs = dec_Sole M m s t xs
 
 -- ---- points
 
-dec_Covered : (M : Map) → IsMap M → (ls : List ℕ) (i j : ℕ) → Dec (Covered M ls i j)
+pub dec_Covered : (M : Map) → IsMap M → (ls : List ℕ) (i j : ℕ) → Dec (Covered M ls i j)
 dec_Covered M m ls i j =
     let k = min j (length ls - 1) in
     elim (dec_lt i k) [
@@ -165,7 +160,7 @@ dec_Candidate M m ls i j =
 dec_Valid : (M : Map) → IsMap M → (ls : List ℕ) (i j : ℕ) → Dec (ValidCandidate M ls i j)
 dec_Valid M m ls i j = dec_and (dec_Candidate M m ls i j) (dec_false (passing M (node_at M ls j)))
 
-greatest_or_none : (Q : ℕ → Type 0) → ((k : ℕ) → Dec (Q k)) → (n : ℕ) → ((k : ℕ) → Q k → k < n) → ((j : ℕ) × Greatest Q j) ⊎ ((k : ℕ) → ¬ Q k)
+pub greatest_or_none : (Q : ℕ → Type 0) → ((k : ℕ) → Dec (Q k)) → (n : ℕ) → ((k : ℕ) → Q k → k < n) → ((j : ℕ) × Greatest Q j) ⊎ ((k : ℕ) → ¬ Q k)
 greatest_or_none Q d zero h = inr (λ k q. let lt = h k q in absurd (omega arith))
 greatest_or_none Q d (suc n) h =
     elim (d n) [
@@ -191,7 +186,7 @@ next_after M ls i j (To_end e c) = let h = c.after in (omega arith, omega arith)
 next_after M ls i j (To_valid f g) = (g.holds.0.after, g.holds.0.upto)
 next_after M ls i j (To_passing f h g) = (g.holds.after, g.holds.upto)
 
-some_follow : (M : Map) → IsMap M → (ls : List ℕ) (fuel i : ℕ) → length ls ≤ i + fuel → (js : List ℕ) × Follow M ls i js
+pub some_follow : (M : Map) → IsMap M → (ls : List ℕ) (fuel i : ℕ) → length ls ≤ i + fuel → (js : List ℕ) × Follow M ls i js
 some_follow M m ls zero i h = ([], λ j c. let a = c.after in let b = c.upto in absurd (omega arith))
 some_follow M m ls (suc fuel) i h =
     elim (next_or_none M m ls i) [
@@ -296,7 +291,7 @@ some_tried M m P n f l =
 encoding_of : (M : Map) (P : Path) (b a js : List ℕ) → Tried M P b a → Follow M (extended M P b a).lines 0 js → Encoding M P (answer_of M (extended M P b a) js)
 encoding_of M P b a js t f = record { before = b; after = a; points = js; tried = t; follow = f; answer = refl }
 
-some_encoding : (M : Map) → IsMap M → (P : Path) → IsTrue (is_path P.lines) → path_fault M P ≡ None → (A : Answer) × Encoding M P A
+pub some_encoding : (M : Map) → IsMap M → (P : Path) → IsTrue (is_path P.lines) → path_fault M P ≡ None → (A : Answer) × Encoding M P A
 some_encoding M m P is e =
     let n = path_nonempty P.lines is in
     let known = sound_lines M P e in

@@ -7,15 +7,59 @@ use Rattle.std.specs.Cmp.{nat_cmp_total, unsigned_tied}
 use Rattle.std.specs.FinMap.{FinMap, get, insert, remove, entries, get-insert, get-remove, get-entries}
 use Rattle.std.specs.FinMap.Entries.{find}
 use Rattle.olr_spec.specs.Coordinates.{Coord, is_coord}
-use Rattle.olr_spec.specs.Map.{Map, IsMap, Line, is_good, are_coords, has_node, has_line, line_at, no_line, no_place, start, end, Edit, Add_node, Move_node, Drop_node, Add_line, Set_line, Drop_line, Node_exists, No_node, Line_exists, No_line, Node_in_use, Bad_shape, edited, unless, in_use, touched_nodes, touched_lines, SameLine, Agree}
+use Rattle.olr_spec.specs.Map.{MapFault, Map, IsMap, Line, is_good, are_coords, has_node, has_line, line_at, no_line, no_place, start, end, Edit, Add_node, Move_node, Drop_node, Add_line, Set_line, Drop_line, Node_exists, No_node, Line_exists, No_line, Node_in_use, Bad_shape, edited, unless, in_use, touched_nodes, touched_lines, SameLine, Agree}
 use Rattle.olr_spec.specs.Extension.{has}
 use Rattle.olr_spec.specs.Laws.{HasPlace}
 use Rattle.olr_spec.proofs.ListLemmas.{has_here, has_there}
 use Rattle.olr_spec.proofs.AgreeLemmas.{known_record}
 
-pub passed_test : {A F : Type 0} (b : Bool) (f : F) (r : Result A F) (x : A) → unless b f r ≡ Ok x → (b ≡ false) × (r ≡ Ok x)
+passed_test : {A F : Type 0} (b : Bool) (f : F) (r : Result A F) (x : A) → unless b f r ≡ Ok x → (b ≡ false) × (r ≡ Ok x)
 passed_test true f r x e = absurd cc
 passed_test false f r x e = (refl, e)
+
+-- what an accepted edit found, and the map that it made
+abbrev pub Made : Map → Edit → Map → Type 0
+Made M (Add_node v c) N = (has_node M v ≡ false) × (record M { nodes = insert M.nodes v c } ≡ N)
+Made M (Move_node v c) N = (has_node M v ≡ true) × (record M { nodes = insert M.nodes v c } ≡ N)
+Made M (Drop_node v) N = (has_node M v ≡ true) × (in_use M v ≡ false) × (record M { nodes = remove M.nodes v } ≡ N)
+Made M (Add_line x l) N =
+    (has_line M x ≡ false) × (has_node M l.from ≡ true) × (has_node M l.to ≡ true) × (is_good l ≡ true)
+    × (record M { lines = insert M.lines x l } ≡ N)
+Made M (Set_line x frc fow len shape) N =
+    let l : Line = record { from = start M x; to = end M x; frc = frc; fow = fow; len = len; shape = shape } in
+    (has_line M x ≡ true) × (is_good l ≡ true) × (record M { lines = insert M.lines x l } ≡ N)
+Made M (Drop_line x) N = (has_line M x ≡ true) × (record M { lines = remove M.lines x } ≡ N)
+
+pub made_by : (M N : Map) (e : Edit) → edited M e ≡ Ok N → Made M e N
+made_by M N (Add_node v c) e =
+    let p = passed_test (has_node M v) Node_exists (Ok (record M { nodes = insert M.nodes v c })) N e in
+    (p.0, cc)
+made_by M N (Move_node v c) e =
+    let p = passed_test (not (has_node M v)) No_node (Ok (record M { nodes = insert M.nodes v c })) N e in
+    (not-false (has_node M v) p.0, cc)
+made_by M N (Drop_node v) e =
+    let to = record M { nodes = remove M.nodes v } in
+    let p = passed_test (not (has_node M v)) No_node (unless (in_use M v) Node_in_use (Ok to)) N e in
+    let q = passed_test (in_use M v) Node_in_use (Ok to) N p.1 in
+    (not-false (has_node M v) p.0, q.0, cc)
+made_by M N (Add_line x l) e =
+    let to = record M { lines = insert M.lines x l } in
+    let known = has_node M l.from && has_node M l.to in
+    let good : Result Map MapFault = unless (not (is_good l)) Bad_shape (Ok to) in
+    let p = passed_test (has_line M x) Line_exists (unless (not known) No_node good) N e in
+    let q = passed_test (not known) No_node good N p.1 in
+    let r = passed_test (not (is_good l)) Bad_shape (Ok to) N q.1 in
+    let ends = and_parts (has_node M l.from) (has_node M l.to) (not-false known q.0) in
+    (p.0, ends.0, ends.1, not-false (is_good l) r.0, cc)
+made_by M N (Set_line x frc fow len shape) e =
+    let l : Line = record { from = start M x; to = end M x; frc = frc; fow = fow; len = len; shape = shape } in
+    let to = record M { lines = insert M.lines x l } in
+    let p = passed_test (not (has_line M x)) No_line (unless (not (is_good l)) Bad_shape (Ok to)) N e in
+    let r = passed_test (not (is_good l)) Bad_shape (Ok to) N p.1 in
+    (not-false (has_line M x) p.0, not-false (is_good l) r.0, cc)
+made_by M N (Drop_line x) e =
+    let p = passed_test (not (has_line M x)) No_line (Ok (record M { lines = remove M.lines x })) N e in
+    (not-false (has_line M x) p.0, cc)
 
 module _ {X : Type 0} where
   pub got_other : (m : FinMap nat_cmp X) (k : ℕ) (v : X) (q : ℕ) → q ≢ k → get (insert m k v) q ≡ get m q
@@ -83,57 +127,52 @@ ends_of M x l e = let r = ap (λ (o : Option Line). unwrap_or o no_line) e in (s
 same_line : (o : Option Line) (k l : Line) → o ≡ Some k → o ≡ Some l → l ≡ k
 same_line o k l e f = cc
 
+-- of the line that is set
+set_out : (M : Map) (x : ℕ) (l : Line) (F : ℕ → Type 0) → ¬ F l.from → ¬ F l.to
+    → (k : Line) → get (insert M.lines x l) x ≡ Some k → (¬ F k.from) × (¬ F k.to)
+set_out M x l F a b k h =
+    let same = same_line (get (insert M.lines x l) x) l k (got_same M.lines x l) h in
+    ends_out F l.from l.to k a b (ap (λ (j : Line). j.from) same) (ap (λ (j : Line). j.to) same)
+
 pub edits_are_local : (M N : Map) (e : Edit) (P : List ℕ) (F : ℕ → Type 0) → edited M e ≡ Ok N → ((v : ℕ) → has (touched_nodes M e) v ≡ true → ¬ F v) → ((x : ℕ) → has (touched_lines e) x ≡ true → has P x ≡ false) → Agree M N P F
 edits_are_local M N (Add_node v c) P F e nodes lines =
-    let p = passed_test (has_node M v) Node_exists (Ok (record M { nodes = insert M.nodes v c })) N e in
-    let is : record M { nodes = insert M.nodes v c } ≡ N = cc in
-    subst (λ (K : Map). Agree M K P F) is (nodes_agree M (record M { nodes = insert M.nodes v c }) v P F (λ x. refl) (λ u ne. sym (got_other M.nodes v c u ne)) (nodes v (has_here v [])))
+    let to = record M { nodes = insert M.nodes v c } in
+    subst (λ (K : Map). Agree M K P F) (made_by M N (Add_node v c) e).1
+    (nodes_agree M to v P F (λ x. refl) (λ u ne. sym (got_other M.nodes v c u ne)) (nodes v (has_here v [])))
 edits_are_local M N (Move_node v c) P F e nodes lines =
-    let p = passed_test (not (has_node M v)) No_node (Ok (record M { nodes = insert M.nodes v c })) N e in
-    let is : record M { nodes = insert M.nodes v c } ≡ N = cc in
-    subst (λ (K : Map). Agree M K P F) is (nodes_agree M (record M { nodes = insert M.nodes v c }) v P F (λ x. refl) (λ u ne. sym (got_other M.nodes v c u ne)) (nodes v (has_here v [])))
+    let to = record M { nodes = insert M.nodes v c } in
+    subst (λ (K : Map). Agree M K P F) (made_by M N (Move_node v c) e).1
+    (nodes_agree M to v P F (λ x. refl) (λ u ne. sym (got_other M.nodes v c u ne)) (nodes v (has_here v [])))
 edits_are_local M N (Drop_node v) P F e nodes lines =
-    let p = passed_test (not (has_node M v)) No_node (unless (in_use M v) Node_in_use (Ok (record M { nodes = remove M.nodes v }))) N e in
-    let q = passed_test (in_use M v) Node_in_use (Ok (record M { nodes = remove M.nodes v })) N p.1 in
-    let is : record M { nodes = remove M.nodes v } ≡ N = cc in
-    subst (λ (K : Map). Agree M K P F) is (nodes_agree M (record M { nodes = remove M.nodes v }) v P F (λ x. refl) (λ u ne. sym (left_other M.nodes v u ne)) (nodes v (has_here v [])))
+    let to = record M { nodes = remove M.nodes v } in
+    subst (λ (K : Map). Agree M K P F) (made_by M N (Drop_node v) e).2
+    (nodes_agree M to v P F (λ x. refl) (λ u ne. sym (left_other M.nodes v u ne)) (nodes v (has_here v [])))
 edits_are_local M N (Add_line x l) P F e nodes lines =
     let to = record M { lines = insert M.lines x l } in
-    let p = passed_test (has_line M x) Line_exists (unless (not (has_node M l.from && has_node M l.to)) No_node (unless (not (is_good l)) Bad_shape (Ok to))) N e in
-    let q = passed_test (not (has_node M l.from && has_node M l.to)) No_node (unless (not (is_good l)) Bad_shape (Ok to)) N p.1 in
-    let r = passed_test (not (is_good l)) Bad_shape (Ok to) N q.1 in
-    let is : to ≡ N = cc in
+    let p = made_by M N (Add_line x l) e in
     let out_from = nodes l.from (has_here l.from (l.to ∷ [])) in
     let out_to = nodes l.to (has_there l.from (l.to ∷ []) l.to (has_here l.to [])) in
-    subst (λ (K : Map). Agree M K P F) is
+    subst (λ (K : Map). Agree M K P F) p.4
     (lines_agree M to x P F (λ v. refl) (λ y ne. sym (got_other M.lines x l y ne))
     (λ k h. absurd (both_ways (has_line M x) p.0 (ap (λ (o : Option Line). is_some o) h)))
-    (λ k h. let same = same_line (get (insert M.lines x l) x) l k (got_same M.lines x l) h in ends_out F l.from l.to k out_from out_to (ap (λ (j : Line). j.from) same) (ap (λ (j : Line). j.to) same))
-    (lines x (has_here x [])))
+    (λ k h. set_out M x l F out_from out_to k h) (lines x (has_here x [])))
 edits_are_local M N (Set_line x frc fow len shape) P F e nodes lines =
     let l : Line = record { from = start M x; to = end M x; frc = frc; fow = fow; len = len; shape = shape } in
     let to = record M { lines = insert M.lines x l } in
-    let p = passed_test (not (has_line M x)) No_line (unless (not (is_good l)) Bad_shape (Ok to)) N e in
-    let r = passed_test (not (is_good l)) Bad_shape (Ok to) N p.1 in
-    let is : to ≡ N = cc in
     let out_from = nodes (start M x) (has_here (start M x) (end M x ∷ [])) in
     let out_to = nodes (end M x) (has_there (start M x) (end M x ∷ []) (end M x) (has_here (end M x) [])) in
-    subst (λ (K : Map). Agree M K P F) is
+    subst (λ (K : Map). Agree M K P F) (made_by M N (Set_line x frc fow len shape) e).2
     (lines_agree M to x P F (λ v. refl) (λ y ne. sym (got_other M.lines x l y ne))
     (λ k h. let ends = ends_of M x k h in ends_out F (start M x) (end M x) k out_from out_to ends.0 ends.1)
-    (λ k h. let same = same_line (get (insert M.lines x l) x) l k (got_same M.lines x l) h in ends_out F (start M x) (end M x) k out_from out_to (ap (λ (j : Line). j.from) same) (ap (λ (j : Line). j.to) same))
-    (lines x (has_here x [])))
+    (λ k h. set_out M x l F out_from out_to k h) (lines x (has_here x [])))
 edits_are_local M N (Drop_line x) P F e nodes lines =
     let to = record M { lines = remove M.lines x } in
-    let p = passed_test (not (has_line M x)) No_line (Ok to) N e in
-    let is : to ≡ N = cc in
     let out_from = nodes (start M x) (has_here (start M x) (end M x ∷ [])) in
     let out_to = nodes (end M x) (has_there (start M x) (end M x ∷ []) (end M x) (has_here (end M x) [])) in
-    subst (λ (K : Map). Agree M K P F) is
+    subst (λ (K : Map). Agree M K P F) (made_by M N (Drop_line x) e).1
     (lines_agree M to x P F (λ v. refl) (λ y ne. sym (left_other M.lines x y ne))
     (λ k h. let ends = ends_of M x k h in ends_out F (start M x) (end M x) k out_from out_to ends.0 ends.1)
-    (λ k h. absurd (let none = left_same M.lines x in cc))
-    (lines x (has_here x [])))
+    (λ k h. absurd (let none = left_same M.lines x in cc)) (lines x (has_here x [])))
 
 -- ---- sound maps
 
@@ -217,37 +256,16 @@ without_line M x m =
     }
 
 pub edits_keep : (M N : Map) (e : Edit) → IsMap M → HasPlace e → edited M e ≡ Ok N → IsMap N
-edits_keep M N (Add_node v c) m h e =
-    let p = passed_test (has_node M v) Node_exists (Ok (record M { nodes = insert M.nodes v c })) N e in
-    let is : record M { nodes = insert M.nodes v c } ≡ N = cc in
-    subst IsMap is (with_node M v c m h)
-edits_keep M N (Move_node v c) m h e =
-    let p = passed_test (not (has_node M v)) No_node (Ok (record M { nodes = insert M.nodes v c })) N e in
-    let is : record M { nodes = insert M.nodes v c } ≡ N = cc in
-    subst IsMap is (with_node M v c m h)
+edits_keep M N (Add_node v c) m h e = subst IsMap (made_by M N (Add_node v c) e).1 (with_node M v c m h)
+edits_keep M N (Move_node v c) m h e = subst IsMap (made_by M N (Move_node v c) e).1 (with_node M v c m h)
 edits_keep M N (Drop_node v) m h e =
-    let p = passed_test (not (has_node M v)) No_node (unless (in_use M v) Node_in_use (Ok (record M { nodes = remove M.nodes v }))) N e in
-    let q = passed_test (in_use M v) Node_in_use (Ok (record M { nodes = remove M.nodes v })) N p.1 in
-    let is : record M { nodes = remove M.nodes v } ≡ N = cc in
-    subst IsMap is (without_node M v m q.0)
+    let p = made_by M N (Drop_node v) e in
+    subst IsMap p.2 (without_node M v m p.1)
 edits_keep M N (Add_line x l) m h e =
-    let to = record M { lines = insert M.lines x l } in
-    let p = passed_test (has_line M x) Line_exists (unless (not (has_node M l.from && has_node M l.to)) No_node (unless (not (is_good l)) Bad_shape (Ok to))) N e in
-    let q = passed_test (not (has_node M l.from && has_node M l.to)) No_node (unless (not (is_good l)) Bad_shape (Ok to)) N p.1 in
-    let r = passed_test (not (is_good l)) Bad_shape (Ok to) N q.1 in
-    let is : to ≡ N = cc in
-    let ends = and_parts (has_node M l.from) (has_node M l.to) (not-false (has_node M l.from && has_node M l.to) q.0) in
-    subst IsMap is (with_line M x l m (not-false (is_good l) r.0) ends.0 ends.1 h)
+    let p = made_by M N (Add_line x l) e in
+    subst IsMap p.4 (with_line M x l m p.3 p.1 p.2 h)
 edits_keep M N (Set_line x frc fow len shape) m h e =
     let l : Line = record { from = start M x; to = end M x; frc = frc; fow = fow; len = len; shape = shape } in
-    let to = record M { lines = insert M.lines x l } in
-    let p = passed_test (not (has_line M x)) No_line (unless (not (is_good l)) Bad_shape (Ok to)) N e in
-    let r = passed_test (not (is_good l)) Bad_shape (Ok to) N p.1 in
-    let is : to ≡ N = cc in
-    let known = not-false (has_line M x) p.0 in
-    subst IsMap is (with_line M x l m (not-false (is_good l) r.0) (m.starts x known) (m.ends x known) h)
-edits_keep M N (Drop_line x) m h e =
-    let to = record M { lines = remove M.lines x } in
-    let p = passed_test (not (has_line M x)) No_line (Ok to) N e in
-    let is : to ≡ N = cc in
-    subst IsMap is (without_line M x m)
+    let p = made_by M N (Set_line x frc fow len shape) e in
+    subst IsMap p.2 (with_line M x l m p.1 (m.starts x p.0) (m.ends x p.0) h)
+edits_keep M N (Drop_line x) m h e = subst IsMap (made_by M N (Drop_line x) e).1 (without_line M x m)

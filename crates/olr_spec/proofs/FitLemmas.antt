@@ -15,7 +15,7 @@ use Rattle.olr_spec.proofs.WalkLemmas.{dm_of-append}
 use Rattle.olr_spec.proofs.ListLemmas.{Each, Each-append, Each-from, has_here, has_there, has_cases}
 use Rattle.olr_spec.proofs.AnswerLemmas.{sound_lines, path_nonempty, or_None}
 use Rattle.olr_spec.proofs.ChainMoves.{StartChain-known, EndChain-known}
-use Rattle.olr_spec.proofs.FootMoves.{Each-cond}
+use Rattle.olr_spec.proofs.PointMoves.{Each-cond}
 use Rattle.olr_spec.proofs.JoinLemmas.{Linked, follow_linked, kept_linked, between}
 use Rattle.olr_spec.proofs.KeptLemmas.{whole, front_within, back_within, two_kept, has_last_point, nothing_left}
 use Rattle.olr_spec.proofs.FieldLemmas.{has_filter, filter_has, linked_above, linked_last, has_last_two, last_two_linked, has_last_where, has_first_where, none_after, none_before, attrs_fit, first_fits, middles_fit, last_fits, offset_fits, from_front-add}

@@ -1,35 +1,18 @@
--- A path's answer and its footprint rest on the footprint alone.
-use Rattle.std.proofs.Common.{inl, inr, ◌≡◌, ℕ, zero, suc, ◌+◌, ◌-◌, min, Bool, true, false, cond, List, [], ◌∷◌, ◌++◌, length, take, drop, ◌<◌, ◌≤◌, IsTrue, refl, sym, ap, ◌∙◌, subst, arith, ◌==◌, nat_lt, length-append, drop-drop}
-use Rattle.std.proofs.lemmas.Bool.{cases_lt, ltb-true, cond_both}
-use Rattle.std.proofs.Math.Nat.{min-le_left, min-le_right}
+-- Where two maps agree on a path's footprint, the same is covered from its points, and the footprint is the same.
+use Rattle.std.proofs.Common.{inl, inr, ◌≡◌, ℕ, zero, suc, ◌+◌, ◌-◌, min, true, List, [], ◌∷◌, length, take, drop, ◌<◌, ◌≤◌, IsTrue, sym, ap, ◌↔◌, subst, arith, drop-drop}
+use Rattle.std.proofs.lemmas.Bool.{cases_lt}
+use Rattle.std.proofs.Math.Nat.{min-le_left}
 use Rattle.std.specs.List.{slice_index}
-use Rattle.olr_spec.specs.Map.{Map, IsMap, has_line, start, end, place_at, SameLine, SameRound}
-use Rattle.olr_spec.specs.Walks.{Walk, dm_of, Route}
-use Rattle.olr_spec.specs.Extension.{Path, has, passing, first, last, Tried, taken_start, taken_end, from_start, extended, limit, LongestStart, LongestEnd}
-use Rattle.olr_spec.specs.Points.{node_at, stretch, Covered, fit16, Candidate, ValidCandidate, Greatest, Next, To_end, To_valid, To_passing, Follow, last_point}
-use Rattle.olr_spec.specs.Reference.{leg, legs, reference}
-use Rattle.olr_spec.specs.Encoding.{Points, Refused, No_next_point, answer_of}
+use Rattle.olr_spec.specs.Map.{Map, IsMap, has_line, start, end, SameLine, SameRound}
+use Rattle.olr_spec.specs.Walks.{dm_of, Route}
+use Rattle.olr_spec.specs.Extension.{Path, has, Tried, extended, limit}
+use Rattle.olr_spec.specs.Points.{stretch, Covered}
 use Rattle.olr_spec.specs.Footprint.{NodeOf, Reach, Searched, Touched, On_path, On_start_chain, On_end_chain, Within_reach}
-use Rattle.olr_spec.proofs.WalkLemmas.{empty_sole}
-use Rattle.olr_spec.proofs.ListLemmas.{Each, Each-nil, Each-head, Each-tail, Each-left, Each-right, Each-append, Each-range, has_last, has_index, map_same}
-use Rattle.olr_spec.proofs.AgreeLemmas.{same_record, same_start, same_end, same_dm_of, same_place, same_passing}
+use Rattle.olr_spec.proofs.ListLemmas.{Each, Each-range, has_index}
+use Rattle.olr_spec.proofs.AgreeLemmas.{same_start, same_end, same_dm_of}
 use Rattle.olr_spec.proofs.RouteMoves.{turned_lines, sole_moves, sole_back, reach_moves, reach_back}
-use Rattle.olr_spec.proofs.ChainMoves.{StartChain-known, first_of_both, last_of_both, start_same, longest_start_moves, end_same, longest_end_moves}
-
--- ---- routes
-
-pub route_moves : (M N : Map) (s t : ℕ) (xs : List ℕ) → ((v : ℕ) → Reach M s v → SameRound M N v) → dm_of M xs ≤ limit → Route M s t xs → Route N s t xs
-route_moves M N s t xs round h l = sole_moves M N s round t xs h l
-
-pub route_back : (M N : Map) (s t : ℕ) (xs : List ℕ) → ((v : ℕ) → Reach M s v → SameRound M N v) → dm_of N xs ≤ limit → Route N s t xs → Route M s t xs
-route_back M N s t xs round h l = sole_back M N s round t xs h l
-
--- the empty route, on any map
-pub empty_route : (M N : Map) → IsMap N → (s t s' t' : ℕ) (xs : List ℕ) → xs ≡ [] → s ≡ s' → t ≡ t' → Route M s t xs → Route N s' t' xs
-empty_route M N n s t s' t' xs e f g l =
-    let walk : s ≡ t = subst (λ (zs : List ℕ). Walk M s t zs) e l.walk in
-    let there : Route N s' s' xs = subst (λ (zs : List ℕ). Route N s' s' zs) (sym e) (empty_sole N n s') in
-    subst (λ (v : ℕ). Route N s' v xs) (sym f ∙ walk ∙ g) there
+use Rattle.olr_spec.specs.Looks.{Own}
+use Rattle.olr_spec.proofs.PointMoves.{close_stays, NodeOf-moves, b_same, a_same, ls_same, extended_same}
 
 -- ---- stretches
 
@@ -45,7 +28,8 @@ dm_take_tail M (suc k) [] = omega arith
 dm_take_tail M (suc k) (x ∷ xs) = omega arith
 
 -- without its first line and its end, a stretch is no longer
-shorter_inside : (M : Map) (ls : List ℕ) (i m j : ℕ) → i < m → m ≤ j → dm_of M (stretch ls (i + 1) m) ≤ dm_of M (stretch ls i j)
+shorter_inside : (M : Map) (ls : List ℕ) (i m j : ℕ) → i < m → m ≤ j
+    → dm_of M (stretch ls (i + 1) m) ≤ dm_of M (stretch ls i j)
 shorter_inside M ls i m j h k =
     let k1 = m - (i + 1) in
     let is : drop (i + 1) ls ≡ drop 1 (drop i ls) = sym (drop-drop 1 i ls) in
@@ -54,273 +38,108 @@ shorter_inside M ls i m j h k =
     let e = ap (λ (zs : List ℕ). dm_of M (take k1 zs)) is in
     omega arith
 
-nothing_inside : (ls : List ℕ) (i m : ℕ) → m ≤ i + 1 → stretch ls (i + 1) m ≡ []
-nothing_inside ls i m h = let e : m - (i + 1) ≡ 0 = omega arith in ap (λ (k : ℕ). take k (drop (i + 1) ls)) e
+-- ---- points
 
--- ---- positions
-
-pub Each-cond : (Q : ℕ → Type 0) (b : Bool) (xs : List ℕ) → Each Q xs → Each Q (cond b [] xs)
-Each-cond Q true xs h = Each-nil Q
-Each-cond Q false xs h = h
-
-Greatest-moves : (Q S : ℕ → Type 0) (j : ℕ) → ((k : ℕ) → Q k → S k) → ((k : ℕ) → S k → Q k) → Greatest Q j → Greatest S j
-Greatest-moves Q S j f g h = record { holds = f j h.holds; others = λ k s. h.others k (g k s) }
-
--- the lines ls and the points js, where the maps agree round the lines' ends and whatever is in reach of the points
-module _ (M N : Map) (n : IsMap N) (m : IsMap M) (ls : List ℕ) (nonempty : 0 < length ls) (same : Each (SameLine M N) ls)
-    (starts : Each (λ x. SameRound M N (start M x)) ls) (ends : Each (λ x. SameRound M N (end M x)) ls) (js : List ℕ)
-    (reach : (i : ℕ) → has js i ≡ true → i + 2 < length ls → (v : ℕ) → Reach M (end M (slice_index ls i)) v → SameRound M N v) where
+-- the lines ls and the points js, where the maps agree on whatever is in reach of the points
+module _ (M N : Map) (m : IsMap M) (n : IsMap N) (ls : List ℕ) (same : Each (SameLine M N) ls) (js : List ℕ)
+    (reach : (i : ℕ) → has js i ≡ true → i + 2 < length ls → (v : ℕ) → Reach M (end M (slice_index ls i)) v
+    → SameRound M N v) where
   same_index : (i : ℕ) → i < length ls → SameLine M N (slice_index ls i)
   same_index i h = same (slice_index ls i) (has_index ls i h)
 
-  node_round : (i : ℕ) → SameRound M N (node_at M ls i)
-  node_round i =
-      cond_both (nat_lt i (length ls)) (start M (slice_index ls i)) (end M (last ls)) (SameRound M N)
-      (λ e. starts (slice_index ls i) (has_index ls i (ltb-true i (length ls) e))) (λ e. ends (last ls) (has_last ls nonempty))
-
-  same_node : (i : ℕ) → node_at M ls i ≡ node_at N ls i
-  same_node i =
-      elim (nat_lt i (length ls)) as (λ b. nat_lt i (length ls) ≡ b → cond b (start M (slice_index ls i)) (end M (last ls)) ≡ cond b (start N (slice_index ls i)) (end N (last ls))) [
-        | true ↦ λ e. same_start M N (slice_index ls i) (same_index i (ltb-true i (length ls) e))
-        | false ↦ λ e. same_end M N (last ls) (same (last ls) (has_last ls nonempty))
-      ] refl
-
-  place_same : (i : ℕ) → place_at M (node_at M ls i) ≡ place_at N (node_at N ls i)
-  place_same i = same_place M N (node_at M ls i) (node_round i) ∙ ap (place_at N) (same_node i)
-
-  valid_same : (i : ℕ) → passing M (node_at M ls i) ≡ passing N (node_at N ls i)
-  valid_same i = same_passing M N (node_at M ls i) (node_round i) ∙ ap (passing N) (same_node i)
-
-  stretch_same : (i j : ℕ) → dm_of M (stretch ls i j) ≡ dm_of N (stretch ls i j)
-  stretch_same i j = same_dm_of M N (stretch ls i j) (Each-range (SameLine M N) ls i j same)
-
-  fits_same : (i j : ℕ) → fit16 (place_at M (node_at M ls i)) (place_at M (node_at M ls j)) ≡ fit16 (place_at N (node_at N ls i)) (place_at N (node_at N ls j))
-  fits_same i j = λ k. fit16 (place_same i k) (place_same j k)
-
-  covered_moves : (i j : ℕ) → has js i ≡ true → i < j → j ≤ length ls → dm_of M (stretch ls i j) ≤ limit → Covered M ls i j → Covered N ls i j
-  covered_moves i j on after upto near c = λ inside.
-      let k = min j (length ls - 1) in
-      let h : k ≤ j = min-le_left j (length ls - 1) in
-      let g : k ≤ length ls - 1 = min-le_right j (length ls - 1) in
-      let from = same_end M N (slice_index ls i) (same_index i (omega arith)) in
-      let to = same_start M N (slice_index ls k) (same_index k (omega arith)) in
+  pub covers_same : (i j : ℕ) → has js i ≡ true → i < j → j ≤ length ls → dm_of M (stretch ls i j) ≤ limit
+      → Covered M ls i j ↔ Covered N ls i j
+  covers_same i j on after upto near =
       elim (cases_lt (i + 2) (length ls)) [
+        | inr close ↦ close_stays M N m n ls same i j after upto (omega arith)
         | inl far ↦
-            let short = shorter_inside M ls i k j inside h in
-            let there = route_moves M N (end M (slice_index ls i)) (start M (slice_index ls k)) (stretch ls (i + 1) k) (reach i on far) (omega arith) (c inside) in
-            subst (λ (v : ℕ). Route N v (start N (slice_index ls k)) (stretch ls (i + 1) k)) from (subst (λ (v : ℕ). Route N (end M (slice_index ls i)) v (stretch ls (i + 1) k)) to there)
-        | inr close ↦ empty_route M N n (end M (slice_index ls i)) (start M (slice_index ls k)) (end N (slice_index ls i)) (start N (slice_index ls k)) (stretch ls (i + 1) k) (nothing_inside ls i k (omega arith)) from to (c inside)
+            let k = min j (length ls - 1) in
+            let s = end M (slice_index ls i) in
+            let t = start M (slice_index ls k) in
+            let part = stretch ls (i + 1) k in
+            let from = same_end M N (slice_index ls i) (same_index i (omega arith)) in
+            let to = same_start M N (slice_index ls k) (same_index k (omega arith)) in
+            let short : i < k → dm_of M part ≤ limit = λ inside. let h =
+            shorter_inside M ls i k j inside (min-le_left j (length ls - 1)) in omega arith in
+            let e = same_dm_of M N part (Each-range (SameLine M N) ls (i + 1) k same) in (
+              (λ c inside. let h = short inside in subst (λ (v : ℕ). Route N v (start N (slice_index ls k)) part) from
+                  (subst (λ (v : ℕ). Route N s v part) to (sole_moves M N s (reach i on far) t part h (c inside)))),
+              (λ c inside. let h = short inside in
+                  sole_back M N s (reach i on far) t part (omega arith)
+                  (subst (λ (v : ℕ). Route N v t part) (sym from)
+                  (subst (λ (v : ℕ). Route N (end N (slice_index ls i)) v part) (sym to) (c inside)))),
+            )
       ]
-
-  covered_back : (i j : ℕ) → has js i ≡ true → i < j → j ≤ length ls → dm_of N (stretch ls i j) ≤ limit → Covered N ls i j → Covered M ls i j
-  covered_back i j on after upto near c = λ inside.
-      let k = min j (length ls - 1) in
-      let h : k ≤ j = min-le_left j (length ls - 1) in
-      let g : k ≤ length ls - 1 = min-le_right j (length ls - 1) in
-      let from = same_end M N (slice_index ls i) (same_index i (omega arith)) in
-      let to = same_start M N (slice_index ls k) (same_index k (omega arith)) in
-      elim (cases_lt (i + 2) (length ls)) [
-        | inl far ↦
-            let short = shorter_inside N ls i k j inside h in
-            let here : Route N (end M (slice_index ls i)) (start M (slice_index ls k)) (stretch ls (i + 1) k) =
-            subst (λ (v : ℕ). Route N v (start M (slice_index ls k)) (stretch ls (i + 1) k)) (sym from) (subst (λ (v : ℕ). Route N (end N (slice_index ls i)) v (stretch ls (i + 1) k)) (sym to) (c inside)) in
-            route_back M N (end M (slice_index ls i)) (start M (slice_index ls k)) (stretch ls (i + 1) k) (reach i on far) (omega arith) here
-        | inr close ↦ empty_route N M m (end N (slice_index ls i)) (start N (slice_index ls k)) (end M (slice_index ls i)) (start M (slice_index ls k)) (stretch ls (i + 1) k) (nothing_inside ls i k (omega arith)) (sym from) (sym to) (c inside)
-      ]
-
-  candidate_moves : (i j : ℕ) → has js i ≡ true → Candidate M ls i j → Candidate N ls i j
-  candidate_moves i j on c =
-      record {
-        after = c.after;
-        upto = c.upto;
-        covered = covered_moves i j on c.after c.upto c.near c.covered;
-        near = subst (λ (k : ℕ). k ≤ limit) (stretch_same i j) c.near;
-        fits = sym (fits_same i j) ∙ c.fits;
-      }
-
-  candidate_back : (i j : ℕ) → has js i ≡ true → Candidate N ls i j → Candidate M ls i j
-  candidate_back i j on c =
-      record {
-        after = c.after;
-        upto = c.upto;
-        covered = covered_back i j on c.after c.upto c.near c.covered;
-        near = subst (λ (k : ℕ). k ≤ limit) (sym (stretch_same i j)) c.near;
-        fits = fits_same i j ∙ c.fits;
-      }
-
-  valid_moves : (i j : ℕ) → has js i ≡ true → ValidCandidate M ls i j → ValidCandidate N ls i j
-  valid_moves i j on c = (candidate_moves i j on c.0, sym (valid_same j) ∙ c.1)
-
-  valid_back : (i j : ℕ) → has js i ≡ true → ValidCandidate N ls i j → ValidCandidate M ls i j
-  valid_back i j on c = (candidate_back i j on c.0, valid_same j ∙ c.1)
-
-  next_moves : (i j : ℕ) → has js i ≡ true → Next M ls i j → Next N ls i j
-  next_moves i j on (To_end e c) = To_end e (candidate_moves i (length ls) on c)
-  next_moves i j on (To_valid not_end g) = To_valid (λ c. not_end (candidate_back i (length ls) on c)) (Greatest-moves (ValidCandidate M ls i) (ValidCandidate N ls i) j (λ k. valid_moves i k on) (λ k. valid_back i k on) g)
-  next_moves i j on (To_passing not_end none g) =
-      To_passing (λ c. not_end (candidate_back i (length ls) on c)) (λ k v. none k (valid_back i k on v)) (Greatest-moves (Candidate M ls i) (Candidate N ls i) j (λ k. candidate_moves i k on) (λ k. candidate_back i k on) g)
-
-  pub follow_moves : (i : ℕ) (ks : List ℕ) → Each (λ k. has js k ≡ true) (i ∷ ks) → Follow M ls i ks → Follow N ls i ks
-  follow_moves i [] on f = λ j c. f j (candidate_back i j (Each-head (λ k. has js k ≡ true) i [] on) c)
-  follow_moves i (j ∷ ks) on f = (next_moves i j (Each-head (λ k. has js k ≡ true) i (j ∷ ks) on) f.0, follow_moves j ks (Each-tail (λ k. has js k ≡ true) i (j ∷ ks) on) f.1)
 
   pub searched_moves : (v : ℕ) → Searched M ls js v → Searched N ls js v
   searched_moves v s =
       let h : s.0 + 2 < length ls = s.2 in
-      let from = same_end M N (slice_index ls s.0) (same_index s.0 (omega arith)) in
-      (s.0, s.1, s.2, subst (λ (u : ℕ). Reach N u v) from (reach_moves M N (end M (slice_index ls s.0)) (reach s.0 s.1 s.2) v s.3))
+      let from = same_end M N (slice_index ls s.0) (same_index s.0 (omega arith)) in (
+        s.0,
+        s.1,
+        s.2,
+        subst (λ (u : ℕ). Reach N u v) from
+            (reach_moves M N (end M (slice_index ls s.0)) (reach s.0 s.1 s.2) v s.3),
+      )
 
   pub searched_back : (v : ℕ) → Searched N ls js v → Searched M ls js v
   searched_back v s =
       let h : s.0 + 2 < length ls = s.2 in
-      let from = same_end M N (slice_index ls s.0) (same_index s.0 (omega arith)) in
-      (s.0, s.1, s.2, reach_back M N (end M (slice_index ls s.0)) (reach s.0 s.1 s.2) v (subst (λ (u : ℕ). Reach N u v) (sym from) s.3))
-
-  leg_same : (x : ℕ) → has ls x ≡ true → leg M x ≡ leg N x
-  leg_same x h =
-      let is = same_record M N x (same x h) in
-      let from : place_at M (start M x) ≡ place_at N (start N x) = same_place M N (start M x) (starts x h) ∙ ap (place_at N) (same_start M N x (same x h)) in
-      let to : place_at M (end M x) ≡ place_at N (end N x) = same_place M N (end M x) (ends x h) ∙ ap (place_at N) (same_end M N x (same x h)) in
-      λ i. record { line = is i; begin = from i; finish = to i }
-
-  pub legs_same : legs M ls ≡ legs N ls
-  legs_same = map_same (leg M) (leg N) ls leg_same
+      let from = same_end M N (slice_index ls s.0) (same_index s.0 (omega arith)) in (
+        s.0,
+        s.1,
+        s.2,
+        reach_back M N (end M (slice_index ls s.0)) (reach s.0 s.1 s.2) v
+            (subst (λ (u : ℕ). Reach N u v) (sym from) s.3),
+      )
 
 -- ---- the whole
-
-NodeOf-moves : (M N : Map) (xs : List ℕ) (v : ℕ) → Each (SameLine M N) xs → NodeOf M xs v → NodeOf N xs v
-NodeOf-moves M N xs v h o =
-    let is = h o.0 o.1 in
-    (o.0, o.1, elim o.2 [ inl e ↦ inl (sym (same_start M N o.0 is) ∙ e) | inr e ↦ inr (sym (same_end M N o.0 is) ∙ e) ])
 
 module _ (M N : Map) (m : IsMap M) (n : IsMap N) (P : Path) (b a js : List ℕ) (nonempty : 0 < length P.lines)
     (known : Each (λ x. IsTrue (has_line M x)) P.lines) (same : Each (SameLine M N) P.lines)
     (tried : Tried M P b a) (round : (v : ℕ) → Touched M (extended M P b a).lines b a js v → SameRound M N v) where
-  ends_at : List ℕ → Type 0
-  ends_at xs = Each (λ x. SameRound M N (end M x)) xs
-
-  starts_at : List ℕ → Type 0
-  starts_at xs = Each (λ x. SameRound M N (start M x)) xs
-
-  abbrev front : List ℕ
-  front = taken_start M b P.lines
-
   abbrev ls : List ℕ
   ls = (extended M P b a).lines
 
-  ls_starts : Each (λ x. SameRound M N (start M x)) ls
-  ls_starts x h = round (start M x) (On_path (x, h, inl refl))
+  pub own_round : (v : ℕ) → Own M ls b a v → SameRound M N v
+  own_round v (inl o) = round v (On_path o)
+  own_round v (inr (inl o)) = round v (On_start_chain o)
+  own_round v (inr (inr o)) = round v (On_end_chain o)
 
-  ls_ends : Each (λ x. SameRound M N (end M x)) ls
-  ls_ends x h = round (end M x) (On_path (x, h, inr refl))
+  all_same : Each (SameLine M N) ls
+  all_same = ls_same M N m n P b a nonempty known same tried own_round
 
-  fs_starts : Each (λ x. SameRound M N (start M x)) (from_start M P b)
-  fs_starts = Each-left (λ x. SameRound M N (start M x)) (from_start M P b) (taken_end M (from_start M P b) a) ls_starts
+  path_same : extended M P b a ≡ extended N P b a
+  path_same = extended_same M N m n P b a nonempty known same tried own_round
 
-  fs_ends : Each (λ x. SameRound M N (end M x)) (from_start M P b)
-  fs_ends = Each-left (λ x. SameRound M N (end M x)) (from_start M P b) (taken_end M (from_start M P b) a) ls_ends
+  before_same : Each (SameLine M N) b
+  before_same = b_same M N m n P b a nonempty known same tried own_round
 
-  path_starts : Each (λ x. SameRound M N (start M x)) P.lines
-  path_starts = Each-right (λ x. SameRound M N (start M x)) front P.lines fs_starts
+  after_same : Each (SameLine M N) a
+  after_same = a_same M N m n P b a nonempty known same tried own_round
 
-  b_starts : Each (λ x. SameRound M N (start M x)) b
-  b_starts x h = round (start M x) (On_start_chain (x, h, inl refl))
+  reached_round : (i : ℕ) → has (0 ∷ js) i ≡ true → i + 2 < length ls → (v : ℕ) → Reach M (end M (slice_index ls i)) v
+      → SameRound M N v
+  reached_round i on far v r = round v (Within_reach (i, on, far, r))
 
-  b_ends : Each (λ x. SameRound M N (end M x)) b
-  b_ends x h = round (end M x) (On_start_chain (x, h, inr refl))
-
-  a_starts : Each (λ x. SameRound M N (start M x)) a
-  a_starts x h = round (start M x) (On_end_chain (x, h, inl refl))
-
-  a_ends : Each (λ x. SameRound M N (end M x)) a
-  a_ends x h = round (end M x) (On_end_chain (x, h, inr refl))
-
-  b_same : Each (SameLine M N) b
-  b_same = start_same M N m P.lines b nonempty known same path_starts b_starts b_ends tried.before
-
-  before_moves : LongestStart N b P.lines
-  before_moves = longest_start_moves M N m P.lines b nonempty known same path_starts b_starts b_ends tried.before
-
-  front_same : taken_start M b P.lines ≡ taken_start N b P.lines
-  front_same =
-      let z = first (b ++ P.lines) in
-      let there : SameRound M N (start M z) = first_of_both (λ x. SameRound M N (start M x)) b P.lines nonempty b_starts path_starts in
-      let is : SameLine M N z = first_of_both (SameLine M N) b P.lines nonempty b_same same in
-      let pass : passing M (start M z) ≡ passing N (start N z) = same_passing M N (start M z) there ∙ ap (passing N) (same_start M N z is) in
-      λ i. cond (pass i) [] b
-
-  fs_same : from_start M P b ≡ from_start N P b
-  fs_same = λ i. front_same i ++ P.lines
-
-  fs_lines : Each (SameLine M N) (from_start M P b)
-  fs_lines = Each-append (SameLine M N) front P.lines (Each-cond (SameLine M N) _ b b_same) same
-
-  fs_known : Each (λ x. IsTrue (has_line M x)) (from_start M P b)
-  fs_known = Each-append (λ x. IsTrue (has_line M x)) front P.lines (Each-cond (λ x. IsTrue (has_line M x)) _ b (StartChain-known M b P.lines tried.before.chain)) known
-
-  fs_nonempty : 0 < length (from_start M P b)
-  fs_nonempty = omega (arith, length-append front P.lines)
-
-  a_same : Each (SameLine M N) a
-  a_same = end_same M N m (from_start M P b) a fs_nonempty fs_known fs_lines fs_ends a_starts a_ends tried.after
-
-  after_moves : LongestEnd N (from_start N P b) a
-  after_moves = subst (λ (zs : List ℕ). LongestEnd N zs a) fs_same (longest_end_moves M N m (from_start M P b) a fs_nonempty fs_known fs_lines fs_ends a_starts a_ends tried.after)
-
-  pub tried_moves : Tried N P b a
-  tried_moves = record { before = before_moves; after = after_moves }
-
-  back_same : taken_end M (from_start M P b) a ≡ taken_end N (from_start N P b) a
-  back_same =
-      let z = last (from_start M P b ++ a) in
-      let there : SameRound M N (end M z) = last_of_both (λ x. SameRound M N (end M x)) (from_start M P b) a fs_nonempty fs_ends a_ends in
-      let is : SameLine M N z = last_of_both (SameLine M N) (from_start M P b) a fs_nonempty fs_lines a_same in
-      let pass : passing M (end M z) ≡ passing N (end N (last (from_start N P b ++ a))) =
-      same_passing M N (end M z) there ∙ ap (passing N) (same_end M N z is) ∙ ap (λ (zs : List ℕ). passing N (end N (last (zs ++ a)))) fs_same in
-      λ i. cond (pass i) [] a
-
-  ls_same : Each (SameLine M N) ls
-  ls_same = Each-append (SameLine M N) (from_start M P b) (taken_end M (from_start M P b) a) fs_lines (Each-cond (SameLine M N) _ a a_same)
-
-  pub extended_same : extended M P b a ≡ extended N P b a
-  extended_same =
-      let d : dm_of M (taken_start M b P.lines) ≡ dm_of N (taken_start N b P.lines) =
-      same_dm_of M N front (Each-cond (SameLine M N) _ b b_same) ∙ ap (dm_of N) front_same in
-      let e : dm_of M (taken_end M (from_start M P b) a) ≡ dm_of N (taken_end N (from_start N P b) a) =
-      same_dm_of M N (taken_end M (from_start M P b) a) (Each-cond (SameLine M N) _ a a_same) ∙ ap (dm_of N) back_same in
-      λ i. record { lines = fs_same i ++ back_same i; pos = P.pos + d i; neg = P.neg + e i }
-
-  ls_nonempty : 0 < length ls
-  ls_nonempty = let h = fs_nonempty in omega (arith, length-append (from_start M P b) (taken_end M (from_start M P b) a))
-
-  searched_round : (i : ℕ) → has (0 ∷ js) i ≡ true → i + 2 < length ls → (v : ℕ) → Reach M (end M (slice_index ls i)) v → SameRound M N v
-  searched_round i on far v r = round v (Within_reach (i, on, far, r))
-
-  pub follow_same : Follow M ls 0 js → Follow N (extended N P b a).lines 0 js
-  follow_same f =
-      subst (λ (E : Path). Follow N E.lines 0 js) extended_same
-      (follow_moves M N n m ls ls_nonempty ls_same ls_starts ls_ends (0 ∷ js) searched_round 0 js (λ k h. h) f)
-
-  pub answer_same : answer_of M (extended M P b a) js ≡ answer_of N (extended N P b a) js
-  answer_same =
-      let E = extended M P b a in
-      let gs : legs M ls ≡ legs N ls = legs_same M N n m ls ls_nonempty ls_same ls_starts ls_ends (0 ∷ js) searched_round in
-      let here : answer_of M E js ≡ answer_of N E js =
-      λ i. cond (last_point 0 js == length E.lines) (Points (reference (gs i) E.pos E.neg js)) (Refused (No_next_point (last_point 0 js))) in
-      here ∙ ap (λ (E : Path). answer_of N E js) extended_same
+  pub covered_same : (i j : ℕ) → has (0 ∷ js) i ≡ true → i < j → j ≤ length ls → dm_of M (stretch ls i j) ≤ limit
+      → Covered M ls i j ↔ Covered N ls i j
+  covered_same = covers_same M N m n ls all_same (0 ∷ js) reached_round
 
   pub touched_moves : (v : ℕ) → Touched M ls b a js v → Touched N (extended N P b a).lines b a js v
-  touched_moves v (On_path o) = On_path (subst (λ (E : Path). NodeOf N E.lines v) extended_same (NodeOf-moves M N ls v ls_same o))
-  touched_moves v (On_start_chain o) = On_start_chain (NodeOf-moves M N b v b_same o)
-  touched_moves v (On_end_chain o) = On_end_chain (NodeOf-moves M N a v a_same o)
+  touched_moves v (On_path o) = On_path (subst (λ (E : Path). NodeOf N E.lines v) path_same
+      (NodeOf-moves M N ls v all_same o))
+  touched_moves v (On_start_chain o) = On_start_chain (NodeOf-moves M N b v before_same o)
+  touched_moves v (On_end_chain o) = On_end_chain (NodeOf-moves M N a v after_same o)
   touched_moves v (Within_reach s) =
-      Within_reach (subst (λ (E : Path). Searched N E.lines (0 ∷ js) v) extended_same (searched_moves M N n m ls ls_nonempty ls_same ls_starts ls_ends (0 ∷ js) searched_round v s))
+      Within_reach (subst (λ (E : Path). Searched N E.lines (0 ∷ js) v) path_same
+      (searched_moves M N m n ls all_same (0 ∷ js) reached_round v s))
 
   touched_here : (v : ℕ) → Touched N ls b a js v → Touched M ls b a js v
-  touched_here v (On_path o) = On_path (NodeOf-moves N M ls v (turned_lines M N ls ls_same) o)
-  touched_here v (On_start_chain o) = On_start_chain (NodeOf-moves N M b v (turned_lines M N b b_same) o)
-  touched_here v (On_end_chain o) = On_end_chain (NodeOf-moves N M a v (turned_lines M N a a_same) o)
-  touched_here v (Within_reach s) = Within_reach (searched_back M N n m ls ls_nonempty ls_same ls_starts ls_ends (0 ∷ js) searched_round v s)
+  touched_here v (On_path o) = On_path (NodeOf-moves N M ls v (turned_lines M N ls all_same) o)
+  touched_here v (On_start_chain o) = On_start_chain (NodeOf-moves N M b v (turned_lines M N b before_same) o)
+  touched_here v (On_end_chain o) = On_end_chain (NodeOf-moves N M a v (turned_lines M N a after_same) o)
+  touched_here v (Within_reach s) = Within_reach (searched_back M N m n ls all_same (0 ∷ js) reached_round v s)
 
   pub touched_back : (v : ℕ) → Touched N (extended N P b a).lines b a js v → Touched M ls b a js v
-  touched_back v o = touched_here v (subst (λ (E : Path). Touched N E.lines b a js v) (sym extended_same) o)
+  touched_back v o = touched_here v (subst (λ (E : Path). Touched N E.lines b a js v) (sym path_same) o)

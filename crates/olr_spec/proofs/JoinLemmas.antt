@@ -38,7 +38,7 @@ stretch_last ls p q h k =
     ∙ take_more (drop p ls) (q - p) 0 (omega (arith, length-drop p ls))
     ∙ ap (λ (x : ℕ). take (q - p) (drop p ls) ++ x ∷ []) (get_or-drop p ls (q - p) 0 ∙ ap (slice_index ls) on)
 
-empty_stretch : (ls : List ℕ) (p q : ℕ) → q ≤ p → stretch ls p q ≡ []
+pub empty_stretch : (ls : List ℕ) (p q : ℕ) → q ≤ p → stretch ls p q ≡ []
 empty_stretch ls p q h = let e : q - p ≡ 0 = omega arith in ap (λ (n : ℕ). take n (drop p ls)) e
 
 -- ---- one stretch

@@ -19,5 +19,14 @@ pub mod SectorLemmas
 pub mod BytesLemmas
 pub mod ReadLemmas
 pub mod RouteMoves
+pub mod PointMoves
 pub mod FootMoves
 pub mod LocalLemmas
+pub mod LookLists
+pub mod ChangeLemmas
+pub mod DetourLemmas
+pub mod JoinedLemmas
+pub mod WayLemmas
+pub mod LookLemmas
+pub mod StayLemmas
+pub mod TestedLemmas

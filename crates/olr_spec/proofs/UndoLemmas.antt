@@ -1,6 +1,6 @@
 -- One edit takes an accepted edit back, and the empty map is sound.
 use Rattle.std.proofs.Common.{inl, inr, ◌≡◌, ℕ, Bool, true, false, cond, not, ◌&&◌, ◌||◌, List, [], ◌∷◌, map, Option, Some, None, is_some, Result, Ok, refl, sym, ap, ◌∙◌, subst, nat_cmp, ◌==◌, unwrap_or}
-use Rattle.std.proofs.lemmas.Bool.{cases_eq, cases_Bool, eqb-true, both_ways, and_from, or_cases, not-false}
+use Rattle.std.proofs.lemmas.Bool.{cases_eq, cases_Bool, eqb-true, both_ways, and_from, or_cases}
 use Rattle.std.specs.List.{list_any, filter}
 use Rattle.std.specs.Cmp.{nat_cmp_total}
 use Rattle.std.specs.FinMap.{FinMap, get, insert, remove, entries, get-empty, same_map, nat_cmp-IsAntisymmetric}
@@ -10,7 +10,7 @@ use Rattle.olr_spec.specs.Extension.{has}
 use Rattle.olr_spec.proofs.MapLemmas.{has-lines_where, passes_at}
 use Rattle.olr_spec.proofs.ListLemmas.{has_here}
 use Rattle.olr_spec.proofs.AgreeLemmas.{some_is}
-use Rattle.olr_spec.proofs.EditLemmas.{passed_test, got_other, got_same, left_other, left_same}
+use Rattle.olr_spec.proofs.EditLemmas.{made_by, got_other, got_same, left_other, left_same}
 
 -- ---- finite maps
 
@@ -141,40 +141,29 @@ module _ (M : Map) (m : IsMap M) where
 
   pub edits_undo : (N : Map) (e : Edit) → edited M e ≡ Ok N → (f : Edit) × (edited N f ≡ Ok M)
   edits_undo N (Add_node v c) e =
-      let p = passed_test (has_node M v) Node_exists (Ok (with_nodes (insert M.nodes v c))) N e in
-      let is : with_nodes (insert M.nodes v c) ≡ N = cc in
-      (Drop_node v, subst (λ (K : Map). edited K (Drop_node v) ≡ Ok M) is (drop_new_node v c p.0))
+      let p = made_by M N (Add_node v c) e in
+      (Drop_node v, subst (λ (K : Map). edited K (Drop_node v) ≡ Ok M) p.1 (drop_new_node v c p.0))
   edits_undo N (Move_node v c) e =
-      let p = passed_test (not (has_node M v)) No_node (Ok (with_nodes (insert M.nodes v c))) N e in
-      let is : with_nodes (insert M.nodes v c) ≡ N = cc in
-      (Move_node v (place_at M v), subst (λ (K : Map). edited K (Move_node v (place_at M v)) ≡ Ok M) is (move_back v c (not-false (has_node M v) p.0)))
+      let p = made_by M N (Move_node v c) e in
+      let back : Edit = Move_node v (place_at M v) in
+      (back, subst (λ (K : Map). edited K back ≡ Ok M) p.1 (move_back v c p.0))
   edits_undo N (Drop_node v) e =
-      let to : Result Map MapFault = Ok (with_nodes (remove M.nodes v)) in
-      let p = passed_test (not (has_node M v)) No_node (unless (in_use M v) Node_in_use to) N e in
-      let q = passed_test (in_use M v) Node_in_use to N p.1 in
-      let is : with_nodes (remove M.nodes v) ≡ N = cc in
-      (Add_node v (place_at M v), subst (λ (K : Map). edited K (Add_node v (place_at M v)) ≡ Ok M) is (add_back v (not-false (has_node M v) p.0)))
+      let p = made_by M N (Drop_node v) e in
+      let back : Edit = Add_node v (place_at M v) in
+      (back, subst (λ (K : Map). edited K back ≡ Ok M) p.2 (add_back v p.0))
   edits_undo N (Add_line x l) e =
-      let to : Result Map MapFault = Ok (with_lines (insert M.lines x l)) in
-      let p = passed_test (has_line M x) Line_exists (unless (not (has_node M l.from && has_node M l.to)) No_node (unless (not (is_good l)) Bad_shape to)) N e in
-      let q = passed_test (not (has_node M l.from && has_node M l.to)) No_node (unless (not (is_good l)) Bad_shape to) N p.1 in
-      let r = passed_test (not (is_good l)) Bad_shape to N q.1 in
-      let is : with_lines (insert M.lines x l) ≡ N = cc in
-      (Drop_line x, subst (λ (K : Map). edited K (Drop_line x) ≡ Ok M) is (drop_new_line x l p.0))
+      let p = made_by M N (Add_line x l) e in
+      (Drop_line x, subst (λ (K : Map). edited K (Drop_line x) ≡ Ok M) p.4 (drop_new_line x l p.0))
   edits_undo N (Set_line x frc fow len shape) e =
       let k : Line = record { from = start M x; to = end M x; frc = frc; fow = fow; len = len; shape = shape } in
       let l = line_at M x in
-      let to : Result Map MapFault = Ok (with_lines (insert M.lines x k)) in
-      let p = passed_test (not (has_line M x)) No_line (unless (not (is_good k)) Bad_shape to) N e in
-      let r = passed_test (not (is_good k)) Bad_shape to N p.1 in
-      let is : with_lines (insert M.lines x k) ≡ N = cc in
+      let p = made_by M N (Set_line x frc fow len shape) e in
       let back : Edit = Set_line x l.frc l.fow l.len l.shape in
-      (back, subst (λ (K : Map). edited K back ≡ Ok M) is (line_set_back x k (not-false (has_line M x) p.0) refl refl))
+      (back, subst (λ (K : Map). edited K back ≡ Ok M) p.2 (line_set_back x k p.0 refl refl))
   edits_undo N (Drop_line x) e =
-      let to : Result Map MapFault = Ok (with_lines (remove M.lines x)) in
-      let p = passed_test (not (has_line M x)) No_line to N e in
-      let is : with_lines (remove M.lines x) ≡ N = cc in
-      (Add_line x (line_at M x), subst (λ (K : Map). edited K (Add_line x (line_at M x)) ≡ Ok M) is (line_back x (not-false (has_line M x) p.0)))
+      let p = made_by M N (Drop_line x) e in
+      let back : Edit = Add_line x (line_at M x) in
+      (back, subst (λ (K : Map). edited K back ≡ Ok M) p.1 (line_back x p.0))
 
 pub empty_sound : IsMap empty_map
 empty_sound =

@@ -4,21 +4,26 @@
 --     answers    a path has exactly one answer; its reference fits its bits; the routes between its points join to the path
 --     bytes      a direction has one sector, a reference one spelling, bytes one reference or one fault
 --     locality   an answer rests on its footprint alone
-use Rattle.std.specs.Prelude.{◌≡◌, ℕ, ◌+◌, ◌<◌, ◌≤◌, ℤ, pos, List, [], ◌++◌, length, Option, Some, None, is_some, All, Ok, ◌↔◌, IsTrue, IsFalse, ⊤}
+--     changes    what edits change, and which walks they can concern
+--     looks      a path looks at its own nodes and what lies near; where no change concerns that, its answer is kept
+use Rattle.std.specs.Prelude.{◌≡◌, ℕ, ◌+◌, ◌<◌, ◌≤◌, ℤ, pos, List, [], ◌++◌, length, Option, Some, None, is_some, All, Contains, Ok, ◌↔◌, ◌⊎◌, IsTrue, IsFalse, ⊤}
+use Rattle.std.specs.List.{AllByRecursion}
 use Rattle.std.specs.List.Sorted.{IsStrictlyIncreasing}
 use Rattle.olr_spec.specs.Coordinates.{is_coord}
-use Rattle.olr_spec.specs.Map.{Map, empty_map, IsMap, Line, are_coords, has_line, place_at, lines_in, lines_out, Edit, Add_node, Move_node, Add_line, Set_line, edited, touched_nodes, touched_lines, Enters, Leaves, Agree}
+use Rattle.olr_spec.specs.Map.{Map, empty_map, IsMap, Line, are_coords, has_line, place_at, lines_in, lines_out, Edit, Add_node, Move_node, Add_line, Set_line, edited, touched_nodes, touched_lines, Enters, Leaves, Agree, SameLine, SameRound}
 use Rattle.olr_spec.specs.Walks.{Walk, dm_of, Least, Sole}
 use Rattle.olr_spec.specs.Labels.{Settled}
-use Rattle.olr_spec.specs.Extension.{Path, is_path, has, first, last, LongestStart, LongestEnd}
-use Rattle.olr_spec.specs.Points.{Next, Follow, last_point}
+use Rattle.olr_spec.specs.Extension.{Path, is_path, has, first, last, LongestStart, LongestEnd, limit}
+use Rattle.olr_spec.specs.Points.{stretch, Covered, Next, Follow, last_point}
 use Rattle.olr_spec.specs.Bearings.{IsSector, sector}
 use Rattle.olr_spec.specs.Reference.{Reference, legs, first_kept, last_kept, kept}
 use Rattle.olr_spec.specs.Encoding.{Answer, Points, Encodes, IsPoint}
 use Rattle.olr_spec.specs.Bytes.{IsReference, Spells, v3_fault}
 use Rattle.olr_spec.specs.Decoded.{decoded, IsNear}
 use Rattle.olr_spec.specs.Joins.{Joins}
-use Rattle.olr_spec.specs.Footprint.{Foot}
+use Rattle.olr_spec.specs.Footprint.{Reach, Foot}
+use Rattle.olr_spec.specs.Detours.{ChangedLine, changes_of, Tells, Difference, Detour, Near}
+use Rattle.olr_spec.specs.Looks.{OwnOf, IsLastTested, Look, look_to, LooksOf, IsClear}
 
 -- ---- maps
 
@@ -195,3 +200,90 @@ EditsAreLocal =
     (M N : Map) (e : Edit) (P : Path) → edited M e ≡ Ok N
     → ((v : ℕ) → IsTrue (has (touched_nodes M e) v) → ¬ Foot M P v) → ((x : ℕ) → IsTrue (has (touched_lines e) x) → IsFalse (has P.lines x))
     → Agree M N P.lines (Foot M P)
+
+-- ---- changes
+
+-- an accepted edit makes no other difference than what it touches and changes
+abbrev pub EditsDiffer : Type 0
+EditsDiffer = (M N : Map) (e : Edit) → edited M e ≡ Ok N → Difference (touched_nodes M e) (touched_lines e) (changes_of M e) M N
+
+-- there is none between a map and itself
+abbrev pub NoDifference : Type 0
+NoDifference = (M : Map) → Difference [] [] [] M M
+
+-- and of two changes, one after the other, each adds its own
+abbrev pub DifferencesAdd : Type 0
+DifferencesAdd =
+    (L M N : Map) (T U X Y : List ℕ) (C D : List ChangedLine) → Difference T X C L M → Difference U Y D M N → Difference (T ++ U) (X ++ Y) (C ++ D) L N
+
+-- where no detour is as short, walks are the same on both maps; the detour is asked on one of them alone
+abbrev pub WalksStay : Type 0
+WalksStay =
+    (M N : Map) (C : List ChangedLine) (s t d : ℕ) → Tells C M N → Tells C N M → ¬ Detour N C s t d
+    → (xs : List ℕ) → ((Walk M s t xs × (dm_of M xs ≤ d)) ↔ (Walk N s t xs × (dm_of N xs ≤ d)))
+
+-- so a walk of unchanged lines is the sole one on both or on neither
+abbrev pub SolesStay : Type 0
+SolesStay =
+    (M N : Map) (C : List ChangedLine) (s t d : ℕ) → Tells C M N → Tells C N M → ¬ Detour N C s t d
+    → (xs : List ℕ) → dm_of M xs ≡ dm_of N xs → dm_of M xs ≤ d → Sole M s t xs ↔ Sole N s t xs
+
+-- a touched node is near on both maps or on neither
+abbrev pub NearStays : Type 0
+NearStays =
+    (M N : Map) (T : List ℕ) → ((v : ℕ) → IsFalse (has T v) → SameRound M N v)
+    → (s d : ℕ) → Near M T s d ↔ Near N T s d
+
+-- ---- looks
+
+-- from each point that two lines follow there is one last position that is tested
+abbrev pub OneLastTested : Type 0
+OneLastTested = (M : Map) (ls : List ℕ) (i j k : ℕ) → IsLastTested M ls i j → IsLastTested M ls i k → j ≡ k
+
+abbrev pub SomeLastTested : Type 0
+SomeLastTested = (M : Map) → IsMap M → (ls : List ℕ) (i : ℕ) → i + 1 < length ls → (k : ℕ) × IsLastTested M ls i k
+
+-- so a path has exactly one list of looks
+abbrev pub OneLooks : Type 0
+OneLooks = (M : Map) → IsMap M → (P : Path) → IsTrue (is_path P.lines) → (ks ls : List Look) → LooksOf M P ks → LooksOf M P ls → ks ≡ ls
+
+abbrev pub SomeLooks : Type 0
+SomeLooks = (M : Map) → IsMap M → (P : Path) → IsTrue (is_path P.lines) → (looks : List Look) × LooksOf M P looks
+
+-- the footprint is the own nodes, and what is within reach of where a look begins
+abbrev pub FootIsLooked : Type 0
+FootIsLooked =
+    (M : Map) → IsMap M → (P : Path) → IsTrue (is_path P.lines) → (looks : List Look) → LooksOf M P looks
+    → (v : ℕ) → Foot M P v ↔ (OwnOf M P v ⊎ ((l : Look) × Contains looks l × Reach M l.from v))
+
+-- so a footprint holds a touched node exactly where an own node is touched, or one is near to where a look begins, on the changed map
+abbrev pub FootConcerned : Type 0
+FootConcerned =
+    (M N : Map) → IsMap M → (T : List ℕ) → ((v : ℕ) → IsFalse (has T v) → SameRound M N v)
+    → (P : Path) → IsTrue (is_path P.lines) → (looks : List Look) → LooksOf M P looks
+    → ((v : ℕ) × IsTrue (has T v) × Foot M P v) ↔ (((v : ℕ) × IsTrue (has T v) × OwnOf M P v) ⊎ ((l : Look) × Contains looks l × Near N T l.from limit))
+
+-- where the look from line i is clear, it is the same on both maps, and the positions that are near enough are covered on both alike
+abbrev pub LooksStay : Type 0
+LooksStay =
+    (M N : Map) (C : List ChangedLine) → Tells C M N → Tells C N M
+    → (ls : List ℕ) → AllByRecursion (SameLine M N) ls → (s t : ℕ) → Walk M s t ls → (i k : ℕ) → IsLastTested M ls i k → IsClear N C (look_to M ls i k)
+    → IsLastTested N ls i k × (look_to M ls i k ≡ look_to N ls i k)
+    × ((j : ℕ) → i < j → j ≤ length ls → dm_of M (stretch ls i j) ≤ limit → Covered M ls i j ↔ Covered N ls i j)
+
+-- a path none of whose own nodes is touched, none of whose lines is another, and each of whose looks is clear, has the same answer, own nodes
+-- and looks on both maps
+abbrev pub AnswersKept : Type 0
+AnswersKept =
+    (M N : Map) → IsMap M → IsMap N → (C : List ChangedLine) → Tells C M N → Tells C N M
+    → (P : Path) → IsTrue (is_path P.lines) → AllByRecursion (SameLine M N) P.lines → ((v : ℕ) → OwnOf M P v → SameRound M N v)
+    → (looks : List Look) → LooksOf M P looks → All (IsClear N C) looks
+    → ((A : Answer) → Encodes M P A → Encodes N P A) × ((v : ℕ) → OwnOf M P v ↔ OwnOf N P v) × LooksOf N P looks
+
+-- the same, told by what the edits touch and change
+abbrev pub UntouchedKept : Type 0
+UntouchedKept =
+    (M N : Map) → IsMap M → IsMap N → (T X : List ℕ) (C : List ChangedLine) → Difference T X C M N
+    → (P : Path) → IsTrue (is_path P.lines) → ((x : ℕ) → IsTrue (has X x) → IsFalse (has P.lines x)) → ((v : ℕ) → IsTrue (has T v) → ¬ OwnOf M P v)
+    → (looks : List Look) → LooksOf M P looks → All (IsClear N C) looks
+    → ((A : Answer) → Encodes M P A → Encodes N P A) × ((v : ℕ) → OwnOf M P v ↔ OwnOf N P v) × LooksOf N P looks

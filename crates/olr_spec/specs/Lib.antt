@@ -12,6 +12,8 @@ pub mod Bytes
 pub mod Decoded
 pub mod Joins
 pub mod Footprint
+pub mod Detours
+pub mod Looks
 pub mod Laws
 pub mod Rows
 pub mod Codes

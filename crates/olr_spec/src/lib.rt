@@ -3,9 +3,9 @@
 //! A road map, a path, a reference and its bytes are values here: finite maps, lists and whole
 //! numbers. The other crates' contracts cite these definitions; nothing here is run. In reading
 //! order: `Coordinates`, `Degrees`, `Map`, `Walks`, `Labels`, `Extension`, `Points`, `Bearings`,
-//! `Reference`, `Encoding`, `Bytes`, `Decoded`, `Joins`, `Footprint`, and `Laws`, which says what
-//! follows from them. `Codes` tells the compiler how the values are stored, and `Rows` has the
-//! values of the worked rows.
+//! `Reference`, `Encoding`, `Bytes`, `Decoded`, `Joins`, `Footprint`, `Detours`, `Looks`, and
+//! `Laws`, which says what follows from them. `Codes` tells the compiler how the values are stored,
+//! and `Rows` has the values of the worked rows.
 //!
 //! Each function below does nothing. Its contract is what is proved: first the laws, and then
 //! worked rows, which the definitions compute.
@@ -15,11 +15,14 @@ ghost use Rattle.std.specs.Prelude.{◌≡◌, ℕ, true, false, pos, negsuc, ne
 ghost use Rattle.olr_spec.specs.Coordinates.{coord, abs24, from_abs24, rel16};
 ghost use Rattle.olr_spec.specs.Degrees;
 ghost use Rattle.olr_spec.specs.Degrees.{read_degrees};
+ghost use Rattle.olr_spec.specs.Map.{empty_map, no_place, Add_node, Add_line};
 ghost use Rattle.olr_spec.specs.Extension.{passes_between};
 ghost use Rattle.olr_spec.specs.Bearings.{sector, up_to, thousandths, scaled_place, bearing_out, bearing_back};
 ghost use Rattle.olr_spec.specs.Reference.{kept, reference};
 ghost use Rattle.olr_spec.specs.Bytes.{spelling, v3_fault, Length, Status, Flags, Reserved};
 ghost use Rattle.olr_spec.specs.Decoded.{decoded};
+ghost use Rattle.olr_spec.specs.Detours.{changes_of};
+ghost use Rattle.olr_spec.specs.Looks.{looking};
 ghost use Rattle.olr_spec.specs.Laws;
 ghost use Rattle.olr_spec.specs.Rows.{legs1, leg10, reference1, bytes1, side_road_dropped_bytes, first_dropped_bytes, last_dropped_bytes, both_offsets_bytes, offset_bytes_of, version2_bytes, reserved_bytes, straight, slanted};
 
@@ -92,6 +95,31 @@ pub fn laws_of_footprints()
     ensures answer { Laws.LocalAnswer }
     ensures foot { Laws.LocalFoot }
     ensures edits { Laws.EditsAreLocal }
+{}
+
+/// An edit makes no other difference than what it touches and changes, and edits add theirs. Where no
+/// changed line offers a detour as short, walks are the same before and after.
+pub fn laws_of_changes()
+    ensures edits { Laws.EditsDiffer }
+    ensures none { Laws.NoDifference }
+    ensures more { Laws.DifferencesAdd }
+    ensures walks { Laws.WalksStay }
+    ensures soles { Laws.SolesStay }
+    ensures near { Laws.NearStays }
+{}
+
+/// What a path looks at is one list, which gives its footprint; where edits concern none of it, the
+/// path keeps its answer.
+pub fn laws_of_looks()
+    ensures one_last_tested { Laws.OneLastTested }
+    ensures some_last_tested { Laws.SomeLastTested }
+    ensures one { Laws.OneLooks }
+    ensures some { Laws.SomeLooks }
+    ensures foot { Laws.FootIsLooked }
+    ensures concerned { Laws.FootConcerned }
+    ensures looks { Laws.LooksStay }
+    ensures kept { Laws.AnswersKept }
+    ensures untouched { Laws.UntouchedKept }
 {}
 
 /// 24-bit steps, and back: halves go away from zero.
@@ -175,6 +203,19 @@ pub fn rows_bearing()
     ensures slanted_back { bearing_back (slanted 19660963840000) ≡ 20 }
     ensures steeper_out { bearing_out (slanted 19660967116800) ≡ 3 }
     ensures south { thousandths (neg_ℤ (pos 327679999)) ≡ pos 0 }
+{}
+
+/// The points that look: those that two lines or more follow.
+pub fn rows_looking()
+    ensures first_two { looking (11 ∷ 12 ∷ 13 ∷ 14 ∷ []) (0 ∷ 1 ∷ 2 ∷ 4 ∷ []) ≡ 0 ∷ 1 ∷ [] }
+    ensures two_lines { looking (11 ∷ 12 ∷ []) (0 ∷ 1 ∷ 2 ∷ []) ≡ [] }
+    ensures three_lines { looking (11 ∷ 12 ∷ 13 ∷ []) (0 ∷ 3 ∷ []) ≡ 0 ∷ [] }
+{}
+
+/// The lines that an edit changes: a line that is added with its length, and none where a node is.
+pub fn rows_changes()
+    ensures line { changes_of empty_map (Add_line 7 leg10.line) ≡ record { from = 1; to = 2; len = 5610 } ∷ [] }
+    ensures node { changes_of empty_map (Add_node 7 no_place) ≡ [] }
 {}
 
 /// The points that the offsets leave, in dm from the start and from the end.

@@ -1,0 +1,8 @@
+use Rattle.std.proofs.Common.{◌≡◌, true, take}
+use Rattle.std.specs.Prelude.{not, ◌==◌}
+use Rattle.std.specs.List.{list_all}
+use Rattle.olr_coords.proofs.degrees.point.Given as goal
+
+-- no point yet
+abbrev pub invariant-loop-i : goal.invariant-loop-i
+invariant-loop-i l = list_all (λ c. not (c == 46)) (take l.i l.text) ≡ true

@@ -1,0 +1,169 @@
+-- What edits change, one after another.
+use Rattle.std.proofs.Common.{inl, inr, ◌≡◌, ◌≢◌, ℕ, Bool, false, true, ◌||◌, List, [], ◌∷◌, ◌++◌, min, ◌≤◌, Ok, Option, is_some, Contains, IsTrue, refl, sym, ap, ◌∙◌, subst, arith, ◌==◌, unwrap_or}
+use Rattle.std.proofs.lemmas.Bool.{cases_eq, both_ways, or_parts, ne_eqb}
+use Rattle.std.proofs.lemmas.List.Elements.{Contains-append_left, Contains-append_right}
+use Rattle.std.proofs.lemmas.List.Folds.{list_any-append}
+use Rattle.std.specs.FinMap.{get, insert, remove}
+use Rattle.olr_spec.specs.Map.{Map, Line, has_line, line_at, no_line, start, end, dm, Edit, Add_node, Move_node, Drop_node, Add_line, Set_line, Drop_line, edited, touched_nodes, touched_lines, SameLine, SameRound}
+use Rattle.olr_spec.specs.Extension.{has}
+use Rattle.olr_spec.specs.Detours.{ChangedLine, changes_of, IsTold, Tells, Difference}
+use Rattle.olr_spec.proofs.LookLists.{Contains-here}
+use Rattle.olr_spec.proofs.AgreeLemmas.{same_known, same_start, same_end, same_dm}
+use Rattle.olr_spec.proofs.EditLemmas.{made_by, got_other, got_same, left_other, left_same, edits_are_local}
+
+-- ---- one edit
+
+-- maps whose lines differ at y alone, which is told
+tells_one : (C : List ChangedLine) (M N : Map) (y : ℕ) → ((x : ℕ) → x ≢ y → SameLine M N x)
+    → (IsTrue (has_line M y) → IsTold C M y) → Tells C M N
+tells_one C M N y same told x h =
+    elim (cases_eq x y) [
+      | inl e ↦ inr (subst (IsTold C M) (sym e) (told (ap (has_line M) (sym e) ∙ h)))
+      | inr ne ↦ inl (same x ne)
+    ]
+
+-- the only one of the changed lines
+told_alone : (M : Map) (y : ℕ) (c : ChangedLine) → c.from ≡ start M y → c.to ≡ end M y → c.len ≤ dm M y
+    → IsTold (c ∷ []) M y
+told_alone M y c a b h = record { change = c; listed = Contains-here c []; from = a; to = b; len = h }
+
+-- line y as it is set
+set_told : (M : Map) (y : ℕ) (l : Line) (c : ChangedLine) → c.from ≡ l.from → c.to ≡ l.to → c.len ≤ l.len
+    → let N = record M { lines = insert M.lines y l } in Tells (c ∷ []) N M
+set_told M y l c a b h =
+    let N = record M { lines = insert M.lines y l } in
+    let set : line_at N y ≡ l = ap (λ (o : Option Line). unwrap_or o no_line) (got_same M.lines y l) in
+    let from : c.from ≡ start N y = a ∙ sym (ap (λ (k : Line). k.from) set) in
+    let to : c.to ≡ end N y = b ∙ sym (ap (λ (k : Line). k.to) set) in
+    let short : c.len ≤ dm N y = subst (λ (k : Line). c.len ≤ k.len) (sym set) h in
+    tells_one (c ∷ []) N M y (λ x ne. got_other M.lines y l x ne) (λ known. told_alone N y c from to short)
+
+abbrev BothTell : List ChangedLine → Map → Map → Type 0
+BothTell C M N = Tells C M N × Tells C N M
+
+nodes_told : (M N : Map) → ((x : ℕ) → SameLine M N x) → BothTell [] M N
+nodes_told M N same = ((λ x h. inl (same x)), (λ x h. inl (sym (same x))))
+
+edit_told : (M N : Map) (e : Edit) → edited M e ≡ Ok N → BothTell (changes_of M e) M N
+edit_told M N (Add_node v c) e = nodes_told M N (λ x. ap (λ (K : Map). get K.lines x) (made_by M N (Add_node v c) e).1)
+edit_told M N (Move_node v c) e = nodes_told M N (λ x. ap (λ (K : Map). get K.lines x) (made_by M N (Move_node v c) e).1)
+edit_told M N (Drop_node v) e = nodes_told M N (λ x. ap (λ (K : Map). get K.lines x) (made_by M N (Drop_node v) e).2)
+edit_told M N (Add_line x l) e =
+    let to = record M { lines = insert M.lines x l } in
+    let p = made_by M N (Add_line x l) e in
+    let c : ChangedLine = record { from = l.from; to = l.to; len = l.len } in
+    let there : Tells (c ∷ []) M to =
+    tells_one (c ∷ []) M to x (λ y ne. sym (got_other M.lines x l y ne))
+    (λ known. absurd (both_ways (has_line M x) p.0 known)) in
+    subst (BothTell (c ∷ []) M) p.4 (there, set_told M x l c refl refl (omega arith))
+edit_told M N (Set_line x frc fow len shape) e =
+    let l : Line = record { from = start M x; to = end M x; frc = frc; fow = fow; len = len; shape = shape } in
+    let to = record M { lines = insert M.lines x l } in
+    let c : ChangedLine = record { from = start M x; to = end M x; len = min (dm M x) len } in
+    let there : Tells (c ∷ []) M to =
+    tells_one (c ∷ []) M to x (λ y ne. sym (got_other M.lines x l y ne))
+    (λ known. told_alone M x c refl refl (omega arith)) in
+    subst (BothTell (c ∷ []) M) (made_by M N (Set_line x frc fow len shape) e).2
+    (there, set_told M x l c refl refl (omega arith))
+edit_told M N (Drop_line x) e =
+    let to = record M { lines = remove M.lines x } in
+    let c : ChangedLine = record { from = start M x; to = end M x; len = dm M x } in
+    let gone : has_line to x ≡ false = ap (λ (o : Option Line). is_some o) (left_same M.lines x) in
+    let there : Tells (c ∷ []) M to =
+    tells_one (c ∷ []) M to x (λ y ne. sym (left_other M.lines x y ne))
+    (λ known. told_alone M x c refl refl (omega arith)) in
+    let here : Tells (c ∷ []) to M =
+    tells_one (c ∷ []) to M x (left_other M.lines x) (λ known. absurd (both_ways (has_line to x) gone known)) in
+    subst (BothTell (c ∷ []) M) (made_by M N (Drop_line x) e).1 (there, here)
+
+pub edit_differs : (M N : Map) (e : Edit) → edited M e ≡ Ok N
+    → Difference (touched_nodes M e) (touched_lines e) (changes_of M e) M N
+edit_differs M N e p =
+    let told = edit_told M N e p in
+    record {
+      nodes = λ v off. (edits_are_local M N e [] (λ u. has (touched_nodes M e) u ≡ false) p
+          (λ u on off. both_ways (has (touched_nodes M e) u) off on) (λ x on. refl)).nodes v off;
+      lines = λ x off. (edits_are_local M N e (x ∷ []) (λ u. ⊥) p (λ u on f. f) (λ y on. other x y off on)).lines.0;
+      there = told.0;
+      here = told.1;
+    }
+  where
+    other : (x y : ℕ) → has (touched_lines e) x ≡ false → has (touched_lines e) y ≡ true → has (x ∷ []) y ≡ false
+    other x y off on =
+        let apart : x ≢ y = λ is. both_ways (has (touched_lines e) x) off (ap (has (touched_lines e)) is ∙ on) in
+        ap (λ (b : Bool). b || false) (ne_eqb x y apart)
+
+-- ---- and none
+
+pub none_differs : (M : Map) → Difference [] [] [] M M
+none_differs M = record {
+  nodes = λ v off. record {
+    place = refl;
+    entering = λ x l. ((λ h. h), (λ h. h));
+    leaving = λ x l.
+        ((λ h. h), (λ h. h));
+  };
+  lines = λ x off. refl;
+  there = λ x h. inl refl;
+  here = λ x h. inl refl;
+}
+
+-- ---- one after another
+
+pub more_told : (C D : List ChangedLine) (M : Map) (x : ℕ) → ((c : ChangedLine) → Contains C c → Contains D c)
+    → IsTold C M x → IsTold D M x
+more_told C D M x more t = record {
+  change = t.change;
+  listed = more t.change t.listed;
+  from = t.from;
+  to = t.to;
+  len = t.len;
+}
+
+told_back : (C : List ChangedLine) (L M : Map) (x : ℕ) → SameLine L M x → IsTold C M x → IsTold C L x
+told_back C L M x is t =
+    record {
+      change = t.change;
+      listed = t.listed;
+      from = t.from ∙ sym (same_start L M x is);
+      to = t.to ∙ sym (same_end L M x is);
+      len = subst (λ (d : ℕ). t.change.len ≤ d) (sym (same_dm L M x is)) t.len;
+    }
+
+-- E has the changed lines of both
+tells_on : (C D E : List ChangedLine) (L M N : Map) → ((c : ChangedLine) → Contains C c → Contains E c)
+    → ((c : ChangedLine) → Contains D c → Contains E c) → Tells C L M → Tells D M N → Tells E L N
+tells_on C D E L M N left right p q x h =
+    elim (p x h) [
+      | inr t ↦ inr (more_told C E L x left t)
+      | inl is ↦ elim (q x (sym (same_known L M x is) ∙ h)) [
+        | inl on ↦ inl (is ∙ on)
+        | inr t ↦ inr (told_back E L M x is (more_told D E M x right t))
+      ]
+    ]
+
+round_on : (L M N : Map) (v : ℕ) → SameRound L M v → SameRound M N v → SameRound L N v
+round_on L M N v r s =
+    record {
+      place = r.place ∙ s.place;
+      entering = λ x l. (
+        (λ h. (s.entering x l).0 ((r.entering x l).0 h)),
+        (λ h. (r.entering x l).1 ((s.entering x l).1 h)),
+      );
+      leaving = λ x l. ((λ h. (s.leaving x l).0 ((r.leaving x l).0 h)), (λ h. (r.leaving x l).1 ((s.leaving x l).1 h)));
+    }
+
+not_either : (xs ys : List ℕ) (v : ℕ) → has (xs ++ ys) v ≡ false → (has xs v ≡ false) × (has ys v ≡ false)
+not_either xs ys v h = or_parts (has xs v) (has ys v) (sym (list_any-append (λ y. y == v) xs ys) ∙ h)
+
+pub differences_add : (L M N : Map) (T U X Y : List ℕ) (C D : List ChangedLine) → Difference T X C L M
+    → Difference U Y D M N → Difference (T ++ U) (X ++ Y) (C ++ D) L N
+differences_add L M N T U X Y C D p q =
+    let left : (c : ChangedLine) → Contains C c → Contains (C ++ D) c = λ c. Contains-append_left C D c in
+    let right : (c : ChangedLine) → Contains D c → Contains (C ++ D) c = λ c. Contains-append_right C D c in
+    record {
+      nodes = λ v off. let o = not_either T U v off in round_on L M N v (p.nodes v o.0) (q.nodes v o.1);
+      lines = λ x off. let o = not_either X Y x off in p.lines x o.0 ∙ q.lines x o.1;
+      there = tells_on C D (C ++ D) L M N left right p.there q.there;
+      here = tells_on D C (C ++ D) N M L right left q.here p.here;
+    }

@@ -1,0 +1,239 @@
+-- Walks are the same on two maps unless a changed line offers a detour.
+use Rattle.std.proofs.Common.{inl, inr, ◌⊎◌, ◌≡◌, ℕ, List, [], ◌∷◌, ◌≤◌, Contains, true, false, refl, sym, ◌∙◌, subst, arith}
+use Rattle.std.proofs.lemmas.Bool.{cases_lt}
+use Rattle.olr_spec.specs.Map.{Map, end, dm, SameLine, SameRound}
+use Rattle.olr_spec.specs.Walks.{Walk, dm_of, Sole}
+use Rattle.olr_spec.specs.Extension.{has}
+use Rattle.olr_spec.specs.Detours.{ChangedLine, Tells, Detour, Near}
+use Rattle.olr_spec.proofs.ListLemmas.{Each, Each-nil, Each-cons}
+use Rattle.olr_spec.proofs.AgreeLemmas.{by_leaving, same_known, same_start, same_end, same_dm, same_dm_of}
+use Rattle.olr_spec.proofs.RouteMoves.{Walk-moves}
+
+-- behind its last changed line a walk is one of both maps
+pub record Rest (M N : Map) (C : List ChangedLine) (t d : ℕ) : Type 0 where
+  pub last : ChangedLine
+  pub listed : Contains C last
+  pub after : List ℕ
+  pub same : Each (SameLine M N) after
+  pub returns : Walk M last.to t after
+  pub within : dm_of M after ≤ d
+
+pub rest_of : (M N : Map) (C : List ChangedLine) → Tells C M N → (s t : ℕ) (xs : List ℕ) → Walk M s t xs
+    → Each (SameLine M N) xs ⊎ Rest M N C t (dm_of M xs)
+rest_of M N C tells s t [] w = inl (Each-nil (SameLine M N))
+rest_of M N C tells s t (x ∷ xs) w =
+    elim (rest_of M N C tells (end M x) t xs w.2) [
+      | inr r ↦ let h = r.within in inr record {
+        last = r.last;
+        listed = r.listed;
+        after = r.after;
+        same = r.same;
+        returns = r.returns;
+        within = omega arith;
+      }
+      | inl each ↦ elim (tells x w.0) [
+        | inl is ↦ inl (Each-cons (SameLine M N) x xs is each)
+        | inr c ↦ inr record {
+          last = c.change;
+          listed = c.listed;
+          after = xs;
+          same = each;
+          returns = subst (λ (v : ℕ). Walk M v t xs) (sym c.to) w.2;
+          within = omega arith;
+        }
+      ]
+    ]
+
+-- a detour of both maps, as long as the walk at most
+pub record Parts (M N : Map) (C : List ChangedLine) (s t d : ℕ) : Type 0 where
+  pub detour : Detour M C s t d
+  pub before_same : Each (SameLine M N) detour.before
+  pub after_same : Each (SameLine M N) detour.after
+
+-- before its first changed line and behind its last one
+pub parts_of : (M N : Map) (C : List ChangedLine) → Tells C M N → (s t : ℕ) (xs : List ℕ) → Walk M s t xs
+    → Each (SameLine M N) xs ⊎ Parts M N C s t (dm_of M xs)
+parts_of M N C tells s t [] w = inl (Each-nil (SameLine M N))
+parts_of M N C tells s t (x ∷ xs) w =
+    elim (tells x w.0) [
+      | inl is ↦ elim (parts_of M N C tells (end M x) t xs w.2) [
+        | inl each ↦ inl (Each-cons (SameLine M N) x xs is each)
+        | inr p ↦ let o = p.detour in let h = o.within in inr record {
+          detour = record {
+            first = o.first;
+            last = o.last;
+            first_listed = o.first_listed;
+            last_listed = o.last_listed;
+            before = x ∷ o.before;
+            after = o.after;
+            leads = (w.0, w.1, o.leads);
+            returns = o.returns;
+            within = omega arith;
+          };
+          before_same = Each-cons (SameLine M N) x o.before is p.before_same;
+          after_same = p.after_same;
+        }
+      ]
+      | inr c ↦
+          let short : c.change.len ≤ dm M x = c.len in
+          let rest : Rest M N C t (dm_of M xs) = elim (rest_of M N C tells (end M x) t xs w.2) [
+            | inl each ↦ record {
+              last = c.change;
+              listed = c.listed;
+              after = xs;
+              same = each;
+              returns = subst (λ (v : ℕ). Walk M v t xs) (sym c.to) w.2;
+              within = omega arith;
+            }
+            | inr r ↦ r
+          ] in
+          let h = rest.within in
+          inr record {
+            detour = record {
+              first = c.change;
+              last = rest.last;
+              first_listed = c.listed;
+              last_listed = rest.listed;
+              before = [];
+              after = rest.after;
+              leads = sym w.1 ∙ sym c.from;
+              returns = rest.returns;
+              within = omega arith;
+            };
+            before_same = Each-nil (SameLine M N);
+            after_same = rest.same;
+          }
+    ]
+
+wider : (M : Map) (C : List ChangedLine) (s t d e : ℕ) → d ≤ e → Detour M C s t d → Detour M C s t e
+wider M C s t d e k o = let h = o.within in record {
+  first = o.first;
+  last = o.last;
+  first_listed = o.first_listed;
+  last_listed = o.last_listed;
+  before = o.before;
+  after = o.after;
+  leads = o.leads;
+  returns = o.returns;
+  within = omega arith;
+}
+
+detour_there : (M N : Map) (C : List ChangedLine) (s t d : ℕ) → Parts M N C s t d → Detour N C s t d
+detour_there M N C s t d p =
+    let o = p.detour in
+    let e = same_dm_of M N o.before p.before_same in
+    let f = same_dm_of M N o.after p.after_same in
+    let h = o.within in
+    record {
+      first = o.first;
+      last = o.last;
+      first_listed = o.first_listed;
+      last_listed = o.last_listed;
+      before = o.before;
+      after = o.after;
+      leads = Walk-moves M N s o.first.from o.before p.before_same o.leads;
+      returns = Walk-moves M N o.last.to t o.after p.after_same o.returns;
+      within = omega arith;
+    }
+
+-- a walk of M within d, where N has no detour
+pub same_there : (M N : Map) (C : List ChangedLine) (s t d : ℕ) → Tells C M N → ¬ Detour N C s t d → (xs : List ℕ)
+    → Walk M s t xs → dm_of M xs ≤ d → Each (SameLine M N) xs
+same_there M N C s t d tells clear xs w h =
+    elim (parts_of M N C tells s t xs w) [
+      | inl each ↦ each
+      | inr p ↦ absurd (clear (wider N C s t (dm_of M xs) d h (detour_there M N C s t (dm_of M xs) p)))
+    ]
+
+-- and one of N
+pub same_here : (M N : Map) (C : List ChangedLine) (s t d : ℕ) → Tells C N M → ¬ Detour N C s t d → (xs : List ℕ)
+    → Walk N s t xs → dm_of N xs ≤ d → Each (SameLine N M) xs
+same_here M N C s t d tells clear xs w h =
+    elim (parts_of N M C tells s t xs w) [
+      | inl each ↦ each
+      | inr p ↦ absurd (clear (wider N C s t (dm_of N xs) d h p.detour))
+    ]
+
+pub walks_there : (M N : Map) (C : List ChangedLine) (s t d : ℕ) → Tells C M N → ¬ Detour N C s t d → (xs : List ℕ)
+    → Walk M s t xs × (dm_of M xs ≤ d) → Walk N s t xs × (dm_of N xs ≤ d)
+walks_there M N C s t d tells clear xs w =
+    let each = same_there M N C s t d tells clear xs w.0 w.1 in
+    let e = same_dm_of M N xs each in
+    let h : dm_of M xs ≤ d = w.1 in
+    (Walk-moves M N s t xs each w.0, omega arith)
+
+pub walks_here : (M N : Map) (C : List ChangedLine) (s t d : ℕ) → Tells C N M → ¬ Detour N C s t d → (xs : List ℕ)
+    → Walk N s t xs × (dm_of N xs ≤ d) → Walk M s t xs × (dm_of M xs ≤ d)
+walks_here M N C s t d tells clear xs w =
+    let each = same_here M N C s t d tells clear xs w.0 w.1 in
+    let e = same_dm_of N M xs each in
+    let h : dm_of N xs ≤ d = w.1 in
+    (Walk-moves N M s t xs each w.0, omega arith)
+
+-- ---- sole walks
+
+pub sole_there : (M N : Map) (C : List ChangedLine) (s t d : ℕ) → Tells C M N → Tells C N M → ¬ Detour N C s t d
+    → (xs : List ℕ) → dm_of M xs ≡ dm_of N xs → dm_of M xs ≤ d → Sole M s t xs → Sole N s t xs
+sole_there M N C s t d there here clear xs e h sole = record {
+  walk = (walks_there M N C s t d there clear xs (sole.walk, h)).0;
+  others = λ ys w other. elim (cases_lt (dm_of N xs) (dm_of N ys)) [
+    | inl longer ↦ longer
+    | inr short ↦
+        let each = same_here M N C s t d here clear ys w (omega arith) in
+        let f = same_dm_of N M ys each in
+        let long = sole.others ys (Walk-moves N M s t ys each w) other in
+        absurd (omega arith)
+  ];
+}
+
+pub sole_here : (M N : Map) (C : List ChangedLine) (s t d : ℕ) → Tells C M N → Tells C N M → ¬ Detour N C s t d
+    → (xs : List ℕ) → dm_of M xs ≡ dm_of N xs → dm_of M xs ≤ d → Sole N s t xs → Sole M s t xs
+sole_here M N C s t d there here clear xs e h sole = record {
+  walk = (walks_here M N C s t d here clear xs (sole.walk, omega arith)).0;
+  others = λ ys w other. elim (cases_lt (dm_of M xs) (dm_of M ys)) [
+    | inl longer ↦ longer
+    | inr short ↦
+        let each = same_there M N C s t d there clear ys w (omega arith) in
+        let f = same_dm_of M N ys each in
+        let long = sole.others ys (Walk-moves M N s t ys each w) other in
+        absurd (omega arith)
+  ];
+}
+
+-- ---- near
+
+pub near_moves : (M N : Map) (T : List ℕ) → ((v : ℕ) → has T v ≡ false → SameRound M N v) → (s w : ℕ) (xs : List ℕ)
+    → has T w ≡ true → Walk M s w xs → Near N T s (dm_of M xs)
+near_moves M N T round s w [] on walk = record {
+  node = s;
+  walk = [];
+  touched = subst (λ (v : ℕ). has T v ≡ true) (sym walk) on;
+  leads = refl;
+  within = omega arith;
+}
+near_moves M N T round s w (x ∷ xs) on walk =
+    elim (has T s) as (λ b. has T s ≡ b → Near N T s (dm_of M (x ∷ xs))) [
+      | true ↦ λ e. record { node = s; walk = []; touched = e; leads = refl; within = omega arith }
+      | false ↦ λ e.
+          let is : SameLine M N x = by_leaving M N s x (round s e) walk.0 walk.1 in
+          let n = near_moves M N T round (end M x) w xs on walk.2 in
+          let rest : Walk N (end N x) n.node n.walk =
+          subst (λ (v : ℕ). Walk N v n.node n.walk) (same_end M N x is) n.leads in
+          let long : dm M x ≡ dm N x = same_dm M N x is in
+          let h = n.within in
+          record {
+            node = n.node;
+            walk = x ∷ n.walk;
+            touched = n.touched;
+            leads = (sym (same_known M N x is) ∙ walk.0, sym (same_start M N x is) ∙ walk.1, rest);
+            within = omega arith;
+          }
+    ] refl
+
+pub near_there : (M N : Map) (T : List ℕ) → ((v : ℕ) → has T v ≡ false → SameRound M N v) → (s d : ℕ) → Near M T s d
+    → Near N T s d
+near_there M N T round s d m =
+    let n = near_moves M N T round s m.node m.walk m.touched m.leads in
+    let h = m.within in
+    let k = n.within in
+    record { node = n.node; walk = n.walk; touched = n.touched; leads = n.leads; within = omega arith }

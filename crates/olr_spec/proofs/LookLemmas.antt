@@ -1,0 +1,182 @@
+-- Where a point's look is clear, the positions after the point are covered on both maps alike.
+use Rattle.std.proofs.Common.{inl, inr, ◌≡◌, ℕ, ◌+◌, ◌-◌, min, List, ◌++◌, length, take, drop, ◌<◌, ◌≤◌, sym, ap, ◌∙◌, subst, arith, drop-drop, ◌↔◌}
+use Rattle.std.proofs.lemmas.Bool.{cases_lt}
+use Rattle.std.proofs.Math.Seq.{take-add}
+use Rattle.std.specs.List.{slice_index}
+use Rattle.olr_spec.specs.Map.{Map, start, end, SameLine}
+use Rattle.olr_spec.specs.Walks.{Walk, dm_of, Sole, Route}
+use Rattle.olr_spec.specs.Extension.{limit}
+use Rattle.olr_spec.specs.Points.{stretch, Covered}
+use Rattle.olr_spec.specs.Detours.{ChangedLine, Tells, Detour}
+use Rattle.olr_spec.specs.Looks.{Needed, IsLastTested, look_to, IsClear}
+use Rattle.olr_spec.proofs.WalkLemmas.{Walk-append, dm_of-append, prefix_of_sole}
+use Rattle.olr_spec.proofs.ListLemmas.{Each, Each-range, has_index}
+use Rattle.olr_spec.proofs.AgreeLemmas.{same_start, same_end, same_dm_of}
+use Rattle.olr_spec.proofs.RouteMoves.{Walk-moves}
+use Rattle.olr_spec.proofs.DetourLemmas.{sole_there, sole_here}
+use Rattle.olr_spec.proofs.WayLemmas.{way_between, next_start}
+
+pub stretch_parts : (ls : List ℕ) (p m k : ℕ) → p ≤ m → m ≤ k → stretch ls p k ≡ stretch ls p m ++ stretch ls m k
+stretch_parts ls p m k h g =
+    let n : k - p ≡ (m - p) + (k - m) = omega arith in
+    let at : p + (m - p) ≡ m = omega arith in
+    ap (λ (c : ℕ). take c (drop p ls)) n ∙ take-add (m - p) (k - m) (drop p ls)
+    ∙ ap (λ (zs : List ℕ). take (m - p) (drop p ls) ++ take (k - m) zs) (drop-drop (m - p) p ls
+    ∙ ap (λ (c : ℕ). drop c ls) at)
+
+-- a detour to a node on the way goes on to the end of the way
+pub onward : (N : Map) (C : List ChangedLine) (s v t d : ℕ) (xs : List ℕ) → Detour N C s v d → Walk N v t xs
+    → Detour N C s t (d + dm_of N xs)
+onward N C s v t d xs o w =
+    let h = o.within in
+    let e = dm_of-append N o.after xs in
+    record {
+      first = o.first;
+      last = o.last;
+      first_listed = o.first_listed;
+      last_listed = o.last_listed;
+      before = o.before;
+      after = o.after ++ xs;
+      leads = o.leads;
+      returns = Walk-append N o.last.to v t o.after xs o.returns w;
+      within = omega arith;
+    }
+
+-- a position behind one that isn't covered isn't covered either
+pub covered_before : (M : Map) (ls : List ℕ) (s t : ℕ) → Walk M s t ls → (i k m : ℕ) → i < k → k ≤ m → m ≤ length ls
+    → k < length ls → Covered M ls i m → Covered M ls i k
+covered_before M ls s t joined i k m a h g z c = λ inside.
+    let n = min m (length ls - 1) in
+    let is : min k (length ls - 1) ≡ k = omega arith in
+    let parts = stretch_parts ls (i + 1) k n (omega arith) (omega arith) in
+    let begin : Walk M (end M (slice_index ls i)) (start M (slice_index ls k)) (stretch ls (i + 1) k) =
+    subst (λ (u : ℕ). Walk M u (start M (slice_index ls k)) (stretch ls (i + 1) k))
+    (sym (next_start M s t ls i joined (omega arith))) (way_between M s t ls (i + 1) k joined (omega arith) z) in
+    let whole : Route M (end M (slice_index ls i)) (start M (slice_index ls n)) (stretch ls (i + 1) n) =
+    c (omega arith) in
+    let front : Route M (end M (slice_index ls i)) (start M (slice_index ls k)) (stretch ls (i + 1) k) =
+    prefix_of_sole M (end M (slice_index ls i)) (start M (slice_index ls k)) (start M (slice_index ls n))
+    (stretch ls (i + 1) k) (stretch ls k n)
+    (subst (Sole M (end M (slice_index ls i)) (start M (slice_index ls n))) parts whole) begin
+    (way_between M s t ls k n joined (omega arith) (omega arith)) in
+    subst (λ (p : ℕ). Route M (end M (slice_index ls i)) (start M (slice_index ls p)) (stretch ls (i + 1) p))
+    (sym is) front
+
+-- what is covered near enough shows from the look
+pub covered_known : (M : Map) (ls : List ℕ) (s t : ℕ) → Walk M s t ls → (i k : ℕ) → IsLastTested M ls i k → (j : ℕ)
+    → i < j → j ≤ length ls → dm_of M (stretch ls i j) ≤ limit
+    → k < min j (length ls - 1) → ¬ Covered M ls i j
+covered_known M ls s t joined i k look j h g near beyond = λ c.
+    let a = look.after in
+    let z = look.inside in
+    elim look.last [
+      | inl bare ↦ bare (covered_before M ls s t joined i k j a (omega arith) g z c)
+      | inr all ↦ let w : min j (length ls - 1) ≤ k = all (min j (length ls - 1)) (j, g, near, omega arith) in
+          absurd (omega arith)
+    ]
+
+module _ (M N : Map) (C : List ChangedLine) (there : Tells C M N) (here : Tells C N M) (ls : List ℕ) (same : Each (SameLine M N) ls)
+    (s t : ℕ) (joined : Walk M s t ls) (i k : ℕ) (look : IsLastTested M ls i k)
+    (clear : IsClear N C (look_to M ls i k)) where
+  abbrev from : ℕ
+  from = end M (slice_index ls i)
+
+  abbrev at : ℕ → ℕ
+  at m = start M (slice_index ls m)
+
+  abbrev part : ℕ → List ℕ
+  part m = stretch ls (i + 1) m
+
+  joined_there : Walk N s t ls
+  joined_there = Walk-moves M N s t ls same joined
+
+  from_same : from ≡ end N (slice_index ls i)
+  from_same = let h = look.after in let g = look.inside in
+      same_end M N (slice_index ls i) (same (slice_index ls i) (has_index ls i (omega arith)))
+
+  at_same : (m : ℕ) → m < length ls → at m ≡ start N (slice_index ls m)
+  at_same m h = same_start M N (slice_index ls m) (same (slice_index ls m) (has_index ls m h))
+
+  length_same : (p q : ℕ) → dm_of M (stretch ls p q) ≡ dm_of N (stretch ls p q)
+  length_same p q = same_dm_of M N (stretch ls p q) (Each-range (SameLine M N) ls p q same)
+
+  -- no detour is as short to a position before k either
+  clear_at : (m : ℕ) → i < m → m ≤ k → ¬ Detour N C from (at m) (dm_of N (part m))
+  clear_at m h g = λ o.
+      let g2 = look.inside in
+      let way : Walk N (at m) (at k) (stretch ls m k) =
+      Walk-moves M N (at m) (at k) (stretch ls m k) (Each-range (SameLine M N) ls m k same)
+      (way_between M s t ls m k joined g g2) in
+      let longer = onward N C from (at m) (at k) (dm_of N (part m)) (stretch ls m k) o way in
+      let e : dm_of N (part m) + dm_of N (stretch ls m k) ≡ dm_of M (part k) =
+      sym (dm_of-append N (part m) (stretch ls m k)) ∙ ap (dm_of N) (sym (stretch_parts ls (i + 1) m k (omega arith) g))
+      ∙ sym (length_same (i + 1) k) in
+      clear (subst (λ (d : ℕ). Detour N C from (at k) d) e longer)
+
+  route_there : (m : ℕ) → i < m → m ≤ k → Route M from (at m) (part m)
+      → Route N (end N (slice_index ls i)) (start N (slice_index ls m)) (part m)
+  route_there m h g r =
+      let g2 = look.inside in
+      let e = length_same (i + 1) m in
+      let here : Sole N from (at m) (part m) =
+      sole_there M N C from (at m) (dm_of N (part m)) there here (clear_at m h g) (part m) e (omega arith) r in
+      subst (λ (u : ℕ). Sole N u (start N (slice_index ls m)) (part m)) from_same
+      (subst (λ (v : ℕ). Sole N from v (part m)) (at_same m (omega arith)) here)
+
+  route_here : (m : ℕ) → i < m → m ≤ k → Route N (end N (slice_index ls i)) (start N (slice_index ls m)) (part m)
+      → Route M from (at m) (part m)
+  route_here m h g r =
+      let g2 = look.inside in
+      let e = length_same (i + 1) m in
+      let ends : Sole N from (at m) (part m) =
+      subst (λ (u : ℕ). Sole N u (at m) (part m)) (sym from_same)
+      (subst (λ (v : ℕ). Sole N (end N (slice_index ls i)) v (part m)) (sym (at_same m (omega arith))) r) in
+      sole_here M N C from (at m) (dm_of N (part m)) there here (clear_at m h g) (part m) e (omega arith) ends
+
+  covered_there : (j : ℕ) → min j (length ls - 1) ≤ k → Covered M ls i j → Covered N ls i j
+  covered_there j h c = λ inside. route_there (min j (length ls - 1)) inside h (c inside)
+
+  covered_here : (j : ℕ) → min j (length ls - 1) ≤ k → Covered N ls i j → Covered M ls i j
+  covered_here j h c = λ inside. route_here (min j (length ls - 1)) inside h (c inside)
+
+  -- and the look is one of the other map
+  pub look_stays : IsLastTested N ls i k
+  look_stays =
+      let a = look.after in
+      let z = look.inside in
+      let needed_there : (m : ℕ) → Needed M ls i m
+      → Needed N ls i m = λ m n. let e = length_same i n.0 in let h : dm_of M (stretch ls i n.0) ≤ limit = n.2 in
+      (n.0, n.1, omega arith, n.3) in
+      let needed_here : (m : ℕ) → Needed N ls i m
+      → Needed M ls i m = λ m n. let e = length_same i n.0 in let h : dm_of N (stretch ls i n.0) ≤ limit = n.2 in
+      (n.0, n.1, omega arith, n.3) in
+      record {
+        after = a;
+        inside = z;
+        before = λ m h g. covered_there m (omega arith) (look.before m h g);
+        needed = elim look.needed [ inl e ↦ inl e | inr n ↦ inr (needed_there k n) ];
+        last = elim look.last [
+          | inl bare ↦ inl (λ c. bare (covered_here k (omega arith) c))
+          | inr all ↦ inr
+              (λ m n. all m (needed_here m n))
+        ];
+      }
+
+  pub to_same : look_to M ls i k ≡ look_to N ls i k
+  to_same =
+      let e = at_same k look.inside in
+      let d = length_same (i + 1) k in
+      λ j. record { from = from_same j; to = e j; within = d j }
+
+  -- a position that is near enough
+  pub covered_stays : (j : ℕ) → i < j → j ≤ length ls → dm_of M (stretch ls i j) ≤ limit
+      → Covered M ls i j ↔ Covered N ls i j
+  covered_stays j h g near =
+      let e = length_same i j in
+      elim (cases_lt k (min j (length ls - 1))) [
+        | inl beyond ↦ (
+          (λ c. absurd (covered_known M ls s t joined i k look j h g near beyond c)),
+          (λ c. absurd (covered_known N ls s t joined_there i k look_stays j h g (omega arith) beyond c)),
+        )
+        | inr within ↦ (covered_there j (omega arith), covered_here j (omega arith))
+      ]

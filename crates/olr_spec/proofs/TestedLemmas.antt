@@ -1,0 +1,260 @@
+-- A path has exactly one list of looks, and they give its footprint.
+use Rattle.std.proofs.Common.{inl, inr, ◌≡◌, ℕ, zero, suc, ◌+◌, ◌-◌, min, true, false, List, [], ◌∷◌, length, ◌<◌, ◌≤◌, Option, None, Some, IsTrue, Contains, refl, sym, ap, ◌∙◌, subst, arith, MatchOption, ◌↔◌, ◌⊎◌}
+use Rattle.std.proofs.lemmas.Bool.{cases_lt, cases_eq, cases_order}
+use Rattle.std.specs.List.{slice_index, AllZip}
+use Rattle.olr_spec.specs.Map.{Map, IsMap, end, SameRound}
+use Rattle.olr_spec.specs.Walks.{dm_of}
+use Rattle.olr_spec.specs.Extension.{Path, is_path, has, extended, limit}
+use Rattle.olr_spec.specs.Points.{stretch, Covered, Greatest}
+use Rattle.olr_spec.specs.Encoding.{Refusal, path_fault}
+use Rattle.olr_spec.specs.Footprint.{Reach, Searched, Touched, On_path, On_start_chain, On_end_chain, Within_reach, FootOf, Foot}
+use Rattle.olr_spec.specs.Detours.{Near}
+use Rattle.olr_spec.specs.Looks.{Own, OwnOfExtended, OwnOf, Needed, IsLastTested, Look, look_to, IsLook, looking, LooksOfExtended, LooksOf}
+use Rattle.olr_spec.proofs.AnswerLemmas.{one_course}
+use Rattle.olr_spec.proofs.DecideLemmas.{dec_and, dec_le, dec_Covered, greatest_or_none, some_follow, some_encoding}
+use Rattle.olr_spec.proofs.ListLemmas.{has_here, has_there}
+use Rattle.olr_spec.proofs.AgreeLemmas.{turned_round}
+use Rattle.olr_spec.proofs.DetourLemmas.{near_there}
+use Rattle.olr_spec.proofs.JoinLemmas.{empty_stretch}
+use Rattle.olr_spec.proofs.LookLists.{look_for, look_from, looks_here}
+
+-- ---- the last position that is tested
+
+no_later : (M : Map) (ls : List ℕ) (i j k : ℕ) → IsLastTested M ls i j → IsLastTested M ls i k → ¬ (j < k)
+no_later M ls i j k p q lt =
+    let a = p.after in
+    elim p.last [
+      | inl bare ↦ bare (q.before j a lt)
+      | inr all ↦ elim q.needed [
+        | inl e ↦ absurd (omega arith)
+        | inr n ↦ let h : k ≤ j = all k n in
+            absurd (omega arith)
+      ]
+    ]
+
+pub one_last_tested : (M : Map) (ls : List ℕ) (i j k : ℕ) → IsLastTested M ls i j → IsLastTested M ls i k → j ≡ k
+one_last_tested M ls i j k p q =
+    elim (cases_order j k) [
+      | inl e ↦ e
+      | inr (inl lt) ↦ absurd (no_later M ls i j k p q lt)
+      | inr (inr gt) ↦ absurd (no_later M ls i k j q p gt)
+    ]
+
+-- from position i + 1 on, where f is the farthest that is near enough
+module _ (M : Map) (m : IsMap M) (ls : List ℕ) (i f : ℕ) (far : Greatest (λ j. (j ≤ length ls) × (dm_of M (stretch ls i j) ≤ limit)) f) where
+  abbrev most : ℕ
+  most = min f (length ls - 1)
+
+  at_most : (k : ℕ) → Needed M ls i k → k ≤ most
+  at_most k n = let h = far.others n.0 (n.1, n.2) in let g = n.3 in omega arith
+
+  is_needed : (k : ℕ) → k ≤ most → Needed M ls i k
+  is_needed k h = (f, far.holds.0, far.holds.1, h)
+
+  test_on : (fuel k : ℕ) → length ls ≤ k + fuel → i < k → k < length ls → ((j : ℕ) → i < j → j < k → Covered M ls i j)
+      → (k ≡ i + 1) ⊎ Needed M ls i k → (j : ℕ) × IsLastTested M ls i j
+  test_on zero k u a h before n = absurd (omega arith)
+  test_on (suc fuel) k u a h before n =
+      elim (dec_Covered M m ls i k) [
+        | no bare ↦ (k, record { after = a; inside = h; before = before; needed = n; last = inl bare })
+        | yes c ↦ elim (cases_lt k most) [
+          | inr done ↦ (
+            k,
+            record {
+              after = a;
+              inside = h;
+              before = before;
+              needed = n;
+              last = inr (λ j w. let g = at_most j w in omega arith);
+            },
+          )
+          | inl more ↦ test_on fuel (k + 1) (omega arith) (omega arith) (omega arith)
+              (λ j b g. elim (cases_eq j k) [
+                | inl e ↦ subst (Covered M ls i) (sym e) c
+                | inr ne ↦ before j b (omega arith)
+              ])
+              (inr (is_needed (k + 1) (omega arith)))
+        ]
+      ]
+
+pub some_last_tested : (M : Map) → IsMap M → (ls : List ℕ) (i : ℕ) → i + 1 < length ls → (k : ℕ) × IsLastTested M ls i k
+some_last_tested M m ls i h =
+    let Near_enough : ℕ → Type 0 = λ j. (j ≤ length ls) × (dm_of M (stretch ls i j) ≤ limit) in
+    elim (greatest_or_none Near_enough (λ j. dec_and (dec_le j (length ls)) (dec_le (dm_of M (stretch ls i j)) limit))
+    (suc (length ls)) (λ k n. let g = n.0 in omega arith)) [
+      | inl g ↦ test_on M m ls i g.0 g.1 (length ls) (i + 1) (omega arith) (omega arith) h
+          (λ j b l. absurd (omega arith)) (inl refl)
+      | inr none ↦ absurd (none i (
+        omega arith,
+        subst (λ (zs : List ℕ). dm_of M zs ≤ limit) (sym (empty_stretch ls i i (omega arith))) (omega arith),
+      ))
+    ]
+
+-- ---- the looks
+
+one_look : (M : Map) (ls : List ℕ) (i : ℕ) (k l : Look) → IsLook M ls i k → IsLook M ls i l → k ≡ l
+one_look M ls i k l p q = p.2 ∙ ap (look_to M ls i) (one_last_tested M ls i p.0 q.0 p.1 q.1) ∙ sym q.2
+
+one_zip : (M : Map) (ls is : List ℕ) (ks hs : List Look) → AllZip (IsLook M ls) is ks → AllZip (IsLook M ls) is hs
+    → ks ≡ hs
+one_zip M ls [] [] [] p q = refl
+one_zip M ls [] [] (h ∷ hs) p q = absurd q
+one_zip M ls [] (k ∷ ks) hs p q = absurd p
+one_zip M ls (i ∷ is) [] hs p q = absurd p
+one_zip M ls (i ∷ is) (k ∷ ks) [] p q = absurd q
+one_zip M ls (i ∷ is) (k ∷ ks) (h ∷ hs) p q =
+    let e : k ≡ h = one_look M ls i k h p.0 q.0 in
+    let r : ks ≡ hs = one_zip M ls is ks hs p.1 q.1 in
+    λ j. e j ∷ r j
+
+some_zip : (M : Map) → IsMap M → (ls is : List ℕ) → ((i : ℕ) → has is i ≡ true → i + 2 < length ls)
+    → (looks : List Look) × AllZip (IsLook M ls) is looks
+some_zip M m ls [] h = ([], tt)
+some_zip M m ls (i ∷ is) h =
+    let far = h i (has_here i is) in
+    let k = some_last_tested M m ls i (omega arith) in
+    let rest = some_zip M m ls is (λ j on. h j (has_there i is j on)) in
+    (look_to M ls i k.0 ∷ rest.0, ((k.0, k.1, refl), rest.1))
+
+module _ (M : Map) (m : IsMap M) (P : Path) (is : IsTrue (is_path P.lines)) (sound : path_fault M P ≡ None) where
+  one_list : (ks ls : List Look) → LooksOfExtended M P ks → LooksOfExtended M P ls → ks ≡ ls
+  one_list ks ls p q =
+      let same = one_course M m P is sound q.before q.after q.points p.before p.after p.points q.tried q.follow p.tried
+      p.follow in
+      let each : AllZip (IsLook M (extended M P p.before p.after).lines)
+      (looking (extended M P p.before p.after).lines (0 ∷ p.points)) ls =
+      coe 0 1 (i. AllZip (IsLook M (extended M P (same.0 i) (same.1 i)).lines)
+      (looking (extended M P (same.0 i) (same.1 i)).lines (0 ∷ same.2 i)) ls) q.each in
+      one_zip M (extended M P p.before p.after).lines
+      (looking (extended M P p.before p.after).lines (0 ∷ p.points)) ks ls p.each each
+
+  some_list : (looks : List Look) × LooksOfExtended M P looks
+  some_list =
+      let a = some_encoding M m P is sound in
+      let p = a.1 in
+      let ls = (extended M P p.before p.after).lines in
+      let z = some_zip M m ls (looking ls (0 ∷ p.points)) (λ i on. (looks_here ls (0 ∷ p.points) i on).1) in (
+        z.0,
+        record {
+          before = p.before;
+          after = p.after;
+          points = p.points;
+          tried = p.tried;
+          follow = p.follow;
+          each = z.1;
+        },
+      )
+
+  -- the footprint
+  foot_there : (looks : List Look) → LooksOfExtended M P looks → (v : ℕ) → FootOf M P v
+      → OwnOfExtended M P v ⊎ ((l : Look) × Contains looks l × Reach M l.from v)
+  foot_there looks o v f = by f.touched
+    where
+      own : Own M (extended M P f.before f.after).lines f.before f.after v → OwnOfExtended M P v
+      own h = record { before = f.before; after = f.after; tried = f.tried; own = h }
+
+      by : Touched M (extended M P f.before f.after).lines f.before f.after f.points v
+          → OwnOfExtended M P v ⊎ ((l : Look) × Contains looks l × Reach M l.from v)
+      by (On_path n) = inl (own (inl n))
+      by (On_start_chain n) = inl (own (inr (inl n)))
+      by (On_end_chain n) = inl (own (inr (inr n)))
+      by (Within_reach s) =
+          let same = one_course M m P is sound f.before f.after f.points o.before o.after o.points f.tried f.follow
+          o.tried o.follow in
+          let ls = (extended M P o.before o.after).lines in
+          let t : Searched M ls (0 ∷ o.points) v =
+          coe 0 1 (i. Searched M (extended M P (same.0 i) (same.1 i)).lines (0 ∷ same.2 i) v) s in
+          let l = look_for M ls (0 ∷ o.points) looks o.each t.0 t.1 t.2 in
+          let from : end M (slice_index ls t.0) ≡ l.0.from = sym (ap (λ (k : Look). k.from) l.2.2) in
+          inr (l.0, l.1, subst (λ (u : ℕ). Reach M u v) from t.3)
+
+  foot_here : (looks : List Look) → LooksOfExtended M P looks → (v : ℕ)
+      → OwnOfExtended M P v ⊎ ((l : Look) × Contains looks l × Reach M l.from v) → FootOf M P v
+  foot_here looks o v (inl p) =
+      let js = some_follow M m (extended M P p.before p.after).lines (length (extended M P p.before p.after).lines) 0
+      (omega arith) in
+      record { before = p.before; after = p.after; points = js.0; tried = p.tried; follow = js.1; touched = by p.own }
+    where
+      by : {js : List ℕ} → Own M (extended M P p.before p.after).lines p.before p.after v
+          → Touched M (extended M P p.before p.after).lines p.before p.after js v
+      by (inl n) = On_path n
+      by (inr (inl n)) = On_start_chain n
+      by (inr (inr n)) = On_end_chain n
+  foot_here looks o v (inr r) =
+      let ls = (extended M P o.before o.after).lines in
+      let i = look_from M ls (0 ∷ o.points) looks o.each r.0 r.1 in
+      let from : r.0.from ≡ end M (slice_index ls i.0) = ap (λ (k : Look). k.from) i.3.2 in
+      record {
+        before = o.before;
+        after = o.after;
+        points = o.points;
+        tried = o.tried;
+        follow = o.follow;
+        touched = Within_reach (i.0, i.1, i.2, subst (λ (u : ℕ). Reach M u v) from r.2);
+      }
+
+-- ---- whether or not the path has a fault
+
+pub one_looks : (M : Map) → IsMap M → (P : Path) → IsTrue (is_path P.lines) → (ks ls : List Look) → LooksOf M P ks
+    → LooksOf M P ls → ks ≡ ls
+one_looks M m P is ks ls = by (path_fault M P) refl
+  where
+    by : (o : Option Refusal) → path_fault M P ≡ o → MatchOption o (LooksOfExtended M P ks) (λ _. ks ≡ [])
+        → MatchOption o (LooksOfExtended M P ls) (λ _. ls ≡ []) → ks ≡ ls
+    by None e p q = one_list M m P is e ks ls p q
+    by (Some r) e p q = p ∙ sym q
+
+pub some_looks : (M : Map) → IsMap M → (P : Path) → IsTrue (is_path P.lines) → (looks : List Look) × LooksOf M P looks
+some_looks M m P is = by (path_fault M P) refl
+  where
+    by : (o : Option Refusal) → path_fault M P ≡ o
+        → (looks : List Look) × MatchOption o (LooksOfExtended M P looks) (λ _. looks ≡ [])
+    by None e = some_list M m P is e
+    by (Some r) e = ([], refl)
+
+pub foot_looked : (M : Map) → IsMap M → (P : Path) → IsTrue (is_path P.lines) → (looks : List Look) → LooksOf M P looks
+    → (v : ℕ) → Foot M P v ↔ (OwnOf M P v ⊎ ((l : Look) × Contains looks l × Reach M l.from v))
+foot_looked M m P is looks o v = by (path_fault M P) refl o
+  where
+    none : looks ≡ [] → ⊥ ⊎ ((l : Look) × Contains looks l × Reach M l.from v) → ⊥
+    none e (inl f) = f
+    none e (inr r) = let c = (r.2.0) in let h : r.1.0 < length looks = r.1.1 in
+        omega (arith, ap (λ (ks : List Look). length ks) e)
+
+    by : (o : Option Refusal) → path_fault M P ≡ o → MatchOption o (LooksOfExtended M P looks) (λ _. looks ≡ [])
+        → MatchOption o (FootOf M P v) (λ _. ⊥) ↔
+        (MatchOption o (OwnOfExtended M P v) (λ _. ⊥) ⊎ ((l : Look) × Contains looks l × Reach M l.from v))
+    by None e p = (foot_there M m P is e looks p v, foot_here M m P is e looks p v)
+    by (Some r) e p = ((λ f. absurd f), none p)
+
+-- ---- what touched nodes concern
+
+pub foot_concerned : (M N : Map) → IsMap M → (T : List ℕ) → ((v : ℕ) → has T v ≡ false → SameRound M N v) → (P : Path)
+    → IsTrue (is_path P.lines) → (looks : List Look) → LooksOf M P looks
+    → ((v : ℕ) × IsTrue (has T v) × Foot M P v) ↔
+    (((v : ℕ) × IsTrue (has T v) × OwnOf M P v) ⊎ ((l : Look) × Contains looks l × Near N T l.from limit))
+foot_concerned M N m T round P is looks o = (there, here)
+  where
+    there : (v : ℕ) × IsTrue (has T v) × Foot M P v
+        → ((v : ℕ) × IsTrue (has T v) × OwnOf M P v) ⊎ ((l : Look) × Contains looks l × Near N T l.from limit)
+    there f = elim ((foot_looked M m P is looks o f.0).0 f.2) [
+      | inl own ↦ inl (f.0, f.1, own)
+      | inr r ↦ inr (
+        r.0,
+        r.1,
+        near_there M N T round r.0.from limit (record {
+          node = f.0;
+          walk = r.2.0;
+          touched = f.1;
+          leads = r.2.1;
+          within = r.2.2;
+        }),
+      )
+    ]
+
+    here : ((v : ℕ) × IsTrue (has T v) × OwnOf M P v) ⊎ ((l : Look) × Contains looks l × Near N T l.from limit)
+        → (v : ℕ) × IsTrue (has T v) × Foot M P v
+    here (inl own) = (own.0, own.1, (foot_looked M m P is looks o own.0).1 (inl own.2))
+    here (inr r) =
+        let n = near_there N M T (λ v e. turned_round M N v (round v e)) r.0.from limit r.2 in
+        (n.node, n.touched, (foot_looked M m P is looks o n.node).1 (inr (r.0, r.1, (n.walk, n.leads, n.within))))

@@ -1,0 +1,85 @@
+-- What an encoding of a path looks at (profile).
+--     Own M ls b a v      v lies on the extended path ls, or on one of the tried chains b and a.        OwnOf M P v      v is one of the own nodes of the path
+--     Needed M ls i m      a position that is near enough to follow i as a point asks whether position m is covered
+--     IsLastTested M ls i k      k is the last position that is tested: one after another from i + 1 on, while covered and needed
+--     Look, look_to M ls i k      a search for that: where it begins, the node of position k, and how far along the path this is
+--     IsClear M C l      no detour over the changed lines C is as short
+--     LooksFrom M ls is looks, LooksOf M P looks      one for each of the points is, in their order;  the looks of the path
+use Rattle.std.specs.Prelude.{◌≡◌, ℕ, ◌+◌, ◌-◌, ◌<◌, ◌≤◌, min, List, [], ◌∷◌, length, filter, nat_lt, slice_index, MatchOption, ◌⊎◌}
+use Rattle.std.specs.List.{AllZip}
+use Rattle.olr_spec.specs.Map.{Map, start, end}
+use Rattle.olr_spec.specs.Walks.{dm_of}
+use Rattle.olr_spec.specs.Extension.{Path, Tried, extended, limit}
+use Rattle.olr_spec.specs.Points.{stretch, Covered, Follow}
+use Rattle.olr_spec.specs.Encoding.{path_fault}
+use Rattle.olr_spec.specs.Footprint.{NodeOf}
+use Rattle.olr_spec.specs.Detours.{ChangedLine, Detour}
+
+-- ---- own nodes
+
+abbrev pub Own : Map → List ℕ → List ℕ → List ℕ → ℕ → Type 0
+Own M ls b a v = NodeOf M ls v ⊎ (NodeOf M b v ⊎ NodeOf M a v)
+
+pub record OwnOfExtended (M : Map) (P : Path) (v : ℕ) : Type 0 where
+  pub before : List ℕ
+  pub after : List ℕ
+  pub tried : Tried M P before after
+  pub own : Own M (extended M P before after).lines before after v
+
+-- none where the path's own lines are refused
+abbrev pub OwnOf : Map → Path → ℕ → Type 0
+OwnOf M P v = MatchOption (path_fault M P) (OwnOfExtended M P v) (λ _. ⊥)
+
+-- ---- what is tested
+
+-- position j is at most 15,000 m from i, and m lies before it or is it; of the end the last line is tested
+abbrev pub Needed : Map → List ℕ → ℕ → ℕ → Type 0
+Needed M ls i m = (j : ℕ) × (j ≤ length ls) × (dm_of M (stretch ls i j) ≤ limit) × (m ≤ min j (length ls - 1))
+
+-- position i + 1 is where the search begins. It is the last where no position behind it is needed, as when line i is longer than the limit
+pub record IsLastTested (M : Map) (ls : List ℕ) (i k : ℕ) : Type 0 where
+  pub after : i < k
+  pub inside : k < length ls
+  pub before : (m : ℕ) → i < m → m < k → Covered M ls i m
+  pub needed : (k ≡ i + 1) ⊎ Needed M ls i k
+  pub last : ¬ Covered M ls i k ⊎ ((m : ℕ) → Needed M ls i m → m ≤ k)
+
+-- ---- looks
+
+-- two nodes, and a length in decimetres
+pub record Look : Type 0 where
+  pub from : ℕ
+  pub to : ℕ
+  pub within : ℕ
+
+-- from the end of line i to the start of line k, as far as along the lines between. Where position k isn't covered, within is still the length
+-- along the path, and not that of a shorter walk
+abbrev pub look_to : Map → List ℕ → ℕ → ℕ → Look
+look_to M ls i k = record { from = end M (slice_index ls i); to = start M (slice_index ls k); within = dm_of M (stretch ls (i + 1) k) }
+
+abbrev pub IsLook : Map → List ℕ → ℕ → Look → Type 0
+IsLook M ls i l = (k : ℕ) × IsLastTested M ls i k × (l ≡ look_to M ls i k)
+
+-- the points that two lines or more follow: for later ones nothing is searched
+abbrev pub looking : List ℕ → List ℕ → List ℕ
+looking ls is = filter (λ i. nat_lt (i + 2) (length ls)) is
+
+-- the look of each point, in their order
+abbrev pub LooksFrom : Map → List ℕ → List ℕ → List Look → Type 0
+LooksFrom M ls is looks = AllZip (IsLook M ls) is looks
+
+pub record LooksOfExtended (M : Map) (P : Path) (looks : List Look) : Type 0 where
+  pub before : List ℕ
+  pub after : List ℕ
+  pub points : List ℕ
+  pub tried : Tried M P before after
+  pub follow : Follow M (extended M P before after).lines 0 points
+  pub each : let ls = (extended M P before after).lines in LooksFrom M ls (looking ls (0 ∷ points)) looks
+
+-- none where the path's own lines are refused
+abbrev pub LooksOf : Map → Path → List Look → Type 0
+LooksOf M P looks = MatchOption (path_fault M P) (LooksOfExtended M P looks) (λ _. looks ≡ [])
+
+-- no detour over the changed lines is as short as the path
+abbrev pub IsClear : Map → List ChangedLine → Look → Type 0
+IsClear M C l = ¬ Detour M C l.from l.to l.within
