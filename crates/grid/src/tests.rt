@@ -100,6 +100,15 @@ fn assert_same(rt: &impl Abort, left: &Labels, right: &Labels) {
     }
 }
 
+/// That both maps tell the same far ends of each node's lines.
+fn assert_same_ends(rt: &impl Abort, left: &RoadMap, right: &PlainMap) {
+    for number in 0..SIDE * SIDE {
+        let node = node(rt, number + 1);
+        assert_eq!(rt; left.out_ends(node), right.out_ends(node), "from {node:?}");
+        assert_eq!(rt; left.in_ends(node), right.in_ends(node), "to {node:?}");
+    }
+}
+
 /// The labels of a search, which are those of the plain program too, and as many as are wanted.
 fn labels_from<M: MapRead>(
     rt: &impl Abort,
@@ -133,6 +142,7 @@ fn labels_from<M: MapRead>(
 fn both_bodies_on_both_maps(rt: HostRuntime) {
     let road = road_map(&rt, rt.alloc());
     let plain = plain_map(&rt, rt.alloc());
+    assert_same_ends(&rt, &road, &plain);
     // Seven lines are at most 4,928 dm long, and eight at least 5,600 dm.
     for (source, near) in [(1, 36), (210, 113), (400, 36)] {
         for (limit, count) in [(0, 1), (5000, near), (150_000, 400)] {

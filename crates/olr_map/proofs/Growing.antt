@@ -1,77 +1,178 @@
--- An entry's lists get more room, and nothing else changes.
-use Rattle.std.proofs.Common.{◌≡◌, ◌==◌, ℕ, ◌<◌, ◌≤◌, true, false, cond, List, All, Result, Ok, Err, OnOk, length, get_or, set, refl, sym, ap, ◌∙◌, subst, arith}
-use Rattle.std.specs.List.{IsDistinct, slice_index}
-use Rattle.std.specs.FinMap as finmap
-use Rattle.std.proofs.lemmas.Bool.{eqb-true}
-use Rattle.std.proofs.lemmas.List.Elements.{All-set, All-get_or}
+-- Tables of nothing, and tables with more room.
+use Rattle.std.proofs.Common.{◌≡◌, ◌==◌, ℕ, ◌≤◌, Bool, true, false, cond, [], Option, Some, None, is_some, unwrap_or, refl, sym, ap, ◌∙◌, subst, arith}
+use Rattle.std.specs.Option.{option_map, option_map_or}
+use Rattle.std.specs.FinMap.{FinMap}
+use Rattle.std.specs.Map.{lookup}
+use Rattle.std.proofs.lemmas.Bool.{eqb-true, eq-eqb}
+use Rattle.std.specs.Ordering.{nat_cmp}
 use Rattle.olr_spec.specs.Coordinates.{Coord}
-use Rattle.olr_spec.specs.Map.{Map, IsMap, lines_in, lines_out}
-use Rattle.olr_map.specs.Tables.{node_ids, map_from, HasItsLines, IsKept}
-use Rattle.olr_map.specs.Changes.{changed_at, room_of, spare, spare_outs, spare_ins, tables_map, IsWithin}
-use Rattle.olr_map.specs.declared.tables.NodeEntry.{NodeEntry}
+use Rattle.olr_spec.specs.Map.{Map, IsMap, Line, has_node, has_line, line_at}
+use Rattle.olr_map.specs.ByNumbers.{entries_of, found, all_of}
+use Rattle.olr_map.specs.Slotted.{at, Turns}
+use Rattle.olr_map.specs.NodeSlots.{slots_of}
+use Rattle.olr_map.specs.NodeLinks.{links_at, relinked}
+use Rattle.olr_map.specs.Linked.{spare_links}
+use Rattle.olr_map.specs.Kept.{in_slot, far, node_in, links_in, map_from, place_in, IsListed, IsIndexed, IsKept}
+use Rattle.olr_map.specs.Changes.{tables_map, spare_at}
+use Rattle.olr_map.specs.declared.by_number.ByNumber.{ByNumber}
+use Rattle.olr_map.specs.declared.links.Links.{Links}
+use Rattle.olr_map.specs.declared.slots.NodeEntry.{NodeEntry}
+use Rattle.olr_map.specs.declared.slots.Slots.{Slots}
+use Rattle.olr_map.specs.declared.slots.Side.{Side}
+use Rattle.olr_map.specs.declared.slots.Side.TheVariants.{Out, In}
 use Rattle.olr_map.specs.declared.tables.Tables.{Tables}
-use Rattle.olr_map.proofs.Looks.{keys-set}
-use Rattle.olr_map.proofs.Kept.{node_key}
-use Rattle.olr_map.proofs.LineLists.{node_pair, map_same_set}
-use Rattle.olr_map.proofs.Rooms.{at_node, at_node_set, at_node_is, changed_here}
-use Rattle.olr_map.proofs.Ends.{id_at}
+use Rattle.olr_map.proofs.Looks.{same_answers}
+use Rattle.olr_map.proofs.Lookups.{all_get}
+use Rattle.olr_map.proofs.Indexing.{id_of, turned_node, turned_indexed, same_some}
+use Rattle.olr_map.proofs.Listing.{replaced}
+use Rattle.olr_map.proofs.Reading.{place_of, got_node, got_line, kept_from, node_missing}
 
-changed_above : (f : ℕ → ℕ) (k n : ℕ) → f k ≤ n → (v : ℕ) → f v ≤ changed_at k n f v
-changed_above f k n le v =
-    elim (k == v) as (λ b. (k == v) ≡ b → f v ≤ cond b n (f v)) [
-      | true ↦ λ p. let same : f k ≡ f v = ap f (eqb-true k v p) in omega arith
-      | false ↦ λ p. omega arith
-    ] refl
+-- ---- nothing
 
-module _ (t : Tables) (at : ℕ) (e w : NodeEntry) (lt : at < length t.nodes.items) (w_is : w ≡ get_or t.nodes.items at w)
-    (id : e.id ≡ w.id) (place : e.place ≡ w.place) (outs : e.outs.items ≡ w.outs.items) (ins : e.ins.items ≡ w.ins.items) where
-  abbrev ns : List NodeEntry
-  ns = t.nodes.items
+empty_map_sound : (M : Map) → ((v : ℕ) → has_node M v ≡ false) → ((x : ℕ) → has_line M x ≡ false) → IsMap M
+empty_map_sound M no_node no_line =
+    record {
+      good = λ x h. never (has_line M x) (no_line x) h;
+      starts = λ x h. never (has_line M x) (no_line x) h;
+      ends = λ x h. never (has_line M x) (no_line x) h;
+      places = λ v h. never (has_node M v) (no_node v) h;
+      shapes = λ x h. never (has_line M x) (no_line x) h;
+    } where
+      never : {A : Type 0} (b : Bool) → b ≡ false → b ≡ true → A
+      never true e h = absurd cc
+      never false e h = absurd cc
 
-  id_here : e.id ≡ (get_or ns at w).id
-  id_here = id ∙ ap node_key w_is
+pub kept_none : (b : ByNumber ℕ) (s : Slots) (ls : ByNumber Line) → entries_of b ≡ [] → slots_of s ≡ [] → entries_of ls ≡ [] → IsKept b (slots_of s) (all_of ls)
+kept_none b s ls no_nodes no_slots no_lines =
+    let none : (v : ℕ) → found b v ≡ None = λ v. ap (lookup (λ q. v == q)) no_nodes in
+    let free : (p : ℕ) → at (slots_of s) p ≡ None = λ p. ap (λ es. at es p) no_slots in
+    let indexed : IsIndexed b (slots_of s) =
+    record { stands = λ v p h. let x : ◌≡◌ {A = Option ℕ} None (Some p) = sym (none v) ∙ h in absurd (no_some p x); named = λ v p h. let x : ◌≡◌ {A = Option ℕ} None (Some v) = ap (option_map id_of) (sym (free p)) ∙ h in absurd (no_some v x) } in
+    kept_from b (slots_of s) (all_of ls) indexed s.slotted.few
+    (empty_map_sound (map_from b (slots_of s) (all_of ls)) (λ v. node_missing b (slots_of s) indexed (all_of ls) v (none v)) (λ x. ap (λ o. is_some o) (all_get (entries_of ls) x ∙ ap (lookup (λ q. x == q)) no_lines)))
+    (λ side v l h. let x : ◌≡◌ {A = Option Links} None (Some l) = ap (λ o. option_map (links_at side) (in_slot (slots_of s) o)) (sym (none v)) ∙ h in absurd (no_some l x)) where
+      no_some : {A : Type 0} (x : A) → ◌≡◌ {A = Option A} None (Some x) → ⊥
+      no_some x h = cc
 
-  pub grown_ids : node_ids (set ns at e) ≡ node_ids ns
-  grown_ids = keys-set node_key ns at e w lt id_here
+-- ---- more room for numbers
 
-  pub grown_map : map_from (set ns at e) t.lines.items ≡ tables_map t
-  grown_map =
-      let same : e.place ≡ (get_or ns at w).place = place ∙ ap (λ (n : NodeEntry). n.place) w_is in
-      ap (λ (ps : List (ℕ × Coord)). record (tables_map t) { nodes = finmap.from_entries ps }) (map_same_set node_pair ns at e w lt (λ i. (id_here i, same i)))
+module _ (t : Tables) (b' : ByNumber ℕ) (same : (k : ℕ) → found b' k ≡ found t.index k) where
+  index_indexed : IsIndexed b' (slots_of t.nodes)
+  index_indexed = record { stands = λ v p h. t.kept.indexed.stands v p (sym (same v) ∙ h); named = λ v p h. same v ∙ t.kept.indexed.named v p h }
 
-  pub grown_kept : IsKept (set ns at e) t.lines.items
+  index_node : (v : ℕ) → node_in b' (slots_of t.nodes) v ≡ node_in t.index (slots_of t.nodes) v
+  index_node v = ap (in_slot (slots_of t.nodes)) (same v)
+
+  pub index_map : map_from b' (slots_of t.nodes) (all_of t.lines) ≡ tables_map t
+  index_map = ap (λ (ns : FinMap nat_cmp Coord). record (tables_map t) { nodes = ns }) (same_answers _ _ (λ k.
+      got_node b' (slots_of t.nodes) index_indexed (all_of t.lines) k ∙ ap (option_map place_of) (index_node k) ∙ sym (got_node t.index (slots_of t.nodes) t.kept.indexed (all_of t.lines) k)))
+
+  pub index_kept : IsKept b' (slots_of t.nodes) (all_of t.lines)
+  index_kept =
+      kept_from b' (slots_of t.nodes) (all_of t.lines) index_indexed t.nodes.slotted.few (subst IsMap (sym index_map) t.kept.sound)
+      (λ side v l h.
+      replaced side (tables_map t) (map_from b' (slots_of t.nodes) (all_of t.lines)).nodes (place_in t.index) (place_in b') v l
+      (λ y there. ap (λ o. unwrap_or o 0) (sym (same (far side (line_at (tables_map t) y))))) (t.kept.listed side v l (ap (option_map (links_at side)) (sym (index_node v)) ∙ h)))
+
+  pub index_spare : (side : Side) (v : ℕ) → option_map_or (λ l. spare_links l) (links_in side b' (slots_of t.nodes) v) 0 ≡ spare_at side t v
+  index_spare side v = ap (λ o. option_map_or (λ l. spare_links l) (option_map (links_at side) o) 0) (index_node v)
+
+module _ (t : Tables) (ls' : ByNumber Line) (same : (k : ℕ) → found ls' k ≡ found t.lines k) where
+  pub same_lines : all_of ls' ≡ all_of t.lines
+  same_lines = same_answers _ _ (λ k. all_get (entries_of ls') k ∙ same k ∙ sym (got_line t k))
+
+  pub lines_kept : IsKept t.index (slots_of t.nodes) (all_of ls')
+  lines_kept = subst (λ (F : FinMap nat_cmp Line). IsKept t.index (slots_of t.nodes) F) (sym same_lines) t.kept
+
+  pub lines_map : map_from t.index (slots_of t.nodes) (all_of ls') ≡ tables_map t
+  lines_map = ap (λ (F : FinMap nat_cmp Line). record (tables_map t) { lines = F }) same_lines
+
+-- ---- more room for a node's lines
+
+pub record Grown (old new : Links) : Type 0 where
+  pub lines : new.lines.items ≡ old.lines.items
+  pub ends : new.ends.items ≡ old.ends.items
+  pub spare : spare_links old ≤ spare_links new
+
+grown_same : (l : Links) → Grown l l
+grown_same l = record { lines = refl; ends = refl; spare = omega arith }
+
+same_id : (side : Side) (e : NodeEntry) (l : Links) → (relinked side e l).id ≡ e.id
+same_id Out e l = refl
+same_id In e l = refl
+
+same_place : (side : Side) (e : NodeEntry) (l : Links) → (relinked side e l).place ≡ e.place
+same_place Out e l = refl
+same_place In e l = refl
+
+linked_here : (side : Side) (e : NodeEntry) (l : Links) → links_at side (relinked side e l) ≡ l
+linked_here Out e l = refl
+linked_here In e l = refl
+
+grown_at : (s side : Side) (e : NodeEntry) (l : Links) → Grown (links_at side e) l → Grown (links_at s e) (links_at s (relinked side e l))
+grown_at Out Out e l g = g
+grown_at Out In e l g = grown_same e.outs
+grown_at In Out e l g = grown_same e.ins
+grown_at In In e l g = g
+
+module _ (t : Tables) (nodes' : Slots) (side : Side) (p v : ℕ) (e : NodeEntry) (l : Links) (u : Turns (slots_of t.nodes) (slots_of nodes') p e (relinked side e l))
+    (here : found t.index v ≡ Some p) (g : Grown (links_at side e) l) where
+  abbrev f : NodeEntry
+  f = relinked side e l
+
+  grown_indexed : IsIndexed t.index (slots_of nodes')
+  grown_indexed = turned_indexed t.index (slots_of t.nodes) t.kept.indexed (slots_of nodes') p v e f u here (same_id side e l)
+
+  grown_node : (k : ℕ) → node_in t.index (slots_of nodes') k ≡ cond (v == k) (Some f) (node_in t.index (slots_of t.nodes) k)
+  grown_node = turned_node t.index (slots_of t.nodes) t.kept.indexed (slots_of nodes') p v e f u here (same_id side e l)
+
+  was_here : node_in t.index (slots_of t.nodes) v ≡ Some e
+  was_here = ap (in_slot (slots_of t.nodes)) here ∙ u.was
+
+  grown_places : (k : ℕ) → option_map place_of (node_in t.index (slots_of nodes') k) ≡ option_map place_of (node_in t.index (slots_of t.nodes) k)
+  grown_places k =
+      ap (option_map place_of) (grown_node k)
+      ∙ elim (v == k) as (λ c. (v == k) ≡ c → option_map place_of (cond c (Some f) (node_in t.index (slots_of t.nodes) k)) ≡ option_map place_of (node_in t.index (slots_of t.nodes) k)) [
+        | true ↦ λ i. ap (λ q. Some q) (same_place side e l) ∙ ap (option_map place_of) (sym was_here ∙ ap (node_in t.index (slots_of t.nodes)) (eqb-true v k i))
+        | false ↦ λ i. refl
+      ] refl
+
+  pub grown_map : map_from t.index (slots_of nodes') (all_of t.lines) ≡ tables_map t
+  grown_map = ap (λ (ns : FinMap nat_cmp Coord). record (tables_map t) { nodes = ns }) (same_answers _ _ (λ k.
+      got_node t.index (slots_of nodes') grown_indexed (all_of t.lines) k ∙ grown_places k ∙ sym (got_node t.index (slots_of t.nodes) t.kept.indexed (all_of t.lines) k)))
+
+  -- each node's lines on each side are the same, with more room
+  grown_links : (s : Side) (k : ℕ) (h : Links) → links_in s t.index (slots_of nodes') k ≡ Some h → (m : Links) × (links_in s t.index (slots_of t.nodes) k ≡ Some m) × Grown m h
+  grown_links s k h is =
+      elim (v == k) as (λ c. (v == k) ≡ c → option_map (links_at s) (cond c (Some f) (node_in t.index (slots_of t.nodes) k)) ≡ Some h → (m : Links) × (links_in s t.index (slots_of t.nodes) k ≡ Some m) × Grown m h) [
+        | true ↦ λ i j.
+            (links_at s e, ap (option_map (links_at s)) (ap (node_in t.index (slots_of t.nodes)) (sym (eqb-true v k i)) ∙ was_here), subst (λ (m : Links). Grown (links_at s e) m) (same_some _ _ j) (grown_at s side e l g))
+        | false ↦ λ i j. (h, j, grown_same h)
+      ] refl (ap (option_map (links_at s)) (sym (grown_node k)) ∙ is)
+
+  pub grown_kept : IsKept t.index (slots_of nodes') (all_of t.lines)
   grown_kept =
-      let M : Map = tables_map t in
-      let old : HasItsLines M w = subst (HasItsLines M) (sym w_is) (All-get_or (HasItsLines M) ns at w lt t.kept.listed) in
-      let new : HasItsLines M e = (outs ∙ old.0 ∙ ap (lines_out M) (sym id), ins ∙ old.1 ∙ ap (lines_in M) (sym id)) in
-      record {
-        nodes_apart = subst (IsDistinct ◌==◌) (sym grown_ids) t.kept.nodes_apart;
-        lines_apart = t.kept.lines_apart;
-        sound = subst IsMap (sym grown_map) t.kept.sound;
-        listed = subst (λ (K : Map). All (HasItsLines K) (set ns at e)) (sym grown_map) (All-set (HasItsLines M) ns at e new t.kept.listed);
-      }
+      kept_from t.index (slots_of nodes') (all_of t.lines) grown_indexed nodes'.slotted.few (subst IsMap (sym grown_map) t.kept.sound)
+      (λ s k h is.
+      let m = grown_links s k h is in
+      let old = t.kept.listed s k m.0 m.1 in
+      subst (λ (K : Map). IsListed s K (place_in t.index) k h) (sym grown_map) (record { numbers = m.2.lines ∙ old.numbers; ends = m.2.ends ∙ old.ends }))
 
-  module _ (g : NodeEntry → ℕ) where
-    was_at : at_node g ns e.id ≡ g w
-    was_at = ap (at_node g ns) id_here ∙ at_node_is g ns at w t.kept.nodes_apart lt ∙ ap g (sym w_is)
+  module _ (kept' : IsKept t.index (slots_of nodes') (all_of t.lines)) where
+    abbrev grown_new : Tables
+    grown_new = record { index = t.index; nodes = nodes'; lines = t.lines; kept = kept' }
 
-    pub grown_at : slice_index (node_ids ns) at ≡ e.id
-    grown_at = sym (id_here ∙ id_at ns at (slice_index (node_ids ns) at) w lt refl)
+    pub grown_spare : (s : Side) (k : ℕ) → spare_at s t k ≤ spare_at s grown_new k
+    grown_spare s k =
+        subst (λ (o : Option NodeEntry). spare_at s t k ≤ option_map_or (λ l. spare_links l) (option_map (links_at s) o) 0) (sym (grown_node k))
+        (elim (v == k) as (λ c. (v == k) ≡ c → spare_at s t k ≤ option_map_or (λ l. spare_links l) (option_map (links_at s) (cond c (Some f) (node_in t.index (slots_of t.nodes) k))) 0) [
+          | true ↦ λ i.
+              let was : spare_at s t k ≡ spare_links (links_at s e) = ap (spare_at s t) (sym (eqb-true v k i)) ∙ ap (λ o. option_map_or (λ l. spare_links l) (option_map (links_at s) o) 0) was_here in
+              let more = (grown_at s side e l g).spare in omega arith
+          | false ↦ λ i. omega arith
+        ] refl)
 
-    pub grown_now : at_node g (set ns at e) (slice_index (node_ids ns) at) ≡ g e
-    grown_now = ap (at_node g (set ns at e)) grown_at ∙ at_node_set g ns at e w t.kept.nodes_apart lt id_here e.id ∙ changed_here (at_node g ns) e.id (g e)
-
-    grown_above : g w ≤ g e → (v : ℕ) → at_node g ns v ≤ at_node g (set ns at e) v
-    grown_above le v =
-        let was : at_node g ns e.id ≡ g w = was_at in
-        let more = changed_above (at_node g ns) e.id (g e) (omega arith) v in
-        let new = at_node_set g ns at e w t.kept.nodes_apart lt id_here v in
-        omega arith
-
-  pub grown_within : spare w.outs ≤ spare e.outs → spare w.ins ≤ spare e.ins → IsWithin (room_of t) (record { nodes = spare t.nodes; lines = spare t.lines; outs = spare_outs (set ns at e); ins = spare_ins (set ns at e) })
-  grown_within more_outs more_ins =
-      record { nodes = omega arith; lines = omega arith; outs = grown_above (λ n. spare n.outs) more_outs; ins = grown_above (λ n. spare n.ins) more_ins }
-
-pub on_ok : {A E : Type 0} (r : Result A E) (P Q : Type 0) → (P → Q) → OnOk r P → OnOk r Q
-on_ok (Ok x) P Q f h = f h
-on_ok (Err e) P Q f h = h
+    pub grown_now : spare_at side grown_new v ≡ spare_links l
+    grown_now =
+        ap (λ o. option_map_or (λ l. spare_links l) (option_map (links_at side) o) 0) (grown_node v ∙ ap (λ (c : Bool). cond c (Some f) (node_in t.index (slots_of t.nodes) v)) (eq-eqb v v refl))
+        ∙ ap (λ m. spare_links m) (linked_here side e l)

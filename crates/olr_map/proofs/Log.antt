@@ -1,26 +1,19 @@
 -- Changes that can be made with some room can be made with more.
-use Rattle.std.proofs.Common.{◌≡◌, ◌==◌, ℕ, ◌<◌, ◌≤◌, true, false, cond, List, [], ◌∷◌, ◌++◌, reverse, Option, Some, None, Result, Ok, Err, IsOk, refl, sym, ap, ◌∙◌, subst, arith}
-use Rattle.std.specs.Result.{MatchResult}
+use Rattle.std.proofs.Common.{◌≡◌, ◌==◌, ℕ, ◌+◌, ◌<◌, ◌≤◌, true, false, cond, List, [], ◌∷◌, ◌++◌, reverse, Ok, IsOk, sym, ap, ◌∙◌, subst, arith}
 use Rattle.std.proofs.lemmas.List.{reverse-append}
 use Rattle.olr_spec.specs.Map as map
 use Rattle.olr_spec.specs.Map.{Map, start, end, edited}
-use Rattle.olr_map.specs.Edits.{fault_of}
-use Rattle.olr_map.specs.Changes.{Room, IsWithin, HasRoom, changed_at, room_after, change_edit, room_of, CanMake, made}
-use Rattle.olr_map.specs.Undos.{CanMakeAll, made_all, changes_of}
-use Rattle.olr_map.specs.RoadMaps.{map_of, CanUndoAll, map_before}
-use Rattle.olr_map.specs.declared.road_map.RoadMap.{RoadMap}
-use Rattle.olr_map.specs.declared.undo.UndoLog.{UndoLog}
-use Rattle.olr_map.specs.declared.edit.EditFault.{EditFault}
+use Rattle.olr_map.specs.Changes.{Room, IsWithin, HasRoom, changed_at, room_after, change_edit, CanMake, made, node_puts, line_puts, all_node_puts, all_line_puts}
+use Rattle.olr_map.specs.Undos.{CanMakeAll, made_all}
 use Rattle.olr_map.specs.declared.change.Change.{Change}
 use Rattle.olr_map.specs.declared.change.Change.TheVariants.{PutNode, MoveNode, TakeNode, PutLine, SetLine, TakeLine}
 use Rattle.olr_map.proofs.Making.{made_ok}
 
 pub within_trans : (R S T : Room) → IsWithin R S → IsWithin S T → IsWithin R T
 within_trans R S T a b =
-    let n = a.nodes in let m = b.nodes in let k = a.lines in let l = b.lines in
+    let n = a.nodes in let m = b.nodes in
     record {
       nodes = omega arith;
-      lines = omega arith;
       outs = λ v. let p = a.outs v in let q = b.outs v in omega arith;
       ins = λ v. let p = a.ins v in let q = b.ins v in omega arith;
     }
@@ -33,35 +26,31 @@ room_fits R S (map.Add_node v c) w h = let n = w.nodes in omega (arith, h)
 room_fits R S (map.Move_node v c) w h = tt
 room_fits R S (map.Drop_node v) w h = tt
 room_fits R S (map.Add_line x l) w h =
-    let a : 0 < R.lines = h.0 in
-    let b : 0 < R.outs l.from = h.1 in
-    let c : 0 < R.ins l.to = h.2 in
-    let p = w.lines in
+    let b : 0 < R.outs l.from = h.0 in
+    let c : 0 < R.ins l.to = h.1 in
     let q = w.outs l.from in
     let r = w.ins l.to in
-    (omega arith, omega arith, omega arith)
+    (omega arith, omega arith)
 room_fits R S (map.Set_line x frc fow len shape) w h = tt
 room_fits R S (map.Drop_line x) w h = tt
 
 after_within : (M : Map) (R S : Room) (c : Change) → IsWithin R S → IsWithin (room_after M R c) (room_after M S c)
 after_within M R S (PutNode e) w =
     let n = w.nodes in
-    record { nodes = omega arith; lines = w.lines; outs = changed_within R.outs S.outs e.id _ _ w.outs (omega arith); ins = changed_within R.ins S.ins e.id _ _ w.ins (omega arith) }
+    record { nodes = omega arith; outs = changed_within R.outs S.outs e.id _ _ w.outs (omega arith); ins = changed_within R.ins S.ins e.id _ _ w.ins (omega arith) }
 after_within M R S (MoveNode v c) w = w
 after_within M R S (TakeNode v) w =
     let n = w.nodes in
-    record { nodes = omega arith; lines = w.lines; outs = changed_within R.outs S.outs v _ _ w.outs (omega arith); ins = changed_within R.ins S.ins v _ _ w.ins (omega arith) }
+    record { nodes = omega arith; outs = changed_within R.outs S.outs v _ _ w.outs (omega arith); ins = changed_within R.ins S.ins v _ _ w.ins (omega arith) }
 after_within M R S (PutLine x l) w =
-    let n = w.lines in
     let p = w.outs l.from in
     let q = w.ins l.to in
-    record { nodes = w.nodes; lines = omega arith; outs = changed_within R.outs S.outs l.from _ _ w.outs (omega arith); ins = changed_within R.ins S.ins l.to _ _ w.ins (omega arith) }
+    record { nodes = w.nodes; outs = changed_within R.outs S.outs l.from _ _ w.outs (omega arith); ins = changed_within R.ins S.ins l.to _ _ w.ins (omega arith) }
 after_within M R S (SetLine x l) w = w
 after_within M R S (TakeLine x) w =
-    let n = w.lines in
     let p = w.outs (start M x) in
     let q = w.ins (end M x) in
-    record { nodes = w.nodes; lines = omega arith; outs = changed_within R.outs S.outs (start M x) _ _ w.outs (omega arith); ins = changed_within R.ins S.ins (end M x) _ _ w.ins (omega arith) }
+    record { nodes = w.nodes; outs = changed_within R.outs S.outs (start M x) _ _ w.outs (omega arith); ins = changed_within R.ins S.ins (end M x) _ _ w.ins (omega arith) }
 
 pub can_with_more : (M : Map) (R S : Room) (c : Change) → IsWithin R S → CanMake M R c → CanMake M S c
 can_with_more M R S c w can = record { accepted = can.accepted; placed = can.placed; fits = room_fits R S (change_edit c) w can.fits; whole = can.whole }
@@ -81,11 +70,6 @@ pub done_by : (M K N : Map) (e : map.Edit) (c : Change) → change_edit c ≡ e 
 done_by M K N e c same mid accepted is =
     let here : IsOk (edited K (change_edit c)) = subst (λ (f : map.Edit). IsOk (edited K f)) (sym same) (subst (λ (L : Map). IsOk (edited L e)) (sym mid) accepted) in
     ap (λ (f : map.Edit). edited M f) (sym same) ∙ ap (λ (L : Map). edited L (change_edit c)) (sym mid) ∙ made_ok K c here ∙ ap (λ (L : Map). Ok L) (sym is)
-
--- no refusal
-pub taken : (r : Result Map map.MapFault) (o : Option EditFault) → MatchResult r (λ _. o ≡ None) (λ f. o ≡ Some (fault_of f)) → o ≡ None → IsOk r
-taken (Ok N) o h e = refl
-taken (Err f) o h e = absurd cc
 
 -- ---- one more edit in a log
 
@@ -110,10 +94,10 @@ first_can M R c cs ds is all = (subst (λ (es : List Change). CanMakeAll M R es)
 pub rest_made : (M N : Map) (c : Change) (cs ds : List Change) → ds ≡ c ∷ cs → N ≡ made M c → made_all N cs ≡ made_all M ds
 rest_made M N c cs ds is same = ap (λ (K : Map). made_all K cs) same ∙ ap (made_all M) (sym is)
 
--- ---- a log of no edits
+-- ---- how many numbers the edits of a log may put back
 
-pub new_log_can : (m : RoadMap) (log : UndoLog) → changes_of log ≡ [] → CanUndoAll m log
-new_log_can m log e = subst (λ (cs : List Change). CanMakeAll (map_of m) (room_of m.tables) cs) (sym e) tt
+pub node_puts_last : (xs ys : List Change) (c : Change) → xs ≡ ys ++ c ∷ [] → all_node_puts (reverse xs) ≡ node_puts c + all_node_puts (reverse ys)
+node_puts_last xs ys c e = ap (λ zs. all_node_puts zs) (last_of xs ys c e)
 
-pub new_log_before : (m : RoadMap) (log : UndoLog) → changes_of log ≡ [] → map_before m log ≡ map_of m
-new_log_before m log e = ap (made_all (map_of m)) e
+pub line_puts_last : (xs ys : List Change) (c : Change) → xs ≡ ys ++ c ∷ [] → all_line_puts (reverse xs) ≡ line_puts c + all_line_puts (reverse ys)
+line_puts_last xs ys c e = ap (λ zs. all_line_puts zs) (last_of xs ys c e)

@@ -50,7 +50,7 @@ pub same_answers : {Y : Type 0} (m n : FinMap nat_cmp Y) → ((q : ℕ) → get 
 same_answers m n h = same_map nat_cmp_total nat_cmp-IsAntisymmetric m n h
 
 module _ {X : Type 0} (key : X → ℕ) where
-  abbrev looked : List X → ℕ → Option X
+  abbrev pub looked : List X → ℕ → Option X
   looked xs k = find (λ (x : X). key x == k) xs
 
   -- k is no key of the list

@@ -1,5 +1,5 @@
 -- A rising list is no longer than a list that has all its numbers.
-use Rattle.std.proofs.Common.{◌≡◌, ◌≤◌, ℕ, List, length, Contains, nat_eq, inl, arith}
+use Rattle.std.proofs.Common.{◌≤◌, ℕ, List, length, Contains, nat_eq, arith}
 use Rattle.std.specs.List.Sorted.{IsStrictlyIncreasing}
 use Rattle.std.specs.List.{IsDistinct}
 use Rattle.std.proofs.lemmas.Bool.{eqb-true}

@@ -1,5 +1,5 @@
 -- When a node is in use, by its two lists.
-use Rattle.std.proofs.Common.{◌≡◌, ◌==◌, ◌||◌, ◌<◌, ℕ, Bool, true, false, List, [], ◌∷◌, Option, Some, None, Result, Ok, Err, not, length, refl, sym, ap, ◌∙◌, subst, arith}
+use Rattle.std.proofs.Common.{◌≡◌, ◌==◌, ◌||◌, ◌<◌, ℕ, Bool, true, false, List, [], ◌∷◌, Option, Some, None, Result, Ok, Err, IsOk, not, length, refl, sym, ap, ◌∙◌, subst, arith}
 use Rattle.std.specs.FinMap.{get, remove}
 use Rattle.std.specs.Result.{MatchResult}
 use Rattle.std.proofs.lemmas.Bool.{eq-eqb, or_left, or_right, or_from, false_from_ne_true, not_from_true}
@@ -9,6 +9,7 @@ use Rattle.olr_spec.specs.Extension.{has}
 use Rattle.olr_spec.proofs.MapLemmas.{has-lines_where, passes_at}
 use Rattle.olr_map.specs.Edits.{fault_of}
 use Rattle.olr_map.specs.declared.edit.EditFault.{EditFault}
+use Rattle.olr_map.specs.declared.judging.Judged.{Judged}
 use Rattle.olr_map.proofs.Undoing.{used_by, unused_by, passes}
 
 passing : (test : Line → Bool) (o : Option Line) → passes_at test o ≡ true → (l : Line) × (o ≡ Some l) × (test l ≡ true)
@@ -56,8 +57,12 @@ drop_refused M v there used =
     ∙ ap (λ (b : Bool). unless b Node_in_use (Ok (record M { nodes = remove M.nodes v }))) used
 
 -- the answer at either outcome
-pub at_ok : (r : Result Map MapFault) (N : Map) → r ≡ Ok N → MatchResult r (λ _. ◌≡◌ {A = Option EditFault} None None) (λ f. ◌≡◌ {A = Option EditFault} None (Some (fault_of f)))
-at_ok r N e = subst (λ (s : Result Map MapFault). MatchResult s (λ _. ◌≡◌ {A = Option EditFault} None None) (λ f. ◌≡◌ {A = Option EditFault} None (Some (fault_of f)))) (sym e) refl
+pub ok_at : (r : Result Map MapFault) (N : Map) (j : Judged) → r ≡ Ok N → MatchResult r (λ _. IsOk {E = EditFault} (Ok j)) (λ f. ◌≡◌ {A = Result Judged EditFault} (Ok j) (Err (fault_of f)))
+ok_at r N j e = subst (λ (s : Result Map MapFault). MatchResult s (λ _. IsOk {E = EditFault} (Ok j)) (λ f. ◌≡◌ {A = Result Judged EditFault} (Ok j) (Err (fault_of f)))) (sym e) refl
 
-pub at_err : (r : Result Map MapFault) (f : MapFault) → r ≡ Err f → MatchResult r (λ _. ◌≡◌ {A = Option EditFault} (Some (fault_of f)) None) (λ g. ◌≡◌ {A = Option EditFault} (Some (fault_of f)) (Some (fault_of g)))
-at_err r f e = subst (λ (s : Result Map MapFault). MatchResult s (λ _. ◌≡◌ {A = Option EditFault} (Some (fault_of f)) None) (λ g. ◌≡◌ {A = Option EditFault} (Some (fault_of f)) (Some (fault_of g)))) (sym e) refl
+pub err_at : (r : Result Map MapFault) (f : MapFault) → r ≡ Err f
+    → MatchResult r (λ _. IsOk {T = Judged} (Err (fault_of f))) (λ g. ◌≡◌ {A = Result Judged EditFault} (Err (fault_of f)) (Err (fault_of g)))
+err_at r f e = subst (λ (s : Result Map MapFault). MatchResult s (λ _. IsOk {T = Judged} (Err (fault_of f))) (λ g. ◌≡◌ {A = Result Judged EditFault} (Err (fault_of f)) (Err (fault_of g)))) (sym e) refl
+
+pub ok_from : (r : Result Map MapFault) (N : Map) → r ≡ Ok N → IsOk r
+ok_from r N e = subst (λ (s : Result Map MapFault). IsOk s) (sym e) refl

@@ -1,6 +1,13 @@
+pub mod ByNumbers
 pub mod Edits
+pub mod Ends
+pub mod Linked
 pub mod Places
-pub mod Tables
+pub mod Slotted
+pub mod NodeLinks
+pub mod NodeSlots
+pub mod Kept
+pub mod Judgements
 pub mod Changes
 pub mod Undos
 pub mod RoadMaps

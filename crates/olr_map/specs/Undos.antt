@@ -2,15 +2,19 @@
 --     CanMakeAll M R cs      the changes can be made one after the other, and take no memory
 --     made_all M cs      the map after them
 --     changes_of log      the changes that take back what a log knows, the last edit's first
-use Rattle.std.specs.Prelude.{List, [], ◌∷◌, reverse, ⊤}
+--     CanUndoIn t u, undone_in t u      the tables are as the edit left them, their room for what comes back included;  the map from before
+--     CanUndoAllIn t log, before_in t log      the same for all edits that a log knows
+use Rattle.std.specs.Prelude.{ℕ, List, [], ◌∷◌, reverse, ⊤}
 use Rattle.std.specs.Coded.{×_prop, Unit-prop, le_prop, coded_ℕ, coded_list, Coded-set}
 use Rattle.std.proofs.Props.{props}
 use Rattle.olr_spec.specs.Map as map
 use Rattle.olr_spec.specs.Map.{Map}
 use Rattle.olr_spec.specs.Laws.{HasPlace}
-use Rattle.olr_map.specs.Changes.{Room, CanMake, HasRoom, IsWhole, change_edit, made, room_after}
+use Rattle.olr_map.specs.Changes.{Room, CanMake, HasRoom, HasNumbers, IsWhole, change_edit, made, node_puts, line_puts, room_after, room_of, tables_map}
 use Rattle.olr_map.specs.declared.change.Change.{Change}
 use Rattle.olr_map.specs.declared.change.Change.TheVariants.{PutNode, MoveNode, TakeNode, PutLine, SetLine, TakeLine}
+use Rattle.olr_map.specs.declared.tables.Tables.{Tables}
+use Rattle.olr_map.specs.declared.undo.Undo.{Undo}
 use Rattle.olr_map.specs.declared.undo.UndoLog.{UndoLog}
 
 abbrev pub CanMakeAll : Map → Room → List Change → Type 0
@@ -23,6 +27,18 @@ made_all M (c ∷ cs) = made_all (made M c) cs
 
 abbrev pub changes_of : UndoLog → List Change
 changes_of log = reverse log.changes.items
+
+abbrev pub CanUndoIn : Tables → Undo → Type 0
+CanUndoIn t u = CanMake (tables_map t) (room_of t) u.change × HasNumbers t (node_puts u.change) (line_puts u.change)
+
+abbrev pub undone_in : Tables → Undo → Map
+undone_in t u = made (tables_map t) u.change
+
+abbrev pub CanUndoAllIn : Tables → UndoLog → Type 0
+CanUndoAllIn t log = CanMakeAll (tables_map t) (room_of t) (changes_of log) × HasNumbers t log.nodes log.lines
+
+abbrev pub before_in : Tables → UndoLog → Map
+before_in t log = made_all (tables_map t) (changes_of log)
 
 -- these facts have one proof at most
 HasPlace-prop : (e : map.Edit) → IsProp (HasPlace e)
@@ -55,3 +71,12 @@ CanMake-prop M R c = hlevel (props, HasPlace-prop (change_edit c), HasRoom-prop 
 pub CanMakeAll-prop : (M : Map) (R : Room) (cs : List Change) → IsProp (CanMakeAll M R cs)
 CanMakeAll-prop M R [] = Unit-prop
 CanMakeAll-prop M R (c ∷ cs) = ×_prop (CanMake-prop M R c) (CanMakeAll-prop (made M c) (room_after M R c) cs)
+
+HasNumbers-prop : (t : Tables) (n l : ℕ) → IsProp (HasNumbers t n l)
+HasNumbers-prop t n l = hlevel (props, le_prop)
+
+pub CanUndoIn-prop : (t : Tables) (u : Undo) → IsProp (CanUndoIn t u)
+CanUndoIn-prop t u = ×_prop (CanMake-prop (tables_map t) (room_of t) u.change) (HasNumbers-prop t (node_puts u.change) (line_puts u.change))
+
+pub CanUndoAllIn-prop : (t : Tables) (log : UndoLog) → IsProp (CanUndoAllIn t log)
+CanUndoAllIn-prop t log = ×_prop (CanMakeAll-prop (tables_map t) (room_of t) (changes_of log)) (HasNumbers-prop t log.nodes log.lines)

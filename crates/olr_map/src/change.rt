@@ -2,19 +2,19 @@
 
 use crate::ids::{LineId, NodeId};
 use crate::line::Line;
-use crate::tables::NodeEntry;
+use crate::slots::NodeEntry;
 use olr_coords::Coord;
 
 /// A change of the tables.
 #[derive(Drop, Debug)]
 pub enum Change {
-    /// Puts a node's entry in its place.
+    /// Puts a node's entry in a slot.
     PutNode(NodeEntry),
     /// Gives a node another place on the earth.
     MoveNode(NodeId, Coord),
     /// Takes a node's entry out.
     TakeNode(NodeId),
-    /// Puts a line in its place, and its number into the lists of its ends.
+    /// Puts a line in, and its number into the lists of its ends.
     PutLine(LineId, Line),
     /// Puts another line with the same ends in a line's place.
     SetLine(LineId, Line),

@@ -21,6 +21,15 @@ impl Model for NodeId {
     ghost inverse = { λ n. record { number = n } };
 }
 
+/// The first number.
+impl Default for NodeId {
+    ghost is_default = { λ n. n ≡ 1 };
+
+    fn default() -> Self {
+        NodeId { number: 1 }
+    }
+}
+
 impl NodeId {
     /// The node with this number. None exactly for 0.
     pub fn new(number: u32) -> Option<NodeId>
@@ -58,6 +67,15 @@ impl Model for LineId {
     ghost invariant = { λ a. 1 ≤ a.number };
 
     ghost inverse = { λ n. record { number = n } };
+}
+
+/// The first number.
+impl Default for LineId {
+    ghost is_default = { λ n. n ≡ 1 };
+
+    fn default() -> Self {
+        LineId { number: 1 }
+    }
 }
 
 impl LineId {

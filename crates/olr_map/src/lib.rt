@@ -2,16 +2,19 @@
 //! and edits that can be undone.
 #![tactic(auto)]
 
+mod by_number;
 mod change;
 pub mod edit;
 pub mod footprint;
+mod history;
 pub mod ids;
+pub mod judging;
 pub mod line;
 mod links;
 pub mod plain_map;
 pub mod read;
-pub mod refusal;
 pub mod road_map;
+mod slots;
 mod tables;
 #[cfg(test)]
 mod tests;
@@ -21,9 +24,10 @@ pub mod undo;
 pub use edit::{Edit, EditFault};
 pub use footprint::Footprint;
 pub use ids::{LineId, NodeId};
+pub use judging::{Judged, judge};
 pub use line::{Line, Shape};
 pub use plain_map::PlainMap;
-pub use read::MapRead;
+pub use read::{LineEnd, MapRead};
 pub use road_map::RoadMap;
 pub use touched::{line_touched, nodes_touched};
 pub use undo::{Undo, UndoLog};

@@ -1,15 +1,10 @@
-//! The plain map, for tests: nodes and lines in vectors in order of arrival, searched from the front.
-ghost use Rattle.std.specs.Prelude.{◌≡◌, ◌<◌, IsFalse, MatchOption, length, slice_index};
-ghost use Rattle.olr_spec.specs.Extension.{has};
-ghost use Rattle.olr_map.specs.Tables.{node_ids, line_ids};
-
-use crate::change::Change;
+//! The plain map, for tests: nodes and lines are found by search from the front.
 use crate::edit::{Edit, EditFault};
 use crate::ids::{LineId, NodeId};
+use crate::judging::Judged;
 use crate::line::Line;
-use crate::read::MapRead;
-use crate::refusal::refusal;
-use crate::tables::{LineEntry, NodeEntry, Tables};
+use crate::read::{LineEnd, MapRead};
+use crate::tables::Tables;
 use crate::undo::{Undo, UndoLog};
 use olr_coords::Coord;
 use std::alloc::{AllocError, Global};
@@ -20,263 +15,76 @@ pub struct PlainMap {
     tables: Tables,
 }
 
-/// Where the node's entry stands. None where there is none.
-fn node_place(nodes: &[NodeEntry], id: NodeId) -> Option<usize>
-    ensures { MatchOption result (IsFalse (has (node_ids nodes.now) id))
-        (λ i. (i < length nodes.now) × (slice_index (node_ids nodes.now) i ≡ id)) }
-{
-    for (i, entry) in nodes.iter().enumerate() {
-        if entry.id == id {
-            return Some(i);
-        }
-    }
-    None
-}
-
-/// Where the line's entry stands. None where there is none.
-fn line_place(lines: &[LineEntry], id: LineId) -> Option<usize>
-    ensures { MatchOption result (IsFalse (has (line_ids lines.now) id))
-        (λ i. (i < length lines.now) × (slice_index (line_ids lines.now) i ≡ id)) }
-{
-    for (i, entry) in lines.iter().enumerate() {
-        if entry.id == id {
-            return Some(i);
-        }
-    }
-    None
-}
-
 impl MapRead for PlainMap {
-    ghost use Rattle.olr_map.specs.PlainMaps.{map_of};
+    ghost use Rattle.std.specs.Prelude.{length};
+    ghost use Rattle.olr_map.specs.PlainMaps.{map_of, slot_of};
+    ghost use Rattle.olr_map.specs.NodeSlots.{slots_of};
 
     ghost map = { map_of };
 
+    ghost place_in = { slot_of };
+
+    ghost count = { λ m. length (slots_of m.tables.nodes) };
+
     fn node(&self, id: NodeId) -> Option<Coord> {
-        match node_place(&self.tables.nodes, id) {
-            Some(place) => Some(self.tables.nodes[place].place),
-            None => None,
-        }
+        self.tables.node(id)
     }
 
     fn line(&self, id: LineId) -> Option<&Line> {
-        match line_place(&self.tables.lines, id) {
-            Some(place) => Some(&self.tables.lines[place].line),
-            None => None,
-        }
+        self.tables.line(id)
     }
 
     fn out_lines(&self, id: NodeId) -> &[LineId] {
-        match node_place(&self.tables.nodes, id) {
-            Some(place) => self.tables.nodes[place].outs.as_slice(),
-            None => &[],
-        }
+        self.tables.out_lines(id)
     }
 
     fn in_lines(&self, id: NodeId) -> &[LineId] {
-        match node_place(&self.tables.nodes, id) {
-            Some(place) => self.tables.nodes[place].ins.as_slice(),
-            None => &[],
-        }
+        self.tables.in_lines(id)
+    }
+
+    fn out_ends(&self, id: NodeId) -> &[LineEnd] {
+        self.tables.out_ends(id)
+    }
+
+    fn in_ends(&self, id: NodeId) -> &[LineEnd] {
+        self.tables.in_ends(id)
+    }
+
+    fn place_count(&self) -> usize {
+        self.tables.place_count()
+    }
+
+    fn place_of(&self, id: NodeId) -> Option<u32> {
+        self.tables.place_of(id)
+    }
+
+    fn out_ends_at(&self, place: u32) -> &[LineEnd] {
+        self.tables.out_ends_at(place)
+    }
+
+    fn in_ends_at(&self, place: u32) -> &[LineEnd] {
+        self.tables.in_ends_at(place)
     }
 
     ghost sound = { λ m. m.tables.kept.sound };
+
+    ghost placed = { λ m. m.tables.kept.placed };
 }
 
 impl PlainMap {
-    ghost use Rattle.std.specs.Prelude.{◌≡◌, ◌<◌, ◌↔◌, IsTrue, IsFalse, IsOk, IfOk, OnOk, OnErr, Ok, Err, slice_index, vec_len};
-    ghost use Rattle.olr_spec.specs.Map.{MapFault, empty_map, edited, has_node, has_line};
+    ghost use Rattle.std.specs.Prelude.{◌≡◌, ◌↔◌, IfOk, OnOk, OnErr, Ok, Err};
+    ghost use Rattle.olr_spec.specs.Map.{MapFault, empty_map, edited};
     ghost use Rattle.olr_map.specs.Edits.{edit_of, fault_of};
-    ghost use Rattle.olr_map.specs.Changes.{room_of, change_edit, HasRoom, IsWhole, IsWithin, CanMake, IsMade, made, room_after};
     ghost use Rattle.olr_map.specs.Undos.{changes_of};
-    ghost use Rattle.olr_map.specs.declared.change.Change.TheVariants.{PutNode, MoveNode, TakeNode, PutLine, SetLine, TakeLine};
-    ghost use Rattle.olr_map.specs.PlainMaps.{map_of, CanUndo, map_undone, CanUndoAll, map_before};
+    ghost use Rattle.olr_map.specs.Judgements.{IsJudged};
+    ghost use Rattle.olr_map.specs.PlainMaps.{map_of, slot_of, CanUndo, map_undone, CanUndoAll, map_before};
 
     /// The map of no nodes and no lines. Takes no memory.
     pub fn new(alloc: Global) -> PlainMap
         ensures { map_of result ≡ empty_map }
     {
         PlainMap {
-            tables: Tables::new(alloc),
-        }
-    }
-
-    /// The place of a node of the map.
-    fn found_node(&self, id: NodeId) -> usize
-        requires { IsTrue (has_node (map_of self.now) id) }
-        ensures in_bounds { result < vec_len self.now.tables.nodes }
-        ensures is { slice_index (node_ids self.now.tables.nodes.items) result ≡ id }
-    {
-        match node_place(&self.tables.nodes, id) {
-            Some(place) => place,
-            None => unreachable!(),
-        }
-    }
-
-    /// The place of a line of the map.
-    fn found_line(&self, id: LineId) -> usize
-        requires { IsTrue (has_line (map_of self.now) id) }
-        ensures in_bounds { result < vec_len self.now.tables.lines }
-        ensures is { slice_index (line_ids self.now.tables.lines.items) result ≡ id }
-    {
-        match line_place(&self.tables.lines, id) {
-            Some(place) => place,
-            None => unreachable!(),
-        }
-    }
-
-    /// Puts a node's entry in.
-    fn put_node(&mut self, entry: NodeEntry)
-        requires { CanMake (map_of self.old) (room_of self.old.tables) (PutNode entry) }
-        ensures { IsMade self.old.tables self.new.tables (PutNode entry) (TakeNode entry.id) }
-    {
-        let place = self.tables.nodes.len();
-        self.tables.put_node(place, entry);
-    }
-
-    /// Gives a node another place on the earth, and tells the one that it had.
-    fn move_node(&mut self, id: NodeId, place: Coord) -> Coord
-        requires { CanMake (map_of self.old) (room_of self.old.tables) (MoveNode id place) }
-        ensures { IsMade self.old.tables self.new.tables (MoveNode id place) (MoveNode id result) }
-    {
-        let at = self.found_node(id);
-        self.tables.move_node(at, id, place)
-    }
-
-    /// Takes a node's entry out.
-    fn take_node(&mut self, id: NodeId) -> NodeEntry
-        requires { CanMake (map_of self.old) (room_of self.old.tables) (TakeNode id) }
-        ensures { IsMade self.old.tables self.new.tables (TakeNode id) (PutNode result) }
-    {
-        let place = self.found_node(id);
-        self.tables.take_node(place)
-    }
-
-    /// Puts a line in.
-    fn put_line(&mut self, id: LineId, line: Line)
-        requires { CanMake (map_of self.old) (room_of self.old.tables) (PutLine id line) }
-        ensures { IsMade self.old.tables self.new.tables (PutLine id line) (TakeLine id) }
-    {
-        let from = self.found_node(line.from);
-        let to = self.found_node(line.to);
-        let place = self.tables.lines.len();
-        self.tables
-            .put_line(place, from, to, LineEntry { id, line });
-    }
-
-    /// Puts another line with the same ends in a line's place, and tells the one that stood there.
-    fn set_line(&mut self, id: LineId, line: Line) -> Line
-        requires { CanMake (map_of self.old) (room_of self.old.tables) (SetLine id line) }
-        ensures { IsMade self.old.tables self.new.tables (SetLine id line) (SetLine id result) }
-    {
-        let place = self.found_line(id);
-        self.tables.set_line(place, id, line)
-    }
-
-    /// Takes a line out.
-    fn take_line(&mut self, id: LineId) -> Line
-        requires { CanMake (map_of self.old) (room_of self.old.tables) (TakeLine id) }
-        ensures { IsMade self.old.tables self.new.tables (TakeLine id) (PutLine id result) }
-    {
-        let place = self.found_line(id);
-        let line = &self.tables.lines[place].line;
-        let (from, to) = (line.from, line.to);
-        let from = self.found_node(from);
-        let to = self.found_node(to);
-        let LineEntry { id: _, line } = self.tables.take_line(place, from, to);
-        line
-    }
-
-    /// Makes a change, and tells the one that takes it back.
-    fn make(&mut self, change: Change) -> Change
-        requires { CanMake (map_of self.old) (room_of self.old.tables) change }
-        ensures { IsMade self.old.tables self.new.tables change result }
-    {
-        match change {
-            Change::PutNode(entry) => {
-                let id = entry.id;
-                self.put_node(entry);
-                Change::TakeNode(id)
-            }
-            Change::MoveNode(id, place) => Change::MoveNode(id, self.move_node(id, place)),
-            Change::TakeNode(id) => Change::PutNode(self.take_node(id)),
-            Change::PutLine(id, line) => {
-                self.put_line(id, line);
-                Change::TakeLine(id)
-            }
-            Change::SetLine(id, line) => Change::SetLine(id, self.set_line(id, line)),
-            Change::TakeLine(id) => Change::PutLine(id, self.take_line(id)),
-        }
-    }
-
-    /// Makes a change that takes an edit back, and lets go what the edit brought.
-    fn take_back(&mut self, change: Change)
-        requires { CanMake (map_of self.old) (room_of self.old.tables) change }
-        ensures map { map_of self.new ≡ made (map_of self.old) change }
-        ensures room { IsWithin (room_after (map_of self.old) (room_of self.old.tables) change)
-            (room_of self.new.tables) }
-    {
-        let _ = self.make(change);
-    }
-
-    /// Makes room for what an edit brings that the map takes.
-    fn make_room(&mut self, edit: &Edit) -> Result<(), AllocError>
-        requires { IsOk (edited (map_of self.old) (edit_of edit.now)) }
-        ensures same { map_of self.new ≡ map_of self.old }
-        ensures more { IsWithin (room_of self.old.tables) (room_of self.new.tables) }
-        ensures room { OnOk result (HasRoom (room_of self.new.tables) (edit_of edit.now)) }
-    {
-        match edit {
-            Edit::AddNode(..) => self.tables.make_node_room(),
-            Edit::AddLine(_, line) => {
-                let from = self.found_node(line.from);
-                let to = self.found_node(line.to);
-                self.tables.make_line_room(from, to)
-            }
-            _ => Ok(()),
-        }
-    }
-
-    /// The change that makes an edit that the map takes.
-    fn change_for(&self, edit: Edit) -> Change
-        requires { IsOk (edited (map_of self.now) (edit_of edit)) }
-        ensures same { change_edit result ≡ edit_of edit }
-        ensures whole { IsWhole (map_of self.now) result }
-    {
-        match edit {
-            Edit::AddNode(id, place) => {
-                let alloc = *self.tables.nodes.allocator();
-                Change::PutNode(NodeEntry {
-                    id,
-                    place,
-                    outs: Vec::new(alloc),
-                    ins: Vec::new(alloc),
-                })
-            }
-            Edit::MoveNode(id, place) => Change::MoveNode(id, place),
-            Edit::DropNode(id) => Change::TakeNode(id),
-            Edit::AddLine(id, line) => Change::PutLine(id, line),
-            Edit::SetLine {
-                id,
-                frc,
-                fow,
-                len,
-                shape,
-            } => {
-                let was = &self.tables.lines[self.found_line(id)].line;
-                let (from, to) = (was.from, was.to);
-                Change::SetLine(
-                    id,
-                    Line {
-                        from,
-                        to,
-                        frc,
-                        fow,
-                        len,
-                        shape,
-                    },
-                )
-            }
-            Edit::DropLine(id) => Change::TakeLine(id),
+            tables: Tables::listed(alloc),
         }
     }
 
@@ -290,18 +98,19 @@ impl PlainMap {
         ensures can_undo { IfOk result (CanUndo self.new) }
         ensures before { IfOk result (λ undo. map_undone self.new undo ≡ map_of self.old) }
     {
-        if let Some(fault) = refusal(self, &edit) {
-            return Err(fault);
-        }
-        match self.make_room(&edit) {
-            Ok(()) => {
-                let change = self.change_for(edit);
-                Ok(Undo {
-                    change: self.make(change),
-                })
-            }
-            Err(_) => Err(EditFault::Memory),
-        }
+        self.tables.apply(edit)
+    }
+
+    /// Makes an edit that was judged on this map. After want of memory the map is as it was, and it is told only
+    /// where a growth was refused. What it gives must be spent by `undo` or by `keep`.
+    pub fn make(&mut self, edit: Edit, judged: &Judged) -> Result<Undo, AllocError>
+        requires { IsJudged (map_of self.old) (slot_of self.old) (edit_of edit) judged.now }
+        ensures done { OnOk result (edited (map_of self.old) (edit_of edit) ≡ Ok (map_of self.new)) }
+        ensures same { OnErr result (map_of self.new ≡ map_of self.old) }
+        ensures can_undo { IfOk result (CanUndo self.new) }
+        ensures before { IfOk result (λ undo. map_undone self.new undo ≡ map_of self.old) }
+    {
+        self.tables.make(edit, judged)
     }
 
     /// Takes an edit back: the map is as it was before. Takes no memory.
@@ -309,8 +118,7 @@ impl PlainMap {
         requires { CanUndo self.old undo }
         ensures { map_of self.new ≡ map_undone self.old undo }
     {
-        let Undo { change } = undo;
-        self.take_back(change);
+        self.tables.undo(undo);
     }
 
     /// Lets an edit stand: what it took out is let go. Takes no memory.
@@ -332,23 +140,26 @@ impl PlainMap {
         ensures can_undo { CanUndoAll self.new log.new }
         ensures before { map_before self.new log.new ≡ map_before self.old log.old }
     {
-        if let Some(fault) = refusal(self, &edit) {
-            return Err(fault);
-        }
-        if log.changes.reserve(1).is_err() {
-            return Err(EditFault::Memory);
-        }
-        match self.make_room(&edit) {
-            Ok(()) => {
-                let change = self.change_for(edit);
-                let back = self.make(change);
-                match log.changes.push(back) {
-                    Ok(()) => Ok(()),
-                    Err(_) => unreachable!(),
-                }
-            }
-            Err(_) => Err(EditFault::Memory),
-        }
+        self.tables.apply_into(edit, log)
+    }
+
+    /// Makes an edit that was judged on this map, and adds what takes it back to a log. After want of memory map and
+    /// log are as they were.
+    pub fn make_into(
+        &mut self,
+        edit: Edit,
+        judged: &Judged,
+        log: &mut UndoLog,
+    ) -> Result<(), AllocError>
+        requires judged { IsJudged (map_of self.old) (slot_of self.old) (edit_of edit) judged.now }
+        requires log { CanUndoAll self.old log.old }
+        ensures done { OnOk result (edited (map_of self.old) (edit_of edit) ≡ Ok (map_of self.new)) }
+        ensures same { OnErr result (map_of self.new ≡ map_of self.old) }
+        ensures same_log { OnErr result (changes_of log.new ≡ changes_of log.old) }
+        ensures can_undo { CanUndoAll self.new log.new }
+        ensures before { map_before self.new log.new ≡ map_before self.old log.old }
+    {
+        self.tables.make_into(edit, judged, log)
     }
 
     /// Takes all edits of a log back, the last one first: the map is as it was before the first. Takes no memory.
@@ -356,10 +167,7 @@ impl PlainMap {
         requires { CanUndoAll self.old log }
         ensures { map_of self.new ≡ map_before self.old log }
     {
-        let mut log = log;
-        while let Some(change) = log.changes.pop() {
-            self.take_back(change);
-        }
+        self.tables.undo_all(log);
     }
 
     /// Lets all edits of a log stand. Takes no memory.

@@ -1,17 +1,35 @@
 //! What the layers above read of a map, however it is kept.
-ghost use Rattle.std.specs.Prelude.{◌≡◌};
+ghost use Rattle.std.specs.Prelude.{◌≡◌, ◌+◌, ◌*◌, ◌<◌, ◌^◌, ℕ, IsTrue, SomeIff};
 ghost use Rattle.std.specs.Option.{option_copied};
 ghost use Rattle.std.specs.FinMap.{get};
-ghost use Rattle.olr_spec.specs.Map.{Map, IsMap, lines_in, lines_out};
+ghost use Rattle.olr_spec.specs.Map.{Map, IsMap, has_node, lines_in, lines_out};
+ghost use Rattle.olr_map.specs.Ends.{ends_in, ends_out, ArePlaces};
 
 use crate::ids::{LineId, NodeId};
 use crate::line::Line;
 use olr_coords::Coord;
 
+/// A line as seen from one of its ends.
+#[derive(Clone, Copy, Debug, Default, PartialEq, Eq)]
+pub struct LineEnd {
+    /// The node at the line's other end.
+    pub node: NodeId,
+    /// Where that node has its place in the map, see `MapRead::place_of`.
+    pub place: u32,
+    /// The line's length, in decimetres.
+    pub len: u32,
+}
+
 /// A map that can be read. No call takes memory.
 pub trait MapRead {
     /// The nodes and the lines.
     ghost map: { Self → Map };
+
+    /// Where each node of the map has its place.
+    ghost place_in: { Self → ℕ → ℕ };
+
+    /// How many places there are, those of no node included.
+    ghost count: { Self → ℕ };
 
     /// The place of a node. None where the map lacks it.
     fn node(&self, id: NodeId) -> Option<Coord>
@@ -29,6 +47,38 @@ pub trait MapRead {
     fn in_lines(&self, id: NodeId) -> &[LineId]
         ensures { result.now ≡ lines_in (map self.now) id };
 
+    /// For each line of `out_lines`, in that order: the node where it ends, that node's place, and the line's length. Lent.
+    fn out_ends(&self, id: NodeId) -> &[LineEnd]
+        ensures { result.now ≡ ends_out (map self.now) (place_in self.now) id };
+
+    /// For each line of `in_lines`, in that order: the node where it begins, that node's place, and the line's length. Lent.
+    fn in_ends(&self, id: NodeId) -> &[LineEnd]
+        ensures { result.now ≡ ends_in (map self.now) (place_in self.now) id };
+
+    /// How many places there are: each node's place is below.
+    fn place_count(&self) -> usize
+        ensures { result ≡ count self.now };
+
+    /// The node's place in the map, from 0, by which a table beside the map can be indexed. An edit may change it.
+    /// None where the map lacks the node.
+    fn place_of(&self, id: NodeId) -> Option<u32>
+        ensures { SomeIff result (IsTrue (has_node (map self.now) id)) (place_in self.now id) };
+
+    /// `out_ends` of the node that has this place, without looking for its number.
+    fn out_ends_at(&self, place: u32) -> &[LineEnd]
+        requires { (v : ℕ) × IsTrue (has_node (map self.now) v) × (place_in self.now v ≡ place) }
+        ensures { (v : ℕ) → IsTrue (has_node (map self.now) v) → place_in self.now v ≡ place
+            → result.now ≡ ends_out (map self.now) (place_in self.now) v };
+
+    /// `in_ends` of the node that has this place, without looking for its number.
+    fn in_ends_at(&self, place: u32) -> &[LineEnd]
+        requires { (v : ℕ) × IsTrue (has_node (map self.now) v) × (place_in self.now v ≡ place) }
+        ensures { (v : ℕ) → IsTrue (has_node (map self.now) v) → place_in self.now v ≡ place
+            → result.now ≡ ends_in (map self.now) (place_in self.now) v };
+
     /// Every line is good, both its nodes are there, and every place is in range.
     ghost sound: { (m : Self) → IsMap (map m) };
+
+    /// No two nodes have one place, and each place is below the count, which is at most 2^32.
+    ghost placed: { (m : Self) → ArePlaces (map m) (place_in m) (count m) };
 }

@@ -1,215 +1,288 @@
-//! The nodes and the lines of a map in two vectors. Each node has the lists of the lines that leave it and that enter it,
-//! rising. The order of the vectors is the caller's: each call is told at which place.
-ghost use Rattle.olr_map.specs.Tables.{IsKept, IsKept-prop};
+//! The nodes and the lines of a map: slots by node number, the nodes' entries by slot, and the lines by number.
+ghost use Rattle.std.specs.Prelude.{◌≡◌};
+ghost use Rattle.olr_map.specs.ByNumbers.{all_of};
+ghost use Rattle.olr_map.specs.Kept.{IsKept, IsKept-prop};
 
+use crate::by_number::ByNumber;
 use crate::ids::{LineId, NodeId};
 use crate::line::Line;
-use crate::links::{link, unlink};
+use crate::read::{LineEnd, MapRead};
+use crate::slots::{NodeEntry, Side, Slots};
 use olr_coords::Coord;
 use std::alloc::{AllocError, Global};
-use std::mem;
 
-/// A node, with the numbers of the lines that leave it and of those that enter it, rising.
-#[derive(Drop, Debug)]
-pub struct NodeEntry {
-    pub id: NodeId,
-    pub place: Coord,
-    pub outs: Vec<LineId>,
-    pub ins: Vec<LineId>,
-}
-
-/// A line with its number.
-#[derive(Drop, Debug)]
-pub struct LineEntry {
-    pub id: LineId,
-    pub line: Line,
-}
-
-/// The entries of the nodes and of the lines.
+/// The slots of the nodes by number, their entries, and the lines by number.
 #[derive(Drop, Debug)]
 pub struct Tables {
-    pub nodes: Vec<NodeEntry>,
-    pub lines: Vec<LineEntry>,
-    pub ghost kept: { IsKept nodes.items lines.items } by { IsKept-prop nodes.items lines.items },
+    pub index: ByNumber<u32>,
+    pub nodes: Slots,
+    pub lines: ByNumber<Line>,
+    pub ghost kept: { IsKept index nodes.entries.items (all_of lines) } by { IsKept-prop index nodes.entries.items (all_of lines) },
+}
+
+impl MapRead for Tables {
+    ghost use Rattle.std.specs.Prelude.{length};
+    ghost use Rattle.olr_map.specs.Changes.{tables_map};
+    ghost use Rattle.olr_map.specs.Kept.{place_in as slot_in};
+    ghost use Rattle.olr_map.specs.NodeSlots.{slots_of};
+
+    ghost map = { tables_map };
+
+    ghost place_in = { λ t. slot_in t.index };
+
+    ghost count = { λ t. length (slots_of t.nodes) };
+
+    fn node(&self, id: NodeId) -> Option<Coord> {
+        match self.index.get(id.number()) {
+            Some(slot) => Some(self.nodes.entry(*slot).place),
+            None => None,
+        }
+    }
+
+    fn line(&self, id: LineId) -> Option<&Line> {
+        self.lines.get(id.number())
+    }
+
+    fn out_lines(&self, id: NodeId) -> &[LineId] {
+        match self.index.get(id.number()) {
+            Some(slot) => self.nodes.entry(*slot).outs.lines.as_slice(),
+            None => &[],
+        }
+    }
+
+    fn in_lines(&self, id: NodeId) -> &[LineId] {
+        match self.index.get(id.number()) {
+            Some(slot) => self.nodes.entry(*slot).ins.lines.as_slice(),
+            None => &[],
+        }
+    }
+
+    fn out_ends(&self, id: NodeId) -> &[LineEnd] {
+        match self.index.get(id.number()) {
+            Some(slot) => self.nodes.entry(*slot).outs.ends.as_slice(),
+            None => &[],
+        }
+    }
+
+    fn in_ends(&self, id: NodeId) -> &[LineEnd] {
+        match self.index.get(id.number()) {
+            Some(slot) => self.nodes.entry(*slot).ins.ends.as_slice(),
+            None => &[],
+        }
+    }
+
+    fn place_count(&self) -> usize {
+        self.nodes.count()
+    }
+
+    fn place_of(&self, id: NodeId) -> Option<u32> {
+        self.index.get(id.number()).copied()
+    }
+
+    fn out_ends_at(&self, place: u32) -> &[LineEnd] {
+        self.nodes.entry(place).outs.ends.as_slice()
+    }
+
+    fn in_ends_at(&self, place: u32) -> &[LineEnd] {
+        self.nodes.entry(place).ins.ends.as_slice()
+    }
+
+    ghost sound = { λ t. t.kept.sound };
+
+    ghost placed = { λ t. t.kept.placed };
 }
 
 impl Tables {
-    ghost use Rattle.std.specs.Prelude.{◌≡◌, ◌<◌, ◌≤◌, [], OnOk, insert, remove, slice_index, vec_len};
-    ghost use Rattle.olr_spec.specs.Map.{empty_map, start, end};
-    ghost use Rattle.olr_map.specs.Tables.{node_ids, line_ids};
-    ghost use Rattle.olr_map.specs.Changes.{tables_map, room_of, IsWithin, CanMake, IsMade};
+    ghost use Rattle.std.specs.Prelude.{◌+◌, ◌<◌, ◌≤◌, ℕ, OnOk, IsTrue, Some};
+    ghost use Rattle.olr_spec.specs.Map.{empty_map, has_node, has_line, start, end};
+    ghost use Rattle.olr_map.specs.ByNumbers.{found, spare_of};
+    ghost use Rattle.olr_map.specs.Changes.{tables_map, room_of, spare_at, IsWithin, HasNumbers, CanMake, IsMade};
     ghost use Rattle.olr_map.specs.declared.change.Change.TheVariants.{PutNode, MoveNode, TakeNode, PutLine, SetLine, TakeLine};
 
-    /// No nodes and no lines. Takes no memory.
-    pub fn new(alloc: Global) -> Tables
-        ensures nodes { result.nodes.items ≡ [] }
-        ensures lines { result.lines.items ≡ [] }
-        ensures map { tables_map result ≡ empty_map }
+    /// No nodes and no lines, to be found by hash. Takes no memory.
+    pub fn hashed(alloc: Global) -> Tables
+        ensures { tables_map result ≡ empty_map }
     {
         Tables {
-            nodes: Vec::new(alloc),
-            lines: Vec::new(alloc),
+            index: ByNumber::hashed(alloc),
+            nodes: Slots::new(alloc),
+            lines: ByNumber::hashed(alloc),
         }
     }
 
-    /// Makes room for one more node.
-    pub fn make_node_room(&mut self) -> Result<(), AllocError>
+    /// No nodes and no lines, to be found by search from the front. Takes no memory.
+    pub fn listed(alloc: Global) -> Tables
+        ensures { tables_map result ≡ empty_map }
+    {
+        Tables {
+            index: ByNumber::listed(alloc),
+            nodes: Slots::new(alloc),
+            lines: ByNumber::listed(alloc),
+        }
+    }
+
+    /// The slot of a node of the map.
+    pub fn slot(&self, id: NodeId) -> u32
+        requires { IsTrue (has_node (tables_map self.now) id) }
+        ensures { found self.now.index id ≡ Some result }
+    {
+        match self.index.get(id.number()) {
+            Some(slot) => *slot,
+            None => unreachable!(),
+        }
+    }
+
+    /// The slots where a line of the map begins and ends.
+    pub fn end_slots(&self, id: LineId) -> (u32, u32)
+        requires { IsTrue (has_line (tables_map self.now) id) }
+        ensures from { found self.now.index (start (tables_map self.now) id) ≡ Some result.0 }
+        ensures to { found self.now.index (end (tables_map self.now) id) ≡ Some result.1 }
+    {
+        match self.lines.get(id.number()) {
+            Some(line) => (self.slot(line.from), self.slot(line.to)),
+            None => unreachable!(),
+        }
+    }
+
+    /// Makes room for one more number of a node, beside so many that others may want to put back.
+    pub fn reserve_nodes(&mut self, owed: usize) -> Result<(), AllocError>
         ensures map { tables_map self.new ≡ tables_map self.old }
-        ensures nodes { node_ids self.new.nodes.items ≡ node_ids self.old.nodes.items }
-        ensures lines { line_ids self.new.lines.items ≡ line_ids self.old.lines.items }
         ensures more { IsWithin (room_of self.old) (room_of self.new) }
+        ensures nodes { spare_of self.old.index ≤ spare_of self.new.index }
+        ensures lines { spare_of self.new.lines ≡ spare_of self.old.lines }
+        ensures slots { (v : ℕ) → found self.new.index v ≡ found self.old.index v }
+        ensures room { OnOk result (owed + 1 ≤ spare_of self.new.index) }
+    {
+        match owed.checked_add(1) {
+            Some(numbers) => self.index.reserve(numbers),
+            None => Err(AllocError),
+        }
+    }
+
+    /// Makes room for one more line, beside so many that others may want to put back.
+    pub fn reserve_lines(&mut self, owed: usize) -> Result<(), AllocError>
+        ensures map { tables_map self.new ≡ tables_map self.old }
+        ensures more { IsWithin (room_of self.old) (room_of self.new) }
+        ensures nodes { spare_of self.new.index ≡ spare_of self.old.index }
+        ensures lines { spare_of self.old.lines ≤ spare_of self.new.lines }
+        ensures slots { (v : ℕ) → found self.new.index v ≡ found self.old.index v }
+        ensures room { OnOk result (owed + 1 ≤ spare_of self.new.lines) }
+    {
+        match owed.checked_add(1) {
+            Some(numbers) => self.lines.reserve(numbers),
+            None => Err(AllocError),
+        }
+    }
+
+    /// Makes room for one more node's entry.
+    pub fn reserve_slot(&mut self) -> Result<(), AllocError>
+        ensures map { tables_map self.new ≡ tables_map self.old }
+        ensures more { IsWithin (room_of self.old) (room_of self.new) }
+        ensures nodes { spare_of self.new.index ≡ spare_of self.old.index }
+        ensures lines { spare_of self.new.lines ≡ spare_of self.old.lines }
+        ensures slots { (v : ℕ) → found self.new.index v ≡ found self.old.index v }
         ensures room { OnOk result (0 < (room_of self.new).nodes) }
     {
-        self.nodes.reserve(1)
+        self.nodes.reserve()
     }
 
-    /// Makes room for one more line, from the node at place `from` to the one at `to`.
-    pub fn make_line_room(&mut self, from: usize, to: usize) -> Result<(), AllocError>
-        requires from { from < vec_len self.old.nodes }
-        requires to { to < vec_len self.old.nodes }
+    /// Makes room for one more line on one side of the node in a slot.
+    pub fn reserve_link(&mut self, side: Side, slot: u32) -> Result<(), AllocError>
+        requires { (v : ℕ) × (found self.old.index v ≡ Some slot) }
         ensures map { tables_map self.new ≡ tables_map self.old }
-        ensures nodes { node_ids self.new.nodes.items ≡ node_ids self.old.nodes.items }
-        ensures lines { line_ids self.new.lines.items ≡ line_ids self.old.lines.items }
         ensures more { IsWithin (room_of self.old) (room_of self.new) }
-        ensures line_room { OnOk result (0 < (room_of self.new).lines) }
-        ensures from_room { OnOk result
-            (0 < (room_of self.new).outs (slice_index (node_ids self.old.nodes.items) from)) }
-        ensures to_room { OnOk result
-            (0 < (room_of self.new).ins (slice_index (node_ids self.old.nodes.items) to)) }
+        ensures nodes { spare_of self.new.index ≡ spare_of self.old.index }
+        ensures lines { spare_of self.new.lines ≡ spare_of self.old.lines }
+        ensures slots { (v : ℕ) → found self.new.index v ≡ found self.old.index v }
+        ensures room { OnOk result ((v : ℕ) → found self.old.index v ≡ Some slot → 0 < spare_at side self.new v) }
     {
-        self.make_out_room(from)?;
-        self.make_in_room(to)?;
-        self.lines.reserve(1)
+        self.nodes.reserve_link(side, slot)
     }
 
-    /// Makes room for one more line that leaves the node at place `at`.
-    fn make_out_room(&mut self, at: usize) -> Result<(), AllocError>
-        requires { at < vec_len self.old.nodes }
-        ensures map { tables_map self.new ≡ tables_map self.old }
-        ensures len { vec_len self.new.nodes ≡ vec_len self.old.nodes }
-        ensures nodes { node_ids self.new.nodes.items ≡ node_ids self.old.nodes.items }
-        ensures lines { line_ids self.new.lines.items ≡ line_ids self.old.lines.items }
-        ensures more { IsWithin (room_of self.old) (room_of self.new) }
-        ensures room { OnOk result
-            (0 < (room_of self.new).outs (slice_index (node_ids self.old.nodes.items) at)) }
-    {
-        let entry = &mut self.nodes[at];
-        entry.outs.reserve(1)
-    }
-
-    /// Makes room for one more line that enters the node at place `at`.
-    fn make_in_room(&mut self, at: usize) -> Result<(), AllocError>
-        requires { at < vec_len self.old.nodes }
-        ensures map { tables_map self.new ≡ tables_map self.old }
-        ensures len { vec_len self.new.nodes ≡ vec_len self.old.nodes }
-        ensures nodes { node_ids self.new.nodes.items ≡ node_ids self.old.nodes.items }
-        ensures lines { line_ids self.new.lines.items ≡ line_ids self.old.lines.items }
-        ensures more { IsWithin (room_of self.old) (room_of self.new) }
-        ensures room { OnOk result
-            (0 < (room_of self.new).ins (slice_index (node_ids self.old.nodes.items) at)) }
-    {
-        let entry = &mut self.nodes[at];
-        entry.ins.reserve(1)
-    }
-
-    /// Puts a node's entry at place `at`.
-    pub fn put_node(&mut self, at: usize, entry: NodeEntry)
-        requires at { at ≤ vec_len self.old.nodes }
+    /// Puts a node's entry in.
+    pub fn put_node(&mut self, entry: NodeEntry)
         requires can { CanMake (tables_map self.old) (room_of self.old) (PutNode entry) }
-        ensures made { IsMade self.old self.new (PutNode entry) (TakeNode entry.id) }
-        ensures nodes { node_ids self.new.nodes.items ≡ insert (node_ids self.old.nodes.items) at entry.id }
-        ensures lines { self.new.lines.items ≡ self.old.lines.items }
-    {
-        match self.nodes.insert(at, entry) {
-            Ok(()) => {}
-            Err(_) => unreachable!(),
-        }
-    }
-
-    /// Takes out the node's entry at place `at`. Its place stays free.
-    pub fn take_node(&mut self, at: usize) -> NodeEntry
-        requires at { at < vec_len self.old.nodes }
-        requires can { CanMake (tables_map self.old) (room_of self.old)
-            (TakeNode (slice_index (node_ids self.old.nodes.items) at)) }
-        ensures id { result.id ≡ slice_index (node_ids self.old.nodes.items) at }
-        ensures made { IsMade self.old self.new (TakeNode result.id) (PutNode result) }
-        ensures nodes { node_ids self.new.nodes.items ≡ remove (node_ids self.old.nodes.items) at }
-        ensures lines { self.new.lines.items ≡ self.old.lines.items }
-    {
-        self.nodes.remove(at)
-    }
-
-    /// Gives the node at place `at` another place on the earth, and tells the one that it had.
-    pub fn move_node(&mut self, at: usize, id: NodeId, place: Coord) -> Coord
-        requires at { at < vec_len self.old.nodes }
-        requires id { slice_index (node_ids self.old.nodes.items) at ≡ id }
-        requires can { CanMake (tables_map self.old) (room_of self.old) (MoveNode id place) }
-        ensures made { IsMade self.old self.new (MoveNode id place) (MoveNode id result) }
-        ensures nodes { node_ids self.new.nodes.items ≡ node_ids self.old.nodes.items }
-        ensures lines { self.new.lines.items ≡ self.old.lines.items }
-    {
-        let entry = &mut self.nodes[at];
-        mem::replace(&mut entry.place, place)
-    }
-
-    /// Puts a line at place `at`, and its number into the lists of its ends, which stand at `from` and `to`.
-    pub fn put_line(&mut self, at: usize, from: usize, to: usize, entry: LineEntry)
-        requires at { at ≤ vec_len self.old.lines }
-        requires from { from < vec_len self.old.nodes }
-        requires from_id { slice_index (node_ids self.old.nodes.items) from ≡ entry.line.from }
-        requires to { to < vec_len self.old.nodes }
-        requires to_id { slice_index (node_ids self.old.nodes.items) to ≡ entry.line.to }
-        requires can { CanMake (tables_map self.old) (room_of self.old) (PutLine entry.id entry.line) }
-        ensures made { IsMade self.old self.new (PutLine entry.id entry.line) (TakeLine entry.id) }
-        ensures nodes { node_ids self.new.nodes.items ≡ node_ids self.old.nodes.items }
-        ensures lines { line_ids self.new.lines.items ≡ insert (line_ids self.old.lines.items) at entry.id }
+        requires numbers { HasNumbers self.old 1 0 }
+        ensures { IsMade self.old self.new (PutNode entry) (TakeNode entry.id) }
     {
         let id = entry.id;
-        let first = &mut self.nodes[from];
-        link(&mut first.outs, id);
-        let second = &mut self.nodes[to];
-        link(&mut second.ins, id);
-        match self.lines.insert(at, entry) {
-            Ok(()) => {}
-            Err(_) => unreachable!(),
-        }
+        let slot = self.nodes.put(entry);
+        self.index.put(id.number(), slot);
     }
 
-    /// Takes out the line at place `at`, and its number out of the lists of its ends, which stand at `from` and `to`.
-    /// Its places stay free.
-    pub fn take_line(&mut self, at: usize, from: usize, to: usize) -> LineEntry
-        requires at { at < vec_len self.old.lines }
-        requires from { from < vec_len self.old.nodes }
-        requires from_id { slice_index (node_ids self.old.nodes.items) from
-            ≡ start (tables_map self.old) (slice_index (line_ids self.old.lines.items) at) }
-        requires to { to < vec_len self.old.nodes }
-        requires to_id { slice_index (node_ids self.old.nodes.items) to
-            ≡ end (tables_map self.old) (slice_index (line_ids self.old.lines.items) at) }
-        requires can { CanMake (tables_map self.old) (room_of self.old)
-            (TakeLine (slice_index (line_ids self.old.lines.items) at)) }
-        ensures id { result.id ≡ slice_index (line_ids self.old.lines.items) at }
-        ensures made { IsMade self.old self.new (TakeLine result.id) (PutLine result.id result.line) }
-        ensures nodes { node_ids self.new.nodes.items ≡ node_ids self.old.nodes.items }
-        ensures lines { line_ids self.new.lines.items ≡ remove (line_ids self.old.lines.items) at }
+    /// Takes a node's entry out.
+    pub fn take_node(&mut self, id: NodeId) -> NodeEntry
+        requires { CanMake (tables_map self.old) (room_of self.old) (TakeNode id) }
+        ensures { IsMade self.old self.new (TakeNode id) (PutNode result) }
     {
-        let entry = self.lines.remove(at);
-        let first = &mut self.nodes[from];
-        unlink(&mut first.outs, entry.id);
-        let second = &mut self.nodes[to];
-        unlink(&mut second.ins, entry.id);
-        entry
+        let slot = self.index.take(id.number());
+        self.nodes.take(slot)
     }
 
-    /// Puts another line with the same ends in the place `at`, and tells the one that stood there.
-    pub fn set_line(&mut self, at: usize, id: LineId, line: Line) -> Line
-        requires at { at < vec_len self.old.lines }
-        requires id { slice_index (line_ids self.old.lines.items) at ≡ id }
+    /// Gives the node in this slot another place on the earth, and tells the one that it had.
+    pub fn move_node(&mut self, id: NodeId, place: Coord, slot: u32) -> Coord
+        requires can { CanMake (tables_map self.old) (room_of self.old) (MoveNode id place) }
+        requires here { found self.old.index id ≡ Some slot }
+        ensures { IsMade self.old self.new (MoveNode id place) (MoveNode id result) }
+    {
+        self.nodes.move_node(slot, place)
+    }
+
+    /// Puts a line in, and its number into the lists of its ends, which are in these slots.
+    pub fn put_line(&mut self, id: LineId, line: Line, from: u32, to: u32)
+        requires can { CanMake (tables_map self.old) (room_of self.old) (PutLine id line) }
+        requires numbers { HasNumbers self.old 0 1 }
+        requires begin { found self.old.index line.from ≡ Some from }
+        requires end { found self.old.index line.to ≡ Some to }
+        ensures { IsMade self.old self.new (PutLine id line) (TakeLine id) }
+    {
+        let (begins, ends) = far_ends(&line, from, to);
+        self.nodes.link(Side::Out, from, id, ends);
+        self.nodes.link(Side::In, to, id, begins);
+        self.lines.put(id.number(), line);
+    }
+
+    /// Takes a line out, and its number out of the lists of its ends, which are in these slots.
+    pub fn take_line(&mut self, id: LineId, from: u32, to: u32) -> Line
+        requires can { CanMake (tables_map self.old) (room_of self.old) (TakeLine id) }
+        requires begin { found self.old.index (start (tables_map self.old) id) ≡ Some from }
+        requires end { found self.old.index (end (tables_map self.old) id) ≡ Some to }
+        ensures { IsMade self.old self.new (TakeLine id) (PutLine id result) }
+    {
+        self.nodes.unlink(Side::Out, from, id);
+        self.nodes.unlink(Side::In, to, id);
+        self.lines.take(id.number())
+    }
+
+    /// Puts another line with the same ends, which are in these slots, in a line's place, and tells the one that stood
+    /// there.
+    pub fn set_line(&mut self, id: LineId, line: Line, from: u32, to: u32) -> Line
         requires can { CanMake (tables_map self.old) (room_of self.old) (SetLine id line) }
-        ensures made { IsMade self.old self.new (SetLine id line) (SetLine id result) }
-        ensures nodes { node_ids self.new.nodes.items ≡ node_ids self.old.nodes.items }
-        ensures lines { line_ids self.new.lines.items ≡ line_ids self.old.lines.items }
+        requires begin { found self.old.index (start (tables_map self.old) id) ≡ Some from }
+        requires end { found self.old.index (end (tables_map self.old) id) ≡ Some to }
+        ensures { IsMade self.old self.new (SetLine id line) (SetLine id result) }
     {
-        let entry = &mut self.lines[at];
-        mem::replace(&mut entry.line, line)
+        let (begins, ends) = far_ends(&line, from, to);
+        self.nodes.set_end(Side::Out, from, id, ends);
+        self.nodes.set_end(Side::In, to, id, begins);
+        self.lines.replace(id.number(), line)
     }
+}
+
+/// Where a line between these slots begins, as seen from its end, and where it ends, as seen from its begin.
+fn far_ends(line: &Line, from: u32, to: u32) -> (LineEnd, LineEnd)
+    ensures begins { result.0 ≡ record { node = line.now.from; place = from; len = line.now.len } }
+    ensures ends { result.1 ≡ record { node = line.now.to; place = to; len = line.now.len } }
+{
+    let begins = LineEnd {
+        node: line.from,
+        place: from,
+        len: line.len,
+    };
+    let ends = LineEnd {
+        node: line.to,
+        place: to,
+        len: line.len,
+    };
+    (begins, ends)
 }

@@ -126,6 +126,8 @@ fn assert_alike<M: MapRead, N: MapRead>(rt: &impl Abort, one: &M, other: &N) {
             "lines from {number}"
         );
         assert_eq!(rt; one.in_lines(id), other.in_lines(id), "lines to {number}");
+        assert_ends_alike(rt, one, other, one.out_ends(id), other.out_ends(id));
+        assert_ends_alike(rt, one, other, one.in_ends(id), other.in_ends(id));
         let id = line(rt, number);
         match (one.line(id), other.line(id)) {
             (Some(first), Some(second)) => {
@@ -143,6 +145,23 @@ fn assert_alike<M: MapRead, N: MapRead>(rt: &impl Abort, one: &M, other: &N) {
             (None, None) => {}
             _ => assert!(rt; false, "line {number} is in one map alone"),
         }
+    }
+}
+
+/// That two lists have the same far ends with the same lengths, and each node's place on its map.
+fn assert_ends_alike<M: MapRead, N: MapRead>(
+    rt: &impl Abort,
+    one: &M,
+    other: &N,
+    first: &[LineEnd],
+    second: &[LineEnd],
+) {
+    assert_eq!(rt; first.len(), second.len());
+    for (here, there) in first.iter().zip(second.iter()) {
+        assert_eq!(rt; here.node, there.node);
+        assert_eq!(rt; here.len, there.len);
+        assert_eq!(rt; one.place_of(here.node), Some(here.place));
+        assert_eq!(rt; other.place_of(there.node), Some(there.place));
     }
 }
 
@@ -397,6 +416,32 @@ fn a_log_takes_all_back(rt: HostRuntime) -> Result<(), Fail> {
 }
 
 #[test]
+fn far_ends_stand_beside_lines(rt: HostRuntime) -> Result<(), Fail> {
+    let alloc = rt.alloc();
+    let mut map = base(&rt, alloc)?;
+    let (second, third) = (node(&rt, 2), node(&rt, 3));
+    take(&rt, &mut map, new_line(&rt, alloc, 7, 3, 2, 700, &[])?);
+    let ends = map.in_ends(second);
+    assert_eq!(rt; map.in_lines(second).first(), Some(&line(&rt, 7)));
+    match ends.first() {
+        Some(end) => {
+            assert_eq!(rt; end.node, third);
+            assert_eq!(rt; end.len, 700);
+            assert_eq!(rt; map.place_of(third), Some(end.place));
+            assert!(rt; (end.place as usize) < map.place_count());
+        }
+        None => assert!(rt; false, "line 7 enters node 2"),
+    }
+    if let Some(place) = map.place_of(second) {
+        assert_eq!(rt; map.in_ends_at(place), ends);
+        assert_eq!(rt; map.out_ends_at(place), map.out_ends(second));
+    }
+    assert_eq!(rt; map.place_of(node(&rt, 77)), None);
+    assert!(rt; map.out_ends(node(&rt, 77)).is_empty());
+    Ok(())
+}
+
+#[test]
 fn a_log_lets_all_stand(rt: HostRuntime) -> Result<(), Fail> {
     let alloc = rt.alloc();
     let mut map = PlainMap::new(alloc);
@@ -436,6 +481,35 @@ fn tells_what_an_edit_touches(rt: HostRuntime) -> Result<(), Fail> {
 }
 
 #[test]
+fn judges_before_it_makes(rt: HostRuntime) -> Result<(), Fail> {
+    let alloc = rt.alloc();
+    let mut map = base(&rt, alloc)?;
+    let (second, third) = (node(&rt, 2), node(&rt, 3));
+    let shorter = other_line(&rt, alloc, 20, 900, &[100])?;
+    let mut log = UndoLog::new(alloc);
+    match judge(&map, &shorter) {
+        Ok(judged) => {
+            assert_eq!(rt; judged.nodes, (second, third));
+            assert_eq!(rt; Some(judged.places.0), map.place_of(second));
+            assert_eq!(rt; Some(judged.places.1), map.place_of(third));
+            assert_eq!(rt; judged.line, Some(line(&rt, 20)));
+            assert_eq!(rt; judged.len, 900);
+            map.make_into(shorter, &judged, &mut log)?;
+        }
+        Err(fault) => assert_eq!(rt; fault.word(), "no fault"),
+    }
+    match judge(&map, &other_line(&rt, alloc, 20, 5000, &[])?) {
+        Ok(judged) => assert_eq!(rt; judged.len, 900, "the length before"),
+        Err(fault) => assert_eq!(rt; fault.word(), "no fault"),
+    }
+    map.undo_all(log);
+    assert_alike(&rt, &map, &base(&rt, alloc)?);
+    let drop = Edit::DropNode(second);
+    assert_eq!(rt; judge(&map, &drop).err(), Some(EditFault::NodeInUse));
+    Ok(())
+}
+
+#[test]
 fn a_footprint_is_a_set(rt: HostRuntime) -> Result<(), Fail> {
     let mut set = Footprint::new(rt.alloc());
     for number in [5, 2, 9, 2] {
@@ -456,11 +530,11 @@ fn a_footprint_is_a_set(rt: HostRuntime) -> Result<(), Fail> {
     Ok(())
 }
 
-/// One of many edits of six nodes and nine lines.
+/// One of many edits of twelve nodes and thirty lines.
 fn edit_by(rt: &impl Abort, alloc: Global, seed: u64) -> Result<Edit, AllocError> {
-    let from = ((seed >> 20) % 6 + 1) as u32;
-    let to = ((seed >> 30) % 6 + 1) as u32;
-    let id = ((seed >> 50) % 9 + 1) as u32;
+    let from = ((seed >> 20) % 12 + 1) as u32;
+    let to = ((seed >> 30) % 12 + 1) as u32;
+    let id = ((seed >> 50) % 30 + 1) as u32;
     let len = ((seed >> 10) % 1000) as u32;
     match (seed >> 40) % 8 {
         0 | 1 => Ok(Edit::AddNode(node(rt, from), place(rt, 0, 7))),
@@ -478,13 +552,13 @@ fn both_maps_agree(rt: HostRuntime) -> Result<(), Fail> {
     let mut map = RoadMap::new(alloc);
     let mut plain = PlainMap::new(alloc);
     let mut seed: u64 = 1;
-    for step in 0..400 {
+    for step in 0..4000 {
         seed = seed
             .wrapping_mul(6_364_136_223_846_793_005)
             .wrapping_add(1_442_695_040_888_963_407);
         let first = match map.apply(edit_by(&rt, alloc, seed)?) {
             Ok(undo) => {
-                if step % 3 == 0 {
+                if step % 2 == 0 {
                     map.undo(undo);
                 } else {
                     map.keep(undo);
@@ -493,9 +567,11 @@ fn both_maps_agree(rt: HostRuntime) -> Result<(), Fail> {
             }
             Err(fault) => Some(fault),
         };
-        let second = match plain.apply(edit_by(&rt, alloc, seed)?) {
-            Ok(undo) => {
-                if step % 3 == 0 {
+        let edit = edit_by(&rt, alloc, seed)?;
+        let second = match judge(&plain, &edit) {
+            Ok(judged) => {
+                let undo = plain.make(edit, &judged)?;
+                if step % 2 == 0 {
                     plain.undo(undo);
                 } else {
                     plain.keep(undo);

@@ -1,6 +1,9 @@
 //! What takes an edit back, or a list of edits.
+ghost use Rattle.std.specs.Prelude.{◌≡◌, ◌≤◌, reverse, vec_len};
+ghost use Rattle.olr_map.specs.Changes.{all_node_puts, all_line_puts};
+
 use crate::change::Change;
-use std::alloc::Global;
+use std::alloc::{AllocError, Global};
 
 /// What takes one edit back. It must be spent, by `undo` or by `keep`.
 #[derive(Debug)]
@@ -8,14 +11,23 @@ pub struct Undo {
     pub(crate) change: Change,
 }
 
-/// What takes back a list of edits, the last one first. A log may be dropped, which leaves the map as it is.
+/// What takes back a list of edits, the last one first. What the edits took out of the map stands in the log, and nowhere
+/// else: a log may be dropped, which lets all that go and leaves the map as it is.
 #[derive(Drop, Debug)]
 pub struct UndoLog {
     pub(crate) changes: Vec<Change>,
+    pub(crate) nodes: usize,
+    pub(crate) lines: usize,
+    ghost nodes_counted: { nodes ≡ all_node_puts (reverse changes.items) },
+    ghost lines_counted: { lines ≡ all_line_puts (reverse changes.items) },
+    ghost nodes_few: { nodes ≤ vec_len changes },
+    ghost lines_few: { lines ≤ vec_len changes },
 }
 
 impl UndoLog {
-    ghost use Rattle.std.specs.Prelude.{◌≡◌, []};
+    ghost use Rattle.std.specs.Prelude.{◌<◌, ◌+◌, ◌∷◌, [], OnOk};
+    ghost use Rattle.std.specs.Vec.{vec_capacity};
+    ghost use Rattle.olr_map.specs.Changes.{node_puts, line_puts};
     ghost use Rattle.olr_map.specs.Undos.{changes_of};
 
     /// A log of no edits. Takes no memory.
@@ -24,6 +36,39 @@ impl UndoLog {
     {
         UndoLog {
             changes: Vec::new(alloc),
+            nodes: 0,
+            lines: 0,
+        }
+    }
+
+    /// Makes room for one more change.
+    pub(crate) fn reserve(&mut self) -> Result<(), AllocError>
+        ensures same { changes_of self.new ≡ changes_of self.old }
+        ensures nodes { self.new.nodes ≡ self.old.nodes }
+        ensures lines { self.new.lines ≡ self.old.lines }
+        ensures room { OnOk result (vec_len self.new.changes < vec_capacity self.new.changes) }
+    {
+        self.changes.reserve(1)
+    }
+
+    /// Adds what takes back one more edit. There is room for it.
+    pub(crate) fn push(&mut self, change: Change)
+        requires { vec_len self.old.changes < vec_capacity self.old.changes }
+        ensures more { changes_of self.new ≡ change ∷ changes_of self.old }
+        ensures nodes { self.new.nodes ≡ node_puts change + self.old.nodes }
+        ensures lines { self.new.lines ≡ line_puts change + self.old.lines }
+    {
+        let (nodes, lines) = match &change {
+            Change::PutNode(_) => (1, 0),
+            Change::PutLine(..) => (0, 1),
+            _ => (0, 0),
+        };
+        match self.changes.push(change) {
+            Ok(()) => {
+                self.nodes += nodes;
+                self.lines += lines;
+            }
+            Err(_) => unreachable!(),
         }
     }
 }

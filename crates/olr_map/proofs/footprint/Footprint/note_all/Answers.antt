@@ -1,4 +1,4 @@
-use Rattle.std.proofs.Common.{◌≡◌, ◌≤◌, ℕ, List, length, inl, subst}
+use Rattle.std.proofs.Common.{◌≤◌, ℕ, List, length, inl, subst}
 use Rattle.olr_map.proofs.Sizes.{rising_within}
 use Rattle.olr_map.proofs.footprint.Footprint.note_all.Goals as goal
 

@@ -1,31 +1,23 @@
-use Rattle.std.proofs.Common.{refl, ap}
-use Rattle.olr_map.specs.Changes.{tables_map, room_of, CanMake}
-use Rattle.olr_map.specs.declared.tables.NodeEntry.{NodeEntry}
-use Rattle.olr_map.specs.declared.change.Change.TheVariants.{MoveNode}
-use Rattle.olr_map.proofs.Looks.{keys-set}
-use Rattle.olr_map.proofs.Kept.{node_key}
-use Rattle.olr_map.proofs.Making.{in_nodes}
-use Rattle.olr_map.proofs.Ends.{node_moved_as, node_moved_kept}
+use Rattle.std.proofs.Common.{is_some, ap}
+use Rattle.olr_map.specs.NodeSlots.{slots_of}
+use Rattle.olr_map.proofs.Indexing.{entry_of}
+use Rattle.olr_map.proofs.NodeChanges.{move_node_kept, move_node_made}
 use Rattle.olr_map.proofs.tables.Tables.move_node.Goals as goal
 
-abbrev moved : goal.After-self-1 → NodeEntry
-moved c = record { id = c.index_mut-entry.result.now.id; place = c.replace.new.dest; outs = c.index_mut-entry.result.now.outs; ins = c.index_mut-entry.result.now.ins }
-
-can_move : (c : goal.After-self-1) → CanMake (tables_map c.args.self.now) (room_of c.args.self.now) (MoveNode c.args.id (moved c).place)
-can_move c = rw c.replace.ensures.after c.requires.can
+pub move_node-requires : goal.move_node-requires
+move_node-requires c =
+    let t = c.args.self.now in
+    let x = entry_of t.index (slots_of t.nodes) t.kept.indexed c.args.id c.args.slot c.requires.here in
+    ap (λ o. is_some o) x.1
 
 pub invariant_of-self : goal.invariant_of-self
 invariant_of-self c =
     let t = c.args.self.now in
-    record { kept = node_moved_kept t t c.args.at c.args.id (moved c) c.index_mut-entry.result.now (in_nodes t c.args.at c.requires.at) c.requires.id c.index_mut-entry.ensures.value refl refl refl (can_move c) }
+    let w = c.move_node.ensures.turns in
+    record { kept = move_node_kept t c.move_node.new.self c.args.slot c.args.id w.0 c.args.place w.2 c.requires.here c.requires.can }
 
-pub returns-clause-made : goal.returns-clause-made
-returns-clause-made c =
+pub returns : goal.returns
+returns c =
     let t = c.args.self.now in
-    let can : CanMake (tables_map t) (room_of t) (MoveNode c.args.id c.replace.new.dest) = rw c.replace.ensures.after c.requires.can in
-    node_moved_as t _ c.args.at c.args.id _ c.index_mut-entry.result.now (in_nodes t c.args.at c.requires.at) c.requires.id c.index_mut-entry.ensures.value refl refl refl can
-    c.args.place c.replace.result c.replace.ensures.after c.replace.ensures.value refl refl refl refl
-
-pub returns-clause-nodes : goal.returns-clause-nodes
-returns-clause-nodes c =
-    keys-set node_key c.args.self.now.nodes.items c.args.at _ c.index_mut-entry.result.now (in_nodes c.args.self.now c.args.at c.requires.at) (ap node_key c.index_mut-entry.ensures.value)
+    let w = c.move_node.ensures.turns in
+    rw (← w.1) (move_node_made t c.move_node.new.self c.args.slot c.args.id w.0 c.args.place w.2 c.requires.here c.requires.can _ c.move_node.ensures.room)

@@ -1,104 +1,69 @@
-use Rattle.std.proofs.Common.{◌<◌, set, vec_len, arith, refl, ◌∙◌}
-use Rattle.std.proofs.lemmas.Bool.{cond-true}
-use Rattle.olr_map.specs.declared.tables.NodeEntry.{NodeEntry}
-use Rattle.olr_map.proofs.Looks.{keys-insert}
-use Rattle.olr_map.proofs.Kept.{line_key}
-use Rattle.olr_map.proofs.LineLists.{First, ids_relinked, to_in_first}
-use Rattle.olr_map.proofs.Making.{in_nodes, upto_lines}
-use Rattle.olr_map.proofs.Ends.{first_of, second_of, first_rises, first_absent, first_room, second_rises, second_absent, second_room, put_kept, put_more, put_made}
+use Rattle.std.proofs.Common.{◌≡◌, ◌==◌, ℕ, ◌<◌, cond, Some, subst, ap, ◌∙◌, arith}
+use Rattle.olr_map.specs.ByNumbers.{found}
+use Rattle.olr_map.specs.Changes.{spare_at}
+use Rattle.olr_map.specs.Linked.{spare_links, IsLinked}
+use Rattle.olr_map.specs.declared.slots.Side.TheVariants.{Out, In}
+use Rattle.olr_map.proofs.LineChanges.{first_entry, first_links, second_entry, second_links, both_turned, list_rises, list_lacks, list_spare, number_free, put_line_kept, put_line_made}
+use Rattle.olr_map.proofs.Reading.{line_missing}
 use Rattle.olr_map.proofs.tables.Tables.put_line.Goals as goal
 
-pub link-requires-clause-rising : goal.link-requires-clause-rising
-link-requires-clause-rising c =
+pub link-requires : goal.link-requires
+link-requires c =
     let t = c.args.self.now in
-    first_rises t c.args.from c.args.to c.args.entry.id c.args.entry.line c.index_mut-first.result.now (in_nodes t c.args.from c.requires.from) (in_nodes t c.args.to c.requires.to) c.requires.from_id c.requires.to_id c.index_mut-first.ensures.value c.requires.can
+    let l = c.args.line in
+    let here : found t.index l.from ≡ Some c.args.from = c.requires.begin in
+    let e = first_entry t l.from c.args.from here in
+    let was = first_links t l.from c.args.from here Out e.0 e.1 in
+    let spare = list_spare t Out l.from e.0.outs was in
+    let fits : 0 < spare_at Out t l.from = c.requires.can.fits.0 in
+    let room : 0 < spare_links e.0.outs = omega arith in
+    (e.0, e.1, list_rises t Out l.from e.0.outs was, list_lacks t Out l.from e.0.outs was c.args.id (number_free t c.args.id l c.requires.can), room)
 
-pub link-requires-clause-absent : goal.link-requires-clause-absent
-link-requires-clause-absent c =
+pub link-requires-2 : goal.link-requires-2
+link-requires-2 c =
     let t = c.args.self.now in
-    first_absent t c.args.from c.args.to c.args.entry.id c.args.entry.line c.index_mut-first.result.now (in_nodes t c.args.from c.requires.from) (in_nodes t c.args.to c.requires.to) c.requires.from_id c.requires.to_id c.index_mut-first.ensures.value c.requires.can
+    let l = c.args.line in
+    let here : found t.index l.from ≡ Some c.args.from = c.requires.begin in
+    let there : found t.index l.to ≡ Some c.args.to = c.requires.end in
+    let w = c.link.ensures.turns in
+    let f = second_entry t l.from c.args.from here c.link.new.self w.0 w.1 w.2 l.to c.args.to there in
+    let was = second_links t l.from c.args.from here c.link.new.self w.0 w.1 w.2 l.to c.args.to there f.0 f.1 in
+    let spare = list_spare t In l.to f.0.ins was in
+    let fits : 0 < spare_at In t l.to = c.requires.can.fits.1 in
+    let room : 0 < spare_links f.0.ins = omega arith in
+    (f.0, f.1, list_rises t In l.to f.0.ins was, list_lacks t In l.to f.0.ins was c.args.id (number_free t c.args.id l c.requires.can), room)
 
-pub link-requires-clause-room : goal.link-requires-clause-room
-link-requires-clause-room c =
-    let t = c.args.self.now in
-    first_room t c.args.from c.args.to c.args.entry.id c.args.entry.line c.index_mut-first.result.now (in_nodes t c.args.from c.requires.from) (in_nodes t c.args.to c.requires.to) c.requires.from_id c.requires.to_id c.index_mut-first.ensures.value c.requires.can
-
--- the first end, with its new list
-abbrev one : goal.After-link-arg-2-1 → NodeEntry
-one c = record { id = c.index_mut-first.result.now.id; place = c.index_mut-first.result.now.place; outs = c.link.new.list; ins = c.index_mut-first.result.now.ins }
-
-one_is : (c : goal.After-link-arg-2-1) → First c.args.self.now.nodes.items c.args.from c.args.to c.args.entry.line.from c.args.entry.line.to (one c) c.index_mut-first.result.now
-one_is c =
-    let t = c.args.self.now in
-    first_of t.nodes.items c.args.from c.args.to c.args.entry.line.from c.args.entry.line.to (one c) c.index_mut-first.result.now (in_nodes t c.args.from c.requires.from) (in_nodes t c.args.to c.requires.to)
-    c.requires.from_id c.requires.to_id c.index_mut-first.ensures.value refl refl refl c.link.ensures.rising
-
-pub link-requires-2-clause-rising : goal.link-requires-2-clause-rising
-link-requires-2-clause-rising c =
-    let t = c.args.self.now in
-    second_rises t c.args.from c.args.to c.args.entry.id c.args.entry.line c.index_mut-first.result.now (in_nodes t c.args.from c.requires.from) (in_nodes t c.args.to c.requires.to) c.requires.from_id c.requires.to_id c.index_mut-first.ensures.value c.requires.can
-    (one c) c.index_mut-second.result.now (one_is c) refl c.index_mut-second.ensures.value
-
-pub link-requires-2-clause-absent : goal.link-requires-2-clause-absent
-link-requires-2-clause-absent c =
-    let t = c.args.self.now in
-    second_absent t c.args.from c.args.to c.args.entry.id c.args.entry.line c.index_mut-first.result.now (in_nodes t c.args.from c.requires.from) (in_nodes t c.args.to c.requires.to) c.requires.from_id c.requires.to_id c.index_mut-first.ensures.value c.requires.can
-    (one c) c.index_mut-second.result.now (one_is c) refl c.index_mut-second.ensures.value
-
-pub link-requires-2-clause-room : goal.link-requires-2-clause-room
-link-requires-2-clause-room c =
-    let t = c.args.self.now in
-    second_room t c.args.from c.args.to c.args.entry.id c.args.entry.line c.index_mut-first.result.now (in_nodes t c.args.from c.requires.from) (in_nodes t c.args.to c.requires.to) c.requires.from_id c.requires.to_id c.index_mut-first.ensures.value c.requires.can
-    (one c) c.index_mut-second.result.now (one_is c) refl c.index_mut-second.ensures.value
+pub put-requires-clause-absent : goal.put-requires-clause-absent
+put-requires-clause-absent c = ap (found c.args.self.now.lines) c.number.ensures.same ∙ line_missing c.args.self.now c.args.id (number_free c.args.self.now c.args.id c.args.line c.requires.can)
 
 pub invariant_of-self : goal.invariant_of-self
 invariant_of-self c =
     let t = c.args.self.now in
-    let w = c.index_mut-first.result.now in
-    let u = c.index_mut-second.result.now in
-    let l = c.args.entry.line in
-    let e : NodeEntry = record { id = w.id; place = w.place; outs = c.link.new.list; ins = w.ins } in
-    let f : NodeEntry = record { id = u.id; place = u.place; outs = u.outs; ins = c.link-2.new.list } in
-    let a = in_nodes t c.args.from c.requires.from in
-    let b = in_nodes t c.args.to c.requires.to in
-    let r = first_of t.nodes.items c.args.from c.args.to l.from l.to e w a b c.requires.from_id c.requires.to_id c.index_mut-first.ensures.value refl refl refl c.link.ensures.rising in
-    let s = second_of (set t.nodes.items c.args.from e) c.args.to f u w (to_in_first t.nodes.items c.args.from c.args.to l.from l.to e w r t.kept.nodes_apart) c.index_mut-second.ensures.value refl refl refl c.link-2.ensures.rising in
-    let room : vec_len t.lines < t.lines.cap = let fits = c.requires.can.fits.0 in omega arith in
-    let items = c.insert.ensures.items ∙ cond-true _ _ _ (c.insert.ensures.succeeds room) in
-    record {
-      kept = rw items (put_kept t c.args.from c.args.to c.args.entry.id l w a b c.requires.from_id c.requires.to_id c.index_mut-first.ensures.value c.requires.can
-          e u r refl c.index_mut-second.ensures.value f c.args.at s (upto_lines t c.args.at c.requires.at) c.link.ensures.holds c.link-2.ensures.holds);
-    }
+    let l = c.args.line in
+    let p = c.args.from in
+    let q = c.args.to in
+    let here : found t.index l.from ≡ Some p = c.requires.begin in
+    let there : found t.index l.to ≡ Some q = c.requires.end in
+    let w = c.link.ensures.turns in
+    let u = c.link-2.ensures.turns in
+    let r = both_turned t l.from p here c.link.new.self w.0 w.1 w.2 l.to q there c.link-2.new.self u.0 u.1 u.2 in
+    let ko = subst (λ e. IsLinked w.0.outs w.1 c.args.id e) c.far_ends-begins.ensures.ends w.3 in
+    let ki = subst (λ e. IsLinked u.0.ins u.1 c.args.id e) c.far_ends-begins.ensures.begins u.3 in
+    let put = subst (λ (n : ℕ). (k : ℕ) → found c.put.new.self k ≡ cond (n == k) (Some l) (found t.lines k)) c.number.ensures.same c.put.ensures.put in
+    record { kept = put_line_kept t c.link-2.new.self c.put.new.self c.args.id l p q w.0.outs w.1 u.0.ins u.1 r here there ko ki put c.requires.can }
 
-pub returns-clause-made : goal.returns-clause-made
-returns-clause-made c =
+pub returns : goal.returns
+returns c =
     let t = c.args.self.now in
-    let w = c.index_mut-first.result.now in
-    let u = c.index_mut-second.result.now in
-    let l = c.args.entry.line in
-    let e : NodeEntry = record { id = w.id; place = w.place; outs = c.link.new.list; ins = w.ins } in
-    let f : NodeEntry = record { id = u.id; place = u.place; outs = u.outs; ins = c.link-2.new.list } in
-    let a = in_nodes t c.args.from c.requires.from in
-    let b = in_nodes t c.args.to c.requires.to in
-    let r = first_of t.nodes.items c.args.from c.args.to l.from l.to e w a b c.requires.from_id c.requires.to_id c.index_mut-first.ensures.value refl refl refl c.link.ensures.rising in
-    let s = second_of (set t.nodes.items c.args.from e) c.args.to f u w (to_in_first t.nodes.items c.args.from c.args.to l.from l.to e w r t.kept.nodes_apart) c.index_mut-second.ensures.value refl refl refl c.link-2.ensures.rising in
-    let room : vec_len t.lines < t.lines.cap = let fits = c.requires.can.fits.0 in omega arith in
-    let more = put_more t c.args.from c.args.to c.args.entry.id l w a b c.requires.from_id c.requires.to_id c.index_mut-first.ensures.value c.requires.can
-    e u r refl c.index_mut-second.ensures.value f c.link.ensures.len c.link.ensures.capacity c.link-2.ensures.len c.link-2.ensures.capacity in
-    put_made t c.args.from c.args.to c.args.entry.id l w a b c.requires.from_id c.requires.to_id c.index_mut-first.ensures.value c.requires.can
-    e u r refl c.index_mut-second.ensures.value _ f c.args.at s more (upto_lines t c.args.at c.requires.at) refl refl c.in-Ok.ensures.items c.in-Ok.ensures.len (c.in-Ok.ensures.in_place room).1.0
-
-pub returns-clause-nodes : goal.returns-clause-nodes
-returns-clause-nodes c =
-    let t = c.args.self.now in
-    let w = c.index_mut-first.result.now in
-    let u = c.index_mut-second.result.now in
-    let l = c.args.entry.line in
-    let e : NodeEntry = record { id = w.id; place = w.place; outs = c.link.new.list; ins = w.ins } in
-    let f : NodeEntry = record { id = u.id; place = u.place; outs = u.outs; ins = c.link-2.new.list } in
-    let r = first_of t.nodes.items c.args.from c.args.to l.from l.to e w (in_nodes t c.args.from c.requires.from) (in_nodes t c.args.to c.requires.to) c.requires.from_id c.requires.to_id c.index_mut-first.ensures.value refl refl refl c.link.ensures.rising in
-    let s = second_of (set t.nodes.items c.args.from e) c.args.to f u w (to_in_first t.nodes.items c.args.from c.args.to l.from l.to e w r t.kept.nodes_apart) c.index_mut-second.ensures.value refl refl refl c.link-2.ensures.rising in
-    ids_relinked t.nodes.items c.args.from c.args.to l.from l.to e w r t.kept.nodes_apart f s
-
-pub returns-clause-lines : goal.returns-clause-lines
-returns-clause-lines c = rw c.in-Ok.ensures.items (keys-insert line_key c.args.self.now.lines.items c.args.at c.args.entry (upto_lines c.args.self.now c.args.at c.requires.at))
+    let l = c.args.line in
+    let p = c.args.from in
+    let q = c.args.to in
+    let here : found t.index l.from ≡ Some p = c.requires.begin in
+    let there : found t.index l.to ≡ Some q = c.requires.end in
+    let w = c.link.ensures.turns in
+    let u = c.link-2.ensures.turns in
+    let r = both_turned t l.from p here c.link.new.self w.0 w.1 w.2 l.to q there c.link-2.new.self u.0 u.1 u.2 in
+    let ko = subst (λ e. IsLinked w.0.outs w.1 c.args.id e) c.far_ends-begins.ensures.ends w.3 in
+    let ki = subst (λ e. IsLinked u.0.ins u.1 c.args.id e) c.far_ends-begins.ensures.begins u.3 in
+    let put = subst (λ (n : ℕ). (k : ℕ) → found c.put.new.self k ≡ cond (n == k) (Some l) (found t.lines k)) c.number.ensures.same c.put.ensures.put in
+    put_line_made t c.link-2.new.self c.put.new.self c.args.id l p q w.0.outs w.1 u.0.ins u.1 r here there ko ki put c.requires.can _ (c.link-2.ensures.room ∙ c.link.ensures.room) c.put.ensures.spare

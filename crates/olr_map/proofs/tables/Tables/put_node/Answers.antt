@@ -1,20 +1,23 @@
-use Rattle.std.proofs.Common.{◌<◌, vec_len, refl, ◌∙◌, arith}
-use Rattle.std.proofs.lemmas.Bool.{cond-true}
-use Rattle.olr_map.proofs.Looks.{keys-insert}
-use Rattle.olr_map.proofs.Kept.{node_key}
-use Rattle.olr_map.proofs.Making.{put_node_kept, put_node_made, upto_nodes}
+use Rattle.std.proofs.Common.{◌≡◌, ◌==◌, ℕ, cond, Some, subst, ap, ◌∙◌}
+use Rattle.olr_map.specs.ByNumbers.{found}
+use Rattle.olr_map.proofs.NodeChanges.{free_number, put_node_kept, put_node_made}
 use Rattle.olr_map.proofs.tables.Tables.put_node.Goals as goal
+
+pub put-requires-clause-absent : goal.put-requires-clause-absent
+put-requires-clause-absent c =
+    let t = c.args.self.now in
+    ap (found t.index) c.number.ensures.same ∙ free_number t c.args.entry c.requires.can
 
 pub invariant_of-self : goal.invariant_of-self
 invariant_of-self c =
-    let room : vec_len c.args.self.now.nodes < c.args.self.now.nodes.cap = let fits = c.requires.can.fits in omega arith in
-    let items = c.insert.ensures.items ∙ cond-true _ _ _ (c.insert.ensures.succeeds room) in
-    record { kept = rw items (put_node_kept c.args.self.now c.args.self.now c.args.at c.args.entry (upto_nodes c.args.self.now c.args.at c.requires.at) c.requires.can c.args.self.now.kept) }
+    let t = c.args.self.now in
+    let b' = c.put.new.self in
+    let put = subst (λ (n : ℕ). (k : ℕ) → found b' k ≡ cond (n == k) (Some c.put-slot.result) (found t.index k)) c.number.ensures.same c.put.ensures.put in
+    record { kept = put_node_kept t b' c.put-slot.new.self c.put-slot.result c.args.entry c.put-slot.ensures.comes put c.requires.can }
 
-pub returns-clause-made : goal.returns-clause-made
-returns-clause-made c =
-    put_node_made c.args.self.now _ c.args.at c.args.entry (upto_nodes c.args.self.now c.args.at c.requires.at) c.requires.can
-    c.in-Ok.ensures.items c.in-Ok.ensures.len (c.in-Ok.ensures.in_place (let fits = c.requires.can.fits in omega arith)).1.0 refl c.args.self.now.kept
-
-pub returns-clause-nodes : goal.returns-clause-nodes
-returns-clause-nodes c = rw c.in-Ok.ensures.items (keys-insert node_key c.args.self.now.nodes.items c.args.at c.args.entry (upto_nodes c.args.self.now c.args.at c.requires.at))
+pub returns : goal.returns
+returns c =
+    let t = c.args.self.now in
+    let b' = c.put.new.self in
+    let put = subst (λ (n : ℕ). (k : ℕ) → found b' k ≡ cond (n == k) (Some c.put-slot.result) (found t.index k)) c.number.ensures.same c.put.ensures.put in
+    put_node_made t b' c.put-slot.new.self c.put-slot.result c.args.entry c.put-slot.ensures.comes put c.requires.can _ c.put-slot.ensures.room c.put.ensures.spare

@@ -1,29 +1,87 @@
-use Rattle.std.proofs.Common.{set, refl, sym, ap, subst}
-use Rattle.olr_map.specs.Tables.{IsKept}
-use Rattle.olr_map.specs.declared.tables.LineEntry.{LineEntry}
-use Rattle.olr_map.proofs.Looks.{keys-set}
-use Rattle.olr_map.proofs.Kept.{line_key}
-use Rattle.olr_map.proofs.Making.{in_lines}
-use Rattle.olr_map.proofs.Ends.{entry_is, line_set, line_set_kept}
+use Rattle.std.proofs.Common.{◌≡◌, ◌==◌, ℕ, cond, Some, is_some, subst, refl, sym, ap, ◌∙◌}
+use Rattle.olr_spec.specs.Map.{Line}
+use Rattle.olr_map.specs.ByNumbers.{found}
+use Rattle.olr_map.specs.Changes.{tables_map}
+use Rattle.olr_map.specs.Linked.{IsReset}
+use Rattle.olr_map.specs.declared.slots.Side.TheVariants.{Out, In}
+use Rattle.olr_map.proofs.Indexing.{same_some}
+use Rattle.olr_map.proofs.Undoing.{record_of}
+use Rattle.olr_map.proofs.Reading.{got_line, line_found}
+use Rattle.olr_map.proofs.LineChanges.{first_entry, first_links, second_entry, second_links, both_turned, list_rises, list_has, line_set, set_line_kept, set_line_made}
 use Rattle.olr_map.proofs.tables.Tables.set_line.Goals as goal
+
+pub set_end-requires : goal.set_end-requires
+set_end-requires c =
+    let t = c.args.self.now in
+    let x = c.args.id in
+    let l = line_found t x (line_set t x c.args.line c.requires.can) in
+    let p = c.args.from in
+    let q = c.args.to in
+    let is = record_of (tables_map t) x l.0 (got_line t x ∙ l.1) in
+    let here : found t.index l.0.from ≡ Some p = ap (λ (k : Line). found t.index k.from) (sym is) ∙ c.requires.begin in
+    let there : found t.index l.0.to ≡ Some q = ap (λ (k : Line). found t.index k.to) (sym is) ∙ c.requires.end in
+    let e = first_entry t l.0.from p here in
+    let was = first_links t l.0.from p here Out e.0 e.1 in
+    (e.0, e.1, list_rises t Out l.0.from e.0.outs was, list_has t Out l.0.from e.0.outs was x l.0 (got_line t x ∙ l.1) refl)
+
+pub set_end-requires-2 : goal.set_end-requires-2
+set_end-requires-2 c =
+    let t = c.args.self.now in
+    let x = c.args.id in
+    let l = line_found t x (line_set t x c.args.line c.requires.can) in
+    let p = c.args.from in
+    let q = c.args.to in
+    let is = record_of (tables_map t) x l.0 (got_line t x ∙ l.1) in
+    let here : found t.index l.0.from ≡ Some p = ap (λ (k : Line). found t.index k.from) (sym is) ∙ c.requires.begin in
+    let there : found t.index l.0.to ≡ Some q = ap (λ (k : Line). found t.index k.to) (sym is) ∙ c.requires.end in
+    let w = c.set_end.ensures.turns in
+    let f = second_entry t l.0.from p here c.set_end.new.self w.0 w.1 w.2 l.0.to q there in
+    let was = second_links t l.0.from p here c.set_end.new.self w.0 w.1 w.2 l.0.to q there f.0 f.1 in
+    (f.0, f.1, list_rises t In l.0.to f.0.ins was, list_has t In l.0.to f.0.ins was x l.0 (got_line t x ∙ l.1) refl)
+
+pub replace-requires : goal.replace-requires
+replace-requires c =
+    let t = c.args.self.now in
+    let l = line_found t c.args.id (line_set t c.args.id c.args.line c.requires.can) in
+    ap (λ o. is_some o) (ap (found t.lines) c.number.ensures.same ∙ l.1)
 
 pub invariant_of-self : goal.invariant_of-self
 invariant_of-self c =
     let t = c.args.self.now in
-    let w = c.index_mut-entry.result.now in
-    let lt = in_lines t c.args.at c.requires.at in
-    let is = entry_is t t c.args.at c.args.id c.args.line w.line w lt c.requires.id c.index_mut-entry.ensures.value c.requires.can c.replace.new.dest c.replace.ensures.after in
-    let kept : IsKept t.nodes.items (set t.lines.items c.args.at (record { id = c.args.id; line = c.args.line })) = line_set_kept t t c.args.at c.args.id c.args.line w.line w lt c.requires.id c.index_mut-entry.ensures.value c.requires.can in
-    record { kept = subst (λ (e : LineEntry). IsKept t.nodes.items (set t.lines.items c.args.at e)) (sym is) kept }
+    let x = c.args.id in
+    let l = line_found t x (line_set t x c.args.line c.requires.can) in
+    let p = c.args.from in
+    let q = c.args.to in
+    let is = record_of (tables_map t) x l.0 (got_line t x ∙ l.1) in
+    let here : found t.index l.0.from ≡ Some p = ap (λ (k : Line). found t.index k.from) (sym is) ∙ c.requires.begin in
+    let there : found t.index l.0.to ≡ Some q = ap (λ (k : Line). found t.index k.to) (sym is) ∙ c.requires.end in
+    let w = c.set_end.ensures.turns in
+    let u = c.set_end-2.ensures.turns in
+    let r = both_turned t l.0.from p here c.set_end.new.self w.0 w.1 w.2 l.0.to q there c.set_end-2.new.self u.0 u.1 u.2 in
+    let ko = subst (λ e. IsReset w.0.outs w.1 x e) c.far_ends-begins.ensures.ends w.3 in
+    let ki = subst (λ e. IsReset u.0.ins u.1 x e) c.far_ends-begins.ensures.begins u.3 in
+    let here' : found t.index c.args.line.from ≡ Some p = ap (found t.index) c.requires.can.whole.0 ∙ c.requires.begin in
+    let there' : found t.index c.args.line.to ≡ Some q = ap (found t.index) c.requires.can.whole.1 ∙ c.requires.end in
+    let put = subst (λ (n : ℕ). (k : ℕ) → found c.replace.new.self k ≡ cond (n == k) (Some c.args.line) (found t.lines k)) c.number.ensures.same c.replace.ensures.put in
+    record { kept = set_line_kept t c.set_end-2.new.self c.replace.new.self x c.args.line l.0 p q w.0.outs w.1 u.0.ins u.1 r here' there' ko ki l.1 put c.requires.can }
 
-pub returns-clause-made : goal.returns-clause-made
-returns-clause-made c =
+pub returns : goal.returns
+returns c =
     let t = c.args.self.now in
-    let w = c.index_mut-entry.result.now in
-    let lt = in_lines t c.args.at c.requires.at in
-    let is = entry_is t t c.args.at c.args.id c.args.line w.line w lt c.requires.id c.index_mut-entry.ensures.value c.requires.can c.replace.new.dest c.replace.ensures.after in
-    line_set t _ c.args.at c.args.id c.args.line c.replace.result w lt c.requires.id c.index_mut-entry.ensures.value c.requires.can c.replace.ensures.value refl (ap (set t.lines.items c.args.at) is) refl
-
-pub returns-clause-lines : goal.returns-clause-lines
-returns-clause-lines c =
-    keys-set line_key c.args.self.now.lines.items c.args.at _ c.index_mut-entry.result.now (in_lines c.args.self.now c.args.at c.requires.at) (ap line_key c.index_mut-entry.ensures.value)
+    let x = c.args.id in
+    let l = line_found t x (line_set t x c.args.line c.requires.can) in
+    let p = c.args.from in
+    let q = c.args.to in
+    let is = record_of (tables_map t) x l.0 (got_line t x ∙ l.1) in
+    let here : found t.index l.0.from ≡ Some p = ap (λ (k : Line). found t.index k.from) (sym is) ∙ c.requires.begin in
+    let there : found t.index l.0.to ≡ Some q = ap (λ (k : Line). found t.index k.to) (sym is) ∙ c.requires.end in
+    let w = c.set_end.ensures.turns in
+    let u = c.set_end-2.ensures.turns in
+    let r = both_turned t l.0.from p here c.set_end.new.self w.0 w.1 w.2 l.0.to q there c.set_end-2.new.self u.0 u.1 u.2 in
+    let ko = subst (λ e. IsReset w.0.outs w.1 x e) c.far_ends-begins.ensures.ends w.3 in
+    let ki = subst (λ e. IsReset u.0.ins u.1 x e) c.far_ends-begins.ensures.begins u.3 in
+    let here' : found t.index c.args.line.from ≡ Some p = ap (found t.index) c.requires.can.whole.0 ∙ c.requires.begin in
+    let there' : found t.index c.args.line.to ≡ Some q = ap (found t.index) c.requires.can.whole.1 ∙ c.requires.end in
+    let put = subst (λ (n : ℕ). (k : ℕ) → found c.replace.new.self k ≡ cond (n == k) (Some c.args.line) (found t.lines k)) c.number.ensures.same c.replace.ensures.put in
+    let same : l.0 ≡ c.replace.result = same_some _ _ (sym l.1 ∙ ap (found t.lines) (sym c.number.ensures.same) ∙ c.replace.ensures.was) in
+    rw (← same) (set_line_made t c.set_end-2.new.self c.replace.new.self x c.args.line l.0 p q w.0.outs w.1 u.0.ins u.1 r here' there' ko ki l.1 put c.requires.can _ (c.set_end-2.ensures.room ∙ c.set_end.ensures.room) c.replace.ensures.spare)

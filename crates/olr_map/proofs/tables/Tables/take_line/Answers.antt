@@ -1,116 +1,78 @@
-use Rattle.std.proofs.Common.{set, refl, sym, ap, ◌∙◌}
-use Rattle.std.proofs.lemmas.List.{get_or-map}
-use Rattle.olr_map.specs.declared.tables.NodeEntry.{NodeEntry}
-use Rattle.olr_map.proofs.Looks.{keys-remove}
-use Rattle.olr_map.proofs.Kept.{line_key}
-use Rattle.olr_map.proofs.LineLists.{ids_relinked, to_in_first}
-use Rattle.olr_map.proofs.Making.{in_nodes, in_lines}
-use Rattle.olr_map.proofs.Ends.{first_of, second_of, from_here, to_here, taken_first_rises, taken_first_there, taken_second_rises, taken_second_there, taken_kept, taken_less, taken_made}
+use Rattle.std.proofs.Common.{◌≡◌, ◌==◌, ℕ, cond, Some, None, is_some, subst, refl, sym, ap, ◌∙◌}
+use Rattle.olr_spec.specs.Map.{Line}
+use Rattle.olr_map.specs.ByNumbers.{found}
+use Rattle.olr_map.specs.Changes.{tables_map}
+use Rattle.olr_map.specs.declared.slots.Side.TheVariants.{Out, In}
+use Rattle.olr_map.proofs.Indexing.{same_some}
+use Rattle.olr_map.proofs.Undoing.{record_of}
+use Rattle.olr_map.proofs.Reading.{got_line, line_found}
+use Rattle.olr_map.proofs.LineChanges.{first_entry, first_links, second_entry, second_links, both_turned, list_rises, list_has, line_taken, take_line_kept, take_line_made}
 use Rattle.olr_map.proofs.tables.Tables.take_line.Goals as goal
 
-pub unlink-requires-clause-rising : goal.unlink-requires-clause-rising
-unlink-requires-clause-rising c =
+pub unlink-requires : goal.unlink-requires
+unlink-requires c =
     let t = c.args.self.now in
-    taken_first_rises t c.args.at c.args.from c.args.to c.remove-entry.result c.index_mut-first.result.now (in_lines t c.args.at c.requires.at) c.remove-entry.ensures.value
-    (in_nodes t c.args.from c.requires.from) (in_nodes t c.args.to c.requires.to) c.requires.from_id c.requires.to_id c.index_mut-first.ensures.value c.requires.can
+    let x = c.args.id in
+    let l = line_found t x (line_taken t x c.requires.can) in
+    let p = c.args.from in
+    let q = c.args.to in
+    let is = record_of (tables_map t) x l.0 (got_line t x ∙ l.1) in
+    let here : found t.index l.0.from ≡ Some p = ap (λ (k : Line). found t.index k.from) (sym is) ∙ c.requires.begin in
+    let there : found t.index l.0.to ≡ Some q = ap (λ (k : Line). found t.index k.to) (sym is) ∙ c.requires.end in
+    let e = first_entry t l.0.from p here in
+    let was = first_links t l.0.from p here Out e.0 e.1 in
+    (e.0, e.1, list_rises t Out l.0.from e.0.outs was, list_has t Out l.0.from e.0.outs was x l.0 (got_line t x ∙ l.1) refl)
 
-pub unlink-requires-clause-there : goal.unlink-requires-clause-there
-unlink-requires-clause-there c =
+pub unlink-requires-2 : goal.unlink-requires-2
+unlink-requires-2 c =
     let t = c.args.self.now in
-    taken_first_there t c.args.at c.args.from c.args.to c.remove-entry.result c.index_mut-first.result.now (in_lines t c.args.at c.requires.at) c.remove-entry.ensures.value
-    (in_nodes t c.args.from c.requires.from) (in_nodes t c.args.to c.requires.to) c.requires.from_id c.requires.to_id c.index_mut-first.ensures.value c.requires.can
+    let x = c.args.id in
+    let l = line_found t x (line_taken t x c.requires.can) in
+    let p = c.args.from in
+    let q = c.args.to in
+    let is = record_of (tables_map t) x l.0 (got_line t x ∙ l.1) in
+    let here : found t.index l.0.from ≡ Some p = ap (λ (k : Line). found t.index k.from) (sym is) ∙ c.requires.begin in
+    let there : found t.index l.0.to ≡ Some q = ap (λ (k : Line). found t.index k.to) (sym is) ∙ c.requires.end in
+    let w = c.unlink.ensures.turns in
+    let f = second_entry t l.0.from p here c.unlink.new.self w.0 w.1 w.2 l.0.to q there in
+    let was = second_links t l.0.from p here c.unlink.new.self w.0 w.1 w.2 l.0.to q there f.0 f.1 in
+    (f.0, f.1, list_rises t In l.0.to f.0.ins was, list_has t In l.0.to f.0.ins was x l.0 (got_line t x ∙ l.1) refl)
 
-pub unlink-requires-2-clause-rising : goal.unlink-requires-2-clause-rising
-unlink-requires-2-clause-rising c =
+pub take-requires : goal.take-requires
+take-requires c =
     let t = c.args.self.now in
-    let k = c.remove-entry.result in
-    let w = c.index_mut-first.result.now in
-    let e : NodeEntry = record { id = w.id; place = w.place; outs = c.unlink.new.list; ins = w.ins } in
-    let lt = in_lines t c.args.at c.requires.at in
-    let a = in_nodes t c.args.from c.requires.from in
-    let b = in_nodes t c.args.to c.requires.to in
-    let from = from_here t c.args.at c.args.from c.args.to k w lt c.remove-entry.ensures.value a b c.requires.from_id c.requires.to_id c.index_mut-first.ensures.value c.requires.can in
-    let to = to_here t c.args.at c.args.from c.args.to k w lt c.remove-entry.ensures.value a b c.requires.from_id c.requires.to_id c.index_mut-first.ensures.value c.requires.can in
-    let r = first_of t.nodes.items c.args.from c.args.to k.line.from k.line.to e w a b from to c.index_mut-first.ensures.value refl refl refl c.unlink.ensures.rising in
-    taken_second_rises t c.args.at c.args.from c.args.to k w lt c.remove-entry.ensures.value a b c.requires.from_id c.requires.to_id c.index_mut-first.ensures.value c.requires.can
-    e c.index_mut-second.result.now r refl c.index_mut-second.ensures.value
-
-pub unlink-requires-2-clause-there : goal.unlink-requires-2-clause-there
-unlink-requires-2-clause-there c =
-    let t = c.args.self.now in
-    let k = c.remove-entry.result in
-    let w = c.index_mut-first.result.now in
-    let e : NodeEntry = record { id = w.id; place = w.place; outs = c.unlink.new.list; ins = w.ins } in
-    let lt = in_lines t c.args.at c.requires.at in
-    let a = in_nodes t c.args.from c.requires.from in
-    let b = in_nodes t c.args.to c.requires.to in
-    let from = from_here t c.args.at c.args.from c.args.to k w lt c.remove-entry.ensures.value a b c.requires.from_id c.requires.to_id c.index_mut-first.ensures.value c.requires.can in
-    let to = to_here t c.args.at c.args.from c.args.to k w lt c.remove-entry.ensures.value a b c.requires.from_id c.requires.to_id c.index_mut-first.ensures.value c.requires.can in
-    let r = first_of t.nodes.items c.args.from c.args.to k.line.from k.line.to e w a b from to c.index_mut-first.ensures.value refl refl refl c.unlink.ensures.rising in
-    taken_second_there t c.args.at c.args.from c.args.to k w lt c.remove-entry.ensures.value a b c.requires.from_id c.requires.to_id c.index_mut-first.ensures.value c.requires.can
-    e c.index_mut-second.result.now r refl c.index_mut-second.ensures.value
+    let l = line_found t c.args.id (line_taken t c.args.id c.requires.can) in
+    ap (λ o. is_some o) (ap (found t.lines) c.number.ensures.same ∙ l.1)
 
 pub invariant_of-self : goal.invariant_of-self
 invariant_of-self c =
     let t = c.args.self.now in
-    let k = c.remove-entry.result in
-    let w = c.index_mut-first.result.now in
-    let u = c.index_mut-second.result.now in
-    let e : NodeEntry = record { id = w.id; place = w.place; outs = c.unlink.new.list; ins = w.ins } in
-    let f : NodeEntry = record { id = u.id; place = u.place; outs = u.outs; ins = c.unlink-2.new.list } in
-    let lt = in_lines t c.args.at c.requires.at in
-    let a = in_nodes t c.args.from c.requires.from in
-    let b = in_nodes t c.args.to c.requires.to in
-    let from = from_here t c.args.at c.args.from c.args.to k w lt c.remove-entry.ensures.value a b c.requires.from_id c.requires.to_id c.index_mut-first.ensures.value c.requires.can in
-    let to = to_here t c.args.at c.args.from c.args.to k w lt c.remove-entry.ensures.value a b c.requires.from_id c.requires.to_id c.index_mut-first.ensures.value c.requires.can in
-    let r = first_of t.nodes.items c.args.from c.args.to k.line.from k.line.to e w a b from to c.index_mut-first.ensures.value refl refl refl c.unlink.ensures.rising in
-    let s = second_of (set t.nodes.items c.args.from e) c.args.to f u w (to_in_first t.nodes.items c.args.from c.args.to k.line.from k.line.to e w r t.kept.nodes_apart) c.index_mut-second.ensures.value refl refl refl c.unlink-2.ensures.rising in
-    record {
-      kept = rw c.remove-entry.ensures.items (taken_kept t c.args.at c.args.from c.args.to k w lt c.remove-entry.ensures.value a b c.requires.from_id c.requires.to_id c.index_mut-first.ensures.value c.requires.can
-          e u r refl c.index_mut-second.ensures.value f s c.unlink.ensures.holds c.unlink-2.ensures.holds);
-    }
+    let x = c.args.id in
+    let l = line_found t x (line_taken t x c.requires.can) in
+    let p = c.args.from in
+    let q = c.args.to in
+    let is = record_of (tables_map t) x l.0 (got_line t x ∙ l.1) in
+    let here : found t.index l.0.from ≡ Some p = ap (λ (k : Line). found t.index k.from) (sym is) ∙ c.requires.begin in
+    let there : found t.index l.0.to ≡ Some q = ap (λ (k : Line). found t.index k.to) (sym is) ∙ c.requires.end in
+    let w = c.unlink.ensures.turns in
+    let u = c.unlink-2.ensures.turns in
+    let r = both_turned t l.0.from p here c.unlink.new.self w.0 w.1 w.2 l.0.to q there c.unlink-2.new.self u.0 u.1 u.2 in
+    let taken = subst (λ (n : ℕ). (k : ℕ) → found c.take.new.self k ≡ cond (n == k) None (found t.lines k)) c.number.ensures.same c.take.ensures.taken in
+    record { kept = take_line_kept t c.unlink-2.new.self c.take.new.self x l.0 w.0.outs w.1 u.0.ins u.1 r w.3 u.3 l.1 taken c.requires.can }
 
-pub returns-clause-made : goal.returns-clause-made
-returns-clause-made c =
+pub returns : goal.returns
+returns c =
     let t = c.args.self.now in
-    let k = c.remove-entry.result in
-    let w = c.index_mut-first.result.now in
-    let u = c.index_mut-second.result.now in
-    let e : NodeEntry = record { id = w.id; place = w.place; outs = c.unlink.new.list; ins = w.ins } in
-    let f : NodeEntry = record { id = u.id; place = u.place; outs = u.outs; ins = c.unlink-2.new.list } in
-    let lt = in_lines t c.args.at c.requires.at in
-    let a = in_nodes t c.args.from c.requires.from in
-    let b = in_nodes t c.args.to c.requires.to in
-    let from = from_here t c.args.at c.args.from c.args.to k w lt c.remove-entry.ensures.value a b c.requires.from_id c.requires.to_id c.index_mut-first.ensures.value c.requires.can in
-    let to = to_here t c.args.at c.args.from c.args.to k w lt c.remove-entry.ensures.value a b c.requires.from_id c.requires.to_id c.index_mut-first.ensures.value c.requires.can in
-    let r = first_of t.nodes.items c.args.from c.args.to k.line.from k.line.to e w a b from to c.index_mut-first.ensures.value refl refl refl c.unlink.ensures.rising in
-    let s = second_of (set t.nodes.items c.args.from e) c.args.to f u w (to_in_first t.nodes.items c.args.from c.args.to k.line.from k.line.to e w r t.kept.nodes_apart) c.index_mut-second.ensures.value refl refl refl c.unlink-2.ensures.rising in
-    let less = taken_less t c.args.at c.args.from c.args.to k w lt c.remove-entry.ensures.value a b c.requires.from_id c.requires.to_id c.index_mut-first.ensures.value c.requires.can
-    e u r refl c.index_mut-second.ensures.value f c.unlink.ensures.len c.unlink.ensures.capacity c.unlink-2.ensures.len c.unlink-2.ensures.capacity in
-    taken_made t c.args.at c.args.from c.args.to k w lt c.remove-entry.ensures.value a b c.requires.from_id c.requires.to_id c.index_mut-first.ensures.value c.requires.can
-    e u r refl c.index_mut-second.ensures.value _ f s less refl refl c.remove-entry.ensures.items c.remove-entry.ensures.len c.remove-entry.ensures.capacity
-
-pub returns-clause-nodes : goal.returns-clause-nodes
-returns-clause-nodes c =
-    let t = c.args.self.now in
-    let k = c.remove-entry.result in
-    let w = c.index_mut-first.result.now in
-    let u = c.index_mut-second.result.now in
-    let e : NodeEntry = record { id = w.id; place = w.place; outs = c.unlink.new.list; ins = w.ins } in
-    let f : NodeEntry = record { id = u.id; place = u.place; outs = u.outs; ins = c.unlink-2.new.list } in
-    let lt = in_lines t c.args.at c.requires.at in
-    let a = in_nodes t c.args.from c.requires.from in
-    let b = in_nodes t c.args.to c.requires.to in
-    let from = from_here t c.args.at c.args.from c.args.to k w lt c.remove-entry.ensures.value a b c.requires.from_id c.requires.to_id c.index_mut-first.ensures.value c.requires.can in
-    let to = to_here t c.args.at c.args.from c.args.to k w lt c.remove-entry.ensures.value a b c.requires.from_id c.requires.to_id c.index_mut-first.ensures.value c.requires.can in
-    let r = first_of t.nodes.items c.args.from c.args.to k.line.from k.line.to e w a b from to c.index_mut-first.ensures.value refl refl refl c.unlink.ensures.rising in
-    let s = second_of (set t.nodes.items c.args.from e) c.args.to f u w (to_in_first t.nodes.items c.args.from c.args.to k.line.from k.line.to e w r t.kept.nodes_apart) c.index_mut-second.ensures.value refl refl refl c.unlink-2.ensures.rising in
-    ids_relinked t.nodes.items c.args.from c.args.to k.line.from k.line.to e w r t.kept.nodes_apart f s
-
-pub returns-clause-lines : goal.returns-clause-lines
-returns-clause-lines c = rw c.remove-entry.ensures.items (keys-remove line_key c.args.self.now.lines.items c.args.at (in_lines c.args.self.now c.args.at c.requires.at))
-
-pub returns-clause-id : goal.returns-clause-id
-returns-clause-id c =
-    let t = c.args.self.now in
-    sym (get_or-map line_key t.lines.items c.args.at c.remove-entry.result 0 (in_lines t c.args.at c.requires.at) ∙ ap line_key (sym c.remove-entry.ensures.value))
+    let x = c.args.id in
+    let l = line_found t x (line_taken t x c.requires.can) in
+    let p = c.args.from in
+    let q = c.args.to in
+    let is = record_of (tables_map t) x l.0 (got_line t x ∙ l.1) in
+    let here : found t.index l.0.from ≡ Some p = ap (λ (k : Line). found t.index k.from) (sym is) ∙ c.requires.begin in
+    let there : found t.index l.0.to ≡ Some q = ap (λ (k : Line). found t.index k.to) (sym is) ∙ c.requires.end in
+    let w = c.unlink.ensures.turns in
+    let u = c.unlink-2.ensures.turns in
+    let r = both_turned t l.0.from p here c.unlink.new.self w.0 w.1 w.2 l.0.to q there c.unlink-2.new.self u.0 u.1 u.2 in
+    let taken = subst (λ (n : ℕ). (k : ℕ) → found c.take.new.self k ≡ cond (n == k) None (found t.lines k)) c.number.ensures.same c.take.ensures.taken in
+    let same : l.0 ≡ c.take.result = same_some _ _ (sym l.1 ∙ ap (found t.lines) (sym c.number.ensures.same) ∙ c.take.ensures.was) in
+    rw (← same) (take_line_made t c.unlink-2.new.self c.take.new.self x l.0 w.0.outs w.1 u.0.ins u.1 r w.3 u.3 l.1 taken c.requires.can _ (c.unlink-2.ensures.room ∙ c.unlink.ensures.room) c.take.ensures.spare)

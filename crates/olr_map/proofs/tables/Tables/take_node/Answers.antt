@@ -1,29 +1,35 @@
-use Rattle.std.proofs.Common.{◌<◌, length, get_or, refl, sym, ap, ◌∙◌}
-use Rattle.std.proofs.lemmas.List.{get_or-map}
-use Rattle.olr_map.specs.Changes.{tables_map, room_of, CanMake}
-use Rattle.olr_map.specs.declared.change.Change.TheVariants.{TakeNode}
-use Rattle.olr_map.proofs.Looks.{keys-remove}
-use Rattle.olr_map.proofs.Kept.{node_key}
-use Rattle.olr_map.proofs.Making.{in_nodes, take_node_kept}
-use Rattle.olr_map.proofs.Ends.{node_taken}
+use Rattle.std.proofs.Common.{◌≡◌, ◌==◌, ℕ, cond, None, is_some, subst, sym, ap, ◌∙◌}
+use Rattle.olr_map.specs.ByNumbers.{found}
+use Rattle.olr_map.specs.NodeSlots.{slots_of}
+use Rattle.olr_map.proofs.NodeChanges.{take_node_kept, take_node_made, slot_taken}
+use Rattle.olr_map.proofs.Indexing.{entry_of}
 use Rattle.olr_map.proofs.tables.Tables.take_node.Goals as goal
+
+pub take-slot-requires : goal.take-slot-requires
+take-slot-requires c =
+    let t = c.args.self.now in
+    let s = slot_taken t c.args.id c.requires in
+    ap (λ o. is_some o) (ap (found t.index) c.number.ensures.same ∙ s.1)
+
+pub take-requires : goal.take-requires
+take-requires c =
+    let t = c.args.self.now in
+    let here = ap (found t.index) (sym c.number.ensures.same) ∙ c.take-slot.ensures.was in
+    let x = entry_of t.index (slots_of t.nodes) t.kept.indexed c.args.id c.take-slot.result here in
+    ap (λ o. is_some o) x.1
 
 pub invariant_of-self : goal.invariant_of-self
 invariant_of-self c =
     let t = c.args.self.now in
-    let lt : c.args.at < length t.nodes.items = in_nodes t c.args.at c.requires.at in
-    let can : CanMake (tables_map t) (room_of t) (TakeNode (get_or t.nodes.items c.args.at c.remove.result).id) = rw (get_or-map node_key t.nodes.items c.args.at c.remove.result 0 lt) at c.requires.can in
-    record { kept = rw c.remove.ensures.items (take_node_kept t t c.args.at c.remove.result lt can t.kept) }
+    let b' = c.take-slot.new.self in
+    let here = ap (found t.index) (sym c.number.ensures.same) ∙ c.take-slot.ensures.was in
+    let taken = subst (λ (n : ℕ). (k : ℕ) → found b' k ≡ cond (n == k) None (found t.index k)) c.number.ensures.same c.take-slot.ensures.taken in
+    record { kept = take_node_kept t b' c.take.new.self c.take-slot.result c.args.id c.take.result c.take.ensures.goes here taken c.requires }
 
-pub returns-clause-nodes : goal.returns-clause-nodes
-returns-clause-nodes c = rw c.remove.ensures.items (keys-remove node_key c.args.self.now.nodes.items c.args.at (in_nodes c.args.self.now c.args.at c.requires.at))
-
-pub returns-clause-made : goal.returns-clause-made
-returns-clause-made c =
+pub returns : goal.returns
+returns c =
     let t = c.args.self.now in
-    node_taken t _ c.args.at c.remove.result (in_nodes t c.args.at c.requires.at) c.remove.ensures.value c.requires.can c.remove.ensures.items c.remove.ensures.len c.remove.ensures.capacity refl
-
-pub returns-clause-id : goal.returns-clause-id
-returns-clause-id c =
-    let t = c.args.self.now in
-    sym (get_or-map node_key t.nodes.items c.args.at c.remove.result 0 (in_nodes t c.args.at c.requires.at) ∙ ap node_key (sym c.remove.ensures.value))
+    let b' = c.take-slot.new.self in
+    let here = ap (found t.index) (sym c.number.ensures.same) ∙ c.take-slot.ensures.was in
+    let taken = subst (λ (n : ℕ). (k : ℕ) → found b' k ≡ cond (n == k) None (found t.index k)) c.number.ensures.same c.take-slot.ensures.taken in
+    take_node_made t b' c.take.new.self c.take-slot.result c.args.id c.take.result c.take.ensures.goes here taken c.requires _ c.take.ensures.room c.take-slot.ensures.spare

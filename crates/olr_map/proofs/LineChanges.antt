@@ -1,0 +1,406 @@
+-- A line comes, goes and is set.
+use Rattle.std.proofs.Common.{◌≡◌, ◌==◌, ℕ, ◌+◌, ◌-◌, ◌<◌, ◌≤◌, Bool, true, false, cond, Option, Some, None, Ok, refl, sym, ap, ◌∙◌, subst, arith}
+use Rattle.std.specs.Option.{option_map, option_map_or}
+use Rattle.std.specs.List.Sorted.{IsStrictlyIncreasing}
+use Rattle.std.specs.FinMap as finmap
+use Rattle.std.specs.FinMap.{get}
+use Rattle.std.proofs.lemmas.Bool.{eqb-true, eq-eqb}
+use Rattle.olr_spec.specs.Map.{Map, IsMap, Line, has_line, start, end, Add_line, Set_line, Drop_line}
+use Rattle.olr_spec.specs.Extension.{has}
+use Rattle.olr_spec.proofs.EditLemmas.{edits_keep}
+use Rattle.olr_spec.proofs.MapLemmas.{has-lines_where, passes_at}
+use Rattle.olr_map.specs.ByNumbers.{entries_of, found, spare_of, all_of}
+use Rattle.olr_map.specs.Slotted.{at, Turns}
+use Rattle.olr_map.specs.NodeSlots.{slots_of, room_in}
+use Rattle.olr_map.specs.NodeLinks.{links_at, relinked}
+use Rattle.olr_map.specs.Linked.{spare_links, IsLinked, IsUnlinked, IsReset}
+use Rattle.olr_map.specs.Kept.{in_slot, near, far, node_in, links_in, map_from, place_in, end_at, IsListed, IsIndexed, IsKept}
+use Rattle.olr_map.specs.Changes.{tables_map, room_of, spare_at, changed_at, CanMake, made, IsMade}
+use Rattle.olr_map.specs.declared.by_number.ByNumber.{ByNumber}
+use Rattle.olr_map.specs.declared.links.Links.{Links}
+use Rattle.olr_map.specs.declared.read.LineEnd.{LineEnd}
+use Rattle.olr_map.specs.declared.slots.NodeEntry.{NodeEntry}
+use Rattle.olr_map.specs.declared.slots.Slots.{Slots}
+use Rattle.olr_map.specs.declared.slots.Side.{Side}
+use Rattle.olr_map.specs.declared.slots.Side.TheVariants.{Out, In}
+use Rattle.olr_map.specs.declared.tables.Tables.{Tables}
+use Rattle.olr_map.specs.declared.change.Change.TheVariants.{PutLine, SetLine, TakeLine}
+use Rattle.olr_map.proofs.Looks.{map_cond, map_or_cond, got_insert, got_remove, same_answers}
+use Rattle.olr_map.proofs.Lookups.{all_get}
+use Rattle.olr_map.proofs.Indexing.{entry_of, turned_node, turned_indexed}
+use Rattle.olr_map.proofs.Listing.{rises_at, seen, put_here, put_other, take_here, take_other, set_here, set_other}
+use Rattle.olr_map.proofs.Reading.{place_of, got_node, got_line, kept_from, place_is}
+use Rattle.olr_map.proofs.NodeChanges.{each_but}
+use Rattle.olr_map.proofs.Making.{made_ok, accepted_from, le_same, changed_back, changed_here}
+use Rattle.olr_map.proofs.Undoing
+use Rattle.olr_map.proofs.Undoing.{record_of, some_is, none_is}
+
+-- ---- both ends of a line have other lists
+
+pub record Relinked (t : Tables) (nodes' : Slots) (from to : ℕ) (o o' i i' : Links) : Type 0 where
+  pub indexed : IsIndexed t.index (slots_of nodes')
+  pub nodes : (k : ℕ) → option_map place_of (node_in t.index (slots_of nodes') k) ≡ option_map place_of (node_in t.index (slots_of t.nodes) k)
+  pub out_was : links_in Out t.index (slots_of t.nodes) from ≡ Some o
+  pub out_now : (k : ℕ) → links_in Out t.index (slots_of nodes') k ≡ cond (from == k) (Some o') (links_in Out t.index (slots_of t.nodes) k)
+  pub in_was : links_in In t.index (slots_of t.nodes) to ≡ Some i
+  pub in_now : (k : ℕ) → links_in In t.index (slots_of nodes') k ≡ cond (to == k) (Some i') (links_in In t.index (slots_of t.nodes) k)
+
+-- a function of the entries that the change of one leaves
+kept_by : {Y : Type 0} (fn : NodeEntry → Y) (N N' : ℕ → Option NodeEntry) (v : ℕ) (e f : NodeEntry) → N v ≡ Some e → ((k : ℕ) → N' k ≡ cond (v == k) (Some f) (N k)) → fn f ≡ fn e
+    → (k : ℕ) → option_map fn (N' k) ≡ option_map fn (N k)
+kept_by fn N N' v e f was now same k =
+    ap (option_map fn) (now k)
+    ∙ elim (v == k) as (λ c. (v == k) ≡ c → option_map fn (cond c (Some f) (N k)) ≡ option_map fn (N k)) [
+      | true ↦ λ i. ap (λ y. Some y) same ∙ ap (option_map fn) (sym was ∙ ap N (eqb-true v k i))
+      | false ↦ λ i. refl
+    ] refl
+
+module _ (t : Tables) (from p : ℕ) (here : found t.index from ≡ Some p) where
+  pub first_entry : (e : NodeEntry) × (at (slots_of t.nodes) p ≡ Some e)
+  first_entry = entry_of t.index (slots_of t.nodes) t.kept.indexed from p here
+
+  pub first_links : (side : Side) (e : NodeEntry) → at (slots_of t.nodes) p ≡ Some e → links_in side t.index (slots_of t.nodes) from ≡ Some (links_at side e)
+  first_links side e is = ap (option_map (links_at side)) (ap (in_slot (slots_of t.nodes)) here ∙ is)
+
+  module _ (mid : Slots) (e : NodeEntry) (l : Links) (g : Turns (slots_of t.nodes) (slots_of mid) p e (relinked Out e l)) where
+    mid_indexed : IsIndexed t.index (slots_of mid)
+    mid_indexed = turned_indexed t.index (slots_of t.nodes) t.kept.indexed (slots_of mid) p from e (relinked Out e l) g here refl
+
+    mid_node : (k : ℕ) → node_in t.index (slots_of mid) k ≡ cond (from == k) (Some (relinked Out e l)) (node_in t.index (slots_of t.nodes) k)
+    mid_node = turned_node t.index (slots_of t.nodes) t.kept.indexed (slots_of mid) p from e (relinked Out e l) g here refl
+
+    at_from : node_in t.index (slots_of t.nodes) from ≡ Some e
+    at_from = ap (in_slot (slots_of t.nodes)) here ∙ g.was
+
+    module _ (to q : ℕ) (there : found t.index to ≡ Some q) where
+      pub second_entry : (f : NodeEntry) × (at (slots_of mid) q ≡ Some f)
+      second_entry = entry_of t.index (slots_of mid) mid_indexed to q there
+
+      pub second_links : (f : NodeEntry) → at (slots_of mid) q ≡ Some f → links_in In t.index (slots_of t.nodes) to ≡ Some f.ins
+      second_links f is =
+          sym (kept_by (links_at In) (node_in t.index (slots_of t.nodes)) (node_in t.index (slots_of mid)) from e (relinked Out e l) at_from mid_node refl to)
+          ∙ ap (option_map (links_at In)) (ap (in_slot (slots_of mid)) there ∙ is)
+
+      pub both_turned : (nodes' : Slots) (f : NodeEntry) (m : Links) → Turns (slots_of mid) (slots_of nodes') q f (relinked In f m) → Relinked t nodes' from to e.outs l f.ins m
+      both_turned nodes' f m h =
+          let b : ByNumber ℕ = t.index in
+          let node : (k : ℕ) → node_in b (slots_of nodes') k ≡ cond (to == k) (Some (relinked In f m)) (node_in b (slots_of mid) k) =
+          turned_node b (slots_of mid) mid_indexed (slots_of nodes') q to f (relinked In f m) h there refl in
+          let at_to : node_in b (slots_of mid) to ≡ Some f = ap (in_slot (slots_of mid)) there ∙ h.was in
+          record {
+            indexed = turned_indexed b (slots_of mid) mid_indexed (slots_of nodes') q to f (relinked In f m) h there refl;
+            nodes = λ k.
+                kept_by place_of (node_in b (slots_of mid)) (node_in b (slots_of nodes')) to f (relinked In f m) at_to node refl k
+                ∙ kept_by place_of (node_in b (slots_of t.nodes)) (node_in b (slots_of mid)) from e (relinked Out e l) at_from mid_node refl k;
+            out_was = ap (option_map (links_at Out)) at_from;
+            out_now = λ k.
+                kept_by (links_at Out) (node_in b (slots_of mid)) (node_in b (slots_of nodes')) to f (relinked In f m) at_to node refl k
+                ∙ ap (option_map (links_at Out)) (mid_node k) ∙ map_cond (links_at Out) (from == k) (relinked Out e l) (node_in b (slots_of t.nodes) k);
+            in_was = second_links f h.was;
+            in_now = λ k.
+                ap (option_map (links_at In)) (node k) ∙ map_cond (links_at In) (to == k) (relinked In f m) (node_in b (slots_of mid) k)
+                ∙ ap (cond (to == k) (Some m)) (kept_by (links_at In) (node_in b (slots_of t.nodes)) (node_in b (slots_of mid)) from e (relinked Out e l) at_from mid_node refl k);
+          }
+
+-- ---- what a list takes and gives
+
+module _ (t : Tables) (side : Side) (v : ℕ) (o : Links) (was : links_in side t.index (slots_of t.nodes) v ≡ Some o) where
+  pub list_rises : IsStrictlyIncreasing o.lines.items
+  list_rises = subst IsStrictlyIncreasing (sym (t.kept.listed side v o was).numbers) (rises_at side (tables_map t) v)
+
+  pub list_lacks : (x : ℕ) → has_line (tables_map t) x ≡ false → has o.lines.items x ≡ false
+  list_lacks x absent =
+      ap (λ zs. has zs x) (t.kept.listed side v o was).numbers ∙ has-lines_where (tables_map t) (λ l. near side l == v) x
+      ∙ ap (passes_at (λ l. near side l == v)) (none_is (get (tables_map t).lines x) absent)
+
+  pub list_has : (x : ℕ) (l : Line) → get (tables_map t).lines x ≡ Some l → near side l ≡ v → has o.lines.items x ≡ true
+  list_has x l is end' =
+      ap (λ zs. has zs x) (t.kept.listed side v o was).numbers ∙ has-lines_where (tables_map t) (λ l. near side l == v) x
+      ∙ ap (passes_at (λ l. near side l == v)) is ∙ eq-eqb (near side l) v end'
+
+  pub list_spare : spare_at side t v ≡ spare_links o
+  list_spare = ap (λ p. option_map_or (λ l. spare_links l) p 0) was
+
+-- the end that stands in a list
+pub end_is : (side : Side) (b : ByNumber ℕ) (N : Map) (x : ℕ) (l : Line) (q : ℕ) → get N.lines x ≡ Some l → found b (far side l) ≡ Some q
+    → ◌≡◌ {A = LineEnd} (record { node = far side l; place = q; len = l.len }) (end_at side N (place_in b) x)
+end_is side b N x l q is at' =
+    let same : ◌≡◌ {A = LineEnd} (record { node = far side l; place = q; len = l.len }) (seen side (place_in b) l) =
+    λ i. record { node = far side l; place = sym (place_is b (far side l) q at') i; len = l.len } in
+    same ∙ ap (seen side (place_in b)) (sym (record_of N x l is))
+
+start_is : (M : Map) (x : ℕ) (l : Line) → get M.lines x ≡ Some l → start M x ≡ l.from
+start_is M x l e = ap (λ (k : Line). k.from) (record_of M x l e)
+
+finish_is : (M : Map) (x : ℕ) (l : Line) → get M.lines x ≡ Some l → end M x ≡ l.to
+finish_is M x l e = ap (λ (k : Line). k.to) (record_of M x l e)
+
+-- what a change at a line's end leaves, with the end named by the line
+changed_at_end : (f h : ℕ → ℕ) (k v n : ℕ) → k ≡ v → ((u : ℕ) → f u ≤ changed_at v (h v + n) h u) → (u : ℕ) → f u ≤ changed_at k (h k + n) h u
+changed_at_end f h k v n e le u = subst (λ (m : ℕ). f u ≤ changed_at m (h m + n) h u) (sym e) (le u)
+
+module _ (t : Tables) (nodes' : Slots) (lines' : ByNumber Line) (from to : ℕ) (o o' i i' : Links) (r : Relinked t nodes' from to o o' i i') where
+  abbrev b : ByNumber ℕ
+  b = t.index
+
+  abbrev M : Map
+  M = tables_map t
+
+  same_nodes : (map_from b (slots_of nodes') (all_of lines')).nodes ≡ M.nodes
+  same_nodes = same_answers _ _ (λ k. got_node b (slots_of nodes') r.indexed (all_of lines') k ∙ r.nodes k ∙ sym (got_node b (slots_of t.nodes) t.kept.indexed (all_of t.lines) k))
+
+  module _ (kept' : IsKept b (slots_of nodes') (all_of lines')) where
+    abbrev new : Tables
+    new = record { index = b; nodes = nodes'; lines = lines'; kept = kept' }
+
+    outs_now : (k : ℕ) → spare_at Out new k ≡ changed_at from (spare_links o') (spare_at Out t) k
+    outs_now k = ap (λ p. option_map_or (λ l. spare_links l) p 0) (r.out_now k) ∙ map_or_cond (λ l. spare_links l) 0 (from == k) o' (links_in Out b (slots_of t.nodes) k)
+
+    ins_now : (k : ℕ) → spare_at In new k ≡ changed_at to (spare_links i') (spare_at In t) k
+    ins_now k = ap (λ p. option_map_or (λ l. spare_links l) p 0) (r.in_now k) ∙ map_or_cond (λ l. spare_links l) 0 (to == k) i' (links_in In b (slots_of t.nodes) k)
+
+-- ---- a line comes
+
+pub number_free : (t : Tables) (x : ℕ) (l : Line) → CanMake (tables_map t) (room_of t) (PutLine x l) → has_line (tables_map t) x ≡ false
+number_free t x l can = (Undoing.added_line (tables_map t) (made (tables_map t) (PutLine x l)) x l (made_ok (tables_map t) (PutLine x l) can.accepted)).0
+
+module _ (t : Tables) (nodes' : Slots) (lines' : ByNumber Line) (x : ℕ) (l : Line) (p q : ℕ) (o o' i i' : Links) (r : Relinked t nodes' l.from l.to o o' i i')
+    (here : found t.index l.from ≡ Some p) (there : found t.index l.to ≡ Some q)
+    (ko : IsLinked o o' x (record { node = l.to; place = q; len = l.len })) (ki : IsLinked i i' x (record { node = l.from; place = p; len = l.len }))
+    (put : (k : ℕ) → found lines' k ≡ cond (x == k) (Some l) (found t.lines k)) (can : CanMake (tables_map t) (room_of t) (PutLine x l)) where
+  abbrev put_M : Map
+  put_M = tables_map t
+
+  abbrev put_N : Map
+  put_N = record put_M { lines = finmap.insert put_M.lines x l }
+
+  put_says : (has_line put_M x ≡ false) × (put_N ≡ made put_M (PutLine x l))
+  put_says = let s = Undoing.added_line put_M (made put_M (PutLine x l)) x l (made_ok put_M (PutLine x l) can.accepted) in (s.0, s.4)
+
+  put_lines : all_of lines' ≡ finmap.insert put_M.lines x l
+  put_lines = same_answers _ _ (λ k. all_get (entries_of lines') k ∙ put k ∙ ap (cond (x == k) (Some l)) (sym (got_line t k)) ∙ sym (got_insert put_M.lines x l k))
+
+  put_map : map_from t.index (slots_of nodes') (all_of lines') ≡ put_N
+  put_map = λ j. record { nodes = same_nodes t nodes' lines' l.from l.to o o' i i' r j; lines = put_lines j }
+
+  put_now : get put_N.lines x ≡ Some l
+  put_now = got_insert put_M.lines x l x ∙ ap (λ (c : Bool). cond c (Some l) (get put_M.lines x)) (eq-eqb x x refl)
+
+  put_listed : (side : Side) (v : ℕ) (h : Links) → links_in side t.index (slots_of nodes') v ≡ Some h → IsListed side put_N (place_in t.index) v h
+  put_listed Out =
+      each_but (links_in Out t.index (slots_of t.nodes)) (links_in Out t.index (slots_of nodes')) l.from o' (IsListed Out put_M (place_in t.index)) (IsListed Out put_N (place_in t.index)) r.out_now
+      (put_here Out (place_in t.index) put_M x l put_says.0 o o' _ (end_is Out t.index put_N x l q put_now there) (t.kept.listed Out l.from o r.out_was) ko)
+      (λ k h ne old. put_other Out (place_in t.index) put_M x l put_says.0 k h ne old) (t.kept.listed Out)
+  put_listed In =
+      each_but (links_in In t.index (slots_of t.nodes)) (links_in In t.index (slots_of nodes')) l.to i' (IsListed In put_M (place_in t.index)) (IsListed In put_N (place_in t.index)) r.in_now
+      (put_here In (place_in t.index) put_M x l put_says.0 i i' _ (end_is In t.index put_N x l p put_now here) (t.kept.listed In l.to i r.in_was) ki)
+      (λ k h ne old. put_other In (place_in t.index) put_M x l put_says.0 k h ne old) (t.kept.listed In)
+
+  pub put_line_kept : IsKept t.index (slots_of nodes') (all_of lines')
+  put_line_kept =
+      kept_from t.index (slots_of nodes') (all_of lines') r.indexed nodes'.slotted.few
+      (subst IsMap (sym put_map) (edits_keep put_M put_N (Add_line x l) t.kept.sound can.placed (made_ok put_M (PutLine x l) can.accepted ∙ ap (λ (m : Map). Ok m) (sym put_says.1))))
+      (λ side. subst (λ (K : Map). (v : ℕ) (h : Links) → links_in side t.index (slots_of nodes') v ≡ Some h → IsListed side K (place_in t.index) v h) (sym put_map) (put_listed side))
+
+  module _ (kept' : IsKept t.index (slots_of nodes') (all_of lines')) (room : room_in nodes' ≡ room_in t.nodes) (spare : spare_of t.lines ≤ spare_of lines' + 1) where
+    abbrev put_new : Tables
+    put_new = record { index = t.index; nodes = nodes'; lines = lines'; kept = kept' }
+
+    pub put_line_made : IsMade t put_new (PutLine x l) (TakeLine x)
+    put_line_made =
+        let is : tables_map put_new ≡ made put_M (PutLine x l) = put_map ∙ put_says.1 in
+        let back = accepted_from put_M (made put_M (PutLine x l)) (tables_map put_new) (TakeLine x) is (Undoing.undo_add_line put_M (made put_M (PutLine x l)) x l (made_ok put_M (PutLine x l) can.accepted)) in
+        let now : get (tables_map put_new).lines x ≡ Some l = ap (λ (m : Map). get m.lines x) put_map ∙ put_now in
+        let outs = outs_now t nodes' lines' l.from l.to o o' i i' r kept' in
+        let ins = ins_now t nodes' lines' l.from l.to o o' i i' r kept' in
+        let out_was = list_spare t Out l.from o r.out_was in
+        let in_was = list_spare t In l.to i r.in_was in
+        let out_one = ko.room in
+        let in_one = ki.room in
+        let out_new : spare_links o' ≡ spare_at Out t l.from - 1 = omega arith in
+        let in_new : spare_links i' ≡ spare_at In t l.to - 1 = omega arith in
+        let out_after : spare_at Out put_new l.from ≡ spare_links o' = outs l.from ∙ changed_here (spare_at Out t) l.from _ in
+        let in_after : spare_at In put_new l.to ≡ spare_links i' = ins l.to ∙ changed_here (spare_at In t) l.to _ in
+        record {
+          map = is;
+          room = record {
+            nodes = omega arith;
+            outs = λ k. le_same _ _ (ap (λ n. changed_at l.from n (spare_at Out t) k) (sym out_new) ∙ sym (outs k));
+            ins = λ k. le_same _ _ (ap (λ n. changed_at l.to n (spare_at In t) k) (sym in_new) ∙ sym (ins k));
+          };
+          can_back = record { accepted = back.accepted; placed = tt; fits = tt; whole = tt };
+          before = back.before;
+          room_before = record {
+            nodes = omega arith;
+            outs = changed_at_end (spare_at Out t) (spare_at Out put_new) (start (tables_map put_new) x) l.from 1 (start_is (tables_map put_new) x l now)
+                (changed_back (spare_at Out t) (spare_at Out put_new) l.from _ _ outs (omega arith));
+            ins = changed_at_end (spare_at In t) (spare_at In put_new) (end (tables_map put_new) x) l.to 1 (finish_is (tables_map put_new) x l now)
+                (changed_back (spare_at In t) (spare_at In put_new) l.to _ _ ins (omega arith));
+          };
+          node_numbers = omega arith;
+          line_numbers = spare;
+        }
+
+-- ---- a line goes
+
+pub line_taken : (t : Tables) (x : ℕ) → CanMake (tables_map t) (room_of t) (TakeLine x) → has_line (tables_map t) x ≡ true
+line_taken t x can = (Undoing.dropped_line (tables_map t) (made (tables_map t) (TakeLine x)) x (made_ok (tables_map t) (TakeLine x) can.accepted)).0
+
+module _ (t : Tables) (nodes' : Slots) (lines' : ByNumber Line) (x : ℕ) (l : Line) (o o' i i' : Links) (r : Relinked t nodes' l.from l.to o o' i i')
+    (ko : IsUnlinked o o' x) (ki : IsUnlinked i i' x) (was : found t.lines x ≡ Some l)
+    (taken : (k : ℕ) → found lines' k ≡ cond (x == k) None (found t.lines k)) (can : CanMake (tables_map t) (room_of t) (TakeLine x)) where
+  abbrev take_M : Map
+  take_M = tables_map t
+
+  abbrev take_N : Map
+  take_N = record take_M { lines = finmap.remove take_M.lines x }
+
+  take_was : get take_M.lines x ≡ Some l
+  take_was = got_line t x ∙ was
+
+  take_says : take_N ≡ made take_M (TakeLine x)
+  take_says = (Undoing.dropped_line take_M (made take_M (TakeLine x)) x (made_ok take_M (TakeLine x) can.accepted)).1
+
+  take_lines : all_of lines' ≡ finmap.remove take_M.lines x
+  take_lines = same_answers _ _ (λ k. all_get (entries_of lines') k ∙ taken k ∙ ap (cond (x == k) None) (sym (got_line t k)) ∙ sym (got_remove take_M.lines x k))
+
+  take_map : map_from t.index (slots_of nodes') (all_of lines') ≡ take_N
+  take_map = λ j. record { nodes = same_nodes t nodes' lines' l.from l.to o o' i i' r j; lines = take_lines j }
+
+  take_listed : (side : Side) (v : ℕ) (h : Links) → links_in side t.index (slots_of nodes') v ≡ Some h → IsListed side take_N (place_in t.index) v h
+  take_listed Out =
+      each_but (links_in Out t.index (slots_of t.nodes)) (links_in Out t.index (slots_of nodes')) l.from o' (IsListed Out take_M (place_in t.index)) (IsListed Out take_N (place_in t.index)) r.out_now
+      (take_here Out (place_in t.index) take_M x l take_was o o' (t.kept.listed Out l.from o r.out_was) ko)
+      (λ k h ne old. take_other Out (place_in t.index) take_M x l take_was k h ne old) (t.kept.listed Out)
+  take_listed In =
+      each_but (links_in In t.index (slots_of t.nodes)) (links_in In t.index (slots_of nodes')) l.to i' (IsListed In take_M (place_in t.index)) (IsListed In take_N (place_in t.index)) r.in_now
+      (take_here In (place_in t.index) take_M x l take_was i i' (t.kept.listed In l.to i r.in_was) ki)
+      (λ k h ne old. take_other In (place_in t.index) take_M x l take_was k h ne old) (t.kept.listed In)
+
+  pub take_line_kept : IsKept t.index (slots_of nodes') (all_of lines')
+  take_line_kept =
+      kept_from t.index (slots_of nodes') (all_of lines') r.indexed nodes'.slotted.few
+      (subst IsMap (sym take_map) (edits_keep take_M take_N (Drop_line x) t.kept.sound tt (made_ok take_M (TakeLine x) can.accepted ∙ ap (λ (m : Map). Ok m) (sym take_says))))
+      (λ side. subst (λ (K : Map). (v : ℕ) (h : Links) → links_in side t.index (slots_of nodes') v ≡ Some h → IsListed side K (place_in t.index) v h) (sym take_map) (take_listed side))
+
+  module _ (kept' : IsKept t.index (slots_of nodes') (all_of lines')) (room : room_in nodes' ≡ room_in t.nodes) (spare : spare_of t.lines ≤ spare_of lines') where
+    abbrev take_new : Tables
+    take_new = record { index = t.index; nodes = nodes'; lines = lines'; kept = kept' }
+
+    pub take_line_made : IsMade t take_new (TakeLine x) (PutLine x l)
+    take_line_made =
+        let is : tables_map take_new ≡ made take_M (TakeLine x) = take_map ∙ take_says in
+        let back = accepted_from take_M (made take_M (TakeLine x)) (tables_map take_new) (PutLine x l) is (Undoing.undo_drop_line take_M (made take_M (TakeLine x)) x l t.kept.sound take_was (made_ok take_M (TakeLine x) can.accepted)) in
+        let outs = outs_now t nodes' lines' l.from l.to o o' i i' r kept' in
+        let ins = ins_now t nodes' lines' l.from l.to o o' i i' r kept' in
+        let out_was = list_spare t Out l.from o r.out_was in
+        let in_was = list_spare t In l.to i r.in_was in
+        let out_one = ko.room in
+        let in_one = ki.room in
+        let out_new : spare_links o' ≡ spare_at Out t l.from + 1 = omega arith in
+        let in_new : spare_links i' ≡ spare_at In t l.to + 1 = omega arith in
+        let out_after : spare_at Out take_new l.from ≡ spare_links o' = outs l.from ∙ changed_here (spare_at Out t) l.from _ in
+        let in_after : spare_at In take_new l.to ≡ spare_links i' = ins l.to ∙ changed_here (spare_at In t) l.to _ in
+        let out_fits : 0 < spare_at Out take_new l.from = omega arith in
+        let in_fits : 0 < spare_at In take_new l.to = omega arith in
+        record {
+          map = is;
+          room = record {
+            nodes = omega arith;
+            outs = λ k. le_same _ _ (ap (λ v. changed_at v (spare_at Out t v + 1) (spare_at Out t) k) (start_is take_M x l take_was) ∙ ap (λ n. changed_at l.from n (spare_at Out t) k) (sym out_new) ∙ sym (outs k));
+            ins = λ k. le_same _ _ (ap (λ v. changed_at v (spare_at In t v + 1) (spare_at In t) k) (finish_is take_M x l take_was) ∙ ap (λ n. changed_at l.to n (spare_at In t) k) (sym in_new) ∙ sym (ins k));
+          };
+          can_back = record { accepted = back.accepted; placed = Undoing.line_placed take_M t.kept.sound x l take_was; fits = (out_fits, in_fits); whole = tt };
+          before = back.before;
+          room_before = record {
+            nodes = omega arith;
+            outs = changed_back (spare_at Out t) (spare_at Out take_new) l.from _ _ outs (omega arith);
+            ins = changed_back (spare_at In t) (spare_at In take_new) l.to _ _ ins (omega arith);
+          };
+          node_numbers = omega arith;
+          line_numbers = omega arith;
+        }
+
+-- ---- a line is set
+
+pub line_set : (t : Tables) (x : ℕ) (k : Line) → CanMake (tables_map t) (room_of t) (SetLine x k) → has_line (tables_map t) x ≡ true
+line_set t x k can =
+    (Undoing.set_line (tables_map t) (made (tables_map t) (SetLine x k)) x k can.whole.0 can.whole.1 (made_ok (tables_map t) (SetLine x k) can.accepted)).0
+
+module _ (t : Tables) (nodes' : Slots) (lines' : ByNumber Line) (x : ℕ) (k l : Line) (p q : ℕ) (o o' i i' : Links) (r : Relinked t nodes' l.from l.to o o' i i')
+    (here : found t.index k.from ≡ Some p) (there : found t.index k.to ≡ Some q)
+    (ko : IsReset o o' x (record { node = k.to; place = q; len = k.len })) (ki : IsReset i i' x (record { node = k.from; place = p; len = k.len }))
+    (was : found t.lines x ≡ Some l) (put : (n : ℕ) → found lines' n ≡ cond (x == n) (Some k) (found t.lines n)) (can : CanMake (tables_map t) (room_of t) (SetLine x k)) where
+  abbrev set_M : Map
+  set_M = tables_map t
+
+  abbrev set_N : Map
+  set_N = record set_M { lines = finmap.insert set_M.lines x k }
+
+  set_was : get set_M.lines x ≡ Some l
+  set_was = got_line t x ∙ was
+
+  set_from : k.from ≡ l.from
+  set_from = can.whole.0 ∙ start_is set_M x l set_was
+
+  set_to : k.to ≡ l.to
+  set_to = can.whole.1 ∙ finish_is set_M x l set_was
+
+  set_says : set_N ≡ made set_M (SetLine x k)
+  set_says = (Undoing.set_line set_M (made set_M (SetLine x k)) x k can.whole.0 can.whole.1 (made_ok set_M (SetLine x k) can.accepted)).2
+
+  set_lines : all_of lines' ≡ finmap.insert set_M.lines x k
+  set_lines = same_answers _ _ (λ n. all_get (entries_of lines') n ∙ put n ∙ ap (cond (x == n) (Some k)) (sym (got_line t n)) ∙ sym (got_insert set_M.lines x k n))
+
+  set_map : map_from t.index (slots_of nodes') (all_of lines') ≡ set_N
+  set_map = λ j. record { nodes = same_nodes t nodes' lines' l.from l.to o o' i i' r j; lines = set_lines j }
+
+  set_now : get set_N.lines x ≡ Some k
+  set_now = got_insert set_M.lines x k x ∙ ap (λ (c : Bool). cond c (Some k) (get set_M.lines x)) (eq-eqb x x refl)
+
+  set_listed : (side : Side) (v : ℕ) (h : Links) → links_in side t.index (slots_of nodes') v ≡ Some h → IsListed side set_N (place_in t.index) v h
+  set_listed Out =
+      each_but (links_in Out t.index (slots_of t.nodes)) (links_in Out t.index (slots_of nodes')) l.from o' (IsListed Out set_M (place_in t.index)) (IsListed Out set_N (place_in t.index)) r.out_now
+      (set_here Out (place_in t.index) set_M x l set_was k set_from o o' _ (end_is Out t.index set_N x k q set_now there) (t.kept.listed Out l.from o r.out_was) ko)
+      (λ n h ne old. set_other Out (place_in t.index) set_M x l set_was k set_from n h ne old) (t.kept.listed Out)
+  set_listed In =
+      each_but (links_in In t.index (slots_of t.nodes)) (links_in In t.index (slots_of nodes')) l.to i' (IsListed In set_M (place_in t.index)) (IsListed In set_N (place_in t.index)) r.in_now
+      (set_here In (place_in t.index) set_M x l set_was k set_to i i' _ (end_is In t.index set_N x k p set_now here) (t.kept.listed In l.to i r.in_was) ki)
+      (λ n h ne old. set_other In (place_in t.index) set_M x l set_was k set_to n h ne old) (t.kept.listed In)
+
+  pub set_line_kept : IsKept t.index (slots_of nodes') (all_of lines')
+  set_line_kept =
+      kept_from t.index (slots_of nodes') (all_of lines') r.indexed nodes'.slotted.few
+      (subst IsMap (sym set_map) (edits_keep set_M set_N (Set_line x k.frc k.fow k.len k.shape) t.kept.sound can.placed (made_ok set_M (SetLine x k) can.accepted ∙ ap (λ (m : Map). Ok m) (sym set_says))))
+      (λ side. subst (λ (K : Map). (v : ℕ) (h : Links) → links_in side t.index (slots_of nodes') v ≡ Some h → IsListed side K (place_in t.index) v h) (sym set_map) (set_listed side))
+
+  module _ (kept' : IsKept t.index (slots_of nodes') (all_of lines')) (room : room_in nodes' ≡ room_in t.nodes) (spare : spare_of t.lines ≤ spare_of lines') where
+    abbrev set_new : Tables
+    set_new = record { index = t.index; nodes = nodes'; lines = lines'; kept = kept' }
+
+    same_at : (f : ℕ → ℕ) (n m : ℕ) → m ≡ f n → (v : ℕ) → changed_at n m f v ≡ f v
+    same_at f n m e v =
+        elim (n == v) as (λ c. (n == v) ≡ c → cond c m (f v) ≡ f v) [
+          | true ↦ λ j. e ∙ ap f (eqb-true n v j)
+          | false ↦ λ j. refl
+        ] refl
+
+    pub set_line_made : IsMade t set_new (SetLine x k) (SetLine x l)
+    set_line_made =
+        let is : tables_map set_new ≡ made set_M (SetLine x k) = set_map ∙ set_says in
+        let back = accepted_from set_M (made set_M (SetLine x k)) (tables_map set_new) (SetLine x l) is
+        (Undoing.undo_set_line set_M (made set_M (SetLine x k)) x k l t.kept.sound can.whole.0 can.whole.1 set_was (made_ok set_M (SetLine x k) can.accepted)) in
+        let now : get (tables_map set_new).lines x ≡ Some k = ap (λ (m : Map). get m.lines x) set_map ∙ set_now in
+        let from : l.from ≡ start (tables_map set_new) x = sym set_from ∙ sym (start_is (tables_map set_new) x k now) in
+        let to : l.to ≡ end (tables_map set_new) x = sym set_to ∙ sym (finish_is (tables_map set_new) x k now) in
+        let outs : (v : ℕ) → spare_at Out set_new v ≡ spare_at Out t v = λ v. outs_now t nodes' lines' l.from l.to o o' i i' r kept' v ∙ same_at (spare_at Out t) l.from _ (ko.room ∙ sym (list_spare t Out l.from o r.out_was)) v in
+        let ins : (v : ℕ) → spare_at In set_new v ≡ spare_at In t v = λ v. ins_now t nodes' lines' l.from l.to o o' i i' r kept' v ∙ same_at (spare_at In t) l.to _ (ki.room ∙ sym (list_spare t In l.to i r.in_was)) v in
+        record {
+          map = is;
+          room = record { nodes = omega arith; outs = λ v. le_same _ _ (sym (outs v)); ins = λ v. le_same _ _ (sym (ins v)) };
+          can_back = record { accepted = back.accepted; placed = Undoing.line_placed set_M t.kept.sound x l set_was; fits = tt; whole = (from, to) };
+          before = back.before;
+          room_before = record { nodes = omega arith; outs = λ v. le_same _ _ (sym (outs v)); ins = λ v. le_same _ _ (sym (ins v)) };
+          node_numbers = omega arith;
+          line_numbers = omega arith;
+        }

@@ -1,0 +1,339 @@
+-- A node comes, goes and moves.
+use Rattle.std.proofs.Common.{◌≡◌, ◌==◌, ℕ, ◌+◌, ◌<◌, ◌≤◌, Bool, true, false, cond, [], map, Option, Some, None, Ok, IsTrue, unwrap_or, length, refl, sym, ap, ◌∙◌, subst, arith}
+use Rattle.std.specs.Option.{option_map, option_map_or}
+use Rattle.std.specs.FinMap as finmap
+use Rattle.std.specs.FinMap.{FinMap, get}
+use Rattle.std.specs.Ordering.{nat_cmp}
+use Rattle.std.proofs.lemmas.Bool.{eqb-true}
+use Rattle.std.proofs.lemmas.List.{nil_from_length}
+use Rattle.olr_spec.specs.Coordinates.{Coord, is_coord}
+use Rattle.olr_spec.specs.Map.{Map, IsMap, Line, has_node, line_at, no_place, in_use, edited, Add_node, Move_node, Drop_node}
+use Rattle.olr_spec.specs.Extension.{has}
+use Rattle.olr_spec.proofs.EditLemmas.{edits_keep}
+use Rattle.olr_spec.proofs.MapLemmas.{has-lines_where, passes_at}
+use Rattle.olr_map.specs.ByNumbers.{found, spare_of, all_of}
+use Rattle.olr_map.specs.Slotted.{Comes, Goes, Turns}
+use Rattle.olr_map.specs.NodeSlots.{slots_of, room_in}
+use Rattle.olr_map.specs.NodeLinks.{links_at}
+use Rattle.olr_map.specs.Linked.{spare_links}
+use Rattle.olr_map.specs.Kept.{near, far, in_slot, node_in, links_in, map_from, place_in, lines_at, end_at, IsListed, IsIndexed, IsKept}
+use Rattle.olr_map.specs.Changes.{tables_map, room_of, spare_at, changed_at, CanMake, made, IsMade}
+use Rattle.olr_map.specs.declared.by_number.ByNumber.{ByNumber}
+use Rattle.olr_map.specs.declared.links.Links.{Links}
+use Rattle.olr_map.specs.declared.slots.NodeEntry.{NodeEntry}
+use Rattle.olr_map.specs.declared.slots.Slots.{Slots}
+use Rattle.olr_map.specs.declared.slots.Side.{Side}
+use Rattle.olr_map.specs.declared.slots.Side.TheVariants.{Out, In}
+use Rattle.olr_map.specs.declared.tables.Tables.{Tables}
+use Rattle.olr_map.specs.declared.change.Change.TheVariants.{PutNode, MoveNode, TakeNode}
+use Rattle.olr_map.proofs.Looks.{eqb_flip, map_cond, map_or_cond, map_or_none, got_insert, got_remove, same_answers}
+use Rattle.olr_map.proofs.Indexing.{same_some, came_node, came_indexed, gone_node, gone_indexed, turned_node, turned_indexed, id_here}
+use Rattle.olr_map.proofs.LineLists.{absent_outs, absent_ins, unused_outs, unused_ins, unused_fails}
+use Rattle.olr_map.proofs.Listing.{replaced}
+use Rattle.olr_map.proofs.Reading.{place_of, got_node, kept_from, not_found, slot_of, node_read, listed_at}
+use Rattle.olr_map.proofs.Making.{made_ok, accepted_from, le_same, changed_back}
+use Rattle.olr_map.proofs.Undoing
+use Rattle.olr_map.proofs.Undoing.{record_of, some_is, none_is}
+
+-- ---- a line's far end
+
+there_if : (test : Line → Bool) (o : Option Line) → passes_at test o ≡ true → (l : Line) × (o ≡ Some l)
+there_if test None h = absurd cc
+there_if test (Some l) h = (l, refl)
+
+pub line_there : (side : Side) (M : Map) (v y : ℕ) → has (lines_at side M v) y ≡ true → (l : Line) × (get M.lines y ≡ Some l)
+line_there side M v y h = there_if (λ l. near side l == v) (get M.lines y) (sym (has-lines_where M (λ l. near side l == v) y) ∙ h)
+
+far_there : (side : Side) (M : Map) (y : ℕ) (l : Line) → IsMap M → get M.lines y ≡ Some l → has_node M (far side l) ≡ true
+far_there Out M y l sound e = Undoing.line_ends M sound y l e
+far_there In M y l sound e = Undoing.line_starts M sound y l e
+
+far_unused : (side : Side) (M : Map) (v y : ℕ) (l : Line) → in_use M v ≡ false → get M.lines y ≡ Some l → (far side l == v) ≡ false
+far_unused Out M v y l free e = (unused_fails M v y l free e).0
+far_unused In M v y l free e = (unused_fails M v y l free e).1
+
+pub absent_lines : (side : Side) (M : Map) (v : ℕ) → IsMap M → has_node M v ≡ false → [] ≡ lines_at side M v
+absent_lines Out M v sound h = absent_outs M v sound h
+absent_lines In M v sound h = absent_ins M v sound h
+
+other_place : (b b' : ByNumber ℕ) (v u : ℕ) (o : Option ℕ) → ((k : ℕ) → found b' k ≡ cond (v == k) o (found b k)) → (v == u) ≡ false → place_in b u ≡ place_in b' u
+other_place b b' v u o put ne = sym (ap (λ p. unwrap_or p 0) (put u ∙ ap (λ (t : Bool). cond t o (found b u)) ne))
+
+-- what holds of each node's lines, where one node has others
+pub each_but : (L L' : ℕ → Option Links) (n : ℕ) (l : Links) (Q Q' : ℕ → Links → Type 0) → ((k : ℕ) → L' k ≡ cond (n == k) (Some l) (L k)) → Q' n l
+    → ((k : ℕ) (h : Links) → (n == k) ≡ false → Q k h → Q' k h) → ((k : ℕ) (h : Links) → L k ≡ Some h → Q k h) → (k : ℕ) (h : Links) → L' k ≡ Some h → Q' k h
+each_but L L' n l Q Q' now new others old k h e =
+    elim (n == k) as (λ t. (n == k) ≡ t → cond t (Some l) (L k) ≡ Some h → Q' k h) [
+      | true ↦ λ i g. subst (λ (m : ℕ). Q' m h) (eqb-true n k i) (subst (λ (m : Links). Q' n m) (same_some _ _ g) new)
+      | false ↦ λ i g. others k h i (old k h g)
+    ] refl (sym (now k) ∙ e)
+
+empty_ends : (l : Links) → l.lines.items ≡ [] → l.ends.items ≡ []
+empty_ends l e = nil_from_length l.ends.items (l.beside ∙ ap (λ xs. length xs) e)
+
+whole_links : (side : Side) (e : NodeEntry) → (e.outs.lines.items ≡ []) × (e.ins.lines.items ≡ []) → (links_at side e).lines.items ≡ []
+whole_links Out e h = h.0
+whole_links In e h = h.1
+
+mapped_none : (b : Bool) (o : Option NodeEntry) → option_map place_of (cond b None o) ≡ cond b None (option_map place_of o)
+mapped_none true o = refl
+mapped_none false o = refl
+
+linked_cond : (side : Side) (b : Bool) (e : NodeEntry) (o : Option NodeEntry) → option_map (links_at side) (cond b (Some e) o) ≡ cond b (Some (links_at side e)) (option_map (links_at side) o)
+linked_cond side true e o = refl
+linked_cond side false e o = refl
+
+linked_none : (side : Side) (b : Bool) (o : Option NodeEntry) → option_map (links_at side) (cond b None o) ≡ cond b None (option_map (links_at side) o)
+linked_none side true o = refl
+linked_none side false o = refl
+
+-- ---- a node comes
+
+pub free_number : (t : Tables) (e : NodeEntry) → CanMake (tables_map t) (room_of t) (PutNode e) → found t.index e.id ≡ None
+free_number t e can =
+    not_found t.index (slots_of t.nodes) t.kept.indexed (all_of t.lines) e.id
+    (Undoing.added_node (tables_map t) (made (tables_map t) (PutNode e)) e.id e.place (made_ok (tables_map t) (PutNode e) can.accepted)).0
+
+module _ (t : Tables) (b' : ByNumber ℕ) (nodes' : Slots) (p : ℕ) (e : NodeEntry) (c : Comes (slots_of t.nodes) (slots_of nodes') p e)
+    (put : (k : ℕ) → found b' k ≡ cond (e.id == k) (Some p) (found t.index k)) (can : CanMake (tables_map t) (room_of t) (PutNode e)) where
+  abbrev M : Map
+  M = tables_map t
+
+  abbrev N : Map
+  N = record M { nodes = finmap.insert M.nodes e.id e.place }
+
+  abbrev F : FinMap nat_cmp Line
+  F = all_of t.lines
+
+  says : (has_node M e.id ≡ false) × (N ≡ made M (PutNode e))
+  says = Undoing.added_node M (made M (PutNode e)) e.id e.place (made_ok M (PutNode e) can.accepted)
+
+  put_absent : found t.index e.id ≡ None
+  put_absent = free_number t e can
+
+  put_indexed : IsIndexed b' (slots_of nodes')
+  put_indexed = came_indexed t.index (slots_of t.nodes) t.kept.indexed b' (slots_of nodes') p e.id e c refl put_absent put
+
+  put_node : (k : ℕ) → node_in b' (slots_of nodes') k ≡ cond (e.id == k) (Some e) (node_in t.index (slots_of t.nodes) k)
+  put_node = came_node t.index (slots_of t.nodes) t.kept.indexed b' (slots_of nodes') p e.id e c refl put_absent put
+
+  put_links : (side : Side) (k : ℕ) → links_in side b' (slots_of nodes') k ≡ cond (e.id == k) (Some (links_at side e)) (links_in side t.index (slots_of t.nodes) k)
+  put_links side k = ap (option_map (links_at side)) (put_node k) ∙ linked_cond side (e.id == k) e (node_in t.index (slots_of t.nodes) k)
+
+  put_map : map_from b' (slots_of nodes') F ≡ N
+  put_map = ap (λ (ns : FinMap nat_cmp Coord). record M { nodes = ns }) (same_answers _ _ (λ k.
+      got_node b' (slots_of nodes') put_indexed F k ∙ ap (option_map place_of) (put_node k) ∙ map_cond place_of (e.id == k) e (node_in t.index (slots_of t.nodes) k)
+      ∙ ap (cond (e.id == k) (Some e.place)) (sym (got_node t.index (slots_of t.nodes) t.kept.indexed F k)) ∙ sym (got_insert M.nodes e.id e.place k)))
+
+  pub put_node_kept : IsKept b' (slots_of nodes') F
+  put_node_kept =
+      kept_from b' (slots_of nodes') F put_indexed nodes'.slotted.few
+      (subst IsMap (sym put_map) (edits_keep M N (Add_node e.id e.place) t.kept.sound can.placed (made_ok M (PutNode e) can.accepted ∙ ap (λ (m : Map). Ok m) (sym says.1))))
+      (λ side. each_but (links_in side t.index (slots_of t.nodes)) (links_in side b' (slots_of nodes')) e.id (links_at side e)
+      (IsListed side M (place_in t.index)) (IsListed side (map_from b' (slots_of nodes') F) (place_in b')) (put_links side)
+      (fresh side) (others side) (t.kept.listed side)) where
+        fresh : (side : Side) → IsListed side (map_from b' (slots_of nodes') F) (place_in b') e.id (links_at side e)
+        fresh side =
+            let none : (links_at side e).lines.items ≡ [] = whole_links side e can.whole in
+            let absent : [] ≡ lines_at side M e.id = absent_lines side M e.id t.kept.sound says.0 in
+            record { numbers = none ∙ absent; ends = empty_ends (links_at side e) none ∙ ap (map (end_at side (map_from b' (slots_of nodes') F) (place_in b'))) absent }
+
+        others : (side : Side) (k : ℕ) (h : Links) → (e.id == k) ≡ false → IsListed side M (place_in t.index) k h → IsListed side (map_from b' (slots_of nodes') F) (place_in b') k h
+        others side k h ne old =
+            replaced side M (map_from b' (slots_of nodes') F).nodes (place_in t.index) (place_in b') k h (λ y here.
+            let l = line_there side M k y here in
+            let is : far side (line_at M y) ≡ far side l.0 = ap (far side) (record_of M y l.0 l.1) in
+            let there : has_node M (far side (line_at M y)) ≡ true = ap (has_node M) is ∙ far_there side M y l.0 t.kept.sound l.1 in
+            other_place t.index b' e.id (far side (line_at M y)) (Some p) put (eqb_flip e.id (far side (line_at M y)) ∙ Undoing.other_node M (far side (line_at M y)) e.id there says.0)) old
+
+  module _ (kept' : IsKept b' (slots_of nodes') F) (room : room_in t.nodes ≤ room_in nodes' + 1) (spare : spare_of t.index ≤ spare_of b' + 1) where
+    abbrev new : Tables
+    new = record { index = b'; nodes = nodes'; lines = t.lines; kept = kept' }
+
+    outs : (side : Side) (v : ℕ) → spare_at side new v ≡ changed_at e.id (spare_links (links_at side e)) (spare_at side t) v
+    outs side v = ap (λ o. option_map_or (λ l. spare_links l) o 0) (put_links side v) ∙ map_or_cond (λ l. spare_links l) 0 (e.id == v) (links_at side e) (links_in side t.index (slots_of t.nodes) v)
+
+    none_spare : (side : Side) → spare_at side t e.id ≤ 0
+    none_spare side = le_same _ _ (ap (λ o. option_map_or (λ l. spare_links l) (option_map (links_at side) (in_slot (slots_of t.nodes) o)) 0) put_absent)
+
+    pub put_node_made : IsMade t new (PutNode e) (TakeNode e.id)
+    put_node_made =
+        let is : tables_map new ≡ made M (PutNode e) = put_map ∙ says.1 in
+        let back = accepted_from M (made M (PutNode e)) (tables_map new) (TakeNode e.id) is (Undoing.undo_add_node M (made M (PutNode e)) e.id e.place t.kept.sound (made_ok M (PutNode e) can.accepted)) in
+        let fits : 0 < room_in t.nodes = can.fits in
+        record {
+          map = is;
+          room = record { nodes = omega arith; outs = λ v. le_same _ _ (sym (outs Out v)); ins = λ v. le_same _ _ (sym (outs In v)) };
+          can_back = record { accepted = back.accepted; placed = tt; fits = tt; whole = tt };
+          before = back.before;
+          room_before = record {
+            nodes = omega arith;
+            outs = changed_back (spare_at Out t) (spare_at Out new) e.id (spare_links e.outs) 0 (outs Out) (none_spare Out);
+            ins = changed_back (spare_at In t) (spare_at In new) e.id (spare_links e.ins) 0 (outs In) (none_spare In);
+          };
+          node_numbers = spare;
+          line_numbers = omega arith;
+        }
+
+-- ---- a node goes
+
+pub slot_taken : (t : Tables) (v : ℕ) → CanMake (tables_map t) (room_of t) (TakeNode v) → (p : ℕ) × (found t.index v ≡ Some p)
+slot_taken t v can =
+    slot_of t.index (slots_of t.nodes) t.kept.indexed (all_of t.lines) v
+    (Undoing.dropped_node (tables_map t) (made (tables_map t) (TakeNode v)) v (made_ok (tables_map t) (TakeNode v) can.accepted)).0
+
+module _ (t : Tables) (b' : ByNumber ℕ) (nodes' : Slots) (p v : ℕ) (e : NodeEntry) (g : Goes (slots_of t.nodes) (slots_of nodes') p e) (here : found t.index v ≡ Some p)
+    (taken : (k : ℕ) → found b' k ≡ cond (v == k) None (found t.index k)) (can : CanMake (tables_map t) (room_of t) (TakeNode v)) where
+  abbrev go_M : Map
+  go_M = tables_map t
+
+  abbrev go_N : Map
+  go_N = record go_M { nodes = finmap.remove go_M.nodes v }
+
+  abbrev go_F : FinMap nat_cmp Line
+  go_F = all_of t.lines
+
+  go_says : (has_node go_M v ≡ true) × (in_use go_M v ≡ false) × (go_N ≡ made go_M (TakeNode v))
+  go_says = Undoing.dropped_node go_M (made go_M (TakeNode v)) v (made_ok go_M (TakeNode v) can.accepted)
+
+  go_id : e.id ≡ v
+  go_id = id_here t.index (slots_of t.nodes) t.kept.indexed v p e here g.was
+
+  go_indexed : IsIndexed b' (slots_of nodes')
+  go_indexed = gone_indexed t.index (slots_of t.nodes) t.kept.indexed b' (slots_of nodes') p v e g here taken
+
+  go_node : (k : ℕ) → node_in b' (slots_of nodes') k ≡ cond (v == k) None (node_in t.index (slots_of t.nodes) k)
+  go_node = gone_node t.index (slots_of t.nodes) t.kept.indexed b' (slots_of nodes') p v e g here taken
+
+  go_links : (side : Side) (k : ℕ) → links_in side b' (slots_of nodes') k ≡ cond (v == k) None (links_in side t.index (slots_of t.nodes) k)
+  go_links side k = ap (option_map (links_at side)) (go_node k) ∙ linked_none side (v == k) (node_in t.index (slots_of t.nodes) k)
+
+  go_map : map_from b' (slots_of nodes') go_F ≡ go_N
+  go_map = ap (λ (ns : FinMap nat_cmp Coord). record go_M { nodes = ns }) (same_answers _ _ (λ k.
+      got_node b' (slots_of nodes') go_indexed go_F k ∙ ap (option_map place_of) (go_node k) ∙ mapped_none (v == k) (node_in t.index (slots_of t.nodes) k)
+      ∙ ap (cond (v == k) None) (sym (got_node t.index (slots_of t.nodes) t.kept.indexed go_F k)) ∙ sym (got_remove go_M.nodes v k)))
+
+  pub take_node_kept : IsKept b' (slots_of nodes') go_F
+  take_node_kept =
+      kept_from b' (slots_of nodes') go_F go_indexed nodes'.slotted.few
+      (subst IsMap (sym go_map) (edits_keep go_M go_N (Drop_node v) t.kept.sound tt (made_ok go_M (TakeNode v) can.accepted ∙ ap (λ (m : Map). Ok m) (sym go_says.2))))
+      (λ side k h is.
+      elim (v == k) as (λ q. (v == k) ≡ q → cond q None (links_in side t.index (slots_of t.nodes) k) ≡ Some h → IsListed side (map_from b' (slots_of nodes') go_F) (place_in b') k h) [
+        | true ↦ λ i j. absurd cc
+        | false ↦ λ i j.
+            replaced side go_M (map_from b' (slots_of nodes') go_F).nodes (place_in t.index) (place_in b') k h (λ y here'.
+            let l = line_there side go_M k y here' in
+            let is' : far side (line_at go_M y) ≡ far side l.0 = ap (far side) (record_of go_M y l.0 l.1) in
+            other_place t.index b' v (far side (line_at go_M y)) None taken
+            (eqb_flip v (far side (line_at go_M y)) ∙ ap (λ (n : ℕ). n == v) is' ∙ far_unused side go_M v y l.0 go_says.1 l.1)) (t.kept.listed side k h j)
+      ] refl (sym (go_links side k) ∙ is))
+
+  module _ (kept' : IsKept b' (slots_of nodes') go_F) (room : room_in t.nodes + 1 ≤ room_in nodes') (spare : spare_of t.index ≤ spare_of b') where
+    abbrev go_new : Tables
+    go_new = record { index = b'; nodes = nodes'; lines = t.lines; kept = kept' }
+
+    go_outs : (side : Side) (k : ℕ) → spare_at side go_new k ≡ changed_at v 0 (spare_at side t) k
+    go_outs side k = ap (λ o. option_map_or (λ l. spare_links l) o 0) (go_links side k) ∙ map_or_none (λ l. spare_links l) 0 (v == k) (links_in side t.index (slots_of t.nodes) k)
+
+    was_spare : (side : Side) → spare_at side t v ≡ spare_links (links_at side e)
+    was_spare side = ap (λ o. option_map_or (λ l. spare_links l) (option_map (links_at side) (in_slot (slots_of t.nodes) o)) 0) here ∙ ap (λ o. option_map_or (λ l. spare_links l) (option_map (links_at side) o) 0) g.was
+
+    pub take_node_made : IsMade t go_new (TakeNode v) (PutNode e)
+    take_node_made =
+        let is : tables_map go_new ≡ made go_M (TakeNode v) = go_map ∙ go_says.2 in
+        let was : get go_M.nodes v ≡ Some e.place = node_read t v p e here g.was in
+        let undone : edited (made go_M (TakeNode v)) (Add_node e.id e.place) ≡ Ok go_M =
+        subst (λ (n : ℕ). edited (made go_M (TakeNode v)) (Add_node n e.place) ≡ Ok go_M) (sym go_id)
+        (Undoing.undo_drop_node go_M (made go_M (TakeNode v)) v e.place was (made_ok go_M (TakeNode v) can.accepted)) in
+        let back = accepted_from go_M (made go_M (TakeNode v)) (tables_map go_new) (PutNode e) is undone in
+        let placed : IsTrue (is_coord e.place) = subst (λ q. IsTrue (is_coord q)) (ap (λ o. unwrap_or o no_place) was) (t.kept.sound.places v (some_is _ _ was)) in
+        let outs : IsListed Out go_M (place_in t.index) v e.outs = listed_at t Out v p e here g.was in
+        let ins : IsListed In go_M (place_in t.index) v e.ins = listed_at t In v p e here g.was in
+        let fits : 0 < room_in nodes' = omega arith in
+        record {
+          map = is;
+          room = record { nodes = omega arith; outs = λ k. le_same _ _ (sym (go_outs Out k)); ins = λ k. le_same _ _ (sym (go_outs In k)) };
+          can_back = record { accepted = back.accepted; placed = placed; fits = fits; whole = (outs.numbers ∙ unused_outs go_M v go_says.1, ins.numbers ∙ unused_ins go_M v go_says.1) };
+          before = back.before;
+          room_before = record {
+            nodes = omega arith;
+            outs = subst (λ (n : ℕ). (k : ℕ) → spare_at Out t k ≤ changed_at n (spare_links e.outs) (spare_at Out go_new) k) (sym go_id)
+                (changed_back (spare_at Out t) (spare_at Out go_new) v 0 (spare_links e.outs) (go_outs Out) (le_same _ _ (was_spare Out)));
+            ins = subst (λ (n : ℕ). (k : ℕ) → spare_at In t k ≤ changed_at n (spare_links e.ins) (spare_at In go_new) k) (sym go_id)
+                (changed_back (spare_at In t) (spare_at In go_new) v 0 (spare_links e.ins) (go_outs In) (le_same _ _ (was_spare In)));
+          };
+          node_numbers = omega arith;
+          line_numbers = omega arith;
+        }
+
+-- ---- a node moves
+
+links_moved : (side : Side) (e : NodeEntry) (q : Coord) → links_at side (record { id = e.id; place = q; outs = e.outs; ins = e.ins }) ≡ links_at side e
+links_moved Out e q = refl
+links_moved In e q = refl
+
+module _ (t : Tables) (nodes' : Slots) (p v : ℕ) (e : NodeEntry) (q : Coord) (g : Turns (slots_of t.nodes) (slots_of nodes') p e (record { id = e.id; place = q; outs = e.outs; ins = e.ins }))
+    (here : found t.index v ≡ Some p) (can : CanMake (tables_map t) (room_of t) (MoveNode v q)) where
+  abbrev mv_M : Map
+  mv_M = tables_map t
+
+  abbrev mv_N : Map
+  mv_N = record mv_M { nodes = finmap.insert mv_M.nodes v q }
+
+  abbrev mv_F : FinMap nat_cmp Line
+  mv_F = all_of t.lines
+
+  abbrev moved : NodeEntry
+  moved = record { id = e.id; place = q; outs = e.outs; ins = e.ins }
+
+  mv_says : (has_node mv_M v ≡ true) × (mv_N ≡ made mv_M (MoveNode v q))
+  mv_says = Undoing.moved_node mv_M (made mv_M (MoveNode v q)) v q (made_ok mv_M (MoveNode v q) can.accepted)
+
+  mv_indexed : IsIndexed t.index (slots_of nodes')
+  mv_indexed = turned_indexed t.index (slots_of t.nodes) t.kept.indexed (slots_of nodes') p v e moved g here refl
+
+  mv_node : (k : ℕ) → node_in t.index (slots_of nodes') k ≡ cond (v == k) (Some moved) (node_in t.index (slots_of t.nodes) k)
+  mv_node = turned_node t.index (slots_of t.nodes) t.kept.indexed (slots_of nodes') p v e moved g here refl
+
+  mv_links : (side : Side) (k : ℕ) → links_in side t.index (slots_of nodes') k ≡ links_in side t.index (slots_of t.nodes) k
+  mv_links side k =
+      ap (option_map (links_at side)) (mv_node k)
+      ∙ elim (v == k) as (λ c. (v == k) ≡ c → option_map (links_at side) (cond c (Some moved) (node_in t.index (slots_of t.nodes) k)) ≡ links_in side t.index (slots_of t.nodes) k) [
+        | true ↦ λ i.
+            ap (λ l. Some l) (links_moved side e q) ∙ ap (option_map (links_at side)) (sym g.was) ∙ ap (λ o. option_map (links_at side) (in_slot (slots_of t.nodes) o)) (sym here ∙ ap (found t.index) (eqb-true v k i))
+        | false ↦ λ i. refl
+      ] refl
+
+  mv_map : map_from t.index (slots_of nodes') mv_F ≡ mv_N
+  mv_map = ap (λ (ns : FinMap nat_cmp Coord). record mv_M { nodes = ns }) (same_answers _ _ (λ k.
+      got_node t.index (slots_of nodes') mv_indexed mv_F k ∙ ap (option_map place_of) (mv_node k) ∙ map_cond place_of (v == k) moved (node_in t.index (slots_of t.nodes) k)
+      ∙ ap (cond (v == k) (Some q)) (sym (got_node t.index (slots_of t.nodes) t.kept.indexed mv_F k)) ∙ sym (got_insert mv_M.nodes v q k)))
+
+  pub move_node_kept : IsKept t.index (slots_of nodes') mv_F
+  move_node_kept =
+      kept_from t.index (slots_of nodes') mv_F mv_indexed nodes'.slotted.few
+      (subst IsMap (sym mv_map) (edits_keep mv_M mv_N (Move_node v q) t.kept.sound can.placed (made_ok mv_M (MoveNode v q) can.accepted ∙ ap (λ (m : Map). Ok m) (sym mv_says.1))))
+      (λ side k h is. replaced side mv_M (map_from t.index (slots_of nodes') mv_F).nodes (place_in t.index) (place_in t.index) k h (λ y there. refl) (t.kept.listed side k h (sym (mv_links side k) ∙ is)))
+
+  module _ (kept' : IsKept t.index (slots_of nodes') mv_F) (room : room_in nodes' ≡ room_in t.nodes) where
+    abbrev mv_new : Tables
+    mv_new = record { index = t.index; nodes = nodes'; lines = t.lines; kept = kept' }
+
+    mv_outs : (side : Side) (k : ℕ) → spare_at side mv_new k ≡ spare_at side t k
+    mv_outs side k = ap (λ o. option_map_or (λ l. spare_links l) o 0) (mv_links side k)
+
+    pub move_node_made : IsMade t mv_new (MoveNode v q) (MoveNode v e.place)
+    move_node_made =
+        let is : tables_map mv_new ≡ made mv_M (MoveNode v q) = mv_map ∙ mv_says.1 in
+        let was : get mv_M.nodes v ≡ Some e.place = node_read t v p e here g.was in
+        let back = accepted_from mv_M (made mv_M (MoveNode v q)) (tables_map mv_new) (MoveNode v e.place) is (Undoing.undo_move_node mv_M (made mv_M (MoveNode v q)) v q e.place was (made_ok mv_M (MoveNode v q) can.accepted)) in
+        let placed : IsTrue (is_coord e.place) = subst (λ q. IsTrue (is_coord q)) (ap (λ o. unwrap_or o no_place) was) (t.kept.sound.places v (some_is _ _ was)) in
+        record {
+          map = is;
+          room = record { nodes = omega arith; outs = λ k. le_same _ _ (sym (mv_outs Out k)); ins = λ k. le_same _ _ (sym (mv_outs In k)) };
+          can_back = record { accepted = back.accepted; placed = placed; fits = tt; whole = tt };
+          before = back.before;
+          room_before = record { nodes = omega arith; outs = λ k. le_same _ _ (sym (mv_outs Out k)); ins = λ k. le_same _ _ (sym (mv_outs In k)) };
+          node_numbers = omega arith;
+          line_numbers = omega arith;
+        }

@@ -1,0 +1,28 @@
+use Rattle.std.proofs.Common.{is_some, sym, ap, ◌∙◌, map}
+use Rattle.olr_map.specs.ByNumbers.{found}
+use Rattle.olr_map.specs.Ends.{end_in}
+use Rattle.olr_map.specs.Changes.{tables_map}
+use Rattle.olr_map.specs.Kept.{place_in}
+use Rattle.olr_map.specs.NodeSlots.{slots_of}
+use Rattle.olr_map.specs.declared.slots.Side.TheVariants.{In}
+use Rattle.olr_map.proofs.Indexing.{entry_of}
+use Rattle.olr_map.proofs.Reading.{listed_at, no_ins}
+use Rattle.olr_map.proofs.tables.TablesMapRead.in_ends.Goals as goal
+
+pub entry-requires : goal.entry-requires
+entry-requires c =
+    let t = c.args.self.now in
+    let here = ap (found t.index) (sym c.number.ensures.same) ∙ sym c.in-Some.ensures in
+    ap (λ o. is_some o) (entry_of t.index (slots_of t.nodes) t.kept.indexed c.args.id c.in-Some.slot.now here).1
+
+pub returns-in-Some : goal.returns-in-Some
+returns-in-Some c =
+    let t = c.args.self.now in
+    let here = ap (found t.index) (sym c.number.ensures.same) ∙ sym c.in-Some.ensures in
+    c.as_slice.ensures ∙ (listed_at t In c.args.id c.in-Some.slot.now c.entry.result.now here c.entry.ensures).ends
+
+pub returns-in-None : goal.returns-in-None
+returns-in-None c =
+    let t = c.args.self.now in
+    let none = ap (found t.index) (sym c.number.ensures.same) ∙ sym c.in-None.ensures in
+    ap (map (end_in (tables_map t) (place_in t.index))) (no_ins t c.args.id none)

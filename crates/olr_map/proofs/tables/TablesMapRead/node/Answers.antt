@@ -1,0 +1,23 @@
+use Rattle.std.proofs.Common.{is_some, sym, ap, ◌∙◌}
+use Rattle.olr_map.specs.ByNumbers.{found}
+use Rattle.olr_map.specs.NodeSlots.{slots_of}
+use Rattle.olr_map.proofs.Indexing.{entry_of}
+use Rattle.olr_map.proofs.Reading.{node_read, none_read}
+use Rattle.olr_map.proofs.tables.TablesMapRead.node.Goals as goal
+
+pub entry-requires : goal.entry-requires
+entry-requires c =
+    let t = c.args.self.now in
+    let here = ap (found t.index) (sym c.number.ensures.same) ∙ sym c.in-Some.ensures in
+    ap (λ o. is_some o) (entry_of t.index (slots_of t.nodes) t.kept.indexed c.args.id c.in-Some.slot.now here).1
+
+pub returns-in-Some : goal.returns-in-Some
+returns-in-Some c =
+    let t = c.args.self.now in
+    let here = ap (found t.index) (sym c.number.ensures.same) ∙ sym c.in-Some.ensures in
+    sym (node_read t c.args.id c.in-Some.slot.now c.entry.result.now here c.entry.ensures)
+
+pub returns-in-None : goal.returns-in-None
+returns-in-None c =
+    let t = c.args.self.now in
+    sym (none_read t c.args.id (ap (found t.index) (sym c.number.ensures.same) ∙ sym c.in-None.ensures))

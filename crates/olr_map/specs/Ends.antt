@@ -1,0 +1,23 @@
+-- The lines of a node with their far ends and lengths, and where the nodes have their places.
+--     ends_out M place v, ends_in M place v      for each line that leaves v (enters v), in order: the node at its far end, that node's place, and its length
+--     ArePlaces M place count      the nodes have places apart, each below the count
+use Rattle.std.specs.Prelude.{◌≡◌, ℕ, ◌<◌, ◌≤◌, ◌^◌, List, map, IsTrue}
+use Rattle.olr_spec.specs.Map.{Map, has_node, start, end, dm, lines_in, lines_out}
+use Rattle.olr_map.specs.declared.read.LineEnd.{LineEnd}
+
+abbrev pub end_out : Map → (ℕ → ℕ) → ℕ → LineEnd
+end_out M place x = record { node = end M x; place = place (end M x); len = dm M x }
+
+abbrev pub end_in : Map → (ℕ → ℕ) → ℕ → LineEnd
+end_in M place x = record { node = start M x; place = place (start M x); len = dm M x }
+
+abbrev pub ends_out : Map → (ℕ → ℕ) → ℕ → List LineEnd
+ends_out M place v = map (end_out M place) (lines_out M v)
+
+abbrev pub ends_in : Map → (ℕ → ℕ) → ℕ → List LineEnd
+ends_in M place v = map (end_in M place) (lines_in M v)
+
+pub record ArePlaces (M : Map) (place : ℕ → ℕ) (count : ℕ) : Type 0 where
+  pub below : (v : ℕ) → IsTrue (has_node M v) → place v < count
+  pub apart : (v w : ℕ) → IsTrue (has_node M v) → IsTrue (has_node M w) → place v ≡ place w → v ≡ w
+  pub few : count ≤ 2 ^ 32

@@ -1,0 +1,41 @@
+-- What an edit touches on a map that takes it, as one value.
+--     lines_of j, changes_told j      its line, and that line as a changed one
+--     IsJudged M place e j      the map takes edit e, and j tells what it touches: nodes with their places, and a line with how it changes
+--     AreSlots b M at e, AreEnds M nodes e      at: the slots of the nodes of e that are there before it;  nodes: the ends of the line that e sets
+use Rattle.std.specs.Prelude.{◌≡◌, ◌==◌, ◌||◌, ℕ, List, map, Some, IsTrue, IsOk, ⊤}
+use Rattle.std.specs.Option.{option_to_list}
+use Rattle.olr_spec.specs.Map as maps
+use Rattle.olr_spec.specs.Map.{Map, has_node, start, end, edited, touched_nodes, touched_lines}
+use Rattle.olr_spec.specs.Extension.{has}
+use Rattle.olr_spec.specs.Detours.{ChangedLine, changes_of}
+use Rattle.olr_spec.specs.Laws.{HasPlace}
+use Rattle.olr_map.specs.ByNumbers.{found}
+use Rattle.olr_map.specs.declared.by_number.ByNumber.{ByNumber}
+use Rattle.olr_map.specs.declared.judging.Judged.{Judged}
+
+abbrev pub lines_of : Judged → List ℕ
+lines_of j = option_to_list j.line
+
+abbrev pub changes_told : Judged → List ChangedLine
+changes_told j = map (λ _. record { from = j.nodes.0; to = j.nodes.1; len = j.len }) (option_to_list j.line)
+
+pub record IsJudged (M : Map) (place : ℕ → ℕ) (e : maps.Edit) (j : Judged) : Type 0 where
+  pub accepted : IsOk (edited M e)
+  pub placed : HasPlace e
+  pub nodes : (v : ℕ) → has (touched_nodes M e) v ≡ ((j.nodes.0 == v) || (j.nodes.1 == v))
+  pub lines : lines_of j ≡ touched_lines e
+  pub changes : changes_told j ≡ changes_of M e
+  pub first : IsTrue (has_node M j.nodes.0) → place j.nodes.0 ≡ j.places.0
+  pub second : IsTrue (has_node M j.nodes.1) → place j.nodes.1 ≡ j.places.1
+
+abbrev pub AreSlots : ByNumber ℕ → Map → ℕ × ℕ → maps.Edit → Type 0
+AreSlots b M at (maps.Move_node v c) = found b v ≡ Some at.0
+AreSlots b M at (maps.Add_line x l) = (found b l.from ≡ Some at.0) × (found b l.to ≡ Some at.1)
+AreSlots b M at (maps.Set_line x frc fow len shape) = (found b (start M x) ≡ Some at.0) × (found b (end M x) ≡ Some at.1)
+AreSlots b M at (maps.Drop_line x) = (found b (start M x) ≡ Some at.0) × (found b (end M x) ≡ Some at.1)
+AreSlots b M at _ = ⊤
+
+-- the ends of the line that e sets
+abbrev pub AreEnds : Map → ℕ × ℕ → maps.Edit → Type 0
+AreEnds M nodes (maps.Set_line x frc fow len shape) = (nodes.0 ≡ start M x) × (nodes.1 ≡ end M x)
+AreEnds M nodes _ = ⊤

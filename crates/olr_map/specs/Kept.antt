@@ -1,0 +1,88 @@
+-- The tables of a map: slots by node number, the nodes' entries by slot, the lines by number; and what is kept of them.
+--     node_in b es v      the entry of node v;  links_in side b es v      its lines on one side
+--     map_from b es F      the map
+--     place_in b v      the slot of node v
+--     IsKept b es F      the map is sound, numbers and slots name one another, and each node has the lists of its lines
+use Rattle.std.specs.Prelude.{◌≡◌, ◌==◌, ℕ, List, map, Option, Some, None, unwrap_or, length, refl}
+use Rattle.std.specs.Option.{option_map, option_map_or}
+use Rattle.std.specs.Coded.{Coded, code_by, coded×, coded_ℕ, coded_list, coded_option, Coded-set, le_prop}
+use Rattle.std.specs.FinMap.{FinMap, from_entries}
+use Rattle.std.specs.Ordering.{nat_cmp}
+use Rattle.std.proofs.Props.{props}
+use Rattle.olr_spec.specs.Coordinates.{Coord}
+use Rattle.olr_spec.specs.Map.{Map, Line, IsMap, lines_where, line_at, dm, no_place}
+use Rattle.olr_map.specs.ByNumbers.{entries_of, found}
+use Rattle.olr_map.specs.Ends.{ArePlaces}
+use Rattle.olr_map.specs.Slotted.{at}
+use Rattle.olr_map.specs.NodeLinks.{links_at}
+use Rattle.olr_map.specs.declared.by_number.ByNumber.{ByNumber}
+use Rattle.olr_map.specs.declared.links.Links.{Links}
+use Rattle.olr_map.specs.declared.read.LineEnd.{LineEnd}
+use Rattle.olr_map.specs.declared.slots.NodeEntry.{NodeEntry}
+use Rattle.olr_map.specs.declared.slots.Side.{Side}
+use Rattle.olr_map.specs.declared.slots.Side.TheVariants.{Out, In}
+
+-- what stands in the slot, if there is one
+abbrev pub in_slot : List (Option NodeEntry) → Option ℕ → Option NodeEntry
+in_slot es None = None
+in_slot es (Some p) = at es p
+
+abbrev pub node_in : ByNumber ℕ → List (Option NodeEntry) → ℕ → Option NodeEntry
+node_in b es v = in_slot es (found b v)
+
+abbrev pub links_in : Side → ByNumber ℕ → List (Option NodeEntry) → ℕ → Option Links
+links_in side b es v = option_map (links_at side) (node_in b es v)
+
+abbrev pub coord_in : List (Option NodeEntry) → ℕ → Coord
+coord_in es p = option_map_or (λ (e : NodeEntry). e.place) (at es p) no_place
+
+abbrev pub map_from : ByNumber ℕ → List (Option NodeEntry) → FinMap nat_cmp Line → Map
+map_from b es F = record { nodes = from_entries (map (λ (e : ℕ × ℕ). (e.0, coord_in es e.1)) (entries_of b)); lines = F }
+
+abbrev pub place_in : ByNumber ℕ → ℕ → ℕ
+place_in b v = unwrap_or (found b v) 0
+
+-- the end of a line on one side of a node: this one, and the far one
+abbrev pub near : Side → Line → ℕ
+near Out l = l.from
+near In l = l.to
+
+abbrev pub far : Side → Line → ℕ
+far Out l = l.to
+far In l = l.from
+
+abbrev pub lines_at : Side → Map → ℕ → List ℕ
+lines_at side M v = lines_where M (λ l. near side l == v)
+
+abbrev pub end_at : Side → Map → (ℕ → ℕ) → ℕ → LineEnd
+end_at side M place x = record { node = far side (line_at M x); place = place (far side (line_at M x)); len = dm M x }
+
+pub record IsListed (side : Side) (M : Map) (place : ℕ → ℕ) (v : ℕ) (l : Links) : Type 0 where
+  pub numbers : l.lines.items ≡ lines_at side M v
+  pub ends : l.ends.items ≡ map (end_at side M place) (lines_at side M v)
+
+-- each node's slot has its entry, and the other way round
+pub record IsIndexed (b : ByNumber ℕ) (es : List (Option NodeEntry)) : Type 0 where
+  pub stands : (v p : ℕ) → found b v ≡ Some p → option_map (λ (e : NodeEntry). e.id) (at es p) ≡ Some v
+  pub named : (v p : ℕ) → option_map (λ (e : NodeEntry). e.id) (at es p) ≡ Some v → found b v ≡ Some p
+
+pub record IsKept (b : ByNumber ℕ) (es : List (Option NodeEntry)) (F : FinMap nat_cmp Line) : Type 0 where
+  pub sound : IsMap (map_from b es F)
+  pub indexed : IsIndexed b es
+  pub placed : ArePlaces (map_from b es F) (place_in b) (length es)
+  pub listed : (side : Side) (v : ℕ) (l : Links) → links_in side b es v ≡ Some l → IsListed side (map_from b es F) (place_in b) v l
+
+coded_end : Coded LineEnd
+coded_end = code_by (ℕ × (ℕ × ℕ)) (coded× coded_ℕ (coded× coded_ℕ coded_ℕ)) (λ e. (e.node, (e.place, e.len))) (λ p. record { node = p.0; place = p.1.0; len = p.1.1 }) (λ _. refl)
+
+IsListed-prop : (side : Side) (M : Map) (place : ℕ → ℕ) (v : ℕ) (l : Links) → IsProp (IsListed side M place v l)
+IsListed-prop side M place v l = hlevel (props, Coded-set (coded_list coded_ℕ), Coded-set (coded_list coded_end))
+
+IsIndexed-prop : (b : ByNumber ℕ) (es : List (Option NodeEntry)) → IsProp (IsIndexed b es)
+IsIndexed-prop b es = hlevel (props, Coded-set (coded_option coded_ℕ))
+
+ArePlaces-prop : (M : Map) (place : ℕ → ℕ) (count : ℕ) → IsProp (ArePlaces M place count)
+ArePlaces-prop M place count = hlevel (props, le_prop, Coded-set coded_ℕ)
+
+pub IsKept-prop : (b : ByNumber ℕ) (es : List (Option NodeEntry)) (F : FinMap nat_cmp Line) → IsProp (IsKept b es F)
+IsKept-prop b es F = hlevel (props, IsIndexed-prop, IsListed-prop, ArePlaces-prop)

@@ -1,0 +1,42 @@
+-- Things in slots, some of which are free.
+--     present es      the things, in the slots' order
+--     at es p      what slot p holds
+--     IsSlotted es free room      the free slots are listed, each once, and there is room to list them all
+use Rattle.std.specs.Prelude.{◌≡◌, ◌≢◌, ℕ, ◌+◌, ◌<◌, ◌≤◌, ◌^◌, List, [], ◌∷◌, Option, Some, None, length, slice_index, slice_index_or, cond, ◌==◌, IsNone}
+use Rattle.std.specs.Coded.{Coded-set, coded_ℕ, le_prop}
+use Rattle.std.proofs.Props.{props}
+
+module _ {X : Type 0} where
+  abbrev pub present : List (Option X) → List X
+  present [] = []
+  present (None ∷ es) = present es
+  present (Some e ∷ es) = e ∷ present es
+
+  abbrev pub at : List (Option X) → ℕ → Option X
+  at es p = slice_index_or es p None
+
+  pub record IsSlotted (es : List (Option X)) (free : List ℕ) (room : ℕ) : Type 0 where
+    pub counted : length (present es) + length free ≡ length es
+    pub inside : (i : ℕ) → i < length free → slice_index free i < length es
+    pub vacant : (i : ℕ) → i < length free → IsNone (at es (slice_index free i))
+    pub apart : (i j : ℕ) → i < j → j < length free → slice_index free i ≢ slice_index free j
+    pub roomy : length es ≤ room
+    pub few : length es ≤ 2 ^ 32
+
+  pub IsSlotted-prop : (es : List (Option X)) (free : List ℕ) (room : ℕ) → IsProp (IsSlotted es free room)
+  IsSlotted-prop es free room = hlevel (props, Coded-set coded_ℕ, le_prop)
+
+  -- slot p, which was free, holds e, and the others what they held
+  pub record Comes (old new : List (Option X)) (p : ℕ) (e : X) : Type 0 where
+    pub was : at old p ≡ None
+    pub now : (q : ℕ) → at new q ≡ cond (p == q) (Some e) (at old q)
+
+  -- slot p, which held e, is free
+  pub record Goes (old new : List (Option X)) (p : ℕ) (e : X) : Type 0 where
+    pub was : at old p ≡ Some e
+    pub now : (q : ℕ) → at new q ≡ cond (p == q) None (at old q)
+
+  -- slot p, which held e, holds f
+  pub record Turns (old new : List (Option X)) (p : ℕ) (e f : X) : Type 0 where
+    pub was : at old p ≡ Some e
+    pub now : (q : ℕ) → at new q ≡ cond (p == q) (Some f) (at old q)

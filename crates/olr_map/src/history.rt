@@ -1,0 +1,261 @@
+//! Edits of the tables of a map, and what takes them back.
+
+use crate::change::Change;
+use crate::edit::{Edit, EditFault};
+use crate::ids::NodeId;
+use crate::judging::{Judged, judge};
+use crate::line::Line;
+use crate::links::Links;
+use crate::slots::{NodeEntry, Side};
+use crate::tables::Tables;
+use crate::undo::{Undo, UndoLog};
+use std::alloc::AllocError;
+
+impl Tables {
+    ghost use Rattle.std.specs.Prelude.{◌≡◌, ◌↔◌, ◌+◌, ◌≤◌, IsOk, IfOk, OnOk, OnErr, Ok, Err};
+    ghost use Rattle.olr_spec.specs.Map.{MapFault, edited};
+    ghost use Rattle.olr_map.specs.ByNumbers.{spare_of};
+    ghost use Rattle.olr_map.specs.Kept.{place_in};
+    ghost use Rattle.olr_map.specs.Judgements.{IsJudged, AreEnds, AreSlots};
+    ghost use Rattle.olr_map.specs.Edits.{edit_of, fault_of};
+    ghost use Rattle.olr_map.specs.Changes.{tables_map, room_of, change_edit, node_puts, line_puts, node_numbers, line_numbers, HasRoom, HasNumbers, IsWhole, IsWithin, CanMake, IsMade, made, room_after};
+    ghost use Rattle.olr_map.specs.Undos.{changes_of, CanUndoIn, undone_in, CanUndoAllIn, before_in};
+
+    /// The slots of the nodes that a change touches and that are there before it.
+    fn slots_for(&self, change: &Change) -> (u32, u32)
+        requires { IsOk (edited (tables_map self.now) (change_edit change.now)) }
+        ensures { AreSlots self.now.index (tables_map self.now) result (change_edit change.now) }
+    {
+        match change {
+            Change::MoveNode(id, _) => {
+                let slot = self.slot(*id);
+                (slot, slot)
+            }
+            Change::PutLine(_, line) => (self.slot(line.from), self.slot(line.to)),
+            Change::SetLine(id, _) | Change::TakeLine(id) => self.end_slots(*id),
+            Change::PutNode(_) | Change::TakeNode(_) => (0, 0),
+        }
+    }
+
+    /// Makes a change at these slots, and tells the one that takes it back.
+    fn make_change(&mut self, change: Change, slots: (u32, u32)) -> Change
+        requires can { CanMake (tables_map self.old) (room_of self.old) change }
+        requires slots { AreSlots self.old.index (tables_map self.old) slots (change_edit change) }
+        requires numbers { HasNumbers self.old (node_puts change) (line_puts change) }
+        ensures made { IsMade self.old self.new change result }
+        ensures nodes { node_puts change + node_puts result ≡ node_numbers (change_edit change) }
+        ensures lines { line_puts change + line_puts result ≡ line_numbers (change_edit change) }
+    {
+        match change {
+            Change::PutNode(entry) => {
+                let id = entry.id;
+                self.put_node(entry);
+                Change::TakeNode(id)
+            }
+            Change::MoveNode(id, place) => {
+                Change::MoveNode(id, self.move_node(id, place, slots.0))
+            }
+            Change::TakeNode(id) => Change::PutNode(self.take_node(id)),
+            Change::PutLine(id, line) => {
+                self.put_line(id, line, slots.0, slots.1);
+                Change::TakeLine(id)
+            }
+            Change::SetLine(id, line) => {
+                Change::SetLine(id, self.set_line(id, line, slots.0, slots.1))
+            }
+            Change::TakeLine(id) => Change::PutLine(id, self.take_line(id, slots.0, slots.1)),
+        }
+    }
+
+    /// Makes a change that takes an edit back, and lets go what the edit brought.
+    fn take_back(&mut self, change: Change)
+        requires can { CanMake (tables_map self.old) (room_of self.old) change }
+        requires numbers { HasNumbers self.old (node_puts change) (line_puts change) }
+        ensures map { tables_map self.new ≡ made (tables_map self.old) change }
+        ensures room { IsWithin (room_after (tables_map self.old) (room_of self.old) change) (room_of self.new) }
+        ensures nodes { spare_of self.old.index ≤ spare_of self.new.index + node_puts change }
+        ensures lines { spare_of self.old.lines ≤ spare_of self.new.lines + line_puts change }
+    {
+        let slots = self.slots_for(&change);
+        let _ = self.make_change(change, slots);
+    }
+
+    /// Makes room for what an edit brings at these slots, and for what takes it back, beside so many numbers of nodes
+    /// and of lines that others may want to put back.
+    fn make_room(
+        &mut self,
+        edit: &Edit,
+        slots: (u32, u32),
+        nodes: usize,
+        lines: usize,
+    ) -> Result<(), AllocError>
+        requires slots { AreSlots self.old.index (tables_map self.old) slots (edit_of edit.now) }
+        requires numbers { HasNumbers self.old nodes lines }
+        ensures same { tables_map self.new ≡ tables_map self.old }
+        ensures more { IsWithin (room_of self.old) (room_of self.new) }
+        ensures kept { HasNumbers self.new nodes lines }
+        ensures slots { AreSlots self.new.index (tables_map self.new) slots (edit_of edit.now) }
+        ensures room { OnOk result (HasRoom (room_of self.new) (edit_of edit.now)) }
+        ensures numbers { OnOk result (HasNumbers self.new (nodes + node_numbers (edit_of edit.now))
+            (lines + line_numbers (edit_of edit.now))) }
+    {
+        match edit {
+            Edit::AddNode(..) => {
+                self.reserve_nodes(nodes)?;
+                self.reserve_slot()
+            }
+            Edit::DropNode(_) => self.reserve_nodes(nodes),
+            Edit::AddLine(..) => {
+                self.reserve_lines(lines)?;
+                self.reserve_link(Side::Out, slots.0)?;
+                self.reserve_link(Side::In, slots.1)
+            }
+            Edit::DropLine(_) => self.reserve_lines(lines),
+            Edit::MoveNode(..) | Edit::SetLine { .. } => Ok(()),
+        }
+    }
+
+    /// The change that makes an edit of a line between these nodes, or of a node.
+    fn change_for(&self, edit: Edit, nodes: (NodeId, NodeId)) -> Change
+        requires { AreEnds (tables_map self.now) nodes (edit_of edit) }
+        ensures same { change_edit result ≡ edit_of edit }
+        ensures whole { IsWhole (tables_map self.now) result }
+    {
+        match edit {
+            Edit::AddNode(id, place) => {
+                let alloc = *self.nodes.entries.allocator();
+                Change::PutNode(NodeEntry {
+                    id,
+                    place,
+                    outs: Links::new(alloc),
+                    ins: Links::new(alloc),
+                })
+            }
+            Edit::MoveNode(id, place) => Change::MoveNode(id, place),
+            Edit::DropNode(id) => Change::TakeNode(id),
+            Edit::AddLine(id, line) => Change::PutLine(id, line),
+            Edit::SetLine {
+                id,
+                frc,
+                fow,
+                len,
+                shape,
+            } => {
+                let (from, to) = nodes;
+                Change::SetLine(
+                    id,
+                    Line {
+                        from,
+                        to,
+                        frc,
+                        fow,
+                        len,
+                        shape,
+                    },
+                )
+            }
+            Edit::DropLine(id) => Change::TakeLine(id),
+        }
+    }
+
+    /// Makes an edit, and gives what takes it back.
+    pub fn apply(&mut self, edit: Edit) -> Result<Undo, EditFault>
+        ensures refused { (f : MapFault) → (result ≡ Err (fault_of f))
+            ↔ (edited (tables_map self.old) (edit_of edit) ≡ Err f) }
+        ensures done { OnOk result (edited (tables_map self.old) (edit_of edit) ≡ Ok (tables_map self.new)) }
+        ensures same { OnErr result (tables_map self.new ≡ tables_map self.old) }
+        ensures can_undo { IfOk result (CanUndoIn self.new) }
+        ensures before { IfOk result (λ undo. undone_in self.new undo ≡ tables_map self.old) }
+    {
+        match judge(self, &edit) {
+            Ok(judged) => match self.make(edit, &judged) {
+                Ok(undo) => Ok(undo),
+                Err(_) => Err(EditFault::Memory),
+            },
+            Err(fault) => Err(fault),
+        }
+    }
+
+    /// Makes an edit that was judged on this map, and gives what takes it back.
+    pub fn make(&mut self, edit: Edit, judged: &Judged) -> Result<Undo, AllocError>
+        requires { IsJudged (tables_map self.old) (place_in self.old.index) (edit_of edit) judged.now }
+        ensures done { OnOk result (edited (tables_map self.old) (edit_of edit) ≡ Ok (tables_map self.new)) }
+        ensures same { OnErr result (tables_map self.new ≡ tables_map self.old) }
+        ensures can_undo { IfOk result (CanUndoIn self.new) }
+        ensures before { IfOk result (λ undo. undone_in self.new undo ≡ tables_map self.old) }
+    {
+        self.make_room(&edit, judged.places, 0, 0)?;
+        let change = self.change_for(edit, judged.nodes);
+        Ok(Undo {
+            change: self.make_change(change, judged.places),
+        })
+    }
+
+    /// Takes an edit back: the map is as it was before. Takes no memory.
+    pub fn undo(&mut self, undo: Undo)
+        requires { CanUndoIn self.old undo }
+        ensures { tables_map self.new ≡ undone_in self.old undo }
+    {
+        let Undo { change } = undo;
+        self.take_back(change);
+    }
+
+    /// Makes an edit, and adds what takes it back to a log.
+    pub fn apply_into(&mut self, edit: Edit, log: &mut UndoLog) -> Result<(), EditFault>
+        requires { CanUndoAllIn self.old log.old }
+        ensures refused { (f : MapFault) → (result ≡ Err (fault_of f))
+            ↔ (edited (tables_map self.old) (edit_of edit) ≡ Err f) }
+        ensures done { OnOk result (edited (tables_map self.old) (edit_of edit) ≡ Ok (tables_map self.new)) }
+        ensures same { OnErr result (tables_map self.new ≡ tables_map self.old) }
+        ensures same_log { OnErr result (changes_of log.new ≡ changes_of log.old) }
+        ensures can_undo { CanUndoAllIn self.new log.new }
+        ensures before { before_in self.new log.new ≡ before_in self.old log.old }
+    {
+        match judge(self, &edit) {
+            Ok(judged) => match self.make_into(edit, &judged, log) {
+                Ok(()) => Ok(()),
+                Err(_) => Err(EditFault::Memory),
+            },
+            Err(fault) => Err(fault),
+        }
+    }
+
+    /// Makes an edit that was judged on this map, and adds what takes it back to a log.
+    pub fn make_into(
+        &mut self,
+        edit: Edit,
+        judged: &Judged,
+        log: &mut UndoLog,
+    ) -> Result<(), AllocError>
+        requires judged { IsJudged (tables_map self.old) (place_in self.old.index) (edit_of edit) judged.now }
+        requires log { CanUndoAllIn self.old log.old }
+        ensures done { OnOk result (edited (tables_map self.old) (edit_of edit) ≡ Ok (tables_map self.new)) }
+        ensures same { OnErr result (tables_map self.new ≡ tables_map self.old) }
+        ensures same_log { OnErr result (changes_of log.new ≡ changes_of log.old) }
+        ensures can_undo { CanUndoAllIn self.new log.new }
+        ensures before { before_in self.new log.new ≡ before_in self.old log.old }
+    {
+        log.reserve()?;
+        self.make_room(&edit, judged.places, log.nodes, log.lines)?;
+        let change = self.change_for(edit, judged.nodes);
+        let back = self.make_change(change, judged.places);
+        log.push(back);
+        Ok(())
+    }
+
+    /// Takes all edits of a log back, the last one first: the map is as it was before the first. Takes no memory.
+    pub fn undo_all(&mut self, log: UndoLog)
+        requires { CanUndoAllIn self.old log }
+        ensures { tables_map self.new ≡ before_in self.old log }
+    {
+        let UndoLog {
+            changes,
+            nodes: _,
+            lines: _,
+        } = log;
+        let mut changes = changes;
+        while let Some(change) = changes.pop() {
+            self.take_back(change);
+        }
+    }
+}

@@ -1,0 +1,184 @@
+//! Why a map refuses an edit, or what the edit touches, for every map that can be read.
+ghost use Rattle.std.specs.Prelude.{◌≡◌, Some, Err, IsOk, IfOk, MatchResult};
+ghost use Rattle.std.specs.FinMap.{get};
+ghost use Rattle.olr_spec.specs.Map.{edited, Add_node, Move_node, Drop_node, Add_line, Set_line, Drop_line};
+ghost use Rattle.olr_map.specs.Edits.{edit_of, fault_of};
+ghost use Rattle.olr_map.specs.Judgements.{IsJudged};
+
+use crate::edit::{Edit, EditFault};
+use crate::ids::{LineId, NodeId};
+use crate::line::{Line, Shape, has_good_fields};
+use crate::read::MapRead;
+use olr_coords::Coord;
+
+/// What an edit touches on a map that takes it.
+#[derive(Clone, Copy, Debug, PartialEq, Eq)]
+pub struct Judged {
+    /// The nodes: both ends of the line, or one node twice.
+    pub nodes: (NodeId, NodeId),
+    /// Where these have their places in the map, see `MapRead::place_of`; 0 for a node that comes.
+    pub places: (u32, u32),
+    /// The line. None where a node alone is touched.
+    pub line: Option<LineId>,
+    /// The lesser of the line's lengths before and after, in decimetres: its length, where it comes or goes. 0 where
+    /// no line is touched.
+    pub len: u32,
+}
+
+/// The first fault of the edit on this map, want of memory aside, or what the edit touches.
+pub fn judge<M: MapRead>(map: &M, edit: &Edit) -> Result<Judged, EditFault>
+    ensures fault { MatchResult (edited (M.map map.now) (edit_of edit.now))
+        (λ _. IsOk result) (λ f. result ≡ Err (fault_of f)) }
+    ensures judged { IfOk result (IsJudged (M.map map.now) (M.place_in map.now) (edit_of edit.now)) }
+{
+    match edit {
+        Edit::AddNode(id, place) => judge_node_added(map, *id, *place),
+        Edit::MoveNode(id, place) => judge_node_moved(map, *id, *place),
+        Edit::DropNode(id) => judge_node_dropped(map, *id),
+        Edit::AddLine(id, line) => judge_line_added(map, *id, line),
+        Edit::SetLine {
+            id,
+            frc,
+            fow,
+            len,
+            shape,
+        } => judge_line_set(map, *id, *frc, *fow, *len, shape),
+        Edit::DropLine(id) => judge_line_dropped(map, *id),
+    }
+}
+
+/// A node comes only where it is not yet.
+fn judge_node_added<M: MapRead>(map: &M, id: NodeId, place: Coord) -> Result<Judged, EditFault>
+    ensures fault { MatchResult (edited (M.map map.now) (Add_node id place))
+        (λ _. IsOk result) (λ f. result ≡ Err (fault_of f)) }
+    ensures judged { IfOk result (IsJudged (M.map map.now) (M.place_in map.now) (Add_node id place)) }
+{
+    if map.place_of(id).is_some() {
+        return Err(EditFault::NodeExists);
+    }
+    // The place is in range, as every `Coord` is.
+    let _latitude = place.lat();
+    Ok(Judged {
+        nodes: (id, id),
+        places: (0, 0),
+        line: None,
+        len: 0,
+    })
+}
+
+/// A node moves only where it is.
+fn judge_node_moved<M: MapRead>(map: &M, id: NodeId, place: Coord) -> Result<Judged, EditFault>
+    ensures fault { MatchResult (edited (M.map map.now) (Move_node id place))
+        (λ _. IsOk result) (λ f. result ≡ Err (fault_of f)) }
+    ensures judged { IfOk result (IsJudged (M.map map.now) (M.place_in map.now) (Move_node id place)) }
+{
+    let Some(at) = map.place_of(id) else {
+        return Err(EditFault::NoNode);
+    };
+    let _latitude = place.lat();
+    Ok(Judged {
+        nodes: (id, id),
+        places: (at, at),
+        line: None,
+        len: 0,
+    })
+}
+
+/// A node goes only where it is, and no line uses it.
+fn judge_node_dropped<M: MapRead>(map: &M, id: NodeId) -> Result<Judged, EditFault>
+    ensures fault { MatchResult (edited (M.map map.now) (Drop_node id))
+        (λ _. IsOk result) (λ f. result ≡ Err (fault_of f)) }
+    ensures judged { IfOk result (IsJudged (M.map map.now) (M.place_in map.now) (Drop_node id)) }
+{
+    let Some(at) = map.place_of(id) else {
+        return Err(EditFault::NoNode);
+    };
+    if !map.out_ends_at(at).is_empty() || !map.in_ends_at(at).is_empty() {
+        return Err(EditFault::NodeInUse);
+    }
+    Ok(Judged {
+        nodes: (id, id),
+        places: (at, at),
+        line: None,
+        len: 0,
+    })
+}
+
+/// A line comes only where it is not yet, its ends are, and it is good.
+fn judge_line_added<M: MapRead>(map: &M, id: LineId, line: &Line) -> Result<Judged, EditFault>
+    ensures fault { MatchResult (edited (M.map map.now) (Add_line id line.now))
+        (λ _. IsOk result) (λ f. result ≡ Err (fault_of f)) }
+    ensures judged { IfOk result (IsJudged (M.map map.now) (M.place_in map.now) (Add_line id line.now)) }
+{
+    if map.line(id).is_some() {
+        return Err(EditFault::LineExists);
+    }
+    let (Some(from), Some(to)) = (map.place_of(line.from), map.place_of(line.to)) else {
+        return Err(EditFault::NoNode);
+    };
+    if !line.is_good() {
+        return Err(EditFault::BadShape);
+    }
+    Ok(Judged {
+        nodes: (line.from, line.to),
+        places: (from, to),
+        line: Some(id),
+        len: line.len,
+    })
+}
+
+/// A line is set only where it is, and is then good.
+fn judge_line_set<M: MapRead>(
+    map: &M,
+    id: LineId,
+    frc: u8,
+    fow: u8,
+    len: u32,
+    shape: &[Shape],
+) -> Result<Judged, EditFault>
+    ensures fault { MatchResult (edited (M.map map.now) (Set_line id frc fow len shape.now))
+        (λ _. IsOk result) (λ f. result ≡ Err (fault_of f)) }
+    ensures judged { IfOk result (IsJudged (M.map map.now) (M.place_in map.now) (Set_line id frc fow len shape.now)) }
+{
+    let Some(was) = map.line(id) else {
+        return Err(EditFault::NoLine);
+    };
+    if !has_good_fields(frc, fow, len, shape) {
+        return Err(EditFault::BadShape);
+    }
+    Ok(Judged {
+        nodes: (was.from, was.to),
+        places: end_places(map, id, was),
+        line: Some(id),
+        len: was.len.min(len),
+    })
+}
+
+/// A line goes only where it is.
+fn judge_line_dropped<M: MapRead>(map: &M, id: LineId) -> Result<Judged, EditFault>
+    ensures fault { MatchResult (edited (M.map map.now) (Drop_line id))
+        (λ _. IsOk result) (λ f. result ≡ Err (fault_of f)) }
+    ensures judged { IfOk result (IsJudged (M.map map.now) (M.place_in map.now) (Drop_line id)) }
+{
+    let Some(was) = map.line(id) else {
+        return Err(EditFault::NoLine);
+    };
+    Ok(Judged {
+        nodes: (was.from, was.to),
+        places: end_places(map, id, was),
+        line: Some(id),
+        len: was.len,
+    })
+}
+
+/// The places of the nodes where a line of the map begins and ends.
+fn end_places<M: MapRead>(map: &M, id: LineId, line: &Line) -> (u32, u32)
+    requires { get (M.map map.now).lines id ≡ Some line.now }
+    ensures begin { M.place_in map.now line.now.from ≡ result.0 }
+    ensures end { M.place_in map.now line.now.to ≡ result.1 }
+{
+    match (map.place_of(line.from), map.place_of(line.to)) {
+        (Some(from), Some(to)) => (from, to),
+        _ => unreachable!(),
+    }
+}
