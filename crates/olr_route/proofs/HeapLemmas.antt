@@ -1,25 +1,35 @@
--- What waits in the heap before and after a push and a pop.
-use Rattle.std.proofs.Common.{◌≡◌, ℕ, ◌⊎◌, List, [], ◌∷◌, Contains, get_or, sym, ap, ◌∙◌, inl, inr, arith, refl}
+-- What waits in the queue before and after a push and a pop.
+use Rattle.std.proofs.Common.{◌≡◌, ℕ, ◌/◌, ◌%◌, ◌<◌, ◌^◌, ◌⊎◌, List, [], ◌∷◌, Contains, get_or, sym, ap, ◌∙◌, inl, inr, arith, refl}
 use Rattle.std.specs.declared.cmp.Reverse.{Reverse}
 use Rattle.std.specs.List.Sorted.{IsPermutation}
 use Rattle.std.proofs.lemmas.List.Sorted.{Contains-permutation}
 use Rattle.std.proofs.lemmas.List.Elements.{Contains-append_cases, Contains-append_right}
-use Rattle.olr_route.specs.Marks.{Waits}
+use Rattle.std.proofs.lemmas.Nat.{div-mul-add, mod-mul-add}
+use Rattle.olr_route.specs.Queues.{entry}
 
-abbrev Entry : Type 0
-Entry = Reverse (ℕ × ℕ)
+abbrev pub Entry : Type 0
+Entry = Reverse ℕ
 
 alone : (x n : Entry) → Contains (x ∷ []) n → n ≡ x
 alone x n h = let e : h.0 ≡ 0 = omega (arith, h.1) in sym (ap (λ j. get_or (x ∷ []) j n) (sym e) ∙ h.2)
 
-pub popped_others : (xs ys : List Entry) (x : Entry) (d v : ℕ) → IsPermutation xs (x ∷ ys) → Waits xs d v → Waits ys d v ⊎ ((d ≡ x.0.0) × (v ≡ x.0.1))
-popped_others xs ys x d v p w = elim (Contains-append_cases (x ∷ []) ys (record { 0 = (d, v) }) (Contains-permutation xs (x ∷ ys) (record { 0 = (d, v) }) p w)) [
-  | inl h ↦ let e = alone x (record { 0 = (d, v) }) h in inr (ap (λ (y : Entry). y.0.0) e, ap (λ (y : Entry). y.0.1) e)
+-- an entry tells the length and the place
+pub entry_dist : (d p : ℕ) → p < 2 ^ 32 → entry d p / 2 ^ 32 ≡ d
+entry_dist d p small = div-mul-add d (2 ^ 32) p small
+
+pub entry_place : (d p : ℕ) → p < 2 ^ 32 → entry d p % 2 ^ 32 ≡ p
+entry_place d p small = mod-mul-add d (2 ^ 32) p small
+
+pub popped_others : (xs ys : List Entry) (x : Entry) (d p : ℕ) → p < 2 ^ 32 → IsPermutation xs (x ∷ ys) → Contains xs (record { 0 = entry d p }) → Contains ys (record { 0 = entry d p }) ⊎ ((d ≡ x.0 / 2 ^ 32) × (p ≡ x.0 % 2 ^ 32))
+popped_others xs ys x d p small perm w = elim (Contains-append_cases (x ∷ []) ys (record { 0 = entry d p }) (Contains-permutation xs (x ∷ ys) (record { 0 = entry d p }) perm w)) [
+  | inl h ↦
+      let e = alone x (record { 0 = entry d p }) h in
+      inr (sym (entry_dist d p small) ∙ ap (λ (y : Entry). y.0 / 2 ^ 32) e, sym (entry_place d p small) ∙ ap (λ (y : Entry). y.0 % 2 ^ 32) e)
   | inr h ↦ inl h
 ]
 
-pub pushed_kept : (xs ys : List Entry) (x : Entry) (d v : ℕ) → IsPermutation (x ∷ xs) ys → Waits xs d v → Waits ys d v
-pushed_kept xs ys x d v p w = Contains-permutation (x ∷ xs) ys (record { 0 = (d, v) }) p (Contains-append_right (x ∷ []) xs (record { 0 = (d, v) }) w)
+pub pushed_kept : (xs ys : List Entry) (x y : Entry) → IsPermutation (x ∷ xs) ys → Contains xs y → Contains ys y
+pushed_kept xs ys x y perm w = Contains-permutation (x ∷ xs) ys y perm (Contains-append_right (x ∷ []) xs y w)
 
-pub pushed_there : (xs ys : List Entry) (x : Entry) → IsPermutation (x ∷ xs) ys → Waits ys x.0.0 x.0.1
-pushed_there xs ys x p = Contains-permutation (x ∷ xs) ys x p (0, omega arith, refl)
+pub pushed_there : (xs ys : List Entry) (x : Entry) → IsPermutation (x ∷ xs) ys → Contains ys x
+pushed_there xs ys x perm = Contains-permutation (x ∷ xs) ys x perm (0, omega arith, refl)

@@ -7,3 +7,10 @@ mod ReadLemmas
 mod EqualLemmas
 mod MarkLemmas
 mod HeapLemmas
+mod NoteLemmas
+mod DistinctLemmas
+mod WayLemmas
+mod SearchLemmas
+mod CountLemmas
+mod SoleLemmas
+mod ToldLemmas

@@ -1,8 +1,7 @@
--- How marks change in the course of a search.
+-- How marks change in the course of the plain search.
 use Rattle.std.proofs.Common.{◌≡◌, ◌≢◌, ℕ, ◌+◌, ◌-◌, ◌*◌, ◌<◌, ◌≤◌, ◌^◌, ◌⊎◌, List, [], ◌∷◌, ◌++◌, Option, Some, None, Bool, true, false, IsSome, IsTrue, Contains, nat_eq, length, get_or, refl, sym, ap, ◌∙◌, subst, inl, inr, arith}
 use Rattle.std.specs.Prelude.{unwrap_or, if◌then◌else◌, nat_lt}
 use Rattle.std.specs.Option.{option_map}
-use Rattle.std.specs.declared.cmp.Reverse.{Reverse}
 use Rattle.std.specs.HashMap.{IsUnique, PutsEntry, keys, values}
 use Rattle.std.specs.Cmp.{nat_eq_equiv}
 use Rattle.std.proofs.lemmas.List.{length-map}
@@ -16,7 +15,7 @@ use Rattle.std.proofs.Math.Nat.{mul-le-mul_right}
 use Rattle.std.proofs.lemmas.Grind.{get_or_default_zero}
 use Rattle.olr_spec.specs.Map.{Map, has_line, start, end, dm, lines_out}
 use Rattle.olr_route.specs.Labels.{Label}
-use Rattle.olr_route.specs.Marks.{Marks, mark_at, NotGreater, NotAfter, Capped, ClosedAt, Found, FoundAt, IsState, Keeps, Moves, Marked, Waits, IsFront, IsClosed, gain}
+use Rattle.olr_route.specs.Marks.{Marks, mark_at, NotGreater, NotAfter, Capped, ClosedAt, Found, FoundAt, IsState, Keeps, Moves, Marked, IsClosed, gain}
 use Rattle.olr_route.proofs.LabelLemmas.{same_label, is_some_of, some_of, not_after_le}
 use Rattle.olr_route.proofs.ReadLemmas.{leaving}
 use Rattle.olr_route.proofs.WalkEnds.{last_of-append, dm_of-line, walk_on}
@@ -231,52 +230,7 @@ followed_all M limit u d L lines i is past f x known from short =
     let lt = there.1 in
     subst (λ (y : ℕ). d + dm M y ≤ limit → Capped L (end M y) (d + dm M y) (Some y)) there.2 (f.each there.0 (omega arith)) short
 
--- ---- what waits
-
-pub front_first : (M : Map) (limit s : ℕ) (L : ℕ → Option Label) (xs : List (Reverse (ℕ × ℕ))) → L s ≡ Some (0, None) → ((q : ℕ) → q ≢ s → L q ≡ None) → Waits xs 0 s → IsFront M limit L xs
-front_first M limit s L xs at others waits = record {
-  each = λ u d o e. elim (cases_eq u s) [
-    | inl is ↦
-        let same = same_label (L s) 0 d None o at (subst (λ (v : ℕ). L v ≡ Some (d, o)) is e) in
-        inr (subst (λ (v : ℕ). Waits xs d v) (sym is) (subst (λ (n : ℕ). Waits xs n s) same.0 waits))
-    | inr ne ↦ let never : ◌≡◌ {A = Option Label} None (Some (d, o)) = sym (others u ne) ∙ e in cc
-  ];
-}
-
--- an entry is taken from the heap
-module _ (M : Map) (limit : ℕ) (L : ℕ → Option Label) (xs ys : List (Reverse (ℕ × ℕ))) (d v : ℕ) (f : IsFront M limit L xs) (rest : (a u : ℕ) → Waits xs a u → Waits ys a u ⊎ ((a ≡ d) × (u ≡ v))) where
-  -- it is left, since the mark there is another one
-  pub front_skip : ¬ ((o : Option ℕ) × (L v ≡ Some (d, o))) → IsFront M limit L ys
-  front_skip other = record {
-    each = λ u a o e. elim (f.each u a o e) [
-      | inl closed ↦ inl closed
-      | inr w ↦ elim (rest a u w) [
-        | inl y ↦ inr y
-        | inr is ↦ absurd (other (o, subst (λ (n : ℕ). L v ≡ Some (n, o)) is.0 (subst (λ (n : ℕ). L n ≡ Some (a, o)) is.1 e)))
-      ]
-    ];
-  }
-
-  -- the lines out of its node are followed
-  pub front_more : (K : ℕ → Option Label) (zs : List (Reverse (ℕ × ℕ))) → Moves L K (Waits zs) → ((a u : ℕ) → Waits ys a u → Waits zs a u) → ClosedAt M limit K v d → IsFront M limit K zs
-  front_more K zs moves kept closed = record {
-    each = λ u a o e. elim (moves.fresh u a o e) [
-      | inl k ↦ elim (f.each u a k.0 k.1) [
-        | inl was ↦ inl (closed_better M limit L K moves.better u a was)
-        | inr w ↦ elim (rest a u w) [
-          | inl y ↦ inr (kept a u y)
-          | inr is ↦ inl (subst (λ (n : ℕ). ClosedAt M limit K n a) (sym is.1) (subst (λ (n : ℕ). ClosedAt M limit K v n) (sym is.0) closed))
-        ]
-      ]
-      | inr w ↦ inr w
-    ];
-  }
-
 -- ---- an end of the search
-
--- where nothing waits, no line improves a mark
-pub front_done : (M : Map) (limit : ℕ) (L : ℕ → Option Label) (xs : List (Reverse (ℕ × ℕ))) → IsFront M limit L xs → ((a u : ℕ) → ¬ Waits xs a u) → IsClosed M limit L
-front_done M limit L xs front none = λ u d o e. elim (front.each u d o e) [ inl closed ↦ closed | inr w ↦ absurd (none d u w) ]
 
 -- no more marks than numbers, and none counts for more than one above the limit
 pub gain_le : (limit : ℕ) (m : Marks) → ((v : ℕ) → IsSome (mark_at m v) → v < 2 ^ 32) → IsUnique nat_eq m → gain limit m ≤ 2 ^ 32 * (limit + 1)

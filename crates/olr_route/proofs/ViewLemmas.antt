@@ -1,23 +1,22 @@
--- The labels are a finite map, and the marks are kept in a hash map: the two answer alike.
-use Rattle.std.proofs.Common.{◌≡◌, ℕ, suc, ◌+◌, ◌≤◌, Contains, nat_eq, List, [], ◌∷◌, length, Option, Some, None, Bool, false, cond, is_some, IsSome, refl, sym, ap, ◌∙◌, subst, arith, nat_cmp, eqb}
+-- Labels are a finite map, and are kept in two lists: the two answer alike.
+use Rattle.std.proofs.Common.{◌≡◌, ℕ, suc, ◌+◌, ◌<◌, ◌↔◌, Contains, List, [], ◌∷◌, length, get_or, Option, Some, None, Bool, false, cond, is_some, IsSome, refl, sym, ap, ◌∙◌, subst, arith, nat_cmp, eqb}
 use Rattle.std.specs.Cmp.{nat_cmp_total, unsigned_tied}
 use Rattle.std.specs.FinMap.{get, len, from_entries, get-from_entries, len-insert, len-empty, contains_key}
 use Rattle.std.specs.FinMap.Entries.{find}
-use Rattle.std.specs.List.{IsDistinct}
+use Rattle.std.specs.List.{AllByRecursion, IsDistinct, zip}
+use Rattle.std.specs.List.Sorted.{IsStrictlyIncreasing}
 use Rattle.std.specs.Map.{lookup, keys_of}
-use Rattle.std.proofs.lemmas.Map.Keys.{IsDistinct-tail, IsDistinct-head}
-use Rattle.std.specs.Cmp.{nat_eq_equiv}
-use Rattle.std.specs.HashMap.{IsUnique, hash_map_len, keys}
-use Rattle.std.specs.List.{AllByRecursion}
 use Rattle.std.proofs.lemmas.Bool.{eqb-true}
-use Rattle.std.proofs.lemmas.List.{length-map}
-use Rattle.std.proofs.lemmas.Map.Made.{length-le_from_is_member}
-use Rattle.std.proofs.lemmas.Map.Views.{Contains-from_any, list_any-from_Contains}
-use Rattle.olr_spec.specs.Map.{Map, IsMap}
-use Rattle.olr_route.specs.Labels.{Label, Labels, AreLabels, label_at, count_of}
-use Rattle.olr_route.specs.Marks.{Marks, mark_at, IsState, IsClosed}
-use Rattle.olr_route.proofs.LabelLemmas.{Certified, labels_of_certified}
-use Rattle.olr_route.proofs.MarkLemmas.{marked_key}
+use Rattle.std.proofs.lemmas.List.{get_or_default}
+use Rattle.std.proofs.lemmas.Map.Keys.{IsDistinct-tail, IsDistinct-head}
+use Rattle.std.proofs.lemmas.Map.Made.{keys_of-zip}
+use Rattle.std.proofs.lemmas.Map.Views.{Contains-keys_from_lookup}
+use Rattle.std.proofs.lemmas.Slice.Zip.{get_or-zip, length-zip}
+use Rattle.olr_map.proofs.Lookups.{lookup_at}
+use Rattle.olr_map.proofs.Numbers.{distinct_from_rising}
+use Rattle.olr_route.specs.Labels.{Label, label_at, count_of}
+use Rattle.olr_route.specs.Listed.{listed}
+use Rattle.olr_route.proofs.LabelLemmas.{is_some_of}
 
 find-lookup : (q : ℕ) (es : List (ℕ × Label)) → find nat_cmp q es ≡ lookup (eqb q) es
 find-lookup q [] = refl
@@ -26,18 +25,6 @@ find-lookup q (e ∷ es) = ap (λ (b : Bool). cond b (Some e.1) (find nat_cmp q 
 -- the value at a node
 pub get-view : (es : List (ℕ × Label)) (q : ℕ) → get (from_entries {R = nat_cmp} es) q ≡ lookup (eqb q) es
 get-view es q = get-from_entries nat_cmp_total es q ∙ find-lookup q es
-
--- the labels that are made of marks
-abbrev pub viewed : ℕ → ℕ → Marks → Labels
-viewed source limit m = record { source = source; limit = limit; by_node = from_entries m.entries }
-
-pub label_at-viewed : (source limit : ℕ) (m : Marks) (v : ℕ) → label_at (viewed source limit m) v ≡ mark_at m v
-label_at-viewed source limit m v = get-view m.entries v
-
-pub labels_viewed : (M : Map) → IsMap M → (source limit : ℕ) (m : Marks) → IsState M source limit m → IsClosed M limit (mark_at m) → AreLabels M (viewed source limit m)
-labels_viewed M sound source limit m f closed =
-    let marks : Certified M source limit (mark_at m) = record { at_source = f.at_source; within = f.within; found = f.found; closed = closed } in
-    labels_of_certified M sound (viewed source limit m) (subst (Certified M source limit) (λ i v. sym (label_at-viewed source limit m v) i) marks)
 
 not_found : (k : ℕ) (es : List (ℕ × Label)) → AllByRecursion (λ y. eqb k y ≡ false) (keys_of es) → lookup (eqb k) es ≡ None
 not_found k [] h = refl
@@ -55,12 +42,54 @@ len-view (e ∷ es) h =
     one_more : (n : ℕ) → n + 1 ≡ suc n
     one_more n = omega arith
 
-pub count_of-viewed : (source limit : ℕ) (m : Marks) → IsUnique nat_eq m → count_of (viewed source limit m) ≡ hash_map_len m
-count_of-viewed source limit m h = len-view m.entries h
+none_of : {A : Type 0} (o : Option A) → ¬ IsSome o → o ≡ None
+none_of None h = refl
+none_of (Some x) h = absurd (h refl)
 
--- each marked node is in the list, so that there are no more marks than nodes in it
-pub len-le : (m : Marks) (ys : List ℕ) → IsUnique nat_eq m → ((v : ℕ) → IsSome (mark_at m v) → Contains ys v) → hash_map_len m ≤ length ys
-len-le m ys h all =
-    let few = length-le_from_is_member nat_eq_equiv (keys m) ys h (λ q is. list_any-from_Contains nat_eq_equiv q ys (all q (marked_key m q (Contains-from_any (λ x y e. eqb-true x y e) q (keys m) is)))) in
-    let same : length (keys m) ≡ hash_map_len m = length-map m.entries (λ (e : ℕ × Label). e.0) in
-    omega arith
+module _ (s limit : ℕ) (ks : List ℕ) (ls : List Label) (up : IsStrictlyIncreasing ks) (beside : length ls ≡ length ks) where
+  keys : keys_of (zip ks ls) ≡ ks
+  keys = keys_of-zip ks ls beside
+
+  -- the label at the i-th node
+  pub label_of_node : (v i : ℕ) → i < length ks → get_or ks i 0 ≡ v → label_at (listed s limit ks ls) v ≡ Some (get_or ls i (0, None))
+  label_of_node v i lt is =
+      let pair : get_or (zip ks ls) i (0, (0, None)) ≡ (get_or ks i 0, get_or ls i (0, None)) = get_or-zip ks ls i (0, (0, None)) lt (omega arith) in
+      let long = length-zip ks ls in
+      get-view (zip ks ls) v
+      ∙ lookup_at (zip ks ls) v i (0, (0, None)) (subst (λ (xs : List ℕ). IsDistinct eqb xs) (sym keys) (distinct_from_rising ks up)) (omega arith) (ap (λ (p : ℕ × Label). p.0) pair ∙ is)
+      ∙ ap (λ (p : ℕ × Label). Some p.1) pair
+
+  -- just the nodes of the list have one
+  pub has_label : (v : ℕ) → Contains ks v ↔ IsSome (label_at (listed s limit ks ls) v)
+  has_label v = (
+    λ c. let lt = c.1 in is_some_of (label_at (listed s limit ks ls) v) (get_or ls c.0 (0, None)) (label_of_node v c.0 c.1 (get_or_default ks c.0 0 v c.1 ∙ c.2)),
+    λ h. subst (λ (xs : List ℕ). Contains xs v) keys (Contains-keys_from_lookup (λ x y e. eqb-true x y e) v (zip ks ls) (subst (λ (o : Option Label). IsSome o) (get-view (zip ks ls) v) h)),
+  )
+
+  pub none_there : (v : ℕ) → ¬ Contains ks v → label_at (listed s limit ks ls) v ≡ None
+  none_there v absent = none_of (label_at (listed s limit ks ls) v) (λ h. absent ((has_label v).1 h))
+
+  -- a label stands beside its node
+  pub node_of_label : (v : ℕ) (k : Label) → label_at (listed s limit ks ls) v ≡ Some k → (i : ℕ) × (i < length ks) × (get_or ks i 0 ≡ v) × (get_or ls i (0, None) ≡ k)
+  node_of_label v k at =
+      let c = (has_label v).1 (is_some_of (label_at (listed s limit ks ls) v) k at) in
+      let is : get_or ks c.0 0 ≡ v = get_or_default ks c.0 0 v c.1 ∙ c.2 in
+      let both : ◌≡◌ {A = Option Label} (Some (get_or ls c.0 (0, None))) (Some k) = sym (label_of_node v c.0 c.1 is) ∙ at in
+      (c.0, c.1, is, cc)
+
+  pub count_of-listed : count_of (listed s limit ks ls) ≡ length ks
+  count_of-listed =
+      let long = length-zip ks ls in
+      let count = len-view (zip ks ls) (subst (λ (xs : List ℕ). IsDistinct eqb xs) (sym keys) (distinct_from_rising ks up)) in
+      omega arith
+
+  -- what each node's label is elsewhere, and nothing where there is no node of the list
+  pub label_at-listed : (L : ℕ → Option Label) → ((v : ℕ) → Contains ks v ↔ IsSome (L v)) → ((i : ℕ) → i < length ks → L (get_or ks i 0) ≡ Some (get_or ls i (0, None))) → (v : ℕ) → label_at (listed s limit ks ls) v ≡ L v
+  label_at-listed L nodes each v = decide (L v) refl
+    where
+      decide : (o : Option Label) → L v ≡ o → label_at (listed s limit ks ls) v ≡ L v
+      decide None e = none_there v (λ c. let some = (nodes v).0 c in cc) ∙ sym e
+      decide (Some k) e =
+          let c = (nodes v).1 (is_some_of (L v) k e) in
+          let is : get_or ks c.0 0 ≡ v = get_or_default ks c.0 0 v c.1 ∙ c.2 in
+          label_of_node v c.0 c.1 is ∙ sym (each c.0 c.1) ∙ ap L is

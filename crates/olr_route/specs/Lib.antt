@@ -2,3 +2,10 @@ pub mod Labels
 pub mod Counts
 pub mod Marks
 pub mod Ends
+pub mod Entries
+pub mod Queues
+pub mod Notes
+pub mod Founds
+pub mod Listed
+pub mod Distances
+pub mod Searches

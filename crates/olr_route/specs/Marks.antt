@@ -1,4 +1,4 @@
--- The marks of a search under way: at each node that it has found, the length and the last line of the best walk so far.
+-- The marks of the plain search under way: at each node that it has found, the length and the last line of the best walk so far.
 --     Marks, mark_at m v      the marks by node, and the mark at v
 --     NotAfter d o e p      a walk of length d with last line o comes before, or is as good as, one of length e with last line p
 --     Capped L v d o      the mark at v is not after a walk of length d with last line o
@@ -9,11 +9,9 @@
 --     Marked L K v d x shorter      a walk of length d with last line x is put at v
 --     Moves L K next      from marks L to marks K none got worse, and where a length is new the node stands in `next`
 --     gain limit m      rises with each new mark and each shorter length
---     Waits xs d v      node v waits in the heap, at length d.        IsFront M limit L xs      each mark is closed or waits
-use Rattle.std.specs.Prelude.{◌≡◌, ◌≢◌, ℕ, ◌+◌, ◌-◌, ◌<◌, ◌≤◌, ◌^◌, ◌⊎◌, Bool, true, List, Option, Some, None, IsSome, IsTrue, Contains, nat_eq, sum_by}
+use Rattle.std.specs.Prelude.{◌≡◌, ◌≢◌, ℕ, ◌+◌, ◌-◌, ◌<◌, ◌≤◌, ◌^◌, ◌⊎◌, Bool, true, List, Option, Some, None, IsSome, IsTrue, nat_eq, sum_by}
 use Rattle.std.specs.declared.hash.FoldHasher.{FoldHasher}
 use Rattle.std.specs.declared.hash.BuildHasherDefault.{BuildHasherDefault}
-use Rattle.std.specs.declared.cmp.Reverse.{Reverse}
 use Rattle.std.specs.HashMap.{HashMap, IsUnique, get, values}
 use Rattle.olr_spec.specs.Map.{Map, has_line, start, end, dm}
 use Rattle.olr_spec.specs.Walks.{Walk, dm_of}
@@ -80,9 +78,3 @@ pub record Moves (L K : ℕ → Option Label) (next : ℕ → ℕ → Type 0) : 
 -- by how much the lengths are below one more than the limit, all together
 abbrev pub gain : ℕ → Marks → ℕ
 gain limit m = sum_by (λ k. limit + 1 - k.0) (values m)
-
-abbrev pub Waits : List (Reverse (ℕ × ℕ)) → ℕ → ℕ → Type 0
-Waits xs d v = Contains xs (record { 0 = (d, v) })
-
-pub record IsFront (M : Map) (limit : ℕ) (L : ℕ → Option Label) (xs : List (Reverse (ℕ × ℕ))) : Type 0 where
-  pub each : (u d : ℕ) (o : Option ℕ) → L u ≡ Some (d, o) → ClosedAt M limit L u d ⊎ Waits xs d u

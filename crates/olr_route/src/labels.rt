@@ -1,8 +1,11 @@
 //! The labels of a search.
-ghost use Rattle.std.specs.Prelude.{◌≡◌};
+ghost use Rattle.std.specs.Prelude.{◌≡◌, ◌≤◌, ◌↔◌, ◌⊎◌, ℕ, Contains, IsSome, OnOk, length};
+ghost use Rattle.olr_route.specs.Labels.{label_at, count_of};
+ghost use Rattle.olr_route.specs.Counts.{after_search};
 
-use crate::marks::Marks;
-use olr_map::{LineId, NodeId};
+use crate::work::Work;
+use olr_map::{Footprint, LineId, NodeId};
+use std::alloc::AllocError;
 use std::marker::Model;
 
 /// The labels of a search: at each node that a walk from the source within the limit reaches, the length and the last
@@ -11,49 +14,97 @@ use std::marker::Model;
 pub struct Labels {
     source: NodeId,
     limit: u32,
-    marks: Marks,
+    /// Rising.
+    nodes: Vec<NodeId>,
+    /// Beside each node its label.
+    labels: Vec<(u32, Option<LineId>)>,
 }
 
 impl Model for Labels {
-    ghost use Rattle.std.specs.FinMap.{from_entries};
+    ghost use Rattle.std.specs.Prelude.{◌≡◌, length};
+    ghost use Rattle.std.specs.List.Sorted.{IsStrictlyIncreasing};
     ghost use Rattle.olr_route.specs.Labels.{Labels as Record, coded_labels};
+    ghost use Rattle.olr_route.specs.Listed.{listed};
 
     ghost Value = { Record };
 
     ghost coded = { coded_labels };
 
-    ghost view = { λ a. record { source = a.source; limit = a.limit; by_node = from_entries a.marks.entries } };
+    ghost view = { λ a. listed a.source a.limit a.nodes.items a.labels.items };
+
+    ghost invariant = { λ a. IsStrictlyIncreasing a.nodes.items × (length a.labels.items ≡ length a.nodes.items) };
 }
 
 impl Labels {
-    ghost use Rattle.std.specs.Prelude.{◌≡◌};
-    ghost use Rattle.std.specs.FinMap.{from_entries};
-    ghost use Rattle.olr_route.specs.Labels.{dist_at, last_at};
+    ghost use Rattle.std.specs.Prelude.{◌≡◌, ◌↔◌, ℕ, IsSome, Contains, length};
+    ghost use Rattle.std.specs.List.Sorted.{IsStrictlyIncreasing};
+    ghost use Rattle.olr_route.specs.Labels.{label_at, dist_at, last_at, count_of};
+    ghost use Rattle.olr_route.specs.Listed.{listed};
 
-    /// The labels of a search from `source` within `limit` decimetres.
-    pub(crate) fn new(source: NodeId, limit: u32, marks: Marks) -> Labels
-        ensures { result ≡ record { source = source; limit = limit; by_node = from_entries marks.entries } }
+    /// The labels of a search from `source` within `limit` decimetres, beside the nodes at which they stand.
+    pub(crate) fn new(
+        source: NodeId,
+        limit: u32,
+        nodes: Vec<NodeId>,
+        labels: Vec<(u32, Option<LineId>)>,
+    ) -> Labels
+        requires rising { IsStrictlyIncreasing nodes.items }
+        requires beside { length labels.items ≡ length nodes.items }
+        ensures { result ≡ listed source limit nodes.items labels.items }
     {
         Labels {
             source,
             limit,
-            marks,
+            nodes,
+            labels,
         }
+    }
+
+    /// The nodes that have a label, rising.
+    pub(crate) fn nodes(&self) -> &[NodeId]
+        ensures rising { IsStrictlyIncreasing result.now }
+        ensures nodes { (v : ℕ) → (Contains result.now v) ↔ (IsSome (label_at self.now v)) }
+        ensures count { length result.now ≡ count_of self.now }
+    {
+        &self.nodes
     }
 
     /// The length of the least walk to a node, in decimetres. None where no walk within the limit reaches it.
     pub fn dist(&self, node: NodeId) -> Option<u32>
         ensures { result ≡ dist_at self.now node }
     {
-        let (dist, _) = *self.marks.get(&node.number())?;
-        Some(dist)
+        match self.nodes.binary_search(&node) {
+            Ok(at) => Some(self.labels[at].0),
+            Err(_) => None,
+        }
     }
 
     /// The last line of the least walk to a node. None at the source, and where no walk within the limit reaches it.
     pub fn last_line(&self, node: NodeId) -> Option<LineId>
         ensures { result ≡ last_at self.now node }
     {
-        let (_, last) = *self.marks.get(&node.number())?;
-        last
+        match self.nodes.binary_search(&node) {
+            Ok(at) => self.labels[at].1,
+            Err(_) => None,
+        }
     }
+}
+
+/// Puts the labelled nodes into the footprint, and counts the search.
+pub(crate) fn noted(
+    labels: &Labels,
+    footprint: &mut Footprint,
+    work: &mut Work,
+) -> Result<(), AllocError>
+    ensures footprint { OnOk result ((v : ℕ)
+        → (Contains footprint.new v) ↔ ((Contains footprint.old v) ⊎ (IsSome (label_at labels.now v)))) }
+    ensures work { OnOk result (work.new ≡ after_search work.old (count_of labels.now)) }
+    ensures few { OnOk result (count_of labels.now ≤ length footprint.new) }
+    ensures grows { OnOk result (length footprint.old ≤ length footprint.new) }
+{
+    let nodes = labels.nodes();
+    footprint.note_all(nodes)?;
+    work.searches = work.searches.saturating_add(1);
+    work.settled = work.settled.saturating_add(nodes.len() as u64);
+    Ok(())
 }

@@ -1,19 +1,26 @@
 //! Least routes within a limit: a search from a node that labels what it reaches, and the tests, by these labels,
-//! whether a walk is the least or the sole one. All of it reads the map through `MapRead` alone.
+//! whether a walk is the least or the sole one; and a search that can go on, from one node or from many, along the lines
+//! or against them, which tells distances alone. All of it reads the map through `MapRead` alone.
 //!
 //! The White Paper (version 1.5, revision 2) covers a location by shortest paths between its points. Which of equally
 //! long walks is the least, and that only a sole one joins two points, are choices of this project (profile).
 #![tactic(auto)]
 
-mod heap;
+pub mod distances;
+mod found;
 pub mod labels;
+mod last_lines;
 mod lines;
 mod marks;
 pub mod plain;
+mod queue;
 pub mod routes;
+mod steps;
 pub mod walks;
 pub mod work;
 
+pub use distances::{Direction, Search, near};
+pub use found::Reached;
 pub use labels::Labels;
 pub use routes::{GREATEST_LIMIT, search};
 pub use walks::{extends_least, extends_sole, is_least, is_sole};

@@ -1,16 +1,16 @@
 //! The plain program of the search, which the tests compare it with: the lines that leave marked nodes are followed over
 //! and over, until no mark gets a shorter length.
-ghost use Rattle.std.specs.Prelude.{◌≡◌, ◌≤◌, ◌+◌, ◌↔◌, ◌⊎◌, ℕ, Option, Some, true, false, Contains, IsSome, IsTrue, IfOk, OnOk, length, if◌then◌else◌};
+ghost use Rattle.std.specs.Prelude.{◌≡◌, ◌≤◌, ◌<◌, ◌+◌, ◌↔◌, ◌⊎◌, ℕ, Option, Some, None, true, false, Contains, IsSome, IsTrue, IfOk, OnOk, length, slice_index, slice_index_or, if◌then◌else◌};
 ghost use Rattle.olr_spec.specs.Map.{has_node};
 ghost use Rattle.olr_route.specs.Labels.{AreLabels, label_at, count_of};
 ghost use Rattle.olr_route.specs.Counts.{after_search};
 ghost use Rattle.olr_route.specs.Marks.{mark_at, ClosedAt, IsClosed, IsState, Keeps, Moves, gain};
 
-use crate::labels::Labels;
+use crate::labels::{Labels, noted};
 use crate::marks::{Marks, first_marks, follow, nodes_of};
-use crate::routes::{GREATEST_LIMIT, labels_of};
+use crate::routes::GREATEST_LIMIT;
 use crate::work::Work;
-use olr_map::{Footprint, MapRead, NodeId};
+use olr_map::{Footprint, LineId, MapRead, NodeId};
 use std::alloc::{AllocError, Global};
 
 /// The length of a marked node's mark.
@@ -73,6 +73,27 @@ fn sweep<M: MapRead>(
     Ok(changed)
 }
 
+/// The marks of these nodes.
+fn labels_of(
+    alloc: Global,
+    marks: &Marks,
+    nodes: &[NodeId],
+) -> Result<Vec<(u32, Option<LineId>)>, AllocError>
+    requires { (v : ℕ) → Contains nodes.now v → IsSome (mark_at marks.now v) }
+    ensures beside { IfOk result (λ labels. length labels.items ≡ length nodes.now) }
+    ensures each { IfOk result (λ labels. (i : ℕ) → i < length nodes.now
+        → mark_at marks.now (slice_index nodes.now i) ≡ Some (slice_index_or labels.items i (0, None))) }
+{
+    let mut labels = Vec::with_capacity(alloc, nodes.len())?;
+    for node in nodes {
+        match marks.get(&node.number()) {
+            Some(mark) => labels.push(*mark)?,
+            None => unreachable!(),
+        }
+    }
+    Ok(labels)
+}
+
 /// What `search` of this crate does, by its contract.
 pub fn search<M: MapRead>(
     alloc: Global,
@@ -93,5 +114,9 @@ pub fn search<M: MapRead>(
 {
     let mut marks = first_marks(alloc, source)?;
     while sweep(alloc, map, limit_dm, &mut marks)? {}
-    labels_of(alloc, map, source, limit_dm, marks, footprint, work)
+    let nodes = nodes_of(alloc, &marks)?;
+    let labels = labels_of(alloc, &marks, &nodes)?;
+    let labels = Labels::new(source, limit_dm, nodes, labels);
+    noted(&labels, footprint, work)?;
+    Ok(labels)
 }

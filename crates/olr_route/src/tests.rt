@@ -6,7 +6,8 @@ ghost use Rattle.olr_route.specs.Labels.{AreLabels};
 
 use crate::lines::{end_of, start_of};
 use crate::{
-    GREATEST_LIMIT, Labels, Work, extends_least, extends_sole, is_least, is_sole, plain, search,
+    Direction, GREATEST_LIMIT, Labels, Search, Work, extends_least, extends_sole, is_least,
+    is_sole, near, plain, search,
 };
 use olr_coords::Coord;
 use olr_map::{Edit, Footprint, Line, LineId, MapRead, NodeId, RoadMap};
@@ -291,5 +292,178 @@ fn plain_search_on_the_base_map(rt: HostRuntime) -> Result<(), Fail> {
             settled: 3
         }
     );
+    Ok(())
+}
+
+/// What a search from nodes, given by number and length, tells at the nodes from 1 on.
+fn distances<M: MapRead>(
+    rt: &impl Abort,
+    alloc: Global,
+    map: &M,
+    direction: Direction,
+    from: &[(u32, u32)],
+    limit: u32,
+) -> [Option<u32>; 4]
+    requires { limit ≤ GREATEST_LIMIT }
+{
+    let mut begins = Vec::new(alloc);
+    for begin in from {
+        let (number, length) = *begin;
+        let pushed = begins.push((node(rt, number), length));
+        assert!(rt; pushed.is_ok());
+    }
+    match near(alloc, map, direction, &begins, limit) {
+        Ok(search) => [
+            search.dist(map, node(rt, 1)),
+            search.dist(map, node(rt, 2)),
+            search.dist(map, node(rt, 3)),
+            search.dist(map, node(rt, 4)),
+        ],
+        Err(_) => panic!(rt; "no memory"),
+    }
+}
+
+#[test]
+fn distances_in_either_direction(rt: HostRuntime) {
+    let map = base(&rt, rt.alloc());
+    for (direction, from, limit, found) in [
+        (
+            Direction::Along,
+            &[(2, 0)][..],
+            150_000,
+            [None, Some(0), Some(1500), Some(2240)],
+        ),
+        (
+            Direction::Along,
+            &[(2, 0)],
+            2239,
+            [None, Some(0), Some(1500), None],
+        ),
+        (
+            Direction::Against,
+            &[(4, 0)],
+            150_000,
+            [Some(7850), Some(2240), Some(740), Some(0)],
+        ),
+        (
+            Direction::Against,
+            &[(4, 0)],
+            740,
+            [None, None, Some(740), Some(0)],
+        ),
+        (
+            Direction::Along,
+            &[(2, 100), (3, 50)],
+            790,
+            [None, Some(100), Some(50), Some(790)],
+        ),
+        (Direction::Along, &[(9, 0), (3, 60), (3, 50)], 49, [None; 4]),
+        (
+            Direction::Against,
+            &[(1, 150_001), (2, 149_999)],
+            150_000,
+            [None, Some(149_999), None, None],
+        ),
+        (Direction::Along, &[], 150_000, [None; 4]),
+    ] {
+        assert_eq!(rt;
+            distances(&rt, rt.alloc(), &map, direction, from, limit),
+            found
+        );
+    }
+
+    let ring = made(
+        &rt,
+        rt.alloc(),
+        4,
+        &[
+            (1, 1, 2, 10),
+            (2, 2, 3, 20),
+            (3, 3, 1, 30),
+            (4, 3, 3, 5),
+            (5, 1, 2, 15),
+        ],
+    );
+    assert_eq!(rt;
+        distances(&rt, rt.alloc(), &ring, Direction::Along, &[(1, 0)], 100),
+        [Some(0), Some(10), Some(30), None]
+    );
+    assert_eq!(rt;
+        distances(&rt, rt.alloc(), &ring, Direction::Against, &[(1, 0)], 100),
+        [Some(0), Some(50), Some(30), None]
+    );
+}
+
+#[test]
+fn search_step_by_step(rt: HostRuntime) -> Result<(), Fail> {
+    let map = base(&rt, rt.alloc());
+    let (second, third, fourth) = (node(&rt, 2), node(&rt, 3), node(&rt, 4));
+    let mut search = Search::new(rt.alloc());
+    search.begin(&map, Direction::Along, &[(second, 0)])?;
+    assert_eq!(rt; search.dist(&map, second), Some(0));
+    assert_eq!(rt; search.dist(&map, third), None);
+    assert_eq!(rt; search.settled(), 1);
+    search.settle_to(&map, 1500)?;
+    assert_eq!(rt; search.dist(&map, third), Some(1500));
+    assert_eq!(rt; search.dist(&map, fourth), None);
+    assert_eq!(rt; search.settled(), 2);
+    search.settle_to(&map, 700)?;
+    assert_eq!(rt; search.dist(&map, third), Some(1500));
+    search.settle_to(&map, 2240)?;
+    assert_eq!(rt; search.dist(&map, fourth), Some(2240));
+    assert_eq!(rt; search.settled(), 3);
+    let reached: [NodeId; 3] = [second, third, fourth];
+    for (at, reached) in search.reached().iter().zip(reached) {
+        assert_eq!(rt; at.node, reached);
+        assert_eq!(rt; search.dist_at(at.place), search.dist(&map, reached));
+    }
+
+    let other = diamond(&rt, rt.alloc());
+    search.begin(&other, Direction::Against, &[(fourth, 0)])?;
+    search.settle_to(&other, 100)?;
+    assert_eq!(rt; search.dist(&other, node(&rt, 1)), None);
+    assert_eq!(rt; search.dist(&other, second), Some(100));
+    assert_eq!(rt; search.dist(&other, third), Some(100));
+    assert_eq!(rt; search.settled(), 3);
+    Ok(())
+}
+
+#[test]
+fn sole_walks_by_distances(rt: HostRuntime) -> Result<(), Fail> {
+    let map = diamond(&rt, rt.alloc());
+    let from = node(&rt, 1);
+    let search = near(
+        rt.alloc(),
+        &map,
+        Direction::Along,
+        &[(from, 0)],
+        GREATEST_LIMIT,
+    )?;
+    for (number, sole) in [(5, true), (6, true), (7, false), (8, false), (10, false)] {
+        assert_eq!(rt; search.extends_sole(&map, line(&rt, number)), sole);
+    }
+
+    let map = made(
+        &rt,
+        rt.alloc(),
+        3,
+        &[
+            (1, 1, 1, 50),
+            (3, 1, 2, 100),
+            (2, 1, 2, 100),
+            (4, 2, 3, 10),
+            (5, 2, 3, 11),
+        ],
+    );
+    let search = near(
+        rt.alloc(),
+        &map,
+        Direction::Along,
+        &[(from, 0)],
+        GREATEST_LIMIT,
+    )?;
+    for (number, sole) in [(1, false), (2, false), (3, false), (4, true), (5, false)] {
+        assert_eq!(rt; search.extends_sole(&map, line(&rt, number)), sole);
+    }
     Ok(())
 }

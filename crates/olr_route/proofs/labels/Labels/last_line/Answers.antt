@@ -1,16 +1,23 @@
-use Rattle.std.proofs.Common.{◌≡◌, ℕ, Option, Some, None, eqb, sym, ap, ◌∙◌}
+use Rattle.std.proofs.Common.{◌≡◌, Option, Some, None, Ok, Err, get_or, sym, ap, ◌∙◌, arith}
 use Rattle.std.specs.Prelude.{option_and_then}
-use Rattle.std.specs.Map.{lookup}
+use Rattle.std.proofs.lemmas.List.{get_or_default}
+use Rattle.olr_map.specs.Places.{Place}
+use Rattle.olr_map.proofs.Rising.{place_of, there_found}
 use Rattle.olr_route.specs.Labels.{Label, Labels, last_at}
-use Rattle.olr_route.proofs.ViewLemmas.{get-view}
+use Rattle.olr_route.proofs.ViewLemmas.{label_of_node, none_there}
 use Rattle.olr_route.proofs.labels.Labels.last_line.Goals as goal
 
-pub returns : goal.returns
-returns c =
-    let value : Some c.in_ok-last.field-0.now ≡ lookup (eqb c.args.node) c.self.inside.marks.entries = c.in_ok-last.ensures.value ∙ ap (λ (n : ℕ). lookup (eqb n) c.self.inside.marks.entries) c.number.ensures.same in
-    ap (λ (o : Option Label). option_and_then (λ k. k.1) o) (value ∙ sym (get-view c.self.inside.marks.entries c.args.node)) ∙ ap (λ (x : Labels). last_at x c.args.node) c.self.view_is
+pub returns-in-Ok : goal.returns-in-Ok
+returns-in-Ok c =
+    let own = c.self.inside in
+    let place : Place own.nodes.items c.args.node (Ok c.in-Ok.at) = place_of own.nodes.items c.args.node (Ok c.in-Ok.at) c.self.invariant.0 (rw c.deref.ensures.value at c.in-Ok.ensures.position) in
+    let here : c.index.result.now ≡ get_or own.labels.items c.in-Ok.at (0, None) = c.index.ensures ∙ get_or_default own.labels.items c.in-Ok.at c.index.result.now (0, None) (let lt = place.0 in let long = c.self.invariant.1 in omega arith) in
+    let label = label_of_node own.source own.limit own.nodes.items own.labels.items c.self.invariant.0 c.self.invariant.1 c.args.node c.in-Ok.at place.0 place.1 in
+    ap (λ (o : Option Label). option_and_then (λ k. k.1) o) (ap (λ (k : Label). Some k) here ∙ sym label) ∙ ap (λ (x : Labels). last_at x c.args.node) c.self.view_is
 
-pub returns-in_err-last : goal.returns-in_err-last
-returns-in_err-last c =
-    let value : None ≡ lookup (eqb c.args.node) c.self.inside.marks.entries = c.in_err-last.ensures.value ∙ ap (λ (n : ℕ). lookup (eqb n) c.self.inside.marks.entries) c.number.ensures.same in
-    c.from_residual.ensures ∙ ap (λ (o : Option Label). option_and_then (λ k. k.1) o) (value ∙ sym (get-view c.self.inside.marks.entries c.args.node)) ∙ ap (λ (x : Labels). last_at x c.args.node) c.self.view_is
+pub returns-in-Err : goal.returns-in-Err
+returns-in-Err c =
+    let own = c.self.inside in
+    let place : Place own.nodes.items c.args.node (Err c.in-Err.field-0) = place_of own.nodes.items c.args.node (Err c.in-Err.field-0) c.self.invariant.0 (rw c.deref.ensures.value at c.in-Err.ensures.position) in
+    let label = none_there own.source own.limit own.nodes.items own.labels.items c.self.invariant.0 c.self.invariant.1 c.args.node (λ h. let found = there_found own.nodes.items c.args.node (Err c.in-Err.field-0) place h in cc) in
+    ap (λ (o : Option Label). option_and_then (λ k. k.1) o) (sym label) ∙ ap (λ (x : Labels). last_at x c.args.node) c.self.view_is

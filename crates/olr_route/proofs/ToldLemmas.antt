@@ -1,0 +1,166 @@
+-- Distances with the last lines that they give are the labels of the least walks.
+use Rattle.std.proofs.Common.{◌≡◌, ℕ, ◌+◌, ◌<◌, ◌≤◌, ◌⊎◌, ◌↔◌, List, [], ◌∷◌, ◌++◌, length, get_or, Contains, Option, Some, None, IsSome, IsTrue, refl, sym, ap, ◌∙◌, subst, inl, inr, arith}
+use Rattle.std.specs.List.Sorted.{IsStrictlyIncreasing}
+use Rattle.std.proofs.lemmas.Bool.{cases_lt}
+use Rattle.std.proofs.lemmas.List.{get_or_default}
+use Rattle.olr_spec.specs.Map.{Map, IsMap, has_node, has_line, start, end, dm}
+use Rattle.olr_spec.specs.Walks.{Walk, dm_of}
+use Rattle.olr_spec.proofs.WalkLemmas.{positive}
+use Rattle.olr_route.specs.Labels.{Label, AreLabels, label_at}
+use Rattle.olr_route.specs.Listed.{listed, IsTight, IsLastLine, IsTold}
+use Rattle.olr_route.specs.Founds.{label_of}
+use Rattle.olr_route.specs.Marks.{Marks, NotGreater, Capped, Found, IsClosed, IsState, mark_at}
+use Rattle.olr_route.specs.Searches.{IsSearch, IsNear}
+use Rattle.olr_route.specs.declared.distances.Direction.TheVariants.{Along}
+use Rattle.olr_route.specs.declared.distances.Search.{Search}
+use Rattle.olr_route.proofs.NoteLemmas.{first_one}
+use Rattle.olr_route.proofs.LabelLemmas.{Certified, labels_of_certified}
+use Rattle.olr_route.proofs.SearchLemmas.{is_distance, label_is, distance_node}
+use Rattle.olr_route.proofs.SoleLemmas.{way_le, label_way}
+use Rattle.olr_route.proofs.ViewLemmas.{label_of_node, node_of_label, label_at-listed}
+use Rattle.olr_route.proofs.WalkEnds.{last_of-append, ends_of, dm_of-line, walk_on, last_step}
+use Rattle.olr_route.proofs.WalkEnds.Ends.{empty, ended}
+use Rattle.olr_route.proofs.WayLemmas.{leads_first}
+
+-- an option has something in it, or nothing
+something : (o : Option ℕ) → (o ≡ None) ⊎ ((x : ℕ) × (o ≡ Some x))
+something None = inl refl
+something (Some x) = inr (x, refl)
+
+module _ (M : Map) (place : ℕ → ℕ) (s : ℕ) (q : Search) (h : IsSearch M place Along ((s, 0) ∷ []) q) (source : IsTrue (has_node M s)) (ks : List ℕ) (ls : List Label) (up : IsStrictlyIncreasing ks) (beside : length ls ≡ length ks)
+    (near : (v : ℕ) → Contains ks v ↔ IsNear M Along ((s, 0) ∷ []) q.limit v) (told : (i : ℕ) → i < length ks → IsTold M place q.found (get_or ks i 0) (get_or ls i (0, None))) where
+  -- what a label says, and that it is near
+  record Says (v d : ℕ) (o : Option ℕ) : Type 0 where
+    known : IsTrue (has_node M v)
+    dist : label_of q.found (place v) ≡ d
+    within : d ≤ q.limit
+    last : IsLastLine M place q.found v d o
+
+  says : (v d : ℕ) (o : Option ℕ) → label_at (listed s q.limit ks ls) v ≡ Some (d, o) → Says v d o
+  says v d o at =
+      let k = node_of_label s q.limit ks ls up beside v (d, o) at in
+      let t = told k.0 k.1 in
+      let here : IsTold M place q.found v (d, o) = subst (λ (l : Label). IsTold M place q.found v l) k.3 (subst (λ (u : ℕ). IsTold M place q.found u (get_or ls k.0 (0, None))) k.2 t) in
+      let n = (near v).0 (k.0, k.1, get_or_default ks k.0 v 0 k.1 ∙ k.2) in
+      let known = distance_node M place Along ((s, 0) ∷ []) q h v n.0 n.1 in
+      let is = label_is M place Along ((s, 0) ∷ []) q h v n.0 known n.1 n.2 in
+      let le = n.2 in
+      let dist = here.dist in
+      record { known = known; dist = here.dist; within = omega arith; last = here.last }
+
+  -- a node within the limit has a label
+  labelled : (v : ℕ) → IsTrue (has_node M v) → label_of q.found (place v) ≤ q.limit → (k : Label) × (label_at (listed s q.limit ks ls) v ≡ Some k) × IsTold M place q.found v k
+  labelled v known le =
+      let c = (near v).1 (label_of q.found (place v), is_distance M place Along ((s, 0) ∷ []) q h v known le, le) in
+      let is : get_or ks c.0 0 ≡ v = get_or_default ks c.0 0 v c.1 ∙ c.2 in
+      (get_or ls c.0 (0, None), label_of_node s q.limit ks ls up beside v c.0 c.1 is, subst (λ (u : ℕ). IsTold M place q.found u (get_or ls c.0 (0, None))) is (told c.0 c.1))
+
+  -- a shortest walk, and a line more
+  on_by : (u x : ℕ) → IsTrue (has_node M u) → IsTrue (has_line M x) → start M x ≡ u → label_of q.found (place u) + dm M x ≤ q.limit → label_of q.found (place (end M x)) ≤ label_of q.found (place u) + dm M x
+  on_by u x known line from short =
+      let small = h.small in
+      let w = label_way M place s q h u known (omega arith) in
+      let long = w.2 in
+      let more = dm_of-line M w.0 x in
+      let low = way_le M place s q h (end M x) (w.0 ++ x ∷ []) (h.under_way.labelled.sound.ends x line) (walk_on M s x w.0 (subst (λ (v : ℕ). Walk M s v w.0) (sym from) w.1) line) (omega arith) in
+      omega arith
+
+  at_source : label_at (listed s q.limit ks ls) s ≡ Some (0, None)
+  at_source =
+      let m = h.under_way.labelled.sound in
+      let none : label_of q.found (place s) ≤ 0 = h.settled s 0 source (omega arith) (leads_first M Along ((s, 0) ∷ []) s 0 (first_one (s, 0)) source) in
+      let k = labelled s source (omega arith) in
+      let dist = k.2.dist in
+      let zero_is : k.0.0 ≡ 0 = omega arith in
+      elim (something k.0.1) [
+        | inl e ↦ k.1 ∙ ap (λ (n : ℕ). Some (n, k.0.1)) zero_is ∙ ap (λ (o : Option ℕ). Some (0, o)) e
+        | inr y ↦
+            let t = k.2.last.tight y.0 y.1 in
+            let some = positive M m y.0 t.known in
+            let long = t.long in
+            absurd (omega arith)
+      ]
+
+  -- a label without a last line is that of the empty walk
+  found_none : (v d : ℕ) (o : Option ℕ) → Says v d o → o ≡ None → Found M s v d o
+  found_none v d o t e =
+      let m = h.under_way.labelled.sound in
+      let dist = t.dist in
+      let within = t.within in
+      let small = h.small in
+      let w = label_way M place s q h v t.known (omega arith) in
+      let long = w.2 in
+      elim (ends_of w.0) [
+        | empty none ↦
+            let nothing : dm_of M w.0 ≡ 0 = ap (dm_of M) none in
+            record { lines = []; walk = subst (λ (zs : List ℕ). Walk M s v zs) none w.1; long = omega arith; ends = sym e }
+        | ended front z is ↦
+            let step = last_step M s v z front (subst (λ (zs : List ℕ). Walk M s v zs) is w.1) in
+            let parts : dm_of M w.0 ≡ dm_of M front + dm M z = ap (dm_of M) is ∙ dm_of-line M front z in
+            let begins = m.starts z step.known in
+            let low = way_le M place s q h (start M z) front begins step.front (omega arith) in
+            let high = on_by (start M z) z begins step.known refl (omega arith) in
+            let same : label_of q.found (place (end M z)) ≡ label_of q.found (place v) = ap (λ (n : ℕ). label_of q.found (place n)) step.to in
+            absurd (t.last.none e z (record { known = step.known; to = step.to; long = omega arith }))
+      ]
+
+  found_some : (v d y : ℕ) (o : Option ℕ) → Says v d o → o ≡ Some y → Found M s v d o
+  found_some v d y o t e =
+      let m = h.under_way.labelled.sound in
+      let tight = t.last.tight y e in
+      let sum = tight.long in
+      let within = t.within in
+      let small = h.small in
+      let w = label_way M place s q h (start M y) (m.starts y tight.known) (omega arith) in
+      let long = w.2 in
+      let more = dm_of-line M w.0 y in
+      record {
+        lines = w.0 ++ y ∷ [];
+        walk = subst (λ (u : ℕ). Walk M s u (w.0 ++ y ∷ [])) tight.to (walk_on M s y w.0 w.1 tight.known);
+        long = omega arith;
+        ends = last_of-append w.0 y ∙ sym e;
+      }
+
+  closed : (u d : ℕ) (o : Option ℕ) → label_at (listed s q.limit ks ls) u ≡ Some (d, o) → (x : ℕ) → IsTrue (has_line M x) → start M x ≡ u → d + dm M x ≤ q.limit → Capped (label_at (listed s q.limit ks ls)) (end M x) (d + dm M x) (Some x)
+  closed u d o at x line from short =
+      let t = says u d o at in
+      let dist = t.dist in
+      let low = on_by u x t.known line from (omega arith) in
+      let r = labelled (end M x) (h.under_way.labelled.sound.ends x line) (omega arith) in
+      let there = r.2.dist in
+      let begin_is : label_of q.found (place (start M x)) ≡ label_of q.found (place u) = ap (λ (n : ℕ). label_of q.found (place n)) from in
+      record {
+        dist = r.0.0;
+        last = r.0.1;
+        at = r.1;
+        low = elim (cases_lt r.0.0 (d + dm M x)) [
+          | inl lt ↦ inl lt
+          | inr ge ↦
+              let tight : IsTight M place q.found (end M x) r.0.0 x = record { known = line; to = refl; long = omega arith } in
+              elim (something r.0.1) [
+                | inl e ↦ absurd (r.2.last.none e x tight)
+                | inr y ↦ inr (omega arith, subst (λ (p : Option ℕ). NotGreater p (Some x)) (sym y.1) (r.2.last.least y.0 x y.1 tight))
+              ]
+        ];
+      }
+
+  certified : Certified M s q.limit (label_at (listed s q.limit ks ls))
+  certified = record {
+    at_source = at_source;
+    within = λ v d o at. (says v d o at).within;
+    found = λ v d o at. elim (something o) [ inl e ↦ found_none v d o (says v d o at) e | inr y ↦ found_some v d y.0 o (says v d o at) y.1 ];
+    closed = closed;
+  }
+
+  pub told_labels : AreLabels M (listed s q.limit ks ls)
+  told_labels = labels_of_certified M h.under_way.labelled.sound (listed s q.limit ks ls) certified
+
+  pub node_there : (v : ℕ) → Contains ks v → IsTrue (has_node M v)
+  node_there v c = let n = (near v).0 c in distance_node M place Along ((s, 0) ∷ []) q h v n.0 n.1
+
+-- marks that no line improves, told in lists, are labels too
+pub marked_labels : (M : Map) → IsMap M → (s limit : ℕ) (m : Marks) (ks : List ℕ) (ls : List Label) → IsStrictlyIncreasing ks → length ls ≡ length ks → ((v : ℕ) → Contains ks v ↔ IsSome (mark_at m v))
+    → ((i : ℕ) → i < length ks → mark_at m (get_or ks i 0) ≡ Some (get_or ls i (0, None))) → IsState M s limit m → IsClosed M limit (mark_at m) → AreLabels M (listed s limit ks ls)
+marked_labels M sound s limit m ks ls up beside nodes each f closed =
+    let marks : Certified M s limit (mark_at m) = record { at_source = f.at_source; within = f.within; found = f.found; closed = closed } in
+    labels_of_certified M sound (listed s limit ks ls) (subst (Certified M s limit) (λ i v. sym (label_at-listed s limit ks ls up beside (mark_at m) nodes each v) i) marks)

@@ -1,0 +1,18 @@
+use Rattle.std.proofs.Common.{◌⊎◌, Contains, inl, inr, arith}
+use Rattle.olr_map.proofs.Sizes.{rising_within}
+use Rattle.olr_route.proofs.labels.noted.Goals as goal
+
+pub returns-clause-footprint : goal.returns-clause-footprint
+returns-clause-footprint c = λ v. (
+  λ h. elim ((c.in_ok-note_all.ensures.ok v).0 h) [ inl old ↦ inl old | inr new ↦ inr ((c.nodes-nodes.ensures.nodes v).0 new) ],
+  λ h. (c.in_ok-note_all.ensures.ok v).1 (elim h as (λ _. Contains c.args.footprint.now v ⊎ Contains c.nodes-nodes.result.now v) [
+    | inl old ↦ inl old
+    | inr new ↦ inr ((c.nodes-nodes.ensures.nodes v).1 new)
+  ]),
+)
+
+pub returns-clause-few : goal.returns-clause-few
+returns-clause-few c =
+    let few = rising_within c.nodes-nodes.result.now c.note_all.new.self c.nodes-nodes.ensures.rising (λ v h. (c.in_ok-note_all.ensures.ok v).1 (inr h)) in
+    let count = c.nodes-nodes.ensures.count in
+    omega arith

@@ -1,0 +1,9 @@
+-- The order of the entries of a queue.
+--     entry_cmp      the smaller entry is the greater one
+use Rattle.std.specs.Prelude.{ℕ}
+use Rattle.std.specs.Ordering.{nat_cmp}
+use Rattle.std.specs.declared.cmp.Ordering.{Ordering}
+use Rattle.std.specs.declared.cmp.Reverse.{Reverse}
+
+abbrev pub entry_cmp : Reverse ℕ → Reverse ℕ → Ordering
+entry_cmp x y = nat_cmp y.0 x.0

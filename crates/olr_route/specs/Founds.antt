@@ -1,0 +1,55 @@
+-- What a search has found so far, and how it changes.
+--     label_of f p      the label at place p, NO_LABEL where none stands.        found_len f      how many places the table has
+--     IsQueued f d p      place p waits, at length d.        queued_len f      how many wait
+--     IsEmpty f      no labels, and nothing waits
+--     IsPut f g v p d      node v with place p was labelled d, unless the label there was no greater
+--     Moves f g      no label got greater, and where one is new its place waits
+--     to_do f      what is left to do: it gets less with each label that gets less and each place that is taken out
+use Rattle.std.specs.Prelude.{◌≡◌, ◌≢◌, ℕ, ◌+◌, ◌*◌, ◌≤◌, ◌<◌, ◌⊎◌, [], ◌∷◌, ◌++◌, min, sum, vec_len}
+use Rattle.olr_route.specs.Notes.{label_in}
+use Rattle.olr_route.specs.Queues.{Queued, queue_len}
+use Rattle.olr_route.specs.declared.found.TheConstants.{NO_LABEL}
+use Rattle.olr_route.specs.declared.routes.TheConstants.{GREATEST_LIMIT}
+use Rattle.olr_route.specs.declared.found.Found.{Found}
+
+abbrev pub label_of : Found → ℕ → ℕ
+label_of f p = label_in f.table.items p
+
+abbrev pub found_len : Found → ℕ
+found_len f = vec_len f.table
+
+abbrev pub IsQueued : Found → ℕ → ℕ → Type 0
+IsQueued f d p = Queued f.queue d p
+
+abbrev pub queued_len : Found → ℕ
+queued_len f = queue_len f.queue
+
+abbrev pub to_do : Found → ℕ
+to_do f = 2 * sum f.table.items + queued_len f
+
+pub record IsEmpty (f : Found) : Type 0 where
+  pub labels : (p : ℕ) → label_of f p ≡ NO_LABEL
+  pub reached : f.reached.items ≡ []
+  pub queue : queued_len f ≡ 0
+
+-- the node is noted where it had no label
+abbrev pub NotedOnce : Found → Found → ℕ → ℕ → Type 0
+NotedOnce f g v p =
+    ((g.reached.items ≡ f.reached.items) × (label_of g p ≤ GREATEST_LIMIT → label_of f p ≤ GREATEST_LIMIT))
+    ⊎ ((g.reached.items ≡ f.reached.items ++ record { node = v; place = p } ∷ []) × (GREATEST_LIMIT < label_of f p) × (label_of g p < label_of f p))
+
+pub record IsPut (f g : Found) (v p d : ℕ) : Type 0 where
+  pub here : label_of g p ≡ min (label_of f p) d
+  pub others : (q : ℕ) → q ≢ p → label_of g q ≡ label_of f q
+  pub waits : (label_of g p ≡ label_of f p) ⊎ IsQueued g (label_of g p) p
+  pub kept : (e q : ℕ) → IsQueued f e q → IsQueued g e q
+  pub noted : NotedOnce f g v p
+  pub len : found_len g ≡ found_len f
+  pub less : to_do g ≤ to_do f
+
+pub record Moves (f g : Found) : Type 0 where
+  pub better : (p : ℕ) → label_of g p ≤ label_of f p
+  pub fresh : (p : ℕ) → (label_of g p ≡ label_of f p) ⊎ IsQueued g (label_of g p) p
+  pub kept : (e q : ℕ) → IsQueued f e q → IsQueued g e q
+  pub len : found_len g ≡ found_len f
+  pub less : to_do g ≤ to_do f

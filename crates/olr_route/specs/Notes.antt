@@ -1,0 +1,26 @@
+-- A table of labels by place, and the list of the nodes that have one.
+--     label_in table p      the label at place p, NO_LABEL where none stands
+--     AreNoted table reached      each label stands at the place of a node of the list
+--     numbers_of reached      the nodes' numbers
+--     NotesOnce old new label r      r comes to the list where the label is none
+use Rattle.std.specs.Prelude.{◌≡◌, ◌≢◌, ℕ, ◌<◌, ◌≤◌, ◌⊎◌, List, [], ◌∷◌, ◌++◌, Contains, map, slice_index_or}
+use Rattle.std.specs.Coded.{coded_ℕ, Coded-set}
+use Rattle.std.proofs.Props.{props}
+use Rattle.olr_route.specs.declared.routes.TheConstants.{GREATEST_LIMIT}
+use Rattle.olr_route.specs.declared.found.TheConstants.{NO_LABEL}
+use Rattle.olr_route.specs.declared.found.Reached.{Reached}
+
+abbrev pub label_in : List ℕ → ℕ → ℕ
+label_in table p = slice_index_or table p NO_LABEL
+
+abbrev pub numbers_of : List Reached → List ℕ
+numbers_of xs = map (λ (r : Reached). r.node) xs
+
+abbrev pub AreNoted : List ℕ → List Reached → Type 0
+AreNoted table reached = (p : ℕ) → ((r : Reached) → Contains reached r → r.place ≢ p) → label_in table p ≡ NO_LABEL
+
+pub AreNoted-prop : (table : List ℕ) (reached : List Reached) → IsProp (AreNoted table reached)
+AreNoted-prop table reached = hlevel (props, Coded-set coded_ℕ)
+
+abbrev pub NotesOnce : List Reached → List Reached → ℕ → Reached → Type 0
+NotesOnce old new label r = ((new ≡ old) × (label ≤ GREATEST_LIMIT)) ⊎ ((new ≡ old ++ r ∷ []) × (GREATEST_LIMIT < label))

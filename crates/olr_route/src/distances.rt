@@ -1,0 +1,240 @@
+//! A search that can go on: distances only, from one node or from many, along the lines or against them.
+ghost use Rattle.std.specs.Prelude.{◌≡◌, ◌≢◌, ◌↔◌, ◌≤◌, ◌+◌, ℕ, List, [], ◌∷◌, ◌++◌, Some, Contains, OnOk, IfOk, IsTrue, max};
+ghost use Rattle.std.specs.List.Sorted.{IsStrictlyIncreasing};
+ghost use Rattle.olr_spec.specs.Map.{Map, has_node, start as start_node, end, dm};
+ghost use Rattle.olr_spec.specs.Walks.{Sole, dm_of};
+ghost use Rattle.olr_route.specs.Distances.{IsDistance, Leads};
+ghost use Rattle.olr_route.specs.Founds.{label_of};
+ghost use Rattle.olr_route.specs.Searches.{IsSearch, IsNear, IsReached, Counts, IsAlone, limit_of};
+ghost use Rattle.olr_route.specs.declared.found.Reached.{Reached as ReachedRecord};
+ghost use Rattle.olr_route.specs.declared.distances.Direction.TheVariants.{Along};
+
+use crate::found::{Found, Reached};
+use crate::lines::both_ends;
+use crate::routes::GREATEST_LIMIT;
+use crate::steps::{follow, start};
+use olr_map::{LineEnd, LineId, MapRead, NodeId};
+use std::alloc::{AllocError, Global};
+
+/// Along the lines, or against them.
+#[derive(Clone, Copy, Debug, PartialEq, Eq)]
+pub enum Direction {
+    /// From where a line begins to where it ends.
+    Along,
+    /// From where a line ends to where it begins.
+    Against,
+}
+
+/// Distances from some nodes, each with a length to begin with. One search may be begun over and over: what it keeps its
+/// labels in is made as long as the map needs once, and emptied of what was labelled.
+///
+/// All calls between one `begin` and the next are given the same map. After an error the search is begun anew before it
+/// is used again.
+#[derive(Drop)]
+pub struct Search {
+    direction: Direction,
+    limit: u32,
+    pub(crate) found: Found,
+}
+
+impl Search {
+    /// A search that has not begun. Takes no memory.
+    pub fn new(alloc: Global) -> Search
+        ensures { limit_of result ≡ 0 }
+    {
+        Search {
+            direction: Direction::Along,
+            limit: 0,
+            found: Found::new(alloc),
+        }
+    }
+
+    /// Forgets the search before, and begins one at these nodes, each with a length in decimetres. Those that the map
+    /// lacks are passed over. Takes time that rises with what the search before labelled, besides these nodes.
+    pub fn begin<M: MapRead>(
+        &mut self,
+        map: &M,
+        direction: Direction,
+        from: &[(NodeId, u32)],
+    ) -> Result<(), AllocError>
+        ensures search { OnOk result (IsSearch (M.map map.now) (M.place_in map.now) direction from.now self.new) }
+        ensures limit { OnOk result (limit_of self.new ≡ 0) }
+    {
+        self.found.clear();
+        self.direction = direction;
+        self.limit = 0;
+        self.found.make_room(map.place_count())?;
+        for begin in from {
+            let (node, length) = *begin;
+            start(map, node, length, &mut self.found)?;
+        }
+        Ok(())
+    }
+
+    /// Settles on, to a limit in decimetres: afterwards the labels are those of a search within this limit, or within a
+    /// greater one that it was settled to before.
+    pub fn settle_to<M: MapRead>(&mut self, map: &M, limit: u32) -> Result<(), AllocError>
+        requires small { limit ≤ GREATEST_LIMIT }
+        requires begun { (direction : _) × (from : List (ℕ × ℕ)) × IsSearch (M.map map.now) (M.place_in map.now) direction from self.old }
+        ensures search { OnOk result ((direction : _) (from : List (ℕ × ℕ))
+            → IsSearch (M.map map.now) (M.place_in map.now) direction from self.old
+            → IsSearch (M.map map.now) (M.place_in map.now) direction from self.new) }
+        ensures limit { OnOk result (limit_of self.new ≡ max (limit_of self.old) limit) }
+    {
+        while let Some(next) = self.found.pop_within(limit) {
+            let (dist, place) = next;
+            if self.found.label(place) == dist {
+                follow(map, self.direction, dist, place, &mut self.found)?;
+            }
+        }
+        self.limit = self.limit.max(limit);
+        Ok(())
+    }
+
+    /// The distance of a node in decimetres. None where it is beyond the limit that the search has been settled to.
+    pub fn dist<M: MapRead>(&self, map: &M, node: NodeId) -> Option<u32>
+        ensures { (direction : _) (from : List (ℕ × ℕ)) (d : ℕ)
+            → IsSearch (M.map map.now) (M.place_in map.now) direction from self.now
+            → ((result ≡ Some d) ↔ (IsDistance (M.map map.now) direction from node d × (d ≤ limit_of self.now))) }
+    {
+        match map.place_of(node) {
+            None => None,
+            Some(place) => self.dist_at(place),
+        }
+    }
+
+    /// The same at the node that has this place in the map.
+    pub fn dist_at(&self, place: u32) -> Option<u32>
+        ensures { (M : Map) (place_in : ℕ → ℕ) (direction : _) (from : List (ℕ × ℕ)) (v d : ℕ)
+            → IsSearch M place_in direction from self.now → IsTrue (has_node M v) → place_in v ≡ place
+            → ((result ≡ Some d) ↔ (IsDistance M direction from v d × (d ≤ limit_of self.now))) }
+    {
+        let label = self.found.label(place);
+        if label <= self.limit {
+            Some(label)
+        } else {
+            None
+        }
+    }
+
+    /// The limit that the search has been settled to since it began, in decimetres.
+    pub fn limit(&self) -> u32
+        ensures { result ≡ limit_of self.now }
+    {
+        self.limit
+    }
+
+    /// The nodes that the search has labelled, each once, with their places: those within the limit that it has been
+    /// settled to, and some that lie farther, where that is less than `GREATEST_LIMIT`. In no particular order.
+    pub fn reached(&self) -> &[Reached]
+        ensures near { (M : Map) (place_in : ℕ → ℕ) (direction : _) (from : List (ℕ × ℕ)) (v : ℕ)
+            → IsSearch M place_in direction from self.now → IsNear M direction from (limit_of self.now) v
+            → Contains result.now (record { node = v; place = place_in v }) }
+        ensures reached { (M : Map) (place_in : ℕ → ℕ) (direction : _) (from : List (ℕ × ℕ)) (r : ReachedRecord)
+            → IsSearch M place_in direction from self.now → Contains result.now r
+            → IsReached M direction from r.node × (place_in r.node ≡ r.place) }
+        ensures exactly { (M : Map) (place_in : ℕ → ℕ) (direction : _) (from : List (ℕ × ℕ)) (r : ReachedRecord)
+            → IsSearch M place_in direction from self.now → limit_of self.now ≡ GREATEST_LIMIT → Contains result.now r
+            → IsNear M direction from GREATEST_LIMIT r.node }
+    {
+        self.found.reached()
+    }
+
+    /// How many nodes the search has settled since it began: those within the limit that it has been settled to. Takes
+    /// time that rises with the number of the nodes that it has labelled.
+    pub fn settled(&self) -> usize
+        ensures { (M : Map) (place_in : ℕ → ℕ) (direction : _) (from : List (ℕ × ℕ))
+            → IsSearch M place_in direction from self.now → Counts M direction from (limit_of self.now) result }
+    {
+        self.found.count_within(self.limit)
+    }
+
+    /// The nodes within the limit that the search has been settled to, rising.
+    pub fn nodes(&self, alloc: Global) -> Result<Vec<NodeId>, AllocError>
+        ensures rising { IfOk result (λ nodes. (M : Map) (place_in : ℕ → ℕ) (direction : _) (from : List (ℕ × ℕ))
+            → IsSearch M place_in direction from self.now → IsStrictlyIncreasing nodes.items) }
+        ensures nodes { IfOk result (λ nodes. (M : Map) (place_in : ℕ → ℕ) (direction : _) (from : List (ℕ × ℕ)) (v : ℕ)
+            → IsSearch M place_in direction from self.now → (Contains nodes.items v ↔ IsNear M direction from (limit_of self.now) v)) }
+    {
+        let mut nodes = self.found.nodes_within(alloc, self.limit)?;
+        nodes.sort_unstable();
+        Ok(nodes)
+    }
+
+    /// The label of a node; `NO_LABEL` where none stands.
+    fn label<M: MapRead>(&self, map: &M, node: NodeId) -> u32
+        requires { IsTrue (has_node (M.map map.now) node) }
+        ensures { result ≡ label_of self.now.found (M.place_in map.now node) }
+    {
+        match map.place_of(node) {
+            None => unreachable!(),
+            Some(place) => self.found.label(place),
+        }
+    }
+
+    /// Whether a line, as seen from where it ends, is another one, and leads there within a length in decimetres.
+    fn is_other(&self, line: LineId, other: LineId, end: &LineEnd, length: u32) -> bool
+        ensures { IsTrue result ↔ ((other ≢ line) × (label_of self.now.found end.now.place + end.now.len ≤ length)) }
+    {
+        other != line && end.len <= length && self.found.label(end.place) <= length - end.len
+    }
+
+    /// Whether no line but this one leads to a node within a length in decimetres.
+    fn is_alone<M: MapRead>(&self, map: &M, line: LineId, to: NodeId, length: u32) -> bool
+        ensures { IsTrue result ↔ IsAlone (M.map map.now) (M.place_in map.now) self.now.found line to length }
+    {
+        let lines = map.in_lines(to);
+        let ends = map.in_ends(to);
+        for (index, end) in ends.iter().enumerate() {
+            if self.is_other(line, lines[index], end, length) {
+                return false;
+            }
+        }
+        true
+    }
+
+    /// Whether a line prolongs the sole walk to where it begins to the sole walk to where it ends. Nothing is said where
+    /// there is no sole walk to where it begins, or where the walks go beyond the limit that the search has been settled to.
+    pub fn extends_sole<M: MapRead>(&self, map: &M, line: LineId) -> bool
+        ensures { (s : ℕ) (walk : List ℕ)
+            → IsSearch (M.map map.now) (M.place_in map.now) Along ((s, 0) ∷ []) self.now
+            → Sole (M.map map.now) s (start_node (M.map map.now) line) walk
+            → dm_of (M.map map.now) walk + dm (M.map map.now) line ≤ limit_of self.now
+            → (IsTrue result ↔ Sole (M.map map.now) s (end (M.map map.now) line) (walk ++ line ∷ [])) }
+    {
+        let Some(ends) = both_ends(map, line) else {
+            return false;
+        };
+        let (from, to, len) = ends;
+        let length = self.label(map, to);
+        if !is_sum(self.label(map, from), len, length) {
+            return false;
+        }
+        self.is_alone(map, line, to, length)
+    }
+}
+
+/// Whether two lengths are a third one together.
+fn is_sum(first: u32, second: u32, whole: u32) -> bool
+    ensures { IsTrue result ↔ (first + second ≡ whole) }
+{
+    second <= whole && first == whole - second
+}
+
+/// A search from some nodes, each with a length to begin with, settled to a limit. All in decimetres.
+pub fn near<M: MapRead>(
+    alloc: Global,
+    map: &M,
+    direction: Direction,
+    from: &[(NodeId, u32)],
+    limit: u32,
+) -> Result<Search, AllocError>
+    requires { limit ≤ GREATEST_LIMIT }
+    ensures search { IfOk result (λ search. IsSearch (M.map map.now) (M.place_in map.now) direction from.now search) }
+    ensures limit { IfOk result (λ search. limit_of search ≡ limit) }
+{
+    let mut search = Search::new(alloc);
+    search.begin(map, direction, from)?;
+    search.settle_to(map, limit)?;
+    Ok(search)
+}

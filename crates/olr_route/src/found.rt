@@ -1,0 +1,150 @@
+//! What a search has found so far: labels by place, the nodes that have one, and the places to go on from.
+ghost use Rattle.std.specs.Prelude.{◌≡◌, ◌<◌, OnErr, OnOk, IfOk};
+ghost use Rattle.olr_route.specs.Notes.{AreNoted, AreNoted-prop, NotesOnce};
+
+use crate::queue::Queue;
+use crate::routes::GREATEST_LIMIT;
+use olr_map::NodeId;
+use std::alloc::{AllocError, Global};
+
+/// What stands in the table for no label. Each label is below it.
+pub const NO_LABEL: u32 = 150_001;
+
+/// A node that a search has labelled, and its place in the map.
+#[derive(Clone, Copy, Debug, PartialEq, Eq)]
+pub struct Reached {
+    /// The node's number.
+    pub node: NodeId,
+    /// The node's place, see `MapRead::place_of`.
+    pub place: u32,
+}
+
+/// The labels by place, in decimetres, the nodes that have one, and the places to go on from.
+#[derive(Drop)]
+pub struct Found {
+    table: Vec<u32>,
+    reached: Vec<Reached>,
+    queue: Queue,
+    ghost noted: { AreNoted table.items reached.items } by { AreNoted-prop table.items reached.items },
+}
+
+/// Notes a node where it has no label yet.
+fn note(reached: &mut Vec<Reached>, label: u32, node: NodeId, place: u32) -> Result<(), AllocError>
+    ensures noted { OnOk result (NotesOnce reached.old.items reached.new.items label (record { node = node; place = place })) }
+    ensures unchanged { OnErr result (reached.new.items ≡ reached.old.items) }
+{
+    if label > GREATEST_LIMIT {
+        reached.push(Reached { node, place })?;
+    }
+    Ok(())
+}
+
+impl Found {
+    ghost use Rattle.std.specs.Prelude.{◌≤◌, ◌+◌, ◌⊎◌, ℕ, [], IfSome, IfNone, count_by, nat_le};
+    ghost use Rattle.std.specs.List.{filter};
+    ghost use Rattle.olr_route.specs.Notes.{numbers_of};
+    ghost use Rattle.olr_route.specs.Founds.{label_of, found_len, queued_len, IsPut, IsEmpty, IsQueued};
+
+    /// No labels. Takes no memory.
+    pub fn new(alloc: Global) -> Found
+        ensures { IsEmpty result }
+    {
+        Found {
+            table: Vec::new(alloc),
+            reached: Vec::new(alloc),
+            queue: Queue::new(alloc),
+        }
+    }
+
+    /// The label at a place; `NO_LABEL` where none stands.
+    pub fn label(&self, place: u32) -> u32
+        ensures { result ≡ label_of self.now place }
+    {
+        match self.table.get(place as usize) {
+            None => NO_LABEL,
+            Some(label) => *label,
+        }
+    }
+
+    /// The nodes that have a label, each once.
+    pub fn reached(&self) -> &[Reached]
+        ensures { result.now ≡ self.now.reached.items }
+    {
+        &self.reached
+    }
+
+    /// How many labels are at most `limit`. Takes time that rises with the number of the labels.
+    pub fn count_within(&self, limit: u32) -> usize
+        ensures { result ≡ count_by (λ r. nat_le (label_of self.now r.place) limit) self.now.reached.items }
+    {
+        self.reached
+            .iter()
+            .filter(|reached| self.label(reached.place) <= limit)
+            .count()
+    }
+
+    /// The nodes whose labels are at most `limit`, in no particular order.
+    pub fn nodes_within(&self, alloc: Global, limit: u32) -> Result<Vec<NodeId>, AllocError>
+        ensures { IfOk result (λ nodes. nodes.items ≡ numbers_of (filter (λ r. nat_le (label_of self.now r.place) limit) self.now.reached.items)) }
+    {
+        let mut nodes = Vec::with_capacity(alloc, self.reached.len())?;
+        for reached in &self.reached {
+            if self.label(reached.place) <= limit {
+                nodes.push(reached.node)?;
+            }
+        }
+        Ok(nodes)
+    }
+
+    /// Forgets all labels. Takes time that rises with their number.
+    pub fn clear(&mut self)
+        ensures { IsEmpty self.new }
+    {
+        while let Some(reached) = self.reached.pop() {
+            let place = reached.place as usize;
+            if place < self.table.len() {
+                self.table[place] = NO_LABEL;
+            }
+        }
+        self.queue.clear();
+    }
+
+    /// Makes the table long enough for so many places.
+    pub fn make_room(&mut self, count: usize) -> Result<(), AllocError>
+        ensures room { OnOk result (count ≤ found_len self.new) }
+        ensures empty { IsEmpty self.old → IsEmpty self.new }
+    {
+        if self.table.len() < count {
+            self.table.resize(count, NO_LABEL)?;
+        }
+        Ok(())
+    }
+
+    /// Labels a node with a length in decimetres, and lets its place wait, unless the label there is no greater.
+    pub fn put(&mut self, node: NodeId, place: u32, dist: u32) -> Result<(), AllocError>
+        requires { place < found_len self.old }
+        ensures { OnOk result (IsPut self.old self.new node place dist) }
+    {
+        let label = self.table[place as usize];
+        if dist < label {
+            note(&mut self.reached, label, node, place)?;
+            self.queue.push(dist, place)?;
+            self.table[place as usize] = dist;
+        }
+        Ok(())
+    }
+
+    /// Takes out the least length that waits with its place. None where nothing waits at a length of at most `limit`.
+    pub fn pop_within(&mut self, limit: u32) -> Option<(u32, u32)>
+        ensures table { self.new.table.items ≡ self.old.table.items }
+        ensures room { found_len self.new ≡ found_len self.old }
+        ensures reached { self.new.reached.items ≡ self.old.reached.items }
+        ensures within { IfSome result (λ x. x.0 ≤ limit) }
+        ensures others { IfSome result (λ x. (d p : ℕ) → IsQueued self.old d p → IsQueued self.new d p ⊎ ((d ≡ x.0) × (p ≡ x.1))) }
+        ensures len { IfSome result (λ x. queued_len self.new + 1 ≡ queued_len self.old) }
+        ensures far { IfNone result ((d p : ℕ) → IsQueued self.new d p → limit < d) }
+        ensures same { IfNone result ((d p : ℕ) → IsQueued self.old d p → IsQueued self.new d p) }
+    {
+        self.queue.pop_within(limit)
+    }
+}

@@ -1,0 +1,61 @@
+//! The last lines of least walks, found by the distances of a search.
+ghost use Rattle.std.specs.Prelude.{◌≡◌, ◌↔◌, ◌+◌, ◌<◌, ℕ, None, Contains, IsTrue, IfOk, length, slice_index, slice_index_or};
+ghost use Rattle.olr_spec.specs.Map.{has_node};
+ghost use Rattle.olr_route.specs.Founds.{label_of};
+ghost use Rattle.olr_route.specs.Listed.{IsLastLine, IsTold};
+
+use crate::found::Found;
+use olr_map::{LineEnd, LineId, MapRead, NodeId};
+use std::alloc::{AllocError, Global};
+
+/// Whether a line, as seen from where it ends, comes to this length there, from where it begins by the label there.
+fn comes_to(found: &Found, end: &LineEnd, length: u32) -> bool
+    ensures { IsTrue result ↔ (label_of found.now end.now.place + end.now.len ≡ length) }
+{
+    end.len <= length && found.label(end.place) == length - end.len
+}
+
+/// The least of the lines that lead to a node at this length. None where none does.
+fn last_line<M: MapRead>(map: &M, found: &Found, node: NodeId, length: u32) -> Option<LineId>
+    ensures { IsLastLine (M.map map.now) (M.place_in map.now) found.now node length result }
+{
+    let lines = map.in_lines(node);
+    let ends = map.in_ends(node);
+    for (index, end) in ends.iter().enumerate() {
+        if comes_to(found, end, length) {
+            return Some(lines[index]);
+        }
+    }
+    None
+}
+
+/// The label of a node in the table.
+fn label_at<M: MapRead>(map: &M, found: &Found, node: NodeId) -> u32
+    requires { IsTrue (has_node (M.map map.now) node) }
+    ensures { result ≡ label_of found.now (M.place_in map.now node) }
+{
+    match map.place_of(node) {
+        None => unreachable!(),
+        Some(place) => found.label(place),
+    }
+}
+
+/// For each of these nodes: its distance, and the last line of the least walk there.
+pub fn labels_at<M: MapRead>(
+    alloc: Global,
+    map: &M,
+    found: &Found,
+    nodes: &[NodeId],
+) -> Result<Vec<(u32, Option<LineId>)>, AllocError>
+    requires { (v : ℕ) → Contains nodes.now v → IsTrue (has_node (M.map map.now) v) }
+    ensures beside { IfOk result (λ labels. length labels.items ≡ length nodes.now) }
+    ensures each { IfOk result (λ labels. (i : ℕ) → i < length nodes.now
+        → IsTold (M.map map.now) (M.place_in map.now) found.now (slice_index nodes.now i) (slice_index_or labels.items i (0, None))) }
+{
+    let mut labels = Vec::with_capacity(alloc, nodes.len())?;
+    for node in nodes {
+        let length = label_at(map, found, *node);
+        labels.push((length, last_line(map, found, *node, length)))?;
+    }
+    Ok(labels)
+}

@@ -1,0 +1,67 @@
+//! The places that a search goes on from, the nearest first.
+ghost use Rattle.std.proofs.Props.{props};
+ghost use Rattle.std.specs.BinaryHeap.{IsHeap, heap_items};
+ghost use Rattle.olr_route.specs.Entries.{entry_cmp};
+
+use std::alloc::{AllocError, Global};
+use std::cmp::Reverse;
+use std::collections::BinaryHeap;
+
+/// How many places there may be.
+const PLACES: u64 = 4_294_967_296;
+
+/// Lengths, and the places of the nodes that walks of these lengths lead to, each pair as one number. Its room is kept when
+/// it is emptied.
+#[derive(Drop)]
+pub struct Queue {
+    heap: BinaryHeap<Reverse<u64>>,
+    ghost ordered: { IsHeap entry_cmp (heap_items heap) } by { Prim.hlevel props },
+}
+
+impl Queue {
+    ghost use Rattle.std.specs.Prelude.{◌≡◌, ◌≤◌, ◌<◌, ◌+◌, ◌⊎◌, ℕ, OnOk, IfSome, IfNone};
+    ghost use Rattle.olr_route.specs.Queues.{Queued, queue_len};
+
+    /// Nothing waits. Takes no memory.
+    pub fn new(alloc: Global) -> Queue
+        ensures { queue_len result ≡ 0 }
+    {
+        Queue {
+            heap: BinaryHeap::new(alloc),
+        }
+    }
+
+    /// Lets nothing wait any more.
+    pub fn clear(&mut self)
+        ensures { queue_len self.new ≡ 0 }
+    {
+        self.heap.clear();
+    }
+
+    /// Lets a place wait, at a length in decimetres.
+    pub fn push(&mut self, dist: u32, place: u32) -> Result<(), AllocError>
+        ensures there { OnOk result (Queued self.new dist place) }
+        ensures kept { OnOk result ((d p : ℕ) → Queued self.old d p → Queued self.new d p) }
+        ensures len { OnOk result (queue_len self.new ≡ queue_len self.old + 1) }
+    {
+        let entry = u64::from(dist) * PLACES + u64::from(place);
+        self.heap.push(Reverse(entry))?;
+        Ok(())
+    }
+
+    /// Takes out the least length with its place. None where nothing waits at a length of at most `limit`.
+    pub fn pop_within(&mut self, limit: u32) -> Option<(u32, u32)>
+        ensures within { IfSome result (λ x. x.0 ≤ limit) }
+        ensures others { IfSome result (λ x. (d p : ℕ) → Queued self.old d p → Queued self.new d p ⊎ ((d ≡ x.0) × (p ≡ x.1))) }
+        ensures len { IfSome result (λ x. queue_len self.new + 1 ≡ queue_len self.old) }
+        ensures far { IfNone result ((d p : ℕ) → Queued self.new d p → limit < d) }
+        ensures same { IfNone result (self.new ≡ self.old) }
+    {
+        let Reverse(next) = *self.heap.peek()?;
+        if next / PLACES > u64::from(limit) {
+            return None;
+        }
+        let Reverse(nearest) = self.heap.pop()?;
+        Some(((nearest / PLACES) as u32, (nearest % PLACES) as u32))
+    }
+}
