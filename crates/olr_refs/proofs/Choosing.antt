@@ -11,9 +11,9 @@ use Rattle.olr_refs.specs.Along.{IsReach}
 abbrev pub fit : Map → List ℕ → ℕ → ℕ → Bool
 fit M ls i j = fit16 (place_at M (node_at M ls i)) (place_at M (node_at M ls j))
 
--- as it is read: the nodes, their places and the answer
-pub fit_read : (M : Map) (ls : List ℕ) (i j v w : ℕ) (p q : Coord) (b : Bool) → v ≡ node_at M ls i → p ≡ place_at M v → w ≡ node_at M ls j → q ≡ place_at M w → b ≡ fit16 p q → fit M ls i j ≡ b
-fit_read M ls i j v w p q b hv hp hw hq hb = simp (hv, hp, hw, hq) at (sym hb)
+-- as it is read: the places and the answer
+pub fit_read : (M : Map) (ls : List ℕ) (i j : ℕ) (p q : Coord) (b : Bool) → p ≡ place_at M (node_at M ls i) → q ≡ place_at M (node_at M ls j) → b ≡ fit16 p q → fit M ls i j ≡ b
+fit_read M ls i j p q b hp hq hb = simp (hp, hq) at (sym hb)
 
 candidate_of : (M : Map) (ls : List ℕ) (i r j : ℕ) → IsReach M ls i r → i < j → j ≤ r → fit M ls i j ≡ true → Candidate M ls i j
 candidate_of M ls i r j a h k f = let u = a.upto in record { after = h; upto = omega arith; covered = (a.within j h k).0; near = (a.within j h k).1; fits = f }

@@ -26,6 +26,10 @@ known_at M ls k w h = walk_known M _ _ ls w (slice_index ls k) (has_index ls k h
 pub known_read : (M : Map) (ls : List ℕ) (k x : ℕ) → AreJoined M ls → k < length ls → x ≡ get_or ls k x → IsTrue (has_line M x)
 known_read M ls k x w h e = subst (λ y. IsTrue (has_line M y)) (sym (e ∙ get_or_default ls k x 0 h)) (known_at M ls k w h)
 
+-- and of what is read there with another default
+pub known_get : (M : Map) (ls : List ℕ) (k d : ℕ) → AreJoined M ls → k < length ls → IsTrue (has_line M (get_or ls k d))
+known_get M ls k d w h = known_read M ls k (get_or ls k d) w h (get_or_default ls k d (get_or ls k d) h)
+
 -- the last line, as the definitions name it
 pub last_index : (ls : List ℕ) → 0 < length ls → slice_index ls (length ls - 1) ≡ last ls
 last_index [] h = absurd (omega arith)

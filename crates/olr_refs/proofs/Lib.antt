@@ -4,7 +4,6 @@ pub mod Choosing
 pub mod Distinct
 pub mod EachLine
 pub mod Ends
-pub mod ExtendedJoined
 pub mod Extending
 pub mod Faulting
 pub mod Joined
@@ -17,3 +16,4 @@ pub mod Referring
 pub mod Sets
 pub mod Stretches
 pub mod Trimming
+pub mod Widening

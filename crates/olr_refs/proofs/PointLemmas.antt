@@ -97,17 +97,11 @@ reference_parts gs pos_left neg_left (p ∷ q ∷ ks) h =
     }
 
 -- the same of parts that are read, the offsets by distances
-pub reference_read : (M : Map) (ls ds ks : List ℕ) (pos_left neg_left : ℕ) (first : First) (middle : List Middle) (last : Last) (pos neg : Option ℕ) → AreDistances M ls ds → AreLinked M ls ks → 2 ≤ length ks
+pub reference_read : (M : Map) (ls ks : List ℕ) (pos_left neg_left : ℕ) (first : First) (middle : List Middle) (last : Last) (pos neg : Option ℕ) → 2 ≤ length ks
     → first ≡ first_point (legs M ls) (slice_index ks 0) (slice_index ks 1) → middle ≡ middle_points_of (legs M ls) ks → last ≡ last_point (legs M ls) (slice_index ks (length ks - 1 - 1)) (slice_index ks (length ks - 1))
-    → pos ≡ offset pos_left (distance_at ds ks 1 - distance_at ds ks 0) → neg ≡ offset neg_left (distance_at ds ks (length ks - 1) - distance_at ds ks (length ks - 1 - 1))
+    → pos ≡ offset pos_left (dm_between (legs M ls) (slice_index ks 0) (slice_index ks 1)) → neg ≡ offset neg_left (dm_between (legs M ls) (slice_index ks (length ks - 1 - 1)) (slice_index ks (length ks - 1)))
     → ◌≡◌ {A = Reference} (record { first = first; middle = middle; last = last; pos = pos; neg = neg }) (reference_by (legs M ls) pos_left neg_left ks)
-reference_read M ls ds ks pos_left neg_left first middle last pos neg d linked two hf hm hl hp hn =
-    let a = linked 0 (omega arith) in
-    let b = linked_end M ls ks linked two in
-    let after_a = a.after in
-    let after_b = b.after in
-    let pos_is : pos ≡ offset pos_left (dm_between (legs M ls) (slice_index ks 0) (slice_index ks 1)) = hp ∙ ap (offset pos_left) (between_is M ls ds _ _ d (omega arith) a.upto) in
-    let neg_is : neg ≡ offset neg_left (dm_between (legs M ls) (slice_index ks (length ks - 1 - 1)) (slice_index ks (length ks - 1))) = hn ∙ ap (offset neg_left) (between_is M ls ds _ _ d (omega arith) b.upto) in
+reference_read M ls ks pos_left neg_left first middle last pos neg two hf hm hl pos_is neg_is =
     let parts : ◌≡◌ {A = Reference} (record { first = first; middle = middle; last = last; pos = pos; neg = neg }) (record {
       first = first_point (legs M ls) (slice_index ks 0) (slice_index ks 1);
       middle = middle_points_of (legs M ls) ks;

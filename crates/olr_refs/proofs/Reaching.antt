@@ -1,78 +1,73 @@
 -- The positions that are covered, by one walk along the lines after a position.
-use Rattle.std.proofs.Common.{◌≡◌, ◌<◌, ◌≤◌, ◌-◌, ◌+◌, ℕ, min, Bool, true, false, List, [], ◌∷◌, ◌++◌, length, take, drop, refl, sym, ap, ◌∙◌, subst, arith, inl, inr}
+use Rattle.std.proofs.Common.{◌≡◌, ◌<◌, ◌≤◌, ◌-◌, ◌+◌, ℕ, min, max, Bool, true, false, List, [], ◌∷◌, ◌++◌, length, take, drop, refl, sym, ap, ◌∙◌, subst, arith, inl, inr}
 use Rattle.std.proofs.lemmas.Bool.{cases_order}
 use Rattle.std.specs.Prelude.{IsTrue, ◌↔◌}
 use Rattle.std.specs.List.{slice_index}
-use Rattle.olr_spec.specs.Map.{Map, IsMap, start, end}
+use Rattle.olr_spec.specs.Map.{Map, IsMap, start, end, dm}
 use Rattle.olr_spec.specs.Walks.{Walk, Sole, dm_of}
 use Rattle.olr_spec.specs.Extension.{limit}
 use Rattle.olr_spec.specs.Points.{stretch, Covered}
-use Rattle.olr_spec.proofs.WalkLemmas.{empty_sole, prefix_of_sole}
+use Rattle.olr_spec.specs.Looks.{Needed, IsLastTested}
+use Rattle.olr_spec.proofs.WalkLemmas.{empty_sole, prefix_of_sole, dm_of-append}
 use Rattle.olr_spec.proofs.JoinLemmas.{stretch_last}
-use Rattle.olr_route.specs.Labels.{Labels, SoleWithin}
+use Rattle.olr_route.specs.declared.distances.Direction.TheVariants.{Along}
+use Rattle.olr_route.specs.declared.distances.Search.{Search}
+use Rattle.olr_route.specs.Searches.{IsSearch, limit_of}
 use Rattle.olr_refs.specs.Along.{AreJoined, IsFar, IsReach}
-use Rattle.olr_refs.proofs.Stretches.{stretch_split, stretch_joined, next_joined, longer_stretch, later_stretch}
+use Rattle.olr_refs.proofs.Stretches.{stretch_split, stretch_joined, next_joined}
 
 -- the lines after line i, up to line k, are the sole shortest walk
-abbrev pub SoleTo : Map → Labels → List ℕ → ℕ → ℕ → Type 0
-SoleTo M x ls i k = SoleWithin M x (start M (slice_index ls k)) (stretch ls (i + 1) k)
+abbrev pub SoleTo : Map → List ℕ → ℕ → ℕ → Type 0
+SoleTo M ls i k = Sole M (end M (slice_index ls i)) (start M (slice_index ls k)) (stretch ls (i + 1) k)
 
-empty_stretch : (ls : List ℕ) (p : ℕ) → [] ≡ stretch ls p p
+pub empty_stretch : (ls : List ℕ) (p : ℕ) → [] ≡ stretch ls p p
 empty_stretch ls p = let e : 0 ≡ p - p = omega arith in ap (λ (n : ℕ). take n (drop p ls)) e
 
--- the walk begins where the next line does
-source_next : (M : Map) (x : Labels) (ls : List ℕ) (i : ℕ) → AreJoined M ls → x.source ≡ end M (slice_index ls i) → i + 1 < length ls → x.source ≡ start M (slice_index ls (i + 1))
-source_next M x ls i w s h = s ∙ next_joined M ls i w h
-
-pub sole_start : (M : Map) → IsMap M → (x : Labels) (ls : List ℕ) (i : ℕ) → AreJoined M ls → x.source ≡ end M (slice_index ls i) → i + 1 < length ls → SoleTo M x ls i (i + 1)
-sole_start M m x ls i w s h =
-    let empty : SoleWithin M x x.source [] = record { sole = empty_sole M m x.source; within = omega arith } in
-    let there : SoleWithin M x (start M (slice_index ls (i + 1))) [] = subst (λ (t : ℕ). SoleWithin M x t []) (source_next M x ls i w s h) empty in
-    subst (SoleWithin M x (start M (slice_index ls (i + 1)))) (empty_stretch ls (i + 1)) there
+pub sole_start : (M : Map) → IsMap M → (ls : List ℕ) (i : ℕ) → AreJoined M ls → i + 1 < length ls → SoleTo M ls i (i + 1)
+sole_start M m ls i w h =
+    let s = end M (slice_index ls i) in
+    let there : Sole M s (start M (slice_index ls (i + 1))) [] = subst (λ (t : ℕ). Sole M s t []) (next_joined M ls i w h) (empty_sole M m s) in
+    subst (Sole M s (start M (slice_index ls (i + 1)))) (empty_stretch ls (i + 1)) there
 
 -- one line more
-pub sole_on : (M : Map) (x : Labels) (ls : List ℕ) (i k : ℕ) → AreJoined M ls → i < k → k + 1 < length ls
-    → SoleWithin M x (end M (slice_index ls k)) (stretch ls (i + 1) k ++ slice_index ls k ∷ []) → SoleTo M x ls i (k + 1)
-sole_on M x ls i k w h g r =
-    let there : SoleWithin M x (start M (slice_index ls (k + 1))) (stretch ls (i + 1) k ++ slice_index ls k ∷ []) = subst (λ (t : ℕ). SoleWithin M x t (stretch ls (i + 1) k ++ slice_index ls k ∷ [])) (next_joined M ls k w g) r in
-    subst (SoleWithin M x (start M (slice_index ls (k + 1)))) (sym (stretch_last ls (i + 1) k (omega arith) (omega arith))) there
+sole_on : (M : Map) (ls : List ℕ) (i k : ℕ) → AreJoined M ls → i < k → k + 1 < length ls
+    → Sole M (end M (slice_index ls i)) (end M (slice_index ls k)) (stretch ls (i + 1) k ++ slice_index ls k ∷ []) → SoleTo M ls i (k + 1)
+sole_on M ls i k w h g r =
+    let s = end M (slice_index ls i) in
+    let there : Sole M s (start M (slice_index ls (k + 1))) (stretch ls (i + 1) k ++ slice_index ls k ∷ []) = subst (λ (t : ℕ). Sole M s t (stretch ls (i + 1) k ++ slice_index ls k ∷ [])) (next_joined M ls k w g) r in
+    subst (Sole M s (start M (slice_index ls (k + 1)))) (sym (stretch_last ls (i + 1) k (omega arith) (omega arith))) there
 
-pub sole_off : (M : Map) (x : Labels) (ls : List ℕ) (i k : ℕ) → AreJoined M ls → i < k → k + 1 < length ls
-    → SoleTo M x ls i (k + 1) → SoleWithin M x (end M (slice_index ls k)) (stretch ls (i + 1) k ++ slice_index ls k ∷ [])
-sole_off M x ls i k w h g r =
-    let parts : SoleWithin M x (start M (slice_index ls (k + 1))) (stretch ls (i + 1) k ++ slice_index ls k ∷ []) = subst (SoleWithin M x (start M (slice_index ls (k + 1)))) (stretch_last ls (i + 1) k (omega arith) (omega arith)) r in
-    subst (λ (t : ℕ). SoleWithin M x t (stretch ls (i + 1) k ++ slice_index ls k ∷ [])) (sym (next_joined M ls k w g)) parts
+sole_off : (M : Map) (ls : List ℕ) (i k : ℕ) → AreJoined M ls → i < k → k + 1 < length ls
+    → SoleTo M ls i (k + 1) → Sole M (end M (slice_index ls i)) (end M (slice_index ls k)) (stretch ls (i + 1) k ++ slice_index ls k ∷ [])
+sole_off M ls i k w h g r =
+    let s = end M (slice_index ls i) in
+    let parts : Sole M s (start M (slice_index ls (k + 1))) (stretch ls (i + 1) k ++ slice_index ls k ∷ []) = subst (Sole M s (start M (slice_index ls (k + 1)))) (stretch_last ls (i + 1) k (omega arith) (omega arith)) r in
+    subst (λ (t : ℕ). Sole M s t (stretch ls (i + 1) k ++ slice_index ls k ∷ [])) (sym (next_joined M ls k w g)) parts
 
 -- a shorter walk along the same lines is sole too
-pub sole_shorter : (M : Map) (x : Labels) (ls : List ℕ) (i j k : ℕ) → AreJoined M ls → x.source ≡ end M (slice_index ls i) → i < j → j ≤ k → k < length ls
-    → Sole M x.source (start M (slice_index ls k)) (stretch ls (i + 1) k) → Sole M x.source (start M (slice_index ls j)) (stretch ls (i + 1) j)
-sole_shorter M x ls i j k w s h g f r =
-    let whole : Sole M x.source (start M (slice_index ls k)) (stretch ls (i + 1) j ++ stretch ls j k) = subst (Sole M x.source (start M (slice_index ls k))) (stretch_split ls (i + 1) j k (omega arith) g) r in
-    let first = subst (λ (v : ℕ). Walk M v (start M (slice_index ls j)) (stretch ls (i + 1) j)) (sym (source_next M x ls i w s (omega arith))) (stretch_joined M ls (i + 1) j w (omega arith) (omega arith)) in
-    prefix_of_sole M x.source (start M (slice_index ls j)) (start M (slice_index ls k)) (stretch ls (i + 1) j) (stretch ls j k) whole first (stretch_joined M ls j k w g f)
+sole_shorter : (M : Map) (ls : List ℕ) (i j k : ℕ) → AreJoined M ls → i < j → j ≤ k → k < length ls → SoleTo M ls i k → SoleTo M ls i j
+sole_shorter M ls i j k w h g f r =
+    let s = end M (slice_index ls i) in
+    let whole : Sole M s (start M (slice_index ls k)) (stretch ls (i + 1) j ++ stretch ls j k) = subst (Sole M s (start M (slice_index ls k))) (stretch_split ls (i + 1) j k (omega arith) g) r in
+    let first = subst (λ (v : ℕ). Walk M v (start M (slice_index ls j)) (stretch ls (i + 1) j)) (sym (next_joined M ls i w (omega arith))) (stretch_joined M ls (i + 1) j w (omega arith) (omega arith)) in
+    prefix_of_sole M s (start M (slice_index ls j)) (start M (slice_index ls k)) (stretch ls (i + 1) j) (stretch ls j k) whole first (stretch_joined M ls j k w g f)
 
 -- ---- what is covered
 
--- a position before the last line's end is covered where the lines up to it are the sole walk
-covered_by : (M : Map) (x : Labels) (ls : List ℕ) (i j m : ℕ) → x.source ≡ end M (slice_index ls i) → min j (length ls - 1) ≡ m → Sole M x.source (start M (slice_index ls m)) (stretch ls (i + 1) m) → Covered M ls i j
-covered_by M x ls i j m s e r =
-    let there : Sole M (end M (slice_index ls i)) (start M (slice_index ls m)) (stretch ls (i + 1) m) = subst (λ (v : ℕ). Sole M v (start M (slice_index ls m)) (stretch ls (i + 1) m)) s r in
-    λ h. subst (λ (n : ℕ). Sole M (end M (slice_index ls i)) (start M (slice_index ls n)) (stretch ls (i + 1) n)) (sym e) there
+-- a position is covered where the lines up to it, the last line left out, are the sole walk
+covered_by : (M : Map) (ls : List ℕ) (i j m : ℕ) → min j (length ls - 1) ≡ m → SoleTo M ls i m → Covered M ls i j
+covered_by M ls i j m e r = λ h. subst (SoleTo M ls i) (sym e) r
 
-sole_of : (M : Map) (x : Labels) (ls : List ℕ) (i j m : ℕ) → x.source ≡ end M (slice_index ls i) → min j (length ls - 1) ≡ m → i < m → Covered M ls i j → Sole M x.source (start M (slice_index ls m)) (stretch ls (i + 1) m)
-sole_of M x ls i j m s e h c =
-    let lt : i < min j (length ls - 1) = omega arith in
-    let there = subst (λ (n : ℕ). Sole M (end M (slice_index ls i)) (start M (slice_index ls n)) (stretch ls (i + 1) n)) e (c lt) in
-    subst (λ (v : ℕ). Sole M v (start M (slice_index ls m)) (stretch ls (i + 1) m)) (sym s) there
+sole_of : (M : Map) (ls : List ℕ) (i j m : ℕ) → min j (length ls - 1) ≡ m → i < m → Covered M ls i j → SoleTo M ls i m
+sole_of M ls i j m e h c = let lt : i < min j (length ls - 1) = omega arith in subst (SoleTo M ls i) e (c lt)
 
 -- nothing lies between a position and the last line
 covered_last : (M : Map) (ls : List ℕ) (i j : ℕ) → length ls ≤ i + 1 → Covered M ls i j
 covered_last M ls i j h = λ lt. absurd (omega arith)
 
 -- the lines after i are the sole walk as far as the limit allows
-pub reach_far : (M : Map) (x : Labels) (ls : List ℕ) (i far : ℕ) → AreJoined M ls → x.source ≡ end M (slice_index ls i) → IsFar M ls i far
-    → (i + 1 ≤ min far (length ls - 1) → SoleTo M x ls i (min far (length ls - 1))) → IsReach M ls i far
-reach_far M x ls i far w s f r =
+pub reach_far : (M : Map) (ls : List ℕ) (i far : ℕ) → AreJoined M ls → IsFar M ls i far → (i + 1 ≤ min far (length ls - 1) → SoleTo M ls i (min far (length ls - 1))) → IsReach M ls i far
+reach_far M ls i far w f r =
     record {
       from = f.from;
       upto = f.upto;
@@ -86,15 +81,14 @@ reach_far M x ls i far w s f r =
       | inr (inl lt) ↦ covered_last M ls i j (omega arith)
       | inr (inr gt) ↦
           let u = f.upto in
-          let m : ℕ = min j (length ls - 1) in
-          covered_by M x ls i j (min j (length ls - 1)) s refl
-          (sole_shorter M x ls i (min j (length ls - 1)) (min far (length ls - 1)) w s (omega arith) (omega arith) (omega arith) (r (omega arith)).sole)
+          covered_by M ls i j (min j (length ls - 1)) refl
+          (sole_shorter M ls i (min j (length ls - 1)) (min far (length ls - 1)) w (omega arith) (omega arith) (omega arith) (r (omega arith)))
     ]
 
 -- they are it up to line k, and no longer with line k
-pub reach_to : (M : Map) (x : Labels) (ls : List ℕ) (i far k : ℕ) → AreJoined M ls → x.source ≡ end M (slice_index ls i) → x.limit ≡ limit → IsFar M ls i far
-    → i < k → k < min far (length ls - 1) → SoleTo M x ls i k → ¬ SoleTo M x ls i (k + 1) → IsReach M ls i k
-reach_to M x ls i far k w s l f h g r no_more =
+pub reach_to : (M : Map) (ls : List ℕ) (i far k : ℕ) → AreJoined M ls → IsFar M ls i far
+    → i < k → k < min far (length ls - 1) → SoleTo M ls i k → ¬ SoleTo M ls i (k + 1) → IsReach M ls i k
+reach_to M ls i far k w f h g r no_more =
     let u = f.upto in
     record {
       from = omega arith;
@@ -104,16 +98,13 @@ reach_to M x ls i far k w s l f h g r no_more =
     }
   where
     within : (j : ℕ) → i < j → j ≤ k → Covered M ls i j
-    within j a b = let u = f.upto in covered_by M x ls i j j s (omega arith) (sole_shorter M x ls i j k w s a b (omega arith) r.sole)
+    within j a b = let u = f.upto in covered_by M ls i j j (omega arith) (sole_shorter M ls i j k w a b (omega arith) r)
 
     not_near : (j : ℕ) → k < j → j ≤ length ls → Covered M ls i j → j ≤ far → ⊥
     not_near j a b c n =
         let u = f.upto in
-        let m : Sole M x.source (start M (slice_index ls (min j (length ls - 1)))) (stretch ls (i + 1) (min j (length ls - 1))) = sole_of M x ls i j (min j (length ls - 1)) s refl (omega arith) c in
-        let near = f.near j (omega arith) n in
-        let later = later_stretch M ls i (i + 1) (k + 1) (omega arith) (omega arith) in
-        let longer = longer_stretch M ls i (k + 1) j (omega arith) (omega arith) in
-        no_more record { sole = sole_shorter M x ls i (k + 1) (min j (length ls - 1)) w s (omega arith) (omega arith) (omega arith) m; within = omega arith }
+        let m : SoleTo M ls i (min j (length ls - 1)) = sole_of M ls i j (min j (length ls - 1)) refl (omega arith) c in
+        no_more (sole_shorter M ls i (k + 1) (min j (length ls - 1)) w (omega arith) (omega arith) (omega arith) m)
 
     beyond : (j : ℕ) → k < j → j ≤ length ls → Covered M ls i j → limit < dm_of M (stretch ls i j)
     beyond j a b c = elim (cases_order far j) [
@@ -122,21 +113,94 @@ reach_to M x ls i far k w s l f h g r no_more =
       | inr (inr gt) ↦ absurd (not_near j a b c (omega arith))
     ]
 
+-- ---- what is tested last
+
+tested_before : (M : Map) (ls : List ℕ) (i k : ℕ) → AreJoined M ls → i < k → k < length ls → SoleTo M ls i k → (m : ℕ) → i < m → m ≤ k → Covered M ls i m
+tested_before M ls i k w h g r m a b = covered_by M ls i m m (omega arith) (sole_shorter M ls i m k w a b g r)
+
+-- no position is needed behind those that are near enough
+needed_most : (M : Map) (ls : List ℕ) (i far : ℕ) → IsFar M ls i far → (m : ℕ) → Needed M ls i m → m ≤ min far (length ls - 1)
+needed_most M ls i far f m n =
+    elim (cases_order far n.0) [
+      | inl e ↦ let le = n.3 in omega arith
+      | inr (inl lt) ↦ let beyond = f.beyond n.0 lt n.1 in let near = n.2 in absurd (omega arith)
+      | inr (inr gt) ↦ let le = n.3 in omega arith
+    ]
+
+needed_far : (M : Map) (ls : List ℕ) (i far k : ℕ) → IsFar M ls i far → i < far → k ≤ min far (length ls - 1) → Needed M ls i k
+needed_far M ls i far k f h g = let from = f.from in (far, f.upto, f.near far h (omega arith), g)
+
+-- none isn't covered
+pub last_far : (M : Map) (ls : List ℕ) (i far k : ℕ) → AreJoined M ls → IsFar M ls i far → i + 1 < length ls → k ≡ max (min far (length ls - 1)) (i + 1) → SoleTo M ls i k → IsLastTested M ls i k
+last_far M ls i far k w f h e r =
+    record {
+      after = omega arith;
+      inside = omega arith;
+      before = λ m a b. tested_before M ls i k w (omega arith) (omega arith) r m a (omega arith);
+      needed = elim (cases_order far (i + 1)) [
+        | inl same ↦ inl (omega arith)
+        | inr (inl lt) ↦ inl (omega arith)
+        | inr (inr gt) ↦ inr (needed_far M ls i far k f (omega arith) (omega arith))
+      ];
+      last = inr (λ m n. let most = needed_most M ls i far f m n in omega arith);
+    }
+
+-- line k doesn't prolong the sole walk
+pub last_to : (M : Map) (ls : List ℕ) (i far k : ℕ) → AreJoined M ls → IsFar M ls i far
+    → i < k → k < min far (length ls - 1) → SoleTo M ls i k → ¬ SoleTo M ls i (k + 1) → IsLastTested M ls i (k + 1)
+last_to M ls i far k w f h g r no_more =
+    let u = f.upto in
+    record {
+      after = omega arith;
+      inside = omega arith;
+      before = λ m a b. tested_before M ls i k w h (omega arith) r m a (omega arith);
+      needed = inr (needed_far M ls i far (k + 1) f (omega arith) (omega arith));
+      last = inl (λ c. no_more (sole_of M ls i (k + 1) (k + 1) (omega arith) (omega arith) c));
+    }
+
+-- ---- the search
+
+-- what the search from the end of line i has told where it is settled to position k
+pub record Tests (M : Map) (place : ℕ → ℕ) (ls : List ℕ) (i k : ℕ) (s : Search) : Type 0 where
+  pub search : IsSearch M place Along ((end M (slice_index ls i), 0) ∷ []) s
+  pub settled : limit_of s ≡ dm_of M (stretch ls (i + 1) k)
+  pub sole : SoleTo M ls i k
+
+pub tests_start : (M : Map) → IsMap M → (place : ℕ → ℕ) (ls : List ℕ) (i : ℕ) (s : Search) → AreJoined M ls → i + 1 < length ls
+    → IsSearch M place Along ((end M (slice_index ls i), 0) ∷ []) s → limit_of s ≡ 0 → Tests M place ls i (i + 1) s
+tests_start M m place ls i s w h search at_source =
+    record { search = search; settled = at_source ∙ ap (dm_of M) (empty_stretch ls (i + 1)); sole = sole_start M m ls i w h }
+
+pub stretch_longer : (M : Map) (ls : List ℕ) (p k : ℕ) → p ≤ k → k < length ls → dm_of M (stretch ls p (k + 1)) ≡ dm_of M (stretch ls p k) + dm M (slice_index ls k)
+stretch_longer M ls p k h g = let e = ap (dm_of M) (stretch_last ls p k h g) ∙ dm_of-append M (stretch ls p k) (slice_index ls k ∷ []) in omega arith
+
+-- how far it is settled to test line k
+pub settled_on : (M : Map) (ls : List ℕ) (i k old to new : ℕ) → i < k → k < length ls → old ≡ dm_of M (stretch ls (i + 1) k) → to ≡ dm_of M (stretch ls (i + 1) (k + 1)) → new ≡ max old to
+    → new ≡ dm_of M (stretch ls (i + 1) (k + 1))
+settled_on M ls i k old to new h g e f n = let longer = stretch_longer M ls (i + 1) k (omega arith) g in omega arith
+
 -- what the test of line k says, as it is read
-abbrev pub Extends : Map → Labels → ℕ → Bool → Type 0
-Extends M x line b = (walk : List ℕ) → SoleWithin M x (start M line) walk → (IsTrue b ↔ SoleWithin M x (end M line) (walk ++ line ∷ []))
+abbrev pub Extends : Map → (ℕ → ℕ) → Search → ℕ → Bool → Type 0
+Extends M place search line b =
+    (s : ℕ) (walk : List ℕ) → IsSearch M place Along ((s, 0) ∷ []) search → Sole M s (start M line) walk → dm_of M walk + dm M line ≤ limit_of search
+    → (IsTrue b ↔ Sole M s (end M line) (walk ++ line ∷ []))
 
-pub sole_if : (M : Map) (x : Labels) (ls : List ℕ) (i k line : ℕ) (b : Bool) → AreJoined M ls → i < k → k + 1 < length ls → line ≡ slice_index ls k → Extends M x line b
-    → SoleTo M x ls i k → b ≡ true → SoleTo M x ls i (k + 1)
-sole_if M x ls i k line b w h g e f r t =
-    let f' : Extends M x (slice_index ls k) b = subst (λ (y : ℕ). Extends M x y b) e f in
-    sole_on M x ls i k w h g ((f' (stretch ls (i + 1) k) r).0 t)
+extends_at : (M : Map) (place : ℕ → ℕ) (ls : List ℕ) (i k line : ℕ) (b : Bool) (s : Search) → AreJoined M ls → i < k → k + 1 < length ls → line ≡ slice_index ls k → Extends M place s line b
+    → IsSearch M place Along ((end M (slice_index ls i), 0) ∷ []) s → limit_of s ≡ dm_of M (stretch ls (i + 1) (k + 1)) → SoleTo M ls i k
+    → (IsTrue b ↔ Sole M (end M (slice_index ls i)) (end M (slice_index ls k)) (stretch ls (i + 1) k ++ slice_index ls k ∷ []))
+extends_at M place ls i k line b s w h g e f search settled r =
+    let f' : Extends M place s (slice_index ls k) b = subst (λ (y : ℕ). Extends M place s y b) e f in
+    let longer = stretch_longer M ls (i + 1) k (omega arith) (omega arith) in
+    f' (end M (slice_index ls i)) (stretch ls (i + 1) k) search r (omega arith)
 
-pub not_sole_if : (M : Map) (x : Labels) (ls : List ℕ) (i k line : ℕ) (b : Bool) → AreJoined M ls → i < k → k + 1 < length ls → line ≡ slice_index ls k → Extends M x line b
-    → SoleTo M x ls i k → b ≡ false → ¬ SoleTo M x ls i (k + 1)
-not_sole_if M x ls i k line b w h g e f r t more =
-    let f' : Extends M x (slice_index ls k) b = subst (λ (y : ℕ). Extends M x y b) e f in
-    let is : b ≡ true = (f' (stretch ls (i + 1) k) r).1 (sole_off M x ls i k w h g more) in cc
+pub sole_if : (M : Map) (place : ℕ → ℕ) (ls : List ℕ) (i k line : ℕ) (b : Bool) (s : Search) → AreJoined M ls → i < k → k + 1 < length ls → line ≡ slice_index ls k → Extends M place s line b
+    → IsSearch M place Along ((end M (slice_index ls i), 0) ∷ []) s → limit_of s ≡ dm_of M (stretch ls (i + 1) (k + 1)) → SoleTo M ls i k → b ≡ true → SoleTo M ls i (k + 1)
+sole_if M place ls i k line b s w h g e f search settled r t = sole_on M ls i k w h g ((extends_at M place ls i k line b s w h g e f search settled r).0 t)
+
+pub not_sole_if : (M : Map) (place : ℕ → ℕ) (ls : List ℕ) (i k line : ℕ) (b : Bool) (s : Search) → AreJoined M ls → i < k → k + 1 < length ls → line ≡ slice_index ls k → Extends M place s line b
+    → IsSearch M place Along ((end M (slice_index ls i), 0) ∷ []) s → limit_of s ≡ dm_of M (stretch ls (i + 1) (k + 1)) → SoleTo M ls i k → b ≡ false → ¬ SoleTo M ls i (k + 1)
+not_sole_if M place ls i k line b s w h g e f search settled r t more =
+    let is : b ≡ true = (extends_at M place ls i k line b s w h g e f search settled r).1 (sole_off M ls i k w h g more) in cc
 
 -- where at most one line follows line i, nothing lies between
 pub reach_near_end : (M : Map) → IsMap M → (ls : List ℕ) (i far : ℕ) → AreJoined M ls → i < length ls → length ls ≤ i + 2 → IsFar M ls i far → IsReach M ls i far

@@ -1,8 +1,7 @@
--- The answer of a path, put together of its extension, its points and its reference.
-use Rattle.std.proofs.Common.{◌≡◌, ◌<◌, ◌+◌, ◌==◌, ◌↔◌, ◌⊎◌, ℕ, Bool, true, cond, List, [], ◌∷◌, length, Option, Some, None, MatchOption, Contains, refl, sym, ap, ◌∙◌, subst, arith, inl, inr}
+-- The encoding of a path, put together of its extension, its points, its looks and its reference.
+use Rattle.std.proofs.Common.{◌≡◌, ◌<◌, ◌+◌, ◌==◌, ◌↔◌, ℕ, Bool, true, cond, List, [], ◌∷◌, length, Option, Some, None, MatchOption, Contains, refl, sym, ap, ◌∙◌, subst, arith, inl, inr}
 use Rattle.std.proofs.lemmas.Bool.{eq-eqb}
-use Rattle.std.specs.Option.{option_map}
-use Rattle.std.specs.Prelude.{IsTrue, Result, Ok, Err, IfOk, OnOk}
+use Rattle.std.specs.Prelude.{IsTrue, nat_lt, Result, Ok, Err, IfOk, OnOk}
 use Rattle.olr_spec.specs.Map.{Map, IsMap, Agree, has_line}
 use Rattle.olr_spec.specs.Walks.{dm_of}
 use Rattle.olr_spec.specs.Extension.{Path, Tried, is_path, extended}
@@ -11,8 +10,9 @@ use Rattle.olr_spec.specs.Reference.{Reference, legs, reference, kept}
 use Rattle.olr_spec.specs.Encoding as spec
 use Rattle.olr_spec.specs.Encoding.{first_unknown, first_break, path_fault, answer_of, Encoding, Encodes}
 use Rattle.olr_spec.specs.Joins.{Joins}
-use Rattle.olr_spec.specs.Footprint.{NodeOf, Searched, Touched, On_path, On_start_chain, On_end_chain, Within_reach, Foot, FootOf}
-use Rattle.olr_spec.proofs.AnswerLemmas.{or_None, one_follow, path_nonempty, sound_lines, all_first, all_last}
+use Rattle.olr_spec.specs.Footprint.{Searched, Within_reach, Foot, FootOf}
+use Rattle.olr_spec.specs.Looks.{Look, IsLook, Own, OwnOf, OwnOfExtended, LooksFrom, LooksOf, LooksOfExtended, looking}
+use Rattle.olr_spec.proofs.AnswerLemmas.{path_nonempty, sound_lines, all_first, all_last}
 use Rattle.olr_spec.proofs.ChainLemmas.{one_tried}
 use Rattle.olr_spec.proofs.FitLemmas.{extended_sound, answered}
 use Rattle.olr_spec.proofs.JoinLemmas.{routes_join}
@@ -22,28 +22,19 @@ use Rattle.olr_refs.specs.declared.answer.Answer.TheVariants.{Points, Refused}
 use Rattle.olr_refs.specs.Answers as answers
 use Rattle.olr_refs.specs.Along.{AreJoined}
 use Rattle.olr_route.specs.declared.work.Work.{Work}
-use Rattle.olr_refs.specs.Choice.{ForPoints, NotesSearched, Searches, searches_of}
+use Rattle.olr_refs.specs.Choice.{ForPoints, Looked, searches_of}
+use Rattle.olr_refs.proofs.Noting.{looked_wider, zip_length}
+use Rattle.std.proofs.lemmas.List.Sums.{length-filter}
 use Rattle.olr_refs.specs.Extends.{Extends}
 use Rattle.olr_refs.specs.Kept.{later}
 use Rattle.olr_refs.specs.Referring.{OfPath, JoinsOf, SearchesOf}
-use Rattle.olr_refs.proofs.ExtendedJoined.{extended_joined}
-use Rattle.olr_refs.proofs.Faulting.{joined_of}
+use Rattle.olr_spec.proofs.JoinedLemmas.{extended_joined}
 
 -- ---- a path without a fault of its own
 
-map_none : {X Y : Type 0} (f : X → Y) (o : Option X) → option_map f o ≡ None → o ≡ None
-map_none f None e = refl
-map_none f (Some x) e = absurd cc
-
-pub path_joined : (M : Map) (P : Path) → IsTrue (is_path P.lines) → path_fault M P ≡ None → AreJoined M P.lines
-path_joined M P is none =
-    let first = or_None (option_map spec.Unknown_line (first_unknown M P.lines)) _ none in
-    let second = or_None (option_map spec.Broken (first_break M 0 P.lines)) _ first.1 in
-    joined_of M P.lines (path_nonempty P.lines is) (map_none spec.Unknown_line (first_unknown M P.lines) first.0) (map_none spec.Broken (first_break M 0 P.lines) second.0)
-
 pub whole_joined : (M : Map) (P E : Path) (F G : List ℕ) → IsTrue (is_path P.lines) → path_fault M P ≡ None → Extends M P E F G → AreJoined M E.lines
 whole_joined M P E F G is none x =
-    subst (λ (e : Path). AreJoined M e.lines) (sym x.path) (extended_joined M P x.before x.after (path_nonempty P.lines is) (path_joined M P is none) x.tried)
+    subst (λ (e : Path). AreJoined M e.lines) (sym x.path) (extended_joined M P is none x.before x.after x.tried)
 
 pub whole_short : (M : Map) (P E : Path) (F G : List ℕ) → IsTrue (is_path P.lines) → path_fault M P ≡ None → Extends M P E F G → E.pos + E.neg < dm_of M E.lines
 whole_short M P E F G is none x =
@@ -92,73 +83,72 @@ joins_of M P E F G (Points r) x a =
     of_path M P E F G (λ e js. (last_point 0 js ≡ length e.lines) × Joins M e.lines (kept (legs M e.lines) e.pos e.neg js)) x
     (a.0, a.1, (end, routes_join M E.lines a.0 E.pos E.neg a.1 end))
 
--- ---- the footprint
+-- ---- the own nodes, and the looks
 
-touched_cases : (M : Map) (ls b a js : List ℕ) (v : ℕ) → Touched M ls b a js v → (NodeOf M ls v ⊎ (NodeOf M b v ⊎ NodeOf M a v)) ⊎ (Searched M ls (0 ∷ js) v)
-touched_cases M ls b a js v (On_path n) = inl (inl n)
-touched_cases M ls b a js v (On_start_chain n) = inl (inr (inl n))
-touched_cases M ls b a js v (On_end_chain n) = inl (inr (inr n))
-touched_cases M ls b a js v (Within_reach s) = inr s
-
-touched_from : (M : Map) (ls b a js : List ℕ) (v : ℕ) → (NodeOf M ls v ⊎ (NodeOf M b v ⊎ NodeOf M a v)) ⊎ (Searched M ls (0 ∷ js) v) → Touched M ls b a js v
-touched_from M ls b a js v (inl (inl n)) = On_path n
-touched_from M ls b a js v (inl (inr (inl n))) = On_start_chain n
-touched_from M ls b a js v (inl (inr (inr n))) = On_end_chain n
-touched_from M ls b a js v (inr s) = Within_reach s
-
--- the parts of a footprint are those that were found
-one_foot : (M : Map) → IsMap M → (P : Path) → IsTrue (is_path P.lines) → path_fault M P ≡ None → (b a js : List ℕ) → Tried M P b a → Follow M (extended M P b a).lines 0 js → (v : ℕ) → FootOf M P v
-    → Touched M (extended M P b a).lines b a js v
-one_foot M m P is none b a js t f v foot =
+-- the own nodes are those that were noted
+one_own : (M : Map) → IsMap M → (P : Path) → IsTrue (is_path P.lines) → path_fault M P ≡ None → (b a : List ℕ) → Tried M P b a → (v : ℕ) → OwnOfExtended M P v → Own M (extended M P b a).lines b a v
+one_own M m P is none b a t v own =
     let n = path_nonempty P.lines is in
     let Known : ℕ → Type 0 = λ x. IsTrue (has_line M x) in
     let known = sound_lines M P none in
-    let chains = one_tried M m P n (all_first Known P.lines n known) (all_last Known P.lines n known) foot.before foot.after b a foot.tried t in
-    let same : extended M P foot.before foot.after ≡ extended M P b a = λ k. extended M P (chains.0 k) (chains.1 k) in
-    let points : foot.points ≡ js = one_follow M (extended M P b a).lines 0 foot.points js (subst (λ (E : Path). Follow M E.lines 0 foot.points) same foot.follow) f in
-    let moved : Touched M (extended M P b a).lines foot.before foot.after foot.points v = subst (λ (E : Path). Touched M E.lines foot.before foot.after foot.points v) same foot.touched in
-    let first : Touched M (extended M P b a).lines b foot.after foot.points v = subst (λ (c : List ℕ). Touched M (extended M P b a).lines c foot.after foot.points v) chains.0 moved in
-    let second : Touched M (extended M P b a).lines b a foot.points v = subst (λ (c : List ℕ). Touched M (extended M P b a).lines b c foot.points v) chains.1 first in
-    subst (λ (ks : List ℕ). Touched M (extended M P b a).lines b a ks v) points second
+    let chains = one_tried M m P n (all_first Known P.lines n known) (all_last Known P.lines n known) own.before own.after b a own.tried t in
+    let first : Own M (extended M P b own.after).lines b own.after v = subst (λ (c : List ℕ). Own M (extended M P c own.after).lines c own.after v) chains.0 own.own in
+    subst (λ (c : List ℕ). Own M (extended M P b c).lines b c v) chains.1 first
 
-pub foot_of : (M : Map) → IsMap M → (P E : Path) (F G H : List ℕ) → IsTrue (is_path P.lines) → path_fault M P ≡ None → F ≡ [] → Extends M P E F G → ForPoints M E.lines (NotesSearched M E.lines G H)
-    → (v : ℕ) → (Contains H v) ↔ FootOf M P v
-foot_of M m P E F G H is none empty x s v = (forth, back)
+pub own_of : (M : Map) → IsMap M → (P E : Path) (F G : List ℕ) → IsTrue (is_path P.lines) → path_fault M P ≡ None → F ≡ [] → Extends M P E F G → (v : ℕ) → Contains G v ↔ OwnOfExtended M P v
+own_of M m P E F G is none empty x v = (forth, back)
   where
-    E' : Path
-    E' = extended M P x.before x.after
-
-    follow : Follow M (extended M P x.before x.after).lines 0 s.0
-    follow = subst (λ (e : Path). Follow M e.lines 0 s.0) x.path s.1
-
-    at : Touched M E.lines x.before x.after s.0 v → Touched M (extended M P x.before x.after).lines x.before x.after s.0 v
-    at t = subst (λ (e : Path). Touched M e.lines x.before x.after s.0 v) x.path t
-
-    at_back : Touched M (extended M P x.before x.after).lines x.before x.after s.0 v → Touched M E.lines x.before x.after s.0 v
-    at_back t = subst (λ (e : Path). Touched M e.lines x.before x.after s.0 v) (sym x.path) t
-
     none_before : Contains F v → ⊥
     none_before c = let c' : Contains [] v = subst (λ (f : List ℕ). Contains f v) empty c in let never : c'.0 < 0 = c'.1 in omega arith
 
-    found : Contains H v → (NodeOf M E.lines v ⊎ (NodeOf M x.before v ⊎ NodeOf M x.after v)) ⊎ (Searched M E.lines (0 ∷ s.0) v)
-    found c = elim ((s.2 v).0 c) [ inl g ↦ elim ((x.noted v).0 g) [ inl f ↦ absurd (none_before f) | inr n ↦ inl n ] | inr r ↦ inr r ]
-
-    forth : Contains H v → FootOf M P v
-    forth c = record { before = x.before; after = x.after; points = s.0; tried = x.tried; follow = follow; touched = at (touched_from M E.lines x.before x.after s.0 v (found c)) }
-
-    back : FootOf M P v → Contains H v
-    back foot = elim (touched_cases M E.lines x.before x.after s.0 v (at_back (one_foot M m P is none x.before x.after s.0 x.tried follow v foot))) [
-      | inl n ↦ (s.2 v).1 (inl ((x.noted v).1 (inr n)))
-      | inr r ↦ (s.2 v).1 (inr r)
+    forth : Contains G v → OwnOfExtended M P v
+    forth c = elim ((x.noted v).0 c) [
+      | inl f ↦ absurd (none_before f)
+      | inr n ↦ record { before = x.before; after = x.after; tried = x.tried; own = subst (λ (e : Path). Own M e.lines x.before x.after v) x.path n }
     ]
+
+    back : OwnOfExtended M P v → Contains G v
+    back own = (x.noted v).1 (inr (subst (λ (e : Path). Own M e.lines x.before x.after v) (sym x.path) (one_own M m P is none x.before x.after x.tried v own)))
+
+pub looks_of : (M : Map) (P E : Path) (F G : List ℕ) (looks : List Look) → Extends M P E F G → ForPoints M E.lines (λ js. LooksFrom M E.lines (looking E.lines (0 ∷ js)) looks) → LooksOfExtended M P looks
+looks_of M P E F G looks x a =
+    record {
+      before = x.before;
+      after = x.after;
+      points = a.0;
+      tried = x.tried;
+      follow = subst (λ (e : Path). Follow M e.lines 0 a.0) x.path a.1;
+      each = subst (λ (e : Path). LooksFrom M e.lines (looking e.lines (0 ∷ a.0)) looks) x.path a.2;
+    }
+
+-- what is searched from the points is in the footprint
+pub looked_of : (M : Map) (P E : Path) (F G : List ℕ) (old new : Work) (n : ℕ) → Extends M P E F G → ForPoints M E.lines (λ js. Looked old new n (Searched M E.lines (0 ∷ js))) → Looked old new n (FootOf M P)
+looked_of M P E F G old new n x a = looked_wider old new n (Searched M E.lines (0 ∷ a.0)) (FootOf M P) there a.2
+  where
+    there : (v : ℕ) → Searched M E.lines (0 ∷ a.0) v → FootOf M P v
+    there v s =
+        record {
+          before = x.before;
+          after = x.after;
+          points = a.0;
+          tried = x.tried;
+          follow = subst (λ (e : Path). Follow M e.lines 0 a.0) x.path a.1;
+          touched = Within_reach (subst (λ (e : Path). Searched M e.lines (0 ∷ a.0) v) x.path s);
+        }
 
 -- ---- by the path's fault
 
 pub encodes_by : (M : Map) (P : Path) (A : spec.Answer) → path_fault M P ≡ None → Encoding M P A → Encodes M P A
 encodes_by M P A none e = subst (λ (o : Option spec.Refusal). MatchOption o (Encoding M P A) (λ r. A ≡ spec.Refused r)) (sym none) e
 
-pub foot_by : (M : Map) (P : Path) (v : ℕ) (H : List ℕ) → path_fault M P ≡ None → ((Contains H v) ↔ FootOf M P v) → (Contains H v) ↔ Foot M P v
-foot_by M P v H none f = subst (λ (o : Option spec.Refusal). (Contains H v) ↔ MatchOption o (FootOf M P v) (λ _. ⊥)) (sym none) f
+pub own_by : (M : Map) (P : Path) (v : ℕ) (H : List ℕ) → path_fault M P ≡ None → ((Contains H v) ↔ OwnOfExtended M P v) → (Contains H v) ↔ OwnOf M P v
+own_by M P v H none f = subst (λ (o : Option spec.Refusal). (Contains H v) ↔ MatchOption o (OwnOfExtended M P v) (λ _. ⊥)) (sym none) f
+
+pub looks_by : (M : Map) (P : Path) (looks : List Look) → path_fault M P ≡ None → LooksOfExtended M P looks → LooksOf M P looks
+looks_by M P looks none f = subst (λ (o : Option spec.Refusal). MatchOption o (LooksOfExtended M P looks) (λ _. looks ≡ [])) (sym none) f
+
+pub foot_from : (M : Map) (P : Path) (v : ℕ) → path_fault M P ≡ None → FootOf M P v → Foot M P v
+foot_from M P v none f = subst (λ (o : Option spec.Refusal). MatchOption o (FootOf M P v) (λ _. ⊥)) (sym none) f
 
 pub local_by : (M : Map) → IsMap M → (P : Path) → IsTrue (is_path P.lines) → (A : spec.Answer) (H : List ℕ) → Encodes M P A → ((v : ℕ) → (Contains H v) ↔ Foot M P v)
     → (N : Map) → IsMap N → Agree M N P.lines (Contains H) → Encodes N P A
@@ -167,10 +157,13 @@ local_by M m P is A H e f N n g = local_answer M N m n P is record { nodes = λ 
 pub refused_by : (M : Map) (P : Path) (f : spec.Refusal) → path_fault M P ≡ Some f → Encodes M P (spec.Refused f)
 refused_by M P f e = subst (λ (o : Option spec.Refusal). MatchOption o (Encoding M P (spec.Refused f)) (λ r. spec.Refused f ≡ spec.Refused r)) (sym e) refl
 
-pub nowhere : (M : Map) (P : Path) (H : List ℕ) (f : spec.Refusal) → path_fault M P ≡ Some f → H ≡ [] → (v : ℕ) → (Contains H v) ↔ Foot M P v
-nowhere M P H f e empty v =
+pub owns_nothing : (M : Map) (P : Path) (H : List ℕ) (f : spec.Refusal) → path_fault M P ≡ Some f → H ≡ [] → (v : ℕ) → (Contains H v) ↔ OwnOf M P v
+owns_nothing M P H f e empty v =
     let nothing : (Contains H v) ↔ ⊥ = ((λ c. let c' : Contains [] v = subst (λ (h : List ℕ). Contains h v) empty c in let never : c'.0 < 0 = c'.1 in omega arith), (λ b. absurd b)) in
-    subst (λ (o : Option spec.Refusal). (Contains H v) ↔ MatchOption o (FootOf M P v) (λ _. ⊥)) (sym e) nothing
+    subst (λ (o : Option spec.Refusal). (Contains H v) ↔ MatchOption o (OwnOfExtended M P v) (λ _. ⊥)) (sym e) nothing
+
+pub looks_nowhere_by : (M : Map) (P : Path) (looks : List Look) (f : spec.Refusal) → path_fault M P ≡ Some f → looks ≡ [] → LooksOf M P looks
+looks_nowhere_by M P looks f e empty = subst (λ (o : Option spec.Refusal). MatchOption o (LooksOfExtended M P looks) (λ _. looks ≡ [])) (sym e) empty
 
 -- ---- where a result is a success
 
@@ -182,14 +175,28 @@ pub on_ok : {A F : Type 0} (r : Result A F) (P : A → Type 0) (Q : Type 0) → 
 on_ok (Ok x) P Q f h = f x h
 on_ok (Err e) P Q f h = tt
 
+pub whenever : {A F P : Type 0} (r : Result A F) → P → OnOk r P
+whenever (Ok x) p = p
+whenever (Err e) p = tt
+
 -- ---- counts
 
-pub searches_by : (M : Map) (P : Path) (old new : Work) (size : ℕ) → path_fault M P ≡ None → OfPath M P (λ E js. Searches old new (searches_of E.lines (0 ∷ js)) size)
-    → (n : ℕ) × SearchesOf M P n × Searches old new n size
-searches_by M P old new size none o =
-    let n = searches_of (extended M P o.before o.after).lines (0 ∷ o.points) in
-    let there : OfPath M P (λ E js. n ≡ searches_of E.lines (0 ∷ js)) = record { before = o.before; after = o.after; points = o.points; tried = o.tried; follow = o.follow; holds = refl } in
-    (n, subst (λ (f : Option spec.Refusal). MatchOption f (OfPath M P (λ E js. n ≡ searches_of E.lines (0 ∷ js))) (λ _. n ≡ 0)) (sym none) there, o.holds)
+-- there is a search for each look
+pub searches_looked : (M : Map) (P : Path) (looks : List Look) → LooksOf M P looks → SearchesOf M P (length looks)
+searches_looked M P looks o = by (path_fault M P) o
+  where
+    by : (f : Option spec.Refusal) → MatchOption f (LooksOfExtended M P looks) (λ _. looks ≡ []) → MatchOption f (OfPath M P (λ E js. length looks ≡ searches_of E.lines (0 ∷ js))) (λ _. length looks ≡ 0)
+    by None l =
+        let ls = (extended M P l.before l.after).lines in
+        record {
+          before = l.before;
+          after = l.after;
+          points = l.points;
+          tried = l.tried;
+          follow = l.follow;
+          holds = sym (zip_length (IsLook M ls) (looking ls (0 ∷ l.points)) looks l.each) ∙ length-filter (λ i. nat_lt (i + 2) (length ls)) (0 ∷ l.points);
+        }
+    by (Some f) e = ap length e
 
 -- both of two facts of a success
 pub and_ok : {A F : Type 0} (r : Result A F) (P Q R : A → Type 0) → ((x : A) → P x → Q x → R x) → IfOk r P → IfOk r Q → IfOk r R

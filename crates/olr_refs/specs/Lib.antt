@@ -2,6 +2,7 @@ pub mod Along
 pub mod Answers
 pub mod Choice
 pub mod Coded
+pub mod Courses
 pub mod Extends
 pub mod Fields
 pub mod Kept

@@ -1,14 +1,87 @@
 //! Positions along the lines of a path: position `k` below the number of lines is the start of line `k`, and the last
 //! position is the end of the last line.
-ghost use Rattle.std.specs.Prelude.{◌≡◌, ◌<◌, ◌≤◌, IsTrue, IfOk, length};
-ghost use Rattle.olr_spec.specs.Map.{has_line, has_node, line_at, place_at};
-ghost use Rattle.olr_spec.specs.Points.{node_at};
+ghost use Rattle.std.specs.Prelude.{◌≡◌, ◌<◌, ◌≤◌, IsTrue, IfOk, length, slice_index};
+ghost use Rattle.olr_spec.specs.Map.{has_line, has_node, end, is_good, line_at, place_at};
+ghost use Rattle.olr_spec.specs.Walks.{dm_of};
+ghost use Rattle.olr_spec.specs.Points.{node_at, stretch};
+ghost use Rattle.olr_spec.specs.Reference.{legs, dm_between, position};
 ghost use Rattle.olr_refs.specs.Along.{AreJoined, AreDistances};
+ghost use Rattle.olr_refs.specs.Courses.{AreJoined-prop, AreDistances-prop};
 
 use crate::lines::{end_of, len_of, start_of};
 use olr_coords::Coord;
 use olr_map::{Line, LineId, MapRead, NodeId};
 use std::alloc::{AllocError, Global};
+
+/// Lines of a map, each of which ends where the next begins, with the distances of their positions: what an encoding goes
+/// along.
+#[derive(Drop)]
+pub struct Course<'a, M: MapRead> {
+    /// The map.
+    pub map: &'a M,
+    /// The lines, in the order of travel.
+    pub lines: &'a [LineId],
+    /// The distance of each position from the start, in decimetres.
+    pub distances: &'a [u128],
+    ghost joined: { AreJoined (M.map map.now) lines.now } by { AreJoined-prop (M.map map.now) lines.now },
+    ghost measured: { AreDistances (M.map map.now) lines.now distances.now } by { AreDistances-prop (M.map map.now) lines.now distances.now },
+}
+
+impl<M: MapRead> Course<'_, M> {
+    /// The record of line `k`.
+    pub(crate) fn line(&self, k: usize) -> &Line
+        requires { k < length self.now.lines.now }
+        ensures value { result.now ≡ line_at (M.map self.now.map.now) (slice_index self.now.lines.now k) }
+        ensures good { IsTrue (is_good result.now) }
+        ensures from { IsTrue (has_node (M.map self.now.map.now) result.now.from) }
+        ensures to { IsTrue (has_node (M.map self.now.map.now) result.now.to) }
+    {
+        line_of(self.map, self.lines[k])
+    }
+
+    /// The node at position `k`.
+    pub(crate) fn node(&self, k: usize) -> NodeId
+        requires some { 0 < length self.now.lines.now }
+        requires within { k ≤ length self.now.lines.now }
+        ensures value { result ≡ node_at (M.map self.now.map.now) self.now.lines.now k }
+        ensures known { IsTrue (has_node (M.map self.now.map.now) result) }
+    {
+        if k < self.lines.len() {
+            start_of(self.map, self.lines[k])
+        } else {
+            end_of(self.map, self.lines[self.lines.len() - 1])
+        }
+    }
+
+    /// The node where line `k` ends.
+    pub(crate) fn end(&self, k: usize) -> NodeId
+        requires { k < length self.now.lines.now }
+        ensures value { result ≡ end (M.map self.now.map.now) (slice_index self.now.lines.now k) }
+        ensures known { IsTrue (has_node (M.map self.now.map.now) result) }
+    {
+        end_of(self.map, self.lines[k])
+    }
+
+    /// The place of position `k`.
+    pub(crate) fn place(&self, k: usize) -> Coord
+        requires some { 0 < length self.now.lines.now }
+        requires within { k ≤ length self.now.lines.now }
+        ensures at { result ≡ place_at (M.map self.now.map.now) (node_at (M.map self.now.map.now) self.now.lines.now k) }
+        ensures position { result ≡ position (legs (M.map self.now.map.now) self.now.lines.now) k }
+    {
+        place_of(self.map, self.node(k))
+    }
+
+    /// How far position `j` lies behind position `i`, in decimetres.
+    pub(crate) fn between(&self, i: usize, j: usize) -> u128
+        requires order { i ≤ j }
+        requires within { j ≤ length self.now.lines.now }
+        ensures value { result ≡ dm_of (M.map self.now.map.now) (stretch self.now.lines.now i j) }
+        ensures legs { result ≡ dm_between (legs (M.map self.now.map.now) self.now.lines.now) i j }
+    {
+        self.distances[j] - self.distances[i]
+    }
+}
 
 /// The record of a line that the map has.
 pub fn line_of<M: MapRead>(map: &M, line: LineId) -> &Line
@@ -24,21 +97,6 @@ pub fn place_of<M: MapRead>(map: &M, node: NodeId) -> Coord
     ensures { result ≡ place_at (M.map map.now) node }
 {
     map.node(node).unwrap()
-}
-
-/// The node at position `k`.
-pub fn node_at<M: MapRead>(map: &M, lines: &[LineId], k: usize) -> NodeId
-    requires joined { AreJoined (M.map map.now) lines.now }
-    requires some { 0 < length lines.now }
-    requires within { k ≤ length lines.now }
-    ensures value { result ≡ node_at (M.map map.now) lines.now k }
-    ensures known { IsTrue (has_node (M.map map.now) result) }
-{
-    if k < lines.len() {
-        start_of(map, lines[k])
-    } else {
-        end_of(map, lines[lines.len() - 1])
-    }
 }
 
 /// The distance of each position from the start, in decimetres: 128 bits hold it for any list of lines.

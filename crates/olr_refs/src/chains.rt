@@ -8,10 +8,8 @@ use crate::line_set::LineSet;
 use crate::lines::{end_of, ends_of, len_of, start_of};
 use crate::nodes::passing;
 use olr_map::{LineId, MapRead};
+use olr_route::GREATEST_LIMIT;
 use std::alloc::{AllocError, Global};
-
-/// The greatest length of a chain, in decimetres (profile).
-pub(crate) const LONGEST_CHAIN: u32 = 150_000;
 
 /// A chain of lines that leads through passing nodes to the first line of a list, or from its last one.
 #[derive(Drop, Debug)]
@@ -155,7 +153,7 @@ fn step_before<M: MapRead>(map: &M, first: LineId, len: u32, used: &LineSet) -> 
         → IsTrue (has used.now x) ⊎ (limit < len + dm (M.map map.now) x)) }
 {
     let before = line_before(map, first)?;
-    if used.has(before) || len_of(map, before) > LONGEST_CHAIN - len {
+    if used.has(before) || len_of(map, before) > GREATEST_LIMIT - len {
         return None;
     }
     Some(before)
@@ -174,7 +172,7 @@ fn step_after<M: MapRead>(map: &M, last: LineId, len: u32, used: &LineSet) -> Op
         → IsTrue (has used.now x) ⊎ (limit < len + dm (M.map map.now) x)) }
 {
     let behind = line_after(map, last)?;
-    if used.has(behind) || len_of(map, behind) > LONGEST_CHAIN - len {
+    if used.has(behind) || len_of(map, behind) > GREATEST_LIMIT - len {
         return None;
     }
     Some(behind)

@@ -5,28 +5,34 @@ ghost use Rattle.olr_spec.specs.Coordinates.{fits16, relative};
 ghost use Rattle.olr_coords.specs.Bounds.{is_degrees};
 ghost use Rattle.olr_spec.specs.Points.{fit16, Next, NoNext};
 ghost use Rattle.olr_spec.specs.Extension.{limit};
-ghost use Rattle.olr_refs.specs.Along.{AreJoined, AreDistances, IsFarthest, IsReach};
+ghost use Rattle.olr_refs.specs.Along.{IsFar, IsFarthest, IsReach};
 
-use crate::along::{node_at, place_of};
+use crate::along::Course;
 use crate::nodes::passing;
 use olr_coords::{Coord, rel16};
-use olr_map::{LineId, MapRead};
-
-/// The greatest distance between two points, in decimetres.
-const LIMIT: u128 = 150_000;
+use olr_map::MapRead;
+use olr_route::GREATEST_LIMIT;
 
 /// The farthest position from `i` on that is at most 150,000 dm from it.
-pub fn farthest(distances: &[u128], i: usize) -> usize
+fn farthest(distances: &[u128], i: usize) -> usize
     requires within { i < length distances.now }
     requires rising { (j k : ℕ) → j ≤ k → k < length distances.now → slice_index distances.now j ≤ slice_index distances.now k }
     ensures { IsFarthest distances.now i result }
 {
     for k in i + 1..distances.len() {
-        if distances[k] - distances[i] > LIMIT {
+        if distances[k] - distances[i] > u128::from(GREATEST_LIMIT) {
             return k - 1;
         }
     }
     distances.len() - 1
+}
+
+/// The farthest position from `i` on that is at most 150,000 dm from it, along a course.
+pub fn farthest_from<M: MapRead>(course: &Course<M>, i: usize) -> usize
+    requires { i < length course.now.lines.now }
+    ensures { IsFar (M.map course.now.map.now) course.now.lines.now i result }
+{
+    farthest(course.distances, i)
 }
 
 /// Whether the difference between two coordinates fits 16 bits.
@@ -47,21 +53,19 @@ fn fits(from: Coord, to: Coord) -> bool
 
 /// The position that follows `i` as a point, where the positions up to `reach` are covered and near enough: the end if it
 /// is one of them and fits; else the last at a valid node that fits; else the last that fits.
-pub fn next_of<M: MapRead>(map: &M, lines: &[LineId], i: usize, reach: usize) -> Option<usize>
-    requires joined { AreJoined (M.map map.now) lines.now }
-    requires some { i < length lines.now }
-    requires reach { IsReach (M.map map.now) lines.now i reach }
-    ensures { MatchOption result (NoNext (M.map map.now) lines.now i) (Next (M.map map.now) lines.now i) }
+pub fn next_of<M: MapRead>(course: &Course<M>, i: usize, reach: usize) -> Option<usize>
+    requires some { i < length course.now.lines.now }
+    requires reach { IsReach (M.map course.now.map.now) course.now.lines.now i reach }
+    ensures { MatchOption result (NoNext (M.map course.now.map.now) course.now.lines.now i) (Next (M.map course.now.map.now) course.now.lines.now i) }
 {
-    let here = place_of(map, node_at(map, lines, i));
-    if reach == lines.len() && fits(here, place_of(map, node_at(map, lines, reach))) {
+    let here = course.place(i);
+    if reach == course.lines.len() && fits(here, course.place(reach)) {
         return Some(reach);
     }
     let mut last = None;
     for k in (i + 1..reach + 1).rev() {
-        let node = node_at(map, lines, k);
-        if fits(here, place_of(map, node)) {
-            if !passing(map, node) {
+        if fits(here, course.place(k)) {
+            if !passing(course.map, course.node(k)) {
                 return Some(k);
             }
             last = last.or(Some(k));

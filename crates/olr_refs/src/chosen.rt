@@ -1,16 +1,17 @@
 //! The location reference points of an extended path.
-ghost use Rattle.std.specs.Prelude.{◌<◌, ◌≤◌, ◌∷◌, IfOk, OnOk, length};
-ghost use Rattle.olr_refs.specs.Along.{AreDistances, AreJoined, IsReach};
-ghost use Rattle.olr_refs.specs.Choice.{ForPoints, IsChoice, NotesReach, NotesSearched, Searches, searches_at, searches_of};
+ghost use Rattle.std.specs.Prelude.{◌+◌, ◌<◌, ◌≤◌, ◌∷◌, IfOk, length, slice_index};
+ghost use Rattle.olr_spec.specs.Map.{end};
+ghost use Rattle.olr_spec.specs.Footprint.{Reach, Searched};
+ghost use Rattle.olr_spec.specs.Looks.{IsLook, LooksFrom, looking};
+ghost use Rattle.olr_refs.specs.Along.{IsReach};
+ghost use Rattle.olr_refs.specs.Choice.{ForPoints, IsChoice, Looked, LookedAfter};
 
-use crate::along::distances;
-use crate::choice::{farthest, next_of};
-use crate::extension::Extended;
-use crate::lines::end_of;
+use crate::along::Course;
+use crate::choice::{farthest_from, next_of};
+use crate::look::Look;
 use crate::reach::covered_to;
-use olr_map::{Footprint, LineId, MapRead};
-use olr_route::routes::GREATEST_LIMIT;
-use olr_route::{Work, search};
+use olr_map::MapRead;
+use olr_route::{Direction, Search, Work};
 use std::alloc::{AllocError, Global};
 
 /// The points of an extended path, or why there are none.
@@ -22,78 +23,104 @@ pub enum Choice {
     NoNext(usize),
 }
 
-/// How far the positions after `i` are covered and near enough, by one search where two lines or more follow line `i`.
-fn reach_of<M: MapRead>(
-    alloc: Global,
-    map: &M,
-    lines: &[LineId],
-    distances: &[u128],
-    i: usize,
-    footprint: &mut Footprint,
-    work: &mut Work,
-) -> Result<usize, AllocError>
-    requires joined { AreJoined (M.map map.now) lines.now }
-    requires some { i < length lines.now }
-    requires distances { AreDistances (M.map map.now) lines.now distances.now }
-    ensures reach { IfOk result (IsReach (M.map map.now) lines.now i) }
-    ensures footprint { OnOk result (NotesReach (M.map map.now) lines.now i footprint.old footprint.new) }
-    ensures grows { OnOk result (length footprint.old ≤ length footprint.new) }
-    ensures work { OnOk result (Searches work.old work.new (searches_at lines.now i) (length footprint.new)) }
-{
-    let far = farthest(distances, i);
-    if lines.len() - i <= 2 {
-        return Ok(far);
-    }
-    let source = end_of(map, lines[i]);
-    let labels = search(alloc, map, source, GREATEST_LIMIT, footprint, work)?;
-    Ok(covered_to(map, &labels, lines, i, far))
+/// The points of an extended path, and what was looked at to find them.
+#[derive(Drop, Debug)]
+pub struct Chosen {
+    /// The points, or why there are none.
+    pub choice: Choice,
+    /// One look from each point that two lines or more follow.
+    pub looks: Vec<Look>,
 }
 
-/// The points of the lines of an extended path, by position.
-fn points_along<M: MapRead>(
-    alloc: Global,
-    map: &M,
-    lines: &[LineId],
-    footprint: &mut Footprint,
+/// How far the positions after `i` are covered and near enough, where two lines or more follow line `i`; and the look
+/// for that, by one search.
+fn look_after<M: MapRead>(
+    course: &Course<M>,
+    i: usize,
+    search: &mut Search,
     work: &mut Work,
-) -> Result<Choice, AllocError>
-    requires joined { AreJoined (M.map map.now) lines.now }
-    ensures choice { IfOk result (λ choice. ForPoints (M.map map.now) lines.now (λ js. IsChoice lines.now js choice)) }
-    ensures footprint { OnOk result (ForPoints (M.map map.now) lines.now (NotesSearched (M.map map.now) lines.now footprint.old footprint.new)) }
-    ensures work { OnOk result (ForPoints (M.map map.now) lines.now (λ js. Searches work.old work.new (searches_of lines.now (0 ∷ js)) (length footprint.new))) }
+) -> Result<(usize, Look), AllocError>
+    requires { i + 2 < length course.now.lines.now }
+    ensures reach { IfOk result (λ r. IsReach (M.map course.now.map.now) course.now.lines.now i r.0) }
+    ensures look { IfOk result (λ r. IsLook (M.map course.now.map.now) course.now.lines.now i r.1) }
+    ensures work { IfOk result (λ _. Looked work.old work.new 1
+        (Reach (M.map course.now.map.now) (end (M.map course.now.map.now) (slice_index course.now.lines.now i)))) }
 {
-    let distances = distances(alloc, map, lines)?;
-    let mut positions = Vec::new(alloc);
-    positions.push(0)?;
-    let mut last = 0;
-    while last < lines.len() {
-        let reach = reach_of(alloc, map, lines, &distances, last, footprint, work)?;
-        match next_of(map, lines, last, reach) {
-            Some(next) => {
-                positions.push(next)?;
-                last = next;
-            }
-            None => return Ok(Choice::NoNext(last)),
-        }
+    let from = course.end(i);
+    search.begin(course.map, Direction::Along, &[(from, 0)])?;
+    let tested = covered_to(course, i, farthest_from(course, i), search)?;
+    work.searches = work.searches.saturating_add(1);
+    work.settled = work.settled.saturating_add(search.settled() as u64);
+    let look = Look {
+        from,
+        to: course.node(tested.last),
+        within: course.between(i + 1, tested.last) as u32,
+    };
+    Ok((tested.reach, look))
+}
+
+/// How far the positions after `i` are covered and near enough. The look for that, where two lines or more follow line
+/// `i`, is put behind the others.
+fn reach_of<M: MapRead>(
+    course: &Course<M>,
+    i: usize,
+    looks: &mut Vec<Look>,
+    search: &mut Search,
+    work: &mut Work,
+) -> Result<usize, AllocError>
+    requires { i < length course.now.lines.now }
+    ensures reach { IfOk result (IsReach (M.map course.now.map.now) course.now.lines.now i) }
+    ensures looks { IfOk result (λ _. LookedAfter (M.map course.now.map.now) course.now.lines.now i
+        looks.old.items looks.new.items work.old work.new) }
+{
+    if course.lines.len() - i <= 2 {
+        return Ok(farthest_from(course, i));
     }
-    Ok(Choice::Positions(positions))
+    let (reach, look) = look_after(course, i, search, work)?;
+    looks.push(look)?;
+    Ok(reach)
 }
 
 /// The location reference points of an extended path, by position: the first position, the one that follows it as a
 /// point, and so on to the end, or the position that none can follow (White Paper, intermediate points and the 15,000 m
-/// rule; which one follows is the profile's choice). Each point that two lines or more follow is searched from once, and
-/// what its search labels is noted. After a refusal footprint and work may hold more than before.
+/// rule; which one follows is the profile's choice). Each point that two lines or more follow is searched from once, no
+/// farther than it takes to find the next one. After a refusal the work may hold more than before, and the search has to
+/// be begun anew.
 pub fn points<M: MapRead>(
     alloc: Global,
-    map: &M,
-    extended: &Extended,
-    footprint: &mut Footprint,
+    course: &Course<M>,
+    search: &mut Search,
     work: &mut Work,
-) -> Result<Choice, AllocError>
-    requires joined { AreJoined (M.map map.now) extended.now.lines }
-    ensures choice { IfOk result (λ choice. ForPoints (M.map map.now) extended.now.lines (λ js. IsChoice extended.now.lines js choice)) }
-    ensures footprint { OnOk result (ForPoints (M.map map.now) extended.now.lines (NotesSearched (M.map map.now) extended.now.lines footprint.old footprint.new)) }
-    ensures work { OnOk result (ForPoints (M.map map.now) extended.now.lines (λ js. Searches work.old work.new (searches_of extended.now.lines (0 ∷ js)) (length footprint.new))) }
+) -> Result<Chosen, AllocError>
+    ensures choice { IfOk result (λ chosen. ForPoints (M.map course.now.map.now) course.now.lines.now
+        (λ js. IsChoice course.now.lines.now js chosen.choice)) }
+    ensures looks { IfOk result (λ chosen. ForPoints (M.map course.now.map.now) course.now.lines.now
+        (λ js. LooksFrom (M.map course.now.map.now) course.now.lines.now (looking course.now.lines.now (0 ∷ js)) chosen.looks.items)) }
+    ensures work { IfOk result (λ chosen. ForPoints (M.map course.now.map.now) course.now.lines.now
+        (λ js. Looked work.old work.new (length chosen.looks.items)
+        (Searched (M.map course.now.map.now) course.now.lines.now (0 ∷ js)))) }
 {
-    points_along(alloc, map, &extended.lines, footprint, work)
+    let mut looks = Vec::new(alloc);
+    let mut positions = Vec::new(alloc);
+    positions.push(0)?;
+    let mut last = 0;
+    while last < course.lines.len() {
+        let reach = reach_of(course, last, &mut looks, search, work)?;
+        match next_of(course, last, reach) {
+            Some(next) => {
+                positions.push(next)?;
+                last = next;
+            }
+            None => {
+                return Ok(Chosen {
+                    choice: Choice::NoNext(last),
+                    looks,
+                });
+            }
+        }
+    }
+    Ok(Chosen {
+        choice: Choice::Positions(positions),
+        looks,
+    })
 }

@@ -1,109 +1,143 @@
 //! The encoding of a path on a map.
-ghost use Rattle.std.specs.Prelude.{◌≡◌, ℕ, ◌+◌, ◌*◌, ◌^◌, ◌<◌, ◌≤◌, ◌↔◌, ◌∷◌, IsTrue, IfOk, OnOk, None, Contains, length};
-ghost use Rattle.olr_spec.specs.Map.{Map, IsMap, Agree};
+ghost use Rattle.std.specs.Prelude.{◌≡◌, ℕ, List, ◌+◌, ◌*◌, ◌^◌, ◌<◌, ◌≤◌, ◌↔◌, ◌∷◌, IsTrue, IfOk, OnOk, None, Contains, length};
 ghost use Rattle.olr_spec.specs.Extension.{is_path};
-ghost use Rattle.olr_spec.specs.Encoding.{path_fault, Encoding, Encodes};
-ghost use Rattle.olr_spec.specs.Footprint.{Foot, FootOf};
+ghost use Rattle.olr_spec.specs.Encoding.{path_fault, Encoding as EncodingRecord, Encodes};
+ghost use Rattle.olr_spec.specs.Footprint.{Foot, FootOf, Searched};
+ghost use Rattle.olr_spec.specs.Looks.{LooksFrom, LooksOf, LooksOfExtended, OwnOf, OwnOfExtended, looking};
 ghost use Rattle.olr_refs.specs.Answers.{answer_of};
 ghost use Rattle.olr_spec.specs.Encoding.{answer_of as answer_along};
 ghost use Rattle.olr_spec.specs.Walks.{dm_of};
 ghost use Rattle.olr_refs.specs.Along.{AreJoined};
-ghost use Rattle.olr_refs.specs.Choice.{ForPoints, NotesSearched, raised, searches_of, Searches};
-ghost use Rattle.olr_refs.specs.Referring.{OfPath, JoinsOf, SearchesOf};
+ghost use Rattle.olr_refs.specs.Choice.{ForPoints, IsChoice, Looked, raised};
+ghost use Rattle.olr_refs.specs.Referring.{JoinsOf};
 
-use crate::along::distances;
+use crate::along::{Course, distances};
 use crate::answer::{Answer, Refusal};
 use crate::chosen::{Choice, points};
 use crate::extension::{Extended, extend};
 use crate::faults::path_fault;
+use crate::look::Look;
 use crate::path::Path;
 use crate::reference::reference_of;
 use olr_map::{Footprint, MapRead};
-use olr_route::Work;
+use olr_route::{Search, Work};
 use std::alloc::{AllocError, Global};
 
-/// The answer of a path on a map, and its footprint: the nodes on which the answer rests. On any sound map that has the
-/// same round these nodes, and the same lines of the path, the answer is the same.
+/// The answer of a path on a map, and what it looked at. Where an edit concerns none of that the answer stays.
+#[derive(Drop, Debug)]
+pub struct Encoding {
+    /// The answer.
+    pub answer: Answer,
+    /// The path's own nodes: those of the extended path and of the tried chains. None where the path's own lines are
+    /// refused.
+    pub own: Footprint,
+    /// The looks, in the order of the points that they begin at.
+    pub looks: Vec<Look>,
+}
+
+/// The encoding of a path on a map, by searches that settle no more than it takes to find the points.
 ///
-/// One encoding is counted, and each search that it takes. After a refusal the work may hold more than before.
-pub fn refer<M: MapRead>(
+/// One encoding is counted, and one search for each look. After a refusal the work may hold more than before, and the
+/// search has to be begun anew.
+pub fn encode<M: MapRead>(
     alloc: Global,
     map: &M,
     path: &Path,
+    search: &mut Search,
     work: &mut Work,
-) -> Result<(Answer, Footprint), AllocError>
-    ensures answer { IfOk result (λ r. Encodes (M.map map.now) path.now (answer_of r.0)) }
-    ensures joins { IfOk result (λ r. JoinsOf (M.map map.now) path.now r.0) }
-    ensures footprint { IfOk result (λ r. (v : ℕ) → Contains r.1 v ↔ Foot (M.map map.now) path.now v) }
-    ensures local { IfOk result (λ r. (other : Map) → IsMap other
-        → Agree (M.map map.now) other path.now.lines (Contains r.1) → Encodes other path.now (answer_of r.0)) }
+) -> Result<Encoding, AllocError>
+    ensures answer { IfOk result (λ e. Encodes (M.map map.now) path.now (answer_of e.answer)) }
+    ensures joins { IfOk result (λ e. JoinsOf (M.map map.now) path.now e.answer) }
+    ensures own { IfOk result (λ e. (v : ℕ) → Contains e.own v ↔ OwnOf (M.map map.now) path.now v) }
+    ensures looks { IfOk result (λ e. LooksOf (M.map map.now) path.now e.looks.items) }
+    ensures path { IsTrue (is_path path.now.lines) }
     ensures encodings { OnOk result
         (work.old.encodings + 1 < 2 ^ 64 → work.new.encodings ≡ work.old.encodings + 1) }
-    ensures searches { OnOk result ((n : ℕ) × SearchesOf (M.map map.now) path.now n
-        × (work.new.searches ≡ raised work.old.searches n)) }
+    ensures searches { IfOk result (λ e. work.new.searches ≡ raised work.old.searches (length e.looks.items)) }
     ensures settled_rises { OnOk result (work.old.settled < 2 ^ 64 → work.old.settled ≤ work.new.settled) }
-    ensures settled { IfOk result (λ r. (n : ℕ) × SearchesOf (M.map map.now) path.now n
-        × (work.new.settled ≤ work.old.settled + n * length r.1)) }
+    ensures settled { IfOk result (λ e. (all : List ℕ) → ((v : ℕ) → Foot (M.map map.now) path.now v → Contains all v)
+        → work.new.settled ≤ work.old.settled + length e.looks.items * length all) }
 {
     work.encodings = work.encodings.saturating_add(1);
     match path_fault(map, path) {
-        Some(refusal) => Ok((Answer::Refused(refusal), Footprint::new(alloc))),
-        None => refer_whole(alloc, map, path, work),
+        Some(refusal) => Ok(Encoding {
+            answer: Answer::Refused(refusal),
+            own: Footprint::new(alloc),
+            looks: Vec::new(alloc),
+        }),
+        None => encode_whole(alloc, map, path, search, work),
     }
 }
 
 /// The same for a path whose own lines give no refusal.
-fn refer_whole<M: MapRead>(
+fn encode_whole<M: MapRead>(
     alloc: Global,
     map: &M,
     path: &Path,
+    search: &mut Search,
     work: &mut Work,
-) -> Result<(Answer, Footprint), AllocError>
+) -> Result<Encoding, AllocError>
     requires path { IsTrue (is_path path.now.lines) }
     requires sound { path_fault (M.map map.now) path.now ≡ None }
-    ensures answer { IfOk result (λ r. Encoding (M.map map.now) path.now (answer_of r.0)) }
-    ensures joins { IfOk result (λ r. JoinsOf (M.map map.now) path.now r.0) }
-    ensures footprint { IfOk result (λ r. (v : ℕ) → Contains r.1 v ↔ FootOf (M.map map.now) path.now v) }
-    ensures work { IfOk result (λ r. OfPath (M.map map.now) path.now
-        (λ E js. Searches work.old work.new (searches_of E.lines (0 ∷ js)) (length r.1))) }
+    ensures answer { IfOk result (λ e. EncodingRecord (M.map map.now) path.now (answer_of e.answer)) }
+    ensures joins { IfOk result (λ e. JoinsOf (M.map map.now) path.now e.answer) }
+    ensures own { IfOk result (λ e. (v : ℕ) → Contains e.own v ↔ OwnOfExtended (M.map map.now) path.now v) }
+    ensures looks { IfOk result (λ e. LooksOfExtended (M.map map.now) path.now e.looks.items) }
+    ensures work { IfOk result (λ e. Looked work.old work.new (length e.looks.items) (FootOf (M.map map.now) path.now)) }
 {
-    let mut footprint = Footprint::new(alloc);
-    let extended = extend(alloc, map, path, &mut footprint)?;
-    let answer = answer_along(alloc, map, &extended, &mut footprint, work)?;
-    Ok((answer, footprint))
+    let mut own = Footprint::new(alloc);
+    let extended = extend(alloc, map, path, &mut own)?;
+    let (answer, looks) = encode_along(alloc, map, &extended, search, work)?;
+    Ok(Encoding { answer, own, looks })
 }
 
-/// The answer of an extended path, by its points.
-fn answer_along<M: MapRead>(
+/// The answer of an extended path, by its points, and the looks.
+fn encode_along<M: MapRead>(
     alloc: Global,
     map: &M,
     extended: &Extended,
-    footprint: &mut Footprint,
+    search: &mut Search,
     work: &mut Work,
-) -> Result<Answer, AllocError>
+) -> Result<(Answer, Vec<Look>), AllocError>
     requires joined { AreJoined (M.map map.now) extended.now.lines }
     requires short { extended.now.pos + extended.now.neg < dm_of (M.map map.now) extended.now.lines }
-    ensures answer { IfOk result (λ answer. ForPoints (M.map map.now) extended.now.lines
-        (λ js. answer_of answer ≡ answer_along (M.map map.now) extended.now js)) }
-    ensures footprint { OnOk result (ForPoints (M.map map.now) extended.now.lines
-        (NotesSearched (M.map map.now) extended.now.lines footprint.old footprint.new)) }
-    ensures work { OnOk result (ForPoints (M.map map.now) extended.now.lines
-        (λ js. Searches work.old work.new (searches_of extended.now.lines (0 ∷ js)) (length footprint.new))) }
+    ensures answer { IfOk result (λ r. ForPoints (M.map map.now) extended.now.lines
+        (λ js. answer_of r.0 ≡ answer_along (M.map map.now) extended.now js)) }
+    ensures looks { IfOk result (λ r. ForPoints (M.map map.now) extended.now.lines
+        (λ js. LooksFrom (M.map map.now) extended.now.lines (looking extended.now.lines (0 ∷ js)) r.1.items)) }
+    ensures work { IfOk result (λ r. ForPoints (M.map map.now) extended.now.lines
+        (λ js. Looked work.old work.new (length r.1.items) (Searched (M.map map.now) extended.now.lines (0 ∷ js)))) }
 {
-    match points(alloc, map, extended, footprint, work)? {
+    let lines = extended.lines.as_slice();
+    let distances = distances(alloc, map, lines)?;
+    let course = Course {
+        map,
+        lines,
+        distances: &distances,
+    };
+    let chosen = points(alloc, &course, search, work)?;
+    let answer = answer_by(alloc, &course, chosen.choice, extended.pos, extended.neg)?;
+    Ok((answer, chosen.looks))
+}
+
+/// The answer by the points that were chosen, where the two offsets, in decimetres, leave some of the lines.
+fn answer_by<M: MapRead>(
+    alloc: Global,
+    course: &Course<M>,
+    choice: Choice,
+    pos: u64,
+    neg: u64,
+) -> Result<Answer, AllocError>
+    requires choice { ForPoints (M.map course.now.map.now) course.now.lines.now (λ js. IsChoice course.now.lines.now js choice) }
+    requires short { pos + neg < dm_of (M.map course.now.map.now) course.now.lines.now }
+    ensures { IfOk result (λ answer. ForPoints (M.map course.now.map.now) course.now.lines.now
+        (λ js. answer_of answer
+        ≡ answer_along (M.map course.now.map.now) (record { lines = course.now.lines.now; pos = pos; neg = neg }) js)) }
+{
+    match choice {
         Choice::NoNext(k) => Ok(Answer::Refused(Refusal::NoNextPoint(k))),
         Choice::Positions(points) => {
-            let lines = &extended.lines;
-            let distances = distances(alloc, map, lines)?;
-            let reference = reference_of(
-                alloc,
-                map,
-                lines,
-                &distances,
-                &points,
-                extended.pos,
-                extended.neg,
-            )?;
+            let reference = reference_of(alloc, course, &points, pos, neg)?;
             Ok(Answer::Points(reference))
         }
     }

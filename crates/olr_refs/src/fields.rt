@@ -11,7 +11,7 @@ ghost use Rattle.olr_refs.specs.Along.{AreDistances, AreJoined};
 ghost use Rattle.olr_refs.specs.Fields.{lowest_class, middle_points_of};
 ghost use Rattle.olr_refs.specs.Kept.{AreLinked};
 
-use crate::along::{line_of, node_at, place_of};
+use crate::along::{Course, line_of, place_of};
 use olr_bearing::{Ends, bearing_back, bearing_out};
 use olr_binary::{Attrs, First, Last, Middle};
 use olr_coords::{Coord, abs24, rel16};
@@ -22,18 +22,6 @@ use std::alloc::{AllocError, Global};
 const DISTANCE_STEP: u128 = 586;
 /// So many parts of a stretch are told apart by an offset.
 const OFFSET_PARTS: u128 = 256;
-
-/// The record of line `k`.
-fn line_at<'a, M: MapRead>(map: &'a M, lines: &[LineId], k: usize) -> &'a Line
-    requires joined { AreJoined (M.map map.now) lines.now }
-    requires within { k < length lines.now }
-    ensures value { result.now ≡ line_at (M.map map.now) (slice_index lines.now k) }
-    ensures good { IsTrue (is_good result.now) }
-    ensures from { IsTrue (has_node (M.map map.now) result.now.from) }
-    ensures to { IsTrue (has_node (M.map map.now) result.now.to) }
-{
-    line_of(map, lines[k])
-}
 
 /// The places of the ends of a line.
 fn ends_of<M: MapRead>(map: &M, line: &Line) -> Ends
@@ -46,16 +34,6 @@ fn ends_of<M: MapRead>(map: &M, line: &Line) -> Ends
         from: place_of(map, line.from),
         to: place_of(map, line.to),
     }
-}
-
-/// The place of position `k`.
-fn position<M: MapRead>(map: &M, lines: &[LineId], k: usize) -> Coord
-    requires joined { AreJoined (M.map map.now) lines.now }
-    requires some { 0 < length lines.now }
-    requires within { k ≤ length lines.now }
-    ensures { result ≡ position (legs (M.map map.now) lines.now) k }
-{
-    place_of(map, node_at(map, lines, k))
 }
 
 /// The difference between two coordinates, in relative steps, where it fits 16 bits.
@@ -96,107 +74,76 @@ fn lowest_class<M: MapRead>(map: &M, lines: &[LineId]) -> u8
 }
 
 /// The attributes of the point at position `i`, of which the one at position `j` is the next.
-fn attrs<M: MapRead>(map: &M, lines: &[LineId], distances: &[u128], i: usize, j: usize) -> Attrs
-    requires joined { AreJoined (M.map map.now) lines.now }
-    requires distances { AreDistances (M.map map.now) lines.now distances.now }
-    requires candidate { Candidate (M.map map.now) lines.now i j }
-    ensures { result ≡ attrs (legs (M.map map.now) lines.now) i j }
+fn attrs<M: MapRead>(course: &Course<M>, i: usize, j: usize) -> Attrs
+    requires candidate { Candidate (M.map course.now.map.now) course.now.lines.now i j }
+    ensures { result ≡ attrs (legs (M.map course.now.map.now) course.now.lines.now) i j }
 {
-    let line = line_at(map, lines, i);
+    let line = course.line(i);
     Attrs {
         frc: line.frc,
         fow: line.fow,
-        lfrc: lowest_class(map, &lines[i..j]),
-        bearing: bearing_out(line, ends_of(map, line)),
-        dnp: ((distances[j] - distances[i]) / DISTANCE_STEP) as u8,
+        lfrc: lowest_class(course.map, &course.lines[i..j]),
+        bearing: bearing_out(line, ends_of(course.map, line)),
+        dnp: (course.between(i, j) / DISTANCE_STEP) as u8,
     }
 }
 
 /// The first point, at position `i`, of which the one at position `j` is the next.
-pub fn first_point<M: MapRead>(
-    map: &M,
-    lines: &[LineId],
-    distances: &[u128],
-    i: usize,
-    j: usize,
-) -> First
-    requires joined { AreJoined (M.map map.now) lines.now }
-    requires distances { AreDistances (M.map map.now) lines.now distances.now }
-    requires candidate { Candidate (M.map map.now) lines.now i j }
-    ensures { result ≡ first_point (legs (M.map map.now) lines.now) i j }
+pub fn first_point<M: MapRead>(course: &Course<M>, i: usize, j: usize) -> First
+    requires candidate { Candidate (M.map course.now.map.now) course.now.lines.now i j }
+    ensures { result ≡ first_point (legs (M.map course.now.map.now) course.now.lines.now) i j }
 {
-    let place = position(map, lines, i);
+    let place = course.place(i);
     First {
         lon: abs24(place.lon()),
         lat: abs24(place.lat()),
-        attrs: attrs(map, lines, distances, i, j),
+        attrs: attrs(course, i, j),
     }
 }
 
 /// The point at position `i`, between those at positions `h` and `j`.
-fn middle_point<M: MapRead>(
-    map: &M,
-    lines: &[LineId],
-    distances: &[u128],
-    h: usize,
-    i: usize,
-    j: usize,
-) -> Middle
-    requires joined { AreJoined (M.map map.now) lines.now }
-    requires distances { AreDistances (M.map map.now) lines.now distances.now }
-    requires candidate { Candidate (M.map map.now) lines.now h i }
-    requires next { Candidate (M.map map.now) lines.now i j }
-    ensures { result ≡ middle_point (legs (M.map map.now) lines.now) h i j }
+fn middle_point<M: MapRead>(course: &Course<M>, h: usize, i: usize, j: usize) -> Middle
+    requires candidate { Candidate (M.map course.now.map.now) course.now.lines.now h i }
+    requires next { Candidate (M.map course.now.map.now) course.now.lines.now i j }
+    ensures { result ≡ middle_point (legs (M.map course.now.map.now) course.now.lines.now) h i j }
 {
-    let (dlon, dlat) = differences(position(map, lines, h), position(map, lines, i));
+    let (dlon, dlat) = differences(course.place(h), course.place(i));
     Middle {
         dlon,
         dlat,
-        attrs: attrs(map, lines, distances, i, j),
+        attrs: attrs(course, i, j),
     }
 }
 
 /// The last point, at position `i`, after the one at position `h`.
-pub fn last_point<M: MapRead>(map: &M, lines: &[LineId], h: usize, i: usize) -> Last
-    requires joined { AreJoined (M.map map.now) lines.now }
-    requires candidate { Candidate (M.map map.now) lines.now h i }
-    ensures { result ≡ last_point (legs (M.map map.now) lines.now) h i }
+pub fn last_point<M: MapRead>(course: &Course<M>, h: usize, i: usize) -> Last
+    requires candidate { Candidate (M.map course.now.map.now) course.now.lines.now h i }
+    ensures { result ≡ last_point (legs (M.map course.now.map.now) course.now.lines.now) h i }
 {
-    let (dlon, dlat) = differences(position(map, lines, h), position(map, lines, i));
-    let line = line_at(map, lines, i - 1);
+    let (dlon, dlat) = differences(course.place(h), course.place(i));
+    let line = course.line(i - 1);
     Last {
         dlon,
         dlat,
         frc: line.frc,
         fow: line.fow,
-        bearing: bearing_back(line, ends_of(map, line)),
+        bearing: bearing_back(line, ends_of(course.map, line)),
     }
 }
 
 /// The points between the first and the last of `points`.
 pub fn middle_points<M: MapRead>(
     alloc: Global,
-    map: &M,
-    lines: &[LineId],
-    distances: &[u128],
+    course: &Course<M>,
     points: &[usize],
 ) -> Result<Vec<Middle>, AllocError>
-    requires joined { AreJoined (M.map map.now) lines.now }
-    requires distances { AreDistances (M.map map.now) lines.now distances.now }
-    requires linked { AreLinked (M.map map.now) lines.now points.now }
+    requires linked { AreLinked (M.map course.now.map.now) course.now.lines.now points.now }
     requires two { 2 ≤ length points.now }
-    ensures { IfOk result (λ middle. middle.items ≡ middle_points_of (legs (M.map map.now) lines.now) points.now) }
+    ensures { IfOk result (λ middle. middle.items ≡ middle_points_of (legs (M.map course.now.map.now) course.now.lines.now) points.now) }
 {
     let mut middle = Vec::with_capacity(alloc, points.len() - 2)?;
     for k in 1..points.len() - 1 {
-        let point = middle_point(
-            map,
-            lines,
-            distances,
-            points[k - 1],
-            points[k],
-            points[k + 1],
-        );
+        let point = middle_point(course, points[k - 1], points[k], points[k + 1]);
         middle.push(point)?;
     }
     Ok(middle)

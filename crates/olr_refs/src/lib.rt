@@ -10,21 +10,23 @@ mod encoding;
 pub mod extension;
 mod faults;
 mod fields;
+mod footprints;
 mod line_set;
 pub mod lines;
+mod look;
 pub mod nodes;
 pub mod path;
 mod reach;
 mod reference;
 mod trim;
 
+pub use along::{Course, distances};
 pub use answer::{Answer, Refusal};
-pub use chosen::{Choice, points};
-pub use encoding::refer;
+pub use chosen::{Choice, Chosen, points};
+pub use encoding::{Encoding, encode};
 pub use extension::{Extended, extend};
+pub use footprints::{footprint, refer};
 pub use lines::unknown_line;
+pub use look::Look;
 pub use nodes::passing;
 pub use path::{Path, PathFault};
-
-#[cfg(test)]
-mod tests;

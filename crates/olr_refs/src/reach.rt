@@ -1,36 +1,60 @@
 //! How far the lines after a position are the sole shortest walk.
-ghost use Rattle.std.specs.Prelude.{◌≡◌, ◌+◌, ◌<◌, ◌≤◌, length};
+ghost use Rattle.std.specs.Prelude.{◌≡◌, ◌+◌, ◌<◌, ◌≤◌, ◌∷◌, [], IfOk, length, slice_index};
 ghost use Rattle.olr_spec.specs.Map.{end};
-ghost use Rattle.olr_spec.specs.Extension.{limit};
-ghost use Rattle.std.specs.Prelude.{slice_index};
-ghost use Rattle.olr_route.specs.Labels.{AreLabels};
-ghost use Rattle.olr_refs.specs.Along.{AreJoined, IsFar, IsReach};
+ghost use Rattle.olr_spec.specs.Walks.{dm_of};
+ghost use Rattle.olr_spec.specs.Points.{stretch};
+ghost use Rattle.olr_spec.specs.Looks.{IsLastTested};
+ghost use Rattle.olr_route.specs.declared.distances.Direction.TheVariants.{Along};
+ghost use Rattle.olr_route.specs.Searches.{IsSearch, limit_of};
+ghost use Rattle.olr_refs.specs.Along.{IsFar, IsReach};
 
-use olr_map::{LineId, MapRead};
-use olr_route::{Labels, extends_sole};
+use crate::along::Course;
+use olr_map::MapRead;
+use olr_route::Search;
+use std::alloc::AllocError;
 
-/// The last of the positions from `i` to `far` that is covered from `i`, by the labels of a search from the end of line
-/// `i`. Covered positions follow one another: the beginning of a sole walk is a sole walk.
+/// How far the lines after a position are the sole shortest walk, and how far that was tested.
+#[derive(Clone, Copy)]
+pub struct Tested {
+    /// The last position that is covered and near enough.
+    pub reach: usize,
+    /// The last position that was tested.
+    pub last: usize,
+}
+
+/// Tests the positions from `i` to `far` one after another, by a search that begins at the end of line `i` and is settled
+/// no farther than the position that is asked for, up to the first that isn't covered. Covered positions follow one
+/// another: the beginning of a sole walk is a sole walk.
 pub fn covered_to<M: MapRead>(
-    map: &M,
-    labels: &Labels,
-    lines: &[LineId],
+    course: &Course<M>,
     i: usize,
     far: usize,
-) -> usize
-    requires joined { AreJoined (M.map map.now) lines.now }
-    requires labels { AreLabels (M.map map.now) labels.now }
-    requires source { labels.now.source ≡ end (M.map map.now) (slice_index lines.now i) }
-    requires limit { labels.now.limit ≡ limit }
-    requires some { i < length lines.now }
-    requires far { IsFar (M.map map.now) lines.now i far }
-    ensures { IsReach (M.map map.now) lines.now i result }
+    search: &mut Search,
+) -> Result<Tested, AllocError>
+    requires some { i + 1 < length course.now.lines.now }
+    requires far { IsFar (M.map course.now.map.now) course.now.lines.now i far }
+    requires begun { IsSearch (M.map course.now.map.now) (M.place_in course.now.map.now) Along
+        ((end (M.map course.now.map.now) (slice_index course.now.lines.now i), 0) ∷ []) search.old }
+    requires at_source { limit_of search.old ≡ 0 }
+    ensures reach { IfOk result (λ t. IsReach (M.map course.now.map.now) course.now.lines.now i t.reach) }
+    ensures last { IfOk result (λ t. IsLastTested (M.map course.now.map.now) course.now.lines.now i t.last) }
+    ensures search { IfOk result (λ _. IsSearch (M.map course.now.map.now) (M.place_in course.now.map.now) Along
+        ((end (M.map course.now.map.now) (slice_index course.now.lines.now i), 0) ∷ []) search.new) }
+    ensures no_farther { IfOk result (λ t. limit_of search.new
+        ≡ dm_of (M.map course.now.map.now) (stretch course.now.lines.now (i + 1) t.last)) }
 {
-    let last = far.min(lines.len() - 1);
-    for k in i + 1..last {
-        if !extends_sole(map, labels, lines[k]) {
-            return k;
+    let end = far.min(course.lines.len() - 1).max(i + 1);
+    for k in i + 1..end {
+        search.settle_to(course.map, course.between(i + 1, k + 1) as u32)?;
+        if !search.extends_sole(course.map, course.lines[k]) {
+            return Ok(Tested {
+                reach: k,
+                last: k + 1,
+            });
         }
     }
-    far
+    Ok(Tested {
+        reach: far,
+        last: end,
+    })
 }

@@ -5,39 +5,36 @@ ghost use Rattle.olr_spec.specs.Reference.{legs, reference, reference_by};
 ghost use Rattle.olr_refs.specs.Along.{AreDistances, AreJoined};
 ghost use Rattle.olr_refs.specs.Kept.{later, AreLinked, ArePoints, distance_at};
 
+use crate::along::Course;
 use crate::fields::{first_point, last_point, middle_points, offset};
 use crate::trim::trim;
 use olr_binary::Reference;
-use olr_map::{LineId, MapRead};
+use olr_map::MapRead;
 use std::alloc::{AllocError, Global};
 
 /// The reference of the points that are kept, at least two, with what is left of the offsets, in decimetres: less than the
 /// first stretch and less than the last.
 fn reference_by<M: MapRead>(
     alloc: Global,
-    map: &M,
-    lines: &[LineId],
-    distances: &[u128],
+    course: &Course<M>,
     kept: &[usize],
     pos_left: u128,
     neg_left: u128,
 ) -> Result<Reference, AllocError>
-    requires joined { AreJoined (M.map map.now) lines.now }
-    requires distances { AreDistances (M.map map.now) lines.now distances.now }
-    requires linked { AreLinked (M.map map.now) lines.now kept.now }
+    requires linked { AreLinked (M.map course.now.map.now) course.now.lines.now kept.now }
     requires two { 2 ≤ length kept.now }
-    requires pos { distance_at distances.now kept.now 0 + pos_left < distance_at distances.now kept.now 1 }
-    requires neg { distance_at distances.now kept.now (length kept.now - 2) + neg_left < distance_at distances.now kept.now (length kept.now - 1) }
-    ensures { IfOk result (λ r. r ≡ reference_by (legs (M.map map.now) lines.now) pos_left neg_left kept.now) }
+    requires pos { distance_at course.now.distances.now kept.now 0 + pos_left < distance_at course.now.distances.now kept.now 1 }
+    requires neg { distance_at course.now.distances.now kept.now (length kept.now - 2) + neg_left < distance_at course.now.distances.now kept.now (length kept.now - 1) }
+    ensures { IfOk result (λ r. r ≡ reference_by (legs (M.map course.now.map.now) course.now.lines.now) pos_left neg_left kept.now) }
 {
     let last = kept.len() - 1;
-    let middle = middle_points(alloc, map, lines, distances, kept)?;
+    let middle = middle_points(alloc, course, kept)?;
     Ok(Reference {
-        first: first_point(map, lines, distances, kept[0], kept[1]),
+        first: first_point(course, kept[0], kept[1]),
         middle,
-        last: last_point(map, lines, kept[last - 1], kept[last]),
-        pos: offset(pos_left, distances[kept[1]] - distances[kept[0]]),
-        neg: offset(neg_left, distances[kept[last]] - distances[kept[last - 1]]),
+        last: last_point(course, kept[last - 1], kept[last]),
+        pos: offset(pos_left, course.between(kept[0], kept[1])),
+        neg: offset(neg_left, course.between(kept[last - 1], kept[last])),
     })
 }
 
@@ -45,27 +42,15 @@ fn reference_by<M: MapRead>(
 /// decimetres, which together are shorter than the path.
 pub fn reference_of<M: MapRead>(
     alloc: Global,
-    map: &M,
-    lines: &[LineId],
-    distances: &[u128],
+    course: &Course<M>,
     points: &[usize],
     pos: u64,
     neg: u64,
 ) -> Result<Reference, AllocError>
-    requires joined { AreJoined (M.map map.now) lines.now }
-    requires distances { AreDistances (M.map map.now) lines.now distances.now }
-    requires points { ArePoints (M.map map.now) lines.now points.now }
-    requires long { pos + neg < dm_of (M.map map.now) lines.now }
-    ensures { IfOk result (λ r. r ≡ reference (legs (M.map map.now) lines.now) pos neg (later points.now)) }
+    requires points { ArePoints (M.map course.now.map.now) course.now.lines.now points.now }
+    requires long { pos + neg < dm_of (M.map course.now.map.now) course.now.lines.now }
+    ensures { IfOk result (λ r. r ≡ reference (legs (M.map course.now.map.now) course.now.lines.now) pos neg (later points.now)) }
 {
-    let trimmed = trim(distances, points, pos, neg);
-    reference_by(
-        alloc,
-        map,
-        lines,
-        distances,
-        trimmed.points,
-        trimmed.pos,
-        trimmed.neg,
-    )
+    let trimmed = trim(course.distances, points, pos, neg);
+    reference_by(alloc, course, trimmed.points, trimmed.pos, trimmed.neg)
 }

@@ -5,18 +5,18 @@ ghost use Rattle.olr_spec.specs.Map.{has_line, start, end};
 ghost use Rattle.olr_refs.specs.Along.{AreJoined};
 
 use crate::maps::{
-    Course, base_map, chain_map, drop_line, long_road, passing_map, path_of, ring_map,
+    BARE, BASE, Course, LONG, LONG_BARE, PASSING, Place, Plan, STRAIGHT, map_of, path_of,
 };
 use olr_map::{Footprint, LineId, MapRead, NodeId, RoadMap};
-use olr_refs::{Choice, extend, points, unknown_line};
-use olr_route::Work;
+use olr_refs::{Choice, distances, extend, points, unknown_line};
+use olr_route::{Search, Work};
 use std::alloc::Global;
 use std::process::Abort;
 use std::test::Fail;
 
 /// What an extended path is and what is chosen on it: its lines, its offsets in decimetres, the points' positions, and
 /// how many searches that took.
-type Chosen = (&'static [u32], (u64, u64), &'static [usize], u64);
+type Expected = (&'static [u32], (u64, u64), &'static [usize], u64);
 
 /// The node where a line begins.
 fn start_of<M: MapRead>(map: &M, line: LineId) -> NodeId
@@ -55,9 +55,9 @@ fn expect_points(
     alloc: Global,
     map: &RoadMap,
     course: Course,
-    chosen: Chosen,
+    expected: Expected,
 ) -> Result<(), Fail> {
-    let (numbers, offsets, positions, searches) = chosen;
+    let (numbers, offsets, positions, searches) = expected;
     let path = path_of(rt, alloc, course)?;
     assert!(rt; unknown_line(map, path.lines()).is_none());
     let mut footprint = Footprint::new(alloc);
@@ -72,9 +72,19 @@ fn expect_points(
         offsets,
         "the offsets of {course:?}"
     );
-    assert!(rt; are_joined(map, &extended.lines));
+    let joined = extended.lines.as_slice();
+    assert!(rt; are_joined(map, joined));
+    let distances = distances(alloc, map, joined)?;
+    let along = olr_refs::Course {
+        map,
+        lines: joined,
+        distances: &distances,
+    };
+    let mut search = Search::new(alloc);
     let mut work = Work::default();
-    match points(alloc, map, &extended, &mut footprint, &mut work)? {
+    let olr_refs::Chosen { choice, looks } = points(alloc, &along, &mut search, &mut work)?;
+    assert_eq!(rt; looks.len() as u64, searches, "the looks of {course:?}");
+    match choice {
         Choice::Positions(found) => {
             assert_eq!(rt; found.as_slice(), positions, "the points of {course:?}");
         }
@@ -88,57 +98,60 @@ fn expect_points(
     Ok(())
 }
 
-#[test]
-fn base_road(rt: HostRuntime) -> Result<(), Fail> {
-    let alloc = rt.alloc();
-    let mut map = base_map(&rt, alloc);
-    let lines = [10, 20, 30].as_slice();
-    let course = (lines, 1500, 0);
-    let three = [0, 1, 3].as_slice();
-    expect_points(&rt, alloc, &map, course, (lines, (1500, 0), three, 1))?;
-    drop_line(&rt, &mut map, 99);
-    let two = [0, 3].as_slice();
-    expect_points(&rt, alloc, &map, course, (lines, (1500, 0), two, 1))
-}
+/// The nodes of a long line that leads to a passing node, and of a short line behind it.
+const CHAIN_PLACES: &[Place] = &[(1, "0", "0"), (2, "0", "0.1"), (3, "0", "0.2")];
+
+/// A ring of three lines, whose nodes are all passing.
+const RING: Plan = (
+    &[(1, "0", "0"), (2, "0.001", "0"), (3, "0", "0.001")],
+    &[
+        (10, 1, 2, 4, 3, 1000, STRAIGHT),
+        (20, 2, 3, 4, 3, 1000, STRAIGHT),
+        (30, 3, 1, 4, 3, 1000, STRAIGHT),
+    ],
+);
+
+/// A chain just as long as may be put before, and one a decimetre longer.
+const CHAIN: Plan = (
+    CHAIN_PLACES,
+    &[
+        (10, 1, 2, 0, 1, 150_000, STRAIGHT),
+        (20, 2, 3, 0, 1, 1000, STRAIGHT),
+    ],
+);
+
+const LONGER_CHAIN: Plan = (
+    CHAIN_PLACES,
+    &[
+        (10, 1, 2, 0, 1, 150_001, STRAIGHT),
+        (20, 2, 3, 0, 1, 1000, STRAIGHT),
+    ],
+);
+
+const ROAD: &[u32] = &[10, 20, 30];
+
+const CASES: &[(Plan, Course, Expected)] = &[
+    (BASE, (ROAD, 1500, 0), (ROAD, (1500, 0), &[0, 1, 3], 1)),
+    (BARE, (ROAD, 1500, 0), (ROAD, (1500, 0), &[0, 3], 1)),
+    (PASSING, (&[20], 0, 0), (&[10, 20], (1000, 0), &[0, 2], 0)),
+    (RING, (&[10], 0, 0), (&[10], (0, 0), &[0, 1], 0)),
+    // a valid node is taken, though a passing one is farther; without the side road there is none
+    (LONG, (ROAD, 0, 0), (ROAD, (0, 0), &[0, 1, 3], 1)),
+    (LONG_BARE, (ROAD, 0, 0), (ROAD, (0, 0), &[0, 2, 3], 1)),
+    (
+        CHAIN,
+        (&[20], 0, 0),
+        (&[10, 20], (150_000, 0), &[0, 1, 2], 0),
+    ),
+    (LONGER_CHAIN, (&[20], 0, 0), (&[20], (0, 0), &[0, 1], 0)),
+];
 
 #[test]
-fn passing_node(rt: HostRuntime) -> Result<(), Fail> {
+fn points_by_position(rt: HostRuntime) -> Result<(), Fail> {
     let alloc = rt.alloc();
-    let map = passing_map(&rt, alloc);
-    let course = ([20].as_slice(), 0, 0);
-    let chosen = ([10, 20].as_slice(), (1000, 0), [0, 2].as_slice(), 0);
-    expect_points(&rt, alloc, &map, course, chosen)
-}
-
-#[test]
-fn ring_of_passing_nodes(rt: HostRuntime) -> Result<(), Fail> {
-    let alloc = rt.alloc();
-    let map = ring_map(&rt, alloc);
-    let lines = [10].as_slice();
-    let chosen = (lines, (0, 0), [0, 1].as_slice(), 0);
-    expect_points(&rt, alloc, &map, (lines, 0, 0), chosen)
-}
-
-#[test]
-fn valid_node_preferred(rt: HostRuntime) -> Result<(), Fail> {
-    let alloc = rt.alloc();
-    let mut map = long_road(&rt, alloc);
-    let lines = [10, 20, 30].as_slice();
-    let at_the_side_road = (lines, (0, 0), [0, 1, 3].as_slice(), 1);
-    expect_points(&rt, alloc, &map, (lines, 0, 0), at_the_side_road)?;
-    drop_line(&rt, &mut map, 40);
-    let farther = (lines, (0, 0), [0, 2, 3].as_slice(), 1);
-    expect_points(&rt, alloc, &map, (lines, 0, 0), farther)
-}
-
-#[test]
-fn chain_at_its_limit(rt: HostRuntime) -> Result<(), Fail> {
-    let alloc = rt.alloc();
-    let course = ([20].as_slice(), 0, 0);
-    let map = chain_map(&rt, alloc, 150_000);
-    let both = ([10, 20].as_slice(), (150_000, 0), [0, 1, 2].as_slice(), 0);
-    expect_points(&rt, alloc, &map, course, both)?;
-    let map = chain_map(&rt, alloc, 150_001);
-    let alone = ([20].as_slice(), (0, 0), [0, 1].as_slice(), 0);
-    expect_points(&rt, alloc, &map, course, alone)
+    for (plan, course, expected) in CASES {
+        let map = map_of(&rt, alloc, *plan);
+        expect_points(&rt, alloc, &map, *course, *expected)?;
+    }
+    Ok(())
 }

@@ -1,11 +1,9 @@
-//! Tests of whole encodings on maps that are built by edits. Each expected string was worked out from the formats.
+//! Tests of what encodings choose and look at, on maps that are built by edits; each worked out by hand.
 #![tactic(auto)]
 
 #[cfg(test)]
 mod choices;
 #[cfg(test)]
+mod looks;
+#[cfg(test)]
 mod maps;
-#[cfg(test)]
-mod strings;
-#[cfg(test)]
-mod turns;

@@ -1,0 +1,127 @@
+-- A footprint, widened by what is within reach of where each look begins.
+use Rattle.std.proofs.Common.{◌≡◌, ◌<◌, ◌≤◌, ◌+◌, ◌*◌, ℕ, suc, List, [], ◌∷◌, ◌++◌, length, take, get_or, All, Contains, None, Some, Option, refl, sym, ap, ◌∙◌, subst, arith, inl, inr, ◌⊎◌}
+use Rattle.std.specs.Prelude.{IsSome, IsTrue, ◌↔◌, MatchOption}
+use Rattle.std.specs.List.{slice_index}
+use Rattle.std.proofs.Math.Nat.{mul-le-mul_left}
+use Rattle.std.proofs.lemmas.List.{take_more}
+use Rattle.std.proofs.lemmas.List.Elements.{Contains-get_or, Contains-append_left, Contains-append_right, Contains-append_cases}
+use Rattle.std.proofs.Math.Seq.{take-length}
+use Rattle.olr_spec.specs.Map.{Map, IsMap, has_node}
+use Rattle.olr_spec.specs.Extension.{Path, is_path, extended, limit}
+use Rattle.olr_spec.specs.Encoding.{Refusal, path_fault}
+use Rattle.olr_spec.specs.Footprint.{Reach, Foot}
+use Rattle.olr_spec.specs.Looks.{Look, OwnOf, LooksOf, LooksOfExtended}
+use Rattle.olr_spec.proofs.JoinedLemmas.{extended_joined}
+use Rattle.olr_spec.proofs.LookLists.{Contains-cases, Contains-here, look_from}
+use Rattle.olr_spec.proofs.TestedLemmas.{foot_looked}
+use Rattle.olr_route.specs.declared.work.Work.{Work}
+use Rattle.olr_route.specs.Labels.{Labels, AreLabels, Reaches, label_at}
+use Rattle.olr_route.specs.Counts.{counted, after_search}
+use Rattle.olr_refs.specs.Choice.{Searches, raised}
+use Rattle.olr_refs.proofs.Joined.{known_at}
+
+abbrev pub Within : Map → List Look → ℕ → Type 0
+Within M looks v = (l : Look) × Contains looks l × Reach M l.from v
+
+-- the footprint has the own nodes, and those within reach of where these looks begin
+abbrev Holds : Map → List ℕ → List Look → List ℕ → Type 0
+Holds M own looks foot = (v : ℕ) → Contains foot v ↔ (Contains own v ⊎ Within M looks v)
+
+holds_none : (M : Map) (own : List ℕ) → Holds M own [] own
+holds_none M own v = ((λ c. inl c), (λ e. elim e [ inl c ↦ c | inr w ↦ let never : w.1.0 < 0 = w.1.1 in absurd (omega arith) ]))
+
+holds_more : (M : Map) (own : List ℕ) (looks : List Look) (l : Look) (old new : List ℕ) → Holds M own looks old → ((v : ℕ) → Contains new v ↔ (Contains old v ⊎ Reach M l.from v))
+    → Holds M own (looks ++ l ∷ []) new
+holds_more M own looks l old new h f v = (forth, back)
+  where
+    from_old : Contains own v ⊎ Within M looks v → Contains own v ⊎ Within M (looks ++ l ∷ []) v
+    from_old (inl c) = inl c
+    from_old (inr w) = inr (w.0, Contains-append_left looks (l ∷ []) w.0 w.1, w.2)
+
+    forth : Contains new v → Contains own v ⊎ Within M (looks ++ l ∷ []) v
+    forth c = elim ((f v).0 c) [ inl o ↦ from_old ((h v).0 o) | inr r ↦ inr (l, Contains-append_right looks (l ∷ []) l (Contains-here l []), r) ]
+
+    back : Contains own v ⊎ Within M (looks ++ l ∷ []) v → Contains new v
+    back (inl c) = (f v).1 (inl ((h v).1 (inl c)))
+    back (inr w) = elim (Contains-append_cases looks (l ∷ []) w.0 w.1) [
+      | inl there ↦ (f v).1 (inl ((h v).1 (inr (w.0, there, w.2))))
+      | inr last ↦ elim (Contains-cases l w.0 [] last) [
+        | inl e ↦ (f v).1 (inr (subst (λ (k : Look). Reach M k.from v) (sym e) w.2))
+        | inr none ↦ let never : none.0 < 0 = none.1 in absurd (omega arith)
+      ]
+    ]
+
+-- ---- one search more
+
+reach_labelled : (M : Map) (s : ℕ) (x : Labels) → AreLabels M x → x.source ≡ s → x.limit ≡ limit → (v : ℕ) → IsSome (label_at x v) ↔ Reach M s v
+reach_labelled M s x a e l v =
+    let there : IsSome (label_at x v) ↔ Reaches M s x.limit v = subst (λ (n : ℕ). IsSome (label_at x v) ↔ Reaches M n x.limit v) e (a.reached v) in
+    subst (λ (n : ℕ). IsSome (label_at x v) ↔ Reaches M s n v) l there
+
+searches_more : (a b c : Work) (n s t labels : ℕ) → Searches a b n s → c ≡ after_search b labels → s ≤ t → labels ≤ t → Searches a c (n + 1) t
+searches_more a b c n s t labels f e h g =
+    let one : suc n ≡ n + 1 = omega arith in
+    let more : n * s ≤ n * t = mul-le-mul_left n h in
+    let rises = f.rises in
+    let settled = f.settled in
+    let parts : (n + 1) * t ≡ n * t + t = omega arith in
+    subst (λ (w : Work). Searches a w (n + 1) t) (sym e) record {
+      encodings = f.encodings;
+      searches = ap (λ (k : ℕ). counted (k + 1)) f.searches ∙ ap (raised a.searches) one;
+      rises = omega arith;
+      settled = omega arith;
+    }
+
+-- what is true of the footprint and the counts when so many of the looks have been searched
+pub record Widened (M : Map) (own : List ℕ) (looks : List Look) (n : ℕ) (foot : List ℕ) (before work : Work) : Type 0 where
+  pub holds : Holds M own (take n looks) foot
+  pub counts : Searches before work n (length foot)
+
+pub widened_none : (M : Map) (own : List ℕ) (looks : List Look) (w : Work) → Widened M own looks 0 own w w
+widened_none M own looks w = record { holds = holds_none M own; counts = record { encodings = refl; searches = refl; rises = omega arith; settled = omega arith } }
+
+pub widened_more : (M : Map) (own : List ℕ) (looks : List Look) (n : ℕ) (l : Look) (old new : List ℕ) (before work after : Work) (x : Labels) (labels : ℕ) → Widened M own looks n old before work
+    → n < length looks → l ≡ get_or looks n l → AreLabels M x → x.source ≡ l.from → x.limit ≡ limit → ((v : ℕ) → Contains new v ↔ (Contains old v ⊎ IsSome (label_at x v)))
+    → after ≡ after_search work labels → labels ≤ length new → length old ≤ length new → Widened M own looks (n + 1) new before after
+widened_more M own looks n l old new before work after x labels w h is a s far f e few grows =
+    let next : take (n + 1) looks ≡ take n looks ++ l ∷ [] = take_more looks n l h ∙ ap (λ (k : Look). take n looks ++ k ∷ []) (sym is) in
+    record {
+      holds = subst (λ (ks : List Look). Holds M own ks new) (sym next) (holds_more M own (take n looks) l old new w.holds (λ v.
+          let reach = reach_labelled M l.from x a s far v in (
+            (λ c. elim ((f v).0 c) [ inl o ↦ inl o | inr r ↦ inr (reach.0 r) ]),
+            (λ c. elim c [ inl o ↦ (f v).1 (inl o) | inr r ↦ (f v).1 (inr (reach.1 r)) ]),
+          )));
+      counts = searches_more before work after n (length old) (length new) labels w.counts e grows few;
+    }
+
+take_all : {X : Type 0} (xs : List X) (n : ℕ) → n ≡ length xs → take n xs ≡ xs
+take_all xs n e = ap (λ (k : ℕ). take k xs) e ∙ take-length xs
+
+-- ---- the whole
+
+pub widened_all : (M : Map) (own : List ℕ) (looks : List Look) (n : ℕ) (foot : List ℕ) (before work : Work) → Widened M own looks n foot before work → n ≡ length looks
+    → (v : ℕ) → Contains foot v ↔ (Contains own v ⊎ Within M looks v)
+widened_all M own looks n foot before work w e = subst (λ (ks : List Look). Holds M own ks foot) (take_all looks n e) w.holds
+
+-- of a path's own nodes and looks
+pub widened_foot : (M : Map) → IsMap M → (own : List ℕ) (looks : List Look) (foot : List ℕ) → ((v : ℕ) → Contains foot v ↔ (Contains own v ⊎ Within M looks v))
+    → (P : Path) → IsTrue (is_path P.lines) → ((v : ℕ) → Contains own v ↔ OwnOf M P v) → LooksOf M P looks → (v : ℕ) → Contains foot v ↔ Foot M P v
+widened_foot M m own looks foot w P is o l v =
+    let law = foot_looked M m P is looks l v in (
+      (λ c. law.1 (elim ((w v).0 c) [ inl p ↦ inl ((o v).0 p) | inr r ↦ inr r ])),
+      (λ f. (w v).1 (elim (law.0 f) [ inl p ↦ inl ((o v).1 p) | inr r ↦ inr r ])),
+    )
+
+-- each look begins at a node of the map
+pub looks_known : (M : Map) → IsMap M → (P : Path) → IsTrue (is_path P.lines) → (looks : List Look) → LooksOf M P looks → All (λ l. IsTrue (has_node M l.from)) looks
+looks_known M m P is looks o = by (path_fault M P) refl o
+  where
+    by : (f : Option Refusal) → path_fault M P ≡ f → MatchOption f (LooksOfExtended M P looks) (λ _. looks ≡ []) → All (λ l. IsTrue (has_node M l.from)) looks
+    by None e l = λ k d h.
+        let ls = (extended M P l.before l.after).lines in
+        let r = look_from M ls (0 ∷ l.points) looks l.each (get_or looks k d) (Contains-get_or looks k d h) in
+        let two = r.2 in
+        let joined = extended_joined M P is e l.before l.after l.tried in
+        let from = ap (λ (q : Look). q.from) r.3.2 in
+        subst (λ (v : ℕ). IsTrue (has_node M v)) (sym from) (m.ends (slice_index ls r.0) (known_at M ls r.0 joined (omega arith)))
+    by (Some f) e none = λ k d h. let empty = ap length none in absurd (omega arith)
