@@ -1,0 +1,12 @@
+-- The list that a table has at a number: that of nothing where the table lacks the number.
+use Rattle.std.specs.Prelude.{ℕ, List, [], nat_eq, Option, Some, None}
+use Rattle.std.specs.HashMap.{HashMap, get}
+use Rattle.std.specs.declared.alloc.Global.{Global}
+use Rattle.std.specs.declared.vec.Vec.{Vec}
+
+abbrev pub items_of : Option (Vec ℕ Global) → List ℕ
+items_of None = []
+items_of (Some v) = v.items
+
+abbrev pub marks_in : {S : Type 0} → HashMap ℕ (Vec ℕ Global) S → ℕ → List ℕ
+marks_in m n = items_of (get nat_eq m n)

@@ -1,0 +1,102 @@
+//! A relation between numbers and marks: which marks a number has is found by the number.
+#![tactic(auto)]
+
+ghost use Rattle.std.specs.Prelude.{◌≡◌, ◌||◌, ◌==◌, ◌&&◌, not, ℕ, OnOk, OnErr};
+ghost use Rattle.std.specs.List.Sorted.{IsStrictlyIncreasing};
+ghost use Rattle.olr_spec.specs.Extension.{has};
+ghost use Rattle.olr_index.specs.Listed.{marks_in};
+
+use std::alloc::{AllocError, Global};
+use std::collections::HashMap;
+
+#[cfg(test)]
+mod tests;
+
+/// Numbers and their marks. Each number has each mark once, and a number without marks takes no room.
+#[derive(Drop)]
+pub struct Index {
+    marks: HashMap<u64, Vec<u64>>,
+    alloc: Global,
+    ghost rise: { (number : ℕ) → IsStrictlyIncreasing (marks_in marks number) },
+}
+
+impl Index {
+    ghost use Rattle.std.specs.Prelude.{◌≡◌, ◌||◌, ◌==◌, ◌&&◌, not, ℕ, [], OnOk, OnErr};
+    ghost use Rattle.std.specs.List.Sorted.{IsStrictlyIncreasing};
+    ghost use Rattle.olr_spec.specs.Extension.{has};
+    ghost use Rattle.olr_index.specs.Marks.{marks_of, holds};
+
+    /// No number has a mark. Takes no memory.
+    pub fn new(alloc: Global) -> Index
+        ensures { (number : ℕ) → marks_of result number ≡ [] }
+    {
+        Index {
+            marks: HashMap::new(alloc),
+            alloc,
+        }
+    }
+
+    /// The marks of a number, rising, each once.
+    pub fn of(&self, number: u64) -> &[u64]
+        ensures marks { result.now ≡ marks_of self.now number }
+        ensures rising { IsStrictlyIncreasing result.now }
+    {
+        match self.marks.get(&number) {
+            Some(marks) => marks.as_slice(),
+            None => &[],
+        }
+    }
+
+    /// Gives a number a mark, unless it has it already. After a refusal the numbers have the marks that they had.
+    pub fn add(&mut self, number: u64, mark: u64) -> Result<(), AllocError>
+        ensures ok { OnOk result ((n m : ℕ) → holds self.new n m
+            ≡ (holds self.old n m || ((number == n) && (mark == m)))) }
+        ensures err { OnErr result ((n m : ℕ) → holds self.new n m ≡ holds self.old n m) }
+    {
+        if let Some(marks) = self.marks.get_mut(&number) {
+            return put(marks, mark);
+        }
+        let mut marks = Vec::with_capacity(self.alloc, 1)?;
+        marks.push(mark)?;
+        self.marks.insert(number, marks)?;
+        Ok(())
+    }
+
+    /// Takes a mark from a number, if it has it. Takes no memory.
+    pub fn remove(&mut self, number: u64, mark: u64)
+        ensures { (n m : ℕ) → holds self.new n m
+            ≡ (holds self.old n m && not ((number == n) && (mark == m))) }
+    {
+        let Some(marks) = self.marks.get_mut(&number) else {
+            return;
+        };
+        take_out(marks, mark);
+        if marks.is_empty() {
+            self.marks.remove(&number);
+        }
+    }
+}
+
+/// Puts a mark among rising ones, unless it is there. After a refusal they are as before.
+fn put(marks: &mut Vec<u64>, mark: u64) -> Result<(), AllocError>
+    requires { IsStrictlyIncreasing marks.old.items }
+    ensures rise { IsStrictlyIncreasing marks.new.items }
+    ensures ok { OnOk result ((m : ℕ) → has marks.new.items m ≡ (has marks.old.items m || (mark == m))) }
+    ensures err { OnErr result (marks.new.items ≡ marks.old.items) }
+{
+    if let Err(place) = marks.binary_search(&mark) {
+        marks.insert(place, mark)?;
+    }
+    Ok(())
+}
+
+/// Takes a mark out of rising ones, if it is there. Takes no memory.
+fn take_out(marks: &mut Vec<u64>, mark: u64)
+    requires { IsStrictlyIncreasing marks.old.items }
+    ensures rise { IsStrictlyIncreasing marks.new.items }
+    ensures holds { (m : ℕ) → has marks.new.items m ≡ (has marks.old.items m && not (mark == m)) }
+{
+    if let Ok(place) = marks.binary_search(&mark) {
+        marks.remove(place);
+    }
+}

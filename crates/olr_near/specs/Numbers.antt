@@ -1,0 +1,79 @@
+-- Numbers of nodes, by which it is told that no source is near.
+--     number_of f v      the number of node v, in decimetres
+--     IsSource f s      the node s is a source: its number is 0
+--     Within L v d      node v has a number, of at most d
+--     ClosedAt M L u d      each line from u, where d, leads within the limit to a number that is no greater than the way there
+--     IsRight M f      so at each number: then each is at most the distance from the nearest source, and other nodes are beyond the limit
+--     IsUnderWay M f      so at each number, unless the node waits
+--     SameBut T M N      round all nodes but T the maps are the same
+--     Moves f g      no number got greater, and where one is new its node waits
+--     IsReopened T f g      the numbers are the same, and the nodes T wait where they have one
+--     gain f      rises with each new number and each lesser one.        IsPaid f g      so much that no more waits than was gained
+-- Where the numbers are unknown nothing is said.
+use Rattle.std.specs.Prelude.{◌≡◌, ℕ, ◌+◌, ◌-◌, ◌*◌, ◌≤◌, ◌⊎◌, List, Option, Some, None, Contains, IsTrue, IsFalse, nat_eq, sum_by}
+use Rattle.std.specs.declared.hash.FoldHasher.{FoldHasher}
+use Rattle.std.specs.declared.hash.BuildHasherDefault.{BuildHasherDefault}
+use Rattle.std.specs.declared.cmp.Reverse.{Reverse}
+use Rattle.std.specs.HashMap.{HashMap, get, values}
+use Rattle.std.specs.BinaryHeap.{heap_items, heap_len}
+use Rattle.olr_spec.specs.Map.{Map, has_line, start, end, dm, SameRound}
+use Rattle.olr_spec.specs.Extension.{has, limit}
+use Rattle.olr_near.specs.declared.nearness.Nearness.{Nearness}
+
+abbrev pub Numbers : Type 0
+Numbers = HashMap ℕ ℕ (BuildHasherDefault FoldHasher)
+
+abbrev pub number_of : Nearness → ℕ → Option ℕ
+number_of f v = get nat_eq f.numbers v
+
+abbrev pub IsSource : Nearness → ℕ → Type 0
+IsSource f s = IsTrue f.known → number_of f s ≡ Some 0
+
+pub record Within (L : ℕ → Option ℕ) (v d : ℕ) : Type 0 where
+  pub number : ℕ
+  pub at : L v ≡ Some number
+  pub low : number ≤ d
+
+abbrev pub ClosedAt : Map → (ℕ → Option ℕ) → ℕ → ℕ → Type 0
+ClosedAt M L u d = (x : ℕ) → IsTrue (has_line M x) → start M x ≡ u → d + dm M x ≤ limit → Within L (end M x) (d + dm M x)
+
+abbrev pub IsRight : Map → Nearness → Type 0
+IsRight M f = IsTrue f.known → (u d : ℕ) → number_of f u ≡ Some d → ClosedAt M (number_of f) u d
+
+-- node v waits in the heap, at length d
+abbrev pub Waits : List (Reverse (ℕ × ℕ)) → ℕ → ℕ → Type 0
+Waits xs d v = Contains xs (record { 0 = (d, v) })
+
+abbrev pub IsWaiting : Nearness → ℕ → ℕ → Type 0
+IsWaiting f d v = Waits (heap_items f.waiting) d v
+
+abbrev pub IsUnderWay : Map → Nearness → Type 0
+IsUnderWay M f = IsTrue f.known → (u d : ℕ) → number_of f u ≡ Some d → ClosedAt M (number_of f) u d ⊎ IsWaiting f d u
+
+abbrev pub SameBut : List ℕ → Map → Map → Type 0
+SameBut T M N = (v : ℕ) → IsFalse (has T v) → SameRound M N v
+
+-- ---- how numbers change
+
+-- by how much the numbers are below one more than the limit, all together
+abbrev pub gain : Nearness → ℕ
+gain f = sum_by (λ k. limit + 1 - k) (values f.numbers)
+
+abbrev pub waiting_len : Nearness → ℕ
+waiting_len f = heap_len f.waiting
+
+pub record Moves (f g : Nearness) : Type 0 where
+  pub better : (v d : ℕ) → number_of f v ≡ Some d → Within (number_of g) v d
+  pub fresh : (v d : ℕ) → number_of g v ≡ Some d → (number_of f v ≡ Some d) ⊎ IsWaiting g d v
+  pub kept : (d v : ℕ) → IsWaiting f d v → IsWaiting g d v
+  pub known : g.known ≡ f.known
+
+-- each place that is taken by what waits is paid for
+abbrev pub IsPaid : Nearness → Nearness → Type 0
+IsPaid f g = 2 * gain f + waiting_len g ≤ 2 * gain g + waiting_len f
+
+pub record IsReopened (T : List ℕ) (f g : Nearness) : Type 0 where
+  pub same : g.numbers ≡ f.numbers
+  pub kept : (d v : ℕ) → IsWaiting f d v → IsWaiting g d v
+  pub waits : (v d : ℕ) → IsTrue (has T v) → number_of f v ≡ Some d → IsWaiting g d v
+  pub known : g.known ≡ f.known

@@ -1,0 +1,208 @@
+//! Numbers of nodes, at most the distances from the nearest source.
+ghost use Rattle.std.specs.Prelude.{◌<◌, ◌^◌, ℕ, IsSome, nat_eq};
+ghost use Rattle.std.specs.HashMap.{get};
+
+use olr_map::{MapRead, NodeId};
+use olr_route::GREATEST_LIMIT;
+use std::alloc::{AllocError, Global};
+use std::cmp::Reverse;
+use std::collections::{BinaryHeap, HashMap};
+
+/// A number for each node that a walk of at most `GREATEST_LIMIT` leads to from one of the sources: at most the length
+/// of that walk, in decimetres. Where lines got longer or were dropped since, numbers may be too small, and some nodes
+/// may have one that no source is near to.
+///
+/// After want of memory the numbers are unknown, until they are begun anew by `clear`.
+#[derive(Drop)]
+pub struct Nearness {
+    alloc: Global,
+    /// By a node's number.
+    numbers: HashMap<u32, u32>,
+    /// The nodes whose lines are to be followed, each with the number that it had when it came here.
+    waiting: BinaryHeap<Reverse<(u32, NodeId)>>,
+    known: bool,
+    ghost small: { (v : ℕ) → IsSome (get nat_eq numbers v) → v < 2 ^ 32 },
+}
+
+impl Nearness {
+    ghost use Rattle.std.specs.Prelude.{◌≡◌, ◌≤◌, ◌↔◌, ℕ, None, Some, IsTrue, IsFalse, OnOk, OnErr};
+    ghost use Rattle.olr_spec.specs.Map.{Map};
+    ghost use Rattle.olr_spec.specs.Extension.{limit};
+    ghost use Rattle.olr_spec.specs.Detours.{Near};
+    ghost use Rattle.olr_near.specs.Numbers.{number_of, IsSource, IsRight, IsUnderWay, SameBut, Within, ClosedAt, Moves, IsPaid, IsReopened};
+
+    /// No sources, and no numbers. Takes no memory.
+    pub fn new(alloc: Global) -> Nearness
+        ensures { (v : ℕ) → number_of result v ≡ None }
+    {
+        Nearness {
+            alloc,
+            numbers: HashMap::new(alloc),
+            waiting: BinaryHeap::new(alloc),
+            known: true,
+        }
+    }
+
+    /// Whether the numbers are known.
+    pub fn is_known(&self) -> bool
+        ensures { result ≡ self.now.known }
+    {
+        self.known
+    }
+
+    /// Forgets all sources and numbers, and begins anew. Takes no memory.
+    pub fn clear(&mut self)
+        ensures { (v : ℕ) → number_of self.new v ≡ None }
+    {
+        self.numbers = HashMap::new(self.alloc);
+        self.waiting.clear();
+        self.known = true;
+    }
+
+    /// From now on the numbers are unknown, and what was kept for them is given back.
+    pub fn forget(&mut self)
+        ensures { IsFalse self.new.known }
+    {
+        self.numbers = HashMap::new(self.alloc);
+        self.waiting = BinaryHeap::new(self.alloc);
+        self.known = false;
+    }
+
+    /// Whether it is known that from no source a walk of at most `GREATEST_LIMIT` leads to one of the nodes.
+    pub fn is_far(&self, nodes: &[NodeId]) -> bool
+        ensures { IsTrue result → (M : Map) (s : ℕ) → IsRight M self.now → IsSource self.now s
+            → ¬ Near M nodes.now s limit }
+    {
+        if !self.known {
+            return false;
+        }
+        for node in nodes {
+            if self.numbers.contains_key(&node.number()) {
+                return false;
+            }
+        }
+        true
+    }
+
+    /// Adds a source, whose lines are then to be followed.
+    pub fn add(&mut self, source: NodeId) -> Result<(), AllocError>
+        ensures source { IsSource self.new source }
+        ensures sources { (s : ℕ) → IsSource self.old s → IsSource self.new s }
+        ensures under_way { (M : Map) → IsUnderWay M self.old → IsUnderWay M self.new }
+        ensures err { OnErr result (IsFalse self.new.known) }
+    {
+        match self.lower(source, 0) {
+            Ok(()) => Ok(()),
+            Err(error) => {
+                self.forget();
+                Err(error)
+            }
+        }
+    }
+
+    /// Lets the lines from these nodes be followed again, as it has to be where a line was added or got shorter.
+    pub fn reopen(&mut self, nodes: &[NodeId]) -> Result<(), AllocError>
+        ensures sources { (s : ℕ) → IsSource self.old s → IsSource self.new s }
+        ensures under_way { (M N : Map) → SameBut nodes.now M N → IsUnderWay M self.old → IsUnderWay N self.new }
+        ensures err { OnErr result (IsFalse self.new.known) }
+    {
+        match self.let_wait(nodes) {
+            Ok(()) => Ok(()),
+            Err(error) => {
+                self.forget();
+                Err(error)
+            }
+        }
+    }
+
+    /// Follows the lines of all nodes that wait, until the numbers are right.
+    pub fn settle<M: MapRead>(&mut self, map: &M) -> Result<(), AllocError>
+        ensures sources { (s : ℕ) → IsSource self.old s → IsSource self.new s }
+        ensures right { IsUnderWay (M.map map.now) self.old → IsRight (M.map map.now) self.new }
+        ensures err { OnErr result (IsFalse self.new.known) }
+    {
+        match self.follow_all(map) {
+            Ok(()) => Ok(()),
+            Err(error) => {
+                self.forget();
+                Err(error)
+            }
+        }
+    }
+
+    /// Gives a node a number in decimetres and lets it wait, unless it has a number that is no greater.
+    fn lower(&mut self, node: NodeId, number: u32) -> Result<(), AllocError>
+        requires { number ≤ limit }
+        ensures moves { OnOk result (Moves self.old self.new) }
+        ensures paid { OnOk result (IsPaid self.old self.new) }
+        ensures within { OnOk result (Within (number_of self.new) node number) }
+    {
+        let key = node.number();
+        if let Some(had) = self.numbers.get(&key) {
+            if *had <= number {
+                return Ok(());
+            }
+        }
+        self.waiting.push(Reverse((number, node)))?;
+        self.numbers.insert(key, number)?;
+        Ok(())
+    }
+
+    /// Lets those of the nodes wait that have a number.
+    fn let_wait(&mut self, nodes: &[NodeId]) -> Result<(), AllocError>
+        ensures { OnOk result (IsReopened nodes.now self.old self.new) }
+    {
+        for node in nodes {
+            if let Some(number) = self.numbers.get(&node.number()) {
+                self.waiting.push(Reverse((*number, *node)))?;
+            }
+        }
+        Ok(())
+    }
+
+    /// Whether the node has this number.
+    fn is_at(&self, node: NodeId, number: u32) -> bool
+        ensures { IsTrue result ↔ (number_of self.now node ≡ Some number) }
+    {
+        match self.numbers.get(&node.number()) {
+            None => false,
+            Some(had) => *had == number,
+        }
+    }
+
+    /// Follows the lines from a node with this number, within the limit.
+    fn follow<M: MapRead>(&mut self, map: &M, node: NodeId, number: u32) -> Result<(), AllocError>
+        ensures moves { OnOk result (Moves self.old self.new) }
+        ensures paid { OnOk result (IsPaid self.old self.new) }
+        ensures closed { OnOk result (ClosedAt (M.map map.now) (number_of self.new) node number) }
+    {
+        if number > GREATEST_LIMIT {
+            return Ok(());
+        }
+        let room = GREATEST_LIMIT - number;
+        for end in map.out_ends(node) {
+            if end.len <= room {
+                self.lower(end.node, number + end.len)?;
+            }
+        }
+        Ok(())
+    }
+
+    /// Follows the lines of all nodes that wait.
+    fn follow_all<M: MapRead>(&mut self, map: &M) -> Result<(), AllocError>
+        ensures better { OnOk result ((v d : ℕ) → number_of self.old v ≡ Some d → Within (number_of self.new) v d) }
+        ensures known { OnOk result (self.new.known ≡ self.old.known) }
+        ensures right { OnOk result (IsUnderWay (M.map map.now) self.old → IsRight (M.map map.now) self.new) }
+    {
+        while let Some(top) = self.waiting.pop() {
+            let Reverse(nearest) = top;
+            let (number, node) = nearest;
+            if self.is_at(node, number) {
+                self.follow(map, node, number)?;
+                // No node has two numbers.
+                let _ = self.numbers.len();
+            }
+        }
+        Ok(())
+    }
+}
