@@ -1,6 +1,6 @@
 -- Whole runs.
-use Rattle.std.proofs.Common.{inl, inr, ◌≡◌, ℕ, Bool, true, false, cond, not, List, [], ◌∷◌, ◌++◌, length, Option, Some, None, is_some, Result, Ok, Err, refl, sym, ap, ◌∙◌, subst}
-use Rattle.std.specs.Prelude.{nat_le, ◌==◌, ◌||◌, ◌↔◌, MatchOption}
+use Rattle.std.proofs.Common.{inl, inr, ◌≡◌, ℕ, Bool, true, false, cond, not, List, [], ◌∷◌, ◌++◌, length, Option, Some, None, is_some, Result, Ok, Err, refl, sym, ap, ◌∙◌, subst, arith}
+use Rattle.std.specs.Prelude.{nat_le, ◌==◌, ◌||◌, ◌↔◌, MatchOption, IsSomeAnd, IfSome}
 use Rattle.std.specs.List.{list_any, AllByRecursion}
 use Rattle.std.specs.Result.{result_unwrap_or}
 use Rattle.std.proofs.lemmas.Bool.{cases_Bool, both_ways, eqb-true}
@@ -14,9 +14,9 @@ use Rattle.olr_spec.proofs.AnswerLemmas.{one_answer}
 use Rattle.olr_spec.proofs.DecideLemmas.{some_answer}
 use Rattle.olr_spec.proofs.JoinLemmas.{routes_join}
 use Rattle.olr_spec.proofs.UndoLemmas.{empty_sound}
-use Rattle.olr_commands.specs.State.{Named, Content, no_content, path_named, same_name, ArePaths, NamesDiffer, IsContent, has_path, TextFault, Fault, No_path, Batch_full, Count_differs, Change, changed, next, after, Command, Make, Show, Report, Explain, Begin, Commit, Abort, State, start_state, full, made, held, text_fault, unless_fault, step, brought, IsState}
-use Rattle.olr_commands.specs.Reply.{Entry, entry, HasAnswer, ChangedOf, Differences, Outcome}
-use Rattle.olr_commands.specs.History.{History, AllHavePlaces, next_state, all_brought, OneOf, Joined, names}
+use Rattle.olr_commands.specs.State.{Named, Content, path_named, same_name, ArePaths, NamesDiffer, IsContent, has_path, TextFault, Fault, No_path, Batch_full, Count_differs, Change, changed, next, after, Command, Make, Show, Report, Explain, Begin, Commit, Abort, State, start_state, full, made, held, text_fault, unless_fault, step, brought, HasPlaces, IsState}
+use Rattle.olr_commands.specs.Reply.{Entry, entry, Paths, HasAnswer, Published, ChangedOf, Differences, IsReply, Outcome, IsOutcome}
+use Rattle.olr_commands.specs.History.{Run, History, AllHavePlaces, next_state, brought_by, all_brought, OneOf, IsPublished, Joined, names, NamesChanged, tells, IsNamed, IsRefused, Headline}
 use Rattle.olr_commands.proofs.NameLemmas.{same_is}
 use Rattle.olr_commands.proofs.StateLemmas.{when_ok, next_ok, after_append, steps_keep}
 use Rattle.olr_commands.proofs.ReplyLemmas.{named_path}
@@ -24,7 +24,7 @@ use Rattle.olr_commands.proofs.ReplyLemmas.{named_path}
 -- ---- the content
 
 -- what an accepted command brings is what it changes
-pub brings : (s t : State) (c : Command) → step s c ≡ Ok t → t.content ≡ after s.content (brought s c)
+brings : (s t : State) (c : Command) → step s c ≡ Ok t → t.content ≡ after s.content (brought s c)
 brings s t c is = by_batch s.content s.batch t c is where
   made_is : (c : Content) (x : Change) (r : Result Content Fault) (t : State) → changed c x ≡ r → made r ≡ Ok t → t.content ≡ next c x
   made_is c x (Ok d) t e is =
@@ -61,26 +61,65 @@ brings s t c is = by_batch s.content s.batch t c is where
   by_batch c None t Abort is = absurd cc
   by_batch c (Some xs) t Abort is = ok_is _ t is
 
-next_state_ok : (s t : State) (c : Command) → step s c ≡ Ok t → next_state s c ≡ t
+next_state_ok : (s t : State) (c : Command) → step s c ≡ Ok t → next_state s (Some c) ≡ t
 next_state_ok s t c e = ap (λ (r : Result State Fault). result_unwrap_or r s) e
 
-pub keeps : (s t : State) (cs : List Command) (os : List Outcome) → IsState s → AllHavePlaces cs → History s cs os t
-    → IsState t × (t.content ≡ after s.content (all_brought s cs os))
-keeps s t [] [] i h is = (subst IsState is i, ap (λ (u : State). u.content) (sym is))
-keeps s t [] (o ∷ os) i h is = absurd is
-keeps s t (c ∷ cs) [] i h is = absurd is
-keeps s t (c ∷ cs) (Ok reply ∷ os) i h is =
-    let mid = is.0 in
-    let go : step s c ≡ Ok mid = is.1.0 in
-    let rest = keeps mid t cs os (steps_keep s mid c i h.0 go) h.1 is.2 in (
-      rest.0,
-      rest.1 ∙ ap (λ (d : Content). after d (all_brought mid cs os)) (brings s mid c go)
-          ∙ ap (λ (u : State). after (after s.content (brought s c)) (all_brought u cs os)) (sym (next_state_ok s mid c go))
-          ∙ sym (after_append s.content (brought s c) (all_brought (next_state s c) cs os)),
-    )
-keeps s t (c ∷ cs) (Err fault ∷ os) i h is =
-    let back : is.0 ≡ s = is.1.1 in
-    keeps s t cs os i h.1 (subst (λ u. History u cs os t) back is.2)
+-- ---- runs
+
+-- what is known of each step
+pub run_each : {A : Type 0} (P Q : State → A → Outcome → State → Type 0) → ((s : State) (x : A) (o : Outcome) (t : State) → P s x o t → Q s x o t)
+    → (s : State) (xs : List A) (os : List Outcome) (t : State) → Run P s xs os t → Run Q s xs os t
+run_each P Q f s xs [] t h = h
+run_each P Q f s [] (o ∷ os) t h = absurd h
+run_each P Q f s (x ∷ xs) (o ∷ os) t h = (h.0, f s x o h.0 h.1, run_each P Q f h.0 xs os t h.2)
+
+-- one more
+pub run_more : {A : Type 0} (P : State → A → Outcome → State → Type 0) (s t u : State) (xs : List A) (x : A) (os : List Outcome) (o : Outcome) → length os ≡ length xs
+    → Run P s xs os t → P t x o u → Run P s (xs ++ x ∷ []) (os ++ o ∷ []) u
+run_more P s t u [] x [] o l h p = (u, subst (λ (a : State). P a x o u) (sym h) p, refl)
+run_more P s t u [] x (k ∷ os) o l h p = absurd h
+run_more P s t u (y ∷ xs) x [] o l h p = absurd (omega arith)
+run_more P s t u (y ∷ xs) x (k ∷ os) o l h p = (h.0, h.1, run_more P h.0 t u xs x os o (omega arith) h.2 p)
+
+-- of more of them
+pub run_longer : {A : Type 0} (P : State → A → Outcome → State → Type 0) (s t : State) (xs rest : List A) (os : List Outcome) → Run P s xs os t → Run P s (xs ++ rest) os t
+run_longer P s t xs rest [] h = h
+run_longer P s t [] rest (o ∷ os) h = absurd h
+run_longer P s t (x ∷ xs) rest (o ∷ os) h = (h.0, h.1, run_longer P h.0 t xs rest os h.2)
+
+-- all of these, and then some of those
+pub run_join : {A : Type 0} (P : State → A → Outcome → State → Type 0) (s t u : State) (xs ys : List A) (os qs : List Outcome) → length os ≡ length xs
+    → Run P s xs os t → Run P t ys qs u → Run P s (xs ++ ys) (os ++ qs) u
+run_join P s t u [] ys [] qs l h p = subst (λ (a : State). Run P a ys qs u) (sym h) p
+run_join P s t u [] ys (k ∷ os) qs l h p = absurd h
+run_join P s t u (x ∷ xs) ys [] qs l h p = absurd (omega arith)
+run_join P s t u (x ∷ xs) ys (k ∷ os) qs l h p = (h.0, h.1, run_join P h.0 t u xs ys os qs (omega arith) h.2 p)
+
+-- where each leads: an accepted one by its command, a refused one nowhere
+abbrev pub Leads : State → Option Command → Outcome → State → Type 0
+Leads s None (Ok reply) t = ⊥
+Leads s (Some c) (Ok reply) t = step s c ≡ Ok t
+Leads s asked (Err fault) t = t ≡ s
+
+pub outcome_leads : (s : State) (c : Command) (o : Outcome) (t : State) → IsOutcome s c o t → Leads s (Some c) o t
+outcome_leads s c (Ok reply) t h = h.0
+outcome_leads s c (Err fault) t h = h.1
+
+pub content_after : {A : Type 0} (asked : A → Option Command) (s t : State) (xs : List A) (os : List Outcome) → Run (λ a x o b. Leads a (asked x) o b) s xs os t
+    → t.content ≡ after s.content (all_brought asked s xs os)
+content_after asked s t [] [] h = ap (λ (u : State). u.content) (sym h)
+content_after asked s t [] (o ∷ os) h = absurd h
+content_after asked s t (x ∷ xs) [] h = ap (λ (u : State). u.content) (sym h)
+content_after asked s t (x ∷ xs) (Ok reply ∷ os) h = accepted (asked x) h.1 (content_after asked h.0 t xs os h.2) where
+  accepted : (m : Option Command) → Leads s m (Ok reply) h.0 → t.content ≡ after h.0.content (all_brought asked h.0 xs os) → t.content ≡ after s.content (brought_by s m ++ all_brought asked (next_state s m) xs os)
+  accepted None p rest = absurd p
+  accepted (Some c) go rest =
+      rest ∙ ap (λ (d : Content). after d (all_brought asked h.0 xs os)) (brings s h.0 c go)
+      ∙ ap (λ (u : State). after (after s.content (brought s c)) (all_brought asked u xs os)) (sym (next_state_ok s h.0 c go))
+      ∙ sym (after_append s.content (brought s c) (all_brought asked (next_state s (Some c)) xs os))
+content_after asked s t (x ∷ xs) (Err fault ∷ os) h =
+    let back : h.0 ≡ s = h.1 in
+    content_after asked s t xs os (subst (λ (u : State). Run (λ a y o b. Leads a (asked y) o b) u xs os t) back h.2)
 
 -- ---- answers
 
@@ -90,15 +129,19 @@ one_of c i name P e =
     let some = some_answer c.map i.map P sound in
     record { answer = some.0; encodes = some.1; only = λ B h. one_answer c.map i.map P sound B some.0 h some.1 }
 
+-- the one answer of a path is what is published
+only_published : (c : Content) (name : List ℕ) (P : Path) (one : OneOf c.map P) (answer : Option Answer) → path_named c.paths name ≡ Some P → Published c name answer → answer ≡ Some one.answer
+only_published c name P one answer e h = some answer (subst (λ (o : Option Path). MatchOption o (answer ≡ None) (λ Q. IsSomeAnd answer (λ A. Encodes c.map Q A))) e h) where
+  some : (o : Option Answer) → IsSomeAnd o (λ A. Encodes c.map P A) → o ≡ Some one.answer
+  some None k = absurd k
+  some (Some A) k = ap (λ (B : Answer). Some B) (one.only A k)
+
+pub is_published : (before later : Content) (changes : List Change) → IsContent later → later ≡ after before changes → IsPublished before changes later
+is_published before later changes sound e =
+    record { content = e; answers = λ name P is. let one = one_of later sound name P is in (one, λ answer p. only_published later name P one answer is p) }
+
 pub start_sound : IsState start_state
 start_sound = record { content = record { map = empty_sound; paths = tt; names = tt }; batch = tt }
-
-pub published_answers : (cs : List Command) (os : List Outcome) (t : State) → AllHavePlaces cs → History start_state cs os t
-    → IsState t × (t.content ≡ after no_content (all_brought start_state cs os))
-    × ((name : List ℕ) (P : Path) → path_named t.content.paths name ≡ Some P → OneOf t.content.map P)
-published_answers cs os t h is =
-    let k = keeps start_state t cs os start_sound h is in
-    (k.0, k.1, λ name P e. one_of t.content k.0.content name P e)
 
 -- ---- joins
 
@@ -192,7 +235,7 @@ from_differs before M m (p ∷ ps) es a c name h =
           ]
     ]
 
-pub replies_name : (before later : Content) (es : List Entry) → IsContent later → Differences before later es → (name : List ℕ)
+replies_name : (before later : Content) (es : List Entry) → IsContent later → Differences before later es → (name : List ℕ)
     → names es name ↔ ((A : Answer) × HasAnswer later name A × ¬ HasAnswer before name A)
 unfolding Differs
 replies_name before later es i c name = (
@@ -226,13 +269,91 @@ unfolding Tells
 told c [] h = tt
 told c (e ∷ es) h = ((h.0.0, (h.0.1, h.0.2, h.0.3), h.0.4), told c es h.1)
 
-pub replies_tell : (before later : Content) (es : List Entry) → IsContent later → Differences before later es
-    → AllByRecursion (λ e. (A : Answer) × HasAnswer later e.name A × (e ≡ entry e.name A)) es
-replies_tell before later es i c = told later es (tell before later.map later.paths es i.names c)
+pub names_changed : (before later : Content) (es : List Entry) → IsContent later → Differences before later es → NamesChanged before later es
+names_changed before later es i c = (replies_name before later es i c, told later es (tell before later.map later.paths es i.names c))
 
 pub no_differences : (c : Content) (es : List Entry) → IsContent c → Differences c c es → es ≡ []
 no_differences c [] i d = refl
 no_differences c (e ∷ es) i d =
     let here : names (e ∷ es) e.name = ap (λ (b : Bool). b || list_any (λ (x : Entry). same_name x.name e.name) es) ((bytes_decides e.name e.name).1 refl) in
-    let h = (replies_name c c (e ∷ es) i d e.name).0 here in
+    let h = ((names_changed c c (e ∷ es) i d).0 e.name).0 here in
     absurd (h.2 h.1)
+
+-- ---- the claims of a run
+
+-- what is told of a command whose reply names paths
+told_of : (s t : State) (c : Command) (es : List Entry) → tells s.batch c ≡ true → IsReply s c t (Paths es) → Differences s.content t.content es
+told_of s t c es = by s.batch c where
+  by : (b : Option (List Change)) (c : Command) → tells b c ≡ true → IsReply (record { content = s.content; batch = b }) c t (Paths es) → Differences s.content t.content es
+  by None (Make x) e h = h
+  by None (Show name) e h = absurd cc
+  by None Report e h = absurd cc
+  by None (Explain text) e h = absurd cc
+  by None Begin e h = absurd cc
+  by None (Commit count) e h = absurd cc
+  by None Abort e h = absurd cc
+  by (Some xs) (Make x) e h = absurd cc
+  by (Some xs) (Show name) e h = absurd cc
+  by (Some xs) Report e h = absurd cc
+  by (Some xs) (Explain text) e h = absurd cc
+  by (Some xs) Begin e h = absurd cc
+  by (Some xs) (Commit count) e h = h
+  by (Some xs) Abort e h = absurd cc
+
+pub is_named : (s t : State) (c : Command) (o : Outcome) → IsContent t.content → IsOutcome s c o t → IsNamed s c o t
+is_named s t c o sound h tell es is = names_changed s.content t.content es sound (told_of s t c es tell (subst (λ (p : Outcome). IsOutcome s c p t) is h).1)
+
+pub is_refused : (s t : State) (c : Command) (o : Outcome) → IsOutcome s c o t → IsRefused s o t
+is_refused s t c o h fault is = (subst (λ (p : Outcome). IsOutcome s c p t) is h).1
+
+-- of any steps that lead on, name what changed and change nothing where refused
+pub headline_of : {A : Type 0} (P : State → A → Outcome → State → Type 0) (asked : A → Option Command)
+    → ((s : State) (x : A) (o : Outcome) (t : State) → P s x o t → Leads s (asked x) o t × IfSome (asked x) (λ c. IsNamed s c o t) × IsRefused s o t)
+    → (s : State) (xs : List A) (os : List Outcome) (t : State) → IsContent t.content → Run P s xs os t → Headline P asked s xs os t
+headline_of P asked f s xs os t sound h =
+    record {
+      run = h;
+      published = is_published s.content t.content _ sound (content_after asked s t xs os (run_each P (λ a x o b. Leads a (asked x) o b) (λ a x o b p. (f a x o b p).0) s xs os t h));
+      joined = routes_of t.content;
+      named = run_each P (λ a x o b. P a x o b × IfSome (asked x) (λ c. IsNamed a c o b)) (λ a x o b p. (p, (f a x o b p).1)) s xs os t h;
+      refused = run_each P (λ a x o b. P a x o b × IsRefused a o b) (λ a x o b p. (p, (f a x o b p).2)) s xs os t h;
+    }
+
+-- ---- the claims of commands
+
+pub outcome_keeps : (s t : State) (c : Command) (o : Outcome) → IsState s → HasPlaces c → IsOutcome s c o t → IsState t
+outcome_keeps s t c (Ok reply) i h p = steps_keep s t c i h p.0
+outcome_keeps s t c (Err fault) i h p = subst IsState (sym p.1) i
+
+-- an outcome, after which the content is sound
+abbrev pub SoundOutcome : State → Command → Outcome → State → Type 0
+SoundOutcome s c o t = IsOutcome s c o t × IsContent t.content
+
+history_keeps : (s t : State) (cs : List Command) (os : List Outcome) → IsState s → AllHavePlaces cs → Run IsOutcome s cs os t → IsState t × Run SoundOutcome s cs os t
+history_keeps s t cs [] i h p = (subst IsState p i, p)
+history_keeps s t [] (o ∷ os) i h p = absurd p
+history_keeps s t (c ∷ cs) (o ∷ os) i h p =
+    let mid = outcome_keeps s p.0 c o i h.0 p.1 in
+    let rest = history_keeps p.0 t cs os mid h.1 p.2 in
+    (rest.0, (p.0, (p.1, mid.content), rest.1))
+
+only_outcomes : {A : Type 0} (P Q : State → A → Outcome → State → Type 0) (asked : A → Option Command) (s : State) (xs : List A) (os : List Outcome) (t : State)
+    → ((a : State) (x : A) (o : Outcome) (b : State) → P a x o b → Q a x o b) → Headline P asked s xs os t → Headline Q asked s xs os t
+only_outcomes P Q asked s xs os t f h =
+    record {
+      run = run_each P Q f s xs os t h.run;
+      published = h.published;
+      joined = h.joined;
+      named = run_each (λ a x o b. P a x o b × IfSome (asked x) (λ c. IsNamed a c o b)) (λ a x o b. Q a x o b × IfSome (asked x) (λ c. IsNamed a c o b)) (λ a x o b p. (f a x o b p.0, p.1)) s xs os t h.named;
+      refused = run_each (λ a x o b. P a x o b × IsRefused a o b) (λ a x o b. Q a x o b × IsRefused a o b) (λ a x o b p. (f a x o b p.0, p.1)) s xs os t h.refused;
+    }
+
+pub headline_of_outcomes : (s : State) (cs : List Command) (os : List Outcome) (t : State) → IsContent t.content → Run SoundOutcome s cs os t → Headline IsOutcome (λ c. Some c) s cs os t
+headline_of_outcomes s cs os t sound h =
+    only_outcomes SoundOutcome IsOutcome (λ c. Some c) s cs os t (λ a c o b p. p.0)
+    (headline_of SoundOutcome (λ c. Some c) (λ a c o b p. (outcome_leads a c o b p.0, is_named a b c o p.1 p.0, is_refused a b c o p.0)) s cs os t sound h)
+
+pub headline_of_histories : (cs : List Command) (os : List Outcome) (t : State) → AllHavePlaces cs → History start_state cs os t → IsState t × Headline IsOutcome (λ c. Some c) start_state cs os t
+headline_of_histories cs os t h run =
+    let k = history_keeps start_state t cs os start_sound h run.1 in
+    (k.0, headline_of_outcomes start_state cs os t k.0.content k.1)

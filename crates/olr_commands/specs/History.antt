@@ -1,7 +1,9 @@
 -- Whole runs of commands, and what is claimed of them.
---     History s cs os t      the commands, one after another, may lead from s to t with these outcomes
---     all_brought s cs os      the changes that the accepted ones brought
-use Rattle.std.specs.Prelude.{◌≡◌, ℕ, List, [], ◌∷◌, ◌++◌, Some, Ok, Err, IsTrue, ◌↔◌}
+--     Run Step s xs os t      the first of xs have these outcomes, one after another, and lead from s to t; Step says what that is for one
+--     Whole Step s xs os t      so do all of xs.        History s cs os t      a whole run of commands
+--     all_brought asked s xs os      the changes that the accepted commands brought, where each of xs asks for a command or for none
+--     IsPublished, IsJoined, IsNamed, IsRefused      the four claims.        Headline      all of them, of one run
+use Rattle.std.specs.Prelude.{◌≡◌, ℕ, Bool, true, false, List, [], ◌∷◌, ◌++◌, length, Option, Some, None, IfSome, Ok, Err, IsTrue, ◌↔◌}
 use Rattle.std.specs.Result.{result_unwrap_or}
 use Rattle.std.specs.List.{list_any, AllByRecursion}
 use Rattle.olr_spec.specs.Map.{Map}
@@ -10,32 +12,55 @@ use Rattle.olr_spec.specs.Points.{Follow}
 use Rattle.olr_spec.specs.Reference.{Reference, legs, kept, reference}
 use Rattle.olr_spec.specs.Joins.{Joins}
 use Rattle.olr_spec.specs.Encoding.{Answer, Points, Encodes}
-use Rattle.olr_commands.specs.State.{Content, no_content, path_named, same_name, Fault, Change, after, IsContent, State, start_state, Command, HasPlaces, step, brought, IsState}
-use Rattle.olr_commands.specs.Reply.{Entry, entry, HasAnswer, Differences, Outcome, IsOutcome}
+use Rattle.olr_commands.specs.State.{Content, path_named, same_name, Fault, Change, after, IsContent, State, start_state, Command, Make, Commit, HasPlaces, step, brought, IsState}
+use Rattle.olr_commands.specs.Reply.{Entry, entry, Paths, HasAnswer, Published, Differences, Outcome, IsOutcome}
+
+-- ---- runs
+
+abbrev pub Run : {A : Type 0} → (State → A → Outcome → State → Type 0) → State → List A → List Outcome → State → Type 0
+Run Step s xs [] t = s ≡ t
+Run Step s [] (o ∷ os) t = ⊥
+Run Step s (x ∷ xs) (o ∷ os) t = (mid : State) × Step s x o mid × Run Step mid xs os t
+
+abbrev pub Whole : {A : Type 0} → (State → A → Outcome → State → Type 0) → State → List A → List Outcome → State → Type 0
+Whole Step s xs os t = (length os ≡ length xs) × Run Step s xs os t
 
 abbrev pub History : State → List Command → List Outcome → State → Type 0
-History s [] [] t = s ≡ t
-History s (c ∷ cs) (o ∷ os) t = (mid : State) × IsOutcome s c o mid × History mid cs os t
-History s [] (o ∷ os) t = ⊥
-History s (c ∷ cs) [] t = ⊥
+History s cs os t = Whole IsOutcome s cs os t
 
 abbrev pub AllHavePlaces : List Command → Type 0
 AllHavePlaces cs = AllByRecursion HasPlaces cs
 
-abbrev pub next_state : State → Command → State
-next_state s c = result_unwrap_or (step s c) s
+-- ---- what a run brings
 
-abbrev pub all_brought : State → List Command → List Outcome → List Change
-all_brought s [] os = []
-all_brought s (c ∷ cs) [] = []
-all_brought s (c ∷ cs) (Ok reply ∷ os) = brought s c ++ all_brought (next_state s c) cs os
-all_brought s (c ∷ cs) (Err fault ∷ os) = all_brought s cs os
+abbrev pub next_state : State → Option Command → State
+next_state s None = s
+next_state s (Some c) = result_unwrap_or (step s c) s
+
+abbrev pub brought_by : State → Option Command → List Change
+brought_by s None = []
+brought_by s (Some c) = brought s c
+
+abbrev pub all_brought : {A : Type 0} → (A → Option Command) → State → List A → List Outcome → List Change
+all_brought asked s [] os = []
+all_brought asked s (x ∷ xs) [] = []
+all_brought asked s (x ∷ xs) (Ok reply ∷ os) = brought_by s (asked x) ++ all_brought asked (next_state s (asked x)) xs os
+all_brought asked s (x ∷ xs) (Err fault ∷ os) = all_brought asked s xs os
+
+-- ---- published answers
 
 -- exactly one answer
 pub record OneOf (M : Map) (P : Path) : Type 0 where
   pub answer : Answer
   pub encodes : Encodes M P answer
   pub only : (B : Answer) → Encodes M P B → B ≡ answer
+
+-- the later content is what these changes make of the earlier one; each of its paths has exactly one answer on its map, and that one is published
+pub record IsPublished (before : Content) (changes : List Change) (later : Content) : Type 0 where
+  pub content : later ≡ after before changes
+  pub answers : (name : List ℕ) (P : Path) → path_named later.paths name ≡ Some P → (one : OneOf later.map P) × ((answer : Option Answer) → Published later name answer → answer ≡ Some one.answer)
+
+-- ---- routes that join
 
 -- the least routes between the points of a reference join to the extended path
 pub record Joined (M : Map) (P : Path) (r : Reference) : Type 0 where
@@ -47,38 +72,61 @@ pub record Joined (M : Map) (P : Path) (r : Reference) : Type 0 where
   pub fields : r ≡ reference (legs M (extended M P before after).lines) (extended M P before after).pos (extended M P before after).neg points
   pub joins : Joins M (extended M P before after).lines (kept (legs M (extended M P before after).lines) (extended M P before after).pos (extended M P before after).neg points)
 
+-- those of each path's reference do
+abbrev pub IsJoined : Content → Type 0
+IsJoined c = (name : List ℕ) (r : Reference) → HasAnswer c name (Points r) → (P : Path) × (path_named c.paths name ≡ Some P) × Joined c.map P r
+
+-- ---- replies that name what changed
+
 abbrev pub names : List Entry → List ℕ → Type 0
 names es name = IsTrue (list_any (λ e. same_name e.name name) es)
 
--- ---- the claims
+-- an entry stands for each path of the later content whose answer was not its own before, and for no other, and each tells its answer
+abbrev pub NamesChanged : Content → Content → List Entry → Type 0
+NamesChanged before later es =
+    ((name : List ℕ) → names es name ↔ ((A : Answer) × HasAnswer later name A × ¬ HasAnswer before name A))
+    × AllByRecursion (λ e. (A : Answer) × HasAnswer later e.name A × (e ≡ entry e.name A)) es
 
--- a run from the start keeps the state sound; its content is what the accepted changes make of nothing; and each path has exactly one answer on that map
-abbrev pub PublishedAnswers : Type 0
-PublishedAnswers =
+-- the reply names paths: that of a change outside of batches, and of a commit
+abbrev pub tells : Option (List Change) → Command → Bool
+tells None (Make x) = true
+tells (Some xs) (Commit count) = true
+tells _ _ = false
+
+abbrev pub IsNamed : State → Command → Outcome → State → Type 0
+IsNamed s c o t = IsTrue (tells s.batch c) → (es : List Entry) → o ≡ Ok (Paths es) → NamesChanged s.content t.content es
+
+-- ---- refused commands that change nothing
+
+abbrev pub IsRefused : State → Outcome → State → Type 0
+IsRefused s o t = (fault : Fault) → o ≡ Err fault → t ≡ s
+
+-- ---- the four claims, of one run
+
+pub record Headline {A : Type 0} (Step : State → A → Outcome → State → Type 0) (asked : A → Option Command) (s : State) (xs : List A) (os : List Outcome) (t : State) : Type 0 where
+  pub run : Run Step s xs os t
+  pub published : IsPublished s.content (all_brought asked s xs os) t.content
+  pub joined : IsJoined t.content
+  pub named : Run (λ a x o b. Step a x o b × IfSome (asked x) (λ c. IsNamed a c o b)) s xs os t
+  pub refused : Run (λ a x o b. Step a x o b × IsRefused a o b) s xs os t
+
+-- ---- the laws behind them
+
+-- a run of commands from the start keeps the state sound, and all four claims hold of it
+abbrev pub HeadlineOfHistories : Type 0
+HeadlineOfHistories =
     (cs : List Command) (os : List Outcome) (t : State) → AllHavePlaces cs → History start_state cs os t
-    → IsState t × (t.content ≡ after no_content (all_brought start_state cs os))
-    × ((name : List ℕ) (P : Path) → path_named t.content.paths name ≡ Some P → OneOf t.content.map P)
+    → IsState t × Headline IsOutcome (λ c. Some c) start_state cs os t
 
 abbrev pub RoutesOfReferences : Type 0
-RoutesOfReferences =
-    (cs : List Command) (os : List Outcome) (t : State) → AllHavePlaces cs → History start_state cs os t
-    → (name : List ℕ) (r : Reference) → HasAnswer t.content name (Points r) → (P : Path) × (path_named t.content.paths name ≡ Some P) × Joined t.content.map P r
+RoutesOfReferences = (c : Content) → IsJoined c
 
--- an entry stands for each path of the later list whose answer wasn't its own before, and for no other
 abbrev pub RepliesName : Type 0
-RepliesName =
-    (before later : Content) (es : List Entry) → IsContent later → Differences before later es → (name : List ℕ)
-    → names es name ↔ ((A : Answer) × HasAnswer later name A × ¬ HasAnswer before name A)
-
--- and tells its answer
-abbrev pub RepliesTell : Type 0
-RepliesTell =
-    (before later : Content) (es : List Entry) → IsContent later → Differences before later es
-    → AllByRecursion (λ e. (A : Answer) × HasAnswer later e.name A × (e ≡ entry e.name A)) es
+RepliesName = (before later : Content) (es : List Entry) → IsContent later → Differences before later es → NamesChanged before later es
 
 -- a content has no differences from itself
 abbrev pub NoDifferences : Type 0
 NoDifferences = (c : Content) (es : List Entry) → IsContent c → Differences c c es → es ≡ []
 
 abbrev pub RefusedChangeNothing : Type 0
-RefusedChangeNothing = (s t : State) (c : Command) (fault : Fault) → IsOutcome s c (Err fault) t → t ≡ s
+RefusedChangeNothing = (s t : State) (c : Command) (o : Outcome) → IsOutcome s c o t → IsRefused s o t

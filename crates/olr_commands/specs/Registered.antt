@@ -1,5 +1,5 @@
 -- A register as its callers see it, and what its calls promise of whole commands.
---     Registered      what is held of the state, and the counts
+--     Registered      what is held of the state, and the counts: the work, and how many of the counted encodings were spared
 --     Applied old c o new      from each state in which it stood, the command leads with this outcome to one in which it stands
 --     Counted old c new      by how much an accepted command raises the count of encodings
 use Rattle.std.specs.Prelude.{◌≡◌, ℕ, ◌+◌, ◌<◌, ◌^◌, None}
@@ -14,6 +14,7 @@ use Rattle.olr_commands.specs.Kept.{Kept, Stands, coded_kept}
 pub record Registered : Type 0 where
   pub kept : Kept
   pub work : Work
+  pub spared : ℕ
 
 abbrev pub coded_work : Coded Work
 coded_work =
@@ -21,11 +22,14 @@ coded_work =
     (λ t. record { encodings = t.0; searches = t.1.0; settled = t.1.1 }) (λ _. refl)
 
 abbrev pub coded_registered : Coded Registered
-coded_registered = code_by (Kept × Work) (coded× coded_kept coded_work) (λ r. (r.kept, r.work)) (λ t. record { kept = t.0; work = t.1 }) (λ _. refl)
+coded_registered =
+    code_by (Kept × (Work × ℕ)) (coded× coded_kept (coded× coded_work coded_ℕ)) (λ r. (r.kept, (r.work, r.spared)))
+    (λ t. record { kept = t.0; work = t.1.0; spared = t.1.1 }) (λ _. refl)
 
 -- nothing is held, and nothing was counted
 abbrev pub nothing_registered : Registered
-nothing_registered = record { kept = record { content = no_content; batch = None }; work = record { encodings = 0; searches = 0; settled = 0 } }
+nothing_registered =
+    record { kept = record { content = no_content; batch = None }; work = record { encodings = 0; searches = 0; settled = 0 }; spared = 0 }
 
 abbrev pub Applied : Registered → Command → Outcome → Registered → Type 0
 Applied old c o new = (s : State) → Stands old.kept s → (t : State) × Stands new.kept t × IsOutcome s c o t

@@ -3,7 +3,7 @@
 --     Published c name answer, PublishedText c name text      what stands published under a name
 --     IsReply s c t reply      the reply to an accepted command that leads from s to t
 --     IsOutcome s c outcome t      the command may lead from s to t with this reply, or this fault
-use Rattle.std.specs.Prelude.{◌≡◌, ℕ, suc, Bool, true, false, not, List, [], ◌∷◌, length, Option, Some, None, option_and_then, IsSomeAnd, MatchOption, Result, Ok, Err, ◌⊎◌, IsTrue}
+use Rattle.std.specs.Prelude.{◌≡◌, ℕ, suc, Bool, true, false, not, ◌&&◌, List, [], ◌∷◌, length, Option, Some, None, option_and_then, IsSomeAnd, MatchOption, Result, Ok, Err, ◌⊎◌, IsTrue}
 use Rattle.std.specs.Result.{result_ok}
 use Rattle.base64.specs.Engines.{standard}
 use Rattle.base64.specs.GeneralPurpose.{encode_of, decoded_of}
@@ -12,7 +12,7 @@ use Rattle.olr_spec.specs.Extension.{Path}
 use Rattle.olr_spec.specs.Reference.{Reference}
 use Rattle.olr_spec.specs.Encoding.{Answer, Points, Refused, Refusal, Encodes}
 use Rattle.olr_spec.specs.Bytes.{spelling, Spells}
-use Rattle.olr_commands.specs.State.{Named, Content, path_named, Fault, Syntax, Range, Map_fault, Path_exists, No_path, Bad_path, Not_a_reference, Memory, Batch_open, No_batch, Count_differs, Batch_full, Change, State, Command, Make, Show, Report, Explain, Begin, Commit, Abort, step}
+use Rattle.olr_commands.specs.State.{Named, Content, path_named, Fault, Syntax, Range, Map_fault, Path_exists, No_path, Bad_path, Not_a_reference, Memory, Batch_open, No_batch, Count_differs, Batch_full, Change, Drop_path, State, Command, Make, Show, Report, Explain, Begin, Commit, Abort, step}
 
 -- the bytes of a reference in base64
 unfoldable pub text_of : Reference → List ℕ
@@ -111,14 +111,19 @@ is_told_first Memory = false
 is_told_first Syntax = false
 is_told_first Range = false
 
--- want of memory is an outcome where step has no such fault, but never of an abort
 abbrev pub may_want : Result State Fault → Bool
 may_want (Ok t) = true
 may_want (Err fault) = not (is_told_first fault)
 
+-- an abort takes no memory, nor does a path that is dropped outside of batches
+abbrev pub takes_memory : Command → Option (List Change) → Bool
+takes_memory (Make (Drop_path name)) None = false
+takes_memory Abort batch = false
+takes_memory c batch = true
+
+-- want of memory is an outcome where memory is taken and step has no fault that is told before it
 abbrev pub may_lack : State → Command → Bool
-may_lack s Abort = false
-may_lack s c = may_want (step s c)
+may_lack s c = takes_memory c s.batch && may_want (step s c)
 
 pub data IsRefusal (s : State) (c : Command) (fault : Fault) : Type 0 where
   Told : step s c ≡ Err fault → IsRefusal s c fault

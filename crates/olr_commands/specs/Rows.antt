@@ -1,8 +1,8 @@
 -- Worked values.
-use Rattle.std.specs.Prelude.{List, [], ◌∷◌, codes, pos, neg_ℤ, None, Some}
+use Rattle.std.specs.Prelude.{List, [], ◌∷◌, codes, pos, neg_ℤ, Option, None, Some}
 use Rattle.olr_spec.specs.Reference.{Reference}
 use Rattle.olr_spec.specs.Rows.{reference1}
-use Rattle.olr_commands.specs.State.{no_content, State, Change, Add_path}
+use Rattle.olr_commands.specs.State.{no_content, after, State, Change, Add_path}
 
 -- the reference of the second worked path
 abbrev pub reference2 : Reference
@@ -22,3 +22,7 @@ in_batch xs = record { content = no_content; batch = Some xs }
 -- a path of one line, under the name a
 abbrev pub path_a : Change
 path_a = Add_path (codes "a") (record { lines = 10 ∷ []; pos = 0; neg = 0 })
+
+-- that path is registered, on the map of nothing
+abbrev pub with_a : Option (List Change) → State
+with_a batch = record { content = after no_content (path_a ∷ []); batch = batch }

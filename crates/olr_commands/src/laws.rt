@@ -21,10 +21,9 @@ pub fn laws_of_counts()
 
 /// The claims on whole runs of commands.
 pub fn claims()
-    ensures published { History.PublishedAnswers }
+    ensures headline { History.HeadlineOfHistories }
     ensures joined { History.RoutesOfReferences }
     ensures named { History.RepliesName }
-    ensures told { History.RepliesTell }
     ensures no_differences { History.NoDifferences }
     ensures refused { History.RefusedChangeNothing }
 {}

@@ -1,12 +1,12 @@
 //! Worked rows of the definitions.
-ghost use Rattle.std.specs.Prelude.{◌≡◌, ℕ, true, false, [], ◌∷◌, codes, Ok, Err};
+ghost use Rattle.std.specs.Prelude.{◌≡◌, ℕ, true, false, [], ◌∷◌, codes, None, Some, Ok, Err};
 ghost use Rattle.olr_spec.specs.Reference.{reference};
 ghost use Rattle.olr_spec.specs.Rows.{reference1, legs1};
 ghost use Rattle.olr_spec.specs.Bytes.{Length, Flags, Reserved};
 ghost use Rattle.olr_spec.specs.Bytes as bytes;
 ghost use Rattle.olr_commands.specs.State.{Add_path, Not_a_reference, Not_v3, Not_base64, Path_exists, No_path, Batch_open, No_batch, Count_differs, Drop_path, Make, Show, Report, Explain, Begin, Commit, Abort, start_state, step};
 ghost use Rattle.olr_commands.specs.Reply.{Paths, Held, text_of, IsReply, may_lack};
-ghost use Rattle.olr_commands.specs.Rows.{reference2, in_batch, path_a};
+ghost use Rattle.olr_commands.specs.Rows.{reference2, in_batch, path_a, with_a};
 
 /// Texts of references: the worked paths by their points and offsets.
 pub fn texts()
@@ -61,4 +61,6 @@ pub fn memory()
     ensures added { may_lack start_state (Make path_a) ≡ true }
     ensures no_lines { may_lack start_state (Make (Add_path (codes "a") (record { lines = []; pos = 0; neg = 0 }))) ≡ true }
     ensures dropped { may_lack start_state (Make (Drop_path (codes "a"))) ≡ false }
+    ensures dropped_one { may_lack (with_a None) (Make (Drop_path (codes "a"))) ≡ false }
+    ensures dropped_in_batch { may_lack (with_a (Some [])) (Make (Drop_path (codes "a"))) ≡ true }
 {}

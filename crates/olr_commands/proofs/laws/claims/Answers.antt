@@ -1,20 +1,17 @@
-use Rattle.olr_commands.proofs.HistoryLemmas.{published_answers, routes_of, replies_name, replies_tell, no_differences}
+use Rattle.olr_commands.proofs.HistoryLemmas.{headline_of_histories, routes_of, names_changed, no_differences, is_refused}
 use Rattle.olr_commands.proofs.laws.claims.Goals as goal
 
-pub returns-clause-published : goal.returns-clause-published
-returns-clause-published c = published_answers
+pub returns-clause-headline : goal.returns-clause-headline
+returns-clause-headline c = headline_of_histories
 
 pub returns-clause-joined : goal.returns-clause-joined
-returns-clause-joined c = λ cs os t h is name r. routes_of t.content name r
+returns-clause-joined c = routes_of
 
 pub returns-clause-named : goal.returns-clause-named
-returns-clause-named c = replies_name
-
-pub returns-clause-told : goal.returns-clause-told
-returns-clause-told c = replies_tell
+returns-clause-named c = names_changed
 
 pub returns-clause-refused : goal.returns-clause-refused
-returns-clause-refused c = λ s t x fault h. h.1
+returns-clause-refused c = λ s t x o. is_refused s t x o
 
 pub returns-clause-no_differences : goal.returns-clause-no_differences
 returns-clause-no_differences c = no_differences
