@@ -1,8 +1,15 @@
+pub mod Raising
 pub mod Spellings
 pub mod Putting
+pub mod Sets
+pub mod Nearness
+pub mod AskedLemmas
+pub mod Alls
 pub mod NamedEntries
+pub mod Overlaying
 pub mod Telling
-pub mod Touches
 pub mod Placing
-pub mod Through
 pub mod Following
+pub mod LookLengths
+pub mod KeptLemmas
+pub mod Through

@@ -1,5 +1,5 @@
 -- A map's entries as a list of named paths: look-ups, edits, and that no name stands twice.
-use Rattle.std.proofs.Common.{inl, inr, ◌≡◌, ℕ, zero, suc, ◌+◌, ◌<◌, Bool, true, false, not, cond, if◌then◌else◌, List, [], ◌∷◌, ◌++◌, map, take, length, get_or, slice_get, Option, Some, None, is_some, refl, sym, ap, ◌∙◌, unwrap_or}
+use Rattle.std.proofs.Common.{inl, inr, ◌≡◌, ℕ, ◌+◌, ◌<◌, Bool, true, false, not, cond, if◌then◌else◌, List, [], ◌∷◌, ◌++◌, map, take, length, get_or, slice_get, Option, Some, None, is_some, refl, sym, ap, ◌∙◌, unwrap_or}
 use Rattle.std.proofs.lemmas.Option.{slice_get-map, slice_get_within, unwrap_or-slice_get}
 use Rattle.std.proofs.lemmas.List.{take_more}
 use Rattle.indexmap.specs.IndexMap.{insert_entry}
@@ -87,21 +87,21 @@ names_differ (e ∷ es) h = (others_named e.0 es h.0, names_differ es h.1)
 abbrev pub absent : List Item → List ℕ → Type 0
 absent is name = is_some (path_named (all_named is) name) ≡ false
 
-not_here : (i : Item) (is : List Item) (name : List ℕ) → absent (i ∷ is) name → (same_name i.name name ≡ false) × absent is name
+pub not_here : (i : Item) (is : List Item) (name : List ℕ) → absent (i ∷ is) name → (same_name i.name name ≡ false) × absent is name
 not_here i is name h =
     elim (same_name i.name name) as (λ b. is_some (cond b (Some i.path) (path_named (all_named is) name)) ≡ false → (b ≡ false) × absent is name) [
       | true ↦ λ e. absurd cc
       | false ↦ λ e. (refl, e)
     ] h
 
-keeps_all : (is : List Item) (name : List ℕ) → absent is name → filter (λ i. not (same_name i.name name)) is ≡ is
+pub keeps_all : (is : List Item) (name : List ℕ) → absent is name → filter (λ i. not (same_name i.name name)) is ≡ is
 keeps_all [] name h = refl
 keeps_all (i ∷ is) name h =
     let r = not_here i is name h in
     ap (λ (b : Bool). cond (not b) (i ∷ filter (λ j. not (same_name j.name name)) is) (filter (λ j. not (same_name j.name name)) is)) r.0
     ∙ ap (λ (js : List Item). i ∷ js) (keeps_all is name r.1)
 
-sets_none : (is : List Item) (name : List ℕ) (path : Path) (made : Option Made) → absent is name → map (set_item name path made) is ≡ is
+pub sets_none : (is : List Item) (name : List ℕ) (path : Path) (made : Option Made) → absent is name → map (set_item name path made) is ≡ is
 sets_none [] name path made h = refl
 sets_none (i ∷ is) name path made h =
     let r = not_here i is name h in
@@ -152,9 +152,6 @@ set_absent es name n h = sym (sets_none (items_of es) name n.path.value (made_of
 
 -- ---- one entry
 
-pub same_item : (k : String Global) (n : NamedPath) (e : String Global × NamedPath) → string_bytes k ≡ string_bytes e.0 → n.path.value ≡ e.1.path.value → made_of_named n ≡ made_of_named e.1 → item_of (k, n) ≡ item_of e
-same_item k n e name path made = cc
-
 pub named_at : (es : Entries) (k : ℕ) (e : String Global × NamedPath) → slice_get es k ≡ Some e → slice_get (map (λ i. i.name) (items_of es)) k ≡ Some (string_bytes e.0)
 named_at es k e h = slice_get-map (λ i. i.name) (items_of es) k ∙ ap (option_map (λ (i : Item). i.name)) (slice_get-map item_of es k) ∙ ap (λ (o : Option (String Global × NamedPath)). option_map (λ (i : Item). i.name) (option_map item_of o)) h
 
@@ -163,6 +160,18 @@ published_absent es name h = looked_up es name ∙ ap (option_and_then made_of_n
 
 pub published_of : (es : Entries) (name : List ℕ) (n : NamedPath) → lookup (asks name) es ≡ Some n → made_in (items_of es) name ≡ made_of_named n
 published_of es name n h = looked_up es name ∙ ap (option_and_then made_of_named) h
+
+abbrev pub path_of_entry : NamedPath → Path
+path_of_entry n = n.path.value
+
+pub paths_named : (es : Entries) (name : List ℕ) → path_named (all_named (items_of es)) name ≡ option_map path_of_entry (lookup (asks name) es)
+paths_named [] name = refl
+paths_named (e ∷ es) name =
+    ap (λ (b : Bool). cond b (Some e.1.path.value) (path_named (all_named (items_of es)) name)) (sym (same_flip name (string_bytes e.0)))
+    ∙ elim (asks name e.0) as (λ b. cond b (Some e.1.path.value) (path_named (all_named (items_of es)) name) ≡ option_map path_of_entry (cond b (Some e.1) (lookup (asks name) es))) [
+      | true ↦ refl
+      | false ↦ paths_named es name
+    ]
 
 -- ---- one more at the end
 
@@ -173,18 +182,6 @@ put_items (e ∷ es) k n h =
     ap (λ (b : Bool). items_of (if b then (e.0, n) ∷ es else e ∷ insert_entry string_eq es k n)) (flipped (string_bytes e.0) (string_bytes k) r.0)
     ∙ ap (λ (js : List Item). item_of e ∷ js) (put_items es k n r.1)
 
-absent_there : (is : List Item) (name : List ℕ) (k : ℕ) (i : Item) → absent is name → slice_get is k ≡ Some i → same_name i.name name ≡ false
-absent_there [] name k i h at = absurd cc
-absent_there (j ∷ is) name zero i h at = let e : j ≡ i = cc in ap (λ (x : Item). same_name x.name name) (sym e) ∙ (not_here j is name h).0
-absent_there (j ∷ is) name (suc k) i h at = absent_there is name k i (not_here j is name h).1 at
-
-absent_before : (is : List Item) (k : ℕ) (i : Item) → NamesDiffer (all_named is) → slice_get is k ≡ Some i → absent (take k is) i.name
-absent_before is zero i d at = refl
-absent_before [] (suc k) i d at = refl
-absent_before (j ∷ is) (suc k) i d at =
-    let other : same_name j.name i.name ≡ false = flipped i.name j.name (absent_there is j.name k i d.0 at) in
-    ap (λ (b : Bool). is_some (cond b (Some j.path) (path_named (all_named (take k is)) i.name))) other ∙ absent_before is k i d.1 at
-
 pub take_more_items : (is : List Item) (k : ℕ) (i : Item) → slice_get is k ≡ Some i → take (k + 1) is ≡ take k is ++ i ∷ []
 take_more_items is k i at =
     let within : k < length is = slice_get_within is k i at in
@@ -194,18 +191,3 @@ take_more_items is k i at =
 -- the item of an entry
 pub item_at : (es : Entries) (k : ℕ) (e : String Global × NamedPath) → slice_get es k ≡ Some e → slice_get (items_of es) k ≡ Some (item_of e)
 item_at es k e at = slice_get-map item_of es k ∙ ap (option_map item_of) at
-
--- a copy of the first entries, with one more
-pub copy_more : (es copy : Entries) (k : ℕ) (e : String Global × NamedPath) (key : String Global) (n : NamedPath) → IsDistinct string_eq (keys_of es) → items_of copy ≡ take k (items_of es) → slice_get es k ≡ Some e → item_of (key, n) ≡ item_of e
-    → items_of (insert_entry string_eq copy key n) ≡ take (k + 1) (items_of es)
-copy_more es copy k e key n d so_far at same =
-    let at_item = item_at es k e at in
-    let before : absent (take k (items_of es)) (string_bytes e.0) = absent_before (items_of es) k (item_of e) (names_differ es d) at_item in
-    let fresh : absent (items_of copy) (string_bytes key) =
-    ap (λ (js : List Item). is_some (path_named (all_named js) (string_bytes key))) so_far
-    ∙ ap (λ (i : Item). is_some (path_named (all_named (take k (items_of es))) i.name)) same
-    ∙ before in
-    put_items copy key n fresh
-    ∙ ap (λ (js : List Item). js ++ item_of (key, n) ∷ []) so_far
-    ∙ ap (λ (i : Item). take k (items_of es) ++ i ∷ []) same
-    ∙ sym (take_more_items (items_of es) k (item_of e) at_item)

@@ -1,39 +1,47 @@
 -- A list, as far as it was renewed. SoFar is the same with the work, along a list; follows_itself gives the start where the list itself is the one before.
---     Through M nodes lines before is ps es      the paths is are renewed where ps are put, and es tells them
---     through_none, through_kept, through_made      no path; one more that stays; one more that was encoded
-use Rattle.std.proofs.Common.{◌≡◌, ◌≢◌, ℕ, map, zero, suc, cond, take, is_some, ◌+◌, ◌<◌, ◌^◌, Bool, true, false, List, [], ◌∷◌, ◌++◌, length, filter, slice_get, Option, None, Some, option_map, ◌⊎◌, inl, inr, refl, sym, ap, subst, ◌∙◌, append_assoc, arith}
-use Rattle.std.proofs.lemmas.Bool.{both_ways}
-use Rattle.olr_spec.specs.Map.{Map}
-use Rattle.olr_spec.specs.Encoding.{Answer}
-use Rattle.olr_commands.specs.Reply.{Entry, entry}
-use Rattle.olr_paths.specs.Items.{Made, Item, IsMade, answer_in}
-use Rattle.olr_paths.specs.Changes.{is_concerned, with_made, IsRenewed, AreRenewed, Reported, Follows, how_many}
-use Rattle.olr_paths.specs.Renewing.{all_put, Told}
-use Rattle.std.proofs.lemmas.List.{length-take-le}
-use Rattle.std.proofs.lemmas.Option.{slice_get_within}
+--     Through Q N T X before is ps es n      the paths is are renewed where ps are put, es tells them, and n of them are concerned, from each map that Q holds of
+use Rattle.std.proofs.Common.{◌≡◌, ◌≢◌, ℕ, map, zero, suc, take, is_some, ◌+◌, ◌<◌, ◌≤◌, ◌^◌, Bool, true, false, List, [], ◌∷◌, ◌++◌, length, slice_get, Option, None, Some, option_map, IfSome, ◌⊎◌, inl, inr, refl, sym, ap, subst, ◌∙◌, append_assoc, arith, IsTrue}
 use Rattle.std.specs.Prelude.{if◌then◌else◌}
-use Rattle.olr_spec.specs.Extension.{Path}
-use Rattle.olr_route.specs.declared.work.Work.{Work}
-use Rattle.olr_commands.specs.State.{same_name, path_named, NamesDiffer}
-use Rattle.olr_commands.proofs.NameLemmas.{flipped, not_named}
-use Rattle.olr_paths.specs.Items.{named, all_named, made_in}
-use Rattle.olr_paths.specs.Renewing.{puts_of, made_at}
+use Rattle.std.specs.List.{AllByRecursion}
+use Rattle.std.proofs.lemmas.List.{length-take-le, map-append, take_all}
+use Rattle.std.proofs.lemmas.Option.{slice_get_within}
+use Rattle.olr_spec.specs.Map.{Map, IsMap}
+use Rattle.olr_spec.specs.Extension.{is_path}
+use Rattle.olr_spec.specs.Encoding.{Answer}
+use Rattle.olr_spec.specs.Detours.{ChangedLine}
+use Rattle.olr_commands.specs.State.{Named, same_name, path_named, NamesDiffer}
+use Rattle.olr_commands.specs.Counts.{CountIs}
 use Rattle.olr_commands.specs.Words.{entry_of}
-use Rattle.olr_commands.specs.declared.reply.Entry.{Entry as Written}
+use Rattle.olr_commands.specs.Reply.{Entry, entry}
+use Rattle.olr_commands.proofs.NameLemmas.{flipped, not_named}
+use Rattle.olr_paths.specs.Items.{Made, Item, IsMade, AreMadeIfAny, named, all_named, made_in, answer_in}
+use Rattle.olr_paths.specs.Changes.{with_made, IsBefore, IsConcerned, By_name, Touches, IsRemade, AreRemade, Reported, Follows}
+use Rattle.olr_paths.specs.Renewing.{all_put, made_at, puts_of, entries_of, Told, ToStay, ToKeep, ToEncode, IsStep, Left, Kept, Anew, Rises}
 use Rattle.olr_paths.specs.declared.renewal.Renewal.{Renewal}
+use Rattle.olr_paths.specs.declared.renewal.Counted.{Counted}
 use Rattle.olr_paths.proofs.NamedEntries.{take_more_items}
 use Rattle.olr_paths.proofs.Placing.{put_behind, all_put-push}
+use Rattle.olr_paths.proofs.KeptLemmas.{stays_unless, stays_clear, concerned_by, touched_by}
 use lib.Pointwise.{bytes_decides}
 
-module _ (M : Map) (nodes lines : List ℕ) where
-  AreRenewed-push : (is js : List Item) (i j : Item) → AreRenewed M nodes lines is js → IsRenewed M nodes lines i j → AreRenewed M nodes lines (is ++ i ∷ []) (js ++ j ∷ [])
-  AreRenewed-push [] [] i j h one = (one, refl)
-  AreRenewed-push [] (k ∷ js) i j h one = let never : ⊥ = cc in absurd never
-  AreRenewed-push (x ∷ is) [] i j h one = absurd h
-  AreRenewed-push (x ∷ is) (k ∷ js) i j h one = (h.0, AreRenewed-push is js i j h.1 one)
+AreRemade-push : (N : Map) (is js : List Item) (i j : Item) → AreRemade N is js → IsRemade N i j → AreRemade N (is ++ i ∷ []) (js ++ j ∷ [])
+AreRemade-push N [] [] i j h one = (one, refl)
+AreRemade-push N [] (k ∷ js) i j h one = let never : ⊥ = cc in absurd never
+AreRemade-push N (x ∷ is) [] i j h one = absurd h
+AreRemade-push N (x ∷ is) (k ∷ js) i j h one = (h.0, AreRemade-push N is js i j h.1 one)
+
+Count-more : {A : Type 0} (P : A → Type 0) (xs : List A) (n : ℕ) (x : A) → CountIs P xs n → P x → CountIs P (xs ++ x ∷ []) (n + 1)
+Count-more P [] n x h p = inl (p, (0, refl, ap (λ (k : ℕ). k + 1) h))
+Count-more P (y ∷ ys) n x (inl h) p = inl (h.0, (h.1.0 + 1, Count-more P ys h.1.0 x h.1.1 p, let e = h.1.2 in omega arith))
+Count-more P (y ∷ ys) n x (inr h) p = inr (h.0, Count-more P ys n x h.1 p)
+
+Count-same : {A : Type 0} (P : A → Type 0) (xs : List A) (n : ℕ) (x : A) → CountIs P xs n → ¬ P x → CountIs P (xs ++ x ∷ []) n
+Count-same P [] n x h p = inr (p, h)
+Count-same P (y ∷ ys) n x (inl h) p = inl (h.0, (h.1.0, Count-same P ys h.1.0 x h.1.1 p, h.1.2))
+Count-same P (y ∷ ys) n x (inr h) p = inr (h.0, Count-same P ys n x h.1 p)
 
 -- the answer of an item
-abbrev answer : Item → Option Answer
+abbrev pub answer : Item → Option Answer
 answer i = option_map (λ m. m.answer) i.made
 
 Reported-same : (before js : List Item) (es : List Entry) (j : Item) (A : Answer) → Reported before js es → answer j ≡ Some A → answer_in before j.name ≡ Some A → Reported before (js ++ j ∷ []) es
@@ -53,130 +61,189 @@ Reported-push before js es fs j A h is told =
       | inr t ↦ subst (Reported before (js ++ j ∷ [])) (sym t.1) (Reported-told before js es j A h is t.0)
     ]
 
--- one that is not concerned was encoded, and has the answer that its name had
-kept_answer : (nodes lines : List ℕ) (before : List Item) (i : Item) → is_concerned nodes lines i ≡ false → (i.made ≡ None) ⊎ (answer_in before i.name ≡ answer i) → (A : Answer) × (answer i ≡ Some A) × (answer_in before i.name ≡ Some A)
-kept_answer nodes lines before i unconcerned follows = by i.made refl
-  where
-    by : (o : Option Made) → i.made ≡ o → (A : Answer) × (answer i ≡ Some A) × (answer_in before i.name ≡ Some A)
-    by None e = absurd (both_ways (is_concerned nodes lines i) unconcerned (ap (λ (o : Option Made). is_concerned nodes lines (record i { made = o })) e))
-    by (Some m) e =
-        let is : answer i ≡ Some m.answer = ap (option_map (λ (n : Made). n.answer)) e in
-        elim follows [ inl none ↦ let never : ⊥ = cc in absurd never | inr same ↦ (m.answer, is, same ∙ is) ]
-
-pub record Through (M : Map) (nodes lines : List ℕ) (before is : List Item) (ps : List (ℕ × Made)) (es : List Entry) : Type 0 where
+pub record Through (Q : Map → Type 0) (N : Map) (T X : List ℕ) (before is : List Item) (ps : List (ℕ × Made)) (es : List Entry) (n : ℕ) : Type 0 where
   pub local : (ys : List Item) → all_put (is ++ ys) ps ≡ all_put is ps ++ ys
-  pub renewed : AreRenewed M nodes lines is (all_put is ps)
+  pub names : all_named (all_put is ps) ≡ all_named is
+  pub remade : (L : Map) → Q L → AreRemade N is (all_put is ps)
   pub reported : Reported before (all_put is ps) es
+  pub counted : (L : Map) → Q L → CountIs (IsConcerned L T X) is n
 
-module _ (M : Map) (nodes lines : List ℕ) (before : List Item) where
-  pub through_none : Through M nodes lines before [] [] []
-  through_none = record { local = λ ys. refl; renewed = refl; reported = refl }
+module _ (Q : Map → Type 0) (N : Map) (T X : List ℕ) (before : List Item) where
+  pub through_none : Through Q N T X before [] [] [] 0
+  through_none = record { local = λ ys. refl; names = refl; remade = λ L q. refl; reported = refl; counted = λ L q. refl }
 
   -- where j is at the end of what was put, and the rest stays
-  grown : (is : List Item) (ps qs : List (ℕ × Made)) (es fs : List Entry) (i j : Item) (A : Answer) → Through M nodes lines before is ps es
-      → ((ys : List Item) → all_put (is ++ i ∷ ys) qs ≡ all_put is ps ++ j ∷ ys) → IsRenewed M nodes lines i j → answer j ≡ Some A → Told before j.name A es fs
-      → Through M nodes lines before (is ++ i ∷ []) qs fs
-  grown is ps qs es fs i j A h puts one is_A told =
+  pub grown : (is : List Item) (ps qs : List (ℕ × Made)) (es fs : List Entry) (n k : ℕ) (i j : Item) (A : Answer) → Through Q N T X before is ps es n
+      → ((ys : List Item) → all_put (is ++ i ∷ ys) qs ≡ all_put is ps ++ j ∷ ys) → named j ≡ named i → ((L : Map) → Q L → IsRemade N i j) → answer j ≡ Some A → Told before j.name A es fs
+      → ((L : Map) → Q L → CountIs (IsConcerned L T X) (is ++ i ∷ []) k)
+      → Through Q N T X before (is ++ i ∷ []) qs fs k
+  grown is ps qs es fs n k i j A h puts same one is_A told counted =
       let end = puts [] in
       record {
         local = λ ys. ap (λ (zs : List Item). all_put zs qs) (append_assoc is (i ∷ []) ys) ∙ puts ys ∙ sym (append_assoc (all_put is ps) (j ∷ []) ys) ∙ ap (λ (zs : List Item). zs ++ ys) (sym end);
-        renewed = subst (AreRenewed M nodes lines (is ++ i ∷ [])) (sym end) (AreRenewed-push M nodes lines is (all_put is ps) i j h.renewed one);
+        names = ap all_named end ∙ map-append named (all_put is ps) (j ∷ []) ∙ ap (λ (xs : List Named). xs ++ named j ∷ []) h.names ∙ ap (λ (x : Named). all_named is ++ x ∷ []) same ∙ sym (map-append named is (i ∷ []));
+        remade = λ L q. subst (λ (js : List Item). AreRemade N (is ++ i ∷ []) js) (sym end) (AreRemade-push N is (all_put is ps) i j (h.remade L q) (one L q));
         reported = subst (λ (js : List Item). Reported before js fs) (sym end) (Reported-push before (all_put is ps) es fs j A h.reported is_A told);
+        counted = counted;
       }
-
-  pub through_kept : (is : List Item) (ps : List (ℕ × Made)) (es : List Entry) (i : Item) → Through M nodes lines before is ps es
-      → is_concerned nodes lines i ≡ false → (i.made ≡ None) ⊎ (answer_in before i.name ≡ answer i) → Through M nodes lines before (is ++ i ∷ []) ps es
-  through_kept is ps es i h unconcerned follows =
-      let k = kept_answer nodes lines before i unconcerned follows in
-      grown is ps ps es es i i k.0 h (λ ys. h.local (i ∷ ys)) (inr (unconcerned, refl)) k.1 (inl (k.2, refl))
-
-  pub through_made : (is : List Item) (ps : List (ℕ × Made)) (es fs : List Entry) (i : Item) (m : Made) → Through M nodes lines before is ps es
-      → is_concerned nodes lines i ≡ true → IsMade M i.path m → Told before i.name m.answer es fs → Through M nodes lines before (is ++ i ∷ []) (ps ++ (length is, m) ∷ []) fs
-  through_made is ps es fs i m h concerned made told =
-      grown is ps (ps ++ (length is, m) ∷ []) es fs i (with_made i m) m.answer h
-      (λ ys. all_put-push (is ++ i ∷ ys) ps (length is) m ∙ ap (λ (zs : List Item). all_put zs ps) (put_behind is i ys m) ∙ h.local (with_made i m ∷ ys))
-      (inl (concerned, m, made, refl)) refl told
-
--- ---- along the list
 
 pub follows_at : (before is : List Item) (k : ℕ) (i : Item) → Follows before is → slice_get is k ≡ Some i → (i.made ≡ None) ⊎ (answer_in before i.name ≡ answer i)
 follows_at before [] k i h at = let never : ⊥ = cc in absurd never
 follows_at before (x ∷ is) zero i h at = let e : x ≡ i = cc in subst (λ (j : Item). (j.made ≡ None) ⊎ (answer_in before j.name ≡ answer j)) e h.0
 follows_at before (x ∷ is) (suc k) i h at = follows_at before is k i h.1 at
 
-pub how_many-more : (nodes lines : List ℕ) (is : List Item) (i : Item) → is_concerned nodes lines i ≡ true → how_many nodes lines (is ++ i ∷ []) ≡ how_many nodes lines is + 1
-how_many-more nodes lines [] i h = ap (λ (b : Bool). length (cond b (i ∷ []) [])) h
-how_many-more nodes lines (x ∷ is) i h =
-    let p : Item → Bool = is_concerned nodes lines in
-    elim (p x) as (λ b. length (cond b (x ∷ filter p (is ++ i ∷ [])) (filter p (is ++ i ∷ []))) ≡ length (cond b (x ∷ filter p is) (filter p is)) + 1) [
-      | true ↦ let ih = how_many-more nodes lines is i h in omega arith
-      | false ↦ how_many-more nodes lines is i h
-    ]
+-- ---- one path of the list before
 
-pub how_many-same : (nodes lines : List ℕ) (is : List Item) (i : Item) → is_concerned nodes lines i ≡ false → how_many nodes lines (is ++ i ∷ []) ≡ how_many nodes lines is
-how_many-same nodes lines [] i h = ap (λ (b : Bool). length (cond b (i ∷ []) [])) h
-how_many-same nodes lines (x ∷ is) i h =
-    let p : Item → Bool = is_concerned nodes lines in
-    elim (p x) as (λ b. length (cond b (x ∷ filter p (is ++ i ∷ [])) (filter p (is ++ i ∷ []))) ≡ length (cond b (x ∷ filter p is) (filter p is))) [
-      | true ↦ ap suc (how_many-same nodes lines is i h)
-      | false ↦ how_many-same nodes lines is i h
-    ]
+made_at_place : (M : Map) (is : List Item) (k : ℕ) (i : Item) → AreMadeIfAny M is → slice_get is k ≡ Some i → IfSome i.made (IsMade M i.path)
+made_at_place M [] k i h at = let never : ⊥ = cc in absurd never
+made_at_place M (x ∷ is) zero i h at = let e : x ≡ i = cc in subst (λ (j : Item). IfSome j.made (IsMade M j.path)) e h.0
+made_at_place M (x ∷ is) (suc k) i h at = made_at_place M is k i h.1 at
 
--- ---- the paths before a place, with the work
+path_at_place : (is : List Item) (k : ℕ) (i : Item) → AllByRecursion (λ j. IsTrue (is_path j.path.lines)) is → slice_get is k ≡ Some i → IsTrue (is_path i.path.lines)
+path_at_place [] k i h at = let never : ⊥ = cc in absurd never
+path_at_place (x ∷ is) zero i h at = let e : x ≡ i = cc in subst (λ (j : Item). IsTrue (is_path j.path.lines)) e h.0
+path_at_place (x ∷ is) (suc k) i h at = path_at_place is k i h.1 at
 
--- entries as those of the definitions
-abbrev pub entries_of : List Written → List Entry
-entries_of es = map entry_of es
+-- the same item, once more
+again : (i : Item) (m : Made) → i.made ≡ Some m → i ≡ with_made i m
+again i m e = λ j. record { name = i.name; path = i.path; made = e j }
 
-pub record SoFar (M : Map) (nodes lines : List ℕ) (before is : List Item) (place : ℕ) (r : Renewal) (old now : Work) : Type 0 where
-  pub through : Through M nodes lines before (take place is) (made_at r) (entries_of r.entries.items)
-  pub counted : old.encodings + how_many nodes lines (take place is) < 2 ^ 64 → now.encodings ≡ old.encodings + how_many nodes lines (take place is)
+module _ (N : Map) (n : IsMap N) (T X : List ℕ) (C : List ChangedLine) (before is : List Item) (place : ℕ) (i : Item) (follows : Follows before is) (at : slice_get is place ≡ Some i) where
+  abbrev Q : Map → Type 0
+  Q L = IsBefore L N T X C is
 
-pub so_far_none : (M : Map) (nodes lines : List ℕ) (before is : List Item) (r : Renewal) (work : Work) → r.fresh.items ≡ [] → r.entries.items ≡ [] → SoFar M nodes lines before is 0 r work work
-so_far_none M nodes lines before is r work fresh entries =
-    let made : [] ≡ made_at r = sym (ap puts_of fresh) in
-    let told : [] ≡ entries_of r.entries.items = sym (ap entries_of entries) in
-    record {
-      through = subst (λ (es : List Entry). Through M nodes lines before [] (made_at r) es) told (subst (λ (ps : List (ℕ × Made)). Through M nodes lines before [] ps []) made (through_none M nodes lines before));
-      counted = λ few. omega arith;
-    }
-
--- what encoding a path at a place makes of a renewal
-abbrev pub Encoded : Map → List Item → ℕ → List ℕ → Path → Renewal → Renewal → Type 0
-Encoded M before place name path r s =
-    (m : Made) × IsMade M path m × (made_at s ≡ made_at r ++ (place, m) ∷ []) × Told before name m.answer (entries_of r.entries.items) (entries_of s.entries.items)
-
-module _ (M : Map) (nodes lines : List ℕ) (before is : List Item) (place : ℕ) (i : Item) (follows : Follows before is) (at : slice_get is place ≡ Some i) (r : Renewal) (old now : Work) (h : SoFar M nodes lines before is place r old now) where
   more : take (place + 1) is ≡ take place is ++ i ∷ []
   more = take_more_items is place i at
 
-  pub so_far_kept : is_concerned nodes lines i ≡ false → SoFar M nodes lines before is (place + 1) r old now
-  so_far_kept unconcerned =
-      let same = how_many-same nodes lines (take place is) i unconcerned in
-      let known = h.counted in
-      record {
-        through = subst (λ (js : List Item). Through M nodes lines before js (made_at r) (entries_of r.entries.items)) (sym more)
-            (through_kept M nodes lines before (take place is) (made_at r) (entries_of r.entries.items) i h.through unconcerned (follows_at before is place i follows at));
-        counted = subst (λ (js : List Item). old.encodings + how_many nodes lines js < 2 ^ 64 → now.encodings ≡ old.encodings + how_many nodes lines js) (sym more)
-            (λ few. let e = known (omega (arith, few, same)) in omega (arith, e, same));
-      }
+  long : length (take place is) ≡ place
+  long = length-take-le place is (omega (arith, slice_get_within is place i at))
 
-  pub so_far_made : (s : Renewal) (later : Work) (name : List ℕ) (path : Path) → is_concerned nodes lines i ≡ true → name ≡ i.name → path ≡ i.path → Encoded M before place name path r s
-      → (now.encodings + 1 < 2 ^ 64 → later.encodings ≡ now.encodings + 1) → SoFar M nodes lines before is (place + 1) s old later
-  so_far_made s later name path concerned is_name is_path made counted =
-      let one = how_many-more nodes lines (take place is) i concerned in
-      let known = h.counted in
-      let m = made.0 in
-      let long : length (take place is) ≡ place = length-take-le place is (omega (arith, slice_get_within is place i at)) in
-      let told : Told before i.name m.answer (entries_of r.entries.items) (entries_of s.entries.items) = subst (λ (n : List ℕ). Told before n m.answer (entries_of r.entries.items) (entries_of s.entries.items)) is_name made.3 in
-      let is_made : IsMade M i.path m = subst (λ (P : Path). IsMade M P m) is_path made.1 in
-      let puts : made_at r ++ (length (take place is), m) ∷ [] ≡ made_at s = ap (λ (k : ℕ). made_at r ++ (k, m) ∷ []) long ∙ sym made.2 in
+  is_made : (L : Map) → Q L → (m : Made) → i.made ≡ Some m → IsMade L i.path m
+  is_made L q m e = subst (λ (o : Option Made). IfSome o (IsMade L i.path)) e (made_at_place L is place i q.made at)
+
+  is_a_path : (L : Map) → Q L → IsTrue (is_path i.path.lines)
+  is_a_path L q = path_at_place is place i q.paths at
+
+  answered : (m : Made) → i.made ≡ Some m → answer_in before i.name ≡ Some m.answer
+  answered m e =
+      let is_A : answer i ≡ Some m.answer = ap (option_map (λ (k : Made). k.answer)) e in
+      elim (follows_at before is place i follows at) [ inl none ↦ let never : ⊥ = cc in absurd never | inr same ↦ same ∙ is_A ]
+
+  through_left : (ps : List (ℕ × Made)) (es : List Entry) (c : ℕ) → Through Q N T X before (take place is) ps es c → ToStay N T X i.made i.path → Through Q N T X before (take place is ++ i ∷ []) ps es c
+  through_left ps es c h f =
+      let m = f.0 in
+      grown Q N T X before (take place is) ps ps es es c c i i m.answer h (λ ys. h.local (i ∷ ys)) refl
+      (λ L q. (m, stays_unless L N n T X C i.path (is_a_path L q) m q.sound q.difference q.starts (is_made L q m f.1) f.2, again i m f.1))
+      (ap (option_map (λ (k : Made). k.answer)) f.1) (inl (answered m f.1, refl))
+      (λ L q. Count-same (IsConcerned L T X) (take place is) c i (h.counted L q) (λ on. f.2 (touched_by L N n T X C i.path (is_a_path L q) m q.sound q.difference (is_made L q m f.1) i refl f.1 on)))
+
+  -- an item by its parts
+  concerned : (L : Map) → Q L → (m : Made) → i.made ≡ Some m → Touches N T X m i.path → IsConcerned L T X i
+  concerned L q m e t = subst (λ (j : Item). IsConcerned L T X j) (sym (again i m e)) (concerned_by L N n T X C i.path (is_a_path L q) m q.sound q.difference (is_made L q m e) i.name t)
+
+  through_kept : (ps : List (ℕ × Made)) (es : List Entry) (c : ℕ) → Through Q N T X before (take place is) ps es c → ToKeep N T X C i.made i.path → Through Q N T X before (take place is ++ i ∷ []) ps es (c + 1)
+  through_kept ps es c h f =
+      let m = f.0 in
+      grown Q N T X before (take place is) ps ps es es c (c + 1) i i m.answer h (λ ys. h.local (i ∷ ys)) refl
+      (λ L q. (m, stays_clear L N n T X C i.path (is_a_path L q) m q.sound q.difference (is_made L q m f.1) f.3, again i m f.1))
+      (ap (option_map (λ (k : Made). k.answer)) f.1) (inl (answered m f.1, refl))
+      (λ L q. Count-more (IsConcerned L T X) (take place is) c i (h.counted L q) (concerned L q m f.1 f.2))
+
+  to_encode : (L : Map) → Q L → ToEncode N T X i.made i.path → IsConcerned L T X i
+  to_encode L q (inl none) = By_name none
+  to_encode L q (inr f) = concerned L q f.0 f.1 f.2
+
+  through_anew : (ps : List (ℕ × Made)) (es fs : List Entry) (c : ℕ) (m : Made) → Through Q N T X before (take place is) ps es c → ToEncode N T X i.made i.path → IsMade N i.path m → Told before i.name m.answer es fs
+      → Through Q N T X before (take place is ++ i ∷ []) (ps ++ (place, m) ∷ []) fs (c + 1)
+  through_anew ps es fs c m h f made told =
+      subst (λ (k : ℕ). Through Q N T X before (take place is ++ i ∷ []) (ps ++ (k, m) ∷ []) fs (c + 1)) long
+      (grown Q N T X before (take place is) ps (ps ++ (length (take place is), m) ∷ []) es fs c (c + 1) i (with_made i m) m.answer h
+      (λ ys. all_put-push (take place is ++ i ∷ ys) ps (length (take place is)) m ∙ ap (λ (zs : List Item). all_put zs ps) (put_behind (take place is) i ys m) ∙ h.local (with_made i m ∷ ys))
+      refl (λ L q. (m, made, refl)) refl told
+      (λ L q. Count-more (IsConcerned L T X) (take place is) c i (h.counted L q) (to_encode L q f)))
+
+-- ---- the paths before a place, with the work
+
+pub record SoFar (N : Map) (T X : List ℕ) (C : List ChangedLine) (before is : List Item) (place : ℕ) (r : Renewal) (old now : Counted) : Type 0 where
+  pub many : ℕ
+  pub through : Through (λ L. IsBefore L N T X C is) N T X before (take place is) (made_at r) (entries_of r) many
+  pub raised : old.work.encodings + many < 2 ^ 64 → now.work.encodings ≡ old.work.encodings + many
+  pub rises : Rises old now many
+
+rises_none : (work : Counted) → Rises work work 0
+rises_none work = record { searches = omega arith; settled = omega arith; kept = omega arith; spared = omega arith }
+
+rises_more : (old now later : Counted) (n : ℕ) → Rises old now n → Rises now later 1 → Rises old later (n + 1)
+rises_more old now later n r s =
+    let a = r.searches in let b = s.searches in let c = r.settled in let d = s.settled in
+    let e = r.kept in let f = s.kept in let g = r.spared in let h = s.spared in
+    record { searches = omega arith; settled = omega arith; kept = omega arith; spared = omega arith }
+
+pub so_far_none : (N : Map) (T X : List ℕ) (C : List ChangedLine) (before is : List Item) (r : Renewal) (work : Counted) → r.fresh.items ≡ [] → r.entries.items ≡ [] → SoFar N T X C before is 0 r work work
+so_far_none N T X C before is r work fresh entries =
+    let Q : Map → Type 0 = λ L. IsBefore L N T X C is in
+    let made : [] ≡ made_at r = sym (ap puts_of fresh) in
+    let told : [] ≡ entries_of r = sym (ap (map entry_of) entries) in
+    record {
+      many = 0;
+      through = subst (λ (es : List Entry). Through Q N T X before [] (made_at r) es 0) told (subst (λ (ps : List (ℕ × Made)). Through Q N T X before [] ps [] 0) made (through_none Q N T X before));
+      raised = λ few. omega arith;
+      rises = rises_none work;
+    }
+
+-- of a list of no paths
+pub so_far_all : (N : Map) (T X : List ℕ) (C : List ChangedLine) (before is : List Item) (r : Renewal) (work : Counted) → length is ≡ 0 → r.fresh.items ≡ [] → r.entries.items ≡ [] → SoFar N T X C before is (length is) r work work
+so_far_all N T X C before is r work none fresh entries =
+    subst (λ (k : ℕ). SoFar N T X C before is k r work work) (sym none) (so_far_none N T X C before is r work fresh entries)
+
+-- as far as the whole list
+pub record Whole (N : Map) (T X : List ℕ) (C : List ChangedLine) (before is : List Item) (r : Renewal) (old now : Counted) : Type 0 where
+  pub remade : (L : Map) → IsBefore L N T X C is → AreRemade N is (all_put is (made_at r))
+  pub names : all_named (all_put is (made_at r)) ≡ all_named is
+  pub reported : Reported before (all_put is (made_at r)) (entries_of r)
+  pub counted : (L : Map) → IsBefore L N T X C is → (n : ℕ) × CountIs (IsConcerned L T X) is n × (old.work.encodings + n < 2 ^ 64 → now.work.encodings ≡ old.work.encodings + n) × (now.kept ≤ old.kept + n)
+
+pub whole : (N : Map) (T X : List ℕ) (C : List ChangedLine) (before is : List Item) (r : Renewal) (old now : Counted) → SoFar N T X C before is (length is) r old now → Whole N T X C before is r old now
+whole N T X C before is r old now h =
+    let all : take (length is) is ≡ is = take_all (length is) is (omega arith) in
+    let t : Through (λ L. IsBefore L N T X C is) N T X before is (made_at r) (entries_of r) h.many =
+    subst (λ (js : List Item). Through (λ L. IsBefore L N T X C is) N T X before js (made_at r) (entries_of r) h.many) all h.through in
+    record {
+      remade = t.remade;
+      names = t.names;
+      reported = t.reported;
+      counted = λ L q. (h.many, t.counted L q, h.raised, h.rises.spared);
+    }
+
+module _ (N : Map) (n : IsMap N) (T X : List ℕ) (C : List ChangedLine) (before is : List Item) (place : ℕ) (i : Item) (follows : Follows before is) (at : slice_get is place ≡ Some i) (old : Counted) where
+  pub so_far_step : (r s : Renewal) (now later : Counted) → SoFar N T X C before is place r old now → IsStep N T X C before i place r s now later → SoFar N T X C before is (place + 1) s old later
+  so_far_step r s now later h (Left f same still) =
+      subst (λ (q : Renewal). SoFar N T X C before is (place + 1) q old later) (sym same)
+      (subst (λ (d : Counted). SoFar N T X C before is (place + 1) r old d) (sym still)
+      (record {
+        many = h.many;
+        through = subst (λ (js : List Item). Through (λ L. IsBefore L N T X C is) N T X before js (made_at r) (entries_of r) h.many) (sym (take_more_items is place i at))
+            (through_left N n T X C before is place i follows at (made_at r) (entries_of r) h.many h.through f);
+        raised = h.raised;
+        rises = h.rises;
+      }))
+  so_far_step r s now later h (Kept f same one) =
+      subst (λ (q : Renewal). SoFar N T X C before is (place + 1) q old later) (sym same)
+      (record {
+        many = h.many + 1;
+        through = subst (λ (js : List Item). Through (λ L. IsBefore L N T X C is) N T X before js (made_at r) (entries_of r) (h.many + 1)) (sym (take_more_items is place i at))
+            (through_kept N n T X C before is place i follows at (made_at r) (entries_of r) h.many h.through f);
+        raised = λ few. let e = h.raised (omega arith) in let u = one.encodings (omega arith) in omega arith;
+        rises = rises_more old now later h.many h.rises one.rises;
+      })
+  so_far_step r s now later h (Anew f m made puts told one) =
       record {
-        through = subst (λ (js : List Item). Through M nodes lines before js (made_at s) (entries_of s.entries.items)) (sym more)
-            (subst (λ (ps : List (ℕ × Made)). Through M nodes lines before (take place is ++ i ∷ []) ps (entries_of s.entries.items)) puts
-            (through_made M nodes lines before (take place is) (made_at r) (entries_of r.entries.items) (entries_of s.entries.items) i m h.through concerned is_made told));
-        counted = subst (λ (js : List Item). old.encodings + how_many nodes lines js < 2 ^ 64 → later.encodings ≡ old.encodings + how_many nodes lines js) (sym more)
-            (λ few. let e = known (omega (arith, few, one)) in let f = counted (omega (arith, few, one, e)) in omega (arith, e, f, one));
+        many = h.many + 1;
+        through = subst (λ (js : List Item). Through (λ L. IsBefore L N T X C is) N T X before js (made_at s) (entries_of s) (h.many + 1)) (sym (take_more_items is place i at))
+            (subst (λ (ps : List (ℕ × Made)). Through (λ L. IsBefore L N T X C is) N T X before (take place is ++ i ∷ []) ps (entries_of s) (h.many + 1)) (sym puts)
+            (through_anew N n T X C before is place i follows at (made_at r) (entries_of r) (entries_of s) h.many m h.through f made told));
+        raised = λ few. let e = h.raised (omega arith) in let u = one.encodings (omega arith) in omega arith;
+        rises = rises_more old now later h.many h.rises one.rises;
       }
 
 -- ---- a list follows itself, since no name stands twice

@@ -1,44 +1,57 @@
 -- What a change of the map, or of one path, makes of a list of named paths.
---     is_concerned ns xs i      the path was not encoded yet, or its footprint holds one of the nodes, or it has one of the lines
---     AreRenewed M ns xs is js      each path that is concerned was encoded on the map, the others stayed
+--     Touches N T X m P      an own node of the path is touched, or one of its lines, or a node near to where a look begins
+--     IsBefore M N T X C is      what was made of the list is right on M, and edits led from M to N
+--     IsConcerned M T X i      the path was not encoded yet, or its footprint on M holds a touched node, or one of its lines was touched
+--     AreRemade N is js      each path has what is right on N
 --     Reported before js es      an entry for each path whose answer is not the one that its name had before, in order
 --     AreEncoded is      each path was encoded
 --     Follows before is      each path that was encoded has the answer that its name had before
-use Rattle.std.specs.Prelude.{◌≡◌, ◌≢◌, ℕ, Bool, true, false, ◌||◌, List, [], ◌∷◌, length, Option, Some, None, option_map, ◌⊎◌, ⊤, if◌then◌else◌}
-use Rattle.std.specs.List.{filter, list_any}
-use Rattle.olr_spec.specs.Map.{Map}
-use Rattle.olr_spec.specs.Extension.{Path, has}
+use Rattle.std.specs.Prelude.{◌≡◌, ◌≢◌, ℕ, List, [], ◌∷◌, Contains, Option, Some, None, option_map, ◌⊎◌, IsTrue, ⊤, if◌then◌else◌}
+use Rattle.std.specs.List.{AllByRecursion}
+use Rattle.olr_spec.specs.Map.{Map, IsMap}
+use Rattle.olr_spec.specs.Extension.{Path, has, is_path, limit}
 use Rattle.olr_spec.specs.Encoding.{Answer}
+use Rattle.olr_spec.specs.Footprint.{Foot}
+use Rattle.olr_spec.specs.Detours.{ChangedLine, Difference, Near}
+use Rattle.olr_spec.specs.Looks.{Look}
 use Rattle.olr_commands.specs.State.{same_name}
 use Rattle.olr_commands.specs.Reply.{Entry, entry}
-use Rattle.olr_paths.specs.Items.{Made, Item, IsMade, answer_in}
-
-abbrev pub holds_one : List ℕ → List ℕ → Bool
-holds_one wanted xs = list_any (λ x. has wanted x) xs
-
-abbrev pub is_concerned : List ℕ → List ℕ → Item → Bool
-is_concerned nodes lines i = concerned_by i.made
-  where
-    concerned_by : Option Made → Bool
-    concerned_by None = true
-    concerned_by (Some m) = holds_one nodes m.nodes || holds_one lines i.path.lines
+use Rattle.olr_paths.specs.Items.{Made, Item, IsMade, AreMadeIfAny, answer_in}
 
 abbrev pub with_made : Item → Made → Item
 with_made i m = record i { made = Some m }
 
-abbrev pub IsRenewed : Map → List ℕ → List ℕ → Item → Item → Type 0
-IsRenewed M nodes lines i j =
-    ((is_concerned nodes lines i ≡ true) × (m : Made) × IsMade M i.path m × (j ≡ with_made i m))
-    ⊎ ((is_concerned nodes lines i ≡ false) × (j ≡ i))
+abbrev pub OwnTouched : List ℕ → Made → Type 0
+OwnTouched T m = (v : ℕ) × IsTrue (has T v) × Contains m.own v
 
-abbrev pub AreRenewed : Map → List ℕ → List ℕ → List Item → List Item → Type 0
-AreRenewed M nodes lines [] js = js ≡ []
-AreRenewed M nodes lines (i ∷ is) [] = ⊥
-AreRenewed M nodes lines (i ∷ is) (j ∷ js) = IsRenewed M nodes lines i j × AreRenewed M nodes lines is js
+abbrev pub LineTouched : List ℕ → Path → Type 0
+LineTouched X P = (x : ℕ) × IsTrue (has X x) × IsTrue (has P.lines x)
 
--- how many were encoded
-abbrev pub how_many : List ℕ → List ℕ → List Item → ℕ
-how_many nodes lines is = length (filter (is_concerned nodes lines) is)
+abbrev pub LookTouched : Map → List ℕ → Made → Type 0
+LookTouched N T m = (l : Look) × Contains m.looks l × Near N T l.from limit
+
+abbrev pub Touches : Map → List ℕ → List ℕ → Made → Path → Type 0
+Touches N T X m P = OwnTouched T m ⊎ (LineTouched X P ⊎ LookTouched N T m)
+
+pub record IsBefore (M N : Map) (T X : List ℕ) (C : List ChangedLine) (is : List Item) : Type 0 where
+  pub sound : IsMap M
+  pub difference : Difference T X C M N
+  pub starts : (c : ChangedLine) → Contains C c → IsTrue (has T c.from)
+  pub paths : AllByRecursion (λ i. IsTrue (is_path i.path.lines)) is
+  pub made : AreMadeIfAny M is
+
+pub data IsConcerned (M : Map) (T X : List ℕ) (i : Item) : Type 0 where
+  By_name : i.made ≡ None → IsConcerned M T X i
+  By_node : (v : ℕ) → IsTrue (has T v) → Foot M i.path v → IsConcerned M T X i
+  By_line : (x : ℕ) → IsTrue (has X x) → IsTrue (has i.path.lines x) → IsConcerned M T X i
+
+abbrev pub IsRemade : Map → Item → Item → Type 0
+IsRemade N i j = (m : Made) × IsMade N i.path m × (j ≡ with_made i m)
+
+abbrev pub AreRemade : Map → List Item → List Item → Type 0
+AreRemade N [] js = js ≡ []
+AreRemade N (i ∷ is) [] = ⊥
+AreRemade N (i ∷ is) (j ∷ js) = IsRemade N i j × AreRemade N is js
 
 abbrev pub Reported : List Item → List Item → List Entry → Type 0
 Reported before [] es = es ≡ []

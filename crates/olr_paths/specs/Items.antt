@@ -1,12 +1,12 @@
 -- A list of named paths, each with what is published of it.
---     Made      an answer and its footprint.        IsMade M P m      they are those of the path on the map
+--     Made      an answer with its own nodes and looks.        IsMade M P m      they are those of the path on the map
 --     Item      a name, its path and, where it was encoded, what was made.        items l      those of a list
---     AreMade M is      each path was encoded, and rightly for the map
-use Rattle.std.specs.Prelude.{◌≡◌, ℕ, List, [], ◌∷◌, map, Contains, if◌then◌else◌, Option, Some, None, option_map, string_bytes, ◌↔◌, ⊤}
+--     AreMade M is      each path was encoded, and rightly for the map.        AreMadeIfAny M is      each that was encoded
+use Rattle.std.specs.Prelude.{◌≡◌, ℕ, List, [], ◌∷◌, map, Contains, if◌then◌else◌, Option, Some, None, option_map, IfSome, string_bytes, ◌↔◌, ⊤}
 use Rattle.olr_spec.specs.Map.{Map}
 use Rattle.olr_spec.specs.Extension.{Path}
 use Rattle.olr_spec.specs.Encoding.{Answer, Encodes}
-use Rattle.olr_spec.specs.Footprint.{Foot}
+use Rattle.olr_spec.specs.Looks.{Look, OwnOf, LooksOf}
 use Rattle.olr_refs.specs.Answers.{answer_of}
 use Rattle.olr_commands.specs.State.{Named, same_name}
 use Rattle.olr_paths.specs.declared.published.Published.{Published as Encoded}
@@ -14,7 +14,8 @@ use Rattle.olr_paths.specs.declared.listing.Listing.{Listing}
 
 pub record Made : Type 0 where
   pub answer : Answer
-  pub nodes : List ℕ
+  pub own : List ℕ
+  pub looks : List Look
 
 pub record Item : Type 0 where
   pub name : List ℕ
@@ -24,7 +25,7 @@ pub record Item : Type 0 where
 -- ---- what Rust keeps, as these
 
 abbrev pub made_of : Encoded → Made
-made_of p = record { answer = answer_of p.answer; nodes = p.footprint }
+made_of p = record { answer = answer_of p.answer; own = p.own; looks = p.looks.items }
 
 abbrev pub items : Listing → List Item
 items l = map (λ e. record { name = string_bytes e.0; path = e.1.path.value; made = option_map (λ p. made_of p.value) e.1.published }) l.paths.entries
@@ -33,11 +34,16 @@ items l = map (λ e. record { name = string_bytes e.0; path = e.1.path.value; ma
 
 pub record IsMade (M : Map) (P : Path) (m : Made) : Type 0 where
   pub answer : Encodes M P m.answer
-  pub nodes : (v : ℕ) → Contains m.nodes v ↔ Foot M P v
+  pub own : (v : ℕ) → Contains m.own v ↔ OwnOf M P v
+  pub looks : LooksOf M P m.looks
 
 abbrev pub AreMade : Map → List Item → Type 0
 AreMade M [] = ⊤
 AreMade M (i ∷ is) = ((m : Made) × (i.made ≡ Some m) × IsMade M i.path m) × AreMade M is
+
+abbrev pub AreMadeIfAny : Map → List Item → Type 0
+AreMadeIfAny M [] = ⊤
+AreMadeIfAny M (i ∷ is) = IfSome i.made (IsMade M i.path) × AreMadeIfAny M is
 
 -- ---- the list as the register's definitions see it
 

@@ -1,17 +1,28 @@
 -- What was made anew of a list of named paths, and where it goes.
 --     puts_of es, made_at r      what was made, each with its place.        all_put is ps      the list with these at their places
 --     item_of name e      an entry of the list under a name
+--     Stays N T X C m P      no own node and no line of the path is touched, and each look is clear
+--     IsFate, IsStep      what is to be done with a path, and what is done
+--     Rises old new n, OneMore old new      no count falls, and of n encodings no more are spared;  of one
 --     Told before name A es fs      an entry behind the others where the answer is not the one that the name had before
-use Rattle.std.specs.Prelude.{◌≡◌, ◌≢◌, ℕ, zero, suc, List, [], ◌∷◌, ◌++◌, map, Some, option_map, ◌⊎◌}
+use Rattle.std.specs.Prelude.{◌≡◌, ◌≢◌, ℕ, zero, suc, List, [], ◌∷◌, ◌++◌, map, All, ◌+◌, ◌<◌, ◌≤◌, ◌^◌, Option, Some, None, option_map, ◌⊎◌}
+use Rattle.olr_spec.specs.Map.{Map}
+use Rattle.olr_spec.specs.Detours.{ChangedLine}
+use Rattle.olr_spec.specs.Extension.{Path}
+use Rattle.olr_spec.specs.Looks.{IsClear}
+use Rattle.olr_commands.specs.Words.{entry_of}
 use Rattle.olr_spec.specs.Encoding.{Answer}
 use Rattle.olr_commands.specs.Reply.{Entry, entry}
-use Rattle.olr_paths.specs.Items.{Made, Item, made_of, answer_in}
-use Rattle.olr_paths.specs.Changes.{with_made}
+use Rattle.olr_paths.specs.Items.{Made, Item, IsMade, made_of, answer_in}
+use Rattle.olr_paths.specs.Changes.{with_made, OwnTouched, LineTouched, Touches}
 use Rattle.std.specs.declared.alloc.Global.{Global}
 use Rattle.std.specs.declared.rc.Rc.{Rc}
 use Rattle.olr_paths.specs.declared.published.Published.{Published}
 use Rattle.olr_paths.specs.declared.listing.NamedPath.{NamedPath}
 use Rattle.olr_paths.specs.declared.renewal.Renewal.{Renewal}
+use Rattle.olr_paths.specs.declared.renewal.Counted.{Counted}
+use Rattle.olr_paths.specs.declared.renewal.Fate.{Fate}
+use Rattle.olr_paths.specs.declared.renewal.Fate.TheVariants.{Stay, Keep, Encode}
 
 -- an entry of the list under a name
 abbrev pub item_of : List ℕ → NamedPath → Item
@@ -34,8 +45,48 @@ puts_of es = map (λ e. (e.0, made_of e.1.value)) es
 abbrev pub made_at : Renewal → List (ℕ × Made)
 made_at r = puts_of r.fresh.items
 
+abbrev pub entries_of : Renewal → List Entry
+entries_of r = map entry_of r.entries.items
+
 abbrev pub renewed : Renewal → List Item → List Item
 renewed r is = all_put is (made_at r)
 
 abbrev pub Told : List Item → List ℕ → Answer → List Entry → List Entry → Type 0
 Told before name A es fs = ((answer_in before name ≡ Some A) × (fs ≡ es)) ⊎ ((answer_in before name ≢ Some A) × (fs ≡ es ++ entry name A ∷ []))
+
+-- ---- one path
+
+abbrev pub Stays : Map → List ℕ → List ℕ → List ChangedLine → Made → Path → Type 0
+Stays N T X C m P = (¬ OwnTouched T m) × (¬ LineTouched X P) × All (IsClear N C) m.looks
+
+abbrev pub ToStay : Map → List ℕ → List ℕ → Option Made → Path → Type 0
+ToStay N T X made P = (m : Made) × (made ≡ Some m) × ¬ Touches N T X m P
+
+abbrev pub ToKeep : Map → List ℕ → List ℕ → List ChangedLine → Option Made → Path → Type 0
+ToKeep N T X C made P = (m : Made) × (made ≡ Some m) × Touches N T X m P × Stays N T X C m P
+
+abbrev pub ToEncode : Map → List ℕ → List ℕ → Option Made → Path → Type 0
+ToEncode N T X made P = (made ≡ None) ⊎ ((m : Made) × (made ≡ Some m) × Touches N T X m P)
+
+abbrev pub IsFate : Map → List ℕ → List ℕ → List ChangedLine → Option Made → Path → Fate → Type 0
+IsFate N T X C made P Stay = ToStay N T X made P
+IsFate N T X C made P Keep = ToKeep N T X C made P
+IsFate N T X C made P Encode = ToEncode N T X made P
+
+-- no count falls, and of so many encodings no more are spared
+pub record Rises (old new : Counted) (n : ℕ) : Type 0 where
+  pub searches : old.work.searches ≤ new.work.searches
+  pub settled : old.work.settled ≤ new.work.settled
+  pub kept : old.kept ≤ new.kept
+  pub spared : new.kept ≤ old.kept + n
+
+-- the count rises by one
+pub record OneMore (old new : Counted) : Type 0 where
+  pub encodings : old.work.encodings + 1 < 2 ^ 64 → new.work.encodings ≡ old.work.encodings + 1
+  pub rises : Rises old new 1
+
+pub data IsStep (N : Map) (T X : List ℕ) (C : List ChangedLine) (before : List Item) (i : Item) (k : ℕ) (r s : Renewal) (c d : Counted) : Type 0 where
+  Left : ToStay N T X i.made i.path → s ≡ r → d ≡ c → IsStep N T X C before i k r s c d
+  Kept : ToKeep N T X C i.made i.path → s ≡ r → OneMore c d → IsStep N T X C before i k r s c d
+  Anew : ToEncode N T X i.made i.path → (m : Made) → IsMade N i.path m → made_at s ≡ made_at r ++ (k, m) ∷ [] → Told before i.name m.answer (entries_of r) (entries_of s)
+      → OneMore c d → IsStep N T X C before i k r s c d

@@ -1,7 +1,9 @@
--- What edits touched, as lists of numbers.
---     nodes_of t, lines_of t      the nodes and the lines
---     HasRoom t      room for two more nodes and one more line
-use Rattle.std.specs.Prelude.{ℕ, ◌+◌, ◌≤◌, List, vec_len, vec_capacity}
+-- What edits touched and changed, as lists.
+--     nodes_of t, lines_of t, changed_of t      the nodes, the lines and the changed lines
+--     HasRoom t      room for what one more edit touches
+use Rattle.std.specs.Prelude.{ℕ, ◌+◌, ◌≤◌, List, map, vec_len, vec_capacity}
+use Rattle.olr_spec.specs.Detours.{ChangedLine}
+use Rattle.olr_paths.specs.declared.touched.ChangedLine.{ChangedLine as Noted}
 use Rattle.olr_paths.specs.declared.touched.Touched.{Touched}
 
 abbrev pub nodes_of : Touched → List ℕ
@@ -10,6 +12,13 @@ nodes_of t = t.nodes.items
 abbrev pub lines_of : Touched → List ℕ
 lines_of t = t.lines.items
 
+abbrev pub change_of : Noted → ChangedLine
+change_of c = record { from = c.from; to = c.to; len = c.len }
+
+abbrev pub changed_of : Touched → List ChangedLine
+changed_of t = map change_of t.changed.items
+
 pub record HasRoom (t : Touched) : Type 0 where
   pub nodes : vec_len t.nodes + 2 ≤ vec_capacity t.nodes
   pub lines : vec_len t.lines + 1 ≤ vec_capacity t.lines
+  pub changed : vec_len t.changed + 1 ≤ vec_capacity t.changed

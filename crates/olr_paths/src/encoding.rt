@@ -1,33 +1,53 @@
 //! Encoding a path for the list.
-ghost use Rattle.std.specs.Prelude.{◌≡◌, ◌+◌, ◌<◌, ◌^◌, IfOk, OnOk};
+ghost use Rattle.std.specs.Prelude.{◌≡◌, ◌+◌, ◌<◌, ◌≤◌, ◌^◌, IfOk, OnOk, option_map, string_bytes};
+ghost use Rattle.std.specs.Result.{result_ok};
+ghost use Rattle.olr_refs.specs.Answers.{answer_of};
+ghost use Rattle.olr_commands.specs.Reply.{published};
 ghost use Rattle.olr_paths.specs.Items.{IsMade, made_of};
 
 use crate::published::Published;
 use olr_binary::text::to_text;
 use olr_map::MapRead;
-use olr_refs::{Answer, Path, refer};
-use olr_route::Work;
+use olr_refs::{Answer, Encoding, Path, encode};
+use olr_route::{Search, Work};
 use std::alloc::{AllocError, Global};
+
+/// The text of an answer, where it has one.
+fn text_of(alloc: Global, answer: &Answer) -> Result<Option<String>, AllocError>
+    ensures { IfOk result (λ t. option_map string_bytes t ≡ result_ok (published (answer_of answer.now))) }
+{
+    match answer {
+        Answer::Points(reference) => {
+            let text = to_text(alloc, reference)?;
+            Ok(Some(text))
+        }
+        Answer::Refused(_) => Ok(None),
+    }
+}
 
 /// Encodes a path on a map. One encoding is counted; after a refusal the work may hold more than before.
 pub fn publish<M: MapRead>(
     alloc: Global,
     map: &M,
     path: &Path,
+    search: &mut Search,
     work: &mut Work,
 ) -> Result<Published, AllocError>
     ensures made { IfOk result (λ p. IsMade (M.map map.now) path.now (made_of p)) }
     ensures counted { OnOk result
         (work.old.encodings + 1 < 2 ^ 64 → work.new.encodings ≡ work.old.encodings + 1) }
+    ensures searches { OnOk result (work.old.searches ≤ work.new.searches) }
+    ensures settled { OnOk result (work.old.settled ≤ work.new.settled) }
 {
-    let (answer, footprint) = refer(alloc, map, path, work)?;
-    let text = match &answer {
-        Answer::Points(reference) => Some(to_text(alloc, reference)?),
-        Answer::Refused(_) => None,
-    };
+    // What is read is in range.
+    let _searches = work.searches;
+    let _settled = work.settled;
+    let Encoding { answer, own, looks } = encode(alloc, map, path, search, work)?;
+    let text = text_of(alloc, &answer)?;
     Ok(Published {
         answer,
         text,
-        footprint,
+        own,
+        looks,
     })
 }

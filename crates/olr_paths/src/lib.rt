@@ -1,17 +1,23 @@
-//! Named paths, each with its answer, its published text and its footprint: encoded where they are new or a change of the map
-//! concerns them, and told where their answer is another than before.
+//! Named paths, each with its answer, its published text and what its encoding looked at: encoded where they are new or a
+//! change of the map can have changed their answer, and told where it is another than before.
 #![tactic(auto)]
 
+pub mod asking;
+pub mod detours;
 pub mod encoding;
 pub mod entries;
 pub mod listing;
+pub mod overlay;
 pub mod published;
 pub mod renewal;
+pub mod searches;
 pub mod single;
 #[cfg(test)]
 mod tests;
 pub mod touched;
 
 pub use listing::Listing;
+pub use overlay::Overlay;
 pub use published::Published;
-pub use touched::Touched;
+pub use searches::Searches;
+pub use touched::{ChangedLine, Touched};

@@ -17,7 +17,7 @@ pub struct NamedPath {
 
 impl NamedPath {
     /// The same, which shares the path and what is published of it with this one.
-    fn share(&self) -> Result<NamedPath, AllocError>
+    pub(crate) fn share(&self) -> Result<NamedPath, AllocError>
         ensures path { IfOk result (λ n. n.path.value ≡ self.now.path.value) }
         ensures made { IfOk result (λ n. option_map (λ p. made_of p.value) n.published
             ≡ option_map (λ p. made_of p.value) self.now.published) }
@@ -87,19 +87,12 @@ impl Listing {
         }
     }
 
-    /// The same list, which shares paths and answers with this one.
-    pub fn share(&self, alloc: Global) -> Result<Listing, AllocError>
-        ensures { IfOk result (λ l. items l ≡ items self.now) }
+    /// The path of that name. None where there is none.
+    pub fn path(&self, name: &str) -> Option<&Path>
+        ensures { option_map (λ p. p.now) result ≡ path_named (all_named (items self.now)) name.now }
     {
-        let count = self.paths.len();
-        let mut paths = IndexMap::with_capacity(alloc, count)?;
-        for k in 0..count {
-            let Some((name, named)) = self.paths.get_index(k) else {
-                unreachable!()
-            };
-            paths.insert(String::from_str(alloc, name.as_str())?, named.share()?)?;
-        }
-        Ok(Listing { paths })
+        let named = self.paths.get(name)?;
+        Some(&*named.path)
     }
 
     /// Puts a path last, not encoded yet. After a refusal the list is as before.

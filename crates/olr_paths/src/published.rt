@@ -6,15 +6,16 @@ ghost use Rattle.olr_commands.specs.Reply.{published};
 
 use olr_commands::Entry;
 use olr_map::Footprint;
-use olr_refs::Answer;
+use olr_refs::{Answer, Look};
 use std::alloc::{AllocError, Global};
 
-/// A path's answer, its text and its footprint.
+/// A path's answer, its text, its own nodes, and its looks.
 #[derive(Drop, Debug)]
 pub struct Published {
     pub(crate) answer: Answer,
     pub(crate) text: Option<String>,
-    pub(crate) footprint: Footprint,
+    pub(crate) own: Footprint,
+    pub(crate) looks: Vec<Look>,
     ghost spelled: { option_map string_bytes text ≡ result_ok (published (answer_of answer)) },
 }
 

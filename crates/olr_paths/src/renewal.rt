@@ -1,70 +1,110 @@
-//! Encoding anew what a change of the map concerns.
-ghost use Rattle.std.specs.Prelude.{◌≡◌, ◌+◌, ◌<◌, ◌^◌, ◌∷◌, ◌++◌, [], ◌↔◌, Some, map as list_map, IsTrue, IfOk, OnOk, OnErr};
-ghost use Rattle.std.specs.List.{list_any};
-ghost use Rattle.olr_spec.specs.Extension.{has};
+//! Encoding anew what a change of the map can have changed.
+ghost use Rattle.std.specs.Prelude.{◌≡◌, ◌+◌, ◌<◌, ◌≤◌, ◌^◌, ◌∷◌, ◌++◌, [], ◌↔◌, ℕ, Some, map as list_map, option_map, IsTrue, IfOk, IfSome, OnOk, OnErr};
+ghost use Rattle.olr_spec.specs.Map.{Map};
+ghost use Rattle.olr_commands.specs.Counts.{CountIs};
+ghost use Rattle.olr_commands.specs.State.{NamesDiffer};
 ghost use Rattle.olr_commands.specs.Words.{entry_of};
-ghost use Rattle.olr_paths.specs.Items.{Made, IsMade, made_of, items, answer_in};
-ghost use Rattle.olr_paths.specs.Changes.{holds_one, is_concerned, AreRenewed, how_many, Reported, Follows};
-ghost use Rattle.olr_paths.specs.Touching.{nodes_of, lines_of};
-ghost use Rattle.olr_paths.specs.Renewing.{item_of, all_put, puts_of, made_at, renewed, Told};
+ghost use Rattle.std.specs.Prelude.{List, Option};
+ghost use Rattle.olr_spec.specs.Detours.{ChangedLine};
+ghost use Rattle.olr_paths.specs.Items.{Made, made_of, items, answer_in, all_named};
+ghost use Rattle.olr_paths.specs.Changes.{IsBefore, IsConcerned, AreRemade, Reported, Follows};
+ghost use Rattle.olr_paths.specs.Laying.{overlaid};
+ghost use Rattle.olr_paths.specs.Touching.{nodes_of, lines_of, changed_of};
+ghost use Rattle.olr_paths.specs.Searching.{AreDetours, IsAsked, AreAsked, LacksLooks, LackLooks};
+ghost use Rattle.olr_paths.specs.Renewing.{item_of, all_put, puts_of, renewed, Told, Stays, IsFate, IsStep, OneMore};
 
+use crate::asking::{line_touched, own_touched, search_near, touches};
+use crate::detours::{are_clear, search_detours};
 use crate::encoding::publish;
 use crate::listing::{Listing, NamedPath};
+use crate::overlay::Overlay;
 use crate::published::Published;
+use crate::searches::Searches;
 use crate::touched::Touched;
 use olr_commands::Entry;
-use olr_map::{Footprint, LineId, MapRead, NodeId};
+use olr_map::MapRead;
 use olr_refs::Path;
-use olr_route::Work;
+use olr_route::{Search, Work};
 use std::alloc::{AllocError, Global};
+use std::mem;
 use std::rc::Rc;
 
 #[cfg(test)]
 mod tests;
 
-/// Whether a node is in a footprint.
-fn has_node(footprint: &Footprint, node: NodeId) -> bool
-    ensures { result ≡ has footprint.now node }
-{
-    footprint.has(node)
+/// What is to be done with a path.
+#[derive(Clone, Copy)]
+enum Fate {
+    /// It isn't concerned.
+    Stay,
+    /// It is concerned, and its answer is kept.
+    Keep,
+    /// It is encoded anew.
+    Encode,
 }
 
-/// Whether one of the nodes is in a footprint.
-fn holds_node(footprint: &Footprint, nodes: &[NodeId]) -> bool
-    ensures { result ≡ list_any (λ v. has footprint.now v) nodes.now }
-{
-    nodes.iter().any(|node| has_node(footprint, *node))
+/// How much was encoded, and how many of the counted encodings kept an answer.
+#[derive(Clone, Copy)]
+pub(crate) struct Counted {
+    work: Work,
+    kept: u64,
 }
 
-/// Whether one of the touched nodes is in a footprint. Goes over the shorter of the two, and searches the longer.
-fn touches_node(touched: &Touched, footprint: &Footprint) -> bool
-    ensures { result ≡ holds_one (nodes_of touched.now) footprint.now }
-{
-    let nodes = footprint.as_slice();
-    if touched.nodes.len() < nodes.len() {
-        holds_node(footprint, &touched.nodes)
-    } else {
-        nodes.iter().any(|node| touched.has_node(*node))
+impl Counted {
+    /// Counts an encoding whose answer is kept.
+    fn keep(&mut self)
+        ensures { OneMore self.old self.new }
+    {
+        self.work.encodings = self.work.encodings.saturating_add(1);
+        self.kept = self.kept.saturating_add(1);
     }
 }
 
-/// Whether one of the lines was touched.
-fn touches_line(touched: &Touched, lines: &[LineId]) -> bool
-    ensures { result ≡ holds_one (lines_of touched.now) lines.now }
+/// Whether it is known that a path which edits concern has the same answer as before them.
+fn stays<M: MapRead>(
+    map: &M,
+    touched: &Touched,
+    searches: &Searches,
+    asked: Option<u32>,
+    path: &Path,
+    published: &Published,
+) -> bool
+    requires { IfSome asked (AreDetours (M.map map.now) (M.place_in map.now) touched.now searches.now) }
+    ensures { IsTrue result → Stays (M.map map.now) (nodes_of touched.now) (lines_of touched.now) (changed_of touched.now)
+        (made_of published.now) path.now }
 {
-    lines.iter().any(|line| touched.has_line(*line))
+    let Some(limit) = asked else {
+        return false;
+    };
+    !own_touched(touched, &published.own)
+        && !line_touched(touched, path.lines())
+        && are_clear(map, touched, searches, limit, &published.looks)
 }
 
-/// Whether a path has to be encoded: it was not yet, its footprint holds a touched node, or one of its lines was touched.
-fn concerns(touched: &Touched, named: &NamedPath) -> bool
-    ensures { result ≡ is_concerned (nodes_of touched.now) (lines_of touched.now) (item_of [] named.now) }
+/// What is to be done with a path.
+fn decide<M: MapRead>(
+    map: &M,
+    touched: &Touched,
+    searches: &Searches,
+    asked: Option<u32>,
+    named: &NamedPath,
+) -> Fate
+    requires asked { IfSome named.now.published
+        (λ p. IsAsked (M.map map.now) (M.place_in map.now) touched.now searches.now (made_of p.value)) }
+    requires detours { IfSome asked (AreDetours (M.map map.now) (M.place_in map.now) touched.now searches.now) }
+    ensures { IsFate (M.map map.now) (nodes_of touched.now) (lines_of touched.now) (changed_of touched.now)
+        (option_map (λ p. made_of p.value) named.now.published) named.now.path.value result }
 {
-    match &named.published {
-        Some(published) => {
-            touches_node(touched, &published.footprint) || touches_line(touched, named.path.lines())
-        }
-        None => true,
+    let Some(published) = &named.published else {
+        return Fate::Encode;
+    };
+    if !touches(map, touched, searches, &named.path, published) {
+        return Fate::Stay;
     }
+    if stays(map, touched, searches, asked, &named.path, published) {
+        return Fate::Keep;
+    }
+    Fate::Encode
 }
 
 /// Whether a name had the same answer in an earlier list.
@@ -78,7 +118,7 @@ fn had_answer(before: &Listing, name: &str, published: &Published) -> bool
 }
 
 /// Puts the entry of a path behind others, if its answer is not the one that its name had in an earlier list.
-fn tell(
+pub(crate) fn tell(
     alloc: Global,
     before: &Listing,
     name: &str,
@@ -103,48 +143,147 @@ pub(crate) struct Renewal {
 }
 
 impl Renewal {
-    /// Encodes the path of that name and position, and tells it if its answer is not the one that the name had before.
-    fn encode<M: MapRead>(
+    /// Does what is to be done with the path of that name and position: it stays, it is counted, or it is encoded anew and
+    /// told if its answer is not the one that the name had before.
+    fn go_on<M: MapRead>(
         &mut self,
         alloc: Global,
         map: &M,
         before: &Listing,
+        fate: Fate,
         position: usize,
         name: &str,
         path: &Path,
-        work: &mut Work,
+        look: &mut Search,
+        counted: &mut Counted,
     ) -> Result<(), AllocError>
-        ensures made { OnOk result ((m : Made) × IsMade (M.map map.now) path.now m
-            × (made_at self.new ≡ made_at self.old ++ (position, m) ∷ [])
-            × Told (items before.now) name.now m.answer
-            (list_map entry_of self.old.entries.items) (list_map entry_of self.new.entries.items)) }
-        ensures counted { OnOk result
-            (work.old.encodings + 1 < 2 ^ 64 → work.new.encodings ≡ work.old.encodings + 1) }
+        ensures { OnOk result ((T X : List ℕ) (C : List ChangedLine) (made : Option Made)
+            → IsFate (M.map map.now) T X C made path.now fate
+            → IsStep (M.map map.now) T X C (items before.now) (record { name = name.now; path = path.now; made = made })
+            position self.old self.new counted.old counted.new) }
     {
-        let published = publish(alloc, map, path, work)?;
-        tell(alloc, before, name, &published, &mut self.entries)?;
-        self.fresh.push((position, Rc::new(alloc, published)?))?;
+        match fate {
+            Fate::Stay => (),
+            Fate::Keep => counted.keep(),
+            Fate::Encode => {
+                let published = publish(alloc, map, path, look, &mut counted.work)?;
+                tell(alloc, before, name, &published, &mut self.entries)?;
+                self.fresh.push((position, Rc::new(alloc, published)?))?;
+            }
+        }
         Ok(())
     }
 }
 
-/// What renewing a list on a map comes to: the paths that changes of the map concern are encoded, and those are told whose
-/// answer is another than the one that their name had in an earlier list.
-fn made<M: MapRead>(
+/// Whether it is known that a path has no look.
+fn lacks_looks(named: &NamedPath) -> bool
+    ensures { IsTrue result → LacksLooks (option_map (λ p. made_of p.value) named.now.published) }
+{
+    match &named.published {
+        Some(published) => published.looks.is_empty(),
+        None => true,
+    }
+}
+
+/// Whether it is known that no path has a look: then no touched node can be near to one.
+fn lack_looks(list: &Listing) -> bool
+    ensures { IsTrue result → LackLooks (items list.now) }
+{
+    for position in 0..list.paths.len() {
+        let Some((_, named)) = list.paths.get_index(position) else {
+            unreachable!()
+        };
+        if !lacks_looks(named) {
+            return false;
+        }
+    }
+    true
+}
+
+/// How far the searches for detours have to go, in decimetres: the longest look of a concerned path of which no own node and
+/// no line is touched. None where there is no such look.
+fn longest<M: MapRead>(
+    map: &M,
+    list: &Listing,
+    touched: &Touched,
+    searches: &Searches,
+) -> Option<u32>
+    requires { AreAsked (M.map map.now) (M.place_in map.now) touched.now searches.now (items list.now) }
+{
+    let mut longest = None;
+    for position in 0..list.paths.len() {
+        let Some((_, named)) = list.paths.get_index(position) else {
+            unreachable!()
+        };
+        let Some(published) = &named.published else {
+            continue;
+        };
+        if touches(map, touched, searches, &named.path, published)
+            && !own_touched(touched, &published.own)
+            && !line_touched(touched, named.path.lines())
+        {
+            for look in &published.looks {
+                longest = longest.max(Some(look.within));
+            }
+        }
+    }
+    longest
+}
+
+/// Searches from what edits touched, unless no path has a look, and, where a path is left to decide by that, from the
+/// lines that they changed. How far detours were asked, if they were.
+fn ask<M: MapRead>(
+    alloc: Global,
+    map: &M,
+    list: &Listing,
+    touched: &Touched,
+    searches: &mut Searches,
+) -> Result<Option<u32>, AllocError>
+    ensures asked { OnOk result
+        (AreAsked (M.map map.now) (M.place_in map.now) touched.now searches.new (items list.now)) }
+    ensures detours { IfOk result (λ asked. IfSome asked (AreDetours (M.map map.now) (M.place_in map.now) touched.now searches.new)) }
+{
+    searches.far = lack_looks(list);
+    if searches.far {
+        return Ok(None);
+    }
+    search_near(alloc, map, touched, &mut searches.near)?;
+    let Some(limit) = longest(map, list, touched, searches) else {
+        return Ok(None);
+    };
+    let asked = search_detours(alloc, map, touched, limit, searches)?;
+    Ok(asked)
+}
+
+/// What renewing a list on a map comes to, after the searches from what edits touched and changed.
+fn made_by<M: MapRead>(
     alloc: Global,
     map: &M,
     list: &Listing,
     before: &Listing,
     touched: &Touched,
-    work: &mut Work,
+    searches: &Searches,
+    asked: Option<u32>,
+    look: &mut Search,
+    counted: &mut Counted,
 ) -> Result<Renewal, AllocError>
-    requires { Follows (items before.now) (items list.now) }
-    ensures renewed { IfOk result (λ r. AreRenewed (M.map map.now) (nodes_of touched.now) (lines_of touched.now)
-        (items list.now) (renewed r (items list.now))) }
+    requires asked { AreAsked (M.map map.now) (M.place_in map.now) touched.now searches.now (items list.now) }
+    requires detours { IfSome asked (AreDetours (M.map map.now) (M.place_in map.now) touched.now searches.now) }
+    requires follows { Follows (items before.now) (items list.now) }
+    ensures renewed { IfOk result (λ r. (L : Map)
+        → IsBefore L (M.map map.now) (nodes_of touched.now) (lines_of touched.now) (changed_of touched.now) (items list.now)
+        → AreRemade (M.map map.now) (items list.now) (renewed r (items list.now))) }
+    ensures named { IfOk result (λ r. all_named (renewed r (items list.now)) ≡ all_named (items list.now)) }
     ensures reported { IfOk result
         (λ r. Reported (items before.now) (renewed r (items list.now)) (list_map entry_of r.entries.items)) }
-    ensures counted { OnOk result (let n = how_many (nodes_of touched.now) (lines_of touched.now) (items list.now) in
-        work.old.encodings + n < 2 ^ 64 → work.new.encodings ≡ work.old.encodings + n) }
+    ensures counted { OnOk result ((L : Map)
+        → IsBefore L (M.map map.now) (nodes_of touched.now) (lines_of touched.now) (changed_of touched.now) (items list.now)
+        → (n : ℕ) × CountIs (IsConcerned L (nodes_of touched.now) (lines_of touched.now)) (items list.now) n
+        × (counted.old.work.encodings + n < 2 ^ 64 → counted.new.work.encodings ≡ counted.old.work.encodings + n)
+        × (counted.new.kept ≤ counted.old.kept + n)) }
+    ensures searches { OnOk result (counted.old.work.searches ≤ counted.new.work.searches) }
+    ensures settled { OnOk result (counted.old.work.settled ≤ counted.new.work.settled) }
+    ensures kept { OnOk result (counted.old.kept ≤ counted.new.kept) }
 {
     let mut renewal = Renewal {
         fresh: Vec::new(alloc),
@@ -154,18 +293,77 @@ fn made<M: MapRead>(
         let Some((name, named)) = list.paths.get_index(position) else {
             unreachable!()
         };
-        if concerns(touched, named) {
-            renewal.encode(
-                alloc,
-                map,
-                before,
-                position,
-                name.as_str(),
-                &named.path,
-                work,
-            )?;
-        }
+        let fate = decide(map, touched, searches, asked, named);
+        renewal.go_on(
+            alloc,
+            map,
+            before,
+            fate,
+            position,
+            name.as_str(),
+            &named.path,
+            look,
+            counted,
+        )?;
     }
+    Ok(renewal)
+}
+
+/// What renewing a list on a map comes to, counted. After a refusal the counts are as before.
+fn made<M: MapRead>(
+    alloc: Global,
+    map: &M,
+    list: &Listing,
+    before: &Listing,
+    touched: &Touched,
+    searches: &mut Searches,
+    work: &mut Work,
+    kept: &mut u64,
+) -> Result<Renewal, AllocError>
+    requires { Follows (items before.now) (items list.now) }
+    ensures renewed { IfOk result (λ r. (L : Map)
+        → IsBefore L (M.map map.now) (nodes_of touched.now) (lines_of touched.now) (changed_of touched.now) (items list.now)
+        → AreRemade (M.map map.now) (items list.now) (renewed r (items list.now))) }
+    ensures named { IfOk result (λ r. all_named (renewed r (items list.now)) ≡ all_named (items list.now)) }
+    ensures reported { IfOk result
+        (λ r. Reported (items before.now) (renewed r (items list.now)) (list_map entry_of r.entries.items)) }
+    ensures counted { OnOk result ((L : Map)
+        → IsBefore L (M.map map.now) (nodes_of touched.now) (lines_of touched.now) (changed_of touched.now) (items list.now)
+        → (n : ℕ) × CountIs (IsConcerned L (nodes_of touched.now) (lines_of touched.now)) (items list.now) n
+        × (work.old.encodings + n < 2 ^ 64 → work.new.encodings ≡ work.old.encodings + n)
+        × (kept.new ≤ kept.old + n)) }
+    ensures searches { OnOk result (work.old.searches ≤ work.new.searches) }
+    ensures settled { OnOk result (work.old.settled ≤ work.new.settled) }
+    ensures kept { OnOk result (kept.old ≤ kept.new) }
+    ensures err_work { OnErr result (work.new ≡ work.old) }
+    ensures err_kept { OnErr result (kept.new ≡ kept.old) }
+{
+    if list.paths.is_empty() {
+        return Ok(Renewal {
+            fresh: Vec::new(alloc),
+            entries: Vec::new(alloc),
+        });
+    }
+    let asked = ask(alloc, map, list, touched, searches)?;
+    let mut look = mem::replace(&mut searches.look, Search::new(alloc));
+    let mut counted = Counted {
+        work: *work,
+        kept: *kept,
+    };
+    let renewal = made_by(
+        alloc,
+        map,
+        list,
+        before,
+        touched,
+        searches,
+        asked,
+        &mut look,
+        &mut counted,
+    )?;
+    searches.look = look;
+    *work = counted.work;
+    *kept = counted.kept;
     Ok(renewal)
 }
 
@@ -181,54 +379,113 @@ fn place(list: &mut Listing, mut fresh: Vec<(usize, Rc<Published>)>)
 }
 
 impl Listing {
-    /// Encodes on a map the paths that changes of it concern, and tells those whose answer is another than before. After a
-    /// refusal list and work are as before.
+    /// Encodes on a map the paths that are new and those whose answer changes of it can have changed, and tells those whose
+    /// answer is another than before. Each path that is concerned is counted as an encoding; `kept` counts those of them
+    /// that kept their answer. After a refusal list and counts are as before.
     pub fn renew<M: MapRead>(
         &mut self,
         alloc: Global,
         map: &M,
         touched: &Touched,
+        searches: &mut Searches,
         work: &mut Work,
+        kept: &mut u64,
     ) -> Result<Vec<Entry>, AllocError>
-        ensures renewed { OnOk result
-            (AreRenewed (M.map map.now) (nodes_of touched.now) (lines_of touched.now) (items self.old) (items self.new)) }
+        ensures renewed { OnOk result ((L : Map)
+            → IsBefore L (M.map map.now) (nodes_of touched.now) (lines_of touched.now) (changed_of touched.now) (items self.old)
+            → AreRemade (M.map map.now) (items self.old) (items self.new)) }
+        ensures named { OnOk result (all_named (items self.new) ≡ all_named (items self.old)) }
         ensures reported { IfOk result (λ es. Reported (items self.old) (items self.new) (list_map entry_of es.items)) }
-        ensures counted { OnOk result (let n = how_many (nodes_of touched.now) (lines_of touched.now) (items self.old) in
-            work.old.encodings + n < 2 ^ 64 → work.new.encodings ≡ work.old.encodings + n) }
+        ensures counted { OnOk result ((L : Map)
+            → IsBefore L (M.map map.now) (nodes_of touched.now) (lines_of touched.now) (changed_of touched.now) (items self.old)
+            → (n : ℕ) × CountIs (IsConcerned L (nodes_of touched.now) (lines_of touched.now)) (items self.old) n
+            × (work.old.encodings + n < 2 ^ 64 → work.new.encodings ≡ work.old.encodings + n)
+            × (kept.new ≤ kept.old + n)) }
+        ensures searches { OnOk result (work.old.searches ≤ work.new.searches) }
+        ensures settled { OnOk result (work.old.settled ≤ work.new.settled) }
+        ensures kept { OnOk result (kept.old ≤ kept.new) }
         ensures err { OnErr result (items self.new ≡ items self.old) }
         ensures err_work { OnErr result (work.new ≡ work.old) }
+        ensures err_kept { OnErr result (kept.new ≡ kept.old) }
     {
         let _names = self.len();
-        let mut tried = *work;
-        let Renewal { fresh, entries } = made(alloc, map, self, self, touched, &mut tried)?;
-        *work = tried;
+        let Renewal { fresh, entries } = made(
+            alloc, map, self, self, touched, searches, work, kept,
+        )?;
         place(self, fresh);
         Ok(entries)
     }
 
-    /// The same for a list that has grown out of an earlier one by held changes: told are those whose answer is another
-    /// than the one that their name had in the earlier list.
-    pub fn renew_after<M: MapRead>(
+    /// The same, where told are those whose answer is another than the one that their name had in an earlier list.
+    fn renew_after<M: MapRead>(
         &mut self,
         alloc: Global,
         map: &M,
         before: &Listing,
         touched: &Touched,
+        searches: &mut Searches,
         work: &mut Work,
+        kept: &mut u64,
     ) -> Result<Vec<Entry>, AllocError>
         requires { Follows (items before.now) (items self.old) }
-        ensures renewed { OnOk result
-            (AreRenewed (M.map map.now) (nodes_of touched.now) (lines_of touched.now) (items self.old) (items self.new)) }
+        ensures renewed { OnOk result ((L : Map)
+            → IsBefore L (M.map map.now) (nodes_of touched.now) (lines_of touched.now) (changed_of touched.now) (items self.old)
+            → AreRemade (M.map map.now) (items self.old) (items self.new)) }
+        ensures named { OnOk result (all_named (items self.new) ≡ all_named (items self.old)) }
         ensures reported { IfOk result (λ es. Reported (items before.now) (items self.new) (list_map entry_of es.items)) }
-        ensures counted { OnOk result (let n = how_many (nodes_of touched.now) (lines_of touched.now) (items self.old) in
-            work.old.encodings + n < 2 ^ 64 → work.new.encodings ≡ work.old.encodings + n) }
+        ensures counted { OnOk result ((L : Map)
+            → IsBefore L (M.map map.now) (nodes_of touched.now) (lines_of touched.now) (changed_of touched.now) (items self.old)
+            → (n : ℕ) × CountIs (IsConcerned L (nodes_of touched.now) (lines_of touched.now)) (items self.old) n
+            × (work.old.encodings + n < 2 ^ 64 → work.new.encodings ≡ work.old.encodings + n)
+            × (kept.new ≤ kept.old + n)) }
+        ensures searches { OnOk result (work.old.searches ≤ work.new.searches) }
+        ensures settled { OnOk result (work.old.settled ≤ work.new.settled) }
+        ensures kept { OnOk result (kept.old ≤ kept.new) }
         ensures err { OnErr result (items self.new ≡ items self.old) }
         ensures err_work { OnErr result (work.new ≡ work.old) }
+        ensures err_kept { OnErr result (kept.new ≡ kept.old) }
     {
-        let mut tried = *work;
-        let Renewal { fresh, entries } = made(alloc, map, self, before, touched, &mut tried)?;
-        *work = tried;
+        let Renewal { fresh, entries } = made(
+            alloc, map, self, before, touched, searches, work, kept,
+        )?;
         place(self, fresh);
+        Ok(entries)
+    }
+
+    /// The same for the list under changes, which takes the list's place. Told are those whose answer is another than the one
+    /// that their name had. After a refusal list and counts are as before.
+    pub fn renew_over<M: MapRead>(
+        &mut self,
+        alloc: Global,
+        map: &M,
+        overlay: &Overlay,
+        touched: &Touched,
+        searches: &mut Searches,
+        work: &mut Work,
+        kept: &mut u64,
+    ) -> Result<Vec<Entry>, AllocError>
+        requires names { NamesDiffer (all_named (overlaid (items self.old) overlay.now)) }
+        requires follows { Follows (items self.old) (overlaid (items self.old) overlay.now) }
+        ensures renewed { OnOk result ((L : Map) → IsBefore L (M.map map.now) (nodes_of touched.now) (lines_of touched.now)
+            (changed_of touched.now) (overlaid (items self.old) overlay.now)
+            → AreRemade (M.map map.now) (overlaid (items self.old) overlay.now) (items self.new)) }
+        ensures named { OnOk result (all_named (items self.new) ≡ all_named (overlaid (items self.old) overlay.now)) }
+        ensures reported { IfOk result (λ es. Reported (items self.old) (items self.new) (list_map entry_of es.items)) }
+        ensures counted { OnOk result ((L : Map) → IsBefore L (M.map map.now) (nodes_of touched.now) (lines_of touched.now)
+            (changed_of touched.now) (overlaid (items self.old) overlay.now) → (n : ℕ)
+            × CountIs (IsConcerned L (nodes_of touched.now) (lines_of touched.now)) (overlaid (items self.old) overlay.now) n
+            × (work.old.encodings + n < 2 ^ 64 → work.new.encodings ≡ work.old.encodings + n)
+            × (kept.new ≤ kept.old + n)) }
+        ensures searches { OnOk result (work.old.searches ≤ work.new.searches) }
+        ensures settled { OnOk result (work.old.settled ≤ work.new.settled) }
+        ensures kept { OnOk result (kept.old ≤ kept.new) }
+        ensures err { OnErr result (items self.new ≡ items self.old) }
+        ensures err_work { OnErr result (work.new ≡ work.old) }
+        ensures err_kept { OnErr result (kept.new ≡ kept.old) }
+    {
+        let mut list = overlay.laid_over(alloc, self)?;
+        let entries = list.renew_after(alloc, map, self, touched, searches, work, kept)?;
+        *self = list;
         Ok(entries)
     }
 }

@@ -1,5 +1,5 @@
 //! Paths that are added or set one at a time, and encoded at once.
-ghost use Rattle.std.specs.Prelude.{◌≡◌, ◌≢◌, ◌+◌, ◌^◌, ◌<◌, ◌⊎◌, [], ◌∷◌, ◌++◌, false, Some, map as list_map, is_some, string_bytes, option_map, IfOk, OnOk, OnErr};
+ghost use Rattle.std.specs.Prelude.{◌≡◌, ◌≢◌, ◌+◌, ◌^◌, ◌<◌, ◌≤◌, ◌⊎◌, [], ◌∷◌, ◌++◌, false, Some, map as list_map, is_some, string_bytes, option_map, IfOk, OnOk, OnErr};
 ghost use Rattle.olr_spec.specs.Encoding.{Answer};
 ghost use Rattle.olr_commands.specs.State.{path_named};
 ghost use Rattle.olr_commands.specs.Reply.{entry};
@@ -9,7 +9,8 @@ ghost use Rattle.olr_paths.specs.Changes.{set_item};
 
 use crate::encoding::publish;
 use crate::listing::{Listing, NamedPath};
-use crate::published::Published;
+use crate::renewal::tell;
+use crate::searches::Searches;
 use olr_commands::Entry;
 use olr_map::MapRead;
 use olr_refs::Path;
@@ -25,6 +26,7 @@ impl Listing {
         map: &M,
         name: String,
         path: Path,
+        searches: &mut Searches,
         work: &mut Work,
     ) -> Result<Vec<Entry>, AllocError>
         requires { is_some (path_named (all_named (items self.old)) (string_bytes name)) ≡ false }
@@ -33,11 +35,13 @@ impl Listing {
             × (list_map entry_of es.items ≡ entry (string_bytes name) m.answer ∷ [])) }
         ensures counted { OnOk result
             (work.old.encodings + 1 < 2 ^ 64 → work.new.encodings ≡ work.old.encodings + 1) }
+        ensures searches { OnOk result (work.old.searches ≤ work.new.searches) }
+        ensures settled { OnOk result (work.old.settled ≤ work.new.settled) }
         ensures err { OnErr result (items self.new ≡ items self.old) }
         ensures err_work { OnErr result (work.new ≡ work.old) }
     {
         let mut tried = *work;
-        let published = publish(alloc, map, &path, &mut tried)?;
+        let published = publish(alloc, map, &path, &mut searches.look, &mut tried)?;
         let mut entries = Vec::with_capacity(alloc, 1)?;
         entries.push(published.entry(alloc, name.as_str())?)?;
         let named = NamedPath {
@@ -57,6 +61,7 @@ impl Listing {
         map: &M,
         name: &str,
         path: Path,
+        searches: &mut Searches,
         work: &mut Work,
     ) -> Result<Vec<Entry>, AllocError>
         requires { (A : Answer) × (answer_in (items self.old) name.now ≡ Some A) }
@@ -67,41 +72,21 @@ impl Listing {
             × (list_map entry_of es.items ≡ entry name.now m.answer ∷ [])))) }
         ensures counted { OnOk result
             (work.old.encodings + 1 < 2 ^ 64 → work.new.encodings ≡ work.old.encodings + 1) }
+        ensures searches { OnOk result (work.old.searches ≤ work.new.searches) }
+        ensures settled { OnOk result (work.old.settled ≤ work.new.settled) }
         ensures err { OnErr result (items self.new ≡ items self.old) }
         ensures err_work { OnErr result (work.new ≡ work.old) }
     {
         let mut tried = *work;
-        let published = publish(alloc, map, &path, &mut tried)?;
-        let entries = self.told_if_other(alloc, name, &published)?;
+        let published = publish(alloc, map, &path, &mut searches.look, &mut tried)?;
+        let mut entries = Vec::new(alloc);
+        tell(alloc, self, name, &published, &mut entries)?;
         let named = NamedPath {
             path: Rc::new(alloc, path)?,
             published: Some(Rc::new(alloc, published)?),
         };
         self.put_other(name, named);
         *work = tried;
-        Ok(entries)
-    }
-
-    /// The entry of what is to be published under a name, unless the answer there is the same already.
-    fn told_if_other(
-        &self,
-        alloc: Global,
-        name: &str,
-        published: &Published,
-    ) -> Result<Vec<Entry>, AllocError>
-        ensures { IfOk result (λ es.
-            ((answer_in (items self.now) name.now ≡ Some (made_of published.now).answer) × (list_map entry_of es.items ≡ []))
-            ⊎ ((answer_in (items self.now) name.now ≢ Some (made_of published.now).answer)
-            × (list_map entry_of es.items ≡ entry name.now (made_of published.now).answer ∷ []))) }
-    {
-        let same = match self.published(name) {
-            Some(before) => before.has_answer_of(published),
-            None => false,
-        };
-        let mut entries = Vec::new(alloc);
-        if !same {
-            entries.push(published.entry(alloc, name)?)?;
-        }
         Ok(entries)
     }
 }

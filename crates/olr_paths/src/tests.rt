@@ -2,7 +2,7 @@ ghost use Rattle.std.specs.Prelude.{OnOk};
 ghost use Rattle.olr_paths.specs.Items.{items};
 ghost use Rattle.olr_paths.specs.Changes.{AreEncoded};
 
-use crate::{Listing, Touched};
+use crate::{Listing, Overlay, Searches, Touched};
 use olr_binary::text::from_text;
 use olr_commands::Entry;
 use olr_coords::Coord;
@@ -77,10 +77,14 @@ fn touched(rt: HostRuntime) -> Result<(), Fail> {
     let mut touched = Touched::new(alloc);
     for (from, to, number) in [(7, 3, 20), (3, 3, 10), (5, 7, 20)] {
         touched.reserve()?;
-        touched.note((node(&rt, from), node(&rt, to)), Some(line(&rt, number)));
+        touched.note(
+            (node(&rt, from), node(&rt, to)),
+            Some(line(&rt, number)),
+            None,
+        );
     }
     touched.reserve()?;
-    touched.note((node(&rt, 9), node(&rt, 9)), None);
+    touched.note((node(&rt, 9), node(&rt, 9)), None, None);
     for number in 1..=10 {
         let noted = number % 2 == 1 && number > 1;
         assert_eq!(rt; touched.has_node(node(&rt, number)), noted, "node {number}");
@@ -104,16 +108,52 @@ fn held_paths(rt: HostRuntime) -> Result<(), Fail> {
     }
     assert!(rt; list.has("a"));
     list.hold_other(alloc, "a", path(&rt, alloc, &[20])?)?;
-    let before = list.share(alloc)?;
+    assert_eq!(rt; list.len(), 3);
+    assert_eq!(rt; list.name_at(0), Some("b"));
     list.drop_path("b");
-    assert_eq!(rt; before.len(), 3);
-    assert_eq!(rt; before.name_at(0), Some("b"));
     assert_eq!(rt; list.len(), 2);
     assert_eq!(rt; list.name_at(0), Some("a"));
     assert_eq!(rt; list.name_at(1), Some("c"));
     assert_eq!(rt; list.name_at(2), None);
     assert!(rt; !list.has("b"));
     assert!(rt; list.published("a").is_none());
+    Ok(())
+}
+
+fn hold_over(
+    rt: &impl Abort,
+    alloc: Global,
+    list: &Listing,
+    overlay: &mut Overlay,
+    name: &str,
+) -> Result<(), Fail> {
+    assert!(rt; !overlay.has(list, name));
+    overlay.hold(
+        alloc,
+        String::from_str(alloc, name)?,
+        path(rt, alloc, &[20])?,
+    )?;
+    Ok(())
+}
+
+#[test]
+fn changes_over_a_list(rt: HostRuntime) -> Result<(), Fail> {
+    let alloc = rt.alloc();
+    let mut list = Listing::new(alloc);
+    hold(&rt, alloc, &mut list, "a", &[10])?;
+    hold(&rt, alloc, &mut list, "b", &[10])?;
+    let mut overlay = Overlay::new(alloc);
+    assert!(rt; overlay.has(&list, "a"));
+    overlay.hold_other(alloc, "a", path(&rt, alloc, &[20])?)?;
+    assert!(rt; overlay.has(&list, "a"));
+    overlay.drop_path(alloc, "a")?;
+    assert!(rt; !overlay.has(&list, "a"));
+    hold_over(&rt, alloc, &list, &mut overlay, "a")?;
+    assert!(rt; overlay.has(&list, "a"));
+    overlay.drop_path(alloc, "a")?;
+    assert!(rt; !overlay.has(&list, "a"));
+    assert!(rt; overlay.has(&list, "b"));
+    assert!(rt; list.has("a"));
     Ok(())
 }
 
@@ -130,7 +170,14 @@ fn add(
 {
     assert!(rt; !list.has(name));
     let path = path(rt, alloc, numbers)?;
-    Ok(list.add(alloc, map, String::from_str(alloc, name)?, path, work)?)
+    Ok(list.add(
+        alloc,
+        map,
+        String::from_str(alloc, name)?,
+        path,
+        &mut Searches::new(alloc),
+        work,
+    )?)
 }
 
 fn set(
@@ -143,7 +190,14 @@ fn set(
     work: &mut Work,
 ) -> Result<Vec<Entry>, Fail> {
     assert!(rt; list.published(name).is_some());
-    Ok(list.set(alloc, map, name, path(rt, alloc, numbers)?, work)?)
+    Ok(list.set(
+        alloc,
+        map,
+        name,
+        path(rt, alloc, numbers)?,
+        &mut Searches::new(alloc),
+        work,
+    )?)
 }
 
 /// Whether this is the entry of a path that names a line which the map has not.

@@ -6,29 +6,44 @@ ghost use Rattle.olr_spec.specs.Extension.{has};
 use olr_map::{LineId, NodeId};
 use std::alloc::{AllocError, Global};
 
-/// The nodes and the lines that edits touched, each once, rising.
+/// Where a changed line begins and ends, and the lesser of its lengths before and after, in decimetres: its length, where
+/// it was added or dropped.
+#[derive(Clone, Copy, Debug)]
+pub struct ChangedLine {
+    /// Where it begins.
+    pub from: NodeId,
+    /// Where it ends.
+    pub to: NodeId,
+    /// In decimetres.
+    pub len: u32,
+}
+
+/// The nodes and the lines that edits touched, each once, rising, and the lines that they changed.
 #[derive(Drop, Debug)]
 pub struct Touched {
     pub(crate) nodes: Vec<NodeId>,
     pub(crate) lines: Vec<LineId>,
+    pub(crate) changed: Vec<ChangedLine>,
     ghost nodes_rise: { IsStrictlyIncreasing nodes.items },
     ghost lines_rise: { IsStrictlyIncreasing lines.items },
 }
 
 impl Touched {
-    ghost use Rattle.std.specs.Prelude.{◌≡◌, ◌==◌, ◌||◌, ℕ, [], OnOk, OnErr, IsTrue, Some};
+    ghost use Rattle.std.specs.Prelude.{◌≡◌, ◌==◌, ◌||◌, ◌++◌, ℕ, [], map, OnOk};
     ghost use Rattle.std.specs.Option.{option_to_list};
     ghost use Rattle.olr_spec.specs.Extension.{has};
-    ghost use Rattle.olr_paths.specs.Touching.{nodes_of, lines_of, HasRoom};
+    ghost use Rattle.olr_paths.specs.Touching.{nodes_of, lines_of, change_of, changed_of, HasRoom};
 
     /// Nothing touched. Takes no memory.
     pub fn new(alloc: Global) -> Touched
         ensures nodes { nodes_of result ≡ [] }
         ensures lines { lines_of result ≡ [] }
+        ensures changed { changed_of result ≡ [] }
     {
         Touched {
             nodes: Vec::new(alloc),
             lines: Vec::new(alloc),
+            changed: Vec::new(alloc),
         }
     }
 
@@ -36,22 +51,36 @@ impl Touched {
     pub fn reserve(&mut self) -> Result<(), AllocError>
         ensures nodes { nodes_of self.new ≡ nodes_of self.old }
         ensures lines { lines_of self.new ≡ lines_of self.old }
+        ensures changed { changed_of self.new ≡ changed_of self.old }
         ensures room { OnOk result (HasRoom self.new) }
     {
         self.nodes.reserve(2)?;
-        self.lines.reserve(1)
+        self.lines.reserve(1)?;
+        self.changed.reserve(1)
     }
 
-    /// Notes two nodes, which may be the same, and a line. Takes no memory.
-    pub fn note(&mut self, nodes: (NodeId, NodeId), line: Option<LineId>)
+    /// Notes two nodes, which may be the same, a line, and how a line was changed. Takes no memory.
+    pub fn note(
+        &mut self,
+        nodes: (NodeId, NodeId),
+        line: Option<LineId>,
+        changed: Option<ChangedLine>,
+    )
         requires { HasRoom self.old }
         ensures nodes { (v : ℕ) → has (nodes_of self.new) v ≡ (has (nodes_of self.old) v || ((nodes.0 == v) || (nodes.1 == v))) }
         ensures lines { (x : ℕ) → has (lines_of self.new) x ≡ (has (lines_of self.old) x || has (option_to_list line) x) }
+        ensures changed { changed_of self.new ≡ changed_of self.old ++ map change_of (option_to_list changed) }
     {
         put_node(&mut self.nodes, nodes.0);
         put_node(&mut self.nodes, nodes.1);
         if let Some(line) = line {
             put_line(&mut self.lines, line);
+        }
+        if let Some(changed) = changed {
+            match self.changed.push(changed) {
+                Ok(()) => (),
+                Err(_) => unreachable!(),
+            }
         }
     }
 

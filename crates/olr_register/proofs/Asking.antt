@@ -1,13 +1,19 @@
 -- What the register shows of its paths.
 use Rattle.std.proofs.Common.{◌≡◌, ℕ, true, false, cond, List, [], ◌∷◌, map, Option, Some, None, refl, sym, ap, ◌∙◌, subst}
-use Rattle.std.specs.Prelude.{is_some, slice_get, option_map, option_and_then, MatchOption, IsSomeAnd}
+use Rattle.std.specs.Prelude.{◌↔◌, Contains, is_some, slice_get, option_map, option_and_then, MatchOption, IsSomeAnd}
 use Rattle.std.specs.Result.{result_ok}
 use Rattle.olr_spec.specs.Map.{Map}
 use Rattle.olr_spec.specs.Encoding.{Answer, Encodes}
+use Rattle.olr_spec.specs.Extension.{Path}
+use Rattle.olr_spec.specs.Footprint.{Foot}
+use Rattle.olr_map.specs.RoadMaps.{map_of}
+use Rattle.olr_map.specs.declared.road_map.RoadMap.{RoadMap}
 use Rattle.olr_commands.specs.State.{Named, Content, IsContent, same_name, path_named}
 use Rattle.olr_commands.specs.Reply.{Entry, entry, Published, PublishedText, published, Shown, AllOf}
 use Rattle.olr_paths.specs.Items.{Made, Item, AreMade, all_named, made_in, answer_in}
 use Rattle.olr_paths.specs.Changes.{AreEncoded, Reported}
+use Rattle.olr_register.specs.Holding.{map_kept}
+use Rattle.olr_register.specs.declared.batch.Batch.{Batch}
 use Rattle.olr_register.proofs.Replies.{answer_held, reported_all}
 
 pub answer_published : (M : Map) (is : List Item) (name : List ℕ) → AreMade M is → Published (record { map = M; paths = all_named is }) name (answer_in is name)
@@ -64,3 +70,15 @@ shown_entry M is c name A es e sound made there told =
 
 pub all_told : (M : Map) (is : List Item) (c : Content) (es : List Entry) → record { map = M; paths = all_named is } ≡ c → AreMade M is → Reported [] is es → AllOf c.map c.paths es
 all_told M is c es e made told = subst (λ (d : Content). AllOf d.map d.paths es) e (reported_all M is es made told)
+
+-- ---- the footprint of a path, where no batch is open
+
+abbrev pub FootprintIn : Content → List ℕ → Option (List ℕ) → Type 0
+FootprintIn c name o = MatchOption (path_named c.paths name) (o ≡ None) (λ P. IsSomeAnd o (λ f. (v : ℕ) → Contains f v ↔ Foot c.map P v))
+
+pub footprint_is : (roads : RoadMap) (is : List Item) (b : Option Batch) (c : Content) (name : List ℕ) (P : Path) (f : List ℕ) → is_some b ≡ false → record { map = map_kept roads b; paths = all_named is } ≡ c
+    → path_named (all_named is) name ≡ Some P → ((v : ℕ) → Contains f v ↔ Foot (map_of roads) P v) → FootprintIn c name (Some f)
+footprint_is roads is (Some b) c name P f none e there holds = absurd cc
+footprint_is roads is None c name P f none e there holds =
+    subst (λ (d : Content). FootprintIn d name (Some f)) e
+    (subst (λ (o : Option Path). MatchOption o (◌≡◌ {A = Option (List ℕ)} (Some f) None) (λ P. IsSomeAnd (Some f) (λ g. (v : ℕ) → Contains g v ↔ Foot (map_of roads) P v))) (sym there) holds)

@@ -3,28 +3,29 @@ use Rattle.std.proofs.Common.{◌≡◌, ℕ, arith, true, false, List, [], ◌�
 use Rattle.std.specs.Prelude.{is_none}
 use Rattle.olr_spec.specs.Map.{Map, IsMap}
 use Rattle.olr_spec.specs.Extension.{has}
-use Rattle.olr_map.specs.Changes.{room_of}
+use Rattle.olr_map.specs.Changes.{room_of, all_node_puts, all_line_puts}
 use Rattle.olr_map.specs.Undos.{CanMakeAll, made_all, changes_of}
 use Rattle.olr_map.specs.RoadMaps.{map_of, map_before}
 use Rattle.olr_map.specs.declared.road_map.RoadMap.{RoadMap}
-use Rattle.olr_commands.specs.State.{Named, Memory, Batch_open, Change, Command, Make, Begin, Abort, step, IsContent}
+use Rattle.olr_commands.specs.State.{Named, Batch_open, Change, Command, Make, Begin, Abort, step, IsContent}
 use Rattle.olr_commands.specs.Reply as replies
-use Rattle.olr_commands.specs.Reply.{IsRefusal, Told, Lacks}
+use Rattle.olr_commands.specs.Reply.{IsRefusal, Told}
 use Rattle.olr_commands.specs.Kept.{named_held, IsBatchOf}
 use Rattle.olr_commands.specs.Registered.{Registered}
 use Rattle.olr_commands.specs.Words.{fault_of, reply_of}
 use Rattle.olr_commands.specs.declared.reply.Reply.{Reply}
 use Rattle.olr_commands.specs.declared.fault.CommandFault.{CommandFault}
 use Rattle.olr_commands.specs.declared.fault.CommandFault.TheVariants as rust
-use Rattle.olr_route.specs.declared.work.Work.{Work}
-use Rattle.olr_paths.specs.Items.{Made, Item, items, AreMade}
+use Rattle.olr_paths.specs.Items.{Made, Item, AreMade, AreMadeIfAny}
+use Rattle.olr_paths.specs.Laying.{overlaid}
 use Rattle.olr_paths.specs.Changes.{Follows}
-use Rattle.olr_paths.specs.Touching.{nodes_of, lines_of}
-use Rattle.olr_register.specs.Holding.{Carried, AreMadeIfAny, held_of, kept_of, batch_of, IsHeld, IsRegister}
+use Rattle.olr_paths.specs.Touching.{nodes_of, lines_of, changed_of}
+use Rattle.olr_register.specs.Holding.{IsNoted, held_of, kept_of, batch_of, IsHeld, IsRegister}
 use Rattle.olr_register.specs.Answering.{Answered}
 use Rattle.olr_register.specs.Given.{AreGiven, Given}
 use Rattle.olr_register.specs.declared.batch.Batch.{Batch}
-use Rattle.olr_register.proofs.Carried.{carried_none}
+use Rattle.olr_register.proofs.Tallies.{Tally}
+use Rattle.olr_register.proofs.Noted.{noted_none}
 use Rattle.olr_register.proofs.Renewed.{made_if_any}
 use Rattle.olr_register.proofs.Followed.{follows_self}
 use Rattle.olr_register.proofs.HoldLists.{named_twice}
@@ -32,17 +33,17 @@ use Rattle.olr_register.proofs.HoldChanges.{content_from, content_on}
 use Rattle.olr_register.proofs.BatchStates.{state, registered, in_batch, no_batch, refused, begun, aborted}
 use Rattle.olr_register.proofs.BatchSteps.{answered_given}
 
-abbrev pub of_parts : RoadMap → List Item → Option Batch → Work → Registered
-of_parts roads is o w = record { kept = kept_of roads is o; work = w }
+abbrev pub of_parts : RoadMap → List Item → Option Batch → Tally → Registered
+of_parts roads is o w = record { kept = kept_of roads is o; work = w.work; spared = w.spared }
 
 -- where the batch is known
-pub at : (old : RoadMap) (is : List Item) (o p : Option Batch) (w : Work) (x : Command) (result : Result Reply CommandFault) (new : Registered)
+pub at : (old : RoadMap) (is : List Item) (o p : Option Batch) (w : Tally) (x : Command) (result : Result Reply CommandFault) (new : Registered)
     → o ≡ p → Answered (of_parts old is p w) x result new → Answered (of_parts old is o w) x result new
 at old is o p w x result new e h = subst (λ (q : Option Batch). Answered (of_parts old is q w) x result new) (sym e) h
 
 -- ---- none is open
 
-pub none_refused : (old : RoadMap) (is : List Item) (o p : Option Batch) (w : Work) (x : Command) (f : CommandFault)
+pub none_refused : (old : RoadMap) (is : List Item) (o p : Option Batch) (w : Tally) (x : Command) (f : CommandFault)
     → o ≡ None → p ≡ None → step (state (content_on (map_of old) is) None) x ≡ Err (fault_of f) → Answered (of_parts old is o w) x (Err f) (of_parts old is p w)
 none_refused old is o p w x f e g told =
     let c = content_on (map_of old) is in
@@ -51,23 +52,23 @@ none_refused old is o p w x f e g told =
 
 -- ---- abort
 
-pub abort_done : (old new : RoadMap) (is : List Item) (o p : Option Batch) (b : Batch) (w : Work) (r : Reply) → o ≡ Some b → p ≡ None → reply_of r ≡ replies.Paths []
+pub abort_done : (old new : RoadMap) (is : List Item) (o p : Option Batch) (b : Batch) (w : Tally) (r : Reply) → o ≡ Some b → p ≡ None → reply_of r ≡ replies.Paths []
     → map_of new ≡ map_before old b.log → Answered (of_parts old is o w) Abort (Ok r) (of_parts new is p w)
 abort_done old new is o p b w r e g empty same =
     let c = content_on (map_before old b.log) is in
     at old is o (Some b) w Abort (Ok r) (of_parts new is p w) e
     (subst (λ (q : Option Batch). Answered (of_parts old is (Some b) w) Abort (Ok r) (of_parts new is q w)) (sym g)
-    (aborted c (content_on (map_of new) is) (batch_of old b) w r empty (ap (λ (M : Map). content_on M is) same)))
+    (aborted c (content_on (map_of new) is) (batch_of old is b) w r empty (ap (λ (M : Map). content_on M is) same)))
 
 -- ---- a change that is given
 
-pub given_answered : (old new : RoadMap) (is : List Item) (o p : Option Batch) (b d : Batch) (w : Work) (x : Change) (r : Result Reply CommandFault) → o ≡ Some b → p ≡ Some d
-    → map_before new d.log ≡ map_before old b.log → Given (batch_of old b) x r (batch_of new d) → Answered (of_parts old is o w) (Make x) r (of_parts new is p w)
+pub given_answered : (old new : RoadMap) (is : List Item) (o p : Option Batch) (b d : Batch) (w : Tally) (x : Change) (r : Result Reply CommandFault) → o ≡ Some b → p ≡ Some d
+    → map_before new d.log ≡ map_before old b.log → Given (batch_of old is b) x r (batch_of new is d) → Answered (of_parts old is o w) (Make x) r (of_parts new is p w)
 given_answered old new is o p b d w x r e g same given =
     at old is o (Some b) w (Make x) r (of_parts new is p w) e
     (subst (λ (q : Option Batch). Answered (of_parts old is (Some b) w) (Make x) r (of_parts new is q w)) (sym g)
-    (subst (λ (M : Map). Answered (of_parts old is (Some b) w) (Make x) r (registered (content_on M is) (Some (batch_of new d)) w)) (sym same)
-    (answered_given (content_on (map_before old b.log) is) (batch_of old b) (batch_of new d) w x r given)))
+    (subst (λ (M : Map). Answered (of_parts old is (Some b) w) (Make x) r (registered (content_on M is) (Some (batch_of new is d)) w)) (sym same)
+    (answered_given (content_on (map_before old b.log) is) (batch_of old is b) (batch_of new is d) w x r given)))
 
 pub given_held : (old new : RoadMap) (is : List Item) (o : Option Batch) (b d : Batch) → o ≡ Some b → IsRegister old is o → map_before new d.log ≡ map_before old b.log
     → (IsHeld old is b → IsHeld new is d) → IsRegister new is (Some d)
@@ -84,44 +85,39 @@ first_sound roads is o b e reg = let was : IsRegister roads is (Some b) = subst 
 
 -- ---- begin
 
-pub open_refused : (old : RoadMap) (is : List Item) (o : Option Batch) (w : Work) → is_some o ≡ true → Answered (of_parts old is o w) Begin (Err rust.BatchOpen) (of_parts old is o w)
+pub open_refused : (old : RoadMap) (is : List Item) (o : Option Batch) (w : Tally) → is_some o ≡ true → Answered (of_parts old is o w) Begin (Err rust.BatchOpen) (of_parts old is o w)
 open_refused old is None w e = absurd cc
 open_refused old is (Some b) w e =
     let s = of_parts old is (Some b) w in
-    refused s s Begin rust.BatchOpen refl (in_batch (content_on (map_before old b.log) is) (batch_of old b) (λ s. IsRefusal s Begin Batch_open) (λ xs i. Told refl))
-
-pub begin_lacks : (old : RoadMap) (is : List Item) (o : Option Batch) (w : Work) → is_some o ≡ false → Answered (of_parts old is o w) Begin (Err rust.Memory) (of_parts old is o w)
-begin_lacks old is (Some b) w e = absurd cc
-begin_lacks old is None w e =
-    let s = of_parts old is None w in
-    refused s s Begin rust.Memory refl (no_batch (content_on (map_of old) is) (λ s. IsRefusal s Begin Memory) (Lacks refl refl))
+    refused s s Begin rust.BatchOpen refl (in_batch (content_on (map_before old b.log) is) (batch_of old is b) (λ s. IsRefusal s Begin Batch_open) (λ xs i. Told refl))
 
 -- a batch that holds nothing
-pub record IsEmpty (is : List Item) (b : Batch) : Type 0 where
+pub record IsEmpty (b : Batch) : Type 0 where
   pub log : changes_of b.log ≡ []
-  pub paths : items b.paths ≡ is
+  pub paths : (js : List Item) → overlaid js b.overlay ≡ js
   pub count : b.count ≡ 0
   pub nodes : nodes_of b.touched ≡ []
   pub lines : lines_of b.touched ≡ []
+  pub changed : changed_of b.touched ≡ []
 
 given_at_first : (M : Map) (is : List Item) → AreMade M is → AreGiven [] (map held_of is)
 given_at_first M [] a = tt
 given_at_first M (i ∷ is) a = (ap (λ (o : Option Made). is_none o) a.0.1, given_at_first M is a.1)
 
-empty_batch : (roads : RoadMap) (is : List Item) (b : Batch) → AreMade (map_of roads) is → IsEmpty is b → IsBatchOf (content_on (map_of roads) is) (batch_of roads b) []
+empty_batch : (roads : RoadMap) (is : List Item) (b : Batch) → AreMade (map_of roads) is → IsEmpty b → IsBatchOf (content_on (map_of roads) is) (batch_of roads is b) []
 empty_batch roads is b a e =
     record {
-      content = ap (λ (ps : List Named). content_from (map_of roads) ps) (ap (λ (ks : List Item). map named_held (map held_of ks)) e.paths ∙ named_twice is);
+      content = ap (λ (ps : List Named). content_from (map_of roads) ps) (ap (λ (ks : List Item). map named_held (map held_of ks)) (e.paths is) ∙ named_twice is);
       count = e.count;
       nodes = λ v. ap (λ (vs : List ℕ). has vs v) e.nodes;
       lines = λ y. ap (λ (ys : List ℕ). has ys y) e.lines;
-      given = subst (λ (ks : List Item). AreGiven [] (map held_of ks)) (sym e.paths) (given_at_first (map_of roads) is a);
+      given = subst (λ (ks : List Item). AreGiven [] (map held_of ks)) (sym (e.paths is)) (given_at_first (map_of roads) is a);
     }
 
 same_before : (roads : RoadMap) (b : Batch) → changes_of b.log ≡ [] → map_before roads b.log ≡ map_of roads
 same_before roads b e = ap (made_all (map_of roads)) e
 
-pub begun_held : (roads : RoadMap) (is : List Item) (o : Option Batch) (b : Batch) → is_some o ≡ false → IsRegister roads is o → IsEmpty is b → IsRegister roads is (Some b)
+pub begun_held : (roads : RoadMap) (is : List Item) (o : Option Batch) (b : Batch) → is_some o ≡ false → IsRegister roads is o → IsEmpty b → IsRegister roads is (Some b)
 begun_held roads is (Some d) b none r e = absurd cc
 begun_held roads is None b none r e =
     let same = same_before roads b e.log in
@@ -129,21 +125,23 @@ begun_held roads is None b none r e =
       content = subst (λ (M : Map). IsContent (content_on M is)) (sym same) r.content;
       made = subst (λ (M : Map). AreMade M is) (sym same) r.made;
       held = record {
-        undo = subst (CanMakeAll (map_of roads) (room_of roads.tables)) (sym e.log) tt;
-        sound = subst (λ (ks : List Item). IsContent (content_on (map_of roads) ks)) (sym e.paths) r.content;
+        undo = (
+          subst (CanMakeAll (map_of roads) (room_of roads.tables)) (sym e.log) tt,
+          let nodes : b.log.nodes ≡ 0 = b.log.nodes_counted ∙ ap all_node_puts e.log in
+              let lines : b.log.lines ≡ 0 = b.log.lines_counted ∙ ap all_line_puts e.log in
+              record { nodes = omega arith; lines = omega arith },
+        );
+        sound = subst (λ (ks : List Item). IsContent (content_on (map_of roads) ks)) (sym (e.paths is)) r.content;
         few = let none_yet = e.count in omega arith;
-        carried =
-            subst (λ (M : Map). Carried M (map_of roads) (nodes_of b.touched) (lines_of b.touched)) (sym same)
-            (subst (λ (ns : List ℕ). Carried (map_of roads) (map_of roads) ns (lines_of b.touched)) (sym e.nodes)
-            (subst (λ (ys : List ℕ). Carried (map_of roads) (map_of roads) [] ys) (sym e.lines) (carried_none (map_of roads))));
-        made = subst (λ (M : Map). AreMadeIfAny M (items b.paths)) (sym same) (subst (AreMadeIfAny (map_of roads)) (sym e.paths) (made_if_any (map_of roads) is r.made));
-        follows = subst (Follows is) (sym e.paths) (follows_self is r.content.names);
+        noted = coe 0 1 (i. IsNoted (sym same i) (map_of roads) (sym e.nodes i) (sym e.lines i) (sym e.changed i)) (noted_none (map_of roads));
+        made = subst (λ (M : Map). AreMadeIfAny M (overlaid is b.overlay)) (sym same) (subst (AreMadeIfAny (map_of roads)) (sym (e.paths is)) (made_if_any (map_of roads) is r.made));
+        follows = subst (Follows is) (sym (e.paths is)) (follows_self is r.content.names);
       };
     }
 
-pub begin_done : (roads : RoadMap) (is : List Item) (o : Option Batch) (b : Batch) (w : Work) (r : Reply) → is_some o ≡ false → IsRegister roads is o → IsEmpty is b → reply_of r ≡ replies.Paths []
+pub begin_done : (roads : RoadMap) (is : List Item) (o : Option Batch) (b : Batch) (w : Tally) (r : Reply) → is_some o ≡ false → IsRegister roads is o → IsEmpty b → reply_of r ≡ replies.Paths []
     → Answered (of_parts roads is o w) Begin (Ok r) (of_parts roads is (Some b) w)
 begin_done roads is (Some d) b w r none reg e empty = absurd cc
 begin_done roads is None b w r none reg e empty =
-    subst (λ (M : Map). Answered (of_parts roads is None w) Begin (Ok r) (registered (content_on M is) (Some (batch_of roads b)) w)) (sym (same_before roads b e.log))
-    (begun (content_on (map_of roads) is) (batch_of roads b) w r empty (empty_batch roads is b reg.made e))
+    subst (λ (M : Map). Answered (of_parts roads is None w) Begin (Ok r) (registered (content_on M is) (Some (batch_of roads is b)) w)) (sym (same_before roads b e.log))
+    (begun (content_on (map_of roads) is) (batch_of roads is b) w r empty (empty_batch roads is b reg.made e))

@@ -1,21 +1,21 @@
 -- One more change in an open batch, as the definitions of commands see it.
 use Rattle.std.proofs.Common.{◌≡◌, ℕ, suc, arith, Bool, true, false, not, List, [], ◌∷◌, ◌++◌, length, Some, Result, Ok, Err, refl, sym, ap, ◌∙◌, subst, append_assoc}
-use Rattle.std.specs.Prelude.{◌==◌, ◌||◌, nat_le, flat_map}
+use Rattle.std.specs.Prelude.{◌==◌, ◌&&◌, ◌||◌, nat_le, flat_map}
 use Rattle.std.proofs.lemmas.List.{append-nil}
 use Rattle.std.proofs.lemmas.List.Folds.{list_any-append}
 use Rattle.olr_spec.specs.Extension.{has}
-use Rattle.olr_commands.specs.State.{Content, Fault, Batch_full, full, when, Change, changed, next, after, State, Make, held, step, brought}
+use Rattle.olr_commands.specs.State.{Content, Fault, Batch_full, full, when, Change, On_map, Add_path, Set_path, Drop_path, changed, next, after, State, Make, held, step, brought}
 use Rattle.olr_commands.specs.Reply as replies
-use Rattle.olr_commands.specs.Reply.{IsRefusal, IsOutcome, IsHeld, may_want, may_lack, is_told_first}
+use Rattle.olr_commands.specs.Reply.{IsRefusal, IsOutcome, IsHeld, takes_memory, may_want, may_lack, is_told_first}
 use Rattle.olr_commands.specs.Counts.{nodes_of, lines_of, names_of, all_nodes, all_lines, all_names}
 use Rattle.olr_commands.specs.Kept.{Batch, IsBatchOf, Stands, content_of}
 use Rattle.olr_commands.specs.Words.{fault_of, reply_of}
 use Rattle.olr_commands.specs.declared.reply.Reply.{Reply}
 use Rattle.olr_commands.specs.declared.fault.CommandFault.{CommandFault}
 use Rattle.olr_commands.proofs.StateLemmas.{when_ok, next_ok, after_push, length_push}
-use Rattle.olr_route.specs.declared.work.Work.{Work}
 use Rattle.olr_register.specs.Answering.{Answered}
 use Rattle.olr_register.specs.Given.{taken, AreGiven, IsAdded, IsRefused, Told, Lacks, Given}
+use Rattle.olr_register.proofs.Tallies.{Tally}
 use Rattle.olr_register.proofs.BatchStates.{state, registered, in_batch, refused, quiet}
 
 -- ---- what is held, with one change more
@@ -61,7 +61,7 @@ one_more c b d xs x i a =
 
 -- ---- the answer
 
-accepted : (c : Content) (b d : Batch) (w : Work) (x : Change) (r : Reply) → IsAdded b x d → reply_of r ≡ replies.Held d.count → Answered (registered c (Some b) w) (Make x) (Ok r) (registered c (Some d) w)
+accepted : (c : Content) (b d : Batch) (w : Tally) (x : Change) (r : Reply) → IsAdded b x d → reply_of r ≡ replies.Held d.count → Answered (registered c (Some b) w) (Make x) (Ok r) (registered c (Some d) w)
 accepted c b d w x r a e =
     quiet (registered c (Some b) w) (record { content = c; batch = Some d }) (Make x) r (in_batch c b (λ s. brought s (Make x) ≡ []) (λ xs i. refl))
     (in_batch c b (λ s. (t : State) × Stands (record { content = c; batch = Some d }) t × IsOutcome s (Make x) (Ok (reply_of r)) t)
@@ -73,11 +73,20 @@ may_by : (c : Content) (ys : List Change) (r : Result Content Fault) → ((g : F
 may_by c ys (Ok d) first = refl
 may_by c ys (Err g) first = ap not (first g refl)
 
+-- what is held takes memory
+held_takes : (x : Change) (xs : List Change) → takes_memory (Make x) (Some xs) ≡ true
+held_takes (On_map e) xs = refl
+held_takes (Add_path name path) xs = refl
+held_takes (Set_path name path) xs = refl
+held_takes (Drop_path name) xs = refl
+
 refusal : (c : Content) (b : Batch) (x : Change) (f : Fault) → IsRefused (taken b x) f → (xs : List Change) → IsBatchOf c b xs → IsRefusal (state c (Some xs)) (Make x) f
 refusal c b x f (Told e) xs i = replies.Told (step_given c b xs x i ∙ ap (held c (xs ++ x ∷ [])) e)
-refusal c b x f (Lacks e first) xs i = replies.Lacks e (ap may_want (step_given c b xs x i) ∙ may_by c (xs ++ x ∷ []) (taken b x) first)
+refusal c b x f (Lacks e first) xs i =
+    let may = ap may_want (step_given c b xs x i) ∙ may_by c (xs ++ x ∷ []) (taken b x) first in
+    replies.Lacks e (λ j. held_takes x xs j && may j)
 
-pub answered_given : (c : Content) (b d : Batch) (w : Work) (x : Change) (r : Result Reply CommandFault) → Given b x r d → Answered (registered c (Some b) w) (Make x) r (registered c (Some d) w)
+pub answered_given : (c : Content) (b d : Batch) (w : Tally) (x : Change) (r : Result Reply CommandFault) → Given b x r d → Answered (registered c (Some b) w) (Make x) r (registered c (Some d) w)
 answered_given c b d w x (Ok r) g = accepted c b d w x r g.added g.reply
 answered_given c b d w x (Err f) g =
     refused (registered c (Some b) w) (registered c (Some d) w) (Make x) f (ap (λ (e : Batch). registered c (Some e) w) g.unchanged)

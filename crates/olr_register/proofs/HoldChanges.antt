@@ -1,5 +1,5 @@
 -- What an open batch makes of a change, as its parts have it.
-use Rattle.std.proofs.Common.{inl, inr, ◌⊎◌, ◌≡◌, ℕ, ◌+◌, arith, Bool, true, false, not, List, [], ◌∷◌, ◌++◌, map, filter, None, is_some, Ok, Err, refl, sym, ap, ◌∙◌, subst}
+use Rattle.std.proofs.Common.{inl, inr, ◌⊎◌, ◌≡◌, ℕ, ◌+◌, arith, Bool, true, false, not, List, [], ◌∷◌, ◌++◌, map, filter, None, is_some, Result, Ok, Err, refl, sym, ap, ◌∙◌, subst}
 use Rattle.std.specs.Prelude.{◌||◌, nat_le}
 use Rattle.std.proofs.Math.Bool.{or-false}
 use Rattle.std.proofs.lemmas.Bool.{leb-false}
@@ -18,10 +18,11 @@ use Rattle.olr_commands.specs.declared.reply.Reply.{Reply}
 use Rattle.olr_commands.specs.declared.fault.CommandFault.{CommandFault}
 use Rattle.olr_commands.specs.declared.fault.CommandFault.TheVariants as rust
 use Rattle.olr_commands.proofs.StateLemmas.{changes_keep}
-use Rattle.olr_paths.specs.Items.{Item, items, all_named}
+use Rattle.olr_paths.specs.Items.{Item, AreMadeIfAny, all_named}
 use Rattle.olr_paths.specs.Changes.{Follows, set_item}
-use Rattle.olr_paths.specs.declared.listing.Listing.{Listing}
-use Rattle.olr_register.specs.Holding.{AreMadeIfAny, held_of, IsHeld}
+use Rattle.olr_paths.specs.Laying.{overlaid}
+use Rattle.olr_paths.specs.declared.overlay.Overlay.{Overlay}
+use Rattle.olr_register.specs.Holding.{held_of, IsHeld}
 use Rattle.olr_register.specs.Given.{AreGiven, Told, Lacks, Given}
 use Rattle.olr_register.specs.declared.batch.Batch.{Batch}
 use Rattle.olr_register.proofs.Listed.{names_add, names_set, names_drop, any_add, any_set}
@@ -151,31 +152,41 @@ pub bad_path_last : (b : Bool) (c : Content) (g : Fault) → when b Bad_path (Ok
 bad_path_last true c g e = let same : Bad_path ≡ g = cc in ap is_told_first (sym same)
 bad_path_last false c g e = absurd cc
 
+-- a path that is there is dropped, unless memory lacks
+never_refused : (c : Content) (g : Fault) → ◌≡◌ {A = Result Content Fault} (Ok c) (Err g) → is_told_first g ≡ false
+never_refused c g e = absurd cc
+
+pub given_not_dropped : (M : Map) (is js : List Item) (n : ℕ) (ns ys name : List ℕ) → nat_le full n ≡ false → has_name is name ≡ true → js ≡ is
+    → Given (batch_on M is n ns ys) (Drop_path name) (Err rust.Memory) (batch_on M js n ns ys)
+given_not_dropped M is js n ns ys name room there same =
+    given_lacks M is js n ns ys (Drop_path name) rust.Memory room refl
+    (λ g h. never_refused (content_on M (filter (λ i. not (same_name i.name name)) is)) g (sym (drop_ok M is name there) ∙ h)) same
+
 -- ---- what is true of the batch
 
-pub held_same : (roads : RoadMap) (before : List Item) (b : Batch) (l : Listing) → items l ≡ items b.paths → IsHeld roads before b
-    → IsHeld roads before (record { log = b.log; paths = l; count = b.count; touched = b.touched })
+pub held_same : (roads : RoadMap) (before : List Item) (b : Batch) (l : Overlay) → overlaid before l ≡ overlaid before b.overlay → IsHeld roads before b
+    → IsHeld roads before (record { log = b.log; overlay = l; count = b.count; touched = b.touched })
 held_same roads before b l same h =
     record {
       undo = h.undo;
       sound = subst (λ (is : List Item). IsContent (content_on (map_of roads) is)) (sym same) h.sound;
       few = h.few;
-      carried = h.carried;
+      noted = h.noted;
       made = subst (AreMadeIfAny (map_before roads b.log)) (sym same) h.made;
       follows = subst (Follows before) (sym same) h.follows;
     }
 
-pub held_path : (roads : RoadMap) (before : List Item) (b : Batch) (l : Listing) (js : List Item) (x : Change) → items l ≡ js → nat_le full b.count ≡ false
-    → changed (content_on (map_of roads) (items b.paths)) x ≡ Ok (content_on (map_of roads) js) → HasPlaces (Make x)
+pub held_path : (roads : RoadMap) (before : List Item) (b : Batch) (l : Overlay) (js : List Item) (x : Change) → overlaid before l ≡ js → nat_le full b.count ≡ false
+    → changed (content_on (map_of roads) (overlaid before b.overlay)) x ≡ Ok (content_on (map_of roads) js) → HasPlaces (Make x)
     → AreMadeIfAny (map_before roads b.log) js → Follows before js → IsHeld roads before b
-    → IsHeld roads before (record { log = b.log; paths = l; count = b.count + 1; touched = b.touched })
+    → IsHeld roads before (record { log = b.log; overlay = l; count = b.count + 1; touched = b.touched })
 held_path roads before b l js x same room e placed made follows h =
     let few = leb-false full b.count room in
     record {
       undo = h.undo;
-      sound = subst (λ (is : List Item). IsContent (content_on (map_of roads) is)) (sym same) (changes_keep (content_on (map_of roads) (items b.paths)) (content_on (map_of roads) js) x h.sound placed e);
+      sound = subst (λ (is : List Item). IsContent (content_on (map_of roads) is)) (sym same) (changes_keep (content_on (map_of roads) (overlaid before b.overlay)) (content_on (map_of roads) js) x h.sound placed e);
       few = omega arith;
-      carried = h.carried;
+      noted = h.noted;
       made = subst (AreMadeIfAny (map_before roads b.log)) (sym same) made;
       follows = subst (Follows before) (sym same) follows;
     }
@@ -204,11 +215,11 @@ given_added M is ks n ns ys name path p r room free good same_path same told =
     given_held_path M is (one_added is name path) ks n ns ys (Add_path name path) r room (add_ok M is name path free good) (same ∙ ap (one_added is name) same_path) refl refl
     (λ names g. given_add name path names is free g) told
 
-pub held_added : (roads : RoadMap) (before : List Item) (b : Batch) (l : Listing) (name : List ℕ) (path p : Path) → nat_le full b.count ≡ false → has_name (items b.paths) name ≡ false
-    → is_path path.lines ≡ true → p ≡ path → items l ≡ one_added (items b.paths) name p → IsHeld roads before b → IsHeld roads before (record { log = b.log; paths = l; count = b.count + 1; touched = b.touched })
+pub held_added : (roads : RoadMap) (before : List Item) (b : Batch) (l : Overlay) (name : List ℕ) (path p : Path) → nat_le full b.count ≡ false → has_name (overlaid before b.overlay) name ≡ false
+    → is_path path.lines ≡ true → p ≡ path → overlaid before l ≡ one_added (overlaid before b.overlay) name p → IsHeld roads before b → IsHeld roads before (record { log = b.log; overlay = l; count = b.count + 1; touched = b.touched })
 held_added roads before b l name path p room free good same_path same h =
-    held_path roads before b l (one_added (items b.paths) name path) (Add_path name path) (same ∙ ap (one_added (items b.paths) name) same_path) room (add_ok (map_of roads) (items b.paths) name path free good) tt
-    (any_add (map_before roads b.log) (items b.paths) name path h.made) (follows_add before (items b.paths) name path h.follows) h
+    held_path roads before b l (one_added (overlaid before b.overlay) name path) (Add_path name path) (same ∙ ap (one_added (overlaid before b.overlay) name) same_path) room (add_ok (map_of roads) (overlaid before b.overlay) name path free good) tt
+    (any_add (map_before roads b.log) (overlaid before b.overlay) name path h.made) (follows_add before (overlaid before b.overlay) name path h.follows) h
 
 abbrev pub one_set : List Item → List ℕ → Path → List Item
 one_set is name path = map (set_item name path None) is
@@ -219,8 +230,8 @@ given_other M is ks n ns ys name path p r room there good same_path same told =
     given_held_path M is (one_set is name path) ks n ns ys (Set_path name path) r room (set_ok M is name path there good) (same ∙ ap (one_set is name) same_path) refl refl
     (λ names g. given_set name path names is g) told
 
-pub held_other : (roads : RoadMap) (before : List Item) (b : Batch) (l : Listing) (name : List ℕ) (path p : Path) → nat_le full b.count ≡ false → has_name (items b.paths) name ≡ true
-    → is_path path.lines ≡ true → p ≡ path → items l ≡ one_set (items b.paths) name p → IsHeld roads before b → IsHeld roads before (record { log = b.log; paths = l; count = b.count + 1; touched = b.touched })
+pub held_other : (roads : RoadMap) (before : List Item) (b : Batch) (l : Overlay) (name : List ℕ) (path p : Path) → nat_le full b.count ≡ false → has_name (overlaid before b.overlay) name ≡ true
+    → is_path path.lines ≡ true → p ≡ path → overlaid before l ≡ one_set (overlaid before b.overlay) name p → IsHeld roads before b → IsHeld roads before (record { log = b.log; overlay = l; count = b.count + 1; touched = b.touched })
 held_other roads before b l name path p room there good same_path same h =
-    held_path roads before b l (one_set (items b.paths) name path) (Set_path name path) (same ∙ ap (one_set (items b.paths) name) same_path) room (set_ok (map_of roads) (items b.paths) name path there good) tt
-    (any_set (map_before roads b.log) (items b.paths) name path h.made) (follows_set before (items b.paths) name path h.follows) h
+    held_path roads before b l (one_set (overlaid before b.overlay) name path) (Set_path name path) (same ∙ ap (one_set (overlaid before b.overlay) name) same_path) room (set_ok (map_of roads) (overlaid before b.overlay) name path there good) tt
+    (any_set (map_before roads b.log) (overlaid before b.overlay) name path h.made) (follows_set before (overlaid before b.overlay) name path h.follows) h

@@ -3,14 +3,13 @@ pub mod BatchCommit
 pub mod BatchEnds
 pub mod BatchStates
 pub mod BatchSteps
-pub mod Carried
+pub mod Noted
 pub mod Counting
 pub mod Followed
 pub mod HoldChanges
 pub mod HoldEdits
 pub mod HoldLists
 pub mod Listed
-pub mod Members
 pub mod Outcomes
 pub mod Renewed
 pub mod Replies
@@ -20,4 +19,5 @@ pub mod SingleEdit
 pub mod SinglePath
 pub mod Singles
 pub mod Texts
+pub mod Tallies
 pub mod Told

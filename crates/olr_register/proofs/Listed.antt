@@ -4,9 +4,8 @@ use Rattle.std.specs.Prelude.{IfSome}
 use Rattle.olr_spec.specs.Map.{Map}
 use Rattle.olr_spec.specs.Extension.{Path}
 use Rattle.olr_commands.specs.State.{Named, same_name, with_path}
-use Rattle.olr_paths.specs.Items.{Made, Item, IsMade, AreMade, named, all_named}
+use Rattle.olr_paths.specs.Items.{Made, Item, IsMade, AreMade, AreMadeIfAny, named, all_named}
 use Rattle.olr_paths.specs.Changes.{set_item}
-use Rattle.olr_register.specs.Holding.{AreMadeIfAny}
 
 -- ---- names and paths
 

@@ -1,5 +1,5 @@
 -- What it takes to answer a command that leaves the register as it was.
-use Rattle.std.proofs.Common.{inr, ◌≡◌, ℕ, Bool, true, false, not, List, [], ◌∷◌, Option, Some, None, is_some, Ok, Err, refl, sym, ap, ◌∙◌, subst, add-zero}
+use Rattle.std.proofs.Common.{arith, inr, ◌≡◌, ℕ, Bool, true, false, not, List, [], ◌∷◌, Option, Some, None, is_some, Ok, Err, refl, sym, ap, ◌∙◌, subst, add-zero}
 use Rattle.olr_spec.specs.Extension.{Path}
 use Rattle.olr_spec.specs.Reference.{Reference}
 use Rattle.olr_commands.specs.State as state
@@ -13,6 +13,7 @@ use Rattle.olr_commands.specs.Words.{reply_of, fault_of}
 use Rattle.olr_commands.specs.declared.reply.Reply.{Reply}
 use Rattle.olr_commands.specs.declared.fault.CommandFault.{CommandFault}
 use Rattle.olr_register.specs.Answering.{Answered}
+use Rattle.olr_register.proofs.Tallies.{none_falls}
 
 unconcerned : (c : Content) (p : Named) → ¬ Concerns c [] p
 unconcerned c p (By_name h) = absurd cc
@@ -29,11 +30,14 @@ pub answered_same : (x : Registered) (c : Command) (r : Reply) → ((s : State) 
 answered_same x c r h none = record {
   outcome = λ s stands. (s, stands, h s stands);
   counted = λ s t stands later. (0, subst (λ (xs : List Change). CountIs (Concerns s.content xs) t.content.paths 0) (sym (none s)) (nothing_raised s.content t.content.paths), λ few. sym (add-zero _));
+  spares = λ s t stands later. (0, subst (λ (xs : List Change). CountIs (Concerns s.content xs) t.content.paths 0) (sym (none s)) (nothing_raised s.content t.content.paths), omega arith);
+  rises = none_falls x;
+  same = λ e. (refl, refl);
   unchanged = tt;
 }
 
 pub answered_refused : (x : Registered) (c : Command) (f : CommandFault) → ((s : State) → Stands x.kept s → IsRefusal s c (fault_of f)) → Answered x c (Err f) x
-answered_refused x c f h = record { outcome = λ s stands. (s, stands, (h s stands, refl)); counted = tt; unchanged = refl }
+answered_refused x c f h = record { outcome = λ s stands. (s, stands, (h s stands, refl)); counted = tt; spares = tt; rises = tt; same = tt; unchanged = refl }
 
 -- ---- show
 

@@ -1,19 +1,22 @@
 -- By how much changes outside of batches raise the count.
-use Rattle.std.proofs.Common.{arith, append-nil, inr, ◌≡◌, ℕ, ◌+◌, ◌<◌, ◌^◌, false, List, [], ◌∷◌, map, Option, Some, None, Ok, refl, sym, ap, ◌∙◌, subst}
+use Rattle.std.proofs.Common.{arith, append-nil, inr, ◌≡◌, ℕ, ◌+◌, ◌<◌, ◌≤◌, ◌^◌, Bool, false, true, is_some, IsFalse, List, [], ◌∷◌, map, Option, Some, None, Ok, refl, sym, ap, ◌∙◌, subst}
 use Rattle.std.specs.Prelude.{is_none}
+use Rattle.std.proofs.lemmas.Bool.{both_ways}
+use Rattle.olr_route.specs.declared.work.Work.{Work}
 use Rattle.std.specs.List.{AllByRecursion}
 use Rattle.olr_spec.specs.Map.{Map, Edit, touched_nodes, touched_lines}
 use Rattle.olr_spec.specs.Extension.{Path, has}
-use Rattle.olr_commands.specs.State.{Named, Content, IsContent, Change, On_map, Add_path, Set_path, Drop_path, changed, State, Command, Make, made, step, brought}
+use Rattle.olr_commands.specs.State.{Named, Content, IsContent, Change, On_map, Add_path, Set_path, Drop_path, changed, State, Make, made, step}
 use Rattle.olr_commands.specs.Counts.{Concerns, By_name, By_node, By_line, CountIs, Raises}
 use Rattle.olr_commands.specs.Kept.{Kept, Stands, StandsIn}
-use Rattle.olr_commands.specs.Registered.{Registered, Counted}
+use Rattle.olr_commands.specs.Registered.{Registered}
 use Rattle.olr_commands.proofs.CountLemmas.{paths_raise}
 use Rattle.olr_paths.specs.Items.{Item, AreMade, all_named}
-use Rattle.olr_paths.specs.Changes.{how_many}
+use Rattle.olr_paths.specs.Changes.{IsConcerned}
 use Rattle.olr_register.specs.Holding.{held_of}
-use Rattle.olr_register.proofs.Renewed.{made_if_any}
+use Rattle.olr_register.specs.Sparing.{encodes, NoneFalls, SameCounts}
 use Rattle.olr_register.proofs.Counting.{counted_changes}
+use Rattle.olr_register.proofs.Tallies.{Tallied}
 
 -- ---- states in which a register stands that holds no batch
 
@@ -27,14 +30,34 @@ one_state k s none h =
     λ i. record { content = sym h.0 i; batch = closed i }
 
 -- a number by which each such step raises
-counted_by : (old new : Registered) (x : Change) (n : ℕ) → old.kept.batch ≡ None → new.kept.batch ≡ None
+raised_by : (old new : Registered) (x : Change) (n : ℕ) → old.kept.batch ≡ None → new.kept.batch ≡ None
     → Raises (record { content = old.kept.content; batch = None }) (Make x) (record { content = new.kept.content; batch = None }) n
-    → (old.work.encodings + n < 2 ^ 64 → new.work.encodings ≡ old.work.encodings + n) → Counted old (Make x) new
-counted_by old new x n was later raises counts =
-    λ s t h k.
+    → (s t : State) → Stands old.kept s → Stands new.kept t → Raises s (Make x) t n
+raised_by old new x n was later raises s t h k =
     let from = sym (one_state old.kept s was h) in
     let to = sym (one_state new.kept t later k) in
-    (n, coe 0 1 (i. Raises (from i) (Make x) (to i) n) raises, counts)
+    coe 0 1 (i. Raises (from i) (Make x) (to i) n) raises
+
+-- what is counted of it
+pub record Rise (old new : Registered) (n : ℕ) : Type 0 where
+  pub encodings : old.work.encodings + n < 2 ^ 64 → new.work.encodings ≡ old.work.encodings + n
+  pub spared : new.spared ≤ old.spared + n
+
+tallied_by : (old new : Registered) (x : Change) (n : ℕ) → old.kept.batch ≡ None → new.kept.batch ≡ None
+    → Raises (record { content = old.kept.content; batch = None }) (Make x) (record { content = new.kept.content; batch = None }) n
+    → Rise old new n → NoneFalls old new → (IsFalse (encodes (is_some old.kept.batch) (Make x)) → SameCounts old new) → Tallied old (Make x) new
+tallied_by old new x n was later raises rise falls same = record {
+  counted = λ s t h k. (n, raised_by old new x n was later raises s t h k, rise.encodings);
+  spares = λ s t h k. (n, raised_by old new x n was later raises s t h k, rise.spared);
+  rises = falls;
+  same = same;
+}
+
+-- outside of batches an edit and a path that is given encode
+encodes_closed : (old new : Registered) (x : Change) → old.kept.batch ≡ None → encodes false (Make x) ≡ true → IsFalse (encodes (is_some old.kept.batch) (Make x)) → SameCounts old new
+encodes_closed old new x was e off =
+    let closed : is_some old.kept.batch ≡ false = ap is_some was in
+    absurd (both_ways (encodes false (Make x)) (ap (λ (b : Bool). encodes b (Make x)) (sym closed) ∙ off) e)
 
 -- ---- edits
 
@@ -43,19 +66,20 @@ none_given : (M : Map) (is : List Item) → AreMade M is → AllByRecursion (λ 
 none_given M [] a = tt
 none_given M (i ∷ is) a = (ap is_none a.0.1, none_given M is a.1)
 
--- the count of an edit is how many paths were encoded
-pub counted_edit : (old new : Registered) (M : Map) (is : List Item) (e : Edit) (ns xs : List ℕ) → old.kept ≡ record { content = record { map = M; paths = all_named is }; batch = None }
+-- the count of an edit is how many paths it concerns
+pub tallied_edit : (old new : Registered) (M : Map) (is : List Item) (e : Edit) (ns xs : List ℕ) (n : ℕ) → old.kept ≡ record { content = record { map = M; paths = all_named is }; batch = None }
     → new.kept.batch ≡ None → new.kept.content.paths ≡ all_named is → AreMade M is
     → ((v : ℕ) → has ns v ≡ has (touched_nodes M e) v) → ((x : ℕ) → has xs x ≡ has (touched_lines e) x)
-    → (old.work.encodings + how_many ns xs is < 2 ^ 64 → new.work.encodings ≡ old.work.encodings + how_many ns xs is) → Counted old (Make (On_map e)) new
-counted_edit old new M is e ns xs was later paths a nodes lines counts =
+    → CountIs (IsConcerned M ns xs) is n → Rise old new n → NoneFalls old new → Tallied old (Make (On_map e)) new
+tallied_edit old new M is e ns xs n was later paths a nodes lines count rise falls =
     let c : Content = record { map = M; paths = all_named is } in
     let changes : List Change = On_map e ∷ [] in
-    let number = counted_changes c changes is ns xs (λ v. nodes v ∙ ap (λ (vs : List ℕ). has vs v) (sym (append-nil (touched_nodes M e)))) (λ x. lines x ∙ ap (λ (ys : List ℕ). has ys x) (sym (append-nil (touched_lines e)))) (none_given M is a) (made_if_any M is a) in
+    let number =
+    counted_changes c changes ns xs (λ v. nodes v ∙ ap (λ (vs : List ℕ). has vs v) (sym (append-nil (touched_nodes M e)))) (λ x. lines x ∙ ap (λ (ys : List ℕ). has ys x) (sym (append-nil (touched_lines e)))) is n (none_given M is a) count in
     let content_is : old.kept.content ≡ c = ap (λ (k : Kept). k.content) was in
-    counted_by old new (On_map e) (how_many ns xs is) (ap (λ (k : Kept). k.batch) was) later
-    (coe 0 1 (i. CountIs (Concerns (sym content_is i) changes) (sym paths i) (how_many ns xs is)) number)
-    counts
+    let closed : old.kept.batch ≡ None = ap (λ (k : Kept). k.batch) was in
+    tallied_by old new (On_map e) n closed later (coe 0 1 (i. CountIs (Concerns (sym content_is i) changes) (sym paths i) n) number) rise falls
+    (encodes_closed old new (On_map e) closed refl)
 
 -- ---- paths
 
@@ -63,23 +87,23 @@ made_state : (c d : Content) (x : Change) → changed c x ≡ Ok d → step (rec
 made_state c d x e = ap made e
 
 -- a path that is added, or set, raises by one
-pub counted_add : (old new : Registered) (name : List ℕ) (path : Path) → IsContent old.kept.content → old.kept.batch ≡ None → new.kept.batch ≡ None
+pub tallied_add : (old new : Registered) (name : List ℕ) (path : Path) → IsContent old.kept.content → old.kept.batch ≡ None → new.kept.batch ≡ None
     → changed old.kept.content (Add_path name path) ≡ Ok new.kept.content
-    → (old.work.encodings + 1 < 2 ^ 64 → new.work.encodings ≡ old.work.encodings + 1) → Counted old (Make (Add_path name path)) new
-counted_add old new name path content was later is counts =
-    counted_by old new (Add_path name path) 1 was later
+    → Rise old new 1 → NoneFalls old new → Tallied old (Make (Add_path name path)) new
+tallied_add old new name path content was later is rise falls =
+    tallied_by old new (Add_path name path) 1 was later
     ((paths_raise (record { content = old.kept.content; batch = None }) (record { content = new.kept.content; batch = None }) name path (record { content = content; batch = tt }) refl).0
     (made_state old.kept.content new.kept.content (Add_path name path) is))
-    counts
+    rise falls (encodes_closed old new (Add_path name path) was refl)
 
-pub counted_set : (old new : Registered) (name : List ℕ) (path : Path) → IsContent old.kept.content → old.kept.batch ≡ None → new.kept.batch ≡ None
+pub tallied_set : (old new : Registered) (name : List ℕ) (path : Path) → IsContent old.kept.content → old.kept.batch ≡ None → new.kept.batch ≡ None
     → changed old.kept.content (Set_path name path) ≡ Ok new.kept.content
-    → (old.work.encodings + 1 < 2 ^ 64 → new.work.encodings ≡ old.work.encodings + 1) → Counted old (Make (Set_path name path)) new
-counted_set old new name path content was later is counts =
-    counted_by old new (Set_path name path) 1 was later
+    → Rise old new 1 → NoneFalls old new → Tallied old (Make (Set_path name path)) new
+tallied_set old new name path content was later is rise falls =
+    tallied_by old new (Set_path name path) 1 was later
     ((paths_raise (record { content = old.kept.content; batch = None }) (record { content = new.kept.content; batch = None }) name path (record { content = content; batch = tt }) refl).1
     (made_state old.kept.content new.kept.content (Set_path name path) is))
-    counts
+    rise falls (encodes_closed old new (Set_path name path) was refl)
 
 -- one that is dropped by none
 none_counted : {A : Type 0} (P : A → Type 0) → ((x : A) → ¬ P x) → (xs : List A) → CountIs P xs 0
@@ -91,21 +115,14 @@ drop_concerns c name p (By_name h) = absurd cc
 drop_concerns c name p (By_node v h f) = absurd cc
 drop_concerns c name p (By_line x h f) = absurd cc
 
-pub counted_drop : (old new : Registered) (name : List ℕ) → old.kept.batch ≡ None → new.kept.batch ≡ None → new.work.encodings ≡ old.work.encodings → Counted old (Make (Drop_path name)) new
-counted_drop old new name was later same =
-    counted_by old new (Drop_path name) 0 was later
+pub tallied_drop : (old new : Registered) (name : List ℕ) → old.kept.batch ≡ None → new.kept.batch ≡ None → SameCounts old new → Tallied old (Make (Drop_path name)) new
+tallied_drop old new name was later same =
+    let encodings : new.work.encodings ≡ old.work.encodings = ap (λ (w : Work). w.encodings) same.0 in
+    let searches : new.work.searches ≡ old.work.searches = ap (λ (w : Work). w.searches) same.0 in
+    let settled : new.work.settled ≡ old.work.settled = ap (λ (w : Work). w.settled) same.0 in
+    let spared : new.spared ≡ old.spared = same.1 in
+    tallied_by old new (Drop_path name) 0 was later
     (none_counted (Concerns old.kept.content (Drop_path name ∷ [])) (drop_concerns old.kept.content name) new.kept.content.paths)
-    (λ room. omega arith)
-
--- ---- commands that bring nothing
-
-nothing_concerns : (c : Content) (p : Named) → ¬ Concerns c [] p
-nothing_concerns c p (By_name h) = absurd cc
-nothing_concerns c p (By_node v h f) = absurd cc
-nothing_concerns c p (By_line x h f) = absurd cc
-
-pub counted_none : (old new : Registered) (c : Command) → ((s : State) → Stands old.kept s → brought s c ≡ []) → new.work.encodings ≡ old.work.encodings → Counted old c new
-counted_none old new c nothing same =
-    λ s t h k.
-    let brings = nothing s h in
-    (0, subst (λ (xs : List Change). CountIs (Concerns s.content xs) t.content.paths 0) (sym brings) (none_counted (Concerns s.content []) (nothing_concerns s.content) t.content.paths), λ room. omega arith)
+    (record { encodings = λ room. omega arith; spared = omega arith })
+    (record { searches = omega arith; settled = omega arith; spared = omega arith })
+    (λ off. same)

@@ -1,92 +1,108 @@
 -- An edit of the map that is made at once.
-use Rattle.std.proofs.Common.{◌≡◌, ℕ, ◌+◌, ◌<◌, ◌^◌, Bool, List, [], Option, Some, None, Result, Ok, Err, refl, sym, ap, ◌∙◌, subst}
+use Rattle.std.proofs.Common.{◌≡◌, ℕ, ◌+◌, ◌<◌, ◌≤◌, ◌^◌, Bool, List, [], ◌++◌, Option, None, Result, Ok, Err, IsOk, refl, sym, ap, ◌∙◌, subst}
 use Rattle.std.specs.Prelude.{MatchResult, ◌||◌}
 use Rattle.olr_spec.specs.Map.{Map, Edit, MapFault, edited, touched_nodes, touched_lines}
 use Rattle.olr_spec.specs.Laws.{HasPlace}
 use Rattle.olr_spec.specs.Extension.{has}
+use Rattle.olr_spec.specs.Detours.{ChangedLine, changes_of}
 use Rattle.olr_map.specs.Edits as edits
 use Rattle.olr_map.specs.declared.edit.EditFault.{EditFault}
+use Rattle.olr_map.specs.declared.judging.Judged.{Judged}
 use Rattle.olr_map.specs.RoadMaps.{map_of}
 use Rattle.olr_map.specs.declared.road_map.RoadMap.{RoadMap}
-use Rattle.olr_route.specs.declared.work.Work.{Work}
 use Rattle.olr_commands.specs.State as state
 use Rattle.olr_commands.specs.State.{Named, Content, IsContent, Fault, Map_fault, On_map, with_map, changed, made, Make}
 use Rattle.olr_commands.specs.Reply as told
 use Rattle.olr_commands.specs.Reply.{may_want}
+use Rattle.olr_commands.specs.Counts.{CountIs}
 use Rattle.olr_commands.specs.Registered.{Registered}
 use Rattle.olr_commands.specs.Words.{reply_of, fault_of, map_fault_of}
 use Rattle.olr_commands.specs.declared.reply.Reply.{Reply}
 use Rattle.olr_commands.specs.declared.fault.CommandFault.{CommandFault}
 use Rattle.olr_commands.specs.declared.fault.CommandFault.TheVariants as fault
 use Rattle.olr_paths.specs.Items.{Item, all_named}
-use Rattle.olr_paths.specs.Changes.{AreRenewed, Reported, how_many}
+use Rattle.olr_paths.specs.Changes.{IsBefore, IsConcerned, AreRemade, Reported}
 use Rattle.olr_register.specs.Holding.{IsRegister}
 use Rattle.olr_register.specs.Answering.{Answered}
+use Rattle.olr_register.specs.Sparing.{NoneFalls}
 use Rattle.olr_register.specs.declared.batch.Batch.{Batch}
-use Rattle.olr_register.proofs.Renewed.{renewed_names}
-use Rattle.olr_register.proofs.Rising.{counted_edit}
+use Rattle.olr_register.proofs.Tallies.{Tally}
+use Rattle.olr_register.proofs.Noted.{noted_edit, is_before}
+use Rattle.olr_register.proofs.Renewed.{made_if_any}
+use Rattle.olr_register.proofs.Rising.{tallied_edit}
 use Rattle.olr_register.proofs.Told.{RenewedAll, renewed_edit}
 use Rattle.olr_register.proofs.Singles.{accepted_now, told_now, lacks_now, seen, closed_by, is_closed, told_by_map}
 
--- ---- what `refusal` tells
+-- ---- what judging tells
 
-pub refused_is : (r : Result Map MapFault) (f : EditFault) → MatchResult r (λ _. Some f ≡ None) (λ g. Some f ≡ Some (edits.fault_of g)) → (g : MapFault) × (r ≡ Err g) × (f ≡ edits.fault_of g)
+pub refused_is : (r : Result Map MapFault) (f : EditFault) → MatchResult r (λ _. IsOk {T = Judged} (Err f)) (λ g. ◌≡◌ {A = Result Judged EditFault} (Err f) (Err (edits.fault_of g))) → (g : MapFault) × (r ≡ Err g) × (f ≡ edits.fault_of g)
 refused_is (Ok N) f h = absurd cc
 refused_is (Err g) f h = (g, refl, cc)
 
-pub taken_is : (r : Result Map MapFault) (o : Option EditFault) → o ≡ None → MatchResult r (λ _. o ≡ None) (λ g. o ≡ Some (edits.fault_of g)) → (N : Map) × (r ≡ Ok N)
-taken_is (Ok N) o none h = (N, refl)
-taken_is (Err g) o none h = absurd (let no : ◌≡◌ {A = Option EditFault} None (Some (edits.fault_of g)) = sym none ∙ h in cc)
+pub taken_is : (r : Result Map MapFault) → IsOk r → (N : Map) × (r ≡ Ok N)
+taken_is (Ok N) h = (N, refl)
+taken_is (Err g) h = absurd cc
 
 -- ---- refused
 
-pub edit_refused : (roads : RoadMap) (is : List Item) (b : Option Batch) (w : Work) (x : Registered) (e : Edit) (g : MapFault) (f : EditFault) → seen roads is b w ≡ x → x.kept.batch ≡ None
+pub edit_refused : (roads : RoadMap) (is : List Item) (b : Option Batch) (w : Tally) (x : Registered) (e : Edit) (g : MapFault) (f : EditFault) → seen roads is b w ≡ x → x.kept.batch ≡ None
     → edited (map_of roads) e ≡ Err g → f ≡ edits.fault_of g → Answered x (Make (On_map e)) (Err (fault.Map f)) x
 edit_refused roads is b w x e g f view none refused is_that =
     let closed : b ≡ None = closed_by roads is b w x view none in
     let there : x.kept.content.map ≡ map_of roads = ap (λ (y : Registered). y.kept.content.map) (sym view) ∙ ap (λ (o : Option Batch). (seen roads is o w).kept.content.map) closed in
     told_now x (On_map e) (Map_fault g) (fault.Map f) none (ap (with_map x.kept.content) (ap (λ (M : Map). edited M e) there ∙ refused)) (ap map_fault_of is_that ∙ told_by_map g)
 
-pub edit_lacks : (roads : RoadMap) (is : List Item) (b : Option Batch) (w : Work) (x : Registered) (e : Edit) (N : Map) (f : CommandFault) → seen roads is b w ≡ x → x.kept.batch ≡ None
+pub edit_lacks : (roads : RoadMap) (is : List Item) (b : Option Batch) (w : Tally) (x : Registered) (e : Edit) (N : Map) (f : CommandFault) → seen roads is b w ≡ x → x.kept.batch ≡ None
     → edited (map_of roads) e ≡ Ok N → fault_of f ≡ state.Memory → Answered x (Make (On_map e)) (Err f) x
 edit_lacks roads is b w x e N f view none taken says =
     let closed : b ≡ None = closed_by roads is b w x view none in
     let there : x.kept.content.map ≡ map_of roads = ap (λ (y : Registered). y.kept.content.map) (sym view) ∙ ap (λ (o : Option Batch). (seen roads is o w).kept.content.map) closed in
-    lacks_now x (On_map e) f none (ap (λ (r : Result Map MapFault). may_want (made (with_map x.kept.content r))) (ap (λ (M : Map). edited M e) there ∙ taken)) says
+    lacks_now x (On_map e) f none refl (ap (λ (r : Result Map MapFault). may_want (made (with_map x.kept.content r))) (ap (λ (M : Map). edited M e) there ∙ taken)) says
 
 -- ---- what is noted of an edit
 
 pub noted : (was now : List ℕ) (f g : ℕ → Bool) → was ≡ [] → ((v : ℕ) → has now v ≡ (has was v || f v)) → ((v : ℕ) → g v ≡ f v) → (v : ℕ) → has now v ≡ g v
 noted was now f g none h same v = h v ∙ ap (λ (vs : List ℕ). has vs v || f v) none ∙ sym (same v)
 
+pub changes_noted : (was now told : List ChangedLine) → was ≡ [] → now ≡ was ++ told → {all : List ChangedLine} → told ≡ all → now ≡ all
+changes_noted was now told none h same = h ∙ ap (λ (cs : List ChangedLine). cs ++ told) none ∙ same
+
 -- ---- accepted
 
-module _ (roads later : RoadMap) (is js : List Item) (b : Option Batch) (w : Work) (x : Registered) (e : Edit) (ns xs : List ℕ) (es : List told.Entry)
-    (view : seen roads is b w ≡ x) (none : x.kept.batch ≡ None) (right : IsRegister roads is b) (place : HasPlace e) (taken : edited (map_of roads) e ≡ Ok (map_of later))
-    (nodes : (v : ℕ) → has ns v ≡ has (touched_nodes (map_of roads) e) v) (lines : (y : ℕ) → has xs y ≡ has (touched_lines e) y)
-    (renewed : AreRenewed (map_of later) ns xs is js) (reported : Reported is js es) where
+module _ (roads later : RoadMap) (is js : List Item) (b : Option Batch) (w : Tally) (x : Registered) (e : Edit) (es : List told.Entry)
+    (view : seen roads is b w ≡ x) (none : x.kept.batch ≡ None) (right : IsRegister roads is b) (place : HasPlace e) (taken : edited (map_of roads) e ≡ Ok (map_of later)) where
   was_closed : b ≡ None
   was_closed = closed_by roads is b w x view none
 
   was_right : IsRegister roads is None
   was_right = subst (IsRegister roads is) was_closed right
 
-  all : RenewedAll (map_of roads) (map_of later) is js es
-  all = renewed_edit (map_of roads) (map_of later) e is js ns xs es was_right.content place taken was_right.made nodes lines renewed reported
+  module _ (ns xs : List ℕ) (cs : List ChangedLine) (nodes : (v : ℕ) → has ns v ≡ has (touched_nodes (map_of roads) e) v) (lines : (y : ℕ) → has xs y ≡ has (touched_lines e) y)
+      (changed_lines : cs ≡ changes_of (map_of roads) e) where
+    -- what the renewal asks for
+    pub edit_before : (N : Map) → N ≡ map_of later → IsBefore (map_of roads) N ns xs cs is
+    edit_before N same =
+        subst (λ (M : Map). IsBefore (map_of roads) M ns xs cs is) (sym same)
+        (is_before (map_of roads) (map_of later) ns xs cs is (noted_edit (map_of roads) (map_of later) e ns xs cs taken nodes lines changed_lines) was_right.content.map was_right.content.paths
+        (made_if_any (map_of roads) is was_right.made))
 
-  pub edit_keeps : IsRegister later js b
-  edit_keeps = is_closed later js b was_closed all.content all.made
+    module _ (remade : AreRemade (map_of later) is js) (names : all_named js ≡ all_named is) (reported : Reported is js es) where
+      all : RenewedAll (map_of roads) (map_of later) is js es
+      all = renewed_edit (map_of roads) (map_of later) e is js es was_right.content place taken was_right.made remade names reported
 
-  module _ (u : Work) (q : Reply) (says : reply_of q ≡ told.Paths es) (counts : w.encodings + how_many ns xs is < 2 ^ 64 → u.encodings ≡ w.encodings + how_many ns xs is) where
-    answered : Answered (seen roads is None w) (Make (On_map e)) (Ok q) (seen later js None u)
-    answered =
-        let names = renewed_names (map_of later) ns xs is js renewed in
-        let there : changed (seen roads is None w).kept.content (On_map e) ≡ Ok (seen later js None u).kept.content =
-        ap (with_map (record { map = map_of roads; paths = all_named is })) taken ∙ ap (λ (ps : List Named). Ok (record { map = map_of later; paths = ps })) (sym names) in
-        accepted_now (seen roads is None w) (seen later js None u) (On_map e) q es refl refl there says all.differences
-        (counted_edit (seen roads is None w) (seen later js None u) (map_of roads) is e ns xs refl refl names was_right.made nodes lines counts)
+      pub edit_keeps : IsRegister later js b
+      edit_keeps = is_closed later js b was_closed all.content all.made
 
-    pub edit_done : Answered x (Make (On_map e)) (Ok q) (seen later js b u)
-    edit_done =
-        subst (λ (o : Option Batch). Answered x (Make (On_map e)) (Ok q) (seen later js o u)) (sym was_closed)
-        (subst (λ (y : Registered). Answered y (Make (On_map e)) (Ok q) (seen later js None u)) (ap (λ (o : Option Batch). seen roads is o w) (sym was_closed) ∙ view) answered)
+      module _ (u : Tally) (q : Reply) (n : ℕ) (says : reply_of q ≡ told.Paths es) (count : CountIs (IsConcerned (map_of roads) ns xs) is n)
+          (encodings : w.work.encodings + n < 2 ^ 64 → u.work.encodings ≡ w.work.encodings + n) (spared : u.spared ≤ w.spared + n) (falls : NoneFalls (seen roads is None w) (seen later js None u)) where
+        answered : Answered (seen roads is None w) (Make (On_map e)) (Ok q) (seen later js None u)
+        answered =
+            let there : changed (seen roads is None w).kept.content (On_map e) ≡ Ok (seen later js None u).kept.content =
+            ap (with_map (record { map = map_of roads; paths = all_named is })) taken ∙ ap (λ (ps : List Named). Ok (record { map = map_of later; paths = ps })) (sym names) in
+            accepted_now (seen roads is None w) (seen later js None u) (On_map e) q es refl refl there says all.differences
+            (tallied_edit (seen roads is None w) (seen later js None u) (map_of roads) is e ns xs n refl refl names was_right.made nodes lines count (record { encodings = encodings; spared = spared }) falls)
+
+        pub edit_done : Answered x (Make (On_map e)) (Ok q) (seen later js b u)
+        edit_done =
+            subst (λ (o : Option Batch). Answered x (Make (On_map e)) (Ok q) (seen later js o u)) (sym was_closed)
+            (subst (λ (y : Registered). Answered y (Make (On_map e)) (Ok q) (seen later js None u)) (ap (λ (o : Option Batch). seen roads is o w) (sym was_closed) ∙ view) answered)

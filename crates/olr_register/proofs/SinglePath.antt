@@ -1,10 +1,9 @@
 -- A path that is added, set or dropped at once.
-use Rattle.std.proofs.Common.{inl, inr, ◌⊎◌, ◌≡◌, ◌≢◌, ℕ, ◌+◌, ◌<◌, ◌^◌, Bool, true, false, not, List, [], ◌∷◌, ◌++◌, map, Option, Some, None, is_some, Result, Ok, Err, IsTrue, refl, sym, ap, ◌∙◌, subst}
+use Rattle.std.proofs.Common.{inl, inr, ◌⊎◌, ◌≡◌, ◌≢◌, ℕ, ◌+◌, ◌<◌, ◌≤◌, ◌^◌, arith, Bool, true, false, not, List, [], ◌∷◌, ◌++◌, map, Option, Some, None, is_some, Result, Ok, Err, IsTrue, refl, sym, ap, ◌∙◌, subst}
 use Rattle.std.specs.List.{filter}
 use Rattle.olr_spec.specs.Extension.{Path, is_path}
 use Rattle.olr_map.specs.RoadMaps.{map_of}
 use Rattle.olr_map.specs.declared.road_map.RoadMap.{RoadMap}
-use Rattle.olr_route.specs.declared.work.Work.{Work}
 use Rattle.olr_commands.specs.State as state
 use Rattle.olr_commands.specs.State.{Named, Content, IsContent, same_name, path_named, has_path, with_path, Fault, Path_exists, No_path, Bad_path, when, Add_path, Set_path, Drop_path, changed, made, Make}
 use Rattle.olr_commands.specs.Reply as told
@@ -19,9 +18,11 @@ use Rattle.olr_paths.specs.Items.{Made, Item, IsMade, AreMade, all_named, answer
 use Rattle.olr_paths.specs.Changes.{set_item}
 use Rattle.olr_register.specs.Holding.{IsRegister}
 use Rattle.olr_register.specs.Answering.{Answered}
+use Rattle.olr_register.specs.Sparing.{NoneFalls}
 use Rattle.olr_register.specs.declared.batch.Batch.{Batch}
+use Rattle.olr_register.proofs.Tallies.{Tally}
 use Rattle.olr_register.proofs.Listed.{names_add, names_set, names_drop, made_add, made_set, made_drop}
-use Rattle.olr_register.proofs.Rising.{counted_add, counted_set, counted_drop}
+use Rattle.olr_register.proofs.Rising.{tallied_add, tallied_set, tallied_drop}
 use Rattle.olr_register.proofs.Told.{reported_add, reported_set, reported_drop}
 use Rattle.olr_register.proofs.Singles.{accepted_now, told_now, lacks_now, seen, closed_by, is_closed}
 
@@ -48,7 +49,7 @@ pub add_refused : (x : Registered) (name : List ℕ) (path : Path) (f : CommandF
 add_refused x name path f none free (inr h) =
     told_now x (Add_path name path) Bad_path f none (when_not (has_path x.kept.content name) Path_exists _ free ∙ when_holds (not (is_path path.lines)) Bad_path _ (ap not h.1)) (ap fault_of h.0)
 add_refused x name path f none free (inl h) =
-    lacks_now x (Add_path name path) f none (ap (λ (r : Result Content Fault). may_want (made r)) (when_not (has_path x.kept.content name) Path_exists _ free) ∙ bad_or_not (is_path path.lines) _) (ap fault_of h)
+    lacks_now x (Add_path name path) f none refl (ap (λ (r : Result Content Fault). may_want (made r)) (when_not (has_path x.kept.content name) Path_exists _ free) ∙ bad_or_not (is_path path.lines) _) (ap fault_of h)
 
 pub set_unknown : (x : Registered) (name : List ℕ) (path : Path) (f : CommandFault) → x.kept.batch ≡ None → has_path x.kept.content name ≡ false → fault_of f ≡ No_path → Answered x (Make (Set_path name path)) (Err f) x
 set_unknown x name path f none free says = told_now x (Set_path name path) No_path f none (when_holds (not (has_path x.kept.content name)) No_path _ (ap not free)) says
@@ -57,7 +58,7 @@ pub set_refused : (x : Registered) (name : List ℕ) (path : Path) (f : CommandF
 set_refused x name path f none taken (inr h) =
     told_now x (Set_path name path) Bad_path f none (when_not (not (has_path x.kept.content name)) No_path _ (ap not taken) ∙ when_holds (not (is_path path.lines)) Bad_path _ (ap not h.1)) (ap fault_of h.0)
 set_refused x name path f none taken (inl h) =
-    lacks_now x (Set_path name path) f none (ap (λ (r : Result Content Fault). may_want (made r)) (when_not (not (has_path x.kept.content name)) No_path _ (ap not taken)) ∙ bad_or_not (is_path path.lines) _) (ap fault_of h)
+    lacks_now x (Set_path name path) f none refl (ap (λ (r : Result Content Fault). may_want (made r)) (when_not (not (has_path x.kept.content name)) No_path _ (ap not taken)) ∙ bad_or_not (is_path path.lines) _) (ap fault_of h)
 
 pub drop_unknown : (x : Registered) (name : List ℕ) (f : CommandFault) → x.kept.batch ≡ None → has_path x.kept.content name ≡ false → fault_of f ≡ No_path → Answered x (Make (Drop_path name)) (Err f) x
 drop_unknown x name f none free says = told_now x (Drop_path name) No_path f none (when_holds (not (has_path x.kept.content name)) No_path _ (ap not free)) says
@@ -65,13 +66,13 @@ drop_unknown x name f none free says = told_now x (Drop_path name) No_path f non
 -- ---- accepted
 
 -- from a register with no batch to one with none
-reach : (roads : RoadMap) (is js : List Item) (b : Option Batch) (w u : Work) (x : Registered) (c : state.Command) (q : Reply) → seen roads is b w ≡ x → b ≡ None
+reach : (roads : RoadMap) (is js : List Item) (b : Option Batch) (w u : Tally) (x : Registered) (c : state.Command) (q : Reply) → seen roads is b w ≡ x → b ≡ None
     → Answered (seen roads is None w) c (Ok q) (seen roads js None u) → Answered x c (Ok q) (seen roads js b u)
 reach roads is js b w u x c q view none h =
     subst (λ (o : Option Batch). Answered x c (Ok q) (seen roads js o u)) (sym none)
     (subst (λ (y : Registered). Answered y c (Ok q) (seen roads js None u)) (ap (λ (o : Option Batch). seen roads is o w) (sym none) ∙ view) h)
 
-module _ (roads : RoadMap) (is : List Item) (b : Option Batch) (w : Work) (x : Registered) (name : List ℕ) (view : seen roads is b w ≡ x) (none : x.kept.batch ≡ None) (right : IsRegister roads is b) where
+module _ (roads : RoadMap) (is : List Item) (b : Option Batch) (w : Tally) (x : Registered) (name : List ℕ) (view : seen roads is b w ≡ x) (none : x.kept.batch ≡ None) (right : IsRegister roads is b) where
   was_closed : b ≡ None
   was_closed = closed_by roads is b w x view none
 
@@ -104,9 +105,15 @@ module _ (roads : RoadMap) (is : List Item) (b : Option Batch) (w : Work) (x : R
       (reach roads is left b w w x (Make (Drop_path name)) q view was_closed
       (accepted_now (seen roads is None w) (seen roads left None w) (Drop_path name) q [] refl refl (is_dropped taken) says
       (reported_drop (map_of roads) is name was_right.content was_right.made)
-      (counted_drop (seen roads is None w) (seen roads left None w) name refl refl refl)))
+      (tallied_drop (seen roads is None w) (seen roads left None w) name refl refl (refl, refl))))
 
   -- ---- added and set
+
+  none_fall : (js : List Item) (w u : Tally) → w.work.searches ≤ u.work.searches → w.work.settled ≤ u.work.settled → u.spared ≡ w.spared → NoneFalls (seen roads is None w) (seen roads js None u)
+  none_fall js w u searches settled kept = record { searches = searches; settled = settled; spared = omega arith }
+
+  spared_one : (w u : Tally) → u.spared ≡ w.spared → u.spared ≤ w.spared + 1
+  spared_one w u kept = omega arith
 
   module _ (path : Path) (m : Made) (good : IsTrue (is_path path.lines)) (encoded : IsMade (map_of roads) path m) where
     abbrev added : List Item
@@ -120,15 +127,16 @@ module _ (roads : RoadMap) (is : List Item) (b : Option Batch) (w : Work) (x : R
     pub add_keeps : (js : List Item) → has_path x.kept.content name ≡ false → js ≡ added → IsRegister roads js b
     add_keeps js free same = subst (λ (ks : List Item). IsRegister roads ks b) (sym same) (keeps (Add_path name path) added (is_added free) tt (made_add (map_of roads) is name path m was_right.made encoded))
 
-    pub add_done : (target : Path) (js : List Item) (u : Work) (q : Reply) (es : List told.Entry) → path ≡ target → has_path x.kept.content name ≡ false → js ≡ added → reply_of q ≡ told.Paths es → es ≡ entry name m.answer ∷ []
-        → (w.encodings + 1 < 2 ^ 64 → u.encodings ≡ w.encodings + 1) → Answered x (Make (Add_path name target)) (Ok q) (seen roads js b u)
-    add_done target js u q es along free same says listed counts =
+    pub add_done : (target : Path) (js : List Item) (u : Tally) (q : Reply) (es : List told.Entry) → path ≡ target → has_path x.kept.content name ≡ false → js ≡ added → reply_of q ≡ told.Paths es → es ≡ entry name m.answer ∷ []
+        → (w.work.encodings + 1 < 2 ^ 64 → u.work.encodings ≡ w.work.encodings + 1)
+        → w.work.searches ≤ u.work.searches → w.work.settled ≤ u.work.settled → u.spared ≡ w.spared → Answered x (Make (Add_path name target)) (Ok q) (seen roads js b u)
+    add_done target js u q es along free same says listed counts searches settled kept =
         subst (λ (p : Path). Answered x (Make (Add_path name p)) (Ok q) (seen roads js b u)) along
         (subst (λ (ks : List Item). Answered x (Make (Add_path name path)) (Ok q) (seen roads ks b u)) (sym same)
         (reach roads is added b w u x (Make (Add_path name path)) q view was_closed
         (accepted_now (seen roads is None w) (seen roads added None u) (Add_path name path) q es refl refl (is_added free) says
         (reported_add (map_of roads) is name path m es was_right.content was_right.made (named_in false free) encoded listed)
-        (counted_add (seen roads is None w) (seen roads added None u) name path was_right.content refl refl (is_added free) counts))))
+        (tallied_add (seen roads is None w) (seen roads added None u) name path was_right.content refl refl (is_added free) (record { encodings = counts; spared = spared_one w u kept }) (none_fall added w u searches settled kept)))))
 
     abbrev replaced : List Item
     replaced = map (set_item name path (Some m)) is
@@ -141,13 +149,14 @@ module _ (roads : RoadMap) (is : List Item) (b : Option Batch) (w : Work) (x : R
     pub set_keeps : (js : List Item) → has_path x.kept.content name ≡ true → js ≡ replaced → IsRegister roads js b
     set_keeps js taken same = subst (λ (ks : List Item). IsRegister roads ks b) (sym same) (keeps (Set_path name path) replaced (is_set taken) tt (made_set (map_of roads) is name path m was_right.made encoded))
 
-    pub set_done : (target : Path) (js : List Item) (u : Work) (q : Reply) (es : List told.Entry) → path ≡ target → has_path x.kept.content name ≡ true → js ≡ replaced → reply_of q ≡ told.Paths es
+    pub set_done : (target : Path) (js : List Item) (u : Tally) (q : Reply) (es : List told.Entry) → path ≡ target → has_path x.kept.content name ≡ true → js ≡ replaced → reply_of q ≡ told.Paths es
         → ((answer_in is name ≡ Some m.answer) × (es ≡ [])) ⊎ ((answer_in is name ≢ Some m.answer) × (es ≡ entry name m.answer ∷ []))
-        → (w.encodings + 1 < 2 ^ 64 → u.encodings ≡ w.encodings + 1) → Answered x (Make (Set_path name target)) (Ok q) (seen roads js b u)
-    set_done target js u q es along taken same says listed counts =
+        → (w.work.encodings + 1 < 2 ^ 64 → u.work.encodings ≡ w.work.encodings + 1)
+        → w.work.searches ≤ u.work.searches → w.work.settled ≤ u.work.settled → u.spared ≡ w.spared → Answered x (Make (Set_path name target)) (Ok q) (seen roads js b u)
+    set_done target js u q es along taken same says listed counts searches settled kept =
         subst (λ (p : Path). Answered x (Make (Set_path name p)) (Ok q) (seen roads js b u)) along
         (subst (λ (ks : List Item). Answered x (Make (Set_path name path)) (Ok q) (seen roads ks b u)) (sym same)
         (reach roads is replaced b w u x (Make (Set_path name path)) q view was_closed
         (accepted_now (seen roads is None w) (seen roads replaced None u) (Set_path name path) q es refl refl (is_set taken) says
         (reported_set (map_of roads) is name path m es was_right.content was_right.made (named_in true taken) encoded listed)
-        (counted_set (seen roads is None w) (seen roads replaced None u) name path was_right.content refl refl (is_set taken) counts))))
+        (tallied_set (seen roads is None w) (seen roads replaced None u) name path was_right.content refl refl (is_set taken) (record { encodings = counts; spared = spared_one w u kept }) (none_fall replaced w u searches settled kept)))))

@@ -1,19 +1,17 @@
 -- Changes that are made at once.
-use Rattle.std.proofs.Common.{◌≡◌, ℕ, Bool, true, List, map, Option, Some, None, is_some, Result, Ok, Err, refl, sym, ap, ◌∙◌, subst, ◌↔◌}
+use Rattle.std.proofs.Common.{◌≡◌, ℕ, Bool, true, List, map, Option, Some, None, is_some, Ok, Err, refl, sym, ap, ◌∙◌, subst}
+use Rattle.std.specs.Prelude.{◌&&◌}
 use Rattle.olr_spec.specs.Map.{Map, MapFault}
 use Rattle.olr_map.specs.Edits as edits
-use Rattle.olr_map.specs.declared.edit.EditFault.{EditFault}
-use Rattle.olr_map.specs.declared.edit.EditFault.TheVariants.{NodeExists, NoNode, LineExists, NoLine, NodeInUse, BadShape, Memory}
 use Rattle.olr_map.specs.RoadMaps.{map_of}
 use Rattle.olr_map.specs.declared.road_map.RoadMap.{RoadMap}
-use Rattle.olr_route.specs.declared.work.Work.{Work}
 use Rattle.olr_spec.specs.Map as map_faults
 use Rattle.olr_commands.specs.State as state
 use Rattle.olr_commands.specs.State.{Content, IsContent, path_named, has_path, Fault, Map_fault, Change, On_map, with_map, changed, made, Make, State, step}
 use Rattle.olr_commands.specs.Reply as told
-use Rattle.olr_commands.specs.Reply.{Differences, IsReply, IsOutcome, IsRefusal, Told, Lacks, may_want}
+use Rattle.olr_commands.specs.Reply.{Differences, IsReply, IsOutcome, IsRefusal, Told, Lacks, takes_memory, may_want}
 use Rattle.olr_commands.specs.Kept.{StandsIn}
-use Rattle.olr_commands.specs.Registered.{Registered, Counted}
+use Rattle.olr_commands.specs.Registered.{Registered}
 use Rattle.olr_commands.specs.Words.{reply_of, fault_of, map_fault_of}
 use Rattle.olr_commands.specs.declared.reply.Reply.{Reply}
 use Rattle.olr_commands.specs.declared.fault.CommandFault.{CommandFault}
@@ -21,14 +19,15 @@ use Rattle.olr_paths.specs.Items.{Item, AreMade, all_named}
 use Rattle.olr_register.specs.Holding.{kept_of, IsRegister}
 use Rattle.olr_register.specs.Answering.{Answered}
 use Rattle.olr_register.specs.declared.batch.Batch.{Batch}
+use Rattle.olr_register.proofs.Tallies.{Tally, Tallied}
 use Rattle.olr_register.proofs.Rising.{one_state}
 use Rattle.olr_register.proofs.Outcomes.{answered_refused}
 
 -- ---- outcomes of a change where no batch is open
 
 pub accepted_now : (old new : Registered) (x : Change) (q : Reply) (es : List told.Entry) → old.kept.batch ≡ None → new.kept.batch ≡ None → changed old.kept.content x ≡ Ok new.kept.content
-    → reply_of q ≡ told.Paths es → Differences old.kept.content new.kept.content es → Counted old (Make x) new → Answered old (Make x) (Ok q) new
-accepted_now old new x q es was later is says differences counted = record {
+    → reply_of q ≡ told.Paths es → Differences old.kept.content new.kept.content es → Tallied old (Make x) new → Answered old (Make x) (Ok q) new
+accepted_now old new x q es was later is says differences tallied = record {
   outcome = λ s stands.
       let before : State = record { content = old.kept.content; batch = None } in
       let after : State = record { content = new.kept.content; batch = None } in
@@ -37,7 +36,10 @@ accepted_now old new x q es was later is says differences counted = record {
         (refl, subst (λ b. StandsIn new.kept.content b None) (sym later) tt),
         subst (λ (u : State). IsOutcome u (Make x) (Ok (reply_of q)) after) (sym (one_state old.kept s was stands)) there,
       );
-  counted = counted;
+  counted = tallied.counted;
+  spares = tallied.spares;
+  rises = tallied.rises;
+  same = tallied.same;
   unchanged = tt;
 }
 
@@ -46,9 +48,9 @@ told_now old x g f was is says =
     answered_refused old (Make x) f (λ s stands.
     subst (λ (u : State). IsRefusal u (Make x) (fault_of f)) (sym (one_state old.kept s was stands)) (Told (ap made is ∙ ap (λ (h : Fault). Err h) (sym says))))
 
-pub lacks_now : (old : Registered) (x : Change) (f : CommandFault) → old.kept.batch ≡ None → may_want (made (changed old.kept.content x)) ≡ true → fault_of f ≡ state.Memory → Answered old (Make x) (Err f) old
-lacks_now old x f was may says =
-    answered_refused old (Make x) f (λ s stands. subst (λ (u : State). IsRefusal u (Make x) (fault_of f)) (sym (one_state old.kept s was stands)) (Lacks says may))
+pub lacks_now : (old : Registered) (x : Change) (f : CommandFault) → old.kept.batch ≡ None → takes_memory (Make x) None ≡ true → may_want (made (changed old.kept.content x)) ≡ true → fault_of f ≡ state.Memory → Answered old (Make x) (Err f) old
+lacks_now old x f was takes may says =
+    answered_refused old (Make x) f (λ s stands. subst (λ (u : State). IsRefusal u (Make x) (fault_of f)) (sym (one_state old.kept s was stands)) (Lacks says (λ i. takes i && may i)))
 
 -- a register that is as before
 pub as_before : (old new : Registered) (x : Change) (f : CommandFault) → new ≡ old → Answered old (Make x) (Err f) old → Answered old (Make x) (Err f) new
@@ -56,24 +58,30 @@ as_before old new x f same h = subst (λ (y : Registered). Answered old (Make x)
 
 -- ---- a register with no batch, by its parts
 
-abbrev pub seen : RoadMap → List Item → Option Batch → Work → Registered
-seen roads is b w = record { kept = kept_of roads is b; work = w }
+abbrev pub seen : RoadMap → List Item → Option Batch → Tally → Registered
+seen roads is b w = record { kept = kept_of roads is b; work = w.work; spared = w.spared }
 
 pub closed : (roads : RoadMap) (is : List Item) (b : Option Batch) → (kept_of roads is b).batch ≡ None → b ≡ None
 closed roads is None h = refl
 closed roads is (Some b) h = absurd cc
 
 -- from the value to the fields
-pub closed_by : (roads : RoadMap) (is : List Item) (b : Option Batch) (w : Work) (x : Registered) → seen roads is b w ≡ x → x.kept.batch ≡ None → b ≡ None
+pub closed_by : (roads : RoadMap) (is : List Item) (b : Option Batch) (w : Tally) (x : Registered) → seen roads is b w ≡ x → x.kept.batch ≡ None → b ≡ None
 closed_by roads is b w x view none = closed roads is b (ap (λ (y : Registered). y.kept.batch) view ∙ none)
 
-pub seen_again : (roads later : RoadMap) (is js : List Item) (b : Option Batch) (w u : Work) → b ≡ None → map_of later ≡ map_of roads → js ≡ is → u ≡ w → seen later js b u ≡ seen roads is b w
+pub seen_again : (roads later : RoadMap) (is js : List Item) (b : Option Batch) (w u : Tally) → b ≡ None → map_of later ≡ map_of roads → js ≡ is → u ≡ w → seen later js b u ≡ seen roads is b w
 seen_again roads later is js b w u none map same work =
-    let with_none : seen later js None u ≡ seen roads is None w = λ i. record { kept = record { content = record { map = map i; paths = all_named (same i) }; batch = None }; work = work i } in
+    let with_none : seen later js None u ≡ seen roads is None w = λ i. record { kept = record { content = record { map = map i; paths = all_named (same i) }; batch = None }; work = (work i).work; spared = (work i).spared } in
     ap (λ (o : Option Batch). seen later js o u) none ∙ with_none ∙ ap (λ (o : Option Batch). seen roads is o w) (sym none)
 
 pub is_closed : (roads : RoadMap) (is : List Item) (b : Option Batch) → b ≡ None → IsContent (record { map = map_of roads; paths = all_named is }) → AreMade (map_of roads) is → IsRegister roads is b
 is_closed roads is b none content made = subst (IsRegister roads is) (sym none) (record { content = content; made = made; held = tt })
+
+-- where map and list are as before
+pub still_closed : (roads later : RoadMap) (is js : List Item) (b : Option Batch) → b ≡ None → map_of later ≡ map_of roads → js ≡ is → IsRegister roads is b → IsRegister later js b
+still_closed roads later is js b none same listed right =
+    let was : IsRegister roads is None = subst (IsRegister roads is) none right in
+    is_closed later js b none (coe 0 1 (i. IsContent (record { map = sym same i; paths = all_named (sym listed i) })) was.content) (coe 0 1 (i. AreMade (sym same i) (sym listed i)) was.made)
 
 -- ---- faults of the map
 
@@ -85,22 +93,9 @@ told_by_map map_faults.No_line = refl
 told_by_map map_faults.Node_in_use = refl
 told_by_map map_faults.Bad_shape = refl
 
--- where the map takes the edit, what is wanting is memory
-refused_by : (r : Result Map MapFault) (N : Map) (g : MapFault) → r ≡ Ok N → r ≡ Err g → ⊥
-refused_by r N g ok err = let no : ◌≡◌ {A = Result Map MapFault} (Ok N) (Err g) = sym ok ∙ err in absurd cc
-
-pub only_memory : {T : Type 0} (res : Result T EditFault) (r : Result Map MapFault) (N : Map) (f : EditFault) → r ≡ Ok N → res ≡ Err f → ((g : MapFault) → (res ≡ Err (edits.fault_of g)) ↔ (r ≡ Err g)) → map_fault_of f ≡ state.Memory
-only_memory res r N NodeExists ok is h = absurd (refused_by r N map_faults.Node_exists ok ((h map_faults.Node_exists).0 is))
-only_memory res r N NoNode ok is h = absurd (refused_by r N map_faults.No_node ok ((h map_faults.No_node).0 is))
-only_memory res r N LineExists ok is h = absurd (refused_by r N map_faults.Line_exists ok ((h map_faults.Line_exists).0 is))
-only_memory res r N NoLine ok is h = absurd (refused_by r N map_faults.No_line ok ((h map_faults.No_line).0 is))
-only_memory res r N NodeInUse ok is h = absurd (refused_by r N map_faults.Node_in_use ok ((h map_faults.Node_in_use).0 is))
-only_memory res r N BadShape ok is h = absurd (refused_by r N map_faults.Bad_shape ok ((h map_faults.Bad_shape).0 is))
-only_memory res r N Memory ok is h = refl
-
 -- ---- whether a path has a name
 
-pub has_in : (roads : RoadMap) (is : List Item) (b : Option Batch) (w : Work) (x : Registered) (name text : List ℕ) (t : Bool) → seen roads is b w ≡ x → text ≡ name
+pub has_in : (roads : RoadMap) (is : List Item) (b : Option Batch) (w : Tally) (x : Registered) (name text : List ℕ) (t : Bool) → seen roads is b w ≡ x → text ≡ name
     → t ≡ is_some (path_named (all_named is) text) → has_path x.kept.content name ≡ t
 has_in roads is b w x name text t view same is_that =
     ap (λ (y : Registered). has_path y.kept.content name) (sym view) ∙ ap (λ (n : List ℕ). is_some (path_named (all_named is) n)) (sym same) ∙ sym is_that

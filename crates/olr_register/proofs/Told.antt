@@ -2,8 +2,8 @@
 use Rattle.std.proofs.Common.{inl, inr, ◌⊎◌, ◌≡◌, ◌≢◌, ℕ, Bool, true, false, cond, not, List, [], ◌∷◌, ◌++◌, map, filter, Option, Some, None, is_some, Ok, refl, sym, ap, ◌∙◌, subst}
 use Rattle.std.specs.Prelude.{option_map, if◌then◌else◌}
 use Rattle.std.proofs.lemmas.Bool.{cases_Bool}
-use Rattle.olr_spec.specs.Map.{Map, Edit, edited, touched_nodes, touched_lines}
-use Rattle.olr_spec.specs.Extension.{Path, has}
+use Rattle.olr_spec.specs.Map.{Map, Edit, edited}
+use Rattle.olr_spec.specs.Extension.{Path}
 use Rattle.olr_spec.specs.Laws.{HasPlace}
 use Rattle.olr_spec.proofs.EditLemmas.{edits_keep}
 use Rattle.olr_spec.specs.Encoding.{Answer}
@@ -11,10 +11,8 @@ use Rattle.olr_commands.specs.State.{Named, same_name, path_named, NamesDiffer, 
 use Rattle.olr_commands.specs.Reply.{Entry, entry, Differences}
 use Rattle.olr_commands.proofs.NameLemmas.{not_named, same_is}
 use Rattle.olr_paths.specs.Items.{Made, Item, IsMade, AreMade, named, all_named, made_in, answer_in}
-use Rattle.olr_paths.specs.Changes.{AreRenewed, Reported, Follows, set_item}
-use Rattle.olr_register.specs.Holding.{Carried, AreMadeIfAny}
-use Rattle.olr_register.proofs.Carried.{carried_edit}
-use Rattle.olr_register.proofs.Renewed.{renewed_names, renewed_made, made_if_any}
+use Rattle.olr_paths.specs.Changes.{AreRemade, Reported, Follows, set_item}
+use Rattle.olr_register.proofs.Renewed.{remade_made}
 use Rattle.olr_register.proofs.Replies.{changes_told}
 use Rattle.olr_register.proofs.Listed.{made_add, made_set, made_drop}
 use Rattle.olr_register.proofs.Followed.{follows_self, follows_same, follows_drop, follows_untold}
@@ -112,11 +110,10 @@ pub record RenewedAll (M N : Map) (before js : List Item) (es : List Entry) : Ty
   pub content : IsContent (record { map = N; paths = all_named js })
   pub differences : Differences (record { map = M; paths = all_named before }) (record { map = N; paths = all_named js }) es
 
-pub renewed_all : (M N : Map) (before is js : List Item) (ns xs : List ℕ) (es : List Entry) → IsContent (record { map = M; paths = all_named before }) → IsContent (record { map = N; paths = all_named is })
-    → AreMade M before → Carried M N ns xs → AreMadeIfAny M is → AreRenewed N ns xs is js → Reported before js es → RenewedAll M N before js es
-renewed_all M N before is js ns xs es content later was carried any renewed reported =
-    let names = renewed_names N ns xs is js renewed in
-    let made = renewed_made M N ns xs is js content.map later.map later.paths carried any renewed in
+pub renewed_all : (M N : Map) (before is js : List Item) (es : List Entry) → IsContent (record { map = M; paths = all_named before }) → IsContent (record { map = N; paths = all_named is })
+    → AreMade M before → AreRemade N is js → all_named js ≡ all_named is → Reported before js es → RenewedAll M N before js es
+renewed_all M N before is js es content later was remade names reported =
+    let made = remade_made N is js remade in
     record {
       made = made;
       content = subst (λ (ps : List Named). IsContent (record { map = N; paths = ps })) (sym names) later;
@@ -124,9 +121,8 @@ renewed_all M N before is js ns xs es content later was carried any renewed repo
     }
 
 -- of one edit
-pub renewed_edit : (M N : Map) (e : Edit) (is js : List Item) (ns xs : List ℕ) (es : List Entry) → IsContent (record { map = M; paths = all_named is }) → HasPlace e → edited M e ≡ Ok N → AreMade M is
-    → ((v : ℕ) → has ns v ≡ has (touched_nodes M e) v) → ((x : ℕ) → has xs x ≡ has (touched_lines e) x)
-    → AreRenewed N ns xs is js → Reported is js es → RenewedAll M N is js es
-renewed_edit M N e is js ns xs es content place ok was nodes lines renewed reported =
+pub renewed_edit : (M N : Map) (e : Edit) (is js : List Item) (es : List Entry) → IsContent (record { map = M; paths = all_named is }) → HasPlace e → edited M e ≡ Ok N → AreMade M is
+    → AreRemade N is js → all_named js ≡ all_named is → Reported is js es → RenewedAll M N is js es
+renewed_edit M N e is js es content place ok was remade names reported =
     let later : IsContent (record { map = N; paths = all_named is }) = record { map = edits_keep M N e content.map place ok; paths = content.paths; names = content.names } in
-    renewed_all M N is is js ns xs es content later was (carried_edit M N e ns xs ok nodes lines) (made_if_any M is was) renewed reported
+    renewed_all M N is is js es content later was remade names reported

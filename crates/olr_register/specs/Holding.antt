@@ -1,39 +1,30 @@
 -- What a register keeps, and what is true of it.
---     Carried M N ns xs      the map N agrees with M round each path whose footprint holds none of the nodes and that has none of the lines
+--     IsNoted M N T X C      what is noted of edits that lead from M to N
 --     IsHeld, IsRegister      what is true of an open batch, and of the whole
-use Rattle.std.specs.Prelude.{ℕ, ◌≤◌, List, [], ◌∷◌, map, Option, Some, None, is_none, IfSome, IsTrue, IsFalse, ⊤}
-use Rattle.olr_spec.specs.Map.{Map, Agree}
-use Rattle.olr_spec.specs.Extension.{Path, is_path, has}
-use Rattle.olr_spec.specs.Footprint.{Foot}
+use Rattle.std.specs.Prelude.{ℕ, ◌≤◌, List, map, Contains, Option, Some, None, is_none, IfSome, IsTrue}
+use Rattle.olr_spec.specs.Map.{Map}
+use Rattle.olr_spec.specs.Extension.{has}
+use Rattle.olr_spec.specs.Detours.{ChangedLine, Difference}
 use Rattle.olr_map.specs.RoadMaps.{map_of, CanUndoAll, map_before}
 use Rattle.olr_map.specs.declared.road_map.RoadMap.{RoadMap}
 use Rattle.olr_commands.specs.State.{IsContent, full}
 use Rattle.olr_commands.specs.Kept as kept
-use Rattle.olr_paths.specs.Items.{Item, items, IsMade, AreMade, all_named}
+use Rattle.olr_paths.specs.Items.{Item, AreMade, AreMadeIfAny, all_named}
 use Rattle.olr_paths.specs.Changes.{Follows}
-use Rattle.olr_paths.specs.Touching.{nodes_of, lines_of}
+use Rattle.olr_paths.specs.Laying.{overlaid}
+use Rattle.olr_paths.specs.Touching.{nodes_of, lines_of, changed_of}
 use Rattle.olr_register.specs.declared.batch.Batch.{Batch}
 
-abbrev pub Carried : Map → Map → List ℕ → List ℕ → Type 0
-Carried M N nodes lines =
-    (P : Path) → IsTrue (is_path P.lines) → ((v : ℕ) → IsTrue (has nodes v) → ¬ Foot M P v) → ((x : ℕ) → IsTrue (has lines x) → IsFalse (has P.lines x))
-    → Agree M N P.lines (Foot M P)
-
--- each path that was encoded has what is right on the map
-abbrev pub AreMadeIfAny : Map → List Item → Type 0
-AreMadeIfAny M [] = ⊤
-AreMadeIfAny M (i ∷ is) = IfSome i.made (IsMade M i.path) × AreMadeIfAny M is
-
--- ---- as the definitions of commands see it
+-- ---- as the definitions of commands see it, over the register's list
 
 abbrev pub held_of : Item → kept.Held
 held_of i = record { name = i.name; path = i.path; given = is_none i.made }
 
-abbrev pub batch_of : RoadMap → Batch → kept.Batch
-batch_of roads b =
+abbrev pub batch_of : RoadMap → List Item → Batch → kept.Batch
+batch_of roads is b =
     record {
       map = map_of roads;
-      paths = map held_of (items b.paths);
+      paths = map held_of (overlaid is b.overlay);
       count = b.count;
       nodes = nodes_of b.touched;
       lines = lines_of b.touched;
@@ -44,26 +35,31 @@ abbrev pub map_kept : RoadMap → Option Batch → Map
 map_kept roads None = map_of roads
 map_kept roads (Some b) = map_before roads b.log
 
-abbrev pub option_batch : RoadMap → Option Batch → Option kept.Batch
-option_batch roads None = None
-option_batch roads (Some b) = Some (batch_of roads b)
+abbrev pub option_batch : RoadMap → List Item → Option Batch → Option kept.Batch
+option_batch roads is None = None
+option_batch roads is (Some b) = Some (batch_of roads is b)
 
 abbrev pub kept_of : RoadMap → List Item → Option Batch → kept.Kept
 kept_of roads is batch =
     record {
       content = record { map = map_kept roads batch; paths = all_named is };
-      batch = option_batch roads batch;
+      batch = option_batch roads is batch;
     }
 
 -- ---- what is true
 
+-- what is noted of edits that lead from M to N: no other difference, and each changed line begins at a touched node
+pub record IsNoted (M N : Map) (T X : List ℕ) (C : List ChangedLine) : Type 0 where
+  pub difference : Difference T X C M N
+  pub starts : (c : ChangedLine) → Contains C c → IsTrue (has T c.from)
+
 pub record IsHeld (roads : RoadMap) (before : List Item) (b : Batch) : Type 0 where
   pub undo : CanUndoAll roads b.log
-  pub sound : IsContent (record { map = map_of roads; paths = all_named (items b.paths) })
+  pub sound : IsContent (record { map = map_of roads; paths = all_named (overlaid before b.overlay) })
   pub few : b.count ≤ full
-  pub carried : Carried (map_before roads b.log) (map_of roads) (nodes_of b.touched) (lines_of b.touched)
-  pub made : AreMadeIfAny (map_before roads b.log) (items b.paths)
-  pub follows : Follows before (items b.paths)
+  pub noted : IsNoted (map_before roads b.log) (map_of roads) (nodes_of b.touched) (lines_of b.touched) (changed_of b.touched)
+  pub made : AreMadeIfAny (map_before roads b.log) (overlaid before b.overlay)
+  pub follows : Follows before (overlaid before b.overlay)
 
 pub record IsRegister (roads : RoadMap) (is : List Item) (batch : Option Batch) : Type 0 where
   pub content : IsContent (record { map = map_kept roads batch; paths = all_named is })

@@ -1,4 +1,4 @@
 pub mod Holding
 pub mod Answering
 pub mod Given
-pub mod Replays
+pub mod Sparing

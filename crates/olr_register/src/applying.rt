@@ -1,20 +1,21 @@
 //! Commands, and whole runs of them.
-ghost use Rattle.std.specs.Prelude.{map, IfOk};
+ghost use Rattle.std.specs.Prelude.{map, Some, IfOk};
 ghost use Rattle.olr_commands.specs.State.{State, start_state};
+ghost use Rattle.olr_commands.specs.Reply.{IsOutcome};
 ghost use Rattle.olr_commands.specs.Kept.{Stands};
-ghost use Rattle.olr_commands.specs.History.{History};
+ghost use Rattle.olr_commands.specs.History.{History, Headline};
 ghost use Rattle.olr_commands.specs.Words.{command_of, outcome_of};
-ghost use Rattle.olr_register.specs.Replays.{EachStep, IsNamed, IsRefused, IsPublished, IsJoined};
 
 use crate::register::Register;
 use olr_commands::{Command, CommandFault, Reply};
 use std::alloc::{AllocError, Global};
 
 impl Register {
-    ghost use Rattle.std.specs.Prelude.{◌≡◌, OnOk, OnErr};
+    ghost use Rattle.std.specs.Prelude.{◌≡◌, is_some, OnOk, OnErr, IsFalse};
     ghost use Rattle.olr_commands.specs.State.{IsContent};
     ghost use Rattle.olr_commands.specs.Registered.{Applied, Counted};
     ghost use Rattle.olr_register.specs.Answering.{Answered};
+    ghost use Rattle.olr_register.specs.Sparing.{encodes, Spares, NoneFalls, SameCounts};
 
     /// The answer to a command.
     fn answer_to(&mut self, command: Command) -> Result<Reply, CommandFault>
@@ -51,11 +52,22 @@ impl Register {
         ensures counted { OnOk result (Counted self.old (command_of command) self.new) }
         ensures unchanged { OnErr result (self.new ≡ self.old) }
         ensures sound { IsContent self.new.kept.content }
+        ensures spares { OnOk result (Spares self.old (command_of command) self.new) }
+        ensures rises { OnOk result (NoneFalls self.old self.new) }
+        ensures same { OnOk result
+            (IsFalse (encodes (is_some self.old.kept.batch) (command_of command)) → SameCounts self.old self.new) }
     {
         let result = self.answer_to(command);
         // The content is sound, as that of every register.
         let _encodings = self.work.encodings;
         result
+    }
+
+    /// Does nothing: a caller learns that the content of every register is sound.
+    pub fn is_sound(&self)
+        ensures { IsContent self.now.kept.content }
+    {
+        let _encodings = self.work.encodings;
     }
 }
 
@@ -66,13 +78,8 @@ pub fn replay(
 ) -> Result<(Register, Vec<Result<Reply, CommandFault>>), AllocError>
     ensures history { IfOk result (λ r. (t : State) × Stands r.0.kept t
         × History start_state (map command_of commands.items) (map outcome_of r.1.items) t) }
-    ensures published { IfOk result
-        (λ r. IsPublished r.0.kept.content (map command_of commands.items) (map outcome_of r.1.items)) }
-    ensures joined { IfOk result (λ r. IsJoined r.0.kept.content) }
-    ensures named { IfOk result (λ r. (t : State) × Stands r.0.kept t
-        × EachStep IsNamed start_state (map command_of commands.items) (map outcome_of r.1.items) t) }
-    ensures refused { IfOk result (λ r. (t : State) × Stands r.0.kept t
-        × EachStep IsRefused start_state (map command_of commands.items) (map outcome_of r.1.items) t) }
+    ensures headline { IfOk result (λ r. (t : State) × Stands r.0.kept t
+        × Headline IsOutcome (λ c. Some c) start_state (map command_of commands.items) (map outcome_of r.1.items) t) }
 {
     let mut register = Register::new(alloc);
     let mut outcomes = Vec::new(alloc);

@@ -5,30 +5,25 @@ use crate::batch::Batch;
 use crate::register::Register;
 use olr_commands::{CommandFault, Reply};
 use olr_map::UndoLog;
-use olr_paths::Touched;
+use olr_paths::{Overlay, Touched};
 
 impl Register {
     ghost use Rattle.olr_register.specs.Answering.{Answered};
 
-    /// Opens a batch, which holds the changes that follow. Where there is no memory for it none is open.
+    /// Opens a batch, which holds the changes that follow. Takes no memory.
     pub(crate) fn begin(&mut self) -> Result<Reply, CommandFault>
         ensures { Answered self.old Begin result self.new }
     {
         if self.batch.is_some() {
             return Err(CommandFault::BatchOpen);
         }
-        match self.paths.share(self.alloc) {
-            Ok(paths) => {
-                self.batch = Some(Batch {
-                    log: UndoLog::new(self.alloc),
-                    paths,
-                    count: 0,
-                    touched: Touched::new(self.alloc),
-                });
-                Ok(Reply::Paths(Vec::new(self.alloc)))
-            }
-            Err(_) => Err(CommandFault::Memory),
-        }
+        self.batch = Some(Batch {
+            log: UndoLog::new(self.alloc),
+            overlay: Overlay::new(self.alloc),
+            count: 0,
+            touched: Touched::new(self.alloc),
+        });
+        Ok(Reply::Paths(Vec::new(self.alloc)))
     }
 
     /// Accepts all held changes at once, if there are so many, and encodes the paths that they concern. After a refusal the
@@ -43,20 +38,21 @@ impl Register {
             self.batch = Some(batch);
             return Err(CommandFault::CountDiffers);
         }
-        let Ok(entries) = batch.paths.renew_after(
+        let Ok(entries) = self.paths.renew_over(
             self.alloc,
             &self.roads,
-            &self.paths,
+            &batch.overlay,
             &batch.touched,
+            &mut self.searches,
             &mut self.work,
+            &mut self.kept,
         )
         else {
             self.batch = Some(batch);
             return Err(CommandFault::Memory);
         };
-        let Batch { log, paths, .. } = batch;
+        let Batch { log, .. } = batch;
         self.roads.keep_all(log);
-        self.paths = paths;
         Ok(Reply::Paths(entries))
     }
 

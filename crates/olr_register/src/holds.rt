@@ -6,17 +6,19 @@ ghost use Rattle.olr_spec.specs.Extension.{is_path};
 ghost use Rattle.olr_map.specs.Edits.{edit_of};
 ghost use Rattle.olr_map.specs.RoadMaps.{CanUndoAll, map_before};
 ghost use Rattle.olr_map.specs.declared.road_map.RoadMap.{RoadMap as Roads};
-ghost use Rattle.olr_commands.specs.State.{On_map, Add_path, Set_path, Drop_path, Make, full};
+ghost use Rattle.olr_commands.specs.State.{On_map, Add_path, Set_path, Drop_path, Make, full, NamesDiffer};
 ghost use Rattle.olr_commands.specs.Words.{path_along};
-ghost use Rattle.olr_paths.specs.Items.{Item};
+ghost use Rattle.olr_paths.specs.Items.{Item, items, all_named};
+ghost use Rattle.olr_paths.specs.Laying.{overlaid};
 ghost use Rattle.olr_register.specs.Holding.{IsHeld, batch_of};
 ghost use Rattle.olr_register.specs.Given.{Given};
 
 use crate::batch::Batch;
+use crate::changed::line_changed;
 use crate::register::Register;
 use olr_commands::{CommandFault, Reply};
-use olr_map::refusal::refusal;
-use olr_map::{Edit, LineId, RoadMap, line_touched, nodes_touched};
+use olr_map::{Edit, LineId, RoadMap, judge};
+use olr_paths::Listing;
 use olr_refs::{Path, PathFault};
 use std::alloc::Global;
 
@@ -52,7 +54,8 @@ impl Batch {
     /// Makes an edit of its map and holds it. After a refusal map and batch are as they were.
     fn edit(&mut self, roads: &mut RoadMap, edit: Edit) -> Result<Reply, CommandFault>
         requires { CanUndoAll roads.old self.old.log }
-        ensures given { Given (batch_of roads.old self.old) (On_map (edit_of edit)) result (batch_of roads.new self.new) }
+        ensures given { (is : List Item)
+            → Given (batch_of roads.old is self.old) (On_map (edit_of edit)) result (batch_of roads.new is self.new) }
         ensures held { (before : List Item) → IsMap (map_before roads.old self.old.log)
             → IsHeld roads.old before self.old → IsHeld roads.new before self.new }
         ensures before { map_before roads.new self.new.log ≡ map_before roads.old self.old.log }
@@ -60,23 +63,21 @@ impl Batch {
         if self.is_full() {
             return Err(CommandFault::BatchFull);
         }
-        if let Some(fault) = refusal(roads, &edit) {
-            return Err(CommandFault::Map(fault));
-        }
-        let Some(nodes) = nodes_touched(roads, &edit) else {
-            unreachable!()
+        let judged = match judge(roads, &edit) {
+            Ok(judged) => judged,
+            Err(fault) => return Err(CommandFault::Map(fault)),
         };
-        let line = line_touched(&edit);
         if self.touched.reserve().is_err() {
             return Err(CommandFault::Memory);
         }
-        match roads.apply_into(edit, &mut self.log) {
+        match roads.make_into(edit, &judged, &mut self.log) {
             Ok(()) => {
-                self.touched.note(nodes, line);
+                self.touched
+                    .note(judged.nodes, judged.line, line_changed(&judged));
                 self.count += 1;
                 Ok(Reply::Held(self.count))
             }
-            Err(fault) => Err(CommandFault::Map(fault)),
+            Err(_) => Err(CommandFault::Memory),
         }
     }
 
@@ -84,24 +85,25 @@ impl Batch {
     fn add_path(
         &mut self,
         alloc: Global,
+        list: &Listing,
         name: String,
         lines: Vec<LineId>,
         pos: u32,
         neg: u32,
     ) -> Result<Reply, CommandFault>
-        ensures given { (roads : Roads) → Given (batch_of roads self.old)
-            (Add_path (string_bytes name) (path_along lines.items pos neg)) result (batch_of roads self.new) }
-        ensures held { (roads : Roads) (before : List Item) → IsHeld roads before self.old → IsHeld roads before self.new }
+        ensures given { (roads : Roads) → Given (batch_of roads (items list.now) self.old)
+            (Add_path (string_bytes name) (path_along lines.items pos neg)) result (batch_of roads (items list.now) self.new) }
+        ensures held { (roads : Roads) → IsHeld roads (items list.now) self.old → IsHeld roads (items list.now) self.new }
         ensures log { self.new.log ≡ self.old.log }
     {
         if self.is_full() {
             return Err(CommandFault::BatchFull);
         }
-        if self.paths.has(&name) {
+        if self.overlay.has(list, &name) {
             return Err(CommandFault::PathExists);
         }
         let path = path_of(alloc, lines, pos, neg)?;
-        match self.paths.hold(alloc, name, path) {
+        match self.overlay.hold(alloc, name, path) {
             Ok(()) => {
                 self.count += 1;
                 Ok(Reply::Held(self.count))
@@ -114,24 +116,26 @@ impl Batch {
     fn set_path(
         &mut self,
         alloc: Global,
+        list: &Listing,
         name: &str,
         lines: Vec<LineId>,
         pos: u32,
         neg: u32,
     ) -> Result<Reply, CommandFault>
-        ensures given { (roads : Roads) → Given (batch_of roads self.old)
-            (Set_path name.now (path_along lines.items pos neg)) result (batch_of roads self.new) }
-        ensures held { (roads : Roads) (before : List Item) → IsHeld roads before self.old → IsHeld roads before self.new }
+        requires { NamesDiffer (all_named (overlaid (items list.now) self.old.overlay)) }
+        ensures given { (roads : Roads) → Given (batch_of roads (items list.now) self.old)
+            (Set_path name.now (path_along lines.items pos neg)) result (batch_of roads (items list.now) self.new) }
+        ensures held { (roads : Roads) → IsHeld roads (items list.now) self.old → IsHeld roads (items list.now) self.new }
         ensures log { self.new.log ≡ self.old.log }
     {
         if self.is_full() {
             return Err(CommandFault::BatchFull);
         }
-        if !self.paths.has(name) {
+        if !self.overlay.has(list, name) {
             return Err(CommandFault::NoPath);
         }
         let path = path_of(alloc, lines, pos, neg)?;
-        match self.paths.hold_other(alloc, name, path) {
+        match self.overlay.hold_other(alloc, name, path) {
             Ok(()) => {
                 self.count += 1;
                 Ok(Reply::Held(self.count))
@@ -140,22 +144,32 @@ impl Batch {
         }
     }
 
-    /// Holds that a path is taken away. Takes no memory.
-    fn drop_path(&mut self, name: &str) -> Result<Reply, CommandFault>
-        ensures given { (roads : Roads)
-            → Given (batch_of roads self.old) (Drop_path name.now) result (batch_of roads self.new) }
-        ensures held { (roads : Roads) (before : List Item) → IsHeld roads before self.old → IsHeld roads before self.new }
+    /// Holds that a path is taken away. After a refusal the batch is as it was.
+    fn drop_path(
+        &mut self,
+        alloc: Global,
+        list: &Listing,
+        name: &str,
+    ) -> Result<Reply, CommandFault>
+        requires { NamesDiffer (all_named (overlaid (items list.now) self.old.overlay)) }
+        ensures given { (roads : Roads) → Given (batch_of roads (items list.now) self.old) (Drop_path name.now) result
+            (batch_of roads (items list.now) self.new) }
+        ensures held { (roads : Roads) → IsHeld roads (items list.now) self.old → IsHeld roads (items list.now) self.new }
         ensures log { self.new.log ≡ self.old.log }
     {
         if self.is_full() {
             return Err(CommandFault::BatchFull);
         }
-        if !self.paths.has(name) {
+        if !self.overlay.has(list, name) {
             return Err(CommandFault::NoPath);
         }
-        self.paths.drop_path(name);
-        self.count += 1;
-        Ok(Reply::Held(self.count))
+        match self.overlay.drop_path(alloc, name) {
+            Ok(()) => {
+                self.count += 1;
+                Ok(Reply::Held(self.count))
+            }
+            Err(_) => Err(CommandFault::Memory),
+        }
     }
 }
 
@@ -190,7 +204,7 @@ impl Register {
     {
         match self.batch.take() {
             Some(mut batch) => {
-                let result = batch.add_path(self.alloc, name, lines, pos, neg);
+                let result = batch.add_path(self.alloc, &self.paths, name, lines, pos, neg);
                 self.batch = Some(batch);
                 result
             }
@@ -211,7 +225,7 @@ impl Register {
     {
         match self.batch.take() {
             Some(mut batch) => {
-                let result = batch.set_path(self.alloc, name, lines, pos, neg);
+                let result = batch.set_path(self.alloc, &self.paths, name, lines, pos, neg);
                 self.batch = Some(batch);
                 result
             }
@@ -219,14 +233,14 @@ impl Register {
         }
     }
 
-    /// Holds, in the open batch, that a path is taken away. Takes no memory.
+    /// Holds, in the open batch, that a path is taken away. After a refusal the register is as it was.
     pub(crate) fn hold_drop(&mut self, name: &str) -> Result<Reply, CommandFault>
         requires { IsSome self.old.kept.batch }
         ensures { Answered self.old (Make (Drop_path name.now)) result self.new }
     {
         match self.batch.take() {
             Some(mut batch) => {
-                let result = batch.drop_path(name);
+                let result = batch.drop_path(self.alloc, &self.paths, name);
                 self.batch = Some(batch);
                 result
             }

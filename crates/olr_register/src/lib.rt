@@ -3,17 +3,13 @@
 
 mod applying;
 pub mod batch;
-#[cfg(test)]
-mod batch_tests;
 mod batches;
+mod changed;
+mod footprints;
 mod holds;
 mod questions;
 pub mod register;
 mod single;
-#[cfg(test)]
-mod tests;
-#[cfg(test)]
-mod worked;
 
 pub use applying::replay;
 pub use register::Register;

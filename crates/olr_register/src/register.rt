@@ -2,20 +2,24 @@
 
 use crate::batch::Batch;
 use olr_map::RoadMap;
-use olr_paths::Listing;
+use olr_paths::{Listing, Searches};
 use olr_refs::Answer;
 use olr_route::Work;
 use std::alloc::Global;
 use std::marker::Model;
 
 /// A road map and named paths with what is published of them, and an open batch if there is one.
-#[derive(Drop, Debug)]
+#[derive(Drop)]
 pub struct Register {
     pub(crate) alloc: Global,
     /// The map; while a batch is open, the batch's.
     pub(crate) roads: RoadMap,
     pub(crate) paths: Listing,
+    /// What renewals search with.
+    pub(crate) searches: Searches,
     pub(crate) work: Work,
+    /// How many of the counted encodings were spared.
+    pub(crate) kept: u64,
     pub(crate) batch: Option<Batch>,
 }
 
@@ -28,7 +32,7 @@ impl Model for Register {
 
     ghost coded = { coded_registered };
 
-    ghost view = { λ r. record { kept = kept_of r.roads (items r.paths) r.batch; work = r.work } };
+    ghost view = { λ r. record { kept = kept_of r.roads (items r.paths) r.batch; work = r.work; spared = r.kept } };
 
     ghost invariant = { λ r. IsRegister r.roads (items r.paths) r.batch };
 }
@@ -47,11 +51,13 @@ impl Register {
             alloc,
             roads: RoadMap::new(alloc),
             paths: Listing::new(alloc),
+            searches: Searches::new(alloc),
             work: Work {
                 encodings: 0,
                 searches: 0,
                 settled: 0,
             },
+            kept: 0,
             batch: None,
         }
     }
@@ -99,5 +105,12 @@ impl Register {
         ensures { result ≡ self.now.work }
     {
         self.work
+    }
+
+    /// Of the counted encodings, how many kept their answer by the law, without a search for their points.
+    pub fn kept(&self) -> u64
+        ensures { result ≡ self.now.spared }
+    {
+        self.kept
     }
 }

@@ -1,11 +1,11 @@
 //! Changes that are made at once, outside of a batch.
 ghost use Rattle.olr_map.specs.Edits.{edit_of};
 
+use crate::changed::line_changed;
 use crate::holds::path_of;
 use crate::register::Register;
 use olr_commands::{CommandFault, Reply};
-use olr_map::refusal::refusal;
-use olr_map::{Edit, LineId, line_touched, nodes_touched};
+use olr_map::{Edit, LineId, judge};
 use olr_paths::Touched;
 
 impl Register {
@@ -19,23 +19,25 @@ impl Register {
         requires { self.old.kept.batch ≡ None }
         ensures { Answered self.old (Make (On_map (edit_of edit))) result self.new }
     {
-        if let Some(fault) = refusal(&self.roads, &edit) {
-            return Err(CommandFault::Map(fault));
-        }
+        let judged = match judge(&self.roads, &edit) {
+            Ok(judged) => judged,
+            Err(fault) => return Err(CommandFault::Map(fault)),
+        };
         let mut touched = Touched::new(self.alloc);
         if touched.reserve().is_err() {
             return Err(CommandFault::Memory);
         }
-        let Some(nodes) = nodes_touched(&self.roads, &edit) else {
-            unreachable!()
-        };
-        touched.note(nodes, line_touched(&edit));
-        match self.roads.apply(edit) {
+        touched.note(judged.nodes, judged.line, line_changed(&judged));
+        match self.roads.make(edit, &judged) {
             Ok(undo) => {
-                match self
-                    .paths
-                    .renew(self.alloc, &self.roads, &touched, &mut self.work)
-                {
+                match self.paths.renew(
+                    self.alloc,
+                    &self.roads,
+                    &touched,
+                    &mut self.searches,
+                    &mut self.work,
+                    &mut self.kept,
+                ) {
                     Ok(entries) => {
                         self.roads.keep(undo);
                         Ok(Reply::Paths(entries))
@@ -46,7 +48,7 @@ impl Register {
                     }
                 }
             }
-            Err(fault) => Err(CommandFault::Map(fault)),
+            Err(_) => Err(CommandFault::Memory),
         }
     }
 
@@ -65,9 +67,14 @@ impl Register {
             return Err(CommandFault::PathExists);
         }
         let path = path_of(self.alloc, lines, pos, neg)?;
-        let Ok(entries) = self
-            .paths
-            .add(self.alloc, &self.roads, name, path, &mut self.work)
+        let Ok(entries) = self.paths.add(
+            self.alloc,
+            &self.roads,
+            name,
+            path,
+            &mut self.searches,
+            &mut self.work,
+        )
         else {
             return Err(CommandFault::Memory);
         };
@@ -89,9 +96,14 @@ impl Register {
             return Err(CommandFault::NoPath);
         }
         let path = path_of(self.alloc, lines, pos, neg)?;
-        let Ok(entries) = self
-            .paths
-            .set(self.alloc, &self.roads, name, path, &mut self.work)
+        let Ok(entries) = self.paths.set(
+            self.alloc,
+            &self.roads,
+            name,
+            path,
+            &mut self.searches,
+            &mut self.work,
+        )
         else {
             return Err(CommandFault::Memory);
         };

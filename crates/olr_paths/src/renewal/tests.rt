@@ -1,8 +1,10 @@
-ghost use Rattle.std.specs.Prelude.{List, OnOk};
-ghost use Rattle.olr_paths.specs.Items.{Item, items};
+ghost use Rattle.std.specs.Prelude.{IfOk};
+ghost use Rattle.olr_commands.specs.State.{NamesDiffer};
+ghost use Rattle.olr_paths.specs.Items.{items, all_named};
 ghost use Rattle.olr_paths.specs.Changes.{Follows};
+ghost use Rattle.olr_paths.specs.Laying.{overlaid};
 
-use crate::{Listing, Touched};
+use crate::{ChangedLine, Listing, Overlay, Searches, Touched};
 use olr_commands::Entry;
 use olr_coords::Coord;
 use olr_map::{Edit, Line, LineId, NodeId, RoadMap};
@@ -55,9 +57,7 @@ fn hold(
     list: &mut Listing,
     name: &str,
     number: u32,
-) -> Result<(), Fail>
-    ensures { OnOk result ((before : List Item) → Follows before (items list.old) → Follows before (items list.new)) }
-{
+) -> Result<(), Fail> {
     let mut lines = Vec::new(alloc);
     lines.push(line(rt, number))?;
     let path = Path::new(alloc, lines, 0, 0)?;
@@ -66,7 +66,28 @@ fn hold(
     Ok(())
 }
 
-/// Two nodes and a line.
+/// The changes that put one more path behind a list.
+fn with_one_more(
+    rt: &impl Abort,
+    alloc: Global,
+    list: &Listing,
+    name: &str,
+    number: u32,
+) -> Result<Overlay, Fail>
+    ensures names { IfOk result (λ o. NamesDiffer (all_named (overlaid (items list.now) o))) }
+    ensures follows { IfOk result (λ o. Follows (items list.now) (overlaid (items list.now) o)) }
+{
+    let _names = list.len();
+    let mut overlay = Overlay::new(alloc);
+    let mut lines = Vec::new(alloc);
+    lines.push(line(rt, number))?;
+    let path = Path::new(alloc, lines, 0, 0)?;
+    assert!(rt; !overlay.has(list, name));
+    overlay.hold(alloc, String::from_str(alloc, name)?, path)?;
+    Ok(overlay)
+}
+
+/// Two nodes and a line of 100 m between them, which was changed.
 fn touches(
     rt: &impl Abort,
     alloc: Global,
@@ -76,7 +97,16 @@ fn touches(
 ) -> Result<Touched, Fail> {
     let mut touched = Touched::new(alloc);
     touched.reserve()?;
-    touched.note((node(rt, from), node(rt, to)), Some(line(rt, number)));
+    let changed = ChangedLine {
+        from: node(rt, from),
+        to: node(rt, to),
+        len: 1000,
+    };
+    touched.note(
+        (node(rt, from), node(rt, to)),
+        Some(line(rt, number)),
+        Some(changed),
+    );
     Ok(touched)
 }
 
@@ -94,13 +124,29 @@ fn renewed_lists(rt: HostRuntime) -> Result<(), Fail> {
     let mut map = two_roads(&rt, alloc);
     let mut list = Listing::new(alloc);
     let mut work = Work::default();
+    let mut searches = Searches::new(alloc);
+    let mut kept = 0;
     hold(&rt, alloc, &mut list, "b", 30)?;
     hold(&rt, alloc, &mut list, "a", 10)?;
 
-    let entries = list.renew(alloc, &map, &Touched::new(alloc), &mut work)?;
+    let entries = list.renew(
+        alloc,
+        &map,
+        &Touched::new(alloc),
+        &mut searches,
+        &mut work,
+        &mut kept,
+    )?;
     expect_names(&rt, &entries, &["b", "a"]);
     assert_eq!(rt; work.encodings, 2);
-    let entries = list.renew(alloc, &map, &Touched::new(alloc), &mut work)?;
+    let entries = list.renew(
+        alloc,
+        &map,
+        &Touched::new(alloc),
+        &mut searches,
+        &mut work,
+        &mut kept,
+    )?;
     expect_names(&rt, &entries, &[]);
     assert_eq!(rt; work.encodings, 2);
 
@@ -113,19 +159,40 @@ fn renewed_lists(rt: HostRuntime) -> Result<(), Fail> {
         shape: Vec::new(alloc),
     };
     edit(&rt, &mut map, longer);
-    let entries = list.renew(alloc, &map, &touches(&rt, alloc, 4, 5, 30)?, &mut work)?;
+    let entries = list.renew(
+        alloc,
+        &map,
+        &touches(&rt, alloc, 4, 5, 30)?,
+        &mut searches,
+        &mut work,
+        &mut kept,
+    )?;
     expect_names(&rt, &entries, &["b"]);
     assert_eq!(rt; work.encodings, 3);
 
     // a side road at a node of path a: its answer stays
     add_line(&rt, alloc, &mut map, 40, 6, 2);
-    let entries = list.renew(alloc, &map, &touches(&rt, alloc, 6, 2, 40)?, &mut work)?;
+    let entries = list.renew(
+        alloc,
+        &map,
+        &touches(&rt, alloc, 6, 2, 40)?,
+        &mut searches,
+        &mut work,
+        &mut kept,
+    )?;
     expect_names(&rt, &entries, &[]);
     assert_eq!(rt; work.encodings, 4);
 
     // the line of path a is gone
     edit(&rt, &mut map, Edit::DropLine(line(&rt, 10)));
-    let entries = list.renew(alloc, &map, &touches(&rt, alloc, 1, 2, 10)?, &mut work)?;
+    let entries = list.renew(
+        alloc,
+        &map,
+        &touches(&rt, alloc, 1, 2, 10)?,
+        &mut searches,
+        &mut work,
+        &mut kept,
+    )?;
     expect_names(&rt, &entries, &["a"]);
     assert!(rt; entries.iter().all(|entry| entry.published.is_err()));
     assert_eq!(rt; work.encodings, 5);
@@ -133,24 +200,30 @@ fn renewed_lists(rt: HostRuntime) -> Result<(), Fail> {
 }
 
 #[test]
-fn lists_renewed_after_others(rt: HostRuntime) -> Result<(), Fail> {
+fn lists_renewed_under_changes(rt: HostRuntime) -> Result<(), Fail> {
     let alloc = rt.alloc();
     let map = two_roads(&rt, alloc);
     let none = Touched::new(alloc);
     let mut work = Work::default();
+    let mut searches = Searches::new(alloc);
+    let mut kept = 0;
     let mut list = Listing::new(alloc);
     hold(&rt, alloc, &mut list, "a", 10)?;
-    let entries = list.renew(alloc, &map, &none, &mut work)?;
+    let entries = list.renew(alloc, &map, &none, &mut searches, &mut work, &mut kept)?;
     expect_names(&rt, &entries, &["a"]);
 
-    let before = list.share(alloc)?;
-    let count = list.len();
-    assert_eq!(rt; count, 1);
-    hold(&rt, alloc, &mut list, "b", 30)?;
-    let entries = list.renew_after(alloc, &map, &before, &none, &mut work)?;
+    let overlay = with_one_more(&rt, alloc, &list, "b", 30)?;
+    let entries = list.renew_over(
+        alloc,
+        &map,
+        &overlay,
+        &none,
+        &mut searches,
+        &mut work,
+        &mut kept,
+    )?;
     expect_names(&rt, &entries, &["b"]);
     assert_eq!(rt; work.encodings, 2);
     assert!(rt; list.published("b").is_some());
-    assert!(rt; before.published("b").is_none());
     Ok(())
 }

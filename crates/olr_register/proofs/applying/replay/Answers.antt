@@ -1,8 +1,10 @@
 use Rattle.std.proofs.Common.{arith, sym, ◌∙◌, subst}
 use Rattle.std.proofs.lemmas.Iterator.Adapters.{YieldsList-from_vec}
 use Rattle.std.proofs.lemmas.Iterator.Consumers.{YieldsList-end}
-use Rattle.olr_commands.specs.State.{start_state}
-use Rattle.olr_register.proofs.Runs.{HasRun, map_same, run_starts, sound_at_start, run_goes_on, run_named, run_refused, run_history, is_published, is_joined}
+use Rattle.olr_commands.specs.State.{IsContent, start_state}
+use Rattle.olr_commands.specs.Reply.{IsOutcome}
+use Rattle.olr_commands.proofs.HistoryLemmas.{SoundOutcome, run_each, headline_of_outcomes}
+use Rattle.olr_register.proofs.Runs.{HasRun, map_same, run_starts, sound_at_start, run_goes_on}
 use Rattle.olr_register.proofs.applying.replay.Goals as goal
 
 pub loop-command-init : goal.loop-command-init
@@ -27,18 +29,9 @@ whole_run c =
     subst (λ cs. HasRun c.loop-command.register cs c.loop-command.outcomes.items) (sym (map_same c.loop-command.yielded) ∙ all.0) c.loop-command.invariant.run
 
 pub returns-clause-history : goal.returns-clause-history
-returns-clause-history c = let run = whole_run c in (run.0, run.1, run_history start_state run.0 _ _ run.2)
+returns-clause-history c = let run = whole_run c in (run.0, run.1, (run.2.0, run_each SoundOutcome IsOutcome (λ a x o b p. p.0) start_state _ _ run.0 run.2.1))
 
-pub returns-clause-published : goal.returns-clause-published
-returns-clause-published c =
+pub returns-clause-headline : goal.returns-clause-headline
+returns-clause-headline c =
     let run = whole_run c in
-    is_published c.loop-command.register.kept run.0 _ _ run.1 c.loop-command.invariant.sound (run_history start_state run.0 _ _ run.2)
-
-pub returns-clause-joined : goal.returns-clause-joined
-returns-clause-joined c = is_joined c.loop-command.register.kept.content
-
-pub returns-clause-named : goal.returns-clause-named
-returns-clause-named c = let run = whole_run c in (run.0, run.1, run_named start_state run.0 _ _ run.2)
-
-pub returns-clause-refused : goal.returns-clause-refused
-returns-clause-refused c = let run = whole_run c in (run.0, run.1, run_refused start_state run.0 _ _ run.2)
+    (run.0, run.1, headline_of_outcomes start_state _ _ run.0 (subst IsContent run.1.0 c.loop-command.invariant.sound) run.2.1)

@@ -1,31 +1,32 @@
-use Rattle.std.proofs.Common.{inl, IsTrue, refl, sym, ◌∙◌, subst}
+use Rattle.std.proofs.Common.{inl, IsTrue, refl, sym, ap, ◌∙◌, subst}
 use Rattle.std.proofs.lemmas.Result.{err_from_is_err_and}
 use Rattle.olr_spec.specs.Extension.{Path, is_path}
 use Rattle.olr_paths.specs.Items.{items}
 use Rattle.olr_register.proofs.Singles.{as_before, closed_by, has_in, seen_again}
 use Rattle.olr_register.proofs.SinglePath.{add_exists, add_refused, add_keeps, add_done}
+use Rattle.olr_register.proofs.Tallies.{tally}
 use Rattle.olr_register.proofs.register.Register.add_now.Goals as goal
 
 pub returns-then-has : goal.returns-then-has
 returns-then-has c =
     let r = c.self.inside in
     let x = c.args.self.now in
-    add_exists x _ _ _ c.requires (has_in r.roads (items r.paths) r.batch r.work x _ _ _ c.self.view_is c.deref.ensures c.if-has.ensures) refl
+    add_exists x _ _ _ c.requires (has_in r.roads (items r.paths) r.batch (tally r.work r.kept) x _ _ _ c.self.view_is c.deref.ensures c.if-has.ensures) refl
 
 pub returns-in_err-path : goal.returns-in_err-path
 returns-in_err-path c =
     let r = c.self.inside in
     let x = c.args.self.now in
     let p = err_from_is_err_and c.from_residual.result c.from_residual.ensures.1 in
-    rw (p.1, p.2) (add_refused x _ _ _ c.requires (has_in r.roads (items r.paths) r.batch r.work x _ _ _ c.self.view_is c.deref.ensures c.if-has.ensures) c.in_err-path.ensures.fault)
+    rw (p.1, p.2) (add_refused x _ _ _ c.requires (has_in r.roads (items r.paths) r.batch (tally r.work r.kept) x _ _ _ c.self.view_is c.deref.ensures c.if-has.ensures) c.in_err-path.ensures.fault)
 
 pub returns-in_default : goal.returns-in_default
 returns-in_default c =
     let r = c.self.inside in
     let x = c.args.self.now in
-    let none = closed_by r.roads (items r.paths) r.batch r.work x c.self.view_is c.requires in
-    as_before x _ _ _ (seen_again r.roads r.roads (items r.paths) _ r.batch r.work c.add.new.work none refl c.in_default.ensures.err c.in_default.ensures.err_work ∙ c.self.view_is)
-    (add_refused x _ _ _ c.requires (has_in r.roads (items r.paths) r.batch r.work x _ _ _ c.self.view_is c.deref.ensures c.if-has.ensures) (inl refl))
+    let none = closed_by r.roads (items r.paths) r.batch (tally r.work r.kept) x c.self.view_is c.requires in
+    as_before x _ _ _ (seen_again r.roads r.roads (items r.paths) _ r.batch (tally r.work r.kept) (tally c.add.new.work r.kept) none refl c.in_default.ensures.err (ap (λ u. tally u r.kept) c.in_default.ensures.err_work) ∙ c.self.view_is)
+    (add_refused x _ _ _ c.requires (has_in r.roads (items r.paths) r.batch (tally r.work r.kept) x _ _ _ c.self.view_is c.deref.ensures c.if-has.ensures) (inl refl))
 
 pub invariant_of-self-2 : goal.invariant_of-self-2
 invariant_of-self-2 c =
@@ -34,8 +35,8 @@ invariant_of-self-2 c =
     let path = c.in_ok-path.path in
     let new = c.in-Ok.ensures.added in
     let good : IsTrue (is_path path.lines) = subst (λ (p : Path). IsTrue (is_path p.lines)) (sym c.in_ok-path.ensures.ok) c.in_ok-path.ensures.good in
-    add_keeps r.roads (items r.paths) r.batch r.work x _ c.self.view_is c.requires c.self.invariant path new.0 good new.1 _
-    (has_in r.roads (items r.paths) r.batch r.work x _ _ _ c.self.view_is c.deref.ensures c.if-has.ensures) new.2
+    add_keeps r.roads (items r.paths) r.batch (tally r.work r.kept) x _ c.self.view_is c.requires c.self.invariant path new.0 good new.1 _
+    (has_in r.roads (items r.paths) r.batch (tally r.work r.kept) x _ _ _ c.self.view_is c.deref.ensures c.if-has.ensures) new.2
 
 pub returns : goal.returns
 returns c =
@@ -44,5 +45,5 @@ returns c =
     let path = c.in_ok-path.path in
     let new = c.in-Ok.ensures.added in
     let good : IsTrue (is_path path.lines) = subst (λ (p : Path). IsTrue (is_path p.lines)) (sym c.in_ok-path.ensures.ok) c.in_ok-path.ensures.good in
-    add_done r.roads (items r.paths) r.batch r.work x _ c.self.view_is c.requires c.self.invariant path new.0 good new.1 _ _ c.add.new.work _ _ c.in_ok-path.ensures.ok
-    (has_in r.roads (items r.paths) r.batch r.work x _ _ _ c.self.view_is c.deref.ensures c.if-has.ensures) new.2 refl new.3 c.in-Ok.ensures.counted
+    add_done r.roads (items r.paths) r.batch (tally r.work r.kept) x _ c.self.view_is c.requires c.self.invariant path new.0 good new.1 _ _ (tally c.add.new.work r.kept) _ _ c.in_ok-path.ensures.ok
+    (has_in r.roads (items r.paths) r.batch (tally r.work r.kept) x _ _ _ c.self.view_is c.deref.ensures c.if-has.ensures) new.2 refl new.3 c.in-Ok.ensures.counted c.in-Ok.ensures.searches c.in-Ok.ensures.settled refl

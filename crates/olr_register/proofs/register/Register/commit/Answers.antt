@@ -2,35 +2,54 @@ use Rattle.std.proofs.Common.{refl, sym, ◌∙◌}
 use Rattle.olr_commands.specs.State.{Commit}
 use Rattle.olr_paths.specs.Items.{items}
 use Rattle.olr_register.proofs.BatchEnds.{none_refused}
-use Rattle.olr_register.proofs.BatchCommit.{count_refused, commit_lacks, commit_held, commit_done}
+use Rattle.olr_register.proofs.BatchCommit.{count_refused, commit_lacks, lacks_held, commit_from, commit_before, commit_held, commit_done}
+use Rattle.olr_register.proofs.Tallies.{tally}
 use Rattle.olr_register.proofs.register.Register.commit.Goals as goal
 
 pub returns-in_default : goal.returns-in_default
 returns-in_default c =
     let s = c.self.inside in
-    rw (← c.self.view_is) (none_refused s.roads (items s.paths) s.batch c.take.new.self s.work (Commit c.args.count) _ (sym c.take.ensures.value ∙ c.in_default.is) c.take.ensures.after refl)
+    rw (← c.self.view_is) (none_refused s.roads (items s.paths) s.batch c.take.new.self (tally s.work s.kept) (Commit c.args.count) _ (sym c.take.ensures.value ∙ c.in_default.is) c.take.ensures.after refl)
 
 pub returns-then-batch-count : goal.returns-then-batch-count
 returns-then-batch-count c =
     let s = c.self.inside in
-    rw (← c.self.view_is) (count_refused s.roads (items s.paths) s.batch c.in-Some.batch s.work c.args.count (sym c.in-Some.ensures.value) c.if-batch-count.true)
+    rw (← c.self.view_is) (count_refused s.roads (items s.paths) s.batch c.in-Some.batch (tally s.work s.kept) c.args.count (sym c.in-Some.ensures.value) c.if-batch-count.true)
 
 pub returns : goal.returns
 returns c =
     let s = c.self.inside in
+    let b = c.in-Some.batch in
+    let e = sym c.in-Some.ensures.value in
+    let before = commit_before s.roads (items s.paths) s.batch b e c.self.invariant in
+    let count = c.in-Ok.ensures.counted _ before in
     rw (← c.self.view_is)
-    (commit_done s.roads c.keep_all.new.self (items s.paths) (items c.renew_after.new.self) s.batch c.take.new.self c.in-Some.batch s.work c.renew_after.new.work c.args.count _ c.in-Ok.entries.items
-    (sym c.in-Some.ensures.value) c.take.ensures.after refl c.self.invariant c.if-batch-count.false c.keep_all.ensures c.in-Ok.ensures.renewed c.in-Ok.ensures.reported c.in-Ok.ensures.counted)
+    (commit_done s.roads c.keep_all.new.self (items s.paths) (items c.renew_over.new.self) b (tally s.work s.kept) (tally c.renew_over.new.work c.renew_over.new.kept) c.args.count count.0 _ c.in-Ok.entries.items
+    refl c.if-batch-count.false c.keep_all.ensures (c.in-Ok.ensures.renewed _ before) c.in-Ok.ensures.named c.in-Ok.ensures.reported count.1 count.2 count.3
+    c.in-Ok.ensures.searches c.in-Ok.ensures.settled c.in-Ok.ensures.kept s.batch c.take.new.self e c.take.ensures.after c.self.invariant)
 
 pub invariant_of-self-2 : goal.invariant_of-self-2
 invariant_of-self-2 c =
     let s = c.self.inside in
-    commit_held s.roads c.keep_all.new.self (items s.paths) (items c.renew_after.new.self) s.batch c.take.new.self c.in-Some.batch (sym c.in-Some.ensures.value) c.take.ensures.after c.self.invariant
-    c.keep_all.ensures c.in-Ok.ensures.renewed
+    let before = commit_before s.roads (items s.paths) s.batch c.in-Some.batch (sym c.in-Some.ensures.value) c.self.invariant in
+    commit_held s.roads c.keep_all.new.self (items s.paths) (items c.renew_over.new.self) s.batch c.take.new.self c.in-Some.batch (sym c.in-Some.ensures.value) c.take.ensures.after c.self.invariant
+    c.keep_all.ensures (c.in-Ok.ensures.renewed _ before) c.in-Ok.ensures.named
 
-pub returns-in_default-renew_after : goal.returns-in_default-renew_after
-returns-in_default-renew_after c =
+pub returns-in_default-renew_over : goal.returns-in_default-renew_over
+returns-in_default-renew_over c =
     let s = c.self.inside in
+    let e = c.in_default-renew_over.ensures in
     rw (← c.self.view_is)
-    (commit_lacks s.roads (items s.paths) s.batch c.in-Some.batch c.renew_after.new.self s.work c.renew_after.new.work c.args.count (sym c.in-Some.ensures.value) c.if-batch-count.false
-    c.in_default-renew_after.ensures.err c.in_default-renew_after.ensures.err_work)
+    (commit_lacks s.roads (items s.paths) (items c.renew_over.new.self) s.batch c.in-Some.batch (tally s.work s.kept) (tally c.renew_over.new.work c.renew_over.new.kept) c.args.count (sym c.in-Some.ensures.value) c.if-batch-count.false
+    e.err (λ i. tally (e.err_work i) (e.err_kept i)))
+
+pub renew_over-requires : goal.renew_over-requires
+renew_over-requires c =
+    let s = c.self.inside in
+    let held = commit_from s.roads (items s.paths) s.batch c.in-Some.batch (sym c.in-Some.ensures.value) c.self.invariant in
+    record { names = held.sound.names; follows = held.follows }
+
+pub invariant_of-self-in_default-renew_over : goal.invariant_of-self-in_default-renew_over
+invariant_of-self-in_default-renew_over c =
+    let s = c.self.inside in
+    lacks_held s.roads (items s.paths) (items c.renew_over.new.self) s.batch c.in-Some.batch (sym c.in-Some.ensures.value) c.in_default-renew_over.ensures.err c.self.invariant

@@ -1,68 +1,89 @@
-use Rattle.std.proofs.Common.{◌==◌, ◌||◌, ℕ, Ok, None, List, refl, ap, ◌∙◌, subst, sym}
+use Rattle.std.proofs.Common.{◌==◌, ◌||◌, ℕ, Ok, List, refl, ap, ◌∙◌, subst, sym}
 use Rattle.olr_spec.specs.Map.{Map, touched_nodes, touched_lines}
 use Rattle.olr_spec.specs.Extension.{has}
 use Rattle.olr_map.specs.Edits.{edit_of}
 use Rattle.olr_map.specs.RoadMaps.{map_of}
+use Rattle.std.specs.Prelude.{map as list_map}
+use Rattle.olr_commands.specs.Words.{entry_of}
 use Rattle.olr_paths.specs.Items.{items}
-use Rattle.olr_paths.specs.Changes.{AreRenewed}
-use Rattle.olr_paths.specs.Touching.{nodes_of, lines_of}
-use Rattle.olr_register.proofs.Singles.{as_before, closed_by, only_memory, seen_again}
-use Rattle.olr_register.proofs.SingleEdit.{refused_is, taken_is, edit_refused, edit_lacks, noted, edit_keeps, edit_done}
+use Rattle.olr_paths.specs.Changes.{AreRemade}
+use Rattle.olr_paths.specs.Touching.{nodes_of, lines_of, changed_of}
+use Rattle.olr_register.proofs.Singles.{as_before, closed_by, still_closed, seen_again}
+use Rattle.olr_register.proofs.SingleEdit.{refused_is, taken_is, edit_refused, edit_lacks, noted, changes_noted, edit_before, edit_keeps, edit_done}
+use Rattle.olr_register.proofs.Tallies.{tally}
 use Rattle.olr_register.proofs.register.Register.edit_now.Goals as goal
 
-pub returns-in-Some : goal.returns-in-Some
-returns-in-Some c =
+pub returns-in-Err : goal.returns-in-Err
+returns-in-Err c =
     let r = c.self.inside in
-    let p = refused_is _ c.in-Some.fault c.in-Some.ensures.fault in
-    edit_refused r.roads (items r.paths) r.batch r.work c.args.self.now (edit_of c.args.edit) p.0 c.in-Some.fault c.self.view_is c.requires p.1 p.2
+    let p = refused_is _ c.in-Err.fault c.in-Err.ensures.fault in
+    edit_refused r.roads (items r.paths) r.batch (tally r.work r.kept) c.args.self.now (edit_of c.args.edit) p.0 c.in-Err.fault c.self.view_is c.requires p.1 p.2
 
 pub returns-then-is_err : goal.returns-then-is_err
 returns-then-is_err c =
     let r = c.self.inside in
-    let taken = taken_is _ None refl c.in_default.ensures.fault in
-    edit_lacks r.roads (items r.paths) r.batch r.work c.args.self.now (edit_of c.args.edit) taken.0 _ c.self.view_is c.requires taken.1 refl
+    let taken = taken_is _ c.in-Ok.ensures.judged.accepted in
+    edit_lacks r.roads (items r.paths) r.batch (tally r.work r.kept) c.args.self.now (edit_of c.args.edit) taken.0 _ c.self.view_is c.requires taken.1 refl
 
 pub returns : goal.returns
 returns c =
     let r = c.self.inside in
     let x = c.args.self.now in
-    let none = closed_by r.roads (items r.paths) r.batch r.work x c.self.view_is c.requires in
-    let taken = taken_is _ None refl c.in_default.ensures.fault in
-    as_before x _ _ _ (seen_again r.roads c.apply.new.self (items r.paths) (items r.paths) r.batch r.work r.work none c.in-Err.ensures.same refl refl ∙ c.self.view_is)
-    (edit_lacks r.roads (items r.paths) r.batch r.work x (edit_of c.args.edit) taken.0 _ c.self.view_is c.requires taken.1 (only_memory _ _ taken.0 c.in-Err.fault taken.1 refl c.in-Err.ensures.refused))
+    let none = closed_by r.roads (items r.paths) r.batch (tally r.work r.kept) x c.self.view_is c.requires in
+    let taken = taken_is _ c.in-Ok.ensures.judged.accepted in
+    as_before x _ _ _ (seen_again r.roads c.make.new.self (items r.paths) (items r.paths) r.batch (tally r.work r.kept) (tally r.work r.kept) none c.in-Err-make.ensures.same refl refl ∙ c.self.view_is)
+    (edit_lacks r.roads (items r.paths) r.batch (tally r.work r.kept) x (edit_of c.args.edit) taken.0 _ c.self.view_is c.requires taken.1 refl)
 
-pub returns-in-Ok : goal.returns-in-Ok
-returns-in-Ok c =
+pub returns-in-Ok-make : goal.returns-in-Ok-make
+returns-in-Ok-make c =
     let r = c.self.inside in
     let x = c.args.self.now in
-    let none = closed_by r.roads (items r.paths) r.batch r.work x c.self.view_is c.requires in
-    let taken = taken_is _ None refl c.in_default.ensures.fault in
-    as_before x _ _ _ (seen_again r.roads c.undo.new.self (items r.paths) _ r.batch r.work c.renew.new.work none (c.undo.ensures ∙ c.in-Ok.ensures.before) c.in-Err-renew.ensures.err c.in-Err-renew.ensures.err_work ∙ c.self.view_is)
-    (edit_lacks r.roads (items r.paths) r.batch r.work x (edit_of c.args.edit) taken.0 _ c.self.view_is c.requires taken.1 refl)
+    let none = closed_by r.roads (items r.paths) r.batch (tally r.work r.kept) x c.self.view_is c.requires in
+    let taken = taken_is _ c.in-Ok.ensures.judged.accepted in
+    as_before x _ _ _ (seen_again r.roads c.undo.new.self (items r.paths) _ r.batch (tally r.work r.kept) (tally c.renew.new.work c.renew.new.kept) none (c.undo.ensures ∙ c.in-Ok-make.ensures.before) c.in-Err-renew.ensures.err (λ i. tally (c.in-Err-renew.ensures.err_work i) (c.in-Err-renew.ensures.err_kept i)) ∙ c.self.view_is)
+    (edit_lacks r.roads (items r.paths) r.batch (tally r.work r.kept) x (edit_of c.args.edit) taken.0 _ c.self.view_is c.requires taken.1 refl)
+
+pub invariant_of-self-in-Err-renew : goal.invariant_of-self-in-Err-renew
+invariant_of-self-in-Err-renew c =
+    let r = c.self.inside in
+    let none = closed_by r.roads (items r.paths) r.batch (tally r.work r.kept) c.args.self.now c.self.view_is c.requires in
+    still_closed r.roads c.undo.new.self (items r.paths) _ r.batch none (c.undo.ensures ∙ c.in-Ok-make.ensures.before) c.in-Err-renew.ensures.err c.self.invariant
 
 pub invariant_of-self : goal.invariant_of-self
 invariant_of-self c =
     let r = c.self.inside in
     let e = edit_of c.args.edit in
-    let ns = nodes_of c.note.new.self in
-    let xs = lines_of c.note.new.self in
-    let at = c.in-Some-nodes_touched.nodes in
-    edit_keeps r.roads c.keep.new.self (items r.paths) (items c.renew.new.self) r.batch r.work c.args.self.now e ns xs _ c.self.view_is c.requires c.self.invariant c.in_default.ensures.placed
-    (c.in-Ok.ensures.done ∙ ap (λ (M : Map). Ok M) (sym c.keep.ensures))
-    (noted _ ns (λ v. (at.0 == v) || (at.1 == v)) (λ v. has (touched_nodes (map_of r.roads) e) v) (c.reserve.ensures.nodes ∙ c.new-touched.ensures.nodes) c.note.ensures.nodes c.in-Some-nodes_touched.ensures.nodes)
-    (noted _ xs _ (λ y. has (touched_lines e) y) (c.reserve.ensures.lines ∙ c.new-touched.ensures.lines) c.note.ensures.lines (λ y. ap (λ (ys : List ℕ). has ys y) (sym c.line_touched.ensures)))
-    (subst (λ (M : Map). AreRenewed M ns xs (items r.paths) (items c.renew.new.self)) (sym c.keep.ensures) c.in-Ok-renew.ensures.renewed) c.in-Ok-renew.ensures.reported
+    let at = c.in-Ok.judged.nodes in
+    let ok = c.in-Ok-make.ensures.done ∙ ap (λ (M : Map). Ok M) (sym c.keep.ensures) in
+    edit_keeps r.roads c.keep.new.self (items r.paths) (items c.renew.new.self) r.batch (tally r.work r.kept) c.args.self.now e _ c.self.view_is c.requires c.self.invariant c.in-Ok.ensures.judged.placed ok
+    (nodes_of c.note.new.self) (lines_of c.note.new.self) (changed_of c.note.new.self)
+    (noted _ _ (λ v. (at.0 == v) || (at.1 == v)) (λ v. has (touched_nodes (map_of r.roads) e) v) (c.reserve.ensures.nodes ∙ c.new-touched.ensures.nodes) c.note.ensures.nodes c.in-Ok.ensures.judged.nodes)
+    (noted _ _ _ (λ y. has (touched_lines e) y) (c.reserve.ensures.lines ∙ c.new-touched.ensures.lines) c.note.ensures.lines (λ y. ap (λ (ys : List ℕ). has ys y) (sym c.in-Ok.ensures.judged.lines)))
+    (changes_noted _ _ _ (c.reserve.ensures.changed ∙ c.new-touched.ensures.changed) c.note.ensures.changed (c.line_changed.ensures ∙ c.in-Ok.ensures.judged.changes))
+    (subst (λ (M : Map). AreRemade M (items r.paths) (items c.renew.new.self)) (sym c.keep.ensures) (c.in-Ok-renew.ensures.renewed _ (edit_before r.roads c.keep.new.self (items r.paths) (items c.renew.new.self) r.batch (tally r.work r.kept) c.args.self.now e (list_map entry_of c.in-Ok-renew.entries.items) c.self.view_is c.requires c.self.invariant c.in-Ok.ensures.judged.placed ok
+    (nodes_of c.note.new.self) (lines_of c.note.new.self) (changed_of c.note.new.self)
+    (noted _ _ (λ v. (at.0 == v) || (at.1 == v)) (λ v. has (touched_nodes (map_of r.roads) e) v) (c.reserve.ensures.nodes ∙ c.new-touched.ensures.nodes) c.note.ensures.nodes c.in-Ok.ensures.judged.nodes)
+    (noted _ _ _ (λ y. has (touched_lines e) y) (c.reserve.ensures.lines ∙ c.new-touched.ensures.lines) c.note.ensures.lines (λ y. ap (λ (ys : List ℕ). has ys y) (sym c.in-Ok.ensures.judged.lines)))
+    (changes_noted _ _ _ (c.reserve.ensures.changed ∙ c.new-touched.ensures.changed) c.note.ensures.changed (c.line_changed.ensures ∙ c.in-Ok.ensures.judged.changes)) (map_of c.make.new.self) (sym c.keep.ensures)))) c.in-Ok-renew.ensures.named c.in-Ok-renew.ensures.reported
 
 pub returns-in-Ok-renew : goal.returns-in-Ok-renew
 returns-in-Ok-renew c =
     let r = c.self.inside in
     let e = edit_of c.args.edit in
-    let ns = nodes_of c.note.new.self in
-    let xs = lines_of c.note.new.self in
-    let at = c.in-Some-nodes_touched.nodes in
-    edit_done r.roads c.keep.new.self (items r.paths) (items c.renew.new.self) r.batch r.work c.args.self.now e ns xs _ c.self.view_is c.requires c.self.invariant c.in_default.ensures.placed
-    (c.in-Ok.ensures.done ∙ ap (λ (M : Map). Ok M) (sym c.keep.ensures))
-    (noted _ ns (λ v. (at.0 == v) || (at.1 == v)) (λ v. has (touched_nodes (map_of r.roads) e) v) (c.reserve.ensures.nodes ∙ c.new-touched.ensures.nodes) c.note.ensures.nodes c.in-Some-nodes_touched.ensures.nodes)
-    (noted _ xs _ (λ y. has (touched_lines e) y) (c.reserve.ensures.lines ∙ c.new-touched.ensures.lines) c.note.ensures.lines (λ y. ap (λ (ys : List ℕ). has ys y) (sym c.line_touched.ensures)))
-    (subst (λ (M : Map). AreRenewed M ns xs (items r.paths) (items c.renew.new.self)) (sym c.keep.ensures) c.in-Ok-renew.ensures.renewed) c.in-Ok-renew.ensures.reported
-    c.renew.new.work _ refl c.in-Ok-renew.ensures.counted
+    let at = c.in-Ok.judged.nodes in
+    let ok = c.in-Ok-make.ensures.done ∙ ap (λ (M : Map). Ok M) (sym c.keep.ensures) in
+    let before =
+    (edit_before r.roads c.keep.new.self (items r.paths) (items c.renew.new.self) r.batch (tally r.work r.kept) c.args.self.now e (list_map entry_of c.in-Ok-renew.entries.items) c.self.view_is c.requires c.self.invariant c.in-Ok.ensures.judged.placed ok
+    (nodes_of c.note.new.self) (lines_of c.note.new.self) (changed_of c.note.new.self)
+    (noted _ _ (λ v. (at.0 == v) || (at.1 == v)) (λ v. has (touched_nodes (map_of r.roads) e) v) (c.reserve.ensures.nodes ∙ c.new-touched.ensures.nodes) c.note.ensures.nodes c.in-Ok.ensures.judged.nodes)
+    (noted _ _ _ (λ y. has (touched_lines e) y) (c.reserve.ensures.lines ∙ c.new-touched.ensures.lines) c.note.ensures.lines (λ y. ap (λ (ys : List ℕ). has ys y) (sym c.in-Ok.ensures.judged.lines)))
+    (changes_noted _ _ _ (c.reserve.ensures.changed ∙ c.new-touched.ensures.changed) c.note.ensures.changed (c.line_changed.ensures ∙ c.in-Ok.ensures.judged.changes)) (map_of c.make.new.self) (sym c.keep.ensures)) in
+    let count = c.in-Ok-renew.ensures.counted _ before in
+    edit_done r.roads c.keep.new.self (items r.paths) (items c.renew.new.self) r.batch (tally r.work r.kept) c.args.self.now e _ c.self.view_is c.requires c.self.invariant c.in-Ok.ensures.judged.placed ok
+    (nodes_of c.note.new.self) (lines_of c.note.new.self) (changed_of c.note.new.self)
+    (noted _ _ (λ v. (at.0 == v) || (at.1 == v)) (λ v. has (touched_nodes (map_of r.roads) e) v) (c.reserve.ensures.nodes ∙ c.new-touched.ensures.nodes) c.note.ensures.nodes c.in-Ok.ensures.judged.nodes)
+    (noted _ _ _ (λ y. has (touched_lines e) y) (c.reserve.ensures.lines ∙ c.new-touched.ensures.lines) c.note.ensures.lines (λ y. ap (λ (ys : List ℕ). has ys y) (sym c.in-Ok.ensures.judged.lines)))
+    (changes_noted _ _ _ (c.reserve.ensures.changed ∙ c.new-touched.ensures.changed) c.note.ensures.changed (c.line_changed.ensures ∙ c.in-Ok.ensures.judged.changes))
+    (subst (λ (M : Map). AreRemade M (items r.paths) (items c.renew.new.self)) (sym c.keep.ensures) (c.in-Ok-renew.ensures.renewed _ before)) c.in-Ok-renew.ensures.named c.in-Ok-renew.ensures.reported
+    (tally c.renew.new.work c.renew.new.kept) _ count.0 refl count.1 count.2 count.3
+    (record { searches = c.in-Ok-renew.ensures.searches; settled = c.in-Ok-renew.ensures.settled; spared = c.in-Ok-renew.ensures.kept })

@@ -5,17 +5,18 @@ use Rattle.olr_commands.specs.Words.{path_along}
 use Rattle.olr_map.specs.RoadMaps.{map_before}
 use Rattle.olr_paths.specs.Items.{items}
 use Rattle.olr_register.proofs.BatchEnds.{given_answered, given_held}
+use Rattle.olr_register.proofs.Tallies.{tally}
 use Rattle.olr_register.proofs.register.Register.hold_add.Goals as goal
 
 pub invariant_of-self : goal.invariant_of-self
 invariant_of-self c =
     let s = c.self.inside in
     given_held s.roads s.roads (items s.paths) s.batch c.in-Some.batch c.add_path-result.new.self (sym c.in-Some.ensures.value) c.self.invariant (ap (map_before s.roads) c.add_path-result.ensures.log)
-    (c.add_path-result.ensures.held s.roads (items s.paths))
+    (c.add_path-result.ensures.held s.roads)
 
 pub returns : goal.returns
 returns c =
     let s = c.self.inside in
     rw (← c.self.view_is)
-    (given_answered s.roads s.roads (items s.paths) s.batch _ c.in-Some.batch c.add_path-result.new.self s.work (Add_path (string_bytes c.args.name) (path_along c.args.lines.items c.args.pos c.args.neg)) _ (sym c.in-Some.ensures.value) refl
+    (given_answered s.roads s.roads (items s.paths) s.batch _ c.in-Some.batch c.add_path-result.new.self (tally s.work s.kept) (Add_path (string_bytes c.args.name) (path_along c.args.lines.items c.args.pos c.args.neg)) _ (sym c.in-Some.ensures.value) refl
     (ap (map_before s.roads) c.add_path-result.ensures.log) (c.add_path-result.ensures.given s.roads))

@@ -1,4 +1,4 @@
-use Rattle.std.proofs.Common.{inl, IsTrue, refl, sym, ◌∙◌, subst}
+use Rattle.std.proofs.Common.{inl, IsTrue, refl, sym, ap, ◌∙◌, subst}
 use Rattle.std.proofs.lemmas.Result.{err_from_is_err_and}
 use Rattle.olr_spec.specs.Extension.{Path, is_path}
 use Rattle.olr_paths.specs.Items.{items}
@@ -6,20 +6,21 @@ use Rattle.olr_register.specs.Holding.{map_kept}
 use Rattle.olr_register.proofs.Asking.{some_answer_in}
 use Rattle.olr_register.proofs.Singles.{as_before, closed_by, has_in, seen_again}
 use Rattle.olr_register.proofs.SinglePath.{set_unknown, set_refused, set_keeps, set_done}
+use Rattle.olr_register.proofs.Tallies.{tally}
 use Rattle.olr_register.proofs.register.Register.set_now.Goals as goal
 
 pub returns-then-not-has : goal.returns-then-not-has
 returns-then-not-has c =
     let r = c.self.inside in
     let x = c.args.self.now in
-    set_unknown x _ _ _ c.requires (has_in r.roads (items r.paths) r.batch r.work x _ _ _ c.self.view_is refl c.if-not-has.ensures) refl
+    set_unknown x _ _ _ c.requires (has_in r.roads (items r.paths) r.batch (tally r.work r.kept) x _ _ _ c.self.view_is refl c.if-not-has.ensures) refl
 
 pub returns-in_err-path : goal.returns-in_err-path
 returns-in_err-path c =
     let r = c.self.inside in
     let x = c.args.self.now in
     let p = err_from_is_err_and c.from_residual.result c.from_residual.ensures.1 in
-    rw (p.1, p.2) (set_refused x _ _ _ c.requires (has_in r.roads (items r.paths) r.batch r.work x _ _ _ c.self.view_is refl c.if-not-has.ensures) c.in_err-path.ensures.fault)
+    rw (p.1, p.2) (set_refused x _ _ _ c.requires (has_in r.roads (items r.paths) r.batch (tally r.work r.kept) x _ _ _ c.self.view_is refl c.if-not-has.ensures) c.in_err-path.ensures.fault)
 
 pub set-requires : goal.set-requires
 set-requires c = some_answer_in (map_kept c.self.inside.roads c.self.inside.batch) (items c.self.inside.paths) c.args.name.now c.self.invariant.made (sym c.if-not-has.ensures)
@@ -28,9 +29,9 @@ pub returns-in_default : goal.returns-in_default
 returns-in_default c =
     let r = c.self.inside in
     let x = c.args.self.now in
-    let none = closed_by r.roads (items r.paths) r.batch r.work x c.self.view_is c.requires in
-    as_before x _ _ _ (seen_again r.roads r.roads (items r.paths) _ r.batch r.work c.set.new.work none refl c.in_default.ensures.err c.in_default.ensures.err_work ∙ c.self.view_is)
-    (set_refused x _ _ _ c.requires (has_in r.roads (items r.paths) r.batch r.work x _ _ _ c.self.view_is refl c.if-not-has.ensures) (inl refl))
+    let none = closed_by r.roads (items r.paths) r.batch (tally r.work r.kept) x c.self.view_is c.requires in
+    as_before x _ _ _ (seen_again r.roads r.roads (items r.paths) _ r.batch (tally r.work r.kept) (tally c.set.new.work r.kept) none refl c.in_default.ensures.err (ap (λ u. tally u r.kept) c.in_default.ensures.err_work) ∙ c.self.view_is)
+    (set_refused x _ _ _ c.requires (has_in r.roads (items r.paths) r.batch (tally r.work r.kept) x _ _ _ c.self.view_is refl c.if-not-has.ensures) (inl refl))
 
 pub invariant_of-self-2 : goal.invariant_of-self-2
 invariant_of-self-2 c =
@@ -39,8 +40,8 @@ invariant_of-self-2 c =
     let path = c.in_ok-path.path in
     let new = c.in-Ok.ensures.set in
     let good : IsTrue (is_path path.lines) = subst (λ (p : Path). IsTrue (is_path p.lines)) (sym c.in_ok-path.ensures.ok) c.in_ok-path.ensures.good in
-    set_keeps r.roads (items r.paths) r.batch r.work x _ c.self.view_is c.requires c.self.invariant path new.0 good new.1 _
-    (has_in r.roads (items r.paths) r.batch r.work x _ _ _ c.self.view_is refl c.if-not-has.ensures) new.2
+    set_keeps r.roads (items r.paths) r.batch (tally r.work r.kept) x _ c.self.view_is c.requires c.self.invariant path new.0 good new.1 _
+    (has_in r.roads (items r.paths) r.batch (tally r.work r.kept) x _ _ _ c.self.view_is refl c.if-not-has.ensures) new.2
 
 pub returns : goal.returns
 returns c =
@@ -49,5 +50,5 @@ returns c =
     let path = c.in_ok-path.path in
     let new = c.in-Ok.ensures.set in
     let good : IsTrue (is_path path.lines) = subst (λ (p : Path). IsTrue (is_path p.lines)) (sym c.in_ok-path.ensures.ok) c.in_ok-path.ensures.good in
-    set_done r.roads (items r.paths) r.batch r.work x _ c.self.view_is c.requires c.self.invariant path new.0 good new.1 _ _ c.set.new.work _ _ c.in_ok-path.ensures.ok
-    (has_in r.roads (items r.paths) r.batch r.work x _ _ _ c.self.view_is refl c.if-not-has.ensures) new.2 refl new.3 c.in-Ok.ensures.counted
+    set_done r.roads (items r.paths) r.batch (tally r.work r.kept) x _ c.self.view_is c.requires c.self.invariant path new.0 good new.1 _ _ (tally c.set.new.work r.kept) _ _ c.in_ok-path.ensures.ok
+    (has_in r.roads (items r.paths) r.batch (tally r.work r.kept) x _ _ _ c.self.view_is refl c.if-not-has.ensures) new.2 refl new.3 c.in-Ok.ensures.counted c.in-Ok.ensures.searches c.in-Ok.ensures.settled refl

@@ -1,0 +1,88 @@
+-- What is asked of each path of a list is asked of the one at a place.
+use Rattle.std.proofs.Common.{◌≡◌, ℕ, ◌+◌, ◌<◌, List, [], ◌∷◌, length, get_or, slice_get, Contains, Option, Some, None, option_map, IfSome, Bool, IsTrue, IsFalse, true, false, refl, sym, ap, ◌∙◌, subst, inl, inr, arith}
+use Rattle.std.specs.Prelude.{string_bytes}
+use Rattle.std.proofs.lemmas.Bool.{cases_lt}
+use Rattle.std.proofs.lemmas.Option.{slice_get_within, get_or_from_slice_get, slice_get_read}
+use Rattle.std.proofs.lemmas.List.Elements.{Contains-get_or}
+use Rattle.olr_spec.specs.Looks.{Look}
+use Rattle.olr_spec.specs.Map.{Map}
+use Rattle.olr_paths.specs.Items.{Made, Item}
+use Rattle.olr_paths.specs.Changes.{LookTouched}
+use Rattle.olr_route.specs.Searches.{IsSearch, limit_of}
+use Rattle.olr_route.specs.declared.distances.Search.{Search}
+use Rattle.olr_route.specs.declared.distances.Direction.TheVariants.{Against}
+use Rattle.olr_spec.specs.Extension.{limit}
+use Rattle.olr_paths.specs.Touching.{nodes_of}
+use Rattle.olr_paths.specs.Searching.{sources, IsAsked, AreAsked, LacksLooks, LackLooks}
+use Rattle.olr_paths.specs.declared.touched.Touched.{Touched}
+use Rattle.olr_paths.specs.declared.searches.Searches.{Searches}
+
+-- an element stands at a place
+pub listed_at : (is : List Item) (k : ℕ) (i : Item) → slice_get is k ≡ Some i → Contains is i
+listed_at is k i at = (k, slice_get_within is k i at, get_or_from_slice_get is k i i at)
+
+-- ---- no looks
+
+abbrev pub LackBefore : List Item → ℕ → Type 0
+LackBefore is n = (k : ℕ) (i : Item) → k < n → slice_get is k ≡ Some i → LacksLooks i.made
+
+pub lack_more : (is : List Item) (n : ℕ) (i : Item) → LackBefore is n → slice_get is n ≡ Some i → LacksLooks i.made → LackBefore is (n + 1)
+lack_more is n i before at lacks k j lt there = elim (cases_lt k n) [
+  | inl low ↦ before k j low there
+  | inr high ↦
+      let same : k ≡ n = omega arith in
+      let both : ◌≡◌ {A = Option Item} (Some i) (Some j) = sym at ∙ ap (slice_get is) (sym same) ∙ there in
+      let is_that : i ≡ j = cc in
+      subst (λ (x : Item). LacksLooks x.made) is_that lacks
+]
+
+pub lack_all : (is : List Item) (n : ℕ) → length is ≡ n → LackBefore is n → LackLooks is
+lack_all is n long before i there = let lt = there.1 in before there.0 i (omega arith) (slice_get_read is (length is) there.0 i refl there.1 (sym there.2))
+
+-- of what was made, told by what it was made of
+pub made_if : {A : Type 0} (f : A → Made) (P : Made → Type 0) (o : Option A) → IfSome (option_map f o) P → IfSome o (λ a. P (f a))
+made_if f P None h = h
+made_if f P (Some a) h = h
+
+-- so no look is touched
+pub lacks_untouched : (N : Map) (T : List ℕ) (m : Made) → m.looks ≡ [] → ¬ LookTouched N T m
+lacks_untouched N T m none h = let lt = (subst (λ (ls : List Look). Contains ls h.0) none h.1).1 in absurd (omega arith)
+
+-- ---- searches
+
+module _ (N : Map) (place : ℕ → ℕ) (t : Touched) where
+  -- what was asked rests on the search from the touched nodes alone
+  asked_made : (s r : Searches) (made : Option Made) → r.near ≡ s.near → r.far ≡ s.far → IfSome made (IsAsked N place t s) → IfSome made (IsAsked N place t r)
+  asked_made s r None near far h = h
+  asked_made s r (Some m) near far h = record {
+    search = λ off. subst (λ (x : Search). IsSearch N place Against (sources t) x) (sym near) (h.search (subst (λ (b : Bool). IsFalse b) far off));
+    settled = λ off. ap limit_of near ∙ h.settled (subst (λ (b : Bool). IsFalse b) far off);
+    far = λ on. h.far (subst (λ (b : Bool). IsTrue b) far on);
+  }
+
+  pub asked_again : (s r : Searches) (is : List Item) → r.near ≡ s.near → r.far ≡ s.far → AreAsked N place t s is → AreAsked N place t r is
+  asked_again s r is near far h i there = asked_made s r i.made near far (h i there)
+
+  far_made : (s : Searches) (made : Option Made) → s.far ≡ true → IfSome made (λ m. ¬ LookTouched N (nodes_of t) m) → IfSome made (IsAsked N place t s)
+  far_made s None on h = h
+  far_made s (Some m) on h = record {
+    search = λ off. let never : ⊥ = cc (on, off) in absurd never;
+    settled = λ off. let never : ⊥ = cc (on, off) in absurd never;
+    far = λ _. h;
+  }
+
+  untouched_made : (made : Option Made) → LacksLooks made → IfSome made (λ m. ¬ LookTouched N (nodes_of t) m)
+  untouched_made None h = h
+  untouched_made (Some m) h = lacks_untouched N (nodes_of t) m h
+
+  -- where no path has a look
+  pub asked_lack : (s : Searches) (is : List Item) → s.far ≡ true → LackLooks is → AreAsked N place t s is
+  asked_lack s is on lack i there = far_made s i.made on (untouched_made i.made (lack i there))
+
+  -- where the search is made
+  searched_made : (s : Searches) (made : Option Made) → s.far ≡ false → IsSearch N place Against (sources t) s.near → limit_of s.near ≡ limit → IfSome made (IsAsked N place t s)
+  searched_made s None off search settled = tt
+  searched_made s (Some m) off search settled = record { search = λ _. search; settled = λ _. settled; far = λ on. let never : ⊥ = cc (on, off) in absurd never }
+
+  pub asked_searched : (s : Searches) (is : List Item) → s.far ≡ false → IsSearch N place Against (sources t) s.near → limit_of s.near ≡ limit → AreAsked N place t s is
+  asked_searched s is off search settled i there = searched_made s i.made off search settled

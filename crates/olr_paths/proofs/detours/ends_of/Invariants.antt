@@ -1,0 +1,6 @@
+use Rattle.std.proofs.Common.{◌≡◌, ℕ, take, map}
+use Rattle.olr_paths.specs.declared.touched.ChangedLine.{ChangedLine}
+use Rattle.olr_paths.proofs.detours.ends_of.Given as goal
+
+abbrev pub invariant-loop-line : goal.invariant-loop-line
+invariant-loop-line l = l.ends.items ≡ map {A = ChangedLine} {B = ℕ × ℕ} (λ c. (c.to, 0)) (take l.line-index l.changed)

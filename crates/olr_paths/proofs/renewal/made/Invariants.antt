@@ -1,8 +1,0 @@
-use Rattle.olr_paths.specs.Items.{items}
-use Rattle.olr_paths.specs.Touching.{nodes_of, lines_of}
-use Rattle.olr_paths.proofs.Through.{SoFar}
-use Rattle.olr_paths.proofs.renewal.made.Given as goal
-
--- the paths before the position are renewed, told and counted
-abbrev pub invariant-loop-position : goal.invariant-loop-position
-invariant-loop-position g l = SoFar (g.M.MapRead.map l.map) (nodes_of l.touched) (lines_of l.touched) (items l.before) (items l.list) l.position l.renewal l.initial.work l.work

@@ -1,0 +1,46 @@
+-- Changes that lie over a list of named paths.
+--     Changes, change_at cs name      what becomes of paths by their names: another path, or none where it is taken away
+--     laid cs is      the list with these changes.        overlaid is o      with those of an overlay, and the new ones behind
+use Rattle.std.specs.Prelude.{ℕ, Bool, true, false, cond, List, [], ◌∷◌, ◌++◌, map, Option, Some, None, option_map, string_bytes}
+use Rattle.olr_spec.specs.Extension.{Path}
+use Rattle.olr_commands.specs.State.{same_name}
+use Rattle.olr_paths.specs.Items.{Item, items}
+use Rattle.std.specs.Prelude.{String}
+use Rattle.std.specs.declared.alloc.Global.{Global}
+use Rattle.std.specs.declared.rc.Rc.{Rc}
+use Rattle.olr_paths.specs.declared.overlay.Overlay.{Overlay}
+
+abbrev pub Changes : Type 0
+Changes = List (List ℕ × Option Path)
+
+abbrev pub change_at : Changes → List ℕ → Option (Option Path)
+change_at [] name = None
+change_at (c ∷ cs) name = cond (same_name c.0 name) (Some c.1) (change_at cs name)
+
+-- whether it is known that the path is taken away
+abbrev pub drops : Option (Option Path) → Bool
+drops (Some None) = true
+drops (Some (Some path)) = false
+drops None = false
+
+-- what becomes of one path, which is not encoded yet where it is another
+abbrev pub one_laid : Option (Option Path) → Item → List Item
+one_laid None i = i ∷ []
+one_laid (Some None) i = []
+one_laid (Some (Some path)) i = record { name = i.name; path = path; made = None } ∷ []
+
+abbrev pub laid : Changes → List Item → List Item
+laid cs [] = []
+laid cs (i ∷ is) = one_laid (change_at cs i.name) i ++ laid cs is
+
+abbrev pub path_in : Option (Rc Path Global) → Option Path
+path_in o = option_map (λ p. p.value) o
+
+abbrev pub changes_in : List (String Global × Option (Rc Path Global)) → Changes
+changes_in es = map (λ e. (string_bytes e.0, path_in e.1)) es
+
+abbrev pub changes_of : Overlay → Changes
+changes_of o = changes_in o.changes.entries
+
+abbrev pub overlaid : List Item → Overlay → List Item
+overlaid is o = laid (changes_of o) is ++ items o.added

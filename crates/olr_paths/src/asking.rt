@@ -1,0 +1,118 @@
+//! Which paths edits of the map concern.
+ghost use Rattle.std.specs.Prelude.{◌≡◌, ◌↔◌, ℕ, Contains, IsTrue, IfOk, OnOk};
+ghost use Rattle.std.specs.List.{list_any};
+ghost use Rattle.olr_spec.specs.Extension.{has, limit};
+ghost use Rattle.olr_spec.specs.Detours.{Near};
+ghost use Rattle.olr_route.specs.Searches.{IsSearch, limit_of};
+ghost use Rattle.olr_route.specs.declared.distances.Direction.TheVariants.{Against};
+ghost use Rattle.olr_paths.specs.Items.{made_of};
+ghost use Rattle.olr_paths.specs.Touching.{nodes_of, lines_of};
+ghost use Rattle.olr_paths.specs.Searching.{sources, IsAsked};
+ghost use Rattle.olr_paths.specs.Changes.{Touches, LookTouched};
+
+use crate::published::Published;
+use crate::searches::Searches;
+use crate::touched::Touched;
+use olr_map::{Footprint, LineId, MapRead, NodeId};
+use olr_refs::Path;
+use olr_route::{Direction, GREATEST_LIMIT, Search};
+use std::alloc::{AllocError, Global};
+
+/// The touched nodes, as where a search begins.
+fn sources_of(alloc: Global, touched: &Touched) -> Result<Vec<(NodeId, u32)>, AllocError>
+    ensures { IfOk result (λ v. v.items ≡ sources touched.now) }
+{
+    let nodes = touched.nodes.as_slice();
+    let mut sources = Vec::with_capacity(alloc, nodes.len())?;
+    for node in nodes {
+        sources.push((*node, 0))?;
+    }
+    Ok(sources)
+}
+
+/// Searches against the lines from all touched nodes.
+pub(crate) fn search_near<M: MapRead>(
+    alloc: Global,
+    map: &M,
+    touched: &Touched,
+    near: &mut Search,
+) -> Result<(), AllocError>
+    ensures search { OnOk result (IsSearch (M.map map.now) (M.place_in map.now) Against (sources touched.now) near.new) }
+    ensures limit { OnOk result (limit_of near.new ≡ limit) }
+{
+    let sources = sources_of(alloc, touched)?;
+    near.begin(map, Direction::Against, &sources)?;
+    near.settle_to(map, GREATEST_LIMIT)?;
+    Ok(())
+}
+
+/// Whether a touched node can be reached from a node within the greatest limit.
+fn is_near<M: MapRead>(map: &M, touched: &Touched, near: &Search, node: NodeId) -> bool
+    requires search { IsSearch (M.map map.now) (M.place_in map.now) Against (sources touched.now) near.now }
+    requires limit { limit_of near.now ≡ limit }
+    ensures { IsTrue result ↔ Near (M.map map.now) (nodes_of touched.now) node limit }
+{
+    match map.place_of(node) {
+        Some(place) => near.dist_at(place).is_some(),
+        None => touched.has_node(node),
+    }
+}
+
+/// Whether one of the own nodes was touched.
+pub(crate) fn own_touched(touched: &Touched, own: &Footprint) -> bool
+    ensures { IsTrue result ↔ ((v : ℕ) × IsTrue (has (nodes_of touched.now) v) × Contains own.now v) }
+{
+    let nodes = own.as_slice();
+    nodes.iter().any(|node| touched.has_node(*node))
+}
+
+/// Whether one of the lines was touched, by a test of each.
+fn any_touched(touched: &Touched, lines: &[LineId]) -> bool
+    ensures { result ≡ list_any (λ x. has (lines_of touched.now) x) lines.now }
+{
+    lines.iter().any(|line| touched.has_line(*line))
+}
+
+/// Whether one of the lines was touched.
+pub(crate) fn line_touched(touched: &Touched, lines: &[LineId]) -> bool
+    ensures { IsTrue result ↔ ((x : ℕ) × IsTrue (has (lines_of touched.now) x) × IsTrue (has lines.now x)) }
+{
+    any_touched(touched, lines)
+}
+
+/// Whether a touched node is near to where one of the looks begins.
+fn look_touched<M: MapRead>(
+    map: &M,
+    touched: &Touched,
+    near: &Search,
+    published: &Published,
+) -> bool
+    requires search { IsSearch (M.map map.now) (M.place_in map.now) Against (sources touched.now) near.now }
+    requires limit { limit_of near.now ≡ limit }
+    ensures { IsTrue result ↔ LookTouched (M.map map.now) (nodes_of touched.now) (made_of published.now) }
+{
+    let looks = published.looks.as_slice();
+    for look in looks {
+        if is_near(map, touched, near, look.from) {
+            return true;
+        }
+    }
+    false
+}
+
+/// Whether edits concern a path, by what was made of it before them.
+pub(crate) fn touches<M: MapRead>(
+    map: &M,
+    touched: &Touched,
+    searches: &Searches,
+    path: &Path,
+    published: &Published,
+) -> bool
+    requires { IsAsked (M.map map.now) (M.place_in map.now) touched.now searches.now (made_of published.now) }
+    ensures { IsTrue result
+        ↔ Touches (M.map map.now) (nodes_of touched.now) (lines_of touched.now) (made_of published.now) path.now }
+{
+    own_touched(touched, &published.own)
+        || line_touched(touched, path.lines())
+        || (!searches.far && look_touched(map, touched, &searches.near, published))
+}

@@ -1,0 +1,176 @@
+//! Changes of a list of named paths that are held until they are taken up all at once.
+ghost use Rattle.std.specs.Prelude.{◌≡◌, List, [], ◌∷◌, ◌++◌, map, false, is_some, IfOk, OnOk};
+ghost use Rattle.std.specs.Option.{option_to_list};
+ghost use Rattle.olr_commands.specs.State.{NamesDiffer, path_named};
+ghost use Rattle.olr_paths.specs.Items.{Item, items, all_named};
+ghost use Rattle.olr_paths.specs.Renewing.{item_of};
+ghost use Rattle.olr_paths.specs.Laying.{changes_in, changes_of, change_at, drops, one_laid, laid, overlaid};
+
+use crate::listing::{Listing, NamedPath};
+use indexmap::IndexMap;
+use olr_refs::Path;
+use std::alloc::{AllocError, Global};
+use std::rc::Rc;
+
+/// Changes that lie over a list of named paths: another path in the place of one, one taken away, new ones behind all others.
+/// A name that is taken away and comes anew is among both.
+#[derive(Drop, Debug)]
+pub struct Overlay {
+    /// What becomes of paths of the list. None where the path is taken away.
+    pub(crate) changes: IndexMap<String, Option<Rc<Path>>>,
+    /// New ones, not encoded yet.
+    pub(crate) added: Listing,
+}
+
+/// What becomes of a path of a list under changes, by its name. None where it is taken away.
+fn becomes(
+    changes: &IndexMap<String, Option<Rc<Path>>>,
+    name: &str,
+    named: &NamedPath,
+) -> Result<Option<NamedPath>, AllocError>
+    ensures { IfOk result (λ o. map (item_of name.now) (option_to_list o)
+        ≡ one_laid (change_at (changes_in changes.now.entries) name.now) (item_of name.now named.now)) }
+{
+    let Some(change) = changes.get(name) else {
+        return Ok(Some(named.share()?));
+    };
+    match change {
+        Some(path) => Ok(Some(NamedPath {
+            path: path.clone()?,
+            published: None,
+        })),
+        None => Ok(None),
+    }
+}
+
+/// Puts what becomes of a path last in a list. After a refusal that list is as before.
+fn put_one(
+    alloc: Global,
+    changes: &IndexMap<String, Option<Rc<Path>>>,
+    name: &str,
+    named: &NamedPath,
+    to: &mut Listing,
+) -> Result<(), AllocError>
+    requires { (j : Item) → one_laid (change_at (changes_in changes.now.entries) name.now) (item_of name.now named.now) ≡ j ∷ []
+        → is_some (path_named (all_named (items to.old)) name.now) ≡ false }
+    ensures { OnOk result (items to.new
+        ≡ items to.old ++ one_laid (change_at (changes_in changes.now.entries) name.now) (item_of name.now named.now)) }
+{
+    let Some(named) = becomes(changes, name, named)? else {
+        return Ok(());
+    };
+    to.put_last(String::from_str(alloc, name)?, named)?;
+    Ok(())
+}
+
+/// Puts a list under changes behind another. It shares paths and answers with it. After a refusal only some are put.
+fn put_behind(
+    alloc: Global,
+    changes: &IndexMap<String, Option<Rc<Path>>>,
+    list: &Listing,
+    to: &mut Listing,
+) -> Result<(), AllocError>
+    requires { NamesDiffer (all_named (items to.old ++ laid (changes_in changes.now.entries) (items list.now))) }
+    ensures { OnOk result (items to.new ≡ items to.old ++ laid (changes_in changes.now.entries) (items list.now)) }
+{
+    for k in 0..list.paths.len() {
+        let Some((name, named)) = list.paths.get_index(k) else {
+            unreachable!()
+        };
+        put_one(alloc, changes, name.as_str(), named, to)?;
+    }
+    Ok(())
+}
+
+impl Overlay {
+    ghost use Rattle.std.specs.Prelude.{◌≡◌, [], ◌∷◌, ◌++◌, List, map, filter, not, true, false, None, is_some, string_bytes, IfOk, OnOk, OnErr};
+    ghost use Rattle.olr_commands.specs.State.{NamesDiffer, path_named, same_name};
+    ghost use Rattle.olr_paths.specs.Items.{Item, items, all_named};
+    ghost use Rattle.olr_paths.specs.Changes.{set_item};
+
+    /// No changes. Takes no memory.
+    pub fn new(alloc: Global) -> Overlay
+        ensures { (is : List Item) → overlaid is result ≡ is }
+    {
+        Overlay {
+            changes: IndexMap::new(alloc),
+            added: Listing::new(alloc),
+        }
+    }
+
+    /// Whether the path of that name is taken away.
+    fn takes_away(&self, name: &str) -> bool
+        ensures { result ≡ drops (change_at (changes_of self.now) name.now) }
+    {
+        match self.changes.get(name) {
+            Some(change) => change.is_none(),
+            None => false,
+        }
+    }
+
+    /// Whether some path has the name, of the list with these changes.
+    pub fn has(&self, list: &Listing, name: &str) -> bool
+        ensures { result ≡ is_some (path_named (all_named (overlaid (items list.now) self.now)) name.now) }
+    {
+        if self.added.has(name) {
+            return true;
+        }
+        if self.takes_away(name) {
+            return false;
+        }
+        list.has(name)
+    }
+
+    /// Puts a new path last. After a refusal all is as before.
+    pub fn hold(&mut self, alloc: Global, name: String, path: Path) -> Result<(), AllocError>
+        requires { (is : List Item)
+            × (is_some (path_named (all_named (overlaid is self.old)) (string_bytes name)) ≡ false) }
+        ensures ok { OnOk result ((is : List Item) → overlaid is self.new ≡ overlaid is self.old
+            ++ record { name = string_bytes name; path = path; made = None } ∷ []) }
+        ensures err { OnErr result ((is : List Item) → overlaid is self.new ≡ overlaid is self.old) }
+    {
+        self.added.hold(alloc, name, path)
+    }
+
+    /// Puts another path under the name of one, in its place. After a refusal all is as before.
+    pub fn hold_other(&mut self, alloc: Global, name: &str, path: Path) -> Result<(), AllocError>
+        ensures ok { OnOk result ((is : List Item) → NamesDiffer (all_named (overlaid is self.old))
+            → is_some (path_named (all_named (overlaid is self.old)) name.now) ≡ true
+            → overlaid is self.new ≡ map (set_item name.now path None) (overlaid is self.old)) }
+        ensures err { OnErr result ((is : List Item) → overlaid is self.new ≡ overlaid is self.old) }
+    {
+        if self.added.has(name) {
+            return self.added.hold_other(alloc, name, path);
+        }
+        let other = Rc::new(alloc, path)?;
+        self.changes
+            .insert(String::from_str(alloc, name)?, Some(other))?;
+        Ok(())
+    }
+
+    /// Takes the path of that name away; those after it close up. After a refusal all is as before.
+    pub fn drop_path(&mut self, alloc: Global, name: &str) -> Result<(), AllocError>
+        ensures ok { OnOk result ((is : List Item) → NamesDiffer (all_named (overlaid is self.old))
+            → overlaid is self.new ≡ filter (λ i. not (same_name i.name name.now)) (overlaid is self.old)) }
+        ensures err { OnErr result ((is : List Item) → overlaid is self.new ≡ overlaid is self.old) }
+    {
+        if self.added.has(name) {
+            self.added.drop_path(name);
+            return Ok(());
+        }
+        self.changes.insert(String::from_str(alloc, name)?, None)?;
+        Ok(())
+    }
+
+    /// The list with these changes. It shares paths and answers with the list.
+    pub fn laid_over(&self, alloc: Global, list: &Listing) -> Result<Listing, AllocError>
+        requires { NamesDiffer (all_named (overlaid (items list.now) self.now)) }
+        ensures { IfOk result (λ l. items l ≡ overlaid (items list.now) self.now) }
+    {
+        let mut laid = Listing::new(alloc);
+        put_behind(alloc, &self.changes, list, &mut laid)?;
+        let none = IndexMap::new(alloc);
+        put_behind(alloc, &none, &self.added, &mut laid)?;
+        Ok(laid)
+    }
+}

@@ -1,0 +1,39 @@
+//! The footprint of a path: the nodes on which its answer rests.
+ghost use Rattle.std.specs.Prelude.{◌≡◌, ◌↔◌, ℕ, Contains, is_some, IsTrue, IsFalse, MatchOption, IsSomeAnd, Err, None};
+ghost use Rattle.std.specs.Result.{IfOk, IfErr};
+ghost use Rattle.olr_spec.specs.Footprint.{Foot};
+ghost use Rattle.olr_commands.specs.State.{path_named};
+
+use crate::register::Register;
+use olr_commands::CommandFault;
+use olr_map::Footprint;
+use olr_refs::refer;
+use olr_route::Work;
+
+impl Register {
+    /// The footprint of the path of that name, searched for when it is asked: a change of the map that touches none of these
+    /// nodes and no line of the path leaves its answer. None where no path has the name. While a batch is open the map is
+    /// the batch's, and the refusal is `BatchOpen`; else `Memory` is the only one.
+    pub fn footprint(&self, name: &str) -> Result<Option<Footprint>, CommandFault>
+        ensures open { IsTrue (is_some self.now.kept.batch) → result ≡ Err CommandFault.BatchOpen }
+        ensures memory { IfErr result (λ f. IsFalse (is_some self.now.kept.batch) → f ≡ CommandFault.Memory) }
+        ensures footprint { IfOk result (λ o. MatchOption (path_named self.now.kept.content.paths name.now) (o ≡ None)
+            (λ P. IsSomeAnd o (λ f. (v : ℕ) → Contains f v ↔ Foot self.now.kept.content.map P v))) }
+    {
+        if self.batch.is_some() {
+            return Err(CommandFault::BatchOpen);
+        }
+        let Some(path) = self.paths.path(name) else {
+            return Ok(None);
+        };
+        let mut work = Work {
+            encodings: 0,
+            searches: 0,
+            settled: 0,
+        };
+        match refer(self.alloc, &self.roads, path, &mut work) {
+            Ok((_, footprint)) => Ok(Some(footprint)),
+            Err(_) => Err(CommandFault::Memory),
+        }
+    }
+}
