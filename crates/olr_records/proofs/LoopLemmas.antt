@@ -1,10 +1,13 @@
 -- Items of a record, read one after another.
 --     onto x y      those of x, and then those of y
 use Rattle.std.proofs.Common.{◌≡◌, ℕ, suc, ◌+◌, ◌<◌, ◌≤◌, List, [], ◌∷◌, ◌++◌, length, drop, Ok, Err, refl, sym, ap, ◌∙◌, append_assoc, drop-cons, arith}
-use Rattle.std.specs.Prelude.{slice_index_or}
+use Rattle.std.specs.Prelude.{Result, IfOk, IsOkAnd, slice_index_or}
 use Rattle.std.proofs.lemmas.List.{append-nil, drop_all, length-drop}
 use Rattle.olr_spec.specs.Map.{ShapePoint}
 use Rattle.olr_records.specs.Records.{Field, Read, Bad_form, Out_of_range, ◌⊛◌, number, numbers, point, shape}
+use Rattle.olr_records.specs.Words.{Gathers}
+use Rattle.olr_records.specs.declared.faults.ReadFault.{ReadFault}
+use Rattle.olr_records.specs.declared.faults.ReadFault.TheVariants.{Syntax, Range, Memory}
 
 abbrev pub onto : {A : Type 0} → Read (List A) → Read (List A) → Read (List A)
 onto x y = Ok (λ xs ys. xs ++ ys) ⊛ x ⊛ y
@@ -91,3 +94,29 @@ module _ (fs : List Field) (k : ℕ) where
   -- one or two fields over
   pub shape-over : (x w : Read (List ShapePoint)) → k < length fs → length fs < k + 3 → onto x (shape (drop k fs)) ≡ w → w ≡ Err Bad_form
   shape-over x w some few e = sym e ∙ ap (λ y. onto x y) (over some few) ∙ onto-bad x
+
+-- ---- want of memory
+
+okay : {B : Type 0} (P Q : B → Type 0) (x : Read B) → IfOk x Q → IsOkAnd x P → IsOkAnd x Q
+okay P Q (Ok b) h m = h
+okay P Q (Err f) h m = absurd m
+
+-- it is told only of what takes memory
+pub gathers-only : {A B : Type 0} (P Q : B → Type 0) (view : A → B) (x : Read B) (r : Result A ReadFault) → IfOk x Q → Gathers P view x r → Gathers Q view x r
+gathers-only P Q view x (Ok a) h g = g
+gathers-only P Q view x (Err Syntax) h g = g
+gathers-only P Q view x (Err Range) h g = g
+gathers-only P Q view x (Err Memory) h g = okay P Q x h g
+
+one_more : {A : Type 0} (p : Read A) (ps : Read (List A)) → IfOk (Ok (λ p ps. p ∷ ps) ⊛ p ⊛ ps) (λ qs. 0 < length qs)
+one_more (Ok a) (Ok bs) = omega arith
+one_more (Ok a) (Err f) = tt
+one_more (Err f) (Ok bs) = tt
+one_more (Err f) (Err g) = tt
+
+-- fields in threes are some points
+pub some-points : (fs : List Field) → 0 < length fs → IfOk (shape fs) (λ ps. 0 < length ps)
+some-points [] some = absurd (omega arith)
+some-points (at ∷ []) some = tt
+some-points (at ∷ lon ∷ []) some = tt
+some-points (at ∷ lon ∷ lat ∷ fs) some = one_more (point at lon lat) (shape fs)

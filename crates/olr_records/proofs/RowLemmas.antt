@@ -4,9 +4,9 @@ use Rattle.std.specs.Prelude.{IsUtf8}
 use Rattle.std.specs.List.{list_all}
 use Rattle.std.proofs.lemmas.Bool.{and_parts}
 use Rattle.std.proofs.lemmas.Slice.Eq.{bytes_eq-Decides}
-use Rattle.olr_spec.specs.Map.{Add_line}
+use Rattle.olr_spec.specs.Map.{Add_line, Set_line}
 use Rattle.olr_commands.specs.State.{same_name, Command}
-use Rattle.olr_records.specs.Records.{Field, Read, Bad_form, ◌⊛◌, number, place, node_fields, course, whole_line, line_row, rows, read_by, read}
+use Rattle.olr_records.specs.Records.{Field, Read, Bad_form, ◌⊛◌, number, numbers, amount, name, place, node_fields, course, whole_line, line_row, set_line_row, path_fields, rows, read_by, read}
 use Rattle.olr_records.proofs.FieldLemmas.{is_low, low-text}
 use Rattle.olr_records.proofs.LoopLemmas.{at}
 
@@ -20,6 +20,23 @@ line-row (a ∷ b ∷ c ∷ d ∷ []) h = absurd (omega arith)
 line-row (a ∷ b ∷ c ∷ d ∷ e ∷ []) h = absurd (omega arith)
 line-row (a ∷ b ∷ c ∷ d ∷ e ∷ f ∷ []) h = absurd (omega arith)
 line-row (a ∷ b ∷ c ∷ d ∷ e ∷ f ∷ g ∷ fs) h = refl
+
+pub set-line-row : (fs : List Field) → 5 ≤ length fs
+    → set_line_row (drop 1 fs) ≡ Ok (λ x c. Set_line x c.0 c.1 c.2 c.3) ⊛ number (at fs 1) ⊛ course (at fs 2) (at fs 3) (at fs 4) (drop 5 fs)
+set-line-row [] h = absurd (omega arith)
+set-line-row (a ∷ []) h = absurd (omega arith)
+set-line-row (a ∷ b ∷ []) h = absurd (omega arith)
+set-line-row (a ∷ b ∷ c ∷ []) h = absurd (omega arith)
+set-line-row (a ∷ b ∷ c ∷ d ∷ []) h = absurd (omega arith)
+set-line-row (a ∷ b ∷ c ∷ d ∷ e ∷ fs) h = refl
+
+pub path-fields : (fs : List Field) → 4 ≤ length fs
+    → path_fields (drop 1 fs) ≡ Ok (λ n p q ls. (n, record { lines = ls; pos = p; neg = q })) ⊛ name (at fs 1) ⊛ amount (at fs 2) ⊛ amount (at fs 3) ⊛ numbers (drop 4 fs)
+path-fields [] h = absurd (omega arith)
+path-fields (a ∷ []) h = absurd (omega arith)
+path-fields (a ∷ b ∷ []) h = absurd (omega arith)
+path-fields (a ∷ b ∷ c ∷ []) h = absurd (omega arith)
+path-fields (a ∷ b ∷ c ∷ d ∷ fs) h = refl
 
 pub node-fields : (fs : List Field) → length fs ≡ 4 → node_fields (drop 1 fs) ≡ Ok (λ x p. (x, p)) ⊛ number (at fs 1) ⊛ place (at fs 2) (at fs 3)
 node-fields [] h = absurd (omega arith)

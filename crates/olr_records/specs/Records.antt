@@ -2,7 +2,8 @@
 --     Read A      a value, or why there is none.        g ⊛ r      both read: where neither is, Syntax is told before Range
 --     digits low high f, longitude f, latitude f, name f      a field as a number, a coordinate or a name
 --     read fields      the command
-use Rattle.std.specs.Prelude.{ℕ, Bool, ◌&&◌, ◌||◌, List, [], ◌∷◌, length, nat_le, ◌==◌, ℤ, Option, Some, None, Result, Ok, Err, codes, if◌then◌else◌}
+--     HoldsList c, TakesMemory fields      the commands and the records whose reading takes memory
+use Rattle.std.specs.Prelude.{ℕ, ◌<◌, Bool, ◌&&◌, ◌||◌, List, [], ◌∷◌, length, nat_le, ◌==◌, ℤ, Option, Some, None, Result, Ok, Err, IsOkAnd, codes, if◌then◌else◌, ⊤}
 use Rattle.std.specs.List.{list_all}
 use Rattle.std.specs.Char.{is_ascii_alphanumeric}
 use Rattle.olr_spec.specs.Coordinates.{Coord, is_longitude, is_latitude}
@@ -174,3 +175,19 @@ read (word ∷ fs) = read_by rows word fs
 abbrev pub read_fault : ReadFault → Fault
 read_fault Bad_form = Syntax
 read_fault Out_of_range = Range
+
+-- ---- memory
+
+-- a command that holds a name, or some text or shape points
+abbrev pub HoldsList : Command → Type 0
+HoldsList (Make (On_map (Add_line x l))) = 0 < length l.shape
+HoldsList (Make (On_map (Set_line x frc fow len shape))) = 0 < length shape
+HoldsList (Make (On_map e)) = ⊥
+HoldsList (Make change) = ⊤
+HoldsList (Show name) = ⊤
+HoldsList (Explain text) = 0 < length text
+HoldsList c = ⊥
+
+-- reading takes memory only of a record that spells such a command
+abbrev pub TakesMemory : List Field → Type 0
+TakesMemory fields = IsOkAnd (read fields) HoldsList

@@ -1,13 +1,14 @@
 -- What is read of a record, as Rust's values say it.
---     Reads view x r      r is what x reads, seen by `view`; want of memory may come whatever the record says
---     IsRead x r      the same of a command
+--     Reads view x r      r is what x reads, seen by `view`; it takes no memory
+--     Gathers Takes view x r      the same, but want of memory may come where x reads as something that takes memory
+--     IsRead x r      the same of a command, which takes memory where it holds a list
 --     worse_fault f g      of two faults the one that is told.        both r s      what two parts of a record read as
 --     read_fault_of f      the fault that a record's own fault is told as
-use Rattle.std.specs.Prelude.{◌≡◌, Result, Ok, Err, ⊤}
+use Rattle.std.specs.Prelude.{◌≡◌, Result, Ok, Err, IsOkAnd}
 use Rattle.olr_commands.specs.State as state
 use Rattle.olr_commands.specs.Words.{command_of}
 use Rattle.olr_commands.specs.declared.command.Command.{Command}
-use Rattle.olr_records.specs.Records.{Read, Bad_form, Out_of_range}
+use Rattle.olr_records.specs.Records.{Read, Bad_form, Out_of_range, HoldsList}
 use Rattle.olr_records.specs.declared.faults.ReadFault.{ReadFault}
 use Rattle.olr_records.specs.declared.faults.ReadFault.TheVariants.{Syntax, Range, Memory}
 
@@ -15,17 +16,21 @@ abbrev pub Reads : {A B : Type 0} → (A → B) → Read B → Result A ReadFaul
 Reads view x (Ok a) = x ≡ Ok (view a)
 Reads view x (Err Syntax) = x ≡ Err Bad_form
 Reads view x (Err Range) = x ≡ Err Out_of_range
-Reads view x (Err Memory) = ⊤
+Reads view x (Err Memory) = ⊥
+
+abbrev pub Gathers : {A B : Type 0} → (B → Type 0) → (A → B) → Read B → Result A ReadFault → Type 0
+Gathers Takes view x (Err Memory) = IsOkAnd x Takes
+Gathers Takes view x r = Reads view x r
 
 abbrev pub IsRead : Read state.Command → Result Command ReadFault → Type 0
-IsRead x r = Reads command_of x r
+IsRead x r = Gathers HoldsList command_of x r
 
--- want of memory, or else Syntax before Range
+-- Syntax before Range, and want of memory after both
 abbrev pub worse_fault : ReadFault → ReadFault → ReadFault
-worse_fault Memory g = Memory
-worse_fault Syntax Memory = Memory
 worse_fault Syntax g = Syntax
-worse_fault Range g = g
+worse_fault Range Syntax = Syntax
+worse_fault Range g = Range
+worse_fault Memory g = g
 
 abbrev pub both : {A B : Type 0} → Result A ReadFault → Result B ReadFault → Result (A × B) ReadFault
 both (Ok a) (Ok b) = Ok (a, b)

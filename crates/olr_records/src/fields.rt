@@ -1,14 +1,14 @@
 //! The fields of a record, each read by its form and then by its bounds.
-ghost use Rattle.std.specs.Prelude.{◌≡◌, ◌≤◌, [], IsTrue, IfOk, IfSome, is_some, slice_index_or, string_bytes};
+ghost use Rattle.std.specs.Prelude.{◌≡◌, ◌≤◌, ◌^◌, [], IsTrue, IfOk, IfSome, is_some, length, min, slice_index_or, string_bytes, ⊤};
 ghost use Rattle.std.specs.Char.{is_ascii_digit};
 ghost use Rattle.std.specs.List.{list_all};
 ghost use Rattle.csv.specs.Records.{fields_of};
-ghost use Rattle.olr_spec.specs.Degrees.{are_digits};
+ghost use Rattle.olr_spec.specs.Degrees.{are_digits, digits_value};
 ghost use Rattle.olr_spec.specs.Degrees as text_of;
 ghost use Rattle.olr_spec.specs.Coordinates.{is_longitude, is_latitude};
 ghost use Rattle.olr_coords.specs.Bounds.{is_degrees};
 ghost use Rattle.olr_records.specs.Records as records;
-ghost use Rattle.olr_records.specs.Words.{Reads};
+ghost use Rattle.olr_records.specs.Words.{Gathers, Reads};
 
 use crate::faults::ReadFault;
 use crate::parts::both;
@@ -23,6 +23,10 @@ const GREATEST_CLASS: u32 = 7;
 const GREATEST_LENGTH: u32 = 1_000_000;
 /// The greatest distance of a shape point from the line's begin, in decimetres.
 const GREATEST_DISTANCE: u32 = 999_999;
+/// So many digits are a number of 64 bits, whichever they are.
+const MOST_DIGITS: usize = 19;
+/// More than any number of 32 bits, 2^32.
+const TOO_GREAT: u64 = 1 << 32;
 /// The most bytes of a name.
 const LONGEST_NAME: usize = 64;
 
@@ -36,32 +40,50 @@ pub(crate) fn field(row: &ByteRecord, k: usize) -> &[u8]
     }
 }
 
-/// Whether a field is one or more digits.
-fn are_digits(field: &[u8]) -> bool
-    ensures { result ≡ are_digits field.now }
+/// The value of digits that 64 bits hold. None for another byte among them.
+fn few_digits(field: &[u8]) -> Option<u64>
+    requires { length field.now ≤ 19 }
+    ensures form { is_some result ≡ list_all is_ascii_digit field.now }
+    ensures same { IfSome result (λ n. n ≡ digits_value field.now) }
 {
-    !field.is_empty() && has_only_digits(field)
+    let mut value: u64 = 0;
+    for byte in field {
+        if !byte.is_ascii_digit() {
+            return None;
+        }
+        value = 10 * value + u64::from(*byte - b'0');
+    }
+    Some(value)
 }
 
-/// Whether each byte is a digit.
-fn has_only_digits(field: &[u8]) -> bool
-    ensures { result ≡ list_all is_ascii_digit field.now }
+/// The value of any count of digits, or 2^32 in place of a greater one. None for another byte among them.
+fn many_digits(field: &[u8]) -> Option<u64>
+    ensures form { is_some result ≡ list_all is_ascii_digit field.now }
+    ensures same { IfSome result (λ n. n ≡ min (digits_value field.now) (2 ^ 32)) }
 {
-    field.iter().all(|byte| byte.is_ascii_digit())
+    let mut value: u64 = 0;
+    for byte in field {
+        if !byte.is_ascii_digit() {
+            return None;
+        }
+        value = TOO_GREAT.min(10 * value + u64::from(*byte - b'0'));
+    }
+    Some(value)
 }
 
-/// The field as a text, where it is one or more digits.
-fn numeral(field: &[u8]) -> Option<&str>
+/// The value of one or more digits, or 2^32 in place of a greater one. None for no digits, and for another byte.
+fn value(field: &[u8]) -> Option<u64>
     ensures form { is_some result ≡ are_digits field.now }
-    ensures same { IfSome result (λ text. text.now ≡ field.now) }
+    ensures same { IfSome result (λ n. n ≡ min (digits_value field.now) (2 ^ 32)) }
 {
-    if !are_digits(field) {
+    if field.is_empty() {
         return None;
     }
-    match std::str::from_utf8(field) {
-        Ok(text) => Some(text),
-        Err(_) => None,
+    if field.len() > MOST_DIGITS {
+        return many_digits(field);
     }
+    let value = few_digits(field)?;
+    Some(TOO_GREAT.min(value))
 }
 
 /// One or more digits, of a value from `low` to `high`. Leading zeros are accepted.
@@ -69,14 +91,9 @@ pub(crate) fn number(field: &[u8], low: u32, high: u32) -> Result<u32, ReadFault
     ensures reads { Reads (λ n. n) (records.digits low high field.now) result }
     ensures within { IfOk result (λ n. (low ≤ n) × (n ≤ high)) }
 {
-    let Some(digits) = numeral(field) else {
-        return Err(ReadFault::Syntax);
-    };
-    let Ok(value) = digits.parse::<u32>() else {
-        return Err(ReadFault::Range);
-    };
-    if low <= value && value <= high {
-        Ok(value)
+    let value = value(field).ok_or(ReadFault::Syntax)?;
+    if u64::from(low) <= value && value <= u64::from(high) {
+        Ok(value as u32)
     } else {
         Err(ReadFault::Range)
     }
@@ -121,10 +138,7 @@ pub(crate) fn length(field: &[u8]) -> Result<u32, ReadFault>
 fn degrees(field: &[u8]) -> Result<i64, ReadFault>
     ensures { Reads (λ z. z) (records.coordinate is_degrees (text_of.degrees field.now)) result }
 {
-    let Ok(text) = std::str::from_utf8(field) else {
-        return Err(ReadFault::Syntax);
-    };
-    match read_degrees(text) {
+    match read_degrees(field) {
         Ok(units) => Ok(units),
         Err(CoordFault::Text) => Err(ReadFault::Syntax),
         Err(CoordFault::Range) => Err(ReadFault::Range),
@@ -175,7 +189,7 @@ pub(crate) fn shape_point(at: &[u8], lon: &[u8], lat: &[u8]) -> Result<Shape, Re
 
 /// The name of a path: 1 to 64 ASCII letters, digits, `-`, `_` and `.`.
 pub(crate) fn name(alloc: Global, field: &[u8]) -> Result<String, ReadFault>
-    ensures { Reads string_bytes (records.name field.now) result }
+    ensures { Gathers (λ _. ⊤) string_bytes (records.name field.now) result }
 {
     if !is_name(field) {
         return Err(ReadFault::Syntax);

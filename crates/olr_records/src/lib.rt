@@ -11,10 +11,8 @@ mod paths;
 pub mod read;
 pub mod reply;
 pub mod rows;
-#[cfg(test)]
-mod tests;
 mod texts;
 
 pub use faults::{ReadFault, fault_text, read_fault_text};
 pub use read::read_command;
-pub use reply::reply_text;
+pub use reply::{append_reply, no_paths_text, reply_text};

@@ -1,13 +1,13 @@
 //! The fields of a line.
-ghost use Rattle.std.specs.Prelude.{ℕ, ◌+◌, ◌≤◌, [], drop, length, slice_index_or};
+ghost use Rattle.std.specs.Prelude.{ℕ, ◌+◌, ◌<◌, ◌≤◌, [], drop, length, slice_index_or};
 ghost use Rattle.csv.specs.Records.{fields_of};
 ghost use Rattle.olr_records.specs.Records as records;
 ghost use Rattle.olr_records.specs.Records.{Field};
-ghost use Rattle.olr_records.specs.Words.{Reads};
+ghost use Rattle.olr_records.specs.Words.{Gathers};
 
 use crate::faults::ReadFault;
 use crate::fields::{class, field, length, node_id, shape_point};
-use crate::parts::{both, pushed};
+use crate::parts::{both, pushed, room};
 use csv::ByteRecord;
 use olr_map::{Line, Shape};
 use std::alloc::Global;
@@ -16,7 +16,7 @@ use std::alloc::Global;
 pub(crate) fn line(alloc: Global, row: &ByteRecord) -> Result<Line, ReadFault>
     requires { 7 ≤ length (fields_of row.now) }
     ensures { let f : ℕ → Field = λ k. slice_index_or (fields_of row.now) k [] in
-        Reads (λ l. l)
+        Gathers (λ l. 0 < length l.shape) (λ l. l)
         (records.whole_line (f 2) (f 3)
         (records.course (f 4) (f 5) (f 6) (drop 7 (fields_of row.now))))
         result }
@@ -42,7 +42,7 @@ pub(crate) fn course(
     requires near { k ≤ 4 }
     requires within { k + 3 ≤ length (fields_of row.now) }
     ensures { let f : ℕ → Field = λ n. slice_index_or (fields_of row.now) n [] in
-        Reads (λ p. (p.0, p.1, p.2, p.3.items))
+        Gathers (λ p. 0 < length p.3) (λ p. (p.0, p.1, p.2, p.3.items))
         (records.course (f k) (f (k + 1)) (f (k + 2)) (drop (k + 3) (fields_of row.now)))
         result }
 {
@@ -55,9 +55,13 @@ pub(crate) fn course(
 /// The shape points from the field at place `start` on, three fields each.
 fn shape(alloc: Global, row: &ByteRecord, start: usize) -> Result<Vec<Shape>, ReadFault>
     requires { start ≤ length (fields_of row.now) }
-    ensures { Reads (λ v. v.items) (records.shape (drop start (fields_of row.now))) result }
+    ensures { Gathers (λ ps. 0 < length ps) (λ v. v.items)
+        (records.shape (drop start (fields_of row.now))) result }
 {
-    let mut points = Ok(Vec::new(alloc));
+    if row.len() == start {
+        return Ok(Vec::new(alloc));
+    }
+    let mut points = room(alloc, (row.len() - start) / 3);
     let mut k = start;
     while row.len() - k >= 3 {
         let point = shape_point(field(row, k), field(row, k + 1), field(row, k + 2));

@@ -1,18 +1,19 @@
 //! Parts of one record, read one by one and put together.
-ghost use Rattle.std.specs.Prelude.{◌≡◌, ◌∷◌, ◌++◌, [], List, Ok};
+ghost use Rattle.std.specs.Prelude.{◌≡◌, ◌∷◌, ◌++◌, [], List, Ok, ⊤};
 ghost use Rattle.olr_records.specs.Records.{Read, ◌⊛◌};
-ghost use Rattle.olr_records.specs.Words.{Reads, both, worse_fault};
+ghost use Rattle.olr_records.specs.Words.{Gathers, Reads, both, worse_fault};
 
 use crate::faults::ReadFault;
+use std::alloc::Global;
 
-/// Of two faults of one record the one that is told: want of memory, or else `Syntax` before `Range`.
+/// Of two faults of one record the one that is told: `Syntax` before `Range`, and want of memory after both.
 fn worse(first: ReadFault, second: ReadFault) -> ReadFault
     ensures { result ≡ worse_fault first second }
 {
     match (first, second) {
-        (ReadFault::Memory, _) | (_, ReadFault::Memory) => ReadFault::Memory,
-        (ReadFault::Range, ReadFault::Range) => ReadFault::Range,
-        _ => ReadFault::Syntax,
+        (ReadFault::Syntax, _) | (_, ReadFault::Syntax) => ReadFault::Syntax,
+        (ReadFault::Memory, ReadFault::Memory) => ReadFault::Memory,
+        _ => ReadFault::Range,
     }
 }
 
@@ -30,14 +31,21 @@ pub(crate) fn both<A: Drop, B: Drop>(
     }
 }
 
+/// No items yet, with room for so many.
+pub(crate) fn room<T>(alloc: Global, count: usize) -> Result<Vec<T>, ReadFault>
+    ensures { Gathers (λ _. ⊤) (λ v. v.items) (Ok []) result }
+{
+    Ok(Vec::with_capacity(alloc, count)?)
+}
+
 /// One more item after those read so far.
 pub(crate) fn pushed<T: Drop>(
     items: Result<Vec<T>, ReadFault>,
     item: Result<T, ReadFault>,
 ) -> Result<Vec<T>, ReadFault>
-    ensures { (xs : Read (List T)) (x : Read T) → Reads (λ v. v.items) xs items
+    ensures { (xs : Read (List T)) (x : Read T) → Gathers (λ _. ⊤) (λ v. v.items) xs items
         → Reads (λ t. t) x item
-        → Reads (λ v. v.items) (Ok (λ ts t. ts ++ t ∷ []) ⊛ xs ⊛ x) result }
+        → Gathers (λ _. ⊤) (λ v. v.items) (Ok (λ ts t. ts ++ t ∷ []) ⊛ xs ⊛ x) result }
 {
     let (mut items, item) = both(items, item)?;
     items.push(item)?;

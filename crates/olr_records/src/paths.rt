@@ -1,14 +1,14 @@
 //! Records of named paths.
-ghost use Rattle.std.specs.Prelude.{drop, string_bytes};
+ghost use Rattle.std.specs.Prelude.{drop, string_bytes, ⊤};
 ghost use Rattle.csv.specs.Records.{fields_of};
 ghost use Rattle.olr_commands.specs.State.{Make, Add_path, Set_path, Drop_path, Show};
 ghost use Rattle.olr_commands.specs.Words.{path_along};
 ghost use Rattle.olr_records.specs.Records as records;
-ghost use Rattle.olr_records.specs.Words.{IsRead, Reads};
+ghost use Rattle.olr_records.specs.Words.{Gathers, IsRead};
 
 use crate::faults::ReadFault;
 use crate::fields::{amount, field, line_id, name};
-use crate::parts::{both, pushed};
+use crate::parts::{both, pushed, room};
 use csv::ByteRecord;
 use olr_commands::Command;
 use olr_map::LineId;
@@ -16,7 +16,7 @@ use std::alloc::Global;
 
 /// A name, two offsets in decimetres and line numbers: all that stands behind the word.
 fn path(alloc: Global, row: &ByteRecord) -> Result<(String, u32, u32, Vec<LineId>), ReadFault>
-    ensures { Reads (λ p. (string_bytes p.0, path_along p.3.items p.1 p.2))
+    ensures { Gathers (λ _. ⊤) (λ p. (string_bytes p.0, path_along p.3.items p.1 p.2))
         (records.path_fields (drop 1 (fields_of row.now)))
         result }
 {
@@ -31,9 +31,9 @@ fn path(alloc: Global, row: &ByteRecord) -> Result<(String, u32, u32, Vec<LineId
 
 /// The line numbers from the fifth field on.
 fn line_ids(alloc: Global, row: &ByteRecord) -> Result<Vec<LineId>, ReadFault>
-    ensures { Reads (λ v. v.items) (records.numbers (drop 4 (fields_of row.now))) result }
+    ensures { Gathers (λ _. ⊤) (λ v. v.items) (records.numbers (drop 4 (fields_of row.now))) result }
 {
-    let mut ids = Ok(Vec::new(alloc));
+    let mut ids = room(alloc, row.len().saturating_sub(4));
     for k in 4..row.len() {
         ids = pushed(ids, line_id(field(row, k)));
     }

@@ -15,7 +15,8 @@ use olr_commands::Command;
 use std::alloc::Global;
 
 /// The command that a record spells. A record of no command's form is `Syntax`; one that has the form of a command and
-/// a value out of bounds is `Range`, wherever the two stand. `Memory` may come in place of either, and of the command.
+/// a value out of bounds is `Range`, wherever the two stand. `Memory` comes only of a record that spells a command with a
+/// name, some text or shape points.
 pub fn read_command(alloc: Global, row: &ByteRecord) -> Result<Command, ReadFault>
     ensures { IsRead (records.read (fields_of row.now)) result }
 {
@@ -69,7 +70,8 @@ fn explain(alloc: Global, row: &ByteRecord) -> Result<Command, ReadFault>
     if row.len() != 2 {
         return Err(ReadFault::Syntax);
     }
-    let text = Vec::from_slice(alloc, field(row, 1))?;
+    let mut text = Vec::new(alloc);
+    text.extend_from_slice(field(row, 1))?;
     Ok(Command::Explain(text))
 }
 

@@ -2,6 +2,7 @@
 ghost use Rattle.std.specs.Prelude.{◌≡◌, ◌≤◌, ◌++◌, ◌∷◌, [], ℕ, List, decimal, length, map, IfOk, OnOk};
 ghost use Rattle.std.specs.List.{concat};
 ghost use Rattle.olr_refs.specs.Answers.{refusal_of};
+ghost use Rattle.olr_commands.specs.Reply.{Paths};
 ghost use Rattle.olr_commands.specs.Words.{reply_of, entry_of};
 ghost use Rattle.olr_records.specs.ReplyText as texts;
 ghost use Rattle.olr_records.specs.ReplyText.{after_commas};
@@ -12,35 +13,51 @@ use olr_commands::{Entry, Reply};
 use olr_refs::Refusal;
 use std::alloc::{AllocError, Global};
 
+/// The line of a reply that names no path. It takes no memory.
+pub fn no_paths_text() -> &'static str
+    ensures { result.now ≡ texts.reply_text (Paths []) }
+{
+    "ok,0\n"
+}
+
 /// The lines of a reply to an accepted command. It fails where there is no memory for them.
 pub fn reply_text(alloc: Global, reply: &Reply) -> Result<Vec<u8>, AllocError>
     ensures { IfOk result (λ text. text.items ≡ texts.reply_text (reply_of reply.now)) }
 {
+    let mut text = Vec::new(alloc);
+    append_reply(&mut text, reply)?;
+    Ok(text)
+}
+
+/// Puts the lines of a reply to an accepted command behind a text. It fails where there is no memory for them.
+pub fn append_reply(text: &mut Vec<u8>, reply: &Reply) -> Result<(), AllocError>
+    ensures { OnOk result (text.new.items ≡ text.old.items ++ texts.reply_text (reply_of reply.now)) }
+{
     match reply {
-        Reply::Paths(entries) => entries_text(alloc, entries),
-        Reply::Fields(reference) => reference_text(alloc, reference),
-        Reply::Held(count) => counted(alloc, b"held", *count as usize),
+        Reply::Paths(entries) => push_paths(text, entries),
+        Reply::Fields(reference) => push_reference(text, reference),
+        Reply::Held(count) => push_count(text, b"held", *count as usize),
     }
 }
 
 /// The line of a word and a count.
-fn counted(alloc: Global, word: &[u8], count: usize) -> Result<Vec<u8>, AllocError>
-    ensures { IfOk result (λ text. text.items ≡ texts.line (word.now ∷ decimal count ∷ [])) }
+fn push_count(text: &mut Vec<u8>, word: &[u8], count: usize) -> Result<(), AllocError>
+    ensures { OnOk result (text.new.items
+        ≡ text.old.items ++ texts.line (word.now ∷ decimal count ∷ [])) }
 {
-    let mut text = Vec::from_slice(alloc, word)?;
-    push_number(&mut text, count)?;
+    text.extend_from_slice(word)?;
+    push_number(text, count)?;
     text.push(b'\n')?;
-    Ok(text)
+    Ok(())
 }
 
-/// Each path with its string or its refusal.
-fn entries_text(alloc: Global, entries: &[Entry]) -> Result<Vec<u8>, AllocError>
-    ensures { IfOk result (λ text. text.items
-        ≡ texts.accepted (map (λ e. texts.entry_line (entry_of e)) entries.now)) }
+/// How many paths there are, and each with its string or its refusal.
+fn push_paths(text: &mut Vec<u8>, entries: &[Entry]) -> Result<(), AllocError>
+    ensures { OnOk result (text.new.items ≡ text.old.items
+        ++ texts.accepted (map (λ e. texts.entry_line (entry_of e)) entries.now)) }
 {
-    let mut text = counted(alloc, b"ok", entries.len())?;
-    push_entries(&mut text, entries)?;
-    Ok(text)
+    push_count(text, b"ok", entries.len())?;
+    push_entries(text, entries)
 }
 
 /// The lines of these paths.
@@ -95,19 +112,20 @@ fn push_refusal(text: &mut Vec<u8>, refusal: Refusal) -> Result<(), AllocError>
     }
 }
 
-/// The fields of a reference, point by point.
-fn reference_text(alloc: Global, reference: &Reference) -> Result<Vec<u8>, AllocError>
-    ensures { IfOk result (λ text. text.items ≡ texts.accepted (texts.reference_lines reference.now)) }
+/// How many lines the fields of a reference take, and the fields, point by point.
+fn push_reference(text: &mut Vec<u8>, reference: &Reference) -> Result<(), AllocError>
+    ensures { OnOk result (text.new.items
+        ≡ text.old.items ++ texts.accepted (texts.reference_lines reference.now)) }
 {
     let points = reference.middle.as_slice();
     let offsets = offset_count(reference.pos) + offset_count(reference.neg);
-    let mut text = counted(alloc, b"ok", points.len() + 2 + offsets)?;
-    push_first(&mut text, reference.first)?;
-    push_points(&mut text, points)?;
-    push_last(&mut text, reference.last)?;
-    push_offset(&mut text, b"positive", reference.pos)?;
-    push_offset(&mut text, b"negative", reference.neg)?;
-    Ok(text)
+    push_count(text, b"ok", points.len() + 2 + offsets)?;
+    push_first(text, reference.first)?;
+    push_points(text, points)?;
+    push_last(text, reference.last)?;
+    push_offset(text, b"positive", reference.pos)?;
+    push_offset(text, b"negative", reference.neg)?;
+    Ok(())
 }
 
 /// How many lines an offset takes.
@@ -152,7 +170,8 @@ fn push_middle(text: &mut Vec<u8>, point: Middle) -> Result<(), AllocError>
     ensures { OnOk result (text.new.items ≡ text.old.items ++ texts.middle_line point) }
 {
     let numbers = attr_numbers(point.attrs);
-    push_point(text, b"middle", point.dlon, point.dlat, &numbers)
+    let (lon, lat) = (i32::from(point.dlon), i32::from(point.dlat));
+    push_point(text, b"middle", lon, lat, &numbers)
 }
 
 /// The line of the last point.
@@ -160,7 +179,8 @@ fn push_last(text: &mut Vec<u8>, point: Last) -> Result<(), AllocError>
     ensures { OnOk result (text.new.items ≡ text.old.items ++ texts.last_line point) }
 {
     let numbers = [point.frc, point.fow, point.bearing];
-    push_point(text, b"last", point.dlon, point.dlat, &numbers)
+    let (lon, lat) = (i32::from(point.dlon), i32::from(point.dlat));
+    push_point(text, b"last", lon, lat, &numbers)
 }
 
 /// The line of an offset, where there is one.

@@ -1,9 +1,14 @@
-//! Fields of a line, written one after another.
-ghost use Rattle.std.specs.Prelude.{◌≡◌, ◌++◌, ◌∷◌, [], decimal, map, OnOk};
+//! Fields of a line, written one after another, or from the line's end back.
+ghost use Rattle.std.specs.Prelude.{◌≡◌, ◌≤◌, ◌+◌, ◌++◌, ◌∷◌, [], decimal, drop, length, map, OnOk};
+ghost use Rattle.std.specs.Fmt.{signed_decimal};
 ghost use Rattle.olr_records.specs.ReplyText.{after_commas, line};
 
-use itoa::{Buffer, Integer};
+use itoa::{Buffer, Integer, write_digits};
 use std::alloc::AllocError;
+
+/// The bytes in which the end of a line is written: a point has two coordinates of at most 11 bytes, five numbers of at
+/// most 3, their commas, and a line feed.
+const ROOM: usize = 64;
 
 /// A comma and a field.
 pub(crate) fn push_field(text: &mut Vec<u8>, field: &[u8]) -> Result<(), AllocError>
@@ -20,32 +25,84 @@ pub(crate) fn push_number<I: Integer>(text: &mut Vec<u8>, number: I) -> Result<(
     push_field(text, Buffer::new().format(number).as_bytes())
 }
 
-/// A comma before each of these numbers.
-fn push_numbers(text: &mut Vec<u8>, numbers: &[u8]) -> Result<(), AllocError>
-    ensures { OnOk result (text.new.items
-        ≡ text.old.items ++ after_commas (map decimal numbers.now)) }
+/// Writes a byte before what stands from `end` on, and returns where it stands.
+fn put_byte(line: &mut [u8], end: usize, byte: u8) -> usize
+    requires within { end ≤ length line.old }
+    requires room { 1 ≤ end }
+    ensures start { result + 1 ≡ end }
+    ensures written { drop result line.new ≡ byte ∷ drop end line.old }
+    ensures size { length line.new ≡ length line.old }
 {
-    for number in numbers {
-        push_number(text, *number)?;
+    line[end - 1] = byte;
+    end - 1
+}
+
+/// Writes a comma and a number before what stands from `end` on, and returns where they start.
+fn put_number(line: &mut [u8], end: usize, number: u8) -> usize
+    requires within { end ≤ length line.old }
+    requires room { 4 ≤ end }
+    ensures start { end ≤ result + 4 }
+    ensures before { result ≤ end }
+    ensures written { drop result line.new ≡ 44 ∷ decimal number ++ drop end line.old }
+    ensures size { length line.new ≡ length line.old }
+{
+    let start = write_digits(u64::from(number), line, end);
+    put_byte(line, start, b',')
+}
+
+/// Writes a comma and a coordinate before what stands from `end` on, and returns where they start.
+fn put_coordinate(line: &mut [u8], end: usize, coordinate: i32) -> usize
+    requires within { end ≤ length line.old }
+    requires room { 12 ≤ end }
+    ensures start { end ≤ result + 12 }
+    ensures before { result ≤ end }
+    ensures written { drop result line.new ≡ 44 ∷ signed_decimal coordinate ++ drop end line.old }
+    ensures size { length line.new ≡ length line.old }
+{
+    let mut start = write_digits(u64::from(coordinate.unsigned_abs()), line, end);
+    if coordinate < 0 {
+        start = put_byte(line, start, b'-');
     }
-    Ok(())
+    put_byte(line, start, b',')
+}
+
+/// Writes a comma before each of these numbers, all before what stands from `end` on, and returns where they start.
+fn put_numbers(line: &mut [u8], end: usize, numbers: &[u8]) -> usize
+    requires within { end ≤ length line.old }
+    requires few { length numbers.now ≤ 5 }
+    requires room { 20 ≤ end }
+    ensures start { end ≤ result + 20 }
+    ensures before { result ≤ end }
+    ensures written { drop result line.new
+        ≡ after_commas (map decimal numbers.now) ++ drop end line.old }
+    ensures size { length line.new ≡ length line.old }
+{
+    let mut start = end;
+    let mut k = numbers.len();
+    while k > 0 {
+        k -= 1;
+        start = put_number(line, start, numbers[k]);
+    }
+    start
 }
 
 /// The line of a point: a word, two coordinates and numbers.
-pub(crate) fn push_point<I: Integer>(
+pub(crate) fn push_point(
     text: &mut Vec<u8>,
     word: &[u8],
-    lon: I,
-    lat: I,
+    lon: i32,
+    lat: i32,
     numbers: &[u8],
 ) -> Result<(), AllocError>
-    ensures { OnOk result (text.new.items
-        ≡ text.old.items ++ line (word.now ∷ I.text lon ∷ I.text lat ∷ map decimal numbers.now)) }
+    requires few { length numbers.now ≤ 5 }
+    ensures { OnOk result (text.new.items ≡ text.old.items
+        ++ line (word.now ∷ signed_decimal lon ∷ signed_decimal lat ∷ map decimal numbers.now)) }
 {
+    let mut end = [b'\n'; ROOM];
+    let start = put_numbers(&mut end, ROOM - 1, numbers);
+    let start = put_coordinate(&mut end, start, lat);
+    let start = put_coordinate(&mut end, start, lon);
     text.extend_from_slice(word)?;
-    push_number(text, lon)?;
-    push_number(text, lat)?;
-    push_numbers(text, numbers)?;
-    text.push(b'\n')?;
+    text.extend_from_slice(&end[start..])?;
     Ok(())
 }

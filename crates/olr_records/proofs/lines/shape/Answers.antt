@@ -1,15 +1,17 @@
-use Rattle.std.proofs.Common.{ℕ, ◌+◌, ◌≤◌, List, [], drop, length, Ok, ap, sym, subst, arith}
+use Rattle.std.proofs.Common.{List, ℕ, ◌+◌, ◌<◌, ◌≤◌, [], drop, length, Ok, subst, arith}
+use Rattle.std.specs.Prelude.{⊤}
+use Rattle.std.proofs.lemmas.List.{length-drop}
 use Rattle.csv.specs.Records.{fields_of}
 use Rattle.olr_spec.specs.Map.{ShapePoint}
 use Rattle.olr_records.specs.Records.{Read, point, shape}
-use Rattle.olr_records.specs.Words.{Reads}
-use Rattle.olr_records.proofs.LoopLemmas.{at, with, nothing-onto, shape-more, shape-over}
+use Rattle.olr_records.specs.Words.{Gathers, Reads}
+use Rattle.olr_records.proofs.LoopLemmas.{at, with, nothing-onto, shape-end, shape-more, shape-over, gathers-only, some-points}
 use Rattle.olr_records.proofs.lines.shape.Goals as goal
 
 pub loop-k-init : goal.loop-k-init
 loop-k-init c = record {
   within = c.requires;
-  gathered = (Ok [], ap (λ (xs : List ShapePoint). Ok xs) (sym c.new.ensures.items), nothing-onto (shape (drop c.args.start (fields_of c.args.row.now))));
+  gathered = (Ok [], c.room-points.ensures, nothing-onto (shape (drop c.args.start (fields_of c.args.row.now))));
 }
 
 pub loop-k-preserved : goal.loop-k-preserved
@@ -35,3 +37,12 @@ pub returns-then-k-len : goal.returns-then-k-len
 returns-then-k-len c =
     let fs = fields_of c.args.row.now in
     shape-over fs c.loop-k.k c.loop-k.invariant.gathered.0 (shape (drop c.args.start fs)) (omega arith) (omega arith) c.loop-k.invariant.gathered.2
+
+pub returns : goal.returns
+returns c =
+    let fs = fields_of c.args.row.now in
+    let whole = shape (drop c.args.start fs) in
+    let read = subst (λ (x : Read (List ShapePoint)). Gathers (λ _. ⊤) (λ v. v.items) x c.loop-k.points)
+    (shape-end fs c.loop-k.k c.loop-k.invariant.gathered.0 whole (omega arith) c.loop-k.invariant.gathered.2) c.loop-k.invariant.gathered.1
+    in
+    gathers-only (λ _. ⊤) (λ ps. 0 < length ps) (λ v. v.items) whole c.loop-k.points (some-points (drop c.args.start fs) (omega (arith, length-drop c.args.start fs))) read

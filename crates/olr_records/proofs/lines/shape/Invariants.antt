@@ -1,8 +1,9 @@
 use Rattle.std.proofs.Common.{◌≡◌, List, drop, length, ◌≤◌, ◌-◌}
+use Rattle.std.specs.Prelude.{⊤}
 use Rattle.csv.specs.Records.{fields_of}
 use Rattle.olr_spec.specs.Map.{ShapePoint}
 use Rattle.olr_records.specs.Records.{Read, shape}
-use Rattle.olr_records.specs.Words.{Reads}
+use Rattle.olr_records.specs.Words.{Gathers}
 use Rattle.olr_records.proofs.LoopLemmas.{onto}
 use Rattle.olr_records.proofs.lines.shape.Given as goal
 
@@ -10,7 +11,7 @@ use Rattle.olr_records.proofs.lines.shape.Given as goal
 abbrev pub invariant-loop-k : goal.invariant-loop-k
 invariant-loop-k l = record {
   within : l.k ≤ length (fields_of l.row);
-  gathered : (x : Read (List ShapePoint)) × Reads (λ v. v.items) x l.points × (onto x (shape (drop l.k (fields_of l.row))) ≡ shape (drop l.fn.start (fields_of l.row)));
+  gathered : (x : Read (List ShapePoint)) × Gathers (λ _. ⊤) (λ v. v.items) x l.points × (onto x (shape (drop l.k (fields_of l.row))) ≡ shape (drop l.fn.start (fields_of l.row)));
 }
 
 abbrev pub decreases-loop-k : goal.decreases-loop-k

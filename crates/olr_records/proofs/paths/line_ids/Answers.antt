@@ -1,12 +1,13 @@
-use Rattle.std.proofs.Common.{ℕ, List, [], drop, Ok, ap, sym, subst, arith}
+use Rattle.std.proofs.Common.{ℕ, List, [], drop, Ok, subst, arith}
+use Rattle.std.specs.Prelude.{⊤}
 use Rattle.csv.specs.Records.{fields_of}
 use Rattle.olr_records.specs.Records.{Field, Read, number, numbers}
-use Rattle.olr_records.specs.Words.{Reads}
+use Rattle.olr_records.specs.Words.{Gathers, Reads}
 use Rattle.olr_records.proofs.LoopLemmas.{at, with, nothing-onto, numbers-more, numbers-end}
 use Rattle.olr_records.proofs.paths.line_ids.Goals as goal
 
 pub loop-k-init : goal.loop-k-init
-loop-k-init c = (Ok [], ap (λ (xs : List ℕ). Ok xs) (sym c.new.ensures.items), nothing-onto (numbers (drop 4 (fields_of c.args.row.now))))
+loop-k-init c = (Ok [], c.room-ids.ensures, nothing-onto (numbers (drop 4 (fields_of c.args.row.now))))
 
 pub loop-k-preserved : goal.loop-k-preserved
 loop-k-preserved c =
@@ -22,5 +23,5 @@ loop-k-preserved c =
 pub returns : goal.returns
 returns c =
     let fs = fields_of c.args.row.now in
-    subst (λ (x : Read (List ℕ)). Reads (λ v. v.items) x c.loop-k.ids)
+    subst (λ (x : Read (List ℕ)). Gathers (λ _. ⊤) (λ v. v.items) x c.loop-k.ids)
     (numbers-end fs c.loop-k.k c.loop-k.invariant.0 (numbers (drop 4 fs)) (omega arith) c.loop-k.invariant.2) c.loop-k.invariant.1

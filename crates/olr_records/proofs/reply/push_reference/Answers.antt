@@ -5,10 +5,11 @@ use Rattle.olr_spec.specs.Reference.{Middle, Reference}
 use Rattle.olr_binary.specs.Codes.{reference}
 use Rattle.olr_records.specs.ReplyText.{line, accepted, first_line, middle_line, last_line, offset_lines, reference_lines}
 use Rattle.olr_records.proofs.TextLemmas.{reference-text}
-use Rattle.olr_records.proofs.reply.reference_text.Goals as goal
+use Rattle.olr_records.proofs.reply.push_reference.Goals as goal
 
 pub returns : goal.returns
 returns c =
+    let t : List ℕ = c.args.text.now.items in
     let i = c.reference.inside in
     let r : Reference = reference i.first i.middle.items i.last i.pos i.neg in
     let positive = offset_lines (codes "positive") i.pos in
@@ -19,11 +20,11 @@ returns c =
     omega (arith, c.offset_count.ensures.lines (codes "positive"), c.offset_count-2.ensures.lines (codes "negative"), ap (λ (ps : List Middle). length ps) same)
     in
     c.in_ok-push_offset-2.ensures
-    ∙ ap (λ (t : List ℕ). t ++ concat negative) (c.in_ok-push_offset.ensures
-    ∙ ap (λ (t : List ℕ). t ++ concat positive) (c.in_ok-push_last.ensures
-    ∙ ap (λ (t : List ℕ). t ++ last_line i.last) (c.in_ok-push_points.ensures
-    ∙ ap (λ (t : List ℕ). t ++ concat (map middle_line c.as_slice-points.result.now)) (c.in_ok-push_first.ensures
-    ∙ ap (λ (t : List ℕ). t ++ first_line i.first) c.in_ok-text.ensures))))
-    ∙ ap (λ (ps : List Middle). ((((line (codes "ok" ∷ decimal n ∷ []) ++ first_line i.first) ++ concat (map middle_line ps)) ++ last_line i.last) ++ concat positive) ++ concat negative) same
-    ∙ reference-text r n count
-    ∙ ap (λ (q : Reference). accepted (reference_lines q)) c.reference.view_is
+    ∙ ap (λ (u : List ℕ). u ++ concat negative) (c.in_ok-push_offset.ensures
+    ∙ ap (λ (u : List ℕ). u ++ concat positive) (c.in_ok-push_last.ensures
+    ∙ ap (λ (u : List ℕ). u ++ last_line i.last) (c.in_ok-push_points.ensures
+    ∙ ap (λ (u : List ℕ). u ++ concat (map middle_line c.as_slice-points.result.now)) (c.in_ok-push_first.ensures
+    ∙ ap (λ (u : List ℕ). u ++ first_line i.first) c.in_ok-push_count.ensures))))
+    ∙ ap (λ (ps : List Middle). (((((t ++ line (codes "ok" ∷ decimal n ∷ [])) ++ first_line i.first) ++ concat (map middle_line ps)) ++ last_line i.last) ++ concat positive) ++ concat negative) same
+    ∙ reference-text t r n count
+    ∙ ap (λ (q : Reference). t ++ accepted (reference_lines q)) c.reference.view_is

@@ -1,0 +1,12 @@
+use Rattle.std.proofs.Common.{◌≡◌, ◌^◌, true, take, min}
+use Rattle.std.specs.List.{list_all}
+use Rattle.std.specs.Char.{is_ascii_digit}
+use Rattle.olr_spec.specs.Degrees.{digits_value}
+use Rattle.olr_records.proofs.fields.many_digits.Given as goal
+
+-- the bytes so far are digits, of this value or of a greater one than 32 bits hold
+abbrev pub invariant-loop-byte : goal.invariant-loop-byte
+invariant-loop-byte l = record {
+  digits : list_all is_ascii_digit (take l.byte-index l.field) ≡ true;
+  value : l.value ≡ min (digits_value (take l.byte-index l.field)) (2 ^ 32);
+}
