@@ -19,4 +19,4 @@ commanded s t fields c o e h = inl (subst (λ (r : Read state.Command). CommandO
 pub unread : (s : State) (fields : List Field) (f : ReadFault) → IsRead (read fields) (Err f) → RecordOutcome s fields (Err (read_fault_of f)) s
 unread s fields Syntax e = inl (subst (λ (r : Read state.Command). CommandOutcome s r (Err state.Syntax) s) (sym e) (refl, refl))
 unread s fields Range e = inl (subst (λ (r : Read state.Command). CommandOutcome s r (Err state.Range) s) (sym e) (refl, refl))
-unread s fields Memory e = inr (refl, refl)
+unread s fields Memory e = inr (e, (refl, refl))

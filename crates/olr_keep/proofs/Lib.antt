@@ -4,3 +4,5 @@ pub mod Answering
 pub mod Writing
 pub mod Running
 pub mod Joining
+pub mod Ending
+pub mod Lacking

@@ -1,6 +1,6 @@
 -- The records that a run has answered so far.
-use Rattle.std.proofs.Common.{◌≡◌, ◌∙◌, ◌+◌, ◌<◌, ℕ, Bool, true, false, List, [], ◌∷◌, ◌++◌, length, option_map, None, Some, IfSome, Result, Ok, Err, IfErr, IsTrue, inl, inr, refl, sym, ap, subst, arith, length-append}
-use Rattle.std.specs.Prelude.{◌&&◌, ◌||◌, is_err, is_ok, IsErrAnd, if◌then◌else◌}
+use Rattle.std.proofs.Common.{◌≡◌, ◌∙◌, ◌+◌, ◌<◌, ℕ, Bool, true, false, List, [], ◌∷◌, ◌++◌, length, option_map, None, Some, IfSome, Ok, Err, IsTrue, inl, inr, refl, sym, ap, subst, arith, length-append}
+use Rattle.std.specs.Prelude.{◌&&◌, ◌||◌, is_err, is_ok, if◌then◌else◌}
 use Rattle.std.proofs.lemmas.List.{append-nil}
 use Rattle.std.proofs.lemmas.List.Concat.{flat_map-append}
 use Rattle.std.proofs.lemmas.List.Folds.{list_any-append}
@@ -15,16 +15,18 @@ use Rattle.csv.specs.declared.parser.State.TheVariants as st
 use Rattle.olr_commands.specs.Kept.{Stands}
 use Rattle.olr_commands.specs.Registered.{Registered}
 use Rattle.olr_commands.specs.Reply.{Outcome}
-use Rattle.olr_commands.specs.State.{State}
+use Rattle.olr_commands.specs.State.{IsContent, State}
+use Rattle.olr_commands.proofs.HistoryLemmas.{run_more, run_longer}
 use Rattle.olr_records.specs.Records.{Field}
 use Rattle.olr_records.specs.ReplyText.{outcome_text}
-use Rattle.olr_keep.specs.Output.{RecordOutcome, Outcomes, any_refused, AreAll, texts, status, Ran, CutOff, Nothing, In_last, Faulted, records_of, most_records}
+use Rattle.olr_keep.specs.Output.{SoundOutcome, SoundOutcomes, Claims, StopsAtRefusal, any_refused, AreAll, texts, status, Ran, CutOff, Nothing, In_last, Faulted, records_of, most_records}
 use Rattle.olr_keep.specs.Output as output
-use Rattle.olr_keep.specs.Runs.{Known, IsPlain, status_of, Told}
+use Rattle.olr_keep.specs.Runs.{Known, known_records, IsPlain, status_of, Told}
 use Rattle.olr_keep.specs.declared.ends.Status.{Status}
 use Rattle.olr_keep.specs.declared.ends.Status.TheVariants as ended
 use Rattle.olr_keep.specs.declared.ends.RunFault.{RunFault}
 use Rattle.olr_keep.proofs.RecordLemmas.{first_records}
+use Rattle.olr_keep.proofs.RunLemmas.{sound_after, claims_of}
 
 -- ---- outcomes
 
@@ -39,19 +41,9 @@ none_later true false b e = e
 none_later false a b e = refl
 
 -- one more, where none so far ends the run
-pub outcomes_more : (stop : Bool) (s t u : State) (rows : List (List Field)) (r : List Field) (os : List Outcome) (o : Outcome) → length os ≡ length rows → (stop && any_refused os) ≡ false
-    → Outcomes stop s rows os t → RecordOutcome t r o u → Outcomes stop s (rows ++ r ∷ []) (os ++ o ∷ []) u
-outcomes_more stop s t u [] r [] o l n p h = (u, subst (λ (x : State). RecordOutcome x r o u) (sym p) h, λ _. refl, refl)
-outcomes_more stop s t u [] r (k ∷ os) o l n p h = absurd p
-outcomes_more stop s t u (x ∷ rows) r [] o l n p h = absurd (omega arith)
-outcomes_more stop s t u (x ∷ rows) r (k ∷ os) o l n p h =
-    (p.0, p.1, λ e. absurd (no_refusal stop (is_err k) (any_refused os) n e), outcomes_more stop p.0 t u rows r os o (omega arith) (none_later stop (is_err k) (any_refused os) n) p.3 h)
-
--- of more records
-pub outcomes_longer : (stop : Bool) (s t : State) (rows rest : List (List Field)) (os : List Outcome) → Outcomes stop s rows os t → Outcomes stop s (rows ++ rest) os t
-outcomes_longer stop s t rows rest [] p = p
-outcomes_longer stop s t [] rest (o ∷ os) p = absurd p
-outcomes_longer stop s t (r ∷ rows) rest (o ∷ os) p = (p.0, p.1, p.2, outcomes_longer stop p.0 t rows rest os p.3)
+stops_more : (stop : Bool) (os : List Outcome) (o : Outcome) → (stop && any_refused os) ≡ false → StopsAtRefusal stop os → StopsAtRefusal stop (os ++ o ∷ [])
+stops_more stop [] o n h = (λ _. refl, tt)
+stops_more stop (k ∷ os) o n h = (λ e. absurd (no_refusal stop (is_err k) (any_refused os) n e), stops_more stop os o (none_later stop (is_err k) (any_refused os) n) h.1)
 
 texts_more : (os : List Outcome) (o : Outcome) → texts (os ++ o ∷ []) ≡ texts os ++ outcome_text o
 texts_more os o = flat_map-append outcome_text os (o ∷ []) ∙ ap (λ (xs : List ℕ). texts os ++ xs) (append-nil (outcome_text o))
@@ -71,7 +63,8 @@ is_refused (Err f) e = refl
 
 pub record Answered (stop : Bool) (s : State) (rows : List (List Field)) (t : State) (before later : Known) (end : Status) : Type 0 where
   pub outcomes : List Outcome
-  pub each : Outcomes stop s rows outcomes t
+  pub each : SoundOutcomes s rows outcomes t
+  pub stops : StopsAtRefusal stop outcomes
   pub all : length outcomes ≡ length rows
   pub wrote : Appends before later (texts outcomes)
   pub goes_on : (stop && any_refused outcomes) ≡ false
@@ -83,7 +76,7 @@ pub record SoFar (stop : Bool) (old : Registered) (input : List ℕ) (before : K
   pub rows : List (List Field)
   pub count : length rows ≡ n
   pub reached : Reached default_config st.StartRecord (strip_bom input) rows state left
-  pub answered : (s : State) → Stands old.kept s → (t : State) × Stands now.kept t × Answered stop s rows t before later end
+  pub answered : (s : State) → Stands old.kept s → IsContent s.content → (t : State) × Stands now.kept t × Answered stop s rows t before later end
 
 -- before the first record
 pub so_far_none : (stop : Bool) (old : Registered) (input : List ℕ) (before : Known) (source : Known) → source ≡ Some (strip_bom input)
@@ -96,7 +89,7 @@ so_far_none stop old input before source e =
       rows = [];
       count = refl;
       reached = (refl, refl);
-      answered = λ s stands. (s, stands, record { outcomes = []; each = refl; all = refl; wrote = Appends-nil before; goes_on = none_refused stop; ended = refl });
+      answered = λ s stands sound. (s, stands, record { outcomes = []; each = refl; stops = tt; all = refl; wrote = Appends-nil before; goes_on = none_refused stop; ended = refl });
     }
   where
     none_refused : (b : Bool) → (b && false) ≡ false
@@ -112,13 +105,14 @@ or_none false = refl
 
 -- one more, which was accepted
 pub accepted_more : (stop : Bool) (s t u : State) (rows : List (List Field)) (r : List Field) (o : Outcome) (before now later : Known) (end : Status) → Answered stop s rows t before now end
-    → RecordOutcome t r o u → Appends now later (outcome_text o) → is_ok o ≡ true → Answered stop s (rows ++ r ∷ []) u before later end
+    → SoundOutcome t r o u → Appends now later (outcome_text o) → is_ok o ≡ true → Answered stop s (rows ++ r ∷ []) u before later end
 accepted_more stop s t u rows r o before now later end a h w e =
     let refused : any_refused (a.outcomes ++ o ∷ []) ≡ any_refused a.outcomes =
     refused_more a.outcomes o ∙ ap (λ (b : Bool). any_refused a.outcomes || (b || false)) (is_accepted o e) ∙ or_none (any_refused a.outcomes) in
     record {
       outcomes = a.outcomes ++ o ∷ [];
-      each = outcomes_more stop s t u rows r a.outcomes o a.all a.goes_on a.each h;
+      each = run_more SoundOutcome s t u rows r a.outcomes o a.all a.each h;
+      stops = stops_more stop a.outcomes o a.goes_on a.stops;
       all = more_all rows r a.outcomes o a.all;
       wrote = subst (Appends before later) (sym (texts_more a.outcomes o)) (Appends-trans before now later _ _ a.wrote w);
       goes_on = ap (λ (b : Bool). stop && b) refused ∙ a.goes_on;
@@ -134,11 +128,12 @@ some_refused os o e = refused_more os o ∙ ap (λ (b : Bool). any_refused os ||
 
 -- one more, which was refused, where that doesn't stop the run
 pub refused_more_of : (s t u : State) (rows : List (List Field)) (r : List Field) (o : Outcome) (before now later : Known) (end : Status) → Answered false s rows t before now end
-    → RecordOutcome t r o u → Appends now later (outcome_text o) → is_ok o ≡ false → Answered false s (rows ++ r ∷ []) u before later ended.SomeRefused
+    → SoundOutcome t r o u → Appends now later (outcome_text o) → is_ok o ≡ false → Answered false s (rows ++ r ∷ []) u before later ended.SomeRefused
 refused_more_of s t u rows r o before now later end a h w e =
     record {
       outcomes = a.outcomes ++ o ∷ [];
-      each = outcomes_more false s t u rows r a.outcomes o a.all refl a.each h;
+      each = run_more SoundOutcome s t u rows r a.outcomes o a.all a.each h;
+      stops = stops_more false a.outcomes o refl a.stops;
       all = more_all rows r a.outcomes o a.all;
       wrote = subst (Appends before later) (sym (texts_more a.outcomes o)) (Appends-trans before now later _ _ a.wrote w);
       goes_on = refl;
@@ -168,9 +163,9 @@ accepted_so_far stop old now new input before mid later end state next source mo
       rows = a.rows ++ fields ∷ [];
       count = length-append a.rows (fields ∷ []) ∙ ap (λ (k : ℕ). k + 1) a.count;
       reached = reached.2;
-      answered = λ s stands.
-          let so = a.answered s stands in
-          let t = told so.0 so.1 in
+      answered = λ s stands sound.
+          let so = a.answered s stands sound in
+          let t = told so.0 so.1 (sound_after s so.0 a.rows so.2.outcomes sound so.2.each) in
           (t.0, t.2, accepted_more stop s so.0 t.0 a.rows fields t.1 before mid later end so.2 t.3 t.4.0 (sym t.4.1 ∙ e));
     }
 
@@ -186,21 +181,26 @@ refused_so_far false old now new input before mid later end state next source mo
       rows = a.rows ++ fields ∷ [];
       count = length-append a.rows (fields ∷ []) ∙ ap (λ (k : ℕ). k + 1) a.count;
       reached = reached.2;
-      answered = λ s stands.
-          let so = a.answered s stands in
-          let t = told so.0 so.1 in
+      answered = λ s stands sound.
+          let so = a.answered s stands sound in
+          let t = told so.0 so.1 (sound_after s so.0 a.rows so.2.outcomes sound so.2.each) in
           (t.0, t.2, refused_more_of s so.0 t.0 a.rows fields t.1 before mid later end so.2 t.3 t.4.0 (sym t.4.1 ∙ e));
     }
 
 -- ---- ends
 
+-- what a register stands in has its content
+standing : (old : Registered) (s : State) → IsContent old.kept.content → Stands old.kept s → IsContent s.content
+standing old s sound stands = subst IsContent stands.0 sound
+
 -- csv gives no further record
-pub ran_whole : (stop : Bool) (old now : Registered) (input : List ℕ) (before later : Known) (end : Status) (state : CsvState) (source : Known) (n : ℕ)
+pub ran_whole : (stop : Bool) (old now : Registered) (input : List ℕ) (before later : Known) (end : Status) (state : CsvState) (source : Known) (n : ℕ) → IsContent old.kept.content
     → SoFar stop old input before now later end state source n → ((left : List ℕ) → source ≡ Some left → next_record default_config state [] [] left ≡ None)
-    → (s : State) → Stands old.kept s → (t : State) × Stands now.kept t × (written : List ℕ) × Appends before later written × Ran stop s input t written (status_of end)
-ran_whole stop old now input before later end state source n a none s stands =
+    → (s : State) → Stands old.kept s → (t : State) × Stands now.kept t × (written : List ℕ) × Appends before later written × Ran Claims stop s (records_of input) t written (status_of end)
+ran_whole stop old now input before later end state source n base a none s stands =
     let all = first_records input a.rows state a.left a.reached in
-    let so = a.answered s stands in
+    let sound = standing old s base stands in
+    let so = a.answered s stands sound in
     let rows_are : records_of input ≡ a.rows = all.1 ∙ ap (λ (xs : List (List Field)). a.rows ++ xs) (all.2 (none a.left a.source_is)) ∙ append-nil a.rows in (
       so.0,
       so.1,
@@ -208,7 +208,8 @@ ran_whole stop old now input before later end state source n a none s stands =
       so.2.wrote,
       record {
         outcomes = so.2.outcomes;
-        each = subst (λ (rs : List (List Field)). Outcomes stop s rs so.2.outcomes so.0) (sym rows_are) so.2.each;
+        each = claims_of s (records_of input) so.2.outcomes so.0 sound (subst (λ (rs : List (List Field)). SoundOutcomes s rs so.2.outcomes so.0) (sym rows_are) so.2.each);
+        stops = so.2.stops;
         all = inl (so.2.all ∙ ap length (sym rows_are));
         wrote = refl;
         ended = so.2.ended;
@@ -217,14 +218,15 @@ ran_whole stop old now input before later end state source n a none s stands =
 
 -- the first refusal stops the run
 pub ran_stopped : (stop : Bool) (old now new : Registered) (input : List ℕ) (before mid later : Known) (end : Status) (state next : CsvState) (source more : Known) (fields : List Field) (n : ℕ) (accepted : Bool)
-    → accepted ≡ false → stop ≡ true → SoFar stop old input before now mid end state source n → OneMore state source fields next more → Told now fields new mid later (Ok accepted)
-    → (s : State) → Stands old.kept s → (t : State) × Stands new.kept t × (written : List ℕ) × Appends before later written × Ran stop s input t written output.Stopped
-ran_stopped false old now new input before mid later end state next source more fields n accepted e stops a one told s stands = absurd cc
-ran_stopped true old now new input before mid later end state next source more fields n accepted e stops a one told s stands =
+    → IsContent old.kept.content → accepted ≡ false → stop ≡ true → SoFar stop old input before now mid end state source n → OneMore state source fields next more → Told now fields new mid later (Ok accepted)
+    → (s : State) → Stands old.kept s → (t : State) × Stands new.kept t × (written : List ℕ) × Appends before later written × Ran Claims stop s (records_of input) t written output.Stopped
+ran_stopped false old now new input before mid later end state next source more fields n accepted base e stops a one told s stands = absurd cc
+ran_stopped true old now new input before mid later end state next source more fields n accepted base e stops a one told s stands =
     let reached = one input a.rows a.left a.source_is a.reached in
     let all = first_records input (a.rows ++ fields ∷ []) next reached.0 reached.2 in
-    let so = a.answered s stands in
-    let t = told so.0 so.1 in
+    let sound = standing old s base stands in
+    let so = a.answered s stands sound in
+    let t = told so.0 so.1 (sound_after s so.0 a.rows so.2.outcomes sound so.2.each) in
     let os = so.2.outcomes ++ t.1 ∷ [] in
     let refused : any_refused os ≡ true = some_refused so.2.outcomes t.1 (sym t.4.1 ∙ e) in (
       t.0,
@@ -233,8 +235,9 @@ ran_stopped true old now new input before mid later end state next source more f
       subst (Appends before later) (sym (texts_more so.2.outcomes t.1)) (Appends-trans before mid later _ _ so.2.wrote t.4.0),
       record {
         outcomes = os;
-        each = subst (λ (rs : List (List Field)). Outcomes true s rs os t.0) (sym all.1)
-            (outcomes_longer true s t.0 (a.rows ++ fields ∷ []) all.0 os (outcomes_more true s so.0 t.0 a.rows fields so.2.outcomes t.1 so.2.all so.2.goes_on so.2.each t.3));
+        each = claims_of s (records_of input) os t.0 sound (subst (λ (rs : List (List Field)). SoundOutcomes s rs os t.0) (sym all.1)
+            (run_longer SoundOutcome s t.0 (a.rows ++ fields ∷ []) all.0 os (run_more SoundOutcome s so.0 t.0 a.rows fields so.2.outcomes t.1 so.2.all so.2.each t.3)));
+        stops = stops_more true so.2.outcomes t.1 so.2.goes_on so.2.stops;
         all = inr refused;
         wrote = refl;
         ended = ap (λ (b : Bool). if b then output.Stopped else output.All_accepted) (sym refused);
@@ -246,39 +249,43 @@ last_of x [] = ([], x, refl)
 last_of x (y ∷ ys) = let r = last_of y ys in (x ∷ r.0, r.1, ap (λ (zs : List _). x ∷ zs) r.2)
 
 -- every text was written
-cut_whole : (os : List Outcome) → CutOff os (texts os)
+pub cut_whole : (os : List Outcome) → CutOff os (texts os)
 cut_whole [] = Nothing refl refl
 cut_whole (o ∷ os) =
     let l = last_of o os in
     In_last l.0 l.1 (outcome_text l.1) [] l.2 (sym (append-nil (outcome_text l.1))) (ap texts l.2 ∙ texts_more l.0 l.1)
 
 -- a fault between two records
-pub faulted_between : (stop : Bool) (old now : Registered) (input : List ℕ) (before later : Known) (end : Status) (state : CsvState) (source : Known) (n : ℕ)
+pub faulted_between : (stop : Bool) (old now : Registered) (input : List ℕ) (before later : Known) (end : Status) (state : CsvState) (source : Known) (n : ℕ) → IsContent old.kept.content
     → SoFar stop old input before now later end state source n
-    → (s : State) → Stands old.kept s → (t : State) × Stands now.kept t × (written : List ℕ) × Appends before later written × Faulted stop s input t written
-faulted_between stop old now input before later end state source n a s stands =
+    → (s : State) → Stands old.kept s → (t : State) × Stands now.kept t × (written : List ℕ) × Appends before later written × Faulted Claims stop s (records_of input) t written
+faulted_between stop old now input before later end state source n base a s stands =
     let all = first_records input a.rows state a.left a.reached in
-    let so = a.answered s stands in (
+    let sound = standing old s base stands in
+    let so = a.answered s stands sound in (
       so.0,
       so.1,
       texts so.2.outcomes,
       so.2.wrote,
       record {
         outcomes = so.2.outcomes;
-        each = subst (λ (rs : List (List Field)). Outcomes stop s rs so.2.outcomes so.0) (sym all.1) (outcomes_longer stop s so.0 a.rows all.0 so.2.outcomes so.2.each);
+        each = claims_of s (records_of input) so.2.outcomes so.0 sound
+            (subst (λ (rs : List (List Field)). SoundOutcomes s rs so.2.outcomes so.0) (sym all.1) (run_longer SoundOutcome s so.0 a.rows all.0 so.2.outcomes so.2.each));
+        stops = so.2.stops;
         wrote = cut_whole so.2.outcomes;
       },
     )
 
 -- and one in the answer to a record
 pub faulted_answer : (stop : Bool) (old now new : Registered) (input : List ℕ) (before mid later : Known) (end : Status) (state next : CsvState) (source more : Known) (fields : List Field) (n : ℕ) (e : RunFault)
-    → SoFar stop old input before now mid end state source n → OneMore state source fields next more → Told now fields new mid later (Err e)
-    → (s : State) → Stands old.kept s → (t : State) × Stands new.kept t × (written : List ℕ) × Appends before later written × Faulted stop s input t written
-faulted_answer stop old now new input before mid later end state next source more fields n e a one told s stands =
+    → IsContent old.kept.content → SoFar stop old input before now mid end state source n → OneMore state source fields next more → Told now fields new mid later (Err e)
+    → (s : State) → Stands old.kept s → (t : State) × Stands new.kept t × (written : List ℕ) × Appends before later written × Faulted Claims stop s (records_of input) t written
+faulted_answer stop old now new input before mid later end state next source more fields n e base a one told s stands =
     let reached = one input a.rows a.left a.source_is a.reached in
     let all = first_records input (a.rows ++ fields ∷ []) next reached.0 reached.2 in
-    let so = a.answered s stands in
-    let t = told so.0 so.1 in
+    let sound = standing old s base stands in
+    let so = a.answered s stands sound in
+    let t = told so.0 so.1 (sound_after s so.0 a.rows so.2.outcomes sound so.2.each) in
     let os = so.2.outcomes ++ t.1 ∷ [] in (
       t.0,
       t.2,
@@ -286,8 +293,9 @@ faulted_answer stop old now new input before mid later end state next source mor
       Appends-trans before mid later _ _ so.2.wrote t.4.3,
       record {
         outcomes = os;
-        each = subst (λ (rs : List (List Field)). Outcomes stop s rs os t.0) (sym all.1)
-            (outcomes_longer stop s t.0 (a.rows ++ fields ∷ []) all.0 os (outcomes_more stop s so.0 t.0 a.rows fields so.2.outcomes t.1 so.2.all so.2.goes_on so.2.each t.3));
+        each = claims_of s (records_of input) os t.0 sound (subst (λ (rs : List (List Field)). SoundOutcomes s rs os t.0) (sym all.1)
+            (run_longer SoundOutcome s t.0 (a.rows ++ fields ∷ []) all.0 os (run_more SoundOutcome s so.0 t.0 a.rows fields so.2.outcomes t.1 so.2.all so.2.each t.3)));
+        stops = stops_more stop so.2.outcomes t.1 so.2.goes_on so.2.stops;
         wrote = In_last so.2.outcomes t.1 t.4.0 t.4.1 refl t.4.2 refl;
       },
     )
@@ -312,11 +320,11 @@ pub within : (P Q : List ℕ → Type 0) (known : Known) → ((xs : List ℕ) �
 within P Q None h p = tt
 within P Q (Some xs) h p = h xs p
 
+pub within_records : (P : List ℕ → Type 0) (Q : List (List Field) → Type 0) (known : Known) → ((xs : List ℕ) → P xs → Q (records_of xs)) → IfSome known P → IfSome (known_records known) Q
+within_records P Q None h p = tt
+within_records P Q (Some xs) h p = h xs p
+
 pub at_start : (stop : Bool) (old : Registered) (known before : Known) (state : CsvState) (source : Known) → state ≡ st.StartRecord → source ≡ option_map strip_bom known
     → IfSome known (λ input. SoFar stop old input before old before ended.AllAccepted state source 0)
 at_start stop old None before state source s e = tt
 at_start stop old (Some xs) before state source s e = subst (λ (x : CsvState). SoFar stop old xs before old before ended.AllAccepted x source 0) (sym s) (so_far_none stop old xs before source e)
-
-pub fault_is : (Q : RunFault → Type 0) (r : Result Status RunFault) (e : RunFault) → IsErrAnd r (λ x. x ≡ e) → Q e → IfErr r Q
-fault_is Q (Ok s) e h q = absurd h
-fault_is Q (Err x) e h q = subst Q (sym h) q

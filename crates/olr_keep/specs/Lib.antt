@@ -3,3 +3,4 @@ pub mod Laws
 pub mod Rows
 pub mod Options
 pub mod Runs
+pub mod Ends

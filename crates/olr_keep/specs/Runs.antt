@@ -3,9 +3,10 @@
 --     Takes remaining old new found fields      a plain reader took its next record, where there was one
 --     CarriedOut old fields new r      what a record does to the register, and its answer
 --     Told old fields new before later r      the same, and its text was written
---     RanOn, FaultedOn      a run.        BothRanOn, BothFaultedOn      two runs
+--     known_records known      the records of known bytes.        known_both      those of a file and then those of more input
+--     RanOn, FaultedOn      a run over known records
 --     exit_code r      the status of the program
-use Rattle.std.specs.Prelude.{◌≡◌, ℕ, ◌<◌, Bool, List, [], ◌++◌, ◌⊎◌, length, Option, Some, Result, Ok, Err, IfSome, is_ok}
+use Rattle.std.specs.Prelude.{◌≡◌, ℕ, ◌<◌, Bool, List, [], ◌++◌, length, Option, Some, None, option_map, Result, Ok, Err, IfSome, is_ok}
 use Rattle.std.specs.Io.KnownBytes.{Appends}
 use Rattle.std.specs.Option.{option_map_or}
 use Rattle.std.specs.Borrow.{Bor}
@@ -15,13 +16,13 @@ use Rattle.csv.specs.declared.reader.Trim.TheVariants as trim
 use Rattle.olr_commands.specs.Kept.{Stands}
 use Rattle.olr_commands.specs.Registered.{Registered}
 use Rattle.olr_commands.specs.Reply.{Outcome}
-use Rattle.olr_commands.specs.State.{State, Fault}
+use Rattle.olr_commands.specs.State.{IsContent, State, Fault}
 use Rattle.olr_commands.specs.Words.{reply_of}
 use Rattle.olr_commands.specs.declared.reply.Reply.{Reply}
 use Rattle.olr_records.specs.Records.{Field}
 use Rattle.olr_records.specs.ReplyText.{outcome_text, fault_text}
 use Rattle.olr_keep.specs.Output as output
-use Rattle.olr_keep.specs.Output.{RecordOutcome, Ran, Faulted, RanBoth, FaultedBoth, records_of, most_records}
+use Rattle.olr_keep.specs.Output.{SoundOutcome, Ran, Faulted, records_of, most_records}
 use Rattle.olr_keep.specs.declared.ends.RunFault.{RunFault}
 use Rattle.olr_keep.specs.declared.ends.RunFault.TheVariants as fault
 use Rattle.olr_keep.specs.declared.ends.Status.{Status}
@@ -52,7 +53,7 @@ IsAnswer (Err line) o = (fault : Fault) × (o ≡ Err fault) × (line.now ≡ fa
 
 abbrev pub CarriedOut : Registered → List Field → Registered → Result Reply (Bor (List ℕ)) → Type 0
 CarriedOut old fields new r =
-    (s : State) → Stands old.kept s → (t : State) × (o : Outcome) × Stands new.kept t × RecordOutcome s fields o t × IsAnswer r o
+    (s : State) → Stands old.kept s → IsContent s.content → (t : State) × (o : Outcome) × Stands new.kept t × SoundOutcome s fields o t × IsAnswer r o
 
 -- all of its text, or a front of it
 abbrev pub TellsText : Known → Known → Outcome → Result Bool RunFault → Type 0
@@ -61,7 +62,7 @@ TellsText before later o (Err e) = (front rest : List ℕ) × (outcome_text o �
 
 abbrev pub Told : Registered → List Field → Registered → Known → Known → Result Bool RunFault → Type 0
 Told old fields new before later r =
-    (s : State) → Stands old.kept s → (t : State) × (o : Outcome) × Stands new.kept t × RecordOutcome s fields o t × TellsText before later o r
+    (s : State) → Stands old.kept s → IsContent s.content → (t : State) × (o : Outcome) × Stands new.kept t × SoundOutcome s fields o t × TellsText before later o r
 
 -- ---- runs
 
@@ -70,35 +71,35 @@ status_of status.AllAccepted = output.All_accepted
 status_of status.SomeRefused = output.Some_refused
 status_of status.Stopped = output.Stopped
 
--- from each state in which the register stood, a whole run leads to one in which it stands
-abbrev pub RanOn : Bool → Registered → Known → Known → Registered → Known → Status → Type 0
-RanOn stop old known before new later end =
-    IfSome known (λ input. (s : State) → Stands old.kept s
-    → (t : State) × Stands new.kept t × (written : List ℕ) × Appends before later written × Ran stop s input t written (status_of end))
+abbrev pub Records : Type 0
+Records = Option (List (List Field))
 
--- and one that was cut off does
-abbrev pub FaultedOn : Bool → Registered → Known → Known → Registered → Known → RunFault → Type 0
-FaultedOn stop old known before new later e =
-    IfSome known (λ input. ((s : State) → Stands old.kept s
-    → (t : State) × Stands new.kept t × (written : List ℕ) × Appends before later written × Faulted stop s input t written)
-    × (e ≡ fault.TooMany → most_records < length (records_of input)))
-
--- ---- two runs
+abbrev pub known_records : Known → Records
+known_records known = option_map records_of known
 
 -- the bytes of a file, or none where there is no file
 abbrev pub known_file : {F : Type 0} → (F → Known) → Option F → Known
 known_file remaining file = option_map_or remaining file (Some [])
 
-abbrev pub BothRanOn : Bool → Registered → Known → Known → Known → Registered → Known → Status → Type 0
-BothRanOn stop old first second before new later end =
-    IfSome first (λ file. IfSome second (λ input. (s : State) → Stands old.kept s
-    → (t : State) × Stands new.kept t × (written : List ℕ) × Appends before later written × RanBoth stop s file input t written (status_of end)))
+abbrev pub known_both : Records → Records → Records
+known_both None second = None
+known_both (Some rs) None = None
+known_both (Some rs) (Some qs) = Some (rs ++ qs)
 
-abbrev pub BothFaultedOn : Bool → Registered → Known → Known → Known → Registered → Known → RunFault → Type 0
-BothFaultedOn stop old first second before new later e =
-    IfSome first (λ file. IfSome second (λ input. ((s : State) → Stands old.kept s
-    → (t : State) × Stands new.kept t × (written : List ℕ) × Appends before later written × FaultedBoth stop s file input t written)
-    × (e ≡ fault.TooMany → (most_records < length (records_of file)) ⊎ (most_records < length (records_of input)))))
+-- from each state in which the register stood, a whole run leads to one in which it stands
+abbrev pub RanOn : (State → List (List Field) → List Outcome → State → Type 0) → Bool → Registered → Records → Known → Registered → Known → Status → Type 0
+RanOn Each stop old records before new later end =
+    IfSome records (λ rs. (s : State) → Stands old.kept s
+    → (t : State) × Stands new.kept t × (written : List ℕ) × Appends before later written × Ran Each stop s rs t written (status_of end))
+
+-- and one that was cut off does
+abbrev pub FaultedOn : (State → List (List Field) → List Outcome → State → Type 0) → Bool → Registered → Records → Known → Registered → Known → Type 0
+FaultedOn Each stop old records before new later =
+    IfSome records (λ rs. (s : State) → Stands old.kept s
+    → (t : State) × Stands new.kept t × (written : List ℕ) × Appends before later written × Faulted Each stop s rs t written)
+
+abbrev pub HasTooMany : Known → Type 0
+HasTooMany known = IfSome known (λ input. most_records < length (records_of input))
 
 abbrev pub exit_code : Result Status RunFault → ℕ
 exit_code (Ok status.AllAccepted) = 0

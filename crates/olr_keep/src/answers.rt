@@ -1,17 +1,19 @@
 //! What one record answers.
 
-ghost use Rattle.std.specs.Prelude.{◌≢◌, IfErr};
+ghost use Rattle.std.specs.Prelude.{◌≡◌, ◌≢◌, [], true, IfErr, IfOk};
 ghost use Rattle.csv.specs.Records.{fields_of};
-ghost use Rattle.olr_commands.specs.Reply.{Outcome};
+ghost use Rattle.olr_commands.specs.Reply.{Outcome, Paths};
+ghost use Rattle.olr_commands.specs.Words.{reply_of};
+ghost use Rattle.olr_records.specs.ReplyText.{reply_text};
 ghost use Rattle.olr_keep.specs.Runs.{CarriedOut, IsAnswer, TellsText, Told};
 
 use crate::ends::RunFault;
 use crate::output::write_all;
 use csv::ByteRecord;
 use olr_commands::Reply;
-use olr_records::{fault_text, read_command, read_fault_text, reply_text};
+use olr_records::{append_reply, fault_text, no_paths_text, read_command, read_fault_text};
 use olr_register::Register;
-use std::alloc::Global;
+use std::alloc::{AllocError, Global};
 use std::io::Write;
 
 /// Carries out what a record asks for: the reply, or the line of the refusal.
@@ -31,10 +33,32 @@ fn carry_out(
     }
 }
 
-/// Writes an answer. Whether it accepts the command.
+/// Whether a reply names no path, as most do.
+fn names_no_path(reply: &Reply) -> bool
+    ensures { result ≡ true → reply_of reply.now ≡ Paths [] }
+{
+    match reply {
+        Reply::Paths(entries) => entries.is_empty(),
+        Reply::Fields(_) | Reply::Held(_) => false,
+    }
+}
+
+/// The lines of a reply. Where it names paths or tells more they are made in `text`, whose room is kept.
+fn lines_of<'a>(text: &'a mut Vec<u8>, reply: &Reply) -> Result<&'a [u8], AllocError>
+    ensures { IfOk result (λ lines. lines.now ≡ reply_text (reply_of reply.now)) }
+{
+    if names_no_path(reply) {
+        return Ok(no_paths_text().as_bytes());
+    }
+    text.clear();
+    append_reply(text, reply)?;
+    Ok(text.as_slice())
+}
+
+/// Writes an answer; the text of a reply is made in `text`, whose room is kept. Whether it accepts the command.
 fn write_answer<W: Write>(
-    alloc: Global,
     answer: &Result<Reply, &'static str>,
+    text: &mut Vec<u8>,
     output: &mut W,
 ) -> Result<bool, RunFault>
     ensures told { (o : Outcome) → IsAnswer answer.now o → TellsText (W.contents output.old) (W.contents output.new) o result }
@@ -42,8 +66,8 @@ fn write_answer<W: Write>(
 {
     match answer {
         Ok(reply) => {
-            let text = reply_text(alloc, reply)?;
-            write_all(output, text.as_slice())?;
+            let lines = lines_of(text, reply)?;
+            write_all(output, lines)?;
             Ok(true)
         }
         Err(line) => {
@@ -53,16 +77,18 @@ fn write_answer<W: Write>(
     }
 }
 
-/// Carries out what a record asks for and writes the answer. Whether the command was accepted.
+/// Carries out what a record asks for and writes the answer, whose text is made in `text`. Whether the command was
+/// accepted.
 pub fn tell<W: Write>(
     alloc: Global,
     register: &mut Register,
     row: &ByteRecord,
+    text: &mut Vec<u8>,
     output: &mut W,
 ) -> Result<bool, RunFault>
     ensures told { Told register.old (fields_of row.now) register.new (W.contents output.old) (W.contents output.new) result }
     ensures failed { IfErr result (λ e. e ≢ RunFault.TooMany) }
 {
     let answer = carry_out(alloc, register, row);
-    write_answer(alloc, &answer, output)
+    write_answer(&answer, text, output)
 }

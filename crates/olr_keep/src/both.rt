@@ -1,8 +1,8 @@
 //! A file's commands and then those of the input, on one register.
 
-ghost use Rattle.std.specs.Prelude.{◌≡◌, IfOk, IfErr};
-ghost use Rattle.olr_keep.specs.Output.{greater};
-ghost use Rattle.olr_keep.specs.Runs.{known_file, status_of, RanOn, FaultedOn, BothRanOn, BothFaultedOn};
+ghost use Rattle.std.specs.Prelude.{◌≡◌, ◌⊎◌, IfOk, IfErr, OnErr};
+ghost use Rattle.olr_keep.specs.Output.{greater, SoundOutcomes, Claims};
+ghost use Rattle.olr_keep.specs.Runs.{known_file, known_records, known_both, status_of, RanOn, FaultedOn, HasTooMany};
 
 use crate::ends::{RunFault, Status};
 use crate::run::run;
@@ -30,8 +30,11 @@ fn run_file<F: Read + Drop, W: Write>(
     output: &mut W,
     stop: bool,
 ) -> Result<Status, RunFault>
-    ensures ran { IfOk result (λ end. RanOn stop register.old (known_file F.remaining file) (W.contents output.old) register.new (W.contents output.new) end) }
-    ensures faulted { IfErr result (λ e. FaultedOn stop register.old (known_file F.remaining file) (W.contents output.old) register.new (W.contents output.new) e) }
+    ensures ran { IfOk result (RanOn SoundOutcomes stop register.old (known_records (known_file F.remaining file))
+        (W.contents output.old) register.new (W.contents output.new)) }
+    ensures faulted { OnErr result (FaultedOn SoundOutcomes stop register.old (known_records (known_file F.remaining file))
+        (W.contents output.old) register.new (W.contents output.new)) }
+    ensures too_many { IfErr result (λ e. e ≡ RunFault.TooMany → HasTooMany (known_file F.remaining file)) }
 {
     match file {
         Some(file) => run(alloc, register, file, output, stop),
@@ -41,7 +44,7 @@ fn run_file<F: Read + Drop, W: Write>(
 
 /// The commands of a file, where there is one, and then those of the input, on one register: a batch that the file leaves
 /// open stays open. Where the first run is stopped or fails, nothing is read of the input and the end is that run's; else
-/// it is the greater of the two.
+/// it is the greater of the two. So it is one run over all of their records.
 pub fn run_both<F: Read + Drop, R: Read + Drop, W: Write>(
     alloc: Global,
     register: &mut Register,
@@ -50,9 +53,16 @@ pub fn run_both<F: Read + Drop, R: Read + Drop, W: Write>(
     output: &mut W,
     stop: bool,
 ) -> Result<Status, RunFault>
-    ensures ran { IfOk result (λ end. BothRanOn stop register.old (known_file F.remaining file) (R.remaining input) (W.contents output.old) register.new (W.contents output.new) end) }
-    ensures faulted { IfErr result (λ e. BothFaultedOn stop register.old (known_file F.remaining file) (R.remaining input) (W.contents output.old) register.new (W.contents output.new) e) }
+    ensures ran { IfOk result (RanOn Claims stop register.old
+        (known_both (known_records (known_file F.remaining file)) (known_records (R.remaining input)))
+        (W.contents output.old) register.new (W.contents output.new)) }
+    ensures faulted { OnErr result (FaultedOn Claims stop register.old
+        (known_both (known_records (known_file F.remaining file)) (known_records (R.remaining input)))
+        (W.contents output.old) register.new (W.contents output.new)) }
+    ensures too_many { IfErr result (λ e. e ≡ RunFault.TooMany
+        → HasTooMany (known_file F.remaining file) ⊎ HasTooMany (R.remaining input)) }
 {
+    register.is_sound();
     let first = run_file(alloc, register, file, output, stop)?;
     if first == Status::Stopped {
         return Ok(first);

@@ -14,13 +14,16 @@ use std::convert::AsStr;
 
 const ABOUT: &str = "Keeps published OpenLR strings right while the road map under them is edited.";
 
-const AFTER_HELP: &str =
-    "Commands are records of comma-separated fields, such as `node,1,6.12683,49.60852`.
-Each is answered on standard output by `ok,N` and N lines, by `held,N` in a batch,
-or by `fault,NUMBER,WORD`.
+/// The version, and the toolchain with which it was proved, as `rt version` tells it.
+const VERSION: &str = "1.1.0, proved with rattle-kit-13b logic dac8208d650f15bf";
 
-Status: 0 all accepted, 1 some refused, 2 wrong words, 3 a file or a stream failed,
-4 no memory.";
+const AFTER_HELP: &str =
+    "Records: node, move, drop-node, line, set-line, drop-line, path, repath, drop-path,
+show, report, explain, begin, commit, abort. docs/LIMITS.md: their fields, limits, refusals.
+Replies: `ok,N` and N lines, `held,N` in a batch, `fault,NUMBER,WORD`.
+Example: olr-keep < examples/morning.csv
+Status: 0 all accepted, 1 some refused, 2 wrong words, 3 a file or a stream failed, 4 no memory.
+docs/RUNNING.md: maps from a database, a log to start again from, a queue, regions.";
 
 /// The program's arguments.
 fn command<'a>(alloc: Global) -> Result<Command<'a>, AllocError>
@@ -36,7 +39,7 @@ fn command<'a>(alloc: Global) -> Result<Command<'a>, AllocError>
         .action(ArgAction::SetTrue)
         .help("Stops at the first refused command");
     Command::new(alloc, "olr-keep")
-        .version("1.0.0")
+        .version(VERSION)
         .about(ABOUT)
         .after_help(AFTER_HELP)
         .arg(file)?

@@ -6,7 +6,7 @@ ghost use Rattle.clap.specs.Takes.{takes};
 ghost use Rattle.clap.specs.declared.error.kind.ErrorKind.TheVariants as kind;
 ghost use Rattle.olr_commands.specs.State.{start_state};
 ghost use Rattle.olr_keep.specs.Options.{keep_app, options};
-ghost use Rattle.olr_keep.specs.Output.{records_of, greater, Ran, Faulted, RanBoth, Some_refused, Stopped, All_accepted};
+ghost use Rattle.olr_keep.specs.Output.{records_of, greater, Outcomes, Ran, Faulted, Some_refused, Stopped, All_accepted};
 ghost use Rattle.olr_keep.specs.Rows.{lines_of, input20, output20, state20};
 
 /// Command lines.
@@ -33,12 +33,12 @@ pub fn rows_input()
 
 /// Whole runs.
 pub fn rows_runs()
-    ensures all { Ran false start_state input20 state20 output20 Some_refused }
-    ensures stopped { Ran true start_state input20 state20 (lines_of (codes "ok,0" ∷ codes "fault,3,NodeExists" ∷ [])) Stopped }
-    ensures cut { Faulted false start_state input20 state20 (codes "ok,0" ++ 10 ∷ codes "fau") }
-    ensures cut_at_once { Faulted false start_state input20 start_state [] }
-    ensures nothing { Ran false start_state [] start_state [] All_accepted }
+    ensures all { Ran Outcomes false start_state (records_of input20) state20 output20 Some_refused }
+    ensures stopped { Ran Outcomes true start_state (records_of input20) state20 (lines_of (codes "ok,0" ∷ codes "fault,3,NodeExists" ∷ [])) Stopped }
+    ensures cut { Faulted Outcomes false start_state (records_of input20) state20 (codes "ok,0" ++ 10 ∷ codes "fau") }
+    ensures cut_at_once { Faulted Outcomes false start_state (records_of input20) start_state [] }
+    ensures nothing { Ran Outcomes false start_state (records_of []) start_state [] All_accepted }
     ensures greatest { greater Some_refused All_accepted ≡ Some_refused }
-    ensures stopped_in_file { RanBoth true start_state input20 [] state20 (lines_of (codes "ok,0" ∷ codes "fault,3,NodeExists" ∷ [])) Stopped }
-    ensures both { RanBoth false start_state [] input20 state20 output20 Some_refused }
+    ensures stopped_in_file { Ran Outcomes true start_state (records_of input20 ++ records_of []) state20 (lines_of (codes "ok,0" ∷ codes "fault,3,NodeExists" ∷ [])) Stopped }
+    ensures both { Ran Outcomes false start_state (records_of [] ++ records_of input20) state20 output20 Some_refused }
 {}

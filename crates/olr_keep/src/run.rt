@@ -1,8 +1,9 @@
 //! A whole run: the records of an input, one after another, each answered before the next is taken.
 
-ghost use Rattle.std.specs.Prelude.{◌≢◌, IfOk, IfErr};
+ghost use Rattle.std.specs.Prelude.{◌≡◌, ◌≢◌, IfOk, IfErr, OnErr};
 ghost use Rattle.csv.specs.Records.{fields_of};
-ghost use Rattle.olr_keep.specs.Runs.{Takes, RanOn, FaultedOn};
+ghost use Rattle.olr_keep.specs.Output.{Claims};
+ghost use Rattle.olr_keep.specs.Runs.{known_records, Takes, RanOn, FaultedOn, HasTooMany};
 
 use crate::answers::tell;
 use crate::ends::{RunFault, Status};
@@ -33,7 +34,9 @@ fn next_record<R: Read + Drop>(
 
 /// Takes the records of the input, and writes a reply or a refusal for each before it takes the next. Where `stop` is set
 /// it takes none after the first refused one. After a fault the register stands after the records that were taken, and
-/// all of their answers are written but for a rest of the last.
+/// all of their answers are written but for a rest of the last. Either way, of the commands that these records spell:
+/// each path's published answer is the one that encoding it from nothing gives on the map of the accepted ones, the routes
+/// of its reference join, each reply to a change names the paths whose answer changed, and a refused one changed nothing.
 pub fn run<R: Read + Drop, W: Write>(
     alloc: Global,
     register: &mut Register,
@@ -41,14 +44,19 @@ pub fn run<R: Read + Drop, W: Write>(
     output: &mut W,
     stop: bool,
 ) -> Result<Status, RunFault>
-    ensures ran { IfOk result (λ end. RanOn stop register.old (R.remaining input) (W.contents output.old) register.new (W.contents output.new) end) }
-    ensures faulted { IfErr result (λ e. FaultedOn stop register.old (R.remaining input) (W.contents output.old) register.new (W.contents output.new) e) }
+    ensures ran { IfOk result (RanOn Claims stop register.old (known_records (R.remaining input))
+        (W.contents output.old) register.new (W.contents output.new)) }
+    ensures faulted { OnErr result (FaultedOn Claims stop register.old (known_records (R.remaining input))
+        (W.contents output.old) register.new (W.contents output.new)) }
+    ensures too_many { IfErr result (λ e. e ≡ RunFault.TooMany → HasTooMany (R.remaining input)) }
 {
+    register.is_sound();
     let mut reader = ReaderBuilder::new()
         .has_headers(false)
         .flexible(true)
         .from_reader(alloc, input);
     let mut row = ByteRecord::new(alloc);
+    let mut text = Vec::new(alloc);
     let mut status = Status::AllAccepted;
     let mut answered: u64 = 0;
     'records: while next_record(&mut reader, &mut row)? {
@@ -56,7 +64,7 @@ pub fn run<R: Read + Drop, W: Write>(
             return Err(RunFault::TooMany);
         }
         answered += 1;
-        if !tell(alloc, register, &row, output)? {
+        if !tell(alloc, register, &row, &mut text, output)? {
             if stop {
                 return Ok(Status::Stopped);
             }

@@ -498,12 +498,12 @@ Options:
   -h, --help     Print help
   -V, --version  Print version
 
-Commands are records of comma-separated fields, such as `node,1,6.12683,49.60852`.
-Each is answered on standard output by `ok,N` and N lines, by `held,N` in a batch,
-or by `fault,NUMBER,WORD`.
-
-Status: 0 all accepted, 1 some refused, 2 wrong words, 3 a file or a stream failed,
-4 no memory.
+Records: node, move, drop-node, line, set-line, drop-line, path, repath, drop-path,
+show, report, explain, begin, commit, abort. docs/LIMITS.md: their fields, limits, refusals.
+Replies: `ok,N` and N lines, `held,N` in a batch, `fault,NUMBER,WORD`.
+Example: olr-keep < examples/morning.csv
+Status: 0 all accepted, 1 some refused, 2 wrong words, 3 a file or a stream failed, 4 no memory.
+docs/RUNNING.md: maps from a database, a log to start again from, a queue, regions.
 ";
     let usage = "error: unexpected argument '-x' found
 
@@ -518,7 +518,7 @@ For more information, try '--help'.
         None,
         broken(),
         0,
-        "olr-keep 1.0.0\n",
+        "olr-keep 1.1.0, proved with rattle-kit-13b logic dac8208d650f15bf\n",
         "",
     )?;
     expect_program(&rt, &["olr-keep", "-x"], None, broken(), 2, "", usage)

@@ -1,5 +1,6 @@
 use Rattle.olr_keep.proofs.RecordLemmas.{first_records}
 use Rattle.olr_keep.proofs.RunLemmas.{outcomes_keep, one_run}
+use Rattle.olr_keep.proofs.Lacking.{memory_lacks}
 use Rattle.olr_keep.proofs.laws.laws_of_runs.Goals as goal
 
 pub returns-clause-kept : goal.returns-clause-kept
@@ -10,3 +11,6 @@ returns-clause-one c = one_run
 
 pub returns-clause-first : goal.returns-clause-first
 returns-clause-first c = first_records
+
+pub returns-clause-lacks : goal.returns-clause-lacks
+returns-clause-lacks c = memory_lacks

@@ -1,7 +1,7 @@
 use Rattle.std.proofs.Common.{inl, inr, ◌≡◌, [], ◌∷◌, ◌++◌, Option, is_some, not, Ok, Err, refl, ap, ◌∙◌}
 use Rattle.std.specs.Ordering.{nat_cmp}
 use Rattle.std.specs.Cmp.{nat_cmp_total}
-use Rattle.std.specs.FinMap.{FinMap, insert, remove, empty, get-empty, get-insert}
+use Rattle.std.specs.FinMap.{insert, remove, empty, get-empty, get-insert}
 use Rattle.std.specs.Prelude.{codes}
 use Rattle.std.specs.Fmt.{digits}
 use Rattle.csv.proofs.OnLiterals.{csv_on_literals}
@@ -9,15 +9,12 @@ use Rattle.olr_spec.specs.Coordinates.{Coord}
 use Rattle.olr_spec.specs.Map.{empty_map, unless, Node_exists, No_node, Node_in_use, Add_node, Drop_node, in_use}
 use Rattle.olr_commands.specs.State.{no_content, start_state, Syntax, Range, Map_fault, On_map, Make, with_map, made, step}
 use Rattle.olr_commands.specs.Reply.{Paths, Told}
-use Rattle.olr_keep.specs.Output.{Nothing, In_last, Stopped_in_file, Both_ran, All_accepted, Some_refused}
-use Rattle.olr_keep.specs.Rows.{zero, state20, output20}
+use Rattle.olr_keep.specs.Output.{Nothing, In_last}
+use Rattle.olr_keep.specs.Rows.{zero, state20}
 use Rattle.olr_keep.proofs.rows.rows_runs.Goals as goal
 
 add_first : step start_state (Make (On_map (Add_node 1 zero))) ≡ Ok state20
 add_first = ap (λ (o : Option Coord). made (with_map no_content (unless (is_some o) Node_exists (Ok (record empty_map { nodes = insert empty 1 zero }))))) (get-empty nat_cmp 1)
-
-nodes20 : FinMap nat_cmp Coord
-nodes20 = insert empty 1 zero
 
 add_again : step state20 (Make (On_map (Add_node 1 zero))) ≡ Err (Map_fault Node_exists)
 add_again = ap (λ (o : Option Coord). made (with_map state20.content (unless (is_some o) Node_exists (Ok (record empty_map { nodes = insert (insert empty 1 zero) 1 zero }))))) (get-insert nat_cmp_total empty 1 zero 1)
@@ -35,14 +32,9 @@ returns-clause-all c =
       each = (
         state20,
         inl (add_first, refl),
-        (λ e. absurd cc),
-        (
-          state20,
-          inl (Told add_again, refl),
-          (λ e. absurd cc),
-          (state20, inl (Told drop_none, refl), (λ e. absurd cc), (state20, inl (refl, refl), (λ e. absurd cc), (state20, inl (refl, refl), (λ e. refl), refl))),
-        ),
+        (state20, inl (Told add_again, refl), (state20, inl (Told drop_none, refl), (state20, inl (refl, refl), (state20, inl (refl, refl), refl)))),
       );
+      stops = (λ e. absurd cc, (λ e. absurd cc, (λ e. absurd cc, (λ e. absurd cc, (λ e. refl, tt)))));
       all = inl refl;
       wrote = refl;
       ended = refl;
@@ -53,7 +45,8 @@ unfolding csv_on_literals digits
 returns-clause-stopped c =
     record {
       outcomes = Ok (Paths []) ∷ Err (Map_fault Node_exists) ∷ [];
-      each = (state20, inl (add_first, refl), (λ e. absurd cc), (state20, inl (Told add_again, refl), (λ e. refl), refl));
+      each = (state20, inl (add_first, refl), (state20, inl (Told add_again, refl), refl));
+      stops = (λ e. absurd cc, (λ e. refl, tt));
       all = inr refl;
       wrote = refl;
       ended = refl;
@@ -61,24 +54,26 @@ returns-clause-stopped c =
 
 pub returns-clause-nothing : goal.returns-clause-nothing
 unfolding csv_on_literals digits
-returns-clause-nothing c = record { outcomes = []; each = refl; all = inl refl; wrote = refl; ended = refl }
+returns-clause-nothing c = record { outcomes = []; each = refl; stops = tt; all = inl refl; wrote = refl; ended = refl }
 
 pub returns-clause-cut : goal.returns-clause-cut
 unfolding csv_on_literals digits
 returns-clause-cut c =
     record {
       outcomes = Ok (Paths []) ∷ Err (Map_fault Node_exists) ∷ [];
-      each = (state20, inl (add_first, refl), (λ e. absurd cc), (state20, inl (Told add_again, refl), (λ e. refl), refl));
+      each = (state20, inl (add_first, refl), (state20, inl (Told add_again, refl), refl));
+      stops = (λ e. absurd cc, (λ e. refl, tt));
       wrote = In_last (Ok (Paths []) ∷ []) (Err (Map_fault Node_exists)) (codes "fau") (codes "lt,3,NodeExists" ++ 10 ∷ []) refl refl refl;
     }
 
 pub returns-clause-cut_at_once : goal.returns-clause-cut_at_once
 unfolding csv_on_literals digits
-returns-clause-cut_at_once c = record { outcomes = []; each = refl; wrote = Nothing refl refl }
+returns-clause-cut_at_once c = record { outcomes = []; each = refl; stops = tt; wrote = Nothing refl refl }
 
 pub returns-clause-stopped_in_file : goal.returns-clause-stopped_in_file
-returns-clause-stopped_in_file c = Stopped_in_file (returns-clause-stopped c) refl
+unfolding csv_on_literals
+returns-clause-stopped_in_file c = returns-clause-stopped c
 
 pub returns-clause-both : goal.returns-clause-both
 unfolding csv_on_literals
-returns-clause-both c = Both_ran start_state [] output20 All_accepted Some_refused (returns-clause-nothing c) (λ e. absurd cc) (returns-clause-all c) refl refl
+returns-clause-both c = returns-clause-all c

@@ -1,11 +1,11 @@
 -- Each end of a run, by the records so far.
-use Rattle.std.proofs.Common.{rules, ◌≡◌, ◌∙◌, inr, ap, arith, true}
-use Rattle.std.specs.Prelude.{IsErrAnd}
+use Rattle.std.proofs.Common.{◌∙◌, inr, ap, arith, true}
 use Rattle.csv.specs.Reading.{builder_config, builder_trim, builder_names_headers, with_flexible}
 use Rattle.csv.specs.Records.{fields_of}
 use Rattle.csv.specs.declared.reader.ReaderBuilder.{ReaderBuilder}
 use Rattle.csv.proofs.ReadFacts.{rows-end}
-use Rattle.olr_keep.proofs.Running.{within, at_start, fault_is, one_more, accepted_so_far, refused_so_far, ran_whole, ran_stopped, faulted_between, faulted_answer, too_many}
+use Rattle.olr_keep.proofs.Running.{within, within_records, at_start, one_more, accepted_so_far, refused_so_far, ran_whole, ran_stopped, faulted_between, faulted_answer, too_many}
+use Rattle.olr_keep.proofs.Joining.{on_fault}
 use Rattle.olr_keep.proofs.run.run.Goals as goal
 
 pub records-init : goal.records-init
@@ -25,40 +25,41 @@ pub returns-clause-ran : goal.returns-clause-ran
 returns-clause-ran g c =
     let plain = c.records.invariant.1 in
     let read = rw c.if-branch.false at ((c.in_ok-next_record.ensures.took plain).1) in
-    within _ _ (g.R.Read.remaining c.args.input)
-    (λ input a. ran_whole _ _ _ input _ _ _ _ _ _ a (λ left e. rows-end g.R.Read.remaining c.records.reader c.next_record.new.reader _ _ left plain.config e read)) c.records.invariant.2
+    within_records _ _ (g.R.Read.remaining c.args.input)
+    (λ input a. ran_whole _ _ _ input _ _ _ _ _ _ c.is_sound.ensures a (λ left e. rows-end g.R.Read.remaining c.records.reader c.next_record.new.reader _ _ left plain.config e read)) c.records.invariant.2
 
 pub returns-in_err-next_record-clause-faulted : goal.returns-in_err-next_record-clause-faulted
 returns-in_err-next_record-clause-faulted g c =
-    let same : IsErrAnd c.from_residual.result (λ e. e ≡ c.in_err-next_record.field-0.0) = search rules in
-    fault_is _ c.from_residual.result c.in_err-next_record.field-0.0 same
-    (within _ _ (g.R.Read.remaining c.args.input) (λ input a. (faulted_between _ _ _ input _ _ _ _ _ _ a, λ e. absurd (c.in_err-next_record.ensures.failed e))) c.records.invariant.2)
+    on_fault c.from_residual.result _
+    (within_records _ _ (g.R.Read.remaining c.args.input) (λ input a. faulted_between _ _ _ input _ _ _ _ _ _ c.is_sound.ensures a) c.records.invariant.2)
 
 pub returns-then-answered-eq-MOST_RECORDS-clause-faulted : goal.returns-then-answered-eq-MOST_RECORDS-clause-faulted
 returns-then-answered-eq-MOST_RECORDS-clause-faulted g c =
+    within_records _ _ (g.R.Read.remaining c.args.input) (λ input a. faulted_between _ _ _ input _ _ _ _ _ _ c.is_sound.ensures a) c.records.invariant.2
+
+pub returns-then-answered-eq-MOST_RECORDS-clause-too_many : goal.returns-then-answered-eq-MOST_RECORDS-clause-too_many
+returns-then-answered-eq-MOST_RECORDS-clause-too_many g c =
     let plain = c.records.invariant.1 in
     let read = rw c.if-branch.true at ((c.in_ok-next_record.ensures.took plain).1) in
     let one = one_more g.R.Read.remaining c.records.reader c.next_record.new.reader (fields_of c.next_record.new.row) plain read in
-    within _ _ (g.R.Read.remaining c.args.input)
-    (λ input a. (faulted_between _ _ _ input _ _ _ _ _ _ a, λ e. too_many _ _ _ input _ _ _ _ _ _ _ _ _ a c.if-answered-eq-MOST_RECORDS.true one)) c.records.invariant.2
+    λ e. within _ _ (g.R.Read.remaining c.args.input) (λ input a. too_many _ _ _ input _ _ _ _ _ _ _ _ _ a c.if-answered-eq-MOST_RECORDS.true one) c.records.invariant.2
 
 pub returns-in_err-tell-clause-faulted : goal.returns-in_err-tell-clause-faulted
 returns-in_err-tell-clause-faulted g c =
     let plain = c.records.invariant.1 in
     let read = rw c.if-branch.true at ((c.in_ok-next_record.ensures.took plain).1) in
     let one = one_more g.R.Read.remaining c.records.reader c.next_record.new.reader (fields_of c.next_record.new.row) plain read in
-    let same : IsErrAnd c.from_residual-in_err-tell.result (λ e. e ≡ c.in_err-tell.field-0.0) = search rules in
-    fault_is _ c.from_residual-in_err-tell.result c.in_err-tell.field-0.0 same
-    (within _ _ (g.R.Read.remaining c.args.input)
-    (λ input a. (faulted_answer _ _ _ c.tell.new.register input _ _ _ _ _ _ _ _ _ _ c.in_err-tell.field-0.0 a one c.in_err-tell.ensures.told, λ e. absurd (c.in_err-tell.ensures.failed e))) c.records.invariant.2)
+    on_fault c.from_residual-in_err-tell.result _
+    (within_records _ _ (g.R.Read.remaining c.args.input)
+    (λ input a. faulted_answer _ _ _ c.tell.new.register input _ _ _ _ _ _ _ _ _ _ c.in_err-tell.field-0.0 c.is_sound.ensures a one c.in_err-tell.ensures.told) c.records.invariant.2)
 
 pub returns-then-stop-clause-ran : goal.returns-then-stop-clause-ran
 returns-then-stop-clause-ran g c =
     let plain = c.records.invariant.1 in
     let read = rw c.if-branch.true at ((c.in_ok-next_record.ensures.took plain).1) in
     let one = one_more g.R.Read.remaining c.records.reader c.next_record.new.reader (fields_of c.next_record.new.row) plain read in
-    within _ _ (g.R.Read.remaining c.args.input)
-    (λ input a. ran_stopped _ _ _ c.tell.new.register input _ _ _ _ _ _ _ _ _ _ c.in_ok-tell.field-0 c.if-not-branch.true c.if-stop.true a one c.in_ok-tell.ensures.told) c.records.invariant.2
+    within_records _ _ (g.R.Read.remaining c.args.input)
+    (λ input a. ran_stopped _ _ _ c.tell.new.register input _ _ _ _ _ _ _ _ _ _ c.in_ok-tell.field-0 c.is_sound.ensures c.if-not-branch.true c.if-stop.true a one c.in_ok-tell.ensures.told) c.records.invariant.2
 
 pub records-preserved-then-not-branch : goal.records-preserved-then-not-branch
 records-preserved-then-not-branch g c =
