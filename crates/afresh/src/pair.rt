@@ -1,9 +1,11 @@
 //! A register and its twin.
+ghost use Rattle.std.specs.Prelude.{◌<◌, ◌≤◌};
 
 use crate::twin::Twin;
 use csv::{ByteRecord, ReaderBuilder};
 use olr_binary::to_text;
 use olr_commands::Command;
+use olr_map::{LineId, MapRead, NodeId};
 use olr_records::read_command;
 use olr_refs::Answer;
 use olr_register::Register;
@@ -11,14 +13,21 @@ use std::alloc::Global;
 use std::process::Abort;
 use std::test::Fail;
 
-/// A register and its twin; while a batch is open, also the twin that the held commands change.
+/// The nodes of the ring have the numbers from 1 to this one.
+const NODES: u32 = 12;
+
+/// Its lines have those from 1 to this one.
+const LINES: u32 = 26;
+
+/// A register, its twin, and a spare one, which is like the twin; while a batch is open the held commands change the spare.
 #[derive(Drop)]
 pub struct Pair {
     register: Register,
     twin: Twin,
+    spare: Twin,
     /// The records of all changes that were accepted.
     history: String,
-    held: Option<Twin>,
+    is_open: bool,
     /// The records of those that the open batch holds, and their number.
     pending: String,
     count: u32,
@@ -35,14 +44,12 @@ fn command(alloc: Global, record: &str) -> Result<Command, Fail> {
     Ok(read_command(alloc, &row)?)
 }
 
-/// The twin after these changes.
-fn rebuilt(alloc: Global, history: &str) -> Result<Twin, Fail> {
-    let mut twin = Twin::new(alloc);
-    for record in history.lines() {
+/// Makes the changes of these records.
+fn replay(alloc: Global, twin: &mut Twin, records: &str) -> Result<(), Fail> {
+    for record in records.lines() {
         let _ = twin.change(alloc, command(alloc, record)?)?;
     }
-    twin.forget();
-    Ok(twin)
+    Ok(())
 }
 
 /// One more line.
@@ -57,8 +64,9 @@ impl Pair {
         Pair {
             register: Register::new(alloc),
             twin: Twin::new(alloc),
+            spare: Twin::new(alloc),
             history: String::new(alloc),
-            held: None,
+            is_open: false,
             pending: String::new(alloc),
             count: 0,
         }
@@ -83,60 +91,60 @@ impl Pair {
     /// Changes the twin. By how much the command raises the count, where it is accepted.
     fn expected(&mut self, alloc: Global, record: &str) -> Result<Option<u64>, Fail> {
         match command(alloc, record)? {
+            Command::Begin if self.is_open => Ok(None),
             Command::Begin => {
-                if self.held.is_some() {
-                    return Ok(None);
-                }
-                self.held = Some(rebuilt(alloc, &self.history)?);
+                self.is_open = true;
+                self.spare.forget();
                 self.pending.clear();
                 self.count = 0;
                 Ok(Some(0))
             }
             Command::Commit(count) => self.commit(alloc, count),
-            Command::Abort => Ok(self.held.take().map(|_| 0)),
+            Command::Abort if self.is_open => {
+                self.is_open = false;
+                self.spare = Twin::new(alloc);
+                replay(alloc, &mut self.spare, &self.history)?;
+                Ok(Some(0))
+            }
+            Command::Abort => Ok(None),
             Command::Show(name) => Ok(self.register.answer(&name).map(|_| 0)),
             Command::Report => Ok(Some(0)),
-            change => self.changed(alloc, change, record),
+            change if self.is_open => self.hold(alloc, change, record),
+            change => self.make(alloc, change, record),
         }
     }
 
-    /// A change, at once or held.
-    fn changed(
-        &mut self,
-        alloc: Global,
-        change: Command,
-        record: &str,
-    ) -> Result<Option<u64>, Fail> {
-        if let Some(held) = &mut self.held {
-            if !held.change(alloc, change)? {
-                return Ok(None);
-            }
-            self.count = self.count.saturating_add(1);
-            push_line(&mut self.pending, record)?;
-            return Ok(Some(0));
+    /// A change that the open batch holds.
+    fn hold(&mut self, alloc: Global, change: Command, record: &str) -> Result<Option<u64>, Fail> {
+        if !self.spare.change(alloc, change)? {
+            return Ok(None);
         }
-        let before = rebuilt(alloc, &self.history)?;
+        self.count = self.count.saturating_add(1);
+        push_line(&mut self.pending, record)?;
+        Ok(Some(0))
+    }
+
+    /// A change at once.
+    fn make(&mut self, alloc: Global, change: Command, record: &str) -> Result<Option<u64>, Fail> {
         self.twin.forget();
         if !self.twin.change(alloc, change)? {
             return Ok(None);
         }
+        let rise = self.twin.concerned(alloc, &self.spare.roads)?;
         push_line(&mut self.history, record)?;
-        Ok(Some(self.twin.concerned(alloc, &before.roads)?))
+        replay(alloc, &mut self.spare, record)?;
+        Ok(Some(rise))
     }
 
     fn commit(&mut self, alloc: Global, count: u32) -> Result<Option<u64>, Fail> {
-        if count != self.count {
+        if !self.is_open || count != self.count {
             return Ok(None);
         }
-        match self.held.take() {
-            None => Ok(None),
-            Some(held) => {
-                let rise = held.concerned(alloc, &self.twin.roads)?;
-                self.twin = held;
-                self.history.push_str(&self.pending)?;
-                Ok(Some(rise))
-            }
-        }
+        let rise = self.spare.concerned(alloc, &self.twin.roads)?;
+        replay(alloc, &mut self.twin, &self.pending)?;
+        self.history.push_str(&self.pending)?;
+        self.is_open = false;
+        Ok(Some(rise))
     }
 
     /// That the register answers what encoding each path of the twin afresh gives.
@@ -166,7 +174,18 @@ impl Pair {
         };
         let name = named.name.as_str();
         assert_eq!(rt; self.register.name_at(k), Some(name), "after {record}");
-        let (answer, _) = named.encoded(alloc, &self.twin.roads)?;
+        let (answer, footprint) = named.encoded(alloc, &self.twin.roads)?;
+        if !self.is_open {
+            let kept = self
+                .register
+                .footprint(name)?
+                .expect(rt, "a path of that name");
+            assert_eq!(rt;
+                kept.as_slice(),
+                footprint.as_slice(),
+                "{name} after {record}"
+            );
+        }
         match answer {
             Answer::Points(reference) => {
                 let text = to_text(alloc, &reference)?;
@@ -183,13 +202,18 @@ impl Pair {
         Ok(())
     }
 
-    /// A ring of eight nodes, some of its lines both ways, and some short cuts.
+    /// How often a path was encoded, and how many of these kept their answer.
+    pub fn encodings(&self) -> (u64, u64) {
+        (self.register.work().encodings, self.register.kept())
+    }
+
+    /// A ring of twelve nodes, some of its lines both ways, and some short cuts.
     pub fn ring<R: Abort + AllocGlobal>(&mut self, rt: &R) -> Result<(), Fail> {
-        for node in 1..=8 {
+        for node in 1..=NODES {
             let record = format!(in rt.alloc(); "node,{node},0.0{node},0.0{}", node % 3)?;
             self.step(rt, &record)?;
         }
-        for line in 1..=18 {
+        for line in 1..=LINES {
             let (from, to) = ends(line);
             let record = format!(in rt.alloc(); "line,{line},{from},{to},4,3,{}", 900 + 10 * line)?;
             self.step(rt, &record)?;
@@ -197,29 +221,68 @@ impl Pair {
         Ok(())
     }
 
-    /// One of many commands on the ring.
+    /// Lines that follow one another from a node, at most six, as fields of a record.
+    fn walk(&self, alloc: Global, seed: u64) -> Result<String, Fail> {
+        let mut fields = String::new(alloc);
+        let mut row = seed;
+        let mut at = NodeId::new(number_in(seed >> 20, NODES));
+        for _ in 0..1 + (seed >> 50) % 6 {
+            let Some(node) = at else {
+                break;
+            };
+            row = next(row);
+            let lines = self.spare.roads.out_lines(node);
+            let place = (row >> 33) % (lines.len() as u64).max(1);
+            let Some(id) = lines.get(place as usize) else {
+                break;
+            };
+            let field = format!(in alloc; ",{}", id.number())?;
+            fields.push_str(&field)?;
+            at = self.spare.roads.line(*id).map(|line| line.to);
+        }
+        Ok(fields)
+    }
+
+    /// Drops a node with all its lines.
+    fn clear<R: Abort + AllocGlobal>(&mut self, rt: &R, number: u32) -> Result<(), Fail> {
+        let node = NodeId::new(number).expect(rt, "a node's number");
+        for number in 1..=LINES {
+            let id = LineId::new(number).expect(rt, "a line's number");
+            let is_there = match self.spare.roads.line(id) {
+                Some(line) => line.from == node || line.to == node,
+                None => false,
+            };
+            if is_there {
+                let record = format!(in rt.alloc(); "drop-line,{number}")?;
+                self.step(rt, &record)?;
+            }
+        }
+        let record = format!(in rt.alloc(); "drop-node,{number}")?;
+        self.step(rt, &record)
+    }
+
+    /// One of many commands: three lines in four have their place in the ring, the others begin and end anywhere.
     pub fn step_by<R: Abort + AllocGlobal>(&mut self, rt: &R, seed: u64) -> Result<(), Fail> {
         let alloc = rt.alloc();
-        let node = (seed >> 20) % 8 + 1;
-        let line = (seed >> 24) % 18 + 1;
-        let next = line % 8 + 1;
-        let len = 300 + (seed >> 34) % 2000;
+        let node = number_in(seed >> 20, NODES);
+        let line = number_in(seed >> 24, LINES);
+        let len = 300 + (seed >> 34) % 2000 + 40_000 * ((seed >> 12) % 4);
+        let cut = len % 400;
         let name = (seed >> 44) % 5;
-        let (from, to) = ends(line as u32);
+        let (from, to) = if (seed >> 30) % 4 == 0 {
+            (node, number_in(seed >> 40, NODES))
+        } else {
+            ends(line)
+        };
         let record = match (seed >> 56) % 20 {
-            0 | 1 => format!(in alloc; "drop-line,{line}")?,
-            2 | 3 | 4 => format!(in alloc; "line,{line},{from},{to},4,3,{len}")?,
-            5 | 6 | 7 => format!(in alloc; "set-line,{line},{},3,{len}", len % 8)?,
-            8 => format!(in alloc; "move,{node},0.0{node},0.0{}", len % 10)?,
-            9 => format!(in alloc; "drop-node,{node}")?,
-            10 | 11 => format!(in alloc; "path,p{name},0,{},{}", len % 50, line % 8 + 1)?,
-            12 | 13 => format!(in alloc; "path,p{name},{},0,{},{}", len % 400, next, next % 8 + 1)?,
-            14 => format!(in alloc;
-                "repath,p{name},0,0,{},{},{}",
-                next,
-                next % 8 + 1,
-                (next % 8 + 1) % 8 + 1
-            )?,
+            0 => return self.clear(rt, node),
+            1 | 2 => format!(in alloc; "drop-line,{line}")?,
+            3 | 4 | 5 | 6 => format!(in alloc; "line,{line},{from},{to},4,3,{len}")?,
+            7 | 8 => format!(in alloc; "set-line,{line},{},3,{len}", len % 8)?,
+            9 => format!(in alloc; "move,{node},0.0{node},0.0{}", len % 10)?,
+            10 => format!(in alloc; "node,{node},0.0{node},0.0{}", len % 10)?,
+            11 | 12 => format!(in alloc; "path,p{name},0,{cut}{}", self.walk(alloc, seed)?)?,
+            13 | 14 => format!(in alloc; "repath,p{name},{cut},0{}", self.walk(alloc, seed)?)?,
             15 => format!(in alloc; "drop-path,p{name}")?,
             16 => format!(in alloc; "begin")?,
             17 | 18 => format!(in alloc; "commit,{}", self.count)?,
@@ -229,11 +292,26 @@ impl Pair {
     }
 }
 
-/// Where a line of the ring begins and ends.
+/// A number from 1 to the greatest one.
+fn number_in(seed: u64, greatest: u32) -> u32
+    requires { 0 < greatest }
+    ensures positive { 0 < result }
+    ensures bounded { result ≤ greatest }
+{
+    (seed % greatest as u64) as u32 + 1
+}
+
+/// The number after this one in a row without pattern.
+pub fn next(seed: u64) -> u64 {
+    seed.wrapping_mul(6_364_136_223_846_793_005)
+        .wrapping_add(1_442_695_040_888_963_407)
+}
+
+/// Where a line of the ring begins and ends: those along it, those back, and the short cuts.
 fn ends(line: u32) -> (u32, u32) {
     match line {
-        1..=8 => (line, line % 8 + 1),
-        9..=14 => (line.saturating_sub(8) % 8 + 1, line.saturating_sub(8)),
-        _ => (line.saturating_sub(14), line.saturating_sub(12)),
+        1..=12 => (line, line % 12 + 1),
+        13..=20 => (line.saturating_sub(12) % 12 + 1, line.saturating_sub(12)),
+        _ => (line.saturating_sub(20), line.saturating_sub(17)),
     }
 }

@@ -1,6 +1,6 @@
-//! Scripts of records, each command given to a register and to its twin.
+//! Talks of records, each command given to a register and to its twin.
 
-use crate::pair::Pair;
+use crate::pair::{Pair, next};
 use std::process::Abort;
 use std::test::Fail;
 
@@ -15,22 +15,9 @@ line,30,3,4,5,3,740,540,6.12792,49.60311
 line,99,2,3,4,3,1500
 ";
 
-/// Gives each record to the register and to its twin.
-fn all<R: Abort + AllocGlobal>(rt: &R, pair: &mut Pair, records: &str) -> Result<(), Fail> {
-    for record in records.lines() {
-        pair.step(rt, record)?;
-    }
-    Ok(())
-}
-
-#[test]
-fn order_of_registration(rt: HostRuntime) -> Result<(), Fail> {
-    let mut pair = Pair::new(rt.alloc());
-    all(&rt, &mut pair, THREE_POINTS)?;
-    all(
-        &rt,
-        &mut pair,
-        "path,b,0,0,10
+/// What the tests of talks give after that: registration, a way off the path, and batches.
+const TALKS: &[&str] = &[
+    "path,b,0,0,10
 path,a,1500,0,10,20,30
 repath,b,0,0,10
 drop-line,99
@@ -38,17 +25,7 @@ drop-path,b
 report
 repath,b,0,0,10
 ",
-    )
-}
-
-#[test]
-fn detour_off_the_path(rt: HostRuntime) -> Result<(), Fail> {
-    let mut pair = Pair::new(rt.alloc());
-    all(&rt, &mut pair, THREE_POINTS)?;
-    all(
-        &rt,
-        &mut pair,
-        "drop-line,99
+    "drop-line,99
 node,6,6.129,49.604
 node,7,6.129,49.6035
 line,60,2,6,4,3,700
@@ -58,35 +35,7 @@ path,a,1500,0,10,20,30
 set-line,61,4,3,100
 set-line,61,4,3,600
 ",
-    )
-}
-
-#[test]
-fn counts(rt: HostRuntime) -> Result<(), Fail> {
-    let mut pair = Pair::new(rt.alloc());
-    all(&rt, &mut pair, THREE_POINTS)?;
-    all(
-        &rt,
-        &mut pair,
-        "path,a,1500,0,10,20,30
-node,5,7,50
-node,6,7.001,50
-line,50,5,6,4,3,1000
-path,e,0,0,50
-set-line,50,4,3,2000
-drop-line,99
-",
-    )
-}
-
-#[test]
-fn batches(rt: HostRuntime) -> Result<(), Fail> {
-    let mut pair = Pair::new(rt.alloc());
-    all(&rt, &mut pair, THREE_POINTS)?;
-    all(
-        &rt,
-        &mut pair,
-        "path,a,1500,0,10,20,30
+    "path,a,1500,0,10,20,30
 path,b,0,0,10
 begin
 drop-line,99
@@ -105,23 +54,74 @@ abort
 begin
 commit,0
 ",
-    )
-}
+];
 
-#[test]
-fn without_pattern(rt: HostRuntime) -> Result<(), Fail> {
-    let mut pair = Pair::new(rt.alloc());
-    pair.ring(&rt)?;
-    let mut seed = 2026;
-    for _ in 0..400 {
-        seed = next(seed);
-        pair.step_by(&rt, seed)?;
+/// Records after the same ones, and how many encodings, and how many of these that kept their answer, are then counted.
+const COUNTED: &[(&str, u64, u64)] = &[
+    ("path,a,1500,0,10,20,30", 1, 0),
+    ("node,5,7,50", 1, 0),
+    ("node,6,7.001,50", 1, 0),
+    ("line,50,5,6,4,3,1000", 1, 0),
+    ("path,e,0,0,50", 2, 0),
+    ("set-line,50,4,3,2000", 3, 0),
+    ("drop-line,99", 4, 0),
+    ("drop-line,20", 5, 0),
+    ("line,20,2,3,3,3,2000,200,6.1282,49.60389", 6, 0),
+    ("move,4,6.12817,49.60306", 7, 0),
+    ("begin", 7, 0),
+    ("drop-line,30", 7, 0),
+    ("line,30,3,4,5,3,740,540,6.12792,49.60311", 7, 0),
+    ("path,b,0,0,10", 7, 0),
+    ("commit,3", 9, 0),
+    ("node,8,6.13,49.604", 9, 0),
+    ("line,60,2,8,4,3,1000", 11, 0),
+    ("node,9,6.131,49.604", 11, 0),
+    // node 8 is within reach of the look from node 2, and on no way that is as short as line 20
+    ("line,70,8,9,4,3,500", 12, 1),
+];
+
+/// Gives each record to the register and to its twin.
+fn all<R: Abort + AllocGlobal>(rt: &R, pair: &mut Pair, records: &str) -> Result<(), Fail> {
+    for record in records.lines() {
+        pair.step(rt, record)?;
     }
     Ok(())
 }
 
-/// The number after this one in a row without pattern.
-fn next(seed: u64) -> u64 {
-    seed.wrapping_mul(6_364_136_223_846_793_005)
-        .wrapping_add(1_442_695_040_888_963_407)
+#[test]
+fn talks(rt: HostRuntime) -> Result<(), Fail> {
+    for talk in TALKS {
+        let mut pair = Pair::new(rt.alloc());
+        all(&rt, &mut pair, THREE_POINTS)?;
+        all(&rt, &mut pair, talk)?;
+    }
+    Ok(())
+}
+
+#[test]
+fn counts(rt: HostRuntime) -> Result<(), Fail> {
+    let mut pair = Pair::new(rt.alloc());
+    all(&rt, &mut pair, THREE_POINTS)?;
+    for (record, encodings, kept) in COUNTED {
+        pair.step(&rt, record)?;
+        assert_eq!(rt; pair.encodings(), (*encodings, *kept), "after {record}");
+    }
+    Ok(())
+}
+
+#[test]
+fn without_pattern(rt: HostRuntime) -> Result<(), Fail> {
+    let mut kept = 0u64;
+    for first in [2026, 7, 1900, 54] {
+        let mut pair = Pair::new(rt.alloc());
+        pair.ring(&rt)?;
+        let mut seed = first;
+        for _ in 0..200 {
+            seed = next(seed);
+            pair.step_by(&rt, seed)?;
+        }
+        kept = kept.saturating_add(pair.encodings().1);
+    }
+    assert!(rt; kept > 0, "no answer was kept");
+    Ok(())
 }

@@ -1,10 +1,10 @@
-//! A path of three points, encoded again where a growth was refused.
+//! A path of three points, encoded again where a growth was refused, and a search made again.
 
 use olr_binary::to_text;
 use olr_coords::{Coord, read_degrees};
-use olr_map::{Edit, Footprint, Line, LineId, NodeId, RoadMap, Shape};
-use olr_refs::{Answer, Path, refer};
-use olr_route::Work;
+use olr_map::{Edit, Footprint, Line, LineId, MapRead, NodeId, RoadMap, Shape};
+use olr_refs::{Answer, Encoding, Path, encode};
+use olr_route::{Search, Work, search};
 use std::alloc::Global;
 use std::process::Abort;
 
@@ -17,8 +17,8 @@ type Road = (u32, u32, u32, u8, u8, u32, &'static [Bend]);
 const STRAIGHT: &[Bend] = &[];
 
 fn coord(rt: &impl Abort, lon: &str, lat: &str) -> Coord {
-    let lon = read_degrees(lon).expect(rt, "a longitude");
-    let lat = read_degrees(lat).expect(rt, "a latitude");
+    let lon = read_degrees(lon.as_bytes()).expect(rt, "a longitude");
+    let lat = read_degrees(lat.as_bytes()).expect(rt, "a latitude");
     Coord::new(lon, lat).expect(rt, "a place")
 }
 
@@ -95,11 +95,16 @@ fn road_path(rt: &impl Abort, alloc: Global) -> Option<Path> {
     Path::new(alloc, lines, 1500, 0).ok()
 }
 
-/// Asserts that the answer is the road's string, and the footprint all its nodes.
-fn assert_right(rt: &impl Abort, alloc: Global, answer: &Answer, footprint: &Footprint) {
+/// Asserts that the answer is the road's string, that all its nodes are own ones, and that it was looked at from node 2.
+fn assert_right(rt: &impl Abort, alloc: Global, encoding: &Encoding) {
     let nodes = [node(rt, 1), node(rt, 2), node(rt, 3), node(rt, 4)];
-    assert_eq!(rt; footprint.as_slice(), nodes.as_slice());
-    match answer {
+    assert_eq!(rt; encoding.own.as_slice(), nodes.as_slice());
+    assert_eq!(rt; encoding.looks.len(), 1);
+    for look in &encoding.looks {
+        let found = (look.from.number(), look.to.number(), look.within);
+        assert_eq!(rt; found, (2, 3, 2000));
+    }
+    match &encoding.answer {
         Answer::Points(reference) => {
             let text = match to_text(alloc, reference) {
                 Ok(text) => text,
@@ -111,21 +116,60 @@ fn assert_right(rt: &impl Abort, alloc: Global, answer: &Answer, footprint: &Foo
     }
 }
 
+/// The map of the road, made anew where a growth was refused.
+fn some_map(rt: &impl Abort, alloc: Global) -> RoadMap {
+    match road_map(rt, alloc) {
+        Some(map) => map,
+        None => road_map(rt, alloc).expect(rt, "memory the second time"),
+    }
+}
+
 #[test]
 fn an_encoding_survives(rt: HostRuntime) {
     let alloc = rt.alloc();
-    let map = match road_map(&rt, alloc) {
-        Some(map) => map,
-        None => road_map(&rt, alloc).expect(&rt, "memory the second time"),
-    };
+    let map = some_map(&rt, alloc);
     let path = match road_path(&rt, alloc) {
         Some(path) => path,
         None => road_path(&rt, alloc).expect(&rt, "memory the second time"),
     };
+    let mut search = Search::new(alloc);
     let mut work = Work::default();
-    let (answer, footprint) = match refer(alloc, &map, &path, &mut work) {
+    let encoding = match encode(alloc, &map, &path, &mut search, &mut work) {
         Ok(found) => found,
-        Err(_) => refer(alloc, &map, &path, &mut work).expect(&rt, "memory the second time"),
+        Err(_) => encode(alloc, &map, &path, &mut search, &mut work).expect(
+            &rt,
+            "memory the second time",
+        ),
     };
-    assert_right(&rt, alloc, &answer, &footprint);
+    assert_right(&rt, alloc, &encoding);
+}
+
+#[test]
+fn a_search_survives(rt: HostRuntime) {
+    let alloc = rt.alloc();
+    let map = some_map(&rt, alloc);
+    let source = node(&rt, 1);
+    assert!(rt; map.node(source).is_some());
+    let mut nodes = Footprint::new(alloc);
+    let mut work = Work::default();
+    let labels = match search(alloc, &map, source, 7500, &mut nodes, &mut work) {
+        Ok(labels) => labels,
+        Err(_) => search(alloc, &map, source, 7500, &mut nodes, &mut work).expect(
+            &rt,
+            "memory the second time",
+        ),
+    };
+    let wanted = [node(&rt, 1), node(&rt, 2), node(&rt, 3)];
+    assert_eq!(rt; nodes.as_slice(), wanted.as_slice());
+    for (number, dist, last) in [
+        (1, Some(0), None),
+        (2, Some(5610), Some(10)),
+        (3, Some(7110), Some(99)),
+        (4, None, None),
+    ] {
+        let node = node(&rt, number);
+        assert_eq!(rt; labels.dist(node), dist, "to {number}");
+        let found = labels.last_line(node).map(|line: LineId| line.number());
+        assert_eq!(rt; found, last, "to {number}");
+    }
 }

@@ -1,6 +1,5 @@
-//! Tests that are run with one growth refused: `rt try --test --fail-alloc N` in this folder, for each N from 1 on. After a
-//! refusal a map, a log beside it and a set of nodes must be as before, and the call must then be taken; and a path that was
-//! not encoded must be encoded by the next call.
+//! Tests that `checks/growths` runs with each growth refused in turn. After a refusal a map, a log beside it, a set of nodes
+//! and a register are as before, and the same call is then taken; and a path or a search gives the same as without it.
 #![tactic(auto)]
 
 #[cfg(test)]

@@ -2,14 +2,15 @@
 
 use csv::{ByteRecord, ReaderBuilder};
 use olr_commands::{Command, CommandFault, Reply};
-use olr_map::EditFault;
+use olr_map::{EditFault, Footprint};
 use olr_records::{ReadFault, fault_text, read_command, reply_text};
+use olr_refs::{Answer, Refusal};
 use olr_register::Register;
 use std::alloc::{AllocError, Global};
 use std::process::Abort;
 
-/// Own line dropped and back, with what explains the string, refused edits and paths, and a batch that is committed, one
-/// that cancels out and one that is aborted.
+/// Own line dropped and back; what explains the string; refused edits and paths; a road that leads away, whose end the
+/// string's search doesn't come to; a batch that is committed, one that cancels out and one that is aborted.
 const SCRIPT: &str = "node,1,6.12683,49.60852
 node,2,6.12838,49.60399
 node,3,6.1279,49.6035
@@ -22,6 +23,10 @@ path,a,1500,0,10,20,30
 drop-line,20
 line,20,2,3,3,3,2000,200,6.1282,49.60389
 explain,CwRbWyNG9RpsCQCb/jsbtAT/6/+jK1lE
+node,6,6.13,49.604
+node,7,6.131,49.604
+line,60,2,6,4,3,1000
+line,70,6,7,4,3,500
 drop-node,1
 line,99,2,3,4,3,1500
 path,a,0,0,10
@@ -42,8 +47,11 @@ drop-line,20
 line,20,2,3,3,3,2000,200,6.1282,49.60389
 commit,2
 begin
+set-line,70,4,3,600
+drop-line,60
 path,e,0,0,10
 abort
+set-line,70,4,3,700
 report
 drop-path,a
 ";
@@ -65,69 +73,76 @@ fn lacks_memory(fault: CommandFault) -> bool {
     fault == CommandFault::Memory || fault == CommandFault::Map(EditFault::Memory)
 }
 
-/// What is published of all paths, and whether a batch is open.
-fn published(alloc: Global, register: &Register) -> Result<String, AllocError> {
-    let mut text = String::new(alloc);
-    for k in 0..register.len() {
-        if let Some(name) = register.name_at(k) {
-            text.push_str(name)?;
-            text.push_str(register.text(name).unwrap_or("-"))?;
+/// Why a path has no string.
+fn refusal(register: &Register, name: &str) -> Option<Refusal> {
+    match register.answer(name) {
+        Some(Answer::Refused(refusal)) => Some(*refusal),
+        _ => None,
+    }
+}
+
+/// The nodes on which a path's answer rests, asked for again where a growth was refused. None while a batch is open.
+fn footprint(rt: &impl Abort, register: &Register, name: &str) -> Option<Footprint> {
+    match register.footprint(name) {
+        Ok(found) => found,
+        Err(CommandFault::BatchOpen) => None,
+        Err(_) => register
+            .footprint(name)
+            .expect(rt, "memory the second time"),
+    }
+}
+
+/// That two registers publish the same of a path, which rests on the same nodes.
+fn assert_same_path(rt: &impl Abort, one: &Register, other: &Register, name: &str) {
+    assert_eq!(rt; one.text(name), other.text(name), "of {name}");
+    assert_eq!(rt; refusal(one, name), refusal(other, name), "of {name}");
+    match (footprint(rt, one, name), footprint(rt, other, name)) {
+        (Some(found), Some(wanted)) => {
+            assert_eq!(rt; found.as_slice(), wanted.as_slice(), "of {name}");
+        }
+        (None, None) => {}
+        _ => panic!(rt; "a footprint of {name} in one alone"),
+    }
+}
+
+/// That two registers have the same paths, counts and open batch.
+fn assert_alike(rt: &impl Abort, one: &Register, other: &Register) {
+    assert_eq!(rt; one.len(), other.len());
+    assert_eq!(rt; one.is_open(), other.is_open());
+    assert_eq!(rt; (one.work(), one.kept()), (other.work(), other.kept()));
+    for k in 0..one.len() {
+        assert_eq!(rt; one.name_at(k), other.name_at(k));
+        if let Some(name) = one.name_at(k) {
+            assert_same_path(rt, one, other, name);
         }
     }
-    text.push_str(if register.is_open() { "open" } else { "closed" })?;
-    Ok(text)
 }
 
-/// The text of a reply, made again where a growth was refused.
-fn text_of(rt: &impl Abort, alloc: Global, reply: &Reply) -> Vec<u8> {
-    match reply_text(alloc, reply) {
-        Ok(text) => text,
-        Err(_) => match reply_text(alloc, reply) {
-            Ok(text) => text,
-            Err(_) => panic!(rt; "no memory a second time"),
-        },
+/// The text of a reply or of a fault, made again where a growth was refused.
+fn text_of(rt: &impl Abort, alloc: Global, outcome: &Result<Reply, CommandFault>) -> Vec<u8> {
+    for _ in 0..2 {
+        let text = match outcome {
+            Ok(reply) => reply_text(alloc, reply),
+            Err(fault) => Vec::from_slice(alloc, fault_text(*fault).as_bytes()),
+        };
+        if let Ok(text) = text {
+            return text;
+        }
     }
+    panic!(rt; "no memory the second time")
 }
 
-/// What a register answers to a record. None where a growth was refused: what is published, the open batch and the work are
-/// then as before.
+/// What a register answers to a record. None where a growth was refused.
 fn answered(
     rt: &impl Abort,
     alloc: Global,
     register: &mut Register,
     record: &str,
 ) -> Option<Vec<u8>> {
-    let command = command(alloc, record).ok()?;
-    let before = published(alloc, register).ok()?;
-    let work = register.work();
-    match register.apply(command) {
-        Ok(reply) => Some(text_of(rt, alloc, &reply)),
-        Err(fault) if lacks_memory(fault) => {
-            assert_eq!(rt; register.work(), work, "the work after {record}");
-            match published(alloc, register) {
-                Ok(after) => assert_eq!(rt; before.as_str(), after.as_str(), "after {record}"),
-                Err(_) => panic!(rt; "no memory a second time"),
-            }
-            None
-        }
-        Err(fault) => {
-            let text = fault_text(fault).as_bytes();
-            match Vec::from_slice(alloc, text) {
-                Ok(text) => Some(text),
-                Err(_) => Vec::from_slice(alloc, text).ok(),
-            }
-        }
-    }
-}
-
-/// The same, asked again where a growth was refused.
-fn answer(rt: &impl Abort, alloc: Global, register: &mut Register, record: &str) -> Vec<u8> {
-    match answered(rt, alloc, register, record) {
-        Some(text) => text,
-        None => match answered(rt, alloc, register, record) {
-            Some(text) => text,
-            None => panic!(rt; "no memory a second time"),
-        },
+    let outcome = register.apply(command(alloc, record).ok()?);
+    match outcome {
+        Err(fault) if lacks_memory(fault) => None,
+        outcome => Some(text_of(rt, alloc, &outcome)),
     }
 }
 
@@ -137,8 +152,19 @@ fn a_register_survives(rt: HostRuntime) {
     let mut register = Register::new(alloc);
     let mut twin = Register::new(alloc);
     for record in SCRIPT.lines() {
-        let text = answer(&rt, alloc, &mut register, record);
-        let other = answer(&rt, alloc, &mut twin, record);
+        let mut text = answered(&rt, alloc, &mut register, record);
+        if text.is_none() {
+            assert_alike(&rt, &register, &twin);
+            text = answered(&rt, alloc, &mut register, record);
+        }
+        let mut other = answered(&rt, alloc, &mut twin, record);
+        if other.is_none() {
+            other = answered(&rt, alloc, &mut twin, record);
+        }
+        let text = text.expect(&rt, "memory the second time");
+        let other = other.expect(&rt, "memory the second time");
         assert_eq!(rt; text.as_slice(), other.as_slice(), "to {record}");
     }
+    assert_eq!(rt; register.kept() > 0, true);
+    assert_alike(&rt, &register, &twin);
 }

@@ -85,6 +85,7 @@ fn assert_alike(rt: &impl Abort, one: &RoadMap, other: &RoadMap) {
             (Some(first), Some(second)) => {
                 assert_eq!(rt; first.from, second.from, "line {number}");
                 assert_eq!(rt; first.to, second.to, "line {number}");
+                assert_eq!(rt; first.len, second.len, "line {number}");
                 assert_eq!(rt;
                     first.shape.as_slice(),
                     second.shape.as_slice(),
@@ -109,6 +110,16 @@ fn took(rt: &impl Abort, alloc: Global, map: &mut RoadMap, seed: u64) -> bool {
         }
         Err(fault) => fault != EditFault::Memory,
     }
+}
+
+/// Makes an edit and takes it back, or has it refused: the map is then as its twin.
+fn try_out(rt: &impl Abort, alloc: Global, map: &mut RoadMap, twin: &RoadMap, seed: u64) {
+    if let Ok(edit) = edit_by(rt, alloc, seed) {
+        if let Ok(undo) = map.apply(edit) {
+            map.undo(undo);
+        }
+    }
+    assert_alike(rt, map, twin);
 }
 
 /// Makes an edit, a second time where a growth was refused.
@@ -159,6 +170,7 @@ fn a_map_survives(rt: HostRuntime) {
     let mut seed: u64 = 1;
     for _ in 0..60 {
         seed = next(seed);
+        try_out(&rt, alloc, &mut map, &twin, seed);
         take_both(&rt, alloc, &mut map, &mut twin, seed);
         assert_alike(&rt, &map, &twin);
     }

@@ -1,0 +1,11 @@
+//! Tests of the register: commands, batches, refusals and counts, on the worked map and on chains of nodes.
+#![tactic(auto)]
+
+#[cfg(test)]
+mod batches;
+#[cfg(test)]
+mod commands;
+#[cfg(test)]
+mod kept;
+#[cfg(test)]
+mod worked;
