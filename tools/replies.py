@@ -1,0 +1,80 @@
+"""Reads what olr-keep writes, reply by reply, and talks with it.
+
+    with Keep("./olr-keep") as keep:
+        reply = keep.ask("path,a,0,0,10")
+        if reply.accepted:
+            for entry in reply.lines:
+                ...
+"""
+import subprocess
+from typing import NamedTuple
+
+
+class Reply(NamedTuple):
+    """What one record was answered: `ok` and the lines that it counts, `held`, or `fault`."""
+
+    word: str
+    number: int
+    rest: str
+    lines: list
+
+    @property
+    def accepted(self):
+        """Whether the record was accepted, be it at once or into a batch."""
+        return self.word != "fault"
+
+    def text(self):
+        """The reply as it was written."""
+        head = ",".join([self.word, str(self.number), *([self.rest] if self.rest else [])])
+        return "".join(line + "\n" for line in [head, *self.lines])
+
+
+def whole_line(stream):
+    """The next line without its end, or None at the end of the stream. A line that was cut off raises EOFError."""
+    line = stream.readline()
+    if line and not line.endswith("\n"):
+        raise EOFError(f"a reply was cut off: {line!r}")
+    return line[:-1] if line else None
+
+
+def read_reply(stream):
+    """The next reply of a stream of text, or None at its end. One that was cut off raises EOFError."""
+    head = whole_line(stream)
+    if head is None:
+        return None
+    word, number, *rest = head.split(",", 2)
+    lines = [whole_line(stream) for _ in range(int(number) if word == "ok" else 0)]
+    if None in lines:
+        raise EOFError(f"lines are missing after {head}")
+    return Reply(word, int(number), "".join(rest), lines)
+
+
+class Keep:
+    """A running olr-keep: one record to it, then one reply from it."""
+
+    def __init__(self, *words):
+        pipe = subprocess.PIPE
+        self.process = subprocess.Popen(words, stdin=pipe, stdout=pipe, encoding="utf-8")
+
+    def ask(self, record):
+        """Sends a record and gives its reply. None says that the program has ended: see `close`."""
+        try:
+            self.process.stdin.write(record + "\n")
+            self.process.stdin.flush()
+        except BrokenPipeError:
+            return None
+        return read_reply(self.process.stdout)
+
+    def close(self):
+        """Ends the input, and gives the program's status."""
+        try:
+            self.process.stdin.close()
+        except BrokenPipeError:
+            pass
+        return self.process.wait()
+
+    def __enter__(self):
+        return self
+
+    def __exit__(self, *_):
+        self.close()
