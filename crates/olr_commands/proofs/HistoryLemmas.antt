@@ -157,11 +157,10 @@ joined M P r p =
             points = p.points;
             tried = p.tried;
             follow = p.follow;
-            fields = same;
-            joins = routes_join M E.lines p.points E.pos E.neg p.follow (eqb-true (last_point 0 p.points) (length E.lines) t);
+            holds = (same, routes_join M E.lines p.points E.pos E.neg p.follow (eqb-true (last_point 0 p.points) (length E.lines) t));
           }
       | false ↦ λ t e. absurd cc
-    ] refl p.answer
+    ] refl p.holds
 
 joined_by : (M : Map) (P : Path) (r : Reference) (o : Option Refusal) → MatchOption o (Encoding M P (Points r)) (λ f. Points r ≡ Refused f) → Joined M P r
 joined_by M P r None p = joined M P r p

@@ -7,8 +7,8 @@ use Rattle.std.specs.Prelude.{◌≡◌, ℕ, Bool, true, false, List, [], ◌�
 use Rattle.std.specs.Result.{result_unwrap_or}
 use Rattle.std.specs.List.{list_any, AllByRecursion}
 use Rattle.olr_spec.specs.Map.{Map}
-use Rattle.olr_spec.specs.Extension.{Path, Tried, extended}
-use Rattle.olr_spec.specs.Points.{Follow}
+use Rattle.olr_spec.specs.Extension.{Path}
+use Rattle.olr_spec.specs.Points.{OfPath}
 use Rattle.olr_spec.specs.Reference.{Reference, legs, kept, reference}
 use Rattle.olr_spec.specs.Joins.{Joins}
 use Rattle.olr_spec.specs.Encoding.{Answer, Points, Encodes}
@@ -63,14 +63,9 @@ pub record IsPublished (before : Content) (changes : List Change) (later : Conte
 -- ---- routes that join
 
 -- the least routes between the points of a reference join to the extended path
-pub record Joined (M : Map) (P : Path) (r : Reference) : Type 0 where
-  pub before : List ℕ
-  pub after : List ℕ
-  pub points : List ℕ
-  pub tried : Tried M P before after
-  pub follow : Follow M (extended M P before after).lines 0 points
-  pub fields : r ≡ reference (legs M (extended M P before after).lines) (extended M P before after).pos (extended M P before after).neg points
-  pub joins : Joins M (extended M P before after).lines (kept (legs M (extended M P before after).lines) (extended M P before after).pos (extended M P before after).neg points)
+abbrev pub Joined : Map → Path → Reference → Type 0
+Joined M P r =
+    OfPath M P (λ E _ _ js. (r ≡ reference (legs M E.lines) E.pos E.neg js) × Joins M E.lines (kept (legs M E.lines) E.pos E.neg js))
 
 -- those of each path's reference do
 abbrev pub IsJoined : Content → Type 0

@@ -35,7 +35,7 @@ module _ (M : Map) (ls : List ℕ) (i : ℕ) (l : Look) where
 short_looks : (M : Map) (P : Path) (looks : List Look) → LooksOfExtended M P looks → (l : Look) → Contains looks l → l.within ≤ limit
 short_looks M P looks h l on =
     let ls = (extended M P h.before h.after).lines in
-    let r = look_from M ls (0 ∷ h.points) looks h.each l on in
+    let r = look_from M ls (0 ∷ h.points) looks h.holds l on in
     short_look M ls r.0 l r.3
 
 pub within_limit : (M : Map) (P : Path) (looks : List Look) → LooksOf M P looks → (l : Look) → Contains looks l → l.within ≤ limit

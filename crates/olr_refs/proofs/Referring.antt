@@ -5,7 +5,7 @@ use Rattle.std.specs.Prelude.{IsTrue, nat_lt, Result, Ok, Err, IfOk, OnOk}
 use Rattle.olr_spec.specs.Map.{Map, IsMap, Agree, has_line}
 use Rattle.olr_spec.specs.Walks.{dm_of}
 use Rattle.olr_spec.specs.Extension.{Path, Tried, is_path, extended}
-use Rattle.olr_spec.specs.Points.{Follow, last_point}
+use Rattle.olr_spec.specs.Points.{Follow, last_point, OfPath}
 use Rattle.olr_spec.specs.Reference.{Reference, legs, reference, kept}
 use Rattle.olr_spec.specs.Encoding as spec
 use Rattle.olr_spec.specs.Encoding.{first_unknown, first_break, path_fault, answer_of, Encoding, Encodes}
@@ -27,7 +27,7 @@ use Rattle.olr_refs.proofs.Noting.{looked_wider, zip_length}
 use Rattle.std.proofs.lemmas.List.Sums.{length-filter}
 use Rattle.olr_refs.specs.Extends.{Extends}
 use Rattle.olr_refs.specs.Kept.{later}
-use Rattle.olr_refs.specs.Referring.{OfPath, JoinsOf, SearchesOf}
+use Rattle.olr_refs.specs.Referring.{JoinsOf, SearchesOf}
 use Rattle.olr_spec.proofs.JoinedLemmas.{extended_joined}
 
 -- ---- a path without a fault of its own
@@ -54,18 +54,8 @@ points_answer M E ls ps r e c a =
       ap spec.Points is ∙ sym (ap (λ (b : Bool). cond b (spec.Points (reference (legs M E.lines) E.pos E.neg c.0)) (spec.Refused (spec.No_next_point (last_point 0 c.0)))) test),
     )
 
-pub encoding_of : (M : Map) (P E : Path) (F G : List ℕ) (A : spec.Answer) → Extends M P E F G → ForPoints M E.lines (λ js. A ≡ answer_of M E js) → Encoding M P A
-encoding_of M P E F G A x a =
-    record {
-      before = x.before;
-      after = x.after;
-      points = a.0;
-      tried = x.tried;
-      follow = subst (λ (e : Path). Follow M e.lines 0 a.0) x.path a.1;
-      answer = a.2 ∙ ap (λ (e : Path). answer_of M e a.0) x.path;
-    }
-
-pub of_path : (M : Map) (P E : Path) (F G : List ℕ) (Q : Path → List ℕ → Type 0) → Extends M P E F G → ForPoints M E.lines (Q E) → OfPath M P Q
+-- what holds of the extension and its points, whatever the tried chains
+pub of_path : (M : Map) (P E : Path) (F G : List ℕ) (Q : Path → List ℕ → Type 0) → Extends M P E F G → ForPoints M E.lines (Q E) → OfPath M P (λ e _ _ js. Q e js)
 of_path M P E F G Q x a =
     record {
       before = x.before;
@@ -75,6 +65,9 @@ of_path M P E F G Q x a =
       follow = subst (λ (e : Path). Follow M e.lines 0 a.0) x.path a.1;
       holds = subst (λ (e : Path). Q e a.0) x.path a.2;
     }
+
+pub encoding_of : (M : Map) (P E : Path) (F G : List ℕ) (A : spec.Answer) → Extends M P E F G → ForPoints M E.lines (λ js. A ≡ answer_of M E js) → Encoding M P A
+encoding_of M P E F G A x a = of_path M P E F G (λ e js. A ≡ answer_of M e js) x a
 
 pub joins_of : (M : Map) (P E : Path) (F G : List ℕ) (A : Answer) → Extends M P E F G → ForPoints M E.lines (λ js. answers.answer_of A ≡ answer_of M E js) → JoinsOf M P A
 joins_of M P E F G (Refused f) x a = tt
@@ -111,15 +104,7 @@ own_of M m P E F G is none empty x v = (forth, back)
     back own = (x.noted v).1 (inr (subst (λ (e : Path). Own M e.lines x.before x.after v) (sym x.path) (one_own M m P is none x.before x.after x.tried v own)))
 
 pub looks_of : (M : Map) (P E : Path) (F G : List ℕ) (looks : List Look) → Extends M P E F G → ForPoints M E.lines (λ js. LooksFrom M E.lines (looking E.lines (0 ∷ js)) looks) → LooksOfExtended M P looks
-looks_of M P E F G looks x a =
-    record {
-      before = x.before;
-      after = x.after;
-      points = a.0;
-      tried = x.tried;
-      follow = subst (λ (e : Path). Follow M e.lines 0 a.0) x.path a.1;
-      each = subst (λ (e : Path). LooksFrom M e.lines (looking e.lines (0 ∷ a.0)) looks) x.path a.2;
-    }
+looks_of M P E F G looks x a = of_path M P E F G (λ e js. LooksFrom M e.lines (looking e.lines (0 ∷ js)) looks) x a
 
 -- what is searched from the points is in the footprint
 pub looked_of : (M : Map) (P E : Path) (F G : List ℕ) (old new : Work) (n : ℕ) → Extends M P E F G → ForPoints M E.lines (λ js. Looked old new n (Searched M E.lines (0 ∷ js))) → Looked old new n (FootOf M P)
@@ -127,14 +112,8 @@ looked_of M P E F G old new n x a = looked_wider old new n (Searched M E.lines (
   where
     there : (v : ℕ) → Searched M E.lines (0 ∷ a.0) v → FootOf M P v
     there v s =
-        record {
-          before = x.before;
-          after = x.after;
-          points = a.0;
-          tried = x.tried;
-          follow = subst (λ (e : Path). Follow M e.lines 0 a.0) x.path a.1;
-          touched = Within_reach (subst (λ (e : Path). Searched M e.lines (0 ∷ a.0) v) x.path s);
-        }
+        let h = of_path M P E F G (λ e js. Searched M e.lines (0 ∷ js) v) x (a.0, a.1, s) in
+        record { before = h.before; after = h.after; points = h.points; tried = h.tried; follow = h.follow; holds = Within_reach h.holds }
 
 -- ---- by the path's fault
 
@@ -185,7 +164,7 @@ whenever (Err e) p = tt
 pub searches_looked : (M : Map) (P : Path) (looks : List Look) → LooksOf M P looks → SearchesOf M P (length looks)
 searches_looked M P looks o = by (path_fault M P) o
   where
-    by : (f : Option spec.Refusal) → MatchOption f (LooksOfExtended M P looks) (λ _. looks ≡ []) → MatchOption f (OfPath M P (λ E js. length looks ≡ searches_of E.lines (0 ∷ js))) (λ _. length looks ≡ 0)
+    by : (f : Option spec.Refusal) → MatchOption f (LooksOfExtended M P looks) (λ _. looks ≡ []) → MatchOption f (OfPath M P (λ E _ _ js. length looks ≡ searches_of E.lines (0 ∷ js))) (λ _. length looks ≡ 0)
     by None l =
         let ls = (extended M P l.before l.after).lines in
         record {
@@ -194,7 +173,7 @@ searches_looked M P looks o = by (path_fault M P) o
           points = l.points;
           tried = l.tried;
           follow = l.follow;
-          holds = sym (zip_length (IsLook M ls) (looking ls (0 ∷ l.points)) looks l.each) ∙ length-filter (λ i. nat_lt (i + 2) (length ls)) (0 ∷ l.points);
+          holds = sym (zip_length (IsLook M ls) (looking ls (0 ∷ l.points)) looks l.holds) ∙ length-filter (λ i. nat_lt (i + 2) (length ls)) (0 ∷ l.points);
         }
     by (Some f) e = ap length e
 

@@ -119,7 +119,7 @@ looks_known M m P is looks o = by (path_fault M P) refl o
     by : (f : Option Refusal) → path_fault M P ≡ f → MatchOption f (LooksOfExtended M P looks) (λ _. looks ≡ []) → All (λ l. IsTrue (has_node M l.from)) looks
     by None e l = λ k d h.
         let ls = (extended M P l.before l.after).lines in
-        let r = look_from M ls (0 ∷ l.points) looks l.each (get_or looks k d) (Contains-get_or looks k d h) in
+        let r = look_from M ls (0 ∷ l.points) looks l.holds (get_or looks k d) (Contains-get_or looks k d h) in
         let two = r.2 in
         let joined = extended_joined M P is e l.before l.after l.tried in
         let from = ap (λ (q : Look). q.from) r.3.2 in

@@ -1,11 +1,10 @@
 -- What an encoding answers beside its answer: the routes that join, and the searches that it makes.
---     OfPath M P Q      Q of the path's extension and of the points after position 0 on it, of which there is exactly one list
 --     JoinsOf M P A      where the answer has points, the routes between those that are kept join to the extended path
 --     SearchesOf M P n      the path is encoded by n searches
-use Rattle.std.specs.Prelude.{◌≡◌, ℕ, List, ◌∷◌, length, MatchOption, ⊤}
+use Rattle.std.specs.Prelude.{◌≡◌, ℕ, ◌∷◌, length, MatchOption, ⊤}
 use Rattle.olr_spec.specs.Map.{Map}
-use Rattle.olr_spec.specs.Extension.{Path, Tried, extended}
-use Rattle.olr_spec.specs.Points.{Follow, last_point}
+use Rattle.olr_spec.specs.Extension.{Path}
+use Rattle.olr_spec.specs.Points.{last_point, OfPath}
 use Rattle.olr_spec.specs.Reference.{legs, kept}
 use Rattle.olr_spec.specs.Encoding.{path_fault}
 use Rattle.olr_spec.specs.Joins.{Joins}
@@ -13,17 +12,9 @@ use Rattle.olr_refs.specs.declared.answer.Answer.{Answer}
 use Rattle.olr_refs.specs.declared.answer.Answer.TheVariants.{Points, Refused}
 use Rattle.olr_refs.specs.Choice.{searches_of}
 
-pub record OfPath (M : Map) (P : Path) (Q : Path → List ℕ → Type 0) : Type 0 where
-  pub before : List ℕ
-  pub after : List ℕ
-  pub points : List ℕ
-  pub tried : Tried M P before after
-  pub follow : Follow M (extended M P before after).lines 0 points
-  pub holds : Q (extended M P before after) points
-
 abbrev pub JoinsOf : Map → Path → Answer → Type 0
 JoinsOf M P (Refused f) = ⊤
-JoinsOf M P (Points r) = OfPath M P (λ E js. (last_point 0 js ≡ length E.lines) × Joins M E.lines (kept (legs M E.lines) E.pos E.neg js))
+JoinsOf M P (Points r) = OfPath M P (λ E _ _ js. (last_point 0 js ≡ length E.lines) × Joins M E.lines (kept (legs M E.lines) E.pos E.neg js))
 
 abbrev pub SearchesOf : Map → Path → ℕ → Type 0
-SearchesOf M P n = MatchOption (path_fault M P) (OfPath M P (λ E js. n ≡ searches_of E.lines (0 ∷ js))) (λ _. n ≡ 0)
+SearchesOf M P n = MatchOption (path_fault M P) (OfPath M P (λ E _ _ js. n ≡ searches_of E.lines (0 ∷ js))) (λ _. n ≡ 0)

@@ -289,7 +289,7 @@ some_tried M m P n f l =
 -- ---- an answer
 
 encoding_of : (M : Map) (P : Path) (b a js : List ℕ) → Tried M P b a → Follow M (extended M P b a).lines 0 js → Encoding M P (answer_of M (extended M P b a) js)
-encoding_of M P b a js t f = record { before = b; after = a; points = js; tried = t; follow = f; answer = refl }
+encoding_of M P b a js t f = record { before = b; after = a; points = js; tried = t; follow = f; holds = refl }
 
 pub some_encoding : (M : Map) → IsMap M → (P : Path) → IsTrue (is_path P.lines) → path_fault M P ≡ None → (A : Answer) × Encoding M P A
 some_encoding M m P is e =

@@ -1,6 +1,6 @@
 -- Where the points of an answer are decoded.
 use Rattle.std.proofs.Common.{inl, inr, ◌≡◌, ℕ, zero, suc, ◌+◌, ◌*◌, ◌/◌, ℤ, pos, negsuc, neg_ℤ, ◌<ℤ◌, ◌*ℤ◌, ◌+ℤ◌, ◌-ℤ◌, true, false, List, [], ◌∷◌, ◌++◌, length, take, map, ◌<◌, ◌≤◌, Option, Some, None, is_some, IsTrue, cond, Bool, refl, sym, ap, ◌∙◌, subst, arith, nat_le, MatchOption}
-use Rattle.std.specs.Prelude.{nat_abs, slice_get}
+use Rattle.std.specs.Prelude.{nat_abs, slice_get, option_map}
 use Rattle.std.proofs.lemmas.Bool.{le-leb, leb-true}
 use Rattle.std.proofs.lemmas.Int.{ints}
 use Rattle.std.specs.List.{slice_index}
@@ -146,16 +146,16 @@ answer_decodes M P is none r e =
     let E = extended M P e.before e.after in
     let gs = legs M E.lines in
     let s = extended_sound M P is none e.before e.after e.tried in
-    let a = answered M E e.points r e.answer in
+    let a = answered M E e.points r e.holds in
     let ends = kept_ends M E.lines e.points E.pos E.neg e.follow a.0 s.long in
     let two = two_kept M E.lines e.points E.pos E.neg e.follow a.0 s.long in
     subst (Decodes gs (kept gs E.pos E.neg e.points)) (sym a.1)
     (decodes gs _ _ (kept gs E.pos E.neg e.points) (two_of (kept gs E.pos E.neg e.points) (first_kept gs E.pos e.points) (last_kept gs E.neg e.points) ends.0 ends.1 two))
 
-got_index : (ks : List ℕ) (k i : ℕ) → slice_get ks k ≡ Some i → (k < length ks) × (slice_index ks k ≡ i)
-got_index [] k i e = absurd cc
-got_index (x ∷ ks) zero i e = (omega arith, cc)
-got_index (x ∷ ks) (suc k) i e = let r = got_index ks k i e in (omega (arith, r.0), r.1)
+got_index : (f : ℕ → ℕ) (ks : List ℕ) (k v : ℕ) → option_map f (slice_get ks k) ≡ Some v → (k < length ks) × (f (slice_index ks k) ≡ v)
+got_index f [] k v e = absurd cc
+got_index f (x ∷ ks) zero v e = (omega arith, cc)
+got_index f (x ∷ ks) (suc k) v e = let r = got_index f ks k v e in (omega (arith, r.0), r.1)
 
 index_got : (ks : List ℕ) (k : ℕ) → k < length ks → slice_get ks k ≡ Some (slice_index ks k)
 index_got [] k lt = absurd (omega arith)
@@ -172,12 +172,12 @@ module _ (M : Map) (m : IsMap M) (P : Path) (is : IsTrue (is_path P.lines)) (non
       let chains = one_tried M m P n (all_first Known P.lines n known) (all_last Known P.lines n known) e.before e.after p.before p.after e.tried p.tried in
       let same : E ≡ extended M P p.before p.after = λ i. extended M P (chains.0 i) (chains.1 i) in
       let points : e.points ≡ p.points = one_follow M E.lines 0 e.points p.points e.follow (subst (λ (E : Path). Follow M E.lines 0 p.points) (sym same) p.follow) in
-      let stands : slice_get (kept (legs M E.lines) E.pos E.neg e.points) k ≡ Some p.position = (λ i. slice_get (kept (legs M (same i).lines) (same i).pos (same i).neg (points i)) k) ∙ p.stands in
-      let node : node_at M E.lines p.position ≡ v = (λ i. node_at M (same i).lines p.position) ∙ p.node in
-      let at = got_index (kept (legs M E.lines) E.pos E.neg e.points) k p.position stands in
+      let there : option_map (node_at M E.lines) (slice_get (kept (legs M E.lines) E.pos E.neg e.points) k) ≡ Some v =
+      (λ i. option_map (node_at M (same i).lines) (slice_get (kept (legs M (same i).lines) (same i).pos (same i).neg (points i)) k)) ∙ p.holds in
+      let at = got_index (node_at M E.lines) (kept (legs M E.lines) E.pos E.neg e.points) k v there in
       let near = (answer_decodes M P is none r e).near k at.0 in
       let s = extended_sound M P is none e.before e.after e.tried in
-      let place : position (legs M E.lines) (slice_index (kept (legs M E.lines) E.pos E.neg e.points) k) ≡ place_at M v = ap (position (legs M E.lines)) at.1 ∙ position_is M m E.lines s.known p.position s.size ∙ ap (place_at M) node in
+      let place : position (legs M E.lines) (slice_index (kept (legs M E.lines) E.pos E.neg e.points) k) ≡ place_at M v = position_is M m E.lines s.known (slice_index (kept (legs M E.lines) E.pos E.neg e.points) k) s.size ∙ ap (place_at M) at.1 in
       (near.0, near.1, subst (IsNear k near.0) place near.2)
 
   point_at : (k : ℕ) → is_some (decoded r k) ≡ true → (v : ℕ) × IsPoint M P k v
@@ -187,7 +187,7 @@ module _ (M : Map) (m : IsMap M) (P : Path) (is : IsTrue (is_path P.lines)) (non
       let count = (answer_decodes M P is none r e).count in
       let low : k ≤ length r.middle + 1 = leb-true k (length r.middle + 1) (taken (nat_le k (length r.middle + 1)) _ h) in (
         node_at M E.lines (slice_index ks k),
-        record { before = e.before; after = e.after; points = e.points; position = slice_index ks k; tried = e.tried; follow = e.follow; stands = index_got ks k (omega arith); node = refl },
+        record { before = e.before; after = e.after; points = e.points; tried = e.tried; follow = e.follow; holds = ap (option_map (node_at M E.lines)) (index_got ks k (omega arith)) },
       )
     where
       taken : (b : Bool) (d : ℤ × ℤ) → is_some (cond b (Some d) None) ≡ true → b ≡ true

@@ -145,7 +145,7 @@ answer_fits : (M : Map) → IsMap M → (P : Path) → IsTrue (is_path P.lines) 
 answer_fits M m P is none r p =
     let E = extended M P p.before p.after in
     let s = extended_sound M P is none p.before p.after p.tried in
-    let a = answered M E p.points r p.answer in
+    let a = answered M E p.points r p.holds in
     subst IsReference (sym a.1) (reference_fits M m E.lines s.known s.size p.points E.pos E.neg p.follow a.0 s.long)
 
 fits_by : (M : Map) → IsMap M → (P : Path) → IsTrue (is_path P.lines) → (o : Option Refusal) → path_fault M P ≡ o → (r : Reference) → MatchOption o (Encoding M P (Points r)) (λ f. Points r ≡ Refused f) → IsReference r

@@ -46,7 +46,7 @@ module _ (M N : Map) (m : IsMap M) (n : IsMap N) (C : List ChangedLine) (there :
   covers i j on h g near =
       elim (cases_lt (i + 2) (length E.lines)) [
         | inl far ↦
-            let l = look_for M E.lines (0 ∷ o.points) looks o.each i on far in
+            let l = look_for M E.lines (0 ∷ o.points) looks o.holds i on far in
             let k = l.2 in
             let free : IsClear N C (look_to M E.lines i k.0) =
             subst (IsClear N C) k.2 (All-contains (IsClear N C) looks l.0 clear l.1) in
@@ -73,7 +73,7 @@ module _ (M N : Map) (m : IsMap M) (n : IsMap N) (C : List ChangedLine) (there :
     points = o.points;
     tried = tried_there;
     follow = follow_there;
-    answer = answer_same M N m n P o.before o.after nonempty known same o.tried
+    holds = answer_same M N m n P o.before o.after nonempty known same o.tried
         (rounds o.before o.after o.tried) o.points;
   }
 
@@ -84,7 +84,7 @@ module _ (M N : Map) (m : IsMap M) (n : IsMap N) (C : List ChangedLine) (there :
     points = o.points;
     tried = o.tried;
     follow = o.follow;
-    answer = refl;
+    holds = refl;
   }
 
   by_fault : (A : Answer) → Encoding M P A → Encodes M P A
@@ -145,14 +145,14 @@ module _ (M N : Map) (m : IsMap M) (n : IsMap N) (C : List ChangedLine) (there :
   looks_stay =
       let each : AllZip (IsLook N E.lines) (looking E.lines (0 ∷ o.points)) looks =
       zip_moves (IsLook M E.lines) (IsLook N E.lines) (looking E.lines (0 ∷ o.points)) looks
-      (λ i l on k. one_look i l (All-contains (IsClear N C) looks l clear on) k) o.each in
+      (λ i l on k. one_look i l (All-contains (IsClear N C) looks l clear on) k) o.holds in
       record {
         before = o.before;
         after = o.after;
         points = o.points;
         tried = tried_there;
         follow = follow_there;
-        each = subst (λ (F : Path). AllZip (IsLook N F.lines) (looking F.lines (0 ∷ o.points)) looks) path_there each;
+        holds = subst (λ (F : Path). AllZip (IsLook N F.lines) (looking F.lines (0 ∷ o.points)) looks) path_there each;
       }
 
 -- ---- whether or not the path has a fault

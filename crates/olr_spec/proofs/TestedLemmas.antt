@@ -124,9 +124,9 @@ module _ (M : Map) (m : IsMap M) (P : Path) (is : IsTrue (is_path P.lines)) (sou
       let each : AllZip (IsLook M (extended M P p.before p.after).lines)
       (looking (extended M P p.before p.after).lines (0 ∷ p.points)) ls =
       coe 0 1 (i. AllZip (IsLook M (extended M P (same.0 i) (same.1 i)).lines)
-      (looking (extended M P (same.0 i) (same.1 i)).lines (0 ∷ same.2 i)) ls) q.each in
+      (looking (extended M P (same.0 i) (same.1 i)).lines (0 ∷ same.2 i)) ls) q.holds in
       one_zip M (extended M P p.before p.after).lines
-      (looking (extended M P p.before p.after).lines (0 ∷ p.points)) ks ls p.each each
+      (looking (extended M P p.before p.after).lines (0 ∷ p.points)) ks ls p.holds each
 
   some_list : (looks : List Look) × LooksOfExtended M P looks
   some_list =
@@ -141,14 +141,14 @@ module _ (M : Map) (m : IsMap M) (P : Path) (is : IsTrue (is_path P.lines)) (sou
           points = p.points;
           tried = p.tried;
           follow = p.follow;
-          each = z.1;
+          holds = z.1;
         },
       )
 
   -- the footprint
   foot_there : (looks : List Look) → LooksOfExtended M P looks → (v : ℕ) → FootOf M P v
       → OwnOfExtended M P v ⊎ ((l : Look) × Contains looks l × Reach M l.from v)
-  foot_there looks o v f = by f.touched
+  foot_there looks o v f = by f.holds
     where
       own : Own M (extended M P f.before f.after).lines f.before f.after v → OwnOfExtended M P v
       own h = record { before = f.before; after = f.after; tried = f.tried; own = h }
@@ -164,7 +164,7 @@ module _ (M : Map) (m : IsMap M) (P : Path) (is : IsTrue (is_path P.lines)) (sou
           let ls = (extended M P o.before o.after).lines in
           let t : Searched M ls (0 ∷ o.points) v =
           coe 0 1 (i. Searched M (extended M P (same.0 i) (same.1 i)).lines (0 ∷ same.2 i) v) s in
-          let l = look_for M ls (0 ∷ o.points) looks o.each t.0 t.1 t.2 in
+          let l = look_for M ls (0 ∷ o.points) looks o.holds t.0 t.1 t.2 in
           let from : end M (slice_index ls t.0) ≡ l.0.from = sym (ap (λ (k : Look). k.from) l.2.2) in
           inr (l.0, l.1, subst (λ (u : ℕ). Reach M u v) from t.3)
 
@@ -173,7 +173,7 @@ module _ (M : Map) (m : IsMap M) (P : Path) (is : IsTrue (is_path P.lines)) (sou
   foot_here looks o v (inl p) =
       let js = some_follow M m (extended M P p.before p.after).lines (length (extended M P p.before p.after).lines) 0
       (omega arith) in
-      record { before = p.before; after = p.after; points = js.0; tried = p.tried; follow = js.1; touched = by p.own }
+      record { before = p.before; after = p.after; points = js.0; tried = p.tried; follow = js.1; holds = by p.own }
     where
       by : {js : List ℕ} → Own M (extended M P p.before p.after).lines p.before p.after v
           → Touched M (extended M P p.before p.after).lines p.before p.after js v
@@ -182,7 +182,7 @@ module _ (M : Map) (m : IsMap M) (P : Path) (is : IsTrue (is_path P.lines)) (sou
       by (inr (inr n)) = On_end_chain n
   foot_here looks o v (inr r) =
       let ls = (extended M P o.before o.after).lines in
-      let i = look_from M ls (0 ∷ o.points) looks o.each r.0 r.1 in
+      let i = look_from M ls (0 ∷ o.points) looks o.holds r.0 r.1 in
       let from : r.0.from ≡ end M (slice_index ls i.0) = ap (λ (k : Look). k.from) i.3.2 in
       record {
         before = o.before;
@@ -190,7 +190,7 @@ module _ (M : Map) (m : IsMap M) (P : Path) (is : IsTrue (is_path P.lines)) (sou
         points = o.points;
         tried = o.tried;
         follow = o.follow;
-        touched = Within_reach (i.0, i.1, i.2, subst (λ (u : ℕ). Reach M u v) from r.2);
+        holds = Within_reach (i.0, i.1, i.2, subst (λ (u : ℕ). Reach M u v) from r.2);
       }
 
 -- ---- whether or not the path has a fault

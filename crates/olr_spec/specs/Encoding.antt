@@ -7,8 +7,8 @@ use Rattle.std.specs.Prelude.{◌≡◌, ℕ, suc, ◌+◌, List, [], ◌∷◌,
 use Rattle.std.specs.Option.{option_or}
 use Rattle.olr_spec.specs.Map.{Map, has_line, start, end}
 use Rattle.olr_spec.specs.Walks.{dm_of}
-use Rattle.olr_spec.specs.Extension.{Path, Tried, extended}
-use Rattle.olr_spec.specs.Points.{node_at, Follow, last_point}
+use Rattle.olr_spec.specs.Extension.{Path}
+use Rattle.olr_spec.specs.Points.{node_at, last_point, OfPath}
 use Rattle.olr_spec.specs.Reference.{Reference, legs, kept, reference}
 
 -- a line that isn't on the map; the place of a line that the next doesn't join; offsets as long as the path; a position that no point may
@@ -47,26 +47,14 @@ answer_of M E js =
     then Points (reference (legs M E.lines) E.pos E.neg js)
     else Refused (No_next_point (last_point 0 js))
 
--- the tried chains, and the points after position 0
-pub record Encoding (M : Map) (P : Path) (A : Answer) : Type 0 where
-  pub before : List ℕ
-  pub after : List ℕ
-  pub points : List ℕ
-  pub tried : Tried M P before after
-  pub follow : Follow M (extended M P before after).lines 0 points
-  pub answer : A ≡ answer_of M (extended M P before after) points
+-- A is what its extension gives by its points
+abbrev pub Encoding : Map → Path → Answer → Type 0
+Encoding M P A = OfPath M P (λ E _ _ js. A ≡ answer_of M E js)
 
 -- a refusal of the path's own, or else what its points give (White Paper, encoding steps)
 abbrev pub Encodes : Map → Path → Answer → Type 0
 Encodes M P A = MatchOption (path_fault M P) (Encoding M P A) (λ r. A ≡ Refused r)
 
 -- node v is point k of the path's reference, counted from 0
-pub record IsPoint (M : Map) (P : Path) (k v : ℕ) : Type 0 where
-  pub before : List ℕ
-  pub after : List ℕ
-  pub points : List ℕ
-  pub position : ℕ
-  pub tried : Tried M P before after
-  pub follow : Follow M (extended M P before after).lines 0 points
-  pub stands : let E = extended M P before after in slice_get (kept (legs M E.lines) E.pos E.neg points) k ≡ Some position
-  pub node : node_at M (extended M P before after).lines position ≡ v
+abbrev pub IsPoint : Map → Path → ℕ → ℕ → Type 0
+IsPoint M P k v = OfPath M P (λ E _ _ js. option_map (node_at M E.lines) (slice_get (kept (legs M E.lines) E.pos E.neg js) k) ≡ Some v)

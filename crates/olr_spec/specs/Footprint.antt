@@ -4,8 +4,8 @@
 use Rattle.std.specs.Prelude.{◌≡◌, ℕ, ◌+◌, ◌<◌, ◌≤◌, List, ◌∷◌, length, slice_index, MatchOption, IsTrue, ◌⊎◌}
 use Rattle.olr_spec.specs.Map.{Map, start, end}
 use Rattle.olr_spec.specs.Walks.{Walk, dm_of}
-use Rattle.olr_spec.specs.Extension.{Path, Tried, extended, has, limit}
-use Rattle.olr_spec.specs.Points.{Follow}
+use Rattle.olr_spec.specs.Extension.{Path, has, limit}
+use Rattle.olr_spec.specs.Points.{OfPath}
 use Rattle.olr_spec.specs.Encoding.{path_fault}
 
 -- v is an end of one of the lines
@@ -27,13 +27,8 @@ pub data Touched (M : Map) (ls b a js : List ℕ) (v : ℕ) : Type 0 where
   On_end_chain : NodeOf M a v → Touched M ls b a js v
   Within_reach : Searched M ls (0 ∷ js) v → Touched M ls b a js v
 
-pub record FootOf (M : Map) (P : Path) (v : ℕ) : Type 0 where
-  pub before : List ℕ
-  pub after : List ℕ
-  pub points : List ℕ
-  pub tried : Tried M P before after
-  pub follow : Follow M (extended M P before after).lines 0 points
-  pub touched : Touched M (extended M P before after).lines before after points v
+abbrev pub FootOf : Map → Path → ℕ → Type 0
+FootOf M P v = OfPath M P (λ E b a js. Touched M E.lines b a js v)
 
 -- empty where the path's own lines are refused
 abbrev pub Foot : Map → Path → ℕ → Type 0

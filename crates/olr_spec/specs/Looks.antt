@@ -10,7 +10,7 @@ use Rattle.std.specs.List.{AllZip}
 use Rattle.olr_spec.specs.Map.{Map, start, end}
 use Rattle.olr_spec.specs.Walks.{dm_of}
 use Rattle.olr_spec.specs.Extension.{Path, Tried, extended, limit}
-use Rattle.olr_spec.specs.Points.{stretch, Covered, Follow}
+use Rattle.olr_spec.specs.Points.{stretch, Covered, OfPath}
 use Rattle.olr_spec.specs.Encoding.{path_fault}
 use Rattle.olr_spec.specs.Footprint.{NodeOf}
 use Rattle.olr_spec.specs.Detours.{ChangedLine, Detour}
@@ -68,13 +68,8 @@ looking ls is = filter (λ i. nat_lt (i + 2) (length ls)) is
 abbrev pub LooksFrom : Map → List ℕ → List ℕ → List Look → Type 0
 LooksFrom M ls is looks = AllZip (IsLook M ls) is looks
 
-pub record LooksOfExtended (M : Map) (P : Path) (looks : List Look) : Type 0 where
-  pub before : List ℕ
-  pub after : List ℕ
-  pub points : List ℕ
-  pub tried : Tried M P before after
-  pub follow : Follow M (extended M P before after).lines 0 points
-  pub each : let ls = (extended M P before after).lines in LooksFrom M ls (looking ls (0 ∷ points)) looks
+abbrev pub LooksOfExtended : Map → Path → List Look → Type 0
+LooksOfExtended M P looks = OfPath M P (λ E _ _ js. LooksFrom M E.lines (looking E.lines (0 ∷ js)) looks)
 
 -- none where the path's own lines are refused
 abbrev pub LooksOf : Map → Path → List Look → Type 0

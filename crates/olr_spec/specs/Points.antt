@@ -4,11 +4,12 @@
 --     Covered M ls i j      the route from line i to the last line of the stretch is the path's own
 --     Candidate M ls i j, Next M ls i j      j may follow i as a point;  j follows i
 --     Follow M ls i js      js are the points after i, up to the one that has no next
+--     OfPath M P Q      Q of the extended path, its tried chains and its points
 use Rattle.std.specs.Prelude.{◌≡◌, ℕ, ◌+◌, ◌-◌, ◌<◌, ◌≤◌, min, Bool, ◌&&◌, List, [], ◌∷◌, length, nat_lt, slice_index, slice_range, if◌then◌else◌, IsTrue, IsFalse}
 use Rattle.olr_spec.specs.Coordinates.{Coord, relative, fits16}
 use Rattle.olr_spec.specs.Map.{Map, start, end, place_at}
 use Rattle.olr_spec.specs.Walks.{dm_of, Route}
-use Rattle.olr_spec.specs.Extension.{passing, last, limit}
+use Rattle.olr_spec.specs.Extension.{Path, Tried, extended, passing, last, limit}
 
 -- the node at position i
 abbrev pub node_at : Map → List ℕ → ℕ → ℕ
@@ -65,3 +66,13 @@ Follow M ls i (j ∷ js) = Next M ls i j × Follow M ls j js
 abbrev pub last_point : ℕ → List ℕ → ℕ
 last_point i [] = i
 last_point i (j ∷ js) = last_point j js
+
+-- Q of the extended path, of both tried chains, and of the points after position 0. Of a path without a fault of its own there is exactly one of
+-- each
+pub record OfPath (M : Map) (P : Path) (Q : Path → List ℕ → List ℕ → List ℕ → Type 0) : Type 0 where
+  pub before : List ℕ
+  pub after : List ℕ
+  pub points : List ℕ
+  pub tried : Tried M P before after
+  pub follow : Follow M (extended M P before after).lines 0 points
+  pub holds : Q (extended M P before after) before after points
