@@ -11,7 +11,7 @@ use Rattle.olr_map.specs.ByNumbers.{entries_of, found, all_of}
 use Rattle.olr_map.specs.Slotted.{at, Turns}
 use Rattle.olr_map.specs.NodeSlots.{slots_of}
 use Rattle.olr_map.specs.NodeLinks.{links_at, relinked}
-use Rattle.olr_map.specs.Linked.{spare_links}
+use Rattle.olr_map.specs.Linked.{lines_on, ends_on, spare_links}
 use Rattle.olr_map.specs.Kept.{in_slot, far, node_in, links_in, map_from, place_in, IsListed, IsIndexed, IsKept}
 use Rattle.olr_map.specs.Changes.{tables_map, spare_at}
 use Rattle.olr_map.specs.declared.by_number.ByNumber.{ByNumber}
@@ -90,8 +90,8 @@ module _ (t : Tables) (ls' : ByNumber Line) (same : (k : ℕ) → found ls' k �
 -- ---- more room for a node's lines
 
 pub record Grown (old new : Links) : Type 0 where
-  pub lines : new.lines.items ≡ old.lines.items
-  pub ends : new.ends.items ≡ old.ends.items
+  pub lines : lines_on new ≡ lines_on old
+  pub ends : ends_on new ≡ ends_on old
   pub spare : spare_links old ≤ spare_links new
 
 grown_same : (l : Links) → Grown l l

@@ -13,7 +13,7 @@ use Rattle.olr_map.specs.ByNumbers.{entries_of, found, spare_of, all_of}
 use Rattle.olr_map.specs.Slotted.{at, Turns}
 use Rattle.olr_map.specs.NodeSlots.{slots_of, room_in}
 use Rattle.olr_map.specs.NodeLinks.{links_at, relinked}
-use Rattle.olr_map.specs.Linked.{spare_links, IsLinked, IsUnlinked, IsReset}
+use Rattle.olr_map.specs.Linked.{lines_on, spare_links, IsLinked, IsUnlinked, IsReset}
 use Rattle.olr_map.specs.Kept.{in_slot, near, far, node_in, links_in, map_from, place_in, end_at, IsListed, IsIndexed, IsKept}
 use Rattle.olr_map.specs.Changes.{tables_map, room_of, spare_at, changed_at, CanMake, made, IsMade}
 use Rattle.olr_map.specs.declared.by_number.ByNumber.{ByNumber}
@@ -105,15 +105,15 @@ module _ (t : Tables) (from p : ℕ) (here : found t.index from ≡ Some p) wher
 -- ---- what a list takes and gives
 
 module _ (t : Tables) (side : Side) (v : ℕ) (o : Links) (was : links_in side t.index (slots_of t.nodes) v ≡ Some o) where
-  pub list_rises : IsStrictlyIncreasing o.lines.items
+  pub list_rises : IsStrictlyIncreasing (lines_on o)
   list_rises = subst IsStrictlyIncreasing (sym (t.kept.listed side v o was).numbers) (rises_at side (tables_map t) v)
 
-  pub list_lacks : (x : ℕ) → has_line (tables_map t) x ≡ false → has o.lines.items x ≡ false
+  pub list_lacks : (x : ℕ) → has_line (tables_map t) x ≡ false → has (lines_on o) x ≡ false
   list_lacks x absent =
       ap (λ zs. has zs x) (t.kept.listed side v o was).numbers ∙ has-lines_where (tables_map t) (λ l. near side l == v) x
       ∙ ap (passes_at (λ l. near side l == v)) (none_is (get (tables_map t).lines x) absent)
 
-  pub list_has : (x : ℕ) (l : Line) → get (tables_map t).lines x ≡ Some l → near side l ≡ v → has o.lines.items x ≡ true
+  pub list_has : (x : ℕ) (l : Line) → get (tables_map t).lines x ≡ Some l → near side l ≡ v → has (lines_on o) x ≡ true
   list_has x l is end' =
       ap (λ zs. has zs x) (t.kept.listed side v o was).numbers ∙ has-lines_where (tables_map t) (λ l. near side l == v) x
       ∙ ap (passes_at (λ l. near side l == v)) is ∙ eq-eqb (near side l) v end'

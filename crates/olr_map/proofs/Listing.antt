@@ -13,7 +13,7 @@ use Rattle.olr_spec.specs.Extension.{has}
 use Rattle.olr_spec.proofs.MapLemmas.{has-lines_where, passes_at}
 use Rattle.olr_spec.proofs.OrderLemmas.{rise_in, rise_out}
 use Rattle.olr_map.specs.Kept.{near, far, lines_at, end_at, IsListed}
-use Rattle.olr_map.specs.Linked.{IsLinked, IsUnlinked, IsReset}
+use Rattle.olr_map.specs.Linked.{lines_on, ends_on, IsLinked, IsUnlinked, IsReset}
 use Rattle.olr_map.specs.declared.links.Links.{Links}
 use Rattle.olr_map.specs.declared.read.LineEnd.{LineEnd}
 use Rattle.olr_map.specs.declared.slots.Side.{Side}
@@ -117,16 +117,16 @@ module _ (side : Side) (P : ℕ → ℕ) where
       put_here old new e is h k =
           let v : ℕ = near side l in
           let yes : (near side l == v) ≡ true = eq-eqb v v refl in
-          let numbers : new.lines.items ≡ lines_at side added v =
-          same_rising new.lines.items (lines_at side added v) k.rises (rises_at side added v)
-          (λ n. ap (λ zs. has zs n) k.lines ∙ has-insert old.lines.items k.place x n k.within ∙ ap (λ zs. (x == n) || has zs n) h.numbers
+          let numbers : lines_on new ≡ lines_at side added v =
+          same_rising (lines_on new) (lines_at side added v) k.rises (rises_at side added v)
+          (λ n. ap (λ zs. has zs n) k.lines ∙ has-insert (lines_on old) k.place x n k.within ∙ ap (λ zs. (x == n) || has zs n) h.numbers
           ∙ sym (has_added M x l (test v) absent n ∙ or_true (near side l == v) yes (x == n) _)) in
-          let before : old.ends.items ≡ map (end_at side added P) old.lines.items =
+          let before : ends_on old ≡ map (end_at side added P) (lines_on old) =
           h.ends ∙ map_on (end_at side M P) (end_at side added P) (lines_at side M v) (λ y t. added_same y (not_it v y t)) ∙ ap (map (end_at side added P)) (sym h.numbers) in
           record {
             numbers = numbers;
-            ends = k.ends ∙ ap (λ zs. insert zs k.place e) before ∙ ap (insert (map (end_at side added P) old.lines.items) k.place) is
-                ∙ sym (map-inserted (end_at side added P) old.lines.items k.place x k.within) ∙ ap (map (end_at side added P)) (sym k.lines ∙ numbers);
+            ends = k.ends ∙ ap (λ zs. insert zs k.place e) before ∙ ap (insert (map (end_at side added P) (lines_on old)) k.place) is
+                ∙ sym (map-inserted (end_at side added P) (lines_on old) k.place x k.within) ∙ ap (map (end_at side added P)) (sym k.lines ∙ numbers);
           }
 
     -- ---- a line goes
@@ -155,16 +155,16 @@ module _ (side : Side) (P : ℕ → ℕ) where
       pub take_here : (old new : Links) → IsListed side M P (near side l) old → IsUnlinked old new x → IsListed side removed P (near side l) new
       take_here old new h k =
           let v : ℕ = near side l in
-          let up : IsStrictlyIncreasing old.lines.items = subst IsStrictlyIncreasing (sym h.numbers) (rises_at side M v) in
-          let less : (n : ℕ) → has (remove old.lines.items k.place) n ≡ (not (x == n) && has old.lines.items n) = λ n. has-remove old.lines.items k.place x n up k.within k.is in
-          let numbers : new.lines.items ≡ lines_at side removed v =
-          same_rising new.lines.items (lines_at side removed v) k.rises (rises_at side removed v)
+          let up : IsStrictlyIncreasing (lines_on old) = subst IsStrictlyIncreasing (sym h.numbers) (rises_at side M v) in
+          let less : (n : ℕ) → has (remove (lines_on old) k.place) n ≡ (not (x == n) && has (lines_on old) n) = λ n. has-remove (lines_on old) k.place x n up k.within k.is in
+          let numbers : lines_on new ≡ lines_at side removed v =
+          same_rising (lines_on new) (lines_at side removed v) k.rises (rises_at side removed v)
           (λ n. ap (λ zs. has zs n) k.lines ∙ less n ∙ ap (λ zs. not (x == n) && has zs n) h.numbers ∙ sym (has_removed M x l (test v) n)) in
-          let before : old.ends.items ≡ map (end_at side M P) old.lines.items = h.ends ∙ ap (map (end_at side M P)) (sym h.numbers) in
+          let before : ends_on old ≡ map (end_at side M P) (lines_on old) = h.ends ∙ ap (map (end_at side M P)) (sym h.numbers) in
           record {
             numbers = numbers;
-            ends = k.ends ∙ ap (λ zs. remove zs k.place) before ∙ sym (map-removed (end_at side M P) old.lines.items k.place k.within)
-                ∙ map_on (end_at side M P) (end_at side removed P) (remove old.lines.items k.place) (λ y t. removed_same y (not_x (x == y) (has old.lines.items y) (sym (less y) ∙ t)))
+            ends = k.ends ∙ ap (λ zs. remove zs k.place) before ∙ sym (map-removed (end_at side M P) (lines_on old) k.place k.within)
+                ∙ map_on (end_at side M P) (end_at side removed P) (remove (lines_on old) k.place) (λ y t. removed_same y (not_x (x == y) (has (lines_on old) y) (sym (less y) ∙ t)))
                 ∙ ap (map (end_at side removed P)) (sym k.lines ∙ numbers);
           } where
             not_x : (a b : Bool) → (not a && b) ≡ true → a ≡ false
@@ -196,13 +196,13 @@ module _ (side : Side) (P : ℕ → ℕ) where
         pub set_here : (old new : Links) (e : LineEnd) → e ≡ end_at side changed P x → IsListed side M P (near side l) old → IsReset old new x e → IsListed side changed P (near side l) new
         set_here old new e is h r =
             let v : ℕ = near side l in
-            let up : IsStrictlyIncreasing old.lines.items = subst IsStrictlyIncreasing (sym h.numbers) (rises_at side M v) in
-            let numbers : new.lines.items ≡ lines_at side changed v = r.lines ∙ h.numbers ∙ same_lines v in
-            let before : old.ends.items ≡ map (end_at side M P) old.lines.items = h.ends ∙ ap (map (end_at side M P)) (sym h.numbers) in
+            let up : IsStrictlyIncreasing (lines_on old) = subst IsStrictlyIncreasing (sym h.numbers) (rises_at side M v) in
+            let numbers : lines_on new ≡ lines_at side changed v = r.lines ∙ h.numbers ∙ same_lines v in
+            let before : ends_on old ≡ map (end_at side M P) (lines_on old) = h.ends ∙ ap (map (end_at side M P)) (sym h.numbers) in
             record {
               numbers = numbers;
-              ends = r.ends ∙ ap (λ zs. set zs r.place e) before ∙ ap (set (map (end_at side M P) old.lines.items) r.place) is
-                  ∙ map_set_at (end_at side M P) (end_at side changed P) x old.lines.items r.place (distinct_from_rising old.lines.items up) r.within r.is changed_same
+              ends = r.ends ∙ ap (λ zs. set zs r.place e) before ∙ ap (set (map (end_at side M P) (lines_on old)) r.place) is
+                  ∙ map_set_at (end_at side M P) (end_at side changed P) x (lines_on old) r.place (distinct_from_rising (lines_on old) up) r.within r.is changed_same
                   ∙ ap (map (end_at side changed P)) (sym r.lines ∙ numbers);
             }
 

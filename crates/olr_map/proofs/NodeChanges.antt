@@ -1,5 +1,5 @@
 -- A node comes, goes and moves.
-use Rattle.std.proofs.Common.{◌≡◌, ◌==◌, ℕ, ◌+◌, ◌<◌, ◌≤◌, Bool, true, false, cond, [], map, Option, Some, None, Ok, IsTrue, unwrap_or, length, refl, sym, ap, ◌∙◌, subst, arith}
+use Rattle.std.proofs.Common.{◌≡◌, ◌==◌, ℕ, ◌+◌, ◌<◌, ◌≤◌, Bool, true, false, cond, [], map, Option, Some, None, Ok, IsTrue, unwrap_or, length, refl, sym, ap, ◌∙◌, subst, arith, arith, length-take-le}
 use Rattle.std.specs.Option.{option_map, option_map_or}
 use Rattle.std.specs.FinMap as finmap
 use Rattle.std.specs.FinMap.{FinMap, get}
@@ -15,11 +15,12 @@ use Rattle.olr_map.specs.ByNumbers.{found, spare_of, all_of}
 use Rattle.olr_map.specs.Slotted.{Comes, Goes, Turns}
 use Rattle.olr_map.specs.NodeSlots.{slots_of, room_in}
 use Rattle.olr_map.specs.NodeLinks.{links_at}
-use Rattle.olr_map.specs.Linked.{spare_links}
+use Rattle.olr_map.specs.Linked.{lines_on, ends_on, spare_links}
 use Rattle.olr_map.specs.Kept.{near, far, in_slot, node_in, links_in, map_from, place_in, lines_at, end_at, IsListed, IsIndexed, IsKept}
 use Rattle.olr_map.specs.Changes.{tables_map, room_of, spare_at, changed_at, CanMake, made, IsMade}
 use Rattle.olr_map.specs.declared.by_number.ByNumber.{ByNumber}
 use Rattle.olr_map.specs.declared.links.Links.{Links}
+use Rattle.olr_map.specs.declared.links.Links.TheVariants.{Few, Many}
 use Rattle.olr_map.specs.declared.slots.NodeEntry.{NodeEntry}
 use Rattle.olr_map.specs.declared.slots.Slots.{Slots}
 use Rattle.olr_map.specs.declared.slots.Side.{Side}
@@ -68,10 +69,14 @@ each_but L L' n l Q Q' now new others old k h e =
       | false ↦ λ i g. others k h i (old k h g)
     ] refl (sym (now k) ∙ e)
 
-empty_ends : (l : Links) → l.lines.items ≡ [] → l.ends.items ≡ []
-empty_ends l e = nil_from_length l.ends.items (l.beside ∙ ap (λ xs. length xs) e)
+beside : (l : Links) → length (ends_on l) ≡ length (lines_on l)
+beside (Few f) = length-take-le f.count f.ends (omega arith) ∙ sym (length-take-le f.count f.lines (omega arith))
+beside (Many m) = m.beside
 
-whole_links : (side : Side) (e : NodeEntry) → (e.outs.lines.items ≡ []) × (e.ins.lines.items ≡ []) → (links_at side e).lines.items ≡ []
+empty_ends : (l : Links) → lines_on l ≡ [] → ends_on l ≡ []
+empty_ends l e = nil_from_length (ends_on l) (beside l ∙ ap (λ xs. length xs) e)
+
+whole_links : (side : Side) (e : NodeEntry) → (lines_on e.outs ≡ []) × (lines_on e.ins ≡ []) → lines_on (links_at side e) ≡ []
 whole_links Out e h = h.0
 whole_links In e h = h.1
 
@@ -134,7 +139,7 @@ module _ (t : Tables) (b' : ByNumber ℕ) (nodes' : Slots) (p : ℕ) (e : NodeEn
       (fresh side) (others side) (t.kept.listed side)) where
         fresh : (side : Side) → IsListed side (map_from b' (slots_of nodes') F) (place_in b') e.id (links_at side e)
         fresh side =
-            let none : (links_at side e).lines.items ≡ [] = whole_links side e can.whole in
+            let none : lines_on (links_at side e) ≡ [] = whole_links side e can.whole in
             let absent : [] ≡ lines_at side M e.id = absent_lines side M e.id t.kept.sound says.0 in
             record { numbers = none ∙ absent; ends = empty_ends (links_at side e) none ∙ ap (map (end_at side (map_from b' (slots_of nodes') F) (place_in b'))) absent }
 

@@ -11,7 +11,7 @@ use Rattle.olr_spec.specs.Map as map
 use Rattle.olr_spec.specs.Map.{Map, start, end, edited}
 use Rattle.olr_spec.specs.Laws.{HasPlace}
 use Rattle.olr_map.specs.ByNumbers.{spare_of, all_of}
-use Rattle.olr_map.specs.Linked.{spare_links}
+use Rattle.olr_map.specs.Linked.{lines_on, spare_links}
 use Rattle.olr_map.specs.NodeSlots.{slots_of, room_in}
 use Rattle.olr_map.specs.Kept.{map_from, links_in}
 use Rattle.olr_map.specs.declared.slots.Side.{Side}
@@ -104,7 +104,7 @@ room_after M R (TakeLine id) =
 
 -- a node that comes has no lines yet, and a line that is set keeps its ends
 abbrev pub IsWhole : Map → Change → Type 0
-IsWhole M (PutNode entry) = (entry.outs.lines.items ≡ []) × (entry.ins.lines.items ≡ [])
+IsWhole M (PutNode entry) = (lines_on entry.outs ≡ []) × (lines_on entry.ins ≡ [])
 IsWhole M (SetLine id line) = (line.from ≡ start M id) × (line.to ≡ end M id)
 IsWhole M _ = ⊤
 

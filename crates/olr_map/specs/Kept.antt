@@ -11,6 +11,7 @@ use Rattle.std.specs.Ordering.{nat_cmp}
 use Rattle.std.proofs.Props.{props}
 use Rattle.olr_spec.specs.Coordinates.{Coord}
 use Rattle.olr_spec.specs.Map.{Map, Line, IsMap, lines_where, line_at, dm, no_place}
+use Rattle.olr_map.specs.Linked.{lines_on, ends_on}
 use Rattle.olr_map.specs.ByNumbers.{entries_of, found}
 use Rattle.olr_map.specs.Ends.{ArePlaces}
 use Rattle.olr_map.specs.Slotted.{at}
@@ -58,8 +59,8 @@ abbrev pub end_at : Side → Map → (ℕ → ℕ) → ℕ → LineEnd
 end_at side M place x = record { node = far side (line_at M x); place = place (far side (line_at M x)); len = dm M x }
 
 pub record IsListed (side : Side) (M : Map) (place : ℕ → ℕ) (v : ℕ) (l : Links) : Type 0 where
-  pub numbers : l.lines.items ≡ lines_at side M v
-  pub ends : l.ends.items ≡ map (end_at side M place) (lines_at side M v)
+  pub numbers : lines_on l ≡ lines_at side M v
+  pub ends : ends_on l ≡ map (end_at side M place) (lines_at side M v)
 
 -- each node's slot has its entry, and the other way round
 pub record IsIndexed (b : ByNumber ℕ) (es : List (Option NodeEntry)) : Type 0 where

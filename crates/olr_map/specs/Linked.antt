@@ -1,40 +1,48 @@
 -- Lines of a node with their far ends.
+--     lines_on l, ends_on l      the lines, and beside each its far end
 --     spare_links l      how many more there are places for
 --     IsLinked old new id end, IsUnlinked old new id, IsReset old new id end      a line came, went, or has another far end
-use Rattle.std.specs.Prelude.{◌≡◌, ℕ, ◌+◌, ◌-◌, ◌<◌, ◌≤◌, min, length, set, slice_index}
+use Rattle.std.specs.Prelude.{◌≡◌, ℕ, ◌+◌, ◌-◌, ◌<◌, ◌≤◌, List, min, length, take, set, slice_index, vec_len}
+use Rattle.std.specs.Vec.{vec_capacity}
 use Rattle.std.specs.List.{insert, remove}
 use Rattle.std.specs.List.Sorted.{IsStrictlyIncreasing}
-use Rattle.smallvec.specs.SmallVec.{SmallVec}
 use Rattle.olr_map.specs.declared.links.Links.{Links}
+use Rattle.olr_map.specs.declared.links.Links.TheVariants.{Few, Many}
 use Rattle.olr_map.specs.declared.read.LineEnd.{LineEnd}
 
-abbrev pub spare_in : {X : Type 0} → SmallVec X → ℕ
-spare_in v = v.capacity - length v.items
+abbrev pub lines_on : Links → List ℕ
+lines_on (Few f) = take f.count f.lines
+lines_on (Many m) = m.lines.items
+
+abbrev pub ends_on : Links → List LineEnd
+ends_on (Few f) = take f.count f.ends
+ends_on (Many m) = m.ends.items
 
 abbrev pub spare_links : Links → ℕ
-spare_links l = min (spare_in l.lines) (spare_in l.ends)
+spare_links (Few f) = 4 - f.count
+spare_links (Many m) = min (vec_capacity m.lines - vec_len m.lines) (vec_capacity m.ends - vec_len m.ends)
 
 pub record IsLinked (old new : Links) (id : ℕ) (end : LineEnd) : Type 0 where
   pub place : ℕ
-  pub within : place ≤ length old.lines.items
-  pub lines : new.lines.items ≡ insert old.lines.items place id
-  pub ends : new.ends.items ≡ insert old.ends.items place end
-  pub rises : IsStrictlyIncreasing new.lines.items
+  pub within : place ≤ length (lines_on old)
+  pub lines : lines_on new ≡ insert (lines_on old) place id
+  pub ends : ends_on new ≡ insert (ends_on old) place end
+  pub rises : IsStrictlyIncreasing (lines_on new)
   pub room : spare_links new + 1 ≡ spare_links old
 
 pub record IsUnlinked (old new : Links) (id : ℕ) : Type 0 where
   pub place : ℕ
-  pub within : place < length old.lines.items
-  pub is : slice_index old.lines.items place ≡ id
-  pub lines : new.lines.items ≡ remove old.lines.items place
-  pub ends : new.ends.items ≡ remove old.ends.items place
-  pub rises : IsStrictlyIncreasing new.lines.items
+  pub within : place < length (lines_on old)
+  pub is : slice_index (lines_on old) place ≡ id
+  pub lines : lines_on new ≡ remove (lines_on old) place
+  pub ends : ends_on new ≡ remove (ends_on old) place
+  pub rises : IsStrictlyIncreasing (lines_on new)
   pub room : spare_links new ≡ spare_links old + 1
 
 pub record IsReset (old new : Links) (id : ℕ) (end : LineEnd) : Type 0 where
   pub place : ℕ
-  pub within : place < length old.lines.items
-  pub is : slice_index old.lines.items place ≡ id
-  pub lines : new.lines.items ≡ old.lines.items
-  pub ends : new.ends.items ≡ set old.ends.items place end
+  pub within : place < length (lines_on old)
+  pub is : slice_index (lines_on old) place ≡ id
+  pub lines : lines_on new ≡ lines_on old
+  pub ends : ends_on new ≡ set (ends_on old) place end
   pub room : spare_links new ≡ spare_links old

@@ -123,12 +123,11 @@ impl Tables {
     {
         match edit {
             Edit::AddNode(id, place) => {
-                let alloc = *self.nodes.entries.allocator();
                 Change::PutNode(NodeEntry {
                     id,
                     place,
-                    outs: Links::new(alloc),
-                    ins: Links::new(alloc),
+                    outs: Links::new(),
+                    ins: Links::new(),
                 })
             }
             Edit::MoveNode(id, place) => Change::MoveNode(id, place),

@@ -5,6 +5,7 @@
 mod by_number;
 mod change;
 pub mod edit;
+mod few;
 pub mod footprint;
 mod history;
 pub mod ids;

@@ -1,64 +1,143 @@
 //! The lines that leave a node, or those that enter it, each with its far end.
-ghost use Rattle.std.specs.Prelude.{◌≡◌, ◌+◌, ◌<◌, ◌≤◌, ℕ, [], length, insert, remove, slice_index, OnOk, IsTrue, IsFalse};
+ghost use Rattle.std.specs.Prelude.{◌≡◌, ◌+◌, ◌<◌, ◌≤◌, ℕ, [], length, insert, remove, set, slice_index, OnOk, IsTrue, IsFalse};
 ghost use Rattle.std.specs.List.Sorted.{IsStrictlyIncreasing};
 ghost use Rattle.olr_spec.specs.Extension.{has};
 
+use crate::few::{FEW, Few};
 use crate::ids::LineId;
 use crate::read::LineEnd;
-use smallvec::SmallVec;
 use std::alloc::{AllocError, Global};
 
-/// The numbers of lines, rising, and beside each the line's far end. Up to four need no memory of their own.
+/// The numbers of lines, rising, and beside each the line's far end.
 #[derive(Drop, Debug)]
-pub struct Links {
-    pub lines: SmallVec<LineId, 4>,
-    pub ends: SmallVec<LineEnd, 4>,
+pub enum Links {
+    /// As many as stand in the value itself.
+    Few(Few),
+    /// Where there are more, or have been.
+    Many(Many),
+}
+
+/// The numbers of lines, and beside each the line's far end, in memory of their own.
+#[derive(Drop, Debug)]
+pub struct Many {
+    pub lines: Vec<LineId>,
+    pub ends: Vec<LineEnd>,
     ghost beside: { length ends.items ≡ length lines.items },
-    ghost lines_fit: { length lines.items ≤ lines.capacity },
-    ghost ends_fit: { length ends.items ≤ ends.capacity },
 }
 
 impl Links {
-    ghost use Rattle.olr_map.specs.Linked.{spare_links, IsReset};
+    ghost use Rattle.olr_map.specs.Linked.{lines_on, ends_on, spare_links, IsReset};
 
     /// No lines. Takes no memory.
-    pub fn new(alloc: Global) -> Links
-        ensures lines { result.lines.items ≡ [] }
-        ensures ends { result.ends.items ≡ [] }
+    pub fn new() -> Links
+        ensures lines { lines_on result ≡ [] }
+        ensures ends { ends_on result ≡ [] }
     {
-        Links {
-            lines: SmallVec::new(alloc),
-            ends: SmallVec::new(alloc),
+        Links::Few(Few::new())
+    }
+
+    /// The lines.
+    pub fn lines(&self) -> &[LineId]
+        ensures { result.now ≡ lines_on self.now }
+    {
+        match self {
+            Links::Few(few) => few.lines(),
+            Links::Many(many) => many.lines.as_slice(),
+        }
+    }
+
+    /// Their far ends.
+    pub fn ends(&self) -> &[LineEnd]
+        ensures { result.now ≡ ends_on self.now }
+    {
+        match self {
+            Links::Few(few) => few.ends(),
+            Links::Many(many) => many.ends.as_slice(),
         }
     }
 
     /// Makes room for one more line.
-    pub fn reserve(&mut self) -> Result<(), AllocError>
-        ensures lines { self.new.lines.items ≡ self.old.lines.items }
-        ensures ends { self.new.ends.items ≡ self.old.ends.items }
+    pub fn reserve(&mut self, alloc: Global) -> Result<(), AllocError>
+        ensures lines { lines_on self.new ≡ lines_on self.old }
+        ensures ends { ends_on self.new ≡ ends_on self.old }
         ensures more { spare_links self.old ≤ spare_links self.new }
         ensures room { OnOk result (0 < spare_links self.new) }
     {
-        self.lines.reserve(1)?;
-        self.ends.reserve(1)
+        match self {
+            Links::Few(few) => {
+                if few.lines().len() < FEW {
+                    return Ok(());
+                }
+                let many = Many::with_room(alloc, few)?;
+                *self = Links::Many(many);
+                Ok(())
+            }
+            Links::Many(many) => {
+                many.lines.reserve(1)?;
+                many.ends.reserve(1)
+            }
+        }
     }
 
     /// Puts in a line that is not among them. There is room for it.
     pub fn link(&mut self, id: LineId, end: LineEnd)
-        requires rising { IsStrictlyIncreasing self.old.lines.items }
-        requires absent { IsFalse (has self.old.lines.items id) }
+        requires rising { IsStrictlyIncreasing (lines_on self.old) }
+        requires absent { IsFalse (has (lines_on self.old) id) }
         requires room { 0 < spare_links self.old }
-        ensures rising { IsStrictlyIncreasing self.new.lines.items }
-        ensures put { (i : ℕ) × (i ≤ length self.old.lines.items)
-            × (self.new.lines.items ≡ insert self.old.lines.items i id)
-            × (self.new.ends.items ≡ insert self.old.ends.items i end) }
+        ensures rising { IsStrictlyIncreasing (lines_on self.new) }
+        ensures put { (i : ℕ) × (i ≤ length (lines_on self.old))
+            × (lines_on self.new ≡ insert (lines_on self.old) i id)
+            × (ends_on self.new ≡ insert (ends_on self.old) i end) }
         ensures room { spare_links self.new + 1 ≡ spare_links self.old }
     {
-        match self.lines.as_slice().binary_search(&id) {
+        match self.lines().binary_search(&id) {
             Ok(_) => unreachable!(),
-            Err(at) => {
-                let lines = self.lines.insert(at, id);
-                let ends = self.ends.insert(at, end);
+            Err(at) => self.insert(at, id, end),
+        }
+    }
+
+    /// Takes out a line that is among them. Its place stays free.
+    pub fn unlink(&mut self, id: LineId)
+        requires rising { IsStrictlyIncreasing (lines_on self.old) }
+        requires there { IsTrue (has (lines_on self.old) id) }
+        ensures rising { IsStrictlyIncreasing (lines_on self.new) }
+        ensures taken { (i : ℕ) × (i < length (lines_on self.old))
+            × (slice_index (lines_on self.old) i ≡ id)
+            × (lines_on self.new ≡ remove (lines_on self.old) i)
+            × (ends_on self.new ≡ remove (ends_on self.old) i) }
+        ensures room { spare_links self.new ≡ spare_links self.old + 1 }
+    {
+        match self.lines().binary_search(&id) {
+            Ok(at) => self.remove(at),
+            Err(_) => unreachable!(),
+        }
+    }
+
+    /// Gives a line that is among them another far end.
+    pub fn set_end(&mut self, id: LineId, end: LineEnd)
+        requires rising { IsStrictlyIncreasing (lines_on self.old) }
+        requires there { IsTrue (has (lines_on self.old) id) }
+        ensures { IsReset self.old self.new id end }
+    {
+        match self.lines().binary_search(&id) {
+            Ok(at) => self.set_at(at, end),
+            Err(_) => unreachable!(),
+        }
+    }
+
+    /// Puts a line in at this place among them. There is room for it.
+    fn insert(&mut self, at: usize, id: LineId, end: LineEnd)
+        requires within { at ≤ length (lines_on self.old) }
+        requires room { 0 < spare_links self.old }
+        ensures lines { lines_on self.new ≡ insert (lines_on self.old) at id }
+        ensures ends { ends_on self.new ≡ insert (ends_on self.old) at end }
+        ensures room { spare_links self.new + 1 ≡ spare_links self.old }
+    {
+        match self {
+            Links::Few(few) => few.insert(at, id, end),
+            Links::Many(many) => {
+                let lines = many.lines.insert(at, id);
+                let ends = many.ends.insert(at, end);
                 match (lines, ends) {
                     (Ok(()), Ok(())) => {}
                     _ => unreachable!(),
@@ -67,37 +146,53 @@ impl Links {
         }
     }
 
-    /// Takes out a line that is among them. Its place stays free.
-    pub fn unlink(&mut self, id: LineId)
-        requires rising { IsStrictlyIncreasing self.old.lines.items }
-        requires there { IsTrue (has self.old.lines.items id) }
-        ensures rising { IsStrictlyIncreasing self.new.lines.items }
-        ensures taken { (i : ℕ) × (i < length self.old.lines.items)
-            × (slice_index self.old.lines.items i ≡ id)
-            × (self.new.lines.items ≡ remove self.old.lines.items i)
-            × (self.new.ends.items ≡ remove self.old.ends.items i) }
+    /// Takes the line at this place out.
+    fn remove(&mut self, at: usize)
+        requires { at < length (lines_on self.old) }
+        ensures lines { lines_on self.new ≡ remove (lines_on self.old) at }
+        ensures ends { ends_on self.new ≡ remove (ends_on self.old) at }
         ensures room { spare_links self.new ≡ spare_links self.old + 1 }
     {
-        match self.lines.as_slice().binary_search(&id) {
-            Ok(at) => {
-                let _ = self.lines.remove(at);
-                let _ = self.ends.remove(at);
+        match self {
+            Links::Few(few) => few.remove(at),
+            Links::Many(many) => {
+                let _ = many.lines.remove(at);
+                let _ = many.ends.remove(at);
             }
-            Err(_) => unreachable!(),
         }
     }
 
-    /// Gives a line that is among them another far end.
-    pub fn set_end(&mut self, id: LineId, end: LineEnd)
-        requires rising { IsStrictlyIncreasing self.old.lines.items }
-        requires there { IsTrue (has self.old.lines.items id) }
-        ensures { IsReset self.old self.new id end }
+    /// Gives the line at this place another far end.
+    fn set_at(&mut self, at: usize, end: LineEnd)
+        requires { at < length (lines_on self.old) }
+        ensures lines { lines_on self.new ≡ lines_on self.old }
+        ensures ends { ends_on self.new ≡ set (ends_on self.old) at end }
+        ensures room { spare_links self.new ≡ spare_links self.old }
     {
-        match self.lines.as_slice().binary_search(&id) {
-            Ok(at) => {
-                self.ends.as_mut_slice()[at] = end;
+        match self {
+            Links::Few(few) => few.set_end(at, end),
+            Links::Many(many) => {
+                many.ends[at] = end;
             }
-            Err(_) => unreachable!(),
         }
+    }
+}
+
+impl Many {
+    ghost use Rattle.std.specs.Prelude.{IfOk, take};
+    ghost use Rattle.olr_map.specs.Linked.{spare_links};
+    ghost use Rattle.olr_map.specs.declared.links.Links.TheVariants.{Many as Spilled};
+
+    /// These lines, with room for as many again.
+    fn with_room(alloc: Global, few: &Few) -> Result<Many, AllocError>
+        ensures lines { IfOk result (λ m. m.lines.items ≡ take few.now.count few.now.lines) }
+        ensures ends { IfOk result (λ m. m.ends.items ≡ take few.now.count few.now.ends) }
+        ensures room { IfOk result (λ m. 0 < spare_links (Spilled m)) }
+    {
+        let mut lines = Vec::with_capacity(alloc, 2 * FEW)?;
+        let mut ends = Vec::with_capacity(alloc, 2 * FEW)?;
+        lines.extend_from_slice(few.lines())?;
+        ends.extend_from_slice(few.ends())?;
+        Ok(Many { lines, ends })
     }
 }

@@ -39,7 +39,7 @@ impl Slots {
     ghost use Rattle.olr_map.specs.Slotted.{at, Comes, Goes, Turns};
     ghost use Rattle.olr_map.specs.NodeSlots.{slots_of, room_in};
     ghost use Rattle.olr_map.specs.NodeLinks.{links_at, relinked};
-    ghost use Rattle.olr_map.specs.Linked.{spare_links, IsLinked, IsUnlinked, IsReset};
+    ghost use Rattle.olr_map.specs.Linked.{lines_on, ends_on, spare_links, IsLinked, IsUnlinked, IsReset};
     ghost use Rattle.olr_spec.specs.Extension.{has};
     ghost use Rattle.olr_map.specs.declared.links.Links.{Links as AllLinks};
     ghost use Rattle.olr_map.specs.declared.slots.NodeEntry.{NodeEntry as Entry};
@@ -144,14 +144,15 @@ impl Slots {
         requires { IsSome (at (slots_of self.old) slot) }
         ensures turns { (e : Entry) × (l : AllLinks)
             × Turns (slots_of self.old) (slots_of self.new) slot e (relinked side e l)
-            × (l.lines.items ≡ (links_at side e).lines.items) × (l.ends.items ≡ (links_at side e).ends.items)
+            × (lines_on l ≡ lines_on (links_at side e)) × (ends_on l ≡ ends_on (links_at side e))
             × (spare_links (links_at side e) ≤ spare_links l) × OnOk result (0 < spare_links l) }
         ensures room { room_in self.new ≡ room_in self.old }
     {
+        let alloc = *self.entries.allocator();
         match &mut self.entries[slot as usize] {
             Some(entry) => match side {
-                Side::Out => entry.outs.reserve(),
-                Side::In => entry.ins.reserve(),
+                Side::Out => entry.outs.reserve(alloc),
+                Side::In => entry.ins.reserve(alloc),
             },
             None => unreachable!(),
         }
@@ -160,8 +161,8 @@ impl Slots {
     /// Puts a line in on one side of the node in a slot. There is room for it.
     pub fn link(&mut self, side: Side, slot: u32, id: LineId, end: LineEnd)
         requires { (e : Entry) × (at (slots_of self.old) slot ≡ Some e)
-            × IsStrictlyIncreasing (links_at side e).lines.items
-            × IsFalse (has (links_at side e).lines.items id)
+            × IsStrictlyIncreasing (lines_on (links_at side e))
+            × IsFalse (has (lines_on (links_at side e)) id)
             × (0 < spare_links (links_at side e)) }
         ensures turns { (e : Entry) × (l : AllLinks)
             × Turns (slots_of self.old) (slots_of self.new) slot e (relinked side e l)
@@ -180,8 +181,8 @@ impl Slots {
     /// Takes a line out on one side of the node in a slot. Its place there stays free.
     pub fn unlink(&mut self, side: Side, slot: u32, id: LineId)
         requires { (e : Entry) × (at (slots_of self.old) slot ≡ Some e)
-            × IsStrictlyIncreasing (links_at side e).lines.items
-            × IsTrue (has (links_at side e).lines.items id) }
+            × IsStrictlyIncreasing (lines_on (links_at side e))
+            × IsTrue (has (lines_on (links_at side e)) id) }
         ensures turns { (e : Entry) × (l : AllLinks)
             × Turns (slots_of self.old) (slots_of self.new) slot e (relinked side e l)
             × IsUnlinked (links_at side e) l id }
@@ -199,8 +200,8 @@ impl Slots {
     /// Gives a line on one side of the node in a slot another far end.
     pub fn set_end(&mut self, side: Side, slot: u32, id: LineId, end: LineEnd)
         requires { (e : Entry) × (at (slots_of self.old) slot ≡ Some e)
-            × IsStrictlyIncreasing (links_at side e).lines.items
-            × IsTrue (has (links_at side e).lines.items id) }
+            × IsStrictlyIncreasing (lines_on (links_at side e))
+            × IsTrue (has (lines_on (links_at side e)) id) }
         ensures turns { (e : Entry) × (l : AllLinks)
             × Turns (slots_of self.old) (slots_of self.new) slot e (relinked side e l)
             × IsReset (links_at side e) l id end }

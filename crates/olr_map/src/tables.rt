@@ -45,28 +45,28 @@ impl MapRead for Tables {
 
     fn out_lines(&self, id: NodeId) -> &[LineId] {
         match self.index.get(id.number()) {
-            Some(slot) => self.nodes.entry(*slot).outs.lines.as_slice(),
+            Some(slot) => self.nodes.entry(*slot).outs.lines(),
             None => &[],
         }
     }
 
     fn in_lines(&self, id: NodeId) -> &[LineId] {
         match self.index.get(id.number()) {
-            Some(slot) => self.nodes.entry(*slot).ins.lines.as_slice(),
+            Some(slot) => self.nodes.entry(*slot).ins.lines(),
             None => &[],
         }
     }
 
     fn out_ends(&self, id: NodeId) -> &[LineEnd] {
         match self.index.get(id.number()) {
-            Some(slot) => self.nodes.entry(*slot).outs.ends.as_slice(),
+            Some(slot) => self.nodes.entry(*slot).outs.ends(),
             None => &[],
         }
     }
 
     fn in_ends(&self, id: NodeId) -> &[LineEnd] {
         match self.index.get(id.number()) {
-            Some(slot) => self.nodes.entry(*slot).ins.ends.as_slice(),
+            Some(slot) => self.nodes.entry(*slot).ins.ends(),
             None => &[],
         }
     }
@@ -80,11 +80,11 @@ impl MapRead for Tables {
     }
 
     fn out_ends_at(&self, place: u32) -> &[LineEnd] {
-        self.nodes.entry(place).outs.ends.as_slice()
+        self.nodes.entry(place).outs.ends()
     }
 
     fn in_ends_at(&self, place: u32) -> &[LineEnd] {
-        self.nodes.entry(place).ins.ends.as_slice()
+        self.nodes.entry(place).ins.ends()
     }
 
     ghost sound = { λ t. t.kept.sound };

@@ -1,6 +1,6 @@
 use Rattle.std.proofs.Common.{◌≡◌, true, false, Ok, Err}
-use Rattle.std.specs.List.Sorted.{IsStrictlyIncreasing}
 use Rattle.olr_spec.specs.Extension.{has}
+use Rattle.olr_map.specs.Linked.{lines_on}
 use Rattle.olr_map.specs.Places.{Place}
 use Rattle.olr_map.proofs.Rising.{place_of}
 use Rattle.olr_map.proofs.Numbers.{place_not, rises-remove}
@@ -8,15 +8,14 @@ use Rattle.olr_map.proofs.links.Links.unlink.Goals as goal
 
 pub unreachable-requires : goal.unreachable-requires
 unreachable-requires c =
-    let xs = c.args.self.now.lines.items in
-    let place : Place xs c.args.id (Err c.in-Err.field-0) = place_of xs c.args.id (Err c.in-Err.field-0) c.requires.rising (rw c.as_slice.ensures at c.in-Err.ensures.position) in
+    let xs = lines_on c.args.self.now in
+    let place : Place xs c.args.id (Err c.in-Err.field-0) = place_of xs c.args.id (Err c.in-Err.field-0) c.requires.rising (rw c.lines.ensures at c.in-Err.ensures.position) in
     let absent : has xs c.args.id ≡ false = place_not xs c.args.id c.in-Err.field-0 place in
     let there : has xs c.args.id ≡ true = c.requires.there in
     cc
 
 pub returns-clause-rising : goal.returns-clause-rising
 returns-clause-rising c =
-    let xs = c.args.self.now.lines.items in
-    let place : Place xs c.args.id (Ok c.in-Ok.at) = place_of xs c.args.id (Ok c.in-Ok.at) c.requires.rising (rw c.as_slice.ensures at c.in-Ok.ensures.position) in
-    let up : IsStrictlyIncreasing c.remove.new.self.items = rw c.remove.ensures.items (rises-remove xs c.in-Ok.at c.requires.rising place.0) in
-    up
+    let xs = lines_on c.args.self.now in
+    let place : Place xs c.args.id (Ok c.in-Ok.at) = place_of xs c.args.id (Ok c.in-Ok.at) c.requires.rising (rw c.lines.ensures at c.in-Ok.ensures.position) in
+    rw c.remove.ensures.lines (rises-remove xs c.in-Ok.at c.requires.rising place.0)

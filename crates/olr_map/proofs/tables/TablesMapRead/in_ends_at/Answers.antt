@@ -13,4 +13,4 @@ entry-requires c =
 pub returns : goal.returns
 returns c = λ v h e.
     let t = c.args.self.now in
-    c.as_slice.ensures ∙ (listed_at t In v c.args.place c.entry.result.now (slot_is t v c.args.place h e) c.entry.ensures).ends
+    c.ends.ensures ∙ (listed_at t In v c.args.place c.entry.result.now (slot_is t v c.args.place h e) c.entry.ensures).ends

@@ -19,7 +19,7 @@ pub returns-in-Some : goal.returns-in-Some
 returns-in-Some c =
     let t = c.args.self.now in
     let here = ap (found t.index) (sym c.number.ensures.same) ∙ sym c.in-Some.ensures in
-    c.as_slice.ensures ∙ (listed_at t Out c.args.id c.in-Some.slot.now c.entry.result.now here c.entry.ensures).ends
+    c.ends.ensures ∙ (listed_at t Out c.args.id c.in-Some.slot.now c.entry.result.now here c.entry.ensures).ends
 
 pub returns-in-None : goal.returns-in-None
 returns-in-None c =
