@@ -1,8 +1,8 @@
 -- Fields: the bytes of one at its place, and as text.
-use Rattle.std.proofs.Common.{◌≡◌, ℕ, zero, suc, ◌<◌, Bool, true, ◌&&◌, List, [], ◌∷◌, length, None, nat_le, nat_lt, refl, arith, rules}
+use Rattle.std.proofs.Common.{◌≡◌, ℕ, zero, suc, ◌<◌, Bool, true, ◌&&◌, List, [], ◌∷◌, length, None, nat_le, refl, arith, rules}
 use Rattle.std.specs.Prelude.{IsAscii, IsUtf8, slice_index_or}
 use Rattle.std.specs.List.{list_all}
-use Rattle.std.proofs.lemmas.Bool.{and_parts, ltb-true}
+use Rattle.std.proofs.lemmas.Bool.{and_parts}
 use Rattle.std.proofs.lemmas.Bool.Decides.{nat_tests}
 use Rattle.std.proofs.lemmas.Str.{IsUtf8-from_ascii}
 use Rattle.csv.specs.Records.{field_at}
@@ -25,13 +25,6 @@ module _ (p : ℕ → Bool) (low : (c : ℕ) → p c ≡ true → c < 128) where
 
   text_of_bytes : (f : Field) → list_all p f ≡ true → IsUtf8 f
   text_of_bytes f h = IsUtf8-from_ascii f (ascii f h)
-
--- bytes below 128
-abbrev pub is_low : ℕ → Bool
-is_low c = nat_lt c 128
-
-pub low-text : (f : Field) → list_all is_low f ≡ true → IsUtf8 f
-low-text f h = text_of_bytes is_low (λ c l. ltb-true c 128 l) f h
 
 name_low : (c : ℕ) → is_name_byte c ≡ true → c < 128
 name_low c h = grind (arith, nat_tests)

@@ -1,13 +1,7 @@
 -- Rows by the places of their fields.
-use Rattle.std.proofs.Common.{◌≡◌, ◌≤◌, Bool, true, false, List, [], ◌∷◌, length, drop, Ok, Err, refl, sym, subst, arith}
-use Rattle.std.specs.Prelude.{IsUtf8}
-use Rattle.std.specs.List.{list_all}
-use Rattle.std.proofs.lemmas.Bool.{and_parts}
-use Rattle.std.proofs.lemmas.Slice.Eq.{bytes_eq-Decides}
+use Rattle.std.proofs.Common.{◌≡◌, ◌≤◌, List, [], ◌∷◌, length, drop, Ok, refl, arith}
 use Rattle.olr_spec.specs.Map.{Add_line, Set_line}
-use Rattle.olr_commands.specs.State.{same_name, Command}
-use Rattle.olr_records.specs.Records.{Field, Read, Bad_form, ◌⊛◌, number, numbers, amount, name, place, node_fields, course, whole_line, line_row, set_line_row, path_fields, rows, read_by, read}
-use Rattle.olr_records.proofs.FieldLemmas.{is_low, low-text}
+use Rattle.olr_records.specs.Records.{Field, ◌⊛◌, number, numbers, amount, name, place, node_fields, course, whole_line, line_row, set_line_row, path_fields}
 use Rattle.olr_records.proofs.LoopLemmas.{at}
 
 pub line-row : (fs : List Field) → 7 ≤ length fs
@@ -45,19 +39,3 @@ node-fields (a ∷ b ∷ []) h = absurd (omega arith)
 node-fields (a ∷ b ∷ c ∷ []) h = absurd (omega arith)
 node-fields (a ∷ b ∷ c ∷ d ∷ []) h = refl
 node-fields (a ∷ b ∷ c ∷ d ∷ e ∷ fs) h = absurd (omega arith)
-
--- a word that is no text begins no row
-module _ (word : Field) (other : ¬ IsUtf8 word) (fs : List Field) where
-  differs : (w : Field) → list_all is_low w ≡ true → (b : Bool) → same_name word w ≡ b → b ≡ false
-  differs w low false e = refl
-  differs w low true e = absurd (other (subst IsUtf8 (sym ((bytes_eq-Decides word w).0 e)) (low-text w low)))
-
-  no_row : (rs : List (Field × (List Field → Read Command))) → list_all (λ r. list_all is_low r.0) rs ≡ true → read_by rs word fs ≡ Err Bad_form
-  no_row [] h = refl
-  no_row (r ∷ rs) h =
-      let p = and_parts (list_all is_low r.0) (list_all (λ q. list_all is_low q.0) rs) h in
-      rw (differs r.0 p.0 (same_name word r.0) refl) (no_row rs p.1)
-
-pub no-word : (fs : List Field) → ¬ IsUtf8 (at fs 0) → read fs ≡ Err Bad_form
-no-word [] other = refl
-no-word (word ∷ fs) other = no_row word other fs rows refl

@@ -23,33 +23,46 @@ pub fn read_command(alloc: Global, row: &ByteRecord) -> Result<Command, ReadFaul
     if row.is_empty() {
         return Err(ReadFault::Syntax);
     }
-    match std::str::from_utf8(field(row, 0)) {
-        Ok(word) => read_by(alloc, word, row),
-        Err(_) => Err(ReadFault::Syntax),
-    }
+    read_by(alloc, field(row, 0), row)
 }
 
-/// The command of a record that begins with this word.
-fn read_by(alloc: Global, word: &str, row: &ByteRecord) -> Result<Command, ReadFault>
+/// The command of a record that begins with this word. The words of most records are tried first.
+fn read_by(alloc: Global, word: &[u8], row: &ByteRecord) -> Result<Command, ReadFault>
     ensures { IsRead (records.read_by records.rows word.now (drop 1 (fields_of row.now))) result }
 {
-    match word {
-        "node" => add_node(row),
-        "move" => move_node(row),
-        "drop-node" => drop_node(row),
-        "line" => add_line(alloc, row),
-        "set-line" => set_line(alloc, row),
-        "drop-line" => drop_line(row),
-        "path" => add_path(alloc, row),
-        "repath" => set_path(alloc, row),
-        "drop-path" => drop_path(alloc, row),
-        "show" => show(alloc, row),
-        "report" => alone(row, Command::Report),
-        "explain" => explain(alloc, row),
-        "begin" => alone(row, Command::Begin),
-        "commit" => commit(row),
-        "abort" => alone(row, Command::Abort),
-        _ => Err(ReadFault::Syntax),
+    let is = |text: &[u8]| word == text;
+    if is(b"line") {
+        add_line(alloc, row)
+    } else if is(b"node") {
+        add_node(row)
+    } else if is(b"explain") {
+        explain(alloc, row)
+    } else if is(b"path") {
+        add_path(alloc, row)
+    } else if is(b"set-line") {
+        set_line(alloc, row)
+    } else if is(b"move") {
+        move_node(row)
+    } else if is(b"drop-line") {
+        drop_line(row)
+    } else if is(b"drop-node") {
+        drop_node(row)
+    } else if is(b"repath") {
+        set_path(alloc, row)
+    } else if is(b"drop-path") {
+        drop_path(alloc, row)
+    } else if is(b"show") {
+        show(alloc, row)
+    } else if is(b"begin") {
+        alone(row, Command::Begin)
+    } else if is(b"commit") {
+        commit(row)
+    } else if is(b"abort") {
+        alone(row, Command::Abort)
+    } else if is(b"report") {
+        alone(row, Command::Report)
+    } else {
+        Err(ReadFault::Syntax)
     }
 }
 
