@@ -37,6 +37,20 @@ fn put_byte(line: &mut [u8], end: usize, byte: u8) -> usize
     end - 1
 }
 
+/// Writes a number before what stands from `end` on, and returns where it starts. Most numbers of a point are one digit.
+fn put_byte_number(line: &mut [u8], end: usize, number: u8) -> usize
+    requires within { end ≤ length line.old }
+    requires room { 3 ≤ end }
+    ensures start { result + length (decimal number) ≡ end }
+    ensures written { drop result line.new ≡ decimal number ++ drop end line.old }
+    ensures size { length line.new ≡ length line.old }
+{
+    if number < 10 {
+        return put_byte(line, end, b'0' + number);
+    }
+    write_digits(u64::from(number), line, end)
+}
+
 /// Writes a comma and a number before what stands from `end` on, and returns where they start.
 fn put_number(line: &mut [u8], end: usize, number: u8) -> usize
     requires within { end ≤ length line.old }
@@ -46,7 +60,7 @@ fn put_number(line: &mut [u8], end: usize, number: u8) -> usize
     ensures written { drop result line.new ≡ 44 ∷ decimal number ++ drop end line.old }
     ensures size { length line.new ≡ length line.old }
 {
-    let start = write_digits(u64::from(number), line, end);
+    let start = put_byte_number(line, end, number);
     put_byte(line, start, b',')
 }
 
