@@ -17,8 +17,6 @@ pub mod read;
 pub mod road_map;
 mod slots;
 mod tables;
-#[cfg(test)]
-mod tests;
 pub mod touched;
 pub mod undo;
 
