@@ -25,6 +25,3 @@ pub use labels::Labels;
 pub use routes::{GREATEST_LIMIT, search};
 pub use walks::{extends_least, extends_sole, is_least, is_sole};
 pub use work::Work;
-
-#[cfg(test)]
-mod tests;

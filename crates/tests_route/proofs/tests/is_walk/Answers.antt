@@ -1,10 +1,9 @@
-use Rattle.std.proofs.Common.{◌≡◌, ◌+◌, ℕ, List, ◌∷◌, [], ◌++◌, take, IsTrue, rules, sym, subst, ap, ◌∙◌}
+use Rattle.std.proofs.Common.{◌≡◌, ◌+◌, ℕ, List, ◌∷◌, [], ◌++◌, take, IsTrue, rules, refl, sym, subst, ap, ◌∙◌}
 use Rattle.std.proofs.lemmas.List.{take_all, take_more}
 use Rattle.olr_spec.specs.Map.{has_line, start, end}
 use Rattle.olr_spec.specs.Walks.{Walk}
-use Rattle.olr_route.proofs.EqualLemmas.{agree}
-use Rattle.olr_route.proofs.WalkEnds.{walk_on}
-use Rattle.olr_route.proofs.tests.is_walk.Goals as goal
+use Rattle.olr_spec.proofs.WalkLemmas.{Walk-append}
+use Rattle.tests_route.proofs.tests.is_walk.Goals as goal
 
 pub loop-id-preserved : goal.loop-id-preserved
 loop-id-preserved g c =
@@ -12,10 +11,10 @@ loop-id-preserved g c =
     let lines = c.args.lines.now in
     let x = c.id-item.result in
     let known : IsTrue (has_line M x) = search rules in
-    let from : start M x ≡ c.loop-id.at = sym c.start_of-from.ensures.start ∙ agree c.start_of-from.result.0 c.loop-id.at c.if-ne.ensures in
-    let walk = walk_on M c.args.source x (take c.loop-id.id-index lines) (subst (λ (v : ℕ). Walk M c.args.source v (take c.loop-id.id-index lines)) (sym from) c.loop-id.invariant) known in
+    let from : start M x ≡ c.loop-id.at = search rules in
+    let walk : Walk M c.args.source (end M x) (take c.loop-id.id-index lines ++ x ∷ []) = Walk-append M c.args.source c.loop-id.at (end M x) (take c.loop-id.id-index lines) (x ∷ []) c.loop-id.invariant (known, from, refl) in
     let more : take (c.loop-id.id-index + 1) lines ≡ take c.loop-id.id-index lines ++ x ∷ [] = take_more lines c.loop-id.id-index x c.loop-id-test.true ∙ ap (λ (n : ℕ). take c.loop-id.id-index lines ++ n ∷ []) (sym c.id-item.is) in
-    subst (λ (v : ℕ). Walk M c.args.source v (take (c.loop-id.id-index + 1) lines)) (sym c.end_of-to.ensures.end)
+    subst (λ (v : ℕ). Walk M c.args.source v (take (c.loop-id.id-index + 1) lines)) (sym c.end_of-at.ensures)
     (subst (λ (zs : List ℕ). Walk M c.args.source (end M x) zs) (sym more) walk)
 
 pub returns : goal.returns

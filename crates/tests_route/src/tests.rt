@@ -1,19 +1,32 @@
 //! Searches and walks on small maps.
-ghost use Rattle.std.specs.Prelude.{◌≡◌, ◌≤◌, ℕ};
+ghost use Rattle.std.specs.Prelude.{◌≡◌, ◌≤◌, ℕ, IsTrue};
 ghost use Rattle.std.specs.Bool.{OnTrue};
+ghost use Rattle.olr_spec.specs.Map.{has_line, start, end};
 ghost use Rattle.olr_spec.specs.Walks.{Walk};
 ghost use Rattle.olr_route.specs.Labels.{AreLabels};
 
-use crate::lines::{end_of, start_of};
-use crate::{
+use olr_coords::Coord;
+use olr_map::{Edit, Footprint, Line, LineId, MapRead, NodeId, RoadMap};
+use olr_route::{
     Direction, GREATEST_LIMIT, Labels, Search, Work, extends_least, extends_sole, is_least,
     is_sole, near, plain, search,
 };
-use olr_coords::Coord;
-use olr_map::{Edit, Footprint, Line, LineId, MapRead, NodeId, RoadMap};
 use std::alloc::Global;
+use std::fmt::Debug;
 use std::process::Abort;
 use std::test::Fail;
+
+/// That two values are the same. One call is proved sooner than the branches of `assert_eq!` at each place.
+fn same<T: PartialEq + Debug + Drop>(rt: &impl Abort, found: T, wanted: T, what: &str) {
+    assert_eq!(rt; found, wanted, "{what}");
+}
+
+/// The same, told by what was asked for.
+macro_rules! same {
+    ($rt:expr; $found:expr, $wanted:expr) => {
+        same($rt, $found, $wanted, stringify!($found))
+    };
+}
 
 fn node(rt: &impl Abort, number: u32) -> NodeId {
     NodeId::new(number).expect(rt, "a node's number")
@@ -107,6 +120,22 @@ fn labels_from<M: MapRead>(
     }
 }
 
+/// The node where a line begins.
+fn start_of<M: MapRead>(map: &M, line: LineId) -> NodeId
+    requires { IsTrue (has_line (M.map map.now) line) }
+    ensures { result ≡ start (M.map map.now) line }
+{
+    map.line(line).unwrap().from
+}
+
+/// The node where a line ends.
+fn end_of<M: MapRead>(map: &M, line: LineId) -> NodeId
+    requires { IsTrue (has_line (M.map map.now) line) }
+    ensures { result ≡ end (M.map map.now) line }
+{
+    map.line(line).unwrap().to
+}
+
 /// Whether the lines are in the map, the first begins at the source and each other where the one before ends.
 fn is_walk<M: MapRead>(map: &M, source: NodeId, lines: &[LineId]) -> bool
     ensures { OnTrue result ((t : ℕ) × Walk (M.map map.now) source t lines.now) }
@@ -116,12 +145,11 @@ fn is_walk<M: MapRead>(map: &M, source: NodeId, lines: &[LineId]) -> bool
         if map.line(*id).is_none() {
             return false;
         }
-        let (from, _) = start_of(map, *id);
+        let from = start_of(map, *id);
         if from != at {
             return false;
         }
-        let (to, _) = end_of(map, *id);
-        at = to;
+        at = end_of(map, *id);
     }
     true
 }
@@ -164,28 +192,22 @@ fn search_on_the_base_map(rt: HostRuntime) -> Result<(), Fail> {
     let mut footprint = Footprint::new(rt.alloc());
     let mut work = Work::default();
     let labels = search(rt.alloc(), &map, source, 150_000, &mut footprint, &mut work)?;
-    assert_eq!(rt; label(&rt, &labels, 1), (None, None));
-    assert_eq!(rt; label(&rt, &labels, 2), (Some(0), None));
-    assert_eq!(rt; label(&rt, &labels, 3), (Some(1500), Some(99)));
-    assert_eq!(rt; label(&rt, &labels, 4), (Some(2240), Some(30)));
-    assert_eq!(rt;
-        footprint.as_slice(),
-        [source, node(&rt, 3), node(&rt, 4)].as_slice()
-    );
-    assert_eq!(rt;
-        work,
-        Work {
+    same!(&rt; label(&rt, &labels, 1), (None, None));
+    same!(&rt; label(&rt, &labels, 2), (Some(0), None));
+    same!(&rt; label(&rt, &labels, 3), (Some(1500), Some(99)));
+    same!(&rt; label(&rt, &labels, 4), (Some(2240), Some(30)));
+    same!(&rt; footprint.as_slice(), [source, node(&rt, 3), node(&rt, 4)].as_slice());
+    same!(&rt; work, Work {
             encodings: 0,
             searches: 1,
             settled: 3
-        }
-    );
+        });
 
     for (limit, end) in [(1500, Some(1500)), (1499, None)] {
         let near = labels_from(&rt, rt.alloc(), &map, source, limit);
-        assert_eq!(rt; label(&rt, &near, 2), (Some(0), None));
-        assert_eq!(rt; near.dist(node(&rt, 3)), end);
-        assert_eq!(rt; label(&rt, &near, 4), (None, None));
+        same!(&rt; label(&rt, &near, 2), (Some(0), None));
+        same!(&rt; near.dist(node(&rt, 3)), end);
+        same!(&rt; label(&rt, &near, 4), (None, None));
     }
 
     let tie = Edit::SetLine {
@@ -197,7 +219,7 @@ fn search_on_the_base_map(rt: HostRuntime) -> Result<(), Fail> {
     };
     edit(&rt, &mut map, tie);
     let tied = labels_from(&rt, rt.alloc(), &map, source, GREATEST_LIMIT);
-    assert_eq!(rt; label(&rt, &tied, 3), (Some(2000), Some(20)));
+    same!(&rt; label(&rt, &tied, 3), (Some(2000), Some(20)));
     Ok(())
 }
 
@@ -211,30 +233,18 @@ fn least_and_sole_walks(rt: HostRuntime) {
         (&[99, 30], true),
         (&[20], false),
     ] {
-        assert_eq!(rt;
-            judged(&rt, rt.alloc(), &map, source, lines),
-            (least, least)
-        );
+        same!(&rt; judged(&rt, rt.alloc(), &map, source, lines), (least, least));
     }
 
     let map = diamond(&rt, rt.alloc());
     let source = node(&rt, 1);
     let labels = labels_from(&rt, rt.alloc(), &map, source, GREATEST_LIMIT);
-    assert_eq!(rt; label(&rt, &labels, 4), (Some(200), Some(7)));
-    assert_eq!(rt; judged(&rt, rt.alloc(), &map, source, &[]), (true, true));
-    assert_eq!(rt; judged(&rt, rt.alloc(), &map, source, &[6]), (true, true));
-    assert_eq!(rt;
-        judged(&rt, rt.alloc(), &map, source, &[6, 7]),
-        (true, false)
-    );
-    assert_eq!(rt;
-        judged(&rt, rt.alloc(), &map, source, &[5, 8]),
-        (false, false)
-    );
-    assert_eq!(rt;
-        judged(&rt, rt.alloc(), &map, source, &[6, 7, 9]),
-        (true, false)
-    );
+    same!(&rt; label(&rt, &labels, 4), (Some(200), Some(7)));
+    same!(&rt; judged(&rt, rt.alloc(), &map, source, &[]), (true, true));
+    same!(&rt; judged(&rt, rt.alloc(), &map, source, &[6]), (true, true));
+    same!(&rt; judged(&rt, rt.alloc(), &map, source, &[6, 7]), (true, false));
+    same!(&rt; judged(&rt, rt.alloc(), &map, source, &[5, 8]), (false, false));
+    same!(&rt; judged(&rt, rt.alloc(), &map, source, &[6, 7, 9]), (true, false));
 }
 
 #[test]
@@ -244,8 +254,8 @@ fn lines_that_prolong_walks(rt: HostRuntime) {
     for (number, least, sole) in [(6, true, true), (7, true, false), (8, false, false)] {
         let line = line(&rt, number);
         assert!(rt; map.line(line).is_some());
-        assert_eq!(rt; extends_least(&map, &labels, line), least);
-        assert_eq!(rt; extends_sole(&map, &labels, line), sole);
+        same!(&rt; extends_least(&map, &labels, line), least);
+        same!(&rt; extends_sole(&map, &labels, line), sole);
     }
 }
 
@@ -259,15 +269,15 @@ fn loops_and_parallel_lines(rt: HostRuntime) {
     );
     let source = node(&rt, 1);
     let labels = labels_from(&rt, rt.alloc(), &map, source, GREATEST_LIMIT);
-    assert_eq!(rt; label(&rt, &labels, 1), (Some(0), None));
-    assert_eq!(rt; label(&rt, &labels, 2), (Some(100), Some(2)));
-    assert_eq!(rt; judged(&rt, rt.alloc(), &map, source, &[1]), (false, false));
-    assert_eq!(rt; judged(&rt, rt.alloc(), &map, source, &[2]), (true, false));
-    assert_eq!(rt; judged(&rt, rt.alloc(), &map, source, &[3]), (false, false));
+    same!(&rt; label(&rt, &labels, 1), (Some(0), None));
+    same!(&rt; label(&rt, &labels, 2), (Some(100), Some(2)));
+    same!(&rt; judged(&rt, rt.alloc(), &map, source, &[1]), (false, false));
+    same!(&rt; judged(&rt, rt.alloc(), &map, source, &[2]), (true, false));
+    same!(&rt; judged(&rt, rt.alloc(), &map, source, &[3]), (false, false));
 
     let here = labels_from(&rt, rt.alloc(), &map, source, 0);
-    assert_eq!(rt; label(&rt, &here, 1), (Some(0), None));
-    assert_eq!(rt; label(&rt, &here, 2), (None, None));
+    same!(&rt; label(&rt, &here, 1), (Some(0), None));
+    same!(&rt; label(&rt, &here, 2), (None, None));
 }
 
 #[test]
@@ -282,16 +292,13 @@ fn plain_search_on_the_base_map(rt: HostRuntime) -> Result<(), Fail> {
         settled: 0,
     };
     let labels = plain::search(rt.alloc(), &map, source, 150_000, &mut footprint, &mut work)?;
-    assert_eq!(rt; label(&rt, &labels, 3), (Some(1500), Some(99)));
-    assert_eq!(rt; label(&rt, &labels, 4), (Some(2240), Some(30)));
-    assert_eq!(rt;
-        work,
-        Work {
+    same!(&rt; label(&rt, &labels, 3), (Some(1500), Some(99)));
+    same!(&rt; label(&rt, &labels, 4), (Some(2240), Some(30)));
+    same!(&rt; work, Work {
             encodings: 7,
             searches: u64::MAX,
             settled: 3
-        }
-    );
+        });
     Ok(())
 }
 
@@ -366,10 +373,7 @@ fn distances_in_either_direction(rt: HostRuntime) {
         ),
         (Direction::Along, &[], 150_000, [None; 4]),
     ] {
-        assert_eq!(rt;
-            distances(&rt, rt.alloc(), &map, direction, from, limit),
-            found
-        );
+        same!(&rt; distances(&rt, rt.alloc(), &map, direction, from, limit), found);
     }
 
     let ring = made(
@@ -384,14 +388,8 @@ fn distances_in_either_direction(rt: HostRuntime) {
             (5, 1, 2, 15),
         ],
     );
-    assert_eq!(rt;
-        distances(&rt, rt.alloc(), &ring, Direction::Along, &[(1, 0)], 100),
-        [Some(0), Some(10), Some(30), None]
-    );
-    assert_eq!(rt;
-        distances(&rt, rt.alloc(), &ring, Direction::Against, &[(1, 0)], 100),
-        [Some(0), Some(50), Some(30), None]
-    );
+    same!(&rt; distances(&rt, rt.alloc(), &ring, Direction::Along, &[(1, 0)], 100), [Some(0), Some(10), Some(30), None]);
+    same!(&rt; distances(&rt, rt.alloc(), &ring, Direction::Against, &[(1, 0)], 100), [Some(0), Some(50), Some(30), None]);
 }
 
 #[test]
@@ -400,31 +398,31 @@ fn search_step_by_step(rt: HostRuntime) -> Result<(), Fail> {
     let (second, third, fourth) = (node(&rt, 2), node(&rt, 3), node(&rt, 4));
     let mut search = Search::new(rt.alloc());
     search.begin(&map, Direction::Along, &[(second, 0)])?;
-    assert_eq!(rt; search.dist(&map, second), Some(0));
-    assert_eq!(rt; search.dist(&map, third), None);
-    assert_eq!(rt; search.settled(), 1);
+    same!(&rt; search.dist(&map, second), Some(0));
+    same!(&rt; search.dist(&map, third), None);
+    same!(&rt; search.settled(), 1);
     search.settle_to(&map, 1500)?;
-    assert_eq!(rt; search.dist(&map, third), Some(1500));
-    assert_eq!(rt; search.dist(&map, fourth), None);
-    assert_eq!(rt; search.settled(), 2);
+    same!(&rt; search.dist(&map, third), Some(1500));
+    same!(&rt; search.dist(&map, fourth), None);
+    same!(&rt; search.settled(), 2);
     search.settle_to(&map, 700)?;
-    assert_eq!(rt; search.dist(&map, third), Some(1500));
+    same!(&rt; search.dist(&map, third), Some(1500));
     search.settle_to(&map, 2240)?;
-    assert_eq!(rt; search.dist(&map, fourth), Some(2240));
-    assert_eq!(rt; search.settled(), 3);
+    same!(&rt; search.dist(&map, fourth), Some(2240));
+    same!(&rt; search.settled(), 3);
     let reached: [NodeId; 3] = [second, third, fourth];
     for (at, reached) in search.reached().iter().zip(reached) {
-        assert_eq!(rt; at.node, reached);
-        assert_eq!(rt; search.dist_at(at.place), search.dist(&map, reached));
+        same!(&rt; at.node, reached);
+        same!(&rt; search.dist_at(at.place), search.dist(&map, reached));
     }
 
     let other = diamond(&rt, rt.alloc());
     search.begin(&other, Direction::Against, &[(fourth, 0)])?;
     search.settle_to(&other, 100)?;
-    assert_eq!(rt; search.dist(&other, node(&rt, 1)), None);
-    assert_eq!(rt; search.dist(&other, second), Some(100));
-    assert_eq!(rt; search.dist(&other, third), Some(100));
-    assert_eq!(rt; search.settled(), 3);
+    same!(&rt; search.dist(&other, node(&rt, 1)), None);
+    same!(&rt; search.dist(&other, second), Some(100));
+    same!(&rt; search.dist(&other, third), Some(100));
+    same!(&rt; search.settled(), 3);
     Ok(())
 }
 
@@ -440,7 +438,7 @@ fn sole_walks_by_distances(rt: HostRuntime) -> Result<(), Fail> {
         GREATEST_LIMIT,
     )?;
     for (number, sole) in [(5, true), (6, true), (7, false), (8, false), (10, false)] {
-        assert_eq!(rt; search.extends_sole(&map, line(&rt, number)), sole);
+        same!(&rt; search.extends_sole(&map, line(&rt, number)), sole);
     }
 
     let map = made(
@@ -463,7 +461,7 @@ fn sole_walks_by_distances(rt: HostRuntime) -> Result<(), Fail> {
         GREATEST_LIMIT,
     )?;
     for (number, sole) in [(1, false), (2, false), (3, false), (4, true), (5, false)] {
-        assert_eq!(rt; search.extends_sole(&map, line(&rt, number)), sole);
+        same!(&rt; search.extends_sole(&map, line(&rt, number)), sole);
     }
     Ok(())
 }
