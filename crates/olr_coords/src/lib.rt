@@ -10,6 +10,3 @@ pub mod steps;
 pub use coord::Coord;
 pub use degrees::{CoordFault, read_degrees};
 pub use steps::{abs24, from_abs24, from_rel16, rel16};
-
-#[cfg(test)]
-mod tests;

@@ -1,0 +1,5 @@
+//! Tests of coordinates, degrees and steps.
+#![tactic(auto)]
+
+#[cfg(test)]
+mod tests;
