@@ -5,6 +5,3 @@
 pub mod nearness;
 
 pub use nearness::Nearness;
-
-#[cfg(test)]
-mod tests;

@@ -1,8 +1,8 @@
 //! Numbers on small maps, kept right through edits.
 
-use crate::Nearness;
 use olr_coords::Coord;
 use olr_map::{Edit, Line, LineId, NodeId, RoadMap};
+use olr_near::Nearness;
 use std::alloc::Global;
 use std::process::Abort;
 use std::test::Fail;
