@@ -50,6 +50,11 @@ impl Nearness {
         self.known
     }
 
+    /// How many nodes have a number.
+    pub fn len(&self) -> usize {
+        self.numbers.len()
+    }
+
     /// Forgets all sources and numbers, and begins anew. Takes no memory.
     pub fn clear(&mut self)
         ensures { (v : ℕ) → number_of self.new v ≡ None }
