@@ -5,6 +5,7 @@ use Rattle.std.proofs.lemmas.Bool.{cases_lt}
 use Rattle.std.proofs.lemmas.Option.{slice_get_within, get_or_from_slice_get, slice_get_read}
 use Rattle.std.proofs.lemmas.List.Elements.{Contains-get_or}
 use Rattle.olr_spec.specs.Looks.{Look}
+use Rattle.olr_spec.specs.Detours.{Near}
 use Rattle.olr_spec.specs.Map.{Map}
 use Rattle.olr_paths.specs.Items.{Made, Item}
 use Rattle.olr_paths.specs.Changes.{LookTouched}
@@ -14,6 +15,8 @@ use Rattle.olr_route.specs.declared.distances.Direction.TheVariants.{Against}
 use Rattle.olr_spec.specs.Extension.{limit}
 use Rattle.olr_paths.specs.Touching.{nodes_of}
 use Rattle.olr_paths.specs.Searching.{sources, IsAsked, AreAsked, LacksLooks, LackLooks}
+use Rattle.olr_paths.specs.Beginning.{BeginsIn, AreFar}
+use Rattle.olr_paths.proofs.Beginning.{begins_there}
 use Rattle.olr_paths.specs.declared.touched.Touched.{Touched}
 use Rattle.olr_paths.specs.declared.searches.Searches.{Searches}
 
@@ -70,6 +73,14 @@ module _ (N : Map) (place : ℕ → ℕ) (t : Touched) where
     settled = λ off. let never : ⊥ = cc (on, off) in absurd never;
     far = λ _. h;
   }
+
+  far_looks : (made : Option Made) → ((v : ℕ) → BeginsIn made v → ¬ Near N (nodes_of t) v limit) → IfSome made (λ m. ¬ LookTouched N (nodes_of t) m)
+  far_looks None h = tt
+  far_looks (Some m) h = λ look. h look.0.from (look.0, look.1, refl) look.2
+
+  -- where it is told that they are far from all looks
+  pub asked_far : (s : Searches) (is : List Item) → s.far ≡ true → AreFar N (nodes_of t) is → AreAsked N place t s is
+  asked_far s is on far i there = far_made s i.made on (far_looks i.made (λ v b. far v (begins_there is i v there b)))
 
   untouched_made : (made : Option Made) → LacksLooks made → IfSome made (λ m. ¬ LookTouched N (nodes_of t) m)
   untouched_made None h = h

@@ -3,6 +3,7 @@ pub mod Spellings
 pub mod Putting
 pub mod Sets
 pub mod Nearness
+pub mod Beginning
 pub mod AskedLemmas
 pub mod Alls
 pub mod NamedEntries

@@ -4,3 +4,4 @@ pub mod Touching
 pub mod Searching
 pub mod Renewing
 pub mod Laying
+pub mod Beginning

@@ -3,6 +3,7 @@
 #![tactic(auto)]
 
 pub mod asking;
+pub mod begins;
 pub mod detours;
 pub mod encoding;
 pub mod entries;

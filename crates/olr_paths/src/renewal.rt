@@ -1,5 +1,5 @@
 //! Encoding anew what a change of the map can have changed.
-ghost use Rattle.std.specs.Prelude.{◌≡◌, ◌+◌, ◌<◌, ◌≤◌, ◌^◌, ◌∷◌, ◌++◌, [], ◌↔◌, ℕ, Some, map as list_map, option_map, IsTrue, IfOk, IfSome, OnOk, OnErr};
+ghost use Rattle.std.specs.Prelude.{◌≡◌, ◌+◌, ◌<◌, ◌≤◌, ◌^◌, ◌∷◌, ◌++◌, [], ◌↔◌, ◌⊎◌, ℕ, Contains, Some, map as list_map, option_map, IsTrue, IfOk, IfSome, OnOk, OnErr};
 ghost use Rattle.olr_spec.specs.Map.{Map};
 ghost use Rattle.olr_commands.specs.Counts.{CountIs};
 ghost use Rattle.olr_commands.specs.State.{NamesDiffer};
@@ -11,9 +11,11 @@ ghost use Rattle.olr_paths.specs.Changes.{IsBefore, IsConcerned, AreRemade, Repo
 ghost use Rattle.olr_paths.specs.Laying.{overlaid};
 ghost use Rattle.olr_paths.specs.Touching.{nodes_of, lines_of, changed_of};
 ghost use Rattle.olr_paths.specs.Searching.{AreDetours, IsAsked, AreAsked, LacksLooks, LackLooks};
-ghost use Rattle.olr_paths.specs.Renewing.{item_of, all_put, puts_of, renewed, Told, Stays, IsFate, IsStep, OneMore};
+ghost use Rattle.olr_paths.specs.Beginning.{Begins, BeginsPut, AreFar, begun_in};
+ghost use Rattle.olr_paths.specs.Renewing.{item_of, all_put, puts_of, made_at, renewed, Told, Stays, IsFate, IsStep, OneMore};
 
 use crate::asking::{line_touched, own_touched, search_near, touches};
+use crate::begins::note_fresh;
 use crate::detours::{are_clear, search_detours};
 use crate::encoding::publish;
 use crate::listing::{Listing, NamedPath};
@@ -230,20 +232,23 @@ fn longest<M: MapRead>(
     longest
 }
 
-/// Searches from what edits touched, unless no path has a look, and, where a path is left to decide by that, from the
-/// lines that they changed. How far detours were asked, if they were.
+/// Searches from what edits touched, unless no look can be touched, as where it is told that they are far from all of
+/// them, or no path has one; and, where a path is left to decide by that, from the lines that they changed. How far
+/// detours were asked, if they were.
 fn ask<M: MapRead>(
     alloc: Global,
     map: &M,
     list: &Listing,
     touched: &Touched,
+    far: bool,
     searches: &mut Searches,
 ) -> Result<Option<u32>, AllocError>
+    requires { IsTrue far → AreFar (M.map map.now) (nodes_of touched.now) (items list.now) }
     ensures asked { OnOk result
         (AreAsked (M.map map.now) (M.place_in map.now) touched.now searches.new (items list.now)) }
     ensures detours { IfOk result (λ asked. IfSome asked (AreDetours (M.map map.now) (M.place_in map.now) touched.now searches.new)) }
 {
-    searches.far = lack_looks(list);
+    searches.far = far || lack_looks(list);
     if searches.far {
         return Ok(None);
     }
@@ -316,11 +321,13 @@ fn made<M: MapRead>(
     list: &Listing,
     before: &Listing,
     touched: &Touched,
+    far: bool,
     searches: &mut Searches,
     work: &mut Work,
     kept: &mut u64,
 ) -> Result<Renewal, AllocError>
-    requires { Follows (items before.now) (items list.now) }
+    requires follows { Follows (items before.now) (items list.now) }
+    requires far { IsTrue far → AreFar (M.map map.now) (nodes_of touched.now) (items list.now) }
     ensures renewed { IfOk result (λ r. (L : Map)
         → IsBefore L (M.map map.now) (nodes_of touched.now) (lines_of touched.now) (changed_of touched.now) (items list.now)
         → AreRemade (M.map map.now) (items list.now) (renewed r (items list.now))) }
@@ -335,16 +342,18 @@ fn made<M: MapRead>(
     ensures searches { OnOk result (work.old.searches ≤ work.new.searches) }
     ensures settled { OnOk result (work.old.settled ≤ work.new.settled) }
     ensures kept { OnOk result (kept.old ≤ kept.new) }
+    ensures begun { IfOk result (λ r. (v : ℕ) → BeginsPut (made_at r) v → Contains (begun_in searches.new) v) }
     ensures err_work { OnErr result (work.new ≡ work.old) }
     ensures err_kept { OnErr result (kept.new ≡ kept.old) }
 {
+    searches.begun.clear();
     if list.paths.is_empty() {
         return Ok(Renewal {
             fresh: Vec::new(alloc),
             entries: Vec::new(alloc),
         });
     }
-    let asked = ask(alloc, map, list, touched, searches)?;
+    let asked = ask(alloc, map, list, touched, far, searches)?;
     let mut look = mem::replace(&mut searches.look, Search::new(alloc));
     let mut counted = Counted {
         work: *work,
@@ -362,6 +371,8 @@ fn made<M: MapRead>(
         &mut counted,
     )?;
     searches.look = look;
+    searches.count(counted.work.encodings != work.encodings);
+    note_fresh(&renewal.fresh, &mut searches.begun)?;
     *work = counted.work;
     *kept = counted.kept;
     Ok(renewal)
@@ -381,16 +392,19 @@ fn place(list: &mut Listing, mut fresh: Vec<(usize, Rc<Published>)>)
 impl Listing {
     /// Encodes on a map the paths that are new and those whose answer changes of it can have changed, and tells those whose
     /// answer is another than before. Each path that is concerned is counted as an encoding; `kept` counts those of them
-    /// that kept their answer. After a refusal list and counts are as before.
+    /// that kept their answer. `far` tells that no touched node is near to where a look begins: then nothing is searched
+    /// for that. After a refusal list and counts are as before.
     pub fn renew<M: MapRead>(
         &mut self,
         alloc: Global,
         map: &M,
         touched: &Touched,
+        far: bool,
         searches: &mut Searches,
         work: &mut Work,
         kept: &mut u64,
     ) -> Result<Vec<Entry>, AllocError>
+        requires { IsTrue far → AreFar (M.map map.now) (nodes_of touched.now) (items self.old) }
         ensures renewed { OnOk result ((L : Map)
             → IsBefore L (M.map map.now) (nodes_of touched.now) (lines_of touched.now) (changed_of touched.now) (items self.old)
             → AreRemade (M.map map.now) (items self.old) (items self.new)) }
@@ -404,13 +418,15 @@ impl Listing {
         ensures searches { OnOk result (work.old.searches ≤ work.new.searches) }
         ensures settled { OnOk result (work.old.settled ≤ work.new.settled) }
         ensures kept { OnOk result (kept.old ≤ kept.new) }
+        ensures begun { OnOk result ((v : ℕ) → Begins (items self.new) v
+            → Begins (items self.old) v ⊎ Contains (begun_in searches.new) v) }
         ensures err { OnErr result (items self.new ≡ items self.old) }
         ensures err_work { OnErr result (work.new ≡ work.old) }
         ensures err_kept { OnErr result (kept.new ≡ kept.old) }
     {
         let _names = self.len();
         let Renewal { fresh, entries } = made(
-            alloc, map, self, self, touched, searches, work, kept,
+            alloc, map, self, self, touched, far, searches, work, kept,
         )?;
         place(self, fresh);
         Ok(entries)
@@ -423,11 +439,13 @@ impl Listing {
         map: &M,
         before: &Listing,
         touched: &Touched,
+        far: bool,
         searches: &mut Searches,
         work: &mut Work,
         kept: &mut u64,
     ) -> Result<Vec<Entry>, AllocError>
-        requires { Follows (items before.now) (items self.old) }
+        requires follows { Follows (items before.now) (items self.old) }
+        requires far { IsTrue far → AreFar (M.map map.now) (nodes_of touched.now) (items self.old) }
         ensures renewed { OnOk result ((L : Map)
             → IsBefore L (M.map map.now) (nodes_of touched.now) (lines_of touched.now) (changed_of touched.now) (items self.old)
             → AreRemade (M.map map.now) (items self.old) (items self.new)) }
@@ -441,12 +459,14 @@ impl Listing {
         ensures searches { OnOk result (work.old.searches ≤ work.new.searches) }
         ensures settled { OnOk result (work.old.settled ≤ work.new.settled) }
         ensures kept { OnOk result (kept.old ≤ kept.new) }
+        ensures begun { OnOk result ((v : ℕ) → Begins (items self.new) v
+            → Begins (items self.old) v ⊎ Contains (begun_in searches.new) v) }
         ensures err { OnErr result (items self.new ≡ items self.old) }
         ensures err_work { OnErr result (work.new ≡ work.old) }
         ensures err_kept { OnErr result (kept.new ≡ kept.old) }
     {
         let Renewal { fresh, entries } = made(
-            alloc, map, self, before, touched, searches, work, kept,
+            alloc, map, self, before, touched, far, searches, work, kept,
         )?;
         place(self, fresh);
         Ok(entries)
@@ -460,12 +480,14 @@ impl Listing {
         map: &M,
         overlay: &Overlay,
         touched: &Touched,
+        far: bool,
         searches: &mut Searches,
         work: &mut Work,
         kept: &mut u64,
     ) -> Result<Vec<Entry>, AllocError>
         requires names { NamesDiffer (all_named (overlaid (items self.old) overlay.now)) }
         requires follows { Follows (items self.old) (overlaid (items self.old) overlay.now) }
+        requires far { IsTrue far → AreFar (M.map map.now) (nodes_of touched.now) (overlaid (items self.old) overlay.now) }
         ensures renewed { OnOk result ((L : Map) → IsBefore L (M.map map.now) (nodes_of touched.now) (lines_of touched.now)
             (changed_of touched.now) (overlaid (items self.old) overlay.now)
             → AreRemade (M.map map.now) (overlaid (items self.old) overlay.now) (items self.new)) }
@@ -479,12 +501,14 @@ impl Listing {
         ensures searches { OnOk result (work.old.searches ≤ work.new.searches) }
         ensures settled { OnOk result (work.old.settled ≤ work.new.settled) }
         ensures kept { OnOk result (kept.old ≤ kept.new) }
+        ensures begun { OnOk result ((v : ℕ) → Begins (items self.new) v
+            → Begins (overlaid (items self.old) overlay.now) v ⊎ Contains (begun_in searches.new) v) }
         ensures err { OnErr result (items self.new ≡ items self.old) }
         ensures err_work { OnErr result (work.new ≡ work.old) }
         ensures err_kept { OnErr result (kept.new ≡ kept.old) }
     {
         let mut list = overlay.laid_over(alloc, self)?;
-        let entries = list.renew_after(alloc, map, self, touched, searches, work, kept)?;
+        let entries = list.renew_after(alloc, map, self, touched, far, searches, work, kept)?;
         *self = list;
         Ok(entries)
     }

@@ -1,4 +1,8 @@
 //! The searches that renewals of a list make.
+ghost use Rattle.std.specs.Prelude.{◌≡◌};
+ghost use Rattle.olr_paths.specs.Beginning.{begun_in};
+
+use olr_map::NodeId;
 use olr_route::Search;
 use std::alloc::Global;
 
@@ -15,6 +19,10 @@ pub struct Searches {
     pub(crate) after: Search,
     /// For the looks of encodings.
     pub(crate) look: Search,
+    /// Where the looks begin that the last renewal made.
+    pub(crate) begun: Vec<NodeId>,
+    /// How many nodes were labelled by searches that found no path.
+    pub(crate) vain: usize,
 }
 
 impl Searches {
@@ -26,6 +34,33 @@ impl Searches {
             before: Search::new(alloc),
             after: Search::new(alloc),
             look: Search::new(alloc),
+            begun: Vec::new(alloc),
+            vain: 0,
+        }
+    }
+
+    /// Where the looks begin of what the last renewal encoded.
+    pub fn begun(&self) -> &[NodeId]
+        ensures { result.now ≡ begun_in self.now }
+    {
+        self.begun.as_slice()
+    }
+
+    /// How many nodes searches from touched nodes labelled that found no path, since this was last set back.
+    pub fn vain(&self) -> usize {
+        self.vain
+    }
+
+    /// Sets that back to 0.
+    pub fn set_back(&mut self) {
+        self.vain = 0;
+    }
+
+    /// Counts what a renewal searched from touched nodes, if it found no path.
+    pub(crate) fn count(&mut self, found: bool) {
+        if !found && !self.far {
+            let labelled = self.near.reached().len();
+            self.vain = self.vain.saturating_add(labelled);
         }
     }
 }

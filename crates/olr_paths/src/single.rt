@@ -1,12 +1,14 @@
 //! Paths that are added or set one at a time, and encoded at once.
-ghost use Rattle.std.specs.Prelude.{◌≡◌, ◌≢◌, ◌+◌, ◌^◌, ◌<◌, ◌≤◌, ◌⊎◌, [], ◌∷◌, ◌++◌, false, Some, map as list_map, is_some, string_bytes, option_map, IfOk, OnOk, OnErr};
+ghost use Rattle.std.specs.Prelude.{◌≡◌, ◌≢◌, ◌+◌, ◌^◌, ◌<◌, ◌≤◌, ◌⊎◌, [], ◌∷◌, ◌++◌, ℕ, Contains, false, Some, map as list_map, is_some, string_bytes, option_map, IfOk, OnOk, OnErr};
 ghost use Rattle.olr_spec.specs.Encoding.{Answer};
 ghost use Rattle.olr_commands.specs.State.{path_named};
 ghost use Rattle.olr_commands.specs.Reply.{entry};
 ghost use Rattle.olr_commands.specs.Words.{entry_of};
 ghost use Rattle.olr_paths.specs.Items.{Made, IsMade, items, made_of, all_named, answer_in};
 ghost use Rattle.olr_paths.specs.Changes.{set_item};
+ghost use Rattle.olr_paths.specs.Beginning.{Begins, begun_in};
 
+use crate::begins::note_looks;
 use crate::encoding::publish;
 use crate::listing::{Listing, NamedPath};
 use crate::renewal::tell;
@@ -37,11 +39,15 @@ impl Listing {
             (work.old.encodings + 1 < 2 ^ 64 → work.new.encodings ≡ work.old.encodings + 1) }
         ensures searches { OnOk result (work.old.searches ≤ work.new.searches) }
         ensures settled { OnOk result (work.old.settled ≤ work.new.settled) }
+        ensures begun { OnOk result ((v : ℕ) → Begins (items self.new) v
+            → Begins (items self.old) v ⊎ Contains (begun_in searches.new) v) }
         ensures err { OnErr result (items self.new ≡ items self.old) }
         ensures err_work { OnErr result (work.new ≡ work.old) }
     {
         let mut tried = *work;
         let published = publish(alloc, map, &path, &mut searches.look, &mut tried)?;
+        searches.begun.clear();
+        note_looks(&published.looks, &mut searches.begun)?;
         let mut entries = Vec::with_capacity(alloc, 1)?;
         entries.push(published.entry(alloc, name.as_str())?)?;
         let named = NamedPath {
@@ -74,11 +80,15 @@ impl Listing {
             (work.old.encodings + 1 < 2 ^ 64 → work.new.encodings ≡ work.old.encodings + 1) }
         ensures searches { OnOk result (work.old.searches ≤ work.new.searches) }
         ensures settled { OnOk result (work.old.settled ≤ work.new.settled) }
+        ensures begun { OnOk result ((v : ℕ) → Begins (items self.new) v
+            → Begins (items self.old) v ⊎ Contains (begun_in searches.new) v) }
         ensures err { OnErr result (items self.new ≡ items self.old) }
         ensures err_work { OnErr result (work.new ≡ work.old) }
     {
         let mut tried = *work;
         let published = publish(alloc, map, &path, &mut searches.look, &mut tried)?;
+        searches.begun.clear();
+        note_looks(&published.looks, &mut searches.begun)?;
         let mut entries = Vec::new(alloc);
         tell(alloc, self, name, &published, &mut entries)?;
         let named = NamedPath {

@@ -84,6 +84,13 @@ impl Touched {
         }
     }
 
+    /// The touched nodes, each once, rising.
+    pub fn nodes(&self) -> &[NodeId]
+        ensures { result.now ≡ nodes_of self.now }
+    {
+        self.nodes.as_slice()
+    }
+
     /// Whether the node was touched, by binary search.
     pub fn has_node(&self, node: NodeId) -> bool
         ensures { result ≡ has (nodes_of self.now) node }

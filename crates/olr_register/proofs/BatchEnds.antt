@@ -17,6 +17,7 @@ use Rattle.olr_commands.specs.declared.reply.Reply.{Reply}
 use Rattle.olr_commands.specs.declared.fault.CommandFault.{CommandFault}
 use Rattle.olr_commands.specs.declared.fault.CommandFault.TheVariants as rust
 use Rattle.olr_paths.specs.Items.{Made, Item, AreMade, AreMadeIfAny}
+use Rattle.olr_paths.specs.Beginning.{Begins}
 use Rattle.olr_paths.specs.Laying.{overlaid}
 use Rattle.olr_paths.specs.Changes.{Follows}
 use Rattle.olr_paths.specs.Touching.{nodes_of, lines_of, changed_of}
@@ -136,6 +137,7 @@ begun_held roads is None b none r e =
         noted = coe 0 1 (i. IsNoted (sym same i) (map_of roads) (sym e.nodes i) (sym e.lines i) (sym e.changed i)) (noted_none (map_of roads));
         made = subst (λ (M : Map). AreMadeIfAny M (overlaid is b.overlay)) (sym same) (subst (AreMadeIfAny (map_of roads)) (sym (e.paths is)) (made_if_any (map_of roads) is r.made));
         follows = subst (Follows is) (sym (e.paths is)) (follows_self is r.content.names);
+        begins = λ v b. subst (λ (ks : List Item). Begins ks v) (e.paths is) b;
       };
     }
 

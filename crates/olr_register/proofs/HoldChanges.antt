@@ -20,6 +20,7 @@ use Rattle.olr_commands.specs.declared.fault.CommandFault.TheVariants as rust
 use Rattle.olr_commands.proofs.StateLemmas.{changes_keep}
 use Rattle.olr_paths.specs.Items.{Item, AreMadeIfAny, all_named}
 use Rattle.olr_paths.specs.Changes.{Follows, set_item}
+use Rattle.olr_paths.specs.Beginning.{Begins}
 use Rattle.olr_paths.specs.Laying.{overlaid}
 use Rattle.olr_paths.specs.declared.overlay.Overlay.{Overlay}
 use Rattle.olr_register.specs.Holding.{held_of, IsHeld}
@@ -28,6 +29,7 @@ use Rattle.olr_register.specs.declared.batch.Batch.{Batch}
 use Rattle.olr_register.proofs.Listed.{names_add, names_set, names_drop, any_add, any_set}
 use Rattle.olr_register.proofs.Followed.{follows_add, follows_set}
 use Rattle.olr_register.proofs.HoldLists.{named_twice, given_add, given_set}
+use Rattle.olr_register.proofs.Numbered.{begins_held, begins_other}
 
 abbrev pub content_from : Map → List Named → Content
 content_from M ps = record { map = M; paths = ps }
@@ -174,13 +176,14 @@ held_same roads before b l same h =
       noted = h.noted;
       made = subst (AreMadeIfAny (map_before roads b.log)) (sym same) h.made;
       follows = subst (Follows before) (sym same) h.follows;
+      begins = λ v b. h.begins v (subst (λ (is : List Item). Begins is v) same b);
     }
 
 pub held_path : (roads : RoadMap) (before : List Item) (b : Batch) (l : Overlay) (js : List Item) (x : Change) → overlaid before l ≡ js → nat_le full b.count ≡ false
     → changed (content_on (map_of roads) (overlaid before b.overlay)) x ≡ Ok (content_on (map_of roads) js) → HasPlaces (Make x)
-    → AreMadeIfAny (map_before roads b.log) js → Follows before js → IsHeld roads before b
+    → AreMadeIfAny (map_before roads b.log) js → Follows before js → ((v : ℕ) → Begins js v → Begins (overlaid before b.overlay) v) → IsHeld roads before b
     → IsHeld roads before (record { log = b.log; overlay = l; count = b.count + 1; touched = b.touched })
-held_path roads before b l js x same room e placed made follows h =
+held_path roads before b l js x same room e placed made follows begins h =
     let few = leb-false full b.count room in
     record {
       undo = h.undo;
@@ -189,6 +192,7 @@ held_path roads before b l js x same room e placed made follows h =
       noted = h.noted;
       made = subst (AreMadeIfAny (map_before roads b.log)) (sym same) made;
       follows = subst (Follows before) (sym same) follows;
+      begins = λ v on. h.begins v (begins v (subst (λ (is : List Item). Begins is v) same on));
     }
 
 -- ---- one path more, and another one
@@ -219,7 +223,7 @@ pub held_added : (roads : RoadMap) (before : List Item) (b : Batch) (l : Overlay
     → is_path path.lines ≡ true → p ≡ path → overlaid before l ≡ one_added (overlaid before b.overlay) name p → IsHeld roads before b → IsHeld roads before (record { log = b.log; overlay = l; count = b.count + 1; touched = b.touched })
 held_added roads before b l name path p room free good same_path same h =
     held_path roads before b l (one_added (overlaid before b.overlay) name path) (Add_path name path) (same ∙ ap (one_added (overlaid before b.overlay) name) same_path) room (add_ok (map_of roads) (overlaid before b.overlay) name path free good) tt
-    (any_add (map_before roads b.log) (overlaid before b.overlay) name path h.made) (follows_add before (overlaid before b.overlay) name path h.follows) h
+    (any_add (map_before roads b.log) (overlaid before b.overlay) name path h.made) (follows_add before (overlaid before b.overlay) name path h.follows) (begins_held (overlaid before b.overlay) (record { name = name; path = path; made = None }) refl) h
 
 abbrev pub one_set : List Item → List ℕ → Path → List Item
 one_set is name path = map (set_item name path None) is
@@ -234,4 +238,4 @@ pub held_other : (roads : RoadMap) (before : List Item) (b : Batch) (l : Overlay
     → is_path path.lines ≡ true → p ≡ path → overlaid before l ≡ one_set (overlaid before b.overlay) name p → IsHeld roads before b → IsHeld roads before (record { log = b.log; overlay = l; count = b.count + 1; touched = b.touched })
 held_other roads before b l name path p room there good same_path same h =
     held_path roads before b l (one_set (overlaid before b.overlay) name path) (Set_path name path) (same ∙ ap (one_set (overlaid before b.overlay) name) same_path) room (set_ok (map_of roads) (overlaid before b.overlay) name path there good) tt
-    (any_set (map_before roads b.log) (overlaid before b.overlay) name path h.made) (follows_set before (overlaid before b.overlay) name path h.follows) h
+    (any_set (map_before roads b.log) (overlaid before b.overlay) name path h.made) (follows_set before (overlaid before b.overlay) name path h.follows) (begins_other name path (overlaid before b.overlay)) h

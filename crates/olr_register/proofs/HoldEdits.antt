@@ -84,6 +84,7 @@ held_still old new before b log t undo same same_before nodes lines changed h =
       noted = coe 0 1 (i. IsNoted (sym same_before i) (sym same i) (sym nodes i) (sym lines i) (sym changed i)) h.noted;
       made = subst (λ (M : Map). AreMadeIfAny M (overlaid before b.overlay)) (sym same_before) h.made;
       follows = h.follows;
+      begins = h.begins;
     }
 
 pub held_edit : (old new : RoadMap) (before : List Item) (b : Batch) (log : UndoLog) (t : Touched) (e : Edit) → nat_le full b.count ≡ false → HasPlace e → CanUndoAll new log → edited (map_of old) e ≡ Ok (map_of new)
@@ -102,4 +103,5 @@ held_edit old new before b log t e room placed undo ok same_before nodes lines c
           (noted_more (map_before old b.log) (map_of old) (map_of new) e (nodes_of b.touched) (lines_of b.touched) (nodes_of t) (lines_of t) (changed_of b.touched) (changed_of t) h.noted ok nodes lines changed);
       made = subst (λ (M : Map). AreMadeIfAny M (overlaid before b.overlay)) (sym same_before) h.made;
       follows = h.follows;
+      begins = h.begins;
     }

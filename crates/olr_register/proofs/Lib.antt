@@ -4,6 +4,7 @@ pub mod BatchEnds
 pub mod BatchStates
 pub mod BatchSteps
 pub mod Noted
+pub mod Numbered
 pub mod Counting
 pub mod Followed
 pub mod HoldChanges

@@ -1,16 +1,20 @@
 -- What a register keeps, and what is true of it.
 --     IsNoted M N T X C      what is noted of edits that lead from M to N
---     IsHeld, IsRegister      what is true of an open batch, and of the whole
+--     IsHeld, IsRegister      what is true of an open batch, and of map, list and batch
+--     IsNumbered M is near      the numbers are right on the map, and each look of the list begins at a source.        IsWhole      what is true of the whole
 use Rattle.std.specs.Prelude.{ℕ, ◌≤◌, List, map, Contains, Option, Some, None, is_none, IfSome, IsTrue}
 use Rattle.olr_spec.specs.Map.{Map}
 use Rattle.olr_spec.specs.Extension.{has}
 use Rattle.olr_spec.specs.Detours.{ChangedLine, Difference}
 use Rattle.olr_map.specs.RoadMaps.{map_of, CanUndoAll, map_before}
 use Rattle.olr_map.specs.declared.road_map.RoadMap.{RoadMap}
+use Rattle.olr_near.specs.Numbers.{IsRight, IsSource}
+use Rattle.olr_near.specs.declared.nearness.Nearness.{Nearness}
 use Rattle.olr_commands.specs.State.{IsContent, full}
 use Rattle.olr_commands.specs.Kept as kept
 use Rattle.olr_paths.specs.Items.{Item, AreMade, AreMadeIfAny, all_named}
 use Rattle.olr_paths.specs.Changes.{Follows}
+use Rattle.olr_paths.specs.Beginning.{Begins}
 use Rattle.olr_paths.specs.Laying.{overlaid}
 use Rattle.olr_paths.specs.Touching.{nodes_of, lines_of, changed_of}
 use Rattle.olr_register.specs.declared.batch.Batch.{Batch}
@@ -60,8 +64,17 @@ pub record IsHeld (roads : RoadMap) (before : List Item) (b : Batch) : Type 0 wh
   pub noted : IsNoted (map_before roads b.log) (map_of roads) (nodes_of b.touched) (lines_of b.touched) (changed_of b.touched)
   pub made : AreMadeIfAny (map_before roads b.log) (overlaid before b.overlay)
   pub follows : Follows before (overlaid before b.overlay)
+  pub begins : (v : ℕ) → Begins (overlaid before b.overlay) v → Begins before v
 
 pub record IsRegister (roads : RoadMap) (is : List Item) (batch : Option Batch) : Type 0 where
   pub content : IsContent (record { map = map_kept roads batch; paths = all_named is })
   pub made : AreMade (map_kept roads batch) is
   pub held : IfSome batch (IsHeld roads is)
+
+pub record IsNumbered (M : Map) (is : List Item) (near : Nearness) : Type 0 where
+  pub right : IsRight M near
+  pub sources : (v : ℕ) → Begins is v → IsSource near v
+
+pub record IsWhole (roads : RoadMap) (is : List Item) (batch : Option Batch) (near : Nearness) : Type 0 where
+  pub register : IsRegister roads is batch
+  pub numbered : IsNumbered (map_kept roads batch) is near

@@ -2,6 +2,7 @@
 ghost use Rattle.olr_commands.specs.State.{Begin, Commit, Abort};
 
 use crate::batch::Batch;
+use crate::nearing::{ask_near, renumber};
 use crate::register::Register;
 use olr_commands::{CommandFault, Reply};
 use olr_map::UndoLog;
@@ -38,21 +39,31 @@ impl Register {
             self.batch = Some(batch);
             return Err(CommandFault::CountDiffers);
         }
+        let far = ask_near(&mut self.near, &self.roads, batch.touched.nodes());
         let Ok(entries) = self.paths.renew_over(
             self.alloc,
             &self.roads,
             &batch.overlay,
             &batch.touched,
+            far,
             &mut self.searches,
             &mut self.work,
             &mut self.kept,
         )
         else {
+            self.near.forget();
             self.batch = Some(batch);
             return Err(CommandFault::Memory);
         };
         let Batch { log, .. } = batch;
         self.roads.keep_all(log);
+        renumber(
+            self.alloc,
+            &mut self.near,
+            &self.roads,
+            &self.paths,
+            &mut self.searches,
+        );
         Ok(Reply::Paths(entries))
     }
 

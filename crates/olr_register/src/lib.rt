@@ -7,6 +7,7 @@ mod batches;
 mod changed;
 mod footprints;
 mod holds;
+mod nearing;
 mod questions;
 pub mod register;
 mod single;

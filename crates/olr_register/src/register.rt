@@ -2,6 +2,7 @@
 
 use crate::batch::Batch;
 use olr_map::RoadMap;
+use olr_near::Nearness;
 use olr_paths::{Listing, Searches};
 use olr_refs::Answer;
 use olr_route::Work;
@@ -21,12 +22,14 @@ pub struct Register {
     /// How many of the counted encodings were spared.
     pub(crate) kept: u64,
     pub(crate) batch: Option<Batch>,
+    /// By which it is known that no path is near to an edit. While a batch is open, on the map before it.
+    pub(crate) near: Nearness,
 }
 
 impl Model for Register {
     ghost use Rattle.olr_commands.specs.Registered.{Registered, coded_registered};
     ghost use Rattle.olr_paths.specs.Items.{items};
-    ghost use Rattle.olr_register.specs.Holding.{kept_of, IsRegister};
+    ghost use Rattle.olr_register.specs.Holding.{kept_of, IsWhole};
 
     ghost Value = { Registered };
 
@@ -34,7 +37,7 @@ impl Model for Register {
 
     ghost view = { λ r. record { kept = kept_of r.roads (items r.paths) r.batch; work = r.work; spared = r.kept } };
 
-    ghost invariant = { λ r. IsRegister r.roads (items r.paths) r.batch };
+    ghost invariant = { λ r. IsWhole r.roads (items r.paths) r.batch r.near };
 }
 
 impl Register {
@@ -59,6 +62,7 @@ impl Register {
             },
             kept: 0,
             batch: None,
+            near: Nearness::new(alloc),
         }
     }
 

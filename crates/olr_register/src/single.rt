@@ -3,6 +3,7 @@ ghost use Rattle.olr_map.specs.Edits.{edit_of};
 
 use crate::changed::line_changed;
 use crate::holds::path_of;
+use crate::nearing::{ask_near, renumber};
 use crate::register::Register;
 use olr_commands::{CommandFault, Reply};
 use olr_map::{Edit, LineId, judge};
@@ -30,20 +31,30 @@ impl Register {
         touched.note(judged.nodes, judged.line, line_changed(&judged));
         match self.roads.make(edit, &judged) {
             Ok(undo) => {
+                let far = ask_near(&mut self.near, &self.roads, touched.nodes());
                 match self.paths.renew(
                     self.alloc,
                     &self.roads,
                     &touched,
+                    far,
                     &mut self.searches,
                     &mut self.work,
                     &mut self.kept,
                 ) {
                     Ok(entries) => {
                         self.roads.keep(undo);
+                        renumber(
+                            self.alloc,
+                            &mut self.near,
+                            &self.roads,
+                            &self.paths,
+                            &mut self.searches,
+                        );
                         Ok(Reply::Paths(entries))
                     }
                     Err(_) => {
                         self.roads.undo(undo);
+                        self.near.forget();
                         Err(CommandFault::Memory)
                     }
                 }
@@ -78,6 +89,13 @@ impl Register {
         else {
             return Err(CommandFault::Memory);
         };
+        renumber(
+            self.alloc,
+            &mut self.near,
+            &self.roads,
+            &self.paths,
+            &mut self.searches,
+        );
         Ok(Reply::Paths(entries))
     }
 
@@ -107,6 +125,13 @@ impl Register {
         else {
             return Err(CommandFault::Memory);
         };
+        renumber(
+            self.alloc,
+            &mut self.near,
+            &self.roads,
+            &self.paths,
+            &mut self.searches,
+        );
         Ok(Reply::Paths(entries))
     }
 

@@ -133,6 +133,7 @@ fn renewed_lists(rt: HostRuntime) -> Result<(), Fail> {
         alloc,
         &map,
         &Touched::new(alloc),
+        false,
         &mut searches,
         &mut work,
         &mut kept,
@@ -143,6 +144,7 @@ fn renewed_lists(rt: HostRuntime) -> Result<(), Fail> {
         alloc,
         &map,
         &Touched::new(alloc),
+        false,
         &mut searches,
         &mut work,
         &mut kept,
@@ -163,6 +165,7 @@ fn renewed_lists(rt: HostRuntime) -> Result<(), Fail> {
         alloc,
         &map,
         &touches(&rt, alloc, 4, 5, 30)?,
+        false,
         &mut searches,
         &mut work,
         &mut kept,
@@ -176,6 +179,7 @@ fn renewed_lists(rt: HostRuntime) -> Result<(), Fail> {
         alloc,
         &map,
         &touches(&rt, alloc, 6, 2, 40)?,
+        false,
         &mut searches,
         &mut work,
         &mut kept,
@@ -189,6 +193,7 @@ fn renewed_lists(rt: HostRuntime) -> Result<(), Fail> {
         alloc,
         &map,
         &touches(&rt, alloc, 1, 2, 10)?,
+        false,
         &mut searches,
         &mut work,
         &mut kept,
@@ -209,7 +214,15 @@ fn lists_renewed_under_changes(rt: HostRuntime) -> Result<(), Fail> {
     let mut kept = 0;
     let mut list = Listing::new(alloc);
     hold(&rt, alloc, &mut list, "a", 10)?;
-    let entries = list.renew(alloc, &map, &none, &mut searches, &mut work, &mut kept)?;
+    let entries = list.renew(
+        alloc,
+        &map,
+        &none,
+        false,
+        &mut searches,
+        &mut work,
+        &mut kept,
+    )?;
     expect_names(&rt, &entries, &["a"]);
 
     let overlay = with_one_more(&rt, alloc, &list, "b", 30)?;
@@ -218,6 +231,7 @@ fn lists_renewed_under_changes(rt: HostRuntime) -> Result<(), Fail> {
         &map,
         &overlay,
         &none,
+        false,
         &mut searches,
         &mut work,
         &mut kept,

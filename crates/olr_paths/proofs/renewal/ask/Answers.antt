@@ -1,8 +1,17 @@
-use Rattle.std.proofs.Common.{true}
+use Rattle.std.proofs.Common.{true, sym, ◌∙◌}
 use Rattle.olr_paths.specs.Items.{items}
-use Rattle.olr_paths.proofs.AskedLemmas.{asked_lack, asked_searched}
+use Rattle.olr_paths.specs.declared.searches.Searches.{Searches}
+use Rattle.olr_paths.proofs.AskedLemmas.{asked_far, asked_lack, asked_searched}
 use Rattle.olr_paths.proofs.renewal.ask.Goals as goal
+use Rattle.olr_paths.proofs.renewal.ask.Goals.{then-far, else-far}
 
 pub returns-then-searches-clause-asked : goal.returns-then-searches-clause-asked
 returns-then-searches-clause-asked g c =
-    asked_lack (g.M.MapRead.map c.args.map.now) (g.M.MapRead.place_in c.args.map.now) c.args.touched.now (record c.args.searches.now { far = c.lack_looks-searches.result }) (items c.args.list.now) c.if-searches.true (c.lack_looks-searches.ensures c.if-searches.true)
+    let N = g.M.MapRead.map c.args.map.now in
+    let place = g.M.MapRead.place_in c.args.map.now in
+    let is = items c.args.list.now in
+    let s : Searches = record c.args.searches.now { far = c.if-far.searches } in
+    elim c.if-far.branch [
+      | then-far w ↦ asked_far N place c.args.touched.now s is c.if-searches.true (c.requires w.if-far.true)
+      | else-far w ↦ asked_lack N place c.args.touched.now s is c.if-searches.true (w.lack_looks-searches.ensures (sym w.searches-is ∙ c.if-searches.true))
+    ]

@@ -1,7 +1,12 @@
-use Rattle.std.proofs.Common.{refl, arith, ◌≡◌, List, length, ◌∙◌, true}
+use Rattle.std.proofs.Common.{refl, arith, ◌≡◌, ℕ, List, length, ◌∙◌, true, subst}
 use Rattle.std.proofs.lemmas.List.{length-map}
 use Rattle.olr_paths.specs.Items.{Item, items}
 use Rattle.olr_paths.specs.Touching.{nodes_of, lines_of, changed_of}
+use Rattle.std.specs.declared.alloc.Global.{Global}
+use Rattle.std.specs.declared.rc.Rc.{Rc}
+use Rattle.olr_paths.specs.Beginning.{BeginsPut}
+use Rattle.olr_paths.specs.Renewing.{puts_of}
+use Rattle.olr_paths.specs.declared.published.Published.{Published}
 use Rattle.olr_paths.specs.declared.renewal.Renewal.{Renewal}
 use Rattle.olr_paths.specs.declared.renewal.Counted.{Counted}
 use Rattle.olr_paths.proofs.NamedEntries.{item_of}
@@ -26,4 +31,4 @@ returns-then-is_empty g c =
     let r : Renewal = record { fresh = c.new.result; entries = c.new-then-is_empty.result } in
     let counted : Counted = record { work = c.args.work.now; kept = c.args.kept.now } in
     let w = whole N T X C before is r counted counted (so_far_all N T X C before is r counted none c.new.ensures.items c.new-then-is_empty.ensures.items) in
-    record { renewed = w.remade; named = w.names; reported = w.reported; counted = w.counted; searches = omega arith; settled = omega arith; kept = omega arith; err_work = tt; err_kept = tt }
+    record { renewed = w.remade; named = w.names; reported = w.reported; counted = w.counted; searches = omega arith; settled = omega arith; kept = omega arith; begun = λ v b. absurd (subst (λ (es : List (ℕ × Rc Published Global)). BeginsPut (puts_of es) v) c.new.ensures.items b); err_work = tt; err_kept = tt }

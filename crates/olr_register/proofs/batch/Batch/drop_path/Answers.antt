@@ -1,9 +1,10 @@
-use Rattle.std.proofs.Common.{refl, sym}
-use Rattle.olr_commands.specs.State.{Drop_path}
+use Rattle.std.proofs.Common.{not, refl, sym}
+use Rattle.olr_commands.specs.State.{same_name, Drop_path}
 use Rattle.olr_map.specs.RoadMaps.{map_of, map_before}
 use Rattle.olr_paths.specs.Items.{items}
 use Rattle.olr_paths.specs.Laying.{overlaid}
 use Rattle.olr_paths.specs.Touching.{nodes_of, lines_of}
+use Rattle.olr_paths.proofs.Beginning.{begins_drop}
 use Rattle.olr_register.proofs.Listed.{any_drop}
 use Rattle.olr_register.proofs.Followed.{follows_drop}
 use Rattle.olr_register.proofs.HoldLists.{given_drop}
@@ -34,7 +35,7 @@ returns-in-Ok-clause-held c =
     let is = overlaid before b.overlay in
     held_path roads before b c.drop_path.new.self _ (Drop_path c.args.name.now) (c.in-Ok.ensures.ok before c.requires) (sym c.if-is_full.ensures)
     (drop_ok (map_of roads) is c.args.name.now (sym c.if-not-has.ensures)) tt
-    (any_drop (map_before roads b.log) is c.args.name.now h.made) (follows_drop before is c.args.name.now h.follows) h
+    (any_drop (map_before roads b.log) is c.args.name.now h.made) (follows_drop before is c.args.name.now h.follows) (begins_drop (λ i. not (same_name i.name c.args.name.now)) is) h
 
 pub returns-in-Err-clause-given : goal.returns-in-Err-clause-given
 returns-in-Err-clause-given c =

@@ -1,9 +1,12 @@
 use Rattle.std.proofs.Common.{inl, IsTrue, refl, sym, ap, ◌∙◌, subst}
 use Rattle.std.proofs.lemmas.Result.{err_from_is_err_and}
 use Rattle.olr_spec.specs.Extension.{Path, is_path}
+use Rattle.olr_map.specs.RoadMaps.{map_of}
 use Rattle.olr_paths.specs.Items.{items}
+use Rattle.olr_register.specs.Holding.{map_kept}
 use Rattle.olr_register.proofs.Singles.{as_before, closed_by, has_in, seen_again}
 use Rattle.olr_register.proofs.SinglePath.{add_exists, add_refused, add_keeps, add_done}
+use Rattle.olr_register.proofs.Numbered.{kept_closed, numbered_same, numbered_more}
 use Rattle.olr_register.proofs.Tallies.{tally}
 use Rattle.olr_register.proofs.register.Register.add_now.Goals as goal
 
@@ -35,8 +38,14 @@ invariant_of-self-2 c =
     let path = c.in_ok-path.path in
     let new = c.in-Ok.ensures.added in
     let good : IsTrue (is_path path.lines) = subst (λ (p : Path). IsTrue (is_path p.lines)) (sym c.in_ok-path.ensures.ok) c.in_ok-path.ensures.good in
-    add_keeps r.roads (items r.paths) r.batch (tally r.work r.kept) x _ c.self.view_is c.requires c.self.invariant path new.0 good new.1 _
-    (has_in r.roads (items r.paths) r.batch (tally r.work r.kept) x _ _ _ c.self.view_is c.deref.ensures c.if-has.ensures) new.2
+    let none = closed_by r.roads (items r.paths) r.batch (tally r.work r.kept) x c.self.view_is c.requires in
+    let kept = kept_closed r.roads r.batch none in
+    record {
+      register = add_keeps r.roads (items r.paths) r.batch (tally r.work r.kept) x _ c.self.view_is c.requires c.self.invariant.register path new.0 good new.1 _
+          (has_in r.roads (items r.paths) r.batch (tally r.work r.kept) x _ _ _ c.self.view_is c.deref.ensures c.if-has.ensures) new.2;
+      numbered = numbered_same (map_of r.roads) (map_kept r.roads r.batch) _ _ kept
+          (numbered_more (map_of r.roads) (items r.paths) _ r.near _ _ (numbered_same (map_kept r.roads r.batch) (map_of r.roads) (items r.paths) r.near (sym kept) c.self.invariant.numbered) c.in-Ok.ensures.begun c.renumber.ensures);
+    }
 
 pub returns : goal.returns
 returns c =
@@ -45,5 +54,5 @@ returns c =
     let path = c.in_ok-path.path in
     let new = c.in-Ok.ensures.added in
     let good : IsTrue (is_path path.lines) = subst (λ (p : Path). IsTrue (is_path p.lines)) (sym c.in_ok-path.ensures.ok) c.in_ok-path.ensures.good in
-    add_done r.roads (items r.paths) r.batch (tally r.work r.kept) x _ c.self.view_is c.requires c.self.invariant path new.0 good new.1 _ _ (tally c.add.new.work r.kept) _ _ c.in_ok-path.ensures.ok
+    add_done r.roads (items r.paths) r.batch (tally r.work r.kept) x _ c.self.view_is c.requires c.self.invariant.register path new.0 good new.1 _ _ (tally c.add.new.work r.kept) _ _ c.in_ok-path.ensures.ok
     (has_in r.roads (items r.paths) r.batch (tally r.work r.kept) x _ _ _ c.self.view_is c.deref.ensures c.if-has.ensures) new.2 refl new.3 c.in-Ok.ensures.counted c.in-Ok.ensures.searches c.in-Ok.ensures.settled refl

@@ -3,6 +3,7 @@ use Rattle.olr_commands.specs.Reply as replies
 use Rattle.olr_commands.specs.Words.{entry_of}
 use Rattle.olr_paths.specs.Items.{items}
 use Rattle.olr_register.proofs.BatchEnds.{open_refused, IsEmpty, begun_held, begin_done}
+use Rattle.olr_register.proofs.Numbered.{numbered_begun}
 use Rattle.olr_register.proofs.Tallies.{tally}
 use Rattle.olr_register.proofs.register.Register.begin.Goals as goal
 
@@ -16,7 +17,10 @@ invariant_of-self c =
     let s = c.self.inside in
     let e : IsEmpty (record { log = c.new.result; overlay = c.new-2.result; count = 0; touched = c.new-3.result }) =
     record { log = c.new.ensures; paths = c.new-2.ensures; count = refl; nodes = c.new-3.ensures.nodes; lines = c.new-3.ensures.lines; changed = c.new-3.ensures.changed } in
-    begun_held s.roads (items s.paths) s.batch _ (sym c.if-is_some.ensures) c.self.invariant e
+    record {
+      register = begun_held s.roads (items s.paths) s.batch _ (sym c.if-is_some.ensures) c.self.invariant.register e;
+      numbered = numbered_begun s.roads (items s.paths) s.batch (record { log = c.new.result; overlay = c.new-2.result; count = 0; touched = c.new-3.result }) s.near (sym c.if-is_some.ensures) e.log c.self.invariant.numbered;
+    }
 
 pub returns : goal.returns
 returns c =
@@ -24,4 +28,4 @@ returns c =
     let e : IsEmpty (record { log = c.new.result; overlay = c.new-2.result; count = 0; touched = c.new-3.result }) =
     record { log = c.new.ensures; paths = c.new-2.ensures; count = refl; nodes = c.new-3.ensures.nodes; lines = c.new-3.ensures.lines; changed = c.new-3.ensures.changed } in
     rw (← c.self.view_is)
-    (begin_done s.roads (items s.paths) s.batch _ (tally s.work s.kept) _ (sym c.if-is_some.ensures) c.self.invariant e (ap (λ es. replies.Paths (map entry_of es)) c.new-4.ensures.items))
+    (begin_done s.roads (items s.paths) s.batch _ (tally s.work s.kept) _ (sym c.if-is_some.ensures) c.self.invariant.register e (ap (λ es. replies.Paths (map entry_of es)) c.new-4.ensures.items))

@@ -3,14 +3,18 @@ use Rattle.olr_map.specs.Edits.{edit_of}
 use Rattle.olr_commands.specs.State.{On_map}
 use Rattle.olr_paths.specs.Items.{items}
 use Rattle.olr_register.proofs.BatchEnds.{given_answered, given_held, first_sound}
+use Rattle.olr_register.proofs.Numbered.{numbered_held}
 use Rattle.olr_register.proofs.Tallies.{tally}
 use Rattle.olr_register.proofs.register.Register.hold_edit.Goals as goal
 
 pub invariant_of-self : goal.invariant_of-self
 invariant_of-self c =
     let s = c.self.inside in
-    given_held s.roads c.edit-result.new.roads (items s.paths) s.batch c.in-Some.batch c.edit-result.new.self (sym c.in-Some.ensures.value) c.self.invariant c.edit-result.ensures.before
-    (c.edit-result.ensures.held (items s.paths) (first_sound s.roads (items s.paths) s.batch c.in-Some.batch (sym c.in-Some.ensures.value) c.self.invariant))
+    record {
+      register = given_held s.roads c.edit-result.new.roads (items s.paths) s.batch c.in-Some.batch c.edit-result.new.self (sym c.in-Some.ensures.value) c.self.invariant.register c.edit-result.ensures.before
+          (c.edit-result.ensures.held (items s.paths) (first_sound s.roads (items s.paths) s.batch c.in-Some.batch (sym c.in-Some.ensures.value) c.self.invariant.register));
+      numbered = numbered_held s.roads c.edit-result.new.roads (items s.paths) s.batch c.in-Some.batch c.edit-result.new.self s.near (sym c.in-Some.ensures.value) c.edit-result.ensures.before c.self.invariant.numbered;
+    }
 
 pub returns : goal.returns
 returns c =

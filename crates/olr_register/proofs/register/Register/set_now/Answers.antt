@@ -1,11 +1,13 @@
 use Rattle.std.proofs.Common.{inl, IsTrue, refl, sym, ap, ◌∙◌, subst}
 use Rattle.std.proofs.lemmas.Result.{err_from_is_err_and}
 use Rattle.olr_spec.specs.Extension.{Path, is_path}
+use Rattle.olr_map.specs.RoadMaps.{map_of}
 use Rattle.olr_paths.specs.Items.{items}
 use Rattle.olr_register.specs.Holding.{map_kept}
 use Rattle.olr_register.proofs.Asking.{some_answer_in}
 use Rattle.olr_register.proofs.Singles.{as_before, closed_by, has_in, seen_again}
 use Rattle.olr_register.proofs.SinglePath.{set_unknown, set_refused, set_keeps, set_done}
+use Rattle.olr_register.proofs.Numbered.{kept_closed, numbered_same, numbered_more}
 use Rattle.olr_register.proofs.Tallies.{tally}
 use Rattle.olr_register.proofs.register.Register.set_now.Goals as goal
 
@@ -23,7 +25,7 @@ returns-in_err-path c =
     rw (p.1, p.2) (set_refused x _ _ _ c.requires (has_in r.roads (items r.paths) r.batch (tally r.work r.kept) x _ _ _ c.self.view_is refl c.if-not-has.ensures) c.in_err-path.ensures.fault)
 
 pub set-requires : goal.set-requires
-set-requires c = some_answer_in (map_kept c.self.inside.roads c.self.inside.batch) (items c.self.inside.paths) c.args.name.now c.self.invariant.made (sym c.if-not-has.ensures)
+set-requires c = some_answer_in (map_kept c.self.inside.roads c.self.inside.batch) (items c.self.inside.paths) c.args.name.now c.self.invariant.register.made (sym c.if-not-has.ensures)
 
 pub returns-in_default : goal.returns-in_default
 returns-in_default c =
@@ -40,8 +42,14 @@ invariant_of-self-2 c =
     let path = c.in_ok-path.path in
     let new = c.in-Ok.ensures.set in
     let good : IsTrue (is_path path.lines) = subst (λ (p : Path). IsTrue (is_path p.lines)) (sym c.in_ok-path.ensures.ok) c.in_ok-path.ensures.good in
-    set_keeps r.roads (items r.paths) r.batch (tally r.work r.kept) x _ c.self.view_is c.requires c.self.invariant path new.0 good new.1 _
-    (has_in r.roads (items r.paths) r.batch (tally r.work r.kept) x _ _ _ c.self.view_is refl c.if-not-has.ensures) new.2
+    let none = closed_by r.roads (items r.paths) r.batch (tally r.work r.kept) x c.self.view_is c.requires in
+    let kept = kept_closed r.roads r.batch none in
+    record {
+      register = set_keeps r.roads (items r.paths) r.batch (tally r.work r.kept) x _ c.self.view_is c.requires c.self.invariant.register path new.0 good new.1 _
+          (has_in r.roads (items r.paths) r.batch (tally r.work r.kept) x _ _ _ c.self.view_is refl c.if-not-has.ensures) new.2;
+      numbered = numbered_same (map_of r.roads) (map_kept r.roads r.batch) _ _ kept
+          (numbered_more (map_of r.roads) (items r.paths) _ r.near _ _ (numbered_same (map_kept r.roads r.batch) (map_of r.roads) (items r.paths) r.near (sym kept) c.self.invariant.numbered) c.in-Ok.ensures.begun c.renumber.ensures);
+    }
 
 pub returns : goal.returns
 returns c =
@@ -50,5 +58,5 @@ returns c =
     let path = c.in_ok-path.path in
     let new = c.in-Ok.ensures.set in
     let good : IsTrue (is_path path.lines) = subst (λ (p : Path). IsTrue (is_path p.lines)) (sym c.in_ok-path.ensures.ok) c.in_ok-path.ensures.good in
-    set_done r.roads (items r.paths) r.batch (tally r.work r.kept) x _ c.self.view_is c.requires c.self.invariant path new.0 good new.1 _ _ (tally c.set.new.work r.kept) _ _ c.in_ok-path.ensures.ok
+    set_done r.roads (items r.paths) r.batch (tally r.work r.kept) x _ c.self.view_is c.requires c.self.invariant.register path new.0 good new.1 _ _ (tally c.set.new.work r.kept) _ _ c.in_ok-path.ensures.ok
     (has_in r.roads (items r.paths) r.batch (tally r.work r.kept) x _ _ _ c.self.view_is refl c.if-not-has.ensures) new.2 refl new.3 c.in-Ok.ensures.counted c.in-Ok.ensures.searches c.in-Ok.ensures.settled refl

@@ -18,7 +18,7 @@ returns-then-not-has c =
 pub entry-requires : goal.entry-requires
 entry-requires c =
     let r = c.self.inside in
-    record { encoded = some_answer_in (map_kept r.roads r.batch) (items r.paths) c.args.name.now c.self.invariant.made (sym c.if-not-has.ensures) }
+    record { encoded = some_answer_in (map_kept r.roads r.batch) (items r.paths) c.args.name.now c.self.invariant.register.made (sym c.if-not-has.ensures) }
 
 pub returns-in_default : goal.returns-in_default
 returns-in_default c =
@@ -31,7 +31,7 @@ returns-in-Ok-alone c =
     let told = c.in-Ok.ensures in
     show_answered c.args.self.now c.args.name.now _ _ refl
     (shown_entry (map_kept r.roads r.batch) (items r.paths) c.args.self.now.kept.content c.args.name.now told.0 _ (ap (λ (x : Registered). x.kept.content) c.self.view_is)
-    c.self.invariant.content c.self.invariant.made told.1 (ap (λ (es : List Entry). map entry_of es) c.in-Ok-alone.ensures ∙ ap (λ e. e ∷ []) told.2))
+    c.self.invariant.register.content c.self.invariant.register.made told.1 (ap (λ (es : List Entry). map entry_of es) c.in-Ok-alone.ensures ∙ ap (λ e. e ∷ []) told.2))
 
 pub returns-in-Err : goal.returns-in-Err
 returns-in-Err c =

@@ -1,0 +1,8 @@
+use Rattle.std.proofs.Common.{ℕ, Contains, take}
+use Rattle.olr_paths.specs.Beginning.{BeginsPut}
+use Rattle.olr_paths.specs.Renewing.{puts_of}
+use Rattle.olr_paths.proofs.begins.note_fresh.Given as goal
+
+-- where the looks begin of what was made so far is there
+abbrev pub invariant-loop-made : goal.invariant-loop-made
+invariant-loop-made l = (v : ℕ) → BeginsPut (puts_of (take l.made-index l.fresh)) v → Contains l.begun.items v

@@ -1,0 +1,8 @@
+use Rattle.std.proofs.Common.{ℕ, Contains, take}
+use Rattle.olr_paths.specs.Items.{items}
+use Rattle.olr_paths.specs.Beginning.{Begins}
+use Rattle.olr_paths.proofs.listing.Listing.begins.Given as goal
+
+-- where the looks of the paths so far begin is there
+abbrev pub invariant-loop-position : goal.invariant-loop-position
+invariant-loop-position l = (v : ℕ) → Begins (take l.position (items l.self)) v → Contains l.begun.items v

@@ -1,0 +1,64 @@
+//! Where looks begin.
+ghost use Rattle.std.specs.Prelude.{ℕ, Contains, OnOk, option_map};
+ghost use Rattle.olr_spec.specs.Looks.{Look as LookRecord};
+ghost use Rattle.olr_paths.specs.Items.{items, made_of};
+ghost use Rattle.olr_paths.specs.Beginning.{BeginsIn, Begins, BeginsPut};
+ghost use Rattle.olr_paths.specs.Renewing.{puts_of};
+
+use crate::listing::{Listing, NamedPath};
+use crate::published::Published;
+use olr_map::NodeId;
+use olr_refs::Look;
+use std::alloc::AllocError;
+use std::rc::Rc;
+
+/// Puts where the looks begin behind other nodes.
+pub(crate) fn note_looks(looks: &[Look], begun: &mut Vec<NodeId>) -> Result<(), AllocError>
+    ensures before { OnOk result ((v : ℕ) → Contains begun.old.items v → Contains begun.new.items v) }
+    ensures looks { OnOk result ((l : LookRecord) → Contains looks.now l → Contains begun.new.items l.from) }
+{
+    for look in looks {
+        begun.push(look.from)?;
+    }
+    Ok(())
+}
+
+/// Puts where the looks begin of what was encoded anew behind other nodes.
+pub(crate) fn note_fresh(
+    fresh: &[(usize, Rc<Published>)],
+    begun: &mut Vec<NodeId>,
+) -> Result<(), AllocError>
+    ensures { OnOk result ((v : ℕ) → BeginsPut (puts_of fresh.now) v → Contains begun.new.items v) }
+{
+    for made in fresh {
+        note_looks(&made.1.looks, begun)?;
+    }
+    Ok(())
+}
+
+/// Puts where the looks of a path begin behind other nodes.
+fn note_named(named: &NamedPath, begun: &mut Vec<NodeId>) -> Result<(), AllocError>
+    ensures before { OnOk result ((v : ℕ) → Contains begun.old.items v → Contains begun.new.items v) }
+    ensures named { OnOk result ((v : ℕ) → BeginsIn (option_map (λ p. made_of p.value) named.now.published) v
+        → Contains begun.new.items v) }
+{
+    if let Some(published) = &named.published {
+        note_looks(&published.looks, begun)?;
+    }
+    Ok(())
+}
+
+impl Listing {
+    /// Puts behind other nodes where the looks of all paths begin, as often as one does.
+    pub fn begins(&self, begun: &mut Vec<NodeId>) -> Result<(), AllocError>
+        ensures { OnOk result ((v : ℕ) → Begins (items self.now) v → Contains begun.new.items v) }
+    {
+        for position in 0..self.paths.len() {
+            let Some((_, named)) = self.paths.get_index(position) else {
+                unreachable!()
+            };
+            note_named(named, begun)?;
+        }
+        Ok(())
+    }
+}

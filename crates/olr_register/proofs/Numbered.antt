@@ -1,0 +1,77 @@
+-- The numbers of nodes that a register keeps: right on its map, with a source where each look of its list begins.
+use Rattle.std.proofs.Common.{inl, inr, ◌≡◌, ℕ, ◌⊎◌, false, List, [], ◌∷◌, ◌++◌, map, Contains, Option, Some, None, is_some, Ok, IsTrue, IsFalse, sym, ap, ◌∙◌, subst}
+use Rattle.olr_spec.specs.Map.{Map, Edit, edited, touched_nodes}
+use Rattle.olr_spec.specs.Extension.{Path, has, limit}
+use Rattle.olr_spec.specs.Detours.{Near}
+use Rattle.olr_spec.proofs.ChangeLemmas.{edit_differs}
+use Rattle.olr_map.specs.RoadMaps.{map_of, map_before}
+use Rattle.olr_map.specs.Undos.{made_all, changes_of}
+use Rattle.olr_map.specs.declared.road_map.RoadMap.{RoadMap}
+use Rattle.olr_near.specs.Numbers.{IsRight, IsSource, SameBut}
+use Rattle.olr_near.specs.declared.nearness.Nearness.{Nearness}
+use Rattle.olr_paths.specs.Items.{Item}
+use Rattle.olr_paths.specs.Changes.{set_item}
+use Rattle.olr_paths.specs.Laying.{overlaid}
+use Rattle.olr_paths.specs.Beginning.{BeginsIn, Begins, AreFar}
+use Rattle.olr_paths.proofs.Beginning.{begins_add, begins_set}
+use Rattle.olr_register.specs.Holding.{map_kept, IsHeld, IsNumbered}
+use Rattle.olr_register.specs.declared.batch.Batch.{Batch}
+
+-- ---- which map it is
+
+pub kept_closed : (roads : RoadMap) (b : Option Batch) → b ≡ None → map_kept roads b ≡ map_of roads
+kept_closed roads b none = ap (map_kept roads) none
+
+-- ---- numbers that are kept
+
+-- unknown ones say nothing
+pub numbered_unknown : (M : Map) (is : List Item) (near : Nearness) → IsFalse near.known → IsNumbered M is near
+numbered_unknown M is near off = record { right = λ on. let never : ⊥ = cc (on, off) in absurd never; sources = λ v b on. let never : ⊥ = cc (on, off) in absurd never }
+
+pub numbered_same : (M N : Map) (is : List Item) (near : Nearness) → N ≡ M → IsNumbered M is near → IsNumbered N is near
+numbered_same M N is near same h = subst (λ (L : Map). IsNumbered L is near) (sym same) h
+
+pub numbered_fewer : (M : Map) (is js : List Item) (near : Nearness) → ((v : ℕ) → Begins js v → Begins is v) → IsNumbered M is near → IsNumbered M js near
+numbered_fewer M is js near few h = record { right = h.right; sources = λ v b. h.sources v (few v b) }
+
+pub numbered_begun : (roads : RoadMap) (is : List Item) (o : Option Batch) (b : Batch) (near : Nearness) → is_some o ≡ false → changes_of b.log ≡ [] → IsNumbered (map_kept roads o) is near → IsNumbered (map_kept roads (Some b)) is near
+numbered_begun roads is (Some d) b near none e h = absurd cc
+numbered_begun roads is None b near none e h = numbered_same (map_of roads) (map_before roads b.log) is near (ap (made_all (map_of roads)) e) h
+
+pub numbered_held : (old new : RoadMap) (is : List Item) (o : Option Batch) (b d : Batch) (near : Nearness) → o ≡ Some b → map_before new d.log ≡ map_before old b.log → IsNumbered (map_kept old o) is near
+    → IsNumbered (map_kept new (Some d)) is near
+numbered_held old new is o b d near e same h = numbered_same (map_kept old o) (map_before new d.log) is near (same ∙ sym (ap (map_kept old) e)) h
+
+-- ---- after edits
+
+pub edit_same_but : (M N : Map) (e : Edit) (T : List ℕ) → edited M e ≡ Ok N → ((v : ℕ) → has T v ≡ has (touched_nodes M e) v) → SameBut T M N
+edit_same_but M N e T ok nodes v off = (edit_differs M N e ok).nodes v (sym (nodes v) ∙ off)
+
+-- the numbers f before, and g where edits of the nodes T, as the list ts, led from M to N
+module _ (M N : Map) (is : List Item) (T ts : List ℕ) (f g : Nearness) (same : ts ≡ T) (but : SameBut T M N) (h : IsNumbered M is f)
+    (right : (L : Map) → SameBut ts L N → IsRight L f → IsRight N g) (sources : (s : ℕ) → IsSource f s → IsSource g s) where
+  pub asked : IsNumbered N is g
+  asked = record { right = right M (subst (λ (us : List ℕ). SameBut us M N) (sym same) but) h.right; sources = λ v b. sources v (h.sources v b) }
+
+  pub far_looks : ((s : ℕ) → IsRight N g → IsSource g s → ¬ Near N ts s limit) → AreFar N T is
+  far_looks far = λ v b. subst (λ (us : List ℕ). ¬ Near N us v limit) same (far v asked.right (asked.sources v b))
+
+-- the list under the changes of a batch has no look that the register's lacks
+pub commit_numbered : (roads : RoadMap) (is : List Item) (o : Option Batch) (b : Batch) (near : Nearness) → o ≡ Some b → IsHeld roads is b → IsNumbered (map_kept roads o) is near → IsNumbered (map_before roads b.log) (overlaid is b.overlay) near
+commit_numbered roads is o b near e held h =
+    numbered_fewer (map_before roads b.log) is (overlaid is b.overlay) near held.begins (numbered_same (map_kept roads o) (map_before roads b.log) is near (sym (ap (map_kept roads) e)) h)
+
+-- ---- with the looks that a renewal made
+
+pub numbered_more : (N : Map) (is js : List Item) (g h : Nearness) (begun : List ℕ) → IsNumbered N is g → ((v : ℕ) → Begins js v → Begins is v ⊎ Contains begun v)
+    → (IsRight N g → ((v : ℕ) → Begins js v → IsSource g v ⊎ Contains begun v) → IsNumbered N js h) → IsNumbered N js h
+numbered_more N is js g h begun was begins numbers =
+    numbers was.right (λ v b. elim (begins v b) [ inl old ↦ inl (was.sources v old) | inr new ↦ inr new ])
+
+-- ---- a path that is held has no look yet
+
+pub begins_held : (is : List Item) (j : Item) → j.made ≡ None → (v : ℕ) → Begins (is ++ j ∷ []) v → Begins is v
+begins_held is j none v h = elim (begins_add is j v h) [ inl old ↦ old | inr new ↦ absurd (subst (λ o. BeginsIn o v) none new) ]
+
+pub begins_other : (name : List ℕ) (path : Path) (is : List Item) (v : ℕ) → Begins (map (set_item name path None) is) v → Begins is v
+begins_other name path is v h = elim (begins_set name path None is v h) [ inl old ↦ old | inr new ↦ absurd new ]

@@ -1,0 +1,15 @@
+use Rattle.std.proofs.Common.{ℕ, List, Contains, inl, inr, sym, subst}
+use Rattle.olr_register.proofs.nearing.renumber.Goals as goal
+
+pub returns-then-not-is_worn : goal.returns-then-not-is_worn
+returns-then-not-is_worn c = λ right begins.
+    record {
+      right = c.add_near.ensures.right right;
+      sources = λ v b. elim (begins v b) [
+        | inl h ↦ c.add_near.ensures.before v h
+        | inr on ↦ c.add_near.ensures.sources v (subst (λ (ns : List ℕ). Contains ns v) (sym c.begun.ensures) on)
+      ];
+    }
+
+pub returns : goal.returns
+returns c = λ right begins. c.number_anew.ensures
