@@ -47,6 +47,17 @@ impl Touched {
         }
     }
 
+    /// Nothing touched any more; the room is kept.
+    pub fn clear(&mut self)
+        ensures nodes { nodes_of self.new ≡ [] }
+        ensures lines { lines_of self.new ≡ [] }
+        ensures changed { changed_of self.new ≡ [] }
+    {
+        self.nodes.clear();
+        self.lines.clear();
+        self.changed.clear();
+    }
+
     /// Makes room for what one more edit touches.
     pub fn reserve(&mut self) -> Result<(), AllocError>
         ensures nodes { nodes_of self.new ≡ nodes_of self.old }

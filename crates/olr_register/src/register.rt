@@ -3,7 +3,7 @@
 use crate::batch::Batch;
 use olr_map::RoadMap;
 use olr_near::Nearness;
-use olr_paths::{Listing, Searches};
+use olr_paths::{Listing, Searches, Touched};
 use olr_refs::Answer;
 use olr_route::Work;
 use std::alloc::Global;
@@ -18,6 +18,8 @@ pub struct Register {
     pub(crate) paths: Listing,
     /// What renewals search with.
     pub(crate) searches: Searches,
+    /// What an edit touches, in room that is kept.
+    pub(crate) touched: Touched,
     pub(crate) work: Work,
     /// How many of the counted encodings were spared.
     pub(crate) kept: u64,
@@ -55,6 +57,7 @@ impl Register {
             roads: RoadMap::new(alloc),
             paths: Listing::new(alloc),
             searches: Searches::new(alloc),
+            touched: Touched::new(alloc),
             work: Work {
                 encodings: 0,
                 searches: 0,

@@ -7,7 +7,6 @@ use crate::nearing::{ask_near, renumber};
 use crate::register::Register;
 use olr_commands::{CommandFault, Reply};
 use olr_map::{Edit, LineId, judge};
-use olr_paths::Touched;
 
 impl Register {
     ghost use Rattle.std.specs.Prelude.{◌≡◌, None, string_bytes};
@@ -24,18 +23,19 @@ impl Register {
             Ok(judged) => judged,
             Err(fault) => return Err(CommandFault::Map(fault)),
         };
-        let mut touched = Touched::new(self.alloc);
-        if touched.reserve().is_err() {
+        self.touched.clear();
+        if self.touched.reserve().is_err() {
             return Err(CommandFault::Memory);
         }
-        touched.note(judged.nodes, judged.line, line_changed(&judged));
+        self.touched
+            .note(judged.nodes, judged.line, line_changed(&judged));
         match self.roads.make(edit, &judged) {
             Ok(undo) => {
-                let far = ask_near(&mut self.near, &self.roads, touched.nodes());
+                let far = ask_near(&mut self.near, &self.roads, self.touched.nodes());
                 match self.paths.renew(
                     self.alloc,
                     &self.roads,
-                    &touched,
+                    &self.touched,
                     far,
                     &mut self.searches,
                     &mut self.work,

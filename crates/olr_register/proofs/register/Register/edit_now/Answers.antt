@@ -25,10 +25,11 @@ pub returns-then-is_err : goal.returns-then-is_err
 returns-then-is_err c =
     let r = c.self.inside in
     let taken = taken_is _ c.in-Ok.ensures.judged.accepted in
-    edit_lacks r.roads (items r.paths) r.batch (tally r.work r.kept) c.args.self.now (edit_of c.args.edit) taken.0 _ c.self.view_is c.requires taken.1 refl
+    as_before c.args.self.now _ _ _ c.self.view_is
+    (edit_lacks r.roads (items r.paths) r.batch (tally r.work r.kept) c.args.self.now (edit_of c.args.edit) taken.0 _ c.self.view_is c.requires taken.1 refl)
 
-pub returns : goal.returns
-returns c =
+pub returns-in-Err-make : goal.returns-in-Err-make
+returns-in-Err-make c =
     let r = c.self.inside in
     let x = c.args.self.now in
     let none = closed_by r.roads (items r.paths) r.batch (tally r.work r.kept) x c.self.view_is c.requires in
@@ -36,8 +37,8 @@ returns c =
     as_before x _ _ _ (seen_again r.roads c.make.new.self (items r.paths) (items r.paths) r.batch (tally r.work r.kept) (tally r.work r.kept) none c.in-Err-make.ensures.same refl refl ∙ c.self.view_is)
     (edit_lacks r.roads (items r.paths) r.batch (tally r.work r.kept) x (edit_of c.args.edit) taken.0 _ c.self.view_is c.requires taken.1 refl)
 
-pub returns-in-Ok-make : goal.returns-in-Ok-make
-returns-in-Ok-make c =
+pub returns-in-Err-renew : goal.returns-in-Err-renew
+returns-in-Err-renew c =
     let r = c.self.inside in
     let x = c.args.self.now in
     let none = closed_by r.roads (items r.paths) r.batch (tally r.work r.kept) x c.self.view_is c.requires in
@@ -64,28 +65,28 @@ invariant_of-self-in-Err-renew c =
       numbered = numbered_unknown _ _ c.forget.new.self c.forget.ensures;
     }
 
-pub invariant_of-self : goal.invariant_of-self
-invariant_of-self c =
+pub invariant_of-self-in-Ok-renew : goal.invariant_of-self-in-Ok-renew
+invariant_of-self-in-Ok-renew c =
     let r = c.self.inside in
     let e = edit_of c.args.edit in
     let at = c.in-Ok.judged.nodes in
     let ok = c.in-Ok-make.ensures.done ∙ ap (λ (M : Map). Ok M) (sym c.keep.ensures) in
     let none = closed_by r.roads (items r.paths) r.batch (tally r.work r.kept) c.args.self.now c.self.view_is c.requires in
     let but = edit_same_but (map_of r.roads) (map_of c.make.new.self) e (nodes_of c.note.new.self) c.in-Ok-make.ensures.done
-    (noted _ _ (λ v. (at.0 == v) || (at.1 == v)) (λ v. has (touched_nodes (map_of r.roads) e) v) (c.reserve.ensures.nodes ∙ c.new-touched.ensures.nodes) c.note.ensures.nodes c.in-Ok.ensures.judged.nodes) in
+    (noted _ _ (λ v. (at.0 == v) || (at.1 == v)) (λ v. has (touched_nodes (map_of r.roads) e) v) (c.reserve.ensures.nodes ∙ c.clear.ensures.nodes) c.note.ensures.nodes c.in-Ok.ensures.judged.nodes) in
     let was = numbered_same (map_kept r.roads r.batch) (map_of r.roads) (items r.paths) r.near (sym (kept_closed r.roads r.batch none)) c.self.invariant.numbered in
     let now = asked (map_of r.roads) (map_of c.make.new.self) (items r.paths) (nodes_of c.note.new.self) c.nodes.result.now r.near c.ask_near-far.new.near c.nodes.ensures but was c.ask_near-far.ensures.right c.ask_near-far.ensures.sources in
     record {
       register = edit_keeps r.roads c.keep.new.self (items r.paths) (items c.renew.new.self) r.batch (tally r.work r.kept) c.args.self.now e _ c.self.view_is c.requires c.self.invariant.register c.in-Ok.ensures.judged.placed ok
           (nodes_of c.note.new.self) (lines_of c.note.new.self) (changed_of c.note.new.self)
-          (noted _ _ (λ v. (at.0 == v) || (at.1 == v)) (λ v. has (touched_nodes (map_of r.roads) e) v) (c.reserve.ensures.nodes ∙ c.new-touched.ensures.nodes) c.note.ensures.nodes c.in-Ok.ensures.judged.nodes)
-          (noted _ _ _ (λ y. has (touched_lines e) y) (c.reserve.ensures.lines ∙ c.new-touched.ensures.lines) c.note.ensures.lines (λ y. ap (λ (ys : List ℕ). has ys y) (sym c.in-Ok.ensures.judged.lines)))
-          (changes_noted _ _ _ (c.reserve.ensures.changed ∙ c.new-touched.ensures.changed) c.note.ensures.changed (c.line_changed.ensures ∙ c.in-Ok.ensures.judged.changes))
+          (noted _ _ (λ v. (at.0 == v) || (at.1 == v)) (λ v. has (touched_nodes (map_of r.roads) e) v) (c.reserve.ensures.nodes ∙ c.clear.ensures.nodes) c.note.ensures.nodes c.in-Ok.ensures.judged.nodes)
+          (noted _ _ _ (λ y. has (touched_lines e) y) (c.reserve.ensures.lines ∙ c.clear.ensures.lines) c.note.ensures.lines (λ y. ap (λ (ys : List ℕ). has ys y) (sym c.in-Ok.ensures.judged.lines)))
+          (changes_noted _ _ _ (c.reserve.ensures.changed ∙ c.clear.ensures.changed) c.note.ensures.changed (c.line_changed.ensures ∙ c.in-Ok.ensures.judged.changes))
           (subst (λ (M : Map). AreRemade M (items r.paths) (items c.renew.new.self)) (sym c.keep.ensures) (c.in-Ok-renew.ensures.renewed _ (edit_before r.roads c.keep.new.self (items r.paths) (items c.renew.new.self) r.batch (tally r.work r.kept) c.args.self.now e (list_map entry_of c.in-Ok-renew.entries.items) c.self.view_is c.requires c.self.invariant.register c.in-Ok.ensures.judged.placed ok
           (nodes_of c.note.new.self) (lines_of c.note.new.self) (changed_of c.note.new.self)
-          (noted _ _ (λ v. (at.0 == v) || (at.1 == v)) (λ v. has (touched_nodes (map_of r.roads) e) v) (c.reserve.ensures.nodes ∙ c.new-touched.ensures.nodes) c.note.ensures.nodes c.in-Ok.ensures.judged.nodes)
-          (noted _ _ _ (λ y. has (touched_lines e) y) (c.reserve.ensures.lines ∙ c.new-touched.ensures.lines) c.note.ensures.lines (λ y. ap (λ (ys : List ℕ). has ys y) (sym c.in-Ok.ensures.judged.lines)))
-          (changes_noted _ _ _ (c.reserve.ensures.changed ∙ c.new-touched.ensures.changed) c.note.ensures.changed (c.line_changed.ensures ∙ c.in-Ok.ensures.judged.changes)) (map_of c.make.new.self) (sym c.keep.ensures)))) c.in-Ok-renew.ensures.named c.in-Ok-renew.ensures.reported;
+          (noted _ _ (λ v. (at.0 == v) || (at.1 == v)) (λ v. has (touched_nodes (map_of r.roads) e) v) (c.reserve.ensures.nodes ∙ c.clear.ensures.nodes) c.note.ensures.nodes c.in-Ok.ensures.judged.nodes)
+          (noted _ _ _ (λ y. has (touched_lines e) y) (c.reserve.ensures.lines ∙ c.clear.ensures.lines) c.note.ensures.lines (λ y. ap (λ (ys : List ℕ). has ys y) (sym c.in-Ok.ensures.judged.lines)))
+          (changes_noted _ _ _ (c.reserve.ensures.changed ∙ c.clear.ensures.changed) c.note.ensures.changed (c.line_changed.ensures ∙ c.in-Ok.ensures.judged.changes)) (map_of c.make.new.self) (sym c.keep.ensures)))) c.in-Ok-renew.ensures.named c.in-Ok-renew.ensures.reported;
       numbered = numbered_same (map_of c.keep.new.self) (map_kept c.keep.new.self r.batch) _ _ (kept_closed c.keep.new.self r.batch none)
           (numbered_more (map_of c.keep.new.self) (items r.paths) _ c.ask_near-far.new.near _ _ (numbered_same (map_of c.make.new.self) (map_of c.keep.new.self) (items r.paths) _ c.keep.ensures now) c.in-Ok-renew.ensures.begun c.renumber.ensures);
     }
@@ -99,15 +100,15 @@ returns-in-Ok-renew c =
     let before =
     (edit_before r.roads c.keep.new.self (items r.paths) (items c.renew.new.self) r.batch (tally r.work r.kept) c.args.self.now e (list_map entry_of c.in-Ok-renew.entries.items) c.self.view_is c.requires c.self.invariant.register c.in-Ok.ensures.judged.placed ok
     (nodes_of c.note.new.self) (lines_of c.note.new.self) (changed_of c.note.new.self)
-    (noted _ _ (λ v. (at.0 == v) || (at.1 == v)) (λ v. has (touched_nodes (map_of r.roads) e) v) (c.reserve.ensures.nodes ∙ c.new-touched.ensures.nodes) c.note.ensures.nodes c.in-Ok.ensures.judged.nodes)
-    (noted _ _ _ (λ y. has (touched_lines e) y) (c.reserve.ensures.lines ∙ c.new-touched.ensures.lines) c.note.ensures.lines (λ y. ap (λ (ys : List ℕ). has ys y) (sym c.in-Ok.ensures.judged.lines)))
-    (changes_noted _ _ _ (c.reserve.ensures.changed ∙ c.new-touched.ensures.changed) c.note.ensures.changed (c.line_changed.ensures ∙ c.in-Ok.ensures.judged.changes)) (map_of c.make.new.self) (sym c.keep.ensures)) in
+    (noted _ _ (λ v. (at.0 == v) || (at.1 == v)) (λ v. has (touched_nodes (map_of r.roads) e) v) (c.reserve.ensures.nodes ∙ c.clear.ensures.nodes) c.note.ensures.nodes c.in-Ok.ensures.judged.nodes)
+    (noted _ _ _ (λ y. has (touched_lines e) y) (c.reserve.ensures.lines ∙ c.clear.ensures.lines) c.note.ensures.lines (λ y. ap (λ (ys : List ℕ). has ys y) (sym c.in-Ok.ensures.judged.lines)))
+    (changes_noted _ _ _ (c.reserve.ensures.changed ∙ c.clear.ensures.changed) c.note.ensures.changed (c.line_changed.ensures ∙ c.in-Ok.ensures.judged.changes)) (map_of c.make.new.self) (sym c.keep.ensures)) in
     let count = c.in-Ok-renew.ensures.counted _ before in
     edit_done r.roads c.keep.new.self (items r.paths) (items c.renew.new.self) r.batch (tally r.work r.kept) c.args.self.now e _ c.self.view_is c.requires c.self.invariant.register c.in-Ok.ensures.judged.placed ok
     (nodes_of c.note.new.self) (lines_of c.note.new.self) (changed_of c.note.new.self)
-    (noted _ _ (λ v. (at.0 == v) || (at.1 == v)) (λ v. has (touched_nodes (map_of r.roads) e) v) (c.reserve.ensures.nodes ∙ c.new-touched.ensures.nodes) c.note.ensures.nodes c.in-Ok.ensures.judged.nodes)
-    (noted _ _ _ (λ y. has (touched_lines e) y) (c.reserve.ensures.lines ∙ c.new-touched.ensures.lines) c.note.ensures.lines (λ y. ap (λ (ys : List ℕ). has ys y) (sym c.in-Ok.ensures.judged.lines)))
-    (changes_noted _ _ _ (c.reserve.ensures.changed ∙ c.new-touched.ensures.changed) c.note.ensures.changed (c.line_changed.ensures ∙ c.in-Ok.ensures.judged.changes))
+    (noted _ _ (λ v. (at.0 == v) || (at.1 == v)) (λ v. has (touched_nodes (map_of r.roads) e) v) (c.reserve.ensures.nodes ∙ c.clear.ensures.nodes) c.note.ensures.nodes c.in-Ok.ensures.judged.nodes)
+    (noted _ _ _ (λ y. has (touched_lines e) y) (c.reserve.ensures.lines ∙ c.clear.ensures.lines) c.note.ensures.lines (λ y. ap (λ (ys : List ℕ). has ys y) (sym c.in-Ok.ensures.judged.lines)))
+    (changes_noted _ _ _ (c.reserve.ensures.changed ∙ c.clear.ensures.changed) c.note.ensures.changed (c.line_changed.ensures ∙ c.in-Ok.ensures.judged.changes))
     (subst (λ (M : Map). AreRemade M (items r.paths) (items c.renew.new.self)) (sym c.keep.ensures) (c.in-Ok-renew.ensures.renewed _ before)) c.in-Ok-renew.ensures.named c.in-Ok-renew.ensures.reported
     (tally c.renew.new.work c.renew.new.kept) _ count.0 refl count.1 count.2 count.3
     (record { searches = c.in-Ok-renew.ensures.searches; settled = c.in-Ok-renew.ensures.settled; spared = c.in-Ok-renew.ensures.kept })
@@ -119,7 +120,7 @@ renew-requires c = λ on.
     let at = c.in-Ok.judged.nodes in
     let none = closed_by r.roads (items r.paths) r.batch (tally r.work r.kept) c.args.self.now c.self.view_is c.requires in
     let but = edit_same_but (map_of r.roads) (map_of c.make.new.self) e (nodes_of c.note.new.self) c.in-Ok-make.ensures.done
-    (noted _ _ (λ v. (at.0 == v) || (at.1 == v)) (λ v. has (touched_nodes (map_of r.roads) e) v) (c.reserve.ensures.nodes ∙ c.new-touched.ensures.nodes) c.note.ensures.nodes c.in-Ok.ensures.judged.nodes) in
+    (noted _ _ (λ v. (at.0 == v) || (at.1 == v)) (λ v. has (touched_nodes (map_of r.roads) e) v) (c.reserve.ensures.nodes ∙ c.clear.ensures.nodes) c.note.ensures.nodes c.in-Ok.ensures.judged.nodes) in
     let was = numbered_same (map_kept r.roads r.batch) (map_of r.roads) (items r.paths) r.near (sym (kept_closed r.roads r.batch none)) c.self.invariant.numbered in
     far_looks (map_of r.roads) (map_of c.make.new.self) (items r.paths) (nodes_of c.note.new.self) c.nodes.result.now r.near c.ask_near-far.new.near c.nodes.ensures but was c.ask_near-far.ensures.right c.ask_near-far.ensures.sources
     (c.ask_near-far.ensures.far on)
