@@ -13,7 +13,7 @@ use std::collections::HashMap;
 mod tests;
 
 /// Numbers and their marks. Each number has each mark once, and a number without marks takes no room.
-#[derive(Drop)]
+#[derive(Drop, Debug)]
 pub struct Index {
     marks: HashMap<u64, Vec<u64>>,
     alloc: Global,
@@ -21,7 +21,7 @@ pub struct Index {
 }
 
 impl Index {
-    ghost use Rattle.std.specs.Prelude.{◌≡◌, ◌||◌, ◌==◌, ◌&&◌, not, ℕ, [], OnOk, OnErr};
+    ghost use Rattle.std.specs.Prelude.{◌≡◌, ◌||◌, ◌==◌, ◌&&◌, not, ℕ, [], IsTrue, OnOk, OnErr};
     ghost use Rattle.std.specs.List.Sorted.{IsStrictlyIncreasing};
     ghost use Rattle.olr_spec.specs.Extension.{has};
     ghost use Rattle.olr_index.specs.Marks.{marks_of, holds};
@@ -45,6 +45,13 @@ impl Index {
             Some(marks) => marks.as_slice(),
             None => &[],
         }
+    }
+
+    /// Whether it is known that no number has a mark.
+    pub fn is_empty(&self) -> bool
+        ensures { IsTrue result → (number : ℕ) → marks_of self.now number ≡ [] }
+    {
+        self.marks.is_empty()
     }
 
     /// Gives a number a mark, unless it has it already. After a refusal the numbers have the marks that they had.

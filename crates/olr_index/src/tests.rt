@@ -5,7 +5,9 @@ use std::test::Fail;
 fn marks_come_and_go(rt: HostRuntime) -> Result<(), Fail> {
     let mut index = Index::new(rt.alloc());
     assert_eq!(rt; index.of(7).len(), 0);
+    assert!(rt; index.is_empty());
     index.add(7, 3)?;
+    assert!(rt; !index.is_empty());
     index.add(7, 1)?;
     index.add(7, 3)?;
     index.add(8, 2)?;

@@ -6,7 +6,10 @@ pub mod Nearness
 pub mod Beginning
 pub mod AskedLemmas
 pub mod Alls
+pub mod Noting
 pub mod NamedEntries
+pub mod Marking
+pub mod Standing
 pub mod Overlaying
 pub mod Telling
 pub mod Placing
@@ -14,3 +17,4 @@ pub mod Following
 pub mod LookLengths
 pub mod KeptLemmas
 pub mod Through
+pub mod Covering

@@ -16,7 +16,7 @@ use Rattle.olr_paths.proofs.Sets.{has_from, in_from, Contains-map, Contains-unma
 -- ---- a least distance
 
 -- where no number is the distance, no way is as short
-no_way : (M : Map) (direction : Direction) (from : List (ℕ × ℕ)) (v most : ℕ) → ((d : ℕ) → IsDistance M direction from v d → d ≤ most → ⊥) → (n e : ℕ) → e < n → e ≤ most → Leads M direction from v e → ⊥
+pub no_way : (M : Map) (direction : Direction) (from : List (ℕ × ℕ)) (v most : ℕ) → ((d : ℕ) → IsDistance M direction from v d → d ≤ most → ⊥) → (n e : ℕ) → e < n → e ≤ most → Leads M direction from v e → ⊥
 no_way M direction from v most none zero e lt le leads = absurd (omega arith)
 no_way M direction from v most none (suc n) e lt le leads =
     none e (record {

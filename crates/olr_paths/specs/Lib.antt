@@ -1,7 +1,9 @@
+pub mod Finding
 pub mod Items
 pub mod Changes
 pub mod Touching
 pub mod Searching
 pub mod Renewing
+pub mod Candidates
 pub mod Laying
 pub mod Beginning

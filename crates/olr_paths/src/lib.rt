@@ -4,9 +4,11 @@
 
 pub mod asking;
 pub mod begins;
+pub mod candidates;
 pub mod detours;
 pub mod encoding;
 pub mod entries;
+pub mod finder;
 pub mod listing;
 pub mod overlay;
 pub mod published;

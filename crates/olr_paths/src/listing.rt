@@ -1,9 +1,13 @@
 //! A list of named paths, in order.
 ghost use Rattle.std.specs.Prelude.{◌≡◌, IfOk, option_map};
-ghost use Rattle.olr_paths.specs.Items.{items, made_of};
+ghost use Rattle.std.specs.Prelude.{◌≢◌, ◌<◌, ℕ, None, length, get_or, IsFalse, IfSome, OnOk, OnErr};
+ghost use Rattle.std.specs.List.Sorted.{IsStrictlyIncreasing};
+ghost use Rattle.olr_paths.specs.Finding.{AreNoted, AreNoted-prop, AreAll, AreAll-prop, NamedNoted, Grows, Spares};
 
+use crate::finder::Finder;
 use crate::published::Published;
 use indexmap::IndexMap;
+use olr_map::LineId;
 use olr_refs::Path;
 use std::alloc::{AllocError, Global};
 use std::rc::Rc;
@@ -16,6 +20,9 @@ pub struct NamedPath {
 }
 
 impl NamedPath {
+    ghost use Rattle.std.specs.Prelude.{◌≡◌, IfOk, option_map};
+    ghost use Rattle.olr_paths.specs.Items.{made_of};
+
     /// The same, which shares the path and what is published of it with this one.
     pub(crate) fn share(&self) -> Result<NamedPath, AllocError>
         ensures path { IfOk result (λ n. n.path.value ≡ self.now.path.value) }
@@ -37,12 +44,22 @@ impl NamedPath {
 #[derive(Drop, Debug)]
 pub struct Listing {
     pub(crate) paths: IndexMap<String, NamedPath>,
+    /// The marks of the paths, rising. A path keeps its mark when others are dropped.
+    pub(crate) marks: Vec<u64>,
+    /// Finds the marks of the paths that were encoded.
+    pub(crate) finder: Finder,
+    /// Whether a path may be there that was not encoded yet.
+    pub(crate) held: bool,
+    ghost long: { length marks.items ≡ length paths.entries },
+    ghost rise: { IsStrictlyIncreasing marks.items },
+    ghost noted: { AreNoted paths.entries marks.items finder } by { AreNoted-prop paths.entries marks.items finder },
+    ghost encoded: { IsFalse held → AreAll paths.entries } by { AreAll-prop held paths.entries },
 }
 
 impl Listing {
-    ghost use Rattle.std.specs.Prelude.{◌≡◌, [], ◌∷◌, ◌++◌, true, false, not, None, map, filter, length, is_some, slice_get, string_bytes, IfOk, OnOk, OnErr};
+    ghost use Rattle.std.specs.Prelude.{◌≡◌, [], ◌∷◌, ◌++◌, true, false, not, None, map, filter, length, is_some, slice_get, string_bytes, option_map, IfOk, OnOk, OnErr};
     ghost use Rattle.olr_commands.specs.State.{NamesDiffer, path_named, same_name};
-    ghost use Rattle.olr_paths.specs.Items.{all_named, made_in};
+    ghost use Rattle.olr_paths.specs.Items.{items, made_of, all_named, made_in};
     ghost use Rattle.olr_paths.specs.Changes.{set_item};
 
     /// The list of no paths. Takes no memory.
@@ -51,6 +68,9 @@ impl Listing {
     {
         Listing {
             paths: IndexMap::new(alloc),
+            marks: Vec::new(alloc),
+            finder: Finder::new(alloc),
+            held: false,
         }
     }
 
@@ -119,8 +139,7 @@ impl Listing {
             path: Rc::new(alloc, path)?,
             published: None,
         };
-        self.put_other(name, named);
-        Ok(())
+        self.put_other(name, named)
     }
 
     /// Takes the path of that name away; those after it close up. Takes no memory.
@@ -128,7 +147,16 @@ impl Listing {
         ensures { items self.new ≡ filter (λ i. not (same_name i.name name.now)) (items self.old) }
     {
         let _names = self.len();
-        self.paths.shift_remove(name);
+        let Some(position) = self.paths.get_index_of(name) else {
+            return;
+        };
+        let Some(named) = self.paths.shift_remove(name) else {
+            unreachable!()
+        };
+        let mark = self.marks.remove(position);
+        if let Some(published) = &named.published {
+            self.finder.forget(mark, named.path.lines(), published);
+        }
     }
 
     /// Puts a path last. After a refusal the list is as before.
@@ -142,17 +170,126 @@ impl Listing {
             } ∷ []) }
         ensures err { OnErr result (items self.new ≡ items self.old) }
     {
-        self.paths.insert(name, named)?;
+        let mark = next_mark(&self.marks)?;
+        self.paths.reserve(1)?;
+        self.marks.reserve(1)?;
+        note_named(&mut self.finder, mark, &named, None)?;
+        let held = is_held(self.held, &named);
+        match self.paths.insert(name, named) {
+            Ok(_) => (),
+            Err(_) => unreachable!(),
+        }
+        match self.marks.push(mark) {
+            Ok(()) => (),
+            Err(_) => unreachable!(),
+        }
+        self.held = held;
         Ok(())
     }
 
-    /// Puts another path under a name, in its place. Takes no memory.
-    pub(crate) fn put_other(&mut self, name: &str, named: NamedPath)
-        ensures { items self.new
-            ≡ map (set_item name.now named.path.value (option_map (λ p. made_of p.value) named.published)) (items self.old) }
+    /// Puts another path under a name, in its place. After a refusal the list is as before.
+    pub(crate) fn put_other(&mut self, name: &str, named: NamedPath) -> Result<(), AllocError>
+        ensures ok { OnOk result (items self.new
+            ≡ map (set_item name.now named.path.value (option_map (λ p. made_of p.value) named.published)) (items self.old)) }
+        ensures err { OnErr result (items self.new ≡ items self.old) }
     {
+        let _names = self.len();
+        let Some(position) = self.paths.get_index_of(name) else {
+            return Ok(());
+        };
+        let mark = self.marks[position];
+        let Some((_, current)) = self.paths.get_index(position) else {
+            unreachable!()
+        };
+        renote(&mut self.finder, mark, current, &named)?;
+        self.held = is_held(self.held, &named);
         if let Some(place) = self.paths.get_mut(name) {
             *place = named;
         }
+        Ok(())
+    }
+}
+
+/// Whether a path may be there that was not encoded yet, where there is one more.
+fn is_held(held: bool, named: &NamedPath) -> bool
+    ensures { IsFalse result → IsFalse held × (named.now.published ≢ None) }
+{
+    held || named.published.is_none()
+}
+
+/// The mark of one more path, which is more than those of the others.
+fn next_mark(marks: &[u64]) -> Result<u64, AllocError>
+    requires { IsStrictlyIncreasing marks.now }
+    ensures { IfOk result (λ mark. (k : ℕ) → k < length marks.now → get_or marks.now k 0 < mark) }
+{
+    let Some(last) = marks.last() else {
+        return Ok(0);
+    };
+    match last.checked_add(1) {
+        Some(mark) => Ok(mark),
+        None => Err(AllocError),
+    }
+}
+
+/// Gives what a path has its mark, if it was encoded. After a refusal it is taken again, but from what the path that is kept
+/// has.
+fn note_named(
+    finder: &mut Finder,
+    mark: u64,
+    named: &NamedPath,
+    kept: Option<&NamedPath>,
+) -> Result<(), AllocError>
+    ensures noted { OnOk result (NamedNoted finder.new mark named.now) }
+    ensures grows { OnOk result (Grows finder.old finder.new) }
+    ensures keeps { IfSome kept.entry (λ k. NamedNoted finder.old mark k.now → NamedNoted finder.new mark k.now) }
+    ensures spares { Spares mark finder.old finder.new }
+{
+    let Some(published) = &named.published else {
+        return Ok(());
+    };
+    let noted = finder.note(mark, named.path.lines(), published);
+    if noted.is_err() {
+        forget_named(finder, mark, named.path.lines(), published, kept);
+    }
+    noted
+}
+
+/// Gives what a path has the mark of the one in whose place it comes, and takes it from what that one had. After a refusal that
+/// one has it still.
+fn renote(
+    finder: &mut Finder,
+    mark: u64,
+    before: &NamedPath,
+    after: &NamedPath,
+) -> Result<(), AllocError>
+    ensures noted { OnOk result (NamedNoted finder.new mark after.now) }
+    ensures err { OnErr result (NamedNoted finder.old mark before.now → NamedNoted finder.new mark before.now) }
+    ensures spares { Spares mark finder.old finder.new }
+{
+    note_named(finder, mark, after, Some(before))?;
+    if let Some(published) = &before.published {
+        forget_named(finder, mark, before.path.lines(), published, Some(after));
+    }
+    Ok(())
+}
+
+/// Takes the mark from what a path had, but for what the path that is kept has, if it was encoded. Takes no memory.
+fn forget_named(
+    finder: &mut Finder,
+    mark: u64,
+    lines: &[LineId],
+    gone: &Published,
+    kept: Option<&NamedPath>,
+)
+    ensures keeps { IfSome kept.entry (λ k. NamedNoted finder.old mark k.now → NamedNoted finder.new mark k.now) }
+    ensures spares { Spares mark finder.old finder.new }
+{
+    let Some(named) = kept else {
+        finder.forget(mark, lines, gone);
+        return;
+    };
+    match &named.published {
+        Some(published) => finder.forget_but(mark, lines, gone, named.path.lines(), published),
+        None => finder.forget(mark, lines, gone),
     }
 }

@@ -10,12 +10,17 @@ ghost use Rattle.olr_paths.specs.Items.{Made, made_of, items, answer_in, all_nam
 ghost use Rattle.olr_paths.specs.Changes.{IsBefore, IsConcerned, AreRemade, Reported, Follows};
 ghost use Rattle.olr_paths.specs.Laying.{overlaid};
 ghost use Rattle.olr_paths.specs.Touching.{nodes_of, lines_of, changed_of};
-ghost use Rattle.olr_paths.specs.Searching.{AreDetours, IsAsked, AreAsked, LacksLooks, LackLooks};
+ghost use Rattle.olr_paths.specs.Searching.{AreDetours, IsAsked, AreAsked, LackLooks};
+ghost use Rattle.olr_paths.specs.Candidates.{Covers};
+ghost use Rattle.olr_paths.specs.Finding.{AreNotedAt};
+ghost use Rattle.std.specs.List.Sorted.{IsNonDecreasing};
+ghost use Rattle.std.specs.Prelude.{vec_len, vec_capacity};
 ghost use Rattle.olr_paths.specs.Beginning.{Begins, BeginsPut, AreFar, begun_in};
 ghost use Rattle.olr_paths.specs.Renewing.{item_of, all_put, puts_of, made_at, renewed, Told, Stays, IsFate, IsStep, OneMore};
 
 use crate::asking::{line_touched, own_touched, search_near, touches};
 use crate::begins::note_fresh;
+use crate::candidates::candidates;
 use crate::detours::{are_clear, search_detours};
 use crate::encoding::publish;
 use crate::listing::{Listing, NamedPath};
@@ -177,45 +182,28 @@ impl Renewal {
     }
 }
 
-/// Whether it is known that a path has no look.
-fn lacks_looks(named: &NamedPath) -> bool
-    ensures { IsTrue result → LacksLooks (option_map (λ p. made_of p.value) named.now.published) }
-{
-    match &named.published {
-        Some(published) => published.looks.is_empty(),
-        None => true,
-    }
-}
-
 /// Whether it is known that no path has a look: then no touched node can be near to one.
 fn lack_looks(list: &Listing) -> bool
     ensures { IsTrue result → LackLooks (items list.now) }
 {
-    for position in 0..list.paths.len() {
-        let Some((_, named)) = list.paths.get_index(position) else {
-            unreachable!()
-        };
-        if !lacks_looks(named) {
-            return false;
-        }
-    }
-    true
+    list.finder.from.is_empty()
 }
 
-/// How far the searches for detours have to go, in decimetres: the longest look of a concerned path of which no own node and
-/// no line is touched. None where there is no such look.
+/// How far the searches for detours have to go, in decimetres: the longest look of a path at these positions that is concerned
+/// and of which no own node and no line is touched. None where there is no such look.
 fn longest<M: MapRead>(
     map: &M,
     list: &Listing,
+    found: &[usize],
     touched: &Touched,
     searches: &Searches,
 ) -> Option<u32>
     requires { AreAsked (M.map map.now) (M.place_in map.now) touched.now searches.now (items list.now) }
 {
     let mut longest = None;
-    for position in 0..list.paths.len() {
-        let Some((_, named)) = list.paths.get_index(position) else {
-            unreachable!()
+    for position in found {
+        let Some((_, named)) = list.paths.get_index(*position) else {
+            continue;
         };
         let Some(published) = &named.published else {
             continue;
@@ -232,9 +220,60 @@ fn longest<M: MapRead>(
     longest
 }
 
+/// What is known before paths are encoded: the positions of those that edits may concern, rising, and how far detours were
+/// asked, if they were.
+#[derive(Drop)]
+struct Asked {
+    found: Vec<usize>,
+    detours: Option<u32>,
+}
+
 /// Searches from what edits touched, unless no look can be touched, as where it is told that they are far from all of
-/// them, or no path has one; and, where a path is left to decide by that, from the lines that they changed. How far
-/// detours were asked, if they were.
+/// them, or no path has one.
+fn search_touched<M: MapRead>(
+    alloc: Global,
+    map: &M,
+    list: &Listing,
+    touched: &Touched,
+    far: bool,
+    searches: &mut Searches,
+) -> Result<(), AllocError>
+    requires { IsTrue far → AreFar (M.map map.now) (nodes_of touched.now) (items list.now) }
+    ensures { OnOk result
+        (AreAsked (M.map map.now) (M.place_in map.now) touched.now searches.new (items list.now)) }
+{
+    searches.far = far || lack_looks(list);
+    if searches.far {
+        return Ok(());
+    }
+    search_near(alloc, map, touched, &mut searches.near)?;
+    Ok(())
+}
+
+/// Searches from the lines that edits changed, where a path at these positions is left to decide by that. How far detours
+/// were asked, if they were.
+fn ask_detours<M: MapRead>(
+    alloc: Global,
+    map: &M,
+    list: &Listing,
+    found: &[usize],
+    touched: &Touched,
+    searches: &mut Searches,
+) -> Result<Option<u32>, AllocError>
+    requires { AreAsked (M.map map.now) (M.place_in map.now) touched.now searches.old (items list.now) }
+    ensures asked { OnOk result
+        (AreAsked (M.map map.now) (M.place_in map.now) touched.now searches.new (items list.now)) }
+    ensures detours { IfOk result (λ asked. IfSome asked (AreDetours (M.map map.now) (M.place_in map.now) touched.now searches.new)) }
+{
+    let Some(limit) = longest(map, list, found, touched, searches) else {
+        return Ok(None);
+    };
+    let asked = search_detours(alloc, map, touched, limit, searches)?;
+    Ok(asked)
+}
+
+/// Searches from what edits touched, finds the paths that they may concern, and searches, where one of these is left to decide
+/// by that, from the lines that they changed.
 fn ask<M: MapRead>(
     alloc: Global,
     map: &M,
@@ -242,22 +281,19 @@ fn ask<M: MapRead>(
     touched: &Touched,
     far: bool,
     searches: &mut Searches,
-) -> Result<Option<u32>, AllocError>
+) -> Result<Asked, AllocError>
     requires { IsTrue far → AreFar (M.map map.now) (nodes_of touched.now) (items list.now) }
     ensures asked { OnOk result
         (AreAsked (M.map map.now) (M.place_in map.now) touched.now searches.new (items list.now)) }
-    ensures detours { IfOk result (λ asked. IfSome asked (AreDetours (M.map map.now) (M.place_in map.now) touched.now searches.new)) }
+    ensures rising { IfOk result (λ a. IsNonDecreasing a.found.items) }
+    ensures covers { IfOk result
+        (λ a. Covers (M.map map.now) (nodes_of touched.now) (lines_of touched.now) (items list.now) a.found.items) }
+    ensures detours { IfOk result (λ a. IfSome a.detours (AreDetours (M.map map.now) (M.place_in map.now) touched.now searches.new)) }
 {
-    searches.far = far || lack_looks(list);
-    if searches.far {
-        return Ok(None);
-    }
-    search_near(alloc, map, touched, &mut searches.near)?;
-    let Some(limit) = longest(map, list, touched, searches) else {
-        return Ok(None);
-    };
-    let asked = search_detours(alloc, map, touched, limit, searches)?;
-    Ok(asked)
+    search_touched(alloc, map, list, touched, far, searches)?;
+    let found = candidates(alloc, map, list, touched, searches)?;
+    let detours = ask_detours(alloc, map, list, &found, touched, searches)?;
+    Ok(Asked { found, detours })
 }
 
 /// What renewing a list on a map comes to, after the searches from what edits touched and changed.
@@ -268,12 +304,14 @@ fn made_by<M: MapRead>(
     before: &Listing,
     touched: &Touched,
     searches: &Searches,
-    asked: Option<u32>,
+    asked: &Asked,
     look: &mut Search,
     counted: &mut Counted,
 ) -> Result<Renewal, AllocError>
     requires asked { AreAsked (M.map map.now) (M.place_in map.now) touched.now searches.now (items list.now) }
-    requires detours { IfSome asked (AreDetours (M.map map.now) (M.place_in map.now) touched.now searches.now) }
+    requires rising { IsNonDecreasing asked.now.found.items }
+    requires covers { Covers (M.map map.now) (nodes_of touched.now) (lines_of touched.now) (items list.now) asked.now.found.items }
+    requires detours { IfSome asked.now.detours (AreDetours (M.map map.now) (M.place_in map.now) touched.now searches.now) }
     requires follows { Follows (items before.now) (items list.now) }
     ensures renewed { IfOk result (λ r. (L : Map)
         → IsBefore L (M.map map.now) (nodes_of touched.now) (lines_of touched.now) (changed_of touched.now) (items list.now)
@@ -294,11 +332,16 @@ fn made_by<M: MapRead>(
         fresh: Vec::new(alloc),
         entries: Vec::new(alloc),
     };
-    for position in 0..list.paths.len() {
+    let mut next = 0;
+    for candidate in &asked.found {
+        let position = *candidate;
         let Some((name, named)) = list.paths.get_index(position) else {
-            unreachable!()
+            continue;
         };
-        let fate = decide(map, touched, searches, asked, named);
+        if position < next {
+            continue;
+        }
+        let fate = decide(map, touched, searches, asked.detours, named);
         renewal.go_on(
             alloc,
             map,
@@ -310,6 +353,7 @@ fn made_by<M: MapRead>(
             look,
             counted,
         )?;
+        next = position + 1;
     }
     Ok(renewal)
 }
@@ -366,7 +410,7 @@ fn made<M: MapRead>(
         before,
         touched,
         searches,
-        asked,
+        &asked,
         &mut look,
         &mut counted,
     )?;
@@ -378,15 +422,81 @@ fn made<M: MapRead>(
     Ok(renewal)
 }
 
-/// Puts each at its position. Takes no memory.
-fn place(list: &mut Listing, mut fresh: Vec<(usize, Rc<Published>)>)
+/// Puts each at its position, and what was there behind others, for which there is room. Takes no memory.
+fn place(
+    list: &mut Listing,
+    mut fresh: Vec<(usize, Rc<Published>)>,
+    before: &mut Vec<(usize, Rc<Published>)>,
+)
+    requires room { vec_len before.old + vec_len fresh ≤ vec_capacity before.old }
+    requires noted { AreNotedAt list.old.paths.entries list.old.marks.items list.old.finder fresh.items }
     ensures { items list.new ≡ all_put (items list.old) (puts_of fresh.items) }
 {
     while let Some((position, published)) = fresh.pop() {
         if let Some(named) = list.paths.get_index_mut(position) {
-            named.published = Some(published);
+            if let Some(earlier) = mem::replace(&mut named.published, Some(published)) {
+                match before.push((position, earlier)) {
+                    Ok(()) => (),
+                    Err(_) => unreachable!(),
+                }
+            }
         }
     }
+}
+
+/// Takes from the paths at these positions the marks of what was there, but for what is there now. Takes no memory.
+fn tidy(list: &mut Listing, gone: &[(usize, Rc<Published>)])
+    ensures { items list.new ≡ items list.old }
+{
+    for (position, published) in gone {
+        let Some((_, named)) = list.paths.get_index(*position) else {
+            continue;
+        };
+        let mark = list.marks[*position];
+        match &named.published {
+            // The lines are those of the same path.
+            Some(kept) => {
+                list.finder
+                    .forget_but(mark, &[], published, named.path.lines(), kept)
+            }
+            None => list.finder.forget(mark, named.path.lines(), published),
+        }
+    }
+}
+
+/// Gives what was made the marks of the positions to which it goes. After a refusal some has them.
+fn note_all(list: &mut Listing, fresh: &[(usize, Rc<Published>)]) -> Result<(), AllocError>
+    ensures noted { OnOk result (AreNotedAt list.new.paths.entries list.new.marks.items list.new.finder fresh.now) }
+    ensures same { items list.new ≡ items list.old }
+{
+    for (position, published) in fresh {
+        let Some((_, named)) = list.paths.get_index(*position) else {
+            continue;
+        };
+        let mark = list.marks[*position];
+        list.finder.note(mark, named.path.lines(), published)?;
+    }
+    Ok(())
+}
+
+/// Puts each at its position. After a refusal the list is as before.
+fn put_in(
+    alloc: Global,
+    list: &mut Listing,
+    fresh: Vec<(usize, Rc<Published>)>,
+) -> Result<(), AllocError>
+    ensures ok { OnOk result (items list.new ≡ all_put (items list.old) (puts_of fresh.items)) }
+    ensures err { OnErr result (items list.new ≡ items list.old) }
+{
+    let mut before = Vec::with_capacity(alloc, fresh.len())?;
+    let noted = note_all(list, &fresh);
+    if noted.is_err() {
+        tidy(list, &fresh);
+        return noted;
+    }
+    place(list, fresh, &mut before);
+    tidy(list, &before);
+    Ok(())
 }
 
 impl Listing {
@@ -425,10 +535,23 @@ impl Listing {
         ensures err_kept { OnErr result (kept.new ≡ kept.old) }
     {
         let _names = self.len();
+        let mut tried = *work;
+        let mut spared = *kept;
         let Renewal { fresh, entries } = made(
-            alloc, map, self, self, touched, far, searches, work, kept,
+            alloc,
+            map,
+            self,
+            self,
+            touched,
+            far,
+            searches,
+            &mut tried,
+            &mut spared,
         )?;
-        place(self, fresh);
+        put_in(alloc, self, fresh)?;
+        self.held = false;
+        *work = tried;
+        *kept = spared;
         Ok(entries)
     }
 
@@ -465,10 +588,23 @@ impl Listing {
         ensures err_work { OnErr result (work.new ≡ work.old) }
         ensures err_kept { OnErr result (kept.new ≡ kept.old) }
     {
+        let mut tried = *work;
+        let mut spared = *kept;
         let Renewal { fresh, entries } = made(
-            alloc, map, self, before, touched, far, searches, work, kept,
+            alloc,
+            map,
+            self,
+            before,
+            touched,
+            far,
+            searches,
+            &mut tried,
+            &mut spared,
         )?;
-        place(self, fresh);
+        put_in(alloc, self, fresh)?;
+        self.held = false;
+        *work = tried;
+        *kept = spared;
         Ok(entries)
     }
 

@@ -95,7 +95,7 @@ impl Listing {
             path: Rc::new(alloc, path)?,
             published: Some(Rc::new(alloc, published)?),
         };
-        self.put_other(name, named);
+        self.put_other(name, named)?;
         *work = tried;
         Ok(entries)
     }

@@ -201,6 +201,14 @@ fn renewed_lists(rt: HostRuntime) -> Result<(), Fail> {
     expect_names(&rt, &entries, &["a"]);
     assert!(rt; entries.iter().all(|entry| entry.published.is_err()));
     assert_eq!(rt; work.encodings, 5);
+
+    // what a dropped path had is found no more
+    list.drop_path("b");
+    assert!(rt; list.finder.own.is_empty());
+    assert!(rt; list.finder.from.is_empty());
+    assert!(rt; !list.finder.lines.is_empty());
+    list.drop_path("a");
+    assert!(rt; list.finder.lines.is_empty());
     Ok(())
 }
 

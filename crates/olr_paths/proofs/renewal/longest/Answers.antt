@@ -17,8 +17,8 @@ touches-requires g c =
     let s = c.args.searches.now in
     let is = items c.args.list.now in
     let i : Item = item_of (c.in-Some.field-0-0.now, c.in-Some.named.now) in
-    let at : slice_get is c.loop-position.position ≡ Some i = item_at c.args.list.now.paths.entries c.loop-position.position (c.in-Some.field-0-0.now, c.in-Some.named.now) (sym c.in-Some.ensures.entry) in
+    let at = item_at c.args.list.now.paths.entries _ (c.in-Some.field-0-0.now, c.in-Some.named.now) (sym c.in-Some.ensures.entry) in
     let asked : IfSome c.in-Some.named.now.published (λ p. IsAsked N place t s (made_of p.value)) =
-    made_if (λ p. made_of p.value) (IsAsked N place t s) c.in-Some.named.now.published (c.requires i (listed_at is c.loop-position.position i at)) in
+    made_if (λ p. made_of p.value) (IsAsked N place t s) c.in-Some.named.now.published (c.requires i (listed_at is _ i at)) in
     subst (λ (p : Published). IsAsked N place t s (made_of p)) (sym c.deref-in-loop-position.ensures)
     (subst (λ (o : Option (Rc Published Global)). IfSome o (λ p. IsAsked N place t s (made_of p.value))) c.in-Some-published.is asked)

@@ -1,11 +1,15 @@
-use Rattle.std.proofs.Common.{◌≡◌, vec_len}
+use Rattle.std.proofs.Common.{◌≡◌, ◌+◌, ◌≤◌, vec_len, vec_capacity}
 use Rattle.olr_paths.specs.Items.{items}
 use Rattle.olr_paths.specs.Renewing.{all_put, puts_of}
+use Rattle.olr_paths.specs.Finding.{AreNotedAt}
 use Rattle.olr_paths.proofs.renewal.place.Given as goal
 
--- those that are left, put on what is there, give what all of them give
+-- those that are left, put on what is there, give what all of them give; they are noted, and there is room
 abbrev pub invariant-loop-position : goal.invariant-loop-position
-invariant-loop-position l = all_put (items l.list) (puts_of l.fresh.items) ≡ all_put (items l.initial.list) (puts_of l.initial.fresh.items)
+invariant-loop-position l =
+    (all_put (items l.list) (puts_of l.fresh.items) ≡ all_put (items l.initial.list) (puts_of l.initial.fresh.items))
+    × AreNotedAt l.list.paths.entries l.list.marks.items l.list.finder l.fresh.items
+    × (vec_len l.before + vec_len l.fresh ≤ vec_capacity l.before)
 
 abbrev pub decreases-loop-position : goal.decreases-loop-position
 decreases-loop-position l = vec_len l.fresh

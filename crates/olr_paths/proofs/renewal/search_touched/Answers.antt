@@ -2,11 +2,11 @@ use Rattle.std.proofs.Common.{true, sym, ◌∙◌}
 use Rattle.olr_paths.specs.Items.{items}
 use Rattle.olr_paths.specs.declared.searches.Searches.{Searches}
 use Rattle.olr_paths.proofs.AskedLemmas.{asked_far, asked_lack, asked_searched}
-use Rattle.olr_paths.proofs.renewal.ask.Goals as goal
-use Rattle.olr_paths.proofs.renewal.ask.Goals.{then-far, else-far}
+use Rattle.olr_paths.proofs.renewal.search_touched.Goals as goal
+use Rattle.olr_paths.proofs.renewal.search_touched.Goals.{then-far, else-far}
 
-pub returns-then-searches-clause-asked : goal.returns-then-searches-clause-asked
-returns-then-searches-clause-asked g c =
+pub returns-then-searches : goal.returns-then-searches
+returns-then-searches g c =
     let N = g.M.MapRead.map c.args.map.now in
     let place = g.M.MapRead.place_in c.args.map.now in
     let is = items c.args.list.now in

@@ -1,0 +1,317 @@
+-- Positions that are found cover the paths that edits concern, and those between them stay.
+use Rattle.std.proofs.Common.{inl, inr, ◌≡◌, ◌≢◌, ℕ, zero, suc, ◌+◌, ◌-◌, ◌<◌, ◌≤◌, ◌==◌, ◌||◌, ◌⊎◌, Bool, true, false, All, List, [], ◌∷◌, ◌++◌, take, length, get_or, slice_get, Contains, Option, Some, None, IsTrue, refl, sym, ap, ◌∙◌, subst, arith}
+use Rattle.std.specs.List.Sorted.{IsNonDecreasing}
+use Rattle.std.proofs.lemmas.Bool.{cases_Bool, cases_lt, or_left, eq-eqb, eqb-true}
+use Rattle.std.proofs.lemmas.List.{take_more, take_all}
+use Rattle.std.proofs.lemmas.List.Elements.{All-contains}
+use Rattle.std.proofs.lemmas.Option.{slice_get_within, slice_get-get_or}
+use Rattle.olr_spec.specs.Map.{Map, IsMap}
+use Rattle.olr_spec.specs.Detours.{ChangedLine}
+use Rattle.olr_spec.specs.Extension.{has}
+use Rattle.olr_index.specs.Marks.{holds, marks_of}
+use Rattle.olr_index.specs.declared.Index.{Index}
+use Rattle.olr_paths.specs.Items.{Item}
+use Rattle.olr_paths.specs.Changes.{Follows}
+use Rattle.olr_paths.specs.Renewing.{ToStay, Left}
+use Rattle.olr_paths.specs.Candidates.{Includes, Finds, Covers}
+use Rattle.olr_paths.specs.declared.renewal.Renewal.{Renewal}
+use Rattle.olr_paths.specs.declared.renewal.Counted.{Counted}
+use Rattle.std.specs.Prelude.{String, option_map, IfSome}
+use Rattle.std.specs.List.Sorted.{IsPermutation}
+use Rattle.std.specs.declared.alloc.Global.{Global}
+use Rattle.std.specs.declared.rc.Rc.{Rc}
+use Rattle.std.proofs.lemmas.List.Sorted.{list_any-IsPermutation}
+use Rattle.olr_spec.specs.Map.{has_node}
+use Rattle.olr_spec.specs.Walks.{dm_of}
+use Rattle.olr_spec.specs.Looks.{Look}
+use Rattle.olr_spec.specs.Extension.{limit}
+use Rattle.olr_route.specs.Searches.{IsNear, IsSearch, limit_of}
+use Rattle.olr_route.specs.declared.distances.Direction.TheVariants.{Against}
+use Rattle.olr_paths.specs.Items.{Made, made_of}
+use Rattle.olr_paths.specs.Changes.{OwnTouched, LineTouched, LookTouched}
+use Rattle.olr_paths.specs.Touching.{nodes_of, lines_of}
+use Rattle.olr_paths.specs.Searching.{sources, IsAsked, AreAsked}
+use Rattle.olr_paths.specs.Candidates.{AreFound}
+use Rattle.olr_paths.specs.Finding.{AreNoted, AreAll}
+use Rattle.olr_paths.specs.declared.touched.Touched.{Touched}
+use Rattle.olr_paths.specs.declared.searches.Searches.{Searches}
+use Rattle.olr_paths.specs.declared.finder.Finder.{Finder}
+use Rattle.olr_paths.specs.declared.published.Published.{Published}
+use Rattle.olr_paths.specs.declared.listing.NamedPath.{NamedPath}
+use Rattle.olr_paths.proofs.NamedEntries.{Entries, item_of, items_of}
+use Rattle.olr_paths.proofs.Sets.{in_from, Contains-map}
+use Rattle.olr_paths.proofs.Nearness.{no_way, near_absent, walk_end}
+use Rattle.olr_paths.proofs.AskedLemmas.{listed_at}
+use Rattle.olr_paths.proofs.Standing.{back}
+use Rattle.olr_paths.proofs.Alls.{all_more}
+use Rattle.olr_paths.proofs.Through.{SoFar, so_far_step}
+
+-- ---- lists of numbers
+
+pub has_push : (xs : List ℕ) (x v : ℕ) → has (xs ++ x ∷ []) v ≡ (has xs v || (x == v))
+has_push [] x v = or_false (x == v) where
+  or_false : (b : Bool) → (b || false) ≡ b
+  or_false true = refl
+  or_false false = refl
+has_push (y ∷ ys) x v = ap (λ (b : Bool). (y == v) || b) (has_push ys x v) ∙ moved (y == v) (has ys v) (x == v) where
+  moved : (a b c : Bool) → (a || (b || c)) ≡ ((a || b) || c)
+  moved true b c = refl
+  moved false b c = refl
+
+pub pushed_kept : (xs : List ℕ) (x : ℕ) → Includes xs (xs ++ x ∷ [])
+pushed_kept xs x v on = has_push xs x v ∙ or_left (has xs v) (x == v) on
+
+pub pushed_there : (xs : List ℕ) (x v : ℕ) → x ≡ v → IsTrue (has (xs ++ x ∷ []) v)
+pushed_there xs x v is = has_push xs x v ∙ right (has xs v) (x == v) (eq-eqb x v is) where
+  right : (a b : Bool) → b ≡ true → (a || b) ≡ true
+  right true b h = refl
+  right false b h = h
+
+-- of the first k, and one more
+pub has_more : (xs : List ℕ) (k d v : ℕ) → k < length xs → IsTrue (has (take (k + 1) xs) v) → IsTrue (has (take k xs) v) ⊎ (get_or xs k d ≡ v)
+has_more xs k d v lt on =
+    let parts : (has (take k xs) v || (get_or xs k d == v)) ≡ true = sym (has_push (take k xs) (get_or xs k d) v) ∙ ap (λ (ys : List ℕ). has ys v) (sym (take_more xs k d lt)) ∙ on in
+    elim (cases_Bool (has (take k xs) v)) [
+      | inl h ↦ inl h
+      | inr h ↦ inr (eqb-true (get_or xs k d) v (ap (λ (b : Bool). b || (get_or xs k d == v)) (sym h) ∙ parts))
+    ]
+
+-- ---- positions of marks
+
+pub record Put (marks of old now : List ℕ) : Type 0 where
+  pub kept : Includes old now
+  pub put : (k : ℕ) → k < length marks → IsTrue (has of (get_or marks k 0)) → IsTrue (has now k)
+
+pub put_none : (marks old : List ℕ) → Put marks [] old old
+put_none marks old = record { kept = λ k on. on; put = λ k lt on. let never : ⊥ = cc (on) in absurd never }
+
+module _ (marks of old now : List ℕ) (i mark d : ℕ) (lt : i < length of) (is : mark ≡ get_or of i d) (h : Put marks (take i of) old now) where
+  pub put_found : (new : List ℕ) (r : Option ℕ) (position : ℕ) → ((k : ℕ) → k < length marks → get_or marks k 0 ≡ mark → r ≡ Some k) → r ≡ Some position → new ≡ now ++ position ∷ [] → Put marks (take (i + 1) of) old new
+  put_found new r position finds at grown =
+      let P : List ℕ → Type 0 = λ zs. Put marks (take (i + 1) of) old zs in
+      subst P (sym grown) (record {
+        kept = λ k on. pushed_kept now position k (h.kept k on);
+        put = λ k low on. elim (has_more of i d (get_or marks k 0) lt on) [
+          | inl earlier ↦ pushed_kept now position k (h.put k low earlier)
+          | inr same ↦ let found = finds k low (sym (is ∙ same)) in let here : position ≡ k = cc (found, at) in pushed_there now position k here
+        ];
+      })
+
+  pub put_passed : (r : Option ℕ) → ((k : ℕ) → k < length marks → get_or marks k 0 ≡ mark → r ≡ Some k) → r ≡ None → Put marks (take (i + 1) of) old now
+  put_passed r finds none =
+      record {
+        kept = h.kept;
+        put = λ k low on. elim (has_more of i d (get_or marks k 0) lt on) [
+          | inl earlier ↦ h.put k low earlier
+          | inr same ↦ let found = finds k low (sym (is ∙ same)) in let never : ⊥ = cc (found, none) in absurd never
+        ];
+      }
+
+pub put_all : (marks of old now : List ℕ) (i : ℕ) → length of ≤ i → Put marks (take i of) old now → Put marks of old now
+put_all marks of old now i end h = subst (λ (zs : List ℕ). Put marks zs old now) (take_all i of end) h
+
+-- ---- positions of numbers
+
+pub record PutAll {A : Type 0} (number : A → ℕ) (marks : List ℕ) (index : Index) (xs : List A) (old now : List ℕ) : Type 0 where
+  pub kept : Includes old now
+  pub put : All (λ x. Finds marks index (number x) now) xs
+
+module _ {A : Type 0} (number : A → ℕ) (marks : List ℕ) (index : Index) (old : List ℕ) where
+  pub put_all_none : PutAll number marks index [] old old
+  put_all_none = record { kept = λ k on. on; put = λ k d lt. absurd (omega arith) }
+
+  pub put_all_more : (xs : List A) (k : ℕ) (d : A) (v : ℕ) (of now new : List ℕ) → k < length xs → v ≡ number (get_or xs k d) → of ≡ marks_of index v → PutAll number marks index (take k xs) old now
+      → Includes now new → ((j : ℕ) → j < length marks → IsTrue (has of (get_or marks j 0)) → IsTrue (has new j)) → PutAll number marks index (take (k + 1) xs) old new
+  put_all_more xs k d v of now new lt is marked h kept put =
+      let P : A → Type 0 = λ x. Finds marks index (number x) new in
+      let one : Finds marks index v new = λ j low on. put j low (ap (λ (ms : List ℕ). has ms (get_or marks j 0)) marked ∙ on) in
+      record {
+        kept = λ j on. kept j (h.kept j on);
+        put = all_more P xs k d lt (λ i e low j below on. kept j (h.put i e low j below on)) (subst (λ (u : ℕ). Finds marks index u new) is one);
+      }
+
+  pub put_all_end : (xs : List A) (k : ℕ) (now : List ℕ) → length xs ≤ k → PutAll number marks index (take k xs) old now → All (λ x. Finds marks index (number x) now) xs
+  put_all_end xs k now end h = subst (λ ys. All (λ x. Finds marks index (number x) now) ys) (take_all k xs end) h.put
+
+pub found_grown : {A : Type 0} (number : A → ℕ) (marks : List ℕ) (index : Index) (xs : List A) (old now : List ℕ) → Includes old now → All (λ x. Finds marks index (number x) old) xs → All (λ x. Finds marks index (number x) now) xs
+found_grown number marks index xs old now kept h = λ i d lt k low on. kept k (h i d lt k low on)
+
+-- ---- all positions below a number
+
+pub covers_all : (N : Map) (T X : List ℕ) (is : List Item) (found : List ℕ) (n : ℕ) → length is ≤ n → ((k : ℕ) → k < n → IsTrue (has found k)) → Covers N T X is found
+covers_all N T X is found n long all k i at off =
+    let on = all k (omega (arith, slice_get_within is k i at, long)) in
+    let never : ⊥ = cc (on, off) in absurd never
+
+-- ---- going from one position to the next
+
+-- the positions below next are passed, as far as the candidates before place k
+pub record Passed (found : List ℕ) (long k next : ℕ) : Type 0 where
+  pub below : (j : ℕ) → j < k → (get_or found j 0 < next) ⊎ (long ≤ get_or found j 0)
+  pub within : next ≤ long
+
+has_place : (xs : List ℕ) (v : ℕ) → IsTrue (has xs v) → (j : ℕ) × (j < length xs) × (get_or xs j 0 ≡ v)
+has_place [] v on = let never : ⊥ = cc (on) in absurd never
+has_place (x ∷ xs) v on =
+    elim (cases_Bool (x == v)) [
+      | inl e ↦ (0, omega arith, eqb-true x v e)
+      | inr e ↦ let r = has_place xs v (ap (λ (b : Bool). b || has xs v) (sym e) ∙ on) in (suc r.0, (let lt = r.1 in omega arith), r.2)
+    ]
+
+-- no candidate stands between
+none_between : (found : List ℕ) (long k next position j : ℕ) → IsNonDecreasing found → Passed found long k next → position ≡ get_or found k 0 → k < length found → position ≤ long → next ≤ j → j < position → has found j ≡ false
+none_between found long k next position j up h is lt within above low =
+    elim (cases_Bool (has found j)) [
+      | inr e ↦ e
+      | inl on ↦
+          let r = has_place found j on in
+          absurd (elim (cases_lt r.0 k) [
+            | inl before ↦ elim (h.below r.0 before) [ inl small ↦ let e = r.2 in omega arith | inr big ↦ let e = r.2 in omega arith ]
+            | inr after ↦ let e = r.2 in let s = up k r.0 0 after r.1 in omega arith
+          ])
+    ]
+
+none_after : (found : List ℕ) (long k next j : ℕ) → length found ≤ k → Passed found long k next → next ≤ j → j < long → has found j ≡ false
+none_after found long k next j end h above low =
+    elim (cases_Bool (has found j)) [
+      | inr e ↦ e
+      | inl on ↦
+          let r = has_place found j on in
+          absurd (elim (h.below r.0 (omega (arith, r.1, end))) [ inl small ↦ let e = r.2 in omega arith | inr big ↦ let e = r.2 in omega arith ])
+    ]
+
+module _ (N : Map) (n : IsMap N) (T X : List ℕ) (C : List ChangedLine) (before is : List Item) (found : List ℕ) (follows : Follows before is) (covers : Covers N T X is found) (old : Counted) (r : Renewal) (now : Counted) where
+  -- paths that are no candidates stay
+  gap : (d p : ℕ) → p + d ≤ length is → ((j : ℕ) → p ≤ j → j < p + d → has found j ≡ false) → SoFar N T X C before is p r old now → SoFar N T X C before is (p + d) r old now
+  gap zero p le free h = subst (λ (q : ℕ). SoFar N T X C before is q r old now) (let e : p ≡ p + 0 = omega arith in e) h
+  gap (suc d) p le free h =
+      elim (slice_get is p) as (λ o. slice_get is p ≡ o → SoFar N T X C before is (p + suc d) r old now) [
+        | None ↦ λ at. absurd (missing is p at (omega arith))
+        | Some i ↦ λ at.
+            let one : SoFar N T X C before is (p + 1) r old now = so_far_step N n T X C before is p i follows at old r r now now h (Left (covers p i at (free p (omega arith) (omega arith))) refl refl) in
+            let rest = gap d (p + 1) (omega arith) (λ j a b. free j (omega arith) (omega arith)) one in
+            subst (λ (q : ℕ). SoFar N T X C before is q r old now) (let e : p + 1 + d ≡ p + suc d = omega arith in e) rest
+      ] refl
+    where
+      missing : (xs : List Item) (k : ℕ) → slice_get xs k ≡ None → k < length xs → ⊥
+      missing [] k at lt = omega arith
+      missing (x ∷ xs) zero at lt = let never : ⊥ = cc (at) in never
+      missing (x ∷ xs) (suc k) at lt = missing xs k at (omega arith)
+
+  pub to_candidate : (k next position : ℕ) → IsNonDecreasing found → Passed found (length is) k next → position ≡ get_or found k 0 → k < length found → position < length is → next ≤ position → SoFar N T X C before is next r old now → SoFar N T X C before is position r old now
+  to_candidate k next position up h at lt within le so_far =
+      subst (λ (q : ℕ). SoFar N T X C before is q r old now) (let e : next + (position - next) ≡ position = omega arith in e)
+      (gap (position - next) next (omega arith) (λ j a b. none_between found (length is) k next position j up h at lt (omega arith) a (omega arith)) so_far)
+
+  pub to_end : (k next : ℕ) → length found ≤ k → Passed found (length is) k next → SoFar N T X C before is next r old now → SoFar N T X C before is (length is) r old now
+  to_end k next end h so_far =
+      let w = h.within in
+      subst (λ (q : ℕ). SoFar N T X C before is q r old now) (let e : next + (length is - next) ≡ length is = omega arith in e)
+      (gap (length is - next) next (omega arith) (λ j a b. none_after found (length is) k next j end h a (omega arith)) so_far)
+
+-- past the last entry
+pub past_end : (ys : Entries) (q : ℕ) → None ≡ slice_get ys q → length (items_of ys) ≤ q
+past_end [] q at = omega arith
+past_end (y ∷ ys) zero at = let never : ⊥ = cc (at) in absurd never
+past_end (y ∷ ys) (suc q) at = let le = past_end ys q at in omega arith
+
+-- one candidate more
+pub passed_none : (found : List ℕ) (long : ℕ) → Passed found long 0 0
+passed_none found long = record { below = λ j lt. absurd (omega arith); within = omega arith }
+
+-- whose position is past
+pub passed_over : (found : List ℕ) (long k next position : ℕ) → Passed found long k next → position ≡ get_or found k 0 → (position < next) ⊎ (long ≤ position) → Passed found long (k + 1) next
+passed_over found long k next position h at out =
+    record {
+      below = λ j lt. elim (cases_lt j k) [
+        | inl low ↦ h.below j low
+        | inr high ↦ let same : k ≡ j = omega arith in let e : position ≡ get_or found j 0 = at ∙ ap (λ (m : ℕ). get_or found m 0) same in subst (λ (q : ℕ). (q < next) ⊎ (long ≤ q)) e out
+      ];
+      within = h.within;
+    }
+
+-- which was gone to
+pub passed_to : (found : List ℕ) (long k next position : ℕ) → Passed found long k next → position ≡ get_or found k 0 → next ≤ position → position < long → Passed found long (k + 1) (position + 1)
+passed_to found long k next position h at le within =
+    record {
+      below = λ j lt. elim (cases_lt j k) [
+        | inl low ↦ elim (h.below j low) [ inl small ↦ inl (omega arith) | inr big ↦ inr big ]
+        | inr high ↦ let same : k ≡ j = omega arith in let e : position ≡ get_or found j 0 = at ∙ ap (λ (m : ℕ). get_or found m 0) same in inl (omega arith)
+      ];
+      within = omega arith;
+    }
+
+-- ---- what is found covers what edits concern
+
+is_there : (o : Option (Rc Published Global)) → o ≢ None → (p : Rc Published Global) × (o ≡ Some p)
+is_there None h = absurd (h refl)
+is_there (Some p) h = (p, refl)
+
+module _ (N : Map) (n : IsMap N) (place : ℕ → ℕ) (t : Touched) (s : Searches) (es : Entries) (ms : List ℕ) (f : Finder) (noted : AreNoted es ms f) (all : AreAll es) (long : length ms ≡ length es) (asked : AreAsked N place t s (items_of es)) (found : List ℕ)
+    (own : AreFound ms f.own (nodes_of t) found) (from : AreFound ms f.from (nodes_of t) found) (lines : AreFound ms f.lines (lines_of t) found)
+    (reached : s.far ≡ false → IsSearch N place Against (sources t) s.near → limit_of s.near ≡ limit → (v : ℕ) → IsNear N Against (sources t) limit v → Finds ms f.from v found) where
+  module _ (k : ℕ) (e : String Global × NamedPath) (at : slice_get es k ≡ Some e) (p : Rc Published Global) (some : e.1.published ≡ Some p) (off : has found k ≡ false) where
+    lower : k < length ms
+    lower = let lt = slice_get_within es k e at in omega arith
+
+    never_own : OwnTouched (nodes_of t) (made_of p.value) → ⊥
+    never_own h =
+        let held = All-contains (λ (v : ℕ). IsTrue (holds f.own v (get_or ms k 0))) p.value.own h.0 ((noted k e at p some).0) h.2 in
+        let on = All-contains (λ (v : ℕ). Finds ms f.own v found) (nodes_of t) h.0 own (in_from (nodes_of t) h.0 h.1) k lower held in
+        cc (on, off)
+
+    never_line : LineTouched (lines_of t) e.1.path.value → ⊥
+    never_line h =
+        let held = All-contains (λ (v : ℕ). IsTrue (holds f.lines v (get_or ms k 0))) e.1.path.value.lines h.0 ((noted k e at p some).2) (in_from e.1.path.value.lines h.0 h.2) in
+        let on = All-contains (λ (v : ℕ). Finds ms f.lines v found) (lines_of t) h.0 lines (in_from (lines_of t) h.0 h.1) k lower held in
+        cc (on, off)
+
+    never_look : IsAsked N place t s (made_of p.value) → LookTouched N (nodes_of t) (made_of p.value) → ⊥
+    never_look a h =
+        let v : ℕ = h.0.from in
+        let near = h.2 in
+        let held : IsTrue (holds f.from v (get_or ms k 0)) = All-contains (λ (l : Look). IsTrue (holds f.from l.from (get_or ms k 0))) p.value.looks.items h.0 ((noted k e at p some).1) h.1 in
+        elim (cases_Bool s.far) [
+          | inl far ↦ a.far far h
+          | inr close ↦ elim (cases_Bool (has_node N v)) [
+            | inl there ↦
+                no_way N Against (sources t) v limit (λ d is le. let on = reached close (a.search close) (a.settled close) v (d, is, le) k lower held in let never : ⊥ = cc (on, off) in never) (suc (dm_of N near.walk)) (dm_of N near.walk) (omega arith) near.within
+                (record {
+                  source = near.node;
+                  begun = 0;
+                  lines = near.walk;
+                  listed = Contains-map (λ u. (u, 0)) (nodes_of t) near.node (in_from (nodes_of t) near.node near.touched);
+                  there = walk_end N n v near.node near.walk near.leads there;
+                  way = near.leads;
+                  long = omega arith;
+                })
+            | inr lacks ↦
+                let touched : IsTrue (has (nodes_of t) v) = (near_absent N n (nodes_of t) v (λ there. let never : ⊥ = cc (there, lacks) in never)).1 near in
+                let on = All-contains (λ (u : ℕ). Finds ms f.from u found) (nodes_of t) v from (in_from (nodes_of t) v touched) k lower held in
+                let never : ⊥ = cc (on, off) in never
+          ]
+        ]
+
+    stays_there : IsAsked N place t s (made_of p.value) → ToStay N (nodes_of t) (lines_of t) (item_of e).made e.1.path.value
+    stays_there a = (
+      made_of p.value,
+      ap (option_map (λ (q : Rc Published Global). made_of q.value)) some,
+      (λ h. elim h [ inl o ↦ never_own o | inr rest ↦ elim rest [ inl x ↦ never_line x | inr l ↦ never_look a l ] ]),
+    )
+
+  pub covers_by : Covers N (nodes_of t) (lines_of t) (items_of es) found
+  covers_by k i at off =
+      let b = back es k i at in
+      let p = is_there b.0.1.published (all k b.0 b.1) in
+      let one : IfSome i.made (IsAsked N place t s) = asked i (listed_at (items_of es) k i at) in
+      let made : i.made ≡ Some (made_of p.0.value) = ap (λ (x : Item). x.made) (sym b.2) ∙ ap (option_map (λ (q : Rc Published Global). made_of q.value)) p.1 in
+      let a : IsAsked N place t s (made_of p.0.value) = subst (λ (o : Option Made). IfSome o (IsAsked N place t s)) made one in
+      subst (λ (x : Item). ToStay N (nodes_of t) (lines_of t) x.made x.path) b.2 (stays_there k b.0 b.1 p.0 p.1 off a)
+
+-- what is found may be put in another order
+pub covers_order : (N : Map) (T X : List ℕ) (is : List Item) (xs ys : List ℕ) → IsPermutation xs ys → Covers N T X is xs → Covers N T X is ys
+covers_order N T X is xs ys same h k i at off = h k i at (list_any-IsPermutation (λ y. y == k) xs ys same ∙ off)
+
+-- the same of equal lists
+pub found_moved : {A : Type 0} (number : A → ℕ) (ms ns : List ℕ) (index : Index) (vs ws : List A) (found : List ℕ) → ms ≡ ns → vs ≡ ws → All (λ x. Finds ms index (number x) found) vs → All (λ x. Finds ns index (number x) found) ws
+found_moved number ms ns index vs ws found a b h = subst (λ (ys : List _). All (λ x. Finds ns index (number x) found) ys) b (subst (λ (xs : List ℕ). All (λ x. Finds xs index (number x) found) vs) a h)

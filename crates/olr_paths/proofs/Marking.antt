@@ -1,0 +1,356 @@
+-- A list of entries with the marks of its paths, as paths come, go and change places with others.
+use Rattle.std.proofs.Common.{inl, inr, ◌≡◌, ◌≢◌, ℕ, zero, suc, ◌+◌, ◌<◌, ◌≤◌, Bool, true, false, not, cond, ◌||◌, ◌&&◌, ◌==◌, List, [], ◌∷◌, ◌++◌, length, get_or, slice_get, Option, Some, None, is_some, IsTrue, IsFalse, Contains, Result, Ok, Err, is_ok, ◌-◌, refl, sym, ap, ◌∙◌, subst, arith}
+use Rattle.std.specs.Prelude.{String, string_bytes, if◌then◌else◌}
+use Rattle.std.specs.List.{remove, position}
+use Rattle.std.specs.List.Sorted.{IsStrictlyIncreasing, IsNonDecreasing, IsBinarySearchResult}
+use Rattle.std.specs.Ordering.{nat_cmp}
+use Rattle.std.specs.Result.{result_ok}
+use Rattle.std.specs.Map.{keys_of, remove_entry, set_value}
+use Rattle.std.specs.String.{string_eq}
+use Rattle.indexmap.specs.Layout.{set_value_at}
+use Rattle.std.specs.declared.alloc.Global.{Global}
+use Rattle.std.specs.declared.rc.Rc.{Rc}
+use Rattle.std.proofs.lemmas.Bool.{cases_lt, cases_order, eq-eqb}
+use Rattle.std.proofs.lemmas.List.{length-append, get_or_default}
+use Rattle.std.proofs.lemmas.List.Edits.{length-remove}
+use Rattle.std.proofs.lemmas.Option.{get_or_from_slice_get}
+use Rattle.std.proofs.lemmas.List.Quantifiers.{position-Some}
+use Rattle.olr_spec.specs.Looks.{Look}
+use Rattle.olr_spec.specs.Extension.{has}
+use Rattle.olr_index.proofs.Rising.{rises, place_of, has_at, place_not, rises-remove, has-remove}
+use Rattle.olr_paths.specs.Finding.{IsNoted, NamedNoted, AreNoted, AreAll, Grows, Spares}
+use Rattle.olr_paths.specs.declared.finder.Finder.{Finder}
+use Rattle.olr_paths.specs.declared.published.Published.{Published}
+use Rattle.olr_paths.specs.declared.listing.NamedPath.{NamedPath}
+use Rattle.olr_paths.proofs.NamedEntries.{Entries, asks, item_of, items_of, absent, not_here}
+use Rattle.olr_commands.proofs.NameLemmas.{flipped}
+use Rattle.indexmap.specs.IndexMap.{insert_entry}
+use Rattle.olr_paths.proofs.Sets.{has_from}
+
+-- ---- what a path has, as marks come and go
+
+pub grown : (f g : Finder) (mark : ℕ) (xs own : List ℕ) (looks : List Look) → Grows f g → IsNoted f mark xs own looks → IsNoted g mark xs own looks
+grown f g mark xs own looks more h =
+    ((λ k d lt. more.0 (get_or own k d) mark (h.0 k d lt)), (λ k d lt. more.1 ((get_or looks k d).from) mark (h.1 k d lt)), (λ k d lt. more.2 (get_or xs k d) mark (h.2 k d lt)))
+
+pub spared : (f g : Finder) (mark m : ℕ) (xs own : List ℕ) (looks : List Look) → m ≢ mark → Spares mark f g → IsNoted f m xs own looks → IsNoted g m xs own looks
+spared f g mark m xs own looks ne spare h =
+    ((λ k d lt. spare.0 (get_or own k d) m ne ∙ h.0 k d lt), (λ k d lt. spare.1 ((get_or looks k d).from) m ne ∙ h.1 k d lt), (λ k d lt. spare.2 (get_or xs k d) m ne ∙ h.2 k d lt))
+
+-- ---- marks that differ
+
+-- those of different places
+pub apart : (xs : List ℕ) → IsStrictlyIncreasing xs → (i j : ℕ) → i < length xs → j < length xs → i ≢ j → get_or xs i 0 ≢ get_or xs j 0
+apart xs up i j a b ne same =
+    elim (cases_lt i j) [
+      | inl low ↦ let step = up i (omega arith) in let rest = rises xs up (i + 1) j (omega arith) b in absurd (omega arith)
+      | inr high ↦
+          let lower : j < i = omega (arith, ne) in
+          let step = up j (omega arith) in let rest = rises xs up (j + 1) i (omega arith) a in absurd (omega arith)
+    ]
+
+-- one that was taken out is not among the rest
+pub not_left : (xs : List ℕ) (p k : ℕ) → IsStrictlyIncreasing xs → p < length xs → k < length (remove xs p) → get_or (remove xs p) k 0 ≢ get_or xs p 0
+not_left xs p k up at lt same =
+    let gone = has-remove xs p (get_or xs p 0) (get_or xs p 0) up at refl in
+    let there = has_at (remove xs p) k (get_or xs p 0) lt same in
+    let own : (get_or xs p 0 == get_or xs p 0) ≡ true = eq-eqb (get_or xs p 0) (get_or xs p 0) refl in
+    let off : (not (get_or xs p 0 == get_or xs p 0) && has xs (get_or xs p 0)) ≡ false = ap (λ (b : Bool). not b && has xs (get_or xs p 0)) own in
+    let never : ⊥ = cc (gone, there, off) in absurd never
+
+-- what stands in a longer list
+pub get_front : (ys : List ℕ) (m k : ℕ) → k < length ys → get_or (ys ++ m ∷ []) k 0 ≡ get_or ys k 0
+get_front [] m k lt = absurd (omega arith)
+get_front (y ∷ ys) m zero lt = refl
+get_front (y ∷ ys) m (suc k) lt = get_front ys m k (omega arith)
+
+pub get_last : (ys : List ℕ) (m k : ℕ) → k ≡ length ys → get_or (ys ++ m ∷ []) k 0 ≡ m
+get_last [] m zero e = refl
+get_last [] m (suc k) e = absurd (omega arith)
+get_last (y ∷ ys) m zero e = absurd (omega arith)
+get_last (y ∷ ys) m (suc k) e = get_last ys m k (omega arith)
+
+-- one more, greater than the others
+pub rises_push : (xs : List ℕ) (m : ℕ) → IsStrictlyIncreasing xs → ((k : ℕ) → k < length xs → get_or xs k 0 < m) → IsStrictlyIncreasing (xs ++ m ∷ [])
+rises_push xs m up below k lt =
+    let long : length (xs ++ m ∷ []) ≡ length xs + 1 = length-append xs (m ∷ []) in
+    elim (cases_lt (k + 1) (length xs)) [
+      | inl low ↦ let a = get_front xs m k (omega arith) in let b = get_front xs m (k + 1) low in let step = up k low in omega arith
+      | inr high ↦ let a = get_front xs m k (omega arith) in let b = get_last xs m (k + 1) (omega arith) in let step = below k (omega arith) in omega arith
+    ]
+
+-- the one after the last
+pub below_next : (xs : List ℕ) (last mark : ℕ) → IsStrictlyIncreasing xs → slice_get xs (length xs - 1) ≡ Some last → mark ≡ last + 1 → (k : ℕ) → k < length xs → get_or xs k 0 < mark
+below_next xs last mark up at is k lt =
+    let le = rises xs up k (length xs - 1) (omega arith) (omega arith) in
+    let e : get_or xs (length xs - 1) 0 ≡ last = get_or_from_slice_get xs (length xs - 1) last 0 at in
+    omega arith
+
+-- where a search finds a mark
+pub position_by : (xs : List ℕ) (x : ℕ) (r : Result ℕ ℕ) → IsStrictlyIncreasing xs → IsBinarySearchResult (λ y. nat_cmp y x) xs r → (k : ℕ) → k < length xs → get_or xs k 0 ≡ x → result_ok r ≡ Some k
+position_by xs x (Ok i) up h k lt is =
+    let p = place_of xs x (Ok i) up h in
+    elim (cases_order i k) [
+      | inl same ↦ ap Some same
+      | inr other ↦ absurd (apart xs up i k p.0 lt (λ e. elim other [ inl low ↦ omega arith | inr high ↦ omega arith ]) (p.1 ∙ sym is))
+    ]
+position_by xs x (Err i) up h k lt is =
+    let off = place_not xs x i (place_of xs x (Err i) up h) in
+    let on = has_at xs k x lt is in
+    let never : ⊥ = cc (on, off) in absurd never
+
+-- what a search does not find
+pub not_among : (xs : List ℕ) (x : ℕ) (r : Result ℕ ℕ) → IsStrictlyIncreasing xs → IsBinarySearchResult (λ y. nat_cmp y x) xs r → is_ok r ≡ false → ¬ Contains xs x
+not_among xs x (Ok i) up h off_at on = let never : ⊥ = cc (off_at) in absurd never
+not_among xs x (Err i) up h off_at on =
+    let off = place_not xs x i (place_of xs x (Err i) up h) in
+    let there = has_from xs x on in
+    let never : ⊥ = cc (there, off) in absurd never
+
+-- numbers that count up
+pub record CountUp (xs : List ℕ) (n : ℕ) : Type 0 where
+  pub long : length xs ≡ n
+  pub each : (k : ℕ) → k < n → get_or xs k 0 ≡ k
+
+pub count_more : (xs : List ℕ) (n : ℕ) → CountUp xs n → CountUp (xs ++ n ∷ []) (n + 1)
+count_more xs n h =
+    let long = h.long in
+    record {
+      long = let e : length (xs ++ n ∷ []) ≡ length xs + 1 = length-append xs (n ∷ []) in omega arith;
+      each = λ k lt. elim (cases_lt k n) [ inl low ↦ get_front xs n k (omega arith) ∙ h.each k low | inr high ↦ get_last xs n k (omega arith) ∙ (let e : n ≡ k = omega arith in e) ];
+    }
+
+pub count_rises : (xs : List ℕ) (n : ℕ) → CountUp xs n → IsNonDecreasing xs
+count_rises xs n h i j d le lt =
+    let long = h.long in
+    let a : get_or xs i d ≡ get_or xs i 0 = get_or_default xs i d 0 (omega arith) in
+    let b : get_or xs j d ≡ get_or xs j 0 = get_or_default xs j d 0 lt in
+    let c = h.each i (omega arith) in
+    let e = h.each j (omega arith) in
+    omega arith
+
+pub count_has : (xs : List ℕ) (n : ℕ) → CountUp xs n → (k : ℕ) → k < n → IsTrue (has xs k)
+count_has xs n h k lt = let long = h.long in has_at xs k k (omega arith) (h.each k lt)
+
+-- ---- entries with marks
+
+-- under a finder that spares all their marks
+pub noted_spared : (es : Entries) (ms : List ℕ) (f g : Finder) (mark : ℕ) → ((k : ℕ) → k < length es → get_or ms k 0 ≢ mark) → Spares mark f g → AreNoted es ms f → AreNoted es ms g
+noted_spared es ms f g mark other spare h k e at p some =
+    spared f g mark (get_or ms k 0) e.1.path.value.lines p.value.own p.value.looks.items (other k (within es k e at)) spare (h k e at p some)
+  where
+    within : (ys : Entries) (k : ℕ) (e : String Global × NamedPath) → slice_get ys k ≡ Some e → k < length ys
+    within [] k e at = let never : ⊥ = cc (at) in absurd never
+    within (y ∷ ys) zero e at = omega arith
+    within (y ∷ ys) (suc k) e at = let lt = within ys k e at in omega arith
+
+-- one more
+pub noted_push : (es : Entries) (ms : List ℕ) (f : Finder) (key : String Global) (n : NamedPath) (m : ℕ) → length ms ≡ length es → AreNoted es ms f → NamedNoted f m n → AreNoted (es ++ (key, n) ∷ []) (ms ++ m ∷ []) f
+noted_push [] [] f key n m long h one zero e at p some =
+    let is : n ≡ e.1 = cc (at) in
+    subst (λ (x : NamedPath). NamedNoted f m x) is one p some
+noted_push [] [] f key n m long h one (suc k) e at p some = let never : ⊥ = cc (at) in absurd never
+noted_push [] (y ∷ ms) f key n m long h one k e at p some = absurd (omega arith)
+noted_push (x ∷ es) [] f key n m long h one k e at p some = absurd (omega arith)
+noted_push (x ∷ es) (y ∷ ms) f key n m long h one zero e at p some = h zero e at p some
+noted_push (x ∷ es) (y ∷ ms) f key n m long h one (suc k) e at p some = noted_push es ms f key n m (omega arith) (λ j. h (suc j)) one k e at p some
+
+-- one taken out
+pub noted_removed : (es : Entries) (ms : List ℕ) (f : Finder) (q : ℕ) → length ms ≡ length es → AreNoted es ms f → AreNoted (remove es q) (remove ms q) f
+noted_removed [] ms f zero long h k e at p some = let never : ⊥ = cc (at) in absurd never
+noted_removed [] ms f (suc q) long h k e at p some = let never : ⊥ = cc (at) in absurd never
+noted_removed (x ∷ es) [] f q long h k e at p some = absurd (omega arith)
+noted_removed (x ∷ es) (y ∷ ms) f zero long h k e at p some = h (suc k) e at p some
+noted_removed (x ∷ es) (y ∷ ms) f (suc q) long h zero e at p some = h zero e at p some
+noted_removed (x ∷ es) (y ∷ ms) f (suc q) long h (suc k) e at p some = noted_removed es ms f q (omega arith) (λ j. h (suc j)) k e at p some
+
+-- another in the place of one
+pub noted_set : (es : Entries) (ms : List ℕ) (f : Finder) (q : ℕ) (n : NamedPath) → AreNoted es ms f → NamedNoted f (get_or ms q 0) n → AreNoted (set_value_at es q n) ms f
+noted_set [] ms f q n h one k e at p some = let never : ⊥ = cc (at) in absurd never
+noted_set (x ∷ es) ms f zero n h one zero e at p some =
+    let is : n ≡ e.1 = cc (at) in
+    subst (λ (y : NamedPath). NamedNoted f (get_or ms zero 0) y) is one p some
+noted_set (x ∷ es) ms f zero n h one (suc k) e at p some = h (suc k) e at p some
+noted_set (x ∷ es) ms f (suc q) n h one zero e at p some = h zero e at p some
+noted_set (x ∷ es) [] f (suc q) n h one (suc k) e at p some = noted_set es [] f q n (λ j. h (suc j)) one k e at p some
+noted_set (x ∷ es) (y ∷ ms) f (suc q) n h one (suc k) e at p some = noted_set es ms f q n (λ j. h (suc j)) one k e at p some
+
+pub kept_long : (ys : Entries) (q : ℕ) (n : NamedPath) → length (set_value_at ys q n) ≡ length ys
+kept_long [] q n = refl
+kept_long (y ∷ ys) zero n = refl
+kept_long (y ∷ ys) (suc q) n = ap suc (kept_long ys q n)
+
+-- at one place the marks change, and what is there has them still
+pub noted_but : (es : Entries) (ms : List ℕ) (f g : Finder) (q : ℕ) → IsStrictlyIncreasing ms → length ms ≡ length es → q < length ms → Spares (get_or ms q 0) f g
+    → ((e : String Global × NamedPath) → slice_get es q ≡ Some e → NamedNoted f (get_or ms q 0) e.1 → NamedNoted g (get_or ms q 0) e.1) → AreNoted es ms f → AreNoted es ms g
+noted_but es ms f g q up long at spare here h k e there p some =
+    elim (cases_lt k q) [
+      | inl low ↦ spared f g (get_or ms q 0) (get_or ms k 0) e.1.path.value.lines p.value.own p.value.looks.items (apart ms up k q (omega arith) at (λ e. omega arith)) spare (h k e there p some)
+      | inr high ↦ elim (cases_lt q k) [
+        | inl over ↦ spared f g (get_or ms q 0) (get_or ms k 0) e.1.path.value.lines p.value.own p.value.looks.items (apart ms up k q (omega (arith, within es k e there)) at (λ e. omega arith)) spare (h k e there p some)
+        | inr same ↦
+            let is : k ≡ q = omega arith in
+            subst (λ (j : ℕ). IsNoted g (get_or ms j 0) e.1.path.value.lines p.value.own p.value.looks.items) (sym is)
+            (here e (subst (λ (j : ℕ). slice_get es j ≡ Some e) is there) (λ r. subst (λ (j : ℕ). e.1.published ≡ Some r → IsNoted f (get_or ms j 0) e.1.path.value.lines r.value.own r.value.looks.items) is (h k e there r)) p some)
+      ]
+    ]
+  where
+    within : (ys : Entries) (k : ℕ) (e : String Global × NamedPath) → slice_get ys k ≡ Some e → k < length ys
+    within [] k e at = let never : ⊥ = cc (at) in absurd never
+    within (y ∷ ys) zero e at = omega arith
+    within (y ∷ ys) (suc k) e at = let lt = within ys k e at in omega arith
+
+-- ---- whether all were encoded
+
+pub all_push : (es : Entries) (key : String Global) (n : NamedPath) → AreAll es → n.published ≢ None → AreAll (es ++ (key, n) ∷ [])
+all_push [] key n h one zero e at = let is : n ≡ e.1 = cc (at) in subst (λ (x : NamedPath). x.published ≢ None) is one
+all_push [] key n h one (suc k) e at = let never : ⊥ = cc (at) in absurd never
+all_push (x ∷ es) key n h one zero e at = h zero e at
+all_push (x ∷ es) key n h one (suc k) e at = all_push es key n (λ j. h (suc j)) one k e at
+
+pub all_removed : (es : Entries) (q : ℕ) → AreAll es → AreAll (remove es q)
+all_removed [] zero h k e at = let never : ⊥ = cc (at) in absurd never
+all_removed [] (suc q) h k e at = let never : ⊥ = cc (at) in absurd never
+all_removed (x ∷ es) zero h k e at = h (suc k) e at
+all_removed (x ∷ es) (suc q) h zero e at = h zero e at
+all_removed (x ∷ es) (suc q) h (suc k) e at = all_removed es q (λ j. h (suc j)) k e at
+
+pub all_set : (es : Entries) (q : ℕ) (n : NamedPath) → AreAll es → n.published ≢ None → AreAll (set_value_at es q n)
+all_set [] q n h one k e at = let never : ⊥ = cc (at) in absurd never
+all_set (x ∷ es) zero n h one zero e at = let is : n ≡ e.1 = cc (at) in subst (λ (y : NamedPath). y.published ≢ None) is one
+all_set (x ∷ es) zero n h one (suc k) e at = h (suc k) e at
+all_set (x ∷ es) (suc q) n h one zero e at = h zero e at
+all_set (x ∷ es) (suc q) n h one (suc k) e at = all_set es q n (λ j. h (suc j)) one k e at
+
+-- ---- the first entry of a name
+
+abbrev pub First : List ℕ → Entries → ℕ → Type 0
+First name [] p = ⊥
+First name (e ∷ es) zero = asks name e.0 ≡ true
+First name (e ∷ es) (suc p) = (asks name e.0 ≡ false) × First name es p
+
+pub first_of : (es : Entries) (name : List ℕ) (d : String Global) (p : ℕ) → p < length (keys_of es) → asks name (get_or (keys_of es) p d) ≡ true → ((k : ℕ) → k < p → asks name (get_or (keys_of es) k d) ≡ false) → First name es p
+first_of [] name d p lt h before = absurd (omega arith)
+first_of (e ∷ es) name d zero lt h before = h
+first_of (e ∷ es) name d (suc p) lt h before = (before zero (omega arith), first_of es name d p (omega arith) h (λ k low. before (suc k) (omega arith)))
+
+pub first_at : (es : Entries) (name : List ℕ) (p : ℕ) → p < length es → position (asks name) (keys_of es) ≡ Some p → First name es p
+first_at [] name p lt at = absurd (omega arith)
+first_at (e ∷ es) name p lt at = let h = position-Some (asks name) (keys_of (e ∷ es)) p e.0 at in first_of (e ∷ es) name e.0 p h.0 h.1 h.2
+
+pub removed_at : (es : Entries) (name : List ℕ) (p : ℕ) → First name es p → remove_entry (asks name) es ≡ remove es p
+removed_at [] name p h = absurd h
+removed_at (e ∷ es) name zero h = ap (λ (b : Bool). cond b es (e ∷ remove_entry (asks name) es)) h
+removed_at (e ∷ es) name (suc p) h = ap (λ (b : Bool). cond b es (e ∷ remove_entry (asks name) es)) h.0 ∙ ap (λ (ys : Entries). e ∷ ys) (removed_at es name p h.1)
+
+pub set_at : (es : Entries) (name : List ℕ) (n : NamedPath) (p : ℕ) → First name es p → set_value (asks name) es n ≡ set_value_at es p n
+set_at [] name n p h = absurd h
+set_at (e ∷ es) name n zero h = ap (λ (b : Bool). cond b ((e.0, n) ∷ es) (e ∷ set_value (asks name) es n)) h
+set_at (e ∷ es) name n (suc p) h = ap (λ (b : Bool). cond b ((e.0, n) ∷ es) (e ∷ set_value (asks name) es n)) h.0 ∙ ap (λ (ys : Entries). e ∷ ys) (set_at es name n p h.1)
+
+-- ---- a list without one of its paths
+
+module _ (es fs : Entries) (ms ns : List ℕ) (name : List ℕ) (q : ℕ) (mark : ℕ) (first : First name es q) (es_is : fs ≡ remove_entry (asks name) es) (ms_is : ns ≡ remove ms q) (long : length ms ≡ length es) (up : IsStrictlyIncreasing ms) (at : q < length ms) (mark_is : mark ≡ get_or ms q 0) where
+  left : fs ≡ remove es q
+  left = es_is ∙ removed_at es name q first
+
+  pub long_left : length ns ≡ length fs
+  long_left =
+      let a = length-remove ms q at in
+      let b = length-remove es q (omega arith) in
+      let c : length ns ≡ length (remove ms q) = ap length ms_is in
+      let d : length fs ≡ length (remove es q) = ap length left in
+      omega arith
+
+  pub rise_left : IsStrictlyIncreasing ns
+  rise_left = subst (λ (xs : List ℕ). IsStrictlyIncreasing xs) (sym ms_is) (rises-remove ms q up at)
+
+  pub noted_left : (f g : Finder) → Spares mark f g → AreNoted es ms f → AreNoted fs ns g
+  noted_left f g spare h =
+      let both : AreNoted fs ns f = subst (λ (xs : List ℕ). AreNoted fs xs f) (sym ms_is) (subst (λ (ys : Entries). AreNoted ys (remove ms q) f) (sym left) (noted_removed es ms f q long h)) in
+      let short = long_left in
+      noted_spared fs ns f g mark
+      (λ k lt same. not_left ms q k up at (let e : length ns ≡ length (remove ms q) = ap length ms_is in omega arith) (ap (λ (xs : List ℕ). get_or xs k 0) (sym ms_is) ∙ same ∙ mark_is))
+      spare both
+
+  pub same_left : (f : Finder) → AreNoted es ms f → AreNoted fs ns f
+  same_left f h = subst (λ (xs : List ℕ). AreNoted fs xs f) (sym ms_is) (subst (λ (ys : Entries). AreNoted ys (remove ms q) f) (sym left) (noted_removed es ms f q long h))
+
+  pub all_left : (held : Bool) → (IsFalse held → AreAll es) → IsFalse held → AreAll fs
+  all_left held h off = subst (λ (ys : Entries). AreAll ys) (sym left) (all_removed es q (h off))
+
+-- ---- a list with one path more
+
+pub insert_last : (es : Entries) (key : String Global) (n : NamedPath) → absent (items_of es) (string_bytes key) → insert_entry string_eq es key n ≡ es ++ (key, n) ∷ []
+insert_last [] key n h = refl
+insert_last (e ∷ es) key n h =
+    let r = not_here (item_of e) (items_of es) (string_bytes key) h in
+    ap (λ (b : Bool). if b then (e.0, n) ∷ es else e ∷ insert_entry string_eq es key n) (flipped (string_bytes e.0) (string_bytes key) r.0)
+    ∙ ap (λ (ys : Entries). e ∷ ys) (insert_last es key n r.1)
+
+module _ (es fs : Entries) (ms ns : List ℕ) (key : String Global) (n : NamedPath) (mark : ℕ) (es_is : fs ≡ es ++ (key, n) ∷ []) (ms_is : ns ≡ ms ++ mark ∷ []) (long : length ms ≡ length es) where
+  pub long_more : length ns ≡ length fs
+  long_more =
+      let a : length (ms ++ mark ∷ []) ≡ length ms + 1 = length-append ms (mark ∷ []) in
+      let b : length (es ++ (key, n) ∷ []) ≡ length es + 1 = length-append es ((key, n) ∷ []) in
+      let c : length ns ≡ length (ms ++ mark ∷ []) = ap length ms_is in
+      let d : length fs ≡ length (es ++ (key, n) ∷ []) = ap length es_is in
+      omega arith
+
+  pub rise_more : IsStrictlyIncreasing ms → ((k : ℕ) → k < length ms → get_or ms k 0 < mark) → IsStrictlyIncreasing ns
+  rise_more up below = subst (λ (xs : List ℕ). IsStrictlyIncreasing xs) (sym ms_is) (rises_push ms mark up below)
+
+  pub noted_more : (f g : Finder) → ((k : ℕ) → k < length ms → get_or ms k 0 < mark) → Spares mark f g → NamedNoted g mark n → AreNoted es ms f → AreNoted fs ns g
+  noted_more f g below spare one h =
+      let kept : AreNoted es ms g = noted_spared es ms f g mark (λ k lt same. let low = below k (omega arith) in absurd (omega arith)) spare h in
+      subst (λ (xs : List ℕ). AreNoted fs xs g) (sym ms_is) (subst (λ (ys : Entries). AreNoted ys (ms ++ mark ∷ []) g) (sym es_is) (noted_push es ms g key n mark long kept one))
+
+  pub all_more_unless : (held held2 : Bool) → (IsFalse held2 → IsFalse held × (n.published ≢ None)) → (IsFalse held → AreAll es) → IsFalse held2 → AreAll fs
+  all_more_unless held held2 is h off = let split = is off in subst (λ (ys : Entries). AreAll ys) (sym es_is) (all_push es key n (h split.0) split.1)
+
+-- ---- a list with another path in the place of one
+
+module _ (es fs : Entries) (ms : List ℕ) (name : List ℕ) (n : NamedPath) (q : ℕ) (first : First name es q) (es_is : fs ≡ set_value (asks name) es n) (long : length ms ≡ length es) (up : IsStrictlyIncreasing ms) (at : q < length ms) where
+  other : fs ≡ set_value_at es q n
+  other = es_is ∙ set_at es name n q first
+
+  pub long_other : length ms ≡ length fs
+  long_other = long ∙ sym (kept_long es q n) ∙ ap length (sym other)
+
+  pub noted_other : (f g : Finder) → Spares (get_or ms q 0) f g → NamedNoted g (get_or ms q 0) n → AreNoted es ms f → AreNoted fs ms g
+  noted_other f g spare one h =
+      subst (λ (ys : Entries). AreNoted ys ms g) (sym other)
+      (λ k e there p some. elim (cases_order k q) [
+        | inl same ↦
+            let first_there = subst (λ (j : ℕ). slice_get (set_value_at es q n) j ≡ Some e) same there in
+            let is : n ≡ e.1 = set_there es q n e first_there in
+            subst (λ (j : ℕ). IsNoted g (get_or ms j 0) e.1.path.value.lines p.value.own p.value.looks.items) (sym same) (subst (λ (x : NamedPath). NamedNoted g (get_or ms q 0) x) is one p some)
+        | inr differ ↦
+            let before = set_beside es q n k (λ e. elim differ [ inl low ↦ omega arith | inr high ↦ omega arith ]) in
+            let lt : k < length ms = let w = entry_within es k e (sym before ∙ there) in omega arith in
+            spared f g (get_or ms q 0) (get_or ms k 0) e.1.path.value.lines p.value.own p.value.looks.items (apart ms up k q lt at (λ e. elim differ [ inl low ↦ omega arith | inr high ↦ omega arith ])) spare (h k e (sym before ∙ there) p some)
+      ])
+    where
+      set_there : (ys : Entries) (q : ℕ) (n : NamedPath) (e : String Global × NamedPath) → slice_get (set_value_at ys q n) q ≡ Some e → n ≡ e.1
+      set_there [] q n e there = let never : ⊥ = cc (there) in absurd never
+      set_there (y ∷ ys) zero n e there = cc (there)
+      set_there (y ∷ ys) (suc q) n e there = set_there ys q n e there
+
+      set_beside : (ys : Entries) (q : ℕ) (n : NamedPath) (k : ℕ) → k ≢ q → slice_get (set_value_at ys q n) k ≡ slice_get ys k
+      set_beside [] q n k ne = refl
+      set_beside (y ∷ ys) zero n zero ne = absurd (ne refl)
+      set_beside (y ∷ ys) zero n (suc k) ne = refl
+      set_beside (y ∷ ys) (suc q) n zero ne = refl
+      set_beside (y ∷ ys) (suc q) n (suc k) ne = set_beside ys q n k (λ e. ne (ap suc e))
+
+      entry_within : (ys : Entries) (k : ℕ) (e : String Global × NamedPath) → slice_get ys k ≡ Some e → k < length ys
+      entry_within [] k e at = let never : ⊥ = cc (at) in absurd never
+      entry_within (y ∷ ys) zero e at = omega arith
+      entry_within (y ∷ ys) (suc k) e at = let lt = entry_within ys k e at in omega arith
+
+  pub all_other : (held held2 : Bool) → (IsFalse held2 → IsFalse held × (n.published ≢ None)) → (IsFalse held → AreAll es) → IsFalse held2 → AreAll fs
+  all_other held held2 is h off = let split = is off in subst (λ (ys : Entries). AreAll ys) (sym other) (all_set es q n (h split.0) split.1)
+
+-- the same list, with more room
+pub moved_noted : (es fs : Entries) (ms ns : List ℕ) (f : Finder) → fs ≡ es → ns ≡ ms → AreNoted es ms f → AreNoted fs ns f
+moved_noted es fs ms ns f a b h = subst (λ (xs : List ℕ). AreNoted fs xs f) (sym b) (subst (λ (ys : Entries). AreNoted ys ms f) (sym a) h)

@@ -1,0 +1,93 @@
+-- Marks that are given and taken one by one.
+use Rattle.std.proofs.Common.{◌≡◌, ◌≢◌, ◌==◌, ℕ, ◌+◌, ◌<◌, ◌≤◌, List, [], Bool, true, false, not, ◌||◌, ◌&&◌, All, Contains, take, length, get_or, IsTrue, refl, sym, ap, subst, ◌∙◌, arith}
+use Rattle.std.proofs.lemmas.Bool.{or_left, eq-eqb, ne_eqb}
+use Rattle.std.proofs.lemmas.List.{take_all}
+use Rattle.std.proofs.lemmas.List.Elements.{Contains-get_or}
+use Rattle.olr_index.specs.Marks.{holds}
+use Rattle.olr_index.specs.declared.Index.{Index}
+use Rattle.olr_paths.specs.Finding.{Keeps, KeepsBut}
+use Rattle.olr_paths.proofs.Alls.{all_more}
+
+neither : (a b c : Bool) → c ≡ false → (a || (b && c)) ≡ a
+neither true true true h = refl
+neither true true false h = refl
+neither true false c h = refl
+neither false true true h = h
+neither false true false h = refl
+neither false false c h = refl
+
+second : (a b c : Bool) → b ≡ true → c ≡ true → (a || (b && c)) ≡ true
+second true b c g h = refl
+second false true true g h = refl
+second false true false g h = h
+second false false c g h = g
+
+left_alone : (a b c : Bool) → c ≡ false → (a && not (b && c)) ≡ a
+left_alone true true true h = sym h
+left_alone true true false h = refl
+left_alone true false c h = refl
+left_alone false b c h = refl
+
+left_there : (a b c : Bool) → b ≡ false → a ≡ true → (a && not (b && c)) ≡ true
+left_there true true true h g = sym h
+left_there true true false h g = refl
+left_there true false c h g = refl
+left_there false b c h g = g
+
+-- after so many of the numbers
+pub record Noted {A : Type 0} (number : A → ℕ) (mark : ℕ) (old now : Index) (xs : List A) : Type 0 where
+  pub noted : All (λ x. IsTrue (holds now (number x) mark)) xs
+  pub grows : Keeps old now
+  pub spares : KeepsBut mark old now
+
+module _ {A : Type 0} (number : A → ℕ) (mark : ℕ) (old : Index) where
+  pub noted_none : Noted number mark old old []
+  noted_none = record { noted = λ k d lt. absurd (omega arith); grows = λ n m t. t; spares = λ n m ne. refl }
+
+  pub noted_more : (now new : Index) (xs : List A) (k : ℕ) (d : A) (v : ℕ) → k < length xs → v ≡ number (get_or xs k d) → Noted number mark old now (take k xs)
+      → ((n m : ℕ) → holds new n m ≡ (holds now n m || ((v == n) && (mark == m)))) → Noted number mark old new (take (k + 1) xs)
+  noted_more now new xs k d v lt is h added =
+      let P : A → Type 0 = λ x. IsTrue (holds new (number x) mark) in
+      let grown : Keeps now new = λ n m t. added n m ∙ or_left (holds now n m) ((v == n) && (mark == m)) t in
+      record {
+        noted = all_more P xs k d lt (λ i e low. grown (number (get_or (take k xs) i e)) mark (h.noted i e low))
+            (added (number (get_or xs k d)) mark ∙ second (holds now (number (get_or xs k d)) mark) (v == number (get_or xs k d)) (mark == mark) (eq-eqb v (number (get_or xs k d)) is) (eq-eqb mark mark refl));
+        grows = λ n m t. grown n m (h.grows n m t);
+        spares = λ n m ne. added n m ∙ neither (holds now n m) (v == n) (mark == m) (ne_eqb mark m (λ e. ne (sym e))) ∙ h.spares n m ne;
+      }
+
+  -- after a refusal
+  pub grows_failed : (now new : Index) (xs : List A) → Noted number mark old now xs → ((n m : ℕ) → holds new n m ≡ holds now n m) → Keeps old new
+  grows_failed now new xs h same n m t = same n m ∙ h.grows n m t
+
+  pub spares_failed : (now new : Index) (xs : List A) → Noted number mark old now xs → ((n m : ℕ) → holds new n m ≡ holds now n m) → KeepsBut mark old new
+  spares_failed now new xs h same n m ne = same n m ∙ h.spares n m ne
+
+  pub noted_all : (now : Index) (xs : List A) (k : ℕ) → length xs ≤ k → Noted number mark old now (take k xs) → All (λ x. IsTrue (holds now (number x) mark)) xs
+  noted_all now xs k end h = subst (λ ys. All (λ x. IsTrue (holds now (number x) mark)) ys) (take_all k xs end) h.noted
+
+-- after some of them were taken; the numbers that are kept have the mark if they had it
+pub record Forgot (Kept : ℕ → Type 0) (mark : ℕ) (old now : Index) : Type 0 where
+  pub keeps : (n : ℕ) → Kept n → IsTrue (holds old n mark) → IsTrue (holds now n mark)
+  pub spares : KeepsBut mark old now
+
+module _ (Kept : ℕ → Type 0) (mark : ℕ) (old : Index) where
+  pub forgot_none : Forgot Kept mark old old
+  forgot_none = record { keeps = λ n k t. t; spares = λ n m ne. refl }
+
+  pub forgot_more : (now new : Index) (v : ℕ) → Forgot Kept mark old now → ¬ Kept v → ((n m : ℕ) → holds new n m ≡ (holds now n m && not ((v == n) && (mark == m)))) → Forgot Kept mark old new
+  forgot_more now new v h free taken =
+      record {
+        keeps = λ n k t. taken n mark ∙ left_there (holds now n mark) (v == n) (mark == mark) (ne_eqb v n (λ e. free (subst Kept (sym e) k))) (h.keeps n k t);
+        spares = λ n m ne. taken n m ∙ left_alone (holds now n m) (v == n) (mark == m) (ne_eqb mark m (λ e. ne (sym e))) ∙ h.spares n m ne;
+      }
+
+-- what is kept
+module _ {A : Type 0} (number : A → ℕ) (kept : List A) where
+  abbrev pub KeptIn : ℕ → Type 0
+  KeptIn n = (x : A) × Contains kept x × (number x ≡ n)
+
+  pub forgotten : (mark : ℕ) (old now : Index) → Forgot KeptIn mark old now → All (λ x. IsTrue (holds old (number x) mark)) kept → All (λ x. IsTrue (holds now (number x) mark)) kept
+  forgotten mark old now h all k d lt =
+      let x : A = get_or kept k d in
+      h.keeps (number x) (x, Contains-get_or kept k d lt, refl) (all k d lt)

@@ -1,0 +1,60 @@
+-- Which marks a finder has, and that it has those of each path.
+--     OwnNoted, FromNoted, LinesNoted      own nodes, the nodes from which looks look, and lines have a mark.        IsNoted      all three
+--     Keeps i j      each number has the marks that it had.        KeepsBut mark i j      and the others, but for one mark
+--     Grows f g, Spares f g mark      the same of a finder
+--     AreNoted es marks f      each path that was encoded is noted under the mark at its place
+--     AreNotedAt es marks f fresh      what is to be put at positions is noted under their marks
+--     AreAll es      each path was encoded
+use Rattle.std.specs.Prelude.{◌≡◌, ◌≢◌, ℕ, List, All, Some, None, get_or, slice_get, IsTrue, IsFalse, String, Bool}
+use Rattle.std.specs.Coded.{coded_ℕ, Coded-set}
+use Rattle.std.proofs.Props.{props}
+use Rattle.std.specs.declared.alloc.Global.{Global}
+use Rattle.std.specs.declared.rc.Rc.{Rc}
+use Rattle.olr_spec.specs.Looks.{Look}
+use Rattle.olr_index.specs.Marks.{holds}
+use Rattle.olr_index.specs.declared.Index.{Index}
+use Rattle.olr_paths.specs.declared.finder.Finder.{Finder}
+use Rattle.olr_paths.specs.declared.published.Published.{Published}
+use Rattle.olr_paths.specs.declared.listing.NamedPath.{NamedPath}
+
+abbrev pub OwnNoted : Index → ℕ → List ℕ → Type 0
+OwnNoted i mark own = All (λ v. IsTrue (holds i v mark)) own
+
+abbrev pub FromNoted : Index → ℕ → List Look → Type 0
+FromNoted i mark looks = All (λ l. IsTrue (holds i l.from mark)) looks
+
+abbrev pub IsNoted : Finder → ℕ → List ℕ → List ℕ → List Look → Type 0
+IsNoted f mark xs own looks = OwnNoted f.own mark own × FromNoted f.from mark looks × OwnNoted f.lines mark xs
+
+abbrev pub Keeps : Index → Index → Type 0
+Keeps i j = (n m : ℕ) → IsTrue (holds i n m) → IsTrue (holds j n m)
+
+abbrev pub KeepsBut : ℕ → Index → Index → Type 0
+KeepsBut mark i j = (n m : ℕ) → m ≢ mark → holds j n m ≡ holds i n m
+
+abbrev pub Grows : Finder → Finder → Type 0
+Grows f g = Keeps f.own g.own × Keeps f.from g.from × Keeps f.lines g.lines
+
+abbrev pub Spares : ℕ → Finder → Finder → Type 0
+Spares mark f g = KeepsBut mark f.own g.own × KeepsBut mark f.from g.from × KeepsBut mark f.lines g.lines
+
+-- one path, where it was encoded
+abbrev pub NamedNoted : Finder → ℕ → NamedPath → Type 0
+NamedNoted f mark n = (p : Rc Published Global) → n.published ≡ Some p → IsNoted f mark n.path.value.lines p.value.own p.value.looks.items
+
+abbrev pub AreNoted : List (String Global × NamedPath) → List ℕ → Finder → Type 0
+AreNoted es marks f = (k : ℕ) (e : String Global × NamedPath) → slice_get es k ≡ Some e → NamedNoted f (get_or marks k 0) e.1
+
+-- what is to be put at positions is noted under their marks
+abbrev pub AreNotedAt : List (String Global × NamedPath) → List ℕ → Finder → List (ℕ × Rc Published Global) → Type 0
+AreNotedAt es marks f fresh =
+    All (λ r. (e : String Global × NamedPath) → slice_get es r.0 ≡ Some e → IsNoted f (get_or marks r.0 0) e.1.path.value.lines r.1.value.own r.1.value.looks.items) fresh
+
+abbrev pub AreAll : List (String Global × NamedPath) → Type 0
+AreAll es = (k : ℕ) (e : String Global × NamedPath) → slice_get es k ≡ Some e → e.1.published ≢ None
+
+pub AreNoted-prop : (es : List (String Global × NamedPath)) (marks : List ℕ) (f : Finder) → IsProp (AreNoted es marks f)
+AreNoted-prop es marks f = hlevel (props, Coded-set coded_ℕ)
+
+pub AreAll-prop : (held : Bool) (es : List (String Global × NamedPath)) → IsProp (IsFalse held → AreAll es)
+AreAll-prop held es = hlevel (props, Coded-set coded_ℕ)

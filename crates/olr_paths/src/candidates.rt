@@ -1,0 +1,150 @@
+//! Which paths edits may concern: found by what they touched, and not by going over all paths.
+ghost use Rattle.std.specs.Prelude.{◌≡◌, ◌<◌, ℕ, Some, All, length, get_or, IsTrue, IsFalse, IfOk, OnOk};
+ghost use Rattle.std.specs.List.Sorted.{IsStrictlyIncreasing, IsNonDecreasing};
+ghost use Rattle.olr_spec.specs.Extension.{has};
+ghost use Rattle.olr_paths.specs.Items.{items};
+ghost use Rattle.olr_paths.specs.Touching.{nodes_of, lines_of};
+ghost use Rattle.olr_paths.specs.Searching.{AreAsked};
+ghost use Rattle.olr_paths.specs.Candidates.{Includes, Finds, AreFound, Covers};
+
+use crate::listing::Listing;
+use crate::searches::Searches;
+use crate::touched::Touched;
+use olr_index::Index;
+use olr_map::{LineId, MapRead, NodeId};
+use olr_route::Reached;
+use std::alloc::{AllocError, Global};
+
+/// The position of the path with a mark, by binary search.
+fn position_of(marks: &[u64], mark: u64) -> Option<usize>
+    requires { IsStrictlyIncreasing marks.now }
+    ensures { (k : ℕ) → k < length marks.now → get_or marks.now k 0 ≡ mark → result ≡ Some k }
+{
+    marks.binary_search(&mark).ok()
+}
+
+/// Puts the positions of the paths with these marks behind others.
+fn put_positions(marks: &[u64], of: &[u64], found: &mut Vec<usize>) -> Result<(), AllocError>
+    requires { IsStrictlyIncreasing marks.now }
+    ensures kept { OnOk result (Includes found.old.items found.new.items) }
+    ensures put { OnOk result ((k : ℕ) → k < length marks.now → IsTrue (has of.now (get_or marks.now k 0))
+        → IsTrue (has found.new.items k)) }
+{
+    for mark in of {
+        if let Some(position) = position_of(marks, *mark) {
+            found.push(position)?;
+        }
+    }
+    Ok(())
+}
+
+/// Puts the positions of the paths that have one of the nodes behind others.
+fn put_nodes(
+    marks: &[u64],
+    index: &Index,
+    nodes: &[NodeId],
+    found: &mut Vec<usize>,
+) -> Result<(), AllocError>
+    requires { IsStrictlyIncreasing marks.now }
+    ensures kept { OnOk result (Includes found.old.items found.new.items) }
+    ensures put { OnOk result (AreFound marks.now index.now nodes.now found.new.items) }
+{
+    for node in nodes {
+        put_positions(marks, index.of(u64::from(node.number())), found)?;
+    }
+    Ok(())
+}
+
+/// Puts the positions of the paths that have one of the lines behind others.
+fn put_lines(
+    marks: &[u64],
+    index: &Index,
+    lines: &[LineId],
+    found: &mut Vec<usize>,
+) -> Result<(), AllocError>
+    requires { IsStrictlyIncreasing marks.now }
+    ensures kept { OnOk result (Includes found.old.items found.new.items) }
+    ensures put { OnOk result (AreFound marks.now index.now lines.now found.new.items) }
+{
+    for line in lines {
+        put_positions(marks, index.of(u64::from(line.number())), found)?;
+    }
+    Ok(())
+}
+
+/// Puts the positions of the paths that have one of the nodes that a search reached behind others.
+fn put_reached(
+    marks: &[u64],
+    index: &Index,
+    reached: &[Reached],
+    found: &mut Vec<usize>,
+) -> Result<(), AllocError>
+    requires { IsStrictlyIncreasing marks.now }
+    ensures kept { OnOk result (Includes found.old.items found.new.items) }
+    ensures put { OnOk result (All (λ r. Finds marks.now index.now r.node found.new.items) reached.now) }
+{
+    for one in reached {
+        put_positions(marks, index.of(u64::from(one.node.number())), found)?;
+    }
+    Ok(())
+}
+
+/// All positions below a number, rising.
+fn all_below(alloc: Global, count: usize) -> Result<Vec<usize>, AllocError>
+    ensures rising { IfOk result (λ found. IsNonDecreasing found.items) }
+    ensures all { IfOk result (λ found. (k : ℕ) → k < count → IsTrue (has found.items k)) }
+{
+    let mut found = Vec::with_capacity(alloc, count)?;
+    for position in 0..count {
+        found.push(position)?;
+    }
+    Ok(found)
+}
+
+/// Puts the positions of the paths that edits may concern behind others: those that have a touched node or line, or look from
+/// a node that the search reached.
+fn put_touched<M: MapRead>(
+    map: &M,
+    list: &Listing,
+    touched: &Touched,
+    searches: &Searches,
+    found: &mut Vec<usize>,
+) -> Result<(), AllocError>
+    requires asked { AreAsked (M.map map.now) (M.place_in map.now) touched.now searches.now (items list.now) }
+    requires encoded { IsFalse list.now.held }
+    ensures { OnOk result
+        (Covers (M.map map.now) (nodes_of touched.now) (lines_of touched.now) (items list.now) found.new.items) }
+{
+    put_nodes(&list.marks, &list.finder.own, &touched.nodes, found)?;
+    put_nodes(&list.marks, &list.finder.from, &touched.nodes, found)?;
+    put_lines(&list.marks, &list.finder.lines, &touched.lines, found)?;
+    if searches.far {
+        return Ok(());
+    }
+    let reached = searches.near.reached();
+    put_reached(&list.marks, &list.finder.from, reached, found)?;
+    Ok(())
+}
+
+/// The positions, rising, of paths that edits may concern; a position may stand twice. All positions, where a path may be
+/// there that was not encoded yet.
+pub(crate) fn candidates<M: MapRead>(
+    alloc: Global,
+    map: &M,
+    list: &Listing,
+    touched: &Touched,
+    searches: &Searches,
+) -> Result<Vec<usize>, AllocError>
+    requires { AreAsked (M.map map.now) (M.place_in map.now) touched.now searches.now (items list.now) }
+    ensures rising { IfOk result (λ found. IsNonDecreasing found.items) }
+    ensures covers { IfOk result
+        (λ found. Covers (M.map map.now) (nodes_of touched.now) (lines_of touched.now) (items list.now) found.items) }
+{
+    if list.held {
+        return all_below(alloc, list.paths.len());
+    }
+    let mut found = Vec::new(alloc);
+    put_touched(map, list, touched, searches, &mut found)?;
+    found.sort_unstable();
+    Ok(found)
+}
