@@ -1,9 +1,7 @@
 -- What is asked of each path of a list is asked of the one at a place.
-use Rattle.std.proofs.Common.{◌≡◌, ℕ, ◌+◌, ◌<◌, List, [], ◌∷◌, length, get_or, slice_get, Contains, Option, Some, None, option_map, IfSome, Bool, IsTrue, IsFalse, true, false, refl, sym, ap, ◌∙◌, subst, inl, inr, arith}
-use Rattle.std.specs.Prelude.{string_bytes}
+use Rattle.std.proofs.Common.{◌≡◌, ℕ, ◌+◌, ◌<◌, List, [], length, slice_get, Contains, Option, Some, None, option_map, IfSome, Bool, IsTrue, IsFalse, true, false, refl, sym, ap, ◌∙◌, subst, inl, inr, arith}
 use Rattle.std.proofs.lemmas.Bool.{cases_lt}
 use Rattle.std.proofs.lemmas.Option.{slice_get_within, get_or_from_slice_get, slice_get_read}
-use Rattle.std.proofs.lemmas.List.Elements.{Contains-get_or}
 use Rattle.olr_spec.specs.Looks.{Look}
 use Rattle.olr_spec.specs.Detours.{Near}
 use Rattle.olr_spec.specs.Map.{Map}

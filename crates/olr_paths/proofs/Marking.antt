@@ -1,5 +1,5 @@
 -- A list of entries with the marks of its paths, as paths come, go and change places with others.
-use Rattle.std.proofs.Common.{inl, inr, ◌≡◌, ◌≢◌, ℕ, zero, suc, ◌+◌, ◌<◌, ◌≤◌, Bool, true, false, not, cond, ◌||◌, ◌&&◌, ◌==◌, List, [], ◌∷◌, ◌++◌, length, get_or, slice_get, Option, Some, None, is_some, IsTrue, IsFalse, Contains, Result, Ok, Err, is_ok, ◌-◌, refl, sym, ap, ◌∙◌, subst, arith}
+use Rattle.std.proofs.Common.{inl, inr, ◌≡◌, ◌≢◌, ℕ, zero, suc, ◌+◌, ◌<◌, Bool, true, false, not, cond, ◌&&◌, ◌==◌, List, [], ◌∷◌, ◌++◌, length, get_or, slice_get, Some, None, IsTrue, IsFalse, Contains, Result, Ok, Err, is_ok, ◌-◌, refl, sym, ap, ◌∙◌, subst, arith}
 use Rattle.std.specs.Prelude.{String, string_bytes, if◌then◌else◌}
 use Rattle.std.specs.List.{remove, position}
 use Rattle.std.specs.List.Sorted.{IsStrictlyIncreasing, IsNonDecreasing, IsBinarySearchResult}
@@ -9,7 +9,6 @@ use Rattle.std.specs.Map.{keys_of, remove_entry, set_value}
 use Rattle.std.specs.String.{string_eq}
 use Rattle.indexmap.specs.Layout.{set_value_at}
 use Rattle.std.specs.declared.alloc.Global.{Global}
-use Rattle.std.specs.declared.rc.Rc.{Rc}
 use Rattle.std.proofs.lemmas.Bool.{cases_lt, cases_order, eq-eqb}
 use Rattle.std.proofs.lemmas.List.{length-append, get_or_default}
 use Rattle.std.proofs.lemmas.List.Edits.{length-remove}
@@ -20,7 +19,6 @@ use Rattle.olr_spec.specs.Extension.{has}
 use Rattle.olr_index.proofs.Rising.{rises, place_of, has_at, place_not, rises-remove, has-remove}
 use Rattle.olr_paths.specs.Finding.{IsNoted, NamedNoted, AreNoted, AreAll, Grows, Spares}
 use Rattle.olr_paths.specs.declared.finder.Finder.{Finder}
-use Rattle.olr_paths.specs.declared.published.Published.{Published}
 use Rattle.olr_paths.specs.declared.listing.NamedPath.{NamedPath}
 use Rattle.olr_paths.proofs.NamedEntries.{Entries, asks, item_of, items_of, absent, not_here}
 use Rattle.olr_commands.proofs.NameLemmas.{flipped}

@@ -1,4 +1,4 @@
-use Rattle.std.proofs.Common.{ℕ, take}
+use Rattle.std.proofs.Common.{take}
 use Rattle.olr_route.specs.declared.found.Reached.{Reached}
 use Rattle.olr_paths.proofs.Covering.{PutAll}
 use Rattle.olr_paths.proofs.candidates.put_reached.Given as goal

@@ -1,4 +1,4 @@
-use Rattle.std.proofs.Common.{◌≡◌, true, false, ℕ, All, refl, sym, subst}
+use Rattle.std.proofs.Common.{◌≡◌, true, ℕ, All, refl, sym, subst}
 use Rattle.std.proofs.lemmas.List.Elements.{All-contains}
 use Rattle.olr_route.specs.Searches.{IsNear}
 use Rattle.olr_route.specs.declared.found.Reached.{Reached}

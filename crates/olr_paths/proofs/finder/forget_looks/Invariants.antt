@@ -1,4 +1,3 @@
-use Rattle.std.proofs.Common.{ℕ}
 use Rattle.olr_spec.specs.Looks.{Look}
 use Rattle.olr_paths.proofs.Noting.{Forgot, KeptIn}
 use Rattle.olr_paths.proofs.finder.forget_looks.Given as goal

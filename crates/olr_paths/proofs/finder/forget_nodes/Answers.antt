@@ -1,5 +1,5 @@
-use Rattle.std.proofs.Common.{◌≡◌, ℕ, false, Contains, ◌∙◌, sym, subst, ap}
-use Rattle.olr_paths.proofs.Noting.{Forgot, KeptIn, forgot_more}
+use Rattle.std.proofs.Common.{◌≡◌, ℕ, false, Contains, ◌∙◌, sym, subst}
+use Rattle.olr_paths.proofs.Noting.{KeptIn, forgot_more}
 use Rattle.olr_paths.proofs.Marking.{not_among}
 use Rattle.olr_paths.proofs.finder.forget_nodes.Goals as goal
 

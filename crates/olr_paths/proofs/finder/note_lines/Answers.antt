@@ -1,4 +1,4 @@
-use Rattle.std.proofs.Common.{ℕ, take, ap, sym, ◌∙◌}
+use Rattle.std.proofs.Common.{ℕ, take, ◌∙◌}
 use Rattle.olr_paths.proofs.Noting.{noted_none, noted_more, noted_all, grows_failed, spares_failed}
 use Rattle.olr_paths.proofs.finder.note_lines.Goals as goal
 

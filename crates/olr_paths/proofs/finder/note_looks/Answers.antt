@@ -1,4 +1,4 @@
-use Rattle.std.proofs.Common.{ℕ, take, ap, sym, ◌∙◌}
+use Rattle.std.proofs.Common.{take, ap, ◌∙◌}
 use Rattle.olr_spec.specs.Looks.{Look}
 use Rattle.olr_paths.proofs.Noting.{noted_none, noted_more, noted_all, grows_failed, spares_failed}
 use Rattle.olr_paths.proofs.finder.note_looks.Goals as goal

@@ -1,4 +1,4 @@
-use Rattle.std.proofs.Common.{ℕ, take}
+use Rattle.std.proofs.Common.{take}
 use Rattle.olr_spec.specs.Looks.{Look}
 use Rattle.olr_paths.proofs.Noting.{Noted}
 use Rattle.olr_paths.proofs.finder.note_looks.Given as goal

@@ -1,4 +1,4 @@
-use Rattle.std.proofs.Common.{inl, inr, ◌≡◌, ◌<◌, ◌≤◌, ℕ, List, Some, length, get_or, slice_get, ap, sym, subst, arith}
+use Rattle.std.proofs.Common.{inl, inr, ◌≡◌, ◌<◌, ◌≤◌, ℕ, List, Some, length, get_or, slice_get, ap, sym, subst}
 use Rattle.std.proofs.lemmas.Option.{slice_get_within}
 use Rattle.olr_spec.specs.Extension.{Path}
 use Rattle.olr_paths.specs.Items.{Item, items, made_of}

@@ -1,7 +1,7 @@
-use Rattle.std.proofs.Common.{true, sym, ◌∙◌}
+use Rattle.std.proofs.Common.{sym, ◌∙◌}
 use Rattle.olr_paths.specs.Items.{items}
 use Rattle.olr_paths.specs.declared.searches.Searches.{Searches}
-use Rattle.olr_paths.proofs.AskedLemmas.{asked_far, asked_lack, asked_searched}
+use Rattle.olr_paths.proofs.AskedLemmas.{asked_far, asked_lack}
 use Rattle.olr_paths.proofs.renewal.search_touched.Goals as goal
 use Rattle.olr_paths.proofs.renewal.search_touched.Goals.{then-far, else-far}
 

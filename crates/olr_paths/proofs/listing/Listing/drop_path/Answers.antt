@@ -1,4 +1,4 @@
-use Rattle.std.proofs.Common.{◌≡◌, ◌<◌, ◌∙◌, ℕ, List, Some, length, ap, sym, get_or, arith}
+use Rattle.std.proofs.Common.{◌≡◌, ◌<◌, ◌∙◌, length, ap, sym, get_or, arith}
 use Rattle.std.proofs.lemmas.List.{get_or_default}
 use Rattle.olr_paths.specs.Items.{items}
 use Rattle.olr_paths.proofs.NamedEntries.{removed_items, items_of, keeps_all, named_there}

@@ -1,4 +1,4 @@
-use Rattle.std.proofs.Common.{ℕ, List, map, inl, inr, sym, subst}
+use Rattle.std.proofs.Common.{List, map, inl, inr, sym, subst}
 use Rattle.olr_commands.specs.Words.{entry_of}
 use Rattle.olr_paths.specs.Items.{Item, items}
 use Rattle.olr_paths.specs.Beginning.{Begins}
