@@ -3,7 +3,7 @@ use Rattle.std.proofs.Common.{◌≡◌, ℕ, zero, suc, ◌+◌, ◌-◌, ◌*�
 use Rattle.std.specs.List.{list_any}
 use Rattle.std.proofs.lemmas.Bool.{or_parts, leb-false, eqb-true}
 use Rattle.std.proofs.lemmas.Bool.Decides.{nat_tests}
-use Rattle.olr_spec.specs.Bytes.{Length, Status, Flags, Reserved, status, bit, extra, flags_of, attribute1_bytes, has_reserved, v3_fault}
+use Rattle.olr_spec.specs.Bytes.{Length, Status, Flags, Reserved, status_byte, bit, extra, flags_of, attribute1_bytes, has_reserved, v3_fault}
 use Rattle.olr_binary.specs.Layout.{IsLayout}
 
 -- some of the attribute bytes 1 of n points, of which the first stands at place i, has a reserved bit
@@ -49,7 +49,7 @@ module _ (b : List ℕ) (m o : ℕ) (w : IsLayout b m o) where
 
 -- what bytes with no fault are
 pub record HasNoFault (b : List ℕ) : Type 0 where
-  pub state : slice_index b 0 ≡ status
+  pub state : slice_index b 0 ≡ status_byte
   pub flags : bit 6 (flags_of b) + bit 5 (flags_of b) ≡ extra b
   pub reserved : has_reserved b ≡ false
 
@@ -64,8 +64,8 @@ no_fault_tests false true true false e = (refl, refl, refl)
 
 pub no_fault : (b : List ℕ) → v3_fault b ≡ None → HasNoFault b
 no_fault b e =
-    let t = no_fault_tests (nat_lt (length b) 16 || nat_lt 2 (extra b)) (slice_index b 0 == status) (bit 6 (flags_of b) + bit 5 (flags_of b) == extra b) (has_reserved b) e in
-    record { state = eqb-true (slice_index b 0) status t.0; flags = eqb-true (bit 6 (flags_of b) + bit 5 (flags_of b)) (extra b) t.1; reserved = t.2 }
+    let t = no_fault_tests (nat_lt (length b) 16 || nat_lt 2 (extra b)) (slice_index b 0 == status_byte) (bit 6 (flags_of b) + bit 5 (flags_of b) == extra b) (has_reserved b) e in
+    record { state = eqb-true (slice_index b 0) status_byte t.0; flags = eqb-true (bit 6 (flags_of b) + bit 5 (flags_of b)) (extra b) t.1; reserved = t.2 }
 
 -- places of attribute bytes
 module _ (b : List ℕ) (m o : ℕ) (w : IsLayout b m o) (e : v3_fault b ≡ None) where
@@ -91,5 +91,5 @@ module _ (b : List ℕ) (m o : ℕ) (w : IsLayout b m o) (e : v3_fault b ≡ Non
   flag_bits =
       subst (λ (i : ℕ). bit 6 (slice_index b i) + bit 5 (slice_index b i) ≡ o) flags_place ((no_fault b e).flags ∙ extra-is b m o w)
 
-  pub status-is : slice_index b 0 ≡ status
+  pub status-is : slice_index b 0 ≡ status_byte
   status-is = (no_fault b e).state

@@ -6,7 +6,7 @@ use Rattle.std.proofs.lemmas.List.Concat.{flat_map-append}
 use Rattle.std.proofs.lemmas.List.{drop_all, drop-drop}
 use Rattle.std.proofs.lemmas.Slice.{between_to_end}
 use Rattle.olr_spec.specs.Reference.{First, Middle, Reference}
-use Rattle.olr_spec.specs.Bytes.{signed16, signed24, attr_bytes, first_bytes, middle_bytes, last_bytes, spelling, status}
+use Rattle.olr_spec.specs.Bytes.{signed16, signed24, attr_bytes, first_bytes, middle_bytes, last_bytes, spelling, status_byte}
 
 -- the n elements from place i on
 abbrev pub part : ℕ → ℕ → List ℕ → List ℕ
@@ -49,11 +49,11 @@ head_of [] some = absurd (omega arith)
 head_of (x ∷ xs) some = refl
 
 -- the parts make the whole
-pub spelling-parts : (b : List ℕ) (m : ℕ) (r : Reference) → 10 + 7 * m ≤ length b → slice_index b 0 ≡ status → first_bytes r.first ≡ slice_range b 1 10
+pub spelling-parts : (b : List ℕ) (m : ℕ) (r : Reference) → 10 + 7 * m ≤ length b → slice_index b 0 ≡ status_byte → first_bytes r.first ≡ slice_range b 1 10
     → flat_map middle_bytes r.middle ≡ slice_range b 10 (10 + 7 * m) → last_bytes r.last r.pos r.neg ≡ slice_range b (10 + 7 * m) (length b) → b ≡ spelling r
 spelling-parts b m r long state first middle last =
     let k = 10 + 7 * m in
-    let head : slice_range b 0 1 ≡ status ∷ [] = head_of b (omega arith) ∙ ap (λ (x : ℕ). x ∷ []) state in
+    let head : slice_range b 0 1 ≡ status_byte ∷ [] = head_of b (omega arith) ∙ ap (λ (x : ℕ). x ∷ []) state in
     let to_ten = slice_range-more b 0 1 10 (omega arith) (omega arith) in
     let to_last = slice_range-more b 0 10 k (omega arith) (omega arith) in
     let to_end = slice_range-more b 0 k (length b) (omega arith) long in

@@ -6,9 +6,9 @@ use Rattle.std.proofs.lemmas.Bool.Decides.{nat_tests}
 use Rattle.std.proofs.lemmas.List.{get_or-append-add, get_or-append_right}
 use Rattle.base64.specs.GeneralPurpose.{IsBytes}
 use Rattle.olr_spec.specs.Reference.{First, Middle, Last, Reference}
-use Rattle.olr_spec.specs.Bytes.{IsFirst, IsMiddle, IsLast, IsReference, Spells, Length, Status, Flags, Reserved, attribute1, attribute4, bit, extra, first_bytes, flag, flags_of, has_reserved, last_bytes, middle_bytes, offset_bytes, spelling, status, v3_fault}
+use Rattle.olr_spec.specs.Bytes.{IsFirst, IsMiddle, IsLast, IsReference, Spells, Length, Status, Flags, Reserved, attribute1, attribute4, bit, extra, first_bytes, flag, flags_of, has_reserved, last_bytes, middle_bytes, offset_bytes, spelling, status_byte, v3_fault}
 use Rattle.olr_binary.specs.declared.faults.V3Fault.{V3Fault as Fault}
-use Rattle.olr_binary.specs.Faults.{fault_of}
+use Rattle.olr_binary.specs.Faults.{bytes_fault_of}
 use Rattle.olr_binary.specs.Layout.{IsLayout}
 use Rattle.olr_binary.proofs.LayoutLemmas.{some_reserved, extra-is, has_reserved-is}
 
@@ -97,7 +97,7 @@ module _ (r : Reference) (fit : IsReference r) where
       let split : k ≡ 10 + (7 * middles + 5) = omega arith in
       let five : 7 * middles + 5 - 7 * middles ≡ 5 = omega arith in
       let l = last_bytes r.last r.pos r.neg in
-      ap (λ (i : ℕ). slice_index (spelling r) i) split ∙ get_or-append-add (status ∷ first_bytes r.first) rest (7 * middles + 5) 0
+      ap (λ (i : ℕ). slice_index (spelling r) i) split ∙ get_or-append-add (status_byte ∷ first_bytes r.first) rest (7 * middles + 5) 0
       ∙ get_or-append_right (flat_map middle_bytes r.middle) l (7 * middles) (7 * middles + 5) 0 (length-middles r.middle) (omega arith)
       ∙ ap (λ (i : ℕ). get_or l i 0) five
 
@@ -119,19 +119,19 @@ module _ (r : Reference) (fit : IsReference r) where
       let first = r.first.attrs in
       let free : some_reserved b 7 (suc (suc m)) ≡ false =
       or_from _ _ (low_attribute1 first.frc first.fow fit.first.attrs.frc fit.first.attrs.fow)
-      (some_reserved-after (status ∷ first_bytes r.first) rest 4 (suc m) ∙ ends_free r.last r.pos r.neg fit.last r.middle fit.middle)
+      (some_reserved-after (status_byte ∷ first_bytes r.first) rest 4 (suc m) ∙ ends_free r.last r.pos r.neg fit.last r.middle fit.middle)
       in
       let low = not_le 128 _ (low_four r.last r.pos r.neg fit.last) in
       let four = flags-is (length b - 1 - o) (omega arith) in
       no_fault_from (nat_lt (length b) 16 || nat_lt 2 (extra b)) true (bit 6 (flags_of b) + bit 5 (flags_of b) == extra b) (has_reserved b) (or_from _ _ long some) refl (same_test _ _ flagged)
       (has_reserved-is b m o w ∙ or_from _ _ (ap (λ (n : ℕ). some_reserved b 7 n) more ∙ free) (ap (λ (n : ℕ). nat_le 128 n) four ∙ low))
 
-pub unspelled : {T : Type 0} (b : List ℕ) (r : Result T Fault) → IfErr r (λ f. v3_fault b ≡ fault_of f) → IfErr r (λ f. IsSome (fault_of f) → (s : Reference) → ¬ Spells s b)
+pub unspelled : {T : Type 0} (b : List ℕ) (r : Result T Fault) → IfErr r (λ f. v3_fault b ≡ bytes_fault_of f) → IfErr r (λ f. IsSome (bytes_fault_of f) → (s : Reference) → ¬ Spells s b)
 unspelled b (Ok x) told = tt
 unspelled b (Err f) told =
     λ some s spells.
     let sound : v3_fault b ≡ None = ap v3_fault spells.1 ∙ spelling-sound s spells.0 in
-    let none : fault_of f ≡ None = sym told ∙ sound in
+    let none : bytes_fault_of f ≡ None = sym told ∙ sound in
     let never : ⊥ = cc (some, none) in
     never
 
@@ -179,5 +179,5 @@ pub spelling-bytes : (r : Reference) → IsReference r → IsBytes (spelling r)
 spelling-bytes r fit =
     let middle = flat_map middle_bytes r.middle in
     let last = last_bytes r.last r.pos r.neg in
-    let front = both (status ∷ first_bytes r.first) middle (omega arith, first_all r.first fit.first) (middles_all r.middle fit.middle) in
-    at (spelling r) (both (status ∷ first_bytes r.first ++ middle) last front (last_all r.last r.pos r.neg fit.last fit.pos fit.neg))
+    let front = both (status_byte ∷ first_bytes r.first) middle (omega arith, first_all r.first fit.first) (middles_all r.middle fit.middle) in
+    at (spelling r) (both (status_byte ∷ first_bytes r.first ++ middle) last front (last_all r.last r.pos r.neg fit.last fit.pos fit.neg))

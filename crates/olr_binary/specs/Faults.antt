@@ -10,17 +10,17 @@ use Rattle.olr_binary.specs.declared.faults.TextFault.{TextFault}
 use Rattle.olr_binary.specs.declared.faults.TextFault.TheVariants.{Bytes, NotBase64}
 
 -- what is wrong with the bytes; want of memory tells nothing of them
-abbrev pub fault_of : V3Fault → Option Fault
-fault_of Length = Some Wrong_length
-fault_of Status = Some Wrong_status
-fault_of Flags = Some Wrong_flags
-fault_of Reserved = Some Bits_reserved
-fault_of Memory = None
+abbrev pub bytes_fault_of : V3Fault → Option Fault
+bytes_fault_of Length = Some Wrong_length
+bytes_fault_of Status = Some Wrong_status
+bytes_fault_of Flags = Some Wrong_flags
+bytes_fault_of Reserved = Some Bits_reserved
+bytes_fault_of Memory = None
 
 -- what is wrong with the text: its bytes have that fault, or it encodes none
 abbrev pub IsFaultOf : List ℕ → TextFault → Type 0
 IsFaultOf text (Bytes Memory) = Unit {0}
-IsFaultOf text (Bytes f) = (b : List ℕ) × (decode_of standard text ≡ Ok b) × (v3_fault b ≡ fault_of f)
+IsFaultOf text (Bytes f) = (b : List ℕ) × (decode_of standard text ≡ Ok b) × (v3_fault b ≡ bytes_fault_of f)
 IsFaultOf text NotBase64 = (e : DecodeError) × (decode_of standard text ≡ Err e)
 
 -- the fault says something of the text

@@ -3,7 +3,7 @@ ghost use Rattle.std.specs.Prelude.{◌≡◌, ◌+◌, ◌*◌, ◌<◌, [], �
 ghost use Rattle.std.specs.List.{AllByRecursion, flat_map};
 ghost use Rattle.olr_spec.specs.Reference.{Reference as Fields};
 ghost use Rattle.olr_spec.specs.Bytes.{AreAttrs, IsFirst, IsMiddle, IsLast, Spells, Length as Wrong_length, attr_bytes, bit, first_bytes, flag, has_reserved, last_bytes, middle_bytes, offset_bytes, v3_fault};
-ghost use Rattle.olr_binary.specs.Faults.{fault_of};
+ghost use Rattle.olr_binary.specs.Faults.{bytes_fault_of};
 ghost use Rattle.olr_binary.specs.Layout.{IsLayout};
 
 use crate::bits::{
@@ -173,8 +173,8 @@ fn has_reserved(bytes: &[u8], layout: Layout) -> bool
 fn check(bytes: &[u8]) -> Result<Layout, V3Fault>
     ensures ok { IfOk result (λ l. IsLayout bytes.now l.middle l.offsets) }
     ensures sound { OnOk result (v3_fault bytes.now ≡ None) }
-    ensures fault { IfErr result (λ fault. v3_fault bytes.now ≡ fault_of fault) }
-    ensures no_memory { IfErr result (λ fault. IsSome (fault_of fault)) }
+    ensures fault { IfErr result (λ fault. v3_fault bytes.now ≡ bytes_fault_of fault) }
+    ensures no_memory { IfErr result (λ fault. IsSome (bytes_fault_of fault)) }
 {
     let layout = layout_of(bytes).ok_or(V3Fault::Length)?;
     if bytes[0] != STATUS {
@@ -210,9 +210,9 @@ fn read_points(alloc: Global, bytes: &[u8], layout: Layout) -> Result<Vec<Middle
 /// All other bytes are accepted as they are, coordinates past the poles and offset bytes of 0 among them.
 pub fn read_v3(alloc: Global, bytes: &[u8]) -> Result<Reference, V3Fault>
     ensures ok { IfOk result (λ r. Spells r bytes.now) }
-    ensures fault { IfErr result (λ fault. v3_fault bytes.now ≡ fault_of fault) }
+    ensures fault { IfErr result (λ fault. v3_fault bytes.now ≡ bytes_fault_of fault) }
     ensures unspelled { IfErr result (λ fault.
-        IsSome (fault_of fault) → (r : Fields) → ¬ Spells r bytes.now) }
+        IsSome (bytes_fault_of fault) → (r : Fields) → ¬ Spells r bytes.now) }
 {
     let layout = check(bytes)?;
     let middle = read_points(alloc, bytes, layout).map_err(|_| V3Fault::Memory)?;

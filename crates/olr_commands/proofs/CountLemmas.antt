@@ -5,7 +5,7 @@ use Rattle.std.specs.List.{list_any}
 use Rattle.std.proofs.lemmas.Bool.{cases_Bool, both_ways, not-false}
 use lib.Pointwise.{bytes_decides}
 use Rattle.olr_spec.specs.Extension.{Path, has, is_path}
-use Rattle.olr_commands.specs.State.{Named, Content, same_name, path_named, has_path, with_path, NamesDiffer, Fault, Path_exists, No_path, Bad_path, when, Change, Add_path, Set_path, changed, made, State, Command, Make, step, brought, IsState}
+use Rattle.olr_commands.specs.State.{Named, Content, same_name, path_named, has_path, with_path, NamesDiffer, Fault, Path_exists, No_path, Bad_path, when, Change, Add_path, Set_path, changed, at_once, State, Command, Make, step, brought, IsState}
 use Rattle.olr_commands.specs.Counts.{Concerns, By_name, By_node, By_line, CountIs, Raises, all_nodes, all_lines, all_names}
 use Rattle.olr_commands.proofs.NameLemmas.{same_is, not_named, set_name}
 use Rattle.olr_commands.proofs.StateLemmas.{when_ok, steps_keep}
@@ -102,7 +102,7 @@ one_path s t x name b d e f g h =
     subst (λ (xs : List Change). CountIs (Concerns s.content xs) t.content.paths 1) (sym brings)
     (one_named (Concerns s.content (x ∷ [])) name (only_name s.content x name e f g) (by_name s.content x name g) t.content.paths d h)
 
-paths_after : (s t : State) (x : Change) → s.batch ≡ None → step s (Make x) ≡ Ok t → made (changed s.content x) ≡ Ok t
+paths_after : (s t : State) (x : Change) → s.batch ≡ None → step s (Make x) ≡ Ok t → at_once (changed s.content x) ≡ Ok t
 paths_after s t x b is = ap (λ (o : Option (List Change)). step (record { content = s.content; batch = o }) (Make x)) (sym b) ∙ is
 
 pub paths_raise : (s t : State) (name : List ℕ) (path : Path) → IsState s → s.batch ≡ None
@@ -117,13 +117,13 @@ paths_raise s t name path i b = (
       one_path s t (Set_path name path) name b keeps.content.names refl refl refl (replaced (paths_after s t (Set_path name path) b is)),
 )
   where
-    ok_made : (r : Result Content Fault) → made r ≡ Ok t → r ≡ Ok t.content
+    ok_made : (r : Result Content Fault) → at_once r ≡ Ok t → r ≡ Ok t.content
     ok_made (Ok d) e =
         let same : record { content = d; batch = None } ≡ t = cc in
         ap (λ (u : State). Ok u.content) same
     ok_made (Err f) e = absurd cc
 
-    added : made (changed s.content (Add_path name path)) ≡ Ok t → is_some (path_named t.content.paths name) ≡ true
+    added : at_once (changed s.content (Add_path name path)) ≡ Ok t → is_some (path_named t.content.paths name) ≡ true
     added e =
         let to = record s.content { paths = s.content.paths ++ record { name = name; path = path } ∷ [] } in
         let p = when_ok (has_path s.content name) Path_exists (when (not (is_path path.lines)) Bad_path (Ok to)) t.content (ok_made (changed s.content (Add_path name path)) e) in
@@ -131,7 +131,7 @@ paths_raise s t name path i b = (
         let same : to ≡ t.content = cc in
         subst (λ (d : Content). is_some (path_named d.paths name) ≡ true) same (named_at_end s.content.paths (record { name = name; path = path }))
 
-    replaced : made (changed s.content (Set_path name path)) ≡ Ok t → is_some (path_named t.content.paths name) ≡ true
+    replaced : at_once (changed s.content (Set_path name path)) ≡ Ok t → is_some (path_named t.content.paths name) ≡ true
     replaced e =
         let to = record s.content { paths = map (with_path name path) s.content.paths } in
         let p = when_ok (not (has_path s.content name)) No_path (when (not (is_path path.lines)) Bad_path (Ok to)) t.content (ok_made (changed s.content (Set_path name path)) e) in

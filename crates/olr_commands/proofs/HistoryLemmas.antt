@@ -7,14 +7,14 @@ use Rattle.std.proofs.lemmas.Bool.{cases_Bool, both_ways, eqb-true}
 use lib.Pointwise.{bytes_decides}
 use Rattle.olr_spec.specs.Map.{Map, IsMap}
 use Rattle.olr_spec.specs.Extension.{Path, extended}
-use Rattle.olr_spec.specs.Points.{last_point}
+use Rattle.olr_spec.specs.Points.{last_position}
 use Rattle.olr_spec.specs.Reference.{Reference, legs, reference}
 use Rattle.olr_spec.specs.Encoding.{Answer, Points, Refused, Refusal, No_next_point, path_fault, Encoding, Encodes}
 use Rattle.olr_spec.proofs.AnswerLemmas.{one_answer}
 use Rattle.olr_spec.proofs.DecideLemmas.{some_answer}
 use Rattle.olr_spec.proofs.JoinLemmas.{routes_join}
 use Rattle.olr_spec.proofs.UndoLemmas.{empty_sound}
-use Rattle.olr_commands.specs.State.{Named, Content, path_named, same_name, ArePaths, NamesDiffer, IsContent, has_path, TextFault, Fault, No_path, Batch_full, Count_differs, Change, changed, next, after, Command, Make, Show, Report, Explain, Begin, Commit, Abort, State, start_state, full, made, held, text_fault, unless_fault, step, brought, HasPlaces, IsState}
+use Rattle.olr_commands.specs.State.{Named, Content, path_named, same_name, ArePaths, NamesDiffer, IsContent, has_path, TextFault, Fault, No_path, Batch_full, Count_differs, Change, changed, next, after, Command, Make, Show, Report, Explain, Begin, Commit, Abort, State, start_state, full, at_once, held, text_fault, unless_fault, step, brought, HasPlaces, IsState}
 use Rattle.olr_commands.specs.Reply.{Entry, entry, Paths, HasAnswer, Published, ChangedOf, Differences, IsReply, Outcome, IsOutcome}
 use Rattle.olr_commands.specs.History.{Run, History, AllHavePlaces, next_state, brought_by, all_brought, OneOf, IsPublished, Joined, names, NamesChanged, tells, IsNamed, IsRefused, Headline}
 use Rattle.olr_commands.proofs.NameLemmas.{same_is}
@@ -26,7 +26,7 @@ use Rattle.olr_commands.proofs.ReplyLemmas.{named_path}
 -- what an accepted command brings is what it changes
 brings : (s t : State) (c : Command) → step s c ≡ Ok t → t.content ≡ after s.content (brought s c)
 brings s t c is = by_batch s.content s.batch t c is where
-  made_is : (c : Content) (x : Change) (r : Result Content Fault) (t : State) → changed c x ≡ r → made r ≡ Ok t → t.content ≡ next c x
+  made_is : (c : Content) (x : Change) (r : Result Content Fault) (t : State) → changed c x ≡ r → at_once r ≡ Ok t → t.content ≡ next c x
   made_is c x (Ok d) t e is =
       let same : record { content = d; batch = None } ≡ t = cc in
       ap (λ (s : State). s.content) (sym same) ∙ sym (next_ok c d x e)
@@ -148,7 +148,7 @@ start_sound = record { content = record { map = empty_sound; paths = tt; names =
 joined : (M : Map) (P : Path) (r : Reference) → Encoding M P (Points r) → Joined M P r
 joined M P r p =
     let E = extended M P p.before p.after in
-    elim (last_point 0 p.points == length E.lines) as (λ t. (last_point 0 p.points == length E.lines) ≡ t → Points r ≡ cond t (Points (reference (legs M E.lines) E.pos E.neg p.points)) (Refused (No_next_point (last_point 0 p.points))) → Joined M P r) [
+    elim (last_position 0 p.points == length E.lines) as (λ t. (last_position 0 p.points == length E.lines) ≡ t → Points r ≡ cond t (Points (reference (legs M E.lines) E.pos E.neg p.points)) (Refused (No_next_point (last_position 0 p.points))) → Joined M P r) [
       | true ↦ λ t e.
           let same : r ≡ reference (legs M E.lines) E.pos E.neg p.points = cc in
           record {
@@ -157,7 +157,7 @@ joined M P r p =
             points = p.points;
             tried = p.tried;
             follow = p.follow;
-            holds = (same, routes_join M E.lines p.points E.pos E.neg p.follow (eqb-true (last_point 0 p.points) (length E.lines) t));
+            holds = (same, routes_join M E.lines p.points E.pos E.neg p.follow (eqb-true (last_position 0 p.points) (length E.lines) t));
           }
       | false ↦ λ t e. absurd cc
     ] refl p.holds

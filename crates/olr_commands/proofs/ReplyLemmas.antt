@@ -7,7 +7,7 @@ use Rattle.olr_spec.specs.Encoding.{Answer, Encodes}
 use Rattle.olr_spec.proofs.AnswerLemmas.{one_answer}
 use Rattle.olr_spec.proofs.BytesLemmas.{one_spelled}
 use Rattle.olr_commands.specs.State.{Named, Content, same_name, path_named, ArePaths, IsContent, Change, State, Command, Make, Show, Report, Explain, Begin, Commit, Abort, IsState}
-use Rattle.olr_commands.specs.Reply.{Entry, entry, Reply, Paths, Fields, Held, HasAnswer, AllOf, ChangedOf, Differences, Shown, Explained, IsPaths, IsFields, IsHeld, IsReply}
+use Rattle.olr_commands.specs.Reply.{Entry, entry, Reply, Paths, Fields, Held, HasAnswer, AllOf, ChangedOf, Differences, Shown, Explained, IsPaths, IsFields, IsChangeReply, IsReply}
 
 -- each path has one answer, so all of them one list of entries
 one_all : (M : Map) → IsMap M → (ps : List Named) (es fs : List Entry) → ArePaths ps → AllOf M ps es → AllOf M ps fs → es ≡ fs
@@ -77,7 +77,7 @@ one_explained text x y p q =
 one_difference : (s t : Content) → IsContent t → (r q : Reply) → IsPaths r (Differences s t) → IsPaths q (Differences s t) → r ≡ q
 one_difference s t j r q p g = one_paths (Differences s t) (λ es fs. one_changed s t.map j.map t.paths es fs j.paths) r q p g
 
-one_held : (b : Option (List Change)) (s t : Content) → IsContent t → (r q : Reply) → IsHeld b s t r → IsHeld b s t q → r ≡ q
+one_held : (b : Option (List Change)) (s t : Content) → IsContent t → (r q : Reply) → IsChangeReply b s t r → IsChangeReply b s t q → r ≡ q
 one_held None s t j r q p g = one_difference s t j r q p g
 one_held (Some xs) s t j r q p g = p ∙ sym g
 

@@ -12,7 +12,7 @@ use Rattle.olr_spec.proofs.DecideLemmas.{some_answer}
 use Rattle.olr_spec.proofs.FitLemmas.{encoded_fits}
 use Rattle.olr_spec.proofs.BytesLemmas.{one_spelled}
 use Rattle.olr_commands.specs.State.{Named, Content, path_named, same_name, ArePaths, IsContent, has_path, No_path, Change, Command, Make, Show, Report, Explain, Begin, Commit, Abort, HasPlaces, State, step, IsState}
-use Rattle.olr_commands.specs.Reply.{Entry, entry, Reply, Paths, Held, HasAnswer, AllOf, ChangedOf, Differences, Shown, IsHeld, IsReply}
+use Rattle.olr_commands.specs.Reply.{Entry, entry, Reply, Paths, Held, HasAnswer, AllOf, ChangedOf, Differences, Shown, IsChangeReply, IsReply}
 use Rattle.olr_commands.proofs.StateLemmas.{when_ok, steps_keep}
 use Rattle.olr_commands.proofs.ReplyLemmas.{named_path, one_has}
 
@@ -123,7 +123,7 @@ some_shown c i name h = by_path (path_named c.paths name) refl where
 some_difference : (c d : Content) → IsContent c → IsContent d → (es : List Entry) × Differences c d es
 some_difference c d i j = some_changed c i d.map j.map d.paths j.paths
 
-some_held : (b : Option (List Change)) (c d : Content) → IsContent c → IsContent d → (reply : Reply) × IsHeld b c d reply
+some_held : (b : Option (List Change)) (c d : Content) → IsContent c → IsContent d → (reply : Reply) × IsChangeReply b c d reply
 some_held None c d i j = let es = some_difference c d i j in (Paths es.0, es.1)
 some_held (Some xs) c d i j = (Held (suc (length xs)), refl)
 

@@ -5,7 +5,7 @@ use Rattle.std.specs.Result.{result_unwrap_or}
 use Rattle.std.proofs.lemmas.Bool.{not-false, leb-false}
 use Rattle.olr_spec.specs.Map.{Map, IsMap, MapFault, edited}
 use Rattle.olr_spec.specs.Extension.{is_path}
-use Rattle.olr_commands.specs.State.{Named, Content, has_path, same_name, with_path, TextFault, Fault, Path_exists, No_path, Bad_path, Batch_full, Count_differs, when, Change, On_map, Add_path, Set_path, Drop_path, with_map, changed, next, after, Command, Make, Show, Report, Explain, Begin, Commit, Abort, State, full, made, held, text_fault, unless_fault, step, IsContent, AllAccepted, IsBatch, IsState, HasPlaces}
+use Rattle.olr_commands.specs.State.{Named, Content, has_path, same_name, with_path, TextFault, Fault, Path_exists, No_path, Bad_path, Batch_full, Count_differs, when, Change, On_map, Add_path, Set_path, Drop_path, with_map, changed, next, after, Command, Make, Show, Report, Explain, Begin, Commit, Abort, State, full, at_once, held, text_fault, unless_fault, step, IsContent, AllAccepted, IsBatch, IsState, HasPlaces}
 use Rattle.olr_spec.proofs.EditLemmas.{edits_keep}
 use Rattle.olr_commands.proofs.NameLemmas.{differ_push, differ_set, differ_filter, paths_push, paths_set, paths_filter}
 
@@ -86,7 +86,7 @@ hold c xs x (Err f) t is room i h b e = absurd cc
 
 -- ---- commands
 
-make : (c : Content) (x : Change) (r : Result Content Fault) (t : State) → changed c x ≡ r → IsContent c → HasPlaces (Make x) → made r ≡ Ok t → IsState t
+make : (c : Content) (x : Change) (r : Result Content Fault) (t : State) → changed c x ≡ r → IsContent c → HasPlaces (Make x) → at_once r ≡ Ok t → IsState t
 make c x (Ok e) t is i h m =
     let to : State = record { content = e; batch = None } in
     let same : to ≡ t = cc in

@@ -10,29 +10,29 @@ use Rattle.olr_spec.specs.Footprint.{Foot}
 use Rattle.olr_commands.specs.State.{Named, Content, same_name, Change, On_map, Add_path, Set_path, next, State, Command, brought}
 
 -- the nodes and the lines that a change touches, and the path that it gives
-abbrev pub nodes_of : Map → Change → List ℕ
-nodes_of M (On_map e) = touched_nodes M e
-nodes_of M _ = []
+abbrev pub nodes_of_change : Map → Change → List ℕ
+nodes_of_change M (On_map e) = touched_nodes M e
+nodes_of_change M _ = []
 
-abbrev pub lines_of : Change → List ℕ
-lines_of (On_map e) = touched_lines e
-lines_of _ = []
+abbrev pub lines_of_change : Change → List ℕ
+lines_of_change (On_map e) = touched_lines e
+lines_of_change _ = []
 
-abbrev pub names_of : Change → List (List ℕ)
-names_of (Add_path name path) = name ∷ []
-names_of (Set_path name path) = name ∷ []
-names_of _ = []
+abbrev pub names_of_change : Change → List (List ℕ)
+names_of_change (Add_path name path) = name ∷ []
+names_of_change (Set_path name path) = name ∷ []
+names_of_change _ = []
 
 -- each change touches the nodes of the map that it finds
 abbrev pub all_nodes : Content → List Change → List ℕ
 all_nodes c [] = []
-all_nodes c (x ∷ xs) = nodes_of c.map x ++ all_nodes (next c x) xs
+all_nodes c (x ∷ xs) = nodes_of_change c.map x ++ all_nodes (next c x) xs
 
 abbrev pub all_lines : List Change → List ℕ
-all_lines xs = flat_map lines_of xs
+all_lines xs = flat_map lines_of_change xs
 
 abbrev pub all_names : List Change → List (List ℕ)
-all_names xs = flat_map names_of xs
+all_names xs = flat_map names_of_change xs
 
 -- a change gives the path, or touches a node of its footprint on the map before them all, or one of its lines
 pub data Concerns (c : Content) (xs : List Change) (p : Named) : Type 0 where

@@ -81,12 +81,12 @@ IsFields (Fields r) P = P r
 IsFields _ P = ⊥
 
 -- to a change in the batch that holds so many, or outside of batches
-abbrev pub IsHeld : Option (List Change) → Content → Content → Reply → Type 0
-IsHeld None before later reply = IsPaths reply (Differences before later)
-IsHeld (Some xs) before later reply = reply ≡ Held (suc (length xs))
+abbrev pub IsChangeReply : Option (List Change) → Content → Content → Reply → Type 0
+IsChangeReply None before later reply = IsPaths reply (Differences before later)
+IsChangeReply (Some xs) before later reply = reply ≡ Held (suc (length xs))
 
 abbrev pub IsReply : State → Command → State → Reply → Type 0
-IsReply s (Make x) t reply = IsHeld s.batch s.content t.content reply
+IsReply s (Make x) t reply = IsChangeReply s.batch s.content t.content reply
 IsReply s (Show name) t reply = IsPaths reply (Shown s.content name)
 IsReply s Report t reply = IsPaths reply (AllOf s.content.map s.content.paths)
 IsReply s (Explain text) t reply = IsFields reply (Explained text)

@@ -1,5 +1,5 @@
 -- Rust's commands, replies and faults as those of the definitions.
---     command_of, reply_of, fault_of, outcome_of
+--     command_of, reply_of, command_fault_of, outcome_of
 use Rattle.std.specs.Prelude.{ℕ, List, map, Result, string_bytes}
 use Rattle.std.specs.Result.{result_map_both}
 use Rattle.olr_spec.specs.Bytes.{Length, Status, Flags, Reserved}
@@ -63,17 +63,17 @@ text_fault_of (text.Bytes bytes.Reserved) = state.Not_a_reference (state.Not_v3 
 text_fault_of (text.Bytes bytes.Memory) = state.Memory
 text_fault_of text.NotBase64 = state.Not_a_reference state.Not_base64
 
-abbrev pub fault_of : CommandFault → state.Fault
-fault_of (fault.Map f) = map_fault_of f
-fault_of fault.PathExists = state.Path_exists
-fault_of fault.NoPath = state.No_path
-fault_of fault.BadPath = state.Bad_path
-fault_of (fault.NotAReference f) = text_fault_of f
-fault_of fault.Memory = state.Memory
-fault_of fault.BatchOpen = state.Batch_open
-fault_of fault.NoBatch = state.No_batch
-fault_of fault.CountDiffers = state.Count_differs
-fault_of fault.BatchFull = state.Batch_full
+abbrev pub command_fault_of : CommandFault → state.Fault
+command_fault_of (fault.Map f) = map_fault_of f
+command_fault_of fault.PathExists = state.Path_exists
+command_fault_of fault.NoPath = state.No_path
+command_fault_of fault.BadPath = state.Bad_path
+command_fault_of (fault.NotAReference f) = text_fault_of f
+command_fault_of fault.Memory = state.Memory
+command_fault_of fault.BatchOpen = state.Batch_open
+command_fault_of fault.NoBatch = state.No_batch
+command_fault_of fault.CountDiffers = state.Count_differs
+command_fault_of fault.BatchFull = state.Batch_full
 
 abbrev pub outcome_of : Result Reply CommandFault → reply.Outcome
-outcome_of result = result_map_both reply_of fault_of result
+outcome_of result = result_map_both reply_of command_fault_of result

@@ -3,6 +3,6 @@ use Rattle.olr_spec.specs.Degrees.{CoordFault as Fault, Text as No_degrees, Rang
 use Rattle.olr_coords.specs.declared.degrees.CoordFault.{CoordFault}
 use Rattle.olr_coords.specs.declared.degrees.CoordFault.TheVariants.{Text, Range}
 
-abbrev pub fault_of : CoordFault → Fault
-fault_of Text = No_degrees
-fault_of Range = Too_far
+abbrev pub coord_fault_of : CoordFault → Fault
+coord_fault_of Text = No_degrees
+coord_fault_of Range = Too_far

@@ -1,7 +1,7 @@
 //! Degrees as text.
 ghost use Rattle.std.specs.Prelude.{◌≡◌, ◌^◌, ◌<◌, ◌≤◌, ◌&&◌, length, nat_le, if◌then◌else◌, IfSome, IfOk, IfErr};
 ghost use Rattle.olr_spec.specs.Degrees.{are_digits, before_point, digits_value, whole, fraction, unsigned, degrees, read_degrees};
-ghost use Rattle.olr_coords.specs.Faults.{fault_of};
+ghost use Rattle.olr_coords.specs.Faults.{coord_fault_of};
 
 /// The digits of whole degrees, at most.
 const WHOLE_DIGITS: usize = 3;
@@ -107,7 +107,7 @@ fn degrees(text: &[u8]) -> Option<i64>
 /// 1 to 7 digits (profile). A text of another form is the fault `Text`; degrees beyond 180 either way are `Range`.
 pub fn read_degrees(text: &[u8]) -> Result<i64, CoordFault>
     ensures ok { IfOk result (λ units. read_degrees text.now ≡ Ok units) }
-    ensures fault { IfErr result (λ fault. read_degrees text.now ≡ Err (fault_of fault)) }
+    ensures fault { IfErr result (λ fault. read_degrees text.now ≡ Err (coord_fault_of fault)) }
 {
     let units = degrees(text).ok_or(CoordFault::Text)?;
     if (-GREATEST..=GREATEST).contains(&units) {

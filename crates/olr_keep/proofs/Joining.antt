@@ -65,7 +65,7 @@ stops_join stop (o ∷ os) qs n h k =
     (λ e. let never : true ≡ false = sym e ∙ parts.0 in absurd cc, stops_join stop os qs parts.1 h.1 k)
 
 -- a run that was not stopped refused nothing where stop is set
-goes_on : (stop : Bool) (p : Status) (os : List Outcome) → p ≢ status.Stopped → status_of p ≡ output.status stop os → (stop && any_refused os) ≡ false
+goes_on : (stop : Bool) (p : Status) (os : List Outcome) → p ≢ status.Stopped → status_of p ≡ output.run_status stop os → (stop && any_refused os) ≡ false
 goes_on false p os n e = refl
 goes_on true p os n e = by p (any_refused os) n e where
   by : (p : Status) (b : Bool) → p ≢ status.Stopped → status_of p ≡ (if b then output.Stopped else output.All_accepted) → b ≡ false
@@ -92,7 +92,7 @@ stopped_is true false e = absurd cc
 stopped_is false true e = absurd cc
 stopped_is false false e = absurd cc
 
-status_join : (stop : Bool) (os qs : List Outcome) → (stop && any_refused os) ≡ false → greater (output.status stop os) (output.status stop qs) ≡ output.status stop (os ++ qs)
+status_join : (stop : Bool) (os qs : List Outcome) → (stop && any_refused os) ≡ false → greater (output.run_status stop os) (output.run_status stop qs) ≡ output.run_status stop (os ++ qs)
 status_join stop os qs n =
     by stop (any_refused os) (any_refused qs) n ∙ ap (λ (x : Bool). if x then (if stop then output.Stopped else output.Some_refused) else output.All_accepted) (sym (list_any-append is_err os qs))
   where
@@ -130,7 +130,7 @@ both_stopped stop old mid (Some rs) (Some ms) before later p base h e =
     λ s stands.
     let r = h s stands in
     let ran = r.4 in
-    let stopped : output.Stopped ≡ output.status stop ran.outcomes = ap status_of (sym e) ∙ ran.ended in (
+    let stopped : output.Stopped ≡ output.run_status stop ran.outcomes = ap status_of (sym e) ∙ ran.ended in (
       r.0,
       r.1,
       r.2,
@@ -157,8 +157,8 @@ both_ran stop old mid new (Some rs) (Some ms) before now later p q end base h n 
     let two = b.4 in
     let on = goes_on stop p one.outcomes n one.ended in
     let size = all_whole stop rs one.outcomes on one.all in
-    let ended : status_of end ≡ output.status stop (one.outcomes ++ two.outcomes) =
-    e ∙ ap (λ (x : output.Status). greater x (status_of q)) one.ended ∙ ap (greater (output.status stop one.outcomes)) two.ended ∙ status_join stop one.outcomes two.outcomes on in (
+    let ended : status_of end ≡ output.run_status stop (one.outcomes ++ two.outcomes) =
+    e ∙ ap (λ (x : output.Status). greater x (status_of q)) one.ended ∙ ap (greater (output.run_status stop one.outcomes)) two.ended ∙ status_join stop one.outcomes two.outcomes on in (
       b.0,
       b.1,
       a.2 ++ b.2,

@@ -3,7 +3,7 @@ use Rattle.std.proofs.Common.{◌≢◌, Bool, true, false, List, [], ◌∷◌,
 use Rattle.std.specs.Prelude.{IfErr, IsOkAnd, not, nat_le, ◌==◌, length}
 use Rattle.olr_spec.specs.Map.{Map, MapFault, edited}
 use Rattle.olr_spec.specs.Extension.{is_path}
-use Rattle.olr_commands.specs.State.{Fault, Memory, No_path, Path_exists, Bad_path, Count_differs, Batch_full, TextFault, Content, State, Change, On_map, Add_path, Set_path, Drop_path, Command, Make, Show, Report, Explain, Begin, Commit, Abort, full, has_path, when, changed, with_map, made, held, after, text_fault, unless_fault, step_in}
+use Rattle.olr_commands.specs.State.{Fault, Memory, No_path, Path_exists, Bad_path, Count_differs, Batch_full, TextFault, Content, State, Change, On_map, Add_path, Set_path, Drop_path, Command, Make, Show, Report, Explain, Begin, Commit, Abort, full, has_path, when, changed, with_map, at_once, held, after, text_fault, unless_fault, step_in}
 use Rattle.olr_commands.specs.Reply.{may_lack, IsRefusal, Told, Lacks}
 use Rattle.olr_records.specs.Records.{Field, Bad_form, Out_of_range, Read, read, HoldsList}
 use Rattle.olr_keep.specs.Output.{CommandOutcome, RecordOutcome}
@@ -30,7 +30,7 @@ change_had c (Add_path name path) = when_had (has_path c name) Path_exists _ (λ
 change_had c (Set_path name path) = when_had (not (has_path c name)) No_path _ (λ e. cc) (when_had (not (is_path path.lines)) Bad_path _ (λ e. cc) tt)
 change_had c (Drop_path name) = when_had (not (has_path c name)) No_path _ (λ e. cc) tt
 
-made_had : (r : Result Content Fault) → HadMemory r → HadMemory (made r)
+made_had : (r : Result Content Fault) → HadMemory r → HadMemory (at_once r)
 unfolding HadMemory
 made_had (Ok d) h = tt
 made_had (Err f) h = h

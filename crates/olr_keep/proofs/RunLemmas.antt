@@ -10,7 +10,7 @@ use Rattle.olr_commands.specs.History.{IsNamed, IsRefused}
 use Rattle.olr_commands.proofs.HistoryLemmas.{Leads, outcome_leads, outcome_keeps, is_named, is_refused, headline_of}
 use Rattle.olr_commands.proofs.OutcomeLemmas.{one_outcome}
 use Rattle.olr_records.specs.Records.{Field, Read, read}
-use Rattle.olr_keep.specs.Output.{CommandOutcome, OutOfMemory, RecordOutcome, Outcomes, SoundOutcome, SoundOutcomes, spelled, Claims, StopsAtRefusal, any_refused, AreAll, texts, status, Status, Ran, AllHadMemory}
+use Rattle.olr_keep.specs.Output.{CommandOutcome, OutOfMemory, RecordOutcome, Outcomes, SoundOutcome, SoundOutcomes, spelled, Claims, StopsAtRefusal, any_refused, AreAll, texts, run_status, Status, Ran, AllHadMemory}
 use Rattle.olr_records.proofs.ReadLemmas.{places_read}
 
 command_keeps : (s t : State) (r : Read Command) (o : Outcome) → ((c : Command) → r ≡ Ok c → HasPlaces c) → IsState s → CommandOutcome s r o t → IsState t
@@ -121,4 +121,4 @@ pub one_run : (stop : Bool) (s t u : State) (rs : List (List Field)) (w v : List
     → AllHadMemory p.outcomes → AllHadMemory q.outcomes → (t ≡ u) × (w ≡ v) × (end ≡ stand)
 one_run stop s t u rs w v end stand i p q n m =
     let one = one_list stop s t u rs p.outcomes q.outcomes i n m p.all q.all p.stops q.stops p.each q.each in
-    (one.1, p.wrote ∙ ap texts one.0 ∙ sym q.wrote, p.ended ∙ ap (status stop) one.0 ∙ sym q.ended)
+    (one.1, p.wrote ∙ ap texts one.0 ∙ sym q.wrote, p.ended ∙ ap (run_status stop) one.0 ∙ sym q.ended)

@@ -19,9 +19,9 @@ use Rattle.olr_commands.specs.State.{IsContent, State}
 use Rattle.olr_commands.proofs.HistoryLemmas.{run_more, run_longer}
 use Rattle.olr_records.specs.Records.{Field}
 use Rattle.olr_records.specs.ReplyText.{outcome_text}
-use Rattle.olr_keep.specs.Output.{SoundOutcome, SoundOutcomes, Claims, StopsAtRefusal, any_refused, AreAll, texts, status, Ran, CutOff, Nothing, In_last, Faulted, records_of, most_records}
+use Rattle.olr_keep.specs.Output.{SoundOutcome, SoundOutcomes, Claims, StopsAtRefusal, any_refused, AreAll, texts, run_status, Ran, CutOff, Nothing, In_last, Faulted, records_of, most_records}
 use Rattle.olr_keep.specs.Output as output
-use Rattle.olr_keep.specs.Runs.{Known, known_records, IsPlain, status_of, Told}
+use Rattle.olr_keep.specs.Runs.{Known, known_records, IsPlain, status_of, TellsRecord}
 use Rattle.olr_keep.specs.declared.ends.Status.{Status}
 use Rattle.olr_keep.specs.declared.ends.Status.TheVariants as ended
 use Rattle.olr_keep.specs.declared.ends.RunFault.{RunFault}
@@ -68,7 +68,7 @@ pub record Answered (stop : Bool) (s : State) (rows : List (List Field)) (t : St
   pub all : length outcomes ≡ length rows
   pub wrote : Appends before later (texts outcomes)
   pub goes_on : (stop && any_refused outcomes) ≡ false
-  pub ended : status_of end ≡ status stop outcomes
+  pub ended : status_of end ≡ run_status stop outcomes
 
 pub record SoFar (stop : Bool) (old : Registered) (input : List ℕ) (before : Known) (now : Registered) (later : Known) (end : Status) (state : CsvState) (source : Known) (n : ℕ) : Type 0 where
   pub left : List ℕ
@@ -153,7 +153,7 @@ one_more remaining old new fields plain read input rows left source reached =
     rows-more remaining old new fields default_config st.StartRecord (strip_bom input) left rows plain.config source reached read
 
 pub accepted_so_far : (stop : Bool) (old now new : Registered) (input : List ℕ) (before mid later : Known) (end : Status) (state next : CsvState) (source more : Known) (fields : List Field) (n : ℕ) (accepted : Bool)
-    → accepted ≡ true → SoFar stop old input before now mid end state source n → OneMore state source fields next more → Told now fields new mid later (Ok accepted)
+    → accepted ≡ true → SoFar stop old input before now mid end state source n → OneMore state source fields next more → TellsRecord now fields new mid later (Ok accepted)
     → SoFar stop old input before new later end next more (n + 1)
 accepted_so_far stop old now new input before mid later end state next source more fields n accepted e a one told =
     let reached = one input a.rows a.left a.source_is a.reached in
@@ -170,7 +170,7 @@ accepted_so_far stop old now new input before mid later end state next source mo
     }
 
 pub refused_so_far : (stop : Bool) (old now new : Registered) (input : List ℕ) (before mid later : Known) (end : Status) (state next : CsvState) (source more : Known) (fields : List Field) (n : ℕ) (accepted : Bool)
-    → accepted ≡ false → stop ≡ false → SoFar stop old input before now mid end state source n → OneMore state source fields next more → Told now fields new mid later (Ok accepted)
+    → accepted ≡ false → stop ≡ false → SoFar stop old input before now mid end state source n → OneMore state source fields next more → TellsRecord now fields new mid later (Ok accepted)
     → SoFar stop old input before new later ended.SomeRefused next more (n + 1)
 refused_so_far true old now new input before mid later end state next source more fields n accepted e going a one told = absurd cc
 refused_so_far false old now new input before mid later end state next source more fields n accepted e going a one told =
@@ -218,7 +218,7 @@ ran_whole stop old now input before later end state source n base a none s stand
 
 -- the first refusal stops the run
 pub ran_stopped : (stop : Bool) (old now new : Registered) (input : List ℕ) (before mid later : Known) (end : Status) (state next : CsvState) (source more : Known) (fields : List Field) (n : ℕ) (accepted : Bool)
-    → IsContent old.kept.content → accepted ≡ false → stop ≡ true → SoFar stop old input before now mid end state source n → OneMore state source fields next more → Told now fields new mid later (Ok accepted)
+    → IsContent old.kept.content → accepted ≡ false → stop ≡ true → SoFar stop old input before now mid end state source n → OneMore state source fields next more → TellsRecord now fields new mid later (Ok accepted)
     → (s : State) → Stands old.kept s → (t : State) × Stands new.kept t × (written : List ℕ) × Appends before later written × Ran Claims stop s (records_of input) t written output.Stopped
 ran_stopped false old now new input before mid later end state next source more fields n accepted base e stops a one told s stands = absurd cc
 ran_stopped true old now new input before mid later end state next source more fields n accepted base e stops a one told s stands =
@@ -278,7 +278,7 @@ faulted_between stop old now input before later end state source n base a s stan
 
 -- and one in the answer to a record
 pub faulted_answer : (stop : Bool) (old now new : Registered) (input : List ℕ) (before mid later : Known) (end : Status) (state next : CsvState) (source more : Known) (fields : List Field) (n : ℕ) (e : RunFault)
-    → IsContent old.kept.content → SoFar stop old input before now mid end state source n → OneMore state source fields next more → Told now fields new mid later (Err e)
+    → IsContent old.kept.content → SoFar stop old input before now mid end state source n → OneMore state source fields next more → TellsRecord now fields new mid later (Err e)
     → (s : State) → Stands old.kept s → (t : State) × Stands new.kept t × (written : List ℕ) × Appends before later written × Faulted Claims stop s (records_of input) t written
 faulted_answer stop old now new input before mid later end state next source more fields n e base a one told s stands =
     let reached = one input a.rows a.left a.source_is a.reached in

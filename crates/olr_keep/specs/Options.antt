@@ -1,7 +1,7 @@
 -- What the words of the command line ask for.
 --     keep_app      the program's arguments, -m FILE and -s, beside the flags for help and the version
 --     Options, options words      a file and whether to stop, by clap's matches of the words
---     IsAnswer kinds fault      clap's answer is of one of these kinds, or there was no memory
+--     IsOptionsFault kinds fault      clap's answer is of one of these kinds, or there was no memory
 use Rattle.std.specs.Prelude.{ℕ, Bool, true, false, List, Option, Some, None, option_map, codes, ⊤}
 use Rattle.std.specs.Str.{bytes_eq}
 use Rattle.clap.specs.Kinds.{Kinds, IsAmong}
@@ -34,6 +34,6 @@ options words = record { file = first_of (codes "file") (matches_of keep_app wor
 abbrev pub options_of : Arguments → Options
 options_of o = record { file = option_map (λ s. s.now) o.file; stop = o.stop }
 
-abbrev pub IsAnswer : Kinds → OptionsFault → Type 0
-IsAnswer kinds (Clap e) = IsAmong (kind_of e) kinds
-IsAnswer kinds Memory = ⊤
+abbrev pub IsOptionsFault : Kinds → OptionsFault → Type 0
+IsOptionsFault kinds (Clap e) = IsAmong (kind_of e) kinds
+IsOptionsFault kinds Memory = ⊤

@@ -70,8 +70,8 @@ texts os = flat_map outcome_text os
 pub data Status : Type 0 where
   All_accepted Some_refused Stopped : Status
 
-abbrev pub status : Bool → List Outcome → Status
-status stop os = if any_refused os then (if stop then Stopped else Some_refused) else All_accepted
+abbrev pub run_status : Bool → List Outcome → Status
+run_status stop os = if any_refused os then (if stop then Stopped else Some_refused) else All_accepted
 
 -- ---- runs, of whose records, outcomes and states Each says more
 
@@ -81,7 +81,7 @@ pub record Ran (Each : State → List (List Field) → List Outcome → State �
   pub stops : StopsAtRefusal stop outcomes
   pub all : AreAll stop rs outcomes
   pub wrote : written ≡ texts outcomes
-  pub ended : end ≡ status stop outcomes
+  pub ended : end ≡ run_status stop outcomes
 
 -- all but a rest of the last text
 pub data CutOff (os : List Outcome) (written : List ℕ) : Type 0 where

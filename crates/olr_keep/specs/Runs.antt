@@ -2,7 +2,7 @@
 --     WritesAll before later bytes r      all of the bytes were written, or a front of them
 --     Takes remaining old new found fields      a plain reader took its next record, where there was one
 --     CarriedOut old fields new r      what a record does to the register, and its answer
---     Told old fields new before later r      the same, and its text was written
+--     TellsRecord old fields new before later r      the same, and its text was written
 --     known_records known      the records of known bytes.        known_both      those of a file and then those of more input
 --     RanOn, FaultedOn      a run over known records
 --     exit_code r      the status of the program
@@ -60,8 +60,8 @@ abbrev pub TellsText : Known → Known → Outcome → Result Bool RunFault → 
 TellsText before later o (Ok accepted) = Appends before later (outcome_text o) × (accepted ≡ is_ok o)
 TellsText before later o (Err e) = (front rest : List ℕ) × (outcome_text o ≡ front ++ rest) × Appends before later front
 
-abbrev pub Told : Registered → List Field → Registered → Known → Known → Result Bool RunFault → Type 0
-Told old fields new before later r =
+abbrev pub TellsRecord : Registered → List Field → Registered → Known → Known → Result Bool RunFault → Type 0
+TellsRecord old fields new before later r =
     (s : State) → Stands old.kept s → IsContent s.content → (t : State) × (o : Outcome) × Stands new.kept t × SoundOutcome s fields o t × TellsText before later o r
 
 -- ---- runs

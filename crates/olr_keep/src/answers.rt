@@ -5,7 +5,7 @@ ghost use Rattle.csv.specs.Records.{fields_of};
 ghost use Rattle.olr_commands.specs.Reply.{Outcome, Paths};
 ghost use Rattle.olr_commands.specs.Words.{reply_of};
 ghost use Rattle.olr_records.specs.ReplyText.{reply_text};
-ghost use Rattle.olr_keep.specs.Runs.{CarriedOut, IsAnswer, TellsText, Told};
+ghost use Rattle.olr_keep.specs.Runs.{CarriedOut, IsAnswer, TellsText, TellsRecord};
 
 use crate::ends::RunFault;
 use crate::output::write_all;
@@ -86,7 +86,7 @@ pub fn tell<W: Write>(
     text: &mut Vec<u8>,
     output: &mut W,
 ) -> Result<bool, RunFault>
-    ensures told { Told register.old (fields_of row.now) register.new (W.contents output.old) (W.contents output.new) result }
+    ensures told { TellsRecord register.old (fields_of row.now) register.new (W.contents output.old) (W.contents output.new) result }
     ensures failed { IfErr result (λ e. e ≢ RunFault.TooMany) }
 {
     let answer = carry_out(alloc, register, row);

@@ -4,7 +4,7 @@ ghost use Rattle.std.specs.Prelude.{◌≡◌, [], map, true, IfOk, IfErr, Match
 ghost use Rattle.clap.specs.Faults.{fault_of};
 ghost use Rattle.clap.specs.Simple.{app_of};
 ghost use Rattle.clap.specs.Takes.{takes};
-ghost use Rattle.olr_keep.specs.Options.{keep_app, options, options_of, is_set, IsAnswer};
+ghost use Rattle.olr_keep.specs.Options.{keep_app, options, options_of, is_set, IsOptionsFault};
 
 use crate::arguments::{Options, OptionsFault};
 use clap::error::ErrorKind;
@@ -58,7 +58,7 @@ fn is_given(flag: Option<&str>) -> bool
 pub fn options<'a, S: AsStr>(alloc: Global, words: &'a [S]) -> Result<Options<'a>, OptionsFault>
     ensures ok { IfOk result (λ o. options_of o ≡ options (map S.text words.entry.now)) }
     ensures taken { takes keep_app (map S.text words.entry.now) ≡ true → IfErr result (λ e. e ≡ OptionsFault.Memory) }
-    ensures kinds { MatchResult result (λ _. fault_of keep_app (map S.text words.entry.now) ≡ []) (IsAnswer (fault_of keep_app (map S.text words.entry.now))) }
+    ensures kinds { MatchResult result (λ _. fault_of keep_app (map S.text words.entry.now) ≡ []) (IsOptionsFault (fault_of keep_app (map S.text words.entry.now))) }
 {
     let Ok(command) = command(alloc) else {
         return Err(OptionsFault::Memory);

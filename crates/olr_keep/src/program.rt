@@ -3,7 +3,7 @@
 ghost use Rattle.std.specs.Prelude.{◌≡◌, ◌≢◌, ◌≤◌, [], map, option_map};
 ghost use Rattle.clap.specs.Faults.{fault_of};
 ghost use Rattle.clap.specs.Kinds.{Kinds};
-ghost use Rattle.olr_keep.specs.Options.{keep_app, IsAnswer};
+ghost use Rattle.olr_keep.specs.Options.{keep_app, IsOptionsFault};
 ghost use Rattle.olr_keep.specs.Ends.{Ends, Explains, Opens, OpensFile, Shows};
 ghost use Rattle.olr_keep.specs.Runs as runs;
 
@@ -105,7 +105,7 @@ fn explain<W: Write, E: Write>(
     errors: &mut E,
 ) -> u8
     ensures bounded { result ≤ 4 }
-    ensures explains { (kinds : Kinds) → IsAnswer kinds fault.now
+    ensures explains { (kinds : Kinds) → IsOptionsFault kinds fault.now
         → Explains kinds (W.contents output.old) (W.contents output.new) result }
     ensures quiet { result ≤ 1 → errors.new ≡ errors.old }
 {

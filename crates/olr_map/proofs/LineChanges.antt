@@ -15,7 +15,7 @@ use Rattle.olr_map.specs.NodeSlots.{slots_of, room_in}
 use Rattle.olr_map.specs.NodeLinks.{links_at, relinked}
 use Rattle.olr_map.specs.Linked.{lines_on, spare_links, IsLinked, IsUnlinked, IsReset}
 use Rattle.olr_map.specs.Kept.{in_slot, near, far, node_in, links_in, map_from, place_in, end_at, IsListed, IsIndexed, IsKept}
-use Rattle.olr_map.specs.Changes.{tables_map, room_of, spare_at, changed_at, CanMake, made, IsMade}
+use Rattle.olr_map.specs.Changes.{tables_map, room_of, spare_at, changed_at, CanMake, map_after, IsChangeMade}
 use Rattle.olr_map.specs.declared.by_number.ByNumber.{ByNumber}
 use Rattle.olr_map.specs.declared.links.Links.{Links}
 use Rattle.olr_map.specs.declared.read.LineEnd.{LineEnd}
@@ -162,7 +162,7 @@ module _ (t : Tables) (nodes' : Slots) (lines' : ByNumber Line) (from to : ℕ) 
 -- ---- a line comes
 
 pub number_free : (t : Tables) (x : ℕ) (l : Line) → CanMake (tables_map t) (room_of t) (PutLine x l) → has_line (tables_map t) x ≡ false
-number_free t x l can = (Undoing.added_line (tables_map t) (made (tables_map t) (PutLine x l)) x l (made_ok (tables_map t) (PutLine x l) can.accepted)).0
+number_free t x l can = (Undoing.added_line (tables_map t) (map_after (tables_map t) (PutLine x l)) x l (made_ok (tables_map t) (PutLine x l) can.accepted)).0
 
 module _ (t : Tables) (nodes' : Slots) (lines' : ByNumber Line) (x : ℕ) (l : Line) (p q : ℕ) (o o' i i' : Links) (r : Relinked t nodes' l.from l.to o o' i i')
     (here : found t.index l.from ≡ Some p) (there : found t.index l.to ≡ Some q)
@@ -174,8 +174,8 @@ module _ (t : Tables) (nodes' : Slots) (lines' : ByNumber Line) (x : ℕ) (l : L
   abbrev put_N : Map
   put_N = record put_M { lines = finmap.insert put_M.lines x l }
 
-  put_says : (has_line put_M x ≡ false) × (put_N ≡ made put_M (PutLine x l))
-  put_says = let s = Undoing.added_line put_M (made put_M (PutLine x l)) x l (made_ok put_M (PutLine x l) can.accepted) in (s.0, s.4)
+  put_says : (has_line put_M x ≡ false) × (put_N ≡ map_after put_M (PutLine x l))
+  put_says = let s = Undoing.added_line put_M (map_after put_M (PutLine x l)) x l (made_ok put_M (PutLine x l) can.accepted) in (s.0, s.4)
 
   put_lines : all_of lines' ≡ finmap.insert put_M.lines x l
   put_lines = same_answers _ _ (λ k. all_get (entries_of lines') k ∙ put k ∙ ap (cond (x == k) (Some l)) (sym (got_line t k)) ∙ sym (got_insert put_M.lines x l k))
@@ -206,10 +206,10 @@ module _ (t : Tables) (nodes' : Slots) (lines' : ByNumber Line) (x : ℕ) (l : L
     abbrev put_new : Tables
     put_new = record { index = t.index; nodes = nodes'; lines = lines'; kept = kept' }
 
-    pub put_line_made : IsMade t put_new (PutLine x l) (TakeLine x)
+    pub put_line_made : IsChangeMade t put_new (PutLine x l) (TakeLine x)
     put_line_made =
-        let is : tables_map put_new ≡ made put_M (PutLine x l) = put_map ∙ put_says.1 in
-        let back = accepted_from put_M (made put_M (PutLine x l)) (tables_map put_new) (TakeLine x) is (Undoing.undo_add_line put_M (made put_M (PutLine x l)) x l (made_ok put_M (PutLine x l) can.accepted)) in
+        let is : tables_map put_new ≡ map_after put_M (PutLine x l) = put_map ∙ put_says.1 in
+        let back = accepted_from put_M (map_after put_M (PutLine x l)) (tables_map put_new) (TakeLine x) is (Undoing.undo_add_line put_M (map_after put_M (PutLine x l)) x l (made_ok put_M (PutLine x l) can.accepted)) in
         let now : get (tables_map put_new).lines x ≡ Some l = ap (λ (m : Map). get m.lines x) put_map ∙ put_now in
         let outs = outs_now t nodes' lines' l.from l.to o o' i i' r kept' in
         let ins = ins_now t nodes' lines' l.from l.to o o' i i' r kept' in
@@ -244,7 +244,7 @@ module _ (t : Tables) (nodes' : Slots) (lines' : ByNumber Line) (x : ℕ) (l : L
 -- ---- a line goes
 
 pub line_taken : (t : Tables) (x : ℕ) → CanMake (tables_map t) (room_of t) (TakeLine x) → has_line (tables_map t) x ≡ true
-line_taken t x can = (Undoing.dropped_line (tables_map t) (made (tables_map t) (TakeLine x)) x (made_ok (tables_map t) (TakeLine x) can.accepted)).0
+line_taken t x can = (Undoing.dropped_line (tables_map t) (map_after (tables_map t) (TakeLine x)) x (made_ok (tables_map t) (TakeLine x) can.accepted)).0
 
 module _ (t : Tables) (nodes' : Slots) (lines' : ByNumber Line) (x : ℕ) (l : Line) (o o' i i' : Links) (r : Relinked t nodes' l.from l.to o o' i i')
     (ko : IsUnlinked o o' x) (ki : IsUnlinked i i' x) (was : found t.lines x ≡ Some l)
@@ -258,8 +258,8 @@ module _ (t : Tables) (nodes' : Slots) (lines' : ByNumber Line) (x : ℕ) (l : L
   take_was : get take_M.lines x ≡ Some l
   take_was = got_line t x ∙ was
 
-  take_says : take_N ≡ made take_M (TakeLine x)
-  take_says = (Undoing.dropped_line take_M (made take_M (TakeLine x)) x (made_ok take_M (TakeLine x) can.accepted)).1
+  take_says : take_N ≡ map_after take_M (TakeLine x)
+  take_says = (Undoing.dropped_line take_M (map_after take_M (TakeLine x)) x (made_ok take_M (TakeLine x) can.accepted)).1
 
   take_lines : all_of lines' ≡ finmap.remove take_M.lines x
   take_lines = same_answers _ _ (λ k. all_get (entries_of lines') k ∙ taken k ∙ ap (cond (x == k) None) (sym (got_line t k)) ∙ sym (got_remove take_M.lines x k))
@@ -287,10 +287,10 @@ module _ (t : Tables) (nodes' : Slots) (lines' : ByNumber Line) (x : ℕ) (l : L
     abbrev take_new : Tables
     take_new = record { index = t.index; nodes = nodes'; lines = lines'; kept = kept' }
 
-    pub take_line_made : IsMade t take_new (TakeLine x) (PutLine x l)
+    pub take_line_made : IsChangeMade t take_new (TakeLine x) (PutLine x l)
     take_line_made =
-        let is : tables_map take_new ≡ made take_M (TakeLine x) = take_map ∙ take_says in
-        let back = accepted_from take_M (made take_M (TakeLine x)) (tables_map take_new) (PutLine x l) is (Undoing.undo_drop_line take_M (made take_M (TakeLine x)) x l t.kept.sound take_was (made_ok take_M (TakeLine x) can.accepted)) in
+        let is : tables_map take_new ≡ map_after take_M (TakeLine x) = take_map ∙ take_says in
+        let back = accepted_from take_M (map_after take_M (TakeLine x)) (tables_map take_new) (PutLine x l) is (Undoing.undo_drop_line take_M (map_after take_M (TakeLine x)) x l t.kept.sound take_was (made_ok take_M (TakeLine x) can.accepted)) in
         let outs = outs_now t nodes' lines' l.from l.to o o' i i' r kept' in
         let ins = ins_now t nodes' lines' l.from l.to o o' i i' r kept' in
         let out_was = list_spare t Out l.from o r.out_was in
@@ -325,7 +325,7 @@ module _ (t : Tables) (nodes' : Slots) (lines' : ByNumber Line) (x : ℕ) (l : L
 
 pub line_set : (t : Tables) (x : ℕ) (k : Line) → CanMake (tables_map t) (room_of t) (SetLine x k) → has_line (tables_map t) x ≡ true
 line_set t x k can =
-    (Undoing.set_line (tables_map t) (made (tables_map t) (SetLine x k)) x k can.whole.0 can.whole.1 (made_ok (tables_map t) (SetLine x k) can.accepted)).0
+    (Undoing.set_line (tables_map t) (map_after (tables_map t) (SetLine x k)) x k can.whole.0 can.whole.1 (made_ok (tables_map t) (SetLine x k) can.accepted)).0
 
 module _ (t : Tables) (nodes' : Slots) (lines' : ByNumber Line) (x : ℕ) (k l : Line) (p q : ℕ) (o o' i i' : Links) (r : Relinked t nodes' l.from l.to o o' i i')
     (here : found t.index k.from ≡ Some p) (there : found t.index k.to ≡ Some q)
@@ -346,8 +346,8 @@ module _ (t : Tables) (nodes' : Slots) (lines' : ByNumber Line) (x : ℕ) (k l :
   set_to : k.to ≡ l.to
   set_to = can.whole.1 ∙ finish_is set_M x l set_was
 
-  set_says : set_N ≡ made set_M (SetLine x k)
-  set_says = (Undoing.set_line set_M (made set_M (SetLine x k)) x k can.whole.0 can.whole.1 (made_ok set_M (SetLine x k) can.accepted)).2
+  set_says : set_N ≡ map_after set_M (SetLine x k)
+  set_says = (Undoing.set_line set_M (map_after set_M (SetLine x k)) x k can.whole.0 can.whole.1 (made_ok set_M (SetLine x k) can.accepted)).2
 
   set_lines : all_of lines' ≡ finmap.insert set_M.lines x k
   set_lines = same_answers _ _ (λ n. all_get (entries_of lines') n ∙ put n ∙ ap (cond (x == n) (Some k)) (sym (got_line t n)) ∙ sym (got_insert set_M.lines x k n))
@@ -385,11 +385,11 @@ module _ (t : Tables) (nodes' : Slots) (lines' : ByNumber Line) (x : ℕ) (k l :
           | false ↦ λ j. refl
         ] refl
 
-    pub set_line_made : IsMade t set_new (SetLine x k) (SetLine x l)
+    pub set_line_made : IsChangeMade t set_new (SetLine x k) (SetLine x l)
     set_line_made =
-        let is : tables_map set_new ≡ made set_M (SetLine x k) = set_map ∙ set_says in
-        let back = accepted_from set_M (made set_M (SetLine x k)) (tables_map set_new) (SetLine x l) is
-        (Undoing.undo_set_line set_M (made set_M (SetLine x k)) x k l t.kept.sound can.whole.0 can.whole.1 set_was (made_ok set_M (SetLine x k) can.accepted)) in
+        let is : tables_map set_new ≡ map_after set_M (SetLine x k) = set_map ∙ set_says in
+        let back = accepted_from set_M (map_after set_M (SetLine x k)) (tables_map set_new) (SetLine x l) is
+        (Undoing.undo_set_line set_M (map_after set_M (SetLine x k)) x k l t.kept.sound can.whole.0 can.whole.1 set_was (made_ok set_M (SetLine x k) can.accepted)) in
         let now : get (tables_map set_new).lines x ≡ Some k = ap (λ (m : Map). get m.lines x) set_map ∙ set_now in
         let from : l.from ≡ start (tables_map set_new) x = sym set_from ∙ sym (start_is (tables_map set_new) x k now) in
         let to : l.to ≡ end (tables_map set_new) x = sym set_to ∙ sym (finish_is (tables_map set_new) x k now) in

@@ -3,7 +3,7 @@ use Rattle.std.proofs.Common.{◌≡◌, ◌==◌, ℕ, ◌≤◌, Bool, true, f
 use Rattle.std.specs.Result.{result_unwrap_or}
 use Rattle.std.proofs.lemmas.Bool.{eqb-true, eq-eqb}
 use Rattle.olr_spec.specs.Map.{Map, edited}
-use Rattle.olr_map.specs.Changes.{change_edit, changed_at, made}
+use Rattle.olr_map.specs.Changes.{change_edit, changed_at, map_after}
 use Rattle.olr_map.specs.declared.change.Change.{Change}
 
 -- an accepted edit gives a map
@@ -11,7 +11,7 @@ ok_is : {A F : Type 0} (r : Result A F) (d : A) → IsOk r → r ≡ Ok (result_
 ok_is (Ok x) d h = refl
 ok_is (Err f) d h = absurd cc
 
-pub made_ok : (M : Map) (c : Change) → IsOk (edited M (change_edit c)) → edited M (change_edit c) ≡ Ok (made M c)
+pub made_ok : (M : Map) (c : Change) → IsOk (edited M (change_edit c)) → edited M (change_edit c) ≡ Ok (map_after M c)
 made_ok M c h = ok_is (edited M (change_edit c)) M h
 
 is_ok_from : {A F : Type 0} (r : Result A F) (x : A) → r ≡ Ok x → IsOk r
@@ -20,7 +20,7 @@ is_ok_from {A} {F} r x e = subst (λ (s : Result A F). IsOk s) (sym e) refl
 -- and so it does on an equal map
 pub record Accepted (M N K : Map) (c : Change) : Type 0 where
   pub accepted : IsOk (edited K (change_edit c))
-  pub before : made K c ≡ M
+  pub before : map_after K c ≡ M
 
 pub accepted_from : (M N K : Map) (c : Change) → K ≡ N → edited N (change_edit c) ≡ Ok M → Accepted M N K c
 accepted_from M N K c same ok =

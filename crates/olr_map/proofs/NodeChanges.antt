@@ -17,7 +17,7 @@ use Rattle.olr_map.specs.NodeSlots.{slots_of, room_in}
 use Rattle.olr_map.specs.NodeLinks.{links_at}
 use Rattle.olr_map.specs.Linked.{lines_on, ends_on, spare_links}
 use Rattle.olr_map.specs.Kept.{near, far, in_slot, node_in, links_in, map_from, place_in, lines_at, end_at, IsListed, IsIndexed, IsKept}
-use Rattle.olr_map.specs.Changes.{tables_map, room_of, spare_at, changed_at, CanMake, made, IsMade}
+use Rattle.olr_map.specs.Changes.{tables_map, room_of, spare_at, changed_at, CanMake, map_after, IsChangeMade}
 use Rattle.olr_map.specs.declared.by_number.ByNumber.{ByNumber}
 use Rattle.olr_map.specs.declared.links.Links.{Links}
 use Rattle.olr_map.specs.declared.links.Links.TheVariants.{Few, Many}
@@ -97,7 +97,7 @@ linked_none side false o = refl
 pub free_number : (t : Tables) (e : NodeEntry) → CanMake (tables_map t) (room_of t) (PutNode e) → found t.index e.id ≡ None
 free_number t e can =
     not_found t.index (slots_of t.nodes) t.kept.indexed (all_of t.lines) e.id
-    (Undoing.added_node (tables_map t) (made (tables_map t) (PutNode e)) e.id e.place (made_ok (tables_map t) (PutNode e) can.accepted)).0
+    (Undoing.added_node (tables_map t) (map_after (tables_map t) (PutNode e)) e.id e.place (made_ok (tables_map t) (PutNode e) can.accepted)).0
 
 module _ (t : Tables) (b' : ByNumber ℕ) (nodes' : Slots) (p : ℕ) (e : NodeEntry) (c : Comes (slots_of t.nodes) (slots_of nodes') p e)
     (put : (k : ℕ) → found b' k ≡ cond (e.id == k) (Some p) (found t.index k)) (can : CanMake (tables_map t) (room_of t) (PutNode e)) where
@@ -110,8 +110,8 @@ module _ (t : Tables) (b' : ByNumber ℕ) (nodes' : Slots) (p : ℕ) (e : NodeEn
   abbrev F : FinMap nat_cmp Line
   F = all_of t.lines
 
-  says : (has_node M e.id ≡ false) × (N ≡ made M (PutNode e))
-  says = Undoing.added_node M (made M (PutNode e)) e.id e.place (made_ok M (PutNode e) can.accepted)
+  says : (has_node M e.id ≡ false) × (N ≡ map_after M (PutNode e))
+  says = Undoing.added_node M (map_after M (PutNode e)) e.id e.place (made_ok M (PutNode e) can.accepted)
 
   put_absent : found t.index e.id ≡ None
   put_absent = free_number t e can
@@ -161,10 +161,10 @@ module _ (t : Tables) (b' : ByNumber ℕ) (nodes' : Slots) (p : ℕ) (e : NodeEn
     none_spare : (side : Side) → spare_at side t e.id ≤ 0
     none_spare side = le_same _ _ (ap (λ o. option_map_or (λ l. spare_links l) (option_map (links_at side) (in_slot (slots_of t.nodes) o)) 0) put_absent)
 
-    pub put_node_made : IsMade t new (PutNode e) (TakeNode e.id)
+    pub put_node_made : IsChangeMade t new (PutNode e) (TakeNode e.id)
     put_node_made =
-        let is : tables_map new ≡ made M (PutNode e) = put_map ∙ says.1 in
-        let back = accepted_from M (made M (PutNode e)) (tables_map new) (TakeNode e.id) is (Undoing.undo_add_node M (made M (PutNode e)) e.id e.place t.kept.sound (made_ok M (PutNode e) can.accepted)) in
+        let is : tables_map new ≡ map_after M (PutNode e) = put_map ∙ says.1 in
+        let back = accepted_from M (map_after M (PutNode e)) (tables_map new) (TakeNode e.id) is (Undoing.undo_add_node M (map_after M (PutNode e)) e.id e.place t.kept.sound (made_ok M (PutNode e) can.accepted)) in
         let fits : 0 < room_in t.nodes = can.fits in
         record {
           map = is;
@@ -185,7 +185,7 @@ module _ (t : Tables) (b' : ByNumber ℕ) (nodes' : Slots) (p : ℕ) (e : NodeEn
 pub slot_taken : (t : Tables) (v : ℕ) → CanMake (tables_map t) (room_of t) (TakeNode v) → (p : ℕ) × (found t.index v ≡ Some p)
 slot_taken t v can =
     slot_of t.index (slots_of t.nodes) t.kept.indexed (all_of t.lines) v
-    (Undoing.dropped_node (tables_map t) (made (tables_map t) (TakeNode v)) v (made_ok (tables_map t) (TakeNode v) can.accepted)).0
+    (Undoing.dropped_node (tables_map t) (map_after (tables_map t) (TakeNode v)) v (made_ok (tables_map t) (TakeNode v) can.accepted)).0
 
 module _ (t : Tables) (b' : ByNumber ℕ) (nodes' : Slots) (p v : ℕ) (e : NodeEntry) (g : Goes (slots_of t.nodes) (slots_of nodes') p e) (here : found t.index v ≡ Some p)
     (taken : (k : ℕ) → found b' k ≡ cond (v == k) None (found t.index k)) (can : CanMake (tables_map t) (room_of t) (TakeNode v)) where
@@ -198,8 +198,8 @@ module _ (t : Tables) (b' : ByNumber ℕ) (nodes' : Slots) (p v : ℕ) (e : Node
   abbrev go_F : FinMap nat_cmp Line
   go_F = all_of t.lines
 
-  go_says : (has_node go_M v ≡ true) × (in_use go_M v ≡ false) × (go_N ≡ made go_M (TakeNode v))
-  go_says = Undoing.dropped_node go_M (made go_M (TakeNode v)) v (made_ok go_M (TakeNode v) can.accepted)
+  go_says : (has_node go_M v ≡ true) × (in_use go_M v ≡ false) × (go_N ≡ map_after go_M (TakeNode v))
+  go_says = Undoing.dropped_node go_M (map_after go_M (TakeNode v)) v (made_ok go_M (TakeNode v) can.accepted)
 
   go_id : e.id ≡ v
   go_id = id_here t.index (slots_of t.nodes) t.kept.indexed v p e here g.was
@@ -243,14 +243,14 @@ module _ (t : Tables) (b' : ByNumber ℕ) (nodes' : Slots) (p v : ℕ) (e : Node
     was_spare : (side : Side) → spare_at side t v ≡ spare_links (links_at side e)
     was_spare side = ap (λ o. option_map_or (λ l. spare_links l) (option_map (links_at side) (in_slot (slots_of t.nodes) o)) 0) here ∙ ap (λ o. option_map_or (λ l. spare_links l) (option_map (links_at side) o) 0) g.was
 
-    pub take_node_made : IsMade t go_new (TakeNode v) (PutNode e)
+    pub take_node_made : IsChangeMade t go_new (TakeNode v) (PutNode e)
     take_node_made =
-        let is : tables_map go_new ≡ made go_M (TakeNode v) = go_map ∙ go_says.2 in
+        let is : tables_map go_new ≡ map_after go_M (TakeNode v) = go_map ∙ go_says.2 in
         let was : get go_M.nodes v ≡ Some e.place = node_read t v p e here g.was in
-        let undone : edited (made go_M (TakeNode v)) (Add_node e.id e.place) ≡ Ok go_M =
-        subst (λ (n : ℕ). edited (made go_M (TakeNode v)) (Add_node n e.place) ≡ Ok go_M) (sym go_id)
-        (Undoing.undo_drop_node go_M (made go_M (TakeNode v)) v e.place was (made_ok go_M (TakeNode v) can.accepted)) in
-        let back = accepted_from go_M (made go_M (TakeNode v)) (tables_map go_new) (PutNode e) is undone in
+        let undone : edited (map_after go_M (TakeNode v)) (Add_node e.id e.place) ≡ Ok go_M =
+        subst (λ (n : ℕ). edited (map_after go_M (TakeNode v)) (Add_node n e.place) ≡ Ok go_M) (sym go_id)
+        (Undoing.undo_drop_node go_M (map_after go_M (TakeNode v)) v e.place was (made_ok go_M (TakeNode v) can.accepted)) in
+        let back = accepted_from go_M (map_after go_M (TakeNode v)) (tables_map go_new) (PutNode e) is undone in
         let placed : IsTrue (is_coord e.place) = subst (λ q. IsTrue (is_coord q)) (ap (λ o. unwrap_or o no_place) was) (t.kept.sound.places v (some_is _ _ was)) in
         let outs : IsListed Out go_M (place_in t.index) v e.outs = listed_at t Out v p e here g.was in
         let ins : IsListed In go_M (place_in t.index) v e.ins = listed_at t In v p e here g.was in
@@ -291,8 +291,8 @@ module _ (t : Tables) (nodes' : Slots) (p v : ℕ) (e : NodeEntry) (q : Coord) (
   abbrev moved : NodeEntry
   moved = record { id = e.id; place = q; outs = e.outs; ins = e.ins }
 
-  mv_says : (has_node mv_M v ≡ true) × (mv_N ≡ made mv_M (MoveNode v q))
-  mv_says = Undoing.moved_node mv_M (made mv_M (MoveNode v q)) v q (made_ok mv_M (MoveNode v q) can.accepted)
+  mv_says : (has_node mv_M v ≡ true) × (mv_N ≡ map_after mv_M (MoveNode v q))
+  mv_says = Undoing.moved_node mv_M (map_after mv_M (MoveNode v q)) v q (made_ok mv_M (MoveNode v q) can.accepted)
 
   mv_indexed : IsIndexed t.index (slots_of nodes')
   mv_indexed = turned_indexed t.index (slots_of t.nodes) t.kept.indexed (slots_of nodes') p v e moved g here refl
@@ -327,11 +327,11 @@ module _ (t : Tables) (nodes' : Slots) (p v : ℕ) (e : NodeEntry) (q : Coord) (
     mv_outs : (side : Side) (k : ℕ) → spare_at side mv_new k ≡ spare_at side t k
     mv_outs side k = ap (λ o. option_map_or (λ l. spare_links l) o 0) (mv_links side k)
 
-    pub move_node_made : IsMade t mv_new (MoveNode v q) (MoveNode v e.place)
+    pub move_node_made : IsChangeMade t mv_new (MoveNode v q) (MoveNode v e.place)
     move_node_made =
-        let is : tables_map mv_new ≡ made mv_M (MoveNode v q) = mv_map ∙ mv_says.1 in
+        let is : tables_map mv_new ≡ map_after mv_M (MoveNode v q) = mv_map ∙ mv_says.1 in
         let was : get mv_M.nodes v ≡ Some e.place = node_read t v p e here g.was in
-        let back = accepted_from mv_M (made mv_M (MoveNode v q)) (tables_map mv_new) (MoveNode v e.place) is (Undoing.undo_move_node mv_M (made mv_M (MoveNode v q)) v q e.place was (made_ok mv_M (MoveNode v q) can.accepted)) in
+        let back = accepted_from mv_M (map_after mv_M (MoveNode v q)) (tables_map mv_new) (MoveNode v e.place) is (Undoing.undo_move_node mv_M (map_after mv_M (MoveNode v q)) v q e.place was (made_ok mv_M (MoveNode v q) can.accepted)) in
         let placed : IsTrue (is_coord e.place) = subst (λ q. IsTrue (is_coord q)) (ap (λ o. unwrap_or o no_place) was) (t.kept.sound.places v (some_is _ _ was)) in
         record {
           map = is;

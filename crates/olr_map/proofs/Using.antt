@@ -7,7 +7,7 @@ use Rattle.std.proofs.lemmas.List.{nil_from_length}
 use Rattle.olr_spec.specs.Map.{Map, Line, lines_where, lines_in, lines_out, in_use, has_node, unless, edited, MapFault, No_node, Node_in_use, Drop_node}
 use Rattle.olr_spec.specs.Extension.{has}
 use Rattle.olr_spec.proofs.MapLemmas.{has-lines_where, passes_at}
-use Rattle.olr_map.specs.Edits.{fault_of}
+use Rattle.olr_map.specs.Edits.{edit_fault_of}
 use Rattle.olr_map.specs.declared.edit.EditFault.{EditFault}
 use Rattle.olr_map.specs.declared.judging.Judged.{Judged}
 use Rattle.olr_map.proofs.Undoing.{used_by, unused_by, passes}
@@ -57,12 +57,12 @@ drop_refused M v there used =
     ∙ ap (λ (b : Bool). unless b Node_in_use (Ok (record M { nodes = remove M.nodes v }))) used
 
 -- the answer at either outcome
-pub ok_at : (r : Result Map MapFault) (N : Map) (j : Judged) → r ≡ Ok N → MatchResult r (λ _. IsOk {E = EditFault} (Ok j)) (λ f. ◌≡◌ {A = Result Judged EditFault} (Ok j) (Err (fault_of f)))
-ok_at r N j e = subst (λ (s : Result Map MapFault). MatchResult s (λ _. IsOk {E = EditFault} (Ok j)) (λ f. ◌≡◌ {A = Result Judged EditFault} (Ok j) (Err (fault_of f)))) (sym e) refl
+pub ok_at : (r : Result Map MapFault) (N : Map) (j : Judged) → r ≡ Ok N → MatchResult r (λ _. IsOk {E = EditFault} (Ok j)) (λ f. ◌≡◌ {A = Result Judged EditFault} (Ok j) (Err (edit_fault_of f)))
+ok_at r N j e = subst (λ (s : Result Map MapFault). MatchResult s (λ _. IsOk {E = EditFault} (Ok j)) (λ f. ◌≡◌ {A = Result Judged EditFault} (Ok j) (Err (edit_fault_of f)))) (sym e) refl
 
 pub err_at : (r : Result Map MapFault) (f : MapFault) → r ≡ Err f
-    → MatchResult r (λ _. IsOk {T = Judged} (Err (fault_of f))) (λ g. ◌≡◌ {A = Result Judged EditFault} (Err (fault_of f)) (Err (fault_of g)))
-err_at r f e = subst (λ (s : Result Map MapFault). MatchResult s (λ _. IsOk {T = Judged} (Err (fault_of f))) (λ g. ◌≡◌ {A = Result Judged EditFault} (Err (fault_of f)) (Err (fault_of g)))) (sym e) refl
+    → MatchResult r (λ _. IsOk {T = Judged} (Err (edit_fault_of f))) (λ g. ◌≡◌ {A = Result Judged EditFault} (Err (edit_fault_of f)) (Err (edit_fault_of g)))
+err_at r f e = subst (λ (s : Result Map MapFault). MatchResult s (λ _. IsOk {T = Judged} (Err (edit_fault_of f))) (λ g. ◌≡◌ {A = Result Judged EditFault} (Err (edit_fault_of f)) (Err (edit_fault_of g)))) (sym e) refl
 
 pub ok_from : (r : Result Map MapFault) (N : Map) → r ≡ Ok N → IsOk r
 ok_from r N e = subst (λ (s : Result Map MapFault). IsOk s) (sym e) refl

@@ -3,7 +3,7 @@
 --     Room, room_of t      how many more nodes there are places for, and lines at each node
 --     CanMake M R c      on this map, with this room, the change is accepted and takes no memory
 --     made M c, room_after M R c      the map and the room after it
---     IsMade old new c back      the change was made, and `back` can take it back
+--     IsChangeMade old new c back      the change was made, and `back` can take it back
 use Rattle.std.specs.Prelude.{◌≡◌, ◌==◌, ℕ, ◌+◌, ◌-◌, ◌<◌, ◌≤◌, if◌then◌else◌, List, [], ◌∷◌, ⊤, IsOk}
 use Rattle.std.specs.Option.{option_map_or}
 use Rattle.std.specs.Result.{result_unwrap_or}
@@ -77,16 +77,16 @@ pub record HasNumbers (t : Tables) (n l : ℕ) : Type 0 where
   pub lines : l ≤ spare_of t.lines
 
 -- at least as much room
-pub record IsWithin (R S : Room) : Type 0 where
+pub record IsRoomWithin (R S : Room) : Type 0 where
   pub nodes : R.nodes ≤ S.nodes
   pub outs : (v : ℕ) → R.outs v ≤ S.outs v
   pub ins : (v : ℕ) → R.ins v ≤ S.ins v
 
 -- a place for each thing that the edit brings
-abbrev pub HasRoom : Room → map.Edit → Type 0
-HasRoom R (map.Add_node id place) = 0 < R.nodes
-HasRoom R (map.Add_line id line) = (0 < R.outs line.from) × (0 < R.ins line.to)
-HasRoom R _ = ⊤
+abbrev pub HasRoomFor : Room → map.Edit → Type 0
+HasRoomFor R (map.Add_node id place) = 0 < R.nodes
+HasRoomFor R (map.Add_line id line) = (0 < R.outs line.from) × (0 < R.ins line.to)
+HasRoomFor R _ = ⊤
 
 -- the function with another value at one number
 abbrev pub changed_at : ℕ → ℕ → (ℕ → ℕ) → ℕ → ℕ
@@ -111,17 +111,17 @@ IsWhole M _ = ⊤
 pub record CanMake (M : Map) (R : Room) (c : Change) : Type 0 where
   pub accepted : IsOk (edited M (change_edit c))
   pub placed : HasPlace (change_edit c)
-  pub fits : HasRoom R (change_edit c)
+  pub fits : HasRoomFor R (change_edit c)
   pub whole : IsWhole M c
 
-abbrev pub made : Map → Change → Map
-made M c = result_unwrap_or (edited M (change_edit c)) M
+abbrev pub map_after : Map → Change → Map
+map_after M c = result_unwrap_or (edited M (change_edit c)) M
 
-pub record IsMade (old new : Tables) (c back : Change) : Type 0 where
-  pub map : tables_map new ≡ made (tables_map old) c
-  pub room : IsWithin (room_after (tables_map old) (room_of old) c) (room_of new)
+pub record IsChangeMade (old new : Tables) (c back : Change) : Type 0 where
+  pub map : tables_map new ≡ map_after (tables_map old) c
+  pub room : IsRoomWithin (room_after (tables_map old) (room_of old) c) (room_of new)
   pub can_back : CanMake (tables_map new) (room_of new) back
-  pub before : made (tables_map new) back ≡ tables_map old
-  pub room_before : IsWithin (room_of old) (room_after (tables_map new) (room_of new) back)
+  pub before : map_after (tables_map new) back ≡ tables_map old
+  pub room_before : IsRoomWithin (room_of old) (room_after (tables_map new) (room_of new) back)
   pub node_numbers : spare_of old.index ≤ spare_of new.index + node_puts c
   pub line_numbers : spare_of old.lines ≤ spare_of new.lines + line_puts c

@@ -1,6 +1,6 @@
 -- Edits and their faults as the definitions of a map see them.
 --     edit_of e      the edit
---     fault_of f      the answer where the map refuses with f;  want of memory is no fault of the map
+--     edit_fault_of f      the answer where the map refuses with f;  want of memory is no fault of the map
 --     fault_number f, fault_word f      how replies name a fault
 use Rattle.std.specs.Prelude.{ℕ, List, codes}
 use Rattle.olr_spec.specs.Map as map
@@ -17,13 +17,13 @@ edit_of (AddLine id line) = map.Add_line id line
 edit_of (SetLine id frc fow len shape) = map.Set_line id frc fow len shape.items
 edit_of (DropLine id) = map.Drop_line id
 
-abbrev pub fault_of : map.MapFault → EditFault
-fault_of map.Node_exists = NodeExists
-fault_of map.No_node = NoNode
-fault_of map.Line_exists = LineExists
-fault_of map.No_line = NoLine
-fault_of map.Node_in_use = NodeInUse
-fault_of map.Bad_shape = BadShape
+abbrev pub edit_fault_of : map.MapFault → EditFault
+edit_fault_of map.Node_exists = NodeExists
+edit_fault_of map.No_node = NoNode
+edit_fault_of map.Line_exists = LineExists
+edit_fault_of map.No_line = NoLine
+edit_fault_of map.Node_in_use = NodeInUse
+edit_fault_of map.Bad_shape = BadShape
 
 abbrev pub fault_number : EditFault → ℕ
 fault_number NodeExists = 3

@@ -1,5 +1,5 @@
 -- What an edit touches on a map that takes it, as one value.
---     lines_of j, changes_told j      its line, and that line as a changed one
+--     judged_lines j, changes_told j      its line, and that line as a changed one
 --     IsJudged M place e j      the map takes edit e, and j tells what it touches: nodes with their places, and a line with how it changes
 --     AreSlots b M at e, AreEnds M nodes e      at: the slots of the nodes of e that are there before it;  nodes: the ends of the line that e sets
 use Rattle.std.specs.Prelude.{◌≡◌, ◌==◌, ◌||◌, ℕ, List, map, Some, IsTrue, IsOk, ⊤}
@@ -13,8 +13,8 @@ use Rattle.olr_map.specs.ByNumbers.{found}
 use Rattle.olr_map.specs.declared.by_number.ByNumber.{ByNumber}
 use Rattle.olr_map.specs.declared.judging.Judged.{Judged}
 
-abbrev pub lines_of : Judged → List ℕ
-lines_of j = option_to_list j.line
+abbrev pub judged_lines : Judged → List ℕ
+judged_lines j = option_to_list j.line
 
 abbrev pub changes_told : Judged → List ChangedLine
 changes_told j = map (λ _. record { from = j.nodes.0; to = j.nodes.1; len = j.len }) (option_to_list j.line)
@@ -23,7 +23,7 @@ pub record IsJudged (M : Map) (place : ℕ → ℕ) (e : maps.Edit) (j : Judged)
   pub accepted : IsOk (edited M e)
   pub placed : HasPlace e
   pub nodes : (v : ℕ) → has (touched_nodes M e) v ≡ ((j.nodes.0 == v) || (j.nodes.1 == v))
-  pub lines : lines_of j ≡ touched_lines e
+  pub lines : judged_lines j ≡ touched_lines e
   pub changes : changes_told j ≡ changes_of M e
   pub first : IsTrue (has_node M j.nodes.0) → place j.nodes.0 ≡ j.places.0
   pub second : IsTrue (has_node M j.nodes.1) → place j.nodes.1 ≡ j.places.1

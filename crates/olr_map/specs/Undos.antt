@@ -10,7 +10,7 @@ use Rattle.std.proofs.Props.{props}
 use Rattle.olr_spec.specs.Map as map
 use Rattle.olr_spec.specs.Map.{Map}
 use Rattle.olr_spec.specs.Laws.{HasPlace}
-use Rattle.olr_map.specs.Changes.{Room, CanMake, HasRoom, HasNumbers, IsWhole, change_edit, made, node_puts, line_puts, room_after, room_of, tables_map}
+use Rattle.olr_map.specs.Changes.{Room, CanMake, HasRoomFor, HasNumbers, IsWhole, change_edit, map_after, node_puts, line_puts, room_after, room_of, tables_map}
 use Rattle.olr_map.specs.declared.change.Change.{Change}
 use Rattle.olr_map.specs.declared.change.Change.TheVariants.{PutNode, MoveNode, TakeNode, PutLine, SetLine, TakeLine}
 use Rattle.olr_map.specs.declared.tables.Tables.{Tables}
@@ -19,11 +19,11 @@ use Rattle.olr_map.specs.declared.undo.UndoLog.{UndoLog}
 
 abbrev pub CanMakeAll : Map → Room → List Change → Type 0
 CanMakeAll M R [] = ⊤
-CanMakeAll M R (c ∷ cs) = CanMake M R c × CanMakeAll (made M c) (room_after M R c) cs
+CanMakeAll M R (c ∷ cs) = CanMake M R c × CanMakeAll (map_after M c) (room_after M R c) cs
 
 abbrev pub made_all : Map → List Change → Map
 made_all M [] = M
-made_all M (c ∷ cs) = made_all (made M c) cs
+made_all M (c ∷ cs) = made_all (map_after M c) cs
 
 abbrev pub changes_of : UndoLog → List Change
 changes_of log = reverse log.changes.items
@@ -32,7 +32,7 @@ abbrev pub CanUndoIn : Tables → Undo → Type 0
 CanUndoIn t u = CanMake (tables_map t) (room_of t) u.change × HasNumbers t (node_puts u.change) (line_puts u.change)
 
 abbrev pub undone_in : Tables → Undo → Map
-undone_in t u = made (tables_map t) u.change
+undone_in t u = map_after (tables_map t) u.change
 
 abbrev pub CanUndoAllIn : Tables → UndoLog → Type 0
 CanUndoAllIn t log = CanMakeAll (tables_map t) (room_of t) (changes_of log) × HasNumbers t log.nodes log.lines
@@ -49,7 +49,7 @@ HasPlace-prop (map.Add_line x l) = hlevel props
 HasPlace-prop (map.Set_line x frc fow len shape) = hlevel props
 HasPlace-prop (map.Drop_line x) = hlevel props
 
-HasRoom-prop : (R : Room) (e : map.Edit) → IsProp (HasRoom R e)
+HasRoom-prop : (R : Room) (e : map.Edit) → IsProp (HasRoomFor R e)
 HasRoom-prop R (map.Add_node v c) = hlevel (props, le_prop)
 HasRoom-prop R (map.Move_node v c) = hlevel props
 HasRoom-prop R (map.Drop_node v) = hlevel props
@@ -70,7 +70,7 @@ CanMake-prop M R c = hlevel (props, HasPlace-prop (change_edit c), HasRoom-prop 
 
 pub CanMakeAll-prop : (M : Map) (R : Room) (cs : List Change) → IsProp (CanMakeAll M R cs)
 CanMakeAll-prop M R [] = Unit-prop
-CanMakeAll-prop M R (c ∷ cs) = ×_prop (CanMake-prop M R c) (CanMakeAll-prop (made M c) (room_after M R c) cs)
+CanMakeAll-prop M R (c ∷ cs) = ×_prop (CanMake-prop M R c) (CanMakeAll-prop (map_after M c) (room_after M R c) cs)
 
 HasNumbers-prop : (t : Tables) (n l : ℕ) → IsProp (HasNumbers t n l)
 HasNumbers-prop t n l = hlevel (props, le_prop)

@@ -17,8 +17,8 @@ impl Tables {
     ghost use Rattle.olr_map.specs.ByNumbers.{spare_of};
     ghost use Rattle.olr_map.specs.Kept.{place_in};
     ghost use Rattle.olr_map.specs.Judgements.{IsJudged, AreEnds, AreSlots};
-    ghost use Rattle.olr_map.specs.Edits.{edit_of, fault_of};
-    ghost use Rattle.olr_map.specs.Changes.{tables_map, room_of, change_edit, node_puts, line_puts, node_numbers, line_numbers, HasRoom, HasNumbers, IsWhole, IsWithin, CanMake, IsMade, made, room_after};
+    ghost use Rattle.olr_map.specs.Edits.{edit_of, edit_fault_of};
+    ghost use Rattle.olr_map.specs.Changes.{tables_map, room_of, change_edit, node_puts, line_puts, node_numbers, line_numbers, HasRoomFor, HasNumbers, IsWhole, IsRoomWithin, CanMake, IsChangeMade, map_after, room_after};
     ghost use Rattle.olr_map.specs.Undos.{changes_of, CanUndoIn, undone_in, CanUndoAllIn, before_in};
 
     /// The slots of the nodes that a change touches and that are there before it.
@@ -42,7 +42,7 @@ impl Tables {
         requires can { CanMake (tables_map self.old) (room_of self.old) change }
         requires slots { AreSlots self.old.index (tables_map self.old) slots (change_edit change) }
         requires numbers { HasNumbers self.old (node_puts change) (line_puts change) }
-        ensures made { IsMade self.old self.new change result }
+        ensures map_after { IsChangeMade self.old self.new change result }
         ensures nodes { node_puts change + node_puts result ≡ node_numbers (change_edit change) }
         ensures lines { line_puts change + line_puts result ≡ line_numbers (change_edit change) }
     {
@@ -71,8 +71,8 @@ impl Tables {
     fn take_back(&mut self, change: Change)
         requires can { CanMake (tables_map self.old) (room_of self.old) change }
         requires numbers { HasNumbers self.old (node_puts change) (line_puts change) }
-        ensures map { tables_map self.new ≡ made (tables_map self.old) change }
-        ensures room { IsWithin (room_after (tables_map self.old) (room_of self.old) change) (room_of self.new) }
+        ensures map { tables_map self.new ≡ map_after (tables_map self.old) change }
+        ensures room { IsRoomWithin (room_after (tables_map self.old) (room_of self.old) change) (room_of self.new) }
         ensures nodes { spare_of self.old.index ≤ spare_of self.new.index + node_puts change }
         ensures lines { spare_of self.old.lines ≤ spare_of self.new.lines + line_puts change }
     {
@@ -92,10 +92,10 @@ impl Tables {
         requires slots { AreSlots self.old.index (tables_map self.old) slots (edit_of edit.now) }
         requires numbers { HasNumbers self.old nodes lines }
         ensures same { tables_map self.new ≡ tables_map self.old }
-        ensures more { IsWithin (room_of self.old) (room_of self.new) }
+        ensures more { IsRoomWithin (room_of self.old) (room_of self.new) }
         ensures kept { HasNumbers self.new nodes lines }
         ensures slots { AreSlots self.new.index (tables_map self.new) slots (edit_of edit.now) }
-        ensures room { OnOk result (HasRoom (room_of self.new) (edit_of edit.now)) }
+        ensures room { OnOk result (HasRoomFor (room_of self.new) (edit_of edit.now)) }
         ensures numbers { OnOk result (HasNumbers self.new (nodes + node_numbers (edit_of edit.now))
             (lines + line_numbers (edit_of edit.now))) }
     {
@@ -159,7 +159,7 @@ impl Tables {
 
     /// Makes an edit, and gives what takes it back.
     pub fn apply(&mut self, edit: Edit) -> Result<Undo, EditFault>
-        ensures refused { (f : MapFault) → (result ≡ Err (fault_of f))
+        ensures refused { (f : MapFault) → (result ≡ Err (edit_fault_of f))
             ↔ (edited (tables_map self.old) (edit_of edit) ≡ Err f) }
         ensures done { OnOk result (edited (tables_map self.old) (edit_of edit) ≡ Ok (tables_map self.new)) }
         ensures same { OnErr result (tables_map self.new ≡ tables_map self.old) }
@@ -202,7 +202,7 @@ impl Tables {
     /// Makes an edit, and adds what takes it back to a log.
     pub fn apply_into(&mut self, edit: Edit, log: &mut UndoLog) -> Result<(), EditFault>
         requires { CanUndoAllIn self.old log.old }
-        ensures refused { (f : MapFault) → (result ≡ Err (fault_of f))
+        ensures refused { (f : MapFault) → (result ≡ Err (edit_fault_of f))
             ↔ (edited (tables_map self.old) (edit_of edit) ≡ Err f) }
         ensures done { OnOk result (edited (tables_map self.old) (edit_of edit) ≡ Ok (tables_map self.new)) }
         ensures same { OnErr result (tables_map self.new ≡ tables_map self.old) }

@@ -2,7 +2,7 @@
 ghost use Rattle.std.specs.Prelude.{◌≡◌, Some, Err, IsOk, IfOk, MatchResult};
 ghost use Rattle.std.specs.FinMap.{get};
 ghost use Rattle.olr_spec.specs.Map.{edited, Add_node, Move_node, Drop_node, Add_line, Set_line, Drop_line};
-ghost use Rattle.olr_map.specs.Edits.{edit_of, fault_of};
+ghost use Rattle.olr_map.specs.Edits.{edit_of, edit_fault_of};
 ghost use Rattle.olr_map.specs.Judgements.{IsJudged};
 
 use crate::edit::{Edit, EditFault};
@@ -28,7 +28,7 @@ pub struct Judged {
 /// The first fault of the edit on this map, want of memory aside, or what the edit touches.
 pub fn judge<M: MapRead>(map: &M, edit: &Edit) -> Result<Judged, EditFault>
     ensures fault { MatchResult (edited (M.map map.now) (edit_of edit.now))
-        (λ _. IsOk result) (λ f. result ≡ Err (fault_of f)) }
+        (λ _. IsOk result) (λ f. result ≡ Err (edit_fault_of f)) }
     ensures judged { IfOk result (IsJudged (M.map map.now) (M.place_in map.now) (edit_of edit.now)) }
 {
     match edit {
@@ -50,7 +50,7 @@ pub fn judge<M: MapRead>(map: &M, edit: &Edit) -> Result<Judged, EditFault>
 /// A node comes only where it is not yet.
 fn judge_node_added<M: MapRead>(map: &M, id: NodeId, place: Coord) -> Result<Judged, EditFault>
     ensures fault { MatchResult (edited (M.map map.now) (Add_node id place))
-        (λ _. IsOk result) (λ f. result ≡ Err (fault_of f)) }
+        (λ _. IsOk result) (λ f. result ≡ Err (edit_fault_of f)) }
     ensures judged { IfOk result (IsJudged (M.map map.now) (M.place_in map.now) (Add_node id place)) }
 {
     if map.place_of(id).is_some() {
@@ -69,7 +69,7 @@ fn judge_node_added<M: MapRead>(map: &M, id: NodeId, place: Coord) -> Result<Jud
 /// A node moves only where it is.
 fn judge_node_moved<M: MapRead>(map: &M, id: NodeId, place: Coord) -> Result<Judged, EditFault>
     ensures fault { MatchResult (edited (M.map map.now) (Move_node id place))
-        (λ _. IsOk result) (λ f. result ≡ Err (fault_of f)) }
+        (λ _. IsOk result) (λ f. result ≡ Err (edit_fault_of f)) }
     ensures judged { IfOk result (IsJudged (M.map map.now) (M.place_in map.now) (Move_node id place)) }
 {
     let Some(at) = map.place_of(id) else {
@@ -87,7 +87,7 @@ fn judge_node_moved<M: MapRead>(map: &M, id: NodeId, place: Coord) -> Result<Jud
 /// A node goes only where it is, and no line uses it.
 fn judge_node_dropped<M: MapRead>(map: &M, id: NodeId) -> Result<Judged, EditFault>
     ensures fault { MatchResult (edited (M.map map.now) (Drop_node id))
-        (λ _. IsOk result) (λ f. result ≡ Err (fault_of f)) }
+        (λ _. IsOk result) (λ f. result ≡ Err (edit_fault_of f)) }
     ensures judged { IfOk result (IsJudged (M.map map.now) (M.place_in map.now) (Drop_node id)) }
 {
     let Some(at) = map.place_of(id) else {
@@ -107,7 +107,7 @@ fn judge_node_dropped<M: MapRead>(map: &M, id: NodeId) -> Result<Judged, EditFau
 /// A line comes only where it is not yet, its ends are, and it is good.
 fn judge_line_added<M: MapRead>(map: &M, id: LineId, line: &Line) -> Result<Judged, EditFault>
     ensures fault { MatchResult (edited (M.map map.now) (Add_line id line.now))
-        (λ _. IsOk result) (λ f. result ≡ Err (fault_of f)) }
+        (λ _. IsOk result) (λ f. result ≡ Err (edit_fault_of f)) }
     ensures judged { IfOk result (IsJudged (M.map map.now) (M.place_in map.now) (Add_line id line.now)) }
 {
     if map.line(id).is_some() {
@@ -137,7 +137,7 @@ fn judge_line_set<M: MapRead>(
     shape: &[Shape],
 ) -> Result<Judged, EditFault>
     ensures fault { MatchResult (edited (M.map map.now) (Set_line id frc fow len shape.now))
-        (λ _. IsOk result) (λ f. result ≡ Err (fault_of f)) }
+        (λ _. IsOk result) (λ f. result ≡ Err (edit_fault_of f)) }
     ensures judged { IfOk result (IsJudged (M.map map.now) (M.place_in map.now) (Set_line id frc fow len shape.now)) }
 {
     let Some(was) = map.line(id) else {
@@ -157,7 +157,7 @@ fn judge_line_set<M: MapRead>(
 /// A line goes only where it is.
 fn judge_line_dropped<M: MapRead>(map: &M, id: LineId) -> Result<Judged, EditFault>
     ensures fault { MatchResult (edited (M.map map.now) (Drop_line id))
-        (λ _. IsOk result) (λ f. result ≡ Err (fault_of f)) }
+        (λ _. IsOk result) (λ f. result ≡ Err (edit_fault_of f)) }
     ensures judged { IfOk result (IsJudged (M.map map.now) (M.place_in map.now) (Drop_line id)) }
 {
     let Some(was) = map.line(id) else {

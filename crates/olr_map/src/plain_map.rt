@@ -74,7 +74,7 @@ impl MapRead for PlainMap {
 impl PlainMap {
     ghost use Rattle.std.specs.Prelude.{◌≡◌, ◌↔◌, IfOk, OnOk, OnErr, Ok, Err};
     ghost use Rattle.olr_spec.specs.Map.{MapFault, empty_map, edited};
-    ghost use Rattle.olr_map.specs.Edits.{edit_of, fault_of};
+    ghost use Rattle.olr_map.specs.Edits.{edit_of, edit_fault_of};
     ghost use Rattle.olr_map.specs.Undos.{changes_of};
     ghost use Rattle.olr_map.specs.Judgements.{IsJudged};
     ghost use Rattle.olr_map.specs.PlainMaps.{map_of, slot_of, CanUndo, map_undone, CanUndoAll, map_before};
@@ -91,7 +91,7 @@ impl PlainMap {
     /// Makes an edit. Any fault leaves the map as it was; want of memory is told last, and only where a growth was
     /// refused. What it gives must be spent by `undo` or by `keep`.
     pub fn apply(&mut self, edit: Edit) -> Result<Undo, EditFault>
-        ensures refused { (f : MapFault) → (result ≡ Err (fault_of f))
+        ensures refused { (f : MapFault) → (result ≡ Err (edit_fault_of f))
             ↔ (edited (map_of self.old) (edit_of edit) ≡ Err f) }
         ensures done { OnOk result (edited (map_of self.old) (edit_of edit) ≡ Ok (map_of self.new)) }
         ensures same { OnErr result (map_of self.new ≡ map_of self.old) }
@@ -132,7 +132,7 @@ impl PlainMap {
     /// as they were.
     pub fn apply_into(&mut self, edit: Edit, log: &mut UndoLog) -> Result<(), EditFault>
         requires { CanUndoAll self.old log.old }
-        ensures refused { (f : MapFault) → (result ≡ Err (fault_of f))
+        ensures refused { (f : MapFault) → (result ≡ Err (edit_fault_of f))
             ↔ (edited (map_of self.old) (edit_of edit) ≡ Err f) }
         ensures done { OnOk result (edited (map_of self.old) (edit_of edit) ≡ Ok (map_of self.new)) }
         ensures same { OnErr result (map_of self.new ≡ map_of self.old) }

@@ -96,7 +96,7 @@ impl Tables {
     ghost use Rattle.std.specs.Prelude.{◌+◌, ◌<◌, ◌≤◌, ℕ, OnOk, IsTrue, Some};
     ghost use Rattle.olr_spec.specs.Map.{empty_map, has_node, has_line, start, end};
     ghost use Rattle.olr_map.specs.ByNumbers.{found, spare_of};
-    ghost use Rattle.olr_map.specs.Changes.{tables_map, room_of, spare_at, IsWithin, HasNumbers, CanMake, IsMade};
+    ghost use Rattle.olr_map.specs.Changes.{tables_map, room_of, spare_at, IsRoomWithin, HasNumbers, CanMake, IsChangeMade};
     ghost use Rattle.olr_map.specs.declared.change.Change.TheVariants.{PutNode, MoveNode, TakeNode, PutLine, SetLine, TakeLine};
 
     /// No nodes and no lines, to be found by hash. Takes no memory.
@@ -147,7 +147,7 @@ impl Tables {
     /// Makes room for one more number of a node, beside so many that others may want to put back.
     pub fn reserve_nodes(&mut self, owed: usize) -> Result<(), AllocError>
         ensures map { tables_map self.new ≡ tables_map self.old }
-        ensures more { IsWithin (room_of self.old) (room_of self.new) }
+        ensures more { IsRoomWithin (room_of self.old) (room_of self.new) }
         ensures nodes { spare_of self.old.index ≤ spare_of self.new.index }
         ensures lines { spare_of self.new.lines ≡ spare_of self.old.lines }
         ensures slots { (v : ℕ) → found self.new.index v ≡ found self.old.index v }
@@ -162,7 +162,7 @@ impl Tables {
     /// Makes room for one more line, beside so many that others may want to put back.
     pub fn reserve_lines(&mut self, owed: usize) -> Result<(), AllocError>
         ensures map { tables_map self.new ≡ tables_map self.old }
-        ensures more { IsWithin (room_of self.old) (room_of self.new) }
+        ensures more { IsRoomWithin (room_of self.old) (room_of self.new) }
         ensures nodes { spare_of self.new.index ≡ spare_of self.old.index }
         ensures lines { spare_of self.old.lines ≤ spare_of self.new.lines }
         ensures slots { (v : ℕ) → found self.new.index v ≡ found self.old.index v }
@@ -177,7 +177,7 @@ impl Tables {
     /// Makes room for one more node's entry.
     pub fn reserve_slot(&mut self) -> Result<(), AllocError>
         ensures map { tables_map self.new ≡ tables_map self.old }
-        ensures more { IsWithin (room_of self.old) (room_of self.new) }
+        ensures more { IsRoomWithin (room_of self.old) (room_of self.new) }
         ensures nodes { spare_of self.new.index ≡ spare_of self.old.index }
         ensures lines { spare_of self.new.lines ≡ spare_of self.old.lines }
         ensures slots { (v : ℕ) → found self.new.index v ≡ found self.old.index v }
@@ -190,7 +190,7 @@ impl Tables {
     pub fn reserve_link(&mut self, side: Side, slot: u32) -> Result<(), AllocError>
         requires { (v : ℕ) × (found self.old.index v ≡ Some slot) }
         ensures map { tables_map self.new ≡ tables_map self.old }
-        ensures more { IsWithin (room_of self.old) (room_of self.new) }
+        ensures more { IsRoomWithin (room_of self.old) (room_of self.new) }
         ensures nodes { spare_of self.new.index ≡ spare_of self.old.index }
         ensures lines { spare_of self.new.lines ≡ spare_of self.old.lines }
         ensures slots { (v : ℕ) → found self.new.index v ≡ found self.old.index v }
@@ -203,7 +203,7 @@ impl Tables {
     pub fn put_node(&mut self, entry: NodeEntry)
         requires can { CanMake (tables_map self.old) (room_of self.old) (PutNode entry) }
         requires numbers { HasNumbers self.old 1 0 }
-        ensures { IsMade self.old self.new (PutNode entry) (TakeNode entry.id) }
+        ensures { IsChangeMade self.old self.new (PutNode entry) (TakeNode entry.id) }
     {
         let id = entry.id;
         let slot = self.nodes.put(entry);
@@ -213,7 +213,7 @@ impl Tables {
     /// Takes a node's entry out.
     pub fn take_node(&mut self, id: NodeId) -> NodeEntry
         requires { CanMake (tables_map self.old) (room_of self.old) (TakeNode id) }
-        ensures { IsMade self.old self.new (TakeNode id) (PutNode result) }
+        ensures { IsChangeMade self.old self.new (TakeNode id) (PutNode result) }
     {
         let slot = self.index.take(id.number());
         self.nodes.take(slot)
@@ -223,7 +223,7 @@ impl Tables {
     pub fn move_node(&mut self, id: NodeId, place: Coord, slot: u32) -> Coord
         requires can { CanMake (tables_map self.old) (room_of self.old) (MoveNode id place) }
         requires here { found self.old.index id ≡ Some slot }
-        ensures { IsMade self.old self.new (MoveNode id place) (MoveNode id result) }
+        ensures { IsChangeMade self.old self.new (MoveNode id place) (MoveNode id result) }
     {
         self.nodes.move_node(slot, place)
     }
@@ -234,7 +234,7 @@ impl Tables {
         requires numbers { HasNumbers self.old 0 1 }
         requires begin { found self.old.index line.from ≡ Some from }
         requires end { found self.old.index line.to ≡ Some to }
-        ensures { IsMade self.old self.new (PutLine id line) (TakeLine id) }
+        ensures { IsChangeMade self.old self.new (PutLine id line) (TakeLine id) }
     {
         let (begins, ends) = far_ends(&line, from, to);
         self.nodes.link(Side::Out, from, id, ends);
@@ -247,7 +247,7 @@ impl Tables {
         requires can { CanMake (tables_map self.old) (room_of self.old) (TakeLine id) }
         requires begin { found self.old.index (start (tables_map self.old) id) ≡ Some from }
         requires end { found self.old.index (end (tables_map self.old) id) ≡ Some to }
-        ensures { IsMade self.old self.new (TakeLine id) (PutLine id result) }
+        ensures { IsChangeMade self.old self.new (TakeLine id) (PutLine id result) }
     {
         self.nodes.unlink(Side::Out, from, id);
         self.nodes.unlink(Side::In, to, id);
@@ -260,7 +260,7 @@ impl Tables {
         requires can { CanMake (tables_map self.old) (room_of self.old) (SetLine id line) }
         requires begin { found self.old.index (start (tables_map self.old) id) ≡ Some from }
         requires end { found self.old.index (end (tables_map self.old) id) ≡ Some to }
-        ensures { IsMade self.old self.new (SetLine id line) (SetLine id result) }
+        ensures { IsChangeMade self.old self.new (SetLine id line) (SetLine id result) }
     {
         let (begins, ends) = far_ends(&line, from, to);
         self.nodes.set_end(Side::Out, from, id, ends);

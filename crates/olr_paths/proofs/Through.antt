@@ -14,9 +14,9 @@ use Rattle.olr_commands.specs.Counts.{CountIs}
 use Rattle.olr_commands.specs.Words.{entry_of}
 use Rattle.olr_commands.specs.Reply.{Entry, entry}
 use Rattle.olr_commands.proofs.NameLemmas.{flipped, not_named}
-use Rattle.olr_paths.specs.Items.{Made, Item, IsMade, AreMadeIfAny, named, all_named, made_in, answer_in}
+use Rattle.olr_paths.specs.Items.{Made, Item, IsEncodingOf, AreEncodingsIfAny, named, all_named, made_in, answer_in}
 use Rattle.olr_paths.specs.Changes.{with_made, IsBefore, IsConcerned, By_name, Touches, IsRemade, AreRemade, Reported, Follows}
-use Rattle.olr_paths.specs.Renewing.{all_put, made_at, puts_of, entries_of, Told, ToStay, ToKeep, ToEncode, IsStep, Left, Kept, Anew, Rises}
+use Rattle.olr_paths.specs.Renewing.{all_put, made_at, puts_of, entries_of, TellsIfOther, ToStay, ToKeep, ToEncode, IsStep, Left, Kept, Anew, Rises}
 use Rattle.olr_paths.specs.declared.renewal.Renewal.{Renewal}
 use Rattle.olr_paths.specs.declared.renewal.Counted.{Counted}
 use Rattle.olr_paths.proofs.NamedEntries.{take_more_items}
@@ -54,7 +54,7 @@ Reported-told before (k ∷ js) es j A h is had =
     let more = λ (fs : List Entry). fs ++ entry j.name A ∷ [] in
     (h.0, more h.1, h.2, Reported-told before js h.1 j A h.3 is had, elim h.4 [ inl e ↦ inl (e.0, ap more e.1) | inr e ↦ inr (e.0, ap more e.1) ])
 
-Reported-push : (before js : List Item) (es fs : List Entry) (j : Item) (A : Answer) → Reported before js es → answer j ≡ Some A → Told before j.name A es fs → Reported before (js ++ j ∷ []) fs
+Reported-push : (before js : List Item) (es fs : List Entry) (j : Item) (A : Answer) → Reported before js es → answer j ≡ Some A → TellsIfOther before j.name A es fs → Reported before (js ++ j ∷ []) fs
 Reported-push before js es fs j A h is told =
     elim told [
       | inl t ↦ subst (Reported before (js ++ j ∷ [])) (sym t.1) (Reported-same before js es j A h is t.0)
@@ -74,7 +74,7 @@ module _ (Q : Map → Type 0) (N : Map) (T X : List ℕ) (before : List Item) wh
 
   -- where j is at the end of what was put, and the rest stays
   pub grown : (is : List Item) (ps qs : List (ℕ × Made)) (es fs : List Entry) (n k : ℕ) (i j : Item) (A : Answer) → Through Q N T X before is ps es n
-      → ((ys : List Item) → all_put (is ++ i ∷ ys) qs ≡ all_put is ps ++ j ∷ ys) → named j ≡ named i → ((L : Map) → Q L → IsRemade N i j) → answer j ≡ Some A → Told before j.name A es fs
+      → ((ys : List Item) → all_put (is ++ i ∷ ys) qs ≡ all_put is ps ++ j ∷ ys) → named j ≡ named i → ((L : Map) → Q L → IsRemade N i j) → answer j ≡ Some A → TellsIfOther before j.name A es fs
       → ((L : Map) → Q L → CountIs (IsConcerned L T X) (is ++ i ∷ []) k)
       → Through Q N T X before (is ++ i ∷ []) qs fs k
   grown is ps qs es fs n k i j A h puts same one is_A told counted =
@@ -94,9 +94,9 @@ follows_at before (x ∷ is) (suc k) i h at = follows_at before is k i h.1 at
 
 -- ---- one path of the list before
 
-made_at_place : (M : Map) (is : List Item) (k : ℕ) (i : Item) → AreMadeIfAny M is → slice_get is k ≡ Some i → IfSome i.made (IsMade M i.path)
+made_at_place : (M : Map) (is : List Item) (k : ℕ) (i : Item) → AreEncodingsIfAny M is → slice_get is k ≡ Some i → IfSome i.made (IsEncodingOf M i.path)
 made_at_place M [] k i h at = let never : ⊥ = cc in absurd never
-made_at_place M (x ∷ is) zero i h at = let e : x ≡ i = cc in subst (λ (j : Item). IfSome j.made (IsMade M j.path)) e h.0
+made_at_place M (x ∷ is) zero i h at = let e : x ≡ i = cc in subst (λ (j : Item). IfSome j.made (IsEncodingOf M j.path)) e h.0
 made_at_place M (x ∷ is) (suc k) i h at = made_at_place M is k i h.1 at
 
 path_at_place : (is : List Item) (k : ℕ) (i : Item) → AllByRecursion (λ j. IsTrue (is_path j.path.lines)) is → slice_get is k ≡ Some i → IsTrue (is_path i.path.lines)
@@ -118,8 +118,8 @@ module _ (N : Map) (n : IsMap N) (T X : List ℕ) (C : List ChangedLine) (before
   long : length (take place is) ≡ place
   long = length-take-le place is (omega (arith, slice_get_within is place i at))
 
-  is_made : (L : Map) → Q L → (m : Made) → i.made ≡ Some m → IsMade L i.path m
-  is_made L q m e = subst (λ (o : Option Made). IfSome o (IsMade L i.path)) e (made_at_place L is place i q.made at)
+  is_made : (L : Map) → Q L → (m : Made) → i.made ≡ Some m → IsEncodingOf L i.path m
+  is_made L q m e = subst (λ (o : Option Made). IfSome o (IsEncodingOf L i.path)) e (made_at_place L is place i q.made at)
 
   is_a_path : (L : Map) → Q L → IsTrue (is_path i.path.lines)
   is_a_path L q = path_at_place is place i q.paths at
@@ -153,7 +153,7 @@ module _ (N : Map) (n : IsMap N) (T X : List ℕ) (C : List ChangedLine) (before
   to_encode L q (inl none) = By_name none
   to_encode L q (inr f) = concerned L q f.0 f.1 f.2
 
-  through_anew : (ps : List (ℕ × Made)) (es fs : List Entry) (c : ℕ) (m : Made) → Through Q N T X before (take place is) ps es c → ToEncode N T X i.made i.path → IsMade N i.path m → Told before i.name m.answer es fs
+  through_anew : (ps : List (ℕ × Made)) (es fs : List Entry) (c : ℕ) (m : Made) → Through Q N T X before (take place is) ps es c → ToEncode N T X i.made i.path → IsEncodingOf N i.path m → TellsIfOther before i.name m.answer es fs
       → Through Q N T X before (take place is ++ i ∷ []) (ps ++ (place, m) ∷ []) fs (c + 1)
   through_anew ps es fs c m h f made told =
       subst (λ (k : ℕ). Through Q N T X before (take place is ++ i ∷ []) (ps ++ (k, m) ∷ []) fs (c + 1)) long

@@ -16,7 +16,7 @@ use Rattle.olr_spec.specs.Detours.{ChangedLine, Difference, Near}
 use Rattle.olr_spec.specs.Looks.{Look}
 use Rattle.olr_commands.specs.State.{same_name}
 use Rattle.olr_commands.specs.Reply.{Entry, entry}
-use Rattle.olr_paths.specs.Items.{Made, Item, IsMade, AreMadeIfAny, answer_in}
+use Rattle.olr_paths.specs.Items.{Made, Item, IsEncodingOf, AreEncodingsIfAny, answer_in}
 
 abbrev pub with_made : Item → Made → Item
 with_made i m = record i { made = Some m }
@@ -38,7 +38,7 @@ pub record IsBefore (M N : Map) (T X : List ℕ) (C : List ChangedLine) (is : Li
   pub difference : Difference T X C M N
   pub starts : (c : ChangedLine) → Contains C c → IsTrue (has T c.from)
   pub paths : AllByRecursion (λ i. IsTrue (is_path i.path.lines)) is
-  pub made : AreMadeIfAny M is
+  pub made : AreEncodingsIfAny M is
 
 pub data IsConcerned (M : Map) (T X : List ℕ) (i : Item) : Type 0 where
   By_name : i.made ≡ None → IsConcerned M T X i
@@ -46,7 +46,7 @@ pub data IsConcerned (M : Map) (T X : List ℕ) (i : Item) : Type 0 where
   By_line : (x : ℕ) → IsTrue (has X x) → IsTrue (has i.path.lines x) → IsConcerned M T X i
 
 abbrev pub IsRemade : Map → Item → Item → Type 0
-IsRemade N i j = (m : Made) × IsMade N i.path m × (j ≡ with_made i m)
+IsRemade N i j = (m : Made) × IsEncodingOf N i.path m × (j ≡ with_made i m)
 
 abbrev pub AreRemade : Map → List Item → List Item → Type 0
 AreRemade N [] js = js ≡ []

@@ -1,7 +1,7 @@
 -- A list of named paths, each with what is published of it.
---     Made      an answer with its own nodes and looks.        IsMade M P m      they are those of the path on the map
+--     Made      an answer with its own nodes and looks.        IsEncodingOf M P m      they are those of the path on the map
 --     Item      a name, its path and, where it was encoded, what was made.        items l      those of a list
---     AreMade M is      each path was encoded, and rightly for the map.        AreMadeIfAny M is      each that was encoded
+--     AreEncodings M is      each path was encoded, and rightly for the map.        AreEncodingsIfAny M is      each that was encoded
 use Rattle.std.specs.Prelude.{◌≡◌, ℕ, List, [], ◌∷◌, map, Contains, if◌then◌else◌, Option, Some, None, option_map, IfSome, string_bytes, ◌↔◌, ⊤}
 use Rattle.olr_spec.specs.Map.{Map}
 use Rattle.olr_spec.specs.Extension.{Path}
@@ -32,18 +32,18 @@ items l = map (λ e. record { name = string_bytes e.0; path = e.1.path.value; ma
 
 -- ---- what is right on a map
 
-pub record IsMade (M : Map) (P : Path) (m : Made) : Type 0 where
+pub record IsEncodingOf (M : Map) (P : Path) (m : Made) : Type 0 where
   pub answer : Encodes M P m.answer
   pub own : (v : ℕ) → Contains m.own v ↔ OwnOf M P v
   pub looks : LooksOf M P m.looks
 
-abbrev pub AreMade : Map → List Item → Type 0
-AreMade M [] = ⊤
-AreMade M (i ∷ is) = ((m : Made) × (i.made ≡ Some m) × IsMade M i.path m) × AreMade M is
+abbrev pub AreEncodings : Map → List Item → Type 0
+AreEncodings M [] = ⊤
+AreEncodings M (i ∷ is) = ((m : Made) × (i.made ≡ Some m) × IsEncodingOf M i.path m) × AreEncodings M is
 
-abbrev pub AreMadeIfAny : Map → List Item → Type 0
-AreMadeIfAny M [] = ⊤
-AreMadeIfAny M (i ∷ is) = IfSome i.made (IsMade M i.path) × AreMadeIfAny M is
+abbrev pub AreEncodingsIfAny : Map → List Item → Type 0
+AreEncodingsIfAny M [] = ⊤
+AreEncodingsIfAny M (i ∷ is) = IfSome i.made (IsEncodingOf M i.path) × AreEncodingsIfAny M is
 
 -- ---- the list as the register's definitions see it
 

@@ -4,7 +4,7 @@
 --     Stays N T X C m P      no own node and no line of the path is touched, and each look is clear
 --     IsFate, IsStep      what is to be done with a path, and what is done
 --     Rises old new n, OneMore old new      no count falls, and of n encodings no more are spared;  of one
---     Told before name A es fs      an entry behind the others where the answer is not the one that the name had before
+--     TellsIfOther before name A es fs      an entry behind the others where the answer is not the one that the name had before
 use Rattle.std.specs.Prelude.{◌≡◌, ◌≢◌, ℕ, zero, suc, List, [], ◌∷◌, ◌++◌, map, All, ◌+◌, ◌<◌, ◌≤◌, ◌^◌, Option, Some, None, option_map, ◌⊎◌}
 use Rattle.olr_spec.specs.Map.{Map}
 use Rattle.olr_spec.specs.Detours.{ChangedLine}
@@ -13,7 +13,7 @@ use Rattle.olr_spec.specs.Looks.{IsClear}
 use Rattle.olr_commands.specs.Words.{entry_of}
 use Rattle.olr_spec.specs.Encoding.{Answer}
 use Rattle.olr_commands.specs.Reply.{Entry, entry}
-use Rattle.olr_paths.specs.Items.{Made, Item, IsMade, made_of, answer_in}
+use Rattle.olr_paths.specs.Items.{Made, Item, IsEncodingOf, made_of, answer_in}
 use Rattle.olr_paths.specs.Changes.{with_made, OwnTouched, LineTouched, Touches}
 use Rattle.std.specs.declared.alloc.Global.{Global}
 use Rattle.std.specs.declared.rc.Rc.{Rc}
@@ -51,8 +51,8 @@ entries_of r = map entry_of r.entries.items
 abbrev pub renewed : Renewal → List Item → List Item
 renewed r is = all_put is (made_at r)
 
-abbrev pub Told : List Item → List ℕ → Answer → List Entry → List Entry → Type 0
-Told before name A es fs = ((answer_in before name ≡ Some A) × (fs ≡ es)) ⊎ ((answer_in before name ≢ Some A) × (fs ≡ es ++ entry name A ∷ []))
+abbrev pub TellsIfOther : List Item → List ℕ → Answer → List Entry → List Entry → Type 0
+TellsIfOther before name A es fs = ((answer_in before name ≡ Some A) × (fs ≡ es)) ⊎ ((answer_in before name ≢ Some A) × (fs ≡ es ++ entry name A ∷ []))
 
 -- ---- one path
 
@@ -88,5 +88,5 @@ pub record OneMore (old new : Counted) : Type 0 where
 pub data IsStep (N : Map) (T X : List ℕ) (C : List ChangedLine) (before : List Item) (i : Item) (k : ℕ) (r s : Renewal) (c d : Counted) : Type 0 where
   Left : ToStay N T X i.made i.path → s ≡ r → d ≡ c → IsStep N T X C before i k r s c d
   Kept : ToKeep N T X C i.made i.path → s ≡ r → OneMore c d → IsStep N T X C before i k r s c d
-  Anew : ToEncode N T X i.made i.path → (m : Made) → IsMade N i.path m → made_at s ≡ made_at r ++ (k, m) ∷ [] → Told before i.name m.answer (entries_of r) (entries_of s)
+  Anew : ToEncode N T X i.made i.path → (m : Made) → IsEncodingOf N i.path m → made_at s ≡ made_at r ++ (k, m) ∷ [] → TellsIfOther before i.name m.answer (entries_of r) (entries_of s)
       → OneMore c d → IsStep N T X C before i k r s c d

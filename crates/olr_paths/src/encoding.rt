@@ -3,7 +3,7 @@ ghost use Rattle.std.specs.Prelude.{◌≡◌, ◌+◌, ◌<◌, ◌≤◌, ◌^
 ghost use Rattle.std.specs.Result.{result_ok};
 ghost use Rattle.olr_refs.specs.Answers.{answer_of};
 ghost use Rattle.olr_commands.specs.Reply.{published};
-ghost use Rattle.olr_paths.specs.Items.{IsMade, made_of};
+ghost use Rattle.olr_paths.specs.Items.{IsEncodingOf, made_of};
 
 use crate::published::Published;
 use olr_binary::text::to_text;
@@ -33,7 +33,7 @@ pub fn publish<M: MapRead>(
     search: &mut Search,
     work: &mut Work,
 ) -> Result<Published, AllocError>
-    ensures made { IfOk result (λ p. IsMade (M.map map.now) path.now (made_of p)) }
+    ensures made { IfOk result (λ p. IsEncodingOf (M.map map.now) path.now (made_of p)) }
     ensures counted { OnOk result
         (work.old.encodings + 1 < 2 ^ 64 → work.new.encodings ≡ work.old.encodings + 1) }
     ensures searches { OnOk result (work.old.searches ≤ work.new.searches) }

@@ -16,7 +16,7 @@ ghost use Rattle.olr_paths.specs.Finding.{AreNotedAt};
 ghost use Rattle.std.specs.List.Sorted.{IsNonDecreasing};
 ghost use Rattle.std.specs.Prelude.{vec_len, vec_capacity};
 ghost use Rattle.olr_paths.specs.Beginning.{Begins, BeginsPut, AreFar, begun_in};
-ghost use Rattle.olr_paths.specs.Renewing.{item_of, all_put, puts_of, made_at, renewed, Told, Stays, IsFate, IsStep, OneMore};
+ghost use Rattle.olr_paths.specs.Renewing.{item_of, all_put, puts_of, made_at, renewed, TellsIfOther, Stays, IsFate, IsStep, OneMore};
 
 use crate::asking::{line_touched, own_touched, search_near, touches};
 use crate::begins::note_fresh;
@@ -132,7 +132,7 @@ pub(crate) fn tell(
     published: &Published,
     entries: &mut Vec<Entry>,
 ) -> Result<(), AllocError>
-    ensures { OnOk result (Told (items before.now) name.now (made_of published.now).answer
+    ensures { OnOk result (TellsIfOther (items before.now) name.now (made_of published.now).answer
         (list_map entry_of entries.old.items) (list_map entry_of entries.new.items)) }
 {
     if had_answer(before, name, published) {
@@ -608,7 +608,7 @@ impl Listing {
         Ok(entries)
     }
 
-    /// The same for the list under changes, which takes the list's place. Told are those whose answer is another than the one
+    /// The same for the list under changes, which takes the list's place. TellsIfOther are those whose answer is another than the one
     /// that their name had. After a refusal list and counts are as before.
     pub fn renew_over<M: MapRead>(
         &mut self,

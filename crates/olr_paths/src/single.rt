@@ -4,7 +4,7 @@ ghost use Rattle.olr_spec.specs.Encoding.{Answer};
 ghost use Rattle.olr_commands.specs.State.{path_named};
 ghost use Rattle.olr_commands.specs.Reply.{entry};
 ghost use Rattle.olr_commands.specs.Words.{entry_of};
-ghost use Rattle.olr_paths.specs.Items.{Made, IsMade, items, made_of, all_named, answer_in};
+ghost use Rattle.olr_paths.specs.Items.{Made, IsEncodingOf, items, made_of, all_named, answer_in};
 ghost use Rattle.olr_paths.specs.Changes.{set_item};
 ghost use Rattle.olr_paths.specs.Beginning.{Begins, begun_in};
 
@@ -32,7 +32,7 @@ impl Listing {
         work: &mut Work,
     ) -> Result<Vec<Entry>, AllocError>
         requires { is_some (path_named (all_named (items self.old)) (string_bytes name)) ≡ false }
-        ensures added { IfOk result (λ es. (m : Made) × IsMade (M.map map.now) path m
+        ensures added { IfOk result (λ es. (m : Made) × IsEncodingOf (M.map map.now) path m
             × (items self.new ≡ items self.old ++ record { name = string_bytes name; path = path; made = Some m } ∷ [])
             × (list_map entry_of es.items ≡ entry (string_bytes name) m.answer ∷ [])) }
         ensures counted { OnOk result
@@ -71,7 +71,7 @@ impl Listing {
         work: &mut Work,
     ) -> Result<Vec<Entry>, AllocError>
         requires { (A : Answer) × (answer_in (items self.old) name.now ≡ Some A) }
-        ensures set { IfOk result (λ es. (m : Made) × IsMade (M.map map.now) path m
+        ensures set { IfOk result (λ es. (m : Made) × IsEncodingOf (M.map map.now) path m
             × (items self.new ≡ list_map (set_item name.now path (Some m)) (items self.old))
             × (((answer_in (items self.old) name.now ≡ Some m.answer) × (list_map entry_of es.items ≡ []))
             ⊎ ((answer_in (items self.old) name.now ≢ Some m.answer)

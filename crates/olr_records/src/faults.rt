@@ -1,6 +1,6 @@
 //! Why a record is no command, and the texts of refusals.
 ghost use Rattle.std.specs.Prelude.{◌≡◌};
-ghost use Rattle.olr_commands.specs.Words.{fault_of, map_fault_of, text_fault_of};
+ghost use Rattle.olr_commands.specs.Words.{command_fault_of, map_fault_of, text_fault_of};
 ghost use Rattle.olr_records.specs.ReplyText as texts;
 ghost use Rattle.olr_records.specs.Words.{read_fault_of};
 
@@ -51,7 +51,7 @@ const MEMORY: &str = "fault,13,Memory\n";
 
 /// The line of a refused command. It takes no memory, so that want of memory can be told too.
 pub fn fault_text(fault: CommandFault) -> &'static str
-    ensures { result.now ≡ texts.fault_text (fault_of fault) }
+    ensures { result.now ≡ texts.fault_text (command_fault_of fault) }
 {
     match fault {
         CommandFault::Map(fault) => map_fault_text(fault),

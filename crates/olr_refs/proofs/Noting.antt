@@ -13,7 +13,7 @@ use Rattle.std.proofs.lemmas.Map.Views.{Contains-from_any, list_any-from_Contain
 use Rattle.olr_spec.specs.Map.{Map, end}
 use Rattle.olr_spec.specs.Walks.{Walk, dm_of}
 use Rattle.olr_spec.specs.Extension.{limit}
-use Rattle.olr_spec.specs.Points.{Next, Follow, NoNext, last_point, stretch}
+use Rattle.olr_spec.specs.Points.{Next, Follow, NoNext, last_position, stretch}
 use Rattle.olr_spec.specs.Footprint.{Reach, Searched}
 use Rattle.olr_spec.specs.Looks.{Look, IsLastTested, IsLook, LooksFrom, looking}
 use Rattle.olr_spec.proofs.ListLemmas.{has_here}
@@ -161,7 +161,7 @@ led_follow : (M : Map) (ls : List ℕ) (i k : ℕ) (js : List ℕ) → Led M ls 
 led_follow M ls i k [] l n = subst (NoNext M ls) (sym l) n
 led_follow M ls i k (j ∷ js) l n = (l.0, led_follow M ls j k js l.1 n)
 
-led_last : (M : Map) (ls : List ℕ) (i k : ℕ) (js : List ℕ) → Led M ls i js k → last_point i js ≡ k
+led_last : (M : Map) (ls : List ℕ) (i k : ℕ) (js : List ℕ) → Led M ls i js k → last_position i js ≡ k
 led_last M ls i k [] l = l
 led_last M ls i k (j ∷ js) l = led_last M ls j k js l.1
 
@@ -246,5 +246,5 @@ follows M ls points last l n = led_follow M ls 0 last points l n
 pub follows_end : (M : Map) (ls points : List ℕ) (last : ℕ) → Led M ls 0 points last → length ls ≤ last → Follow M ls 0 points
 follows_end M ls points last l h = led_follow M ls 0 last points l (no_next_end M ls last h)
 
-pub last_is : (M : Map) (ls points : List ℕ) (last : ℕ) → Led M ls 0 points last → last_point 0 points ≡ last
+pub last_is : (M : Map) (ls points : List ℕ) (last : ℕ) → Led M ls 0 points last → last_position 0 points ≡ last
 last_is M ls points last l = led_last M ls 0 last points l

@@ -5,10 +5,10 @@ use Rattle.std.specs.Prelude.{IsTrue, nat_lt, Result, Ok, Err, IfOk, OnOk}
 use Rattle.olr_spec.specs.Map.{Map, IsMap, Agree, has_line}
 use Rattle.olr_spec.specs.Walks.{dm_of}
 use Rattle.olr_spec.specs.Extension.{Path, Tried, is_path, extended}
-use Rattle.olr_spec.specs.Points.{Follow, last_point, OfPath}
+use Rattle.olr_spec.specs.Points.{Follow, last_position, OfPath}
 use Rattle.olr_spec.specs.Reference.{Reference, legs, reference, kept}
 use Rattle.olr_spec.specs.Encoding as spec
-use Rattle.olr_spec.specs.Encoding.{first_unknown, first_break, path_fault, answer_of, Encoding, Encodes}
+use Rattle.olr_spec.specs.Encoding.{first_unknown, first_break, path_fault, answer_by_points, Encoding, Encodes}
 use Rattle.olr_spec.specs.Joins.{Joins}
 use Rattle.olr_spec.specs.Footprint.{Searched, Within_reach, Foot, FootOf}
 use Rattle.olr_spec.specs.Looks.{Look, IsLook, Own, OwnOf, OwnOfExtended, LooksFrom, LooksOf, LooksOfExtended, looking}
@@ -43,15 +43,15 @@ whole_short M P E F G is none x =
 -- ---- the answer
 
 -- the points lead to the end, and this is their reference
-pub points_answer : (M : Map) (E : Path) (ls ps : List ℕ) (r : Reference) → ls ≡ E.lines → ForPoints M ls (λ js. (last_point 0 js ≡ length ls) × (ps ≡ 0 ∷ js))
-    → r ≡ reference (legs M E.lines) E.pos E.neg (later ps) → ForPoints M E.lines (λ js. spec.Points r ≡ answer_of M E js)
+pub points_answer : (M : Map) (E : Path) (ls ps : List ℕ) (r : Reference) → ls ≡ E.lines → ForPoints M ls (λ js. (last_position 0 js ≡ length ls) × (ps ≡ 0 ∷ js))
+    → r ≡ reference (legs M E.lines) E.pos E.neg (later ps) → ForPoints M E.lines (λ js. spec.Points r ≡ answer_by_points M E js)
 points_answer M E ls ps r e c a =
-    let end : last_point 0 c.0 ≡ length E.lines = c.2.0 ∙ ap length e in
+    let end : last_position 0 c.0 ≡ length E.lines = c.2.0 ∙ ap length e in
     let is : r ≡ reference (legs M E.lines) E.pos E.neg c.0 = a ∙ ap (λ (qs : List ℕ). reference (legs M E.lines) E.pos E.neg (later qs)) c.2.1 in
-    let test : (last_point 0 c.0 == length E.lines) ≡ true = eq-eqb _ _ end in (
+    let test : (last_position 0 c.0 == length E.lines) ≡ true = eq-eqb _ _ end in (
       c.0,
       subst (λ (xs : List ℕ). Follow M xs 0 c.0) e c.1,
-      ap spec.Points is ∙ sym (ap (λ (b : Bool). cond b (spec.Points (reference (legs M E.lines) E.pos E.neg c.0)) (spec.Refused (spec.No_next_point (last_point 0 c.0)))) test),
+      ap spec.Points is ∙ sym (ap (λ (b : Bool). cond b (spec.Points (reference (legs M E.lines) E.pos E.neg c.0)) (spec.Refused (spec.No_next_point (last_position 0 c.0)))) test),
     )
 
 -- what holds of the extension and its points, whatever the tried chains
@@ -66,14 +66,14 @@ of_path M P E F G Q x a =
       holds = subst (λ (e : Path). Q e a.0) x.path a.2;
     }
 
-pub encoding_of : (M : Map) (P E : Path) (F G : List ℕ) (A : spec.Answer) → Extends M P E F G → ForPoints M E.lines (λ js. A ≡ answer_of M E js) → Encoding M P A
-encoding_of M P E F G A x a = of_path M P E F G (λ e js. A ≡ answer_of M e js) x a
+pub encoding_of : (M : Map) (P E : Path) (F G : List ℕ) (A : spec.Answer) → Extends M P E F G → ForPoints M E.lines (λ js. A ≡ answer_by_points M E js) → Encoding M P A
+encoding_of M P E F G A x a = of_path M P E F G (λ e js. A ≡ answer_by_points M e js) x a
 
-pub joins_of : (M : Map) (P E : Path) (F G : List ℕ) (A : Answer) → Extends M P E F G → ForPoints M E.lines (λ js. answers.answer_of A ≡ answer_of M E js) → JoinsOf M P A
+pub joins_of : (M : Map) (P E : Path) (F G : List ℕ) (A : Answer) → Extends M P E F G → ForPoints M E.lines (λ js. answers.answer_of A ≡ answer_by_points M E js) → JoinsOf M P A
 joins_of M P E F G (Refused f) x a = tt
 joins_of M P E F G (Points r) x a =
     let end = (answered M E a.0 r a.2).0 in
-    of_path M P E F G (λ e js. (last_point 0 js ≡ length e.lines) × Joins M e.lines (kept (legs M e.lines) e.pos e.neg js)) x
+    of_path M P E F G (λ e js. (last_position 0 js ≡ length e.lines) × Joins M e.lines (kept (legs M e.lines) e.pos e.neg js)) x
     (a.0, a.1, (end, routes_join M E.lines a.0 E.pos E.neg a.1 end))
 
 -- ---- the own nodes, and the looks

@@ -6,7 +6,7 @@ use Rattle.std.proofs.lemmas.List.{take-map, take_all, get_or-take, get_or-drop}
 use Rattle.std.specs.List.{slice_index, slice_range, filter}
 use Rattle.olr_spec.specs.Map.{Map}
 use Rattle.olr_spec.specs.Walks.{dm_of}
-use Rattle.olr_spec.specs.Points.{Candidate, last_point}
+use Rattle.olr_spec.specs.Points.{Candidate, last_position}
 use Rattle.olr_spec.specs.Reference.{leg, legs, dm_along, from_front, to_back, last_where, first_where, first_kept, last_kept, kept, reference, reference_by}
 use Rattle.olr_spec.proofs.JoinLemmas.{Linked, follow_linked, between}
 use Rattle.olr_spec.proofs.KeptLemmas.{dm_along-legs, whole}
@@ -54,7 +54,7 @@ linked_less M ls ps l j k h g =
     let on : suc (j + (k - suc j)) ≡ k = omega arith in
     subst (λ (n : ℕ). slice_index ps j < slice_index ps n) on (linked_rise M ls ps l j (k - suc j) (omega arith))
 
-last_index : (i : ℕ) (js : List ℕ) → slice_index (i ∷ js) (length js) ≡ last_point i js
+last_index : (i : ℕ) (js : List ℕ) → slice_index (i ∷ js) (length js) ≡ last_position i js
 last_index i [] = refl
 last_index i (j ∷ js) = last_index j js
 

@@ -7,7 +7,7 @@
 --     Searches old new n size      n searches more, each of which labelled at most `size` nodes
 use Rattle.std.specs.Prelude.{◌≡◌, ◌≢◌, ℕ, zero, suc, ◌+◌, ◌*◌, ◌≤◌, List, [], ◌∷◌, ◌++◌, length, count_by, nat_lt, Contains}
 use Rattle.olr_spec.specs.Map.{Map}
-use Rattle.olr_spec.specs.Points.{Follow, last_point}
+use Rattle.olr_spec.specs.Points.{Follow, last_position}
 use Rattle.olr_spec.specs.Footprint.{Searched}
 use Rattle.olr_spec.specs.Looks.{Look, LooksFrom, looking}
 use Rattle.olr_route.specs.declared.work.Work.{Work}
@@ -19,8 +19,8 @@ abbrev pub ForPoints : Map → List ℕ → (List ℕ → Type 0) → Type 0
 ForPoints M ls P = (js : List ℕ) × Follow M ls 0 js × P js
 
 abbrev pub IsChoice : List ℕ → List ℕ → Choice → Type 0
-IsChoice ls js (Positions ps) = (last_point 0 js ≡ length ls) × (ps.items ≡ 0 ∷ js)
-IsChoice ls js (NoNext k) = (last_point 0 js ≢ length ls) × (k ≡ last_point 0 js)
+IsChoice ls js (Positions ps) = (last_position 0 js ≡ length ls) × (ps.items ≡ 0 ∷ js)
+IsChoice ls js (NoNext k) = (last_position 0 js ≢ length ls) × (k ≡ last_position 0 js)
 
 abbrev pub searches_of : List ℕ → List ℕ → ℕ
 searches_of ls is = count_by (λ i. nat_lt (i + 2) (length ls)) is

@@ -8,7 +8,7 @@
 --     AreTrimmed ds ps positive negative ks pos_left neg_left      ks are the points from the one to the other, and so much is left of the offsets
 use Rattle.std.specs.Prelude.{◌≡◌, ℕ, ◌+◌, ◌-◌, ◌<◌, ◌≤◌, List, [], ◌∷◌, length, slice_index, slice_range}
 use Rattle.olr_spec.specs.Map.{Map}
-use Rattle.olr_spec.specs.Points.{Candidate, Follow, last_point}
+use Rattle.olr_spec.specs.Points.{Candidate, Follow, last_position}
 
 abbrev pub later : List ℕ → List ℕ
 later [] = []
@@ -17,7 +17,7 @@ later (p ∷ ps) = ps
 pub record ArePoints (M : Map) (ls ps : List ℕ) : Type 0 where
   pub from_start : ps ≡ 0 ∷ later ps
   pub follow : Follow M ls 0 (later ps)
-  pub to_end : last_point 0 (later ps) ≡ length ls
+  pub to_end : last_position 0 (later ps) ≡ length ls
 
 abbrev pub AreLinked : Map → List ℕ → List ℕ → Type 0
 AreLinked M ls ps = (k : ℕ) → k + 1 < length ps → Candidate M ls (slice_index ps k) (slice_index ps (k + 1))

@@ -5,7 +5,7 @@ ghost use Rattle.olr_spec.specs.Encoding.{path_fault, Encoding as EncodingRecord
 ghost use Rattle.olr_spec.specs.Footprint.{Foot, FootOf, Searched};
 ghost use Rattle.olr_spec.specs.Looks.{LooksFrom, LooksOf, LooksOfExtended, OwnOf, OwnOfExtended, looking};
 ghost use Rattle.olr_refs.specs.Answers.{answer_of};
-ghost use Rattle.olr_spec.specs.Encoding.{answer_of as answer_along};
+ghost use Rattle.olr_spec.specs.Encoding.{answer_by_points as answer_along};
 ghost use Rattle.olr_spec.specs.Walks.{dm_of};
 ghost use Rattle.olr_refs.specs.Along.{AreJoined};
 ghost use Rattle.olr_refs.specs.Choice.{ForPoints, IsChoice, Looked, raised};

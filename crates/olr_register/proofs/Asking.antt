@@ -10,13 +10,13 @@ use Rattle.olr_map.specs.RoadMaps.{map_of}
 use Rattle.olr_map.specs.declared.road_map.RoadMap.{RoadMap}
 use Rattle.olr_commands.specs.State.{Named, Content, IsContent, same_name, path_named}
 use Rattle.olr_commands.specs.Reply.{Entry, entry, Published, PublishedText, published, Shown, AllOf}
-use Rattle.olr_paths.specs.Items.{Made, Item, AreMade, all_named, made_in, answer_in}
+use Rattle.olr_paths.specs.Items.{Made, Item, AreEncodings, all_named, made_in, answer_in}
 use Rattle.olr_paths.specs.Changes.{AreEncoded, Reported}
 use Rattle.olr_register.specs.Holding.{map_kept}
 use Rattle.olr_register.specs.declared.batch.Batch.{Batch}
 use Rattle.olr_register.proofs.Replies.{answer_held, reported_all}
 
-pub answer_published : (M : Map) (is : List Item) (name : List ℕ) → AreMade M is → Published (record { map = M; paths = all_named is }) name (answer_in is name)
+pub answer_published : (M : Map) (is : List Item) (name : List ℕ) → AreEncodings M is → Published (record { map = M; paths = all_named is }) name (answer_in is name)
 answer_published M [] name made = refl
 answer_published M (i ∷ is) name made =
     elim (same_name i.name name) as (λ b. MatchOption (cond b (Some i.path) (path_named (all_named is) name)) (option_map (λ (m : Made). m.answer) (cond b i.made (made_in is name)) ≡ None)
@@ -26,7 +26,7 @@ answer_published M (i ∷ is) name made =
     ]
 
 -- the text that is kept is that of the answer
-pub text_published : (M : Map) (is : List Item) (name : List ℕ) (text : Option (List ℕ)) → AreMade M is
+pub text_published : (M : Map) (is : List Item) (name : List ℕ) (text : Option (List ℕ)) → AreEncodings M is
     → text ≡ option_and_then (λ (A : Answer). result_ok (published A)) (answer_in is name) → PublishedText (record { map = M; paths = all_named is }) name text
 text_published M is name text made e = (answer_in is name, answer_published M is name made, e)
 
@@ -36,12 +36,12 @@ names_of_all (i ∷ is) = ap (λ (ns : List (List ℕ)). i.name ∷ ns) (names_o
 
 -- ---- of a register whose content this is
 
-pub answer_is : (M : Map) (is : List Item) (c : Content) (name : List ℕ) (o : Option Answer) → record { map = M; paths = all_named is } ≡ c → AreMade M is
+pub answer_is : (M : Map) (is : List Item) (c : Content) (name : List ℕ) (o : Option Answer) → record { map = M; paths = all_named is } ≡ c → AreEncodings M is
     → o ≡ answer_in is name → Published c name o
 answer_is M is c name o e made there =
     subst (λ (d : Content). Published d name o) e (subst (Published (record { map = M; paths = all_named is }) name) (sym there) (answer_published M is name made))
 
-pub text_is : (M : Map) (is : List Item) (c : Content) (name : List ℕ) (text : Option (List ℕ)) → record { map = M; paths = all_named is } ≡ c → AreMade M is
+pub text_is : (M : Map) (is : List Item) (c : Content) (name : List ℕ) (text : Option (List ℕ)) → record { map = M; paths = all_named is } ≡ c → AreEncodings M is
     → text ≡ option_and_then (λ (A : Answer). result_ok (published A)) (answer_in is name) → PublishedText c name text
 text_is M is c name text e made there = subst (λ (d : Content). PublishedText d name text) e (text_published M is name text made there)
 
@@ -51,7 +51,7 @@ name_is M is c k e = ap (λ (ns : List (List ℕ)). slice_get ns k) (sym (names_
 
 -- ---- where every path was encoded
 
-pub some_answer_in : (M : Map) (is : List Item) (name : List ℕ) → AreMade M is → is_some (path_named (all_named is) name) ≡ true → (A : Answer) × (answer_in is name ≡ Some A)
+pub some_answer_in : (M : Map) (is : List Item) (name : List ℕ) → AreEncodings M is → is_some (path_named (all_named is) name) ≡ true → (A : Answer) × (answer_in is name ≡ Some A)
 some_answer_in M [] name made h = absurd cc
 some_answer_in M (i ∷ is) name made h =
     elim (same_name i.name name) as (λ b. is_some (cond b (Some i.path) (path_named (all_named is) name)) ≡ true → (A : Answer) × (option_map (λ (m : Made). m.answer) (cond b i.made (made_in is name)) ≡ Some A)) [
@@ -59,16 +59,16 @@ some_answer_in M (i ∷ is) name made h =
       | false ↦ λ e. some_answer_in M is name made.1 e
     ] h
 
-pub all_encoded : (M : Map) (is : List Item) → AreMade M is → AreEncoded is
+pub all_encoded : (M : Map) (is : List Item) → AreEncodings M is → AreEncoded is
 all_encoded M [] made = tt
 all_encoded M (i ∷ is) made = ((λ none. let no : ◌≡◌ {A = Option Made} (Some made.0.0) None = sym made.0.1 ∙ none in absurd cc), all_encoded M is made.1)
 
 pub shown_entry : (M : Map) (is : List Item) (c : Content) (name : List ℕ) (A : Answer) (es : List Entry) → record { map = M; paths = all_named is } ≡ c → IsContent (record { map = M; paths = all_named is })
-    → AreMade M is → answer_in is name ≡ Some A → es ≡ entry name A ∷ [] → Shown c name es
+    → AreEncodings M is → answer_in is name ≡ Some A → es ≡ entry name A ∷ [] → Shown c name es
 shown_entry M is c name A es e sound made there told =
     subst (λ (d : Content). Shown d name es) e (A, (answer_held M is sound made name A).1 there, told)
 
-pub all_told : (M : Map) (is : List Item) (c : Content) (es : List Entry) → record { map = M; paths = all_named is } ≡ c → AreMade M is → Reported [] is es → AllOf c.map c.paths es
+pub all_told : (M : Map) (is : List Item) (c : Content) (es : List Entry) → record { map = M; paths = all_named is } ≡ c → AreEncodings M is → Reported [] is es → AllOf c.map c.paths es
 all_told M is c es e made told = subst (λ (d : Content). AllOf d.map d.paths es) e (reported_all M is es made told)
 
 -- ---- the footprint of a path, where no batch is open

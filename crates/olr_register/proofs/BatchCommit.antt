@@ -14,7 +14,7 @@ use Rattle.olr_commands.specs.Words.{entry_of, reply_of}
 use Rattle.olr_commands.specs.declared.reply.Entry.{Entry}
 use Rattle.olr_commands.specs.declared.reply.Reply.{Reply}
 use Rattle.olr_commands.specs.declared.fault.CommandFault.TheVariants as rust
-use Rattle.olr_paths.specs.Items.{Item, AreMade, all_named}
+use Rattle.olr_paths.specs.Items.{Item, AreEncodings, all_named}
 use Rattle.olr_paths.specs.Laying.{overlaid}
 use Rattle.olr_paths.specs.Changes.{IsBefore, IsConcerned, AreRemade, Reported}
 use Rattle.olr_paths.specs.Touching.{nodes_of, lines_of, changed_of}
@@ -78,8 +78,8 @@ committed c roads new b is js xs i same names =
     sym i.content ∙ ap (content_from (map_of roads)) (named_twice (overlaid is b.overlay) ∙ sym names)
     ∙ ap (λ (M : Map). content_on M js) (sym same)
 
-made_after : (roads new : RoadMap) (is js : List Item) (b : Batch) → map_of new ≡ map_of roads → AreRemade (map_of roads) (overlaid is b.overlay) js → AreMade (map_of new) js
-made_after roads new is js b same remade = subst (λ (M : Map). AreMade M js) (sym same) (remade_made (map_of roads) (overlaid is b.overlay) js remade)
+made_after : (roads new : RoadMap) (is js : List Item) (b : Batch) → map_of new ≡ map_of roads → AreRemade (map_of roads) (overlaid is b.overlay) js → AreEncodings (map_of new) js
+made_after roads new is js b same remade = subst (λ (M : Map). AreEncodings M js) (sym same) (remade_made (map_of roads) (overlaid is b.overlay) js remade)
 
 sound_after : (roads new : RoadMap) (is js : List Item) (b : Batch) → IsRegister roads is (Some b) → map_of new ≡ map_of roads
     → all_named js ≡ all_named (overlaid is b.overlay) → IsContent (content_on (map_of new) js)

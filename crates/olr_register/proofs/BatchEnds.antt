@@ -12,11 +12,11 @@ use Rattle.olr_commands.specs.Reply as replies
 use Rattle.olr_commands.specs.Reply.{IsRefusal, Told}
 use Rattle.olr_commands.specs.Kept.{named_held, IsBatchOf}
 use Rattle.olr_commands.specs.Registered.{Registered}
-use Rattle.olr_commands.specs.Words.{fault_of, reply_of}
+use Rattle.olr_commands.specs.Words.{command_fault_of, reply_of}
 use Rattle.olr_commands.specs.declared.reply.Reply.{Reply}
 use Rattle.olr_commands.specs.declared.fault.CommandFault.{CommandFault}
 use Rattle.olr_commands.specs.declared.fault.CommandFault.TheVariants as rust
-use Rattle.olr_paths.specs.Items.{Made, Item, AreMade, AreMadeIfAny}
+use Rattle.olr_paths.specs.Items.{Made, Item, AreEncodings, AreEncodingsIfAny}
 use Rattle.olr_paths.specs.Beginning.{Begins}
 use Rattle.olr_paths.specs.Laying.{overlaid}
 use Rattle.olr_paths.specs.Changes.{Follows}
@@ -45,11 +45,11 @@ at old is o p w x result new e h = subst (λ (q : Option Batch). Answered (of_pa
 -- ---- none is open
 
 pub none_refused : (old : RoadMap) (is : List Item) (o p : Option Batch) (w : Tally) (x : Command) (f : CommandFault)
-    → o ≡ None → p ≡ None → step (state (content_on (map_of old) is) None) x ≡ Err (fault_of f) → Answered (of_parts old is o w) x (Err f) (of_parts old is p w)
+    → o ≡ None → p ≡ None → step (state (content_on (map_of old) is) None) x ≡ Err (command_fault_of f) → Answered (of_parts old is o w) x (Err f) (of_parts old is p w)
 none_refused old is o p w x f e g told =
     let c = content_on (map_of old) is in
     at old is o None w x (Err f) (of_parts old is p w) e
-    (refused (of_parts old is None w) (of_parts old is p w) x f (ap (λ (q : Option Batch). of_parts old is q w) g) (no_batch c (λ s. IsRefusal s x (fault_of f)) (Told told)))
+    (refused (of_parts old is None w) (of_parts old is p w) x f (ap (λ (q : Option Batch). of_parts old is q w) g) (no_batch c (λ s. IsRefusal s x (command_fault_of f)) (Told told)))
 
 -- ---- abort
 
@@ -77,7 +77,7 @@ given_held old new is o b d e reg same held =
     let was : IsRegister old is (Some b) = subst (IsRegister old is) e reg in
     record {
       content = subst (λ (M : Map). IsContent (content_on M is)) (sym same) was.content;
-      made = subst (λ (M : Map). AreMade M is) (sym same) was.made;
+      made = subst (λ (M : Map). AreEncodings M is) (sym same) was.made;
       held = held was.held;
     }
 
@@ -101,11 +101,11 @@ pub record IsEmpty (b : Batch) : Type 0 where
   pub lines : lines_of b.touched ≡ []
   pub changed : changed_of b.touched ≡ []
 
-given_at_first : (M : Map) (is : List Item) → AreMade M is → AreGiven [] (map held_of is)
+given_at_first : (M : Map) (is : List Item) → AreEncodings M is → AreGiven [] (map held_of is)
 given_at_first M [] a = tt
 given_at_first M (i ∷ is) a = (ap (λ (o : Option Made). is_none o) a.0.1, given_at_first M is a.1)
 
-empty_batch : (roads : RoadMap) (is : List Item) (b : Batch) → AreMade (map_of roads) is → IsEmpty b → IsBatchOf (content_on (map_of roads) is) (batch_of roads is b) []
+empty_batch : (roads : RoadMap) (is : List Item) (b : Batch) → AreEncodings (map_of roads) is → IsEmpty b → IsBatchOf (content_on (map_of roads) is) (batch_of roads is b) []
 empty_batch roads is b a e =
     record {
       content = ap (λ (ps : List Named). content_from (map_of roads) ps) (ap (λ (ks : List Item). map named_held (map held_of ks)) (e.paths is) ∙ named_twice is);
@@ -124,7 +124,7 @@ begun_held roads is None b none r e =
     let same = same_before roads b e.log in
     record {
       content = subst (λ (M : Map). IsContent (content_on M is)) (sym same) r.content;
-      made = subst (λ (M : Map). AreMade M is) (sym same) r.made;
+      made = subst (λ (M : Map). AreEncodings M is) (sym same) r.made;
       held = record {
         undo = (
           subst (CanMakeAll (map_of roads) (room_of roads.tables)) (sym e.log) tt,
@@ -135,7 +135,7 @@ begun_held roads is None b none r e =
         sound = subst (λ (ks : List Item). IsContent (content_on (map_of roads) ks)) (sym (e.paths is)) r.content;
         few = let none_yet = e.count in omega arith;
         noted = coe 0 1 (i. IsNoted (sym same i) (map_of roads) (sym e.nodes i) (sym e.lines i) (sym e.changed i)) (noted_none (map_of roads));
-        made = subst (λ (M : Map). AreMadeIfAny M (overlaid is b.overlay)) (sym same) (subst (AreMadeIfAny (map_of roads)) (sym (e.paths is)) (made_if_any (map_of roads) is r.made));
+        made = subst (λ (M : Map). AreEncodingsIfAny M (overlaid is b.overlay)) (sym same) (subst (AreEncodingsIfAny (map_of roads)) (sym (e.paths is)) (made_if_any (map_of roads) is r.made));
         follows = subst (Follows is) (sym (e.paths is)) (follows_self is r.content.names);
         begins = λ v b. subst (λ (ks : List Item). Begins ks v) (e.paths is) b;
       };

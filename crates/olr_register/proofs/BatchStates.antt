@@ -6,7 +6,7 @@ use Rattle.olr_commands.specs.Reply.{IsRefusal, Told, Lacks, may_lack, IsOutcome
 use Rattle.olr_commands.specs.Counts.{Concerns, By_name, By_node, By_line, CountIs, Raises}
 use Rattle.olr_commands.specs.Kept.{Kept, Batch, IsBatchOf, StandsIn, Stands}
 use Rattle.olr_commands.specs.Registered.{Registered}
-use Rattle.olr_commands.specs.Words.{fault_of, reply_of}
+use Rattle.olr_commands.specs.Words.{command_fault_of, reply_of}
 use Rattle.olr_commands.specs.declared.reply.Reply.{Reply}
 use Rattle.olr_commands.specs.declared.fault.CommandFault.{CommandFault}
 use Rattle.olr_register.specs.Answering.{Answered}
@@ -35,7 +35,7 @@ no_batch c P p s h = subst (λ (d : Content). P (state d s.batch)) h.0 (by_batch
 
 -- ---- refused
 
-pub refused : (old new : Registered) (x : Command) (f : CommandFault) → new ≡ old → ((s : State) → Stands old.kept s → IsRefusal s x (fault_of f)) → Answered old x (Err f) new
+pub refused : (old new : Registered) (x : Command) (f : CommandFault) → new ≡ old → ((s : State) → Stands old.kept s → IsRefusal s x (command_fault_of f)) → Answered old x (Err f) new
 refused old new x f same r = subst (λ (n : Registered). Answered old x (Err f) n) (sym same) (record { outcome = λ s h. (s, h, (r s h, refl)); counted = tt; spares = tt; rises = tt; same = tt; unchanged = refl })
 
 -- ---- accepted, and nothing brought

@@ -6,10 +6,10 @@ use Rattle.std.proofs.lemmas.List.Folds.{list_any-append}
 use Rattle.olr_spec.specs.Extension.{has}
 use Rattle.olr_commands.specs.State.{Content, Fault, Batch_full, full, when, Change, On_map, Add_path, Set_path, Drop_path, changed, next, after, State, Make, held, step, brought}
 use Rattle.olr_commands.specs.Reply as replies
-use Rattle.olr_commands.specs.Reply.{IsRefusal, IsOutcome, IsHeld, takes_memory, may_want, may_lack, is_told_first}
-use Rattle.olr_commands.specs.Counts.{nodes_of, lines_of, names_of, all_nodes, all_lines, all_names}
+use Rattle.olr_commands.specs.Reply.{IsRefusal, IsOutcome, IsChangeReply, takes_memory, may_want, may_lack, is_told_first}
+use Rattle.olr_commands.specs.Counts.{nodes_of_change, lines_of_change, names_of_change, all_nodes, all_lines, all_names}
 use Rattle.olr_commands.specs.Kept.{Batch, IsBatchOf, Stands, content_of}
-use Rattle.olr_commands.specs.Words.{fault_of, reply_of}
+use Rattle.olr_commands.specs.Words.{command_fault_of, reply_of}
 use Rattle.olr_commands.specs.declared.reply.Reply.{Reply}
 use Rattle.olr_commands.specs.declared.fault.CommandFault.{CommandFault}
 use Rattle.olr_commands.proofs.StateLemmas.{when_ok, next_ok, after_push, length_push}
@@ -20,9 +20,9 @@ use Rattle.olr_register.proofs.BatchStates.{state, registered, in_batch, refused
 
 -- ---- what is held, with one change more
 
-nodes_push : (c : Content) (xs : List Change) (x : Change) → all_nodes c (xs ++ x ∷ []) ≡ all_nodes c xs ++ nodes_of (after c xs).map x
-nodes_push c [] x = append-nil (nodes_of c.map x)
-nodes_push c (y ∷ xs) x = ap (λ (vs : List ℕ). nodes_of c.map y ++ vs) (nodes_push (next c y) xs x) ∙ sym (append_assoc (nodes_of c.map y) (all_nodes (next c y) xs) (nodes_of (after (next c y) xs).map x))
+nodes_push : (c : Content) (xs : List Change) (x : Change) → all_nodes c (xs ++ x ∷ []) ≡ all_nodes c xs ++ nodes_of_change (after c xs).map x
+nodes_push c [] x = append-nil (nodes_of_change c.map x)
+nodes_push c (y ∷ xs) x = ap (λ (vs : List ℕ). nodes_of_change c.map y ++ vs) (nodes_push (next c y) xs x) ∙ sym (append_assoc (nodes_of_change c.map y) (all_nodes (next c y) xs) (nodes_of_change (after (next c y) xs).map x))
 
 flat_push : {A : Type 0} (f : Change → List A) (xs : List Change) (x : Change) → flat_map f (xs ++ x ∷ []) ≡ flat_map f xs ++ f x
 flat_push f [] x = append-nil (f x)
@@ -51,12 +51,12 @@ one_more c b d xs x i a =
       content = sym (after_push c xs x ∙ next_ok (after c xs) (content_of d) x there);
       count = omega arith;
       nodes = λ v.
-          a.nodes v ∙ ap (λ (t : Bool). t || has (nodes_of b.map x) v) (i.nodes v) ∙ ap (λ (e : Content). has (all_nodes c xs) v || has (nodes_of e.map x) v) i.content
-          ∙ sym (list_any-append (λ (y : ℕ). y == v) (all_nodes c xs) (nodes_of (after c xs).map x)) ∙ ap (λ (vs : List ℕ). has vs v) (sym (nodes_push c xs x));
+          a.nodes v ∙ ap (λ (t : Bool). t || has (nodes_of_change b.map x) v) (i.nodes v) ∙ ap (λ (e : Content). has (all_nodes c xs) v || has (nodes_of_change e.map x) v) i.content
+          ∙ sym (list_any-append (λ (y : ℕ). y == v) (all_nodes c xs) (nodes_of_change (after c xs).map x)) ∙ ap (λ (vs : List ℕ). has vs v) (sym (nodes_push c xs x));
       lines = λ y.
-          a.lines y ∙ ap (λ (t : Bool). t || has (lines_of x) y) (i.lines y)
-          ∙ sym (list_any-append (λ (z : ℕ). z == y) (all_lines xs) (lines_of x)) ∙ ap (λ (ys : List ℕ). has ys y) (sym (flat_push lines_of xs x));
-      given = subst (λ (names : List (List ℕ)). AreGiven names d.paths) (sym (flat_push names_of xs x)) (a.given (all_names xs) i.given);
+          a.lines y ∙ ap (λ (t : Bool). t || has (lines_of_change x) y) (i.lines y)
+          ∙ sym (list_any-append (λ (z : ℕ). z == y) (all_lines xs) (lines_of_change x)) ∙ ap (λ (ys : List ℕ). has ys y) (sym (flat_push lines_of_change xs x));
+      given = subst (λ (names : List (List ℕ)). AreGiven names d.paths) (sym (flat_push names_of_change xs x)) (a.given (all_names xs) i.given);
     }
 
 -- ---- the answer
@@ -90,4 +90,4 @@ pub answered_given : (c : Content) (b d : Batch) (w : Tally) (x : Change) (r : R
 answered_given c b d w x (Ok r) g = accepted c b d w x r g.added g.reply
 answered_given c b d w x (Err f) g =
     refused (registered c (Some b) w) (registered c (Some d) w) (Make x) f (ap (λ (e : Batch). registered c (Some e) w) g.unchanged)
-    (in_batch c b (λ s. IsRefusal s (Make x) (fault_of f)) (refusal c b x (fault_of f) g.refused))
+    (in_batch c b (λ s. IsRefusal s (Make x) (command_fault_of f)) (refusal c b x (command_fault_of f) g.refused))

@@ -7,7 +7,7 @@ use Rattle.olr_spec.specs.Extension.{Path}
 use Rattle.olr_spec.specs.Encoding.{Answer}
 use Rattle.olr_commands.specs.State.{same_name, path_named, NamesDiffer}
 use Rattle.olr_commands.proofs.NameLemmas.{not_named, flipped}
-use Rattle.olr_paths.specs.Items.{Made, Item, AreMade, named, all_named, made_in, answer_in}
+use Rattle.olr_paths.specs.Items.{Made, Item, AreEncodings, named, all_named, made_in, answer_in}
 use Rattle.olr_paths.specs.Changes.{Reported, Follows, set_item}
 
 abbrev answer_made : Option Made → Option Answer
@@ -60,7 +60,7 @@ follows_drop before (i ∷ is) name f =
     elim (not (same_name i.name name)) as (λ b. Follows before (cond b (i ∷ filter (λ j. not (same_name j.name name)) is) (filter (λ j. not (same_name j.name name)) is))) [ true ↦ (f.0, rest) | false ↦ rest ]
 
 -- where each was encoded, nothing is told
-pub follows_untold : (M : Map) (before js : List Item) → AreMade M js → Follows before js → Reported before js []
+pub follows_untold : (M : Map) (before js : List Item) → AreEncodings M js → Follows before js → Reported before js []
 follows_untold M before [] a f = refl
 follows_untold M before (j ∷ js) a f =
     let made : (j.made ≡ Some a.0.0) = a.0.1 in

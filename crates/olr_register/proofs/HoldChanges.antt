@@ -10,15 +10,15 @@ use Rattle.olr_map.specs.declared.road_map.RoadMap.{RoadMap}
 use Rattle.olr_commands.specs.State.{Named, Content, path_named, same_name, with_path, Fault, Memory, Batch_full, Path_exists, No_path, Bad_path, full, when, Change, Add_path, Set_path, Drop_path, changed, Make, HasPlaces, IsContent}
 use Rattle.olr_commands.specs.Reply as replies
 use Rattle.olr_commands.specs.Reply.{is_told_first}
-use Rattle.olr_commands.specs.Counts.{nodes_of, lines_of, names_of}
+use Rattle.olr_commands.specs.Counts.{nodes_of_change, lines_of_change, names_of_change}
 use Rattle.olr_commands.specs.Kept as kept
 use Rattle.olr_commands.specs.Kept.{content_of}
-use Rattle.olr_commands.specs.Words.{fault_of, reply_of}
+use Rattle.olr_commands.specs.Words.{command_fault_of, reply_of}
 use Rattle.olr_commands.specs.declared.reply.Reply.{Reply}
 use Rattle.olr_commands.specs.declared.fault.CommandFault.{CommandFault}
 use Rattle.olr_commands.specs.declared.fault.CommandFault.TheVariants as rust
 use Rattle.olr_commands.proofs.StateLemmas.{changes_keep}
-use Rattle.olr_paths.specs.Items.{Item, AreMadeIfAny, all_named}
+use Rattle.olr_paths.specs.Items.{Item, AreEncodingsIfAny, all_named}
 use Rattle.olr_paths.specs.Changes.{Follows, set_item}
 use Rattle.olr_paths.specs.Beginning.{Begins}
 use Rattle.olr_paths.specs.Laying.{overlaid}
@@ -51,7 +51,7 @@ same_content M is = ap (content_from M) (named_twice is)
 pub given_full : (b : kept.Batch) (x : Change) → nat_le full b.count ≡ true → Given b x (Err rust.BatchFull) b
 given_full b x e = record { added = tt; reply = tt; refused = Told (ap (λ (t : Bool). when t Batch_full (changed (content_of b) x)) e); unchanged = refl }
 
-pub told_first : (b d : kept.Batch) (x : Change) (f : CommandFault) → nat_le full b.count ≡ false → changed (content_of b) x ≡ Err (fault_of f) → d ≡ b → Given b x (Err f) d
+pub told_first : (b d : kept.Batch) (x : Change) (f : CommandFault) → nat_le full b.count ≡ false → changed (content_of b) x ≡ Err (command_fault_of f) → d ≡ b → Given b x (Err f) d
 told_first b d x f room e same =
     record {
       added = tt;
@@ -60,7 +60,7 @@ told_first b d x f room e same =
       unchanged = same;
     }
 
-pub told_memory : (b d : kept.Batch) (x : Change) (f : CommandFault) → nat_le full b.count ≡ false → fault_of f ≡ Memory → ((g : Fault) → changed (content_of b) x ≡ Err g → is_told_first g ≡ false) → d ≡ b
+pub told_memory : (b d : kept.Batch) (x : Change) (f : CommandFault) → nat_le full b.count ≡ false → command_fault_of f ≡ Memory → ((g : Fault) → changed (content_of b) x ≡ Err g → is_told_first g ≡ false) → d ≡ b
     → Given b x (Err f) d
 told_memory b d x f room e first same =
     record {
@@ -70,13 +70,13 @@ told_memory b d x f room e first same =
       unchanged = same;
     }
 
-pub given_told : (M : Map) (is js : List Item) (n : ℕ) (ns ys : List ℕ) (x : Change) (f : CommandFault) → nat_le full n ≡ false → changed (content_on M is) x ≡ Err (fault_of f) → js ≡ is
+pub given_told : (M : Map) (is js : List Item) (n : ℕ) (ns ys : List ℕ) (x : Change) (f : CommandFault) → nat_le full n ≡ false → changed (content_on M is) x ≡ Err (command_fault_of f) → js ≡ is
     → Given (batch_on M is n ns ys) x (Err f) (batch_on M js n ns ys)
 given_told M is js n ns ys x f room e same =
     told_first (batch_on M is n ns ys) (batch_on M js n ns ys) x f room (ap (λ (c : Content). changed c x) (same_content M is) ∙ e) (ap (λ (ks : List Item). batch_on M ks n ns ys) same)
 
 pub given_lacks : (M : Map) (is js : List Item) (n : ℕ) (ns ys : List ℕ) (x : Change) (f : CommandFault) → nat_le full n ≡ false
-    → fault_of f ≡ Memory → ((g : Fault) → changed (content_on M is) x ≡ Err g → is_told_first g ≡ false) → js ≡ is
+    → command_fault_of f ≡ Memory → ((g : Fault) → changed (content_on M is) x ≡ Err g → is_told_first g ≡ false) → js ≡ is
     → Given (batch_on M is n ns ys) x (Err f) (batch_on M js n ns ys)
 given_lacks M is js n ns ys x f room e first same =
     told_memory (batch_on M is n ns ys) (batch_on M js n ns ys) x f room e (λ g h. first g (sym (ap (λ (c : Content). changed c x) (same_content M is)) ∙ h))
@@ -85,7 +85,7 @@ given_lacks M is js n ns ys x f room e first same =
 -- ---- held
 
 pub given_held_path : (M : Map) (is js ks : List Item) (n : ℕ) (ns ys : List ℕ) (x : Change) (r : Reply) → nat_le full n ≡ false → changed (content_on M is) x ≡ Ok (content_on M js) → ks ≡ js
-    → nodes_of M x ≡ [] → lines_of x ≡ [] → ((names : List (List ℕ)) → AreGiven names (map held_of is) → AreGiven (names ++ names_of x) (map held_of js)) → reply_of r ≡ replies.Held (n + 1)
+    → nodes_of_change M x ≡ [] → lines_of_change x ≡ [] → ((names : List (List ℕ)) → AreGiven names (map held_of is) → AreGiven (names ++ names_of_change x) (map held_of js)) → reply_of r ≡ replies.Held (n + 1)
     → Given (batch_on M is n ns ys) x (Ok r) (batch_on M ks (n + 1) ns ys)
 given_held_path M is js ks n ns ys x r room e same no_nodes no_lines given told =
     record {
@@ -96,7 +96,7 @@ given_held_path M is js ks n ns ys x r room e same no_nodes no_lines given told 
         count = omega arith;
         nodes = λ v. sym (ap (λ (vs : List ℕ). has ns v || has vs v) no_nodes ∙ or-false (has ns v));
         lines = λ y. sym (ap (λ (zs : List ℕ). has ys y || has zs y) no_lines ∙ or-false (has ys y));
-        given = λ names g. subst (λ (is : List Item). AreGiven (names ++ names_of x) (map held_of is)) (sym same) (given names g);
+        given = λ names g. subst (λ (is : List Item). AreGiven (names ++ names_of_change x) (map held_of is)) (sym same) (given names g);
       };
       reply = told;
       refused = tt;
@@ -174,14 +174,14 @@ held_same roads before b l same h =
       sound = subst (λ (is : List Item). IsContent (content_on (map_of roads) is)) (sym same) h.sound;
       few = h.few;
       noted = h.noted;
-      made = subst (AreMadeIfAny (map_before roads b.log)) (sym same) h.made;
+      made = subst (AreEncodingsIfAny (map_before roads b.log)) (sym same) h.made;
       follows = subst (Follows before) (sym same) h.follows;
       begins = λ v b. h.begins v (subst (λ (is : List Item). Begins is v) same b);
     }
 
 pub held_path : (roads : RoadMap) (before : List Item) (b : Batch) (l : Overlay) (js : List Item) (x : Change) → overlaid before l ≡ js → nat_le full b.count ≡ false
     → changed (content_on (map_of roads) (overlaid before b.overlay)) x ≡ Ok (content_on (map_of roads) js) → HasPlaces (Make x)
-    → AreMadeIfAny (map_before roads b.log) js → Follows before js → ((v : ℕ) → Begins js v → Begins (overlaid before b.overlay) v) → IsHeld roads before b
+    → AreEncodingsIfAny (map_before roads b.log) js → Follows before js → ((v : ℕ) → Begins js v → Begins (overlaid before b.overlay) v) → IsHeld roads before b
     → IsHeld roads before (record { log = b.log; overlay = l; count = b.count + 1; touched = b.touched })
 held_path roads before b l js x same room e placed made follows begins h =
     let few = leb-false full b.count room in
@@ -190,7 +190,7 @@ held_path roads before b l js x same room e placed made follows begins h =
       sound = subst (λ (is : List Item). IsContent (content_on (map_of roads) is)) (sym same) (changes_keep (content_on (map_of roads) (overlaid before b.overlay)) (content_on (map_of roads) js) x h.sound placed e);
       few = omega arith;
       noted = h.noted;
-      made = subst (AreMadeIfAny (map_before roads b.log)) (sym same) made;
+      made = subst (AreEncodingsIfAny (map_before roads b.log)) (sym same) made;
       follows = subst (Follows before) (sym same) follows;
       begins = λ v on. h.begins v (begins v (subst (λ (is : List Item). Begins is v) same on));
     }
@@ -201,9 +201,9 @@ pub given_bad_path : (M : Map) (is : List Item) (n : ℕ) (ns ys : List ℕ) (x 
     → changed (content_on M is) x ≡ when (not (is_path lines)) Bad_path (Ok to) → (f ≡ rust.Memory) ⊎ ((f ≡ rust.BadPath) × (is_path lines ≡ false))
     → Given (batch_on M is n ns ys) x (Err f) (batch_on M is n ns ys)
 given_bad_path M is n ns ys x to lines f room path (inl e) =
-    given_lacks M is is n ns ys x f room (ap fault_of e) (λ g h. bad_path_last (not (is_path lines)) to g (sym path ∙ h)) refl
+    given_lacks M is is n ns ys x f room (ap command_fault_of e) (λ g h. bad_path_last (not (is_path lines)) to g (sym path ∙ h)) refl
 given_bad_path M is n ns ys x to lines f room path (inr (e, bad)) =
-    given_told M is is n ns ys x f room (path ∙ ap (λ (t : Bool). when (not t) Bad_path (Ok to)) bad ∙ ap (λ (g : CommandFault). Err (fault_of g)) (sym e)) refl
+    given_told M is is n ns ys x f room (path ∙ ap (λ (t : Bool). when (not t) Bad_path (Ok to)) bad ∙ ap (λ (g : CommandFault). Err (command_fault_of g)) (sym e)) refl
 
 pub given_no_room : (M : Map) (is js : List Item) (n : ℕ) (ns ys : List ℕ) (x : Change) (to : Content) (lines : List ℕ) → nat_le full n ≡ false
     → changed (content_on M is) x ≡ when (not (is_path lines)) Bad_path (Ok to) → js ≡ is → Given (batch_on M is n ns ys) x (Err rust.Memory) (batch_on M js n ns ys)

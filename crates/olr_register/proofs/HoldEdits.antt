@@ -15,10 +15,10 @@ use Rattle.olr_commands.specs.Reply as replies
 use Rattle.olr_commands.specs.Reply.{is_told_first}
 use Rattle.olr_commands.specs.Kept as kept
 use Rattle.olr_commands.specs.Kept.{content_of}
-use Rattle.olr_commands.specs.Words.{fault_of, reply_of}
+use Rattle.olr_commands.specs.Words.{command_fault_of, reply_of}
 use Rattle.olr_commands.specs.declared.reply.Reply.{Reply}
 use Rattle.olr_commands.specs.declared.fault.CommandFault.{CommandFault}
-use Rattle.olr_paths.specs.Items.{Item, AreMadeIfAny}
+use Rattle.olr_paths.specs.Items.{Item, AreEncodingsIfAny}
 use Rattle.olr_paths.specs.Laying.{overlaid}
 use Rattle.olr_paths.specs.Touching.{nodes_of, lines_of, changed_of}
 use Rattle.olr_paths.specs.declared.touched.Touched.{Touched}
@@ -31,14 +31,14 @@ use Rattle.olr_register.proofs.HoldChanges.{content_on, batch_on, told_first, to
 
 -- ---- refused
 
-pub edit_told : (b d : kept.Batch) (e : Edit) (f : CommandFault) (g : MapFault) → nat_le full b.count ≡ false → edited b.map e ≡ Err g → fault_of f ≡ Map_fault g → d ≡ b → Given b (On_map e) (Err f) d
+pub edit_told : (b d : kept.Batch) (e : Edit) (f : CommandFault) (g : MapFault) → nat_le full b.count ≡ false → edited b.map e ≡ Err g → command_fault_of f ≡ Map_fault g → d ≡ b → Given b (On_map e) (Err f) d
 edit_told b d e f g room is same_is same = told_first b d (On_map e) f room (ap (with_map (content_of b)) is ∙ ap (λ (k : Fault). Err k) (sym same_is)) same
 
 no_first : (c : Content) (r : Result Map MapFault) (N : Map) (g : Fault) → r ≡ Ok N → with_map c r ≡ Err g → is_told_first g ≡ false
 no_first c (Ok M) N g ok h = absurd cc
 no_first c (Err f) N g ok h = absurd cc
 
-pub edit_lacks : (b d : kept.Batch) (e : Edit) (f : CommandFault) (N : Map) → nat_le full b.count ≡ false → edited b.map e ≡ Ok N → fault_of f ≡ Memory → d ≡ b → Given b (On_map e) (Err f) d
+pub edit_lacks : (b d : kept.Batch) (e : Edit) (f : CommandFault) (N : Map) → nat_le full b.count ≡ false → edited b.map e ≡ Ok N → command_fault_of f ≡ Memory → d ≡ b → Given b (On_map e) (Err f) d
 edit_lacks b d e f N room ok lacks same = told_memory b d (On_map e) f room lacks (λ g h. no_first (content_of b) (edited b.map e) N g ok h) same
 
 -- what a batch comes to where map and touched stayed
@@ -82,7 +82,7 @@ held_still old new before b log t undo same same_before nodes lines changed h =
       sound = subst (λ (M : Map). IsContent (content_on M (overlaid before b.overlay))) (sym same) h.sound;
       few = h.few;
       noted = coe 0 1 (i. IsNoted (sym same_before i) (sym same i) (sym nodes i) (sym lines i) (sym changed i)) h.noted;
-      made = subst (λ (M : Map). AreMadeIfAny M (overlaid before b.overlay)) (sym same_before) h.made;
+      made = subst (λ (M : Map). AreEncodingsIfAny M (overlaid before b.overlay)) (sym same_before) h.made;
       follows = h.follows;
       begins = h.begins;
     }
@@ -101,7 +101,7 @@ held_edit old new before b log t e room placed undo ok same_before nodes lines c
       noted =
           subst (λ (M : Map). IsNoted M (map_of new) (nodes_of t) (lines_of t) (changed_of t)) (sym same_before)
           (noted_more (map_before old b.log) (map_of old) (map_of new) e (nodes_of b.touched) (lines_of b.touched) (nodes_of t) (lines_of t) (changed_of b.touched) (changed_of t) h.noted ok nodes lines changed);
-      made = subst (λ (M : Map). AreMadeIfAny M (overlaid before b.overlay)) (sym same_before) h.made;
+      made = subst (λ (M : Map). AreEncodingsIfAny M (overlaid before b.overlay)) (sym same_before) h.made;
       follows = h.follows;
       begins = h.begins;
     }

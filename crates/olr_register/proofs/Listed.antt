@@ -4,7 +4,7 @@ use Rattle.std.specs.Prelude.{IfSome}
 use Rattle.olr_spec.specs.Map.{Map}
 use Rattle.olr_spec.specs.Extension.{Path}
 use Rattle.olr_commands.specs.State.{Named, same_name, with_path}
-use Rattle.olr_paths.specs.Items.{Made, Item, IsMade, AreMade, AreMadeIfAny, named, all_named}
+use Rattle.olr_paths.specs.Items.{Made, Item, IsEncodingOf, AreEncodings, AreEncodingsIfAny, named, all_named}
 use Rattle.olr_paths.specs.Changes.{set_item}
 
 -- ---- names and paths
@@ -32,44 +32,44 @@ names_drop name (i ∷ is) =
 
 -- ---- what was made
 
-pub made_add : (M : Map) (is : List Item) (name : List ℕ) (path : Path) (m : Made) → AreMade M is → IsMade M path m → AreMade M (is ++ record { name = name; path = path; made = Some m } ∷ [])
+pub made_add : (M : Map) (is : List Item) (name : List ℕ) (path : Path) (m : Made) → AreEncodings M is → IsEncodingOf M path m → AreEncodings M (is ++ record { name = name; path = path; made = Some m } ∷ [])
 made_add M [] name path m a h = ((m, refl, h), tt)
 made_add M (i ∷ is) name path m a h = (a.0, made_add M is name path m a.1 h)
 
-pub made_set : (M : Map) (is : List Item) (name : List ℕ) (path : Path) (m : Made) → AreMade M is → IsMade M path m → AreMade M (map (set_item name path (Some m)) is)
+pub made_set : (M : Map) (is : List Item) (name : List ℕ) (path : Path) (m : Made) → AreEncodings M is → IsEncodingOf M path m → AreEncodings M (map (set_item name path (Some m)) is)
 made_set M [] name path m a h = tt
 made_set M (i ∷ is) name path m a h =
-    let one : (n : Made) × ((set_item name path (Some m) i).made ≡ Some n) × IsMade M (set_item name path (Some m) i).path n =
-    elim (same_name i.name name) as (λ b. (n : Made) × ((cond b (record { name = i.name; path = path; made = Some m }) i).made ≡ Some n) × IsMade M (cond b (record { name = i.name; path = path; made = Some m }) i).path n) [
+    let one : (n : Made) × ((set_item name path (Some m) i).made ≡ Some n) × IsEncodingOf M (set_item name path (Some m) i).path n =
+    elim (same_name i.name name) as (λ b. (n : Made) × ((cond b (record { name = i.name; path = path; made = Some m }) i).made ≡ Some n) × IsEncodingOf M (cond b (record { name = i.name; path = path; made = Some m }) i).path n) [
       | true ↦ (m, refl, h)
       | false ↦ a.0
     ] in
     (one, made_set M is name path m a.1 h)
 
-pub made_drop : (M : Map) (is : List Item) (name : List ℕ) → AreMade M is → AreMade M (filter (λ i. not (same_name i.name name)) is)
+pub made_drop : (M : Map) (is : List Item) (name : List ℕ) → AreEncodings M is → AreEncodings M (filter (λ i. not (same_name i.name name)) is)
 made_drop M [] name a = tt
 made_drop M (i ∷ is) name a =
     let rest = made_drop M is name a.1 in
-    elim (not (same_name i.name name)) as (λ b. AreMade M (cond b (i ∷ filter (λ j. not (same_name j.name name)) is) (filter (λ j. not (same_name j.name name)) is))) [ true ↦ (a.0, rest) | false ↦ rest ]
+    elim (not (same_name i.name name)) as (λ b. AreEncodings M (cond b (i ∷ filter (λ j. not (same_name j.name name)) is) (filter (λ j. not (same_name j.name name)) is))) [ true ↦ (a.0, rest) | false ↦ rest ]
 
 -- ---- in a batch, where a path that is given is not encoded yet
 
-pub any_add : (M : Map) (is : List Item) (name : List ℕ) (path : Path) → AreMadeIfAny M is → AreMadeIfAny M (is ++ record { name = name; path = path; made = None } ∷ [])
+pub any_add : (M : Map) (is : List Item) (name : List ℕ) (path : Path) → AreEncodingsIfAny M is → AreEncodingsIfAny M (is ++ record { name = name; path = path; made = None } ∷ [])
 any_add M [] name path a = (tt, tt)
 any_add M (i ∷ is) name path a = (a.0, any_add M is name path a.1)
 
-pub any_set : (M : Map) (is : List Item) (name : List ℕ) (path : Path) → AreMadeIfAny M is → AreMadeIfAny M (map (set_item name path None) is)
+pub any_set : (M : Map) (is : List Item) (name : List ℕ) (path : Path) → AreEncodingsIfAny M is → AreEncodingsIfAny M (map (set_item name path None) is)
 any_set M [] name path a = tt
 any_set M (i ∷ is) name path a =
-    let one : IfSome (set_item name path None i).made (IsMade M (set_item name path None i).path) =
-    elim (same_name i.name name) as (λ b. IfSome (cond b (record { name = i.name; path = path; made = None }) i).made (IsMade M (cond b (record { name = i.name; path = path; made = None }) i).path)) [
+    let one : IfSome (set_item name path None i).made (IsEncodingOf M (set_item name path None i).path) =
+    elim (same_name i.name name) as (λ b. IfSome (cond b (record { name = i.name; path = path; made = None }) i).made (IsEncodingOf M (cond b (record { name = i.name; path = path; made = None }) i).path)) [
       | true ↦ tt
       | false ↦ a.0
     ] in
     (one, any_set M is name path a.1)
 
-pub any_drop : (M : Map) (is : List Item) (name : List ℕ) → AreMadeIfAny M is → AreMadeIfAny M (filter (λ i. not (same_name i.name name)) is)
+pub any_drop : (M : Map) (is : List Item) (name : List ℕ) → AreEncodingsIfAny M is → AreEncodingsIfAny M (filter (λ i. not (same_name i.name name)) is)
 any_drop M [] name a = tt
 any_drop M (i ∷ is) name a =
     let rest = any_drop M is name a.1 in
-    elim (not (same_name i.name name)) as (λ b. AreMadeIfAny M (cond b (i ∷ filter (λ j. not (same_name j.name name)) is) (filter (λ j. not (same_name j.name name)) is))) [ true ↦ (a.0, rest) | false ↦ rest ]
+    elim (not (same_name i.name name)) as (λ b. AreEncodingsIfAny M (cond b (i ∷ filter (λ j. not (same_name j.name name)) is) (filter (λ j. not (same_name j.name name)) is))) [ true ↦ (a.0, rest) | false ↦ rest ]

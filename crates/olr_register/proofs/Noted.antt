@@ -12,7 +12,7 @@ use Rattle.olr_spec.proofs.ListLemmas.{has_here}
 use Rattle.olr_spec.proofs.LookLists.{Contains-cases}
 use Rattle.olr_spec.proofs.ChangeLemmas.{edit_differs, none_differs, differences_add}
 use Rattle.olr_commands.specs.State.{ArePaths}
-use Rattle.olr_paths.specs.Items.{Item, AreMadeIfAny, all_named}
+use Rattle.olr_paths.specs.Items.{Item, AreEncodingsIfAny, all_named}
 use Rattle.olr_paths.specs.Changes.{IsBefore}
 use Rattle.olr_register.specs.Holding.{IsNoted}
 
@@ -70,6 +70,6 @@ are_paths : (is : List Item) → ArePaths (all_named is) → AllByRecursion (λ 
 are_paths [] p = tt
 are_paths (i ∷ is) p = (p.0, are_paths is p.1)
 
-pub is_before : (M N : Map) (T X : List ℕ) (C : List ChangedLine) (is : List Item) → IsNoted M N T X C → IsMap M → ArePaths (all_named is) → AreMadeIfAny M is → IsBefore M N T X C is
+pub is_before : (M N : Map) (T X : List ℕ) (C : List ChangedLine) (is : List Item) → IsNoted M N T X C → IsMap M → ArePaths (all_named is) → AreEncodingsIfAny M is → IsBefore M N T X C is
 is_before M N T X C is noted sound paths made =
     record { sound = sound; difference = noted.difference; starts = noted.starts; paths = are_paths is paths; made = made }

@@ -9,7 +9,7 @@ use Rattle.olr_commands.specs.Reply.{IsReply, IsRefusal, Told, Lacks, AllOf, Sho
 use Rattle.olr_commands.specs.Counts.{Concerns, By_name, By_node, By_line, CountIs}
 use Rattle.olr_commands.specs.Kept.{Stands}
 use Rattle.olr_commands.specs.Registered.{Registered}
-use Rattle.olr_commands.specs.Words.{reply_of, fault_of}
+use Rattle.olr_commands.specs.Words.{reply_of, command_fault_of}
 use Rattle.olr_commands.specs.declared.reply.Reply.{Reply}
 use Rattle.olr_commands.specs.declared.fault.CommandFault.{CommandFault}
 use Rattle.olr_register.specs.Answering.{Answered}
@@ -36,7 +36,7 @@ answered_same x c r h none = record {
   unchanged = tt;
 }
 
-pub answered_refused : (x : Registered) (c : Command) (f : CommandFault) → ((s : State) → Stands x.kept s → IsRefusal s c (fault_of f)) → Answered x c (Err f) x
+pub answered_refused : (x : Registered) (c : Command) (f : CommandFault) → ((s : State) → Stands x.kept s → IsRefusal s c (command_fault_of f)) → Answered x c (Err f) x
 answered_refused x c f h = record { outcome = λ s stands. (s, stands, (h s stands, refl)); counted = tt; spares = tt; rises = tt; same = tt; unchanged = refl }
 
 -- ---- show
@@ -67,13 +67,13 @@ show_answered x name r es is shown =
     ))
     (λ s. show_brings s.batch name)
 
-pub show_unknown : (x : Registered) (name : List ℕ) (f : CommandFault) → fault_of f ≡ No_path → has_path x.kept.content name ≡ false → Answered x (state.Show name) (Err f) x
+pub show_unknown : (x : Registered) (name : List ℕ) (f : CommandFault) → command_fault_of f ≡ No_path → has_path x.kept.content name ≡ false → Answered x (state.Show name) (Err f) x
 show_unknown x name f is none =
     answered_refused x (state.Show name) f (λ s stands.
     let there : has_path s.content name ≡ false = ap (λ (c : Content). has_path c name) (sym stands.0) ∙ none in
     Told (show_step s.content s.batch name ∙ ap (λ (b : Bool). when (not b) No_path (Ok s)) there ∙ ap (λ (g : state.Fault). Err g) (sym is)))
 
-pub show_lacks : (x : Registered) (name : List ℕ) (f : CommandFault) → fault_of f ≡ Memory → has_path x.kept.content name ≡ true → Answered x (state.Show name) (Err f) x
+pub show_lacks : (x : Registered) (name : List ℕ) (f : CommandFault) → command_fault_of f ≡ Memory → has_path x.kept.content name ≡ true → Answered x (state.Show name) (Err f) x
 show_lacks x name f is some =
     answered_refused x (state.Show name) f (λ s stands.
     let there : has_path s.content name ≡ true = ap (λ (c : Content). has_path c name) (sym stands.0) ∙ some in
@@ -97,7 +97,7 @@ report_answered x r es is all =
     ))
     (λ s. report_brings s.batch)
 
-pub report_lacks : (x : Registered) (f : CommandFault) → fault_of f ≡ Memory → Answered x state.Report (Err f) x
+pub report_lacks : (x : Registered) (f : CommandFault) → command_fault_of f ≡ Memory → Answered x state.Report (Err f) x
 report_lacks x f is = answered_refused x state.Report f (λ s stands. Lacks is (ap may_want (report_ok s.content s.batch)))
 
 -- ---- explain
@@ -118,12 +118,12 @@ explain_answered x text r q is none explained =
     ))
     (λ s. explain_brings s.batch text)
 
-pub explain_refused : (x : Registered) (text : List ℕ) (f : CommandFault) (g : TextFault) → fault_of f ≡ Not_a_reference g → text_fault text ≡ Some g → Answered x (state.Explain text) (Err f) x
+pub explain_refused : (x : Registered) (text : List ℕ) (f : CommandFault) (g : TextFault) → command_fault_of f ≡ Not_a_reference g → text_fault text ≡ Some g → Answered x (state.Explain text) (Err f) x
 explain_refused x text f g is fault =
     answered_refused x (state.Explain text) f (λ s stands. Told (explain_step s.content s.batch text ∙ ap (unless_fault s) fault ∙ ap (λ (h : state.Fault). Err h) (sym is)))
 
 -- want of memory may come in place of a fault of the text
-pub explain_lacks : (x : Registered) (text : List ℕ) (f : CommandFault) → fault_of f ≡ Memory → Answered x (state.Explain text) (Err f) x
+pub explain_lacks : (x : Registered) (text : List ℕ) (f : CommandFault) → command_fault_of f ≡ Memory → Answered x (state.Explain text) (Err f) x
 explain_lacks x text f is =
     answered_refused x (state.Explain text) f (λ s stands. Lacks is (ap may_want (explain_step s.content s.batch text) ∙ may (record { content = s.content; batch = s.batch }) (text_fault text)))
   where

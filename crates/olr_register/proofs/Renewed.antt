@@ -2,20 +2,20 @@
 use Rattle.std.proofs.Common.{◌≡◌, List, [], ◌∷◌, Option, Some, refl, sym, subst}
 use Rattle.std.specs.Prelude.{IfSome}
 use Rattle.olr_spec.specs.Map.{Map}
-use Rattle.olr_paths.specs.Items.{Made, Item, IsMade, AreMade, AreMadeIfAny}
+use Rattle.olr_paths.specs.Items.{Made, Item, IsEncodingOf, AreEncodings, AreEncodingsIfAny}
 use Rattle.olr_paths.specs.Changes.{IsRemade, AreRemade}
 
 abbrev MadeOn : Map → Item → Type 0
-MadeOn N j = (m : Made) × (j.made ≡ Some m) × IsMade N j.path m
+MadeOn N j = (m : Made) × (j.made ≡ Some m) × IsEncodingOf N j.path m
 
 remade_one : (N : Map) (i j : Item) → IsRemade N i j → MadeOn N j
 remade_one N i j r = subst (MadeOn N) (sym r.2) (r.0, refl, r.1)
 
-pub remade_made : (N : Map) (is js : List Item) → AreRemade N is js → AreMade N js
-remade_made N [] js r = subst (AreMade N) (sym r) tt
+pub remade_made : (N : Map) (is js : List Item) → AreRemade N is js → AreEncodings N js
+remade_made N [] js r = subst (AreEncodings N) (sym r) tt
 remade_made N (i ∷ is) [] r = absurd r
 remade_made N (i ∷ is) (j ∷ js) r = (remade_one N i j r.0, remade_made N is js r.1)
 
-pub made_if_any : (M : Map) (is : List Item) → AreMade M is → AreMadeIfAny M is
+pub made_if_any : (M : Map) (is : List Item) → AreEncodings M is → AreEncodingsIfAny M is
 made_if_any M [] a = tt
-made_if_any M (i ∷ is) a = (subst (λ (o : Option Made). IfSome o (IsMade M i.path)) (sym a.0.1) a.0.2, made_if_any M is a.1)
+made_if_any M (i ∷ is) a = (subst (λ (o : Option Made). IfSome o (IsEncodingOf M i.path)) (sym a.0.1) a.0.2, made_if_any M is a.1)

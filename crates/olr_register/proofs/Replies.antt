@@ -8,14 +8,14 @@ use Rattle.olr_spec.proofs.AnswerLemmas.{one_answer}
 use Rattle.olr_commands.specs.State.{same_name, path_named, IsContent}
 use Rattle.olr_commands.specs.Reply.{Entry, HasAnswer, AllOf, Differences}
 use Rattle.olr_commands.proofs.ReplyLemmas.{named_path}
-use Rattle.olr_paths.specs.Items.{Made, Item, IsMade, AreMade, all_named, made_in, answer_in}
+use Rattle.olr_paths.specs.Items.{Made, Item, IsEncodingOf, AreEncodings, all_named, made_in, answer_in}
 use Rattle.olr_paths.specs.Changes.{Reported}
 
 -- a name has a path and what was made of it, or neither
 abbrev Found : Map → Option Path → Option Made → Type 0
-Found M p o = ((p ≡ None) × (o ≡ None)) ⊎ ((P : Path) × (m : Made) × (p ≡ Some P) × (o ≡ Some m) × IsMade M P m)
+Found M p o = ((p ≡ None) × (o ≡ None)) ⊎ ((P : Path) × (m : Made) × (p ≡ Some P) × (o ≡ Some m) × IsEncodingOf M P m)
 
-found : (M : Map) (is : List Item) → AreMade M is → (name : List ℕ) → Found M (path_named (all_named is) name) (made_in is name)
+found : (M : Map) (is : List Item) → AreEncodings M is → (name : List ℕ) → Found M (path_named (all_named is) name) (made_in is name)
 found M [] a name = inl (refl, refl)
 found M (i ∷ is) a name =
     elim (same_name i.name name) as (λ b. Found M (cond b (Some i.path) (path_named (all_named is) name)) (if b then i.made else made_in is name)) [
@@ -23,7 +23,7 @@ found M (i ∷ is) a name =
       | false ↦ found M is a.1 name
     ]
 
-pub answer_held : (M : Map) (is : List Item) → IsContent (record { map = M; paths = all_named is }) → AreMade M is → (name : List ℕ) (A : Answer)
+pub answer_held : (M : Map) (is : List Item) → IsContent (record { map = M; paths = all_named is }) → AreEncodings M is → (name : List ℕ) (A : Answer)
     → HasAnswer (record { map = M; paths = all_named is }) name A ↔ (answer_in is name ≡ Some A)
 answer_held M is content a name A = by (found M is a name) where
   by : Found M (path_named (all_named is) name) (made_in is name) → HasAnswer (record { map = M; paths = all_named is }) name A ↔ (answer_in is name ≡ Some A)
@@ -44,7 +44,7 @@ answer_held M is content a name A = by (found M is a name) where
   )
 
 -- a name of the list has an answer
-pub answered : (M : Map) (is : List Item) → AreMade M is → (name : List ℕ) → is_some (path_named (all_named is) name) ≡ true → (A : Answer) × (answer_in is name ≡ Some A)
+pub answered : (M : Map) (is : List Item) → AreEncodings M is → (name : List ℕ) → is_some (path_named (all_named is) name) ≡ true → (A : Answer) × (answer_in is name ≡ Some A)
 answered M is a name h =
     elim (found M is a name) [
       | inl n ↦ absurd (let no : false ≡ true = ap (λ (o : Option Path). is_some o) (sym n.0) ∙ h in cc)
@@ -52,13 +52,13 @@ answered M is a name h =
     ]
 
 -- the answer that is kept of a path is its own
-kept_answer : (N : Map) (P : Path) (o : Option Made) (A : Answer) (m : Made) → o ≡ Some m → IsMade N P m → option_map (λ (n : Made). n.answer) o ≡ Some A → Encodes N P A
+kept_answer : (N : Map) (P : Path) (o : Option Made) (A : Answer) (m : Made) → o ≡ Some m → IsEncodingOf N P m → option_map (λ (n : Made). n.answer) o ≡ Some A → Encodes N P A
 kept_answer N P o A m is right e =
     let answer_is : Some m.answer ≡ Some A = ap (option_map (λ (n : Made). n.answer)) (sym is) ∙ e in
     let same : m.answer ≡ A = cc in
     subst (Encodes N P) same right.answer
 
-pub changes_told : (M N : Map) (before js : List Item) (es : List Entry) → IsContent (record { map = M; paths = all_named before }) → AreMade M before → AreMade N js → Reported before js es
+pub changes_told : (M N : Map) (before js : List Item) (es : List Entry) → IsContent (record { map = M; paths = all_named before }) → AreEncodings M before → AreEncodings N js → Reported before js es
     → Differences (record { map = M; paths = all_named before }) (record { map = N; paths = all_named js }) es
 changes_told M N before [] es content was a r = r
 changes_told M N before (j ∷ js) es content was a r =
@@ -71,10 +71,10 @@ changes_told M N before (j ∷ js) es content was a r =
     )
 
 pub reported_differences : (M N : Map) (before js : List Item) (es : List Entry) → IsContent (record { map = M; paths = all_named before }) → IsContent (record { map = N; paths = all_named js })
-    → AreMade M before → AreMade N js → Reported before js es → Differences (record { map = M; paths = all_named before }) (record { map = N; paths = all_named js }) es
+    → AreEncodings M before → AreEncodings N js → Reported before js es → Differences (record { map = M; paths = all_named before }) (record { map = N; paths = all_named js }) es
 reported_differences M N before js es content later was a r = changes_told M N before js es content was a r
 
-pub reported_all : (M : Map) (js : List Item) (es : List Entry) → AreMade M js → Reported [] js es → AllOf M (all_named js) es
+pub reported_all : (M : Map) (js : List Item) (es : List Entry) → AreEncodings M js → Reported [] js es → AllOf M (all_named js) es
 reported_all M [] es a r = r
 reported_all M (j ∷ js) es a r = (
   r.0,

@@ -6,12 +6,12 @@ use Rattle.olr_route.specs.declared.work.Work.{Work}
 use Rattle.std.specs.List.{AllByRecursion}
 use Rattle.olr_spec.specs.Map.{Map, Edit, touched_nodes, touched_lines}
 use Rattle.olr_spec.specs.Extension.{Path, has}
-use Rattle.olr_commands.specs.State.{Named, Content, IsContent, Change, On_map, Add_path, Set_path, Drop_path, changed, State, Make, made, step}
+use Rattle.olr_commands.specs.State.{Named, Content, IsContent, Change, On_map, Add_path, Set_path, Drop_path, changed, State, Make, at_once, step}
 use Rattle.olr_commands.specs.Counts.{Concerns, By_name, By_node, By_line, CountIs, Raises}
 use Rattle.olr_commands.specs.Kept.{Kept, Stands, StandsIn}
 use Rattle.olr_commands.specs.Registered.{Registered}
 use Rattle.olr_commands.proofs.CountLemmas.{paths_raise}
-use Rattle.olr_paths.specs.Items.{Item, AreMade, all_named}
+use Rattle.olr_paths.specs.Items.{Item, AreEncodings, all_named}
 use Rattle.olr_paths.specs.Changes.{IsConcerned}
 use Rattle.olr_register.specs.Holding.{held_of}
 use Rattle.olr_register.specs.Sparing.{encodes, NoneFalls, SameCounts}
@@ -62,13 +62,13 @@ encodes_closed old new x was e off =
 -- ---- edits
 
 -- none was given
-none_given : (M : Map) (is : List Item) → AreMade M is → AllByRecursion (λ h. h.given ≡ false) (map held_of is)
+none_given : (M : Map) (is : List Item) → AreEncodings M is → AllByRecursion (λ h. h.given ≡ false) (map held_of is)
 none_given M [] a = tt
 none_given M (i ∷ is) a = (ap is_none a.0.1, none_given M is a.1)
 
 -- the count of an edit is how many paths it concerns
 pub tallied_edit : (old new : Registered) (M : Map) (is : List Item) (e : Edit) (ns xs : List ℕ) (n : ℕ) → old.kept ≡ record { content = record { map = M; paths = all_named is }; batch = None }
-    → new.kept.batch ≡ None → new.kept.content.paths ≡ all_named is → AreMade M is
+    → new.kept.batch ≡ None → new.kept.content.paths ≡ all_named is → AreEncodings M is
     → ((v : ℕ) → has ns v ≡ has (touched_nodes M e) v) → ((x : ℕ) → has xs x ≡ has (touched_lines e) x)
     → CountIs (IsConcerned M ns xs) is n → Rise old new n → NoneFalls old new → Tallied old (Make (On_map e)) new
 tallied_edit old new M is e ns xs n was later paths a nodes lines count rise falls =
@@ -84,7 +84,7 @@ tallied_edit old new M is e ns xs n was later paths a nodes lines count rise fal
 -- ---- paths
 
 made_state : (c d : Content) (x : Change) → changed c x ≡ Ok d → step (record { content = c; batch = None }) (Make x) ≡ Ok (record { content = d; batch = None })
-made_state c d x e = ap made e
+made_state c d x e = ap at_once e
 
 -- a path that is added, or set, raises by one
 pub tallied_add : (old new : Registered) (name : List ℕ) (path : Path) → IsContent old.kept.content → old.kept.batch ≡ None → new.kept.batch ≡ None

@@ -11,12 +11,12 @@ use Rattle.olr_map.specs.declared.judging.Judged.{Judged}
 use Rattle.olr_map.specs.RoadMaps.{map_of}
 use Rattle.olr_map.specs.declared.road_map.RoadMap.{RoadMap}
 use Rattle.olr_commands.specs.State as state
-use Rattle.olr_commands.specs.State.{Named, Content, IsContent, Fault, Map_fault, On_map, with_map, changed, made, Make}
+use Rattle.olr_commands.specs.State.{Named, Content, IsContent, Fault, Map_fault, On_map, with_map, changed, at_once, Make}
 use Rattle.olr_commands.specs.Reply as told
 use Rattle.olr_commands.specs.Reply.{may_want}
 use Rattle.olr_commands.specs.Counts.{CountIs}
 use Rattle.olr_commands.specs.Registered.{Registered}
-use Rattle.olr_commands.specs.Words.{reply_of, fault_of, map_fault_of}
+use Rattle.olr_commands.specs.Words.{reply_of, command_fault_of, map_fault_of}
 use Rattle.olr_commands.specs.declared.reply.Reply.{Reply}
 use Rattle.olr_commands.specs.declared.fault.CommandFault.{CommandFault}
 use Rattle.olr_commands.specs.declared.fault.CommandFault.TheVariants as fault
@@ -35,7 +35,7 @@ use Rattle.olr_register.proofs.Singles.{accepted_now, told_now, lacks_now, seen,
 
 -- ---- what judging tells
 
-pub refused_is : (r : Result Map MapFault) (f : EditFault) → MatchResult r (λ _. IsOk {T = Judged} (Err f)) (λ g. ◌≡◌ {A = Result Judged EditFault} (Err f) (Err (edits.fault_of g))) → (g : MapFault) × (r ≡ Err g) × (f ≡ edits.fault_of g)
+pub refused_is : (r : Result Map MapFault) (f : EditFault) → MatchResult r (λ _. IsOk {T = Judged} (Err f)) (λ g. ◌≡◌ {A = Result Judged EditFault} (Err f) (Err (edits.edit_fault_of g))) → (g : MapFault) × (r ≡ Err g) × (f ≡ edits.edit_fault_of g)
 refused_is (Ok N) f h = absurd cc
 refused_is (Err g) f h = (g, refl, cc)
 
@@ -46,18 +46,18 @@ taken_is (Err g) h = absurd cc
 -- ---- refused
 
 pub edit_refused : (roads : RoadMap) (is : List Item) (b : Option Batch) (w : Tally) (x : Registered) (e : Edit) (g : MapFault) (f : EditFault) → seen roads is b w ≡ x → x.kept.batch ≡ None
-    → edited (map_of roads) e ≡ Err g → f ≡ edits.fault_of g → Answered x (Make (On_map e)) (Err (fault.Map f)) x
+    → edited (map_of roads) e ≡ Err g → f ≡ edits.edit_fault_of g → Answered x (Make (On_map e)) (Err (fault.Map f)) x
 edit_refused roads is b w x e g f view none refused is_that =
     let closed : b ≡ None = closed_by roads is b w x view none in
     let there : x.kept.content.map ≡ map_of roads = ap (λ (y : Registered). y.kept.content.map) (sym view) ∙ ap (λ (o : Option Batch). (seen roads is o w).kept.content.map) closed in
     told_now x (On_map e) (Map_fault g) (fault.Map f) none (ap (with_map x.kept.content) (ap (λ (M : Map). edited M e) there ∙ refused)) (ap map_fault_of is_that ∙ told_by_map g)
 
 pub edit_lacks : (roads : RoadMap) (is : List Item) (b : Option Batch) (w : Tally) (x : Registered) (e : Edit) (N : Map) (f : CommandFault) → seen roads is b w ≡ x → x.kept.batch ≡ None
-    → edited (map_of roads) e ≡ Ok N → fault_of f ≡ state.Memory → Answered x (Make (On_map e)) (Err f) x
+    → edited (map_of roads) e ≡ Ok N → command_fault_of f ≡ state.Memory → Answered x (Make (On_map e)) (Err f) x
 edit_lacks roads is b w x e N f view none taken says =
     let closed : b ≡ None = closed_by roads is b w x view none in
     let there : x.kept.content.map ≡ map_of roads = ap (λ (y : Registered). y.kept.content.map) (sym view) ∙ ap (λ (o : Option Batch). (seen roads is o w).kept.content.map) closed in
-    lacks_now x (On_map e) f none refl (ap (λ (r : Result Map MapFault). may_want (made (with_map x.kept.content r))) (ap (λ (M : Map). edited M e) there ∙ taken)) says
+    lacks_now x (On_map e) f none refl (ap (λ (r : Result Map MapFault). may_want (at_once (with_map x.kept.content r))) (ap (λ (M : Map). edited M e) there ∙ taken)) says
 
 -- ---- what is noted of an edit
 

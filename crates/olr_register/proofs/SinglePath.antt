@@ -5,16 +5,16 @@ use Rattle.olr_spec.specs.Extension.{Path, is_path}
 use Rattle.olr_map.specs.RoadMaps.{map_of}
 use Rattle.olr_map.specs.declared.road_map.RoadMap.{RoadMap}
 use Rattle.olr_commands.specs.State as state
-use Rattle.olr_commands.specs.State.{Named, Content, IsContent, same_name, path_named, has_path, with_path, Fault, Path_exists, No_path, Bad_path, when, Add_path, Set_path, Drop_path, changed, made, Make}
+use Rattle.olr_commands.specs.State.{Named, Content, IsContent, same_name, path_named, has_path, with_path, Fault, Path_exists, No_path, Bad_path, when, Add_path, Set_path, Drop_path, changed, at_once, Make}
 use Rattle.olr_commands.specs.Reply as told
 use Rattle.olr_commands.specs.Reply.{entry, may_want}
 use Rattle.olr_commands.specs.Registered.{Registered}
-use Rattle.olr_commands.specs.Words.{reply_of, fault_of}
+use Rattle.olr_commands.specs.Words.{reply_of, command_fault_of}
 use Rattle.olr_commands.specs.declared.reply.Reply.{Reply}
 use Rattle.olr_commands.specs.declared.fault.CommandFault.{CommandFault}
 use Rattle.olr_commands.specs.declared.fault.CommandFault.TheVariants as fault
 use Rattle.olr_commands.proofs.StateLemmas.{changes_keep}
-use Rattle.olr_paths.specs.Items.{Made, Item, IsMade, AreMade, all_named, answer_in}
+use Rattle.olr_paths.specs.Items.{Made, Item, IsEncodingOf, AreEncodings, all_named, answer_in}
 use Rattle.olr_paths.specs.Changes.{set_item}
 use Rattle.olr_register.specs.Holding.{IsRegister}
 use Rattle.olr_register.specs.Answering.{Answered}
@@ -30,7 +30,7 @@ use Rattle.olr_register.proofs.Singles.{accepted_now, told_now, lacks_now, seen,
 abbrev pub IsPathFault : List ℕ → CommandFault → Type 0
 IsPathFault lines f = (f ≡ fault.Memory) ⊎ ((f ≡ fault.BadPath) × (is_path lines ≡ false))
 
-bad_or_not : (b : Bool) (d : Content) → may_want (made (when (not b) Bad_path (Ok d))) ≡ true
+bad_or_not : (b : Bool) (d : Content) → may_want (at_once (when (not b) Bad_path (Ok d))) ≡ true
 bad_or_not true d = refl
 bad_or_not false d = refl
 
@@ -42,25 +42,25 @@ when_not b f r e = ap (λ (t : Bool). when t f r) e
 
 -- ---- refused
 
-pub add_exists : (x : Registered) (name : List ℕ) (path : Path) (f : CommandFault) → x.kept.batch ≡ None → has_path x.kept.content name ≡ true → fault_of f ≡ Path_exists → Answered x (Make (Add_path name path)) (Err f) x
+pub add_exists : (x : Registered) (name : List ℕ) (path : Path) (f : CommandFault) → x.kept.batch ≡ None → has_path x.kept.content name ≡ true → command_fault_of f ≡ Path_exists → Answered x (Make (Add_path name path)) (Err f) x
 add_exists x name path f none taken says = told_now x (Add_path name path) Path_exists f none (when_holds (has_path x.kept.content name) Path_exists _ taken) says
 
 pub add_refused : (x : Registered) (name : List ℕ) (path : Path) (f : CommandFault) → x.kept.batch ≡ None → has_path x.kept.content name ≡ false → IsPathFault path.lines f → Answered x (Make (Add_path name path)) (Err f) x
 add_refused x name path f none free (inr h) =
-    told_now x (Add_path name path) Bad_path f none (when_not (has_path x.kept.content name) Path_exists _ free ∙ when_holds (not (is_path path.lines)) Bad_path _ (ap not h.1)) (ap fault_of h.0)
+    told_now x (Add_path name path) Bad_path f none (when_not (has_path x.kept.content name) Path_exists _ free ∙ when_holds (not (is_path path.lines)) Bad_path _ (ap not h.1)) (ap command_fault_of h.0)
 add_refused x name path f none free (inl h) =
-    lacks_now x (Add_path name path) f none refl (ap (λ (r : Result Content Fault). may_want (made r)) (when_not (has_path x.kept.content name) Path_exists _ free) ∙ bad_or_not (is_path path.lines) _) (ap fault_of h)
+    lacks_now x (Add_path name path) f none refl (ap (λ (r : Result Content Fault). may_want (at_once r)) (when_not (has_path x.kept.content name) Path_exists _ free) ∙ bad_or_not (is_path path.lines) _) (ap command_fault_of h)
 
-pub set_unknown : (x : Registered) (name : List ℕ) (path : Path) (f : CommandFault) → x.kept.batch ≡ None → has_path x.kept.content name ≡ false → fault_of f ≡ No_path → Answered x (Make (Set_path name path)) (Err f) x
+pub set_unknown : (x : Registered) (name : List ℕ) (path : Path) (f : CommandFault) → x.kept.batch ≡ None → has_path x.kept.content name ≡ false → command_fault_of f ≡ No_path → Answered x (Make (Set_path name path)) (Err f) x
 set_unknown x name path f none free says = told_now x (Set_path name path) No_path f none (when_holds (not (has_path x.kept.content name)) No_path _ (ap not free)) says
 
 pub set_refused : (x : Registered) (name : List ℕ) (path : Path) (f : CommandFault) → x.kept.batch ≡ None → has_path x.kept.content name ≡ true → IsPathFault path.lines f → Answered x (Make (Set_path name path)) (Err f) x
 set_refused x name path f none taken (inr h) =
-    told_now x (Set_path name path) Bad_path f none (when_not (not (has_path x.kept.content name)) No_path _ (ap not taken) ∙ when_holds (not (is_path path.lines)) Bad_path _ (ap not h.1)) (ap fault_of h.0)
+    told_now x (Set_path name path) Bad_path f none (when_not (not (has_path x.kept.content name)) No_path _ (ap not taken) ∙ when_holds (not (is_path path.lines)) Bad_path _ (ap not h.1)) (ap command_fault_of h.0)
 set_refused x name path f none taken (inl h) =
-    lacks_now x (Set_path name path) f none refl (ap (λ (r : Result Content Fault). may_want (made r)) (when_not (not (has_path x.kept.content name)) No_path _ (ap not taken)) ∙ bad_or_not (is_path path.lines) _) (ap fault_of h)
+    lacks_now x (Set_path name path) f none refl (ap (λ (r : Result Content Fault). may_want (at_once r)) (when_not (not (has_path x.kept.content name)) No_path _ (ap not taken)) ∙ bad_or_not (is_path path.lines) _) (ap command_fault_of h)
 
-pub drop_unknown : (x : Registered) (name : List ℕ) (f : CommandFault) → x.kept.batch ≡ None → has_path x.kept.content name ≡ false → fault_of f ≡ No_path → Answered x (Make (Drop_path name)) (Err f) x
+pub drop_unknown : (x : Registered) (name : List ℕ) (f : CommandFault) → x.kept.batch ≡ None → has_path x.kept.content name ≡ false → command_fault_of f ≡ No_path → Answered x (Make (Drop_path name)) (Err f) x
 drop_unknown x name f none free says = told_now x (Drop_path name) No_path f none (when_holds (not (has_path x.kept.content name)) No_path _ (ap not free)) says
 
 -- ---- accepted
@@ -85,8 +85,8 @@ module _ (roads : RoadMap) (is : List Item) (b : Option Batch) (w : Tally) (x : 
   abbrev before : Content
   before = record { map = map_of roads; paths = all_named is }
 
-  keeps : (c : state.Change) (js : List Item) → changed before c ≡ Ok (record { map = map_of roads; paths = all_named js }) → state.HasPlaces (Make c) → AreMade (map_of roads) js → IsRegister roads js b
-  keeps c js is_that places made = is_closed roads js b was_closed (changes_keep before (record { map = map_of roads; paths = all_named js }) c was_right.content places is_that) made
+  keeps : (c : state.Change) (js : List Item) → changed before c ≡ Ok (record { map = map_of roads; paths = all_named js }) → state.HasPlaces (Make c) → AreEncodings (map_of roads) js → IsRegister roads js b
+  keeps c js is_that places at_once = is_closed roads js b was_closed (changes_keep before (record { map = map_of roads; paths = all_named js }) c was_right.content places is_that) at_once
 
   -- ---- dropped
 
@@ -115,7 +115,7 @@ module _ (roads : RoadMap) (is : List Item) (b : Option Batch) (w : Tally) (x : 
   spared_one : (w u : Tally) → u.spared ≡ w.spared → u.spared ≤ w.spared + 1
   spared_one w u kept = omega arith
 
-  module _ (path : Path) (m : Made) (good : IsTrue (is_path path.lines)) (encoded : IsMade (map_of roads) path m) where
+  module _ (path : Path) (m : Made) (good : IsTrue (is_path path.lines)) (encoded : IsEncodingOf (map_of roads) path m) where
     abbrev added : List Item
     added = is ++ record { name = name; path = path; made = Some m } ∷ []
 

@@ -7,15 +7,15 @@ use Rattle.olr_map.specs.RoadMaps.{map_of}
 use Rattle.olr_map.specs.declared.road_map.RoadMap.{RoadMap}
 use Rattle.olr_spec.specs.Map as map_faults
 use Rattle.olr_commands.specs.State as state
-use Rattle.olr_commands.specs.State.{Content, IsContent, path_named, has_path, Fault, Map_fault, Change, On_map, with_map, changed, made, Make, State, step}
+use Rattle.olr_commands.specs.State.{Content, IsContent, path_named, has_path, Fault, Map_fault, Change, On_map, with_map, changed, at_once, Make, State, step}
 use Rattle.olr_commands.specs.Reply as told
 use Rattle.olr_commands.specs.Reply.{Differences, IsReply, IsOutcome, IsRefusal, Told, Lacks, takes_memory, may_want}
 use Rattle.olr_commands.specs.Kept.{StandsIn}
 use Rattle.olr_commands.specs.Registered.{Registered}
-use Rattle.olr_commands.specs.Words.{reply_of, fault_of, map_fault_of}
+use Rattle.olr_commands.specs.Words.{reply_of, command_fault_of, map_fault_of}
 use Rattle.olr_commands.specs.declared.reply.Reply.{Reply}
 use Rattle.olr_commands.specs.declared.fault.CommandFault.{CommandFault}
-use Rattle.olr_paths.specs.Items.{Item, AreMade, all_named}
+use Rattle.olr_paths.specs.Items.{Item, AreEncodings, all_named}
 use Rattle.olr_register.specs.Holding.{kept_of, IsRegister}
 use Rattle.olr_register.specs.Answering.{Answered}
 use Rattle.olr_register.specs.declared.batch.Batch.{Batch}
@@ -31,7 +31,7 @@ accepted_now old new x q es was later is says differences tallied = record {
   outcome = λ s stands.
       let before : State = record { content = old.kept.content; batch = None } in
       let after : State = record { content = new.kept.content; batch = None } in
-      let there : IsOutcome before (Make x) (Ok (reply_of q)) after = (ap made is, subst (λ (r : told.Reply). IsReply before (Make x) after r) (sym says) differences) in (
+      let there : IsOutcome before (Make x) (Ok (reply_of q)) after = (ap at_once is, subst (λ (r : told.Reply). IsReply before (Make x) after r) (sym says) differences) in (
         after,
         (refl, subst (λ b. StandsIn new.kept.content b None) (sym later) tt),
         subst (λ (u : State). IsOutcome u (Make x) (Ok (reply_of q)) after) (sym (one_state old.kept s was stands)) there,
@@ -43,14 +43,14 @@ accepted_now old new x q es was later is says differences tallied = record {
   unchanged = tt;
 }
 
-pub told_now : (old : Registered) (x : Change) (g : Fault) (f : CommandFault) → old.kept.batch ≡ None → changed old.kept.content x ≡ Err g → fault_of f ≡ g → Answered old (Make x) (Err f) old
+pub told_now : (old : Registered) (x : Change) (g : Fault) (f : CommandFault) → old.kept.batch ≡ None → changed old.kept.content x ≡ Err g → command_fault_of f ≡ g → Answered old (Make x) (Err f) old
 told_now old x g f was is says =
     answered_refused old (Make x) f (λ s stands.
-    subst (λ (u : State). IsRefusal u (Make x) (fault_of f)) (sym (one_state old.kept s was stands)) (Told (ap made is ∙ ap (λ (h : Fault). Err h) (sym says))))
+    subst (λ (u : State). IsRefusal u (Make x) (command_fault_of f)) (sym (one_state old.kept s was stands)) (Told (ap at_once is ∙ ap (λ (h : Fault). Err h) (sym says))))
 
-pub lacks_now : (old : Registered) (x : Change) (f : CommandFault) → old.kept.batch ≡ None → takes_memory (Make x) None ≡ true → may_want (made (changed old.kept.content x)) ≡ true → fault_of f ≡ state.Memory → Answered old (Make x) (Err f) old
+pub lacks_now : (old : Registered) (x : Change) (f : CommandFault) → old.kept.batch ≡ None → takes_memory (Make x) None ≡ true → may_want (at_once (changed old.kept.content x)) ≡ true → command_fault_of f ≡ state.Memory → Answered old (Make x) (Err f) old
 lacks_now old x f was takes may says =
-    answered_refused old (Make x) f (λ s stands. subst (λ (u : State). IsRefusal u (Make x) (fault_of f)) (sym (one_state old.kept s was stands)) (Lacks says (λ i. takes i && may i)))
+    answered_refused old (Make x) f (λ s stands. subst (λ (u : State). IsRefusal u (Make x) (command_fault_of f)) (sym (one_state old.kept s was stands)) (Lacks says (λ i. takes i && may i)))
 
 -- a register that is as before
 pub as_before : (old new : Registered) (x : Change) (f : CommandFault) → new ≡ old → Answered old (Make x) (Err f) old → Answered old (Make x) (Err f) new
@@ -74,18 +74,18 @@ seen_again roads later is js b w u none map same work =
     let with_none : seen later js None u ≡ seen roads is None w = λ i. record { kept = record { content = record { map = map i; paths = all_named (same i) }; batch = None }; work = (work i).work; spared = (work i).spared } in
     ap (λ (o : Option Batch). seen later js o u) none ∙ with_none ∙ ap (λ (o : Option Batch). seen roads is o w) (sym none)
 
-pub is_closed : (roads : RoadMap) (is : List Item) (b : Option Batch) → b ≡ None → IsContent (record { map = map_of roads; paths = all_named is }) → AreMade (map_of roads) is → IsRegister roads is b
-is_closed roads is b none content made = subst (IsRegister roads is) (sym none) (record { content = content; made = made; held = tt })
+pub is_closed : (roads : RoadMap) (is : List Item) (b : Option Batch) → b ≡ None → IsContent (record { map = map_of roads; paths = all_named is }) → AreEncodings (map_of roads) is → IsRegister roads is b
+is_closed roads is b none content at_once = subst (IsRegister roads is) (sym none) (record { content = content; made = at_once; held = tt })
 
 -- where map and list are as before
 pub still_closed : (roads later : RoadMap) (is js : List Item) (b : Option Batch) → b ≡ None → map_of later ≡ map_of roads → js ≡ is → IsRegister roads is b → IsRegister later js b
 still_closed roads later is js b none same listed right =
     let was : IsRegister roads is None = subst (IsRegister roads is) none right in
-    is_closed later js b none (coe 0 1 (i. IsContent (record { map = sym same i; paths = all_named (sym listed i) })) was.content) (coe 0 1 (i. AreMade (sym same i) (sym listed i)) was.made)
+    is_closed later js b none (coe 0 1 (i. IsContent (record { map = sym same i; paths = all_named (sym listed i) })) was.content) (coe 0 1 (i. AreEncodings (sym same i) (sym listed i)) was.made)
 
 -- ---- faults of the map
 
-pub told_by_map : (g : MapFault) → map_fault_of (edits.fault_of g) ≡ Map_fault g
+pub told_by_map : (g : MapFault) → map_fault_of (edits.edit_fault_of g) ≡ Map_fault g
 told_by_map map_faults.Node_exists = refl
 told_by_map map_faults.No_node = refl
 told_by_map map_faults.Line_exists = refl

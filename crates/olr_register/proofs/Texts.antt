@@ -20,7 +20,7 @@ use Rattle.olr_commands.specs.State.{text_fault, bytes_fault}
 use Rattle.olr_commands.specs.Reply as told
 use Rattle.olr_commands.specs.Reply.{Explained}
 use Rattle.olr_commands.specs.Registered.{Registered}
-use Rattle.olr_commands.specs.Words.{reply_of, fault_of, text_fault_of}
+use Rattle.olr_commands.specs.Words.{reply_of, command_fault_of, text_fault_of}
 use Rattle.olr_commands.specs.declared.reply.Reply.{Reply}
 use Rattle.olr_commands.specs.declared.fault.CommandFault.{CommandFault}
 use Rattle.olr_register.specs.Answering.{Answered}
@@ -43,12 +43,12 @@ explain_text x text r q is of =
     let sound : text_fault text ≡ None = ap bytes_fault bytes ∙ ap (option_map (λ (f : spec.V3Fault). state.Not_v3 f)) (spelling-sound q of.0) in
     explain_answered x text r q is sound (spelling q, bytes, (of.0, refl))
 
-bytes_refused : (x : Registered) (text b : List ℕ) (g : spec.V3Fault) (f : CommandFault) → decode_of standard text ≡ Ok b → v3_fault b ≡ Some g → fault_of f ≡ state.Not_a_reference (state.Not_v3 g)
+bytes_refused : (x : Registered) (text b : List ℕ) (g : spec.V3Fault) (f : CommandFault) → decode_of standard text ≡ Ok b → v3_fault b ≡ Some g → command_fault_of f ≡ state.Not_a_reference (state.Not_v3 g)
     → Answered x (state.Explain text) (Err f) x
 bytes_refused x text b g f decoded fault is =
     explain_refused x text f (state.Not_v3 g) is (ap bytes_fault (decoded_ok text b decoded) ∙ ap (option_map (λ (h : spec.V3Fault). state.Not_v3 h)) fault)
 
-pub explain_fault : (x : Registered) (text : List ℕ) (fault : TextFault) (f : CommandFault) → IsFaultOf text fault → fault_of f ≡ text_fault_of fault → Answered x (state.Explain text) (Err f) x
+pub explain_fault : (x : Registered) (text : List ℕ) (fault : TextFault) (f : CommandFault) → IsFaultOf text fault → command_fault_of f ≡ text_fault_of fault → Answered x (state.Explain text) (Err f) x
 explain_fault x text (Bytes Memory) f is e = explain_lacks x text f e
 explain_fault x text (Bytes Length) f is e = bytes_refused x text is.0 spec.Length f is.1 is.2 e
 explain_fault x text (Bytes Status) f is e = bytes_refused x text is.0 spec.Status f is.1 is.2 e

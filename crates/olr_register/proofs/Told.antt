@@ -10,7 +10,7 @@ use Rattle.olr_spec.specs.Encoding.{Answer}
 use Rattle.olr_commands.specs.State.{Named, same_name, path_named, NamesDiffer, IsContent}
 use Rattle.olr_commands.specs.Reply.{Entry, entry, Differences}
 use Rattle.olr_commands.proofs.NameLemmas.{not_named, same_is}
-use Rattle.olr_paths.specs.Items.{Made, Item, IsMade, AreMade, named, all_named, made_in, answer_in}
+use Rattle.olr_paths.specs.Items.{Made, Item, IsEncodingOf, AreEncodings, named, all_named, made_in, answer_in}
 use Rattle.olr_paths.specs.Changes.{AreRemade, Reported, Follows, set_item}
 use Rattle.olr_register.proofs.Renewed.{remade_made}
 use Rattle.olr_register.proofs.Replies.{changes_told}
@@ -39,8 +39,8 @@ told_last before (k ∷ js) j A es made new r = (
   ],
 )
 
-pub reported_add : (M : Map) (is : List Item) (name : List ℕ) (path : Path) (m : Made) (es : List Entry) → IsContent (record { map = M; paths = all_named is }) → AreMade M is
-    → is_some (path_named (all_named is) name) ≡ false → IsMade M path m → es ≡ entry name m.answer ∷ []
+pub reported_add : (M : Map) (is : List Item) (name : List ℕ) (path : Path) (m : Made) (es : List Entry) → IsContent (record { map = M; paths = all_named is }) → AreEncodings M is
+    → is_some (path_named (all_named is) name) ≡ false → IsEncodingOf M path m → es ≡ entry name m.answer ∷ []
     → Differences (record { map = M; paths = all_named is }) (record { map = M; paths = all_named (is ++ record { name = name; path = path; made = Some m } ∷ []) }) es
 reported_add M is name path m es content a free right told =
     let j : Item = record { name = name; path = path; made = Some m } in
@@ -61,7 +61,7 @@ set_absent name path made (i ∷ is) h =
     λ k. one k ∷ rest k
 
 told_set : (M : Map) (before : List Item) (name : List ℕ) (path : Path) (m : Made) → answer_in before name ≢ Some m.answer
-    → (js : List Item) → NamesDiffer (all_named js) → is_some (path_named (all_named js) name) ≡ true → AreMade M js → Follows before js → Reported before (map (set_item name path (Some m)) js) (entry name m.answer ∷ [])
+    → (js : List Item) → NamesDiffer (all_named js) → is_some (path_named (all_named js) name) ≡ true → AreEncodings M js → Follows before js → Reported before (map (set_item name path (Some m)) js) (entry name m.answer ∷ [])
 told_set M before name path m new [] d h a f = absurd cc
 told_set M before name path m new (j ∷ js) d h a f =
     elim (cases_Bool (same_name j.name name)) [
@@ -81,8 +81,8 @@ told_set M before name path m new (j ∷ js) d h a f =
           (untold.0, entry name m.answer ∷ [], untold.2, rest, elim untold.4 [ inl u ↦ inl (u.0, refl) | inr u ↦ absurd (let no : ◌≡◌ {A = List Entry} [] (entry j.name untold.0 ∷ untold.1) = u.1 in cc) ])
     ]
 
-pub reported_set : (M : Map) (is : List Item) (name : List ℕ) (path : Path) (m : Made) (es : List Entry) → IsContent (record { map = M; paths = all_named is }) → AreMade M is
-    → is_some (path_named (all_named is) name) ≡ true → IsMade M path m
+pub reported_set : (M : Map) (is : List Item) (name : List ℕ) (path : Path) (m : Made) (es : List Entry) → IsContent (record { map = M; paths = all_named is }) → AreEncodings M is
+    → is_some (path_named (all_named is) name) ≡ true → IsEncodingOf M path m
     → ((answer_in is name ≡ Some m.answer) × (es ≡ [])) ⊎ ((answer_in is name ≢ Some m.answer) × (es ≡ entry name m.answer ∷ []))
     → Differences (record { map = M; paths = all_named is }) (record { map = M; paths = all_named (map (set_item name path (Some m)) is) }) es
 reported_set M is name path m es content a taken right told =
@@ -96,7 +96,7 @@ reported_set M is name path m es content a taken right told =
 
 -- ---- dropped
 
-pub reported_drop : (M : Map) (is : List Item) (name : List ℕ) → IsContent (record { map = M; paths = all_named is }) → AreMade M is
+pub reported_drop : (M : Map) (is : List Item) (name : List ℕ) → IsContent (record { map = M; paths = all_named is }) → AreEncodings M is
     → Differences (record { map = M; paths = all_named is }) (record { map = M; paths = all_named (filter (λ i. not (same_name i.name name)) is) }) []
 reported_drop M is name content a =
     let left = made_drop M is name a in
@@ -106,12 +106,12 @@ reported_drop M is name content a =
 
 -- what a renewal leaves and tells, on the map after an edit or a batch
 pub record RenewedAll (M N : Map) (before js : List Item) (es : List Entry) : Type 0 where
-  pub made : AreMade N js
+  pub made : AreEncodings N js
   pub content : IsContent (record { map = N; paths = all_named js })
   pub differences : Differences (record { map = M; paths = all_named before }) (record { map = N; paths = all_named js }) es
 
 pub renewed_all : (M N : Map) (before is js : List Item) (es : List Entry) → IsContent (record { map = M; paths = all_named before }) → IsContent (record { map = N; paths = all_named is })
-    → AreMade M before → AreRemade N is js → all_named js ≡ all_named is → Reported before js es → RenewedAll M N before js es
+    → AreEncodings M before → AreRemade N is js → all_named js ≡ all_named is → Reported before js es → RenewedAll M N before js es
 renewed_all M N before is js es content later was remade names reported =
     let made = remade_made N is js remade in
     record {
@@ -121,7 +121,7 @@ renewed_all M N before is js es content later was remade names reported =
     }
 
 -- of one edit
-pub renewed_edit : (M N : Map) (e : Edit) (is js : List Item) (es : List Entry) → IsContent (record { map = M; paths = all_named is }) → HasPlace e → edited M e ≡ Ok N → AreMade M is
+pub renewed_edit : (M N : Map) (e : Edit) (is js : List Item) (es : List Entry) → IsContent (record { map = M; paths = all_named is }) → HasPlace e → edited M e ≡ Ok N → AreEncodings M is
     → AreRemade N is js → all_named js ≡ all_named is → Reported is js es → RenewedAll M N is js es
 renewed_edit M N e is js es content place ok was remade names reported =
     let later : IsContent (record { map = N; paths = all_named is }) = record { map = edits_keep M N e content.map place ok; paths = content.paths; names = content.names } in

@@ -9,9 +9,9 @@ use Rattle.olr_spec.specs.Extension.{has}
 use Rattle.olr_commands.specs.State.{Content, Fault, Memory, Batch_full, full, when, Change, changed, same_name}
 use Rattle.olr_commands.specs.Reply.{is_told_first}
 use Rattle.olr_commands.specs.Reply as replies
-use Rattle.olr_commands.specs.Counts.{nodes_of, lines_of, names_of}
+use Rattle.olr_commands.specs.Counts.{nodes_of_change, lines_of_change, names_of_change}
 use Rattle.olr_commands.specs.Kept.{Batch, Held, content_of}
-use Rattle.olr_commands.specs.Words.{fault_of, reply_of}
+use Rattle.olr_commands.specs.Words.{command_fault_of, reply_of}
 use Rattle.olr_commands.specs.declared.reply.Reply.{Reply}
 use Rattle.olr_commands.specs.declared.fault.CommandFault.{CommandFault}
 
@@ -25,9 +25,9 @@ AreGiven names hs = AllByRecursion (λ h. h.given ≡ list_any (same_name h.name
 pub record IsAdded (old : Batch) (x : Change) (new : Batch) : Type 0 where
   pub content : taken old x ≡ Ok (content_of new)
   pub count : new.count ≡ suc old.count
-  pub nodes : (v : ℕ) → has new.nodes v ≡ (has old.nodes v || has (nodes_of old.map x) v)
-  pub lines : (y : ℕ) → has new.lines y ≡ (has old.lines y || has (lines_of x) y)
-  pub given : (names : List (List ℕ)) → AreGiven names old.paths → AreGiven (names ++ names_of x) new.paths
+  pub nodes : (v : ℕ) → has new.nodes v ≡ (has old.nodes v || has (nodes_of_change old.map x) v)
+  pub lines : (y : ℕ) → has new.lines y ≡ (has old.lines y || has (lines_of_change x) y)
+  pub given : (names : List (List ℕ)) → AreGiven names old.paths → AreGiven (names ++ names_of_change x) new.paths
 
 -- want of memory is told only where no fault is that comes before it
 pub data IsRefused (taking : Result Content Fault) (fault : Fault) : Type 0 where
@@ -37,5 +37,5 @@ pub data IsRefused (taking : Result Content Fault) (fault : Fault) : Type 0 wher
 pub record Given (old : Batch) (x : Change) (result : Result Reply CommandFault) (new : Batch) : Type 0 where
   pub added : OnOk result (IsAdded old x new)
   pub reply : IfOk result (λ r. reply_of r ≡ replies.Held new.count)
-  pub refused : IfErr result (λ f. IsRefused (taken old x) (fault_of f))
+  pub refused : IfErr result (λ f. IsRefused (taken old x) (command_fault_of f))
   pub unchanged : OnErr result (new ≡ old)

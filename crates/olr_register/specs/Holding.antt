@@ -12,7 +12,7 @@ use Rattle.olr_near.specs.Numbers.{IsRight, IsSource}
 use Rattle.olr_near.specs.declared.nearness.Nearness.{Nearness}
 use Rattle.olr_commands.specs.State.{IsContent, full}
 use Rattle.olr_commands.specs.Kept as kept
-use Rattle.olr_paths.specs.Items.{Item, AreMade, AreMadeIfAny, all_named}
+use Rattle.olr_paths.specs.Items.{Item, AreEncodings, AreEncodingsIfAny, all_named}
 use Rattle.olr_paths.specs.Changes.{Follows}
 use Rattle.olr_paths.specs.Beginning.{Begins}
 use Rattle.olr_paths.specs.Laying.{overlaid}
@@ -62,13 +62,13 @@ pub record IsHeld (roads : RoadMap) (before : List Item) (b : Batch) : Type 0 wh
   pub sound : IsContent (record { map = map_of roads; paths = all_named (overlaid before b.overlay) })
   pub few : b.count ≤ full
   pub noted : IsNoted (map_before roads b.log) (map_of roads) (nodes_of b.touched) (lines_of b.touched) (changed_of b.touched)
-  pub made : AreMadeIfAny (map_before roads b.log) (overlaid before b.overlay)
+  pub made : AreEncodingsIfAny (map_before roads b.log) (overlaid before b.overlay)
   pub follows : Follows before (overlaid before b.overlay)
   pub begins : (v : ℕ) → Begins (overlaid before b.overlay) v → Begins before v
 
 pub record IsRegister (roads : RoadMap) (is : List Item) (batch : Option Batch) : Type 0 where
   pub content : IsContent (record { map = map_kept roads batch; paths = all_named is })
-  pub made : AreMade (map_kept roads batch) is
+  pub made : AreEncodings (map_kept roads batch) is
   pub held : IfSome batch (IsHeld roads is)
 
 pub record IsNumbered (M : Map) (is : List Item) (near : Nearness) : Type 0 where

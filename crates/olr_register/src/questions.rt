@@ -1,6 +1,6 @@
 //! Commands that ask, and change nothing.
 ghost use Rattle.std.specs.Prelude.{◌≡◌, [], ◌∷◌, IfOk};
-ghost use Rattle.olr_commands.specs.Words.{fault_of, text_fault_of};
+ghost use Rattle.olr_commands.specs.Words.{command_fault_of, text_fault_of};
 
 use crate::register::Register;
 use olr_binary::{TextFault, V3Fault, from_text};
@@ -18,7 +18,7 @@ fn alone(alloc: Global, entry: Entry) -> Result<Vec<Entry>, AllocError>
 
 /// The refusal of a text that is no reference; for want of memory `Memory`.
 fn text_refusal(fault: TextFault) -> CommandFault
-    ensures { fault_of result ≡ text_fault_of fault }
+    ensures { command_fault_of result ≡ text_fault_of fault }
 {
     match fault {
         TextFault::Bytes(V3Fault::Memory) => CommandFault::Memory,

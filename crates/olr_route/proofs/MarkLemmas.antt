@@ -15,7 +15,7 @@ use Rattle.std.proofs.Math.Nat.{mul-le-mul_right}
 use Rattle.std.proofs.lemmas.Grind.{get_or_default_zero}
 use Rattle.olr_spec.specs.Map.{Map, has_line, start, end, dm, lines_out}
 use Rattle.olr_route.specs.Labels.{Label}
-use Rattle.olr_route.specs.Marks.{Marks, mark_at, NotGreater, NotAfter, Capped, ClosedAt, Found, FoundAt, IsState, Keeps, Moves, Marked, IsClosed, gain}
+use Rattle.olr_route.specs.Marks.{Marks, mark_at, NotGreater, NotAfter, Capped, ClosedAt, Found, FoundAt, IsSearchState, Keeps, Moves, Marked, IsClosed, gain}
 use Rattle.olr_route.proofs.LabelLemmas.{same_label, is_some_of, some_of, not_after_le}
 use Rattle.olr_route.proofs.ReadLemmas.{leaving}
 use Rattle.olr_route.proofs.WalkEnds.{last_of-append, dm_of-line, walk_on}
@@ -128,7 +128,7 @@ found_on M s x d known f = record {
   ends = last_of-append f.1.lines x;
 }
 
-module _ (M : Map) (s limit : ℕ) (m n : Marks) (v d x : ℕ) (shorter : Bool) (f : IsState M s limit m) (k : Marked (mark_at m) (mark_at n) v d x shorter) where
+module _ (M : Map) (s limit : ℕ) (m n : Marks) (v d x : ℕ) (shorter : Bool) (f : IsSearchState M s limit m) (k : Marked (mark_at m) (mark_at n) v d x shorter) where
   -- a mark afterwards is the new one, or it was there
   either_mark : (P : ℕ → ℕ → Option ℕ → Type 0) → P v d (Some x) → ((q e : ℕ) (o : Option ℕ) → mark_at m q ≡ Some (e, o) → P q e o) → (q e : ℕ) (o : Option ℕ) → mark_at n q ≡ Some (e, o) → P q e o
   either_mark P new old q e o at = elim (cases_eq q v) [
@@ -158,7 +158,7 @@ module _ (M : Map) (s limit : ℕ) (m n : Marks) (v d x : ℕ) (shorter : Bool) 
     | inr ne ↦ k.others s ne ∙ f.at_source
   ]
 
-  pub state_more : 1 ≤ d → d ≤ limit → Found M s v d (Some x) → 1 ≤ v → v < 2 ^ 32 → IsUnique nat_eq n → IsState M s limit n
+  pub state_more : 1 ≤ d → d ≤ limit → Found M s v d (Some x) → 1 ≤ v → v < 2 ^ 32 → IsUnique nat_eq n → IsSearchState M s limit n
   state_more far short found from below unique = record {
     at_source = source_stays far;
     within = either_mark (λ q e o. e ≤ limit) short f.within;
@@ -185,7 +185,7 @@ pub keeps_then : (M : Map) (limit u v d : ℕ) (m n k : Marks) → v ≡ u → K
 keeps_then M limit u v d m n k same f h = record { state = λ s found was. h.state s (subst (λ (w : ℕ). FoundAt M s w d) (sym same) found) (f.state s found was) }
 
 -- at first the source alone is marked
-pub state_first : (M : Map) (s limit : ℕ) (m : Marks) → mark_at m s ≡ Some (0, None) → ((q : ℕ) → q ≢ s → mark_at m q ≡ None) → 1 ≤ s → s < 2 ^ 32 → IsUnique nat_eq m → IsState M s limit m
+pub state_first : (M : Map) (s limit : ℕ) (m : Marks) → mark_at m s ≡ Some (0, None) → ((q : ℕ) → q ≢ s → mark_at m q ≡ None) → 1 ≤ s → s < 2 ^ 32 → IsUnique nat_eq m → IsSearchState M s limit m
 state_first M s limit m at others from below unique =
     record {
       at_source = at;

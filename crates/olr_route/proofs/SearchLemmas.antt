@@ -13,7 +13,7 @@ use Rattle.olr_spec.proofs.WalkLemmas.{positive}
 use Rattle.olr_route.specs.Distances.{Way, Leads, IsDistance, near_end, far_end}
 use Rattle.olr_route.specs.Notes.{label_in, NotesOnce}
 use Rattle.olr_route.specs.Founds.{label_of, found_len, queued_len, IsQueued, IsEmpty, IsPut, NotedOnce, Moves}
-use Rattle.olr_route.specs.Searches.{ClosedAt, HasRoom, IsListed, IsLabelled, IsUnderWay, IsSearch, IsNear, IsReached}
+use Rattle.olr_route.specs.Searches.{ClosedAt, CoversPlaces, IsListed, IsLabelled, IsUnderWay, IsSearch, IsNear, IsReached}
 use Rattle.olr_route.specs.declared.routes.TheConstants.{GREATEST_LIMIT}
 use Rattle.olr_route.specs.declared.found.TheConstants.{NO_LABEL}
 use Rattle.olr_route.specs.declared.found.Reached.{Reached}
@@ -156,7 +156,7 @@ module _ (M : Map) (place : ℕ → ℕ) (direction : Direction) (from : List (�
     }
 
   -- no labels at all
-  pub empty_labelled : (f : Found) → IsMap M → ((v w : ℕ) → IsTrue (has_node M v) → IsTrue (has_node M w) → place v ≡ place w → v ≡ w) → HasRoom M place f → IsEmpty f → IsLabelled M place direction from f
+  pub empty_labelled : (f : Found) → IsMap M → ((v w : ℕ) → IsTrue (has_node M v) → IsTrue (has_node M w) → place v ≡ place w → v ≡ w) → CoversPlaces M place f → IsEmpty f → IsLabelled M place direction from f
   empty_labelled f m own room e = record {
     sound = m;
     own = own;

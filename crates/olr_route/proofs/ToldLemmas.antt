@@ -9,7 +9,7 @@ use Rattle.olr_spec.proofs.WalkLemmas.{positive}
 use Rattle.olr_route.specs.Labels.{Label, AreLabels, label_at}
 use Rattle.olr_route.specs.Listed.{listed, IsTight, IsLastLine, IsTold}
 use Rattle.olr_route.specs.Founds.{label_of}
-use Rattle.olr_route.specs.Marks.{Marks, NotGreater, Capped, Found, IsClosed, IsState, mark_at}
+use Rattle.olr_route.specs.Marks.{Marks, NotGreater, Capped, Found, IsClosed, IsSearchState, mark_at}
 use Rattle.olr_route.specs.Searches.{IsSearch, IsNear}
 use Rattle.olr_route.specs.declared.distances.Direction.TheVariants.{Along}
 use Rattle.olr_route.specs.declared.distances.Search.{Search}
@@ -160,7 +160,7 @@ module _ (M : Map) (place : ℕ → ℕ) (s : ℕ) (q : Search) (h : IsSearch M 
 
 -- marks that no line improves, told in lists, are labels too
 pub marked_labels : (M : Map) → IsMap M → (s limit : ℕ) (m : Marks) (ks : List ℕ) (ls : List Label) → IsStrictlyIncreasing ks → length ls ≡ length ks → ((v : ℕ) → Contains ks v ↔ IsSome (mark_at m v))
-    → ((i : ℕ) → i < length ks → mark_at m (get_or ks i 0) ≡ Some (get_or ls i (0, None))) → IsState M s limit m → IsClosed M limit (mark_at m) → AreLabels M (listed s limit ks ls)
+    → ((i : ℕ) → i < length ks → mark_at m (get_or ks i 0) ≡ Some (get_or ls i (0, None))) → IsSearchState M s limit m → IsClosed M limit (mark_at m) → AreLabels M (listed s limit ks ls)
 marked_labels M sound s limit m ks ls up beside nodes each f closed =
     let marks : Certified M s limit (mark_at m) = record { at_source = f.at_source; within = f.within; found = f.found; closed = closed } in
     labels_of_certified M sound (listed s limit ks ls) (subst (Certified M s limit) (λ i v. sym (label_at-listed s limit ks ls up beside (mark_at m) nodes each v) i) marks)

@@ -4,7 +4,7 @@
 --     Capped L v d o      the mark at v is not after a walk of length d with last line o
 --     ClosedAt M limit L u d      no line out of u, where d, improves a mark.        IsClosed M limit L      no line improves one: then the marks are the labels
 --     Found M s v d o      a walk of length d with last line o leads from s to v.        FoundAt M s v d      one with any last line
---     IsState M s limit m      the marks of a search from s: each is of such a walk, within the limit
+--     IsSearchState M s limit m      the marks of a search from s: each is of such a walk, within the limit
 --     Keeps M limit u d m n      the marks stay those of each search that finds a walk of length d to u
 --     Marked L K v d x shorter      a walk of length d with last line x is put at v
 --     Moves L K next      from marks L to marks K none got worse, and where a length is new the node stands in `next`
@@ -53,7 +53,7 @@ pub record Found (M : Map) (s v d : ℕ) (o : Option ℕ) : Type 0 where
 abbrev pub FoundAt : Map → ℕ → ℕ → ℕ → Type 0
 FoundAt M s v d = (o : Option ℕ) × Found M s v d o
 
-pub record IsState (M : Map) (s limit : ℕ) (m : Marks) : Type 0 where
+pub record IsSearchState (M : Map) (s limit : ℕ) (m : Marks) : Type 0 where
   pub at_source : mark_at m s ≡ Some (0, None)
   pub within : (v d : ℕ) (o : Option ℕ) → mark_at m v ≡ Some (d, o) → d ≤ limit
   pub found : (v d : ℕ) (o : Option ℕ) → mark_at m v ≡ Some (d, o) → Found M s v d o
@@ -61,7 +61,7 @@ pub record IsState (M : Map) (s limit : ℕ) (m : Marks) : Type 0 where
   pub unique : IsUnique nat_eq m
 
 pub record Keeps (M : Map) (limit u d : ℕ) (m n : Marks) : Type 0 where
-  pub state : (s : ℕ) → FoundAt M s u d → IsState M s limit m → IsState M s limit n
+  pub state : (s : ℕ) → FoundAt M s u d → IsSearchState M s limit m → IsSearchState M s limit n
 
 -- unless the mark there is not after it; `shorter` where v had no mark, or that of a longer walk
 pub record Marked (L K : ℕ → Option Label) (v d x : ℕ) (shorter : Bool) : Type 0 where

@@ -27,8 +27,8 @@ abbrev pub ClosedAt : Map → (ℕ → ℕ) → Direction → Found → ℕ → 
 ClosedAt M place direction f v d = (x : ℕ) → IsTrue (has_line M x) → near_end M direction x ≡ v → label_of f (place (far_end M direction x)) ≤ d + dm M x
 
 -- the table has a place for each node
-abbrev pub HasRoom : Map → (ℕ → ℕ) → Found → Type 0
-HasRoom M place f = (v : ℕ) → IsTrue (has_node M v) → place v < found_len f
+abbrev pub CoversPlaces : Map → (ℕ → ℕ) → Found → Type 0
+CoversPlaces M place f = (v : ℕ) → IsTrue (has_node M v) → place v < found_len f
 
 -- a node of the list stands at its place, with a label
 pub record IsListed (M : Map) (place : ℕ → ℕ) (f : Found) (r : Reached) : Type 0 where
@@ -39,7 +39,7 @@ pub record IsListed (M : Map) (place : ℕ → ℕ) (f : Found) (r : Reached) : 
 pub record IsLabelled (M : Map) (place : ℕ → ℕ) (direction : Direction) (from : List (ℕ × ℕ)) (f : Found) : Type 0 where
   pub sound : IsMap M
   pub own : (v w : ℕ) → IsTrue (has_node M v) → IsTrue (has_node M w) → place v ≡ place w → v ≡ w
-  pub room : HasRoom M place f
+  pub room : CoversPlaces M place f
   pub low : (p : ℕ) → label_of f p ≤ NO_LABEL
   pub leads : (v : ℕ) → IsTrue (has_node M v) → label_of f (place v) ≤ GREATEST_LIMIT → Leads M direction from v (label_of f (place v))
   pub nodes : (p : ℕ) → label_of f p ≤ GREATEST_LIMIT → (v : ℕ) × IsTrue (has_node M v) × (place v ≡ p)

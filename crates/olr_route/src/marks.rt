@@ -4,7 +4,7 @@ ghost use Rattle.std.specs.Bool.{OnTrue, OnFalse};
 ghost use Rattle.std.specs.List.Sorted.{IsStrictlyIncreasing};
 ghost use Rattle.std.specs.HashMap.{IsUnique, hash_map_len};
 ghost use Rattle.olr_spec.specs.Map.{Map, has_line, start, end, dm};
-ghost use Rattle.olr_route.specs.Marks.{mark_at, NotAfter, Marked, Capped, IsState, Keeps, Moves, gain};
+ghost use Rattle.olr_route.specs.Marks.{mark_at, NotAfter, Marked, Capped, IsSearchState, Keeps, Moves, gain};
 
 use crate::lines::end_of;
 use crate::routes::GREATEST_LIMIT;
@@ -17,7 +17,7 @@ pub type Marks = HashMap<u32, (u32, Option<LineId>)>;
 
 /// The marks at first: that of the empty walk, at the source.
 pub fn first_marks(alloc: Global, source: NodeId) -> Result<Marks, AllocError>
-    ensures state { IfOk result (λ marks. (M : Map) (limit : ℕ) → IsState M source limit marks) }
+    ensures state { IfOk result (λ marks. (M : Map) (limit : ℕ) → IsSearchState M source limit marks) }
     ensures others { IfOk result (λ marks. (v : ℕ) → v ≢ source → mark_at marks v ≡ None) }
 {
     let mut marks = HashMap::new(alloc);

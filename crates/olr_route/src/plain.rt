@@ -4,7 +4,7 @@ ghost use Rattle.std.specs.Prelude.{◌≡◌, ◌≤◌, ◌<◌, ◌+◌, ◌�
 ghost use Rattle.olr_spec.specs.Map.{has_node};
 ghost use Rattle.olr_route.specs.Labels.{AreLabels, label_at, count_of};
 ghost use Rattle.olr_route.specs.Counts.{after_search};
-ghost use Rattle.olr_route.specs.Marks.{mark_at, ClosedAt, IsClosed, IsState, Keeps, Moves, gain};
+ghost use Rattle.olr_route.specs.Marks.{mark_at, ClosedAt, IsClosed, IsSearchState, Keeps, Moves, gain};
 
 use crate::labels::{Labels, noted};
 use crate::marks::{Marks, first_marks, follow, nodes_of};
@@ -56,9 +56,9 @@ fn sweep<M: MapRead>(
     marks: &mut Marks,
 ) -> Result<bool, AllocError>
     requires limit { limit ≤ GREATEST_LIMIT }
-    requires state { (s : ℕ) × IsState (M.map map.now) s limit marks.old }
+    requires state { (s : ℕ) × IsSearchState (M.map map.now) s limit marks.old }
     ensures state { OnOk result ((s : ℕ)
-        → IsState (M.map map.now) s limit marks.old → IsState (M.map map.now) s limit marks.new) }
+        → IsSearchState (M.map map.now) s limit marks.old → IsSearchState (M.map map.now) s limit marks.new) }
     ensures closed { IfOk result (λ changed. changed ≡ false → IsClosed (M.map map.now) limit (mark_at marks.new)) }
     ensures gain { IfOk result (λ changed. gain limit marks.old + (if changed then 1 else 0) ≤ gain limit marks.new) }
 {

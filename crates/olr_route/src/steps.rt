@@ -3,7 +3,7 @@ ghost use Rattle.std.specs.Prelude.{◌≡◌, ◌≤◌, ℕ, List, Contains, O
 ghost use Rattle.olr_spec.specs.Map.{has_node};
 ghost use Rattle.olr_route.specs.Distances.{Leads, ends_at};
 ghost use Rattle.olr_route.specs.Founds.{Moves, label_of};
-ghost use Rattle.olr_route.specs.Searches.{ClosedAt, HasRoom, IsLabelled};
+ghost use Rattle.olr_route.specs.Searches.{ClosedAt, CoversPlaces, IsLabelled};
 
 use crate::distances::Direction;
 use crate::found::Found;
@@ -18,7 +18,7 @@ pub fn start<M: MapRead>(
     length: u32,
     found: &mut Found,
 ) -> Result<(), AllocError>
-    requires { HasRoom (M.map map.now) (M.place_in map.now) found.old }
+    requires { CoversPlaces (M.map map.now) (M.place_in map.now) found.old }
     ensures moves { OnOk result (Moves found.old found.new) }
     ensures labelled { OnOk result ((direction : _) (from : List (ℕ × ℕ)) → Contains from (node, length)
         → IsLabelled (M.map map.now) (M.place_in map.now) direction from found.old
@@ -54,7 +54,7 @@ pub fn follow<M: MapRead>(
 ) -> Result<(), AllocError>
     requires node { (v : ℕ) × IsTrue (has_node (M.map map.now) v) × (M.place_in map.now v ≡ place) }
     requires within { dist ≤ GREATEST_LIMIT }
-    requires room { HasRoom (M.map map.now) (M.place_in map.now) found.old }
+    requires room { CoversPlaces (M.map map.now) (M.place_in map.now) found.old }
     ensures moves { OnOk result (Moves found.old found.new) }
     ensures labelled { OnOk result ((v : ℕ) (from : List (ℕ × ℕ)) → IsTrue (has_node (M.map map.now) v) → M.place_in map.now v ≡ place
         → Leads (M.map map.now) direction from v dist

@@ -9,7 +9,7 @@ use Rattle.olr_spec.specs.Map.{Map, IsMap, Line, has_line, start, end, dm, place
 use Rattle.olr_spec.specs.Walks.{Walk, dm_of, Sole, Route}
 use Rattle.olr_spec.specs.Extension.{Path, is_path, has, first, last, passing, MayPrecede, MayFollow, StartChain, EndChain, LongestStart, LongestEnd, Tried, from_start, taken_start, extended, limit}
 use Rattle.olr_spec.specs.Points.{node_at, stretch, Covered, fit16, Candidate, ValidCandidate, Greatest, Next, To_end, To_valid, To_passing, NoNext, Follow}
-use Rattle.olr_spec.specs.Encoding.{Answer, Refused, Refusal, path_fault, answer_of, Encoding, Encodes}
+use Rattle.olr_spec.specs.Encoding.{Answer, Refused, Refusal, path_fault, answer_by_points, Encoding, Encodes}
 use Rattle.olr_spec.proofs.WalkLemmas.{positive, dm_of-append}
 use Rattle.olr_spec.proofs.MapLemmas.{has-lines_where, passes_at}
 use Rattle.olr_spec.proofs.ListLemmas.{Each, Each-nil, Each-cons, Each-head, Each-tail}
@@ -288,7 +288,7 @@ some_tried M m P n f l =
 
 -- ---- an answer
 
-encoding_of : (M : Map) (P : Path) (b a js : List ℕ) → Tried M P b a → Follow M (extended M P b a).lines 0 js → Encoding M P (answer_of M (extended M P b a) js)
+encoding_of : (M : Map) (P : Path) (b a js : List ℕ) → Tried M P b a → Follow M (extended M P b a).lines 0 js → Encoding M P (answer_by_points M (extended M P b a) js)
 encoding_of M P b a js t f = record { before = b; after = a; points = js; tried = t; follow = f; holds = refl }
 
 pub some_encoding : (M : Map) → IsMap M → (P : Path) → IsTrue (is_path P.lines) → path_fault M P ≡ None → (A : Answer) × Encoding M P A
@@ -299,7 +299,7 @@ some_encoding M m P is e =
     let t = some_tried M m P n (all_first Known P.lines n known) (all_last Known P.lines n known) in
     let E = extended M P t.0 t.1 in
     let js = some_follow M m E.lines (length E.lines) 0 (omega arith) in
-    (answer_of M E js.0, encoding_of M P t.0 t.1 js.0 t.2 js.1)
+    (answer_by_points M E js.0, encoding_of M P t.0 t.1 js.0 t.2 js.1)
 
 some_by : (M : Map) → IsMap M → (P : Path) → IsTrue (is_path P.lines) → (o : Option Refusal) → path_fault M P ≡ o → (A : Answer) × MatchOption o (Encoding M P A) (λ r. A ≡ Refused r)
 some_by M m P is None e = some_encoding M m P is e

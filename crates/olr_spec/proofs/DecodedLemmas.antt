@@ -9,7 +9,7 @@ use Rattle.olr_spec.specs.Map.{Map, IsMap, has_line, place_at}
 use Rattle.olr_spec.specs.Extension.{Path, is_path, has, extended}
 use Rattle.olr_spec.specs.Points.{node_at, Follow}
 use Rattle.olr_spec.specs.Bearings.{Leg}
-use Rattle.olr_spec.specs.Reference.{Middle, Reference, legs, position, first_kept, last_kept, kept, last_two, middle_points, reference_of, reference_by, reference}
+use Rattle.olr_spec.specs.Reference.{Middle, Reference, legs, position, first_kept, last_kept, kept, last_two, middle_points, reference_by_kept, reference_by, reference}
 use Rattle.olr_spec.specs.Reference as fields
 use Rattle.olr_spec.specs.Encoding.{Points, Refused, Refusal, path_fault, Encoding, Encodes, IsPoint}
 use Rattle.olr_spec.specs.Decoded.{lon_steps, lat_steps, steps_sum, decoded, decoded_bound, IsNear}
@@ -100,9 +100,9 @@ middle_count : (gs : List Leg) (h i : ℕ) (js : List ℕ) → length (middle_po
 middle_count gs h i [] = refl
 middle_count gs h i (j ∷ js) = ap suc (middle_count gs i j js)
 
-near_of : (gs : List Leg) (p q h i : ℕ) (js : List ℕ) (k : ℕ) → k ≤ length (i ∷ js) → (d : ℤ × ℤ) × (decoded (reference_of gs p q h i js) k ≡ Some d) × IsNear k d (position gs (slice_index (h ∷ i ∷ js) k))
+near_of : (gs : List Leg) (p q h i : ℕ) (js : List ℕ) (k : ℕ) → k ≤ length (i ∷ js) → (d : ℤ × ℤ) × (decoded (reference_by_kept gs p q h i js) k ≡ Some d) × IsNear k d (position gs (slice_index (h ∷ i ∷ js) k))
 near_of gs p q h i js k le =
-    let r = reference_of gs p q h i js in
+    let r = reference_by_kept gs p q h i js in
     let lon = close_on (λ n. (position gs n).lon) 7031250 h k (i ∷ js) (from_abs24 r.first.lon) (close24 (position gs h).lon) le in
     let lat = close_on (λ n. (position gs n).lat) 7031250 h k (i ∷ js) (from_abs24 r.first.lat) (close24 (position gs h).lat) le in
     let lons = lon_relatives gs h i js in

@@ -12,7 +12,7 @@ use Rattle.olr_spec.specs.Walks.{dm_of}
 use Rattle.olr_spec.specs.Extension.{has, last}
 use Rattle.olr_spec.specs.Points.{node_at, stretch, Candidate, fit16}
 use Rattle.olr_spec.specs.Bearings.{Leg, Scaled, scaled_place, bearing, thousandths, sector, up_to, vector, boundary, lies_between}
-use Rattle.olr_spec.specs.Reference.{Attrs, First, Middle, Last, Reference, leg, legs, no_leg, leg_at, position, dm_along, dm_between, from_front, to_back, last_where, first_where, first_kept, last_kept, kept, attrs, first_point, middle_point, last_two, middle_points, offset, reference_of, reference_by, reference}
+use Rattle.olr_spec.specs.Reference.{Attrs, First, Middle, Last, Reference, leg, legs, no_leg, leg_at, position, dm_along, dm_between, from_front, to_back, last_where, first_where, first_kept, last_kept, kept, attrs, first_point, middle_point, last_two, middle_points, offset, reference_by_kept, reference_by, reference}
 use Rattle.olr_spec.specs.Reference as fields
 use Rattle.olr_spec.specs.Bytes.{AreAttrs, IsMiddle, IsLast, fits24}
 use Rattle.olr_spec.proofs.ListLemmas.{Each, Each-nil, Each-cons, Each-head, Each-tail, Each-range, has_index, has_here, has_there, has_cases}

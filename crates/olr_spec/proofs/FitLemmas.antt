@@ -7,9 +7,9 @@ use Rattle.std.specs.Option.{option_map}
 use Rattle.olr_spec.specs.Map.{Map, IsMap, has_line}
 use Rattle.olr_spec.specs.Walks.{dm_of}
 use Rattle.olr_spec.specs.Extension.{Path, Tried, is_path, has, extended, from_start, taken_start, taken_end}
-use Rattle.olr_spec.specs.Points.{Follow, last_point}
+use Rattle.olr_spec.specs.Points.{Follow, last_position}
 use Rattle.olr_spec.specs.Reference.{Reference, leg, legs, dm_between, from_front, to_back, first_kept, last_kept, kept, last_two, reference_by, reference}
-use Rattle.olr_spec.specs.Encoding.{Points, Refused, Refusal, Unknown_line, Broken, Offset_too_long, No_next_point, first_unknown, first_break, path_fault, answer_of, Encoding, Encodes}
+use Rattle.olr_spec.specs.Encoding.{Points, Refused, Refusal, Unknown_line, Broken, Offset_too_long, No_next_point, first_unknown, first_break, path_fault, answer_by_points, Encoding, Encodes}
 use Rattle.olr_spec.specs.Bytes.{IsReference}
 use Rattle.olr_spec.proofs.WalkLemmas.{dm_of-append}
 use Rattle.olr_spec.proofs.ListLemmas.{Each, Each-append, Each-from, has_here, has_there, has_cases}
@@ -66,17 +66,17 @@ module _ (M : Map) (m : IsMap M) (ls : List ℕ) (known : Each (λ x. IsTrue (ha
       }
 
 -- the first and the last kept point are kept
-pub kept_ends : (M : Map) (ls js : List ℕ) (positive negative : ℕ) → Follow M ls 0 js → last_point 0 js ≡ length ls → positive + negative < dm_of M ls
+pub kept_ends : (M : Map) (ls js : List ℕ) (positive negative : ℕ) → Follow M ls 0 js → last_position 0 js ≡ length ls → positive + negative < dm_of M ls
     → (has (kept (legs M ls) positive negative js) (first_kept (legs M ls) positive js) ≡ true) × (has (kept (legs M ls) positive negative js) (last_kept (legs M ls) negative js) ≡ true)
 kept_ends M ls js positive negative f e less =
     let gs = legs M ls in
     let a = first_kept gs positive js in
     let b = last_kept gs negative js in
-    let end : last_point 0 js ≡ length gs = e ∙ sym (length-map ls (leg M)) in
+    let end : last_position 0 js ≡ length gs = e ∙ sym (length-map ls (leg M)) in
     let two = two_kept M ls js positive negative f e less in
-    let ends : nat_le (to_back gs (last_point 0 js)) negative ≡ true = le-leb (to_back gs (last_point 0 js)) negative (let none = nothing_left gs (last_point 0 js) end in omega arith) in
+    let ends : nat_le (to_back gs (last_position 0 js)) negative ≡ true = le-leb (to_back gs (last_position 0 js)) negative (let none = nothing_left gs (last_position 0 js) end in omega arith) in
     let on_a : has (0 ∷ js) a ≡ true = has_any a (has_last_where (λ i. nat_le (from_front gs i) positive) 0 (0 ∷ js)) in
-    let on_b : has (0 ∷ js) b ≡ true = has_first_where (λ i. nat_le (to_back gs i) negative) 0 (0 ∷ js) (last_point 0 js) (has_last_point 0 js) ends in
+    let on_b : has (0 ∷ js) b ≡ true = has_first_where (λ i. nat_le (to_back gs i) negative) 0 (0 ∷ js) (last_position 0 js) (has_last_point 0 js) ends in
     let in_a : between a b a ≡ true = and_from (nat_le a a) (nat_le a b) (le-leb a a (omega arith)) (le-leb a b (omega arith)) in
     let in_b : between a b b ≡ true = and_from (nat_le a b) (nat_le b b) (le-leb a b (omega arith)) (le-leb b b (omega arith)) in
     (filter_has (between a b) (0 ∷ js) a on_a in_a, filter_has (between a b) (0 ∷ js) b on_b in_b)
@@ -84,7 +84,7 @@ kept_ends M ls js positive negative f e less =
     has_any : (k : ℕ) → has (0 ∷ 0 ∷ js) k ≡ true → has (0 ∷ js) k ≡ true
     has_any k h = elim (has_cases 0 (0 ∷ js) k h) [ inl e ↦ subst (λ (y : ℕ). has (0 ∷ js) y ≡ true) e (has_here 0 js) | inr j ↦ j ]
 
-pub reference_fits : (M : Map) → IsMap M → (ls : List ℕ) → Each (λ x. IsTrue (has_line M x)) ls → 0 < length ls → (js : List ℕ) (positive negative : ℕ) → Follow M ls 0 js → last_point 0 js ≡ length ls → positive + negative < dm_of M ls
+pub reference_fits : (M : Map) → IsMap M → (ls : List ℕ) → Each (λ x. IsTrue (has_line M x)) ls → 0 < length ls → (js : List ℕ) (positive negative : ℕ) → Follow M ls 0 js → last_position 0 js ≡ length ls → positive + negative < dm_of M ls
     → IsReference (reference (legs M ls) positive negative js)
 reference_fits M m ls known n js positive negative f e less =
     let gs = legs M ls in
@@ -134,10 +134,10 @@ extended_sound M P is none before after tried =
     }
 
 -- an answer with a reference has points up to the end, and the reference is that of these points
-pub answered : (M : Map) (E : Path) (js : List ℕ) (r : Reference) → Points r ≡ answer_of M E js → (last_point 0 js ≡ length E.lines) × (r ≡ reference (legs M E.lines) E.pos E.neg js)
+pub answered : (M : Map) (E : Path) (js : List ℕ) (r : Reference) → Points r ≡ answer_by_points M E js → (last_position 0 js ≡ length E.lines) × (r ≡ reference (legs M E.lines) E.pos E.neg js)
 answered M E js r h =
-    elim (last_point 0 js == length E.lines) as (λ t. (last_point 0 js == length E.lines) ≡ t → Points r ≡ cond t (Points (reference (legs M E.lines) E.pos E.neg js)) (Refused (No_next_point (last_point 0 js))) → (last_point 0 js ≡ length E.lines) × (r ≡ reference (legs M E.lines) E.pos E.neg js)) [
-      | true ↦ λ t e. (eqb-true (last_point 0 js) (length E.lines) t, cc)
+    elim (last_position 0 js == length E.lines) as (λ t. (last_position 0 js == length E.lines) ≡ t → Points r ≡ cond t (Points (reference (legs M E.lines) E.pos E.neg js)) (Refused (No_next_point (last_position 0 js))) → (last_position 0 js ≡ length E.lines) × (r ≡ reference (legs M E.lines) E.pos E.neg js)) [
+      | true ↦ λ t e. (eqb-true (last_position 0 js) (length E.lines) t, cc)
       | false ↦ λ t e. absurd cc
     ] refl h
 

@@ -7,9 +7,9 @@ use Rattle.olr_spec.specs.Walks.{Walk, dm_of, Route}
 use Rattle.olr_spec.proofs.WalkLemmas.{empty_sole}
 use Rattle.olr_spec.proofs.JoinLemmas.{empty_stretch}
 use Rattle.olr_spec.specs.Extension.{Path, has, passing, first, last, Tried, taken_start, taken_end, from_start, extended, limit, LongestStart, LongestEnd}
-use Rattle.olr_spec.specs.Points.{node_at, stretch, Covered, fit16, Candidate, ValidCandidate, Greatest, Next, To_end, To_valid, To_passing, Follow, last_point}
+use Rattle.olr_spec.specs.Points.{node_at, stretch, Covered, fit16, Candidate, ValidCandidate, Greatest, Next, To_end, To_valid, To_passing, Follow, last_position}
 use Rattle.olr_spec.specs.Reference.{leg, legs, reference}
-use Rattle.olr_spec.specs.Encoding.{Points, Refused, No_next_point, answer_of}
+use Rattle.olr_spec.specs.Encoding.{Points, Refused, No_next_point, answer_by_points}
 use Rattle.olr_spec.specs.Looks.{Own}
 use Rattle.olr_spec.specs.Footprint.{NodeOf}
 use Rattle.olr_spec.proofs.ListLemmas.{Each, Each-nil, Each-head, Each-tail, Each-left, Each-right, Each-append, Each-range, has_last, has_index, map_same}
@@ -277,11 +277,11 @@ module _ (M N : Map) (m : IsMap M) (n : IsMap N) (P : Path) (b a : List ℕ) (no
       subst (λ (E : Path). Follow N E.lines 0 js) extended_same
       (follow_moves M N ls ls_nonempty ls_same ls_starts ls_ends (0 ∷ js) covers 0 js (λ k h. h) f)
 
-  pub answer_same : (js : List ℕ) → answer_of M (extended M P b a) js ≡ answer_of N (extended N P b a) js
+  pub answer_same : (js : List ℕ) → answer_by_points M (extended M P b a) js ≡ answer_by_points N (extended N P b a) js
   answer_same js =
       let E = extended M P b a in
       let gs : legs M ls ≡ legs N ls = legs_same M N ls ls_same ls_starts ls_ends in
-      let here : answer_of M E js ≡ answer_of N E js =
-      λ i. cond (last_point 0 js == length E.lines) (Points (reference (gs i) E.pos E.neg js))
-      (Refused (No_next_point (last_point 0 js))) in
-      here ∙ ap (λ (E : Path). answer_of N E js) extended_same
+      let here : answer_by_points M E js ≡ answer_by_points N E js =
+      λ i. cond (last_position 0 js == length E.lines) (Points (reference (gs i) E.pos E.neg js))
+      (Refused (No_next_point (last_position 0 js))) in
+      here ∙ ap (λ (E : Path). answer_by_points N E js) extended_same

@@ -7,7 +7,7 @@ use Rattle.std.specs.Int.RustNames.{int_le}
 use Rattle.std.specs.List.{All, AllByRecursion, flat_map, list_any, slice_index}
 use Rattle.olr_spec.specs.Coordinates.{within, fits16}
 use Rattle.olr_spec.specs.Reference.{Attrs, First, Middle, Last, Reference}
-use Rattle.olr_spec.specs.Bytes.{AreAttrs, IsFirst, IsMiddle, IsLast, IsReference, fits24, residue, signed16, signed24, attribute1, attribute4, attr_bytes, first_bytes, middle_bytes, last_bytes, flag, offset_bytes, status, spelling, Spells, V3Fault, Length, Status, Flags, Reserved, extra, bit, flags_of, attribute1_bytes, has_reserved, v3_fault}
+use Rattle.olr_spec.specs.Bytes.{AreAttrs, IsFirst, IsMiddle, IsLast, IsReference, fits24, residue, signed16, signed24, attribute1, attribute4, attr_bytes, first_bytes, middle_bytes, last_bytes, flag, offset_bytes, status_byte, spelling, Spells, V3Fault, Length, Status, Flags, Reserved, extra, bit, flags_of, attribute1_bytes, has_reserved, v3_fault}
 use Rattle.olr_spec.proofs.SectorLemmas.{le_test}
 
 abbrev AreBytes : List ℕ → Type 0
@@ -205,7 +205,7 @@ record Passes (b : List ℕ) : Type 0 where
 passes : (b : List ℕ) → v3_fault b ≡ None → Passes b
 passes b e =
     let p = no_fault (nat_lt (length b) 16 || nat_lt 2 (extra b)) Length _ e in
-    let q = no_fault (not (slice_index b 0 == status)) Status _ p.1 in
+    let q = no_fault (not (slice_index b 0 == status_byte)) Status _ p.1 in
     let r = no_fault (not (bit 6 (flags_of b) + bit 5 (flags_of b) == extra b)) Flags _ q.1 in
     let s = no_fault (has_reserved b) Reserved None r.1 in
     let size = or_parts (nat_lt (length b) 16) (nat_lt 2 (extra b)) p.0 in
@@ -213,7 +213,7 @@ passes b e =
     record {
       long = ltb-false (length b) 16 size.0;
       few = ltb-false 2 (extra b) size.1;
-      status = eqb-true (slice_index b 0) 11 (not-false (slice_index b 0 == status) q.0);
+      status = eqb-true (slice_index b 0) 11 (not-false (slice_index b 0 == status_byte) q.0);
       flags = eqb-true _ _ (not-false _ r.0);
       free = clear.0;
       top = leb-false 128 (flags_of b) clear.1;
@@ -282,7 +282,7 @@ unreserved (p ∷ ps) l positive negative h k =
 pub spelled_passes : (r : Reference) → IsReference r → v3_fault (spelling r) ≡ None
 spelled_passes r h =
     let b = spelling r in
-    let cut : List ℕ = status ∷ first_bytes r.first in
+    let cut : List ℕ = status_byte ∷ first_bytes r.first in
     let middles = flat_map middle_bytes r.middle in
     let ends = last_bytes r.last r.pos r.neg in
     let m = length r.middle in

@@ -7,7 +7,7 @@ use Rattle.olr_spec.specs.Map.{Map, IsMap, has_line, start, end, SameLine, SameR
 use Rattle.olr_spec.specs.Walks.{Walk, dm_of}
 use Rattle.olr_spec.specs.Extension.{Path, is_path, has, first, last, Tried, extended, limit}
 use Rattle.olr_spec.specs.Points.{stretch, Covered, Follow}
-use Rattle.olr_spec.specs.Encoding.{Answer, Refused, Refusal, path_fault, answer_of, Encoding, Encodes}
+use Rattle.olr_spec.specs.Encoding.{Answer, Refused, Refusal, path_fault, answer_by_points, Encoding, Encodes}
 use Rattle.olr_spec.specs.Detours.{ChangedLine, Tells, Difference}
 use Rattle.olr_spec.specs.Looks.{Own, OwnOfExtended, OwnOf, Look, look_to, IsLook, IsClear, looking, LooksOfExtended, LooksOf}
 use Rattle.olr_spec.proofs.ListLemmas.{Each, Each-from, has_first, has_last}
@@ -66,7 +66,7 @@ module _ (M N : Map) (m : IsMap M) (n : IsMap N) (C : List ChangedLine) (there :
       (rounds o.before o.after o.tried) o.points covers o.follow
 
   -- the answer
-  encoding_there : Encoding N P (answer_of M E o.points)
+  encoding_there : Encoding N P (answer_by_points M E o.points)
   encoding_there = record {
     before = o.before;
     after = o.after;
@@ -77,7 +77,7 @@ module _ (M N : Map) (m : IsMap M) (n : IsMap N) (C : List ChangedLine) (there :
         (rounds o.before o.after o.tried) o.points;
   }
 
-  encoding_here : Encoding M P (answer_of M E o.points)
+  encoding_here : Encoding M P (answer_by_points M E o.points)
   encoding_here = record {
     before = o.before;
     after = o.after;
@@ -91,8 +91,8 @@ module _ (M N : Map) (m : IsMap M) (n : IsMap N) (C : List ChangedLine) (there :
   by_fault A p = subst (λ (f : Option Refusal). MatchOption f (Encoding M P A) (λ r. A ≡ Refused r)) (sym sound) p
 
   pub answer_stays : (A : Answer) → Encoding M P A → Encoding N P A
-  answer_stays A p = subst (Encoding N P) (one_answer M m P is (answer_of M E o.points) A
-      (by_fault (answer_of M E o.points) encoding_here) (by_fault A p)) encoding_there
+  answer_stays A p = subst (Encoding N P) (one_answer M m P is (answer_by_points M E o.points) A
+      (by_fault (answer_by_points M E o.points) encoding_here) (by_fault A p)) encoding_there
 
   -- the own nodes
   own_there : (v : ℕ) → OwnOfExtended M P v → OwnOfExtended N P v

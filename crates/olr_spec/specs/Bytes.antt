@@ -98,12 +98,12 @@ last_bytes p positive negative =
     signed16 p.dlon ++ signed16 p.dlat ++ attribute1 p.frc p.fow ∷ attribute4 positive negative p.bearing ∷ offset_bytes positive ++ offset_bytes negative
 
 -- the status byte: attributes present, version 3
-abbrev pub status : ℕ
-status = 11
+abbrev pub status_byte : ℕ
+status_byte = 11
 
 -- status, first point, points between, last point, and an offset byte for each flag that is set
 abbrev pub spelling : Reference → List ℕ
-spelling r = status ∷ first_bytes r.first ++ flat_map middle_bytes r.middle ++ last_bytes r.last r.pos r.neg
+spelling r = status_byte ∷ first_bytes r.first ++ flat_map middle_bytes r.middle ++ last_bytes r.last r.pos r.neg
 
 -- the bytes b are those of the reference r, whose fields fit
 abbrev pub Spells : Reference → List ℕ → Type 0
@@ -141,7 +141,7 @@ has_reserved b =
 abbrev pub v3_fault : List ℕ → Option V3Fault
 v3_fault b =
     if nat_lt (length b) 16 || nat_lt 2 (extra b) then Some Length
-    else if not (slice_index b 0 == status) then Some Status
+    else if not (slice_index b 0 == status_byte) then Some Status
     else if not (bit 6 (flags_of b) + bit 5 (flags_of b) == extra b) then Some Flags
     else if has_reserved b then Some Reserved
     else None

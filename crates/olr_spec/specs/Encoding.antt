@@ -8,7 +8,7 @@ use Rattle.std.specs.Option.{option_or}
 use Rattle.olr_spec.specs.Map.{Map, has_line, start, end}
 use Rattle.olr_spec.specs.Walks.{dm_of}
 use Rattle.olr_spec.specs.Extension.{Path}
-use Rattle.olr_spec.specs.Points.{node_at, last_point, OfPath}
+use Rattle.olr_spec.specs.Points.{node_at, last_position, OfPath}
 use Rattle.olr_spec.specs.Reference.{Reference, legs, kept, reference}
 
 -- a line that isn't on the map; the place of a line that the next doesn't join; offsets as long as the path; a position that no point may
@@ -41,15 +41,15 @@ path_fault M P =
     (if nat_le (dm_of M P.lines) (P.pos + P.neg) then Some Offset_too_long else None))
 
 -- of an extended path E, by the points after position 0: a reference where they lead to the end
-abbrev pub answer_of : Map → Path → List ℕ → Answer
-answer_of M E js =
-    if last_point 0 js == length E.lines
+abbrev pub answer_by_points : Map → Path → List ℕ → Answer
+answer_by_points M E js =
+    if last_position 0 js == length E.lines
     then Points (reference (legs M E.lines) E.pos E.neg js)
-    else Refused (No_next_point (last_point 0 js))
+    else Refused (No_next_point (last_position 0 js))
 
 -- A is what its extension gives by its points
 abbrev pub Encoding : Map → Path → Answer → Type 0
-Encoding M P A = OfPath M P (λ E _ _ js. A ≡ answer_of M E js)
+Encoding M P A = OfPath M P (λ E _ _ js. A ≡ answer_by_points M E js)
 
 -- a refusal of the path's own, or else what its points give (White Paper, encoding steps)
 abbrev pub Encodes : Map → Path → Answer → Type 0

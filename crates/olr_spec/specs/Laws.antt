@@ -14,7 +14,7 @@ use Rattle.olr_spec.specs.Map.{Map, empty_map, IsMap, Line, are_coords, has_line
 use Rattle.olr_spec.specs.Walks.{Walk, dm_of, Least, Sole}
 use Rattle.olr_spec.specs.Labels.{Settled}
 use Rattle.olr_spec.specs.Extension.{Path, is_path, has, first, last, LongestStart, LongestEnd, limit}
-use Rattle.olr_spec.specs.Points.{stretch, Covered, Next, Follow, last_point}
+use Rattle.olr_spec.specs.Points.{stretch, Covered, Next, Follow, last_position}
 use Rattle.olr_spec.specs.Bearings.{IsSector, sector}
 use Rattle.olr_spec.specs.Reference.{Reference, legs, first_kept, last_kept, kept}
 use Rattle.olr_spec.specs.Encoding.{Answer, Points, Encodes, IsPoint}
@@ -141,13 +141,13 @@ AnswerFits = (M : Map) → IsMap M → (P : Path) → IsTrue (is_path P.lines) �
 -- where the offsets leave some of the path, at least two points are kept
 abbrev pub TwoKept : Type 0
 TwoKept =
-    (M : Map) (ls js : List ℕ) (positive negative : ℕ) → Follow M ls 0 js → last_point 0 js ≡ length ls → positive + negative < dm_of M ls
+    (M : Map) (ls js : List ℕ) (positive negative : ℕ) → Follow M ls 0 js → last_position 0 js ≡ length ls → positive + negative < dm_of M ls
     → first_kept (legs M ls) positive js < last_kept (legs M ls) negative js
 
 -- and the routes between them join to the path
 abbrev pub RoutesJoin : Type 0
 RoutesJoin =
-    (M : Map) (ls js : List ℕ) (positive negative : ℕ) → Follow M ls 0 js → last_point 0 js ≡ length ls
+    (M : Map) (ls js : List ℕ) (positive negative : ℕ) → Follow M ls 0 js → last_position 0 js ≡ length ls
     → Joins M ls (kept (legs M ls) positive negative js)
 
 -- each point of an answer is decoded near its place on the map

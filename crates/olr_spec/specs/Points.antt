@@ -63,9 +63,9 @@ Follow M ls i [] = NoNext M ls i
 Follow M ls i (j ∷ js) = Next M ls i j × Follow M ls j js
 
 -- the last of i and js
-abbrev pub last_point : ℕ → List ℕ → ℕ
-last_point i [] = i
-last_point i (j ∷ js) = last_point j js
+abbrev pub last_position : ℕ → List ℕ → ℕ
+last_position i [] = i
+last_position i (j ∷ js) = last_position j js
 
 -- Q of the extended path, of both tried chains, and of the points after position 0. Of a path without a fault of its own there is exactly one of
 -- each

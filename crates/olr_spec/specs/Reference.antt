@@ -146,8 +146,8 @@ abbrev pub offset : ℕ → ℕ → Option ℕ
 offset left stretch = if left == 0 then None else Some (256 * left / stretch)
 
 -- of the points h, i and js, with what is left of the offsets: the positive one lies in the first stretch, the negative one in the last
-abbrev pub reference_of : List Leg → ℕ → ℕ → ℕ → ℕ → List ℕ → Reference
-reference_of gs pos_left neg_left h i js =
+abbrev pub reference_by_kept : List Leg → ℕ → ℕ → ℕ → ℕ → List ℕ → Reference
+reference_by_kept gs pos_left neg_left h i js =
     let two = last_two h i js in
     record {
       first = first_point gs h i;
@@ -159,9 +159,9 @@ reference_of gs pos_left neg_left h i js =
 
 -- fewer than two points are never kept: the answer then doesn't matter
 abbrev pub reference_by : List Leg → ℕ → ℕ → List ℕ → Reference
-reference_by gs pos_left neg_left [] = reference_of gs pos_left neg_left 0 0 []
-reference_by gs pos_left neg_left (h ∷ []) = reference_of gs pos_left neg_left h h []
-reference_by gs pos_left neg_left (h ∷ i ∷ js) = reference_of gs pos_left neg_left h i js
+reference_by gs pos_left neg_left [] = reference_by_kept gs pos_left neg_left 0 0 []
+reference_by gs pos_left neg_left (h ∷ []) = reference_by_kept gs pos_left neg_left h h []
+reference_by gs pos_left neg_left (h ∷ i ∷ js) = reference_by_kept gs pos_left neg_left h i js
 
 -- what is left of an offset is the offset less what is cut off at its end
 abbrev pub reference : List Leg → ℕ → ℕ → List ℕ → Reference

@@ -2,9 +2,9 @@ use Rattle.std.proofs.Common.{◌≡◌, ℕ, ◌+◌, ◌-◌, ◌*◌, ◌<◌
 use Rattle.std.specs.List.{flat_map}
 use Rattle.std.proofs.lemmas.List.{get_or-take, get_or-drop}
 use Rattle.olr_spec.specs.Reference.{Reference}
-use Rattle.olr_spec.specs.Bytes.{IsReference, middle_bytes, status, v3_fault}
+use Rattle.olr_spec.specs.Bytes.{IsReference, middle_bytes, status_byte, v3_fault}
 use Rattle.olr_binary.specs.Codes.{reference}
-use Rattle.olr_binary.specs.Faults.{fault_of}
+use Rattle.olr_binary.specs.Faults.{bytes_fault_of}
 use Rattle.olr_binary.proofs.LayoutLemmas.{low_attribute1, status-is}
 use Rattle.olr_binary.proofs.PointLemmas.{spelling-parts}
 use Rattle.olr_binary.proofs.SpelledLemmas.{unspelled}
@@ -13,7 +13,7 @@ use Rattle.olr_binary.proofs.read.read_v3.Goals as goal
 pub returns-in_err-layout-clause-unspelled : goal.returns-in_err-layout-clause-unspelled
 returns-in_err-layout-clause-unspelled c =
     let b : List ℕ = c.args.bytes.now in
-    let told : IfErr c.from_residual.result (λ fault. v3_fault b ≡ fault_of fault) = search rules in
+    let told : IfErr c.from_residual.result (λ fault. v3_fault b ≡ bytes_fault_of fault) = search rules in
     unspelled b c.from_residual.result told
 
 pub read_last-last-requires-clause-reserved_1 : goal.read_last-last-requires-clause-reserved_1
@@ -38,5 +38,5 @@ returns-clause-ok c =
     let r : Reference = reference c.read_first-first.result points c.read_last-last.result.0 c.read_last-last.result.1 c.read_last-last.result.2 in
     let fit : IsReference r = search rules in
     let middle : flat_map middle_bytes points ≡ slice_range b 10 (10 + 7 * m) = search rules in
-    let state : slice_index b 0 ≡ status = status-is b m c.in_ok-layout.layout.offsets c.in_ok-layout.ensures.ok c.in_ok-layout.ensures.sound in
+    let state : slice_index b 0 ≡ status_byte = status-is b m c.in_ok-layout.layout.offsets c.in_ok-layout.ensures.ok c.in_ok-layout.ensures.sound in
     (fit, spelling-parts b m r (omega arith) state c.read_first-first.ensures.spelled middle c.read_last-last.ensures.spelled)

@@ -1,7 +1,7 @@
 use Rattle.std.proofs.Common.{Ok, Err, refl, subst}
 use Rattle.csv.specs.Records.{fields_of}
 use Rattle.olr_commands.specs.State.{IsContent}
-use Rattle.olr_commands.specs.Words.{fault_of, reply_of}
+use Rattle.olr_commands.specs.Words.{command_fault_of, reply_of}
 use Rattle.olr_records.specs.Words.{read_fault_of}
 use Rattle.olr_keep.proofs.Answering.{commanded, unread}
 use Rattle.olr_keep.proofs.answers.carry_out.Goals as goal
@@ -15,8 +15,8 @@ returns-in-Ok-apply c s stands sound =
 pub returns-in-Err-apply : goal.returns-in-Err-apply
 returns-in-Err-apply c s stands sound =
     let h = c.in-Err-apply.ensures.outcome s stands in
-    let o = Err (fault_of c.in-Err-apply.fault) in
-    (h.0, o, h.1, (commanded s h.0 (fields_of c.args.row.now) c.in-Ok.command o c.in-Ok.ensures h.2, subst IsContent h.1.0 c.in-Err-apply.ensures.sound), (fault_of c.in-Err-apply.fault, refl, c.fault_text.ensures))
+    let o = Err (command_fault_of c.in-Err-apply.fault) in
+    (h.0, o, h.1, (commanded s h.0 (fields_of c.args.row.now) c.in-Ok.command o c.in-Ok.ensures h.2, subst IsContent h.1.0 c.in-Err-apply.ensures.sound), (command_fault_of c.in-Err-apply.fault, refl, c.fault_text.ensures))
 
 pub returns-in-Err : goal.returns-in-Err
 returns-in-Err c s stands sound =

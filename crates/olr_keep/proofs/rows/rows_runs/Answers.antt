@@ -7,21 +7,21 @@ use Rattle.std.specs.Fmt.{digits}
 use Rattle.csv.proofs.OnLiterals.{csv_on_literals}
 use Rattle.olr_spec.specs.Coordinates.{Coord}
 use Rattle.olr_spec.specs.Map.{empty_map, unless, Node_exists, No_node, Node_in_use, Add_node, Drop_node, in_use}
-use Rattle.olr_commands.specs.State.{no_content, start_state, Syntax, Range, Map_fault, On_map, Make, with_map, made, step}
+use Rattle.olr_commands.specs.State.{no_content, start_state, Syntax, Range, Map_fault, On_map, Make, with_map, at_once, step}
 use Rattle.olr_commands.specs.Reply.{Paths, Told}
 use Rattle.olr_keep.specs.Output.{Nothing, In_last}
 use Rattle.olr_keep.specs.Rows.{zero, state20}
 use Rattle.olr_keep.proofs.rows.rows_runs.Goals as goal
 
 add_first : step start_state (Make (On_map (Add_node 1 zero))) ≡ Ok state20
-add_first = ap (λ (o : Option Coord). made (with_map no_content (unless (is_some o) Node_exists (Ok (record empty_map { nodes = insert empty 1 zero }))))) (get-empty nat_cmp 1)
+add_first = ap (λ (o : Option Coord). at_once (with_map no_content (unless (is_some o) Node_exists (Ok (record empty_map { nodes = insert empty 1 zero }))))) (get-empty nat_cmp 1)
 
 add_again : step state20 (Make (On_map (Add_node 1 zero))) ≡ Err (Map_fault Node_exists)
-add_again = ap (λ (o : Option Coord). made (with_map state20.content (unless (is_some o) Node_exists (Ok (record empty_map { nodes = insert (insert empty 1 zero) 1 zero }))))) (get-insert nat_cmp_total empty 1 zero 1)
+add_again = ap (λ (o : Option Coord). at_once (with_map state20.content (unless (is_some o) Node_exists (Ok (record empty_map { nodes = insert (insert empty 1 zero) 1 zero }))))) (get-insert nat_cmp_total empty 1 zero 1)
 
 drop_none : step state20 (Make (On_map (Drop_node 2))) ≡ Err (Map_fault No_node)
 drop_none =
-    ap (λ (o : Option Coord). made (with_map state20.content (unless (not (is_some o)) No_node (unless (in_use state20.content.map 2) Node_in_use (Ok (record empty_map { nodes = remove (insert empty 1 zero) 2 }))))))
+    ap (λ (o : Option Coord). at_once (with_map state20.content (unless (not (is_some o)) No_node (unless (in_use state20.content.map 2) Node_in_use (Ok (record empty_map { nodes = remove (insert empty 1 zero) 2 }))))))
     (get-insert nat_cmp_total empty 1 zero 2 ∙ get-empty nat_cmp 2)
 
 pub returns-clause-all : goal.returns-clause-all

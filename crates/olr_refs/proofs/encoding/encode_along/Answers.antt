@@ -1,6 +1,6 @@
 use Rattle.std.proofs.Common.{◌≡◌, ◌∷◌, ℕ, List, length, ap, ◌∙◌, subst}
 use Rattle.olr_spec.specs.Extension.{Path}
-use Rattle.olr_spec.specs.Encoding.{answer_of}
+use Rattle.olr_spec.specs.Encoding.{answer_by_points}
 use Rattle.olr_spec.specs.Footprint.{Searched}
 use Rattle.olr_spec.specs.Looks.{LooksFrom, looking}
 use Rattle.olr_refs.specs.Answers as answers
@@ -11,7 +11,7 @@ pub returns-clause-answer : goal.returns-clause-answer
 returns-clause-answer g c =
     let M = g.M.MapRead.map c.args.map.now in
     let lines = ap (λ (ls : List ℕ). let E : Path = record { lines = ls; pos = c.extended.inside.pos; neg = c.extended.inside.neg } in E) c.as_slice-lines.ensures.value in
-    subst (λ (E : Path). ForPoints M E.lines (λ js. answers.answer_of c.in_ok-answer.answer ≡ answer_of M E js)) (lines ∙ c.extended.view_is) c.in_ok-answer.ensures
+    subst (λ (E : Path). ForPoints M E.lines (λ js. answers.answer_of c.in_ok-answer.answer ≡ answer_by_points M E js)) (lines ∙ c.extended.view_is) c.in_ok-answer.ensures
 
 pub returns-clause-looks : goal.returns-clause-looks
 returns-clause-looks g c =

@@ -1,5 +1,5 @@
 use Rattle.std.proofs.Common.{◌≡◌, ◌+◌, ℕ, List, Bool, Contains, true, false, refl, sym, subst, ◌∙◌, arith}
-use Rattle.olr_route.specs.Marks.{mark_at, IsState}
+use Rattle.olr_route.specs.Marks.{mark_at, IsSearchState}
 use Rattle.olr_route.proofs.MarkLemmas.{moves_none, moves_then, swept_none, swept_changed, swept_more, swept_all, still_marked}
 use Rattle.olr_route.proofs.plain.sweep.Goals as goal
 use Rattle.olr_route.proofs.plain.sweep.Goals.{then-branch, else-branch}
@@ -30,7 +30,7 @@ loop-node-preserved g c =
     let r = c.in_ok-follow_all.ensures in
     let d = c.dist_at-dist.ensures in
     let before = f.gained in
-    let state : (s : ℕ) → IsState M s c.args.limit c.args.marks.now → IsState M s c.args.limit c.follow_all.new.marks = λ s first.
+    let state : (s : ℕ) → IsSearchState M s c.args.limit c.args.marks.now → IsSearchState M s c.args.limit c.follow_all.new.marks = λ s first.
     let was = f.state s first in
     r.state.state s (d.0, was.found c.node-item.result c.dist_at-dist.result d.0 d.1) was in
     elim c.if-branch.branch [
