@@ -62,7 +62,7 @@ pub record IsPublished (before : Content) (changes : List Change) (later : Conte
 
 -- ---- routes that join
 
--- the least routes between the points of a reference join to the extended path
+-- the sole routes between the points of a reference join to the extended path
 abbrev pub Joined : Map → Path → Reference → Type 0
 Joined M P r =
     OfPath M P (λ E _ _ js. (r ≡ reference (legs M E.lines) E.pos E.neg js) × Joins M E.lines (kept (legs M E.lines) E.pos E.neg js))

@@ -15,7 +15,7 @@ use Rattle.olr_spec.proofs.JoinedLemmas.{extended_joined}
 use Rattle.olr_spec.proofs.LookLists.{Contains-cases, Contains-here, look_from}
 use Rattle.olr_spec.proofs.TestedLemmas.{foot_looked}
 use Rattle.olr_route.specs.declared.work.Work.{Work}
-use Rattle.olr_route.specs.Labels.{Labels, AreLabels, Reaches, label_at}
+use Rattle.olr_route.specs.Labels.{Labels, AreLabels, label_at}
 use Rattle.olr_route.specs.Counts.{counted, after_search}
 use Rattle.olr_refs.specs.Choice.{Searches, raised}
 use Rattle.olr_refs.proofs.Joined.{known_at}

@@ -1,7 +1,6 @@
 -- The labels of a search: at each node that it reaches, the length and the last line of the least walk there.
 --     Labels      the source, the limit in decimetres, and the labels by node
 --     dist_at, last_at      the parts of the label at a node.        count_of x      how many labels there are
---     Reaches M s limit v      a walk of at most the limit leads from s to v
 --     AreLabels M x      the labels stand at exactly the nodes that are reached, and are those of the least walks
 --     LeastWithin, SoleWithin M x t xs      the least walk from the source to t, or the sole one, of at most the limit
 use Rattle.std.specs.Prelude.{◌≡◌, ℕ, ◌≤◌, ◌↔◌, List, [], ◌∷◌, Option, Some, None, IsSome, option_and_then}
@@ -11,7 +10,7 @@ use Rattle.std.specs.Ordering.{nat_cmp}
 use Rattle.std.specs.FinMap.{FinMap, get, len, code}
 use Rattle.std.proofs.Common.{refl}
 use Rattle.olr_spec.specs.Map.{Map}
-use Rattle.olr_spec.specs.Walks.{Walk, dm_of, Least, Sole}
+use Rattle.olr_spec.specs.Walks.{Reaches, dm_of, Least, Sole}
 
 -- a walk's length, and its last line, if it has lines
 abbrev pub Label : Type 0
@@ -38,9 +37,6 @@ last_at x v = option_and_then (λ k. k.1) (label_at x v)
 
 abbrev pub count_of : Labels → ℕ
 count_of x = len x.by_node
-
-abbrev pub Reaches : Map → ℕ → ℕ → ℕ → Type 0
-Reaches M s limit v = (xs : List ℕ) × Walk M s v xs × (dm_of M xs ≤ limit)
 
 abbrev pub last_of : List ℕ → Option ℕ
 last_of [] = None

@@ -1,9 +1,9 @@
 -- The nodes on which an answer rests (profile).
 --     Reach M s v      a walk of at most the limit leads from s to v
 --     Foot M P v      node v belongs to the footprint of the path
-use Rattle.std.specs.Prelude.{◌≡◌, ℕ, ◌+◌, ◌<◌, ◌≤◌, List, ◌∷◌, length, slice_index, MatchOption, IsTrue, ◌⊎◌}
+use Rattle.std.specs.Prelude.{◌≡◌, ℕ, ◌+◌, ◌<◌, List, ◌∷◌, length, slice_index, MatchOption, IsTrue, ◌⊎◌}
 use Rattle.olr_spec.specs.Map.{Map, start, end}
-use Rattle.olr_spec.specs.Walks.{Walk, dm_of}
+use Rattle.olr_spec.specs.Walks.{Reaches}
 use Rattle.olr_spec.specs.Extension.{Path, has, limit}
 use Rattle.olr_spec.specs.Points.{OfPath}
 use Rattle.olr_spec.specs.Encoding.{path_fault}
@@ -14,7 +14,7 @@ NodeOf M ls v = (x : ℕ) × IsTrue (has ls x) × ((start M x ≡ v) ⊎ (end M 
 
 -- at most 15,000 m
 abbrev pub Reach : Map → ℕ → ℕ → Type 0
-Reach M s v = (xs : List ℕ) × Walk M s v xs × (dm_of M xs ≤ limit)
+Reach M s v = Reaches M s limit v
 
 -- from the end of the line of one of the points is, where two lines or more follow it: for later points nothing is searched
 abbrev pub Searched : Map → List ℕ → List ℕ → ℕ → Type 0

@@ -1,9 +1,10 @@
 -- Walks on a map, their order, and the sole walk that no other is as short as.
 --     Walk M s t xs      the lines xs lead from s to t, each beginning where the one before ends.        dm_of M xs      their length
+--     Reaches M s limit v      a walk of at most the limit leads from s to v
 --     Before M xs ys      xs is shorter, or equally long with the smaller number at the first difference, counted from the end
 --     Least M s t xs      a walk from s to t that none is before.        Sole M s t xs      a walk such that every other is longer
 --     Route M s t xs      the walk that joins two points of a reference
-use Rattle.std.specs.Prelude.{◌≡◌, ◌≢◌, ℕ, ◌+◌, ◌<◌, List, [], ◌∷◌, reverse, ◌⊎◌, IsTrue}
+use Rattle.std.specs.Prelude.{◌≡◌, ◌≢◌, ℕ, ◌+◌, ◌<◌, ◌≤◌, List, [], ◌∷◌, reverse, ◌⊎◌, IsTrue}
 use Rattle.olr_spec.specs.Map.{Map, has_line, start, end, dm}
 
 -- a line may be walked more than once, and a U-turn is a walk
@@ -15,6 +16,9 @@ Walk M s t (x ∷ xs) = IsTrue (has_line M x) × (start M x ≡ s) × Walk M (en
 abbrev pub dm_of : Map → List ℕ → ℕ
 dm_of M [] = 0
 dm_of M (x ∷ xs) = dm M x + dm_of M xs
+
+abbrev pub Reaches : Map → ℕ → ℕ → ℕ → Type 0
+Reaches M s limit v = (xs : List ℕ) × Walk M s v xs × (dm_of M xs ≤ limit)
 
 -- xs has the smaller number at the first difference
 abbrev pub FirstSmaller : List ℕ → List ℕ → Type 0
