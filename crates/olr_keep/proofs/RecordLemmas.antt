@@ -85,15 +85,15 @@ read_shortens s (c ∷ rest) p f e =
     ] e
 
 -- with enough turns
-from_reached : (n : ℕ) (s : State) (xs : List ℕ) (rows : List (List Field)) (s2 : State) (ys : List ℕ) → length xs < n → ends_at_end s ≡ false
-    → Reached default_config s xs rows s2 ys → (m : ℕ) × (length ys < m) × (records_from default_config n s xs ≡ rows ++ records_from default_config m s2 ys)
+from_reached : (n : ℕ) (s : State) (xs : List ℕ) (records : List (List Field)) (s2 : State) (ys : List ℕ) → length xs < n → ends_at_end s ≡ false
+    → Reached default_config s xs records s2 ys → (m : ℕ) × (length ys < m) × (records_from default_config n s xs ≡ records ++ records_from default_config m s2 ys)
 unfolding Reached records_from
 from_reached n s xs [] s2 ys l f h = (n, subst (λ (zs : List ℕ). length zs < n) h.1 l, λ i. records_from default_config n (h.0 i) (h.1 i))
-from_reached zero s xs (r ∷ rows) s2 ys l f h = absurd (omega arith)
-from_reached (suc n) s xs (r ∷ rows) s2 ys l f h =
+from_reached zero s xs (r ∷ records) s2 ys l f h = absurd (omega arith)
+from_reached (suc n) s xs (r ∷ records) s2 ys l f h =
     let p = h.0 in
     let less = read_shortens s xs p f h.1 in
-    let again = from_reached n p.1 p.2 rows s2 ys (omega arith) (read_leaves s [] [] xs p h.1).1 h.3 in
+    let again = from_reached n p.1 p.2 records s2 ys (omega arith) (read_leaves s [] [] xs p h.1).1 h.3 in
     (again.0, again.1, ap (λ (o : Option Read). records_next (records_from default_config n) o) h.1 ∙ (λ i. sym h.2 i ∷ again.2 i))
 
 none_more : (m : ℕ) (s : State) (ys : List ℕ) → length ys < m → next_record default_config s [] [] ys ≡ None → records_from default_config m s ys ≡ []
@@ -101,8 +101,8 @@ unfolding records_from
 none_more zero s ys l e = absurd (omega arith)
 none_more (suc m) s ys l e = ap (λ (o : Option Read). records_next (records_from default_config m) o) e
 
-pub first_records : (input : List ℕ) (rows : List (List Field)) (state : State) (left : List ℕ) → Reached default_config st.StartRecord (strip_bom input) rows state left
-    → (rest : List (List Field)) × (records_of input ≡ rows ++ rest) × (next_record default_config state [] [] left ≡ None → rest ≡ [])
-first_records input rows state left h =
-    let all = from_reached (length (strip_bom input) + 1) st.StartRecord (strip_bom input) rows state left (omega arith) refl h in
+pub first_records : (input : List ℕ) (records : List (List Field)) (state : State) (left : List ℕ) → Reached default_config st.StartRecord (strip_bom input) records state left
+    → (rest : List (List Field)) × (records_of input ≡ records ++ rest) × (next_record default_config state [] [] left ≡ None → rest ≡ [])
+first_records input records state left h =
+    let all = from_reached (length (strip_bom input) + 1) st.StartRecord (strip_bom input) records state left (omega arith) refl h in
     (records_from default_config all.0 state left, all.2, none_more all.0 state left all.1)

@@ -61,11 +61,11 @@ is_refused (Err f) e = refl
 
 -- ---- the records so far
 
-pub record Answered (stop : Bool) (s : State) (rows : List (List Field)) (t : State) (before later : Known) (end : Status) : Type 0 where
+pub record Answered (stop : Bool) (s : State) (records : List (List Field)) (t : State) (before later : Known) (end : Status) : Type 0 where
   pub outcomes : List Outcome
-  pub each : SoundOutcomes s rows outcomes t
+  pub each : SoundOutcomes s records outcomes t
   pub stops : StopsAtRefusal stop outcomes
-  pub all : length outcomes ≡ length rows
+  pub all : length outcomes ≡ length records
   pub wrote : Appends before later (texts outcomes)
   pub goes_on : (stop && any_refused outcomes) ≡ false
   pub ended : status_of end ≡ run_status stop outcomes
@@ -73,10 +73,10 @@ pub record Answered (stop : Bool) (s : State) (rows : List (List Field)) (t : St
 pub record SoFar (stop : Bool) (old : Registered) (input : List ℕ) (before : Known) (now : Registered) (later : Known) (end : Status) (state : CsvState) (source : Known) (n : ℕ) : Type 0 where
   pub left : List ℕ
   pub source_is : source ≡ Some left
-  pub rows : List (List Field)
-  pub count : length rows ≡ n
-  pub reached : Reached default_config st.StartRecord (strip_bom input) rows state left
-  pub answered : (s : State) → Stands old.kept s → IsContent s.content → (t : State) × Stands now.kept t × Answered stop s rows t before later end
+  pub records : List (List Field)
+  pub count : length records ≡ n
+  pub reached : Reached default_config st.StartRecord (strip_bom input) records state left
+  pub answered : (s : State) → Stands old.kept s → IsContent s.content → (t : State) × Stands now.kept t × Answered stop s records t before later end
 
 -- before the first record
 pub so_far_none : (stop : Bool) (old : Registered) (input : List ℕ) (before : Known) (source : Known) → source ≡ Some (strip_bom input)
@@ -86,7 +86,7 @@ so_far_none stop old input before source e =
     record {
       left = strip_bom input;
       source_is = e;
-      rows = [];
+      records = [];
       count = refl;
       reached = (refl, refl);
       answered = λ s stands sound. (s, stands, record { outcomes = []; each = refl; stops = tt; all = refl; wrote = Appends-nil before; goes_on = none_refused stop; ended = refl });
@@ -96,24 +96,24 @@ so_far_none stop old input before source e =
     none_refused true = refl
     none_refused false = refl
 
-more_all : (rows : List (List Field)) (r : List Field) (os : List Outcome) (o : Outcome) → length os ≡ length rows → length (os ++ o ∷ []) ≡ length (rows ++ r ∷ [])
-more_all rows r os o l = length-append os (o ∷ []) ∙ ap (λ (n : ℕ). n + 1) l ∙ sym (length-append rows (r ∷ []))
+more_all : (records : List (List Field)) (r : List Field) (os : List Outcome) (o : Outcome) → length os ≡ length records → length (os ++ o ∷ []) ≡ length (records ++ r ∷ [])
+more_all records r os o l = length-append os (o ∷ []) ∙ ap (λ (n : ℕ). n + 1) l ∙ sym (length-append records (r ∷ []))
 
 or_none : (b : Bool) → (b || false) ≡ b
 or_none true = refl
 or_none false = refl
 
 -- one more, which was accepted
-pub accepted_more : (stop : Bool) (s t u : State) (rows : List (List Field)) (r : List Field) (o : Outcome) (before now later : Known) (end : Status) → Answered stop s rows t before now end
-    → SoundOutcome t r o u → Appends now later (outcome_text o) → is_ok o ≡ true → Answered stop s (rows ++ r ∷ []) u before later end
-accepted_more stop s t u rows r o before now later end a h w e =
+pub accepted_more : (stop : Bool) (s t u : State) (records : List (List Field)) (r : List Field) (o : Outcome) (before now later : Known) (end : Status) → Answered stop s records t before now end
+    → SoundOutcome t r o u → Appends now later (outcome_text o) → is_ok o ≡ true → Answered stop s (records ++ r ∷ []) u before later end
+accepted_more stop s t u records r o before now later end a h w e =
     let refused : any_refused (a.outcomes ++ o ∷ []) ≡ any_refused a.outcomes =
     refused_more a.outcomes o ∙ ap (λ (b : Bool). any_refused a.outcomes || (b || false)) (is_accepted o e) ∙ or_none (any_refused a.outcomes) in
     record {
       outcomes = a.outcomes ++ o ∷ [];
-      each = run_more SoundOutcome s t u rows r a.outcomes o a.all a.each h;
+      each = run_more SoundOutcome s t u records r a.outcomes o a.all a.each h;
       stops = stops_more stop a.outcomes o a.goes_on a.stops;
-      all = more_all rows r a.outcomes o a.all;
+      all = more_all records r a.outcomes o a.all;
       wrote = subst (Appends before later) (sym (texts_more a.outcomes o)) (Appends-trans before now later _ _ a.wrote w);
       goes_on = ap (λ (b : Bool). stop && b) refused ∙ a.goes_on;
       ended = a.ended ∙ ap (λ (b : Bool). if b then (if stop then output.Stopped else output.Some_refused) else output.All_accepted) (sym refused);
@@ -127,14 +127,14 @@ some_refused os o e = refused_more os o ∙ ap (λ (b : Bool). any_refused os ||
     or_true false = refl
 
 -- one more, which was refused, where that doesn't stop the run
-pub refused_more_of : (s t u : State) (rows : List (List Field)) (r : List Field) (o : Outcome) (before now later : Known) (end : Status) → Answered false s rows t before now end
-    → SoundOutcome t r o u → Appends now later (outcome_text o) → is_ok o ≡ false → Answered false s (rows ++ r ∷ []) u before later ended.SomeRefused
-refused_more_of s t u rows r o before now later end a h w e =
+pub refused_more_of : (s t u : State) (records : List (List Field)) (r : List Field) (o : Outcome) (before now later : Known) (end : Status) → Answered false s records t before now end
+    → SoundOutcome t r o u → Appends now later (outcome_text o) → is_ok o ≡ false → Answered false s (records ++ r ∷ []) u before later ended.SomeRefused
+refused_more_of s t u records r o before now later end a h w e =
     record {
       outcomes = a.outcomes ++ o ∷ [];
-      each = run_more SoundOutcome s t u rows r a.outcomes o a.all a.each h;
+      each = run_more SoundOutcome s t u records r a.outcomes o a.all a.each h;
       stops = stops_more false a.outcomes o refl a.stops;
-      all = more_all rows r a.outcomes o a.all;
+      all = more_all records r a.outcomes o a.all;
       wrote = subst (Appends before later) (sym (texts_more a.outcomes o)) (Appends-trans before now later _ _ a.wrote w);
       goes_on = refl;
       ended = ap (λ (b : Bool). if b then output.Some_refused else output.All_accepted) (sym (some_refused a.outcomes o e));
@@ -144,29 +144,29 @@ refused_more_of s t u rows r o before now later end a h w e =
 
 abbrev pub OneMore : CsvState → Known → List Field → CsvState → Known → Type 0
 OneMore state source fields next later =
-    (input : List ℕ) (rows : List (List Field)) (left : List ℕ) → source ≡ Some left → Reached default_config st.StartRecord (strip_bom input) rows state left
-    → (z : List ℕ) × (later ≡ Some z) × Reached default_config st.StartRecord (strip_bom input) (rows ++ fields ∷ []) next z
+    (input : List ℕ) (records : List (List Field)) (left : List ℕ) → source ≡ Some left → Reached default_config st.StartRecord (strip_bom input) records state left
+    → (z : List ℕ) × (later ≡ Some z) × Reached default_config st.StartRecord (strip_bom input) (records ++ fields ∷ []) next z
 
 pub one_more : {R : Type 0} (remaining : R → Known) (old new : Reader R) (fields : List Field) → IsPlain old → ReadRecord remaining old new true fields
     → OneMore (reader_state old) (source_of remaining old) fields (reader_state new) (source_of remaining new)
-one_more remaining old new fields plain read input rows left source reached =
-    rows-more remaining old new fields default_config st.StartRecord (strip_bom input) left rows plain.config source reached read
+one_more remaining old new fields plain read input records left source reached =
+    rows-more remaining old new fields default_config st.StartRecord (strip_bom input) left records plain.config source reached read
 
 pub accepted_so_far : (stop : Bool) (old now new : Registered) (input : List ℕ) (before mid later : Known) (end : Status) (state next : CsvState) (source more : Known) (fields : List Field) (n : ℕ) (accepted : Bool)
     → accepted ≡ true → SoFar stop old input before now mid end state source n → OneMore state source fields next more → TellsRecord now fields new mid later (Ok accepted)
     → SoFar stop old input before new later end next more (n + 1)
 accepted_so_far stop old now new input before mid later end state next source more fields n accepted e a one told =
-    let reached = one input a.rows a.left a.source_is a.reached in
+    let reached = one input a.records a.left a.source_is a.reached in
     record {
       left = reached.0;
       source_is = reached.1;
-      rows = a.rows ++ fields ∷ [];
-      count = length-append a.rows (fields ∷ []) ∙ ap (λ (k : ℕ). k + 1) a.count;
+      records = a.records ++ fields ∷ [];
+      count = length-append a.records (fields ∷ []) ∙ ap (λ (k : ℕ). k + 1) a.count;
       reached = reached.2;
       answered = λ s stands sound.
           let so = a.answered s stands sound in
-          let t = told so.0 so.1 (sound_after s so.0 a.rows so.2.outcomes sound so.2.each) in
-          (t.0, t.2, accepted_more stop s so.0 t.0 a.rows fields t.1 before mid later end so.2 t.3 t.4.0 (sym t.4.1 ∙ e));
+          let t = told so.0 so.1 (sound_after s so.0 a.records so.2.outcomes sound so.2.each) in
+          (t.0, t.2, accepted_more stop s so.0 t.0 a.records fields t.1 before mid later end so.2 t.3 t.4.0 (sym t.4.1 ∙ e));
     }
 
 pub refused_so_far : (stop : Bool) (old now new : Registered) (input : List ℕ) (before mid later : Known) (end : Status) (state next : CsvState) (source more : Known) (fields : List Field) (n : ℕ) (accepted : Bool)
@@ -174,17 +174,17 @@ pub refused_so_far : (stop : Bool) (old now new : Registered) (input : List ℕ)
     → SoFar stop old input before new later ended.SomeRefused next more (n + 1)
 refused_so_far true old now new input before mid later end state next source more fields n accepted e going a one told = absurd cc
 refused_so_far false old now new input before mid later end state next source more fields n accepted e going a one told =
-    let reached = one input a.rows a.left a.source_is a.reached in
+    let reached = one input a.records a.left a.source_is a.reached in
     record {
       left = reached.0;
       source_is = reached.1;
-      rows = a.rows ++ fields ∷ [];
-      count = length-append a.rows (fields ∷ []) ∙ ap (λ (k : ℕ). k + 1) a.count;
+      records = a.records ++ fields ∷ [];
+      count = length-append a.records (fields ∷ []) ∙ ap (λ (k : ℕ). k + 1) a.count;
       reached = reached.2;
       answered = λ s stands sound.
           let so = a.answered s stands sound in
-          let t = told so.0 so.1 (sound_after s so.0 a.rows so.2.outcomes sound so.2.each) in
-          (t.0, t.2, refused_more_of s so.0 t.0 a.rows fields t.1 before mid later end so.2 t.3 t.4.0 (sym t.4.1 ∙ e));
+          let t = told so.0 so.1 (sound_after s so.0 a.records so.2.outcomes sound so.2.each) in
+          (t.0, t.2, refused_more_of s so.0 t.0 a.records fields t.1 before mid later end so.2 t.3 t.4.0 (sym t.4.1 ∙ e));
     }
 
 -- ---- ends
@@ -198,10 +198,10 @@ pub ran_whole : (stop : Bool) (old now : Registered) (input : List ℕ) (before 
     → SoFar stop old input before now later end state source n → ((left : List ℕ) → source ≡ Some left → next_record default_config state [] [] left ≡ None)
     → (s : State) → Stands old.kept s → (t : State) × Stands now.kept t × (written : List ℕ) × Appends before later written × Ran Claims stop s (records_of input) t written (status_of end)
 ran_whole stop old now input before later end state source n base a none s stands =
-    let all = first_records input a.rows state a.left a.reached in
+    let all = first_records input a.records state a.left a.reached in
     let sound = standing old s base stands in
     let so = a.answered s stands sound in
-    let rows_are : records_of input ≡ a.rows = all.1 ∙ ap (λ (xs : List (List Field)). a.rows ++ xs) (all.2 (none a.left a.source_is)) ∙ append-nil a.rows in (
+    let rows_are : records_of input ≡ a.records = all.1 ∙ ap (λ (xs : List (List Field)). a.records ++ xs) (all.2 (none a.left a.source_is)) ∙ append-nil a.records in (
       so.0,
       so.1,
       texts so.2.outcomes,
@@ -222,11 +222,11 @@ pub ran_stopped : (stop : Bool) (old now new : Registered) (input : List ℕ) (b
     → (s : State) → Stands old.kept s → (t : State) × Stands new.kept t × (written : List ℕ) × Appends before later written × Ran Claims stop s (records_of input) t written output.Stopped
 ran_stopped false old now new input before mid later end state next source more fields n accepted base e stops a one told s stands = absurd cc
 ran_stopped true old now new input before mid later end state next source more fields n accepted base e stops a one told s stands =
-    let reached = one input a.rows a.left a.source_is a.reached in
-    let all = first_records input (a.rows ++ fields ∷ []) next reached.0 reached.2 in
+    let reached = one input a.records a.left a.source_is a.reached in
+    let all = first_records input (a.records ++ fields ∷ []) next reached.0 reached.2 in
     let sound = standing old s base stands in
     let so = a.answered s stands sound in
-    let t = told so.0 so.1 (sound_after s so.0 a.rows so.2.outcomes sound so.2.each) in
+    let t = told so.0 so.1 (sound_after s so.0 a.records so.2.outcomes sound so.2.each) in
     let os = so.2.outcomes ++ t.1 ∷ [] in
     let refused : any_refused os ≡ true = some_refused so.2.outcomes t.1 (sym t.4.1 ∙ e) in (
       t.0,
@@ -236,7 +236,7 @@ ran_stopped true old now new input before mid later end state next source more f
       record {
         outcomes = os;
         each = claims_of s (records_of input) os t.0 sound (subst (λ (rs : List (List Field)). SoundOutcomes s rs os t.0) (sym all.1)
-            (run_longer SoundOutcome s t.0 (a.rows ++ fields ∷ []) all.0 os (run_more SoundOutcome s so.0 t.0 a.rows fields so.2.outcomes t.1 so.2.all so.2.each t.3)));
+            (run_longer SoundOutcome s t.0 (a.records ++ fields ∷ []) all.0 os (run_more SoundOutcome s so.0 t.0 a.records fields so.2.outcomes t.1 so.2.all so.2.each t.3)));
         stops = stops_more true so.2.outcomes t.1 so.2.goes_on so.2.stops;
         all = inr refused;
         wrote = refl;
@@ -260,7 +260,7 @@ pub faulted_between : (stop : Bool) (old now : Registered) (input : List ℕ) (b
     → SoFar stop old input before now later end state source n
     → (s : State) → Stands old.kept s → (t : State) × Stands now.kept t × (written : List ℕ) × Appends before later written × Faulted Claims stop s (records_of input) t written
 faulted_between stop old now input before later end state source n base a s stands =
-    let all = first_records input a.rows state a.left a.reached in
+    let all = first_records input a.records state a.left a.reached in
     let sound = standing old s base stands in
     let so = a.answered s stands sound in (
       so.0,
@@ -270,7 +270,7 @@ faulted_between stop old now input before later end state source n base a s stan
       record {
         outcomes = so.2.outcomes;
         each = claims_of s (records_of input) so.2.outcomes so.0 sound
-            (subst (λ (rs : List (List Field)). SoundOutcomes s rs so.2.outcomes so.0) (sym all.1) (run_longer SoundOutcome s so.0 a.rows all.0 so.2.outcomes so.2.each));
+            (subst (λ (rs : List (List Field)). SoundOutcomes s rs so.2.outcomes so.0) (sym all.1) (run_longer SoundOutcome s so.0 a.records all.0 so.2.outcomes so.2.each));
         stops = so.2.stops;
         wrote = cut_whole so.2.outcomes;
       },
@@ -281,11 +281,11 @@ pub faulted_answer : (stop : Bool) (old now new : Registered) (input : List ℕ)
     → IsContent old.kept.content → SoFar stop old input before now mid end state source n → OneMore state source fields next more → TellsRecord now fields new mid later (Err e)
     → (s : State) → Stands old.kept s → (t : State) × Stands new.kept t × (written : List ℕ) × Appends before later written × Faulted Claims stop s (records_of input) t written
 faulted_answer stop old now new input before mid later end state next source more fields n e base a one told s stands =
-    let reached = one input a.rows a.left a.source_is a.reached in
-    let all = first_records input (a.rows ++ fields ∷ []) next reached.0 reached.2 in
+    let reached = one input a.records a.left a.source_is a.reached in
+    let all = first_records input (a.records ++ fields ∷ []) next reached.0 reached.2 in
     let sound = standing old s base stands in
     let so = a.answered s stands sound in
-    let t = told so.0 so.1 (sound_after s so.0 a.rows so.2.outcomes sound so.2.each) in
+    let t = told so.0 so.1 (sound_after s so.0 a.records so.2.outcomes sound so.2.each) in
     let os = so.2.outcomes ++ t.1 ∷ [] in (
       t.0,
       t.2,
@@ -294,7 +294,7 @@ faulted_answer stop old now new input before mid later end state next source mor
       record {
         outcomes = os;
         each = claims_of s (records_of input) os t.0 sound (subst (λ (rs : List (List Field)). SoundOutcomes s rs os t.0) (sym all.1)
-            (run_longer SoundOutcome s t.0 (a.rows ++ fields ∷ []) all.0 os (run_more SoundOutcome s so.0 t.0 a.rows fields so.2.outcomes t.1 so.2.all so.2.each t.3)));
+            (run_longer SoundOutcome s t.0 (a.records ++ fields ∷ []) all.0 os (run_more SoundOutcome s so.0 t.0 a.records fields so.2.outcomes t.1 so.2.all so.2.each t.3)));
         stops = stops_more stop so.2.outcomes t.1 so.2.goes_on so.2.stops;
         wrote = In_last so.2.outcomes t.1 t.4.0 t.4.1 refl t.4.2 refl;
       },
@@ -304,11 +304,11 @@ faulted_answer stop old now new input before mid later end state next source mor
 pub too_many : (stop : Bool) (old now : Registered) (input : List ℕ) (before later : Known) (end : Status) (state next : CsvState) (source more : Known) (fields : List Field) (n : ℕ)
     → SoFar stop old input before now later end state source n → n ≡ most_records → OneMore state source fields next more → most_records < length (records_of input)
 too_many stop old now input before later end state next source more fields n a e one =
-    let reached = one input a.rows a.left a.source_is a.reached in
-    let all = first_records input (a.rows ++ fields ∷ []) next reached.0 reached.2 in
-    let size : length (records_of input) ≡ (length a.rows + 1) + length all.0 =
-    ap length all.1 ∙ length-append (a.rows ++ fields ∷ []) all.0 ∙ ap (λ (k : ℕ). k + length all.0) (length-append a.rows (fields ∷ [])) in
-    let count : length a.rows ≡ most_records = a.count ∙ e in
+    let reached = one input a.records a.left a.source_is a.reached in
+    let all = first_records input (a.records ++ fields ∷ []) next reached.0 reached.2 in
+    let size : length (records_of input) ≡ (length a.records + 1) + length all.0 =
+    ap length all.1 ∙ length-append (a.records ++ fields ∷ []) all.0 ∙ ap (λ (k : ℕ). k + length all.0) (length-append a.records (fields ∷ [])) in
+    let count : length a.records ≡ most_records = a.count ∙ e in
     subst (λ (k : ℕ). most_records < k) (sym size) (subst (λ (k : ℕ). most_records < (k + 1) + length all.0) (sym count) (above most_records (length all.0)))
   where
     above : (k m : ℕ) → k < (k + 1) + m

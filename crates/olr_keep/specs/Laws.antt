@@ -22,8 +22,8 @@ OneRun =
 -- records that csv gives one after another are the first of them all, and all where no further one comes
 abbrev pub FirstRecords : Type 0
 FirstRecords =
-    (input : List ℕ) (rows : List (List Field)) (state : CsvState) (left : List ℕ) → Reached default_config st.StartRecord (strip_bom input) rows state left
-    → (rest : List (List Field)) × (records_of input ≡ rows ++ rest) × (next_record default_config state [] [] left ≡ None → rest ≡ [])
+    (input : List ℕ) (records : List (List Field)) (state : CsvState) (left : List ℕ) → Reached default_config st.StartRecord (strip_bom input) records state left
+    → (rest : List (List Field)) × (records_of input ≡ records ++ rest) × (next_record default_config state [] [] left ≡ None → rest ≡ [])
 
 -- want of memory is told only of a record whose command holds a list, or may lack memory when it is carried out
 abbrev pub MemoryLacks : Type 0

@@ -20,11 +20,11 @@ use std::io::Write;
 fn carry_out(
     alloc: Global,
     register: &mut Register,
-    row: &ByteRecord,
+    fields: &ByteRecord,
 ) -> Result<Reply, &'static str>
-    ensures { CarriedOut register.old (fields_of row.now) register.new result }
+    ensures { CarriedOut register.old (fields_of fields.now) register.new result }
 {
-    match read_command(alloc, row) {
+    match read_command(alloc, fields) {
         Ok(command) => match register.apply(command) {
             Ok(reply) => Ok(reply),
             Err(fault) => Err(fault_text(fault)),
@@ -82,13 +82,13 @@ fn write_answer<W: Write>(
 pub fn tell<W: Write>(
     alloc: Global,
     register: &mut Register,
-    row: &ByteRecord,
+    fields: &ByteRecord,
     text: &mut Vec<u8>,
     output: &mut W,
 ) -> Result<bool, RunFault>
-    ensures told { TellsRecord register.old (fields_of row.now) register.new (W.contents output.old) (W.contents output.new) result }
+    ensures told { TellsRecord register.old (fields_of fields.now) register.new (W.contents output.old) (W.contents output.new) result }
     ensures failed { IfErr result (λ e. e ≢ RunFault.TooMany) }
 {
-    let answer = carry_out(alloc, register, row);
+    let answer = carry_out(alloc, register, fields);
     write_answer(&answer, text, output)
 }

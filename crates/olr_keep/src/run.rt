@@ -15,15 +15,15 @@ use std::io::{Read, Write};
 /// The most records of one run, 2^40.
 const MOST_RECORDS: u64 = 1 << 40;
 
-/// Whether there was one more record, which is then in `row`.
+/// Whether there was one more record, which is then in `fields`.
 fn next_record<R: Read + Drop>(
     reader: &mut Reader<R>,
-    row: &mut ByteRecord,
+    fields: &mut ByteRecord,
 ) -> Result<bool, RunFault>
-    ensures took { IfOk result (λ found. Takes R.remaining reader.old reader.new found (fields_of row.new)) }
+    ensures took { IfOk result (λ found. Takes R.remaining reader.old reader.new found (fields_of fields.new)) }
     ensures failed { IfErr result (λ e. e ≢ RunFault.TooMany) }
 {
-    match reader.read_byte_record(row) {
+    match reader.read_byte_record(fields) {
         Ok(found) => Ok(found),
         Err(error) => match error.kind() {
             ErrorKind::OutOfMemory => Err(RunFault::Memory),
@@ -55,16 +55,16 @@ pub fn run<R: Read + Drop, W: Write>(
         .has_headers(false)
         .flexible(true)
         .from_reader(alloc, input);
-    let mut row = ByteRecord::new(alloc);
+    let mut fields = ByteRecord::new(alloc);
     let mut text = Vec::new(alloc);
     let mut status = Status::AllAccepted;
     let mut answered: u64 = 0;
-    'records: while next_record(&mut reader, &mut row)? {
+    'records: while next_record(&mut reader, &mut fields)? {
         if answered == MOST_RECORDS {
             return Err(RunFault::TooMany);
         }
         answered += 1;
-        if !tell(alloc, register, &row, &mut text, output)? {
+        if !tell(alloc, register, &fields, &mut text, output)? {
             if stop {
                 return Ok(Status::Stopped);
             }

@@ -9,7 +9,7 @@ use Rattle.olr_spec.specs.Laws.{HasPlace}
 use Rattle.olr_spec.specs.Map.{ShapePoint, Line, are_coords, Edit, Add_node, Move_node, Drop_node, Add_line, Set_line, Drop_line}
 use Rattle.olr_spec.specs.Extension.{Path}
 use Rattle.olr_commands.specs.State.{same_name, Change, Add_path, Set_path, Drop_path, Command, Make, Show, Report, Explain, Begin, Commit, Abort, HasPlaces}
-use Rattle.olr_records.specs.Records.{Field, Read, ◌⊛◌, bounded, digits, number, amount, class, coordinate, longitude, latitude, place, name, point, shape, node_fields, edit, one, none, node_row, line, course, whole_line, line_row, set_line_row, path_fields, path_row, rows, read_by, read}
+use Rattle.olr_records.specs.Records.{Field, Read, ◌⊛◌, bounded, digits, number, amount, class, coordinate, longitude, latitude, place, name, point, shape, node_fields, edit, one, none, node_record, line, course, whole_line, line_record, set_line_record, path_fields, path_record, forms, read_by, read}
 
 if_read : {A : Type 0} (P : A → Type 0) (b : Bool) (r q : Read A) → IfOk r P → IfOk q P → IfOk (if b then r else q) P
 if_read P true r q h g = h
@@ -58,7 +58,7 @@ node_fields_pass (node ∷ []) = tt
 node_fields_pass (node ∷ lon ∷ []) = tt
 node_fields_pass (node ∷ lon ∷ lat ∷ x ∷ fs) = tt
 
-node_places : (g : ℕ → Coord → Edit) → ((n : ℕ) (c : Coord) → IsTrue (is_coord c) → HasPlace (g n c)) → (fs : List Field) → IfOk (node_row g fs) HasPlace
+node_places : (g : ℕ → Coord → Edit) → ((n : ℕ) (c : Coord) → IsTrue (is_coord c) → HasPlace (g n c)) → (fs : List Field) → IfOk (node_record g fs) HasPlace
 unfolding PlacePasses
 node_places g h fs = given_read HasPlace PlacePasses (Ok (λ p. g p.0 p.1)) (node_fields fs) (node_fields_pass fs) (λ p i. h p.0 p.1 i)
 
@@ -95,7 +95,7 @@ line_passes from to frc fow len fs =
     (given (λ g. (c : ℕ × ℕ × ℕ × List ShapePoint) → ShapePasses c → IsTrue (are_coords (g c).shape)) (Ok (λ a b c. line a b c.0 c.1 c.2 c.3) ⊛ number from) (number to)
     (given (λ g. (b : ℕ) (c : ℕ × ℕ × ℕ × List ShapePoint) → ShapePasses c → IsTrue (are_coords (g b c).shape)) (Ok (λ a b c. line a b c.0 c.1 c.2 c.3)) (number from) (λ a b c h. h)))
 
-line_places : (fs : List Field) → IfOk (line_row fs) HasPlace
+line_places : (fs : List Field) → IfOk (line_record fs) HasPlace
 line_places (x ∷ from ∷ to ∷ frc ∷ fow ∷ len ∷ fs) =
     given_read HasPlace (λ l. IsTrue (are_coords l.shape)) (Ok (λ x l. Add_line x l) ⊛ number x) (whole_line from to (course frc fow len fs)) (line_passes from to frc fow len fs)
     (given (λ g. (l : Line) → IsTrue (are_coords l.shape) → HasPlace (g l)) (Ok (λ x l. Add_line x l)) (number x) (λ x l h. h))
@@ -106,7 +106,7 @@ line_places (a ∷ b ∷ c ∷ []) = tt
 line_places (a ∷ b ∷ c ∷ d ∷ []) = tt
 line_places (a ∷ b ∷ c ∷ d ∷ e ∷ []) = tt
 
-set_line_places : (fs : List Field) → IfOk (set_line_row fs) HasPlace
+set_line_places : (fs : List Field) → IfOk (set_line_record fs) HasPlace
 unfolding ShapePasses
 set_line_places (x ∷ frc ∷ fow ∷ len ∷ fs) =
     given_read HasPlace ShapePasses (Ok (λ x c. Set_line x c.0 c.1 c.2 c.3) ⊛ number x) (course frc fow len fs) (course_passes frc fow len fs)
@@ -129,29 +129,29 @@ none_places : (c : Command) (fs : List Field) → HasPlaces c → IfOk (none c f
 none_places c [] h = h
 none_places c (f ∷ fs) h = tt
 
-path_places : (g : List ℕ → Path → Change) → ((n : List ℕ) (p : Path) → HasPlaces (Make (g n p))) → (fs : List Field) → IfOk (path_row g fs) HasPlaces
+path_places : (g : List ℕ → Path → Change) → ((n : List ℕ) (p : Path) → HasPlaces (Make (g n p))) → (fs : List Field) → IfOk (path_record g fs) HasPlaces
 path_places g h fs = given HasPlaces (Ok (λ p. Make (g p.0 p.1))) (path_fields fs) (λ p. h p.0 p.1)
 
 Passes : (List Field → Read Command) → Type 0
-Passes row = (fs : List Field) → IfOk (row fs) HasPlaces
+Passes form = (fs : List Field) → IfOk (form fs) HasPlaces
 
 by_passes : (rs : List (Field × (List Field → Read Command))) → AllByRecursion (λ r. Passes r.1) rs → (word : Field) (fs : List Field) → IfOk (read_by rs word fs) HasPlaces
 unfolding Passes
 by_passes [] h word fs = tt
 by_passes (r ∷ rs) h word fs = if_read HasPlaces (same_name word r.0) (r.1 fs) (read_by rs word fs) (h.0 fs) (by_passes rs h.1 word fs)
 
-rows_pass : AllByRecursion (λ r. Passes r.1) rows
+forms_pass : AllByRecursion (λ r. Passes r.1) forms
 unfolding Passes
-rows_pass = (
-  λ fs. edit_places (node_row Add_node fs) (node_places Add_node (λ n c h. h) fs),
+forms_pass = (
+  λ fs. edit_places (node_record Add_node fs) (node_places Add_node (λ n c h. h) fs),
   (
-    λ fs. edit_places (node_row Move_node fs) (node_places Move_node (λ n c h. h) fs),
+    λ fs. edit_places (node_record Move_node fs) (node_places Move_node (λ n c h. h) fs),
     (
       λ fs. edit_places (one Drop_node number fs) (one_places HasPlace Drop_node number fs (λ n. tt)),
       (
-        λ fs. edit_places (line_row fs) (line_places fs),
+        λ fs. edit_places (line_record fs) (line_places fs),
         (
-          λ fs. edit_places (set_line_row fs) (set_line_places fs),
+          λ fs. edit_places (set_line_record fs) (set_line_places fs),
           (
             λ fs. edit_places (one Drop_line number fs) (one_places HasPlace Drop_line number fs (λ n. tt)),
             (
@@ -188,4 +188,4 @@ rows_pass = (
 
 pub places_read : (fields : List Field) (c : Command) → read fields ≡ Ok c → HasPlaces c
 places_read [] c e = absurd cc
-places_read (word ∷ fs) c e = subst (λ (r : Read Command). IfOk r HasPlaces) e (by_passes rows rows_pass word fs)
+places_read (word ∷ fs) c e = subst (λ (r : Read Command). IfOk r HasPlaces) e (by_passes forms forms_pass word fs)

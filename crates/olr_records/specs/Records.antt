@@ -96,12 +96,12 @@ shape (at ∷ []) = Err Bad_form
 shape (at ∷ lon ∷ []) = Err Bad_form
 shape (at ∷ lon ∷ lat ∷ fs) = Ok (λ p ps. p ∷ ps) ⊛ point at lon lat ⊛ shape fs
 
--- ---- rows
+-- ---- forms
 
 abbrev pub edit : Read Edit → Read Command
 edit e = Ok (λ x. Make (On_map x)) ⊛ e
 
--- a row of one field, and of none
+-- a form of one field, and of none
 abbrev pub one : {A B : Type 0} → (A → B) → (Field → Read A) → List Field → Read B
 one g read (f ∷ []) = Ok g ⊛ read f
 one g read _ = Err Bad_form
@@ -115,8 +115,8 @@ abbrev pub node_fields : List Field → Read (ℕ × Coord)
 node_fields (node ∷ lon ∷ lat ∷ []) = Ok (λ x p. (x, p)) ⊛ number node ⊛ place lon lat
 node_fields _ = Err Bad_form
 
-abbrev pub node_row : (ℕ → Coord → Edit) → List Field → Read Edit
-node_row g fs = Ok (λ p. g p.0 p.1) ⊛ node_fields fs
+abbrev pub node_record : (ℕ → Coord → Edit) → List Field → Read Edit
+node_record g fs = Ok (λ p. g p.0 p.1) ⊛ node_fields fs
 
 abbrev pub line : ℕ → ℕ → ℕ → ℕ → ℕ → List ShapePoint → Line
 line from to frc fow len shape = record { from = from; to = to; frc = frc; fow = fow; len = len; shape = shape }
@@ -128,33 +128,33 @@ course frc fow len fs = Ok (λ a b c d. (a, b, c, d)) ⊛ class frc ⊛ class fo
 abbrev pub whole_line : Field → Field → Read (ℕ × ℕ × ℕ × List ShapePoint) → Read Line
 whole_line from to rest = Ok (λ a b c. line a b c.0 c.1 c.2 c.3) ⊛ number from ⊛ number to ⊛ rest
 
-abbrev pub line_row : List Field → Read Edit
-line_row (x ∷ from ∷ to ∷ frc ∷ fow ∷ len ∷ fs) = Ok (λ x l. Add_line x l) ⊛ number x ⊛ whole_line from to (course frc fow len fs)
-line_row _ = Err Bad_form
+abbrev pub line_record : List Field → Read Edit
+line_record (x ∷ from ∷ to ∷ frc ∷ fow ∷ len ∷ fs) = Ok (λ x l. Add_line x l) ⊛ number x ⊛ whole_line from to (course frc fow len fs)
+line_record _ = Err Bad_form
 
-abbrev pub set_line_row : List Field → Read Edit
-set_line_row (x ∷ frc ∷ fow ∷ len ∷ fs) = Ok (λ x c. Set_line x c.0 c.1 c.2 c.3) ⊛ number x ⊛ course frc fow len fs
-set_line_row _ = Err Bad_form
+abbrev pub set_line_record : List Field → Read Edit
+set_line_record (x ∷ frc ∷ fow ∷ len ∷ fs) = Ok (λ x c. Set_line x c.0 c.1 c.2 c.3) ⊛ number x ⊛ course frc fow len fs
+set_line_record _ = Err Bad_form
 
 -- a name, two offsets and the lines
 abbrev pub path_fields : List Field → Read (List ℕ × Path)
 path_fields (n ∷ pos ∷ neg ∷ fs) = Ok (λ n p q ls. (n, record { lines = ls; pos = p; neg = q })) ⊛ name n ⊛ amount pos ⊛ amount neg ⊛ numbers fs
 path_fields _ = Err Bad_form
 
-abbrev pub path_row : (List ℕ → Path → Change) → List Field → Read Command
-path_row g fs = Ok (λ p. Make (g p.0 p.1)) ⊛ path_fields fs
+abbrev pub path_record : (List ℕ → Path → Change) → List Field → Read Command
+path_record g fs = Ok (λ p. Make (g p.0 p.1)) ⊛ path_fields fs
 
 -- by the first field, how the fields after it read
-abbrev pub rows : List (Field × (List Field → Read Command))
-rows =
-    (codes "node", λ fs. edit (node_row Add_node fs))
-    ∷ (codes "move", λ fs. edit (node_row Move_node fs))
+abbrev pub forms : List (Field × (List Field → Read Command))
+forms =
+    (codes "node", λ fs. edit (node_record Add_node fs))
+    ∷ (codes "move", λ fs. edit (node_record Move_node fs))
     ∷ (codes "drop-node", λ fs. edit (one Drop_node number fs))
-    ∷ (codes "line", λ fs. edit (line_row fs))
-    ∷ (codes "set-line", λ fs. edit (set_line_row fs))
+    ∷ (codes "line", λ fs. edit (line_record fs))
+    ∷ (codes "set-line", λ fs. edit (set_line_record fs))
     ∷ (codes "drop-line", λ fs. edit (one Drop_line number fs))
-    ∷ (codes "path", λ fs. path_row Add_path fs)
-    ∷ (codes "repath", λ fs. path_row Set_path fs)
+    ∷ (codes "path", λ fs. path_record Add_path fs)
+    ∷ (codes "repath", λ fs. path_record Set_path fs)
     ∷ (codes "drop-path", λ fs. one (λ n. Make (Drop_path n)) name fs)
     ∷ (codes "show", λ fs. one Show name fs)
     ∷ (codes "report", λ fs. none Report fs)
@@ -170,7 +170,7 @@ read_by (r ∷ rs) word fs = if same_name word r.0 then r.1 fs else read_by rs w
 
 abbrev pub read : List Field → Read Command
 read [] = Err Bad_form
-read (word ∷ fs) = read_by rows word fs
+read (word ∷ fs) = read_by forms word fs
 
 abbrev pub read_fault : ReadFault → Fault
 read_fault Bad_form = Syntax

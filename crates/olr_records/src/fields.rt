@@ -31,10 +31,10 @@ const TOO_GREAT: u64 = 1 << 32;
 const LONGEST_NAME: usize = 64;
 
 /// The field at place `k`, or no bytes past the last one.
-pub(crate) fn field(row: &ByteRecord, k: usize) -> &[u8]
-    ensures { result.now ≡ slice_index_or (fields_of row.now) k [] }
+pub(crate) fn field(fields: &ByteRecord, k: usize) -> &[u8]
+    ensures { result.now ≡ slice_index_or (fields_of fields.now) k [] }
 {
-    match row.get(k) {
+    match fields.get(k) {
         Some(field) => field,
         None => &[],
     }

@@ -14,68 +14,84 @@ use olr_commands::Command;
 use olr_map::LineId;
 use std::alloc::Global;
 
-/// A name, two offsets in decimetres and line numbers: all that stands behind the word.
-fn path(alloc: Global, row: &ByteRecord) -> Result<(String, u32, u32, Vec<LineId>), ReadFault>
-    ensures { Gathers (λ _. ⊤) (λ p. (string_bytes p.0, path_along p.3.items p.1 p.2))
-        (records.path_fields (drop 1 (fields_of row.now)))
+/// What a record tells of a path.
+#[derive(Drop, Debug)]
+struct NamedPath {
+    name: String,
+    /// The offset from the path's begin, in decimetres.
+    pos: u32,
+    /// The offset from its end, in decimetres.
+    neg: u32,
+    lines: Vec<LineId>,
+}
+
+/// A name, two offsets and line numbers: all that stands behind the word.
+fn path(alloc: Global, fields: &ByteRecord) -> Result<NamedPath, ReadFault>
+    ensures { Gathers (λ _. ⊤) (λ p. (string_bytes p.name, path_along p.lines.items p.pos p.neg))
+        (records.path_fields (drop 1 (fields_of fields.now)))
         result }
 {
-    if row.len() < 4 {
+    if fields.len() < 4 {
         return Err(ReadFault::Syntax);
     }
-    let started = both(name(alloc, field(row, 1)), amount(field(row, 2)));
-    let offset = both(started, amount(field(row, 3)));
-    let (((name, pos), neg), lines) = both(offset, line_ids(alloc, row))?;
-    Ok((name, pos, neg, lines))
+    let started = both(name(alloc, field(fields, 1)), amount(field(fields, 2)));
+    let offset = both(started, amount(field(fields, 3)));
+    let (((name, pos), neg), lines) = both(offset, line_ids(alloc, fields))?;
+    Ok(NamedPath {
+        name,
+        pos,
+        neg,
+        lines,
+    })
 }
 
 /// The line numbers from the fifth field on.
-fn line_ids(alloc: Global, row: &ByteRecord) -> Result<Vec<LineId>, ReadFault>
-    ensures { Gathers (λ _. ⊤) (λ v. v.items) (records.numbers (drop 4 (fields_of row.now))) result }
+fn line_ids(alloc: Global, fields: &ByteRecord) -> Result<Vec<LineId>, ReadFault>
+    ensures { Gathers (λ _. ⊤) (λ v. v.items) (records.numbers (drop 4 (fields_of fields.now))) result }
 {
-    let mut ids = room(alloc, row.len().saturating_sub(4));
-    for k in 4..row.len() {
-        ids = pushed(ids, line_id(field(row, k)));
+    let mut ids = room(alloc, fields.len().saturating_sub(4));
+    for k in 4..fields.len() {
+        ids = pushed(ids, line_id(field(fields, k)));
     }
     ids
 }
 
 /// `path,NAME,POS,NEG[,LINE]*`
-pub(crate) fn add_path(alloc: Global, row: &ByteRecord) -> Result<Command, ReadFault>
-    ensures { IsRead (records.path_row Add_path (drop 1 (fields_of row.now))) result }
+pub(crate) fn add_path(alloc: Global, fields: &ByteRecord) -> Result<Command, ReadFault>
+    ensures { IsRead (records.path_record Add_path (drop 1 (fields_of fields.now))) result }
 {
-    let (name, pos, neg, lines) = path(alloc, row)?;
-    Ok(Command::AddPath(name, lines, pos, neg))
+    let path = path(alloc, fields)?;
+    Ok(Command::AddPath(path.name, path.lines, path.pos, path.neg))
 }
 
 /// `repath,NAME,POS,NEG[,LINE]*`
-pub(crate) fn set_path(alloc: Global, row: &ByteRecord) -> Result<Command, ReadFault>
-    ensures { IsRead (records.path_row Set_path (drop 1 (fields_of row.now))) result }
+pub(crate) fn set_path(alloc: Global, fields: &ByteRecord) -> Result<Command, ReadFault>
+    ensures { IsRead (records.path_record Set_path (drop 1 (fields_of fields.now))) result }
 {
-    let (name, pos, neg, lines) = path(alloc, row)?;
-    Ok(Command::SetPath(name, lines, pos, neg))
+    let path = path(alloc, fields)?;
+    Ok(Command::SetPath(path.name, path.lines, path.pos, path.neg))
 }
 
 /// `drop-path,NAME`
-pub(crate) fn drop_path(alloc: Global, row: &ByteRecord) -> Result<Command, ReadFault>
+pub(crate) fn drop_path(alloc: Global, fields: &ByteRecord) -> Result<Command, ReadFault>
     ensures { IsRead
-        (records.one (λ n. Make (Drop_path n)) records.name (drop 1 (fields_of row.now)))
+        (records.one (λ n. Make (Drop_path n)) records.name (drop 1 (fields_of fields.now)))
         result }
 {
-    if row.len() != 2 {
+    if fields.len() != 2 {
         return Err(ReadFault::Syntax);
     }
-    let name = name(alloc, field(row, 1))?;
+    let name = name(alloc, field(fields, 1))?;
     Ok(Command::DropPath(name))
 }
 
 /// `show,NAME`
-pub(crate) fn show(alloc: Global, row: &ByteRecord) -> Result<Command, ReadFault>
-    ensures { IsRead (records.one Show records.name (drop 1 (fields_of row.now))) result }
+pub(crate) fn show(alloc: Global, fields: &ByteRecord) -> Result<Command, ReadFault>
+    ensures { IsRead (records.one Show records.name (drop 1 (fields_of fields.now))) result }
 {
-    if row.len() != 2 {
+    if fields.len() != 2 {
         return Err(ReadFault::Syntax);
     }
-    let name = name(alloc, field(row, 1))?;
+    let name = name(alloc, field(fields, 1))?;
     Ok(Command::Show(name))
 }

@@ -17,84 +17,84 @@ use std::alloc::Global;
 /// The command that a record spells. A record of no command's form is `Syntax`; one that has the form of a command and
 /// a value out of bounds is `Range`, wherever the two stand. `Memory` comes only of a record that spells a command with a
 /// name, some text or shape points.
-pub fn read_command(alloc: Global, row: &ByteRecord) -> Result<Command, ReadFault>
-    ensures { IsRead (records.read (fields_of row.now)) result }
+pub fn read_command(alloc: Global, fields: &ByteRecord) -> Result<Command, ReadFault>
+    ensures { IsRead (records.read (fields_of fields.now)) result }
 {
-    if row.is_empty() {
+    if fields.is_empty() {
         return Err(ReadFault::Syntax);
     }
-    read_by(alloc, field(row, 0), row)
+    read_by(alloc, field(fields, 0), fields)
 }
 
 /// The command of a record that begins with this word. The words of most records are tried first.
-fn read_by(alloc: Global, word: &[u8], row: &ByteRecord) -> Result<Command, ReadFault>
-    ensures { IsRead (records.read_by records.rows word.now (drop 1 (fields_of row.now))) result }
+fn read_by(alloc: Global, word: &[u8], fields: &ByteRecord) -> Result<Command, ReadFault>
+    ensures { IsRead (records.read_by records.forms word.now (drop 1 (fields_of fields.now))) result }
 {
     let is = |text: &[u8]| word == text;
     if is(b"line") {
-        add_line(alloc, row)
+        add_line(alloc, fields)
     } else if is(b"node") {
-        add_node(row)
+        add_node(fields)
     } else if is(b"explain") {
-        explain(alloc, row)
+        explain(alloc, fields)
     } else if is(b"path") {
-        add_path(alloc, row)
+        add_path(alloc, fields)
     } else if is(b"set-line") {
-        set_line(alloc, row)
+        set_line(alloc, fields)
     } else if is(b"move") {
-        move_node(row)
+        move_node(fields)
     } else if is(b"drop-line") {
-        drop_line(row)
+        drop_line(fields)
     } else if is(b"drop-node") {
-        drop_node(row)
+        drop_node(fields)
     } else if is(b"repath") {
-        set_path(alloc, row)
+        set_path(alloc, fields)
     } else if is(b"drop-path") {
-        drop_path(alloc, row)
+        drop_path(alloc, fields)
     } else if is(b"show") {
-        show(alloc, row)
+        show(alloc, fields)
     } else if is(b"begin") {
-        alone(row, Command::Begin)
+        alone(fields, Command::Begin)
     } else if is(b"commit") {
-        commit(row)
+        commit(fields)
     } else if is(b"abort") {
-        alone(row, Command::Abort)
+        alone(fields, Command::Abort)
     } else if is(b"report") {
-        alone(row, Command::Report)
+        alone(fields, Command::Report)
     } else {
         Err(ReadFault::Syntax)
     }
 }
 
 /// A command whose record is its word alone.
-fn alone(row: &ByteRecord, command: Command) -> Result<Command, ReadFault>
-    ensures { IsRead (records.none (command_of command) (drop 1 (fields_of row.now))) result }
+fn alone(fields: &ByteRecord, command: Command) -> Result<Command, ReadFault>
+    ensures { IsRead (records.none (command_of command) (drop 1 (fields_of fields.now))) result }
 {
-    if row.len() > 1 {
+    if fields.len() > 1 {
         return Err(ReadFault::Syntax);
     }
     Ok(command)
 }
 
 /// `explain,TEXT`
-fn explain(alloc: Global, row: &ByteRecord) -> Result<Command, ReadFault>
-    ensures { IsRead (records.one Explain (λ f. Ok f) (drop 1 (fields_of row.now))) result }
+fn explain(alloc: Global, fields: &ByteRecord) -> Result<Command, ReadFault>
+    ensures { IsRead (records.one Explain (λ f. Ok f) (drop 1 (fields_of fields.now))) result }
 {
-    if row.len() != 2 {
+    if fields.len() != 2 {
         return Err(ReadFault::Syntax);
     }
     let mut text = Vec::new(alloc);
-    text.extend_from_slice(field(row, 1))?;
+    text.extend_from_slice(field(fields, 1))?;
     Ok(Command::Explain(text))
 }
 
 /// `commit,COUNT`
-fn commit(row: &ByteRecord) -> Result<Command, ReadFault>
-    ensures { IsRead (records.one Commit records.amount (drop 1 (fields_of row.now))) result }
+fn commit(fields: &ByteRecord) -> Result<Command, ReadFault>
+    ensures { IsRead (records.one Commit records.amount (drop 1 (fields_of fields.now))) result }
 {
-    if row.len() != 2 {
+    if fields.len() != 2 {
         return Err(ReadFault::Syntax);
     }
-    let count = amount(field(row, 1))?;
+    let count = amount(field(fields, 1))?;
     Ok(Command::Commit(count))
 }

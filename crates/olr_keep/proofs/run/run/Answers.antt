@@ -41,14 +41,14 @@ pub returns-then-answered-eq-MOST_RECORDS-clause-too_many : goal.returns-then-an
 returns-then-answered-eq-MOST_RECORDS-clause-too_many g c =
     let plain = c.records.invariant.1 in
     let read = rw c.if-branch.true at ((c.in_ok-next_record.ensures.took plain).1) in
-    let one = one_more g.R.Read.remaining c.records.reader c.next_record.new.reader (fields_of c.next_record.new.row) plain read in
+    let one = one_more g.R.Read.remaining c.records.reader c.next_record.new.reader (fields_of c.next_record.new.fields) plain read in
     λ e. within _ _ (g.R.Read.remaining c.args.input) (λ input a. too_many _ _ _ input _ _ _ _ _ _ _ _ _ a c.if-answered-eq-MOST_RECORDS.true one) c.records.invariant.2
 
 pub returns-in_err-tell-clause-faulted : goal.returns-in_err-tell-clause-faulted
 returns-in_err-tell-clause-faulted g c =
     let plain = c.records.invariant.1 in
     let read = rw c.if-branch.true at ((c.in_ok-next_record.ensures.took plain).1) in
-    let one = one_more g.R.Read.remaining c.records.reader c.next_record.new.reader (fields_of c.next_record.new.row) plain read in
+    let one = one_more g.R.Read.remaining c.records.reader c.next_record.new.reader (fields_of c.next_record.new.fields) plain read in
     on_fault c.from_residual-in_err-tell.result _
     (within_records _ _ (g.R.Read.remaining c.args.input)
     (λ input a. faulted_answer _ _ _ c.tell.new.register input _ _ _ _ _ _ _ _ _ _ c.in_err-tell.field-0.0 c.is_sound.ensures a one c.in_err-tell.ensures.told) c.records.invariant.2)
@@ -57,7 +57,7 @@ pub returns-then-stop-clause-ran : goal.returns-then-stop-clause-ran
 returns-then-stop-clause-ran g c =
     let plain = c.records.invariant.1 in
     let read = rw c.if-branch.true at ((c.in_ok-next_record.ensures.took plain).1) in
-    let one = one_more g.R.Read.remaining c.records.reader c.next_record.new.reader (fields_of c.next_record.new.row) plain read in
+    let one = one_more g.R.Read.remaining c.records.reader c.next_record.new.reader (fields_of c.next_record.new.fields) plain read in
     within_records _ _ (g.R.Read.remaining c.args.input)
     (λ input a. ran_stopped _ _ _ c.tell.new.register input _ _ _ _ _ _ _ _ _ _ c.in_ok-tell.field-0 c.is_sound.ensures c.if-not-branch.true c.if-stop.true a one c.in_ok-tell.ensures.told) c.records.invariant.2
 
@@ -66,7 +66,7 @@ records-preserved-then-not-branch g c =
     let plain = c.records.invariant.1 in
     let taken = c.in_ok-next_record.ensures.took plain in
     let read = rw c.if-branch.true at (taken.1) in
-    let one = one_more g.R.Read.remaining c.records.reader c.next_record.new.reader (fields_of c.next_record.new.row) plain read in (
+    let one = one_more g.R.Read.remaining c.records.reader c.next_record.new.reader (fields_of c.next_record.new.fields) plain read in (
       (let few = c.records.invariant.0 in omega arith),
       taken.0,
       within _ _ (g.R.Read.remaining c.args.input)
@@ -78,7 +78,7 @@ records-preserved g c =
     let plain = c.records.invariant.1 in
     let taken = c.in_ok-next_record.ensures.took plain in
     let read = rw c.if-branch.true at (taken.1) in
-    let one = one_more g.R.Read.remaining c.records.reader c.next_record.new.reader (fields_of c.next_record.new.row) plain read in (
+    let one = one_more g.R.Read.remaining c.records.reader c.next_record.new.reader (fields_of c.next_record.new.fields) plain read in (
       (let few = c.records.invariant.0 in omega arith),
       taken.0,
       within _ _ (g.R.Read.remaining c.args.input)

@@ -9,7 +9,7 @@ use Rattle.olr_records.proofs.lines.course.Goals as goal
 
 pub returns-in_err-frc : goal.returns-in_err-frc
 returns-in_err-frc c =
-    let fs = fields_of c.args.row.now in
+    let fs = fields_of c.args.fields.now in
     let k : ℕ = c.args.k in
     let front : Read (List ShapePoint → ℕ × ℕ × ℕ × List ShapePoint) = Ok (λ a b c d. (a, b, c, d)) ⊛ class (at fs k) ⊛ class (at fs (k + 1)) ⊛ digits 1 1000000 (at fs (k + 2)) in
     let frc = subst (λ (f : Field). Reads (λ n. n) (class f) c.class.result) c.field.ensures c.class.ensures in

@@ -11,12 +11,12 @@ use Rattle.olr_records.proofs.lines.shape.Goals as goal
 pub loop-k-init : goal.loop-k-init
 loop-k-init c = record {
   within = c.requires;
-  gathered = (Ok [], c.room-points.ensures, nothing-onto (shape (drop c.args.start (fields_of c.args.row.now))));
+  gathered = (Ok [], c.room-points.ensures, nothing-onto (shape (drop c.args.start (fields_of c.args.fields.now))));
 }
 
 pub loop-k-preserved : goal.loop-k-preserved
 loop-k-preserved c =
-    let fs = fields_of c.args.row.now in
+    let fs = fields_of c.args.fields.now in
     let k : ℕ = c.loop-k.k in
     let x = c.loop-k.invariant.gathered.0 in
     let one = point (at fs k) (at fs (k + 1)) (at fs (k + 2)) in
@@ -35,12 +35,12 @@ loop-k-preserved c =
 
 pub returns-then-k-len : goal.returns-then-k-len
 returns-then-k-len c =
-    let fs = fields_of c.args.row.now in
+    let fs = fields_of c.args.fields.now in
     shape-over fs c.loop-k.k c.loop-k.invariant.gathered.0 (shape (drop c.args.start fs)) (omega arith) (omega arith) c.loop-k.invariant.gathered.2
 
 pub returns : goal.returns
 returns c =
-    let fs = fields_of c.args.row.now in
+    let fs = fields_of c.args.fields.now in
     let whole = shape (drop c.args.start fs) in
     let read = subst (λ (x : Read (List ShapePoint)). Gathers (λ _. ⊤) (λ v. v.items) x c.loop-k.points)
     (shape-end fs c.loop-k.k c.loop-k.invariant.gathered.0 whole (omega arith) c.loop-k.invariant.gathered.2) c.loop-k.invariant.gathered.1

@@ -10,9 +10,9 @@ use Rattle.olr_records.proofs.lines.shape.Given as goal
 -- with the fields still to be read the points come to the whole
 abbrev pub invariant-loop-k : goal.invariant-loop-k
 invariant-loop-k l = record {
-  within : l.k ≤ length (fields_of l.row);
-  gathered : (x : Read (List ShapePoint)) × Gathers (λ _. ⊤) (λ v. v.items) x l.points × (onto x (shape (drop l.k (fields_of l.row))) ≡ shape (drop l.fn.start (fields_of l.row)));
+  within : l.k ≤ length (fields_of l.fields);
+  gathered : (x : Read (List ShapePoint)) × Gathers (λ _. ⊤) (λ v. v.items) x l.points × (onto x (shape (drop l.k (fields_of l.fields))) ≡ shape (drop l.fn.start (fields_of l.fields)));
 }
 
 abbrev pub decreases-loop-k : goal.decreases-loop-k
-decreases-loop-k l = length (fields_of l.row) - l.k
+decreases-loop-k l = length (fields_of l.fields) - l.k

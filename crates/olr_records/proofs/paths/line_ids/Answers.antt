@@ -7,11 +7,11 @@ use Rattle.olr_records.proofs.LoopLemmas.{at, with, nothing-onto, numbers-more, 
 use Rattle.olr_records.proofs.paths.line_ids.Goals as goal
 
 pub loop-k-init : goal.loop-k-init
-loop-k-init c = (Ok [], c.room-ids.ensures, nothing-onto (numbers (drop 4 (fields_of c.args.row.now))))
+loop-k-init c = (Ok [], c.room-ids.ensures, nothing-onto (numbers (drop 4 (fields_of c.args.fields.now))))
 
 pub loop-k-preserved : goal.loop-k-preserved
 loop-k-preserved c =
-    let fs = fields_of c.args.row.now in
+    let fs = fields_of c.args.fields.now in
     let x = c.loop-k.invariant.0 in
     let one = number (at fs c.loop-k.k) in
     let read = subst (λ (f : Field). Reads (λ n. n) (number f) c.line_id.result) c.field.ensures c.line_id.ensures in (
@@ -22,6 +22,6 @@ loop-k-preserved c =
 
 pub returns : goal.returns
 returns c =
-    let fs = fields_of c.args.row.now in
+    let fs = fields_of c.args.fields.now in
     subst (λ (x : Read (List ℕ)). Gathers (λ _. ⊤) (λ v. v.items) x c.loop-k.ids)
     (numbers-end fs c.loop-k.k c.loop-k.invariant.0 (numbers (drop 4 fs)) (omega arith) c.loop-k.invariant.2) c.loop-k.invariant.1

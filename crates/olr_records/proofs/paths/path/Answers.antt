@@ -6,12 +6,12 @@ use Rattle.olr_records.specs.Records.{Field, ◌⊛◌, amount, name, numbers}
 use Rattle.olr_records.specs.Words.{Reads, Gathers}
 use Rattle.olr_records.proofs.LoopLemmas.{at}
 use Rattle.olr_records.proofs.PartLemmas.{no-memory, made-part, both-parts, handed-on}
-use Rattle.olr_records.proofs.RowLemmas.{path-fields}
+use Rattle.olr_records.proofs.FormLemmas.{path-fields}
 use Rattle.olr_records.proofs.paths.path.Goals as goal
 
 pub returns-in_err-name : goal.returns-in_err-name
 returns-in_err-name c =
-    let fs = fields_of c.args.row.now in
+    let fs = fields_of c.args.fields.now in
     let whole : List ℕ → ℕ → ℕ → List ℕ → List ℕ × Path = λ n p q ls. (n, record { lines = ls; pos = p; neg = q }) in
     let front = Ok whole ⊛ name (at fs 1) in
     let named = subst (λ (f : Field). Gathers (λ _. ⊤) string_bytes (name f) c.name.result) c.field.ensures c.name.ensures in
