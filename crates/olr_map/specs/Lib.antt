@@ -1,3 +1,4 @@
+pub mod Hashing
 pub mod ByNumbers
 pub mod Edits
 pub mod Ends

@@ -5,15 +5,17 @@ ghost use Rattle.std.specs.List.{IsDistinct, IsDistinct-prop};
 ghost use Rattle.std.specs.Map.{keys_of, lookup};
 ghost use Rattle.std.specs.Vec.{vec_capacity};
 
+use crate::number_hash::NumberHasher;
 use std::alloc::{AllocError, Global};
 use std::collections::HashMap;
+use std::hash::BuildHasherDefault;
 use std::mem;
 
 /// Values by number, one for each at most.
 #[derive(Drop, Debug)]
 pub enum ByNumber<V> {
     /// Found by hash: the time depends on neither the numbers nor their order.
-    Hashed(HashMap<u32, V>),
+    Hashed(HashMap<u32, V, BuildHasherDefault<NumberHasher>>),
     /// Found by search from the front, for tests.
     Listed(List<V>),
 }
@@ -32,7 +34,7 @@ impl<V: Drop> ByNumber<V> {
     pub fn hashed(alloc: Global) -> ByNumber<V>
         ensures { entries_of result ≡ [] }
     {
-        ByNumber::Hashed(HashMap::new(alloc))
+        ByNumber::Hashed(HashMap::with_hasher(alloc, BuildHasherDefault::new()))
     }
 
     /// No values, to be found by search from the front. Takes no memory.

@@ -12,6 +12,7 @@ pub mod ids;
 pub mod judging;
 pub mod line;
 mod links;
+mod number_hash;
 pub mod plain_map;
 pub mod read;
 pub mod road_map;
