@@ -35,9 +35,9 @@ room_fits R S (map.Set_line x frc fow len shape) w h = tt
 room_fits R S (map.Drop_line x) w h = tt
 
 after_within : (M : Map) (R S : Room) (c : Change) → IsRoomWithin R S → IsRoomWithin (room_after M R c) (room_after M S c)
-after_within M R S (PutNode e) w =
+after_within M R S (PutNode v place o i) w =
     let n = w.nodes in
-    record { nodes = omega arith; outs = changed_within R.outs S.outs e.id _ _ w.outs (omega arith); ins = changed_within R.ins S.ins e.id _ _ w.ins (omega arith) }
+    record { nodes = omega arith; outs = changed_within R.outs S.outs v _ _ w.outs (omega arith); ins = changed_within R.ins S.ins v _ _ w.ins (omega arith) }
 after_within M R S (MoveNode v c) w = w
 after_within M R S (TakeNode v) w =
     let n = w.nodes in

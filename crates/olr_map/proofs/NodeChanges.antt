@@ -15,17 +15,19 @@ use Rattle.olr_map.specs.ByNumbers.{found, spare_of, all_of}
 use Rattle.olr_map.specs.Slotted.{Comes, Goes, Turns}
 use Rattle.olr_map.specs.NodeSlots.{slots_of, room_in}
 use Rattle.olr_map.specs.NodeLinks.{links_at}
-use Rattle.olr_map.specs.Linked.{lines_on, ends_on, spare_links}
+use Rattle.olr_map.specs.Linked.{lines_on, ends_on, spare_links, lines_kept, places_kept}
 use Rattle.olr_map.specs.Kept.{near, far, in_slot, node_in, links_in, map_from, place_in, lines_at, end_at, IsListed, IsIndexed, IsKept}
 use Rattle.olr_map.specs.Changes.{tables_map, room_of, spare_at, changed_at, CanMake, map_after, IsChangeMade}
 use Rattle.olr_map.specs.declared.by_number.ByNumber.{ByNumber}
 use Rattle.olr_map.specs.declared.links.Links.{Links}
 use Rattle.olr_map.specs.declared.links.Links.TheVariants.{Few, Many}
+use Rattle.olr_map.specs.declared.links.Spare.{Spare}
 use Rattle.olr_map.specs.declared.slots.NodeEntry.{NodeEntry}
 use Rattle.olr_map.specs.declared.slots.Slots.{Slots}
 use Rattle.olr_map.specs.declared.slots.Side.{Side}
 use Rattle.olr_map.specs.declared.slots.Side.TheVariants.{Out, In}
 use Rattle.olr_map.specs.declared.tables.Tables.{Tables}
+use Rattle.olr_map.specs.declared.change.Change.{Change}
 use Rattle.olr_map.specs.declared.change.Change.TheVariants.{PutNode, MoveNode, TakeNode}
 use Rattle.olr_map.proofs.Looks.{eqb_flip, map_cond, map_or_cond, map_or_none, got_insert, got_remove, same_answers}
 use Rattle.olr_map.proofs.Indexing.{same_some, came_node, came_indexed, gone_node, gone_indexed, turned_node, turned_indexed, id_here}
@@ -71,14 +73,10 @@ each_but L L' n l Q Q' now new others old k h e =
 
 beside : (l : Links) → length (ends_on l) ≡ length (lines_on l)
 beside (Few f) = length-take-le f.count f.ends (omega arith) ∙ sym (length-take-le f.count f.lines (omega arith))
-beside (Many m) = m.beside
+beside (Many m) = m.value.beside
 
 empty_ends : (l : Links) → lines_on l ≡ [] → ends_on l ≡ []
 empty_ends l e = nil_from_length (ends_on l) (beside l ∙ ap (λ xs. length xs) e)
-
-whole_links : (side : Side) (e : NodeEntry) → (lines_on e.outs ≡ []) × (lines_on e.ins ≡ []) → lines_on (links_at side e) ≡ []
-whole_links Out e h = h.0
-whole_links In e h = h.1
 
 mapped_none : (b : Bool) (o : Option NodeEntry) → option_map place_of (cond b None o) ≡ cond b None (option_map place_of o)
 mapped_none true o = refl
@@ -94,87 +92,113 @@ linked_none side false o = refl
 
 -- ---- a node comes
 
-pub free_number : (t : Tables) (e : NodeEntry) → CanMake (tables_map t) (room_of t) (PutNode e) → found t.index e.id ≡ None
-free_number t e can =
-    not_found t.index (slots_of t.nodes) t.kept.indexed (all_of t.lines) e.id
-    (Undoing.added_node (tables_map t) (map_after (tables_map t) (PutNode e)) e.id e.place (made_ok (tables_map t) (PutNode e) can.accepted)).0
+pub free_number : (t : Tables) (v : ℕ) (q : Coord) (o i : Spare) → CanMake (tables_map t) (room_of t) (PutNode v q o i) → found t.index v ≡ None
+free_number t v q o i can =
+    not_found t.index (slots_of t.nodes) t.kept.indexed (all_of t.lines) v
+    (Undoing.added_node (tables_map t) (map_after (tables_map t) (PutNode v q o i)) v q (made_ok (tables_map t) (PutNode v q o i) can.accepted)).0
 
-module _ (t : Tables) (b' : ByNumber ℕ) (nodes' : Slots) (p : ℕ) (e : NodeEntry) (c : Comes (slots_of t.nodes) (slots_of nodes') p e)
-    (put : (k : ℕ) → found b' k ≡ cond (e.id == k) (Some p) (found t.index k)) (can : CanMake (tables_map t) (room_of t) (PutNode e)) where
+-- a list has no lines, and room for so many
+pub record IsBare (l : Links) (s : Spare) : Type 0 where
+  pub lines : lines_on l ≡ lines_kept s
+  pub room : spare_links l ≡ places_kept s
+
+module _ (t : Tables) (b' : ByNumber ℕ) (nodes' : Slots) (p v : ℕ) (q : Coord) (o i : Spare) (outs' ins' : Links) (bare_outs : IsBare outs' o) (bare_ins : IsBare ins' i)
+    (c : Comes (slots_of t.nodes) (slots_of nodes') p (record { id = v; place = q; outs = outs'; ins = ins' }))
+    (put : (k : ℕ) → found b' k ≡ cond (v == k) (Some p) (found t.index k)) (can : CanMake (tables_map t) (room_of t) (PutNode v q o i)) where
+  abbrev e : NodeEntry
+  e = record { id = v; place = q; outs = outs'; ins = ins' }
+
+  abbrev came : Change
+  came = PutNode v q o i
+
+  whole_links : (side : Side) → lines_on (links_at side e) ≡ []
+  whole_links Out = bare_outs.lines ∙ can.whole.0
+  whole_links In = bare_ins.lines ∙ can.whole.1
+
+  abbrev places_at : Side → ℕ
+  places_at Out = places_kept o
+  places_at In = places_kept i
+
+  places_are : (side : Side) → spare_links (links_at side e) ≡ places_at side
+  places_are Out = bare_outs.room
+  places_are In = bare_ins.room
+
   abbrev M : Map
   M = tables_map t
 
   abbrev N : Map
-  N = record M { nodes = finmap.insert M.nodes e.id e.place }
+  N = record M { nodes = finmap.insert M.nodes v q }
 
   abbrev F : FinMap nat_cmp Line
   F = all_of t.lines
 
-  says : (has_node M e.id ≡ false) × (N ≡ map_after M (PutNode e))
-  says = Undoing.added_node M (map_after M (PutNode e)) e.id e.place (made_ok M (PutNode e) can.accepted)
+  says : (has_node M v ≡ false) × (N ≡ map_after M came)
+  says = Undoing.added_node M (map_after M came) v q (made_ok M came can.accepted)
 
-  put_absent : found t.index e.id ≡ None
-  put_absent = free_number t e can
+  put_absent : found t.index v ≡ None
+  put_absent = free_number t v q o i can
 
   put_indexed : IsIndexed b' (slots_of nodes')
-  put_indexed = came_indexed t.index (slots_of t.nodes) t.kept.indexed b' (slots_of nodes') p e.id e c refl put_absent put
+  put_indexed = came_indexed t.index (slots_of t.nodes) t.kept.indexed b' (slots_of nodes') p v e c refl put_absent put
 
-  put_node : (k : ℕ) → node_in b' (slots_of nodes') k ≡ cond (e.id == k) (Some e) (node_in t.index (slots_of t.nodes) k)
-  put_node = came_node t.index (slots_of t.nodes) t.kept.indexed b' (slots_of nodes') p e.id e c refl put_absent put
+  put_node : (k : ℕ) → node_in b' (slots_of nodes') k ≡ cond (v == k) (Some e) (node_in t.index (slots_of t.nodes) k)
+  put_node = came_node t.index (slots_of t.nodes) t.kept.indexed b' (slots_of nodes') p v e c refl put_absent put
 
-  put_links : (side : Side) (k : ℕ) → links_in side b' (slots_of nodes') k ≡ cond (e.id == k) (Some (links_at side e)) (links_in side t.index (slots_of t.nodes) k)
-  put_links side k = ap (option_map (links_at side)) (put_node k) ∙ linked_cond side (e.id == k) e (node_in t.index (slots_of t.nodes) k)
+  put_links : (side : Side) (k : ℕ) → links_in side b' (slots_of nodes') k ≡ cond (v == k) (Some (links_at side e)) (links_in side t.index (slots_of t.nodes) k)
+  put_links side k = ap (option_map (links_at side)) (put_node k) ∙ linked_cond side (v == k) e (node_in t.index (slots_of t.nodes) k)
 
   put_map : map_from b' (slots_of nodes') F ≡ N
   put_map = ap (λ (ns : FinMap nat_cmp Coord). record M { nodes = ns }) (same_answers _ _ (λ k.
-      got_node b' (slots_of nodes') put_indexed F k ∙ ap (option_map place_of) (put_node k) ∙ map_cond place_of (e.id == k) e (node_in t.index (slots_of t.nodes) k)
-      ∙ ap (cond (e.id == k) (Some e.place)) (sym (got_node t.index (slots_of t.nodes) t.kept.indexed F k)) ∙ sym (got_insert M.nodes e.id e.place k)))
+      got_node b' (slots_of nodes') put_indexed F k ∙ ap (option_map place_of) (put_node k) ∙ map_cond place_of (v == k) e (node_in t.index (slots_of t.nodes) k)
+      ∙ ap (cond (v == k) (Some q)) (sym (got_node t.index (slots_of t.nodes) t.kept.indexed F k)) ∙ sym (got_insert M.nodes v q k)))
 
   pub put_node_kept : IsKept b' (slots_of nodes') F
   put_node_kept =
       kept_from b' (slots_of nodes') F put_indexed nodes'.slotted.few
-      (subst IsMap (sym put_map) (edits_keep M N (Add_node e.id e.place) t.kept.sound can.placed (made_ok M (PutNode e) can.accepted ∙ ap (λ (m : Map). Ok m) (sym says.1))))
-      (λ side. each_but (links_in side t.index (slots_of t.nodes)) (links_in side b' (slots_of nodes')) e.id (links_at side e)
+      (subst IsMap (sym put_map) (edits_keep M N (Add_node v q) t.kept.sound can.placed (made_ok M came can.accepted ∙ ap (λ (m : Map). Ok m) (sym says.1))))
+      (λ side. each_but (links_in side t.index (slots_of t.nodes)) (links_in side b' (slots_of nodes')) v (links_at side e)
       (IsListed side M (place_in t.index)) (IsListed side (map_from b' (slots_of nodes') F) (place_in b')) (put_links side)
       (fresh side) (others side) (t.kept.listed side)) where
-        fresh : (side : Side) → IsListed side (map_from b' (slots_of nodes') F) (place_in b') e.id (links_at side e)
+        fresh : (side : Side) → IsListed side (map_from b' (slots_of nodes') F) (place_in b') v (links_at side e)
         fresh side =
-            let none : lines_on (links_at side e) ≡ [] = whole_links side e can.whole in
-            let absent : [] ≡ lines_at side M e.id = absent_lines side M e.id t.kept.sound says.0 in
+            let none : lines_on (links_at side e) ≡ [] = whole_links side in
+            let absent : [] ≡ lines_at side M v = absent_lines side M v t.kept.sound says.0 in
             record { numbers = none ∙ absent; ends = empty_ends (links_at side e) none ∙ ap (map (end_at side (map_from b' (slots_of nodes') F) (place_in b'))) absent }
 
-        others : (side : Side) (k : ℕ) (h : Links) → (e.id == k) ≡ false → IsListed side M (place_in t.index) k h → IsListed side (map_from b' (slots_of nodes') F) (place_in b') k h
+        others : (side : Side) (k : ℕ) (h : Links) → (v == k) ≡ false → IsListed side M (place_in t.index) k h → IsListed side (map_from b' (slots_of nodes') F) (place_in b') k h
         others side k h ne old =
             replaced side M (map_from b' (slots_of nodes') F).nodes (place_in t.index) (place_in b') k h (λ y here.
             let l = line_there side M k y here in
             let is : far side (line_at M y) ≡ far side l.0 = ap (far side) (record_of M y l.0 l.1) in
             let there : has_node M (far side (line_at M y)) ≡ true = ap (has_node M) is ∙ far_there side M y l.0 t.kept.sound l.1 in
-            other_place t.index b' e.id (far side (line_at M y)) (Some p) put (eqb_flip e.id (far side (line_at M y)) ∙ Undoing.other_node M (far side (line_at M y)) e.id there says.0)) old
+            other_place t.index b' v (far side (line_at M y)) (Some p) put (eqb_flip v (far side (line_at M y)) ∙ Undoing.other_node M (far side (line_at M y)) v there says.0)) old
 
   module _ (kept' : IsKept b' (slots_of nodes') F) (room : room_in t.nodes ≤ room_in nodes' + 1) (spare : spare_of t.index ≤ spare_of b' + 1) where
     abbrev new : Tables
     new = record { index = b'; nodes = nodes'; lines = t.lines; kept = kept' }
 
-    outs : (side : Side) (v : ℕ) → spare_at side new v ≡ changed_at e.id (spare_links (links_at side e)) (spare_at side t) v
-    outs side v = ap (λ o. option_map_or (λ l. spare_links l) o 0) (put_links side v) ∙ map_or_cond (λ l. spare_links l) 0 (e.id == v) (links_at side e) (links_in side t.index (slots_of t.nodes) v)
+    outs : (side : Side) (k : ℕ) → spare_at side new k ≡ changed_at v (places_at side) (spare_at side t) k
+    outs side k =
+        ap (λ o. option_map_or (λ l. spare_links l) o 0) (put_links side k) ∙ map_or_cond (λ l. spare_links l) 0 (v == k) (links_at side e) (links_in side t.index (slots_of t.nodes) k)
+        ∙ ap (λ n. changed_at v n (spare_at side t) k) (places_are side)
 
-    none_spare : (side : Side) → spare_at side t e.id ≤ 0
+    none_spare : (side : Side) → spare_at side t v ≤ 0
     none_spare side = le_same _ _ (ap (λ o. option_map_or (λ l. spare_links l) (option_map (links_at side) (in_slot (slots_of t.nodes) o)) 0) put_absent)
 
-    pub put_node_made : IsChangeMade t new (PutNode e) (TakeNode e.id)
+    pub put_node_made : IsChangeMade t new came (TakeNode v)
     put_node_made =
-        let is : tables_map new ≡ map_after M (PutNode e) = put_map ∙ says.1 in
-        let back = accepted_from M (map_after M (PutNode e)) (tables_map new) (TakeNode e.id) is (Undoing.undo_add_node M (map_after M (PutNode e)) e.id e.place t.kept.sound (made_ok M (PutNode e) can.accepted)) in
+        let is : tables_map new ≡ map_after M came = put_map ∙ says.1 in
+        let back = accepted_from M (map_after M came) (tables_map new) (TakeNode v) is (Undoing.undo_add_node M (map_after M came) v q t.kept.sound (made_ok M came can.accepted)) in
         let fits : 0 < room_in t.nodes = can.fits in
         record {
           map = is;
-          room = record { nodes = omega arith; outs = λ v. le_same _ _ (sym (outs Out v)); ins = λ v. le_same _ _ (sym (outs In v)) };
+          room = record { nodes = omega arith; outs = λ k. le_same _ _ (sym (outs Out k)); ins = λ k. le_same _ _ (sym (outs In k)) };
           can_back = record { accepted = back.accepted; placed = tt; fits = tt; whole = tt };
           before = back.before;
           room_before = record {
             nodes = omega arith;
-            outs = changed_back (spare_at Out t) (spare_at Out new) e.id (spare_links e.outs) 0 (outs Out) (none_spare Out);
-            ins = changed_back (spare_at In t) (spare_at In new) e.id (spare_links e.ins) 0 (outs In) (none_spare In);
+            outs = changed_back (spare_at Out t) (spare_at Out new) v (places_kept o) 0 (outs Out) (none_spare Out);
+            ins = changed_back (spare_at In t) (spare_at In new) v (places_kept i) 0 (outs In) (none_spare In);
           };
           node_numbers = spare;
           line_numbers = omega arith;
@@ -233,6 +257,12 @@ module _ (t : Tables) (b' : ByNumber ℕ) (nodes' : Slots) (p v : ℕ) (e : Node
             (eqb_flip v (far side (line_at go_M y)) ∙ ap (λ (n : ℕ). n == v) is' ∙ far_unused side go_M v y l.0 go_says.1 l.1)) (t.kept.listed side k h j)
       ] refl (sym (go_links side k) ∙ is))
 
+  pub go_no_outs : lines_on e.outs ≡ []
+  go_no_outs = let outs : IsListed Out go_M (place_in t.index) v e.outs = listed_at t Out v p e here g.was in outs.numbers ∙ unused_outs go_M v go_says.1
+
+  pub go_no_ins : lines_on e.ins ≡ []
+  go_no_ins = let ins : IsListed In go_M (place_in t.index) v e.ins = listed_at t In v p e here g.was in ins.numbers ∙ unused_ins go_M v go_says.1
+
   module _ (kept' : IsKept b' (slots_of nodes') go_F) (room : room_in t.nodes + 1 ≤ room_in nodes') (spare : spare_of t.index ≤ spare_of b') where
     abbrev go_new : Tables
     go_new = record { index = b'; nodes = nodes'; lines = t.lines; kept = kept' }
@@ -243,29 +273,25 @@ module _ (t : Tables) (b' : ByNumber ℕ) (nodes' : Slots) (p v : ℕ) (e : Node
     was_spare : (side : Side) → spare_at side t v ≡ spare_links (links_at side e)
     was_spare side = ap (λ o. option_map_or (λ l. spare_links l) (option_map (links_at side) (in_slot (slots_of t.nodes) o)) 0) here ∙ ap (λ o. option_map_or (λ l. spare_links l) (option_map (links_at side) o) 0) g.was
 
-    pub take_node_made : IsChangeMade t go_new (TakeNode v) (PutNode e)
-    take_node_made =
+    pub take_node_made : (o i : Spare) → lines_kept o ≡ [] → lines_kept i ≡ [] → places_kept o ≡ spare_links e.outs → places_kept i ≡ spare_links e.ins
+        → IsChangeMade t go_new (TakeNode v) (PutNode v e.place o i)
+    take_node_made o i no_outs no_ins same_outs same_ins =
         let is : tables_map go_new ≡ map_after go_M (TakeNode v) = go_map ∙ go_says.2 in
         let was : get go_M.nodes v ≡ Some e.place = node_read t v p e here g.was in
-        let undone : edited (map_after go_M (TakeNode v)) (Add_node e.id e.place) ≡ Ok go_M =
-        subst (λ (n : ℕ). edited (map_after go_M (TakeNode v)) (Add_node n e.place) ≡ Ok go_M) (sym go_id)
-        (Undoing.undo_drop_node go_M (map_after go_M (TakeNode v)) v e.place was (made_ok go_M (TakeNode v) can.accepted)) in
-        let back = accepted_from go_M (map_after go_M (TakeNode v)) (tables_map go_new) (PutNode e) is undone in
+        let undone : edited (map_after go_M (TakeNode v)) (Add_node v e.place) ≡ Ok go_M =
+        Undoing.undo_drop_node go_M (map_after go_M (TakeNode v)) v e.place was (made_ok go_M (TakeNode v) can.accepted) in
+        let back = accepted_from go_M (map_after go_M (TakeNode v)) (tables_map go_new) (PutNode v e.place o i) is undone in
         let placed : IsTrue (is_coord e.place) = subst (λ q. IsTrue (is_coord q)) (ap (λ o. unwrap_or o no_place) was) (t.kept.sound.places v (some_is _ _ was)) in
-        let outs : IsListed Out go_M (place_in t.index) v e.outs = listed_at t Out v p e here g.was in
-        let ins : IsListed In go_M (place_in t.index) v e.ins = listed_at t In v p e here g.was in
         let fits : 0 < room_in nodes' = omega arith in
         record {
           map = is;
           room = record { nodes = omega arith; outs = λ k. le_same _ _ (sym (go_outs Out k)); ins = λ k. le_same _ _ (sym (go_outs In k)) };
-          can_back = record { accepted = back.accepted; placed = placed; fits = fits; whole = (outs.numbers ∙ unused_outs go_M v go_says.1, ins.numbers ∙ unused_ins go_M v go_says.1) };
+          can_back = record { accepted = back.accepted; placed = placed; fits = fits; whole = (no_outs, no_ins) };
           before = back.before;
           room_before = record {
             nodes = omega arith;
-            outs = subst (λ (n : ℕ). (k : ℕ) → spare_at Out t k ≤ changed_at n (spare_links e.outs) (spare_at Out go_new) k) (sym go_id)
-                (changed_back (spare_at Out t) (spare_at Out go_new) v 0 (spare_links e.outs) (go_outs Out) (le_same _ _ (was_spare Out)));
-            ins = subst (λ (n : ℕ). (k : ℕ) → spare_at In t k ≤ changed_at n (spare_links e.ins) (spare_at In go_new) k) (sym go_id)
-                (changed_back (spare_at In t) (spare_at In go_new) v 0 (spare_links e.ins) (go_outs In) (le_same _ _ (was_spare In)));
+            outs = changed_back (spare_at Out t) (spare_at Out go_new) v 0 (places_kept o) (go_outs Out) (le_same _ _ (was_spare Out ∙ sym same_outs));
+            ins = changed_back (spare_at In t) (spare_at In go_new) v 0 (places_kept i) (go_outs In) (le_same _ _ (was_spare In ∙ sym same_ins));
           };
           node_numbers = omega arith;
           line_numbers = omega arith;

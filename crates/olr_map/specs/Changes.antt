@@ -11,7 +11,7 @@ use Rattle.olr_spec.specs.Map as map
 use Rattle.olr_spec.specs.Map.{Map, start, end, edited}
 use Rattle.olr_spec.specs.Laws.{HasPlace}
 use Rattle.olr_map.specs.ByNumbers.{spare_of, all_of}
-use Rattle.olr_map.specs.Linked.{lines_on, spare_links}
+use Rattle.olr_map.specs.Linked.{lines_kept, places_kept, spare_links}
 use Rattle.olr_map.specs.NodeSlots.{slots_of, room_in}
 use Rattle.olr_map.specs.Kept.{map_from, links_in}
 use Rattle.olr_map.specs.declared.slots.Side.{Side}
@@ -21,7 +21,7 @@ use Rattle.olr_map.specs.declared.change.Change.{Change}
 use Rattle.olr_map.specs.declared.change.Change.TheVariants.{PutNode, MoveNode, TakeNode, PutLine, SetLine, TakeLine}
 
 abbrev pub change_edit : Change → map.Edit
-change_edit (PutNode entry) = map.Add_node entry.id entry.place
+change_edit (PutNode id place outs ins) = map.Add_node id place
 change_edit (MoveNode id place) = map.Move_node id place
 change_edit (TakeNode id) = map.Drop_node id
 change_edit (PutLine id line) = map.Add_line id line
@@ -45,7 +45,7 @@ room_of t = record { nodes = room_in t.nodes; outs = spare_at Out t; ins = spare
 
 -- how many numbers of nodes, and of lines, a change puts in
 abbrev pub node_puts : Change → ℕ
-node_puts (PutNode entry) = 1
+node_puts (PutNode id place outs ins) = 1
 node_puts _ = 0
 
 abbrev pub line_puts : Change → ℕ
@@ -93,7 +93,7 @@ abbrev pub changed_at : ℕ → ℕ → (ℕ → ℕ) → ℕ → ℕ
 changed_at k n f v = if k == v then n else f v
 
 abbrev pub room_after : Map → Room → Change → Room
-room_after M R (PutNode entry) = record { nodes = R.nodes - 1; outs = changed_at entry.id (spare_links entry.outs) R.outs; ins = changed_at entry.id (spare_links entry.ins) R.ins }
+room_after M R (PutNode id place outs ins) = record { nodes = R.nodes - 1; outs = changed_at id (places_kept outs) R.outs; ins = changed_at id (places_kept ins) R.ins }
 room_after M R (MoveNode id place) = R
 room_after M R (TakeNode id) = record { nodes = R.nodes + 1; outs = changed_at id 0 R.outs; ins = changed_at id 0 R.ins }
 room_after M R (PutLine id line) =
@@ -104,7 +104,7 @@ room_after M R (TakeLine id) =
 
 -- a node that comes has no lines yet, and a line that is set keeps its ends
 abbrev pub IsWhole : Map → Change → Type 0
-IsWhole M (PutNode entry) = (lines_on entry.outs ≡ []) × (lines_on entry.ins ≡ [])
+IsWhole M (PutNode id place outs ins) = (lines_kept outs ≡ []) × (lines_kept ins ≡ [])
 IsWhole M (SetLine id line) = (line.from ≡ start M id) × (line.to ≡ end M id)
 IsWhole M _ = ⊤
 

@@ -1,26 +1,41 @@
 -- Lines of a node with their far ends.
 --     lines_on l, ends_on l      the lines, and beside each its far end
---     spare_links l      how many more there are places for
+--     spare_in m, spare_links l      how many more there are places for, in vectors and in a list
+--     lines_kept s, places_kept s      the lines in memory that is kept for a list, which are none, and how many there are places for
 --     IsLinked old new id end, IsUnlinked old new id, IsReset old new id end      a line came, went, or has another far end
-use Rattle.std.specs.Prelude.{◌≡◌, ℕ, ◌+◌, ◌-◌, ◌<◌, ◌≤◌, List, min, length, take, set, slice_index, vec_len}
+use Rattle.std.specs.Prelude.{◌≡◌, ℕ, ◌+◌, ◌-◌, ◌<◌, ◌≤◌, List, [], min, length, take, set, slice_index, vec_len}
 use Rattle.std.specs.Vec.{vec_capacity}
 use Rattle.std.specs.List.{insert, remove}
 use Rattle.std.specs.List.Sorted.{IsStrictlyIncreasing}
 use Rattle.olr_map.specs.declared.links.Links.{Links}
 use Rattle.olr_map.specs.declared.links.Links.TheVariants.{Few, Many}
+use Rattle.olr_map.specs.declared.links.Many.{Many as Vectors}
+use Rattle.olr_map.specs.declared.links.Spare.{Spare}
+use Rattle.olr_map.specs.declared.links.Spare.TheVariants.{Few as NoMemory, Many as Memory}
 use Rattle.olr_map.specs.declared.read.LineEnd.{LineEnd}
 
 abbrev pub lines_on : Links → List ℕ
 lines_on (Few f) = take f.count f.lines
-lines_on (Many m) = m.lines.items
+lines_on (Many m) = m.value.lines.items
 
 abbrev pub ends_on : Links → List LineEnd
 ends_on (Few f) = take f.count f.ends
-ends_on (Many m) = m.ends.items
+ends_on (Many m) = m.value.ends.items
+
+abbrev pub spare_in : Vectors → ℕ
+spare_in m = min (vec_capacity m.lines - vec_len m.lines) (vec_capacity m.ends - vec_len m.ends)
 
 abbrev pub spare_links : Links → ℕ
 spare_links (Few f) = 4 - f.count
-spare_links (Many m) = min (vec_capacity m.lines - vec_len m.lines) (vec_capacity m.ends - vec_len m.ends)
+spare_links (Many m) = spare_in m.value
+
+abbrev pub lines_kept : Spare → List ℕ
+lines_kept NoMemory = []
+lines_kept (Memory m) = m.value.lines.items
+
+abbrev pub places_kept : Spare → ℕ
+places_kept NoMemory = 4
+places_kept (Memory m) = spare_in m.value
 
 pub record IsLinked (old new : Links) (id : ℕ) (end : LineEnd) : Type 0 where
   pub place : ℕ

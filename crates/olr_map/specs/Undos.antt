@@ -58,7 +58,7 @@ HasRoom-prop R (map.Set_line x frc fow len shape) = hlevel props
 HasRoom-prop R (map.Drop_line x) = hlevel props
 
 IsWhole-prop : (M : Map) (c : Change) → IsProp (IsWhole M c)
-IsWhole-prop M (PutNode entry) = hlevel (props, Coded-set (coded_list coded_ℕ))
+IsWhole-prop M (PutNode id place outs ins) = hlevel (props, Coded-set (coded_list coded_ℕ))
 IsWhole-prop M (MoveNode id place) = hlevel props
 IsWhole-prop M (TakeNode id) = hlevel props
 IsWhole-prop M (PutLine id line) = hlevel props

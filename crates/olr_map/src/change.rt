@@ -2,14 +2,19 @@
 
 use crate::ids::{LineId, NodeId};
 use crate::line::Line;
-use crate::slots::NodeEntry;
+use crate::links::Spare;
 use olr_coords::Coord;
 
 /// A change of the tables.
 #[derive(Drop, Debug)]
 pub enum Change {
-    /// Puts a node's entry in a slot.
-    PutNode(NodeEntry),
+    /// Puts a node without lines in, and the memory for the lines that leave it and that enter it.
+    PutNode {
+        id: NodeId,
+        place: Coord,
+        outs: Spare,
+        ins: Spare,
+    },
     /// Gives a node another place on the earth.
     MoveNode(NodeId, Coord),
     /// Takes a node's entry out.

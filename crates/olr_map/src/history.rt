@@ -5,8 +5,8 @@ use crate::edit::{Edit, EditFault};
 use crate::ids::NodeId;
 use crate::judging::{Judged, judge};
 use crate::line::Line;
-use crate::links::Links;
-use crate::slots::{NodeEntry, Side};
+use crate::links::Spare;
+use crate::slots::Side;
 use crate::tables::Tables;
 use crate::undo::{Undo, UndoLog};
 use std::alloc::AllocError;
@@ -33,7 +33,7 @@ impl Tables {
             }
             Change::PutLine(_, line) => (self.slot(line.from), self.slot(line.to)),
             Change::SetLine(id, _) | Change::TakeLine(id) => self.end_slots(*id),
-            Change::PutNode(_) | Change::TakeNode(_) => (0, 0),
+            Change::PutNode { .. } | Change::TakeNode(_) => (0, 0),
         }
     }
 
@@ -47,15 +47,19 @@ impl Tables {
         ensures lines { line_puts change + line_puts result ≡ line_numbers (change_edit change) }
     {
         match change {
-            Change::PutNode(entry) => {
-                let id = entry.id;
-                self.put_node(entry);
+            Change::PutNode {
+                id,
+                place,
+                outs,
+                ins,
+            } => {
+                self.put_node(id, place, outs, ins);
                 Change::TakeNode(id)
             }
             Change::MoveNode(id, place) => {
                 Change::MoveNode(id, self.move_node(id, place, slots.0))
             }
-            Change::TakeNode(id) => Change::PutNode(self.take_node(id)),
+            Change::TakeNode(id) => self.take_node(id),
             Change::PutLine(id, line) => {
                 self.put_line(id, line, slots.0, slots.1);
                 Change::TakeLine(id)
@@ -122,14 +126,12 @@ impl Tables {
         ensures whole { IsWhole (tables_map self.now) result }
     {
         match edit {
-            Edit::AddNode(id, place) => {
-                Change::PutNode(NodeEntry {
-                    id,
-                    place,
-                    outs: Links::new(),
-                    ins: Links::new(),
-                })
-            }
+            Edit::AddNode(id, place) => Change::PutNode {
+                id,
+                place,
+                outs: Spare::Few,
+                ins: Spare::Few,
+            },
             Edit::MoveNode(id, place) => Change::MoveNode(id, place),
             Edit::DropNode(id) => Change::TakeNode(id),
             Edit::AddLine(id, line) => Change::PutLine(id, line),

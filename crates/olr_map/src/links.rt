@@ -14,7 +14,16 @@ pub enum Links {
     /// As many as stand in the value itself.
     Few(Few),
     /// Where there are more, or have been.
-    Many(Many),
+    Many(Box<Many>),
+}
+
+/// What is left of a list of lines when there are none: its memory.
+#[derive(Drop, Debug)]
+pub enum Spare {
+    /// None of its own.
+    Few,
+    /// The vectors, empty.
+    Many(Box<Many>),
 }
 
 /// The numbers of lines, and beside each the line's far end, in memory of their own.
@@ -26,14 +35,38 @@ pub struct Many {
 }
 
 impl Links {
-    ghost use Rattle.olr_map.specs.Linked.{lines_on, ends_on, spare_links, IsReset};
+    ghost use Rattle.olr_map.specs.Linked.{lines_on, ends_on, spare_links, lines_kept, places_kept, IsReset};
 
     /// No lines. Takes no memory.
     pub fn new() -> Links
         ensures lines { lines_on result ≡ [] }
         ensures ends { ends_on result ≡ [] }
+        ensures room { spare_links result ≡ 4 }
     {
         Links::Few(Few::new())
+    }
+
+    /// The list of no lines in this memory.
+    pub fn in_spare(spare: Spare) -> Links
+        ensures lines { lines_on result ≡ lines_kept spare }
+        ensures room { spare_links result ≡ places_kept spare }
+    {
+        match spare {
+            Spare::Few => Links::new(),
+            Spare::Many(many) => Links::Many(many),
+        }
+    }
+
+    /// The memory of a list of no lines.
+    pub fn into_spare(self) -> Spare
+        requires { lines_on self ≡ [] }
+        ensures lines { lines_kept result ≡ [] }
+        ensures room { places_kept result ≡ spare_links self }
+    {
+        match self {
+            Links::Few(_) => Spare::Few,
+            Links::Many(many) => Spare::Many(many),
+        }
     }
 
     /// The lines.
@@ -69,7 +102,7 @@ impl Links {
                     return Ok(());
                 }
                 let many = Many::with_room(alloc, few)?;
-                *self = Links::Many(many);
+                *self = Links::Many(Box::new(alloc, many)?);
                 Ok(())
             }
             Links::Many(many) => {
@@ -135,14 +168,7 @@ impl Links {
     {
         match self {
             Links::Few(few) => few.insert(at, id, end),
-            Links::Many(many) => {
-                let lines = many.lines.insert(at, id);
-                let ends = many.ends.insert(at, end);
-                match (lines, ends) {
-                    (Ok(()), Ok(())) => {}
-                    _ => unreachable!(),
-                }
-            }
+            Links::Many(many) => many.insert(at, id, end),
         }
     }
 
@@ -155,10 +181,7 @@ impl Links {
     {
         match self {
             Links::Few(few) => few.remove(at),
-            Links::Many(many) => {
-                let _ = many.lines.remove(at);
-                let _ = many.ends.remove(at);
-            }
+            Links::Many(many) => many.remove(at),
         }
     }
 
@@ -180,19 +203,45 @@ impl Links {
 
 impl Many {
     ghost use Rattle.std.specs.Prelude.{IfOk, take};
-    ghost use Rattle.olr_map.specs.Linked.{spare_links};
-    ghost use Rattle.olr_map.specs.declared.links.Links.TheVariants.{Many as Spilled};
+    ghost use Rattle.olr_map.specs.Linked.{spare_in};
 
     /// These lines, with room for as many again.
     fn with_room(alloc: Global, few: &Few) -> Result<Many, AllocError>
         ensures lines { IfOk result (λ m. m.lines.items ≡ take few.now.count few.now.lines) }
         ensures ends { IfOk result (λ m. m.ends.items ≡ take few.now.count few.now.ends) }
-        ensures room { IfOk result (λ m. 0 < spare_links (Spilled m)) }
+        ensures room { IfOk result (λ m. 0 < spare_in m) }
     {
         let mut lines = Vec::with_capacity(alloc, 2 * FEW)?;
         let mut ends = Vec::with_capacity(alloc, 2 * FEW)?;
         lines.extend_from_slice(few.lines())?;
         ends.extend_from_slice(few.ends())?;
         Ok(Many { lines, ends })
+    }
+
+    /// Puts a line in at this place among them. There is room for it.
+    fn insert(&mut self, at: usize, id: LineId, end: LineEnd)
+        requires within { at ≤ length self.old.lines.items }
+        requires room { 0 < spare_in self.old }
+        ensures lines { self.new.lines.items ≡ insert self.old.lines.items at id }
+        ensures ends { self.new.ends.items ≡ insert self.old.ends.items at end }
+        ensures room { spare_in self.new + 1 ≡ spare_in self.old }
+    {
+        let lines = self.lines.insert(at, id);
+        let ends = self.ends.insert(at, end);
+        match (lines, ends) {
+            (Ok(()), Ok(())) => {}
+            _ => unreachable!(),
+        }
+    }
+
+    /// Takes the line at this place out.
+    fn remove(&mut self, at: usize)
+        requires { at < length self.old.lines.items }
+        ensures lines { self.new.lines.items ≡ remove self.old.lines.items at }
+        ensures ends { self.new.ends.items ≡ remove self.old.ends.items at }
+        ensures room { spare_in self.new ≡ spare_in self.old + 1 }
+    {
+        let _ = self.lines.remove(at);
+        let _ = self.ends.remove(at);
     }
 }

@@ -4,8 +4,10 @@ ghost use Rattle.olr_map.specs.ByNumbers.{all_of};
 ghost use Rattle.olr_map.specs.Kept.{IsKept, IsKept-prop};
 
 use crate::by_number::ByNumber;
+use crate::change::Change;
 use crate::ids::{LineId, NodeId};
 use crate::line::Line;
+use crate::links::{Links, Spare};
 use crate::read::{LineEnd, MapRead};
 use crate::slots::{NodeEntry, Side, Slots};
 use olr_coords::Coord;
@@ -96,7 +98,7 @@ impl Tables {
     ghost use Rattle.std.specs.Prelude.{◌+◌, ◌<◌, ◌≤◌, ℕ, OnOk, IsTrue, Some};
     ghost use Rattle.olr_spec.specs.Map.{empty_map, has_node, has_line, start, end};
     ghost use Rattle.olr_map.specs.ByNumbers.{found, spare_of};
-    ghost use Rattle.olr_map.specs.Changes.{tables_map, room_of, spare_at, IsRoomWithin, HasNumbers, CanMake, IsChangeMade};
+    ghost use Rattle.olr_map.specs.Changes.{tables_map, room_of, spare_at, node_puts, line_puts, IsRoomWithin, HasNumbers, CanMake, IsChangeMade};
     ghost use Rattle.olr_map.specs.declared.change.Change.TheVariants.{PutNode, MoveNode, TakeNode, PutLine, SetLine, TakeLine};
 
     /// No nodes and no lines, to be found by hash. Takes no memory.
@@ -199,24 +201,46 @@ impl Tables {
         self.nodes.reserve_link(side, slot)
     }
 
-    /// Puts a node's entry in.
-    pub fn put_node(&mut self, entry: NodeEntry)
-        requires can { CanMake (tables_map self.old) (room_of self.old) (PutNode entry) }
+    /// Puts a node without lines in, and the memory for its lines.
+    pub fn put_node(&mut self, id: NodeId, place: Coord, outs: Spare, ins: Spare)
+        requires can { CanMake (tables_map self.old) (room_of self.old) (PutNode id place outs ins) }
         requires numbers { HasNumbers self.old 1 0 }
-        ensures { IsChangeMade self.old self.new (PutNode entry) (TakeNode entry.id) }
+        ensures { IsChangeMade self.old self.new (PutNode id place outs ins) (TakeNode id) }
     {
-        let id = entry.id;
-        let slot = self.nodes.put(entry);
+        let outs = Links::in_spare(outs);
+        let ins = Links::in_spare(ins);
+        let slot = self.nodes.put(NodeEntry {
+            id,
+            place,
+            outs,
+            ins,
+        });
         self.index.put(id.number(), slot);
     }
 
-    /// Takes a node's entry out.
-    pub fn take_node(&mut self, id: NodeId) -> NodeEntry
+    /// Takes a node out, and tells what puts it back.
+    pub fn take_node(&mut self, id: NodeId) -> Change
         requires { CanMake (tables_map self.old) (room_of self.old) (TakeNode id) }
-        ensures { IsChangeMade self.old self.new (TakeNode id) (PutNode result) }
+        ensures made { IsChangeMade self.old self.new (TakeNode id) result }
+        ensures nodes { node_puts result ≡ 1 }
+        ensures lines { line_puts result ≡ 0 }
     {
         let slot = self.index.take(id.number());
-        self.nodes.take(slot)
+        let entry = self.nodes.take(slot);
+        let NodeEntry {
+            id: _,
+            place,
+            outs,
+            ins,
+        } = entry;
+        let outs = outs.into_spare();
+        let ins = ins.into_spare();
+        Change::PutNode {
+            id,
+            place,
+            outs,
+            ins,
+        }
     }
 
     /// Gives the node in this slot another place on the earth, and tells the one that it had.

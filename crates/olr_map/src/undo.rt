@@ -59,7 +59,7 @@ impl UndoLog {
         ensures lines { self.new.lines ≡ line_puts change + self.old.lines }
     {
         let (nodes, lines) = match &change {
-            Change::PutNode(_) => (1, 0),
+            Change::PutNode { .. } => (1, 0),
             Change::PutLine(..) => (0, 1),
             _ => (0, 0),
         };
