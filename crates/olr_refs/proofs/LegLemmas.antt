@@ -54,10 +54,6 @@ between_is M ls ds i j a h g =
     let same : dm_between (legs M ls) i j ≡ dm_of M (stretch ls i j) = ap dm_along (range_legs M ls i j) ∙ dm_along-legs M (stretch ls i j) in
     omega arith
 
--- from a point to the next
-pub stretch_short : (M : Map) (ls ds : List ℕ) (i j : ℕ) → AreDistances M ls ds → Candidate M ls i j → slice_index ds j - slice_index ds i ≤ limit
-stretch_short M ls ds i j a c = let after = c.after in let near = c.near in let sum = dm_stretch M ls ds i j a (omega arith) c.upto in omega arith
-
 -- ---- attributes
 
 pub attrs_read : (M : Map) (ls : List ℕ) (i j frc fow lfrc bearing d : ℕ) (l : Line) (e : Ends) → ends.leg l e ≡ leg_at (legs M ls) i → frc ≡ l.frc → fow ≡ l.fow

@@ -117,15 +117,6 @@ looked_of M P E F G old new n x a = looked_wider old new n (Searched M E.lines (
 
 -- ---- by the path's fault
 
-pub encodes_by : (M : Map) (P : Path) (A : spec.Answer) → path_fault M P ≡ None → Encoding M P A → Encodes M P A
-encodes_by M P A none e = subst (λ (o : Option spec.Refusal). MatchOption o (Encoding M P A) (λ r. A ≡ spec.Refused r)) (sym none) e
-
-pub own_by : (M : Map) (P : Path) (v : ℕ) (H : List ℕ) → path_fault M P ≡ None → ((Contains H v) ↔ OwnOfExtended M P v) → (Contains H v) ↔ OwnOf M P v
-own_by M P v H none f = subst (λ (o : Option spec.Refusal). (Contains H v) ↔ MatchOption o (OwnOfExtended M P v) (λ _. ⊥)) (sym none) f
-
-pub looks_by : (M : Map) (P : Path) (looks : List Look) → path_fault M P ≡ None → LooksOfExtended M P looks → LooksOf M P looks
-looks_by M P looks none f = subst (λ (o : Option spec.Refusal). MatchOption o (LooksOfExtended M P looks) (λ _. looks ≡ [])) (sym none) f
-
 pub foot_from : (M : Map) (P : Path) (v : ℕ) → path_fault M P ≡ None → FootOf M P v → Foot M P v
 foot_from M P v none f = subst (λ (o : Option spec.Refusal). MatchOption o (FootOf M P v) (λ _. ⊥)) (sym none) f
 
@@ -133,30 +124,11 @@ pub local_by : (M : Map) → IsMap M → (P : Path) → IsTrue (is_path P.lines)
     → (N : Map) → IsMap N → Agree M N P.lines (Contains H) → Encodes N P A
 local_by M m P is A H e f N n g = local_answer M N m n P is record { nodes = λ v h. g.nodes v ((f v).1 h); lines = g.lines } A e
 
-pub refused_by : (M : Map) (P : Path) (f : spec.Refusal) → path_fault M P ≡ Some f → Encodes M P (spec.Refused f)
-refused_by M P f e = subst (λ (o : Option spec.Refusal). MatchOption o (Encoding M P (spec.Refused f)) (λ r. spec.Refused f ≡ spec.Refused r)) (sym e) refl
-
-pub owns_nothing : (M : Map) (P : Path) (H : List ℕ) (f : spec.Refusal) → path_fault M P ≡ Some f → H ≡ [] → (v : ℕ) → (Contains H v) ↔ OwnOf M P v
-owns_nothing M P H f e empty v =
-    let nothing : (Contains H v) ↔ ⊥ = ((λ c. let c' : Contains [] v = subst (λ (h : List ℕ). Contains h v) empty c in let never : c'.0 < 0 = c'.1 in omega arith), (λ b. absurd b)) in
-    subst (λ (o : Option spec.Refusal). (Contains H v) ↔ MatchOption o (OwnOfExtended M P v) (λ _. ⊥)) (sym e) nothing
-
-pub looks_nowhere_by : (M : Map) (P : Path) (looks : List Look) (f : spec.Refusal) → path_fault M P ≡ Some f → looks ≡ [] → LooksOf M P looks
-looks_nowhere_by M P looks f e empty = subst (λ (o : Option spec.Refusal). MatchOption o (LooksOfExtended M P looks) (λ _. looks ≡ [])) (sym e) empty
-
 -- ---- where a result is a success
 
 pub if_ok : {A F : Type 0} (r : Result A F) (P Q : A → Type 0) → ((x : A) → P x → Q x) → IfOk r P → IfOk r Q
 if_ok (Ok x) P Q f h = f x h
 if_ok (Err e) P Q f h = tt
-
-pub on_ok : {A F : Type 0} (r : Result A F) (P : A → Type 0) (Q : Type 0) → ((x : A) → P x → Q) → IfOk r P → OnOk r Q
-on_ok (Ok x) P Q f h = f x h
-on_ok (Err e) P Q f h = tt
-
-pub whenever : {A F P : Type 0} (r : Result A F) → P → OnOk r P
-whenever (Ok x) p = p
-whenever (Err e) p = tt
 
 -- ---- counts
 
@@ -176,8 +148,3 @@ searches_looked M P looks o = by (path_fault M P) o
           holds = sym (zip_length (IsLook M ls) (looking ls (0 ∷ l.points)) looks l.holds) ∙ length-filter (λ i. nat_lt (i + 2) (length ls)) (0 ∷ l.points);
         }
     by (Some f) e = ap length e
-
--- both of two facts of a success
-pub and_ok : {A F : Type 0} (r : Result A F) (P Q R : A → Type 0) → ((x : A) → P x → Q x → R x) → IfOk r P → IfOk r Q → IfOk r R
-and_ok (Ok x) P Q R f h k = f x h k
-and_ok (Err e) P Q R f h k = tt
