@@ -10,7 +10,7 @@ mod HeapLemmas
 mod NoteLemmas
 mod DistinctLemmas
 mod WayLemmas
-mod SearchLemmas
+pub mod SearchLemmas
 mod CountLemmas
 mod SoleLemmas
 mod ToldLemmas

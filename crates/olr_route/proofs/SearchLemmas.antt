@@ -335,6 +335,13 @@ module _ (M : Map) (place : ℕ → ℕ) (direction : Direction) (from : List (�
           ];
         }
 
+    -- what a way within the limit leads to is near
+    pub near_leads : (v d : ℕ) → d ≤ s.limit → Leads M direction from v d → IsNear M direction from s.limit v
+    near_leads v d le l =
+        let known = leads_node M h.under_way.labelled.sound direction from v d l in
+        let low = h.settled v d known le l in
+        (label_of s.found (place v), is_distance v known (omega arith), omega arith)
+
     pub label_is : (v d : ℕ) → IsTrue (has_node M v) → IsDistance M direction from v d → d ≤ s.limit → label_of s.found (place v) ≡ d
     label_is v d known x le =
         let small = h.small in

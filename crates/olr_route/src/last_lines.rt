@@ -15,12 +15,20 @@ fn comes_to(found: &Found, end: &LineEnd, length: u32) -> bool
     end.len <= length && found.label(end.place) == length - end.len
 }
 
-/// The least of the lines that lead to a node at this length. None where none does.
-fn last_line<M: MapRead>(map: &M, found: &Found, node: NodeId, length: u32) -> Option<LineId>
+/// The least of the lines that lead at this length to a node with this place. None where none does.
+fn last_line<M: MapRead>(
+    map: &M,
+    found: &Found,
+    node: NodeId,
+    place: u32,
+    length: u32,
+) -> Option<LineId>
+    requires known { IsTrue (has_node (M.map map.now) node) }
+    requires at { M.place_in map.now node ≡ place }
     ensures { IsLastLine (M.map map.now) (M.place_in map.now) found.now node length result }
 {
     let lines = map.in_lines(node);
-    let ends = map.in_ends(node);
+    let ends = map.in_ends_at(place);
     for (index, end) in ends.iter().enumerate() {
         if comes_to(found, end, length) {
             return Some(lines[index]);
@@ -29,14 +37,17 @@ fn last_line<M: MapRead>(map: &M, found: &Found, node: NodeId, length: u32) -> O
     None
 }
 
-/// The label of a node in the table.
-fn label_at<M: MapRead>(map: &M, found: &Found, node: NodeId) -> u32
+/// The distance of a node by its label in the table, and the last line of the least walk there.
+fn label_at<M: MapRead>(map: &M, found: &Found, node: NodeId) -> (u32, Option<LineId>)
     requires { IsTrue (has_node (M.map map.now) node) }
-    ensures { result ≡ label_of found.now (M.place_in map.now node) }
+    ensures { IsTold (M.map map.now) (M.place_in map.now) found.now node result }
 {
     match map.place_of(node) {
         None => unreachable!(),
-        Some(place) => found.label(place),
+        Some(place) => {
+            let length = found.label(place);
+            (length, last_line(map, found, node, place, length))
+        }
     }
 }
 
@@ -54,8 +65,7 @@ pub fn labels_at<M: MapRead>(
 {
     let mut labels = Vec::with_capacity(alloc, nodes.len())?;
     for node in nodes {
-        let length = label_at(map, found, *node);
-        labels.push((length, last_line(map, found, *node, length)))?;
+        labels.push(label_at(map, found, *node))?;
     }
     Ok(labels)
 }

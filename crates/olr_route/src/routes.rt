@@ -17,8 +17,8 @@ pub const GREATEST_LIMIT: u32 = 150_000;
 /// Labels the nodes that a walk of at most `limit_dm` decimetres from the source reaches, each with the length and the
 /// last line of the least walk there. Of equally long walks that one is the least which has the smaller line number at
 /// the first difference, counted from the end (profile). The labelled nodes are put into the footprint; one search, and
-/// as many settled nodes as there are labels, are added to the work. After a refusal footprint and work may hold more
-/// than before.
+/// as many settled nodes as there are labels, are added to the work. After want of memory footprint and work may hold
+/// more than before.
 pub fn search<M: MapRead>(
     alloc: Global,
     map: &M,

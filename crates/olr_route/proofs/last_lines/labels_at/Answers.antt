@@ -12,7 +12,7 @@ loop-node-preserved g c =
     let place = g.M.MapRead.place_in c.args.map.now in
     let inv = c.loop-node.invariant in
     let nodes = c.args.nodes.now in
-    let label : Label = (c.label_at-length.result, c.last_line.result) in
+    let label : Label = c.label_at.result in
     let items = c.in_ok-push.ensures.items in
     let beside = inv.beside in
     record {
@@ -26,6 +26,6 @@ loop-node-preserved g c =
             let node : c.node-item.result ≡ get_or nodes i 0 = c.node-item.is ∙ get_or_default_zero nodes c.loop-node.node-index c.node-item.result c.loop-node-test.true ∙ ap (λ (n : ℕ). get_or nodes n 0) (sym is) in
             let there : get_or c.push.new.self.items i (0, None) ≡ label = ap (λ (zs : List Label). get_or zs i (0, None)) items ∙ get_or_push c.loop-node.labels.items label (0, None) i (omega arith) in
             subst (IsTold M place c.args.found.now (get_or nodes i 0)) (sym there)
-            (subst (λ (v : ℕ). IsTold M place c.args.found.now v label) node (record { dist = sym c.label_at-length.ensures; last = c.last_line.ensures }))
+            (subst (λ (v : ℕ). IsTold M place c.args.found.now v label) node c.label_at.ensures)
       ];
     }

@@ -16,7 +16,7 @@ returns-then-comes_to g c =
     let M = g.M.MapRead.map c.args.map.now in
     let place = g.M.MapRead.place_in c.args.map.now in
     let lines = c.in_lines-lines.result.now in
-    let e = entry_is M place c.args.node lines c.in_ends-ends.result.now c.in_lines-lines.ensures c.in_ends-ends.ensures c.loop-index.index c.index-ends-index.result c.loop-index-test.true c.index-ends-index.is in
+    let e = entry_is M place c.args.node lines c.in_ends_at-ends.result.now c.in_lines-lines.ensures (c.in_ends_at-ends.ensures c.args.node c.requires.known c.requires.at) c.loop-index.index c.index-ends-index.result c.loop-index-test.true c.index-ends-index.is in
     let x = c.index-lines-index.result in
     let is : x ≡ get_or lines c.loop-index.index 0 = c.index-lines-index.is ∙ get_or_default_zero lines c.loop-index.index x e.within in
     let at : label_of c.args.found.now c.index-ends-index.result.place ≡ label_of c.args.found.now (place (start M (get_or lines c.loop-index.index 0))) = ap (label_of c.args.found.now) e.there in
@@ -49,7 +49,7 @@ loop-index-preserved g c = λ j lt t.
       | inl low ↦ c.loop-index.invariant j low t
       | inr high ↦
           let same : j ≡ c.loop-index.index = omega arith in
-          let e = entry_is M place c.args.node lines c.in_ends-ends.result.now c.in_lines-lines.ensures c.in_ends-ends.ensures c.loop-index.index c.index-ends-index.result c.loop-index-test.true c.index-ends-index.is in
+          let e = entry_is M place c.args.node lines c.in_ends_at-ends.result.now c.in_lines-lines.ensures (c.in_ends_at-ends.ensures c.args.node c.requires.known c.requires.at) c.loop-index.index c.index-ends-index.result c.loop-index-test.true c.index-ends-index.is in
           let at : label_of c.args.found.now c.index-ends-index.result.place ≡ label_of c.args.found.now (place (start M (get_or lines j 0))) =
           ap (label_of c.args.found.now) e.there ∙ ap (λ (n : ℕ). label_of c.args.found.now (place (start M (get_or lines n 0)))) (sym same) in
           let len : c.index-ends-index.result.len ≡ dm M (get_or lines j 0) = e.len ∙ ap (λ (n : ℕ). dm M (get_or lines n 0)) (sym same) in
@@ -63,7 +63,7 @@ returns g c =
     let M = g.M.MapRead.map c.args.map.now in
     let place = g.M.MapRead.place_in c.args.map.now in
     let lines = c.in_lines-lines.result.now in
-    let many = as_many M place c.args.node lines c.in_ends-ends.result.now c.in_lines-lines.ensures c.in_ends-ends.ensures in
+    let many = as_many M place c.args.node lines c.in_ends_at-ends.result.now c.in_lines-lines.ensures (c.in_ends_at-ends.ensures c.args.node c.requires.known c.requires.at) in
     let past = c.loop-index-test.false in
     record {
       tight = λ x e. cc;
