@@ -69,24 +69,30 @@ impl Labels {
         &self.nodes
     }
 
+    /// The label of a node: the length of the least walk there, and its last line.
+    fn label(&self, node: NodeId) -> Option<(u32, Option<LineId>)>
+        ensures { result ≡ label_at self.now node }
+    {
+        match self.nodes.binary_search(&node) {
+            Ok(at) => Some(self.labels[at]),
+            Err(_) => None,
+        }
+    }
+
     /// The length of the least walk to a node, in decimetres. None where no walk within the limit reaches it.
     pub fn dist(&self, node: NodeId) -> Option<u32>
         ensures { result ≡ dist_at self.now node }
     {
-        match self.nodes.binary_search(&node) {
-            Ok(at) => Some(self.labels[at].0),
-            Err(_) => None,
-        }
+        let (dist, _) = self.label(node)?;
+        Some(dist)
     }
 
     /// The last line of the least walk to a node. None at the source, and where no walk within the limit reaches it.
     pub fn last_line(&self, node: NodeId) -> Option<LineId>
         ensures { result ≡ last_at self.now node }
     {
-        match self.nodes.binary_search(&node) {
-            Ok(at) => self.labels[at].1,
-            Err(_) => None,
-        }
+        let (_, line) = self.label(node)?;
+        line
     }
 }
 
