@@ -39,7 +39,7 @@ fn line(rt: &impl Abort, number: u32) -> LineId {
 fn edit(rt: &impl Abort, map: &mut RoadMap, edit: Edit) {
     match map.apply(edit) {
         Ok(undo) => map.keep(undo),
-        Err(_) => panic!(rt; "a refused edit"),
+        Err(_) => panic!(rt; "an edit with a fault"),
     }
 }
 
