@@ -21,11 +21,6 @@ use Rattle.olr_commands.proofs.ReplyLemmas.{named_path, one_has}
 Is_or_not : {A : Type 0} → A → A → Type 0
 Is_or_not a b = (a ≡ b) ⊎ (a ≢ b)
 
-decide_by : {A B : Type 0} (f : A → B) (g : B → A) → ((a : A) → g (f a) ≡ a) → (a b : A) → Is_or_not (f a) (f b) → Is_or_not a b
-unfolding Is_or_not
-decide_by f g back a b (inl e) = inl (sym (back a) ∙ ap g e ∙ back b)
-decide_by f g back a b (inr n) = inr (λ e. n (ap f e))
-
 numbers_decide : (n m : ℕ) → Is_or_not n m
 unfolding Is_or_not
 numbers_decide n m = elim (cases_Bool (n == m)) [ inl t ↦ inl (eqb-true n m t) | inr f ↦ inr (eqb-false n m f) ]

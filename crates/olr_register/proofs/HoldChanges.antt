@@ -48,9 +48,6 @@ same_content M is = ap (content_from M) (named_twice is)
 
 -- ---- refused
 
-pub given_full : (b : kept.Batch) (x : Change) → nat_le full b.count ≡ true → Given b x (Err rust.BatchFull) b
-given_full b x e = record { added = tt; reply = tt; refused = Told (ap (λ (t : Bool). when t Batch_full (changed (content_of b) x)) e); unchanged = refl }
-
 pub told_first : (b d : kept.Batch) (x : Change) (f : CommandFault) → nat_le full b.count ≡ false → changed (content_of b) x ≡ Err (command_fault_of f) → d ≡ b → Given b x (Err f) d
 told_first b d x f room e same =
     record {

@@ -54,38 +54,7 @@ joined x r b p t e f g = e ∙ ap (λ (y : Bool). y || p) f ∙ ap (λ (y : Bool
 pub changes_more : (was kept now told : List ChangedLine) → kept ≡ was → now ≡ kept ++ told → {all : List ChangedLine} → told ≡ all → now ≡ was ++ all
 changes_more was kept now told still h same = h ∙ (λ i. still i ++ same i)
 
-pub given_edit : (M N : Map) (is : List Item) (n : ℕ) (ns ys ms zs : List ℕ) (e : Edit) (r : Reply) → nat_le full n ≡ false → edited M e ≡ Ok N
-    → ((v : ℕ) → has ms v ≡ (has ns v || has (touched_nodes M e) v)) → ((y : ℕ) → has zs y ≡ (has ys y || has (touched_lines e) y)) → reply_of r ≡ replies.Held (n + 1)
-    → Given (batch_on M is n ns ys) (On_map e) (Ok r) (batch_on N is (n + 1) ms zs)
-given_edit M N is n ns ys ms zs e r room ok nodes lines told =
-    let c : Content = content_of (batch_on M is n ns ys) in
-    record {
-      added = record {
-        content = ap (λ (t : Bool). when t Batch_full (changed c (On_map e))) room ∙ ap (with_map c) ok;
-        count = omega arith;
-        nodes = nodes;
-        lines = lines;
-        given = λ names g. given_none names (map held_of is) g;
-      };
-      reply = told;
-      refused = tt;
-      unchanged = tt;
-    }
-
 -- ---- what is true of the batch
-
-pub held_still : (old new : RoadMap) (before : List Item) (b : Batch) (log : UndoLog) (t : Touched) → CanUndoAll new log → map_of new ≡ map_of old → map_before new log ≡ map_before old b.log
-    → nodes_of t ≡ nodes_of b.touched → lines_of t ≡ lines_of b.touched → changed_of t ≡ changed_of b.touched → IsHeld old before b → IsHeld new before (record { log = log; overlay = b.overlay; count = b.count; touched = t })
-held_still old new before b log t undo same same_before nodes lines changed h =
-    record {
-      undo = undo;
-      sound = subst (λ (M : Map). IsContent (content_on M (overlaid before b.overlay))) (sym same) h.sound;
-      few = h.few;
-      noted = coe 0 1 (i. IsNoted (sym same_before i) (sym same i) (sym nodes i) (sym lines i) (sym changed i)) h.noted;
-      made = subst (λ (M : Map). AreEncodingsIfAny M (overlaid before b.overlay)) (sym same_before) h.made;
-      follows = h.follows;
-      begins = h.begins;
-    }
 
 pub held_edit : (old new : RoadMap) (before : List Item) (b : Batch) (log : UndoLog) (t : Touched) (e : Edit) → nat_le full b.count ≡ false → HasPlace e → CanUndoAll new log → edited (map_of old) e ≡ Ok (map_of new)
     → map_before new log ≡ map_before old b.log

@@ -45,9 +45,6 @@ show_step : (c : Content) (b : Option (List Change)) (name : List ℕ) → step_
 show_step c None name = refl
 show_step c (Some xs) name = refl
 
-brings_none : (b : Option (List Change)) (c : Command) → brought (record { content = state.no_content; batch = b }) c ≡ [] → (s : State) → s.batch ≡ b → brought s c ≡ []
-brings_none b c h s e = ap (λ (o : Option (List Change)). brought (record { content = s.content; batch = o }) c) e ∙ h
-
 show_brings : (b : Option (List Change)) (name : List ℕ) → state.brought_in b (state.Show name) ≡ []
 show_brings None name = refl
 show_brings (Some xs) name = refl
