@@ -18,7 +18,7 @@ use Rattle.olr_spec.specs.Detours.{Near}
 use Rattle.olr_spec.proofs.AgreeLemmas.{turned_round, by_leaving, same_known, same_start, same_end, same_dm}
 use Rattle.olr_map.specs.Ends.{end_out, ends_out}
 use Rattle.olr_map.specs.declared.read.LineEnd.{LineEnd}
-use Rattle.olr_near.proofs.Waiting.{leaving, no_end}
+use Rattle.olr_near.proofs.Waiting.{line_there, no_end}
 use Rattle.olr_near.specs.Numbers.{Numbers, number_of, IsSource, Within, ClosedAt, IsRight, IsWaiting, IsUnderWay, SameBut, Moves, IsReopened}
 use Rattle.olr_near.specs.declared.nearness.Nearness.{Nearness}
 
@@ -53,9 +53,6 @@ source_better f g known better s source is = source_within g s (better s 0 (sour
 pub none_numbered : (o : Option ℕ) → o ≡ None → IsSome o → ⊥
 none_numbered None is h = cc
 none_numbered (Some n) is h = let never : ⊥ = cc (is) in never
-
-pub moves_none : (f : Nearness) → Moves f f
-moves_none f = record { better = within_itself (number_of f); fresh = λ v d at. inl at; kept = λ d v w. w; known = refl }
 
 pub moves_then : (f g h : Nearness) → Moves f g → Moves g h → Moves f h
 moves_then f g h m n = record {
@@ -179,15 +176,15 @@ reopened_under_way M N T f g r same under is u d at =
 -- ---- the law
 
 -- a walk within the limit leads from a number to a number
-numbered : (M : Map) (f : Nearness) → IsRight M f → IsTrue f.known → (u v d : ℕ) (xs : List ℕ) → number_of f u ≡ Some d → Walk M u v xs → d + dm_of M xs ≤ limit → IsSome (number_of f v)
-numbered M f right known u v d [] at w short = subst (λ (o : Option ℕ). IsSome o) (sym (ap (number_of f) (sym w) ∙ at)) refl
-numbered M f right known u v d (x ∷ xs) at w short =
+number_along : (M : Map) (f : Nearness) → IsRight M f → IsTrue f.known → (u v d : ℕ) (xs : List ℕ) → number_of f u ≡ Some d → Walk M u v xs → d + dm_of M xs ≤ limit → IsSome (number_of f v)
+number_along M f right known u v d [] at w short = subst (λ (o : Option ℕ). IsSome o) (sym (ap (number_of f) (sym w) ∙ at)) refl
+number_along M f right known u v d (x ∷ xs) at w short =
     let k = right known u d at x w.0 w.1 (omega arith) in
     let low = k.low in
-    numbered M f right known (end M x) v k.number xs k.at w.2 (omega arith)
+    number_along M f right known (end M x) v k.number xs k.at w.2 (omega arith)
 
 pub near_numbered : (M : Map) (f : Nearness) (s : ℕ) (T : List ℕ) → IsTrue f.known → IsRight M f → IsSource f s → (near : Near M T s limit) → IsSome (number_of f near.node)
-near_numbered M f s T known right source near = numbered M f right known s near.node 0 near.walk (source known) near.leads (let w = near.within in omega arith)
+near_numbered M f s T known right source near = number_along M f right known s near.node 0 near.walk (source known) near.leads (let w = near.within in omega arith)
 
 -- ---- the lines from a node
 
@@ -195,7 +192,7 @@ near_numbered M f s T known right source near = numbered M f right known s near.
 pub end_there : (M : Map) (place : ℕ → ℕ) (v x : ℕ) (items : List LineEnd) → items ≡ ends_out M place v → IsTrue (has_line M x) → start M x ≡ v
     → (k : ℕ) × (k < length items) × ((get_or items k no_end).node ≡ end M x) × ((get_or items k no_end).len ≡ dm M x)
 end_there M place v x items is known from =
-    let k = leaving M v x known from in
+    let k = line_there M v x known from in
     let long : length items ≡ length (lines_out M v) = ap (λ (zs : List LineEnd). length zs) is ∙ length-map (lines_out M v) (end_out M place) in
     let lt = k.1 in
     let here : get_or items k.0 no_end ≡ end_out M place x = ap (λ (zs : List LineEnd). get_or zs k.0 no_end) is ∙ get_or-map (end_out M place) (lines_out M v) k.0 0 no_end k.1 ∙ ap (end_out M place) k.2 in

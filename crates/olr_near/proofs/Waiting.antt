@@ -19,12 +19,12 @@ use Rattle.olr_near.specs.Numbers.{Waits}
 abbrev Entry : Type 0
 Entry = Reverse (ℕ × ℕ)
 
-alone : (x n : Entry) → Contains (x ∷ []) n → n ≡ x
-alone x n h = let e : h.0 ≡ 0 = omega (arith, h.1) in sym (ap (λ j. get_or (x ∷ []) j n) (sym e) ∙ h.2)
+only_one : (x n : Entry) → Contains (x ∷ []) n → n ≡ x
+only_one x n h = let e : h.0 ≡ 0 = omega (arith, h.1) in sym (ap (λ j. get_or (x ∷ []) j n) (sym e) ∙ h.2)
 
 pub popped_others : (xs ys : List Entry) (x : Entry) (d v : ℕ) → IsPermutation xs (x ∷ ys) → Waits xs d v → Waits ys d v ⊎ ((d ≡ x.0.0) × (v ≡ x.0.1))
 popped_others xs ys x d v p w = elim (Contains-append_cases (x ∷ []) ys (record { 0 = (d, v) }) (Contains-permutation xs (x ∷ ys) (record { 0 = (d, v) }) p w)) [
-  | inl h ↦ let e = alone x (record { 0 = (d, v) }) h in inr (ap (λ (y : Entry). y.0.0) e, ap (λ (y : Entry). y.0.1) e)
+  | inl h ↦ let e = only_one x (record { 0 = (d, v) }) h in inr (ap (λ (y : Entry). y.0.0) e, ap (λ (y : Entry). y.0.1) e)
   | inr h ↦ inl h
 ]
 
@@ -49,5 +49,5 @@ stands_at (y ∷ ys) x h = elim (has_cases y ys x h) [
 ]
 
 -- each line that leaves a node stands in its list
-pub leaving : (M : Map) (v x : ℕ) → IsTrue (has_line M x) → start M x ≡ v → (i : ℕ) × (i < length (lines_out M v)) × (get_or (lines_out M v) i 0 ≡ x)
-leaving M v x h from = stands_at (lines_out M v) x ((exactly_out M v x).1 (_, (known_record M x h, from)))
+pub line_there : (M : Map) (v x : ℕ) → IsTrue (has_line M x) → start M x ≡ v → (i : ℕ) × (i < length (lines_out M v)) × (get_or (lines_out M v) i 0 ≡ x)
+line_there M v x h from = stands_at (lines_out M v) x ((exactly_out M v x).1 (_, (known_record M x h, from)))
