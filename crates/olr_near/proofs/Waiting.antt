@@ -1,12 +1,10 @@
 -- What waits before and after a push and a pop, and where the lines of a node stand.
-use Rattle.std.proofs.Common.{◌≡◌, ℕ, ◌+◌, ◌<◌, ◌⊎◌, List, [], ◌∷◌, Contains, Option, Some, None, true, is_some, IsTrue, length, get_or, add-one, refl, sym, ap, ◌∙◌, subst, inl, inr, arith}
-use Rattle.std.specs.Prelude.{unwrap_or}
-use Rattle.std.specs.FinMap.{get}
+use Rattle.std.proofs.Common.{◌≡◌, ℕ, ◌+◌, ◌<◌, ◌⊎◌, List, [], ◌∷◌, Contains, true, IsTrue, length, get_or, add-one, refl, sym, ap, ◌∙◌, inl, inr, arith}
 use Rattle.std.specs.declared.cmp.Reverse.{Reverse}
 use Rattle.std.specs.List.Sorted.{IsPermutation}
 use Rattle.std.proofs.lemmas.List.Sorted.{Contains-permutation}
 use Rattle.std.proofs.lemmas.List.Elements.{Contains-append_cases, Contains-append_right}
-use Rattle.olr_spec.specs.Map.{Map, Line, no_line, has_line, start, lines_out}
+use Rattle.olr_spec.specs.Map.{Map, has_line, start, lines_out}
 use Rattle.olr_spec.specs.Extension.{has}
 use Rattle.olr_spec.proofs.ListLemmas.{has_cases}
 use Rattle.olr_spec.proofs.OrderLemmas.{exactly_out}

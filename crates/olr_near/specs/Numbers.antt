@@ -1,5 +1,5 @@
 -- Numbers of nodes, by which it is told that no source is near.
---     number_of f v      the number of node v, in decimetres
+--     number_of f v      the number of node v, in decimetres.        numbers_len f      how many nodes have one
 --     IsSource f s      the node s is a source: its number is 0
 --     Within L v d      node v has a number, of at most d
 --     ClosedAt M L u d      each line from u, where d, leads within the limit to a number that is no greater than the way there
@@ -10,11 +10,11 @@
 --     IsReopened T f g      the numbers are the same, and the nodes T wait where they have one
 --     gain f      rises with each new number and each lesser one.        IsPaid f g      so much that no more waits than was gained
 -- Where the numbers are unknown nothing is said.
-use Rattle.std.specs.Prelude.{◌≡◌, ℕ, ◌+◌, ◌-◌, ◌*◌, ◌≤◌, ◌⊎◌, List, Option, Some, None, Contains, IsTrue, IsFalse, nat_eq, sum_by}
+use Rattle.std.specs.Prelude.{◌≡◌, ℕ, ◌+◌, ◌-◌, ◌*◌, ◌≤◌, ◌⊎◌, List, Option, Some, Contains, IsTrue, IsFalse, nat_eq, sum_by}
 use Rattle.std.specs.declared.hash.FoldHasher.{FoldHasher}
 use Rattle.std.specs.declared.hash.BuildHasherDefault.{BuildHasherDefault}
 use Rattle.std.specs.declared.cmp.Reverse.{Reverse}
-use Rattle.std.specs.HashMap.{HashMap, get, values}
+use Rattle.std.specs.HashMap.{HashMap, get, values, hash_map_len}
 use Rattle.std.specs.BinaryHeap.{heap_items, heap_len}
 use Rattle.olr_spec.specs.Map.{Map, has_line, start, end, dm, SameRound}
 use Rattle.olr_spec.specs.Extension.{has, limit}
@@ -25,6 +25,9 @@ Numbers = HashMap ℕ ℕ (BuildHasherDefault FoldHasher)
 
 abbrev pub number_of : Nearness → ℕ → Option ℕ
 number_of f v = get nat_eq f.numbers v
+
+abbrev pub numbers_len : Nearness → ℕ
+numbers_len f = hash_map_len f.numbers
 
 abbrev pub IsSource : Nearness → ℕ → Type 0
 IsSource f s = IsTrue f.known → number_of f s ≡ Some 0

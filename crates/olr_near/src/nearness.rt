@@ -27,13 +27,14 @@ pub struct Nearness {
 impl Nearness {
     ghost use Rattle.std.specs.Prelude.{◌≡◌, ◌≤◌, ◌↔◌, ℕ, None, Some, IsTrue, IsFalse, OnOk, OnErr};
     ghost use Rattle.olr_spec.specs.Map.{Map};
-    ghost use Rattle.olr_spec.specs.Extension.{limit};
+    ghost use Rattle.olr_spec.specs.Extension.{has, limit};
     ghost use Rattle.olr_spec.specs.Detours.{Near};
-    ghost use Rattle.olr_near.specs.Numbers.{number_of, IsSource, IsRight, IsUnderWay, SameBut, Within, ClosedAt, Moves, IsPaid, IsReopened};
+    ghost use Rattle.olr_near.specs.Numbers.{number_of, numbers_len, IsSource, IsRight, IsUnderWay, SameBut, Within, ClosedAt, Moves, IsPaid, IsReopened};
 
     /// No sources, and no numbers. Takes no memory.
     pub fn new(alloc: Global) -> Nearness
-        ensures { (v : ℕ) → number_of result v ≡ None }
+        ensures known { IsTrue result.known }
+        ensures numbers { (v : ℕ) → number_of result v ≡ None }
     {
         Nearness {
             alloc,
@@ -51,13 +52,16 @@ impl Nearness {
     }
 
     /// How many nodes have a number.
-    pub fn len(&self) -> usize {
+    pub fn len(&self) -> usize
+        ensures { result ≡ numbers_len self.now }
+    {
         self.numbers.len()
     }
 
     /// Forgets all sources and numbers, and begins anew. Takes no memory.
     pub fn clear(&mut self)
-        ensures { (v : ℕ) → number_of self.new v ≡ None }
+        ensures known { IsTrue self.new.known }
+        ensures numbers { (v : ℕ) → number_of self.new v ≡ None }
     {
         self.numbers = HashMap::new(self.alloc);
         self.waiting.clear();
@@ -75,8 +79,10 @@ impl Nearness {
 
     /// Whether it is known that from no source a walk of at most `GREATEST_LIMIT` leads to one of the nodes.
     pub fn is_far(&self, nodes: &[NodeId]) -> bool
-        ensures { IsTrue result → (M : Map) (s : ℕ) → IsRight M self.now → IsSource self.now s
+        ensures far { IsTrue result → (M : Map) (s : ℕ) → IsRight M self.now → IsSource self.now s
             → ¬ Near M nodes.now s limit }
+        ensures exact { IsTrue result
+            ↔ (IsTrue self.now.known × ((v : ℕ) → IsTrue (has nodes.now v) → number_of self.now v ≡ None)) }
     {
         if !self.known {
             return false;
@@ -94,6 +100,7 @@ impl Nearness {
         ensures source { IsSource self.new source }
         ensures sources { (s : ℕ) → IsSource self.old s → IsSource self.new s }
         ensures under_way { (M : Map) → IsUnderWay M self.old → IsUnderWay M self.new }
+        ensures ok { OnOk result (self.new.known ≡ self.old.known) }
         ensures err { OnErr result (IsFalse self.new.known) }
     {
         match self.lower(source, 0) {
@@ -109,6 +116,7 @@ impl Nearness {
     pub fn reopen(&mut self, nodes: &[NodeId]) -> Result<(), AllocError>
         ensures sources { (s : ℕ) → IsSource self.old s → IsSource self.new s }
         ensures under_way { (M N : Map) → SameBut nodes.now M N → IsUnderWay M self.old → IsUnderWay N self.new }
+        ensures ok { OnOk result (self.new.known ≡ self.old.known) }
         ensures err { OnErr result (IsFalse self.new.known) }
     {
         match self.let_wait(nodes) {
@@ -124,6 +132,7 @@ impl Nearness {
     pub fn settle<M: MapRead>(&mut self, map: &M) -> Result<(), AllocError>
         ensures sources { (s : ℕ) → IsSource self.old s → IsSource self.new s }
         ensures right { IsUnderWay (M.map map.now) self.old → IsRight (M.map map.now) self.new }
+        ensures ok { OnOk result (self.new.known ≡ self.old.known) }
         ensures err { OnErr result (IsFalse self.new.known) }
     {
         match self.follow_all(map) {

@@ -1,10 +1,9 @@
-use Rattle.std.proofs.Common.{◌≡◌, ◌≤◌, ◌<◌, ◌+◌, ◌-◌, ℕ, length, get_or, inl, inr, sym, ap, ◌∙◌, subst, arith}
+use Rattle.std.proofs.Common.{◌≡◌, ◌≤◌, ◌+◌, ◌-◌, ℕ, get_or, inl, inr, sym, ap, ◌∙◌, subst, arith}
 use Rattle.std.proofs.lemmas.Bool.{cases_lt}
 use Rattle.std.proofs.lemmas.List.{get_or_default}
 use Rattle.olr_spec.specs.Map.{dm}
 use Rattle.olr_map.specs.declared.read.LineEnd.{LineEnd}
 use Rattle.olr_near.specs.Numbers.{number_of, Within}
-use Rattle.olr_near.specs.declared.nearness.Nearness.{Nearness}
 use Rattle.olr_near.proofs.Waiting.{no_end}
 use Rattle.olr_near.proofs.NumberLemmas.{within_better, moves_then, end_there}
 use Rattle.olr_near.proofs.nearness.Nearness.follow.Goals as goal

@@ -1,4 +1,4 @@
-use Rattle.std.proofs.Common.{◌≡◌, ℕ, Some, true, false, refl, sym, ap, ◌∙◌, subst, arith}
+use Rattle.std.proofs.Common.{◌≡◌, true, false, refl, sym, ◌∙◌, arith}
 use Rattle.olr_near.specs.Numbers.{number_of}
 use Rattle.olr_near.proofs.Waiting.{popped_others}
 use Rattle.olr_near.proofs.NumberLemmas.{within_better, popped_skip, popped_more, gain_le}

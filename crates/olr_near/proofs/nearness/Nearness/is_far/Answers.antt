@@ -1,14 +1,28 @@
-use Rattle.std.proofs.Common.{◌≡◌, ℕ, Option, None, Some, IsSome, nat_eq, sym, ap, ◌∙◌, subst, arith, true, get_or}
+use Rattle.std.proofs.Common.{◌≡◌, refl, sym, ap, ◌∙◌, arith, true}
 use Rattle.olr_near.specs.Numbers.{number_of}
 use Rattle.olr_near.proofs.Waiting.{stands_at}
 use Rattle.olr_near.proofs.NumberLemmas.{near_numbered, none_numbered}
 use Rattle.olr_near.proofs.nearness.Nearness.is_far.Goals as goal
 
-pub returns : goal.returns
-returns c = λ yes M s right source near.
+pub returns-clause-far : goal.returns-clause-far
+returns-clause-far c = λ yes M s right source near.
     let known : c.args.self.now.known ≡ true = cc in
     let some = near_numbered M c.args.self.now s c.args.nodes.now known right source near in
     let k = stands_at c.args.nodes.now near.node near.touched in
     let lt = k.1 in
     let past = c.loop-node-test.false in
     none_numbered (number_of c.args.self.now near.node) (ap (number_of c.args.self.now) (sym k.2) ∙ c.loop-node.invariant k.0 (omega arith)) some
+
+-- each of the nodes was asked
+pub returns-clause-exact : goal.returns-clause-exact
+returns-clause-exact c = (
+  λ yes. (
+    cc,
+    λ v on.
+        let k = stands_at c.args.nodes.now v on in
+        let lt = k.1 in
+        let past = c.loop-node-test.false in
+        ap (number_of c.args.self.now) (sym k.2) ∙ c.loop-node.invariant k.0 (omega arith),
+  ),
+  λ h. refl,
+)

@@ -1,4 +1,4 @@
-use Rattle.std.proofs.Common.{◌≡◌, ◌<◌, ℕ, nat_eq, None, get_or}
+use Rattle.std.proofs.Common.{◌≡◌, ◌<◌, ℕ, None, get_or}
 use Rattle.olr_near.specs.Numbers.{number_of}
 use Rattle.olr_near.proofs.nearness.Nearness.is_far.Given as goal
 

@@ -1,4 +1,4 @@
-use Rattle.std.proofs.Common.{◌≡◌, ℕ, Option, None, Some, IsTrue, nat_eq, inl, inr, sym, ap, ◌∙◌, subst, arith, get_or, true}
+use Rattle.std.proofs.Common.{◌≡◌, ℕ, Option, None, Some, nat_eq, inl, inr, sym, ap, ◌∙◌, subst, arith, get_or}
 use Rattle.std.proofs.lemmas.Bool.{cases_lt}
 use Rattle.std.proofs.lemmas.Grind.{get_or_default_zero}
 use Rattle.std.specs.HashMap.{get}

@@ -1,9 +1,9 @@
-use Rattle.std.proofs.Common.{◌≡◌, ◌≢◌, ◌<◌, ◌≤◌, ℕ, Option, None, Some, IsTrue, nat_eq, inl, inr, refl, sym, ap, ◌∙◌, subst, arith, eqb}
+use Rattle.std.proofs.Common.{◌≡◌, ◌≢◌, ◌<◌, ℕ, Option, None, Some, nat_eq, inl, inr, refl, sym, ap, ◌∙◌, subst, arith}
 use Rattle.std.proofs.lemmas.Bool.{ne_eqb}
 use Rattle.std.specs.HashMap.{PutsEntry, get}
 use Rattle.std.specs.BinaryHeap.{heap_items}
 use Rattle.olr_near.specs.Numbers.{Waits}
-use Rattle.olr_near.specs.Numbers.{number_of, Within}
+use Rattle.olr_near.specs.Numbers.{number_of}
 use Rattle.olr_near.proofs.Waiting.{pushed_kept, pushed_there}
 use Rattle.olr_near.proofs.NumberLemmas.{put_better, put_fresh, gain_put}
 use Rattle.olr_near.proofs.nearness.Nearness.lower.Goals as goal

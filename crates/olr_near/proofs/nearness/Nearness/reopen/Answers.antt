@@ -1,4 +1,3 @@
-use Rattle.std.proofs.Common.{◌≡◌, ℕ, Bool, Option, Some, IsTrue, nat_eq, subst, sym, ap, ◌∙◌}
 use Rattle.olr_near.proofs.NumberLemmas.{reopened_sources, reopened_under_way}
 use Rattle.olr_near.proofs.nearness.Nearness.reopen.Goals as goal
 
