@@ -48,10 +48,6 @@ both false c h = refl
 pub stays_has : (xs : List ℕ) (x i v : ℕ) → IsStrictlyIncreasing xs → IsBinarySearchResult (λ y. nat_cmp y x) xs (Ok i) → has xs v ≡ (has xs v || (x == v))
 stays_has xs x i v up h = either (has xs v) (x == v) (λ e. ap (has xs) (sym (eqb-true x v e)) ∙ sym (found_has xs x (Ok i) up h))
 
--- one that is there, taken out
-pub taken_rises : (xs : List ℕ) (x i : ℕ) → IsStrictlyIncreasing xs → IsBinarySearchResult (λ y. nat_cmp y x) xs (Ok i) → IsStrictlyIncreasing (remove xs i)
-taken_rises xs x i up h = let p = place_of xs x (Ok i) up h in rises-remove xs i up p.0
-
 pub taken_has : (xs : List ℕ) (x i v : ℕ) → IsStrictlyIncreasing xs → IsBinarySearchResult (λ y. nat_cmp y x) xs (Ok i) → has (remove xs i) v ≡ (has xs v && not (x == v))
 taken_has xs x i v up h = let p = place_of xs x (Ok i) up h in has-remove xs i x v up p.0 p.1 ∙ and_comm (not (x == v)) (has xs v)
 

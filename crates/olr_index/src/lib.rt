@@ -54,7 +54,7 @@ impl Index {
         self.marks.is_empty()
     }
 
-    /// Gives a number a mark, unless it has it already. After a refusal the numbers have the marks that they had.
+    /// Gives a number a mark, unless it has it already. After want of memory the numbers have the marks that they had.
     pub fn add(&mut self, number: u64, mark: u64) -> Result<(), AllocError>
         ensures ok { OnOk result ((n m : ℕ) → holds self.new n m
             ≡ (holds self.old n m || ((number == n) && (mark == m)))) }
@@ -84,7 +84,7 @@ impl Index {
     }
 }
 
-/// Puts a mark among rising ones, unless it is there. After a refusal they are as before.
+/// Puts a mark among rising ones, unless it is there. After want of memory they are as before.
 fn put(marks: &mut Vec<u64>, mark: u64) -> Result<(), AllocError>
     requires { IsStrictlyIncreasing marks.old.items }
     ensures rise { IsStrictlyIncreasing marks.new.items }

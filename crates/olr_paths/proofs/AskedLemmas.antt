@@ -24,22 +24,6 @@ listed_at is k i at = (k, slice_get_within is k i at, get_or_from_slice_get is k
 
 -- ---- no looks
 
-abbrev pub LackBefore : List Item → ℕ → Type 0
-LackBefore is n = (k : ℕ) (i : Item) → k < n → slice_get is k ≡ Some i → LacksLooks i.made
-
-pub lack_more : (is : List Item) (n : ℕ) (i : Item) → LackBefore is n → slice_get is n ≡ Some i → LacksLooks i.made → LackBefore is (n + 1)
-lack_more is n i before at lacks k j lt there = elim (cases_lt k n) [
-  | inl low ↦ before k j low there
-  | inr high ↦
-      let same : k ≡ n = omega arith in
-      let both : ◌≡◌ {A = Option Item} (Some i) (Some j) = sym at ∙ ap (slice_get is) (sym same) ∙ there in
-      let is_that : i ≡ j = cc in
-      subst (λ (x : Item). LacksLooks x.made) is_that lacks
-]
-
-pub lack_all : (is : List Item) (n : ℕ) → length is ≡ n → LackBefore is n → LackLooks is
-lack_all is n long before i there = let lt = there.1 in before there.0 i (omega arith) (slice_get_read is (length is) there.0 i refl there.1 (sym there.2))
-
 -- of what was made, told by what it was made of
 pub made_if : {A : Type 0} (f : A → Made) (P : Made → Type 0) (o : Option A) → IfSome (option_map f o) P → IfSome o (λ a. P (f a))
 made_if f P None h = h

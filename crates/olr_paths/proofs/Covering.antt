@@ -82,9 +82,6 @@ pub record Put (marks of old now : List ℕ) : Type 0 where
   pub kept : Includes old now
   pub put : (k : ℕ) → k < length marks → IsTrue (has of (get_or marks k 0)) → IsTrue (has now k)
 
-pub put_none : (marks old : List ℕ) → Put marks [] old old
-put_none marks old = record { kept = λ k on. on; put = λ k lt on. let never : ⊥ = cc (on) in absurd never }
-
 module _ (marks of old now : List ℕ) (i mark d : ℕ) (lt : i < length of) (is : mark ≡ get_or of i d) (h : Put marks (take i of) old now) where
   pub put_found : (new : List ℕ) (r : Option ℕ) (position : ℕ) → ((k : ℕ) → k < length marks → get_or marks k 0 ≡ mark → r ≡ Some k) → r ≡ Some position → new ≡ now ++ position ∷ [] → Put marks (take (i + 1) of) old new
   put_found new r position finds at grown =
@@ -106,9 +103,6 @@ module _ (marks of old now : List ℕ) (i mark d : ℕ) (lt : i < length of) (is
           | inr same ↦ let found = finds k low (sym (is ∙ same)) in let never : ⊥ = cc (found, none) in absurd never
         ];
       }
-
-pub put_all : (marks of old now : List ℕ) (i : ℕ) → length of ≤ i → Put marks (take i of) old now → Put marks of old now
-put_all marks of old now i end h = subst (λ (zs : List ℕ). Put marks zs old now) (take_all i of end) h
 
 -- ---- positions of numbers
 
@@ -135,13 +129,6 @@ module _ {A : Type 0} (number : A → ℕ) (marks : List ℕ) (index : Index) (o
 
 pub found_grown : {A : Type 0} (number : A → ℕ) (marks : List ℕ) (index : Index) (xs : List A) (old now : List ℕ) → Includes old now → All (λ x. Finds marks index (number x) old) xs → All (λ x. Finds marks index (number x) now) xs
 found_grown number marks index xs old now kept h = λ i d lt k low on. kept k (h i d lt k low on)
-
--- ---- all positions below a number
-
-pub covers_all : (N : Map) (T X : List ℕ) (is : List Item) (found : List ℕ) (n : ℕ) → length is ≤ n → ((k : ℕ) → k < n → IsTrue (has found k)) → Covers N T X is found
-covers_all N T X is found n long all k i at off =
-    let on = all k (omega (arith, slice_get_within is k i at, long)) in
-    let never : ⊥ = cc (on, off) in absurd never
 
 -- ---- going from one position to the next
 

@@ -110,23 +110,6 @@ pub record CountUp (xs : List ℕ) (n : ℕ) : Type 0 where
   pub long : length xs ≡ n
   pub each : (k : ℕ) → k < n → get_or xs k 0 ≡ k
 
-pub count_more : (xs : List ℕ) (n : ℕ) → CountUp xs n → CountUp (xs ++ n ∷ []) (n + 1)
-count_more xs n h =
-    let long = h.long in
-    record {
-      long = let e : length (xs ++ n ∷ []) ≡ length xs + 1 = length-append xs (n ∷ []) in omega arith;
-      each = λ k lt. elim (cases_lt k n) [ inl low ↦ get_front xs n k (omega arith) ∙ h.each k low | inr high ↦ get_last xs n k (omega arith) ∙ (let e : n ≡ k = omega arith in e) ];
-    }
-
-pub count_rises : (xs : List ℕ) (n : ℕ) → CountUp xs n → IsNonDecreasing xs
-count_rises xs n h i j d le lt =
-    let long = h.long in
-    let a : get_or xs i d ≡ get_or xs i 0 = get_or_default xs i d 0 (omega arith) in
-    let b : get_or xs j d ≡ get_or xs j 0 = get_or_default xs j d 0 lt in
-    let c = h.each i (omega arith) in
-    let e = h.each j (omega arith) in
-    omega arith
-
 pub count_has : (xs : List ℕ) (n : ℕ) → CountUp xs n → (k : ℕ) → k < n → IsTrue (has xs k)
 count_has xs n h k lt = let long = h.long in has_at xs k k (omega arith) (h.each k lt)
 
