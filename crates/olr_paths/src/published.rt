@@ -20,7 +20,7 @@ pub struct Published {
 }
 
 impl Published {
-    ghost use Rattle.std.specs.Prelude.{◌↔◌, IsTrue, IfOk};
+    ghost use Rattle.std.specs.Prelude.{◌≡◌, ◌↔◌, IsTrue, IfOk};
     ghost use Rattle.olr_commands.specs.Reply.{entry};
     ghost use Rattle.olr_commands.specs.Words.{entry_of};
     ghost use Rattle.olr_paths.specs.Items.{made_of};
@@ -37,6 +37,20 @@ impl Published {
         ensures { option_map (λ t. t.now) result ≡ result_ok (published (made_of self.now).answer) }
     {
         self.text.as_deref()
+    }
+
+    /// The path's own nodes, rising: those of its extended path and of the tried chains.
+    pub fn own(&self) -> &Footprint
+        ensures { result.now ≡ (made_of self.now).own }
+    {
+        &self.own
+    }
+
+    /// What the encoding looked at, in the order of the points that its looks begin at.
+    pub fn looks(&self) -> &[Look]
+        ensures { result.now ≡ (made_of self.now).looks }
+    {
+        self.looks.as_slice()
     }
 
     /// Whether the other has the same answer, by their texts or their refusals.
