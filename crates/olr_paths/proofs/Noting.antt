@@ -56,7 +56,7 @@ module _ {A : Type 0} (number : A → ℕ) (mark : ℕ) (old : Index) where
         spares = λ n m ne. added n m ∙ neither (holds now n m) (v == n) (mark == m) (ne_eqb mark m (λ e. ne (sym e))) ∙ h.spares n m ne;
       }
 
-  -- after a refusal
+  -- after want of memory
   pub grows_failed : (now new : Index) (xs : List A) → Noted number mark old now xs → ((n m : ℕ) → holds new n m ≡ holds now n m) → Keeps old new
   grows_failed now new xs h same n m t = same n m ∙ h.grows n m t
 

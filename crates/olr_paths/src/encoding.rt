@@ -25,7 +25,7 @@ fn text_of(alloc: Global, answer: &Answer) -> Result<Option<String>, AllocError>
     }
 }
 
-/// Encodes a path on a map. One encoding is counted; after a refusal the work may hold more than before.
+/// Encodes a path on a map. One encoding is counted; after want of memory the work may hold more than before.
 pub fn publish<M: MapRead>(
     alloc: Global,
     map: &M,

@@ -32,7 +32,7 @@ impl Finder {
         }
     }
 
-    /// Gives the lines, the own nodes and the nodes from which a path looks its mark. After a refusal some have it.
+    /// Gives the lines, the own nodes and the nodes from which a path looks its mark. After want of memory some have it.
     pub(crate) fn note(
         &mut self,
         mark: u64,
@@ -81,7 +81,7 @@ impl Finder {
     }
 }
 
-/// Gives nodes a mark. After a refusal some have it.
+/// Gives nodes a mark. After want of memory some have it.
 fn note_nodes(index: &mut Index, mark: u64, nodes: &[NodeId]) -> Result<(), AllocError>
     ensures noted { OnOk result (OwnNoted index.new mark nodes.now) }
     ensures grows { Keeps index.old index.new }
@@ -93,7 +93,7 @@ fn note_nodes(index: &mut Index, mark: u64, nodes: &[NodeId]) -> Result<(), Allo
     Ok(())
 }
 
-/// Gives lines a mark. After a refusal some have it.
+/// Gives lines a mark. After want of memory some have it.
 fn note_lines(index: &mut Index, mark: u64, lines: &[LineId]) -> Result<(), AllocError>
     ensures noted { OnOk result (OwnNoted index.new mark lines.now) }
     ensures grows { Keeps index.old index.new }
@@ -105,7 +105,7 @@ fn note_lines(index: &mut Index, mark: u64, lines: &[LineId]) -> Result<(), Allo
     Ok(())
 }
 
-/// Gives the nodes from which looks look a mark. After a refusal some have it.
+/// Gives the nodes from which looks look a mark. After want of memory some have it.
 fn note_looks(index: &mut Index, mark: u64, looks: &[Look]) -> Result<(), AllocError>
     ensures noted { OnOk result (FromNoted index.new mark looks.now) }
     ensures grows { Keeps index.old index.new }

@@ -21,7 +21,7 @@ use std::alloc::{AllocError, Global};
 use std::rc::Rc;
 
 impl Listing {
-    /// Encodes a path and puts it last. The reply names it. After a refusal list and work are as before.
+    /// Encodes a path and puts it last. The reply names it. After want of memory list and work are as before.
     pub fn add<M: MapRead>(
         &mut self,
         alloc: Global,
@@ -60,7 +60,7 @@ impl Listing {
     }
 
     /// Encodes another path under a name. It keeps its place, and the reply names it if its answer is another than before.
-    /// After a refusal list and work are as before.
+    /// After want of memory list and work are as before.
     pub fn set<M: MapRead>(
         &mut self,
         alloc: Global,

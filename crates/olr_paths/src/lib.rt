@@ -9,12 +9,12 @@ pub mod detours;
 pub mod encoding;
 pub mod entries;
 pub mod finder;
+pub mod giving;
 pub mod listing;
 pub mod overlay;
 pub mod published;
 pub mod renewal;
 pub mod searches;
-pub mod single;
 #[cfg(test)]
 mod tests;
 pub mod touched;

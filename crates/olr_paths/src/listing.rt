@@ -115,7 +115,7 @@ impl Listing {
         Some(&*named.path)
     }
 
-    /// Puts a path last, not encoded yet. After a refusal the list is as before.
+    /// Puts a path last, not encoded yet. After want of memory the list is as before.
     pub fn hold(&mut self, alloc: Global, name: String, path: Path) -> Result<(), AllocError>
         requires { is_some (path_named (all_named (items self.old)) (string_bytes name)) ≡ false }
         ensures ok { OnOk result (items self.new ≡ items self.old
@@ -129,7 +129,7 @@ impl Listing {
         self.put_last(name, named)
     }
 
-    /// Puts another path, not encoded yet, under a name. It keeps its place. After a refusal the list is as before.
+    /// Puts another path, not encoded yet, under a name. It keeps its place. After want of memory the list is as before.
     pub fn hold_other(&mut self, alloc: Global, name: &str, path: Path) -> Result<(), AllocError>
         requires { is_some (path_named (all_named (items self.old)) name.now) ≡ true }
         ensures ok { OnOk result (items self.new ≡ map (set_item name.now path None) (items self.old)) }
@@ -159,7 +159,7 @@ impl Listing {
         }
     }
 
-    /// Puts a path last. After a refusal the list is as before.
+    /// Puts a path last. After want of memory the list is as before.
     pub(crate) fn put_last(&mut self, name: String, named: NamedPath) -> Result<(), AllocError>
         requires { is_some (path_named (all_named (items self.old)) (string_bytes name)) ≡ false }
         ensures ok { OnOk result (items self.new ≡ items self.old
@@ -187,7 +187,7 @@ impl Listing {
         Ok(())
     }
 
-    /// Puts another path under a name, in its place. After a refusal the list is as before.
+    /// Puts another path under a name, in its place. After want of memory the list is as before.
     pub(crate) fn put_other(&mut self, name: &str, named: NamedPath) -> Result<(), AllocError>
         ensures ok { OnOk result (items self.new
             ≡ map (set_item name.now named.path.value (option_map (λ p. made_of p.value) named.published)) (items self.old)) }
@@ -231,8 +231,8 @@ fn next_mark(marks: &[u64]) -> Result<u64, AllocError>
     }
 }
 
-/// Gives what a path has its mark, if it was encoded. After a refusal it is taken again, but from what the path that is kept
-/// has.
+/// Gives what a path has its mark, if it was encoded. After want of memory it is taken again, but from what the path that is
+/// kept has.
 fn note_named(
     finder: &mut Finder,
     mark: u64,
@@ -254,8 +254,8 @@ fn note_named(
     noted
 }
 
-/// Gives what a path has the mark of the one in whose place it comes, and takes it from what that one had. After a refusal that
-/// one has it still.
+/// Gives what a path has the mark of the one in whose place it comes, and takes it from what that one had. After want of
+/// memory that one has it still.
 fn renote(
     finder: &mut Finder,
     mark: u64,

@@ -43,7 +43,7 @@ fn becomes(
     }
 }
 
-/// Puts what becomes of a path last in a list. After a refusal that list is as before.
+/// Puts what becomes of a path last in a list. After want of memory that list is as before.
 fn put_one(
     alloc: Global,
     changes: &IndexMap<String, Option<Rc<Path>>>,
@@ -63,7 +63,7 @@ fn put_one(
     Ok(())
 }
 
-/// Puts a list under changes behind another. It shares paths and answers with it. After a refusal only some are put.
+/// Puts a list under changes behind another. It shares paths and answers with it. After want of memory only some are put.
 fn put_behind(
     alloc: Global,
     changes: &IndexMap<String, Option<Rc<Path>>>,
@@ -83,7 +83,7 @@ fn put_behind(
 }
 
 impl Overlay {
-    ghost use Rattle.std.specs.Prelude.{◌≡◌, [], ◌∷◌, ◌++◌, List, map, filter, not, true, false, None, is_some, string_bytes, IfOk, OnOk, OnErr};
+    ghost use Rattle.std.specs.Prelude.{◌≡◌, [], ◌∷◌, ◌++◌, List, map, filter, not, true, false, None, is_some, string_bytes, IsTrue, IfOk, OnOk, OnErr};
     ghost use Rattle.olr_commands.specs.State.{NamesDiffer, path_named, same_name};
     ghost use Rattle.olr_paths.specs.Items.{Item, items, all_named};
     ghost use Rattle.olr_paths.specs.Changes.{set_item};
@@ -96,6 +96,13 @@ impl Overlay {
             changes: IndexMap::new(alloc),
             added: Listing::new(alloc),
         }
+    }
+
+    /// Whether it is known that there are no changes.
+    pub(crate) fn is_empty(&self) -> bool
+        ensures { IsTrue result → (is : List Item) → overlaid is self.now ≡ is }
+    {
+        self.changes.is_empty() && self.added.paths.is_empty()
     }
 
     /// Whether the path of that name is taken away.
@@ -121,7 +128,7 @@ impl Overlay {
         list.has(name)
     }
 
-    /// Puts a new path last. After a refusal all is as before.
+    /// Puts a new path last. After want of memory all is as before.
     pub fn hold(&mut self, alloc: Global, name: String, path: Path) -> Result<(), AllocError>
         requires { (is : List Item)
             × (is_some (path_named (all_named (overlaid is self.old)) (string_bytes name)) ≡ false) }
@@ -132,7 +139,7 @@ impl Overlay {
         self.added.hold(alloc, name, path)
     }
 
-    /// Puts another path under the name of one, in its place. After a refusal all is as before.
+    /// Puts another path under the name of one, in its place. After want of memory all is as before.
     pub fn hold_other(&mut self, alloc: Global, name: &str, path: Path) -> Result<(), AllocError>
         ensures ok { OnOk result ((is : List Item) → NamesDiffer (all_named (overlaid is self.old))
             → is_some (path_named (all_named (overlaid is self.old)) name.now) ≡ true
@@ -148,7 +155,7 @@ impl Overlay {
         Ok(())
     }
 
-    /// Takes the path of that name away; those after it close up. After a refusal all is as before.
+    /// Takes the path of that name away; those after it close up. After want of memory all is as before.
     pub fn drop_path(&mut self, alloc: Global, name: &str) -> Result<(), AllocError>
         ensures ok { OnOk result ((is : List Item) → NamesDiffer (all_named (overlaid is self.old))
             → overlaid is self.new ≡ filter (λ i. not (same_name i.name name.now)) (overlaid is self.old)) }

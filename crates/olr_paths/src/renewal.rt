@@ -358,7 +358,7 @@ fn made_by<M: MapRead>(
     Ok(renewal)
 }
 
-/// What renewing a list on a map comes to, counted. After a refusal the counts are as before.
+/// What renewing a list on a map comes to, counted. After want of memory the counts are as before.
 fn made<M: MapRead>(
     alloc: Global,
     map: &M,
@@ -464,7 +464,7 @@ fn tidy(list: &mut Listing, gone: &[(usize, Rc<Published>)])
     }
 }
 
-/// Gives what was made the marks of the positions to which it goes. After a refusal some has them.
+/// Gives what was made the marks of the positions to which it goes. After want of memory some has them.
 fn note_all(list: &mut Listing, fresh: &[(usize, Rc<Published>)]) -> Result<(), AllocError>
     ensures noted { OnOk result (AreNotedAt list.new.paths.entries list.new.marks.items list.new.finder fresh.now) }
     ensures same { items list.new ≡ items list.old }
@@ -479,7 +479,7 @@ fn note_all(list: &mut Listing, fresh: &[(usize, Rc<Published>)]) -> Result<(), 
     Ok(())
 }
 
-/// Puts each at its position. After a refusal the list is as before.
+/// Puts each at its position. After want of memory the list is as before.
 fn put_in(
     alloc: Global,
     list: &mut Listing,
@@ -503,7 +503,7 @@ impl Listing {
     /// Encodes on a map the paths that are new and those whose answer changes of it can have changed, and tells those whose
     /// answer is another than before. Each path that is concerned is counted as an encoding; `kept` counts those of them
     /// that kept their answer. `far` tells that no touched node is near to where a look begins: then nothing is searched
-    /// for that. After a refusal list and counts are as before.
+    /// for that. After want of memory list and counts are as before.
     pub fn renew<M: MapRead>(
         &mut self,
         alloc: Global,
@@ -608,8 +608,9 @@ impl Listing {
         Ok(entries)
     }
 
-    /// The same for the list under changes, which takes the list's place. TellsIfOther are those whose answer is another than the one
-    /// that their name had. After a refusal list and counts are as before.
+    /// The same for the list under changes, which takes the list's place; where there are none, the list is renewed as it
+    /// stands. TellsIfOther are those whose answer is another than the one that their name had. After want of memory list and counts
+    /// are as before.
     pub fn renew_over<M: MapRead>(
         &mut self,
         alloc: Global,
@@ -643,6 +644,9 @@ impl Listing {
         ensures err_work { OnErr result (work.new ≡ work.old) }
         ensures err_kept { OnErr result (kept.new ≡ kept.old) }
     {
+        if overlay.is_empty() {
+            return self.renew(alloc, map, touched, far, searches, work, kept);
+        }
         let mut list = overlay.laid_over(alloc, self)?;
         let entries = list.renew_after(alloc, map, self, touched, far, searches, work, kept)?;
         *self = list;

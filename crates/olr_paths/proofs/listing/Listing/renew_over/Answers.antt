@@ -1,4 +1,4 @@
-use Rattle.std.proofs.Common.{◌≡◌, ◌+◌, ◌<◌, ◌≤◌, ◌^◌, ◌⊎◌, ℕ, List, Contains, ap, sym, subst, ◌∙◌}
+use Rattle.std.proofs.Common.{◌≡◌, ◌+◌, ◌<◌, ◌≤◌, ◌^◌, ◌⊎◌, ℕ, List, Contains, ap, refl, sym, subst, ◌∙◌}
 use Rattle.olr_spec.specs.Map.{Map}
 use Rattle.olr_commands.specs.Counts.{CountIs}
 use Rattle.olr_paths.specs.Items.{Item, items, all_named}
@@ -6,6 +6,10 @@ use Rattle.olr_paths.specs.Changes.{IsBefore, IsConcerned, AreRemade, Follows}
 use Rattle.olr_paths.specs.Beginning.{Begins, AreFar, begun_in}
 use Rattle.olr_paths.specs.Touching.{nodes_of, lines_of, changed_of}
 use Rattle.olr_paths.proofs.listing.Listing.renew_over.Goals as goal
+
+-- without changes
+pub renew-requires : goal.renew-requires
+renew-requires g c = λ on. subst (AreFar (g.M.MapRead.map c.args.map.now) (nodes_of c.args.touched.now)) (c.if-is_empty.ensures refl (items c.args.self.now)) (c.requires.far on)
 
 pub renew_after-requires : goal.renew_after-requires
 renew_after-requires g c =
