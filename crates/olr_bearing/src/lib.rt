@@ -11,6 +11,3 @@ pub mod sectors;
 pub use bearings::{bearing_back, bearing_out};
 pub use places::{Ends, Scaled, place};
 pub use sectors::sector;
-
-#[cfg(test)]
-mod tests;

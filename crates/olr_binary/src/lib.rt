@@ -17,6 +17,3 @@ pub use places::decoded;
 pub use read::read_v3;
 pub use text::{from_text, to_text};
 pub use write::write_v3;
-
-#[cfg(test)]
-mod tests;

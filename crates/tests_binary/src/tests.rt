@@ -1,8 +1,25 @@
 ghost use Rattle.std.specs.Prelude.{◌<◌};
 
-use super::*;
+use olr_binary::{
+    Attrs, First, Last, Middle, Reference, TextFault, V3Fault, decoded, from_text, read_v3,
+    to_text, write_v3,
+};
 use std::alloc::{AllocError, Global};
+use std::fmt::Debug;
+use std::process::Abort;
 use std::test::Fail;
+
+/// That two values are the same. One call is proved sooner than the branches of `assert_eq!` at each place.
+fn same<T: PartialEq + Debug + Drop>(rt: &impl Abort, found: T, wanted: T, what: &str) {
+    assert_eq!(rt; found, wanted, "{what}");
+}
+
+/// The same, told by what was asked for.
+macro_rules! same {
+    ($rt:expr; $found:expr, $wanted:expr) => {
+        same($rt, $found, $wanted, stringify!($found))
+    };
+}
 
 /// The bytes of the reference of three points.
 const THREE_POINTS: [u8; 24] = [
@@ -46,11 +63,9 @@ const LAST: Last = Last {
 
 /// The reference of three points.
 fn three_points(alloc: Global) -> Result<Reference, AllocError> {
-    let mut middle = Vec::new(alloc);
-    middle.push(MIDDLE)?;
     Ok(Reference {
         first: FIRST,
-        middle,
+        middle: Vec::from_array(alloc, [MIDDLE])?,
         last: LAST,
         pos: Some(68),
         neg: None,
@@ -58,21 +73,21 @@ fn three_points(alloc: Global) -> Result<Reference, AllocError> {
 }
 
 /// Asserts that the reference is the one of three points.
-fn assert_three_points(rt: &impl std::process::Abort, reference: &Reference) {
-    assert_eq!(rt; reference.first, FIRST);
-    assert_eq!(rt; reference.middle.as_slice(), [MIDDLE].as_slice());
-    assert_eq!(rt; reference.last, LAST);
-    assert_eq!(rt; reference.pos, Some(68));
-    assert_eq!(rt; reference.neg, None);
+fn assert_three_points(rt: &impl Abort, reference: &Reference) {
+    same!(rt; reference.first, FIRST);
+    same!(rt; reference.middle.as_slice(), [MIDDLE].as_slice());
+    same!(rt; reference.last, LAST);
+    same!(rt; reference.pos, Some(68));
+    same!(rt; reference.neg, None);
 }
 
 #[test]
 fn three_points_are_spelled(rt: HostRuntime) -> Result<(), Fail> {
     let reference = three_points(rt.alloc())?;
     let bytes = write_v3(rt.alloc(), &reference)?;
-    assert_eq!(rt; bytes.as_slice(), THREE_POINTS.as_slice());
+    same!(&rt; bytes.as_slice(), THREE_POINTS.as_slice());
     let text = to_text(rt.alloc(), &reference)?;
-    assert_eq!(rt; text.as_str(), THREE_POINTS_TEXT);
+    same!(&rt; text.as_str(), THREE_POINTS_TEXT);
     Ok(())
 }
 
@@ -86,7 +101,7 @@ fn three_points_are_read(rt: HostRuntime) -> Result<(), Fail> {
 #[test]
 fn two_points_are_read(rt: HostRuntime) -> Result<(), Fail> {
     let reference = from_text(rt.alloc(), b"CwRbWyNG9RpsCQCb/jsaHA==")?;
-    assert_eq!(rt; reference.first, FIRST);
+    same!(&rt; reference.first, FIRST);
     assert!(rt; reference.middle.is_empty());
     let last = Last {
         dlon: 155,
@@ -95,9 +110,9 @@ fn two_points_are_read(rt: HostRuntime) -> Result<(), Fail> {
         fow: 2,
         bearing: 28,
     };
-    assert_eq!(rt; reference.last, last);
-    assert_eq!(rt; reference.pos, None);
-    assert_eq!(rt; reference.neg, None);
+    same!(&rt; reference.last, last);
+    same!(&rt; reference.pos, None);
+    same!(&rt; reference.neg, None);
     Ok(())
 }
 
@@ -127,7 +142,7 @@ fn other_texts_are_refused(rt: HostRuntime) {
         ("CwRbWyNG9RpsCQCb_jsaHA==", TextFault::NotBase64),
     ];
     for (text, fault) in cases {
-        assert_eq!(rt; fault_of(rt.alloc(), text), Some(fault));
+        same!(&rt; fault_of(rt.alloc(), text), Some(fault));
     }
 }
 
@@ -139,10 +154,7 @@ fn bytes_cut_short(rt: HostRuntime) {
             17 => V3Fault::Reserved,
             _ => V3Fault::Length,
         };
-        assert_eq!(rt;
-            read_v3(rt.alloc(), &THREE_POINTS[..len]).err(),
-            Some(fault)
-        );
+        same!(&rt; read_v3(rt.alloc(), &THREE_POINTS[..len]).err(), Some(fault));
     }
 }
 
@@ -158,27 +170,27 @@ fn fault_with(alloc: Global, place: usize, bit: u8) -> Option<V3Fault>
 #[test]
 fn single_bits_are_told(rt: HostRuntime) {
     for bit in [1, 2, 4, 8, 16, 32, 64, 128] {
-        assert_eq!(rt; fault_with(rt.alloc(), 0, bit), Some(V3Fault::Status));
+        same!(&rt; fault_with(rt.alloc(), 0, bit), Some(V3Fault::Status));
     }
     for bit in [32, 64] {
-        assert_eq!(rt; fault_with(rt.alloc(), 22, bit), Some(V3Fault::Flags));
+        same!(&rt; fault_with(rt.alloc(), 22, bit), Some(V3Fault::Flags));
     }
     for bit in [64, 128] {
-        assert_eq!(rt; fault_with(rt.alloc(), 7, bit), Some(V3Fault::Reserved));
-        assert_eq!(rt; fault_with(rt.alloc(), 14, bit), Some(V3Fault::Reserved));
-        assert_eq!(rt; fault_with(rt.alloc(), 21, bit), Some(V3Fault::Reserved));
+        same!(&rt; fault_with(rt.alloc(), 7, bit), Some(V3Fault::Reserved));
+        same!(&rt; fault_with(rt.alloc(), 14, bit), Some(V3Fault::Reserved));
+        same!(&rt; fault_with(rt.alloc(), 21, bit), Some(V3Fault::Reserved));
     }
-    assert_eq!(rt; fault_with(rt.alloc(), 22, 128), Some(V3Fault::Reserved));
-    assert_eq!(rt; fault_with(rt.alloc(), 8, 128), None);
+    same!(&rt; fault_with(rt.alloc(), 22, 128), Some(V3Fault::Reserved));
+    same!(&rt; fault_with(rt.alloc(), 8, 128), None);
 }
 
 #[test]
 fn offset_bytes_of_0_are_accepted(rt: HostRuntime) -> Result<(), Fail> {
     let reference = from_text(rt.alloc(), b"CwRbWyNG9RpsCQCb/jsaXAA=")?;
-    assert_eq!(rt; reference.pos, Some(0));
-    assert_eq!(rt; reference.neg, None);
+    same!(&rt; reference.pos, Some(0));
+    same!(&rt; reference.neg, None);
     let text = to_text(rt.alloc(), &reference)?;
-    assert_eq!(rt; text.as_str(), "CwRbWyNG9RpsCQCb/jsaXAA=");
+    same!(&rt; text.as_str(), "CwRbWyNG9RpsCQCb/jsaXAA=");
     Ok(())
 }
 
@@ -191,35 +203,26 @@ fn fifty_points_and_both_offsets(rt: HostRuntime) -> Result<(), Fail> {
     }
     bytes.extend_from_slice(&[0xff, 0xeb, 0xff, 0xa3, 0x2b, 0x79, 0xff, 0x01])?;
     let reference = read_v3(rt.alloc(), &bytes)?;
-    assert_eq!(rt; reference.first, FIRST);
-    assert_eq!(rt; reference.middle.len(), 48);
-    assert_eq!(rt; reference.middle[47], Middle { dlon: 47, ..MIDDLE });
-    assert_eq!(rt; reference.last, LAST);
-    assert_eq!(rt; reference.pos, Some(255));
-    assert_eq!(rt; reference.neg, Some(1));
+    same!(&rt; reference.first, FIRST);
+    same!(&rt; reference.middle.len(), 48);
+    same!(&rt; reference.middle.get(47).copied(), Some(Middle { dlon: 47, ..MIDDLE }));
+    same!(&rt; reference.last, LAST);
+    same!(&rt; reference.pos, Some(255));
+    same!(&rt; reference.neg, Some(1));
     let written = write_v3(rt.alloc(), &reference)?;
-    assert_eq!(rt; written.as_slice(), bytes.as_slice());
+    same!(&rt; written.as_slice(), bytes.as_slice());
     let text = to_text(rt.alloc(), &reference)?;
     let again = from_text(rt.alloc(), text.as_bytes())?;
-    assert_eq!(rt; again.middle.as_slice(), reference.middle.as_slice());
+    same!(&rt; again.middle.as_slice(), reference.middle.as_slice());
     Ok(())
 }
 
 #[test]
 fn points_are_decoded(rt: HostRuntime) -> Result<(), Fail> {
     let reference = three_points(rt.alloc())?;
-    assert_eq!(rt;
-        decoded(&reference, 0),
-        Some((2_007_636_328_125, 16_255_719_140_625))
-    );
-    assert_eq!(rt;
-        decoded(&reference, 1),
-        Some((2_008_144_232_125, 16_254_234_750_225))
-    );
-    assert_eq!(rt;
-        decoded(&reference, 2),
-        Some((2_008_075_419_325, 16_253_930_007_825))
-    );
-    assert_eq!(rt; decoded(&reference, 3), None);
+    same!(&rt; decoded(&reference, 0), Some((2_007_636_328_125, 16_255_719_140_625)));
+    same!(&rt; decoded(&reference, 1), Some((2_008_144_232_125, 16_254_234_750_225)));
+    same!(&rt; decoded(&reference, 2), Some((2_008_075_419_325, 16_253_930_007_825)));
+    same!(&rt; decoded(&reference, 3), None);
     Ok(())
 }
