@@ -1,16 +1,14 @@
 -- Numbers written in digits.
-use Rattle.std.proofs.Common.{◌≡◌, ℕ, ◌+◌, ◌*◌, ◌-◌, ◌<◌, ◌≤◌, ◌^◌, true, false, ◌==◌, List, [], ◌∷◌, length, fold, pos, refl, ap, sym, subst, ◌∙◌, arith, rules, take, not, get_or, zero, suc}
-use Rattle.std.specs.Option.{option_map}
+use Rattle.std.proofs.Common.{◌≡◌, ℕ, ◌+◌, ◌*◌, ◌-◌, ◌<◌, ◌≤◌, ◌^◌, true, ◌==◌, List, [], ◌∷◌, length, fold, refl, ap, sym, subst, ◌∙◌, arith, rules, take, not, get_or, zero, suc}
 use Rattle.std.specs.List.{list_all}
 use Rattle.std.specs.Char.{is_ascii_digit}
-use Rattle.std.proofs.lemmas.Bool.Decides.{nat_tests}
 use Rattle.std.proofs.lemmas.Bool.{and_parts}
 use Rattle.std.proofs.lemmas.List.{length-take}
 use Rattle.std.proofs.lemmas.List.Sums.{take_while-cons}
 use Rattle.std.proofs.lemmas.Nat.{pow-add}
 use Rattle.std.proofs.Math.Nat.{mul-lt-mul_of_pos_right}
 use Rattle.std.proofs.lemmas.Str.Parse.{IsNumeralModel, numerals_by_fold, digits_value_short}
-use Rattle.olr_spec.specs.Degrees.{before_point, digits_value, unsigned, degrees}
+use Rattle.olr_spec.specs.Degrees.{before_point, digits_value}
 
 pub own : IsNumeralModel (λ ds. list_all is_ascii_digit ds ≡ true) digits_value
 own = numerals_by_fold _ (search rules) (λ n ds. fold (λ m d. 10 * m + (d - 48)) n ds) (search rules)
@@ -53,11 +51,3 @@ no-point (c ∷ text) zero few all = absurd (omega arith)
 no-point (c ∷ text) (suc k) few all =
     let p = and_parts (not (c == 46)) (list_all (λ d. not (d == 46)) (take k text)) all in
     ap suc (no-point text k (omega arith) p.1) ∙ ap (λ (t : List ℕ). length t) (sym (before-more c text p.0))
-
--- a text with no minus sign
-pub degrees-unsigned : (text : List ℕ) → ((rest : List ℕ) → ¬ (text ≡ 45 ∷ rest)) → degrees text ≡ option_map pos (unsigned text)
-degrees-unsigned [] plain = refl
-degrees-unsigned (c ∷ cs) plain =
-    let other : ¬ (c ≡ 45) = λ (e : c ≡ 45). plain cs (ap (λ (d : ℕ). d ∷ cs) e) in
-    let off : (c == 45) ≡ false = grind (arith, nat_tests) in
-    rw off refl
