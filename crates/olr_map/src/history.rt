@@ -42,7 +42,7 @@ impl Tables {
         requires can { CanMake (tables_map self.old) (room_of self.old) change }
         requires slots { AreSlots self.old.index (tables_map self.old) slots (change_edit change) }
         requires numbers { HasNumbers self.old (node_puts change) (line_puts change) }
-        ensures map_after { IsChangeMade self.old self.new change result }
+        ensures made { IsChangeMade self.old self.new change result }
         ensures nodes { node_puts change + node_puts result ≡ node_numbers (change_edit change) }
         ensures lines { line_puts change + line_puts result ≡ line_numbers (change_edit change) }
     {

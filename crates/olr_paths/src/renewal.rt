@@ -609,7 +609,7 @@ impl Listing {
     }
 
     /// The same for the list under changes, which takes the list's place; where there are none, the list is renewed as it
-    /// stands. TellsIfOther are those whose answer is another than the one that their name had. After want of memory list and counts
+    /// stands. Told are those whose answer is another than the one that their name had. After want of memory list and counts
     /// are as before.
     pub fn renew_over<M: MapRead>(
         &mut self,
