@@ -5,8 +5,7 @@ use Rattle.std.specs.List.{slice_index, slice_range}
 use Rattle.std.specs.Prelude.{IsTrue}
 use Rattle.olr_spec.specs.Map.{Map, IsMap, Line, is_good, has_line, has_node, line_at, place_at, start, end}
 use Rattle.olr_spec.specs.Walks.{dm_of}
-use Rattle.olr_spec.specs.Extension.{limit}
-use Rattle.olr_spec.specs.Points.{node_at, stretch, Candidate}
+use Rattle.olr_spec.specs.Points.{node_at, stretch}
 use Rattle.olr_spec.specs.Bearings.{Leg, bearing_out}
 use Rattle.olr_spec.specs.Reference.{Attrs, attrs, leg, legs, leg_at, no_leg, position, dm_along, dm_between}
 use Rattle.olr_spec.proofs.ListLemmas.{Each}

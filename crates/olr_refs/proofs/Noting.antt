@@ -31,7 +31,7 @@ use Rattle.std.proofs.lemmas.List.{append-nil}
 -- ---- what a search settles
 
 -- what is near to where a look begins is within its reach
-near_reach : (M : Map) (s v far : ℕ) → far ≤ limit → IsNear M Along ((s, 0) ∷ []) far v → Reach M s v
+pub near_reach : (M : Map) (s v far : ℕ) → far ≤ limit → IsNear M Along ((s, 0) ∷ []) far v → Reach M s v
 near_reach M s v far h n =
     let l = n.1.leads in
     elim (Contains-cases (s, 0) (l.source, l.begun) [] l.listed) [

@@ -1,12 +1,13 @@
 -- A footprint, widened by what is within reach of where each look begins.
 use Rattle.std.proofs.Common.{◌≡◌, ◌<◌, ◌≤◌, ◌+◌, ◌*◌, ℕ, suc, List, [], ◌∷◌, ◌++◌, length, take, get_or, All, Contains, None, Some, Option, refl, sym, ap, ◌∙◌, subst, arith, inl, inr, ◌⊎◌}
-use Rattle.std.specs.Prelude.{IsSome, IsTrue, ◌↔◌, MatchOption}
+use Rattle.std.specs.Prelude.{IsTrue, ◌↔◌, MatchOption}
 use Rattle.std.specs.List.{slice_index}
 use Rattle.std.proofs.Math.Nat.{mul-le-mul_left}
 use Rattle.std.proofs.lemmas.List.{take_more}
 use Rattle.std.proofs.lemmas.List.Elements.{Contains-get_or, Contains-append_left, Contains-append_right, Contains-append_cases}
 use Rattle.std.proofs.Math.Seq.{take-length}
 use Rattle.olr_spec.specs.Map.{Map, IsMap, has_node}
+use Rattle.olr_spec.specs.Walks.{dm_of}
 use Rattle.olr_spec.specs.Extension.{Path, is_path, extended, limit}
 use Rattle.olr_spec.specs.Encoding.{Refusal, path_fault}
 use Rattle.olr_spec.specs.Footprint.{Reach, Foot}
@@ -15,10 +16,14 @@ use Rattle.olr_spec.proofs.JoinedLemmas.{extended_joined}
 use Rattle.olr_spec.proofs.LookLists.{Contains-cases, Contains-here, look_from}
 use Rattle.olr_spec.proofs.TestedLemmas.{foot_looked}
 use Rattle.olr_route.specs.declared.work.Work.{Work}
-use Rattle.olr_route.specs.Labels.{Labels, AreLabels, label_at}
-use Rattle.olr_route.specs.Counts.{counted, after_search}
+use Rattle.olr_route.specs.Counts.{counted}
+use Rattle.olr_route.specs.Searches.{IsSearch, IsNear, limit_of}
+use Rattle.olr_route.specs.declared.distances.Direction.TheVariants.{Along}
+use Rattle.olr_route.specs.declared.distances.Search.{Search}
+use Rattle.olr_route.proofs.SearchLemmas.{near_leads}
 use Rattle.olr_refs.specs.Choice.{Searches, raised}
 use Rattle.olr_refs.proofs.Joined.{known_at}
+use Rattle.olr_refs.proofs.Noting.{near_reach}
 
 abbrev pub Within : Map → List Look → ℕ → Type 0
 Within M looks v = (l : Look) × Contains looks l × Reach M l.from v
@@ -26,9 +31,6 @@ Within M looks v = (l : Look) × Contains looks l × Reach M l.from v
 -- the footprint has the own nodes, and those within reach of where these looks begin
 abbrev Holds : Map → List ℕ → List Look → List ℕ → Type 0
 Holds M own looks foot = (v : ℕ) → Contains foot v ↔ (Contains own v ⊎ Within M looks v)
-
-holds_none : (M : Map) (own : List ℕ) → Holds M own [] own
-holds_none M own v = ((λ c. inl c), (λ e. elim e [ inl c ↦ c | inr w ↦ let never : w.1.0 < 0 = w.1.1 in absurd (omega arith) ]))
 
 holds_more : (M : Map) (own : List ℕ) (looks : List Look) (l : Look) (old new : List ℕ) → Holds M own looks old → ((v : ℕ) → Contains new v ↔ (Contains old v ⊎ Reach M l.from v))
     → Holds M own (looks ++ l ∷ []) new
@@ -53,21 +55,29 @@ holds_more M own looks l old new h f v = (forth, back)
 
 -- ---- one search more
 
-reach_labelled : (M : Map) (s : ℕ) (x : Labels) → AreLabels M x → x.source ≡ s → x.limit ≡ limit → (v : ℕ) → IsSome (label_at x v) ↔ Reach M s v
-reach_labelled M s x a e l v =
-    let there : IsSome (label_at x v) ↔ Reaches M s x.limit v = subst (λ (n : ℕ). IsSome (label_at x v) ↔ Reaches M n x.limit v) e (a.reached v) in
-    subst (λ (n : ℕ). IsSome (label_at x v) ↔ Reaches M s n v) l there
+-- what a search that is settled to the limit tells of its nodes
+pub near_reached : (M : Map) (place : ℕ → ℕ) (s : ℕ) (q : Search) → IsSearch M place Along ((s, 0) ∷ []) q → IsTrue (has_node M s) → limit_of q ≡ limit → (v : ℕ) → IsNear M Along ((s, 0) ∷ []) (limit_of q) v ↔ Reach M s v
+near_reached M place s q h there far v = (
+  λ n. near_reach M s v (limit_of q) (omega arith) n,
+  λ r. let short = r.2 in near_leads M place Along ((s, 0) ∷ []) q h v (dm_of M r.0) (omega arith) record { source = s; begun = 0; lines = r.0; listed = Contains-here (s, 0) []; there = there; way = r.1; long = omega arith },
+)
 
-searches_more : (a b c : Work) (n s t labels : ℕ) → Searches a b n s → c ≡ after_search b labels → s ≤ t → labels ≤ t → Searches a c (n + 1) t
-searches_more a b c n s t labels f e h g =
+-- one search is counted
+pub one_searched : (a b : Work) (labels t : ℕ) → b.encodings ≡ a.encodings → b.searches ≡ counted (a.searches + 1) → b.settled ≡ counted (a.settled + labels) → labels ≤ t → Searches a b 1 t
+one_searched a b labels t encodings searches settled h = record { encodings = encodings; searches = searches; rises = omega arith; settled = omega arith }
+
+searches_more : (a b c : Work) (n s t : ℕ) → Searches a b n s → Searches b c 1 t → s ≤ t → Searches a c (n + 1) t
+searches_more a b c n s t f g h =
     let one : suc n ≡ n + 1 = omega arith in
     let more : n * s ≤ n * t = mul-le-mul_left n h in
-    let rises = f.rises in
-    let settled = f.settled in
+    let low = f.rises in
+    let high = g.rises in
+    let before = f.settled in
+    let after = g.settled in
     let parts : (n + 1) * t ≡ n * t + t = omega arith in
-    subst (λ (w : Work). Searches a w (n + 1) t) (sym e) record {
-      encodings = f.encodings;
-      searches = ap (λ (k : ℕ). counted (k + 1)) f.searches ∙ ap (raised a.searches) one;
+    record {
+      encodings = g.encodings ∙ f.encodings;
+      searches = g.searches ∙ ap (λ (k : ℕ). counted (k + 1)) f.searches ∙ ap (raised a.searches) one;
       rises = omega arith;
       settled = omega arith;
     }
@@ -77,21 +87,13 @@ pub record Widened (M : Map) (own : List ℕ) (looks : List Look) (n : ℕ) (foo
   pub holds : Holds M own (take n looks) foot
   pub counts : Searches before work n (length foot)
 
-pub widened_none : (M : Map) (own : List ℕ) (looks : List Look) (w : Work) → Widened M own looks 0 own w w
-widened_none M own looks w = record { holds = holds_none M own; counts = record { encodings = refl; searches = refl; rises = omega arith; settled = omega arith } }
-
-pub widened_more : (M : Map) (own : List ℕ) (looks : List Look) (n : ℕ) (l : Look) (old new : List ℕ) (before work after : Work) (x : Labels) (labels : ℕ) → Widened M own looks n old before work
-    → n < length looks → l ≡ get_or looks n l → AreLabels M x → x.source ≡ l.from → x.limit ≡ limit → ((v : ℕ) → Contains new v ↔ (Contains old v ⊎ IsSome (label_at x v)))
-    → after ≡ after_search work labels → labels ≤ length new → length old ≤ length new → Widened M own looks (n + 1) new before after
-widened_more M own looks n l old new before work after x labels w h is a s far f e few grows =
+pub widened_more : (M : Map) (own : List ℕ) (looks : List Look) (n : ℕ) (l : Look) (old new : List ℕ) (before work after : Work) → Widened M own looks n old before work → n < length looks → l ≡ get_or looks n l
+    → ((v : ℕ) → Contains new v ↔ (Contains old v ⊎ Reach M l.from v)) → Searches work after 1 (length new) → length old ≤ length new → Widened M own looks (n + 1) new before after
+widened_more M own looks n l old new before work after w h is f one grows =
     let next : take (n + 1) looks ≡ take n looks ++ l ∷ [] = take_more looks n l h ∙ ap (λ (k : Look). take n looks ++ k ∷ []) (sym is) in
     record {
-      holds = subst (λ (ks : List Look). Holds M own ks new) (sym next) (holds_more M own (take n looks) l old new w.holds (λ v.
-          let reach = reach_labelled M l.from x a s far v in (
-            (λ c. elim ((f v).0 c) [ inl o ↦ inl o | inr r ↦ inr (reach.0 r) ]),
-            (λ c. elim c [ inl o ↦ (f v).1 (inl o) | inr r ↦ (f v).1 (inr (reach.1 r)) ]),
-          )));
-      counts = searches_more before work after n (length old) (length new) labels w.counts e grows few;
+      holds = subst (λ (ks : List Look). Holds M own ks new) (sym next) (holds_more M own (take n looks) l old new w.holds f);
+      counts = searches_more before work after n (length old) (length new) w.counts one grows;
     }
 
 take_all : {X : Type 0} (xs : List X) (n : ℕ) → n ≡ length xs → take n xs ≡ xs

@@ -84,8 +84,8 @@ fn reach_of<M: MapRead>(
 /// The location reference points of an extended path, by position: the first position, the one that follows it as a
 /// point, and so on to the end, or the position that none can follow (White Paper, intermediate points and the 15,000 m
 /// rule; which one follows is the profile's choice). Each point that two lines or more follow is searched from once, no
-/// farther than it takes to find the next one. After a refusal the work may hold more than before, and the search has to
-/// be begun anew.
+/// farther than it takes to find the next one. After want of memory the work may hold more than before, and the search
+/// has to be begun anew.
 pub fn points<M: MapRead>(
     alloc: Global,
     course: &Course<M>,

@@ -37,8 +37,8 @@ pub struct Encoding {
 
 /// The encoding of a path on a map, by searches that settle no more than it takes to find the points.
 ///
-/// One encoding is counted, and one search for each look. After a refusal the work may hold more than before, and the
-/// search has to be begun anew.
+/// One encoding is counted, and one search for each look. After want of memory the work may hold more than before, and
+/// the search has to be begun anew.
 pub fn encode<M: MapRead>(
     alloc: Global,
     map: &M,

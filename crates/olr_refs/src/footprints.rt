@@ -13,14 +13,38 @@ use crate::answer::Answer;
 use crate::encoding::{Encoding, encode};
 use crate::look::Look;
 use crate::path::Path;
-use olr_map::{Footprint, MapRead};
-use olr_route::{GREATEST_LIMIT, Search, Work, search};
+use olr_map::{Footprint, MapRead, NodeId};
+use olr_route::{Direction, GREATEST_LIMIT, Search, Work};
 use std::alloc::{AllocError, Global};
+
+/// Puts the nodes within 150,000 dm of a node into a footprint, and counts the search for them, which is begun anew.
+fn note_near<M: MapRead>(
+    alloc: Global,
+    map: &M,
+    from: NodeId,
+    search: &mut Search,
+    footprint: &mut Footprint,
+    work: &mut Work,
+) -> Result<(), AllocError>
+    requires { IsTrue (has_node (M.map map.now) from) }
+    ensures nodes { OnOk result ((v : ℕ) → Contains footprint.new v
+        ↔ (Contains footprint.old v ⊎ Reach (M.map map.now) from v)) }
+    ensures work { OnOk result (Searches work.old work.new 1 (length footprint.new)) }
+    ensures grows { OnOk result (length footprint.old ≤ length footprint.new) }
+{
+    search.begin(map, Direction::Along, &[(from, 0)])?;
+    search.settle_to(map, GREATEST_LIMIT)?;
+    let nodes = search.nodes(alloc)?;
+    footprint.note_all(&nodes)?;
+    work.searches = work.searches.saturating_add(1);
+    work.settled = work.settled.saturating_add(nodes.len() as u64);
+    Ok(())
+}
 
 /// The footprint of a path, of its own nodes and its looks on the same map: the own nodes, and those within 150,000 dm
 /// of where a look begins.
 ///
-/// One search for each look is counted. After a refusal the work may hold more than before.
+/// One search for each look is counted. After want of memory the work may hold more than before.
 pub fn footprint<M: MapRead>(
     alloc: Global,
     map: &M,
@@ -37,8 +61,9 @@ pub fn footprint<M: MapRead>(
     ensures work { IfOk result (λ f. Searches work.old work.new (length looks.now) (length f)) }
 {
     let mut footprint = own;
+    let mut search = Search::new(alloc);
     for look in looks {
-        search(alloc, map, look.from, GREATEST_LIMIT, &mut footprint, work)?;
+        note_near(alloc, map, look.from, &mut search, &mut footprint, work)?;
     }
     Ok(footprint)
 }
@@ -46,8 +71,8 @@ pub fn footprint<M: MapRead>(
 /// The answer of a path on a map, and its footprint: the nodes on which the answer rests. On any sound map that has the
 /// same round these nodes, and the same lines of the path, the answer is the same.
 ///
-/// One encoding is counted, and each search that it takes to find the footprint. After a refusal the work may hold more
-/// than before.
+/// One encoding is counted, and each search that it takes to find the footprint. After want of memory the work may hold
+/// more than before.
 pub fn refer<M: MapRead>(
     alloc: Global,
     map: &M,

@@ -1,13 +1,17 @@
-use Rattle.std.proofs.Common.{◌∙◌, ap, arith}
+use Rattle.std.proofs.Common.{◌⊎◌, ℕ, Contains, subst, arith}
+use Rattle.std.specs.Prelude.{◌↔◌}
+use Rattle.olr_spec.specs.Footprint.{Reach}
 use Rattle.olr_spec.specs.Looks.{Look}
 use Rattle.olr_refs.proofs.Widening.{widened_more, widened_all, widened_foot}
 use Rattle.olr_refs.proofs.footprints.footprint.Goals as goal
 
 pub loop-look-preserved : goal.loop-look-preserved
 loop-look-preserved g c =
-    widened_more (g.M.MapRead.map c.args.map.now) c.args.own c.args.looks.now c.loop-look.look-index c.look-item.result c.loop-look.footprint c.search.new.footprint c.args.work.now c.loop-look.work c.search.new.work _ _
-    c.loop-look.invariant c.loop-look-test.true c.look-item.is c.in_ok-search.ensures.labels (c.in_ok-search.ensures.from.0 ∙ ap (λ (l : Look). l.from) c.look.view_is) c.in_ok-search.ensures.from.1
-    c.in_ok-search.ensures.footprint c.in_ok-search.ensures.work c.in_ok-search.ensures.few c.in_ok-search.ensures.grows
+    let M = g.M.MapRead.map c.args.map.now in
+    widened_more M c.args.own c.args.looks.now c.loop-look.look-index c.look-item.result c.loop-look.footprint c.note_near.new.footprint c.args.work.now c.loop-look.work c.note_near.new.work
+    c.loop-look.invariant c.loop-look-test.true c.look-item.is
+    (subst (λ (l : Look). (v : ℕ) → Contains c.note_near.new.footprint v ↔ (Contains c.loop-look.footprint v ⊎ Reach M l.from v)) c.look.view_is c.in_ok-note_near.ensures.nodes)
+    c.in_ok-note_near.ensures.work c.in_ok-note_near.ensures.grows
 
 pub returns-clause-nodes : goal.returns-clause-nodes
 returns-clause-nodes g c =
