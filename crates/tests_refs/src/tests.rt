@@ -8,8 +8,11 @@ use std::test::Fail;
 /// A line: its number, the nodes where it begins and ends, and its length in decimetres.
 type Road = (u32, u32, u32, u32);
 
-/// What `extend` answered: the lines' numbers, the two offsets, and the nodes of the footprint.
-type Answer = (Vec<u32>, u64, u64, Vec<u32>);
+/// A path: the numbers of its lines, and its offsets in decimetres.
+type Given<'a> = (&'a [u32], u32, u32);
+
+/// What `extend` answers: the lines' numbers, the two offsets, and the nodes of the footprint.
+type Expected<'a> = (&'a [u32], (u64, u64), &'a [u32]);
 
 fn node(rt: &impl Abort, number: u32) -> NodeId {
     NodeId::new(number).expect(rt, "a number from 1")
@@ -58,14 +61,15 @@ fn list(rt: &impl Abort, alloc: Global, numbers: &[u32]) -> Result<Vec<LineId>, 
     Ok(lines)
 }
 
-fn extended(
+/// Asserts what `extend` answers for a path on a map.
+fn expect_extended(
     rt: &impl Abort,
     alloc: Global,
     map: &RoadMap,
-    numbers: &[u32],
-    pos: u32,
-    neg: u32,
-) -> Result<Answer, Fail> {
+    given: Given<'_>,
+    expected: Expected<'_>,
+) -> Result<(), Fail> {
+    let (numbers, pos, neg) = given;
     let path = Path::new(alloc, list(rt, alloc, numbers)?, pos, neg)?;
     assert!(rt; unknown_line(map, path.lines()).is_none());
     let mut footprint = Footprint::new(alloc);
@@ -78,7 +82,10 @@ fn extended(
     for node in footprint.as_slice() {
         nodes.push(node.number())?;
     }
-    Ok((lines, answer.pos, answer.neg, nodes))
+    assert_eq!(rt; lines.as_slice(), expected.0);
+    assert_eq!(rt; (answer.pos, answer.neg), expected.1);
+    assert_eq!(rt; nodes.as_slice(), expected.2);
+    Ok(())
 }
 
 #[test]
@@ -152,16 +159,16 @@ fn passing_node(rt: HostRuntime) -> Result<(), Fail> {
         (21, 3, 2, 1000),
     ];
     let mut map = map_of(&rt, alloc, 4, &roads);
-    let (lines, pos, neg, nodes) = extended(&rt, alloc, &map, &[20], 0, 0)?;
-    assert_eq!(rt; lines.as_slice(), [10, 20].as_slice());
-    assert_eq!(rt; (pos, neg), (1000, 0));
-    assert_eq!(rt; nodes.as_slice(), [1, 2, 3].as_slice());
+    expect_extended(
+        &rt,
+        alloc,
+        &map,
+        (&[20], 0, 0),
+        (&[10, 20], (1000, 0), &[1, 2, 3]),
+    )?;
     // a side road makes node 2 valid
     add(&rt, alloc, &mut map, (40, 2, 4, 1000));
-    let (lines, pos, neg, nodes) = extended(&rt, alloc, &map, &[20], 5, 6)?;
-    assert_eq!(rt; lines.as_slice(), [20].as_slice());
-    assert_eq!(rt; (pos, neg), (5, 6));
-    assert_eq!(rt; nodes.as_slice(), [2, 3].as_slice());
+    expect_extended(&rt, alloc, &map, (&[20], 5, 6), (&[20], (5, 6), &[2, 3]))?;
     Ok(())
 }
 
@@ -175,10 +182,13 @@ fn ring_of_passing_nodes(rt: HostRuntime) -> Result<(), Fail> {
         &[(10, 1, 2, 1000), (20, 2, 3, 1000), (30, 3, 1, 1000)],
     );
     for numbers in [[10].as_slice(), [10, 20].as_slice()] {
-        let (lines, pos, neg, nodes) = extended(&rt, alloc, &map, numbers, 0, 0)?;
-        assert_eq!(rt; lines.as_slice(), numbers);
-        assert_eq!(rt; (pos, neg), (0, 0));
-        assert_eq!(rt; nodes.as_slice(), [1, 2, 3].as_slice());
+        expect_extended(
+            &rt,
+            alloc,
+            &map,
+            (numbers, 0, 0),
+            (numbers, (0, 0), &[1, 2, 3]),
+        )?;
     }
     Ok(())
 }
@@ -187,16 +197,16 @@ fn ring_of_passing_nodes(rt: HostRuntime) -> Result<(), Fail> {
 fn chain_at_its_limit(rt: HostRuntime) -> Result<(), Fail> {
     let alloc = rt.alloc();
     let map = map_of(&rt, alloc, 3, &[(10, 1, 2, 150_000), (20, 2, 3, 1000)]);
-    let (lines, pos, neg, nodes) = extended(&rt, alloc, &map, &[20], 0, 0)?;
-    assert_eq!(rt; lines.as_slice(), [10, 20].as_slice());
-    assert_eq!(rt; (pos, neg), (150_000, 0));
-    assert_eq!(rt; nodes.as_slice(), [1, 2, 3].as_slice());
+    expect_extended(
+        &rt,
+        alloc,
+        &map,
+        (&[20], 0, 0),
+        (&[10, 20], (150_000, 0), &[1, 2, 3]),
+    )?;
     // one decimetre more: nothing is tried, and node 1, where line 10 begins, is not noted
     let map = map_of(&rt, alloc, 3, &[(10, 1, 2, 150_001), (20, 2, 3, 1000)]);
-    let (lines, pos, neg, nodes) = extended(&rt, alloc, &map, &[20], 0, 0)?;
-    assert_eq!(rt; lines.as_slice(), [20].as_slice());
-    assert_eq!(rt; (pos, neg), (0, 0));
-    assert_eq!(rt; nodes.as_slice(), [2, 3].as_slice());
+    expect_extended(&rt, alloc, &map, (&[20], 0, 0), (&[20], (0, 0), &[2, 3]))?;
     Ok(())
 }
 
@@ -206,10 +216,7 @@ fn chain_that_leads_to_a_passing_node(rt: HostRuntime) -> Result<(), Fail> {
     let roads = [(10, 1, 2, 149_001), (20, 2, 3, 1000), (30, 3, 4, 1000)];
     let map = map_of(&rt, alloc, 4, &roads);
     // line 20 is tried at the start, and with line 10 the chain would pass its limit
-    let (lines, pos, neg, nodes) = extended(&rt, alloc, &map, &[30], 0, 0)?;
-    assert_eq!(rt; lines.as_slice(), [30].as_slice());
-    assert_eq!(rt; (pos, neg), (0, 0));
-    assert_eq!(rt; nodes.as_slice(), [2, 3, 4].as_slice());
+    expect_extended(&rt, alloc, &map, (&[30], 0, 0), (&[30], (0, 0), &[2, 3, 4]))?;
     Ok(())
 }
 
@@ -222,10 +229,13 @@ fn chain_at_the_end(rt: HostRuntime) -> Result<(), Fail> {
         4,
         &[(10, 1, 2, 1000), (20, 2, 3, 1000), (30, 3, 4, 149_000)],
     );
-    let (lines, pos, neg, nodes) = extended(&rt, alloc, &map, &[10], 3, u32::MAX)?;
-    assert_eq!(rt; lines.as_slice(), [10, 20, 30].as_slice());
-    assert_eq!(rt; (pos, neg), (3, 4_294_967_295 + 150_000));
-    assert_eq!(rt; nodes.as_slice(), [1, 2, 3, 4].as_slice());
+    expect_extended(
+        &rt,
+        alloc,
+        &map,
+        (&[10], 3, u32::MAX),
+        (&[10, 20, 30], (3, 4_294_967_295 + 150_000), &[1, 2, 3, 4]),
+    )?;
     Ok(())
 }
 
@@ -239,9 +249,12 @@ fn turn_in_the_path(rt: HostRuntime) -> Result<(), Fail> {
         (21, 3, 2, 1000),
     ];
     let map = map_of(&rt, alloc, 3, &roads);
-    let (lines, pos, neg, nodes) = extended(&rt, alloc, &map, &[20, 21], 0, 0)?;
-    assert_eq!(rt; lines.as_slice(), [10, 20, 21, 11].as_slice());
-    assert_eq!(rt; (pos, neg), (1000, 1000));
-    assert_eq!(rt; nodes.as_slice(), [1, 2, 3].as_slice());
+    expect_extended(
+        &rt,
+        alloc,
+        &map,
+        (&[20, 21], 0, 0),
+        (&[10, 20, 21, 11], (1000, 1000), &[1, 2, 3]),
+    )?;
     Ok(())
 }
