@@ -1,9 +1,7 @@
 pub mod State
 pub mod Reply
 pub mod Counts
-pub mod Kept
 pub mod History
 pub mod Laws
 pub mod Rows
 pub mod Words
-pub mod Registered

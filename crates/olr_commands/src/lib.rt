@@ -1,4 +1,4 @@
-//! Commands to a register of named paths, their replies and refusals, and what they mean: states and their steps, replies,
+//! Commands to a register of named paths, their replies and faults, and what they mean: states and their steps, replies,
 //! how often a path is encoded, and the claims on whole runs of commands.
 #![tactic(auto)]
 

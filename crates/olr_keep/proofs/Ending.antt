@@ -3,7 +3,7 @@ use Rattle.std.proofs.Common.{◌≡◌, ℕ, List, [], Option, Some, None, Resu
 use Rattle.std.specs.Borrow.{Bor}
 use Rattle.std.specs.Fn.{Once}
 use Rattle.clap.specs.Faults.{fault_of}
-use Rattle.olr_commands.specs.Registered.{Registered}
+use Rattle.olr_register.specs.Registered.{Registered}
 use Rattle.olr_keep.specs.Options.{Options, keep_app, options}
 use Rattle.olr_keep.specs.Ends.{Opens, IsFile, OpensFile, Ends, Not_opened, Ran, Cut_off}
 use Rattle.olr_keep.specs.Output.{Claims}

@@ -6,13 +6,13 @@ use Rattle.std.proofs.lemmas.List.Concat.{flat_map-append}
 use Rattle.std.proofs.lemmas.List.Folds.{list_any-append}
 use Rattle.std.proofs.KnownBytes.{Appends-nil, Appends-trans}
 use Rattle.csv.proofs.OnLiterals.{csv_on_literals}
-use Rattle.olr_commands.specs.Kept.{Stands}
-use Rattle.olr_commands.specs.Registered.{Registered}
 use Rattle.olr_commands.specs.Reply.{Outcome}
 use Rattle.olr_commands.specs.State.{IsContent, State}
 use Rattle.olr_commands.proofs.HistoryLemmas.{run_join, run_longer}
 use Rattle.olr_records.specs.Records.{Field}
 use Rattle.olr_records.specs.ReplyText.{outcome_text}
+use Rattle.olr_register.specs.Kept.{Stands}
+use Rattle.olr_register.specs.Registered.{Registered}
 use Rattle.olr_keep.specs.Output as output
 use Rattle.olr_keep.specs.Output.{SoundOutcome, SoundOutcomes, Claims, StopsAtRefusal, any_refused, AreAll, texts, Ran, CutOff, Nothing, In_last, Faulted, greater}
 use Rattle.olr_keep.specs.Runs.{Known, Records, known_records, known_both, status_of, RanOn, FaultedOn}

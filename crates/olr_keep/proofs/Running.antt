@@ -12,13 +12,13 @@ use Rattle.csv.specs.declared.reader.Reader.{Reader}
 use Rattle.csv.proofs.ReadFacts.{rows-more}
 use Rattle.csv.specs.declared.parser.State.{State as CsvState}
 use Rattle.csv.specs.declared.parser.State.TheVariants as st
-use Rattle.olr_commands.specs.Kept.{Stands}
-use Rattle.olr_commands.specs.Registered.{Registered}
 use Rattle.olr_commands.specs.Reply.{Outcome}
 use Rattle.olr_commands.specs.State.{IsContent, State}
 use Rattle.olr_commands.proofs.HistoryLemmas.{run_more, run_longer}
 use Rattle.olr_records.specs.Records.{Field}
 use Rattle.olr_records.specs.ReplyText.{outcome_text}
+use Rattle.olr_register.specs.Kept.{Stands}
+use Rattle.olr_register.specs.Registered.{Registered}
 use Rattle.olr_keep.specs.Output.{SoundOutcome, SoundOutcomes, Claims, StopsAtRefusal, any_refused, AreAll, texts, run_status, Ran, CutOff, Nothing, In_last, Faulted, records_of, most_records}
 use Rattle.olr_keep.specs.Output as output
 use Rattle.olr_keep.specs.Runs.{Known, known_records, IsPlain, status_of, TellsRecord}

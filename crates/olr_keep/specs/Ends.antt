@@ -11,7 +11,7 @@ use Rattle.clap.specs.Faults.{fault_of}
 use Rattle.clap.specs.Kinds.{Kinds, IsAmong}
 use Rattle.clap.specs.declared.error.kind.ErrorKind.{ErrorKind}
 use Rattle.clap.specs.declared.error.kind.ErrorKind.TheVariants as kind
-use Rattle.olr_commands.specs.Registered.{Registered}
+use Rattle.olr_register.specs.Registered.{Registered}
 use Rattle.olr_keep.specs.Options.{keep_app, options}
 use Rattle.olr_keep.specs.Output.{Claims}
 use Rattle.olr_keep.specs.Runs.{Known, known_records, known_both, RanOn, FaultedOn, HasTooMany, exit_code}

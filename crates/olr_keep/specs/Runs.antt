@@ -13,14 +13,14 @@ use Rattle.std.specs.Borrow.{Bor}
 use Rattle.csv.specs.Reading.{ReadRecord, Ready, default_config, reader_config, reader_trim}
 use Rattle.csv.specs.declared.reader.Reader.{Reader}
 use Rattle.csv.specs.declared.reader.Trim.TheVariants as trim
-use Rattle.olr_commands.specs.Kept.{Stands}
-use Rattle.olr_commands.specs.Registered.{Registered}
 use Rattle.olr_commands.specs.Reply.{Outcome}
 use Rattle.olr_commands.specs.State.{IsContent, State, Fault}
 use Rattle.olr_commands.specs.Words.{reply_of}
 use Rattle.olr_commands.specs.declared.reply.Reply.{Reply}
 use Rattle.olr_records.specs.Records.{Field}
 use Rattle.olr_records.specs.ReplyText.{outcome_text, fault_text}
+use Rattle.olr_register.specs.Kept.{Stands}
+use Rattle.olr_register.specs.Registered.{Registered}
 use Rattle.olr_keep.specs.Output as output
 use Rattle.olr_keep.specs.Output.{SoundOutcome, Ran, Faulted, records_of, most_records}
 use Rattle.olr_keep.specs.declared.ends.RunFault.{RunFault}

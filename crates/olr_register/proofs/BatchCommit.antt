@@ -8,8 +8,6 @@ use Rattle.olr_commands.specs.State.{Named, Content, Memory, Count_differs, when
 use Rattle.olr_commands.specs.Reply as replies
 use Rattle.olr_commands.specs.Reply.{IsRefusal, Told, Lacks, IsOutcome, may_want}
 use Rattle.olr_commands.specs.Counts.{Concerns, CountIs, Raises}
-use Rattle.olr_commands.specs.Kept.{IsBatchOf, Stands}
-use Rattle.olr_commands.specs.Registered.{Registered}
 use Rattle.olr_commands.specs.Words.{entry_of, reply_of}
 use Rattle.olr_commands.specs.declared.reply.Entry.{Entry}
 use Rattle.olr_commands.specs.declared.reply.Reply.{Reply}
@@ -18,18 +16,21 @@ use Rattle.olr_paths.specs.Items.{Item, AreEncodings, all_named}
 use Rattle.olr_paths.specs.Laying.{overlaid}
 use Rattle.olr_paths.specs.Changes.{IsBefore, IsConcerned, AreRemade, Reported}
 use Rattle.olr_paths.specs.Touching.{nodes_of, lines_of, changed_of}
+use Rattle.olr_register.specs.Kept.{IsBatchOf, Stands}
+use Rattle.olr_register.specs.Registered.{Registered}
 use Rattle.olr_register.specs.Holding.{batch_of, IsHeld, IsRegister}
 use Rattle.olr_register.specs.Answering.{Answered}
 use Rattle.olr_register.specs.declared.batch.Batch.{Batch}
-use Rattle.olr_register.proofs.Tallies.{Tally}
+use Rattle.olr_register.proofs.Tallies.{Tally, of_parts}
 use Rattle.olr_register.proofs.Noted.{is_before}
 use Rattle.olr_register.proofs.Renewed.{remade_made}
-use Rattle.olr_register.proofs.Replies.{reported_differences}
+use Rattle.olr_register.proofs.Replies.{changes_told}
 use Rattle.olr_register.proofs.Counting.{counted_changes}
 use Rattle.olr_register.proofs.HoldLists.{named_twice}
 use Rattle.olr_register.proofs.HoldChanges.{content_from, content_on, batch_on}
-use Rattle.olr_register.proofs.BatchStates.{state, registered, in_batch, refused}
-use Rattle.olr_register.proofs.BatchEnds.{of_parts, at}
+use Rattle.olr_register.proofs.Outcomes.{answered_refused}
+use Rattle.olr_register.proofs.BatchStates.{state, register_of, in_batch}
+use Rattle.olr_register.proofs.BatchEnds.{answered_at}
 
 -- ---- refused
 
@@ -37,8 +38,8 @@ pub count_refused : (roads : RoadMap) (is : List Item) (o : Option Batch) (b : B
     → Answered (of_parts roads is o w) (Commit n) (Err rust.CountDiffers) (of_parts roads is (Some b) w)
 count_refused roads is o b w n e other =
     let s = of_parts roads is (Some b) w in
-    at roads is o (Some b) w (Commit n) (Err rust.CountDiffers) s e
-    (refused s s (Commit n) rust.CountDiffers refl (in_batch (content_on (map_before roads b.log) is) (batch_of roads is b) (λ a. IsRefusal a (Commit n) Count_differs)
+    answered_at roads is o (Some b) w (Commit n) (Err rust.CountDiffers) s e
+    (answered_refused s s (Commit n) rust.CountDiffers refl (in_batch (content_on (map_before roads b.log) is) (batch_of roads is b) (λ a. IsRefusal a (Commit n) Count_differs)
     (λ xs i. Told (ap (λ t. when (not t) Count_differs (Ok (state (after (content_on (map_before roads b.log) is) xs) None))) (ne_eqb (length xs) n (λ h. other (i.count ∙ h)))))))
 
 -- the step where the count is right
@@ -50,8 +51,8 @@ pub commit_lacks : (roads : RoadMap) (is ks : List Item) (o : Option Batch) (b :
 commit_lacks roads is ks o b w v n e count same same_work =
     let c : Content = content_on (map_before roads b.log) is in
     let new : Registered = of_parts roads ks (Some b) v in
-    at roads is o (Some b) w (Commit n) (Err rust.Memory) new e
-    (refused (of_parts roads is (Some b) w) new (Commit n) rust.Memory (λ k. of_parts roads (same k) (Some b) (same_work k))
+    answered_at roads is o (Some b) w (Commit n) (Err rust.Memory) new e
+    (answered_refused (of_parts roads is (Some b) w) new (Commit n) rust.Memory (λ k. of_parts roads (same k) (Some b) (same_work k))
     (in_batch c (batch_of roads is b) (λ a. IsRefusal a (Commit n) Memory) (λ xs i. Lacks refl (ap may_want (right_count c xs n (sym i.count ∙ count))))))
 
 -- the list is as it was
@@ -72,9 +73,9 @@ commit_before roads is o b e reg =
     is_before (map_before roads b.log) (map_of roads) (nodes_of b.touched) (lines_of b.touched) (changed_of b.touched) (overlaid is b.overlay) was.held.noted was.content.map was.held.sound.paths was.held.made
 
 -- the content that a commit leads to
-committed : (c : Content) (roads new : RoadMap) (b : Batch) (is js : List Item) (xs : List Change) → IsBatchOf c (batch_of roads is b) xs → map_of new ≡ map_of roads
+content_after : (c : Content) (roads new : RoadMap) (b : Batch) (is js : List Item) (xs : List Change) → IsBatchOf c (batch_of roads is b) xs → map_of new ≡ map_of roads
     → all_named js ≡ all_named (overlaid is b.overlay) → after c xs ≡ content_on (map_of new) js
-committed c roads new b is js xs i same names =
+content_after c roads new b is js xs i same names =
     sym i.content ∙ ap (content_from (map_of roads)) (named_twice (overlaid is b.overlay) ∙ sym names)
     ∙ ap (λ (M : Map). content_on M js) (sym same)
 
@@ -94,11 +95,11 @@ commit_held roads new is js o p b e g reg same remade names =
     subst (IsRegister new js) (sym g) (record { content = sound_after roads new is js b was same names; made = made_after roads new is js b same remade; held = tt })
 
 -- how many a commit counts
-raised : (roads new : RoadMap) (is js : List Item) (b : Batch) (n many : ℕ) → all_named js ≡ all_named (overlaid is b.overlay)
+commit_raises : (roads new : RoadMap) (is js : List Item) (b : Batch) (n many : ℕ) → all_named js ≡ all_named (overlaid is b.overlay)
     → CountIs (IsConcerned (map_before roads b.log) (nodes_of b.touched) (lines_of b.touched)) (overlaid is b.overlay) many
     → (s t : State) → Stands (record { content = content_on (map_before roads b.log) is; batch = Some (batch_of roads is b) }) s → Stands (record { content = content_on (map_of new) js; batch = None }) t
     → Raises s (Commit n) t many
-raised roads new is js b n many names count s t h g =
+commit_raises roads new is js b n many names count s t h g =
     let c : Content = content_on (map_before roads b.log) is in
     in_batch c (batch_of roads is b) (λ a. CountIs (Concerns a.content (brought a (Commit n))) t.content.paths many)
     (λ xs i.
@@ -110,8 +111,8 @@ module _ (roads new : RoadMap) (is js : List Item) (b : Batch) (w v : Tally) (n 
     (count : CountIs (IsConcerned (map_before roads b.log) (nodes_of b.touched) (lines_of b.touched)) (overlaid is b.overlay) many)
     (encodings : w.work.encodings + many < 2 ^ 64 → v.work.encodings ≡ w.work.encodings + many) (spared : v.spared ≤ w.spared + many)
     (searches : w.work.searches ≤ v.work.searches) (settled : w.work.settled ≤ v.work.settled) (rises : w.spared ≤ v.spared) where
-  accepted : IsRegister roads is (Some b) → Answered (of_parts roads is (Some b) w) (Commit n) (Ok r) (of_parts new js None v)
-  accepted reg =
+  commit_answered : IsRegister roads is (Some b) → Answered (of_parts roads is (Some b) w) (Commit n) (Ok r) (of_parts new js None v)
+  commit_answered reg =
       let c : Content = content_on (map_before roads b.log) is in
       let to : Content = content_on (map_of new) js in
       record {
@@ -120,13 +121,13 @@ module _ (roads new : RoadMap) (is js : List Item) (b : Batch) (w v : Tally) (n 
               state to None,
               (refl, tt),
               (
-                right_count c xs n (sym i.count ∙ right) ∙ ap (λ (d : Content). Ok (state d None)) (committed c roads new b is js xs i same names),
+                right_count c xs n (sym i.count ∙ right) ∙ ap (λ (d : Content). Ok (state d None)) (content_after c roads new b is js xs i same names),
                 subst (λ (q : replies.Reply). replies.IsReply (state c (Some xs)) (Commit n) (state to None) q) (sym told)
-                    (reported_differences (map_before roads b.log) (map_of new) is js (map entry_of es) reg.content (sound_after roads new is js b reg same names) reg.made (made_after roads new is js b same remade) reported),
+                    (changes_told (map_before roads b.log) (map_of new) is js (map entry_of es) reg.content reg.made (made_after roads new is js b same remade) reported),
               ),
             ));
-        counted = λ s t h g. (many, raised roads new is js b n many names count s t h g, encodings);
-        spares = λ s t h g. (many, raised roads new is js b n many names count s t h g, spared);
+        counted = λ s t h g. (many, commit_raises roads new is js b n many names count s t h g, encodings);
+        spares = λ s t h g. (many, commit_raises roads new is js b n many names count s t h g, spared);
         rises = record { searches = searches; settled = settled; spared = rises };
         same = λ off. let no : true ≡ false = off in absurd cc;
         unchanged = tt;
@@ -134,6 +135,6 @@ module _ (roads new : RoadMap) (is js : List Item) (b : Batch) (w v : Tally) (n 
 
   pub commit_done : (o p : Option Batch) → o ≡ Some b → p ≡ None → IsRegister roads is o → Answered (of_parts roads is o w) (Commit n) (Ok r) (of_parts new js p v)
   commit_done o p e g reg =
-      at roads is o (Some b) w (Commit n) (Ok r) (of_parts new js p v) e
+      answered_at roads is o (Some b) w (Commit n) (Ok r) (of_parts new js p v) e
       (subst (λ (q : Option Batch). Answered (of_parts roads is (Some b) w) (Commit n) (Ok r) (of_parts new js q v)) (sym g)
-      (accepted (subst (IsRegister roads is) e reg)))
+      (commit_answered (subst (IsRegister roads is) e reg)))

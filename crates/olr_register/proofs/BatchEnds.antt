@@ -10,8 +10,6 @@ use Rattle.olr_map.specs.declared.road_map.RoadMap.{RoadMap}
 use Rattle.olr_commands.specs.State.{Named, Batch_open, Change, Command, Make, Begin, Abort, step, IsContent}
 use Rattle.olr_commands.specs.Reply as replies
 use Rattle.olr_commands.specs.Reply.{IsRefusal, Told}
-use Rattle.olr_commands.specs.Kept.{named_held, IsBatchOf}
-use Rattle.olr_commands.specs.Registered.{Registered}
 use Rattle.olr_commands.specs.Words.{command_fault_of, reply_of}
 use Rattle.olr_commands.specs.declared.reply.Reply.{Reply}
 use Rattle.olr_commands.specs.declared.fault.CommandFault.{CommandFault}
@@ -21,26 +19,26 @@ use Rattle.olr_paths.specs.Beginning.{Begins}
 use Rattle.olr_paths.specs.Laying.{overlaid}
 use Rattle.olr_paths.specs.Changes.{Follows}
 use Rattle.olr_paths.specs.Touching.{nodes_of, lines_of, changed_of}
+use Rattle.olr_register.specs.Kept.{named_held, IsBatchOf}
+use Rattle.olr_register.specs.Registered.{Registered}
 use Rattle.olr_register.specs.Holding.{IsNoted, held_of, kept_of, batch_of, IsHeld, IsRegister}
 use Rattle.olr_register.specs.Answering.{Answered}
 use Rattle.olr_register.specs.Given.{AreGiven, Given}
 use Rattle.olr_register.specs.declared.batch.Batch.{Batch}
-use Rattle.olr_register.proofs.Tallies.{Tally}
+use Rattle.olr_register.proofs.Tallies.{Tally, of_parts}
 use Rattle.olr_register.proofs.Noted.{noted_none}
 use Rattle.olr_register.proofs.Renewed.{made_if_any}
 use Rattle.olr_register.proofs.Followed.{follows_self}
 use Rattle.olr_register.proofs.HoldLists.{named_twice}
 use Rattle.olr_register.proofs.HoldChanges.{content_from, content_on}
-use Rattle.olr_register.proofs.BatchStates.{state, registered, in_batch, no_batch, refused, begun, aborted}
+use Rattle.olr_register.proofs.Outcomes.{answered_refused}
+use Rattle.olr_register.proofs.BatchStates.{state, register_of, in_batch, no_batch, begin_answered, abort_answered}
 use Rattle.olr_register.proofs.BatchSteps.{answered_given}
 
-abbrev pub of_parts : RoadMap → List Item → Option Batch → Tally → Registered
-of_parts roads is o w = record { kept = kept_of roads is o; work = w.work; spared = w.spared }
-
 -- where the batch is known
-pub at : (old : RoadMap) (is : List Item) (o p : Option Batch) (w : Tally) (x : Command) (result : Result Reply CommandFault) (new : Registered)
+pub answered_at : (old : RoadMap) (is : List Item) (o p : Option Batch) (w : Tally) (x : Command) (result : Result Reply CommandFault) (new : Registered)
     → o ≡ p → Answered (of_parts old is p w) x result new → Answered (of_parts old is o w) x result new
-at old is o p w x result new e h = subst (λ (q : Option Batch). Answered (of_parts old is q w) x result new) (sym e) h
+answered_at old is o p w x result new e h = subst (λ (q : Option Batch). Answered (of_parts old is q w) x result new) (sym e) h
 
 -- ---- none is open
 
@@ -48,8 +46,8 @@ pub none_refused : (old : RoadMap) (is : List Item) (o p : Option Batch) (w : Ta
     → o ≡ None → p ≡ None → step (state (content_on (map_of old) is) None) x ≡ Err (command_fault_of f) → Answered (of_parts old is o w) x (Err f) (of_parts old is p w)
 none_refused old is o p w x f e g told =
     let c = content_on (map_of old) is in
-    at old is o None w x (Err f) (of_parts old is p w) e
-    (refused (of_parts old is None w) (of_parts old is p w) x f (ap (λ (q : Option Batch). of_parts old is q w) g) (no_batch c (λ s. IsRefusal s x (command_fault_of f)) (Told told)))
+    answered_at old is o None w x (Err f) (of_parts old is p w) e
+    (answered_refused (of_parts old is None w) (of_parts old is p w) x f (ap (λ (q : Option Batch). of_parts old is q w) g) (no_batch c (λ s. IsRefusal s x (command_fault_of f)) (Told told)))
 
 -- ---- abort
 
@@ -57,18 +55,18 @@ pub abort_done : (old new : RoadMap) (is : List Item) (o p : Option Batch) (b : 
     → map_of new ≡ map_before old b.log → Answered (of_parts old is o w) Abort (Ok r) (of_parts new is p w)
 abort_done old new is o p b w r e g empty same =
     let c = content_on (map_before old b.log) is in
-    at old is o (Some b) w Abort (Ok r) (of_parts new is p w) e
+    answered_at old is o (Some b) w Abort (Ok r) (of_parts new is p w) e
     (subst (λ (q : Option Batch). Answered (of_parts old is (Some b) w) Abort (Ok r) (of_parts new is q w)) (sym g)
-    (aborted c (content_on (map_of new) is) (batch_of old is b) w r empty (ap (λ (M : Map). content_on M is) same)))
+    (abort_answered c (content_on (map_of new) is) (batch_of old is b) w r empty (ap (λ (M : Map). content_on M is) same)))
 
 -- ---- a change that is given
 
 pub given_answered : (old new : RoadMap) (is : List Item) (o p : Option Batch) (b d : Batch) (w : Tally) (x : Change) (r : Result Reply CommandFault) → o ≡ Some b → p ≡ Some d
     → map_before new d.log ≡ map_before old b.log → Given (batch_of old is b) x r (batch_of new is d) → Answered (of_parts old is o w) (Make x) r (of_parts new is p w)
 given_answered old new is o p b d w x r e g same given =
-    at old is o (Some b) w (Make x) r (of_parts new is p w) e
+    answered_at old is o (Some b) w (Make x) r (of_parts new is p w) e
     (subst (λ (q : Option Batch). Answered (of_parts old is (Some b) w) (Make x) r (of_parts new is q w)) (sym g)
-    (subst (λ (M : Map). Answered (of_parts old is (Some b) w) (Make x) r (registered (content_on M is) (Some (batch_of new is d)) w)) (sym same)
+    (subst (λ (M : Map). Answered (of_parts old is (Some b) w) (Make x) r (register_of (content_on M is) (Some (batch_of new is d)) w)) (sym same)
     (answered_given (content_on (map_before old b.log) is) (batch_of old is b) (batch_of new is d) w x r given)))
 
 pub given_held : (old new : RoadMap) (is : List Item) (o : Option Batch) (b d : Batch) → o ≡ Some b → IsRegister old is o → map_before new d.log ≡ map_before old b.log
@@ -90,7 +88,7 @@ pub open_refused : (old : RoadMap) (is : List Item) (o : Option Batch) (w : Tall
 open_refused old is None w e = absurd cc
 open_refused old is (Some b) w e =
     let s = of_parts old is (Some b) w in
-    refused s s Begin rust.BatchOpen refl (in_batch (content_on (map_before old b.log) is) (batch_of old is b) (λ s. IsRefusal s Begin Batch_open) (λ xs i. Told refl))
+    answered_refused s s Begin rust.BatchOpen refl (in_batch (content_on (map_before old b.log) is) (batch_of old is b) (λ s. IsRefusal s Begin Batch_open) (λ xs i. Told refl))
 
 -- a batch that holds nothing
 pub record IsEmpty (b : Batch) : Type 0 where
@@ -145,5 +143,5 @@ pub begin_done : (roads : RoadMap) (is : List Item) (o : Option Batch) (b : Batc
     → Answered (of_parts roads is o w) Begin (Ok r) (of_parts roads is (Some b) w)
 begin_done roads is (Some d) b w r none reg e empty = absurd cc
 begin_done roads is None b w r none reg e empty =
-    subst (λ (M : Map). Answered (of_parts roads is None w) Begin (Ok r) (registered (content_on M is) (Some (batch_of roads is b)) w)) (sym (same_before roads b e.log))
-    (begun (content_on (map_of roads) is) (batch_of roads is b) w r empty (empty_batch roads is b reg.made e))
+    subst (λ (M : Map). Answered (of_parts roads is None w) Begin (Ok r) (register_of (content_on M is) (Some (batch_of roads is b)) w)) (sym (same_before roads b e.log))
+    (begin_answered (content_on (map_of roads) is) (batch_of roads is b) w r empty (empty_batch roads is b reg.made e))

@@ -8,15 +8,16 @@ use Rattle.olr_commands.specs.State.{Content, Fault, Batch_full, full, when, Cha
 use Rattle.olr_commands.specs.Reply as replies
 use Rattle.olr_commands.specs.Reply.{IsRefusal, IsOutcome, IsChangeReply, takes_memory, may_want, may_lack, is_told_first}
 use Rattle.olr_commands.specs.Counts.{nodes_of_change, lines_of_change, names_of_change, all_nodes, all_lines, all_names}
-use Rattle.olr_commands.specs.Kept.{Batch, IsBatchOf, Stands, content_of}
 use Rattle.olr_commands.specs.Words.{command_fault_of, reply_of}
 use Rattle.olr_commands.specs.declared.reply.Reply.{Reply}
 use Rattle.olr_commands.specs.declared.fault.CommandFault.{CommandFault}
 use Rattle.olr_commands.proofs.StateLemmas.{when_ok, next_ok, after_push, length_push}
+use Rattle.olr_register.specs.Kept.{Batch, IsBatchOf, Stands, content_of}
 use Rattle.olr_register.specs.Answering.{Answered}
-use Rattle.olr_register.specs.Given.{taken, AreGiven, IsAdded, IsRefused, Told, Lacks, Given}
+use Rattle.olr_register.specs.Given.{content_with, AreGiven, IsAdded, IsRefused, Told, Lacks, Given}
 use Rattle.olr_register.proofs.Tallies.{Tally}
-use Rattle.olr_register.proofs.BatchStates.{state, registered, in_batch, refused, quiet}
+use Rattle.olr_register.proofs.Outcomes.{answered_uncounted, answered_refused}
+use Rattle.olr_register.proofs.BatchStates.{state, register_of, in_batch}
 
 -- ---- what is held, with one change more
 
@@ -34,7 +35,7 @@ held_when : (c : Content) (ys : List Change) (b : Bool) (f : Fault) (r : Result 
 held_when c ys true f r = refl
 held_when c ys false f r = refl
 
-pub step_given : (c : Content) (b : Batch) (xs : List Change) (x : Change) → IsBatchOf c b xs → step (state c (Some xs)) (Make x) ≡ held c (xs ++ x ∷ []) (taken b x)
+pub step_given : (c : Content) (b : Batch) (xs : List Change) (x : Change) → IsBatchOf c b xs → step (state c (Some xs)) (Make x) ≡ held c (xs ++ x ∷ []) (content_with b x)
 step_given c b xs x i =
     ap (λ (n : ℕ). when (nat_le full n) Batch_full (held c (xs ++ x ∷ []) (changed (after c xs) x))) (sym i.count)
     ∙ ap (λ (d : Content). when (nat_le full b.count) Batch_full (held c (xs ++ x ∷ []) (changed d x))) (sym i.content)
@@ -61,9 +62,9 @@ one_more c b d xs x i a =
 
 -- ---- the answer
 
-accepted : (c : Content) (b d : Batch) (w : Tally) (x : Change) (r : Reply) → IsAdded b x d → reply_of r ≡ replies.Held d.count → Answered (registered c (Some b) w) (Make x) (Ok r) (registered c (Some d) w)
-accepted c b d w x r a e =
-    quiet (registered c (Some b) w) (record { content = c; batch = Some d }) (Make x) r (in_batch c b (λ s. brought s (Make x) ≡ []) (λ xs i. refl))
+held_answered : (c : Content) (b d : Batch) (w : Tally) (x : Change) (r : Reply) → IsAdded b x d → reply_of r ≡ replies.Held d.count → Answered (register_of c (Some b) w) (Make x) (Ok r) (register_of c (Some d) w)
+held_answered c b d w x r a e =
+    answered_uncounted (register_of c (Some b) w) (record { content = c; batch = Some d }) (Make x) r (in_batch c b (λ s. brought s (Make x) ≡ []) (λ xs i. refl))
     (in_batch c b (λ s. (t : State) × Stands (record { content = c; batch = Some d }) t × IsOutcome s (Make x) (Ok (reply_of r)) t)
     (λ xs i.
     let is : d.count ≡ suc (length xs) = a.count ∙ ap suc i.count in
@@ -80,14 +81,14 @@ held_takes (Add_path name path) xs = refl
 held_takes (Set_path name path) xs = refl
 held_takes (Drop_path name) xs = refl
 
-refusal : (c : Content) (b : Batch) (x : Change) (f : Fault) → IsRefused (taken b x) f → (xs : List Change) → IsBatchOf c b xs → IsRefusal (state c (Some xs)) (Make x) f
-refusal c b x f (Told e) xs i = replies.Told (step_given c b xs x i ∙ ap (held c (xs ++ x ∷ [])) e)
-refusal c b x f (Lacks e first) xs i =
-    let may = ap may_want (step_given c b xs x i) ∙ may_by c (xs ++ x ∷ []) (taken b x) first in
+is_refusal : (c : Content) (b : Batch) (x : Change) (f : Fault) → IsRefused (content_with b x) f → (xs : List Change) → IsBatchOf c b xs → IsRefusal (state c (Some xs)) (Make x) f
+is_refusal c b x f (Told e) xs i = replies.Told (step_given c b xs x i ∙ ap (held c (xs ++ x ∷ [])) e)
+is_refusal c b x f (Lacks e first) xs i =
+    let may = ap may_want (step_given c b xs x i) ∙ may_by c (xs ++ x ∷ []) (content_with b x) first in
     replies.Lacks e (λ j. held_takes x xs j && may j)
 
-pub answered_given : (c : Content) (b d : Batch) (w : Tally) (x : Change) (r : Result Reply CommandFault) → Given b x r d → Answered (registered c (Some b) w) (Make x) r (registered c (Some d) w)
-answered_given c b d w x (Ok r) g = accepted c b d w x r g.added g.reply
+pub answered_given : (c : Content) (b d : Batch) (w : Tally) (x : Change) (r : Result Reply CommandFault) → Given b x r d → Answered (register_of c (Some b) w) (Make x) r (register_of c (Some d) w)
+answered_given c b d w x (Ok r) g = held_answered c b d w x r g.added g.reply
 answered_given c b d w x (Err f) g =
-    refused (registered c (Some b) w) (registered c (Some d) w) (Make x) f (ap (λ (e : Batch). registered c (Some e) w) g.unchanged)
-    (in_batch c b (λ s. IsRefusal s (Make x) (command_fault_of f)) (refusal c b x (command_fault_of f) g.refused))
+    answered_refused (register_of c (Some b) w) (register_of c (Some d) w) (Make x) f (ap (λ (e : Batch). register_of c (Some e) w) g.unchanged)
+    (in_batch c b (λ s. IsRefusal s (Make x) (command_fault_of f)) (is_refusal c b x (command_fault_of f) g.refused))

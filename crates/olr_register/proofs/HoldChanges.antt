@@ -11,8 +11,6 @@ use Rattle.olr_commands.specs.State.{Named, Content, path_named, same_name, with
 use Rattle.olr_commands.specs.Reply as replies
 use Rattle.olr_commands.specs.Reply.{is_told_first}
 use Rattle.olr_commands.specs.Counts.{nodes_of_change, lines_of_change, names_of_change}
-use Rattle.olr_commands.specs.Kept as kept
-use Rattle.olr_commands.specs.Kept.{content_of}
 use Rattle.olr_commands.specs.Words.{command_fault_of, reply_of}
 use Rattle.olr_commands.specs.declared.reply.Reply.{Reply}
 use Rattle.olr_commands.specs.declared.fault.CommandFault.{CommandFault}
@@ -23,6 +21,8 @@ use Rattle.olr_paths.specs.Changes.{Follows, set_item}
 use Rattle.olr_paths.specs.Beginning.{Begins}
 use Rattle.olr_paths.specs.Laying.{overlaid}
 use Rattle.olr_paths.specs.declared.overlay.Overlay.{Overlay}
+use Rattle.olr_register.specs.Kept as kept
+use Rattle.olr_register.specs.Kept.{content_of}
 use Rattle.olr_register.specs.Holding.{held_of, IsHeld}
 use Rattle.olr_register.specs.Given.{AreGiven, Told, Lacks, Given}
 use Rattle.olr_register.specs.declared.batch.Batch.{Batch}

@@ -13,8 +13,6 @@ use Rattle.olr_map.specs.declared.undo.UndoLog.{UndoLog}
 use Rattle.olr_commands.specs.State.{Content, Fault, Map_fault, Memory, full, Batch_full, when, On_map, with_map, changed, IsContent}
 use Rattle.olr_commands.specs.Reply as replies
 use Rattle.olr_commands.specs.Reply.{is_told_first}
-use Rattle.olr_commands.specs.Kept as kept
-use Rattle.olr_commands.specs.Kept.{content_of}
 use Rattle.olr_commands.specs.Words.{command_fault_of, reply_of}
 use Rattle.olr_commands.specs.declared.reply.Reply.{Reply}
 use Rattle.olr_commands.specs.declared.fault.CommandFault.{CommandFault}
@@ -22,6 +20,8 @@ use Rattle.olr_paths.specs.Items.{Item, AreEncodingsIfAny}
 use Rattle.olr_paths.specs.Laying.{overlaid}
 use Rattle.olr_paths.specs.Touching.{nodes_of, lines_of, changed_of}
 use Rattle.olr_paths.specs.declared.touched.Touched.{Touched}
+use Rattle.olr_register.specs.Kept as kept
+use Rattle.olr_register.specs.Kept.{content_of}
 use Rattle.olr_register.specs.Holding.{IsNoted, held_of, batch_of, IsHeld}
 use Rattle.olr_register.specs.Given.{Given}
 use Rattle.olr_register.specs.declared.batch.Batch.{Batch}
@@ -48,8 +48,8 @@ same_batch old new before b log t same nodes lines = λ i. batch_on (same i) (ov
 
 -- ---- held
 
-pub joined : (x r b p t : Bool) → x ≡ (r || p) → r ≡ b → t ≡ p → x ≡ (b || t)
-joined x r b p t e f g = e ∙ ap (λ (y : Bool). y || p) f ∙ ap (λ (y : Bool). b || y) (sym g)
+pub has_either : (x r b p t : Bool) → x ≡ (r || p) → r ≡ b → t ≡ p → x ≡ (b || t)
+has_either x r b p t e f g = e ∙ ap (λ (y : Bool). y || p) f ∙ ap (λ (y : Bool). b || y) (sym g)
 
 pub changes_more : (was kept now told : List ChangedLine) → kept ≡ was → now ≡ kept ++ told → {all : List ChangedLine} → told ≡ all → now ≡ was ++ all
 changes_more was kept now told still h same = h ∙ (λ i. still i ++ same i)

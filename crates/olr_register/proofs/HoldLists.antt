@@ -9,10 +9,10 @@ use Rattle.std.proofs.lemmas.List.Folds.{list_any-append}
 use lib.Pointwise.{bytes_decides}
 use Rattle.olr_spec.specs.Extension.{Path}
 use Rattle.olr_commands.specs.State.{Named, same_name, path_named}
-use Rattle.olr_commands.specs.Kept.{Held, named_held}
 use Rattle.olr_commands.proofs.NameLemmas.{not_named}
 use Rattle.olr_paths.specs.Items.{Item, named, all_named}
 use Rattle.olr_paths.specs.Changes.{set_item}
+use Rattle.olr_register.specs.Kept.{Held, named_held}
 use Rattle.olr_register.specs.Holding.{held_of}
 use Rattle.olr_register.specs.Given.{AreGiven}
 
@@ -50,14 +50,14 @@ given_set name path names (i ∷ is) g =
     ] refl in
     (one, given_set name path names is g.1)
 
-fewer : (name : List ℕ) (names : List (List ℕ)) (is : List Item) → AreGiven names (map held_of is) → AreGiven names (map held_of (filter (λ i. not (same_name i.name name)) is))
-fewer name names [] g = tt
-fewer name names (i ∷ is) g =
-    let rest = fewer name names is g.1 in
+given_fewer : (name : List ℕ) (names : List (List ℕ)) (is : List Item) → AreGiven names (map held_of is) → AreGiven names (map held_of (filter (λ i. not (same_name i.name name)) is))
+given_fewer name names [] g = tt
+given_fewer name names (i ∷ is) g =
+    let rest = given_fewer name names is g.1 in
     elim (not (same_name i.name name)) as (λ b. AreGiven names (map held_of (cond b (i ∷ filter (λ j. not (same_name j.name name)) is) (filter (λ j. not (same_name j.name name)) is)))) [ true ↦ (g.0, rest) | false ↦ rest ]
 
 pub given_none : (names : List (List ℕ)) (hs : List Held) → AreGiven names hs → AreGiven (names ++ []) hs
 given_none names hs g = subst (λ (ns : List (List ℕ)). AreGiven ns hs) (sym (append-nil names)) g
 
 pub given_drop : (name : List ℕ) (names : List (List ℕ)) (is : List Item) → AreGiven names (map held_of is) → AreGiven (names ++ []) (map held_of (filter (λ i. not (same_name i.name name)) is))
-given_drop name names is g = given_none names (map held_of (filter (λ i. not (same_name i.name name)) is)) (fewer name names is g)
+given_drop name names is g = given_none names (map held_of (filter (λ i. not (same_name i.name name)) is)) (given_fewer name names is g)

@@ -18,24 +18,24 @@ use Rattle.olr_register.specs.Holding.{IsNoted}
 
 -- ---- where changed lines begin
 
-nothing : {X : Type 0} (x : X) → ¬ Contains [] x
-nothing x c = let h = c.1 in absurd (omega arith)
+none_contained : {X : Type 0} (x : X) → ¬ Contains [] x
+none_contained x c = let h = c.1 in absurd (omega arith)
 
-alone : (T : List ℕ) (d c : ChangedLine) → has T d.from ≡ true → Contains (d ∷ []) c → has T c.from ≡ true
-alone T d c h k = elim (Contains-cases d c [] k) [ inl e ↦ subst (λ (b : ChangedLine). has T b.from ≡ true) e h | inr n ↦ absurd (nothing c n) ]
+starts_of_one : (T : List ℕ) (d c : ChangedLine) → has T d.from ≡ true → Contains (d ∷ []) c → has T c.from ≡ true
+starts_of_one T d c h k = elim (Contains-cases d c [] k) [ inl e ↦ subst (λ (b : ChangedLine). has T b.from ≡ true) e h | inr n ↦ absurd (none_contained c n) ]
 
 starts_of : (M : Map) (e : Edit) (c : ChangedLine) → Contains (changes_of M e) c → has (touched_nodes M e) c.from ≡ true
-starts_of M (Add_node v p) c k = absurd (nothing c k)
-starts_of M (Move_node v p) c k = absurd (nothing c k)
-starts_of M (Drop_node v) c k = absurd (nothing c k)
-starts_of M (Add_line x l) c k = alone (l.from ∷ l.to ∷ []) _ c (has_here l.from (l.to ∷ [])) k
-starts_of M (Set_line x frc fow len shape) c k = alone (start M x ∷ end M x ∷ []) _ c (has_here (start M x) (end M x ∷ [])) k
-starts_of M (Drop_line x) c k = alone (start M x ∷ end M x ∷ []) _ c (has_here (start M x) (end M x ∷ [])) k
+starts_of M (Add_node v p) c k = absurd (none_contained c k)
+starts_of M (Move_node v p) c k = absurd (none_contained c k)
+starts_of M (Drop_node v) c k = absurd (none_contained c k)
+starts_of M (Add_line x l) c k = starts_of_one (l.from ∷ l.to ∷ []) _ c (has_here l.from (l.to ∷ [])) k
+starts_of M (Set_line x frc fow len shape) c k = starts_of_one (start M x ∷ end M x ∷ []) _ c (has_here (start M x) (end M x ∷ [])) k
+starts_of M (Drop_line x) c k = starts_of_one (start M x ∷ end M x ∷ []) _ c (has_here (start M x) (end M x ∷ [])) k
 
 -- ---- no edit, and one more
 
 pub noted_none : (M : Map) → IsNoted M M [] [] []
-noted_none M = record { difference = none_differs M; starts = λ c k. absurd (nothing c k) }
+noted_none M = record { difference = none_differs M; starts = λ c k. absurd (none_contained c k) }
 
 -- what the lists hold is what counts
 held_by : (ms ns us : List ℕ) (v : ℕ) → has ms v ≡ (has ns v || has us v) → has ms v ≡ false → has (ns ++ us) v ≡ false

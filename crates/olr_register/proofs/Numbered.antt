@@ -7,7 +7,7 @@ use Rattle.olr_spec.proofs.ChangeLemmas.{edit_differs}
 use Rattle.olr_map.specs.RoadMaps.{map_of, map_before}
 use Rattle.olr_map.specs.Undos.{made_all, changes_of}
 use Rattle.olr_map.specs.declared.road_map.RoadMap.{RoadMap}
-use Rattle.olr_near.specs.Numbers.{IsRight, IsSource, SameBut}
+use Rattle.olr_near.specs.Numbers.{number_of, IsRight, IsSource, SameBut}
 use Rattle.olr_near.specs.declared.nearness.Nearness.{Nearness}
 use Rattle.olr_paths.specs.Items.{Item}
 use Rattle.olr_paths.specs.Changes.{set_item}
@@ -27,6 +27,13 @@ kept_closed roads b none = ap (map_kept roads) none
 -- unknown ones say nothing
 pub numbered_unknown : (M : Map) (is : List Item) (near : Nearness) → IsFalse near.known → IsNumbered M is near
 numbered_unknown M is near off = record { right = λ on. let never : ⊥ = cc (on, off) in absurd never; sources = λ v b on. let never : ⊥ = cc (on, off) in absurd never }
+
+-- where no node has one, and no look begins
+pub right_without : (M : Map) (near : Nearness) → ((v : ℕ) → number_of near v ≡ None) → IsRight M near
+right_without M near none known u d at = let no : ◌≡◌ {A = Option ℕ} None (Some d) = sym (none u) ∙ at in absurd cc
+
+pub numbered_bare : (M : Map) (is : List Item) (near : Nearness) → ((v : ℕ) → number_of near v ≡ None) → is ≡ [] → IsNumbered M is near
+numbered_bare M is near none bare = record { right = right_without M near none; sources = λ v b. absurd (subst (λ (js : List Item). Begins js v) bare b) }
 
 pub numbered_same : (M N : Map) (is : List Item) (near : Nearness) → N ≡ M → IsNumbered M is near → IsNumbered N is near
 numbered_same M N is near same h = subst (λ (L : Map). IsNumbered L is near) (sym same) h
@@ -50,11 +57,11 @@ edit_same_but M N e T ok nodes v off = (edit_differs M N e ok).nodes v (sym (nod
 -- the numbers f before, and g where edits of the nodes T, as the list ts, led from M to N
 module _ (M N : Map) (is : List Item) (T ts : List ℕ) (f g : Nearness) (same : ts ≡ T) (but : SameBut T M N) (h : IsNumbered M is f)
     (right : (L : Map) → SameBut ts L N → IsRight L f → IsRight N g) (sources : (s : ℕ) → IsSource f s → IsSource g s) where
-  pub asked : IsNumbered N is g
-  asked = record { right = right M (subst (λ (us : List ℕ). SameBut us M N) (sym same) but) h.right; sources = λ v b. sources v (h.sources v b) }
+  pub numbered_asked : IsNumbered N is g
+  numbered_asked = record { right = right M (subst (λ (us : List ℕ). SameBut us M N) (sym same) but) h.right; sources = λ v b. sources v (h.sources v b) }
 
   pub far_looks : ((s : ℕ) → IsRight N g → IsSource g s → ¬ Near N ts s limit) → AreFar N T is
-  far_looks far = λ v b. subst (λ (us : List ℕ). ¬ Near N us v limit) same (far v asked.right (asked.sources v b))
+  far_looks far = λ v b. subst (λ (us : List ℕ). ¬ Near N us v limit) same (far v numbered_asked.right (numbered_asked.sources v b))
 
 -- the list under the changes of a batch has no look that the register's lacks
 pub commit_numbered : (roads : RoadMap) (is : List Item) (o : Option Batch) (b : Batch) (near : Nearness) → o ≡ Some b → IsHeld roads is b → IsNumbered (map_kept roads o) is near → IsNumbered (map_before roads b.log) (overlaid is b.overlay) near

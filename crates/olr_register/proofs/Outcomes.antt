@@ -1,43 +1,42 @@
--- What it takes to answer a command that leaves the register as it was.
+-- What it takes to answer a command that raises no count, and one that leaves the register as it was.
 use Rattle.std.proofs.Common.{arith, inr, ◌≡◌, ℕ, Bool, true, false, not, List, [], ◌∷◌, Option, Some, None, is_some, Ok, Err, refl, sym, ap, ◌∙◌, subst, add-zero}
 use Rattle.olr_spec.specs.Extension.{Path}
 use Rattle.olr_spec.specs.Reference.{Reference}
 use Rattle.olr_commands.specs.State as state
 use Rattle.olr_commands.specs.State.{Named, Content, path_named, has_path, when, Change, Command, State, step, step_in, brought, TextFault, text_fault, unless_fault, No_path, Memory, Not_a_reference}
 use Rattle.olr_commands.specs.Reply as told
-use Rattle.olr_commands.specs.Reply.{IsReply, IsRefusal, Told, Lacks, AllOf, Shown, Explained, may_want, may_lack}
+use Rattle.olr_commands.specs.Reply.{IsReply, IsOutcome, IsRefusal, Told, Lacks, AllOf, Shown, Explained, may_want, may_lack}
 use Rattle.olr_commands.specs.Counts.{Concerns, By_name, By_node, By_line, CountIs}
-use Rattle.olr_commands.specs.Kept.{Stands}
-use Rattle.olr_commands.specs.Registered.{Registered}
 use Rattle.olr_commands.specs.Words.{reply_of, command_fault_of}
 use Rattle.olr_commands.specs.declared.reply.Reply.{Reply}
 use Rattle.olr_commands.specs.declared.fault.CommandFault.{CommandFault}
+use Rattle.olr_register.specs.Kept.{Kept, Stands}
+use Rattle.olr_register.specs.Registered.{Registered}
 use Rattle.olr_register.specs.Answering.{Answered}
+use Rattle.olr_register.proofs.Counting.{raises_none}
 use Rattle.olr_register.proofs.Tallies.{none_falls}
 
-unconcerned : (c : Content) (p : Named) → ¬ Concerns c [] p
-unconcerned c p (By_name h) = absurd cc
-unconcerned c p (By_node v h f) = absurd cc
-unconcerned c p (By_line x h f) = absurd cc
-
--- no change raises nothing
-pub nothing_raised : (c : Content) (ps : List Named) → CountIs (Concerns c []) ps 0
-nothing_raised c [] = refl
-nothing_raised c (p ∷ ps) = inr (unconcerned c p, nothing_raised c ps)
-
-pub answered_same : (x : Registered) (c : Command) (r : Reply) → ((s : State) → Stands x.kept s → (step s c ≡ Ok s) × IsReply s c s (reply_of r)) → ((s : State) → brought s c ≡ [])
-    → Answered x c (Ok r) x
-answered_same x c r h none = record {
-  outcome = λ s stands. (s, stands, h s stands);
-  counted = λ s t stands later. (0, subst (λ (xs : List Change). CountIs (Concerns s.content xs) t.content.paths 0) (sym (none s)) (nothing_raised s.content t.content.paths), λ few. sym (add-zero _));
-  spares = λ s t stands later. (0, subst (λ (xs : List Change). CountIs (Concerns s.content xs) t.content.paths 0) (sym (none s)) (nothing_raised s.content t.content.paths), omega arith);
-  rises = none_falls x;
+-- an accepted command that brings nothing raises no count
+pub answered_uncounted : (old : Registered) (k : Kept) (c : Command) (r : Reply) → ((s : State) → Stands old.kept s → brought s c ≡ [])
+    → ((s : State) → Stands old.kept s → (t : State) × Stands k t × IsOutcome s c (Ok (reply_of r)) t) → Answered old c (Ok r) (record { kept = k; work = old.work; spared = old.spared })
+answered_uncounted old k c r none outcome = record {
+  outcome = outcome;
+  counted = λ s t stands later. (0, raises_none s t c (none s stands), λ few. sym (add-zero _));
+  spares = λ s t stands later. (0, raises_none s t c (none s stands), omega arith);
+  rises = none_falls old;
   same = λ e. (refl, refl);
   unchanged = tt;
 }
 
-pub answered_refused : (x : Registered) (c : Command) (f : CommandFault) → ((s : State) → Stands x.kept s → IsRefusal s c (command_fault_of f)) → Answered x c (Err f) x
-answered_refused x c f h = record { outcome = λ s stands. (s, stands, (h s stands, refl)); counted = tt; spares = tt; rises = tt; same = tt; unchanged = refl }
+answered_same : (x : Registered) (c : Command) (r : Reply) → ((s : State) → Stands x.kept s → (step s c ≡ Ok s) × IsReply s c s (reply_of r)) → ((s : State) → brought s c ≡ [])
+    → Answered x c (Ok r) x
+answered_same x c r h none = answered_uncounted x x.kept c r (λ s stands. none s) (λ s stands. (s, stands, h s stands))
+
+-- the register is as before
+pub answered_refused : (old new : Registered) (c : Command) (f : CommandFault) → new ≡ old → ((s : State) → Stands old.kept s → IsRefusal s c (command_fault_of f)) → Answered old c (Err f) new
+answered_refused old new c f same h =
+    subst (λ (x : Registered). Answered old c (Err f) x) (sym same)
+    (record { outcome = λ s stands. (s, stands, (h s stands, refl)); counted = tt; spares = tt; rises = tt; same = tt; unchanged = refl })
 
 -- ---- show
 
@@ -66,13 +65,13 @@ show_answered x name r es is shown =
 
 pub show_unknown : (x : Registered) (name : List ℕ) (f : CommandFault) → command_fault_of f ≡ No_path → has_path x.kept.content name ≡ false → Answered x (state.Show name) (Err f) x
 show_unknown x name f is none =
-    answered_refused x (state.Show name) f (λ s stands.
+    answered_refused x x (state.Show name) f refl (λ s stands.
     let there : has_path s.content name ≡ false = ap (λ (c : Content). has_path c name) (sym stands.0) ∙ none in
     Told (show_step s.content s.batch name ∙ ap (λ (b : Bool). when (not b) No_path (Ok s)) there ∙ ap (λ (g : state.Fault). Err g) (sym is)))
 
 pub show_lacks : (x : Registered) (name : List ℕ) (f : CommandFault) → command_fault_of f ≡ Memory → has_path x.kept.content name ≡ true → Answered x (state.Show name) (Err f) x
 show_lacks x name f is some =
-    answered_refused x (state.Show name) f (λ s stands.
+    answered_refused x x (state.Show name) f refl (λ s stands.
     let there : has_path s.content name ≡ true = ap (λ (c : Content). has_path c name) (sym stands.0) ∙ some in
     Lacks is (ap may_want (show_ok s name there)))
 
@@ -95,7 +94,7 @@ report_answered x r es is all =
     (λ s. report_brings s.batch)
 
 pub report_lacks : (x : Registered) (f : CommandFault) → command_fault_of f ≡ Memory → Answered x state.Report (Err f) x
-report_lacks x f is = answered_refused x state.Report f (λ s stands. Lacks is (ap may_want (report_ok s.content s.batch)))
+report_lacks x f is = answered_refused x x state.Report f refl (λ s stands. Lacks is (ap may_want (report_ok s.content s.batch)))
 
 -- ---- explain
 
@@ -117,12 +116,12 @@ explain_answered x text r q is none explained =
 
 pub explain_refused : (x : Registered) (text : List ℕ) (f : CommandFault) (g : TextFault) → command_fault_of f ≡ Not_a_reference g → text_fault text ≡ Some g → Answered x (state.Explain text) (Err f) x
 explain_refused x text f g is fault =
-    answered_refused x (state.Explain text) f (λ s stands. Told (explain_step s.content s.batch text ∙ ap (unless_fault s) fault ∙ ap (λ (h : state.Fault). Err h) (sym is)))
+    answered_refused x x (state.Explain text) f refl (λ s stands. Told (explain_step s.content s.batch text ∙ ap (unless_fault s) fault ∙ ap (λ (h : state.Fault). Err h) (sym is)))
 
 -- want of memory may come in place of a fault of the text
 pub explain_lacks : (x : Registered) (text : List ℕ) (f : CommandFault) → command_fault_of f ≡ Memory → Answered x (state.Explain text) (Err f) x
 explain_lacks x text f is =
-    answered_refused x (state.Explain text) f (λ s stands. Lacks is (ap may_want (explain_step s.content s.batch text) ∙ may (record { content = s.content; batch = s.batch }) (text_fault text)))
+    answered_refused x x (state.Explain text) f refl (λ s stands. Lacks is (ap may_want (explain_step s.content s.batch text) ∙ may (record { content = s.content; batch = s.batch }) (text_fault text)))
   where
     may : (s : State) (o : Option TextFault) → may_want (unless_fault s o) ≡ true
     may s None = refl

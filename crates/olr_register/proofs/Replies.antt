@@ -15,17 +15,17 @@ use Rattle.olr_paths.specs.Changes.{Reported}
 abbrev Found : Map → Option Path → Option Made → Type 0
 Found M p o = ((p ≡ None) × (o ≡ None)) ⊎ ((P : Path) × (m : Made) × (p ≡ Some P) × (o ≡ Some m) × IsEncodingOf M P m)
 
-found : (M : Map) (is : List Item) → AreEncodings M is → (name : List ℕ) → Found M (path_named (all_named is) name) (made_in is name)
-found M [] a name = inl (refl, refl)
-found M (i ∷ is) a name =
+path_and_made : (M : Map) (is : List Item) → AreEncodings M is → (name : List ℕ) → Found M (path_named (all_named is) name) (made_in is name)
+path_and_made M [] a name = inl (refl, refl)
+path_and_made M (i ∷ is) a name =
     elim (same_name i.name name) as (λ b. Found M (cond b (Some i.path) (path_named (all_named is) name)) (if b then i.made else made_in is name)) [
       | true ↦ inr (i.path, a.0.0, refl, a.0.1, a.0.2)
-      | false ↦ found M is a.1 name
+      | false ↦ path_and_made M is a.1 name
     ]
 
 pub answer_held : (M : Map) (is : List Item) → IsContent (record { map = M; paths = all_named is }) → AreEncodings M is → (name : List ℕ) (A : Answer)
     → HasAnswer (record { map = M; paths = all_named is }) name A ↔ (answer_in is name ≡ Some A)
-answer_held M is content a name A = by (found M is a name) where
+answer_held M is content a name A = by (path_and_made M is a name) where
   by : Found M (path_named (all_named is) name) (made_in is name) → HasAnswer (record { map = M; paths = all_named is }) name A ↔ (answer_in is name ≡ Some A)
   by (inl n) = (
     λ h. absurd (let no : ◌≡◌ {A = Option Path} None (Some h.0) = sym n.0 ∙ h.1 in cc),
@@ -42,14 +42,6 @@ answer_held M is content a name A = by (found M is a name) where
         let same : f.1.answer ≡ A = cc in
         (f.0, f.2, subst (Encodes M f.0) same f.4.answer),
   )
-
--- a name of the list has an answer
-pub answered : (M : Map) (is : List Item) → AreEncodings M is → (name : List ℕ) → is_some (path_named (all_named is) name) ≡ true → (A : Answer) × (answer_in is name ≡ Some A)
-answered M is a name h =
-    elim (found M is a name) [
-      | inl n ↦ absurd (let no : false ≡ true = ap (λ (o : Option Path). is_some o) (sym n.0) ∙ h in cc)
-      | inr f ↦ (f.1.answer, ap (option_map (λ (m : Made). m.answer)) f.3)
-    ]
 
 -- the answer that is kept of a path is its own
 kept_answer : (N : Map) (P : Path) (o : Option Made) (A : Answer) (m : Made) → o ≡ Some m → IsEncodingOf N P m → option_map (λ (n : Made). n.answer) o ≡ Some A → Encodes N P A
@@ -69,10 +61,6 @@ changes_told M N before (j ∷ js) es content was a r =
       changes_told M N before js r.1 content was a.1 r.3,
       elim r.4 [ inl h ↦ inl (held.1 h.0, h.1) | inr h ↦ inr ((λ had. h.0 (held.0 had)), h.1) ],
     )
-
-pub reported_differences : (M N : Map) (before js : List Item) (es : List Entry) → IsContent (record { map = M; paths = all_named before }) → IsContent (record { map = N; paths = all_named js })
-    → AreEncodings M before → AreEncodings N js → Reported before js es → Differences (record { map = M; paths = all_named before }) (record { map = N; paths = all_named js }) es
-reported_differences M N before js es content later was a r = changes_told M N before js es content was a r
 
 pub reported_all : (M : Map) (js : List Item) (es : List Entry) → AreEncodings M js → Reported [] js es → AllOf M (all_named js) es
 reported_all M [] es a r = r

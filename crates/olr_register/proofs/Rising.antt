@@ -8,14 +8,14 @@ use Rattle.olr_spec.specs.Map.{Map, Edit, touched_nodes, touched_lines}
 use Rattle.olr_spec.specs.Extension.{Path, has}
 use Rattle.olr_commands.specs.State.{Named, Content, IsContent, Change, On_map, Add_path, Set_path, Drop_path, changed, State, Make, at_once, step}
 use Rattle.olr_commands.specs.Counts.{Concerns, By_name, By_node, By_line, CountIs, Raises}
-use Rattle.olr_commands.specs.Kept.{Kept, Stands, StandsIn}
-use Rattle.olr_commands.specs.Registered.{Registered}
 use Rattle.olr_commands.proofs.CountLemmas.{paths_raise}
 use Rattle.olr_paths.specs.Items.{Item, AreEncodings, all_named}
 use Rattle.olr_paths.specs.Changes.{IsConcerned}
+use Rattle.olr_register.specs.Kept.{Kept, Stands, StandsIn}
+use Rattle.olr_register.specs.Registered.{Registered}
 use Rattle.olr_register.specs.Holding.{held_of}
 use Rattle.olr_register.specs.Sparing.{encodes, NoneFalls, SameCounts}
-use Rattle.olr_register.proofs.Counting.{counted_changes}
+use Rattle.olr_register.proofs.Counting.{counted_changes, none_counted}
 use Rattle.olr_register.proofs.Tallies.{Tallied}
 
 -- ---- states in which a register stands that holds no batch
@@ -106,10 +106,6 @@ tallied_set old new name path content was later is rise falls =
     rise falls (encodes_closed old new (Set_path name path) was refl)
 
 -- one that is dropped by none
-none_counted : {A : Type 0} (P : A → Type 0) → ((x : A) → ¬ P x) → (xs : List A) → CountIs P xs 0
-none_counted P none [] = refl
-none_counted P none (x ∷ xs) = inr (none x, none_counted P none xs)
-
 drop_concerns : (c : Content) (name : List ℕ) (p : Named) → ¬ Concerns c (Drop_path name ∷ []) p
 drop_concerns c name p (By_name h) = absurd cc
 drop_concerns c name p (By_node v h f) = absurd cc

@@ -1,14 +1,14 @@
 -- Whole runs.
 use Rattle.std.proofs.Common.{◌≡◌, ◌∙◌, ◌+◌, ℕ, List, [], ◌∷◌, ◌++◌, map, length-append, Result, refl, sym, ap, subst}
 use Rattle.olr_commands.specs.State.{IsContent, State, start_state}
-use Rattle.olr_commands.specs.Kept.{Stands}
 use Rattle.olr_commands.specs.History.{Whole}
 use Rattle.olr_commands.proofs.HistoryLemmas.{start_sound, SoundOutcome, run_more}
-use Rattle.olr_commands.specs.Registered.{Registered, Applied, nothing_registered}
 use Rattle.olr_commands.specs.Words.{command_of, outcome_of}
 use Rattle.olr_commands.specs.declared.command.Command.{Command as Asked}
 use Rattle.olr_commands.specs.declared.reply.Reply.{Reply as Answered}
 use Rattle.olr_commands.specs.declared.fault.CommandFault.{CommandFault}
+use Rattle.olr_register.specs.Kept.{Stands}
+use Rattle.olr_register.specs.Registered.{Registered, Applied, nothing_registered}
 
 map_push : {A B : Type 0} (f : A → B) (xs : List A) (x : A) → map f (xs ++ x ∷ []) ≡ map f xs ++ f x ∷ []
 map_push f [] x = refl

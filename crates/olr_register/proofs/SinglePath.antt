@@ -8,7 +8,6 @@ use Rattle.olr_commands.specs.State as state
 use Rattle.olr_commands.specs.State.{Named, Content, IsContent, same_name, path_named, has_path, with_path, Fault, Path_exists, No_path, Bad_path, when, Add_path, Set_path, Drop_path, changed, at_once, Make}
 use Rattle.olr_commands.specs.Reply as told
 use Rattle.olr_commands.specs.Reply.{entry, may_want}
-use Rattle.olr_commands.specs.Registered.{Registered}
 use Rattle.olr_commands.specs.Words.{reply_of, command_fault_of}
 use Rattle.olr_commands.specs.declared.reply.Reply.{Reply}
 use Rattle.olr_commands.specs.declared.fault.CommandFault.{CommandFault}
@@ -16,15 +15,16 @@ use Rattle.olr_commands.specs.declared.fault.CommandFault.TheVariants as fault
 use Rattle.olr_commands.proofs.StateLemmas.{changes_keep}
 use Rattle.olr_paths.specs.Items.{Made, Item, IsEncodingOf, AreEncodings, all_named, answer_in}
 use Rattle.olr_paths.specs.Changes.{set_item}
+use Rattle.olr_register.specs.Registered.{Registered}
 use Rattle.olr_register.specs.Holding.{IsRegister}
 use Rattle.olr_register.specs.Answering.{Answered}
 use Rattle.olr_register.specs.Sparing.{NoneFalls}
 use Rattle.olr_register.specs.declared.batch.Batch.{Batch}
-use Rattle.olr_register.proofs.Tallies.{Tally}
+use Rattle.olr_register.proofs.Tallies.{Tally, of_parts}
 use Rattle.olr_register.proofs.Listed.{names_add, names_set, names_drop, made_add, made_set, made_drop}
 use Rattle.olr_register.proofs.Rising.{tallied_add, tallied_set, tallied_drop}
 use Rattle.olr_register.proofs.Told.{reported_add, reported_set, reported_drop}
-use Rattle.olr_register.proofs.Singles.{accepted_now, told_now, lacks_now, seen, closed_by, is_closed}
+use Rattle.olr_register.proofs.Singles.{accepted_now, told_now, lacks_now, closed_by, is_closed}
 
 -- want of memory, or lines that are no path
 abbrev pub IsPathFault : List ℕ → CommandFault → Type 0
@@ -66,13 +66,13 @@ drop_unknown x name f none free says = told_now x (Drop_path name) No_path f non
 -- ---- accepted
 
 -- from a register with no batch to one with none
-reach : (roads : RoadMap) (is js : List Item) (b : Option Batch) (w u : Tally) (x : Registered) (c : state.Command) (q : Reply) → seen roads is b w ≡ x → b ≡ None
-    → Answered (seen roads is None w) c (Ok q) (seen roads js None u) → Answered x c (Ok q) (seen roads js b u)
+reach : (roads : RoadMap) (is js : List Item) (b : Option Batch) (w u : Tally) (x : Registered) (c : state.Command) (q : Reply) → of_parts roads is b w ≡ x → b ≡ None
+    → Answered (of_parts roads is None w) c (Ok q) (of_parts roads js None u) → Answered x c (Ok q) (of_parts roads js b u)
 reach roads is js b w u x c q view none h =
-    subst (λ (o : Option Batch). Answered x c (Ok q) (seen roads js o u)) (sym none)
-    (subst (λ (y : Registered). Answered y c (Ok q) (seen roads js None u)) (ap (λ (o : Option Batch). seen roads is o w) (sym none) ∙ view) h)
+    subst (λ (o : Option Batch). Answered x c (Ok q) (of_parts roads js o u)) (sym none)
+    (subst (λ (y : Registered). Answered y c (Ok q) (of_parts roads js None u)) (ap (λ (o : Option Batch). of_parts roads is o w) (sym none) ∙ view) h)
 
-module _ (roads : RoadMap) (is : List Item) (b : Option Batch) (w : Tally) (x : Registered) (name : List ℕ) (view : seen roads is b w ≡ x) (none : x.kept.batch ≡ None) (right : IsRegister roads is b) where
+module _ (roads : RoadMap) (is : List Item) (b : Option Batch) (w : Tally) (x : Registered) (name : List ℕ) (view : of_parts roads is b w ≡ x) (none : x.kept.batch ≡ None) (right : IsRegister roads is b) where
   was_closed : b ≡ None
   was_closed = closed_by roads is b w x view none
 
@@ -90,73 +90,73 @@ module _ (roads : RoadMap) (is : List Item) (b : Option Batch) (w : Tally) (x : 
 
   -- ---- dropped
 
-  abbrev left : List Item
-  left = filter (λ i. not (same_name i.name name)) is
+  abbrev list_without : List Item
+  list_without = filter (λ i. not (same_name i.name name)) is
 
-  is_dropped : has_path x.kept.content name ≡ true → changed before (Drop_path name) ≡ Ok (record { map = map_of roads; paths = all_named left })
+  is_dropped : has_path x.kept.content name ≡ true → changed before (Drop_path name) ≡ Ok (record { map = map_of roads; paths = all_named list_without })
   is_dropped taken = when_not (not (has_path before name)) No_path _ (ap not (named_in true taken)) ∙ ap (λ (ps : List Named). Ok (record { map = map_of roads; paths = ps })) (sym (names_drop name is))
 
-  pub drop_keeps : (js : List Item) → has_path x.kept.content name ≡ true → js ≡ left → IsRegister roads js b
-  drop_keeps js taken same = subst (λ (ks : List Item). IsRegister roads ks b) (sym same) (keeps (Drop_path name) left (is_dropped taken) tt (made_drop (map_of roads) is name was_right.made))
+  pub drop_keeps : (js : List Item) → has_path x.kept.content name ≡ true → js ≡ list_without → IsRegister roads js b
+  drop_keeps js taken same = subst (λ (ks : List Item). IsRegister roads ks b) (sym same) (keeps (Drop_path name) list_without (is_dropped taken) tt (made_drop (map_of roads) is name was_right.made))
 
-  pub drop_done : (js : List Item) (q : Reply) → has_path x.kept.content name ≡ true → js ≡ left → reply_of q ≡ told.Paths [] → Answered x (Make (Drop_path name)) (Ok q) (seen roads js b w)
+  pub drop_done : (js : List Item) (q : Reply) → has_path x.kept.content name ≡ true → js ≡ list_without → reply_of q ≡ told.Paths [] → Answered x (Make (Drop_path name)) (Ok q) (of_parts roads js b w)
   drop_done js q taken same says =
-      subst (λ (ks : List Item). Answered x (Make (Drop_path name)) (Ok q) (seen roads ks b w)) (sym same)
-      (reach roads is left b w w x (Make (Drop_path name)) q view was_closed
-      (accepted_now (seen roads is None w) (seen roads left None w) (Drop_path name) q [] refl refl (is_dropped taken) says
+      subst (λ (ks : List Item). Answered x (Make (Drop_path name)) (Ok q) (of_parts roads ks b w)) (sym same)
+      (reach roads is list_without b w w x (Make (Drop_path name)) q view was_closed
+      (accepted_now (of_parts roads is None w) (of_parts roads list_without None w) (Drop_path name) q [] refl refl (is_dropped taken) says
       (reported_drop (map_of roads) is name was_right.content was_right.made)
-      (tallied_drop (seen roads is None w) (seen roads left None w) name refl refl (refl, refl))))
+      (tallied_drop (of_parts roads is None w) (of_parts roads list_without None w) name refl refl (refl, refl))))
 
   -- ---- added and set
 
-  none_fall : (js : List Item) (w u : Tally) → w.work.searches ≤ u.work.searches → w.work.settled ≤ u.work.settled → u.spared ≡ w.spared → NoneFalls (seen roads is None w) (seen roads js None u)
+  none_fall : (js : List Item) (w u : Tally) → w.work.searches ≤ u.work.searches → w.work.settled ≤ u.work.settled → u.spared ≡ w.spared → NoneFalls (of_parts roads is None w) (of_parts roads js None u)
   none_fall js w u searches settled kept = record { searches = searches; settled = settled; spared = omega arith }
 
   spared_one : (w u : Tally) → u.spared ≡ w.spared → u.spared ≤ w.spared + 1
   spared_one w u kept = omega arith
 
   module _ (path : Path) (m : Made) (good : IsTrue (is_path path.lines)) (encoded : IsEncodingOf (map_of roads) path m) where
-    abbrev added : List Item
-    added = is ++ record { name = name; path = path; made = Some m } ∷ []
+    abbrev list_added : List Item
+    list_added = is ++ record { name = name; path = path; made = Some m } ∷ []
 
-    is_added : has_path x.kept.content name ≡ false → changed before (Add_path name path) ≡ Ok (record { map = map_of roads; paths = all_named added })
+    is_added : has_path x.kept.content name ≡ false → changed before (Add_path name path) ≡ Ok (record { map = map_of roads; paths = all_named list_added })
     is_added free =
         when_not (has_path before name) Path_exists _ (named_in false free) ∙ when_not (not (is_path path.lines)) Bad_path _ (ap not good)
         ∙ ap (λ (ps : List Named). Ok (record { map = map_of roads; paths = ps })) (sym (names_add is (record { name = name; path = path; made = Some m })))
 
-    pub add_keeps : (js : List Item) → has_path x.kept.content name ≡ false → js ≡ added → IsRegister roads js b
-    add_keeps js free same = subst (λ (ks : List Item). IsRegister roads ks b) (sym same) (keeps (Add_path name path) added (is_added free) tt (made_add (map_of roads) is name path m was_right.made encoded))
+    pub add_keeps : (js : List Item) → has_path x.kept.content name ≡ false → js ≡ list_added → IsRegister roads js b
+    add_keeps js free same = subst (λ (ks : List Item). IsRegister roads ks b) (sym same) (keeps (Add_path name path) list_added (is_added free) tt (made_add (map_of roads) is name path m was_right.made encoded))
 
-    pub add_done : (target : Path) (js : List Item) (u : Tally) (q : Reply) (es : List told.Entry) → path ≡ target → has_path x.kept.content name ≡ false → js ≡ added → reply_of q ≡ told.Paths es → es ≡ entry name m.answer ∷ []
+    pub add_done : (target : Path) (js : List Item) (u : Tally) (q : Reply) (es : List told.Entry) → path ≡ target → has_path x.kept.content name ≡ false → js ≡ list_added → reply_of q ≡ told.Paths es → es ≡ entry name m.answer ∷ []
         → (w.work.encodings + 1 < 2 ^ 64 → u.work.encodings ≡ w.work.encodings + 1)
-        → w.work.searches ≤ u.work.searches → w.work.settled ≤ u.work.settled → u.spared ≡ w.spared → Answered x (Make (Add_path name target)) (Ok q) (seen roads js b u)
+        → w.work.searches ≤ u.work.searches → w.work.settled ≤ u.work.settled → u.spared ≡ w.spared → Answered x (Make (Add_path name target)) (Ok q) (of_parts roads js b u)
     add_done target js u q es along free same says listed counts searches settled kept =
-        subst (λ (p : Path). Answered x (Make (Add_path name p)) (Ok q) (seen roads js b u)) along
-        (subst (λ (ks : List Item). Answered x (Make (Add_path name path)) (Ok q) (seen roads ks b u)) (sym same)
-        (reach roads is added b w u x (Make (Add_path name path)) q view was_closed
-        (accepted_now (seen roads is None w) (seen roads added None u) (Add_path name path) q es refl refl (is_added free) says
+        subst (λ (p : Path). Answered x (Make (Add_path name p)) (Ok q) (of_parts roads js b u)) along
+        (subst (λ (ks : List Item). Answered x (Make (Add_path name path)) (Ok q) (of_parts roads ks b u)) (sym same)
+        (reach roads is list_added b w u x (Make (Add_path name path)) q view was_closed
+        (accepted_now (of_parts roads is None w) (of_parts roads list_added None u) (Add_path name path) q es refl refl (is_added free) says
         (reported_add (map_of roads) is name path m es was_right.content was_right.made (named_in false free) encoded listed)
-        (tallied_add (seen roads is None w) (seen roads added None u) name path was_right.content refl refl (is_added free) (record { encodings = counts; spared = spared_one w u kept }) (none_fall added w u searches settled kept)))))
+        (tallied_add (of_parts roads is None w) (of_parts roads list_added None u) name path was_right.content refl refl (is_added free) (record { encodings = counts; spared = spared_one w u kept }) (none_fall list_added w u searches settled kept)))))
 
-    abbrev replaced : List Item
-    replaced = map (set_item name path (Some m)) is
+    abbrev list_set : List Item
+    list_set = map (set_item name path (Some m)) is
 
-    is_set : has_path x.kept.content name ≡ true → changed before (Set_path name path) ≡ Ok (record { map = map_of roads; paths = all_named replaced })
+    is_set : has_path x.kept.content name ≡ true → changed before (Set_path name path) ≡ Ok (record { map = map_of roads; paths = all_named list_set })
     is_set taken =
         when_not (not (has_path before name)) No_path _ (ap not (named_in true taken)) ∙ when_not (not (is_path path.lines)) Bad_path _ (ap not good)
         ∙ ap (λ (ps : List Named). Ok (record { map = map_of roads; paths = ps })) (sym (names_set name path (Some m) is))
 
-    pub set_keeps : (js : List Item) → has_path x.kept.content name ≡ true → js ≡ replaced → IsRegister roads js b
-    set_keeps js taken same = subst (λ (ks : List Item). IsRegister roads ks b) (sym same) (keeps (Set_path name path) replaced (is_set taken) tt (made_set (map_of roads) is name path m was_right.made encoded))
+    pub set_keeps : (js : List Item) → has_path x.kept.content name ≡ true → js ≡ list_set → IsRegister roads js b
+    set_keeps js taken same = subst (λ (ks : List Item). IsRegister roads ks b) (sym same) (keeps (Set_path name path) list_set (is_set taken) tt (made_set (map_of roads) is name path m was_right.made encoded))
 
-    pub set_done : (target : Path) (js : List Item) (u : Tally) (q : Reply) (es : List told.Entry) → path ≡ target → has_path x.kept.content name ≡ true → js ≡ replaced → reply_of q ≡ told.Paths es
+    pub set_done : (target : Path) (js : List Item) (u : Tally) (q : Reply) (es : List told.Entry) → path ≡ target → has_path x.kept.content name ≡ true → js ≡ list_set → reply_of q ≡ told.Paths es
         → ((answer_in is name ≡ Some m.answer) × (es ≡ [])) ⊎ ((answer_in is name ≢ Some m.answer) × (es ≡ entry name m.answer ∷ []))
         → (w.work.encodings + 1 < 2 ^ 64 → u.work.encodings ≡ w.work.encodings + 1)
-        → w.work.searches ≤ u.work.searches → w.work.settled ≤ u.work.settled → u.spared ≡ w.spared → Answered x (Make (Set_path name target)) (Ok q) (seen roads js b u)
+        → w.work.searches ≤ u.work.searches → w.work.settled ≤ u.work.settled → u.spared ≡ w.spared → Answered x (Make (Set_path name target)) (Ok q) (of_parts roads js b u)
     set_done target js u q es along taken same says listed counts searches settled kept =
-        subst (λ (p : Path). Answered x (Make (Set_path name p)) (Ok q) (seen roads js b u)) along
-        (subst (λ (ks : List Item). Answered x (Make (Set_path name path)) (Ok q) (seen roads ks b u)) (sym same)
-        (reach roads is replaced b w u x (Make (Set_path name path)) q view was_closed
-        (accepted_now (seen roads is None w) (seen roads replaced None u) (Set_path name path) q es refl refl (is_set taken) says
+        subst (λ (p : Path). Answered x (Make (Set_path name p)) (Ok q) (of_parts roads js b u)) along
+        (subst (λ (ks : List Item). Answered x (Make (Set_path name path)) (Ok q) (of_parts roads ks b u)) (sym same)
+        (reach roads is list_set b w u x (Make (Set_path name path)) q view was_closed
+        (accepted_now (of_parts roads is None w) (of_parts roads list_set None u) (Set_path name path) q es refl refl (is_set taken) says
         (reported_set (map_of roads) is name path m es was_right.content was_right.made (named_in true taken) encoded listed)
-        (tallied_set (seen roads is None w) (seen roads replaced None u) name path was_right.content refl refl (is_set taken) (record { encodings = counts; spared = spared_one w u kept }) (none_fall replaced w u searches settled kept)))))
+        (tallied_set (of_parts roads is None w) (of_parts roads list_set None u) name path was_right.content refl refl (is_set taken) (record { encodings = counts; spared = spared_one w u kept }) (none_fall list_set w u searches settled kept)))))

@@ -10,16 +10,16 @@ use Rattle.olr_commands.specs.State as state
 use Rattle.olr_commands.specs.State.{Content, IsContent, path_named, has_path, Fault, Map_fault, Change, On_map, with_map, changed, at_once, Make, State, step}
 use Rattle.olr_commands.specs.Reply as told
 use Rattle.olr_commands.specs.Reply.{Differences, IsReply, IsOutcome, IsRefusal, Told, Lacks, takes_memory, may_want}
-use Rattle.olr_commands.specs.Kept.{StandsIn}
-use Rattle.olr_commands.specs.Registered.{Registered}
 use Rattle.olr_commands.specs.Words.{reply_of, command_fault_of, map_fault_of}
 use Rattle.olr_commands.specs.declared.reply.Reply.{Reply}
 use Rattle.olr_commands.specs.declared.fault.CommandFault.{CommandFault}
 use Rattle.olr_paths.specs.Items.{Item, AreEncodings, all_named}
+use Rattle.olr_register.specs.Kept.{StandsIn}
+use Rattle.olr_register.specs.Registered.{Registered}
 use Rattle.olr_register.specs.Holding.{kept_of, IsRegister}
 use Rattle.olr_register.specs.Answering.{Answered}
 use Rattle.olr_register.specs.declared.batch.Batch.{Batch}
-use Rattle.olr_register.proofs.Tallies.{Tally, Tallied}
+use Rattle.olr_register.proofs.Tallies.{Tally, Tallied, of_parts}
 use Rattle.olr_register.proofs.Rising.{one_state}
 use Rattle.olr_register.proofs.Outcomes.{answered_refused}
 
@@ -45,12 +45,12 @@ accepted_now old new x q es was later is says differences tallied = record {
 
 pub told_now : (old : Registered) (x : Change) (g : Fault) (f : CommandFault) → old.kept.batch ≡ None → changed old.kept.content x ≡ Err g → command_fault_of f ≡ g → Answered old (Make x) (Err f) old
 told_now old x g f was is says =
-    answered_refused old (Make x) f (λ s stands.
+    answered_refused old old (Make x) f refl (λ s stands.
     subst (λ (u : State). IsRefusal u (Make x) (command_fault_of f)) (sym (one_state old.kept s was stands)) (Told (ap at_once is ∙ ap (λ (h : Fault). Err h) (sym says))))
 
 pub lacks_now : (old : Registered) (x : Change) (f : CommandFault) → old.kept.batch ≡ None → takes_memory (Make x) None ≡ true → may_want (at_once (changed old.kept.content x)) ≡ true → command_fault_of f ≡ state.Memory → Answered old (Make x) (Err f) old
 lacks_now old x f was takes may says =
-    answered_refused old (Make x) f (λ s stands. subst (λ (u : State). IsRefusal u (Make x) (command_fault_of f)) (sym (one_state old.kept s was stands)) (Lacks says (λ i. takes i && may i)))
+    answered_refused old old (Make x) f refl (λ s stands. subst (λ (u : State). IsRefusal u (Make x) (command_fault_of f)) (sym (one_state old.kept s was stands)) (Lacks says (λ i. takes i && may i)))
 
 -- a register that is as before
 pub as_before : (old new : Registered) (x : Change) (f : CommandFault) → new ≡ old → Answered old (Make x) (Err f) old → Answered old (Make x) (Err f) new
@@ -58,21 +58,18 @@ as_before old new x f same h = subst (λ (y : Registered). Answered old (Make x)
 
 -- ---- a register with no batch, by its parts
 
-abbrev pub seen : RoadMap → List Item → Option Batch → Tally → Registered
-seen roads is b w = record { kept = kept_of roads is b; work = w.work; spared = w.spared }
-
-pub closed : (roads : RoadMap) (is : List Item) (b : Option Batch) → (kept_of roads is b).batch ≡ None → b ≡ None
-closed roads is None h = refl
-closed roads is (Some b) h = absurd cc
+batch_none : (roads : RoadMap) (is : List Item) (b : Option Batch) → (kept_of roads is b).batch ≡ None → b ≡ None
+batch_none roads is None h = refl
+batch_none roads is (Some b) h = absurd cc
 
 -- from the value to the fields
-pub closed_by : (roads : RoadMap) (is : List Item) (b : Option Batch) (w : Tally) (x : Registered) → seen roads is b w ≡ x → x.kept.batch ≡ None → b ≡ None
-closed_by roads is b w x view none = closed roads is b (ap (λ (y : Registered). y.kept.batch) view ∙ none)
+pub closed_by : (roads : RoadMap) (is : List Item) (b : Option Batch) (w : Tally) (x : Registered) → of_parts roads is b w ≡ x → x.kept.batch ≡ None → b ≡ None
+closed_by roads is b w x view none = batch_none roads is b (ap (λ (y : Registered). y.kept.batch) view ∙ none)
 
-pub seen_again : (roads later : RoadMap) (is js : List Item) (b : Option Batch) (w u : Tally) → b ≡ None → map_of later ≡ map_of roads → js ≡ is → u ≡ w → seen later js b u ≡ seen roads is b w
-seen_again roads later is js b w u none map same work =
-    let with_none : seen later js None u ≡ seen roads is None w = λ i. record { kept = record { content = record { map = map i; paths = all_named (same i) }; batch = None }; work = (work i).work; spared = (work i).spared } in
-    ap (λ (o : Option Batch). seen later js o u) none ∙ with_none ∙ ap (λ (o : Option Batch). seen roads is o w) (sym none)
+pub same_parts : (roads later : RoadMap) (is js : List Item) (b : Option Batch) (w u : Tally) → b ≡ None → map_of later ≡ map_of roads → js ≡ is → u ≡ w → of_parts later js b u ≡ of_parts roads is b w
+same_parts roads later is js b w u none map same work =
+    let with_none : of_parts later js None u ≡ of_parts roads is None w = λ i. record { kept = record { content = record { map = map i; paths = all_named (same i) }; batch = None }; work = (work i).work; spared = (work i).spared } in
+    ap (λ (o : Option Batch). of_parts later js o u) none ∙ with_none ∙ ap (λ (o : Option Batch). of_parts roads is o w) (sym none)
 
 pub is_closed : (roads : RoadMap) (is : List Item) (b : Option Batch) → b ≡ None → IsContent (record { map = map_of roads; paths = all_named is }) → AreEncodings (map_of roads) is → IsRegister roads is b
 is_closed roads is b none content at_once = subst (IsRegister roads is) (sym none) (record { content = content; made = at_once; held = tt })
@@ -95,7 +92,7 @@ told_by_map map_faults.Bad_shape = refl
 
 -- ---- whether a path has a name
 
-pub has_in : (roads : RoadMap) (is : List Item) (b : Option Batch) (w : Tally) (x : Registered) (name text : List ℕ) (t : Bool) → seen roads is b w ≡ x → text ≡ name
+pub has_in : (roads : RoadMap) (is : List Item) (b : Option Batch) (w : Tally) (x : Registered) (name text : List ℕ) (t : Bool) → of_parts roads is b w ≡ x → text ≡ name
     → t ≡ is_some (path_named (all_named is) text) → has_path x.kept.content name ≡ t
 has_in roads is b w x name text t view same is_that =
     ap (λ (y : Registered). has_path y.kept.content name) (sym view) ∙ ap (λ (n : List ℕ). is_some (path_named (all_named is) n)) (sym same) ∙ sym is_that

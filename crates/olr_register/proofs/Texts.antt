@@ -19,10 +19,10 @@ use Rattle.olr_commands.specs.State as state
 use Rattle.olr_commands.specs.State.{text_fault, bytes_fault}
 use Rattle.olr_commands.specs.Reply as told
 use Rattle.olr_commands.specs.Reply.{Explained}
-use Rattle.olr_commands.specs.Registered.{Registered}
 use Rattle.olr_commands.specs.Words.{reply_of, command_fault_of, text_fault_of}
 use Rattle.olr_commands.specs.declared.reply.Reply.{Reply}
 use Rattle.olr_commands.specs.declared.fault.CommandFault.{CommandFault}
+use Rattle.olr_register.specs.Registered.{Registered}
 use Rattle.olr_register.specs.Answering.{Answered}
 use Rattle.olr_register.proofs.Outcomes.{explain_answered, explain_refused, explain_lacks}
 

@@ -2,10 +2,10 @@
 --     Answered old c result new      an outcome of the command, counted where it is accepted, and nothing changed where it is refused
 use Rattle.std.specs.Prelude.{◌≡◌, is_some, Result, OnOk, OnErr, IsFalse}
 use Rattle.olr_commands.specs.State.{Command}
-use Rattle.olr_commands.specs.Registered.{Registered, Applied, Counted}
 use Rattle.olr_commands.specs.Words.{outcome_of}
 use Rattle.olr_commands.specs.declared.reply.Reply.{Reply}
 use Rattle.olr_commands.specs.declared.fault.CommandFault.{CommandFault}
+use Rattle.olr_register.specs.Registered.{Registered, Applied, Counted}
 use Rattle.olr_register.specs.Sparing.{encodes, Spares, NoneFalls, SameCounts}
 
 pub record Answered (old : Registered) (c : Command) (result : Result Reply CommandFault) (new : Registered) : Type 0 where

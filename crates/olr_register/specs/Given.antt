@@ -1,5 +1,5 @@
 -- What an open batch makes of a change that it is given.
---     taken b x      the content with the change after those that are held, or the first fault
+--     content_with b x      the content with the change after those that are held, or the first fault
 --     IsAdded old x new      the change is held too
 --     Given old x result new      it is held, or refused and the batch is as it was
 use Rattle.std.specs.Prelude.{◌≡◌, ℕ, suc, ◌||◌, ◌++◌, List, Result, Ok, Err, OnOk, OnErr, nat_le, IsFalse}
@@ -10,20 +10,20 @@ use Rattle.olr_commands.specs.State.{Content, Fault, Memory, Batch_full, full, w
 use Rattle.olr_commands.specs.Reply.{is_told_first}
 use Rattle.olr_commands.specs.Reply as replies
 use Rattle.olr_commands.specs.Counts.{nodes_of_change, lines_of_change, names_of_change}
-use Rattle.olr_commands.specs.Kept.{Batch, Held, content_of}
 use Rattle.olr_commands.specs.Words.{command_fault_of, reply_of}
 use Rattle.olr_commands.specs.declared.reply.Reply.{Reply}
 use Rattle.olr_commands.specs.declared.fault.CommandFault.{CommandFault}
+use Rattle.olr_register.specs.Kept.{Batch, Held, content_of}
 
-abbrev pub taken : Batch → Change → Result Content Fault
-taken b x = when (nat_le full b.count) Batch_full (changed (content_of b) x)
+abbrev pub content_with : Batch → Change → Result Content Fault
+content_with b x = when (nat_le full b.count) Batch_full (changed (content_of b) x)
 
 -- each path is marked as given where it has one of the names
 abbrev pub AreGiven : List (List ℕ) → List Held → Type 0
 AreGiven names hs = AllByRecursion (λ h. h.given ≡ list_any (same_name h.name) names) hs
 
 pub record IsAdded (old : Batch) (x : Change) (new : Batch) : Type 0 where
-  pub content : taken old x ≡ Ok (content_of new)
+  pub content : content_with old x ≡ Ok (content_of new)
   pub count : new.count ≡ suc old.count
   pub nodes : (v : ℕ) → has new.nodes v ≡ (has old.nodes v || has (nodes_of_change old.map x) v)
   pub lines : (y : ℕ) → has new.lines y ≡ (has old.lines y || has (lines_of_change x) y)
@@ -37,5 +37,5 @@ pub data IsRefused (taking : Result Content Fault) (fault : Fault) : Type 0 wher
 pub record Given (old : Batch) (x : Change) (result : Result Reply CommandFault) (new : Batch) : Type 0 where
   pub added : OnOk result (IsAdded old x new)
   pub reply : IfOk result (λ r. reply_of r ≡ replies.Held new.count)
-  pub refused : IfErr result (λ f. IsRefused (taken old x) (command_fault_of f))
+  pub refused : IfErr result (λ f. IsRefused (content_with old x) (command_fault_of f))
   pub unchanged : OnErr result (new ≡ old)

@@ -11,12 +11,12 @@ use Rattle.olr_map.specs.declared.road_map.RoadMap.{RoadMap}
 use Rattle.olr_near.specs.Numbers.{IsRight, IsSource}
 use Rattle.olr_near.specs.declared.nearness.Nearness.{Nearness}
 use Rattle.olr_commands.specs.State.{IsContent, full}
-use Rattle.olr_commands.specs.Kept as kept
 use Rattle.olr_paths.specs.Items.{Item, AreEncodings, AreEncodingsIfAny, all_named}
 use Rattle.olr_paths.specs.Changes.{Follows}
 use Rattle.olr_paths.specs.Beginning.{Begins}
 use Rattle.olr_paths.specs.Laying.{overlaid}
 use Rattle.olr_paths.specs.Touching.{nodes_of, lines_of, changed_of}
+use Rattle.olr_register.specs.Kept as kept
 use Rattle.olr_register.specs.declared.batch.Batch.{Batch}
 
 -- ---- as the definitions of commands see it, over the register's list

@@ -1,3 +1,5 @@
+pub mod Kept
+pub mod Registered
 pub mod Holding
 pub mod Answering
 pub mod Given

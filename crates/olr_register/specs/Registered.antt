@@ -9,7 +9,7 @@ use Rattle.olr_route.specs.declared.work.Work.{Work}
 use Rattle.olr_commands.specs.State.{State, no_content, Command}
 use Rattle.olr_commands.specs.Reply.{Outcome, IsOutcome}
 use Rattle.olr_commands.specs.Counts.{Raises}
-use Rattle.olr_commands.specs.Kept.{Kept, Stands, coded_kept}
+use Rattle.olr_register.specs.Kept.{Kept, Stands, coded_kept}
 
 pub record Registered : Type 0 where
   pub kept : Kept

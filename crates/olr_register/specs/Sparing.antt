@@ -6,8 +6,8 @@
 use Rattle.std.specs.Prelude.{◌≡◌, ℕ, ◌+◌, ◌≤◌, Bool, true, false}
 use Rattle.olr_commands.specs.State.{State, On_map, Add_path, Set_path, Command, Make, Commit}
 use Rattle.olr_commands.specs.Counts.{Raises}
-use Rattle.olr_commands.specs.Kept.{Stands}
-use Rattle.olr_commands.specs.Registered.{Registered}
+use Rattle.olr_register.specs.Kept.{Stands}
+use Rattle.olr_register.specs.Registered.{Registered}
 
 abbrev pub encodes : Bool → Command → Bool
 encodes false (Make (On_map e)) = true

@@ -2,9 +2,9 @@
 ghost use Rattle.std.specs.Prelude.{map, Some, IfOk};
 ghost use Rattle.olr_commands.specs.State.{State, start_state};
 ghost use Rattle.olr_commands.specs.Reply.{IsOutcome};
-ghost use Rattle.olr_commands.specs.Kept.{Stands};
 ghost use Rattle.olr_commands.specs.History.{History, Headline};
 ghost use Rattle.olr_commands.specs.Words.{command_of, outcome_of};
+ghost use Rattle.olr_register.specs.Kept.{Stands};
 
 use crate::register::Register;
 use olr_commands::{Command, CommandFault, Reply};
@@ -13,7 +13,7 @@ use std::alloc::{AllocError, Global};
 impl Register {
     ghost use Rattle.std.specs.Prelude.{◌≡◌, is_some, OnOk, OnErr, IsFalse};
     ghost use Rattle.olr_commands.specs.State.{IsContent};
-    ghost use Rattle.olr_commands.specs.Registered.{Applied, Counted};
+    ghost use Rattle.olr_register.specs.Registered.{Applied, Counted};
     ghost use Rattle.olr_register.specs.Answering.{Answered};
     ghost use Rattle.olr_register.specs.Sparing.{encodes, Spares, NoneFalls, SameCounts};
 
@@ -59,7 +59,7 @@ impl Register {
     {
         let result = self.answer_to(command);
         // The content is sound, as that of every register.
-        let _encodings = self.work.encodings;
+        self.is_sound();
         result
     }
 
@@ -67,6 +67,7 @@ impl Register {
     pub fn is_sound(&self)
         ensures { IsContent self.now.kept.content }
     {
+        // The content is sound by the register's invariant.
         let _encodings = self.work.encodings;
     }
 }

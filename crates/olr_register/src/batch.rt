@@ -1,7 +1,14 @@
-//! An open batch.
+//! An open batch, and the changes that it holds.
 
-use olr_map::UndoLog;
-use olr_paths::{Overlay, Touched};
+use crate::edits::line_changed;
+use crate::paths::path_of;
+use olr_commands::{CommandFault, Reply};
+use olr_map::{Edit, LineId, RoadMap, UndoLog, judge};
+use olr_paths::{Listing, Overlay, Touched};
+use std::alloc::Global;
+
+/// The most changes that a batch holds.
+const FULL: u32 = 100_000;
 
 /// What the held changes of an open batch come to.
 #[derive(Drop, Debug)]
@@ -14,4 +21,146 @@ pub struct Batch {
     pub(crate) count: u32,
     /// What its edits touched.
     pub(crate) touched: Touched,
+}
+
+impl Batch {
+    ghost use Rattle.std.specs.Prelude.{◌≡◌, List, nat_le, string_bytes};
+    ghost use Rattle.olr_spec.specs.Map.{IsMap};
+    ghost use Rattle.olr_map.specs.Edits.{edit_of};
+    ghost use Rattle.olr_map.specs.RoadMaps.{CanUndoAll, map_before};
+    ghost use Rattle.olr_map.specs.declared.road_map.RoadMap.{RoadMap as Roads};
+    ghost use Rattle.olr_commands.specs.State.{On_map, Add_path, Set_path, Drop_path, full, NamesDiffer};
+    ghost use Rattle.olr_commands.specs.Words.{path_along};
+    ghost use Rattle.olr_paths.specs.Items.{Item, items, all_named};
+    ghost use Rattle.olr_paths.specs.Laying.{overlaid};
+    ghost use Rattle.olr_register.specs.Holding.{IsHeld, batch_of};
+    ghost use Rattle.olr_register.specs.Given.{Given};
+
+    /// Whether it holds as many changes as it may.
+    fn is_full(&self) -> bool
+        ensures { result ≡ nat_le full self.now.count }
+    {
+        self.count >= FULL
+    }
+
+    /// Makes an edit of its map and holds it. After a fault map and batch are as they were.
+    pub(crate) fn edit(&mut self, roads: &mut RoadMap, edit: Edit) -> Result<Reply, CommandFault>
+        requires { CanUndoAll roads.old self.old.log }
+        ensures given { (is : List Item)
+            → Given (batch_of roads.old is self.old) (On_map (edit_of edit)) result (batch_of roads.new is self.new) }
+        ensures held { (before : List Item) → IsMap (map_before roads.old self.old.log)
+            → IsHeld roads.old before self.old → IsHeld roads.new before self.new }
+        ensures before { map_before roads.new self.new.log ≡ map_before roads.old self.old.log }
+    {
+        if self.is_full() {
+            return Err(CommandFault::BatchFull);
+        }
+        let judged = match judge(roads, &edit) {
+            Ok(judged) => judged,
+            Err(fault) => return Err(CommandFault::Map(fault)),
+        };
+        if self.touched.reserve().is_err() {
+            return Err(CommandFault::Memory);
+        }
+        match roads.make_into(edit, &judged, &mut self.log) {
+            Ok(()) => {
+                self.touched
+                    .note(judged.nodes, judged.line, line_changed(&judged));
+                self.count += 1;
+                Ok(Reply::Held(self.count))
+            }
+            Err(_) => Err(CommandFault::Memory),
+        }
+    }
+
+    /// Holds a new path. After a fault the batch is as it was.
+    pub(crate) fn add_path(
+        &mut self,
+        alloc: Global,
+        list: &Listing,
+        name: String,
+        lines: Vec<LineId>,
+        pos: u32,
+        neg: u32,
+    ) -> Result<Reply, CommandFault>
+        ensures given { (roads : Roads) → Given (batch_of roads (items list.now) self.old)
+            (Add_path (string_bytes name) (path_along lines.items pos neg)) result (batch_of roads (items list.now) self.new) }
+        ensures held { (roads : Roads) → IsHeld roads (items list.now) self.old → IsHeld roads (items list.now) self.new }
+        ensures log { self.new.log ≡ self.old.log }
+    {
+        if self.is_full() {
+            return Err(CommandFault::BatchFull);
+        }
+        if self.overlay.has(list, &name) {
+            return Err(CommandFault::PathExists);
+        }
+        let path = path_of(alloc, lines, pos, neg)?;
+        match self.overlay.hold(alloc, name, path) {
+            Ok(()) => {
+                self.count += 1;
+                Ok(Reply::Held(self.count))
+            }
+            Err(_) => Err(CommandFault::Memory),
+        }
+    }
+
+    /// Holds another path under a name. After a fault the batch is as it was.
+    pub(crate) fn set_path(
+        &mut self,
+        alloc: Global,
+        list: &Listing,
+        name: &str,
+        lines: Vec<LineId>,
+        pos: u32,
+        neg: u32,
+    ) -> Result<Reply, CommandFault>
+        requires { NamesDiffer (all_named (overlaid (items list.now) self.old.overlay)) }
+        ensures given { (roads : Roads) → Given (batch_of roads (items list.now) self.old)
+            (Set_path name.now (path_along lines.items pos neg)) result (batch_of roads (items list.now) self.new) }
+        ensures held { (roads : Roads) → IsHeld roads (items list.now) self.old → IsHeld roads (items list.now) self.new }
+        ensures log { self.new.log ≡ self.old.log }
+    {
+        if self.is_full() {
+            return Err(CommandFault::BatchFull);
+        }
+        if !self.overlay.has(list, name) {
+            return Err(CommandFault::NoPath);
+        }
+        let path = path_of(alloc, lines, pos, neg)?;
+        match self.overlay.hold_other(alloc, name, path) {
+            Ok(()) => {
+                self.count += 1;
+                Ok(Reply::Held(self.count))
+            }
+            Err(_) => Err(CommandFault::Memory),
+        }
+    }
+
+    /// Holds that a path is taken away. After a fault the batch is as it was.
+    pub(crate) fn drop_path(
+        &mut self,
+        alloc: Global,
+        list: &Listing,
+        name: &str,
+    ) -> Result<Reply, CommandFault>
+        requires { NamesDiffer (all_named (overlaid (items list.now) self.old.overlay)) }
+        ensures given { (roads : Roads) → Given (batch_of roads (items list.now) self.old) (Drop_path name.now) result
+            (batch_of roads (items list.now) self.new) }
+        ensures held { (roads : Roads) → IsHeld roads (items list.now) self.old → IsHeld roads (items list.now) self.new }
+        ensures log { self.new.log ≡ self.old.log }
+    {
+        if self.is_full() {
+            return Err(CommandFault::BatchFull);
+        }
+        if !self.overlay.has(list, name) {
+            return Err(CommandFault::NoPath);
+        }
+        match self.overlay.drop_path(alloc, name) {
+            Ok(()) => {
+                self.count += 1;
+                Ok(Reply::Held(self.count))
+            }
+            Err(_) => Err(CommandFault::Memory),
+        }
+    }
 }

@@ -1,11 +1,14 @@
-//! Opening a batch, and its two ends.
-ghost use Rattle.olr_commands.specs.State.{Begin, Commit, Abort};
+//! Batches: opening one, what is given to it, and its two ends.
+ghost use Rattle.std.specs.Prelude.{string_bytes, IsSome};
+ghost use Rattle.olr_map.specs.Edits.{edit_of};
+ghost use Rattle.olr_commands.specs.State.{Make, On_map, Add_path, Set_path, Drop_path, Begin, Commit, Abort};
+ghost use Rattle.olr_commands.specs.Words.{path_along};
 
 use crate::batch::Batch;
 use crate::nearing::{ask_near, renumber};
 use crate::register::Register;
 use olr_commands::{CommandFault, Reply};
-use olr_map::UndoLog;
+use olr_map::{Edit, LineId, UndoLog};
 use olr_paths::{Overlay, Touched};
 
 impl Register {
@@ -27,7 +30,71 @@ impl Register {
         Ok(Reply::Paths(Vec::new(self.alloc)))
     }
 
-    /// Accepts all held changes at once, if there are so many, and encodes the paths that they concern. After a refusal the
+    /// Makes an edit of the open batch's map, and holds it. After a fault the register is as it was.
+    pub(crate) fn hold_edit(&mut self, edit: Edit) -> Result<Reply, CommandFault>
+        requires { IsSome self.old.kept.batch }
+        ensures { Answered self.old (Make (On_map (edit_of edit))) result self.new }
+    {
+        let Some(mut batch) = self.batch.take() else {
+            unreachable!()
+        };
+        let result = batch.edit(&mut self.roads, edit);
+        self.batch = Some(batch);
+        result
+    }
+
+    /// Holds a new path in the open batch. After a fault the register is as it was.
+    pub(crate) fn hold_add(
+        &mut self,
+        name: String,
+        lines: Vec<LineId>,
+        pos: u32,
+        neg: u32,
+    ) -> Result<Reply, CommandFault>
+        requires { IsSome self.old.kept.batch }
+        ensures { Answered self.old (Make (Add_path (string_bytes name) (path_along lines.items pos neg))) result self.new }
+    {
+        let Some(mut batch) = self.batch.take() else {
+            unreachable!()
+        };
+        let result = batch.add_path(self.alloc, &self.paths, name, lines, pos, neg);
+        self.batch = Some(batch);
+        result
+    }
+
+    /// Holds another path under a name in the open batch. After a fault the register is as it was.
+    pub(crate) fn hold_set(
+        &mut self,
+        name: &str,
+        lines: Vec<LineId>,
+        pos: u32,
+        neg: u32,
+    ) -> Result<Reply, CommandFault>
+        requires { IsSome self.old.kept.batch }
+        ensures { Answered self.old (Make (Set_path name.now (path_along lines.items pos neg))) result self.new }
+    {
+        let Some(mut batch) = self.batch.take() else {
+            unreachable!()
+        };
+        let result = batch.set_path(self.alloc, &self.paths, name, lines, pos, neg);
+        self.batch = Some(batch);
+        result
+    }
+
+    /// Holds, in the open batch, that a path is taken away. After a fault the register is as it was.
+    pub(crate) fn hold_drop(&mut self, name: &str) -> Result<Reply, CommandFault>
+        requires { IsSome self.old.kept.batch }
+        ensures { Answered self.old (Make (Drop_path name.now)) result self.new }
+    {
+        let Some(mut batch) = self.batch.take() else {
+            unreachable!()
+        };
+        let result = batch.drop_path(self.alloc, &self.paths, name);
+        self.batch = Some(batch);
+        result
+    }
+
+    /// Accepts all held changes at once, if there are so many, and encodes the paths that they concern. After a fault the
     /// batch is open as before.
     pub(crate) fn commit(&mut self, count: u32) -> Result<Reply, CommandFault>
         ensures { Answered self.old (Commit count) result self.new }

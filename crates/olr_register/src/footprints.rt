@@ -13,7 +13,7 @@ use olr_route::Work;
 impl Register {
     /// The footprint of the path of that name, searched for when it is asked: a change of the map that touches none of these
     /// nodes and no line of the path leaves its answer. None where no path has the name. While a batch is open the map is
-    /// the batch's, and the refusal is `BatchOpen`; else `Memory` is the only one.
+    /// the batch's, and the fault is `BatchOpen`; else `Memory` is the only one.
     pub fn footprint(&self, name: &str) -> Result<Option<Footprint>, CommandFault>
         ensures open { IsTrue (is_some self.now.kept.batch) → result ≡ Err CommandFault.BatchOpen }
         ensures memory { IfErr result (λ f. IsFalse (is_some self.now.kept.batch) → f ≡ CommandFault.Memory) }

@@ -4,13 +4,12 @@
 mod applying;
 pub mod batch;
 mod batches;
-mod changed;
+mod edits;
 mod footprints;
-mod holds;
 mod nearing;
+mod paths;
 mod questions;
 pub mod register;
-mod single;
 
 pub use applying::replay;
 pub use register::Register;

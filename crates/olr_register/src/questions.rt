@@ -8,16 +8,14 @@ use olr_commands::{CommandFault, Entry, Reply};
 use std::alloc::{AllocError, Global};
 
 /// The list of one entry.
-fn alone(alloc: Global, entry: Entry) -> Result<Vec<Entry>, AllocError>
+fn one_entry(alloc: Global, entry: Entry) -> Result<Vec<Entry>, AllocError>
     ensures { IfOk result (λ v. v.items ≡ entry ∷ []) }
 {
-    let mut entries = Vec::new(alloc);
-    entries.push(entry)?;
-    Ok(entries)
+    Ok(vec![in alloc; entry]?)
 }
 
-/// The refusal of a text that is no reference; for want of memory `Memory`.
-fn text_refusal(fault: TextFault) -> CommandFault
+/// The fault of a text that is no reference; for want of memory `Memory`.
+fn text_fault(fault: TextFault) -> CommandFault
     ensures { command_fault_of result ≡ text_fault_of fault }
 {
     match fault {
@@ -40,7 +38,7 @@ impl Register {
         let Ok(entry) = self.paths.entry(self.alloc, name) else {
             return Err(CommandFault::Memory);
         };
-        match alone(self.alloc, entry) {
+        match one_entry(self.alloc, entry) {
             Ok(entries) => Ok(Reply::Paths(entries)),
             Err(_) => Err(CommandFault::Memory),
         }
@@ -62,7 +60,7 @@ impl Register {
     {
         match from_text(self.alloc, text) {
             Ok(reference) => Ok(Reply::Fields(reference)),
-            Err(fault) => Err(text_refusal(fault)),
+            Err(fault) => Err(text_fault(fault)),
         }
     }
 }

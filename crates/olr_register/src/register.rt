@@ -29,8 +29,8 @@ pub struct Register {
 }
 
 impl Model for Register {
-    ghost use Rattle.olr_commands.specs.Registered.{Registered, coded_registered};
     ghost use Rattle.olr_paths.specs.Items.{items};
+    ghost use Rattle.olr_register.specs.Registered.{Registered, coded_registered};
     ghost use Rattle.olr_register.specs.Holding.{kept_of, IsWhole};
 
     ghost Value = { Registered };
@@ -44,9 +44,9 @@ impl Model for Register {
 
 impl Register {
     ghost use Rattle.std.specs.Prelude.{◌≡◌, length, map, option_map, is_some, slice_get};
-    ghost use Rattle.olr_commands.specs.Registered.{nothing_registered};
     ghost use Rattle.olr_commands.specs.Reply.{Published, PublishedText};
     ghost use Rattle.olr_refs.specs.Answers.{answer_of};
+    ghost use Rattle.olr_register.specs.Registered.{nothing_registered};
 
     /// The register of no map and no paths. Takes no memory.
     pub fn new(alloc: Global) -> Register

@@ -21,7 +21,7 @@ fn give(rt: &impl Abort, register: &mut Register, edit: Edit) -> Result<Reply, C
 fn assert_held(rt: &impl Abort, outcome: Result<Reply, CommandFault>, count: u32) {
     match outcome {
         Ok(Reply::Held(held)) => assert_eq!(rt; held, count),
-        _ => assert!(rt; false, "not held as {count}"),
+        _ => panic!(rt; "not held as {count}"),
     }
 }
 

@@ -5,7 +5,7 @@ use crate::worked::{
     other_length, place, plain_line, road, three_points,
 };
 use olr_commands::{Command, CommandFault, Reply};
-use olr_map::Edit;
+use olr_map::{Edit, EditFault};
 use olr_refs::{Answer, Refusal};
 use olr_register::{Register, replay};
 use std::alloc::{AllocError, Global};
@@ -87,6 +87,24 @@ fn each_edit_is_counted(rt: HostRuntime) -> Result<(), Fail> {
     Ok(())
 }
 
+#[test]
+fn edits_where_no_path_is_left(rt: HostRuntime) -> Result<(), Fail> {
+    let alloc = rt.alloc();
+    let mut register = three_points(&rt, alloc)?;
+    assert_quiet(&rt, register.apply(Command::DropPath(name(alloc, "a")?)));
+    let dropped = register.apply(Command::Edit(Edit::DropLine(line(&rt, 99))));
+    assert_quiet(&rt, dropped);
+    let again = register.apply(Command::Edit(Edit::DropLine(line(&rt, 99))));
+    assert_refused(&rt, again, CommandFault::Map(EditFault::NoLine));
+    assert_eq!(rt; register.work().encodings, 1);
+    let added = register.apply(add(&rt, alloc, "a", &[10, 20, 30], (1500, 0))?);
+    assert_named(&rt, added, "a");
+    assert_eq!(rt; register.work().encodings, 2);
+    assert_named(&rt, register.apply(other_length(&rt, alloc, 20, 2000)), "a");
+    assert_eq!(rt; register.work().encodings, 3);
+    Ok(())
+}
+
 /// That it was accepted, and told this path alone.
 fn assert_named(rt: &impl Abort, outcome: Result<Reply, CommandFault>, name: &str) {
     match outcome {
@@ -96,7 +114,7 @@ fn assert_named(rt: &impl Abort, outcome: Result<Reply, CommandFault>, name: &st
                 assert_eq!(rt; entry.name.as_str(), name);
             }
         }
-        _ => assert!(rt; false, "not accepted"),
+        _ => panic!(rt; "not accepted"),
     }
 }
 

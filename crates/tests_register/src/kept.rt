@@ -66,7 +66,7 @@ fn a_footprint_is_searched_for(rt: HostRuntime) -> Result<(), Fail> {
             }
             assert!(rt; !footprint.has(node(&rt, 5)));
         }
-        _ => assert!(rt; false, "no footprint"),
+        _ => panic!(rt; "no footprint"),
     }
     assert!(rt; matches!(register.footprint("b"), Ok(None)));
     assert_quiet(&rt, register.apply(Command::Begin));

@@ -1,4 +1,4 @@
-//! Tests of the register: commands, batches, refusals and counts, on the worked map and on chains of nodes.
+//! Tests of the register: commands, batches, faults and counts, on the worked map and on chains of nodes.
 #![tactic(auto)]
 
 #[cfg(test)]

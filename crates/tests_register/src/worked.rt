@@ -133,7 +133,7 @@ pub(crate) fn other_length(rt: &impl Abort, alloc: Global, number: u32, len: u32
 pub(crate) fn assert_quiet(rt: &impl Abort, outcome: Result<Reply, CommandFault>) {
     match outcome {
         Ok(Reply::Paths(entries)) => assert_eq!(rt; entries.len(), 0),
-        _ => assert!(rt; false, "not accepted"),
+        _ => panic!(rt; "not accepted"),
     }
 }
 
@@ -146,11 +146,11 @@ pub(crate) fn assert_told(rt: &impl Abort, outcome: Result<Reply, CommandFault>,
                 assert_eq!(rt; entry.name.as_str(), "a");
                 match &entry.published {
                     Ok(published) => assert_eq!(rt; published.as_str(), text),
-                    Err(_) => assert!(rt; false, "no text"),
+                    Err(_) => panic!(rt; "no text"),
                 }
             }
         }
-        _ => assert!(rt; false, "not accepted"),
+        _ => panic!(rt; "not accepted"),
     }
 }
 
@@ -176,11 +176,11 @@ pub(crate) fn assert_paths(
                 match (&entry.published, published) {
                     (Ok(text), Ok(wanted)) => assert_eq!(rt; text.as_str(), *wanted),
                     (Err(refusal), Err(wanted)) => assert_eq!(rt; *refusal, *wanted),
-                    _ => assert!(rt; false, "the other kind of answer"),
+                    _ => panic!(rt; "the other kind of answer"),
                 }
             }
         }
-        _ => assert!(rt; false, "not accepted"),
+        _ => panic!(rt; "not accepted"),
     }
 }
 

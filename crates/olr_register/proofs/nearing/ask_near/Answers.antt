@@ -9,4 +9,4 @@ pub returns-clause-sources : goal.returns-clause-sources
 returns-clause-sources c = λ s is. c.settle.ensures.sources s (c.reopen.ensures.sources s is)
 
 pub returns-clause-far : goal.returns-clause-far
-returns-clause-far c = λ yes s right source. c.is_far.ensures yes (map_of c.args.roads.now) s right source
+returns-clause-far c = λ yes s right source. c.is_far.ensures.far yes (map_of c.args.roads.now) s right source

@@ -1,13 +1,13 @@
-use Rattle.std.proofs.Common.{◌≡◌, ℕ, List, Option, Some, None, Contains, sym, ◌∙◌, subst}
+use Rattle.std.proofs.Common.{ℕ, List, Contains, sym, subst}
 use Rattle.olr_map.specs.RoadMaps.{map_of}
 use Rattle.olr_paths.specs.Items.{items}
-use Rattle.olr_register.proofs.Numbered.{numbered_unknown}
+use Rattle.olr_register.proofs.Numbered.{numbered_unknown, right_without}
 use Rattle.olr_register.proofs.nearing.number_anew.Goals as goal
 
 pub returns-in-Ok : goal.returns-in-Ok
 returns-in-Ok c =
     record {
-      right = c.add_near.ensures.right (λ known u d at. let none : ◌≡◌ {A = Option ℕ} None (Some d) = sym (c.clear.ensures u) ∙ at in let never : ⊥ = cc in absurd never);
+      right = c.add_near.ensures.right (right_without (map_of c.args.roads.now) c.clear.new.self c.clear.ensures.numbers);
       sources = λ v b. c.add_near.ensures.sources v (subst (λ (ns : List ℕ). Contains ns v) (sym c.deref.ensures.value) (c.in-Ok.ensures v b));
     }
 

@@ -2,7 +2,7 @@ use Rattle.std.proofs.Common.{ℕ, List, refl, sym, ap, ◌∙◌}
 use Rattle.olr_spec.specs.Extension.{has}
 use Rattle.olr_map.specs.Edits.{edit_of}
 use Rattle.olr_register.specs.Holding.{batch_of}
-use Rattle.olr_register.proofs.HoldEdits.{edit_told, edit_lacks, held_edit, joined, changes_more, same_batch}
+use Rattle.olr_register.proofs.HoldEdits.{edit_told, edit_lacks, held_edit, has_either, changes_more, same_batch}
 use Rattle.olr_commands.specs.Words.{map_fault_of}
 use Rattle.olr_register.proofs.Singles.{told_by_map}
 use Rattle.olr_register.proofs.SingleEdit.{refused_is, taken_is}
@@ -30,8 +30,8 @@ returns-in-Ok-make_into-clause-held c =
     let j = c.in-Ok.ensures.judged in
     held_edit c.args.roads.now c.make_into.new.self before b c.make_into.new.log c.note.new.self (edit_of c.args.edit) (sym c.if-is_full.ensures) j.placed
     c.make_into.ensures.can_undo c.in-Ok-make_into.ensures.done c.make_into.ensures.before
-    (λ v. joined _ _ _ _ _ (c.note.ensures.nodes v) (ap (λ (vs : List ℕ). has vs v) c.reserve.ensures.nodes) (j.nodes v))
-    (λ y. joined _ _ _ _ _ (c.note.ensures.lines y) (ap (λ (ys : List ℕ). has ys y) c.reserve.ensures.lines) (ap (λ (ys : List ℕ). has ys y) (sym j.lines)))
+    (λ v. has_either _ _ _ _ _ (c.note.ensures.nodes v) (ap (λ (vs : List ℕ). has vs v) c.reserve.ensures.nodes) (j.nodes v))
+    (λ y. has_either _ _ _ _ _ (c.note.ensures.lines y) (ap (λ (ys : List ℕ). has ys y) c.reserve.ensures.lines) (ap (λ (ys : List ℕ). has ys y) (sym j.lines)))
     (changes_more _ _ _ _ c.reserve.ensures.changed c.note.ensures.changed (c.line_changed.ensures ∙ j.changes)) first h
 
 pub returns-in-Err-make_into-clause-given : goal.returns-in-Err-make_into-clause-given

@@ -4,7 +4,7 @@ use Rattle.olr_spec.specs.Extension.{Path, is_path}
 use Rattle.olr_map.specs.RoadMaps.{map_of}
 use Rattle.olr_paths.specs.Items.{items}
 use Rattle.olr_register.specs.Holding.{map_kept}
-use Rattle.olr_register.proofs.Singles.{as_before, closed_by, has_in, seen_again}
+use Rattle.olr_register.proofs.Singles.{as_before, closed_by, has_in, same_parts}
 use Rattle.olr_register.proofs.SinglePath.{add_exists, add_refused, add_keeps, add_done}
 use Rattle.olr_register.proofs.Numbered.{kept_closed, numbered_same, numbered_more}
 use Rattle.olr_register.proofs.Tallies.{tally}
@@ -28,7 +28,7 @@ returns-in_default c =
     let r = c.self.inside in
     let x = c.args.self.now in
     let none = closed_by r.roads (items r.paths) r.batch (tally r.work r.kept) x c.self.view_is c.requires in
-    as_before x _ _ _ (seen_again r.roads r.roads (items r.paths) _ r.batch (tally r.work r.kept) (tally c.add.new.work r.kept) none refl c.in_default.ensures.err (ap (λ u. tally u r.kept) c.in_default.ensures.err_work) ∙ c.self.view_is)
+    as_before x _ _ _ (same_parts r.roads r.roads (items r.paths) _ r.batch (tally r.work r.kept) (tally c.add.new.work r.kept) none refl c.in_default.ensures.err (ap (λ u. tally u r.kept) c.in_default.ensures.err_work) ∙ c.self.view_is)
     (add_refused x _ _ _ c.requires (has_in r.roads (items r.paths) r.batch (tally r.work r.kept) x _ _ _ c.self.view_is c.deref.ensures c.if-has.ensures) (inl refl))
 
 pub invariant_of-self-2 : goal.invariant_of-self-2

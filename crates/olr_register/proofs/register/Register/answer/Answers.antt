@@ -1,8 +1,8 @@
 use Rattle.std.proofs.Common.{Some, ap, ◌∙◌}
 use Rattle.std.specs.Prelude.{option_map}
 use Rattle.olr_spec.specs.Encoding.{Answer}
-use Rattle.olr_commands.specs.Registered.{Registered}
 use Rattle.olr_paths.specs.Items.{Made, items}
+use Rattle.olr_register.specs.Registered.{Registered}
 use Rattle.olr_register.specs.Holding.{map_kept}
 use Rattle.olr_register.proofs.Asking.{answer_is}
 use Rattle.olr_register.proofs.register.Register.answer.Goals as goal

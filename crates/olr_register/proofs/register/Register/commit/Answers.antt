@@ -7,7 +7,7 @@ use Rattle.olr_paths.specs.Touching.{nodes_of}
 use Rattle.olr_register.specs.Holding.{map_kept}
 use Rattle.olr_register.proofs.BatchEnds.{none_refused}
 use Rattle.olr_register.proofs.BatchCommit.{count_refused, commit_lacks, lacks_held, commit_from, commit_before, commit_held, commit_done}
-use Rattle.olr_register.proofs.Numbered.{kept_closed, numbered_unknown, numbered_same, asked, far_looks, numbered_more, commit_numbered}
+use Rattle.olr_register.proofs.Numbered.{kept_closed, numbered_unknown, numbered_same, numbered_asked, far_looks, numbered_more, commit_numbered}
 use Rattle.olr_register.proofs.Tallies.{tally}
 use Rattle.olr_register.proofs.register.Register.commit.Goals as goal
 
@@ -40,7 +40,7 @@ invariant_of-self-2 c =
     let held = commit_from s.roads (items s.paths) s.batch c.in-Some.batch (sym c.in-Some.ensures.value) c.self.invariant.register in
     let laid = overlaid (items s.paths) c.in-Some.batch.overlay in
     let was = commit_numbered s.roads (items s.paths) s.batch c.in-Some.batch s.near (sym c.in-Some.ensures.value) held c.self.invariant.numbered in
-    let now = asked (map_before s.roads c.in-Some.batch.log) (map_of s.roads) laid (nodes_of c.in-Some.batch.touched) c.nodes.result.now s.near c.ask_near-far.new.near c.nodes.ensures held.noted.difference.nodes was
+    let now = numbered_asked (map_before s.roads c.in-Some.batch.log) (map_of s.roads) laid (nodes_of c.in-Some.batch.touched) c.nodes.result.now s.near c.ask_near-far.new.near c.nodes.ensures held.noted.difference.nodes was
     c.ask_near-far.ensures.right c.ask_near-far.ensures.sources in
     record {
       register = commit_held s.roads c.keep_all.new.self (items s.paths) (items c.renew_over.new.self) s.batch c.take.new.self c.in-Some.batch (sym c.in-Some.ensures.value) c.take.ensures.after c.self.invariant.register

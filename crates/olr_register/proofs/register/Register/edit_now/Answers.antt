@@ -1,17 +1,16 @@
-use Rattle.std.proofs.Common.{◌==◌, ◌||◌, ℕ, Ok, List, refl, ap, ◌∙◌, subst, sym}
-use Rattle.olr_spec.specs.Map.{Map, touched_nodes, touched_lines}
-use Rattle.olr_spec.specs.Extension.{has}
+use Rattle.std.proofs.Common.{ℕ, Ok, List, refl, ap, ◌∙◌, subst, sym}
+use Rattle.std.specs.Prelude.{map as list_map}
+use Rattle.olr_spec.specs.Map.{Map}
 use Rattle.olr_map.specs.Edits.{edit_of}
 use Rattle.olr_map.specs.RoadMaps.{map_of}
-use Rattle.std.specs.Prelude.{map as list_map}
 use Rattle.olr_commands.specs.Words.{entry_of}
 use Rattle.olr_paths.specs.Items.{items}
 use Rattle.olr_paths.specs.Changes.{AreRemade}
 use Rattle.olr_paths.specs.Touching.{nodes_of, lines_of, changed_of}
 use Rattle.olr_register.specs.Holding.{map_kept}
-use Rattle.olr_register.proofs.Singles.{as_before, closed_by, still_closed, seen_again}
-use Rattle.olr_register.proofs.SingleEdit.{refused_is, taken_is, edit_refused, edit_lacks, noted, changes_noted, edit_before, edit_keeps, edit_done}
-use Rattle.olr_register.proofs.Numbered.{kept_closed, numbered_unknown, numbered_same, edit_same_but, asked, far_looks, numbered_more}
+use Rattle.olr_register.proofs.Singles.{as_before, closed_by, still_closed, same_parts}
+use Rattle.olr_register.proofs.SingleEdit.{refused_is, taken_is, edit_refused, edit_lacks, noted_judged, edit_before, edit_keeps, edit_done}
+use Rattle.olr_register.proofs.Numbered.{kept_closed, numbered_unknown, numbered_same, edit_same_but, numbered_asked, far_looks, numbered_more}
 use Rattle.olr_register.proofs.Tallies.{tally}
 use Rattle.olr_register.proofs.register.Register.edit_now.Goals as goal
 
@@ -21,94 +20,88 @@ returns-in-Err c =
     let p = refused_is _ c.in-Err.fault c.in-Err.ensures.fault in
     edit_refused r.roads (items r.paths) r.batch (tally r.work r.kept) c.args.self.now (edit_of c.args.edit) p.0 c.in-Err.fault c.self.view_is c.requires p.1 p.2
 
-pub returns-then-is_err : goal.returns-then-is_err
-returns-then-is_err c =
+pub returns-in_default : goal.returns-in_default
+returns-in_default c =
     let r = c.self.inside in
     let taken = taken_is _ c.in-Ok.ensures.judged.accepted in
     as_before c.args.self.now _ _ _ c.self.view_is
     (edit_lacks r.roads (items r.paths) r.batch (tally r.work r.kept) c.args.self.now (edit_of c.args.edit) taken.0 _ c.self.view_is c.requires taken.1 refl)
 
-pub returns-in-Err-make : goal.returns-in-Err-make
-returns-in-Err-make c =
+pub returns-in_default-make : goal.returns-in_default-make
+returns-in_default-make c =
     let r = c.self.inside in
     let x = c.args.self.now in
     let none = closed_by r.roads (items r.paths) r.batch (tally r.work r.kept) x c.self.view_is c.requires in
     let taken = taken_is _ c.in-Ok.ensures.judged.accepted in
-    as_before x _ _ _ (seen_again r.roads c.make.new.self (items r.paths) (items r.paths) r.batch (tally r.work r.kept) (tally r.work r.kept) none c.in-Err-make.ensures.same refl refl ∙ c.self.view_is)
+    as_before x _ _ _ (same_parts r.roads c.make.new.self (items r.paths) (items r.paths) r.batch (tally r.work r.kept) (tally r.work r.kept) none c.in_default-make.ensures.same refl refl ∙ c.self.view_is)
     (edit_lacks r.roads (items r.paths) r.batch (tally r.work r.kept) x (edit_of c.args.edit) taken.0 _ c.self.view_is c.requires taken.1 refl)
 
-pub returns-in-Err-renew : goal.returns-in-Err-renew
-returns-in-Err-renew c =
+pub returns-in_default-renew : goal.returns-in_default-renew
+returns-in_default-renew c =
     let r = c.self.inside in
     let x = c.args.self.now in
+    let e = c.in_default-renew.ensures in
     let none = closed_by r.roads (items r.paths) r.batch (tally r.work r.kept) x c.self.view_is c.requires in
     let taken = taken_is _ c.in-Ok.ensures.judged.accepted in
-    as_before x _ _ _ (seen_again r.roads c.undo.new.self (items r.paths) _ r.batch (tally r.work r.kept) (tally c.renew.new.work c.renew.new.kept) none (c.undo.ensures ∙ c.in-Ok-make.ensures.before) c.in-Err-renew.ensures.err (λ i. tally (c.in-Err-renew.ensures.err_work i) (c.in-Err-renew.ensures.err_kept i)) ∙ c.self.view_is)
+    as_before x _ _ _ (same_parts r.roads c.undo.new.self (items r.paths) _ r.batch (tally r.work r.kept) (tally c.renew.new.work c.renew.new.kept) none (c.undo.ensures ∙ c.in-Ok-make.ensures.before) e.err (λ i. tally (e.err_work i) (e.err_kept i)) ∙ c.self.view_is)
     (edit_lacks r.roads (items r.paths) r.batch (tally r.work r.kept) x (edit_of c.args.edit) taken.0 _ c.self.view_is c.requires taken.1 refl)
 
-pub invariant_of-self-in-Err-make : goal.invariant_of-self-in-Err-make
-invariant_of-self-in-Err-make c =
+pub invariant_of-self-in_default-make : goal.invariant_of-self-in_default-make
+invariant_of-self-in_default-make c =
     let r = c.self.inside in
     let none = closed_by r.roads (items r.paths) r.batch (tally r.work r.kept) c.args.self.now c.self.view_is c.requires in
-    let same = c.in-Err-make.ensures.same in
+    let same = c.in_default-make.ensures.same in
     record {
       register = still_closed r.roads c.make.new.self (items r.paths) (items r.paths) r.batch none same refl c.self.invariant.register;
       numbered = numbered_same (map_kept r.roads r.batch) (map_kept c.make.new.self r.batch) (items r.paths) r.near (kept_closed c.make.new.self r.batch none ∙ same ∙ sym (kept_closed r.roads r.batch none)) c.self.invariant.numbered;
     }
 
-pub invariant_of-self-in-Err-renew : goal.invariant_of-self-in-Err-renew
-invariant_of-self-in-Err-renew c =
+pub invariant_of-self-in_default-renew : goal.invariant_of-self-in_default-renew
+invariant_of-self-in_default-renew c =
     let r = c.self.inside in
     let none = closed_by r.roads (items r.paths) r.batch (tally r.work r.kept) c.args.self.now c.self.view_is c.requires in
     record {
-      register = still_closed r.roads c.undo.new.self (items r.paths) _ r.batch none (c.undo.ensures ∙ c.in-Ok-make.ensures.before) c.in-Err-renew.ensures.err c.self.invariant.register;
+      register = still_closed r.roads c.undo.new.self (items r.paths) _ r.batch none (c.undo.ensures ∙ c.in-Ok-make.ensures.before) c.in_default-renew.ensures.err c.self.invariant.register;
       numbered = numbered_unknown _ _ c.forget.new.self c.forget.ensures;
     }
 
-pub invariant_of-self-in-Ok-renew : goal.invariant_of-self-in-Ok-renew
-invariant_of-self-in-Ok-renew c =
+pub invariant_of-self-2 : goal.invariant_of-self-2
+invariant_of-self-2 c =
     let r = c.self.inside in
     let e = edit_of c.args.edit in
-    let at = c.in-Ok.judged.nodes in
+    let t = c.note_alone.new.touched in
+    let told = c.in-Ok-note_alone.ensures in
+    let noted = noted_judged (map_of r.roads) _ e c.in-Ok.judged t c.in-Ok.ensures.judged told.nodes told.lines told.changed in
     let ok = c.in-Ok-make.ensures.done ∙ ap (λ (M : Map). Ok M) (sym c.keep.ensures) in
     let none = closed_by r.roads (items r.paths) r.batch (tally r.work r.kept) c.args.self.now c.self.view_is c.requires in
-    let but = edit_same_but (map_of r.roads) (map_of c.make.new.self) e (nodes_of c.note.new.self) c.in-Ok-make.ensures.done
-    (noted _ _ (λ v. (at.0 == v) || (at.1 == v)) (λ v. has (touched_nodes (map_of r.roads) e) v) (c.reserve.ensures.nodes ∙ c.clear.ensures.nodes) c.note.ensures.nodes c.in-Ok.ensures.judged.nodes) in
+    let but = edit_same_but (map_of r.roads) (map_of c.make.new.self) e (nodes_of t) c.in-Ok-make.ensures.done noted.nodes in
     let was = numbered_same (map_kept r.roads r.batch) (map_of r.roads) (items r.paths) r.near (sym (kept_closed r.roads r.batch none)) c.self.invariant.numbered in
-    let now = asked (map_of r.roads) (map_of c.make.new.self) (items r.paths) (nodes_of c.note.new.self) c.nodes.result.now r.near c.ask_near-far.new.near c.nodes.ensures but was c.ask_near-far.ensures.right c.ask_near-far.ensures.sources in
+    let now = numbered_asked (map_of r.roads) (map_of c.make.new.self) (items r.paths) (nodes_of t) c.nodes.result.now r.near c.ask_near-far.new.near c.nodes.ensures but was c.ask_near-far.ensures.right c.ask_near-far.ensures.sources in
+    let before =
+    edit_before r.roads c.keep.new.self (items r.paths) (items c.renew.new.self) r.batch (tally r.work r.kept) c.args.self.now e (list_map entry_of c.in-Ok-renew.entries.items) c.self.view_is c.requires c.self.invariant.register
+    c.in-Ok.ensures.judged.placed ok (nodes_of t) (lines_of t) (changed_of t) noted.nodes noted.lines noted.changed (map_of c.make.new.self) (sym c.keep.ensures) in
     record {
       register = edit_keeps r.roads c.keep.new.self (items r.paths) (items c.renew.new.self) r.batch (tally r.work r.kept) c.args.self.now e _ c.self.view_is c.requires c.self.invariant.register c.in-Ok.ensures.judged.placed ok
-          (nodes_of c.note.new.self) (lines_of c.note.new.self) (changed_of c.note.new.self)
-          (noted _ _ (λ v. (at.0 == v) || (at.1 == v)) (λ v. has (touched_nodes (map_of r.roads) e) v) (c.reserve.ensures.nodes ∙ c.clear.ensures.nodes) c.note.ensures.nodes c.in-Ok.ensures.judged.nodes)
-          (noted _ _ _ (λ y. has (touched_lines e) y) (c.reserve.ensures.lines ∙ c.clear.ensures.lines) c.note.ensures.lines (λ y. ap (λ (ys : List ℕ). has ys y) (sym c.in-Ok.ensures.judged.lines)))
-          (changes_noted _ _ _ (c.reserve.ensures.changed ∙ c.clear.ensures.changed) c.note.ensures.changed (c.line_changed.ensures ∙ c.in-Ok.ensures.judged.changes))
-          (subst (λ (M : Map). AreRemade M (items r.paths) (items c.renew.new.self)) (sym c.keep.ensures) (c.in-Ok-renew.ensures.renewed _ (edit_before r.roads c.keep.new.self (items r.paths) (items c.renew.new.self) r.batch (tally r.work r.kept) c.args.self.now e (list_map entry_of c.in-Ok-renew.entries.items) c.self.view_is c.requires c.self.invariant.register c.in-Ok.ensures.judged.placed ok
-          (nodes_of c.note.new.self) (lines_of c.note.new.self) (changed_of c.note.new.self)
-          (noted _ _ (λ v. (at.0 == v) || (at.1 == v)) (λ v. has (touched_nodes (map_of r.roads) e) v) (c.reserve.ensures.nodes ∙ c.clear.ensures.nodes) c.note.ensures.nodes c.in-Ok.ensures.judged.nodes)
-          (noted _ _ _ (λ y. has (touched_lines e) y) (c.reserve.ensures.lines ∙ c.clear.ensures.lines) c.note.ensures.lines (λ y. ap (λ (ys : List ℕ). has ys y) (sym c.in-Ok.ensures.judged.lines)))
-          (changes_noted _ _ _ (c.reserve.ensures.changed ∙ c.clear.ensures.changed) c.note.ensures.changed (c.line_changed.ensures ∙ c.in-Ok.ensures.judged.changes)) (map_of c.make.new.self) (sym c.keep.ensures)))) c.in-Ok-renew.ensures.named c.in-Ok-renew.ensures.reported;
+          (nodes_of t) (lines_of t) (changed_of t) noted.nodes noted.lines noted.changed
+          (subst (λ (M : Map). AreRemade M (items r.paths) (items c.renew.new.self)) (sym c.keep.ensures) (c.in-Ok-renew.ensures.renewed _ before)) c.in-Ok-renew.ensures.named c.in-Ok-renew.ensures.reported;
       numbered = numbered_same (map_of c.keep.new.self) (map_kept c.keep.new.self r.batch) _ _ (kept_closed c.keep.new.self r.batch none)
           (numbered_more (map_of c.keep.new.self) (items r.paths) _ c.ask_near-far.new.near _ _ (numbered_same (map_of c.make.new.self) (map_of c.keep.new.self) (items r.paths) _ c.keep.ensures now) c.in-Ok-renew.ensures.begun c.renumber.ensures);
     }
 
-pub returns-in-Ok-renew : goal.returns-in-Ok-renew
-returns-in-Ok-renew c =
+pub returns : goal.returns
+returns c =
     let r = c.self.inside in
     let e = edit_of c.args.edit in
-    let at = c.in-Ok.judged.nodes in
+    let t = c.note_alone.new.touched in
+    let told = c.in-Ok-note_alone.ensures in
+    let noted = noted_judged (map_of r.roads) _ e c.in-Ok.judged t c.in-Ok.ensures.judged told.nodes told.lines told.changed in
     let ok = c.in-Ok-make.ensures.done ∙ ap (λ (M : Map). Ok M) (sym c.keep.ensures) in
     let before =
-    (edit_before r.roads c.keep.new.self (items r.paths) (items c.renew.new.self) r.batch (tally r.work r.kept) c.args.self.now e (list_map entry_of c.in-Ok-renew.entries.items) c.self.view_is c.requires c.self.invariant.register c.in-Ok.ensures.judged.placed ok
-    (nodes_of c.note.new.self) (lines_of c.note.new.self) (changed_of c.note.new.self)
-    (noted _ _ (λ v. (at.0 == v) || (at.1 == v)) (λ v. has (touched_nodes (map_of r.roads) e) v) (c.reserve.ensures.nodes ∙ c.clear.ensures.nodes) c.note.ensures.nodes c.in-Ok.ensures.judged.nodes)
-    (noted _ _ _ (λ y. has (touched_lines e) y) (c.reserve.ensures.lines ∙ c.clear.ensures.lines) c.note.ensures.lines (λ y. ap (λ (ys : List ℕ). has ys y) (sym c.in-Ok.ensures.judged.lines)))
-    (changes_noted _ _ _ (c.reserve.ensures.changed ∙ c.clear.ensures.changed) c.note.ensures.changed (c.line_changed.ensures ∙ c.in-Ok.ensures.judged.changes)) (map_of c.make.new.self) (sym c.keep.ensures)) in
+    edit_before r.roads c.keep.new.self (items r.paths) (items c.renew.new.self) r.batch (tally r.work r.kept) c.args.self.now e (list_map entry_of c.in-Ok-renew.entries.items) c.self.view_is c.requires c.self.invariant.register
+    c.in-Ok.ensures.judged.placed ok (nodes_of t) (lines_of t) (changed_of t) noted.nodes noted.lines noted.changed (map_of c.make.new.self) (sym c.keep.ensures) in
     let count = c.in-Ok-renew.ensures.counted _ before in
     edit_done r.roads c.keep.new.self (items r.paths) (items c.renew.new.self) r.batch (tally r.work r.kept) c.args.self.now e _ c.self.view_is c.requires c.self.invariant.register c.in-Ok.ensures.judged.placed ok
-    (nodes_of c.note.new.self) (lines_of c.note.new.self) (changed_of c.note.new.self)
-    (noted _ _ (λ v. (at.0 == v) || (at.1 == v)) (λ v. has (touched_nodes (map_of r.roads) e) v) (c.reserve.ensures.nodes ∙ c.clear.ensures.nodes) c.note.ensures.nodes c.in-Ok.ensures.judged.nodes)
-    (noted _ _ _ (λ y. has (touched_lines e) y) (c.reserve.ensures.lines ∙ c.clear.ensures.lines) c.note.ensures.lines (λ y. ap (λ (ys : List ℕ). has ys y) (sym c.in-Ok.ensures.judged.lines)))
-    (changes_noted _ _ _ (c.reserve.ensures.changed ∙ c.clear.ensures.changed) c.note.ensures.changed (c.line_changed.ensures ∙ c.in-Ok.ensures.judged.changes))
+    (nodes_of t) (lines_of t) (changed_of t) noted.nodes noted.lines noted.changed
     (subst (λ (M : Map). AreRemade M (items r.paths) (items c.renew.new.self)) (sym c.keep.ensures) (c.in-Ok-renew.ensures.renewed _ before)) c.in-Ok-renew.ensures.named c.in-Ok-renew.ensures.reported
     (tally c.renew.new.work c.renew.new.kept) _ count.0 refl count.1 count.2 count.3
     (record { searches = c.in-Ok-renew.ensures.searches; settled = c.in-Ok-renew.ensures.settled; spared = c.in-Ok-renew.ensures.kept })
@@ -117,10 +110,11 @@ pub renew-requires : goal.renew-requires
 renew-requires c = λ on.
     let r = c.self.inside in
     let e = edit_of c.args.edit in
-    let at = c.in-Ok.judged.nodes in
+    let t = c.note_alone.new.touched in
+    let told = c.in-Ok-note_alone.ensures in
+    let noted = noted_judged (map_of r.roads) _ e c.in-Ok.judged t c.in-Ok.ensures.judged told.nodes told.lines told.changed in
     let none = closed_by r.roads (items r.paths) r.batch (tally r.work r.kept) c.args.self.now c.self.view_is c.requires in
-    let but = edit_same_but (map_of r.roads) (map_of c.make.new.self) e (nodes_of c.note.new.self) c.in-Ok-make.ensures.done
-    (noted _ _ (λ v. (at.0 == v) || (at.1 == v)) (λ v. has (touched_nodes (map_of r.roads) e) v) (c.reserve.ensures.nodes ∙ c.clear.ensures.nodes) c.note.ensures.nodes c.in-Ok.ensures.judged.nodes) in
+    let but = edit_same_but (map_of r.roads) (map_of c.make.new.self) e (nodes_of t) c.in-Ok-make.ensures.done noted.nodes in
     let was = numbered_same (map_kept r.roads r.batch) (map_of r.roads) (items r.paths) r.near (sym (kept_closed r.roads r.batch none)) c.self.invariant.numbered in
-    far_looks (map_of r.roads) (map_of c.make.new.self) (items r.paths) (nodes_of c.note.new.self) c.nodes.result.now r.near c.ask_near-far.new.near c.nodes.ensures but was c.ask_near-far.ensures.right c.ask_near-far.ensures.sources
+    far_looks (map_of r.roads) (map_of c.make.new.self) (items r.paths) (nodes_of t) c.nodes.result.now r.near c.ask_near-far.new.near c.nodes.ensures but was c.ask_near-far.ensures.right c.ask_near-far.ensures.sources
     (c.ask_near-far.ensures.far on)

@@ -1,6 +1,6 @@
 use Rattle.std.proofs.Common.{ap, sym}
-use Rattle.olr_commands.specs.Registered.{Registered}
 use Rattle.olr_paths.specs.Items.{items}
+use Rattle.olr_register.specs.Registered.{Registered}
 use Rattle.olr_register.proofs.Asking.{footprint_is}
 use Rattle.olr_register.proofs.register.Register.footprint.Goals as goal
 

@@ -1,6 +1,6 @@
 use Rattle.std.proofs.Common.{ap, ◌∙◌}
-use Rattle.olr_commands.specs.Registered.{Registered}
 use Rattle.olr_paths.specs.Items.{items}
+use Rattle.olr_register.specs.Registered.{Registered}
 use Rattle.olr_register.specs.Holding.{map_kept}
 use Rattle.olr_register.proofs.Asking.{name_is}
 use Rattle.olr_register.proofs.register.Register.name_at.Goals as goal

@@ -1,6 +1,6 @@
 use Rattle.std.proofs.Common.{refl, ap}
-use Rattle.olr_commands.specs.Registered.{Registered}
 use Rattle.olr_paths.specs.Items.{items}
+use Rattle.olr_register.specs.Registered.{Registered}
 use Rattle.olr_register.specs.Holding.{map_kept}
 use Rattle.olr_register.proofs.Asking.{all_encoded, all_told}
 use Rattle.olr_register.proofs.Outcomes.{report_answered, report_lacks}

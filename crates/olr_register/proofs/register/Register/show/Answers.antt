@@ -2,9 +2,9 @@ use Rattle.std.proofs.Common.{List, [], ◌∷◌, refl, sym, ap, ◌∙◌}
 use Rattle.std.specs.Prelude.{map}
 use Rattle.olr_commands.specs.State.{Content, has_path}
 use Rattle.olr_commands.specs.Words.{entry_of}
-use Rattle.olr_commands.specs.Registered.{Registered}
 use Rattle.olr_commands.specs.declared.reply.Entry.{Entry}
 use Rattle.olr_paths.specs.Items.{items}
+use Rattle.olr_register.specs.Registered.{Registered}
 use Rattle.olr_register.specs.Holding.{map_kept}
 use Rattle.olr_register.proofs.Asking.{some_answer_in, shown_entry}
 use Rattle.olr_register.proofs.Outcomes.{show_answered, show_unknown, show_lacks}
@@ -25,13 +25,13 @@ returns-in_default c =
     let content = ap (λ (x : Registered). x.kept.content) c.self.view_is in
     show_lacks c.args.self.now c.args.name.now _ refl (ap (λ (d : Content). has_path d c.args.name.now) (sym content) ∙ sym c.if-not-has.ensures)
 
-pub returns-in-Ok-alone : goal.returns-in-Ok-alone
-returns-in-Ok-alone c =
+pub returns-in-Ok-one_entry : goal.returns-in-Ok-one_entry
+returns-in-Ok-one_entry c =
     let r = c.self.inside in
     let told = c.in-Ok.ensures in
     show_answered c.args.self.now c.args.name.now _ _ refl
     (shown_entry (map_kept r.roads r.batch) (items r.paths) c.args.self.now.kept.content c.args.name.now told.0 _ (ap (λ (x : Registered). x.kept.content) c.self.view_is)
-    c.self.invariant.register.content c.self.invariant.register.made told.1 (ap (λ (es : List Entry). map entry_of es) c.in-Ok-alone.ensures ∙ ap (λ e. e ∷ []) told.2))
+    c.self.invariant.register.content c.self.invariant.register.made told.1 (ap (λ (es : List Entry). map entry_of es) c.in-Ok-one_entry.ensures ∙ ap (λ e. e ∷ []) told.2))
 
 pub returns-in-Err : goal.returns-in-Err
 returns-in-Err c =

@@ -2,9 +2,9 @@ use Rattle.std.proofs.Common.{ap, ◌∙◌}
 use Rattle.std.specs.Prelude.{option_map, option_and_then}
 use Rattle.std.specs.Result.{result_ok}
 use Rattle.olr_spec.specs.Encoding.{Answer}
-use Rattle.olr_commands.specs.Registered.{Registered}
 use Rattle.olr_commands.specs.Reply.{published}
 use Rattle.olr_paths.specs.Items.{Made, items}
+use Rattle.olr_register.specs.Registered.{Registered}
 use Rattle.olr_register.specs.Holding.{map_kept}
 use Rattle.olr_register.proofs.Asking.{text_is}
 use Rattle.olr_register.proofs.register.Register.text.Goals as goal

@@ -1,0 +1,121 @@
+//! Paths that are added, set or dropped at once, outside of a batch.
+ghost use Rattle.std.specs.Prelude.{◌≡◌, ◌⊎◌, IsTrue, IsFalse, OnOk};
+ghost use Rattle.std.specs.Result.{IfOk, IfErr};
+ghost use Rattle.olr_spec.specs.Extension.{is_path};
+ghost use Rattle.olr_commands.specs.Words.{path_along};
+
+use crate::nearing::renumber;
+use crate::register::Register;
+use olr_commands::{CommandFault, Reply};
+use olr_map::LineId;
+use olr_refs::{Path, PathFault};
+use std::alloc::Global;
+
+/// The path along these lines with these offsets, in decimetres.
+pub(crate) fn path_of(
+    alloc: Global,
+    lines: Vec<LineId>,
+    pos: u32,
+    neg: u32,
+) -> Result<Path, CommandFault>
+    ensures ok { IfOk result (λ p. p ≡ path_along lines.items pos neg) }
+    ensures good { OnOk result (IsTrue (is_path lines.items)) }
+    ensures fault { IfErr result (λ f. (f ≡ CommandFault.Memory) ⊎ ((f ≡ CommandFault.BadPath) × IsFalse (is_path lines.items))) }
+{
+    match Path::new(alloc, lines, pos, neg) {
+        Ok(path) => Ok(path),
+        Err(PathFault::BadPath) => Err(CommandFault::BadPath),
+        Err(PathFault::Memory) => Err(CommandFault::Memory),
+    }
+}
+
+impl Register {
+    ghost use Rattle.std.specs.Prelude.{◌≡◌, None, string_bytes};
+    ghost use Rattle.olr_commands.specs.State.{Make, Add_path, Set_path, Drop_path};
+    ghost use Rattle.olr_commands.specs.Words.{path_along};
+    ghost use Rattle.olr_register.specs.Answering.{Answered};
+
+    /// Encodes a new path and puts it last. Told are `PathExists`, `BadPath`, `Memory`, in this order.
+    pub(crate) fn add_now(
+        &mut self,
+        name: String,
+        lines: Vec<LineId>,
+        pos: u32,
+        neg: u32,
+    ) -> Result<Reply, CommandFault>
+        requires { self.old.kept.batch ≡ None }
+        ensures { Answered self.old (Make (Add_path (string_bytes name) (path_along lines.items pos neg))) result self.new }
+    {
+        if self.paths.has(&name) {
+            return Err(CommandFault::PathExists);
+        }
+        let path = path_of(self.alloc, lines, pos, neg)?;
+        let Ok(entries) = self.paths.add(
+            self.alloc,
+            &self.roads,
+            name,
+            path,
+            &mut self.searches,
+            &mut self.work,
+        )
+        else {
+            return Err(CommandFault::Memory);
+        };
+        renumber(
+            self.alloc,
+            &mut self.near,
+            &self.roads,
+            &self.paths,
+            &mut self.searches,
+        );
+        Ok(Reply::Paths(entries))
+    }
+
+    /// Encodes another path under a name. Told are `NoPath`, `BadPath`, `Memory`, in this order.
+    pub(crate) fn set_now(
+        &mut self,
+        name: &str,
+        lines: Vec<LineId>,
+        pos: u32,
+        neg: u32,
+    ) -> Result<Reply, CommandFault>
+        requires { self.old.kept.batch ≡ None }
+        ensures { Answered self.old (Make (Set_path name.now (path_along lines.items pos neg))) result self.new }
+    {
+        if !self.paths.has(name) {
+            return Err(CommandFault::NoPath);
+        }
+        let path = path_of(self.alloc, lines, pos, neg)?;
+        let Ok(entries) = self.paths.set(
+            self.alloc,
+            &self.roads,
+            name,
+            path,
+            &mut self.searches,
+            &mut self.work,
+        )
+        else {
+            return Err(CommandFault::Memory);
+        };
+        renumber(
+            self.alloc,
+            &mut self.near,
+            &self.roads,
+            &self.paths,
+            &mut self.searches,
+        );
+        Ok(Reply::Paths(entries))
+    }
+
+    /// Takes a path away; those after it close up. Takes no memory.
+    pub(crate) fn drop_now(&mut self, name: &str) -> Result<Reply, CommandFault>
+        requires { self.old.kept.batch ≡ None }
+        ensures { Answered self.old (Make (Drop_path name.now)) result self.new }
+    {
+        if !self.paths.has(name) {
+            return Err(CommandFault::NoPath);
+        }
+        self.paths.drop_path(name);
+        Ok(Reply::Paths(Vec::new(self.alloc)))
+    }
+}
