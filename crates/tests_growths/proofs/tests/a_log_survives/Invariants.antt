@@ -1,5 +1,5 @@
 use Rattle.olr_map.specs.RoadMaps.{CanUndoAll}
-use Rattle.growths.proofs.tests.a_log_survives.Given as goal
+use Rattle.tests_growths.proofs.tests.a_log_survives.Given as goal
 
 -- what the log knows can be taken back
 abbrev pub invariant-logged : goal.invariant-logged

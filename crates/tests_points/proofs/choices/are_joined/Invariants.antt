@@ -1,6 +1,6 @@
 use Rattle.std.proofs.Common.{◌≡◌, ◌-◌, drop}
 use Rattle.olr_spec.specs.Encoding.{first_break}
-use Rattle.rows.proofs.choices.are_joined.Given as goal
+use Rattle.tests_points.proofs.choices.are_joined.Given as goal
 
 -- the first break of the lines that are left is the first of all
 abbrev pub invariant-loop-k : goal.invariant-loop-k
