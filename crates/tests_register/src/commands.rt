@@ -100,7 +100,7 @@ fn edits_where_no_path_is_left(rt: HostRuntime) -> Result<(), Fail> {
     let added = register.apply(add(&rt, alloc, "a", &[10, 20, 30], (1500, 0))?);
     assert_named(&rt, added, "a");
     assert_eq!(rt; register.work().encodings, 2);
-    assert_named(&rt, register.apply(other_length(&rt, alloc, 20, 2000)), "a");
+    assert_named(&rt, register.apply(other_length(&rt, alloc, 20, 4000)), "a");
     assert_eq!(rt; register.work().encodings, 3);
     Ok(())
 }
