@@ -14,7 +14,6 @@ use Rattle.olr_register.specs.Kept.{Kept, Stands}
 use Rattle.olr_register.specs.Registered.{Registered}
 use Rattle.olr_register.specs.Answering.{Answered}
 use Rattle.olr_register.proofs.Counting.{raises_none}
-use Rattle.olr_register.proofs.Tallies.{none_falls}
 
 -- an accepted command that brings nothing raises no count
 pub answered_uncounted : (old : Registered) (k : Kept) (c : Command) (r : Reply) → ((s : State) → Stands old.kept s → brought s c ≡ [])
@@ -23,7 +22,7 @@ answered_uncounted old k c r none outcome = record {
   outcome = outcome;
   counted = λ s t stands later. (0, raises_none s t c (none s stands), λ few. sym (add-zero _));
   spares = λ s t stands later. (0, raises_none s t c (none s stands), omega arith);
-  rises = none_falls old;
+  rises = record { searches = omega arith; settled = omega arith; spared = omega arith };
   same = λ e. (refl, refl);
   unchanged = tt;
 }
