@@ -3,21 +3,8 @@
 //! Commands come as CSV records from a file and from standard input, and replies go to standard output.
 #![tactic(auto)]
 
-mod answers;
-mod arguments;
-mod both;
-mod command_line;
-mod ends;
-mod laws;
-mod output;
-mod program;
-mod rows;
-mod run;
-#[cfg(test)]
-mod tests;
-
-use ends::RunFault;
 use olr_register::Register;
+use olr_run::{RunFault, WRONG_WORDS, program, tell_fault};
 use std::process::ExitCode;
 use std::{env, fs, io};
 
@@ -30,10 +17,10 @@ fn words(rt: &HostRuntime) -> io::Result<Vec<String>> {
 /// Tells why there are no words, and gives the status.
 fn without_words(rt: &HostRuntime, error: &io::Error) -> u8 {
     if error.kind() == io::ErrorKind::OutOfMemory {
-        return program::tell_fault(RunFault::Memory, &mut rt.stderr());
+        return tell_fault(RunFault::Memory, &mut rt.stderr());
     }
     let _ = eprintln!(rt; "olr-keep: a word of the command line is no text");
-    program::WRONG_WORDS
+    WRONG_WORDS
 }
 
 fn main(rt: HostRuntime) -> ExitCode {
@@ -42,7 +29,7 @@ fn main(rt: HostRuntime) -> ExitCode {
         Err(error) => return ExitCode::from(without_words(&rt, &error)),
     };
     let mut register = Register::new(rt.alloc());
-    ExitCode::from(program::program(
+    ExitCode::from(program(
         rt.alloc(),
         &mut register,
         words.as_slice(),

@@ -1,0 +1,22 @@
+-- The outcome of a record, by what was read of it.
+use Rattle.std.proofs.Common.{List, Ok, Err, inl, inr, refl, sym, subst}
+use Rattle.olr_commands.specs.State as state
+use Rattle.olr_commands.specs.State.{State}
+use Rattle.olr_commands.specs.Reply.{Outcome, IsOutcome}
+use Rattle.olr_commands.specs.Words.{command_of}
+use Rattle.olr_commands.specs.declared.command.Command.{Command}
+use Rattle.olr_records.specs.Records.{Field, Read, read}
+use Rattle.olr_records.specs.Words.{IsRead, read_fault_of}
+use Rattle.olr_records.specs.declared.faults.ReadFault.{ReadFault}
+use Rattle.olr_records.specs.declared.faults.ReadFault.TheVariants.{Syntax, Range, Memory}
+use Rattle.olr_run.specs.Output.{CommandOutcome, RecordOutcome}
+
+-- of a record that reads as a command
+pub commanded : (s t : State) (fields : List Field) (c : Command) (o : Outcome) → IsRead (read fields) (Ok c) → IsOutcome s (command_of c) o t → RecordOutcome s fields o t
+commanded s t fields c o e h = inl (subst (λ (r : Read state.Command). CommandOutcome s r o t) (sym e) h)
+
+-- and of one that can't be read
+pub unread : (s : State) (fields : List Field) (f : ReadFault) → IsRead (read fields) (Err f) → RecordOutcome s fields (Err (read_fault_of f)) s
+unread s fields Syntax e = inl (subst (λ (r : Read state.Command). CommandOutcome s r (Err state.Syntax) s) (sym e) (refl, refl))
+unread s fields Range e = inl (subst (λ (r : Read state.Command). CommandOutcome s r (Err state.Range) s) (sym e) (refl, refl))
+unread s fields Memory e = inr (e, (refl, refl))

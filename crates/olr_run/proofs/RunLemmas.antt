@@ -1,0 +1,124 @@
+-- Runs.
+use Rattle.std.proofs.Common.{inl, inr, ◌≡◌, ℕ, Bool, true, false, List, [], ◌∷◌, Option, None, Some, Ok, Err, IsFalse, refl, sym, ap, ◌∙◌, subst, arith}
+use Rattle.std.specs.Prelude.{◌&&◌, ◌||◌, is_err, IfSome}
+use Rattle.std.specs.Result.{result_ok}
+use Rattle.std.specs.List.{list_any}
+use Rattle.std.proofs.lemmas.Bool.{cases_Bool, both_ways, or_parts}
+use Rattle.olr_commands.specs.State.{IsContent, Fault, Memory, State, Command, HasPlaces, IsState}
+use Rattle.olr_commands.specs.Reply.{Outcome, lacks_memory}
+use Rattle.olr_commands.specs.History.{IsNamed, IsRefused}
+use Rattle.olr_commands.proofs.HistoryLemmas.{Leads, outcome_leads, outcome_keeps, is_named, is_refused, headline_of}
+use Rattle.olr_commands.proofs.OutcomeLemmas.{one_outcome}
+use Rattle.olr_records.specs.Records.{Field, Read, read}
+use Rattle.olr_run.specs.Output.{CommandOutcome, OutOfMemory, RecordOutcome, Outcomes, SoundOutcome, SoundOutcomes, spelled, Claims, StopsAtRefusal, any_refused, AreAll, texts, run_status, Status, Ran, AllHadMemory}
+use Rattle.olr_records.proofs.ReadLemmas.{places_read}
+
+command_keeps : (s t : State) (r : Read Command) (o : Outcome) → ((c : Command) → r ≡ Ok c → HasPlaces c) → IsState s → CommandOutcome s r o t → IsState t
+command_keeps s t (Ok c) o h i p = outcome_keeps s t c o i (h c refl) p
+command_keeps s t (Err f) o h i p = subst IsState (sym p.1) i
+
+record_keeps : (s t : State) (fields : List Field) (o : Outcome) → IsState s → RecordOutcome s fields o t → IsState t
+record_keeps s t fields o i (inl p) = command_keeps s t (read fields) o (places_read fields) i p
+record_keeps s t fields o i (inr p) = subst IsState (sym p.1.1) i
+
+pub outcomes_keep : (s t : State) (rs : List (List Field)) (os : List Outcome) → IsState s → Outcomes s rs os t → IsState t
+outcomes_keep s t rs [] i p = subst IsState p i
+outcomes_keep s t [] (o ∷ os) i p = absurd p
+outcomes_keep s t (r ∷ rs) (o ∷ os) i p = outcomes_keep p.0 t rs os (record_keeps s p.0 r o i p.1) p.2
+
+-- ---- what is claimed of a run
+
+-- a record whose command has this outcome, or which has a fault of its own
+command_claims : (s t : State) (r : Read Command) (o : Outcome) → IsContent t.content → CommandOutcome s r o t
+    → Leads s (result_ok r) o t × IfSome (result_ok r) (λ c. IsNamed s c o t) × IsRefused s o t
+command_claims s t (Ok c) o sound h = (outcome_leads s c o t h, is_named s t c o sound h, is_refused s t c o h)
+command_claims s t (Err f) (Ok reply) sound h = absurd (let no = h.0 in cc)
+command_claims s t (Err f) (Err g) sound h = (h.1, tt, λ fault is. h.1)
+
+leads_nowhere : (s t : State) (asked : Option Command) (f : Fault) → t ≡ s → Leads s asked (Err f) t
+leads_nowhere s t None f e = e
+leads_nowhere s t (Some c) f e = e
+
+names_nothing : (s t : State) (asked : Option Command) (f : Fault) → IfSome asked (λ c. IsNamed s c (Err f) t)
+names_nothing s t None f = tt
+names_nothing s t (Some c) f = λ tells es is. absurd cc
+
+lacking_claims : (s t : State) (asked : Option Command) (o : Outcome) → OutOfMemory s o t
+    → Leads s asked o t × IfSome asked (λ c. IsNamed s c o t) × IsRefused s o t
+lacking_claims s t asked o h =
+    subst (λ (p : Outcome). Leads s asked p t × IfSome asked (λ c. IsNamed s c p t) × IsRefused s p t) (sym h.0)
+    (leads_nowhere s t asked Memory h.1, names_nothing s t asked Memory, λ fault is. h.1)
+
+record_claims : (s : State) (fields : List Field) (o : Outcome) (t : State) → SoundOutcome s fields o t
+    → Leads s (spelled fields) o t × IfSome (spelled fields) (λ c. IsNamed s c o t) × IsRefused s o t
+record_claims s fields o t h =
+    elim h.0 [
+      | inl p ↦ command_claims s t (read fields) o h.1 p
+      | inr p ↦ lacking_claims s t (spelled fields) o p.1
+    ]
+
+pub sound_after : (s t : State) (rs : List (List Field)) (os : List Outcome) → IsContent s.content → SoundOutcomes s rs os t → IsContent t.content
+sound_after s t rs [] i p = subst (λ (u : State). IsContent u.content) p i
+sound_after s t [] (o ∷ os) i p = absurd p
+sound_after s t (r ∷ rs) (o ∷ os) i p = sound_after p.0 t rs os p.1.1 p.2
+
+pub claims_of : (s : State) (rs : List (List Field)) (os : List Outcome) (t : State) → IsContent s.content → SoundOutcomes s rs os t → Claims s rs os t
+claims_of s rs os t i h = headline_of SoundOutcome spelled record_claims s rs os t (sound_after s t rs os i h) h
+
+-- ---- one run
+
+one_command : (s t u : State) (r : Read Command) (o q : Outcome) → ((c : Command) → r ≡ Ok c → HasPlaces c) → IsState s → IsFalse (lacks_memory o) → IsFalse (lacks_memory q)
+    → CommandOutcome s r o t → CommandOutcome s r q u → (o ≡ q) × (t ≡ u)
+one_command s t u (Ok c) o q h i n m p g = one_outcome s t u c o q i (h c refl) n m p g
+one_command s t u (Err f) o q h i n m p g = (p.0 ∙ sym g.0, p.1 ∙ sym g.1)
+
+not_memory : (o : Outcome) → IsFalse (lacks_memory o) → o ≡ Err Memory → ⊥
+not_memory o n e = both_ways (lacks_memory o) n (ap lacks_memory e)
+
+one_record : (s t u : State) (fields : List Field) (o q : Outcome) → IsState s → IsFalse (lacks_memory o) → IsFalse (lacks_memory q)
+    → RecordOutcome s fields o t → RecordOutcome s fields q u → (o ≡ q) × (t ≡ u)
+one_record s t u fields o q i n m (inl p) (inl g) = one_command s t u (read fields) o q (places_read fields) i n m p g
+one_record s t u fields o q i n m (inl p) (inr g) = absurd (not_memory q m g.1.0)
+one_record s t u fields o q i n m (inr p) g = absurd (not_memory o n p.1.0)
+
+-- what is left to do after an outcome that doesn't end the run
+all_rest : (stop : Bool) (r : List Field) (rs : List (List Field)) (o : Outcome) (os : List Outcome) → (stop && is_err o) ≡ false → AreAll stop (r ∷ rs) (o ∷ os) → AreAll stop rs os
+all_rest stop r rs o os e (inl h) = inl (omega arith)
+all_rest true r rs o os e (inr h) = inr (ap (λ (b : Bool). b || any_refused os) (sym e) ∙ h)
+all_rest false r rs o os e (inr h) = absurd cc
+
+none_left : (stop : Bool) (r : List Field) (rs : List (List Field)) → AreAll stop (r ∷ rs) [] → ⊥
+none_left stop r rs (inl h) = omega arith
+none_left true r rs (inr h) = absurd cc
+none_left false r rs (inr h) = absurd cc
+
+one_list : (stop : Bool) (s t u : State) (rs : List (List Field)) (os qs : List Outcome) → IsState s → AllHadMemory os → AllHadMemory qs → AreAll stop rs os → AreAll stop rs qs
+    → StopsAtRefusal stop os → StopsAtRefusal stop qs → Outcomes s rs os t → Outcomes s rs qs u → (os ≡ qs) × (t ≡ u)
+one_list stop s t u [] [] [] i n m a b c d p q = (refl, sym p ∙ q)
+one_list stop s t u [] [] (o ∷ qs) i n m a b c d p q = absurd q
+one_list stop s t u [] (o ∷ os) qs i n m a b c d p q = absurd p
+one_list stop s t u (r ∷ rs) [] qs i n m a b c d p q = absurd (none_left stop r rs a)
+one_list stop s t u (r ∷ rs) (o ∷ os) [] i n m a b c d p q = absurd (none_left stop r rs b)
+one_list stop s t u (r ∷ rs) (o ∷ os) (k ∷ qs) i n m a b c d p q =
+    let on = or_parts (lacks_memory o) (list_any lacks_memory os) n in
+    let km = or_parts (lacks_memory k) (list_any lacks_memory qs) m in
+    let head = one_record s p.0 q.0 r o k i on.0 km.0 p.1 q.1 in
+    let again : Outcomes p.0 rs qs u = subst (λ (x : State). Outcomes x rs qs u) (sym head.1) q.2 in
+    elim (cases_Bool (stop && is_err o)) [
+      | inl e ↦
+          let os_none : os ≡ [] = c.0 e in
+          let qs_none : qs ≡ [] = d.0 (ap (λ (x : Outcome). stop && is_err x) (sym head.0) ∙ e) in
+          let t_is : p.0 ≡ t = subst (λ (xs : List Outcome). Outcomes p.0 rs xs t) os_none p.2 in
+          let u_is : p.0 ≡ u = subst (λ (xs : List Outcome). Outcomes p.0 rs xs u) qs_none again in
+          ((λ j. head.0 j ∷ (os_none ∙ sym qs_none) j), sym t_is ∙ u_is)
+      | inr e ↦
+          let rest = one_list stop p.0 t u rs os qs (record_keeps s p.0 r o i p.1) on.1 km.1 (all_rest stop r rs o os e a)
+          (all_rest stop r rs k qs (ap (λ (x : Outcome). stop && is_err x) (sym head.0) ∙ e) b) c.1 d.1 p.2 again in
+          ((λ j. head.0 j ∷ rest.0 j), rest.1)
+    ]
+
+pub one_run : (stop : Bool) (s t u : State) (rs : List (List Field)) (w v : List ℕ) (end stand : Status) → IsState s → (p : Ran Outcomes stop s rs t w end) (q : Ran Outcomes stop s rs u v stand)
+    → AllHadMemory p.outcomes → AllHadMemory q.outcomes → (t ≡ u) × (w ≡ v) × (end ≡ stand)
+one_run stop s t u rs w v end stand i p q n m =
+    let one = one_list stop s t u rs p.outcomes q.outcomes i n m p.all q.all p.stops q.stops p.each q.each in
+    (one.1, p.wrote ∙ ap texts one.0 ∙ sym q.wrote, p.ended ∙ ap (run_status stop) one.0 ∙ sym q.ended)

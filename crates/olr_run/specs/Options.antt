@@ -1,0 +1,39 @@
+-- What the words of the command line ask for.
+--     keep_app      the program's arguments, -m FILE and -s, beside the flags for help and the version
+--     Options, options words      a file and whether to stop, by clap's matches of the words
+--     IsOptionsFault kinds fault      clap's answer is of one of these kinds, or there was no memory
+use Rattle.std.specs.Prelude.{ℕ, Bool, true, false, List, Option, Some, None, option_map, codes, ⊤}
+use Rattle.std.specs.Str.{bytes_eq}
+use Rattle.clap.specs.Kinds.{Kinds, IsAmong}
+use Rattle.clap.specs.Simple.{App, on_top, new_app, new_rule, with_rule, matches_of}
+use Rattle.clap.specs.Values.{kind_of}
+use Rattle.clap.specs.Walk.{first_of}
+use Rattle.clap.specs.declared.builder.action.ArgAction.TheVariants.{Set, SetTrue}
+use Rattle.olr_run.specs.declared.arguments.Options.{Options as Arguments}
+use Rattle.olr_run.specs.declared.arguments.OptionsFault.{OptionsFault}
+use Rattle.olr_run.specs.declared.arguments.OptionsFault.TheVariants.{Clap, Memory}
+
+abbrev pub keep_app : App
+keep_app =
+    with_rule (with_rule (on_top (λ s. record s { has_version = true }) (new_app (codes "olr-keep")))
+    (record (new_rule (codes "file")) { short = Some 109; action = Some Set; value_names = 1 }))
+    (record (new_rule (codes "stop")) { short = Some 115; action = Some SetTrue })
+
+pub record Options : Type 0 where
+  pub file : Option (List ℕ)
+  pub stop : Bool
+
+-- the text of a flag that is given
+abbrev pub is_set : Option (List ℕ) → Bool
+is_set None = false
+is_set (Some text) = bytes_eq text (codes "true")
+
+abbrev pub options : List (List ℕ) → Options
+options words = record { file = first_of (codes "file") (matches_of keep_app words); stop = is_set (first_of (codes "stop") (matches_of keep_app words)) }
+
+abbrev pub options_of : Arguments → Options
+options_of o = record { file = option_map (λ s. s.now) o.file; stop = o.stop }
+
+abbrev pub IsOptionsFault : Kinds → OptionsFault → Type 0
+IsOptionsFault kinds (Clap e) = IsAmong (kind_of e) kinds
+IsOptionsFault kinds Memory = ⊤

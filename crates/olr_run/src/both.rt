@@ -1,0 +1,72 @@
+//! A file's commands and then those of the input, on one register.
+
+ghost use Rattle.std.specs.Prelude.{◌≡◌, ◌⊎◌, IfOk, IfErr, OnErr};
+ghost use Rattle.olr_run.specs.Output.{greater, SoundOutcomes, Claims};
+ghost use Rattle.olr_run.specs.Runs.{known_file, known_records, known_both, status_of, RanOn, FaultedOn, HasTooMany};
+
+use crate::ends::{RunFault, Status};
+use crate::records::run;
+use olr_register::Register;
+use std::alloc::Global;
+use std::io::{Read, Write};
+
+/// The greater of two statuses.
+fn greater_of(first: Status, second: Status) -> Status
+    ensures { status_of result ≡ greater (status_of first) (status_of second) }
+{
+    match (first, second) {
+        (Status::AllAccepted, second) => second,
+        (Status::SomeRefused, Status::AllAccepted) => Status::SomeRefused,
+        (Status::SomeRefused, second) => second,
+        (Status::Stopped, _) => Status::Stopped,
+    }
+}
+
+/// The commands of a file, or none where there is no file.
+fn run_file<F: Read + Drop, W: Write>(
+    alloc: Global,
+    register: &mut Register,
+    file: Option<F>,
+    output: &mut W,
+    stop: bool,
+) -> Result<Status, RunFault>
+    ensures ran { IfOk result (RanOn SoundOutcomes stop register.old (known_records (known_file F.remaining file))
+        (W.contents output.old) register.new (W.contents output.new)) }
+    ensures faulted { OnErr result (FaultedOn SoundOutcomes stop register.old (known_records (known_file F.remaining file))
+        (W.contents output.old) register.new (W.contents output.new)) }
+    ensures too_many { IfErr result (λ e. e ≡ RunFault.TooMany → HasTooMany (known_file F.remaining file)) }
+{
+    match file {
+        Some(file) => run(alloc, register, file, output, stop),
+        None => Ok(Status::AllAccepted),
+    }
+}
+
+/// The commands of a file, where there is one, and then those of the input, on one register: a batch that the file leaves
+/// open stays open. Where the first run is stopped or fails, nothing is read of the input and the end is that run's; else
+/// it is the greater of the two. So it is one run over all of their records.
+pub fn run_both<F: Read + Drop, R: Read + Drop, W: Write>(
+    alloc: Global,
+    register: &mut Register,
+    file: Option<F>,
+    input: R,
+    output: &mut W,
+    stop: bool,
+) -> Result<Status, RunFault>
+    ensures ran { IfOk result (RanOn Claims stop register.old
+        (known_both (known_records (known_file F.remaining file)) (known_records (R.remaining input)))
+        (W.contents output.old) register.new (W.contents output.new)) }
+    ensures faulted { OnErr result (FaultedOn Claims stop register.old
+        (known_both (known_records (known_file F.remaining file)) (known_records (R.remaining input)))
+        (W.contents output.old) register.new (W.contents output.new)) }
+    ensures too_many { IfErr result (λ e. e ≡ RunFault.TooMany
+        → HasTooMany (known_file F.remaining file) ⊎ HasTooMany (R.remaining input)) }
+{
+    register.is_sound();
+    let first = run_file(alloc, register, file, output, stop)?;
+    if first == Status::Stopped {
+        return Ok(first);
+    }
+    let second = run(alloc, register, input, output, stop)?;
+    Ok(greater_of(first, second))
+}

@@ -1,0 +1,74 @@
+//! The words of the command line, read by `clap`.
+
+ghost use Rattle.std.specs.Prelude.{◌≡◌, [], map, true, IfOk, IfErr, MatchResult, option_map};
+ghost use Rattle.clap.specs.Faults.{fault_of};
+ghost use Rattle.clap.specs.Simple.{app_of};
+ghost use Rattle.clap.specs.Takes.{takes};
+ghost use Rattle.olr_run.specs.Options.{keep_app, options, options_of, is_set, IsOptionsFault};
+
+use crate::arguments::{Options, OptionsFault};
+use clap::error::ErrorKind;
+use clap::{Arg, ArgAction, Command};
+use std::alloc::{AllocError, Global};
+use std::convert::AsStr;
+
+const ABOUT: &str = "Keeps published OpenLR strings right while the road map under them is edited.";
+
+/// The version, and the toolchain with which it was proved, as `rt version` tells it.
+const VERSION: &str = "1.1.0, proved with rattle-kit-13b logic dac8208d650f15bf";
+
+const AFTER_HELP: &str =
+    "Records: node, move, drop-node, line, set-line, drop-line, path, repath, drop-path,
+show, report, explain, begin, commit, abort. docs/LIMITS.md: their fields, limits, refusals.
+Replies: `ok,N` and N lines, `held,N` in a batch, `fault,NUMBER,WORD`.
+Example: olr-keep < examples/morning.csv
+Status: 0 all accepted, 1 some refused, 2 wrong words, 3 a file or a stream failed, 4 no memory.
+docs/RUNNING.md: maps from a database, a log to start again from, a queue, regions.";
+
+/// The program's arguments.
+fn command<'a>(alloc: Global) -> Result<Command<'a>, AllocError>
+    ensures { IfOk result (λ c. app_of c ≡ keep_app) }
+{
+    let file = Arg::new(alloc, "file")
+        .short('m')
+        .value_name("FILE")
+        .action(ArgAction::Set)
+        .help("Takes the commands of FILE before those of standard input");
+    let stop = Arg::new(alloc, "stop")
+        .short('s')
+        .action(ArgAction::SetTrue)
+        .help("Stops at the first refused command");
+    Command::new(alloc, "olr-keep")
+        .version(VERSION)
+        .about(ABOUT)
+        .after_help(AFTER_HELP)
+        .arg(file)?
+        .arg(stop)
+}
+
+/// Whether the text of a flag, where it has one, says that the flag was given.
+fn is_given(flag: Option<&str>) -> bool
+    ensures { result ≡ is_set (option_map (λ text. text.now) flag.entry) }
+{
+    flag.is_some_and(|text| text == "true")
+}
+
+/// Reads the words of a command line, the first of which is the program's own name. Words that the definition of the
+/// arguments takes are refused for want of memory alone.
+pub fn options<'a, S: AsStr>(alloc: Global, words: &'a [S]) -> Result<Options<'a>, OptionsFault>
+    ensures ok { IfOk result (λ o. options_of o ≡ options (map S.text words.entry.now)) }
+    ensures taken { takes keep_app (map S.text words.entry.now) ≡ true → IfErr result (λ e. e ≡ OptionsFault.Memory) }
+    ensures kinds { MatchResult result (λ _. fault_of keep_app (map S.text words.entry.now) ≡ []) (IsOptionsFault (fault_of keep_app (map S.text words.entry.now))) }
+{
+    let Ok(command) = command(alloc) else {
+        return Err(OptionsFault::Memory);
+    };
+    match command.try_get_matches_from(words) {
+        Ok(matches) => Ok(Options {
+            file: matches.get_str("file"),
+            stop: is_given(matches.get_str("stop")),
+        }),
+        Err(error) if error.kind() == ErrorKind::OutOfMemory => Err(OptionsFault::Memory),
+        Err(error) => Err(OptionsFault::Clap(error)),
+    }
+}

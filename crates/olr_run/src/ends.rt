@@ -1,0 +1,57 @@
+//! How a run ends.
+
+ghost use Rattle.std.specs.Prelude.{◌≡◌};
+ghost use Rattle.olr_run.specs.declared.ends.RunFault.TheVariants.{Memory};
+ghost use Rattle.olr_run.specs.Runs as runs;
+
+use std::alloc::AllocError;
+use thiserror::Error;
+
+/// How a run ended that came to its end.
+#[derive(Clone, Copy, Debug, PartialEq, Eq)]
+pub enum Status {
+    /// Every command was accepted.
+    AllAccepted,
+    /// Some command was refused.
+    SomeRefused,
+    /// It stopped at the first refused command, as it was asked to.
+    Stopped,
+}
+
+/// Why a run was cut off.
+#[derive(Clone, Copy, Debug, PartialEq, Eq, Error)]
+pub enum RunFault {
+    /// The reader failed.
+    #[error("read fault")]
+    Read,
+    /// The writer failed, or took nothing.
+    #[error("write fault")]
+    Write,
+    /// There was no memory for the reader's buffer, a record or a reply's text.
+    #[error("no memory")]
+    Memory,
+    /// There were more than 2^40 records.
+    #[error("too many records")]
+    TooMany,
+}
+
+impl From<AllocError> for RunFault {
+    ghost from_gives = { λ _ e. e ≡ Memory };
+
+    fn from(_error: AllocError) -> RunFault {
+        RunFault::Memory
+    }
+}
+
+/// The status that runs give the program: 0 where every command was accepted, 1 where some command was refused, 3 where
+/// reading or writing failed or the records were too many, and 4 where there was no memory to go on.
+pub fn exit_code(ended: &Result<Status, RunFault>) -> u8
+    ensures { result ≡ runs.exit_code ended.now }
+{
+    match ended {
+        Ok(Status::AllAccepted) => 0,
+        Ok(Status::SomeRefused | Status::Stopped) => 1,
+        Err(RunFault::Read | RunFault::Write | RunFault::TooMany) => 3,
+        Err(RunFault::Memory) => 4,
+    }
+}

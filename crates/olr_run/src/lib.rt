@@ -1,0 +1,19 @@
+//! Whole runs: the records of a file and then of an input, each answered before the next is taken, over any streams; the
+//! words of the command line; and the status with which it all ends.
+#![tactic(auto)]
+
+mod answers;
+mod arguments;
+mod both;
+mod command_line;
+mod ends;
+pub mod laws;
+mod output;
+mod records;
+pub mod rows;
+mod streams;
+
+pub use both::run_both;
+pub use ends::{RunFault, Status, exit_code};
+pub use records::run;
+pub use streams::{WRONG_WORDS, program, tell_fault};

@@ -1,0 +1,23 @@
+//! Writing to the end.
+
+ghost use Rattle.olr_run.specs.Runs.{WritesAll};
+
+use crate::ends::RunFault;
+use std::io::Write;
+
+/// Writes all of the bytes, as often as the writer takes some. A writer that fails or takes nothing is `Write`.
+pub fn write_all<W: Write>(output: &mut W, bytes: &[u8]) -> Result<(), RunFault>
+    ensures { WritesAll (W.contents output.old) (W.contents output.new) bytes.now result }
+{
+    let mut written = 0;
+    while written < bytes.len() {
+        let Ok(taken) = output.write(&bytes[written..]) else {
+            return Err(RunFault::Write);
+        };
+        if taken == 0 {
+            return Err(RunFault::Write);
+        }
+        written += taken;
+    }
+    Ok(())
+}

@@ -1,0 +1,123 @@
+//! The program, over any streams and any way to open the command file.
+
+ghost use Rattle.std.specs.Prelude.{◌≡◌, ◌≢◌, ◌≤◌, [], map, option_map};
+ghost use Rattle.clap.specs.Faults.{fault_of};
+ghost use Rattle.clap.specs.Kinds.{Kinds};
+ghost use Rattle.olr_run.specs.Options.{keep_app, IsOptionsFault};
+ghost use Rattle.olr_run.specs.Ends.{Ends, Explains, Opens, OpensFile, Shows};
+ghost use Rattle.olr_run.specs.Runs as runs;
+
+use crate::arguments::OptionsFault;
+use crate::both::run_both;
+use crate::command_line::options;
+use crate::ends::{RunFault, exit_code};
+use crate::output::write_all;
+use olr_register::Register;
+use std::alloc::Global;
+use std::convert::AsStr;
+use std::io;
+use std::io::{Read, Write};
+
+/// The status of a program whose words are wrong.
+pub const WRONG_WORDS: u8 = 2;
+
+/// The status of one whose command file can't be opened.
+const NO_FILE: u8 = 3;
+
+/// Reads the words, opens the command file if they name one, carries out its commands and then those of the input, and
+/// gives the program's status. Replies, and the help that was asked for, go to `output`; what went wrong goes to `errors`.
+pub fn program<
+    S: AsStr,
+    F: Read + Drop,
+    O: FnOnce(&str) -> io::Result<F>,
+    R: Read + Drop,
+    W: Write,
+    E: Write,
+>(
+    alloc: Global,
+    register: &mut Register,
+    words: &[S],
+    opener: O,
+    input: R,
+    output: &mut W,
+    errors: &mut E,
+) -> u8
+    requires { O.IsAlwaysCallable opener }
+    ensures bounded { result ≤ 4 }
+    ensures refused { fault_of keep_app (map S.text words.now) ≢ [] → register.new ≡ register.old }
+    ensures ends { Ends (map S.text words.now) (Opens O.FnOnce F.remaining opener) (R.remaining input)
+        register.old (W.contents output.old) register.new (W.contents output.new) result }
+    ensures quiet { result ≤ 1 → errors.new ≡ errors.old }
+{
+    let options = match options(alloc, words) {
+        Ok(options) => options,
+        Err(fault) => return explain(alloc, &fault, output, errors),
+    };
+    let Ok(file) = open_file(opener, options.file) else {
+        let _ = errors.write_all(b"olr-keep: cannot open the command file\n");
+        return NO_FILE;
+    };
+    let ended = run_both(alloc, register, file, input, output, options.stop);
+    match ended {
+        Ok(_) => exit_code(&ended),
+        Err(fault) => tell_fault(fault, errors),
+    }
+}
+
+/// The command file, opened. None where no name is given.
+fn open_file<F: Drop, O: FnOnce(&str) -> io::Result<F>>(
+    opener: O,
+    name: Option<&str>,
+) -> io::Result<Option<F>>
+    requires { O.IsAlwaysCallable opener }
+    ensures { OpensFile O.FnOnce opener (option_map (λ n. n.now) name.entry) result }
+{
+    match name {
+        None => Ok(None),
+        Some(name) => match opener(name) {
+            Ok(file) => Ok(Some(file)),
+            Err(error) => Err(error),
+        },
+    }
+}
+
+/// Writes why the program can't go on, and gives its status.
+pub fn tell_fault<E: Write>(fault: RunFault, errors: &mut E) -> u8
+    ensures { result ≡ runs.exit_code (Err fault) }
+{
+    let _ = writeln!(errors, "olr-keep: {fault}");
+    exit_code(&Err(fault))
+}
+
+/// Writes the help or the version.
+fn show<W: Write>(alloc: Global, error: &clap::Error, output: &mut W) -> Result<(), RunFault>
+    ensures { Shows (W.contents output.old) (W.contents output.new) result }
+{
+    let text = format!(in alloc; "{error}")?;
+    write_all(output, text.as_bytes())
+}
+
+/// Writes why the words gave no options, and gives the status: help and the version are no mistake.
+fn explain<W: Write, E: Write>(
+    alloc: Global,
+    fault: &OptionsFault,
+    output: &mut W,
+    errors: &mut E,
+) -> u8
+    ensures bounded { result ≤ 4 }
+    ensures explains { (kinds : Kinds) → IsOptionsFault kinds fault.now
+        → Explains kinds (W.contents output.old) (W.contents output.new) result }
+    ensures quiet { result ≤ 1 → errors.new ≡ errors.old }
+{
+    match fault {
+        OptionsFault::Memory => tell_fault(RunFault::Memory, errors),
+        OptionsFault::Clap(error) if error.use_stderr() => {
+            let _ = write!(errors, "{error}");
+            WRONG_WORDS
+        }
+        OptionsFault::Clap(error) => match show(alloc, error, output) {
+            Ok(()) => 0,
+            Err(fault) => tell_fault(fault, errors),
+        },
+    }
+}

@@ -1,0 +1,450 @@
+use olr_register::Register;
+use olr_run::{RunFault, Status, exit_code, program, run, run_both};
+use std::alloc::Global;
+use std::io;
+use std::io::{Read, Write};
+use std::process::Abort;
+
+/// Five records, of which the first is accepted.
+const RECORDS: &str = "node,1,0,0\nnode,1,0,0\ndrop-node,2\nnode,3,180,0\nnode,x,0,0\n";
+
+const REPLIES: &str = "ok,0\nfault,3,NodeExists\nfault,4,NoNode\nfault,2,Range\nfault,1,Syntax\n";
+
+/// A reader of some bytes at a call, which fails at one call.
+#[derive(Drop)]
+struct Slow {
+    rest: &'static [u8],
+    step: usize,
+    calls: usize,
+    fails_at: usize,
+}
+
+impl Slow {
+    fn new(text: &'static str, step: usize, fails_at: usize) -> Slow {
+        Slow {
+            rest: text.as_bytes(),
+            step,
+            calls: 0,
+            fails_at,
+        }
+    }
+}
+
+impl Read for Slow {
+    fn read(&mut self, into: &mut [u8]) -> io::Result<usize> {
+        let call = self.calls;
+        self.calls = call.saturating_add(1);
+        if call == self.fails_at {
+            return Err(io::Error::from(io::ErrorKind::Other));
+        }
+        let room = into.len().min(self.step);
+        self.rest.read(&mut into[..room])
+    }
+}
+
+/// A reader of a whole text.
+fn whole(text: &'static str) -> Slow {
+    Slow::new(text, 100, 100)
+}
+
+/// A reader that fails at once.
+fn broken() -> Slow {
+    Slow::new("node,1,0,0\n", 100, 0)
+}
+
+/// A writer that takes some bytes at a call, and at one call fails or takes nothing.
+#[derive(Drop)]
+struct Narrow {
+    taken: Vec<u8>,
+    step: usize,
+    calls: usize,
+    fails_at: usize,
+    takes_nothing: bool,
+}
+
+impl Narrow {
+    fn new(alloc: Global, step: usize, fails_at: usize, takes_nothing: bool) -> Narrow {
+        Narrow {
+            taken: Vec::new(alloc),
+            step,
+            calls: 0,
+            fails_at,
+            takes_nothing,
+        }
+    }
+}
+
+impl Write for Narrow {
+    fn write(&mut self, from: &[u8]) -> io::Result<usize> {
+        let call = self.calls;
+        self.calls = call.saturating_add(1);
+        if call == self.fails_at {
+            return if self.takes_nothing {
+                Ok(0)
+            } else {
+                Err(io::Error::from(io::ErrorKind::Other))
+            };
+        }
+        let taken = from.len().min(self.step);
+        self.taken.extend_from_slice(&from[..taken])?;
+        Ok(taken)
+    }
+
+    fn flush(&mut self) -> io::Result<()> {
+        Ok(())
+    }
+}
+
+/// How many lines end in the first bytes of a text.
+fn lines_within(text: &str, bytes: usize) -> usize {
+    text.as_bytes()
+        .iter()
+        .take(bytes)
+        .filter(|b| **b == b'\n')
+        .count()
+}
+
+/// The bytes of the first lines of a text.
+fn first_lines(text: &str, count: usize) -> Option<&[u8]> {
+    let mut lines = 0usize;
+    for (k, byte) in text.as_bytes().iter().enumerate() {
+        if lines == count {
+            return text.as_bytes().get(..k);
+        }
+        if *byte == b'\n' {
+            lines = lines.saturating_add(1);
+        }
+    }
+    Some(text.as_bytes())
+}
+
+/// Runs the records on a fresh register, and asserts how the run ends and what is written.
+fn expect<R: Abort + AllocGlobal>(
+    rt: &R,
+    records: &[u8],
+    stop: bool,
+    replies: &str,
+    status: Status,
+) {
+    let mut register = Register::new(rt.alloc());
+    let mut output = Vec::new(rt.alloc());
+    let ended = run(rt.alloc(), &mut register, records, &mut output, stop);
+    let found = (output.as_slice(), ended);
+    assert_eq!(rt;
+        found,
+        (replies.as_bytes(), Ok(status)),
+        "after {records:?}"
+    );
+}
+
+/// The same of records that are text, without stopping.
+fn expect_replies<R: Abort + AllocGlobal>(rt: &R, records: &str, replies: &str, status: Status) {
+    expect(rt, records.as_bytes(), false, replies, status);
+}
+
+#[test]
+fn refused_records(rt: HostRuntime) {
+    let stopped = "ok,0\nfault,3,NodeExists\n";
+    expect_replies(&rt, RECORDS, REPLIES, Status::SomeRefused);
+    expect(&rt, RECORDS.as_bytes(), true, stopped, Status::Stopped);
+    expect_replies(&rt, "", "", Status::AllAccepted);
+    expect(&rt, b"node,1,0,0\n", true, "ok,0\n", Status::AllAccepted);
+}
+
+#[test]
+fn published_string(rt: HostRuntime) {
+    expect_replies(
+        &rt,
+        "node,1,6.12683,49.60852\nnode,2,6.12838,49.60399\nline,10,1,2,3,2,5610,200,6.12701,49.60838,5410,6.1282,49.60413\npath,a,0,0,10\nshow,a\nshow,b\n",
+        "ok,0\nok,0\nok,0\nok,1\na,text,CwRbWyNG9RpsCQCb/jsaHA==\nok,1\na,text,CwRbWyNG9RpsCQCb/jsaHA==\nfault,10,NoPath\n",
+        Status::SomeRefused,
+    );
+}
+
+#[test]
+fn forms_of_records(rt: HostRuntime) {
+    let accepted: [&[u8]; 6] = [
+        b"\"node\",1,0,0\n",
+        b"node,1,\"0\",0\r\n",
+        b"node,1,0,0",
+        b"\n\r\n\nnode,1,0,0\n\n",
+        b"\xef\xbb\xbfnode,1,0,0\n",
+        b"\"node\",\"1\",\"0\",\"0\"",
+    ];
+    for records in accepted {
+        expect(&rt, records, false, "ok,0\n", Status::AllAccepted);
+    }
+    let two = "node,1,0,0\r\nnode,2,0,0\r\n";
+    expect_replies(&rt, two, "ok,0\nok,0\n", Status::AllAccepted);
+}
+
+#[test]
+fn malformed_records(rt: HostRuntime) {
+    let malformed: [&[u8]; 5] = [
+        b"node,\xff,0,0\n",
+        b"\xfe\xff\n",
+        b"node,1,0,0,\n",
+        b"\"\"\n",
+        b"node\n",
+    ];
+    for records in malformed {
+        expect(&rt, records, false, "fault,1,Syntax\n", Status::SomeRefused);
+    }
+}
+
+/// How many bytes a reader gave before a call. The first byte is taken by itself, as it may begin a byte order mark.
+fn given_before(call: usize, step: usize) -> usize {
+    if call == 0 {
+        return 0;
+    }
+    call.saturating_sub(1)
+        .saturating_mul(step)
+        .saturating_add(1)
+}
+
+/// How many calls a run makes, the one that finds the end among them.
+fn calls_of(text: &str, step: usize) -> usize {
+    for call in 0..1000 {
+        if given_before(call, step) >= text.len() {
+            return call + 1;
+        }
+    }
+    1000
+}
+
+/// A reader of so many bytes at a call, which fails at this one: the records that it gave before are answered.
+fn expect_answered<R: Abort + AllocGlobal>(rt: &R, step: usize, fails_at: usize) {
+    let mut register = Register::new(rt.alloc());
+    let mut output = Vec::new(rt.alloc());
+    let input = Slow::new(RECORDS, step, fails_at);
+    let ended = run(rt.alloc(), &mut register, input, &mut output, false);
+    let answered = lines_within(RECORDS, given_before(fails_at, step));
+    let wanted = (Some(output.as_slice()), Err(RunFault::Read));
+    assert_eq!(rt;
+        (first_lines(REPLIES, answered), ended),
+        wanted,
+        "at call {fails_at} of {step}"
+    );
+}
+
+#[test]
+fn reader_that_fails(rt: HostRuntime) {
+    for step in [1usize, 7, 100] {
+        for fails_at in 0..calls_of(RECORDS, step) {
+            expect_answered(&rt, step, fails_at);
+        }
+        expect_unharmed(&rt, step);
+    }
+}
+
+/// A reader and a writer of so many bytes at a call, which fail at none that the run makes.
+fn expect_unharmed<R: Abort + AllocGlobal>(rt: &R, step: usize) {
+    let mut register = Register::new(rt.alloc());
+    let mut output = Narrow::new(rt.alloc(), step, 1000, false);
+    let input = Slow::new(RECORDS, step, 1000);
+    let ended = run(rt.alloc(), &mut register, input, &mut output, false);
+    let found = (output.taken.as_slice(), ended);
+    assert_eq!(rt; found, (REPLIES.as_bytes(), Ok(Status::SomeRefused)));
+}
+
+/// A writer of one byte at a call, which fails at this one or takes nothing.
+fn expect_cut<R: Abort + AllocGlobal>(rt: &R, fails_at: usize, takes_nothing: bool) {
+    let mut register = Register::new(rt.alloc());
+    let mut output = Narrow::new(rt.alloc(), 1, fails_at, takes_nothing);
+    let records = RECORDS.as_bytes();
+    let ended = run(rt.alloc(), &mut register, records, &mut output, false);
+    let found = (Some(output.taken.as_slice()), ended);
+    let wanted = (REPLIES.as_bytes().get(..fails_at), Err(RunFault::Write));
+    assert_eq!(rt; found, wanted, "at call {fails_at}");
+    expect_first_applied(rt, &mut register);
+}
+
+#[test]
+fn writer_that_fails(rt: HostRuntime) {
+    for fails_at in 0..REPLIES.len() {
+        expect_cut(&rt, fails_at, false);
+        expect_cut(&rt, fails_at, true);
+    }
+}
+
+/// The first record was carried out, also where its reply could not be written.
+fn expect_first_applied<R: Abort + AllocGlobal>(rt: &R, register: &mut Register) {
+    let mut output = Vec::new(rt.alloc());
+    let again = "node,1,0,0\n".as_bytes();
+    let ended = run(rt.alloc(), register, again, &mut output, false);
+    let wanted = (b"fault,3,NodeExists\n".as_slice(), Ok(Status::SomeRefused));
+    assert_eq!(rt; (output.as_slice(), ended), wanted);
+}
+
+/// Runs a file and then an input on a fresh register, and asserts how that ends and what is written.
+fn expect_both<R: Abort + AllocGlobal>(
+    rt: &R,
+    file: Option<Slow>,
+    input: Slow,
+    stop: bool,
+    replies: &str,
+    end: Result<Status, RunFault>,
+) {
+    let mut register = Register::new(rt.alloc());
+    let mut output = Vec::new(rt.alloc());
+    let ended = run_both(rt.alloc(), &mut register, file, input, &mut output, stop);
+    let found = (output.as_slice(), ended);
+    assert_eq!(rt;
+        found,
+        (replies.as_bytes(), end),
+        "where {end:?} is expected"
+    );
+}
+
+#[test]
+fn two_runs(rt: HostRuntime) {
+    let accepted = Ok(Status::AllAccepted);
+    let refused = Ok(Status::SomeRefused);
+    let node = "node,1,0,0\n";
+    let batch = Some(whole("begin\nnode,1,0,0\n"));
+    let taken = "ok,0\nheld,1\nok,0\n";
+    let twice = "ok,0\nfault,3,NodeExists\n";
+    let wrong = "fault,1,Syntax\nok,0\n";
+    expect_both(&rt, None, whole(node), false, "ok,0\n", accepted);
+    expect_both(&rt, Some(whole("")), whole(node), false, "ok,0\n", accepted);
+    expect_both(&rt, batch, whole("commit,1\n"), true, taken, accepted);
+    expect_both(&rt, Some(whole(node)), whole(node), false, twice, refused);
+    expect_both(&rt, Some(whole("x\n")), whole(node), false, wrong, refused);
+}
+
+#[test]
+fn first_run_that_ends_both(rt: HostRuntime) {
+    let stopped = Ok(Status::Stopped);
+    let failed = Err(RunFault::Read);
+    let file = Some(whole("x\nnode,1,0,0\n"));
+    expect_both(&rt, file, broken(), true, "fault,1,Syntax\n", stopped);
+    let file = Some(whole("node,1,0,0\n"));
+    expect_both(&rt, file, broken(), true, "ok,0\n", failed);
+    let file = Some(Slow::new("node,1,0,0\n", 100, 2));
+    expect_both(&rt, file, whole("x\n"), false, "ok,0\n", failed);
+}
+
+#[test]
+fn statuses(rt: HostRuntime) {
+    let rows = [
+        (Ok(Status::AllAccepted), 0),
+        (Ok(Status::SomeRefused), 1),
+        (Ok(Status::Stopped), 1),
+        (Err(RunFault::Read), 3),
+        (Err(RunFault::Write), 3),
+        (Err(RunFault::TooMany), 3),
+        (Err(RunFault::Memory), 4),
+    ];
+    for (ended, code) in rows {
+        assert_eq!(rt; exit_code(&ended), code, "{ended:?}");
+    }
+}
+
+/// Runs the program on words and an input, where the file that they name has these records, or isn't there.
+fn expect_program<R: Abort + AllocGlobal>(
+    rt: &R,
+    words: &[&str],
+    file: Option<&'static str>,
+    input: Slow,
+    status: u8,
+    replies: &str,
+    told: &str,
+) {
+    let mut register = Register::new(rt.alloc());
+    let mut output = Vec::new(rt.alloc());
+    let mut errors = Vec::new(rt.alloc());
+    let records = file.map(|text| text.as_bytes());
+    let ended = program(
+        rt.alloc(),
+        &mut register,
+        words,
+        |_: &str| match records {
+            Some(records) => Ok(records),
+            None => Err(io::Error::from(io::ErrorKind::NotFound)),
+        },
+        input,
+        &mut output,
+        &mut errors,
+    );
+    let found = (ended, output.as_slice(), errors.as_slice());
+    let wanted = (status, replies.as_bytes(), told.as_bytes());
+    assert_eq!(rt; found, wanted, "of {words:?}");
+}
+
+#[test]
+fn whole_programs(rt: HostRuntime) {
+    let node = "node,1,0,0\n";
+    let named = ["olr-keep", "-m", "f"].as_slice();
+    let stops = ["olr-keep", "-sm", "f"].as_slice();
+    let twice = "ok,0\nfault,3,NodeExists\n";
+    let unopened = "olr-keep: cannot open the command file\n";
+    let unread = "olr-keep: read fault\n";
+    expect_program(&rt, &["olr-keep"], None, whole(node), 0, "ok,0\n", "");
+    expect_program(&rt, named, Some(node), whole(node), 1, twice, "");
+    expect_program(
+        &rt,
+        stops,
+        Some("x\n"),
+        whole(node),
+        1,
+        "fault,1,Syntax\n",
+        "",
+    );
+    expect_program(&rt, named, None, whole(node), 3, "", unopened);
+    expect_program(&rt, named, Some(node), broken(), 3, "ok,0\n", unread);
+}
+
+/// Runs the program on words, with a writer that fails at once.
+fn expect_write_fault<R: Abort + AllocGlobal>(rt: &R, words: &[&str]) {
+    let mut register = Register::new(rt.alloc());
+    let mut output = Narrow::new(rt.alloc(), 100, 0, false);
+    let mut errors = Vec::new(rt.alloc());
+    let ended = program(
+        rt.alloc(),
+        &mut register,
+        words,
+        |_: &str| Ok("".as_bytes()),
+        RECORDS.as_bytes(),
+        &mut output,
+        &mut errors,
+    );
+    let wanted = (3, b"olr-keep: write fault\n".as_slice());
+    assert_eq!(rt; (ended, errors.as_slice()), wanted, "of {words:?}");
+}
+
+#[test]
+fn write_fault_of_the_program(rt: HostRuntime) {
+    expect_write_fault(&rt, &["olr-keep"]);
+    expect_write_fault(&rt, &["olr-keep", "--help"]);
+}
+
+#[test]
+fn help_and_usage(rt: HostRuntime) {
+    let help = "Keeps published OpenLR strings right while the road map under them is edited.
+
+Usage: olr-keep [OPTIONS]
+
+Options:
+  -m <FILE>      Takes the commands of FILE before those of standard input
+  -s             Stops at the first refused command
+  -h, --help     Print help
+  -V, --version  Print version
+
+Records: node, move, drop-node, line, set-line, drop-line, path, repath, drop-path,
+show, report, explain, begin, commit, abort. docs/LIMITS.md: their fields, limits, refusals.
+Replies: `ok,N` and N lines, `held,N` in a batch, `fault,NUMBER,WORD`.
+Example: olr-keep < examples/morning.csv
+Status: 0 all accepted, 1 some refused, 2 wrong words, 3 a file or a stream failed, 4 no memory.
+docs/RUNNING.md: maps from a database, a log to start again from, a queue, regions.
+";
+    let usage = "error: unexpected argument '-x' found
+
+Usage: olr-keep [OPTIONS]
+
+For more information, try '--help'.
+";
+    let version = "olr-keep 1.1.0, proved with rattle-kit-13b logic dac8208d650f15bf\n";
+    expect_program(&rt, &["olr-keep", "--help"], None, broken(), 0, help, "");
+    expect_program(&rt, &["olr-keep", "-V"], None, broken(), 0, version, "");
+    expect_program(&rt, &["olr-keep", "-x"], None, broken(), 2, "", usage);
+}
