@@ -3,7 +3,7 @@
 
 use anyhow::Context;
 use olr_binary::to_text;
-use olr_commands::{Command, Reply};
+use olr_commands::{Command, Entry, Reply};
 use olr_coords::Coord;
 use olr_map::{Edit, Line, LineEnd, LineId, MapRead, NodeId, RoadMap};
 use olr_refs::{Answer, Path, refer};
@@ -12,65 +12,82 @@ use olr_route::Work;
 use std::alloc::Global;
 use std::io;
 
+fn node_id(number: u32) -> anyhow::Result<NodeId> {
+    NodeId::new(number).context("numbers begin at 1")
+}
+
+fn line_id(number: u32) -> anyhow::Result<LineId> {
+    LineId::new(number).context("numbers begin at 1")
+}
+
 /// A new node, at so many steps of 10^-7 degree.
 fn node(number: u32, lon: i32, lat: i32) -> anyhow::Result<Edit> {
     let place = Coord::new(i64::from(lon) * 32_768, i64::from(lat) * 32_768);
-    Ok(Edit::AddNode(
-        NodeId::new(number).context("numbers begin at 1")?,
-        place.context("a place on the earth")?,
-    ))
+    let place = place.context("a place on the earth")?;
+    Ok(Edit::AddNode(node_id(number)?, place))
 }
 
 /// A new straight line of 100 m between two nodes.
 fn line(alloc: Global, number: u32, from: u32, to: u32) -> anyhow::Result<Edit> {
+    let (number, from, to) = (line_id(number)?, node_id(from)?, node_id(to)?);
     let line = Line {
-        from: NodeId::new(from).context("numbers begin at 1")?,
-        to: NodeId::new(to).context("numbers begin at 1")?,
+        from,
+        to,
         frc: 4,
         fow: 3,
         len: 1000,
         shape: Vec::new(alloc),
     };
-    let number = LineId::new(number).context("numbers begin at 1")?;
     Ok(Edit::AddLine(number, line))
 }
 
-/// The lines of a street, and the side road that comes later.
+/// Takes an edit into a list of them.
+fn add(edits: &mut Vec<Edit>, edit: anyhow::Result<Edit>) -> anyhow::Result<()> {
+    edits.push(edit?)?;
+    Ok(())
+}
+
+/// The nodes and lines of a street.
 fn street(alloc: Global) -> anyhow::Result<Vec<Edit>> {
     let mut edits = Vec::new(alloc);
     for (number, lon) in [(1, 0), (2, 10_000), (3, 20_000)] {
-        edits.push(node(number, lon, 0)?)?;
+        add(&mut edits, node(number, lon, 0))?;
     }
     for (number, from, to) in [(10, 1, 2), (11, 2, 1), (20, 2, 3), (21, 3, 2)] {
-        edits.push(line(alloc, number, from, to)?)?;
+        add(&mut edits, line(alloc, number, from, to))?;
     }
     Ok(edits)
 }
 
+/// Prints a path's name with its string, or with its refusal.
+fn tell(rt: &impl Print, entry: &Entry) -> io::Result<()> {
+    match &entry.published {
+        Ok(text) => println!(rt; "{} {text}", entry.name),
+        Err(refusal) => println!(rt; "{} {refusal:?}", entry.name),
+    }
+}
+
 /// Prints the paths that a reply names.
-fn tell(rt: &impl Print, reply: &Reply) -> io::Result<()> {
+fn tell_all(rt: &impl Print, reply: &Reply) -> io::Result<()> {
     if let Reply::Paths(entries) = reply {
         for entry in entries {
-            match &entry.published {
-                Ok(text) => println!(rt; "{} {text}", entry.name)?,
-                Err(refusal) => println!(rt; "{} {refusal:?}", entry.name)?,
-            }
+            tell(rt, entry)?;
         }
     }
     Ok(())
 }
 
-/// Gives a register an edit, and prints the paths whose string it changed.
-fn edit(rt: &impl Print, register: &mut Register, edit: Edit) -> anyhow::Result<()> {
-    let reply = register.apply(Command::Edit(edit))?;
-    tell(rt, &reply)?;
+/// Gives a register a command, and prints the paths whose string it changed.
+fn apply(rt: &impl Print, register: &mut Register, command: Command) -> anyhow::Result<()> {
+    let reply = register.apply(command)?;
+    tell_all(rt, &reply)?;
     Ok(())
 }
 
 /// A path along line 20 of the street.
 fn path(alloc: Global) -> anyhow::Result<Command> {
+    let line = line_id(20)?;
     let name = String::from_str(alloc, "street")?;
-    let line = LineId::new(20).context("numbers begin at 1")?;
     let lines = Vec::from_array(alloc, [line])?;
     Ok(Command::AddPath(name, lines, 0, 0))
 }
@@ -82,29 +99,44 @@ fn question(alloc: Global, register: &Register) -> anyhow::Result<Command> {
     Ok(Command::Explain(text))
 }
 
-/// The street with its path in a register.
+/// The street with its path in a register, and a side road, which changes the string.
 fn fill(rt: &impl Print, alloc: Global, register: &mut Register) -> anyhow::Result<()> {
-    for each in street(alloc)? {
-        edit(rt, register, each)?;
+    for edit in street(alloc)? {
+        apply(rt, register, Command::Edit(edit))?;
     }
-    let reply = register.apply(path(alloc)?)?;
-    tell(rt, &reply)?;
-    Ok(())
+    apply(rt, register, path(alloc)?)?;
+    apply(rt, register, Command::Edit(node(4, 10_000, 10_000)?))?;
+    apply(rt, register, Command::Edit(line(alloc, 40, 2, 4)?))
 }
 
-/// What the string says, once a side road has changed it; and an edit that is far from it.
-fn go_on(rt: &impl Print, alloc: Global, register: &mut Register) -> anyhow::Result<()> {
-    edit(rt, register, node(4, 10_000, 10_000)?)?;
-    edit(rt, register, line(alloc, 40, 2, 4)?)?;
+/// What the string says.
+fn explain(rt: &impl Print, alloc: Global, register: &mut Register) -> anyhow::Result<()> {
     let question = question(alloc, register)?;
     if let Reply::Fields(reference) = register.apply(question)? {
         println!(rt; "{:?}", reference.first)?;
     }
+    Ok(())
+}
+
+/// An edit that is far from the path.
+fn edit_far(rt: &impl Print, register: &mut Register) -> anyhow::Result<()> {
     let before = register.work().encodings;
-    edit(rt, register, node(5, 70_000_000, 500_000_000)?)?;
+    apply(
+        rt,
+        register,
+        Command::Edit(node(5, 70_000_000, 500_000_000)?),
+    )?;
     let after = register.work().encodings;
     println!(rt; "encodings {before}, and {after} after a far edit")?;
     Ok(())
+}
+
+/// The register alone.
+fn keep(rt: &impl Print, alloc: Global) -> anyhow::Result<()> {
+    let mut register = Register::new(alloc);
+    fill(rt, alloc, &mut register)?;
+    explain(rt, alloc, &mut register)?;
+    edit_far(rt, &mut register)
 }
 
 /// The street as a map alone.
@@ -187,16 +219,16 @@ fn encode<M: MapRead>(rt: &impl Print, alloc: Global, map: &M, line: LineId) -> 
     Ok(())
 }
 
-fn main(rt: HostRuntime) -> anyhow::Result<()> {
-    let alloc = rt.alloc();
-    let mut register = Register::new(alloc);
-    fill(&rt, alloc, &mut register)?;
-    go_on(&rt, alloc, &mut register)?;
-    let survey = Survey {
-        map: street_map(alloc)?,
-        year: 2026,
-    };
+/// The encoder alone, on a map of one's own.
+fn encode_survey(rt: &impl Print, alloc: Global) -> anyhow::Result<()> {
+    let line = line_id(20)?;
+    let map = street_map(alloc)?;
+    let survey = Survey { map, year: 2026 };
     println!(rt; "surveyed in {}", survey.year)?;
-    let line = LineId::new(20).context("numbers begin at 1")?;
-    encode(&rt, alloc, &survey, line)
+    encode(rt, alloc, &survey, line)
+}
+
+fn main(rt: HostRuntime) -> anyhow::Result<()> {
+    keep(&rt, rt.alloc())?;
+    encode_survey(&rt, rt.alloc())
 }
