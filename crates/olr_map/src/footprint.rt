@@ -49,7 +49,7 @@ impl Footprint {
         self.nodes.binary_search(&node).is_ok()
     }
 
-    /// Puts one node in. After a refusal the set is as before.
+    /// Puts one node in. After want of memory the set is as before.
     pub fn note(&mut self, node: NodeId) -> Result<(), AllocError>
         ensures ok { OnOk result
             ((n : ℕ) → (Contains self.new n) ↔ ((Contains self.old n) ⊎ (n ≡ node))) }
@@ -61,7 +61,7 @@ impl Footprint {
         Ok(())
     }
 
-    /// Puts all these nodes in, by one merge into room that is made at once. After a refusal the set is as before.
+    /// Puts all these nodes in, by one merge into room that is made at once. After want of memory the set is as before.
     pub fn note_all(&mut self, rising: &[NodeId]) -> Result<(), AllocError>
         requires rising { IsStrictlyIncreasing rising.now }
         ensures ok { OnOk result

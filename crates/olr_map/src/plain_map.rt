@@ -128,7 +128,7 @@ impl PlainMap {
         let Undo { change: _ } = undo;
     }
 
-    /// Makes an edit, and adds what takes it back to a log. The refusals are those of `apply`; after one, map and log are
+    /// Makes an edit, and adds what takes it back to a log. The faults are those of `apply`; after one, map and log are
     /// as they were.
     pub fn apply_into(&mut self, edit: Edit, log: &mut UndoLog) -> Result<(), EditFault>
         requires { CanUndoAll self.old log.old }

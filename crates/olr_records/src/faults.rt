@@ -1,4 +1,4 @@
-//! Why a record is no command, and the texts of refusals.
+//! Why a record is no command, and the texts of faults.
 ghost use Rattle.std.specs.Prelude.{◌≡◌};
 ghost use Rattle.olr_commands.specs.Words.{command_fault_of, map_fault_of, text_fault_of};
 ghost use Rattle.olr_records.specs.ReplyText as texts;

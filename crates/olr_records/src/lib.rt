@@ -1,4 +1,4 @@
-//! Records of comma-separated fields read as commands, and the texts of replies and refusals.
+//! Records of comma-separated fields read as commands, and the texts of replies and faults.
 #![tactic(auto)]
 
 mod edits;

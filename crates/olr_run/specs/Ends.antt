@@ -1,5 +1,5 @@
 -- How the program ends: over the words of its command line, what opening the file gives, and the bytes of file and input.
---     Explains kinds before later code      words with these kinds of fault are answered with help, the version or a refusal
+--     Explains kinds before later code      words with these kinds of fault are answered with help, the version or a fault
 --     Opens call remaining opener name opened      opening the file of that name gives known bytes, or fails
 --     Ends words Opened input old before new later code      the register, what is written and the status at the end
 use Rattle.std.specs.Prelude.{◌≡◌, ℕ, Bool, true, false, List, [], Option, Some, None, option_map, MatchOption, Result, Ok, Err, ◌⊎◌}

@@ -52,7 +52,7 @@ spelled fields = result_ok (read fields)
 abbrev pub Claims : State → List (List Field) → List Outcome → State → Type 0
 Claims s rs os t = Headline SoundOutcome spelled s rs os t
 
--- none after a refusal where stop is set
+-- none after a fault where stop is set
 abbrev pub StopsAtRefusal : Bool → List Outcome → Type 0
 StopsAtRefusal stop [] = ⊤
 StopsAtRefusal stop (o ∷ os) = (IsTrue (stop && is_err o) → os ≡ []) × StopsAtRefusal stop os

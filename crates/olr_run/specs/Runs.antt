@@ -46,7 +46,7 @@ pub record IsPlain {R : Type 0} (r : Reader R) : Type 0 where
 abbrev pub Takes : {R : Type 0} → (R → Known) → Reader R → Reader R → Bool → List Field → Type 0
 Takes remaining old new found fields = IsPlain old → IsPlain new × ReadRecord remaining old new found fields
 
--- the reply, or the text of the refusal
+-- the reply, or the text of the fault
 abbrev pub IsAnswer : Result Reply (Bor (List ℕ)) → Outcome → Type 0
 IsAnswer (Ok reply) o = o ≡ Ok (reply_of reply)
 IsAnswer (Err line) o = (fault : Fault) × (o ≡ Err fault) × (line.now ≡ fault_text fault)

@@ -16,7 +16,7 @@ use olr_register::Register;
 use std::alloc::{AllocError, Global};
 use std::io::Write;
 
-/// Carries out what a record asks for: the reply, or the line of the refusal.
+/// Carries out what a record asks for: the reply, or the line of the fault.
 fn carry_out(
     alloc: Global,
     register: &mut Register,

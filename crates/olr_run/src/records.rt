@@ -32,7 +32,7 @@ fn next_record<R: Read + Drop>(
     }
 }
 
-/// Takes the records of the input, and writes a reply or a refusal for each before it takes the next. Where `stop` is set
+/// Takes the records of the input, and writes a reply or a fault for each before it takes the next. Where `stop` is set
 /// it takes none after the first refused one. After a fault the register stands after the records that were taken, and
 /// all of their answers are written but for a rest of the last. Either way, of the commands that these records spell:
 /// each path's published answer is the one that encoding it from nothing gives on the map of the accepted ones, the routes

@@ -1,4 +1,4 @@
-//! Tests of records read as commands, and of the texts of replies and refusals.
+//! Tests of records read as commands, and of the texts of replies and faults.
 #![tactic(auto)]
 
 #[cfg(test)]
