@@ -1,6 +1,6 @@
 pub mod FieldLemmas
 pub mod LoopLemmas
 pub mod PartLemmas
-pub mod RowLemmas
+pub mod FormLemmas
 pub mod TextLemmas
 pub mod ReadLemmas

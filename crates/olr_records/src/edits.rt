@@ -7,7 +7,7 @@ ghost use Rattle.olr_records.specs.Words.{IsRead, Reads};
 
 use crate::faults::ReadFault;
 use crate::fields::{coord, field, line_id, node_id};
-use crate::lines::{course, line};
+use crate::lines::{course_at, line};
 use crate::parts::both;
 use csv::ByteRecord;
 use olr_commands::Command;
@@ -76,7 +76,7 @@ pub(crate) fn set_line(alloc: Global, fields: &ByteRecord) -> Result<Command, Re
     if fields.len() < 5 {
         return Err(ReadFault::Syntax);
     }
-    let (id, course) = both(line_id(field(fields, 1)), course(alloc, fields, 2))?;
+    let (id, course) = both(line_id(field(fields, 1)), course_at(alloc, fields, 2))?;
     Ok(Command::Edit(Edit::SetLine {
         id,
         frc: course.frc,

@@ -35,7 +35,7 @@ pub(crate) fn line(alloc: Global, fields: &ByteRecord) -> Result<Line, ReadFault
         result }
 {
     let ends = both(node_id(field(fields, 2)), node_id(field(fields, 3)));
-    let ((from, to), course) = both(ends, course(alloc, fields, 4))?;
+    let ((from, to), course) = both(ends, course_at(alloc, fields, 4))?;
     Ok(Line {
         from,
         to,
@@ -47,11 +47,7 @@ pub(crate) fn line(alloc: Global, fields: &ByteRecord) -> Result<Line, ReadFault
 }
 
 /// The course of a line, from the field at place `k` on.
-pub(crate) fn course(
-    alloc: Global,
-    fields: &ByteRecord,
-    k: usize,
-) -> Result<Course, ReadFault>
+pub(crate) fn course_at(alloc: Global, fields: &ByteRecord, k: usize) -> Result<Course, ReadFault>
     requires near { k ≤ 4 }
     requires within { k + 3 ≤ length (fields_of fields.now) }
     ensures { let f : ℕ → Field = λ n. slice_index_or (fields_of fields.now) n [] in

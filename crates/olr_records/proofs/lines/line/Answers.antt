@@ -20,5 +20,5 @@ returns-in_err-from c =
     let ends = parts _ _ _ (number (at fs 3)) c.node_id.result c.node_id-2.result c.both-ends.result c.both-ends.ensures
     (first-part (λ a b c. records.line a b c.0 c.1 c.2 c.3) (λ n. n) (number (at fs 2)) c.node_id.result from) to in
     handed-on (λ l. 0 < length l.shape) _ _ (front ⊛ rest) c.both.result c.from_residual.result c.in_err-from.field-0.0 c.in_err-from.was told
-    (both-parts (λ _. ⊥) (λ p. 0 < length p.3) (λ l. 0 < length l.shape) _ (λ (k : Course). (k.frc, k.fow, k.len, k.shape.items)) front rest c.both-ends.result c.course.result c.both.result c.both.ensures
-    (λ g b never. absurd never) (λ a b some. some) (no-memory (λ _. ⊥) _ front c.both-ends.result ends) c.course.ensures)
+    (both-parts (λ _. ⊥) (λ p. 0 < length p.3) (λ l. 0 < length l.shape) _ (λ (k : Course). (k.frc, k.fow, k.len, k.shape.items)) front rest c.both-ends.result c.course_at.result c.both.result c.both.ensures
+    (λ g b never. absurd never) (λ a b some. some) (no-memory (λ _. ⊥) _ front c.both-ends.result ends) c.course_at.ensures)

@@ -5,7 +5,7 @@ use Rattle.olr_records.specs.Records.{Field, Read, ◌⊛◌, class, digits, sha
 use Rattle.olr_records.specs.Words.{Reads}
 use Rattle.olr_records.proofs.LoopLemmas.{at}
 use Rattle.olr_records.proofs.PartLemmas.{no-memory, first-part, parts, both-parts, handed-on}
-use Rattle.olr_records.proofs.lines.course.Goals as goal
+use Rattle.olr_records.proofs.lines.course_at.Goals as goal
 
 pub returns-in_err-frc : goal.returns-in_err-frc
 returns-in_err-frc c =
