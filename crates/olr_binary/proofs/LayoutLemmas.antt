@@ -75,21 +75,5 @@ module _ (b : List ℕ) (m o : ℕ) (w : IsLayout b m o) (e : v3_fault b ≡ Non
       let none = (or_parts (some_reserved b 7 (m + 2)) _ (sym (has_reserved-is b m o w) ∙ (no_fault b e).reserved)).0 in
       some_reserved-at b 7 (m + 2) none k within
 
-  flags_place : length b - 1 - extra b ≡ 15 + 7 * m
-  flags_place =
-      let x = extra-is b m o w in
-      omega (arith, w.size)
-
-  pub low_attribute4 : slice_index b (15 + 7 * m) < 128
-  low_attribute4 =
-      let none = (or_parts (some_reserved b 7 (m + 2)) _ (sym (has_reserved-is b m o w) ∙ (no_fault b e).reserved)).1 in
-      let x = extra-is b m o w in
-      let place : length b - 1 - o ≡ 15 + 7 * m = omega (arith, w.size) in
-      subst (λ (i : ℕ). slice_index b i < 128) place (leb-false 128 _ none)
-
-  pub flag_bits : bit 6 (slice_index b (15 + 7 * m)) + bit 5 (slice_index b (15 + 7 * m)) ≡ o
-  flag_bits =
-      subst (λ (i : ℕ). bit 6 (slice_index b i) + bit 5 (slice_index b i) ≡ o) flags_place ((no_fault b e).flags ∙ extra-is b m o w)
-
   pub status-is : slice_index b 0 ≡ status_byte
   status-is = (no_fault b e).state

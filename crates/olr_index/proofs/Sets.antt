@@ -5,7 +5,7 @@ use Rattle.std.specs.List.Sorted.{IsStrictlyIncreasing, IsBinarySearchResult}
 use Rattle.std.specs.Ordering.{nat_cmp}
 use Rattle.std.proofs.lemmas.Bool.{eqb-true}
 use Rattle.olr_spec.specs.Extension.{has}
-use Rattle.olr_index.proofs.Rising.{Place, place_of, insert_rises, rises-remove, has-remove, has-insert, has_at, place_not}
+use Rattle.olr_index.proofs.Rising.{Place, place_of, insert_rises, has-remove, has-insert, has_at, place_not}
 
 or_comm : (a b : Bool) → (a || b) ≡ (b || a)
 or_comm true true = refl

@@ -1,9 +1,9 @@
 -- Tables of nothing, and tables with more room.
 use Rattle.std.proofs.Common.{◌≡◌, ◌==◌, ℕ, ◌≤◌, Bool, true, false, cond, [], Option, Some, None, is_some, unwrap_or, refl, sym, ap, ◌∙◌, subst, arith}
-use Rattle.std.specs.Option.{option_map, option_map_or}
+use Rattle.std.specs.Option.{option_map}
 use Rattle.std.specs.FinMap.{FinMap}
 use Rattle.std.specs.Map.{lookup}
-use Rattle.std.proofs.lemmas.Bool.{eqb-true, eq-eqb}
+use Rattle.std.proofs.lemmas.Bool.{eqb-true}
 use Rattle.std.specs.Ordering.{nat_cmp}
 use Rattle.olr_spec.specs.Coordinates.{Coord}
 use Rattle.olr_spec.specs.Map.{Map, IsMap, Line, has_node, has_line, line_at}
@@ -13,7 +13,7 @@ use Rattle.olr_map.specs.NodeSlots.{slots_of}
 use Rattle.olr_map.specs.NodeLinks.{links_at, relinked}
 use Rattle.olr_map.specs.Linked.{lines_on, ends_on, spare_links}
 use Rattle.olr_map.specs.Kept.{in_slot, far, node_in, links_in, map_from, place_in, IsListed, IsIndexed, IsKept}
-use Rattle.olr_map.specs.Changes.{tables_map, spare_at}
+use Rattle.olr_map.specs.Changes.{tables_map}
 use Rattle.olr_map.specs.declared.by_number.ByNumber.{ByNumber}
 use Rattle.olr_map.specs.declared.links.Links.{Links}
 use Rattle.olr_map.specs.declared.slots.NodeEntry.{NodeEntry}
@@ -74,9 +74,6 @@ module _ (t : Tables) (b' : ByNumber ℕ) (same : (k : ℕ) → found b' k ≡ f
       replaced side (tables_map t) (map_from b' (slots_of t.nodes) (all_of t.lines)).nodes (place_in t.index) (place_in b') v l
       (λ y there. ap (λ o. unwrap_or o 0) (sym (same (far side (line_at (tables_map t) y))))) (t.kept.listed side v l (ap (option_map (links_at side)) (sym (index_node v)) ∙ h)))
 
-  pub index_spare : (side : Side) (v : ℕ) → option_map_or (λ l. spare_links l) (links_in side b' (slots_of t.nodes) v) 0 ≡ spare_at side t v
-  index_spare side v = ap (λ o. option_map_or (λ l. spare_links l) (option_map (links_at side) o) 0) (index_node v)
-
 module _ (t : Tables) (ls' : ByNumber Line) (same : (k : ℕ) → found ls' k ≡ found t.lines k) where
   pub same_lines : all_of ls' ≡ all_of t.lines
   same_lines = same_answers _ _ (λ k. all_get (entries_of ls') k ∙ same k ∙ sym (got_line t k))
@@ -104,10 +101,6 @@ same_id In e l = refl
 same_place : (side : Side) (e : NodeEntry) (l : Links) → (relinked side e l).place ≡ e.place
 same_place Out e l = refl
 same_place In e l = refl
-
-linked_here : (side : Side) (e : NodeEntry) (l : Links) → links_at side (relinked side e l) ≡ l
-linked_here Out e l = refl
-linked_here In e l = refl
 
 grown_at : (s side : Side) (e : NodeEntry) (l : Links) → Grown (links_at side e) l → Grown (links_at s e) (links_at s (relinked side e l))
 grown_at Out Out e l g = g
@@ -157,22 +150,3 @@ module _ (t : Tables) (nodes' : Slots) (side : Side) (p v : ℕ) (e : NodeEntry)
       let m = grown_links s k h is in
       let old = t.kept.listed s k m.0 m.1 in
       subst (λ (K : Map). IsListed s K (place_in t.index) k h) (sym grown_map) (record { numbers = m.2.lines ∙ old.numbers; ends = m.2.ends ∙ old.ends }))
-
-  module _ (kept' : IsKept t.index (slots_of nodes') (all_of t.lines)) where
-    abbrev grown_new : Tables
-    grown_new = record { index = t.index; nodes = nodes'; lines = t.lines; kept = kept' }
-
-    pub grown_spare : (s : Side) (k : ℕ) → spare_at s t k ≤ spare_at s grown_new k
-    grown_spare s k =
-        subst (λ (o : Option NodeEntry). spare_at s t k ≤ option_map_or (λ l. spare_links l) (option_map (links_at s) o) 0) (sym (grown_node k))
-        (elim (v == k) as (λ c. (v == k) ≡ c → spare_at s t k ≤ option_map_or (λ l. spare_links l) (option_map (links_at s) (cond c (Some f) (node_in t.index (slots_of t.nodes) k))) 0) [
-          | true ↦ λ i.
-              let was : spare_at s t k ≡ spare_links (links_at s e) = ap (spare_at s t) (sym (eqb-true v k i)) ∙ ap (λ o. option_map_or (λ l. spare_links l) (option_map (links_at s) o) 0) was_here in
-              let more = (grown_at s side e l g).spare in omega arith
-          | false ↦ λ i. omega arith
-        ] refl)
-
-    pub grown_now : spare_at side grown_new v ≡ spare_links l
-    grown_now =
-        ap (λ o. option_map_or (λ l. spare_links l) (option_map (links_at side) o) 0) (grown_node v ∙ ap (λ (c : Bool). cond c (Some f) (node_in t.index (slots_of t.nodes) v)) (eq-eqb v v refl))
-        ∙ ap (λ m. spare_links m) (linked_here side e l)

@@ -139,9 +139,6 @@ module _ (side : Side) (P : ℕ → ℕ) where
           let none : passes_at (test v) (get M.lines y) ≡ false = ap (λ n. passes_at (test v) (get M.lines n)) (sym e) ∙ ap (passes_at (test v)) was ∙ ne in
           let some = listed_there M v y h in cc)
 
-      pub stands_in : has (lines_at side M (near side l)) x ≡ true
-      stands_in = has-lines_where M (test (near side l)) x ∙ ap (passes_at (test (near side l))) was ∙ eq-eqb (near side l) (near side l) refl
-
       pub take_other : (v : ℕ) (k : Links) → (near side l == v) ≡ false → IsListed side M P v k → IsListed side removed P v k
       take_other v k ne h =
           let same : lines_at side M v ≡ lines_at side removed v =

@@ -1,13 +1,13 @@
 -- The element of a list with this key, where no key stands twice, and what an insert, a removal and a write make of it.
-use Rattle.std.proofs.Common.{◌≡◌, ◌≢◌, ◌==◌, ℕ, ◌<◌, ◌≤◌, zero, suc, Bool, true, false, cond, List, [], ◌∷◌, map, find, Option, Some, None, length, get_or, set, refl, sym, ap, ◌∙◌, subst, inl, inr, arith, nat_cmp}
+use Rattle.std.proofs.Common.{◌≡◌, ◌==◌, ℕ, ◌<◌, ◌≤◌, zero, suc, Bool, true, false, cond, List, [], ◌∷◌, map, find, Option, Some, None, length, get_or, set, refl, sym, ap, ◌∙◌, subst, inl, inr, arith, nat_cmp}
 use Rattle.std.specs.Option.{option_map, option_map_or}
 use Rattle.std.specs.List.{insert, remove, AllByRecursion, IsDistinct}
 use Rattle.std.specs.Cmp.{nat_cmp_total, unsigned_tied}
 use Rattle.std.specs.FinMap as finmap
 use Rattle.std.specs.FinMap.{FinMap, get, from_entries, get-from_entries, get-insert, get-remove, same_map, nat_cmp-IsAntisymmetric}
-use Rattle.std.proofs.lemmas.Bool.{cases_eq, cases_order, eq-eqb, ne_eqb, eqb-true}
-use Rattle.std.proofs.lemmas.Map.Keys.{IsDistinct-head, IsDistinct-tail, IsDistinct-cons, IsDistinct-IsPermutation, apart_from_distinct}
-use Rattle.std.proofs.lemmas.List.{get_or_default, get_or-map, length-map}
+use Rattle.std.proofs.lemmas.Bool.{cases_eq, eq-eqb, ne_eqb, eqb-true}
+use Rattle.std.proofs.lemmas.Map.Keys.{IsDistinct-head, IsDistinct-tail, IsDistinct-cons, IsDistinct-IsPermutation}
+use Rattle.std.proofs.lemmas.List.{get_or_default}
 use Rattle.std.proofs.lemmas.List.Sorted.{IsPermutation-insert, IsPermutation-remove, IsPermutation-map}
 
 pub eqb_flip : (a b : ℕ) → (a == b) ≡ (b == a)
@@ -34,10 +34,6 @@ map_or_cond f d false x o = refl
 pub map_or_none : {A B : Type 0} (f : A → B) (d : B) (b : Bool) (o : Option A) → option_map_or f (cond b None o) d ≡ cond b d (option_map_or f o d)
 map_or_none f d true o = refl
 map_or_none f d false o = refl
-
-map_none : {A B : Type 0} (f : A → B) (b : Bool) (o : Option A) → option_map f (cond b None o) ≡ cond b None (option_map f o)
-map_none f true o = refl
-map_none f false o = refl
 
 -- what a map answers after an insert and a removal
 pub got_insert : {Y : Type 0} (m : FinMap nat_cmp Y) (k : ℕ) (v : Y) (q : ℕ) → get (finmap.insert m k v) q ≡ cond (k == q) (Some v) (get m q)
@@ -129,30 +125,6 @@ module _ {X : Type 0} (key : X → ℕ) where
   keys-set (x ∷ xs) zero y d lt e = ap (λ (k : ℕ). k ∷ map key xs) e
   keys-set (x ∷ xs) (suc i) y d lt e = ap (λ (ks : List ℕ). key x ∷ ks) (keys-set xs i y d (omega arith) e)
 
-  pub keys-insert : (xs : List X) (i : ℕ) (x : X) → i ≤ length xs → map key (insert xs i x) ≡ insert (map key xs) i (key x)
-  keys-insert xs zero x le = refl
-  keys-insert [] (suc i) x le = absurd (omega arith)
-  keys-insert (y ∷ ys) (suc i) x le = ap (λ (ks : List ℕ). key y ∷ ks) (keys-insert ys i x (omega arith))
-
-  pub keys-remove : (xs : List X) (i : ℕ) → i < length xs → map key (remove xs i) ≡ remove (map key xs) i
-  keys-remove [] i lt = absurd (omega arith)
-  keys-remove (x ∷ xs) zero lt = refl
-  keys-remove (x ∷ xs) (suc i) lt = ap (λ (ks : List ℕ). key x ∷ ks) (keys-remove xs i (omega arith))
-
-  -- another element has another key
-  pub other_key : (xs : List X) (i j : ℕ) (d : X) → IsDistinct ◌==◌ (map key xs) → i < length xs → j < length xs → j ≢ i → (key (get_or xs i d) == key (get_or xs j d)) ≡ false
-  other_key xs i j d apart lt h ne =
-      let first : get_or (map key xs) i 0 ≡ key (get_or xs i d) = get_or-map key xs i d 0 lt in
-      let second : get_or (map key xs) j 0 ≡ key (get_or xs j d) = get_or-map key xs j d 0 h in
-      let long : length (map key xs) ≡ length xs = length-map xs key in
-      elim (cases_order j i) [
-        | inl e ↦ absurd (ne e)
-        | inr o ↦ elim o [
-          | inl low ↦ eqb_flip (key (get_or xs i d)) (key (get_or xs j d)) ∙ rw (first, second) at (apart_from_distinct ◌==◌ (map key xs) j i 0 apart low (omega arith))
-          | inr high ↦ rw (first, second) at (apart_from_distinct ◌==◌ (map key xs) i j 0 apart high (omega arith))
-        ]
-      ]
-
   -- the list as a map
   module _ {Y : Type 0} (val : X → Y) where
     abbrev entries_map : List X → FinMap nat_cmp Y
@@ -167,21 +139,6 @@ module _ {X : Type 0} (key : X → ℕ) where
 
     pub got : (xs : List X) (k : ℕ) → get (entries_map xs) k ≡ option_map val (looked xs k)
     got xs k = get-from_entries nat_cmp_total (map (λ (x : X). (key x, val x)) xs) k ∙ found xs k
-
-    pub map-insert : (xs : List X) (i : ℕ) (x : X) → i ≤ length xs → Differs (key x) xs → entries_map (insert xs i x) ≡ finmap.insert (entries_map xs) (key x) (val x)
-    map-insert xs i x le h = same_answers _ _ (λ k.
-        got (insert xs i x) k ∙ ap (option_map val) (looked-insert xs i x k le h) ∙ map_cond val (key x == k) x (looked xs k)
-        ∙ ap (cond (key x == k) (Some (val x))) (sym (got xs k)) ∙ sym (got_insert (entries_map xs) (key x) (val x) k))
-
-    pub map-remove : (xs : List X) (i : ℕ) (d : X) → IsDistinct ◌==◌ (map key xs) → i < length xs → entries_map (remove xs i) ≡ finmap.remove (entries_map xs) (key (get_or xs i d))
-    map-remove xs i d apart lt = same_answers _ _ (λ k.
-        got (remove xs i) k ∙ ap (option_map val) (looked-remove xs i d k apart lt) ∙ map_none val (key (get_or xs i d) == k) (looked xs k)
-        ∙ ap (cond (key (get_or xs i d) == k) None) (sym (got xs k)) ∙ sym (got_remove (entries_map xs) (key (get_or xs i d)) k))
-
-    pub map-set : (xs : List X) (i : ℕ) (y d : X) → IsDistinct ◌==◌ (map key xs) → i < length xs → key y ≡ key (get_or xs i d) → entries_map (set xs i y) ≡ finmap.insert (entries_map xs) (key y) (val y)
-    map-set xs i y d apart lt e = same_answers _ _ (λ k.
-        got (set xs i y) k ∙ ap (option_map val) (looked-set xs i y d k apart lt e) ∙ map_cond val (key y == k) y (looked xs k)
-        ∙ ap (cond (key y == k) (Some (val y))) (sym (got xs k)) ∙ sym (got_insert (entries_map xs) (key y) (val y) k))
 
 -- a removal takes back an insert, and an insert a removal or another insert
 module _ {Y : Type 0} (m : FinMap nat_cmp Y) (k : ℕ) where

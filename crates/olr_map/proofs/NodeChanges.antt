@@ -30,7 +30,7 @@ use Rattle.olr_map.specs.declared.tables.Tables.{Tables}
 use Rattle.olr_map.specs.declared.change.Change.{Change}
 use Rattle.olr_map.specs.declared.change.Change.TheVariants.{PutNode, MoveNode, TakeNode}
 use Rattle.olr_map.proofs.Looks.{eqb_flip, map_cond, map_or_cond, map_or_none, got_insert, got_remove, same_answers}
-use Rattle.olr_map.proofs.Indexing.{same_some, came_node, came_indexed, gone_node, gone_indexed, turned_node, turned_indexed, id_here}
+use Rattle.olr_map.proofs.Indexing.{same_some, came_node, came_indexed, gone_node, gone_indexed, turned_node, turned_indexed}
 use Rattle.olr_map.proofs.LineLists.{absent_outs, absent_ins, unused_outs, unused_ins, unused_fails}
 use Rattle.olr_map.proofs.Listing.{replaced}
 use Rattle.olr_map.proofs.Reading.{place_of, got_node, kept_from, not_found, slot_of, node_read, listed_at}
@@ -224,9 +224,6 @@ module _ (t : Tables) (b' : ByNumber ℕ) (nodes' : Slots) (p v : ℕ) (e : Node
 
   go_says : (has_node go_M v ≡ true) × (in_use go_M v ≡ false) × (go_N ≡ map_after go_M (TakeNode v))
   go_says = Undoing.dropped_node go_M (map_after go_M (TakeNode v)) v (made_ok go_M (TakeNode v) can.accepted)
-
-  go_id : e.id ≡ v
-  go_id = id_here t.index (slots_of t.nodes) t.kept.indexed v p e here g.was
 
   go_indexed : IsIndexed b' (slots_of nodes')
   go_indexed = gone_indexed t.index (slots_of t.nodes) t.kept.indexed b' (slots_of nodes') p v e g here taken

@@ -1,7 +1,6 @@
 -- What is asked of each path of a list is asked of the one at a place.
-use Rattle.std.proofs.Common.{◌≡◌, ℕ, ◌+◌, ◌<◌, List, [], length, slice_get, Contains, Option, Some, None, option_map, IfSome, Bool, IsTrue, IsFalse, true, false, refl, sym, ap, ◌∙◌, subst, inl, inr, arith}
-use Rattle.std.proofs.lemmas.Bool.{cases_lt}
-use Rattle.std.proofs.lemmas.Option.{slice_get_within, get_or_from_slice_get, slice_get_read}
+use Rattle.std.proofs.Common.{◌≡◌, ℕ, List, [], slice_get, Contains, Option, Some, None, option_map, IfSome, Bool, IsTrue, IsFalse, true, refl, sym, ap, ◌∙◌, subst, arith}
+use Rattle.std.proofs.lemmas.Option.{slice_get_within, get_or_from_slice_get}
 use Rattle.olr_spec.specs.Looks.{Look}
 use Rattle.olr_spec.specs.Detours.{Near}
 use Rattle.olr_spec.specs.Map.{Map}
@@ -71,11 +70,3 @@ module _ (N : Map) (place : ℕ → ℕ) (t : Touched) where
   -- where no path has a look
   pub asked_lack : (s : Searches) (is : List Item) → s.far ≡ true → LackLooks is → AreAsked N place t s is
   asked_lack s is on lack i there = far_made s i.made on (untouched_made i.made (lack i there))
-
-  -- where the search is made
-  searched_made : (s : Searches) (made : Option Made) → s.far ≡ false → IsSearch N place Against (sources t) s.near → limit_of s.near ≡ limit → IfSome made (IsAsked N place t s)
-  searched_made s None off search settled = tt
-  searched_made s (Some m) off search settled = record { search = λ _. search; settled = λ _. settled; far = λ on. let never : ⊥ = cc (on, off) in absurd never }
-
-  pub asked_searched : (s : Searches) (is : List Item) → s.far ≡ false → IsSearch N place Against (sources t) s.near → limit_of s.near ≡ limit → AreAsked N place t s is
-  asked_searched s is off search settled i there = searched_made s i.made off search settled

@@ -2,7 +2,7 @@
 use Rattle.std.proofs.Common.{inl, inr, ◌≡◌, ◌≢◌, ℕ, zero, suc, ◌+◌, ◌-◌, ◌<◌, ◌≤◌, ◌==◌, ◌||◌, ◌⊎◌, Bool, true, false, All, List, [], ◌∷◌, ◌++◌, take, length, get_or, slice_get, Option, Some, None, IsTrue, refl, sym, ap, ◌∙◌, subst, arith}
 use Rattle.std.specs.List.Sorted.{IsNonDecreasing}
 use Rattle.std.proofs.lemmas.Bool.{cases_Bool, cases_lt, or_left, eq-eqb, eqb-true}
-use Rattle.std.proofs.lemmas.List.{take_more, take_all}
+use Rattle.std.proofs.lemmas.List.{take_all}
 use Rattle.std.proofs.lemmas.List.Elements.{All-contains}
 use Rattle.std.proofs.lemmas.Option.{slice_get_within}
 use Rattle.olr_spec.specs.Map.{Map, IsMap}
@@ -67,42 +67,11 @@ pushed_there xs x v is = has_push xs x v ∙ right (has xs v) (x == v) (eq-eqb x
   right true b h = refl
   right false b h = h
 
--- of the first k, and one more
-pub has_more : (xs : List ℕ) (k d v : ℕ) → k < length xs → IsTrue (has (take (k + 1) xs) v) → IsTrue (has (take k xs) v) ⊎ (get_or xs k d ≡ v)
-has_more xs k d v lt on =
-    let parts : (has (take k xs) v || (get_or xs k d == v)) ≡ true = sym (has_push (take k xs) (get_or xs k d) v) ∙ ap (λ (ys : List ℕ). has ys v) (sym (take_more xs k d lt)) ∙ on in
-    elim (cases_Bool (has (take k xs) v)) [
-      | inl h ↦ inl h
-      | inr h ↦ inr (eqb-true (get_or xs k d) v (ap (λ (b : Bool). b || (get_or xs k d == v)) (sym h) ∙ parts))
-    ]
-
 -- ---- positions of marks
 
 pub record Put (marks of old now : List ℕ) : Type 0 where
   pub kept : Includes old now
   pub put : (k : ℕ) → k < length marks → IsTrue (has of (get_or marks k 0)) → IsTrue (has now k)
-
-module _ (marks of old now : List ℕ) (i mark d : ℕ) (lt : i < length of) (is : mark ≡ get_or of i d) (h : Put marks (take i of) old now) where
-  pub put_found : (new : List ℕ) (r : Option ℕ) (position : ℕ) → ((k : ℕ) → k < length marks → get_or marks k 0 ≡ mark → r ≡ Some k) → r ≡ Some position → new ≡ now ++ position ∷ [] → Put marks (take (i + 1) of) old new
-  put_found new r position finds at grown =
-      let P : List ℕ → Type 0 = λ zs. Put marks (take (i + 1) of) old zs in
-      subst P (sym grown) (record {
-        kept = λ k on. pushed_kept now position k (h.kept k on);
-        put = λ k low on. elim (has_more of i d (get_or marks k 0) lt on) [
-          | inl earlier ↦ pushed_kept now position k (h.put k low earlier)
-          | inr same ↦ let found = finds k low (sym (is ∙ same)) in let here : position ≡ k = cc (found, at) in pushed_there now position k here
-        ];
-      })
-
-  pub put_passed : (r : Option ℕ) → ((k : ℕ) → k < length marks → get_or marks k 0 ≡ mark → r ≡ Some k) → r ≡ None → Put marks (take (i + 1) of) old now
-  put_passed r finds none =
-      record {
-        kept = h.kept;
-        put = λ k low on. elim (has_more of i d (get_or marks k 0) lt on) [
-          | inl earlier ↦ h.put k low earlier
-          | inr same ↦ let found = finds k low (sym (is ∙ same)) in let never : ⊥ = cc (found, none) in absurd never
-        ];
-      }
 
 -- ---- positions of numbers
 

@@ -2,7 +2,6 @@
 use Rattle.std.proofs.Common.{◌≡◌, ◌==◌, ℕ, ◌+◌, ◌<◌, ◌≤◌, List, [], Bool, true, false, not, ◌||◌, ◌&&◌, All, Contains, take, length, get_or, IsTrue, refl, sym, subst, ◌∙◌, arith}
 use Rattle.std.proofs.lemmas.Bool.{or_left, eq-eqb, ne_eqb}
 use Rattle.std.proofs.lemmas.List.{take_all}
-use Rattle.std.proofs.lemmas.List.Elements.{Contains-get_or}
 use Rattle.olr_index.specs.Marks.{holds}
 use Rattle.olr_index.specs.declared.Index.{Index}
 use Rattle.olr_paths.specs.Finding.{Keeps, KeepsBut}
@@ -72,9 +71,6 @@ pub record Forgot (Kept : ℕ → Type 0) (mark : ℕ) (old now : Index) : Type 
   pub spares : KeepsBut mark old now
 
 module _ (Kept : ℕ → Type 0) (mark : ℕ) (old : Index) where
-  pub forgot_none : Forgot Kept mark old old
-  forgot_none = record { keeps = λ n k t. t; spares = λ n m ne. refl }
-
   pub forgot_more : (now new : Index) (v : ℕ) → Forgot Kept mark old now → ¬ Kept v → ((n m : ℕ) → holds new n m ≡ (holds now n m && not ((v == n) && (mark == m)))) → Forgot Kept mark old new
   forgot_more now new v h free taken =
       record {
@@ -86,8 +82,3 @@ module _ (Kept : ℕ → Type 0) (mark : ℕ) (old : Index) where
 module _ {A : Type 0} (number : A → ℕ) (kept : List A) where
   abbrev pub KeptIn : ℕ → Type 0
   KeptIn n = (x : A) × Contains kept x × (number x ≡ n)
-
-  pub forgotten : (mark : ℕ) (old now : Index) → Forgot KeptIn mark old now → All (λ x. IsTrue (holds old (number x) mark)) kept → All (λ x. IsTrue (holds now (number x) mark)) kept
-  forgotten mark old now h all k d lt =
-      let x : A = get_or kept k d in
-      h.keeps (number x) (x, Contains-get_or kept k d lt, refl) (all k d lt)

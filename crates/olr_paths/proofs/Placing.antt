@@ -1,5 +1,5 @@
 -- Putting what was made at its places.
-use Rattle.std.proofs.Common.{◌≡◌, ℕ, zero, suc, ◌≤◌, List, [], ◌∷◌, ◌++◌, length, refl, sym, ap, ◌∙◌, arith}
+use Rattle.std.proofs.Common.{◌≡◌, ℕ, zero, suc, List, [], ◌∷◌, ◌++◌, length, refl, sym, ap, ◌∙◌}
 use Rattle.olr_paths.specs.Items.{Made, Item}
 use Rattle.olr_paths.specs.Changes.{with_made}
 use Rattle.std.proofs.Common.{slice_get, Option, Some, None}
@@ -20,12 +20,6 @@ use Rattle.olr_paths.proofs.NamedEntries.{Entries, item_of, items_of}
 pub put_behind : (xs : List Item) (i : Item) (ys : List Item) (m : Made) → put (xs ++ i ∷ ys) (length xs) m ≡ xs ++ with_made i m ∷ ys
 put_behind [] i ys m = refl
 put_behind (x ∷ xs) i ys m = ap (λ zs. x ∷ zs) (put_behind xs i ys m)
-
--- past the end
-pub put_past : (xs : List Item) (k : ℕ) (m : Made) → length xs ≤ k → put xs k m ≡ xs
-put_past [] k m h = refl
-put_past (x ∷ xs) zero m h = absurd (omega arith)
-put_past (x ∷ xs) (suc k) m h = ap (λ zs. x ∷ zs) (put_past xs k m (omega arith))
 
 -- one more, behind the others, is put first
 pub all_put-push : (is : List Item) (ps : List (ℕ × Made)) (k : ℕ) (m : Made) → all_put is (ps ++ (k, m) ∷ []) ≡ all_put (put is k m) ps

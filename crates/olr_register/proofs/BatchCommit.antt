@@ -27,9 +27,9 @@ use Rattle.olr_register.proofs.Renewed.{remade_made}
 use Rattle.olr_register.proofs.Replies.{changes_told}
 use Rattle.olr_register.proofs.Counting.{counted_changes}
 use Rattle.olr_register.proofs.HoldLists.{named_twice}
-use Rattle.olr_register.proofs.HoldChanges.{content_from, content_on, batch_on}
+use Rattle.olr_register.proofs.HoldChanges.{content_from, content_on}
 use Rattle.olr_register.proofs.Outcomes.{answered_refused}
-use Rattle.olr_register.proofs.BatchStates.{state, register_of, in_batch}
+use Rattle.olr_register.proofs.BatchStates.{state, in_batch}
 use Rattle.olr_register.proofs.BatchEnds.{answered_at}
 
 -- ---- refused

@@ -21,7 +21,7 @@ use Rattle.olr_paths.specs.Changes.{Follows}
 use Rattle.olr_paths.specs.Touching.{nodes_of, lines_of, changed_of}
 use Rattle.olr_register.specs.Kept.{named_held, IsBatchOf}
 use Rattle.olr_register.specs.Registered.{Registered}
-use Rattle.olr_register.specs.Holding.{IsNoted, held_of, kept_of, batch_of, IsHeld, IsRegister}
+use Rattle.olr_register.specs.Holding.{IsNoted, held_of, batch_of, IsHeld, IsRegister}
 use Rattle.olr_register.specs.Answering.{Answered}
 use Rattle.olr_register.specs.Given.{AreGiven, Given}
 use Rattle.olr_register.specs.declared.batch.Batch.{Batch}

@@ -1,13 +1,11 @@
 -- What a call answers, from what holds of each state in which the register stands, with a batch open or with none.
-use Rattle.std.proofs.Common.{inr, ◌≡◌, arith, List, [], ◌∷◌, Option, Some, None, Ok, Err, refl, sym, subst}
-use Rattle.olr_commands.specs.State.{Named, Content, Change, State, Command, Begin, Abort, brought}
+use Rattle.std.proofs.Common.{◌≡◌, List, [], Option, Some, None, Ok, refl, sym, subst}
+use Rattle.olr_commands.specs.State.{Content, Change, State, Begin, Abort, brought}
 use Rattle.olr_commands.specs.Reply as replies
 use Rattle.olr_commands.specs.Reply.{IsRefusal, Told, Lacks, may_lack, IsOutcome}
-use Rattle.olr_commands.specs.Counts.{Concerns, By_name, By_node, By_line, CountIs, Raises}
-use Rattle.olr_commands.specs.Words.{command_fault_of, reply_of}
+use Rattle.olr_commands.specs.Words.{reply_of}
 use Rattle.olr_commands.specs.declared.reply.Reply.{Reply}
-use Rattle.olr_commands.specs.declared.fault.CommandFault.{CommandFault}
-use Rattle.olr_register.specs.Kept.{Kept, Batch, IsBatchOf, StandsIn, Stands}
+use Rattle.olr_register.specs.Kept.{Batch, IsBatchOf, StandsIn, Stands}
 use Rattle.olr_register.specs.Registered.{Registered}
 use Rattle.olr_register.specs.Answering.{Answered}
 use Rattle.olr_register.proofs.Tallies.{Tally}

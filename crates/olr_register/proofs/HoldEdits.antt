@@ -1,5 +1,5 @@
 -- What an open batch makes of an edit, as its parts have it.
-use Rattle.std.proofs.Common.{◌≡◌, ℕ, ◌+◌, arith, Bool, false, List, ◌++◌, map, Result, Ok, Err, sym, ap, ◌∙◌, subst}
+use Rattle.std.proofs.Common.{◌≡◌, ℕ, ◌+◌, arith, Bool, false, List, ◌++◌, Result, Ok, Err, sym, ap, ◌∙◌, subst}
 use Rattle.std.specs.Prelude.{◌||◌, nat_le}
 use Rattle.std.proofs.lemmas.Bool.{leb-false}
 use Rattle.olr_spec.specs.Map.{Map, IsMap, Edit, MapFault, edited, touched_nodes, touched_lines}
@@ -10,11 +10,9 @@ use Rattle.olr_spec.proofs.EditLemmas.{edits_keep}
 use Rattle.olr_map.specs.RoadMaps.{map_of, map_before, CanUndoAll}
 use Rattle.olr_map.specs.declared.road_map.RoadMap.{RoadMap}
 use Rattle.olr_map.specs.declared.undo.UndoLog.{UndoLog}
-use Rattle.olr_commands.specs.State.{Content, Fault, Map_fault, Memory, full, Batch_full, when, On_map, with_map, changed, IsContent}
-use Rattle.olr_commands.specs.Reply as replies
+use Rattle.olr_commands.specs.State.{Content, Fault, Map_fault, Memory, full, On_map, with_map, changed}
 use Rattle.olr_commands.specs.Reply.{is_told_first}
-use Rattle.olr_commands.specs.Words.{command_fault_of, reply_of}
-use Rattle.olr_commands.specs.declared.reply.Reply.{Reply}
+use Rattle.olr_commands.specs.Words.{command_fault_of}
 use Rattle.olr_commands.specs.declared.fault.CommandFault.{CommandFault}
 use Rattle.olr_paths.specs.Items.{Item, AreEncodingsIfAny}
 use Rattle.olr_paths.specs.Laying.{overlaid}
@@ -22,12 +20,11 @@ use Rattle.olr_paths.specs.Touching.{nodes_of, lines_of, changed_of}
 use Rattle.olr_paths.specs.declared.touched.Touched.{Touched}
 use Rattle.olr_register.specs.Kept as kept
 use Rattle.olr_register.specs.Kept.{content_of}
-use Rattle.olr_register.specs.Holding.{IsNoted, held_of, batch_of, IsHeld}
+use Rattle.olr_register.specs.Holding.{IsNoted, batch_of, IsHeld}
 use Rattle.olr_register.specs.Given.{Given}
 use Rattle.olr_register.specs.declared.batch.Batch.{Batch}
 use Rattle.olr_register.proofs.Noted.{noted_more}
-use Rattle.olr_register.proofs.HoldLists.{given_none}
-use Rattle.olr_register.proofs.HoldChanges.{content_on, batch_on, told_first, told_memory}
+use Rattle.olr_register.proofs.HoldChanges.{batch_on, told_first, told_memory}
 
 -- ---- refused
 

@@ -1,5 +1,5 @@
 -- The numbers of nodes that a register keeps: right on its map, with a source where each look of its list begins.
-use Rattle.std.proofs.Common.{inl, inr, ◌≡◌, ℕ, ◌⊎◌, false, List, [], ◌∷◌, ◌++◌, map, Contains, Option, Some, None, is_some, Ok, IsTrue, IsFalse, sym, ap, ◌∙◌, subst}
+use Rattle.std.proofs.Common.{inl, inr, ◌≡◌, ℕ, ◌⊎◌, false, List, [], ◌∷◌, ◌++◌, map, Contains, Option, Some, None, is_some, Ok, IsFalse, sym, ap, ◌∙◌, subst}
 use Rattle.olr_spec.specs.Map.{Map, Edit, edited, touched_nodes}
 use Rattle.olr_spec.specs.Extension.{Path, has, limit}
 use Rattle.olr_spec.specs.Detours.{Near}

@@ -1,12 +1,11 @@
 -- What it takes to answer a command that raises no count, and one that leaves the register as it was.
-use Rattle.std.proofs.Common.{arith, inr, ◌≡◌, ℕ, Bool, true, false, not, List, [], ◌∷◌, Option, Some, None, is_some, Ok, Err, refl, sym, ap, ◌∙◌, subst, add-zero}
+use Rattle.std.proofs.Common.{arith, ◌≡◌, ℕ, Bool, true, false, not, List, [], Option, Some, None, is_some, Ok, Err, refl, sym, ap, ◌∙◌, subst, add-zero}
 use Rattle.olr_spec.specs.Extension.{Path}
 use Rattle.olr_spec.specs.Reference.{Reference}
 use Rattle.olr_commands.specs.State as state
 use Rattle.olr_commands.specs.State.{Named, Content, path_named, has_path, when, Change, Command, State, step, step_in, brought, TextFault, text_fault, unless_fault, No_path, Memory, Not_a_reference}
 use Rattle.olr_commands.specs.Reply as told
 use Rattle.olr_commands.specs.Reply.{IsReply, IsOutcome, IsRefusal, Told, Lacks, AllOf, Shown, Explained, may_want, may_lack}
-use Rattle.olr_commands.specs.Counts.{Concerns, By_name, By_node, By_line, CountIs}
 use Rattle.olr_commands.specs.Words.{reply_of, command_fault_of}
 use Rattle.olr_commands.specs.declared.reply.Reply.{Reply}
 use Rattle.olr_commands.specs.declared.fault.CommandFault.{CommandFault}

@@ -1,5 +1,5 @@
 -- The counts of a register together, and what an accepted command leaves of them.
-use Rattle.std.proofs.Common.{ℕ, List, Option, arith}
+use Rattle.std.proofs.Common.{ℕ, List, Option}
 use Rattle.std.specs.Prelude.{is_some, IsFalse}
 use Rattle.olr_map.specs.declared.road_map.RoadMap.{RoadMap}
 use Rattle.olr_route.specs.declared.work.Work.{Work}
@@ -26,6 +26,3 @@ pub record Tallied (old : Registered) (c : Command) (new : Registered) : Type 0 
 -- a register by what it holds and its counts
 abbrev pub of_parts : RoadMap → List Item → Option Batch → Tally → Registered
 of_parts roads is b w = record { kept = kept_of roads is b; work = w.work; spared = w.spared }
-
-pub none_falls : (x : Registered) → NoneFalls x x
-none_falls x = record { searches = omega arith; settled = omega arith; spared = omega arith }

@@ -2,7 +2,6 @@ use Rattle.std.proofs.Common.{Ok, List, refl, ap, ◌∙◌, sym}
 use Rattle.std.specs.Prelude.{map}
 use Rattle.olr_spec.specs.Map.{Map}
 use Rattle.olr_map.specs.Edits.{edit_of}
-use Rattle.olr_map.specs.RoadMaps.{map_of}
 use Rattle.olr_commands.specs.Reply as told
 use Rattle.olr_commands.specs.Words.{entry_of}
 use Rattle.olr_commands.specs.declared.reply.Entry.{Entry}

@@ -1,4 +1,4 @@
-use Rattle.std.proofs.Common.{ℕ, Ok, List, refl, ap, ◌∙◌, subst, sym}
+use Rattle.std.proofs.Common.{Ok, refl, ap, ◌∙◌, subst, sym}
 use Rattle.std.specs.Prelude.{map as list_map}
 use Rattle.olr_spec.specs.Map.{Map}
 use Rattle.olr_map.specs.Edits.{edit_of}
