@@ -5,7 +5,7 @@ use crate::worked::{
     other_length, place, plain_line, road, three_points,
 };
 use olr_commands::{Command, CommandFault, Reply};
-use olr_map::{Edit, EditFault};
+use olr_map::Edit;
 use olr_refs::{Answer, Refusal};
 use olr_register::{Register, replay};
 use std::alloc::{AllocError, Global};
@@ -84,24 +84,6 @@ fn each_edit_is_counted(rt: HostRuntime) -> Result<(), Fail> {
     let dropped = register.apply(Command::Edit(Edit::DropLine(line(&rt, 99))));
     assert_named(&rt, dropped, "a");
     assert_eq!(rt; register.work().encodings, 4);
-    Ok(())
-}
-
-#[test]
-fn edits_where_no_path_is_left(rt: HostRuntime) -> Result<(), Fail> {
-    let alloc = rt.alloc();
-    let mut register = three_points(&rt, alloc)?;
-    assert_quiet(&rt, register.apply(Command::DropPath(name(alloc, "a")?)));
-    let dropped = register.apply(Command::Edit(Edit::DropLine(line(&rt, 99))));
-    assert_quiet(&rt, dropped);
-    let again = register.apply(Command::Edit(Edit::DropLine(line(&rt, 99))));
-    assert_refused(&rt, again, CommandFault::Map(EditFault::NoLine));
-    assert_eq!(rt; register.work().encodings, 1);
-    let added = register.apply(add(&rt, alloc, "a", &[10, 20, 30], (1500, 0))?);
-    assert_named(&rt, added, "a");
-    assert_eq!(rt; register.work().encodings, 2);
-    assert_named(&rt, register.apply(other_length(&rt, alloc, 20, 4000)), "a");
-    assert_eq!(rt; register.work().encodings, 3);
     Ok(())
 }
 
