@@ -9,7 +9,7 @@ use Rattle.olr_spec.specs.Coordinates.{Coord}
 use Rattle.olr_spec.specs.Map.{Map, IsMap, Line, has_node, has_line, line_at}
 use Rattle.olr_map.specs.ByNumbers.{entries_of, found, all_of}
 use Rattle.olr_map.specs.Slotted.{at, Turns}
-use Rattle.olr_map.specs.NodeSlots.{slots_of}
+use Rattle.olr_map.specs.Slabs.{slots_of}
 use Rattle.olr_map.specs.NodeLinks.{links_at, relinked}
 use Rattle.olr_map.specs.Linked.{lines_on, ends_on, spare_links}
 use Rattle.olr_map.specs.Kept.{in_slot, far, node_in, links_in, map_from, place_in, IsListed, IsIndexed, IsKept}
@@ -17,10 +17,11 @@ use Rattle.olr_map.specs.Changes.{tables_map}
 use Rattle.olr_map.specs.declared.by_number.ByNumber.{ByNumber}
 use Rattle.olr_map.specs.declared.links.Links.{Links}
 use Rattle.olr_map.specs.declared.slots.NodeEntry.{NodeEntry}
-use Rattle.olr_map.specs.declared.slots.Slots.{Slots}
+use Rattle.olr_map.specs.declared.slab.Slab.{Slab}
 use Rattle.olr_map.specs.declared.slots.Side.{Side}
 use Rattle.olr_map.specs.declared.slots.Side.TheVariants.{Out, In}
 use Rattle.olr_map.specs.declared.tables.Tables.{Tables}
+use Rattle.olr_map.proofs.SlotLemmas.{few_slots}
 use Rattle.olr_map.proofs.Looks.{same_answers}
 use Rattle.olr_map.proofs.Lookups.{all_get}
 use Rattle.olr_map.proofs.Indexing.{id_of, turned_node, turned_indexed, same_some}
@@ -42,13 +43,13 @@ empty_map_sound M no_node no_line =
       never true e h = absurd cc
       never false e h = absurd cc
 
-pub kept_none : (b : ByNumber ℕ) (s : Slots) (ls : ByNumber Line) → entries_of b ≡ [] → slots_of s ≡ [] → entries_of ls ≡ [] → IsKept b (slots_of s) (all_of ls)
+pub kept_none : (b : ByNumber ℕ) (s : Slab NodeEntry) (ls : ByNumber Line) → entries_of b ≡ [] → slots_of s ≡ [] → entries_of ls ≡ [] → IsKept b (slots_of s) (all_of ls)
 kept_none b s ls no_nodes no_slots no_lines =
     let none : (v : ℕ) → found b v ≡ None = λ v. ap (lookup (λ q. v == q)) no_nodes in
     let free : (p : ℕ) → at (slots_of s) p ≡ None = λ p. ap (λ es. at es p) no_slots in
     let indexed : IsIndexed b (slots_of s) =
     record { stands = λ v p h. let x : ◌≡◌ {A = Option ℕ} None (Some p) = sym (none v) ∙ h in absurd (no_some p x); named = λ v p h. let x : ◌≡◌ {A = Option ℕ} None (Some v) = ap (option_map id_of) (sym (free p)) ∙ h in absurd (no_some v x) } in
-    kept_from b (slots_of s) (all_of ls) indexed s.slotted.few
+    kept_from b (slots_of s) (all_of ls) indexed (few_slots s.slotted)
     (empty_map_sound (map_from b (slots_of s) (all_of ls)) (λ v. node_missing b (slots_of s) indexed (all_of ls) v (none v)) (λ x. ap (λ o. is_some o) (all_get (entries_of ls) x ∙ ap (lookup (λ q. x == q)) no_lines)))
     (λ side v l h. let x : ◌≡◌ {A = Option Links} None (Some l) = ap (λ o. option_map (links_at side) (in_slot (slots_of s) o)) (sym (none v)) ∙ h in absurd (no_some l x)) where
       no_some : {A : Type 0} (x : A) → ◌≡◌ {A = Option A} None (Some x) → ⊥
@@ -69,7 +70,7 @@ module _ (t : Tables) (b' : ByNumber ℕ) (same : (k : ℕ) → found b' k ≡ f
 
   pub index_kept : IsKept b' (slots_of t.nodes) (all_of t.lines)
   index_kept =
-      kept_from b' (slots_of t.nodes) (all_of t.lines) index_indexed t.nodes.slotted.few (subst IsMap (sym index_map) t.kept.sound)
+      kept_from b' (slots_of t.nodes) (all_of t.lines) index_indexed (few_slots t.nodes.slotted) (subst IsMap (sym index_map) t.kept.sound)
       (λ side v l h.
       replaced side (tables_map t) (map_from b' (slots_of t.nodes) (all_of t.lines)).nodes (place_in t.index) (place_in b') v l
       (λ y there. ap (λ o. unwrap_or o 0) (sym (same (far side (line_at (tables_map t) y))))) (t.kept.listed side v l (ap (option_map (links_at side)) (sym (index_node v)) ∙ h)))
@@ -108,7 +109,7 @@ grown_at Out In e l g = grown_same e.outs
 grown_at In Out e l g = grown_same e.ins
 grown_at In In e l g = g
 
-module _ (t : Tables) (nodes' : Slots) (side : Side) (p v : ℕ) (e : NodeEntry) (l : Links) (u : Turns (slots_of t.nodes) (slots_of nodes') p e (relinked side e l))
+module _ (t : Tables) (nodes' : Slab NodeEntry) (side : Side) (p v : ℕ) (e : NodeEntry) (l : Links) (u : Turns (slots_of t.nodes) (slots_of nodes') p e (relinked side e l))
     (here : found t.index v ≡ Some p) (g : Grown (links_at side e) l) where
   abbrev f : NodeEntry
   f = relinked side e l
@@ -145,7 +146,7 @@ module _ (t : Tables) (nodes' : Slots) (side : Side) (p v : ℕ) (e : NodeEntry)
 
   pub grown_kept : IsKept t.index (slots_of nodes') (all_of t.lines)
   grown_kept =
-      kept_from t.index (slots_of nodes') (all_of t.lines) grown_indexed nodes'.slotted.few (subst IsMap (sym grown_map) t.kept.sound)
+      kept_from t.index (slots_of nodes') (all_of t.lines) grown_indexed (few_slots nodes'.slotted) (subst IsMap (sym grown_map) t.kept.sound)
       (λ s k h is.
       let m = grown_links s k h is in
       let old = t.kept.listed s k m.0 m.1 in

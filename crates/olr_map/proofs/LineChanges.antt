@@ -11,7 +11,7 @@ use Rattle.olr_spec.proofs.EditLemmas.{edits_keep}
 use Rattle.olr_spec.proofs.MapLemmas.{has-lines_where, passes_at}
 use Rattle.olr_map.specs.ByNumbers.{entries_of, found, spare_of, all_of}
 use Rattle.olr_map.specs.Slotted.{at, Turns}
-use Rattle.olr_map.specs.NodeSlots.{slots_of, room_in}
+use Rattle.olr_map.specs.Slabs.{slots_of, room_in}
 use Rattle.olr_map.specs.NodeLinks.{links_at, relinked}
 use Rattle.olr_map.specs.Linked.{lines_on, spare_links, IsLinked, IsUnlinked, IsReset}
 use Rattle.olr_map.specs.Kept.{in_slot, near, far, node_in, links_in, map_from, place_in, end_at, IsListed, IsIndexed, IsKept}
@@ -20,11 +20,12 @@ use Rattle.olr_map.specs.declared.by_number.ByNumber.{ByNumber}
 use Rattle.olr_map.specs.declared.links.Links.{Links}
 use Rattle.olr_map.specs.declared.read.LineEnd.{LineEnd}
 use Rattle.olr_map.specs.declared.slots.NodeEntry.{NodeEntry}
-use Rattle.olr_map.specs.declared.slots.Slots.{Slots}
+use Rattle.olr_map.specs.declared.slab.Slab.{Slab}
 use Rattle.olr_map.specs.declared.slots.Side.{Side}
 use Rattle.olr_map.specs.declared.slots.Side.TheVariants.{Out, In}
 use Rattle.olr_map.specs.declared.tables.Tables.{Tables}
 use Rattle.olr_map.specs.declared.change.Change.TheVariants.{PutLine, SetLine, TakeLine}
+use Rattle.olr_map.proofs.SlotLemmas.{few_slots}
 use Rattle.olr_map.proofs.Looks.{map_cond, map_or_cond, got_insert, got_remove, same_answers}
 use Rattle.olr_map.proofs.Lookups.{all_get}
 use Rattle.olr_map.proofs.Indexing.{entry_of, turned_node, turned_indexed}
@@ -37,7 +38,7 @@ use Rattle.olr_map.proofs.Undoing.{record_of, some_is, none_is}
 
 -- ---- both ends of a line have other lists
 
-pub record Relinked (t : Tables) (nodes' : Slots) (from to : ℕ) (o o' i i' : Links) : Type 0 where
+pub record Relinked (t : Tables) (nodes' : Slab NodeEntry) (from to : ℕ) (o o' i i' : Links) : Type 0 where
   pub indexed : IsIndexed t.index (slots_of nodes')
   pub nodes : (k : ℕ) → option_map place_of (node_in t.index (slots_of nodes') k) ≡ option_map place_of (node_in t.index (slots_of t.nodes) k)
   pub out_was : links_in Out t.index (slots_of t.nodes) from ≡ Some o
@@ -62,7 +63,7 @@ module _ (t : Tables) (from p : ℕ) (here : found t.index from ≡ Some p) wher
   pub first_links : (side : Side) (e : NodeEntry) → at (slots_of t.nodes) p ≡ Some e → links_in side t.index (slots_of t.nodes) from ≡ Some (links_at side e)
   first_links side e is = ap (option_map (links_at side)) (ap (in_slot (slots_of t.nodes)) here ∙ is)
 
-  module _ (mid : Slots) (e : NodeEntry) (l : Links) (g : Turns (slots_of t.nodes) (slots_of mid) p e (relinked Out e l)) where
+  module _ (mid : Slab NodeEntry) (e : NodeEntry) (l : Links) (g : Turns (slots_of t.nodes) (slots_of mid) p e (relinked Out e l)) where
     mid_indexed : IsIndexed t.index (slots_of mid)
     mid_indexed = turned_indexed t.index (slots_of t.nodes) t.kept.indexed (slots_of mid) p from e (relinked Out e l) g here refl
 
@@ -81,7 +82,7 @@ module _ (t : Tables) (from p : ℕ) (here : found t.index from ≡ Some p) wher
           sym (kept_by (links_at In) (node_in t.index (slots_of t.nodes)) (node_in t.index (slots_of mid)) from e (relinked Out e l) at_from mid_node refl to)
           ∙ ap (option_map (links_at In)) (ap (in_slot (slots_of mid)) there ∙ is)
 
-      pub both_turned : (nodes' : Slots) (f : NodeEntry) (m : Links) → Turns (slots_of mid) (slots_of nodes') q f (relinked In f m) → Relinked t nodes' from to e.outs l f.ins m
+      pub both_turned : (nodes' : Slab NodeEntry) (f : NodeEntry) (m : Links) → Turns (slots_of mid) (slots_of nodes') q f (relinked In f m) → Relinked t nodes' from to e.outs l f.ins m
       both_turned nodes' f m h =
           let b : ByNumber ℕ = t.index in
           let node : (k : ℕ) → node_in b (slots_of nodes') k ≡ cond (to == k) (Some (relinked In f m)) (node_in b (slots_of mid) k) =
@@ -139,7 +140,7 @@ finish_is M x l e = ap (λ (k : Line). k.to) (record_of M x l e)
 changed_at_end : (f h : ℕ → ℕ) (k v n : ℕ) → k ≡ v → ((u : ℕ) → f u ≤ changed_at v (h v + n) h u) → (u : ℕ) → f u ≤ changed_at k (h k + n) h u
 changed_at_end f h k v n e le u = subst (λ (m : ℕ). f u ≤ changed_at m (h m + n) h u) (sym e) (le u)
 
-module _ (t : Tables) (nodes' : Slots) (lines' : ByNumber Line) (from to : ℕ) (o o' i i' : Links) (r : Relinked t nodes' from to o o' i i') where
+module _ (t : Tables) (nodes' : Slab NodeEntry) (lines' : ByNumber Line) (from to : ℕ) (o o' i i' : Links) (r : Relinked t nodes' from to o o' i i') where
   abbrev b : ByNumber ℕ
   b = t.index
 
@@ -164,7 +165,7 @@ module _ (t : Tables) (nodes' : Slots) (lines' : ByNumber Line) (from to : ℕ) 
 pub number_free : (t : Tables) (x : ℕ) (l : Line) → CanMake (tables_map t) (room_of t) (PutLine x l) → has_line (tables_map t) x ≡ false
 number_free t x l can = (Undoing.added_line (tables_map t) (map_after (tables_map t) (PutLine x l)) x l (made_ok (tables_map t) (PutLine x l) can.accepted)).0
 
-module _ (t : Tables) (nodes' : Slots) (lines' : ByNumber Line) (x : ℕ) (l : Line) (p q : ℕ) (o o' i i' : Links) (r : Relinked t nodes' l.from l.to o o' i i')
+module _ (t : Tables) (nodes' : Slab NodeEntry) (lines' : ByNumber Line) (x : ℕ) (l : Line) (p q : ℕ) (o o' i i' : Links) (r : Relinked t nodes' l.from l.to o o' i i')
     (here : found t.index l.from ≡ Some p) (there : found t.index l.to ≡ Some q)
     (ko : IsLinked o o' x (record { node = l.to; place = q; len = l.len })) (ki : IsLinked i i' x (record { node = l.from; place = p; len = l.len }))
     (put : (k : ℕ) → found lines' k ≡ cond (x == k) (Some l) (found t.lines k)) (can : CanMake (tables_map t) (room_of t) (PutLine x l)) where
@@ -198,7 +199,7 @@ module _ (t : Tables) (nodes' : Slots) (lines' : ByNumber Line) (x : ℕ) (l : L
 
   pub put_line_kept : IsKept t.index (slots_of nodes') (all_of lines')
   put_line_kept =
-      kept_from t.index (slots_of nodes') (all_of lines') r.indexed nodes'.slotted.few
+      kept_from t.index (slots_of nodes') (all_of lines') r.indexed (few_slots nodes'.slotted)
       (subst IsMap (sym put_map) (edits_keep put_M put_N (Add_line x l) t.kept.sound can.placed (made_ok put_M (PutLine x l) can.accepted ∙ ap (λ (m : Map). Ok m) (sym put_says.1))))
       (λ side. subst (λ (K : Map). (v : ℕ) (h : Links) → links_in side t.index (slots_of nodes') v ≡ Some h → IsListed side K (place_in t.index) v h) (sym put_map) (put_listed side))
 
@@ -246,7 +247,7 @@ module _ (t : Tables) (nodes' : Slots) (lines' : ByNumber Line) (x : ℕ) (l : L
 pub line_taken : (t : Tables) (x : ℕ) → CanMake (tables_map t) (room_of t) (TakeLine x) → has_line (tables_map t) x ≡ true
 line_taken t x can = (Undoing.dropped_line (tables_map t) (map_after (tables_map t) (TakeLine x)) x (made_ok (tables_map t) (TakeLine x) can.accepted)).0
 
-module _ (t : Tables) (nodes' : Slots) (lines' : ByNumber Line) (x : ℕ) (l : Line) (o o' i i' : Links) (r : Relinked t nodes' l.from l.to o o' i i')
+module _ (t : Tables) (nodes' : Slab NodeEntry) (lines' : ByNumber Line) (x : ℕ) (l : Line) (o o' i i' : Links) (r : Relinked t nodes' l.from l.to o o' i i')
     (ko : IsUnlinked o o' x) (ki : IsUnlinked i i' x) (was : found t.lines x ≡ Some l)
     (taken : (k : ℕ) → found lines' k ≡ cond (x == k) None (found t.lines k)) (can : CanMake (tables_map t) (room_of t) (TakeLine x)) where
   abbrev take_M : Map
@@ -279,7 +280,7 @@ module _ (t : Tables) (nodes' : Slots) (lines' : ByNumber Line) (x : ℕ) (l : L
 
   pub take_line_kept : IsKept t.index (slots_of nodes') (all_of lines')
   take_line_kept =
-      kept_from t.index (slots_of nodes') (all_of lines') r.indexed nodes'.slotted.few
+      kept_from t.index (slots_of nodes') (all_of lines') r.indexed (few_slots nodes'.slotted)
       (subst IsMap (sym take_map) (edits_keep take_M take_N (Drop_line x) t.kept.sound tt (made_ok take_M (TakeLine x) can.accepted ∙ ap (λ (m : Map). Ok m) (sym take_says))))
       (λ side. subst (λ (K : Map). (v : ℕ) (h : Links) → links_in side t.index (slots_of nodes') v ≡ Some h → IsListed side K (place_in t.index) v h) (sym take_map) (take_listed side))
 
@@ -327,7 +328,7 @@ pub line_set : (t : Tables) (x : ℕ) (k : Line) → CanMake (tables_map t) (roo
 line_set t x k can =
     (Undoing.set_line (tables_map t) (map_after (tables_map t) (SetLine x k)) x k can.whole.0 can.whole.1 (made_ok (tables_map t) (SetLine x k) can.accepted)).0
 
-module _ (t : Tables) (nodes' : Slots) (lines' : ByNumber Line) (x : ℕ) (k l : Line) (p q : ℕ) (o o' i i' : Links) (r : Relinked t nodes' l.from l.to o o' i i')
+module _ (t : Tables) (nodes' : Slab NodeEntry) (lines' : ByNumber Line) (x : ℕ) (k l : Line) (p q : ℕ) (o o' i i' : Links) (r : Relinked t nodes' l.from l.to o o' i i')
     (here : found t.index k.from ≡ Some p) (there : found t.index k.to ≡ Some q)
     (ko : IsReset o o' x (record { node = k.to; place = q; len = k.len })) (ki : IsReset i i' x (record { node = k.from; place = p; len = k.len }))
     (was : found t.lines x ≡ Some l) (put : (n : ℕ) → found lines' n ≡ cond (x == n) (Some k) (found t.lines n)) (can : CanMake (tables_map t) (room_of t) (SetLine x k)) where
@@ -370,7 +371,7 @@ module _ (t : Tables) (nodes' : Slots) (lines' : ByNumber Line) (x : ℕ) (k l :
 
   pub set_line_kept : IsKept t.index (slots_of nodes') (all_of lines')
   set_line_kept =
-      kept_from t.index (slots_of nodes') (all_of lines') r.indexed nodes'.slotted.few
+      kept_from t.index (slots_of nodes') (all_of lines') r.indexed (few_slots nodes'.slotted)
       (subst IsMap (sym set_map) (edits_keep set_M set_N (Set_line x k.frc k.fow k.len k.shape) t.kept.sound can.placed (made_ok set_M (SetLine x k) can.accepted ∙ ap (λ (m : Map). Ok m) (sym set_says))))
       (λ side. subst (λ (K : Map). (v : ℕ) (h : Links) → links_in side t.index (slots_of nodes') v ≡ Some h → IsListed side K (place_in t.index) v h) (sym set_map) (set_listed side))
 

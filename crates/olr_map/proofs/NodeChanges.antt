@@ -13,7 +13,7 @@ use Rattle.olr_spec.proofs.EditLemmas.{edits_keep}
 use Rattle.olr_spec.proofs.MapLemmas.{has-lines_where, passes_at}
 use Rattle.olr_map.specs.ByNumbers.{found, spare_of, all_of}
 use Rattle.olr_map.specs.Slotted.{Comes, Goes, Turns}
-use Rattle.olr_map.specs.NodeSlots.{slots_of, room_in}
+use Rattle.olr_map.specs.Slabs.{slots_of, room_in}
 use Rattle.olr_map.specs.NodeLinks.{links_at}
 use Rattle.olr_map.specs.Linked.{lines_on, ends_on, spare_links, lines_kept, places_kept}
 use Rattle.olr_map.specs.Kept.{near, far, in_slot, node_in, links_in, map_from, place_in, lines_at, end_at, IsListed, IsIndexed, IsKept}
@@ -23,12 +23,13 @@ use Rattle.olr_map.specs.declared.links.Links.{Links}
 use Rattle.olr_map.specs.declared.links.Links.TheVariants.{Few, Many}
 use Rattle.olr_map.specs.declared.links.Spare.{Spare}
 use Rattle.olr_map.specs.declared.slots.NodeEntry.{NodeEntry}
-use Rattle.olr_map.specs.declared.slots.Slots.{Slots}
+use Rattle.olr_map.specs.declared.slab.Slab.{Slab}
 use Rattle.olr_map.specs.declared.slots.Side.{Side}
 use Rattle.olr_map.specs.declared.slots.Side.TheVariants.{Out, In}
 use Rattle.olr_map.specs.declared.tables.Tables.{Tables}
 use Rattle.olr_map.specs.declared.change.Change.{Change}
 use Rattle.olr_map.specs.declared.change.Change.TheVariants.{PutNode, MoveNode, TakeNode}
+use Rattle.olr_map.proofs.SlotLemmas.{few_slots}
 use Rattle.olr_map.proofs.Looks.{eqb_flip, map_cond, map_or_cond, map_or_none, got_insert, got_remove, same_answers}
 use Rattle.olr_map.proofs.Indexing.{same_some, came_node, came_indexed, gone_node, gone_indexed, turned_node, turned_indexed}
 use Rattle.olr_map.proofs.LineLists.{absent_outs, absent_ins, unused_outs, unused_ins, unused_fails}
@@ -102,7 +103,7 @@ pub record IsBare (l : Links) (s : Spare) : Type 0 where
   pub lines : lines_on l ≡ lines_kept s
   pub room : spare_links l ≡ places_kept s
 
-module _ (t : Tables) (b' : ByNumber ℕ) (nodes' : Slots) (p v : ℕ) (q : Coord) (o i : Spare) (outs' ins' : Links) (bare_outs : IsBare outs' o) (bare_ins : IsBare ins' i)
+module _ (t : Tables) (b' : ByNumber ℕ) (nodes' : Slab NodeEntry) (p v : ℕ) (q : Coord) (o i : Spare) (outs' ins' : Links) (bare_outs : IsBare outs' o) (bare_ins : IsBare ins' i)
     (c : Comes (slots_of t.nodes) (slots_of nodes') p (record { id = v; place = q; outs = outs'; ins = ins' }))
     (put : (k : ℕ) → found b' k ≡ cond (v == k) (Some p) (found t.index k)) (can : CanMake (tables_map t) (room_of t) (PutNode v q o i)) where
   abbrev e : NodeEntry
@@ -154,7 +155,7 @@ module _ (t : Tables) (b' : ByNumber ℕ) (nodes' : Slots) (p v : ℕ) (q : Coor
 
   pub put_node_kept : IsKept b' (slots_of nodes') F
   put_node_kept =
-      kept_from b' (slots_of nodes') F put_indexed nodes'.slotted.few
+      kept_from b' (slots_of nodes') F put_indexed (few_slots nodes'.slotted)
       (subst IsMap (sym put_map) (edits_keep M N (Add_node v q) t.kept.sound can.placed (made_ok M came can.accepted ∙ ap (λ (m : Map). Ok m) (sym says.1))))
       (λ side. each_but (links_in side t.index (slots_of t.nodes)) (links_in side b' (slots_of nodes')) v (links_at side e)
       (IsListed side M (place_in t.index)) (IsListed side (map_from b' (slots_of nodes') F) (place_in b')) (put_links side)
@@ -211,7 +212,7 @@ slot_taken t v can =
     slot_of t.index (slots_of t.nodes) t.kept.indexed (all_of t.lines) v
     (Undoing.dropped_node (tables_map t) (map_after (tables_map t) (TakeNode v)) v (made_ok (tables_map t) (TakeNode v) can.accepted)).0
 
-module _ (t : Tables) (b' : ByNumber ℕ) (nodes' : Slots) (p v : ℕ) (e : NodeEntry) (g : Goes (slots_of t.nodes) (slots_of nodes') p e) (here : found t.index v ≡ Some p)
+module _ (t : Tables) (b' : ByNumber ℕ) (nodes' : Slab NodeEntry) (p v : ℕ) (e : NodeEntry) (g : Goes (slots_of t.nodes) (slots_of nodes') p e) (here : found t.index v ≡ Some p)
     (taken : (k : ℕ) → found b' k ≡ cond (v == k) None (found t.index k)) (can : CanMake (tables_map t) (room_of t) (TakeNode v)) where
   abbrev go_M : Map
   go_M = tables_map t
@@ -241,7 +242,7 @@ module _ (t : Tables) (b' : ByNumber ℕ) (nodes' : Slots) (p v : ℕ) (e : Node
 
   pub take_node_kept : IsKept b' (slots_of nodes') go_F
   take_node_kept =
-      kept_from b' (slots_of nodes') go_F go_indexed nodes'.slotted.few
+      kept_from b' (slots_of nodes') go_F go_indexed (few_slots nodes'.slotted)
       (subst IsMap (sym go_map) (edits_keep go_M go_N (Drop_node v) t.kept.sound tt (made_ok go_M (TakeNode v) can.accepted ∙ ap (λ (m : Map). Ok m) (sym go_says.2))))
       (λ side k h is.
       elim (v == k) as (λ q. (v == k) ≡ q → cond q None (links_in side t.index (slots_of t.nodes) k) ≡ Some h → IsListed side (map_from b' (slots_of nodes') go_F) (place_in b') k h) [
@@ -300,7 +301,7 @@ links_moved : (side : Side) (e : NodeEntry) (q : Coord) → links_at side (recor
 links_moved Out e q = refl
 links_moved In e q = refl
 
-module _ (t : Tables) (nodes' : Slots) (p v : ℕ) (e : NodeEntry) (q : Coord) (g : Turns (slots_of t.nodes) (slots_of nodes') p e (record { id = e.id; place = q; outs = e.outs; ins = e.ins }))
+module _ (t : Tables) (nodes' : Slab NodeEntry) (p v : ℕ) (e : NodeEntry) (q : Coord) (g : Turns (slots_of t.nodes) (slots_of nodes') p e (record { id = e.id; place = q; outs = e.outs; ins = e.ins }))
     (here : found t.index v ≡ Some p) (can : CanMake (tables_map t) (room_of t) (MoveNode v q)) where
   abbrev mv_M : Map
   mv_M = tables_map t
@@ -339,7 +340,7 @@ module _ (t : Tables) (nodes' : Slots) (p v : ℕ) (e : NodeEntry) (q : Coord) (
 
   pub move_node_kept : IsKept t.index (slots_of nodes') mv_F
   move_node_kept =
-      kept_from t.index (slots_of nodes') mv_F mv_indexed nodes'.slotted.few
+      kept_from t.index (slots_of nodes') mv_F mv_indexed (few_slots nodes'.slotted)
       (subst IsMap (sym mv_map) (edits_keep mv_M mv_N (Move_node v q) t.kept.sound can.placed (made_ok mv_M (MoveNode v q) can.accepted ∙ ap (λ (m : Map). Ok m) (sym mv_says.1))))
       (λ side k h is. replaced side mv_M (map_from t.index (slots_of nodes') mv_F).nodes (place_in t.index) (place_in t.index) k h (λ y there. refl) (t.kept.listed side k h (sym (mv_links side k) ∙ is)))
 

@@ -72,6 +72,10 @@ module _ {X : Type 0} where
   pub comes_last : (es : List (Option X)) (p : ℕ) (f : X) → p ≡ length es → Comes es (es ++ Some f ∷ []) p f
   comes_last es p f is = subst (λ (n : ℕ). Comes es (es ++ Some f ∷ []) n f) (sym is) (record { was = beyond es; now = λ q. slots_push es q (Some f) })
 
+  -- slots are numbered by `u32`
+  pub few_slots : {es : List (Option X)} {fs : List ℕ} {room : ℕ} → IsSlotted es fs room → length es ≤ 2 ^ 32
+  few_slots s = let few = s.few in omega arith
+
   -- ---- how many are present
 
   length-turned : (es : List (Option X)) (p : ℕ) (e f : X) → at es p ≡ Some e → length (present (set es p (Some f))) ≡ length (present es)
@@ -180,7 +184,7 @@ module _ {X : Type 0} where
         let roomy = s.roomy in
         omega arith
 
-    pub push_none : (f : X) (gs : List ℕ) (more : ℕ) (now : List (Option X)) → length fs ≡ 0 → length gs ≡ 0 → more ≡ room → length es + 1 ≤ room → length es < 2 ^ 32 → now ≡ es ++ Some f ∷ [] → IsSlotted now gs more
+    pub push_none : (f : X) (gs : List ℕ) (more : ℕ) (now : List (Option X)) → length fs ≡ 0 → length gs ≡ 0 → more ≡ room → length es + 1 ≤ room → length es + 1 < 2 ^ 32 → now ≡ es ++ Some f ∷ [] → IsSlotted now gs more
     push_none f gs more now none none' same le lt is =
         let size = length-push es (Some f) in
         let many = length-come_last es f in

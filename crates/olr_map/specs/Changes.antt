@@ -12,7 +12,7 @@ use Rattle.olr_spec.specs.Map.{Map, start, end, edited}
 use Rattle.olr_spec.specs.Laws.{HasPlace}
 use Rattle.olr_map.specs.ByNumbers.{spare_of, all_of}
 use Rattle.olr_map.specs.Linked.{lines_kept, places_kept, spare_links}
-use Rattle.olr_map.specs.NodeSlots.{slots_of, room_in}
+use Rattle.olr_map.specs.Slabs.{slots_of, room_in}
 use Rattle.olr_map.specs.Kept.{map_from, links_in}
 use Rattle.olr_map.specs.declared.slots.Side.{Side}
 use Rattle.olr_map.specs.declared.slots.Side.TheVariants.{Out, In}

@@ -6,7 +6,7 @@ pub mod Linked
 pub mod Places
 pub mod Slotted
 pub mod NodeLinks
-pub mod NodeSlots
+pub mod Slabs
 pub mod Kept
 pub mod Judgements
 pub mod Changes

@@ -21,7 +21,7 @@ module _ {X : Type 0} where
     pub vacant : (i : ℕ) → i < length free → IsNone (at es (slice_index free i))
     pub apart : (i j : ℕ) → i < j → j < length free → slice_index free i ≢ slice_index free j
     pub roomy : length es ≤ room
-    pub few : length es ≤ 2 ^ 32
+    pub few : length es < 2 ^ 32
 
   pub IsSlotted-prop : (es : List (Option X)) (free : List ℕ) (room : ℕ) → IsProp (IsSlotted es free room)
   IsSlotted-prop es free room = hlevel (props, Coded-set coded_ℕ, le_prop)

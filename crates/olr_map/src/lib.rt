@@ -16,6 +16,7 @@ mod number_hash;
 pub mod plain_map;
 pub mod read;
 pub mod road_map;
+mod slab;
 mod slots;
 mod tables;
 pub mod touched;

@@ -18,7 +18,7 @@ pub struct PlainMap {
 impl MapRead for PlainMap {
     ghost use Rattle.std.specs.Prelude.{length};
     ghost use Rattle.olr_map.specs.PlainMaps.{map_of, slot_of};
-    ghost use Rattle.olr_map.specs.NodeSlots.{slots_of};
+    ghost use Rattle.olr_map.specs.Slabs.{slots_of};
 
     ghost map = { map_of };
 

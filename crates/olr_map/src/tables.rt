@@ -9,7 +9,8 @@ use crate::ids::{LineId, NodeId};
 use crate::line::Line;
 use crate::links::{Links, Spare};
 use crate::read::{LineEnd, MapRead};
-use crate::slots::{NodeEntry, Side, Slots};
+use crate::slab::Slab;
+use crate::slots::{NodeEntry, Side};
 use olr_coords::Coord;
 use std::alloc::{AllocError, Global};
 
@@ -17,7 +18,7 @@ use std::alloc::{AllocError, Global};
 #[derive(Drop, Debug)]
 pub struct Tables {
     pub index: ByNumber<u32>,
-    pub nodes: Slots,
+    pub nodes: Slab<NodeEntry>,
     pub lines: ByNumber<Line>,
     pub ghost kept: { IsKept index nodes.entries.items (all_of lines) } by { IsKept-prop index nodes.entries.items (all_of lines) },
 }
@@ -26,7 +27,7 @@ impl MapRead for Tables {
     ghost use Rattle.std.specs.Prelude.{length};
     ghost use Rattle.olr_map.specs.Changes.{tables_map};
     ghost use Rattle.olr_map.specs.Kept.{place_in as slot_in};
-    ghost use Rattle.olr_map.specs.NodeSlots.{slots_of};
+    ghost use Rattle.olr_map.specs.Slabs.{slots_of};
 
     ghost map = { tables_map };
 
@@ -107,7 +108,7 @@ impl Tables {
     {
         Tables {
             index: ByNumber::hashed(alloc),
-            nodes: Slots::new(alloc),
+            nodes: Slab::new(alloc),
             lines: ByNumber::hashed(alloc),
         }
     }
@@ -118,7 +119,7 @@ impl Tables {
     {
         Tables {
             index: ByNumber::listed(alloc),
-            nodes: Slots::new(alloc),
+            nodes: Slab::new(alloc),
             lines: ByNumber::listed(alloc),
         }
     }
@@ -185,7 +186,7 @@ impl Tables {
         ensures slots { (v : ℕ) → found self.new.index v ≡ found self.old.index v }
         ensures room { OnOk result (0 < (room_of self.new).nodes) }
     {
-        self.nodes.reserve()
+        self.nodes.reserve(1)
     }
 
     /// Makes room for one more line on one side of the node in a slot.

@@ -1,5 +1,5 @@
 use Rattle.std.proofs.Common.{is_some, ap}
-use Rattle.olr_map.specs.NodeSlots.{slots_of}
+use Rattle.olr_map.specs.Slabs.{slots_of}
 use Rattle.olr_map.proofs.Indexing.{entry_of}
 use Rattle.olr_map.proofs.NodeChanges.{move_node_kept, move_node_made}
 use Rattle.olr_map.proofs.tables.Tables.move_node.Goals as goal

@@ -1,7 +1,7 @@
 use Rattle.std.proofs.Common.{◌≡◌, true, false, sym, ap, ◌∙◌}
 use Rattle.olr_spec.specs.Map.{has_node}
 use Rattle.olr_map.specs.ByNumbers.{found, all_of}
-use Rattle.olr_map.specs.NodeSlots.{slots_of}
+use Rattle.olr_map.specs.Slabs.{slots_of}
 use Rattle.olr_map.specs.Changes.{tables_map}
 use Rattle.olr_map.proofs.Reading.{node_missing}
 use Rattle.olr_map.proofs.tables.Tables.slot.Goals as goal

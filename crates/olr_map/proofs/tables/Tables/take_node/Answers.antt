@@ -1,6 +1,6 @@
 use Rattle.std.proofs.Common.{◌≡◌, ◌==◌, ℕ, cond, None, is_some, subst, sym, ap, ◌∙◌}
 use Rattle.olr_map.specs.ByNumbers.{found}
-use Rattle.olr_map.specs.NodeSlots.{slots_of}
+use Rattle.olr_map.specs.Slabs.{slots_of}
 use Rattle.olr_map.proofs.NodeChanges.{take_node_kept, take_node_made, slot_taken, go_no_outs, go_no_ins}
 use Rattle.olr_map.proofs.Indexing.{entry_of}
 use Rattle.olr_map.proofs.tables.Tables.take_node.Goals as goal

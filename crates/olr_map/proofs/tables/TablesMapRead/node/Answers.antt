@@ -1,6 +1,6 @@
 use Rattle.std.proofs.Common.{is_some, sym, ap, ◌∙◌}
 use Rattle.olr_map.specs.ByNumbers.{found}
-use Rattle.olr_map.specs.NodeSlots.{slots_of}
+use Rattle.olr_map.specs.Slabs.{slots_of}
 use Rattle.olr_map.proofs.Indexing.{entry_of}
 use Rattle.olr_map.proofs.Reading.{node_read, none_read}
 use Rattle.olr_map.proofs.tables.TablesMapRead.node.Goals as goal

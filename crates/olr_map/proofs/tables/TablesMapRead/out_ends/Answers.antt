@@ -3,7 +3,7 @@ use Rattle.olr_map.specs.ByNumbers.{found}
 use Rattle.olr_map.specs.Ends.{end_out}
 use Rattle.olr_map.specs.Changes.{tables_map}
 use Rattle.olr_map.specs.Kept.{place_in}
-use Rattle.olr_map.specs.NodeSlots.{slots_of}
+use Rattle.olr_map.specs.Slabs.{slots_of}
 use Rattle.olr_map.specs.declared.slots.Side.TheVariants.{Out}
 use Rattle.olr_map.proofs.Indexing.{entry_of}
 use Rattle.olr_map.proofs.Reading.{listed_at, no_outs}

@@ -2,10 +2,10 @@ use Rattle.std.proofs.Common.{sym, ◌∙◌, arith}
 use Rattle.std.proofs.lemmas.Bool.{cond-true}
 use Rattle.olr_map.proofs.Matching.{ok_not_err}
 use Rattle.olr_map.proofs.SlotLemmas.{stood, take_slotted, free_room}
-use Rattle.olr_map.proofs.slots.Slots.take.Goals as goal
+use Rattle.olr_map.proofs.slab.Slab.take.Goals as goal
 
 pub invariant_of-self : goal.invariant_of-self
-invariant_of-self c =
+invariant_of-self g c =
     let s = c.args.self.now in
     let es = s.entries.items in
     let here = stood es c.args.slot c.index_mut.result.now c.in-Some.entry c.requires c.index_mut.ensures.value (sym c.replace.ensures.value ∙ c.in-Some.is) in
@@ -15,7 +15,7 @@ invariant_of-self c =
     record { slotted = rw c.replace.ensures.after (take_slotted es s.free.items _ s.slotted c.args.slot c.in-Some.entry c.push.new.self.items _ here items c.push.ensures.capacity) }
 
 pub unreachable-requires : goal.unreachable-requires
-unreachable-requires c =
+unreachable-requires g c =
     let s = c.args.self.now in
     let es = s.entries.items in
     let here = stood es c.args.slot c.index_mut.result.now c.in-Some.entry c.requires c.index_mut.ensures.value (sym c.replace.ensures.value ∙ c.in-Some.is) in

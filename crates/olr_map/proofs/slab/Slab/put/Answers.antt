@@ -2,12 +2,12 @@ use Rattle.std.proofs.Common.{◌≡◌, ◌<◌, Some, sym, set, subst, ◌∙�
 use Rattle.std.specs.Vec.{vec_capacity}
 use Rattle.std.proofs.lemmas.Bool.{cond-true}
 use Rattle.olr_map.specs.Slotted.{IsSlotted}
-use Rattle.olr_map.specs.NodeSlots.{room_in}
+use Rattle.olr_map.specs.Slabs.{room_in}
 use Rattle.olr_map.proofs.SlotLemmas.{popped, put_slotted, push_none, comes_free, comes_last}
-use Rattle.olr_map.proofs.slots.Slots.put.Goals as goal
+use Rattle.olr_map.proofs.slab.Slab.put.Goals as goal
 
 pub invariant_of-self : goal.invariant_of-self
-invariant_of-self c =
+invariant_of-self g c =
     let s = c.args.self.now in
     let es = s.entries.items in
     record {
@@ -16,13 +16,13 @@ invariant_of-self c =
     }
 
 pub returns-in-Some-clause-comes : goal.returns-in-Some-clause-comes
-returns-in-Some-clause-comes c =
+returns-in-Some-clause-comes g c =
     let s = c.args.self.now in
     let pop = popped s.entries.items s.free.items _ s.slotted c.pop.new.self.items c.in-Some.slot c.in-Some.ensures.items in
     comes_free s.entries.items c.in-Some.slot c.args.entry pop.0 pop.1
 
 pub invariant_of-self-in-None : goal.invariant_of-self-in-None
-invariant_of-self-in-None c =
+invariant_of-self-in-None g c =
     let s = c.args.self.now in
     let len = s.entries.ok.0 in
     let old = s.free.ok.0 in
@@ -39,7 +39,7 @@ invariant_of-self-in-None c =
     }
 
 pub returns-in-Ok-clause-comes : goal.returns-in-Ok-clause-comes
-returns-in-Ok-clause-comes c =
+returns-in-Ok-clause-comes g c =
     let s = c.args.self.now in
     let len = s.entries.ok.0 in
     let is = c.len-slot.ensures in

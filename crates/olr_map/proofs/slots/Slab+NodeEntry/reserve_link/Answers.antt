@@ -1,7 +1,7 @@
 use Rattle.olr_map.specs.NodeLinks.{relinked}
 use Rattle.olr_map.specs.declared.slots.Side.TheVariants.{Out, In}
 use Rattle.olr_map.proofs.SlotLemmas.{stood, turned_slotted, turns}
-use Rattle.olr_map.proofs.slots.Slots.reserve_link.Goals as goal
+use Rattle.olr_map.proofs.slots.Slab+NodeEntry.reserve_link.Goals as goal
 
 pub invariant_of-self : goal.invariant_of-self
 invariant_of-self c =

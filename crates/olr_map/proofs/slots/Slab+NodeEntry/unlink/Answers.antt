@@ -1,30 +1,30 @@
 use Rattle.olr_map.specs.NodeLinks.{relinked}
 use Rattle.olr_map.specs.declared.slots.Side.TheVariants.{Out, In}
 use Rattle.olr_map.proofs.SlotLemmas.{stood, is_there, turned_slotted, turns}
-use Rattle.olr_map.proofs.slots.Slots.link.Goals as goal
+use Rattle.olr_map.proofs.slots.Slab+NodeEntry.unlink.Goals as goal
 
 pub invariant_of-self : goal.invariant_of-self
 invariant_of-self c =
     let s = c.args.self.now in
     let es = s.entries.items in
     let here = stood es c.args.slot c.index_mut.result.now c.in-Some.entry (is_there _ _ c.requires.1) c.index_mut.ensures.value c.in-Some.is in
-    record { slotted = turned_slotted es s.free.items _ s.slotted c.args.slot c.in-Some.entry (relinked Out c.in-Some.entry c.link.new.self) here }
+    record { slotted = turned_slotted es s.free.items _ s.slotted c.args.slot c.in-Some.entry (relinked Out c.in-Some.entry c.unlink.new.self) here }
 
 pub invariant_of-self-in-In : goal.invariant_of-self-in-In
 invariant_of-self-in-In c =
     let s = c.args.self.now in
     let es = s.entries.items in
     let here = stood es c.args.slot c.index_mut.result.now c.in-Some.entry (is_there _ _ c.requires.1) c.index_mut.ensures.value c.in-Some.is in
-    record { slotted = turned_slotted es s.free.items _ s.slotted c.args.slot c.in-Some.entry (relinked In c.in-Some.entry c.link-in-In.new.self) here }
+    record { slotted = turned_slotted es s.free.items _ s.slotted c.args.slot c.in-Some.entry (relinked In c.in-Some.entry c.unlink-in-In.new.self) here }
 
 pub returns-in-Out-clause-turns : goal.returns-in-Out-clause-turns
 returns-in-Out-clause-turns c =
     let es = c.args.self.now.entries.items in
     let here = stood es c.args.slot c.index_mut.result.now c.in-Some.entry (is_there _ _ c.requires.1) c.index_mut.ensures.value c.in-Some.is in
-    rw c.in-Out.is (c.in-Some.entry, c.link.new.self, turns es c.args.slot c.in-Some.entry _ here, record { place = c.link.ensures.put.0; within = c.link.ensures.put.1; lines = c.link.ensures.put.2; ends = c.link.ensures.put.3; rises = c.link.ensures.rising; room = c.link.ensures.room })
+    rw c.in-Out.is (c.in-Some.entry, c.unlink.new.self, turns es c.args.slot c.in-Some.entry _ here, record { place = c.unlink.ensures.taken.0; within = c.unlink.ensures.taken.1; is = c.unlink.ensures.taken.2; lines = c.unlink.ensures.taken.3; ends = c.unlink.ensures.taken.4; rises = c.unlink.ensures.rising; room = c.unlink.ensures.room })
 
 pub returns-in-In-clause-turns : goal.returns-in-In-clause-turns
 returns-in-In-clause-turns c =
     let es = c.args.self.now.entries.items in
     let here = stood es c.args.slot c.index_mut.result.now c.in-Some.entry (is_there _ _ c.requires.1) c.index_mut.ensures.value c.in-Some.is in
-    rw c.in-In.is (c.in-Some.entry, c.link-in-In.new.self, turns es c.args.slot c.in-Some.entry _ here, record { place = c.link-in-In.ensures.put.0; within = c.link-in-In.ensures.put.1; lines = c.link-in-In.ensures.put.2; ends = c.link-in-In.ensures.put.3; rises = c.link-in-In.ensures.rising; room = c.link-in-In.ensures.room })
+    rw c.in-In.is (c.in-Some.entry, c.unlink-in-In.new.self, turns es c.args.slot c.in-Some.entry _ here, record { place = c.unlink-in-In.ensures.taken.0; within = c.unlink-in-In.ensures.taken.1; is = c.unlink-in-In.ensures.taken.2; lines = c.unlink-in-In.ensures.taken.3; ends = c.unlink-in-In.ensures.taken.4; rises = c.unlink-in-In.ensures.rising; room = c.unlink-in-In.ensures.room })

@@ -1,6 +1,6 @@
 use Rattle.std.proofs.Common.{sym}
 use Rattle.olr_map.proofs.SlotLemmas.{stood, turned_slotted, turns}
-use Rattle.olr_map.proofs.slots.Slots.move_node.Goals as goal
+use Rattle.olr_map.proofs.slots.Slab+NodeEntry.move_node.Goals as goal
 
 pub invariant_of-self : goal.invariant_of-self
 invariant_of-self c =

@@ -1,0 +1,118 @@
+//! Things in slots: each stands in a slot that stays its own until it is taken out.
+ghost use Rattle.std.specs.Prelude.{◌≡◌, ◌<◌, ◌≤◌, ◌+◌, [], length, Some, IsSome, OnOk};
+ghost use Rattle.std.specs.Vec.{vec_capacity};
+ghost use Rattle.olr_map.specs.Slotted.{IsSlotted, IsSlotted-prop};
+
+use std::alloc::{AllocError, Global};
+use std::mem;
+
+/// How many slots there are at most, so that one more than a slot fits a `u32`.
+const MOST_SLOTS: usize = 0xffff_ffff;
+
+/// The things in their slots, and the slots that are free.
+#[derive(Drop, Debug)]
+pub struct Slab<V> {
+    pub entries: Vec<Option<V>>,
+    pub free: Vec<u32>,
+    pub ghost slotted: { IsSlotted entries.items free.items (vec_capacity free) } by { IsSlotted-prop entries.items free.items (vec_capacity free) },
+}
+
+impl<V: Drop> Slab<V> {
+    ghost use Rattle.olr_map.specs.Slotted.{at, Comes, Goes, Turns};
+    ghost use Rattle.olr_map.specs.Slabs.{slots_of, room_in};
+
+    /// No slots. Takes no memory.
+    pub fn new(alloc: Global) -> Slab<V>
+        ensures { slots_of result ≡ [] }
+    {
+        Slab {
+            entries: Vec::new(alloc),
+            free: Vec::new(alloc),
+        }
+    }
+
+    /// How many slots there are.
+    pub fn count(&self) -> usize
+        ensures { result ≡ length (slots_of self.now) }
+    {
+        self.entries.len()
+    }
+
+    /// What stands in a slot.
+    pub fn entry(&self, slot: u32) -> &V
+        requires { IsSome (at (slots_of self.now) slot) }
+        ensures { at (slots_of self.now) slot ≡ Some result.now }
+    {
+        match &self.entries[slot as usize] {
+            Some(entry) => entry,
+            None => unreachable!(),
+        }
+    }
+
+    /// Makes room for so many more.
+    pub fn reserve(&mut self, additional: usize) -> Result<(), AllocError>
+        ensures same { slots_of self.new ≡ slots_of self.old }
+        ensures more { room_in self.old ≤ room_in self.new }
+        ensures room { OnOk result (additional ≤ room_in self.new) }
+    {
+        let free = self.free.len();
+        if additional <= free {
+            return Ok(());
+        }
+        let added = additional - free;
+        let count = self.entries.len();
+        if added > MOST_SLOTS - count {
+            return Err(AllocError);
+        }
+        self.free.reserve(count + added - free)?;
+        self.entries.reserve(added)
+    }
+
+    /// Puts one into a free slot, and tells which.
+    pub fn put(&mut self, entry: V) -> u32
+        requires { 0 < room_in self.old }
+        ensures comes { Comes (slots_of self.old) (slots_of self.new) result entry }
+        ensures room { room_in self.old ≤ room_in self.new + 1 }
+    {
+        match self.free.pop() {
+            Some(slot) => {
+                self.entries[slot as usize] = Some(entry);
+                slot
+            }
+            None => {
+                let slot = self.entries.len();
+                match self.entries.push(Some(entry)) {
+                    Ok(()) => slot as u32,
+                    Err(_) => unreachable!(),
+                }
+            }
+        }
+    }
+
+    /// Puts another in the place of what stands in a slot, and tells that.
+    pub fn replace(&mut self, slot: u32, entry: V) -> V
+        requires { IsSome (at (slots_of self.old) slot) }
+        ensures turns { Turns (slots_of self.old) (slots_of self.new) slot result entry }
+        ensures room { room_in self.new ≡ room_in self.old }
+    {
+        match &mut self.entries[slot as usize] {
+            Some(place) => mem::replace(place, entry),
+            None => unreachable!(),
+        }
+    }
+
+    /// Takes what stands in a slot out. The slot is free then.
+    pub fn take(&mut self, slot: u32) -> V
+        requires { IsSome (at (slots_of self.old) slot) }
+        ensures goes { Goes (slots_of self.old) (slots_of self.new) slot result }
+        ensures room { room_in self.old + 1 ≤ room_in self.new }
+    {
+        match mem::replace(&mut self.entries[slot as usize], None) {
+            Some(entry) => match self.free.push(slot) {
+                Ok(()) => entry,
+                Err(_) => unreachable!(),
+            },
+            None => unreachable!(),
+        }
+    }
+}
