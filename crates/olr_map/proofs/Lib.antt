@@ -4,6 +4,8 @@ pub mod Rising
 pub mod Numbers
 pub mod Matching
 pub mod SlotLemmas
+pub mod Blocking
+pub mod Numbering
 pub mod Indexing
 pub mod Undoing
 pub mod LineLists

@@ -9,12 +9,12 @@ use Rattle.olr_spec.specs.Map.{Map, IsMap, Line, has_line, start, end, Add_line,
 use Rattle.olr_spec.specs.Extension.{has}
 use Rattle.olr_spec.proofs.EditLemmas.{edits_keep}
 use Rattle.olr_spec.proofs.MapLemmas.{has-lines_where, passes_at}
-use Rattle.olr_map.specs.ByNumbers.{entries_of, found, spare_of, all_of}
+use Rattle.olr_map.specs.ByNumbers.{entries_of, found, spare_of}
 use Rattle.olr_map.specs.Slotted.{at, Turns}
 use Rattle.olr_map.specs.Slabs.{slots_of, room_in}
 use Rattle.olr_map.specs.NodeLinks.{links_at, relinked}
 use Rattle.olr_map.specs.Linked.{lines_on, spare_links, IsLinked, IsUnlinked, IsReset}
-use Rattle.olr_map.specs.Kept.{in_slot, near, far, node_in, links_in, map_from, place_in, end_at, IsListed, IsIndexed, IsKept}
+use Rattle.olr_map.specs.Kept.{near, far, node_in, links_in, map_from, place_in, end_at, IsListed, IsIndexed, IsKept}
 use Rattle.olr_map.specs.Changes.{tables_map, room_of, spare_at, changed_at, CanMake, map_after, IsChangeMade}
 use Rattle.olr_map.specs.declared.by_number.ByNumber.{ByNumber}
 use Rattle.olr_map.specs.declared.links.Links.{Links}
@@ -34,6 +34,10 @@ use Rattle.olr_map.proofs.Reading.{place_of, got_node, got_line, kept_from, plac
 use Rattle.olr_map.proofs.NodeChanges.{each_but}
 use Rattle.olr_map.proofs.Making.{made_ok, accepted_from, le_same, changed_back, changed_here}
 use Rattle.olr_map.proofs.Undoing
+use Rattle.olr_map.specs.Numbering.{held, all_held, spare_numbers}
+use Rattle.olr_map.specs.HavingSlots.{in_slot}
+use Rattle.olr_map.proofs.Numbering.{held_get}
+use Rattle.olr_map.specs.declared.numbered.Numbered.{Numbered}
 use Rattle.olr_map.proofs.Undoing.{record_of, some_is, none_is}
 
 -- ---- both ends of a line have other lists
@@ -84,7 +88,7 @@ module _ (t : Tables) (from p : ℕ) (here : found t.index from ≡ Some p) wher
 
       pub both_turned : (nodes' : Slab NodeEntry) (f : NodeEntry) (m : Links) → Turns (slots_of mid) (slots_of nodes') q f (relinked In f m) → Relinked t nodes' from to e.outs l f.ins m
       both_turned nodes' f m h =
-          let b : ByNumber ℕ = t.index in
+          let b : ByNumber = t.index in
           let node : (k : ℕ) → node_in b (slots_of nodes') k ≡ cond (to == k) (Some (relinked In f m)) (node_in b (slots_of mid) k) =
           turned_node b (slots_of mid) mid_indexed (slots_of nodes') q to f (relinked In f m) h there refl in
           let at_to : node_in b (slots_of mid) to ≡ Some f = ap (in_slot (slots_of mid)) there ∙ h.was in
@@ -123,7 +127,7 @@ module _ (t : Tables) (side : Side) (v : ℕ) (o : Links) (was : links_in side t
   list_spare = ap (λ p. option_map_or (λ l. spare_links l) p 0) was
 
 -- the end that stands in a list
-pub end_is : (side : Side) (b : ByNumber ℕ) (N : Map) (x : ℕ) (l : Line) (q : ℕ) → get N.lines x ≡ Some l → found b (far side l) ≡ Some q
+pub end_is : (side : Side) (b : ByNumber) (N : Map) (x : ℕ) (l : Line) (q : ℕ) → get N.lines x ≡ Some l → found b (far side l) ≡ Some q
     → ◌≡◌ {A = LineEnd} (record { node = far side l; place = q; len = l.len }) (end_at side N (place_in b) x)
 end_is side b N x l q is at' =
     let same : ◌≡◌ {A = LineEnd} (record { node = far side l; place = q; len = l.len }) (seen side (place_in b) l) =
@@ -140,17 +144,17 @@ finish_is M x l e = ap (λ (k : Line). k.to) (record_of M x l e)
 changed_at_end : (f h : ℕ → ℕ) (k v n : ℕ) → k ≡ v → ((u : ℕ) → f u ≤ changed_at v (h v + n) h u) → (u : ℕ) → f u ≤ changed_at k (h k + n) h u
 changed_at_end f h k v n e le u = subst (λ (m : ℕ). f u ≤ changed_at m (h m + n) h u) (sym e) (le u)
 
-module _ (t : Tables) (nodes' : Slab NodeEntry) (lines' : ByNumber Line) (from to : ℕ) (o o' i i' : Links) (r : Relinked t nodes' from to o o' i i') where
-  abbrev b : ByNumber ℕ
+module _ (t : Tables) (nodes' : Slab NodeEntry) (lines' : Numbered Line) (from to : ℕ) (o o' i i' : Links) (r : Relinked t nodes' from to o o' i i') where
+  abbrev b : ByNumber
   b = t.index
 
   abbrev M : Map
   M = tables_map t
 
-  same_nodes : (map_from b (slots_of nodes') (all_of lines')).nodes ≡ M.nodes
-  same_nodes = same_answers _ _ (λ k. got_node b (slots_of nodes') r.indexed (all_of lines') k ∙ r.nodes k ∙ sym (got_node b (slots_of t.nodes) t.kept.indexed (all_of t.lines) k))
+  same_nodes : (map_from b (slots_of nodes') (all_held lines')).nodes ≡ M.nodes
+  same_nodes = same_answers _ _ (λ k. got_node b (slots_of nodes') r.indexed (all_held lines') k ∙ r.nodes k ∙ sym (got_node b (slots_of t.nodes) t.kept.indexed (all_held t.lines) k))
 
-  module _ (kept' : IsKept b (slots_of nodes') (all_of lines')) where
+  module _ (kept' : IsKept b (slots_of nodes') (all_held lines')) where
     abbrev new : Tables
     new = record { index = b; nodes = nodes'; lines = lines'; kept = kept' }
 
@@ -165,10 +169,10 @@ module _ (t : Tables) (nodes' : Slab NodeEntry) (lines' : ByNumber Line) (from t
 pub number_free : (t : Tables) (x : ℕ) (l : Line) → CanMake (tables_map t) (room_of t) (PutLine x l) → has_line (tables_map t) x ≡ false
 number_free t x l can = (Undoing.added_line (tables_map t) (map_after (tables_map t) (PutLine x l)) x l (made_ok (tables_map t) (PutLine x l) can.accepted)).0
 
-module _ (t : Tables) (nodes' : Slab NodeEntry) (lines' : ByNumber Line) (x : ℕ) (l : Line) (p q : ℕ) (o o' i i' : Links) (r : Relinked t nodes' l.from l.to o o' i i')
+module _ (t : Tables) (nodes' : Slab NodeEntry) (lines' : Numbered Line) (x : ℕ) (l : Line) (p q : ℕ) (o o' i i' : Links) (r : Relinked t nodes' l.from l.to o o' i i')
     (here : found t.index l.from ≡ Some p) (there : found t.index l.to ≡ Some q)
     (ko : IsLinked o o' x (record { node = l.to; place = q; len = l.len })) (ki : IsLinked i i' x (record { node = l.from; place = p; len = l.len }))
-    (put : (k : ℕ) → found lines' k ≡ cond (x == k) (Some l) (found t.lines k)) (can : CanMake (tables_map t) (room_of t) (PutLine x l)) where
+    (put : (k : ℕ) → held lines' k ≡ cond (x == k) (Some l) (held t.lines k)) (can : CanMake (tables_map t) (room_of t) (PutLine x l)) where
   abbrev put_M : Map
   put_M = tables_map t
 
@@ -178,10 +182,10 @@ module _ (t : Tables) (nodes' : Slab NodeEntry) (lines' : ByNumber Line) (x : �
   put_says : (has_line put_M x ≡ false) × (put_N ≡ map_after put_M (PutLine x l))
   put_says = let s = Undoing.added_line put_M (map_after put_M (PutLine x l)) x l (made_ok put_M (PutLine x l) can.accepted) in (s.0, s.4)
 
-  put_lines : all_of lines' ≡ finmap.insert put_M.lines x l
-  put_lines = same_answers _ _ (λ k. all_get (entries_of lines') k ∙ put k ∙ ap (cond (x == k) (Some l)) (sym (got_line t k)) ∙ sym (got_insert put_M.lines x l k))
+  put_lines : all_held lines' ≡ finmap.insert put_M.lines x l
+  put_lines = same_answers _ _ (λ k. held_get lines' k ∙ put k ∙ ap (cond (x == k) (Some l)) (sym (got_line t k)) ∙ sym (got_insert put_M.lines x l k))
 
-  put_map : map_from t.index (slots_of nodes') (all_of lines') ≡ put_N
+  put_map : map_from t.index (slots_of nodes') (all_held lines') ≡ put_N
   put_map = λ j. record { nodes = same_nodes t nodes' lines' l.from l.to o o' i i' r j; lines = put_lines j }
 
   put_now : get put_N.lines x ≡ Some l
@@ -197,13 +201,13 @@ module _ (t : Tables) (nodes' : Slab NodeEntry) (lines' : ByNumber Line) (x : �
       (put_here In (place_in t.index) put_M x l put_says.0 i i' _ (end_is In t.index put_N x l p put_now here) (t.kept.listed In l.to i r.in_was) ki)
       (λ k h ne old. put_other In (place_in t.index) put_M x l put_says.0 k h ne old) (t.kept.listed In)
 
-  pub put_line_kept : IsKept t.index (slots_of nodes') (all_of lines')
+  pub put_line_kept : IsKept t.index (slots_of nodes') (all_held lines')
   put_line_kept =
-      kept_from t.index (slots_of nodes') (all_of lines') r.indexed (few_slots nodes'.slotted)
+      kept_from t.index (slots_of nodes') (all_held lines') r.indexed (few_slots nodes'.slotted)
       (subst IsMap (sym put_map) (edits_keep put_M put_N (Add_line x l) t.kept.sound can.placed (made_ok put_M (PutLine x l) can.accepted ∙ ap (λ (m : Map). Ok m) (sym put_says.1))))
       (λ side. subst (λ (K : Map). (v : ℕ) (h : Links) → links_in side t.index (slots_of nodes') v ≡ Some h → IsListed side K (place_in t.index) v h) (sym put_map) (put_listed side))
 
-  module _ (kept' : IsKept t.index (slots_of nodes') (all_of lines')) (room : room_in nodes' ≡ room_in t.nodes) (spare : spare_of t.lines ≤ spare_of lines' + 1) where
+  module _ (kept' : IsKept t.index (slots_of nodes') (all_held lines')) (room : room_in nodes' ≡ room_in t.nodes) (spare : spare_numbers t.lines ≤ spare_numbers lines' + 1) where
     abbrev put_new : Tables
     put_new = record { index = t.index; nodes = nodes'; lines = lines'; kept = kept' }
 
@@ -247,9 +251,9 @@ module _ (t : Tables) (nodes' : Slab NodeEntry) (lines' : ByNumber Line) (x : �
 pub line_taken : (t : Tables) (x : ℕ) → CanMake (tables_map t) (room_of t) (TakeLine x) → has_line (tables_map t) x ≡ true
 line_taken t x can = (Undoing.dropped_line (tables_map t) (map_after (tables_map t) (TakeLine x)) x (made_ok (tables_map t) (TakeLine x) can.accepted)).0
 
-module _ (t : Tables) (nodes' : Slab NodeEntry) (lines' : ByNumber Line) (x : ℕ) (l : Line) (o o' i i' : Links) (r : Relinked t nodes' l.from l.to o o' i i')
-    (ko : IsUnlinked o o' x) (ki : IsUnlinked i i' x) (was : found t.lines x ≡ Some l)
-    (taken : (k : ℕ) → found lines' k ≡ cond (x == k) None (found t.lines k)) (can : CanMake (tables_map t) (room_of t) (TakeLine x)) where
+module _ (t : Tables) (nodes' : Slab NodeEntry) (lines' : Numbered Line) (x : ℕ) (l : Line) (o o' i i' : Links) (r : Relinked t nodes' l.from l.to o o' i i')
+    (ko : IsUnlinked o o' x) (ki : IsUnlinked i i' x) (was : held t.lines x ≡ Some l)
+    (taken : (k : ℕ) → held lines' k ≡ cond (x == k) None (held t.lines k)) (can : CanMake (tables_map t) (room_of t) (TakeLine x)) where
   abbrev take_M : Map
   take_M = tables_map t
 
@@ -262,10 +266,10 @@ module _ (t : Tables) (nodes' : Slab NodeEntry) (lines' : ByNumber Line) (x : �
   take_says : take_N ≡ map_after take_M (TakeLine x)
   take_says = (Undoing.dropped_line take_M (map_after take_M (TakeLine x)) x (made_ok take_M (TakeLine x) can.accepted)).1
 
-  take_lines : all_of lines' ≡ finmap.remove take_M.lines x
-  take_lines = same_answers _ _ (λ k. all_get (entries_of lines') k ∙ taken k ∙ ap (cond (x == k) None) (sym (got_line t k)) ∙ sym (got_remove take_M.lines x k))
+  take_lines : all_held lines' ≡ finmap.remove take_M.lines x
+  take_lines = same_answers _ _ (λ k. held_get lines' k ∙ taken k ∙ ap (cond (x == k) None) (sym (got_line t k)) ∙ sym (got_remove take_M.lines x k))
 
-  take_map : map_from t.index (slots_of nodes') (all_of lines') ≡ take_N
+  take_map : map_from t.index (slots_of nodes') (all_held lines') ≡ take_N
   take_map = λ j. record { nodes = same_nodes t nodes' lines' l.from l.to o o' i i' r j; lines = take_lines j }
 
   take_listed : (side : Side) (v : ℕ) (h : Links) → links_in side t.index (slots_of nodes') v ≡ Some h → IsListed side take_N (place_in t.index) v h
@@ -278,13 +282,13 @@ module _ (t : Tables) (nodes' : Slab NodeEntry) (lines' : ByNumber Line) (x : �
       (take_here In (place_in t.index) take_M x l take_was i i' (t.kept.listed In l.to i r.in_was) ki)
       (λ k h ne old. take_other In (place_in t.index) take_M x l take_was k h ne old) (t.kept.listed In)
 
-  pub take_line_kept : IsKept t.index (slots_of nodes') (all_of lines')
+  pub take_line_kept : IsKept t.index (slots_of nodes') (all_held lines')
   take_line_kept =
-      kept_from t.index (slots_of nodes') (all_of lines') r.indexed (few_slots nodes'.slotted)
+      kept_from t.index (slots_of nodes') (all_held lines') r.indexed (few_slots nodes'.slotted)
       (subst IsMap (sym take_map) (edits_keep take_M take_N (Drop_line x) t.kept.sound tt (made_ok take_M (TakeLine x) can.accepted ∙ ap (λ (m : Map). Ok m) (sym take_says))))
       (λ side. subst (λ (K : Map). (v : ℕ) (h : Links) → links_in side t.index (slots_of nodes') v ≡ Some h → IsListed side K (place_in t.index) v h) (sym take_map) (take_listed side))
 
-  module _ (kept' : IsKept t.index (slots_of nodes') (all_of lines')) (room : room_in nodes' ≡ room_in t.nodes) (spare : spare_of t.lines ≤ spare_of lines') where
+  module _ (kept' : IsKept t.index (slots_of nodes') (all_held lines')) (room : room_in nodes' ≡ room_in t.nodes) (spare : spare_numbers t.lines ≤ spare_numbers lines') where
     abbrev take_new : Tables
     take_new = record { index = t.index; nodes = nodes'; lines = lines'; kept = kept' }
 
@@ -328,10 +332,10 @@ pub line_set : (t : Tables) (x : ℕ) (k : Line) → CanMake (tables_map t) (roo
 line_set t x k can =
     (Undoing.set_line (tables_map t) (map_after (tables_map t) (SetLine x k)) x k can.whole.0 can.whole.1 (made_ok (tables_map t) (SetLine x k) can.accepted)).0
 
-module _ (t : Tables) (nodes' : Slab NodeEntry) (lines' : ByNumber Line) (x : ℕ) (k l : Line) (p q : ℕ) (o o' i i' : Links) (r : Relinked t nodes' l.from l.to o o' i i')
+module _ (t : Tables) (nodes' : Slab NodeEntry) (lines' : Numbered Line) (x : ℕ) (k l : Line) (p q : ℕ) (o o' i i' : Links) (r : Relinked t nodes' l.from l.to o o' i i')
     (here : found t.index k.from ≡ Some p) (there : found t.index k.to ≡ Some q)
     (ko : IsReset o o' x (record { node = k.to; place = q; len = k.len })) (ki : IsReset i i' x (record { node = k.from; place = p; len = k.len }))
-    (was : found t.lines x ≡ Some l) (put : (n : ℕ) → found lines' n ≡ cond (x == n) (Some k) (found t.lines n)) (can : CanMake (tables_map t) (room_of t) (SetLine x k)) where
+    (was : held t.lines x ≡ Some l) (put : (n : ℕ) → held lines' n ≡ cond (x == n) (Some k) (held t.lines n)) (can : CanMake (tables_map t) (room_of t) (SetLine x k)) where
   abbrev set_M : Map
   set_M = tables_map t
 
@@ -350,10 +354,10 @@ module _ (t : Tables) (nodes' : Slab NodeEntry) (lines' : ByNumber Line) (x : �
   set_says : set_N ≡ map_after set_M (SetLine x k)
   set_says = (Undoing.set_line set_M (map_after set_M (SetLine x k)) x k can.whole.0 can.whole.1 (made_ok set_M (SetLine x k) can.accepted)).2
 
-  set_lines : all_of lines' ≡ finmap.insert set_M.lines x k
-  set_lines = same_answers _ _ (λ n. all_get (entries_of lines') n ∙ put n ∙ ap (cond (x == n) (Some k)) (sym (got_line t n)) ∙ sym (got_insert set_M.lines x k n))
+  set_lines : all_held lines' ≡ finmap.insert set_M.lines x k
+  set_lines = same_answers _ _ (λ n. held_get lines' n ∙ put n ∙ ap (cond (x == n) (Some k)) (sym (got_line t n)) ∙ sym (got_insert set_M.lines x k n))
 
-  set_map : map_from t.index (slots_of nodes') (all_of lines') ≡ set_N
+  set_map : map_from t.index (slots_of nodes') (all_held lines') ≡ set_N
   set_map = λ j. record { nodes = same_nodes t nodes' lines' l.from l.to o o' i i' r j; lines = set_lines j }
 
   set_now : get set_N.lines x ≡ Some k
@@ -369,13 +373,13 @@ module _ (t : Tables) (nodes' : Slab NodeEntry) (lines' : ByNumber Line) (x : �
       (set_here In (place_in t.index) set_M x l set_was k set_to i i' _ (end_is In t.index set_N x k p set_now here) (t.kept.listed In l.to i r.in_was) ki)
       (λ n h ne old. set_other In (place_in t.index) set_M x l set_was k set_to n h ne old) (t.kept.listed In)
 
-  pub set_line_kept : IsKept t.index (slots_of nodes') (all_of lines')
+  pub set_line_kept : IsKept t.index (slots_of nodes') (all_held lines')
   set_line_kept =
-      kept_from t.index (slots_of nodes') (all_of lines') r.indexed (few_slots nodes'.slotted)
+      kept_from t.index (slots_of nodes') (all_held lines') r.indexed (few_slots nodes'.slotted)
       (subst IsMap (sym set_map) (edits_keep set_M set_N (Set_line x k.frc k.fow k.len k.shape) t.kept.sound can.placed (made_ok set_M (SetLine x k) can.accepted ∙ ap (λ (m : Map). Ok m) (sym set_says))))
       (λ side. subst (λ (K : Map). (v : ℕ) (h : Links) → links_in side t.index (slots_of nodes') v ≡ Some h → IsListed side K (place_in t.index) v h) (sym set_map) (set_listed side))
 
-  module _ (kept' : IsKept t.index (slots_of nodes') (all_of lines')) (room : room_in nodes' ≡ room_in t.nodes) (spare : spare_of t.lines ≤ spare_of lines') where
+  module _ (kept' : IsKept t.index (slots_of nodes') (all_held lines')) (room : room_in nodes' ≡ room_in t.nodes) (spare : spare_numbers t.lines ≤ spare_numbers lines') where
     abbrev set_new : Tables
     set_new = record { index = t.index; nodes = nodes'; lines = lines'; kept = kept' }
 

@@ -11,12 +11,12 @@ use Rattle.olr_spec.specs.Map.{Map, IsMap, Line, has_node, line_at, no_place, in
 use Rattle.olr_spec.specs.Extension.{has}
 use Rattle.olr_spec.proofs.EditLemmas.{edits_keep}
 use Rattle.olr_spec.proofs.MapLemmas.{has-lines_where, passes_at}
-use Rattle.olr_map.specs.ByNumbers.{found, spare_of, all_of}
+use Rattle.olr_map.specs.ByNumbers.{found, spare_of}
 use Rattle.olr_map.specs.Slotted.{Comes, Goes, Turns}
 use Rattle.olr_map.specs.Slabs.{slots_of, room_in}
 use Rattle.olr_map.specs.NodeLinks.{links_at}
 use Rattle.olr_map.specs.Linked.{lines_on, ends_on, spare_links, lines_kept, places_kept}
-use Rattle.olr_map.specs.Kept.{near, far, in_slot, node_in, links_in, map_from, place_in, lines_at, end_at, IsListed, IsIndexed, IsKept}
+use Rattle.olr_map.specs.Kept.{near, far, node_in, links_in, map_from, place_in, lines_at, end_at, IsListed, IsIndexed, IsKept}
 use Rattle.olr_map.specs.Changes.{tables_map, room_of, spare_at, changed_at, CanMake, map_after, IsChangeMade}
 use Rattle.olr_map.specs.declared.by_number.ByNumber.{ByNumber}
 use Rattle.olr_map.specs.declared.links.Links.{Links}
@@ -29,14 +29,17 @@ use Rattle.olr_map.specs.declared.slots.Side.TheVariants.{Out, In}
 use Rattle.olr_map.specs.declared.tables.Tables.{Tables}
 use Rattle.olr_map.specs.declared.change.Change.{Change}
 use Rattle.olr_map.specs.declared.change.Change.TheVariants.{PutNode, MoveNode, TakeNode}
+use Rattle.olr_map.proofs.Numbering.{same_some}
 use Rattle.olr_map.proofs.SlotLemmas.{few_slots}
 use Rattle.olr_map.proofs.Looks.{eqb_flip, map_cond, map_or_cond, map_or_none, got_insert, got_remove, same_answers}
-use Rattle.olr_map.proofs.Indexing.{same_some, came_node, came_indexed, gone_node, gone_indexed, turned_node, turned_indexed}
+use Rattle.olr_map.proofs.Indexing.{came_node, came_indexed, gone_node, gone_indexed, turned_node, turned_indexed}
 use Rattle.olr_map.proofs.LineLists.{absent_outs, absent_ins, unused_outs, unused_ins, unused_fails}
 use Rattle.olr_map.proofs.Listing.{replaced}
 use Rattle.olr_map.proofs.Reading.{place_of, got_node, kept_from, not_found, slot_of, node_read, listed_at}
 use Rattle.olr_map.proofs.Making.{made_ok, accepted_from, le_same, changed_back}
 use Rattle.olr_map.proofs.Undoing
+use Rattle.olr_map.specs.Numbering.{all_held}
+use Rattle.olr_map.specs.HavingSlots.{in_slot}
 use Rattle.olr_map.proofs.Undoing.{record_of, some_is, none_is}
 
 -- ---- a line's far end
@@ -60,7 +63,7 @@ pub absent_lines : (side : Side) (M : Map) (v : ℕ) → IsMap M → has_node M 
 absent_lines Out M v sound h = absent_outs M v sound h
 absent_lines In M v sound h = absent_ins M v sound h
 
-other_place : (b b' : ByNumber ℕ) (v u : ℕ) (o : Option ℕ) → ((k : ℕ) → found b' k ≡ cond (v == k) o (found b k)) → (v == u) ≡ false → place_in b u ≡ place_in b' u
+other_place : (b b' : ByNumber) (v u : ℕ) (o : Option ℕ) → ((k : ℕ) → found b' k ≡ cond (v == k) o (found b k)) → (v == u) ≡ false → place_in b u ≡ place_in b' u
 other_place b b' v u o put ne = sym (ap (λ p. unwrap_or p 0) (put u ∙ ap (λ (t : Bool). cond t o (found b u)) ne))
 
 -- what holds of each node's lines, where one node has others
@@ -95,7 +98,7 @@ linked_none side false o = refl
 
 pub free_number : (t : Tables) (v : ℕ) (q : Coord) (o i : Spare) → CanMake (tables_map t) (room_of t) (PutNode v q o i) → found t.index v ≡ None
 free_number t v q o i can =
-    not_found t.index (slots_of t.nodes) t.kept.indexed (all_of t.lines) v
+    not_found t.index (slots_of t.nodes) t.kept.indexed (all_held t.lines) v
     (Undoing.added_node (tables_map t) (map_after (tables_map t) (PutNode v q o i)) v q (made_ok (tables_map t) (PutNode v q o i) can.accepted)).0
 
 -- a list has no lines, and room for so many
@@ -103,7 +106,7 @@ pub record IsBare (l : Links) (s : Spare) : Type 0 where
   pub lines : lines_on l ≡ lines_kept s
   pub room : spare_links l ≡ places_kept s
 
-module _ (t : Tables) (b' : ByNumber ℕ) (nodes' : Slab NodeEntry) (p v : ℕ) (q : Coord) (o i : Spare) (outs' ins' : Links) (bare_outs : IsBare outs' o) (bare_ins : IsBare ins' i)
+module _ (t : Tables) (b' : ByNumber) (nodes' : Slab NodeEntry) (p v : ℕ) (q : Coord) (o i : Spare) (outs' ins' : Links) (bare_outs : IsBare outs' o) (bare_ins : IsBare ins' i)
     (c : Comes (slots_of t.nodes) (slots_of nodes') p (record { id = v; place = q; outs = outs'; ins = ins' }))
     (put : (k : ℕ) → found b' k ≡ cond (v == k) (Some p) (found t.index k)) (can : CanMake (tables_map t) (room_of t) (PutNode v q o i)) where
   abbrev e : NodeEntry
@@ -131,7 +134,7 @@ module _ (t : Tables) (b' : ByNumber ℕ) (nodes' : Slab NodeEntry) (p v : ℕ) 
   N = record M { nodes = finmap.insert M.nodes v q }
 
   abbrev F : FinMap nat_cmp Line
-  F = all_of t.lines
+  F = all_held t.lines
 
   says : (has_node M v ≡ false) × (N ≡ map_after M came)
   says = Undoing.added_node M (map_after M came) v q (made_ok M came can.accepted)
@@ -209,10 +212,10 @@ module _ (t : Tables) (b' : ByNumber ℕ) (nodes' : Slab NodeEntry) (p v : ℕ) 
 
 pub slot_taken : (t : Tables) (v : ℕ) → CanMake (tables_map t) (room_of t) (TakeNode v) → (p : ℕ) × (found t.index v ≡ Some p)
 slot_taken t v can =
-    slot_of t.index (slots_of t.nodes) t.kept.indexed (all_of t.lines) v
+    slot_of t.index (slots_of t.nodes) t.kept.indexed (all_held t.lines) v
     (Undoing.dropped_node (tables_map t) (map_after (tables_map t) (TakeNode v)) v (made_ok (tables_map t) (TakeNode v) can.accepted)).0
 
-module _ (t : Tables) (b' : ByNumber ℕ) (nodes' : Slab NodeEntry) (p v : ℕ) (e : NodeEntry) (g : Goes (slots_of t.nodes) (slots_of nodes') p e) (here : found t.index v ≡ Some p)
+module _ (t : Tables) (b' : ByNumber) (nodes' : Slab NodeEntry) (p v : ℕ) (e : NodeEntry) (g : Goes (slots_of t.nodes) (slots_of nodes') p e) (here : found t.index v ≡ Some p)
     (taken : (k : ℕ) → found b' k ≡ cond (v == k) None (found t.index k)) (can : CanMake (tables_map t) (room_of t) (TakeNode v)) where
   abbrev go_M : Map
   go_M = tables_map t
@@ -221,7 +224,7 @@ module _ (t : Tables) (b' : ByNumber ℕ) (nodes' : Slab NodeEntry) (p v : ℕ) 
   go_N = record go_M { nodes = finmap.remove go_M.nodes v }
 
   abbrev go_F : FinMap nat_cmp Line
-  go_F = all_of t.lines
+  go_F = all_held t.lines
 
   go_says : (has_node go_M v ≡ true) × (in_use go_M v ≡ false) × (go_N ≡ map_after go_M (TakeNode v))
   go_says = Undoing.dropped_node go_M (map_after go_M (TakeNode v)) v (made_ok go_M (TakeNode v) can.accepted)
@@ -310,7 +313,7 @@ module _ (t : Tables) (nodes' : Slab NodeEntry) (p v : ℕ) (e : NodeEntry) (q :
   mv_N = record mv_M { nodes = finmap.insert mv_M.nodes v q }
 
   abbrev mv_F : FinMap nat_cmp Line
-  mv_F = all_of t.lines
+  mv_F = all_held t.lines
 
   abbrev moved : NodeEntry
   moved = record { id = e.id; place = q; outs = e.outs; ins = e.ins }

@@ -6,11 +6,11 @@ use Rattle.std.specs.FinMap.{FinMap, get}
 use Rattle.std.specs.Ordering.{nat_cmp}
 use Rattle.olr_spec.specs.Coordinates.{Coord}
 use Rattle.olr_spec.specs.Map.{Map, Line, IsMap, has_node, has_line, lines_in, lines_out, no_place}
-use Rattle.olr_map.specs.ByNumbers.{entries_of, found, all_of}
+use Rattle.olr_map.specs.ByNumbers.{entries_of, found}
 use Rattle.olr_map.specs.Slotted.{at}
 use Rattle.olr_map.specs.Slabs.{slots_of}
 use Rattle.olr_map.specs.NodeLinks.{links_at}
-use Rattle.olr_map.specs.Kept.{in_slot, node_in, links_in, coord_in, map_from, place_in, IsListed, IsIndexed, IsKept}
+use Rattle.olr_map.specs.Kept.{node_in, links_in, coord_in, map_from, place_in, IsListed, IsIndexed, IsKept}
 use Rattle.olr_map.specs.Changes.{tables_map}
 use Rattle.olr_map.specs.Ends.{ArePlaces}
 use Rattle.olr_map.specs.declared.by_number.ByNumber.{ByNumber}
@@ -20,9 +20,13 @@ use Rattle.olr_map.specs.declared.slots.Side.{Side}
 use Rattle.olr_map.specs.declared.tables.Tables.{Tables}
 use Rattle.olr_map.proofs.Looks.{map_cond}
 use Rattle.olr_map.proofs.Lookups.{all_get}
+use Rattle.olr_map.proofs.Blocking.{listed_found}
 use Rattle.olr_map.proofs.SlotLemmas.{holds_within}
 use Rattle.olr_map.proofs.Indexing.{id_of, entry_of, one_node}
 use Rattle.olr_map.proofs.LineLists.{absent_outs, absent_ins}
+use Rattle.olr_map.specs.Numbering.{held, all_held}
+use Rattle.olr_map.specs.HavingSlots.{in_slot}
+use Rattle.olr_map.proofs.Numbering.{held_get}
 use Rattle.olr_map.proofs.Undoing.{line_starts, line_ends}
 
 abbrev pub place_of : NodeEntry → Coord
@@ -36,10 +40,10 @@ or_there : {X Y : Type 0} (f : X → Y) (d : Y) (o : Option X) (x : X) → o ≡
 or_there f d None x e = absurd cc
 or_there f d (Some y) x e = refl
 
-module _ (b : ByNumber ℕ) (es : List (Option NodeEntry)) (indexed : IsIndexed b es) where
+module _ (b : ByNumber) (es : List (Option NodeEntry)) (indexed : IsIndexed b es) where
   pub got_node : (F : FinMap nat_cmp Line) (v : ℕ) → get (map_from b es F).nodes v ≡ option_map place_of (node_in b es v)
   got_node F v =
-      all_get (map (λ (e : ℕ × ℕ). (e.0, coord_in es e.1)) (entries_of b)) v ∙ lookup_mapped (coord_in es) (entries_of b) v ∙ step (found b v) refl where
+      all_get (map (λ (e : ℕ × ℕ). (e.0, coord_in es e.1)) (entries_of b)) v ∙ lookup_mapped (coord_in es) (entries_of b) v ∙ ap (option_map (coord_in es)) (listed_found b v) ∙ step (found b v) refl where
         step : (o : Option ℕ) → found b v ≡ o → option_map (coord_in es) o ≡ option_map place_of (in_slot es o)
         step None h = refl
         step (Some p) h = let x = entry_of b es indexed v p h in or_there place_of no_place (at es p) x.0 x.1
@@ -76,10 +80,10 @@ within es p v h = step (at es p) refl h where
   step None e g = absurd cc
   step (Some x) e g = holds_within es p x e
 
-pub place_is : (b : ByNumber ℕ) (v p : ℕ) → found b v ≡ Some p → place_in b v ≡ p
+pub place_is : (b : ByNumber) (v p : ℕ) → found b v ≡ Some p → place_in b v ≡ p
 place_is b v p h = ap (λ o. unwrap_or o 0) h
 
-module _ (b : ByNumber ℕ) (es : List (Option NodeEntry)) (F : FinMap nat_cmp Line) (indexed : IsIndexed b es) (few : length es ≤ 2 ^ 32) where
+module _ (b : ByNumber) (es : List (Option NodeEntry)) (F : FinMap nat_cmp Line) (indexed : IsIndexed b es) (few : length es ≤ 2 ^ 32) where
   pub are_places : ArePlaces (map_from b es F) (place_in b) (length es)
   are_places =
       record {
@@ -97,7 +101,7 @@ module _ (b : ByNumber ℕ) (es : List (Option NodeEntry)) (F : FinMap nat_cmp L
 -- ---- of tables
 
 module _ (t : Tables) where
-  abbrev b : ByNumber ℕ
+  abbrev b : ByNumber
   b = t.index
 
   abbrev es : List (Option NodeEntry)
@@ -106,51 +110,51 @@ module _ (t : Tables) where
   abbrev M : Map
   M = tables_map t
 
-  pub got_line : (x : ℕ) → get M.lines x ≡ found t.lines x
-  got_line x = all_get (entries_of t.lines) x
+  pub got_line : (x : ℕ) → get M.lines x ≡ held t.lines x
+  got_line x = held_get t.lines x
 
   gone : {A : Type 0} (o : Option A) → is_some o ≡ false → o ≡ None
   gone None h = refl
   gone (Some x) h = absurd cc
 
-  pub line_missing : (x : ℕ) → has_line M x ≡ false → found t.lines x ≡ None
+  pub line_missing : (x : ℕ) → has_line M x ≡ false → held t.lines x ≡ None
   line_missing x h = sym (got_line x) ∙ gone (get M.lines x) h
 
-  pub no_line_there : (x : ℕ) → found t.lines x ≡ None → has_line M x ≡ false
+  pub no_line_there : (x : ℕ) → held t.lines x ≡ None → has_line M x ≡ false
   no_line_there x h = ap (λ o. is_some o) (got_line x ∙ h)
 
   -- a line that is there is found
-  pub line_found : (x : ℕ) → has_line M x ≡ true → (l : Line) × (found t.lines x ≡ Some l)
-  line_found x h = some_of (found t.lines x) (ap (λ o. is_some o) (sym (got_line x)) ∙ h) where
+  pub line_found : (x : ℕ) → has_line M x ≡ true → (l : Line) × (held t.lines x ≡ Some l)
+  line_found x h = some_of (held t.lines x) (ap (λ o. is_some o) (sym (got_line x)) ∙ h) where
     some_of : (o : Option Line) → is_some o ≡ true → (l : Line) × (o ≡ Some l)
     some_of None e = absurd cc
     some_of (Some l) e = (l, refl)
 
   -- a line's ends are found
-  pub start_found : (x : ℕ) (l : Line) → found t.lines x ≡ Some l → (has_node M l.from ≡ true) × (has_node M l.to ≡ true)
+  pub start_found : (x : ℕ) (l : Line) → held t.lines x ≡ Some l → (has_node M l.from ≡ true) × (has_node M l.to ≡ true)
   start_found x l h = (line_starts M t.kept.sound x l (got_line x ∙ h), line_ends M t.kept.sound x l (got_line x ∙ h))
 
   pub node_read : (v p : ℕ) (e : NodeEntry) → found b v ≡ Some p → at es p ≡ Some e → get M.nodes v ≡ Some e.place
-  node_read v p e h is = got_node b es t.kept.indexed (all_of t.lines) v ∙ ap (λ o. option_map place_of (in_slot es o)) h ∙ ap (option_map place_of) is
+  node_read v p e h is = got_node b es t.kept.indexed (all_held t.lines) v ∙ ap (λ o. option_map place_of (in_slot es o)) h ∙ ap (option_map place_of) is
 
   pub none_read : (v : ℕ) → found b v ≡ None → get M.nodes v ≡ None
-  none_read v h = got_node b es t.kept.indexed (all_of t.lines) v ∙ ap (λ o. option_map place_of (in_slot es o)) h
+  none_read v h = got_node b es t.kept.indexed (all_held t.lines) v ∙ ap (λ o. option_map place_of (in_slot es o)) h
 
   pub listed_at : (side : Side) (v p : ℕ) (e : NodeEntry) → found b v ≡ Some p → at es p ≡ Some e → IsListed side M (place_in b) v (links_at side e)
   listed_at side v p e h is = t.kept.listed side v (links_at side e) (ap (λ o. option_map (links_at side) (in_slot es o)) h ∙ ap (option_map (links_at side)) is)
 
   pub no_outs : (v : ℕ) → found b v ≡ None → [] ≡ lines_out M v
-  no_outs v h = absent_outs M v t.kept.sound (node_missing b es t.kept.indexed (all_of t.lines) v h)
+  no_outs v h = absent_outs M v t.kept.sound (node_missing b es t.kept.indexed (all_held t.lines) v h)
 
   pub no_ins : (v : ℕ) → found b v ≡ None → [] ≡ lines_in M v
-  no_ins v h = absent_ins M v t.kept.sound (node_missing b es t.kept.indexed (all_of t.lines) v h)
+  no_ins v h = absent_ins M v t.kept.sound (node_missing b es t.kept.indexed (all_held t.lines) v h)
 
   -- the place of a node is its slot
   pub slot_is : (v p : ℕ) → has_node M v ≡ true → place_in b v ≡ p → found b v ≡ Some p
-  slot_is v p h e = let s = slot_of b es t.kept.indexed (all_of t.lines) v h in s.1 ∙ ap (λ n. Some n) (sym (place_is b v s.0 s.1) ∙ e)
+  slot_is v p h e = let s = slot_of b es t.kept.indexed (all_held t.lines) v h in s.1 ∙ ap (λ n. Some n) (sym (place_is b v s.0 s.1) ∙ e)
 
   pub place_found : (v : ℕ) (o : Option ℕ) → o ≡ found b v → SomeIff o (IsTrue (has_node M v)) (place_in b v)
-  place_found v None e = λ h. let s = slot_of b es t.kept.indexed (all_of t.lines) v h in let never : None ≡ Some s.0 = e ∙ s.1 in absurd (ne never) where
+  place_found v None e = λ h. let s = slot_of b es t.kept.indexed (all_held t.lines) v h in let never : None ≡ Some s.0 = e ∙ s.1 in absurd (ne never) where
     ne : {A : Type 0} {x : A} → ◌≡◌ {A = Option A} None (Some x) → ⊥
     ne h = cc
-  place_found v (Some p) e = (node_there b es t.kept.indexed (all_of t.lines) v p (sym e), sym (place_is b v p (sym e)))
+  place_found v (Some p) e = (node_there b es t.kept.indexed (all_held t.lines) v p (sym e), sym (place_is b v p (sym e)))

@@ -19,7 +19,7 @@ pushed_last : {Y : Type 0} (ys : List Y) (y d : Y) → get_or (ys ++ y ∷ []) (
 pushed_last [] y d = refl
 pushed_last (z ∷ ys) y d = pushed_last ys y d
 
-none_above : {Y : Type 0} (ys : List Y) (i : ℕ) (d : Y) → length ys ≤ i → get_or ys i d ≡ d
+pub none_above : {Y : Type 0} (ys : List Y) (i : ℕ) (d : Y) → length ys ≤ i → get_or ys i d ≡ d
 none_above [] i d le = refl
 none_above (z ∷ ys) zero d le = absurd (omega arith)
 none_above (z ∷ ys) (suc i) d le = none_above ys i d (omega arith)
@@ -75,6 +75,12 @@ module _ {X : Type 0} where
   -- slots are numbered by `u32`
   pub few_slots : {es : List (Option X)} {fs : List ℕ} {room : ℕ} → IsSlotted es fs room → length es ≤ 2 ^ 32
   few_slots s = let few = s.few in omega arith
+
+  pub came_fits : {es : List (Option X)} {fs : List ℕ} {room : ℕ} (old : List (Option X)) (p : ℕ) (e : X) → IsSlotted es fs room → Comes old es p e → p + 1 < 2 ^ 32
+  came_fits {es} old p e s c =
+      let few = s.few in
+      let inside = holds_within es p e (c.now p ∙ ap (λ (b : Bool). cond b (Some e) (at old p)) (eq-eqb p p refl)) in
+      omega arith
 
   -- ---- how many are present
 

@@ -33,7 +33,7 @@ accepted_is (Ok x) h = (x, refl)
 accepted_is (Err f) h = absurd cc
 
 module _ (t : Tables) where
-  abbrev b : ByNumber ℕ
+  abbrev b : ByNumber
   b = t.index
 
   abbrev M : Map

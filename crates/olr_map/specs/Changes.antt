@@ -10,7 +10,8 @@ use Rattle.std.specs.Result.{result_unwrap_or}
 use Rattle.olr_spec.specs.Map as map
 use Rattle.olr_spec.specs.Map.{Map, start, end, edited}
 use Rattle.olr_spec.specs.Laws.{HasPlace}
-use Rattle.olr_map.specs.ByNumbers.{spare_of, all_of}
+use Rattle.olr_map.specs.ByNumbers.{spare_of}
+use Rattle.olr_map.specs.Numbering.{all_held, spare_numbers}
 use Rattle.olr_map.specs.Linked.{lines_kept, places_kept, spare_links}
 use Rattle.olr_map.specs.Slabs.{slots_of, room_in}
 use Rattle.olr_map.specs.Kept.{map_from, links_in}
@@ -35,7 +36,7 @@ pub record Room : Type 0 where
   pub ins : ℕ → ℕ
 
 abbrev pub tables_map : Tables → Map
-tables_map t = map_from t.index (slots_of t.nodes) (all_of t.lines)
+tables_map t = map_from t.index (slots_of t.nodes) (all_held t.lines)
 
 abbrev pub spare_at : Side → Tables → ℕ → ℕ
 spare_at side t v = option_map_or (λ l. spare_links l) (links_in side t.index (slots_of t.nodes) v) 0
@@ -74,7 +75,7 @@ line_numbers _ = 0
 -- there is room for the numbers
 pub record HasNumbers (t : Tables) (n l : ℕ) : Type 0 where
   pub nodes : n ≤ spare_of t.index
-  pub lines : l ≤ spare_of t.lines
+  pub lines : l ≤ spare_numbers t.lines
 
 -- at least as much room
 pub record IsRoomWithin (R S : Room) : Type 0 where
@@ -124,4 +125,4 @@ pub record IsChangeMade (old new : Tables) (c back : Change) : Type 0 where
   pub before : map_after (tables_map new) back ≡ tables_map old
   pub room_before : IsRoomWithin (room_of old) (room_after (tables_map new) (room_of new) back)
   pub node_numbers : spare_of old.index ≤ spare_of new.index + node_puts c
-  pub line_numbers : spare_of old.lines ≤ spare_of new.lines + line_puts c
+  pub line_numbers : spare_numbers old.lines ≤ spare_numbers new.lines + line_puts c

@@ -28,7 +28,7 @@ pub record IsJudged (M : Map) (place : ℕ → ℕ) (e : maps.Edit) (j : Judged)
   pub first : IsTrue (has_node M j.nodes.0) → place j.nodes.0 ≡ j.places.0
   pub second : IsTrue (has_node M j.nodes.1) → place j.nodes.1 ≡ j.places.1
 
-abbrev pub AreSlots : ByNumber ℕ → Map → ℕ × ℕ → maps.Edit → Type 0
+abbrev pub AreSlots : ByNumber → Map → ℕ × ℕ → maps.Edit → Type 0
 AreSlots b M at (maps.Move_node v c) = found b v ≡ Some at.0
 AreSlots b M at (maps.Add_line x l) = (found b l.from ≡ Some at.0) × (found b l.to ≡ Some at.1)
 AreSlots b M at (maps.Set_line x frc fow len shape) = (found b (start M x) ≡ Some at.0) × (found b (end M x) ≡ Some at.1)

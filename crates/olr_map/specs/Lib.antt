@@ -1,5 +1,7 @@
 pub mod Hashing
+pub mod Blocked
 pub mod ByNumbers
+pub mod HavingSlots
 pub mod Edits
 pub mod Ends
 pub mod Linked
@@ -7,6 +9,7 @@ pub mod Places
 pub mod Slotted
 pub mod NodeLinks
 pub mod Slabs
+pub mod Numbering
 pub mod Kept
 pub mod Judgements
 pub mod Changes

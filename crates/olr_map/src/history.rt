@@ -15,6 +15,7 @@ impl Tables {
     ghost use Rattle.std.specs.Prelude.{◌≡◌, ◌↔◌, ◌+◌, ◌≤◌, IsOk, IfOk, OnOk, OnErr, Ok, Err};
     ghost use Rattle.olr_spec.specs.Map.{MapFault, edited};
     ghost use Rattle.olr_map.specs.ByNumbers.{spare_of};
+    ghost use Rattle.olr_map.specs.Numbering.{spare_numbers};
     ghost use Rattle.olr_map.specs.Kept.{place_in};
     ghost use Rattle.olr_map.specs.Judgements.{IsJudged, AreEnds, AreSlots};
     ghost use Rattle.olr_map.specs.Edits.{edit_of, edit_fault_of};
@@ -78,7 +79,7 @@ impl Tables {
         ensures map { tables_map self.new ≡ map_after (tables_map self.old) change }
         ensures room { IsRoomWithin (room_after (tables_map self.old) (room_of self.old) change) (room_of self.new) }
         ensures nodes { spare_of self.old.index ≤ spare_of self.new.index + node_puts change }
-        ensures lines { spare_of self.old.lines ≤ spare_of self.new.lines + line_puts change }
+        ensures lines { spare_numbers self.old.lines ≤ spare_numbers self.new.lines + line_puts change }
     {
         let slots = self.slots_for(&change);
         let _ = self.make_change(change, slots);

@@ -2,6 +2,7 @@
 //! and edits that can be undone.
 #![tactic(auto)]
 
+mod blocks;
 mod by_number;
 mod change;
 pub mod edit;
@@ -13,6 +14,7 @@ pub mod judging;
 pub mod line;
 mod links;
 mod number_hash;
+mod numbered;
 pub mod plain_map;
 pub mod read;
 pub mod road_map;

@@ -1,6 +1,6 @@
 //! The nodes and the lines of a map: slots by node number, the nodes' entries by slot, and the lines by number.
 ghost use Rattle.std.specs.Prelude.{◌≡◌};
-ghost use Rattle.olr_map.specs.ByNumbers.{all_of};
+ghost use Rattle.olr_map.specs.Numbering.{all_held};
 ghost use Rattle.olr_map.specs.Kept.{IsKept, IsKept-prop};
 
 use crate::by_number::ByNumber;
@@ -8,6 +8,7 @@ use crate::change::Change;
 use crate::ids::{LineId, NodeId};
 use crate::line::Line;
 use crate::links::{Links, Spare};
+use crate::numbered::Numbered;
 use crate::read::{LineEnd, MapRead};
 use crate::slab::Slab;
 use crate::slots::{NodeEntry, Side};
@@ -17,10 +18,10 @@ use std::alloc::{AllocError, Global};
 /// The slots of the nodes by number, their entries, and the lines by number.
 #[derive(Drop, Debug)]
 pub struct Tables {
-    pub index: ByNumber<u32>,
+    pub index: ByNumber,
     pub nodes: Slab<NodeEntry>,
-    pub lines: ByNumber<Line>,
-    pub ghost kept: { IsKept index nodes.entries.items (all_of lines) } by { IsKept-prop index nodes.entries.items (all_of lines) },
+    pub lines: Numbered<Line>,
+    pub ghost kept: { IsKept index nodes.entries.items (all_held lines) } by { IsKept-prop index nodes.entries.items (all_held lines) },
 }
 
 impl MapRead for Tables {
@@ -37,7 +38,7 @@ impl MapRead for Tables {
 
     fn node(&self, id: NodeId) -> Option<Coord> {
         match self.index.get(id.number()) {
-            Some(slot) => Some(self.nodes.entry(*slot).place),
+            Some(slot) => Some(self.nodes.entry(slot).place),
             None => None,
         }
     }
@@ -48,28 +49,28 @@ impl MapRead for Tables {
 
     fn out_lines(&self, id: NodeId) -> &[LineId] {
         match self.index.get(id.number()) {
-            Some(slot) => self.nodes.entry(*slot).outs.lines(),
+            Some(slot) => self.nodes.entry(slot).outs.lines(),
             None => &[],
         }
     }
 
     fn in_lines(&self, id: NodeId) -> &[LineId] {
         match self.index.get(id.number()) {
-            Some(slot) => self.nodes.entry(*slot).ins.lines(),
+            Some(slot) => self.nodes.entry(slot).ins.lines(),
             None => &[],
         }
     }
 
     fn out_ends(&self, id: NodeId) -> &[LineEnd] {
         match self.index.get(id.number()) {
-            Some(slot) => self.nodes.entry(*slot).outs.ends(),
+            Some(slot) => self.nodes.entry(slot).outs.ends(),
             None => &[],
         }
     }
 
     fn in_ends(&self, id: NodeId) -> &[LineEnd] {
         match self.index.get(id.number()) {
-            Some(slot) => self.nodes.entry(*slot).ins.ends(),
+            Some(slot) => self.nodes.entry(slot).ins.ends(),
             None => &[],
         }
     }
@@ -79,7 +80,7 @@ impl MapRead for Tables {
     }
 
     fn place_of(&self, id: NodeId) -> Option<u32> {
-        self.index.get(id.number()).copied()
+        self.index.get(id.number())
     }
 
     fn out_ends_at(&self, place: u32) -> &[LineEnd] {
@@ -99,6 +100,7 @@ impl Tables {
     ghost use Rattle.std.specs.Prelude.{◌+◌, ◌<◌, ◌≤◌, ℕ, OnOk, IsTrue, Some};
     ghost use Rattle.olr_spec.specs.Map.{empty_map, has_node, has_line, start, end};
     ghost use Rattle.olr_map.specs.ByNumbers.{found, spare_of};
+    ghost use Rattle.olr_map.specs.Numbering.{spare_numbers};
     ghost use Rattle.olr_map.specs.Changes.{tables_map, room_of, spare_at, node_puts, line_puts, IsRoomWithin, HasNumbers, CanMake, IsChangeMade};
     ghost use Rattle.olr_map.specs.declared.change.Change.TheVariants.{PutNode, MoveNode, TakeNode, PutLine, SetLine, TakeLine};
 
@@ -109,7 +111,7 @@ impl Tables {
         Tables {
             index: ByNumber::hashed(alloc),
             nodes: Slab::new(alloc),
-            lines: ByNumber::hashed(alloc),
+            lines: Numbered::hashed(alloc),
         }
     }
 
@@ -120,7 +122,7 @@ impl Tables {
         Tables {
             index: ByNumber::listed(alloc),
             nodes: Slab::new(alloc),
-            lines: ByNumber::listed(alloc),
+            lines: Numbered::listed(alloc),
         }
     }
 
@@ -130,7 +132,7 @@ impl Tables {
         ensures { found self.now.index id ≡ Some result }
     {
         match self.index.get(id.number()) {
-            Some(slot) => *slot,
+            Some(slot) => slot,
             None => unreachable!(),
         }
     }
@@ -152,7 +154,7 @@ impl Tables {
         ensures map { tables_map self.new ≡ tables_map self.old }
         ensures more { IsRoomWithin (room_of self.old) (room_of self.new) }
         ensures nodes { spare_of self.old.index ≤ spare_of self.new.index }
-        ensures lines { spare_of self.new.lines ≡ spare_of self.old.lines }
+        ensures lines { spare_numbers self.new.lines ≡ spare_numbers self.old.lines }
         ensures slots { (v : ℕ) → found self.new.index v ≡ found self.old.index v }
         ensures room { OnOk result (owed + 1 ≤ spare_of self.new.index) }
     {
@@ -167,9 +169,9 @@ impl Tables {
         ensures map { tables_map self.new ≡ tables_map self.old }
         ensures more { IsRoomWithin (room_of self.old) (room_of self.new) }
         ensures nodes { spare_of self.new.index ≡ spare_of self.old.index }
-        ensures lines { spare_of self.old.lines ≤ spare_of self.new.lines }
+        ensures lines { spare_numbers self.old.lines ≤ spare_numbers self.new.lines }
         ensures slots { (v : ℕ) → found self.new.index v ≡ found self.old.index v }
-        ensures room { OnOk result (owed + 1 ≤ spare_of self.new.lines) }
+        ensures room { OnOk result (owed + 1 ≤ spare_numbers self.new.lines) }
     {
         match owed.checked_add(1) {
             Some(numbers) => self.lines.reserve(numbers),
@@ -182,7 +184,7 @@ impl Tables {
         ensures map { tables_map self.new ≡ tables_map self.old }
         ensures more { IsRoomWithin (room_of self.old) (room_of self.new) }
         ensures nodes { spare_of self.new.index ≡ spare_of self.old.index }
-        ensures lines { spare_of self.new.lines ≡ spare_of self.old.lines }
+        ensures lines { spare_numbers self.new.lines ≡ spare_numbers self.old.lines }
         ensures slots { (v : ℕ) → found self.new.index v ≡ found self.old.index v }
         ensures room { OnOk result (0 < (room_of self.new).nodes) }
     {
@@ -195,7 +197,7 @@ impl Tables {
         ensures map { tables_map self.new ≡ tables_map self.old }
         ensures more { IsRoomWithin (room_of self.old) (room_of self.new) }
         ensures nodes { spare_of self.new.index ≡ spare_of self.old.index }
-        ensures lines { spare_of self.new.lines ≡ spare_of self.old.lines }
+        ensures lines { spare_numbers self.new.lines ≡ spare_numbers self.old.lines }
         ensures slots { (v : ℕ) → found self.new.index v ≡ found self.old.index v }
         ensures room { OnOk result ((v : ℕ) → found self.old.index v ≡ Some slot → 0 < spare_at side self.new v) }
     {

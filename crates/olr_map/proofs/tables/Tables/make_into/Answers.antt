@@ -6,6 +6,7 @@ use Rattle.olr_map.specs.Undos.{CanMakeAll, changes_of}
 use Rattle.olr_map.specs.declared.change.Change.{Change}
 use Rattle.olr_map.proofs.Log.{done_by, one_more, all_on, within_trans}
 use Rattle.olr_map.proofs.Verdicts.{judged_slots}
+use Rattle.olr_map.specs.Numbering.{spare_numbers}
 use Rattle.olr_map.proofs.tables.Tables.make_into.Goals as goal
 
 pub make_room-requires-clause-slots : goal.make_room-requires-clause-slots
@@ -29,11 +30,11 @@ returns-clause-can_undo c =
     (one_more (tables_map old) (tables_map new) (room_of old) (room_of new) back (changes_of c.args.log.now) c.requires.log.0 made.can_back
     (made.before ∙ c.make_room.ensures.same) (within_trans (room_of old) (room_of mid) _ c.make_room.ensures.more made.room_before)) in
     let nodes : c.reserve.new.self.nodes + node_numbers (edit_of c.args.edit) ≤ spare_of mid.index = c.in_ok-make_room.ensures.numbers.nodes in
-    let lines : c.reserve.new.self.lines + line_numbers (edit_of c.args.edit) ≤ spare_of mid.lines = c.in_ok-make_room.ensures.numbers.lines in
+    let lines : c.reserve.new.self.lines + line_numbers (edit_of c.args.edit) ≤ spare_numbers mid.lines = c.in_ok-make_room.ensures.numbers.lines in
     let nodes_put : node_puts c.change_for-change.result + node_puts back ≡ node_numbers (edit_of c.args.edit) = c.make_change-back.ensures.nodes ∙ ap (λ e. node_numbers e) c.change_for-change.ensures.same in
     let lines_put : line_puts c.change_for-change.result + line_puts back ≡ line_numbers (edit_of c.args.edit) = c.make_change-back.ensures.lines ∙ ap (λ e. line_numbers e) c.change_for-change.ensures.same in
     let nodes_left : spare_of mid.index ≤ spare_of new.index + node_puts c.change_for-change.result = made.node_numbers in
-    let lines_left : spare_of mid.lines ≤ spare_of new.lines + line_puts c.change_for-change.result = made.line_numbers in
+    let lines_left : spare_numbers mid.lines ≤ spare_numbers new.lines + line_puts c.change_for-change.result = made.line_numbers in
     let nodes_new = c.push.ensures.nodes in
     let lines_new = c.push.ensures.lines in
     (all, record { nodes = omega arith; lines = omega arith })

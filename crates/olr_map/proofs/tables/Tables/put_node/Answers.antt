@@ -1,5 +1,7 @@
 use Rattle.std.proofs.Common.{◌≡◌, ◌==◌, ℕ, cond, Some, subst, ap, ◌∙◌}
 use Rattle.olr_map.specs.ByNumbers.{found}
+use Rattle.olr_map.specs.Slabs.{slots_of}
+use Rattle.olr_map.proofs.SlotLemmas.{came_fits}
 use Rattle.olr_map.proofs.NodeChanges.{free_number, put_node_kept, put_node_made}
 use Rattle.olr_map.proofs.tables.Tables.put_node.Goals as goal
 
@@ -7,6 +9,10 @@ pub put-requires-clause-absent : goal.put-requires-clause-absent
 put-requires-clause-absent c =
     let t = c.args.self.now in
     ap (found t.index) c.number.ensures.same ∙ free_number t c.args.id c.args.place c.args.outs c.args.ins c.requires.can
+
+pub put-requires-clause-fits : goal.put-requires-clause-fits
+put-requires-clause-fits c =
+    came_fits (slots_of c.args.self.now.nodes) c.put-slot.result _ c.put-slot.new.self.slotted c.put-slot.ensures.comes
 
 pub invariant_of-self : goal.invariant_of-self
 invariant_of-self c =

@@ -4,10 +4,11 @@ use Rattle.olr_map.specs.ByNumbers.{found}
 use Rattle.olr_map.specs.Changes.{tables_map}
 use Rattle.olr_map.specs.Linked.{IsReset}
 use Rattle.olr_map.specs.declared.slots.Side.TheVariants.{Out, In}
-use Rattle.olr_map.proofs.Indexing.{same_some}
+use Rattle.olr_map.proofs.Numbering.{same_some}
 use Rattle.olr_map.proofs.Undoing.{record_of}
 use Rattle.olr_map.proofs.Reading.{got_line, line_found}
 use Rattle.olr_map.proofs.LineChanges.{first_entry, first_links, second_entry, second_links, both_turned, list_rises, list_has, line_set, set_line_kept, set_line_made}
+use Rattle.olr_map.specs.Numbering.{held}
 use Rattle.olr_map.proofs.tables.Tables.set_line.Goals as goal
 
 pub set_end-requires : goal.set_end-requires
@@ -43,7 +44,7 @@ pub replace-requires : goal.replace-requires
 replace-requires c =
     let t = c.args.self.now in
     let l = line_found t c.args.id (line_set t c.args.id c.args.line c.requires.can) in
-    ap (λ o. is_some o) (ap (found t.lines) c.number.ensures.same ∙ l.1)
+    ap (λ o. is_some o) (ap (held t.lines) c.number.ensures.same ∙ l.1)
 
 pub invariant_of-self : goal.invariant_of-self
 invariant_of-self c =
@@ -62,7 +63,7 @@ invariant_of-self c =
     let ki = subst (λ e. IsReset u.0.ins u.1 x e) c.far_ends-begins.ensures.begins u.3 in
     let here' : found t.index c.args.line.from ≡ Some p = ap (found t.index) c.requires.can.whole.0 ∙ c.requires.begin in
     let there' : found t.index c.args.line.to ≡ Some q = ap (found t.index) c.requires.can.whole.1 ∙ c.requires.end in
-    let put = subst (λ (n : ℕ). (k : ℕ) → found c.replace.new.self k ≡ cond (n == k) (Some c.args.line) (found t.lines k)) c.number.ensures.same c.replace.ensures.put in
+    let put = subst (λ (n : ℕ). (k : ℕ) → held c.replace.new.self k ≡ cond (n == k) (Some c.args.line) (held t.lines k)) c.number.ensures.same c.replace.ensures.put in
     record { kept = set_line_kept t c.set_end-2.new.self c.replace.new.self x c.args.line l.0 p q w.0.outs w.1 u.0.ins u.1 r here' there' ko ki l.1 put c.requires.can }
 
 pub returns : goal.returns
@@ -82,6 +83,6 @@ returns c =
     let ki = subst (λ e. IsReset u.0.ins u.1 x e) c.far_ends-begins.ensures.begins u.3 in
     let here' : found t.index c.args.line.from ≡ Some p = ap (found t.index) c.requires.can.whole.0 ∙ c.requires.begin in
     let there' : found t.index c.args.line.to ≡ Some q = ap (found t.index) c.requires.can.whole.1 ∙ c.requires.end in
-    let put = subst (λ (n : ℕ). (k : ℕ) → found c.replace.new.self k ≡ cond (n == k) (Some c.args.line) (found t.lines k)) c.number.ensures.same c.replace.ensures.put in
-    let same : l.0 ≡ c.replace.result = same_some _ _ (sym l.1 ∙ ap (found t.lines) (sym c.number.ensures.same) ∙ c.replace.ensures.was) in
+    let put = subst (λ (n : ℕ). (k : ℕ) → held c.replace.new.self k ≡ cond (n == k) (Some c.args.line) (held t.lines k)) c.number.ensures.same c.replace.ensures.put in
+    let same : l.0 ≡ c.replace.result = same_some _ _ (sym l.1 ∙ ap (held t.lines) (sym c.number.ensures.same) ∙ c.replace.ensures.was) in
     rw (← same) (set_line_made t c.set_end-2.new.self c.replace.new.self x c.args.line l.0 p q w.0.outs w.1 u.0.ins u.1 r here' there' ko ki l.1 put c.requires.can _ (c.set_end-2.ensures.room ∙ c.set_end.ensures.room) c.replace.ensures.spare)

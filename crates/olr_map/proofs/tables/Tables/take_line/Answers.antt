@@ -3,10 +3,11 @@ use Rattle.olr_spec.specs.Map.{Line}
 use Rattle.olr_map.specs.ByNumbers.{found}
 use Rattle.olr_map.specs.Changes.{tables_map}
 use Rattle.olr_map.specs.declared.slots.Side.TheVariants.{Out, In}
-use Rattle.olr_map.proofs.Indexing.{same_some}
+use Rattle.olr_map.proofs.Numbering.{same_some}
 use Rattle.olr_map.proofs.Undoing.{record_of}
 use Rattle.olr_map.proofs.Reading.{got_line, line_found}
 use Rattle.olr_map.proofs.LineChanges.{first_entry, first_links, second_entry, second_links, both_turned, list_rises, list_has, line_taken, take_line_kept, take_line_made}
+use Rattle.olr_map.specs.Numbering.{held}
 use Rattle.olr_map.proofs.tables.Tables.take_line.Goals as goal
 
 pub unlink-requires : goal.unlink-requires
@@ -42,7 +43,7 @@ pub take-requires : goal.take-requires
 take-requires c =
     let t = c.args.self.now in
     let l = line_found t c.args.id (line_taken t c.args.id c.requires.can) in
-    ap (λ o. is_some o) (ap (found t.lines) c.number.ensures.same ∙ l.1)
+    ap (λ o. is_some o) (ap (held t.lines) c.number.ensures.same ∙ l.1)
 
 pub invariant_of-self : goal.invariant_of-self
 invariant_of-self c =
@@ -57,7 +58,7 @@ invariant_of-self c =
     let w = c.unlink.ensures.turns in
     let u = c.unlink-2.ensures.turns in
     let r = both_turned t l.0.from p here c.unlink.new.self w.0 w.1 w.2 l.0.to q there c.unlink-2.new.self u.0 u.1 u.2 in
-    let taken = subst (λ (n : ℕ). (k : ℕ) → found c.take.new.self k ≡ cond (n == k) None (found t.lines k)) c.number.ensures.same c.take.ensures.taken in
+    let taken = subst (λ (n : ℕ). (k : ℕ) → held c.take.new.self k ≡ cond (n == k) None (held t.lines k)) c.number.ensures.same c.take.ensures.taken in
     record { kept = take_line_kept t c.unlink-2.new.self c.take.new.self x l.0 w.0.outs w.1 u.0.ins u.1 r w.3 u.3 l.1 taken c.requires.can }
 
 pub returns : goal.returns
@@ -73,6 +74,6 @@ returns c =
     let w = c.unlink.ensures.turns in
     let u = c.unlink-2.ensures.turns in
     let r = both_turned t l.0.from p here c.unlink.new.self w.0 w.1 w.2 l.0.to q there c.unlink-2.new.self u.0 u.1 u.2 in
-    let taken = subst (λ (n : ℕ). (k : ℕ) → found c.take.new.self k ≡ cond (n == k) None (found t.lines k)) c.number.ensures.same c.take.ensures.taken in
-    let same : l.0 ≡ c.take.result = same_some _ _ (sym l.1 ∙ ap (found t.lines) (sym c.number.ensures.same) ∙ c.take.ensures.was) in
+    let taken = subst (λ (n : ℕ). (k : ℕ) → held c.take.new.self k ≡ cond (n == k) None (held t.lines k)) c.number.ensures.same c.take.ensures.taken in
+    let same : l.0 ≡ c.take.result = same_some _ _ (sym l.1 ∙ ap (held t.lines) (sym c.number.ensures.same) ∙ c.take.ensures.was) in
     rw (← same) (take_line_made t c.unlink-2.new.self c.take.new.self x l.0 w.0.outs w.1 u.0.ins u.1 r w.3 u.3 l.1 taken c.requires.can _ (c.unlink-2.ensures.room ∙ c.unlink.ensures.room) c.take.ensures.spare)

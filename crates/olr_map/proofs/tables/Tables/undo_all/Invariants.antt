@@ -2,6 +2,7 @@ use Rattle.std.proofs.Common.{◌≡◌, ◌≤◌, reverse, vec_len}
 use Rattle.olr_map.specs.ByNumbers.{spare_of}
 use Rattle.olr_map.specs.Changes.{tables_map, room_of, all_node_puts, all_line_puts}
 use Rattle.olr_map.specs.Undos.{CanMakeAll, made_all}
+use Rattle.olr_map.specs.Numbering.{spare_numbers}
 use Rattle.olr_map.proofs.tables.Tables.undo_all.Given as goal
 
 -- what is left of the log can be taken back, and leads to the same map
@@ -10,7 +11,7 @@ invariant-loop-change l =
     record {
       can : CanMakeAll (tables_map l.self) (room_of l.self) (reverse l.changes.items);
       nodes : all_node_puts (reverse l.changes.items) ≤ spare_of l.self.index;
-      lines : all_line_puts (reverse l.changes.items) ≤ spare_of l.self.lines;
+      lines : all_line_puts (reverse l.changes.items) ≤ spare_numbers l.self.lines;
       before : made_all (tables_map l.self) (reverse l.changes.items) ≡ made_all (tables_map l.initial.self) (reverse l.initial.changes.items);
     }
 

@@ -1,9 +1,10 @@
 use Rattle.std.proofs.Common.{sym, ap, ◌∙◌}
 use Rattle.olr_map.specs.ByNumbers.{found}
 use Rattle.olr_map.proofs.Reading.{got_line}
+use Rattle.olr_map.specs.Numbering.{held}
 use Rattle.olr_map.proofs.tables.TablesMapRead.line.Goals as goal
 
 pub returns : goal.returns
 returns c =
     let t = c.args.self.now in
-    c.get.ensures ∙ ap (found t.lines) c.number.ensures.same ∙ sym (got_line t c.args.id)
+    c.get.ensures ∙ ap (held t.lines) c.number.ensures.same ∙ sym (got_line t c.args.id)

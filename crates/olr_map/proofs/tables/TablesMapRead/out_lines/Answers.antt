@@ -10,13 +10,13 @@ pub entry-requires : goal.entry-requires
 entry-requires c =
     let t = c.args.self.now in
     let here = ap (found t.index) (sym c.number.ensures.same) ∙ sym c.in-Some.ensures in
-    ap (λ o. is_some o) (entry_of t.index (slots_of t.nodes) t.kept.indexed c.args.id c.in-Some.slot.now here).1
+    ap (λ o. is_some o) (entry_of t.index (slots_of t.nodes) t.kept.indexed c.args.id c.in-Some.slot here).1
 
 pub returns-in-Some : goal.returns-in-Some
 returns-in-Some c =
     let t = c.args.self.now in
     let here = ap (found t.index) (sym c.number.ensures.same) ∙ sym c.in-Some.ensures in
-    c.lines.ensures ∙ (listed_at t Out c.args.id c.in-Some.slot.now c.entry.result.now here c.entry.ensures).numbers
+    c.lines.ensures ∙ (listed_at t Out c.args.id c.in-Some.slot c.entry.result.now here c.entry.ensures).numbers
 
 pub returns-in-None : goal.returns-in-None
 returns-in-None c =

@@ -6,4 +6,4 @@ use Rattle.olr_map.proofs.tables.TablesMapRead.place_of.Goals as goal
 pub returns : goal.returns
 returns c =
     let t = c.args.self.now in
-    place_found t c.args.id _ (c.copied.ensures ∙ c.get.ensures ∙ ap (found t.index) c.number.ensures.same)
+    place_found t c.args.id _ (c.get.ensures ∙ ap (found t.index) c.number.ensures.same)

@@ -1,0 +1,117 @@
+-- Slots in blocks: what a block with another slot makes of them, and how they stand in a list.
+use Rattle.std.proofs.Common.{◌≡◌, ◌==◌, ℕ, ◌+◌, ◌-◌, ◌*◌, ◌/◌, ◌%◌, ◌<◌, ◌≤◌, zero, suc, Bool, true, false, cond, List, [], ◌∷◌, ◌++◌, Option, Some, None, length, slice_index, refl, sym, ap, ◌∙◌, inl, inr, arith, eqb-true}
+use Rattle.std.specs.List.{AllByRecursion, IsDistinct}
+use Rattle.std.specs.Map.{lookup, keys_of}
+use Rattle.std.proofs.lemmas.Bool.{cases_eq, cases_order, eq-eqb, ne_eqb}
+use Rattle.std.proofs.lemmas.Map.Keys.{IsDistinct-head, IsDistinct-tail}
+use Rattle.std.proofs.lemmas.Nat.{div-add-mod'}
+use Rattle.std.proofs.Math.Nat.{mod-lt}
+use Rattle.olr_map.specs.Blocked.{told, slot_at, slot_in, found_in, from, all_in}
+use Rattle.olr_map.specs.ByNumbers.{entries_of, found}
+use Rattle.olr_map.specs.declared.blocks.Block.{Block}
+use Rattle.olr_map.specs.declared.by_number.ByNumber.{ByNumber}
+use Rattle.olr_map.specs.declared.by_number.ByNumber.TheVariants.{Hashed, Listed}
+use Rattle.olr_map.proofs.Looks.{eqb_flip}
+use Rattle.olr_map.proofs.SlotLemmas.{none_above}
+
+-- ---- a number is its block and its place there
+
+same_number : (n k : ℕ) → n / 8 ≡ k / 8 → n % 8 ≡ k % 8 → n ≡ k
+same_number n k e f = let a = div-add-mod' n 8 in let b = div-add-mod' k 8 in omega arith
+
+same_place : (n k : ℕ) → n / 8 ≡ k / 8 → (n % 8 == k % 8) ≡ (n == k)
+same_place n k e =
+    elim (cases_eq n k) [
+      | inl is ↦ eq-eqb (n % 8) (k % 8) (ap (λ m. m % 8) is) ∙ sym (eq-eqb n k is)
+      | inr ne ↦ ne_eqb (n % 8) (k % 8) (λ f. ne (same_number n k e f)) ∙ sym (ne_eqb n k ne)
+    ]
+
+-- ---- another block at a number's key
+
+module _ (old new : List (ℕ × Block)) (n : ℕ) (o : Option Block) (w : Option ℕ) (now : (q : ℕ) → lookup (λ p. q == p) new ≡ cond (n / 8 == q) o (lookup (λ p. q == p) old))
+    (here : (i : ℕ) → slot_in o i ≡ cond (n % 8 == i) w (slot_in (lookup (λ p. n / 8 == p) old) i)) where
+  pub block_changed : (k : ℕ) → found_in new k ≡ cond (n == k) w (found_in old k)
+  block_changed k =
+      ap (λ b. slot_in b (k % 8)) (now (k / 8))
+      ∙ elim (n / 8 == k / 8) as (λ t. (n / 8 == k / 8) ≡ t → slot_in (cond t o (lookup (λ p. k / 8 == p) old)) (k % 8) ≡ cond (n == k) w (found_in old k)) [
+        | true ↦ λ e.
+            let is : n / 8 ≡ k / 8 = eqb-true (n / 8) (k / 8) e in
+            here (k % 8) ∙ ap (λ (t : Bool). cond t w (slot_in (lookup (λ p. n / 8 == p) old) (k % 8))) (same_place n k is)
+            ∙ ap (λ q. cond (n == k) w (slot_in (lookup (λ p. q == p) old) (k % 8))) is
+        | false ↦ λ e.
+            let ne : (n == k) ≡ false = ne_eqb n k (λ is. let same = eq-eqb (n / 8) (k / 8) (ap (λ m. m / 8) is) in cc) in
+            ap (λ (t : Bool). cond t w (found_in old k)) (sym ne)
+      ] refl
+
+-- a block that is written and then goes
+pub gone_again : {A : Type 0} (t : Bool) (o p : Option A) → cond t None (cond t o p) ≡ cond t None p
+gone_again true o p = refl
+gone_again false o p = refl
+
+-- ---- as a list
+
+lookup_both : {X : Type 0} (k : ℕ) (xs ys : List (ℕ × X)) (x : Option X) → lookup (λ q. k == q) xs ≡ x → (x ≡ None → lookup (λ q. k == q) ys ≡ None) → lookup (λ q. k == q) (xs ++ ys) ≡ x
+lookup_both k [] ys x h none = none (sym h) ∙ h
+lookup_both k (e ∷ xs) ys x h none =
+    elim (k == e.0) as (λ t. cond t (Some e.1) (lookup (λ q. k == q) xs) ≡ x → cond t (Some e.1) (lookup (λ q. k == q) (xs ++ ys)) ≡ x) [
+      | true ↦ λ g. g
+      | false ↦ λ g. lookup_both k xs ys x g none
+    ] h
+
+pub lookup_second : {X : Type 0} (k : ℕ) (xs ys : List (ℕ × X)) → lookup (λ q. k == q) xs ≡ None → lookup (λ q. k == q) (xs ++ ys) ≡ lookup (λ q. k == q) ys
+lookup_second k [] ys h = refl
+lookup_second k (e ∷ xs) ys h =
+    elim (k == e.0) as (λ t. cond t (Some e.1) (lookup (λ q. k == q) xs) ≡ None → cond t (Some e.1) (lookup (λ q. k == q) (xs ++ ys)) ≡ lookup (λ q. k == q) ys) [
+      | true ↦ λ g. absurd cc
+      | false ↦ λ g. lookup_second k xs ys g
+    ] h
+
+-- a number below the first has no slot there
+below : (n : ℕ) (xs : List ℕ) (k : ℕ) → k < n → lookup (λ q. k == q) (from n xs) ≡ None
+below n [] k lt = refl
+below n (zero ∷ xs) k lt = below (suc n) xs k (omega arith)
+below n (suc p ∷ xs) k lt = ap (λ (t : Bool). cond t (Some p) (lookup (λ q. k == q) (from (suc n) xs))) (ne_eqb k n (λ e. omega arith)) ∙ below (suc n) xs k (omega arith)
+
+within : (n : ℕ) (xs : List ℕ) (i k : ℕ) → k ≡ n + i → lookup (λ q. k == q) (from n xs) ≡ told (slice_index xs i)
+within n [] i k e = refl
+within n (zero ∷ xs) zero k e = below (suc n) xs k (omega arith)
+within n (suc p ∷ xs) zero k e = ap (λ (t : Bool). cond t (Some p) (lookup (λ q. k == q) (from (suc n) xs))) (eq-eqb k n (omega arith))
+within n (zero ∷ xs) (suc i) k e = within (suc n) xs i k (omega arith)
+within n (suc p ∷ xs) (suc i) k e =
+    ap (λ (t : Bool). cond t (Some p) (lookup (λ q. k == q) (from (suc n) xs))) (ne_eqb k n (λ is. omega arith)) ∙ within (suc n) xs i k (omega arith)
+
+-- a number of another block has no slot in this one
+outside : (b : ℕ × Block) (k : ℕ) → (k / 8 == b.0) ≡ false → lookup (λ q. k == q) (from (b.0 * 8) b.1.slots) ≡ None
+outside b k ne =
+    let whole = div-add-mod' k 8 in
+    let rest : k % 8 < 8 = mod-lt k (omega arith) in
+    let long = b.1.eight in
+    elim (cases_order (k / 8) b.0) [
+      | inl is ↦ let e = eq-eqb (k / 8) b.0 is in absurd cc
+      | inr o ↦ elim o [
+        | inl low ↦ below (b.0 * 8) b.1.slots k (omega arith)
+        | inr high ↦ within (b.0 * 8) b.1.slots (k - b.0 * 8) k (omega arith) ∙ ap told (none_above b.1.slots (k - b.0 * 8) 0 (omega arith))
+      ]
+    ]
+
+no_key : (bs : List (ℕ × Block)) (q : ℕ) → AllByRecursion (λ (y : ℕ). (q == y) ≡ false) (keys_of bs) → lookup (λ p. q == p) bs ≡ None
+no_key [] q h = refl
+no_key (b ∷ bs) q h = ap (λ (t : Bool). cond t (Some b.1) (lookup (λ p. q == p) bs)) h.0 ∙ no_key bs q h.1
+
+pub all_listed : (bs : List (ℕ × Block)) (k : ℕ) → IsDistinct ◌==◌ (keys_of bs) → lookup (λ q. k == q) (all_in bs) ≡ found_in bs k
+all_listed [] k apart = refl
+all_listed (b ∷ bs) k apart =
+    let later = all_listed bs k (IsDistinct-tail ◌==◌ b.0 (keys_of bs) apart) in
+    elim (k / 8 == b.0) as (λ t. (k / 8 == b.0) ≡ t → lookup (λ q. k == q) (from (b.0 * 8) b.1.slots ++ all_in bs) ≡ slot_in (cond t (Some b.1) (lookup (λ q. k / 8 == q) bs)) (k % 8)) [
+      | true ↦ λ e.
+          let is : k / 8 ≡ b.0 = eqb-true (k / 8) b.0 e in
+          let whole = div-add-mod' k 8 in
+          let none : lookup (λ q. k / 8 == q) bs ≡ None = ap (λ n. lookup (λ q. n == q) bs) is ∙ no_key bs b.0 (IsDistinct-head ◌==◌ b.0 (keys_of bs) apart) in
+          lookup_both k (from (b.0 * 8) b.1.slots) (all_in bs) (slot_at b.1 (k % 8)) (within (b.0 * 8) b.1.slots (k % 8) k (omega arith))
+          (λ _. later ∙ ap (λ o. slot_in o (k % 8)) none)
+      | false ↦ λ e. lookup_second k (from (b.0 * 8) b.1.slots) (all_in bs) (outside b k e) ∙ later
+    ] refl
+
+pub listed_found : (b : ByNumber) (k : ℕ) → lookup (λ q. k == q) (entries_of b) ≡ found b k
+listed_found (Hashed bs) k = all_listed bs.blocks.entries k bs.apart
+listed_found (Listed l) k = refl

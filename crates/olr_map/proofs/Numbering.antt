@@ -1,0 +1,188 @@
+-- Numbers with slots: what a thing that comes, goes or changes makes of them, and the things as a list.
+use Rattle.std.proofs.Common.{◌≡◌, ◌==◌, ℕ, Bool, true, false, cond, List, [], ◌∷◌, ◌++◌, Option, Some, None, is_some, IsSome, refl, sym, ap, ◌∙◌, subst, eqb-true}
+use Rattle.std.specs.Map.{lookup}
+use Rattle.std.specs.FinMap.{get}
+use Rattle.std.proofs.lemmas.Bool.{eq-eqb, ne_eqb}
+use Rattle.olr_map.specs.ByNumbers.{entries_of, found}
+use Rattle.olr_map.specs.Slotted.{at, Comes, Goes, Turns}
+use Rattle.olr_map.specs.Slabs.{slots_of}
+use Rattle.olr_map.specs.HavingSlots.{in_slot, HaveSlots}
+use Rattle.olr_map.specs.Numbering.{thing, things_in, held, things_of, all_held}
+use Rattle.olr_map.specs.declared.by_number.ByNumber.{ByNumber}
+use Rattle.olr_map.specs.declared.numbered.Numbered.{Numbered}
+use Rattle.olr_map.proofs.Lookups.{all_get}
+use Rattle.olr_map.proofs.Blocking.{lookup_second, listed_found}
+
+pub same_some : {A : Type 0} (x y : A) → ◌≡◌ {A = Option A} (Some x) (Some y) → x ≡ y
+same_some x y e = cc
+
+pub some_of : {A : Type 0} (o : Option A) → IsSome o → (x : A) × (o ≡ Some x)
+some_of None h = absurd cc
+some_of (Some x) h = (x, refl)
+
+module _ {X : Type 0} (b : ByNumber) (es : List (Option X)) (s : HaveSlots b es) where
+  -- what stands in the slot of a number
+  pub standing : (v p : ℕ) → found b v ≡ Some p → (e : X) × (at es p ≡ Some e)
+  standing v p h = some_of (at es p) (s.stands v p h)
+
+  -- a number with nothing in its slot has no slot
+  pub no_slot : (v : ℕ) → in_slot es (found b v) ≡ None → found b v ≡ None
+  no_slot v h = step (found b v) refl where
+    step : (o : Option ℕ) → found b v ≡ o → o ≡ None
+    step None e = refl
+    step (Some p) e = let x = standing v p e in let never : ◌≡◌ {A = Option X} None (Some x.0) = sym h ∙ ap (in_slot es) e ∙ x.1 in absurd cc
+
+  -- a number with something in its slot has one
+  pub has_slot : (v : ℕ) → IsSome (in_slot es (found b v)) → (p : ℕ) × (found b v ≡ Some p)
+  has_slot v h = step (found b v) refl where
+    step : (o : Option ℕ) → found b v ≡ o → (p : ℕ) × (found b v ≡ Some p)
+    step None e = let never : is_some (in_slot es (found b v)) ≡ false = ap (λ o. is_some (in_slot es o)) e in absurd cc
+    step (Some p) e = (p, e)
+
+  -- ---- another thing for a number
+
+  module _ (es' : List (Option X)) (p v : ℕ) (e f : X) (t : Turns es es' p e f) (here : found b v ≡ Some p) where
+    pub turned_held : (k : ℕ) → in_slot es' (found b k) ≡ cond (v == k) (Some f) (in_slot es (found b k))
+    turned_held k = step (found b k) refl where
+      step : (o : Option ℕ) → found b k ≡ o → in_slot es' o ≡ cond (v == k) (Some f) (in_slot es o)
+      step None h =
+          let ne : (v == k) ≡ false = ne_eqb v k (λ i. let never = sym here ∙ ap (found b) i ∙ h in cc) in
+          ap (λ (c : Bool). cond c (Some f) None) (sym ne)
+      step (Some q) h =
+          t.now q ∙ ap (λ (c : Bool). cond c (Some f) (at es q)) (both q h) where
+            both : (q : ℕ) → found b k ≡ Some q → (p == q) ≡ (v == k)
+            both q h =
+                elim (v == k) as (λ c. (v == k) ≡ c → (p == q) ≡ c) [
+                  | true ↦ λ i. eq-eqb p q (same_some _ _ (sym here ∙ ap (found b) (eqb-true v k i) ∙ h))
+                  | false ↦ λ i. ne_eqb p q (λ j. let is = eq-eqb v k (s.apart v k q (here ∙ ap (λ n. Some n) j) h) in cc)
+                ] refl
+
+    pub turned_slots : HaveSlots b es'
+    turned_slots =
+        record {
+          stands = λ k q h. ap (λ o. is_some o) (t.now q) ∙ elim (p == q) as (λ c. is_some (cond c (Some f) (at es q)) ≡ true) [ true ↦ refl | false ↦ s.stands k q h ];
+          apart = s.apart;
+        }
+
+  -- ---- a thing that comes
+
+  module _ (b' : ByNumber) (es' : List (Option X)) (p v : ℕ) (e : X) (c : Comes es es' p e) (put : (k : ℕ) → found b' k ≡ cond (v == k) (Some p) (found b k)) where
+    -- another number's slot is another one
+    pub other_slot : (k q : ℕ) → found b k ≡ Some q → (p == q) ≡ false
+    other_slot k q h = ne_eqb p q (λ i. let x = standing k q h in let never : None ≡ Some x.0 = sym c.was ∙ ap (at es) i ∙ x.1 in cc)
+
+    pub stays : (k q : ℕ) → found b k ≡ Some q → at es' q ≡ at es q
+    stays k q h = c.now q ∙ ap (λ (t : Bool). cond t (Some e) (at es q)) (other_slot k q h)
+
+    pub arrives : at es' p ≡ Some e
+    arrives = c.now p ∙ ap (λ (t : Bool). cond t (Some e) (at es p)) (eq-eqb p p refl)
+
+    pub came_held : (k : ℕ) → in_slot es' (found b' k) ≡ cond (v == k) (Some e) (in_slot es (found b k))
+    came_held k =
+        ap (in_slot es') (put k)
+        ∙ elim (v == k) as (λ t. in_slot es' (cond t (Some p) (found b k)) ≡ cond t (Some e) (in_slot es (found b k))) [
+          | true ↦ arrives
+          | false ↦ rest (found b k) refl
+        ] where
+          rest : (o : Option ℕ) → found b k ≡ o → in_slot es' o ≡ in_slot es o
+          rest None h = refl
+          rest (Some q) h = stays k q h
+
+    -- a number's slot is the one that came, or the one that it had
+    came_from : (k q : ℕ) → found b' k ≡ Some q → (A : Type 0) → ((v == k) ≡ true → p ≡ q → A) → (found b k ≡ Some q → A) → A
+    came_from k q h A new old =
+        elim (v == k) as (λ t. (v == k) ≡ t → cond t (Some p) (found b k) ≡ Some q → A) [
+          | true ↦ λ i g. new i (same_some _ _ g)
+          | false ↦ λ i g. old g
+        ] refl (sym (put k) ∙ h)
+
+    pub came_slots : HaveSlots b' es'
+    came_slots =
+        record {
+          stands = λ k q h.
+              came_from k q h (IsSome (at es' q)) (λ i is. ap (λ n. is_some (at es' n)) (sym is) ∙ ap (λ o. is_some o) arrives)
+              (λ g. ap (λ o. is_some o) (stays k q g) ∙ s.stands k q g);
+          apart = λ j k q h g.
+              came_from j q h (j ≡ k)
+              (λ i is. came_from k q g (j ≡ k) (λ i' is'. sym (eqb-true v j i) ∙ eqb-true v k i') (λ old. let ne = other_slot k q old in let e = eq-eqb p q is in absurd cc))
+              (λ old. came_from k q g (j ≡ k) (λ i is. let ne = other_slot j q old in let e = eq-eqb p q is in absurd cc) (λ old'. s.apart j k q old old'));
+        }
+
+  -- ---- a thing that goes
+
+  module _ (b' : ByNumber) (es' : List (Option X)) (p v : ℕ) (e : X) (g : Goes es es' p e) (here : found b v ≡ Some p) (taken : (k : ℕ) → found b' k ≡ cond (v == k) None (found b k)) where
+    pub remains : (k q : ℕ) → (v == k) ≡ false → found b k ≡ Some q → at es' q ≡ at es q
+    remains k q ne h =
+        let apart : (p == q) ≡ false = ne_eqb p q (λ i. let is = eq-eqb v k (s.apart v k q (here ∙ ap (λ n. Some n) i) h) in cc) in
+        g.now q ∙ ap (λ (t : Bool). cond t None (at es q)) apart
+
+    pub gone_held : (k : ℕ) → in_slot es' (found b' k) ≡ cond (v == k) None (in_slot es (found b k))
+    gone_held k =
+        ap (in_slot es') (taken k)
+        ∙ elim (v == k) as (λ t. (v == k) ≡ t → in_slot es' (cond t None (found b k)) ≡ cond t None (in_slot es (found b k))) [
+          | true ↦ λ i. refl
+          | false ↦ λ i. rest i (found b k) refl
+        ] refl where
+          rest : (v == k) ≡ false → (o : Option ℕ) → found b k ≡ o → in_slot es' o ≡ in_slot es o
+          rest i None h = refl
+          rest i (Some q) h = remains k q i h
+
+    -- a number that has a slot is another one, and had it
+    left : (k q : ℕ) → found b' k ≡ Some q → ((v == k) ≡ false) × (found b k ≡ Some q)
+    left k q h =
+        elim (v == k) as (λ t. (v == k) ≡ t → cond t None (found b k) ≡ Some q → ((v == k) ≡ false) × (found b k ≡ Some q)) [
+          | true ↦ λ i j. absurd cc
+          | false ↦ λ i j. (i, j)
+        ] refl (sym (taken k) ∙ h)
+
+    pub gone_slots : HaveSlots b' es'
+    gone_slots =
+        record {
+          stands = λ k q h. let l = left k q h in ap (λ o. is_some o) (remains k q l.0 l.1) ∙ s.stands k q l.1;
+          apart = λ j k q h i. s.apart j k q (left j q h).1 (left k q i).1;
+        }
+
+-- ---- the same slots, told by another index
+
+pub same_slots : {X : Type 0} (b b' : ByNumber) (es : List (Option X)) → ((k : ℕ) → found b' k ≡ found b k) → HaveSlots b es → HaveSlots b' es
+same_slots b b' es same s = record { stands = λ v p h. s.stands v p (sym (same v) ∙ h); apart = λ v w p h i. s.apart v w p (sym (same v) ∙ h) (sym (same w) ∙ i) }
+
+-- ---- as a list
+
+module _ {X : Type 0} where
+  no_thing : (j k : ℕ) (o : Option X) → (k == j) ≡ false → lookup (λ q. k == q) (thing j o) ≡ None
+  no_thing j k None ne = refl
+  no_thing j k (Some x) ne = ap (λ (t : Bool). cond t (Some x) None) ne
+
+  the_thing : (j k : ℕ) (o : Option X) (rest : List (ℕ × X)) → (k == j) ≡ true → IsSome o → lookup (λ q. k == q) (thing j o ++ rest) ≡ o
+  the_thing j k None rest is h = absurd cc
+  the_thing j k (Some x) rest is h = ap (λ (t : Bool). cond t (Some x) (lookup (λ q. k == q) rest)) is
+
+  things_held : (es : List (Option X)) (ns : List (ℕ × ℕ)) (k : ℕ) → ((p : ℕ) → lookup (λ q. k == q) ns ≡ Some p → IsSome (at es p))
+      → lookup (λ q. k == q) (things_in es ns) ≡ in_slot es (lookup (λ q. k == q) ns)
+  things_held es [] k h = refl
+  things_held es (n ∷ ns) k h =
+      elim (k == n.0) as (λ t. (k == n.0) ≡ t → lookup (λ q. k == q) (thing n.0 (at es n.1) ++ things_in es ns) ≡ in_slot es (cond t (Some n.1) (lookup (λ q. k == q) ns))) [
+        | true ↦ λ e. the_thing n.0 k (at es n.1) (things_in es ns) e (h n.1 (ap (λ (t : Bool). cond t (Some n.1) (lookup (λ q. k == q) ns)) e))
+        | false ↦ λ e.
+            lookup_second k (thing n.0 (at es n.1)) (things_in es ns) (no_thing n.0 k (at es n.1) e)
+            ∙ things_held es ns k (λ p g. h p (ap (λ (t : Bool). cond t (Some n.1) (lookup (λ q. k == q) ns)) e ∙ g))
+      ] refl
+
+  pub things_found : (n : Numbered X) (k : ℕ) → lookup (λ q. k == q) (things_of n) ≡ held n k
+  things_found n k =
+      things_held (slots_of n.slab) (entries_of n.index) k (λ p h. n.kept.stands k p (sym (listed_found n.index k) ∙ h))
+      ∙ ap (in_slot (slots_of n.slab)) (listed_found n.index k)
+
+  pub held_get : (n : Numbered X) (k : ℕ) → get (all_held n) k ≡ held n k
+  held_get n k = all_get (things_of n) k ∙ things_found n k
+
+-- ---- no numbers
+
+pub no_numbers : {X : Type 0} (b : ByNumber) (es : List (Option X)) → entries_of b ≡ [] → HaveSlots b es
+no_numbers b es e = record { stands = λ v p h. absurd (never v p h); apart = λ v w p h i. absurd (never v p h) } where
+  none : (v : ℕ) → found b v ≡ None
+  none v = sym (listed_found b v) ∙ ap (lookup (λ q. v == q)) e
+
+  never : (v p : ℕ) → found b v ≡ Some p → ⊥
+  never v p h = let no : None ≡ Some p = sym (none v) ∙ h in cc

@@ -1,0 +1,25 @@
+use Rattle.std.proofs.Common.{sym, ap, ◌∙◌, ◌==◌, ◌/◌, ◌%◌, Some, None, cond, is_some}
+use Rattle.std.specs.Map.{lookup}
+use Rattle.std.proofs.lemmas.Bool.{OnTrue_at}
+use Rattle.olr_map.specs.Blocked.{slot_in}
+use Rattle.olr_map.proofs.Blocking.{block_changed, gone_again}
+use Rattle.olr_map.proofs.blocks.Blocks.take.Goals as goal
+
+pub returns-then-is_empty-clause-taken : goal.returns-then-is_empty-clause-taken
+returns-then-is_empty-clause-taken c =
+    let bs = c.args.self.now.blocks.entries in
+    let n = c.args.number in
+    let w = c.get_mut.follows.holds c.take-slot.new.self in
+    let here = c.in-Some.ensures.value in
+    block_changed bs c.remove.new.self.entries n None None
+    (λ q.
+    c.remove.ensures.updates.0 q ∙ ap (cond (n / 8 == q) None) ((w.3 (ap (λ o. is_some o) (sym here))).0 q)
+    ∙ gone_again (n / 8 == q) (Some c.take-slot.new.self) (lookup (λ p. q == p) bs))
+    (λ i. sym (OnTrue_at c.if-is_empty.true c.is_empty.ensures i) ∙ c.take-slot.ensures.taken i ∙ ap (λ o. cond (n % 8 == i) None (slot_in o i)) here)
+
+pub returns-else-is_empty-clause-taken : goal.returns-else-is_empty-clause-taken
+returns-else-is_empty-clause-taken c =
+    let w = c.get_mut.follows.holds c.take-slot.new.self in
+    let here = c.in-Some.ensures.value in
+    block_changed c.args.self.now.blocks.entries _ c.args.number (Some c.take-slot.new.self) None (w.3 (ap (λ o. is_some o) (sym here))).0
+    (λ i. c.take-slot.ensures.taken i ∙ ap (λ o. cond (c.args.number % 8 == i) None (slot_in o i)) here)

@@ -1,0 +1,31 @@
+-- Slots of numbers, in blocks of eight neighbours.
+--     told n      the slot that a place of a block tells: the number before n;  0 tells none
+--     slot_at b i, slot_in o i      the slot in place i of a block, which may be missing
+--     found_in bs k      the slot of number k: block k / 8, place k % 8
+--     from n xs, all_in bs      the numbers that have slots, with them: in places from number n on;  in all blocks
+use Rattle.std.specs.Prelude.{ℕ, zero, suc, ◌*◌, ◌/◌, ◌%◌, ◌==◌, List, [], ◌∷◌, ◌++◌, Option, Some, None, slice_index}
+use Rattle.std.specs.Map.{lookup}
+use Rattle.olr_map.specs.declared.blocks.Block.{Block}
+
+abbrev pub told : ℕ → Option ℕ
+told zero = None
+told (suc p) = Some p
+
+abbrev pub slot_at : Block → ℕ → Option ℕ
+slot_at b i = told (slice_index b.slots i)
+
+abbrev pub slot_in : Option Block → ℕ → Option ℕ
+slot_in None i = None
+slot_in (Some b) i = slot_at b i
+
+abbrev pub found_in : List (ℕ × Block) → ℕ → Option ℕ
+found_in bs k = slot_in (lookup (λ q. k / 8 == q) bs) (k % 8)
+
+abbrev pub from : ℕ → List ℕ → List (ℕ × ℕ)
+from n [] = []
+from n (zero ∷ xs) = from (suc n) xs
+from n (suc p ∷ xs) = (n, p) ∷ from (suc n) xs
+
+abbrev pub all_in : List (ℕ × Block) → List (ℕ × ℕ)
+all_in [] = []
+all_in (b ∷ bs) = from (b.0 * 8) b.1.slots ++ all_in bs

@@ -1,0 +1,21 @@
+-- Numbers that have slots.
+--     in_slot es o      what stands in the slot, if there is one
+--     HaveSlots b es      something stands in the slot of each number, and no two have one slot
+use Rattle.std.specs.Prelude.{◌≡◌, ℕ, List, Option, Some, None, IsSome}
+use Rattle.std.specs.Coded.{Coded-set, coded_ℕ}
+use Rattle.std.proofs.Props.{props}
+use Rattle.olr_map.specs.ByNumbers.{found}
+use Rattle.olr_map.specs.Slotted.{at}
+use Rattle.olr_map.specs.declared.by_number.ByNumber.{ByNumber}
+
+module _ {X : Type 0} where
+  abbrev pub in_slot : List (Option X) → Option ℕ → Option X
+  in_slot es None = None
+  in_slot es (Some p) = at es p
+
+  pub record HaveSlots (b : ByNumber) (es : List (Option X)) : Type 0 where
+    pub stands : (v p : ℕ) → found b v ≡ Some p → IsSome (at es p)
+    pub apart : (v w p : ℕ) → found b v ≡ Some p → found b w ≡ Some p → v ≡ w
+
+  pub HaveSlots-prop : (b : ByNumber) (es : List (Option X)) → IsProp (HaveSlots b es)
+  HaveSlots-prop b es = hlevel (props, Coded-set coded_ℕ)

@@ -1,0 +1,34 @@
+-- Things by number, in slots.
+--     held n k      the thing with number k
+--     things_of n, all_held n      the numbers with their things;  the same as a finite map
+--     spare_numbers n      how many more there is room for
+use Rattle.std.specs.Prelude.{ℕ, min, List, [], ◌∷◌, ◌++◌, Option, Some, None}
+use Rattle.std.specs.FinMap.{FinMap, from_entries}
+use Rattle.std.specs.Ordering.{nat_cmp}
+use Rattle.olr_map.specs.ByNumbers.{entries_of, found, spare_of}
+use Rattle.olr_map.specs.Slotted.{at}
+use Rattle.olr_map.specs.Slabs.{slots_of, room_in}
+use Rattle.olr_map.specs.HavingSlots.{in_slot}
+use Rattle.olr_map.specs.declared.numbered.Numbered.{Numbered}
+
+module _ {X : Type 0} where
+  -- the number with what stands in its slot
+  abbrev pub thing : ℕ → Option X → List (ℕ × X)
+  thing k None = []
+  thing k (Some x) = (k, x) ∷ []
+
+  abbrev pub things_in : List (Option X) → List (ℕ × ℕ) → List (ℕ × X)
+  things_in es [] = []
+  things_in es (e ∷ ns) = thing e.0 (at es e.1) ++ things_in es ns
+
+  abbrev pub held : Numbered X → ℕ → Option X
+  held n k = in_slot (slots_of n.slab) (found n.index k)
+
+  abbrev pub things_of : Numbered X → List (ℕ × X)
+  things_of n = things_in (slots_of n.slab) (entries_of n.index)
+
+  abbrev pub all_held : Numbered X → FinMap nat_cmp X
+  all_held n = from_entries (things_of n)
+
+  unfoldable pub spare_numbers : Numbered X → ℕ
+  spare_numbers n = min (spare_of n.index) (room_in n.slab)

@@ -1,0 +1,96 @@
+//! Things by number, each in a slot of its own.
+ghost use Rattle.std.specs.Prelude.{◌≡◌, ◌==◌, ◌+◌, ◌≤◌, ◌<◌, ℕ, [], cond, Some, None, IsSome, OnOk};
+ghost use Rattle.std.specs.Option.{option_copied};
+ghost use Rattle.olr_map.specs.HavingSlots.{HaveSlots, HaveSlots-prop};
+
+use crate::by_number::ByNumber;
+use crate::slab::Slab;
+use std::alloc::{AllocError, Global};
+
+/// Things by number, one for each at most: the slots of the numbers, and the things in them.
+#[derive(Drop, Debug)]
+pub struct Numbered<V> {
+    pub index: ByNumber,
+    pub slab: Slab<V>,
+    ghost kept: { HaveSlots index slab.entries.items } by { HaveSlots-prop index slab.entries.items },
+}
+
+#[tactic(auto, unfolding(crate::specs::Numbering::spare_numbers))]
+impl<V: Drop> Numbered<V> {
+    ghost use Rattle.olr_map.specs.Numbering.{things_of, held, spare_numbers};
+
+    /// No things, to be found by hash. Takes no memory.
+    pub fn hashed(alloc: Global) -> Numbered<V>
+        ensures { things_of result ≡ [] }
+    {
+        Numbered {
+            index: ByNumber::hashed(alloc),
+            slab: Slab::new(alloc),
+        }
+    }
+
+    /// No things, to be found by search from the front. Takes no memory.
+    pub fn listed(alloc: Global) -> Numbered<V>
+        ensures { things_of result ≡ [] }
+    {
+        Numbered {
+            index: ByNumber::listed(alloc),
+            slab: Slab::new(alloc),
+        }
+    }
+
+    /// The thing with this number.
+    pub fn get(&self, number: u32) -> Option<&V>
+        ensures { option_copied result ≡ held self.now number }
+    {
+        match self.index.get(number) {
+            Some(slot) => Some(self.slab.entry(slot)),
+            None => None,
+        }
+    }
+
+    /// Makes room for so many more things.
+    pub fn reserve(&mut self, additional: usize) -> Result<(), AllocError>
+        ensures same { (k : ℕ) → held self.new k ≡ held self.old k }
+        ensures more { spare_numbers self.old ≤ spare_numbers self.new }
+        ensures room { OnOk result (additional ≤ spare_numbers self.new) }
+    {
+        self.index.reserve(additional)?;
+        self.slab.reserve(additional)
+    }
+
+    /// Puts a thing in under a number that has none. There is room for it.
+    pub fn put(&mut self, number: u32, value: V)
+        requires absent { held self.old number ≡ None }
+        requires room { 0 < spare_numbers self.old }
+        ensures put { (k : ℕ) → held self.new k ≡ cond (number == k) (Some value) (held self.old k) }
+        ensures spare { spare_numbers self.old ≤ spare_numbers self.new + 1 }
+    {
+        let slot = self.slab.put(value);
+        self.index.put(number, slot);
+    }
+
+    /// Puts another thing in the place of the one with this number, and tells that.
+    pub fn replace(&mut self, number: u32, value: V) -> V
+        requires { IsSome (held self.old number) }
+        ensures was { held self.old number ≡ Some result }
+        ensures put { (k : ℕ) → held self.new k ≡ cond (number == k) (Some value) (held self.old k) }
+        ensures spare { spare_numbers self.old ≤ spare_numbers self.new }
+    {
+        match self.index.get(number) {
+            Some(slot) => self.slab.replace(slot, value),
+            None => unreachable!(),
+        }
+    }
+
+    /// Takes the thing with this number out.
+    pub fn take(&mut self, number: u32) -> V
+        requires { IsSome (held self.old number) }
+        ensures was { held self.old number ≡ Some result }
+        ensures taken { (k : ℕ) → held self.new k ≡ cond (number == k) None (held self.old k) }
+        ensures spare { spare_numbers self.old ≤ spare_numbers self.new }
+    {
+        let slot = self.index.take(number);
+        self.slab.take(slot)
+    }
+}
