@@ -1,14 +1,15 @@
 -- Slots in blocks: what a block with another slot makes of them, and how they stand in a list.
-use Rattle.std.proofs.Common.{◌≡◌, ◌==◌, ℕ, ◌+◌, ◌-◌, ◌*◌, ◌/◌, ◌%◌, ◌<◌, ◌≤◌, zero, suc, Bool, true, false, cond, List, [], ◌∷◌, ◌++◌, Option, Some, None, length, slice_index, refl, sym, ap, ◌∙◌, inl, inr, arith, eqb-true}
+use Rattle.std.proofs.Common.{◌≡◌, ◌==◌, ℕ, ◌+◌, ◌-◌, ◌*◌, ◌/◌, ◌%◌, ◌<◌, ◌≤◌, zero, suc, Bool, true, false, cond, List, [], ◌∷◌, ◌++◌, Option, Some, None, length, slice_index, nat_eq, refl, sym, ap, ◌∙◌, subst, inl, inr, arith, eqb-true}
 use Rattle.std.specs.List.{AllByRecursion, IsDistinct}
 use Rattle.std.specs.Map.{lookup, keys_of}
+use Rattle.std.specs.Cmp.Lexicographic.{pointwise, same_text, other_text}
 use Rattle.std.proofs.lemmas.Bool.{cases_eq, cases_order, eq-eqb, ne_eqb}
 use Rattle.std.proofs.lemmas.Map.Keys.{IsDistinct-head, IsDistinct-tail}
 use Rattle.std.proofs.lemmas.Nat.{div-add-mod'}
 use Rattle.std.proofs.Math.Nat.{mod-lt}
-use Rattle.olr_map.specs.Blocked.{told, slot_at, slot_in, found_in, from, all_in}
+use Rattle.olr_map.specs.Blocked.{told, slot_at, slot_in, found_in, IsBlank, AreUsed, from, all_in}
 use Rattle.olr_map.specs.ByNumbers.{entries_of, found}
-use Rattle.olr_map.specs.declared.blocks.Block.{Block}
+use Rattle.olr_map.specs.declared.block.Block.{Block}
 use Rattle.olr_map.specs.declared.by_number.ByNumber.{ByNumber}
 use Rattle.olr_map.specs.declared.by_number.ByNumber.TheVariants.{Hashed, Listed}
 use Rattle.olr_map.proofs.Looks.{eqb_flip}
@@ -47,6 +48,56 @@ module _ (old new : List (ℕ × Block)) (n : ℕ) (o : Option Block) (w : Optio
 pub gone_again : {A : Type 0} (t : Bool) (o p : Option A) → cond t None (cond t o p) ≡ cond t None p
 gone_again true o p = refl
 gone_again false o p = refl
+
+-- ---- no block is blank
+
+abbrev pub zeros : ℕ → List ℕ
+zeros zero = []
+zeros (suc n) = 0 ∷ zeros n
+
+zeros_tell : (n i : ℕ) → told (slice_index (zeros n) i) ≡ None
+zeros_tell zero i = refl
+zeros_tell (suc n) zero = refl
+zeros_tell (suc n) (suc i) = zeros_tell n i
+
+told_none : (n : ℕ) → told n ≡ None → n ≡ 0
+told_none zero e = refl
+told_none (suc p) e = absurd cc
+
+blank_zeros : (xs : List ℕ) → ((i : ℕ) → told (slice_index xs i) ≡ None) → xs ≡ zeros (length xs)
+blank_zeros [] h = refl
+blank_zeros (x ∷ xs) h = let first = told_none x (h 0) in let rest = blank_zeros xs (λ i. h (suc i)) in cc
+
+-- what a comparison with eight zeros tells
+pub blank_test : (b : Block) (t : Bool) → t ≡ pointwise nat_eq b.slots (zeros 8) → (t ≡ true → IsBlank b) × (IsBlank b → t ≡ true)
+blank_test b true e = (λ _ i. ap (λ xs. told (slice_index xs i)) (same_text b.slots (zeros 8) e) ∙ zeros_tell 8 i, λ _. refl)
+blank_test b false e = (λ h. absurd cc, λ blank. absurd (other_text b.slots (zeros 8) e (blank_zeros b.slots blank ∙ ap zeros b.eight)))
+
+pub not_blank : (b : Block) (place slot : ℕ) (r : Option ℕ) → slot_at b place ≡ cond (place == place) (Some slot) r → IsBlank b → ⊥
+not_blank b place slot r is blank =
+    let never : None ≡ Some slot = sym (blank place) ∙ is ∙ ap (λ (t : Bool). cond t (Some slot) r) (eq-eqb place place refl) in cc
+
+-- another block at a key, which is not blank
+pub used_put : (old new : List (ℕ × Block)) (key : ℕ) (b : Block) → ((q : ℕ) → lookup (λ p. q == p) new ≡ cond (key == q) (Some b) (lookup (λ p. q == p) old)) → (IsBlank b → ⊥) → AreUsed old → AreUsed new
+used_put old new key b now not u =
+    record {
+      used = λ q d is.
+          elim (key == q) as (λ t. cond t (Some b) (lookup (λ p. q == p) old) ≡ Some d → IsBlank d → ⊥) [
+            | true ↦ λ h blank. let same : d ≡ b = cc in not (subst IsBlank same blank)
+            | false ↦ λ h. u.used q d h
+          ] (sym (now q) ∙ is);
+    }
+
+-- no block at a key
+pub used_gone : (old new : List (ℕ × Block)) (key : ℕ) → ((q : ℕ) → lookup (λ p. q == p) new ≡ cond (key == q) None (lookup (λ p. q == p) old)) → AreUsed old → AreUsed new
+used_gone old new key now u =
+    record {
+      used = λ q d is.
+          elim (key == q) as (λ t. cond t None (lookup (λ p. q == p) old) ≡ Some d → IsBlank d → ⊥) [
+            | true ↦ λ h blank. absurd cc
+            | false ↦ λ h. u.used q d h
+          ] (sym (now q) ∙ is);
+    }
 
 -- ---- as a list
 

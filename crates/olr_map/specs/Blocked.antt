@@ -2,10 +2,12 @@
 --     told n      the slot that a place of a block tells: the number before n;  0 tells none
 --     slot_at b i, slot_in o i      the slot in place i of a block, which may be missing
 --     found_in bs k      the slot of number k: block k / 8, place k % 8
+--     IsBlank b, AreUsed bs      no place has a slot;  no block is blank
 --     from n xs, all_in bs      the numbers that have slots, with them: in places from number n on;  in all blocks
-use Rattle.std.specs.Prelude.{ℕ, zero, suc, ◌*◌, ◌/◌, ◌%◌, ◌==◌, List, [], ◌∷◌, ◌++◌, Option, Some, None, slice_index}
+use Rattle.std.specs.Prelude.{◌≡◌, ℕ, zero, suc, ◌*◌, ◌/◌, ◌%◌, ◌==◌, List, [], ◌∷◌, ◌++◌, Option, Some, None, slice_index}
 use Rattle.std.specs.Map.{lookup}
-use Rattle.olr_map.specs.declared.blocks.Block.{Block}
+use Rattle.std.proofs.Props.{props}
+use Rattle.olr_map.specs.declared.block.Block.{Block}
 
 abbrev pub told : ℕ → Option ℕ
 told zero = None
@@ -29,3 +31,12 @@ from n (suc p ∷ xs) = (n, p) ∷ from (suc n) xs
 abbrev pub all_in : List (ℕ × Block) → List (ℕ × ℕ)
 all_in [] = []
 all_in (b ∷ bs) = from (b.0 * 8) b.1.slots ++ all_in bs
+
+abbrev pub IsBlank : Block → Type 0
+IsBlank b = (i : ℕ) → slot_at b i ≡ None
+
+pub record AreUsed (bs : List (ℕ × Block)) : Type 0 where
+  pub used : (q : ℕ) (b : Block) → lookup (λ p. q == p) bs ≡ Some b → IsBlank b → ⊥
+
+pub AreUsed-prop : (bs : List (ℕ × Block)) → IsProp (AreUsed bs)
+AreUsed-prop bs = hlevel props

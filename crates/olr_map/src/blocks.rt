@@ -1,77 +1,22 @@
 //! Slots by number, in blocks of neighbouring numbers that are found by hash.
-ghost use Rattle.std.specs.Prelude.{◌≡◌, ◌==◌, ◌+◌, ◌^◌, ◌<◌, ◌≤◌, ℕ, [], cond, length, IsSome, Some, None, OnOk};
-ghost use Rattle.std.specs.Bool.{OnTrue};
+ghost use Rattle.std.specs.Prelude.{◌≡◌, ◌==◌, ◌+◌, ◌^◌, ◌<◌, ◌≤◌, ℕ, [], cond, IsSome, Some, None, OnOk};
 ghost use Rattle.std.specs.List.{IsDistinct, IsDistinct-prop};
 ghost use Rattle.std.specs.HashMap.{spare};
 ghost use Rattle.std.specs.Map.{keys_of};
+ghost use Rattle.olr_map.specs.Blocked.{AreUsed, AreUsed-prop};
 
+use crate::block::{BLOCK_LEN, Block};
 use crate::number_hash::NumberHasher;
 use std::alloc::{AllocError, Global};
 use std::collections::HashMap;
 use std::hash::BuildHasherDefault;
-use std::mem;
-
-/// How many neighbouring numbers share a block.
-const BLOCK_LEN: u32 = 8;
-
-/// The slots of neighbouring numbers: one more than the slot, or 0 where a number has none.
-#[derive(Clone, Copy, Debug)]
-pub struct Block {
-    pub slots: [u32; BLOCK_LEN as usize],
-    ghost eight: { length slots ≡ 8 },
-}
-
-impl Block {
-    ghost use Rattle.olr_map.specs.Blocked.{slot_at};
-
-    /// No slots.
-    fn new() -> Block
-        ensures { (i : ℕ) → slot_at result i ≡ None }
-    {
-        Block {
-            slots: [0; BLOCK_LEN as usize],
-        }
-    }
-
-    /// The slot in this place.
-    fn slot(&self, place: usize) -> Option<u32>
-        requires { place < 8 }
-        ensures { result ≡ slot_at self.now place }
-    {
-        self.slots[place].checked_sub(1)
-    }
-
-    /// Puts a slot in this place.
-    fn put(&mut self, place: usize, slot: u32)
-        requires within { place < 8 }
-        requires fits { slot + 1 < 2 ^ 32 }
-        ensures { (i : ℕ) → slot_at self.new i ≡ cond (place == i) (Some slot) (slot_at self.old i) }
-    {
-        self.slots[place] = slot + 1;
-    }
-
-    /// Takes the slot out of this place.
-    fn take(&mut self, place: usize) -> u32
-        requires { IsSome (slot_at self.old place) }
-        ensures was { slot_at self.old place ≡ Some result }
-        ensures taken { (i : ℕ) → slot_at self.new i ≡ cond (place == i) None (slot_at self.old i) }
-    {
-        mem::replace(&mut self.slots[place], 0) - 1
-    }
-
-    /// Whether no place has a slot.
-    fn is_empty(&self) -> bool
-        ensures { OnTrue result ((i : ℕ) → slot_at self.now i ≡ None) }
-    {
-        self.slots == [0; BLOCK_LEN as usize]
-    }
-}
 
 /// Blocks by number: that of number `n` is `n / 8`. A block goes with its last slot.
 #[derive(Drop, Debug)]
 pub struct Blocks {
     pub blocks: HashMap<u32, Block, BuildHasherDefault<NumberHasher>>,
     ghost apart: { IsDistinct ◌==◌ (keys_of blocks.entries) } by { IsDistinct-prop ◌==◌ (keys_of blocks.entries) },
+    ghost used: { AreUsed blocks.entries } by { AreUsed-prop blocks.entries },
 }
 
 impl Blocks {

@@ -2,6 +2,7 @@
 //! and edits that can be undone.
 #![tactic(auto)]
 
+mod block;
 mod blocks;
 mod by_number;
 mod change;

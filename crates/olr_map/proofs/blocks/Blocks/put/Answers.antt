@@ -1,8 +1,34 @@
-use Rattle.std.proofs.Common.{sym, ap, ◌∙◌, ◌==◌, ◌/◌, ◌%◌, Some, cond, is_some}
+use Rattle.std.proofs.Common.{◌<◌, subst, sym, ap, ◌∙◌, ◌==◌, ◌/◌, ◌%◌, Some, cond, is_some}
+use Rattle.std.specs.HashMap.{spare}
 use Rattle.std.specs.Map.{lookup}
 use Rattle.olr_map.specs.Blocked.{slot_in}
-use Rattle.olr_map.proofs.Blocking.{block_changed}
+use Rattle.olr_map.proofs.Matching.{on_ok}
+use Rattle.olr_map.proofs.Blocking.{block_changed, not_blank, used_put}
 use Rattle.olr_map.proofs.blocks.Blocks.put.Goals as goal
+
+pub invariant_of-self : goal.invariant_of-self
+invariant_of-self c =
+    let bs = c.args.self.now in
+    let n = c.args.number in
+    let w = c.get_mut.follows.holds c.put.new.self in
+    record {
+      apart = w.4;
+      used = used_put bs.blocks.entries _ (n / 8) c.put.new.self (w.3 (ap (λ o. is_some o) (sym c.in-Some.ensures.value))).0
+          (not_blank c.put.new.self (n % 8) c.args.slot _ (c.put.ensures (n % 8))) bs.used;
+    }
+
+pub invariant_of-self-2 : goal.invariant_of-self-2
+invariant_of-self-2 c =
+    let bs = c.args.self.now in
+    let n = c.args.number in
+    let block = c.put-2.new.self in
+    let room : 0 < spare c.get_mut.follows.lender-at-none = subst (λ m. 0 < spare m) (sym c.get_mut.follows.holds-at-none) c.requires.room in
+    record {
+      apart = c.insert.ensures.unique;
+      used = used_put bs.blocks.entries _ (n / 8) block
+          (λ q. (on_ok c.insert.result (c.insert.ensures.succeeds room) c.insert.ensures.updates).0 q ∙ ap (λ m. cond (n / 8 == q) (Some block) (lookup (λ p. q == p) m.entries)) c.get_mut.follows.holds-at-none)
+          (not_blank block (n % 8) c.args.slot _ (c.put-2.ensures (n % 8))) bs.used;
+    }
 
 pub returns-in-Some-clause-put : goal.returns-in-Some-clause-put
 returns-in-Some-clause-put c =

@@ -1,9 +1,31 @@
-use Rattle.std.proofs.Common.{sym, ap, ◌∙◌, ◌==◌, ◌/◌, ◌%◌, Some, None, cond, is_some}
+use Rattle.std.proofs.Common.{◌≡◌, ◌==◌, ◌/◌, ◌%◌, true, Some, None, cond, is_some, sym, ap, ◌∙◌}
 use Rattle.std.specs.Map.{lookup}
-use Rattle.std.proofs.lemmas.Bool.{OnTrue_at}
 use Rattle.olr_map.specs.Blocked.{slot_in}
-use Rattle.olr_map.proofs.Blocking.{block_changed, gone_again}
+use Rattle.olr_map.proofs.Blocking.{block_changed, gone_again, used_put, used_gone}
 use Rattle.olr_map.proofs.blocks.Blocks.take.Goals as goal
+
+pub invariant_of-self : goal.invariant_of-self
+invariant_of-self c =
+    let bs = c.args.self.now in
+    let n = c.args.number in
+    let w = c.get_mut.follows.holds c.take-slot.new.self in
+    record {
+      apart = c.remove.ensures.unique;
+      used = used_gone bs.blocks.entries _ (n / 8)
+          (λ q.
+          c.remove.ensures.updates.0 q ∙ ap (cond (n / 8 == q) None) ((w.3 (ap (λ o. is_some o) (sym c.in-Some.ensures.value))).0 q)
+          ∙ gone_again (n / 8 == q) (Some c.take-slot.new.self) (lookup (λ p. q == p) bs.blocks.entries)) bs.used;
+    }
+
+pub invariant_of-self-else-is_empty : goal.invariant_of-self-else-is_empty
+invariant_of-self-else-is_empty c =
+    let bs = c.args.self.now in
+    let w = c.get_mut.follows.holds c.take-slot.new.self in
+    record {
+      apart = w.4;
+      used = used_put bs.blocks.entries _ (c.args.number / 8) c.take-slot.new.self (w.3 (ap (λ o. is_some o) (sym c.in-Some.ensures.value))).0
+          (λ blank. let is : c.is_empty.result ≡ true = c.is_empty.ensures.1 blank in cc) bs.used;
+    }
 
 pub returns-then-is_empty-clause-taken : goal.returns-then-is_empty-clause-taken
 returns-then-is_empty-clause-taken c =
@@ -15,7 +37,7 @@ returns-then-is_empty-clause-taken c =
     (λ q.
     c.remove.ensures.updates.0 q ∙ ap (cond (n / 8 == q) None) ((w.3 (ap (λ o. is_some o) (sym here))).0 q)
     ∙ gone_again (n / 8 == q) (Some c.take-slot.new.self) (lookup (λ p. q == p) bs))
-    (λ i. sym (OnTrue_at c.if-is_empty.true c.is_empty.ensures i) ∙ c.take-slot.ensures.taken i ∙ ap (λ o. cond (n % 8 == i) None (slot_in o i)) here)
+    (λ i. sym (c.is_empty.ensures.0 c.if-is_empty.true i) ∙ c.take-slot.ensures.taken i ∙ ap (λ o. cond (n % 8 == i) None (slot_in o i)) here)
 
 pub returns-else-is_empty-clause-taken : goal.returns-else-is_empty-clause-taken
 returns-else-is_empty-clause-taken c =

@@ -1,0 +1,60 @@
+//! The slots of eight neighbouring numbers.
+ghost use Rattle.std.specs.Prelude.{◌≡◌, ◌==◌, ◌+◌, ◌^◌, ◌<◌, ℕ, cond, length, IsSome, Some, None, IsTrue, ◌↔◌};
+
+use std::mem;
+
+/// How many neighbouring numbers share a block.
+pub const BLOCK_LEN: u32 = 8;
+
+/// The slots of neighbouring numbers: one more than the slot, or 0 where a number has none.
+#[derive(Clone, Copy, Debug)]
+pub struct Block {
+    pub slots: [u32; BLOCK_LEN as usize],
+    ghost eight: { length slots ≡ 8 },
+}
+
+impl Block {
+    ghost use Rattle.olr_map.specs.Blocked.{slot_at, IsBlank};
+
+    /// No slots.
+    pub fn new() -> Block
+        ensures { (i : ℕ) → slot_at result i ≡ None }
+    {
+        Block {
+            slots: [0; BLOCK_LEN as usize],
+        }
+    }
+
+    /// The slot in this place.
+    pub fn slot(&self, place: usize) -> Option<u32>
+        requires { place < 8 }
+        ensures { result ≡ slot_at self.now place }
+    {
+        self.slots[place].checked_sub(1)
+    }
+
+    /// Puts a slot in this place.
+    pub fn put(&mut self, place: usize, slot: u32)
+        requires within { place < 8 }
+        requires fits { slot + 1 < 2 ^ 32 }
+        ensures { (i : ℕ) → slot_at self.new i ≡ cond (place == i) (Some slot) (slot_at self.old i) }
+    {
+        self.slots[place] = slot + 1;
+    }
+
+    /// Takes the slot out of this place.
+    pub fn take(&mut self, place: usize) -> u32
+        requires { IsSome (slot_at self.old place) }
+        ensures was { slot_at self.old place ≡ Some result }
+        ensures taken { (i : ℕ) → slot_at self.new i ≡ cond (place == i) None (slot_at self.old i) }
+    {
+        mem::replace(&mut self.slots[place], 0) - 1
+    }
+
+    /// Whether no place has a slot.
+    pub fn is_empty(&self) -> bool
+        ensures { IsTrue result ↔ IsBlank self.now }
+    {
+        self.slots == [0; BLOCK_LEN as usize]
+    }
+}
