@@ -9,7 +9,7 @@ use Rattle.olr_spec.specs.Map.{Map, IsMap, Line, has_line, start, end, Add_line,
 use Rattle.olr_spec.specs.Extension.{has}
 use Rattle.olr_spec.proofs.EditLemmas.{edits_keep}
 use Rattle.olr_spec.proofs.MapLemmas.{has-lines_where, passes_at}
-use Rattle.olr_map.specs.ByNumbers.{entries_of, found, spare_of}
+use Rattle.olr_map.specs.ByNumbers.{found}
 use Rattle.olr_map.specs.Slotted.{at, Turns}
 use Rattle.olr_map.specs.Slabs.{slots_of, room_in}
 use Rattle.olr_map.specs.NodeLinks.{links_at, relinked}
@@ -27,7 +27,6 @@ use Rattle.olr_map.specs.declared.tables.Tables.{Tables}
 use Rattle.olr_map.specs.declared.change.Change.TheVariants.{PutLine, SetLine, TakeLine}
 use Rattle.olr_map.proofs.SlotLemmas.{few_slots}
 use Rattle.olr_map.proofs.Looks.{map_cond, map_or_cond, got_insert, got_remove, same_answers}
-use Rattle.olr_map.proofs.Lookups.{all_get}
 use Rattle.olr_map.proofs.Indexing.{entry_of, turned_node, turned_indexed}
 use Rattle.olr_map.proofs.Listing.{rises_at, seen, put_here, put_other, take_here, take_other, set_here, set_other}
 use Rattle.olr_map.proofs.Reading.{place_of, got_node, got_line, kept_from, place_is}

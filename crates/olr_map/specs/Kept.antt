@@ -3,7 +3,7 @@
 --     map_from b es F      the map
 --     place_in b v      the slot of node v
 --     IsKept b es F      the map is sound, numbers and slots name one another, and each node has the lists of its lines
-use Rattle.std.specs.Prelude.{◌≡◌, ◌==◌, ℕ, List, map, Option, Some, None, unwrap_or, length, refl}
+use Rattle.std.specs.Prelude.{◌≡◌, ◌==◌, ℕ, List, map, Option, Some, unwrap_or, length, refl}
 use Rattle.std.specs.Option.{option_map, option_map_or}
 use Rattle.std.specs.Coded.{Coded, code_by, coded×, coded_ℕ, coded_list, coded_option, Coded-set, le_prop}
 use Rattle.std.specs.FinMap.{FinMap, from_entries}

@@ -1,4 +1,4 @@
-use Rattle.std.proofs.Common.{sym, ap, ◌∙◌, is_some}
+use Rattle.std.proofs.Common.{ap, ◌∙◌, is_some}
 use Rattle.olr_map.specs.Slabs.{slots_of}
 use Rattle.olr_map.specs.HavingSlots.{in_slot}
 use Rattle.olr_map.proofs.Numbering.{has_slot, gone_held, gone_slots}

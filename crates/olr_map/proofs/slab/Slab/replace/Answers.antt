@@ -1,4 +1,3 @@
-use Rattle.std.proofs.Common.{sym}
 use Rattle.olr_map.proofs.SlotLemmas.{stood, turned_slotted, turns}
 use Rattle.olr_map.proofs.slab.Slab.replace.Goals as goal
 
