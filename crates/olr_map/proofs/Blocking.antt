@@ -16,30 +16,30 @@ use Rattle.olr_map.proofs.SlotLemmas.{none_above}
 
 -- ---- a number is its block and its place there
 
-same_number : (n k : ℕ) → n / 8 ≡ k / 8 → n % 8 ≡ k % 8 → n ≡ k
-same_number n k e f = let a = div-add-mod' n 8 in let b = div-add-mod' k 8 in omega arith
+same_number : (n k : ℕ) → n / 4 ≡ k / 4 → n % 4 ≡ k % 4 → n ≡ k
+same_number n k e f = let a = div-add-mod' n 4 in let b = div-add-mod' k 4 in omega arith
 
-same_place : (n k : ℕ) → n / 8 ≡ k / 8 → (n % 8 == k % 8) ≡ (n == k)
+same_place : (n k : ℕ) → n / 4 ≡ k / 4 → (n % 4 == k % 4) ≡ (n == k)
 same_place n k e =
     elim (cases_eq n k) [
-      | inl is ↦ eq-eqb (n % 8) (k % 8) (ap (λ m. m % 8) is) ∙ sym (eq-eqb n k is)
-      | inr ne ↦ ne_eqb (n % 8) (k % 8) (λ f. ne (same_number n k e f)) ∙ sym (ne_eqb n k ne)
+      | inl is ↦ eq-eqb (n % 4) (k % 4) (ap (λ m. m % 4) is) ∙ sym (eq-eqb n k is)
+      | inr ne ↦ ne_eqb (n % 4) (k % 4) (λ f. ne (same_number n k e f)) ∙ sym (ne_eqb n k ne)
     ]
 
 -- ---- another block at a number's key
 
-module _ (old new : List (ℕ × Block)) (n : ℕ) (o : Option Block) (w : Option ℕ) (now : (q : ℕ) → lookup (λ p. q == p) new ≡ cond (n / 8 == q) o (lookup (λ p. q == p) old))
-    (here : (i : ℕ) → slot_in o i ≡ cond (n % 8 == i) w (slot_in (lookup (λ p. n / 8 == p) old) i)) where
+module _ (old new : List (ℕ × Block)) (n : ℕ) (o : Option Block) (w : Option ℕ) (now : (q : ℕ) → lookup (λ p. q == p) new ≡ cond (n / 4 == q) o (lookup (λ p. q == p) old))
+    (here : (i : ℕ) → slot_in o i ≡ cond (n % 4 == i) w (slot_in (lookup (λ p. n / 4 == p) old) i)) where
   pub block_changed : (k : ℕ) → found_in new k ≡ cond (n == k) w (found_in old k)
   block_changed k =
-      ap (λ b. slot_in b (k % 8)) (now (k / 8))
-      ∙ elim (n / 8 == k / 8) as (λ t. (n / 8 == k / 8) ≡ t → slot_in (cond t o (lookup (λ p. k / 8 == p) old)) (k % 8) ≡ cond (n == k) w (found_in old k)) [
+      ap (λ b. slot_in b (k % 4)) (now (k / 4))
+      ∙ elim (n / 4 == k / 4) as (λ t. (n / 4 == k / 4) ≡ t → slot_in (cond t o (lookup (λ p. k / 4 == p) old)) (k % 4) ≡ cond (n == k) w (found_in old k)) [
         | true ↦ λ e.
-            let is : n / 8 ≡ k / 8 = eqb-true (n / 8) (k / 8) e in
-            here (k % 8) ∙ ap (λ (t : Bool). cond t w (slot_in (lookup (λ p. n / 8 == p) old) (k % 8))) (same_place n k is)
-            ∙ ap (λ q. cond (n == k) w (slot_in (lookup (λ p. q == p) old) (k % 8))) is
+            let is : n / 4 ≡ k / 4 = eqb-true (n / 4) (k / 4) e in
+            here (k % 4) ∙ ap (λ (t : Bool). cond t w (slot_in (lookup (λ p. n / 4 == p) old) (k % 4))) (same_place n k is)
+            ∙ ap (λ q. cond (n == k) w (slot_in (lookup (λ p. q == p) old) (k % 4))) is
         | false ↦ λ e.
-            let ne : (n == k) ≡ false = ne_eqb n k (λ is. let same = eq-eqb (n / 8) (k / 8) (ap (λ m. m / 8) is) in cc) in
+            let ne : (n == k) ≡ false = ne_eqb n k (λ is. let same = eq-eqb (n / 4) (k / 4) (ap (λ m. m / 4) is) in cc) in
             ap (λ (t : Bool). cond t w (found_in old k)) (sym ne)
       ] refl
 
@@ -67,10 +67,10 @@ blank_zeros : (xs : List ℕ) → ((i : ℕ) → told (slice_index xs i) ≡ Non
 blank_zeros [] h = refl
 blank_zeros (x ∷ xs) h = let first = told_none x (h 0) in let rest = blank_zeros xs (λ i. h (suc i)) in cc
 
--- what a comparison with eight zeros tells
-pub blank_test : (b : Block) (t : Bool) → t ≡ pointwise nat_eq b.slots (zeros 8) → (t ≡ true → IsBlank b) × (IsBlank b → t ≡ true)
-blank_test b true e = (λ _ i. ap (λ xs. told (slice_index xs i)) (same_text b.slots (zeros 8) e) ∙ zeros_tell 8 i, λ _. refl)
-blank_test b false e = (λ h. absurd cc, λ blank. absurd (other_text b.slots (zeros 8) e (blank_zeros b.slots blank ∙ ap zeros b.eight)))
+-- what a comparison with four zeros tells
+pub blank_test : (b : Block) (t : Bool) → t ≡ pointwise nat_eq b.slots (zeros 4) → (t ≡ true → IsBlank b) × (IsBlank b → t ≡ true)
+blank_test b true e = (λ _ i. ap (λ xs. told (slice_index xs i)) (same_text b.slots (zeros 4) e) ∙ zeros_tell 4 i, λ _. refl)
+blank_test b false e = (λ h. absurd cc, λ blank. absurd (other_text b.slots (zeros 4) e (blank_zeros b.slots blank ∙ ap zeros b.four)))
 
 pub not_blank : (b : Block) (place slot : ℕ) (r : Option ℕ) → slot_at b place ≡ cond (place == place) (Some slot) r → IsBlank b → ⊥
 not_blank b place slot r is blank =
@@ -131,16 +131,16 @@ within n (suc p ∷ xs) (suc i) k e =
     ap (λ (t : Bool). cond t (Some p) (lookup (λ q. k == q) (from (suc n) xs))) (ne_eqb k n (λ is. omega arith)) ∙ within (suc n) xs i k (omega arith)
 
 -- a number of another block has no slot in this one
-outside : (b : ℕ × Block) (k : ℕ) → (k / 8 == b.0) ≡ false → lookup (λ q. k == q) (from (b.0 * 8) b.1.slots) ≡ None
+outside : (b : ℕ × Block) (k : ℕ) → (k / 4 == b.0) ≡ false → lookup (λ q. k == q) (from (b.0 * 4) b.1.slots) ≡ None
 outside b k ne =
-    let whole = div-add-mod' k 8 in
-    let rest : k % 8 < 8 = mod-lt k (omega arith) in
-    let long = b.1.eight in
-    elim (cases_order (k / 8) b.0) [
-      | inl is ↦ let e = eq-eqb (k / 8) b.0 is in absurd cc
+    let whole = div-add-mod' k 4 in
+    let rest : k % 4 < 4 = mod-lt k (omega arith) in
+    let long = b.1.four in
+    elim (cases_order (k / 4) b.0) [
+      | inl is ↦ let e = eq-eqb (k / 4) b.0 is in absurd cc
       | inr o ↦ elim o [
-        | inl low ↦ below (b.0 * 8) b.1.slots k (omega arith)
-        | inr high ↦ within (b.0 * 8) b.1.slots (k - b.0 * 8) k (omega arith) ∙ ap told (none_above b.1.slots (k - b.0 * 8) 0 (omega arith))
+        | inl low ↦ below (b.0 * 4) b.1.slots k (omega arith)
+        | inr high ↦ within (b.0 * 4) b.1.slots (k - b.0 * 4) k (omega arith) ∙ ap told (none_above b.1.slots (k - b.0 * 4) 0 (omega arith))
       ]
     ]
 
@@ -152,14 +152,14 @@ pub all_listed : (bs : List (ℕ × Block)) (k : ℕ) → IsDistinct ◌==◌ (k
 all_listed [] k apart = refl
 all_listed (b ∷ bs) k apart =
     let later = all_listed bs k (IsDistinct-tail ◌==◌ b.0 (keys_of bs) apart) in
-    elim (k / 8 == b.0) as (λ t. (k / 8 == b.0) ≡ t → lookup (λ q. k == q) (from (b.0 * 8) b.1.slots ++ all_in bs) ≡ slot_in (cond t (Some b.1) (lookup (λ q. k / 8 == q) bs)) (k % 8)) [
+    elim (k / 4 == b.0) as (λ t. (k / 4 == b.0) ≡ t → lookup (λ q. k == q) (from (b.0 * 4) b.1.slots ++ all_in bs) ≡ slot_in (cond t (Some b.1) (lookup (λ q. k / 4 == q) bs)) (k % 4)) [
       | true ↦ λ e.
-          let is : k / 8 ≡ b.0 = eqb-true (k / 8) b.0 e in
-          let whole = div-add-mod' k 8 in
-          let none : lookup (λ q. k / 8 == q) bs ≡ None = ap (λ n. lookup (λ q. n == q) bs) is ∙ no_key bs b.0 (IsDistinct-head ◌==◌ b.0 (keys_of bs) apart) in
-          lookup_both k (from (b.0 * 8) b.1.slots) (all_in bs) (slot_at b.1 (k % 8)) (within (b.0 * 8) b.1.slots (k % 8) k (omega arith))
-          (λ _. later ∙ ap (λ o. slot_in o (k % 8)) none)
-      | false ↦ λ e. lookup_second k (from (b.0 * 8) b.1.slots) (all_in bs) (outside b k e) ∙ later
+          let is : k / 4 ≡ b.0 = eqb-true (k / 4) b.0 e in
+          let whole = div-add-mod' k 4 in
+          let none : lookup (λ q. k / 4 == q) bs ≡ None = ap (λ n. lookup (λ q. n == q) bs) is ∙ no_key bs b.0 (IsDistinct-head ◌==◌ b.0 (keys_of bs) apart) in
+          lookup_both k (from (b.0 * 4) b.1.slots) (all_in bs) (slot_at b.1 (k % 4)) (within (b.0 * 4) b.1.slots (k % 4) k (omega arith))
+          (λ _. later ∙ ap (λ o. slot_in o (k % 4)) none)
+      | false ↦ λ e. lookup_second k (from (b.0 * 4) b.1.slots) (all_in bs) (outside b k e) ∙ later
     ] refl
 
 pub listed_found : (b : ByNumber) (k : ℕ) → lookup (λ q. k == q) (entries_of b) ≡ found b k

@@ -1,7 +1,7 @@
--- Slots of numbers, in blocks of eight neighbours.
+-- Slots of numbers, in blocks of four neighbours.
 --     told n      the slot that a place of a block tells: the number before n;  0 tells none
 --     slot_at b i, slot_in o i      the slot in place i of a block, which may be missing
---     found_in bs k      the slot of number k: block k / 8, place k % 8
+--     found_in bs k      the slot of number k: block k / 4, place k % 4
 --     IsBlank b, AreUsed bs      no place has a slot;  no block is blank
 --     from n xs, all_in bs      the numbers that have slots, with them: in places from number n on;  in all blocks
 use Rattle.std.specs.Prelude.{◌≡◌, ℕ, zero, suc, ◌*◌, ◌/◌, ◌%◌, ◌==◌, List, [], ◌∷◌, ◌++◌, Option, Some, None, slice_index}
@@ -21,7 +21,7 @@ slot_in None i = None
 slot_in (Some b) i = slot_at b i
 
 abbrev pub found_in : List (ℕ × Block) → ℕ → Option ℕ
-found_in bs k = slot_in (lookup (λ q. k / 8 == q) bs) (k % 8)
+found_in bs k = slot_in (lookup (λ q. k / 4 == q) bs) (k % 4)
 
 abbrev pub from : ℕ → List ℕ → List (ℕ × ℕ)
 from n [] = []
@@ -30,7 +30,7 @@ from n (suc p ∷ xs) = (n, p) ∷ from (suc n) xs
 
 abbrev pub all_in : List (ℕ × Block) → List (ℕ × ℕ)
 all_in [] = []
-all_in (b ∷ bs) = from (b.0 * 8) b.1.slots ++ all_in bs
+all_in (b ∷ bs) = from (b.0 * 4) b.1.slots ++ all_in bs
 
 abbrev pub IsBlank : Block → Type 0
 IsBlank b = (i : ℕ) → slot_at b i ≡ None

@@ -1,16 +1,16 @@
-//! The slots of eight neighbouring numbers.
+//! The slots of four neighbouring numbers.
 ghost use Rattle.std.specs.Prelude.{◌≡◌, ◌==◌, ◌+◌, ◌^◌, ◌<◌, ℕ, cond, length, IsSome, Some, None, IsTrue, ◌↔◌};
 
 use std::mem;
 
 /// How many neighbouring numbers share a block.
-pub const BLOCK_LEN: u32 = 8;
+pub const BLOCK_LEN: u32 = 4;
 
 /// The slots of neighbouring numbers: one more than the slot, or 0 where a number has none.
 #[derive(Clone, Copy, Debug)]
 pub struct Block {
     pub slots: [u32; BLOCK_LEN as usize],
-    ghost eight: { length slots ≡ 8 },
+    ghost four: { length slots ≡ 4 },
 }
 
 impl Block {
@@ -27,7 +27,7 @@ impl Block {
 
     /// The slot in this place.
     pub fn slot(&self, place: usize) -> Option<u32>
-        requires { place < 8 }
+        requires { place < 4 }
         ensures { result ≡ slot_at self.now place }
     {
         self.slots[place].checked_sub(1)
@@ -35,7 +35,7 @@ impl Block {
 
     /// Puts a slot in this place.
     pub fn put(&mut self, place: usize, slot: u32)
-        requires within { place < 8 }
+        requires within { place < 4 }
         requires fits { slot + 1 < 2 ^ 32 }
         ensures { (i : ℕ) → slot_at self.new i ≡ cond (place == i) (Some slot) (slot_at self.old i) }
     {

@@ -11,7 +11,7 @@ use std::alloc::{AllocError, Global};
 use std::collections::HashMap;
 use std::hash::BuildHasherDefault;
 
-/// Blocks by number: that of number `n` is `n / 8`. A block goes with its last slot.
+/// Blocks by number: that of number `n` is `n / 4`. A block goes with its last slot.
 #[derive(Drop, Debug)]
 pub struct Blocks {
     pub blocks: HashMap<u32, Block, BuildHasherDefault<NumberHasher>>,

@@ -11,10 +11,10 @@ invariant_of-self c =
     let w = c.get_mut.follows.holds c.take-slot.new.self in
     record {
       apart = c.remove.ensures.unique;
-      used = used_gone bs.blocks.entries _ (n / 8)
+      used = used_gone bs.blocks.entries _ (n / 4)
           (λ q.
-          c.remove.ensures.updates.0 q ∙ ap (cond (n / 8 == q) None) ((w.3 (ap (λ o. is_some o) (sym c.in-Some.ensures.value))).0 q)
-          ∙ gone_again (n / 8 == q) (Some c.take-slot.new.self) (lookup (λ p. q == p) bs.blocks.entries)) bs.used;
+          c.remove.ensures.updates.0 q ∙ ap (cond (n / 4 == q) None) ((w.3 (ap (λ o. is_some o) (sym c.in-Some.ensures.value))).0 q)
+          ∙ gone_again (n / 4 == q) (Some c.take-slot.new.self) (lookup (λ p. q == p) bs.blocks.entries)) bs.used;
     }
 
 pub invariant_of-self-else-is_empty : goal.invariant_of-self-else-is_empty
@@ -23,7 +23,7 @@ invariant_of-self-else-is_empty c =
     let w = c.get_mut.follows.holds c.take-slot.new.self in
     record {
       apart = w.4;
-      used = used_put bs.blocks.entries _ (c.args.number / 8) c.take-slot.new.self (w.3 (ap (λ o. is_some o) (sym c.in-Some.ensures.value))).0
+      used = used_put bs.blocks.entries _ (c.args.number / 4) c.take-slot.new.self (w.3 (ap (λ o. is_some o) (sym c.in-Some.ensures.value))).0
           (λ blank. let is : c.is_empty.result ≡ true = c.is_empty.ensures.1 blank in cc) bs.used;
     }
 
@@ -35,13 +35,13 @@ returns-then-is_empty-clause-taken c =
     let here = c.in-Some.ensures.value in
     block_changed bs c.remove.new.self.entries n None None
     (λ q.
-    c.remove.ensures.updates.0 q ∙ ap (cond (n / 8 == q) None) ((w.3 (ap (λ o. is_some o) (sym here))).0 q)
-    ∙ gone_again (n / 8 == q) (Some c.take-slot.new.self) (lookup (λ p. q == p) bs))
-    (λ i. sym (c.is_empty.ensures.0 c.if-is_empty.true i) ∙ c.take-slot.ensures.taken i ∙ ap (λ o. cond (n % 8 == i) None (slot_in o i)) here)
+    c.remove.ensures.updates.0 q ∙ ap (cond (n / 4 == q) None) ((w.3 (ap (λ o. is_some o) (sym here))).0 q)
+    ∙ gone_again (n / 4 == q) (Some c.take-slot.new.self) (lookup (λ p. q == p) bs))
+    (λ i. sym (c.is_empty.ensures.0 c.if-is_empty.true i) ∙ c.take-slot.ensures.taken i ∙ ap (λ o. cond (n % 4 == i) None (slot_in o i)) here)
 
 pub returns-else-is_empty-clause-taken : goal.returns-else-is_empty-clause-taken
 returns-else-is_empty-clause-taken c =
     let w = c.get_mut.follows.holds c.take-slot.new.self in
     let here = c.in-Some.ensures.value in
     block_changed c.args.self.now.blocks.entries _ c.args.number (Some c.take-slot.new.self) None (w.3 (ap (λ o. is_some o) (sym here))).0
-    (λ i. c.take-slot.ensures.taken i ∙ ap (λ o. cond (c.args.number % 8 == i) None (slot_in o i)) here)
+    (λ i. c.take-slot.ensures.taken i ∙ ap (λ o. cond (c.args.number % 4 == i) None (slot_in o i)) here)
