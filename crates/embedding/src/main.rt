@@ -195,6 +195,10 @@ impl<M: MapRead> MapRead for Survey<M> {
         self.map.place_of(id)
     }
 
+    fn in_lines_at(&self, place: u32) -> &[LineId] {
+        self.map.in_lines_at(place)
+    }
+
     fn out_ends_at(&self, place: u32) -> &[LineEnd] {
         self.map.out_ends_at(place)
     }

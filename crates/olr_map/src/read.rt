@@ -64,6 +64,12 @@ pub trait MapRead {
     fn place_of(&self, id: NodeId) -> Option<u32>
         ensures { SomeIff result (IsTrue (has_node (map self.now) id)) (place_in self.now id) };
 
+    /// `in_lines` of the node that has this place, without looking for its number.
+    fn in_lines_at(&self, place: u32) -> &[LineId]
+        requires { (v : ℕ) × IsTrue (has_node (map self.now) v) × (place_in self.now v ≡ place) }
+        ensures { (v : ℕ) → IsTrue (has_node (map self.now) v) → place_in self.now v ≡ place
+            → result.now ≡ lines_in (map self.now) v };
+
     /// `out_ends` of the node that has this place, without looking for its number.
     fn out_ends_at(&self, place: u32) -> &[LineEnd]
         requires { (v : ℕ) × IsTrue (has_node (map self.now) v) × (place_in self.now v ≡ place) }

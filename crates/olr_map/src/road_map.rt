@@ -58,6 +58,10 @@ impl MapRead for RoadMap {
         self.tables.place_of(id)
     }
 
+    fn in_lines_at(&self, place: u32) -> &[LineId] {
+        self.tables.in_lines_at(place)
+    }
+
     fn out_ends_at(&self, place: u32) -> &[LineEnd] {
         self.tables.out_ends_at(place)
     }

@@ -83,6 +83,10 @@ impl MapRead for Tables {
         self.index.get(id.number())
     }
 
+    fn in_lines_at(&self, place: u32) -> &[LineId] {
+        self.nodes.entry(place).ins.lines()
+    }
+
     fn out_ends_at(&self, place: u32) -> &[LineEnd] {
         self.nodes.entry(place).outs.ends()
     }

@@ -33,6 +33,18 @@ nodes_in test (x ∷ xs) r c e = elim (Contains-append_cases (x ∷ []) xs r c) 
   | inr h ↦ head_too test (test x) x xs r.node (nodes_in test xs r h e)
 ]
 
+filtered_more : (b : Bool) (x : Reached) (xs ys : List Reached) (r : Reached) → (Contains ys r → Contains xs r) → Contains (cond b (x ∷ ys) ys) r → Contains (x ∷ xs) r
+filtered_more true x xs ys r rest c = elim (Contains-append_cases (x ∷ []) ys r c) [
+  | inl h ↦ subst (λ (y : Reached). Contains (x ∷ xs) y) (sym (the_one x r h)) (at_head x xs)
+  | inr h ↦ in_tail x r xs (rest h)
+]
+filtered_more false x xs ys r rest c = in_tail x r xs (rest c)
+
+-- what passes a test is in the list
+pub filtered_in : (test : Reached → Bool) (xs : List Reached) (r : Reached) → Contains (filter test xs) r → Contains xs r
+filtered_in test [] r c = c
+filtered_in test (x ∷ xs) r c = filtered_more (test x) x xs (filter test xs) r (λ h. filtered_in test xs r h) c
+
 abbrev Passes : (Reached → Bool) → List Reached → ℕ → Type 0
 Passes test xs v = (r : Reached) × Contains xs r × (test r ≡ true) × (r.node ≡ v)
 

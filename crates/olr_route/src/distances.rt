@@ -5,11 +5,12 @@ ghost use Rattle.olr_spec.specs.Map.{Map, has_node, start as start_node, end, dm
 ghost use Rattle.olr_spec.specs.Walks.{Sole, dm_of};
 ghost use Rattle.olr_route.specs.Distances.{IsDistance, Leads};
 ghost use Rattle.olr_route.specs.Founds.{label_of};
+ghost use Rattle.olr_route.specs.Notes.{numbers_of};
 ghost use Rattle.olr_route.specs.Searches.{IsSearch, IsNear, IsReached, Counts, IsAlone, limit_of};
 ghost use Rattle.olr_route.specs.declared.found.Reached.{Reached as ReachedRecord};
 ghost use Rattle.olr_route.specs.declared.distances.Direction.TheVariants.{Along};
 
-use crate::found::{Found, Reached};
+use crate::found::{Found, Reached, nodes_of};
 use crate::lines::both_ends;
 use crate::routes::GREATEST_LIMIT;
 use crate::steps::{follow, start};
@@ -149,6 +150,22 @@ impl Search {
         self.found.count_within(self.limit)
     }
 
+    /// The nodes within the limit that the search has been settled to, rising, each with its place.
+    pub(crate) fn reached_within(&self, alloc: Global) -> Result<Vec<Reached>, AllocError>
+        ensures rising { IfOk result (λ within. (M : Map) (place_in : ℕ → ℕ) (direction : _) (from : List (ℕ × ℕ))
+            → IsSearch M place_in direction from self.now → IsStrictlyIncreasing (numbers_of within.items)) }
+        ensures nodes { IfOk result (λ within. (M : Map) (place_in : ℕ → ℕ) (direction : _) (from : List (ℕ × ℕ)) (v : ℕ)
+            → IsSearch M place_in direction from self.now
+            → (Contains (numbers_of within.items) v ↔ IsNear M direction from (limit_of self.now) v)) }
+        ensures placed { IfOk result (λ within. (M : Map) (place_in : ℕ → ℕ) (direction : _) (from : List (ℕ × ℕ)) (r : ReachedRecord)
+            → IsSearch M place_in direction from self.now → Contains within.items r
+            → IsTrue (has_node M r.node) × (place_in r.node ≡ r.place)) }
+    {
+        let mut within = self.found.reached_within(alloc, self.limit)?;
+        within.sort_unstable_by_key(|reached| reached.node);
+        Ok(within)
+    }
+
     /// The nodes within the limit that the search has been settled to, rising.
     pub fn nodes(&self, alloc: Global) -> Result<Vec<NodeId>, AllocError>
         ensures rising { IfOk result (λ nodes. (M : Map) (place_in : ℕ → ℕ) (direction : _) (from : List (ℕ × ℕ))
@@ -156,8 +173,8 @@ impl Search {
         ensures nodes { IfOk result (λ nodes. (M : Map) (place_in : ℕ → ℕ) (direction : _) (from : List (ℕ × ℕ)) (v : ℕ)
             → IsSearch M place_in direction from self.now → (Contains nodes.items v ↔ IsNear M direction from (limit_of self.now) v)) }
     {
-        let mut nodes = self.found.nodes_within(alloc, self.limit)?;
-        nodes.sort_unstable();
+        let within = self.reached_within(alloc)?;
+        let nodes = nodes_of(alloc, &within)?;
         Ok(nodes)
     }
 

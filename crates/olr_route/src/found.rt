@@ -1,6 +1,6 @@
 //! What a search has found so far: labels by place, the nodes that have one, and the places to go on from.
 ghost use Rattle.std.specs.Prelude.{◌≡◌, ◌<◌, OnErr, OnOk, IfOk};
-ghost use Rattle.olr_route.specs.Notes.{AreNoted, AreNoted-prop, NotesOnce};
+ghost use Rattle.olr_route.specs.Notes.{AreNoted, AreNoted-prop, NotesOnce, numbers_of};
 
 use crate::queue::Queue;
 use crate::routes::GREATEST_LIMIT;
@@ -39,10 +39,20 @@ fn note(reached: &mut Vec<Reached>, label: u32, node: NodeId, place: u32) -> Res
     Ok(())
 }
 
+/// The nodes of these entries, in their order.
+pub fn nodes_of(alloc: Global, reached: &[Reached]) -> Result<Vec<NodeId>, AllocError>
+    ensures { IfOk result (λ nodes. nodes.items ≡ numbers_of reached.now) }
+{
+    let mut nodes = Vec::with_capacity(alloc, reached.len())?;
+    for entry in reached {
+        nodes.push(entry.node)?;
+    }
+    Ok(nodes)
+}
+
 impl Found {
     ghost use Rattle.std.specs.Prelude.{◌≤◌, ◌+◌, ◌⊎◌, ℕ, [], IfSome, IfNone, count_by, nat_le};
     ghost use Rattle.std.specs.List.{filter};
-    ghost use Rattle.olr_route.specs.Notes.{numbers_of};
     ghost use Rattle.olr_route.specs.Founds.{label_of, found_len, queued_len, IsPut, IsEmpty, IsQueued};
 
     /// No labels. Takes no memory.
@@ -83,17 +93,18 @@ impl Found {
             .count()
     }
 
-    /// The nodes whose labels are at most `limit`, in no particular order.
-    pub fn nodes_within(&self, alloc: Global, limit: u32) -> Result<Vec<NodeId>, AllocError>
-        ensures { IfOk result (λ nodes. nodes.items ≡ numbers_of (filter (λ r. nat_le (label_of self.now r.place) limit) self.now.reached.items)) }
+    /// The nodes whose labels are at most `limit`, each with its place, in no particular order.
+    pub fn reached_within(&self, alloc: Global, limit: u32) -> Result<Vec<Reached>, AllocError>
+        ensures { IfOk result (λ within. within.items
+            ≡ filter (λ r. nat_le (label_of self.now r.place) limit) self.now.reached.items) }
     {
-        let mut nodes = Vec::with_capacity(alloc, self.reached.len())?;
+        let mut within = Vec::with_capacity(alloc, self.reached.len())?;
         for reached in &self.reached {
             if self.label(reached.place) <= limit {
-                nodes.push(reached.node)?;
+                within.push(*reached)?;
             }
         }
-        Ok(nodes)
+        Ok(within)
     }
 
     /// Forgets all labels. Takes time that rises with their number.

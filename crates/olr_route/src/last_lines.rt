@@ -3,8 +3,10 @@ ghost use Rattle.std.specs.Prelude.{◌≡◌, ◌↔◌, ◌+◌, ◌<◌, ℕ,
 ghost use Rattle.olr_spec.specs.Map.{has_node};
 ghost use Rattle.olr_route.specs.Founds.{label_of};
 ghost use Rattle.olr_route.specs.Listed.{IsLastLine, IsTold};
+ghost use Rattle.olr_route.specs.Notes.{numbers_of};
+ghost use Rattle.olr_route.specs.declared.found.Reached.{Reached as ReachedRecord};
 
-use crate::found::Found;
+use crate::found::{Found, Reached};
 use olr_map::{LineEnd, LineId, MapRead, NodeId};
 use std::alloc::{AllocError, Global};
 
@@ -27,7 +29,7 @@ fn last_line<M: MapRead>(
     requires at { M.place_in map.now node ≡ place }
     ensures { IsLastLine (M.map map.now) (M.place_in map.now) found.now node length result }
 {
-    let lines = map.in_lines(node);
+    let lines = map.in_lines_at(place);
     let ends = map.in_ends_at(place);
     for (index, end) in ends.iter().enumerate() {
         if comes_to(found, end, length) {
@@ -38,34 +40,34 @@ fn last_line<M: MapRead>(
 }
 
 /// The distance of a node by its label in the table, and the last line of the least walk there.
-fn label_at<M: MapRead>(map: &M, found: &Found, node: NodeId) -> (u32, Option<LineId>)
-    requires { IsTrue (has_node (M.map map.now) node) }
-    ensures { IsTold (M.map map.now) (M.place_in map.now) found.now node result }
+fn label_at<M: MapRead>(map: &M, found: &Found, reached: Reached) -> (u32, Option<LineId>)
+    requires known { IsTrue (has_node (M.map map.now) reached.node) }
+    requires at { M.place_in map.now reached.node ≡ reached.place }
+    ensures { IsTold (M.map map.now) (M.place_in map.now) found.now reached.node result }
 {
-    match map.place_of(node) {
-        None => unreachable!(),
-        Some(place) => {
-            let length = found.label(place);
-            (length, last_line(map, found, node, place, length))
-        }
-    }
+    let length = found.label(reached.place);
+    (
+        length,
+        last_line(map, found, reached.node, reached.place, length),
+    )
 }
 
-/// For each of these nodes: its distance, and the last line of the least walk there.
+/// For each of these nodes with their places: its distance, and the last line of the least walk there.
 pub fn labels_at<M: MapRead>(
     alloc: Global,
     map: &M,
     found: &Found,
-    nodes: &[NodeId],
+    reached: &[Reached],
 ) -> Result<Vec<(u32, Option<LineId>)>, AllocError>
-    requires { (v : ℕ) → Contains nodes.now v → IsTrue (has_node (M.map map.now) v) }
-    ensures beside { IfOk result (λ labels. length labels.items ≡ length nodes.now) }
-    ensures each { IfOk result (λ labels. (i : ℕ) → i < length nodes.now
-        → IsTold (M.map map.now) (M.place_in map.now) found.now (slice_index nodes.now i) (slice_index_or labels.items i (0, None))) }
+    requires { (r : ReachedRecord) → Contains reached.now r
+        → IsTrue (has_node (M.map map.now) r.node) × (M.place_in map.now r.node ≡ r.place) }
+    ensures beside { IfOk result (λ labels. length labels.items ≡ length reached.now) }
+    ensures each { IfOk result (λ labels. (i : ℕ) → i < length reached.now
+        → IsTold (M.map map.now) (M.place_in map.now) found.now (slice_index (numbers_of reached.now) i) (slice_index_or labels.items i (0, None))) }
 {
-    let mut labels = Vec::with_capacity(alloc, nodes.len())?;
-    for node in nodes {
-        labels.push(label_at(map, found, *node))?;
+    let mut labels = Vec::with_capacity(alloc, reached.len())?;
+    for entry in reached {
+        labels.push(label_at(map, found, *entry))?;
     }
     Ok(labels)
 }

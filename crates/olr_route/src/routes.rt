@@ -5,6 +5,7 @@ ghost use Rattle.olr_route.specs.Labels.{AreLabels, label_at, count_of};
 ghost use Rattle.olr_route.specs.Counts.{after_search};
 
 use crate::distances::{Direction, near};
+use crate::found::nodes_of;
 use crate::labels::{Labels, noted};
 use crate::last_lines::labels_at;
 use crate::work::Work;
@@ -38,8 +39,9 @@ pub fn search<M: MapRead>(
     ensures grows { OnOk result (length footprint.old ≤ length footprint.new) }
 {
     let settled = near(alloc, map, Direction::Along, &[(source, 0)], limit_dm)?;
-    let nodes = settled.nodes(alloc)?;
-    let labels = labels_at(alloc, map, &settled.found, &nodes)?;
+    let reached = settled.reached_within(alloc)?;
+    let labels = labels_at(alloc, map, &settled.found, &reached)?;
+    let nodes = nodes_of(alloc, &reached)?;
     let labels = Labels::new(source, limit_dm, nodes, labels);
     noted(&labels, footprint, work)?;
     Ok(labels)

@@ -462,6 +462,7 @@ fn far_ends_stand_beside_lines(rt: HostRuntime) -> Result<(), Fail> {
         None => panic!(rt; "line 7 enters node 2"),
     }
     if let Some(place) = map.place_of(second) {
+        same!(&rt; map.in_lines_at(place), map.in_lines(second));
         same!(&rt; map.in_ends_at(place), ends);
         same!(&rt; map.out_ends_at(place), map.out_ends(second));
     }

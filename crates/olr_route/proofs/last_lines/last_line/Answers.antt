@@ -15,8 +15,8 @@ pub returns-then-comes_to : goal.returns-then-comes_to
 returns-then-comes_to g c =
     let M = g.M.MapRead.map c.args.map.now in
     let place = g.M.MapRead.place_in c.args.map.now in
-    let lines = c.in_lines-lines.result.now in
-    let e = entry_is M place c.args.node lines c.in_ends_at-ends.result.now c.in_lines-lines.ensures (c.in_ends_at-ends.ensures c.args.node c.requires.known c.requires.at) c.loop-index.index c.index-ends-index.result c.loop-index-test.true c.index-ends-index.is in
+    let lines = c.in_lines_at-lines.result.now in
+    let e = entry_is M place c.args.node lines c.in_ends_at-ends.result.now (c.in_lines_at-lines.ensures c.args.node c.requires.known c.requires.at) (c.in_ends_at-ends.ensures c.args.node c.requires.known c.requires.at) c.loop-index.index c.index-ends-index.result c.loop-index-test.true c.index-ends-index.is in
     let x = c.index-lines-index.result in
     let is : x ≡ get_or lines c.loop-index.index 0 = c.index-lines-index.is ∙ get_or_default_zero lines c.loop-index.index x e.within in
     let at : label_of c.args.found.now c.index-ends-index.result.place ≡ label_of c.args.found.now (place (start M (get_or lines c.loop-index.index 0))) = ap (label_of c.args.found.now) e.there in
@@ -29,11 +29,11 @@ returns-then-comes_to g c =
           subst (IsTight M place c.args.found.now c.args.node c.args.length) (sym is ∙ one) tight;
       least = λ y z same t.
           let one : x ≡ y = cc in
-          let k = entering M c.args.node z lines c.in_lines-lines.ensures t.known t.to in
+          let k = entering M c.args.node z lines (c.in_lines_at-lines.ensures c.args.node c.requires.known c.requires.at) t.known t.to in
           elim (cases_lt k.0 c.loop-index.index) [
             | inl low ↦ absurd (c.loop-index.invariant k.0 low (subst (IsTight M place c.args.found.now c.args.node c.args.length) (sym k.2) t))
             | inr high ↦
-                let le = rises lines (subst (λ (zs : List ℕ). IsStrictlyIncreasing zs) (sym c.in_lines-lines.ensures) (rise_in M c.args.node)) c.loop-index.index k.0 high k.1 in
+                let le = rises lines (subst (λ (zs : List ℕ). IsStrictlyIncreasing zs) (sym (c.in_lines_at-lines.ensures c.args.node c.requires.known c.requires.at)) (rise_in M c.args.node)) c.loop-index.index k.0 high k.1 in
                 let there = k.2 in
                 omega arith
           ];
@@ -44,12 +44,12 @@ pub loop-index-preserved : goal.loop-index-preserved
 loop-index-preserved g c = λ j lt t.
     let M = g.M.MapRead.map c.args.map.now in
     let place = g.M.MapRead.place_in c.args.map.now in
-    let lines = c.in_lines-lines.result.now in
+    let lines = c.in_lines_at-lines.result.now in
     elim (cases_lt j c.loop-index.index) [
       | inl low ↦ c.loop-index.invariant j low t
       | inr high ↦
           let same : j ≡ c.loop-index.index = omega arith in
-          let e = entry_is M place c.args.node lines c.in_ends_at-ends.result.now c.in_lines-lines.ensures (c.in_ends_at-ends.ensures c.args.node c.requires.known c.requires.at) c.loop-index.index c.index-ends-index.result c.loop-index-test.true c.index-ends-index.is in
+          let e = entry_is M place c.args.node lines c.in_ends_at-ends.result.now (c.in_lines_at-lines.ensures c.args.node c.requires.known c.requires.at) (c.in_ends_at-ends.ensures c.args.node c.requires.known c.requires.at) c.loop-index.index c.index-ends-index.result c.loop-index-test.true c.index-ends-index.is in
           let at : label_of c.args.found.now c.index-ends-index.result.place ≡ label_of c.args.found.now (place (start M (get_or lines j 0))) =
           ap (label_of c.args.found.now) e.there ∙ ap (λ (n : ℕ). label_of c.args.found.now (place (start M (get_or lines n 0)))) (sym same) in
           let len : c.index-ends-index.result.len ≡ dm M (get_or lines j 0) = e.len ∙ ap (λ (n : ℕ). dm M (get_or lines n 0)) (sym same) in
@@ -62,14 +62,14 @@ pub returns : goal.returns
 returns g c =
     let M = g.M.MapRead.map c.args.map.now in
     let place = g.M.MapRead.place_in c.args.map.now in
-    let lines = c.in_lines-lines.result.now in
-    let many = as_many M place c.args.node lines c.in_ends_at-ends.result.now c.in_lines-lines.ensures (c.in_ends_at-ends.ensures c.args.node c.requires.known c.requires.at) in
+    let lines = c.in_lines_at-lines.result.now in
+    let many = as_many M place c.args.node lines c.in_ends_at-ends.result.now (c.in_lines_at-lines.ensures c.args.node c.requires.known c.requires.at) (c.in_ends_at-ends.ensures c.args.node c.requires.known c.requires.at) in
     let past = c.loop-index-test.false in
     record {
       tight = λ x e. cc;
       least = λ x y e t. cc;
       none = λ e y t.
-          let k = entering M c.args.node y lines c.in_lines-lines.ensures t.known t.to in
+          let k = entering M c.args.node y lines (c.in_lines_at-lines.ensures c.args.node c.requires.known c.requires.at) t.known t.to in
           let lt = k.1 in
           c.loop-index.invariant k.0 (omega arith) (subst (IsTight M place c.args.found.now c.args.node c.args.length) (sym k.2) t);
     }
