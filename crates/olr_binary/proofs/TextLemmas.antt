@@ -10,10 +10,11 @@ use Rattle.olr_binary.specs.declared.faults.V3Fault.TheVariants.{Length, Status,
 use Rattle.olr_binary.specs.declared.faults.TextFault.{TextFault}
 use Rattle.olr_binary.specs.declared.faults.TextFault.TheVariants.{Bytes, NotBase64}
 use Rattle.olr_binary.specs.Faults.{IsFaultOf, IsOfText}
-use Rattle.olr_binary.specs.Text.{IsTextOf}
+use Rattle.olr_binary.specs.Text.{IsTextOf, text_of}
 use Rattle.olr_binary.proofs.SpelledLemmas.{spelling-sound, spelling-bytes}
 
 decode-text : (r : Reference) (text : List ℕ) → IsTextOf r text → decode_of standard text ≡ Ok (spelling r)
+unfolding text_of
 decode-text r text is = ap (decode_of standard) is.1 ∙ decode_of-encode_of standard (spelling r) refl (spelling-bytes r is.0)
 
 pub one_reference : (q r : Reference) (text : List ℕ) → IsTextOf q text → IsTextOf r text → q ≡ r

@@ -6,7 +6,7 @@ use Rattle.base64.specs.GeneralPurpose.{encode_of}
 use Rattle.olr_spec.specs.Reference.{Reference}
 use Rattle.olr_spec.specs.Bytes.{IsReference, spelling}
 
-abbrev pub text_of : Reference → List ℕ
+unfoldable pub text_of : Reference → List ℕ
 text_of r = encode_of standard (spelling r)
 
 abbrev pub IsTextOf : Reference → List ℕ → Type 0

@@ -14,6 +14,7 @@ use base64::engine::general_purpose::STANDARD;
 use std::alloc::{AllocError, Global};
 
 /// The text of a reference: the base64 of its bytes in version 3.
+#[tactic(auto, unfolding(crate::specs::Text::text_of))]
 pub fn to_text(alloc: Global, reference: &Reference) -> Result<String, AllocError>
     ensures { IfOk result (λ text. IsTextOf reference.now (string_bytes text)) }
 {
@@ -22,6 +23,7 @@ pub fn to_text(alloc: Global, reference: &Reference) -> Result<String, AllocErro
 }
 
 /// The reference that a text is the text of. Where it is none, why.
+#[tactic(auto, unfolding(crate::specs::Text::text_of))]
 pub fn from_text(alloc: Global, text: &[u8]) -> Result<Reference, TextFault>
     ensures ok { IfOk result (λ r. IsTextOf r text.now) }
     ensures fault { IfErr result (λ fault. IsFaultOf text.now fault) }

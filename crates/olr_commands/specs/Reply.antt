@@ -6,17 +6,14 @@
 use Rattle.std.specs.Prelude.{◌≡◌, ℕ, suc, Bool, true, false, not, ◌&&◌, List, [], ◌∷◌, length, Option, Some, None, option_and_then, IsSomeAnd, MatchOption, Result, Ok, Err, ◌⊎◌, IsTrue}
 use Rattle.std.specs.Result.{result_ok}
 use Rattle.base64.specs.Engines.{standard}
-use Rattle.base64.specs.GeneralPurpose.{encode_of, decoded_of}
+use Rattle.base64.specs.GeneralPurpose.{decoded_of}
 use Rattle.olr_spec.specs.Map.{Map}
 use Rattle.olr_spec.specs.Extension.{Path}
 use Rattle.olr_spec.specs.Reference.{Reference}
 use Rattle.olr_spec.specs.Encoding.{Answer, Points, Refused, Refusal, Encodes}
 use Rattle.olr_spec.specs.Bytes.{spelling, Spells}
+use Rattle.olr_binary.specs.Text.{text_of}
 use Rattle.olr_commands.specs.State.{Named, Content, path_named, Fault, Syntax, Range, Map_fault, Path_exists, No_path, Bad_path, Not_a_reference, Memory, Batch_open, No_batch, Count_differs, Batch_full, Change, Drop_path, State, Command, Make, Show, Report, Explain, Begin, Commit, Abort, step}
-
--- the bytes of a reference in base64
-unfoldable pub text_of : Reference → List ℕ
-text_of r = encode_of standard (spelling r)
 
 -- a path's string, or why it has none
 pub record Entry : Type 0 where

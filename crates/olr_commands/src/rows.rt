@@ -5,7 +5,8 @@ ghost use Rattle.olr_spec.specs.Rows.{reference1, legs1};
 ghost use Rattle.olr_spec.specs.Bytes.{Length, Flags, Reserved};
 ghost use Rattle.olr_spec.specs.Bytes as bytes;
 ghost use Rattle.olr_commands.specs.State.{Add_path, Not_a_reference, Not_v3, Not_base64, Path_exists, No_path, Batch_open, No_batch, Count_differs, Drop_path, Make, Show, Report, Explain, Begin, Commit, Abort, start_state, step};
-ghost use Rattle.olr_commands.specs.Reply.{Paths, Held, text_of, IsReply, may_lack};
+ghost use Rattle.olr_binary.specs.Text.{text_of};
+ghost use Rattle.olr_commands.specs.Reply.{Paths, Held, IsReply, may_lack};
 ghost use Rattle.olr_commands.specs.Rows.{reference2, in_batch, path_a, with_a};
 
 /// Texts of references: the worked paths by their points and offsets.

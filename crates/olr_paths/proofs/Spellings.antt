@@ -5,21 +5,19 @@ use Rattle.std.specs.Option.{option_eq}
 use Rattle.std.specs.Str.{bytes_eq}
 use Rattle.olr_spec.specs.Bytes.{IsReference}
 use Rattle.olr_spec.specs.Encoding as spec
-use Rattle.olr_binary.specs.Text.{text_of as spelled}
 use Rattle.olr_binary.proofs.TextLemmas.{one_reference}
 use lib.Pointwise.{bytes_decides}
 use Rattle.std.specs.Result.{result_ok}
 use Rattle.std.specs.declared.alloc.Global.{Global}
 use Rattle.olr_spec.specs.Reference.{Reference}
-use Rattle.olr_binary.specs.Text.{IsTextOf}
-use Rattle.olr_commands.specs.Reply.{published, text_of}
+use Rattle.olr_binary.specs.Text.{IsTextOf, text_of}
+use Rattle.olr_commands.specs.Reply.{published}
 use Rattle.olr_refs.specs.Answers.{answer_of}
 use Rattle.olr_refs.specs.declared.answer.Answer.{Answer}
 use Rattle.olr_refs.specs.declared.answer.Answer.TheVariants.{Points, Refused}
 use Rattle.olr_refs.specs.declared.answer.Refusal.{Refusal}
 
 pub spelled_points : (answer : Answer) (r : Reference) (text : Option (String Global)) (t : String Global) → answer ≡ Points r → text ≡ Some t → IsTextOf r (string_bytes t) → option_map string_bytes text ≡ result_ok (published (answer_of answer))
-unfolding text_of
 spelled_points answer r text t is kept h =
     ap (option_map string_bytes) kept ∙ ap Some h.1 ∙ sym (ap (λ (a : Answer). result_ok (published (answer_of a))) is)
 
@@ -31,7 +29,7 @@ spelled_refused answer f text is kept = ap (option_map string_bytes) kept ∙ sy
 same_texts : (q r : Reference) (s t : List ℕ) → IsTextOf q s → IsTextOf r t → (IsTrue (bytes_eq s t) → spec.Points q ≡ spec.Points r) × (spec.Points q ≡ spec.Points r → IsTrue (bytes_eq s t))
 same_texts q r s t p h = (
   (λ e. ap spec.Points (one_reference q r s p (h.0, (bytes_decides s t).0 e ∙ h.1))),
-  (λ e. let same : q ≡ r = cc in (bytes_decides s t).1 (p.1 ∙ ap spelled same ∙ sym h.1)),
+  (λ e. let same : q ≡ r = cc in (bytes_decides s t).1 (p.1 ∙ ap text_of same ∙ sym h.1)),
 )
 
 -- a kept text decides the reference that it is the text of
@@ -39,11 +37,10 @@ pub decided : (q r : Reference) (o p : Option (Bor (List ℕ))) → IsReference 
     → option_map (λ s. s.now) o ≡ result_ok (published (spec.Points q)) → option_map (λ s. s.now) p ≡ result_ok (published (spec.Points r))
     → (b : Bool) → b ≡ option_eq (λ s t. bytes_eq s.now t.now) o p
     → (IsTrue b → spec.Points q ≡ spec.Points r) × (spec.Points q ≡ spec.Points r → IsTrue b)
-unfolding text_of
 decided q r None p soundq soundr textq textr b e = absurd cc
 decided q r (Some s) None soundq soundr textq textr b e = absurd cc
 decided q r (Some s) (Some t) soundq soundr textq textr b e =
-    let first : s.now ≡ spelled q = cc in
-    let second : t.now ≡ spelled r = cc in
+    let first : s.now ≡ text_of q = cc in
+    let second : t.now ≡ text_of r = cc in
     let both = same_texts q r s.now t.now (soundq, first) (soundr, second) in
     subst (λ (c : Bool). (IsTrue c → spec.Points q ≡ spec.Points r) × (spec.Points q ≡ spec.Points r → IsTrue c)) (sym e) both

@@ -13,7 +13,7 @@ use Rattle.olr_binary.specs.declared.faults.V3Fault.TheVariants.{Length, Status,
 use Rattle.olr_binary.specs.declared.faults.TextFault.{TextFault}
 use Rattle.olr_binary.specs.declared.faults.TextFault.TheVariants.{Bytes, NotBase64}
 use Rattle.olr_binary.specs.Faults.{IsFaultOf}
-use Rattle.olr_binary.specs.Text.{IsTextOf}
+use Rattle.olr_binary.specs.Text.{IsTextOf, text_of}
 use Rattle.olr_binary.proofs.SpelledLemmas.{spelling-sound, spelling-bytes}
 use Rattle.olr_commands.specs.State as state
 use Rattle.olr_commands.specs.State.{text_fault, bytes_fault}
@@ -35,6 +35,7 @@ unfolding decoded_of
 decoded_none text d e = ap result_ok e
 
 decoded_text : (r : Reference) (text : List ℕ) → IsTextOf r text → decoded_of standard text ≡ Some (spelling r)
+unfolding text_of
 decoded_text r text is = decoded_ok text (spelling r) (ap (decode_of standard) is.1 ∙ decode_of-encode_of standard (spelling r) refl (spelling-bytes r is.0))
 
 pub explain_text : (x : Registered) (text : List ℕ) (r : Reply) (q : Reference) → reply_of r ≡ told.Fields q → IsTextOf q text → Answered x (state.Explain text) (Ok r) x

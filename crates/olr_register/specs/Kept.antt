@@ -9,6 +9,7 @@ use Rattle.std.proofs.Common.{refl}
 use Rattle.olr_spec.specs.Map.{Map}
 use Rattle.olr_spec.specs.Extension.{Path, has}
 use Rattle.olr_spec.specs.Codes.{coded_map}
+use Rattle.olr_refs.specs.Coded.{coded_path}
 use Rattle.olr_commands.specs.State.{Named, Content, same_name, Change, after, State}
 use Rattle.olr_commands.specs.Counts.{all_nodes, all_lines, all_names}
 
@@ -53,9 +54,6 @@ abbrev pub Stands : Kept → State → Type 0
 Stands k s = (k.content ≡ s.content) × StandsIn k.content k.batch s.batch
 
 -- ---- codes, for an `impl Model`
-
-abbrev pub coded_path : Coded Path
-coded_path = code_by (List ℕ × (ℕ × ℕ)) (coded× (coded_list coded_ℕ) (coded× coded_ℕ coded_ℕ)) (λ p. (p.lines, (p.pos, p.neg))) (λ t. record { lines = t.0; pos = t.1.0; neg = t.1.1 }) (λ _. refl)
 
 abbrev pub coded_named : Coded Named
 coded_named = code_by (List ℕ × Path) (coded× (coded_list coded_ℕ) coded_path) (λ n. (n.name, n.path)) (λ t. record { name = t.0; path = t.1 }) (λ _. refl)

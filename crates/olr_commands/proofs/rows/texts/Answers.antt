@@ -1,6 +1,6 @@
 use Rattle.std.specs.Prelude.{refl}
 use Rattle.base64.specs.Rfc4648.{encode_symbols}
-use Rattle.olr_commands.specs.Reply.{text_of}
+use Rattle.olr_binary.specs.Text.{text_of}
 use Rattle.olr_commands.proofs.rows.texts.Goals as goal
 
 pub returns-clause-one : goal.returns-clause-one
