@@ -30,6 +30,7 @@ pub use footprint::Footprint;
 pub use ids::{LineId, NodeId};
 pub use judging::{Judged, judge};
 pub use line::{Line, Shape};
+pub use number_hash::NumberHasher;
 pub use plain_map::PlainMap;
 pub use read::{LineEnd, MapRead};
 pub use road_map::RoadMap;

@@ -1,10 +1,12 @@
 -- How numbers change, and what they tell when no line leads on.
 use Rattle.std.proofs.Common.{◌≡◌, ◌≢◌, nat_eq, ◌*◌, ◌^◌, get_or, length, ℕ, ◌+◌, ◌-◌, ◌<◌, ◌≤◌, ◌⊎◌, List, [], ◌∷◌, Option, Some, None, IsSome, IsTrue, Bool, refl, sym, ap, ◌∙◌, subst, inl, inr, arith}
-use Rattle.std.proofs.lemmas.Bool.{cases_Bool, cases_eq, eqb-true}
+use Rattle.std.proofs.lemmas.Bool.{cases_Bool, cases_eq, eqb-true, ne_eqb}
 use Rattle.std.specs.Prelude.{sum_by, unwrap_or}
 use Rattle.std.specs.Option.{option_map}
 use Rattle.std.specs.Cmp.{nat_eq_equiv}
-use Rattle.std.specs.HashMap.{IsUnique, PutsEntry, get, keys, values}
+use Rattle.std.specs.HashMap.{IsUnique, PutsEntry, Updates, get, keys, values}
+use Rattle.std.specs.BinaryHeap.{heap_items}
+use Rattle.std.specs.List.Sorted.{IsPermutation}
 use Rattle.std.proofs.Math.Nat.{mul-le-mul_right}
 use Rattle.std.proofs.lemmas.List.{get_or-map, length-map}
 use Rattle.std.proofs.lemmas.List.Sums.{sum_by-le}
@@ -18,7 +20,7 @@ use Rattle.olr_spec.specs.Detours.{Near}
 use Rattle.olr_spec.proofs.AgreeLemmas.{turned_round, by_leaving, same_known, same_start, same_end, same_dm}
 use Rattle.olr_map.specs.Ends.{end_out, ends_out}
 use Rattle.olr_map.specs.declared.read.LineEnd.{LineEnd}
-use Rattle.olr_near.proofs.Waiting.{line_there, no_end}
+use Rattle.olr_near.proofs.Waiting.{line_there, no_end, pushed_kept, pushed_there}
 use Rattle.olr_near.specs.Numbers.{Numbers, number_of, IsSource, Within, ClosedAt, IsRight, IsWaiting, IsUnderWay, SameBut, Moves, IsReopened}
 use Rattle.olr_near.specs.declared.nearness.Nearness.{Nearness}
 
@@ -90,6 +92,34 @@ module _ (L K : ℕ → Option ℕ) (v d : ℕ) (there : K v ≡ Some d) (others
     | inr ne ↦ inl (sym (others q ne) ∙ at)
   ]
 
+-- between f and g, where the node v of that number then waits
+pub put_moves : (f g : Nearness) (k v d : ℕ) → k ≡ v → Updates nat_eq f.numbers g.numbers k (Some d) → ((e : ℕ) → number_of f k ≡ Some e → d < e)
+    → IsPermutation (record { 0 = (d, v) } ∷ heap_items f.waiting) (heap_items g.waiting) → g.known ≡ f.known → Moves f g
+put_moves f g k v d is updates less p known =
+    let L = number_of f in
+    let K = number_of g in
+    let there : K v ≡ Some d = ap K (sym is) ∙ updates.1 in
+    let others : (q : ℕ) → q ≢ v → K q ≡ L q = λ q ne. updates.2 q (ne_eqb k q (λ e. ne (sym e ∙ is))) in
+    record {
+      better = put_better L K v d there others (λ e at. let lt = less e (ap L is ∙ at) in omega arith);
+      fresh = λ q e at. elim (put_fresh L K v d there others q e at) [
+        | inl was ↦ inl was
+        | inr h ↦ inr (subst (λ (n : ℕ). IsWaiting g n q) (sym h.0) (subst (λ (u : ℕ). IsWaiting g d u) (sym h.1) (pushed_there _ _ _ p)))
+      ];
+      kept = λ e q w. pushed_kept _ _ _ e q p w;
+      known = known;
+    }
+
+-- the number there is greater, where there is one
+pub less_some : (o : Option ℕ) (had d : ℕ) → Some had ≡ o → d < had → (e : ℕ) → o ≡ Some e → d < e
+less_some o had d is lt e at =
+    let both : ◌≡◌ {A = Option ℕ} (Some had) (Some e) = is ∙ at in
+    let same : had ≡ e = cc in
+    omega arith
+
+pub less_none : (o : Option ℕ) (d : ℕ) → None ≡ o → (e : ℕ) → o ≡ Some e → d < e
+less_none o d is e at = let never : ◌≡◌ {A = Option ℕ} None (Some e) = is ∙ at in absurd cc
+
 -- what it counts
 abbrev pub weight : ℕ → ℕ
 weight k = limit + 1 - k
@@ -103,6 +133,10 @@ pub gain_put : (m n : Numbers) (v d : ℕ) (old : Option ℕ) → old ≡ get na
     → sum_by weight (values m) + 1 ≤ sum_by weight (values n)
 gain_put m n v d old was puts short less =
     gain_by (sum_by weight (values m)) (sum_by weight (values n)) d old (sum_by_puts_entry weight nat_eq m n v d old was puts) short (λ e is. less e (sym was ∙ is))
+
+-- where it stood there already
+pub gain_same : (m n : Numbers) (v d : ℕ) → Some d ≡ get nat_eq m v → PutsEntry nat_eq m n v d (Some d) → sum_by weight (values n) ≡ sum_by weight (values m)
+gain_same m n v d was puts = let sum = sum_by_puts_entry weight nat_eq m n v d (Some d) was puts in omega arith
 
 -- no more numbers than nodes, and none counts for more than one above the limit
 pub gain_le : (m : Numbers) → ((v : ℕ) → IsSome (get nat_eq m v) → v < 2 ^ 32) → IsUnique nat_eq m → sum_by weight (values m) ≤ 2 ^ 32 * (limit + 1)

@@ -11,17 +11,17 @@
 --     gain f      rises with each new number and each lesser one.        IsPaid f g      so much that no more waits than was gained
 -- Where the numbers are unknown nothing is said.
 use Rattle.std.specs.Prelude.{◌≡◌, ℕ, ◌+◌, ◌-◌, ◌*◌, ◌≤◌, ◌⊎◌, List, Option, Some, Contains, IsTrue, IsFalse, nat_eq, sum_by}
-use Rattle.std.specs.declared.hash.FoldHasher.{FoldHasher}
 use Rattle.std.specs.declared.hash.BuildHasherDefault.{BuildHasherDefault}
 use Rattle.std.specs.declared.cmp.Reverse.{Reverse}
 use Rattle.std.specs.HashMap.{HashMap, get, values, hash_map_len}
 use Rattle.std.specs.BinaryHeap.{heap_items, heap_len}
 use Rattle.olr_spec.specs.Map.{Map, has_line, start, end, dm, SameRound}
 use Rattle.olr_spec.specs.Extension.{has, limit}
+use Rattle.olr_map.specs.declared.number_hash.NumberHasher.{NumberHasher}
 use Rattle.olr_near.specs.declared.nearness.Nearness.{Nearness}
 
 abbrev pub Numbers : Type 0
-Numbers = HashMap ℕ ℕ (BuildHasherDefault FoldHasher)
+Numbers = HashMap ℕ ℕ (BuildHasherDefault NumberHasher)
 
 abbrev pub number_of : Nearness → ℕ → Option ℕ
 number_of f v = get nat_eq f.numbers v

@@ -2,11 +2,12 @@
 ghost use Rattle.std.specs.Prelude.{◌<◌, ◌^◌, ℕ, IsSome, nat_eq};
 ghost use Rattle.std.specs.HashMap.{get};
 
-use olr_map::{MapRead, NodeId};
+use olr_map::{MapRead, NodeId, NumberHasher};
 use olr_route::GREATEST_LIMIT;
 use std::alloc::{AllocError, Global};
 use std::cmp::Reverse;
 use std::collections::{BinaryHeap, HashMap};
+use std::hash::BuildHasherDefault;
 
 /// A number for each node that a walk of at most `GREATEST_LIMIT` leads to from one of the sources: at most the length
 /// of that walk, in decimetres. Where lines got longer or were dropped since, numbers may be too small, and some nodes
@@ -17,7 +18,7 @@ use std::collections::{BinaryHeap, HashMap};
 pub struct Nearness {
     alloc: Global,
     /// By a node's number.
-    numbers: HashMap<u32, u32>,
+    numbers: HashMap<u32, u32, BuildHasherDefault<NumberHasher>>,
     /// The nodes whose lines are to be followed, each with the number that it had when it came here.
     waiting: BinaryHeap<Reverse<(u32, NodeId)>>,
     known: bool,
@@ -38,7 +39,7 @@ impl Nearness {
     {
         Nearness {
             alloc,
-            numbers: HashMap::new(alloc),
+            numbers: HashMap::with_hasher(alloc, BuildHasherDefault::new()),
             waiting: BinaryHeap::new(alloc),
             known: true,
         }
@@ -63,7 +64,7 @@ impl Nearness {
         ensures known { IsTrue self.new.known }
         ensures numbers { (v : ℕ) → number_of self.new v ≡ None }
     {
-        self.numbers = HashMap::new(self.alloc);
+        self.numbers = HashMap::with_hasher(self.alloc, BuildHasherDefault::new());
         self.waiting.clear();
         self.known = true;
     }
@@ -72,7 +73,7 @@ impl Nearness {
     pub fn forget(&mut self)
         ensures { IsFalse self.new.known }
     {
-        self.numbers = HashMap::new(self.alloc);
+        self.numbers = HashMap::with_hasher(self.alloc, BuildHasherDefault::new());
         self.waiting = BinaryHeap::new(self.alloc);
         self.known = false;
     }
@@ -152,13 +153,19 @@ impl Nearness {
         ensures within { OnOk result (Within (number_of self.new) node number) }
     {
         let key = node.number();
-        if let Some(had) = self.numbers.get(&key) {
-            if *had <= number {
-                return Ok(());
+        match self.numbers.get_mut(&key) {
+            Some(had) => {
+                if *had <= number {
+                    return Ok(());
+                }
+                self.waiting.push(Reverse((number, node)))?;
+                *had = number;
+            }
+            None => {
+                self.waiting.push(Reverse((number, node)))?;
+                self.numbers.insert(key, number)?;
             }
         }
-        self.waiting.push(Reverse((number, node)))?;
-        self.numbers.insert(key, number)?;
         Ok(())
     }
 

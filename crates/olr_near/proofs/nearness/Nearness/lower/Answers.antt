@@ -1,56 +1,54 @@
-use Rattle.std.proofs.Common.{◌≡◌, ◌≢◌, ◌<◌, ℕ, Option, None, Some, nat_eq, inl, inr, refl, sym, ap, ◌∙◌, subst, arith}
-use Rattle.std.proofs.lemmas.Bool.{ne_eqb}
-use Rattle.std.specs.HashMap.{PutsEntry, get}
-use Rattle.std.specs.BinaryHeap.{heap_items}
-use Rattle.olr_near.specs.Numbers.{Waits}
-use Rattle.olr_near.specs.Numbers.{number_of}
-use Rattle.olr_near.proofs.Waiting.{pushed_kept, pushed_there}
-use Rattle.olr_near.proofs.NumberLemmas.{put_better, put_fresh, gain_put}
+use Rattle.std.proofs.Common.{ℕ, Option, Some, nat_eq, IsSome, refl, sym, ap, ◌∙◌, subst, arith}
+use Rattle.std.specs.HashMap.{PutsEntry, Updates, get}
+use Rattle.olr_near.specs.Numbers.{Numbers, number_of}
+use Rattle.olr_near.proofs.NumberLemmas.{put_moves, gain_put, gain_same, less_some, less_none}
 use Rattle.olr_near.proofs.nearness.Nearness.lower.Goals as goal
-use Rattle.olr_near.proofs.nearness.Nearness.lower.Goals.{in-Some+else-had-number, in_default}
 
--- the number is less than the one that stood there
-less : (c : goal.In_ok-insert) (e : ℕ) → number_of c.args.self.now c.args.node ≡ Some e → c.args.number < e
-less c e at =
-    let node = ap (number_of c.args.self.now) c.number-key.ensures.same in
-    elim c.match-get.branch [
-      | in-Some+else-had-number w ↦
-          let both : ◌≡◌ {A = Option ℕ} (Some w.in-Some.had.now) (Some e) = w.in-Some.ensures.value ∙ node ∙ at in
-          let same : w.in-Some.had.now ≡ e = cc in
-          let lt = w.if-had-number.false in
-          omega arith
-      | in_default w ↦
-          let never : ◌≡◌ {A = Option ℕ} None (Some e) = w.in_default.ensures.value ∙ node ∙ at in
-          absurd cc
-    ]
+-- ---- where the node has a number
 
-there : (c : goal.In_ok-insert) → get nat_eq c.insert.new.self c.args.node ≡ Some c.args.number
-there c = ap (λ (q : ℕ). get nat_eq c.insert.new.self q) (sym c.number-key.ensures.same) ∙ c.in_ok-insert.ensures.updates.1
+pub returns-then-had-number-clause-paid : goal.returns-then-had-number-clause-paid
+returns-then-had-number-clause-paid c =
+    let e = c.in-Some.had.now in
+    let same = gain_same c.args.self.now.numbers (c.get_mut.follows.lender e) c.number-key.result e c.in-Some.ensures.value (c.get_mut.follows.holds e).0 in
+    omega arith
 
-others : (c : goal.In_ok-insert) (q : ℕ) → q ≢ c.args.node → get nat_eq c.insert.new.self q ≡ number_of c.args.self.now q
-others c q ne = c.in_ok-insert.ensures.updates.2 q (ne_eqb c.number-key.result q (λ e. ne (sym e ∙ c.number-key.ensures.same)))
-
-pub returns-clause-moves : goal.returns-clause-moves
-returns-clause-moves c =
-    let L = number_of c.args.self.now in
-    let K : ℕ → Option ℕ = λ q. get nat_eq c.insert.new.self q in
-    let p = c.in_ok-push.ensures.permutation in
+pub returns-then-had-number-clause-within : goal.returns-then-had-number-clause-within
+returns-then-had-number-clause-within c =
+    let e = c.in-Some.had.now in
+    let there = (c.get_mut.follows.holds e).3 (subst (λ (o : Option ℕ). IsSome o) c.in-Some.ensures.value refl) in
     record {
-      better = put_better L K c.args.node c.args.number (there c) (others c) (λ e at. let lt = less c e at in omega arith);
-      fresh = λ q e at. elim (put_fresh L K c.args.node c.args.number (there c) (others c) q e at) [
-        | inl was ↦ inl was
-        | inr k ↦ inr (subst (λ (n : ℕ). Waits (heap_items c.push.new.self) n q) (sym k.0) (subst (λ (u : ℕ). Waits (heap_items c.push.new.self) c.args.number u) (sym k.1) (pushed_there _ _ _ p)))
-      ];
-      kept = λ d v w. pushed_kept _ _ _ d v p w;
-      known = refl;
+      number = e;
+      at = ap (get nat_eq (c.get_mut.follows.lender e)) (sym c.number-key.ensures.same) ∙ there.1;
+      low = omega (arith, c.if-had-number.true);
     }
 
-pub returns-clause-paid : goal.returns-clause-paid
-returns-clause-paid c =
-    let node = c.number-key.ensures.same in
-    let more = c.in_ok-push.ensures.len in
-    let risen = gain_put c.args.self.now.numbers c.insert.new.self c.args.node c.args.number c.in_ok-insert.field-0
-    (c.in_ok-insert.ensures.old ∙ ap (number_of c.args.self.now) node)
-    (subst (λ (n : ℕ). PutsEntry nat_eq c.args.self.now.numbers c.insert.new.self n c.args.number c.in_ok-insert.field-0) node c.in_ok-insert.ensures.entries)
-    c.requires (less c) in
+pub returns-in_ok-push-in-Some-clause-moves : goal.returns-in_ok-push-in-Some-clause-moves
+returns-in_ok-push-in-Some-clause-moves c =
+    let there = (c.get_mut.follows.holds c.args.number).3 (subst (λ (o : Option ℕ). IsSome o) c.in-Some.ensures.value refl) in
+    put_moves c.args.self.now _ c.number-key.result c.args.node c.args.number c.number-key.ensures.same there (less_some (number_of c.args.self.now c.number-key.result) c.in-Some.had.now c.args.number c.in-Some.ensures.value (omega (arith, c.if-had-number.false)))
+    c.in_ok-push-in-Some.ensures.permutation refl
+
+pub returns-in_ok-push-in-Some-clause-paid : goal.returns-in_ok-push-in-Some-clause-paid
+returns-in_ok-push-in-Some-clause-paid c =
+    let more = c.in_ok-push-in-Some.ensures.len in
+    let risen = gain_put c.args.self.now.numbers (c.get_mut.follows.lender c.args.number) c.number-key.result c.args.number (Some c.in-Some.had.now) c.in-Some.ensures.value
+    (c.get_mut.follows.holds c.args.number).0 c.requires (less_some (number_of c.args.self.now c.number-key.result) c.in-Some.had.now c.args.number c.in-Some.ensures.value (omega (arith, c.if-had-number.false))) in
+    omega arith
+
+-- ---- where it has none
+
+pub returns-in_ok-insert-in-None-clause-moves : goal.returns-in_ok-insert-in-None-clause-moves
+returns-in_ok-insert-in-None-clause-moves c =
+    put_moves c.args.self.now _ c.number-key.result c.args.node c.args.number c.number-key.ensures.same
+    (subst (λ (m : Numbers). Updates nat_eq m c.insert.new.self c.number-key.result (Some c.args.number)) c.get_mut.follows.holds-at-none c.in_ok-insert-in-None.ensures.updates)
+    (less_none (number_of c.args.self.now c.number-key.result) c.args.number c.in-None.ensures.value) c.in_ok-push-in-None.ensures.permutation refl
+
+pub returns-in_ok-insert-in-None-clause-paid : goal.returns-in_ok-insert-in-None-clause-paid
+returns-in_ok-insert-in-None-clause-paid c =
+    let more = c.in_ok-push-in-None.ensures.len in
+    let same = c.get_mut.follows.holds-at-none in
+    let risen = gain_put c.args.self.now.numbers c.insert.new.self c.number-key.result c.args.number c.in_ok-insert-in-None.field-0
+    (c.in_ok-insert-in-None.ensures.old ∙ ap (λ (m : Numbers). get nat_eq m c.number-key.result) same)
+    (subst (λ (m : Numbers). PutsEntry nat_eq m c.insert.new.self c.number-key.result c.args.number c.in_ok-insert-in-None.field-0) same c.in_ok-insert-in-None.ensures.entries)
+    c.requires (less_none (number_of c.args.self.now c.number-key.result) c.args.number c.in-None.ensures.value) in
     omega arith
