@@ -1,11 +1,13 @@
 -- What was made anew of a list of named paths, and where it goes.
 --     puts_of es, made_at r      what was made, each with its place.        all_put is ps      the list with these at their places
 --     item_of name e      an entry of the list under a name
+--     items_before o l      the list that is given as the earlier one, or else l itself
 --     Stays N T X C m P      no own node and no line of the path is touched, and each look is clear
 --     IsFate, IsStep      what is to be done with a path, and what is done
 --     Rises old new n, OneMore old new      no count falls, and of n encodings no more are spared;  of one
 --     TellsIfOther before name A es fs      an entry behind the others where the answer is not the one that the name had before
-use Rattle.std.specs.Prelude.{◌≡◌, ◌≢◌, ℕ, zero, suc, List, [], ◌∷◌, ◌++◌, map, All, ◌+◌, ◌<◌, ◌≤◌, ◌^◌, Option, Some, None, option_map, ◌⊎◌}
+use Rattle.std.specs.Prelude.{◌≡◌, ◌≢◌, ℕ, zero, suc, List, [], ◌∷◌, ◌++◌, map, All, ◌+◌, ◌<◌, ◌≤◌, ◌^◌, Option, Some, None, option_map, unwrap_or, ◌⊎◌}
+use Rattle.std.specs.Borrow.{Bor}
 use Rattle.olr_spec.specs.Map.{Map}
 use Rattle.olr_spec.specs.Detours.{ChangedLine}
 use Rattle.olr_spec.specs.Extension.{Path}
@@ -13,12 +15,13 @@ use Rattle.olr_spec.specs.Looks.{IsClear}
 use Rattle.olr_commands.specs.Words.{entry_of}
 use Rattle.olr_spec.specs.Encoding.{Answer}
 use Rattle.olr_commands.specs.Reply.{Entry, entry}
-use Rattle.olr_paths.specs.Items.{Made, Item, IsEncodingOf, made_of, answer_in}
+use Rattle.olr_paths.specs.Items.{Made, Item, IsEncodingOf, made_of, items, answer_in}
 use Rattle.olr_paths.specs.Changes.{with_made, OwnTouched, LineTouched, Touches}
 use Rattle.std.specs.declared.alloc.Global.{Global}
 use Rattle.std.specs.declared.rc.Rc.{Rc}
 use Rattle.olr_paths.specs.declared.published.Published.{Published}
 use Rattle.olr_paths.specs.declared.listing.NamedPath.{NamedPath}
+use Rattle.olr_paths.specs.declared.listing.Listing.{Listing}
 use Rattle.olr_paths.specs.declared.renewal.Renewal.{Renewal}
 use Rattle.olr_paths.specs.declared.renewal.Counted.{Counted}
 use Rattle.olr_paths.specs.declared.renewal.Fate.{Fate}
@@ -50,6 +53,9 @@ entries_of r = map entry_of r.entries.items
 
 abbrev pub renewed : Renewal → List Item → List Item
 renewed r is = all_put is (made_at r)
+
+abbrev pub items_before : Option (Bor Listing) → Listing → List Item
+items_before o l = unwrap_or (option_map (λ b. items b.now) o) (items l)
 
 abbrev pub TellsIfOther : List Item → List ℕ → Answer → List Entry → List Entry → Type 0
 TellsIfOther before name A es fs = ((answer_in before name ≡ Some A) × (fs ≡ es)) ⊎ ((answer_in before name ≢ Some A) × (fs ≡ es ++ entry name A ∷ []))

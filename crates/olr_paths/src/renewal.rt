@@ -16,7 +16,7 @@ ghost use Rattle.olr_paths.specs.Finding.{AreNotedAt};
 ghost use Rattle.std.specs.List.Sorted.{IsNonDecreasing};
 ghost use Rattle.std.specs.Prelude.{vec_len, vec_capacity};
 ghost use Rattle.olr_paths.specs.Beginning.{Begins, BeginsPut, AreFar, begun_in};
-ghost use Rattle.olr_paths.specs.Renewing.{item_of, all_put, puts_of, made_at, renewed, TellsIfOther, Stays, IsFate, IsStep, OneMore};
+ghost use Rattle.olr_paths.specs.Renewing.{item_of, all_put, puts_of, made_at, renewed, items_before, TellsIfOther, Stays, IsFate, IsStep, OneMore};
 
 use crate::asking::{line_touched, own_touched, search_near, touches};
 use crate::begins::note_fresh;
@@ -535,45 +535,30 @@ impl Listing {
         ensures err_kept { OnErr result (kept.new ≡ kept.old) }
     {
         let _names = self.len();
-        let mut tried = *work;
-        let mut spared = *kept;
-        let Renewal { fresh, entries } = made(
-            alloc,
-            map,
-            self,
-            self,
-            touched,
-            far,
-            searches,
-            &mut tried,
-            &mut spared,
-        )?;
-        put_in(alloc, self, fresh)?;
-        self.held = false;
-        *work = tried;
-        *kept = spared;
-        Ok(entries)
+        self.renew_after(alloc, map, None, touched, far, searches, work, kept)
     }
 
-    /// The same, where told are those whose answer is another than the one that their name had in an earlier list.
+    /// The same, where told are those whose answer is another than the one that their name had in an earlier list, if one
+    /// is given.
     fn renew_after<M: MapRead>(
         &mut self,
         alloc: Global,
         map: &M,
-        before: &Listing,
+        before: Option<&Listing>,
         touched: &Touched,
         far: bool,
         searches: &mut Searches,
         work: &mut Work,
         kept: &mut u64,
     ) -> Result<Vec<Entry>, AllocError>
-        requires follows { Follows (items before.now) (items self.old) }
+        requires follows { Follows (items_before before self.old) (items self.old) }
         requires far { IsTrue far → AreFar (M.map map.now) (nodes_of touched.now) (items self.old) }
         ensures renewed { OnOk result ((L : Map)
             → IsBefore L (M.map map.now) (nodes_of touched.now) (lines_of touched.now) (changed_of touched.now) (items self.old)
             → AreRemade (M.map map.now) (items self.old) (items self.new)) }
         ensures named { OnOk result (all_named (items self.new) ≡ all_named (items self.old)) }
-        ensures reported { IfOk result (λ es. Reported (items before.now) (items self.new) (list_map entry_of es.items)) }
+        ensures reported { IfOk result (λ es. Reported (items_before before.entry self.old) (items self.new)
+            (list_map entry_of es.items)) }
         ensures counted { OnOk result ((L : Map)
             → IsBefore L (M.map map.now) (nodes_of touched.now) (lines_of touched.now) (changed_of touched.now) (items self.old)
             → (n : ℕ) × CountIs (IsConcerned L (nodes_of touched.now) (lines_of touched.now)) (items self.old) n
@@ -594,7 +579,7 @@ impl Listing {
             alloc,
             map,
             self,
-            before,
+            before.unwrap_or(self),
             touched,
             far,
             searches,
@@ -648,7 +633,8 @@ impl Listing {
             return self.renew(alloc, map, touched, far, searches, work, kept);
         }
         let mut list = overlay.laid_over(alloc, self)?;
-        let entries = list.renew_after(alloc, map, self, touched, far, searches, work, kept)?;
+        let before = Some(&*self);
+        let entries = list.renew_after(alloc, map, before, touched, far, searches, work, kept)?;
         *self = list;
         Ok(entries)
     }

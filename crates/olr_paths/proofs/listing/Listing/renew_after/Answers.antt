@@ -22,5 +22,5 @@ invariant_of-self g c =
       long = l.long;
       rise = l.rise;
       noted = l.noted;
-      encoded = λ _. all_encoded (items c.args.before.now) l.paths.entries (map entry_of c.in_ok-fresh.field-0.entries.items) (subst (λ (is : List Item). Reported (items c.args.before.now) is (map entry_of c.in_ok-fresh.field-0.entries.items)) (sym c.in_ok-put_in.ensures.ok) c.in_ok-fresh.ensures.reported);
+      encoded = λ _. all_encoded (items c.unwrap_or.result.now) l.paths.entries (map entry_of c.in_ok-fresh.field-0.entries.items) (subst (λ (is : List Item). Reported (items c.unwrap_or.result.now) is (map entry_of c.in_ok-fresh.field-0.entries.items)) (sym c.in_ok-put_in.ensures.ok) c.in_ok-fresh.ensures.reported);
     }
