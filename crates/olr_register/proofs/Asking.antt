@@ -10,8 +10,9 @@ use Rattle.olr_map.specs.RoadMaps.{map_of}
 use Rattle.olr_map.specs.declared.road_map.RoadMap.{RoadMap}
 use Rattle.olr_commands.specs.State.{Named, Content, IsContent, same_name, path_named}
 use Rattle.olr_commands.specs.Reply.{Entry, entry, Published, PublishedText, published, Shown, AllOf}
-use Rattle.olr_paths.specs.Items.{Made, Item, AreEncodings, all_named, made_in, answer_in}
+use Rattle.olr_paths.specs.Items.{Made, Item, IsEncodingOf, AreEncodings, all_named, made_in, answer_in}
 use Rattle.olr_paths.specs.Changes.{AreEncoded, Reported}
+use Rattle.olr_register.specs.Registered.{PublishedWhole}
 use Rattle.olr_register.specs.Holding.{map_kept}
 use Rattle.olr_register.specs.declared.batch.Batch.{Batch}
 use Rattle.olr_register.proofs.Replies.{answer_held, reported_all}
@@ -23,6 +24,14 @@ answer_published M (i ∷ is) name made =
     (λ P. IsSomeAnd (option_map (λ (m : Made). m.answer) (cond b i.made (made_in is name))) (λ A. Encodes M P A))) [
       | true ↦ subst (λ (o : Option Made). IsSomeAnd (option_map (λ (m : Made). m.answer) o) (λ A. Encodes M i.path A)) (sym made.0.1) made.0.2.answer
       | false ↦ answer_published M is name made.1
+    ]
+
+pub whole_published : (M : Map) (is : List Item) (name : List ℕ) → AreEncodings M is → PublishedWhole (record { map = M; paths = all_named is }) name (made_in is name)
+whole_published M [] name made = refl
+whole_published M (i ∷ is) name made =
+    elim (same_name i.name name) as (λ b. MatchOption (cond b (Some i.path) (path_named (all_named is) name)) (cond b i.made (made_in is name) ≡ None) (λ P. IsSomeAnd (cond b i.made (made_in is name)) (IsEncodingOf M P))) [
+      | true ↦ subst (λ (o : Option Made). IsSomeAnd o (IsEncodingOf M i.path)) (sym made.0.1) made.0.2
+      | false ↦ whole_published M is name made.1
     ]
 
 -- the text that is kept is that of the answer
@@ -40,6 +49,11 @@ pub answer_is : (M : Map) (is : List Item) (c : Content) (name : List ℕ) (o : 
     → o ≡ answer_in is name → Published c name o
 answer_is M is c name o e made there =
     subst (λ (d : Content). Published d name o) e (subst (Published (record { map = M; paths = all_named is }) name) (sym there) (answer_published M is name made))
+
+pub whole_is : (M : Map) (is : List Item) (c : Content) (name : List ℕ) (o : Option Made) → record { map = M; paths = all_named is } ≡ c → AreEncodings M is
+    → o ≡ made_in is name → PublishedWhole c name o
+whole_is M is c name o e made there =
+    subst (λ (d : Content). PublishedWhole d name o) e (subst (PublishedWhole (record { map = M; paths = all_named is }) name) (sym there) (whole_published M is name made))
 
 pub text_is : (M : Map) (is : List Item) (c : Content) (name : List ℕ) (text : Option (List ℕ)) → record { map = M; paths = all_named is } ≡ c → AreEncodings M is
     → text ≡ option_and_then (λ (A : Answer). result_ok (published A)) (answer_in is name) → PublishedText c name text

@@ -1,14 +1,16 @@
 -- A register as its callers see it, and what its calls promise of whole commands.
 --     Registered      what is held of the state, and the counts: the work, and how many of the counted encodings were spared
+--     PublishedWhole c name made      what is published under a name, with its own nodes and looks
 --     Applied old c o new      from each state in which it stood, the command leads with this outcome to one in which it stands
 --     Counted old c new      by how much an accepted command raises the count of encodings
-use Rattle.std.specs.Prelude.{◌≡◌, ℕ, ◌+◌, ◌<◌, ◌^◌, None}
+use Rattle.std.specs.Prelude.{◌≡◌, ℕ, ◌+◌, ◌<◌, ◌^◌, List, Option, None, MatchOption, IsSomeAnd}
 use Rattle.std.specs.Coded.{Coded, code_by, coded_ℕ, coded×}
 use Rattle.std.proofs.Common.{refl}
 use Rattle.olr_route.specs.declared.work.Work.{Work}
-use Rattle.olr_commands.specs.State.{State, no_content, Command}
+use Rattle.olr_commands.specs.State.{State, Content, no_content, path_named, Command}
 use Rattle.olr_commands.specs.Reply.{Outcome, IsOutcome}
 use Rattle.olr_commands.specs.Counts.{Raises}
+use Rattle.olr_paths.specs.Items.{Made, IsEncodingOf}
 use Rattle.olr_register.specs.Kept.{Kept, Stands, coded_kept}
 
 pub record Registered : Type 0 where
@@ -30,6 +32,10 @@ coded_registered =
 abbrev pub nothing_registered : Registered
 nothing_registered =
     record { kept = record { content = no_content; batch = None }; work = record { encodings = 0; searches = 0; settled = 0 }; spared = 0 }
+
+-- an encoding of the path on the map
+abbrev pub PublishedWhole : Content → List ℕ → Option Made → Type 0
+PublishedWhole c name made = MatchOption (path_named c.paths name) (made ≡ None) (λ P. IsSomeAnd made (IsEncodingOf c.map P))
 
 abbrev pub Applied : Registered → Command → Outcome → Registered → Type 0
 Applied old c o new = (s : State) → Stands old.kept s → (t : State) × Stands new.kept t × IsOutcome s c o t

@@ -1,16 +1,28 @@
-//! The footprint of a path: the nodes on which its answer rests.
-ghost use Rattle.std.specs.Prelude.{◌≡◌, ◌↔◌, ℕ, Contains, is_some, IsTrue, IsFalse, MatchOption, IsSomeAnd, Err, None};
+//! What a path's answer rests on: its own nodes and its looks, and its footprint.
+ghost use Rattle.std.specs.Prelude.{◌≡◌, ◌↔◌, ℕ, Contains, is_some, IsTrue, IsFalse, MatchOption, IsSomeAnd, Err, None, option_map};
 ghost use Rattle.std.specs.Result.{IfOk, IfErr};
 ghost use Rattle.olr_spec.specs.Footprint.{Foot};
 ghost use Rattle.olr_commands.specs.State.{path_named};
+ghost use Rattle.olr_paths.specs.Items.{made_of};
 
 use crate::register::Register;
 use olr_commands::CommandFault;
 use olr_map::Footprint;
+use olr_paths::Published;
 use olr_refs::refer;
 use olr_route::Work;
 
 impl Register {
+    ghost use Rattle.olr_register.specs.Registered.{PublishedWhole};
+
+    /// What is published of the path of that name, with the own nodes and the looks of its encoding on the map. None where no
+    /// path has it. An open batch is left out of account.
+    pub fn published(&self, name: &str) -> Option<&Published>
+        ensures { PublishedWhole self.now.kept.content name.now (option_map (λ p. made_of p.now) result) }
+    {
+        self.paths.published(name)
+    }
+
     /// The footprint of the path of that name, searched for when it is asked: a change of the map that touches none of these
     /// nodes and no line of the path leaves its answer. None where no path has the name. While a batch is open the map is
     /// the batch's, and the fault is `BatchOpen`; else `Memory` is the only one.

@@ -12,4 +12,5 @@ mod questions;
 pub mod register;
 
 pub use applying::replay;
+pub use olr_paths::Published;
 pub use register::Register;

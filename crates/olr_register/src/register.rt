@@ -43,7 +43,7 @@ impl Model for Register {
 }
 
 impl Register {
-    ghost use Rattle.std.specs.Prelude.{◌≡◌, length, map, option_map, is_some, slice_get};
+    ghost use Rattle.std.specs.Prelude.{◌≡◌, ◌↔◌, length, map, option_map, is_some, slice_get, IsTrue};
     ghost use Rattle.olr_commands.specs.Reply.{Published, PublishedText};
     ghost use Rattle.olr_refs.specs.Answers.{answer_of};
     ghost use Rattle.olr_register.specs.Registered.{nothing_registered};
@@ -90,6 +90,13 @@ impl Register {
         ensures { result ≡ length self.now.kept.content.paths }
     {
         self.paths.len()
+    }
+
+    /// Whether there is no path, those of an open batch left out.
+    pub fn is_empty(&self) -> bool
+        ensures { IsTrue result ↔ (length self.now.kept.content.paths ≡ 0) }
+    {
+        self.len() == 0
     }
 
     /// The name of path k, from 0. None past the last.
