@@ -1,13 +1,13 @@
 //! A register and its twin.
 ghost use Rattle.std.specs.Prelude.{◌<◌, ◌≤◌};
 
-use crate::twin::Twin;
+use crate::twin::{Named, Twin};
 use csv::{ByteRecord, ReaderBuilder};
 use olr_binary::to_text;
 use olr_commands::Command;
 use olr_map::{LineId, MapRead, NodeId};
 use olr_records::read_command;
-use olr_refs::Answer;
+use olr_refs::{Answer, Encoding};
 use olr_register::Register;
 use std::alloc::Global;
 use std::process::Abort;
@@ -147,58 +147,90 @@ impl Pair {
         Ok(Some(rise))
     }
 
-    /// That the register answers what encoding each path of the twin afresh gives.
+    /// That the register has what encoding each path of the twin afresh gives.
     fn assert_alike<R: Abort + AllocGlobal>(&self, rt: &R, record: &str) -> Result<(), Fail> {
-        let alloc = rt.alloc();
-        assert_eq!(rt;
-            self.register.len(),
-            self.twin.paths.len(),
-            "after {record}"
-        );
-        for k in 0..self.twin.paths.len() {
+        let count = self.twin.paths.len();
+        assert_eq!(rt; self.register.len(), count, "after {record}");
+        assert_eq!(rt; self.register.is_empty(), count == 0, "after {record}");
+        for k in 0..count {
             self.assert_path(rt, k, record)?;
         }
         Ok(())
     }
 
-    /// That it answers so of path k.
+    /// That it has that of path k.
     fn assert_path<R: Abort + AllocGlobal>(
         &self,
         rt: &R,
         k: usize,
         record: &str,
     ) -> Result<(), Fail> {
-        let alloc = rt.alloc();
         let Some(named) = self.twin.paths.get(k) else {
             return Ok(());
         };
         let name = named.name.as_str();
         assert_eq!(rt; self.register.name_at(k), Some(name), "after {record}");
-        let (answer, footprint) = named.encoded(alloc, &self.twin.roads)?;
-        if !self.is_open {
-            let kept = self
-                .register
-                .footprint(name)?
-                .expect(rt, "a path of that name");
-            assert_eq!(rt;
-                kept.as_slice(),
-                footprint.as_slice(),
-                "{name} after {record}"
-            );
-        }
-        match answer {
+        let fresh = named.encoded(rt.alloc(), &self.twin.roads)?;
+        self.assert_answer(rt, name, &fresh.answer, record)?;
+        self.assert_looks(rt, name, &fresh, record);
+        self.assert_footprint(rt, named, record)
+    }
+
+    /// That it answers so of the path of that name.
+    fn assert_answer<R: Abort + AllocGlobal>(
+        &self,
+        rt: &R,
+        name: &str,
+        fresh: &Answer,
+        record: &str,
+    ) -> Result<(), Fail> {
+        match fresh {
             Answer::Points(reference) => {
-                let text = to_text(alloc, &reference)?;
+                let text = to_text(rt.alloc(), reference)?;
                 let kept = self.register.text(name);
                 assert_eq!(rt; kept, Some(text.as_str()), "{name} after {record}");
             }
             Answer::Refused(refusal) => match self.register.answer(name) {
                 Some(Answer::Refused(kept)) => {
-                    assert_eq!(rt; *kept, refusal, "{name} after {record}");
+                    assert_eq!(rt; kept, refusal, "{name} after {record}");
                 }
                 _ => panic!(rt; "{name} has a string after {record}"),
             },
         }
+        Ok(())
+    }
+
+    /// That it keeps these own nodes and looks of the path of that name.
+    fn assert_looks(&self, rt: &impl Abort, name: &str, fresh: &Encoding, record: &str) {
+        let Some(kept) = self.register.published(name) else {
+            panic!(rt; "no path {name} after {record}");
+        };
+        let own = kept.own().as_slice();
+        assert_eq!(rt; own, fresh.own.as_slice(), "{name} after {record}");
+        assert_eq!(rt;
+            kept.looks(),
+            fresh.looks.as_slice(),
+            "{name} after {record}"
+        );
+    }
+
+    /// That it finds the footprint of a path, unless a batch is open.
+    fn assert_footprint<R: Abort + AllocGlobal>(
+        &self,
+        rt: &R,
+        named: &Named,
+        record: &str,
+    ) -> Result<(), Fail> {
+        if self.is_open {
+            return Ok(());
+        }
+        let name = named.name.as_str();
+        let fresh = named.footprint(rt.alloc(), &self.twin.roads)?;
+        let kept = self
+            .register
+            .footprint(name)?
+            .expect(rt, "a path of that name");
+        assert_eq!(rt; kept.as_slice(), fresh.as_slice(), "{name} after {record}");
         Ok(())
     }
 
@@ -261,35 +293,79 @@ impl Pair {
         self.step(rt, &record)
     }
 
-    /// One of many commands: three lines in four have their place in the ring, the others begin and end anywhere.
+    /// One of many commands.
     pub fn step_by<R: Abort + AllocGlobal>(&mut self, rt: &R, seed: u64) -> Result<(), Fail> {
         let alloc = rt.alloc();
-        let node = number_in(seed >> 20, NODES);
-        let line = number_in(seed >> 24, LINES);
-        let len = 300 + (seed >> 34) % 2000 + 40_000 * ((seed >> 12) % 4);
-        let cut = len % 400;
-        let name = (seed >> 44) % 5;
-        let (from, to) = if (seed >> 30) % 4 == 0 {
-            (node, number_in(seed >> 40, NODES))
-        } else {
-            ends(line)
-        };
-        let record = match (seed >> 56) % 20 {
-            0 => return self.clear(rt, node),
-            1 | 2 => format!(in alloc; "drop-line,{line}")?,
-            3 | 4 | 5 | 6 => format!(in alloc; "line,{line},{from},{to},4,3,{len}")?,
-            7 | 8 => format!(in alloc; "set-line,{line},{},3,{len}", len % 8)?,
-            9 => format!(in alloc; "move,{node},0.0{node},0.0{}", len % 10)?,
-            10 => format!(in alloc; "node,{node},0.0{node},0.0{}", len % 10)?,
-            11 | 12 => format!(in alloc; "path,p{name},0,{cut}{}", self.walk(alloc, seed)?)?,
-            13 | 14 => format!(in alloc; "repath,p{name},{cut},0{}", self.walk(alloc, seed)?)?,
-            15 => format!(in alloc; "drop-path,p{name}")?,
-            16 => format!(in alloc; "begin")?,
-            17 | 18 => format!(in alloc; "commit,{}", self.count)?,
-            _ => format!(in alloc; "abort")?,
+        let record = match kind(seed) {
+            0 => return self.clear(rt, number_in(seed >> 20, NODES)),
+            1..=8 => line_record(alloc, seed)?,
+            9 | 10 => node_record(alloc, seed)?,
+            11..=15 => self.path_record(alloc, seed)?,
+            _ => self.batch_record(alloc, seed)?,
         };
         self.step(rt, &record)
     }
+
+    /// A record that adds, sets or drops one of five paths.
+    fn path_record(&self, alloc: Global, seed: u64) -> Result<String, Fail> {
+        let name = (seed >> 44) % 5;
+        let cut = len(seed) % 400;
+        let record = match kind(seed) {
+            11 | 12 => format!(in alloc; "path,p{name},0,{cut}{}", self.walk(alloc, seed)?)?,
+            13 | 14 => format!(in alloc; "repath,p{name},{cut},0{}", self.walk(alloc, seed)?)?,
+            _ => format!(in alloc; "drop-path,p{name}")?,
+        };
+        Ok(record)
+    }
+
+    /// A record that begins or ends a batch.
+    fn batch_record(&self, alloc: Global, seed: u64) -> Result<String, Fail> {
+        let record = match kind(seed) {
+            16 => String::from_str(alloc, "begin")?,
+            17 | 18 => format!(in alloc; "commit,{}", self.count)?,
+            _ => String::from_str(alloc, "abort")?,
+        };
+        Ok(record)
+    }
+}
+
+/// Which of many commands a number stands for, from 0 to 19.
+fn kind(seed: u64) -> u64 {
+    (seed >> 56) % 20
+}
+
+/// A line's length.
+fn len(seed: u64) -> u64 {
+    300 + (seed >> 34) % 2000 + 40_000 * ((seed >> 12) % 4)
+}
+
+/// A record that drops, adds or sets a line: three in four have their place in the ring, the others begin and end
+/// anywhere.
+fn line_record(alloc: Global, seed: u64) -> Result<String, Fail> {
+    let line = number_in(seed >> 24, LINES);
+    let len = len(seed);
+    let (from, to) = if (seed >> 30) % 4 == 0 {
+        (number_in(seed >> 20, NODES), number_in(seed >> 40, NODES))
+    } else {
+        ends(line)
+    };
+    let record = match kind(seed) {
+        1 | 2 => format!(in alloc; "drop-line,{line}")?,
+        3..=6 => format!(in alloc; "line,{line},{from},{to},4,3,{len}")?,
+        _ => format!(in alloc; "set-line,{line},{},3,{len}", len % 8)?,
+    };
+    Ok(record)
+}
+
+/// A record that moves or adds a node.
+fn node_record(alloc: Global, seed: u64) -> Result<String, Fail> {
+    let node = number_in(seed >> 20, NODES);
+    let digit = len(seed) % 10;
+    let record = match kind(seed) {
+        9 => format!(in alloc; "move,{node},0.0{node},0.0{digit}")?,
+        _ => format!(in alloc; "node,{node},0.0{node},0.0{digit}")?,
+    };
+    Ok(record)
 }
 
 /// A number from 1 to the greatest one.

@@ -88,25 +88,44 @@ fn all<R: Abort + AllocGlobal>(rt: &R, pair: &mut Pair, records: &str) -> Result
     Ok(())
 }
 
-#[test]
-fn talks(rt: HostRuntime) -> Result<(), Fail> {
-    for talk in TALKS {
-        let mut pair = Pair::new(rt.alloc());
-        all(&rt, &mut pair, THREE_POINTS)?;
-        all(&rt, &mut pair, talk)?;
+/// A register and its twin after the records of three points.
+fn three_points<R: Abort + AllocGlobal>(rt: &R) -> Result<Pair, Fail> {
+    let mut pair = Pair::new(rt.alloc());
+    all(rt, &mut pair, THREE_POINTS)?;
+    Ok(pair)
+}
+
+/// Gives the records of each talk to a register and to its twin, after those of three points.
+fn all_talks<R: Abort + AllocGlobal>(rt: &R, talks: &[&str]) -> Result<(), Fail> {
+    for talk in talks {
+        let mut pair = three_points(rt)?;
+        all(rt, &mut pair, talk)?;
+    }
+    Ok(())
+}
+
+/// Gives each record to the register and to its twin, and compares what is counted.
+fn all_counted<R: Abort + AllocGlobal>(
+    rt: &R,
+    pair: &mut Pair,
+    rows: &[(&str, u64, u64)],
+) -> Result<(), Fail> {
+    for (record, encodings, kept) in rows {
+        pair.step(rt, record)?;
+        assert_eq!(rt; pair.encodings(), (*encodings, *kept), "after {record}");
     }
     Ok(())
 }
 
 #[test]
+fn talks(rt: HostRuntime) -> Result<(), Fail> {
+    all_talks(&rt, TALKS)
+}
+
+#[test]
 fn counts(rt: HostRuntime) -> Result<(), Fail> {
-    let mut pair = Pair::new(rt.alloc());
-    all(&rt, &mut pair, THREE_POINTS)?;
-    for (record, encodings, kept) in COUNTED {
-        pair.step(&rt, record)?;
-        assert_eq!(rt; pair.encodings(), (*encodings, *kept), "after {record}");
-    }
-    Ok(())
+    let mut pair = three_points(&rt)?;
+    all_counted(&rt, &mut pair, COUNTED)
 }
 
 #[test]

@@ -2,8 +2,8 @@
 
 use olr_commands::Command;
 use olr_map::{Edit, Footprint, LineId, NodeId, RoadMap, line_touched, nodes_touched};
-use olr_refs::{Answer, Path, refer};
-use olr_route::Work;
+use olr_refs::{Encoding, Path, encode, refer};
+use olr_route::{Search, Work};
 use std::alloc::Global;
 use std::test::Fail;
 
@@ -27,12 +27,25 @@ pub struct Twin {
 }
 
 impl Named {
-    /// The path's answer and footprint on a map.
-    pub fn encoded(&self, alloc: Global, roads: &RoadMap) -> Result<(Answer, Footprint), Fail> {
+    fn path(&self, alloc: Global) -> Result<Path, Fail> {
         let lines = Vec::from_slice(alloc, &self.lines)?;
-        let path = Path::new(alloc, lines, self.pos, self.neg)?;
+        Ok(Path::new(alloc, lines, self.pos, self.neg)?)
+    }
+
+    /// The path's answer, own nodes and looks on a map.
+    pub fn encoded(&self, alloc: Global, roads: &RoadMap) -> Result<Encoding, Fail> {
+        let path = self.path(alloc)?;
+        let mut search = Search::new(alloc);
         let mut work = Work::default();
-        Ok(refer(alloc, roads, &path, &mut work)?)
+        Ok(encode(alloc, roads, &path, &mut search, &mut work)?)
+    }
+
+    /// The path's footprint on a map.
+    pub fn footprint(&self, alloc: Global, roads: &RoadMap) -> Result<Footprint, Fail> {
+        let path = self.path(alloc)?;
+        let mut work = Work::default();
+        let (_, footprint) = refer(alloc, roads, &path, &mut work)?;
+        Ok(footprint)
     }
 }
 
@@ -145,7 +158,7 @@ impl Twin {
     pub fn concerned(&self, alloc: Global, before: &RoadMap) -> Result<u64, Fail> {
         let mut count = 0u64;
         for named in &self.paths {
-            let (_, footprint) = named.encoded(alloc, before)?;
+            let footprint = named.footprint(alloc, before)?;
             let given = self
                 .given
                 .iter()
