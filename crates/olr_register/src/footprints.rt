@@ -15,8 +15,8 @@ use olr_route::Work;
 impl Register {
     ghost use Rattle.olr_register.specs.Registered.{PublishedWhole};
 
-    /// What is published of the path of that name, with the own nodes and the looks of its encoding on the map. None where no
-    /// path has it. An open batch is left out of account.
+    /// What is published of the path of that name, with the own nodes and the looks of its encoding on the map. None
+    /// where no path has it. An open batch is left out of account.
     pub fn published(&self, name: &str) -> Option<&Published>
         ensures { PublishedWhole self.now.kept.content name.now (option_map (λ p. made_of p.now) result) }
     {
