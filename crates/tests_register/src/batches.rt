@@ -1,96 +1,71 @@
 //! Batches over a worked map, with texts and counts from outside.
 
 use crate::worked::{
-    WORKED, assert_quiet, assert_refused, assert_told, line, lines, name, new_node, node, place,
-    road,
+    TEXT, WITH_TEXT, ends, expect_counts, expect_text, holds, refuses, road, tells, worked_edits,
+    worked_path,
 };
-use olr_commands::{Command, CommandFault, Reply};
+use made_maps::{SIDE, line, node, place};
+use olr_commands::{Command, CommandFault};
 use olr_map::Edit;
 use olr_register::Register;
-use std::alloc::{AllocError, Global};
+use std::alloc::Global;
 use std::process::Abort;
-use std::test::Fail;
 
-/// Gives an edit to the open batch.
-fn give(rt: &impl Abort, register: &mut Register, edit: Edit) -> Result<Reply, CommandFault> {
-    assert!(rt; register.is_open());
-    register.apply(Command::Edit(edit))
-}
-
-/// That the batch held it, as the change of that number.
-fn assert_held(rt: &impl Abort, outcome: Result<Reply, CommandFault>, count: u32) {
-    match outcome {
-        Ok(Reply::Held(held)) => assert_eq!(rt; held, count),
-        _ => panic!(rt; "not held as {count}"),
+/// Makes the worked map and path by one batch.
+fn fill(rt: &impl Abort, register: &mut Register, edits: Vec<Edit>, path: Command) {
+    tells(rt, register, Command::Begin, &[]);
+    let mut count = 0u32;
+    for edit in edits {
+        count = count.saturating_add(1);
+        holds(rt, register, Command::Edit(edit), count);
     }
+    holds(rt, register, path, 9);
+    assert!(rt; register.is_open());
+    expect_text(rt, register, "a", None);
+    tells(rt, register, Command::Commit(9), &[WITH_TEXT]);
+    expect_text(rt, register, "a", Some(TEXT));
+    expect_counts(rt, register, 1, 0);
 }
 
 /// The register of the worked map and path, made by one batch.
-fn worked(rt: &impl Abort, alloc: Global) -> Result<Register, AllocError> {
+fn worked(rt: &impl Abort, alloc: Global) -> Register {
     let mut register = Register::new(alloc);
-    assert_quiet(rt, register.apply(Command::Begin));
-    let nodes = [
-        (1, 612_683, 4_960_852),
-        (2, 612_838, 4_960_399),
-        (3, 612_790, 4_960_350),
-        (4, 612_817, 4_960_306),
-    ];
-    for (number, lon, lat) in nodes {
-        let edit = new_node(rt, number, lon, lat);
-        assert_held(rt, give(rt, &mut register, edit), number);
-    }
-    let mut held = 4u8;
-    for number in [10, 20, 30, 99] {
-        let edit = road(rt, alloc, number)?;
-        held = held.wrapping_add(1);
-        assert_held(rt, give(rt, &mut register, edit), u32::from(held));
-    }
-    assert!(rt; register.is_open());
-    let added = register.apply(Command::AddPath(
-        name(alloc, "a")?,
-        lines(rt, alloc, &[10, 20, 30])?,
-        1500,
-        0,
-    ));
-    assert_held(rt, added, 9);
-    assert_eq!(rt; register.text("a"), None);
-    assert_told(rt, register.apply(Command::Commit(9)), WORKED);
-    assert_eq!(rt; register.text("a"), Some(WORKED));
-    assert_eq!(rt; register.work().encodings, 1);
-    Ok(register)
+    fill(
+        rt,
+        &mut register,
+        worked_edits(rt, alloc),
+        worked_path(rt, alloc),
+    );
+    register
 }
 
 #[test]
-fn a_batch_that_cancels_out(rt: HostRuntime) -> Result<(), Fail> {
-    let alloc = rt.alloc();
-    let mut register = worked(&rt, alloc)?;
-    assert_quiet(&rt, register.apply(Command::Begin));
-    let dropped = give(&rt, &mut register, Edit::DropLine(line(&rt, 99)));
-    assert_held(&rt, dropped, 1);
-    let side = road(&rt, alloc, 99)?;
-    assert_held(&rt, give(&rt, &mut register, side), 2);
-    assert_quiet(&rt, register.apply(Command::Commit(2)));
-    assert_eq!(rt; register.work().encodings, 2);
-    Ok(())
+fn a_batch_that_cancels_out(rt: HostRuntime) {
+    let mut register = worked(&rt, rt.alloc());
+    tells(&rt, &mut register, Command::Begin, &[]);
+    let dropped = Command::Edit(Edit::DropLine(line(99)));
+    holds(&rt, &mut register, dropped, 1);
+    holds(&rt, &mut register, road(&rt, rt.alloc(), SIDE), 2);
+    tells(&rt, &mut register, Command::Commit(2), &[]);
+    ends(&rt, register, 2, 0);
 }
 
-#[test]
-fn a_full_batch(rt: HostRuntime) -> Result<(), Fail> {
-    let alloc = rt.alloc();
-    let mut register = worked(&rt, alloc)?;
-    assert_quiet(&rt, register.apply(Command::Begin));
-    let id = node(&rt, 4);
-    let same = place(&rt, 612_817, 4_960_306);
+/// Fills an open batch with moves of a node to its own place.
+fn fill_up(rt: &impl Abort, register: &mut Register) {
+    let same = place(612_817, 4_960_306);
     for number in 1..=100_000 {
-        assert_held(
-            &rt,
-            give(&rt, &mut register, Edit::MoveNode(id, same)),
-            number,
-        );
+        let moved = Command::Edit(Edit::MoveNode(node(4), same));
+        holds(rt, register, moved, number);
     }
-    let more = give(&rt, &mut register, Edit::DropNode(node(&rt, 9)));
-    assert_refused(&rt, more, CommandFault::BatchFull);
-    assert_quiet(&rt, register.apply(Command::Commit(100_000)));
-    assert_eq!(rt; register.work().encodings, 2);
-    Ok(())
+}
+
+#[test]
+fn a_full_batch(rt: HostRuntime) {
+    let mut register = worked(&rt, rt.alloc());
+    tells(&rt, &mut register, Command::Begin, &[]);
+    fill_up(&rt, &mut register);
+    let more = Command::Edit(Edit::DropNode(node(9)));
+    refuses(&rt, &mut register, more, CommandFault::BatchFull);
+    tells(&rt, &mut register, Command::Commit(100_000), &[]);
+    ends(&rt, register, 2, 0);
 }

@@ -1,211 +1,143 @@
-//! The worked map, with texts from outside, and what tests of commands share.
+//! The worked map in a register, with texts from outside, and what tests of commands share.
 
-use olr_commands::{Command, CommandFault, Reply};
-use olr_coords::Coord;
-use olr_map::{Edit, Line, LineId, NodeId, Shape};
+use made_maps::{Road, WORKED, edits_of, lines, new_line};
+use olr_commands::{Command, CommandFault, Entry, Reply};
+use olr_map::Edit;
 use olr_refs::Refusal;
 use olr_register::Register;
-use std::alloc::{AllocError, Global};
+use std::alloc::Global;
 use std::process::Abort;
 
 /// The text of the worked path.
-pub(crate) const WORKED: &str = "CwRbWyNG9RpsCQCb/jsbtAT/6/+jK1lE";
+pub(crate) const TEXT: &str = "CwRbWyNG9RpsCQCb/jsbtAT/6/+jK1lE";
 
-pub(crate) fn line(rt: &impl Abort, number: u32) -> LineId {
-    LineId::new(number).expect(rt, "a number from 1")
-}
+/// A path that is told: its name, and its text or why it has none.
+pub(crate) type Told<'a> = (&'a str, Result<&'a str, Refusal>);
 
-/// The place with this longitude and latitude, in 1/100,000 degree.
-pub(crate) fn place(rt: &impl Abort, lon: i32, lat: i32) -> Coord {
-    Coord::new(i64::from(lon) * 3_276_800, i64::from(lat) * 3_276_800).expect(rt, "a place")
-}
-
-pub(crate) fn node(rt: &impl Abort, number: u32) -> NodeId {
-    NodeId::new(number).expect(rt, "a number from 1")
-}
-
-pub(crate) fn new_node(rt: &impl Abort, number: u32, lon: i32, lat: i32) -> Edit {
-    Edit::AddNode(node(rt, number), place(rt, lon, lat))
-}
-
-/// Line 10, 20, 30 or the side road 99.
-pub(crate) fn road(rt: &impl Abort, alloc: Global, number: u32) -> Result<Edit, AllocError> {
-    let (from, to, frc, fow, len, points) = match number {
-        10 => (
-            1,
-            2,
-            3,
-            2,
-            5610,
-            [(200, 612_701, 4_960_838), (5410, 612_820, 4_960_413)].as_slice(),
-        ),
-        20 => (2, 3, 3, 3, 2000, [(200, 612_820, 4_960_389)].as_slice()),
-        30 => (3, 4, 5, 3, 740, [(540, 612_792, 4_960_311)].as_slice()),
-        _ => (2, 3, 4, 3, 1500, [].as_slice()),
-    };
-    let mut shape = Vec::new(alloc);
-    for (at, lon, lat) in points {
-        shape.push(Shape {
-            at: *at,
-            place: place(rt, *lon, *lat),
-        })?;
-    }
-    let (from, to) = (node(rt, from), node(rt, to));
-    Ok(Edit::AddLine(
-        line(rt, number),
-        Line {
-            from,
-            to,
-            frc,
-            fow,
-            len,
-            shape,
-        },
-    ))
-}
-
-pub(crate) fn lines(
-    rt: &impl Abort,
-    alloc: Global,
-    numbers: &[u32],
-) -> Result<Vec<LineId>, AllocError> {
-    let mut ids = Vec::new(alloc);
-    for number in numbers {
-        ids.push(line(rt, *number))?;
-    }
-    Ok(ids)
-}
-
-pub(crate) fn name(alloc: Global, text: &str) -> Result<String, AllocError> {
-    String::from_str(alloc, text)
-}
+/// The worked path as it is told with its text.
+pub(crate) const WITH_TEXT: Told<'static> = ("a", Ok(TEXT));
 
 /// The command that adds a path.
 pub(crate) fn add(
     rt: &impl Abort,
     alloc: Global,
-    path: &str,
+    name: &str,
     numbers: &[u32],
-    offsets: (u32, u32),
-) -> Result<Command, AllocError> {
-    Ok(Command::AddPath(
-        name(alloc, path)?,
-        lines(rt, alloc, numbers)?,
-        offsets.0,
-        offsets.1,
-    ))
+    pos: u32,
+) -> Command {
+    let name = String::from_str(alloc, name).expect(rt, "memory");
+    let lines = lines(alloc, numbers).expect(rt, "memory");
+    Command::AddPath(name, lines, pos, 0)
 }
 
-/// A line without shape points between two nodes, of class 4 and form 3.
-pub(crate) fn plain_line(
-    rt: &impl Abort,
-    alloc: Global,
-    number: u32,
-    ends: (u32, u32),
-    len: u32,
-) -> Edit {
-    let (from, to) = (node(rt, ends.0), node(rt, ends.1));
-    Edit::AddLine(
-        line(rt, number),
-        Line {
-            from,
-            to,
-            frc: 4,
-            fow: 3,
-            len,
-            shape: Vec::new(alloc),
-        },
-    )
+/// The command that adds the worked path.
+pub(crate) fn worked_path(rt: &impl Abort, alloc: Global) -> Command {
+    add(rt, alloc, "a", &[10, 20, 30], 1500)
 }
 
-/// Another length for a line, without shape points, of class 4 and form 3.
-pub(crate) fn other_length(rt: &impl Abort, alloc: Global, number: u32, len: u32) -> Command {
-    Command::Edit(Edit::SetLine {
-        id: line(rt, number),
-        frc: 4,
-        fow: 3,
-        len,
-        shape: Vec::new(alloc),
-    })
+/// The edits that make the worked map.
+pub(crate) fn worked_edits(rt: &impl Abort, alloc: Global) -> Vec<Edit> {
+    edits_of(alloc, WORKED).expect(rt, "memory")
 }
 
-/// That it was accepted, and told no path.
-pub(crate) fn assert_quiet(rt: &impl Abort, outcome: Result<Reply, CommandFault>) {
-    match outcome {
-        Ok(Reply::Paths(entries)) => assert_eq!(rt; entries.len(), 0),
+/// The command that adds a line.
+pub(crate) fn road(rt: &impl Abort, alloc: Global, road: Road) -> Command {
+    Command::Edit(new_line(alloc, road).expect(rt, "memory"))
+}
+
+/// That an entry tells this path.
+fn expect_entry(rt: &impl Abort, entry: &Entry, told: &Told<'_>) {
+    let (name, published) = told;
+    assert_eq!(rt; entry.name.as_str(), *name);
+    match (&entry.published, published) {
+        (Ok(text), Ok(wanted)) => assert_eq!(rt; text.as_str(), *wanted),
+        (Err(refusal), Err(wanted)) => assert_eq!(rt; *refusal, *wanted),
+        _ => panic!(rt; "the other kind of answer"),
+    }
+}
+
+/// That these are the entries of exactly these paths, in this order.
+fn expect_entries(rt: &impl Abort, entries: &[Entry], told: &[Told<'_>]) {
+    assert_eq!(rt; entries.len(), told.len());
+    for (entry, told) in entries.iter().zip(told) {
+        expect_entry(rt, entry, told);
+    }
+}
+
+/// Applies a command, which has to be accepted and to tell exactly these paths, in this order.
+pub(crate) fn tells(rt: &impl Abort, register: &mut Register, command: Command, told: &[Told<'_>]) {
+    match register.apply(command) {
+        Ok(Reply::Paths(entries)) => expect_entries(rt, &entries, told),
         _ => panic!(rt; "not accepted"),
     }
 }
 
-/// That it was accepted, and told path `a` with this text.
-pub(crate) fn assert_told(rt: &impl Abort, outcome: Result<Reply, CommandFault>, text: &str) {
-    match outcome {
+/// Applies an edit, which has to be accepted and to tell no path.
+pub(crate) fn edits(rt: &impl Abort, register: &mut Register, edit: Edit) {
+    tells(rt, register, Command::Edit(edit), &[]);
+}
+
+/// Applies a command, which has to be accepted and to tell this path alone, with whatever answer.
+pub(crate) fn names(rt: &impl Abort, register: &mut Register, command: Command, name: &str) {
+    match register.apply(command) {
         Ok(Reply::Paths(entries)) => {
             assert_eq!(rt; entries.len(), 1);
             for entry in &entries {
-                assert_eq!(rt; entry.name.as_str(), "a");
-                match &entry.published {
-                    Ok(published) => assert_eq!(rt; published.as_str(), text),
-                    Err(_) => panic!(rt; "no text"),
-                }
+                assert_eq!(rt; entry.name.as_str(), name);
             }
         }
         _ => panic!(rt; "not accepted"),
     }
 }
 
-pub(crate) fn assert_refused(
+/// Gives a change to the open batch, which has to hold it as the one of that number.
+pub(crate) fn holds(rt: &impl Abort, register: &mut Register, change: Command, number: u32) {
+    assert!(rt; register.is_open());
+    match register.apply(change) {
+        Ok(Reply::Held(held)) => assert_eq!(rt; held, number),
+        _ => panic!(rt; "not held as {number}"),
+    }
+}
+
+/// Applies a command, which has to have this fault.
+pub(crate) fn refuses(
     rt: &impl Abort,
-    outcome: Result<Reply, CommandFault>,
+    register: &mut Register,
+    command: Command,
     fault: CommandFault,
 ) {
-    assert_eq!(rt; outcome.err(), Some(fault));
+    assert_eq!(rt; register.apply(command).err(), Some(fault));
 }
 
-/// That it was accepted, and told exactly these paths, in this order.
-pub(crate) fn assert_paths(
-    rt: &impl Abort,
-    outcome: Result<Reply, CommandFault>,
-    expected: &[(&str, Result<&str, Refusal>)],
-) {
-    match outcome {
-        Ok(Reply::Paths(entries)) => {
-            assert_eq!(rt; entries.len(), expected.len());
-            for (entry, (name, published)) in entries.iter().zip(expected) {
-                assert_eq!(rt; entry.name.as_str(), *name);
-                match (&entry.published, published) {
-                    (Ok(text), Ok(wanted)) => assert_eq!(rt; text.as_str(), *wanted),
-                    (Err(refusal), Err(wanted)) => assert_eq!(rt; *refusal, *wanted),
-                    _ => panic!(rt; "the other kind of answer"),
-                }
-            }
-        }
-        _ => panic!(rt; "not accepted"),
-    }
+/// That this is the text published under a name.
+pub(crate) fn expect_text(rt: &impl Abort, register: &Register, name: &str, text: Option<&str>) {
+    assert_eq!(rt; register.text(name), text, "of {name}");
+}
+
+/// That so many paths were encoded or kept their answer, and so many kept it.
+pub(crate) fn expect_counts(rt: &impl Abort, register: &Register, encodings: u64, kept: u64) {
+    assert_eq!(rt; register.work().encodings, encodings);
+    assert_eq!(rt; register.kept(), kept);
+}
+
+/// The same at the end of a test. The register goes here and not in each test, where each part of it that goes is proved
+/// anew.
+pub(crate) fn ends(rt: &impl Abort, register: Register, encodings: u64, kept: u64) {
+    expect_counts(rt, &register, encodings, kept);
 }
 
 /// Makes the worked map by single edits.
-pub(crate) fn base_map(rt: &impl Abort, alloc: Global) -> Result<Register, AllocError> {
+fn base_map(rt: &impl Abort, alloc: Global) -> Register {
     let mut register = Register::new(alloc);
-    for edit in [
-        new_node(rt, 1, 612_683, 4_960_852),
-        new_node(rt, 2, 612_838, 4_960_399),
-        new_node(rt, 3, 612_790, 4_960_350),
-        new_node(rt, 4, 612_817, 4_960_306),
-        road(rt, alloc, 10)?,
-        road(rt, alloc, 20)?,
-        road(rt, alloc, 30)?,
-        road(rt, alloc, 99)?,
-    ] {
-        assert_quiet(rt, register.apply(Command::Edit(edit)));
+    for edit in worked_edits(rt, alloc) {
+        edits(rt, &mut register, edit);
     }
-    Ok(register)
+    register
 }
 
 /// The worked map and its path of three points.
-pub(crate) fn three_points(rt: &impl Abort, alloc: Global) -> Result<Register, AllocError> {
-    let mut register = base_map(rt, alloc)?;
-    let added = register.apply(add(rt, alloc, "a", &[10, 20, 30], (1500, 0))?);
-    assert_paths(rt, added, &[("a", Ok(WORKED))]);
-    Ok(register)
+pub(crate) fn three_points(rt: &impl Abort, alloc: Global) -> Register {
+    let mut register = base_map(rt, alloc);
+    tells(rt, &mut register, worked_path(rt, alloc), &[WITH_TEXT]);
+    register
 }

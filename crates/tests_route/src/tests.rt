@@ -5,8 +5,8 @@ ghost use Rattle.olr_spec.specs.Map.{has_line, start, end};
 ghost use Rattle.olr_spec.specs.Walks.{Walk};
 ghost use Rattle.olr_route.specs.Labels.{AreLabels};
 
-use olr_coords::Coord;
-use olr_map::{Edit, Footprint, Line, LineId, MapRead, NodeId, RoadMap};
+use made_maps::{Plain, STRAIGHT, WORKED, line, make, map_of, node, other_line, plain_map};
+use olr_map::{Footprint, LineId, MapRead, NodeId, RoadMap};
 use olr_route::{
     Direction, GREATEST_LIMIT, Labels, Search, Work, extends_least, extends_sole, is_least,
     is_sole, near, plain, search,
@@ -28,59 +28,14 @@ macro_rules! same {
     };
 }
 
-fn node(rt: &impl Abort, number: u32) -> NodeId {
-    NodeId::new(number).expect(rt, "a node's number")
-}
-
-fn line(rt: &impl Abort, number: u32) -> LineId {
-    LineId::new(number).expect(rt, "a line's number")
-}
-
-fn edit(rt: &impl Abort, map: &mut RoadMap, edit: Edit) {
-    match map.apply(edit) {
-        Ok(undo) => map.keep(undo),
-        Err(_) => panic!(rt; "an edit with a fault"),
-    }
-}
-
-/// A map with the nodes from 1 to `nodes`, all at one place, and lines given by number, begin, end and length.
-fn made(rt: &impl Abort, alloc: Global, nodes: u32, lines: &[(u32, u32, u32, u32)]) -> RoadMap {
-    let mut map = RoadMap::new(alloc);
-    let place = Coord::new(0, 0).expect(rt, "a place");
-    for number in 0..nodes {
-        edit(
-            rt,
-            &mut map,
-            Edit::AddNode(node(rt, number.saturating_add(1)), place),
-        );
-    }
-    for (number, from, to, len) in lines {
-        let record = Line {
-            from: node(rt, *from),
-            to: node(rt, *to),
-            frc: 3,
-            fow: 3,
-            len: *len,
-            shape: Vec::new(alloc),
-        };
-        edit(rt, &mut map, Edit::AddLine(line(rt, *number), record));
-    }
-    map
+/// The map with the nodes from 1 to `nodes`, and lines given by number, begin, end and length.
+fn made(rt: &impl Abort, alloc: Global, nodes: u32, lines: &[Plain]) -> RoadMap {
+    plain_map(alloc, nodes, lines).expect(rt, "a map")
 }
 
 /// The worked map: a road of three lines from node 1 to node 4, and a shorter line beside the second.
 fn base(rt: &impl Abort, alloc: Global) -> RoadMap {
-    made(
-        rt,
-        alloc,
-        4,
-        &[
-            (10, 1, 2, 5610),
-            (20, 2, 3, 2000),
-            (30, 3, 4, 740),
-            (99, 2, 3, 1500),
-        ],
-    )
+    map_of(alloc, WORKED).expect(rt, "the worked map")
 }
 
 /// Two ways of equal length from node 1 to node 4, and a line on to node 5.
@@ -165,7 +120,7 @@ fn judged<M: MapRead>(
     let labels = labels_from(rt, alloc, map, source, GREATEST_LIMIT);
     let mut lines = Vec::new(alloc);
     for number in numbers {
-        let pushed = lines.push(line(rt, *number));
+        let pushed = lines.push(line(*number));
         assert!(rt; pushed.is_ok());
     }
     assert!(rt; is_walk(map, source, &lines));
@@ -176,8 +131,8 @@ fn judged<M: MapRead>(
 }
 
 /// A node's label: the length, and the number of the last line.
-fn label(rt: &impl Abort, labels: &Labels, number: u32) -> (Option<u32>, Option<u32>) {
-    let node = node(rt, number);
+fn label(labels: &Labels, number: u32) -> (Option<u32>, Option<u32>) {
+    let node = node(number);
     (
         labels.dist(node),
         labels.last_line(node).map(|line| line.number()),
@@ -187,16 +142,16 @@ fn label(rt: &impl Abort, labels: &Labels, number: u32) -> (Option<u32>, Option<
 #[test]
 fn search_on_the_base_map(rt: HostRuntime) -> Result<(), Fail> {
     let mut map = base(&rt, rt.alloc());
-    let source = node(&rt, 2);
+    let source = node(2);
     assert!(rt; map.node(source).is_some());
     let mut footprint = Footprint::new(rt.alloc());
     let mut work = Work::default();
     let labels = search(rt.alloc(), &map, source, 150_000, &mut footprint, &mut work)?;
-    same!(&rt; label(&rt, &labels, 1), (None, None));
-    same!(&rt; label(&rt, &labels, 2), (Some(0), None));
-    same!(&rt; label(&rt, &labels, 3), (Some(1500), Some(99)));
-    same!(&rt; label(&rt, &labels, 4), (Some(2240), Some(30)));
-    same!(&rt; footprint.as_slice(), [source, node(&rt, 3), node(&rt, 4)].as_slice());
+    same!(&rt; label(&labels, 1), (None, None));
+    same!(&rt; label(&labels, 2), (Some(0), None));
+    same!(&rt; label(&labels, 3), (Some(1500), Some(99)));
+    same!(&rt; label(&labels, 4), (Some(2240), Some(30)));
+    same!(&rt; footprint.as_slice(), [source, node(3), node(4)].as_slice());
     same!(&rt; work, Work {
             encodings: 0,
             searches: 1,
@@ -205,28 +160,21 @@ fn search_on_the_base_map(rt: HostRuntime) -> Result<(), Fail> {
 
     for (limit, end) in [(1500, Some(1500)), (1499, None)] {
         let near = labels_from(&rt, rt.alloc(), &map, source, limit);
-        same!(&rt; label(&rt, &near, 2), (Some(0), None));
-        same!(&rt; near.dist(node(&rt, 3)), end);
-        same!(&rt; label(&rt, &near, 4), (None, None));
+        same!(&rt; label(&near, 2), (Some(0), None));
+        same!(&rt; near.dist(node(3)), end);
+        same!(&rt; label(&near, 4), (None, None));
     }
 
-    let tie = Edit::SetLine {
-        id: line(&rt, 99),
-        frc: 3,
-        fow: 3,
-        len: 2000,
-        shape: Vec::new(rt.alloc()),
-    };
-    edit(&rt, &mut map, tie);
+    make(&mut map, other_line(rt.alloc(), 99, 2000, STRAIGHT)?)?;
     let tied = labels_from(&rt, rt.alloc(), &map, source, GREATEST_LIMIT);
-    same!(&rt; label(&rt, &tied, 3), (Some(2000), Some(20)));
+    same!(&rt; label(&tied, 3), (Some(2000), Some(20)));
     Ok(())
 }
 
 #[test]
 fn least_and_sole_walks(rt: HostRuntime) {
     let map = base(&rt, rt.alloc());
-    let source = node(&rt, 2);
+    let source = node(2);
     for (lines, least) in [
         (&[][..], true),
         (&[99], true),
@@ -237,9 +185,9 @@ fn least_and_sole_walks(rt: HostRuntime) {
     }
 
     let map = diamond(&rt, rt.alloc());
-    let source = node(&rt, 1);
+    let source = node(1);
     let labels = labels_from(&rt, rt.alloc(), &map, source, GREATEST_LIMIT);
-    same!(&rt; label(&rt, &labels, 4), (Some(200), Some(7)));
+    same!(&rt; label(&labels, 4), (Some(200), Some(7)));
     same!(&rt; judged(&rt, rt.alloc(), &map, source, &[]), (true, true));
     same!(&rt; judged(&rt, rt.alloc(), &map, source, &[6]), (true, true));
     same!(&rt; judged(&rt, rt.alloc(), &map, source, &[6, 7]), (true, false));
@@ -250,9 +198,9 @@ fn least_and_sole_walks(rt: HostRuntime) {
 #[test]
 fn lines_that_prolong_walks(rt: HostRuntime) {
     let map = diamond(&rt, rt.alloc());
-    let labels = labels_from(&rt, rt.alloc(), &map, node(&rt, 1), GREATEST_LIMIT);
+    let labels = labels_from(&rt, rt.alloc(), &map, node(1), GREATEST_LIMIT);
     for (number, least, sole) in [(6, true, true), (7, true, false), (8, false, false)] {
-        let line = line(&rt, number);
+        let line = line(number);
         assert!(rt; map.line(line).is_some());
         same!(&rt; extends_least(&map, &labels, line), least);
         same!(&rt; extends_sole(&map, &labels, line), sole);
@@ -267,23 +215,23 @@ fn loops_and_parallel_lines(rt: HostRuntime) {
         2,
         &[(1, 1, 1, 50), (3, 1, 2, 100), (2, 1, 2, 100)],
     );
-    let source = node(&rt, 1);
+    let source = node(1);
     let labels = labels_from(&rt, rt.alloc(), &map, source, GREATEST_LIMIT);
-    same!(&rt; label(&rt, &labels, 1), (Some(0), None));
-    same!(&rt; label(&rt, &labels, 2), (Some(100), Some(2)));
+    same!(&rt; label(&labels, 1), (Some(0), None));
+    same!(&rt; label(&labels, 2), (Some(100), Some(2)));
     same!(&rt; judged(&rt, rt.alloc(), &map, source, &[1]), (false, false));
     same!(&rt; judged(&rt, rt.alloc(), &map, source, &[2]), (true, false));
     same!(&rt; judged(&rt, rt.alloc(), &map, source, &[3]), (false, false));
 
     let here = labels_from(&rt, rt.alloc(), &map, source, 0);
-    same!(&rt; label(&rt, &here, 1), (Some(0), None));
-    same!(&rt; label(&rt, &here, 2), (None, None));
+    same!(&rt; label(&here, 1), (Some(0), None));
+    same!(&rt; label(&here, 2), (None, None));
 }
 
 #[test]
 fn plain_search_on_the_base_map(rt: HostRuntime) -> Result<(), Fail> {
     let map = base(&rt, rt.alloc());
-    let source = node(&rt, 2);
+    let source = node(2);
     assert!(rt; map.node(source).is_some());
     let mut footprint = Footprint::new(rt.alloc());
     let mut work = Work {
@@ -292,8 +240,8 @@ fn plain_search_on_the_base_map(rt: HostRuntime) -> Result<(), Fail> {
         settled: 0,
     };
     let labels = plain::search(rt.alloc(), &map, source, 150_000, &mut footprint, &mut work)?;
-    same!(&rt; label(&rt, &labels, 3), (Some(1500), Some(99)));
-    same!(&rt; label(&rt, &labels, 4), (Some(2240), Some(30)));
+    same!(&rt; label(&labels, 3), (Some(1500), Some(99)));
+    same!(&rt; label(&labels, 4), (Some(2240), Some(30)));
     same!(&rt; work, Work {
             encodings: 7,
             searches: u64::MAX,
@@ -316,15 +264,15 @@ fn distances<M: MapRead>(
     let mut begins = Vec::new(alloc);
     for begin in from {
         let (number, length) = *begin;
-        let pushed = begins.push((node(rt, number), length));
+        let pushed = begins.push((node(number), length));
         assert!(rt; pushed.is_ok());
     }
     match near(alloc, map, direction, &begins, limit) {
         Ok(search) => [
-            search.dist(map, node(rt, 1)),
-            search.dist(map, node(rt, 2)),
-            search.dist(map, node(rt, 3)),
-            search.dist(map, node(rt, 4)),
+            search.dist(map, node(1)),
+            search.dist(map, node(2)),
+            search.dist(map, node(3)),
+            search.dist(map, node(4)),
         ],
         Err(_) => panic!(rt; "no memory"),
     }
@@ -395,7 +343,7 @@ fn distances_in_either_direction(rt: HostRuntime) {
 #[test]
 fn search_step_by_step(rt: HostRuntime) -> Result<(), Fail> {
     let map = base(&rt, rt.alloc());
-    let (second, third, fourth) = (node(&rt, 2), node(&rt, 3), node(&rt, 4));
+    let (second, third, fourth) = (node(2), node(3), node(4));
     let mut search = Search::new(rt.alloc());
     search.begin(&map, Direction::Along, &[(second, 0)])?;
     same!(&rt; search.dist(&map, second), Some(0));
@@ -419,7 +367,7 @@ fn search_step_by_step(rt: HostRuntime) -> Result<(), Fail> {
     let other = diamond(&rt, rt.alloc());
     search.begin(&other, Direction::Against, &[(fourth, 0)])?;
     search.settle_to(&other, 100)?;
-    same!(&rt; search.dist(&other, node(&rt, 1)), None);
+    same!(&rt; search.dist(&other, node(1)), None);
     same!(&rt; search.dist(&other, second), Some(100));
     same!(&rt; search.dist(&other, third), Some(100));
     same!(&rt; search.settled(), 3);
@@ -429,7 +377,7 @@ fn search_step_by_step(rt: HostRuntime) -> Result<(), Fail> {
 #[test]
 fn sole_walks_by_distances(rt: HostRuntime) -> Result<(), Fail> {
     let map = diamond(&rt, rt.alloc());
-    let from = node(&rt, 1);
+    let from = node(1);
     let search = near(
         rt.alloc(),
         &map,
@@ -438,7 +386,7 @@ fn sole_walks_by_distances(rt: HostRuntime) -> Result<(), Fail> {
         GREATEST_LIMIT,
     )?;
     for (number, sole) in [(5, true), (6, true), (7, false), (8, false), (10, false)] {
-        same!(&rt; search.extends_sole(&map, line(&rt, number)), sole);
+        same!(&rt; search.extends_sole(&map, line(number)), sole);
     }
 
     let map = made(
@@ -461,7 +409,7 @@ fn sole_walks_by_distances(rt: HostRuntime) -> Result<(), Fail> {
         GREATEST_LIMIT,
     )?;
     for (number, sole) in [(1, false), (2, false), (3, false), (4, true), (5, false)] {
-        same!(&rt; search.extends_sole(&map, line(&rt, number)), sole);
+        same!(&rt; search.extends_sole(&map, line(number)), sole);
     }
     Ok(())
 }

@@ -1,0 +1,68 @@
+//! Whether two maps answer alike.
+
+use crate::{line, node};
+use olr_map::{Line, LineEnd, LineId, MapRead, NodeId};
+
+/// The first number up to `last` at which two maps don't answer alike of the node and the line with this number.
+pub fn difference<M: MapRead, N: MapRead>(one: &M, other: &N, last: u32) -> Option<u32> {
+    for number in 1..=last {
+        let nodes = are_nodes_alike(one, other, node(number));
+        let lines = are_lines_alike(one, other, line(number));
+        if !(nodes && lines) {
+            return Some(number);
+        }
+    }
+    None
+}
+
+/// Whether two maps have the same at a node: its place, its lines, and their far ends.
+fn are_nodes_alike<M: MapRead, N: MapRead>(one: &M, other: &N, id: NodeId) -> bool {
+    one.node(id) == other.node(id)
+        && one.out_lines(id) == other.out_lines(id)
+        && one.in_lines(id) == other.in_lines(id)
+        && are_ends_alike(one, other, one.out_ends(id), other.out_ends(id))
+        && are_ends_alike(one, other, one.in_ends(id), other.in_ends(id))
+}
+
+/// Whether two lists have the same far ends with the same lengths, and each node's place on its map.
+fn are_ends_alike<M: MapRead, N: MapRead>(
+    one: &M,
+    other: &N,
+    first: &[LineEnd],
+    second: &[LineEnd],
+) -> bool {
+    if first.len() != second.len() {
+        return false;
+    }
+    for (here, there) in first.iter().zip(second.iter()) {
+        if !is_end_alike(one, other, *here, *there) {
+            return false;
+        }
+    }
+    true
+}
+
+fn is_end_alike<M: MapRead, N: MapRead>(one: &M, other: &N, here: LineEnd, there: LineEnd) -> bool {
+    here.node == there.node
+        && here.len == there.len
+        && one.place_of(here.node) == Some(here.place)
+        && other.place_of(there.node) == Some(there.place)
+}
+
+/// Whether two maps have the same line under a number, or none.
+fn are_lines_alike<M: MapRead, N: MapRead>(one: &M, other: &N, id: LineId) -> bool {
+    match (one.line(id), other.line(id)) {
+        (Some(first), Some(second)) => is_same_line(first, second),
+        (None, None) => true,
+        _ => false,
+    }
+}
+
+fn is_same_line(first: &Line, second: &Line) -> bool {
+    first.from == second.from
+        && first.to == second.to
+        && first.frc == second.frc
+        && first.fow == second.fow
+        && first.len == second.len
+        && first.shape.as_slice() == second.shape.as_slice()
+}

@@ -1,0 +1,189 @@
+//! Maps that the tests of several crates are on, and short words for what is given to a map.
+#![tactic(auto)]
+
+pub mod alike;
+
+pub use alike::difference;
+use olr_coords::Coord;
+use olr_map::{Edit, EditFault, Line, LineId, NodeId, RoadMap, Shape};
+use std::alloc::{AllocError, Global};
+
+/// A node: its number, and its longitude and latitude in 1/100,000 degree.
+pub type Place = (u32, i32, i32);
+
+/// A place on the way of a line: how far it is from where the line begins, in decimetres, and its longitude and latitude.
+pub type Bend = (u32, i32, i32);
+
+/// A line: its number, the nodes where it begins and ends, class, form of way, length in decimetres, and its bends.
+pub type Road = (u32, u32, u32, u8, u8, u32, &'static [Bend]);
+
+/// The nodes and the lines of a map.
+pub type Plan = (&'static [Place], &'static [Road]);
+
+/// A line without bends, of class 4 and form 3: its number, the nodes where it begins and ends, and its length.
+pub type Plain = (u32, u32, u32, u32);
+
+/// No bends.
+pub const STRAIGHT: &[Bend] = &[];
+
+/// The nodes of the worked map.
+pub const PLACES: &[Place] = &[
+    (1, 612_683, 4_960_852),
+    (2, 612_838, 4_960_399),
+    (3, 612_790, 4_960_350),
+    (4, 612_817, 4_960_306),
+];
+
+/// Its first line.
+pub const FIRST: Road = (
+    10,
+    1,
+    2,
+    3,
+    2,
+    5610,
+    &[(200, 612_701, 4_960_838), (5410, 612_820, 4_960_413)],
+);
+
+/// Its second line.
+pub const SECOND: Road = (20, 2, 3, 3, 3, 2000, &[(200, 612_820, 4_960_389)]);
+
+/// Its third line.
+pub const THIRD: Road = (30, 3, 4, 5, 3, 740, &[(540, 612_792, 4_960_311)]);
+
+/// The side road beside the second line, which is shorter than it.
+pub const SIDE: Road = (99, 2, 3, 4, 3, 1500, STRAIGHT);
+
+/// The worked map: a road of three lines from node 1 to node 4, and the side road, which comes first.
+pub const WORKED: Plan = (PLACES, &[SIDE, FIRST, SECOND, THIRD]);
+
+/// The node with this number. Numbers begin at 1, which stands for 0 too.
+pub fn node(number: u32) -> NodeId {
+    NodeId::new(number).unwrap_or_default()
+}
+
+/// The line with this number. Numbers begin at 1, which stands for 0 too.
+pub fn line(number: u32) -> LineId {
+    LineId::new(number).unwrap_or_default()
+}
+
+/// The place with this longitude and latitude, in 1/100,000 degree. Beyond the bounds of a map it is that of (0, 0).
+pub fn place(lon: i32, lat: i32) -> Coord {
+    match Coord::new(i64::from(lon) * 3_276_800, i64::from(lat) * 3_276_800) {
+        Some(place) => place,
+        None => Coord::new(0, 0).unwrap(),
+    }
+}
+
+/// The lines with these numbers.
+pub fn lines(alloc: Global, numbers: &[u32]) -> Result<Vec<LineId>, AllocError> {
+    let mut ids = Vec::new(alloc);
+    for number in numbers {
+        ids.push(line(*number))?;
+    }
+    Ok(ids)
+}
+
+/// The edit that adds a node.
+pub fn new_node(place_of: Place) -> Edit {
+    let (number, lon, lat) = place_of;
+    Edit::AddNode(node(number), place(lon, lat))
+}
+
+/// The shape of a line with these bends.
+pub fn shape(alloc: Global, bends: &[Bend]) -> Result<Vec<Shape>, AllocError> {
+    let mut shape = Vec::new(alloc);
+    for (at, lon, lat) in bends {
+        shape.push(Shape {
+            at: *at,
+            place: place(*lon, *lat),
+        })?;
+    }
+    Ok(shape)
+}
+
+/// The edit that adds a line.
+pub fn new_line(alloc: Global, road: Road) -> Result<Edit, AllocError> {
+    let (number, from, to, frc, fow, len, bends) = road;
+    let record = Line {
+        from: node(from),
+        to: node(to),
+        frc,
+        fow,
+        len,
+        shape: shape(alloc, bends)?,
+    };
+    Ok(Edit::AddLine(line(number), record))
+}
+
+/// The edit that adds a line without bends, of class 4 and form 3.
+pub fn plain_line(alloc: Global, plain: Plain) -> Edit {
+    let (number, from, to, len) = plain;
+    let record = Line {
+        from: node(from),
+        to: node(to),
+        frc: 4,
+        fow: 3,
+        len,
+        shape: Vec::new(alloc),
+    };
+    Edit::AddLine(line(number), record)
+}
+
+/// The edit that gives a line class 4, form 3, and another length and shape.
+pub fn other_line(
+    alloc: Global,
+    number: u32,
+    len: u32,
+    bends: &[Bend],
+) -> Result<Edit, AllocError> {
+    Ok(Edit::SetLine {
+        id: line(number),
+        frc: 4,
+        fow: 3,
+        len,
+        shape: shape(alloc, bends)?,
+    })
+}
+
+/// Makes an edit, and lets it stand.
+pub fn make(map: &mut RoadMap, edit: Edit) -> Result<(), EditFault> {
+    let undo = map.apply(edit)?;
+    map.keep(undo);
+    Ok(())
+}
+
+/// The edits that make a map: its nodes, and then its lines.
+pub fn edits_of(alloc: Global, plan: Plan) -> Result<Vec<Edit>, AllocError> {
+    let (places, roads) = plan;
+    let mut edits = Vec::new(alloc);
+    for place in places {
+        edits.push(new_node(*place))?;
+    }
+    for road in roads {
+        edits.push(new_line(alloc, *road)?)?;
+    }
+    Ok(edits)
+}
+
+/// The map of these nodes and lines.
+pub fn map_of(alloc: Global, plan: Plan) -> Result<RoadMap, EditFault> {
+    let edits = edits_of(alloc, plan).or(Err(EditFault::Memory))?;
+    let mut map = RoadMap::new(alloc);
+    for edit in edits {
+        make(&mut map, edit)?;
+    }
+    Ok(map)
+}
+
+/// The map with the nodes from 1 to `last`, all at one place, and these lines.
+pub fn plain_map(alloc: Global, last: u32, lines: &[Plain]) -> Result<RoadMap, EditFault> {
+    let mut map = RoadMap::new(alloc);
+    for number in 1..=last {
+        make(&mut map, new_node((number, 0, 0)))?;
+    }
+    for plain in lines {
+        make(&mut map, plain_line(alloc, *plain))?;
+    }
+    Ok(map)
+}
