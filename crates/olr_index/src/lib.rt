@@ -9,9 +9,6 @@ ghost use Rattle.olr_index.specs.Listed.{marks_in};
 use std::alloc::{AllocError, Global};
 use std::collections::HashMap;
 
-#[cfg(test)]
-mod tests;
-
 /// Numbers and their marks. Each number has each mark once, and a number without marks takes no room.
 #[derive(Drop, Debug)]
 pub struct Index {

@@ -1,4 +1,4 @@
-use super::*;
+use olr_index::Index;
 use std::test::Fail;
 
 #[test]
