@@ -134,9 +134,14 @@ fn edit_far(rt: &impl Print, register: &mut Register) -> anyhow::Result<()> {
 /// The register alone.
 fn keep(rt: &impl Print, alloc: Global) -> anyhow::Result<()> {
     let mut register = Register::new(alloc);
-    fill(rt, alloc, &mut register)?;
-    explain(rt, alloc, &mut register)?;
-    edit_far(rt, &mut register)
+    keep_in(rt, alloc, &mut register)
+}
+
+/// What is done with a register.
+fn keep_in(rt: &impl Print, alloc: Global, register: &mut Register) -> anyhow::Result<()> {
+    fill(rt, alloc, register)?;
+    explain(rt, alloc, register)?;
+    edit_far(rt, register)
 }
 
 /// The street as a map alone.
