@@ -1,13 +1,17 @@
 //! Worked edits, with expected values by hand, and the two maps against each other.
 
 ghost use Rattle.std.specs.Prelude.{IsTrue};
+ghost use Rattle.olr_map.specs.RoadMaps.{CanUndoAll};
 
-use olr_coords::Coord;
+use made_maps::{
+    Bend, FIRST, Road, STRAIGHT, WORKED, difference, line, make, map_of, new_node, node, place,
+    shape,
+};
 use olr_map::{
-    Edit, EditFault, Footprint, Line, LineEnd, LineId, MapRead, NodeId, PlainMap, RoadMap, Shape,
+    Edit, EditFault, Footprint, Judged, Line, LineEnd, LineId, MapRead, NodeId, PlainMap, RoadMap,
     UndoLog, judge, line_touched, nodes_touched,
 };
-use std::alloc::Global;
+use std::alloc::{AllocError, Global};
 use std::fmt::Debug;
 use std::process::Abort;
 use std::test::Fail;
@@ -49,168 +53,29 @@ macro_rules! holds {
     };
 }
 
-/// The node with this number.
-fn node(rt: &impl Abort, number: u32) -> NodeId {
-    NodeId::new(number).expect(rt, "a number of a node")
+/// The edit that adds a line.
+fn new_line(rt: &impl Abort, alloc: Global, road: Road) -> Edit {
+    made_maps::new_line(alloc, road).expect(rt, "memory")
 }
 
-/// The line with this number.
-fn line(rt: &impl Abort, number: u32) -> LineId {
-    LineId::new(number).expect(rt, "a number of a line")
-}
-
-/// The place with this longitude and latitude, in 1/100,000 degree.
-fn place(rt: &impl Abort, lon: i32, lat: i32) -> Coord {
-    Coord::new(i64::from(lon) * 3_276_800, i64::from(lat) * 3_276_800).expect(rt, "a place")
-}
-
-/// The shape with points at these distances, all at one place.
-fn shape(rt: &impl Abort, alloc: Global, distances: &[u32]) -> Vec<Shape> {
-    let mut points = Vec::new(alloc);
-    for at in distances {
-        let place = place(rt, 612_000, 4_960_000);
-        let pushed = points.push(Shape { at: *at, place });
-        assert!(rt; pushed.is_ok());
-    }
-    points
-}
-
-/// The edit that adds a line of class 3 and form 2.
-fn new_line(
-    rt: &impl Abort,
-    alloc: Global,
-    id: u32,
-    from: u32,
-    to: u32,
-    len: u32,
-    distances: &[u32],
-) -> Edit {
-    Edit::AddLine(
-        line(rt, id),
-        Line {
-            from: node(rt, from),
-            to: node(rt, to),
-            frc: 3,
-            fow: 2,
-            len,
-            shape: shape(rt, alloc, distances),
-        },
-    )
-}
-
-/// The edit that gives a line class 4 and form 3.
-fn other_line(rt: &impl Abort, alloc: Global, id: u32, len: u32, distances: &[u32]) -> Edit {
-    Edit::SetLine {
-        id: line(rt, id),
-        frc: 4,
-        fow: 3,
-        len,
-        shape: shape(rt, alloc, distances),
-    }
+/// The edit that gives a line another length and shape, class 4 and form 3.
+fn other_line(rt: &impl Abort, alloc: Global, number: u32, len: u32, bends: &[Bend]) -> Edit {
+    made_maps::other_line(alloc, number, len, bends).expect(rt, "memory")
 }
 
 /// Makes an edit, which the map must take, and lets it stand.
 fn take(rt: &impl Abort, map: &mut RoadMap, edit: Edit) {
-    match map.apply(edit) {
-        Ok(undo) => map.keep(undo),
-        Err(_) => panic!(rt; "a refused edit"),
-    }
+    make(map, edit).expect(rt, "an edit that is taken");
 }
 
-/// The map with four nodes and four lines: 10 from 1 to 2, 20 and 99 from 2 to 3, 30 from 3 to 4.
+/// The worked map: lines 10 from 1 to 2, 20 and 99 from 2 to 3, 30 from 3 to 4.
 fn base(rt: &impl Abort, alloc: Global) -> RoadMap {
-    let mut map = RoadMap::new(alloc);
-    for (number, lon, lat) in [
-        (1, 612_683, 4_960_852),
-        (2, 612_838, 4_960_399),
-        (3, 612_790, 4_960_350),
-        (4, 612_817, 4_960_306),
-    ] {
-        let added = Edit::AddNode(node(rt, number), place(rt, lon, lat));
-        take(rt, &mut map, added);
-    }
-    for (number, from, to, len, distances) in [
-        (99, 2, 3, 1500, &[][..]),
-        (10, 1, 2, 5610, &[200, 5410]),
-        (20, 2, 3, 2000, &[200]),
-        (30, 3, 4, 740, &[540]),
-    ] {
-        let added = new_line(rt, alloc, number, from, to, len, distances);
-        take(rt, &mut map, added);
-    }
-    map
+    map_of(alloc, WORKED).expect(rt, "the worked map")
 }
 
 /// That two maps answer alike at all numbers up to 100.
 fn assert_alike<M: MapRead, N: MapRead>(rt: &impl Abort, one: &M, other: &N) {
-    for number in 1..=100 {
-        assert_node_alike(rt, one, other, number);
-        assert_line_alike(rt, one, other, number);
-    }
-}
-
-/// That two maps answer alike at the node with this number.
-fn assert_node_alike<M: MapRead, N: MapRead>(rt: &impl Abort, one: &M, other: &N, number: u32) {
-    let id = node(rt, number);
-    same_at(rt, one.node(id), other.node(id), "node", number);
-    same_at(
-        rt,
-        one.out_lines(id),
-        other.out_lines(id),
-        "lines from",
-        number,
-    );
-    same_at(rt, one.in_lines(id), other.in_lines(id), "lines to", number);
-    assert_ends_alike(rt, one, other, one.out_ends(id), other.out_ends(id));
-    assert_ends_alike(rt, one, other, one.in_ends(id), other.in_ends(id));
-}
-
-/// That two maps answer alike at the line with this number.
-fn assert_line_alike<M: MapRead, N: MapRead>(rt: &impl Abort, one: &M, other: &N, number: u32) {
-    let id = line(rt, number);
-    match (one.line(id), other.line(id)) {
-        (Some(first), Some(second)) => assert_same_line(rt, first, second, number),
-        (None, None) => {}
-        _ => panic!(rt; "line {number} is in one map alone"),
-    }
-}
-
-/// That two records of the line with this number are the same.
-fn assert_same_line(rt: &impl Abort, first: &Line, second: &Line, number: u32) {
-    let ends = (first.from, first.to);
-    same_at(rt, ends, (second.from, second.to), "ends of line", number);
-    let course = (first.frc, first.fow, first.len);
-    same_at(
-        rt,
-        course,
-        (second.frc, second.fow, second.len),
-        "line",
-        number,
-    );
-    same_at(
-        rt,
-        first.shape.as_slice(),
-        second.shape.as_slice(),
-        "shape of line",
-        number,
-    );
-}
-
-/// That two lists have the same far ends with the same lengths, and each node's place on its map.
-fn assert_ends_alike<M: MapRead, N: MapRead>(
-    rt: &impl Abort,
-    one: &M,
-    other: &N,
-    first: &[LineEnd],
-    second: &[LineEnd],
-) {
-    same!(rt; first.len(), second.len());
-    for (here, there) in first.iter().zip(second.iter()) {
-        same!(rt; here.node, there.node);
-        same!(rt; here.len, there.len);
-        same!(rt; one.place_of(here.node), Some(here.place));
-        same!(rt; other.place_of(there.node), Some(there.place));
-    }
+    same(rt, difference(one, other, 100), None, "where they differ");
 }
 
 /// That the map refuses an edit with this fault, and is as before.
@@ -229,104 +94,133 @@ fn assert_refused(rt: &impl Abort, alloc: Global, edit: Edit, number: u8, word: 
     assert_alike(rt, &map, &base(rt, alloc));
 }
 
-#[test]
-fn reads_the_base_map(rt: HostRuntime) -> Result<(), Fail> {
-    let map = base(&rt, rt.alloc());
-    same!(&rt; map.node(node(&rt, 2)), Some(place(&rt, 612_838, 4_960_399)));
-    same!(&rt; map.node(node(&rt, 5)), None);
-    same!(&rt; map.out_lines(node(&rt, 2)), [line(&rt, 20), line(&rt, 99)].as_slice());
-    same!(&rt; map.in_lines(node(&rt, 3)), [line(&rt, 20), line(&rt, 99)].as_slice());
-    holds!(&rt; map.out_lines(node(&rt, 4)).is_empty());
-    holds!(&rt; map.in_lines(node(&rt, 5)).is_empty());
-    match map.line(line(&rt, 10)) {
-        Some(found) => {
-            same!(&rt; found.from.number(), 1);
-            same!(&rt; found.to.number(), 2);
-            same!(&rt; found.len, 5610);
-            same!(&rt; found.shape.len(), 2);
-            holds!(&rt; found.is_good());
-        }
+/// That these are the numbers of lines, in this order.
+fn assert_numbers(rt: &impl Abort, lines: &[LineId], numbers: &[u32], what: &str) {
+    same(rt, lines.len(), numbers.len(), what);
+    for (line, number) in lines.iter().zip(numbers) {
+        same(rt, line.number(), *number, what);
+    }
+}
+
+/// The lines that leave a node, and those that enter it.
+fn assert_lines(rt: &impl Abort, map: &RoadMap, number: u32, outs: &[u32], ins: &[u32]) {
+    assert_numbers(rt, map.out_lines(node(number)), outs, "lines from a node");
+    assert_numbers(rt, map.in_lines(node(number)), ins, "lines to a node");
+}
+
+/// That line 10 of the worked map is good, and what it is.
+fn assert_first(rt: &impl Abort, first: &Line) {
+    same!(rt; (first.from.number(), first.to.number()), (1, 2));
+    same!(rt; (first.len, first.shape.len()), (5610, 2));
+    holds!(rt; first.is_good());
+}
+
+/// What the worked map says of line 10, and that there is no line 11.
+fn assert_has_first(rt: &impl Abort, map: &RoadMap) {
+    match map.line(line(10)) {
+        Some(first) => assert_first(rt, first),
         None => panic!(rt; "line 10"),
     }
-    holds!(&rt; map.line(line(&rt, 11)).is_none());
+    holds!(rt; map.line(line(11)).is_none());
+}
+
+#[test]
+fn reads_the_base_map(rt: HostRuntime) {
+    let map = base(&rt, rt.alloc());
+    same!(&rt; map.node(node(2)), Some(place(612_838, 4_960_399)));
+    same!(&rt; map.node(node(5)), None);
+    assert_lines(&rt, &map, 2, &[20, 99], &[10]);
+    assert_lines(&rt, &map, 3, &[30], &[20, 99]);
+    assert_lines(&rt, &map, 4, &[], &[30]);
+    assert_lines(&rt, &map, 5, &[], &[]);
+    assert_has_first(&rt, &map);
     holds!(&rt; NodeId::new(0).is_none());
     holds!(&rt; LineId::new(0).is_none());
-    Ok(())
 }
 
 #[test]
 fn refuses_in_order(rt: HostRuntime) -> Result<(), Fail> {
     let alloc = rt.alloc();
-    let here = place(&rt, 0, 0);
+    let here = place(0, 0);
+    assert_refused(&rt, alloc, Edit::AddNode(node(1), here), 3, "NodeExists");
+    assert_refused(&rt, alloc, Edit::MoveNode(node(9), here), 4, "NoNode");
+    assert_refused(&rt, alloc, Edit::DropNode(node(9)), 4, "NoNode");
+    assert_refused(&rt, alloc, Edit::DropNode(node(1)), 7, "NodeInUse");
+    assert_refused(&rt, alloc, Edit::DropNode(node(4)), 7, "NodeInUse");
     assert_refused(
         &rt,
         alloc,
-        Edit::AddNode(node(&rt, 1), here),
-        3,
-        "NodeExists",
-    );
-    assert_refused(&rt, alloc, Edit::MoveNode(node(&rt, 9), here), 4, "NoNode");
-    assert_refused(&rt, alloc, Edit::DropNode(node(&rt, 9)), 4, "NoNode");
-    assert_refused(&rt, alloc, Edit::DropNode(node(&rt, 1)), 7, "NodeInUse");
-    assert_refused(&rt, alloc, Edit::DropNode(node(&rt, 4)), 7, "NodeInUse");
-    assert_refused(
-        &rt,
-        alloc,
-        new_line(&rt, alloc, 99, 2, 3, 1500, &[]),
+        new_line(&rt, alloc, (99, 2, 3, 3, 2, 1500, STRAIGHT)),
         5,
         "LineExists",
     );
     assert_refused(
         &rt,
         alloc,
-        new_line(&rt, alloc, 99, 9, 3, 0, &[]),
+        new_line(&rt, alloc, (99, 9, 3, 3, 2, 0, STRAIGHT)),
         5,
         "LineExists",
     );
     assert_refused(
         &rt,
         alloc,
-        new_line(&rt, alloc, 98, 9, 3, 0, &[]),
+        new_line(&rt, alloc, (98, 9, 3, 3, 2, 0, STRAIGHT)),
         4,
         "NoNode",
     );
     assert_refused(
         &rt,
         alloc,
-        new_line(&rt, alloc, 98, 3, 9, 1500, &[]),
+        new_line(&rt, alloc, (98, 3, 9, 3, 2, 1500, STRAIGHT)),
         4,
         "NoNode",
     );
     assert_refused(
         &rt,
         alloc,
-        new_line(&rt, alloc, 98, 2, 3, 1500, &[1500]),
-        8,
-        "BadShape",
-    );
-    assert_refused(&rt, alloc, other_line(&rt, alloc, 98, 0, &[]), 6, "NoLine");
-    assert_refused(
-        &rt,
-        alloc,
-        other_line(&rt, alloc, 99, 0, &[]),
+        new_line(
+            &rt,
+            alloc,
+            (98, 2, 3, 3, 2, 1500, &[(1500, 612_000, 4_960_000)]),
+        ),
         8,
         "BadShape",
     );
     assert_refused(
         &rt,
         alloc,
-        other_line(&rt, alloc, 99, 9, &[3, 3]),
+        other_line(&rt, alloc, 98, 0, STRAIGHT),
+        6,
+        "NoLine",
+    );
+    assert_refused(
+        &rt,
+        alloc,
+        other_line(&rt, alloc, 99, 0, STRAIGHT),
         8,
         "BadShape",
     );
     assert_refused(
         &rt,
         alloc,
-        other_line(&rt, alloc, 99, 9, &[0]),
+        other_line(
+            &rt,
+            alloc,
+            99,
+            9,
+            &[(3, 612_000, 4_960_000), (3, 612_000, 4_960_000)],
+        ),
         8,
         "BadShape",
     );
-    assert_refused(&rt, alloc, Edit::DropLine(line(&rt, 98)), 6, "NoLine");
+    assert_refused(
+        &rt,
+        alloc,
+        other_line(&rt, alloc, 99, 9, &[(0, 612_000, 4_960_000)]),
+        8,
+        "BadShape",
+    );
+    assert_refused(&rt, alloc, Edit::DropLine(line(98)), 6, "NoLine");
     Ok(())
 }
 
@@ -344,17 +238,17 @@ fn lines_at_their_limits(rt: HostRuntime) -> Result<(), Fail> {
         (0, 0, 1001, 1000, true),
         (0, 0, 1000, 1000, false),
     ] {
-        let mut distances = Vec::new(alloc);
+        let mut bends = Vec::new(alloc);
         for at in 1..points + 1 {
-            distances.push(at)?;
+            bends.push((at, 0, 0))?;
         }
         let tried = Line {
-            from: node(&rt, 1),
-            to: node(&rt, 1),
+            from: node(1),
+            to: node(1),
             frc,
             fow,
             len,
-            shape: shape(&rt, alloc, &distances),
+            shape: shape(alloc, &bends)?,
         };
         assert_eq!(rt; tried.is_good(), good, "{frc} {fow} {len} {points}");
     }
@@ -365,9 +259,9 @@ fn lines_at_their_limits(rt: HostRuntime) -> Result<(), Fail> {
 fn edits_come_and_go(rt: HostRuntime) -> Result<(), Fail> {
     let alloc = rt.alloc();
     let mut map = base(&rt, alloc);
-    take(&rt, &mut map, Edit::DropLine(line(&rt, 10)));
-    take(&rt, &mut map, Edit::DropNode(node(&rt, 1)));
-    match map.apply(new_line(&rt, alloc, 10, 1, 2, 5610, &[200, 5410])) {
+    take(&rt, &mut map, Edit::DropLine(line(10)));
+    take(&rt, &mut map, Edit::DropNode(node(1)));
+    match map.apply(new_line(&rt, alloc, FIRST)) {
         Ok(undo) => {
             map.keep(undo);
             panic!(rt; "node 1 is not there");
@@ -377,13 +271,9 @@ fn edits_come_and_go(rt: HostRuntime) -> Result<(), Fail> {
     take(
         &rt,
         &mut map,
-        Edit::AddNode(node(&rt, 1), place(&rt, 612_683, 4_960_852)),
+        Edit::AddNode(node(1), place(612_683, 4_960_852)),
     );
-    take(
-        &rt,
-        &mut map,
-        new_line(&rt, alloc, 10, 1, 2, 5610, &[200, 5410]),
-    );
+    take(&rt, &mut map, new_line(&rt, alloc, FIRST));
     assert_alike(&rt, &map, &base(&rt, alloc));
     Ok(())
 }
@@ -393,14 +283,24 @@ fn undo_takes_each_edit_back(rt: HostRuntime) -> Result<(), Fail> {
     let alloc = rt.alloc();
     let mut map = base(&rt, alloc);
     let edits = vec![in alloc;
-        Edit::AddNode(node(&rt, 5), place(&rt, 0, 0)),
-        Edit::MoveNode(node(&rt, 2), place(&rt, 0, 0)),
-        new_line(&rt, alloc, 50, 3, 2, 700, &[]),
-        new_line(&rt, alloc, 50, 2, 2, 700, &[1]),
-        new_line(&rt, alloc, 50, 2, 3, 700, &[]),
-        other_line(&rt, alloc, 20, 900, &[100, 200]),
-        Edit::DropLine(line(&rt, 20)),
-        Edit::DropLine(line(&rt, 99)),
+        Edit::AddNode(node(5), place(0, 0)),
+        Edit::MoveNode(node(2), place(0, 0)),
+        new_line(&rt, alloc, (50, 3, 2, 3, 2, 700, STRAIGHT)),
+        new_line(
+            &rt,
+            alloc,
+            (50, 2, 2, 3, 2, 700, &[(1, 612_000, 4_960_000)])
+        ),
+        new_line(&rt, alloc, (50, 2, 3, 3, 2, 700, STRAIGHT)),
+        other_line(
+            &rt,
+            alloc,
+            20,
+            900,
+            &[(100, 612_000, 4_960_000), (200, 612_000, 4_960_000)]
+        ),
+        Edit::DropLine(line(20)),
+        Edit::DropLine(line(99)),
     ]?;
     for edit in edits {
         match map.apply(edit) {
@@ -412,82 +312,107 @@ fn undo_takes_each_edit_back(rt: HostRuntime) -> Result<(), Fail> {
     Ok(())
 }
 
-#[test]
-fn a_log_takes_all_back(rt: HostRuntime) -> Result<(), Fail> {
-    let alloc = rt.alloc();
-    let mut map = base(&rt, alloc);
-    let mut log = UndoLog::new(alloc);
-    let edits = vec![in alloc;
-        Edit::DropLine(line(&rt, 10)),
-        Edit::DropNode(node(&rt, 1)),
-        Edit::DropNode(node(&rt, 1)),
-        Edit::AddNode(node(&rt, 1), place(&rt, 7, 7)),
-        new_line(&rt, alloc, 11, 1, 1, 700, &[]),
-        new_line(&rt, alloc, 10, 2, 1, 700, &[600]),
-        other_line(&rt, alloc, 10, 5, &[]),
-        Edit::MoveNode(node(&rt, 2), place(&rt, 8, 8)),
-        Edit::DropLine(line(&rt, 99)),
-        Edit::DropLine(line(&rt, 20)),
-    ]?;
-    let mut faults = 0;
+/// Ten edits of the worked map, the third of which has a fault.
+fn ten_edits(rt: &impl Abort, alloc: Global) -> Result<Vec<Edit>, AllocError> {
+    let made = Vec::from_array(
+        alloc,
+        [
+            Edit::DropLine(line(10)),
+            Edit::DropNode(node(1)),
+            Edit::DropNode(node(1)),
+            Edit::AddNode(node(1), place(7, 7)),
+            new_line(rt, alloc, (11, 1, 1, 3, 2, 700, STRAIGHT)),
+            new_line(
+                rt,
+                alloc,
+                (10, 2, 1, 3, 2, 700, &[(600, 612_000, 4_960_000)]),
+            ),
+            other_line(rt, alloc, 10, 5, STRAIGHT),
+            Edit::MoveNode(node(2), place(8, 8)),
+            Edit::DropLine(line(99)),
+            Edit::DropLine(line(20)),
+        ],
+    )?;
+    Ok(made)
+}
+
+/// Makes the ten edits, and has them all taken back.
+fn assert_taken_back(rt: &impl Abort, map: &mut RoadMap, edits: Vec<Edit>, mut log: UndoLog)
+    requires { CanUndoAll map.old log }
+{
+    let mut faults = 0u8;
     for edit in edits {
         if map.apply_into(edit, &mut log).is_err() {
-            faults = 1;
+            faults = faults.saturating_add(1);
         }
     }
-    same(&rt, faults, 1, "node 1 goes once");
-    same!(&rt; map.node(node(&rt, 1)), Some(place(&rt, 7, 7)));
-    same!(&rt; map.out_lines(node(&rt, 1)), [line(&rt, 11)].as_slice());
-    same!(&rt; map.in_lines(node(&rt, 1)), [line(&rt, 10), line(&rt, 11)].as_slice());
+    same(rt, faults, 1, "node 1 goes once");
+    same!(rt; map.node(node(1)), Some(place(7, 7)));
+    assert_lines(rt, map, 1, &[11], &[10, 11]);
     map.undo_all(log);
-    assert_alike(&rt, &map, &base(&rt, alloc));
-    Ok(())
 }
 
 #[test]
-fn far_ends_stand_beside_lines(rt: HostRuntime) -> Result<(), Fail> {
-    let alloc = rt.alloc();
-    let mut map = base(&rt, alloc);
-    let (second, third) = (node(&rt, 2), node(&rt, 3));
-    take(&rt, &mut map, new_line(&rt, alloc, 7, 3, 2, 700, &[]));
-    let ends = map.in_ends(second);
-    same!(&rt; map.in_lines(second).first(), Some(&line(&rt, 7)));
-    match ends.first() {
-        Some(end) => {
-            same!(&rt; end.node, third);
-            same!(&rt; end.len, 700);
-            same!(&rt; map.place_of(third), Some(end.place));
-            holds!(&rt; (end.place as usize) < map.place_count());
-        }
-        None => panic!(rt; "line 7 enters node 2"),
-    }
-    if let Some(place) = map.place_of(second) {
-        same!(&rt; map.in_lines_at(place), map.in_lines(second));
-        same!(&rt; map.in_ends_at(place), ends);
-        same!(&rt; map.out_ends_at(place), map.out_ends(second));
-    }
-    same!(&rt; map.place_of(node(&rt, 77)), None);
-    holds!(&rt; map.out_ends(node(&rt, 77)).is_empty());
+fn a_log_takes_all_back(rt: HostRuntime) -> Result<(), Fail> {
+    let edits = ten_edits(&rt, rt.alloc())?;
+    let mut map = base(&rt, rt.alloc());
+    assert_taken_back(&rt, &mut map, edits, UndoLog::new(rt.alloc()));
+    assert_alike(&rt, &map, &base(&rt, rt.alloc()));
     Ok(())
+}
+
+/// That a line of 700 dm has its other end at node 3.
+fn assert_at_third(rt: &impl Abort, map: &RoadMap, end: &LineEnd) {
+    same!(rt; end.node, node(3));
+    same!(rt; end.len, 700);
+    same!(rt; map.place_of(node(3)), Some(end.place));
+    holds!(rt; (end.place as usize) < map.place_count());
+}
+
+/// That a node's far ends are told of its place too.
+fn assert_ends_at(rt: &impl Abort, map: &RoadMap, id: NodeId) {
+    if let Some(place) = map.place_of(id) {
+        same!(rt; map.in_ends_at(place), map.in_ends(id));
+        same!(rt; map.out_ends_at(place), map.out_ends(id));
+    }
+}
+
+#[test]
+fn far_ends_stand_beside_lines(rt: HostRuntime) {
+    let mut map = base(&rt, rt.alloc());
+    let back = new_line(&rt, rt.alloc(), (7, 3, 2, 3, 2, 700, STRAIGHT));
+    take(&rt, &mut map, back);
+    assert_lines(&rt, &map, 2, &[20, 99], &[7, 10]);
+    match map.in_ends(node(2)).first() {
+        Some(end) => assert_at_third(&rt, &map, end),
+        None => panic!(&rt; "line 7 enters node 2"),
+    }
+    assert_ends_at(&rt, &map, node(2));
+    same!(&rt; map.place_of(node(77)), None);
+    holds!(&rt; map.out_ends(node(77)).is_empty());
 }
 
 #[test]
 fn a_log_lets_all_stand(rt: HostRuntime) -> Result<(), Fail> {
-    let alloc = rt.alloc();
-    let mut map = PlainMap::new(alloc);
-    let mut log = UndoLog::new(alloc);
-    map.apply_into(Edit::AddNode(node(&rt, 1), place(&rt, 7, 7)), &mut log)?;
+    let mut map = PlainMap::new(rt.alloc());
+    let mut log = UndoLog::new(rt.alloc());
+    map.apply_into(new_node((1, 7, 7)), &mut log)?;
     map.keep_all(log);
-    let mut log = UndoLog::new(alloc);
-    map.apply_into(Edit::AddNode(node(&rt, 2), place(&rt, 7, 7)), &mut log)?;
+    let mut log = UndoLog::new(rt.alloc());
+    map.apply_into(new_node((2, 7, 7)), &mut log)?;
     map.undo_all(log);
-    holds!(&rt; map.node(node(&rt, 1)).is_some());
-    holds!(&rt; map.node(node(&rt, 2)).is_none());
-    let mut other = base(&rt, alloc);
-    let mut log = UndoLog::new(alloc);
-    other.apply_into(Edit::DropLine(line(&rt, 99)), &mut log)?;
-    other.keep_all(log);
-    holds!(&rt; other.line(line(&rt, 99)).is_none());
+    holds!(&rt; map.node(node(1)).is_some());
+    holds!(&rt; map.node(node(2)).is_none());
+    Ok(())
+}
+
+#[test]
+fn a_log_of_the_road_map_lets_all_stand(rt: HostRuntime) -> Result<(), Fail> {
+    let mut map = base(&rt, rt.alloc());
+    let mut log = UndoLog::new(rt.alloc());
+    map.apply_into(Edit::DropLine(line(99)), &mut log)?;
+    map.keep_all(log);
+    holds!(&rt; map.line(line(99)).is_none());
     Ok(())
 }
 
@@ -495,14 +420,14 @@ fn a_log_lets_all_stand(rt: HostRuntime) -> Result<(), Fail> {
 fn tells_what_an_edit_touches(rt: HostRuntime) -> Result<(), Fail> {
     let alloc = rt.alloc();
     let map = base(&rt, alloc);
-    let (second, third) = (node(&rt, 2), node(&rt, 3));
-    let drop = Edit::DropLine(line(&rt, 99));
+    let (second, third) = (node(2), node(3));
+    let drop = Edit::DropLine(line(99));
     same!(&rt; nodes_touched(&map, &drop), Some((second, third)));
-    same!(&rt; line_touched(&drop), Some(line(&rt, 99)));
-    let absent = other_line(&rt, alloc, 98, 5, &[]);
+    same!(&rt; line_touched(&drop), Some(line(99)));
+    let absent = other_line(&rt, alloc, 98, 5, STRAIGHT);
     same!(&rt; nodes_touched(&map, &absent), None);
-    same!(&rt; line_touched(&absent), Some(line(&rt, 98)));
-    let new = new_line(&rt, alloc, 98, 3, 2, 5, &[]);
+    same!(&rt; line_touched(&absent), Some(line(98)));
+    let new = new_line(&rt, alloc, (98, 3, 2, 3, 2, 5, STRAIGHT));
     same!(&rt; nodes_touched(&map, &new), Some((third, second)));
     let drop = Edit::DropNode(second);
     same!(&rt; nodes_touched(&map, &drop), Some((second, second)));
@@ -510,44 +435,49 @@ fn tells_what_an_edit_touches(rt: HostRuntime) -> Result<(), Fail> {
     Ok(())
 }
 
+/// That an edit of line 20 was judged as it should be.
+fn assert_judged(rt: &impl Abort, map: &RoadMap, judged: &Judged, len: u32) {
+    same!(rt; judged.nodes, (node(2), node(3)));
+    same!(rt; Some(judged.places.0), map.place_of(node(2)));
+    same!(rt; Some(judged.places.1), map.place_of(node(3)));
+    same!(rt; judged.line, Some(line(20)));
+    same!(rt; judged.len, len);
+}
+
 #[test]
 fn judges_before_it_makes(rt: HostRuntime) -> Result<(), Fail> {
     let alloc = rt.alloc();
+    let shorter = other_line(&rt, alloc, 20, 900, &[(100, 612_000, 4_960_000)]);
+    let longer = other_line(&rt, alloc, 20, 5000, STRAIGHT);
     let mut map = base(&rt, alloc);
-    let (second, third) = (node(&rt, 2), node(&rt, 3));
-    let shorter = other_line(&rt, alloc, 20, 900, &[100]);
     let mut log = UndoLog::new(alloc);
-    match judge(&map, &shorter) {
-        Ok(judged) => {
-            same!(&rt; judged.nodes, (second, third));
-            same!(&rt; Some(judged.places.0), map.place_of(second));
-            same!(&rt; Some(judged.places.1), map.place_of(third));
-            same!(&rt; judged.line, Some(line(&rt, 20)));
-            same!(&rt; judged.len, 900);
-            map.make_into(shorter, &judged, &mut log)?;
-        }
-        Err(_) => panic!(rt; "a refused edit"),
-    }
-    match judge(&map, &other_line(&rt, alloc, 20, 5000, &[])) {
-        Ok(judged) => same(&rt, judged.len, 900, "the length before"),
-        Err(_) => panic!(rt; "a refused edit"),
-    }
+    let judged = judge(&map, &shorter)?;
+    assert_judged(&rt, &map, &judged, 900);
+    map.make_into(shorter, &judged, &mut log)?;
+    // The length before counts, which is the lesser one.
+    let again = judge(&map, &longer)?;
+    assert_judged(&rt, &map, &again, 900);
     map.undo_all(log);
     assert_alike(&rt, &map, &base(&rt, alloc));
-    let drop = Edit::DropNode(second);
-    same!(&rt; judge(&map, &drop).err(), Some(EditFault::NodeInUse));
     Ok(())
+}
+
+#[test]
+fn judges_a_node_in_use(rt: HostRuntime) {
+    let map = base(&rt, rt.alloc());
+    let fault = judge(&map, &Edit::DropNode(node(2))).err();
+    same!(&rt; fault, Some(EditFault::NodeInUse));
 }
 
 #[test]
 fn a_footprint_is_a_set(rt: HostRuntime) -> Result<(), Fail> {
     let mut set = Footprint::new(rt.alloc());
     for number in [5, 2, 9, 2] {
-        set.note(node(&rt, number))?;
+        set.note(node(number))?;
     }
     let mut other = Footprint::new(rt.alloc());
     for number in [12, 7, 1, 5] {
-        other.note(node(&rt, number))?;
+        other.note(node(number))?;
     }
     set.note_all(other.as_slice())?;
     let mut numbers = Vec::new(rt.alloc());
@@ -555,8 +485,8 @@ fn a_footprint_is_a_set(rt: HostRuntime) -> Result<(), Fail> {
         numbers.push(id.number())?;
     }
     same!(&rt; numbers.as_slice(), [1, 2, 5, 7, 9, 12].as_slice());
-    holds!(&rt; set.has(node(&rt, 7)));
-    holds!(&rt; !set.has(node(&rt, 8)));
+    holds!(&rt; set.has(node(7)));
+    holds!(&rt; !set.has(node(8)));
     Ok(())
 }
 
@@ -567,12 +497,22 @@ fn edit_by(rt: &impl Abort, alloc: Global, seed: u64) -> Edit {
     let id = ((seed >> 50) % 30 + 1) as u32;
     let len = ((seed >> 10) % 1000) as u32;
     match (seed >> 40) % 8 {
-        0 | 1 => Edit::AddNode(node(rt, from), place(rt, 0, 7)),
-        2 => Edit::MoveNode(node(rt, from), place(rt, 7, 0)),
-        3 => Edit::DropNode(node(rt, from)),
-        4 | 5 => new_line(rt, alloc, id, from, to, len, &[300]),
-        6 => other_line(rt, alloc, id, len, &[100, 200]),
-        _ => Edit::DropLine(line(rt, id)),
+        0 | 1 => Edit::AddNode(node(from), place(0, 7)),
+        2 => Edit::MoveNode(node(from), place(7, 0)),
+        3 => Edit::DropNode(node(from)),
+        4 | 5 => new_line(
+            rt,
+            alloc,
+            (id, from, to, 3, 2, len, &[(300, 612_000, 4_960_000)]),
+        ),
+        6 => other_line(
+            rt,
+            alloc,
+            id,
+            len,
+            &[(100, 612_000, 4_960_000), (200, 612_000, 4_960_000)],
+        ),
+        _ => Edit::DropLine(line(id)),
     }
 }
 

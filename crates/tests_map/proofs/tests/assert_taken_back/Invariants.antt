@@ -1,5 +1,5 @@
 use Rattle.olr_map.specs.RoadMaps.{CanUndoAll}
-use Rattle.tests_map.proofs.tests.a_log_takes_all_back.Given as goal
+use Rattle.tests_map.proofs.tests.assert_taken_back.Given as goal
 
 -- what the log knows can be taken back
 abbrev pub invariant-loop-edit : goal.invariant-loop-edit
