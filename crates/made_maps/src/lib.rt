@@ -11,7 +11,7 @@ use std::alloc::{AllocError, Global};
 /// A node: its number, and its longitude and latitude in 1/100,000 degree.
 pub type Place = (u32, i32, i32);
 
-/// A place on the way of a line: how far it is from where the line begins, in decimetres, and its longitude and latitude.
+/// A place on the way of a line: its distance from where the line begins, in decimetres, its longitude and latitude.
 pub type Bend = (u32, i32, i32);
 
 /// A line: its number, the nodes where it begins and ends, class, form of way, length in decimetres, and its bends.

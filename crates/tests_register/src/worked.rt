@@ -120,8 +120,7 @@ pub(crate) fn expect_counts(rt: &impl Abort, register: &Register, encodings: u64
     assert_eq!(rt; register.kept(), kept);
 }
 
-/// The same at the end of a test. The register goes here and not in each test, where each part of it that goes is proved
-/// anew.
+/// The same at the end of a test. The register goes here, and not in each test, where that would be proved anew.
 pub(crate) fn ends(rt: &impl Abort, register: Register, encodings: u64, kept: u64) {
     expect_counts(rt, &register, encodings, kept);
 }
