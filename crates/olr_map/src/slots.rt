@@ -10,13 +10,13 @@ use olr_coords::Coord;
 use std::alloc::AllocError;
 use std::mem;
 
-/// A node, with the lines that leave it and those that enter it.
+/// A node, with the lines that leave it and those that enter it. These stand first, side by side, for the searches.
 #[derive(Drop, Debug)]
 pub struct NodeEntry {
-    pub id: NodeId,
-    pub place: Coord,
     pub outs: Links,
     pub ins: Links,
+    pub id: NodeId,
+    pub place: Coord,
 }
 
 /// Which of a node's lines: those that leave it, or those that enter it.

@@ -372,6 +372,7 @@ fn assert_at_third(rt: &impl Abort, map: &RoadMap, end: &LineEnd) {
 /// That a node's far ends are told of its place too.
 fn assert_ends_at(rt: &impl Abort, map: &RoadMap, id: NodeId) {
     if let Some(place) = map.place_of(id) {
+        same!(rt; map.in_lines_at(place), map.in_lines(id));
         same!(rt; map.in_ends_at(place), map.in_ends(id));
         same!(rt; map.out_ends_at(place), map.out_ends(id));
     }

@@ -1,5 +1,5 @@
 use Rattle.std.proofs.Common.{is_some, ap, ◌∙◌}
-use Rattle.olr_map.specs.NodeSlots.{slots_of}
+use Rattle.olr_map.specs.Slabs.{slots_of}
 use Rattle.olr_map.specs.declared.slots.Side.TheVariants.{In}
 use Rattle.olr_map.proofs.Indexing.{entry_of}
 use Rattle.olr_map.proofs.Reading.{listed_at, slot_is}
