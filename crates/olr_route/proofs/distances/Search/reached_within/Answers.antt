@@ -1,4 +1,4 @@
-use Rattle.std.proofs.Common.{◌≡◌, ◌<◌, ◌≤◌, ℕ, List, Contains, length, get_or, sym, subst, eqb, arith, rules}
+use Rattle.std.proofs.Common.{◌≡◌, List, length, get_or, subst, eqb, arith, rules}
 use Rattle.std.specs.Cmp.{nat_eq_equiv}
 use Rattle.std.specs.List.Sorted.{IsPermutation, IsNonDecreasing, IsNonDecreasingBy}
 use Rattle.std.specs.Prelude.{nat_le}
