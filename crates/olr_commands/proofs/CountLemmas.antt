@@ -5,7 +5,7 @@ use Rattle.std.specs.List.{list_any}
 use Rattle.std.proofs.lemmas.Bool.{cases_Bool, both_ways, not-false}
 use lib.Pointwise.{bytes_decides}
 use Rattle.olr_spec.specs.Extension.{Path, has, is_path}
-use Rattle.olr_commands.specs.State.{Named, Content, same_name, path_named, has_path, with_path, NamesDiffer, Fault, Path_exists, No_path, Bad_path, when, Change, Add_path, Set_path, changed, at_once, State, Command, Make, step, brought, IsState}
+use Rattle.olr_commands.specs.State.{Named, Content, same_name, path_named, has_path, with_path, NamesDiffer, Fault, Path_exists, No_path, Bad_path, when, Change, Add_path, Set_path, with_change, at_once, State, Command, Make, step, changes_made, IsState}
 use Rattle.olr_commands.specs.Counts.{Concerns, By_name, By_node, By_line, CountIs, Raises, all_nodes, all_lines, all_names}
 use Rattle.olr_commands.proofs.NameLemmas.{same_is, not_named, set_name}
 use Rattle.olr_commands.proofs.StateLemmas.{when_ok, steps_keep}
@@ -35,12 +35,12 @@ unconcerned c p (By_name h) = absurd cc
 unconcerned c p (By_node v h f) = absurd cc
 unconcerned c p (By_line x h f) = absurd cc
 
-pub no_rise : (s t : State) (c : Command) (n : ℕ) → brought s c ≡ [] → Raises s c t n → n ≡ 0
+pub no_rise : (s t : State) (c : Command) (n : ℕ) → changes_made s c ≡ [] → Raises s c t n → n ≡ 0
 no_rise s t c n none h =
     no_count (Concerns s.content []) (unconcerned s.content) t.content.paths n (subst (λ (xs : List Change). CountIs (Concerns s.content xs) t.content.paths n) none h)
 
 pub one_rise : (s t : State) (c : Command) (n m : ℕ) → Raises s c t n → Raises s c t m → n ≡ m
-one_rise s t c n m = one_count (Concerns s.content (brought s c)) t.content.paths n m
+one_rise s t c n m = one_count (Concerns s.content (changes_made s c)) t.content.paths n m
 
 -- ---- one path
 
@@ -98,11 +98,11 @@ by_name c x name d p h = By_name (subst (λ (ns : List (List ℕ)). list_any (sa
 one_path : (s t : State) (x : Change) (name : List ℕ) → s.batch ≡ None → NamesDiffer t.content.paths
     → all_nodes s.content (x ∷ []) ≡ [] → all_lines (x ∷ []) ≡ [] → all_names (x ∷ []) ≡ name ∷ [] → is_some (path_named t.content.paths name) ≡ true → Raises s (Make x) t 1
 one_path s t x name b d e f g h =
-    let brings : brought s (Make x) ≡ x ∷ [] = ap (λ (o : Option (List Change)). brought (record { content = s.content; batch = o }) (Make x)) b in
+    let brings : changes_made s (Make x) ≡ x ∷ [] = ap (λ (o : Option (List Change)). changes_made (record { content = s.content; batch = o }) (Make x)) b in
     subst (λ (xs : List Change). CountIs (Concerns s.content xs) t.content.paths 1) (sym brings)
     (one_named (Concerns s.content (x ∷ [])) name (only_name s.content x name e f g) (by_name s.content x name g) t.content.paths d h)
 
-paths_after : (s t : State) (x : Change) → s.batch ≡ None → step s (Make x) ≡ Ok t → at_once (changed s.content x) ≡ Ok t
+paths_after : (s t : State) (x : Change) → s.batch ≡ None → step s (Make x) ≡ Ok t → at_once (with_change s.content x) ≡ Ok t
 paths_after s t x b is = ap (λ (o : Option (List Change)). step (record { content = s.content; batch = o }) (Make x)) (sym b) ∙ is
 
 pub paths_raise : (s t : State) (name : List ℕ) (path : Path) → IsState s → s.batch ≡ None
@@ -123,18 +123,18 @@ paths_raise s t name path i b = (
         ap (λ (u : State). Ok u.content) same
     ok_made (Err f) e = absurd cc
 
-    added : at_once (changed s.content (Add_path name path)) ≡ Ok t → is_some (path_named t.content.paths name) ≡ true
+    added : at_once (with_change s.content (Add_path name path)) ≡ Ok t → is_some (path_named t.content.paths name) ≡ true
     added e =
         let to = record s.content { paths = s.content.paths ++ record { name = name; path = path } ∷ [] } in
-        let p = when_ok (has_path s.content name) Path_exists (when (not (is_path path.lines)) Bad_path (Ok to)) t.content (ok_made (changed s.content (Add_path name path)) e) in
+        let p = when_ok (has_path s.content name) Path_exists (when (not (is_path path.lines)) Bad_path (Ok to)) t.content (ok_made (with_change s.content (Add_path name path)) e) in
         let q = when_ok (not (is_path path.lines)) Bad_path (Ok to) t.content p.1 in
         let same : to ≡ t.content = cc in
         subst (λ (d : Content). is_some (path_named d.paths name) ≡ true) same (named_at_end s.content.paths (record { name = name; path = path }))
 
-    replaced : at_once (changed s.content (Set_path name path)) ≡ Ok t → is_some (path_named t.content.paths name) ≡ true
+    replaced : at_once (with_change s.content (Set_path name path)) ≡ Ok t → is_some (path_named t.content.paths name) ≡ true
     replaced e =
         let to = record s.content { paths = map (with_path name path) s.content.paths } in
-        let p = when_ok (not (has_path s.content name)) No_path (when (not (is_path path.lines)) Bad_path (Ok to)) t.content (ok_made (changed s.content (Set_path name path)) e) in
+        let p = when_ok (not (has_path s.content name)) No_path (when (not (is_path path.lines)) Bad_path (Ok to)) t.content (ok_made (with_change s.content (Set_path name path)) e) in
         let q = when_ok (not (is_path path.lines)) Bad_path (Ok to) t.content p.1 in
         let same : to ≡ t.content = cc in
         subst (λ (d : Content). is_some (path_named d.paths name) ≡ true) same (named_still name path s.content.paths name (not-false (has_path s.content name) p.0))

@@ -14,9 +14,9 @@ use Rattle.olr_spec.proofs.AnswerLemmas.{one_answer}
 use Rattle.olr_spec.proofs.DecideLemmas.{some_answer}
 use Rattle.olr_spec.proofs.JoinLemmas.{routes_join}
 use Rattle.olr_spec.proofs.UndoLemmas.{empty_sound}
-use Rattle.olr_commands.specs.State.{Named, Content, path_named, same_name, ArePaths, NamesDiffer, IsContent, has_path, TextFault, Fault, No_path, Batch_full, Count_differs, Change, changed, next, after, Command, Make, Show, Report, Explain, Begin, Commit, Abort, State, start_state, full, at_once, held, text_fault, unless_fault, step, brought, HasPlaces, IsState}
+use Rattle.olr_commands.specs.State.{Named, Content, path_named, same_name, ArePaths, NamesDiffer, IsContent, has_path, TextFault, Fault, No_path, Batch_full, Count_differs, Change, with_change, next, after, Command, Make, Show, Report, Explain, Begin, Commit, Abort, State, start_state, full, at_once, into_batch, text_fault, unless_fault, step, changes_made, HasPlaces, IsState}
 use Rattle.olr_commands.specs.Reply.{Entry, entry, Paths, HasAnswer, Published, ChangedOf, Differences, IsReply, Outcome, IsOutcome}
-use Rattle.olr_commands.specs.History.{Run, History, AllHavePlaces, next_state, brought_by, all_brought, OneOf, IsPublished, Joined, names, NamesChanged, tells, IsNamed, IsRefused, Headline}
+use Rattle.olr_commands.specs.History.{Run, History, AllHavePlaces, next_state, brought_by, all_changes_made, OneOf, IsPublished, Joined, names, NamesChanged, tells, IsNamed, IsRefused, Headline}
 use Rattle.olr_commands.proofs.NameLemmas.{same_is}
 use Rattle.olr_commands.proofs.StateLemmas.{when_ok, next_ok, after_append, steps_keep}
 use Rattle.olr_commands.proofs.ReplyLemmas.{named_path}
@@ -24,15 +24,15 @@ use Rattle.olr_commands.proofs.ReplyLemmas.{named_path}
 -- ---- the content
 
 -- what an accepted command brings is what it changes
-brings : (s t : State) (c : Command) → step s c ≡ Ok t → t.content ≡ after s.content (brought s c)
+brings : (s t : State) (c : Command) → step s c ≡ Ok t → t.content ≡ after s.content (changes_made s c)
 brings s t c is = by_batch s.content s.batch t c is where
-  made_is : (c : Content) (x : Change) (r : Result Content Fault) (t : State) → changed c x ≡ r → at_once r ≡ Ok t → t.content ≡ next c x
+  made_is : (c : Content) (x : Change) (r : Result Content Fault) (t : State) → with_change c x ≡ r → at_once r ≡ Ok t → t.content ≡ next c x
   made_is c x (Ok d) t e is =
       let same : record { content = d; batch = None } ≡ t = cc in
       ap (λ (s : State). s.content) (sym same) ∙ sym (next_ok c d x e)
   made_is c x (Err f) t e is = absurd cc
 
-  held_is : (c : Content) (xs : List Change) (r : Result Content Fault) (t : State) → held c xs r ≡ Ok t → t.content ≡ c
+  held_is : (c : Content) (xs : List Change) (r : Result Content Fault) (t : State) → into_batch c xs r ≡ Ok t → t.content ≡ c
   held_is c xs (Ok d) t is =
       let same : record { content = c; batch = Some xs } ≡ t = cc in
       ap (λ (s : State). s.content) (sym same)
@@ -45,9 +45,9 @@ brings s t c is = by_batch s.content s.batch t c is where
   ok_is : (s t : State) → ◌≡◌ {A = Result State Fault} (Ok s) (Ok t) → t.content ≡ s.content
   ok_is s t is = let same : s ≡ t = cc in ap (λ (s : State). s.content) (sym same)
 
-  by_batch : (c : Content) (b : Option (List Change)) (t : State) (x : Command) → step (record { content = c; batch = b }) x ≡ Ok t → t.content ≡ after c (brought (record { content = c; batch = b }) x)
-  by_batch c None t (Make x) is = made_is c x (changed c x) t refl is
-  by_batch c (Some xs) t (Make x) is = held_is c (xs ++ x ∷ []) (changed (after c xs) x) t (when_ok (nat_le full (length xs)) Batch_full (held c (xs ++ x ∷ []) (changed (after c xs) x)) t is).1
+  by_batch : (c : Content) (b : Option (List Change)) (t : State) (x : Command) → step (record { content = c; batch = b }) x ≡ Ok t → t.content ≡ after c (changes_made (record { content = c; batch = b }) x)
+  by_batch c None t (Make x) is = made_is c x (with_change c x) t refl is
+  by_batch c (Some xs) t (Make x) is = held_is c (xs ++ x ∷ []) (with_change (after c xs) x) t (when_ok (nat_le full (length xs)) Batch_full (into_batch c (xs ++ x ∷ []) (with_change (after c xs) x)) t is).1
   by_batch c None t (Show name) is = ok_is _ t (when_ok (not (has_path c name)) No_path (Ok (record { content = c; batch = None })) t is).1
   by_batch c (Some xs) t (Show name) is = ok_is _ t (when_ok (not (has_path c name)) No_path (Ok (record { content = c; batch = Some xs })) t is).1
   by_batch c None t Report is = ok_is _ t is
@@ -106,17 +106,17 @@ outcome_leads s c (Ok reply) t h = h.0
 outcome_leads s c (Err fault) t h = h.1
 
 pub content_after : {A : Type 0} (asked : A → Option Command) (s t : State) (xs : List A) (os : List Outcome) → Run (λ a x o b. Leads a (asked x) o b) s xs os t
-    → t.content ≡ after s.content (all_brought asked s xs os)
+    → t.content ≡ after s.content (all_changes_made asked s xs os)
 content_after asked s t [] [] h = ap (λ (u : State). u.content) (sym h)
 content_after asked s t [] (o ∷ os) h = absurd h
 content_after asked s t (x ∷ xs) [] h = ap (λ (u : State). u.content) (sym h)
 content_after asked s t (x ∷ xs) (Ok reply ∷ os) h = accepted (asked x) h.1 (content_after asked h.0 t xs os h.2) where
-  accepted : (m : Option Command) → Leads s m (Ok reply) h.0 → t.content ≡ after h.0.content (all_brought asked h.0 xs os) → t.content ≡ after s.content (brought_by s m ++ all_brought asked (next_state s m) xs os)
+  accepted : (m : Option Command) → Leads s m (Ok reply) h.0 → t.content ≡ after h.0.content (all_changes_made asked h.0 xs os) → t.content ≡ after s.content (brought_by s m ++ all_changes_made asked (next_state s m) xs os)
   accepted None p rest = absurd p
   accepted (Some c) go rest =
-      rest ∙ ap (λ (d : Content). after d (all_brought asked h.0 xs os)) (brings s h.0 c go)
-      ∙ ap (λ (u : State). after (after s.content (brought s c)) (all_brought asked u xs os)) (sym (next_state_ok s h.0 c go))
-      ∙ sym (after_append s.content (brought s c) (all_brought asked (next_state s (Some c)) xs os))
+      rest ∙ ap (λ (d : Content). after d (all_changes_made asked h.0 xs os)) (brings s h.0 c go)
+      ∙ ap (λ (u : State). after (after s.content (changes_made s c)) (all_changes_made asked u xs os)) (sym (next_state_ok s h.0 c go))
+      ∙ sym (after_append s.content (changes_made s c) (all_changes_made asked (next_state s (Some c)) xs os))
 content_after asked s t (x ∷ xs) (Err fault ∷ os) h =
     let back : h.0 ≡ s = h.1 in
     content_after asked s t xs os (subst (λ (u : State). Run (λ a y o b. Leads a (asked y) o b) u xs os t) back h.2)

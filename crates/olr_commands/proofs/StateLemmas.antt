@@ -5,7 +5,7 @@ use Rattle.std.specs.Result.{result_unwrap_or}
 use Rattle.std.proofs.lemmas.Bool.{not-false, leb-false}
 use Rattle.olr_spec.specs.Map.{Map, IsMap, MapFault, edited}
 use Rattle.olr_spec.specs.Extension.{is_path}
-use Rattle.olr_commands.specs.State.{Named, Content, has_path, same_name, with_path, TextFault, Fault, Path_exists, No_path, Bad_path, Batch_full, Count_differs, when, Change, On_map, Add_path, Set_path, Drop_path, with_map, changed, next, after, Command, Make, Show, Report, Explain, Begin, Commit, Abort, State, full, at_once, held, text_fault, unless_fault, step, IsContent, AllAccepted, IsBatch, IsState, HasPlaces}
+use Rattle.olr_commands.specs.State.{Named, Content, has_path, same_name, with_path, TextFault, Fault, Path_exists, No_path, Bad_path, Batch_full, Count_differs, when, Change, On_map, Add_path, Set_path, Drop_path, with_map, with_change, next, after, Command, Make, Show, Report, Explain, Begin, Commit, Abort, State, full, at_once, into_batch, text_fault, unless_fault, step, IsContent, AllAccepted, IsBatch, IsState, HasPlaces}
 use Rattle.olr_spec.proofs.EditLemmas.{edits_keep}
 use Rattle.olr_commands.proofs.NameLemmas.{differ_push, differ_set, differ_filter, paths_push, paths_set, paths_filter}
 
@@ -21,7 +21,7 @@ map_keeps c d (Ok m) sound i e =
     subst IsContent is (record { map = sound m refl; paths = i.paths; names = i.names })
 map_keeps c d (Err f) sound i e = absurd cc
 
-pub changes_keep : (c d : Content) (x : Change) → IsContent c → HasPlaces (Make x) → changed c x ≡ Ok d → IsContent d
+pub changes_keep : (c d : Content) (x : Change) → IsContent c → HasPlaces (Make x) → with_change c x ≡ Ok d → IsContent d
 changes_keep c d (On_map e) i h is = map_keeps c d (edited c.map e) (λ m ok. edits_keep c.map m e i.map h ok) i is
 changes_keep c d (Add_path name path) i h is =
     let to = record c { paths = c.paths ++ record { name = name; path = path } ∷ [] } in
@@ -44,7 +44,7 @@ changes_keep c d (Drop_path name) i h is =
 
 -- ---- batches
 
-pub next_ok : (c d : Content) (x : Change) → changed c x ≡ Ok d → next c x ≡ d
+pub next_ok : (c d : Content) (x : Change) → with_change c x ≡ Ok d → next c x ≡ d
 next_ok c d x e = ap (λ (r : Result Content Fault). result_unwrap_or r c) e
 
 pub after_push : (c : Content) (xs : List Change) (x : Change) → after c (xs ++ x ∷ []) ≡ next (after c xs) x
@@ -55,7 +55,7 @@ pub after_append : (c : Content) (xs ys : List Change) → after c (xs ++ ys) �
 after_append c [] ys = refl
 after_append c (x ∷ xs) ys = after_append (next c x) xs ys
 
-accepted_push : (c : Content) (xs : List Change) (x : Change) → AllAccepted c xs → changed (after c xs) x ≡ Ok (next (after c xs) x) → AllAccepted c (xs ++ x ∷ [])
+accepted_push : (c : Content) (xs : List Change) (x : Change) → AllAccepted c xs → with_change (after c xs) x ≡ Ok (next (after c xs) x) → AllAccepted c (xs ++ x ∷ [])
 accepted_push c [] x a e = (e, tt)
 accepted_push c (y ∷ xs) x a e = (a.0, accepted_push (next c y) xs x a.1 e)
 
@@ -67,8 +67,8 @@ length_push (y ∷ xs) x = let rest = length_push xs x in omega arith
 few_more : (n : ℕ) → nat_le full n ≡ false → n + 1 ≤ full
 few_more n h = let below = leb-false full n h in omega arith
 
-hold : (c : Content) (xs : List Change) (x : Change) (r : Result Content Fault) (t : State) → changed (after c xs) x ≡ r → nat_le full (length xs) ≡ false
-    → IsContent c → HasPlaces (Make x) → IsBatch c xs → held c (xs ++ x ∷ []) r ≡ Ok t → IsState t
+hold : (c : Content) (xs : List Change) (x : Change) (r : Result Content Fault) (t : State) → with_change (after c xs) x ≡ r → nat_le full (length xs) ≡ false
+    → IsContent c → HasPlaces (Make x) → IsBatch c xs → into_batch c (xs ++ x ∷ []) r ≡ Ok t → IsState t
 hold c xs x (Ok d) t is room i h b e =
     let to : State = record { content = c; batch = Some (xs ++ x ∷ []) } in
     let same : to ≡ t = cc in
@@ -86,7 +86,7 @@ hold c xs x (Err f) t is room i h b e = absurd cc
 
 -- ---- commands
 
-make : (c : Content) (x : Change) (r : Result Content Fault) (t : State) → changed c x ≡ r → IsContent c → HasPlaces (Make x) → at_once r ≡ Ok t → IsState t
+make : (c : Content) (x : Change) (r : Result Content Fault) (t : State) → with_change c x ≡ r → IsContent c → HasPlaces (Make x) → at_once r ≡ Ok t → IsState t
 make c x (Ok e) t is i h m =
     let to : State = record { content = e; batch = None } in
     let same : to ≡ t = cc in
@@ -100,10 +100,10 @@ explain s t (Some f) i e = absurd cc
 pub steps_keep : (s t : State) (c : Command) → IsState s → HasPlaces c → step s c ≡ Ok t → IsState t
 steps_keep s t c i h is = steps s.content s.batch t c i.content i.batch h is where
   steps : (c : Content) (b : Option (List Change)) (t : State) (x : Command) → IsContent c → IfSome b (IsBatch c) → HasPlaces x → step (record { content = c; batch = b }) x ≡ Ok t → IsState t
-  steps c None t (Make x) i b h is = make c x (changed c x) t refl i h is
+  steps c None t (Make x) i b h is = make c x (with_change c x) t refl i h is
   steps c (Some xs) t (Make x) i b h is =
-      let p = when_ok (nat_le full (length xs)) Batch_full (held c (xs ++ x ∷ []) (changed (after c xs) x)) t is in
-      hold c xs x (changed (after c xs) x) t refl p.0 i h b p.1
+      let p = when_ok (nat_le full (length xs)) Batch_full (into_batch c (xs ++ x ∷ []) (with_change (after c xs) x)) t is in
+      hold c xs x (with_change (after c xs) x) t refl p.0 i h b p.1
   steps c b t (Show name) i k h is =
       let p = when_ok (not (has_path c name)) No_path (Ok (record { content = c; batch = b })) t is in
       let same : record { content = c; batch = b } ≡ t = cc in

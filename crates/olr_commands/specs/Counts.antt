@@ -7,7 +7,7 @@ use Rattle.std.specs.List.{list_any}
 use Rattle.olr_spec.specs.Map.{Map, touched_nodes, touched_lines}
 use Rattle.olr_spec.specs.Extension.{has}
 use Rattle.olr_spec.specs.Footprint.{Foot}
-use Rattle.olr_commands.specs.State.{Named, Content, same_name, Change, On_map, Add_path, Set_path, next, State, Command, brought}
+use Rattle.olr_commands.specs.State.{Named, Content, same_name, Change, On_map, Add_path, Set_path, next, State, Command, changes_made}
 
 -- the nodes and the lines that a change touches, and the path that it gives
 abbrev pub nodes_of_change : Map → Change → List ℕ
@@ -46,4 +46,4 @@ CountIs P (x ∷ xs) n = (P x × ((m : ℕ) × CountIs P xs m × (n ≡ suc m)))
 
 -- each path of the later list that is concerned, once
 abbrev pub Raises : State → Command → State → ℕ → Type 0
-Raises s c t n = CountIs (Concerns s.content (brought s c)) t.content.paths n
+Raises s c t n = CountIs (Concerns s.content (changes_made s c)) t.content.paths n

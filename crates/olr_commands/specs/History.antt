@@ -1,7 +1,7 @@
 -- Whole runs of commands, and what is claimed of them.
 --     Run Step s xs os t      the first of xs have these outcomes, one after another, and lead from s to t; Step says what that is for one
 --     Whole Step s xs os t      so do all of xs.        History s cs os t      a whole run of commands
---     all_brought asked s xs os      the changes that the accepted commands brought, where each of xs asks for a command or for none
+--     all_changes_made asked s xs os      the changes that the accepted commands bring, where each of xs asks for a command or for none
 --     IsPublished, IsJoined, IsNamed, IsRefused      the four claims.        Headline      all of them, of one run
 use Rattle.std.specs.Prelude.{◌≡◌, ℕ, Bool, true, false, List, [], ◌∷◌, ◌++◌, length, Option, Some, None, IfSome, Ok, Err, IsTrue, ◌↔◌}
 use Rattle.std.specs.Result.{result_unwrap_or}
@@ -12,7 +12,7 @@ use Rattle.olr_spec.specs.Points.{OfPath}
 use Rattle.olr_spec.specs.Reference.{Reference, legs, kept, reference}
 use Rattle.olr_spec.specs.Joins.{Joins}
 use Rattle.olr_spec.specs.Encoding.{Answer, Points, Encodes}
-use Rattle.olr_commands.specs.State.{Content, path_named, same_name, Fault, Change, after, IsContent, State, start_state, Command, Make, Commit, HasPlaces, step, brought, IsState}
+use Rattle.olr_commands.specs.State.{Content, path_named, same_name, Fault, Change, after, IsContent, State, start_state, Command, Make, Commit, HasPlaces, step, changes_made, IsState}
 use Rattle.olr_commands.specs.Reply.{Entry, entry, Paths, HasAnswer, Published, Differences, Outcome, IsOutcome}
 
 -- ---- runs
@@ -39,13 +39,13 @@ next_state s (Some c) = result_unwrap_or (step s c) s
 
 abbrev pub brought_by : State → Option Command → List Change
 brought_by s None = []
-brought_by s (Some c) = brought s c
+brought_by s (Some c) = changes_made s c
 
-abbrev pub all_brought : {A : Type 0} → (A → Option Command) → State → List A → List Outcome → List Change
-all_brought asked s [] os = []
-all_brought asked s (x ∷ xs) [] = []
-all_brought asked s (x ∷ xs) (Ok reply ∷ os) = brought_by s (asked x) ++ all_brought asked (next_state s (asked x)) xs os
-all_brought asked s (x ∷ xs) (Err fault ∷ os) = all_brought asked s xs os
+abbrev pub all_changes_made : {A : Type 0} → (A → Option Command) → State → List A → List Outcome → List Change
+all_changes_made asked s [] os = []
+all_changes_made asked s (x ∷ xs) [] = []
+all_changes_made asked s (x ∷ xs) (Ok reply ∷ os) = brought_by s (asked x) ++ all_changes_made asked (next_state s (asked x)) xs os
+all_changes_made asked s (x ∷ xs) (Err fault ∷ os) = all_changes_made asked s xs os
 
 -- ---- published answers
 
@@ -100,7 +100,7 @@ IsRefused s o t = (fault : Fault) → o ≡ Err fault → t ≡ s
 
 pub record Headline {A : Type 0} (Step : State → A → Outcome → State → Type 0) (asked : A → Option Command) (s : State) (xs : List A) (os : List Outcome) (t : State) : Type 0 where
   pub run : Run Step s xs os t
-  pub published : IsPublished s.content (all_brought asked s xs os) t.content
+  pub published : IsPublished s.content (all_changes_made asked s xs os) t.content
   pub joined : IsJoined t.content
   pub named : Run (λ a x o b. Step a x o b × IfSome (asked x) (λ c. IsNamed a c o b)) s xs os t
   pub refused : Run (λ a x o b. Step a x o b × IsRefused a o b) s xs os t

@@ -1,7 +1,7 @@
 -- The laws of the definitions.
 use Rattle.std.specs.Prelude.{◌≡◌, ◌≢◌, ℕ, List, [], None, Ok, IsFalse}
 use Rattle.olr_spec.specs.Extension.{Path}
-use Rattle.olr_commands.specs.State.{Content, Add_path, Set_path, Make, State, Command, Explain, Begin, Commit, Abort, HasPlaces, IsState, step, brought}
+use Rattle.olr_commands.specs.State.{Content, Add_path, Set_path, Make, State, Command, Explain, Begin, Commit, Abort, HasPlaces, IsState, step, changes_made}
 use Rattle.olr_commands.specs.Reply.{Reply, IsReply, Outcome, IsOutcome, lacks_memory}
 use Rattle.olr_commands.specs.Counts.{Raises}
 
@@ -24,7 +24,7 @@ abbrev pub OneRise : Type 0
 OneRise = (s t : State) (c : Command) (n m : ℕ) → Raises s c t n → Raises s c t m → n ≡ m
 
 abbrev pub NoRise : Type 0
-NoRise = (s t : State) (c : Command) (n : ℕ) → brought s c ≡ [] → Raises s c t n → n ≡ 0
+NoRise = (s t : State) (c : Command) (n : ℕ) → changes_made s c ≡ [] → Raises s c t n → n ≡ 0
 
 -- want of memory aside, a command has one outcome
 abbrev pub OneOutcome : Type 0

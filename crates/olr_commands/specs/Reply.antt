@@ -11,7 +11,7 @@ use Rattle.olr_spec.specs.Map.{Map}
 use Rattle.olr_spec.specs.Extension.{Path}
 use Rattle.olr_spec.specs.Reference.{Reference}
 use Rattle.olr_spec.specs.Encoding.{Answer, Points, Refused, Refusal, Encodes}
-use Rattle.olr_spec.specs.Bytes.{spelling, Spells}
+use Rattle.olr_spec.specs.Bytes.{Spells}
 use Rattle.olr_binary.specs.Text.{text_of}
 use Rattle.olr_commands.specs.State.{Named, Content, path_named, Fault, Syntax, Range, Map_fault, Path_exists, No_path, Bad_path, Not_a_reference, Memory, Batch_open, No_batch, Count_differs, Batch_full, Change, Drop_path, State, Command, Make, Show, Report, Explain, Begin, Commit, Abort, step}
 
@@ -25,12 +25,12 @@ pub data Reply : Type 0 where
   Fields : (reference : Reference) → Reply
   Held : (count : ℕ) → Reply
 
-abbrev pub published : Answer → Result (List ℕ) Refusal
-published (Points r) = Ok (text_of r)
-published (Refused refusal) = Err refusal
+abbrev pub published_text : Answer → Result (List ℕ) Refusal
+published_text (Points r) = Ok (text_of r)
+published_text (Refused refusal) = Err refusal
 
 abbrev pub entry : List ℕ → Answer → Entry
-entry name answer = record { name = name; published = published answer }
+entry name answer = record { name = name; published = published_text answer }
 
 -- ---- what is published
 
@@ -43,7 +43,7 @@ Published c name answer = MatchOption (path_named c.paths name) (answer ≡ None
 
 -- its string, where it has one
 abbrev pub PublishedText : Content → List ℕ → Option (List ℕ) → Type 0
-PublishedText c name text = (answer : Option Answer) × Published c name answer × (text ≡ option_and_then (λ A. result_ok (published A)) answer)
+PublishedText c name text = (answer : Option Answer) × Published c name answer × (text ≡ option_and_then (λ A. result_ok (published_text A)) answer)
 
 -- ---- replies
 

@@ -17,7 +17,7 @@ use Rattle.olr_paths.specs.Items.{Item, all_named}
 use Rattle.olr_paths.specs.Changes.{set_item}
 use Rattle.olr_paths.specs.Renewing.{item_of}
 use Rattle.olr_paths.specs.declared.listing.NamedPath.{NamedPath}
-use Rattle.olr_paths.specs.Laying.{Changes, change_at, drops, one_laid, laid, path_in, changes_in}
+use Rattle.olr_paths.specs.Laying.{Changes, change_at, drops, under_change, under_changes, path_in, changes_in}
 use Rattle.olr_paths.proofs.NamedEntries.{asks, same_flip, absent, not_here, keeps_all, sets_none, take_more_items}
 use lib.Pointwise.{bytes_decides}
 
@@ -105,21 +105,21 @@ front_other i L name h = ap (λ (b : Bool). is_some (cond b (Some i.path) (path_
 front_here : (i : Item) (L : List Item) (name : List ℕ) → same_name i.name name ≡ true → has_name (i ∷ L) name ≡ true
 front_here i L name h = ap (λ (b : Bool). is_some (cond b (Some i.path) (path_named (all_named L) name))) h
 
-one_other : (c : Option (Option Path)) (i : Item) (L : List Item) (name : List ℕ) → same_name i.name name ≡ false → has_name (one_laid c i ++ L) name ≡ has_name L name
+one_other : (c : Option (Option Path)) (i : Item) (L : List Item) (name : List ℕ) → same_name i.name name ≡ false → has_name (under_change c i ++ L) name ≡ has_name L name
 one_other None i L name h = front_other i L name h
 one_other (Some None) i L name h = refl
 one_other (Some (Some p)) i L name h = front_other (record { name = i.name; path = p; made = None }) L name h
 
-one_here : (c : Option (Option Path)) (i : Item) (L : List Item) (name : List ℕ) → same_name i.name name ≡ true → (drops c ≡ true → has_name L name ≡ false) → has_name (one_laid c i ++ L) name ≡ cond (drops c) false true
+one_here : (c : Option (Option Path)) (i : Item) (L : List Item) (name : List ℕ) → same_name i.name name ≡ true → (drops c ≡ true → has_name L name ≡ false) → has_name (under_change c i ++ L) name ≡ cond (drops c) false true
 one_here None i L name h f = front_here i L name h
 one_here (Some None) i L name h f = f refl
 one_here (Some (Some p)) i L name h f = front_here (record { name = i.name; path = p; made = None }) L name h
 
-pub laid_has : (cs : Changes) (is : List Item) (name : List ℕ) → has_name (laid cs is) name ≡ cond (drops (change_at cs name)) false (has_name is name)
+pub laid_has : (cs : Changes) (is : List Item) (name : List ℕ) → has_name (under_changes cs is) name ≡ cond (drops (change_at cs name)) false (has_name is name)
 laid_has cs [] name = elim (drops (change_at cs name)) as (λ b. false ≡ cond b false false) [ true ↦ refl | false ↦ refl ]
 laid_has cs (i ∷ is) name =
     let c = change_at cs i.name in
-    let L = laid cs is in
+    let L = under_changes cs is in
     elim (cases_Bool (same_name i.name name)) [
       | inl h ↦
           let same : c ≡ change_at cs name = ap (change_at cs) (same_is i.name name h) in
@@ -143,9 +143,9 @@ both_have (x ∷ xs) ys name =
           front_other x (xs ++ ys) name h ∙ both_have xs ys name ∙ ap (λ (b : Bool). cond (has_name ys name) true b) (sym (front_other x xs name h))
     ]
 
-pub has_by : (cs : Changes) (is ys : List Item) (name : List ℕ) (a d b : Bool) → a ≡ has_name ys name → d ≡ drops (change_at cs name) → b ≡ has_name is name → cond a true (cond d false b) ≡ has_name (laid cs is ++ ys) name
+pub has_by : (cs : Changes) (is ys : List Item) (name : List ℕ) (a d b : Bool) → a ≡ has_name ys name → d ≡ drops (change_at cs name) → b ≡ has_name is name → cond a true (cond d false b) ≡ has_name (under_changes cs is ++ ys) name
 has_by cs is ys name a d b is_a is_d is_b =
-    (λ i. cond (is_a i) true (cond (is_d i) false (is_b i))) ∙ sym (both_have (laid cs is) ys name ∙ ap (λ (t : Bool). cond (has_name ys name) true t) (laid_has cs is name))
+    (λ i. cond (is_a i) true (cond (is_d i) false (is_b i))) ∙ sym (both_have (under_changes cs is) ys name ∙ ap (λ (t : Bool). cond (has_name ys name) true t) (laid_has cs is name))
 
 pub second_absent : (xs ys : List Item) (name : List ℕ) → absent (xs ++ ys) name → absent ys name
 second_absent [] ys name h = h
@@ -178,12 +178,12 @@ set_other name path i h = ap (λ (b : Bool). if b then record { name = i.name; p
 set_here : (name : List ℕ) (path : Path) (i : Item) → same_name i.name name ≡ true → set_item name path None i ≡ record { name = i.name; path = path; made = None }
 set_here name path i h = ap (λ (b : Bool). if b then record { name = i.name; path = path; made = None } else i) h
 
-one_set_here : (name : List ℕ) (path : Path) (c : Option (Option Path)) (i : Item) → same_name i.name name ≡ true → drops c ≡ false → map (set_item name path None) (one_laid c i) ≡ record { name = i.name; path = path; made = None } ∷ []
+one_set_here : (name : List ℕ) (path : Path) (c : Option (Option Path)) (i : Item) → same_name i.name name ≡ true → drops c ≡ false → map (set_item name path None) (under_change c i) ≡ record { name = i.name; path = path; made = None } ∷ []
 one_set_here name path None i h stays = ap (λ (j : Item). j ∷ []) (set_here name path i h)
 one_set_here name path (Some None) i h stays = let never : true ≡ false = stays in absurd cc
 one_set_here name path (Some (Some p)) i h stays = ap (λ (j : Item). j ∷ []) (set_here name path (record { name = i.name; path = p; made = None }) h)
 
-one_set_other : (name : List ℕ) (path : Path) (c : Option (Option Path)) (i : Item) → same_name i.name name ≡ false → map (set_item name path None) (one_laid c i) ≡ one_laid c i
+one_set_other : (name : List ℕ) (path : Path) (c : Option (Option Path)) (i : Item) → same_name i.name name ≡ false → map (set_item name path None) (under_change c i) ≡ under_change c i
 one_set_other name path None i h = ap (λ (j : Item). j ∷ []) (set_other name path i h)
 one_set_other name path (Some None) i h = refl
 one_set_other name path (Some (Some p)) i h = ap (λ (j : Item). j ∷ []) (set_other name path (record { name = i.name; path = p; made = None }) h)
@@ -201,21 +201,21 @@ put_one_here cs ds name q o puts h = puts q ∙ ap (λ (b : Bool). cond b (Some 
 put_one_other : (cs ds : Changes) (name q : List ℕ) (o : Option Path) → Puts cs name o ds → same_name q name ≡ false → change_at ds q ≡ change_at cs q
 put_one_other cs ds name q o puts h = puts q ∙ ap (λ (b : Bool). cond b (Some o) (change_at cs q)) (same_flip name q ∙ h)
 
-pub laid_set : (cs ds : Changes) (name : List ℕ) (path : Path) (is : List Item) → Puts cs name (Some path) ds → drops (change_at cs name) ≡ false → laid ds is ≡ map (set_item name path None) (laid cs is)
+pub laid_set : (cs ds : Changes) (name : List ℕ) (path : Path) (is : List Item) → Puts cs name (Some path) ds → drops (change_at cs name) ≡ false → under_changes ds is ≡ map (set_item name path None) (under_changes cs is)
 laid_set cs ds name path [] puts stays = refl
 laid_set cs ds name path (i ∷ is) puts stays =
-    let one : one_laid (change_at ds i.name) i ≡ map (set_item name path None) (one_laid (change_at cs i.name) i) =
+    let one : under_change (change_at ds i.name) i ≡ map (set_item name path None) (under_change (change_at cs i.name) i) =
     elim (cases_Bool (same_name i.name name)) [
       | inl h ↦
-          ap (λ (d : Option (Option Path)). one_laid d i) (put_one_here cs ds name i.name (Some path) puts h)
+          ap (λ (d : Option (Option Path)). under_change d i) (put_one_here cs ds name i.name (Some path) puts h)
           ∙ sym (one_set_here name path (change_at cs i.name) i h (ap (λ (q : List ℕ). drops (change_at cs q)) (same_is i.name name h) ∙ stays))
       | inr h ↦
-          ap (λ (d : Option (Option Path)). one_laid d i) (put_one_other cs ds name i.name (Some path) puts h)
+          ap (λ (d : Option (Option Path)). under_change d i) (put_one_other cs ds name i.name (Some path) puts h)
           ∙ sym (one_set_other name path (change_at cs i.name) i h)
     ] in
-    ap (λ (js : List Item). js ++ laid ds is) one
-    ∙ ap (λ (js : List Item). map (set_item name path None) (one_laid (change_at cs i.name) i) ++ js) (laid_set cs ds name path is puts stays)
-    ∙ sym (map-append (set_item name path None) (one_laid (change_at cs i.name) i) (laid cs is))
+    ap (λ (js : List Item). js ++ under_changes ds is) one
+    ∙ ap (λ (js : List Item). map (set_item name path None) (under_change (change_at cs i.name) i) ++ js) (laid_set cs ds name path is puts stays)
+    ∙ sym (map-append (set_item name path None) (under_change (change_at cs i.name) i) (under_changes cs is))
 
 -- the items of other names
 abbrev pub others : List ℕ → List Item → List Item
@@ -227,31 +227,31 @@ drop_front_here name i h = ap (λ (b : Bool). cond (not b) (i ∷ []) []) h
 drop_front_other : (name : List ℕ) (i : Item) → same_name i.name name ≡ false → others name (i ∷ []) ≡ i ∷ []
 drop_front_other name i h = ap (λ (b : Bool). cond (not b) (i ∷ []) []) h
 
-one_dropped_here : (name : List ℕ) (c : Option (Option Path)) (i : Item) → same_name i.name name ≡ true → others name (one_laid c i) ≡ []
+one_dropped_here : (name : List ℕ) (c : Option (Option Path)) (i : Item) → same_name i.name name ≡ true → others name (under_change c i) ≡ []
 one_dropped_here name None i h = drop_front_here name i h
 one_dropped_here name (Some None) i h = refl
 one_dropped_here name (Some (Some p)) i h = drop_front_here name (record { name = i.name; path = p; made = None }) h
 
-one_dropped_other : (name : List ℕ) (c : Option (Option Path)) (i : Item) → same_name i.name name ≡ false → others name (one_laid c i) ≡ one_laid c i
+one_dropped_other : (name : List ℕ) (c : Option (Option Path)) (i : Item) → same_name i.name name ≡ false → others name (under_change c i) ≡ under_change c i
 one_dropped_other name None i h = drop_front_other name i h
 one_dropped_other name (Some None) i h = refl
 one_dropped_other name (Some (Some p)) i h = drop_front_other name (record { name = i.name; path = p; made = None }) h
 
-pub laid_drop : (cs ds : Changes) (name : List ℕ) (is : List Item) → Puts cs name None ds → laid ds is ≡ others name (laid cs is)
+pub laid_drop : (cs ds : Changes) (name : List ℕ) (is : List Item) → Puts cs name None ds → under_changes ds is ≡ others name (under_changes cs is)
 laid_drop cs ds name [] puts = refl
 laid_drop cs ds name (i ∷ is) puts =
-    let one : one_laid (change_at ds i.name) i ≡ others name (one_laid (change_at cs i.name) i) =
+    let one : under_change (change_at ds i.name) i ≡ others name (under_change (change_at cs i.name) i) =
     elim (cases_Bool (same_name i.name name)) [
       | inl h ↦
-          ap (λ (d : Option (Option Path)). one_laid d i) (put_one_here cs ds name i.name None puts h)
+          ap (λ (d : Option (Option Path)). under_change d i) (put_one_here cs ds name i.name None puts h)
           ∙ sym (one_dropped_here name (change_at cs i.name) i h)
       | inr h ↦
-          ap (λ (d : Option (Option Path)). one_laid d i) (put_one_other cs ds name i.name None puts h)
+          ap (λ (d : Option (Option Path)). under_change d i) (put_one_other cs ds name i.name None puts h)
           ∙ sym (one_dropped_other name (change_at cs i.name) i h)
     ] in
-    ap (λ (js : List Item). js ++ laid ds is) one
-    ∙ ap (λ (js : List Item). others name (one_laid (change_at cs i.name) i) ++ js) (laid_drop cs ds name is puts)
-    ∙ sym (filter-append (λ (j : Item). not (same_name j.name name)) (one_laid (change_at cs i.name) i) (laid cs is))
+    ap (λ (js : List Item). js ++ under_changes ds is) one
+    ∙ ap (λ (js : List Item). others name (under_change (change_at cs i.name) i) ++ js) (laid_drop cs ds name is puts)
+    ∙ sym (filter-append (λ (j : Item). not (same_name j.name name)) (under_change (change_at cs i.name) i) (under_changes cs is))
 
 -- ---- a list under changes, and new ones behind
 
@@ -268,8 +268,8 @@ module _ (name : List ℕ) (path : Path) (xs ys : List Item) where
       ∙ sym (map-append (set_item name path None) xs ys)
 
 pub set_if_ok : {A E : Type 0} (cs : Changes) (ys zs : List Item) (name : List ℕ) (path : Path) (r : Result A E) → OnOk r (zs ≡ map (set_item name path None) ys) → has_name ys name ≡ true
-    → OnOk r ((is : List Item) → NamesDiffer (all_named (laid cs is ++ ys)) → has_name (laid cs is ++ ys) name ≡ true → laid cs is ++ zs ≡ map (set_item name path None) (laid cs is ++ ys))
-set_if_ok cs ys zs name path (Ok a) same there = λ is d on. ap (λ (js : List Item). laid cs is ++ js) same ∙ set_behind name path (laid cs is) ys d there
+    → OnOk r ((is : List Item) → NamesDiffer (all_named (under_changes cs is ++ ys)) → has_name (under_changes cs is ++ ys) name ≡ true → under_changes cs is ++ zs ≡ map (set_item name path None) (under_changes cs is ++ ys))
+set_if_ok cs ys zs name path (Ok a) same there = λ is d on. ap (λ (js : List Item). under_changes cs is ++ js) same ∙ set_behind name path (under_changes cs is) ys d there
 set_if_ok cs ys zs name path (Err e) same there = tt
 
 module _ (name : List ℕ) (xs ys : List Item) where
@@ -285,9 +285,9 @@ module _ (name : List ℕ) (xs ys : List Item) where
       ∙ sym (filter-append (λ (j : Item). not (same_name j.name name)) xs ys)
 
 -- a path that is there, and not among the new ones, is not taken away
-pub not_dropped : (cs : Changes) (is ys : List Item) (name : List ℕ) → has_name (laid cs is ++ ys) name ≡ true → has_name ys name ≡ false → drops (change_at cs name) ≡ false
+pub not_dropped : (cs : Changes) (is ys : List Item) (name : List ℕ) → has_name (under_changes cs is ++ ys) name ≡ true → has_name ys name ≡ false → drops (change_at cs name) ≡ false
 not_dropped cs is ys name there free =
-    let on : has_name (laid cs is) name ≡ true = sym (ap (λ (b : Bool). cond b true (has_name (laid cs is) name)) free) ∙ sym (both_have (laid cs is) ys name) ∙ there in
+    let on : has_name (under_changes cs is) name ≡ true = sym (ap (λ (b : Bool). cond b true (has_name (under_changes cs is) name)) free) ∙ sym (both_have (under_changes cs is) ys name) ∙ there in
     elim (cases_Bool (drops (change_at cs name))) [
       | inl h ↦
           let never : true ≡ false = sym on ∙ laid_has cs is name ∙ ap (λ (b : Bool). cond b false (has_name is name)) h in
@@ -297,13 +297,13 @@ not_dropped cs is ys name there free =
 
 -- ---- taking the changed list up, path by path
 
-pub laid_none : (is : List Item) → laid [] is ≡ is
+pub laid_none : (is : List Item) → under_changes [] is ≡ is
 laid_none [] = refl
 laid_none (i ∷ is) = ap (λ (js : List Item). i ∷ js) (laid_none is)
 
-laid_append : (cs : Changes) (is js : List Item) → laid cs (is ++ js) ≡ laid cs is ++ laid cs js
+laid_append : (cs : Changes) (is js : List Item) → under_changes cs (is ++ js) ≡ under_changes cs is ++ under_changes cs js
 laid_append cs [] js = refl
-laid_append cs (i ∷ is) js = ap (λ (ks : List Item). one_laid (change_at cs i.name) i ++ ks) (laid_append cs is js) ∙ sym (append_assoc (one_laid (change_at cs i.name) i) (laid cs is) (laid cs js))
+laid_append cs (i ∷ is) js = ap (λ (ks : List Item). under_change (change_at cs i.name) i ++ ks) (laid_append cs is js) ∙ sym (append_assoc (under_change (change_at cs i.name) i) (under_changes cs is) (under_changes cs js))
 
 -- a list by what is before a place, there and behind
 parted : (is : List Item) (k : ℕ) (i : Item) → slice_get is k ≡ Some i → (rest : List Item) × (is ≡ take k is ++ i ∷ rest)
@@ -317,34 +317,34 @@ before_absent xs zs j d =
     let own : same_name j.name j.name ≡ true = (bytes_decides j.name j.name).1 refl in
     first_absent xs (j ∷ zs) j.name d (front_here j zs j.name own)
 
-laid_name : (c : Option (Option Path)) (i j : Item) → one_laid c i ≡ j ∷ [] → j.name ≡ i.name
+laid_name : (c : Option (Option Path)) (i j : Item) → under_change c i ≡ j ∷ [] → j.name ≡ i.name
 laid_name None i j e = let same : i ≡ j = cc in ap (λ (x : Item). x.name) (sym same)
 laid_name (Some None) i j e = absurd cc
 laid_name (Some (Some p)) i j e = let same : record { name = i.name; path = p; made = None } ≡ j = cc in ap (λ (x : Item). x.name) (sym same)
 
 module _ (cs : Changes) (is to : List Item) (k : ℕ) (i : Item) (at : slice_get is k ≡ Some i) where
   abbrev done : List Item
-  done = to ++ laid cs (take k is)
+  done = to ++ under_changes cs (take k is)
 
-  pub laid_more : to ++ laid cs (take (k + 1) is) ≡ done ++ one_laid (change_at cs i.name) i
+  pub laid_more : to ++ under_changes cs (take (k + 1) is) ≡ done ++ under_change (change_at cs i.name) i
   laid_more =
-      ap (λ (js : List Item). to ++ laid cs js) (take_more_items is k i at)
-      ∙ ap (λ (js : List Item). to ++ js) (laid_append cs (take k is) (i ∷ []) ∙ ap (λ (js : List Item). laid cs (take k is) ++ js) (append-nil (one_laid (change_at cs i.name) i)))
-      ∙ sym (append_assoc to (laid cs (take k is)) (one_laid (change_at cs i.name) i))
+      ap (λ (js : List Item). to ++ under_changes cs js) (take_more_items is k i at)
+      ∙ ap (λ (js : List Item). to ++ js) (laid_append cs (take k is) (i ∷ []) ∙ ap (λ (js : List Item). under_changes cs (take k is) ++ js) (append-nil (under_change (change_at cs i.name) i)))
+      ∙ sym (append_assoc to (under_changes cs (take k is)) (under_change (change_at cs i.name) i))
 
-  laid_free : (j : Item) → one_laid (change_at cs i.name) i ≡ j ∷ [] → NamesDiffer (all_named (to ++ laid cs is)) → absent done j.name
+  laid_free : (j : Item) → under_change (change_at cs i.name) i ≡ j ∷ [] → NamesDiffer (all_named (to ++ under_changes cs is)) → absent done j.name
   laid_free j e d =
       let p = parted is k i at in
-      let all : to ++ laid cs is ≡ done ++ j ∷ laid cs p.0 =
-      ap (λ (js : List Item). to ++ laid cs js) p.1
-      ∙ ap (λ (js : List Item). to ++ js) (laid_append cs (take k is) (i ∷ p.0) ∙ ap (λ (js : List Item). laid cs (take k is) ++ (js ++ laid cs p.0)) e)
-      ∙ sym (append_assoc to (laid cs (take k is)) (j ∷ laid cs p.0)) in
-      before_absent done (laid cs p.0) j (subst (λ (js : List Item). NamesDiffer (all_named js)) all d)
+      let all : to ++ under_changes cs is ≡ done ++ j ∷ under_changes cs p.0 =
+      ap (λ (js : List Item). to ++ under_changes cs js) p.1
+      ∙ ap (λ (js : List Item). to ++ js) (laid_append cs (take k is) (i ∷ p.0) ∙ ap (λ (js : List Item). under_changes cs (take k is) ++ (js ++ under_changes cs p.0)) e)
+      ∙ sym (append_assoc to (under_changes cs (take k is)) (j ∷ under_changes cs p.0)) in
+      before_absent done (under_changes cs p.0) j (subst (λ (js : List Item). NamesDiffer (all_named js)) all d)
 
   -- one more is put where none has its name
-  pub put_free : (now : List Item) (n : NamedPath) (j : Item) → now ≡ done → one_laid (change_at cs i.name) (item_of i.name n) ≡ j ∷ [] → item_of i.name n ≡ i → NamesDiffer (all_named (to ++ laid cs is)) → absent now i.name
+  pub put_free : (now : List Item) (n : NamedPath) (j : Item) → now ≡ done → under_change (change_at cs i.name) (item_of i.name n) ≡ j ∷ [] → item_of i.name n ≡ i → NamesDiffer (all_named (to ++ under_changes cs is)) → absent now i.name
   put_free now n j so_far one same d =
-      let e : one_laid (change_at cs i.name) i ≡ j ∷ [] = ap (one_laid (change_at cs i.name)) (sym same) ∙ one in
+      let e : under_change (change_at cs i.name) i ≡ j ∷ [] = ap (under_change (change_at cs i.name)) (sym same) ∙ one in
       ap (λ (js : List Item). has_name js i.name) so_far ∙ ap (λ (a : List ℕ). has_name done a) (sym (laid_name (change_at cs i.name) i j e)) ∙ laid_free j e d
 
 -- ---- nothing, and two lists, one behind the other
@@ -353,9 +353,9 @@ pub none_long : {A : Type 0} (xs : List A) → length xs ≡ 0 → xs ≡ []
 none_long [] h = refl
 none_long (x ∷ xs) h = absurd (omega arith)
 
-pub no_changes : (es : Entered) (added is : List Item) → es ≡ [] → added ≡ [] → laid (changes_in es) is ++ added ≡ is
+pub no_changes : (es : Entered) (added is : List Item) → es ≡ [] → added ≡ [] → under_changes (changes_in es) is ++ added ≡ is
 no_changes es added is none empty =
-    (λ i. laid (changes_in (none i)) is ++ empty i) ∙ append-nil (laid [] is) ∙ laid_none is
+    (λ i. under_changes (changes_in (none i)) is ++ empty i) ∙ append-nil (under_changes [] is) ∙ laid_none is
 
-pub behind_none : (es : Entered) (xs ys : List Item) → es ≡ [] → xs ++ laid (changes_in es) ys ≡ xs ++ ys
-behind_none es xs ys none = ap (λ (fs : Entered). xs ++ laid (changes_in fs) ys) none ∙ ap (λ (js : List Item). xs ++ js) (laid_none ys)
+pub behind_none : (es : Entered) (xs ys : List Item) → es ≡ [] → xs ++ under_changes (changes_in es) ys ≡ xs ++ ys
+behind_none es xs ys none = ap (λ (fs : Entered). xs ++ under_changes (changes_in fs) ys) none ∙ ap (λ (js : List Item). xs ++ js) (laid_none ys)

@@ -11,18 +11,18 @@ use Rattle.std.specs.Result.{result_ok}
 use Rattle.std.specs.declared.alloc.Global.{Global}
 use Rattle.olr_spec.specs.Reference.{Reference}
 use Rattle.olr_binary.specs.Text.{IsTextOf, text_of}
-use Rattle.olr_commands.specs.Reply.{published}
+use Rattle.olr_commands.specs.Reply.{published_text}
 use Rattle.olr_refs.specs.Answers.{answer_of}
 use Rattle.olr_refs.specs.declared.answer.Answer.{Answer}
 use Rattle.olr_refs.specs.declared.answer.Answer.TheVariants.{Points, Refused}
 use Rattle.olr_refs.specs.declared.answer.Refusal.{Refusal}
 
-pub spelled_points : (answer : Answer) (r : Reference) (text : Option (String Global)) (t : String Global) → answer ≡ Points r → text ≡ Some t → IsTextOf r (string_bytes t) → option_map string_bytes text ≡ result_ok (published (answer_of answer))
+pub spelled_points : (answer : Answer) (r : Reference) (text : Option (String Global)) (t : String Global) → answer ≡ Points r → text ≡ Some t → IsTextOf r (string_bytes t) → option_map string_bytes text ≡ result_ok (published_text (answer_of answer))
 spelled_points answer r text t is kept h =
-    ap (option_map string_bytes) kept ∙ ap Some h.1 ∙ sym (ap (λ (a : Answer). result_ok (published (answer_of a))) is)
+    ap (option_map string_bytes) kept ∙ ap Some h.1 ∙ sym (ap (λ (a : Answer). result_ok (published_text (answer_of a))) is)
 
-pub spelled_refused : (answer : Answer) (f : Refusal) (text : Option (String Global)) → answer ≡ Refused f → text ≡ None → option_map string_bytes text ≡ result_ok (published (answer_of answer))
-spelled_refused answer f text is kept = ap (option_map string_bytes) kept ∙ sym (ap (λ (a : Answer). result_ok (published (answer_of a))) is)
+pub spelled_refused : (answer : Answer) (f : Refusal) (text : Option (String Global)) → answer ≡ Refused f → text ≡ None → option_map string_bytes text ≡ result_ok (published_text (answer_of answer))
+spelled_refused answer f text is kept = ap (option_map string_bytes) kept ∙ sym (ap (λ (a : Answer). result_ok (published_text (answer_of a))) is)
 
 -- ---- two texts
 
@@ -34,7 +34,7 @@ same_texts q r s t p h = (
 
 -- a kept text decides the reference that it is the text of
 pub decided : (q r : Reference) (o p : Option (Bor (List ℕ))) → IsReference q → IsReference r
-    → option_map (λ s. s.now) o ≡ result_ok (published (spec.Points q)) → option_map (λ s. s.now) p ≡ result_ok (published (spec.Points r))
+    → option_map (λ s. s.now) o ≡ result_ok (published_text (spec.Points q)) → option_map (λ s. s.now) p ≡ result_ok (published_text (spec.Points r))
     → (b : Bool) → b ≡ option_eq (λ s t. bytes_eq s.now t.now) o p
     → (IsTrue b → spec.Points q ≡ spec.Points r) × (spec.Points q ≡ spec.Points r → IsTrue b)
 decided q r None p soundq soundr textq textr b e = absurd cc

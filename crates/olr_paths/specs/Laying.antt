@@ -1,6 +1,6 @@
 -- Changes that lie over a list of named paths.
 --     Changes, change_at cs name      what becomes of paths by their names: another path, or none where it is taken away
---     laid cs is      the list with these changes.        overlaid is o      with those of an overlay, and the new ones behind
+--     under_changes cs is      the list with these changes.        under_overlay is o      with those of an overlay, and the new ones behind
 use Rattle.std.specs.Prelude.{ℕ, Bool, true, false, cond, List, [], ◌∷◌, ◌++◌, map, Option, Some, None, option_map, string_bytes}
 use Rattle.olr_spec.specs.Extension.{Path}
 use Rattle.olr_commands.specs.State.{same_name}
@@ -24,14 +24,14 @@ drops (Some (Some path)) = false
 drops None = false
 
 -- what becomes of one path, which is not encoded yet where it is another
-abbrev pub one_laid : Option (Option Path) → Item → List Item
-one_laid None i = i ∷ []
-one_laid (Some None) i = []
-one_laid (Some (Some path)) i = record { name = i.name; path = path; made = None } ∷ []
+abbrev pub under_change : Option (Option Path) → Item → List Item
+under_change None i = i ∷ []
+under_change (Some None) i = []
+under_change (Some (Some path)) i = record { name = i.name; path = path; made = None } ∷ []
 
-abbrev pub laid : Changes → List Item → List Item
-laid cs [] = []
-laid cs (i ∷ is) = one_laid (change_at cs i.name) i ++ laid cs is
+abbrev pub under_changes : Changes → List Item → List Item
+under_changes cs [] = []
+under_changes cs (i ∷ is) = under_change (change_at cs i.name) i ++ under_changes cs is
 
 abbrev pub path_in : Option (Rc Path Global) → Option Path
 path_in o = option_map (λ p. p.value) o
@@ -42,5 +42,5 @@ changes_in es = map (λ e. (string_bytes e.0, path_in e.1)) es
 abbrev pub changes_of : Overlay → Changes
 changes_of o = changes_in o.changes.entries
 
-abbrev pub overlaid : List Item → Overlay → List Item
-overlaid is o = laid (changes_of o) is ++ items o.added
+abbrev pub under_overlay : List Item → Overlay → List Item
+under_overlay is o = under_changes (changes_of o) is ++ items o.added

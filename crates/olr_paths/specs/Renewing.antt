@@ -51,8 +51,8 @@ made_at r = puts_of r.fresh.items
 abbrev pub entries_of : Renewal → List Entry
 entries_of r = map entry_of r.entries.items
 
-abbrev pub renewed : Renewal → List Item → List Item
-renewed r is = all_put is (made_at r)
+abbrev pub after_renewal : Renewal → List Item → List Item
+after_renewal r is = all_put is (made_at r)
 
 abbrev pub items_before : Option (Bor Listing) → Listing → List Item
 items_before o l = unwrap_or (option_map (λ b. items b.now) o) (items l)

@@ -2,7 +2,7 @@
 ghost use Rattle.std.specs.Prelude.{◌≡◌, ◌+◌, ◌<◌, ◌≤◌, ◌^◌, IfOk, OnOk, option_map, string_bytes};
 ghost use Rattle.std.specs.Result.{result_ok};
 ghost use Rattle.olr_refs.specs.Answers.{answer_of};
-ghost use Rattle.olr_commands.specs.Reply.{published};
+ghost use Rattle.olr_commands.specs.Reply.{published_text};
 ghost use Rattle.olr_paths.specs.Items.{IsEncodingOf, made_of};
 
 use crate::published::Published;
@@ -14,7 +14,7 @@ use std::alloc::{AllocError, Global};
 
 /// The text of an answer, where it has one.
 fn text_of(alloc: Global, answer: &Answer) -> Result<Option<String>, AllocError>
-    ensures { IfOk result (λ t. option_map string_bytes t ≡ result_ok (published (answer_of answer.now))) }
+    ensures { IfOk result (λ t. option_map string_bytes t ≡ result_ok (published_text (answer_of answer.now))) }
 {
     match answer {
         Answer::Points(reference) => {

@@ -4,7 +4,7 @@ ghost use Rattle.std.specs.Option.{option_to_list};
 ghost use Rattle.olr_commands.specs.State.{NamesDiffer, path_named};
 ghost use Rattle.olr_paths.specs.Items.{Item, items, all_named};
 ghost use Rattle.olr_paths.specs.Renewing.{item_of};
-ghost use Rattle.olr_paths.specs.Laying.{changes_in, changes_of, change_at, drops, one_laid, laid, overlaid};
+ghost use Rattle.olr_paths.specs.Laying.{changes_in, changes_of, change_at, drops, under_change, under_changes, under_overlay};
 
 use crate::listing::{Listing, NamedPath};
 use indexmap::IndexMap;
@@ -29,7 +29,7 @@ fn becomes(
     named: &NamedPath,
 ) -> Result<Option<NamedPath>, AllocError>
     ensures { IfOk result (λ o. map (item_of name.now) (option_to_list o)
-        ≡ one_laid (change_at (changes_in changes.now.entries) name.now) (item_of name.now named.now)) }
+        ≡ under_change (change_at (changes_in changes.now.entries) name.now) (item_of name.now named.now)) }
 {
     let Some(change) = changes.get(name) else {
         return Ok(Some(named.share()?));
@@ -51,10 +51,10 @@ fn put_one(
     named: &NamedPath,
     to: &mut Listing,
 ) -> Result<(), AllocError>
-    requires { (j : Item) → one_laid (change_at (changes_in changes.now.entries) name.now) (item_of name.now named.now) ≡ j ∷ []
+    requires { (j : Item) → under_change (change_at (changes_in changes.now.entries) name.now) (item_of name.now named.now) ≡ j ∷ []
         → is_some (path_named (all_named (items to.old)) name.now) ≡ false }
-    ensures { OnOk result (items to.new
-        ≡ items to.old ++ one_laid (change_at (changes_in changes.now.entries) name.now) (item_of name.now named.now)) }
+    ensures { OnOk result (items to.new ≡ items to.old
+        ++ under_change (change_at (changes_in changes.now.entries) name.now) (item_of name.now named.now)) }
 {
     let Some(named) = becomes(changes, name, named)? else {
         return Ok(());
@@ -70,8 +70,10 @@ fn put_behind(
     list: &Listing,
     to: &mut Listing,
 ) -> Result<(), AllocError>
-    requires { NamesDiffer (all_named (items to.old ++ laid (changes_in changes.now.entries) (items list.now))) }
-    ensures { OnOk result (items to.new ≡ items to.old ++ laid (changes_in changes.now.entries) (items list.now)) }
+    requires { NamesDiffer (all_named (items to.old
+        ++ under_changes (changes_in changes.now.entries) (items list.now))) }
+    ensures { OnOk result (items to.new ≡ items to.old
+        ++ under_changes (changes_in changes.now.entries) (items list.now)) }
 {
     for k in 0..list.paths.len() {
         let Some((name, named)) = list.paths.get_index(k) else {
@@ -90,7 +92,7 @@ impl Overlay {
 
     /// No changes. Takes no memory.
     pub fn new(alloc: Global) -> Overlay
-        ensures { (is : List Item) → overlaid is result ≡ is }
+        ensures { (is : List Item) → under_overlay is result ≡ is }
     {
         Overlay {
             changes: IndexMap::new(alloc),
@@ -100,7 +102,7 @@ impl Overlay {
 
     /// Whether it is known that there are no changes.
     pub(crate) fn is_empty(&self) -> bool
-        ensures { IsTrue result → (is : List Item) → overlaid is self.now ≡ is }
+        ensures { IsTrue result → (is : List Item) → under_overlay is self.now ≡ is }
     {
         self.changes.is_empty() && self.added.paths.is_empty()
     }
@@ -117,7 +119,7 @@ impl Overlay {
 
     /// Whether some path has the name, of the list with these changes.
     pub fn has(&self, list: &Listing, name: &str) -> bool
-        ensures { result ≡ is_some (path_named (all_named (overlaid (items list.now) self.now)) name.now) }
+        ensures { result ≡ is_some (path_named (all_named (under_overlay (items list.now) self.now)) name.now) }
     {
         if self.added.has(name) {
             return true;
@@ -131,20 +133,20 @@ impl Overlay {
     /// Puts a new path last. After want of memory all is as before.
     pub fn hold(&mut self, alloc: Global, name: String, path: Path) -> Result<(), AllocError>
         requires { (is : List Item)
-            × (is_some (path_named (all_named (overlaid is self.old)) (string_bytes name)) ≡ false) }
-        ensures ok { OnOk result ((is : List Item) → overlaid is self.new ≡ overlaid is self.old
+            × (is_some (path_named (all_named (under_overlay is self.old)) (string_bytes name)) ≡ false) }
+        ensures ok { OnOk result ((is : List Item) → under_overlay is self.new ≡ under_overlay is self.old
             ++ record { name = string_bytes name; path = path; made = None } ∷ []) }
-        ensures err { OnErr result ((is : List Item) → overlaid is self.new ≡ overlaid is self.old) }
+        ensures err { OnErr result ((is : List Item) → under_overlay is self.new ≡ under_overlay is self.old) }
     {
         self.added.hold(alloc, name, path)
     }
 
     /// Puts another path under the name of one, in its place. After want of memory all is as before.
     pub fn hold_other(&mut self, alloc: Global, name: &str, path: Path) -> Result<(), AllocError>
-        ensures ok { OnOk result ((is : List Item) → NamesDiffer (all_named (overlaid is self.old))
-            → is_some (path_named (all_named (overlaid is self.old)) name.now) ≡ true
-            → overlaid is self.new ≡ map (set_item name.now path None) (overlaid is self.old)) }
-        ensures err { OnErr result ((is : List Item) → overlaid is self.new ≡ overlaid is self.old) }
+        ensures ok { OnOk result ((is : List Item) → NamesDiffer (all_named (under_overlay is self.old))
+            → is_some (path_named (all_named (under_overlay is self.old)) name.now) ≡ true
+            → under_overlay is self.new ≡ map (set_item name.now path None) (under_overlay is self.old)) }
+        ensures err { OnErr result ((is : List Item) → under_overlay is self.new ≡ under_overlay is self.old) }
     {
         if self.added.has(name) {
             return self.added.hold_other(alloc, name, path);
@@ -157,9 +159,9 @@ impl Overlay {
 
     /// Takes the path of that name away; those after it close up. After want of memory all is as before.
     pub fn drop_path(&mut self, alloc: Global, name: &str) -> Result<(), AllocError>
-        ensures ok { OnOk result ((is : List Item) → NamesDiffer (all_named (overlaid is self.old))
-            → overlaid is self.new ≡ filter (λ i. not (same_name i.name name.now)) (overlaid is self.old)) }
-        ensures err { OnErr result ((is : List Item) → overlaid is self.new ≡ overlaid is self.old) }
+        ensures ok { OnOk result ((is : List Item) → NamesDiffer (all_named (under_overlay is self.old))
+            → under_overlay is self.new ≡ filter (λ i. not (same_name i.name name.now)) (under_overlay is self.old)) }
+        ensures err { OnErr result ((is : List Item) → under_overlay is self.new ≡ under_overlay is self.old) }
     {
         if self.added.has(name) {
             self.added.drop_path(name);
@@ -171,8 +173,8 @@ impl Overlay {
 
     /// The list with these changes. It shares paths and answers with the list.
     pub fn laid_over(&self, alloc: Global, list: &Listing) -> Result<Listing, AllocError>
-        requires { NamesDiffer (all_named (overlaid (items list.now) self.now)) }
-        ensures { IfOk result (λ l. items l ≡ overlaid (items list.now) self.now) }
+        requires { NamesDiffer (all_named (under_overlay (items list.now) self.now)) }
+        ensures { IfOk result (λ l. items l ≡ under_overlay (items list.now) self.now) }
     {
         let mut laid = Listing::new(alloc);
         put_behind(alloc, &self.changes, list, &mut laid)?;

@@ -2,7 +2,7 @@
 ghost use Rattle.std.specs.Prelude.{◌≡◌, option_map, string_bytes};
 ghost use Rattle.std.specs.Result.{result_ok};
 ghost use Rattle.olr_refs.specs.Answers.{answer_of};
-ghost use Rattle.olr_commands.specs.Reply.{published};
+ghost use Rattle.olr_commands.specs.Reply.{published_text};
 
 use olr_commands::Entry;
 use olr_map::Footprint;
@@ -16,7 +16,7 @@ pub struct Published {
     pub(crate) text: Option<String>,
     pub(crate) own: Footprint,
     pub(crate) looks: Vec<Look>,
-    ghost spelled: { option_map string_bytes text ≡ result_ok (published (answer_of answer)) },
+    ghost spelled: { option_map string_bytes text ≡ result_ok (published_text (answer_of answer)) },
 }
 
 impl Published {
@@ -34,7 +34,7 @@ impl Published {
 
     /// The text of the reference. None where the path has none.
     pub fn text(&self) -> Option<&str>
-        ensures { option_map (λ t. t.now) result ≡ result_ok (published (made_of self.now).answer) }
+        ensures { option_map (λ t. t.now) result ≡ result_ok (published_text (made_of self.now).answer) }
     {
         self.text.as_deref()
     }

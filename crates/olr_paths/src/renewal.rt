@@ -8,7 +8,7 @@ ghost use Rattle.std.specs.Prelude.{List, Option};
 ghost use Rattle.olr_spec.specs.Detours.{ChangedLine};
 ghost use Rattle.olr_paths.specs.Items.{Made, made_of, items, answer_in, all_named};
 ghost use Rattle.olr_paths.specs.Changes.{IsBefore, IsConcerned, AreRemade, Reported, Follows};
-ghost use Rattle.olr_paths.specs.Laying.{overlaid};
+ghost use Rattle.olr_paths.specs.Laying.{under_overlay};
 ghost use Rattle.olr_paths.specs.Touching.{nodes_of, lines_of, changed_of};
 ghost use Rattle.olr_paths.specs.Searching.{AreDetours, IsAsked, AreAsked, LackLooks};
 ghost use Rattle.olr_paths.specs.Candidates.{Covers};
@@ -16,7 +16,7 @@ ghost use Rattle.olr_paths.specs.Finding.{AreNotedAt};
 ghost use Rattle.std.specs.List.Sorted.{IsNonDecreasing};
 ghost use Rattle.std.specs.Prelude.{vec_len, vec_capacity};
 ghost use Rattle.olr_paths.specs.Beginning.{Begins, BeginsPut, AreFar, begun_in};
-ghost use Rattle.olr_paths.specs.Renewing.{item_of, all_put, puts_of, made_at, renewed, items_before, TellsIfOther, Stays, IsFate, IsStep, OneMore};
+ghost use Rattle.olr_paths.specs.Renewing.{item_of, all_put, puts_of, made_at, after_renewal, items_before, TellsIfOther, Stays, IsFate, IsStep, OneMore};
 
 use crate::asking::{line_touched, own_touched, search_near, touches};
 use crate::begins::note_fresh;
@@ -315,10 +315,10 @@ fn made_by<M: MapRead>(
     requires follows { Follows (items before.now) (items list.now) }
     ensures renewed { IfOk result (λ r. (L : Map)
         → IsBefore L (M.map map.now) (nodes_of touched.now) (lines_of touched.now) (changed_of touched.now) (items list.now)
-        → AreRemade (M.map map.now) (items list.now) (renewed r (items list.now))) }
-    ensures named { IfOk result (λ r. all_named (renewed r (items list.now)) ≡ all_named (items list.now)) }
+        → AreRemade (M.map map.now) (items list.now) (after_renewal r (items list.now))) }
+    ensures named { IfOk result (λ r. all_named (after_renewal r (items list.now)) ≡ all_named (items list.now)) }
     ensures reported { IfOk result
-        (λ r. Reported (items before.now) (renewed r (items list.now)) (list_map entry_of r.entries.items)) }
+        (λ r. Reported (items before.now) (after_renewal r (items list.now)) (list_map entry_of r.entries.items)) }
     ensures counted { OnOk result ((L : Map)
         → IsBefore L (M.map map.now) (nodes_of touched.now) (lines_of touched.now) (changed_of touched.now) (items list.now)
         → (n : ℕ) × CountIs (IsConcerned L (nodes_of touched.now) (lines_of touched.now)) (items list.now) n
@@ -374,10 +374,10 @@ fn made<M: MapRead>(
     requires far { IsTrue far → AreFar (M.map map.now) (nodes_of touched.now) (items list.now) }
     ensures renewed { IfOk result (λ r. (L : Map)
         → IsBefore L (M.map map.now) (nodes_of touched.now) (lines_of touched.now) (changed_of touched.now) (items list.now)
-        → AreRemade (M.map map.now) (items list.now) (renewed r (items list.now))) }
-    ensures named { IfOk result (λ r. all_named (renewed r (items list.now)) ≡ all_named (items list.now)) }
+        → AreRemade (M.map map.now) (items list.now) (after_renewal r (items list.now))) }
+    ensures named { IfOk result (λ r. all_named (after_renewal r (items list.now)) ≡ all_named (items list.now)) }
     ensures reported { IfOk result
-        (λ r. Reported (items before.now) (renewed r (items list.now)) (list_map entry_of r.entries.items)) }
+        (λ r. Reported (items before.now) (after_renewal r (items list.now)) (list_map entry_of r.entries.items)) }
     ensures counted { OnOk result ((L : Map)
         → IsBefore L (M.map map.now) (nodes_of touched.now) (lines_of touched.now) (changed_of touched.now) (items list.now)
         → (n : ℕ) × CountIs (IsConcerned L (nodes_of touched.now) (lines_of touched.now)) (items list.now) n
@@ -607,24 +607,25 @@ impl Listing {
         work: &mut Work,
         kept: &mut u64,
     ) -> Result<Vec<Entry>, AllocError>
-        requires names { NamesDiffer (all_named (overlaid (items self.old) overlay.now)) }
-        requires follows { Follows (items self.old) (overlaid (items self.old) overlay.now) }
-        requires far { IsTrue far → AreFar (M.map map.now) (nodes_of touched.now) (overlaid (items self.old) overlay.now) }
+        requires names { NamesDiffer (all_named (under_overlay (items self.old) overlay.now)) }
+        requires follows { Follows (items self.old) (under_overlay (items self.old) overlay.now) }
+        requires far { IsTrue far
+            → AreFar (M.map map.now) (nodes_of touched.now) (under_overlay (items self.old) overlay.now) }
         ensures renewed { OnOk result ((L : Map) → IsBefore L (M.map map.now) (nodes_of touched.now) (lines_of touched.now)
-            (changed_of touched.now) (overlaid (items self.old) overlay.now)
-            → AreRemade (M.map map.now) (overlaid (items self.old) overlay.now) (items self.new)) }
-        ensures named { OnOk result (all_named (items self.new) ≡ all_named (overlaid (items self.old) overlay.now)) }
+            (changed_of touched.now) (under_overlay (items self.old) overlay.now)
+            → AreRemade (M.map map.now) (under_overlay (items self.old) overlay.now) (items self.new)) }
+        ensures named { OnOk result (all_named (items self.new) ≡ all_named (under_overlay (items self.old) overlay.now)) }
         ensures reported { IfOk result (λ es. Reported (items self.old) (items self.new) (list_map entry_of es.items)) }
         ensures counted { OnOk result ((L : Map) → IsBefore L (M.map map.now) (nodes_of touched.now) (lines_of touched.now)
-            (changed_of touched.now) (overlaid (items self.old) overlay.now) → (n : ℕ)
-            × CountIs (IsConcerned L (nodes_of touched.now) (lines_of touched.now)) (overlaid (items self.old) overlay.now) n
+            (changed_of touched.now) (under_overlay (items self.old) overlay.now) → (n : ℕ)
+            × CountIs (IsConcerned L (nodes_of touched.now) (lines_of touched.now)) (under_overlay (items self.old) overlay.now) n
             × (work.old.encodings + n < 2 ^ 64 → work.new.encodings ≡ work.old.encodings + n)
             × (kept.new ≤ kept.old + n)) }
         ensures searches { OnOk result (work.old.searches ≤ work.new.searches) }
         ensures settled { OnOk result (work.old.settled ≤ work.new.settled) }
         ensures kept { OnOk result (kept.old ≤ kept.new) }
         ensures begun { OnOk result ((v : ℕ) → Begins (items self.new) v
-            → Begins (overlaid (items self.old) overlay.now) v ⊎ Contains (begun_in searches.new) v) }
+            → Begins (under_overlay (items self.old) overlay.now) v ⊎ Contains (begun_in searches.new) v) }
         ensures err { OnErr result (items self.new ≡ items self.old) }
         ensures err_work { OnErr result (work.new ≡ work.old) }
         ensures err_kept { OnErr result (kept.new ≡ kept.old) }

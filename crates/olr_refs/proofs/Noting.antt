@@ -21,7 +21,7 @@ use Rattle.olr_spec.proofs.AnswerLemmas.{Next-candidate}
 use Rattle.olr_spec.proofs.LookLists.{Contains-cases}
 use Rattle.olr_route.specs.declared.work.Work.{Work}
 use Rattle.olr_route.specs.declared.distances.Direction.TheVariants.{Along}
-use Rattle.olr_route.specs.Counts.{counted}
+use Rattle.olr_route.specs.Counts.{saturated}
 use Rattle.olr_route.specs.Searches.{IsNear, Counts}
 use Rattle.olr_refs.specs.Choice.{Looked, LookedAfter, raised}
 use Rattle.olr_refs.proofs.Stretches.{later_stretch, longer_stretch}
@@ -72,7 +72,7 @@ look_short M ls i k t =
 
 raised_more : (count n m : ℕ) → raised (raised count n) m ≡ raised count (n + m)
 raised_more count n zero = ap (raised count) (omega arith)
-raised_more count n (suc m) = let e : suc (n + m) ≡ n + suc m = omega arith in ap (λ (k : ℕ). counted (k + 1)) (raised_more count n m) ∙ ap (raised count) e
+raised_more count n (suc m) = let e : suc (n + m) ≡ n + suc m = omega arith in ap (λ (k : ℕ). saturated (k + 1)) (raised_more count n m) ∙ ap (raised count) e
 
 settled_more : (a b c n m t : ℕ) → b ≤ a + n * t → c ≤ b + m * t → c ≤ a + (n + m) * t
 settled_more a b c n m t f g = let parts : (n + m) * t ≡ n * t + m * t = mul_comm (n + m) t ∙ mul-add t n m ∙ ap (λ (k : ℕ). k + t * m) (mul_comm t n) ∙ ap (λ (k : ℕ). n * t + k) (mul_comm t m) in omega arith
@@ -94,7 +94,7 @@ looked_wider a b n P Q p f = record { encodings = f.encodings; searches = f.sear
 
 -- one search from the end of line i
 pub one_look : (M : Map) (ls : List ℕ) (i k far n : ℕ) (before after : Work) → IsLastTested M ls i k → far ≡ dm_of M (stretch ls (i + 1) k) → Counts M Along ((end M (slice_index ls i), 0) ∷ []) far n
-    → after.encodings ≡ before.encodings → after.searches ≡ counted (before.searches + 1) → after.settled ≡ counted (before.settled + n) → Looked before after 1 (Reach M (end M (slice_index ls i)))
+    → after.encodings ≡ before.encodings → after.searches ≡ saturated (before.searches + 1) → after.settled ≡ saturated (before.settled + n) → Looked before after 1 (Reach M (end M (slice_index ls i)))
 one_look M ls i k far n before after t e c encodings searches settled =
     record {
       encodings = encodings;

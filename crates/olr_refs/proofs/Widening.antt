@@ -16,7 +16,7 @@ use Rattle.olr_spec.proofs.JoinedLemmas.{extended_joined}
 use Rattle.olr_spec.proofs.LookLists.{Contains-cases, Contains-here, look_from}
 use Rattle.olr_spec.proofs.TestedLemmas.{foot_looked}
 use Rattle.olr_route.specs.declared.work.Work.{Work}
-use Rattle.olr_route.specs.Counts.{counted}
+use Rattle.olr_route.specs.Counts.{saturated}
 use Rattle.olr_route.specs.Searches.{IsSearch, IsNear, limit_of}
 use Rattle.olr_route.specs.declared.distances.Direction.TheVariants.{Along}
 use Rattle.olr_route.specs.declared.distances.Search.{Search}
@@ -63,7 +63,7 @@ near_reached M place s q h there far v = (
 )
 
 -- one search is counted
-pub one_searched : (a b : Work) (labels t : ℕ) → b.encodings ≡ a.encodings → b.searches ≡ counted (a.searches + 1) → b.settled ≡ counted (a.settled + labels) → labels ≤ t → Searches a b 1 t
+pub one_searched : (a b : Work) (labels t : ℕ) → b.encodings ≡ a.encodings → b.searches ≡ saturated (a.searches + 1) → b.settled ≡ saturated (a.settled + labels) → labels ≤ t → Searches a b 1 t
 one_searched a b labels t encodings searches settled h = record { encodings = encodings; searches = searches; rises = omega arith; settled = omega arith }
 
 searches_more : (a b c : Work) (n s t : ℕ) → Searches a b n s → Searches b c 1 t → s ≤ t → Searches a c (n + 1) t
@@ -77,7 +77,7 @@ searches_more a b c n s t f g h =
     let parts : (n + 1) * t ≡ n * t + t = omega arith in
     record {
       encodings = g.encodings ∙ f.encodings;
-      searches = g.searches ∙ ap (λ (k : ℕ). counted (k + 1)) f.searches ∙ ap (raised a.searches) one;
+      searches = g.searches ∙ ap (λ (k : ℕ). saturated (k + 1)) f.searches ∙ ap (raised a.searches) one;
       rises = omega arith;
       settled = omega arith;
     }

@@ -9,7 +9,7 @@ use Rattle.olr_spec.specs.Footprint.{Foot}
 use Rattle.olr_map.specs.RoadMaps.{map_of}
 use Rattle.olr_map.specs.declared.road_map.RoadMap.{RoadMap}
 use Rattle.olr_commands.specs.State.{Named, Content, IsContent, same_name, path_named}
-use Rattle.olr_commands.specs.Reply.{Entry, entry, Published, PublishedText, published, Shown, AllOf}
+use Rattle.olr_commands.specs.Reply.{Entry, entry, Published, PublishedText, published_text, Shown, AllOf}
 use Rattle.olr_paths.specs.Items.{Made, Item, IsEncodingOf, AreEncodings, all_named, made_in, answer_in}
 use Rattle.olr_paths.specs.Changes.{AreEncoded, Reported}
 use Rattle.olr_register.specs.Registered.{PublishedWhole}
@@ -36,7 +36,7 @@ whole_published M (i ∷ is) name made =
 
 -- the text that is kept is that of the answer
 pub text_published : (M : Map) (is : List Item) (name : List ℕ) (text : Option (List ℕ)) → AreEncodings M is
-    → text ≡ option_and_then (λ (A : Answer). result_ok (published A)) (answer_in is name) → PublishedText (record { map = M; paths = all_named is }) name text
+    → text ≡ option_and_then (λ (A : Answer). result_ok (published_text A)) (answer_in is name) → PublishedText (record { map = M; paths = all_named is }) name text
 text_published M is name text made e = (answer_in is name, answer_published M is name made, e)
 
 pub names_of_all : (is : List Item) → map (λ (p : Named). p.name) (all_named is) ≡ map (λ (i : Item). i.name) is
@@ -56,7 +56,7 @@ whole_is M is c name o e made there =
     subst (λ (d : Content). PublishedWhole d name o) e (subst (PublishedWhole (record { map = M; paths = all_named is }) name) (sym there) (whole_published M is name made))
 
 pub text_is : (M : Map) (is : List Item) (c : Content) (name : List ℕ) (text : Option (List ℕ)) → record { map = M; paths = all_named is } ≡ c → AreEncodings M is
-    → text ≡ option_and_then (λ (A : Answer). result_ok (published A)) (answer_in is name) → PublishedText c name text
+    → text ≡ option_and_then (λ (A : Answer). result_ok (published_text A)) (answer_in is name) → PublishedText c name text
 text_is M is c name text e made there = subst (λ (d : Content). PublishedText d name text) e (text_published M is name text made there)
 
 pub name_is : (M : Map) (is : List Item) (c : Content) (k : ℕ) → record { map = M; paths = all_named is } ≡ c

@@ -4,7 +4,7 @@ use Rattle.std.proofs.lemmas.Bool.{eq-eqb, ne_eqb}
 use Rattle.olr_spec.specs.Map.{Map}
 use Rattle.olr_map.specs.RoadMaps.{map_of, map_before}
 use Rattle.olr_map.specs.declared.road_map.RoadMap.{RoadMap}
-use Rattle.olr_commands.specs.State.{Named, Content, Memory, Count_differs, when, Change, State, Commit, after, step, brought, IsContent}
+use Rattle.olr_commands.specs.State.{Named, Content, Memory, Count_differs, when, Change, State, Commit, after, step, changes_made, IsContent}
 use Rattle.olr_commands.specs.Reply as replies
 use Rattle.olr_commands.specs.Reply.{IsRefusal, Told, Lacks, IsOutcome, may_want}
 use Rattle.olr_commands.specs.Counts.{Concerns, CountIs, Raises}
@@ -13,7 +13,7 @@ use Rattle.olr_commands.specs.declared.reply.Entry.{Entry}
 use Rattle.olr_commands.specs.declared.reply.Reply.{Reply}
 use Rattle.olr_commands.specs.declared.fault.CommandFault.TheVariants as rust
 use Rattle.olr_paths.specs.Items.{Item, AreEncodings, all_named}
-use Rattle.olr_paths.specs.Laying.{overlaid}
+use Rattle.olr_paths.specs.Laying.{under_overlay}
 use Rattle.olr_paths.specs.Changes.{IsBefore, IsConcerned, AreRemade, Reported}
 use Rattle.olr_paths.specs.Touching.{nodes_of, lines_of, changed_of}
 use Rattle.olr_register.specs.Kept.{IsBatchOf, Stands}
@@ -67,48 +67,48 @@ commit_from roads is o b e reg = let was : IsRegister roads is (Some b) = subst 
 
 -- what the renewal asks for
 pub commit_before : (roads : RoadMap) (is : List Item) (o : Option Batch) (b : Batch) → o ≡ Some b → IsRegister roads is o
-    → IsBefore (map_before roads b.log) (map_of roads) (nodes_of b.touched) (lines_of b.touched) (changed_of b.touched) (overlaid is b.overlay)
+    → IsBefore (map_before roads b.log) (map_of roads) (nodes_of b.touched) (lines_of b.touched) (changed_of b.touched) (under_overlay is b.overlay)
 commit_before roads is o b e reg =
     let was : IsRegister roads is (Some b) = subst (IsRegister roads is) e reg in
-    is_before (map_before roads b.log) (map_of roads) (nodes_of b.touched) (lines_of b.touched) (changed_of b.touched) (overlaid is b.overlay) was.held.noted was.content.map was.held.sound.paths was.held.made
+    is_before (map_before roads b.log) (map_of roads) (nodes_of b.touched) (lines_of b.touched) (changed_of b.touched) (under_overlay is b.overlay) was.held.noted was.content.map was.held.sound.paths was.held.made
 
 -- the content that a commit leads to
 content_after : (c : Content) (roads new : RoadMap) (b : Batch) (is js : List Item) (xs : List Change) → IsBatchOf c (batch_of roads is b) xs → map_of new ≡ map_of roads
-    → all_named js ≡ all_named (overlaid is b.overlay) → after c xs ≡ content_on (map_of new) js
+    → all_named js ≡ all_named (under_overlay is b.overlay) → after c xs ≡ content_on (map_of new) js
 content_after c roads new b is js xs i same names =
-    sym i.content ∙ ap (content_from (map_of roads)) (named_twice (overlaid is b.overlay) ∙ sym names)
+    sym i.content ∙ ap (content_from (map_of roads)) (named_twice (under_overlay is b.overlay) ∙ sym names)
     ∙ ap (λ (M : Map). content_on M js) (sym same)
 
-made_after : (roads new : RoadMap) (is js : List Item) (b : Batch) → map_of new ≡ map_of roads → AreRemade (map_of roads) (overlaid is b.overlay) js → AreEncodings (map_of new) js
-made_after roads new is js b same remade = subst (λ (M : Map). AreEncodings M js) (sym same) (remade_made (map_of roads) (overlaid is b.overlay) js remade)
+made_after : (roads new : RoadMap) (is js : List Item) (b : Batch) → map_of new ≡ map_of roads → AreRemade (map_of roads) (under_overlay is b.overlay) js → AreEncodings (map_of new) js
+made_after roads new is js b same remade = subst (λ (M : Map). AreEncodings M js) (sym same) (remade_made (map_of roads) (under_overlay is b.overlay) js remade)
 
 sound_after : (roads new : RoadMap) (is js : List Item) (b : Batch) → IsRegister roads is (Some b) → map_of new ≡ map_of roads
-    → all_named js ≡ all_named (overlaid is b.overlay) → IsContent (content_on (map_of new) js)
+    → all_named js ≡ all_named (under_overlay is b.overlay) → IsContent (content_on (map_of new) js)
 sound_after roads new is js b reg same names =
     subst (λ (M : Map). IsContent (content_on M js)) (sym same)
     (subst (λ (ps : List Named). IsContent (content_from (map_of roads) ps)) (sym names) reg.held.sound)
 
 pub commit_held : (roads new : RoadMap) (is js : List Item) (o p : Option Batch) (b : Batch) → o ≡ Some b → p ≡ None → IsRegister roads is o → map_of new ≡ map_of roads
-    → AreRemade (map_of roads) (overlaid is b.overlay) js → all_named js ≡ all_named (overlaid is b.overlay) → IsRegister new js p
+    → AreRemade (map_of roads) (under_overlay is b.overlay) js → all_named js ≡ all_named (under_overlay is b.overlay) → IsRegister new js p
 commit_held roads new is js o p b e g reg same remade names =
     let was : IsRegister roads is (Some b) = subst (IsRegister roads is) e reg in
     subst (IsRegister new js) (sym g) (record { content = sound_after roads new is js b was same names; made = made_after roads new is js b same remade; held = tt })
 
 -- how many a commit counts
-commit_raises : (roads new : RoadMap) (is js : List Item) (b : Batch) (n many : ℕ) → all_named js ≡ all_named (overlaid is b.overlay)
-    → CountIs (IsConcerned (map_before roads b.log) (nodes_of b.touched) (lines_of b.touched)) (overlaid is b.overlay) many
+commit_raises : (roads new : RoadMap) (is js : List Item) (b : Batch) (n many : ℕ) → all_named js ≡ all_named (under_overlay is b.overlay)
+    → CountIs (IsConcerned (map_before roads b.log) (nodes_of b.touched) (lines_of b.touched)) (under_overlay is b.overlay) many
     → (s t : State) → Stands (record { content = content_on (map_before roads b.log) is; batch = Some (batch_of roads is b) }) s → Stands (record { content = content_on (map_of new) js; batch = None }) t
     → Raises s (Commit n) t many
 commit_raises roads new is js b n many names count s t h g =
     let c : Content = content_on (map_before roads b.log) is in
-    in_batch c (batch_of roads is b) (λ a. CountIs (Concerns a.content (brought a (Commit n))) t.content.paths many)
+    in_batch c (batch_of roads is b) (λ a. CountIs (Concerns a.content (changes_made a (Commit n))) t.content.paths many)
     (λ xs i.
     subst (λ (ps : List Named). CountIs (Concerns c xs) ps many) (sym names ∙ ap (λ (d : Content). d.paths) g.0)
-    (counted_changes c xs (nodes_of b.touched) (lines_of b.touched) i.nodes i.lines (overlaid is b.overlay) many i.given count)) s h
+    (counted_changes c xs (nodes_of b.touched) (lines_of b.touched) i.nodes i.lines (under_overlay is b.overlay) many i.given count)) s h
 
 module _ (roads new : RoadMap) (is js : List Item) (b : Batch) (w v : Tally) (n many : ℕ) (r : Reply) (es : List Entry) (told : reply_of r ≡ replies.Paths (map entry_of es)) (right : b.count ≡ n)
-    (same : map_of new ≡ map_of roads) (remade : AreRemade (map_of roads) (overlaid is b.overlay) js) (names : all_named js ≡ all_named (overlaid is b.overlay)) (reported : Reported is js (map entry_of es))
-    (count : CountIs (IsConcerned (map_before roads b.log) (nodes_of b.touched) (lines_of b.touched)) (overlaid is b.overlay) many)
+    (same : map_of new ≡ map_of roads) (remade : AreRemade (map_of roads) (under_overlay is b.overlay) js) (names : all_named js ≡ all_named (under_overlay is b.overlay)) (reported : Reported is js (map entry_of es))
+    (count : CountIs (IsConcerned (map_before roads b.log) (nodes_of b.touched) (lines_of b.touched)) (under_overlay is b.overlay) many)
     (encodings : w.work.encodings + many < 2 ^ 64 → v.work.encodings ≡ w.work.encodings + many) (spared : v.spared ≤ w.spared + many)
     (searches : w.work.searches ≤ v.work.searches) (settled : w.work.settled ≤ v.work.settled) (rises : w.spared ≤ v.spared) where
   commit_answered : IsRegister roads is (Some b) → Answered (of_parts roads is (Some b) w) (Commit n) (Ok r) (of_parts new js None v)

@@ -16,7 +16,7 @@ use Rattle.olr_commands.specs.declared.fault.CommandFault.{CommandFault}
 use Rattle.olr_commands.specs.declared.fault.CommandFault.TheVariants as rust
 use Rattle.olr_paths.specs.Items.{Made, Item, AreEncodings, AreEncodingsIfAny}
 use Rattle.olr_paths.specs.Beginning.{Begins}
-use Rattle.olr_paths.specs.Laying.{overlaid}
+use Rattle.olr_paths.specs.Laying.{under_overlay}
 use Rattle.olr_paths.specs.Changes.{Follows}
 use Rattle.olr_paths.specs.Touching.{nodes_of, lines_of, changed_of}
 use Rattle.olr_register.specs.Kept.{named_held, IsBatchOf}
@@ -93,7 +93,7 @@ open_refused old is (Some b) w e =
 -- a batch that holds nothing
 pub record IsEmpty (b : Batch) : Type 0 where
   pub log : changes_of b.log ≡ []
-  pub paths : (js : List Item) → overlaid js b.overlay ≡ js
+  pub paths : (js : List Item) → under_overlay js b.overlay ≡ js
   pub count : b.count ≡ 0
   pub nodes : nodes_of b.touched ≡ []
   pub lines : lines_of b.touched ≡ []
@@ -133,7 +133,7 @@ begun_held roads is None b none r e =
         sound = subst (λ (ks : List Item). IsContent (content_on (map_of roads) ks)) (sym (e.paths is)) r.content;
         few = let none_yet = e.count in omega arith;
         noted = coe 0 1 (i. IsNoted (sym same i) (map_of roads) (sym e.nodes i) (sym e.lines i) (sym e.changed i)) (noted_none (map_of roads));
-        made = subst (λ (M : Map). AreEncodingsIfAny M (overlaid is b.overlay)) (sym same) (subst (AreEncodingsIfAny (map_of roads)) (sym (e.paths is)) (made_if_any (map_of roads) is r.made));
+        made = subst (λ (M : Map). AreEncodingsIfAny M (under_overlay is b.overlay)) (sym same) (subst (AreEncodingsIfAny (map_of roads)) (sym (e.paths is)) (made_if_any (map_of roads) is r.made));
         follows = subst (Follows is) (sym (e.paths is)) (follows_self is r.content.names);
         begins = λ v b. subst (λ (ks : List Item). Begins ks v) (e.paths is) b;
       };

@@ -1,6 +1,6 @@
 -- What a call answers, from what holds of each state in which the register stands, with a batch open or with none.
 use Rattle.std.proofs.Common.{◌≡◌, List, [], Option, Some, None, Ok, refl, sym, subst}
-use Rattle.olr_commands.specs.State.{Content, Change, State, Begin, Abort, brought}
+use Rattle.olr_commands.specs.State.{Content, Change, State, Begin, Abort, changes_made}
 use Rattle.olr_commands.specs.Reply as replies
 use Rattle.olr_commands.specs.Reply.{IsRefusal, Told, Lacks, may_lack, IsOutcome}
 use Rattle.olr_commands.specs.Words.{reply_of}
@@ -36,11 +36,11 @@ no_batch c P p s h = subst (λ (d : Content). P (state d s.batch)) h.0 (by_batch
 
 pub begin_answered : (c : Content) (b : Batch) (w : Tally) (r : Reply) → reply_of r ≡ replies.Paths [] → IsBatchOf c b [] → Answered (register_of c None w) Begin (Ok r) (register_of c (Some b) w)
 begin_answered c b w r e i =
-    answered_uncounted (register_of c None w) (record { content = c; batch = Some b }) Begin r (no_batch c (λ s. brought s Begin ≡ []) refl)
+    answered_uncounted (register_of c None w) (record { content = c; batch = Some b }) Begin r (no_batch c (λ s. changes_made s Begin ≡ []) refl)
     (no_batch c (λ s. (t : State) × Stands (record { content = c; batch = Some b }) t × IsOutcome s Begin (Ok (reply_of r)) t) (state c (Some []), (refl, i), (refl, e)))
 
 pub abort_answered : (c d : Content) (b : Batch) (w : Tally) (r : Reply) → reply_of r ≡ replies.Paths [] → d ≡ c → Answered (register_of c (Some b) w) Abort (Ok r) (register_of d None w)
 abort_answered c d b w r e same =
     subst (λ (to : Content). Answered (register_of c (Some b) w) Abort (Ok r) (register_of to None w)) (sym same)
-    (answered_uncounted (register_of c (Some b) w) (record { content = c; batch = None }) Abort r (in_batch c b (λ s. brought s Abort ≡ []) (λ xs i. refl))
+    (answered_uncounted (register_of c (Some b) w) (record { content = c; batch = None }) Abort r (in_batch c b (λ s. changes_made s Abort ≡ []) (λ xs i. refl))
     (in_batch c b (λ s. (t : State) × Stands (record { content = c; batch = None }) t × IsOutcome s Abort (Ok (reply_of r)) t) (λ xs i. (state c None, (refl, tt), (refl, e)))))

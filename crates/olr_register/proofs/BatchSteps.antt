@@ -4,7 +4,7 @@ use Rattle.std.specs.Prelude.{◌==◌, ◌&&◌, ◌||◌, nat_le, flat_map}
 use Rattle.std.proofs.lemmas.List.{append-nil}
 use Rattle.std.proofs.lemmas.List.Folds.{list_any-append}
 use Rattle.olr_spec.specs.Extension.{has}
-use Rattle.olr_commands.specs.State.{Content, Fault, Batch_full, full, when, Change, On_map, Add_path, Set_path, Drop_path, changed, next, after, State, Make, held, step, brought}
+use Rattle.olr_commands.specs.State.{Content, Fault, Batch_full, full, when, Change, On_map, Add_path, Set_path, Drop_path, with_change, next, after, State, Make, into_batch, step, changes_made}
 use Rattle.olr_commands.specs.Reply as replies
 use Rattle.olr_commands.specs.Reply.{IsRefusal, IsOutcome, IsChangeReply, takes_memory, may_want, may_lack, is_told_first}
 use Rattle.olr_commands.specs.Counts.{nodes_of_change, lines_of_change, names_of_change, all_nodes, all_lines, all_names}
@@ -31,20 +31,20 @@ flat_push f (y ∷ xs) x = ap (λ vs. f y ++ vs) (flat_push f xs x) ∙ sym (app
 
 -- ---- the step
 
-held_when : (c : Content) (ys : List Change) (b : Bool) (f : Fault) (r : Result Content Fault) → when b f (held c ys r) ≡ held c ys (when b f r)
+held_when : (c : Content) (ys : List Change) (b : Bool) (f : Fault) (r : Result Content Fault) → when b f (into_batch c ys r) ≡ into_batch c ys (when b f r)
 held_when c ys true f r = refl
 held_when c ys false f r = refl
 
-pub step_given : (c : Content) (b : Batch) (xs : List Change) (x : Change) → IsBatchOf c b xs → step (state c (Some xs)) (Make x) ≡ held c (xs ++ x ∷ []) (content_with b x)
+pub step_given : (c : Content) (b : Batch) (xs : List Change) (x : Change) → IsBatchOf c b xs → step (state c (Some xs)) (Make x) ≡ into_batch c (xs ++ x ∷ []) (content_with b x)
 step_given c b xs x i =
-    ap (λ (n : ℕ). when (nat_le full n) Batch_full (held c (xs ++ x ∷ []) (changed (after c xs) x))) (sym i.count)
-    ∙ ap (λ (d : Content). when (nat_le full b.count) Batch_full (held c (xs ++ x ∷ []) (changed d x))) (sym i.content)
-    ∙ held_when c (xs ++ x ∷ []) (nat_le full b.count) Batch_full (changed (content_of b) x)
+    ap (λ (n : ℕ). when (nat_le full n) Batch_full (into_batch c (xs ++ x ∷ []) (with_change (after c xs) x))) (sym i.count)
+    ∙ ap (λ (d : Content). when (nat_le full b.count) Batch_full (into_batch c (xs ++ x ∷ []) (with_change d x))) (sym i.content)
+    ∙ held_when c (xs ++ x ∷ []) (nat_le full b.count) Batch_full (with_change (content_of b) x)
 
 pub one_more : (c : Content) (b d : Batch) (xs : List Change) (x : Change) → IsBatchOf c b xs → IsAdded b x d → IsBatchOf c d (xs ++ x ∷ [])
 one_more c b d xs x i a =
-    let ok = when_ok (nat_le full b.count) Batch_full (changed (content_of b) x) (content_of d) a.content in
-    let there : changed (after c xs) x ≡ Ok (content_of d) = subst (λ (e : Content). changed e x ≡ Ok (content_of d)) i.content ok.1 in
+    let ok = when_ok (nat_le full b.count) Batch_full (with_change (content_of b) x) (content_of d) a.content in
+    let there : with_change (after c xs) x ≡ Ok (content_of d) = subst (λ (e : Content). with_change e x ≡ Ok (content_of d)) i.content ok.1 in
     let len = length_push xs x in
     let before = i.count in
     let later = a.count in
@@ -64,13 +64,13 @@ one_more c b d xs x i a =
 
 held_answered : (c : Content) (b d : Batch) (w : Tally) (x : Change) (r : Reply) → IsAdded b x d → reply_of r ≡ replies.Held d.count → Answered (register_of c (Some b) w) (Make x) (Ok r) (register_of c (Some d) w)
 held_answered c b d w x r a e =
-    answered_uncounted (register_of c (Some b) w) (record { content = c; batch = Some d }) (Make x) r (in_batch c b (λ s. brought s (Make x) ≡ []) (λ xs i. refl))
+    answered_uncounted (register_of c (Some b) w) (record { content = c; batch = Some d }) (Make x) r (in_batch c b (λ s. changes_made s (Make x) ≡ []) (λ xs i. refl))
     (in_batch c b (λ s. (t : State) × Stands (record { content = c; batch = Some d }) t × IsOutcome s (Make x) (Ok (reply_of r)) t)
     (λ xs i.
     let is : d.count ≡ suc (length xs) = a.count ∙ ap suc i.count in
-    (state c (Some (xs ++ x ∷ [])), (refl, one_more c b d xs x i a), (step_given c b xs x i ∙ ap (held c (xs ++ x ∷ [])) a.content, e ∙ ap (λ (n : ℕ). replies.Held n) is))))
+    (state c (Some (xs ++ x ∷ [])), (refl, one_more c b d xs x i a), (step_given c b xs x i ∙ ap (into_batch c (xs ++ x ∷ [])) a.content, e ∙ ap (λ (n : ℕ). replies.Held n) is))))
 
-may_by : (c : Content) (ys : List Change) (r : Result Content Fault) → ((g : Fault) → r ≡ Err g → is_told_first g ≡ false) → may_want (held c ys r) ≡ true
+may_by : (c : Content) (ys : List Change) (r : Result Content Fault) → ((g : Fault) → r ≡ Err g → is_told_first g ≡ false) → may_want (into_batch c ys r) ≡ true
 may_by c ys (Ok d) first = refl
 may_by c ys (Err g) first = ap not (first g refl)
 
@@ -82,7 +82,7 @@ held_takes (Set_path name path) xs = refl
 held_takes (Drop_path name) xs = refl
 
 is_refusal : (c : Content) (b : Batch) (x : Change) (f : Fault) → IsRefused (content_with b x) f → (xs : List Change) → IsBatchOf c b xs → IsRefusal (state c (Some xs)) (Make x) f
-is_refusal c b x f (Told e) xs i = replies.Told (step_given c b xs x i ∙ ap (held c (xs ++ x ∷ [])) e)
+is_refusal c b x f (Told e) xs i = replies.Told (step_given c b xs x i ∙ ap (into_batch c (xs ++ x ∷ [])) e)
 is_refusal c b x f (Lacks e first) xs i =
     let may = ap may_want (step_given c b xs x i) ∙ may_by c (xs ++ x ∷ []) (content_with b x) first in
     replies.Lacks e (λ j. held_takes x xs j && may j)

@@ -3,7 +3,7 @@ use Rattle.std.proofs.Common.{inl, inr, ◌≡◌, ℕ, true, List, [], ◌∷�
 use Rattle.std.specs.Prelude.{is_none}
 use Rattle.std.specs.List.{list_any, AllByRecursion}
 use Rattle.olr_spec.specs.Extension.{has}
-use Rattle.olr_commands.specs.State.{Named, Content, same_name, Change, State, Command, brought}
+use Rattle.olr_commands.specs.State.{Named, Content, same_name, Change, State, Command, changes_made}
 use Rattle.olr_commands.specs.Counts.{Concerns, By_name, By_node, By_line, CountIs, Raises, all_nodes, all_lines, all_names}
 use Rattle.olr_paths.specs.Items.{Made, Item, named, all_named}
 use Rattle.olr_paths.specs.Changes.{IsConcerned}
@@ -42,5 +42,5 @@ unconcerned c p (By_name h) = absurd cc
 unconcerned c p (By_node v h f) = absurd cc
 unconcerned c p (By_line x h f) = absurd cc
 
-pub raises_none : (s t : State) (x : Command) → brought s x ≡ [] → Raises s x t 0
+pub raises_none : (s t : State) (x : Command) → changes_made s x ≡ [] → Raises s x t 0
 raises_none s t x e = subst (λ (ys : List Change). CountIs (Concerns s.content ys) t.content.paths 0) (sym e) (none_counted (Concerns s.content []) (unconcerned s.content) t.content.paths)

@@ -10,12 +10,12 @@ use Rattle.olr_spec.proofs.EditLemmas.{edits_keep}
 use Rattle.olr_map.specs.RoadMaps.{map_of, map_before, CanUndoAll}
 use Rattle.olr_map.specs.declared.road_map.RoadMap.{RoadMap}
 use Rattle.olr_map.specs.declared.undo.UndoLog.{UndoLog}
-use Rattle.olr_commands.specs.State.{Content, Fault, Map_fault, Memory, full, On_map, with_map, changed}
+use Rattle.olr_commands.specs.State.{Content, Fault, Map_fault, Memory, full, On_map, with_map, with_change}
 use Rattle.olr_commands.specs.Reply.{is_told_first}
 use Rattle.olr_commands.specs.Words.{command_fault_of}
 use Rattle.olr_commands.specs.declared.fault.CommandFault.{CommandFault}
 use Rattle.olr_paths.specs.Items.{Item, AreEncodingsIfAny}
-use Rattle.olr_paths.specs.Laying.{overlaid}
+use Rattle.olr_paths.specs.Laying.{under_overlay}
 use Rattle.olr_paths.specs.Touching.{nodes_of, lines_of, changed_of}
 use Rattle.olr_paths.specs.declared.touched.Touched.{Touched}
 use Rattle.olr_register.specs.Kept as kept
@@ -41,7 +41,7 @@ edit_lacks b d e f N room ok lacks same = told_memory b d (On_map e) f room lack
 -- what a batch comes to where map and touched stayed
 pub same_batch : (old new : RoadMap) (before : List Item) (b : Batch) (log : UndoLog) (t : Touched) → map_of new ≡ map_of old → nodes_of t ≡ nodes_of b.touched → lines_of t ≡ lines_of b.touched
     → batch_of new before (record { log = log; overlay = b.overlay; count = b.count; touched = t }) ≡ batch_of old before b
-same_batch old new before b log t same nodes lines = λ i. batch_on (same i) (overlaid before b.overlay) b.count (nodes i) (lines i)
+same_batch old new before b log t same nodes lines = λ i. batch_on (same i) (under_overlay before b.overlay) b.count (nodes i) (lines i)
 
 -- ---- held
 
@@ -57,7 +57,7 @@ pub held_edit : (old new : RoadMap) (before : List Item) (b : Batch) (log : Undo
     → map_before new log ≡ map_before old b.log
     → ((v : ℕ) → has (nodes_of t) v ≡ (has (nodes_of b.touched) v || has (touched_nodes (map_of old) e) v)) → ((y : ℕ) → has (lines_of t) y ≡ (has (lines_of b.touched) y || has (touched_lines e) y))
     → changed_of t ≡ changed_of b.touched ++ changes_of (map_of old) e → IsMap (map_before old b.log) → IsHeld old before b → IsHeld new before (record { log = log; overlay = b.overlay; count = b.count + 1; touched = t })
-held_edit old new before b log t e room placed undo ok same_before nodes lines changed first h =
+held_edit old new before b log t e room placed undo ok same_before nodes lines with_change first h =
     let few = leb-false full b.count room in
     let later : IsMap (map_of new) = edits_keep (map_of old) (map_of new) e h.sound.map placed ok in
     record {
@@ -66,8 +66,8 @@ held_edit old new before b log t e room placed undo ok same_before nodes lines c
       few = omega arith;
       noted =
           subst (λ (M : Map). IsNoted M (map_of new) (nodes_of t) (lines_of t) (changed_of t)) (sym same_before)
-          (noted_more (map_before old b.log) (map_of old) (map_of new) e (nodes_of b.touched) (lines_of b.touched) (nodes_of t) (lines_of t) (changed_of b.touched) (changed_of t) h.noted ok nodes lines changed);
-      made = subst (λ (M : Map). AreEncodingsIfAny M (overlaid before b.overlay)) (sym same_before) h.made;
+          (noted_more (map_before old b.log) (map_of old) (map_of new) e (nodes_of b.touched) (lines_of b.touched) (nodes_of t) (lines_of t) (changed_of b.touched) (changed_of t) h.noted ok nodes lines with_change);
+      made = subst (λ (M : Map). AreEncodingsIfAny M (under_overlay before b.overlay)) (sym same_before) h.made;
       follows = h.follows;
       begins = h.begins;
     }

@@ -11,7 +11,7 @@ use Rattle.olr_near.specs.Numbers.{number_of, IsRight, IsSource, SameBut}
 use Rattle.olr_near.specs.declared.nearness.Nearness.{Nearness}
 use Rattle.olr_paths.specs.Items.{Item}
 use Rattle.olr_paths.specs.Changes.{set_item}
-use Rattle.olr_paths.specs.Laying.{overlaid}
+use Rattle.olr_paths.specs.Laying.{under_overlay}
 use Rattle.olr_paths.specs.Beginning.{BeginsIn, Begins, AreFar}
 use Rattle.olr_paths.proofs.Beginning.{begins_add, begins_set}
 use Rattle.olr_register.specs.Holding.{map_kept, IsHeld, IsNumbered}
@@ -64,9 +64,9 @@ module _ (M N : Map) (is : List Item) (T ts : List ℕ) (f g : Nearness) (same :
   far_looks far = λ v b. subst (λ (us : List ℕ). ¬ Near N us v limit) same (far v numbered_asked.right (numbered_asked.sources v b))
 
 -- the list under the changes of a batch has no look that the register's lacks
-pub commit_numbered : (roads : RoadMap) (is : List Item) (o : Option Batch) (b : Batch) (near : Nearness) → o ≡ Some b → IsHeld roads is b → IsNumbered (map_kept roads o) is near → IsNumbered (map_before roads b.log) (overlaid is b.overlay) near
+pub commit_numbered : (roads : RoadMap) (is : List Item) (o : Option Batch) (b : Batch) (near : Nearness) → o ≡ Some b → IsHeld roads is b → IsNumbered (map_kept roads o) is near → IsNumbered (map_before roads b.log) (under_overlay is b.overlay) near
 commit_numbered roads is o b near e held h =
-    numbered_fewer (map_before roads b.log) is (overlaid is b.overlay) near held.begins (numbered_same (map_kept roads o) (map_before roads b.log) is near (sym (ap (map_kept roads) e)) h)
+    numbered_fewer (map_before roads b.log) is (under_overlay is b.overlay) near held.begins (numbered_same (map_kept roads o) (map_before roads b.log) is near (sym (ap (map_kept roads) e)) h)
 
 -- ---- with the looks that a renewal made
 

@@ -3,7 +3,7 @@ use Rattle.std.proofs.Common.{arith, ◌≡◌, ℕ, Bool, true, false, not, Lis
 use Rattle.olr_spec.specs.Extension.{Path}
 use Rattle.olr_spec.specs.Reference.{Reference}
 use Rattle.olr_commands.specs.State as state
-use Rattle.olr_commands.specs.State.{Named, Content, path_named, has_path, when, Change, Command, State, step, step_in, brought, TextFault, text_fault, unless_fault, No_path, Memory, Not_a_reference}
+use Rattle.olr_commands.specs.State.{Named, Content, path_named, has_path, when, Change, Command, State, step, step_in, changes_made, TextFault, text_fault, unless_fault, No_path, Memory, Not_a_reference}
 use Rattle.olr_commands.specs.Reply as told
 use Rattle.olr_commands.specs.Reply.{IsReply, IsOutcome, IsRefusal, Told, Lacks, AllOf, Shown, Explained, may_want, may_lack}
 use Rattle.olr_commands.specs.Words.{reply_of, command_fault_of}
@@ -15,7 +15,7 @@ use Rattle.olr_register.specs.Answering.{Answered}
 use Rattle.olr_register.proofs.Counting.{raises_none}
 
 -- an accepted command that brings nothing raises no count
-pub answered_uncounted : (old : Registered) (k : Kept) (c : Command) (r : Reply) → ((s : State) → Stands old.kept s → brought s c ≡ [])
+pub answered_uncounted : (old : Registered) (k : Kept) (c : Command) (r : Reply) → ((s : State) → Stands old.kept s → changes_made s c ≡ [])
     → ((s : State) → Stands old.kept s → (t : State) × Stands k t × IsOutcome s c (Ok (reply_of r)) t) → Answered old c (Ok r) (record { kept = k; work = old.work; spared = old.spared })
 answered_uncounted old k c r none outcome = record {
   outcome = outcome;
@@ -26,7 +26,7 @@ answered_uncounted old k c r none outcome = record {
   unchanged = tt;
 }
 
-answered_same : (x : Registered) (c : Command) (r : Reply) → ((s : State) → Stands x.kept s → (step s c ≡ Ok s) × IsReply s c s (reply_of r)) → ((s : State) → brought s c ≡ [])
+answered_same : (x : Registered) (c : Command) (r : Reply) → ((s : State) → Stands x.kept s → (step s c ≡ Ok s) × IsReply s c s (reply_of r)) → ((s : State) → changes_made s c ≡ [])
     → Answered x c (Ok r) x
 answered_same x c r h none = answered_uncounted x x.kept c r (λ s stands. none s) (λ s stands. (s, stands, h s stands))
 
@@ -42,7 +42,7 @@ show_step : (c : Content) (b : Option (List Change)) (name : List ℕ) → step_
 show_step c None name = refl
 show_step c (Some xs) name = refl
 
-show_brings : (b : Option (List Change)) (name : List ℕ) → state.brought_in b (state.Show name) ≡ []
+show_brings : (b : Option (List Change)) (name : List ℕ) → state.changes_made_in b (state.Show name) ≡ []
 show_brings None name = refl
 show_brings (Some xs) name = refl
 
@@ -79,7 +79,7 @@ report_ok : (c : Content) (b : Option (List Change)) → step_in c b state.Repor
 report_ok c None = refl
 report_ok c (Some xs) = refl
 
-report_brings : (b : Option (List Change)) → state.brought_in b state.Report ≡ []
+report_brings : (b : Option (List Change)) → state.changes_made_in b state.Report ≡ []
 report_brings None = refl
 report_brings (Some xs) = refl
 
@@ -100,7 +100,7 @@ explain_step : (c : Content) (b : Option (List Change)) (text : List ℕ) → st
 explain_step c None text = refl
 explain_step c (Some xs) text = refl
 
-explain_brings : (b : Option (List Change)) (text : List ℕ) → state.brought_in b (state.Explain text) ≡ []
+explain_brings : (b : Option (List Change)) (text : List ℕ) → state.changes_made_in b (state.Explain text) ≡ []
 explain_brings None text = refl
 explain_brings (Some xs) text = refl
 

@@ -6,7 +6,7 @@ use Rattle.olr_route.specs.declared.work.Work.{Work}
 use Rattle.std.specs.List.{AllByRecursion}
 use Rattle.olr_spec.specs.Map.{Map, Edit, touched_nodes, touched_lines}
 use Rattle.olr_spec.specs.Extension.{Path, has}
-use Rattle.olr_commands.specs.State.{Named, Content, IsContent, Change, On_map, Add_path, Set_path, Drop_path, changed, State, Make, at_once, step}
+use Rattle.olr_commands.specs.State.{Named, Content, IsContent, Change, On_map, Add_path, Set_path, Drop_path, with_change, State, Make, at_once, step}
 use Rattle.olr_commands.specs.Counts.{Concerns, By_name, By_node, By_line, CountIs, Raises}
 use Rattle.olr_commands.proofs.CountLemmas.{paths_raise}
 use Rattle.olr_paths.specs.Items.{Item, AreEncodings, all_named}
@@ -83,12 +83,12 @@ tallied_edit old new M is e ns xs n was later paths a nodes lines count rise fal
 
 -- ---- paths
 
-made_state : (c d : Content) (x : Change) → changed c x ≡ Ok d → step (record { content = c; batch = None }) (Make x) ≡ Ok (record { content = d; batch = None })
+made_state : (c d : Content) (x : Change) → with_change c x ≡ Ok d → step (record { content = c; batch = None }) (Make x) ≡ Ok (record { content = d; batch = None })
 made_state c d x e = ap at_once e
 
 -- a path that is added, or set, raises by one
 pub tallied_add : (old new : Registered) (name : List ℕ) (path : Path) → IsContent old.kept.content → old.kept.batch ≡ None → new.kept.batch ≡ None
-    → changed old.kept.content (Add_path name path) ≡ Ok new.kept.content
+    → with_change old.kept.content (Add_path name path) ≡ Ok new.kept.content
     → Rise old new 1 → NoneFalls old new → Tallied old (Make (Add_path name path)) new
 tallied_add old new name path content was later is rise falls =
     tallied_by old new (Add_path name path) 1 was later
@@ -97,7 +97,7 @@ tallied_add old new name path content was later is rise falls =
     rise falls (encodes_closed old new (Add_path name path) was refl)
 
 pub tallied_set : (old new : Registered) (name : List ℕ) (path : Path) → IsContent old.kept.content → old.kept.batch ≡ None → new.kept.batch ≡ None
-    → changed old.kept.content (Set_path name path) ≡ Ok new.kept.content
+    → with_change old.kept.content (Set_path name path) ≡ Ok new.kept.content
     → Rise old new 1 → NoneFalls old new → Tallied old (Make (Set_path name path)) new
 tallied_set old new name path content was later is rise falls =
     tallied_by old new (Set_path name path) 1 was later

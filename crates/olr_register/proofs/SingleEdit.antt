@@ -13,7 +13,7 @@ use Rattle.olr_map.specs.declared.judging.Judged.{Judged}
 use Rattle.olr_map.specs.RoadMaps.{map_of}
 use Rattle.olr_map.specs.declared.road_map.RoadMap.{RoadMap}
 use Rattle.olr_commands.specs.State as state
-use Rattle.olr_commands.specs.State.{Named, Content, IsContent, Fault, Map_fault, On_map, with_map, changed, at_once, Make}
+use Rattle.olr_commands.specs.State.{Named, Content, IsContent, Fault, Map_fault, On_map, with_map, with_change, at_once, Make}
 use Rattle.olr_commands.specs.Reply as told
 use Rattle.olr_commands.specs.Reply.{may_want}
 use Rattle.olr_commands.specs.Counts.{CountIs}
@@ -79,10 +79,10 @@ pub record IsNotedOf (M : Map) (e : Edit) (t : Touched) : Type 0 where
 
 pub noted_judged : (M : Map) (place : ℕ → ℕ) (e : Edit) (j : Judged) (t : Touched) → IsJudged M place e j → ((v : ℕ) → has (nodes_of t) v ≡ ((j.nodes.0 == v) || (j.nodes.1 == v)))
     → ((y : ℕ) → has (lines_of t) y ≡ has (option_to_list j.line) y) → changed_of t ≡ changes_told j → IsNotedOf M e t
-noted_judged M place e j t judged nodes lines changed = record {
+noted_judged M place e j t judged nodes lines with_change = record {
   nodes = λ v. nodes v ∙ sym (judged.nodes v);
   lines = λ y. lines y ∙ ap (λ (ys : List ℕ). has ys y) judged.lines;
-  changed = changed ∙ judged.changes;
+  changed = with_change ∙ judged.changes;
 }
 
 -- ---- accepted
@@ -115,7 +115,7 @@ module _ (roads later : RoadMap) (is js : List Item) (b : Option Batch) (w : Tal
           (encodings : w.work.encodings + n < 2 ^ 64 → u.work.encodings ≡ w.work.encodings + n) (spared : u.spared ≤ w.spared + n) (falls : NoneFalls (of_parts roads is None w) (of_parts later js None u)) where
         edit_answered : Answered (of_parts roads is None w) (Make (On_map e)) (Ok q) (of_parts later js None u)
         edit_answered =
-            let there : changed (of_parts roads is None w).kept.content (On_map e) ≡ Ok (of_parts later js None u).kept.content =
+            let there : with_change (of_parts roads is None w).kept.content (On_map e) ≡ Ok (of_parts later js None u).kept.content =
             ap (with_map (record { map = map_of roads; paths = all_named is })) taken ∙ ap (λ (ps : List Named). Ok (record { map = map_of later; paths = ps })) (sym names) in
             accepted_now (of_parts roads is None w) (of_parts later js None u) (On_map e) q es refl refl there says all_renewed.differences
             (tallied_edit (of_parts roads is None w) (of_parts later js None u) (map_of roads) is e ns xs n refl refl names was_right.made nodes lines count (record { encodings = encodings; spared = spared }) falls)

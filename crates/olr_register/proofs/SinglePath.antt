@@ -5,7 +5,7 @@ use Rattle.olr_spec.specs.Extension.{Path, is_path}
 use Rattle.olr_map.specs.RoadMaps.{map_of}
 use Rattle.olr_map.specs.declared.road_map.RoadMap.{RoadMap}
 use Rattle.olr_commands.specs.State as state
-use Rattle.olr_commands.specs.State.{Named, Content, IsContent, same_name, path_named, has_path, with_path, Fault, Path_exists, No_path, Bad_path, when, Add_path, Set_path, Drop_path, changed, at_once, Make}
+use Rattle.olr_commands.specs.State.{Named, Content, IsContent, same_name, path_named, has_path, with_path, Fault, Path_exists, No_path, Bad_path, when, Add_path, Set_path, Drop_path, with_change, at_once, Make}
 use Rattle.olr_commands.specs.Reply as told
 use Rattle.olr_commands.specs.Reply.{entry, may_want}
 use Rattle.olr_commands.specs.Words.{reply_of, command_fault_of}
@@ -85,7 +85,7 @@ module _ (roads : RoadMap) (is : List Item) (b : Option Batch) (w : Tally) (x : 
   abbrev before : Content
   before = record { map = map_of roads; paths = all_named is }
 
-  keeps : (c : state.Change) (js : List Item) → changed before c ≡ Ok (record { map = map_of roads; paths = all_named js }) → state.HasPlaces (Make c) → AreEncodings (map_of roads) js → IsRegister roads js b
+  keeps : (c : state.Change) (js : List Item) → with_change before c ≡ Ok (record { map = map_of roads; paths = all_named js }) → state.HasPlaces (Make c) → AreEncodings (map_of roads) js → IsRegister roads js b
   keeps c js is_that places at_once = is_closed roads js b was_closed (changes_keep before (record { map = map_of roads; paths = all_named js }) c was_right.content places is_that) at_once
 
   -- ---- dropped
@@ -93,7 +93,7 @@ module _ (roads : RoadMap) (is : List Item) (b : Option Batch) (w : Tally) (x : 
   abbrev list_without : List Item
   list_without = filter (λ i. not (same_name i.name name)) is
 
-  is_dropped : has_path x.kept.content name ≡ true → changed before (Drop_path name) ≡ Ok (record { map = map_of roads; paths = all_named list_without })
+  is_dropped : has_path x.kept.content name ≡ true → with_change before (Drop_path name) ≡ Ok (record { map = map_of roads; paths = all_named list_without })
   is_dropped taken = when_not (not (has_path before name)) No_path _ (ap not (named_in true taken)) ∙ ap (λ (ps : List Named). Ok (record { map = map_of roads; paths = ps })) (sym (names_drop name is))
 
   pub drop_keeps : (js : List Item) → has_path x.kept.content name ≡ true → js ≡ list_without → IsRegister roads js b
@@ -119,7 +119,7 @@ module _ (roads : RoadMap) (is : List Item) (b : Option Batch) (w : Tally) (x : 
     abbrev list_added : List Item
     list_added = is ++ record { name = name; path = path; made = Some m } ∷ []
 
-    is_added : has_path x.kept.content name ≡ false → changed before (Add_path name path) ≡ Ok (record { map = map_of roads; paths = all_named list_added })
+    is_added : has_path x.kept.content name ≡ false → with_change before (Add_path name path) ≡ Ok (record { map = map_of roads; paths = all_named list_added })
     is_added free =
         when_not (has_path before name) Path_exists _ (named_in false free) ∙ when_not (not (is_path path.lines)) Bad_path _ (ap not good)
         ∙ ap (λ (ps : List Named). Ok (record { map = map_of roads; paths = ps })) (sym (names_add is (record { name = name; path = path; made = Some m })))
@@ -141,7 +141,7 @@ module _ (roads : RoadMap) (is : List Item) (b : Option Batch) (w : Tally) (x : 
     abbrev list_set : List Item
     list_set = map (set_item name path (Some m)) is
 
-    is_set : has_path x.kept.content name ≡ true → changed before (Set_path name path) ≡ Ok (record { map = map_of roads; paths = all_named list_set })
+    is_set : has_path x.kept.content name ≡ true → with_change before (Set_path name path) ≡ Ok (record { map = map_of roads; paths = all_named list_set })
     is_set taken =
         when_not (not (has_path before name)) No_path _ (ap not (named_in true taken)) ∙ when_not (not (is_path path.lines)) Bad_path _ (ap not good)
         ∙ ap (λ (ps : List Named). Ok (record { map = map_of roads; paths = ps })) (sym (names_set name path (Some m) is))

@@ -7,7 +7,7 @@ use Rattle.olr_map.specs.RoadMaps.{map_of}
 use Rattle.olr_map.specs.declared.road_map.RoadMap.{RoadMap}
 use Rattle.olr_spec.specs.Map as map_faults
 use Rattle.olr_commands.specs.State as state
-use Rattle.olr_commands.specs.State.{Content, IsContent, path_named, has_path, Fault, Map_fault, Change, On_map, with_map, changed, at_once, Make, State, step}
+use Rattle.olr_commands.specs.State.{Content, IsContent, path_named, has_path, Fault, Map_fault, Change, On_map, with_map, with_change, at_once, Make, State, step}
 use Rattle.olr_commands.specs.Reply as told
 use Rattle.olr_commands.specs.Reply.{Differences, IsReply, IsOutcome, IsRefusal, Told, Lacks, takes_memory, may_want}
 use Rattle.olr_commands.specs.Words.{reply_of, command_fault_of, map_fault_of}
@@ -25,7 +25,7 @@ use Rattle.olr_register.proofs.Outcomes.{answered_refused}
 
 -- ---- outcomes of a change where no batch is open
 
-pub accepted_now : (old new : Registered) (x : Change) (q : Reply) (es : List told.Entry) → old.kept.batch ≡ None → new.kept.batch ≡ None → changed old.kept.content x ≡ Ok new.kept.content
+pub accepted_now : (old new : Registered) (x : Change) (q : Reply) (es : List told.Entry) → old.kept.batch ≡ None → new.kept.batch ≡ None → with_change old.kept.content x ≡ Ok new.kept.content
     → reply_of q ≡ told.Paths es → Differences old.kept.content new.kept.content es → Tallied old (Make x) new → Answered old (Make x) (Ok q) new
 accepted_now old new x q es was later is says differences tallied = record {
   outcome = λ s stands.
@@ -43,12 +43,12 @@ accepted_now old new x q es was later is says differences tallied = record {
   unchanged = tt;
 }
 
-pub told_now : (old : Registered) (x : Change) (g : Fault) (f : CommandFault) → old.kept.batch ≡ None → changed old.kept.content x ≡ Err g → command_fault_of f ≡ g → Answered old (Make x) (Err f) old
+pub told_now : (old : Registered) (x : Change) (g : Fault) (f : CommandFault) → old.kept.batch ≡ None → with_change old.kept.content x ≡ Err g → command_fault_of f ≡ g → Answered old (Make x) (Err f) old
 told_now old x g f was is says =
     answered_refused old old (Make x) f refl (λ s stands.
     subst (λ (u : State). IsRefusal u (Make x) (command_fault_of f)) (sym (one_state old.kept s was stands)) (Told (ap at_once is ∙ ap (λ (h : Fault). Err h) (sym says))))
 
-pub lacks_now : (old : Registered) (x : Change) (f : CommandFault) → old.kept.batch ≡ None → takes_memory (Make x) None ≡ true → may_want (at_once (changed old.kept.content x)) ≡ true → command_fault_of f ≡ state.Memory → Answered old (Make x) (Err f) old
+pub lacks_now : (old : Registered) (x : Change) (f : CommandFault) → old.kept.batch ≡ None → takes_memory (Make x) None ≡ true → may_want (at_once (with_change old.kept.content x)) ≡ true → command_fault_of f ≡ state.Memory → Answered old (Make x) (Err f) old
 lacks_now old x f was takes may says =
     answered_refused old old (Make x) f refl (λ s stands. subst (λ (u : State). IsRefusal u (Make x) (command_fault_of f)) (sym (one_state old.kept s was stands)) (Lacks says (λ i. takes i && may i)))
 

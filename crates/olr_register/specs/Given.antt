@@ -6,7 +6,7 @@ use Rattle.std.specs.Prelude.{◌≡◌, ℕ, suc, ◌||◌, ◌++◌, List, Res
 use Rattle.std.specs.Result.{IfOk, IfErr}
 use Rattle.std.specs.List.{list_any, AllByRecursion}
 use Rattle.olr_spec.specs.Extension.{has}
-use Rattle.olr_commands.specs.State.{Content, Fault, Memory, Batch_full, full, when, Change, changed, same_name}
+use Rattle.olr_commands.specs.State.{Content, Fault, Memory, Batch_full, full, when, Change, with_change, same_name}
 use Rattle.olr_commands.specs.Reply.{is_told_first}
 use Rattle.olr_commands.specs.Reply as replies
 use Rattle.olr_commands.specs.Counts.{nodes_of_change, lines_of_change, names_of_change}
@@ -16,7 +16,7 @@ use Rattle.olr_commands.specs.declared.fault.CommandFault.{CommandFault}
 use Rattle.olr_register.specs.Kept.{Batch, Held, content_of}
 
 abbrev pub content_with : Batch → Change → Result Content Fault
-content_with b x = when (nat_le full b.count) Batch_full (changed (content_of b) x)
+content_with b x = when (nat_le full b.count) Batch_full (with_change (content_of b) x)
 
 -- each path is marked as given where it has one of the names
 abbrev pub AreGiven : List (List ℕ) → List Held → Type 0

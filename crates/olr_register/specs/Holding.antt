@@ -14,7 +14,7 @@ use Rattle.olr_commands.specs.State.{IsContent, full}
 use Rattle.olr_paths.specs.Items.{Item, AreEncodings, AreEncodingsIfAny, all_named}
 use Rattle.olr_paths.specs.Changes.{Follows}
 use Rattle.olr_paths.specs.Beginning.{Begins}
-use Rattle.olr_paths.specs.Laying.{overlaid}
+use Rattle.olr_paths.specs.Laying.{under_overlay}
 use Rattle.olr_paths.specs.Touching.{nodes_of, lines_of, changed_of}
 use Rattle.olr_register.specs.Kept as kept
 use Rattle.olr_register.specs.declared.batch.Batch.{Batch}
@@ -28,7 +28,7 @@ abbrev pub batch_of : RoadMap → List Item → Batch → kept.Batch
 batch_of roads is b =
     record {
       map = map_of roads;
-      paths = map held_of (overlaid is b.overlay);
+      paths = map held_of (under_overlay is b.overlay);
       count = b.count;
       nodes = nodes_of b.touched;
       lines = lines_of b.touched;
@@ -59,12 +59,12 @@ pub record IsNoted (M N : Map) (T X : List ℕ) (C : List ChangedLine) : Type 0 
 
 pub record IsHeld (roads : RoadMap) (before : List Item) (b : Batch) : Type 0 where
   pub undo : CanUndoAll roads b.log
-  pub sound : IsContent (record { map = map_of roads; paths = all_named (overlaid before b.overlay) })
+  pub sound : IsContent (record { map = map_of roads; paths = all_named (under_overlay before b.overlay) })
   pub few : b.count ≤ full
   pub noted : IsNoted (map_before roads b.log) (map_of roads) (nodes_of b.touched) (lines_of b.touched) (changed_of b.touched)
-  pub made : AreEncodingsIfAny (map_before roads b.log) (overlaid before b.overlay)
-  pub follows : Follows before (overlaid before b.overlay)
-  pub begins : (v : ℕ) → Begins (overlaid before b.overlay) v → Begins before v
+  pub made : AreEncodingsIfAny (map_before roads b.log) (under_overlay before b.overlay)
+  pub follows : Follows before (under_overlay before b.overlay)
+  pub begins : (v : ℕ) → Begins (under_overlay before b.overlay) v → Begins before v
 
 pub record IsRegister (roads : RoadMap) (is : List Item) (batch : Option Batch) : Type 0 where
   pub content : IsContent (record { map = map_kept roads batch; paths = all_named is })

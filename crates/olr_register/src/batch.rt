@@ -32,7 +32,7 @@ impl Batch {
     ghost use Rattle.olr_commands.specs.State.{On_map, Add_path, Set_path, Drop_path, full, NamesDiffer};
     ghost use Rattle.olr_commands.specs.Words.{path_along};
     ghost use Rattle.olr_paths.specs.Items.{Item, items, all_named};
-    ghost use Rattle.olr_paths.specs.Laying.{overlaid};
+    ghost use Rattle.olr_paths.specs.Laying.{under_overlay};
     ghost use Rattle.olr_register.specs.Holding.{IsHeld, batch_of};
     ghost use Rattle.olr_register.specs.Given.{Given};
 
@@ -114,7 +114,7 @@ impl Batch {
         pos: u32,
         neg: u32,
     ) -> Result<Reply, CommandFault>
-        requires { NamesDiffer (all_named (overlaid (items list.now) self.old.overlay)) }
+        requires { NamesDiffer (all_named (under_overlay (items list.now) self.old.overlay)) }
         ensures given { (roads : Roads) → Given (batch_of roads (items list.now) self.old)
             (Set_path name.now (path_along lines.items pos neg)) result (batch_of roads (items list.now) self.new) }
         ensures held { (roads : Roads) → IsHeld roads (items list.now) self.old → IsHeld roads (items list.now) self.new }
@@ -143,7 +143,7 @@ impl Batch {
         list: &Listing,
         name: &str,
     ) -> Result<Reply, CommandFault>
-        requires { NamesDiffer (all_named (overlaid (items list.now) self.old.overlay)) }
+        requires { NamesDiffer (all_named (under_overlay (items list.now) self.old.overlay)) }
         ensures given { (roads : Roads) → Given (batch_of roads (items list.now) self.old) (Drop_path name.now) result
             (batch_of roads (items list.now) self.new) }
         ensures held { (roads : Roads) → IsHeld roads (items list.now) self.old → IsHeld roads (items list.now) self.new }

@@ -3,9 +3,9 @@ use Rattle.std.specs.Prelude.{ℕ, ◌+◌, ◌-◌, ◌^◌, min}
 use Rattle.olr_route.specs.declared.work.Work.{Work}
 
 -- a count stays at the greatest number of 64 bits
-abbrev pub counted : ℕ → ℕ
-counted n = min n (2 ^ 64 - 1)
+abbrev pub saturated : ℕ → ℕ
+saturated n = min n (2 ^ 64 - 1)
 
 -- one search more, which labelled so many nodes
 abbrev pub after_search : Work → ℕ → Work
-after_search w labels = record w { searches = counted (w.searches + 1); settled = counted (w.settled + labels) }
+after_search w labels = record w { searches = saturated (w.searches + 1); settled = saturated (w.settled + labels) }

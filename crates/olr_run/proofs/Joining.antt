@@ -14,7 +14,7 @@ use Rattle.olr_records.specs.ReplyText.{outcome_text}
 use Rattle.olr_register.specs.Kept.{Stands}
 use Rattle.olr_register.specs.Registered.{Registered}
 use Rattle.olr_run.specs.Output as output
-use Rattle.olr_run.specs.Output.{SoundOutcome, SoundOutcomes, Claims, StopsAtRefusal, any_refused, AreAll, texts, Ran, CutOff, Nothing, In_last, Faulted, greater}
+use Rattle.olr_run.specs.Output.{SoundOutcome, SoundOutcomes, Claims, StopsAtFault, any_refused, AreAll, texts, Ran, CutOff, Nothing, In_last, Faulted, greater}
 use Rattle.olr_run.specs.Runs.{Known, Records, known_records, known_both, status_of, RanOn, FaultedOn}
 use Rattle.olr_run.specs.declared.ends.RunFault.{RunFault}
 use Rattle.olr_run.specs.declared.ends.Status.{Status}
@@ -58,7 +58,7 @@ both_false true true b e = absurd cc
 both_false true false b e = (refl, e)
 both_false false a b e = (refl, refl)
 
-stops_join : (stop : Bool) (os qs : List Outcome) → (stop && any_refused os) ≡ false → StopsAtRefusal stop os → StopsAtRefusal stop qs → StopsAtRefusal stop (os ++ qs)
+stops_join : (stop : Bool) (os qs : List Outcome) → (stop && any_refused os) ≡ false → StopsAtFault stop os → StopsAtFault stop qs → StopsAtFault stop (os ++ qs)
 stops_join stop [] qs n h k = k
 stops_join stop (o ∷ os) qs n h k =
     let parts = both_false stop (is_err o) (any_refused os) n in

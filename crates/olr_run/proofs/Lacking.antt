@@ -3,7 +3,7 @@ use Rattle.std.proofs.Common.{◌≢◌, Bool, true, false, List, [], ◌∷◌,
 use Rattle.std.specs.Prelude.{IfErr, IsOkAnd, not, nat_le, ◌==◌, length}
 use Rattle.olr_spec.specs.Map.{Map, MapFault, edited}
 use Rattle.olr_spec.specs.Extension.{is_path}
-use Rattle.olr_commands.specs.State.{Fault, Memory, No_path, Path_exists, Bad_path, Count_differs, Batch_full, TextFault, Content, State, Change, On_map, Add_path, Set_path, Drop_path, Command, Make, Show, Report, Explain, Begin, Commit, Abort, full, has_path, when, changed, with_map, at_once, held, after, text_fault, unless_fault, step_in}
+use Rattle.olr_commands.specs.State.{Fault, Memory, No_path, Path_exists, Bad_path, Count_differs, Batch_full, TextFault, Content, State, Change, On_map, Add_path, Set_path, Drop_path, Command, Make, Show, Report, Explain, Begin, Commit, Abort, full, has_path, when, with_change, with_map, at_once, into_batch, after, text_fault, unless_fault, step_in}
 use Rattle.olr_commands.specs.Reply.{may_lack, IsRefusal, Told, Lacks}
 use Rattle.olr_records.specs.Records.{Field, Bad_form, Out_of_range, Read, read, HoldsList}
 use Rattle.olr_run.specs.Output.{CommandOutcome, RecordOutcome}
@@ -23,7 +23,7 @@ unfolding HadMemory
 mapped c (Ok m) = tt
 mapped c (Err fault) = λ e. cc
 
-change_had : (c : Content) (x : Change) → HadMemory (changed c x)
+change_had : (c : Content) (x : Change) → HadMemory (with_change c x)
 unfolding HadMemory
 change_had c (On_map e) = mapped c (edited c.map e)
 change_had c (Add_path name path) = when_had (has_path c name) Path_exists _ (λ e. cc) (when_had (not (is_path path.lines)) Bad_path _ (λ e. cc) tt)
@@ -35,7 +35,7 @@ unfolding HadMemory
 made_had (Ok d) h = tt
 made_had (Err f) h = h
 
-held_had : (c : Content) (xs : List Change) (r : Result Content Fault) → HadMemory r → HadMemory (held c xs r)
+held_had : (c : Content) (xs : List Change) (r : Result Content Fault) → HadMemory r → HadMemory (into_batch c xs r)
 unfolding HadMemory
 held_had c xs (Ok d) h = tt
 held_had c xs (Err f) h = h
@@ -47,8 +47,8 @@ text_had s (Some fault) = λ e. cc
 
 step_had : (c : Content) (batch : Option (List Change)) (x : Command) → HadMemory (step_in c batch x)
 unfolding HadMemory
-step_had c None (Make x) = made_had (changed c x) (change_had c x)
-step_had c (Some xs) (Make x) = when_had (nat_le full (length xs)) Batch_full (held c (xs ++ x ∷ []) (changed (after c xs) x)) (λ e. cc) (held_had c _ (changed (after c xs) x) (change_had (after c xs) x))
+step_had c None (Make x) = made_had (with_change c x) (change_had c x)
+step_had c (Some xs) (Make x) = when_had (nat_le full (length xs)) Batch_full (into_batch c (xs ++ x ∷ []) (with_change (after c xs) x)) (λ e. cc) (held_had c _ (with_change (after c xs) x) (change_had (after c xs) x))
 step_had c None (Show name) = when_had (not (has_path c name)) No_path (Ok (record { content = c; batch = None })) (λ e. cc) tt
 step_had c (Some xs) (Show name) = when_had (not (has_path c name)) No_path (Ok (record { content = c; batch = Some xs })) (λ e. cc) tt
 step_had c None Report = tt

@@ -10,7 +10,7 @@ use Rattle.olr_commands.specs.History.{IsNamed, IsRefused}
 use Rattle.olr_commands.proofs.HistoryLemmas.{Leads, outcome_leads, outcome_keeps, is_named, is_refused, headline_of}
 use Rattle.olr_commands.proofs.OutcomeLemmas.{one_outcome}
 use Rattle.olr_records.specs.Records.{Field, Read, read}
-use Rattle.olr_run.specs.Output.{CommandOutcome, OutOfMemory, RecordOutcome, Outcomes, SoundOutcome, SoundOutcomes, spelled, Claims, StopsAtRefusal, any_refused, AreAll, texts, run_status, Status, Ran, AllHadMemory}
+use Rattle.olr_run.specs.Output.{CommandOutcome, OutOfMemory, RecordOutcome, Outcomes, SoundOutcome, SoundOutcomes, command_spelled, Claims, StopsAtFault, any_refused, AreAll, texts, run_status, Status, Ran, AllHadMemory}
 use Rattle.olr_records.proofs.ReadLemmas.{places_read}
 
 command_keeps : (s t : State) (r : Read Command) (o : Outcome) → ((c : Command) → r ≡ Ok c → HasPlaces c) → IsState s → CommandOutcome s r o t → IsState t
@@ -50,11 +50,11 @@ lacking_claims s t asked o h =
     (leads_nowhere s t asked Memory h.1, names_nothing s t asked Memory, λ fault is. h.1)
 
 record_claims : (s : State) (fields : List Field) (o : Outcome) (t : State) → SoundOutcome s fields o t
-    → Leads s (spelled fields) o t × IfSome (spelled fields) (λ c. IsNamed s c o t) × IsRefused s o t
+    → Leads s (command_spelled fields) o t × IfSome (command_spelled fields) (λ c. IsNamed s c o t) × IsRefused s o t
 record_claims s fields o t h =
     elim h.0 [
       | inl p ↦ command_claims s t (read fields) o h.1 p
-      | inr p ↦ lacking_claims s t (spelled fields) o p.1
+      | inr p ↦ lacking_claims s t (command_spelled fields) o p.1
     ]
 
 pub sound_after : (s t : State) (rs : List (List Field)) (os : List Outcome) → IsContent s.content → SoundOutcomes s rs os t → IsContent t.content
@@ -63,7 +63,7 @@ sound_after s t [] (o ∷ os) i p = absurd p
 sound_after s t (r ∷ rs) (o ∷ os) i p = sound_after p.0 t rs os p.1.1 p.2
 
 pub claims_of : (s : State) (rs : List (List Field)) (os : List Outcome) (t : State) → IsContent s.content → SoundOutcomes s rs os t → Claims s rs os t
-claims_of s rs os t i h = headline_of SoundOutcome spelled record_claims s rs os t (sound_after s t rs os i h) h
+claims_of s rs os t i h = headline_of SoundOutcome command_spelled record_claims s rs os t (sound_after s t rs os i h) h
 
 -- ---- one run
 
@@ -93,7 +93,7 @@ none_left true r rs (inr h) = absurd cc
 none_left false r rs (inr h) = absurd cc
 
 one_list : (stop : Bool) (s t u : State) (rs : List (List Field)) (os qs : List Outcome) → IsState s → AllHadMemory os → AllHadMemory qs → AreAll stop rs os → AreAll stop rs qs
-    → StopsAtRefusal stop os → StopsAtRefusal stop qs → Outcomes s rs os t → Outcomes s rs qs u → (os ≡ qs) × (t ≡ u)
+    → StopsAtFault stop os → StopsAtFault stop qs → Outcomes s rs os t → Outcomes s rs qs u → (os ≡ qs) × (t ≡ u)
 one_list stop s t u [] [] [] i n m a b c d p q = (refl, sym p ∙ q)
 one_list stop s t u [] [] (o ∷ qs) i n m a b c d p q = absurd q
 one_list stop s t u [] (o ∷ os) qs i n m a b c d p q = absurd p

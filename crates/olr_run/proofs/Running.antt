@@ -19,7 +19,7 @@ use Rattle.olr_records.specs.Records.{Field}
 use Rattle.olr_records.specs.ReplyText.{outcome_text}
 use Rattle.olr_register.specs.Kept.{Stands}
 use Rattle.olr_register.specs.Registered.{Registered}
-use Rattle.olr_run.specs.Output.{SoundOutcome, SoundOutcomes, Claims, StopsAtRefusal, any_refused, AreAll, texts, run_status, Ran, CutOff, Nothing, In_last, Faulted, records_of, most_records}
+use Rattle.olr_run.specs.Output.{SoundOutcome, SoundOutcomes, Claims, StopsAtFault, any_refused, AreAll, texts, run_status, Ran, CutOff, Nothing, In_last, Faulted, records_of, most_records}
 use Rattle.olr_run.specs.Output as output
 use Rattle.olr_run.specs.Runs.{Known, known_records, IsPlain, status_of, TellsRecord}
 use Rattle.olr_run.specs.declared.ends.Status.{Status}
@@ -41,7 +41,7 @@ none_later true false b e = e
 none_later false a b e = refl
 
 -- one more, where none so far ends the run
-stops_more : (stop : Bool) (os : List Outcome) (o : Outcome) → (stop && any_refused os) ≡ false → StopsAtRefusal stop os → StopsAtRefusal stop (os ++ o ∷ [])
+stops_more : (stop : Bool) (os : List Outcome) (o : Outcome) → (stop && any_refused os) ≡ false → StopsAtFault stop os → StopsAtFault stop (os ++ o ∷ [])
 stops_more stop [] o n h = (λ _. refl, tt)
 stops_more stop (k ∷ os) o n h = (λ e. absurd (no_refusal stop (is_err k) (any_refused os) n e), stops_more stop os o (none_later stop (is_err k) (any_refused os) n) h.1)
 
@@ -64,7 +64,7 @@ is_refused (Err f) e = refl
 pub record Answered (stop : Bool) (s : State) (records : List (List Field)) (t : State) (before later : Known) (end : Status) : Type 0 where
   pub outcomes : List Outcome
   pub each : SoundOutcomes s records outcomes t
-  pub stops : StopsAtRefusal stop outcomes
+  pub stops : StopsAtFault stop outcomes
   pub all : length outcomes ≡ length records
   pub wrote : Appends before later (texts outcomes)
   pub goes_on : (stop && any_refused outcomes) ≡ false

@@ -2,7 +2,7 @@
 --     records_of input      the records of the bytes read
 --     RecordOutcome s fields o t      what a record answers: by its command, by its own fault, or by want of memory to read it
 --     Outcomes s rs os t      the first records answer so, one after another, from s to t
---     spelled fields      the command that a record spells.        Claims s rs os t      what is claimed of such a run
+--     command_spelled fields      the command that a record spells.        Claims s rs os t      what is claimed of such a run
 --     Ran Each stop s rs t written status      a whole run.        Faulted Each stop s rs t written      a run that was cut off
 use Rattle.std.specs.Prelude.{◌≡◌, ◌^◌, ℕ, Bool, ◌&&◌, List, [], ◌∷◌, ◌++◌, length, flat_map, is_err, Option, Result, Ok, Err, ◌⊎◌, IsTrue, IsFalse, if◌then◌else◌, ⊤}
 use Rattle.std.specs.Result.{result_ok}
@@ -45,17 +45,17 @@ abbrev pub SoundOutcomes : State → List (List Field) → List Outcome → Stat
 SoundOutcomes s rs os t = Run SoundOutcome s rs os t
 
 -- the command that a record spells
-abbrev pub spelled : List Field → Option Command
-spelled fields = result_ok (read fields)
+abbrev pub command_spelled : List Field → Option Command
+command_spelled fields = result_ok (read fields)
 
 -- and the four claims hold of the commands that they spell
 abbrev pub Claims : State → List (List Field) → List Outcome → State → Type 0
-Claims s rs os t = Headline SoundOutcome spelled s rs os t
+Claims s rs os t = Headline SoundOutcome command_spelled s rs os t
 
 -- none after a fault where stop is set
-abbrev pub StopsAtRefusal : Bool → List Outcome → Type 0
-StopsAtRefusal stop [] = ⊤
-StopsAtRefusal stop (o ∷ os) = (IsTrue (stop && is_err o) → os ≡ []) × StopsAtRefusal stop os
+abbrev pub StopsAtFault : Bool → List Outcome → Type 0
+StopsAtFault stop [] = ⊤
+StopsAtFault stop (o ∷ os) = (IsTrue (stop && is_err o) → os ≡ []) × StopsAtFault stop os
 
 abbrev pub any_refused : List Outcome → Bool
 any_refused os = list_any is_err os
@@ -78,7 +78,7 @@ run_status stop os = if any_refused os then (if stop then Stopped else Some_refu
 pub record Ran (Each : State → List (List Field) → List Outcome → State → Type 0) (stop : Bool) (s : State) (rs : List (List Field)) (t : State) (written : List ℕ) (end : Status) : Type 0 where
   pub outcomes : List Outcome
   pub each : Each s rs outcomes t
-  pub stops : StopsAtRefusal stop outcomes
+  pub stops : StopsAtFault stop outcomes
   pub all : AreAll stop rs outcomes
   pub wrote : written ≡ texts outcomes
   pub ended : end ≡ run_status stop outcomes
@@ -91,7 +91,7 @@ pub data CutOff (os : List Outcome) (written : List ℕ) : Type 0 where
 pub record Faulted (Each : State → List (List Field) → List Outcome → State → Type 0) (stop : Bool) (s : State) (rs : List (List Field)) (t : State) (written : List ℕ) : Type 0 where
   pub outcomes : List Outcome
   pub each : Each s rs outcomes t
-  pub stops : StopsAtRefusal stop outcomes
+  pub stops : StopsAtFault stop outcomes
   pub wrote : CutOff outcomes written
 
 -- the greater of two statuses

@@ -44,7 +44,7 @@ fn names_no_path(reply: &Reply) -> bool
 }
 
 /// The lines of a reply. Where it names paths or tells more they are made in `text`, whose room is kept.
-fn lines_of<'a>(text: &'a mut Vec<u8>, reply: &Reply) -> Result<&'a [u8], AllocError>
+fn reply_lines<'a>(text: &'a mut Vec<u8>, reply: &Reply) -> Result<&'a [u8], AllocError>
     ensures { IfOk result (λ lines. lines.now ≡ reply_text (reply_of reply.now)) }
 {
     if names_no_path(reply) {
@@ -66,7 +66,7 @@ fn write_answer<W: Write>(
 {
     match answer {
         Ok(reply) => {
-            let lines = lines_of(text, reply)?;
+            let lines = reply_lines(text, reply)?;
             write_all(output, lines)?;
             Ok(true)
         }

@@ -2,7 +2,7 @@ ghost use Rattle.std.specs.Prelude.{IfOk};
 ghost use Rattle.olr_commands.specs.State.{NamesDiffer};
 ghost use Rattle.olr_paths.specs.Items.{items, all_named};
 ghost use Rattle.olr_paths.specs.Changes.{Follows};
-ghost use Rattle.olr_paths.specs.Laying.{overlaid};
+ghost use Rattle.olr_paths.specs.Laying.{under_overlay};
 
 use crate::{ChangedLine, Listing, Overlay, Searches, Touched};
 use olr_commands::Entry;
@@ -74,8 +74,8 @@ fn with_one_more(
     name: &str,
     number: u32,
 ) -> Result<Overlay, Fail>
-    ensures names { IfOk result (λ o. NamesDiffer (all_named (overlaid (items list.now) o))) }
-    ensures follows { IfOk result (λ o. Follows (items list.now) (overlaid (items list.now) o)) }
+    ensures names { IfOk result (λ o. NamesDiffer (all_named (under_overlay (items list.now) o))) }
+    ensures follows { IfOk result (λ o. Follows (items list.now) (under_overlay (items list.now) o)) }
 {
     let _names = list.len();
     let mut overlay = Overlay::new(alloc);

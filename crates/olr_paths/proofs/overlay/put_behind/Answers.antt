@@ -1,7 +1,7 @@
 use Rattle.std.proofs.Common.{◌≡◌, ◌∷◌, [], ◌++◌, ◌∙◌, ℕ, List, Some, slice_get, refl, ap, sym, subst}
 use Rattle.olr_paths.specs.Items.{Item, items}
 use Rattle.olr_paths.specs.Renewing as renewing
-use Rattle.olr_paths.specs.Laying.{one_laid, change_at, changes_in}
+use Rattle.olr_paths.specs.Laying.{under_change, change_at, changes_in}
 use Rattle.olr_paths.proofs.NamedEntries.{item_of, item_at, absent}
 use Rattle.olr_paths.proofs.Overlaying.{put_free, laid_more}
 use Rattle.olr_paths.proofs.overlay.put_behind.Goals as goal
@@ -16,7 +16,7 @@ put_one-requires c =
     let at : slice_get is c.loop-k.k ≡ Some i = item_at c.args.list.now.paths.entries c.loop-k.k (c.in-Some.name.now, named) (sym c.in-Some.ensures.entry) in
     subst (λ (q : List ℕ). absent (items c.loop-k.to) q) (sym c.as_str.ensures.value)
     (put_free cs is (items c.args.to.now) c.loop-k.k i at (items c.loop-k.to) named j c.loop-k.invariant
-    (subst (λ (q : List ℕ). one_laid (change_at cs q) (renewing.item_of q named) ≡ j ∷ []) c.as_str.ensures.value one) refl c.requires)
+    (subst (λ (q : List ℕ). under_change (change_at cs q) (renewing.item_of q named) ≡ j ∷ []) c.as_str.ensures.value one) refl c.requires)
 
 pub loop-k-preserved : goal.loop-k-preserved
 loop-k-preserved c =
@@ -26,6 +26,6 @@ loop-k-preserved c =
     let i : Item = item_of (c.in-Some.name.now, named) in
     let at : slice_get is c.loop-k.k ≡ Some i = item_at c.args.list.now.paths.entries c.loop-k.k (c.in-Some.name.now, named) (sym c.in-Some.ensures.entry) in
     c.in_ok-put_one.ensures
-    ∙ ap (λ (q : List ℕ). items c.loop-k.to ++ one_laid (change_at cs q) (renewing.item_of q named)) c.as_str.ensures.value
-    ∙ ap (λ (js : List Item). js ++ one_laid (change_at cs i.name) i) c.loop-k.invariant
+    ∙ ap (λ (q : List ℕ). items c.loop-k.to ++ under_change (change_at cs q) (renewing.item_of q named)) c.as_str.ensures.value
+    ∙ ap (λ (js : List Item). js ++ under_change (change_at cs i.name) i) c.loop-k.invariant
     ∙ sym (laid_more cs is (items c.args.to.now) c.loop-k.k i at)

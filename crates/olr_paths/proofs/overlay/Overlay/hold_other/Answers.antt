@@ -1,6 +1,6 @@
 use Rattle.std.proofs.Common.{◌≡◌, Some, false, ap, sym}
 use Rattle.olr_paths.specs.Items.{items}
-use Rattle.olr_paths.specs.Laying.{changes_in, changes_of, laid}
+use Rattle.olr_paths.specs.Laying.{changes_in, changes_of, under_changes}
 use Rattle.olr_paths.proofs.Overlaying.{has_name, set_if_ok, set_before, laid_set, not_dropped, puts_one}
 use Rattle.olr_paths.proofs.overlay.Overlay.hold_other.Goals as goal
 
@@ -19,4 +19,4 @@ returns-clause-ok c =
     let ds = changes_in c.insert.new.self.entries in
     let free : has_name ys name ≡ false = sym c.if-has.ensures in
     let puts = puts_one s.changes.entries c.insert.new.self.entries c.in_ok-from_str.field-0 (Some c.in_ok-other.other) name (Some path) c.in_ok-insert.ensures.entries c.in_ok-from_str.ensures.ok (ap (λ p. Some p) c.in_ok-other.ensures.ok) in
-    set_before name path (laid (changes_of s) is) ys (laid ds is) (laid_set (changes_of s) ds name path is puts (not_dropped (changes_of s) is ys name there free)) free
+    set_before name path (under_changes (changes_of s) is) ys (under_changes ds is) (laid_set (changes_of s) ds name path is puts (not_dropped (changes_of s) is ys name there free)) free

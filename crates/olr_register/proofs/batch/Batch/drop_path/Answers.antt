@@ -2,7 +2,7 @@ use Rattle.std.proofs.Common.{not, refl, sym}
 use Rattle.olr_commands.specs.State.{same_name, Drop_path}
 use Rattle.olr_map.specs.RoadMaps.{map_of, map_before}
 use Rattle.olr_paths.specs.Items.{items}
-use Rattle.olr_paths.specs.Laying.{overlaid}
+use Rattle.olr_paths.specs.Laying.{under_overlay}
 use Rattle.olr_paths.specs.Touching.{nodes_of, lines_of}
 use Rattle.olr_paths.proofs.Beginning.{begins_drop}
 use Rattle.olr_register.proofs.Listed.{any_drop}
@@ -15,7 +15,7 @@ pub returns-then-not-has-clause-given : goal.returns-then-not-has-clause-given
 returns-then-not-has-clause-given c =
     λ roads.
     let b = c.args.self.now in
-    let is = overlaid (items c.args.list.now) b.overlay in
+    let is = under_overlay (items c.args.list.now) b.overlay in
     given_told (map_of roads) is is b.count (nodes_of b.touched) (lines_of b.touched) (Drop_path c.args.name.now) _ (sym c.if-is_full.ensures)
     (drop_missing (map_of roads) is c.args.name.now (sym c.if-not-has.ensures)) refl
 
@@ -23,8 +23,8 @@ pub returns-in-Ok-clause-given : goal.returns-in-Ok-clause-given
 returns-in-Ok-clause-given c =
     λ roads.
     let b = c.args.self.now in
-    let is = overlaid (items c.args.list.now) b.overlay in
-    given_held_path (map_of roads) is _ (overlaid (items c.args.list.now) c.drop_path.new.self) b.count (nodes_of b.touched) (lines_of b.touched) (Drop_path c.args.name.now) _ (sym c.if-is_full.ensures)
+    let is = under_overlay (items c.args.list.now) b.overlay in
+    given_held_path (map_of roads) is _ (under_overlay (items c.args.list.now) c.drop_path.new.self) b.count (nodes_of b.touched) (lines_of b.touched) (Drop_path c.args.name.now) _ (sym c.if-is_full.ensures)
     (drop_ok (map_of roads) is c.args.name.now (sym c.if-not-has.ensures)) (c.in-Ok.ensures.ok (items c.args.list.now) c.requires) refl refl (λ names g. given_drop c.args.name.now names is g) refl
 
 pub returns-in-Ok-clause-held : goal.returns-in-Ok-clause-held
@@ -32,7 +32,7 @@ returns-in-Ok-clause-held c =
     λ roads h.
     let b = c.args.self.now in
     let before = items c.args.list.now in
-    let is = overlaid before b.overlay in
+    let is = under_overlay before b.overlay in
     held_path roads before b c.drop_path.new.self _ (Drop_path c.args.name.now) (c.in-Ok.ensures.ok before c.requires) (sym c.if-is_full.ensures)
     (drop_ok (map_of roads) is c.args.name.now (sym c.if-not-has.ensures)) tt
     (any_drop (map_before roads b.log) is c.args.name.now h.made) (follows_drop before is c.args.name.now h.follows) (begins_drop (λ i. not (same_name i.name c.args.name.now)) is) h
@@ -42,7 +42,7 @@ returns-in-Err-clause-given c =
     λ roads.
     let b = c.args.self.now in
     let before = items c.args.list.now in
-    given_not_dropped (map_of roads) (overlaid before b.overlay) (overlaid before c.drop_path.new.self) b.count (nodes_of b.touched) (lines_of b.touched) c.args.name.now (sym c.if-is_full.ensures)
+    given_not_dropped (map_of roads) (under_overlay before b.overlay) (under_overlay before c.drop_path.new.self) b.count (nodes_of b.touched) (lines_of b.touched) c.args.name.now (sym c.if-is_full.ensures)
     (sym c.if-not-has.ensures) (c.in-Err.ensures.err before)
 
 pub returns-in-Err-clause-held : goal.returns-in-Err-clause-held

@@ -2,7 +2,7 @@ use Rattle.std.proofs.Common.{refl, sym, ◌∙◌}
 use Rattle.olr_commands.specs.State.{Commit}
 use Rattle.olr_map.specs.RoadMaps.{map_of, map_before}
 use Rattle.olr_paths.specs.Items.{items}
-use Rattle.olr_paths.specs.Laying.{overlaid}
+use Rattle.olr_paths.specs.Laying.{under_overlay}
 use Rattle.olr_paths.specs.Touching.{nodes_of}
 use Rattle.olr_register.specs.Holding.{map_kept}
 use Rattle.olr_register.proofs.BatchEnds.{none_refused}
@@ -38,7 +38,7 @@ invariant_of-self-2 c =
     let s = c.self.inside in
     let before = commit_before s.roads (items s.paths) s.batch c.in-Some.batch (sym c.in-Some.ensures.value) c.self.invariant.register in
     let held = commit_from s.roads (items s.paths) s.batch c.in-Some.batch (sym c.in-Some.ensures.value) c.self.invariant.register in
-    let laid = overlaid (items s.paths) c.in-Some.batch.overlay in
+    let laid = under_overlay (items s.paths) c.in-Some.batch.overlay in
     let was = commit_numbered s.roads (items s.paths) s.batch c.in-Some.batch s.near (sym c.in-Some.ensures.value) held c.self.invariant.numbered in
     let now = numbered_asked (map_before s.roads c.in-Some.batch.log) (map_of s.roads) laid (nodes_of c.in-Some.batch.touched) c.nodes.result.now s.near c.ask_near-far.new.near c.nodes.ensures held.noted.difference.nodes was
     c.ask_near-far.ensures.right c.ask_near-far.ensures.sources in
@@ -66,7 +66,7 @@ renew_over-requires c =
       names = held.sound.names;
       follows = held.follows;
       far = λ on.
-          far_looks (map_before s.roads c.in-Some.batch.log) (map_of s.roads) (overlaid (items s.paths) c.in-Some.batch.overlay) (nodes_of c.in-Some.batch.touched) c.nodes.result.now s.near c.ask_near-far.new.near c.nodes.ensures
+          far_looks (map_before s.roads c.in-Some.batch.log) (map_of s.roads) (under_overlay (items s.paths) c.in-Some.batch.overlay) (nodes_of c.in-Some.batch.touched) c.nodes.result.now s.near c.ask_near-far.new.near c.nodes.ensures
           held.noted.difference.nodes was c.ask_near-far.ensures.right c.ask_near-far.ensures.sources (c.ask_near-far.ensures.far on);
     }
 
