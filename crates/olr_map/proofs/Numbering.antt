@@ -142,11 +142,6 @@ module _ {X : Type 0} (b : ByNumber) (es : List (Option X)) (s : HaveSlots b es)
           apart = λ j k q h i. s.apart j k q (left j q h).1 (left k q i).1;
         }
 
--- ---- the same slots, told by another index
-
-pub same_slots : {X : Type 0} (b b' : ByNumber) (es : List (Option X)) → ((k : ℕ) → found b' k ≡ found b k) → HaveSlots b es → HaveSlots b' es
-same_slots b b' es same s = record { stands = λ v p h. s.stands v p (sym (same v) ∙ h); apart = λ v w p h i. s.apart v w p (sym (same v) ∙ h) (sym (same w) ∙ i) }
-
 -- ---- as a list
 
 module _ {X : Type 0} where
