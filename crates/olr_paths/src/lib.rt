@@ -15,8 +15,6 @@ pub mod overlay;
 pub mod published;
 pub mod renewal;
 pub mod searches;
-#[cfg(test)]
-mod tests;
 pub mod touched;
 
 pub use listing::Listing;

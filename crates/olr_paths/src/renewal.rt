@@ -36,9 +36,6 @@ use std::alloc::{AllocError, Global};
 use std::mem;
 use std::rc::Rc;
 
-#[cfg(test)]
-mod tests;
-
 /// What is to be done with a path.
 #[derive(Clone, Copy)]
 enum Fate {

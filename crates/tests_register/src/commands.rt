@@ -1,8 +1,8 @@
 //! Commands over a worked map, with texts and counts from outside.
 
 use crate::worked::{
-    TEXT, WITH_TEXT, add, edits, ends, expect_counts, expect_text, names, refuses, road, tells,
-    three_points,
+    TEXT, WITH_TEXT, add, edits, ends, expect_counts, expect_names, expect_text, names, refuses,
+    road, tells, three_points,
 };
 use made_maps::{FIRST, SECOND, STRAIGHT, line, new_node, node, other_line, place, plain_line};
 use olr_commands::{Command, CommandFault, Reply};
@@ -18,9 +18,7 @@ const ALONE: &str = "CwRbWyNG9RpsCQCb/jsaHA==";
 
 /// That the worked path stands alone in the register, with its answer and text.
 fn expect_worked(rt: &impl Abort, register: &Register) {
-    assert_eq!(rt; register.len(), 1);
-    assert_eq!(rt; register.name_at(0), Some("a"));
-    assert_eq!(rt; register.name_at(1), None);
+    expect_names(rt, register, &["a"]);
     expect_text(rt, register, "a", Some(TEXT));
     expect_text(rt, register, "b", None);
     assert!(rt; matches!(register.answer("a"), Some(Answer::Points(_))));
@@ -80,12 +78,12 @@ fn each_edit_is_counted(rt: HostRuntime) {
     let mut register = three_points(&rt, rt.alloc());
     add_far(&rt, rt.alloc(), &mut register);
     let added = add(&rt, rt.alloc(), "e", &[50], 0);
-    names(&rt, &mut register, added, "e");
+    names(&rt, &mut register, added, &["e"]);
     expect_counts(&rt, &register, 2, 0);
-    names(&rt, &mut register, longer(&rt, rt.alloc()), "e");
+    names(&rt, &mut register, longer(&rt, rt.alloc()), &["e"]);
     expect_counts(&rt, &register, 3, 0);
     let dropped = Command::Edit(Edit::DropLine(line(99)));
-    names(&rt, &mut register, dropped, "a");
+    names(&rt, &mut register, dropped, &["a"]);
     ends(&rt, register, 4, 0);
 }
 

@@ -8,4 +8,8 @@ mod commands;
 #[cfg(test)]
 mod kept;
 #[cfg(test)]
+mod listing;
+#[cfg(test)]
+mod paths;
+#[cfg(test)]
 mod worked;

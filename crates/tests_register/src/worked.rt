@@ -30,6 +30,18 @@ pub(crate) fn add(
     Command::AddPath(name, lines, pos, 0)
 }
 
+/// The command that gives a path other lines, without offsets.
+pub(crate) fn change_path(rt: &impl Abort, alloc: Global, name: &str, numbers: &[u32]) -> Command {
+    let name = String::from_str(alloc, name).expect(rt, "memory");
+    let lines = lines(alloc, numbers).expect(rt, "memory");
+    Command::SetPath(name, lines, 0, 0)
+}
+
+/// The command that drops a path.
+pub(crate) fn drop_path(rt: &impl Abort, alloc: Global, name: &str) -> Command {
+    Command::DropPath(String::from_str(alloc, name).expect(rt, "memory"))
+}
+
 /// The command that adds the worked path.
 pub(crate) fn worked_path(rt: &impl Abort, alloc: Global) -> Command {
     add(rt, alloc, "a", &[10, 20, 30], 1500)
@@ -77,15 +89,18 @@ pub(crate) fn edits(rt: &impl Abort, register: &mut Register, edit: Edit) {
     tells(rt, register, Command::Edit(edit), &[]);
 }
 
-/// Applies a command, which has to be accepted and to tell this path alone, with whatever answer.
-pub(crate) fn names(rt: &impl Abort, register: &mut Register, command: Command, name: &str) {
+/// That the entries are those of these names, in this order.
+fn expect_named(rt: &impl Abort, entries: &[Entry], names: &[&str]) {
+    assert_eq!(rt; entries.len(), names.len());
+    for (entry, name) in entries.iter().zip(names) {
+        assert_eq!(rt; entry.name.as_str(), *name);
+    }
+}
+
+/// Applies a command, which has to be accepted and to tell the paths of these names, with whatever answers.
+pub(crate) fn names(rt: &impl Abort, register: &mut Register, command: Command, names: &[&str]) {
     match register.apply(command) {
-        Ok(Reply::Paths(entries)) => {
-            assert_eq!(rt; entries.len(), 1);
-            for entry in &entries {
-                assert_eq!(rt; entry.name.as_str(), name);
-            }
-        }
+        Ok(Reply::Paths(entries)) => expect_named(rt, &entries, names),
         _ => panic!(rt; "not accepted"),
     }
 }
@@ -112,6 +127,15 @@ pub(crate) fn refuses(
 /// That this is the text published under a name.
 pub(crate) fn expect_text(rt: &impl Abort, register: &Register, name: &str, text: Option<&str>) {
     assert_eq!(rt; register.text(name), text, "of {name}");
+}
+
+/// That these are the names of the paths, in this order.
+pub(crate) fn expect_names(rt: &impl Abort, register: &Register, names: &[&str]) {
+    assert_eq!(rt; register.len(), names.len());
+    for (k, name) in names.iter().enumerate() {
+        assert_eq!(rt; register.name_at(k), Some(*name));
+    }
+    assert_eq!(rt; register.name_at(names.len()), None);
 }
 
 /// That so many paths were encoded or kept their answer, and so many kept it.
