@@ -18,3 +18,4 @@ pub mod LookLengths
 pub mod KeptLemmas
 pub mod Through
 pub mod Covering
+pub mod Yielded

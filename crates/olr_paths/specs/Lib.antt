@@ -7,3 +7,4 @@ pub mod Renewing
 pub mod Candidates
 pub mod Laying
 pub mod Beginning
+pub mod Yielding

@@ -10,6 +10,7 @@ pub mod encoding;
 pub mod entries;
 pub mod finder;
 pub mod giving;
+pub mod iter;
 pub mod listing;
 pub mod overlay;
 pub mod published;
@@ -17,6 +18,7 @@ pub mod renewal;
 pub mod searches;
 pub mod touched;
 
+pub use iter::Iter;
 pub use listing::Listing;
 pub use overlay::Overlay;
 pub use published::Published;

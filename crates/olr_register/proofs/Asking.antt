@@ -12,7 +12,7 @@ use Rattle.olr_commands.specs.State.{Named, Content, IsContent, same_name, path_
 use Rattle.olr_commands.specs.Reply.{Entry, entry, Published, PublishedText, published_text, Shown, AllOf}
 use Rattle.olr_paths.specs.Items.{Made, Item, IsEncodingOf, AreEncodings, all_named, made_in, answer_in}
 use Rattle.olr_paths.specs.Changes.{AreEncoded, Reported}
-use Rattle.olr_register.specs.Registered.{PublishedWhole}
+use Rattle.olr_register.specs.Registered.{PublishedWhole, HaveEncodings, AllPublished}
 use Rattle.olr_register.specs.Holding.{map_kept}
 use Rattle.olr_register.specs.declared.batch.Batch.{Batch}
 use Rattle.olr_register.proofs.Replies.{answer_held, reported_all}
@@ -84,6 +84,17 @@ shown_entry M is c name A es e sound made there told =
 
 pub all_told : (M : Map) (is : List Item) (c : Content) (es : List Entry) → record { map = M; paths = all_named is } ≡ c → AreEncodings M is → Reported [] is es → AllOf c.map c.paths es
 all_told M is c es e made told = subst (λ (d : Content). AllOf d.map d.paths es) e (reported_all M is es made told)
+
+with_encodings : (M : Map) (is : List Item) → AreEncodings M is → HaveEncodings M (all_named is) (map {B = List ℕ × Option Made} (λ (i : Item). (i.name, i.made)) is)
+with_encodings M [] made = refl
+with_encodings M (i ∷ is) made =
+    let rest : List (List ℕ × Option Made) = map (λ (j : Item). (j.name, j.made)) is in
+    let with_made : Option Made → List (List ℕ × Option Made) = λ o. (i.name, o) ∷ rest in
+    (made.0.0, rest, made.0.2, with_encodings M is made.1, ap with_made made.0.1)
+
+pub all_published : (M : Map) (is : List Item) (c : Content) (xs : List (List ℕ × Option Made)) → record { map = M; paths = all_named is } ≡ c → AreEncodings M is
+    → xs ≡ map {B = List ℕ × Option Made} (λ (i : Item). (i.name, i.made)) is → AllPublished c xs
+all_published M is c xs e made there = subst (λ (d : Content). AllPublished d xs) e (subst (HaveEncodings M (all_named is)) (sym there) (with_encodings M is made))
 
 -- ---- the footprint of a path, where no batch is open
 

@@ -1,13 +1,15 @@
 -- A register as its callers see it, and what its calls promise of whole commands.
 --     Registered      what is held of the state, and the counts: the work, and how many of the counted encodings were spared
 --     PublishedWhole c name made      what is published under a name, with its own nodes and looks
+--     AllPublished c xs      the names of all paths, each with what is published under it, in order
 --     Applied old c o new      from each state in which it stood, the command leads with this outcome to one in which it stands
 --     Counted old c new      by how much an accepted command raises the count of encodings
-use Rattle.std.specs.Prelude.{◌≡◌, ℕ, ◌+◌, ◌<◌, ◌^◌, List, Option, None, MatchOption, IsSomeAnd}
+use Rattle.std.specs.Prelude.{◌≡◌, ℕ, ◌+◌, ◌<◌, ◌^◌, List, Option, Some, None, [], ◌∷◌, MatchOption, IsSomeAnd}
 use Rattle.std.specs.Coded.{Coded, code_by, coded_ℕ, coded×}
 use Rattle.std.proofs.Common.{refl}
+use Rattle.olr_spec.specs.Map.{Map}
 use Rattle.olr_route.specs.declared.work.Work.{Work}
-use Rattle.olr_commands.specs.State.{State, Content, no_content, path_named, Command}
+use Rattle.olr_commands.specs.State.{State, Content, Named, no_content, path_named, Command}
 use Rattle.olr_commands.specs.Reply.{Outcome, IsOutcome}
 use Rattle.olr_commands.specs.Counts.{Raises}
 use Rattle.olr_paths.specs.Items.{Made, IsEncodingOf}
@@ -36,6 +38,13 @@ nothing_registered =
 -- an encoding of the path on the map
 abbrev pub PublishedWhole : Content → List ℕ → Option Made → Type 0
 PublishedWhole c name made = MatchOption (path_named c.paths name) (made ≡ None) (λ P. IsSomeAnd made (IsEncodingOf c.map P))
+
+abbrev pub HaveEncodings : Map → List Named → List (List ℕ × Option Made) → Type 0
+HaveEncodings M [] xs = xs ≡ []
+HaveEncodings M (p ∷ ps) xs = (m : Made) × (rest : List (List ℕ × Option Made)) × IsEncodingOf M p.path m × HaveEncodings M ps rest × (xs ≡ (p.name, Some m) ∷ rest)
+
+abbrev pub AllPublished : Content → List (List ℕ × Option Made) → Type 0
+AllPublished c xs = HaveEncodings c.map c.paths xs
 
 abbrev pub Applied : Registered → Command → Outcome → Registered → Type 0
 Applied old c o new = (s : State) → Stands old.kept s → (t : State) × Stands new.kept t × IsOutcome s c o t

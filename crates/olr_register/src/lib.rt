@@ -12,5 +12,5 @@ mod questions;
 pub mod register;
 
 pub use applying::replay;
-pub use olr_paths::Published;
+pub use olr_paths::{Iter, Published};
 pub use register::Register;

@@ -3,7 +3,7 @@
 use crate::batch::Batch;
 use olr_map::RoadMap;
 use olr_near::Nearness;
-use olr_paths::{Listing, Searches, Touched};
+use olr_paths::{Iter, Listing, Searches, Touched};
 use olr_refs::Answer;
 use olr_route::Work;
 use std::alloc::Global;
@@ -46,7 +46,8 @@ impl Register {
     ghost use Rattle.std.specs.Prelude.{◌≡◌, ◌↔◌, length, map, option_map, is_some, slice_get, IsTrue};
     ghost use Rattle.olr_commands.specs.Reply.{Published, PublishedText};
     ghost use Rattle.olr_refs.specs.Answers.{answer_of};
-    ghost use Rattle.olr_register.specs.Registered.{nothing_registered};
+    ghost use Rattle.olr_paths.specs.Yielding.{left};
+    ghost use Rattle.olr_register.specs.Registered.{AllPublished, nothing_registered};
 
     /// The register of no map and no paths. Takes no memory.
     pub fn new(alloc: Global) -> Register
@@ -105,6 +106,14 @@ impl Register {
             ≡ slice_get (map (λ p. p.name) self.now.kept.content.paths) k }
     {
         self.paths.name_at(k)
+    }
+
+    /// The names of all paths in the order of their registration, each with what is published of it. An open batch is left
+    /// out of account.
+    pub fn iter(&self) -> Iter<'_>
+        ensures { AllPublished self.now.kept.content (left result) }
+    {
+        self.paths.iter()
     }
 
     /// Whether a batch is open.
