@@ -6,6 +6,7 @@ pub mod Matching
 pub mod SlotLemmas
 pub mod Blocking
 pub mod Numbering
+pub mod ColumnLemmas
 pub mod Indexing
 pub mod Undoing
 pub mod LineLists

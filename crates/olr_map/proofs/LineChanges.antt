@@ -11,7 +11,7 @@ use Rattle.olr_spec.proofs.EditLemmas.{edits_keep}
 use Rattle.olr_spec.proofs.MapLemmas.{has-lines_where, passes_at}
 use Rattle.olr_map.specs.ByNumbers.{found}
 use Rattle.olr_map.specs.Slotted.{at, Turns}
-use Rattle.olr_map.specs.Slabs.{slots_of, room_in}
+use Rattle.olr_map.specs.Columns.{node_slots, node_room}
 use Rattle.olr_map.specs.NodeLinks.{links_at, relinked}
 use Rattle.olr_map.specs.Linked.{lines_on, spare_links, IsLinked, IsUnlinked, IsReset}
 use Rattle.olr_map.specs.Kept.{near, far, node_in, links_in, map_from, place_in, end_at, IsListed, IsIndexed, IsKept}
@@ -20,12 +20,12 @@ use Rattle.olr_map.specs.declared.by_number.ByNumber.{ByNumber}
 use Rattle.olr_map.specs.declared.links.Links.{Links}
 use Rattle.olr_map.specs.declared.read.LineEnd.{LineEnd}
 use Rattle.olr_map.specs.declared.slots.NodeEntry.{NodeEntry}
-use Rattle.olr_map.specs.declared.slab.Slab.{Slab}
+use Rattle.olr_map.specs.declared.slots.NodeSlots.{NodeSlots}
 use Rattle.olr_map.specs.declared.slots.Side.{Side}
 use Rattle.olr_map.specs.declared.slots.Side.TheVariants.{Out, In}
 use Rattle.olr_map.specs.declared.tables.Tables.{Tables}
 use Rattle.olr_map.specs.declared.change.Change.TheVariants.{PutLine, SetLine, TakeLine}
-use Rattle.olr_map.proofs.SlotLemmas.{few_slots}
+use Rattle.olr_map.proofs.ColumnLemmas.{few_nodes}
 use Rattle.olr_map.proofs.Looks.{map_cond, map_or_cond, got_insert, got_remove, same_answers}
 use Rattle.olr_map.proofs.Indexing.{entry_of, turned_node, turned_indexed}
 use Rattle.olr_map.proofs.Listing.{rises_at, seen, put_here, put_other, take_here, take_other, set_here, set_other}
@@ -41,13 +41,13 @@ use Rattle.olr_map.proofs.Undoing.{record_of, some_is, none_is}
 
 -- ---- both ends of a line have other lists
 
-pub record Relinked (t : Tables) (nodes' : Slab NodeEntry) (from to : ℕ) (o o' i i' : Links) : Type 0 where
-  pub indexed : IsIndexed t.index (slots_of nodes')
-  pub nodes : (k : ℕ) → option_map place_of (node_in t.index (slots_of nodes') k) ≡ option_map place_of (node_in t.index (slots_of t.nodes) k)
-  pub out_was : links_in Out t.index (slots_of t.nodes) from ≡ Some o
-  pub out_now : (k : ℕ) → links_in Out t.index (slots_of nodes') k ≡ cond (from == k) (Some o') (links_in Out t.index (slots_of t.nodes) k)
-  pub in_was : links_in In t.index (slots_of t.nodes) to ≡ Some i
-  pub in_now : (k : ℕ) → links_in In t.index (slots_of nodes') k ≡ cond (to == k) (Some i') (links_in In t.index (slots_of t.nodes) k)
+pub record Relinked (t : Tables) (nodes' : NodeSlots) (from to : ℕ) (o o' i i' : Links) : Type 0 where
+  pub indexed : IsIndexed t.index (node_slots nodes')
+  pub nodes : (k : ℕ) → option_map place_of (node_in t.index (node_slots nodes') k) ≡ option_map place_of (node_in t.index (node_slots t.nodes) k)
+  pub out_was : links_in Out t.index (node_slots t.nodes) from ≡ Some o
+  pub out_now : (k : ℕ) → links_in Out t.index (node_slots nodes') k ≡ cond (from == k) (Some o') (links_in Out t.index (node_slots t.nodes) k)
+  pub in_was : links_in In t.index (node_slots t.nodes) to ≡ Some i
+  pub in_now : (k : ℕ) → links_in In t.index (node_slots nodes') k ≡ cond (to == k) (Some i') (links_in In t.index (node_slots t.nodes) k)
 
 -- a function of the entries that the change of one leaves
 kept_by : {Y : Type 0} (fn : NodeEntry → Y) (N N' : ℕ → Option NodeEntry) (v : ℕ) (e f : NodeEntry) → N v ≡ Some e → ((k : ℕ) → N' k ≡ cond (v == k) (Some f) (N k)) → fn f ≡ fn e
@@ -60,55 +60,55 @@ kept_by fn N N' v e f was now same k =
     ] refl
 
 module _ (t : Tables) (from p : ℕ) (here : found t.index from ≡ Some p) where
-  pub first_entry : (e : NodeEntry) × (at (slots_of t.nodes) p ≡ Some e)
-  first_entry = entry_of t.index (slots_of t.nodes) t.kept.indexed from p here
+  pub first_entry : (e : NodeEntry) × (at (node_slots t.nodes) p ≡ Some e)
+  first_entry = entry_of t.index (node_slots t.nodes) t.kept.indexed from p here
 
-  pub first_links : (side : Side) (e : NodeEntry) → at (slots_of t.nodes) p ≡ Some e → links_in side t.index (slots_of t.nodes) from ≡ Some (links_at side e)
-  first_links side e is = ap (option_map (links_at side)) (ap (in_slot (slots_of t.nodes)) here ∙ is)
+  pub first_links : (side : Side) (e : NodeEntry) → at (node_slots t.nodes) p ≡ Some e → links_in side t.index (node_slots t.nodes) from ≡ Some (links_at side e)
+  first_links side e is = ap (option_map (links_at side)) (ap (in_slot (node_slots t.nodes)) here ∙ is)
 
-  module _ (mid : Slab NodeEntry) (e : NodeEntry) (l : Links) (g : Turns (slots_of t.nodes) (slots_of mid) p e (relinked Out e l)) where
-    mid_indexed : IsIndexed t.index (slots_of mid)
-    mid_indexed = turned_indexed t.index (slots_of t.nodes) t.kept.indexed (slots_of mid) p from e (relinked Out e l) g here refl
+  module _ (mid : NodeSlots) (e : NodeEntry) (l : Links) (g : Turns (node_slots t.nodes) (node_slots mid) p e (relinked Out e l)) where
+    mid_indexed : IsIndexed t.index (node_slots mid)
+    mid_indexed = turned_indexed t.index (node_slots t.nodes) t.kept.indexed (node_slots mid) p from e (relinked Out e l) g here refl
 
-    mid_node : (k : ℕ) → node_in t.index (slots_of mid) k ≡ cond (from == k) (Some (relinked Out e l)) (node_in t.index (slots_of t.nodes) k)
-    mid_node = turned_node t.index (slots_of t.nodes) t.kept.indexed (slots_of mid) p from e (relinked Out e l) g here refl
+    mid_node : (k : ℕ) → node_in t.index (node_slots mid) k ≡ cond (from == k) (Some (relinked Out e l)) (node_in t.index (node_slots t.nodes) k)
+    mid_node = turned_node t.index (node_slots t.nodes) t.kept.indexed (node_slots mid) p from e (relinked Out e l) g here refl
 
-    at_from : node_in t.index (slots_of t.nodes) from ≡ Some e
-    at_from = ap (in_slot (slots_of t.nodes)) here ∙ g.was
+    at_from : node_in t.index (node_slots t.nodes) from ≡ Some e
+    at_from = ap (in_slot (node_slots t.nodes)) here ∙ g.was
 
     module _ (to q : ℕ) (there : found t.index to ≡ Some q) where
-      pub second_entry : (f : NodeEntry) × (at (slots_of mid) q ≡ Some f)
-      second_entry = entry_of t.index (slots_of mid) mid_indexed to q there
+      pub second_entry : (f : NodeEntry) × (at (node_slots mid) q ≡ Some f)
+      second_entry = entry_of t.index (node_slots mid) mid_indexed to q there
 
-      pub second_links : (f : NodeEntry) → at (slots_of mid) q ≡ Some f → links_in In t.index (slots_of t.nodes) to ≡ Some f.ins
+      pub second_links : (f : NodeEntry) → at (node_slots mid) q ≡ Some f → links_in In t.index (node_slots t.nodes) to ≡ Some f.ins
       second_links f is =
-          sym (kept_by (links_at In) (node_in t.index (slots_of t.nodes)) (node_in t.index (slots_of mid)) from e (relinked Out e l) at_from mid_node refl to)
-          ∙ ap (option_map (links_at In)) (ap (in_slot (slots_of mid)) there ∙ is)
+          sym (kept_by (links_at In) (node_in t.index (node_slots t.nodes)) (node_in t.index (node_slots mid)) from e (relinked Out e l) at_from mid_node refl to)
+          ∙ ap (option_map (links_at In)) (ap (in_slot (node_slots mid)) there ∙ is)
 
-      pub both_turned : (nodes' : Slab NodeEntry) (f : NodeEntry) (m : Links) → Turns (slots_of mid) (slots_of nodes') q f (relinked In f m) → Relinked t nodes' from to e.outs l f.ins m
+      pub both_turned : (nodes' : NodeSlots) (f : NodeEntry) (m : Links) → Turns (node_slots mid) (node_slots nodes') q f (relinked In f m) → Relinked t nodes' from to e.outs l f.ins m
       both_turned nodes' f m h =
           let b : ByNumber = t.index in
-          let node : (k : ℕ) → node_in b (slots_of nodes') k ≡ cond (to == k) (Some (relinked In f m)) (node_in b (slots_of mid) k) =
-          turned_node b (slots_of mid) mid_indexed (slots_of nodes') q to f (relinked In f m) h there refl in
-          let at_to : node_in b (slots_of mid) to ≡ Some f = ap (in_slot (slots_of mid)) there ∙ h.was in
+          let node : (k : ℕ) → node_in b (node_slots nodes') k ≡ cond (to == k) (Some (relinked In f m)) (node_in b (node_slots mid) k) =
+          turned_node b (node_slots mid) mid_indexed (node_slots nodes') q to f (relinked In f m) h there refl in
+          let at_to : node_in b (node_slots mid) to ≡ Some f = ap (in_slot (node_slots mid)) there ∙ h.was in
           record {
-            indexed = turned_indexed b (slots_of mid) mid_indexed (slots_of nodes') q to f (relinked In f m) h there refl;
+            indexed = turned_indexed b (node_slots mid) mid_indexed (node_slots nodes') q to f (relinked In f m) h there refl;
             nodes = λ k.
-                kept_by place_of (node_in b (slots_of mid)) (node_in b (slots_of nodes')) to f (relinked In f m) at_to node refl k
-                ∙ kept_by place_of (node_in b (slots_of t.nodes)) (node_in b (slots_of mid)) from e (relinked Out e l) at_from mid_node refl k;
+                kept_by place_of (node_in b (node_slots mid)) (node_in b (node_slots nodes')) to f (relinked In f m) at_to node refl k
+                ∙ kept_by place_of (node_in b (node_slots t.nodes)) (node_in b (node_slots mid)) from e (relinked Out e l) at_from mid_node refl k;
             out_was = ap (option_map (links_at Out)) at_from;
             out_now = λ k.
-                kept_by (links_at Out) (node_in b (slots_of mid)) (node_in b (slots_of nodes')) to f (relinked In f m) at_to node refl k
-                ∙ ap (option_map (links_at Out)) (mid_node k) ∙ map_cond (links_at Out) (from == k) (relinked Out e l) (node_in b (slots_of t.nodes) k);
+                kept_by (links_at Out) (node_in b (node_slots mid)) (node_in b (node_slots nodes')) to f (relinked In f m) at_to node refl k
+                ∙ ap (option_map (links_at Out)) (mid_node k) ∙ map_cond (links_at Out) (from == k) (relinked Out e l) (node_in b (node_slots t.nodes) k);
             in_was = second_links f h.was;
             in_now = λ k.
-                ap (option_map (links_at In)) (node k) ∙ map_cond (links_at In) (to == k) (relinked In f m) (node_in b (slots_of mid) k)
-                ∙ ap (cond (to == k) (Some m)) (kept_by (links_at In) (node_in b (slots_of t.nodes)) (node_in b (slots_of mid)) from e (relinked Out e l) at_from mid_node refl k);
+                ap (option_map (links_at In)) (node k) ∙ map_cond (links_at In) (to == k) (relinked In f m) (node_in b (node_slots mid) k)
+                ∙ ap (cond (to == k) (Some m)) (kept_by (links_at In) (node_in b (node_slots t.nodes)) (node_in b (node_slots mid)) from e (relinked Out e l) at_from mid_node refl k);
           }
 
 -- ---- what a list takes and gives
 
-module _ (t : Tables) (side : Side) (v : ℕ) (o : Links) (was : links_in side t.index (slots_of t.nodes) v ≡ Some o) where
+module _ (t : Tables) (side : Side) (v : ℕ) (o : Links) (was : links_in side t.index (node_slots t.nodes) v ≡ Some o) where
   pub list_rises : IsStrictlyIncreasing (lines_on o)
   list_rises = subst IsStrictlyIncreasing (sym (t.kept.listed side v o was).numbers) (rises_at side (tables_map t) v)
 
@@ -143,32 +143,32 @@ finish_is M x l e = ap (λ (k : Line). k.to) (record_of M x l e)
 changed_at_end : (f h : ℕ → ℕ) (k v n : ℕ) → k ≡ v → ((u : ℕ) → f u ≤ changed_at v (h v + n) h u) → (u : ℕ) → f u ≤ changed_at k (h k + n) h u
 changed_at_end f h k v n e le u = subst (λ (m : ℕ). f u ≤ changed_at m (h m + n) h u) (sym e) (le u)
 
-module _ (t : Tables) (nodes' : Slab NodeEntry) (lines' : Numbered Line) (from to : ℕ) (o o' i i' : Links) (r : Relinked t nodes' from to o o' i i') where
+module _ (t : Tables) (nodes' : NodeSlots) (lines' : Numbered Line) (from to : ℕ) (o o' i i' : Links) (r : Relinked t nodes' from to o o' i i') where
   abbrev b : ByNumber
   b = t.index
 
   abbrev M : Map
   M = tables_map t
 
-  same_nodes : (map_from b (slots_of nodes') (all_held lines')).nodes ≡ M.nodes
-  same_nodes = same_answers _ _ (λ k. got_node b (slots_of nodes') r.indexed (all_held lines') k ∙ r.nodes k ∙ sym (got_node b (slots_of t.nodes) t.kept.indexed (all_held t.lines) k))
+  same_nodes : (map_from b (node_slots nodes') (all_held lines')).nodes ≡ M.nodes
+  same_nodes = same_answers _ _ (λ k. got_node b (node_slots nodes') r.indexed (all_held lines') k ∙ r.nodes k ∙ sym (got_node b (node_slots t.nodes) t.kept.indexed (all_held t.lines) k))
 
-  module _ (kept' : IsKept b (slots_of nodes') (all_held lines')) where
+  module _ (kept' : IsKept b (node_slots nodes') (all_held lines')) where
     abbrev new : Tables
     new = record { index = b; nodes = nodes'; lines = lines'; kept = kept' }
 
     outs_now : (k : ℕ) → spare_at Out new k ≡ changed_at from (spare_links o') (spare_at Out t) k
-    outs_now k = ap (λ p. option_map_or (λ l. spare_links l) p 0) (r.out_now k) ∙ map_or_cond (λ l. spare_links l) 0 (from == k) o' (links_in Out b (slots_of t.nodes) k)
+    outs_now k = ap (λ p. option_map_or (λ l. spare_links l) p 0) (r.out_now k) ∙ map_or_cond (λ l. spare_links l) 0 (from == k) o' (links_in Out b (node_slots t.nodes) k)
 
     ins_now : (k : ℕ) → spare_at In new k ≡ changed_at to (spare_links i') (spare_at In t) k
-    ins_now k = ap (λ p. option_map_or (λ l. spare_links l) p 0) (r.in_now k) ∙ map_or_cond (λ l. spare_links l) 0 (to == k) i' (links_in In b (slots_of t.nodes) k)
+    ins_now k = ap (λ p. option_map_or (λ l. spare_links l) p 0) (r.in_now k) ∙ map_or_cond (λ l. spare_links l) 0 (to == k) i' (links_in In b (node_slots t.nodes) k)
 
 -- ---- a line comes
 
 pub number_free : (t : Tables) (x : ℕ) (l : Line) → CanMake (tables_map t) (room_of t) (PutLine x l) → has_line (tables_map t) x ≡ false
 number_free t x l can = (Undoing.added_line (tables_map t) (map_after (tables_map t) (PutLine x l)) x l (made_ok (tables_map t) (PutLine x l) can.accepted)).0
 
-module _ (t : Tables) (nodes' : Slab NodeEntry) (lines' : Numbered Line) (x : ℕ) (l : Line) (p q : ℕ) (o o' i i' : Links) (r : Relinked t nodes' l.from l.to o o' i i')
+module _ (t : Tables) (nodes' : NodeSlots) (lines' : Numbered Line) (x : ℕ) (l : Line) (p q : ℕ) (o o' i i' : Links) (r : Relinked t nodes' l.from l.to o o' i i')
     (here : found t.index l.from ≡ Some p) (there : found t.index l.to ≡ Some q)
     (ko : IsLinked o o' x (record { node = l.to; place = q; len = l.len })) (ki : IsLinked i i' x (record { node = l.from; place = p; len = l.len }))
     (put : (k : ℕ) → held lines' k ≡ cond (x == k) (Some l) (held t.lines k)) (can : CanMake (tables_map t) (room_of t) (PutLine x l)) where
@@ -184,29 +184,29 @@ module _ (t : Tables) (nodes' : Slab NodeEntry) (lines' : Numbered Line) (x : �
   put_lines : all_held lines' ≡ finmap.insert put_M.lines x l
   put_lines = same_answers _ _ (λ k. held_get lines' k ∙ put k ∙ ap (cond (x == k) (Some l)) (sym (got_line t k)) ∙ sym (got_insert put_M.lines x l k))
 
-  put_map : map_from t.index (slots_of nodes') (all_held lines') ≡ put_N
+  put_map : map_from t.index (node_slots nodes') (all_held lines') ≡ put_N
   put_map = λ j. record { nodes = same_nodes t nodes' lines' l.from l.to o o' i i' r j; lines = put_lines j }
 
   put_now : get put_N.lines x ≡ Some l
   put_now = got_insert put_M.lines x l x ∙ ap (λ (c : Bool). cond c (Some l) (get put_M.lines x)) (eq-eqb x x refl)
 
-  put_listed : (side : Side) (v : ℕ) (h : Links) → links_in side t.index (slots_of nodes') v ≡ Some h → IsListed side put_N (place_in t.index) v h
+  put_listed : (side : Side) (v : ℕ) (h : Links) → links_in side t.index (node_slots nodes') v ≡ Some h → IsListed side put_N (place_in t.index) v h
   put_listed Out =
-      each_but (links_in Out t.index (slots_of t.nodes)) (links_in Out t.index (slots_of nodes')) l.from o' (IsListed Out put_M (place_in t.index)) (IsListed Out put_N (place_in t.index)) r.out_now
+      each_but (links_in Out t.index (node_slots t.nodes)) (links_in Out t.index (node_slots nodes')) l.from o' (IsListed Out put_M (place_in t.index)) (IsListed Out put_N (place_in t.index)) r.out_now
       (put_here Out (place_in t.index) put_M x l put_says.0 o o' _ (end_is Out t.index put_N x l q put_now there) (t.kept.listed Out l.from o r.out_was) ko)
       (λ k h ne old. put_other Out (place_in t.index) put_M x l put_says.0 k h ne old) (t.kept.listed Out)
   put_listed In =
-      each_but (links_in In t.index (slots_of t.nodes)) (links_in In t.index (slots_of nodes')) l.to i' (IsListed In put_M (place_in t.index)) (IsListed In put_N (place_in t.index)) r.in_now
+      each_but (links_in In t.index (node_slots t.nodes)) (links_in In t.index (node_slots nodes')) l.to i' (IsListed In put_M (place_in t.index)) (IsListed In put_N (place_in t.index)) r.in_now
       (put_here In (place_in t.index) put_M x l put_says.0 i i' _ (end_is In t.index put_N x l p put_now here) (t.kept.listed In l.to i r.in_was) ki)
       (λ k h ne old. put_other In (place_in t.index) put_M x l put_says.0 k h ne old) (t.kept.listed In)
 
-  pub put_line_kept : IsKept t.index (slots_of nodes') (all_held lines')
+  pub put_line_kept : IsKept t.index (node_slots nodes') (all_held lines')
   put_line_kept =
-      kept_from t.index (slots_of nodes') (all_held lines') r.indexed (few_slots nodes'.slotted)
+      kept_from t.index (node_slots nodes') (all_held lines') r.indexed (few_nodes nodes')
       (subst IsMap (sym put_map) (edits_keep put_M put_N (Add_line x l) t.kept.sound can.placed (made_ok put_M (PutLine x l) can.accepted ∙ ap (λ (m : Map). Ok m) (sym put_says.1))))
-      (λ side. subst (λ (K : Map). (v : ℕ) (h : Links) → links_in side t.index (slots_of nodes') v ≡ Some h → IsListed side K (place_in t.index) v h) (sym put_map) (put_listed side))
+      (λ side. subst (λ (K : Map). (v : ℕ) (h : Links) → links_in side t.index (node_slots nodes') v ≡ Some h → IsListed side K (place_in t.index) v h) (sym put_map) (put_listed side))
 
-  module _ (kept' : IsKept t.index (slots_of nodes') (all_held lines')) (room : room_in nodes' ≡ room_in t.nodes) (spare : spare_numbers t.lines ≤ spare_numbers lines' + 1) where
+  module _ (kept' : IsKept t.index (node_slots nodes') (all_held lines')) (room : node_room nodes' ≡ node_room t.nodes) (spare : spare_numbers t.lines ≤ spare_numbers lines' + 1) where
     abbrev put_new : Tables
     put_new = record { index = t.index; nodes = nodes'; lines = lines'; kept = kept' }
 
@@ -250,7 +250,7 @@ module _ (t : Tables) (nodes' : Slab NodeEntry) (lines' : Numbered Line) (x : �
 pub line_taken : (t : Tables) (x : ℕ) → CanMake (tables_map t) (room_of t) (TakeLine x) → has_line (tables_map t) x ≡ true
 line_taken t x can = (Undoing.dropped_line (tables_map t) (map_after (tables_map t) (TakeLine x)) x (made_ok (tables_map t) (TakeLine x) can.accepted)).0
 
-module _ (t : Tables) (nodes' : Slab NodeEntry) (lines' : Numbered Line) (x : ℕ) (l : Line) (o o' i i' : Links) (r : Relinked t nodes' l.from l.to o o' i i')
+module _ (t : Tables) (nodes' : NodeSlots) (lines' : Numbered Line) (x : ℕ) (l : Line) (o o' i i' : Links) (r : Relinked t nodes' l.from l.to o o' i i')
     (ko : IsUnlinked o o' x) (ki : IsUnlinked i i' x) (was : held t.lines x ≡ Some l)
     (taken : (k : ℕ) → held lines' k ≡ cond (x == k) None (held t.lines k)) (can : CanMake (tables_map t) (room_of t) (TakeLine x)) where
   abbrev take_M : Map
@@ -268,26 +268,26 @@ module _ (t : Tables) (nodes' : Slab NodeEntry) (lines' : Numbered Line) (x : �
   take_lines : all_held lines' ≡ finmap.remove take_M.lines x
   take_lines = same_answers _ _ (λ k. held_get lines' k ∙ taken k ∙ ap (cond (x == k) None) (sym (got_line t k)) ∙ sym (got_remove take_M.lines x k))
 
-  take_map : map_from t.index (slots_of nodes') (all_held lines') ≡ take_N
+  take_map : map_from t.index (node_slots nodes') (all_held lines') ≡ take_N
   take_map = λ j. record { nodes = same_nodes t nodes' lines' l.from l.to o o' i i' r j; lines = take_lines j }
 
-  take_listed : (side : Side) (v : ℕ) (h : Links) → links_in side t.index (slots_of nodes') v ≡ Some h → IsListed side take_N (place_in t.index) v h
+  take_listed : (side : Side) (v : ℕ) (h : Links) → links_in side t.index (node_slots nodes') v ≡ Some h → IsListed side take_N (place_in t.index) v h
   take_listed Out =
-      each_but (links_in Out t.index (slots_of t.nodes)) (links_in Out t.index (slots_of nodes')) l.from o' (IsListed Out take_M (place_in t.index)) (IsListed Out take_N (place_in t.index)) r.out_now
+      each_but (links_in Out t.index (node_slots t.nodes)) (links_in Out t.index (node_slots nodes')) l.from o' (IsListed Out take_M (place_in t.index)) (IsListed Out take_N (place_in t.index)) r.out_now
       (take_here Out (place_in t.index) take_M x l take_was o o' (t.kept.listed Out l.from o r.out_was) ko)
       (λ k h ne old. take_other Out (place_in t.index) take_M x l take_was k h ne old) (t.kept.listed Out)
   take_listed In =
-      each_but (links_in In t.index (slots_of t.nodes)) (links_in In t.index (slots_of nodes')) l.to i' (IsListed In take_M (place_in t.index)) (IsListed In take_N (place_in t.index)) r.in_now
+      each_but (links_in In t.index (node_slots t.nodes)) (links_in In t.index (node_slots nodes')) l.to i' (IsListed In take_M (place_in t.index)) (IsListed In take_N (place_in t.index)) r.in_now
       (take_here In (place_in t.index) take_M x l take_was i i' (t.kept.listed In l.to i r.in_was) ki)
       (λ k h ne old. take_other In (place_in t.index) take_M x l take_was k h ne old) (t.kept.listed In)
 
-  pub take_line_kept : IsKept t.index (slots_of nodes') (all_held lines')
+  pub take_line_kept : IsKept t.index (node_slots nodes') (all_held lines')
   take_line_kept =
-      kept_from t.index (slots_of nodes') (all_held lines') r.indexed (few_slots nodes'.slotted)
+      kept_from t.index (node_slots nodes') (all_held lines') r.indexed (few_nodes nodes')
       (subst IsMap (sym take_map) (edits_keep take_M take_N (Drop_line x) t.kept.sound tt (made_ok take_M (TakeLine x) can.accepted ∙ ap (λ (m : Map). Ok m) (sym take_says))))
-      (λ side. subst (λ (K : Map). (v : ℕ) (h : Links) → links_in side t.index (slots_of nodes') v ≡ Some h → IsListed side K (place_in t.index) v h) (sym take_map) (take_listed side))
+      (λ side. subst (λ (K : Map). (v : ℕ) (h : Links) → links_in side t.index (node_slots nodes') v ≡ Some h → IsListed side K (place_in t.index) v h) (sym take_map) (take_listed side))
 
-  module _ (kept' : IsKept t.index (slots_of nodes') (all_held lines')) (room : room_in nodes' ≡ room_in t.nodes) (spare : spare_numbers t.lines ≤ spare_numbers lines') where
+  module _ (kept' : IsKept t.index (node_slots nodes') (all_held lines')) (room : node_room nodes' ≡ node_room t.nodes) (spare : spare_numbers t.lines ≤ spare_numbers lines') where
     abbrev take_new : Tables
     take_new = record { index = t.index; nodes = nodes'; lines = lines'; kept = kept' }
 
@@ -331,7 +331,7 @@ pub line_set : (t : Tables) (x : ℕ) (k : Line) → CanMake (tables_map t) (roo
 line_set t x k can =
     (Undoing.set_line (tables_map t) (map_after (tables_map t) (SetLine x k)) x k can.whole.0 can.whole.1 (made_ok (tables_map t) (SetLine x k) can.accepted)).0
 
-module _ (t : Tables) (nodes' : Slab NodeEntry) (lines' : Numbered Line) (x : ℕ) (k l : Line) (p q : ℕ) (o o' i i' : Links) (r : Relinked t nodes' l.from l.to o o' i i')
+module _ (t : Tables) (nodes' : NodeSlots) (lines' : Numbered Line) (x : ℕ) (k l : Line) (p q : ℕ) (o o' i i' : Links) (r : Relinked t nodes' l.from l.to o o' i i')
     (here : found t.index k.from ≡ Some p) (there : found t.index k.to ≡ Some q)
     (ko : IsReset o o' x (record { node = k.to; place = q; len = k.len })) (ki : IsReset i i' x (record { node = k.from; place = p; len = k.len }))
     (was : held t.lines x ≡ Some l) (put : (n : ℕ) → held lines' n ≡ cond (x == n) (Some k) (held t.lines n)) (can : CanMake (tables_map t) (room_of t) (SetLine x k)) where
@@ -356,29 +356,29 @@ module _ (t : Tables) (nodes' : Slab NodeEntry) (lines' : Numbered Line) (x : �
   set_lines : all_held lines' ≡ finmap.insert set_M.lines x k
   set_lines = same_answers _ _ (λ n. held_get lines' n ∙ put n ∙ ap (cond (x == n) (Some k)) (sym (got_line t n)) ∙ sym (got_insert set_M.lines x k n))
 
-  set_map : map_from t.index (slots_of nodes') (all_held lines') ≡ set_N
+  set_map : map_from t.index (node_slots nodes') (all_held lines') ≡ set_N
   set_map = λ j. record { nodes = same_nodes t nodes' lines' l.from l.to o o' i i' r j; lines = set_lines j }
 
   set_now : get set_N.lines x ≡ Some k
   set_now = got_insert set_M.lines x k x ∙ ap (λ (c : Bool). cond c (Some k) (get set_M.lines x)) (eq-eqb x x refl)
 
-  set_listed : (side : Side) (v : ℕ) (h : Links) → links_in side t.index (slots_of nodes') v ≡ Some h → IsListed side set_N (place_in t.index) v h
+  set_listed : (side : Side) (v : ℕ) (h : Links) → links_in side t.index (node_slots nodes') v ≡ Some h → IsListed side set_N (place_in t.index) v h
   set_listed Out =
-      each_but (links_in Out t.index (slots_of t.nodes)) (links_in Out t.index (slots_of nodes')) l.from o' (IsListed Out set_M (place_in t.index)) (IsListed Out set_N (place_in t.index)) r.out_now
+      each_but (links_in Out t.index (node_slots t.nodes)) (links_in Out t.index (node_slots nodes')) l.from o' (IsListed Out set_M (place_in t.index)) (IsListed Out set_N (place_in t.index)) r.out_now
       (set_here Out (place_in t.index) set_M x l set_was k set_from o o' _ (end_is Out t.index set_N x k q set_now there) (t.kept.listed Out l.from o r.out_was) ko)
       (λ n h ne old. set_other Out (place_in t.index) set_M x l set_was k set_from n h ne old) (t.kept.listed Out)
   set_listed In =
-      each_but (links_in In t.index (slots_of t.nodes)) (links_in In t.index (slots_of nodes')) l.to i' (IsListed In set_M (place_in t.index)) (IsListed In set_N (place_in t.index)) r.in_now
+      each_but (links_in In t.index (node_slots t.nodes)) (links_in In t.index (node_slots nodes')) l.to i' (IsListed In set_M (place_in t.index)) (IsListed In set_N (place_in t.index)) r.in_now
       (set_here In (place_in t.index) set_M x l set_was k set_to i i' _ (end_is In t.index set_N x k p set_now here) (t.kept.listed In l.to i r.in_was) ki)
       (λ n h ne old. set_other In (place_in t.index) set_M x l set_was k set_to n h ne old) (t.kept.listed In)
 
-  pub set_line_kept : IsKept t.index (slots_of nodes') (all_held lines')
+  pub set_line_kept : IsKept t.index (node_slots nodes') (all_held lines')
   set_line_kept =
-      kept_from t.index (slots_of nodes') (all_held lines') r.indexed (few_slots nodes'.slotted)
+      kept_from t.index (node_slots nodes') (all_held lines') r.indexed (few_nodes nodes')
       (subst IsMap (sym set_map) (edits_keep set_M set_N (Set_line x k.frc k.fow k.len k.shape) t.kept.sound can.placed (made_ok set_M (SetLine x k) can.accepted ∙ ap (λ (m : Map). Ok m) (sym set_says))))
-      (λ side. subst (λ (K : Map). (v : ℕ) (h : Links) → links_in side t.index (slots_of nodes') v ≡ Some h → IsListed side K (place_in t.index) v h) (sym set_map) (set_listed side))
+      (λ side. subst (λ (K : Map). (v : ℕ) (h : Links) → links_in side t.index (node_slots nodes') v ≡ Some h → IsListed side K (place_in t.index) v h) (sym set_map) (set_listed side))
 
-  module _ (kept' : IsKept t.index (slots_of nodes') (all_held lines')) (room : room_in nodes' ≡ room_in t.nodes) (spare : spare_numbers t.lines ≤ spare_numbers lines') where
+  module _ (kept' : IsKept t.index (node_slots nodes') (all_held lines')) (room : node_room nodes' ≡ node_room t.nodes) (spare : spare_numbers t.lines ≤ spare_numbers lines') where
     abbrev set_new : Tables
     set_new = record { index = t.index; nodes = nodes'; lines = lines'; kept = kept' }
 

@@ -8,7 +8,7 @@ use Rattle.olr_spec.specs.Coordinates.{Coord}
 use Rattle.olr_spec.specs.Map.{Map, Line, IsMap, has_node, has_line, lines_in, lines_out, no_place}
 use Rattle.olr_map.specs.ByNumbers.{entries_of, found}
 use Rattle.olr_map.specs.Slotted.{at}
-use Rattle.olr_map.specs.Slabs.{slots_of}
+use Rattle.olr_map.specs.Columns.{node_slots}
 use Rattle.olr_map.specs.NodeLinks.{links_at}
 use Rattle.olr_map.specs.Kept.{node_in, links_in, coord_in, map_from, place_in, IsListed, IsIndexed, IsKept}
 use Rattle.olr_map.specs.Changes.{tables_map}
@@ -105,7 +105,7 @@ module _ (t : Tables) where
   b = t.index
 
   abbrev es : List (Option NodeEntry)
-  es = slots_of t.nodes
+  es = node_slots t.nodes
 
   abbrev M : Map
   M = tables_map t

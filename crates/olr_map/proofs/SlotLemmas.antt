@@ -6,7 +6,7 @@ use Rattle.olr_map.specs.Slotted.{present, at, IsSlotted, Comes, Goes, Turns}
 
 -- ---- one more at the end of a list
 
-length-push : {Y : Type 0} (ys : List Y) (y : Y) → length (ys ++ y ∷ []) ≡ length ys + 1
+pub length-push : {Y : Type 0} (ys : List Y) (y : Y) → length (ys ++ y ∷ []) ≡ length ys + 1
 length-push [] y = refl
 length-push (z ∷ ys) y = let l = length-push ys y in omega arith
 

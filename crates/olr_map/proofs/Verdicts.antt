@@ -1,16 +1,19 @@
--- What was judged of an edit gives the slots of its nodes.
-use Rattle.std.proofs.Common.{◌≡◌, ◌==◌, ◌||◌, ℕ, true, false, List, [], ◌∷◌, map, Option, Some, None, Result, Ok, Err, IsOk, refl, sym, ap, ◌∙◌}
+-- What was judged of an edit gives the slots of its nodes, and a fault of the map is answered by its name.
+use Rattle.std.proofs.Common.{◌≡◌, ◌==◌, ◌||◌, ℕ, true, false, List, [], ◌∷◌, map, Option, Some, None, Result, Ok, Err, IsOk, MatchResult, refl, sym, ap, ◌∙◌}
 use Rattle.std.specs.Option.{option_to_list}
 use Rattle.std.proofs.lemmas.Bool.{eqb-true, eq-eqb, or_left}
 use Rattle.olr_spec.specs.Map as maps
-use Rattle.olr_spec.specs.Map.{Map, has_node, start, end, edited, touched_nodes}
+use Rattle.olr_spec.specs.Map.{Map, MapFault, Node_exists, No_node, Line_exists, No_line, Node_in_use, Bad_shape, has_node, start, end, edited, touched_nodes}
 use Rattle.olr_spec.specs.Extension.{has}
 use Rattle.olr_spec.specs.Detours.{ChangedLine, changes_of}
 use Rattle.olr_map.specs.ByNumbers.{found}
 use Rattle.olr_map.specs.Kept.{place_in}
 use Rattle.olr_map.specs.Changes.{tables_map}
+use Rattle.olr_map.specs.Edits.{edit_fault_of}
 use Rattle.olr_map.specs.Judgements.{IsJudged, AreSlots}
 use Rattle.olr_map.specs.declared.by_number.ByNumber.{ByNumber}
+use Rattle.olr_map.specs.declared.edit.EditFault.{EditFault}
+use Rattle.olr_map.specs.declared.edit.EditFault.TheVariants.{NodeExists, NoNode, LineExists, NoLine, NodeInUse, BadShape, Memory}
 use Rattle.olr_map.specs.declared.judging.Judged.{Judged}
 use Rattle.olr_map.specs.declared.tables.Tables.{Tables}
 use Rattle.olr_map.proofs.Reading.{slot_is}
@@ -70,3 +73,37 @@ module _ (t : Tables) where
       let r = accepted_is (edited M (maps.Drop_line x)) h.accepted in
       let s = line_ends x (Undoing.dropped_line M r.0 x r.1).0 in
       ends_at j (maps.Drop_line x) _ h refl s.0 s.1
+
+-- ---- a fault of the map, as it is answered
+
+abbrev map_fault : EditFault → MapFault
+map_fault NodeExists = Node_exists
+map_fault NoNode = No_node
+map_fault LineExists = Line_exists
+map_fault NoLine = No_line
+map_fault NodeInUse = Node_in_use
+map_fault BadShape = Bad_shape
+map_fault Memory = Bad_shape
+
+fault_again : (f : MapFault) → map_fault (edit_fault_of f) ≡ f
+fault_again Node_exists = refl
+fault_again No_node = refl
+fault_again Line_exists = refl
+fault_again No_line = refl
+fault_again Node_in_use = refl
+fault_again Bad_shape = refl
+
+same_fault : {A : Type 0} (x y : EditFault) → ◌≡◌ {A = Result A EditFault} (Err x) (Err y) → x ≡ y
+same_fault x y e = cc
+
+abbrev answer : (A : Type 0) → EditFault → Result A EditFault
+answer A x = Err x
+
+pub refused_as : (A B : Type 0) (r : Result Map MapFault) (x : EditFault) → MatchResult r (λ _. IsOk (answer A x)) (λ f. answer A x ≡ Err (edit_fault_of f))
+    → (f : MapFault) → (◌≡◌ {A = Result B EditFault} (Err x) (Err (edit_fault_of f)) → r ≡ Err f) × (r ≡ Err f → ◌≡◌ {A = Result B EditFault} (Err x) (Err (edit_fault_of f)))
+refused_as A B (Ok m) x h f = absurd cc
+refused_as A B (Err g) x h f =
+    let is : x ≡ edit_fault_of g = same_fault x (edit_fault_of g) h in
+    (λ e. ap (λ y. Err y) (sym (fault_again g) ∙ ap map_fault (sym is ∙ same_fault x (edit_fault_of f) e) ∙ fault_again f), λ e. ap (λ y. Err y) (is ∙ ap edit_fault_of (same_map_fault g f e))) where
+      same_map_fault : (g f : MapFault) → ◌≡◌ {A = Result Map MapFault} (Err g) (Err f) → g ≡ f
+      same_map_fault g f e = cc

@@ -13,7 +13,7 @@ use Rattle.olr_spec.specs.Laws.{HasPlace}
 use Rattle.olr_map.specs.ByNumbers.{spare_of}
 use Rattle.olr_map.specs.Numbering.{all_held, spare_numbers}
 use Rattle.olr_map.specs.Linked.{lines_kept, places_kept, spare_links}
-use Rattle.olr_map.specs.Slabs.{slots_of, room_in}
+use Rattle.olr_map.specs.Columns.{node_slots, node_room}
 use Rattle.olr_map.specs.Kept.{map_from, links_in}
 use Rattle.olr_map.specs.declared.slots.Side.{Side}
 use Rattle.olr_map.specs.declared.slots.Side.TheVariants.{Out, In}
@@ -36,13 +36,13 @@ pub record Room : Type 0 where
   pub ins : ℕ → ℕ
 
 abbrev pub tables_map : Tables → Map
-tables_map t = map_from t.index (slots_of t.nodes) (all_held t.lines)
+tables_map t = map_from t.index (node_slots t.nodes) (all_held t.lines)
 
 abbrev pub spare_at : Side → Tables → ℕ → ℕ
-spare_at side t v = option_map_or (λ l. spare_links l) (links_in side t.index (slots_of t.nodes) v) 0
+spare_at side t v = option_map_or (λ l. spare_links l) (links_in side t.index (node_slots t.nodes) v) 0
 
 abbrev pub room_of : Tables → Room
-room_of t = record { nodes = room_in t.nodes; outs = spare_at Out t; ins = spare_at In t }
+room_of t = record { nodes = node_room t.nodes; outs = spare_at Out t; ins = spare_at In t }
 
 -- how many numbers of nodes, and of lines, a change puts in
 abbrev pub node_puts : Change → ℕ

@@ -9,6 +9,7 @@ pub mod Places
 pub mod Slotted
 pub mod NodeLinks
 pub mod Slabs
+pub mod Columns
 pub mod Numbering
 pub mod Kept
 pub mod Judgements

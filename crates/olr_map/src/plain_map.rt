@@ -18,13 +18,13 @@ pub struct PlainMap {
 impl MapRead for PlainMap {
     ghost use Rattle.std.specs.Prelude.{length};
     ghost use Rattle.olr_map.specs.PlainMaps.{map_of, slot_of};
-    ghost use Rattle.olr_map.specs.Slabs.{slots_of};
+    ghost use Rattle.olr_map.specs.Columns.{node_slots};
 
     ghost map = { map_of };
 
     ghost place_in = { slot_of };
 
-    ghost count = { λ m. length (slots_of m.tables.nodes) };
+    ghost count = { λ m. length (node_slots m.tables.nodes) };
 
     fn node(&self, id: NodeId) -> Option<Coord> {
         self.tables.node(id)

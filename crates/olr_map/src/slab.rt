@@ -19,7 +19,7 @@ pub struct Slab<V> {
 
 impl<V: Drop> Slab<V> {
     ghost use Rattle.olr_map.specs.Slotted.{at, Comes, Goes, Turns};
-    ghost use Rattle.olr_map.specs.Slabs.{slots_of, room_in};
+    ghost use Rattle.olr_map.specs.Slabs.{slots_of, free_in, room_in, Fills};
 
     /// No slots. Takes no memory.
     pub fn new(alloc: Global) -> Slab<V>
@@ -38,6 +38,13 @@ impl<V: Drop> Slab<V> {
         self.entries.len()
     }
 
+    /// How many slots are free.
+    pub fn free_count(&self) -> usize
+        ensures { result ≡ free_in self.now }
+    {
+        self.free.len()
+    }
+
     /// What stands in a slot.
     pub fn entry(&self, slot: u32) -> &V
         requires { IsSome (at (slots_of self.now) slot) }
@@ -52,6 +59,7 @@ impl<V: Drop> Slab<V> {
     /// Makes room for so many more.
     pub fn reserve(&mut self, additional: usize) -> Result<(), AllocError>
         ensures same { slots_of self.new ≡ slots_of self.old }
+        ensures free { free_in self.new ≡ free_in self.old }
         ensures more { room_in self.old ≤ room_in self.new }
         ensures room { OnOk result (additional ≤ room_in self.new) }
     {
@@ -72,6 +80,7 @@ impl<V: Drop> Slab<V> {
     pub fn put(&mut self, entry: V) -> u32
         requires { 0 < room_in self.old }
         ensures comes { Comes (slots_of self.old) (slots_of self.new) result entry }
+        ensures fills { Fills self.old self.new result }
         ensures room { room_in self.old ≤ room_in self.new + 1 }
     {
         match self.free.pop() {
@@ -93,6 +102,8 @@ impl<V: Drop> Slab<V> {
     pub fn replace(&mut self, slot: u32, entry: V) -> V
         requires { IsSome (at (slots_of self.old) slot) }
         ensures turns { Turns (slots_of self.old) (slots_of self.new) slot result entry }
+        ensures count { length (slots_of self.new) ≡ length (slots_of self.old) }
+        ensures free { free_in self.new ≡ free_in self.old }
         ensures room { room_in self.new ≡ room_in self.old }
     {
         match &mut self.entries[slot as usize] {
@@ -105,6 +116,8 @@ impl<V: Drop> Slab<V> {
     pub fn take(&mut self, slot: u32) -> V
         requires { IsSome (at (slots_of self.old) slot) }
         ensures goes { Goes (slots_of self.old) (slots_of self.new) slot result }
+        ensures count { length (slots_of self.new) ≡ length (slots_of self.old) }
+        ensures free { free_in self.new ≡ free_in self.old + 1 }
         ensures room { room_in self.old + 1 ≤ room_in self.new }
     {
         match mem::replace(&mut self.entries[slot as usize], None) {

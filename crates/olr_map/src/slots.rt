@@ -1,20 +1,28 @@
-//! The entries of the nodes in their slots.
-ghost use Rattle.std.specs.Prelude.{◌≡◌, ◌<◌, ◌≤◌, Some, IsSome, OnOk, IsTrue, IsFalse};
+//! The nodes in their slots, in columns: their heads, the lines that leave them, and those that enter them.
+ghost use Rattle.std.specs.Prelude.{◌≡◌, ◌+◌, ◌<◌, ◌≤◌, ◌++◌, ◌∷◌, [], length, set, vec_len, cond, nat_lt, Some, IsSome, OnOk, IsTrue, IsFalse};
 ghost use Rattle.std.specs.List.Sorted.{IsStrictlyIncreasing};
+ghost use Rattle.std.specs.Vec.{vec_capacity};
 
 use crate::ids::{LineId, NodeId};
 use crate::links::Links;
 use crate::read::LineEnd;
 use crate::slab::Slab;
 use olr_coords::Coord;
-use std::alloc::AllocError;
+use std::alloc::{AllocError, Global};
 use std::mem;
 
-/// A node, with the lines that leave it and those that enter it. These stand first, side by side, for the searches.
+/// A node, with the lines that leave it and those that enter it.
 #[derive(Drop, Debug)]
 pub struct NodeEntry {
     pub outs: Links,
     pub ins: Links,
+    pub id: NodeId,
+    pub place: Coord,
+}
+
+/// A node without its lines.
+#[derive(Clone, Copy, Debug)]
+pub struct NodeHead {
     pub id: NodeId,
     pub place: Coord,
 }
@@ -26,103 +34,207 @@ pub enum Side {
     In,
 }
 
-impl Slab<NodeEntry> {
-    ghost use Rattle.olr_map.specs.Slotted.{at, Turns};
-    ghost use Rattle.olr_map.specs.Slabs.{slots_of, room_in};
+/// The nodes' heads in their slots, and beside each slot the lines that leave the node there and those that enter it, so
+/// that a search passes from lines to lines and reads nothing else.
+#[derive(Drop, Debug)]
+pub struct NodeSlots {
+    pub heads: Slab<NodeHead>,
+    pub outs: Vec<Links>,
+    pub ins: Vec<Links>,
+    pub ghost outs_beside: { length outs.items ≡ length heads.entries.items },
+    pub ghost ins_beside: { length ins.items ≡ length heads.entries.items },
+}
+
+impl NodeSlots {
+    ghost use Rattle.olr_map.specs.Slotted.{at, Comes, Goes, Turns};
+    ghost use Rattle.olr_map.specs.Columns.{node_slots, node_room};
     ghost use Rattle.olr_map.specs.NodeLinks.{links_at, relinked};
     ghost use Rattle.olr_map.specs.Linked.{lines_on, ends_on, spare_links, IsLinked, IsUnlinked, IsReset};
     ghost use Rattle.olr_spec.specs.Extension.{has};
     ghost use Rattle.olr_map.specs.declared.links.Links.{Links as AllLinks};
     ghost use Rattle.olr_map.specs.declared.slots.NodeEntry.{NodeEntry as Entry};
 
+    /// No slots. Takes no memory.
+    pub fn new(alloc: Global) -> NodeSlots
+        ensures { node_slots result ≡ [] }
+    {
+        NodeSlots {
+            heads: Slab::new(alloc),
+            outs: Vec::new(alloc),
+            ins: Vec::new(alloc),
+        }
+    }
+
+    /// How many slots there are.
+    pub fn count(&self) -> usize
+        ensures { result ≡ length (node_slots self.now) }
+    {
+        self.heads.count()
+    }
+
+    /// The place on the earth of the node in a slot.
+    pub fn place(&self, slot: u32) -> Coord
+        requires { IsSome (at (node_slots self.now) slot) }
+        ensures { (e : Entry) → at (node_slots self.now) slot ≡ Some e → result ≡ e.place }
+    {
+        self.heads.entry(slot).place
+    }
+
+    /// The lines that leave the node in a slot.
+    pub fn outs(&self, slot: u32) -> &Links
+        requires { IsSome (at (node_slots self.now) slot) }
+        ensures { (e : Entry) → at (node_slots self.now) slot ≡ Some e → result.now ≡ e.outs }
+    {
+        &self.outs[slot as usize]
+    }
+
+    /// The lines that enter the node in a slot.
+    pub fn ins(&self, slot: u32) -> &Links
+        requires { IsSome (at (node_slots self.now) slot) }
+        ensures { (e : Entry) → at (node_slots self.now) slot ≡ Some e → result.now ≡ e.ins }
+    {
+        &self.ins[slot as usize]
+    }
+
+    /// Makes room for so many more.
+    pub fn reserve(&mut self, additional: usize) -> Result<(), AllocError>
+        ensures same { node_slots self.new ≡ node_slots self.old }
+        ensures more { node_room self.old ≤ node_room self.new }
+        ensures room { OnOk result (additional ≤ node_room self.new) }
+    {
+        let added = additional.saturating_sub(self.heads.free_count());
+        self.outs.reserve(added)?;
+        self.ins.reserve(added)?;
+        self.heads.reserve(additional)
+    }
+
+    /// Puts a node into a free slot, and tells which.
+    pub fn put(&mut self, entry: NodeEntry) -> u32
+        requires { 0 < node_room self.old }
+        ensures comes { Comes (node_slots self.old) (node_slots self.new) result entry }
+        ensures room { node_room self.old ≤ node_room self.new + 1 }
+    {
+        let NodeEntry {
+            outs,
+            ins,
+            id,
+            place,
+        } = entry;
+        let slot = self.heads.put(NodeHead { id, place });
+        put_links(&mut self.outs, slot, outs);
+        put_links(&mut self.ins, slot, ins);
+        slot
+    }
+
+    /// Takes the node in a slot out, with its lines. The slot is free then.
+    pub fn take(&mut self, slot: u32) -> NodeEntry
+        requires { IsSome (at (node_slots self.old) slot) }
+        ensures goes { Goes (node_slots self.old) (node_slots self.new) slot result }
+        ensures room { node_room self.old + 1 ≤ node_room self.new }
+    {
+        let NodeHead { id, place } = self.heads.take(slot);
+        let outs = mem::replace(&mut self.outs[slot as usize], Links::new());
+        let ins = mem::replace(&mut self.ins[slot as usize], Links::new());
+        NodeEntry {
+            outs,
+            ins,
+            id,
+            place,
+        }
+    }
+
     /// Gives the node in a slot another place on the earth, and tells the one that it had.
     pub fn move_node(&mut self, slot: u32, place: Coord) -> Coord
-        requires { IsSome (at (slots_of self.old) slot) }
+        requires { IsSome (at (node_slots self.old) slot) }
         ensures turns { (e : Entry) × (e.place ≡ result)
-            × Turns (slots_of self.old) (slots_of self.new) slot e
+            × Turns (node_slots self.old) (node_slots self.new) slot e
             (record { id = e.id; place = place; outs = e.outs; ins = e.ins }) }
-        ensures room { room_in self.new ≡ room_in self.old }
+        ensures room { node_room self.new ≡ node_room self.old }
     {
-        match &mut self.entries[slot as usize] {
-            Some(entry) => mem::replace(&mut entry.place, place),
-            None => unreachable!(),
-        }
+        let id = self.heads.entry(slot).id;
+        self.heads.replace(slot, NodeHead { id, place }).place
     }
 
     /// Makes room for one more line on one side of the node in a slot.
     pub fn reserve_link(&mut self, side: Side, slot: u32) -> Result<(), AllocError>
-        requires { IsSome (at (slots_of self.old) slot) }
+        requires { IsSome (at (node_slots self.old) slot) }
         ensures turns { (e : Entry) × (l : AllLinks)
-            × Turns (slots_of self.old) (slots_of self.new) slot e (relinked side e l)
+            × Turns (node_slots self.old) (node_slots self.new) slot e (relinked side e l)
             × (lines_on l ≡ lines_on (links_at side e)) × (ends_on l ≡ ends_on (links_at side e))
             × (spare_links (links_at side e) ≤ spare_links l) × OnOk result (0 < spare_links l) }
-        ensures room { room_in self.new ≡ room_in self.old }
+        ensures room { node_room self.new ≡ node_room self.old }
     {
-        let alloc = *self.entries.allocator();
-        match &mut self.entries[slot as usize] {
-            Some(entry) => match side {
-                Side::Out => entry.outs.reserve(alloc),
-                Side::In => entry.ins.reserve(alloc),
-            },
-            None => unreachable!(),
+        let alloc = *self.outs.allocator();
+        match side {
+            Side::Out => self.outs[slot as usize].reserve(alloc),
+            Side::In => self.ins[slot as usize].reserve(alloc),
         }
     }
 
     /// Puts a line in on one side of the node in a slot. There is room for it.
     pub fn link(&mut self, side: Side, slot: u32, id: LineId, end: LineEnd)
-        requires { (e : Entry) × (at (slots_of self.old) slot ≡ Some e)
+        requires { (e : Entry) × (at (node_slots self.old) slot ≡ Some e)
             × IsStrictlyIncreasing (lines_on (links_at side e))
             × IsFalse (has (lines_on (links_at side e)) id)
             × (0 < spare_links (links_at side e)) }
         ensures turns { (e : Entry) × (l : AllLinks)
-            × Turns (slots_of self.old) (slots_of self.new) slot e (relinked side e l)
+            × Turns (node_slots self.old) (node_slots self.new) slot e (relinked side e l)
             × IsLinked (links_at side e) l id end }
-        ensures room { room_in self.new ≡ room_in self.old }
+        ensures room { node_room self.new ≡ node_room self.old }
     {
-        match &mut self.entries[slot as usize] {
-            Some(entry) => match side {
-                Side::Out => entry.outs.link(id, end),
-                Side::In => entry.ins.link(id, end),
-            },
-            None => unreachable!(),
+        match side {
+            Side::Out => self.outs[slot as usize].link(id, end),
+            Side::In => self.ins[slot as usize].link(id, end),
         }
     }
 
     /// Takes a line out on one side of the node in a slot. Its place there stays free.
     pub fn unlink(&mut self, side: Side, slot: u32, id: LineId)
-        requires { (e : Entry) × (at (slots_of self.old) slot ≡ Some e)
+        requires { (e : Entry) × (at (node_slots self.old) slot ≡ Some e)
             × IsStrictlyIncreasing (lines_on (links_at side e))
             × IsTrue (has (lines_on (links_at side e)) id) }
         ensures turns { (e : Entry) × (l : AllLinks)
-            × Turns (slots_of self.old) (slots_of self.new) slot e (relinked side e l)
+            × Turns (node_slots self.old) (node_slots self.new) slot e (relinked side e l)
             × IsUnlinked (links_at side e) l id }
-        ensures room { room_in self.new ≡ room_in self.old }
+        ensures room { node_room self.new ≡ node_room self.old }
     {
-        match &mut self.entries[slot as usize] {
-            Some(entry) => match side {
-                Side::Out => entry.outs.unlink(id),
-                Side::In => entry.ins.unlink(id),
-            },
-            None => unreachable!(),
+        match side {
+            Side::Out => self.outs[slot as usize].unlink(id),
+            Side::In => self.ins[slot as usize].unlink(id),
         }
     }
 
     /// Gives a line on one side of the node in a slot another far end.
     pub fn set_end(&mut self, side: Side, slot: u32, id: LineId, end: LineEnd)
-        requires { (e : Entry) × (at (slots_of self.old) slot ≡ Some e)
+        requires { (e : Entry) × (at (node_slots self.old) slot ≡ Some e)
             × IsStrictlyIncreasing (lines_on (links_at side e))
             × IsTrue (has (lines_on (links_at side e)) id) }
         ensures turns { (e : Entry) × (l : AllLinks)
-            × Turns (slots_of self.old) (slots_of self.new) slot e (relinked side e l)
+            × Turns (node_slots self.old) (node_slots self.new) slot e (relinked side e l)
             × IsReset (links_at side e) l id end }
-        ensures room { room_in self.new ≡ room_in self.old }
+        ensures room { node_room self.new ≡ node_room self.old }
     {
-        match &mut self.entries[slot as usize] {
-            Some(entry) => match side {
-                Side::Out => entry.outs.set_end(id, end),
-                Side::In => entry.ins.set_end(id, end),
-            },
-            None => unreachable!(),
+        match side {
+            Side::Out => self.outs[slot as usize].set_end(id, end),
+            Side::In => self.ins[slot as usize].set_end(id, end),
         }
+    }
+}
+
+/// Puts lines into a slot of a column, or behind the others, where there is room.
+fn put_links(column: &mut Vec<Links>, slot: u32, links: Links)
+    requires within { slot ≤ length column.old.items }
+    requires room { slot ≡ length column.old.items → vec_len column.old < vec_capacity column.old }
+    ensures items { column.new.items ≡ cond (nat_lt slot (length column.old.items)) (set column.old.items slot links) (column.old.items ++ links ∷ []) }
+    ensures capacity { vec_capacity column.old ≤ vec_capacity column.new }
+{
+    let at = slot as usize;
+    if at < column.len() {
+        column[at] = links;
+        return;
+    }
+    match column.push(links) {
+        Ok(()) => {}
+        Err(_) => unreachable!(),
     }
 }

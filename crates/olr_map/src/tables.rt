@@ -1,6 +1,7 @@
 //! The nodes and the lines of a map: slots by node number, the nodes' entries by slot, and the lines by number.
 ghost use Rattle.std.specs.Prelude.{◌≡◌};
 ghost use Rattle.olr_map.specs.Numbering.{all_held};
+ghost use Rattle.olr_map.specs.Columns.{node_slots};
 ghost use Rattle.olr_map.specs.Kept.{IsKept, IsKept-prop};
 
 use crate::by_number::ByNumber;
@@ -10,8 +11,7 @@ use crate::line::Line;
 use crate::links::{Links, Spare};
 use crate::numbered::Numbered;
 use crate::read::{LineEnd, MapRead};
-use crate::slab::Slab;
-use crate::slots::{NodeEntry, Side};
+use crate::slots::{NodeEntry, NodeSlots, Side};
 use olr_coords::Coord;
 use std::alloc::{AllocError, Global};
 
@@ -19,26 +19,25 @@ use std::alloc::{AllocError, Global};
 #[derive(Drop, Debug)]
 pub struct Tables {
     pub index: ByNumber,
-    pub nodes: Slab<NodeEntry>,
+    pub nodes: NodeSlots,
     pub lines: Numbered<Line>,
-    pub ghost kept: { IsKept index nodes.entries.items (all_held lines) } by { IsKept-prop index nodes.entries.items (all_held lines) },
+    pub ghost kept: { IsKept index (node_slots nodes) (all_held lines) } by { IsKept-prop index (node_slots nodes) (all_held lines) },
 }
 
 impl MapRead for Tables {
     ghost use Rattle.std.specs.Prelude.{length};
     ghost use Rattle.olr_map.specs.Changes.{tables_map};
     ghost use Rattle.olr_map.specs.Kept.{place_in as slot_in};
-    ghost use Rattle.olr_map.specs.Slabs.{slots_of};
 
     ghost map = { tables_map };
 
     ghost place_in = { λ t. slot_in t.index };
 
-    ghost count = { λ t. length (slots_of t.nodes) };
+    ghost count = { λ t. length (node_slots t.nodes) };
 
     fn node(&self, id: NodeId) -> Option<Coord> {
         match self.index.get(id.number()) {
-            Some(slot) => Some(self.nodes.entry(slot).place),
+            Some(slot) => Some(self.nodes.place(slot)),
             None => None,
         }
     }
@@ -49,28 +48,28 @@ impl MapRead for Tables {
 
     fn out_lines(&self, id: NodeId) -> &[LineId] {
         match self.index.get(id.number()) {
-            Some(slot) => self.nodes.entry(slot).outs.lines(),
+            Some(slot) => self.nodes.outs(slot).lines(),
             None => &[],
         }
     }
 
     fn in_lines(&self, id: NodeId) -> &[LineId] {
         match self.index.get(id.number()) {
-            Some(slot) => self.nodes.entry(slot).ins.lines(),
+            Some(slot) => self.nodes.ins(slot).lines(),
             None => &[],
         }
     }
 
     fn out_ends(&self, id: NodeId) -> &[LineEnd] {
         match self.index.get(id.number()) {
-            Some(slot) => self.nodes.entry(slot).outs.ends(),
+            Some(slot) => self.nodes.outs(slot).ends(),
             None => &[],
         }
     }
 
     fn in_ends(&self, id: NodeId) -> &[LineEnd] {
         match self.index.get(id.number()) {
-            Some(slot) => self.nodes.entry(slot).ins.ends(),
+            Some(slot) => self.nodes.ins(slot).ends(),
             None => &[],
         }
     }
@@ -84,15 +83,15 @@ impl MapRead for Tables {
     }
 
     fn in_lines_at(&self, place: u32) -> &[LineId] {
-        self.nodes.entry(place).ins.lines()
+        self.nodes.ins(place).lines()
     }
 
     fn out_ends_at(&self, place: u32) -> &[LineEnd] {
-        self.nodes.entry(place).outs.ends()
+        self.nodes.outs(place).ends()
     }
 
     fn in_ends_at(&self, place: u32) -> &[LineEnd] {
-        self.nodes.entry(place).ins.ends()
+        self.nodes.ins(place).ends()
     }
 
     ghost sound = { λ t. t.kept.sound };
@@ -114,7 +113,7 @@ impl Tables {
     {
         Tables {
             index: ByNumber::hashed(alloc),
-            nodes: Slab::new(alloc),
+            nodes: NodeSlots::new(alloc),
             lines: Numbered::hashed(alloc),
         }
     }
@@ -125,7 +124,7 @@ impl Tables {
     {
         Tables {
             index: ByNumber::listed(alloc),
-            nodes: Slab::new(alloc),
+            nodes: NodeSlots::new(alloc),
             lines: Numbered::listed(alloc),
         }
     }

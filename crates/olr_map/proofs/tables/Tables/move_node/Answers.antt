@@ -1,5 +1,5 @@
 use Rattle.std.proofs.Common.{is_some, ap}
-use Rattle.olr_map.specs.Slabs.{slots_of}
+use Rattle.olr_map.specs.Columns.{node_slots}
 use Rattle.olr_map.proofs.Indexing.{entry_of}
 use Rattle.olr_map.proofs.NodeChanges.{move_node_kept, move_node_made}
 use Rattle.olr_map.proofs.tables.Tables.move_node.Goals as goal
@@ -7,7 +7,7 @@ use Rattle.olr_map.proofs.tables.Tables.move_node.Goals as goal
 pub move_node-requires : goal.move_node-requires
 move_node-requires c =
     let t = c.args.self.now in
-    let x = entry_of t.index (slots_of t.nodes) t.kept.indexed c.args.id c.args.slot c.requires.here in
+    let x = entry_of t.index (node_slots t.nodes) t.kept.indexed c.args.id c.args.slot c.requires.here in
     ap (λ o. is_some o) x.1
 
 pub invariant_of-self : goal.invariant_of-self

@@ -1,7 +1,7 @@
 use Rattle.std.proofs.Common.{◌≡◌, ◌==◌, ℕ, cond, Some, subst, ap, ◌∙◌}
 use Rattle.olr_map.specs.ByNumbers.{found}
-use Rattle.olr_map.specs.Slabs.{slots_of}
-use Rattle.olr_map.proofs.SlotLemmas.{came_fits}
+use Rattle.olr_map.specs.Columns.{node_slots}
+use Rattle.olr_map.proofs.ColumnLemmas.{node_fits}
 use Rattle.olr_map.proofs.NodeChanges.{free_number, put_node_kept, put_node_made}
 use Rattle.olr_map.proofs.tables.Tables.put_node.Goals as goal
 
@@ -12,7 +12,7 @@ put-requires-clause-absent c =
 
 pub put-requires-clause-fits : goal.put-requires-clause-fits
 put-requires-clause-fits c =
-    came_fits (slots_of c.args.self.now.nodes) c.put-slot.result _ c.put-slot.new.self.slotted c.put-slot.ensures.comes
+    node_fits c.put-slot.new.self (node_slots c.args.self.now.nodes) c.put-slot.result _ c.put-slot.ensures.comes
 
 pub invariant_of-self : goal.invariant_of-self
 invariant_of-self c =

@@ -1,5 +1,5 @@
 use Rattle.std.proofs.Common.{is_some, ap}
-use Rattle.olr_map.specs.Slabs.{slots_of}
+use Rattle.olr_map.specs.Columns.{node_slots}
 use Rattle.olr_map.proofs.Indexing.{entry_of}
 use Rattle.olr_map.proofs.Growing.{grown_kept}
 use Rattle.olr_map.proofs.tables.Tables.reserve_link.Goals as goal
@@ -7,7 +7,7 @@ use Rattle.olr_map.proofs.tables.Tables.reserve_link.Goals as goal
 pub reserve_link-requires : goal.reserve_link-requires
 reserve_link-requires c =
     let t = c.args.self.now in
-    ap (λ o. is_some o) (entry_of t.index (slots_of t.nodes) t.kept.indexed c.requires.0 c.args.slot c.requires.1).1
+    ap (λ o. is_some o) (entry_of t.index (node_slots t.nodes) t.kept.indexed c.requires.0 c.args.slot c.requires.1).1
 
 pub invariant_of-self : goal.invariant_of-self
 invariant_of-self c =

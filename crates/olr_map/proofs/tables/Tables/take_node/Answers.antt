@@ -1,6 +1,6 @@
 use Rattle.std.proofs.Common.{◌≡◌, ◌==◌, ℕ, cond, None, is_some, subst, sym, ap, ◌∙◌}
 use Rattle.olr_map.specs.ByNumbers.{found}
-use Rattle.olr_map.specs.Slabs.{slots_of}
+use Rattle.olr_map.specs.Columns.{node_slots}
 use Rattle.olr_map.proofs.NodeChanges.{take_node_kept, take_node_made, slot_taken, go_no_outs, go_no_ins}
 use Rattle.olr_map.proofs.Indexing.{entry_of}
 use Rattle.olr_map.proofs.tables.Tables.take_node.Goals as goal
@@ -15,7 +15,7 @@ pub take-entry-requires : goal.take-entry-requires
 take-entry-requires c =
     let t = c.args.self.now in
     let here = ap (found t.index) (sym c.number.ensures.same) ∙ c.take-slot.ensures.was in
-    let x = entry_of t.index (slots_of t.nodes) t.kept.indexed c.args.id c.take-slot.result here in
+    let x = entry_of t.index (node_slots t.nodes) t.kept.indexed c.args.id c.take-slot.result here in
     ap (λ o. is_some o) x.1
 
 pub into_spare-outs-requires : goal.into_spare-outs-requires
