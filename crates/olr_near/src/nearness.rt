@@ -64,7 +64,9 @@ impl Nearness {
         ensures known { IsTrue self.new.known }
         ensures numbers { (v : ℕ) → number_of self.new v ≡ None }
     {
-        self.numbers = HashMap::with_hasher(self.alloc, BuildHasherDefault::new());
+        if !self.numbers.is_empty() {
+            self.numbers = HashMap::with_hasher(self.alloc, BuildHasherDefault::new());
+        }
         self.waiting.clear();
         self.known = true;
     }
