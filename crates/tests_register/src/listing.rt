@@ -25,11 +25,11 @@ fn touched_nodes_and_lines(rt: HostRuntime) {
     note(&rt, &mut touched, 9, 9, None);
     for number in 1..=10 {
         let noted = number % 2 == 1 && number > 1;
-        assert_eq!(rt; touched.has_node(node(number)), noted, "node {number}");
+        assert!(rt; touched.has_node(node(number)) == noted, "node {number}");
     }
     for number in [5, 10, 15, 20, 25] {
         let noted = number == 10 || number == 20;
-        assert_eq!(rt; touched.has_line(line(number)), noted, "line {number}");
+        assert!(rt; touched.has_line(line(number)) == noted, "line {number}");
     }
 }
 

@@ -71,8 +71,8 @@ fn expect_entry(rt: &impl Abort, entry: &Entry, told: &Told<'_>) {
 /// That these are the entries of exactly these paths, in this order.
 fn expect_entries(rt: &impl Abort, entries: &[Entry], told: &[Told<'_>]) {
     assert_eq!(rt; entries.len(), told.len());
-    for (entry, told) in entries.iter().zip(told) {
-        expect_entry(rt, entry, told);
+    for k in 0..told.len() {
+        expect_entry(rt, &entries[k], &told[k]);
     }
 }
 
@@ -92,8 +92,8 @@ pub(crate) fn edits(rt: &impl Abort, register: &mut Register, edit: Edit) {
 /// That the entries are those of these names, in this order.
 fn expect_named(rt: &impl Abort, entries: &[Entry], names: &[&str]) {
     assert_eq!(rt; entries.len(), names.len());
-    for (entry, name) in entries.iter().zip(names) {
-        assert_eq!(rt; entry.name.as_str(), *name);
+    for k in 0..names.len() {
+        assert_eq!(rt; entries[k].name.as_str(), names[k]);
     }
 }
 
@@ -132,10 +132,25 @@ pub(crate) fn expect_text(rt: &impl Abort, register: &Register, name: &str, text
 /// That these are the names of the paths, in this order.
 pub(crate) fn expect_names(rt: &impl Abort, register: &Register, names: &[&str]) {
     assert_eq!(rt; register.len(), names.len());
-    for (k, name) in names.iter().enumerate() {
-        assert_eq!(rt; register.name_at(k), Some(*name));
+    for k in 0..names.len() {
+        assert_eq!(rt; register.name_at(k), Some(names[k]));
     }
     assert_eq!(rt; register.name_at(names.len()), None);
+    expect_iterated(rt, register, names);
+}
+
+/// That the iterator gives these paths, each with the text that is published of it.
+fn expect_iterated(rt: &impl Abort, register: &Register, names: &[&str]) {
+    let mut paths = register.iter();
+    assert_eq!(rt; paths.len(), names.len());
+    for name in names {
+        let Some((found, published)) = paths.next() else {
+            panic!(rt; "no path {name}");
+        };
+        let same = (found, published.text()) == (*name, register.text(name));
+        assert!(rt; same, "of {name}");
+    }
+    assert!(rt; paths.next().is_none());
 }
 
 /// That so many paths were encoded or kept their answer, and so many kept it.
