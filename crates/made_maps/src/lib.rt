@@ -2,8 +2,10 @@
 #![tactic(auto)]
 
 pub mod alike;
+pub mod ends;
 
 pub use alike::difference;
+pub use ends::{end_of, start_of};
 use olr_coords::Coord;
 use olr_map::{Edit, EditFault, Line, LineId, NodeId, RoadMap, Shape};
 use std::alloc::{AllocError, Global};
@@ -56,6 +58,12 @@ pub const SIDE: Road = (99, 2, 3, 4, 3, 1500, STRAIGHT);
 
 /// The worked map: a road of three lines from node 1 to node 4, and the side road, which comes first.
 pub const WORKED: Plan = (PLACES, &[SIDE, FIRST, SECOND, THIRD]);
+
+/// The number after this one in a row without pattern.
+pub fn next(seed: u64) -> u64 {
+    seed.wrapping_mul(6_364_136_223_846_793_005)
+        .wrapping_add(1_442_695_040_888_963_407)
+}
 
 /// The node with this number. Numbers begin at 1, which stands for 0 too.
 pub fn node(number: u32) -> NodeId {

@@ -1,20 +1,16 @@
 //! Searches on a grid of 20 by 20 nodes, from a corner, from the middle and from the other corner.
 ghost use Rattle.std.specs.Prelude.{◌≤◌};
 
-use olr_coords::Coord;
-use olr_map::{Edit, Footprint, Line, LineId, MapRead, NodeId, PlainMap, RoadMap};
+use made_maps::{make, new_node, node, plain_line};
+use olr_map::{Edit, Footprint, MapRead, PlainMap, RoadMap};
 use olr_route::{Labels, Work, plain, search};
 use std::alloc::Global;
 use std::process::Abort;
 
 /// Nodes in a row, and rows.
 const SIDE: u32 = 20;
-/// A thousandth of a degree, in units.
-const STEP: i64 = 327_680_000;
-
-fn node(rt: &impl Abort, number: u32) -> NodeId {
-    NodeId::new(number).expect(rt, "a node's number")
-}
+/// A thousandth of a degree, in 1/100,000 degree.
+const STEP: u32 = 100;
 
 /// The ends of the grid's lines in the order of their numbers: node by node the line east and the one back, and then
 /// the line north and the one back.
@@ -47,24 +43,17 @@ fn edits(rt: &impl Abort, alloc: Global) -> Vec<Edit> {
     let mut edits = Vec::new(alloc);
     for row in 0..SIDE {
         for column in 0..SIDE {
-            let place = Coord::new(column as i64 * STEP, row as i64 * STEP).expect(rt, "a place");
-            let added = edits.push(Edit::AddNode(node(rt, SIDE * row + column + 1), place));
+            let number = SIDE * row + column + 1;
+            let place = (number, (STEP * column) as i32, (STEP * row) as i32);
+            let added = edits.push(new_node(place));
             assert!(rt; added.is_ok());
         }
     }
     let mut number = 0u32;
     for (from, to) in &ends(rt, alloc) {
         number = number.saturating_add(1);
-        let line = Line {
-            from: node(rt, *from),
-            to: node(rt, *to),
-            frc: 4,
-            fow: 3,
-            len: 700 + number % 5,
-            shape: Vec::new(alloc),
-        };
-        let id = LineId::new(number).expect(rt, "a line's number");
-        let added = edits.push(Edit::AddLine(id, line));
+        let line = (number, *from, *to, 700 + number % 5);
+        let added = edits.push(plain_line(alloc, line));
         assert!(rt; added.is_ok());
     }
     edits
@@ -73,10 +62,8 @@ fn edits(rt: &impl Abort, alloc: Global) -> Vec<Edit> {
 fn road_map(rt: &impl Abort, alloc: Global) -> RoadMap {
     let mut map = RoadMap::new(alloc);
     for edit in edits(rt, alloc) {
-        match map.apply(edit) {
-            Ok(undo) => map.keep(undo),
-            Err(_) => panic!(rt; "a refused edit"),
-        }
+        let made = make(&mut map, edit);
+        assert!(rt; made.is_ok());
     }
     map
 }
@@ -94,7 +81,7 @@ fn plain_map(rt: &impl Abort, alloc: Global) -> PlainMap {
 
 fn assert_same(rt: &impl Abort, left: &Labels, right: &Labels) {
     for number in 0..SIDE * SIDE {
-        let node = node(rt, number + 1);
+        let node = node(number + 1);
         assert_eq!(rt; left.dist(node), right.dist(node), "at {node:?}");
         assert_eq!(rt; left.last_line(node), right.last_line(node), "at {node:?}");
     }
@@ -103,7 +90,7 @@ fn assert_same(rt: &impl Abort, left: &Labels, right: &Labels) {
 /// That both maps tell the same far ends of each node's lines.
 fn assert_same_ends(rt: &impl Abort, left: &RoadMap, right: &PlainMap) {
     for number in 0..SIDE * SIDE {
-        let node = node(rt, number + 1);
+        let node = node(number + 1);
         assert_eq!(rt; left.out_ends(node), right.out_ends(node), "from {node:?}");
         assert_eq!(rt; left.in_ends(node), right.in_ends(node), "to {node:?}");
     }
@@ -120,7 +107,7 @@ fn labels_from<M: MapRead>(
 ) -> Labels
     requires { limit ≤ 150000 }
 {
-    let source = node(rt, source);
+    let source = node(source);
     assert!(rt; map.node(source).is_some());
     let mut work = Work::default();
     let mut footprint = Footprint::new(alloc);

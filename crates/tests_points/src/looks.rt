@@ -1,13 +1,14 @@
 //! What encodings look at: own nodes and looks, worked out by hand, and the footprints that they make up.
 
-use crate::maps::{
-    BARE, BASE, BASE_PLACES, Course, FIRST_ROAD, LONG, LONG_BARE, PASSING, Place, Plan, Road,
-    SECOND_ROAD, STRAIGHT, THIRD_ROAD, add_line, map_of, path_of,
+use crate::maps::{BARE, Course, LONG, LONG_BARE, PASSING, path_of};
+use made_maps::{
+    FIRST, PLACES, Place, Plan, SECOND, SIDE, STRAIGHT, THIRD, WORKED, make, map_of, new_node,
+    plain_line,
 };
-use olr_map::{Footprint, RoadMap};
+use olr_map::{Edit, Footprint, RoadMap};
 use olr_refs::{Encoding, Path, encode, refer};
 use olr_route::{Direction, GREATEST_LIMIT, Search, Work, near};
-use std::alloc::Global;
+use std::alloc::{AllocError, Global};
 use std::process::Abort;
 use std::test::Fail;
 
@@ -49,6 +50,37 @@ fn expect_footprint(
     Ok(())
 }
 
+/// The numbers of the own nodes of an encoding.
+fn own_of(alloc: Global, encoding: &Encoding) -> Result<Vec<u32>, AllocError> {
+    let mut own = Vec::new(alloc);
+    for node in encoding.own.as_slice() {
+        own.push(node.number())?;
+    }
+    Ok(own)
+}
+
+/// What an encoding looked at.
+fn looks_of(alloc: Global, encoding: &Encoding) -> Result<Vec<Seen>, AllocError> {
+    let mut looks = Vec::new(alloc);
+    for look in &encoding.looks {
+        looks.push((look.from.number(), look.to.number(), look.within))?;
+    }
+    Ok(looks)
+}
+
+/// Asserts what the encoding of a path looked at.
+fn expect_seen(
+    rt: &impl Abort,
+    alloc: Global,
+    encoding: &Encoding,
+    wanted: Wanted,
+    course: Course,
+) {
+    let own = own_of(alloc, encoding).expect(rt, "memory");
+    let looks = looks_of(alloc, encoding).expect(rt, "memory");
+    assert_eq!(rt; (own.as_slice(), looks.as_slice()), wanted, "of {course:?}");
+}
+
 /// Asserts what a path on a map looks at, and that this makes up its footprint.
 fn expect_looks(
     rt: &impl Abort,
@@ -57,59 +89,52 @@ fn expect_looks(
     course: Course,
     wanted: Wanted,
 ) -> Result<(), Fail> {
-    let path = path_of(rt, alloc, course)?;
+    let path = path_of(rt, alloc, course);
     let mut search = Search::new(alloc);
     let mut work = Work::default();
     let encoding = encode(alloc, map, &path, &mut search, &mut work)?;
-    let mut own = Vec::new(alloc);
-    for node in encoding.own.as_slice() {
-        own.push(node.number())?;
-    }
-    let mut looks = Vec::new(alloc);
-    for look in &encoding.looks {
-        looks.push((look.from.number(), look.to.number(), look.within))?;
-    }
-    assert_eq!(rt; (own.as_slice(), looks.as_slice()), wanted, "of {course:?}");
-    let searches = looks.len() as u64;
-    assert_eq!(rt;
-        (work.encodings, work.searches),
-        (1, searches),
-        "of {course:?}"
-    );
+    expect_seen(rt, alloc, &encoding, wanted, course);
+    let searches = encoding.looks.len() as u64;
+    let counted = (work.encodings, work.searches);
+    assert_eq!(rt; counted, (1, searches), "of {course:?}");
     expect_footprint(rt, alloc, map, &path, &encoding)
 }
 
-/// The base map with a side road as long as the line beside it.
+/// The same on the map of a plan.
+fn expect_looks_on(
+    rt: &impl Abort,
+    alloc: Global,
+    plan: Plan,
+    course: Course,
+    wanted: Wanted,
+) -> Result<(), Fail> {
+    let map = map_of(alloc, plan)?;
+    expect_looks(rt, alloc, &map, course, wanted)
+}
+
+/// The worked map with a side road as long as the line beside it.
 const EQUAL: Plan = (
-    BASE_PLACES,
-    &[
-        FIRST_ROAD,
-        SECOND_ROAD,
-        THIRD_ROAD,
-        (99, 2, 3, 4, 3, 2000, STRAIGHT),
-    ],
+    PLACES,
+    &[FIRST, SECOND, THIRD, (99, 2, 3, 4, 3, 2000, STRAIGHT)],
 );
 
-/// The base map without its second line.
-const BROKEN: Plan = (
-    BASE_PLACES,
-    &[FIRST_ROAD, THIRD_ROAD, (99, 2, 3, 4, 3, 1500, STRAIGHT)],
-);
+/// The worked map without its second line.
+const BROKEN: Plan = (PLACES, &[FIRST, THIRD, SIDE]);
 
-/// The base map without its side road, and a way round the second line by nodes 6 and 7.
+/// The worked map without its side road, and a way round the second line by nodes 6 and 7.
 const DETOUR: Plan = (
     &[
-        (1, "6.12683", "49.60852"),
-        (2, "6.12838", "49.60399"),
-        (3, "6.1279", "49.6035"),
-        (4, "6.12817", "49.60306"),
-        (6, "6.129", "49.604"),
-        (7, "6.129", "49.6035"),
+        (1, 612_683, 4_960_852),
+        (2, 612_838, 4_960_399),
+        (3, 612_790, 4_960_350),
+        (4, 612_817, 4_960_306),
+        (6, 612_900, 4_960_400),
+        (7, 612_900, 4_960_350),
     ],
     &[
-        FIRST_ROAD,
-        SECOND_ROAD,
-        THIRD_ROAD,
+        FIRST,
+        SECOND,
+        THIRD,
         (60, 2, 6, 4, 3, 700, STRAIGHT),
         (61, 6, 7, 4, 3, 600, STRAIGHT),
         (62, 7, 3, 4, 3, 700, STRAIGHT),
@@ -117,12 +142,7 @@ const DETOUR: Plan = (
 );
 
 /// Nodes in a row.
-const ROW: &[Place] = &[
-    (1, "0", "0"),
-    (2, "0", "0.1"),
-    (3, "0", "0.11"),
-    (4, "0", "0.12"),
-];
+const ROW: &[Place] = &[(1, 0, 0), (2, 0, 10_000), (3, 0, 11_000), (4, 0, 12_000)];
 
 /// A line as long as two points may be apart, one a decimetre longer, and that one with two lines behind it.
 const LONGEST: Plan = (ROW, &[(10, 1, 2, 0, 1, 150_000, STRAIGHT)]);
@@ -141,11 +161,11 @@ const TOO_LONG_FIRST: Plan = (
 /// A way round from node 2 to node 2.
 const ROUND: Plan = (
     &[
-        (1, "0", "0"),
-        (2, "0.001", "0"),
-        (3, "0.002", "0.001"),
-        (4, "0.002", "-0.001"),
-        (5, "0.001", "-0.001"),
+        (1, 0, 0),
+        (2, 100, 0),
+        (3, 200, 100),
+        (4, 200, -100),
+        (5, 100, -100),
     ],
     &[
         (10, 1, 2, 4, 3, 1200, STRAIGHT),
@@ -165,7 +185,7 @@ const FOUR: &[u32] = &[1, 2, 3, 4];
 const CASES: &[(Plan, Course, Wanted)] = &[
     // From node 2, where line 10 ends, to node 3 it is 2000 dm along line 20, and not the 1500 of the side road. Only
     // line 30 follows line 20, so nothing is looked at from there.
-    (BASE, WHOLE, (FOUR, &[(2, 3, 2000)])),
+    (WORKED, WHOLE, (FOUR, &[(2, 3, 2000)])),
     // of two ways equally long none is taken
     (EQUAL, WHOLE, (FOUR, &[(2, 3, 2000)])),
     // without the side road position 2 is covered, and it is the last that is tested
@@ -195,63 +215,44 @@ const CASES: &[(Plan, Course, Wanted)] = &[
 
 #[test]
 fn own_nodes_and_looks(rt: HostRuntime) -> Result<(), Fail> {
-    let alloc = rt.alloc();
     for (plan, course, wanted) in CASES {
-        let map = map_of(&rt, alloc, *plan);
-        expect_looks(&rt, alloc, &map, *course, *wanted)?;
+        expect_looks_on(&rt, rt.alloc(), *plan, *course, *wanted)?;
     }
     Ok(())
 }
 
-/// The nodes of a grid of five by five, row by row.
-const GRID: Plan = (
-    &[
-        (1, "0", "0"),
-        (2, "0.01", "0"),
-        (3, "0.02", "0"),
-        (4, "0.03", "0"),
-        (5, "0.04", "0"),
-        (6, "0", "0.01"),
-        (7, "0.01", "0.01"),
-        (8, "0.02", "0.01"),
-        (9, "0.03", "0.01"),
-        (10, "0.04", "0.01"),
-        (11, "0", "0.02"),
-        (12, "0.01", "0.02"),
-        (13, "0.02", "0.02"),
-        (14, "0.03", "0.02"),
-        (15, "0.04", "0.02"),
-        (16, "0", "0.03"),
-        (17, "0.01", "0.03"),
-        (18, "0.02", "0.03"),
-        (19, "0.03", "0.03"),
-        (20, "0.04", "0.03"),
-        (21, "0", "0.04"),
-        (22, "0.01", "0.04"),
-        (23, "0.02", "0.04"),
-        (24, "0.03", "0.04"),
-        (25, "0.04", "0.04"),
-    ],
-    &[],
-);
-
-/// A line between two neighbours of the grid.
-fn road(number: u32, from: u32, to: u32) -> Road {
-    (number, from, to, 4, 3, 40_000, STRAIGHT)
+/// Makes an edit of a grid, and lets it stand.
+fn put(rt: &impl Abort, map: &mut RoadMap, edit: Edit) {
+    let made = make(map, edit);
+    assert!(rt; made.is_ok());
 }
 
-/// The grid, with a line each way between neighbours, so long that no more than three follow one another within
-/// 150,000 dm. From node n lines 100 + n, 200 + n, 300 + n and 400 + n go east, west, north and south.
+/// The edit that adds a line between two neighbours of the grid.
+fn road(alloc: Global, number: u32, from: u32, to: u32) -> Edit {
+    plain_line(alloc, (number, from, to, 40_000))
+}
+
+/// A grid of five by five nodes, row by row, with a line each way between neighbours, so long that no more than three
+/// follow one another within 150,000 dm. From node n lines 100 + n, 200 + n, 300 + n and 400 + n go east, west, north and
+/// south.
 fn grid_map(rt: &impl Abort, alloc: Global) -> RoadMap {
-    let mut map = map_of(rt, alloc, GRID);
+    let mut map = RoadMap::new(alloc);
+    for node in 0..25 {
+        let (column, row) = ((node % 5) as i32, (node / 5) as i32);
+        put(
+            rt,
+            &mut map,
+            new_node((node + 1, 1000 * column, 1000 * row)),
+        );
+    }
     for node in 1..26 {
         if node % 5 != 0 {
-            add_line(rt, alloc, &mut map, road(100 + node, node, node + 1));
-            add_line(rt, alloc, &mut map, road(201 + node, node + 1, node));
+            put(rt, &mut map, road(alloc, 100 + node, node, node + 1));
+            put(rt, &mut map, road(alloc, 201 + node, node + 1, node));
         }
         if node <= 20 {
-            add_line(rt, alloc, &mut map, road(300 + node, node, node + 5));
-            add_line(rt, alloc, &mut map, road(405 + node, node + 5, node));
+            put(rt, &mut map, road(alloc, 300 + node, node, node + 5));
+            put(rt, &mut map, road(alloc, 405 + node, node + 5, node));
         }
     }
     map
@@ -281,12 +282,21 @@ const ON_GRID: &[(Course, Wanted)] = &[
     ),
 ];
 
-#[test]
-fn looks_on_a_grid(rt: HostRuntime) -> Result<(), Fail> {
-    let alloc = rt.alloc();
-    let map = grid_map(&rt, alloc);
-    for (course, wanted) in ON_GRID {
-        expect_looks(&rt, alloc, &map, *course, *wanted)?;
+/// Asserts what paths on a map look at.
+fn expect_all(
+    rt: &impl Abort,
+    alloc: Global,
+    map: &RoadMap,
+    cases: &[(Course, Wanted)],
+) -> Result<(), Fail> {
+    for (course, wanted) in cases {
+        expect_looks(rt, alloc, map, *course, *wanted)?;
     }
     Ok(())
+}
+
+#[test]
+fn looks_on_a_grid(rt: HostRuntime) -> Result<(), Fail> {
+    let map = grid_map(&rt, rt.alloc());
+    expect_all(&rt, rt.alloc(), &map, ON_GRID)
 }

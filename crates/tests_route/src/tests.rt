@@ -1,11 +1,12 @@
 //! Searches and walks on small maps.
-ghost use Rattle.std.specs.Prelude.{◌≡◌, ◌≤◌, ℕ, IsTrue};
+ghost use Rattle.std.specs.Prelude.{◌≡◌, ◌≤◌, ℕ};
 ghost use Rattle.std.specs.Bool.{OnTrue};
-ghost use Rattle.olr_spec.specs.Map.{has_line, start, end};
 ghost use Rattle.olr_spec.specs.Walks.{Walk};
 ghost use Rattle.olr_route.specs.Labels.{AreLabels};
 
-use made_maps::{Plain, STRAIGHT, WORKED, line, make, map_of, node, other_line, plain_map};
+use made_maps::{
+    Plain, STRAIGHT, WORKED, end_of, line, make, map_of, node, other_line, plain_map, start_of,
+};
 use olr_map::{Footprint, LineId, MapRead, NodeId, RoadMap};
 use olr_route::{
     Direction, GREATEST_LIMIT, Labels, Search, Work, extends_least, extends_sole, is_least,
@@ -73,22 +74,6 @@ fn labels_from<M: MapRead>(
         Ok(labels) => labels,
         Err(_) => panic!(rt; "no memory"),
     }
-}
-
-/// The node where a line begins.
-fn start_of<M: MapRead>(map: &M, line: LineId) -> NodeId
-    requires { IsTrue (has_line (M.map map.now) line) }
-    ensures { result ≡ start (M.map map.now) line }
-{
-    map.line(line).unwrap().from
-}
-
-/// The node where a line ends.
-fn end_of<M: MapRead>(map: &M, line: LineId) -> NodeId
-    requires { IsTrue (has_line (M.map map.now) line) }
-    ensures { result ≡ end (M.map map.now) line }
-{
-    map.line(line).unwrap().to
 }
 
 /// Whether the lines are in the map, the first begins at the source and each other where the one before ends.
