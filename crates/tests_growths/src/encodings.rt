@@ -1,175 +1,124 @@
 //! A path of three points, encoded again where a growth was refused, and a search made again.
 
-use olr_binary::to_text;
-use olr_coords::{Coord, read_degrees};
-use olr_map::{Edit, Footprint, Line, LineId, MapRead, NodeId, RoadMap, Shape};
+use made_maps::{WORKED, lines, map_of, node};
+use olr_binary::{Reference, to_text};
+use olr_map::{Footprint, LineId, MapRead, RoadMap};
 use olr_refs::{Answer, Encoding, Path, encode};
-use olr_route::{Search, Work, search};
+use olr_route::{Labels, Search, Work, search};
 use std::alloc::Global;
 use std::process::Abort;
 
-/// A place on the way of a line: how far it is from where the line begins, in decimetres, longitude and latitude.
-type Bend = (u32, &'static str, &'static str);
-
-/// A line: its number, the nodes where it begins and ends, class, form of way, length in decimetres, and its bends.
-type Road = (u32, u32, u32, u8, u8, u32, &'static [Bend]);
-
-const STRAIGHT: &[Bend] = &[];
-
-fn coord(rt: &impl Abort, lon: &str, lat: &str) -> Coord {
-    let lon = read_degrees(lon.as_bytes()).expect(rt, "a longitude");
-    let lat = read_degrees(lat.as_bytes()).expect(rt, "a latitude");
-    Coord::new(lon, lat).expect(rt, "a place")
-}
-
-fn node(rt: &impl Abort, number: u32) -> NodeId {
-    NodeId::new(number).expect(rt, "a number of a node")
-}
-
-fn line(rt: &impl Abort, number: u32) -> LineId {
-    LineId::new(number).expect(rt, "a number of a line")
-}
-
-/// These bends, or None where a growth was refused.
-fn shape(rt: &impl Abort, alloc: Global, bends: &[Bend]) -> Option<Vec<Shape>> {
-    let mut shape = Vec::new(alloc);
-    for (at, lon, lat) in bends {
-        let bend = Shape {
-            at: *at,
-            place: coord(rt, lon, lat),
-        };
-        shape.push(bend).ok()?;
-    }
-    Some(shape)
-}
-
-/// Adds a line. None where a growth was refused.
-fn add_line(rt: &impl Abort, alloc: Global, map: &mut RoadMap, road: Road) -> Option<()> {
-    let (number, from, to, frc, fow, len, bends) = road;
-    let record = Line {
-        from: node(rt, from),
-        to: node(rt, to),
-        frc,
-        fow,
-        len,
-        shape: shape(rt, alloc, bends)?,
-    };
-    let undo = map.apply(Edit::AddLine(line(rt, number), record)).ok()?;
-    map.keep(undo);
-    Some(())
-}
-
-/// A road of three lines with a shorter side road beside the second. None where a growth was refused.
-fn road_map(rt: &impl Abort, alloc: Global) -> Option<RoadMap> {
-    let mut map = RoadMap::new(alloc);
-    for (number, lon, lat) in [
-        (1, "6.12683", "49.60852"),
-        (2, "6.12838", "49.60399"),
-        (3, "6.1279", "49.6035"),
-        (4, "6.12817", "49.60306"),
-    ] {
-        let place = coord(rt, lon, lat);
-        let undo = map.apply(Edit::AddNode(node(rt, number), place)).ok()?;
-        map.keep(undo);
-    }
-    let first = [(200, "6.12701", "49.60838"), (5410, "6.1282", "49.60413")].as_slice();
-    let second = [(200, "6.1282", "49.60389")].as_slice();
-    let third = [(540, "6.12792", "49.60311")].as_slice();
-    for road in [
-        (10, 1, 2, 3, 2, 5610, first),
-        (20, 2, 3, 3, 3, 2000, second),
-        (30, 3, 4, 5, 3, 740, third),
-        (99, 2, 3, 4, 3, 1500, STRAIGHT),
-    ] {
-        add_line(rt, alloc, &mut map, road)?;
-    }
-    Some(map)
-}
-
-/// The path along the road. None where a growth was refused.
-fn road_path(rt: &impl Abort, alloc: Global) -> Option<Path> {
-    let mut lines = Vec::new(alloc);
-    for number in [10, 20, 30] {
-        lines.push(line(rt, number)).ok()?;
-    }
+/// The path along the road of the worked map. None where a growth was refused.
+fn road_path(alloc: Global) -> Option<Path> {
+    let lines = lines(alloc, &[10, 20, 30]).ok()?;
     Path::new(alloc, lines, 1500, 0).ok()
 }
 
-/// Asserts that the answer is the road's string, that all its nodes are own ones, and that it was looked at from node 2.
-fn assert_right(rt: &impl Abort, alloc: Global, encoding: &Encoding) {
-    let nodes = [node(rt, 1), node(rt, 2), node(rt, 3), node(rt, 4)];
-    assert_eq!(rt; encoding.own.as_slice(), nodes.as_slice());
-    assert_eq!(rt; encoding.looks.len(), 1);
-    for look in &encoding.looks {
-        let found = (look.from.number(), look.to.number(), look.within);
-        assert_eq!(rt; found, (2, 3, 2000));
-    }
-    match &encoding.answer {
-        Answer::Points(reference) => {
-            let text = match to_text(alloc, reference) {
-                Ok(text) => text,
-                Err(_) => to_text(alloc, reference).expect(rt, "memory the second time"),
-            };
-            assert_eq!(rt; text.as_str(), "CwRbWyNG9RpsCQCb/jsbtAT/6/+jK1lE");
-        }
-        Answer::Refused(refusal) => panic!(rt; "{refusal:?}"),
+/// The string of the path.
+const TEXT: &str = "CwRbWyNG9RpsCQCb/jsbtAT/6/+jK1lE";
+
+/// The worked map, made anew where a growth was refused.
+fn some_map(rt: &impl Abort, alloc: Global) -> RoadMap {
+    match map_of(alloc, WORKED) {
+        Ok(map) => map,
+        Err(_) => map_of(alloc, WORKED).expect(rt, "memory the second time"),
     }
 }
 
-/// The map of the road, made anew where a growth was refused.
-fn some_map(rt: &impl Abort, alloc: Global) -> RoadMap {
-    match road_map(rt, alloc) {
-        Some(map) => map,
-        None => road_map(rt, alloc).expect(rt, "memory the second time"),
+/// The path along its road, made anew where a growth was refused.
+fn some_path(rt: &impl Abort, alloc: Global) -> Path {
+    match road_path(alloc) {
+        Some(path) => path,
+        None => road_path(alloc).expect(rt, "memory the second time"),
     }
+}
+
+/// The encoding of a path, begun again where a growth was refused.
+fn some_encoding(rt: &impl Abort, alloc: Global, map: &RoadMap, path: &Path) -> Encoding {
+    let mut search = Search::new(alloc);
+    let mut work = Work::default();
+    match encode(alloc, map, path, &mut search, &mut work) {
+        Ok(found) => found,
+        Err(_) => encode(alloc, map, path, &mut search, &mut work).expect(
+            rt,
+            "memory the second time",
+        ),
+    }
+}
+
+/// The text of a reference, made again where a growth was refused.
+fn some_text(rt: &impl Abort, alloc: Global, reference: &Reference) -> String {
+    match to_text(alloc, reference) {
+        Ok(text) => text,
+        Err(_) => to_text(alloc, reference).expect(rt, "memory the second time"),
+    }
+}
+
+/// Asserts that all nodes of the map are own ones, and that it was looked at from node 2.
+fn assert_looks(rt: &impl Abort, encoding: &Encoding) {
+    let nodes = [node(1), node(2), node(3), node(4)];
+    assert!(rt; encoding.own.as_slice() == nodes.as_slice());
+    assert!(rt; encoding.looks.len() == 1);
+    for look in &encoding.looks {
+        let found = (look.from, look.to, look.within);
+        assert!(rt; found == (node(2), node(3), 2000));
+    }
+}
+
+/// Asserts that the answer is the path's string.
+fn assert_right(rt: &impl Abort, alloc: Global, answer: &Answer) {
+    let Answer::Points(reference) = answer else {
+        panic!(rt; "a refusal");
+    };
+    let text = some_text(rt, alloc, reference);
+    assert!(rt; text.as_str() == TEXT);
 }
 
 #[test]
 fn an_encoding_survives(rt: HostRuntime) {
-    let alloc = rt.alloc();
-    let map = some_map(&rt, alloc);
-    let path = match road_path(&rt, alloc) {
-        Some(path) => path,
-        None => road_path(&rt, alloc).expect(&rt, "memory the second time"),
-    };
-    let mut search = Search::new(alloc);
+    let map = some_map(&rt, rt.alloc());
+    let path = some_path(&rt, rt.alloc());
+    let encoding = some_encoding(&rt, rt.alloc(), &map, &path);
+    assert_looks(&rt, &encoding);
+    assert_right(&rt, rt.alloc(), &encoding.answer);
+}
+
+/// The labels of a search from node 1, begun again where a growth was refused.
+fn some_labels(rt: &impl Abort, alloc: Global, map: &RoadMap, nodes: &mut Footprint) -> Labels {
+    let source = node(1);
+    assert!(rt; map.node(source).is_some());
     let mut work = Work::default();
-    let encoding = match encode(alloc, &map, &path, &mut search, &mut work) {
-        Ok(found) => found,
-        Err(_) => encode(alloc, &map, &path, &mut search, &mut work).expect(
-            &rt,
+    match search(alloc, map, source, 7500, nodes, &mut work) {
+        Ok(labels) => labels,
+        Err(_) => search(alloc, map, source, 7500, nodes, &mut work).expect(
+            rt,
             "memory the second time",
         ),
-    };
-    assert_right(&rt, alloc, &encoding);
+    }
+}
+
+/// Asserts that a node has this distance and last line.
+fn assert_label(rt: &impl Abort, labels: &Labels, number: u32, dist: Option<u32>, last: u32) {
+    let node = node(number);
+    assert!(rt; labels.dist(node) == dist, "to {number}");
+    let found = labels.last_line(node).map(|line: LineId| line.number());
+    assert!(rt; found.unwrap_or(0) == last, "to {number}");
+}
+
+/// Asserts that nodes 1 to 3 are labelled, and the third by the side road.
+fn assert_labels(rt: &impl Abort, labels: &Labels) {
+    assert_label(rt, labels, 1, Some(0), 0);
+    assert_label(rt, labels, 2, Some(5610), 10);
+    assert_label(rt, labels, 3, Some(7110), 99);
+    assert_label(rt, labels, 4, None, 0);
 }
 
 #[test]
 fn a_search_survives(rt: HostRuntime) {
-    let alloc = rt.alloc();
-    let map = some_map(&rt, alloc);
-    let source = node(&rt, 1);
-    assert!(rt; map.node(source).is_some());
-    let mut nodes = Footprint::new(alloc);
-    let mut work = Work::default();
-    let labels = match search(alloc, &map, source, 7500, &mut nodes, &mut work) {
-        Ok(labels) => labels,
-        Err(_) => search(alloc, &map, source, 7500, &mut nodes, &mut work).expect(
-            &rt,
-            "memory the second time",
-        ),
-    };
-    let wanted = [node(&rt, 1), node(&rt, 2), node(&rt, 3)];
-    assert_eq!(rt; nodes.as_slice(), wanted.as_slice());
-    for (number, dist, last) in [
-        (1, Some(0), None),
-        (2, Some(5610), Some(10)),
-        (3, Some(7110), Some(99)),
-        (4, None, None),
-    ] {
-        let node = node(&rt, number);
-        assert_eq!(rt; labels.dist(node), dist, "to {number}");
-        let found = labels.last_line(node).map(|line: LineId| line.number());
-        assert_eq!(rt; found, last, "to {number}");
-    }
+    let map = some_map(&rt, rt.alloc());
+    let mut nodes = Footprint::new(rt.alloc());
+    let labels = some_labels(&rt, rt.alloc(), &map, &mut nodes);
+    let wanted = [node(1), node(2), node(3)];
+    assert!(rt; nodes.as_slice() == wanted.as_slice());
+    assert_labels(&rt, &labels);
 }

@@ -70,7 +70,10 @@ fn command(alloc: Global, record: &str) -> Result<Command, AllocError> {
 }
 
 fn lacks_memory(fault: CommandFault) -> bool {
-    fault == CommandFault::Memory || fault == CommandFault::Map(EditFault::Memory)
+    matches!(
+        fault,
+        CommandFault::Memory | CommandFault::Map(EditFault::Memory)
+    )
 }
 
 /// Why a path has no string.
@@ -94,11 +97,11 @@ fn footprint(rt: &impl Abort, register: &Register, name: &str) -> Option<Footpri
 
 /// That two registers publish the same of a path, which rests on the same nodes.
 fn assert_same_path(rt: &impl Abort, one: &Register, other: &Register, name: &str) {
-    assert_eq!(rt; one.text(name), other.text(name), "of {name}");
-    assert_eq!(rt; refusal(one, name), refusal(other, name), "of {name}");
+    assert!(rt; one.text(name) == other.text(name), "of {name}");
+    assert!(rt; refusal(one, name) == refusal(other, name), "of {name}");
     match (footprint(rt, one, name), footprint(rt, other, name)) {
         (Some(found), Some(wanted)) => {
-            assert_eq!(rt; found.as_slice(), wanted.as_slice(), "of {name}");
+            assert!(rt; found.as_slice() == wanted.as_slice(), "of {name}");
         }
         (None, None) => {}
         _ => panic!(rt; "a footprint of {name} in one alone"),
@@ -107,11 +110,11 @@ fn assert_same_path(rt: &impl Abort, one: &Register, other: &Register, name: &st
 
 /// That two registers have the same paths, counts and open batch.
 fn assert_alike(rt: &impl Abort, one: &Register, other: &Register) {
-    assert_eq!(rt; one.len(), other.len());
-    assert_eq!(rt; one.is_open(), other.is_open());
-    assert_eq!(rt; (one.work(), one.kept()), (other.work(), other.kept()));
+    assert!(rt; one.len() == other.len());
+    assert!(rt; one.is_open() == other.is_open());
+    assert!(rt; (one.work(), one.kept()) == (other.work(), other.kept()));
     for k in 0..one.len() {
-        assert_eq!(rt; one.name_at(k), other.name_at(k));
+        assert!(rt; one.name_at(k) == other.name_at(k));
         if let Some(name) = one.name_at(k) {
             assert_same_path(rt, one, other, name);
         }
@@ -146,25 +149,61 @@ fn answered(
     }
 }
 
+/// What it answers, asked a second time where a growth was refused.
+fn again(rt: &impl Abort, alloc: Global, register: &mut Register, record: &str) -> Vec<u8> {
+    match answered(rt, alloc, register, record) {
+        Some(text) => text,
+        None => answered(rt, alloc, register, record).expect(rt, "memory the second time"),
+    }
+}
+
+/// What a register answers to a record. Where a growth was refused it is as its twin, and is asked a second time.
+fn survived(
+    rt: &impl Abort,
+    alloc: Global,
+    register: &mut Register,
+    twin: &Register,
+    record: &str,
+) -> Vec<u8> {
+    match answered(rt, alloc, register, record) {
+        Some(text) => text,
+        None => {
+            assert_alike(rt, register, twin);
+            again(rt, alloc, register, record)
+        }
+    }
+}
+
+/// Gives a record to a register and to its twin, which answer the same.
+fn give(
+    rt: &impl Abort,
+    alloc: Global,
+    register: &mut Register,
+    twin: &mut Register,
+    record: &str,
+) {
+    let text = survived(rt, alloc, register, twin, record);
+    let other = again(rt, alloc, twin, record);
+    assert!(rt; text.as_slice() == other.as_slice(), "to {record}");
+}
+
+/// Gives all records to a register and to its twin, which are then alike.
+fn give_all(rt: &impl Abort, alloc: Global, register: &mut Register, twin: &mut Register) {
+    for record in SCRIPT.lines() {
+        give(rt, alloc, register, twin, record);
+    }
+    assert!(rt; register.kept() > 0);
+    assert_alike(rt, register, twin);
+}
+
+/// A register goes here, where that is proved once.
+fn gone(_register: Register) {}
+
 #[test]
 fn a_register_survives(rt: HostRuntime) {
-    let alloc = rt.alloc();
-    let mut register = Register::new(alloc);
-    let mut twin = Register::new(alloc);
-    for record in SCRIPT.lines() {
-        let mut text = answered(&rt, alloc, &mut register, record);
-        if text.is_none() {
-            assert_alike(&rt, &register, &twin);
-            text = answered(&rt, alloc, &mut register, record);
-        }
-        let mut other = answered(&rt, alloc, &mut twin, record);
-        if other.is_none() {
-            other = answered(&rt, alloc, &mut twin, record);
-        }
-        let text = text.expect(&rt, "memory the second time");
-        let other = other.expect(&rt, "memory the second time");
-        assert_eq!(rt; text.as_slice(), other.as_slice(), "to {record}");
-    }
-    assert_eq!(rt; register.kept() > 0, true);
-    assert_alike(&rt, &register, &twin);
+    let mut register = Register::new(rt.alloc());
+    let mut twin = Register::new(rt.alloc());
+    give_all(&rt, rt.alloc(), &mut register, &mut twin);
+    gone(register);
+    gone(twin);
 }

@@ -1,12 +1,9 @@
 //! Sets of nodes and their twins, which are given each node once more.
 
+use made_maps::node;
 use olr_map::{Footprint, NodeId};
 use std::alloc::Global;
 use std::process::Abort;
-
-fn node(rt: &impl Abort, number: u32) -> NodeId {
-    NodeId::new(number).expect(rt, "a number of a node")
-}
 
 /// Notes a node, a second time where a growth was refused.
 fn note(rt: &impl Abort, set: &mut Footprint, node: NodeId) {
@@ -32,7 +29,7 @@ fn assert_same(rt: &impl Abort, one: &Footprint, other: &Footprint) {
 fn thirds(rt: &impl Abort, alloc: Global, first: u32) -> Footprint {
     let mut set = Footprint::new(alloc);
     for step in 0..10 {
-        note(rt, &mut set, node(rt, first.saturating_add(3 * step)));
+        note(rt, &mut set, node(first.saturating_add(3 * step)));
     }
     set
 }
@@ -44,7 +41,7 @@ fn a_set_survives(rt: HostRuntime) {
     let mut twin = Footprint::new(alloc);
     for step in 0..40 {
         // in a row without order, and each node twice
-        let next = node(&rt, step * 7 % 20 + 1);
+        let next = node(step * 7 % 20 + 1);
         if set.note(next).is_err() {
             assert_same(&rt, &set, &twin);
             let again = set.note(next);
