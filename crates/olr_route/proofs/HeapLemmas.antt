@@ -1,10 +1,13 @@
 -- What waits in the queue before and after a push and a pop.
-use Rattle.std.proofs.Common.{◌≡◌, ℕ, ◌/◌, ◌%◌, ◌<◌, ◌^◌, ◌⊎◌, List, [], ◌∷◌, Contains, get_or, sym, ap, ◌∙◌, inl, inr, arith, refl}
+use Rattle.std.proofs.Common.{◌≡◌, ℕ, ◌/◌, ◌%◌, ◌<◌, ◌≤◌, ◌^◌, ◌⊎◌, List, [], ◌∷◌, Contains, get_or, sym, ap, ◌∙◌, subst, inl, inr, arith, refl}
 use Rattle.std.specs.declared.cmp.Reverse.{Reverse}
 use Rattle.std.specs.List.Sorted.{IsPermutation}
 use Rattle.std.proofs.lemmas.List.Sorted.{Contains-permutation}
 use Rattle.std.proofs.lemmas.List.Elements.{Contains-append_cases, Contains-append_right}
+use Rattle.std.specs.BinaryHeap.{IsUpperBound}
+use Rattle.std.proofs.lemmas.Map.Keys.{ge_from_not_lt}
 use Rattle.std.proofs.lemmas.Nat.{div-mul-add, mod-mul-add}
+use Rattle.olr_route.specs.Entries.{entry_cmp}
 use Rattle.olr_route.specs.Queues.{entry}
 
 abbrev pub Entry : Type 0
@@ -26,6 +29,20 @@ popped_others xs ys x d p small perm w = elim (Contains-append_cases (x ∷ []) 
       let e = alone x (record { 0 = entry d p }) h in
       inr (sym (entry_dist d p small) ∙ ap (λ (y : Entry). y.0 / 2 ^ 32) e, sym (entry_place d p small) ∙ ap (λ (y : Entry). y.0 % 2 ^ 32) e)
   | inr h ↦ inl h
+]
+
+low_from_greatest : (x : Entry) (ys : List Entry) → IsUpperBound entry_cmp x ys → (y : Entry) → Contains ys y → x.0 ≤ y.0
+low_from_greatest x [] h y w = absurd (omega (arith, w.1))
+low_from_greatest x (z ∷ zs) h y w = elim (Contains-append_cases (z ∷ []) zs y w) [
+  | inl a ↦ subst (λ (v : Entry). x.0 ≤ v.0) (sym (alone z y a)) (ge_from_not_lt z.0 x.0 h.0)
+  | inr b ↦ low_from_greatest x zs h.1 y b
+]
+
+-- what is taken out has the least length
+pub popped_least : (xs ys : List Entry) (x : Entry) (d p : ℕ) → p < 2 ^ 32 → IsPermutation xs (x ∷ ys) → IsUpperBound entry_cmp x ys → Contains xs (record { 0 = entry d p }) → x.0 / 2 ^ 32 ≤ d
+popped_least xs ys x d p small perm top w = elim (popped_others xs ys x d p small perm w) [
+  | inl h ↦ let le = low_from_greatest x ys top (record { 0 = entry d p }) h in omega arith
+  | inr is ↦ let same = is.0 in omega arith
 ]
 
 pub pushed_kept : (xs ys : List Entry) (x y : Entry) → IsPermutation (x ∷ xs) ys → Contains xs y → Contains ys y

@@ -1,5 +1,6 @@
 //! A search that can go on: distances only, from one node or from many, along the lines or against them.
-ghost use Rattle.std.specs.Prelude.{◌≡◌, ◌≢◌, ◌↔◌, ◌≤◌, ◌+◌, ℕ, List, [], ◌∷◌, ◌++◌, Some, Contains, OnOk, IfOk, IsTrue, max};
+ghost use Rattle.std.specs.Prelude.{◌≡◌, ◌==◌, ◌≢◌, ◌↔◌, ◌≤◌, ◌+◌, ℕ, List, [], ◌∷◌, ◌++◌, Some, Contains, OnOk, IfOk, IsTrue, max};
+ghost use Rattle.std.specs.List.{IsDistinct};
 ghost use Rattle.std.specs.List.Sorted.{IsStrictlyIncreasing};
 ghost use Rattle.olr_spec.specs.Map.{Map, has_node, start as start_node, end, dm};
 ghost use Rattle.olr_spec.specs.Walks.{Sole, dm_of};
@@ -131,6 +132,8 @@ impl Search {
         ensures near { (M : Map) (place_in : ℕ → ℕ) (direction : _) (from : List (ℕ × ℕ)) (v : ℕ)
             → IsSearch M place_in direction from self.now → IsNear M direction from (limit_of self.now) v
             → Contains result.now (record { node = v; place = place_in v }) }
+        ensures once { (M : Map) (place_in : ℕ → ℕ) (direction : _) (from : List (ℕ × ℕ))
+            → IsSearch M place_in direction from self.now → IsDistinct ◌==◌ (numbers_of result.now) }
         ensures reached { (M : Map) (place_in : ℕ → ℕ) (direction : _) (from : List (ℕ × ℕ)) (r : ReachedRecord)
             → IsSearch M place_in direction from self.now → Contains result.now r
             → IsReached M direction from r.node × (place_in r.node ≡ r.place) }

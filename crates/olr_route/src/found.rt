@@ -151,6 +151,7 @@ impl Found {
         ensures room { found_len self.new ≡ found_len self.old }
         ensures reached { self.new.reached.items ≡ self.old.reached.items }
         ensures within { IfSome result (λ x. x.0 ≤ limit) }
+        ensures least { IfSome result (λ x. (d p : ℕ) → IsQueued self.old d p → x.0 ≤ d) }
         ensures others { IfSome result (λ x. (d p : ℕ) → IsQueued self.old d p → IsQueued self.new d p ⊎ ((d ≡ x.0) × (p ≡ x.1))) }
         ensures len { IfSome result (λ x. queued_len self.new + 1 ≡ queued_len self.old) }
         ensures far { IfNone result ((d p : ℕ) → IsQueued self.new d p → limit < d) }

@@ -52,6 +52,7 @@ impl Queue {
     /// Takes out the least length with its place. None where nothing waits at a length of at most `limit`.
     pub fn pop_within(&mut self, limit: u32) -> Option<(u32, u32)>
         ensures within { IfSome result (λ x. x.0 ≤ limit) }
+        ensures least { IfSome result (λ x. (d p : ℕ) → Queued self.old d p → x.0 ≤ d) }
         ensures others { IfSome result (λ x. (d p : ℕ) → Queued self.old d p → Queued self.new d p ⊎ ((d ≡ x.0) × (p ≡ x.1))) }
         ensures len { IfSome result (λ x. queue_len self.new + 1 ≡ queue_len self.old) }
         ensures far { IfNone result ((d p : ℕ) → Queued self.new d p → limit < d) }

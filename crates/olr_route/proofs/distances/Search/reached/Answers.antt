@@ -1,4 +1,6 @@
-use Rattle.std.proofs.Common.{ℕ, List, Contains, sym, subst, arith}
+use Rattle.std.proofs.Common.{◌==◌, ℕ, List, Contains, sym, subst, arith}
+use Rattle.std.specs.List.{IsDistinct}
+use Rattle.olr_route.specs.Notes.{numbers_of}
 use Rattle.olr_route.specs.declared.found.Reached.{Reached}
 use Rattle.olr_route.specs.Searches.{IsNear}
 use Rattle.olr_route.proofs.SearchLemmas.{near_listed, listed_reached, listed_near}
@@ -7,6 +9,9 @@ use Rattle.olr_route.proofs.distances.Search.reached.Goals as goal
 pub returns-clause-near : goal.returns-clause-near
 returns-clause-near c = λ M place_in direction from v h near.
     subst (λ (xs : List Reached). Contains xs (record { node = v; place = place_in v })) (sym c.reached.ensures) (near_listed M place_in direction from c.args.self.now h v near)
+
+pub returns-clause-once : goal.returns-clause-once
+returns-clause-once c = λ M place_in direction from h. subst (λ (xs : List Reached). IsDistinct ◌==◌ (numbers_of xs)) (sym c.reached.ensures) h.under_way.labelled.apart
 
 pub returns-clause-reached : goal.returns-clause-reached
 returns-clause-reached c = λ M place_in direction from r h there.
