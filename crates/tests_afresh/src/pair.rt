@@ -3,9 +3,10 @@ ghost use Rattle.std.specs.Prelude.{◌<◌, ◌≤◌};
 
 use crate::twin::{Named, Twin};
 use csv::{ByteRecord, ReaderBuilder};
+use made_maps::{line, next, node};
 use olr_binary::to_text;
 use olr_commands::Command;
-use olr_map::{LineId, MapRead, NodeId};
+use olr_map::MapRead;
 use olr_records::read_command;
 use olr_refs::{Answer, Encoding};
 use olr_register::Register;
@@ -77,14 +78,12 @@ impl Pair {
         let alloc = rt.alloc();
         let before = self.register.work().encodings;
         let rise = self.expected(alloc, record)?;
-        let accepted = self.register.apply(command(alloc, record)?).is_ok();
-        assert_eq!(rt; accepted, rise.is_some(), "whether {record} is accepted");
+        let command = command(alloc, record)?;
+        let accepted = self.register.apply(command).is_ok();
+        assert!(rt; accepted == rise.is_some(), "whether {record} is accepted");
+        let wanted = before.saturating_add(rise.unwrap_or(0));
         let after = self.register.work().encodings;
-        assert_eq!(rt;
-            after,
-            before.saturating_add(rise.unwrap_or(0)),
-            "encodings after {record}"
-        );
+        assert!(rt; after == wanted, "{after} encodings after {record}");
         self.assert_alike(rt, record)
     }
 
@@ -150,8 +149,8 @@ impl Pair {
     /// That the register has what encoding each path of the twin afresh gives.
     fn assert_alike<R: Abort + AllocGlobal>(&self, rt: &R, record: &str) -> Result<(), Fail> {
         let count = self.twin.paths.len();
-        assert_eq!(rt; self.register.len(), count, "after {record}");
-        assert_eq!(rt; self.register.is_empty(), count == 0, "after {record}");
+        assert!(rt; self.register.len() == count, "after {record}");
+        assert!(rt; self.register.is_empty() == (count == 0), "after {record}");
         for k in 0..count {
             self.assert_path(rt, k, record)?;
         }
@@ -169,7 +168,7 @@ impl Pair {
             return Ok(());
         };
         let name = named.name.as_str();
-        assert_eq!(rt; self.register.name_at(k), Some(name), "after {record}");
+        assert!(rt; self.register.name_at(k) == Some(name), "after {record}");
         let fresh = named.encoded(rt.alloc(), &self.twin.roads)?;
         self.assert_answer(rt, name, &fresh.answer, record)?;
         self.assert_looks(rt, name, &fresh, record);
@@ -188,11 +187,11 @@ impl Pair {
             Answer::Points(reference) => {
                 let text = to_text(rt.alloc(), reference)?;
                 let kept = self.register.text(name);
-                assert_eq!(rt; kept, Some(text.as_str()), "{name} after {record}");
+                assert!(rt; kept == Some(text.as_str()), "{name} after {record}");
             }
             Answer::Refused(refusal) => match self.register.answer(name) {
                 Some(Answer::Refused(kept)) => {
-                    assert_eq!(rt; kept, refusal, "{name} after {record}");
+                    assert!(rt; kept == refusal, "{name} after {record}");
                 }
                 _ => panic!(rt; "{name} has a string after {record}"),
             },
@@ -205,13 +204,10 @@ impl Pair {
         let Some(kept) = self.register.published(name) else {
             panic!(rt; "no path {name} after {record}");
         };
-        let own = kept.own().as_slice();
-        assert_eq!(rt; own, fresh.own.as_slice(), "{name} after {record}");
-        assert_eq!(rt;
-            kept.looks(),
-            fresh.looks.as_slice(),
-            "{name} after {record}"
-        );
+        let own = kept.own().as_slice() == fresh.own.as_slice();
+        assert!(rt; own, "own nodes of {name} after {record}");
+        let looks = kept.looks() == fresh.looks.as_slice();
+        assert!(rt; looks, "looks of {name} after {record}");
     }
 
     /// That it finds the footprint of a path, unless a batch is open.
@@ -230,7 +226,8 @@ impl Pair {
             .register
             .footprint(name)?
             .expect(rt, "a path of that name");
-        assert_eq!(rt; kept.as_slice(), fresh.as_slice(), "{name} after {record}");
+        let same = kept.as_slice() == fresh.as_slice();
+        assert!(rt; same, "footprint of {name} after {record}");
         Ok(())
     }
 
@@ -257,13 +254,13 @@ impl Pair {
     fn walk(&self, alloc: Global, seed: u64) -> Result<String, Fail> {
         let mut fields = String::new(alloc);
         let mut row = seed;
-        let mut at = NodeId::new(number_in(seed >> 20, NODES));
+        let mut at = Some(node(number_in(seed >> 20, NODES)));
         for _ in 0..1 + (seed >> 50) % 6 {
-            let Some(node) = at else {
+            let Some(from) = at else {
                 break;
             };
             row = next(row);
-            let lines = self.spare.roads.out_lines(node);
+            let lines = self.spare.roads.out_lines(from);
             let place = (row >> 33) % (lines.len() as u64).max(1);
             let Some(id) = lines.get(place as usize) else {
                 break;
@@ -277,11 +274,10 @@ impl Pair {
 
     /// Drops a node with all its lines.
     fn clear<R: Abort + AllocGlobal>(&mut self, rt: &R, number: u32) -> Result<(), Fail> {
-        let node = NodeId::new(number).expect(rt, "a node's number");
+        let at = node(number);
         for number in 1..=LINES {
-            let id = LineId::new(number).expect(rt, "a line's number");
-            let is_there = match self.spare.roads.line(id) {
-                Some(line) => line.from == node || line.to == node,
+            let is_there = match self.spare.roads.line(line(number)) {
+                Some(line) => line.from == at || line.to == at,
                 None => false,
             };
             if is_there {
@@ -375,12 +371,6 @@ fn number_in(seed: u64, greatest: u32) -> u32
     ensures bounded { result ≤ greatest }
 {
     (seed % greatest as u64) as u32 + 1
-}
-
-/// The number after this one in a row without pattern.
-pub fn next(seed: u64) -> u64 {
-    seed.wrapping_mul(6_364_136_223_846_793_005)
-        .wrapping_add(1_442_695_040_888_963_407)
 }
 
 /// Where a line of the ring begins and ends: those along it, those back, and the short cuts.

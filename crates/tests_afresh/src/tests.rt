@@ -1,6 +1,7 @@
 //! Talks of records, each command given to a register and to its twin.
 
-use crate::pair::{Pair, next};
+use crate::pair::Pair;
+use made_maps::next;
 use std::process::Abort;
 use std::test::Fail;
 
@@ -88,58 +89,83 @@ fn all<R: Abort + AllocGlobal>(rt: &R, pair: &mut Pair, records: &str) -> Result
     Ok(())
 }
 
-/// A register and its twin after the records of three points.
-fn three_points<R: Abort + AllocGlobal>(rt: &R) -> Result<Pair, Fail> {
+/// Gives the records of three points, and then those of a talk, to a register and to its twin.
+fn one_talk<R: Abort + AllocGlobal>(rt: &R, pair: &mut Pair, talk: &str) -> Result<(), Fail> {
+    all(rt, pair, THREE_POINTS)?;
+    all(rt, pair, talk)
+}
+
+/// A register and its twin go here, and not in each function that has them, where that would be proved anew.
+fn gone(_pair: Pair) {}
+
+/// The same of a fresh register and its twin.
+fn fresh_talk<R: Abort + AllocGlobal>(rt: &R, talk: &str) -> Result<(), Fail> {
     let mut pair = Pair::new(rt.alloc());
-    all(rt, &mut pair, THREE_POINTS)?;
-    Ok(pair)
+    let done = one_talk(rt, &mut pair, talk);
+    gone(pair);
+    done
 }
 
-/// Gives the records of each talk to a register and to its twin, after those of three points.
-fn all_talks<R: Abort + AllocGlobal>(rt: &R, talks: &[&str]) -> Result<(), Fail> {
-    for talk in talks {
-        let mut pair = three_points(rt)?;
-        all(rt, &mut pair, talk)?;
-    }
-    Ok(())
-}
-
-/// Gives each record to the register and to its twin, and compares what is counted.
+/// Gives each record to a register and to its twin, and compares what is counted.
 fn all_counted<R: Abort + AllocGlobal>(
     rt: &R,
     pair: &mut Pair,
     rows: &[(&str, u64, u64)],
 ) -> Result<(), Fail> {
+    all(rt, pair, THREE_POINTS)?;
     for (record, encodings, kept) in rows {
         pair.step(rt, record)?;
-        assert_eq!(rt; pair.encodings(), (*encodings, *kept), "after {record}");
+        assert!(rt; pair.encodings() == (*encodings, *kept), "after {record}");
+    }
+    Ok(())
+}
+
+/// The same of a fresh register and its twin, after the records of three points.
+fn fresh_counted<R: Abort + AllocGlobal>(rt: &R, rows: &[(&str, u64, u64)]) -> Result<(), Fail> {
+    let mut pair = Pair::new(rt.alloc());
+    let done = all_counted(rt, &mut pair, rows);
+    gone(pair);
+    done
+}
+
+/// Makes many commands on a ring. How many answers were kept.
+fn many<R: Abort + AllocGlobal>(rt: &R, pair: &mut Pair, first: u64) -> Result<u64, Fail> {
+    pair.ring(rt)?;
+    let mut seed = first;
+    for _ in 0..200 {
+        seed = next(seed);
+        pair.step_by(rt, seed)?;
+    }
+    let (_, kept) = pair.encodings();
+    Ok(kept)
+}
+
+/// The same of a fresh register and its twin.
+fn fresh_many<R: Abort + AllocGlobal>(rt: &R, first: u64) -> Result<u64, Fail> {
+    let mut pair = Pair::new(rt.alloc());
+    let kept = many(rt, &mut pair, first);
+    gone(pair);
+    kept
+}
+
+#[test]
+fn talks(rt: HostRuntime) -> Result<(), Fail> {
+    for talk in TALKS {
+        fresh_talk(&rt, talk)?;
     }
     Ok(())
 }
 
 #[test]
-fn talks(rt: HostRuntime) -> Result<(), Fail> {
-    all_talks(&rt, TALKS)
-}
-
-#[test]
 fn counts(rt: HostRuntime) -> Result<(), Fail> {
-    let mut pair = three_points(&rt)?;
-    all_counted(&rt, &mut pair, COUNTED)
+    fresh_counted(&rt, COUNTED)
 }
 
 #[test]
 fn without_pattern(rt: HostRuntime) -> Result<(), Fail> {
     let mut kept = 0u64;
     for first in [2026, 7, 1900, 54] {
-        let mut pair = Pair::new(rt.alloc());
-        pair.ring(&rt)?;
-        let mut seed = first;
-        for _ in 0..200 {
-            seed = next(seed);
-            pair.step_by(&rt, seed)?;
-        }
-        kept = kept.saturating_add(pair.encodings().1);
+        kept = kept.saturating_add(fresh_many(&rt, first)?);
     }
     assert!(rt; kept > 0, "no answer was kept");
     Ok(())
