@@ -118,6 +118,9 @@ fn first_lines(text: &str, count: usize) -> Option<&[u8]> {
     Some(text.as_bytes())
 }
 
+/// A register goes here, and not in each function that has one, where that would be proved anew.
+fn gone(_register: Register) {}
+
 /// Runs the records on a fresh register, and asserts how the run ends and what is written.
 fn expect<R: Abort + AllocGlobal>(
     rt: &R,
@@ -135,6 +138,7 @@ fn expect<R: Abort + AllocGlobal>(
         (replies.as_bytes(), Ok(status)),
         "after {records:?}"
     );
+    gone(register);
 }
 
 /// The same of records that are text, without stopping.
@@ -225,6 +229,7 @@ fn expect_answered<R: Abort + AllocGlobal>(rt: &R, step: usize, fails_at: usize)
         wanted,
         "at call {fails_at} of {step}"
     );
+    gone(register);
 }
 
 #[test]
@@ -245,6 +250,7 @@ fn expect_unharmed<R: Abort + AllocGlobal>(rt: &R, step: usize) {
     let ended = run(rt.alloc(), &mut register, input, &mut output, false);
     let found = (output.taken.as_slice(), ended);
     assert_eq!(rt; found, (REPLIES.as_bytes(), Ok(Status::SomeRefused)));
+    gone(register);
 }
 
 /// Whether the bytes are as many of the text, from its front.
@@ -262,6 +268,7 @@ fn expect_cut<R: Abort + AllocGlobal>(rt: &R, fails_at: usize, takes_nothing: bo
     let found = (is_cut, ended);
     assert_eq!(rt; found, (true, Err(RunFault::Write)), "at call {fails_at}");
     expect_first_applied(rt, &mut register);
+    gone(register);
 }
 
 #[test]
@@ -299,6 +306,7 @@ fn expect_both<R: Abort + AllocGlobal>(
         (replies.as_bytes(), end),
         "where {end:?} is expected"
     );
+    gone(register);
 }
 
 #[test]
@@ -374,6 +382,7 @@ fn expect_program<R: Abort + AllocGlobal>(
     let found = (ended, output.as_slice(), errors.as_slice());
     let wanted = (status, replies.as_bytes(), told.as_bytes());
     assert_eq!(rt; found, wanted, "of {words:?}");
+    gone(register);
 }
 
 #[test]
@@ -415,6 +424,7 @@ fn expect_write_fault<R: Abort + AllocGlobal>(rt: &R, words: &[&str]) {
     );
     let wanted = (3, b"olr-keep: write fault\n".as_slice());
     assert_eq!(rt; (ended, errors.as_slice()), wanted, "of {words:?}");
+    gone(register);
 }
 
 #[test]
