@@ -1,16 +1,15 @@
 -- Where the looks begin of a list in which something was put, or a path was added, set or dropped.
 use Rattle.std.proofs.Common.{inl, inr, ◌≡◌, ℕ, zero, suc, ◌+◌, ◌⊎◌, Bool, true, false, cond, if◌then◌else◌, List, [], ◌∷◌, ◌++◌, map, take, slice_get, Contains, Option, Some, sym, subst, arith}
 use Rattle.std.specs.List.{filter}
-use Rattle.std.specs.declared.alloc.Global.{Global}
-use Rattle.std.specs.declared.rc.Rc.{Rc}
+use Rattle.std.specs.Prelude.{option_map}
 use Rattle.olr_spec.proofs.LookLists.{Contains-cases}
 use Rattle.olr_spec.specs.Extension.{Path}
 use Rattle.olr_commands.specs.State.{same_name}
 use Rattle.olr_paths.specs.Items.{Made, Item, made_of}
 use Rattle.olr_paths.specs.Changes.{set_item}
 use Rattle.olr_paths.specs.Beginning.{BeginsIn, Begins, BeginsPut}
-use Rattle.olr_paths.specs.Renewing.{put, all_put, puts_of}
-use Rattle.olr_paths.specs.declared.published.Published.{Published}
+use Rattle.olr_paths.specs.Renewing.{Put, put, all_put, puts_of}
+use Rattle.olr_paths.specs.declared.listing.NamedPath.{NamedPath}
 use Rattle.olr_paths.proofs.NamedEntries.{take_more_items}
 
 -- of one of the list's items
@@ -23,22 +22,22 @@ begins_there (x ∷ is) i v on h = elim (Contains-cases x i is on) [
 
 -- ---- where something was put
 
-begins_put : (is : List Item) (k : ℕ) (m : Made) (v : ℕ) → Begins (put is k m) v → Begins is v ⊎ BeginsIn (Some m) v
-begins_put [] k m v h = absurd h
-begins_put (i ∷ is) zero m v (inl h) = inr h
-begins_put (i ∷ is) zero m v (inr h) = inl (inr h)
-begins_put (i ∷ is) (suc k) m v (inl h) = inl (inl h)
-begins_put (i ∷ is) (suc k) m v (inr h) = elim (begins_put is k m v h) [ inl l ↦ inl (inr l) | inr r ↦ inr r ]
+begins_put : (is : List Item) (k : ℕ) (path : Path) (made : Option Made) (v : ℕ) → Begins (put is k path made) v → Begins is v ⊎ BeginsIn made v
+begins_put [] k path made v h = absurd h
+begins_put (i ∷ is) zero path made v (inl h) = inr h
+begins_put (i ∷ is) zero path made v (inr h) = inl (inr h)
+begins_put (i ∷ is) (suc k) path made v (inl h) = inl (inl h)
+begins_put (i ∷ is) (suc k) path made v (inr h) = elim (begins_put is k path made v h) [ inl l ↦ inl (inr l) | inr r ↦ inr r ]
 
-pub begins_all_put : (is : List Item) (ps : List (ℕ × Made)) (v : ℕ) → Begins (all_put is ps) v → Begins is v ⊎ BeginsPut ps v
+pub begins_all_put : (is : List Item) (ps : List Put) (v : ℕ) → Begins (all_put is ps) v → Begins is v ⊎ BeginsPut ps v
 begins_all_put is [] v h = inl h
-begins_all_put is (p ∷ ps) v h = elim (begins_put (all_put is ps) p.0 p.1 v h) [
+begins_all_put is (p ∷ ps) v h = elim (begins_put (all_put is ps) p.place p.path p.made v h) [
   | inl l ↦ elim (begins_all_put is ps v l) [ inl a ↦ inl a | inr b ↦ inr (inr b) ]
   | inr r ↦ inr (inl r)
 ]
 
 -- one more, behind the others
-pub begins_push : (es : List (ℕ × Rc Published Global)) (e : ℕ × Rc Published Global) (v : ℕ) → BeginsPut (puts_of (es ++ e ∷ [])) v → BeginsPut (puts_of es) v ⊎ BeginsIn (Some (made_of e.1.value)) v
+pub begins_push : (es : List (ℕ × NamedPath)) (e : ℕ × NamedPath) (v : ℕ) → BeginsPut (puts_of (es ++ e ∷ [])) v → BeginsPut (puts_of es) v ⊎ BeginsIn (option_map (λ p. made_of p.value) e.1.published) v
 begins_push [] e v (inl h) = inr h
 begins_push [] e v (inr h) = absurd h
 begins_push (x ∷ es) e v (inl h) = inl (inl h)

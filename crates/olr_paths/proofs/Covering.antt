@@ -13,7 +13,7 @@ use Rattle.olr_index.specs.declared.Index.{Index}
 use Rattle.olr_paths.specs.Items.{Item}
 use Rattle.olr_paths.specs.Changes.{Follows}
 use Rattle.olr_paths.specs.Renewing.{ToStay, Left}
-use Rattle.olr_paths.specs.Candidates.{Includes, Finds, Covers}
+use Rattle.olr_paths.specs.Candidates.{Includes, Finds, Covers, CoversAsked, FindsChanged}
 use Rattle.olr_paths.specs.declared.renewal.Renewal.{Renewal}
 use Rattle.olr_paths.specs.declared.renewal.Counted.{Counted}
 use Rattle.std.specs.Prelude.{String, option_map, IfSome}
@@ -30,7 +30,7 @@ use Rattle.olr_route.specs.declared.distances.Direction.TheVariants.{Against}
 use Rattle.olr_paths.specs.Items.{Made, made_of}
 use Rattle.olr_paths.specs.Changes.{OwnTouched, LineTouched, LookTouched}
 use Rattle.olr_paths.specs.Touching.{nodes_of, lines_of}
-use Rattle.olr_paths.specs.Searching.{sources, IsAsked, AreAsked}
+use Rattle.olr_paths.specs.Searching.{sources, IsAsked, AreAsked, LacksLooks, LackLooks}
 use Rattle.olr_paths.specs.Candidates.{AreFound}
 use Rattle.olr_paths.specs.Finding.{AreNoted, AreAll}
 use Rattle.olr_paths.specs.declared.touched.Touched.{Touched}
@@ -45,6 +45,14 @@ use Rattle.olr_paths.proofs.AskedLemmas.{listed_at}
 use Rattle.olr_paths.proofs.Standing.{back}
 use Rattle.olr_paths.proofs.Alls.{all_more}
 use Rattle.olr_paths.proofs.Through.{SoFar, so_far_step}
+use Rattle.std.proofs.lemmas.Option.{slice_get_read}
+use Rattle.olr_spec.specs.Extension.{Path}
+use Rattle.olr_paths.specs.Laying.{Changes, TakesNone, change_at, under_changes}
+use Rattle.olr_paths.proofs.Changed.{changed, laid_from, change_push, first_only}
+use Rattle.olr_commands.specs.State.{NamesDiffer, same_name}
+use Rattle.olr_paths.specs.Items.{all_named}
+use Rattle.olr_paths.proofs.NamedEntries.{same_flip}
+use Rattle.olr_paths.proofs.Marking.{First}
 
 -- ---- lists of numbers
 
@@ -72,6 +80,25 @@ pushed_there xs x v is = has_push xs x v ∙ right (has xs v) (x == v) (eq-eqb x
 pub record Put (marks of old now : List ℕ) : Type 0 where
   pub kept : Includes old now
   pub put : (k : ℕ) → k < length marks → IsTrue (has of (get_or marks k 0)) → IsTrue (has now k)
+
+-- ---- positions of a range
+
+pub record Ranged (from to : ℕ) (old now : List ℕ) : Type 0 where
+  pub kept : Includes old now
+  pub put : (k : ℕ) → from ≤ k → k < to → IsTrue (has now k)
+
+pub ranged_none : (from : ℕ) (old : List ℕ) → Ranged from from old old
+ranged_none from old = record { kept = λ k on. on; put = λ k low high. absurd (omega arith) }
+
+pub ranged_more : (from to : ℕ) (old now : List ℕ) → Ranged from to old now → Ranged from (to + 1) old (now ++ to ∷ [])
+ranged_more from to old now h =
+    record {
+      kept = λ k on. pushed_kept now to k (h.kept k on);
+      put = λ k low high. elim (cases_lt k to) [
+        | inl under ↦ pushed_kept now to k (h.put k low under)
+        | inr over ↦ pushed_there now to k (omega arith)
+      ];
+    }
 
 -- ---- positions of numbers
 
@@ -165,11 +192,11 @@ module _ (N : Map) (n : IsMap N) (T X : List ℕ) (C : List ChangedLine) (before
       subst (λ (q : ℕ). SoFar N T X C before is q r old now) (let e : next + (length is - next) ≡ length is = omega arith in e)
       (gap (length is - next) next (omega arith) (λ j a b. none_after found (length is) k next j end h a (omega arith)) so_far)
 
--- past the last entry
-pub past_end : (ys : Entries) (q : ℕ) → None ≡ slice_get ys q → length (items_of ys) ≤ q
+-- past the last path
+pub past_end : (js : List Item) (q : ℕ) → slice_get js q ≡ None → length js ≤ q
 past_end [] q at = omega arith
-past_end (y ∷ ys) zero at = let never : ⊥ = cc (at) in absurd never
-past_end (y ∷ ys) (suc q) at = let le = past_end ys q at in omega arith
+past_end (j ∷ js) zero at = let never : ⊥ = cc (at) in absurd never
+past_end (j ∷ js) (suc q) at = let le = past_end js q at in omega arith
 
 -- one candidate more
 pub passed_none : (found : List ℕ) (long : ℕ) → Passed found long 0 0
@@ -203,7 +230,7 @@ is_there : (o : Option (Rc Published Global)) → o ≢ None → (p : Rc Publish
 is_there None h = absurd (h refl)
 is_there (Some p) h = (p, refl)
 
-module _ (N : Map) (n : IsMap N) (place : ℕ → ℕ) (t : Touched) (s : Searches) (es : Entries) (ms : List ℕ) (f : Finder) (noted : AreNoted es ms f) (all : AreAll es) (long : length ms ≡ length es) (asked : AreAsked N place t s (items_of es)) (found : List ℕ)
+module _ (N : Map) (n : IsMap N) (place : ℕ → ℕ) (t : Touched) (s : Searches) (es : Entries) (ms : List ℕ) (f : Finder) (noted : AreNoted es ms f) (all : AreAll es) (long : length ms ≡ length es) (found : List ℕ)
     (own : AreFound ms f.own (nodes_of t) found) (from : AreFound ms f.from (nodes_of t) found) (lines : AreFound ms f.lines (lines_of t) found)
     (reached : s.far ≡ false → IsSearch N place Against (sources t) s.near → limit_of s.near ≡ limit → (v : ℕ) → IsNear N Against (sources t) limit v → Finds ms f.from v found) where
   module _ (k : ℕ) (e : String Global × NamedPath) (at : slice_get es k ≡ Some e) (p : Rc Published Global) (some : e.1.published ≡ Some p) (off : has found k ≡ false) where
@@ -255,11 +282,10 @@ module _ (N : Map) (n : IsMap N) (place : ℕ → ℕ) (t : Touched) (s : Search
       (λ h. elim h [ inl o ↦ never_own o | inr rest ↦ elim rest [ inl x ↦ never_line x | inr l ↦ never_look a l ] ]),
     )
 
-  pub covers_by : Covers N (nodes_of t) (lines_of t) (items_of es) found
-  covers_by k i at off =
+  pub covers_by : CoversAsked N place t s (items_of es) found
+  covers_by k i at off one =
       let b = back es k i at in
       let p = is_there b.0.1.published (all k b.0 b.1) in
-      let one : IfSome i.made (IsAsked N place t s) = asked i (listed_at (items_of es) k i at) in
       let made : i.made ≡ Some (made_of p.0.value) = ap (λ (x : Item). x.made) (sym b.2) ∙ ap (option_map (λ (q : Rc Published Global). made_of q.value)) p.1 in
       let a : IsAsked N place t s (made_of p.0.value) = subst (λ (o : Option Made). IfSome o (IsAsked N place t s)) made one in
       subst (λ (x : Item). ToStay N (nodes_of t) (lines_of t) x.made x.path) b.2 (stays_there k b.0 b.1 p.0 p.1 off a)
@@ -271,3 +297,58 @@ covers_order N T X is xs ys same h k i at off = h k i at (list_any-IsPermutation
 -- the same of equal lists
 pub found_moved : {A : Type 0} (number : A → ℕ) (ms ns : List ℕ) (index : Index) (vs ws : List A) (found : List ℕ) → ms ≡ ns → vs ≡ ws → All (λ x. Finds ms index (number x) found) vs → All (λ x. Finds ns index (number x) found) ws
 found_moved number ms ns index vs ws found a b h = subst (λ (ys : List _). All (λ x. Finds ns index (number x) found) ys) b (subst (λ (xs : List ℕ). All (λ x. Finds xs index (number x) found) vs) a h)
+
+-- ---- of a list under changes
+
+module _ (cs : Changes) (is ys : List Item) (keeps : TakesNone cs) where
+  -- where those are found that are changed, and all behind, the others are as they were
+  pub covers_laid : (N : Map) (place : ℕ → ℕ) (t : Touched) (s : Searches) (found : List ℕ) → CoversAsked N place t s is found → FindsChanged cs is found → ((k : ℕ) → length is ≤ k → k < length is + length ys → IsTrue (has found k))
+      → AreAsked N place t s (under_changes cs is ++ ys) → Covers N (nodes_of t) (lines_of t) (under_changes cs is ++ ys) found
+  covers_laid N place t s found covers given behind asked k j at off =
+      elim (laid_from cs is ys keeps k j at) [
+        | inl a ↦
+            let same : j ≡ a.0 = a.2 ∙ ap (λ (c : Option (Option Path)). changed c a.0) (given k a.0 a.1 off) in
+            let one : IfSome a.0.made (IsAsked N place t s) = subst (λ (i : Item). IfSome i.made (IsAsked N place t s)) same (asked j (listed_at (under_changes cs is ++ ys) k j at)) in
+            subst (λ (i : Item). ToStay N (nodes_of t) (lines_of t) i.made i.path) (sym same) (covers k a.0 a.1 off one)
+        | inr b ↦
+            let low = slice_get_within ys b.0 j b.2 in
+            let on = behind k (let e = b.1 in omega arith) (let e = b.1 in omega arith) in
+            let never : ⊥ = cc (on, off) in absurd never
+      ]
+
+  -- no path has a look, where none of either list has one
+  pub lack_laid : LackLooks is → LackLooks ys → LackLooks (under_changes cs is ++ ys)
+  lack_laid first second j on =
+      let at : slice_get (under_changes cs is ++ ys) on.0 ≡ Some j = slice_get_read (under_changes cs is ++ ys) (length (under_changes cs is ++ ys)) on.0 j refl on.1 (sym on.2) in
+      elim (laid_from cs is ys keeps on.0 j at) [
+        | inl a ↦ subst (λ (i : Item). LacksLooks i.made) (sym a.2) (lacks_changed (change_at cs a.0.name) a.0 (first a.0 (listed_at is on.0 a.0 a.1)))
+        | inr b ↦ second j (listed_at ys b.0 j b.2)
+      ]
+    where
+      lacks_changed : (c : Option (Option Path)) (i : Item) → LacksLooks i.made → LacksLooks (changed c i).made
+      lacks_changed None i h = h
+      lacks_changed (Some None) i h = h
+      lacks_changed (Some (Some p)) i h = tt
+
+-- more positions are found
+pub covers_grown : (N : Map) (place : ℕ → ℕ) (t : Touched) (s : Searches) (is : List Item) (old now : List ℕ) → Includes old now → CoversAsked N place t s is old → CoversAsked N place t s is now
+covers_grown N place t s is old now kept h k i at off =
+    h k i at (elim (cases_Bool (has old k)) [ inl on ↦ let there = kept k on in let never : ⊥ = cc (there, off) in absurd never | inr not_yet ↦ not_yet ])
+
+pub changed_grown : (cs : Changes) (is : List Item) (old now : List ℕ) → Includes old now → FindsChanged cs is old → FindsChanged cs is now
+changed_grown cs is old now kept h k i at off =
+    h k i at (elim (cases_Bool (has old k)) [ inl on ↦ let there = kept k on in let never : ⊥ = cc (there, off) in absurd never | inr not_yet ↦ not_yet ])
+
+-- of one change more
+pub changed_more : (cs : Changes) (c : List ℕ × Option Path) (is : List Item) (old now : List ℕ) → Includes old now → FindsChanged cs is old → ((k : ℕ) (i : Item) → slice_get is k ≡ Some i → has now k ≡ false → same_name c.0 i.name ≡ false) → FindsChanged (cs ++ c ∷ []) is now
+changed_more cs c is old now kept h other k i at off = change_push cs c i.name (changed_grown cs is old now kept h k i at off) (other k i at off)
+
+-- where the position of the name is put, the others have other names
+pub others_apart : (es : Entries) (name : List ℕ) (q : ℕ) (old : List ℕ) → First name es q → NamesDiffer (all_named (items_of es)) → (k : ℕ) (i : Item) → slice_get (items_of es) k ≡ Some i → has (old ++ q ∷ []) k ≡ false → same_name name i.name ≡ false
+others_apart es name q old first differ k i at off =
+    elim (cases_Bool (same_name i.name name)) [
+      | inl on ↦
+          let there = pushed_there old q k (first_only es name q k i first differ at on) in
+          let never : ⊥ = cc (there, off) in absurd never
+      | inr other ↦ same_flip name i.name ∙ other
+    ]

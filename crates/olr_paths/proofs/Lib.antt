@@ -11,6 +11,7 @@ pub mod NamedEntries
 pub mod Marking
 pub mod Standing
 pub mod Overlaying
+pub mod Changed
 pub mod Telling
 pub mod Placing
 pub mod Following

@@ -1,5 +1,5 @@
 -- A list of entries with the marks of its paths, as paths come, go and change places with others.
-use Rattle.std.proofs.Common.{inl, inr, ◌≡◌, ◌≢◌, ℕ, zero, suc, ◌+◌, ◌<◌, Bool, true, false, not, cond, ◌&&◌, ◌==◌, List, [], ◌∷◌, ◌++◌, length, get_or, slice_get, Some, None, IsTrue, IsFalse, Contains, Result, Ok, Err, is_ok, ◌-◌, refl, sym, ap, ◌∙◌, subst, arith}
+use Rattle.std.proofs.Common.{inl, inr, ◌≡◌, ◌≢◌, ℕ, zero, suc, ◌+◌, ◌<◌, Bool, true, false, not, cond, ◌&&◌, ◌==◌, List, [], ◌∷◌, ◌++◌, take, length, get_or, slice_get, Some, None, IsTrue, IsFalse, Contains, Result, Ok, Err, is_ok, ◌-◌, refl, sym, ap, ◌∙◌, subst, arith}
 use Rattle.std.specs.Prelude.{String, string_bytes, if◌then◌else◌}
 use Rattle.std.specs.List.{remove, position}
 use Rattle.std.specs.List.Sorted.{IsStrictlyIncreasing, IsBinarySearchResult}
@@ -10,7 +10,7 @@ use Rattle.std.specs.String.{string_eq}
 use Rattle.indexmap.specs.Layout.{set_value_at}
 use Rattle.std.specs.declared.alloc.Global.{Global}
 use Rattle.std.proofs.lemmas.Bool.{cases_lt, cases_order, eq-eqb}
-use Rattle.std.proofs.lemmas.List.{length-append}
+use Rattle.std.proofs.lemmas.List.{length-append, length-take-le, take_all}
 use Rattle.std.proofs.lemmas.List.Edits.{length-remove}
 use Rattle.std.proofs.lemmas.Option.{get_or_from_slice_get}
 use Rattle.std.proofs.lemmas.List.Quantifiers.{position-Some}
@@ -18,6 +18,7 @@ use Rattle.olr_spec.specs.Looks.{Look}
 use Rattle.olr_spec.specs.Extension.{has}
 use Rattle.olr_index.proofs.Rising.{rises, place_of, has_at, place_not, rises-remove, has-remove}
 use Rattle.olr_paths.specs.Finding.{IsNoted, NamedNoted, AreNoted, AreAll, Grows, Spares}
+use Rattle.olr_paths.specs.Items.{Item}
 use Rattle.olr_paths.specs.declared.finder.Finder.{Finder}
 use Rattle.olr_paths.specs.declared.listing.NamedPath.{NamedPath}
 use Rattle.olr_paths.proofs.NamedEntries.{Entries, asks, item_of, items_of, absent, not_here}
@@ -335,3 +336,56 @@ module _ (es fs : Entries) (ms : List ℕ) (name : List ℕ) (n : NamedPath) (q 
 -- the same list, with more room
 pub moved_noted : (es fs : Entries) (ms ns : List ℕ) (f : Finder) → fs ≡ es → ns ≡ ms → AreNoted es ms f → AreNoted fs ns f
 moved_noted es fs ms ns f a b h = subst (λ (xs : List ℕ). AreNoted fs xs f) (sym b) (subst (λ (ys : Entries). AreNoted ys ms f) (sym a) h)
+
+-- ---- a list without the last of its paths
+
+cut_at : (es : Entries) (q k : ℕ) (e : String Global × NamedPath) → slice_get (take q es) k ≡ Some e → (slice_get es k ≡ Some e) × (k < q)
+cut_at [] zero k e at = let never : ⊥ = cc (at) in absurd never
+cut_at [] (suc q) k e at = let never : ⊥ = cc (at) in absurd never
+cut_at (x ∷ es) zero k e at = let never : ⊥ = cc (at) in absurd never
+cut_at (x ∷ es) (suc q) zero e at = (at, omega arith)
+cut_at (x ∷ es) (suc q) (suc k) e at = let r = cut_at es q k e at in (r.0, (let lt = r.1 in omega arith))
+
+cut_marks : (ms : List ℕ) (q k : ℕ) → k < q → get_or (take q ms) k 0 ≡ get_or ms k 0
+cut_marks ms zero k lt = absurd (omega arith)
+cut_marks [] (suc q) k lt = refl
+cut_marks (m ∷ ms) (suc q) zero lt = refl
+cut_marks (m ∷ ms) (suc q) (suc k) lt = cut_marks ms q k (omega arith)
+
+same_cut : {A B : Type 0} (xs : List A) (ys : List B) (q : ℕ) → length xs ≡ length ys → length (take q xs) ≡ length (take q ys)
+same_cut xs ys zero h = refl
+same_cut [] [] (suc q) h = refl
+same_cut [] (y ∷ ys) (suc q) h = absurd (omega arith)
+same_cut (x ∷ xs) [] (suc q) h = absurd (omega arith)
+same_cut (x ∷ xs) (y ∷ ys) (suc q) h = ap suc (same_cut xs ys q (omega arith))
+
+pub items_cut : (es : Entries) (q : ℕ) → items_of (take q es) ≡ take q (items_of es)
+items_cut es zero = refl
+items_cut [] (suc q) = refl
+items_cut (e ∷ es) (suc q) = ap (λ (is : List Item). item_of e ∷ is) (items_cut es q)
+
+pub long_cut : (es fs : Entries) (ms ns : List ℕ) (q : ℕ) → fs ≡ take q es → ns ≡ take q ms → length ms ≡ length es → length ns ≡ length fs
+long_cut es fs ms ns q a b long = ap length b ∙ same_cut ms es q long ∙ sym (ap length a)
+
+rises_cut : (ms : List ℕ) (q : ℕ) → IsStrictlyIncreasing ms → IsStrictlyIncreasing (take q ms)
+rises_cut ms q up = elim (cases_lt q (length ms)) [
+  | inl low ↦ λ i lt.
+      let long : length (take q ms) ≡ q = length-take-le q ms (omega arith) in
+      let a = cut_marks ms q i (omega arith) in
+      let b = cut_marks ms q (i + 1) (omega arith) in
+      let step = up i (omega arith) in
+      omega arith
+  | inr high ↦ subst (λ (xs : List ℕ). IsStrictlyIncreasing xs) (sym (take_all q ms high)) up
+]
+
+pub rise_cut : (ms ns : List ℕ) (q : ℕ) → ns ≡ take q ms → IsStrictlyIncreasing ms → IsStrictlyIncreasing ns
+rise_cut ms ns q b up = subst (λ (xs : List ℕ). IsStrictlyIncreasing xs) (sym b) (rises_cut ms q up)
+
+pub noted_cut : (es fs : Entries) (ms ns : List ℕ) (q : ℕ) → fs ≡ take q es → ns ≡ take q ms → (f : Finder) → AreNoted es ms f → AreNoted fs ns f
+noted_cut es fs ms ns q a b f h k e at p some =
+    let r = cut_at es q k e (ap (λ (ys : Entries). slice_get ys k) (sym a) ∙ at) in
+    let mark : get_or ms k 0 ≡ get_or ns k 0 = sym (ap (λ (xs : List ℕ). get_or xs k 0) b ∙ cut_marks ms q k r.1) in
+    subst (λ (m : ℕ). IsNoted f m e.1.path.value.lines p.value.own p.value.looks.items) mark (h k e r.0 p some)
+
+pub all_cut : (es fs : Entries) (q : ℕ) → fs ≡ take q es → AreAll es → AreAll fs
+all_cut es fs q a h k e at = h k e (cut_at es q k e (ap (λ (ys : Entries). slice_get ys k) (sym a) ∙ at)).0

@@ -359,3 +359,10 @@ no_changes es added is none empty =
 
 pub behind_none : (es : Entered) (xs ys : List Item) → es ≡ [] → xs ++ under_changes (changes_in es) ys ≡ xs ++ ys
 behind_none es xs ys none = ap (λ (fs : Entered). xs ++ under_changes (changes_in fs) ys) none ∙ ap (λ (js : List Item). xs ++ js) (laid_none ys)
+
+-- what a list begins with, with more behind
+pub take_first : (xs ys zs : List Item) → zs ≡ xs ++ ys → take (length xs) zs ≡ xs
+take_first xs ys zs same = ap (take (length xs)) same ∙ first xs ys where
+  first : (us vs : List Item) → take (length us) (us ++ vs) ≡ us
+  first [] vs = refl
+  first (u ∷ us) vs = ap (λ (ws : List Item). u ∷ ws) (first us vs)

@@ -1,6 +1,7 @@
 -- What is to be put at positions, and is noted under their marks.
-use Rattle.std.proofs.Common.{◌≡◌, ℕ, zero, suc, ◌+◌, ◌<◌, List, [], ◌∷◌, ◌++◌, Contains, take, length, get_or, slice_get, Option, Some, None, false, IsTrue, refl, sym, ap, ◌∙◌, subst, arith}
-use Rattle.std.specs.Prelude.{String, option_map}
+use Rattle.std.proofs.Common.{◌≡◌, ℕ, zero, suc, ◌+◌, ◌<◌, List, [], ◌∷◌, ◌++◌, Contains, take, length, get_or, slice_get, Option, Some, None, false, Result, Ok, Err, IsTrue, refl, sym, ap, ◌∙◌, subst, arith}
+use Rattle.std.specs.Prelude.{String, option_map, OnOk, OnErr}
+use Rattle.std.specs.Result.{is_err}
 use Rattle.std.specs.Map.{values_of}
 use Rattle.indexmap.specs.Layout.{set_value_at}
 use Rattle.std.specs.declared.alloc.Global.{Global}
@@ -18,75 +19,43 @@ use Rattle.olr_paths.specs.declared.listing.NamedPath.{NamedPath}
 use Rattle.olr_commands.specs.Reply.{Entry}
 use Rattle.olr_paths.specs.Items.{Made, Item, made_of}
 use Rattle.olr_paths.specs.Changes.{Reported}
-use Rattle.olr_paths.proofs.NamedEntries.{Entries, item_of, items_of, made_of_named}
+use Rattle.olr_paths.proofs.NamedEntries.{Entries, item_of, items_of, item_at, made_of_named}
 use Rattle.olr_paths.proofs.Marking.{grown}
 use Rattle.olr_paths.proofs.Alls.{all_more}
 
 abbrev pub One : Type 0
-One = ℕ × Rc Published Global
+One = ℕ × NamedPath
 
 -- one of them
-abbrev pub StandsAt : Entries → List ℕ → Finder → One → Type 0
-StandsAt es ms f r = (e : String Global × NamedPath) → slice_get es r.0 ≡ Some e → IsNoted f (get_or ms r.0 0) e.1.path.value.lines r.1.value.own r.1.value.looks.items
+abbrev pub StandsAt : List ℕ → Finder → One → Type 0
+StandsAt ms f r = r.0 < length ms → NamedNoted f (get_or ms r.0 0) r.1
 
-pub at_front : (es : Entries) (ms : List ℕ) (f : Finder) (rest : List One) (r : One) → AreNotedAt es ms f (rest ++ r ∷ []) → AreNotedAt es ms f rest
-at_front es ms f rest r h k d lt = All-contains (StandsAt es ms f) (rest ++ r ∷ []) (get_or rest k d) h (Contains-append_left rest (r ∷ []) (get_or rest k d) (Contains-get_or rest k d lt))
+pub at_front : (ms : List ℕ) (f : Finder) (rest : List One) (r : One) → AreNotedAt ms f (rest ++ r ∷ []) → AreNotedAt ms f rest
+at_front ms f rest r h k d lt = All-contains (StandsAt ms f) (rest ++ r ∷ []) (get_or rest k d) h (Contains-append_left rest (r ∷ []) (get_or rest k d) (Contains-get_or rest k d lt))
 
-pub at_last : (es : Entries) (ms : List ℕ) (f : Finder) (rest : List One) (r : One) → AreNotedAt es ms f (rest ++ r ∷ []) → StandsAt es ms f r
-at_last es ms f rest r h = All-contains (StandsAt es ms f) (rest ++ r ∷ []) r h (Contains-push rest r)
-
--- the path at a place stays when what is published of it changes
-set_back : (es : Entries) (q : ℕ) (m n : NamedPath) → Some m ≡ slice_get (values_of es) q → n.path ≡ m.path → (k : ℕ) (e : String Global × NamedPath) → slice_get (set_value_at es q n) k ≡ Some e
-    → (x : String Global × NamedPath) × (slice_get es k ≡ Some x) × (x.1.path ≡ e.1.path)
-set_back [] q m n at same k e there = let never : ⊥ = cc (there) in absurd never
-set_back (x ∷ es) zero m n at same zero e there =
-    let is : m ≡ x.1 = cc (at) in
-    let new : n ≡ e.1 = cc (there) in
-    (x, refl, sym (ap (λ (y : NamedPath). y.path) is) ∙ sym same ∙ ap (λ (y : NamedPath). y.path) new)
-set_back (x ∷ es) zero m n at same (suc k) e there = (e, there, refl)
-set_back (x ∷ es) (suc q) m n at same zero e there = let is : x ≡ e = cc (there) in (x, refl, ap (λ (y : String Global × NamedPath). y.1.path) is)
-set_back (x ∷ es) (suc q) m n at same (suc k) e there = set_back es q m n at same k e there
-
-pub at_set : (es : Entries) (ms : List ℕ) (f : Finder) (q : ℕ) (m n : NamedPath) (fresh : List One) → Some m ≡ slice_get (values_of es) q → n.path ≡ m.path → AreNotedAt es ms f fresh → AreNotedAt (set_value_at es q n) ms f fresh
-at_set es ms f q m n fresh at same h k d lt e there =
-    let r : One = get_or fresh k d in
-    let b = set_back es q m n at same r.0 e there in
-    subst (λ (p : Rc Path Global). IsNoted f (get_or ms r.0 0) p.value.lines r.1.value.own r.1.value.looks.items) b.2 (h k d lt b.0 b.1)
-
--- what is put there is noted
-pub put_there : (es : Entries) (ms : List ℕ) (f : Finder) (q : ℕ) (m : NamedPath) (p : Rc Published Global) → Some m ≡ slice_get (values_of es) q → StandsAt es ms f (q, p) → NamedNoted f (get_or ms q 0) (record { path = m.path; published = Some p })
-put_there es ms f q m p at h r some =
-    let e = entry es q m at in
-    let is : p ≡ r = cc (some) in
-    let one : IsNoted f (get_or ms q 0) m.path.value.lines p.value.own p.value.looks.items = subst (λ (x : NamedPath). IsNoted f (get_or ms q 0) x.path.value.lines p.value.own p.value.looks.items) e.2 (h e.0 e.1) in
-    subst (λ (x : Rc Published Global). IsNoted f (get_or ms q 0) m.path.value.lines x.value.own x.value.looks.items) is one
-  where
-    entry : (ys : Entries) (k : ℕ) (n : NamedPath) → Some n ≡ slice_get (values_of ys) k → (e : String Global × NamedPath) × (slice_get ys k ≡ Some e) × (e.1 ≡ n)
-    entry [] k n there = let never : ⊥ = cc (there) in absurd never
-    entry (y ∷ ys) zero n there = let same : n ≡ y.1 = cc (there) in (y, refl, sym same)
-    entry (y ∷ ys) (suc k) n there = entry ys k n there
-
-pub stands_by : (es : Entries) (ms : List ℕ) (g : Finder) (r : One) (x : String Global × NamedPath) (mark : ℕ) (xs : List ℕ) (made : Published) → Some x ≡ slice_get es r.0 → mark ≡ get_or ms r.0 0 → xs ≡ x.1.path.value.lines → made ≡ r.1.value
-    → IsNoted g mark xs made.own made.looks.items → StandsAt es ms g r
-stands_by es ms g r x mark xs made at is_mark is_lines is_made h e there =
-    let same : x ≡ e = cc (at, there) in
-    subst (λ (y : String Global × NamedPath). IsNoted g (get_or ms r.0 0) y.1.path.value.lines r.1.value.own r.1.value.looks.items) same
-    (subst (λ (p : Published). IsNoted g (get_or ms r.0 0) x.1.path.value.lines p.own p.looks.items) is_made
-    (subst (λ (ys : List ℕ). IsNoted g (get_or ms r.0 0) ys made.own made.looks.items) is_lines
-    (subst (λ (k : ℕ). IsNoted g k xs made.own made.looks.items) is_mark h)))
+pub at_last : (ms : List ℕ) (f : Finder) (rest : List One) (r : One) → AreNotedAt ms f (rest ++ r ∷ []) → StandsAt ms f r
+at_last ms f rest r h = All-contains (StandsAt ms f) (rest ++ r ∷ []) r h (Contains-push rest r)
 
 -- under a finder with more
-pub at_grown : (es : Entries) (ms : List ℕ) (f g : Finder) (fresh : List One) → Grows f g → AreNotedAt es ms f fresh → AreNotedAt es ms g fresh
-at_grown es ms f g fresh more h k d lt e there =
-    let r : One = get_or fresh k d in
-    grown f g (get_or ms r.0 0) e.1.path.value.lines r.1.value.own r.1.value.looks.items more (h k d lt e there)
+pub named_grown : (f g : Finder) (mark : ℕ) (n : NamedPath) → Grows f g → NamedNoted f mark n → NamedNoted g mark n
+named_grown f g mark n more h p some = grown f g mark n.path.value.lines p.value.own p.value.looks.items more (h p some)
+
+pub at_grown : (ms : List ℕ) (f g : Finder) (fresh : List One) → Grows f g → AreNotedAt ms f fresh → AreNotedAt ms g fresh
+at_grown ms f g fresh more h k d lt low = let r : One = get_or fresh k d in named_grown f g (get_or ms r.0 0) r.1 more (h k d lt low)
 
 pub noted_grown : (es : Entries) (ms : List ℕ) (f g : Finder) → Grows f g → AreNoted es ms f → AreNoted es ms g
 noted_grown es ms f g more h k e at p some = grown f g (get_or ms k 0) e.1.path.value.lines p.value.own p.value.looks.items more (h k e at p some)
 
 -- of the first k, and one more
-pub at_more : (es : Entries) (ms : List ℕ) (f g : Finder) (fresh : List One) (k : ℕ) (d : One) → k < length fresh → Grows f g → AreNotedAt es ms f (take k fresh) → StandsAt es ms g (get_or fresh k d) → AreNotedAt es ms g (take (k + 1) fresh)
-at_more es ms f g fresh k d lt more h one = all_more (StandsAt es ms g) fresh k d lt (at_grown es ms f g (take k fresh) more h) one
+pub at_more : (ms : List ℕ) (f g : Finder) (fresh : List One) (k : ℕ) (d : One) → k < length fresh → Grows f g → AreNotedAt ms f (take k fresh) → StandsAt ms g (get_or fresh k d) → AreNotedAt ms g (take (k + 1) fresh)
+at_more ms f g fresh k d lt more h one = all_more (StandsAt ms g) fresh k d lt (at_grown ms f g (take k fresh) more h) one
+
+-- what was published and is noted
+pub named_by : (g : Finder) (mark : ℕ) (n : NamedPath) (p : Rc Published Global) (xs : List ℕ) (made : Published) → n.published ≡ Some p → xs ≡ n.path.value.lines → made ≡ p.value → IsNoted g mark xs made.own made.looks.items → NamedNoted g mark n
+named_by g mark n p xs made is is_lines is_made h q some =
+    let same : p ≡ q = cc (is, some) in
+    subst (λ (r : Rc Published Global). IsNoted g mark n.path.value.lines r.value.own r.value.looks.items) same
+    (subst (λ (m : Published). IsNoted g mark n.path.value.lines m.own m.looks.items) is_made (subst (λ (ys : List ℕ). IsNoted g mark ys made.own made.looks.items) is_lines h))
 
 -- where each path is reported, each was encoded
 pub all_encoded : (before : List Item) (es : Entries) (rs : List Entry) → Reported before (items_of es) rs → AreAll es
@@ -123,12 +92,29 @@ lack_by es ms f noted empty i on =
     let off : holds f.from l.from (get_or ms on.0 0) ≡ false = ap (λ (xs : List ℕ). has xs (get_or ms on.0 0)) (empty l.from) in
     cc (held, off))))
 
--- what is kept is noted still
-pub kept_by : (f g : Finder) (mark : ℕ) (xs : List ℕ) (made : Published) (n : NamedPath) (kept : Rc Published Global) → n.published ≡ Some kept → xs ≡ n.path.value.lines → made ≡ kept.value
-    → (IsNoted f mark xs made.own made.looks.items → IsNoted g mark xs made.own made.looks.items) → NamedNoted f mark n → NamedNoted g mark n
-kept_by f g mark xs made n kept is is_lines is_made keeps h p some =
-    let same : kept ≡ p = cc (is, some) in
-    let old : IsNoted f mark xs made.own made.looks.items =
-    subst (λ (ys : List ℕ). IsNoted f mark ys made.own made.looks.items) (sym is_lines) (subst (λ (m : Published). IsNoted f mark n.path.value.lines m.own m.looks.items) (sym is_made) (h kept is)) in
-    subst (λ (r : Rc Published Global). IsNoted g mark n.path.value.lines r.value.own r.value.looks.items) same
-    (subst (λ (m : Published). IsNoted g mark n.path.value.lines m.own m.looks.items) is_made (subst (λ (ys : List ℕ). IsNoted g mark ys made.own made.looks.items) is_lines (keeps old)))
+-- lists with the same paths are encoded alike
+pub all_same : (es fs : Entries) → items_of fs ≡ items_of es → AreAll es → AreAll fs
+all_same es fs same h k e at = λ none.
+    let b = back es k (item_of e) (ap (λ (js : List Item). slice_get js k) (sym same) ∙ item_at fs k e at) in
+    let made : made_of_named b.0.1 ≡ made_of_named e.1 = ap (λ (i : Item). i.made) b.2 in
+    let gone : made_of_named e.1 ≡ None = ap (option_map (λ p. made_of p.value)) none in
+    h k b.0 b.1 (none_published b.0.1.published (made ∙ gone))
+  where
+    none_published : (o : Option (Rc Published Global)) → option_map (λ p. made_of p.value) o ≡ None → o ≡ None
+    none_published None h = refl
+    none_published (Some p) h = let never : ⊥ = cc (h) in absurd never
+
+pub value_within : (es : Entries) (q : ℕ) (n : NamedPath) → Some n ≡ slice_get (values_of es) q → q < length es
+value_within [] q n at = let never : ⊥ = cc (at) in absurd never
+value_within (x ∷ es) zero n at = omega arith
+value_within (x ∷ es) (suc q) n at = let lt = value_within es q n at in omega arith
+
+-- ---- results
+
+pub unless_err : {A E P : Type 0} (r : Result A E) → is_err r ≡ false → OnOk r P → P
+unless_err (Ok a) h p = p
+unless_err (Err e) h p = absurd cc
+
+pub where_err : {A E P : Type 0} (r : Result A E) → P → OnErr r P
+where_err (Ok a) p = tt
+where_err (Err e) p = p

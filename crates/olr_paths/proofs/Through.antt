@@ -16,7 +16,7 @@ use Rattle.olr_commands.specs.Reply.{Entry, entry}
 use Rattle.olr_commands.proofs.NameLemmas.{flipped, not_named}
 use Rattle.olr_paths.specs.Items.{Made, Item, IsEncodingOf, AreEncodingsIfAny, named, all_named, made_in, answer_in}
 use Rattle.olr_paths.specs.Changes.{with_made, IsBefore, IsConcerned, By_name, Touches, IsRemade, AreRemade, Reported, Follows}
-use Rattle.olr_paths.specs.Renewing.{all_put, made_at, puts_of, entries_of, TellsIfOther, ToStay, ToKeep, ToEncode, IsStep, Left, Kept, Anew, Rises}
+use Rattle.olr_paths.specs.Renewing.{Put, all_put, made_at, puts_of, entries_of, TellsIfOther, ToStay, ToKeep, ToEncode, IsStep, Left, Kept, Anew, Rises}
 use Rattle.olr_paths.specs.declared.renewal.Renewal.{Renewal}
 use Rattle.olr_paths.specs.declared.renewal.Counted.{Counted}
 use Rattle.olr_paths.proofs.NamedEntries.{take_more_items}
@@ -61,7 +61,7 @@ Reported-push before js es fs j A h is told =
       | inr t ↦ subst (Reported before (js ++ j ∷ [])) (sym t.1) (Reported-told before js es j A h is t.0)
     ]
 
-pub record Through (Q : Map → Type 0) (N : Map) (T X : List ℕ) (before is : List Item) (ps : List (ℕ × Made)) (es : List Entry) (n : ℕ) : Type 0 where
+pub record Through (Q : Map → Type 0) (N : Map) (T X : List ℕ) (before is : List Item) (ps : List Put) (es : List Entry) (n : ℕ) : Type 0 where
   pub local : (ys : List Item) → all_put (is ++ ys) ps ≡ all_put is ps ++ ys
   pub names : all_named (all_put is ps) ≡ all_named is
   pub remade : (L : Map) → Q L → AreRemade N is (all_put is ps)
@@ -73,7 +73,7 @@ module _ (Q : Map → Type 0) (N : Map) (T X : List ℕ) (before : List Item) wh
   through_none = record { local = λ ys. refl; names = refl; remade = λ L q. refl; reported = refl; counted = λ L q. refl }
 
   -- where j is at the end of what was put, and the rest stays
-  pub grown : (is : List Item) (ps qs : List (ℕ × Made)) (es fs : List Entry) (n k : ℕ) (i j : Item) (A : Answer) → Through Q N T X before is ps es n
+  pub grown : (is : List Item) (ps qs : List Put) (es fs : List Entry) (n k : ℕ) (i j : Item) (A : Answer) → Through Q N T X before is ps es n
       → ((ys : List Item) → all_put (is ++ i ∷ ys) qs ≡ all_put is ps ++ j ∷ ys) → named j ≡ named i → ((L : Map) → Q L → IsRemade N i j) → answer j ≡ Some A → TellsIfOther before j.name A es fs
       → ((L : Map) → Q L → CountIs (IsConcerned L T X) (is ++ i ∷ []) k)
       → Through Q N T X before (is ++ i ∷ []) qs fs k
@@ -129,7 +129,7 @@ module _ (N : Map) (n : IsMap N) (T X : List ℕ) (C : List ChangedLine) (before
       let is_A : answer i ≡ Some m.answer = ap (option_map (λ (k : Made). k.answer)) e in
       elim (follows_at before is place i follows at) [ inl none ↦ let never : ⊥ = cc in absurd never | inr same ↦ same ∙ is_A ]
 
-  through_left : (ps : List (ℕ × Made)) (es : List Entry) (c : ℕ) → Through Q N T X before (take place is) ps es c → ToStay N T X i.made i.path → Through Q N T X before (take place is ++ i ∷ []) ps es c
+  through_left : (ps : List Put) (es : List Entry) (c : ℕ) → Through Q N T X before (take place is) ps es c → ToStay N T X i.made i.path → Through Q N T X before (take place is ++ i ∷ []) ps es c
   through_left ps es c h f =
       let m = f.0 in
       grown Q N T X before (take place is) ps ps es es c c i i m.answer h (λ ys. h.local (i ∷ ys)) refl
@@ -141,7 +141,7 @@ module _ (N : Map) (n : IsMap N) (T X : List ℕ) (C : List ChangedLine) (before
   concerned : (L : Map) → Q L → (m : Made) → i.made ≡ Some m → Touches N T X m i.path → IsConcerned L T X i
   concerned L q m e t = subst (λ (j : Item). IsConcerned L T X j) (sym (again i m e)) (concerned_by L N n T X C i.path (is_a_path L q) m q.sound q.difference (is_made L q m e) i.name t)
 
-  through_kept : (ps : List (ℕ × Made)) (es : List Entry) (c : ℕ) → Through Q N T X before (take place is) ps es c → ToKeep N T X C i.made i.path → Through Q N T X before (take place is ++ i ∷ []) ps es (c + 1)
+  through_kept : (ps : List Put) (es : List Entry) (c : ℕ) → Through Q N T X before (take place is) ps es c → ToKeep N T X C i.made i.path → Through Q N T X before (take place is ++ i ∷ []) ps es (c + 1)
   through_kept ps es c h f =
       let m = f.0 in
       grown Q N T X before (take place is) ps ps es es c (c + 1) i i m.answer h (λ ys. h.local (i ∷ ys)) refl
@@ -153,12 +153,12 @@ module _ (N : Map) (n : IsMap N) (T X : List ℕ) (C : List ChangedLine) (before
   to_encode L q (inl none) = By_name none
   to_encode L q (inr f) = concerned L q f.0 f.1 f.2
 
-  through_anew : (ps : List (ℕ × Made)) (es fs : List Entry) (c : ℕ) (m : Made) → Through Q N T X before (take place is) ps es c → ToEncode N T X i.made i.path → IsEncodingOf N i.path m → TellsIfOther before i.name m.answer es fs
-      → Through Q N T X before (take place is ++ i ∷ []) (ps ++ (place, m) ∷ []) fs (c + 1)
+  through_anew : (ps : List Put) (es fs : List Entry) (c : ℕ) (m : Made) → Through Q N T X before (take place is) ps es c → ToEncode N T X i.made i.path → IsEncodingOf N i.path m → TellsIfOther before i.name m.answer es fs
+      → Through Q N T X before (take place is ++ i ∷ []) (ps ++ record { place = place; path = i.path; made = Some m } ∷ []) fs (c + 1)
   through_anew ps es fs c m h f made told =
-      subst (λ (k : ℕ). Through Q N T X before (take place is ++ i ∷ []) (ps ++ (k, m) ∷ []) fs (c + 1)) long
-      (grown Q N T X before (take place is) ps (ps ++ (length (take place is), m) ∷ []) es fs c (c + 1) i (with_made i m) m.answer h
-      (λ ys. all_put-push (take place is ++ i ∷ ys) ps (length (take place is)) m ∙ ap (λ (zs : List Item). all_put zs ps) (put_behind (take place is) i ys m) ∙ h.local (with_made i m ∷ ys))
+      subst (λ (k : ℕ). Through Q N T X before (take place is ++ i ∷ []) (ps ++ record { place = k; path = i.path; made = Some m } ∷ []) fs (c + 1)) long
+      (grown Q N T X before (take place is) ps (ps ++ record { place = length (take place is); path = i.path; made = Some m } ∷ []) es fs c (c + 1) i (with_made i m) m.answer h
+      (λ ys. all_put-push (take place is ++ i ∷ ys) ps (record { place = length (take place is); path = i.path; made = Some m }) ∙ ap (λ (zs : List Item). all_put zs ps) (put_behind (take place is) i ys i.path (Some m)) ∙ h.local (with_made i m ∷ ys))
       refl (λ L q. (m, made, refl)) refl told
       (λ L q. Count-more (IsConcerned L T X) (take place is) c i (h.counted L q) (to_encode L q f)))
 
@@ -186,7 +186,7 @@ so_far_none N T X C before is r work fresh entries =
     let told : [] ≡ entries_of r = sym (ap (map entry_of) entries) in
     record {
       many = 0;
-      through = subst (λ (es : List Entry). Through Q N T X before [] (made_at r) es 0) told (subst (λ (ps : List (ℕ × Made)). Through Q N T X before [] ps [] 0) made (through_none Q N T X before));
+      through = subst (λ (es : List Entry). Through Q N T X before [] (made_at r) es 0) told (subst (λ (ps : List Put). Through Q N T X before [] ps [] 0) made (through_none Q N T X before));
       raised = λ few. omega arith;
       rises = rises_none work;
     }
@@ -240,7 +240,7 @@ module _ (N : Map) (n : IsMap N) (T X : List ℕ) (C : List ChangedLine) (before
       record {
         many = h.many + 1;
         through = subst (λ (js : List Item). Through (λ L. IsBefore L N T X C is) N T X before js (made_at s) (entries_of s) (h.many + 1)) (sym (take_more_items is place i at))
-            (subst (λ (ps : List (ℕ × Made)). Through (λ L. IsBefore L N T X C is) N T X before (take place is ++ i ∷ []) ps (entries_of s) (h.many + 1)) (sym puts)
+            (subst (λ (ps : List Put). Through (λ L. IsBefore L N T X C is) N T X before (take place is ++ i ∷ []) ps (entries_of s) (h.many + 1)) (sym puts)
             (through_anew N n T X C before is place i follows at (made_at r) (entries_of r) (entries_of s) h.many m h.through f made told));
         raised = λ few. let e = h.raised (omega arith) in let u = one.encodings (omega arith) in omega arith;
         rises = rises_more old now later h.many h.rises one.rises;

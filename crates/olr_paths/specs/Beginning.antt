@@ -9,6 +9,7 @@ use Rattle.olr_spec.specs.Extension.{limit}
 use Rattle.olr_spec.specs.Detours.{Near}
 use Rattle.olr_spec.specs.Looks.{Look}
 use Rattle.olr_paths.specs.Items.{Made, Item}
+use Rattle.olr_paths.specs.Renewing.{Put}
 use Rattle.olr_paths.specs.declared.searches.Searches.{Searches}
 
 abbrev pub BeginsIn : Option Made → ℕ → Type 0
@@ -19,9 +20,9 @@ abbrev pub Begins : List Item → ℕ → Type 0
 Begins [] v = ⊥
 Begins (i ∷ is) v = BeginsIn i.made v ⊎ Begins is v
 
-abbrev pub BeginsPut : List (ℕ × Made) → ℕ → Type 0
+abbrev pub BeginsPut : List Put → ℕ → Type 0
 BeginsPut [] v = ⊥
-BeginsPut (p ∷ ps) v = BeginsIn (Some p.1) v ⊎ BeginsPut ps v
+BeginsPut (p ∷ ps) v = BeginsIn p.made v ⊎ BeginsPut ps v
 
 abbrev pub AreFar : Map → List ℕ → List Item → Type 0
 AreFar N T is = (v : ℕ) → Begins is v → ¬ Near N T v limit

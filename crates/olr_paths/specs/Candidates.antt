@@ -2,13 +2,19 @@
 --     Includes xs ys      the numbers of xs are among those of ys
 --     Finds marks i v found      the positions whose marks the number v has are found.        AreFound      so of each number
 --     Covers N T X is found      a path whose position isn't found is not concerned
-use Rattle.std.specs.Prelude.{◌≡◌, ℕ, ◌<◌, List, All, Some, false, length, get_or, slice_get, IsTrue}
+--     CoversAsked N place t s is found      the same of those of which it was asked.        FindsChanged cs is found      a path whose position isn't found is not changed
+use Rattle.std.specs.Prelude.{◌≡◌, ℕ, ◌<◌, List, All, Some, None, IfSome, false, length, get_or, slice_get, IsTrue}
 use Rattle.olr_spec.specs.Map.{Map}
 use Rattle.olr_spec.specs.Extension.{has}
 use Rattle.olr_index.specs.Marks.{holds}
 use Rattle.olr_index.specs.declared.Index.{Index}
 use Rattle.olr_paths.specs.Items.{Item}
 use Rattle.olr_paths.specs.Renewing.{ToStay}
+use Rattle.olr_paths.specs.Laying.{Changes, change_at}
+use Rattle.olr_paths.specs.Touching.{nodes_of, lines_of}
+use Rattle.olr_paths.specs.Searching.{IsAsked}
+use Rattle.olr_paths.specs.declared.touched.Touched.{Touched}
+use Rattle.olr_paths.specs.declared.searches.Searches.{Searches}
 
 abbrev pub Includes : List ℕ → List ℕ → Type 0
 Includes xs ys = (k : ℕ) → IsTrue (has xs k) → IsTrue (has ys k)
@@ -21,3 +27,10 @@ AreFound marks i vs found = All (λ v. Finds marks i v found) vs
 
 abbrev pub Covers : Map → List ℕ → List ℕ → List Item → List ℕ → Type 0
 Covers N T X is found = (k : ℕ) (i : Item) → slice_get is k ≡ Some i → has found k ≡ false → ToStay N T X i.made i.path
+
+abbrev pub CoversAsked : Map → (ℕ → ℕ) → Touched → Searches → List Item → List ℕ → Type 0
+CoversAsked N place t s is found = (k : ℕ) (i : Item) → slice_get is k ≡ Some i → has found k ≡ false → IfSome i.made (IsAsked N place t s)
+    → ToStay N (nodes_of t) (lines_of t) i.made i.path
+
+abbrev pub FindsChanged : Changes → List Item → List ℕ → Type 0
+FindsChanged cs is found = (k : ℕ) (i : Item) → slice_get is k ≡ Some i → has found k ≡ false → change_at cs i.name ≡ None

@@ -3,9 +3,9 @@
 --     Keeps i j      each number has the marks that it had.        KeepsBut mark i j      and the others, but for one mark
 --     Grows f g, Spares f g mark      the same of a finder
 --     AreNoted es marks f      each path that was encoded is noted under the mark at its place
---     AreNotedAt es marks f fresh      what is to be put at positions is noted under their marks
+--     AreNotedAt marks f fresh      what is to be put at positions is noted under their marks
 --     AreAll es      each path was encoded
-use Rattle.std.specs.Prelude.{◌≡◌, ◌≢◌, ℕ, List, All, Some, None, get_or, slice_get, IsTrue, IsFalse, String, Bool}
+use Rattle.std.specs.Prelude.{◌≡◌, ◌≢◌, ◌<◌, ℕ, List, All, Some, None, length, get_or, slice_get, IsTrue, IsFalse, String, Bool}
 use Rattle.std.specs.Coded.{coded_ℕ, Coded-set}
 use Rattle.std.proofs.Props.{props}
 use Rattle.std.specs.declared.alloc.Global.{Global}
@@ -46,9 +46,8 @@ abbrev pub AreNoted : List (String Global × NamedPath) → List ℕ → Finder 
 AreNoted es marks f = (k : ℕ) (e : String Global × NamedPath) → slice_get es k ≡ Some e → NamedNoted f (get_or marks k 0) e.1
 
 -- what is to be put at positions is noted under their marks
-abbrev pub AreNotedAt : List (String Global × NamedPath) → List ℕ → Finder → List (ℕ × Rc Published Global) → Type 0
-AreNotedAt es marks f fresh =
-    All (λ r. (e : String Global × NamedPath) → slice_get es r.0 ≡ Some e → IsNoted f (get_or marks r.0 0) e.1.path.value.lines r.1.value.own r.1.value.looks.items) fresh
+abbrev pub AreNotedAt : List ℕ → Finder → List (ℕ × NamedPath) → Type 0
+AreNotedAt marks f fresh = All (λ r. r.0 < length marks → NamedNoted f (get_or marks r.0 0) r.1) fresh
 
 abbrev pub AreAll : List (String Global × NamedPath) → Type 0
 AreAll es = (k : ℕ) (e : String Global × NamedPath) → slice_get es k ≡ Some e → e.1.published ≢ None

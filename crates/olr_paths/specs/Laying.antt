@@ -1,7 +1,10 @@
 -- Changes that lie over a list of named paths.
 --     Changes, change_at cs name      what becomes of paths by their names: another path, or none where it is taken away
 --     under_changes cs is      the list with these changes.        under_overlay is o      with those of an overlay, and the new ones behind
-use Rattle.std.specs.Prelude.{ℕ, Bool, true, false, cond, List, [], ◌∷◌, ◌++◌, map, Option, Some, None, option_map, string_bytes}
+--     TakesNone cs      no path is taken away
+use Rattle.std.specs.Prelude.{◌≡◌, ℕ, Bool, true, false, cond, List, [], ◌∷◌, ◌++◌, map, Option, Some, None, option_map, string_bytes}
+use Rattle.std.specs.Coded.{coded_ℕ, Coded-set}
+use Rattle.std.proofs.Props.{props}
 use Rattle.olr_spec.specs.Extension.{Path}
 use Rattle.olr_commands.specs.State.{same_name}
 use Rattle.olr_paths.specs.Items.{Item, items}
@@ -22,6 +25,12 @@ abbrev pub drops : Option (Option Path) → Bool
 drops (Some None) = true
 drops (Some (Some path)) = false
 drops None = false
+
+abbrev pub TakesNone : Changes → Type 0
+TakesNone cs = (name : List ℕ) → drops (change_at cs name) ≡ false
+
+pub TakesNone-prop : (cs : Changes) → IsProp (TakesNone cs)
+TakesNone-prop cs = hlevel (props, Coded-set coded_ℕ)
 
 -- what becomes of one path, which is not encoded yet where it is another
 abbrev pub under_change : Option (Option Path) → Item → List Item

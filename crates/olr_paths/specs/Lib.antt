@@ -6,5 +6,6 @@ pub mod Searching
 pub mod Renewing
 pub mod Candidates
 pub mod Laying
+pub mod Showing
 pub mod Beginning
 pub mod Yielding

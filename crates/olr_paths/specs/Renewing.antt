@@ -1,5 +1,5 @@
 -- What was made anew of a list of named paths, and where it goes.
---     puts_of es, made_at r      what was made, each with its place.        all_put is ps      the list with these at their places
+--     Put      a path with what was made of it, and its place.        puts_of es, made_at r      what was made.        all_put is ps      the list with these at their places
 --     item_of name e      an entry of the list under a name
 --     items_before o l      the list that is given as the earlier one, or else l itself
 --     Stays N T X C m P      no own node and no line of the path is touched, and each look is clear
@@ -16,10 +16,7 @@ use Rattle.olr_commands.specs.Words.{entry_of}
 use Rattle.olr_spec.specs.Encoding.{Answer}
 use Rattle.olr_commands.specs.Reply.{Entry, entry}
 use Rattle.olr_paths.specs.Items.{Made, Item, IsEncodingOf, made_of, items, answer_in}
-use Rattle.olr_paths.specs.Changes.{with_made, OwnTouched, LineTouched, Touches}
-use Rattle.std.specs.declared.alloc.Global.{Global}
-use Rattle.std.specs.declared.rc.Rc.{Rc}
-use Rattle.olr_paths.specs.declared.published.Published.{Published}
+use Rattle.olr_paths.specs.Changes.{OwnTouched, LineTouched, Touches}
 use Rattle.olr_paths.specs.declared.listing.NamedPath.{NamedPath}
 use Rattle.olr_paths.specs.declared.listing.Listing.{Listing}
 use Rattle.olr_paths.specs.declared.renewal.Renewal.{Renewal}
@@ -31,21 +28,26 @@ use Rattle.olr_paths.specs.declared.renewal.Fate.TheVariants.{Stay, Keep, Encode
 abbrev pub item_of : List ℕ → NamedPath → Item
 item_of name e = record { name = name; path = e.path.value; made = option_map (λ p. made_of p.value) e.published }
 
--- with what was made for the item at that place
-abbrev pub put : List Item → ℕ → Made → List Item
-put [] k m = []
-put (i ∷ is) zero m = with_made i m ∷ is
-put (i ∷ is) (suc k) m = i ∷ put is k m
+pub record Put : Type 0 where
+  pub place : ℕ
+  pub path : Path
+  pub made : Option Made
+
+-- with that path and what was made of it for the item at that place, which keeps its name
+abbrev pub put : List Item → ℕ → Path → Option Made → List Item
+put [] k path made = []
+put (i ∷ is) zero path made = record { name = i.name; path = path; made = made } ∷ is
+put (i ∷ is) (suc k) path made = i ∷ put is k path made
 
 -- with each at its place
-abbrev pub all_put : List Item → List (ℕ × Made) → List Item
+abbrev pub all_put : List Item → List Put → List Item
 all_put is [] = is
-all_put is (p ∷ ps) = put (all_put is ps) p.0 p.1
+all_put is (p ∷ ps) = put (all_put is ps) p.place p.path p.made
 
-abbrev pub puts_of : List (ℕ × Rc Published Global) → List (ℕ × Made)
-puts_of es = map (λ e. (e.0, made_of e.1.value)) es
+abbrev pub puts_of : List (ℕ × NamedPath) → List Put
+puts_of es = map (λ e. record { place = e.0; path = e.1.path.value; made = option_map (λ p. made_of p.value) e.1.published }) es
 
-abbrev pub made_at : Renewal → List (ℕ × Made)
+abbrev pub made_at : Renewal → List Put
 made_at r = puts_of r.fresh.items
 
 abbrev pub entries_of : Renewal → List Entry
@@ -94,5 +96,5 @@ pub record OneMore (old new : Counted) : Type 0 where
 pub data IsStep (N : Map) (T X : List ℕ) (C : List ChangedLine) (before : List Item) (i : Item) (k : ℕ) (r s : Renewal) (c d : Counted) : Type 0 where
   Left : ToStay N T X i.made i.path → s ≡ r → d ≡ c → IsStep N T X C before i k r s c d
   Kept : ToKeep N T X C i.made i.path → s ≡ r → OneMore c d → IsStep N T X C before i k r s c d
-  Anew : ToEncode N T X i.made i.path → (m : Made) → IsEncodingOf N i.path m → made_at s ≡ made_at r ++ (k, m) ∷ [] → TellsIfOther before i.name m.answer (entries_of r) (entries_of s)
+  Anew : ToEncode N T X i.made i.path → (m : Made) → IsEncodingOf N i.path m → made_at s ≡ made_at r ++ record { place = k; path = i.path; made = Some m } ∷ [] → TellsIfOther before i.name m.answer (entries_of r) (entries_of s)
       → OneMore c d → IsStep N T X C before i k r s c d

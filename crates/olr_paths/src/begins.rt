@@ -6,11 +6,9 @@ ghost use Rattle.olr_paths.specs.Beginning.{BeginsIn, Begins, BeginsPut};
 ghost use Rattle.olr_paths.specs.Renewing.{puts_of};
 
 use crate::listing::{Listing, NamedPath};
-use crate::published::Published;
 use olr_map::NodeId;
 use olr_refs::Look;
 use std::alloc::AllocError;
-use std::rc::Rc;
 
 /// Puts where the looks begin behind other nodes.
 pub(crate) fn note_looks(looks: &[Look], begun: &mut Vec<NodeId>) -> Result<(), AllocError>
@@ -23,19 +21,6 @@ pub(crate) fn note_looks(looks: &[Look], begun: &mut Vec<NodeId>) -> Result<(), 
     Ok(())
 }
 
-/// Puts where the looks begin of what was encoded anew behind other nodes.
-pub(crate) fn note_fresh(
-    fresh: &[(usize, Rc<Published>)],
-    begun: &mut Vec<NodeId>,
-) -> Result<(), AllocError>
-    ensures { OnOk result ((v : ℕ) → BeginsPut (puts_of fresh.now) v → Contains begun.new.items v) }
-{
-    for made in fresh {
-        note_looks(&made.1.looks, begun)?;
-    }
-    Ok(())
-}
-
 /// Puts where the looks of a path begin behind other nodes.
 fn note_named(named: &NamedPath, begun: &mut Vec<NodeId>) -> Result<(), AllocError>
     ensures before { OnOk result ((v : ℕ) → Contains begun.old.items v → Contains begun.new.items v) }
@@ -44,6 +29,19 @@ fn note_named(named: &NamedPath, begun: &mut Vec<NodeId>) -> Result<(), AllocErr
 {
     if let Some(published) = &named.published {
         note_looks(&published.looks, begun)?;
+    }
+    Ok(())
+}
+
+/// Puts where the looks begin of what was encoded anew behind other nodes.
+pub(crate) fn note_fresh(
+    fresh: &[(usize, NamedPath)],
+    begun: &mut Vec<NodeId>,
+) -> Result<(), AllocError>
+    ensures { OnOk result ((v : ℕ) → BeginsPut (puts_of fresh.now) v → Contains begun.new.items v) }
+{
+    for (_, named) in fresh {
+        note_named(named, begun)?;
     }
     Ok(())
 }

@@ -1,12 +1,15 @@
 //! Which paths edits may concern: found by what they touched, and not by going over all paths.
-ghost use Rattle.std.specs.Prelude.{◌≡◌, ◌<◌, ℕ, Some, All, length, get_or, IsTrue, IsFalse, IfOk, OnOk};
+ghost use Rattle.std.specs.Prelude.{◌≡◌, ◌<◌, ◌≤◌, ℕ, Some, All, length, get_or, IsTrue, IsFalse, IfOk, OnOk};
 ghost use Rattle.std.specs.List.Sorted.{IsStrictlyIncreasing, IsNonDecreasing};
 ghost use Rattle.olr_spec.specs.Extension.{has};
 ghost use Rattle.olr_paths.specs.Items.{items};
 ghost use Rattle.olr_paths.specs.Touching.{nodes_of, lines_of};
 ghost use Rattle.olr_paths.specs.Searching.{AreAsked};
-ghost use Rattle.olr_paths.specs.Candidates.{Includes, Finds, AreFound, Covers};
+ghost use Rattle.olr_paths.specs.Laying.{changes_of};
+ghost use Rattle.olr_paths.specs.Showing.{shown_items};
+ghost use Rattle.olr_paths.specs.Candidates.{Includes, Finds, AreFound, Covers, CoversAsked, FindsChanged};
 
+use crate::laid::Laid;
 use crate::listing::Listing;
 use crate::searches::Searches;
 use crate::touched::Touched;
@@ -89,16 +92,33 @@ fn put_reached(
     Ok(())
 }
 
-/// All positions below a number, rising.
-fn all_below(alloc: Global, count: usize) -> Result<Vec<usize>, AllocError>
-    ensures rising { IfOk result (λ found. IsNonDecreasing found.items) }
-    ensures all { IfOk result (λ found. (k : ℕ) → k < count → IsTrue (has found.items k)) }
+/// Puts the positions from one to another, without that, behind others.
+fn put_range(from: usize, to: usize, found: &mut Vec<usize>) -> Result<(), AllocError>
+    ensures kept { OnOk result (Includes found.old.items found.new.items) }
+    ensures put { OnOk result ((k : ℕ) → from ≤ k → k < to → IsTrue (has found.new.items k)) }
 {
-    let mut found = Vec::with_capacity(alloc, count)?;
-    for position in 0..count {
+    for position in from..to {
         found.push(position)?;
     }
-    Ok(found)
+    Ok(())
+}
+
+/// Puts the positions of the paths in whose place another comes behind others.
+fn put_changed(laid: Laid<'_>, found: &mut Vec<usize>) -> Result<(), AllocError>
+    ensures kept { OnOk result (Includes found.old.items found.new.items) }
+    ensures put { OnOk result (FindsChanged (changes_of laid.entry.overlay.now) (items laid.entry.list.now) found.new.items) }
+{
+    let _names = laid.list.len();
+    for k in 0..laid.overlay.changes.len() {
+        let Some((name, _)) = laid.overlay.changes.get_index(k) else {
+            unreachable!()
+        };
+        let Some(position) = laid.list.paths.get_index_of(name.as_str()) else {
+            continue;
+        };
+        found.push(position)?;
+    }
+    Ok(())
 }
 
 /// Puts the positions of the paths that edits may concern behind others: those that have a touched node or line, or look from
@@ -110,10 +130,9 @@ fn put_touched<M: MapRead>(
     searches: &Searches,
     found: &mut Vec<usize>,
 ) -> Result<(), AllocError>
-    requires asked { AreAsked (M.map map.now) (M.place_in map.now) touched.now searches.now (items list.now) }
     requires encoded { IsFalse list.now.held }
     ensures { OnOk result
-        (Covers (M.map map.now) (nodes_of touched.now) (lines_of touched.now) (items list.now) found.new.items) }
+        (CoversAsked (M.map map.now) (M.place_in map.now) touched.now searches.now (items list.now) found.new.items) }
 {
     put_nodes(&list.marks, &list.finder.own, &touched.nodes, found)?;
     put_nodes(&list.marks, &list.finder.from, &touched.nodes, found)?;
@@ -126,25 +145,46 @@ fn put_touched<M: MapRead>(
     Ok(())
 }
 
-/// The positions, rising, of paths that edits may concern; a position may stand twice. All positions, where a path may be
-/// there that was not encoded yet.
+/// Puts the positions of the list's paths that edits may concern, or in whose place another comes, behind others. All
+/// positions, where a path may be there that was not encoded yet.
+fn put_listed<M: MapRead>(
+    map: &M,
+    laid: Laid<'_>,
+    touched: &Touched,
+    searches: &Searches,
+    found: &mut Vec<usize>,
+) -> Result<(), AllocError>
+    ensures changed { OnOk result (FindsChanged (changes_of laid.entry.overlay.now) (items laid.entry.list.now) found.new.items) }
+    ensures asked { OnOk result
+        (CoversAsked (M.map map.now) (M.place_in map.now) touched.now searches.now (items laid.entry.list.now) found.new.items) }
+{
+    if laid.list.held {
+        put_range(0, laid.list.paths.len(), found)?;
+        return Ok(());
+    }
+    put_touched(map, laid.list, touched, searches, found)?;
+    put_changed(laid, found)?;
+    Ok(())
+}
+
+/// The positions, rising, of paths that edits may concern, or that changes give; a position may stand twice. All positions,
+/// where a path may be there that was not encoded yet.
 pub(crate) fn candidates<M: MapRead>(
     alloc: Global,
     map: &M,
-    list: &Listing,
+    laid: Laid<'_>,
     touched: &Touched,
     searches: &Searches,
 ) -> Result<Vec<usize>, AllocError>
-    requires { AreAsked (M.map map.now) (M.place_in map.now) touched.now searches.now (items list.now) }
+    requires { AreAsked (M.map map.now) (M.place_in map.now) touched.now searches.now (shown_items laid) }
     ensures rising { IfOk result (λ found. IsNonDecreasing found.items) }
     ensures covers { IfOk result
-        (λ found. Covers (M.map map.now) (nodes_of touched.now) (lines_of touched.now) (items list.now) found.items) }
+        (λ found. Covers (M.map map.now) (nodes_of touched.now) (lines_of touched.now) (shown_items laid.entry) found.items) }
 {
-    if list.held {
-        return all_below(alloc, list.paths.len());
-    }
+    let count = laid.list.paths.len();
     let mut found = Vec::new(alloc);
-    put_touched(map, list, touched, searches, &mut found)?;
+    put_listed(map, laid, touched, searches, &mut found)?;
+    put_range(count, count + laid.overlay.added.paths.len(), &mut found)?;
     found.sort_unstable();
     Ok(found)
 }

@@ -10,12 +10,15 @@ pub mod encoding;
 pub mod entries;
 pub mod finder;
 pub mod giving;
-pub mod iter;
+pub mod laid;
 pub mod listing;
 pub mod overlay;
 pub mod published;
 pub mod renewal;
 pub mod searches;
+pub mod showing;
+#[cfg(test)]
+mod tests;
 pub mod touched;
 
 pub use iter::Iter;

@@ -57,7 +57,7 @@ pub struct Listing {
 }
 
 impl Listing {
-    ghost use Rattle.std.specs.Prelude.{◌≡◌, [], ◌∷◌, ◌++◌, true, false, not, None, map, filter, length, is_some, slice_get, string_bytes, option_map, IfOk, OnOk, OnErr};
+    ghost use Rattle.std.specs.Prelude.{◌≡◌, [], ◌∷◌, ◌++◌, true, false, not, None, map, filter, take, length, is_some, slice_get, string_bytes, option_map, IfOk, OnOk, OnErr};
     ghost use Rattle.olr_commands.specs.State.{NamesDiffer, path_named, same_name};
     ghost use Rattle.olr_paths.specs.Items.{items, made_of, all_named, made_in};
     ghost use Rattle.olr_paths.specs.Changes.{set_item};
@@ -187,6 +187,14 @@ impl Listing {
         Ok(())
     }
 
+    /// Takes the paths from a position on away, none of which was encoded. Takes no memory.
+    pub(crate) fn cut(&mut self, count: usize)
+        ensures { items self.new ≡ take count (items self.old) }
+    {
+        self.paths.truncate(count);
+        self.marks.truncate(count);
+    }
+
     /// Puts another path under a name, in its place. After want of memory the list is as before.
     pub(crate) fn put_other(&mut self, name: &str, named: NamedPath) -> Result<(), AllocError>
         ensures ok { OnOk result (items self.new
@@ -274,7 +282,7 @@ fn renote(
 }
 
 /// Takes the mark from what a path had, but for what the path that is kept has, if it was encoded. Takes no memory.
-fn forget_named(
+pub(crate) fn forget_named(
     finder: &mut Finder,
     mark: u64,
     lines: &[LineId],

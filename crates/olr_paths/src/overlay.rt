@@ -1,10 +1,10 @@
 //! Changes of a list of named paths that are held until they are taken up all at once.
-ghost use Rattle.std.specs.Prelude.{◌≡◌, List, [], ◌∷◌, ◌++◌, map, false, is_some, IfOk, OnOk};
+ghost use Rattle.std.specs.Prelude.{◌≡◌, List, [], ◌∷◌, ◌++◌, map, take, length, false, is_some, IsFalse, IfOk, OnOk, OnErr};
 ghost use Rattle.std.specs.Option.{option_to_list};
 ghost use Rattle.olr_commands.specs.State.{NamesDiffer, path_named};
 ghost use Rattle.olr_paths.specs.Items.{Item, items, all_named};
 ghost use Rattle.olr_paths.specs.Renewing.{item_of};
-ghost use Rattle.olr_paths.specs.Laying.{changes_in, changes_of, change_at, drops, under_change, under_changes, under_overlay};
+ghost use Rattle.olr_paths.specs.Laying.{TakesNone, changes_in, changes_of, change_at, drops, under_change, under_changes, under_overlay};
 
 use crate::listing::{Listing, NamedPath};
 use indexmap::IndexMap;
@@ -53,8 +53,9 @@ fn put_one(
 ) -> Result<(), AllocError>
     requires { (j : Item) → under_change (change_at (changes_in changes.now.entries) name.now) (item_of name.now named.now) ≡ j ∷ []
         → is_some (path_named (all_named (items to.old)) name.now) ≡ false }
-    ensures { OnOk result (items to.new ≡ items to.old
+    ensures ok { OnOk result (items to.new ≡ items to.old
         ++ under_change (change_at (changes_in changes.now.entries) name.now) (item_of name.now named.now)) }
+    ensures err { OnErr result (items to.new ≡ items to.old) }
 {
     let Some(named) = becomes(changes, name, named)? else {
         return Ok(());
@@ -64,7 +65,7 @@ fn put_one(
 }
 
 /// Puts a list under changes behind another. It shares paths and answers with it. After want of memory only some are put.
-fn put_behind(
+pub(crate) fn put_behind(
     alloc: Global,
     changes: &IndexMap<String, Option<Rc<Path>>>,
     list: &Listing,
@@ -72,8 +73,9 @@ fn put_behind(
 ) -> Result<(), AllocError>
     requires { NamesDiffer (all_named (items to.old
         ++ under_changes (changes_in changes.now.entries) (items list.now))) }
-    ensures { OnOk result (items to.new ≡ items to.old
+    ensures put { OnOk result (items to.new ≡ items to.old
         ++ under_changes (changes_in changes.now.entries) (items list.now)) }
+    ensures before { take (length (items to.old)) (items to.new) ≡ items to.old }
 {
     for k in 0..list.paths.len() {
         let Some((name, named)) = list.paths.get_index(k) else {
@@ -85,14 +87,15 @@ fn put_behind(
 }
 
 impl Overlay {
-    ghost use Rattle.std.specs.Prelude.{◌≡◌, [], ◌∷◌, ◌++◌, List, map, filter, not, true, false, None, is_some, string_bytes, IsTrue, IfOk, OnOk, OnErr};
+    ghost use Rattle.std.specs.Prelude.{◌≡◌, [], ◌∷◌, ◌++◌, List, map, filter, not, true, false, None, is_some, string_bytes, IsFalse, IfOk, OnOk, OnErr};
     ghost use Rattle.olr_commands.specs.State.{NamesDiffer, path_named, same_name};
     ghost use Rattle.olr_paths.specs.Items.{Item, items, all_named};
     ghost use Rattle.olr_paths.specs.Changes.{set_item};
 
     /// No changes. Takes no memory.
     pub fn new(alloc: Global) -> Overlay
-        ensures { (is : List Item) → under_overlay is result ≡ is }
+        ensures none { (is : List Item) → under_overlay is result ≡ is }
+        ensures keeps { TakesNone (changes_of result) }
     {
         Overlay {
             changes: IndexMap::new(alloc),
@@ -100,11 +103,19 @@ impl Overlay {
         }
     }
 
-    /// Whether it is known that there are no changes.
-    pub(crate) fn is_empty(&self) -> bool
-        ensures { IsTrue result → (is : List Item) → under_overlay is self.now ≡ is }
+    /// Whether some path is taken away.
+    pub(crate) fn takes_some(&self) -> bool
+        ensures { IsFalse result → TakesNone (changes_of self.now) }
     {
-        self.changes.is_empty() && self.added.paths.is_empty()
+        for k in 0..self.changes.len() {
+            let Some((_, change)) = self.changes.get_index(k) else {
+                unreachable!()
+            };
+            if change.is_none() {
+                return true;
+            }
+        }
+        false
     }
 
     /// Whether the path of that name is taken away.

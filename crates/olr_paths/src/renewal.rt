@@ -4,15 +4,16 @@ ghost use Rattle.olr_spec.specs.Map.{Map};
 ghost use Rattle.olr_commands.specs.Counts.{CountIs};
 ghost use Rattle.olr_commands.specs.State.{NamesDiffer};
 ghost use Rattle.olr_commands.specs.Words.{entry_of};
-ghost use Rattle.std.specs.Prelude.{List, Option};
+ghost use Rattle.std.specs.Prelude.{List, take, length};
 ghost use Rattle.olr_spec.specs.Detours.{ChangedLine};
 ghost use Rattle.olr_paths.specs.Items.{Made, made_of, items, answer_in, all_named};
 ghost use Rattle.olr_paths.specs.Changes.{IsBefore, IsConcerned, AreRemade, Reported, Follows};
-ghost use Rattle.olr_paths.specs.Laying.{under_overlay};
+ghost use Rattle.olr_paths.specs.Laying.{TakesNone, changes_of, under_overlay};
+ghost use Rattle.olr_paths.specs.Showing.{shown_items, shown_item};
 ghost use Rattle.olr_paths.specs.Touching.{nodes_of, lines_of, changed_of};
 ghost use Rattle.olr_paths.specs.Searching.{AreDetours, IsAsked, AreAsked, LackLooks};
 ghost use Rattle.olr_paths.specs.Candidates.{Covers};
-ghost use Rattle.olr_paths.specs.Finding.{AreNotedAt};
+ghost use Rattle.olr_paths.specs.Finding.{AreNotedAt, NamedNoted, Grows};
 ghost use Rattle.std.specs.List.Sorted.{IsNonDecreasing};
 ghost use Rattle.std.specs.Prelude.{vec_len, vec_capacity};
 ghost use Rattle.olr_paths.specs.Beginning.{Begins, BeginsPut, AreFar, begun_in};
@@ -23,13 +24,17 @@ use crate::begins::note_fresh;
 use crate::candidates::candidates;
 use crate::detours::{are_clear, search_detours};
 use crate::encoding::publish;
-use crate::listing::{Listing, NamedPath};
-use crate::overlay::Overlay;
+use crate::finder::Finder;
+use crate::laid::Laid;
+use crate::listing::{Listing, NamedPath, forget_named};
+use crate::overlay::{Overlay, put_behind};
 use crate::published::Published;
 use crate::searches::Searches;
+use crate::showing::Shown;
 use crate::touched::Touched;
+use indexmap::IndexMap;
 use olr_commands::Entry;
-use olr_map::MapRead;
+use olr_map::{LineId, MapRead};
 use olr_refs::Path;
 use olr_route::{Search, Work};
 use std::alloc::{AllocError, Global};
@@ -91,21 +96,21 @@ fn decide<M: MapRead>(
     touched: &Touched,
     searches: &Searches,
     asked: Option<u32>,
-    named: &NamedPath,
+    shown: Shown<'_>,
 ) -> Fate
-    requires asked { IfSome named.now.published
-        (λ p. IsAsked (M.map map.now) (M.place_in map.now) touched.now searches.now (made_of p.value)) }
+    requires asked { IfSome shown.published
+        (λ p. IsAsked (M.map map.now) (M.place_in map.now) touched.now searches.now (made_of p.now)) }
     requires detours { IfSome asked (AreDetours (M.map map.now) (M.place_in map.now) touched.now searches.now) }
     ensures { IsFate (M.map map.now) (nodes_of touched.now) (lines_of touched.now) (changed_of touched.now)
-        (option_map (λ p. made_of p.value) named.now.published) named.now.path.value result }
+        (shown_item shown.entry).made (shown_item shown.entry).path result }
 {
-    let Some(published) = &named.published else {
+    let Some(published) = shown.published else {
         return Fate::Encode;
     };
-    if !touches(map, touched, searches, &named.path, published) {
+    if !touches(map, touched, searches, shown.path, published) {
         return Fate::Stay;
     }
-    if stays(map, touched, searches, asked, &named.path, published) {
+    if stays(map, touched, searches, asked, shown.path, published) {
         return Fate::Keep;
     }
     Fate::Encode
@@ -139,16 +144,16 @@ pub(crate) fn tell(
     Ok(())
 }
 
-/// What was encoded anew, each with its position in the list, and the entries of those whose answer is another than before.
+/// The paths that were encoded anew, each with its position in the list, and the entries of those whose answer is another than before.
 #[derive(Drop)]
 pub(crate) struct Renewal {
-    pub(crate) fresh: Vec<(usize, Rc<Published>)>,
+    pub(crate) fresh: Vec<(usize, NamedPath)>,
     pub(crate) entries: Vec<Entry>,
 }
 
 impl Renewal {
-    /// Does what is to be done with the path of that name and position: it stays, it is counted, or it is encoded anew and
-    /// told if its answer is not the one that the name had before.
+    /// Does what is to be done with the path at that position: it stays, it is counted, or it is encoded anew and told if its
+    /// answer is not the one that the name had before.
     fn go_on<M: MapRead>(
         &mut self,
         alloc: Global,
@@ -156,23 +161,26 @@ impl Renewal {
         before: &Listing,
         fate: Fate,
         position: usize,
-        name: &str,
-        path: &Path,
+        shown: Shown<'_>,
         look: &mut Search,
         counted: &mut Counted,
     ) -> Result<(), AllocError>
-        ensures { OnOk result ((T X : List ℕ) (C : List ChangedLine) (made : Option Made)
-            → IsFate (M.map map.now) T X C made path.now fate
-            → IsStep (M.map map.now) T X C (items before.now) (record { name = name.now; path = path.now; made = made })
+        ensures { OnOk result ((T X : List ℕ) (C : List ChangedLine)
+            → IsFate (M.map map.now) T X C (shown_item shown.entry).made (shown_item shown.entry).path fate
+            → IsStep (M.map map.now) T X C (items before.now) (shown_item shown.entry)
             position self.old self.new counted.old counted.new) }
     {
         match fate {
             Fate::Stay => (),
             Fate::Keep => counted.keep(),
             Fate::Encode => {
-                let published = publish(alloc, map, path, look, &mut counted.work)?;
-                tell(alloc, before, name, &published, &mut self.entries)?;
-                self.fresh.push((position, Rc::new(alloc, published)?))?;
+                let published = publish(alloc, map, shown.path, look, &mut counted.work)?;
+                tell(alloc, before, shown.name, &published, &mut self.entries)?;
+                let named = NamedPath {
+                    path: shown.path.clone()?,
+                    published: Some(Rc::new(alloc, published)?),
+                };
+                self.fresh.push((position, named))?;
             }
         }
         Ok(())
@@ -180,34 +188,34 @@ impl Renewal {
 }
 
 /// Whether it is known that no path has a look: then no touched node can be near to one.
-fn lack_looks(list: &Listing) -> bool
-    ensures { IsTrue result → LackLooks (items list.now) }
+fn lack_looks(laid: Laid<'_>) -> bool
+    ensures { IsTrue result → LackLooks (shown_items laid.entry) }
 {
-    list.finder.from.is_empty()
+    laid.list.finder.from.is_empty() && laid.overlay.added.finder.from.is_empty()
 }
 
 /// How far the searches for detours have to go, in decimetres: the longest look of a path at these positions that is concerned
 /// and of which no own node and no line is touched. None where there is no such look.
 fn longest<M: MapRead>(
     map: &M,
-    list: &Listing,
+    laid: Laid<'_>,
     found: &[usize],
     touched: &Touched,
     searches: &Searches,
 ) -> Option<u32>
-    requires { AreAsked (M.map map.now) (M.place_in map.now) touched.now searches.now (items list.now) }
+    requires { AreAsked (M.map map.now) (M.place_in map.now) touched.now searches.now (shown_items laid) }
 {
     let mut longest = None;
     for position in found {
-        let Some((_, named)) = list.paths.get_index(*position) else {
+        let Some(shown) = laid.at(*position) else {
             continue;
         };
-        let Some(published) = &named.published else {
+        let Some(published) = shown.published else {
             continue;
         };
-        if touches(map, touched, searches, &named.path, published)
+        if touches(map, touched, searches, shown.path, published)
             && !own_touched(touched, &published.own)
-            && !line_touched(touched, named.path.lines())
+            && !line_touched(touched, shown.path.lines())
         {
             for look in &published.looks {
                 longest = longest.max(Some(look.within));
@@ -230,16 +238,16 @@ struct Asked {
 fn search_touched<M: MapRead>(
     alloc: Global,
     map: &M,
-    list: &Listing,
+    laid: Laid<'_>,
     touched: &Touched,
     far: bool,
     searches: &mut Searches,
 ) -> Result<(), AllocError>
-    requires { IsTrue far → AreFar (M.map map.now) (nodes_of touched.now) (items list.now) }
+    requires { IsTrue far → AreFar (M.map map.now) (nodes_of touched.now) (shown_items laid) }
     ensures { OnOk result
-        (AreAsked (M.map map.now) (M.place_in map.now) touched.now searches.new (items list.now)) }
+        (AreAsked (M.map map.now) (M.place_in map.now) touched.now searches.new (shown_items laid.entry)) }
 {
-    searches.far = far || lack_looks(list);
+    searches.far = far || lack_looks(laid);
     if searches.far {
         return Ok(());
     }
@@ -252,17 +260,17 @@ fn search_touched<M: MapRead>(
 fn ask_detours<M: MapRead>(
     alloc: Global,
     map: &M,
-    list: &Listing,
+    laid: Laid<'_>,
     found: &[usize],
     touched: &Touched,
     searches: &mut Searches,
 ) -> Result<Option<u32>, AllocError>
-    requires { AreAsked (M.map map.now) (M.place_in map.now) touched.now searches.old (items list.now) }
+    requires { AreAsked (M.map map.now) (M.place_in map.now) touched.now searches.old (shown_items laid) }
     ensures asked { OnOk result
-        (AreAsked (M.map map.now) (M.place_in map.now) touched.now searches.new (items list.now)) }
+        (AreAsked (M.map map.now) (M.place_in map.now) touched.now searches.new (shown_items laid.entry)) }
     ensures detours { IfOk result (λ asked. IfSome asked (AreDetours (M.map map.now) (M.place_in map.now) touched.now searches.new)) }
 {
-    let Some(limit) = longest(map, list, found, touched, searches) else {
+    let Some(limit) = longest(map, laid, found, touched, searches) else {
         return Ok(None);
     };
     let asked = search_detours(alloc, map, touched, limit, searches)?;
@@ -274,30 +282,30 @@ fn ask_detours<M: MapRead>(
 fn ask<M: MapRead>(
     alloc: Global,
     map: &M,
-    list: &Listing,
+    laid: Laid<'_>,
     touched: &Touched,
     far: bool,
     searches: &mut Searches,
 ) -> Result<Asked, AllocError>
-    requires { IsTrue far → AreFar (M.map map.now) (nodes_of touched.now) (items list.now) }
+    requires { IsTrue far → AreFar (M.map map.now) (nodes_of touched.now) (shown_items laid) }
     ensures asked { OnOk result
-        (AreAsked (M.map map.now) (M.place_in map.now) touched.now searches.new (items list.now)) }
+        (AreAsked (M.map map.now) (M.place_in map.now) touched.now searches.new (shown_items laid.entry)) }
     ensures rising { IfOk result (λ a. IsNonDecreasing a.found.items) }
     ensures covers { IfOk result
-        (λ a. Covers (M.map map.now) (nodes_of touched.now) (lines_of touched.now) (items list.now) a.found.items) }
+        (λ a. Covers (M.map map.now) (nodes_of touched.now) (lines_of touched.now) (shown_items laid.entry) a.found.items) }
     ensures detours { IfOk result (λ a. IfSome a.detours (AreDetours (M.map map.now) (M.place_in map.now) touched.now searches.new)) }
 {
-    search_touched(alloc, map, list, touched, far, searches)?;
-    let found = candidates(alloc, map, list, touched, searches)?;
-    let detours = ask_detours(alloc, map, list, &found, touched, searches)?;
+    search_touched(alloc, map, laid, touched, far, searches)?;
+    let found = candidates(alloc, map, laid, touched, searches)?;
+    let detours = ask_detours(alloc, map, laid, &found, touched, searches)?;
     Ok(Asked { found, detours })
 }
 
-/// What renewing a list on a map comes to, after the searches from what edits touched and changed.
+/// What renewing a list under changes on a map comes to, after the searches from what edits touched and changed.
 fn made_by<M: MapRead>(
     alloc: Global,
     map: &M,
-    list: &Listing,
+    laid: Laid<'_>,
     before: &Listing,
     touched: &Touched,
     searches: &Searches,
@@ -305,20 +313,20 @@ fn made_by<M: MapRead>(
     look: &mut Search,
     counted: &mut Counted,
 ) -> Result<Renewal, AllocError>
-    requires asked { AreAsked (M.map map.now) (M.place_in map.now) touched.now searches.now (items list.now) }
+    requires asked { AreAsked (M.map map.now) (M.place_in map.now) touched.now searches.now (shown_items laid) }
     requires rising { IsNonDecreasing asked.now.found.items }
-    requires covers { Covers (M.map map.now) (nodes_of touched.now) (lines_of touched.now) (items list.now) asked.now.found.items }
+    requires covers { Covers (M.map map.now) (nodes_of touched.now) (lines_of touched.now) (shown_items laid) asked.now.found.items }
     requires detours { IfSome asked.now.detours (AreDetours (M.map map.now) (M.place_in map.now) touched.now searches.now) }
-    requires follows { Follows (items before.now) (items list.now) }
+    requires follows { Follows (items before.now) (shown_items laid) }
     ensures renewed { IfOk result (λ r. (L : Map)
-        → IsBefore L (M.map map.now) (nodes_of touched.now) (lines_of touched.now) (changed_of touched.now) (items list.now)
-        → AreRemade (M.map map.now) (items list.now) (after_renewal r (items list.now))) }
-    ensures named { IfOk result (λ r. all_named (after_renewal r (items list.now)) ≡ all_named (items list.now)) }
+        → IsBefore L (M.map map.now) (nodes_of touched.now) (lines_of touched.now) (changed_of touched.now) (shown_items laid.entry)
+        → AreRemade (M.map map.now) (shown_items laid.entry) (after_renewal r (shown_items laid.entry))) }
+    ensures named { IfOk result (λ r. all_named (after_renewal r (shown_items laid.entry)) ≡ all_named (shown_items laid.entry)) }
     ensures reported { IfOk result
-        (λ r. Reported (items before.now) (after_renewal r (items list.now)) (list_map entry_of r.entries.items)) }
+        (λ r. Reported (items before.now) (after_renewal r (shown_items laid.entry)) (list_map entry_of r.entries.items)) }
     ensures counted { OnOk result ((L : Map)
-        → IsBefore L (M.map map.now) (nodes_of touched.now) (lines_of touched.now) (changed_of touched.now) (items list.now)
-        → (n : ℕ) × CountIs (IsConcerned L (nodes_of touched.now) (lines_of touched.now)) (items list.now) n
+        → IsBefore L (M.map map.now) (nodes_of touched.now) (lines_of touched.now) (changed_of touched.now) (shown_items laid.entry)
+        → (n : ℕ) × CountIs (IsConcerned L (nodes_of touched.now) (lines_of touched.now)) (shown_items laid.entry) n
         × (counted.old.work.encodings + n < 2 ^ 64 → counted.new.work.encodings ≡ counted.old.work.encodings + n)
         × (counted.new.kept ≤ counted.old.kept + n)) }
     ensures searches { OnOk result (counted.old.work.searches ≤ counted.new.work.searches) }
@@ -332,34 +340,24 @@ fn made_by<M: MapRead>(
     let mut next = 0;
     for candidate in &asked.found {
         let position = *candidate;
-        let Some((name, named)) = list.paths.get_index(position) else {
+        let Some(shown) = laid.at(position) else {
             continue;
         };
         if position < next {
             continue;
         }
-        let fate = decide(map, touched, searches, asked.detours, named);
-        renewal.go_on(
-            alloc,
-            map,
-            before,
-            fate,
-            position,
-            name.as_str(),
-            &named.path,
-            look,
-            counted,
-        )?;
+        let fate = decide(map, touched, searches, asked.detours, shown);
+        renewal.go_on(alloc, map, before, fate, position, shown, look, counted)?;
         next = position + 1;
     }
     Ok(renewal)
 }
 
-/// What renewing a list on a map comes to, counted. After want of memory the counts are as before.
+/// What renewing a list under changes on a map comes to, counted. After want of memory the counts are as before.
 fn made<M: MapRead>(
     alloc: Global,
     map: &M,
-    list: &Listing,
+    laid: Laid<'_>,
     before: &Listing,
     touched: &Touched,
     far: bool,
@@ -367,17 +365,17 @@ fn made<M: MapRead>(
     work: &mut Work,
     kept: &mut u64,
 ) -> Result<Renewal, AllocError>
-    requires follows { Follows (items before.now) (items list.now) }
-    requires far { IsTrue far → AreFar (M.map map.now) (nodes_of touched.now) (items list.now) }
+    requires follows { Follows (items before.now) (shown_items laid) }
+    requires far { IsTrue far → AreFar (M.map map.now) (nodes_of touched.now) (shown_items laid) }
     ensures renewed { IfOk result (λ r. (L : Map)
-        → IsBefore L (M.map map.now) (nodes_of touched.now) (lines_of touched.now) (changed_of touched.now) (items list.now)
-        → AreRemade (M.map map.now) (items list.now) (after_renewal r (items list.now))) }
-    ensures named { IfOk result (λ r. all_named (after_renewal r (items list.now)) ≡ all_named (items list.now)) }
+        → IsBefore L (M.map map.now) (nodes_of touched.now) (lines_of touched.now) (changed_of touched.now) (shown_items laid.entry)
+        → AreRemade (M.map map.now) (shown_items laid.entry) (after_renewal r (shown_items laid.entry))) }
+    ensures named { IfOk result (λ r. all_named (after_renewal r (shown_items laid.entry)) ≡ all_named (shown_items laid.entry)) }
     ensures reported { IfOk result
-        (λ r. Reported (items before.now) (after_renewal r (items list.now)) (list_map entry_of r.entries.items)) }
+        (λ r. Reported (items before.now) (after_renewal r (shown_items laid.entry)) (list_map entry_of r.entries.items)) }
     ensures counted { OnOk result ((L : Map)
-        → IsBefore L (M.map map.now) (nodes_of touched.now) (lines_of touched.now) (changed_of touched.now) (items list.now)
-        → (n : ℕ) × CountIs (IsConcerned L (nodes_of touched.now) (lines_of touched.now)) (items list.now) n
+        → IsBefore L (M.map map.now) (nodes_of touched.now) (lines_of touched.now) (changed_of touched.now) (shown_items laid.entry)
+        → (n : ℕ) × CountIs (IsConcerned L (nodes_of touched.now) (lines_of touched.now)) (shown_items laid.entry) n
         × (work.old.encodings + n < 2 ^ 64 → work.new.encodings ≡ work.old.encodings + n)
         × (kept.new ≤ kept.old + n)) }
     ensures searches { OnOk result (work.old.searches ≤ work.new.searches) }
@@ -388,13 +386,13 @@ fn made<M: MapRead>(
     ensures err_kept { OnErr result (kept.new ≡ kept.old) }
 {
     searches.begun.clear();
-    if list.paths.is_empty() {
+    if laid.at(0).is_none() {
         return Ok(Renewal {
             fresh: Vec::new(alloc),
             entries: Vec::new(alloc),
         });
     }
-    let asked = ask(alloc, map, list, touched, far, searches)?;
+    let asked = ask(alloc, map, laid, touched, far, searches)?;
     let mut look = mem::replace(&mut searches.look, Search::new(alloc));
     let mut counted = Counted {
         work: *work,
@@ -403,7 +401,7 @@ fn made<M: MapRead>(
     let renewal = made_by(
         alloc,
         map,
-        list,
+        laid,
         before,
         touched,
         searches,
@@ -422,74 +420,118 @@ fn made<M: MapRead>(
 /// Puts each at its position, and what was there behind others, for which there is room. Takes no memory.
 fn place(
     list: &mut Listing,
-    mut fresh: Vec<(usize, Rc<Published>)>,
-    before: &mut Vec<(usize, Rc<Published>)>,
+    mut fresh: Vec<(usize, NamedPath)>,
+    before: &mut Vec<(usize, NamedPath)>,
 )
     requires room { vec_len before.old + vec_len fresh ≤ vec_capacity before.old }
-    requires noted { AreNotedAt list.old.paths.entries list.old.marks.items list.old.finder fresh.items }
+    requires noted { AreNotedAt list.old.marks.items list.old.finder fresh.items }
     ensures { items list.new ≡ all_put (items list.old) (puts_of fresh.items) }
 {
-    while let Some((position, published)) = fresh.pop() {
-        if let Some(named) = list.paths.get_index_mut(position) {
-            if let Some(earlier) = mem::replace(&mut named.published, Some(published)) {
-                match before.push((position, earlier)) {
-                    Ok(()) => (),
-                    Err(_) => unreachable!(),
-                }
+    list.held = true;
+    while let Some((position, named)) = fresh.pop() {
+        if let Some(place) = list.paths.get_index_mut(position) {
+            let earlier = mem::replace(place, named);
+            match before.push((position, earlier)) {
+                Ok(()) => (),
+                Err(_) => unreachable!(),
             }
         }
     }
 }
 
-/// Takes from the paths at these positions the marks of what was there, but for what is there now. Takes no memory.
-fn tidy(list: &mut Listing, gone: &[(usize, Rc<Published>)])
+/// The lines of a path in whose place another comes: none, where they are those of the same path, which was encoded.
+fn lines_gone<'a>(gone: &'a NamedPath, kept: &NamedPath) -> &'a [LineId] {
+    if kept.published.is_some() && Rc::ptr_eq(&gone.path, &kept.path) {
+        return &[];
+    }
+    gone.path.lines()
+}
+
+/// Takes the marks of the positions from what was there, or was to come there, but for what is there now. Takes no memory.
+fn tidy(list: &mut Listing, gone: &[(usize, NamedPath)])
     ensures { items list.new ≡ items list.old }
 {
-    for (position, published) in gone {
-        let Some((_, named)) = list.paths.get_index(*position) else {
+    for (position, named) in gone {
+        let Some((_, kept)) = list.paths.get_index(*position) else {
+            continue;
+        };
+        let Some(published) = &named.published else {
             continue;
         };
         let mark = list.marks[*position];
-        match &named.published {
-            // The lines are those of the same path.
-            Some(kept) => {
-                list.finder
-                    .forget_but(mark, &[], published, named.path.lines(), kept)
-            }
-            None => list.finder.forget(mark, named.path.lines(), published),
-        }
+        let lines = lines_gone(named, kept);
+        forget_named(&mut list.finder, mark, lines, published, Some(kept));
     }
+}
+
+/// Gives what was made of a path a mark. After want of memory some has it.
+fn note_one(finder: &mut Finder, mark: u64, named: &NamedPath) -> Result<(), AllocError>
+    ensures noted { OnOk result (NamedNoted finder.new mark named.now) }
+    ensures grows { Grows finder.old finder.new }
+{
+    let Some(published) = &named.published else {
+        return Ok(());
+    };
+    finder.note(mark, named.path.lines(), published)
 }
 
 /// Gives what was made the marks of the positions to which it goes. After want of memory some has them.
-fn note_all(list: &mut Listing, fresh: &[(usize, Rc<Published>)]) -> Result<(), AllocError>
-    ensures noted { OnOk result (AreNotedAt list.new.paths.entries list.new.marks.items list.new.finder fresh.now) }
+fn note_all(list: &mut Listing, fresh: &[(usize, NamedPath)]) -> Result<(), AllocError>
+    ensures noted { OnOk result (AreNotedAt list.new.marks.items list.new.finder fresh.now) }
     ensures same { items list.new ≡ items list.old }
 {
-    for (position, published) in fresh {
-        let Some((_, named)) = list.paths.get_index(*position) else {
+    for (position, named) in fresh {
+        if *position >= list.marks.len() {
             continue;
-        };
+        }
         let mark = list.marks[*position];
-        list.finder.note(mark, named.path.lines(), published)?;
+        note_one(&mut list.finder, mark, named)?;
     }
     Ok(())
 }
 
-/// Puts each at its position. After want of memory the list is as before.
+/// Puts the new paths of changes last, not encoded yet, and gives what was made the marks of the positions to which it goes.
+/// After want of memory only some paths are put.
+fn make_room(
+    alloc: Global,
+    list: &mut Listing,
+    overlay: &Overlay,
+    fresh: &[(usize, NamedPath)],
+) -> Result<(), AllocError>
+    requires { NamesDiffer (all_named (items list.old ++ items overlay.now.added)) }
+    ensures put { OnOk result (items list.new ≡ items list.old ++ items overlay.now.added) }
+    ensures noted { OnOk result (AreNotedAt list.new.marks.items list.new.finder fresh.now) }
+    ensures before { take (length (items list.old)) (items list.new) ≡ items list.old }
+{
+    put_behind(alloc, &IndexMap::new(alloc), &overlay.added, list)?;
+    let noted = note_all(list, fresh);
+    if noted.is_err() {
+        tidy(list, fresh);
+        return noted;
+    }
+    Ok(())
+}
+
+/// Puts the new paths of changes last, and each that was made at its position. After want of memory the list is as before.
 fn put_in(
     alloc: Global,
     list: &mut Listing,
-    fresh: Vec<(usize, Rc<Published>)>,
+    overlay: &Overlay,
+    fresh: Vec<(usize, NamedPath)>,
 ) -> Result<(), AllocError>
-    ensures ok { OnOk result (items list.new ≡ all_put (items list.old) (puts_of fresh.items)) }
+    requires { NamesDiffer (all_named (items list.old ++ items overlay.now.added)) }
+    ensures ok { OnOk result
+        (items list.new ≡ all_put (items list.old ++ items overlay.now.added) (puts_of fresh.items)) }
     ensures err { OnErr result (items list.new ≡ items list.old) }
 {
     let mut before = Vec::with_capacity(alloc, fresh.len())?;
-    let noted = note_all(list, &fresh);
-    if noted.is_err() {
-        tidy(list, &fresh);
-        return noted;
+    let count = list.paths.len();
+    let held = list.held;
+    let room = make_room(alloc, list, overlay, &fresh);
+    if room.is_err() {
+        list.cut(count);
+        list.held = held;
+        return room;
     }
     place(list, fresh, &mut before);
     tidy(list, &before);
@@ -532,50 +574,59 @@ impl Listing {
         ensures err_kept { OnErr result (kept.new ≡ kept.old) }
     {
         let _names = self.len();
-        self.renew_after(alloc, map, None, touched, far, searches, work, kept)
+        let none = Overlay::new(alloc);
+        self.renew_laid(alloc, map, None, &none, touched, far, searches, work, kept)
     }
 
-    /// The same, where told are those whose answer is another than the one that their name had in an earlier list, if one
-    /// is given.
-    fn renew_after<M: MapRead>(
+    /// The same for the list under changes that take no path away: what they give is put in place, so that it costs what they
+    /// hold. Told are those whose answer is another than the one that their name had, in an earlier list if one is given.
+    fn renew_laid<M: MapRead>(
         &mut self,
         alloc: Global,
         map: &M,
         before: Option<&Listing>,
+        overlay: &Overlay,
         touched: &Touched,
         far: bool,
         searches: &mut Searches,
         work: &mut Work,
         kept: &mut u64,
     ) -> Result<Vec<Entry>, AllocError>
-        requires follows { Follows (items_before before self.old) (items self.old) }
-        requires far { IsTrue far → AreFar (M.map map.now) (nodes_of touched.now) (items self.old) }
-        ensures renewed { OnOk result ((L : Map)
-            → IsBefore L (M.map map.now) (nodes_of touched.now) (lines_of touched.now) (changed_of touched.now) (items self.old)
-            → AreRemade (M.map map.now) (items self.old) (items self.new)) }
-        ensures named { OnOk result (all_named (items self.new) ≡ all_named (items self.old)) }
+        requires keeps { TakesNone (changes_of overlay.now) }
+        requires names { NamesDiffer (all_named (under_overlay (items self.old) overlay.now)) }
+        requires follows { Follows (items_before before self.old) (under_overlay (items self.old) overlay.now) }
+        requires far { IsTrue far
+            → AreFar (M.map map.now) (nodes_of touched.now) (under_overlay (items self.old) overlay.now) }
+        ensures renewed { OnOk result ((L : Map) → IsBefore L (M.map map.now) (nodes_of touched.now) (lines_of touched.now)
+            (changed_of touched.now) (under_overlay (items self.old) overlay.now)
+            → AreRemade (M.map map.now) (under_overlay (items self.old) overlay.now) (items self.new)) }
+        ensures named { OnOk result (all_named (items self.new) ≡ all_named (under_overlay (items self.old) overlay.now)) }
         ensures reported { IfOk result (λ es. Reported (items_before before.entry self.old) (items self.new)
             (list_map entry_of es.items)) }
-        ensures counted { OnOk result ((L : Map)
-            → IsBefore L (M.map map.now) (nodes_of touched.now) (lines_of touched.now) (changed_of touched.now) (items self.old)
-            → (n : ℕ) × CountIs (IsConcerned L (nodes_of touched.now) (lines_of touched.now)) (items self.old) n
+        ensures counted { OnOk result ((L : Map) → IsBefore L (M.map map.now) (nodes_of touched.now) (lines_of touched.now)
+            (changed_of touched.now) (under_overlay (items self.old) overlay.now) → (n : ℕ)
+            × CountIs (IsConcerned L (nodes_of touched.now) (lines_of touched.now)) (under_overlay (items self.old) overlay.now) n
             × (work.old.encodings + n < 2 ^ 64 → work.new.encodings ≡ work.old.encodings + n)
             × (kept.new ≤ kept.old + n)) }
         ensures searches { OnOk result (work.old.searches ≤ work.new.searches) }
         ensures settled { OnOk result (work.old.settled ≤ work.new.settled) }
         ensures kept { OnOk result (kept.old ≤ kept.new) }
         ensures begun { OnOk result ((v : ℕ) → Begins (items self.new) v
-            → Begins (items self.old) v ⊎ Contains (begun_in searches.new) v) }
+            → Begins (under_overlay (items self.old) overlay.now) v ⊎ Contains (begun_in searches.new) v) }
         ensures err { OnErr result (items self.new ≡ items self.old) }
         ensures err_work { OnErr result (work.new ≡ work.old) }
         ensures err_kept { OnErr result (kept.new ≡ kept.old) }
     {
         let mut tried = *work;
         let mut spared = *kept;
+        let laid = Laid {
+            list: self,
+            overlay,
+        };
         let Renewal { fresh, entries } = made(
             alloc,
             map,
-            self,
+            laid,
             before.unwrap_or(self),
             touched,
             far,
@@ -583,16 +634,16 @@ impl Listing {
             &mut tried,
             &mut spared,
         )?;
-        put_in(alloc, self, fresh)?;
+        put_in(alloc, self, overlay, fresh)?;
         self.held = false;
         *work = tried;
         *kept = spared;
         Ok(entries)
     }
 
-    /// The same for the list under changes, which takes the list's place; where there are none, the list is renewed as it
-    /// stands. Told are those whose answer is another than the one that their name had. After want of memory list and counts
-    /// are as before.
+    /// The same for the list under changes. Where they take no path away they are put in place, at the cost of what they hold
+    /// and of what is concerned; otherwise the list under them takes the list's place, at the cost of all paths. Told are
+    /// those whose answer is another than the one that their name had. After want of memory list and counts are as before.
     pub fn renew_over<M: MapRead>(
         &mut self,
         alloc: Global,
@@ -627,12 +678,17 @@ impl Listing {
         ensures err_work { OnErr result (work.new ≡ work.old) }
         ensures err_kept { OnErr result (kept.new ≡ kept.old) }
     {
-        if overlay.is_empty() {
-            return self.renew(alloc, map, touched, far, searches, work, kept);
+        if !overlay.takes_some() {
+            return self.renew_laid(
+                alloc, map, None, overlay, touched, far, searches, work, kept,
+            );
         }
         let mut list = overlay.laid_over(alloc, self)?;
+        let none = Overlay::new(alloc);
         let before = Some(&*self);
-        let entries = list.renew_after(alloc, map, before, touched, far, searches, work, kept)?;
+        let entries = list.renew_laid(
+            alloc, map, before, &none, touched, far, searches, work, kept,
+        )?;
         *self = list;
         Ok(entries)
     }

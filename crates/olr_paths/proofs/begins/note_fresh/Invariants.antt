@@ -4,5 +4,5 @@ use Rattle.olr_paths.specs.Renewing.{puts_of}
 use Rattle.olr_paths.proofs.begins.note_fresh.Given as goal
 
 -- where the looks begin of what was made so far is there
-abbrev pub invariant-loop-made : goal.invariant-loop-made
-invariant-loop-made l = (v : ℕ) → BeginsPut (puts_of (take l.made-index l.fresh)) v → Contains l.begun.items v
+abbrev pub invariant-loop-named : goal.invariant-loop-named
+invariant-loop-named l = (v : ℕ) → BeginsPut (puts_of (take l.named-index l.fresh)) v → Contains l.begun.items v

@@ -1,8 +1,13 @@
-use Rattle.std.proofs.Common.{ℕ}
+use Rattle.std.proofs.Common.{◌≡◌, ◌+◌, ◌<◌, ◌≤◌, ◌∙◌, sym, ℕ, length, IsTrue, arith}
+use Rattle.std.proofs.lemmas.List.{length-map}
 use Rattle.std.proofs.lemmas.List.Sorted.{IsNonDecreasingBy-from_sort}
+use Rattle.olr_spec.specs.Extension.{has}
 use Rattle.olr_paths.specs.Items.{items}
+use Rattle.olr_paths.specs.Laying.{changes_of}
+use Rattle.olr_paths.specs.Showing.{shown_items}
 use Rattle.olr_paths.specs.Touching.{nodes_of, lines_of}
-use Rattle.olr_paths.proofs.Covering.{covers_order}
+use Rattle.olr_paths.proofs.NamedEntries.{item_of}
+use Rattle.olr_paths.proofs.Covering.{covers_order, covers_laid, covers_grown, changed_grown}
 use Rattle.olr_paths.proofs.candidates.candidates.Goals as goal
 
 pub returns-clause-rising : goal.returns-clause-rising
@@ -10,4 +15,19 @@ returns-clause-rising g c = IsNonDecreasingBy-from_sort (λ (n : ℕ). n) c.sort
 
 pub returns-clause-covers : goal.returns-clause-covers
 returns-clause-covers g c =
-    covers_order (g.M.MapRead.map c.args.map.now) (nodes_of c.args.touched.now) (lines_of c.args.touched.now) (items c.args.list.now) c.put_touched.new.found.items c.sort_unstable.new.self.items c.sort_unstable.ensures.permutation c.in_ok-put_touched.ensures
+    let N = g.M.MapRead.map c.args.map.now in
+    let place = g.M.MapRead.place_in c.args.map.now in
+    let t = c.args.touched.now in
+    let s = c.args.searches.now in
+    let l = c.args.laid in
+    let cs = changes_of l.overlay.now in
+    let is = items l.list.now in
+    let ys = items l.overlay.now.added in
+    let one = c.put_listed.new.found.items in
+    let two = c.put_range.new.found.items in
+    let kept = c.in_ok-put_range.ensures.kept in
+    let long : c.len-count.result ≡ length is = c.len-count.ensures.len ∙ sym (length-map l.list.now.paths.entries item_of) in
+    let more : c.len.result ≡ length ys = c.len.ensures.len ∙ sym (length-map l.overlay.now.added.paths.entries item_of) in
+    covers_order N (nodes_of t) (lines_of t) (shown_items l) two c.sort_unstable.new.self.items c.sort_unstable.ensures.permutation
+    (covers_laid cs is ys l.keeps N place t s two (covers_grown N place t s is one two kept c.in_ok-put_listed.ensures.asked) (changed_grown cs is one two kept c.in_ok-put_listed.ensures.changed)
+    (λ k low high. c.in_ok-put_range.ensures.put k (omega arith) (omega arith)) c.requires)

@@ -28,7 +28,7 @@ returns-then-searches g c =
     let from2 : AreFound ms f.from (nodes_of t) two = found_moved id c.deref-3.result.now ms f.from c.deref-4.result.now (nodes_of t) two c.deref-3.ensures.value c.deref-4.ensures.value c.in_ok-put_nodes-2.ensures.put in
     let from3 : AreFound ms f.from (nodes_of t) three = found_grown id ms f.from (nodes_of t) two three c.in_ok-put_lines.ensures.kept from2 in
     let lines3 : AreFound ms f.lines (lines_of t) three = found_moved id c.deref-5.result.now ms f.lines c.deref-6.result.now (lines_of t) three c.deref-5.ensures.value c.deref-6.ensures.value c.in_ok-put_lines.ensures.put in
-    covers_by N (g.met.M.MapRead.sound c.args.map.now) place t s l.paths.entries ms f l.noted (l.encoded c.requires.encoded) l.long c.requires.asked three own3 from3 lines3
+    covers_by N (g.met.M.MapRead.sound c.args.map.now) place t s l.paths.entries ms f l.noted (l.encoded c.requires.encoded) l.long three own3 from3 lines3
     (λ close search settled v near. let far : s.far ≡ true = c.if-searches.true in let never : ⊥ = cc (far, close) in absurd never)
 
 pub returns : goal.returns
@@ -56,7 +56,7 @@ returns g c =
     let lines4 : AreFound ms f.lines (lines_of t) four = found_grown id ms f.lines (lines_of t) three four c.in_ok-put_reached.ensures.kept lines3 in
     let rs = c.reached-reached.result.now in
     let all : All (λ (r : Reached). Finds ms f.from r.node four) rs = found_moved (λ (r : Reached). r.node) c.deref-7.result.now ms f.from rs rs four c.deref-7.ensures.value refl c.in_ok-put_reached.ensures.put in
-    covers_by N (g.met.M.MapRead.sound c.args.map.now) place t s l.paths.entries ms f l.noted (l.encoded c.requires.encoded) l.long c.requires.asked four own4 from4 lines4
+    covers_by N (g.met.M.MapRead.sound c.args.map.now) place t s l.paths.entries ms f l.noted (l.encoded c.requires.encoded) l.long four own4 from4 lines4
     (λ close search settled v near.
     All-contains (λ (r : Reached). Finds ms f.from r.node four) rs (record { node = v; place = place v }) all
     (c.reached-reached.ensures.near N place Against (sources t) v search (subst (λ (m : ℕ). IsNear N Against (sources t) m v) (sym settled) near)))

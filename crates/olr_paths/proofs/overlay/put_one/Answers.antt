@@ -8,8 +8,8 @@ use Rattle.olr_paths.specs.declared.listing.NamedPath.{NamedPath}
 use Rattle.olr_paths.proofs.Overlaying.{has_name}
 use Rattle.olr_paths.proofs.overlay.put_one.Goals as goal
 
-pub returns-in_default : goal.returns-in_default
-returns-in_default c =
+pub returns-in_default-clause-ok : goal.returns-in_default-clause-ok
+returns-in_default-clause-ok c =
     let name = c.args.name.now in
     let to = items c.args.to.now in
     sym (ap (λ (js : List Item). to ++ js) (sym c.in_ok-named.ensures ∙ ap (λ (o : Option NamedPath). map (item_of name) (option_to_list o)) c.in_default.is) ∙ append-nil to)
@@ -21,8 +21,8 @@ put_last-requires c =
     sym c.in_ok-named.ensures ∙ ap (λ (o : Option NamedPath). map (item_of name) (option_to_list o)) c.in-Some.is in
     ap (λ (q : List ℕ). has_name (items c.args.to.now) q) c.in_ok-from_str.ensures.ok ∙ c.requires (item_of name c.in-Some.named) one
 
-pub returns : goal.returns
-returns c =
+pub returns-clause-ok : goal.returns-clause-ok
+returns-clause-ok c =
     let name = c.args.name.now in
     let to = items c.args.to.now in
     let one : under_change (change_at (changes_in c.args.changes.now.entries) name) (item_of name c.args.named.now) ≡ item_of name c.in-Some.named ∷ [] =

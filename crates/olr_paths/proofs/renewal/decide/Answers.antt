@@ -5,7 +5,6 @@ use Rattle.olr_paths.specs.Items.{made_of}
 use Rattle.olr_paths.specs.Changes.{Touches}
 use Rattle.olr_paths.specs.Touching.{nodes_of, lines_of, changed_of}
 use Rattle.olr_paths.specs.Renewing.{Stays}
-use Rattle.olr_paths.specs.declared.published.Published.{Published}
 use Rattle.olr_paths.proofs.renewal.decide.Goals as goal
 
 pub returns-then-not-touches : goal.returns-then-not-touches
@@ -14,11 +13,10 @@ returns-then-not-touches g c =
     let T = nodes_of c.args.touched.now in
     let X = lines_of c.args.touched.now in
     let off : c.touches.result ≡ false = cc in
-    let iff : IsTrue c.touches.result ↔ Touches N T X (made_of c.in-Some.published.value) c.args.named.now.path.value =
-    subst (λ (p : Published). IsTrue c.touches.result ↔ Touches N T X (made_of p) c.args.named.now.path.value) c.deref-2.ensures
-    (subst (λ (P : Path). IsTrue c.touches.result ↔ Touches N T X (made_of c.deref-2.result.now) P) c.deref.ensures c.touches.ensures) in (
-      made_of c.in-Some.published.value,
-      ap (option_map (λ p. made_of p.value)) c.in-Some.is,
+    let iff : IsTrue c.touches.result ↔ Touches N T X (made_of c.in-Some.published.now) c.args.shown.path.now.value =
+    subst (λ (P : Path). IsTrue c.touches.result ↔ Touches N T X (made_of c.in-Some.published.now) P) c.deref.ensures c.touches.ensures in (
+      made_of c.in-Some.published.now,
+      ap (option_map (λ p. made_of p.now)) c.in-Some.is,
       (λ t. let on : c.touches.result ≡ true = iff.1 t in cc),
     )
 
@@ -28,10 +26,9 @@ returns g c =
     let T = nodes_of c.args.touched.now in
     let X = lines_of c.args.touched.now in
     let on : c.touches.result ≡ true = cc in
-    let iff : IsTrue c.touches.result ↔ Touches N T X (made_of c.in-Some.published.value) c.args.named.now.path.value =
-    subst (λ (p : Published). IsTrue c.touches.result ↔ Touches N T X (made_of p) c.args.named.now.path.value) c.deref-2.ensures
-    (subst (λ (P : Path). IsTrue c.touches.result ↔ Touches N T X (made_of c.deref-2.result.now) P) c.deref.ensures c.touches.ensures) in
-    inr (made_of c.in-Some.published.value, ap (option_map (λ p. made_of p.value)) c.in-Some.is, iff.0 on)
+    let iff : IsTrue c.touches.result ↔ Touches N T X (made_of c.in-Some.published.now) c.args.shown.path.now.value =
+    subst (λ (P : Path). IsTrue c.touches.result ↔ Touches N T X (made_of c.in-Some.published.now) P) c.deref.ensures c.touches.ensures in
+    inr (made_of c.in-Some.published.now, ap (option_map (λ p. made_of p.now)) c.in-Some.is, iff.0 on)
 
 pub returns-then-stays : goal.returns-then-stays
 returns-then-stays g c =
@@ -40,11 +37,9 @@ returns-then-stays g c =
     let X = lines_of c.args.touched.now in
     let C = changed_of c.args.touched.now in
     let on : c.touches.result ≡ true = cc in
-    let iff : IsTrue c.touches.result ↔ Touches N T X (made_of c.in-Some.published.value) c.args.named.now.path.value =
-    subst (λ (p : Published). IsTrue c.touches.result ↔ Touches N T X (made_of p) c.args.named.now.path.value) c.deref-2.ensures
-    (subst (λ (P : Path). IsTrue c.touches.result ↔ Touches N T X (made_of c.deref-2.result.now) P) c.deref.ensures c.touches.ensures) in
+    let iff : IsTrue c.touches.result ↔ Touches N T X (made_of c.in-Some.published.now) c.args.shown.path.now.value =
+    subst (λ (P : Path). IsTrue c.touches.result ↔ Touches N T X (made_of c.in-Some.published.now) P) c.deref.ensures c.touches.ensures in
     let told : c.stays.result ≡ true = cc in
-    let kept : Stays N T X C (made_of c.in-Some.published.value) c.args.named.now.path.value =
-    subst (λ (p : Published). Stays N T X C (made_of p) c.args.named.now.path.value) c.deref-4.ensures
-    (subst (λ (P : Path). Stays N T X C (made_of c.deref-4.result.now) P) c.deref-3.ensures (c.stays.ensures told)) in
-    (made_of c.in-Some.published.value, ap (option_map (λ p. made_of p.value)) c.in-Some.is, iff.0 on, kept)
+    let kept : Stays N T X C (made_of c.in-Some.published.now) c.args.shown.path.now.value =
+    subst (λ (P : Path). Stays N T X C (made_of c.in-Some.published.now) P) c.deref-2.ensures (c.stays.ensures told) in
+    (made_of c.in-Some.published.now, ap (option_map (λ p. made_of p.now)) c.in-Some.is, iff.0 on, kept)

@@ -5,4 +5,4 @@ use Rattle.olr_paths.proofs.renewal.note_all.Given as goal
 
 -- those so far are noted, and the list is as it was
 abbrev pub invariant-loop-position : goal.invariant-loop-position
-invariant-loop-position l = AreNotedAt l.list.paths.entries l.list.marks.items l.list.finder (take l.position-index l.fresh) × (items l.list ≡ items l.initial.list)
+invariant-loop-position l = AreNotedAt l.list.marks.items l.list.finder (take l.position-index l.fresh) × (items l.list ≡ items l.initial.list)

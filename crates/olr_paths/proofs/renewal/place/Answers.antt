@@ -1,39 +1,34 @@
-use Rattle.std.proofs.Common.{◌≡◌, ◌++◌, ◌∷◌, [], ◌∙◌, List, Option, Some, refl, ap, sym, subst, arith}
+use Rattle.std.proofs.Common.{◌≡◌, ◌<◌, ◌∷◌, [], ◌++◌, ◌∙◌, true, false, ℕ, List, Option, length, get_or, sym, ap, subst, arith}
 use Rattle.std.specs.Option.{option_to_list}
-use Rattle.std.specs.declared.alloc.Global.{Global}
-use Rattle.std.specs.declared.rc.Rc.{Rc}
-use Rattle.indexmap.specs.Layout.{set_value_at}
 use Rattle.olr_paths.specs.Items.{items}
+use Rattle.indexmap.specs.Layout.{set_value_at}
+use Rattle.olr_paths.specs.Finding.{NamedNoted, AreNoted, AreNotedAt}
 use Rattle.olr_paths.specs.Renewing.{all_put, puts_of}
-use Rattle.olr_paths.specs.Finding.{AreNoted, AreNotedAt, AreAll}
-use Rattle.olr_paths.specs.declared.published.Published.{Published}
-use Rattle.olr_paths.specs.declared.listing.NamedPath.{NamedPath}
 use Rattle.olr_paths.proofs.NamedEntries.{items_of}
-use Rattle.olr_paths.proofs.Marking.{kept_long, noted_set, all_set}
-use Rattle.olr_paths.proofs.Standing.{One, at_front, at_last, at_set, put_there}
+use Rattle.olr_paths.specs.declared.listing.NamedPath.{NamedPath}
+use Rattle.olr_paths.proofs.Marking.{kept_long, noted_set}
+use Rattle.olr_paths.proofs.Standing.{One, at_front, at_last, value_within}
 use Rattle.olr_paths.proofs.Placing.{placed, passed_by}
 use Rattle.olr_paths.proofs.renewal.place.Goals as goal
 
-pub invariant_of-list : goal.invariant_of-list
-invariant_of-list c =
+pub invariant_of-list-in-Some-get_index_mut : goal.invariant_of-list-in-Some-get_index_mut
+invariant_of-list-in-Some-get_index_mut c =
     let l = c.loop-position.list in
     let es = l.paths.entries in
     let ms = l.marks.items in
     let q = c.in-Some.position in
-    let p = c.in-Some.published in
+    let n : NamedPath = c.in-Some.named in
     let rest : List One = c.pop.new.self.items in
-    let all : c.loop-position.fresh.items ≡ rest ++ (q, p) ∷ [] = c.pop.ensures.items ∙ ap (λ (o : Option One). rest ++ option_to_list o) c.in-Some.is in
-    let noted : AreNotedAt es ms l.finder (rest ++ (q, p) ∷ []) = subst (λ (rs : List One). AreNotedAt es ms l.finder rs) all c.loop-position.invariant.1 in
-    let m : NamedPath = c.in-Some-get_index_mut.named.now in
-    let at = c.in-Some-get_index_mut.ensures.value in
-    let after : c.replace.new.dest ≡ Some p = c.replace.ensures.after in
+    let all : c.loop-position.fresh.items ≡ rest ++ (q, n) ∷ [] = c.pop.ensures.items ∙ ap (λ (o : Option One). rest ++ option_to_list o) c.in-Some.is in
+    let noted : AreNotedAt ms l.finder (rest ++ (q, n) ∷ []) = subst (λ (rs : List One). AreNotedAt ms l.finder rs) all c.loop-position.invariant.1 in
+    let within : q < length ms = let w = value_within es q c.in-Some-get_index_mut.place.now c.in-Some-get_index_mut.ensures.value in let long : length ms ≡ length es = l.long in omega arith in
+    let one : NamedNoted l.finder (get_or ms q 0) n = at_last ms l.finder rest (q, n) noted within in
+    let after : c.replace-earlier.new.dest ≡ n = c.replace-earlier.ensures.after in
     record {
-      long = l.long ∙ sym (kept_long es q (record { path = m.path; published = c.replace.new.dest }));
+      long = l.long ∙ sym (kept_long es q c.replace-earlier.new.dest);
       rise = l.rise;
-      noted = subst (λ (o : Option (Rc Published Global)). AreNoted (set_value_at es q (record { path = m.path; published = o })) ms l.finder) (sym after)
-          (noted_set es ms l.finder q (record { path = m.path; published = Some p }) l.noted (put_there es ms l.finder q m p at (at_last es ms l.finder rest (q, p) noted)));
-      encoded = λ off. subst (λ (o : Option (Rc Published Global)). AreAll (set_value_at es q (record { path = m.path; published = o }))) (sym after)
-          (all_set es q (record { path = m.path; published = Some p }) (l.encoded off) (λ none. let never : ⊥ = cc (none) in absurd never));
+      noted = subst (λ (m : NamedPath). AreNoted (set_value_at es q m) ms l.finder) (sym after) (noted_set es ms l.finder q n l.noted one);
+      encoded = λ off. let never : true ≡ false = sym c.loop-position.invariant.3 ∙ off in absurd cc;
     }
 
 pub loop-position-preserved-in-Ok : goal.loop-position-preserved-in-Ok
@@ -42,38 +37,15 @@ loop-position-preserved-in-Ok c =
     let es = l.paths.entries in
     let ms = l.marks.items in
     let q = c.in-Some.position in
-    let p = c.in-Some.published in
+    let n : NamedPath = c.in-Some.named in
     let rest : List One = c.pop.new.self.items in
-    let all : c.loop-position.fresh.items ≡ rest ++ (q, p) ∷ [] = c.pop.ensures.items ∙ ap (λ (o : Option One). rest ++ option_to_list o) c.in-Some.is in
-    let noted : AreNotedAt es ms l.finder (rest ++ (q, p) ∷ []) = subst (λ (rs : List One). AreNotedAt es ms l.finder rs) all c.loop-position.invariant.1 in
-    let m : NamedPath = c.in-Some-get_index_mut.named.now in
-    let at = c.in-Some-get_index_mut.ensures.value in
-    let after : c.replace.new.dest ≡ Some p = c.replace.ensures.after in (
-      subst (λ (o : Option (Rc Published Global)). all_put (items_of (set_value_at es q (record { path = m.path; published = o }))) (puts_of rest) ≡ all_put (items c.args.list.now) (puts_of c.args.fresh.items)) (sym after)
-          (placed es q p c.loop-position.fresh.items rest c.pop.result c.pop.ensures.items c.in-Some.is _ c.loop-position.invariant.0 m at),
-      subst (λ (o : Option (Rc Published Global)). AreNotedAt (set_value_at es q (record { path = m.path; published = o })) ms l.finder rest) (sym after)
-          (at_set es ms l.finder q m (record { path = m.path; published = Some p }) rest at refl (at_front es ms l.finder rest (q, p) noted)),
+    let all : c.loop-position.fresh.items ≡ rest ++ (q, n) ∷ [] = c.pop.ensures.items ∙ ap (λ (o : Option One). rest ++ option_to_list o) c.in-Some.is in
+    let noted : AreNotedAt ms l.finder (rest ++ (q, n) ∷ []) = subst (λ (rs : List One). AreNotedAt ms l.finder rs) all c.loop-position.invariant.1 in (
+      subst (λ (m : NamedPath). all_put (items_of (set_value_at es q m)) (puts_of rest) ≡ all_put (items c.args.list.now) (puts_of c.args.fresh.items)) (sym c.replace-earlier.ensures.after)
+          (placed es q n c.loop-position.fresh.items rest c.pop.result c.pop.ensures.items c.in-Some.is _ c.loop-position.invariant.0),
+      at_front ms l.finder rest (q, n) noted,
       omega (arith, c.loop-position.invariant.2, c.in-Ok.ensures.len, c.in-Ok.ensures.capacity, c.in-Some.ensures.len),
-    )
-
-pub loop-position-preserved-in_default-replace : goal.loop-position-preserved-in_default-replace
-loop-position-preserved-in_default-replace c =
-    let l = c.loop-position.list in
-    let es = l.paths.entries in
-    let ms = l.marks.items in
-    let q = c.in-Some.position in
-    let p = c.in-Some.published in
-    let rest : List One = c.pop.new.self.items in
-    let all : c.loop-position.fresh.items ≡ rest ++ (q, p) ∷ [] = c.pop.ensures.items ∙ ap (λ (o : Option One). rest ++ option_to_list o) c.in-Some.is in
-    let noted : AreNotedAt es ms l.finder (rest ++ (q, p) ∷ []) = subst (λ (rs : List One). AreNotedAt es ms l.finder rs) all c.loop-position.invariant.1 in
-    let m : NamedPath = c.in-Some-get_index_mut.named.now in
-    let at = c.in-Some-get_index_mut.ensures.value in
-    let after : c.replace.new.dest ≡ Some p = c.replace.ensures.after in (
-      subst (λ (o : Option (Rc Published Global)). all_put (items_of (set_value_at es q (record { path = m.path; published = o }))) (puts_of rest) ≡ all_put (items c.args.list.now) (puts_of c.args.fresh.items)) (sym after)
-          (placed es q p c.loop-position.fresh.items rest c.pop.result c.pop.ensures.items c.in-Some.is _ c.loop-position.invariant.0 m at),
-      subst (λ (o : Option (Rc Published Global)). AreNotedAt (set_value_at es q (record { path = m.path; published = o })) ms l.finder rest) (sym after)
-          (at_set es ms l.finder q m (record { path = m.path; published = Some p }) rest at refl (at_front es ms l.finder rest (q, p) noted)),
-      omega (arith, c.loop-position.invariant.2, c.in-Some.ensures.len),
+      c.loop-position.invariant.3,
     )
 
 pub loop-position-preserved : goal.loop-position-preserved
@@ -82,11 +54,28 @@ loop-position-preserved c =
     let es = l.paths.entries in
     let ms = l.marks.items in
     let q = c.in-Some.position in
-    let p = c.in-Some.published in
+    let n : NamedPath = c.in-Some.named in
     let rest : List One = c.pop.new.self.items in
-    let all : c.loop-position.fresh.items ≡ rest ++ (q, p) ∷ [] = c.pop.ensures.items ∙ ap (λ (o : Option One). rest ++ option_to_list o) c.in-Some.is in
-    let noted : AreNotedAt es ms l.finder (rest ++ (q, p) ∷ []) = subst (λ (rs : List One). AreNotedAt es ms l.finder rs) all c.loop-position.invariant.1 in (
-      passed_by es q p c.loop-position.fresh.items rest c.pop.result c.pop.ensures.items c.in-Some.is _ c.loop-position.invariant.0 c.in_default-get_index_mut.ensures.value,
-      at_front es ms l.finder rest (q, p) noted,
+    let all : c.loop-position.fresh.items ≡ rest ++ (q, n) ∷ [] = c.pop.ensures.items ∙ ap (λ (o : Option One). rest ++ option_to_list o) c.in-Some.is in
+    let noted : AreNotedAt ms l.finder (rest ++ (q, n) ∷ []) = subst (λ (rs : List One). AreNotedAt ms l.finder rs) all c.loop-position.invariant.1 in (
+      passed_by es q n c.loop-position.fresh.items rest c.pop.result c.pop.ensures.items c.in-Some.is _ c.loop-position.invariant.0 c.in_default-get_index_mut.ensures.value,
+      at_front ms l.finder rest (q, n) noted,
       omega (arith, c.loop-position.invariant.2, c.in-Some.ensures.len),
+      c.loop-position.invariant.3,
+    )
+
+pub loop-position-preserved-in_default-get_index_mut : goal.loop-position-preserved-in_default-get_index_mut
+loop-position-preserved-in_default-get_index_mut c =
+    let l = c.loop-position.list in
+    let es = l.paths.entries in
+    let ms = l.marks.items in
+    let q = c.in-Some.position in
+    let n : NamedPath = c.in-Some.named in
+    let rest : List One = c.pop.new.self.items in
+    let all : c.loop-position.fresh.items ≡ rest ++ (q, n) ∷ [] = c.pop.ensures.items ∙ ap (λ (o : Option One). rest ++ option_to_list o) c.in-Some.is in
+    let noted : AreNotedAt ms l.finder (rest ++ (q, n) ∷ []) = subst (λ (rs : List One). AreNotedAt ms l.finder rs) all c.loop-position.invariant.1 in (
+      passed_by es q n c.loop-position.fresh.items rest c.pop.result c.pop.ensures.items c.in-Some.is _ c.loop-position.invariant.0 c.in_default-get_index_mut.ensures.value,
+      at_front ms l.finder rest (q, n) noted,
+      omega (arith, c.loop-position.invariant.2, c.in-Some.ensures.len),
+      c.loop-position.invariant.3,
     )

@@ -1,23 +1,33 @@
-use Rattle.std.proofs.Common.{arith, ◌∷◌, [], ◌++◌, ℕ, ap, ◌∙◌, subst}
+use Rattle.std.proofs.Common.{arith, ◌≡◌, ◌∷◌, [], ◌++◌, ℕ, List, Option, Some, ap, sym, ◌∙◌, subst}
 use Rattle.std.proofs.lemmas.List.{map-append}
-use Rattle.std.specs.declared.alloc.Global.{Global}
-use Rattle.std.specs.declared.rc.Rc.{Rc}
-use Rattle.olr_paths.specs.Items.{made_of}
-use Rattle.olr_paths.specs.Renewing.{puts_of, IsFate, Anew}
+use Rattle.std.specs.Prelude.{option_map}
+use Rattle.olr_spec.specs.Extension.{Path}
+use Rattle.olr_paths.specs.Items.{Made, IsEncodingOf, made_of}
+use Rattle.olr_paths.specs.Renewing.{Put, puts_of, IsFate, Anew}
+use Rattle.olr_paths.specs.Showing.{shown_item}
 use Rattle.olr_paths.specs.declared.published.Published.{Published}
+use Rattle.olr_paths.specs.declared.listing.NamedPath.{NamedPath}
 use Rattle.olr_paths.specs.declared.renewal.Fate.{Fate}
 use Rattle.olr_paths.proofs.renewal.Renewal.go_on.Goals as goal
 
 pub returns-in_ok-push-in-Encode : goal.returns-in_ok-push-in-Encode
-returns-in_ok-push-in-Encode g c = λ T X C made f.
+returns-in_ok-push-in-Encode g c = λ T X C f.
     let N = g.M.MapRead.map c.args.map.now in
     let old = c.args.self.now.fresh.items in
     let position = c.args.position in
-    Anew (subst (λ (fate : Fate). IsFate N T X C made c.args.path.now fate) c.in-Encode.is f)
-    (made_of c.in_ok-published-in-Encode.published)
-    c.in_ok-published-in-Encode.ensures.made
-    (ap puts_of c.in_ok-push-in-Encode.ensures.items ∙ map-append (λ (e : ℕ × Rc Published Global). (e.0, made_of e.1.value)) old ((position, c.in_ok-new-in-Encode.field-0) ∷ [])
-    ∙ ap (λ (p : Published). puts_of old ++ (position, made_of p) ∷ []) c.in_ok-new-in-Encode.ensures.ok)
+    let i = shown_item c.args.shown in
+    let published = c.in_ok-published-in-Encode.published in
+    let m : Made = made_of published in
+    let n : NamedPath = record { path = c.in_ok-clone-in-Encode.field-0; published = Some c.in_ok-new-in-Encode.field-0 } in
+    let path : c.in_ok-clone-in-Encode.field-0.value ≡ i.path = c.in_ok-clone-in-Encode.ensures.cases in
+    let put : Put = record { place = position; path = i.path; made = Some m } in
+    let made : IsEncodingOf N i.path m = subst (λ (P : Path). IsEncodingOf N P m) c.deref.ensures c.in_ok-published-in-Encode.ensures.made in
+    Anew (subst (λ (fate : Fate). IsFate N T X C i.made i.path fate) c.in-Encode.is f)
+    m
+    made
+    (ap puts_of c.in_ok-push-in-Encode.ensures.items ∙ map-append (λ (e : ℕ × NamedPath). record { place = e.0; path = e.1.path.value; made = option_map (λ p. made_of p.value) e.1.published }) old ((position, n) ∷ [])
+    ∙ ap (λ (P : Path). puts_of old ++ record { place = position; path = P; made = Some (made_of c.in_ok-new-in-Encode.field-0.value) } ∷ []) path
+    ∙ ap (λ (p : Published). puts_of old ++ record { place = position; path = i.path; made = Some (made_of p) } ∷ []) c.in_ok-new-in-Encode.ensures.ok)
     c.in_ok-tell-in-Encode.ensures
     (record {
       encodings = c.in_ok-published-in-Encode.ensures.counted;

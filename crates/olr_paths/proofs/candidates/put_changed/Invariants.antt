@@ -1,0 +1,9 @@
+use Rattle.std.proofs.Common.{take}
+use Rattle.olr_paths.specs.Items.{items}
+use Rattle.olr_paths.specs.Laying.{changes_in}
+use Rattle.olr_paths.specs.Candidates.{Includes, FindsChanged}
+use Rattle.olr_paths.proofs.candidates.put_changed.Given as goal
+
+-- the positions of the changes so far are put
+abbrev pub invariant-loop-k : goal.invariant-loop-k
+invariant-loop-k l = Includes l.initial.found.items l.found.items × FindsChanged (changes_in (take l.k l.laid.overlay.now.changes.entries)) (items l.laid.list.now) l.found.items

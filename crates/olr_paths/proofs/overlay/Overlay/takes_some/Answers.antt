@@ -1,0 +1,21 @@
+use Rattle.std.proofs.Common.{◌≡◌, ◌∷◌, ◌++◌, [], ◌+◌, ◌∙◌, true, Option, String, Global, take, is_some, not, ap, sym, subst, arith}
+use Rattle.std.proofs.lemmas.List.{take_all}
+use Rattle.std.specs.declared.rc.Rc.{Rc}
+use Rattle.olr_spec.specs.Extension.{Path}
+use Rattle.olr_paths.proofs.Overlaying.{Entered}
+use Rattle.olr_paths.proofs.Changed.{AreOthers, others_push, others_keep, take_more_entries}
+use Rattle.olr_paths.proofs.overlay.Overlay.takes_some.Goals as goal
+
+pub loop-k-preserved : goal.loop-k-preserved
+loop-k-preserved c =
+    let es : Entered = c.args.self.now.changes.entries in
+    let k = c.loop-k.k in
+    let e : String Global × Option (Rc Path Global) = (c.in-Some.field-0-0.now, c.in-Some.change.now) in
+    let more : take (k + 1) es ≡ take k es ++ e ∷ [] = take_more_entries es k e (sym c.in-Some.ensures.entry) in
+    let one : is_some e.1 ≡ true = c.is_none.ensures ∙ ap not c.if-is_none.false in
+    subst AreOthers (sym more) (others_push (take k es) e c.loop-k.invariant one)
+
+pub returns : goal.returns
+returns c = λ off.
+    let es : Entered = c.args.self.now.changes.entries in
+    others_keep es (subst AreOthers (take_all c.loop-k.k es (omega (arith, c.loop-k-test.false, c.len-k-end.ensures.len))) c.loop-k.invariant)

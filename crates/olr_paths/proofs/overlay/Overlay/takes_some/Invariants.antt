@@ -1,0 +1,7 @@
+use Rattle.std.proofs.Common.{take}
+use Rattle.olr_paths.proofs.Changed.{AreOthers}
+use Rattle.olr_paths.proofs.overlay.Overlay.takes_some.Given as goal
+
+-- the changes so far are other paths
+abbrev pub invariant-loop-k : goal.invariant-loop-k
+invariant-loop-k l = AreOthers (take l.k l.self.changes.entries)

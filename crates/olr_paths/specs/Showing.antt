@@ -1,0 +1,13 @@
+-- A list under changes, as it is read in place.
+--     shown_items l      the list under its changes.        shown_item s      what is shown of one path
+use Rattle.std.specs.Prelude.{List, option_map}
+use Rattle.olr_paths.specs.Items.{Item, items, made_of}
+use Rattle.olr_paths.specs.Laying.{under_overlay}
+use Rattle.olr_paths.specs.declared.laid.Laid.{Laid}
+use Rattle.olr_paths.specs.declared.showing.Shown.{Shown}
+
+abbrev pub shown_items : Laid → List Item
+shown_items l = under_overlay (items l.list.now) l.overlay.now
+
+abbrev pub shown_item : Shown → Item
+shown_item s = record { name = s.name.now; path = s.path.now.value; made = option_map (λ p. made_of p.now) s.published }

@@ -1,0 +1,35 @@
+//! A list under changes, read in place.
+ghost use Rattle.olr_paths.specs.Laying.{TakesNone, TakesNone-prop, changes_of};
+
+use crate::listing::Listing;
+use crate::overlay::Overlay;
+use crate::showing::{Shown, show, show_under};
+
+/// A list and changes that lie over it and take none of its paths away. A path has the position that it has in the list; the
+/// new ones stand behind.
+#[derive(Clone, Copy)]
+pub(crate) struct Laid<'a> {
+    pub(crate) list: &'a Listing,
+    pub(crate) overlay: &'a Overlay,
+    ghost keeps: { TakesNone (changes_of overlay.now) } by { TakesNone-prop (changes_of overlay.now) },
+}
+
+impl<'a> Laid<'a> {
+    ghost use Rattle.std.specs.Prelude.{◌≡◌, ◌+◌, ◌<◌, ◌^◌, slice_get, option_map, IsSome};
+    ghost use Rattle.olr_paths.specs.Showing.{shown_items, shown_item};
+
+    /// The path at a position, from 0. None past the last.
+    pub(crate) fn at(self, position: usize) -> Option<Shown<'a>>
+        ensures shown { slice_get (shown_items self.entry) position ≡ option_map shown_item result }
+        ensures small { IsSome result → position + 1 < 2 ^ 64 }
+    {
+        let count = self.list.paths.len();
+        let _few = self.overlay.added.paths.len();
+        if position < count {
+            let (name, named) = self.list.paths.get_index(position)?;
+            return Some(show_under(&self.overlay.changes, name.as_str(), named));
+        }
+        let (name, named) = self.overlay.added.paths.get_index(position - count)?;
+        Some(show(name.as_str(), named))
+    }
+}

@@ -1,0 +1,57 @@
+//! What is shown of a path of a list under changes.
+ghost use Rattle.std.specs.Prelude.{◌≡◌, ◌∷◌, [], false};
+ghost use Rattle.olr_paths.specs.Renewing.{item_of};
+ghost use Rattle.olr_paths.specs.Laying.{changes_in, change_at, drops, under_change};
+ghost use Rattle.olr_paths.specs.Showing.{shown_item};
+
+use crate::listing::NamedPath;
+use crate::published::Published;
+use indexmap::IndexMap;
+use olr_refs::Path;
+use std::rc::Rc;
+
+/// A path of a list under changes, and what is published of it, where it was encoded and is not another one.
+#[derive(Clone, Copy)]
+pub(crate) struct Shown<'a> {
+    pub(crate) name: &'a str,
+    pub(crate) path: &'a Rc<Path>,
+    pub(crate) published: Option<&'a Published>,
+}
+
+/// A path as the list has it.
+pub(crate) fn show<'a>(name: &'a str, named: &'a NamedPath) -> Shown<'a>
+    ensures { shown_item result ≡ item_of name.now named.now }
+{
+    let published = match &named.published {
+        Some(published) => Some(&**published),
+        None => None,
+    };
+    Shown {
+        name,
+        path: &named.path,
+        published,
+    }
+}
+
+/// A path of a list under changes that don't take it away.
+pub(crate) fn show_under<'a>(
+    changes: &'a IndexMap<String, Option<Rc<Path>>>,
+    name: &'a str,
+    named: &'a NamedPath,
+) -> Shown<'a>
+    requires { drops (change_at (changes_in changes.now.entries) name.now) ≡ false }
+    ensures { under_change (change_at (changes_in changes.now.entries) name.now) (item_of name.now named.now)
+        ≡ shown_item result ∷ [] }
+{
+    let Some(change) = changes.get(name) else {
+        return show(name, named);
+    };
+    match change {
+        Some(path) => Shown {
+            name,
+            path,
+            published: None,
+        },
+        None => unreachable!(),
+    }
+}
