@@ -1,10 +1,9 @@
 -- A list under changes that take no path away: place by place, and with what was made put in place.
 --     changed_by cs i      what becomes of one path.        Lies us vs      vs is us, where some paths are other ones that were not encoded yet
-use Rattle.std.proofs.Common.{inl, inr, ◌≡◌, ◌≢◌, ◌⊎◌, ℕ, zero, suc, ◌+◌, ◌<◌, ◌≤◌, Bool, true, false, cond, List, [], ◌∷◌, ◌++◌, map, take, length, get_or, slice_get, unwrap_or, Option, Some, None, is_some, refl, sym, ap, ◌∙◌, subst, arith}
+use Rattle.std.proofs.Common.{inl, inr, ◌≡◌, ◌⊎◌, ℕ, zero, suc, ◌+◌, Bool, true, false, cond, List, [], ◌∷◌, ◌++◌, map, take, length, get_or, slice_get, unwrap_or, Option, Some, None, is_some, refl, sym, ap, ◌∙◌, subst, arith}
 use Rattle.std.specs.Prelude.{⊤, option_map}
-use Rattle.olr_spec.specs.Extension.{Path, has}
-use Rattle.olr_spec.specs.Encoding.{Answer}
-use Rattle.olr_commands.specs.State.{Named, same_name, path_named, NamesDiffer}
+use Rattle.olr_spec.specs.Extension.{Path}
+use Rattle.olr_commands.specs.State.{same_name, path_named, NamesDiffer}
 use Rattle.olr_commands.specs.Reply.{Entry}
 use Rattle.olr_paths.specs.Items.{Made, Item, all_named}
 use Rattle.olr_paths.specs.Changes.{Reported}
@@ -233,3 +232,15 @@ not_there es name k i free at =
       | inl on ↦ let never : true ≡ false = sym (there_named (items_of es) k i name at on) ∙ free in absurd cc
       | inr other ↦ other
     ]
+
+-- ---- where nothing changes, none is taken away
+
+pub none_keeps : (cs : Changes) (ys : List Item) → ((is : List Item) → under_changes cs is ++ ys ≡ is) → TakesNone cs
+none_keeps cs ys h name = kept (change_at cs name) (h (i ∷ [])) where
+  i : Item
+  i = record { name = name; path = record { lines = []; pos = 0; neg = 0 }; made = None }
+
+  kept : (c : Option (Option Path)) → (under_change c i ++ []) ++ ys ≡ i ∷ [] → drops c ≡ false
+  kept None e = refl
+  kept (Some None) e = let empty : ys ≡ [] = h [] in let never : ⊥ = cc (e, empty) in absurd never
+  kept (Some (Some p)) e = refl

@@ -94,8 +94,7 @@ impl Overlay {
 
     /// No changes. Takes no memory.
     pub fn new(alloc: Global) -> Overlay
-        ensures none { (is : List Item) → under_overlay is result ≡ is }
-        ensures keeps { TakesNone (changes_of result) }
+        ensures { (is : List Item) → under_overlay is result ≡ is }
     {
         Overlay {
             changes: IndexMap::new(alloc),

@@ -1,7 +1,6 @@
-use Rattle.std.proofs.Common.{◌≡◌, ◌+◌, ◌<◌, ◌≤◌, ◌∙◌, sym, ℕ, length, IsTrue, arith}
+use Rattle.std.proofs.Common.{◌≡◌, ◌∙◌, sym, ℕ, length, arith}
 use Rattle.std.proofs.lemmas.List.{length-map}
 use Rattle.std.proofs.lemmas.List.Sorted.{IsNonDecreasingBy-from_sort}
-use Rattle.olr_spec.specs.Extension.{has}
 use Rattle.olr_paths.specs.Items.{items}
 use Rattle.olr_paths.specs.Laying.{changes_of}
 use Rattle.olr_paths.specs.Showing.{shown_items}

@@ -1,14 +1,14 @@
-use Rattle.std.proofs.Common.{◌≡◌, ◌++◌, ◌∷◌, [], ◌∙◌, ℕ, List, Option, Some, None, String, Global, length, take, refl, false, sym, subst, arith}
+use Rattle.std.proofs.Common.{◌≡◌, ◌++◌, ◌∷◌, [], ◌∙◌, ℕ, List, Option, String, Global, take, refl, false, sym, subst, arith}
 use Rattle.std.proofs.lemmas.List.{take_all}
 use Rattle.std.specs.Prelude.{string_bytes}
 use Rattle.olr_spec.specs.Extension.{has}
 use Rattle.olr_commands.specs.State.{same_name}
 use Rattle.std.specs.declared.rc.Rc.{Rc}
 use Rattle.olr_spec.specs.Extension.{Path}
-use Rattle.olr_paths.specs.Items.{Item, items}
+use Rattle.olr_paths.specs.Items.{items}
 use Rattle.olr_paths.specs.Laying.{Changes, changes_in, path_in}
 use Rattle.olr_paths.specs.Candidates.{Includes, FindsChanged}
-use Rattle.olr_paths.proofs.NamedEntries.{names_differ, named_there, same_flip}
+use Rattle.olr_paths.proofs.NamedEntries.{named_there, same_flip}
 use Rattle.olr_paths.proofs.Marking.{First, first_at}
 use Rattle.olr_paths.proofs.Overlaying.{Entered}
 use Rattle.olr_paths.proofs.Changed.{take_more_changes, not_there}

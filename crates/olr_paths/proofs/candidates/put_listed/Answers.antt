@@ -1,8 +1,8 @@
-use Rattle.std.proofs.Common.{◌≡◌, ◌<◌, ◌∙◌, true, false, ℕ, Some, length, slice_get, IsTrue, sym, arith}
+use Rattle.std.proofs.Common.{◌≡◌, ◌∙◌, true, false, length, sym, arith}
 use Rattle.std.proofs.lemmas.List.{length-map}
 use Rattle.std.proofs.lemmas.Option.{slice_get_within}
 use Rattle.olr_spec.specs.Extension.{has}
-use Rattle.olr_paths.specs.Items.{Item, items}
+use Rattle.olr_paths.specs.Items.{items}
 use Rattle.olr_paths.proofs.NamedEntries.{item_of}
 use Rattle.olr_paths.proofs.Covering.{covers_grown}
 use Rattle.olr_paths.proofs.candidates.put_listed.Goals as goal

@@ -1,4 +1,4 @@
-use Rattle.std.proofs.Common.{Option, Bor, sym, subst}
+use Rattle.std.proofs.Common.{Option, Bor, subst}
 use Rattle.std.specs.Prelude.{IfSome}
 use Rattle.olr_paths.specs.Items.{made_of}
 use Rattle.olr_paths.specs.Searching.{IsAsked}

@@ -1,11 +1,8 @@
 use Rattle.std.proofs.Common.{refl, arith, ◌≡◌, ℕ, List, length, ◌∙◌, ap, true, subst}
 use Rattle.std.specs.Prelude.{option_map}
-use Rattle.std.proofs.lemmas.List.{length-map}
 use Rattle.olr_paths.specs.Items.{Item, items}
 use Rattle.olr_paths.specs.Showing.{shown_items, shown_item}
 use Rattle.olr_paths.specs.Touching.{nodes_of, lines_of, changed_of}
-use Rattle.std.specs.declared.alloc.Global.{Global}
-use Rattle.std.specs.declared.rc.Rc.{Rc}
 use Rattle.olr_paths.specs.Beginning.{BeginsPut}
 use Rattle.olr_paths.specs.Renewing.{puts_of}
 use Rattle.olr_paths.specs.declared.listing.NamedPath.{NamedPath}

@@ -1,10 +1,9 @@
-use Rattle.std.proofs.Common.{inl, inr, ◌≡◌, ◌<◌, ◌≤◌, ℕ, List, Some, length, get_or, slice_get, ap, sym, subst}
+use Rattle.std.proofs.Common.{inl, inr, ◌≡◌, ◌<◌, ◌≤◌, ℕ, List, Some, length, get_or, slice_get, ap, subst}
 use Rattle.std.proofs.lemmas.Option.{slice_get_within}
-use Rattle.olr_spec.specs.Extension.{Path}
 use Rattle.olr_paths.specs.Items.{Item, items, made_of}
 use Rattle.olr_paths.specs.Searching.{IsAsked}
 use Rattle.olr_paths.specs.Touching.{nodes_of, lines_of, changed_of}
-use Rattle.olr_paths.specs.Renewing.{IsStep, IsFate}
+use Rattle.olr_paths.specs.Renewing.{IsStep}
 use Rattle.olr_paths.specs.Showing.{shown_items, shown_item}
 use Rattle.olr_paths.proofs.AskedLemmas.{listed_at, made_if}
 use Rattle.olr_paths.proofs.Through.{SoFar, Whole, so_far_none, so_far_step, whole}

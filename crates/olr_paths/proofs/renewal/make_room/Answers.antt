@@ -1,4 +1,4 @@
-use Rattle.std.proofs.Common.{◌≡◌, ◌++◌, ◌∙◌, List, length, take, ap, sym, subst}
+use Rattle.std.proofs.Common.{◌∙◌, List, length, take, ap, sym, subst}
 use Rattle.olr_commands.specs.State.{NamesDiffer}
 use Rattle.olr_paths.specs.Items.{Item, items, all_named}
 use Rattle.olr_paths.proofs.Overlaying.{behind_none}

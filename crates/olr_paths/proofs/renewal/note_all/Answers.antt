@@ -1,4 +1,4 @@
-use Rattle.std.proofs.Common.{◌≡◌, ◌<◌, ◌∙◌, length, get_or, subst, arith}
+use Rattle.std.proofs.Common.{◌≡◌, ◌∙◌, get_or, subst, arith}
 use Rattle.std.proofs.lemmas.List.{get_or_default, take_all}
 use Rattle.olr_paths.specs.Finding.{AreNotedAt, NamedNoted, Grows}
 use Rattle.olr_paths.proofs.Standing.{One, StandsAt, noted_grown, at_more}

@@ -1,4 +1,4 @@
-use Rattle.std.proofs.Common.{◌≡◌, ◌<◌, ◌∷◌, [], ◌++◌, ◌∙◌, true, false, ℕ, List, Option, length, get_or, sym, ap, subst, arith}
+use Rattle.std.proofs.Common.{◌≡◌, ◌<◌, ◌∷◌, [], ◌++◌, ◌∙◌, true, false, List, Option, length, get_or, sym, ap, subst, arith}
 use Rattle.std.specs.Option.{option_to_list}
 use Rattle.olr_paths.specs.Items.{items}
 use Rattle.indexmap.specs.Layout.{set_value_at}

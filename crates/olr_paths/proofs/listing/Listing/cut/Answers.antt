@@ -1,5 +1,5 @@
-use Rattle.std.proofs.Common.{◌≡◌, ◌∙◌, ap, sym}
-use Rattle.olr_paths.proofs.NamedEntries.{items_of, item_of}
+use Rattle.std.proofs.Common.{◌∙◌, ap}
+use Rattle.olr_paths.proofs.NamedEntries.{items_of}
 use Rattle.olr_paths.proofs.Marking.{long_cut, rise_cut, noted_cut, all_cut, items_cut}
 use Rattle.olr_paths.proofs.listing.Listing.cut.Goals as goal
 

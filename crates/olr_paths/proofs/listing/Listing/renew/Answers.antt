@@ -8,14 +8,16 @@ use Rattle.olr_paths.specs.Changes.{IsBefore, IsConcerned, AreRemade, Follows}
 use Rattle.olr_paths.specs.Beginning.{Begins, AreFar, begun_in}
 use Rattle.olr_paths.specs.Touching.{nodes_of, lines_of, changed_of}
 use Rattle.olr_paths.proofs.Through.{follows_itself}
+use Rattle.olr_paths.specs.Laying.{changes_of}
+use Rattle.olr_paths.proofs.Changed.{none_keeps}
 use Rattle.olr_paths.proofs.listing.Listing.renew.Goals as goal
 
 pub renew_laid-requires : goal.renew_laid-requires
 renew_laid-requires g c =
     let is = items c.args.self.now in
-    let e = c.new-none.ensures.none is in
+    let e = c.new-none.ensures is in
     record {
-      keeps = c.new-none.ensures.keeps;
+      keeps = none_keeps (changes_of c.new-none.result) (items c.new-none.result.added) c.new-none.ensures;
       names = subst (λ (js : List Item). NamesDiffer (all_named js)) (sym e) c.len-names.ensures.names;
       follows = subst (Follows is) (sym e) (follows_itself is c.len-names.ensures.names);
       far = λ on. subst (AreFar (g.M.MapRead.map c.args.map.now) (nodes_of c.args.touched.now)) (sym e) (c.requires on);
@@ -25,11 +27,11 @@ pub returns-clause-renewed : goal.returns-clause-renewed
 returns-clause-renewed g c =
     let N = g.M.MapRead.map c.args.map.now in
     let t = c.args.touched.now in
-    subst (λ (is : List Item). OnOk c.renew_laid.result ((L : Map) → IsBefore L N (nodes_of t) (lines_of t) (changed_of t) is → AreRemade N is (items c.renew_laid.new.self))) (c.new-none.ensures.none (items c.args.self.now)) c.renew_laid.ensures.renewed
+    subst (λ (is : List Item). OnOk c.renew_laid.result ((L : Map) → IsBefore L N (nodes_of t) (lines_of t) (changed_of t) is → AreRemade N is (items c.renew_laid.new.self))) (c.new-none.ensures (items c.args.self.now)) c.renew_laid.ensures.renewed
 
 pub returns-clause-named : goal.returns-clause-named
 returns-clause-named g c =
-    subst (λ (is : List Item). OnOk c.renew_laid.result (all_named (items c.renew_laid.new.self) ≡ all_named is)) (c.new-none.ensures.none (items c.args.self.now)) c.renew_laid.ensures.named
+    subst (λ (is : List Item). OnOk c.renew_laid.result (all_named (items c.renew_laid.new.self) ≡ all_named is)) (c.new-none.ensures (items c.args.self.now)) c.renew_laid.ensures.named
 
 pub returns-clause-counted : goal.returns-clause-counted
 returns-clause-counted g c =
@@ -38,8 +40,8 @@ returns-clause-counted g c =
     let old = c.args.work.now in
     let new = c.renew_laid.new.work in
     subst (λ (is : List Item). OnOk c.renew_laid.result ((L : Map) → IsBefore L N (nodes_of t) (lines_of t) (changed_of t) is → (n : ℕ) × CountIs (IsConcerned L (nodes_of t) (lines_of t)) is n
-    × (old.encodings + n < 2 ^ 64 → new.encodings ≡ old.encodings + n) × (c.renew_laid.new.kept ≤ c.args.kept.now + n))) (c.new-none.ensures.none (items c.args.self.now)) c.renew_laid.ensures.counted
+    × (old.encodings + n < 2 ^ 64 → new.encodings ≡ old.encodings + n) × (c.renew_laid.new.kept ≤ c.args.kept.now + n))) (c.new-none.ensures (items c.args.self.now)) c.renew_laid.ensures.counted
 
 pub returns-clause-begun : goal.returns-clause-begun
 returns-clause-begun g c =
-    subst (λ (is : List Item). OnOk c.renew_laid.result ((v : ℕ) → Begins (items c.renew_laid.new.self) v → Begins is v ⊎ Contains (begun_in c.renew_laid.new.searches) v)) (c.new-none.ensures.none (items c.args.self.now)) c.renew_laid.ensures.begun
+    subst (λ (is : List Item). OnOk c.renew_laid.result ((v : ℕ) → Begins (items c.renew_laid.new.self) v → Begins is v ⊎ Contains (begun_in c.renew_laid.new.searches) v)) (c.new-none.ensures (items c.args.self.now)) c.renew_laid.ensures.begun

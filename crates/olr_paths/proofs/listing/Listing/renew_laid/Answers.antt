@@ -8,7 +8,7 @@ use Rattle.olr_paths.specs.Beginning.{Begins}
 use Rattle.olr_paths.specs.Changes.{Reported, IsBefore, AreRemade}
 use Rattle.olr_paths.specs.Touching.{nodes_of, lines_of, changed_of}
 use Rattle.olr_paths.specs.Laying.{TakesNone, changes_of, under_overlay}
-use Rattle.olr_paths.specs.Renewing.{all_put, puts_of, after_renewal, items_before}
+use Rattle.olr_paths.specs.Renewing.{all_put, puts_of, after_renewal}
 use Rattle.olr_paths.specs.declared.listing.Listing.{Listing}
 use Rattle.olr_paths.specs.declared.overlay.Overlay.{Overlay}
 use Rattle.olr_paths.specs.declared.renewal.Renewal.{Renewal}

@@ -6,14 +6,16 @@ use Rattle.olr_paths.specs.Items.{Item, items, all_named}
 use Rattle.olr_paths.specs.Changes.{IsBefore, IsConcerned, AreRemade, Follows}
 use Rattle.olr_paths.specs.Beginning.{Begins, AreFar, begun_in}
 use Rattle.olr_paths.specs.Touching.{nodes_of, lines_of, changed_of}
+use Rattle.olr_paths.specs.Laying.{changes_of}
+use Rattle.olr_paths.proofs.Changed.{none_keeps}
 use Rattle.olr_paths.proofs.listing.Listing.renew_over.Goals as goal
 
 -- where some path is taken away, of the list under the changes
 pub renew_laid-requires-2 : goal.renew_laid-requires-2
 renew_laid-requires-2 g c =
-    let e = c.new-none.ensures.none (items c.in_ok-list.list) ∙ c.in_ok-list.ensures in
+    let e = c.new-none.ensures (items c.in_ok-list.list) ∙ c.in_ok-list.ensures in
     record {
-      keeps = c.new-none.ensures.keeps;
+      keeps = none_keeps (changes_of c.new-none.result) (items c.new-none.result.added) c.new-none.ensures;
       names = subst (λ (js : List Item). NamesDiffer (all_named js)) (sym e) c.requires.names;
       follows = subst (Follows (items c.args.self.now)) (sym e) c.requires.follows;
       far = λ on. subst (AreFar (g.M.MapRead.map c.args.map.now) (nodes_of c.args.touched.now)) (sym e) (c.requires.far on);
@@ -23,12 +25,12 @@ pub returns-clause-renewed : goal.returns-clause-renewed
 returns-clause-renewed g c =
     let N = g.M.MapRead.map c.args.map.now in
     let t = c.args.touched.now in
-    let e = c.new-none.ensures.none (items c.in_ok-list.list) ∙ c.in_ok-list.ensures in
+    let e = c.new-none.ensures (items c.in_ok-list.list) ∙ c.in_ok-list.ensures in
     subst (λ (is : List Item). (L : Map) → IsBefore L N (nodes_of t) (lines_of t) (changed_of t) is → AreRemade N is (items c.renew_laid-2.new.self)) e c.in_ok-entries.ensures.renewed
 
 pub returns-clause-named : goal.returns-clause-named
 returns-clause-named g c =
-    let e = c.new-none.ensures.none (items c.in_ok-list.list) ∙ c.in_ok-list.ensures in
+    let e = c.new-none.ensures (items c.in_ok-list.list) ∙ c.in_ok-list.ensures in
     c.in_ok-entries.ensures.named ∙ ap all_named e
 
 pub returns-clause-counted : goal.returns-clause-counted
@@ -37,11 +39,11 @@ returns-clause-counted g c =
     let t = c.args.touched.now in
     let old = c.args.work.now in
     let new = c.renew_laid-2.new.work in
-    let e = c.new-none.ensures.none (items c.in_ok-list.list) ∙ c.in_ok-list.ensures in
+    let e = c.new-none.ensures (items c.in_ok-list.list) ∙ c.in_ok-list.ensures in
     subst (λ (is : List Item). (L : Map) → IsBefore L N (nodes_of t) (lines_of t) (changed_of t) is → (n : ℕ) × CountIs (IsConcerned L (nodes_of t) (lines_of t)) is n
     × (old.encodings + n < 2 ^ 64 → new.encodings ≡ old.encodings + n) × (c.renew_laid-2.new.kept ≤ c.args.kept.now + n)) e c.in_ok-entries.ensures.counted
 
 pub returns-clause-begun : goal.returns-clause-begun
 returns-clause-begun g c =
-    let e = c.new-none.ensures.none (items c.in_ok-list.list) ∙ c.in_ok-list.ensures in
+    let e = c.new-none.ensures (items c.in_ok-list.list) ∙ c.in_ok-list.ensures in
     subst (λ (is : List Item). (v : ℕ) → Begins (items c.renew_laid-2.new.self) v → Begins is v ⊎ Contains (begun_in c.renew_laid-2.new.searches) v) e c.in_ok-entries.ensures.begun
