@@ -4,7 +4,8 @@ use Rattle.std.specs.Prelude.{◌||◌}
 use Rattle.std.specs.List.{list_any}
 use Rattle.std.proofs.lemmas.Bool.{cases_Bool, both_ways, not-false}
 use lib.Pointwise.{bytes_decides}
-use Rattle.olr_spec.specs.Extension.{Path, has, is_path}
+use Rattle.olr_spec.specs.Map.{has}
+use Rattle.olr_spec.specs.Extension.{Path, is_path}
 use Rattle.olr_commands.specs.State.{Named, Content, same_name, path_named, has_path, with_path, NamesDiffer, Fault, Path_exists, No_path, Bad_path, when, Change, Add_path, Set_path, with_change, at_once, State, Command, Make, step, changes_made, IsState}
 use Rattle.olr_commands.specs.Counts.{Concerns, By_name, By_node, By_line, CountIs, Raises, all_nodes, all_lines, all_names}
 use Rattle.olr_commands.proofs.NameLemmas.{same_is, not_named, set_name}

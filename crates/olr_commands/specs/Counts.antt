@@ -4,8 +4,7 @@
 --     Raises s c t n      the accepted command, which leads from s to t, raises the count by n
 use Rattle.std.specs.Prelude.{◌≡◌, ℕ, suc, List, [], ◌∷◌, ◌++◌, flat_map, ◌⊎◌, IsTrue}
 use Rattle.std.specs.List.{list_any}
-use Rattle.olr_spec.specs.Map.{Map, touched_nodes, touched_lines}
-use Rattle.olr_spec.specs.Extension.{has}
+use Rattle.olr_spec.specs.Map.{Map, touched_nodes, touched_lines, has}
 use Rattle.olr_spec.specs.Footprint.{Foot}
 use Rattle.olr_commands.specs.State.{Named, Content, same_name, Change, On_map, Add_path, Set_path, next, State, Command, changes_made}
 

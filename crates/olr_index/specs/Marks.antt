@@ -2,7 +2,7 @@
 --     marks_of i n      the marks of a number, rising
 --     holds i n m      whether the number has the mark
 use Rattle.std.specs.Prelude.{ℕ, Bool, List}
-use Rattle.olr_spec.specs.Extension.{has}
+use Rattle.olr_spec.specs.Map.{has}
 use Rattle.olr_index.specs.Listed.{marks_in}
 use Rattle.olr_index.specs.declared.Index.{Index}
 

@@ -3,7 +3,7 @@
 
 ghost use Rattle.std.specs.Prelude.{◌≡◌, ◌||◌, ◌==◌, ◌&&◌, not, ℕ, OnOk, OnErr};
 ghost use Rattle.std.specs.List.Sorted.{IsStrictlyIncreasing};
-ghost use Rattle.olr_spec.specs.Extension.{has};
+ghost use Rattle.olr_spec.specs.Map.{has};
 ghost use Rattle.olr_index.specs.Listed.{marks_in};
 
 use std::alloc::{AllocError, Global};
@@ -20,7 +20,7 @@ pub struct Index {
 impl Index {
     ghost use Rattle.std.specs.Prelude.{◌≡◌, ◌||◌, ◌==◌, ◌&&◌, not, ℕ, [], IsTrue, OnOk, OnErr};
     ghost use Rattle.std.specs.List.Sorted.{IsStrictlyIncreasing};
-    ghost use Rattle.olr_spec.specs.Extension.{has};
+    ghost use Rattle.olr_spec.specs.Map.{has};
     ghost use Rattle.olr_index.specs.Marks.{marks_of, holds};
 
     /// No number has a mark. Takes no memory.

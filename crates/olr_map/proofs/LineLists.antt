@@ -4,8 +4,7 @@ use Rattle.std.specs.List.Sorted.{IsStrictlyIncreasing}
 use Rattle.std.specs.FinMap as finmap
 use Rattle.std.specs.FinMap.{get}
 use Rattle.std.proofs.lemmas.Bool.{eqb-true, false_from_ne_true, or_parts}
-use Rattle.olr_spec.specs.Map.{Map, IsMap, Line, has_node, has_line, lines_where, lines_in, lines_out, in_use}
-use Rattle.olr_spec.specs.Extension.{has}
+use Rattle.olr_spec.specs.Map.{Map, IsMap, Line, has_node, has_line, lines_where, lines_in, lines_out, in_use, has}
 use Rattle.olr_spec.proofs.MapLemmas.{has-lines_where, passes_at}
 use Rattle.olr_spec.proofs.OrderLemmas.{rise_in, rise_out}
 use Rattle.olr_map.proofs.Looks.{got_insert, got_remove}

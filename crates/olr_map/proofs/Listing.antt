@@ -8,8 +8,7 @@ use Rattle.std.specs.Ordering.{nat_cmp}
 use Rattle.std.proofs.lemmas.Bool.{eq-eqb, ne_eqb, or_left, or_right}
 use Rattle.std.proofs.lemmas.Map.Keys.{IsDistinct-head, IsDistinct-tail}
 use Rattle.olr_spec.specs.Coordinates.{Coord}
-use Rattle.olr_spec.specs.Map.{Map, Line, has_line, line_at, no_line}
-use Rattle.olr_spec.specs.Extension.{has}
+use Rattle.olr_spec.specs.Map.{Map, Line, has_line, line_at, no_line, has}
 use Rattle.olr_spec.proofs.MapLemmas.{has-lines_where, passes_at}
 use Rattle.olr_spec.proofs.OrderLemmas.{rise_in, rise_out}
 use Rattle.olr_map.specs.Kept.{near, far, lines_at, end_at, IsListed}

@@ -7,8 +7,7 @@ use Rattle.std.specs.Ordering.{nat_cmp}
 use Rattle.std.proofs.lemmas.Bool.{eqb-true}
 use Rattle.std.proofs.lemmas.List.{nil_from_length}
 use Rattle.olr_spec.specs.Coordinates.{Coord, is_coord}
-use Rattle.olr_spec.specs.Map.{Map, IsMap, Line, has_node, line_at, no_place, in_use, edited, Add_node, Move_node, Drop_node}
-use Rattle.olr_spec.specs.Extension.{has}
+use Rattle.olr_spec.specs.Map.{Map, IsMap, Line, has_node, line_at, no_place, in_use, edited, Add_node, Move_node, Drop_node, has}
 use Rattle.olr_spec.proofs.EditLemmas.{edits_keep}
 use Rattle.olr_spec.proofs.MapLemmas.{has-lines_where, passes_at}
 use Rattle.olr_map.specs.ByNumbers.{found, spare_of}

@@ -6,8 +6,7 @@ use Rattle.std.specs.FinMap.{get, insert, remove, entries, get-entries}
 use Rattle.std.specs.FinMap.Entries.{find}
 use Rattle.std.proofs.lemmas.Bool.{eq-eqb, ne_eqb, or_left, or_right, or_from, and_from, and_parts, not-false, not_from_true, false_from_ne_true}
 use Rattle.olr_spec.specs.Coordinates.{Coord}
-use Rattle.olr_spec.specs.Map.{Map, IsMap, Line, is_good, are_coords, has_node, has_line, line_at, no_line, start, end, in_use, unless, MapFault, edited, Add_node, Move_node, Drop_node, Add_line, Set_line, Drop_line, Node_exists, No_node, Line_exists, No_line, Node_in_use, Bad_shape}
-use Rattle.olr_spec.specs.Extension.{has}
+use Rattle.olr_spec.specs.Map.{Map, IsMap, Line, is_good, are_coords, has_node, has_line, line_at, no_line, start, end, in_use, unless, MapFault, edited, Add_node, Move_node, Drop_node, Add_line, Set_line, Drop_line, Node_exists, No_node, Line_exists, No_line, Node_in_use, Bad_shape, has}
 use Rattle.olr_spec.proofs.MapLemmas.{has-lines_where, passes_at}
 use Rattle.olr_map.proofs.Looks.{got_insert, got_remove, remove-insert, insert-remove, insert-insert}
 

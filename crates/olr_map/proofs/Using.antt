@@ -4,8 +4,7 @@ use Rattle.std.specs.FinMap.{get, remove}
 use Rattle.std.specs.Result.{MatchResult}
 use Rattle.std.proofs.lemmas.Bool.{eq-eqb, or_left, or_right, or_from, false_from_ne_true, not_from_true}
 use Rattle.std.proofs.lemmas.List.{nil_from_length}
-use Rattle.olr_spec.specs.Map.{Map, Line, lines_where, lines_in, lines_out, in_use, has_node, unless, edited, MapFault, No_node, Node_in_use, Drop_node}
-use Rattle.olr_spec.specs.Extension.{has}
+use Rattle.olr_spec.specs.Map.{Map, Line, lines_where, lines_in, lines_out, in_use, has_node, unless, edited, MapFault, No_node, Node_in_use, Drop_node, has}
 use Rattle.olr_spec.proofs.MapLemmas.{has-lines_where, passes_at}
 use Rattle.olr_map.specs.Edits.{edit_fault_of}
 use Rattle.olr_map.specs.declared.edit.EditFault.{EditFault}

@@ -3,8 +3,7 @@ use Rattle.std.proofs.Common.{◌≡◌, ◌==◌, ◌||◌, ℕ, true, false, L
 use Rattle.std.specs.Option.{option_to_list}
 use Rattle.std.proofs.lemmas.Bool.{eqb-true, eq-eqb, or_left}
 use Rattle.olr_spec.specs.Map as maps
-use Rattle.olr_spec.specs.Map.{Map, MapFault, Node_exists, No_node, Line_exists, No_line, Node_in_use, Bad_shape, has_node, start, end, edited, touched_nodes}
-use Rattle.olr_spec.specs.Extension.{has}
+use Rattle.olr_spec.specs.Map.{Map, MapFault, Node_exists, No_node, Line_exists, No_line, Node_in_use, Bad_shape, has_node, start, end, edited, touched_nodes, has}
 use Rattle.olr_spec.specs.Detours.{ChangedLine, changes_of}
 use Rattle.olr_map.specs.ByNumbers.{found}
 use Rattle.olr_map.specs.Kept.{place_in}

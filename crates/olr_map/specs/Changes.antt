@@ -8,8 +8,7 @@ use Rattle.std.specs.Prelude.{◌≡◌, ◌==◌, ℕ, ◌+◌, ◌-◌, ◌<�
 use Rattle.std.specs.Option.{option_map_or}
 use Rattle.std.specs.Result.{result_unwrap_or}
 use Rattle.olr_spec.specs.Map as map
-use Rattle.olr_spec.specs.Map.{Map, start, end, edited}
-use Rattle.olr_spec.specs.Laws.{HasPlace}
+use Rattle.olr_spec.specs.Map.{Map, start, end, edited, HasPlace}
 use Rattle.olr_map.specs.ByNumbers.{spare_of}
 use Rattle.olr_map.specs.Numbering.{all_held, spare_numbers}
 use Rattle.olr_map.specs.Linked.{lines_kept, places_kept, spare_links}

@@ -5,10 +5,8 @@
 use Rattle.std.specs.Prelude.{◌≡◌, ◌==◌, ◌||◌, ℕ, List, map, Some, IsTrue, IsOk, ⊤}
 use Rattle.std.specs.Option.{option_to_list}
 use Rattle.olr_spec.specs.Map as maps
-use Rattle.olr_spec.specs.Map.{Map, has_node, start, end, edited, touched_nodes, touched_lines}
-use Rattle.olr_spec.specs.Extension.{has}
+use Rattle.olr_spec.specs.Map.{Map, has_node, start, end, edited, touched_nodes, touched_lines, has, HasPlace}
 use Rattle.olr_spec.specs.Detours.{ChangedLine, changes_of}
-use Rattle.olr_spec.specs.Laws.{HasPlace}
 use Rattle.olr_map.specs.ByNumbers.{found}
 use Rattle.olr_map.specs.declared.by_number.ByNumber.{ByNumber}
 use Rattle.olr_map.specs.declared.judging.Judged.{Judged}

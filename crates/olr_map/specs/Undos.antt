@@ -8,8 +8,7 @@ use Rattle.std.specs.Prelude.{ℕ, List, [], ◌∷◌, reverse, ⊤}
 use Rattle.std.specs.Coded.{×_prop, Unit-prop, le_prop, coded_ℕ, coded_list, Coded-set}
 use Rattle.std.proofs.Props.{props}
 use Rattle.olr_spec.specs.Map as map
-use Rattle.olr_spec.specs.Map.{Map}
-use Rattle.olr_spec.specs.Laws.{HasPlace}
+use Rattle.olr_spec.specs.Map.{Map, HasPlace}
 use Rattle.olr_map.specs.Changes.{Room, CanMake, HasRoomFor, HasNumbers, IsWhole, change_edit, map_after, node_puts, line_puts, room_after, room_of, tables_map}
 use Rattle.olr_map.specs.declared.change.Change.{Change}
 use Rattle.olr_map.specs.declared.change.Change.TheVariants.{PutNode, MoveNode, TakeNode, PutLine, SetLine, TakeLine}

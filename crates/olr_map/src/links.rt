@@ -1,7 +1,7 @@
 //! The lines that leave a node, or those that enter it, each with its far end.
 ghost use Rattle.std.specs.Prelude.{◌≡◌, ◌+◌, ◌<◌, ◌≤◌, ℕ, [], length, insert, remove, set, slice_index, OnOk, IsTrue, IsFalse};
 ghost use Rattle.std.specs.List.Sorted.{IsStrictlyIncreasing};
-ghost use Rattle.olr_spec.specs.Extension.{has};
+ghost use Rattle.olr_spec.specs.Map.{has};
 
 use crate::few::{FEW, Few};
 use crate::ids::LineId;

@@ -50,7 +50,7 @@ impl NodeSlots {
     ghost use Rattle.olr_map.specs.Columns.{node_slots, node_room};
     ghost use Rattle.olr_map.specs.NodeLinks.{links_at, relinked};
     ghost use Rattle.olr_map.specs.Linked.{lines_on, ends_on, spare_links, IsLinked, IsUnlinked, IsReset};
-    ghost use Rattle.olr_spec.specs.Extension.{has};
+    ghost use Rattle.olr_spec.specs.Map.{has};
     ghost use Rattle.olr_map.specs.declared.links.Links.{Links as AllLinks};
     ghost use Rattle.olr_map.specs.declared.slots.NodeEntry.{NodeEntry as Entry};
 

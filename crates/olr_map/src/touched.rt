@@ -1,8 +1,7 @@
 //! What an edit touches: the ends of its line, or its node, and the number of its line.
 ghost use Rattle.std.specs.Prelude.{◌≡◌, ◌==◌, ◌||◌, ℕ, Err, IfSome, IfNone};
 ghost use Rattle.std.specs.Option.{option_to_list};
-ghost use Rattle.olr_spec.specs.Map.{edited, touched_nodes, touched_lines, No_line};
-ghost use Rattle.olr_spec.specs.Extension.{has};
+ghost use Rattle.olr_spec.specs.Map.{edited, touched_nodes, touched_lines, No_line, has};
 ghost use Rattle.olr_map.specs.Edits.{edit_of};
 
 use crate::edit::Edit;

@@ -13,9 +13,9 @@ use Rattle.std.proofs.lemmas.List.Sums.{sum_by-le}
 use Rattle.std.proofs.lemmas.Map.Entries.{sum_by_puts_entry, length-values_of}
 use Rattle.std.proofs.lemmas.Map.Steps.{length-le_from_distinct_below}
 use Rattle.std.proofs.lemmas.Map.Views.{Contains-from_any, IsSome-lookup_from_Contains}
-use Rattle.olr_spec.specs.Map.{Map, has_line, start, end, dm, lines_out, SameLine, SameRound}
+use Rattle.olr_spec.specs.Map.{Map, has_line, start, end, dm, lines_out, SameLine, SameRound, has}
 use Rattle.olr_spec.specs.Walks.{Walk, dm_of}
-use Rattle.olr_spec.specs.Extension.{has, limit}
+use Rattle.olr_spec.specs.Extension.{limit}
 use Rattle.olr_spec.specs.Detours.{Near}
 use Rattle.olr_spec.proofs.AgreeLemmas.{turned_round, by_leaving, same_known, same_start, same_end, same_dm}
 use Rattle.olr_map.specs.Ends.{end_out, ends_out}

@@ -15,8 +15,8 @@ use Rattle.std.specs.declared.hash.BuildHasherDefault.{BuildHasherDefault}
 use Rattle.std.specs.declared.cmp.Reverse.{Reverse}
 use Rattle.std.specs.HashMap.{HashMap, get, values, hash_map_len}
 use Rattle.std.specs.BinaryHeap.{heap_items, heap_len}
-use Rattle.olr_spec.specs.Map.{Map, has_line, start, end, dm, SameRound}
-use Rattle.olr_spec.specs.Extension.{has, limit}
+use Rattle.olr_spec.specs.Map.{Map, has_line, start, end, dm, SameRound, has}
+use Rattle.olr_spec.specs.Extension.{limit}
 use Rattle.olr_map.specs.declared.number_hash.NumberHasher.{NumberHasher}
 use Rattle.olr_near.specs.declared.nearness.Nearness.{Nearness}
 

@@ -27,8 +27,8 @@ pub struct Nearness {
 
 impl Nearness {
     ghost use Rattle.std.specs.Prelude.{◌≡◌, ◌≤◌, ◌↔◌, ℕ, None, Some, IsTrue, IsFalse, OnOk, OnErr};
-    ghost use Rattle.olr_spec.specs.Map.{Map};
-    ghost use Rattle.olr_spec.specs.Extension.{has, limit};
+    ghost use Rattle.olr_spec.specs.Map.{Map, has};
+    ghost use Rattle.olr_spec.specs.Extension.{limit};
     ghost use Rattle.olr_spec.specs.Detours.{Near};
     ghost use Rattle.olr_near.specs.Numbers.{number_of, numbers_len, IsSource, IsRight, IsUnderWay, SameBut, Within, ClosedAt, Moves, IsPaid, IsReopened};
 

@@ -5,9 +5,8 @@ use Rattle.std.proofs.lemmas.Bool.{cases_Bool, cases_lt, or_left, eq-eqb, eqb-tr
 use Rattle.std.proofs.lemmas.List.{take_all}
 use Rattle.std.proofs.lemmas.List.Elements.{All-contains}
 use Rattle.std.proofs.lemmas.Option.{slice_get_within}
-use Rattle.olr_spec.specs.Map.{Map, IsMap}
+use Rattle.olr_spec.specs.Map.{Map, IsMap, has}
 use Rattle.olr_spec.specs.Detours.{ChangedLine}
-use Rattle.olr_spec.specs.Extension.{has}
 use Rattle.olr_index.specs.Marks.{holds, marks_of}
 use Rattle.olr_index.specs.declared.Index.{Index}
 use Rattle.olr_paths.specs.Items.{Item}

@@ -2,8 +2,8 @@
 use Rattle.std.proofs.Common.{inl, inr, ◌≡◌, ℕ, ◌≤◌, List, All, Contains, Some, IsTrue, true, false, subst, arith, get_or}
 use Rattle.std.proofs.lemmas.Bool.{cases_Bool}
 use Rattle.std.proofs.lemmas.List.Elements.{Contains-get_or}
-use Rattle.olr_spec.specs.Map.{Map, IsMap}
-use Rattle.olr_spec.specs.Extension.{Path, has, is_path, limit}
+use Rattle.olr_spec.specs.Map.{Map, IsMap, has}
+use Rattle.olr_spec.specs.Extension.{Path, is_path, limit}
 use Rattle.olr_spec.specs.Footprint.{Foot}
 use Rattle.olr_spec.specs.Detours.{ChangedLine, Difference}
 use Rattle.olr_spec.specs.Looks.{Look, IsClear, LooksOf, OwnOf}

@@ -15,7 +15,7 @@ use Rattle.std.proofs.lemmas.List.Edits.{length-remove}
 use Rattle.std.proofs.lemmas.Option.{get_or_from_slice_get}
 use Rattle.std.proofs.lemmas.List.Quantifiers.{position-Some}
 use Rattle.olr_spec.specs.Looks.{Look}
-use Rattle.olr_spec.specs.Extension.{has}
+use Rattle.olr_spec.specs.Map.{has}
 use Rattle.olr_index.proofs.Rising.{rises, place_of, has_at, place_not, rises-remove, has-remove}
 use Rattle.olr_paths.specs.Finding.{IsNoted, NamedNoted, AreNoted, AreAll, Grows, Spares}
 use Rattle.olr_paths.specs.Items.{Item}

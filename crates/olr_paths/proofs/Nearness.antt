@@ -1,9 +1,9 @@
 -- What distances tell: of touched nodes that are near, and of detours.
 use Rattle.std.proofs.Common.{◌≡◌, ℕ, zero, suc, ◌+◌, ◌<◌, ◌≤◌, true, List, [], ◌∷◌, map, Contains, IsTrue, ◌↔◌, Option, Some, None, is_some, refl, sym, ap, subst, arith, ⊎_elim}
 use Rattle.std.proofs.lemmas.Bool.{cases_lt}
-use Rattle.olr_spec.specs.Map.{Map, IsMap, has_node, end}
+use Rattle.olr_spec.specs.Map.{Map, IsMap, has_node, end, has}
 use Rattle.olr_spec.specs.Walks.{Walk, dm_of}
-use Rattle.olr_spec.specs.Extension.{has, limit}
+use Rattle.olr_spec.specs.Extension.{limit}
 use Rattle.olr_spec.specs.Detours.{ChangedLine, Detour, Near}
 use Rattle.olr_route.specs.Distances.{Leads, IsDistance}
 use Rattle.olr_route.specs.declared.distances.Direction.{Direction}

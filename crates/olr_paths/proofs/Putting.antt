@@ -7,7 +7,7 @@ use Rattle.std.proofs.Math.Bool.{or_comm}
 use Rattle.std.proofs.lemmas.Bool.{cases_Bool, eqb-true, or_left}
 use Rattle.std.proofs.lemmas.List.{get_or_default}
 use Rattle.std.proofs.lemmas.List.Sorted.{IsPermutation-insert}
-use Rattle.olr_spec.specs.Extension.{has}
+use Rattle.olr_spec.specs.Map.{has}
 use Rattle.olr_map.proofs.Rising.{rises, place_of, insert_rises}
 use Rattle.olr_refs.proofs.Sets.{found, same_members}
 

@@ -7,7 +7,7 @@ use Rattle.std.specs.declared.alloc.Global.{Global}
 use Rattle.std.specs.declared.rc.Rc.{Rc}
 use Rattle.std.proofs.lemmas.List.Elements.{All-contains, Contains-get_or, Contains-push, Contains-append_left}
 use Rattle.std.proofs.lemmas.Option.{slice_get_read}
-use Rattle.olr_spec.specs.Extension.{has}
+use Rattle.olr_spec.specs.Map.{has}
 use Rattle.olr_spec.specs.Looks.{Look}
 use Rattle.olr_index.specs.Marks.{holds, marks_of}
 use Rattle.olr_paths.specs.Searching.{LacksLooks, LackLooks}

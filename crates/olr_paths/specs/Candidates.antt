@@ -4,8 +4,7 @@
 --     Covers N T X is found      a path whose position isn't found is not concerned
 --     CoversAsked N place t s is found      the same of those of which it was asked.        FindsChanged cs is found      a path whose position isn't found is not changed
 use Rattle.std.specs.Prelude.{◌≡◌, ℕ, ◌<◌, List, All, Some, None, IfSome, false, length, get_or, slice_get, IsTrue}
-use Rattle.olr_spec.specs.Map.{Map}
-use Rattle.olr_spec.specs.Extension.{has}
+use Rattle.olr_spec.specs.Map.{Map, has}
 use Rattle.olr_index.specs.Marks.{holds}
 use Rattle.olr_index.specs.declared.Index.{Index}
 use Rattle.olr_paths.specs.Items.{Item}

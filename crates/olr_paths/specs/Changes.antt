@@ -8,8 +8,8 @@
 --     Follows before is      each path that was encoded has the answer that its name had before
 use Rattle.std.specs.Prelude.{◌≡◌, ◌≢◌, ℕ, List, [], ◌∷◌, Contains, Option, Some, None, option_map, ◌⊎◌, IsTrue, ⊤, if◌then◌else◌}
 use Rattle.std.specs.List.{AllByRecursion}
-use Rattle.olr_spec.specs.Map.{Map, IsMap}
-use Rattle.olr_spec.specs.Extension.{Path, has, is_path, limit}
+use Rattle.olr_spec.specs.Map.{Map, IsMap, has}
+use Rattle.olr_spec.specs.Extension.{Path, is_path, limit}
 use Rattle.olr_spec.specs.Encoding.{Answer}
 use Rattle.olr_spec.specs.Footprint.{Foot}
 use Rattle.olr_spec.specs.Detours.{ChangedLine, Difference, Near}

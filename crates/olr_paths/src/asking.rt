@@ -1,7 +1,8 @@
 //! Which paths edits of the map concern.
 ghost use Rattle.std.specs.Prelude.{◌≡◌, ◌↔◌, ℕ, Contains, IsTrue, IfOk, OnOk};
 ghost use Rattle.std.specs.List.{list_any};
-ghost use Rattle.olr_spec.specs.Extension.{has, limit};
+ghost use Rattle.olr_spec.specs.Map.{has};
+ghost use Rattle.olr_spec.specs.Extension.{limit};
 ghost use Rattle.olr_spec.specs.Detours.{Near};
 ghost use Rattle.olr_route.specs.Searches.{IsSearch, limit_of};
 ghost use Rattle.olr_route.specs.declared.distances.Direction.TheVariants.{Against};

@@ -10,6 +10,7 @@ pub mod encoding;
 pub mod entries;
 pub mod finder;
 pub mod giving;
+pub mod iter;
 pub mod laid;
 pub mod listing;
 pub mod overlay;
@@ -17,8 +18,6 @@ pub mod published;
 pub mod renewal;
 pub mod searches;
 pub mod showing;
-#[cfg(test)]
-mod tests;
 pub mod touched;
 
 pub use iter::Iter;

@@ -1,7 +1,7 @@
 //! What changes of a map touched.
 ghost use Rattle.std.specs.Prelude.{◌≡◌, ◌==◌, ◌||◌, ◌+◌, ◌≤◌, ℕ, vec_len, vec_capacity};
 ghost use Rattle.std.specs.List.Sorted.{IsStrictlyIncreasing};
-ghost use Rattle.olr_spec.specs.Extension.{has};
+ghost use Rattle.olr_spec.specs.Map.{has};
 
 use olr_map::{LineId, NodeId};
 use std::alloc::{AllocError, Global};
@@ -31,7 +31,7 @@ pub struct Touched {
 impl Touched {
     ghost use Rattle.std.specs.Prelude.{◌≡◌, ◌==◌, ◌||◌, ◌++◌, ℕ, [], map, OnOk};
     ghost use Rattle.std.specs.Option.{option_to_list};
-    ghost use Rattle.olr_spec.specs.Extension.{has};
+    ghost use Rattle.olr_spec.specs.Map.{has};
     ghost use Rattle.olr_paths.specs.Touching.{nodes_of, lines_of, change_of, changed_of, HasRoom};
 
     /// Nothing touched. Takes no memory.

@@ -5,8 +5,7 @@ use Rattle.std.specs.List.{AllByRecursion}
 use Rattle.std.proofs.lemmas.Bool.{and_from}
 use Rattle.olr_spec.specs.Coordinates.{Coord, is_coord, is_longitude, is_latitude}
 use Rattle.olr_spec.specs.Degrees.{degrees}
-use Rattle.olr_spec.specs.Laws.{HasPlace}
-use Rattle.olr_spec.specs.Map.{ShapePoint, Line, are_coords, Edit, Add_node, Move_node, Drop_node, Add_line, Set_line, Drop_line}
+use Rattle.olr_spec.specs.Map.{ShapePoint, Line, are_coords, Edit, Add_node, Move_node, Drop_node, Add_line, Set_line, Drop_line, HasPlace}
 use Rattle.olr_spec.specs.Extension.{Path}
 use Rattle.olr_commands.specs.State.{same_name, Change, Add_path, Set_path, Drop_path, Command, Make, Show, Report, Explain, Begin, Commit, Abort, HasPlaces}
 use Rattle.olr_records.specs.Records.{Field, Read, ◌⊛◌, bounded, digits, number, amount, class, coordinate, longitude, latitude, place, name, point, shape, node_fields, edit, one, none, node_record, line, course, whole_line, line_record, set_line_record, path_fields, path_record, forms, read_by, read}

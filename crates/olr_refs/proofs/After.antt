@@ -2,9 +2,9 @@
 use Rattle.std.proofs.Common.{◌⊎◌, inl, inr, ◌≡◌, ◌≢◌, ℕ, ◌+◌, ◌<◌, ◌≤◌, true, false, ◌==◌, List, [], ◌∷◌, ◌++◌, length, get_or, ◌-◌, suc, IsTrue, refl, sym, ap, ◌∙◌, subst, arith, append_assoc, append-nil, length-append}
 use Rattle.std.proofs.lemmas.Bool.{both_ways, cases_Bool, cases_lt, or_from, or_left}
 use Rattle.std.proofs.lemmas.List.Folds.{list_any-append}
-use Rattle.olr_spec.specs.Map.{Map, has_line, start, end, dm}
+use Rattle.olr_spec.specs.Map.{Map, has_line, start, end, dm, has}
 use Rattle.olr_spec.specs.Walks.{dm_of}
-use Rattle.olr_spec.specs.Extension.{has, last, passing, limit, MayPrecede, MayFollow, EndChain, LongestEnd}
+use Rattle.olr_spec.specs.Extension.{last, passing, limit, MayPrecede, MayFollow, EndChain, LongestEnd}
 use Rattle.olr_spec.proofs.ChainLemmas.{same_start_chain, same_end_chain, EndChain-front, end_prefix, last_push}
 use Rattle.olr_spec.proofs.ChainMoves.{EndChain-push}
 use Rattle.olr_spec.proofs.DecideLemmas.{last_of_list}

@@ -3,9 +3,9 @@
 use Rattle.std.proofs.Common.{false, ◌⊎◌, inl, inr, ◌≡◌, ◌≢◌, ℕ, ◌+◌, ◌<◌, ◌≤◌, true, ◌==◌, List, [], ◌∷◌, ◌++◌, length, get_or, IsTrue, refl, sym, ap, ◌∙◌, subst, arith, append_assoc, length-append}
 use Rattle.std.proofs.lemmas.Bool.{both_ways, cases_Bool, cases_lt, ne_eqb, or_from, or_right}
 use Rattle.std.proofs.lemmas.List.Folds.{list_any-append}
-use Rattle.olr_spec.specs.Map.{Map, has_line, start, end, dm}
+use Rattle.olr_spec.specs.Map.{Map, has_line, start, end, dm, has}
 use Rattle.olr_spec.specs.Walks.{dm_of}
-use Rattle.olr_spec.specs.Extension.{has, first, passing, limit, MayPrecede, MayFollow, StartChain, LongestStart}
+use Rattle.olr_spec.specs.Extension.{first, passing, limit, MayPrecede, MayFollow, StartChain, LongestStart}
 use Rattle.olr_spec.proofs.ChainLemmas.{same_start_chain, same_end_chain, StartChain-back, start_suffix, first_known}
 use Rattle.olr_spec.proofs.DecideLemmas.{last_of_list}
 use Rattle.olr_spec.proofs.ListLemmas.{has_first, has_there, has_cases}

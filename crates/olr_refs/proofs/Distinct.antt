@@ -7,7 +7,8 @@ use Rattle.std.proofs.lemmas.Bool.{both_ways, and_parts, and_from, or_parts, or_
 use Rattle.std.proofs.lemmas.List.Kept.{AllPairs-from_increasing}
 use Rattle.std.proofs.lemmas.List.Sorted.{IsPermutation-sym, IsNonDecreasingBy-from_sort}
 use Rattle.std.proofs.lemmas.Map.Keys.{IsDistinct-head, IsDistinct-tail, IsDistinct-cons, IsDistinct-IsPermutation, IsDistinct-from_apart, apart_from_distinct}
-use Rattle.olr_spec.specs.Extension.{has, none_twice}
+use Rattle.olr_spec.specs.Map.{has}
+use Rattle.olr_spec.specs.Extension.{none_twice}
 
 eqb_flips : (x y : ℕ) → eqb x y ≡ eqb y x
 eqb_flips x y = elim (cases_Bool (eqb y x)) [ inl e ↦ eq-eqb x y (cc (eqb-true y x e)) ∙ cc | inr e ↦ ne_eqb x y (λ is. both_ways (eqb y x) e (eq-eqb y x (cc is))) ∙ cc ]

@@ -1,8 +1,8 @@
 //! Chains of lines through passing nodes, which move the ends of a path out to valid nodes.
 ghost use Rattle.std.specs.Prelude.{◌≡◌, ◌<◌, ◌≤◌, ◌+◌, ◌⊎◌, ℕ, IsTrue, IsFalse, not, if◌then◌else◌, IfOk, IfSome, IfNone, MatchOption, length, [], ◌∷◌, ◌++◌};
-ghost use Rattle.olr_spec.specs.Map.{has_line, start, end, dm};
+ghost use Rattle.olr_spec.specs.Map.{has_line, start, end, dm, has};
 ghost use Rattle.olr_spec.specs.Walks.{dm_of};
-ghost use Rattle.olr_spec.specs.Extension.{has, passing, first, last, limit, MayPrecede, MayFollow, LongestStart, LongestEnd};
+ghost use Rattle.olr_spec.specs.Extension.{passing, first, last, limit, MayPrecede, MayFollow, LongestStart, LongestEnd};
 
 use crate::line_set::LineSet;
 use crate::lines::{end_of, ends_of, len_of, start_of};

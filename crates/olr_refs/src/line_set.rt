@@ -1,6 +1,6 @@
 //! The lines of a list, for look-ups.
 ghost use Rattle.std.specs.Prelude.{◌≡◌, ℕ, IfOk};
-ghost use Rattle.olr_spec.specs.Extension.{has};
+ghost use Rattle.olr_spec.specs.Map.{has};
 
 use olr_map::LineId;
 use std::alloc::{AllocError, Global};

@@ -1,8 +1,7 @@
 -- Opening a batch, its two ends and the changes between, as the register's parts have them.
 use Rattle.std.proofs.Common.{◌≡◌, ℕ, arith, true, false, List, [], ◌∷◌, map, Option, Some, None, is_some, Result, Ok, Err, refl, sym, ap, ◌∙◌, subst}
 use Rattle.std.specs.Prelude.{is_none}
-use Rattle.olr_spec.specs.Map.{Map, IsMap}
-use Rattle.olr_spec.specs.Extension.{has}
+use Rattle.olr_spec.specs.Map.{Map, IsMap, has}
 use Rattle.olr_map.specs.Changes.{room_of, all_node_puts, all_line_puts}
 use Rattle.olr_map.specs.Undos.{CanMakeAll, made_all, changes_of}
 use Rattle.olr_map.specs.RoadMaps.{map_of, map_before}

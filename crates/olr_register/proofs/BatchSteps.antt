@@ -3,7 +3,7 @@ use Rattle.std.proofs.Common.{◌≡◌, ℕ, suc, arith, Bool, true, false, not
 use Rattle.std.specs.Prelude.{◌==◌, ◌&&◌, ◌||◌, nat_le, flat_map}
 use Rattle.std.proofs.lemmas.List.{append-nil}
 use Rattle.std.proofs.lemmas.List.Folds.{list_any-append}
-use Rattle.olr_spec.specs.Extension.{has}
+use Rattle.olr_spec.specs.Map.{has}
 use Rattle.olr_commands.specs.State.{Content, Fault, Batch_full, full, when, Change, On_map, Add_path, Set_path, Drop_path, with_change, next, after, State, Make, into_batch, step, changes_made}
 use Rattle.olr_commands.specs.Reply as replies
 use Rattle.olr_commands.specs.Reply.{IsRefusal, IsOutcome, IsChangeReply, takes_memory, may_want, may_lack, is_told_first}

@@ -3,8 +3,8 @@ use Rattle.std.proofs.Common.{inl, inr, ◌⊎◌, ◌≡◌, ℕ, ◌+◌, arit
 use Rattle.std.specs.Prelude.{◌||◌, nat_le}
 use Rattle.std.proofs.Math.Bool.{or-false}
 use Rattle.std.proofs.lemmas.Bool.{leb-false}
-use Rattle.olr_spec.specs.Map.{Map}
-use Rattle.olr_spec.specs.Extension.{Path, has, is_path}
+use Rattle.olr_spec.specs.Map.{Map, has}
+use Rattle.olr_spec.specs.Extension.{Path, is_path}
 use Rattle.olr_map.specs.RoadMaps.{map_of, map_before}
 use Rattle.olr_map.specs.declared.road_map.RoadMap.{RoadMap}
 use Rattle.olr_commands.specs.State.{Named, Content, path_named, same_name, with_path, Fault, Memory, Batch_full, Path_exists, No_path, Bad_path, full, when, Change, Add_path, Set_path, Drop_path, with_change, Make, HasPlaces, IsContent}

@@ -2,10 +2,8 @@
 use Rattle.std.proofs.Common.{◌≡◌, ℕ, ◌+◌, arith, Bool, false, List, ◌++◌, Result, Ok, Err, sym, ap, ◌∙◌, subst}
 use Rattle.std.specs.Prelude.{◌||◌, nat_le}
 use Rattle.std.proofs.lemmas.Bool.{leb-false}
-use Rattle.olr_spec.specs.Map.{Map, IsMap, Edit, MapFault, edited, touched_nodes, touched_lines}
-use Rattle.olr_spec.specs.Extension.{has}
+use Rattle.olr_spec.specs.Map.{Map, IsMap, Edit, MapFault, edited, touched_nodes, touched_lines, has, HasPlace}
 use Rattle.olr_spec.specs.Detours.{ChangedLine, changes_of}
-use Rattle.olr_spec.specs.Laws.{HasPlace}
 use Rattle.olr_spec.proofs.EditLemmas.{edits_keep}
 use Rattle.olr_map.specs.RoadMaps.{map_of, map_before, CanUndoAll}
 use Rattle.olr_map.specs.declared.road_map.RoadMap.{RoadMap}

@@ -5,8 +5,8 @@ use Rattle.std.specs.List.{AllByRecursion}
 use Rattle.std.proofs.lemmas.Bool.{or_left, or_right}
 use Rattle.std.proofs.lemmas.List.Elements.{Contains-append_cases}
 use Rattle.std.proofs.lemmas.List.Folds.{list_any-append}
-use Rattle.olr_spec.specs.Map.{Map, IsMap, Edit, Add_node, Move_node, Drop_node, Add_line, Set_line, Drop_line, edited, start, end, touched_nodes, touched_lines}
-use Rattle.olr_spec.specs.Extension.{has, is_path}
+use Rattle.olr_spec.specs.Map.{Map, IsMap, Edit, Add_node, Move_node, Drop_node, Add_line, Set_line, Drop_line, edited, start, end, touched_nodes, touched_lines, has}
+use Rattle.olr_spec.specs.Extension.{is_path}
 use Rattle.olr_spec.specs.Detours.{ChangedLine, changes_of}
 use Rattle.olr_spec.proofs.ListLemmas.{has_here}
 use Rattle.olr_spec.proofs.LookLists.{Contains-cases}

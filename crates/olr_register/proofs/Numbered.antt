@@ -1,7 +1,7 @@
 -- The numbers of nodes that a register keeps: right on its map, with a source where each look of its list begins.
 use Rattle.std.proofs.Common.{inl, inr, ◌≡◌, ℕ, ◌⊎◌, false, List, [], ◌∷◌, ◌++◌, map, Contains, Option, Some, None, is_some, Ok, IsFalse, sym, ap, ◌∙◌, subst}
-use Rattle.olr_spec.specs.Map.{Map, Edit, edited, touched_nodes}
-use Rattle.olr_spec.specs.Extension.{Path, has, limit}
+use Rattle.olr_spec.specs.Map.{Map, Edit, edited, touched_nodes, has}
+use Rattle.olr_spec.specs.Extension.{Path, limit}
 use Rattle.olr_spec.specs.Detours.{Near}
 use Rattle.olr_spec.proofs.ChangeLemmas.{edit_differs}
 use Rattle.olr_map.specs.RoadMaps.{map_of, map_before}

@@ -4,8 +4,8 @@ use Rattle.std.specs.Prelude.{is_none}
 use Rattle.std.proofs.lemmas.Bool.{both_ways}
 use Rattle.olr_route.specs.declared.work.Work.{Work}
 use Rattle.std.specs.List.{AllByRecursion}
-use Rattle.olr_spec.specs.Map.{Map, Edit, touched_nodes, touched_lines}
-use Rattle.olr_spec.specs.Extension.{Path, has}
+use Rattle.olr_spec.specs.Map.{Map, Edit, touched_nodes, touched_lines, has}
+use Rattle.olr_spec.specs.Extension.{Path}
 use Rattle.olr_commands.specs.State.{Named, Content, IsContent, Change, On_map, Add_path, Set_path, Drop_path, with_change, State, Make, at_once, step}
 use Rattle.olr_commands.specs.Counts.{Concerns, By_name, By_node, By_line, CountIs, Raises}
 use Rattle.olr_commands.proofs.CountLemmas.{paths_raise}

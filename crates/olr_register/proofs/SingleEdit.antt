@@ -2,9 +2,7 @@
 use Rattle.std.proofs.Common.{◌≡◌, ℕ, suc, ◌+◌, ◌<◌, ◌≤◌, ◌^◌, Bool, List, [], ◌∷◌, ◌++◌, length, Option, None, Result, Ok, Err, IsOk, refl, sym, ap, ◌∙◌, subst, arith, add-zero}
 use Rattle.std.specs.Prelude.{MatchResult, ◌==◌, ◌||◌}
 use Rattle.std.specs.Option.{option_to_list}
-use Rattle.olr_spec.specs.Map.{Map, Edit, MapFault, edited, touched_nodes, touched_lines}
-use Rattle.olr_spec.specs.Laws.{HasPlace}
-use Rattle.olr_spec.specs.Extension.{has}
+use Rattle.olr_spec.specs.Map.{Map, Edit, MapFault, edited, touched_nodes, touched_lines, has, HasPlace}
 use Rattle.olr_spec.specs.Detours.{ChangedLine, changes_of}
 use Rattle.olr_map.specs.Edits as edits
 use Rattle.olr_map.specs.Judgements.{IsJudged, changes_told}

@@ -2,9 +2,8 @@
 use Rattle.std.proofs.Common.{inl, inr, ◌⊎◌, ◌≡◌, ◌≢◌, ℕ, Bool, true, false, cond, not, List, [], ◌∷◌, ◌++◌, map, filter, Option, Some, None, is_some, Ok, refl, sym, ap, ◌∙◌, subst}
 use Rattle.std.specs.Prelude.{option_map, if◌then◌else◌}
 use Rattle.std.proofs.lemmas.Bool.{cases_Bool}
-use Rattle.olr_spec.specs.Map.{Map, Edit, edited}
+use Rattle.olr_spec.specs.Map.{Map, Edit, edited, HasPlace}
 use Rattle.olr_spec.specs.Extension.{Path}
-use Rattle.olr_spec.specs.Laws.{HasPlace}
 use Rattle.olr_spec.proofs.EditLemmas.{edits_keep}
 use Rattle.olr_spec.specs.Encoding.{Answer}
 use Rattle.olr_commands.specs.State.{Named, same_name, path_named, NamesDiffer, IsContent}

@@ -5,7 +5,7 @@
 use Rattle.std.specs.Prelude.{◌≡◌, ℕ, suc, ◌||◌, ◌++◌, List, Result, Ok, Err, OnOk, OnErr, nat_le, IsFalse}
 use Rattle.std.specs.Result.{IfOk, IfErr}
 use Rattle.std.specs.List.{list_any, AllByRecursion}
-use Rattle.olr_spec.specs.Extension.{has}
+use Rattle.olr_spec.specs.Map.{has}
 use Rattle.olr_commands.specs.State.{Content, Fault, Memory, Batch_full, full, when, Change, with_change, same_name}
 use Rattle.olr_commands.specs.Reply.{is_told_first}
 use Rattle.olr_commands.specs.Reply as replies

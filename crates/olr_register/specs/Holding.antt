@@ -3,8 +3,7 @@
 --     IsHeld, IsRegister      what is true of an open batch, and of map, list and batch
 --     IsNumbered M is near      the numbers are right on the map, and each look of the list begins at a source.        IsWhole      what is true of the whole
 use Rattle.std.specs.Prelude.{ℕ, ◌≤◌, List, map, Contains, Option, Some, None, is_none, IfSome, IsTrue}
-use Rattle.olr_spec.specs.Map.{Map}
-use Rattle.olr_spec.specs.Extension.{has}
+use Rattle.olr_spec.specs.Map.{Map, has}
 use Rattle.olr_spec.specs.Detours.{ChangedLine, Difference}
 use Rattle.olr_map.specs.RoadMaps.{map_of, CanUndoAll, map_before}
 use Rattle.olr_map.specs.declared.road_map.RoadMap.{RoadMap}

@@ -6,8 +6,8 @@ use Rattle.std.specs.Prelude.{◌≡◌, ℕ, Bool, List, map, length, Option, S
 use Rattle.std.specs.List.{list_any, AllByRecursion}
 use Rattle.std.specs.Coded.{Coded, code_by, coded_ℕ, coded_bool, coded_list, coded_option, coded×}
 use Rattle.std.proofs.Common.{refl}
-use Rattle.olr_spec.specs.Map.{Map}
-use Rattle.olr_spec.specs.Extension.{Path, has}
+use Rattle.olr_spec.specs.Map.{Map, has}
+use Rattle.olr_spec.specs.Extension.{Path}
 use Rattle.olr_spec.specs.Codes.{coded_map}
 use Rattle.olr_refs.specs.Coded.{coded_path}
 use Rattle.olr_commands.specs.State.{Named, Content, same_name, Change, after, State}

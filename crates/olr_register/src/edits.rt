@@ -1,7 +1,7 @@
 //! Edits of the map that are made at once, outside of a batch.
 ghost use Rattle.std.specs.Prelude.{◌≡◌, ◌==◌, ◌||◌, ℕ, map as list_map, OnOk};
 ghost use Rattle.std.specs.Option.{option_to_list};
-ghost use Rattle.olr_spec.specs.Extension.{has};
+ghost use Rattle.olr_spec.specs.Map.{has};
 ghost use Rattle.olr_map.specs.Judgements.{changes_told};
 ghost use Rattle.olr_paths.specs.Touching.{nodes_of, lines_of, change_of, changed_of};
 

@@ -3,8 +3,7 @@ use Rattle.std.proofs.Common.{◌≡◌, ℕ, ◌+◌, ◌<◌, List, [], ◌∷
 use Rattle.std.specs.Prelude.{unwrap_or}
 use Rattle.std.specs.FinMap.{get}
 use Rattle.std.proofs.lemmas.Grind.{get_or_default_zero}
-use Rattle.olr_spec.specs.Map.{Map, Line, no_line, has_line, start, end, lines_in, lines_out}
-use Rattle.olr_spec.specs.Extension.{has}
+use Rattle.olr_spec.specs.Map.{Map, Line, no_line, has_line, start, end, lines_in, lines_out, has}
 use Rattle.olr_spec.proofs.ListLemmas.{has_index, has_cases}
 use Rattle.olr_spec.proofs.OrderLemmas.{exactly_in, exactly_out}
 use Rattle.olr_route.proofs.LabelLemmas.{some_of}

@@ -4,8 +4,7 @@ use Rattle.std.proofs.lemmas.Bool.{cases_eq, both_ways, or_parts, ne_eqb}
 use Rattle.std.proofs.lemmas.List.Elements.{Contains-append_left, Contains-append_right}
 use Rattle.std.proofs.lemmas.List.Folds.{list_any-append}
 use Rattle.std.specs.FinMap.{get, insert, remove}
-use Rattle.olr_spec.specs.Map.{Map, Line, has_line, line_at, no_line, start, end, dm, Edit, Add_node, Move_node, Drop_node, Add_line, Set_line, Drop_line, edited, touched_nodes, touched_lines, SameLine, SameRound}
-use Rattle.olr_spec.specs.Extension.{has}
+use Rattle.olr_spec.specs.Map.{Map, Line, has_line, line_at, no_line, start, end, dm, Edit, Add_node, Move_node, Drop_node, Add_line, Set_line, Drop_line, edited, touched_nodes, touched_lines, SameLine, SameRound, has}
 use Rattle.olr_spec.specs.Detours.{ChangedLine, changes_of, IsTold, Tells, Difference}
 use Rattle.olr_spec.proofs.LookLists.{Contains-here}
 use Rattle.olr_spec.proofs.AgreeLemmas.{same_known, same_start, same_end, same_dm}

@@ -5,9 +5,9 @@ use Rattle.std.specs.List.{slice_index}
 use Rattle.std.specs.Prelude.{nat_eq, ◌≢◌}
 use lib.Pointwise.{pointwise, bytes_decides}
 use Rattle.std.specs.FinMap.{get}
-use Rattle.olr_spec.specs.Map.{Map, IsMap, Line, has_line, start, end, dm, place_at, lines_where}
+use Rattle.olr_spec.specs.Map.{Map, IsMap, Line, has_line, start, end, dm, place_at, lines_where, has}
 use Rattle.olr_spec.specs.Walks.{Walk, dm_of, Sole, Route}
-use Rattle.olr_spec.specs.Extension.{Path, is_path, has, first, last, passing, MayPrecede, MayFollow, StartChain, EndChain, LongestStart, LongestEnd, Tried, from_start, taken_start, extended, limit}
+use Rattle.olr_spec.specs.Extension.{Path, is_path, first, last, passing, MayPrecede, MayFollow, StartChain, EndChain, LongestStart, LongestEnd, Tried, from_start, taken_start, extended, limit}
 use Rattle.olr_spec.specs.Points.{node_at, stretch, Covered, fit16, Candidate, ValidCandidate, Greatest, Next, To_end, To_valid, To_passing, NoNext, Follow}
 use Rattle.olr_spec.specs.Encoding.{Answer, Refused, Refusal, path_fault, answer_by_points, Encoding, Encodes}
 use Rattle.olr_spec.proofs.WalkLemmas.{positive, dm_of-append}

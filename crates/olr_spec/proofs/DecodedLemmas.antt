@@ -5,8 +5,8 @@ use Rattle.std.proofs.lemmas.Bool.{le-leb, leb-true}
 use Rattle.std.proofs.lemmas.Int.{ints}
 use Rattle.std.specs.List.{slice_index}
 use Rattle.olr_spec.specs.Coordinates.{abs24, from_abs24, nearest, relative, from_rel16}
-use Rattle.olr_spec.specs.Map.{Map, IsMap, has_line, place_at}
-use Rattle.olr_spec.specs.Extension.{Path, is_path, has, extended}
+use Rattle.olr_spec.specs.Map.{Map, IsMap, has_line, place_at, has}
+use Rattle.olr_spec.specs.Extension.{Path, is_path, extended}
 use Rattle.olr_spec.specs.Points.{node_at, Follow}
 use Rattle.olr_spec.specs.Bearings.{Leg}
 use Rattle.olr_spec.specs.Reference.{Middle, Reference, legs, position, first_kept, last_kept, kept, last_two, middle_points, reference_by_kept, reference_by, reference}

@@ -1,9 +1,8 @@
 -- Walks are the same on two maps unless a changed line offers a detour.
 use Rattle.std.proofs.Common.{inl, inr, ◌⊎◌, ◌≡◌, ℕ, List, [], ◌∷◌, ◌≤◌, Contains, true, false, refl, sym, ◌∙◌, subst, arith}
 use Rattle.std.proofs.lemmas.Bool.{cases_lt}
-use Rattle.olr_spec.specs.Map.{Map, end, dm, SameLine, SameRound}
+use Rattle.olr_spec.specs.Map.{Map, end, dm, SameLine, SameRound, has}
 use Rattle.olr_spec.specs.Walks.{Walk, dm_of, Sole}
-use Rattle.olr_spec.specs.Extension.{has}
 use Rattle.olr_spec.specs.Detours.{ChangedLine, Tells, Detour, Near}
 use Rattle.olr_spec.proofs.ListLemmas.{Each, Each-nil, Each-cons}
 use Rattle.olr_spec.proofs.AgreeLemmas.{by_leaving, same_known, same_start, same_end, same_dm, same_dm_of}

@@ -7,9 +7,7 @@ use Rattle.std.specs.Cmp.{nat_cmp_total, unsigned_tied}
 use Rattle.std.specs.FinMap.{FinMap, get, insert, remove, entries, get-insert, get-remove, get-entries}
 use Rattle.std.specs.FinMap.Entries.{find}
 use Rattle.olr_spec.specs.Coordinates.{Coord, is_coord}
-use Rattle.olr_spec.specs.Map.{MapFault, Map, IsMap, Line, is_good, are_coords, has_node, has_line, line_at, no_line, no_place, start, end, Edit, Add_node, Move_node, Drop_node, Add_line, Set_line, Drop_line, Node_exists, No_node, Line_exists, No_line, Node_in_use, Bad_shape, edited, unless, in_use, touched_nodes, touched_lines, SameLine, Agree}
-use Rattle.olr_spec.specs.Extension.{has}
-use Rattle.olr_spec.specs.Laws.{HasPlace}
+use Rattle.olr_spec.specs.Map.{MapFault, Map, IsMap, Line, is_good, are_coords, has_node, has_line, line_at, no_line, no_place, start, end, Edit, Add_node, Move_node, Drop_node, Add_line, Set_line, Drop_line, Node_exists, No_node, Line_exists, No_line, Node_in_use, Bad_shape, edited, unless, in_use, touched_nodes, touched_lines, SameLine, Agree, has, HasPlace}
 use Rattle.olr_spec.proofs.ListLemmas.{has_here, has_there}
 use Rattle.olr_spec.proofs.AgreeLemmas.{known_record}
 

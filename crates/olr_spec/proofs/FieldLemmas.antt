@@ -7,9 +7,9 @@ use Rattle.std.proofs.lemmas.List.{length-map, get_or-map, get_or_past, take-map
 use Rattle.std.specs.Int.RustNames.{int_le}
 use Rattle.std.specs.List.{filter, fold, find, slice_index, slice_range, AllByRecursion}
 use Rattle.olr_spec.specs.Coordinates.{Coord, is_coord, is_longitude, is_latitude, abs24, relative, fits16}
-use Rattle.olr_spec.specs.Map.{Map, IsMap, Line, is_good, has_line, line_at, place_at, start, end}
+use Rattle.olr_spec.specs.Map.{Map, IsMap, Line, is_good, has_line, line_at, place_at, start, end, has}
 use Rattle.olr_spec.specs.Walks.{dm_of}
-use Rattle.olr_spec.specs.Extension.{has, last}
+use Rattle.olr_spec.specs.Extension.{last}
 use Rattle.olr_spec.specs.Points.{node_at, stretch, Candidate, fit16}
 use Rattle.olr_spec.specs.Bearings.{Leg, Scaled, scaled_place, bearing, thousandths, sector, up_to, vector, boundary, lies_between}
 use Rattle.olr_spec.specs.Reference.{Attrs, First, Middle, Last, Reference, leg, legs, no_leg, leg_at, position, dm_along, dm_between, from_front, to_back, last_where, first_where, first_kept, last_kept, kept, attrs, first_point, middle_point, last_two, middle_points, offset, reference_by_kept, reference_by, reference}

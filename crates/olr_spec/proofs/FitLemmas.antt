@@ -4,9 +4,9 @@ use Rattle.std.proofs.lemmas.Bool.{cases_Bool, eqb-true, leb-true, leb-false, le
 use Rattle.std.proofs.lemmas.Bool.Decides.{nat_tests}
 use Rattle.std.proofs.lemmas.List.{length-map}
 use Rattle.std.specs.Option.{option_map}
-use Rattle.olr_spec.specs.Map.{Map, IsMap, has_line}
+use Rattle.olr_spec.specs.Map.{Map, IsMap, has_line, has}
 use Rattle.olr_spec.specs.Walks.{dm_of}
-use Rattle.olr_spec.specs.Extension.{Path, Tried, is_path, has, extended, from_start, taken_start, taken_end}
+use Rattle.olr_spec.specs.Extension.{Path, Tried, is_path, extended, from_start, taken_start, taken_end}
 use Rattle.olr_spec.specs.Points.{Follow, last_position}
 use Rattle.olr_spec.specs.Reference.{Reference, leg, legs, dm_between, from_front, to_back, first_kept, last_kept, kept, last_two, reference_by, reference}
 use Rattle.olr_spec.specs.Encoding.{Points, Refused, Refusal, Unknown_line, Broken, Offset_too_long, No_next_point, first_unknown, first_break, path_fault, answer_by_points, Encoding, Encodes}

@@ -3,9 +3,9 @@ use Rattle.std.proofs.Common.{inl, inr, ◌≡◌, ℕ, zero, suc, ◌+◌, ◌-
 use Rattle.std.proofs.lemmas.Bool.{cases_lt}
 use Rattle.std.proofs.Math.Nat.{min-le_left}
 use Rattle.std.specs.List.{slice_index}
-use Rattle.olr_spec.specs.Map.{Map, IsMap, has_line, start, end, SameLine, SameRound}
+use Rattle.olr_spec.specs.Map.{Map, IsMap, has_line, start, end, SameLine, SameRound, has}
 use Rattle.olr_spec.specs.Walks.{dm_of, Route}
-use Rattle.olr_spec.specs.Extension.{Path, has, Tried, extended, limit}
+use Rattle.olr_spec.specs.Extension.{Path, Tried, extended, limit}
 use Rattle.olr_spec.specs.Points.{stretch, Covered}
 use Rattle.olr_spec.specs.Footprint.{NodeOf, Reach, Searched, Touched, On_path, On_start_chain, On_end_chain, Within_reach}
 use Rattle.olr_spec.proofs.ListLemmas.{Each, Each-range, has_index}

@@ -3,8 +3,7 @@ use Rattle.std.proofs.Common.{inl, inr, ◌≡◌, ℕ, zero, suc, ◌+◌, true
 use Rattle.std.proofs.lemmas.Bool.{eqb-true, and_parts, and_from, lt-ltb, ltb-true}
 use Rattle.std.proofs.lemmas.Map.Views.{any-filter_same}
 use Rattle.std.specs.List.{AllZip, slice_index_or}
-use Rattle.olr_spec.specs.Map.{Map}
-use Rattle.olr_spec.specs.Extension.{has}
+use Rattle.olr_spec.specs.Map.{Map, has}
 use Rattle.olr_spec.specs.Looks.{Look, IsLook, looking}
 use Rattle.olr_spec.proofs.ListLemmas.{has_here, has_there, has_cases}
 

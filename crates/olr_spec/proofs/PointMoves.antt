@@ -2,11 +2,11 @@
 use Rattle.std.proofs.Common.{inl, inr, ◌≡◌, ℕ, ◌+◌, ◌-◌, min, Bool, true, false, cond, List, [], ◌∷◌, ◌++◌, length, ◌<◌, ◌≤◌, IsTrue, refl, sym, ap, ◌∙◌, subst, arith, ◌==◌, nat_lt, length-append, ◌↔◌}
 use Rattle.std.proofs.lemmas.Bool.{ltb-true, cond_both}
 use Rattle.std.specs.List.{slice_index}
-use Rattle.olr_spec.specs.Map.{Map, IsMap, has_line, start, end, place_at, SameLine, SameRound}
+use Rattle.olr_spec.specs.Map.{Map, IsMap, has_line, start, end, place_at, SameLine, SameRound, has}
 use Rattle.olr_spec.specs.Walks.{Walk, dm_of, Route}
 use Rattle.olr_spec.proofs.WalkLemmas.{empty_sole}
 use Rattle.olr_spec.proofs.JoinLemmas.{empty_stretch}
-use Rattle.olr_spec.specs.Extension.{Path, has, passing, first, last, Tried, taken_start, taken_end, from_start, extended, limit, LongestStart, LongestEnd}
+use Rattle.olr_spec.specs.Extension.{Path, passing, first, last, Tried, taken_start, taken_end, from_start, extended, limit, LongestStart, LongestEnd}
 use Rattle.olr_spec.specs.Points.{node_at, stretch, Covered, fit16, Candidate, ValidCandidate, Greatest, Next, To_end, To_valid, To_passing, Follow, last_position}
 use Rattle.olr_spec.specs.Reference.{leg, legs, reference}
 use Rattle.olr_spec.specs.Encoding.{Points, Refused, No_next_point, answer_by_points}

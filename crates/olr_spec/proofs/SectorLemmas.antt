@@ -6,7 +6,7 @@ use Rattle.std.proofs.lemmas.Int.{ints, by_lt_z}
 use Rattle.std.specs.Int.RustNames.{int_le, int_lt}
 use Rattle.std.specs.List.{find, AllByRecursion}
 use Rattle.olr_spec.specs.Bearings.{Vector, vector, turned, boundary, beyond, lies_between, IsSector, sector, up_to}
-use Rattle.olr_spec.specs.Extension.{has}
+use Rattle.olr_spec.specs.Map.{has}
 use Rattle.olr_spec.proofs.ListLemmas.{Each, Each-nil, Each-cons, Each-append, Each-head, Each-weaker, Each-tail}
 
 -- ---- tests on whole numbers

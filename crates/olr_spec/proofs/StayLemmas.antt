@@ -3,9 +3,9 @@ use Rattle.std.proofs.Common.{inl, inr, ◌≡◌, ℕ, ◌+◌, List, [], ◌�
 use Rattle.std.proofs.lemmas.Bool.{cases_lt, cases_Bool, both_ways}
 use Rattle.std.proofs.lemmas.List.Elements.{All-contains}
 use Rattle.std.specs.List.{AllZip}
-use Rattle.olr_spec.specs.Map.{Map, IsMap, has_line, start, end, SameLine, SameRound}
+use Rattle.olr_spec.specs.Map.{Map, IsMap, has_line, start, end, SameLine, SameRound, has}
 use Rattle.olr_spec.specs.Walks.{Walk, dm_of}
-use Rattle.olr_spec.specs.Extension.{Path, is_path, has, first, last, Tried, extended, limit}
+use Rattle.olr_spec.specs.Extension.{Path, is_path, first, last, Tried, extended, limit}
 use Rattle.olr_spec.specs.Points.{stretch, Covered, Follow}
 use Rattle.olr_spec.specs.Encoding.{Answer, Refused, Refusal, path_fault, answer_by_points, Encoding, Encodes}
 use Rattle.olr_spec.specs.Detours.{ChangedLine, Tells, Difference}

@@ -2,9 +2,9 @@
 use Rattle.std.proofs.Common.{inl, inr, ◌≡◌, ℕ, zero, suc, ◌+◌, ◌-◌, min, true, false, List, [], ◌∷◌, length, ◌<◌, ◌≤◌, Option, None, Some, IsTrue, Contains, refl, sym, ap, ◌∙◌, subst, arith, MatchOption, ◌↔◌, ◌⊎◌}
 use Rattle.std.proofs.lemmas.Bool.{cases_lt, cases_eq, cases_order}
 use Rattle.std.specs.List.{slice_index, AllZip}
-use Rattle.olr_spec.specs.Map.{Map, IsMap, end, SameRound}
+use Rattle.olr_spec.specs.Map.{Map, IsMap, end, SameRound, has}
 use Rattle.olr_spec.specs.Walks.{dm_of}
-use Rattle.olr_spec.specs.Extension.{Path, is_path, has, extended, limit}
+use Rattle.olr_spec.specs.Extension.{Path, is_path, extended, limit}
 use Rattle.olr_spec.specs.Points.{stretch, Covered, Greatest}
 use Rattle.olr_spec.specs.Encoding.{Refusal, path_fault}
 use Rattle.olr_spec.specs.Footprint.{Reach, Searched, Touched, On_path, On_start_chain, On_end_chain, Within_reach, FootOf, Foot}

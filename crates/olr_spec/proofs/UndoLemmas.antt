@@ -5,8 +5,7 @@ use Rattle.std.specs.List.{list_any, filter}
 use Rattle.std.specs.Cmp.{nat_cmp_total}
 use Rattle.std.specs.FinMap.{FinMap, get, insert, remove, entries, get-empty, same_map, nat_cmp-IsAntisymmetric}
 use Rattle.olr_spec.specs.Coordinates.{Coord}
-use Rattle.olr_spec.specs.Map.{Map, empty_map, IsMap, Line, is_good, has_node, has_line, line_at, place_at, no_line, start, end, Edit, Add_node, Move_node, Drop_node, Add_line, Set_line, Drop_line, MapFault, Node_exists, No_node, Line_exists, No_line, Node_in_use, Bad_shape, edited, unless, in_use}
-use Rattle.olr_spec.specs.Extension.{has}
+use Rattle.olr_spec.specs.Map.{Map, empty_map, IsMap, Line, is_good, has_node, has_line, line_at, place_at, no_line, start, end, Edit, Add_node, Move_node, Drop_node, Add_line, Set_line, Drop_line, MapFault, Node_exists, No_node, Line_exists, No_line, Node_in_use, Bad_shape, edited, unless, in_use, has}
 use Rattle.olr_spec.proofs.MapLemmas.{has-lines_where, passes_at}
 use Rattle.olr_spec.proofs.ListLemmas.{has_here}
 use Rattle.olr_spec.proofs.AgreeLemmas.{some_is}

@@ -5,9 +5,8 @@
 --     Detour M C s t d      a walk from s to a changed line, and one from a changed line to t, within d decimetres together
 --     Near M T s d      a walk of at most d decimetres from s to one of the nodes T
 use Rattle.std.specs.Prelude.{◌≡◌, ℕ, ◌+◌, ◌≤◌, min, List, [], ◌∷◌, ◌⊎◌, Contains, IsTrue, IsFalse}
-use Rattle.olr_spec.specs.Map.{Map, Edit, Add_line, Set_line, Drop_line, has_line, start, end, dm, SameLine, SameRound}
+use Rattle.olr_spec.specs.Map.{Map, Edit, Add_line, Set_line, Drop_line, has_line, start, end, dm, SameLine, SameRound, has}
 use Rattle.olr_spec.specs.Walks.{Walk, dm_of}
-use Rattle.olr_spec.specs.Extension.{has}
 
 pub record ChangedLine : Type 0 where
   pub from : ℕ

@@ -6,8 +6,7 @@
 --     Tried M P b a      b and a are the longest chains at the start of the path and at its end
 --     extended M P b a      the path with those of them that lead to valid nodes, and the raised offsets
 use Rattle.std.specs.Prelude.{◌≡◌, ◌≢◌, ℕ, ◌+◌, ◌≤◌, Bool, true, false, not, ◌&&◌, ◌||◌, List, [], ◌∷◌, ◌++◌, map, length, nat_le, ◌==◌, if◌then◌else◌, ⊤, IsTrue, IsFalse}
-use Rattle.std.specs.List.{list_any}
-use Rattle.olr_spec.specs.Map.{Map, has_line, start, end, lines_in, lines_out}
+use Rattle.olr_spec.specs.Map.{Map, has_line, start, end, lines_in, lines_out, has}
 use Rattle.olr_spec.specs.Walks.{dm_of}
 
 -- a line location: the positive offset from its start, the negative one from its end (White Paper, offsets)
@@ -15,10 +14,6 @@ pub record Path : Type 0 where
   pub lines : List ℕ
   pub pos : ℕ
   pub neg : ℕ
-
--- x is one of xs
-abbrev pub has : List ℕ → ℕ → Bool
-has xs x = list_any (λ y. y == x) xs
 
 abbrev pub none_twice : List ℕ → Bool
 none_twice [] = true

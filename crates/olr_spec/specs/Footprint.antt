@@ -2,9 +2,9 @@
 --     Reach M s v      a walk of at most the limit leads from s to v
 --     Foot M P v      node v belongs to the footprint of the path
 use Rattle.std.specs.Prelude.{◌≡◌, ℕ, ◌+◌, ◌<◌, List, ◌∷◌, length, slice_index, MatchOption, IsTrue, ◌⊎◌}
-use Rattle.olr_spec.specs.Map.{Map, start, end}
+use Rattle.olr_spec.specs.Map.{Map, start, end, has}
 use Rattle.olr_spec.specs.Walks.{Reaches}
-use Rattle.olr_spec.specs.Extension.{Path, has, limit}
+use Rattle.olr_spec.specs.Extension.{Path, limit}
 use Rattle.olr_spec.specs.Points.{OfPath}
 use Rattle.olr_spec.specs.Encoding.{path_fault}
 

@@ -6,14 +6,13 @@
 --     locality   an answer rests on its footprint alone
 --     changes    what edits change, and which walks they can concern
 --     looks      a path looks at its own nodes and what lies near; where no change concerns that, its answer is kept
-use Rattle.std.specs.Prelude.{◌≡◌, ℕ, ◌+◌, ◌<◌, ◌≤◌, ℤ, pos, List, [], ◌++◌, length, Option, Some, None, is_some, All, Contains, Ok, ◌↔◌, ◌⊎◌, IsTrue, IsFalse, ⊤}
+use Rattle.std.specs.Prelude.{◌≡◌, ℕ, ◌+◌, ◌<◌, ◌≤◌, ℤ, pos, List, [], ◌++◌, length, Option, Some, None, is_some, All, Contains, Ok, ◌↔◌, ◌⊎◌, IsTrue, IsFalse}
 use Rattle.std.specs.List.{AllByRecursion}
 use Rattle.std.specs.List.Sorted.{IsStrictlyIncreasing}
-use Rattle.olr_spec.specs.Coordinates.{is_coord}
-use Rattle.olr_spec.specs.Map.{Map, empty_map, IsMap, Line, are_coords, has_line, place_at, lines_in, lines_out, Edit, Add_node, Move_node, Add_line, Set_line, edited, touched_nodes, touched_lines, Enters, Leaves, Agree, SameLine, SameRound}
+use Rattle.olr_spec.specs.Map.{Map, empty_map, IsMap, Line, has_line, place_at, lines_in, lines_out, Edit, edited, touched_nodes, touched_lines, Enters, Leaves, Agree, SameLine, SameRound, has, HasPlace}
 use Rattle.olr_spec.specs.Walks.{Walk, dm_of, Least, Sole}
 use Rattle.olr_spec.specs.Labels.{Settled}
-use Rattle.olr_spec.specs.Extension.{Path, is_path, has, first, last, LongestStart, LongestEnd, limit}
+use Rattle.olr_spec.specs.Extension.{Path, is_path, first, last, LongestStart, LongestEnd, limit}
 use Rattle.olr_spec.specs.Points.{stretch, Covered, Next, Follow, last_position}
 use Rattle.olr_spec.specs.Bearings.{IsSector, sector}
 use Rattle.olr_spec.specs.Reference.{Reference, legs, first_kept, last_kept, kept}
@@ -26,14 +25,6 @@ use Rattle.olr_spec.specs.Detours.{ChangedLine, changes_of, Tells, Difference, D
 use Rattle.olr_spec.specs.Looks.{OwnOf, IsLastTested, Look, look_to, LooksOf, IsClear}
 
 -- ---- maps
-
--- each place that an edit brings is in range
-abbrev pub HasPlace : Edit → Type 0
-HasPlace (Add_node v c) = IsTrue (is_coord c)
-HasPlace (Move_node v c) = IsTrue (is_coord c)
-HasPlace (Add_line x l) = IsTrue (are_coords l.shape)
-HasPlace (Set_line x frc fow len shape) = IsTrue (are_coords shape)
-HasPlace _ = ⊤
 
 -- the lines that enter and leave a node rise by number
 abbrev pub LinesRise : Type 0

@@ -3,12 +3,17 @@
 --     is_good l      classes, length and shape in range.        IsMap M      every line good, both its ends there, and every place in range
 --     line_at M x, start, end, dm      the record of line x, and its parts.        lines_in M v, lines_out M v      the lines that enter and leave v, rising
 --     Edit, edited M e      the map after an edit, or the first fault.        touched_nodes M e, touched_lines e      what it touches
+--     HasPlace e      each place that the edit brings is in range.        has xs x      whether x is one of xs
 --     Agree M N P F      the maps have the same round the nodes of F, and the same lines of the list P
-use Rattle.std.specs.Prelude.{◌≡◌, ℕ, pos, Bool, true, not, cond, ◌&&◌, ◌||◌, List, [], ◌∷◌, length, map, filter, Some, is_some, unwrap_or, Result, Ok, Err, nat_lt, nat_le, ◌==◌, ◌↔◌, IsTrue}
+use Rattle.std.specs.Prelude.{◌≡◌, ℕ, pos, Bool, true, not, cond, ◌&&◌, ◌||◌, List, [], ◌∷◌, length, map, filter, Some, is_some, unwrap_or, Result, Ok, Err, nat_lt, nat_le, ◌==◌, ◌↔◌, IsTrue, ⊤}
 use Rattle.std.specs.List.{list_all, list_any, AllByRecursion}
 use Rattle.std.specs.Ordering.{nat_cmp}
 use Rattle.std.specs.FinMap.{FinMap, get, insert, remove, entries, empty}
 use Rattle.olr_spec.specs.Coordinates.{Coord, is_coord}
+
+-- x is one of xs
+abbrev pub has : List ℕ → ℕ → Bool
+has xs x = list_any (λ y. y == x) xs
 
 -- a place on the way of a line, at so many decimetres from its begin
 pub record ShapePoint : Type 0 where
@@ -104,6 +109,14 @@ pub data Edit : Type 0 where
   Add_line : (number : ℕ) (line : Line) → Edit
   Set_line : (number frc fow len : ℕ) (shape : List ShapePoint) → Edit
   Drop_line : (number : ℕ) → Edit
+
+-- each place that an edit brings is in range
+abbrev pub HasPlace : Edit → Type 0
+HasPlace (Add_node v c) = IsTrue (is_coord c)
+HasPlace (Move_node v c) = IsTrue (is_coord c)
+HasPlace (Add_line x l) = IsTrue (are_coords l.shape)
+HasPlace (Set_line x frc fow len shape) = IsTrue (are_coords shape)
+HasPlace _ = ⊤
 
 pub data MapFault : Type 0 where
   Node_exists No_node Line_exists No_line Node_in_use Bad_shape : MapFault

@@ -1,5 +1,5 @@
 use Rattle.std.proofs.Common.{IsTrue, subst, sym, Bool, ◌↔◌, ℕ}
-use Rattle.olr_spec.specs.Extension.{has}
+use Rattle.olr_spec.specs.Map.{has}
 use Rattle.olr_paths.proofs.Sets.{shared}
 use Rattle.olr_paths.specs.Touching.{lines_of}
 use Rattle.olr_paths.proofs.asking.line_touched.Goals as goal

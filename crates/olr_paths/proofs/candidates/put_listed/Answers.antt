@@ -1,7 +1,7 @@
 use Rattle.std.proofs.Common.{◌≡◌, ◌∙◌, true, false, length, sym, arith}
 use Rattle.std.proofs.lemmas.List.{length-map}
 use Rattle.std.proofs.lemmas.Option.{slice_get_within}
-use Rattle.olr_spec.specs.Extension.{has}
+use Rattle.olr_spec.specs.Map.{has}
 use Rattle.olr_paths.specs.Items.{items}
 use Rattle.olr_paths.proofs.NamedEntries.{item_of}
 use Rattle.olr_paths.proofs.Covering.{covers_grown}

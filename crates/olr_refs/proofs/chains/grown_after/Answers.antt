@@ -1,6 +1,6 @@
 use Rattle.std.proofs.Common.{◌⊎◌, ◌<◌, ◌≡◌, ◌+◌, ◌∷◌, [], ℕ, List, true, sym, ◌∙◌}
-use Rattle.olr_spec.specs.Map.{dm}
-use Rattle.olr_spec.specs.Extension.{has, last, limit, MayFollow}
+use Rattle.olr_spec.specs.Map.{dm, has}
+use Rattle.olr_spec.specs.Extension.{last, limit, MayFollow}
 use Rattle.olr_refs.proofs.After.{nothing_after, back_known, grows_after, longest_after, last_read}
 use Rattle.olr_refs.proofs.chains.grown_after.Goals as goal
 

@@ -1,7 +1,7 @@
 use Rattle.std.proofs.Common.{refl, ◌⊎◌, ◌<◌, ◌≡◌, ◌+◌, ◌∷◌, [], ℕ, List, true, reverse, sym, ◌∙◌}
 use Rattle.std.proofs.lemmas.List.{reverse-append}
-use Rattle.olr_spec.specs.Map.{dm}
-use Rattle.olr_spec.specs.Extension.{has, limit, MayPrecede}
+use Rattle.olr_spec.specs.Map.{dm, has}
+use Rattle.olr_spec.specs.Extension.{limit, MayPrecede}
 use Rattle.olr_refs.proofs.Before.{front_known, grows_before, longest_before}
 use Rattle.olr_refs.proofs.chains.grown_before.Goals as goal
 

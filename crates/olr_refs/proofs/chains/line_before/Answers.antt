@@ -1,7 +1,7 @@
 use Rattle.std.proofs.Common.{false, ◌≡◌, ℕ, List, true, eqb, ◌∙◌}
 use Rattle.std.proofs.lemmas.Bool.{both_ways, eq-eqb, not-true}
-use Rattle.olr_spec.specs.Map.{lines_in, start, end}
-use Rattle.olr_spec.specs.Extension.{has, passing}
+use Rattle.olr_spec.specs.Map.{lines_in, start, end, has}
+use Rattle.olr_spec.specs.Extension.{passing}
 use Rattle.olr_refs.proofs.EachLine.{entered, entering, has_read, entered_read, Each-all}
 use Rattle.olr_refs.proofs.Before.{precedes}
 use Rattle.olr_refs.proofs.chains.line_before.Goals as goal

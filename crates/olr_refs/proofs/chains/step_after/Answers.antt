@@ -1,6 +1,6 @@
 use Rattle.std.proofs.Common.{◌≡◌, ◌+◌, ℕ, ◌<◌, inl, inr, true, sym, ◌∙◌, subst, arith}
-use Rattle.olr_spec.specs.Map.{dm}
-use Rattle.olr_spec.specs.Extension.{has, limit}
+use Rattle.olr_spec.specs.Map.{dm, has}
+use Rattle.olr_spec.specs.Extension.{limit}
 use Rattle.olr_refs.proofs.After.{one_after}
 use Rattle.olr_refs.proofs.chains.step_after.Goals as goal
 use Rattle.olr_refs.proofs.chains.step_after.Goals.{then-has-via-then-has, then-has-via-else-has+then-len_of-len}

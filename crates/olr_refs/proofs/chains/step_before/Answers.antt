@@ -1,6 +1,6 @@
 use Rattle.std.proofs.Common.{◌≡◌, ◌+◌, ℕ, ◌<◌, inl, inr, true, sym, ◌∙◌, subst, arith}
-use Rattle.olr_spec.specs.Map.{dm}
-use Rattle.olr_spec.specs.Extension.{has, limit}
+use Rattle.olr_spec.specs.Map.{dm, has}
+use Rattle.olr_spec.specs.Extension.{limit}
 use Rattle.olr_refs.proofs.Before.{one_before}
 use Rattle.olr_refs.proofs.chains.step_before.Goals as goal
 use Rattle.olr_refs.proofs.chains.step_before.Goals.{then-has-via-then-has, then-has-via-else-has+then-len_of-len}

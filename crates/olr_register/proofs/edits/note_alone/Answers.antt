@@ -1,5 +1,5 @@
 use Rattle.std.proofs.Common.{◌==◌, ◌||◌, ◌∙◌}
-use Rattle.olr_spec.specs.Extension.{has}
+use Rattle.olr_spec.specs.Map.{has}
 use Rattle.std.specs.Option.{option_to_list}
 use Rattle.olr_register.proofs.SingleEdit.{only_noted, only_changes}
 use Rattle.olr_register.proofs.edits.note_alone.Goals as goal

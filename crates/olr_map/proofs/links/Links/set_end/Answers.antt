@@ -1,5 +1,5 @@
 use Rattle.std.proofs.Common.{◌≡◌, true, false, Err}
-use Rattle.olr_spec.specs.Extension.{has}
+use Rattle.olr_spec.specs.Map.{has}
 use Rattle.olr_map.specs.Linked.{lines_on}
 use Rattle.olr_map.specs.Places.{Place}
 use Rattle.olr_map.proofs.Rising.{place_of}

@@ -1,5 +1,5 @@
 use Rattle.std.proofs.Common.{ℕ, List, refl, sym, ap, ◌∙◌}
-use Rattle.olr_spec.specs.Extension.{has}
+use Rattle.olr_spec.specs.Map.{has}
 use Rattle.olr_map.specs.Edits.{edit_of}
 use Rattle.olr_register.specs.Holding.{batch_of}
 use Rattle.olr_register.proofs.HoldEdits.{edit_told, edit_lacks, held_edit, has_either, changes_more, same_batch}
