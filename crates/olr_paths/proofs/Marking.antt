@@ -1,5 +1,5 @@
 -- A list of entries with the marks of its paths, as paths come, go and change places with others.
-use Rattle.std.proofs.Common.{inl, inr, ◌≡◌, ◌≢◌, ℕ, zero, suc, ◌+◌, ◌<◌, Bool, true, false, not, cond, ◌&&◌, ◌==◌, List, [], ◌∷◌, ◌++◌, take, length, get_or, slice_get, Some, None, IsTrue, IsFalse, Contains, Result, Ok, Err, is_ok, ◌-◌, refl, sym, ap, ◌∙◌, subst, arith}
+use Rattle.std.proofs.Common.{inl, inr, ◌≡◌, ◌≢◌, ℕ, zero, suc, ◌+◌, ◌<◌, Bool, true, false, not, cond, ◌&&◌, ◌==◌, List, [], ◌∷◌, ◌++◌, take, length, get_or, slice_get, Some, None, IsFalse, Contains, Result, Ok, Err, is_ok, ◌-◌, refl, sym, ap, ◌∙◌, subst, arith}
 use Rattle.std.specs.Prelude.{String, string_bytes, if◌then◌else◌}
 use Rattle.std.specs.List.{remove, position}
 use Rattle.std.specs.List.Sorted.{IsStrictlyIncreasing, IsBinarySearchResult}
@@ -105,14 +105,6 @@ not_among xs x (Err i) up h off_at on =
     let off = place_not xs x i (place_of xs x (Err i) up h) in
     let there = has_from xs x on in
     let never : ⊥ = cc (there, off) in absurd never
-
--- numbers that count up
-pub record CountUp (xs : List ℕ) (n : ℕ) : Type 0 where
-  pub long : length xs ≡ n
-  pub each : (k : ℕ) → k < n → get_or xs k 0 ≡ k
-
-pub count_has : (xs : List ℕ) (n : ℕ) → CountUp xs n → (k : ℕ) → k < n → IsTrue (has xs k)
-count_has xs n h k lt = let long = h.long in has_at xs k k (omega arith) (h.each k lt)
 
 -- ---- entries with marks
 

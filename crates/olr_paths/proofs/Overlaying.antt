@@ -1,5 +1,5 @@
 -- Lists of named paths under changes: which names they have, and what one more change makes of them.
-use Rattle.std.proofs.Common.{inl, inr, ◌≡◌, ℕ, zero, suc, ◌+◌, Bool, true, false, not, cond, if◌then◌else◌, List, [], ◌∷◌, ◌++◌, map, take, length, slice_get, Option, Some, None, is_some, refl, sym, ap, ◌∙◌, subst, append_assoc, Result, Ok, Err, arith}
+use Rattle.std.proofs.Common.{inl, inr, ◌≡◌, ℕ, zero, suc, ◌+◌, Bool, true, false, not, cond, if◌then◌else◌, List, [], ◌∷◌, ◌++◌, map, take, length, slice_get, Option, Some, None, is_some, refl, sym, ap, ◌∙◌, subst, append_assoc, Result, Ok, Err}
 use Rattle.std.specs.Prelude.{String, option_map, string_bytes, OnOk}
 use Rattle.std.specs.List.{filter}
 use Rattle.std.specs.Map.{lookup}
@@ -348,10 +348,6 @@ module _ (cs : Changes) (is to : List Item) (k : ℕ) (i : Item) (at : slice_get
       ap (λ (js : List Item). has_name js i.name) so_far ∙ ap (λ (a : List ℕ). has_name done a) (sym (laid_name (change_at cs i.name) i j e)) ∙ laid_free j e d
 
 -- ---- nothing, and two lists, one behind the other
-
-pub none_long : {A : Type 0} (xs : List A) → length xs ≡ 0 → xs ≡ []
-none_long [] h = refl
-none_long (x ∷ xs) h = absurd (omega arith)
 
 pub no_changes : (es : Entered) (added is : List Item) → es ≡ [] → added ≡ [] → under_changes (changes_in es) is ++ added ≡ is
 no_changes es added is none empty =

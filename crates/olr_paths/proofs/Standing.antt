@@ -11,7 +11,7 @@ use Rattle.olr_spec.specs.Map.{has}
 use Rattle.olr_spec.specs.Looks.{Look}
 use Rattle.olr_index.specs.Marks.{holds, marks_of}
 use Rattle.olr_paths.specs.Searching.{LacksLooks, LackLooks}
-use Rattle.olr_paths.specs.Finding.{IsNoted, NamedNoted, AreNoted, AreNotedAt, AreAll, Grows}
+use Rattle.olr_paths.specs.Finding.{NamedNoted, AreNoted, AreNotedAt, AreAll, Grows}
 use Rattle.olr_paths.specs.declared.finder.Finder.{Finder}
 use Rattle.olr_paths.specs.declared.published.Published.{Published}
 use Rattle.olr_paths.specs.declared.listing.NamedPath.{NamedPath}
@@ -48,13 +48,6 @@ noted_grown es ms f g more h k e at p some = grown f g (get_or ms k 0) e.1.path.
 -- of the first k, and one more
 pub at_more : (ms : List ℕ) (f g : Finder) (fresh : List One) (k : ℕ) (d : One) → k < length fresh → Grows f g → AreNotedAt ms f (take k fresh) → StandsAt ms g (get_or fresh k d) → AreNotedAt ms g (take (k + 1) fresh)
 at_more ms f g fresh k d lt more h one = all_more (StandsAt ms g) fresh k d lt (at_grown ms f g (take k fresh) more h) one
-
--- what was published and is noted
-pub named_by : (g : Finder) (mark : ℕ) (n : NamedPath) (p : Rc Published Global) (xs : List ℕ) (made : Published) → n.published ≡ Some p → xs ≡ n.path.value.lines → made ≡ p.value → IsNoted g mark xs made.own made.looks.items → NamedNoted g mark n
-named_by g mark n p xs made is is_lines is_made h q some =
-    let same : p ≡ q = cc (is, some) in
-    subst (λ (r : Rc Published Global). IsNoted g mark n.path.value.lines r.value.own r.value.looks.items) same
-    (subst (λ (m : Published). IsNoted g mark n.path.value.lines m.own m.looks.items) is_made (subst (λ (ys : List ℕ). IsNoted g mark ys made.own made.looks.items) is_lines h))
 
 -- where each path is reported, each was encoded
 pub all_encoded : (before : List Item) (es : Entries) (rs : List Entry) → Reported before (items_of es) rs → AreAll es
