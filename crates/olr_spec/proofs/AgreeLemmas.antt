@@ -1,15 +1,23 @@
 -- What is the same on two maps that agree round a node.
-use Rattle.std.proofs.Common.{inl, inr, ◌≡◌, ℕ, ◌+◌, Bool, true, cond, List, [], ◌∷◌, map, Option, Some, None, is_some, IsTrue, refl, sym, ap, ◌∙◌, ◌==◌, unwrap_or, ◌↔◌}
+use Rattle.std.proofs.Common.{inl, inr, ◌≡◌, ℕ, ◌+◌, Bool, true, cond, List, [], ◌∷◌, map, Option, Some, None, is_some}
+use Rattle.std.proofs.Common.{IsTrue, refl, sym, ap, ◌∙◌, ◌==◌, unwrap_or, ◌↔◌}
 use Rattle.std.proofs.lemmas.Bool.{eqb-true, ne_eqb, cases_eq}
 use Rattle.std.specs.FinMap.{get}
-use Rattle.olr_spec.specs.Map.{Map, Line, has_line, line_at, no_line, lines_in, lines_out, start, end, dm, place_at, no_place, SameLine, SameRound}
+use Rattle.olr_spec.specs.Map.{Map, Line, has_line, line_at, no_line, lines_in, lines_out, start, end, dm, place_at}
+use Rattle.olr_spec.specs.Map.{no_place, SameLine, SameRound}
 use Rattle.olr_spec.specs.Walks.{dm_of}
 use Rattle.olr_spec.specs.Extension.{passing, passes_between}
 use Rattle.olr_spec.proofs.MapLemmas.{has-lines_where, passes_at, keep_if, same_selected}
 use Rattle.olr_spec.proofs.ListLemmas.{Each, Each-head, Each-tail, map_same}
 
 pub turned_round : (M N : Map) (v : ℕ) → SameRound M N v → SameRound N M v
-turned_round M N v r = record { place = sym r.place; entering = λ x l. ((r.entering x l).1, (r.entering x l).0); leaving = λ x l. ((r.leaving x l).1, (r.leaving x l).0) }
+turned_round M N v r =
+    record {
+      place = sym r.place;
+      entering = λ x l. ((r.entering x l).1, (r.entering x l).0);
+      leaving =
+          λ x l. ((r.leaving x l).1, (r.leaving x l).0);
+    }
 
 pub some_is : {X : Type 0} (o : Option X) (d : X) → is_some o ≡ true → o ≡ Some (unwrap_or o d)
 some_is None d h = absurd cc
@@ -55,7 +63,9 @@ same_place M N v r = λ i. unwrap_or (r.place i) no_place
 -- ---- passing
 
 -- two options that have the same values at which f is v
-same_kept : (f : Line → ℕ) (v : ℕ) (o p : Option Line) → ((l : Line) → ((o ≡ Some l) × (f l ≡ v)) ↔ ((p ≡ Some l) × (f l ≡ v))) → keep_if (λ l. f l == v) o ≡ keep_if (λ l. f l == v) p
+same_kept : (f : Line → ℕ) (v : ℕ) (o p : Option Line) →
+    ((l : Line) → ((o ≡ Some l) × (f l ≡ v)) ↔ ((p ≡ Some l) × (f l ≡ v))) →
+    keep_if (λ l. f l == v) o ≡ keep_if (λ l. f l == v) p
 same_kept f v None None h = refl
 same_kept f v None (Some k) h =
     elim (cases_eq (f k) v) [
@@ -72,19 +82,26 @@ same_kept f v (Some l) (Some k) h =
       | inl e ↦ ap (keep_if (λ l. f l == v)) (sym ((h l).0 (refl, e)).0)
       | inr ne ↦ elim (cases_eq (f k) v) [
         | inl e ↦ ap (keep_if (λ l. f l == v)) ((h k).1 (refl, e)).0
-        | inr ne' ↦ ap (λ (b : Bool). cond b (Some l) None) (ne_eqb (f l) v ne) ∙ sym (ap (λ (b : Bool). cond b (Some k) None) (ne_eqb (f k) v ne'))
+        | inr ne' ↦ ap (λ (b : Bool). cond b (Some l) None) (ne_eqb (f l) v ne)
+            ∙ sym (ap (λ (b : Bool). cond b (Some k) None) (ne_eqb (f k) v ne'))
       ]
     ]
 
-pub passed : (f : Line → ℕ) (v : ℕ) (o : Option Line) → passes_at (λ l. f l == v) o ≡ true → (l : Line) × (o ≡ Some l) × (f l ≡ v)
+pub passed : (f : Line → ℕ) (v : ℕ) (o : Option Line) → passes_at (λ l. f l == v) o ≡ true → (l : Line) × (o ≡ Some l)
+    × (f l ≡ v)
 passed f v None h = absurd cc
 passed f v (Some l) h = (l, refl, eqb-true (f l) v h)
 
 pub same_lines_in : (M N : Map) (v : ℕ) → SameRound M N v → lines_in M v ≡ lines_in N v
-same_lines_in M N v r = ap (λ (es : List (ℕ × Line)). map (λ e. e.0) es) (same_selected M N (λ l. l.to == v) (λ x. same_kept (λ l. l.to) v (get M.lines x) (get N.lines x) (r.entering x)))
+same_lines_in M N v r =
+    ap (λ (es : List (ℕ × Line)). map (λ e. e.0) es)
+    (same_selected M N (λ l. l.to == v) (λ x. same_kept (λ l. l.to) v (get M.lines x) (get N.lines x) (r.entering x)))
 
 pub same_lines_out : (M N : Map) (v : ℕ) → SameRound M N v → lines_out M v ≡ lines_out N v
-same_lines_out M N v r = ap (λ (es : List (ℕ × Line)). map (λ e. e.0) es) (same_selected M N (λ l. l.from == v) (λ x. same_kept (λ l. l.from) v (get M.lines x) (get N.lines x) (r.leaving x)))
+same_lines_out M N v r =
+    ap (λ (es : List (ℕ × Line)). map (λ e. e.0) es)
+    (same_selected M N (λ l. l.from == v)
+    (λ x. same_kept (λ l. l.from) v (get M.lines x) (get N.lines x) (r.leaving x)))
 
 enters_same : (M N : Map) (v : ℕ) → SameRound M N v → Each (SameLine M N) (lines_in M v)
 enters_same M N v r x h =
@@ -99,7 +116,9 @@ leaves_same M N v r x h =
 pub same_passing : (M N : Map) (v : ℕ) → SameRound M N v → passing M v ≡ passing N v
 same_passing M N v r =
     let ins : map (start M) (lines_in M v) ≡ map (start N) (lines_in N v) =
-    map_same (start M) (start N) (lines_in M v) (λ x h. same_start M N x (enters_same M N v r x h)) ∙ ap (λ (xs : List ℕ). map (start N) xs) (same_lines_in M N v r) in
+    map_same (start M) (start N) (lines_in M v) (λ x h. same_start M N x (enters_same M N v r x h))
+    ∙ ap (λ (xs : List ℕ). map (start N) xs) (same_lines_in M N v r) in
     let outs : map (end M) (lines_out M v) ≡ map (end N) (lines_out N v) =
-    map_same (end M) (end N) (lines_out M v) (λ x h. same_end M N x (leaves_same M N v r x h)) ∙ ap (λ (xs : List ℕ). map (end N) xs) (same_lines_out M N v r) in
+    map_same (end M) (end N) (lines_out M v) (λ x h. same_end M N x (leaves_same M N v r x h))
+    ∙ ap (λ (xs : List ℕ). map (end N) xs) (same_lines_out M N v r) in
     λ i. passes_between v (ins i) (outs i)

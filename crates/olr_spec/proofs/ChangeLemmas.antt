@@ -1,14 +1,17 @@
 -- What edits change, one after another.
-use Rattle.std.proofs.Common.{inl, inr, ◌≡◌, ◌≢◌, ℕ, Bool, false, true, ◌||◌, List, [], ◌∷◌, ◌++◌, min, ◌≤◌, Ok, Option, is_some, Contains, IsTrue, refl, sym, ap, ◌∙◌, subst, arith, ◌==◌, unwrap_or}
+use Rattle.std.proofs.Common.{inl, inr, ◌≡◌, ◌≢◌, ℕ, Bool, false, true, ◌||◌, List, [], ◌∷◌, ◌++◌, min, ◌≤◌, Ok, Option}
+use Rattle.std.proofs.Common.{is_some, Contains, IsTrue, refl, sym, ap, ◌∙◌, subst, arith, ◌==◌, unwrap_or}
 use Rattle.std.proofs.lemmas.Bool.{cases_eq, both_ways, or_parts, ne_eqb}
 use Rattle.std.proofs.lemmas.List.Elements.{Contains-append_left, Contains-append_right}
 use Rattle.std.proofs.lemmas.List.Folds.{list_any-append}
 use Rattle.std.specs.FinMap.{get, insert, remove}
-use Rattle.olr_spec.specs.Map.{Map, Line, has_line, line_at, no_line, start, end, dm, Edit, Add_node, Move_node, Drop_node, Add_line, Set_line, Drop_line, edited, touched_nodes, touched_lines, SameLine, SameRound, has}
+use Rattle.olr_spec.specs.Map.{Map, Line, has_line, line_at, no_line, start, end, dm, Edit, Add_node, Move_node}
+use Rattle.olr_spec.specs.Map.{Drop_node, Add_line, Set_line, Drop_line, edited, touched_nodes, touched_lines, SameLine}
+use Rattle.olr_spec.specs.Map.{SameRound, has}
 use Rattle.olr_spec.specs.Detours.{ChangedLine, changes_of, IsTold, Tells, Difference}
-use Rattle.olr_spec.proofs.LookLists.{Contains-here}
 use Rattle.olr_spec.proofs.AgreeLemmas.{same_known, same_start, same_end, same_dm}
 use Rattle.olr_spec.proofs.EditLemmas.{made_by, got_other, got_same, left_other, left_same, edits_are_local}
+use Rattle.olr_spec.proofs.ListLemmas.{Contains-here}
 
 -- ---- one edit
 
@@ -45,7 +48,8 @@ nodes_told M N same = ((λ x h. inl (same x)), (λ x h. inl (sym (same x))))
 
 edit_told : (M N : Map) (e : Edit) → edited M e ≡ Ok N → BothTell (changes_of M e) M N
 edit_told M N (Add_node v c) e = nodes_told M N (λ x. ap (λ (K : Map). get K.lines x) (made_by M N (Add_node v c) e).1)
-edit_told M N (Move_node v c) e = nodes_told M N (λ x. ap (λ (K : Map). get K.lines x) (made_by M N (Move_node v c) e).1)
+edit_told M N (Move_node v c) e =
+    nodes_told M N (λ x. ap (λ (K : Map). get K.lines x) (made_by M N (Move_node v c) e).1)
 edit_told M N (Drop_node v) e = nodes_told M N (λ x. ap (λ (K : Map). get K.lines x) (made_by M N (Drop_node v) e).2)
 edit_told M N (Add_line x l) e =
     let to = record M { lines = insert M.lines x l } in

@@ -1,5 +1,7 @@
 -- Each definition can be decided, so that each path has an answer.
-use Rattle.std.proofs.Common.{◌⊎◌, inl, inr, ◌≡◌, ℕ, zero, suc, ◌+◌, ◌-◌, min, Bool, true, List, [], ◌∷◌, ◌++◌, length, ◌<◌, ◌≤◌, Option, Some, None, is_some, IsTrue, IsFalse, refl, sym, ap, ◌∙◌, subst, arith, MatchOption, length-append, append_assoc, append-nil}
+use Rattle.std.proofs.Common.{◌⊎◌, inl, inr, ◌≡◌, ℕ, zero, suc, ◌+◌, ◌-◌, min, Bool, true, List, [], ◌∷◌, ◌++◌, length}
+use Rattle.std.proofs.Common.{◌<◌, ◌≤◌, Option, Some, None, is_some, IsTrue, IsFalse, refl, sym, ap, ◌∙◌, subst, arith}
+use Rattle.std.proofs.Common.{MatchOption, length-append, append_assoc, append-nil}
 use Rattle.std.proofs.lemmas.Bool.{cases_lt, cases_eq, cases_Bool, both_ways}
 use Rattle.std.specs.List.{slice_index}
 use Rattle.std.specs.Prelude.{nat_eq, ◌≢◌}
@@ -7,8 +9,10 @@ use lib.Pointwise.{pointwise, bytes_decides}
 use Rattle.std.specs.FinMap.{get}
 use Rattle.olr_spec.specs.Map.{Map, IsMap, Line, has_line, start, end, dm, place_at, lines_where, has}
 use Rattle.olr_spec.specs.Walks.{Walk, dm_of, Sole, Route}
-use Rattle.olr_spec.specs.Extension.{Path, is_path, first, last, passing, MayPrecede, MayFollow, StartChain, EndChain, LongestStart, LongestEnd, Tried, from_start, taken_start, extended, limit}
-use Rattle.olr_spec.specs.Points.{node_at, stretch, Covered, fit16, Candidate, ValidCandidate, Greatest, Next, To_end, To_valid, To_passing, NoNext, Follow}
+use Rattle.olr_spec.specs.Extension.{Path, is_path, first, last, passing, MayPrecede, MayFollow, StartChain, EndChain}
+use Rattle.olr_spec.specs.Extension.{LongestStart, LongestEnd, Tried, from_start, taken_start, extended, limit}
+use Rattle.olr_spec.specs.Points.{node_at, stretch, Covered, fit16, Candidate, ValidCandidate, Greatest, Next, To_end}
+use Rattle.olr_spec.specs.Points.{To_valid, To_passing, NoNext, Follow}
 use Rattle.olr_spec.specs.Encoding.{Answer, Refused, Refusal, path_fault, answer_by_points, Encoding, Encodes}
 use Rattle.olr_spec.proofs.WalkLemmas.{positive, dm_of-append}
 use Rattle.olr_spec.proofs.MapLemmas.{has-lines_where, passes_at}
@@ -53,7 +57,8 @@ dec_each Q d (x ∷ xs) =
     ]
 
 -- of each list of at most n of these numbers
-dec_lists : (ks : List ℕ) (n : ℕ) (Q : List ℕ → Type 0) → ((w : List ℕ) → Dec (Q w)) → Dec ((w : List ℕ) → Each (λ x. has ks x ≡ true) w → length w ≤ n → Q w)
+dec_lists : (ks : List ℕ) (n : ℕ) (Q : List ℕ → Type 0) → ((w : List ℕ) → Dec (Q w)) →
+    Dec ((w : List ℕ) → Each (λ x. has ks x ≡ true) w → length w ≤ n → Q w)
 dec_lists ks zero Q d =
     elim (d []) [
       | yes p ↦ yes (only p)
@@ -67,12 +72,18 @@ dec_lists ks (suc n) Q d =
     let Rest : ℕ → Type 0 = λ k. (w : List ℕ) → Each (λ x. has ks x ≡ true) w → length w ≤ n → Q (k ∷ w) in
     elim (dec_and (d []) (dec_each Rest (λ k. dec_lists ks n (λ w. Q (k ∷ w)) (λ w. d (k ∷ w))) ks)) [
       | yes p ↦ yes (both p.0 p.1)
-      | no f ↦ no (λ h. f (h [] (Each-nil (λ x. has ks x ≡ true)) (omega arith), λ k i w e l. h (k ∷ w) (Each-cons (λ x. has ks x ≡ true) k w i e) (omega arith)))
+      | no f ↦ no (λ h. f (
+        h [] (Each-nil (λ x. has ks x ≡ true)) (omega arith),
+        λ k i w e l.
+            h (k ∷ w) (Each-cons (λ x. has ks x ≡ true) k w i e) (omega arith),
+      ))
     ]
   where
-    both : Q [] → Each (λ k. (w : List ℕ) → Each (λ x. has ks x ≡ true) w → length w ≤ n → Q (k ∷ w)) ks → (w : List ℕ) → Each (λ x. has ks x ≡ true) w → length w ≤ suc n → Q w
+    both : Q [] → Each (λ k. (w : List ℕ) → Each (λ x. has ks x ≡ true) w → length w ≤ n → Q (k ∷ w)) ks →
+        (w : List ℕ) → Each (λ x. has ks x ≡ true) w → length w ≤ suc n → Q w
     both p r [] e h = p
-    both p r (k ∷ w) e h = r k (Each-head (λ x. has ks x ≡ true) k w e) w (Each-tail (λ x. has ks x ≡ true) k w e) (omega arith)
+    both p r (k ∷ w) e h =
+        r k (Each-head (λ x. has ks x ≡ true) k w e) w (Each-tail (λ x. has ks x ≡ true) k w e) (omega arith)
 
 -- some number of the list, or none
 some_of : (Q : ℕ → Type 0) → ((x : ℕ) → Dec (Q x)) → (xs : List ℕ) → ((x : ℕ) × Q x) ⊎ Each (λ x. ¬ Q x) xs
@@ -106,14 +117,20 @@ has_number M x h = has-lines_where M (λ l. true) x ∙ some_passes (get M.lines
 
 walk_numbers : (M : Map) (s t : ℕ) (xs : List ℕ) → Walk M s t xs → Each (λ x. has (numbers M) x ≡ true) xs
 walk_numbers M s t [] w = Each-nil (λ x. has (numbers M) x ≡ true)
-walk_numbers M s t (x ∷ xs) w = Each-cons (λ y. has (numbers M) y ≡ true) x xs (has_number M x w.0) (walk_numbers M (end M x) t xs w.2)
+walk_numbers M s t (x ∷ xs) w =
+    Each-cons (λ y. has (numbers M) y ≡ true) x xs (has_number M x w.0) (walk_numbers M (end M x) t xs w.2)
 
 walk_length : (M : Map) → IsMap M → (s t : ℕ) (xs : List ℕ) → Walk M s t xs → length xs ≤ dm_of M xs
 walk_length M m s t [] w = omega arith
 walk_length M m s t (x ∷ xs) w = let p = positive M m x w.0 in let r = walk_length M m (end M x) t xs w.2 in omega arith
 
 dec_same : (xs ys : List ℕ) → Dec (xs ≡ ys)
-dec_same xs ys = elim (cases_Bool (pointwise nat_eq xs ys)) [ inl e ↦ yes ((bytes_decides xs ys).0 e) | inr e ↦ no (λ is. both_ways (pointwise nat_eq xs ys) e ((bytes_decides xs ys).1 is)) ]
+dec_same xs ys =
+    elim (cases_Bool (pointwise nat_eq xs ys)) [
+      | inl e ↦ yes ((bytes_decides xs ys).0 e)
+      | inr e ↦
+          no (λ is. both_ways (pointwise nat_eq xs ys) e ((bytes_decides xs ys).1 is))
+    ]
 
 pub one_sole : (M : Map) (s t : ℕ) (xs ys : List ℕ) → Sole M s t xs → Sole M s t ys → xs ≡ ys
 one_sole M s t xs ys p q =
@@ -125,13 +142,17 @@ one_sole M s t xs ys p q =
 pub dec_Sole : (M : Map) → IsMap M → (s t : ℕ) (xs : List ℕ) → Dec (Sole M s t xs)
 dec_Sole M m s t xs =
     let Clear : List ℕ → Type 0 = λ w. ¬ (Walk M s t w × ((w ≢ xs) × (dm_of M w ≤ dm_of M xs))) in
-    elim (dec_and (dec_Walk M s t xs) (dec_lists (numbers M) (dm_of M xs) Clear (λ w. dec_not (dec_and (dec_Walk M s t w) (dec_and (dec_not (dec_same w xs)) (dec_le (dm_of M w) (dm_of M xs))))))) [
+    elim (dec_and (dec_Walk M s t xs)
+    (dec_lists (numbers M) (dm_of M xs) Clear
+    (λ w. dec_not (dec_and (dec_Walk M s t w)
+    (dec_and (dec_not (dec_same w xs)) (dec_le (dm_of M w) (dm_of M xs))))))) [
       | yes p ↦
           yes (record {
             walk = p.0;
             others = λ ys w ne. elim (cases_lt (dm_of M xs) (dm_of M ys)) [
               | inl lt ↦ lt
-              | inr le ↦ let short = walk_length M m s t ys w in absurd (p.1 ys (walk_numbers M s t ys w) (omega arith) (w, (ne, le)))
+              | inr le ↦ let short =
+                  walk_length M m s t ys w in absurd (p.1 ys (walk_numbers M s t ys w) (omega arith) (w, (ne, le)))
             ];
           })
       | no f ↦ no (λ o. f (o.walk, λ w e h p. let far = o.others w p.0 p.1.0 in let le = p.1.1 in absurd (omega arith)))
@@ -146,13 +167,19 @@ pub dec_Covered : (M : Map) → IsMap M → (ls : List ℕ) (i j : ℕ) → Dec 
 dec_Covered M m ls i j =
     let k = min j (length ls - 1) in
     elim (dec_lt i k) [
-      | yes h ↦ elim (dec_Route M m (end M (slice_index ls i)) (start M (slice_index ls k)) (stretch ls (i + 1) k)) [ yes r ↦ yes (λ _. r) | no f ↦ no (λ c. f (c h)) ]
+      | yes h ↦ elim (dec_Route M m (end M (slice_index ls i)) (start M (slice_index ls k)) (stretch ls (i + 1) k)) [
+        | yes r ↦ yes (λ _. r)
+        | no f ↦ no (λ c. f (c h))
+      ]
       | no f ↦ yes (λ h. absurd (f h))
     ]
 
 dec_Candidate : (M : Map) → IsMap M → (ls : List ℕ) (i j : ℕ) → Dec (Candidate M ls i j)
 dec_Candidate M m ls i j =
-    elim (dec_and (dec_and (dec_lt i j) (dec_le j (length ls))) (dec_and (dec_Covered M m ls i j) (dec_and (dec_le (dm_of M (stretch ls i j)) limit) (dec_true (fit16 (place_at M (node_at M ls i)) (place_at M (node_at M ls j))))))) [
+    elim (dec_and (dec_and (dec_lt i j) (dec_le j (length ls)))
+    (dec_and (dec_Covered M m ls i j)
+    (dec_and (dec_le (dm_of M (stretch ls i j)) limit)
+    (dec_true (fit16 (place_at M (node_at M ls i)) (place_at M (node_at M ls j))))))) [
       | yes p ↦ yes (record { after = p.0.0; upto = p.0.1; covered = p.1.0; near = p.1.1.0; fits = p.1.1.1 })
       | no f ↦ no (λ c. f ((c.after, c.upto), (c.covered, (c.near, c.fits))))
     ]
@@ -160,25 +187,29 @@ dec_Candidate M m ls i j =
 dec_Valid : (M : Map) → IsMap M → (ls : List ℕ) (i j : ℕ) → Dec (ValidCandidate M ls i j)
 dec_Valid M m ls i j = dec_and (dec_Candidate M m ls i j) (dec_false (passing M (node_at M ls j)))
 
-pub greatest_or_none : (Q : ℕ → Type 0) → ((k : ℕ) → Dec (Q k)) → (n : ℕ) → ((k : ℕ) → Q k → k < n) → ((j : ℕ) × Greatest Q j) ⊎ ((k : ℕ) → ¬ Q k)
+pub greatest_or_none : (Q : ℕ → Type 0) → ((k : ℕ) → Dec (Q k)) → (n : ℕ) → ((k : ℕ) → Q k → k < n) →
+    ((j : ℕ) × Greatest Q j) ⊎ ((k : ℕ) → ¬ Q k)
 greatest_or_none Q d zero h = inr (λ k q. let lt = h k q in absurd (omega arith))
 greatest_or_none Q d (suc n) h =
     elim (d n) [
       | yes q ↦ inl (n, record { holds = q; others = λ k p. let lt = h k p in omega arith })
-      | no f ↦ greatest_or_none Q d n (λ k q. elim (cases_eq k n) [ inl e ↦ absurd (f (subst Q e q)) | inr ne ↦ let lt = h k q in omega arith ])
+      | no f ↦ greatest_or_none Q d n
+          (λ k q. elim (cases_eq k n) [ inl e ↦ absurd (f (subst Q e q)) | inr ne ↦ let lt = h k q in omega arith ])
     ]
 
 pub next_or_none : (M : Map) → IsMap M → (ls : List ℕ) (i : ℕ) → ((j : ℕ) × Next M ls i j) ⊎ NoNext M ls i
 next_or_none M m ls i =
     elim (dec_Candidate M m ls i (length ls)) [
       | yes c ↦ inl (length ls, To_end refl c)
-      | no f ↦ elim (greatest_or_none (ValidCandidate M ls i) (dec_Valid M m ls i) (suc (length ls)) (λ k c. let h = c.0.upto in omega arith)) [
-        | inl g ↦ inl (g.0, To_valid f g.1)
-        | inr none ↦ elim (greatest_or_none (Candidate M ls i) (dec_Candidate M m ls i) (suc (length ls)) (λ k c. let h = c.upto in omega arith)) [
-          | inl g ↦ inl (g.0, To_passing f none g.1)
-          | inr h ↦ inr h
-        ]
-      ]
+      | no f ↦ elim (greatest_or_none (ValidCandidate M ls i) (dec_Valid M m ls i) (suc (length ls))
+          (λ k c. let h = c.0.upto in omega arith)) [
+            | inl g ↦ inl (g.0, To_valid f g.1)
+            | inr none ↦ elim (greatest_or_none (Candidate M ls i) (dec_Candidate M m ls i) (suc (length ls))
+                (λ k c. let h = c.upto in omega arith)) [
+                  | inl g ↦ inl (g.0, To_passing f none g.1)
+                  | inr h ↦ inr h
+                ]
+          ]
     ]
 
 next_after : (M : Map) (ls : List ℕ) (i j : ℕ) → Next M ls i j → (i < j) × (j ≤ length ls)
@@ -186,7 +217,8 @@ next_after M ls i j (To_end e c) = let h = c.after in (omega arith, omega arith)
 next_after M ls i j (To_valid f g) = (g.holds.0.after, g.holds.0.upto)
 next_after M ls i j (To_passing f h g) = (g.holds.after, g.holds.upto)
 
-pub some_follow : (M : Map) → IsMap M → (ls : List ℕ) (fuel i : ℕ) → length ls ≤ i + fuel → (js : List ℕ) × Follow M ls i js
+pub some_follow : (M : Map) → IsMap M → (ls : List ℕ) (fuel i : ℕ) → length ls ≤ i + fuel → (js : List ℕ)
+    × Follow M ls i js
 some_follow M m ls zero i h = ([], λ j c. let a = c.after in let b = c.upto in absurd (omega arith))
 some_follow M m ls (suc fuel) i h =
     elim (next_or_none M m ls i) [
@@ -201,14 +233,18 @@ some_follow M m ls (suc fuel) i h =
 
 dec_MayPrecede : (M : Map) (x : ℕ) (ls : List ℕ) → Dec (MayPrecede M x ls)
 dec_MayPrecede M x ls =
-    elim (dec_and (dec_and (dec_true (has_line M x)) (dec_eq (end M x) (start M (first ls)))) (dec_and (dec_true (passing M (end M x))) (dec_and (dec_not (dec_eq (start M x) (end M (first ls)))) (dec_false (has ls x))))) [
+    elim (dec_and (dec_and (dec_true (has_line M x)) (dec_eq (end M x) (start M (first ls))))
+    (dec_and (dec_true (passing M (end M x)))
+    (dec_and (dec_not (dec_eq (start M x) (end M (first ls)))) (dec_false (has ls x))))) [
       | yes p ↦ yes (record { known = p.0.0; joins = p.0.1; through = p.1.0; onward = p.1.1.0; fresh = p.1.1.1 })
       | no f ↦ no (λ p. f ((p.known, p.joins), (p.through, (p.onward, p.fresh))))
     ]
 
 dec_MayFollow : (M : Map) (ls : List ℕ) (x : ℕ) → Dec (MayFollow M ls x)
 dec_MayFollow M ls x =
-    elim (dec_and (dec_and (dec_true (has_line M x)) (dec_eq (start M x) (end M (last ls)))) (dec_and (dec_true (passing M (start M x))) (dec_and (dec_not (dec_eq (end M x) (start M (last ls)))) (dec_false (has ls x))))) [
+    elim (dec_and (dec_and (dec_true (has_line M x)) (dec_eq (start M x) (end M (last ls))))
+    (dec_and (dec_true (passing M (start M x)))
+    (dec_and (dec_not (dec_eq (end M x) (start M (last ls)))) (dec_false (has ls x))))) [
       | yes p ↦ yes (record { known = p.0.0; joins = p.0.1; through = p.1.0; onward = p.1.1.0; fresh = p.1.1.1 })
       | no f ↦ no (λ p. f ((p.known, p.joins), (p.through, (p.onward, p.fresh))))
     ]
@@ -219,7 +255,9 @@ last_of_list x [] = ([], x, refl)
 last_of_list x (y ∷ xs) = let r = last_of_list y xs in (x ∷ r.0, r.1, ap (λ (zs : List ℕ). x ∷ zs) r.2)
 
 -- where no line may precede c within the limit, no chain is longer
-no_longer_start : (M : Map) (ls c d : List ℕ) → IsTrue (has_line M (first ls)) → StartChain M c ls → Each (λ x. ¬ (MayPrecede M x (c ++ ls) × (dm M x + dm_of M c ≤ limit))) (numbers M) → StartChain M d ls → dm_of M d ≤ limit → dm_of M d ≤ dm_of M c
+no_longer_start : (M : Map) (ls c d : List ℕ) → IsTrue (has_line M (first ls)) → StartChain M c ls →
+    Each (λ x. ¬ (MayPrecede M x (c ++ ls) × (dm M x + dm_of M c ≤ limit))) (numbers M) → StartChain M d ls →
+    dm_of M d ≤ limit → dm_of M d ≤ dm_of M c
 no_longer_start M ls c d k p none q w =
     elim (cases_lt (length c) (length d)) [
       | inl more ↦
@@ -236,14 +274,19 @@ no_longer_start M ls c d k p none q w =
         let s = last_of_list x front in
         let y = s.1 in
         let parts : d ≡ s.0 ++ (y ∷ c) = e ∙ ap (λ (zs : List ℕ). zs ++ c) s.2 ∙ append_assoc s.0 (y ∷ []) c in
-        let chain : StartChain M (y ∷ c) ls = StartChain-back M ls s.0 (y ∷ c) (subst (λ (zs : List ℕ). StartChain M zs ls) parts q) in
+        let chain : StartChain M (y ∷ c) ls =
+        StartChain-back M ls s.0 (y ∷ c) (subst (λ (zs : List ℕ). StartChain M zs ls) parts q) in
         none y (has_number M y chain.0.known) (chain.0, omega (arith, ap (dm_of M) parts, dm_of-append M s.0 (y ∷ c)))
 
-EndChain-at : (M : Map) (ls c : List ℕ) (x : ℕ) (back : List ℕ) → EndChain M ls (c ++ x ∷ back) → MayFollow M (ls ++ c) x
+EndChain-at : (M : Map) (ls c : List ℕ) (x : ℕ) (back : List ℕ) → EndChain M ls (c ++ x ∷ back) →
+    MayFollow M (ls ++ c) x
 EndChain-at M ls [] x back p = subst (λ (zs : List ℕ). MayFollow M zs x) (sym (append-nil ls)) p.0
-EndChain-at M ls (y ∷ c) x back p = subst (λ (zs : List ℕ). MayFollow M zs x) (append_assoc ls (y ∷ []) c) (EndChain-at M (ls ++ y ∷ []) c x back p.1)
+EndChain-at M ls (y ∷ c) x back p =
+    subst (λ (zs : List ℕ). MayFollow M zs x) (append_assoc ls (y ∷ []) c) (EndChain-at M (ls ++ y ∷ []) c x back p.1)
 
-no_longer_end : (M : Map) (ls c d : List ℕ) → IsTrue (has_line M (last ls)) → EndChain M ls c → Each (λ x. ¬ (MayFollow M (ls ++ c) x × (dm M x + dm_of M c ≤ limit))) (numbers M) → EndChain M ls d → dm_of M d ≤ limit → dm_of M d ≤ dm_of M c
+no_longer_end : (M : Map) (ls c d : List ℕ) → IsTrue (has_line M (last ls)) → EndChain M ls c →
+    Each (λ x. ¬ (MayFollow M (ls ++ c) x × (dm M x + dm_of M c ≤ limit))) (numbers M) → EndChain M ls d →
+    dm_of M d ≤ limit → dm_of M d ≤ dm_of M c
 no_longer_end M ls c d k p none q w =
     elim (cases_lt (length c) (length d)) [
       | inl more ↦
@@ -257,41 +300,53 @@ no_longer_end M ls c d k p none q w =
     beyond : (back : List ℕ) → d ≡ c ++ back → length c < length d → ⊥
     beyond [] e more = omega (arith, ap (λ (zs : List ℕ). length zs) e, length-append c [])
     beyond (x ∷ back) e more =
-        let next : MayFollow M (ls ++ c) x = EndChain-at M ls c x back (subst (λ (zs : List ℕ). EndChain M ls zs) e q) in
+        let next : MayFollow M (ls ++ c) x =
+        EndChain-at M ls c x back (subst (λ (zs : List ℕ). EndChain M ls zs) e q) in
         none x (has_number M x next.known) (next, omega (arith, ap (dm_of M) e, dm_of-append M c (x ∷ back)))
 
 -- from a chain on, with room for fuel decimetres
-some_start : (M : Map) → IsMap M → (ls : List ℕ) → IsTrue (has_line M (first ls)) → (fuel : ℕ) (c : List ℕ) → limit < dm_of M c + fuel → StartChain M c ls → dm_of M c ≤ limit → (d : List ℕ) × LongestStart M d ls
+some_start : (M : Map) → IsMap M → (ls : List ℕ) → IsTrue (has_line M (first ls)) → (fuel : ℕ) (c : List ℕ) →
+    limit < dm_of M c + fuel → StartChain M c ls → dm_of M c ≤ limit → (d : List ℕ) × LongestStart M d ls
 some_start M m ls k zero c f p w = absurd (omega arith)
 some_start M m ls k (suc fuel) c f p w =
-    elim (some_of (λ x. MayPrecede M x (c ++ ls) × (dm M x + dm_of M c ≤ limit)) (λ x. dec_and (dec_MayPrecede M x (c ++ ls)) (dec_le (dm M x + dm_of M c) limit)) (numbers M)) [
-      | inl s ↦ let grows = positive M m s.0 s.1.0.known in some_start M m ls k fuel (s.0 ∷ c) (omega arith) (s.1.0, p) s.1.1
+    elim (some_of (λ x. MayPrecede M x (c ++ ls) × (dm M x + dm_of M c ≤ limit))
+    (λ x. dec_and (dec_MayPrecede M x (c ++ ls)) (dec_le (dm M x + dm_of M c) limit)) (numbers M)) [
+      | inl s ↦ let grows =
+          positive M m s.0 s.1.0.known in some_start M m ls k fuel (s.0 ∷ c) (omega arith) (s.1.0, p) s.1.1
       | inr none ↦ (c, record { chain = p; within = w; longest = λ d q v. no_longer_start M ls c d k p none q v })
     ]
 
-some_end : (M : Map) → IsMap M → (ls : List ℕ) → IsTrue (has_line M (last ls)) → (fuel : ℕ) (c : List ℕ) → limit < dm_of M c + fuel → EndChain M ls c → dm_of M c ≤ limit → (d : List ℕ) × LongestEnd M ls d
+some_end : (M : Map) → IsMap M → (ls : List ℕ) → IsTrue (has_line M (last ls)) → (fuel : ℕ) (c : List ℕ) →
+    limit < dm_of M c + fuel → EndChain M ls c → dm_of M c ≤ limit → (d : List ℕ) × LongestEnd M ls d
 some_end M m ls k zero c f p w = absurd (omega arith)
 some_end M m ls k (suc fuel) c f p w =
-    elim (some_of (λ x. MayFollow M (ls ++ c) x × (dm M x + dm_of M c ≤ limit)) (λ x. dec_and (dec_MayFollow M (ls ++ c) x) (dec_le (dm M x + dm_of M c) limit)) (numbers M)) [
+    elim (some_of (λ x. MayFollow M (ls ++ c) x × (dm M x + dm_of M c ≤ limit))
+    (λ x. dec_and (dec_MayFollow M (ls ++ c) x) (dec_le (dm M x + dm_of M c) limit)) (numbers M)) [
       | inl s ↦
           let grows = positive M m s.0 s.1.0.known in
           let room = s.1.1 in
-          some_end M m ls k fuel (c ++ s.0 ∷ []) (omega (arith, dm_of-append M c (s.0 ∷ []))) (EndChain-push M ls c s.0 p s.1.0) (omega (arith, dm_of-append M c (s.0 ∷ [])))
+          some_end M m ls k fuel (c ++ s.0 ∷ []) (omega (arith, dm_of-append M c (s.0 ∷ [])))
+          (EndChain-push M ls c s.0 p s.1.0) (omega (arith, dm_of-append M c (s.0 ∷ [])))
       | inr none ↦ (c, record { chain = p; within = w; longest = λ d q v. no_longer_end M ls c d k p none q v })
     ]
 
-some_tried : (M : Map) → IsMap M → (P : Path) → 0 < length P.lines → IsTrue (has_line M (first P.lines)) → IsTrue (has_line M (last P.lines)) → (b : List ℕ) × (a : List ℕ) × Tried M P b a
+some_tried : (M : Map) → IsMap M → (P : Path) → 0 < length P.lines → IsTrue (has_line M (first P.lines)) →
+    IsTrue (has_line M (last P.lines)) → (b : List ℕ) × (a : List ℕ) × Tried M P b a
 some_tried M m P n f l =
     let b = some_start M m P.lines f (suc limit) [] (omega arith) tt (omega arith) in
-    let a = some_end M m (from_start M P b.0) (last_known M (taken_start M b.0 P.lines) P.lines n l) (suc limit) [] (omega arith) tt (omega arith) in
+    let a =
+    some_end M m (from_start M P b.0) (last_known M (taken_start M b.0 P.lines) P.lines n l) (suc limit) []
+    (omega arith) tt (omega arith) in
     (b.0, a.0, record { before = b.1; after = a.1 })
 
 -- ---- an answer
 
-encoding_of : (M : Map) (P : Path) (b a js : List ℕ) → Tried M P b a → Follow M (extended M P b a).lines 0 js → Encoding M P (answer_by_points M (extended M P b a) js)
+encoding_of : (M : Map) (P : Path) (b a js : List ℕ) → Tried M P b a → Follow M (extended M P b a).lines 0 js →
+    Encoding M P (answer_by_points M (extended M P b a) js)
 encoding_of M P b a js t f = record { before = b; after = a; points = js; tried = t; follow = f; holds = refl }
 
-pub some_encoding : (M : Map) → IsMap M → (P : Path) → IsTrue (is_path P.lines) → path_fault M P ≡ None → (A : Answer) × Encoding M P A
+pub some_encoding : (M : Map) → IsMap M → (P : Path) → IsTrue (is_path P.lines) → path_fault M P ≡ None → (A : Answer)
+    × Encoding M P A
 some_encoding M m P is e =
     let n = path_nonempty P.lines is in
     let known = sound_lines M P e in
@@ -301,7 +356,8 @@ some_encoding M m P is e =
     let js = some_follow M m E.lines (length E.lines) 0 (omega arith) in
     (answer_by_points M E js.0, encoding_of M P t.0 t.1 js.0 t.2 js.1)
 
-some_by : (M : Map) → IsMap M → (P : Path) → IsTrue (is_path P.lines) → (o : Option Refusal) → path_fault M P ≡ o → (A : Answer) × MatchOption o (Encoding M P A) (λ r. A ≡ Refused r)
+some_by : (M : Map) → IsMap M → (P : Path) → IsTrue (is_path P.lines) → (o : Option Refusal) → path_fault M P ≡ o →
+    (A : Answer) × MatchOption o (Encoding M P A) (λ r. A ≡ Refused r)
 some_by M m P is None e = some_encoding M m P is e
 some_by M m P is (Some r) e = (Refused r, refl)
 

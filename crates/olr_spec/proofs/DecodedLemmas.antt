@@ -1,5 +1,7 @@
 -- Where the points of an answer are decoded.
-use Rattle.std.proofs.Common.{inl, inr, ◌≡◌, ℕ, zero, suc, ◌+◌, ◌*◌, ◌/◌, ℤ, pos, negsuc, neg_ℤ, ◌<ℤ◌, ◌*ℤ◌, ◌+ℤ◌, ◌-ℤ◌, true, false, List, [], ◌∷◌, ◌++◌, length, take, map, ◌<◌, ◌≤◌, Option, Some, None, is_some, IsTrue, cond, Bool, refl, sym, ap, ◌∙◌, subst, arith, nat_le, MatchOption}
+use Rattle.std.proofs.Common.{inl, inr, ◌≡◌, ℕ, zero, suc, ◌+◌, ◌*◌, ◌/◌, ℤ, pos, negsuc, neg_ℤ, ◌<ℤ◌, ◌*ℤ◌, ◌+ℤ◌, ◌-ℤ◌}
+use Rattle.std.proofs.Common.{true, false, List, [], ◌∷◌, ◌++◌, length, take, map, ◌<◌, ◌≤◌, Option, Some, None}
+use Rattle.std.proofs.Common.{is_some, IsTrue, cond, Bool, refl, sym, ap, ◌∙◌, subst, arith, nat_le, MatchOption}
 use Rattle.std.specs.Prelude.{nat_abs, slice_get, option_map}
 use Rattle.std.proofs.lemmas.Bool.{le-leb, leb-true}
 use Rattle.std.proofs.lemmas.Int.{ints}
@@ -9,12 +11,13 @@ use Rattle.olr_spec.specs.Map.{Map, IsMap, has_line, place_at, has}
 use Rattle.olr_spec.specs.Extension.{Path, is_path, extended}
 use Rattle.olr_spec.specs.Points.{node_at, Follow}
 use Rattle.olr_spec.specs.Bearings.{Leg}
-use Rattle.olr_spec.specs.Reference.{Middle, Reference, legs, position, first_kept, last_kept, kept, last_two, middle_points, reference_by_kept, reference_by, reference}
+use Rattle.olr_spec.specs.Reference.{Middle, Reference, legs, position, first_kept, last_kept, kept, last_two}
+use Rattle.olr_spec.specs.Reference.{middle_points, reference_by_kept, reference_by, reference}
 use Rattle.olr_spec.specs.Reference as fields
 use Rattle.olr_spec.specs.Encoding.{Points, Refused, Refusal, path_fault, Encoding, Encodes, IsPoint}
 use Rattle.olr_spec.specs.Decoded.{lon_steps, lat_steps, steps_sum, decoded, decoded_bound, IsNear}
 use Rattle.olr_spec.proofs.ListLemmas.{has_cases}
-use Rattle.olr_spec.proofs.AnswerLemmas.{sound_lines, all_first, all_last, path_nonempty, one_follow}
+use Rattle.olr_spec.proofs.AnswerLemmas.{sound_lines, all_first, all_last, path_nonempty, one_follow, path_also}
 use Rattle.olr_spec.proofs.ChainLemmas.{one_tried}
 use Rattle.olr_spec.proofs.KeptLemmas.{two_kept}
 use Rattle.olr_spec.proofs.FieldLemmas.{position_is}
@@ -51,8 +54,12 @@ minus_one n = omega (arith, ints)
 -- a place and the 24-bit step that it is put into
 close24 : (z : ℤ) → Close 7031250 (from_abs24 (abs24 z)) z
 close24 (pos zero) = record { below = omega (arith, ints); above = omega (arith, ints) }
-close24 (pos (suc n)) = subst (λ (k : ℤ). Close 7031250 (from_abs24 k) (pos (suc n))) (sym (plus_one ((suc n + 3515625) / 7031250))) (above24 (suc n) ((suc n + 3515625) / 7031250) refl)
-close24 (negsuc n) = subst (λ (k : ℤ). Close 7031250 (from_abs24 k) (negsuc n)) (sym (minus_one ((suc n + 3515625) / 7031250))) (below24 n ((suc n + 3515625) / 7031250) refl)
+close24 (pos (suc n)) =
+    subst (λ (k : ℤ). Close 7031250 (from_abs24 k) (pos (suc n))) (sym (plus_one ((suc n + 3515625) / 7031250)))
+    (above24 (suc n) ((suc n + 3515625) / 7031250) refl)
+close24 (negsuc n) =
+    subst (λ (k : ℤ). Close 7031250 (from_abs24 k) (negsuc n)) (sym (minus_one ((suc n + 3515625) / 7031250)))
+    (below24 n ((suc n + 3515625) / 7031250) refl)
 
 -- a difference and its relative value: at most half a relative step
 close16 : (z : ℤ) → Close 1638401 (from_rel16 (nearest 1638400 3276800 z)) z
@@ -69,18 +76,23 @@ relatives f h (i ∷ ks) = relative (f h) (f i) ∷ relatives f i ks
 
 -- one relative value more
 close_step : (n : ℕ) (a r x y : ℤ) → Close n a x → Close 1638401 r (y -ℤ x) → Close (n + 1638400) (a +ℤ r) y
-close_step n a r x y c d = let p = c.below in let q = c.above in let s = d.below in let t = d.above in record { below = omega (arith, ints); above = omega (arith, ints) }
+close_step n a r x y c d = let p = c.below in let q = c.above in let s = d.below in let t =
+    d.above in record { below = omega (arith, ints); above = omega (arith, ints) }
 
 close_same : (n m : ℕ) (a b y : ℤ) → n ≡ m → a ≡ b → Close n a y → Close m b y
 close_same n m a b y e f c = subst (λ (k : ℕ). Close k b y) e (subst (λ (z : ℤ). Close n z y) f c)
 
-close_on : (f : ℕ → ℤ) (n h k : ℕ) (ks : List ℕ) (a : ℤ) → Close n a (f h) → k ≤ length ks → Close (n + k * 1638400) (a +ℤ steps_sum (take k (relatives f h ks))) (f (slice_index (h ∷ ks) k))
-close_on f n h zero ks a c le = close_same n (n + zero * 1638400) a (a +ℤ pos 0) (f h) (omega arith) (omega (arith, ints)) c
+close_on : (f : ℕ → ℤ) (n h k : ℕ) (ks : List ℕ) (a : ℤ) → Close n a (f h) → k ≤ length ks →
+    Close (n + k * 1638400) (a +ℤ steps_sum (take k (relatives f h ks))) (f (slice_index (h ∷ ks) k))
+close_on f n h zero ks a c le =
+    close_same n (n + zero * 1638400) a (a +ℤ pos 0) (f h) (omega arith) (omega (arith, ints)) c
 close_on f n h (suc k) [] a c le = absurd (omega arith)
 close_on f n h (suc k) (i ∷ ks) a c le =
     let r = from_rel16 (relative (f h) (f i)) in
-    let rest = close_on f (n + 1638400) i k ks (a +ℤ r) (close_step n a r (f h) (f i) c (close16 (f i -ℤ f h))) (omega arith) in
-    close_same (n + 1638400 + k * 1638400) (n + suc k * 1638400) (a +ℤ r +ℤ steps_sum (take k (relatives f i ks))) (a +ℤ (r +ℤ steps_sum (take k (relatives f i ks)))) (f (slice_index (i ∷ ks) k)) (omega arith)
+    let rest =
+    close_on f (n + 1638400) i k ks (a +ℤ r) (close_step n a r (f h) (f i) c (close16 (f i -ℤ f h))) (omega arith) in
+    close_same (n + 1638400 + k * 1638400) (n + suc k * 1638400) (a +ℤ r +ℤ steps_sum (take k (relatives f i ks)))
+    (a +ℤ (r +ℤ steps_sum (take k (relatives f i ks)))) (f (slice_index (i ∷ ks) k)) (omega arith)
     (assoc a r (steps_sum (take k (relatives f i ks)))) rest
   where
     assoc : (a b c : ℤ) → a +ℤ b +ℤ c ≡ a +ℤ (b +ℤ c)
@@ -88,38 +100,64 @@ close_on f n h (suc k) (i ∷ ks) a c le =
 
 -- ---- the fields of a reference
 
-lon_relatives : (gs : List Leg) (h i : ℕ) (js : List ℕ) → map (λ (m : Middle). m.dlon) (middle_points gs h i js) ++ (fields.last_point gs (last_two h i js).0 (last_two h i js).1).dlon ∷ [] ≡ relatives (λ k. (position gs k).lon) h (i ∷ js)
+lon_relatives : (gs : List Leg) (h i : ℕ) (js : List ℕ) →
+    map (λ (m : Middle). m.dlon) (middle_points gs h i js)
+    ++ (fields.last_point gs (last_two h i js).0 (last_two h i js).1).dlon ∷ []
+    ≡ relatives (λ k. (position gs k).lon) h (i ∷ js)
 lon_relatives gs h i [] = refl
-lon_relatives gs h i (j ∷ js) = ap (λ (zs : List ℤ). relative (position gs h).lon (position gs i).lon ∷ zs) (lon_relatives gs i j js)
+lon_relatives gs h i (j ∷ js) =
+    ap (λ (zs : List ℤ). relative (position gs h).lon (position gs i).lon ∷ zs) (lon_relatives gs i j js)
 
-lat_relatives : (gs : List Leg) (h i : ℕ) (js : List ℕ) → map (λ (m : Middle). m.dlat) (middle_points gs h i js) ++ (fields.last_point gs (last_two h i js).0 (last_two h i js).1).dlat ∷ [] ≡ relatives (λ k. (position gs k).lat) h (i ∷ js)
+lat_relatives : (gs : List Leg) (h i : ℕ) (js : List ℕ) →
+    map (λ (m : Middle). m.dlat) (middle_points gs h i js)
+    ++ (fields.last_point gs (last_two h i js).0 (last_two h i js).1).dlat ∷ []
+    ≡ relatives (λ k. (position gs k).lat) h (i ∷ js)
 lat_relatives gs h i [] = refl
-lat_relatives gs h i (j ∷ js) = ap (λ (zs : List ℤ). relative (position gs h).lat (position gs i).lat ∷ zs) (lat_relatives gs i j js)
+lat_relatives gs h i (j ∷ js) =
+    ap (λ (zs : List ℤ). relative (position gs h).lat (position gs i).lat ∷ zs) (lat_relatives gs i j js)
 
 middle_count : (gs : List Leg) (h i : ℕ) (js : List ℕ) → length (middle_points gs h i js) ≡ length js
 middle_count gs h i [] = refl
 middle_count gs h i (j ∷ js) = ap suc (middle_count gs i j js)
 
-near_of : (gs : List Leg) (p q h i : ℕ) (js : List ℕ) (k : ℕ) → k ≤ length (i ∷ js) → (d : ℤ × ℤ) × (decoded (reference_by_kept gs p q h i js) k ≡ Some d) × IsNear k d (position gs (slice_index (h ∷ i ∷ js) k))
+near_of : (gs : List Leg) (p q h i : ℕ) (js : List ℕ) (k : ℕ) → k ≤ length (i ∷ js) → (d : ℤ × ℤ)
+    × (decoded (reference_by_kept gs p q h i js) k ≡ Some d) × IsNear k d (position gs (slice_index (h ∷ i ∷ js) k))
 near_of gs p q h i js k le =
     let r = reference_by_kept gs p q h i js in
-    let lon = close_on (λ n. (position gs n).lon) 7031250 h k (i ∷ js) (from_abs24 r.first.lon) (close24 (position gs h).lon) le in
-    let lat = close_on (λ n. (position gs n).lat) 7031250 h k (i ∷ js) (from_abs24 r.first.lat) (close24 (position gs h).lat) le in
+    let lon =
+    close_on (λ n. (position gs n).lon) 7031250 h k (i ∷ js) (from_abs24 r.first.lon) (close24 (position gs h).lon)
+    le in
+    let lat =
+    close_on (λ n. (position gs n).lat) 7031250 h k (i ∷ js) (from_abs24 r.first.lat) (close24 (position gs h).lat)
+    le in
     let lons = lon_relatives gs h i js in
     let lats = lat_relatives gs h i js in
-    let there : nat_le k (length r.middle + 1) ≡ true = le-leb k (length r.middle + 1) (let n = middle_count gs h i js in omega arith) in (
-      (from_abs24 r.first.lon +ℤ steps_sum (take k (lon_steps r)), from_abs24 r.first.lat +ℤ steps_sum (take k (lat_steps r))),
-      ap (λ (b : Bool). cond b (Some (from_abs24 r.first.lon +ℤ steps_sum (take k (lon_steps r)), from_abs24 r.first.lat +ℤ steps_sum (take k (lat_steps r)))) None) there,
+    let there : nat_le k (length r.middle + 1) ≡ true =
+    le-leb k (length r.middle + 1) (let n = middle_count gs h i js in omega arith) in (
+      (
+        from_abs24 r.first.lon +ℤ steps_sum (take k (lon_steps r)),
+        from_abs24 r.first.lat +ℤ steps_sum (take k (lat_steps r)),
+      ),
+      ap (λ (b : Bool). cond b
+          (Some (
+            from_abs24 r.first.lon +ℤ steps_sum (take k (lon_steps r)),
+            from_abs24 r.first.lat +ℤ steps_sum (take k (lat_steps r)),
+          )) None) there,
       record {
-        lon = close_abs (decoded_bound k) _ _ (subst (λ (zs : List ℤ). Close (decoded_bound k) (from_abs24 r.first.lon +ℤ steps_sum (take k zs)) (position gs (slice_index (h ∷ i ∷ js) k)).lon) (sym lons) lon);
-        lat = close_abs (decoded_bound k) _ _ (subst (λ (zs : List ℤ). Close (decoded_bound k) (from_abs24 r.first.lat +ℤ steps_sum (take k zs)) (position gs (slice_index (h ∷ i ∷ js) k)).lat) (sym lats) lat);
+        lon = close_abs (decoded_bound k) _ _
+            (subst (λ (zs : List ℤ). Close (decoded_bound k) (from_abs24 r.first.lon +ℤ steps_sum (take k zs))
+            (position gs (slice_index (h ∷ i ∷ js) k)).lon) (sym lons) lon);
+        lat = close_abs (decoded_bound k) _ _
+            (subst (λ (zs : List ℤ). Close (decoded_bound k) (from_abs24 r.first.lat +ℤ steps_sum (take k zs))
+            (position gs (slice_index (h ∷ i ∷ js) k)).lat) (sym lats) lat);
       },
     )
 
 -- ---- the points of an answer
 
 -- a list with two different numbers has two elements
-two_of : (ks : List ℕ) (a b : ℕ) → has ks a ≡ true → has ks b ≡ true → a < b → (h i : ℕ) × (js : List ℕ) × (ks ≡ h ∷ i ∷ js)
+two_of : (ks : List ℕ) (a b : ℕ) → has ks a ≡ true → has ks b ≡ true → a < b → (h i : ℕ) × (js : List ℕ)
+    × (ks ≡ h ∷ i ∷ js)
 two_of [] a b p q lt = absurd cc
 two_of (h ∷ []) a b p q lt =
     elim (has_cases h [] a p) [
@@ -133,15 +171,19 @@ record Decodes (gs : List Leg) (ks : List ℕ) (r : Reference) : Type 0 where
   count : length r.middle + 2 ≡ length ks
   near : (k : ℕ) → k < length ks → (d : ℤ × ℤ) × (decoded r k ≡ Some d) × IsNear k d (position gs (slice_index ks k))
 
-decodes : (gs : List Leg) (p q : ℕ) (ks : List ℕ) → (h i : ℕ) × (js : List ℕ) × (ks ≡ h ∷ i ∷ js) → Decodes gs ks (reference_by gs p q ks)
+decodes : (gs : List Leg) (p q : ℕ) (ks : List ℕ) → (h i : ℕ) × (js : List ℕ) × (ks ≡ h ∷ i ∷ js) →
+    Decodes gs ks (reference_by gs p q ks)
 decodes gs p q ks t =
     subst (λ (zs : List ℕ). Decodes gs zs (reference_by gs p q zs)) (sym t.3) (record {
       count = let n = middle_count gs t.0 t.1 t.2 in omega arith;
       near = λ k lt. near_of gs p q t.0 t.1 t.2 k (omega arith);
     })
 
-answer_decodes : (M : Map) → (P : Path) → IsTrue (is_path P.lines) → path_fault M P ≡ None → (r : Reference) → (e : Encoding M P (Points r))
-    → Decodes (legs M (extended M P e.before e.after).lines) (kept (legs M (extended M P e.before e.after).lines) (extended M P e.before e.after).pos (extended M P e.before e.after).neg e.points) r
+answer_decodes : (M : Map) → (P : Path) → IsTrue (is_path P.lines) → path_fault M P ≡ None → (r : Reference) →
+    (e : Encoding M P (Points r))
+    → Decodes (legs M (extended M P e.before e.after).lines)
+    (kept (legs M (extended M P e.before e.after).lines) (extended M P e.before e.after).pos
+    (extended M P e.before e.after).neg e.points) r
 answer_decodes M P is none r e =
     let E = extended M P e.before e.after in
     let gs = legs M E.lines in
@@ -150,9 +192,12 @@ answer_decodes M P is none r e =
     let ends = kept_ends M E.lines e.points E.pos E.neg e.follow a.0 s.long in
     let two = two_kept M E.lines e.points E.pos E.neg e.follow a.0 s.long in
     subst (Decodes gs (kept gs E.pos E.neg e.points)) (sym a.1)
-    (decodes gs _ _ (kept gs E.pos E.neg e.points) (two_of (kept gs E.pos E.neg e.points) (first_kept gs E.pos e.points) (last_kept gs E.neg e.points) ends.0 ends.1 two))
+    (decodes gs _ _ (kept gs E.pos E.neg e.points)
+    (two_of (kept gs E.pos E.neg e.points) (first_kept gs E.pos e.points) (last_kept gs E.neg e.points) ends.0 ends.1
+    two))
 
-got_index : (f : ℕ → ℕ) (ks : List ℕ) (k v : ℕ) → option_map f (slice_get ks k) ≡ Some v → (k < length ks) × (f (slice_index ks k) ≡ v)
+got_index : (f : ℕ → ℕ) (ks : List ℕ) (k v : ℕ) → option_map f (slice_get ks k) ≡ Some v → (k < length ks)
+    × (f (slice_index ks k) ≡ v)
 got_index f [] k v e = absurd cc
 got_index f (x ∷ ks) zero v e = (omega arith, cc)
 got_index f (x ∷ ks) (suc k) v e = let r = got_index f ks k v e in (omega (arith, r.0), r.1)
@@ -162,22 +207,31 @@ index_got [] k lt = absurd (omega arith)
 index_got (x ∷ ks) zero lt = refl
 index_got (x ∷ ks) (suc k) lt = index_got ks k (omega arith)
 
-module _ (M : Map) (m : IsMap M) (P : Path) (is : IsTrue (is_path P.lines)) (none : path_fault M P ≡ None) (r : Reference) (e : Encoding M P (Points r)) where
+module _ (M : Map) (m : IsMap M) (P : Path) (is : IsTrue (is_path P.lines)) (none : path_fault M P ≡ None)
+    (r : Reference) (e : Encoding M P (Points r)) where
   near_point : (k v : ℕ) → IsPoint M P k v → (d : ℤ × ℤ) × (decoded r k ≡ Some d) × IsNear k d (place_at M v)
   near_point k v p =
       let Known : ℕ → Type 0 = λ x. IsTrue (has_line M x) in
       let n = path_nonempty P.lines is in
       let known = sound_lines M P none in
       let E = extended M P e.before e.after in
-      let chains = one_tried M m P n (all_first Known P.lines n known) (all_last Known P.lines n known) e.before e.after p.before p.after e.tried p.tried in
+      let chains =
+      one_tried M m P n (all_first Known P.lines n known) (all_last Known P.lines n known) e.before e.after p.before
+      p.after e.tried p.tried in
       let same : E ≡ extended M P p.before p.after = λ i. extended M P (chains.0 i) (chains.1 i) in
-      let points : e.points ≡ p.points = one_follow M E.lines 0 e.points p.points e.follow (subst (λ (E : Path). Follow M E.lines 0 p.points) (sym same) p.follow) in
+      let points : e.points ≡ p.points =
+      one_follow M E.lines 0 e.points p.points e.follow
+      (subst (λ (E : Path). Follow M E.lines 0 p.points) (sym same) p.follow) in
       let there : option_map (node_at M E.lines) (slice_get (kept (legs M E.lines) E.pos E.neg e.points) k) ≡ Some v =
-      (λ i. option_map (node_at M (same i).lines) (slice_get (kept (legs M (same i).lines) (same i).pos (same i).neg (points i)) k)) ∙ p.holds in
+      (λ i. option_map (node_at M (same i).lines)
+      (slice_get (kept (legs M (same i).lines) (same i).pos (same i).neg (points i)) k)) ∙ p.holds in
       let at = got_index (node_at M E.lines) (kept (legs M E.lines) E.pos E.neg e.points) k v there in
       let near = (answer_decodes M P is none r e).near k at.0 in
       let s = extended_sound M P is none e.before e.after e.tried in
-      let place : position (legs M E.lines) (slice_index (kept (legs M E.lines) E.pos E.neg e.points) k) ≡ place_at M v = position_is M m E.lines s.known (slice_index (kept (legs M E.lines) E.pos E.neg e.points) k) s.size ∙ ap (place_at M) at.1 in
+      let place : position (legs M E.lines) (slice_index (kept (legs M E.lines) E.pos E.neg e.points) k)
+      ≡ place_at M v =
+      position_is M m E.lines s.known (slice_index (kept (legs M E.lines) E.pos E.neg e.points) k) s.size
+      ∙ ap (place_at M) at.1 in
       (near.0, near.1, subst (IsNear k near.0) place near.2)
 
   point_at : (k : ℕ) → is_some (decoded r k) ≡ true → (v : ℕ) × IsPoint M P k v
@@ -185,9 +239,10 @@ module _ (M : Map) (m : IsMap M) (P : Path) (is : IsTrue (is_path P.lines)) (non
       let E = extended M P e.before e.after in
       let ks = kept (legs M E.lines) E.pos E.neg e.points in
       let count = (answer_decodes M P is none r e).count in
-      let low : k ≤ length r.middle + 1 = leb-true k (length r.middle + 1) (taken (nat_le k (length r.middle + 1)) _ h) in (
+      let low : k ≤ length r.middle + 1 =
+      leb-true k (length r.middle + 1) (taken (nat_le k (length r.middle + 1)) _ h) in (
         node_at M E.lines (slice_index ks k),
-        record { before = e.before; after = e.after; points = e.points; tried = e.tried; follow = e.follow; holds = ap (option_map (node_at M E.lines)) (index_got ks k (omega arith)) },
+        path_also e (ap (option_map (node_at M E.lines)) (index_got ks k (omega arith))),
       )
     where
       taken : (b : Bool) (d : ℤ × ℤ) → is_some (cond b (Some d) None) ≡ true → b ≡ true
@@ -195,12 +250,17 @@ module _ (M : Map) (m : IsMap M) (P : Path) (is : IsTrue (is_path P.lines)) (non
       taken false d h = absurd cc
 
 -- the same of an answer
-by_fault : (M : Map) (P : Path) (r : Reference) (o : Option Refusal) → path_fault M P ≡ o → MatchOption o (Encoding M P (Points r)) (λ f. Points r ≡ Refused f) → (path_fault M P ≡ None) × Encoding M P (Points r)
+by_fault : (M : Map) (P : Path) (r : Reference) (o : Option Refusal) → path_fault M P ≡ o →
+    MatchOption o (Encoding M P (Points r)) (λ f. Points r ≡ Refused f) → (path_fault M P ≡ None)
+    × Encoding M P (Points r)
 by_fault M P r None f e = (f, e)
 by_fault M P r (Some g) f e = absurd cc
 
-pub decoded_near : (M : Map) → IsMap M → (P : Path) → IsTrue (is_path P.lines) → (r : Reference) → Encodes M P (Points r) → (k v : ℕ) → IsPoint M P k v → (d : ℤ × ℤ) × (decoded r k ≡ Some d) × IsNear k d (place_at M v)
+pub decoded_near : (M : Map) → IsMap M → (P : Path) → IsTrue (is_path P.lines) → (r : Reference) →
+    Encodes M P (Points r) → (k v : ℕ) → IsPoint M P k v → (d : ℤ × ℤ) × (decoded r k ≡ Some d)
+    × IsNear k d (place_at M v)
 decoded_near M m P is r e = let p = by_fault M P r (path_fault M P) refl e in near_point M m P is p.0 r p.1
 
-pub decoded_points : (M : Map) → IsMap M → (P : Path) → IsTrue (is_path P.lines) → (r : Reference) → Encodes M P (Points r) → (k : ℕ) → IsTrue (is_some (decoded r k)) → (v : ℕ) × IsPoint M P k v
+pub decoded_points : (M : Map) → IsMap M → (P : Path) → IsTrue (is_path P.lines) → (r : Reference) →
+    Encodes M P (Points r) → (k : ℕ) → IsTrue (is_some (decoded r k)) → (v : ℕ) × IsPoint M P k v
 decoded_points M m P is r e = let p = by_fault M P r (path_fault M P) refl e in point_at M m P is p.0 r p.1

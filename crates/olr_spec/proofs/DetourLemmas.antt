@@ -1,5 +1,6 @@
 -- Walks are the same on two maps unless a changed line offers a detour.
-use Rattle.std.proofs.Common.{inl, inr, ◌⊎◌, ◌≡◌, ℕ, List, [], ◌∷◌, ◌≤◌, Contains, true, false, refl, sym, ◌∙◌, subst, arith}
+use Rattle.std.proofs.Common.{inl, inr, ◌⊎◌, ◌≡◌, ℕ, List, [], ◌∷◌, ◌≤◌, Contains, true, false, refl, sym, ◌∙◌, subst}
+use Rattle.std.proofs.Common.{arith}
 use Rattle.std.proofs.lemmas.Bool.{cases_lt}
 use Rattle.olr_spec.specs.Map.{Map, end, dm, SameLine, SameRound, has}
 use Rattle.olr_spec.specs.Walks.{Walk, dm_of, Sole}
@@ -153,51 +154,50 @@ same_here M N C s t d tells clear xs w h =
       | inr p ↦ absurd (clear (wider N C s t (dm_of N xs) d h p.detour))
     ]
 
-pub walks_there : (M N : Map) (C : List ChangedLine) (s t d : ℕ) → Tells C M N → ¬ Detour N C s t d → (xs : List ℕ)
-    → Walk M s t xs × (dm_of M xs ≤ d) → Walk N s t xs × (dm_of N xs ≤ d)
-walks_there M N C s t d tells clear xs w =
-    let each = same_there M N C s t d tells clear xs w.0 w.1 in
+walk_by : (M N : Map) (s t d : ℕ) (xs : List ℕ) → Each (SameLine M N) xs → Walk M s t xs × (dm_of M xs ≤ d)
+    → Walk N s t xs × (dm_of N xs ≤ d)
+walk_by M N s t d xs each w =
     let e = same_dm_of M N xs each in
     let h : dm_of M xs ≤ d = w.1 in
     (Walk-moves M N s t xs each w.0, omega arith)
 
+pub walks_there : (M N : Map) (C : List ChangedLine) (s t d : ℕ) → Tells C M N → ¬ Detour N C s t d → (xs : List ℕ)
+    → Walk M s t xs × (dm_of M xs ≤ d) → Walk N s t xs × (dm_of N xs ≤ d)
+walks_there M N C s t d tells clear xs w = walk_by M N s t d xs (same_there M N C s t d tells clear xs w.0 w.1) w
+
 pub walks_here : (M N : Map) (C : List ChangedLine) (s t d : ℕ) → Tells C N M → ¬ Detour N C s t d → (xs : List ℕ)
     → Walk N s t xs × (dm_of N xs ≤ d) → Walk M s t xs × (dm_of M xs ≤ d)
-walks_here M N C s t d tells clear xs w =
-    let each = same_here M N C s t d tells clear xs w.0 w.1 in
-    let e = same_dm_of N M xs each in
-    let h : dm_of N xs ≤ d = w.1 in
-    (Walk-moves N M s t xs each w.0, omega arith)
+walks_here M N C s t d tells clear xs w = walk_by N M s t d xs (same_here M N C s t d tells clear xs w.0 w.1) w
 
 -- ---- sole walks
 
-pub sole_there : (M N : Map) (C : List ChangedLine) (s t d : ℕ) → Tells C M N → Tells C N M → ¬ Detour N C s t d
-    → (xs : List ℕ) → dm_of M xs ≡ dm_of N xs → dm_of M xs ≤ d → Sole M s t xs → Sole N s t xs
-sole_there M N C s t d there here clear xs e h sole = record {
-  walk = (walks_there M N C s t d there clear xs (sole.walk, h)).0;
+-- where each walk of N that is as short is one of M too
+sole_by : (M N : Map) (s t : ℕ) (xs : List ℕ) → Walk N s t xs
+    → ((ys : List ℕ) → Walk N s t ys → dm_of N ys ≤ dm_of N xs → Each (SameLine N M) ys) → dm_of M xs ≡ dm_of N xs
+    → Sole M s t xs → Sole N s t xs
+sole_by M N s t xs walk same e sole = record {
+  walk = walk;
   others = λ ys w other. elim (cases_lt (dm_of N xs) (dm_of N ys)) [
     | inl longer ↦ longer
     | inr short ↦
-        let each = same_here M N C s t d here clear ys w (omega arith) in
+        let each = same ys w short in
         let f = same_dm_of N M ys each in
         let long = sole.others ys (Walk-moves N M s t ys each w) other in
         absurd (omega arith)
   ];
 }
 
+pub sole_there : (M N : Map) (C : List ChangedLine) (s t d : ℕ) → Tells C M N → Tells C N M → ¬ Detour N C s t d
+    → (xs : List ℕ) → dm_of M xs ≡ dm_of N xs → dm_of M xs ≤ d → Sole M s t xs → Sole N s t xs
+sole_there M N C s t d there here clear xs e h sole =
+    sole_by M N s t xs (walks_there M N C s t d there clear xs (sole.walk, h)).0
+    (λ ys w short. same_here M N C s t d here clear ys w (omega arith)) e sole
+
 pub sole_here : (M N : Map) (C : List ChangedLine) (s t d : ℕ) → Tells C M N → Tells C N M → ¬ Detour N C s t d
     → (xs : List ℕ) → dm_of M xs ≡ dm_of N xs → dm_of M xs ≤ d → Sole N s t xs → Sole M s t xs
-sole_here M N C s t d there here clear xs e h sole = record {
-  walk = (walks_here M N C s t d here clear xs (sole.walk, omega arith)).0;
-  others = λ ys w other. elim (cases_lt (dm_of M xs) (dm_of M ys)) [
-    | inl longer ↦ longer
-    | inr short ↦
-        let each = same_there M N C s t d there clear ys w (omega arith) in
-        let f = same_dm_of M N ys each in
-        let long = sole.others ys (Walk-moves M N s t ys each w) other in
-        absurd (omega arith)
-  ];
-}
+sole_here M N C s t d there here clear xs e h sole =
+    sole_by N M s t xs (walks_here M N C s t d here clear xs (sole.walk, omega arith)).0
+    (λ ys w short. same_there M N C s t d there clear ys w (omega arith)) (sym e) sole
 
 -- ---- near
 

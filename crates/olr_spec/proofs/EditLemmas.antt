@@ -1,5 +1,7 @@
 -- What an edit changes, and what it leaves.
-use Rattle.std.proofs.Common.{inl, inr, ◌≡◌, ◌≢◌, ℕ, Bool, true, false, cond, not, ◌&&◌, ◌||◌, List, [], ◌∷◌, Option, Some, None, is_some, Result, Ok, IsTrue, refl, sym, ap, ◌∙◌, subst, nat_cmp, ◌==◌, unwrap_or}
+use Rattle.std.proofs.Common.{inl, inr, ◌≡◌, ◌≢◌, ℕ, Bool, true, false, cond, not, ◌&&◌, ◌||◌, List, [], ◌∷◌, Option}
+use Rattle.std.proofs.Common.{Some, None, is_some, Result, Ok, IsTrue, refl, sym, ap, ◌∙◌, subst, nat_cmp, ◌==◌}
+use Rattle.std.proofs.Common.{unwrap_or}
 use Rattle.std.proofs.lemmas.Bool.{cases_eq, eq-eqb, ne_eqb, both_ways, and_parts, or_parts, not-false}
 use Rattle.std.specs.List.{list_any, AllByRecursion}
 use Rattle.std.specs.Ordering.{eq_by_cmp}
@@ -7,11 +9,15 @@ use Rattle.std.specs.Cmp.{nat_cmp_total, unsigned_tied}
 use Rattle.std.specs.FinMap.{FinMap, get, insert, remove, entries, get-insert, get-remove, get-entries}
 use Rattle.std.specs.FinMap.Entries.{find}
 use Rattle.olr_spec.specs.Coordinates.{Coord, is_coord}
-use Rattle.olr_spec.specs.Map.{MapFault, Map, IsMap, Line, is_good, are_coords, has_node, has_line, line_at, no_line, no_place, start, end, Edit, Add_node, Move_node, Drop_node, Add_line, Set_line, Drop_line, Node_exists, No_node, Line_exists, No_line, Node_in_use, Bad_shape, edited, unless, in_use, touched_nodes, touched_lines, SameLine, Agree, has, HasPlace}
+use Rattle.olr_spec.specs.Map.{MapFault, Map, IsMap, Line, is_good, are_coords, has_node, has_line, line_at, no_line}
+use Rattle.olr_spec.specs.Map.{no_place, start, end, Edit, Add_node, Move_node, Drop_node, Add_line, Set_line}
+use Rattle.olr_spec.specs.Map.{Drop_line, Node_exists, No_node, Line_exists, No_line, Node_in_use, Bad_shape, edited}
+use Rattle.olr_spec.specs.Map.{unless, in_use, touched_nodes, touched_lines, SameLine, Agree, has, HasPlace}
 use Rattle.olr_spec.proofs.ListLemmas.{has_here, has_there}
 use Rattle.olr_spec.proofs.AgreeLemmas.{known_record}
 
-passed_test : {A F : Type 0} (b : Bool) (f : F) (r : Result A F) (x : A) → unless b f r ≡ Ok x → (b ≡ false) × (r ≡ Ok x)
+pub passed_test : {A F : Type 0} (b : Bool) (f : F) (r : Result A F) (x : A) → unless b f r ≡ Ok x → (b ≡ false)
+    × (r ≡ Ok x)
 passed_test true f r x e = absurd cc
 passed_test false f r x e = (refl, e)
 
@@ -61,21 +67,28 @@ made_by M N (Drop_line x) e =
 
 module _ {X : Type 0} where
   pub got_other : (m : FinMap nat_cmp X) (k : ℕ) (v : X) (q : ℕ) → q ≢ k → get (insert m k v) q ≡ get m q
-  got_other m k v q ne = get-insert nat_cmp_total m k v q ∙ ap (λ (b : Bool). cond b (Some v) (get m q)) (unsigned_tied q k ∙ ne_eqb q k ne)
+  got_other m k v q ne =
+      get-insert nat_cmp_total m k v q
+      ∙ ap (λ (b : Bool). cond b (Some v) (get m q)) (unsigned_tied q k ∙ ne_eqb q k ne)
 
   pub got_same : (m : FinMap nat_cmp X) (k : ℕ) (v : X) → get (insert m k v) k ≡ Some v
-  got_same m k v = get-insert nat_cmp_total m k v k ∙ ap (λ (b : Bool). cond b (Some v) (get m k)) (unsigned_tied k k ∙ eq-eqb k k refl)
+  got_same m k v =
+      get-insert nat_cmp_total m k v k
+      ∙ ap (λ (b : Bool). cond b (Some v) (get m k)) (unsigned_tied k k ∙ eq-eqb k k refl)
 
   pub left_other : (m : FinMap nat_cmp X) (k q : ℕ) → q ≢ k → get (remove m k) q ≡ get m q
-  left_other m k q ne = get-remove nat_cmp_total m k q ∙ ap (λ (b : Bool). cond b None (get m q)) (unsigned_tied q k ∙ ne_eqb q k ne)
+  left_other m k q ne =
+      get-remove nat_cmp_total m k q ∙ ap (λ (b : Bool). cond b None (get m q)) (unsigned_tied q k ∙ ne_eqb q k ne)
 
   pub left_same : (m : FinMap nat_cmp X) (k : ℕ) → get (remove m k) k ≡ None
-  left_same m k = get-remove nat_cmp_total m k k ∙ ap (λ (b : Bool). cond b None (get m k)) (unsigned_tied k k ∙ eq-eqb k k refl)
+  left_same m k =
+      get-remove nat_cmp_total m k k ∙ ap (λ (b : Bool). cond b None (get m k)) (unsigned_tied k k ∙ eq-eqb k k refl)
 
 -- ---- locality
 
 -- maps with the same lines, whose nodes differ at u alone
-nodes_agree : (M N : Map) (u : ℕ) (P : List ℕ) (F : ℕ → Type 0) → ((x : ℕ) → get M.lines x ≡ get N.lines x) → ((v : ℕ) → v ≢ u → get M.nodes v ≡ get N.nodes v) → ¬ F u → Agree M N P F
+nodes_agree : (M N : Map) (u : ℕ) (P : List ℕ) (F : ℕ → Type 0) → ((x : ℕ) → get M.lines x ≡ get N.lines x) →
+    ((v : ℕ) → v ≢ u → get M.nodes v ≡ get N.nodes v) → ¬ F u → Agree M N P F
 nodes_agree M N u P F lines nodes far =
     record {
       nodes = λ v f. record {
@@ -91,18 +104,26 @@ nodes_agree M N u P F lines nodes far =
     all (x ∷ xs) = (lines x, all xs)
 
 -- maps with the same nodes, whose lines differ at y alone, with ends out of F
-lines_agree : (M N : Map) (y : ℕ) (P : List ℕ) (F : ℕ → Type 0) → ((v : ℕ) → get M.nodes v ≡ get N.nodes v) → ((x : ℕ) → x ≢ y → get M.lines x ≡ get N.lines x)
-    → ((l : Line) → get M.lines y ≡ Some l → (¬ F l.from) × (¬ F l.to)) → ((l : Line) → get N.lines y ≡ Some l → (¬ F l.from) × (¬ F l.to)) → has P y ≡ false → Agree M N P F
+lines_agree : (M N : Map) (y : ℕ) (P : List ℕ) (F : ℕ → Type 0) → ((v : ℕ) → get M.nodes v ≡ get N.nodes v) →
+    ((x : ℕ) → x ≢ y → get M.lines x ≡ get N.lines x)
+    → ((l : Line) → get M.lines y ≡ Some l → (¬ F l.from) × (¬ F l.to)) →
+    ((l : Line) → get N.lines y ≡ Some l → (¬ F l.from) × (¬ F l.to)) → has P y ≡ false → Agree M N P F
 lines_agree M N y P F nodes lines here there out =
     record {
       nodes = λ v f. record {
         place = nodes v;
         entering = λ x l. elim (cases_eq x y) [
-          | inl e ↦ ((λ p. absurd ((here l (ap (get M.lines) (sym e) ∙ p.0)).1 (subst F (sym p.1) f))), (λ p. absurd ((there l (ap (get N.lines) (sym e) ∙ p.0)).1 (subst F (sym p.1) f))))
+          | inl e ↦ (
+            (λ p. absurd ((here l (ap (get M.lines) (sym e) ∙ p.0)).1 (subst F (sym p.1) f))),
+            (λ p. absurd ((there l (ap (get N.lines) (sym e) ∙ p.0)).1 (subst F (sym p.1) f))),
+          )
           | inr ne ↦ ((λ p. (sym (lines x ne) ∙ p.0, p.1)), (λ p. (lines x ne ∙ p.0, p.1)))
         ];
         leaving = λ x l. elim (cases_eq x y) [
-          | inl e ↦ ((λ p. absurd ((here l (ap (get M.lines) (sym e) ∙ p.0)).0 (subst F (sym p.1) f))), (λ p. absurd ((there l (ap (get N.lines) (sym e) ∙ p.0)).0 (subst F (sym p.1) f))))
+          | inl e ↦ (
+            (λ p. absurd ((here l (ap (get M.lines) (sym e) ∙ p.0)).0 (subst F (sym p.1) f))),
+            (λ p. absurd ((there l (ap (get N.lines) (sym e) ∙ p.0)).0 (subst F (sym p.1) f))),
+          )
           | inr ne ↦ ((λ p. (sym (lines x ne) ∙ p.0, p.1)), (λ p. (lines x ne ∙ p.0, p.1)))
         ];
       };
@@ -120,7 +141,9 @@ ends_out : (F : ℕ → Type 0) (s t : ℕ) (l : Line) → ¬ F s → ¬ F t →
 ends_out F s t l a b e f = ((λ h. a (subst F e h)), (λ h. b (subst F f h)))
 
 ends_of : (M : Map) (x : ℕ) (l : Line) → get M.lines x ≡ Some l → (l.from ≡ start M x) × (l.to ≡ end M x)
-ends_of M x l e = let r = ap (λ (o : Option Line). unwrap_or o no_line) e in (sym (ap (λ (k : Line). k.from) r), sym (ap (λ (k : Line). k.to) r))
+ends_of M x l e = let r =
+    ap (λ (o : Option Line). unwrap_or o no_line) e in
+    (sym (ap (λ (k : Line). k.from) r), sym (ap (λ (k : Line). k.to) r))
 
 same_line : (o : Option Line) (k l : Line) → o ≡ Some k → o ≡ Some l → l ≡ k
 same_line o k l e f = cc
@@ -132,7 +155,9 @@ set_out M x l F a b k h =
     let same = same_line (get (insert M.lines x l) x) l k (got_same M.lines x l) h in
     ends_out F l.from l.to k a b (ap (λ (j : Line). j.from) same) (ap (λ (j : Line). j.to) same)
 
-pub edits_are_local : (M N : Map) (e : Edit) (P : List ℕ) (F : ℕ → Type 0) → edited M e ≡ Ok N → ((v : ℕ) → has (touched_nodes M e) v ≡ true → ¬ F v) → ((x : ℕ) → has (touched_lines e) x ≡ true → has P x ≡ false) → Agree M N P F
+pub edits_are_local : (M N : Map) (e : Edit) (P : List ℕ) (F : ℕ → Type 0) → edited M e ≡ Ok N →
+    ((v : ℕ) → has (touched_nodes M e) v ≡ true → ¬ F v) →
+    ((x : ℕ) → has (touched_lines e) x ≡ true → has P x ≡ false) → Agree M N P F
 edits_are_local M N (Add_node v c) P F e nodes lines =
     let to = record M { nodes = insert M.nodes v c } in
     subst (λ (K : Map). Agree M K P F) (made_by M N (Add_node v c) e).1
@@ -175,32 +200,39 @@ edits_are_local M N (Drop_line x) P F e nodes lines =
 -- ---- sound maps
 
 module _ {X : Type 0} (Q : X → Type 0) (d : X) where
-  inserted : (m : FinMap nat_cmp X) (k : ℕ) (v : X) (q : ℕ) → Q v → (is_some (get m q) ≡ true → Q (unwrap_or (get m q) d)) → is_some (get (insert m k v) q) ≡ true → Q (unwrap_or (get (insert m k v) q) d)
+  inserted : (m : FinMap nat_cmp X) (k : ℕ) (v : X) (q : ℕ) → Q v →
+      (is_some (get m q) ≡ true → Q (unwrap_or (get m q) d)) → is_some (get (insert m k v) q) ≡ true →
+      Q (unwrap_or (get (insert m k v) q) d)
   inserted m k v q new old h =
       elim (cases_eq q k) [
         | inl e ↦ subst (λ (o : Option X). Q (unwrap_or o d)) (sym (ap (get (insert m k v)) e ∙ got_same m k v)) new
         | inr ne ↦
             let same = got_other m k v q ne in
-            subst (λ (o : Option X). Q (unwrap_or o d)) (sym same) (old (sym (ap (λ (o : Option X). is_some o) same) ∙ h))
+            subst (λ (o : Option X). Q (unwrap_or o d)) (sym same)
+            (old (sym (ap (λ (o : Option X). is_some o) same) ∙ h))
       ]
 
-  removed : (m : FinMap nat_cmp X) (k q : ℕ) → (is_some (get m q) ≡ true → q ≢ k → Q (unwrap_or (get m q) d)) → is_some (get (remove m k) q) ≡ true → Q (unwrap_or (get (remove m k) q) d)
+  removed : (m : FinMap nat_cmp X) (k q : ℕ) → (is_some (get m q) ≡ true → q ≢ k → Q (unwrap_or (get m q) d)) →
+      is_some (get (remove m k) q) ≡ true → Q (unwrap_or (get (remove m k) q) d)
   removed m k q old h =
       elim (cases_eq q k) [
         | inl e ↦ absurd (let none = ap (λ (o : Option X). is_some o) (ap (get (remove m k)) e ∙ left_same m k) in cc)
         | inr ne ↦
             let same = left_other m k q ne in
-            subst (λ (o : Option X). Q (unwrap_or o d)) (sym same) (old (sym (ap (λ (o : Option X). is_some o) same) ∙ h) ne)
+            subst (λ (o : Option X). Q (unwrap_or o d)) (sym same)
+            (old (sym (ap (λ (o : Option X). is_some o) same) ∙ h) ne)
       ]
 
-still_there : {X : Type 0} (m : FinMap nat_cmp X) (k : ℕ) (v : X) (q : ℕ) → is_some (get m q) ≡ true → is_some (get (insert m k v) q) ≡ true
+still_there : {X : Type 0} (m : FinMap nat_cmp X) (k : ℕ) (v : X) (q : ℕ) → is_some (get m q) ≡ true →
+    is_some (get (insert m k v) q) ≡ true
 still_there {X} m k v q h =
     elim (cases_eq q k) [
       | inl e ↦ ap (λ (o : Option X). is_some o) (ap (get (insert m k v)) e ∙ got_same m k v)
       | inr ne ↦ ap (λ (o : Option X). is_some o) (got_other m k v q ne) ∙ h
     ]
 
-with_node : (M : Map) (v : ℕ) (c : Coord) → IsMap M → IsTrue (is_coord c) → IsMap (record M { nodes = insert M.nodes v c })
+with_node : (M : Map) (v : ℕ) (c : Coord) → IsMap M → IsTrue (is_coord c) →
+    IsMap (record M { nodes = insert M.nodes v c })
 with_node M v c m h =
     record {
       good = m.good;
@@ -211,15 +243,19 @@ with_node M v c m h =
     }
 
 -- no line of the list goes to v or from v
-unused : (v : ℕ) (es : List (ℕ × Line)) → list_any (λ e. e.1.to == v || e.1.from == v) es ≡ false → (x : ℕ) (l : Line) → find nat_cmp x es ≡ Some l → (l.to ≢ v) × (l.from ≢ v)
+unused : (v : ℕ) (es : List (ℕ × Line)) → list_any (λ e. e.1.to == v || e.1.from == v) es ≡ false → (x : ℕ) (l : Line) →
+    find nat_cmp x es ≡ Some l → (l.to ≢ v) × (l.from ≢ v)
 unused v [] h x l e = absurd cc
 unused v (f ∷ es) h x l e =
     let p = or_parts (f.1.to == v || f.1.from == v) (list_any (λ e. e.1.to == v || e.1.from == v) es) h in
-    elim (eq_by_cmp nat_cmp x f.0) as (λ b. cond b (Some f.1) (find nat_cmp x es) ≡ Some l → (l.to ≢ v) × (l.from ≢ v)) [
+    elim (eq_by_cmp nat_cmp x f.0) as (λ b. cond b (Some f.1) (find nat_cmp x es) ≡ Some l → (l.to ≢ v)
+    × (l.from ≢ v)) [
       | true ↦ λ g.
           let is : f.1 ≡ l = cc in
-          let q = or_parts (f.1.to == v) (f.1.from == v) p.0 in
-          ((λ t. both_ways (f.1.to == v) q.0 (eq-eqb f.1.to v (ap (λ (k : Line). k.to) is ∙ t))), (λ t. both_ways (f.1.from == v) q.1 (eq-eqb f.1.from v (ap (λ (k : Line). k.from) is ∙ t))))
+          let q = or_parts (f.1.to == v) (f.1.from == v) p.0 in (
+            (λ t. both_ways (f.1.to == v) q.0 (eq-eqb f.1.to v (ap (λ (k : Line). k.to) is ∙ t))),
+            (λ t. both_ways (f.1.from == v) q.1 (eq-eqb f.1.from v (ap (λ (k : Line). k.from) is ∙ t))),
+          )
       | false ↦ λ g. unused v es p.1 x l g
     ] e
 
@@ -227,13 +263,22 @@ without_node : (M : Map) (v : ℕ) → IsMap M → in_use M v ≡ false → IsMa
 without_node M v m h =
     record {
       good = m.good;
-      starts = λ x k. ap (λ (o : Option Coord). is_some o) (left_other M.nodes v (start M x) (unused v (entries M.lines) h x (line_at M x) (sym (get-entries M.lines x) ∙ known_record M x k)).1) ∙ m.starts x k;
-      ends = λ x k. ap (λ (o : Option Coord). is_some o) (left_other M.nodes v (end M x) (unused v (entries M.lines) h x (line_at M x) (sym (get-entries M.lines x) ∙ known_record M x k)).0) ∙ m.ends x k;
+      starts =
+          λ x k. ap (λ (o : Option Coord). is_some o)
+          (left_other M.nodes v (start M x)
+          (unused v (entries M.lines) h x (line_at M x) (sym (get-entries M.lines x) ∙ known_record M x k)).1)
+          ∙ m.starts x k;
+      ends =
+          λ x k. ap (λ (o : Option Coord). is_some o)
+          (left_other M.nodes v (end M x)
+          (unused v (entries M.lines) h x (line_at M x) (sym (get-entries M.lines x) ∙ known_record M x k)).0)
+          ∙ m.ends x k;
       places = λ u k. removed (λ p. IsTrue (is_coord p)) no_place M.nodes v u (λ i _. m.places u i) k;
       shapes = m.shapes;
     }
 
-with_line : (M : Map) (x : ℕ) (l : Line) → IsMap M → IsTrue (is_good l) → IsTrue (has_node M l.from) → IsTrue (has_node M l.to) → IsTrue (are_coords l.shape) → IsMap (record M { lines = insert M.lines x l })
+with_line : (M : Map) (x : ℕ) (l : Line) → IsMap M → IsTrue (is_good l) → IsTrue (has_node M l.from) →
+    IsTrue (has_node M l.to) → IsTrue (are_coords l.shape) → IsMap (record M { lines = insert M.lines x l })
 with_line M x l m g a b c =
     record {
       good = λ y k. inserted (λ j. IsTrue (is_good j)) no_line M.lines x l y g (m.good y) k;

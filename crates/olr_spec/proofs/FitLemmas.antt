@@ -1,5 +1,7 @@
 -- The reference of an answer has a spelling.
-use Rattle.std.proofs.Common.{inl, inr, ◌≡◌, ℕ, ◌+◌, ◌-◌, Bool, true, false, cond, List, [], ◌∷◌, length, ◌<◌, ◌≤◌, Option, Some, None, IsTrue, refl, sym, ap, ◌∙◌, subst, arith, nat_le, ◌==◌, length-append, MatchOption}
+use Rattle.std.proofs.Common.{inl, inr, ◌≡◌, ℕ, ◌+◌, ◌-◌, Bool, true, false, cond, List, [], ◌∷◌, length, ◌<◌, ◌≤◌}
+use Rattle.std.proofs.Common.{Option, Some, None, IsTrue, refl, sym, ap, ◌∙◌, subst, arith, nat_le, ◌==◌, length-append}
+use Rattle.std.proofs.Common.{MatchOption}
 use Rattle.std.proofs.lemmas.Bool.{cases_Bool, eqb-true, leb-true, leb-false, le-leb, and_parts, and_from}
 use Rattle.std.proofs.lemmas.Bool.Decides.{nat_tests}
 use Rattle.std.proofs.lemmas.List.{length-map}
@@ -8,8 +10,10 @@ use Rattle.olr_spec.specs.Map.{Map, IsMap, has_line, has}
 use Rattle.olr_spec.specs.Walks.{dm_of}
 use Rattle.olr_spec.specs.Extension.{Path, Tried, is_path, extended, from_start, taken_start, taken_end}
 use Rattle.olr_spec.specs.Points.{Follow, last_position}
-use Rattle.olr_spec.specs.Reference.{Reference, leg, legs, dm_between, from_front, to_back, first_kept, last_kept, kept, last_two, reference_by, reference}
-use Rattle.olr_spec.specs.Encoding.{Points, Refused, Refusal, Unknown_line, Broken, Offset_too_long, No_next_point, first_unknown, first_break, path_fault, answer_by_points, Encoding, Encodes}
+use Rattle.olr_spec.specs.Reference.{Reference, leg, legs, dm_between, from_front, to_back, first_kept, last_kept, kept}
+use Rattle.olr_spec.specs.Reference.{last_two, reference_by, reference}
+use Rattle.olr_spec.specs.Encoding.{Points, Refused, Refusal, Unknown_line, Broken, Offset_too_long, No_next_point}
+use Rattle.olr_spec.specs.Encoding.{first_unknown, first_break, path_fault, answer_by_points, Encoding, Encodes}
 use Rattle.olr_spec.specs.Bytes.{IsReference}
 use Rattle.olr_spec.proofs.WalkLemmas.{dm_of-append}
 use Rattle.olr_spec.proofs.ListLemmas.{Each, Each-append, Each-from, has_here, has_there, has_cases}
@@ -18,13 +22,19 @@ use Rattle.olr_spec.proofs.ChainMoves.{StartChain-known, EndChain-known}
 use Rattle.olr_spec.proofs.PointMoves.{Each-cond}
 use Rattle.olr_spec.proofs.JoinLemmas.{Linked, follow_linked, kept_linked, between}
 use Rattle.olr_spec.proofs.KeptLemmas.{whole, front_within, back_within, two_kept, has_last_point, nothing_left}
-use Rattle.olr_spec.proofs.FieldLemmas.{has_filter, filter_has, linked_above, linked_last, has_last_two, last_two_linked, has_last_where, has_first_where, none_after, none_before, attrs_fit, first_fits, middles_fit, last_fits, offset_fits, from_front-add}
+use Rattle.olr_spec.proofs.FieldLemmas.{has_filter, filter_has, linked_above, linked_last, has_last_two}
+use Rattle.olr_spec.proofs.FieldLemmas.{last_two_linked, has_last_where, has_first_where, none_after, none_before}
+use Rattle.olr_spec.proofs.FieldLemmas.{attrs_fit, first_fits, middles_fit, last_fits, offset_fits, from_front-add}
 
-module _ (M : Map) (m : IsMap M) (ls : List ℕ) (known : Each (λ x. IsTrue (has_line M x)) ls) (n : 0 < length ls) (positive negative a b : ℕ) (two : a < b)
+module _ (M : Map) (m : IsMap M) (ls : List ℕ) (known : Each (λ x. IsTrue (has_line M x)) ls) (n : 0 < length ls)
+    (positive negative a b : ℕ) (two : a < b)
     (front : from_front (legs M ls) a ≤ positive) (back : to_back (legs M ls) b ≤ negative) where
-  by_kept : (ks : List ℕ) → Linked M ls ks → has ks a ≡ true → has ks b ≡ true → Each (λ k. a ≤ k) ks → Each (λ k. k ≤ b) ks
-      → Each (λ k. a < k → positive < from_front (legs M ls) k) ks → Each (λ k. k < b → negative < to_back (legs M ls) k) ks
-      → IsReference (reference_by (legs M ls) (positive - from_front (legs M ls) a) (negative - to_back (legs M ls) b) ks)
+  by_kept : (ks : List ℕ) → Linked M ls ks → has ks a ≡ true → has ks b ≡ true → Each (λ k. a ≤ k) ks →
+      Each (λ k. k ≤ b) ks
+      → Each (λ k. a < k → positive < from_front (legs M ls) k) ks →
+      Each (λ k. k < b → negative < to_back (legs M ls) k) ks
+      → IsReference (reference_by (legs M ls) (positive - from_front (legs M ls) a) (negative - to_back (legs M ls) b)
+      ks)
   by_kept [] l ha hb above below after before = absurd cc
   by_kept (h ∷ []) l ha hb above below after before =
       let p = linked_above M ls h [] tt a ha in
@@ -66,25 +76,39 @@ module _ (M : Map) (m : IsMap M) (ls : List ℕ) (known : Each (λ x. IsTrue (ha
       }
 
 -- the first and the last kept point are kept
-pub kept_ends : (M : Map) (ls js : List ℕ) (positive negative : ℕ) → Follow M ls 0 js → last_position 0 js ≡ length ls → positive + negative < dm_of M ls
-    → (has (kept (legs M ls) positive negative js) (first_kept (legs M ls) positive js) ≡ true) × (has (kept (legs M ls) positive negative js) (last_kept (legs M ls) negative js) ≡ true)
+pub kept_ends : (M : Map) (ls js : List ℕ) (positive negative : ℕ) → Follow M ls 0 js → last_position 0 js ≡ length ls →
+    positive + negative < dm_of M ls
+    → (has (kept (legs M ls) positive negative js) (first_kept (legs M ls) positive js) ≡ true)
+    × (has (kept (legs M ls) positive negative js) (last_kept (legs M ls) negative js) ≡ true)
 kept_ends M ls js positive negative f e less =
     let gs = legs M ls in
     let a = first_kept gs positive js in
     let b = last_kept gs negative js in
     let end : last_position 0 js ≡ length gs = e ∙ sym (length-map ls (leg M)) in
     let two = two_kept M ls js positive negative f e less in
-    let ends : nat_le (to_back gs (last_position 0 js)) negative ≡ true = le-leb (to_back gs (last_position 0 js)) negative (let none = nothing_left gs (last_position 0 js) end in omega arith) in
+    let ends : nat_le (to_back gs (last_position 0 js)) negative ≡ true =
+    le-leb (to_back gs (last_position 0 js)) negative (let none = nothing_left gs (last_position 0 js) end in
+    omega arith) in
     let on_a : has (0 ∷ js) a ≡ true = has_any a (has_last_where (λ i. nat_le (from_front gs i) positive) 0 (0 ∷ js)) in
-    let on_b : has (0 ∷ js) b ≡ true = has_first_where (λ i. nat_le (to_back gs i) negative) 0 (0 ∷ js) (last_position 0 js) (has_last_point 0 js) ends in
-    let in_a : between a b a ≡ true = and_from (nat_le a a) (nat_le a b) (le-leb a a (omega arith)) (le-leb a b (omega arith)) in
-    let in_b : between a b b ≡ true = and_from (nat_le a b) (nat_le b b) (le-leb a b (omega arith)) (le-leb b b (omega arith)) in
+    let on_b : has (0 ∷ js) b ≡ true =
+    has_first_where (λ i. nat_le (to_back gs i) negative) 0 (0 ∷ js) (last_position 0 js) (has_last_point 0 js) ends in
+    let in_a : between a b a ≡ true =
+    and_from (nat_le a a) (nat_le a b) (le-leb a a (omega arith)) (le-leb a b (omega arith)) in
+    let in_b : between a b b ≡ true =
+    and_from (nat_le a b) (nat_le b b) (le-leb a b (omega arith)) (le-leb b b (omega arith)) in
     (filter_has (between a b) (0 ∷ js) a on_a in_a, filter_has (between a b) (0 ∷ js) b on_b in_b)
   where
     has_any : (k : ℕ) → has (0 ∷ 0 ∷ js) k ≡ true → has (0 ∷ js) k ≡ true
-    has_any k h = elim (has_cases 0 (0 ∷ js) k h) [ inl e ↦ subst (λ (y : ℕ). has (0 ∷ js) y ≡ true) e (has_here 0 js) | inr j ↦ j ]
+    has_any k h =
+        elim (has_cases 0 (0 ∷ js) k h) [
+          | inl e ↦ subst (λ (y : ℕ). has (0 ∷ js) y ≡ true) e (has_here 0 js)
+          | inr j ↦
+              j
+        ]
 
-pub reference_fits : (M : Map) → IsMap M → (ls : List ℕ) → Each (λ x. IsTrue (has_line M x)) ls → 0 < length ls → (js : List ℕ) (positive negative : ℕ) → Follow M ls 0 js → last_position 0 js ≡ length ls → positive + negative < dm_of M ls
+pub reference_fits : (M : Map) → IsMap M → (ls : List ℕ) → Each (λ x. IsTrue (has_line M x)) ls → 0 < length ls →
+    (js : List ℕ) (positive negative : ℕ) → Follow M ls 0 js → last_position 0 js ≡ length ls →
+    positive + negative < dm_of M ls
     → IsReference (reference (legs M ls) positive negative js)
 reference_fits M m ls known n js positive negative f e less =
     let gs = legs M ls in
@@ -95,19 +119,26 @@ reference_fits M m ls known n js positive negative f e less =
     let ends = kept_ends M ls js positive negative f e less in
     let front = front_within gs positive js in
     let back = back_within gs negative js (e ∙ sym (length-map ls (leg M))) in
-    by_kept M m ls known n positive negative a b two front back (kept gs positive negative js) (kept_linked M ls a b (0 ∷ js) l) ends.0 ends.1
+    by_kept M m ls known n positive negative a b two front back (kept gs positive negative js)
+    (kept_linked M ls a b (0 ∷ js) l) ends.0 ends.1
     (λ k h. let r = has_filter (between a b) (0 ∷ js) k h in leb-true a k (and_parts (nat_le a k) (nat_le k b) r.1).0)
     (λ k h. let r = has_filter (between a b) (0 ∷ js) k h in leb-true k b (and_parts (nat_le a k) (nat_le k b) r.1).1)
-    (λ k h lt. let r = has_filter (between a b) (0 ∷ js) k h in leb-false (from_front gs k) positive (none_after M ls (λ i. nat_le (from_front gs i) positive) 0 0 js l (omega arith) k r.0 lt))
-    (λ k h lt. let r = has_filter (between a b) (0 ∷ js) k h in leb-false (to_back gs k) negative (none_before M ls (λ i. nat_le (to_back gs i) negative) 0 0 js l k r.0 lt))
+    (λ k h lt. let r = has_filter (between a b) (0 ∷ js) k h in
+    leb-false (from_front gs k) positive
+    (none_after M ls (λ i. nat_le (from_front gs i) positive) 0 0 js l (omega arith) k r.0 lt))
+    (λ k h lt. let r = has_filter (between a b) (0 ∷ js) k h in
+    leb-false (to_back gs k) negative (none_before M ls (λ i. nat_le (to_back gs i) negative) 0 0 js l k r.0 lt))
 
 -- ---- of an answer
 
 pub long_enough : (M : Map) (P : Path) → path_fault M P ≡ None → P.pos + P.neg < dm_of M P.lines
 long_enough M P e =
-    let third = (or_None (option_map Broken (first_break M 0 P.lines)) _ (or_None (option_map Unknown_line (first_unknown M P.lines)) _ e).1).1 in
+    let third =
+    (or_None (option_map Broken (first_break M 0 P.lines)) _
+    (or_None (option_map Unknown_line (first_unknown M P.lines)) _ e).1).1 in
     leb-false (dm_of M P.lines) (P.pos + P.neg) (elim (cases_Bool (nat_le (dm_of M P.lines) (P.pos + P.neg))) [
-      | inl t ↦ absurd (let some : cond true (Some Offset_too_long) None ≡ None = ap (λ (b : Bool). cond b (Some Offset_too_long) None) (sym t) ∙ third in cc)
+      | inl t ↦ absurd (let some : cond true (Some Offset_too_long) None ≡ None =
+          ap (λ (b : Bool). cond b (Some Offset_too_long) None) (sym t) ∙ third in cc)
       | inr t ↦ t
     ])
 
@@ -117,7 +148,8 @@ pub record Sound (M : Map) (E : Path) : Type 0 where
   pub size : 0 < length E.lines
   pub long : E.pos + E.neg < dm_of M E.lines
 
-pub extended_sound : (M : Map) (P : Path) → IsTrue (is_path P.lines) → path_fault M P ≡ None → (before after : List ℕ) → Tried M P before after → Sound M (extended M P before after)
+pub extended_sound : (M : Map) (P : Path) → IsTrue (is_path P.lines) → path_fault M P ≡ None → (before after : List ℕ) →
+    Tried M P before after → Sound M (extended M P before after)
 extended_sound M P is none before after tried =
     let Known : ℕ → Type 0 = λ x. IsTrue (has_line M x) in
     let n = path_nonempty P.lines is in
@@ -125,7 +157,9 @@ extended_sound M P is none before after tried =
     let b = taken_start M before P.lines in
     let fs = from_start M P before in
     let a = taken_end M fs after in
-    let fs_known : Each Known fs = Each-append Known b P.lines (Each-cond Known _ before (StartChain-known M before P.lines tried.before.chain)) known in
+    let fs_known : Each Known fs =
+    Each-append Known b P.lines (Each-cond Known _ before (StartChain-known M before P.lines tried.before.chain))
+    known in
     let less = long_enough M P none in
     record {
       known = Each-append Known fs a fs_known (Each-cond Known _ after (EndChain-known M fs after tried.after.chain));
@@ -134,23 +168,30 @@ extended_sound M P is none before after tried =
     }
 
 -- an answer with a reference has points up to the end, and the reference is that of these points
-pub answered : (M : Map) (E : Path) (js : List ℕ) (r : Reference) → Points r ≡ answer_by_points M E js → (last_position 0 js ≡ length E.lines) × (r ≡ reference (legs M E.lines) E.pos E.neg js)
+pub answered : (M : Map) (E : Path) (js : List ℕ) (r : Reference) → Points r ≡ answer_by_points M E js →
+    (last_position 0 js ≡ length E.lines) × (r ≡ reference (legs M E.lines) E.pos E.neg js)
 answered M E js r h =
-    elim (last_position 0 js == length E.lines) as (λ t. (last_position 0 js == length E.lines) ≡ t → Points r ≡ cond t (Points (reference (legs M E.lines) E.pos E.neg js)) (Refused (No_next_point (last_position 0 js))) → (last_position 0 js ≡ length E.lines) × (r ≡ reference (legs M E.lines) E.pos E.neg js)) [
+    elim (last_position 0 js == length E.lines) as (λ t. (last_position 0 js == length E.lines) ≡ t →
+    Points r ≡ cond t (Points (reference (legs M E.lines) E.pos E.neg js))
+    (Refused (No_next_point (last_position 0 js))) → (last_position 0 js ≡ length E.lines)
+    × (r ≡ reference (legs M E.lines) E.pos E.neg js)) [
       | true ↦ λ t e. (eqb-true (last_position 0 js) (length E.lines) t, cc)
       | false ↦ λ t e. absurd cc
     ] refl h
 
-answer_fits : (M : Map) → IsMap M → (P : Path) → IsTrue (is_path P.lines) → path_fault M P ≡ None → (r : Reference) → Encoding M P (Points r) → IsReference r
+answer_fits : (M : Map) → IsMap M → (P : Path) → IsTrue (is_path P.lines) → path_fault M P ≡ None → (r : Reference) →
+    Encoding M P (Points r) → IsReference r
 answer_fits M m P is none r p =
     let E = extended M P p.before p.after in
     let s = extended_sound M P is none p.before p.after p.tried in
     let a = answered M E p.points r p.holds in
     subst IsReference (sym a.1) (reference_fits M m E.lines s.known s.size p.points E.pos E.neg p.follow a.0 s.long)
 
-fits_by : (M : Map) → IsMap M → (P : Path) → IsTrue (is_path P.lines) → (o : Option Refusal) → path_fault M P ≡ o → (r : Reference) → MatchOption o (Encoding M P (Points r)) (λ f. Points r ≡ Refused f) → IsReference r
+fits_by : (M : Map) → IsMap M → (P : Path) → IsTrue (is_path P.lines) → (o : Option Refusal) → path_fault M P ≡ o →
+    (r : Reference) → MatchOption o (Encoding M P (Points r)) (λ f. Points r ≡ Refused f) → IsReference r
 fits_by M m P is None e r p = answer_fits M m P is e r p
 fits_by M m P is (Some f) e r p = absurd cc
 
-pub encoded_fits : (M : Map) → IsMap M → (P : Path) → IsTrue (is_path P.lines) → (r : Reference) → Encodes M P (Points r) → IsReference r
+pub encoded_fits : (M : Map) → IsMap M → (P : Path) → IsTrue (is_path P.lines) → (r : Reference) →
+    Encodes M P (Points r) → IsReference r
 encoded_fits M m P is r p = fits_by M m P is (path_fault M P) refl r p

@@ -1,5 +1,6 @@
 -- Where two maps agree on a path's footprint, the same is covered from its points, and the footprint is the same.
-use Rattle.std.proofs.Common.{inl, inr, ◌≡◌, ℕ, zero, suc, ◌+◌, ◌-◌, min, true, List, [], ◌∷◌, length, take, drop, ◌<◌, ◌≤◌, IsTrue, sym, ap, ◌↔◌, subst, arith, drop-drop}
+use Rattle.std.proofs.Common.{inl, inr, ◌≡◌, ℕ, zero, suc, ◌+◌, ◌-◌, min, true, List, [], ◌∷◌, length, take, drop, ◌<◌}
+use Rattle.std.proofs.Common.{◌≤◌, IsTrue, sym, ap, ◌↔◌, subst, arith, drop-drop}
 use Rattle.std.proofs.lemmas.Bool.{cases_lt}
 use Rattle.std.proofs.Math.Nat.{min-le_left}
 use Rattle.std.specs.List.{slice_index}
@@ -7,7 +8,8 @@ use Rattle.olr_spec.specs.Map.{Map, IsMap, has_line, start, end, SameLine, SameR
 use Rattle.olr_spec.specs.Walks.{dm_of, Route}
 use Rattle.olr_spec.specs.Extension.{Path, Tried, extended, limit}
 use Rattle.olr_spec.specs.Points.{stretch, Covered}
-use Rattle.olr_spec.specs.Footprint.{NodeOf, Reach, Searched, Touched, On_path, On_start_chain, On_end_chain, Within_reach}
+use Rattle.olr_spec.specs.Footprint.{NodeOf, Reach, Searched, Touched, On_path, On_start_chain, On_end_chain}
+use Rattle.olr_spec.specs.Footprint.{Within_reach}
 use Rattle.olr_spec.proofs.ListLemmas.{Each, Each-range, has_index}
 use Rattle.olr_spec.proofs.AgreeLemmas.{same_start, same_end, same_dm_of}
 use Rattle.olr_spec.proofs.RouteMoves.{turned_lines, sole_moves, sole_back, reach_moves, reach_back}

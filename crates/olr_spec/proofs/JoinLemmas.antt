@@ -1,5 +1,7 @@
 -- The routes between the kept points join to the extended path.
-use Rattle.std.proofs.Common.{◌⊎◌, inl, inr, ◌≡◌, ℕ, zero, suc, ◌+◌, ◌-◌, min, Bool, true, false, cond, ◌&&◌, List, [], ◌∷◌, ◌++◌, length, take, drop, ◌<◌, ◌≤◌, refl, sym, ap, ◌∙◌, subst, arith, nat_le, length-drop}
+use Rattle.std.proofs.Common.{◌⊎◌, inl, inr, ◌≡◌, ℕ, zero, suc, ◌+◌, ◌-◌, min, Bool, true, false, cond, ◌&&◌, List, []}
+use Rattle.std.proofs.Common.{◌∷◌, ◌++◌, length, take, drop, ◌<◌, ◌≤◌, refl, sym, ap, ◌∙◌, subst, arith, nat_le}
+use Rattle.std.proofs.Common.{length-drop}
 use Rattle.std.proofs.lemmas.Bool.{cases_eq}
 use Rattle.std.proofs.lemmas.Bool.Decides.{nat_tests}
 use Rattle.std.proofs.lemmas.List.{drop_more, take_more, get_or-drop}
@@ -13,7 +15,8 @@ use Rattle.olr_spec.specs.Joins.{JoinsTo, JoinsLast, Joins}
 use Rattle.olr_spec.proofs.WalkLemmas.{Walk-split, prefix_of_sole}
 use Rattle.olr_spec.proofs.AnswerLemmas.{Next-candidate}
 
-pub prefix_of_route : (M : Map) (s v t : ℕ) (xs ys : List ℕ) → Route M s t (xs ++ ys) → Walk M s v xs → Walk M v t ys → Route M s v xs
+pub prefix_of_route : (M : Map) (s v t : ℕ) (xs ys : List ℕ) → Route M s t (xs ++ ys) → Walk M s v xs → Walk M v t ys →
+    Route M s v xs
 prefix_of_route M s v t xs ys r w u = prefix_of_sole M s v t xs ys r w u
 
 pub route_walk : (M : Map) (s t : ℕ) (xs : List ℕ) → Route M s t xs → Walk M s t xs
@@ -25,12 +28,14 @@ take_one : (n : ℕ) (x : ℕ) (xs : List ℕ) → 0 < n → take n (x ∷ xs) �
 take_one zero x xs h = absurd (omega arith)
 take_one (suc n) x xs h = ap (λ (k : ℕ). x ∷ take k xs) (omega arith)
 
-pub stretch_first : (ls : List ℕ) (p q : ℕ) → p < q → p < length ls → stretch ls p q ≡ slice_index ls p ∷ stretch ls (p + 1) q
+pub stretch_first : (ls : List ℕ) (p q : ℕ) → p < q → p < length ls →
+    stretch ls p q ≡ slice_index ls p ∷ stretch ls (p + 1) q
 stretch_first ls p q h k =
     ap (take (q - p)) (drop_more ls p 0 k) ∙ take_one (q - p) (slice_index ls p) (drop (p + 1) ls) (omega arith)
     ∙ ap (λ (n : ℕ). slice_index ls p ∷ take n (drop (p + 1) ls)) (omega arith)
 
-pub stretch_last : (ls : List ℕ) (p q : ℕ) → p ≤ q → q < length ls → stretch ls p (q + 1) ≡ stretch ls p q ++ slice_index ls q ∷ []
+pub stretch_last : (ls : List ℕ) (p q : ℕ) → p ≤ q → q < length ls →
+    stretch ls p (q + 1) ≡ stretch ls p q ++ slice_index ls q ∷ []
 stretch_last ls p q h k =
     let n : q + 1 - p ≡ q - p + 1 = omega arith in
     let on : p + (q - p) ≡ q = omega arith in
@@ -48,20 +53,27 @@ joins_to M ls p q h c =
     let lt = c.after in
     let is : min q (length ls - 1) ≡ q = omega arith in
     let route : Route M (end M (slice_index ls p)) (start M (slice_index ls q)) (stretch ls (p + 1) q) =
-    subst (λ (m : ℕ). p < m → Route M (end M (slice_index ls p)) (start M (slice_index ls m)) (stretch ls (p + 1) m)) is c.covered lt in
+    subst (λ (m : ℕ). p < m → Route M (end M (slice_index ls p)) (start M (slice_index ls m)) (stretch ls (p + 1) m)) is
+    c.covered lt in
     (stretch ls (p + 1) q, stretch_first ls p q lt (omega arith), route)
 
 -- up to the last line k of the stretch
-joins_before : (M : Map) (ls : List ℕ) (p k : ℕ) → p < k → k < length ls → Route M (end M (slice_index ls p)) (start M (slice_index ls k)) (stretch ls (p + 1) k) → JoinsLast M ls p (k + 1)
+joins_before : (M : Map) (ls : List ℕ) (p k : ℕ) → p < k → k < length ls →
+    Route M (end M (slice_index ls p)) (start M (slice_index ls k)) (stretch ls (p + 1) k) → JoinsLast M ls p (k + 1)
 joins_before M ls p k h g r =
     let last : k + 1 - 1 ≡ k = omega arith in
     let parts : stretch ls p (k + 1) ≡ slice_index ls p ∷ (stretch ls (p + 1) k ++ slice_index ls k ∷ []) =
-    stretch_first ls p (k + 1) (omega arith) (omega arith) ∙ ap (λ (zs : List ℕ). slice_index ls p ∷ zs) (stretch_last ls (p + 1) k (omega arith) g) in
-    subst (λ (n : ℕ). (stretch ls p (k + 1) ≡ slice_index ls p ∷ []) ⊎ ((s : List ℕ) × (stretch ls p (k + 1) ≡ slice_index ls p ∷ (s ++ slice_index ls n ∷ [])) × Route M (end M (slice_index ls p)) (start M (slice_index ls n)) s))
+    stretch_first ls p (k + 1) (omega arith) (omega arith)
+    ∙ ap (λ (zs : List ℕ). slice_index ls p ∷ zs) (stretch_last ls (p + 1) k (omega arith) g) in
+    subst (λ (n : ℕ). (stretch ls p (k + 1) ≡ slice_index ls p ∷ [])
+    ⊎ ((s : List ℕ) × (stretch ls p (k + 1) ≡ slice_index ls p ∷ (s ++ slice_index ls n ∷ []))
+    × Route M (end M (slice_index ls p)) (start M (slice_index ls n)) s))
     (sym last) (inr (stretch ls (p + 1) k, parts, r))
 
 alone : (M : Map) (ls : List ℕ) (p q : ℕ) → q ≡ p + 1 → p < length ls → JoinsLast M ls p q
-alone M ls p q e h = inl (stretch_first ls p q (omega arith) h ∙ ap (λ (zs : List ℕ). slice_index ls p ∷ zs) (empty_stretch ls (p + 1) q (omega arith)))
+alone M ls p q e h =
+    inl (stretch_first ls p q (omega arith) h
+    ∙ ap (λ (zs : List ℕ). slice_index ls p ∷ zs) (empty_stretch ls (p + 1) q (omega arith)))
 
 -- a route that ends with line k is the route to its start, and that line
 without_last : (M : Map) (s t : ℕ) (xs : List ℕ) (x : ℕ) → Route M s t (xs ++ x ∷ []) → Route M s (start M x) xs
@@ -79,16 +91,24 @@ joins_last M ls p q c =
       | inr ne ↦
           let k = q - 1 in
           let on : k + 1 ≡ q = omega arith in
-          subst (JoinsLast M ls p) on (joins_before M ls p k (omega arith) (omega arith) (elim (cases_eq q (length ls)) [
+          subst (JoinsLast M ls p) on
+          (joins_before M ls p k (omega arith) (omega arith) (elim (cases_eq q (length ls)) [
             | inl whole ↦
                 let m : min q (length ls - 1) ≡ k = omega arith in
-                subst (λ (n : ℕ). p < n → Route M (end M (slice_index ls p)) (start M (slice_index ls n)) (stretch ls (p + 1) n)) m c.covered (omega arith)
+                subst (λ (n : ℕ). p < n →
+                Route M (end M (slice_index ls p)) (start M (slice_index ls n)) (stretch ls (p + 1) n)) m c.covered
+                (omega arith)
             | inr within ↦
                 let m : min q (length ls - 1) ≡ k + 1 = omega arith in
-                let route : Route M (end M (slice_index ls p)) (start M (slice_index ls (k + 1))) (stretch ls (p + 1) (k + 1)) =
-                subst (λ (n : ℕ). p < n → Route M (end M (slice_index ls p)) (start M (slice_index ls n)) (stretch ls (p + 1) n)) m c.covered (omega arith) in
-                without_last M (end M (slice_index ls p)) (start M (slice_index ls (k + 1))) (stretch ls (p + 1) k) (slice_index ls k)
-                (subst (Route M (end M (slice_index ls p)) (start M (slice_index ls (k + 1)))) (stretch_last ls (p + 1) k (omega arith) (omega arith)) route)
+                let route : Route M (end M (slice_index ls p)) (start M (slice_index ls (k + 1)))
+                (stretch ls (p + 1) (k + 1)) =
+                subst (λ (n : ℕ). p < n →
+                Route M (end M (slice_index ls p)) (start M (slice_index ls n)) (stretch ls (p + 1) n)) m c.covered
+                (omega arith) in
+                without_last M (end M (slice_index ls p)) (start M (slice_index ls (k + 1))) (stretch ls (p + 1) k)
+                (slice_index ls k)
+                (subst (Route M (end M (slice_index ls p)) (start M (slice_index ls (k + 1))))
+                (stretch_last ls (p + 1) k (omega arith) (omega arith)) route)
           ]))
     ]
 
@@ -117,28 +137,36 @@ abbrev pub between : ℕ → ℕ → ℕ → Bool
 between a b i = nat_le a i && nat_le i b
 
 -- nothing beyond b is kept
-none_beyond : (M : Map) (ls : List ℕ) (a b p : ℕ) (ks : List ℕ) → b < p → Linked M ls (p ∷ ks) → filter (between a b) (p ∷ ks) ≡ []
-none_beyond M ls a b p [] h l = let gone : between a b p ≡ false = grind (arith, nat_tests) in ap (λ (t : Bool). cond t (p ∷ []) []) gone
+none_beyond : (M : Map) (ls : List ℕ) (a b p : ℕ) (ks : List ℕ) → b < p → Linked M ls (p ∷ ks) →
+    filter (between a b) (p ∷ ks) ≡ []
+none_beyond M ls a b p [] h l = let gone : between a b p ≡ false =
+    grind (arith, nat_tests) in ap (λ (t : Bool). cond t (p ∷ []) []) gone
 none_beyond M ls a b p (q ∷ ks) h l =
     let lt = l.0.after in
     let rest = none_beyond M ls a b q ks (omega arith) l.1 in
     let gone : between a b p ≡ false = grind (arith, nat_tests) in
     ap (λ (t : Bool). cond t (p ∷ filter (between a b) (q ∷ ks)) (filter (between a b) (q ∷ ks))) gone ∙ rest
 
-pub kept_linked : (M : Map) (ls : List ℕ) (a b : ℕ) (ks : List ℕ) → Linked M ls ks → Linked M ls (filter (between a b) ks)
+pub kept_linked : (M : Map) (ls : List ℕ) (a b : ℕ) (ks : List ℕ) → Linked M ls ks →
+    Linked M ls (filter (between a b) ks)
 kept_linked M ls a b [] l = tt
-kept_linked M ls a b (p ∷ []) l = elim (between a b p) as (λ t. Linked M ls (cond t (p ∷ []) [])) [ true ↦ tt | false ↦ tt ]
+kept_linked M ls a b (p ∷ []) l =
+    elim (between a b p) as (λ t. Linked M ls (cond t (p ∷ []) [])) [ true ↦ tt | false ↦ tt ]
 kept_linked M ls a b (p ∷ q ∷ ks) l =
     let rest = kept_linked M ls a b (q ∷ ks) l.1 in
-    elim (between a b p) as (λ t. between a b p ≡ t → Linked M ls (cond t (p ∷ filter (between a b) (q ∷ ks)) (filter (between a b) (q ∷ ks)))) [
-      | true ↦ λ e. elim (between a b q) as (λ t. between a b q ≡ t → Linked M ls (cond t (q ∷ filter (between a b) ks) (filter (between a b) ks)) → Linked M ls (p ∷ cond t (q ∷ filter (between a b) ks) (filter (between a b) ks))) [
-        | true ↦ λ f r. (l.0, r)
-        | false ↦ λ f r. subst (λ (zs : List ℕ). Linked M ls (p ∷ zs)) (sym (after p q ks l e f)) tt
-      ] refl rest
+    elim (between a b p) as (λ t. between a b p ≡ t →
+    Linked M ls (cond t (p ∷ filter (between a b) (q ∷ ks)) (filter (between a b) (q ∷ ks)))) [
+      | true ↦ λ e. elim (between a b q) as (λ t. between a b q ≡ t →
+          Linked M ls (cond t (q ∷ filter (between a b) ks) (filter (between a b) ks)) →
+          Linked M ls (p ∷ cond t (q ∷ filter (between a b) ks) (filter (between a b) ks))) [
+            | true ↦ λ f r. (l.0, r)
+            | false ↦ λ f r. subst (λ (zs : List ℕ). Linked M ls (p ∷ zs)) (sym (after p q ks l e f)) tt
+          ] refl rest
       | false ↦ λ e. rest
     ] refl
   where
-    after : (p q : ℕ) (ks : List ℕ) → Linked M ls (p ∷ q ∷ ks) → between a b p ≡ true → between a b q ≡ false → filter (between a b) ks ≡ []
+    after : (p q : ℕ) (ks : List ℕ) → Linked M ls (p ∷ q ∷ ks) → between a b p ≡ true → between a b q ≡ false →
+        filter (between a b) ks ≡ []
     after p q [] l e f = refl
     after p q (r ∷ ks) l e f =
         let lt = l.0.after in
@@ -146,6 +174,9 @@ kept_linked M ls a b (p ∷ q ∷ ks) l =
         let high : b < q = grind (arith, nat_tests) in
         none_beyond M ls a b r ks (omega arith) l.1.1
 
-pub routes_join : (M : Map) (ls js : List ℕ) (positive negative : ℕ) → Follow M ls 0 js → last_position 0 js ≡ length ls → Joins M ls (kept (legs M ls) positive negative js)
+pub routes_join : (M : Map) (ls js : List ℕ) (positive negative : ℕ) → Follow M ls 0 js →
+    last_position 0 js ≡ length ls → Joins M ls (kept (legs M ls) positive negative js)
 routes_join M ls js positive negative f e =
-    linked_joins M ls (kept (legs M ls) positive negative js) (kept_linked M ls (first_kept (legs M ls) positive js) (last_kept (legs M ls) negative js) (0 ∷ js) (follow_linked M ls 0 js f))
+    linked_joins M ls (kept (legs M ls) positive negative js)
+    (kept_linked M ls (first_kept (legs M ls) positive js) (last_kept (legs M ls) negative js) (0 ∷ js)
+    (follow_linked M ls 0 js f))

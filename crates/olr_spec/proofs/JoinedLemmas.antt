@@ -1,19 +1,18 @@
 -- The lines of a path without fault join, and so do those of the extended path.
-use Rattle.std.proofs.Common.{◌≡◌, ◌<◌, ℕ, suc, Bool, true, false, cond, List, [], ◌∷◌, ◌++◌, length, None, refl, sym, ap, ◌∙◌, subst, arith, length-append, append_assoc, ◌==◌}
+use Rattle.std.proofs.Common.{◌≡◌, ◌<◌, ℕ, suc, Bool, true, false, cond, List, [], ◌∷◌, ◌++◌, length, None, refl, sym}
+use Rattle.std.proofs.Common.{ap, ◌∙◌, subst, arith, length-append, append_assoc, ◌==◌}
 use Rattle.std.proofs.lemmas.Bool.{eqb-true}
 use Rattle.std.proofs.lemmas.List.{append-nil}
 use Rattle.std.specs.Prelude.{IsTrue, Some, if◌then◌else◌}
 use Rattle.olr_spec.specs.Map.{Map, has_line, start, end}
 use Rattle.olr_spec.specs.Walks.{Walk}
-use Rattle.olr_spec.specs.Extension.{Path, is_path, Tried, first, last, passing, StartChain, EndChain, from_start, extended}
+use Rattle.olr_spec.specs.Extension.{Path, is_path, Tried, first, last, passing, StartChain, EndChain, from_start}
+use Rattle.olr_spec.specs.Extension.{extended, AreJoined}
 use Rattle.olr_spec.specs.Encoding.{Broken, first_break, path_fault}
 use Rattle.olr_spec.proofs.WalkLemmas.{Walk-append}
 use Rattle.olr_spec.proofs.ListLemmas.{Each, Each-head, Each-tail, Each-from}
 use Rattle.olr_spec.proofs.AnswerLemmas.{or_None, map_None, sound_lines, path_nonempty}
-
--- each ends where the next begins
-abbrev pub AreJoined : Map → List ℕ → Type 0
-AreJoined M ls = Walk M (start M (first ls)) (end M (last ls)) ls
+use Rattle.olr_spec.proofs.ChainLemmas.{last_push}
 
 -- ---- a path without fault
 
@@ -61,10 +60,6 @@ last_later : (x : ℕ) (ls : List ℕ) → 0 < length ls → last (x ∷ ls) ≡
 last_later x [] h = absurd (omega arith)
 last_later x (y ∷ ls) h = refl
 
-last_pushed : (ls : List ℕ) (x : ℕ) → last (ls ++ x ∷ []) ≡ x
-last_pushed [] x = refl
-last_pushed (y ∷ ls) x = last_later y (ls ++ x ∷ []) (omega (arith, length-append ls (x ∷ []))) ∙ last_pushed ls x
-
 first_pushed : (ls : List ℕ) (x : ℕ) → 0 < length ls → first (ls ++ x ∷ []) ≡ first ls
 first_pushed [] x h = absurd (omega arith)
 first_pushed (y ∷ ls) x h = refl
@@ -94,7 +89,7 @@ pushed M ls x known joins j =
     record {
       some = omega (arith, length-append ls (x ∷ []));
       joined = subst (λ (t : ℕ). Walk M (start M (first (ls ++ x ∷ []))) t (ls ++ x ∷ []))
-          (ap (end M) (sym (last_pushed ls x))) from;
+          (ap (end M) (sym (last_push ls x))) from;
     }
 
 end_joined : (M : Map) (ls c : List ℕ) → EndChain M ls c → Course M ls → Course M (ls ++ c)

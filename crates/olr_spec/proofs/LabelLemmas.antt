@@ -1,5 +1,6 @@
 -- Labels that no line improves are those of least walks.
-use Rattle.std.proofs.Common.{◌⊎◌, inl, inr, ◌≡◌, ℕ, zero, suc, ◌+◌, List, [], ◌∷◌, ◌++◌, reverse, length, ◌<◌, ◌≤◌, Option, Some, IsTrue, sym, ap, ◌∙◌, subst, arith, length-append}
+use Rattle.std.proofs.Common.{◌⊎◌, inl, inr, ◌≡◌, ℕ, zero, suc, ◌+◌, List, [], ◌∷◌, ◌++◌, reverse, length, ◌<◌, ◌≤◌}
+use Rattle.std.proofs.Common.{Option, Some, IsTrue, sym, ap, ◌∙◌, subst, arith, length-append}
 use Rattle.std.proofs.lemmas.Bool.{cases_lt, cases_eq}
 use Rattle.std.proofs.lemmas.List.{reverse-append}
 use Rattle.olr_spec.specs.Map.{Map, IsMap, has_line, start, end, dm}
@@ -9,24 +10,39 @@ use Rattle.olr_spec.proofs.WalkLemmas.{dm_of-append, Walk-split, nothing_below_n
 use Rattle.olr_spec.proofs.DecideLemmas.{last_of_list}
 
 -- the last lines decide first
-last_first : (xs ys : List ℕ) (x y : ℕ) → FirstSmaller (reverse (xs ++ x ∷ [])) (reverse (ys ++ y ∷ [])) → (x < y) ⊎ ((x ≡ y) × FirstSmaller (reverse xs) (reverse ys))
-last_first xs ys x y h = subst (λ (zs : List ℕ). FirstSmaller (x ∷ reverse xs) zs) (reverse-append ys (y ∷ [])) (subst (λ (zs : List ℕ). FirstSmaller zs (reverse (ys ++ y ∷ []))) (reverse-append xs (x ∷ [])) h)
+pub last_first : (xs ys : List ℕ) (x y : ℕ) → FirstSmaller (reverse (xs ++ x ∷ [])) (reverse (ys ++ y ∷ [])) → (x < y)
+    ⊎ ((x ≡ y) × FirstSmaller (reverse xs) (reverse ys))
+last_first xs ys x y h =
+    subst (λ (zs : List ℕ). FirstSmaller (x ∷ reverse xs) zs) (reverse-append ys (y ∷ []))
+    (subst (λ (zs : List ℕ). FirstSmaller zs (reverse (ys ++ y ∷ []))) (reverse-append xs (x ∷ [])) h)
 
-module _ (M : Map) (m : IsMap M) (s limit : ℕ) (dist : ℕ → Option ℕ) (trace : ℕ → List ℕ) (l : Settled M s limit dist trace) where
+module _ (M : Map) (m : IsMap M) (s limit : ℕ) (dist : ℕ → Option ℕ) (trace : ℕ → List ℕ)
+    (l : Settled M s limit dist trace) where
   -- v has a label, and no walk before its own
   abbrev Fine : ℕ → List ℕ → Type 0
   Fine v ys = (e : ℕ) × (dist v ≡ Some e) × (¬ Before M ys (trace v))
 
-  joined : (y v x : ℕ) → end M y ≡ v → trace v ≡ trace (start M x) ++ x ∷ [] → trace (end M y) ≡ trace (start M x) ++ x ∷ []
+  joined : (y v x : ℕ) → end M y ≡ v → trace v ≡ trace (start M x) ++ x ∷ [] →
+      trace (end M y) ≡ trace (start M x) ++ x ∷ []
   joined y v x to is = ap trace to ∙ is
 
-  last_decides : (front : List ℕ) (y v x : ℕ) → trace v ≡ trace (start M x) ++ x ∷ [] → FirstSmaller (reverse (front ++ y ∷ [])) (reverse (trace v)) → (y < x) ⊎ ((y ≡ x) × FirstSmaller (reverse front) (reverse (trace (start M x))))
-  last_decides front y v x is h = last_first front (trace (start M x)) y x (subst (λ (zs : List ℕ). FirstSmaller (reverse (front ++ y ∷ [])) (reverse zs)) is h)
+  last_decides : (front : List ℕ) (y v x : ℕ) → trace v ≡ trace (start M x) ++ x ∷ [] →
+      FirstSmaller (reverse (front ++ y ∷ [])) (reverse (trace v)) → (y < x)
+      ⊎ ((y ≡ x) × FirstSmaller (reverse front) (reverse (trace (start M x))))
+  last_decides front y v x is h =
+      last_first front (trace (start M x)) y x
+      (subst (λ (zs : List ℕ). FirstSmaller (reverse (front ++ y ∷ [])) (reverse zs)) is h)
 
-  step : (front : List ℕ) (y u v : ℕ) → IsTrue (has_line M y) → start M y ≡ u → end M y ≡ v → dm_of M front + dm M y ≤ limit → Fine u front → Fine v (front ++ y ∷ [])
+  step : (front : List ℕ) (y u v : ℕ) → IsTrue (has_line M y) → start M y ≡ u → end M y ≡ v →
+      dm_of M front + dm M y ≤ limit → Fine u front → Fine v (front ++ y ∷ [])
   step front y u v k from to short fine =
       let w = l.walks u fine.0 fine.1 in
-      let near : fine.0 ≤ dm_of M front = elim (cases_lt (dm_of M front) fine.0) [ inl lt ↦ let e = w.1 in absurd (fine.2 (inl (omega arith))) | inr le ↦ le ] in
+      let near : fine.0 ≤ dm_of M front =
+      elim (cases_lt (dm_of M front) fine.0) [
+        | inl lt ↦ let e = w.1 in absurd (fine.2 (inl (omega arith)))
+        | inr le ↦
+            le
+      ] in
       let c = l.closed u fine.0 y fine.1 k from (omega arith) in
       let label : dist v ≡ Some c.0 = subst (λ (n : ℕ). dist n ≡ Some c.0) to c.1 in
       let own = l.walks v c.0 label in
@@ -44,7 +60,9 @@ module _ (M : Map) (m : IsMap M) (s limit : ℕ) (dist : ℕ → Option ℕ) (tr
                     let e = tie.0 in
                     let here : dm_of M front ≡ dm_of M (trace u) = let d = w.1 in omega arith in
                     elim (cases_eq v s) [
-                      | inl at ↦ nothing_below_nil (reverse (front ++ y ∷ [])) (subst (λ (zs : List ℕ). FirstSmaller (reverse (front ++ y ∷ [])) (reverse zs)) (ap trace at ∙ l.at_source) same.1)
+                      | inl at ↦ nothing_below_nil (reverse (front ++ y ∷ []))
+                          (subst (λ (zs : List ℕ). FirstSmaller (reverse (front ++ y ∷ [])) (reverse zs))
+                          (ap trace at ∙ l.at_source) same.1)
                       | inr off ↦
                           let p = l.steps v c.0 label off in
                           let low : p.0 ≤ y = tie.1 p.0 (trace (start M p.0)) (joined y v p.0 to p.1) in
@@ -52,7 +70,11 @@ module _ (M : Map) (m : IsMap M) (s limit : ℕ) (dist : ℕ → Option ℕ) (tr
                             | inl lt ↦ absurd (omega arith)
                             | inr q ↦
                                 let u-is : start M p.0 ≡ u = ap (start M) (sym q.0) ∙ from in
-                                fine.2 (inr (here, subst (λ (n : ℕ). FirstSmaller (reverse front) (reverse (trace n))) u-is q.1))
+                                fine.2 (inr (
+                                  here,
+                                  subst (λ (n : ℕ). FirstSmaller (reverse front) (reverse (trace n)))
+                                      u-is q.1,
+                                ))
                           ]
                     ]
               ]
@@ -71,7 +93,8 @@ module _ (M : Map) (m : IsMap M) (s limit : ℕ) (dist : ℕ → Option ℕ) (tr
       let x = r.1 in
       let walk : Walk M s v (r.0 ++ x ∷ []) = subst (λ (zs : List ℕ). Walk M s v zs) r.2 w in
       let parts = Walk-split M s v r.0 (x ∷ []) walk in
-      let long : dm_of M (y ∷ ys) ≡ dm_of M r.0 + dm M x = ap (dm_of M) r.2 ∙ dm_of-append M r.0 (x ∷ []) ∙ plain (dm_of M r.0) (dm M x) in
+      let long : dm_of M (y ∷ ys) ≡ dm_of M r.0 + dm M x =
+      ap (dm_of M) r.2 ∙ dm_of-append M r.0 (x ∷ []) ∙ plain (dm_of M r.0) (dm M x) in
       let size = ap (λ (zs : List ℕ). length zs) r.2 in
       let rest = fine_by n parts.0 r.0 (omega (arith, length-append r.0 (x ∷ []))) parts.1 (omega arith) in
       subst (Fine v) (sym r.2) (step r.0 x parts.0 v parts.2.0 parts.2.1 parts.2.2 (omega arith) rest)

@@ -1,4 +1,6 @@
+pub mod OptionLemmas
 pub mod ListLemmas
+pub mod RisingLists
 pub mod MapLemmas
 pub mod OrderLemmas
 pub mod AgreeLemmas

@@ -1,5 +1,6 @@
 -- Where a point's look is clear, the positions after the point are covered on both maps alike.
-use Rattle.std.proofs.Common.{inl, inr, ◌≡◌, ℕ, ◌+◌, ◌-◌, min, List, ◌++◌, length, take, drop, ◌<◌, ◌≤◌, sym, ap, ◌∙◌, subst, arith, drop-drop, ◌↔◌}
+use Rattle.std.proofs.Common.{inl, inr, ◌≡◌, ℕ, ◌+◌, ◌-◌, min, List, ◌++◌, length, take, drop, ◌<◌, ◌≤◌, sym, ap, ◌∙◌}
+use Rattle.std.proofs.Common.{subst, arith, drop-drop, ◌↔◌}
 use Rattle.std.proofs.lemmas.Bool.{cases_lt}
 use Rattle.std.proofs.Math.Seq.{take-add}
 use Rattle.std.specs.List.{slice_index}
@@ -16,12 +17,13 @@ use Rattle.olr_spec.proofs.RouteMoves.{Walk-moves}
 use Rattle.olr_spec.proofs.DetourLemmas.{sole_there, sole_here}
 use Rattle.olr_spec.proofs.WayLemmas.{way_between, next_start}
 
-pub stretch_parts : (ls : List ℕ) (p m k : ℕ) → p ≤ m → m ≤ k → stretch ls p k ≡ stretch ls p m ++ stretch ls m k
+pub stretch_parts : {A : Type 0} (ls : List A) (p m k : ℕ) → p ≤ m → m ≤ k →
+    stretch ls p k ≡ stretch ls p m ++ stretch ls m k
 stretch_parts ls p m k h g =
     let n : k - p ≡ (m - p) + (k - m) = omega arith in
     let at : p + (m - p) ≡ m = omega arith in
     ap (λ (c : ℕ). take c (drop p ls)) n ∙ take-add (m - p) (k - m) (drop p ls)
-    ∙ ap (λ (zs : List ℕ). take (m - p) (drop p ls) ++ take (k - m) zs) (drop-drop (m - p) p ls
+    ∙ ap (λ zs. take (m - p) (drop p ls) ++ take (k - m) zs) (drop-drop (m - p) p ls
     ∙ ap (λ (c : ℕ). drop c ls) at)
 
 -- a detour to a node on the way goes on to the end of the way
@@ -75,7 +77,8 @@ covered_known M ls s t joined i k look j h g near beyond = λ c.
           absurd (omega arith)
     ]
 
-module _ (M N : Map) (C : List ChangedLine) (there : Tells C M N) (here : Tells C N M) (ls : List ℕ) (same : Each (SameLine M N) ls)
+module _ (M N : Map) (C : List ChangedLine) (there : Tells C M N) (here : Tells C N M) (ls : List ℕ)
+    (same : Each (SameLine M N) ls)
     (s t : ℕ) (joined : Walk M s t ls) (i k : ℕ) (look : IsLastTested M ls i k)
     (clear : IsClear N C (look_to M ls i k)) where
   abbrev from : ℕ

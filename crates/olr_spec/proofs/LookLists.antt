@@ -1,24 +1,12 @@
 -- Lists of looks: each point that looks has its own.
-use Rattle.std.proofs.Common.{inl, inr, ◌≡◌, ℕ, zero, suc, ◌+◌, true, List, [], ◌∷◌, length, ◌<◌, Contains, refl, sym, ap, ◌∙◌, subst, arith, nat_lt, ◌==◌, ◌&&◌, ◌⊎◌, IsTrue}
+use Rattle.std.proofs.Common.{inl, inr, ◌≡◌, ℕ, ◌+◌, true, List, [], ◌∷◌, length, ◌<◌, Contains, sym, ap, ◌∙◌, subst}
+use Rattle.std.proofs.Common.{arith, nat_lt, ◌==◌, ◌&&◌, IsTrue}
 use Rattle.std.proofs.lemmas.Bool.{eqb-true, and_parts, and_from, lt-ltb, ltb-true}
 use Rattle.std.proofs.lemmas.Map.Views.{any-filter_same}
-use Rattle.std.specs.List.{AllZip, slice_index_or}
+use Rattle.std.specs.List.{AllZip}
 use Rattle.olr_spec.specs.Map.{Map, has}
 use Rattle.olr_spec.specs.Looks.{Look, IsLook, looking}
-use Rattle.olr_spec.proofs.ListLemmas.{has_here, has_there, has_cases}
-
-pub Contains-here : {X : Type 0} (x : X) (xs : List X) → Contains (x ∷ xs) x
-Contains-here x xs = (zero, omega arith, refl)
-
-pub Contains-later : {X : Type 0} (x y : X) (xs : List X) → Contains xs y → Contains (x ∷ xs) y
-Contains-later x y xs c = let h = c.1 in (suc c.0, omega arith, c.2)
-
-pub Contains-cases : {X : Type 0} (x y : X) (xs : List X) → Contains (x ∷ xs) y → (x ≡ y) ⊎ Contains xs y
-Contains-cases x y xs c = by c.0 c.1 c.2
-  where
-    by : (k : ℕ) → k < length (x ∷ xs) → slice_index_or (x ∷ xs) k y ≡ y → (x ≡ y) ⊎ Contains xs y
-    by zero h e = inl e
-    by (suc k) h e = inr (k, omega arith, e)
+use Rattle.olr_spec.proofs.ListLemmas.{has_here, has_there, has_cases, Contains-here, Contains-later, Contains-cases}
 
 module _ {X : Type 0} (R S : ℕ → X → Type 0) where
   pub zip_moves : (is : List ℕ) (xs : List X) → ((i : ℕ) (x : X) → Contains xs x → R i x → S i x) → AllZip R is xs

@@ -1,20 +1,26 @@
--- Points and answers are the same on two maps that agree round a path's own nodes and on what is covered from its points.
-use Rattle.std.proofs.Common.{inl, inr, ◌≡◌, ℕ, ◌+◌, ◌-◌, min, Bool, true, false, cond, List, [], ◌∷◌, ◌++◌, length, ◌<◌, ◌≤◌, IsTrue, refl, sym, ap, ◌∙◌, subst, arith, ◌==◌, nat_lt, length-append, ◌↔◌}
+-- Points and answers are the same on two maps that agree round a path's own nodes and on what is covered from its
+-- points.
+use Rattle.std.proofs.Common.{inl, inr, ◌≡◌, ℕ, ◌+◌, ◌-◌, min, Bool, true, false, cond, List, [], ◌∷◌, ◌++◌, length}
+use Rattle.std.proofs.Common.{◌<◌, ◌≤◌, IsTrue, refl, sym, ap, ◌∙◌, subst, arith, ◌==◌, nat_lt, length-append, ◌↔◌}
 use Rattle.std.proofs.lemmas.Bool.{ltb-true, cond_both}
 use Rattle.std.specs.List.{slice_index}
 use Rattle.olr_spec.specs.Map.{Map, IsMap, has_line, start, end, place_at, SameLine, SameRound, has}
 use Rattle.olr_spec.specs.Walks.{Walk, dm_of, Route}
 use Rattle.olr_spec.proofs.WalkLemmas.{empty_sole}
 use Rattle.olr_spec.proofs.JoinLemmas.{empty_stretch}
-use Rattle.olr_spec.specs.Extension.{Path, passing, first, last, Tried, taken_start, taken_end, from_start, extended, limit, LongestStart, LongestEnd}
-use Rattle.olr_spec.specs.Points.{node_at, stretch, Covered, fit16, Candidate, ValidCandidate, Greatest, Next, To_end, To_valid, To_passing, Follow, last_position}
+use Rattle.olr_spec.specs.Extension.{Path, passing, first, last, Tried, taken_start, taken_end, from_start, extended}
+use Rattle.olr_spec.specs.Extension.{limit, LongestStart, LongestEnd}
+use Rattle.olr_spec.specs.Points.{node_at, stretch, Covered, fit16, Candidate, ValidCandidate, Greatest, Next, To_end}
+use Rattle.olr_spec.specs.Points.{To_valid, To_passing, Follow, last_position}
 use Rattle.olr_spec.specs.Reference.{leg, legs, reference}
 use Rattle.olr_spec.specs.Encoding.{Points, Refused, No_next_point, answer_by_points}
 use Rattle.olr_spec.specs.Looks.{Own}
 use Rattle.olr_spec.specs.Footprint.{NodeOf}
-use Rattle.olr_spec.proofs.ListLemmas.{Each, Each-nil, Each-head, Each-tail, Each-left, Each-right, Each-append, Each-range, has_last, has_index, map_same}
+use Rattle.olr_spec.proofs.ListLemmas.{Each, Each-nil, Each-head, Each-tail, Each-left, Each-right, Each-append}
+use Rattle.olr_spec.proofs.ListLemmas.{Each-range, has_last, has_index, map_same}
 use Rattle.olr_spec.proofs.AgreeLemmas.{same_record, same_start, same_end, same_dm_of, same_place, same_passing}
-use Rattle.olr_spec.proofs.ChainMoves.{StartChain-known, first_of_both, last_of_both, start_same, longest_start_moves, end_same, longest_end_moves}
+use Rattle.olr_spec.proofs.ChainMoves.{StartChain-known, first_of_both, last_of_both, start_same, longest_start_moves}
+use Rattle.olr_spec.proofs.ChainMoves.{end_same, longest_end_moves}
 
 -- the empty route, on any map
 pub empty_route : (M N : Map) → IsMap N → (s t s' t' : ℕ) (xs : List ℕ) → xs ≡ [] → s ≡ s' → t ≡ t' → Route M s t xs
@@ -137,7 +143,8 @@ module _ (M N : Map) (ls : List ℕ) (nonempty : 0 < length ls) (same : Each (Sa
   )
 
 -- where the maps agree round the ends of the lines ls
-module _ (M N : Map) (ls : List ℕ) (same : Each (SameLine M N) ls) (starts : Each (λ x. SameRound M N (start M x)) ls) (ends : Each (λ x. SameRound M N (end M x)) ls) where
+module _ (M N : Map) (ls : List ℕ) (same : Each (SameLine M N) ls) (starts : Each (λ x. SameRound M N (start M x)) ls)
+    (ends : Each (λ x. SameRound M N (end M x)) ls) where
   leg_same : (x : ℕ) → has ls x ≡ true → leg M x ≡ leg N x
   leg_same x h =
       let is = same_record M N x (same x h) in

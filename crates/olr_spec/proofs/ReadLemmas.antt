@@ -1,16 +1,24 @@
 -- Bytes have no fault exactly where some reference spells them.
-use Rattle.std.proofs.Common.{inl, inr, ◌≡◌, ℕ, zero, suc, ◌+◌, ◌-◌, ◌*◌, ◌/◌, ◌%◌, ◌<◌, ◌≤◌, ℤ, pos, negsuc, ◌≤ℤ◌, Bool, true, false, cond, not, ◌||◌, List, [], ◌∷◌, ◌++◌, length, Option, Some, None, IfSome, IsTrue, refl, sym, ap, ◌∙◌, subst, arith, nat_lt, nat_le, ◌==◌, length-append, ◌↔◌}
-use Rattle.std.proofs.lemmas.Bool.{cases_lt, and_from, or_parts, eqb-true, eq-eqb, leb-false, le-ltb, lt-leb, ltb-false, not-false}
+use Rattle.std.proofs.Common.{inl, inr, ◌≡◌, ℕ, zero, suc, ◌+◌, ◌-◌, ◌*◌, ◌/◌, ◌%◌, ◌<◌, ◌≤◌, ℤ, pos, negsuc, ◌≤ℤ◌}
+use Rattle.std.proofs.Common.{Bool, true, false, cond, not, ◌||◌, List, [], ◌∷◌, ◌++◌, length, Option, Some, None}
+use Rattle.std.proofs.Common.{IfSome, IsTrue, refl, sym, ap, ◌∙◌, subst, arith, nat_lt, nat_le, ◌==◌, length-append}
+use Rattle.std.proofs.Common.{◌↔◌}
+use Rattle.std.proofs.lemmas.Bool.{cases_lt, and_from, or_parts, eqb-true, eq-eqb, leb-false, le-ltb, lt-leb, ltb-false}
+use Rattle.std.proofs.lemmas.Bool.{not-false}
 use Rattle.std.proofs.lemmas.Int.{ints}
 use Rattle.std.proofs.lemmas.List.{get_or-append-add}
 use Rattle.std.specs.Int.RustNames.{int_le}
 use Rattle.std.specs.List.{All, AllByRecursion, flat_map, list_any, slice_index}
 use Rattle.olr_spec.specs.Coordinates.{within, fits16}
 use Rattle.olr_spec.specs.Reference.{Attrs, First, Middle, Last, Reference}
-use Rattle.olr_spec.specs.Bytes.{AreAttrs, IsFirst, IsMiddle, IsLast, IsReference, fits24, residue, signed16, signed24, attribute1, attribute4, attr_bytes, first_bytes, middle_bytes, last_bytes, flag, offset_bytes, status_byte, spelling, Spells, V3Fault, Length, Status, Flags, Reserved, extra, bit, flags_of, attribute1_bytes, has_reserved, v3_fault}
+use Rattle.olr_spec.specs.Bytes.{AreAttrs, IsFirst, IsMiddle, IsLast, IsReference, fits24, residue, signed16, signed24}
+use Rattle.olr_spec.specs.Bytes.{attribute1, attribute4, attr_bytes, first_bytes, middle_bytes, last_bytes, flag}
+use Rattle.olr_spec.specs.Bytes.{offset_bytes, status_byte, spelling, Spells, V3Fault, Length, Status, Flags, Reserved}
+use Rattle.olr_spec.specs.Bytes.{extra, bit, flags_of, attribute1_bytes, has_reserved, v3_fault}
 use Rattle.olr_spec.proofs.SectorLemmas.{le_test}
+use Rattle.olr_spec.proofs.BytesLemmas.{flag_below}
 
-abbrev AreBytes : List ℕ → Type 0
+abbrev pub AreBytes : List ℕ → Type 0
 AreBytes xs = AllByRecursion (λ x. x < 256) xs
 
 are_bytes : (xs : List ℕ) → All (λ x. x < 256) xs → AreBytes xs
@@ -60,7 +68,8 @@ read_attrs a b c la lb lc =
       λ i. p i ∷ q i ∷ c ∷ [],
     )
 
-read_first : (a b c d e f g h k : ℕ) → AreBytes (a ∷ b ∷ c ∷ d ∷ e ∷ f ∷ g ∷ h ∷ k ∷ []) → g < 64 → (p : First) × IsFirst p × (first_bytes p ≡ a ∷ b ∷ c ∷ d ∷ e ∷ f ∷ g ∷ h ∷ k ∷ [])
+read_first : (a b c d e f g h k : ℕ) → AreBytes (a ∷ b ∷ c ∷ d ∷ e ∷ f ∷ g ∷ h ∷ k ∷ []) → g < 64 → (p : First)
+    × IsFirst p × (first_bytes p ≡ a ∷ b ∷ c ∷ d ∷ e ∷ f ∷ g ∷ h ∷ k ∷ [])
 read_first a b c d e f g h k w lt =
     let lon = read24 a b c w.0 w.1.0 w.1.1.0 in
     let rest = w.1.1.1 in
@@ -71,7 +80,8 @@ read_first a b c d e f g h k w lt =
       λ i. lon.2 i ++ lat.2 i ++ attrs.2 i,
     )
 
-read_middle : (a b c d e f g : ℕ) → AreBytes (a ∷ b ∷ c ∷ d ∷ e ∷ f ∷ g ∷ []) → e < 64 → (p : Middle) × IsMiddle p × (middle_bytes p ≡ a ∷ b ∷ c ∷ d ∷ e ∷ f ∷ g ∷ [])
+read_middle : (a b c d e f g : ℕ) → AreBytes (a ∷ b ∷ c ∷ d ∷ e ∷ f ∷ g ∷ []) → e < 64 → (p : Middle) × IsMiddle p
+    × (middle_bytes p ≡ a ∷ b ∷ c ∷ d ∷ e ∷ f ∷ g ∷ [])
 read_middle a b c d e f g w lt =
     let lon = read16 a b w.0 w.1.0 in
     let rest = w.1.1 in
@@ -90,7 +100,8 @@ attributes_behind xs ys i zero = refl
 attributes_behind xs ys i (suc n) =
     let here = get_or-append-add xs ys i 0 in
     let on : length xs + i + 7 ≡ length xs + (i + 7) = omega arith in
-    let rest : attribute1_bytes (xs ++ ys) (length xs + i + 7) n ≡ attribute1_bytes ys (i + 7) n = ap (λ (k : ℕ). attribute1_bytes (xs ++ ys) k n) on ∙ attributes_behind xs ys (i + 7) n in
+    let rest : attribute1_bytes (xs ++ ys) (length xs + i + 7) n ≡ attribute1_bytes ys (i + 7) n =
+    ap (λ (k : ℕ). attribute1_bytes (xs ++ ys) k n) on ∙ attributes_behind xs ys (i + 7) n in
     λ j. here j ∷ rest j
 
 abbrev reserved : List ℕ → Bool
@@ -111,8 +122,10 @@ record Points (t : List ℕ) : Type 0 where
   spelled : t ≡ flat_map middle_bytes middle ++ last_bytes last positive negative
 
 -- the last point, whose flags are those of the offsets
-last_with : (a b c d f g : ℕ) (positive negative : Option ℕ) → AreBytes (a ∷ b ∷ c ∷ d ∷ f ∷ g ∷ []) → f < 64 → 64 * flag positive + 32 * flag negative + g % 32 ≡ g
-    → IfSome positive (λ n. n < 256) → IfSome negative (λ n. n < 256) → Points (a ∷ b ∷ c ∷ d ∷ f ∷ g ∷ (offset_bytes positive ++ offset_bytes negative))
+last_with : (a b c d f g : ℕ) (positive negative : Option ℕ) → AreBytes (a ∷ b ∷ c ∷ d ∷ f ∷ g ∷ []) → f < 64 →
+    64 * flag positive + 32 * flag negative + g % 32 ≡ g
+    → IfSome positive (λ n. n < 256) → IfSome negative (λ n. n < 256) →
+    Points (a ∷ b ∷ c ∷ d ∷ f ∷ g ∷ (offset_bytes positive ++ offset_bytes negative))
 last_with a b c d f g positive negative w lt e p n =
     let lon = read16 a b w.0 w.1.0 in
     let rest = w.1.1 in
@@ -130,7 +143,8 @@ last_with a b c d f g positive negative w lt e p n =
       spelled = sym (λ i. lon.2 i ++ lat.2 i ++ first i ∷ e i ∷ (offset_bytes positive ++ offset_bytes negative));
     }
 
-read_last : (a b c d f g : ℕ) (rest : List ℕ) → AreBytes (a ∷ b ∷ c ∷ d ∷ f ∷ g ∷ rest) → f < 64 → g < 128 → bit 6 g + bit 5 g ≡ length rest → Points (a ∷ b ∷ c ∷ d ∷ f ∷ g ∷ rest)
+read_last : (a b c d f g : ℕ) (rest : List ℕ) → AreBytes (a ∷ b ∷ c ∷ d ∷ f ∷ g ∷ rest) → f < 64 → g < 128 →
+    bit 6 g + bit 5 g ≡ length rest → Points (a ∷ b ∷ c ∷ d ∷ f ∷ g ∷ rest)
 read_last a b c d f g [] w lf lg e = last_with a b c d f g None None w lf (omega arith) tt tt
 read_last a b c d f g (h ∷ []) w lf lg e =
     let front : AreBytes (a ∷ b ∷ c ∷ d ∷ f ∷ g ∷ []) = bytes_before (a ∷ b ∷ c ∷ d ∷ f ∷ g ∷ []) (h ∷ []) w in
@@ -146,7 +160,8 @@ read_last a b c d f g (h ∷ k ∷ []) w lf lg e =
 read_last a b c d f g (h ∷ k ∷ l ∷ rest) w lf lg e = absurd (omega arith)
 
 -- m points before the last
-read_points : (m : ℕ) (t : List ℕ) → AreBytes t → 7 * m + 6 ≤ length t → bit 6 (slice_index t (7 * m + 5)) + bit 5 (slice_index t (7 * m + 5)) ≡ length t - (7 * m + 6)
+read_points : (m : ℕ) (t : List ℕ) → AreBytes t → 7 * m + 6 ≤ length t →
+    bit 6 (slice_index t (7 * m + 5)) + bit 5 (slice_index t (7 * m + 5)) ≡ length t - (7 * m + 6)
     → slice_index t (7 * m + 5) < 128 → reserved (attribute1_bytes t 4 (suc m)) ≡ false → Points t
 read_points zero [] w long flags top free = absurd (omega arith)
 read_points zero (a ∷ []) w long flags top free = absurd (omega arith)
@@ -156,7 +171,8 @@ read_points zero (a ∷ b ∷ c ∷ d ∷ []) w long flags top free = absurd (om
 read_points zero (a ∷ b ∷ c ∷ d ∷ f ∷ []) w long flags top free = absurd (omega arith)
 read_points zero (a ∷ b ∷ c ∷ d ∷ f ∷ g ∷ rest) w long flags top free =
     let low : f < 64 = leb-false 64 f (or_parts (nat_le 64 f) false free).0 in
-    read_last a b c d f g rest w low top (let size : suc (suc (suc (suc (suc (suc (length rest)))))) - 6 ≡ length rest = omega arith in flags ∙ size)
+    read_last a b c d f g rest w low top (let size : suc (suc (suc (suc (suc (suc (length rest)))))) - 6 ≡ length rest =
+    omega arith in flags ∙ size)
 read_points (suc m) [] w long flags top free = absurd (omega arith)
 read_points (suc m) (a ∷ []) w long flags top free = absurd (omega arith)
 read_points (suc m) (a ∷ b ∷ []) w long flags top free = absurd (omega arith)
@@ -170,10 +186,13 @@ read_points (suc m) (a ∷ b ∷ c ∷ d ∷ e ∷ f ∷ g ∷ t) w long flags t
     let parts = or_parts (nat_le 64 e) (reserved (attribute1_bytes (cut ++ t) 11 (suc m))) free in
     let p = read_middle a b c d e f g front (leb-false 64 e parts.0) in
     let place : 7 * suc m + 5 ≡ 7 + (7 * m + 5) = omega arith in
-    let same : slice_index (cut ++ t) (7 * suc m + 5) ≡ slice_index t (7 * m + 5) = ap (slice_index (cut ++ t)) place ∙ get_or-append-add cut t (7 * m + 5) 0 in
-    let left : suc (suc (suc (suc (suc (suc (suc (length t))))))) - (7 * suc m + 6) ≡ length t - (7 * m + 6) = omega arith in
+    let same : slice_index (cut ++ t) (7 * suc m + 5) ≡ slice_index t (7 * m + 5) =
+    ap (slice_index (cut ++ t)) place ∙ get_or-append-add cut t (7 * m + 5) 0 in
+    let left : suc (suc (suc (suc (suc (suc (suc (length t))))))) - (7 * suc m + 6) ≡ length t - (7 * m + 6) =
+    omega arith in
     let rest =
-    read_points m t w.1.1.1.1.1.1.1 (omega arith) (ap (λ (x : ℕ). bit 6 x + bit 5 x) (sym same) ∙ flags ∙ left) (subst (λ (x : ℕ). x < 128) same top)
+    read_points m t w.1.1.1.1.1.1.1 (omega arith) (ap (λ (x : ℕ). bit 6 x + bit 5 x) (sym same) ∙ flags ∙ left)
+    (subst (λ (x : ℕ). x < 128) same top)
     (ap reserved (sym (attributes_behind cut t 4 (suc m))) ∙ parts.1) in
     record {
       middle = p.0 ∷ rest.middle;
@@ -209,7 +228,9 @@ passes b e =
     let r = no_fault (not (bit 6 (flags_of b) + bit 5 (flags_of b) == extra b)) Flags _ q.1 in
     let s = no_fault (has_reserved b) Reserved None r.1 in
     let size = or_parts (nat_lt (length b) 16) (nat_lt 2 (extra b)) p.0 in
-    let clear = or_parts (reserved (slice_index b 7 ∷ attribute1_bytes b 14 ((length b - 16) / 7 + 1))) (nat_le 128 (flags_of b)) s.0 in
+    let clear =
+    or_parts (reserved (slice_index b 7 ∷ attribute1_bytes b 14 ((length b - 16) / 7 + 1))) (nat_le 128 (flags_of b))
+    s.0 in
     record {
       long = ltb-false (length b) 16 size.0;
       few = ltb-false 2 (extra b) size.1;
@@ -240,14 +261,27 @@ read_bytes (s ∷ a ∷ b ∷ c ∷ d ∷ e ∷ f ∷ g ∷ k ∷ l ∷ t) w p =
     let parts = or_parts (nat_le 64 g) (reserved (attribute1_bytes (cut ++ t) 14 (m + 1))) p.free in
     let first = read_first a b c d e f g k l front.1 (leb-false 64 g parts.0) in
     let place : length (cut ++ t) - 1 - extra (cut ++ t) ≡ 10 + (7 * m + 5) = omega arith in
-    let same : flags_of (cut ++ t) ≡ slice_index t (7 * m + 5) = ap (slice_index (cut ++ t)) place ∙ get_or-append-add cut t (7 * m + 5) 0 in
+    let same : flags_of (cut ++ t) ≡ slice_index t (7 * m + 5) =
+    ap (slice_index (cut ++ t)) place ∙ get_or-append-add cut t (7 * m + 5) 0 in
     let left : extra (cut ++ t) ≡ length t - (7 * m + 6) = omega arith in
     let count : m + 1 ≡ suc m = omega arith in
     let rest =
-    read_points m t w.1.1.1.1.1.1.1.1.1.1 (omega arith) (ap (λ (x : ℕ). bit 6 x + bit 5 x) (sym same) ∙ p.flags ∙ left) (subst (λ (x : ℕ). x < 128) same p.top)
-    (ap reserved (sym (attributes_behind cut t 4 (suc m)) ∙ ap (attribute1_bytes (cut ++ t) 14) (sym count)) ∙ parts.1) in (
+    read_points m t w.1.1.1.1.1.1.1.1.1.1 (omega arith) (ap (λ (x : ℕ). bit 6 x + bit 5 x) (sym same) ∙ p.flags ∙ left)
+    (subst (λ (x : ℕ). x < 128) same p.top)
+    (ap reserved (sym (attributes_behind cut t 4 (suc m)) ∙ ap (attribute1_bytes (cut ++ t) 14) (sym count))
+    ∙ parts.1) in (
       record { first = first.0; middle = rest.middle; last = rest.last; pos = rest.positive; neg = rest.negative },
-      (record { first = first.1; middle = rest.are_middle; last = rest.is_last; pos = rest.is_positive; neg = rest.is_negative }, λ i. p.status i ∷ sym first.2 i ++ rest.spelled i),
+      (
+        record {
+          first = first.1;
+          middle = rest.are_middle;
+          last = rest.is_last;
+          pos = rest.is_positive;
+          neg =
+              rest.is_negative;
+        },
+        λ i. p.status i ∷ sym first.2 i ++ rest.spelled i,
+      ),
     )
 
 pub read_spelled : (b : List ℕ) → All (λ x. x < 256) b → v3_fault b ≡ None → (r : Reference) × Spells r b
@@ -263,20 +297,21 @@ flag_is : (o : Option ℕ) → length (offset_bytes o) ≡ flag o
 flag_is None = refl
 flag_is (Some n) = refl
 
-flag_most : (o : Option ℕ) → flag o ≤ 1
-flag_most None = omega arith
-flag_most (Some n) = omega arith
-
 -- none of the points' attribute bytes has a reserved bit
 unreserved : (ps : List Middle) (l : Last) (positive negative : Option ℕ) → AllByRecursion IsMiddle ps → IsLast l
-    → reserved (attribute1_bytes (flat_map middle_bytes ps ++ last_bytes l positive negative) 4 (suc (length ps))) ≡ false
+    → reserved (attribute1_bytes (flat_map middle_bytes ps ++ last_bytes l positive negative) 4 (suc (length ps)))
+    ≡ false
 unreserved [] l positive negative h k =
-    let low : nat_le 64 (attribute1 l.frc l.fow) ≡ false = lt-leb 64 (attribute1 l.frc l.fow) (let f = k.frc in let g = k.fow in omega arith) in
+    let low : nat_le 64 (attribute1 l.frc l.fow) ≡ false =
+    lt-leb 64 (attribute1 l.frc l.fow) (let f = k.frc in let g = k.fow in omega arith) in
     ap (λ (b : Bool). b || false) low
 unreserved (p ∷ ps) l positive negative h k =
     let rest = flat_map middle_bytes ps ++ last_bytes l positive negative in
-    let low : nat_le 64 (attribute1 p.attrs.frc p.attrs.fow) ≡ false = lt-leb 64 (attribute1 p.attrs.frc p.attrs.fow) (let f = h.0.attrs.frc in let g = h.0.attrs.fow in omega arith) in
-    let others : reserved (attribute1_bytes (middle_bytes p ++ rest) 11 (suc (length ps))) ≡ false = ap reserved (attributes_behind (middle_bytes p) rest 4 (suc (length ps))) ∙ unreserved ps l positive negative h.1 k in
+    let low : nat_le 64 (attribute1 p.attrs.frc p.attrs.fow) ≡ false =
+    lt-leb 64 (attribute1 p.attrs.frc p.attrs.fow) (let f = h.0.attrs.frc in let g = h.0.attrs.fow in omega arith) in
+    let others : reserved (attribute1_bytes (middle_bytes p ++ rest) 11 (suc (length ps))) ≡ false =
+    ap reserved (attributes_behind (middle_bytes p) rest 4 (suc (length ps)))
+    ∙ unreserved ps l positive negative h.1 k in
     λ i. low i || others i
 
 pub spelled_passes : (r : Reference) → IsReference r → v3_fault (spelling r) ≡ None
@@ -287,24 +322,33 @@ spelled_passes r h =
     let ends = last_bytes r.last r.pos r.neg in
     let m = length r.middle in
     let n = flag r.pos + flag r.neg in
-    let few : n ≤ 2 = omega (arith, flag_most r.pos, flag_most r.neg) in
-    let tail : length ends ≡ 6 + n = omega (arith, length-append (offset_bytes r.pos) (offset_bytes r.neg), flag_is r.pos, flag_is r.neg) in
+    let few : n ≤ 2 = omega (arith, flag_below r.pos, flag_below r.neg) in
+    let tail : length ends ≡ 6 + n =
+    omega (arith, length-append (offset_bytes r.pos) (offset_bytes r.neg), flag_is r.pos, flag_is r.neg) in
     let size : length b ≡ 16 + (7 * m + n) = omega (arith, length-append middles ends, middles_length r.middle) in
     let over : extra b ≡ n = omega arith in
     let count : (length b - 16) / 7 + 1 ≡ suc m = omega arith in
     let place : length b - 1 - extra b ≡ 10 + (length middles + 5) = omega (arith, middles_length r.middle) in
     let flags : flags_of b ≡ attribute4 r.pos r.neg r.last.bearing =
-    ap (slice_index b) place ∙ get_or-append-add cut (middles ++ ends) (length middles + 5) 0 ∙ get_or-append-add middles ends 5 0 in
+    ap (slice_index b) place ∙ get_or-append-add cut (middles ++ ends) (length middles + 5) 0
+    ∙ get_or-append-add middles ends 5 0 in
     let bearing = h.last.bearing in
-    let sum : bit 6 (flags_of b) + bit 5 (flags_of b) ≡ extra b = omega (arith, flag_most r.pos, flag_most r.neg) in
+    let sum : bit 6 (flags_of b) + bit 5 (flags_of b) ≡ extra b = omega (arith, flag_below r.pos, flag_below r.neg) in
     let long : nat_lt (length b) 16 ≡ false = le-ltb (length b) 16 (omega arith) in
     let short : nat_lt 2 (extra b) ≡ false = le-ltb 2 (extra b) (omega arith) in
-    let flagged : (bit 6 (flags_of b) + bit 5 (flags_of b) == extra b) ≡ true = eq-eqb (bit 6 (flags_of b) + bit 5 (flags_of b)) (extra b) sum in
-    let low : nat_le 64 (slice_index b 7) ≡ false = lt-leb 64 (slice_index b 7) (let f = h.first.attrs.frc in let g = h.first.attrs.fow in omega arith) in
+    let flagged : (bit 6 (flags_of b) + bit 5 (flags_of b) == extra b) ≡ true =
+    eq-eqb (bit 6 (flags_of b) + bit 5 (flags_of b)) (extra b) sum in
+    let low : nat_le 64 (slice_index b 7) ≡ false =
+    lt-leb 64 (slice_index b 7) (let f = h.first.attrs.frc in let g = h.first.attrs.fow in omega arith) in
     let clear : reserved (attribute1_bytes b 14 ((length b - 16) / 7 + 1)) ≡ false =
-    ap (λ (k : ℕ). reserved (attribute1_bytes b 14 k)) count ∙ ap reserved (attributes_behind cut (middles ++ ends) 4 (suc m)) ∙ unreserved r.middle r.last r.pos r.neg h.middle h.last in
-    let top : nat_le 128 (flags_of b) ≡ false = lt-leb 128 (flags_of b) (omega (arith, flag_most r.pos, flag_most r.neg)) in
-    λ i. cond (long i || short i) (Some Length) (cond (not true) (Some Status) (cond (not (flagged i)) (Some Flags) (cond ((low i || clear i) || top i) (Some Reserved) None)))
+    ap (λ (k : ℕ). reserved (attribute1_bytes b 14 k)) count
+    ∙ ap reserved (attributes_behind cut (middles ++ ends) 4 (suc m))
+    ∙ unreserved r.middle r.last r.pos r.neg h.middle h.last in
+    let top : nat_le 128 (flags_of b) ≡ false =
+    lt-leb 128 (flags_of b) (omega (arith, flag_below r.pos, flag_below r.neg)) in
+    λ i. cond (long i || short i) (Some Length)
+    (cond (not true) (Some Status)
+    (cond (not (flagged i)) (Some Flags) (cond ((low i || clear i) || top i) (Some Reserved) None)))
 
 pub no_fault_where_spelled : (b : List ℕ) → All (λ x. x < 256) b → (v3_fault b ≡ None) ↔ ((r : Reference) × Spells r b)
 no_fault_where_spelled b h = (read_spelled b h, λ p. ap v3_fault p.1.1 ∙ spelled_passes p.0 p.1.0)

@@ -16,27 +16,35 @@ pub Walk-moves : (M N : Map) (s t : ℕ) (xs : List ℕ) → Each (SameLine M N)
 Walk-moves M N s t [] h w = w
 Walk-moves M N s t (x ∷ xs) h w =
     let e = Each-head (SameLine M N) x xs h in
-    let rest : Walk N (end N x) t xs = subst (λ (n : ℕ). Walk N n t xs) (same_end M N x e) (Walk-moves M N (end M x) t xs (Each-tail (SameLine M N) x xs h) w.2) in
+    let rest : Walk N (end N x) t xs =
+    subst (λ (n : ℕ). Walk N n t xs) (same_end M N x e)
+    (Walk-moves M N (end M x) t xs (Each-tail (SameLine M N) x xs h) w.2) in
     (sym (same_known M N x e) ∙ w.0, sym (same_start M N x e) ∙ w.1, rest)
 
 module _ (M N : Map) (s : ℕ) (round : (v : ℕ) → Reach M s v → SameRound M N v) where
   -- a walk of the first map on from a node within reach
-  onward : (v t : ℕ) (front xs : List ℕ) → Walk M s v front → Walk M v t xs → dm_of M front + dm_of M xs ≤ limit → Each (SameLine M N) xs
+  onward : (v t : ℕ) (front xs : List ℕ) → Walk M s v front → Walk M v t xs → dm_of M front + dm_of M xs ≤ limit →
+      Each (SameLine M N) xs
   onward v t front [] p w h = Each-nil (SameLine M N)
   onward v t front (x ∷ xs) p w h =
       let is : SameLine M N x = by_leaving M N v x (round v (front, p, omega arith)) w.0 w.1 in
       let step : Walk M s (end M x) (front ++ x ∷ []) = Walk-append M s v (end M x) front (x ∷ []) p (w.0, w.1, refl) in
-      Each-cons (SameLine M N) x xs is (onward (end M x) t (front ++ x ∷ []) xs step w.2 (omega (arith, dm_of-append M front (x ∷ []))))
+      Each-cons (SameLine M N) x xs is
+      (onward (end M x) t (front ++ x ∷ []) xs step w.2 (omega (arith, dm_of-append M front (x ∷ []))))
 
   -- and a walk of the second map
-  onward_other : (v t : ℕ) (front xs : List ℕ) → Walk M s v front → Walk N v t xs → dm_of M front + dm_of N xs ≤ limit → Each (SameLine M N) xs
+  onward_other : (v t : ℕ) (front xs : List ℕ) → Walk M s v front → Walk N v t xs → dm_of M front + dm_of N xs ≤ limit →
+      Each (SameLine M N) xs
   onward_other v t front [] p w h = Each-nil (SameLine M N)
   onward_other v t front (x ∷ xs) p w h =
-      let is : SameLine M N x = sym (by_leaving N M v x (turned_round M N v (round v (front, p, omega arith))) w.0 w.1) in
-      let step : Walk M s (end M x) (front ++ x ∷ []) = Walk-append M s v (end M x) front (x ∷ []) p (same_known M N x is ∙ w.0, same_start M N x is ∙ w.1, refl) in
+      let is : SameLine M N x =
+      sym (by_leaving N M v x (turned_round M N v (round v (front, p, omega arith))) w.0 w.1) in
+      let step : Walk M s (end M x) (front ++ x ∷ []) =
+      Walk-append M s v (end M x) front (x ∷ []) p (same_known M N x is ∙ w.0, same_start M N x is ∙ w.1, refl) in
       let rest : Walk N (end M x) t xs = subst (λ (n : ℕ). Walk N n t xs) (sym (same_end M N x is)) w.2 in
       let long : dm M x ≡ dm N x = same_dm M N x is in
-      Each-cons (SameLine M N) x xs is (onward_other (end M x) t (front ++ x ∷ []) xs step rest (omega (arith, dm_of-append M front (x ∷ []))))
+      Each-cons (SameLine M N) x xs is
+      (onward_other (end M x) t (front ++ x ∷ []) xs step rest (omega (arith, dm_of-append M front (x ∷ []))))
 
   pub within : (t : ℕ) (xs : List ℕ) → Walk M s t xs → dm_of M xs ≤ limit → Each (SameLine M N) xs
   within t xs w h = onward s t [] xs refl w (omega arith)

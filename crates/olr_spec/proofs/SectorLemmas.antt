@@ -1,6 +1,9 @@
 -- Each direction lies in one sector.
-use Rattle.std.proofs.Common.{inl, inr, ◌≡◌, ℕ, zero, suc, ◌+◌, ◌-◌, ◌*◌, ◌/◌, ◌%◌, ◌<◌, ◌≤◌, ℤ, pos, ◌≤ℤ◌, ◌<ℤ◌, ◌*ℤ◌, ◌-ℤ◌, neg_ℤ, Bool, true, false, cond, T, List, [], ◌∷◌, ◌++◌, Some, unwrap_or, IsTrue, ◌==◌, refl, sym, ap, ◌∙◌, subst, arith}
-use Rattle.std.proofs.lemmas.Bool.{and_parts, and_from, cases_order, eqb-true, eq-eqb, or_cases, or_left, or_right, both_ways}
+use Rattle.std.proofs.Common.{inl, inr, ◌≡◌, ℕ, zero, suc, ◌+◌, ◌-◌, ◌*◌, ◌/◌, ◌%◌, ◌<◌, ◌≤◌, ℤ, pos, ◌≤ℤ◌, ◌<ℤ◌, ◌*ℤ◌}
+use Rattle.std.proofs.Common.{◌-ℤ◌, neg_ℤ, Bool, true, false, cond, T, List, [], ◌∷◌, ◌++◌, Some, unwrap_or, IsTrue}
+use Rattle.std.proofs.Common.{◌==◌, refl, sym, ap, ◌∙◌, subst, arith}
+use Rattle.std.proofs.lemmas.Bool.{and_parts, and_from, cases_order, eqb-true, eq-eqb, or_cases, or_left, or_right}
+use Rattle.std.proofs.lemmas.Bool.{both_ways}
 use Rattle.std.proofs.lemmas.List.Folds.{list_any-append}
 use Rattle.std.proofs.lemmas.Int.{ints, by_lt_z}
 use Rattle.std.specs.Int.RustNames.{int_le, int_lt}
@@ -29,7 +32,8 @@ lt_test a b h = T_is (int_lt a b) h.lt
 
 -- ---- every number below n
 
-AllByRecursion-split : (P : ℕ → Type 0) (xs ys : List ℕ) → AllByRecursion P (xs ++ ys) → AllByRecursion P xs × AllByRecursion P ys
+AllByRecursion-split : (P : ℕ → Type 0) (xs ys : List ℕ) → AllByRecursion P (xs ++ ys) → AllByRecursion P xs
+    × AllByRecursion P ys
 AllByRecursion-split P [] ys h = (tt, h)
 AllByRecursion-split P (x ∷ xs) ys h = let r = AllByRecursion-split P xs ys h.1 in ((h.0, r.0), r.1)
 
@@ -45,7 +49,8 @@ all_below P (suc n) h k lt =
 pub up_to_below : (n : ℕ) → Each (λ k. k < n) (up_to n)
 up_to_below zero = Each-nil (λ k. k < zero)
 up_to_below (suc n) =
-    Each-append (λ k. k < suc n) (up_to n) (n ∷ []) (Each-weaker (λ k. k < n) (λ k. k < suc n) (up_to n) (λ k h. omega arith) (up_to_below n))
+    Each-append (λ k. k < suc n) (up_to n) (n ∷ [])
+    (Each-weaker (λ k. k < n) (λ k. k < suc n) (up_to n) (λ k h. omega arith) (up_to_below n))
     (Each-cons (λ k. k < suc n) n [] (omega arith) (Each-nil (λ k. k < suc n)))
 
 -- ---- quadrants
@@ -67,12 +72,60 @@ abbrev Turned : ℕ → Type 0
 Turned k = boundary (k + 8) ≡ turned (boundary k)
 
 every_turned : AllByRecursion Turned (up_to 25)
-every_turned = (refl, (refl, (refl, (refl, (refl, (refl, (refl, (refl, (refl, (refl, (refl, (refl, (refl, (refl, (refl, (refl, (refl, (refl, (refl, (refl, (refl, (refl, (refl, (refl, (refl, tt)))))))))))))))))))))))))
+every_turned = (
+  refl,
+  (
+    refl,
+    (
+      refl,
+      (
+        refl,
+        (
+          refl,
+          (
+            refl,
+            (
+              refl,
+              (
+                refl,
+                (
+                  refl,
+                  (
+                    refl,
+                    (
+                      refl,
+                      (
+                        refl,
+                        (
+                          refl,
+                          (
+                            refl,
+                            (
+                              refl,
+                              (
+                                refl,
+                                (refl, (refl, (refl, (refl, (refl, (refl, (refl, (refl, (refl, tt))))))))),
+                              ),
+                            ),
+                          ),
+                        ),
+                      ),
+                    ),
+                  ),
+                ),
+              ),
+            ),
+          ),
+        ),
+      ),
+    ),
+  ),
+)
 
-neg_right : (a b : ℤ) → a *ℤ neg_ℤ b ≡ neg_ℤ (a *ℤ b)
+pub neg_right : (a b : ℤ) → a *ℤ neg_ℤ b ≡ neg_ℤ (a *ℤ b)
 neg_right a b = grind (arith, ints)
 
-neg_left : (a b : ℤ) → neg_ℤ a *ℤ b ≡ neg_ℤ (a *ℤ b)
+pub neg_left : (a b : ℤ) → neg_ℤ a *ℤ b ≡ neg_ℤ (a *ℤ b)
 neg_left a b = grind (arith, ints)
 
 turns_into : (x y e n : ℤ) → e *ℤ neg_ℤ x -ℤ n *ℤ y ≡ neg_ℤ n *ℤ y -ℤ e *ℤ x
@@ -82,7 +135,9 @@ turns_into x y e n =
     omega (arith, ints)
 
 side_turned : (k : ℕ) → k < 25 → (e n : ℤ) → side e n (k + 8) ≡ side (neg_ℤ n) e k
-side_turned k lt e n = ap (λ (b : Vector). beyond b (vector e n)) (all_below Turned 25 every_turned k lt) ∙ turns_into (boundary k).east (boundary k).north e n
+side_turned k lt e n =
+    ap (λ (b : Vector). beyond b (vector e n)) (all_below Turned 25 every_turned k lt)
+    ∙ turns_into (boundary k).east (boundary k).north e n
 
 -- quarter q + 1 of a direction is quarter q of the direction turned back
 side_on : (e n : ℤ) (q j : ℕ) → q < 3 → j ≤ 8 → side e n (suc q * 8 + j) ≡ side (neg_ℤ n) e (q * 8 + j)
@@ -95,40 +150,85 @@ abbrev FirstSits : ℕ → Type 0
 FirstSits j = (e n : ℤ) → At j e n → InQuadrant 0 e n
 
 first_sits : AllByRecursion FirstSits (up_to 8)
-first_sits = (λ e n h. (omega (arith, ints), omega (arith, ints)), (λ e n h. (omega (arith, ints), omega (arith, ints)), (λ e n h. (omega (arith, ints), omega (arith, ints)), (λ e n h. (omega (arith, ints), omega (arith, ints)), (λ e n h. (omega (arith, ints), omega (arith, ints)), (λ e n h. (omega (arith, ints), omega (arith, ints)), (λ e n h. (omega (arith, ints), omega (arith, ints)), (λ e n h. (omega (arith, ints), omega (arith, ints)), tt))))))))
+first_sits = (
+  λ e n h. (omega (arith, ints), omega (arith, ints)),
+  (
+    λ e n h. (omega (arith, ints), omega (arith, ints)),
+    (
+      λ e n h. (omega (arith, ints), omega (arith, ints)),
+      (
+        λ e n h. (omega (arith, ints), omega (arith, ints)),
+        (
+          λ e n h. (omega (arith, ints), omega (arith, ints)),
+          (
+            λ e n h. (omega (arith, ints), omega (arith, ints)),
+            (
+              λ e n h. (omega (arith, ints), omega (arith, ints)),
+              (λ e n h. (omega (arith, ints), omega (arith, ints)), tt),
+            ),
+          ),
+        ),
+      ),
+    ),
+  ),
+)
 
 sits_in : (q j : ℕ) → q < 4 → j < 8 → (e n : ℤ) → At (q * 8 + j) e n → InQuadrant q e n
-sits_in zero j lq lj e n h = let is : 0 * 8 + j ≡ j = omega arith in all_below FirstSits 8 first_sits j lj e n (subst (λ (m : ℕ). At m e n) is h)
+sits_in zero j lq lj e n h = let is : 0 * 8 + j ≡ j =
+    omega arith in all_below FirstSits 8 first_sits j lj e n (subst (λ (m : ℕ). At m e n) is h)
 sits_in (suc q) j lq lj e n h =
     let here = side_on e n q j (omega arith) (omega arith) in
     let next : side e n (suc (suc q * 8 + j)) ≡ side (neg_ℤ n) e (suc (q * 8 + j)) =
-    (let on : suc (suc q * 8 + j) ≡ suc q * 8 + suc j = omega arith in ap (side e n) on) ∙ side_on e n q (suc j) (omega arith) (omega arith) ∙ (let back : q * 8 + suc j ≡ suc (q * 8 + j) = omega arith in ap (side (neg_ℤ n) e) back) in
-    sits_in q j (omega arith) lj (neg_ℤ n) e (subst (λ (z : ℤ). pos 0 ≤ℤ z) here h.0, subst (λ (z : ℤ). z <ℤ pos 0) next h.1)
+    (let on : suc (suc q * 8 + j) ≡ suc q * 8 + suc j = omega arith in ap (side e n) on)
+    ∙ side_on e n q (suc j) (omega arith) (omega arith)
+    ∙ (let back : q * 8 + suc j ≡ suc (q * 8 + j) = omega arith in ap (side (neg_ℤ n) e) back) in
+    sits_in q j (omega arith) lj (neg_ℤ n) e
+    (subst (λ (z : ℤ). pos 0 ≤ℤ z) here h.0, subst (λ (z : ℤ). z <ℤ pos 0) next h.1)
 
 sits : (k : ℕ) → k < 32 → (e n : ℤ) → At k e n → InQuadrant (k / 8) e n
-sits k lt e n h = let is : k ≡ k / 8 * 8 + k % 8 = omega arith in sits_in (k / 8) (k % 8) (omega arith) (omega arith) e n (subst (λ (m : ℕ). At m e n) is h)
+sits k lt e n h = let is : k ≡ k / 8 * 8 + k % 8 =
+    omega arith in sits_in (k / 8) (k % 8) (omega arith) (omega arith) e n (subst (λ (m : ℕ). At m e n) is h)
 
 -- in a quarter, what lies before a boundary lies before the next
 abbrev FirstFalls : ℕ → Type 0
 FirstFalls j = (e n : ℤ) → InQuadrant 0 e n → side e n j <ℤ pos 0 → side e n (suc j) <ℤ pos 0
 
 first_falls : AllByRecursion FirstFalls (up_to 8)
-first_falls = (λ e n h f. omega (arith, ints), (λ e n h f. omega (arith, ints), (λ e n h f. omega (arith, ints), (λ e n h f. omega (arith, ints), (λ e n h f. omega (arith, ints), (λ e n h f. omega (arith, ints), (λ e n h f. omega (arith, ints), (λ e n h f. omega (arith, ints), tt))))))))
+first_falls = (
+  λ e n h f. omega (arith, ints),
+  (
+    λ e n h f. omega (arith, ints),
+    (
+      λ e n h f. omega (arith, ints),
+      (
+        λ e n h f. omega (arith, ints),
+        (
+          λ e n h f. omega (arith, ints),
+          (λ e n h f. omega (arith, ints), (λ e n h f. omega (arith, ints), (λ e n h f. omega (arith, ints), tt))),
+        ),
+      ),
+    ),
+  ),
+)
 
-falls_in : (q j : ℕ) → q < 4 → j < 8 → (e n : ℤ) → InQuadrant q e n → side e n (q * 8 + j) <ℤ pos 0 → side e n (q * 8 + suc j) <ℤ pos 0
+falls_in : (q j : ℕ) → q < 4 → j < 8 → (e n : ℤ) → InQuadrant q e n → side e n (q * 8 + j) <ℤ pos 0 →
+    side e n (q * 8 + suc j) <ℤ pos 0
 falls_in zero j lq lj e n h f =
     let is : 0 * 8 + j ≡ j = omega arith in
     let next : suc j ≡ 0 * 8 + suc j = omega arith in
-    subst (λ (m : ℕ). side e n m <ℤ pos 0) next (all_below FirstFalls 8 first_falls j lj e n h (subst (λ (m : ℕ). side e n m <ℤ pos 0) is f))
+    subst (λ (m : ℕ). side e n m <ℤ pos 0) next
+    (all_below FirstFalls 8 first_falls j lj e n h (subst (λ (m : ℕ). side e n m <ℤ pos 0) is f))
 falls_in (suc q) j lq lj e n h f =
     subst (λ (z : ℤ). z <ℤ pos 0) (sym (side_on e n q (suc j) (omega arith) (omega arith)))
-    (falls_in q j (omega arith) lj (neg_ℤ n) e h (subst (λ (z : ℤ). z <ℤ pos 0) (side_on e n q j (omega arith) (omega arith)) f))
+    (falls_in q j (omega arith) lj (neg_ℤ n) e h
+    (subst (λ (z : ℤ). z <ℤ pos 0) (side_on e n q j (omega arith) (omega arith)) f))
 
 falls : (k : ℕ) → k < 32 → (e n : ℤ) → InQuadrant (k / 8) e n → side e n k <ℤ pos 0 → side e n (suc k) <ℤ pos 0
 falls k lt e n h f =
     let is : k ≡ k / 8 * 8 + k % 8 = omega arith in
     let next : k / 8 * 8 + suc (k % 8) ≡ suc k = omega arith in
-    subst (λ (m : ℕ). side e n m <ℤ pos 0) next (falls_in (k / 8) (k % 8) (omega arith) (omega arith) e n h (subst (λ (m : ℕ). side e n m <ℤ pos 0) is f))
+    subst (λ (m : ℕ). side e n m <ℤ pos 0) next
+    (falls_in (k / 8) (k % 8) (omega arith) (omega arith) e n h (subst (λ (m : ℕ). side e n m <ℤ pos 0) is f))
 
 -- the directions of a quarter lie from its first boundary on, and before the first of the next
 turns : (q : ℕ) → q < 4 → (e n : ℤ) → InQuadrant q e n → (pos 0 ≤ℤ side e n (q * 8)) × (side e n (q * 8 + 8) <ℤ pos 0)
@@ -143,7 +243,8 @@ turns (suc q) lq e n h =
 -- ---- one sector
 
 -- below 0 at a boundary, so below 0 at each later one of the quadrant
-falls_on : (e n : ℤ) (j d : ℕ) → j + d < 32 → (j + d) / 8 ≡ j / 8 → InQuadrant (j / 8) e n → side e n j <ℤ pos 0 → side e n (j + d) <ℤ pos 0
+falls_on : (e n : ℤ) (j d : ℕ) → j + d < 32 → (j + d) / 8 ≡ j / 8 → InQuadrant (j / 8) e n → side e n j <ℤ pos 0 →
+    side e n (j + d) <ℤ pos 0
 falls_on e n j zero lt same q h = subst (λ (k : ℕ). side e n k <ℤ pos 0) (let is : j ≡ j + zero = omega arith in is) h
 falls_on e n j (suc d) lt same q h =
     let on : j + suc d ≡ suc (j + d) = omega arith in
@@ -173,18 +274,27 @@ later_fails e n j k lt h a b =
           let d = k - suc j in
           let on : suc j + d ≡ k = omega arith in
           let next : suc j / 8 ≡ j / 8 = omega arith in
-          let at : side e n (suc j + d) <ℤ pos 0 = falls_on e n (suc j) d (omega arith) (omega arith) (subst (λ (m : ℕ). InQuadrant m e n) (sym next) p) a.1 in
+          let at : side e n (suc j + d) <ℤ pos 0 =
+          falls_on e n (suc j) d (omega arith) (omega arith) (subst (λ (m : ℕ). InQuadrant m e n) (sym next) p) a.1 in
           let below : side e n k <ℤ pos 0 = subst (λ (m : ℕ). side e n m <ℤ pos 0) on at in
           let above : pos 0 ≤ℤ side e n k = b.0 in
           clash (side e n k) above below
-      | inr o ↦ elim o [ inl less ↦ one_quadrant e n (j / 8) (k / 8) less (omega arith) p q | inr more ↦ absurd (omega arith) ]
+      | inr o ↦ elim o [
+        | inl less ↦ one_quadrant e n (j / 8) (k / 8) less (omega arith) p q
+        | inr more ↦
+            absurd (omega arith)
+      ]
     ]
 
 at_of : (e n : ℤ) (k : ℕ) → IsTrue (lies_between (boundary k) (boundary (suc k)) (vector e n)) → At k e n
-at_of e n k h = let p = and_parts (int_le (pos 0) (side e n k)) (int_lt (side e n (suc k)) (pos 0)) h in (le_yes (pos 0) (side e n k) p.0, lt_yes (side e n (suc k)) (pos 0) p.1)
+at_of e n k h = let p =
+    and_parts (int_le (pos 0) (side e n k)) (int_lt (side e n (suc k)) (pos 0)) h in
+    (le_yes (pos 0) (side e n k) p.0, lt_yes (side e n (suc k)) (pos 0) p.1)
 
 of_at : (e n : ℤ) (k : ℕ) → At k e n → IsTrue (lies_between (boundary k) (boundary (suc k)) (vector e n))
-of_at e n k a = and_from (int_le (pos 0) (side e n k)) (int_lt (side e n (suc k)) (pos 0)) (le_test (pos 0) (side e n k) a.0) (lt_test (side e n (suc k)) (pos 0) a.1)
+of_at e n k a =
+    and_from (int_le (pos 0) (side e n k)) (int_lt (side e n (suc k)) (pos 0)) (le_test (pos 0) (side e n k) a.0)
+    (lt_test (side e n (suc k)) (pos 0) a.1)
 
 pub one_sector : (e n : ℤ) (j k : ℕ) → IsSector e n j → IsSector e n k → j ≡ k
 one_sector e n j k p q =
@@ -203,7 +313,8 @@ Crossing e n a b = (k : ℕ) × (a ≤ k) × (k < b) × At k e n
 
 -- from a boundary on, and before a later one
 crossing : (e n : ℤ) (a d : ℕ) → pos 0 ≤ℤ side e n a → side e n (a + d) <ℤ pos 0 → Crossing e n a (a + d)
-crossing e n a zero h g = absurd (clash (side e n a) h (subst (λ (k : ℕ). side e n k <ℤ pos 0) (let is : a + zero ≡ a = omega arith in is) g))
+crossing e n a zero h g =
+    absurd (clash (side e n a) h (subst (λ (k : ℕ). side e n k <ℤ pos 0) (let is : a + zero ≡ a = omega arith in is) g))
 crossing e n a (suc d) h g =
     by_lt_z {P = Crossing e n a (a + suc d)} (side e n (suc a)) (pos 0)
     (λ below. (a, omega arith, omega arith, (h, below)))
@@ -237,12 +348,19 @@ some_sector e n ne =
 
 -- ---- the function
 
-find_some : (p : ℕ → Bool) (xs : List ℕ) (d : ℕ) (Q : ℕ → Type 0) → Each Q xs → (k : ℕ) → has xs k ≡ true → p k ≡ true → Q (unwrap_or (find p xs) d) × (p (unwrap_or (find p xs) d) ≡ true)
+find_some : (p : ℕ → Bool) (xs : List ℕ) (d : ℕ) (Q : ℕ → Type 0) → Each Q xs → (k : ℕ) → has xs k ≡ true → p k ≡ true →
+    Q (unwrap_or (find p xs) d) × (p (unwrap_or (find p xs) d) ≡ true)
 find_some p [] d Q h k i e = absurd cc
 find_some p (x ∷ xs) d Q h k i e =
-    elim (p x) as (λ b. p x ≡ b → Q (unwrap_or (cond b (Some x) (find p xs)) d) × (p (unwrap_or (cond b (Some x) (find p xs)) d) ≡ true)) [
+    elim (p x) as (λ b. p x ≡ b → Q (unwrap_or (cond b (Some x) (find p xs)) d)
+    × (p (unwrap_or (cond b (Some x) (find p xs)) d) ≡ true)) [
       | true ↦ λ t. (Each-head Q x xs h, t)
-      | false ↦ λ t. find_some p xs d Q (Each-tail Q x xs h) k (elim (or_cases _ _ i) [ inl is ↦ absurd (let y : x ≡ k = eqb-true x k is in both_ways (p k) (ap p (sym y) ∙ t) e) | inr j ↦ j ]) e
+      | false ↦ λ t. find_some p xs d Q (Each-tail Q x xs h) k
+          (elim (or_cases _ _ i) [
+            | inl is ↦
+                absurd (let y : x ≡ k = eqb-true x k is in both_ways (p k) (ap p (sym y) ∙ t) e)
+            | inr j ↦ j
+          ]) e
     ] refl
 
 has_below : (n k : ℕ) → k < n → has (up_to n) k ≡ true
@@ -257,4 +375,5 @@ has_below (suc n) k lt =
 pub sector_is : (e n : ℤ) → ¬ ((e ≡ pos 0) × (n ≡ pos 0)) → IsSector e n (sector e n)
 sector_is e n ne =
     let r = some_sector e n ne in
-    find_some (λ k. lies_between (boundary k) (boundary (suc k)) (vector e n)) (up_to 32) 0 (λ k. k < 32) (up_to_below 32) r.0 (has_below 32 r.0 r.1.0) r.1.1
+    find_some (λ k. lies_between (boundary k) (boundary (suc k)) (vector e n)) (up_to 32) 0 (λ k. k < 32)
+    (up_to_below 32) r.0 (has_below 32 r.0 r.1.0) r.1.1

@@ -1,26 +1,30 @@
 -- Where nothing that a path looked at has changed, its answer, own nodes and looks are the same.
-use Rattle.std.proofs.Common.{inl, inr, ◌≡◌, ℕ, ◌+◌, List, [], ◌∷◌, length, true, false, refl, ◌<◌, ◌≤◌, Option, None, Some, IsTrue, All, sym, ◌∙◌, subst, arith, MatchOption, ◌↔◌}
+use Rattle.std.proofs.Common.{inl, inr, ◌≡◌, ℕ, ◌+◌, List, [], ◌∷◌, length, true, false, refl, ◌<◌, ◌≤◌, Option, None}
+use Rattle.std.proofs.Common.{Some, IsTrue, All, sym, ◌∙◌, subst, arith, MatchOption, ◌↔◌}
 use Rattle.std.proofs.lemmas.Bool.{cases_lt, cases_Bool, both_ways}
 use Rattle.std.proofs.lemmas.List.Elements.{All-contains}
 use Rattle.std.specs.List.{AllZip}
 use Rattle.olr_spec.specs.Map.{Map, IsMap, has_line, start, end, SameLine, SameRound, has}
 use Rattle.olr_spec.specs.Walks.{Walk, dm_of}
 use Rattle.olr_spec.specs.Extension.{Path, is_path, first, last, Tried, extended, limit}
-use Rattle.olr_spec.specs.Points.{stretch, Covered, Follow}
+use Rattle.olr_spec.specs.Points.{stretch, Covered, Follow, OfPath}
 use Rattle.olr_spec.specs.Encoding.{Answer, Refused, Refusal, path_fault, answer_by_points, Encoding, Encodes}
 use Rattle.olr_spec.specs.Detours.{ChangedLine, Tells, Difference}
-use Rattle.olr_spec.specs.Looks.{Own, OwnOfExtended, OwnOf, Look, look_to, IsLook, IsClear, looking, LooksOfExtended, LooksOf}
+use Rattle.olr_spec.specs.Looks.{Own, OwnOfExtended, OwnOf, Look, look_to, IsLook, IsClear, looking, LooksOfExtended}
+use Rattle.olr_spec.specs.Looks.{LooksOf}
 use Rattle.olr_spec.proofs.ListLemmas.{Each, Each-from, has_first, has_last}
-use Rattle.olr_spec.proofs.AnswerLemmas.{sound_lines, path_nonempty, one_answer}
+use Rattle.olr_spec.proofs.AnswerLemmas.{sound_lines, path_nonempty, one_answer, path_also}
 use Rattle.olr_spec.proofs.ChainLemmas.{one_tried}
 use Rattle.olr_spec.proofs.RouteMoves.{turned_lines}
 use Rattle.olr_spec.proofs.LocalLemmas.{fault_same}
 use Rattle.olr_spec.proofs.JoinedLemmas.{extended_joined}
 use Rattle.olr_spec.proofs.LookLemmas.{look_stays, to_same, covered_stays}
 use Rattle.olr_spec.proofs.LookLists.{look_for, zip_moves}
-use Rattle.olr_spec.proofs.PointMoves.{close_stays, Own-moves, tried_moves, b_same, a_same, ls_same, extended_same, follow_same, answer_same}
+use Rattle.olr_spec.proofs.PointMoves.{close_stays, Own-moves, tried_moves, b_same, a_same, ls_same, extended_same}
+use Rattle.olr_spec.proofs.PointMoves.{follow_same, answer_same}
 
-module _ (M N : Map) (m : IsMap M) (n : IsMap N) (C : List ChangedLine) (there : Tells C M N) (here : Tells C N M) (P : Path) (is : IsTrue (is_path P.lines)) (sound : path_fault M P ≡ None)
+module _ (M N : Map) (m : IsMap M) (n : IsMap N) (C : List ChangedLine) (there : Tells C M N) (here : Tells C N M)
+    (P : Path) (is : IsTrue (is_path P.lines)) (sound : path_fault M P ≡ None)
     (same : Each (SameLine M N) P.lines) (own : (v : ℕ) → OwnOfExtended M P v
     → SameRound M N v) (looks : List Look) (o : LooksOfExtended M P looks) (clear : All (IsClear N C) looks) where
   abbrev E : Path
@@ -65,27 +69,27 @@ module _ (M N : Map) (m : IsMap M) (n : IsMap N) (C : List ChangedLine) (there :
   follow_there = follow_same M N m n P o.before o.after nonempty known same o.tried
       (rounds o.before o.after o.tried) o.points covers o.follow
 
+  -- the same chains and points, with what is said of them there
+  goes_over : {R : Path → List ℕ → List ℕ → List ℕ → Type 0} →
+      R (extended N P o.before o.after) o.before o.after o.points → OfPath N P R
+  goes_over h =
+      record {
+        before = o.before;
+        after = o.after;
+        points = o.points;
+        tried = tried_there;
+        follow = follow_there;
+        holds = h;
+      }
+
   -- the answer
   encoding_there : Encoding N P (answer_by_points M E o.points)
-  encoding_there = record {
-    before = o.before;
-    after = o.after;
-    points = o.points;
-    tried = tried_there;
-    follow = follow_there;
-    holds = answer_same M N m n P o.before o.after nonempty known same o.tried
-        (rounds o.before o.after o.tried) o.points;
-  }
+  encoding_there =
+      goes_over (answer_same M N m n P o.before o.after nonempty known same o.tried (rounds o.before o.after o.tried)
+      o.points)
 
   encoding_here : Encoding M P (answer_by_points M E o.points)
-  encoding_here = record {
-    before = o.before;
-    after = o.after;
-    points = o.points;
-    tried = o.tried;
-    follow = o.follow;
-    holds = refl;
-  }
+  encoding_here = path_also o refl
 
   by_fault : (A : Answer) → Encoding M P A → Encodes M P A
   by_fault A p = subst (λ (f : Option Refusal). MatchOption f (Encoding M P A) (λ r. A ≡ Refused r)) (sym sound) p
@@ -146,18 +150,12 @@ module _ (M N : Map) (m : IsMap M) (n : IsMap N) (C : List ChangedLine) (there :
       let each : AllZip (IsLook N E.lines) (looking E.lines (0 ∷ o.points)) looks =
       zip_moves (IsLook M E.lines) (IsLook N E.lines) (looking E.lines (0 ∷ o.points)) looks
       (λ i l on k. one_look i l (All-contains (IsClear N C) looks l clear on) k) o.holds in
-      record {
-        before = o.before;
-        after = o.after;
-        points = o.points;
-        tried = tried_there;
-        follow = follow_there;
-        holds = subst (λ (F : Path). AllZip (IsLook N F.lines) (looking F.lines (0 ∷ o.points)) looks) path_there each;
-      }
+      goes_over (subst (λ (F : Path). AllZip (IsLook N F.lines) (looking F.lines (0 ∷ o.points)) looks) path_there each)
 
 -- ---- whether or not the path has a fault
 
-module _ (M N : Map) (m : IsMap M) (n : IsMap N) (C : List ChangedLine) (there : Tells C M N) (here : Tells C N M) (P : Path) (is : IsTrue (is_path P.lines))
+module _ (M N : Map) (m : IsMap M) (n : IsMap N) (C : List ChangedLine) (there : Tells C M N) (here : Tells C N M)
+    (P : Path) (is : IsTrue (is_path P.lines))
     (same : Each (SameLine M N) P.lines) (looks : List Look) (clear : All (IsClear N C) looks) where
   by_case : (f : Option Refusal) → path_fault M P ≡ f
       → ((v : ℕ) → MatchOption f (OwnOfExtended M P v) (λ _. ⊥) → SameRound M N v)

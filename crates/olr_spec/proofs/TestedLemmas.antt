@@ -1,5 +1,7 @@
 -- A path has exactly one list of looks, and they give its footprint.
-use Rattle.std.proofs.Common.{inl, inr, ◌≡◌, ℕ, zero, suc, ◌+◌, ◌-◌, min, true, false, List, [], ◌∷◌, length, ◌<◌, ◌≤◌, Option, None, Some, IsTrue, Contains, refl, sym, ap, ◌∙◌, subst, arith, MatchOption, ◌↔◌, ◌⊎◌}
+use Rattle.std.proofs.Common.{inl, inr, ◌≡◌, ℕ, zero, suc, ◌+◌, ◌-◌, min, true, false, List, [], ◌∷◌, length, ◌<◌, ◌≤◌}
+use Rattle.std.proofs.Common.{Option, None, Some, IsTrue, Contains, refl, sym, ap, ◌∙◌, subst, arith, MatchOption, ◌↔◌}
+use Rattle.std.proofs.Common.{◌⊎◌}
 use Rattle.std.proofs.lemmas.Bool.{cases_lt, cases_eq, cases_order}
 use Rattle.std.specs.List.{slice_index, AllZip}
 use Rattle.olr_spec.specs.Map.{Map, IsMap, end, SameRound, has}
@@ -7,10 +9,12 @@ use Rattle.olr_spec.specs.Walks.{dm_of}
 use Rattle.olr_spec.specs.Extension.{Path, is_path, extended, limit}
 use Rattle.olr_spec.specs.Points.{stretch, Covered, Greatest}
 use Rattle.olr_spec.specs.Encoding.{Refusal, path_fault}
-use Rattle.olr_spec.specs.Footprint.{Reach, Searched, Touched, On_path, On_start_chain, On_end_chain, Within_reach, FootOf, Foot}
+use Rattle.olr_spec.specs.Footprint.{Reach, Searched, Touched, On_path, On_start_chain, On_end_chain, Within_reach}
+use Rattle.olr_spec.specs.Footprint.{FootOf, Foot}
 use Rattle.olr_spec.specs.Detours.{Near}
-use Rattle.olr_spec.specs.Looks.{Own, OwnOfExtended, OwnOf, Needed, IsLastTested, Look, look_to, IsLook, looking, LooksOfExtended, LooksOf}
-use Rattle.olr_spec.proofs.AnswerLemmas.{one_course}
+use Rattle.olr_spec.specs.Looks.{Own, OwnOfExtended, OwnOf, Needed, IsLastTested, Look, look_to, IsLook, looking}
+use Rattle.olr_spec.specs.Looks.{LooksOfExtended, LooksOf}
+use Rattle.olr_spec.proofs.AnswerLemmas.{one_course, path_also}
 use Rattle.olr_spec.proofs.DecideLemmas.{dec_and, dec_le, dec_Covered, greatest_or_none, some_follow, some_encoding}
 use Rattle.olr_spec.proofs.ListLemmas.{has_here, has_there}
 use Rattle.olr_spec.proofs.AgreeLemmas.{turned_round}
@@ -41,7 +45,8 @@ one_last_tested M ls i j k p q =
     ]
 
 -- from position i + 1 on, where f is the farthest that is near enough
-module _ (M : Map) (m : IsMap M) (ls : List ℕ) (i f : ℕ) (far : Greatest (λ j. (j ≤ length ls) × (dm_of M (stretch ls i j) ≤ limit)) f) where
+module _ (M : Map) (m : IsMap M) (ls : List ℕ) (i f : ℕ)
+    (far : Greatest (λ j. (j ≤ length ls) × (dm_of M (stretch ls i j) ≤ limit)) f) where
   abbrev most : ℕ
   most = min f (length ls - 1)
 
@@ -135,14 +140,7 @@ module _ (M : Map) (m : IsMap M) (P : Path) (is : IsTrue (is_path P.lines)) (sou
       let ls = (extended M P p.before p.after).lines in
       let z = some_zip M m ls (looking ls (0 ∷ p.points)) (λ i on. (looks_here ls (0 ∷ p.points) i on).1) in (
         z.0,
-        record {
-          before = p.before;
-          after = p.after;
-          points = p.points;
-          tried = p.tried;
-          follow = p.follow;
-          holds = z.1;
-        },
+        path_also p z.1,
       )
 
   -- the footprint
@@ -184,14 +182,7 @@ module _ (M : Map) (m : IsMap M) (P : Path) (is : IsTrue (is_path P.lines)) (sou
       let ls = (extended M P o.before o.after).lines in
       let i = look_from M ls (0 ∷ o.points) looks o.holds r.0 r.1 in
       let from : r.0.from ≡ end M (slice_index ls i.0) = ap (λ (k : Look). k.from) i.3.2 in
-      record {
-        before = o.before;
-        after = o.after;
-        points = o.points;
-        tried = o.tried;
-        follow = o.follow;
-        holds = Within_reach (i.0, i.1, i.2, subst (λ (u : ℕ). Reach M u v) from r.2);
-      }
+      path_also o (Within_reach (i.0, i.1, i.2, subst (λ (u : ℕ). Reach M u v) from r.2))
 
 -- ---- whether or not the path has a fault
 

@@ -1,9 +1,12 @@
 -- Places on a line, directions, and the 32 sectors of bearings (White Paper, bearing attribute).
 --     Leg      a line with the places of its two ends
 --     scaled_place g t      the place t dm along the line, times the width of its interval between shape points
---     bearing_out g, bearing_back g      the sector of the direction from the line's begin to the place 200 dm along it, or from its end to the place 200 dm back
---     IsSector east north k, sector east north      k is the sector between two boundary vectors;  that sector
-use Rattle.std.specs.Prelude.{ℕ, zero, suc, ◌-◌, ◌<◌, min, ℤ, pos, ◌+ℤ◌, ◌-ℤ◌, ◌*ℤ◌, neg_ℤ, int_le, int_lt, int_div, Bool, ◌&&◌, List, [], ◌∷◌, ◌++◌, map, find, nat_le, unwrap_or, slice_index_or, if◌then◌else◌, IsTrue}
+--     bearing_out g, bearing_back g the sector of the direction from the line's begin to the place 200 dm along it, or
+--     from its end to the place 200 dm back IsSector east north k, sector east north k is the sector between two
+--     boundary vectors; that sector
+use Rattle.std.specs.Prelude.{ℕ, zero, suc, ◌-◌, ◌<◌, min, ℤ, pos, ◌+ℤ◌, ◌-ℤ◌, ◌*ℤ◌, neg_ℤ, int_le, int_lt, int_div}
+use Rattle.std.specs.Prelude.{Bool, ◌&&◌, List, [], ◌∷◌, ◌++◌, map, find, nat_le, unwrap_or, slice_index_or}
+use Rattle.std.specs.Prelude.{if◌then◌else◌, IsTrue}
 use Rattle.olr_spec.specs.Coordinates.{Coord}
 use Rattle.olr_spec.specs.Map.{Line, ShapePoint}
 
@@ -23,11 +26,14 @@ pub record Vector : Type 0 where
 abbrev pub vector : ℤ → ℤ → Vector
 vector e n = record { east = e; north = n }
 
--- the boundaries 0 to 7, clockwise from north: multiples of 11.25 degrees (White Paper), as these whole numbers (profile)
+-- the boundaries 0 to 7, clockwise from north: multiples of 11.25 degrees (White Paper), as these whole numbers
+-- (profile)
 abbrev pub first_quarter : List Vector
 first_quarter =
-    vector (pos 0) (pos 1000000) ∷ vector (pos 198912) (pos 1000000) ∷ vector (pos 414214) (pos 1000000) ∷ vector (pos 668179) (pos 1000000)
-    ∷ vector (pos 1000000) (pos 1000000) ∷ vector (pos 1000000) (pos 668179) ∷ vector (pos 1000000) (pos 414214) ∷ vector (pos 1000000) (pos 198912) ∷ []
+    vector (pos 0) (pos 1000000) ∷ vector (pos 198912) (pos 1000000) ∷ vector (pos 414214) (pos 1000000) ∷ vector
+    (pos 668179) (pos 1000000)
+    ∷ vector (pos 1000000) (pos 1000000) ∷ vector (pos 1000000) (pos 668179) ∷ vector (pos 1000000) (pos 414214)
+    ∷ vector (pos 1000000) (pos 198912) ∷ []
 
 -- a quarter to the right
 abbrev pub turned : Vector → Vector
@@ -64,7 +70,8 @@ up_to (suc n) = up_to n ++ n ∷ []
 
 -- the one sector of a direction, and 0 for (0, 0), which lies in none (profile)
 abbrev pub sector : ℤ → ℤ → ℕ
-sector east north = unwrap_or (find (λ k. lies_between (boundary k) (boundary (suc k)) (vector east north)) (up_to 32)) 0
+sector east north =
+    unwrap_or (find (λ k. lies_between (boundary k) (boundary (suc k)) (vector east north)) (up_to 32)) 0
 
 -- ---- places
 
@@ -79,7 +86,12 @@ abbrev pub scaled_between : ShapePoint → ShapePoint → ℕ → Scaled
 scaled_between p q t =
     let w = q.at - p.at in
     let d = t - p.at in
-    record { lon = pos w *ℤ p.place.lon +ℤ pos d *ℤ (q.place.lon -ℤ p.place.lon); lat = pos w *ℤ p.place.lat +ℤ pos d *ℤ (q.place.lat -ℤ p.place.lat); width = w }
+    record {
+      lon = pos w *ℤ p.place.lon +ℤ pos d *ℤ (q.place.lon -ℤ p.place.lon);
+      lat =
+          pos w *ℤ p.place.lat +ℤ pos d *ℤ (q.place.lat -ℤ p.place.lat);
+      width = w;
+    }
 
 -- on the first interval that ends at t or beyond
 abbrev pub scaled_on : ShapePoint → List ShapePoint → ℕ → Scaled
@@ -88,7 +100,8 @@ scaled_on p (q ∷ qs) t = if nat_le t q.at then scaled_between p q t else scale
 
 -- the intervals go from the begin over the shape points to the end; between them a line is straight
 abbrev pub scaled_place : Leg → ℕ → Scaled
-scaled_place g t = scaled_on (record { at = 0; place = g.begin }) (g.line.shape ++ record { at = g.line.len; place = g.finish } ∷ []) t
+scaled_place g t =
+    scaled_on (record { at = 0; place = g.begin }) (g.line.shape ++ record { at = g.line.len; place = g.finish } ∷ []) t
 
 -- ---- bearings
 
@@ -96,8 +109,8 @@ scaled_place g t = scaled_on (record { at = 0; place = g.begin }) (g.line.shape 
 abbrev pub thousandths : ℤ → ℤ
 thousandths lat = int_div lat (pos 327680000)
 
--- from o to the place s. The east part is shortened by the cosine of the latitude of o, for which Bhaskara's rational stands,
--- 4 * (8100 - x^2) / (32400 + x^2) at x degrees (profile)
+-- from o to the place s. The east part is shortened by the cosine of the latitude of o, for which Bhaskara's rational
+-- stands, 4 * (8100 - x^2) / (32400 + x^2) at x degrees (profile)
 abbrev pub bearing : Coord → Scaled → ℕ
 bearing o s =
     let m = thousandths o.lat in

@@ -2,7 +2,9 @@
 --     IsReference r      the fields fit their bits
 --     spelling r, Spells r b      the bytes of a reference
 --     v3_fault b      the first fault of bytes that spell none
-use Rattle.std.specs.Prelude.{◌≡◌, ℕ, zero, suc, ◌+◌, ◌-◌, ◌*◌, ◌/◌, ◌%◌, ◌^◌, ◌<◌, ℤ, pos, negsuc, Bool, not, ◌||◌, List, [], ◌∷◌, ◌++◌, length, flat_map, nat_lt, nat_le, ◌==◌, slice_index, Option, Some, None, IfSome, if◌then◌else◌, IsTrue}
+use Rattle.std.specs.Prelude.{◌≡◌, ℕ, zero, suc, ◌+◌, ◌-◌, ◌*◌, ◌/◌, ◌%◌, ◌^◌, ◌<◌, ℤ, pos, negsuc, Bool, not, ◌||◌}
+use Rattle.std.specs.Prelude.{List, [], ◌∷◌, ◌++◌, length, flat_map, nat_lt, nat_le, ◌==◌, slice_index, Option, Some}
+use Rattle.std.specs.Prelude.{None, IfSome, if◌then◌else◌, IsTrue}
 use Rattle.std.specs.List.{list_any, AllByRecursion}
 use Rattle.std.specs.Int.{bytes_high_first}
 use Rattle.olr_spec.specs.Coordinates.{within, fits16}
@@ -95,7 +97,8 @@ offset_bytes (Some n) = n ∷ []
 
 abbrev pub last_bytes : Last → Option ℕ → Option ℕ → List ℕ
 last_bytes p positive negative =
-    signed16 p.dlon ++ signed16 p.dlat ++ attribute1 p.frc p.fow ∷ attribute4 positive negative p.bearing ∷ offset_bytes positive ++ offset_bytes negative
+    signed16 p.dlon ++ signed16 p.dlat ++ attribute1 p.frc p.fow ∷ attribute4 positive negative p.bearing ∷ offset_bytes
+    positive ++ offset_bytes negative
 
 -- the status byte: attributes present, version 3
 abbrev pub status_byte : ℕ
@@ -111,7 +114,8 @@ Spells r b = IsReference r × (b ≡ spelling r)
 
 -- ---- faults
 
--- a wrong number of bytes; another status byte; flags that ask for another number of offset bytes; a reserved bit that is set (profile)
+-- a wrong number of bytes; another status byte; flags that ask for another number of offset bytes; a reserved bit that
+-- is set (profile)
 pub data V3Fault : Type 0 where
   Length Status Flags Reserved : V3Fault
 
@@ -135,7 +139,8 @@ attribute1_bytes b i (suc n) = slice_index b i ∷ attribute1_bytes b (i + 7) n
 -- a bit that is always 0 is set
 abbrev pub has_reserved : List ℕ → Bool
 has_reserved b =
-    list_any (λ a. nat_le 64 a) (slice_index b 7 ∷ attribute1_bytes b 14 ((length b - 16) / 7 + 1)) || nat_le 128 (flags_of b)
+    list_any (λ a. nat_le 64 a) (slice_index b 7 ∷ attribute1_bytes b 14 ((length b - 16) / 7 + 1))
+    || nat_le 128 (flags_of b)
 
 -- told in this order (profile)
 abbrev pub v3_fault : List ℕ → Option V3Fault

@@ -1,4 +1,5 @@
--- How the mathematical records are stored as one value, which the compiler asks of each `impl Model` whose value they are.
+-- How the mathematical records are stored as one value, which the compiler asks of each `impl Model` whose value they
+-- are.
 --     coded_coord, coded_shape_point, coded_line, coded_map
 use Rattle.std.specs.Prelude.{ℕ, ℤ, List}
 use Rattle.std.specs.Coded.{Coded, code_by, coded_ℕ, coded_ℤ, coded_list, coded×}
@@ -9,10 +10,13 @@ use Rattle.olr_spec.specs.Coordinates.{Coord}
 use Rattle.olr_spec.specs.Map.{ShapePoint, Line, Map}
 
 abbrev pub coded_coord : Coded Coord
-coded_coord = code_by (ℤ × ℤ) (coded× coded_ℤ coded_ℤ) (λ c. (c.lon, c.lat)) (λ p. record { lon = p.0; lat = p.1 }) (λ _. refl)
+coded_coord =
+    code_by (ℤ × ℤ) (coded× coded_ℤ coded_ℤ) (λ c. (c.lon, c.lat)) (λ p. record { lon = p.0; lat = p.1 }) (λ _. refl)
 
 abbrev pub coded_shape_point : Coded ShapePoint
-coded_shape_point = code_by (ℕ × Coord) (coded× coded_ℕ coded_coord) (λ s. (s.at, s.place)) (λ p. record { at = p.0; place = p.1 }) (λ _. refl)
+coded_shape_point =
+    code_by (ℕ × Coord) (coded× coded_ℕ coded_coord) (λ s. (s.at, s.place)) (λ p. record { at = p.0; place = p.1 })
+    (λ _. refl)
 
 abbrev pub coded_line : Coded Line
 coded_line =

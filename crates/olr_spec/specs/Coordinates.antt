@@ -1,9 +1,11 @@
--- Coordinates, and how the binary format rounds them. They count one unit, 1/327,680,000,000 degree, so that each step is whole (profile):
--- 10^-7 degree is 32,768 units, 10^-5 degree 3,276,800, and a step of 360 degrees / 2^24 is 7,031,250.
---     Coord, coord      a longitude and a latitude.        is_longitude, is_latitude, is_coord      within the ranges of a map
---     abs24, from_abs24      a coordinate in 24-bit steps of 360 degrees / 2^24, and back
---     relative, rel16, from_rel16      a difference in steps of 10^-5 degree;  where it fits 16 bits;  and back
-use Rattle.std.specs.Prelude.{ℕ, suc, ◌+◌, ◌/◌, ◌*◌, ℤ, pos, negsuc, zero, ◌-ℤ◌, ◌*ℤ◌, neg_ℤ, nat_abs, int_le, Bool, ◌&&◌, Option, Some, None, if◌then◌else◌}
+-- Coordinates, and how the binary format rounds them. They count one unit, 1/327,680,000,000 degree, so that each step
+-- is whole (profile): 10^-7 degree is 32,768 units, 10^-5 degree 3,276,800, and a step of 360 degrees / 2^24 is
+-- 7,031,250.
+--     Coord, coord a longitude and a latitude. is_longitude, is_latitude, is_coord within the ranges of a map abs24,
+--     from_abs24 a coordinate in 24-bit steps of 360 degrees / 2^24, and back relative, rel16, from_rel16 a difference
+--     in steps of 10^-5 degree; where it fits 16 bits; and back
+use Rattle.std.specs.Prelude.{ℕ, suc, ◌+◌, ◌/◌, ◌*◌, ℤ, pos, negsuc, zero, ◌-ℤ◌, ◌*ℤ◌, neg_ℤ, nat_abs, int_le, Bool}
+use Rattle.std.specs.Prelude.{◌&&◌, Option, Some, None, if◌then◌else◌}
 
 pub record Coord : Type 0 where
   pub lon : ℤ
@@ -47,11 +49,13 @@ nearest half step z = sgn z *ℤ pos ((nat_abs z + half) / step)
 abbrev pub abs24 : ℤ → ℤ
 abs24 z = nearest 3515625 7031250 z
 
--- (n - sgn(n) / 2) * 360 / 2^24 degrees: the end nearer to 0 of what rounds to n (White Paper, binary format, absolute coordinates)
+-- (n - sgn(n) / 2) * 360 / 2^24 degrees: the end nearer to 0 of what rounds to n (White Paper, binary format, absolute
+-- coordinates)
 abbrev pub from_abs24 : ℤ → ℤ
 from_abs24 n = n *ℤ pos 7031250 -ℤ sgn n *ℤ pos 3515625
 
--- 100000 times the degrees from a to b, rounded (White Paper, binary format, relative coordinates; halves away from zero: profile)
+-- 100000 times the degrees from a to b, rounded (White Paper, binary format, relative coordinates; halves away from
+-- zero: profile)
 abbrev pub relative : ℤ → ℤ → ℤ
 relative a b = nearest 1638400 3276800 (b -ℤ a)
 

@@ -1,7 +1,8 @@
 -- Where the points of a reference lie, read back from its fields (White Paper, binary format).
 --     decoded r k      the longitude and the latitude of point k, counted from 0, in units;  None past the last point
 --     IsNear k p c      p is as near to the place c as the steps of the fields let point k be
-use Rattle.std.specs.Prelude.{ℕ, ◌+◌, ◌*◌, ◌<◌, ℤ, pos, ◌+ℤ◌, ◌-ℤ◌, nat_abs, List, [], ◌∷◌, ◌++◌, map, length, take, nat_le, Option, Some, None, if◌then◌else◌}
+use Rattle.std.specs.Prelude.{ℕ, ◌+◌, ◌*◌, ◌<◌, ℤ, pos, ◌+ℤ◌, ◌-ℤ◌, nat_abs, List, [], ◌∷◌, ◌++◌, map, length, take}
+use Rattle.std.specs.Prelude.{nat_le, Option, Some, None, if◌then◌else◌}
 use Rattle.olr_spec.specs.Coordinates.{Coord, from_abs24, from_rel16}
 use Rattle.olr_spec.specs.Reference.{Reference}
 
@@ -21,11 +22,14 @@ steps_sum (z ∷ zs) = from_rel16 z +ℤ steps_sum zs
 abbrev pub decoded : Reference → ℕ → Option (ℤ × ℤ)
 decoded r k =
     if nat_le k (length r.middle + 1)
-    then Some (from_abs24 r.first.lon +ℤ steps_sum (take k (lon_steps r)), from_abs24 r.first.lat +ℤ steps_sum (take k (lat_steps r)))
+    then Some (
+      from_abs24 r.first.lon +ℤ steps_sum (take k (lon_steps r)),
+      from_abs24 r.first.lat +ℤ steps_sum (take k (lat_steps r)),
+    )
     else None
 
--- point k lies less than this many units from the map's place, on each axis: one 24-bit step, and half a relative step for each point after
--- the first
+-- point k lies less than this many units from the map's place, on each axis: one 24-bit step, and half a relative step
+-- for each point after the first
 abbrev pub decoded_bound : ℕ → ℕ
 decoded_bound k = 7031250 + k * 1638400
 

@@ -1,7 +1,9 @@
 -- Degrees as text: an optional minus sign, 1 to 3 digits, and optionally a point with 1 to 7 digits (profile).
 --     degrees text      the units that the text says, where it has that form
 --     read_degrees text      the same, at most 180 degrees either way;  or what is wrong
-use Rattle.std.specs.Prelude.{ℕ, ◌+◌, ◌-◌, ◌*◌, ◌^◌, ℤ, pos, neg_ℤ, Bool, not, ◌&&◌, List, [], ◌∷◌, length, drop, fold, take_while, nat_le, ◌==◌, Option, Some, None, option_map, option_and_then, Result, Ok, Err, if◌then◌else◌}
+use Rattle.std.specs.Prelude.{ℕ, ◌+◌, ◌-◌, ◌*◌, ◌^◌, ℤ, pos, neg_ℤ, Bool, not, ◌&&◌, List, [], ◌∷◌, length, drop, fold}
+use Rattle.std.specs.Prelude.{take_while, nat_le, ◌==◌, Option, Some, None, option_map, option_and_then, Result, Ok}
+use Rattle.std.specs.Prelude.{Err, if◌then◌else◌}
 use Rattle.std.specs.List.{list_all}
 use Rattle.std.specs.Char.{is_ascii_digit}
 use Rattle.olr_spec.specs.Coordinates.{unit4, within}
@@ -24,7 +26,8 @@ whole ds = if are_digits ds && nat_le (length ds) 3 then Some (digits_value ds *
 -- what follows them: nothing, or a point with 1 to 7 digits
 abbrev pub fraction : List ℕ → Option ℕ
 fraction [] = Some 0
-fraction (c ∷ ds) = if (c == 46) && are_digits ds && nat_le (length ds) 7 then Some (digits_value ds * 10 ^ (7 - length ds)) else None
+fraction (c ∷ ds) =
+    if (c == 46) && are_digits ds && nat_le (length ds) 7 then Some (digits_value ds * 10 ^ (7 - length ds)) else None
 
 abbrev pub before_point : List ℕ → List ℕ
 before_point text = take_while (λ c. not (c == 46)) text
@@ -32,11 +35,13 @@ before_point text = take_while (λ c. not (c == 46)) text
 -- without a sign, in units
 abbrev pub unsigned : List ℕ → Option ℕ
 unsigned text =
-    option_and_then (λ n. option_map (λ m. (n + m) * unit7) (fraction (drop (length (before_point text)) text))) (whole (before_point text))
+    option_and_then (λ n. option_map (λ m. (n + m) * unit7) (fraction (drop (length (before_point text)) text)))
+    (whole (before_point text))
 
 abbrev pub degrees : List ℕ → Option ℤ
 degrees [] = None
-degrees (c ∷ text) = if c == 45 then option_map (λ n. neg_ℤ (pos n)) (unsigned text) else option_map pos (unsigned (c ∷ text))
+degrees (c ∷ text) =
+    if c == 45 then option_map (λ n. neg_ℤ (pos n)) (unsigned text) else option_map pos (unsigned (c ∷ text))
 
 pub data CoordFault : Type 0 where
   Text Range : CoordFault

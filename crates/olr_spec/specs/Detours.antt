@@ -1,11 +1,12 @@
 -- What changes of a map can concern (profile). M and N are the map before and after, or the other way round.
---     ChangedLine, changes_of M e      where a changed line begins and ends, and at most its length;  those of an edit of M
---     Tells C M N      the changed lines C tell every line of M that is another on N
---     Difference T X C M N      the maps differ round the nodes T and in the lines X alone, and C tells the changed lines
---     Detour M C s t d      a walk from s to a changed line, and one from a changed line to t, within d decimetres together
---     Near M T s d      a walk of at most d decimetres from s to one of the nodes T
+--     ChangedLine, changes_of M e where a changed line begins and ends, and at most its length; those of an edit of M
+--     Tells C M N the changed lines C tell every line of M that is another on N Difference T X C M N the maps differ
+--     round the nodes T and in the lines X alone, and C tells the changed lines Detour M C s t d a walk from s to a
+--     changed line, and one from a changed line to t, within d decimetres together Near M T s d a walk of at most d
+--     decimetres from s to one of the nodes T
 use Rattle.std.specs.Prelude.{◌≡◌, ℕ, ◌+◌, ◌≤◌, min, List, [], ◌∷◌, ◌⊎◌, Contains, IsTrue, IsFalse}
-use Rattle.olr_spec.specs.Map.{Map, Edit, Add_line, Set_line, Drop_line, has_line, start, end, dm, SameLine, SameRound, has}
+use Rattle.olr_spec.specs.Map.{Map, Edit, Add_line, Set_line, Drop_line, has_line, start, end, dm, SameLine, SameRound}
+use Rattle.olr_spec.specs.Map.{has}
 use Rattle.olr_spec.specs.Walks.{Walk, dm_of}
 
 pub record ChangedLine : Type 0 where
@@ -13,7 +14,8 @@ pub record ChangedLine : Type 0 where
   pub to : ℕ
   pub len : ℕ
 
--- of a line that is set the lesser of its lengths before and after; where nodes are moved, added or dropped, all walks stay
+-- of a line that is set the lesser of its lengths before and after; where nodes are moved, added or dropped, all walks
+-- stay
 abbrev pub changes_of : Map → Edit → List ChangedLine
 changes_of M (Add_line x l) = record { from = l.from; to = l.to; len = l.len } ∷ []
 changes_of M (Set_line x frc fow len shape) = record { from = start M x; to = end M x; len = min (dm M x) len } ∷ []

@@ -3,7 +3,8 @@
 --     path_fault M P      the first of the refusals that the path's own lines give
 --     Encodes M P A      A is the answer
 --     IsPoint M P k v      node v is point k of its reference
-use Rattle.std.specs.Prelude.{◌≡◌, ℕ, suc, ◌+◌, List, [], ◌∷◌, length, find, nat_le, ◌==◌, not, slice_get, Option, Some, None, option_map, MatchOption, if◌then◌else◌}
+use Rattle.std.specs.Prelude.{◌≡◌, ℕ, suc, ◌+◌, List, [], ◌∷◌, length, find, nat_le, ◌==◌, not, slice_get, Option, Some}
+use Rattle.std.specs.Prelude.{None, option_map, MatchOption, if◌then◌else◌}
 use Rattle.std.specs.Option.{option_or}
 use Rattle.olr_spec.specs.Map.{Map, has_line, start, end}
 use Rattle.olr_spec.specs.Walks.{dm_of}
@@ -11,8 +12,8 @@ use Rattle.olr_spec.specs.Extension.{Path}
 use Rattle.olr_spec.specs.Points.{node_at, last_position, OfPath}
 use Rattle.olr_spec.specs.Reference.{Reference, legs, kept, reference}
 
--- a line that isn't on the map; the place of a line that the next doesn't join; offsets as long as the path; a position that no point may
--- follow. In this order (profile)
+-- a line that isn't on the map; the place of a line that the next doesn't join; offsets as long as the path; a position
+-- that no point may follow. In this order (profile)
 pub data Refusal : Type 0 where
   Unknown_line : (line : ℕ) → Refusal
   Broken : (k : ℕ) → Refusal
@@ -57,4 +58,6 @@ Encodes M P A = MatchOption (path_fault M P) (Encoding M P A) (λ r. A ≡ Refus
 
 -- node v is point k of the path's reference, counted from 0
 abbrev pub IsPoint : Map → Path → ℕ → ℕ → Type 0
-IsPoint M P k v = OfPath M P (λ E _ _ js. option_map (node_at M E.lines) (slice_get (kept (legs M E.lines) E.pos E.neg js) k) ≡ Some v)
+IsPoint M P k v =
+    OfPath M P (λ E _ _ js. option_map (node_at M E.lines) (slice_get (kept (legs M E.lines) E.pos E.neg js) k)
+    ≡ Some v)

@@ -1,13 +1,15 @@
 -- A path, and how its ends are moved out to valid nodes.
 --     Path, is_path ls      lines, none twice, with the two offsets in decimetres;  from 1 to 10,000 lines, none twice
 --     passing M v      v has exactly two neighbours, and its lines only pass between them. Every other node is valid
+--     AreJoined M ls      the lines are in the map, and each ends where the next begins
 --     StartChain M c ls, EndChain M ls c      the lines c lead to the lines ls, or from them, through passing nodes
 --     LongestStart M c ls, LongestEnd M ls c      c is the longest such chain within the limit
 --     Tried M P b a      b and a are the longest chains at the start of the path and at its end
 --     extended M P b a      the path with those of them that lead to valid nodes, and the raised offsets
-use Rattle.std.specs.Prelude.{◌≡◌, ◌≢◌, ℕ, ◌+◌, ◌≤◌, Bool, true, false, not, ◌&&◌, ◌||◌, List, [], ◌∷◌, ◌++◌, map, length, nat_le, ◌==◌, if◌then◌else◌, ⊤, IsTrue, IsFalse}
+use Rattle.std.specs.Prelude.{◌≡◌, ◌≢◌, ℕ, ◌+◌, ◌≤◌, Bool, true, false, not, ◌&&◌, ◌||◌, List, [], ◌∷◌, ◌++◌, map}
+use Rattle.std.specs.Prelude.{length, nat_le, ◌==◌, if◌then◌else◌, ⊤, IsTrue, IsFalse}
 use Rattle.olr_spec.specs.Map.{Map, has_line, start, end, lines_in, lines_out, has}
-use Rattle.olr_spec.specs.Walks.{dm_of}
+use Rattle.olr_spec.specs.Walks.{Walk, dm_of}
 
 -- a line location: the positive offset from its start, the negative one from its end (White Paper, offsets)
 pub record Path : Type 0 where
@@ -29,7 +31,8 @@ is_path ls = nat_le 1 (length ls) && nat_le (length ls) 10000 && none_twice ls
 abbrev pub apart : ℕ → ℕ → ℕ → Bool
 apart v u w = not (u == v) && not (w == v) && not (u == w)
 
--- by the other ends of the lines that enter v, and of those that leave it: one from u and one to w, or exactly one from each and one to each
+-- by the other ends of the lines that enter v, and of those that leave it: one from u and one to w, or exactly one from
+-- each and one to each
 abbrev pub passes_between : ℕ → List ℕ → List ℕ → Bool
 passes_between v (u ∷ []) (w ∷ []) = apart v u w
 passes_between v (u ∷ w ∷ []) (p ∷ q ∷ []) = apart v u w && ((p == u && q == w) || (p == w && q == u))
@@ -51,8 +54,12 @@ last [] = 0
 last (x ∷ []) = x
 last (x ∷ y ∷ xs) = last (y ∷ xs)
 
--- line x may stand before the lines ls: it enters their first node, which is passing, it doesn't come from where the first of them ends,
--- and it isn't one of them
+-- the lines are in the map, and each ends where the next begins
+abbrev pub AreJoined : Map → List ℕ → Type 0
+AreJoined M ls = Walk M (start M (first ls)) (end M (last ls)) ls
+
+-- line x may stand before the lines ls: it enters their first node, which is passing, it doesn't come from where the
+-- first of them ends, and it isn't one of them
 pub record MayPrecede (M : Map) (x : ℕ) (ls : List ℕ) : Type 0 where
   pub known : IsTrue (has_line M x)
   pub joins : end M x ≡ start M (first ls)
@@ -78,7 +85,8 @@ abbrev pub EndChain : Map → List ℕ → List ℕ → Type 0
 EndChain M ls [] = ⊤
 EndChain M ls (x ∷ c) = MayFollow M ls x × EndChain M (ls ++ x ∷ []) c
 
--- 15,000 m in decimetres: the farthest that one point lies from the next (White Paper, data format rules), and that a chain may lead (profile)
+-- 15,000 m in decimetres: the farthest that one point lies from the next (White Paper, data format rules), and that a
+-- chain may lead (profile)
 abbrev pub limit : ℕ
 limit = 150000
 
@@ -94,7 +102,8 @@ pub record LongestEnd (M : Map) (ls c : List ℕ) : Type 0 where
   pub within : dm_of M c ≤ limit
   pub longest : (d : List ℕ) → EndChain M ls d → dm_of M d ≤ limit → dm_of M d ≤ dm_of M c
 
--- a tried chain is taken where it leads to a valid node, and else nothing is (White Paper, encoding steps; both limits: profile)
+-- a tried chain is taken where it leads to a valid node, and else nothing is (White Paper, encoding steps; both limits:
+-- profile)
 abbrev pub taken_start : Map → List ℕ → List ℕ → List ℕ
 taken_start M c ls = if passing M (start M (first (c ++ ls))) then [] else c
 

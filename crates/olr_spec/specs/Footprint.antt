@@ -16,7 +16,8 @@ NodeOf M ls v = (x : ℕ) × IsTrue (has ls x) × ((start M x ≡ v) ⊎ (end M 
 abbrev pub Reach : Map → ℕ → ℕ → Type 0
 Reach M s v = Reaches M s limit v
 
--- from the end of the line of one of the points is, where two lines or more follow it: for later points nothing is searched
+-- from the end of the line of one of the points is, where two lines or more follow it: for later points nothing is
+-- searched
 abbrev pub Searched : Map → List ℕ → List ℕ → ℕ → Type 0
 Searched M ls is v = (i : ℕ) × IsTrue (has is i) × (i + 2 < length ls) × Reach M (end M (slice_index ls i)) v
 

@@ -4,13 +4,14 @@ use Rattle.std.specs.Prelude.{◌≡◌, ◌≢◌, ℕ, ◌+◌, ◌<◌, ◌�
 use Rattle.olr_spec.specs.Map.{Map, has_line, start, end, dm}
 use Rattle.olr_spec.specs.Walks.{Walk, dm_of}
 
--- dist is the distance at the labelled nodes, and trace the walk to each by the last lines: one of that length within the limit.
--- Each line out of a labelled node that stays within the limit ends at a labelled node, which it makes neither nearer nor, at the same
--- distance, smaller in its last line
+-- dist is the distance at the labelled nodes, and trace the walk to each by the last lines: one of that length within
+-- the limit. Each line out of a labelled node that stays within the limit ends at a labelled node, which it makes
+-- neither nearer nor, at the same distance, smaller in its last line
 pub record Settled (M : Map) (s limit : ℕ) (dist : ℕ → Option ℕ) (trace : ℕ → List ℕ) : Type 0 where
   pub source : dist s ≡ Some 0
   pub at_source : trace s ≡ []
   pub walks : (v d : ℕ) → dist v ≡ Some d → Walk M s v (trace v) × (dm_of M (trace v) ≡ d) × (d ≤ limit)
   pub steps : (v d : ℕ) → dist v ≡ Some d → v ≢ s → (x : ℕ) × (trace v ≡ trace (start M x) ++ x ∷ [])
   pub closed : (u d x : ℕ) → dist u ≡ Some d → IsTrue (has_line M x) → start M x ≡ u → d + dm M x ≤ limit
-      → (e : ℕ) × (dist (end M x) ≡ Some e) × ((e < d + dm M x) ⊎ ((e ≡ d + dm M x) × ((y : ℕ) (ys : List ℕ) → trace (end M x) ≡ ys ++ y ∷ [] → y ≤ x)))
+      → (e : ℕ) × (dist (end M x) ≡ Some e)
+      × ((e < d + dm M x) ⊎ ((e ≡ d + dm M x) × ((y : ℕ) (ys : List ℕ) → trace (end M x) ≡ ys ++ y ∷ [] → y ≤ x)))

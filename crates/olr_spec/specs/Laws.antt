@@ -1,15 +1,17 @@
--- The laws: what follows from the definitions, in the order of their files. Each is proved for all maps, paths, references and bytes.
+-- The laws: what follows from the definitions, in the order of their files. Each is proved for all maps, paths,
+-- references and bytes.
 --     maps       lines in and out of a node rise and are exactly these; an accepted edit keeps a map sound
 --     walks      there is one least and one sole walk, and the front of one is one
---     answers    a path has exactly one answer; its reference fits its bits; the routes between its points join to the path
---     bytes      a direction has one sector, a reference one spelling, bytes one reference or one fault
---     locality   an answer rests on its footprint alone
---     changes    what edits change, and which walks they can concern
---     looks      a path looks at its own nodes and what lies near; where no change concerns that, its answer is kept
-use Rattle.std.specs.Prelude.{◌≡◌, ℕ, ◌+◌, ◌<◌, ◌≤◌, ℤ, pos, List, [], ◌++◌, length, Option, Some, None, is_some, All, Contains, Ok, ◌↔◌, ◌⊎◌, IsTrue, IsFalse}
+--     answers a path has exactly one answer; its reference fits its bits; the routes between its points join to the
+--     path bytes a direction has one sector, a reference one spelling, bytes one reference or one fault locality an
+--     answer rests on its footprint alone changes what edits change, and which walks they can concern looks a path
+--     looks at its own nodes and what lies near; where no change concerns that, its answer is kept
+use Rattle.std.specs.Prelude.{◌≡◌, ℕ, ◌+◌, ◌<◌, ◌≤◌, ℤ, pos, List, [], ◌++◌, length, Option, Some, None, is_some, All}
+use Rattle.std.specs.Prelude.{Contains, Ok, ◌↔◌, ◌⊎◌, IsTrue, IsFalse}
 use Rattle.std.specs.List.{AllByRecursion}
 use Rattle.std.specs.List.Sorted.{IsStrictlyIncreasing}
-use Rattle.olr_spec.specs.Map.{Map, empty_map, IsMap, Line, has_line, place_at, lines_in, lines_out, Edit, edited, touched_nodes, touched_lines, Enters, Leaves, Agree, SameLine, SameRound, has, HasPlace}
+use Rattle.olr_spec.specs.Map.{Map, empty_map, IsMap, Line, has_line, place_at, lines_in, lines_out, Edit, edited}
+use Rattle.olr_spec.specs.Map.{touched_nodes, touched_lines, Enters, Leaves, Agree, SameLine, SameRound, has, HasPlace}
 use Rattle.olr_spec.specs.Walks.{Walk, dm_of, Least, Sole}
 use Rattle.olr_spec.specs.Labels.{Settled}
 use Rattle.olr_spec.specs.Extension.{Path, is_path, first, last, LongestStart, LongestEnd, limit}
@@ -53,7 +55,9 @@ EmptyIsSound = IsMap empty_map
 
 -- of two different, equally long walks neither is a suffix of the other
 abbrev pub NoLongerSuffix : Type 0
-NoLongerSuffix = (M : Map) → IsMap M → (s t : ℕ) (front xs : List ℕ) → Walk M s t (front ++ xs) → dm_of M (front ++ xs) ≡ dm_of M xs → front ≡ []
+NoLongerSuffix =
+    (M : Map) → IsMap M → (s t : ℕ) (front xs : List ℕ) → Walk M s t (front ++ xs) →
+    dm_of M (front ++ xs) ≡ dm_of M xs → front ≡ []
 
 -- at most one walk is the least
 abbrev pub OneLeast : Type 0
@@ -61,7 +65,8 @@ OneLeast = (M : Map) → IsMap M → (s t : ℕ) (xs ys : List ℕ) → Least M 
 
 -- the front of the least walk is the least walk to its end
 abbrev pub PrefixOfLeast : Type 0
-PrefixOfLeast = (M : Map) (s v t : ℕ) (xs ys : List ℕ) → Least M s t (xs ++ ys) → Walk M s v xs → Walk M v t ys → Least M s v xs
+PrefixOfLeast =
+    (M : Map) (s v t : ℕ) (xs ys : List ℕ) → Least M s t (xs ++ ys) → Walk M s v xs → Walk M v t ys → Least M s v xs
 
 -- from a node to itself the least walk is the empty one
 abbrev pub EmptyIsLeast : Type 0
@@ -77,7 +82,8 @@ OneSole = (M : Map) (s t : ℕ) (xs ys : List ℕ) → Sole M s t xs → Sole M 
 
 -- the front of a sole walk is the sole walk to its end
 abbrev pub PrefixOfSole : Type 0
-PrefixOfSole = (M : Map) (s v t : ℕ) (xs ys : List ℕ) → Sole M s t (xs ++ ys) → Walk M s v xs → Walk M v t ys → Sole M s v xs
+PrefixOfSole =
+    (M : Map) (s v t : ℕ) (xs ys : List ℕ) → Sole M s t (xs ++ ys) → Walk M s v xs → Walk M v t ys → Sole M s v xs
 
 -- from a node to itself the empty walk is sole
 abbrev pub EmptyIsSole : Type 0
@@ -101,11 +107,15 @@ SettledReaches =
 
 -- at most one chain is the longest at the start of a list of lines
 abbrev pub OneStartChain : Type 0
-OneStartChain = (M : Map) → IsMap M → (ls c d : List ℕ) → IsTrue (has_line M (first ls)) → LongestStart M c ls → LongestStart M d ls → c ≡ d
+OneStartChain =
+    (M : Map) → IsMap M → (ls c d : List ℕ) → IsTrue (has_line M (first ls)) → LongestStart M c ls →
+    LongestStart M d ls → c ≡ d
 
 -- and one at its end
 abbrev pub OneEndChain : Type 0
-OneEndChain = (M : Map) → IsMap M → (ls c d : List ℕ) → IsTrue (has_line M (last ls)) → LongestEnd M ls c → LongestEnd M ls d → c ≡ d
+OneEndChain =
+    (M : Map) → IsMap M → (ls c d : List ℕ) → IsTrue (has_line M (last ls)) → LongestEnd M ls c → LongestEnd M ls d →
+    c ≡ d
 
 -- a point has at most one next point
 abbrev pub OneNext : Type 0
@@ -117,7 +127,8 @@ OnePoints = (M : Map) (ls : List ℕ) (i : ℕ) (js ks : List ℕ) → Follow M 
 
 -- a path has at most one answer
 abbrev pub OneAnswer : Type 0
-OneAnswer = (M : Map) → IsMap M → (P : Path) → IsTrue (is_path P.lines) → (A B : Answer) → Encodes M P A → Encodes M P B → A ≡ B
+OneAnswer =
+    (M : Map) → IsMap M → (P : Path) → IsTrue (is_path P.lines) → (A B : Answer) → Encodes M P A → Encodes M P B → A ≡ B
 
 -- and at least one
 abbrev pub SomeAnswer : Type 0
@@ -125,14 +136,17 @@ SomeAnswer = (M : Map) → IsMap M → (P : Path) → IsTrue (is_path P.lines) �
 
 -- the reference of an answer fits its bits, so that bytes spell it
 abbrev pub AnswerFits : Type 0
-AnswerFits = (M : Map) → IsMap M → (P : Path) → IsTrue (is_path P.lines) → (r : Reference) → Encodes M P (Points r) → IsReference r
+AnswerFits =
+    (M : Map) → IsMap M → (P : Path) → IsTrue (is_path P.lines) → (r : Reference) → Encodes M P (Points r) →
+    IsReference r
 
 -- ---- points
 
 -- where the offsets leave some of the path, at least two points are kept
 abbrev pub TwoKept : Type 0
 TwoKept =
-    (M : Map) (ls js : List ℕ) (positive negative : ℕ) → Follow M ls 0 js → last_position 0 js ≡ length ls → positive + negative < dm_of M ls
+    (M : Map) (ls js : List ℕ) (positive negative : ℕ) → Follow M ls 0 js → last_position 0 js ≡ length ls →
+    positive + negative < dm_of M ls
     → first_kept (legs M ls) positive js < last_kept (legs M ls) negative js
 
 -- and the routes between them join to the path
@@ -179,24 +193,30 @@ NoFault = (b : List ℕ) → All (λ byte. byte < 256) b → (v3_fault b ≡ Non
 
 -- a map that agrees on the footprint and on the path's own lines gives the same answer
 abbrev pub LocalAnswer : Type 0
-LocalAnswer = (M N : Map) → IsMap M → IsMap N → (P : Path) → IsTrue (is_path P.lines) → Agree M N P.lines (Foot M P) → (A : Answer) → Encodes M P A → Encodes N P A
+LocalAnswer =
+    (M N : Map) → IsMap M → IsMap N → (P : Path) → IsTrue (is_path P.lines) → Agree M N P.lines (Foot M P) →
+    (A : Answer) → Encodes M P A → Encodes N P A
 
 -- and the same footprint
 abbrev pub LocalFoot : Type 0
-LocalFoot = (M N : Map) → IsMap M → IsMap N → (P : Path) → IsTrue (is_path P.lines) → Agree M N P.lines (Foot M P) → (v : ℕ) → Foot M P v ↔ Foot N P v
+LocalFoot =
+    (M N : Map) → IsMap M → IsMap N → (P : Path) → IsTrue (is_path P.lines) → Agree M N P.lines (Foot M P) → (v : ℕ) →
+    Foot M P v ↔ Foot N P v
 
 -- an edit that touches no node of the footprint and no line of the path leaves an agreeing map
 abbrev pub EditsAreLocal : Type 0
 EditsAreLocal =
     (M N : Map) (e : Edit) (P : Path) → edited M e ≡ Ok N
-    → ((v : ℕ) → IsTrue (has (touched_nodes M e) v) → ¬ Foot M P v) → ((x : ℕ) → IsTrue (has (touched_lines e) x) → IsFalse (has P.lines x))
+    → ((v : ℕ) → IsTrue (has (touched_nodes M e) v) → ¬ Foot M P v) →
+    ((x : ℕ) → IsTrue (has (touched_lines e) x) → IsFalse (has P.lines x))
     → Agree M N P.lines (Foot M P)
 
 -- ---- changes
 
 -- an accepted edit makes no other difference than what it touches and changes
 abbrev pub EditsDiffer : Type 0
-EditsDiffer = (M N : Map) (e : Edit) → edited M e ≡ Ok N → Difference (touched_nodes M e) (touched_lines e) (changes_of M e) M N
+EditsDiffer =
+    (M N : Map) (e : Edit) → edited M e ≡ Ok N → Difference (touched_nodes M e) (touched_lines e) (changes_of M e) M N
 
 -- there is none between a map and itself
 abbrev pub NoDifference : Type 0
@@ -205,7 +225,8 @@ NoDifference = (M : Map) → Difference [] [] [] M M
 -- and of two changes, one after the other, each adds its own
 abbrev pub DifferencesAdd : Type 0
 DifferencesAdd =
-    (L M N : Map) (T U X Y : List ℕ) (C D : List ChangedLine) → Difference T X C L M → Difference U Y D M N → Difference (T ++ U) (X ++ Y) (C ++ D) L N
+    (L M N : Map) (T U X Y : List ℕ) (C D : List ChangedLine) → Difference T X C L M → Difference U Y D M N →
+    Difference (T ++ U) (X ++ Y) (C ++ D) L N
 
 -- where no detour is as short, walks are the same on both maps; the detour is asked on one of them alone
 abbrev pub WalksStay : Type 0
@@ -236,7 +257,9 @@ SomeLastTested = (M : Map) → IsMap M → (ls : List ℕ) (i : ℕ) → i + 1 <
 
 -- so a path has exactly one list of looks
 abbrev pub OneLooks : Type 0
-OneLooks = (M : Map) → IsMap M → (P : Path) → IsTrue (is_path P.lines) → (ks ls : List Look) → LooksOf M P ks → LooksOf M P ls → ks ≡ ls
+OneLooks =
+    (M : Map) → IsMap M → (P : Path) → IsTrue (is_path P.lines) → (ks ls : List Look) → LooksOf M P ks →
+    LooksOf M P ls → ks ≡ ls
 
 abbrev pub SomeLooks : Type 0
 SomeLooks = (M : Map) → IsMap M → (P : Path) → IsTrue (is_path P.lines) → (looks : List Look) × LooksOf M P looks
@@ -247,27 +270,32 @@ FootIsLooked =
     (M : Map) → IsMap M → (P : Path) → IsTrue (is_path P.lines) → (looks : List Look) → LooksOf M P looks
     → (v : ℕ) → Foot M P v ↔ (OwnOf M P v ⊎ ((l : Look) × Contains looks l × Reach M l.from v))
 
--- so a footprint holds a touched node exactly where an own node is touched, or one is near to where a look begins, on the changed map
+-- so a footprint holds a touched node exactly where an own node is touched, or one is near to where a look begins, on
+-- the changed map
 abbrev pub FootConcerned : Type 0
 FootConcerned =
     (M N : Map) → IsMap M → (T : List ℕ) → ((v : ℕ) → IsFalse (has T v) → SameRound M N v)
     → (P : Path) → IsTrue (is_path P.lines) → (looks : List Look) → LooksOf M P looks
-    → ((v : ℕ) × IsTrue (has T v) × Foot M P v) ↔ (((v : ℕ) × IsTrue (has T v) × OwnOf M P v) ⊎ ((l : Look) × Contains looks l × Near N T l.from limit))
+    → ((v : ℕ) × IsTrue (has T v) × Foot M P v) ↔
+    (((v : ℕ) × IsTrue (has T v) × OwnOf M P v) ⊎ ((l : Look) × Contains looks l × Near N T l.from limit))
 
--- where the look from line i is clear, it is the same on both maps, and the positions that are near enough are covered on both alike
+-- where the look from line i is clear, it is the same on both maps, and the positions that are near enough are covered
+-- on both alike
 abbrev pub LooksStay : Type 0
 LooksStay =
     (M N : Map) (C : List ChangedLine) → Tells C M N → Tells C N M
-    → (ls : List ℕ) → AllByRecursion (SameLine M N) ls → (s t : ℕ) → Walk M s t ls → (i k : ℕ) → IsLastTested M ls i k → IsClear N C (look_to M ls i k)
+    → (ls : List ℕ) → AllByRecursion (SameLine M N) ls → (s t : ℕ) → Walk M s t ls → (i k : ℕ) → IsLastTested M ls i k →
+    IsClear N C (look_to M ls i k)
     → IsLastTested N ls i k × (look_to M ls i k ≡ look_to N ls i k)
     × ((j : ℕ) → i < j → j ≤ length ls → dm_of M (stretch ls i j) ≤ limit → Covered M ls i j ↔ Covered N ls i j)
 
--- a path none of whose own nodes is touched, none of whose lines is another, and each of whose looks is clear, has the same answer, own nodes
--- and looks on both maps
+-- a path none of whose own nodes is touched, none of whose lines is another, and each of whose looks is clear, has the
+-- same answer, own nodes and looks on both maps
 abbrev pub AnswersKept : Type 0
 AnswersKept =
     (M N : Map) → IsMap M → IsMap N → (C : List ChangedLine) → Tells C M N → Tells C N M
-    → (P : Path) → IsTrue (is_path P.lines) → AllByRecursion (SameLine M N) P.lines → ((v : ℕ) → OwnOf M P v → SameRound M N v)
+    → (P : Path) → IsTrue (is_path P.lines) → AllByRecursion (SameLine M N) P.lines →
+    ((v : ℕ) → OwnOf M P v → SameRound M N v)
     → (looks : List Look) → LooksOf M P looks → All (IsClear N C) looks
     → ((A : Answer) → Encodes M P A → Encodes N P A) × ((v : ℕ) → OwnOf M P v ↔ OwnOf N P v) × LooksOf N P looks
 
@@ -275,6 +303,7 @@ AnswersKept =
 abbrev pub UntouchedKept : Type 0
 UntouchedKept =
     (M N : Map) → IsMap M → IsMap N → (T X : List ℕ) (C : List ChangedLine) → Difference T X C M N
-    → (P : Path) → IsTrue (is_path P.lines) → ((x : ℕ) → IsTrue (has X x) → IsFalse (has P.lines x)) → ((v : ℕ) → IsTrue (has T v) → ¬ OwnOf M P v)
+    → (P : Path) → IsTrue (is_path P.lines) → ((x : ℕ) → IsTrue (has X x) → IsFalse (has P.lines x)) →
+    ((v : ℕ) → IsTrue (has T v) → ¬ OwnOf M P v)
     → (looks : List Look) → LooksOf M P looks → All (IsClear N C) looks
     → ((A : Answer) → Encodes M P A → Encodes N P A) × ((v : ℕ) → OwnOf M P v ↔ OwnOf N P v) × LooksOf N P looks

@@ -1,11 +1,12 @@
 -- What an encoding of a path looks at (profile).
---     Own M ls b a v      v lies on the extended path ls, or on one of the tried chains b and a.        OwnOf M P v      v is one of the own nodes of the path
---     Needed M ls i m      a position that is near enough to follow i as a point asks whether position m is covered
---     IsLastTested M ls i k      k is the last position that is tested: one after another from i + 1 on, while covered and needed
---     Look, look_to M ls i k      a search for that: where it begins, the node of position k, and how far along the path this is
---     IsClear M C l      no detour over the changed lines C is as short
---     LooksFrom M ls is looks, LooksOf M P looks      one for each of the points is, in their order;  the looks of the path
-use Rattle.std.specs.Prelude.{◌≡◌, ℕ, ◌+◌, ◌-◌, ◌<◌, ◌≤◌, min, List, [], ◌∷◌, length, filter, nat_lt, slice_index, MatchOption, ◌⊎◌}
+--     Own M ls b a v v lies on the extended path ls, or on one of the tried chains b and a. OwnOf M P v v is one of the
+--     own nodes of the path Needed M ls i m a position that is near enough to follow i as a point asks whether position
+--     m is covered IsLastTested M ls i k k is the last position that is tested: one after another from i + 1 on, while
+--     covered and needed Look, look_to M ls i k a search for that: where it begins, the node of position k, and how far
+--     along the path this is IsClear M C l no detour over the changed lines C is as short LooksFrom M ls is looks,
+--     LooksOf M P looks one for each of the points is, in their order; the looks of the path
+use Rattle.std.specs.Prelude.{◌≡◌, ℕ, ◌+◌, ◌-◌, ◌<◌, ◌≤◌, min, List, [], ◌∷◌, length, filter, nat_lt, slice_index}
+use Rattle.std.specs.Prelude.{MatchOption, ◌⊎◌}
 use Rattle.std.specs.List.{AllZip}
 use Rattle.olr_spec.specs.Map.{Map, start, end}
 use Rattle.olr_spec.specs.Walks.{dm_of}
@@ -36,7 +37,8 @@ OwnOf M P v = MatchOption (path_fault M P) (OwnOfExtended M P v) (λ _. ⊥)
 abbrev pub Needed : Map → List ℕ → ℕ → ℕ → Type 0
 Needed M ls i m = (j : ℕ) × (j ≤ length ls) × (dm_of M (stretch ls i j) ≤ limit) × (m ≤ min j (length ls - 1))
 
--- position i + 1 is where the search begins. It is the last where no position behind it is needed, as when line i is longer than the limit
+-- position i + 1 is where the search begins. It is the last where no position behind it is needed, as when line i is
+-- longer than the limit
 pub record IsLastTested (M : Map) (ls : List ℕ) (i k : ℕ) : Type 0 where
   pub after : i < k
   pub inside : k < length ls
@@ -52,10 +54,11 @@ pub record Look : Type 0 where
   pub to : ℕ
   pub within : ℕ
 
--- from the end of line i to the start of line k, as far as along the lines between. Where position k isn't covered, within is still the length
--- along the path, and not that of a shorter walk
+-- from the end of line i to the start of line k, as far as along the lines between. Where position k isn't covered,
+-- within is still the length along the path, and not that of a shorter walk
 abbrev pub look_to : Map → List ℕ → ℕ → ℕ → Look
-look_to M ls i k = record { from = end M (slice_index ls i); to = start M (slice_index ls k); within = dm_of M (stretch ls (i + 1) k) }
+look_to M ls i k =
+    record { from = end M (slice_index ls i); to = start M (slice_index ls k); within = dm_of M (stretch ls (i + 1) k) }
 
 abbrev pub IsLook : Map → List ℕ → ℕ → Look → Type 0
 IsLook M ls i l = (k : ℕ) × IsLastTested M ls i k × (l ≡ look_to M ls i k)

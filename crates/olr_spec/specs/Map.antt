@@ -1,11 +1,13 @@
 -- The directed road map, its edits, and what two maps have in common round some nodes (White Paper, map model).
---     Line, ShapePoint, Map      a line from a node to a node, its class and form, its length and the distances `at` in decimetres; nodes and lines by number
---     is_good l      classes, length and shape in range.        IsMap M      every line good, both its ends there, and every place in range
---     line_at M x, start, end, dm      the record of line x, and its parts.        lines_in M v, lines_out M v      the lines that enter and leave v, rising
---     Edit, edited M e      the map after an edit, or the first fault.        touched_nodes M e, touched_lines e      what it touches
---     HasPlace e      each place that the edit brings is in range.        has xs x      whether x is one of xs
---     Agree M N P F      the maps have the same round the nodes of F, and the same lines of the list P
-use Rattle.std.specs.Prelude.{◌≡◌, ℕ, pos, Bool, true, not, cond, ◌&&◌, ◌||◌, List, [], ◌∷◌, length, map, filter, Some, is_some, unwrap_or, Result, Ok, Err, nat_lt, nat_le, ◌==◌, ◌↔◌, IsTrue, ⊤}
+--     Line, ShapePoint, Map a line from a node to a node, its class and form, its length and the distances `at` in
+--     decimetres; nodes and lines by number is_good l classes, length and shape in range. IsMap M every line good, both
+--     its ends there, and every place in range line_at M x, start, end, dm the record of line x, and its parts.
+--     lines_in M v, lines_out M v the lines that enter and leave v, rising Edit, edited M e the map after an edit, or
+--     the first fault. touched_nodes M e, touched_lines e what it touches HasPlace e each place that the edit brings is
+--     in range. has xs x whether x is one of xs Agree M N P F the maps have the same round the nodes of F, and the same
+--     lines of the list P
+use Rattle.std.specs.Prelude.{◌≡◌, ℕ, pos, Bool, true, not, cond, ◌&&◌, ◌||◌, List, [], ◌∷◌, length, map, filter, Some}
+use Rattle.std.specs.Prelude.{is_some, unwrap_or, Result, Ok, Err, nat_lt, nat_le, ◌==◌, ◌↔◌, IsTrue, ⊤}
 use Rattle.std.specs.List.{list_all, list_any, AllByRecursion}
 use Rattle.std.specs.Ordering.{nat_cmp}
 use Rattle.std.specs.FinMap.{FinMap, get, insert, remove, entries, empty}
@@ -43,9 +45,12 @@ abbrev pub rises_between : ℕ → List ShapePoint → ℕ → Bool
 rises_between low [] high = true
 rises_between low (s ∷ ss) high = nat_lt low s.at && nat_lt s.at high && rises_between s.at ss high
 
--- a line may begin where it ends, and others may join the same two nodes; at most 100 km and 1,000 shape points (profile)
+-- a line may begin where it ends, and others may join the same two nodes; at most 100 km and 1,000 shape points
+-- (profile)
 abbrev pub is_good : Line → Bool
-is_good l = nat_le l.frc 7 && nat_le l.fow 7 && nat_le 1 l.len && nat_le l.len 1000000 && nat_le (length l.shape) 1000 && rises_between 0 l.shape l.len
+is_good l =
+    nat_le l.frc 7 && nat_le l.fow 7 && nat_le 1 l.len && nat_le l.len 1000000 && nat_le (length l.shape) 1000
+    && rises_between 0 l.shape l.len
 
 -- each shape point has its place in range
 abbrev pub are_coords : List ShapePoint → Bool
@@ -129,17 +134,21 @@ in_use M v = list_any (λ e. e.1.to == v || e.1.from == v) (entries M.lines)
 abbrev pub unless : {A F : Type 0} → Bool → F → Result A F → Result A F
 unless {A} {F} b f r = cond b (Err f) r
 
--- the tests of each edit in order, and its update of one of the two finite maps; a line that is set keeps its ends (profile)
+-- the tests of each edit in order, and its update of one of the two finite maps; a line that is set keeps its ends
+-- (profile)
 abbrev pub edited : Map → Edit → Result Map MapFault
 edited M (Add_node v c) = unless (has_node M v) Node_exists (Ok (record M { nodes = insert M.nodes v c }))
 edited M (Move_node v c) = unless (not (has_node M v)) No_node (Ok (record M { nodes = insert M.nodes v c }))
-edited M (Drop_node v) = unless (not (has_node M v)) No_node (unless (in_use M v) Node_in_use (Ok (record M { nodes = remove M.nodes v })))
+edited M (Drop_node v) =
+    unless (not (has_node M v)) No_node (unless (in_use M v) Node_in_use (Ok (record M { nodes = remove M.nodes v })))
 edited M (Add_line x l) =
-    unless (has_line M x) Line_exists (unless (not (has_node M l.from && has_node M l.to)) No_node (unless (not (is_good l)) Bad_shape
+    unless (has_line M x) Line_exists
+    (unless (not (has_node M l.from && has_node M l.to)) No_node (unless (not (is_good l)) Bad_shape
     (Ok (record M { lines = insert M.lines x l }))))
 edited M (Set_line x frc fow len shape) =
     let l : Line = record { from = start M x; to = end M x; frc = frc; fow = fow; len = len; shape = shape } in
-    unless (not (has_line M x)) No_line (unless (not (is_good l)) Bad_shape (Ok (record M { lines = insert M.lines x l })))
+    unless (not (has_line M x)) No_line
+    (unless (not (is_good l)) Bad_shape (Ok (record M { lines = insert M.lines x l })))
 edited M (Drop_line x) = unless (not (has_line M x)) No_line (Ok (record M { lines = remove M.lines x }))
 
 -- the nodes that an edit touches: its own, or both ends of its line

@@ -1,11 +1,12 @@
--- The location reference points of an extended path, by position: position i below n is the start of line i, and position n the end of the
--- last line (White Paper, encoding steps, intermediate points).
+-- The location reference points of an extended path, by position: position i below n is the start of line i, and
+-- position n the end of the last line (White Paper, encoding steps, intermediate points).
 --     node_at M ls i, stretch ls i j      the node at position i;  the lines from position i to position j
 --     Covered M ls i j      the route from line i to the last line of the stretch is the path's own
 --     Candidate M ls i j, Next M ls i j      j may follow i as a point;  j follows i
 --     Follow M ls i js      js are the points after i, up to the one that has no next
 --     OfPath M P Q      Q of the extended path, its tried chains and its points
-use Rattle.std.specs.Prelude.{◌≡◌, ℕ, ◌+◌, ◌-◌, ◌<◌, ◌≤◌, min, Bool, ◌&&◌, List, [], ◌∷◌, length, nat_lt, slice_index, slice_range, if◌then◌else◌, IsTrue, IsFalse}
+use Rattle.std.specs.Prelude.{◌≡◌, ℕ, ◌+◌, ◌-◌, ◌<◌, ◌≤◌, min, Bool, ◌&&◌, List, [], ◌∷◌, length, nat_lt, slice_index}
+use Rattle.std.specs.Prelude.{slice_range, if◌then◌else◌, IsTrue, IsFalse}
 use Rattle.olr_spec.specs.Coordinates.{Coord, relative, fits16}
 use Rattle.olr_spec.specs.Map.{Map, start, end, place_at}
 use Rattle.olr_spec.specs.Walks.{dm_of, Route}
@@ -19,8 +20,9 @@ node_at M ls i = if nat_lt i (length ls) then start M (slice_index ls i) else en
 abbrev pub stretch {ℓ} : {A : Type ℓ} → List A → ℕ → ℕ → List A
 stretch ls i j = slice_range ls i j
 
--- from the end of line i to the start of line m, where m is j, or the last line where j is the end: the lines between are the route.
--- Nothing is asked from the last line to the end (White Paper, encoding steps, coverage by shortest paths)
+-- from the end of line i to the start of line m, where m is j, or the last line where j is the end: the lines between
+-- are the route. Nothing is asked from the last line to the end (White Paper, encoding steps, coverage by shortest
+-- paths)
 abbrev pub Covered : Map → List ℕ → ℕ → ℕ → Type 0
 Covered M ls i j =
     let m = min j (length ls - 1) in
@@ -51,7 +53,8 @@ pub record Greatest (P : ℕ → Type 0) (j : ℕ) : Type 0 where
 pub data Next (M : Map) (ls : List ℕ) (i j : ℕ) : Type 0 where
   To_end : j ≡ length ls → Candidate M ls i (length ls) → Next M ls i j
   To_valid : ¬ Candidate M ls i (length ls) → Greatest (ValidCandidate M ls i) j → Next M ls i j
-  To_passing : ¬ Candidate M ls i (length ls) → ((k : ℕ) → ¬ ValidCandidate M ls i k) → Greatest (Candidate M ls i) j → Next M ls i j
+  To_passing : ¬ Candidate M ls i (length ls) → ((k : ℕ) → ¬ ValidCandidate M ls i k) → Greatest (Candidate M ls i) j →
+      Next M ls i j
 
 -- nothing may follow i
 abbrev pub NoNext : Map → List ℕ → ℕ → Type 0
@@ -67,8 +70,8 @@ abbrev pub last_position : ℕ → List ℕ → ℕ
 last_position i [] = i
 last_position i (j ∷ js) = last_position j js
 
--- Q of the extended path, of both tried chains, and of the points after position 0. Of a path without a fault of its own there is exactly one of
--- each
+-- Q of the extended path, of both tried chains, and of the points after position 0. Of a path without a fault of its
+-- own there is exactly one of each
 pub record OfPath (M : Map) (P : Path) (Q : Path → List ℕ → List ℕ → List ℕ → Type 0) : Type 0 where
   pub before : List ℕ
   pub after : List ℕ

@@ -1,16 +1,18 @@
--- What is published of an extended path and its points (White Paper, location reference points and their attributes). It is a function of
--- the path's legs alone.
+-- What is published of an extended path and its points (White Paper, location reference points and their attributes).
+-- It is a function of the path's legs alone.
 --     Reference      the fields of a line location reference
 --     legs M ls      the path's lines with the places of their ends.        position gs i      the place of position i
---     kept gs positive negative js      of the points 0 and js, those that are left when the offsets have cut whole stretches off
---     reference gs positive negative js      the reference of the kept points
-use Rattle.std.specs.Prelude.{ℕ, ◌+◌, ◌-◌, ◌*◌, ◌/◌, max, ℤ, Bool, ◌&&◌, List, [], ◌∷◌, length, filter, take, drop, map, fold, nat_lt, nat_le, ◌==◌, slice_index_or, slice_range, Option, Some, None, if◌then◌else◌}
+--     kept gs positive negative js of the points 0 and js, those that are left when the offsets have cut whole
+--     stretches off reference gs positive negative js the reference of the kept points
+use Rattle.std.specs.Prelude.{ℕ, ◌+◌, ◌-◌, ◌*◌, ◌/◌, max, ℤ, Bool, ◌&&◌, List, [], ◌∷◌, length, filter, take, drop, map}
+use Rattle.std.specs.Prelude.{fold, nat_lt, nat_le, ◌==◌, slice_index_or, slice_range, Option, Some, None}
+use Rattle.std.specs.Prelude.{if◌then◌else◌}
 use Rattle.olr_spec.specs.Coordinates.{Coord, abs24, relative}
 use Rattle.olr_spec.specs.Map.{Map, line_at, place_at, no_line, no_place}
 use Rattle.olr_spec.specs.Bearings.{Leg, bearing_out, bearing_back}
 
--- of each point but the last: class and form of the line that leaves it, the lowest class on the way to the next point (the greatest number),
--- its bearing, and the distance to the next point in steps of 58.6 m
+-- of each point but the last: class and form of the line that leaves it, the lowest class on the way to the next point
+-- (the greatest number), its bearing, and the distance to the next point in steps of 58.6 m
 pub record Attrs : Type 0 where
   pub frc : ℕ
   pub fow : ℕ
@@ -102,7 +104,8 @@ last_kept gs negative js = first_where (λ i. nat_le (to_back gs i) negative) 0 
 
 -- from the one to the other (White Paper, encoding steps, trimming; in this form: profile)
 abbrev pub kept : List Leg → ℕ → ℕ → List ℕ → List ℕ
-kept gs positive negative js = filter (λ i. nat_le (first_kept gs positive js) i && nat_le i (last_kept gs negative js)) (0 ∷ js)
+kept gs positive negative js =
+    filter (λ i. nat_le (first_kept gs positive js) i && nat_le i (last_kept gs negative js)) (0 ∷ js)
 
 -- ---- fields
 
@@ -123,13 +126,26 @@ first_point gs i j = record { lon = abs24 (position gs i).lon; lat = abs24 (posi
 
 -- point i after point h and before point j
 abbrev pub middle_point : List Leg → ℕ → ℕ → ℕ → Middle
-middle_point gs h i j = record { dlon = relative (position gs h).lon (position gs i).lon; dlat = relative (position gs h).lat (position gs i).lat; attrs = attrs gs i j }
+middle_point gs h i j =
+    record {
+      dlon = relative (position gs h).lon (position gs i).lon;
+      dlat =
+          relative (position gs h).lat (position gs i).lat;
+      attrs = attrs gs i j;
+    }
 
 -- point i, the last, after point h
 abbrev pub last_point : List Leg → ℕ → ℕ → Last
 last_point gs h i =
     let g = leg_at gs (i - 1) in
-    record { dlon = relative (position gs h).lon (position gs i).lon; dlat = relative (position gs h).lat (position gs i).lat; frc = g.line.frc; fow = g.line.fow; bearing = bearing_back g }
+    record {
+      dlon = relative (position gs h).lon (position gs i).lon;
+      dlat =
+          relative (position gs h).lat (position gs i).lat;
+      frc = g.line.frc;
+      fow = g.line.fow;
+      bearing = bearing_back g;
+    }
 
 -- of the points h, i and js: those between the first and the last
 abbrev pub middle_points : List Leg → ℕ → ℕ → List ℕ → List Middle
@@ -141,11 +157,13 @@ abbrev pub last_two : ℕ → ℕ → List ℕ → ℕ × ℕ
 last_two h i [] = (h, i)
 last_two h i (j ∷ js) = last_two i j js
 
--- what is left of an offset, in 256ths of a stretch, rounded down; nothing left is no offset (White Paper, binary format; rounding: profile)
+-- what is left of an offset, in 256ths of a stretch, rounded down; nothing left is no offset (White Paper, binary
+-- format; rounding: profile)
 abbrev pub offset : ℕ → ℕ → Option ℕ
 offset left stretch = if left == 0 then None else Some (256 * left / stretch)
 
--- of the points h, i and js, with what is left of the offsets: the positive one lies in the first stretch, the negative one in the last
+-- of the points h, i and js, with what is left of the offsets: the positive one lies in the first stretch, the negative
+-- one in the last
 abbrev pub reference_by_kept : List Leg → ℕ → ℕ → ℕ → ℕ → List ℕ → Reference
 reference_by_kept gs pos_left neg_left h i js =
     let two = last_two h i js in
@@ -166,4 +184,5 @@ reference_by gs pos_left neg_left (h ∷ i ∷ js) = reference_by_kept gs pos_le
 -- what is left of an offset is the offset less what is cut off at its end
 abbrev pub reference : List Leg → ℕ → ℕ → List ℕ → Reference
 reference gs positive negative js =
-    reference_by gs (positive - from_front gs (first_kept gs positive js)) (negative - to_back gs (last_kept gs negative js)) (kept gs positive negative js)
+    reference_by gs (positive - from_front gs (first_kept gs positive js))
+    (negative - to_back gs (last_kept gs negative js)) (kept gs positive negative js)

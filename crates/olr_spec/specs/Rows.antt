@@ -1,7 +1,7 @@
 -- Worked values, by hand: the legs, references and bytes that the worked rows speak of.
---     legs1, reference1, bytes1      the first worked path, of three lines;  its reference with three points, and the bytes of it
---     .._bytes      the bytes of the same path with other points or offsets
---     straight, slanted lat      lines of the rows on bearings
+--     legs1, reference1, bytes1 the first worked path, of three lines; its reference with three points, and the bytes
+--     of it .._bytes the bytes of the same path with other points or offsets straight, slanted lat lines of the rows on
+--     bearings
 use Rattle.std.specs.Prelude.{ℕ, List, [], ◌∷◌, pos, neg_ℤ, Some, None}
 use Rattle.olr_spec.specs.Coordinates.{Coord, coord}
 use Rattle.olr_spec.specs.Bearings.{Leg}
@@ -22,7 +22,9 @@ leg10 =
         frc = 3;
         fow = 2;
         len = 5610;
-        shape = record { at = 200; place = place 2007698636800 16255673958400 } ∷ record { at = 5410; place = place 2008088576000 16254281318400 } ∷ [];
+        shape =
+            record { at = 200; place = place 2007698636800 16255673958400 }
+            ∷ record { at = 5410; place = place 2008088576000 16254281318400 } ∷ [];
       };
       begin = place 2007639654400 16255719833600;
       finish = place 2008147558400 16254235443200;
@@ -31,7 +33,16 @@ leg10 =
 abbrev leg20 : Leg
 leg20 =
     record {
-      line = record { from = 2; to = 3; frc = 3; fow = 3; len = 2000; shape = record { at = 200; place = place 2008088576000 16254202675200 } ∷ [] };
+      line =
+          record {
+            from = 2;
+            to = 3;
+            frc = 3;
+            fow = 3;
+            len = 2000;
+            shape =
+                record { at = 200; place = place 2008088576000 16254202675200 } ∷ [];
+          };
       begin = place 2008147558400 16254235443200;
       finish = place 2007990272000 16254074880000;
     }
@@ -39,7 +50,16 @@ leg20 =
 abbrev leg30 : Leg
 leg30 =
     record {
-      line = record { from = 3; to = 4; frc = 5; fow = 3; len = 740; shape = record { at = 540; place = place 2007996825600 16253947084800 } ∷ [] };
+      line =
+          record {
+            from = 3;
+            to = 4;
+            frc = 5;
+            fow = 3;
+            len = 740;
+            shape =
+                record { at = 540; place = place 2007996825600 16253947084800 } ∷ [];
+          };
       begin = place 2007990272000 16254074880000;
       finish = place 2008078745600 16253930700800;
     }
@@ -69,16 +89,19 @@ bytes1 =
 -- with two points: a road that was as short is gone
 abbrev pub side_road_dropped_bytes : List ℕ
 side_road_dropped_bytes =
-    0x0b ∷ 0x04 ∷ 0x5b ∷ 0x5b ∷ 0x23 ∷ 0x46 ∷ 0xf5 ∷ 0x1a ∷ 0xac ∷ 0x0e ∷ 0x00 ∷ 0x86 ∷ 0xfd ∷ 0xde ∷ 0x2b ∷ 0x59 ∷ 0x2d ∷ []
+    0x0b ∷ 0x04 ∷ 0x5b ∷ 0x5b ∷ 0x23 ∷ 0x46 ∷ 0xf5 ∷ 0x1a ∷ 0xac ∷ 0x0e ∷ 0x00 ∷ 0x86 ∷ 0xfd ∷ 0xde ∷ 0x2b ∷ 0x59 ∷ 0x2d
+    ∷ []
 
 -- with a positive offset past the first stretch
 abbrev pub first_dropped_bytes : List ℕ
 first_dropped_bytes =
-    0x0b ∷ 0x04 ∷ 0x5b ∷ 0xa3 ∷ 0x23 ∷ 0x46 ∷ 0x21 ∷ 0x1b ∷ 0xb4 ∷ 0x04 ∷ 0xff ∷ 0xeb ∷ 0xff ∷ 0xa3 ∷ 0x2b ∷ 0x59 ∷ 0x24 ∷ []
+    0x0b ∷ 0x04 ∷ 0x5b ∷ 0xa3 ∷ 0x23 ∷ 0x46 ∷ 0x21 ∷ 0x1b ∷ 0xb4 ∷ 0x04 ∷ 0xff ∷ 0xeb ∷ 0xff ∷ 0xa3 ∷ 0x2b ∷ 0x59 ∷ 0x24
+    ∷ []
 
 -- with a negative offset back to the second point, so that nothing of it is left: the bytes of line 10 alone
 abbrev pub last_dropped_bytes : List ℕ
-last_dropped_bytes = 0x0b ∷ 0x04 ∷ 0x5b ∷ 0x5b ∷ 0x23 ∷ 0x46 ∷ 0xf5 ∷ 0x1a ∷ 0x6c ∷ 0x09 ∷ 0x00 ∷ 0x9b ∷ 0xfe ∷ 0x3b ∷ 0x1a ∷ 0x1c ∷ []
+last_dropped_bytes =
+    0x0b ∷ 0x04 ∷ 0x5b ∷ 0x5b ∷ 0x23 ∷ 0x46 ∷ 0xf5 ∷ 0x1a ∷ 0x6c ∷ 0x09 ∷ 0x00 ∷ 0x9b ∷ 0xfe ∷ 0x3b ∷ 0x1a ∷ 0x1c ∷ []
 
 -- with both offsets
 abbrev pub both_offsets_bytes : List ℕ
@@ -88,24 +111,40 @@ both_offsets_bytes =
 
 -- line 10 alone with a positive offset, whose byte is the last
 abbrev pub offset_bytes_of : ℕ → List ℕ
-offset_bytes_of byte = 0x0b ∷ 0x04 ∷ 0x5b ∷ 0x5b ∷ 0x23 ∷ 0x46 ∷ 0xf5 ∷ 0x1a ∷ 0x6c ∷ 0x09 ∷ 0x00 ∷ 0x9b ∷ 0xfe ∷ 0x3b ∷ 0x1a ∷ 0x5c ∷ byte ∷ []
+offset_bytes_of byte =
+    0x0b ∷ 0x04 ∷ 0x5b ∷ 0x5b ∷ 0x23 ∷ 0x46 ∷ 0xf5 ∷ 0x1a ∷ 0x6c ∷ 0x09 ∷ 0x00 ∷ 0x9b ∷ 0xfe ∷ 0x3b ∷ 0x1a ∷ 0x5c ∷ byte
+    ∷ []
 
 -- ---- bytes that spell nothing
 
 -- version 2 in the first byte
 abbrev pub version2_bytes : List ℕ
-version2_bytes = 0x0a ∷ 0x04 ∷ 0x5b ∷ 0x5b ∷ 0x23 ∷ 0x46 ∷ 0xf5 ∷ 0x1a ∷ 0x6c ∷ 0x09 ∷ 0x00 ∷ 0x9b ∷ 0xfe ∷ 0x3b ∷ 0x1a ∷ 0x1c ∷ []
+version2_bytes =
+    0x0a ∷ 0x04 ∷ 0x5b ∷ 0x5b ∷ 0x23 ∷ 0x46 ∷ 0xf5 ∷ 0x1a ∷ 0x6c ∷ 0x09 ∷ 0x00 ∷ 0x9b ∷ 0xfe ∷ 0x3b ∷ 0x1a ∷ 0x1c ∷ []
 
 -- bit 7 of an attribute byte set
 abbrev pub reserved_bytes : List ℕ
-reserved_bytes = 0x0b ∷ 0x04 ∷ 0x5b ∷ 0x5b ∷ 0x23 ∷ 0x46 ∷ 0xf5 ∷ 0x9a ∷ 0x6c ∷ 0x09 ∷ 0x00 ∷ 0x9b ∷ 0xfe ∷ 0x3b ∷ 0x1a ∷ 0x1c ∷ []
+reserved_bytes =
+    0x0b ∷ 0x04 ∷ 0x5b ∷ 0x5b ∷ 0x23 ∷ 0x46 ∷ 0xf5 ∷ 0x9a ∷ 0x6c ∷ 0x09 ∷ 0x00 ∷ 0x9b ∷ 0xfe ∷ 0x3b ∷ 0x1a ∷ 0x1c ∷ []
 
 -- ---- lines for bearings
 
 -- from (0, 0) to (0.001, 0) degrees
 abbrev pub straight : Leg
-straight = record { line = record { from = 1; to = 2; frc = 4; fow = 3; len = 1000; shape = [] }; begin = place 0 0; finish = place 327680000 0 }
+straight =
+    record {
+      line = record { from = 1; to = 2; frc = 4; fow = 3; len = 1000; shape = [] };
+      begin = place 0 0;
+      finish =
+          place 327680000 0;
+    }
 
 -- from (0, 60) to (0.001, lat), lat in units
 abbrev pub slanted : ℕ → Leg
-slanted lat = record { line = record { from = 1; to = 2; frc = 4; fow = 3; len = 700; shape = [] }; begin = place 0 19660800000000; finish = place 327680000 lat }
+slanted lat =
+    record {
+      line = record { from = 1; to = 2; frc = 4; fow = 3; len = 700; shape = [] };
+      begin =
+          place 0 19660800000000;
+      finish = place 327680000 lat;
+    }

@@ -11,7 +11,8 @@
 //! worked rows, which the definitions compute.
 #![tactic(auto)]
 
-ghost use Rattle.std.specs.Prelude.{◌≡◌, ℕ, true, false, pos, negsuc, neg_ℤ, [], ◌∷◌, ◌++◌, map, replicate, take, codes, Some, None, Ok, Err};
+ghost use Rattle.std.specs.Prelude.{◌≡◌, ℕ, true, false, pos, negsuc, neg_ℤ, [], ◌∷◌, ◌++◌, map, replicate, take};
+ghost use Rattle.std.specs.Prelude.{codes, Some, None, Ok, Err};
 ghost use Rattle.olr_spec.specs.Coordinates.{coord, abs24, from_abs24, rel16};
 ghost use Rattle.olr_spec.specs.Degrees;
 ghost use Rattle.olr_spec.specs.Degrees.{read_degrees};
@@ -24,7 +25,9 @@ ghost use Rattle.olr_spec.specs.Decoded.{decoded};
 ghost use Rattle.olr_spec.specs.Detours.{changes_of};
 ghost use Rattle.olr_spec.specs.Looks.{looking};
 ghost use Rattle.olr_spec.specs.Laws;
-ghost use Rattle.olr_spec.specs.Rows.{legs1, leg10, reference1, bytes1, side_road_dropped_bytes, first_dropped_bytes, last_dropped_bytes, both_offsets_bytes, offset_bytes_of, version2_bytes, reserved_bytes, straight, slanted};
+ghost use Rattle.olr_spec.specs.Rows.{legs1, leg10, reference1, bytes1, side_road_dropped_bytes, first_dropped_bytes};
+ghost use Rattle.olr_spec.specs.Rows.{last_dropped_bytes, both_offsets_bytes, offset_bytes_of, version2_bytes};
+ghost use Rattle.olr_spec.specs.Rows.{reserved_bytes, straight, slanted};
 
 /// The lines that enter and leave a node rise by number and are exactly these; an accepted edit
 /// keeps a map sound, and one edit takes it back.

@@ -13,10 +13,14 @@ pub returns-clause-more : goal.returns-clause-more
 returns-clause-more c = differences_add
 
 pub returns-clause-walks : goal.returns-clause-walks
-returns-clause-walks c = λ M N C s t d there here clear xs. (walks_there M N C s t d there clear xs, walks_here M N C s t d here clear xs)
+returns-clause-walks c =
+    λ M N C s t d there here clear xs. (walks_there M N C s t d there clear xs, walks_here M N C s t d here clear xs)
 
 pub returns-clause-soles : goal.returns-clause-soles
-returns-clause-soles c = λ M N C s t d there here clear xs e h. (sole_there M N C s t d there here clear xs e h, sole_here M N C s t d there here clear xs e h)
+returns-clause-soles c =
+    λ M N C s t d there here clear xs e h.
+    (sole_there M N C s t d there here clear xs e h, sole_here M N C s t d there here clear xs e h)
 
 pub returns-clause-near : goal.returns-clause-near
-returns-clause-near c = λ M N T round s d. (near_there M N T round s d, near_there N M T (λ v e. turned_round M N v (round v e)) s d)
+returns-clause-near c =
+    λ M N T round s d. (near_there M N T round s d, near_there N M T (λ v e. turned_round M N v (round v e)) s d)

@@ -2,7 +2,8 @@ use Rattle.olr_spec.specs.Map.{SameLine}
 use Rattle.olr_spec.proofs.ListLemmas.{Each-from}
 use Rattle.olr_spec.proofs.LookLemmas.{look_stays, to_same, covered_stays}
 use Rattle.olr_spec.proofs.StayLemmas.{kept, untouched_kept}
-use Rattle.olr_spec.proofs.TestedLemmas.{one_last_tested, some_last_tested, one_looks, some_looks, foot_looked, foot_concerned}
+use Rattle.olr_spec.proofs.TestedLemmas.{one_last_tested, some_last_tested, one_looks, some_looks, foot_looked}
+use Rattle.olr_spec.proofs.TestedLemmas.{foot_concerned}
 use Rattle.olr_spec.proofs.laws_of_looks.Goals as goal
 
 pub returns-clause-one_last_tested : goal.returns-clause-one_last_tested
@@ -32,7 +33,9 @@ returns-clause-looks c = λ M N C there here ls same s t joined i k look clear.
     )
 
 pub returns-clause-kept : goal.returns-clause-kept
-returns-clause-kept c = λ M N m n C there here P is same own looks o clear. kept M N m n C there here P is (Each-from (SameLine M N) P.lines same) looks clear own o
+returns-clause-kept c =
+    λ M N m n C there here P is same own looks o clear.
+    kept M N m n C there here P is (Each-from (SameLine M N) P.lines same) looks clear own o
 
 pub returns-clause-untouched : goal.returns-clause-untouched
 returns-clause-untouched c = untouched_kept

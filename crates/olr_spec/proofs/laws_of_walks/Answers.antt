@@ -1,4 +1,5 @@
-use Rattle.olr_spec.proofs.WalkLemmas.{longer, one_least, prefix_of_least, empty_least, empty_sole, sole_least, prefix_of_sole}
+use Rattle.olr_spec.proofs.WalkLemmas.{longer, one_least, prefix_of_least, empty_least, empty_sole, sole_least}
+use Rattle.olr_spec.proofs.WalkLemmas.{prefix_of_sole}
 use Rattle.olr_spec.proofs.DecideLemmas.{one_sole}
 use Rattle.olr_spec.proofs.laws_of_walks.Goals as goal
 

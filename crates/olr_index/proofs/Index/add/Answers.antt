@@ -4,4 +4,6 @@ use Rattle.olr_index.specs.Listed.{items_of}
 use Rattle.olr_index.proofs.Index.add.Goals as goal
 
 pub put-requires : goal.put-requires
-put-requires c = subst (λ (xs : List ℕ). IsStrictlyIncreasing xs) (sym (ap items_of c.in-Some.ensures.value)) (c.args.self.now.rise c.args.number)
+put-requires c =
+    subst (λ (xs : List ℕ). IsStrictlyIncreasing xs) (sym (ap items_of c.in-Some.ensures.value))
+    (c.args.self.now.rise c.args.number)

@@ -5,4 +5,5 @@ use Rattle.olr_index.proofs.Index.of.Goals as goal
 
 pub returns-in-Some-clause-rising : goal.returns-in-Some-clause-rising
 returns-in-Some-clause-rising c =
-    subst (λ (xs : List ℕ). IsStrictlyIncreasing xs) (sym (c.as_slice.ensures.value ∙ ap items_of c.in-Some.ensures.value)) (c.args.self.now.rise c.args.number)
+    subst (λ (xs : List ℕ). IsStrictlyIncreasing xs)
+    (sym (c.as_slice.ensures.value ∙ ap items_of c.in-Some.ensures.value)) (c.args.self.now.rise c.args.number)

@@ -1,0 +1,20 @@
+-- What an option has or lacks, and that a result is one.
+use Rattle.std.proofs.Common.{◌≡◌, false, Option, Some, None, is_some, IsSome, Result, Ok, IsOk, refl, sym, ap, subst}
+
+pub some_of : {A : Type 0} (o : Option A) → IsSome o → (x : A) × (o ≡ Some x)
+some_of None h = absurd cc
+some_of (Some x) h = (x, refl)
+
+pub is_some_of : {A : Type 0} (o : Option A) (x : A) → o ≡ Some x → IsSome o
+is_some_of o x e = ap (λ p. is_some p) e
+
+pub none_of : {A : Type 0} (o : Option A) → is_some o ≡ false → o ≡ None
+none_of None h = refl
+none_of (Some x) h = absurd cc
+
+-- a value that is there is not missing
+pub there_not : {A : Type 0} (o : Option A) → IsSome o → o ≡ None → ⊥
+there_not o h e = let f : is_some o ≡ false = ap (λ p. is_some p) e in cc
+
+pub is_ok_of : {A F : Type 0} (r : Result A F) (x : A) → r ≡ Ok x → IsOk r
+is_ok_of {A} {F} r x e = subst (λ (s : Result A F). IsOk s) (sym e) refl
