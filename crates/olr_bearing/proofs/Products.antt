@@ -3,18 +3,13 @@ use Rattle.std.proofs.Common.{◌≡◌, ℕ, zero, suc, ◌+◌, ◌*◌, ◌�
 use Rattle.std.proofs.Math.IntN.{pos-*ℤ-pos, pos-*ℤ-negsuc, negsuc-*ℤ-negsuc, suc_ℤ-*ℤ, zero-*ℤ}
 use Rattle.std.proofs.lemmas.Nat.{mul-le}
 use Rattle.std.proofs.lemmas.Int.{ints}
+use Rattle.olr_spec.proofs.SectorLemmas.{neg_left}
 use Rattle.olr_bearing.specs.Ranges.{IsWithin}
 
 -- ---- equations
 
 pub same_product : (a b x y : ℤ) → a ≡ b → x ≡ y → a *ℤ x ≡ b *ℤ y
 same_product a b x y p q = cc
-
-pub times_minus : (a b : ℤ) → a *ℤ neg_ℤ b ≡ neg_ℤ (a *ℤ b)
-times_minus a b = grind (arith, ints)
-
-pub minus_times : (a b : ℤ) → neg_ℤ a *ℤ b ≡ neg_ℤ (a *ℤ b)
-minus_times a b = grind (arith, ints)
 
 one_more : (n : ℕ) (z : ℤ) → pos (suc n) *ℤ z ≡ pos n *ℤ z +ℤ z
 one_more n z = suc_ℤ-*ℤ (pos n) z
@@ -47,7 +42,7 @@ pub product_within : (m b : ℕ) (x z : ℤ) → IsWithin m x → IsWithin b z �
 product_within m b (pos n) z h g = natural_product_within n m b z (omega (arith, ints, h.1)) g
 product_within m b (negsuc n) z h g =
     let p : IsWithin (m * b) (pos (suc n) *ℤ z) = natural_product_within (suc n) m b z (omega (arith, ints, h.0)) g in
-    let is : negsuc n *ℤ z ≡ neg_ℤ (pos (suc n) *ℤ z) = minus_times (pos (suc n)) z in
+    let is : negsuc n *ℤ z ≡ neg_ℤ (pos (suc n) *ℤ z) = neg_left (pos (suc n)) z in
     (omega (arith, ints, is, p.1), omega (arith, ints, is, p.0))
 
 square_from_zero : (z : ℤ) → pos 0 ≤ℤ (z *ℤ z)

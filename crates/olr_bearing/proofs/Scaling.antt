@@ -1,12 +1,12 @@
 -- Coordinates and latitudes: how large they are, and places between two coordinates.
-use Rattle.std.proofs.Common.{◌≡◌, ℕ, ◌+◌, ◌-◌, ◌*◌, ◌≤◌, ℤ, pos, negsuc, ◌+ℤ◌, ◌-ℤ◌, ◌*ℤ◌, neg_ℤ, ◌≤ℤ◌, IsTrue, to_z, of_z, ap, arith}
+use Rattle.std.proofs.Common.{◌≡◌, ℕ, ◌+◌, ◌-◌, ◌*◌, ◌≤◌, ℤ, pos, negsuc, ◌+ℤ◌, ◌-ℤ◌, ◌*ℤ◌, neg_ℤ, IsTrue, to_z, of_z}
+use Rattle.std.proofs.Common.{ap, arith}
 use Rattle.std.specs.Int.{Width}
-use Rattle.std.specs.Int.RustNames.{int_le}
 use Rattle.std.proofs.lemmas.Int.{ints}
 use Rattle.std.proofs.lemmas.Bool.{and_parts}
-use Rattle.olr_spec.specs.Coordinates.{Coord, within, is_coord, is_longitude, is_latitude}
+use Rattle.olr_spec.specs.Coordinates.{Coord, is_coord, is_longitude, is_latitude}
 use Rattle.olr_spec.specs.Bearings.{thousandths}
-use Rattle.olr_spec.proofs.SectorLemmas.{le_yes}
+use Rattle.olr_spec.proofs.BytesLemmas.{bounds}
 use Rattle.olr_bearing.specs.Ranges.{IsWithin, degrees}
 use Rattle.olr_bearing.proofs.Products.{natural_product_within, times_sum, sum_times}
 
@@ -16,16 +16,11 @@ held w z = to_z w (of_z w z)
 
 -- ---- coordinates
 
-between_ends : (low high z : ℤ) → IsTrue (within low high z) → (low ≤ℤ z) × (z ≤ℤ high)
-between_ends low high z h =
-    let both = and_parts (int_le low z) (int_le z high) h in
-    (le_yes low z both.0, le_yes z high both.1)
-
 pub coord_within : (c : Coord) → IsTrue (is_coord c) → IsWithin (degrees 180) c.lon × IsWithin (degrees 90) c.lat
 coord_within c h =
     let both = and_parts (is_longitude c.lon) (is_latitude c.lat) h in
-    let lon = between_ends (neg_ℤ (pos 58982400000000)) (pos 58982367232000) c.lon both.0 in
-    let lat = between_ends (neg_ℤ (pos 29491167232000)) (pos 29491167232000) c.lat both.1 in
+    let lon = bounds (neg_ℤ (pos 58982400000000)) (pos 58982367232000) c.lon both.0 in
+    let lat = bounds (neg_ℤ (pos 29491167232000)) (pos 29491167232000) c.lat both.1 in
     ((omega (arith, ints, lon.0), omega (arith, ints, lon.1)), (omega (arith, ints, lat.0), omega (arith, ints, lat.1)))
 
 pub thousandths_within : (z : ℤ) → IsWithin (degrees 90) z → IsWithin 90000 (thousandths z)
@@ -44,9 +39,11 @@ shares w d f t h =
     omega (arith, ints, whole, there, sum_times (w - d) d f, times_sum d (t -ℤ f) f)
 
 -- so it stays within w times a bound of both
-pub along_within : (w d b : ℕ) (f t : ℤ) → d ≤ w → IsWithin b f → IsWithin b t → IsWithin (w * b) (pos w *ℤ f +ℤ pos d *ℤ (t -ℤ f))
+pub along_within : (w d b : ℕ) (f t : ℤ) → d ≤ w → IsWithin b f → IsWithin b t →
+    IsWithin (w * b) (pos w *ℤ f +ℤ pos d *ℤ (t -ℤ f))
 along_within w d b f t h p q =
-    let first : IsWithin ((w - d) * b) (pos (w - d) *ℤ f) = natural_product_within (w - d) (w - d) b f (omega arith) p in
+    let first : IsWithin ((w - d) * b) (pos (w - d) *ℤ f) =
+    natural_product_within (w - d) (w - d) b f (omega arith) p in
     let second : IsWithin (d * b) (pos d *ℤ t) = natural_product_within d d b t (omega arith) q in
     let is = shares w d f t h in
     let is_all : (w - d) + d ≡ w = omega arith in

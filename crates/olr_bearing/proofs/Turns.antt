@@ -1,11 +1,12 @@
 -- A quarter turn of a direction turns its sector, so that the sectors of one quarter give those of the others.
-use Rattle.std.proofs.Common.{◌≡◌, ℕ, suc, ◌+◌, ◌<◌, ℤ, pos, ◌-ℤ◌, ◌*ℤ◌, neg_ℤ, ◌<ℤ◌, ◌&&◌, map, take, drop, get_or, IsTrue, refl, sym, ap, ◌∙◌, subst, arith}
+use Rattle.std.proofs.Common.{◌≡◌, ℕ, suc, ◌+◌, ◌<◌, ℤ, pos, ◌-ℤ◌, ◌*ℤ◌, neg_ℤ, ◌<ℤ◌, ◌&&◌, map, take, drop, get_or}
+use Rattle.std.proofs.Common.{IsTrue, refl, sym, ap, ◌∙◌, subst, arith}
 use Rattle.std.proofs.lemmas.Int.{ints}
 use Rattle.std.proofs.lemmas.List.{get_or-drop, get_or-take, get_or-map}
 use Rattle.std.specs.Int.RustNames.{int_le, int_lt}
-use Rattle.olr_spec.specs.Bearings.{Vector, vector, boundary, boundaries, turned, beyond, lies_between, IsSector, sector}
-use Rattle.olr_spec.proofs.SectorLemmas.{one_sector, sector_is}
-use Rattle.olr_bearing.proofs.Products.{times_minus, minus_times}
+use Rattle.olr_spec.specs.Bearings.{Vector, vector, boundary, boundaries, turned, beyond, lies_between, IsSector}
+use Rattle.olr_spec.specs.Bearings.{sector}
+use Rattle.olr_spec.proofs.SectorLemmas.{one_sector, sector_is, neg_right, neg_left}
 
 -- ---- one quarter turn
 
@@ -24,7 +25,7 @@ boundary_turned k h =
     ∙ ap turned (get_or-take 25 boundaries k nowhere h)
 
 cross_turned : (be bn ve vn : ℤ) → vn *ℤ neg_ℤ be -ℤ neg_ℤ ve *ℤ bn ≡ ve *ℤ bn -ℤ vn *ℤ be
-cross_turned be bn ve vn = omega (arith, ints, times_minus vn be, minus_times ve bn)
+cross_turned be bn ve vn = omega (arith, ints, neg_right vn be, neg_left ve bn)
 
 beyond_turned : (b v : Vector) → beyond (turned b) (turned v) ≡ beyond b v
 beyond_turned b v = cross_turned b.east b.north v.east v.north
@@ -35,7 +36,8 @@ between_turned b c v =
     ∙ ap (λ z. int_le (pos 0) (beyond b v) && int_lt z (pos 0)) (beyond_turned c v)
 
 -- between the turned boundaries
-between_these : (b c v b' c' : Vector) → b' ≡ turned b → c' ≡ turned c → IsTrue (lies_between b c v) → IsTrue (lies_between b' c' (turned v))
+between_these : (b c v b' c' : Vector) → b' ≡ turned b → c' ≡ turned c → IsTrue (lies_between b c v) →
+    IsTrue (lies_between b' c' (turned v))
 between_these b c v b' c' p q h =
     subst (λ x. IsTrue (lies_between x c' (turned v))) (sym p)
     (subst (λ y. IsTrue (lies_between (turned b) y (turned v))) (sym q) (subst IsTrue (sym (between_turned b c v)) h))
@@ -45,9 +47,15 @@ sector_turned : (a b e n : ℤ) (j k : ℕ) → IsSector a b k → e ≡ b → n
 sector_turned a b e n j k s p q h is =
     let here : boundary (8 + k) ≡ turned (boundary k) = boundary_turned k (omega arith) in
     let after : suc (8 + k) ≡ 8 + suc k = omega arith in
-    let next : boundary (suc (8 + k)) ≡ turned (boundary (suc k)) = ap boundary after ∙ boundary_turned (suc k) (omega arith) in
-    let whole : IsSector b (neg_ℤ a) (8 + k) = (omega arith, between_these (boundary k) (boundary (suc k)) (vector a b) (boundary (8 + k)) (boundary (suc (8 + k))) here next s.1) in
-    subst (IsSector e n) (sym is) (subst (λ m. IsSector e m (8 + k)) (sym q) (subst (λ d. IsSector d (neg_ℤ a) (8 + k)) (sym p) whole))
+    let next : boundary (suc (8 + k)) ≡ turned (boundary (suc k)) =
+    ap boundary after ∙ boundary_turned (suc k) (omega arith) in
+    let whole : IsSector b (neg_ℤ a) (8 + k) = (
+      omega arith,
+      between_these (boundary k) (boundary (suc k)) (vector a b) (boundary (8 + k)) (boundary (suc (8 + k)))
+          here next s.1,
+    ) in
+    subst (IsSector e n) (sym is)
+    (subst (λ m. IsSector e m (8 + k)) (sym q) (subst (λ d. IsSector d (neg_ℤ a) (8 + k)) (sym p) whole))
 
 -- ---- the sector of a direction
 
@@ -67,17 +75,27 @@ pub first_quarter_is : (e n a b : ℤ) (k : ℕ) → IsSector a b k → a ≡ e 
 first_quarter_is e n a b k s p q north =
     the_sector e n k (λ z. omega (arith, ints, z.1)) (subst (λ m. IsSector e m k) q (subst (λ d. IsSector d b k) p s))
 
-pub second_quarter_is : (e n a b : ℤ) (k : ℕ) → IsSector a b k → a ≡ neg_ℤ n → b ≡ e → k < 8 → pos 0 <ℤ e → 8 + k ≡ sector e n
+pub second_quarter_is : (e n a b : ℤ) (k : ℕ) → IsSector a b k → a ≡ neg_ℤ n → b ≡ e → k < 8 → pos 0 <ℤ e →
+    8 + k ≡ sector e n
 second_quarter_is e n a b k s p q h east =
-    the_sector e n (8 + k) (λ z. omega (arith, ints, z.0)) (sector_turned a b e n (8 + k) k s (sym q) (omega (arith, ints)) (omega arith) refl)
+    the_sector e n (8 + k) (λ z. omega (arith, ints, z.0))
+    (sector_turned a b e n (8 + k) k s (sym q) (omega (arith, ints)) (omega arith) refl)
 
-pub third_quarter_is : (e n a b : ℤ) (k : ℕ) → IsSector a b k → a ≡ neg_ℤ e → b ≡ neg_ℤ n → k < 8 → n <ℤ pos 0 → 16 + k ≡ sector e n
+pub third_quarter_is : (e n a b : ℤ) (k : ℕ) → IsSector a b k → a ≡ neg_ℤ e → b ≡ neg_ℤ n → k < 8 → n <ℤ pos 0 →
+    16 + k ≡ sector e n
 third_quarter_is e n a b k s p q h south =
-    let once : IsSector (neg_ℤ n) e (8 + k) = sector_turned a b (neg_ℤ n) e (8 + k) k s (sym q) (omega (arith, ints)) (omega arith) refl in
-    the_sector e n (16 + k) (λ z. omega (arith, ints, z.1)) (sector_turned (neg_ℤ n) e e n (16 + k) (8 + k) once refl (omega (arith, ints)) (omega arith) (omega arith))
+    let once : IsSector (neg_ℤ n) e (8 + k) =
+    sector_turned a b (neg_ℤ n) e (8 + k) k s (sym q) (omega (arith, ints)) (omega arith) refl in
+    the_sector e n (16 + k) (λ z. omega (arith, ints, z.1))
+    (sector_turned (neg_ℤ n) e e n (16 + k) (8 + k) once refl (omega (arith, ints)) (omega arith) (omega arith))
 
-pub fourth_quarter_is : (e n a b : ℤ) (k : ℕ) → IsSector a b k → a ≡ n → b ≡ neg_ℤ e → k < 8 → e <ℤ pos 0 → 24 + k ≡ sector e n
+pub fourth_quarter_is : (e n a b : ℤ) (k : ℕ) → IsSector a b k → a ≡ n → b ≡ neg_ℤ e → k < 8 → e <ℤ pos 0 →
+    24 + k ≡ sector e n
 fourth_quarter_is e n a b k s p q h west =
-    let once : IsSector (neg_ℤ e) (neg_ℤ n) (8 + k) = sector_turned a b (neg_ℤ e) (neg_ℤ n) (8 + k) k s (sym q) (omega (arith, ints)) (omega arith) refl in
-    let twice : IsSector (neg_ℤ n) e (16 + k) = sector_turned (neg_ℤ e) (neg_ℤ n) (neg_ℤ n) e (16 + k) (8 + k) once refl (omega (arith, ints)) (omega arith) (omega arith) in
-    the_sector e n (24 + k) (λ z. omega (arith, ints, z.0)) (sector_turned (neg_ℤ n) e e n (24 + k) (16 + k) twice refl (omega (arith, ints)) (omega arith) (omega arith))
+    let once : IsSector (neg_ℤ e) (neg_ℤ n) (8 + k) =
+    sector_turned a b (neg_ℤ e) (neg_ℤ n) (8 + k) k s (sym q) (omega (arith, ints)) (omega arith) refl in
+    let twice : IsSector (neg_ℤ n) e (16 + k) =
+    sector_turned (neg_ℤ e) (neg_ℤ n) (neg_ℤ n) e (16 + k) (8 + k) once refl (omega (arith, ints)) (omega arith)
+    (omega arith) in
+    the_sector e n (24 + k) (λ z. omega (arith, ints, z.0))
+    (sector_turned (neg_ℤ n) e e n (24 + k) (16 + k) twice refl (omega (arith, ints)) (omega arith) (omega arith))

@@ -5,4 +5,6 @@ use Rattle.std.proofs.Common.{refl}
 use Rattle.olr_spec.specs.Bearings.{Scaled}
 
 abbrev pub coded_scaled : Coded Scaled
-coded_scaled = code_by (ℤ × (ℤ × ℕ)) (coded× coded_ℤ (coded× coded_ℤ coded_ℕ)) (λ s. (s.lon, (s.lat, s.width))) (λ p. record { lon = p.0; lat = p.1.0; width = p.1.1 }) (λ _. refl)
+coded_scaled =
+    code_by (ℤ × (ℤ × ℕ)) (coded× coded_ℤ (coded× coded_ℤ coded_ℕ)) (λ s. (s.lon, (s.lat, s.width)))
+    (λ p. record { lon = p.0; lat = p.1.0; width = p.1.1 }) (λ _. refl)

@@ -4,9 +4,9 @@
 //! are whole, is this project's profile. No number leaves 128 bits and no call takes memory.
 #![tactic(auto)]
 
-pub mod bearings;
+mod bearings;
 pub mod places;
-pub mod sectors;
+mod sectors;
 
 pub use bearings::{bearing_back, bearing_out};
 pub use places::{Ends, Scaled, place};

@@ -1,9 +1,12 @@
 -- The places of the parts of a reference.
-use Rattle.std.proofs.Common.{◌≡◌, ℕ, zero, suc, ◌+◌, ◌-◌, ◌*◌, ◌/◌, ◌<◌, ◌≤◌, Bool, true, false, not, ◌||◌, ◌==◌, nat_lt, if◌then◌else◌, List, length, Some, None, nat_le, slice_index, refl, sym, subst, ◌∙◌, arith, add-zero}
+use Rattle.std.proofs.Common.{◌≡◌, ℕ, zero, suc, ◌+◌, ◌-◌, ◌*◌, ◌/◌, ◌<◌, ◌≤◌, Bool, true, false, not, ◌||◌, ◌==◌}
+use Rattle.std.proofs.Common.{nat_lt, if◌then◌else◌, List, length, Some, None, nat_le, slice_index, refl, sym, subst}
+use Rattle.std.proofs.Common.{◌∙◌, arith, add-zero}
 use Rattle.std.specs.List.{list_any}
 use Rattle.std.proofs.lemmas.Bool.{or_parts, leb-false, eqb-true}
 use Rattle.std.proofs.lemmas.Bool.Decides.{nat_tests}
-use Rattle.olr_spec.specs.Bytes.{Length, Status, Flags, Reserved, status_byte, bit, extra, flags_of, attribute1_bytes, has_reserved, v3_fault}
+use Rattle.olr_spec.specs.Bytes.{Length, Status, Flags, Reserved, status_byte, bit, extra, flags_of, attribute1_bytes}
+use Rattle.olr_spec.specs.Bytes.{has_reserved, v3_fault}
 use Rattle.olr_binary.specs.Layout.{IsLayout}
 
 -- some of the attribute bytes 1 of n points, of which the first stands at place i, has a reserved bit
@@ -11,7 +14,8 @@ abbrev pub some_reserved : List ℕ → ℕ → ℕ → Bool
 some_reserved b i n = list_any (λ a. nat_le 64 a) (attribute1_bytes b i n)
 
 -- a byte with no such bit is passed
-pub some_reserved-more : (b : List ℕ) (i n : ℕ) → i < n → slice_index b (7 + 7 * i) < 64 → some_reserved b (7 + 7 * (i + 1)) (n - (i + 1)) ≡ some_reserved b (7 + 7 * i) (n - i)
+pub some_reserved-more : (b : List ℕ) (i n : ℕ) → i < n → slice_index b (7 + 7 * i) < 64 →
+    some_reserved b (7 + 7 * (i + 1)) (n - (i + 1)) ≡ some_reserved b (7 + 7 * i) (n - i)
 some_reserved-more b i n within low =
     let left : n - i ≡ suc (n - (i + 1)) = omega arith in
     let next : 7 + 7 * i + 7 ≡ 7 + 7 * (i + 1) = omega arith in
@@ -24,7 +28,8 @@ some_reserved-none b i n k past =
     rw left refl
 
 -- each byte is free of them
-pub some_reserved-at : (b : List ℕ) (i n : ℕ) → some_reserved b i n ≡ false → (k : ℕ) → k < n → slice_index b (i + 7 * k) < 64
+pub some_reserved-at : (b : List ℕ) (i n : ℕ) → some_reserved b i n ≡ false → (k : ℕ) → k < n →
+    slice_index b (i + 7 * k) < 64
 some_reserved-at b i zero none k within = absurd (omega arith)
 some_reserved-at b i (suc n) none zero within =
     let here = (or_parts (nat_le 64 (slice_index b i)) _ none).0 in
@@ -54,7 +59,8 @@ pub record HasNoFault (b : List ℕ) : Type 0 where
   pub reserved : has_reserved b ≡ false
 
 no_fault_tests : (p q r s : Bool)
-    → (if p then Some Length else (if not q then Some Status else (if not r then Some Flags else (if s then Some Reserved else None)))) ≡ None
+    → (if p then Some Length else
+    (if not q then Some Status else (if not r then Some Flags else (if s then Some Reserved else None)))) ≡ None
     → (q ≡ true) × (r ≡ true) × (s ≡ false)
 no_fault_tests true q r s e = absurd cc
 no_fault_tests false false r s e = absurd cc
@@ -64,8 +70,15 @@ no_fault_tests false true true false e = (refl, refl, refl)
 
 pub no_fault : (b : List ℕ) → v3_fault b ≡ None → HasNoFault b
 no_fault b e =
-    let t = no_fault_tests (nat_lt (length b) 16 || nat_lt 2 (extra b)) (slice_index b 0 == status_byte) (bit 6 (flags_of b) + bit 5 (flags_of b) == extra b) (has_reserved b) e in
-    record { state = eqb-true (slice_index b 0) status_byte t.0; flags = eqb-true (bit 6 (flags_of b) + bit 5 (flags_of b)) (extra b) t.1; reserved = t.2 }
+    let t =
+    no_fault_tests (nat_lt (length b) 16 || nat_lt 2 (extra b)) (slice_index b 0 == status_byte)
+    (bit 6 (flags_of b) + bit 5 (flags_of b) == extra b) (has_reserved b) e in
+    record {
+      state = eqb-true (slice_index b 0) status_byte t.0;
+      flags =
+          eqb-true (bit 6 (flags_of b) + bit 5 (flags_of b)) (extra b) t.1;
+      reserved = t.2;
+    }
 
 -- places of attribute bytes
 module _ (b : List ℕ) (m o : ℕ) (w : IsLayout b m o) (e : v3_fault b ≡ None) where

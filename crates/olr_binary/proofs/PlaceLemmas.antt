@@ -1,5 +1,6 @@
 -- Places that relative steps lead to.
-use Rattle.std.proofs.Common.{◌≡◌, ℕ, ◌+◌, ◌<◌, ◌≤◌, ℤ, pos, ◌+ℤ◌, List, [], ◌∷◌, ◌++◌, length, map, take, get_or, nat_le, true, Some, sym, ap, ◌∙◌, arith, length-append}
+use Rattle.std.proofs.Common.{◌≡◌, ℕ, ◌+◌, ◌<◌, ◌≤◌, ℤ, pos, ◌+ℤ◌, List, [], ◌∷◌, ◌++◌, length, map, take, get_or}
+use Rattle.std.proofs.Common.{nat_le, true, Some, sym, ap, ◌∙◌, arith, length-append}
 use Rattle.std.proofs.lemmas.Int.{ints}
 use Rattle.std.proofs.lemmas.Bool.Decides.{nat_tests}
 use Rattle.std.proofs.lemmas.List.{map-append, take-map, length-map, take_more, take_all, take-append-le}
@@ -19,14 +20,18 @@ none_add z = omega (arith, ints)
 
 steps_sum-push : (zs : List ℤ) (z : ℤ) → steps_sum (zs ++ z ∷ []) ≡ steps_sum zs +ℤ from_rel16 z
 steps_sum-push [] z = add_none (from_rel16 z) ∙ none_add (from_rel16 z)
-steps_sum-push (y ∷ ys) z = ap (λ (n : ℤ). from_rel16 y +ℤ n) (steps_sum-push ys z) ∙ sym (add_assoc_ℤ (from_rel16 y) (steps_sum ys) (from_rel16 z))
+steps_sum-push (y ∷ ys) z =
+    ap (λ (n : ℤ). from_rel16 y +ℤ n) (steps_sum-push ys z)
+    ∙ sym (add_assoc_ℤ (from_rel16 y) (steps_sum ys) (from_rel16 z))
 
 -- one more point
 pub place-more : (a : ℤ) (f : Middle → ℤ) (ps : List Middle) (i : ℕ) (p : Middle) → i < length ps → p ≡ get_or ps i p
     → a +ℤ steps_sum (map f (take i ps)) +ℤ from_rel16 (f p) ≡ a +ℤ steps_sum (map f (take (i + 1) ps))
 place-more a f ps i p within is =
-    let more : take (i + 1) ps ≡ take i ps ++ p ∷ [] = take_more ps i p within ∙ ap (λ (q : Middle). take i ps ++ q ∷ []) (sym is) in
-    let steps : map f (take (i + 1) ps) ≡ map f (take i ps) ++ f p ∷ [] = ap (λ (qs : List Middle). map f qs) more ∙ map-append f (take i ps) (p ∷ []) in
+    let more : take (i + 1) ps ≡ take i ps ++ p ∷ [] =
+    take_more ps i p within ∙ ap (λ (q : Middle). take i ps ++ q ∷ []) (sym is) in
+    let steps : map f (take (i + 1) ps) ≡ map f (take i ps) ++ f p ∷ [] =
+    ap (λ (qs : List Middle). map f qs) more ∙ map-append f (take i ps) (p ∷ []) in
     add_assoc_ℤ a (steps_sum (map f (take i ps))) (from_rel16 (f p))
     ∙ ap (λ (n : ℤ). a +ℤ n) (sym (ap (λ (zs : List ℤ). steps_sum zs) steps ∙ steps_sum-push (map f (take i ps)) (f p)))
 
@@ -34,18 +39,25 @@ module _ (a : ℤ) (f : Middle → ℤ) (ps : List Middle) (z : ℤ) (k : ℕ) w
   axis-between : k ≤ length ps → a +ℤ steps_sum (take k (map f ps ++ z ∷ [])) ≡ a +ℤ steps_sum (map f (take k ps))
   axis-between within =
       let size = length-map ps f in
-      let front : take k (map f ps ++ z ∷ []) ≡ map f (take k ps) = take-append-le k (map f ps) (z ∷ []) (omega arith) ∙ take-map f k ps in
+      let front : take k (map f ps ++ z ∷ []) ≡ map f (take k ps) =
+      take-append-le k (map f ps) (z ∷ []) (omega arith) ∙ take-map f k ps in
       ap (λ (zs : List ℤ). a +ℤ steps_sum zs) front
 
-  axis-last : k ≡ length ps + 1 → a +ℤ steps_sum (take k (map f ps ++ z ∷ [])) ≡ a +ℤ steps_sum (map f ps) +ℤ from_rel16 z
+  axis-last : k ≡ length ps + 1 → a +ℤ steps_sum (take k (map f ps ++ z ∷ []))
+      ≡ a +ℤ steps_sum (map f ps) +ℤ from_rel16 z
   axis-last last =
       let size = length-map ps f in
-      let whole : take k (map f ps ++ z ∷ []) ≡ map f ps ++ z ∷ [] = take_all k (map f ps ++ z ∷ []) (omega (arith, length-append (map f ps) (z ∷ []))) in
-      ap (λ (zs : List ℤ). a +ℤ steps_sum zs) whole ∙ ap (λ (n : ℤ). a +ℤ n) (steps_sum-push (map f ps) z) ∙ sym (add_assoc_ℤ a (steps_sum (map f ps)) (from_rel16 z))
+      let whole : take k (map f ps ++ z ∷ []) ≡ map f ps ++ z ∷ [] =
+      take_all k (map f ps ++ z ∷ []) (omega (arith, length-append (map f ps) (z ∷ []))) in
+      ap (λ (zs : List ℤ). a +ℤ steps_sum zs) whole ∙ ap (λ (n : ℤ). a +ℤ n) (steps_sum-push (map f ps) z)
+      ∙ sym (add_assoc_ℤ a (steps_sum (map f ps)) (from_rel16 z))
 
 -- a point before the last
 pub decoded-between : (r : Reference) (k : ℕ) → k ≤ length r.middle
-    → decoded r k ≡ Some (from_abs24 r.first.lon +ℤ steps_sum (map (λ m. m.dlon) (take k r.middle)), from_abs24 r.first.lat +ℤ steps_sum (map (λ m. m.dlat) (take k r.middle)))
+    → decoded r k ≡ Some (
+      from_abs24 r.first.lon +ℤ steps_sum (map (λ m. m.dlon) (take k r.middle)),
+      from_abs24 r.first.lat +ℤ steps_sum (map (λ m. m.dlat) (take k r.middle)),
+    )
 decoded-between r k within =
     let test : nat_le k (length r.middle + 1) ≡ true = grind (arith, nat_tests) in
     let lon = axis-between (from_abs24 r.first.lon) (λ m. m.dlon) r.middle r.last.dlon k within in
@@ -55,8 +67,10 @@ decoded-between r k within =
 -- the last point
 pub decoded-last : (r : Reference) (k : ℕ) → k ≡ length r.middle + 1
     → decoded r k
-    ≡ Some
-    (from_abs24 r.first.lon +ℤ steps_sum (map (λ m. m.dlon) r.middle) +ℤ from_rel16 r.last.dlon, from_abs24 r.first.lat +ℤ steps_sum (map (λ m. m.dlat) r.middle) +ℤ from_rel16 r.last.dlat)
+    ≡ Some (
+      from_abs24 r.first.lon +ℤ steps_sum (map (λ m. m.dlon) r.middle) +ℤ from_rel16 r.last.dlon,
+      from_abs24 r.first.lat +ℤ steps_sum (map (λ m. m.dlat) r.middle) +ℤ from_rel16 r.last.dlat,
+    )
 decoded-last r k last =
     let test : nat_le k (length r.middle + 1) ≡ true = grind (arith, nat_tests) in
     let lon = axis-last (from_abs24 r.first.lon) (λ m. m.dlon) r.middle r.last.dlon k last in

@@ -1,47 +1,45 @@
 -- Points read of their bytes.
-use Rattle.std.proofs.Common.{◌≡◌, ℕ, zero, suc, ◌+◌, ◌<◌, ◌≤◌, ◌-◌, ◌*◌, List, [], ◌∷◌, ◌++◌, length, take, drop, slice_index, slice_range, get_or, refl, sym, ap, ◌∙◌, arith}
+use Rattle.std.proofs.Common.{◌≡◌, ℕ, zero, suc, ◌+◌, ◌<◌, ◌≤◌, ◌*◌, List, [], ◌∷◌, ◌++◌, length, drop, slice_index}
+use Rattle.std.proofs.Common.{slice_range, get_or, refl, sym, ap, ◌∙◌, arith}
 use Rattle.std.specs.List.{AllByRecursion, flat_map}
-use Rattle.std.proofs.Math.Seq.{drop-cons, take-add}
+use Rattle.std.proofs.Math.Seq.{drop-cons}
 use Rattle.std.proofs.lemmas.List.Concat.{flat_map-append}
-use Rattle.std.proofs.lemmas.List.{drop_all, drop-drop}
+use Rattle.std.proofs.lemmas.List.{drop_all}
 use Rattle.std.proofs.lemmas.Slice.{between_to_end}
 use Rattle.olr_spec.specs.Reference.{First, Middle, Reference}
-use Rattle.olr_spec.specs.Bytes.{signed16, signed24, attr_bytes, first_bytes, middle_bytes, last_bytes, spelling, status_byte}
-
--- the n elements from place i on
-abbrev pub part : ℕ → ℕ → List ℕ → List ℕ
-part i zero xs = []
-part i (suc n) xs = get_or xs i 0 ∷ part (suc i) n xs
+use Rattle.olr_spec.specs.Bytes.{signed16, signed24, attr_bytes, first_bytes, middle_bytes, last_bytes, spelling}
+use Rattle.olr_spec.specs.Bytes.{status_byte}
+use Rattle.olr_spec.proofs.BytesLemmas.{part}
+use Rattle.olr_spec.proofs.LookLemmas.{stretch_parts}
 
 pub part-drop : (i n : ℕ) (xs : List ℕ) → length xs ≡ i + n → part i n xs ≡ drop i xs
 part-drop i zero xs e = sym (drop_all i xs (omega arith))
-part-drop i (suc n) xs e = ap (λ (ys : List ℕ). get_or xs i 0 ∷ ys) (part-drop (suc i) n xs (omega arith)) ∙ sym (drop-cons xs i 0 (omega arith))
+part-drop i (suc n) xs e =
+    ap (λ (ys : List ℕ). get_or xs i 0 ∷ ys) (part-drop (suc i) n xs (omega arith))
+    ∙ sym (drop-cons xs i 0 (omega arith))
 
-pub first_bytes-parts : (p : First) (bs : List ℕ) → length bs ≡ 9 → signed24 p.lon ≡ part 0 3 bs → signed24 p.lat ≡ part 3 3 bs → attr_bytes p.attrs ≡ part 6 3 bs → first_bytes p ≡ bs
+pub first_bytes-parts : (p : First) (bs : List ℕ) → length bs ≡ 9 → signed24 p.lon ≡ part 0 3 bs →
+    signed24 p.lat ≡ part 3 3 bs → attr_bytes p.attrs ≡ part 6 3 bs → first_bytes p ≡ bs
 first_bytes-parts p bs nine lon lat attrs = (λ i. lon i ++ lat i ++ attrs i) ∙ part-drop 0 9 bs nine
 
-pub middle_bytes-parts : (p : Middle) (bs : List ℕ) → length bs ≡ 7 → signed16 p.dlon ≡ part 0 2 bs → signed16 p.dlat ≡ part 2 2 bs → attr_bytes p.attrs ≡ part 4 3 bs → middle_bytes p ≡ bs
+pub middle_bytes-parts : (p : Middle) (bs : List ℕ) → length bs ≡ 7 → signed16 p.dlon ≡ part 0 2 bs →
+    signed16 p.dlat ≡ part 2 2 bs → attr_bytes p.attrs ≡ part 4 3 bs → middle_bytes p ≡ bs
 middle_bytes-parts p bs seven lon lat attrs = (λ i. lon i ++ lat i ++ attrs i) ∙ part-drop 0 7 bs seven
 
--- one more slice
-pub slice_range-more : (b : List ℕ) (i j k : ℕ) → i ≤ j → j ≤ k → slice_range b i j ++ slice_range b j k ≡ slice_range b i k
-slice_range-more b i j k low high =
-    let all : j - i + (k - j) ≡ k - i = omega arith in
-    let at : i + (j - i) ≡ j = omega arith in
-    let first : take (k - i) (drop i b) ≡ take (j - i + (k - j)) (drop i b) = ap (λ (n : ℕ). take n (drop i b)) (sym all) in
-    let rest : drop (j - i) (drop i b) ≡ drop j b = drop-drop (j - i) i b ∙ ap (λ (n : ℕ). drop n b) at in
-    sym (first ∙ take-add (j - i) (k - j) (drop i b) ∙ ap (λ (ys : List ℕ). take (j - i) (drop i b) ++ take (k - j) ys) rest)
-
-pub AllByRecursion-push : {X : Type 0} (P : X → Type 0) (xs : List X) (x : X) → AllByRecursion P xs → P x → AllByRecursion P (xs ++ x ∷ [])
+pub AllByRecursion-push : {X : Type 0} (P : X → Type 0) (xs : List X) (x : X) → AllByRecursion P xs → P x →
+    AllByRecursion P (xs ++ x ∷ [])
 AllByRecursion-push P [] x all p = (p, tt)
 AllByRecursion-push P (y ∷ ys) x all p = (all.0, AllByRecursion-push P ys x all.1 p)
 
 -- one more point between
-pub flat_map-push : (b : List ℕ) (i : ℕ) (ps : List Middle) (p : Middle) → flat_map middle_bytes ps ≡ slice_range b 10 (10 + 7 * i) → middle_bytes p ≡ slice_range b (10 + 7 * i) (10 + 7 * i + 7)
+pub flat_map-push : (b : List ℕ) (i : ℕ) (ps : List Middle) (p : Middle) →
+    flat_map middle_bytes ps ≡ slice_range b 10 (10 + 7 * i) →
+    middle_bytes p ≡ slice_range b (10 + 7 * i) (10 + 7 * i + 7)
     → flat_map middle_bytes (ps ++ p ∷ []) ≡ slice_range b 10 (10 + 7 * (i + 1))
 flat_map-push b i ps p before here =
     let next : 10 + 7 * i + 7 ≡ 10 + 7 * (i + 1) = omega arith in
-    let joined : flat_map middle_bytes ps ++ middle_bytes p ≡ slice_range b 10 (10 + 7 * i + 7) = (λ j. before j ++ here j) ∙ slice_range-more b 10 (10 + 7 * i) (10 + 7 * i + 7) (omega arith) (omega arith) in
+    let joined : flat_map middle_bytes ps ++ middle_bytes p ≡ slice_range b 10 (10 + 7 * i + 7) =
+    (λ j. before j ++ here j) ∙ sym (stretch_parts b 10 (10 + 7 * i) (10 + 7 * i + 7) (omega arith) (omega arith)) in
     flat_map-append middle_bytes ps (p ∷ []) ∙ joined ∙ ap (λ (n : ℕ). slice_range b 10 n) next
 
 head_of : (b : List ℕ) → 0 < length b → slice_range b 0 1 ≡ slice_index b 0 ∷ []
@@ -49,15 +47,18 @@ head_of [] some = absurd (omega arith)
 head_of (x ∷ xs) some = refl
 
 -- the parts make the whole
-pub spelling-parts : (b : List ℕ) (m : ℕ) (r : Reference) → 10 + 7 * m ≤ length b → slice_index b 0 ≡ status_byte → first_bytes r.first ≡ slice_range b 1 10
-    → flat_map middle_bytes r.middle ≡ slice_range b 10 (10 + 7 * m) → last_bytes r.last r.pos r.neg ≡ slice_range b (10 + 7 * m) (length b) → b ≡ spelling r
+pub spelling-parts : (b : List ℕ) (m : ℕ) (r : Reference) → 10 + 7 * m ≤ length b → slice_index b 0 ≡ status_byte →
+    first_bytes r.first ≡ slice_range b 1 10
+    → flat_map middle_bytes r.middle ≡ slice_range b 10 (10 + 7 * m) →
+    last_bytes r.last r.pos r.neg ≡ slice_range b (10 + 7 * m) (length b) → b ≡ spelling r
 spelling-parts b m r long state first middle last =
     let k = 10 + 7 * m in
     let head : slice_range b 0 1 ≡ status_byte ∷ [] = head_of b (omega arith) ∙ ap (λ (x : ℕ). x ∷ []) state in
-    let to_ten = slice_range-more b 0 1 10 (omega arith) (omega arith) in
-    let to_last = slice_range-more b 0 10 k (omega arith) (omega arith) in
-    let to_end = slice_range-more b 0 k (length b) (omega arith) long in
+    let to_ten = sym (stretch_parts b 0 1 10 (omega arith) (omega arith)) in
+    let to_last = sym (stretch_parts b 0 10 k (omega arith) (omega arith)) in
+    let to_end = sym (stretch_parts b 0 k (length b) (omega arith) long) in
     let whole : slice_range b 0 1 ++ slice_range b 1 10 ++ slice_range b 10 k ++ slice_range b k (length b) ≡ b =
-    (λ i. to_ten i ++ slice_range b 10 k ++ slice_range b k (length b)) ∙ (λ i. to_last i ++ slice_range b k (length b)) ∙ to_end ∙ between_to_end b 0 (length b) (omega arith)
+    (λ i. to_ten i ++ slice_range b 10 k ++ slice_range b k (length b)) ∙ (λ i. to_last i ++ slice_range b k (length b))
+    ∙ to_end ∙ between_to_end b 0 (length b) (omega arith)
     in
     sym whole ∙ (λ i. head i ++ (sym first) i ++ (sym middle) i ++ (sym last) i)

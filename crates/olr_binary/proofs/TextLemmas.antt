@@ -6,16 +6,18 @@ use Rattle.base64.proofs.EngineFacts.{decode_of-encode_of}
 use Rattle.olr_spec.specs.Reference.{Reference}
 use Rattle.olr_spec.specs.Bytes.{V3Fault as Fault, spelling, v3_fault}
 use Rattle.olr_spec.proofs.BytesLemmas.{one_spelled}
+use Rattle.olr_spec.proofs.ReadLemmas.{spelled_passes}
 use Rattle.olr_binary.specs.declared.faults.V3Fault.TheVariants.{Length, Status, Flags, Reserved, Memory}
 use Rattle.olr_binary.specs.declared.faults.TextFault.{TextFault}
 use Rattle.olr_binary.specs.declared.faults.TextFault.TheVariants.{Bytes, NotBase64}
 use Rattle.olr_binary.specs.Faults.{IsFaultOf, IsOfText}
 use Rattle.olr_binary.specs.Text.{IsTextOf, text_of}
-use Rattle.olr_binary.proofs.SpelledLemmas.{spelling-sound, spelling-bytes}
+use Rattle.olr_binary.proofs.SpelledLemmas.{spelling-bytes}
 
 decode-text : (r : Reference) (text : List ℕ) → IsTextOf r text → decode_of standard text ≡ Ok (spelling r)
 unfolding text_of
-decode-text r text is = ap (decode_of standard) is.1 ∙ decode_of-encode_of standard (spelling r) refl (spelling-bytes r is.0)
+decode-text r text is =
+    ap (decode_of standard) is.1 ∙ decode_of-encode_of standard (spelling r) refl (spelling-bytes r is.0)
 
 pub one_reference : (q r : Reference) (text : List ℕ) → IsTextOf q text → IsTextOf r text → q ≡ r
 one_reference q r text p s =
@@ -23,14 +25,16 @@ one_reference q r text p s =
     let same : spelling q ≡ spelling r = cc both in
     one_spelled q r p.0 s.0 same
 
-bytes-no_text : (text b : List ℕ) (f : Fault) → decode_of standard text ≡ Ok b → v3_fault b ≡ Some f → (r : Reference) → ¬ IsTextOf r text
+bytes-no_text : (text b : List ℕ) (f : Fault) → decode_of standard text ≡ Ok b → v3_fault b ≡ Some f → (r : Reference) →
+    ¬ IsTextOf r text
 bytes-no_text text b f decoded fault r is =
     let both = sym decoded ∙ decode-text r text is in
     let same : b ≡ spelling r = cc both in
-    let sound : v3_fault b ≡ None = ap v3_fault same ∙ spelling-sound r is.0 in
+    let sound : v3_fault b ≡ None = ap v3_fault same ∙ spelled_passes r is.0 in
     cc (sound, fault)
 
-pub fault-no_text : (text : List ℕ) (f : TextFault) → IsFaultOf text f → IsOfText f → (r : Reference) → ¬ IsTextOf r text
+pub fault-no_text : (text : List ℕ) (f : TextFault) → IsFaultOf text f → IsOfText f → (r : Reference) →
+    ¬ IsTextOf r text
 fault-no_text text (Bytes Memory) fault told r is = told
 fault-no_text text (Bytes Length) fault told r is = bytes-no_text text fault.0 _ fault.1 fault.2 r is
 fault-no_text text (Bytes Status) fault told r is = bytes-no_text text fault.0 _ fault.1 fault.2 r is
@@ -41,6 +45,7 @@ fault-no_text text NotBase64 fault told r is =
     let none = fault.1 in
     cc (some, none)
 
-pub no_text : {T : Type 0} (text : List ℕ) (r : Result T TextFault) → IfErr r (λ f. IsFaultOf text f) → IfErr r (λ f. IsOfText f → (s : Reference) → ¬ IsTextOf s text)
+pub no_text : {T : Type 0} (text : List ℕ) (r : Result T TextFault) → IfErr r (λ f. IsFaultOf text f) →
+    IfErr r (λ f. IsOfText f → (s : Reference) → ¬ IsTextOf s text)
 no_text text (Ok x) faults = tt
 no_text text (Err f) faults = fault-no_text text f faults

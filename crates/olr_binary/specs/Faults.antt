@@ -3,7 +3,8 @@ use Rattle.std.specs.Prelude.{◌≡◌, ℕ, List, Option, Some, None, Ok, Err}
 use Rattle.base64.specs.Engines.{standard}
 use Rattle.base64.specs.GeneralPurpose.{decode_of}
 use Rattle.base64.specs.declared.decode.DecodeError.{DecodeError}
-use Rattle.olr_spec.specs.Bytes.{V3Fault as Fault, Length as Wrong_length, Status as Wrong_status, Flags as Wrong_flags, Reserved as Bits_reserved, v3_fault}
+use Rattle.olr_spec.specs.Bytes.{V3Fault as Fault, Length as Wrong_length, Status as Wrong_status, Flags as Wrong_flags}
+use Rattle.olr_spec.specs.Bytes.{Reserved as Bits_reserved, v3_fault}
 use Rattle.olr_binary.specs.declared.faults.V3Fault.{V3Fault}
 use Rattle.olr_binary.specs.declared.faults.V3Fault.TheVariants.{Length, Status, Flags, Reserved, Memory}
 use Rattle.olr_binary.specs.declared.faults.TextFault.{TextFault}

@@ -5,11 +5,11 @@
 
 mod bits;
 pub mod faults;
-pub mod fields;
-pub mod places;
-pub mod read;
+mod fields;
+mod places;
+mod read;
 pub mod text;
-pub mod write;
+mod write;
 
 pub use faults::{TextFault, V3Fault};
 pub use fields::{Attrs, First, Last, Middle, Reference};

@@ -1,8 +1,11 @@
 //! Reading version 3.
-ghost use Rattle.std.specs.Prelude.{◌≡◌, ◌+◌, ◌*◌, ◌<◌, [], ◌∷◌, ◌++◌, length, slice_index, slice_range, IsSome, IfSome, IfNone, IfOk, IfErr, OnOk};
+ghost use Rattle.std.specs.Prelude.{◌≡◌, ◌+◌, ◌*◌, ◌<◌, [], ◌∷◌, ◌++◌, length, slice_index, slice_range, IsSome};
+ghost use Rattle.std.specs.Prelude.{IfSome, IfNone, IfOk, IfErr, OnOk};
 ghost use Rattle.std.specs.List.{AllByRecursion, flat_map};
 ghost use Rattle.olr_spec.specs.Reference.{Reference as Fields};
-ghost use Rattle.olr_spec.specs.Bytes.{AreAttrs, IsFirst, IsMiddle, IsLast, Spells, Length as Wrong_length, attr_bytes, bit, first_bytes, flag, has_reserved, last_bytes, middle_bytes, offset_bytes, v3_fault};
+ghost use Rattle.olr_spec.specs.Bytes.{AreAttrs, IsFirst, IsMiddle, IsLast, Spells, Length as Wrong_length, attr_bytes};
+ghost use Rattle.olr_spec.specs.Bytes.{bit, first_bytes, flag, has_reserved, last_bytes, middle_bytes, offset_bytes};
+ghost use Rattle.olr_spec.specs.Bytes.{v3_fault};
 ghost use Rattle.olr_binary.specs.Faults.{bytes_fault_of};
 ghost use Rattle.olr_binary.specs.Layout.{IsLayout};
 

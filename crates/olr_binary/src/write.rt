@@ -1,6 +1,7 @@
 //! Writing version 3.
 ghost use Rattle.std.specs.Prelude.{◌≡◌, ◌++◌, IfOk, OnOk};
-ghost use Rattle.olr_spec.specs.Bytes.{IsFirst, IsMiddle, IsLast, AreAttrs, Spells, attr_bytes, first_bytes, middle_bytes, last_bytes, offset_bytes};
+ghost use Rattle.olr_spec.specs.Bytes.{IsFirst, IsMiddle, IsLast, AreAttrs, Spells, attr_bytes, first_bytes};
+ghost use Rattle.olr_spec.specs.Bytes.{middle_bytes, last_bytes, offset_bytes};
 
 use crate::bits::{attribute1, attribute2, attribute4, signed16, signed24};
 use crate::fields::{Attrs, First, Last, Middle, Reference};

@@ -1,5 +1,6 @@
 -- Numbers written in digits.
-use Rattle.std.proofs.Common.{◌≡◌, ℕ, ◌+◌, ◌*◌, ◌-◌, ◌<◌, ◌≤◌, ◌^◌, true, ◌==◌, List, [], ◌∷◌, length, fold, refl, ap, sym, subst, ◌∙◌, arith, rules, take, not, get_or, zero, suc}
+use Rattle.std.proofs.Common.{◌≡◌, ℕ, ◌+◌, ◌*◌, ◌-◌, ◌<◌, ◌≤◌, ◌^◌, true, ◌==◌, List, [], ◌∷◌, length, fold, refl, ap}
+use Rattle.std.proofs.Common.{sym, subst, ◌∙◌, arith, rules, take, not, get_or, zero, suc}
 use Rattle.std.specs.List.{list_all}
 use Rattle.std.specs.Char.{is_ascii_digit}
 use Rattle.std.proofs.lemmas.Bool.{and_parts}
@@ -14,11 +15,13 @@ pub own : IsNumeralModel (λ ds. list_all is_ascii_digit ds ≡ true) digits_val
 own = numerals_by_fold _ (search rules) (λ n ds. fold (λ m d. 10 * m + (d - 48)) n ds) (search rules)
 
 -- few digits have a small value
-pub few-digits : (ds : List ℕ) (k : ℕ) → list_all is_ascii_digit (take k ds) ≡ true → length ds ≤ 7 → digits_value (take k ds) < 10 ^ 7
+pub few-digits : (ds : List ℕ) (k : ℕ) → list_all is_ascii_digit (take k ds) ≡ true → length ds ≤ 7 →
+    digits_value (take k ds) < 10 ^ 7
 few-digits ds k all few = digits_value_short own (take k ds) 7 all (omega (arith, length-take k ds))
 
 -- digits write a number below a power of ten
-pub digits-lt : (ds : List ℕ) (k : ℕ) → list_all is_ascii_digit (take k ds) ≡ true → length ds ≤ k → digits_value (take k ds) < 10 ^ length ds
+pub digits-lt : (ds : List ℕ) (k : ℕ) → list_all is_ascii_digit (take k ds) ≡ true → length ds ≤ k →
+    digits_value (take k ds) < 10 ^ length ds
 digits-lt ds k all whole = digits_value_short own (take k ds) (length ds) all (omega (arith, length-take k ds))
 
 -- a fraction is below one
@@ -38,14 +41,16 @@ before-none : (c : ℕ) (text : List ℕ) → c ≡ 46 → before_point (c ∷ t
 before-none c text point = take_while-cons (λ d. not (d == 46)) c text ∙ rw point refl
 
 -- where the first point stands
-pub point-at : (text : List ℕ) (i : ℕ) → i < length text → list_all (λ c. not (c == 46)) (take i text) ≡ true → get_or text i 0 ≡ 46 → i ≡ length (before_point text)
+pub point-at : (text : List ℕ) (i : ℕ) → i < length text → list_all (λ c. not (c == 46)) (take i text) ≡ true →
+    get_or text i 0 ≡ 46 → i ≡ length (before_point text)
 point-at [] i lt all e = absurd (omega arith)
 point-at (c ∷ text) zero lt all e = ap (λ (t : List ℕ). length t) (sym (before-none c text e))
 point-at (c ∷ text) (suc i) lt all e =
     let p = and_parts (not (c == 46)) (list_all (λ d. not (d == 46)) (take i text)) all in
     ap suc (point-at text i (omega arith) p.1 e) ∙ ap (λ (t : List ℕ). length t) (sym (before-more c text p.0))
 
-pub no-point : (text : List ℕ) (k : ℕ) → length text ≤ k → list_all (λ c. not (c == 46)) (take k text) ≡ true → length text ≡ length (before_point text)
+pub no-point : (text : List ℕ) (k : ℕ) → length text ≤ k → list_all (λ c. not (c == 46)) (take k text) ≡ true →
+    length text ≡ length (before_point text)
 no-point [] k few all = refl
 no-point (c ∷ text) zero few all = absurd (omega arith)
 no-point (c ∷ text) (suc k) few all =

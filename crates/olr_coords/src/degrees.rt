@@ -1,6 +1,7 @@
 //! Degrees as text.
 ghost use Rattle.std.specs.Prelude.{◌≡◌, ◌^◌, ◌<◌, ◌≤◌, ◌&&◌, length, nat_le, if◌then◌else◌, IfSome, IfOk, IfErr};
-ghost use Rattle.olr_spec.specs.Degrees.{are_digits, before_point, digits_value, whole, fraction, unsigned, degrees, read_degrees};
+ghost use Rattle.olr_spec.specs.Degrees.{are_digits, before_point, digits_value, whole, fraction, unsigned, degrees};
+ghost use Rattle.olr_spec.specs.Degrees.{read_degrees};
 ghost use Rattle.olr_coords.specs.Faults.{coord_fault_of};
 
 /// The digits of whole degrees, at most.
@@ -84,7 +85,7 @@ fn point(text: &[u8]) -> usize
 }
 
 /// Degrees without a sign, in units.
-fn unsigned(text: &[u8]) -> Option<u64>
+fn without_sign(text: &[u8]) -> Option<u64>
     ensures value { result ≡ unsigned text.now }
     ensures bound { IfSome result (λ n. n < 2 ^ 60) }
 {
@@ -98,8 +99,8 @@ fn degrees(text: &[u8]) -> Option<i64>
     ensures { result ≡ degrees text.now }
 {
     match text {
-        [b'-', rest @ ..] => Some(-(unsigned(rest)? as i64)),
-        _ => Some(unsigned(text)? as i64),
+        [b'-', rest @ ..] => Some(-(without_sign(rest)? as i64)),
+        _ => Some(without_sign(text)? as i64),
     }
 }
 

@@ -3,9 +3,9 @@
 //! them, and half of each step, are whole. No call takes memory.
 #![tactic(auto)]
 
-pub mod coord;
-pub mod degrees;
-pub mod steps;
+mod coord;
+mod degrees;
+mod steps;
 
 pub use coord::Coord;
 pub use degrees::{CoordFault, read_degrees};

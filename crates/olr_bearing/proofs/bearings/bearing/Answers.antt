@@ -18,7 +18,8 @@ part-north-requires-clause-origin c =
     let lat = (coord_within c.args.origin c.lat.ensures.range).1 in
     (omega (arith, ints, lat.0, lat.1), omega (arith, ints, lat.0, lat.1))
 
-part_is : (r f s o f' s' o' : ℤ) (w w' : ℕ) → r ≡ f *ℤ (s -ℤ pos w *ℤ o) → f ≡ f' → s ≡ s' → w ≡ w' → o ≡ o' → r ≡ f' *ℤ (s' -ℤ pos w' *ℤ o')
+part_is : (r f s o f' s' o' : ℤ) (w w' : ℕ) → r ≡ f *ℤ (s -ℤ pos w *ℤ o) → f ≡ f' → s ≡ s' → w ≡ w' → o ≡ o' →
+    r ≡ f' *ℤ (s' -ℤ pos w' *ℤ o')
 part_is r f s o f' s' o' w w' is p q h g = cc
 
 sector_is : (k : ℕ) (a b x y : ℤ) → k ≡ sector a b → a ≡ x → b ≡ y → k ≡ sector x y
@@ -44,16 +45,31 @@ returns-clause-value c =
     let range = c.requires.in_range in
     let short = c.requires.short in
     let east : c.part-east.result ≡ above *ℤ (to.lon -ℤ pos to.width *ℤ from.lon) =
-    part_is c.part-east.result (held w128 cosine.numerator) (held w128 passed.lon) (held w64 c.lon.result) above to.lon from.lon passed.width to.width c.part-east.ensures.value
-    (held_is cosine.numerator above (omega (arith, ints, factors.in_range.0.0), omega (arith, ints, factors.in_range.0.1)) factors.numerator)
-    (held_is passed.lon to.lon (omega (arith, ints, lon, range.0.0, range.0.1), omega (arith, ints, lon, range.0.0, range.0.1)) lon)
+    part_is c.part-east.result (held w128 cosine.numerator) (held w128 passed.lon) (held w64 c.lon.result) above to.lon
+    from.lon passed.width to.width c.part-east.ensures.value
+    (held_is cosine.numerator above (
+      omega (arith, ints, factors.in_range.0.0),
+      omega (arith, ints, factors.in_range.0.1),
+    ) factors.numerator)
+    (held_is passed.lon to.lon (
+      omega (arith, ints, lon, range.0.0, range.0.1),
+      omega (arith, ints, lon, range.0.0, range.0.1),
+    ) lon)
     width (omega (arith, ints)) in
     let north : c.part-north.result ≡ below *ℤ (to.lat -ℤ pos to.width *ℤ from.lat) =
-    part_is c.part-north.result (held w128 cosine.denominator) (held w128 passed.lat) (held w64 c.lat.result) below to.lat from.lat passed.width to.width c.part-north.ensures.value
-    (held_is cosine.denominator below (omega (arith, ints, factors.in_range.1.0), omega (arith, ints, factors.in_range.1.1)) factors.denominator)
-    (held_is passed.lat to.lat (omega (arith, ints, lat, range.1.0, range.1.1), omega (arith, ints, lat, range.1.0, range.1.1)) lat)
+    part_is c.part-north.result (held w128 cosine.denominator) (held w128 passed.lat) (held w64 c.lat.result) below
+    to.lat from.lat passed.width to.width c.part-north.ensures.value
+    (held_is cosine.denominator below (
+      omega (arith, ints, factors.in_range.1.0),
+      omega (arith, ints, factors.in_range.1.1),
+    ) factors.denominator)
+    (held_is passed.lat to.lat (
+      omega (arith, ints, lat, range.1.0, range.1.1),
+      omega (arith, ints, lat, range.1.0, range.1.1),
+    ) lat)
     width (omega (arith, ints)) in
-    sector_is c.sector.result (held w128 c.part-east.result) (held w128 c.part-north.result) (above *ℤ (to.lon -ℤ pos to.width *ℤ from.lon)) (below *ℤ (to.lat -ℤ pos to.width *ℤ from.lat))
+    sector_is c.sector.result (held w128 c.part-east.result) (held w128 c.part-north.result)
+    (above *ℤ (to.lon -ℤ pos to.width *ℤ from.lon)) (below *ℤ (to.lat -ℤ pos to.width *ℤ from.lat))
     c.sector.ensures.value
     (held_is c.part-east.result (above *ℤ (to.lon -ℤ pos to.width *ℤ from.lon)) c.part-east.ensures.in_range east)
     (held_is c.part-north.result (below *ℤ (to.lat -ℤ pos to.width *ℤ from.lat)) c.part-north.ensures.in_range north)

@@ -42,5 +42,7 @@ returns-clause-denominator c = let h = here c in omega (arith, ints, h.value, h.
 
 pub returns-clause-in_range : goal.returns-clause-in_range
 returns-clause-in_range c =
-    let h = here c in
-    ((omega (arith, ints, h.value, h.least, h.most), omega (arith, ints, h.value, h.least, h.most)), (omega (arith, ints, h.value, h.least, h.most), omega (arith, ints, h.value, h.least, h.most)))
+    let h = here c in (
+      (omega (arith, ints, h.value, h.least, h.most), omega (arith, ints, h.value, h.least, h.most)),
+      (omega (arith, ints, h.value, h.least, h.most), omega (arith, ints, h.value, h.least, h.most)),
+    )

@@ -25,38 +25,54 @@ record Shift (width : ℕ) (origin x y : ℤ) : Type 0 where
   value : held w128 x *ℤ held w128 y ≡ pos width *ℤ origin
   in_range : IsWithin (width * degrees 180) (pos width *ℤ origin)
 
-shift : (width : ℕ) (origin x y : ℤ) → width ≤ 1000000 → IsWithin (degrees 180) origin → x ≡ pos width → y ≡ origin → Shift width origin x y
+shift : (width : ℕ) (origin x y : ℤ) → width ≤ 1000000 → IsWithin (degrees 180) origin → x ≡ pos width → y ≡ origin →
+    Shift width origin x y
 shift width origin x y h o p q = record {
-  value = same_product (held w128 x) (pos width) (held w128 y) origin (omega (arith, ints)) (omega (arith, ints, o.0, o.1));
+  value =
+      same_product (held w128 x) (pos width) (held w128 y) origin (omega (arith, ints)) (omega (arith, ints, o.0, o.1));
   in_range = natural_product_within width width (degrees 180) origin (omega arith) o;
 }
 
-offset_fits : (width : ℕ) (scaled origin x y : ℤ) → width ≤ 1000000 → IsWithin (width * degrees 180) scaled → Shift width origin x y
+offset_fits : (width : ℕ) (scaled origin x y : ℤ) → width ≤ 1000000 → IsWithin (width * degrees 180) scaled →
+    Shift width origin x y
     → FitsSigned w128 (held w128 scaled -ℤ held w128 (held w128 x *ℤ held w128 y))
 offset_fits width scaled origin x y h s g = omega (arith, ints, g.value, g.in_range.0, g.in_range.1, s.0, s.1)
 
-the_part : (factor scaled origin x y : ℤ) (width : ℕ) → IsFactor factor → width ≤ 1000000 → IsWithin (width * degrees 180) scaled → Shift width origin x y
-    → Settled (held w128 factor *ℤ held w128 (held w128 scaled -ℤ held w128 (held w128 x *ℤ held w128 y))) (factor *ℤ (scaled -ℤ pos width *ℤ origin))
+the_part : (factor scaled origin x y : ℤ) (width : ℕ) → IsFactor factor → width ≤ 1000000 →
+    IsWithin (width * degrees 180) scaled → Shift width origin x y
+    → Settled (held w128 factor *ℤ held w128 (held w128 scaled -ℤ held w128 (held w128 x *ℤ held w128 y)))
+    (factor *ℤ (scaled -ℤ pos width *ℤ origin))
 the_part factor scaled origin x y width f h s g =
     let shifted = pos width *ℤ origin in
     let offset_is : held w128 (held w128 scaled -ℤ held w128 (held w128 x *ℤ held w128 y)) ≡ scaled -ℤ shifted =
     omega (arith, ints, g.value, g.in_range.0, g.in_range.1, s.0, s.1) in
-    let offset : IsWithin (2000000 * degrees 180) (scaled -ℤ shifted) =
-    (omega (arith, ints, g.in_range.0, g.in_range.1, s.0, s.1), omega (arith, ints, g.in_range.0, g.in_range.1, s.0, s.1)) in
-    settled (held w128 factor *ℤ held w128 (held w128 scaled -ℤ held w128 (held w128 x *ℤ held w128 y))) (factor *ℤ (scaled -ℤ shifted))
-    (same_product (held w128 factor) factor (held w128 (held w128 scaled -ℤ held w128 (held w128 x *ℤ held w128 y))) (scaled -ℤ shifted) (omega (arith, ints, f.0, f.1)) offset_is)
+    let offset : IsWithin (2000000 * degrees 180) (scaled -ℤ shifted) = (
+      omega (arith, ints, g.in_range.0, g.in_range.1, s.0, s.1),
+      omega (arith, ints, g.in_range.0, g.in_range.1, s.0, s.1),
+    ) in
+    settled (held w128 factor *ℤ held w128 (held w128 scaled -ℤ held w128 (held w128 x *ℤ held w128 y)))
+    (factor *ℤ (scaled -ℤ shifted))
+    (same_product (held w128 factor) factor (held w128 (held w128 scaled -ℤ held w128 (held w128 x *ℤ held w128 y)))
+    (scaled -ℤ shifted) (omega (arith, ints, f.0, f.1)) offset_is)
     (product_within 40500000000 (2000000 * degrees 180) factor (scaled -ℤ shifted) f offset)
 
 shift_here : (c : After-from-2) → Shift c.args.width c.args.origin c.from.result c.from-2.result
-shift_here c = shift c.args.width c.args.origin c.from.result c.from-2.result c.requires.short c.requires.origin (omega (arith, ints)) (omega (arith, ints))
+shift_here c =
+    shift c.args.width c.args.origin c.from.result c.from-2.result c.requires.short c.requires.origin
+    (omega (arith, ints)) (omega (arith, ints))
 
 here : (c : After-from-2)
-    → Settled (held w128 c.args.factor *ℤ held w128 (held w128 c.args.scaled -ℤ held w128 (held w128 c.from.result *ℤ held w128 c.from-2.result)))
+    → Settled (held w128 c.args.factor *ℤ held w128
+    (held w128 c.args.scaled -ℤ held w128 (held w128 c.from.result *ℤ held w128 c.from-2.result)))
     (c.args.factor *ℤ (c.args.scaled -ℤ pos c.args.width *ℤ c.args.origin))
-here c = the_part c.args.factor c.args.scaled c.args.origin c.from.result c.from-2.result c.args.width c.requires.factor c.requires.short c.requires.place (shift_here c)
+here c =
+    the_part c.args.factor c.args.scaled c.args.origin c.from.result c.from-2.result c.args.width c.requires.factor
+    c.requires.short c.requires.place (shift_here c)
 
 pub overflow_sub-result : goal.overflow_sub-result
-overflow_sub-result c = offset_fits c.args.width c.args.scaled c.args.origin c.from.result c.from-2.result c.requires.short c.requires.place (shift_here c)
+overflow_sub-result c =
+    offset_fits c.args.width c.args.scaled c.args.origin c.from.result c.from-2.result c.requires.short c.requires.place
+    (shift_here c)
 
 pub overflow_mul-result-2 : goal.overflow_mul-result-2
 overflow_mul-result-2 c = (here c).fits

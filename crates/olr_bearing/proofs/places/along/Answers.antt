@@ -11,22 +11,32 @@ record Products (w f d t : ℤ) : Type 0 where
   first : IsWithin (2 ^ 96) (held w128 w *ℤ held w128 f)
   second : IsWithin (2 ^ 96) (held w128 d *ℤ held w128 (held w128 t -ℤ held w128 f))
 
-products : (w f d t : ℤ) → IsWithin (2 ^ 32) w → IsWithin (2 ^ 32) d → FitsSigned w64 f → FitsSigned w64 t → Products w f d t
+products : (w f d t : ℤ) → IsWithin (2 ^ 32) w → IsWithin (2 ^ 32) d → FitsSigned w64 f → FitsSigned w64 t →
+    Products w f d t
 products w f d t a b p q = record {
-  first = product_within (2 ^ 32) (2 ^ 64) (held w128 w) (held w128 f) (omega (arith, ints, a.0), omega (arith, ints, a.1)) (omega (arith, ints), omega (arith, ints));
+  first =
+      product_within (2 ^ 32) (2 ^ 64) (held w128 w) (held w128 f) (omega (arith, ints, a.0), omega (arith, ints, a.1))
+      (omega (arith, ints), omega (arith, ints));
   second =
-      product_within (2 ^ 32) (2 ^ 64) (held w128 d) (held w128 (held w128 t -ℤ held w128 f)) (omega (arith, ints, b.0), omega (arith, ints, b.1)) (omega (arith, ints), omega (arith, ints));
+      product_within (2 ^ 32) (2 ^ 64) (held w128 d) (held w128 (held w128 t -ℤ held w128 f))
+      (omega (arith, ints, b.0), omega (arith, ints, b.1)) (omega (arith, ints), omega (arith, ints));
 }
 
-fits : (w f d t : ℤ) → Products w f d t → FitsSigned w128 (held w128 (held w128 w *ℤ held w128 f) +ℤ held w128 (held w128 d *ℤ held w128 (held w128 t -ℤ held w128 f)))
+fits : (w f d t : ℤ) → Products w f d t →
+    FitsSigned w128 (held w128 (held w128 w *ℤ held w128 f) +ℤ held w128
+    (held w128 d *ℤ held w128 (held w128 t -ℤ held w128 f)))
 fits w f d t h = omega (arith, ints, h.first.0, h.first.1, h.second.0, h.second.1)
 
-sum_is : (w f d t : ℤ) → Products w f d t → held w128 (held w128 (held w128 w *ℤ held w128 f) +ℤ held w128 (held w128 d *ℤ held w128 (held w128 t -ℤ held w128 f))) ≡ held w128 w *ℤ held w128 f +ℤ held w128 d *ℤ held w128 (held w128 t -ℤ held w128 f)
+sum_is : (w f d t : ℤ) → Products w f d t →
+    held w128 (held w128 (held w128 w *ℤ held w128 f) +ℤ held w128
+    (held w128 d *ℤ held w128 (held w128 t -ℤ held w128 f))) ≡ held w128 w *ℤ held w128 f +ℤ held w128 d *ℤ held w128
+    (held w128 t -ℤ held w128 f)
 sum_is w f d t h = omega (arith, ints, h.first.0, h.first.1, h.second.0, h.second.1)
 
 here : (c : goal.After-from) → Products c.from.result c.from-from.result c.from-done.result c.from-to.result
 here c =
-    products c.from.result c.from-from.result c.from-done.result c.from-to.result (omega (arith, ints), omega (arith, ints)) (omega (arith, ints), omega (arith, ints))
+    products c.from.result c.from-from.result c.from-done.result c.from-to.result
+    (omega (arith, ints), omega (arith, ints)) (omega (arith, ints), omega (arith, ints))
     (omega (arith, ints)) (omega (arith, ints))
 
 pub overflow_mul-result-2 : goal.overflow_mul-result-2
@@ -41,7 +51,10 @@ returns c =
     let f = c.from-from.result in
     let d = c.from-done.result in
     let t = c.from-to.result in
-    let first : held w128 w *ℤ held w128 f ≡ pos c.args.width *ℤ c.args.from = same_product (held w128 w) (pos c.args.width) (held w128 f) c.args.from (omega (arith, ints)) (omega (arith, ints)) in
+    let first : held w128 w *ℤ held w128 f ≡ pos c.args.width *ℤ c.args.from =
+    same_product (held w128 w) (pos c.args.width) (held w128 f) c.args.from (omega (arith, ints))
+    (omega (arith, ints)) in
     let second : held w128 d *ℤ held w128 (held w128 t -ℤ held w128 f) ≡ pos c.args.done *ℤ (c.args.to -ℤ c.args.from) =
-    same_product (held w128 d) (pos c.args.done) (held w128 (held w128 t -ℤ held w128 f)) (c.args.to -ℤ c.args.from) (omega (arith, ints)) (omega (arith, ints)) in
+    same_product (held w128 d) (pos c.args.done) (held w128 (held w128 t -ℤ held w128 f)) (c.args.to -ℤ c.args.from)
+    (omega (arith, ints)) (omega (arith, ints)) in
     sum_is w f d t (here c) ∙ cc (first, second)

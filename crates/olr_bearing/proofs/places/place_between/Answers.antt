@@ -6,7 +6,8 @@ use Rattle.olr_bearing.proofs.Scaling.{held, along_within, coord_within}
 use Rattle.olr_bearing.proofs.places.place_between.Goals as goal
 
 -- what `along` gives, from coordinates x and y that are f and t
-passed : (w d b : ℕ) (f t x y z : ℤ) → z ≡ pos w *ℤ held w64 x +ℤ pos d *ℤ (held w64 y -ℤ held w64 x) → held w64 x ≡ f → held w64 y ≡ t → d ≤ w → IsWithin b f → IsWithin b t → IsWithin (w * b) z
+passed : (w d b : ℕ) (f t x y z : ℤ) → z ≡ pos w *ℤ held w64 x +ℤ pos d *ℤ (held w64 y -ℤ held w64 x) → held w64 x ≡ f →
+    held w64 y ≡ t → d ≤ w → IsWithin b f → IsWithin b t → IsWithin (w * b) z
 passed w d b f t x y z is p q h g k =
     let there : z ≡ pos w *ℤ f +ℤ pos d *ℤ (t -ℤ f) = cc in
     subst (IsWithin (w * b)) (sym there) (along_within w d b f t h g k)
@@ -21,6 +22,10 @@ returns-clause-in_range c =
     let d = c.args.at - from.at in
     let from_at : from.at ≡ c.args.from.at = ap (λ (s : ShapePoint). s.at) c.from.view_is in
     let to_at : to.at ≡ c.args.to.at = ap (λ (s : ShapePoint). s.at) c.to.view_is in
-    let lon : IsWithin (w * degrees 180) c.along.result = passed w d (degrees 180) from.place.lon to.place.lon c.lon.result c.lon-2.result c.along.result c.along.ensures (omega (arith, ints)) (omega (arith, ints)) (omega arith) p.0 q.0 in
-    let lat : IsWithin (w * degrees 90) c.along-2.result = passed w d (degrees 90) from.place.lat to.place.lat c.lat.result c.lat-2.result c.along-2.result c.along-2.ensures (omega (arith, ints)) (omega (arith, ints)) (omega arith) p.1 q.1 in
+    let lon : IsWithin (w * degrees 180) c.along.result =
+    passed w d (degrees 180) from.place.lon to.place.lon c.lon.result c.lon-2.result c.along.result c.along.ensures
+    (omega (arith, ints)) (omega (arith, ints)) (omega arith) p.0 q.0 in
+    let lat : IsWithin (w * degrees 90) c.along-2.result =
+    passed w d (degrees 90) from.place.lat to.place.lat c.lat.result c.lat-2.result c.along-2.result c.along-2.ensures
+    (omega (arith, ints)) (omega (arith, ints)) (omega arith) p.1 q.1 in
     ((omega (arith, ints, lon.0), omega (arith, ints, lon.1)), (omega (arith, ints, lat.0), omega (arith, ints, lat.1)))

@@ -1,38 +1,44 @@
 use Rattle.std.proofs.Common.{◌≡◌, ◌+◌, arith}
 use Rattle.std.proofs.lemmas.Int.{ints}
 use Rattle.olr_spec.specs.Bearings.{sector}
-use Rattle.olr_bearing.proofs.Turns.{in_sector, nowhere_sector, first_quarter_is, second_quarter_is, third_quarter_is, fourth_quarter_is}
+use Rattle.olr_bearing.proofs.Turns.{in_sector, nowhere_sector, first_quarter_is, second_quarter_is, third_quarter_is}
+use Rattle.olr_bearing.proofs.Turns.{fourth_quarter_is}
 use Rattle.olr_bearing.proofs.sectors.sector.Goals as goal
 
 pub returns-then-north-eq0 : goal.returns-then-north-eq0
 returns-then-north-eq0 c =
-    let is : 0 ≡ sector c.args.east c.args.north = nowhere_sector c.args.east c.args.north (omega (arith, ints)) (omega (arith, ints)) in
+    let is : 0 ≡ sector c.args.east c.args.north =
+    nowhere_sector c.args.east c.args.north (omega (arith, ints)) (omega (arith, ints)) in
     record { value = is; between = in_sector c.args.east c.args.north 0 is; below = omega arith }
 
 pub returns-then-north-gt0 : goal.returns-then-north-gt0
 returns-then-north-gt0 c =
     let q = c.quarter_sector in
     let is : q.result ≡ sector c.args.east c.args.north =
-    first_quarter_is c.args.east c.args.north _ _ q.result q.ensures.between (omega (arith, ints)) (omega (arith, ints)) (omega (arith, ints)) in
+    first_quarter_is c.args.east c.args.north _ _ q.result q.ensures.between (omega (arith, ints)) (omega (arith, ints))
+    (omega (arith, ints)) in
     record { value = is; between = in_sector c.args.east c.args.north _ is; below = omega (arith, q.ensures.below) }
 
 pub returns-then-east-gt0 : goal.returns-then-east-gt0
 returns-then-east-gt0 c =
     let q = c.quarter_sector-then-east-gt0 in
     let is : 8 + q.result ≡ sector c.args.east c.args.north =
-    second_quarter_is c.args.east c.args.north _ _ q.result q.ensures.between (omega (arith, ints)) (omega (arith, ints)) q.ensures.below (omega (arith, ints)) in
+    second_quarter_is c.args.east c.args.north _ _ q.result q.ensures.between (omega (arith, ints))
+    (omega (arith, ints)) q.ensures.below (omega (arith, ints)) in
     record { value = is; between = in_sector c.args.east c.args.north _ is; below = omega (arith, q.ensures.below) }
 
 pub returns-then-north-lt0 : goal.returns-then-north-lt0
 returns-then-north-lt0 c =
     let q = c.quarter_sector-then-north-lt0 in
     let is : 16 + q.result ≡ sector c.args.east c.args.north =
-    third_quarter_is c.args.east c.args.north _ _ q.result q.ensures.between (omega (arith, ints)) (omega (arith, ints)) q.ensures.below (omega (arith, ints)) in
+    third_quarter_is c.args.east c.args.north _ _ q.result q.ensures.between (omega (arith, ints)) (omega (arith, ints))
+    q.ensures.below (omega (arith, ints)) in
     record { value = is; between = in_sector c.args.east c.args.north _ is; below = omega (arith, q.ensures.below) }
 
 pub returns-else-north-lt0 : goal.returns-else-north-lt0
 returns-else-north-lt0 c =
     let q = c.quarter_sector-else-north-lt0 in
     let is : 24 + q.result ≡ sector c.args.east c.args.north =
-    fourth_quarter_is c.args.east c.args.north _ _ q.result q.ensures.between (omega (arith, ints)) (omega (arith, ints)) q.ensures.below (omega (arith, ints)) in
+    fourth_quarter_is c.args.east c.args.north _ _ q.result q.ensures.between (omega (arith, ints))
+    (omega (arith, ints)) q.ensures.below (omega (arith, ints)) in
     record { value = is; between = in_sector c.args.east c.args.north _ is; below = omega (arith, q.ensures.below) }

@@ -15,10 +15,12 @@ loop-point-init c =
     let lon_128 : FitsSigned w128 c.from-lon.result = record { sfits = c.from-lon.type_inv } in
     let lat_128 : FitsSigned w128 c.from-lat.result = record { sfits = c.from-lat.type_inv } in
     let lon : c.from-lon.result ≡ from_abs24 c.args.first.lon =
-    simp to_z-of_z at c.from-lon.ensures ∙ simp to_z-of_z at c.from_abs24.ensures ∙ ap (λ (p : First). from_abs24 p.lon) c.first.view_is
+    simp to_z-of_z at c.from-lon.ensures ∙ simp to_z-of_z at c.from_abs24.ensures
+    ∙ ap (λ (p : First). from_abs24 p.lon) c.first.view_is
     in
     let lat : c.from-lat.result ≡ from_abs24 c.args.first.lat =
-    simp to_z-of_z at c.from-lat.ensures ∙ simp to_z-of_z at c.from_abs24-2.ensures ∙ ap (λ (p : First). from_abs24 p.lat) c.first.view_is
+    simp to_z-of_z at c.from-lat.ensures ∙ simp to_z-of_z at c.from_abs24-2.ensures
+    ∙ ap (λ (p : First). from_abs24 p.lat) c.first.view_is
     in
     record {
       lon = to_z-of_z w128 c.from-lon.result lon_128 ∙ lon ∙ sym (add_none (from_abs24 c.args.first.lon));
@@ -38,15 +40,19 @@ loop-point-preserved c =
     let p : Middle = c.point-item.result in
     let lon_moved = simp to_z-of_z at c.moved-lon.ensures.value in
     let lat_moved = simp to_z-of_z at c.moved-lat.ensures.value in
-    let lon_more = place-more (from_abs24 c.args.first.lon) (λ m. m.dlon) ps i p c.loop-point-test.true c.point-item.is in
-    let lat_more = place-more (from_abs24 c.args.first.lat) (λ m. m.dlat) ps i p c.loop-point-test.true c.point-item.is in
+    let lon_more =
+    place-more (from_abs24 c.args.first.lon) (λ m. m.dlon) ps i p c.loop-point-test.true c.point-item.is in
+    let lat_more =
+    place-more (from_abs24 c.args.first.lat) (λ m. m.dlat) ps i p c.loop-point-test.true c.point-item.is in
     let lon_before = c.loop-point.invariant.lon in
     let lat_before = c.loop-point.invariant.lat in
     let lon_is : c.point.inside.dlon ≡ p.dlon = ap (λ (q : Middle). q.dlon) c.point.view_is in
     let lat_is : c.point.inside.dlat ≡ p.dlat = ap (λ (q : Middle). q.dlat) c.point.view_is in
     record {
-      lon = to_z-of_z w128 c.moved-lon.result lon_128 ∙ lon_moved ∙ (λ j. lon_before j +ℤ from_rel16 (lon_is j)) ∙ lon_more;
-      lat = to_z-of_z w128 c.moved-lat.result lat_128 ∙ lat_moved ∙ (λ j. lat_before j +ℤ from_rel16 (lat_is j)) ∙ lat_more;
+      lon = to_z-of_z w128 c.moved-lon.result lon_128 ∙ lon_moved ∙ (λ j. lon_before j +ℤ from_rel16 (lon_is j))
+          ∙ lon_more;
+      lat = to_z-of_z w128 c.moved-lat.result lat_128 ∙ lat_moved ∙ (λ j. lat_before j +ℤ from_rel16 (lat_is j))
+          ∙ lat_more;
       lon_bound = omega (arith, ints, c.moved-lon.ensures.bound);
       lat_bound = omega (arith, ints, c.moved-lat.ensures.bound);
     }

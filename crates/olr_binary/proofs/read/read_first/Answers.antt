@@ -8,5 +8,10 @@ returns-clause-spelled c =
     let lon_fits : FitsSigned w32 c.read_signed24.result = record { sfits = c.read_signed24.type_inv } in
     let lat_fits : FitsSigned w32 c.read_signed24-2.result = record { sfits = c.read_signed24-2.type_inv } in
     simp to_z-of_z
-    (first_bytes-parts record { lon = c.read_signed24.result; lat = c.read_signed24-2.result; attrs = c.read_attrs.result } c.args.bytes.now c.requires.nine
+    (first_bytes-parts record {
+      lon = c.read_signed24.result;
+      lat = c.read_signed24-2.result;
+      attrs =
+          c.read_attrs.result;
+    } c.args.bytes.now c.requires.nine
     c.read_signed24.ensures.spelled c.read_signed24-2.ensures.spelled c.read_attrs.ensures.spelled)

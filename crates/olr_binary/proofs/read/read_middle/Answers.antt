@@ -8,5 +8,10 @@ returns-clause-spelled c =
     let lon_fits : FitsSigned w16 c.read_signed16.result = record { sfits = c.read_signed16.type_inv } in
     let lat_fits : FitsSigned w16 c.read_signed16-2.result = record { sfits = c.read_signed16-2.type_inv } in
     simp to_z-of_z
-    (middle_bytes-parts record { dlon = c.read_signed16.result; dlat = c.read_signed16-2.result; attrs = c.read_attrs.result } c.args.bytes.now c.requires.seven
+    (middle_bytes-parts record {
+      dlon = c.read_signed16.result;
+      dlat = c.read_signed16-2.result;
+      attrs =
+          c.read_attrs.result;
+    } c.args.bytes.now c.requires.seven
     c.read_signed16.ensures.spelled c.read_signed16-2.ensures.spelled c.read_attrs.ensures.spelled)

@@ -15,4 +15,6 @@ overflow_add-value c =
     omega (arith, c.loop-byte.invariant.value)
 
 pub returns-clause-bound : goal.returns-clause-bound
-returns-clause-bound c = rw c.loop-byte.invariant.value (digits-lt c.args.digits.now c.loop-byte.byte-index c.loop-byte.invariant.digits (omega arith))
+returns-clause-bound c =
+    rw c.loop-byte.invariant.value
+    (digits-lt c.args.digits.now c.loop-byte.byte-index c.loop-byte.invariant.digits (omega arith))

@@ -9,6 +9,8 @@ returns c =
     let steps_fit : FitsSigned w64 c.relative_steps.result = record { sfits = c.relative_steps.type_inv } in
     let from_fits = c.ranges.from in
     let to_fits = c.ranges.to in
-    let difference : FitsSigned w64 (c.args.to -ℤ c.args.from) = difference_fits c.args.from c.args.to c.requires.from c.requires.to in
+    let difference : FitsSigned w64 (c.args.to -ℤ c.args.from) =
+    difference_fits c.args.from c.args.to c.requires.from c.requires.to in
     let steps : c.relative_steps.result ≡ relative c.args.from c.args.to = simp to_z-of_z at c.relative_steps.ensures in
-    c.ok.ensures.value ∙ in_16_bits _ _ (simp to_z-of_z at c.try_from.ensures) ∙ ap (λ (z : ℤ). if fits16 z then Some z else None) steps
+    c.ok.ensures.value ∙ in_16_bits _ _ (simp to_z-of_z at c.try_from.ensures)
+    ∙ ap (λ (z : ℤ). if fits16 z then Some z else None) steps
