@@ -1,5 +1,7 @@
 -- Slots in blocks: what a block with another slot makes of them, and how they stand in a list.
-use Rattle.std.proofs.Common.{◌≡◌, ◌==◌, ℕ, ◌+◌, ◌-◌, ◌*◌, ◌/◌, ◌%◌, ◌<◌, zero, suc, Bool, true, false, cond, List, [], ◌∷◌, ◌++◌, Option, Some, None, length, slice_index, nat_eq, refl, sym, ap, ◌∙◌, subst, inl, inr, arith, eqb-true}
+use Rattle.std.proofs.Common.{◌≡◌, ◌==◌, ℕ, ◌+◌, ◌-◌, ◌*◌, ◌/◌, ◌%◌, ◌<◌, zero, suc, Bool, true, false, cond, List, []}
+use Rattle.std.proofs.Common.{◌∷◌, ◌++◌, Option, Some, None, length, slice_index, nat_eq, refl, sym, ap, ◌∙◌, subst}
+use Rattle.std.proofs.Common.{inl, inr, arith, eqb-true}
 use Rattle.std.specs.List.{AllByRecursion, IsDistinct}
 use Rattle.std.specs.Map.{lookup, keys_of}
 use Rattle.std.specs.Cmp.Lexicographic.{pointwise, same_text, other_text}
@@ -28,18 +30,22 @@ same_place n k e =
 
 -- ---- another block at a number's key
 
-module _ (old new : List (ℕ × Block)) (n : ℕ) (o : Option Block) (w : Option ℕ) (now : (q : ℕ) → lookup (λ p. q == p) new ≡ cond (n / 4 == q) o (lookup (λ p. q == p) old))
+module _ (old new : List (ℕ × Block)) (n : ℕ) (o : Option Block) (w : Option ℕ)
+    (now : (q : ℕ) → lookup (λ p. q == p) new ≡ cond (n / 4 == q) o (lookup (λ p. q == p) old))
     (here : (i : ℕ) → slot_in o i ≡ cond (n % 4 == i) w (slot_in (lookup (λ p. n / 4 == p) old) i)) where
   pub block_changed : (k : ℕ) → found_in new k ≡ cond (n == k) w (found_in old k)
   block_changed k =
       ap (λ b. slot_in b (k % 4)) (now (k / 4))
-      ∙ elim (n / 4 == k / 4) as (λ t. (n / 4 == k / 4) ≡ t → slot_in (cond t o (lookup (λ p. k / 4 == p) old)) (k % 4) ≡ cond (n == k) w (found_in old k)) [
+      ∙ elim (n / 4 == k / 4) as (λ t. (n / 4 == k / 4) ≡ t →
+      slot_in (cond t o (lookup (λ p. k / 4 == p) old)) (k % 4) ≡ cond (n == k) w (found_in old k)) [
         | true ↦ λ e.
             let is : n / 4 ≡ k / 4 = eqb-true (n / 4) (k / 4) e in
-            here (k % 4) ∙ ap (λ (t : Bool). cond t w (slot_in (lookup (λ p. n / 4 == p) old) (k % 4))) (same_place n k is)
+            here (k % 4) ∙ ap (λ (t : Bool). cond t w (slot_in (lookup (λ p. n / 4 == p) old) (k % 4)))
+            (same_place n k is)
             ∙ ap (λ q. cond (n == k) w (slot_in (lookup (λ p. q == p) old) (k % 4))) is
         | false ↦ λ e.
-            let ne : (n == k) ≡ false = ne_eqb n k (λ is. let same = eq-eqb (n / 4) (k / 4) (ap (λ m. m / 4) is) in cc) in
+            let ne : (n == k) ≡ false =
+            ne_eqb n k (λ is. let same = eq-eqb (n / 4) (k / 4) (ap (λ m. m / 4) is) in cc) in
             ap (λ (t : Bool). cond t w (found_in old k)) (sym ne)
       ] refl
 
@@ -68,16 +74,23 @@ blank_zeros [] h = refl
 blank_zeros (x ∷ xs) h = let first = told_none x (h 0) in let rest = blank_zeros xs (λ i. h (suc i)) in cc
 
 -- what a comparison with four zeros tells
-pub blank_test : (b : Block) (t : Bool) → t ≡ pointwise nat_eq b.slots (zeros 4) → (t ≡ true → IsBlank b) × (IsBlank b → t ≡ true)
-blank_test b true e = (λ _ i. ap (λ xs. told (slice_index xs i)) (same_text b.slots (zeros 4) e) ∙ zeros_tell 4 i, λ _. refl)
-blank_test b false e = (λ h. absurd cc, λ blank. absurd (other_text b.slots (zeros 4) e (blank_zeros b.slots blank ∙ ap zeros b.four)))
+pub blank_test : (b : Block) (t : Bool) → t ≡ pointwise nat_eq b.slots (zeros 4) → (t ≡ true → IsBlank b)
+    × (IsBlank b → t ≡ true)
+blank_test b true e =
+    (λ _ i. ap (λ xs. told (slice_index xs i)) (same_text b.slots (zeros 4) e) ∙ zeros_tell 4 i, λ _. refl)
+blank_test b false e =
+    (λ h. absurd cc, λ blank. absurd (other_text b.slots (zeros 4) e (blank_zeros b.slots blank ∙ ap zeros b.four)))
 
-pub not_blank : (b : Block) (place slot : ℕ) (r : Option ℕ) → slot_at b place ≡ cond (place == place) (Some slot) r → IsBlank b → ⊥
+pub not_blank : (b : Block) (place slot : ℕ) (r : Option ℕ) → slot_at b place ≡ cond (place == place) (Some slot) r →
+    IsBlank b → ⊥
 not_blank b place slot r is blank =
-    let never : None ≡ Some slot = sym (blank place) ∙ is ∙ ap (λ (t : Bool). cond t (Some slot) r) (eq-eqb place place refl) in cc
+    let never : None ≡ Some slot =
+    sym (blank place) ∙ is ∙ ap (λ (t : Bool). cond t (Some slot) r) (eq-eqb place place refl) in cc
 
 -- another block at a key, which is not blank
-pub used_put : (old new : List (ℕ × Block)) (key : ℕ) (b : Block) → ((q : ℕ) → lookup (λ p. q == p) new ≡ cond (key == q) (Some b) (lookup (λ p. q == p) old)) → (IsBlank b → ⊥) → AreUsed old → AreUsed new
+pub used_put : (old new : List (ℕ × Block)) (key : ℕ) (b : Block) →
+    ((q : ℕ) → lookup (λ p. q == p) new ≡ cond (key == q) (Some b) (lookup (λ p. q == p) old)) → (IsBlank b → ⊥) →
+    AreUsed old → AreUsed new
 used_put old new key b now not u =
     record {
       used = λ q d is.
@@ -88,7 +101,8 @@ used_put old new key b now not u =
     }
 
 -- no block at a key
-pub used_gone : (old new : List (ℕ × Block)) (key : ℕ) → ((q : ℕ) → lookup (λ p. q == p) new ≡ cond (key == q) None (lookup (λ p. q == p) old)) → AreUsed old → AreUsed new
+pub used_gone : (old new : List (ℕ × Block)) (key : ℕ) →
+    ((q : ℕ) → lookup (λ p. q == p) new ≡ cond (key == q) None (lookup (λ p. q == p) old)) → AreUsed old → AreUsed new
 used_gone old new key now u =
     record {
       used = λ q d is.
@@ -100,18 +114,22 @@ used_gone old new key now u =
 
 -- ---- as a list
 
-lookup_both : {X : Type 0} (k : ℕ) (xs ys : List (ℕ × X)) (x : Option X) → lookup (λ q. k == q) xs ≡ x → (x ≡ None → lookup (λ q. k == q) ys ≡ None) → lookup (λ q. k == q) (xs ++ ys) ≡ x
+lookup_both : {X : Type 0} (k : ℕ) (xs ys : List (ℕ × X)) (x : Option X) → lookup (λ q. k == q) xs ≡ x →
+    (x ≡ None → lookup (λ q. k == q) ys ≡ None) → lookup (λ q. k == q) (xs ++ ys) ≡ x
 lookup_both k [] ys x h none = none (sym h) ∙ h
 lookup_both k (e ∷ xs) ys x h none =
-    elim (k == e.0) as (λ t. cond t (Some e.1) (lookup (λ q. k == q) xs) ≡ x → cond t (Some e.1) (lookup (λ q. k == q) (xs ++ ys)) ≡ x) [
+    elim (k == e.0) as (λ t. cond t (Some e.1) (lookup (λ q. k == q) xs) ≡ x →
+    cond t (Some e.1) (lookup (λ q. k == q) (xs ++ ys)) ≡ x) [
       | true ↦ λ g. g
       | false ↦ λ g. lookup_both k xs ys x g none
     ] h
 
-pub lookup_second : {X : Type 0} (k : ℕ) (xs ys : List (ℕ × X)) → lookup (λ q. k == q) xs ≡ None → lookup (λ q. k == q) (xs ++ ys) ≡ lookup (λ q. k == q) ys
+pub lookup_second : {X : Type 0} (k : ℕ) (xs ys : List (ℕ × X)) → lookup (λ q. k == q) xs ≡ None →
+    lookup (λ q. k == q) (xs ++ ys) ≡ lookup (λ q. k == q) ys
 lookup_second k [] ys h = refl
 lookup_second k (e ∷ xs) ys h =
-    elim (k == e.0) as (λ t. cond t (Some e.1) (lookup (λ q. k == q) xs) ≡ None → cond t (Some e.1) (lookup (λ q. k == q) (xs ++ ys)) ≡ lookup (λ q. k == q) ys) [
+    elim (k == e.0) as (λ t. cond t (Some e.1) (lookup (λ q. k == q) xs) ≡ None →
+    cond t (Some e.1) (lookup (λ q. k == q) (xs ++ ys)) ≡ lookup (λ q. k == q) ys) [
       | true ↦ λ g. absurd cc
       | false ↦ λ g. lookup_second k xs ys g
     ] h
@@ -120,15 +138,19 @@ lookup_second k (e ∷ xs) ys h =
 below : (n : ℕ) (xs : List ℕ) (k : ℕ) → k < n → lookup (λ q. k == q) (from n xs) ≡ None
 below n [] k lt = refl
 below n (zero ∷ xs) k lt = below (suc n) xs k (omega arith)
-below n (suc p ∷ xs) k lt = ap (λ (t : Bool). cond t (Some p) (lookup (λ q. k == q) (from (suc n) xs))) (ne_eqb k n (λ e. omega arith)) ∙ below (suc n) xs k (omega arith)
+below n (suc p ∷ xs) k lt =
+    ap (λ (t : Bool). cond t (Some p) (lookup (λ q. k == q) (from (suc n) xs))) (ne_eqb k n (λ e. omega arith))
+    ∙ below (suc n) xs k (omega arith)
 
 within : (n : ℕ) (xs : List ℕ) (i k : ℕ) → k ≡ n + i → lookup (λ q. k == q) (from n xs) ≡ told (slice_index xs i)
 within n [] i k e = refl
 within n (zero ∷ xs) zero k e = below (suc n) xs k (omega arith)
-within n (suc p ∷ xs) zero k e = ap (λ (t : Bool). cond t (Some p) (lookup (λ q. k == q) (from (suc n) xs))) (eq-eqb k n (omega arith))
+within n (suc p ∷ xs) zero k e =
+    ap (λ (t : Bool). cond t (Some p) (lookup (λ q. k == q) (from (suc n) xs))) (eq-eqb k n (omega arith))
 within n (zero ∷ xs) (suc i) k e = within (suc n) xs i k (omega arith)
 within n (suc p ∷ xs) (suc i) k e =
-    ap (λ (t : Bool). cond t (Some p) (lookup (λ q. k == q) (from (suc n) xs))) (ne_eqb k n (λ is. omega arith)) ∙ within (suc n) xs i k (omega arith)
+    ap (λ (t : Bool). cond t (Some p) (lookup (λ q. k == q) (from (suc n) xs))) (ne_eqb k n (λ is. omega arith))
+    ∙ within (suc n) xs i k (omega arith)
 
 -- a number of another block has no slot in this one
 outside : (b : ℕ × Block) (k : ℕ) → (k / 4 == b.0) ≡ false → lookup (λ q. k == q) (from (b.0 * 4) b.1.slots) ≡ None
@@ -140,24 +162,31 @@ outside b k ne =
       | inl is ↦ let e = eq-eqb (k / 4) b.0 is in absurd cc
       | inr o ↦ elim o [
         | inl low ↦ below (b.0 * 4) b.1.slots k (omega arith)
-        | inr high ↦ within (b.0 * 4) b.1.slots (k - b.0 * 4) k (omega arith) ∙ ap told (none_above b.1.slots (k - b.0 * 4) 0 (omega arith))
+        | inr high ↦ within (b.0 * 4) b.1.slots (k - b.0 * 4) k (omega arith)
+            ∙ ap told (none_above b.1.slots (k - b.0 * 4) 0 (omega arith))
       ]
     ]
 
-no_key : (bs : List (ℕ × Block)) (q : ℕ) → AllByRecursion (λ (y : ℕ). (q == y) ≡ false) (keys_of bs) → lookup (λ p. q == p) bs ≡ None
+no_key : (bs : List (ℕ × Block)) (q : ℕ) → AllByRecursion (λ (y : ℕ). (q == y) ≡ false) (keys_of bs) →
+    lookup (λ p. q == p) bs ≡ None
 no_key [] q h = refl
 no_key (b ∷ bs) q h = ap (λ (t : Bool). cond t (Some b.1) (lookup (λ p. q == p) bs)) h.0 ∙ no_key bs q h.1
 
-pub all_listed : (bs : List (ℕ × Block)) (k : ℕ) → IsDistinct ◌==◌ (keys_of bs) → lookup (λ q. k == q) (all_in bs) ≡ found_in bs k
+pub all_listed : (bs : List (ℕ × Block)) (k : ℕ) → IsDistinct ◌==◌ (keys_of bs) →
+    lookup (λ q. k == q) (all_in bs) ≡ found_in bs k
 all_listed [] k apart = refl
 all_listed (b ∷ bs) k apart =
     let later = all_listed bs k (IsDistinct-tail ◌==◌ b.0 (keys_of bs) apart) in
-    elim (k / 4 == b.0) as (λ t. (k / 4 == b.0) ≡ t → lookup (λ q. k == q) (from (b.0 * 4) b.1.slots ++ all_in bs) ≡ slot_in (cond t (Some b.1) (lookup (λ q. k / 4 == q) bs)) (k % 4)) [
+    elim (k / 4 == b.0) as (λ t. (k / 4 == b.0) ≡ t →
+    lookup (λ q. k == q) (from (b.0 * 4) b.1.slots ++ all_in bs)
+    ≡ slot_in (cond t (Some b.1) (lookup (λ q. k / 4 == q) bs)) (k % 4)) [
       | true ↦ λ e.
           let is : k / 4 ≡ b.0 = eqb-true (k / 4) b.0 e in
           let whole = div-add-mod' k 4 in
-          let none : lookup (λ q. k / 4 == q) bs ≡ None = ap (λ n. lookup (λ q. n == q) bs) is ∙ no_key bs b.0 (IsDistinct-head ◌==◌ b.0 (keys_of bs) apart) in
-          lookup_both k (from (b.0 * 4) b.1.slots) (all_in bs) (slot_at b.1 (k % 4)) (within (b.0 * 4) b.1.slots (k % 4) k (omega arith))
+          let none : lookup (λ q. k / 4 == q) bs ≡ None =
+          ap (λ n. lookup (λ q. n == q) bs) is ∙ no_key bs b.0 (IsDistinct-head ◌==◌ b.0 (keys_of bs) apart) in
+          lookup_both k (from (b.0 * 4) b.1.slots) (all_in bs) (slot_at b.1 (k % 4))
+          (within (b.0 * 4) b.1.slots (k % 4) k (omega arith))
           (λ _. later ∙ ap (λ o. slot_in o (k % 4)) none)
       | false ↦ λ e. lookup_second k (from (b.0 * 4) b.1.slots) (all_in bs) (outside b k e) ∙ later
     ] refl

@@ -1,5 +1,6 @@
 -- Tables of nothing, and tables with more room.
-use Rattle.std.proofs.Common.{◌≡◌, ◌==◌, ℕ, ◌≤◌, Bool, true, false, cond, [], Option, Some, None, is_some, unwrap_or, refl, sym, ap, ◌∙◌, subst, arith}
+use Rattle.std.proofs.Common.{◌≡◌, ◌==◌, ℕ, ◌≤◌, Bool, true, false, cond, [], Option, Some, None, is_some, unwrap_or}
+use Rattle.std.proofs.Common.{refl, sym, ap, ◌∙◌, subst, arith}
 use Rattle.std.specs.Option.{option_map}
 use Rattle.std.specs.FinMap.{FinMap}
 use Rattle.std.specs.Map.{lookup}
@@ -48,15 +49,23 @@ empty_map_sound M no_node no_line =
       never true e h = absurd cc
       never false e h = absurd cc
 
-pub kept_none : (b : ByNumber) (s : NodeSlots) (ls : Numbered Line) → entries_of b ≡ [] → node_slots s ≡ [] → things_of ls ≡ [] → IsKept b (node_slots s) (all_held ls)
+pub kept_none : (b : ByNumber) (s : NodeSlots) (ls : Numbered Line) → entries_of b ≡ [] → node_slots s ≡ [] →
+    things_of ls ≡ [] → IsKept b (node_slots s) (all_held ls)
 kept_none b s ls no_nodes no_slots no_lines =
     let none : (v : ℕ) → found b v ≡ None = λ v. sym (listed_found b v) ∙ ap (lookup (λ q. v == q)) no_nodes in
     let free : (p : ℕ) → at (node_slots s) p ≡ None = λ p. ap (λ es. at es p) no_slots in
     let indexed : IsIndexed b (node_slots s) =
-    record { stands = λ v p h. let x : ◌≡◌ {A = Option ℕ} None (Some p) = sym (none v) ∙ h in absurd (no_some p x); named = λ v p h. let x : ◌≡◌ {A = Option ℕ} None (Some v) = ap (option_map id_of) (sym (free p)) ∙ h in absurd (no_some v x) } in
+    record {
+      stands = λ v p h. let x : ◌≡◌ {A = Option ℕ} None (Some p) = sym (none v) ∙ h in absurd (no_some p x);
+      named = λ v p h. let x : ◌≡◌ {A = Option ℕ} None (Some v) =
+          ap (option_map id_of) (sym (free p)) ∙ h in absurd (no_some v x);
+    } in
     kept_from b (node_slots s) (all_held ls) indexed (few_nodes s)
-    (empty_map_sound (map_from b (node_slots s) (all_held ls)) (λ v. node_missing b (node_slots s) indexed (all_held ls) v (none v)) (λ x. ap (λ o. is_some o) (all_get (things_of ls) x ∙ ap (lookup (λ q. x == q)) no_lines)))
-    (λ side v l h. let x : ◌≡◌ {A = Option Links} None (Some l) = ap (λ o. option_map (links_at side) (in_slot (node_slots s) o)) (sym (none v)) ∙ h in absurd (no_some l x)) where
+    (empty_map_sound (map_from b (node_slots s) (all_held ls))
+    (λ v. node_missing b (node_slots s) indexed (all_held ls) v (none v))
+    (λ x. ap (λ o. is_some o) (all_get (things_of ls) x ∙ ap (lookup (λ q. x == q)) no_lines)))
+    (λ side v l h. let x : ◌≡◌ {A = Option Links} None (Some l) =
+    ap (λ o. option_map (links_at side) (in_slot (node_slots s) o)) (sym (none v)) ∙ h in absurd (no_some l x)) where
       no_some : {A : Type 0} (x : A) → ◌≡◌ {A = Option A} None (Some x) → ⊥
       no_some x h = cc
 
@@ -64,21 +73,30 @@ kept_none b s ls no_nodes no_slots no_lines =
 
 module _ (t : Tables) (b' : ByNumber) (same : (k : ℕ) → found b' k ≡ found t.index k) where
   index_indexed : IsIndexed b' (node_slots t.nodes)
-  index_indexed = record { stands = λ v p h. t.kept.indexed.stands v p (sym (same v) ∙ h); named = λ v p h. same v ∙ t.kept.indexed.named v p h }
+  index_indexed =
+      record {
+        stands = λ v p h. t.kept.indexed.stands v p (sym (same v) ∙ h);
+        named = λ v p h. same v
+            ∙ t.kept.indexed.named v p h;
+      }
 
   index_node : (v : ℕ) → node_in b' (node_slots t.nodes) v ≡ node_in t.index (node_slots t.nodes) v
   index_node v = ap (in_slot (node_slots t.nodes)) (same v)
 
   pub index_map : map_from b' (node_slots t.nodes) (all_held t.lines) ≡ tables_map t
   index_map = ap (λ (ns : FinMap nat_cmp Coord). record (tables_map t) { nodes = ns }) (same_answers _ _ (λ k.
-      got_node b' (node_slots t.nodes) index_indexed (all_held t.lines) k ∙ ap (option_map place_of) (index_node k) ∙ sym (got_node t.index (node_slots t.nodes) t.kept.indexed (all_held t.lines) k)))
+      got_node b' (node_slots t.nodes) index_indexed (all_held t.lines) k ∙ ap (option_map place_of) (index_node k)
+      ∙ sym (got_node t.index (node_slots t.nodes) t.kept.indexed (all_held t.lines) k)))
 
   pub index_kept : IsKept b' (node_slots t.nodes) (all_held t.lines)
   index_kept =
-      kept_from b' (node_slots t.nodes) (all_held t.lines) index_indexed (few_nodes t.nodes) (subst IsMap (sym index_map) t.kept.sound)
+      kept_from b' (node_slots t.nodes) (all_held t.lines) index_indexed (few_nodes t.nodes)
+      (subst IsMap (sym index_map) t.kept.sound)
       (λ side v l h.
-      replaced side (tables_map t) (map_from b' (node_slots t.nodes) (all_held t.lines)).nodes (place_in t.index) (place_in b') v l
-      (λ y there. ap (λ o. unwrap_or o 0) (sym (same (far side (line_at (tables_map t) y))))) (t.kept.listed side v l (ap (option_map (links_at side)) (sym (index_node v)) ∙ h)))
+      replaced side (tables_map t) (map_from b' (node_slots t.nodes) (all_held t.lines)).nodes (place_in t.index)
+      (place_in b') v l
+      (λ y there. ap (λ o. unwrap_or o 0) (sym (same (far side (line_at (tables_map t) y)))))
+      (t.kept.listed side v l (ap (option_map (links_at side)) (sym (index_node v)) ∙ h)))
 
 module _ (t : Tables) (ls' : Numbered Line) (same : (k : ℕ) → held ls' k ≡ held t.lines k) where
   pub same_lines : all_held ls' ≡ all_held t.lines
@@ -108,51 +126,70 @@ same_place : (side : Side) (e : NodeEntry) (l : Links) → (relinked side e l).p
 same_place Out e l = refl
 same_place In e l = refl
 
-grown_at : (s side : Side) (e : NodeEntry) (l : Links) → Grown (links_at side e) l → Grown (links_at s e) (links_at s (relinked side e l))
+grown_at : (s side : Side) (e : NodeEntry) (l : Links) → Grown (links_at side e) l →
+    Grown (links_at s e) (links_at s (relinked side e l))
 grown_at Out Out e l g = g
 grown_at Out In e l g = grown_same e.outs
 grown_at In Out e l g = grown_same e.ins
 grown_at In In e l g = g
 
-module _ (t : Tables) (nodes' : NodeSlots) (side : Side) (p v : ℕ) (e : NodeEntry) (l : Links) (u : Turns (node_slots t.nodes) (node_slots nodes') p e (relinked side e l))
+module _ (t : Tables) (nodes' : NodeSlots) (side : Side) (p v : ℕ) (e : NodeEntry) (l : Links)
+    (u : Turns (node_slots t.nodes) (node_slots nodes') p e (relinked side e l))
     (here : found t.index v ≡ Some p) (g : Grown (links_at side e) l) where
   abbrev f : NodeEntry
   f = relinked side e l
 
   grown_indexed : IsIndexed t.index (node_slots nodes')
-  grown_indexed = turned_indexed t.index (node_slots t.nodes) t.kept.indexed (node_slots nodes') p v e f u here (same_id side e l)
+  grown_indexed =
+      turned_indexed t.index (node_slots t.nodes) t.kept.indexed (node_slots nodes') p v e f u here (same_id side e l)
 
-  grown_node : (k : ℕ) → node_in t.index (node_slots nodes') k ≡ cond (v == k) (Some f) (node_in t.index (node_slots t.nodes) k)
-  grown_node = turned_node t.index (node_slots t.nodes) t.kept.indexed (node_slots nodes') p v e f u here (same_id side e l)
+  grown_node : (k : ℕ) → node_in t.index (node_slots nodes') k
+      ≡ cond (v == k) (Some f) (node_in t.index (node_slots t.nodes) k)
+  grown_node =
+      turned_node t.index (node_slots t.nodes) t.kept.indexed (node_slots nodes') p v e f u here (same_id side e l)
 
   was_here : node_in t.index (node_slots t.nodes) v ≡ Some e
   was_here = ap (in_slot (node_slots t.nodes)) here ∙ u.was
 
-  grown_places : (k : ℕ) → option_map place_of (node_in t.index (node_slots nodes') k) ≡ option_map place_of (node_in t.index (node_slots t.nodes) k)
+  grown_places : (k : ℕ) → option_map place_of (node_in t.index (node_slots nodes') k)
+      ≡ option_map place_of (node_in t.index (node_slots t.nodes) k)
   grown_places k =
       ap (option_map place_of) (grown_node k)
-      ∙ elim (v == k) as (λ c. (v == k) ≡ c → option_map place_of (cond c (Some f) (node_in t.index (node_slots t.nodes) k)) ≡ option_map place_of (node_in t.index (node_slots t.nodes) k)) [
-        | true ↦ λ i. ap (λ q. Some q) (same_place side e l) ∙ ap (option_map place_of) (sym was_here ∙ ap (node_in t.index (node_slots t.nodes)) (eqb-true v k i))
+      ∙ elim (v == k) as (λ c. (v == k) ≡ c →
+      option_map place_of (cond c (Some f) (node_in t.index (node_slots t.nodes) k))
+      ≡ option_map place_of (node_in t.index (node_slots t.nodes) k)) [
+        | true ↦ λ i. ap (λ q. Some q) (same_place side e l)
+            ∙ ap (option_map place_of) (sym was_here ∙ ap (node_in t.index (node_slots t.nodes)) (eqb-true v k i))
         | false ↦ λ i. refl
       ] refl
 
   pub grown_map : map_from t.index (node_slots nodes') (all_held t.lines) ≡ tables_map t
   grown_map = ap (λ (ns : FinMap nat_cmp Coord). record (tables_map t) { nodes = ns }) (same_answers _ _ (λ k.
-      got_node t.index (node_slots nodes') grown_indexed (all_held t.lines) k ∙ grown_places k ∙ sym (got_node t.index (node_slots t.nodes) t.kept.indexed (all_held t.lines) k)))
+      got_node t.index (node_slots nodes') grown_indexed (all_held t.lines) k ∙ grown_places k
+      ∙ sym (got_node t.index (node_slots t.nodes) t.kept.indexed (all_held t.lines) k)))
 
   -- each node's lines on each side are the same, with more room
-  grown_links : (s : Side) (k : ℕ) (h : Links) → links_in s t.index (node_slots nodes') k ≡ Some h → (m : Links) × (links_in s t.index (node_slots t.nodes) k ≡ Some m) × Grown m h
+  grown_links : (s : Side) (k : ℕ) (h : Links) → links_in s t.index (node_slots nodes') k ≡ Some h → (m : Links)
+      × (links_in s t.index (node_slots t.nodes) k ≡ Some m) × Grown m h
   grown_links s k h is =
-      elim (v == k) as (λ c. (v == k) ≡ c → option_map (links_at s) (cond c (Some f) (node_in t.index (node_slots t.nodes) k)) ≡ Some h → (m : Links) × (links_in s t.index (node_slots t.nodes) k ≡ Some m) × Grown m h) [
-        | true ↦ λ i j.
-            (links_at s e, ap (option_map (links_at s)) (ap (node_in t.index (node_slots t.nodes)) (sym (eqb-true v k i)) ∙ was_here), subst (λ (m : Links). Grown (links_at s e) m) (same_some _ _ j) (grown_at s side e l g))
+      elim (v == k) as (λ c. (v == k) ≡ c →
+      option_map (links_at s) (cond c (Some f) (node_in t.index (node_slots t.nodes) k)) ≡ Some h → (m : Links)
+      × (links_in s t.index (node_slots t.nodes) k ≡ Some m) × Grown m h) [
+        | true ↦ λ i j. (
+          links_at s e,
+          ap (option_map (links_at s))
+              (ap (node_in t.index (node_slots t.nodes)) (sym (eqb-true v k i)) ∙ was_here),
+          subst (λ (m : Links). Grown (links_at s e) m) (same_some _ _ j) (grown_at s side e l g),
+        )
         | false ↦ λ i j. (h, j, grown_same h)
       ] refl (ap (option_map (links_at s)) (sym (grown_node k)) ∙ is)
 
   pub grown_kept : IsKept t.index (node_slots nodes') (all_held t.lines)
   grown_kept =
-      kept_from t.index (node_slots nodes') (all_held t.lines) grown_indexed (few_nodes nodes') (subst IsMap (sym grown_map) t.kept.sound)
+      kept_from t.index (node_slots nodes') (all_held t.lines) grown_indexed (few_nodes nodes')
+      (subst IsMap (sym grown_map) t.kept.sound)
       (λ s k h is.
       let m = grown_links s k h is in
       let old = t.kept.listed s k m.0 m.1 in
-      subst (λ (K : Map). IsListed s K (place_in t.index) k h) (sym grown_map) (record { numbers = m.2.lines ∙ old.numbers; ends = m.2.ends ∙ old.ends }))
+      subst (λ (K : Map). IsListed s K (place_in t.index) k h) (sym grown_map)
+      (record { numbers = m.2.lines ∙ old.numbers; ends = m.2.ends ∙ old.ends }))

@@ -1,5 +1,6 @@
 -- Numbers and slots that name one another: what a node that comes, goes or changes makes of them.
-use Rattle.std.proofs.Common.{◌≡◌, ◌==◌, ℕ, Bool, true, false, cond, List, Option, Some, None, refl, sym, ap, ◌∙◌, is_some, eqb-true}
+use Rattle.std.proofs.Common.{◌≡◌, ◌==◌, ℕ, Bool, true, false, cond, List, Option, Some, None, refl, sym, ap, ◌∙◌}
+use Rattle.std.proofs.Common.{is_some, eqb-true}
 use Rattle.std.specs.Option.{option_map}
 use Rattle.std.proofs.lemmas.Bool.{eq-eqb, ne_eqb}
 use Rattle.olr_map.specs.ByNumbers.{found}
@@ -38,24 +39,28 @@ module _ (b : ByNumber) (es : Slots) (indexed : IsIndexed b es) where
 
   -- ---- another entry for a node
 
-  module _ (es' : Slots) (p v : ℕ) (e f : NodeEntry) (t : Turns es es' p e f) (here : found b v ≡ Some p) (same : f.id ≡ e.id) where
+  module _ (es' : Slots) (p v : ℕ) (e f : NodeEntry) (t : Turns es es' p e f) (here : found b v ≡ Some p)
+      (same : f.id ≡ e.id) where
     ids : (q : ℕ) → option_map id_of (at es' q) ≡ option_map id_of (at es q)
     ids q =
         ap (option_map id_of) (t.now q)
-        ∙ elim (p == q) as (λ c. (p == q) ≡ c → option_map id_of (cond c (Some f) (at es q)) ≡ option_map id_of (at es q)) [
+        ∙ elim (p == q) as (λ c. (p == q) ≡ c →
+        option_map id_of (cond c (Some f) (at es q)) ≡ option_map id_of (at es q)) [
           | true ↦ λ i. ap (λ n. Some n) same ∙ ap (option_map id_of) (sym t.was ∙ ap (at es) (eqb-true p q i))
           | false ↦ λ i. refl
         ] refl
 
     pub turned_indexed : IsIndexed b es'
-    turned_indexed = record { stands = λ w q h. ids q ∙ indexed.stands w q h; named = λ w q h. indexed.named w q (sym (ids q) ∙ h) }
+    turned_indexed =
+        record { stands = λ w q h. ids q ∙ indexed.stands w q h; named = λ w q h. indexed.named w q (sym (ids q) ∙ h) }
 
     pub turned_node : (k : ℕ) → node_in b es' k ≡ cond (v == k) (Some f) (node_in b es k)
     turned_node = turned_held b es nodes_stand es' p v e f t here
 
   -- ---- a node that comes
 
-  module _ (b' : ByNumber) (es' : Slots) (p v : ℕ) (e : NodeEntry) (c : Comes es es' p e) (id : e.id ≡ v) (absent : found b v ≡ None)
+  module _ (b' : ByNumber) (es' : Slots) (p v : ℕ) (e : NodeEntry) (c : Comes es es' p e) (id : e.id ≡ v)
+      (absent : found b v ≡ None)
       (put : (k : ℕ) → found b' k ≡ cond (v == k) (Some p) (found b k)) where
     pub came_node : (k : ℕ) → node_in b' es' k ≡ cond (v == k) (Some e) (node_in b es k)
     came_node = came_held b es nodes_stand b' es' p v e c put
@@ -64,19 +69,26 @@ module _ (b : ByNumber) (es : Slots) (indexed : IsIndexed b es) where
     came_indexed =
         record {
           stands = λ k q h.
-              elim (v == k) as (λ t. (v == k) ≡ t → cond t (Some p) (found b k) ≡ Some q → option_map id_of (at es' q) ≡ Some k) [
+              elim (v == k) as (λ t. (v == k) ≡ t → cond t (Some p) (found b k) ≡ Some q →
+              option_map id_of (at es' q) ≡ Some k) [
                 | true ↦ λ i g.
-                    ap (λ n. option_map id_of (at es' n)) (sym (same_some _ _ g)) ∙ ap (option_map id_of) (arrives b es nodes_stand b' es' p v e c put) ∙ ap (λ n. Some n) (id ∙ eqb-true v k i)
-                | false ↦ λ i g. ap (option_map id_of) (stays b es nodes_stand b' es' p v e c put k q g) ∙ indexed.stands k q g
+                    ap (λ n. option_map id_of (at es' n)) (sym (same_some _ _ g))
+                    ∙ ap (option_map id_of) (arrives b es nodes_stand b' es' p v e c put)
+                    ∙ ap (λ n. Some n) (id ∙ eqb-true v k i)
+                | false ↦ λ i g. ap (option_map id_of) (stays b es nodes_stand b' es' p v e c put k q g)
+                    ∙ indexed.stands k q g
               ] refl (sym (put k) ∙ h);
           named = λ k q h.
-              elim (p == q) as (λ t. (p == q) ≡ t → option_map id_of (cond t (Some e) (at es q)) ≡ Some k → found b' k ≡ Some q) [
+              elim (p == q) as (λ t. (p == q) ≡ t → option_map id_of (cond t (Some e) (at es q)) ≡ Some k →
+              found b' k ≡ Some q) [
                 | true ↦ λ i g.
                     let is : v ≡ k = sym id ∙ same_some _ _ g in
-                    put k ∙ ap (λ (t : Bool). cond t (Some p) (found b k)) (eq-eqb v k is) ∙ ap (λ n. Some n) (eqb-true p q i)
+                    put k ∙ ap (λ (t : Bool). cond t (Some p) (found b k)) (eq-eqb v k is)
+                    ∙ ap (λ n. Some n) (eqb-true p q i)
                 | false ↦ λ i g.
                     let old = indexed.named k q g in
-                    let ne : (v == k) ≡ false = ne_eqb v k (λ j. let never : None ≡ Some q = sym absent ∙ ap (found b) j ∙ old in cc) in
+                    let ne : (v == k) ≡ false =
+                    ne_eqb v k (λ j. let never : None ≡ Some q = sym absent ∙ ap (found b) j ∙ old in cc) in
                     put k ∙ ap (λ (t : Bool). cond t (Some p) (found b k)) ne ∙ old
               ] refl (ap (option_map id_of) (sym (c.now q)) ∙ h);
         }
@@ -92,16 +104,20 @@ module _ (b : ByNumber) (es : Slots) (indexed : IsIndexed b es) where
     gone_indexed =
         record {
           stands = λ k q h.
-              elim (v == k) as (λ t. (v == k) ≡ t → cond t None (found b k) ≡ Some q → option_map id_of (at es' q) ≡ Some k) [
+              elim (v == k) as (λ t. (v == k) ≡ t → cond t None (found b k) ≡ Some q →
+              option_map id_of (at es' q) ≡ Some k) [
                 | true ↦ λ i j. absurd cc
-                | false ↦ λ i j. ap (option_map id_of) (remains b es nodes_stand b' es' p v e g here taken k q i j) ∙ indexed.stands k q j
+                | false ↦ λ i j. ap (option_map id_of) (remains b es nodes_stand b' es' p v e g here taken k q i j)
+                    ∙ indexed.stands k q j
               ] refl (sym (taken k) ∙ h);
           named = λ k q h.
-              elim (p == q) as (λ t. (p == q) ≡ t → option_map id_of (cond t None (at es q)) ≡ Some k → found b' k ≡ Some q) [
+              elim (p == q) as (λ t. (p == q) ≡ t → option_map id_of (cond t None (at es q)) ≡ Some k →
+              found b' k ≡ Some q) [
                 | true ↦ λ i j. absurd cc
                 | false ↦ λ i j.
                     let old = indexed.named k q j in
-                    let ne : (v == k) ≡ false = ne_eqb v k (λ m. let is = eq-eqb p q (same_some _ _ (sym here ∙ ap (found b) m ∙ old)) in cc) in
+                    let ne : (v == k) ≡ false =
+                    ne_eqb v k (λ m. let is = eq-eqb p q (same_some _ _ (sym here ∙ ap (found b) m ∙ old)) in cc) in
                     taken k ∙ ap (λ (t : Bool). cond t None (found b k)) ne ∙ old
               ] refl (ap (option_map id_of) (sym (g.now q)) ∙ h);
         }

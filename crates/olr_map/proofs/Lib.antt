@@ -1,6 +1,5 @@
 pub mod Looks
 pub mod Lookups
-pub mod Rising
 pub mod Numbers
 pub mod Matching
 pub mod SlotLemmas

@@ -1,9 +1,11 @@
 -- Changes that can be made with some room can be made with more.
-use Rattle.std.proofs.Common.{◌≡◌, ◌==◌, ℕ, ◌+◌, ◌<◌, ◌≤◌, true, false, cond, List, [], ◌∷◌, ◌++◌, reverse, Ok, IsOk, sym, ap, ◌∙◌, subst, arith}
+use Rattle.std.proofs.Common.{◌≡◌, ◌==◌, ℕ, ◌+◌, ◌<◌, ◌≤◌, true, false, cond, List, [], ◌∷◌, ◌++◌, reverse, Ok, IsOk}
+use Rattle.std.proofs.Common.{sym, ap, ◌∙◌, subst, arith}
 use Rattle.std.proofs.lemmas.List.{reverse-append}
 use Rattle.olr_spec.specs.Map as map
 use Rattle.olr_spec.specs.Map.{Map, start, end, edited}
-use Rattle.olr_map.specs.Changes.{Room, IsRoomWithin, HasRoomFor, changed_at, room_after, change_edit, CanMake, map_after, node_puts, line_puts, all_node_puts, all_line_puts}
+use Rattle.olr_map.specs.Changes.{Room, IsRoomWithin, HasRoomFor, changed_at, room_after, change_edit, CanMake}
+use Rattle.olr_map.specs.Changes.{map_after, node_puts, line_puts, all_node_puts, all_line_puts}
 use Rattle.olr_map.specs.Undos.{CanMakeAll, made_all}
 use Rattle.olr_map.specs.declared.change.Change.{Change}
 use Rattle.olr_map.specs.declared.change.Change.TheVariants.{PutNode, MoveNode, TakeNode, PutLine, SetLine, TakeLine}
@@ -18,7 +20,8 @@ within_trans R S T a b =
       ins = λ v. let p = a.ins v in let q = b.ins v in omega arith;
     }
 
-changed_within : (f g : ℕ → ℕ) (k m n : ℕ) → ((v : ℕ) → f v ≤ g v) → m ≤ n → (v : ℕ) → changed_at k m f v ≤ changed_at k n g v
+changed_within : (f g : ℕ → ℕ) (k m n : ℕ) → ((v : ℕ) → f v ≤ g v) → m ≤ n → (v : ℕ) →
+    changed_at k m f v ≤ changed_at k n g v
 changed_within f g k m n h le v = elim (k == v) as (λ b. cond b m (f v) ≤ cond b n (g v)) [ true ↦ le | false ↦ h v ]
 
 room_fits : (R S : Room) (e : map.Edit) → IsRoomWithin R S → HasRoomFor R e → HasRoomFor S e
@@ -34,49 +37,87 @@ room_fits R S (map.Add_line x l) w h =
 room_fits R S (map.Set_line x frc fow len shape) w h = tt
 room_fits R S (map.Drop_line x) w h = tt
 
-after_within : (M : Map) (R S : Room) (c : Change) → IsRoomWithin R S → IsRoomWithin (room_after M R c) (room_after M S c)
+after_within : (M : Map) (R S : Room) (c : Change) → IsRoomWithin R S →
+    IsRoomWithin (room_after M R c) (room_after M S c)
 after_within M R S (PutNode v place o i) w =
     let n = w.nodes in
-    record { nodes = omega arith; outs = changed_within R.outs S.outs v _ _ w.outs (omega arith); ins = changed_within R.ins S.ins v _ _ w.ins (omega arith) }
+    record {
+      nodes = omega arith;
+      outs = changed_within R.outs S.outs v _ _ w.outs (omega arith);
+      ins =
+          changed_within R.ins S.ins v _ _ w.ins (omega arith);
+    }
 after_within M R S (MoveNode v c) w = w
 after_within M R S (TakeNode v) w =
     let n = w.nodes in
-    record { nodes = omega arith; outs = changed_within R.outs S.outs v _ _ w.outs (omega arith); ins = changed_within R.ins S.ins v _ _ w.ins (omega arith) }
+    record {
+      nodes = omega arith;
+      outs = changed_within R.outs S.outs v _ _ w.outs (omega arith);
+      ins =
+          changed_within R.ins S.ins v _ _ w.ins (omega arith);
+    }
 after_within M R S (PutLine x l) w =
     let p = w.outs l.from in
     let q = w.ins l.to in
-    record { nodes = w.nodes; outs = changed_within R.outs S.outs l.from _ _ w.outs (omega arith); ins = changed_within R.ins S.ins l.to _ _ w.ins (omega arith) }
+    record {
+      nodes = w.nodes;
+      outs = changed_within R.outs S.outs l.from _ _ w.outs (omega arith);
+      ins =
+          changed_within R.ins S.ins l.to _ _ w.ins (omega arith);
+    }
 after_within M R S (SetLine x l) w = w
 after_within M R S (TakeLine x) w =
     let p = w.outs (start M x) in
     let q = w.ins (end M x) in
-    record { nodes = w.nodes; outs = changed_within R.outs S.outs (start M x) _ _ w.outs (omega arith); ins = changed_within R.ins S.ins (end M x) _ _ w.ins (omega arith) }
+    record {
+      nodes = w.nodes;
+      outs = changed_within R.outs S.outs (start M x) _ _ w.outs (omega arith);
+      ins =
+          changed_within R.ins S.ins (end M x) _ _ w.ins (omega arith);
+    }
 
 pub can_with_more : (M : Map) (R S : Room) (c : Change) → IsRoomWithin R S → CanMake M R c → CanMake M S c
-can_with_more M R S c w can = record { accepted = can.accepted; placed = can.placed; fits = room_fits R S (change_edit c) w can.fits; whole = can.whole }
+can_with_more M R S c w can =
+    record {
+      accepted = can.accepted;
+      placed = can.placed;
+      fits = room_fits R S (change_edit c) w can.fits;
+      whole =
+          can.whole;
+    }
 
 pub all_with_more : (M : Map) (R S : Room) (cs : List Change) → IsRoomWithin R S → CanMakeAll M R cs → CanMakeAll M S cs
 all_with_more M R S [] w can = tt
-all_with_more M R S (c ∷ cs) w can = (can_with_more M R S c w can.0, all_with_more (map_after M c) (room_after M R c) (room_after M S c) cs (after_within M R S c w) can.1)
+all_with_more M R S (c ∷ cs) w can = (
+  can_with_more M R S c w can.0,
+  all_with_more (map_after M c) (room_after M R c) (room_after M S c) cs
+      (after_within M R S c w) can.1,
+)
 
 -- and on an equal map
-pub all_on : (M N : Map) (R S : Room) (cs : List Change) → N ≡ M → IsRoomWithin R S → CanMakeAll M R cs → CanMakeAll N S cs
+pub all_on : (M N : Map) (R S : Room) (cs : List Change) → N ≡ M → IsRoomWithin R S → CanMakeAll M R cs →
+    CanMakeAll N S cs
 all_on M N R S cs same w can = subst (λ (K : Map). CanMakeAll K S cs) (sym same) (all_with_more M R S cs w can)
 
 -- ---- an edit that was made
 
 -- the change for an edit makes it
-pub done_by : (M K N : Map) (e : map.Edit) (c : Change) → change_edit c ≡ e → K ≡ M → IsOk (edited M e) → N ≡ map_after K c → edited M e ≡ Ok N
+pub done_by : (M K N : Map) (e : map.Edit) (c : Change) → change_edit c ≡ e → K ≡ M → IsOk (edited M e) →
+    N ≡ map_after K c → edited M e ≡ Ok N
 done_by M K N e c same mid accepted is =
-    let here : IsOk (edited K (change_edit c)) = subst (λ (f : map.Edit). IsOk (edited K f)) (sym same) (subst (λ (L : Map). IsOk (edited L e)) (sym mid) accepted) in
-    ap (λ (f : map.Edit). edited M f) (sym same) ∙ ap (λ (L : Map). edited L (change_edit c)) (sym mid) ∙ made_ok K c here ∙ ap (λ (L : Map). Ok L) (sym is)
+    let here : IsOk (edited K (change_edit c)) =
+    subst (λ (f : map.Edit). IsOk (edited K f)) (sym same)
+    (subst (λ (L : Map). IsOk (edited L e)) (sym mid) accepted) in
+    ap (λ (f : map.Edit). edited M f) (sym same) ∙ ap (λ (L : Map). edited L (change_edit c)) (sym mid)
+    ∙ made_ok K c here ∙ ap (λ (L : Map). Ok L) (sym is)
 
 -- ---- one more edit in a log
 
 pub last_first : (xs : List Change) (c : Change) → reverse (xs ++ c ∷ []) ≡ c ∷ reverse xs
 last_first xs c = reverse-append xs (c ∷ [])
 
-pub one_more : (M N : Map) (R S : Room) (c : Change) (cs : List Change) → CanMakeAll M R cs → CanMake N S c → map_after N c ≡ M → IsRoomWithin R (room_after N S c) → CanMakeAll N S (c ∷ cs)
+pub one_more : (M N : Map) (R S : Room) (c : Change) (cs : List Change) → CanMakeAll M R cs → CanMake N S c →
+    map_after N c ≡ M → IsRoomWithin R (room_after N S c) → CanMakeAll N S (c ∷ cs)
 one_more M N R S c cs all can back within = (can, all_on M (map_after N c) R (room_after N S c) cs back within all)
 
 -- ---- the last edit of a log
@@ -85,19 +126,26 @@ pub last_of : (xs ys : List Change) (c : Change) → xs ≡ ys ++ c ∷ [] → r
 last_of xs ys c e = ap (λ (zs : List Change). reverse zs) e ∙ last_first ys c
 
 -- once it is taken back, the others can be
-pub rest_can : (M N : Map) (R S : Room) (c : Change) (cs ds : List Change) → ds ≡ c ∷ cs → CanMakeAll M R ds → N ≡ map_after M c → IsRoomWithin (room_after M R c) S → CanMakeAll N S cs
-rest_can M N R S c cs ds is all same within = all_on (map_after M c) N (room_after M R c) S cs same within (subst (λ (es : List Change). CanMakeAll M R es) is all).1
+pub rest_can : (M N : Map) (R S : Room) (c : Change) (cs ds : List Change) → ds ≡ c ∷ cs → CanMakeAll M R ds →
+    N ≡ map_after M c → IsRoomWithin (room_after M R c) S → CanMakeAll N S cs
+rest_can M N R S c cs ds is all same within =
+    all_on (map_after M c) N (room_after M R c) S cs same within
+    (subst (λ (es : List Change). CanMakeAll M R es) is all).1
 
-pub first_can : (M : Map) (R : Room) (c : Change) (cs ds : List Change) → ds ≡ c ∷ cs → CanMakeAll M R ds → CanMake M R c
+pub first_can : (M : Map) (R : Room) (c : Change) (cs ds : List Change) → ds ≡ c ∷ cs → CanMakeAll M R ds →
+    CanMake M R c
 first_can M R c cs ds is all = (subst (λ (es : List Change). CanMakeAll M R es) is all).0
 
-pub rest_made : (M N : Map) (c : Change) (cs ds : List Change) → ds ≡ c ∷ cs → N ≡ map_after M c → made_all N cs ≡ made_all M ds
+pub rest_made : (M N : Map) (c : Change) (cs ds : List Change) → ds ≡ c ∷ cs → N ≡ map_after M c →
+    made_all N cs ≡ made_all M ds
 rest_made M N c cs ds is same = ap (λ (K : Map). made_all K cs) same ∙ ap (made_all M) (sym is)
 
 -- ---- how many numbers the edits of a log may put back
 
-pub node_puts_last : (xs ys : List Change) (c : Change) → xs ≡ ys ++ c ∷ [] → all_node_puts (reverse xs) ≡ node_puts c + all_node_puts (reverse ys)
+pub node_puts_last : (xs ys : List Change) (c : Change) → xs ≡ ys ++ c ∷ [] →
+    all_node_puts (reverse xs) ≡ node_puts c + all_node_puts (reverse ys)
 node_puts_last xs ys c e = ap (λ zs. all_node_puts zs) (last_of xs ys c e)
 
-pub line_puts_last : (xs ys : List Change) (c : Change) → xs ≡ ys ++ c ∷ [] → all_line_puts (reverse xs) ≡ line_puts c + all_line_puts (reverse ys)
+pub line_puts_last : (xs ys : List Change) (c : Change) → xs ≡ ys ++ c ∷ [] →
+    all_line_puts (reverse xs) ≡ line_puts c + all_line_puts (reverse ys)
 line_puts_last xs ys c e = ap (λ zs. all_line_puts zs) (last_of xs ys c e)

@@ -1,5 +1,6 @@
 -- Values by number, in a list in which no number stands twice.
-use Rattle.std.proofs.Common.{◌≡◌, ◌==◌, ℕ, suc, ◌<◌, Bool, true, false, cond, List, [], ◌∷◌, ◌++◌, Option, Some, None, is_some, length, get_or, set, refl, sym, ap, ◌∙◌, subst, arith}
+use Rattle.std.proofs.Common.{◌≡◌, ◌==◌, ℕ, suc, ◌<◌, Bool, true, false, cond, List, [], ◌∷◌, ◌++◌, Option, Some, None}
+use Rattle.std.proofs.Common.{length, get_or, set, refl, sym, ap, ◌∙◌, subst, arith}
 use Rattle.std.specs.Option.{option_map}
 use Rattle.std.specs.List.{insert, remove, AllByRecursion, IsDistinct}
 use Rattle.std.specs.Map.{lookup, keys_of}
@@ -8,7 +9,8 @@ use Rattle.std.specs.Cmp.{nat_cmp_total, unsigned_tied}
 use Rattle.std.specs.FinMap as finmap
 use Rattle.std.specs.FinMap.{from_entries, get, get-from_entries}
 use Rattle.std.proofs.lemmas.Bool.{ne_eqb}
-use Rattle.olr_map.proofs.Looks.{eqb_flip, map_cond, looked, looked_at, differs_from, looked-insert, looked-remove, looked-set, distinct-insert, distinct-remove, keys-set}
+use Rattle.olr_map.proofs.Looks.{eqb_flip, map_cond, looked, looked_at, differs_from, looked-insert, looked-remove}
+use Rattle.olr_map.proofs.Looks.{looked-set, distinct-insert, distinct-remove, keys-set}
 
 module _ {V : Type 0} where
   abbrev key : ℕ × V → ℕ
@@ -37,24 +39,30 @@ module _ {V : Type 0} where
   insert_end [] e = refl
   insert_end (f ∷ es) e = ap (λ xs. f ∷ xs) (insert_end es e)
 
-  absent_key : (es : List (ℕ × V)) (k : ℕ) → lookup (λ q. k == q) es ≡ None → AllByRecursion (λ (y : ℕ). (k == y) ≡ false) (keys_of es)
+  absent_key : (es : List (ℕ × V)) (k : ℕ) → lookup (λ q. k == q) es ≡ None →
+      AllByRecursion (λ (y : ℕ). (k == y) ≡ false) (keys_of es)
   absent_key es k h = differs_from key k es (unmapped (looked key es k) (sym (lookup_looked es k) ∙ h))
 
-  pub lookup_push : (es : List (ℕ × V)) (k : ℕ) (v : V) (q : ℕ) → lookup (λ p. k == p) es ≡ None → lookup (λ p. q == p) (es ++ (k, v) ∷ []) ≡ cond (k == q) (Some v) (lookup (λ p. q == p) es)
+  pub lookup_push : (es : List (ℕ × V)) (k : ℕ) (v : V) (q : ℕ) → lookup (λ p. k == p) es ≡ None →
+      lookup (λ p. q == p) (es ++ (k, v) ∷ []) ≡ cond (k == q) (Some v) (lookup (λ p. q == p) es)
   lookup_push es k v q h =
       ap (lookup (λ p. q == p)) (sym (insert_end es (k, v))) ∙ lookup_looked (insert es (length es) (k, v)) q
       ∙ ap (option_map value) (looked-insert key es (length es) (k, v) q (omega arith) (absent_key es k h))
       ∙ map_cond value (k == q) (k, v) (looked key es q)
       ∙ ap (cond (k == q) (Some v)) (sym (lookup_looked es q))
 
-  pub apart_push : (es : List (ℕ × V)) (k : ℕ) (v : V) → lookup (λ p. k == p) es ≡ None → IsDistinct ◌==◌ (keys_of es) → IsDistinct ◌==◌ (keys_of (es ++ (k, v) ∷ []))
+  pub apart_push : (es : List (ℕ × V)) (k : ℕ) (v : V) → lookup (λ p. k == p) es ≡ None → IsDistinct ◌==◌ (keys_of es) →
+      IsDistinct ◌==◌ (keys_of (es ++ (k, v) ∷ []))
   apart_push es k v h apart =
-      subst (λ (xs : List (ℕ × V)). IsDistinct ◌==◌ (keys_of xs)) (insert_end es (k, v)) (distinct-insert key es (length es) (k, v) apart (absent_key es k h))
+      subst (λ (xs : List (ℕ × V)). IsDistinct ◌==◌ (keys_of xs)) (insert_end es (k, v))
+      (distinct-insert key es (length es) (k, v) apart (absent_key es k h))
 
-  pub lookup_at : (es : List (ℕ × V)) (k i : ℕ) (d : ℕ × V) → IsDistinct ◌==◌ (keys_of es) → i < length es → (get_or es i d).0 ≡ k → lookup (λ p. k == p) es ≡ Some (get_or es i d).1
+  pub lookup_at : (es : List (ℕ × V)) (k i : ℕ) (d : ℕ × V) → IsDistinct ◌==◌ (keys_of es) → i < length es →
+      (get_or es i d).0 ≡ k → lookup (λ p. k == p) es ≡ Some (get_or es i d).1
   lookup_at es k i d apart lt e = lookup_looked es k ∙ ap (option_map value) (looked_at key es k i d apart lt e)
 
-  pub lookup_set : (es : List (ℕ × V)) (k i : ℕ) (v : V) (d : ℕ × V) (q : ℕ) → IsDistinct ◌==◌ (keys_of es) → i < length es → (get_or es i d).0 ≡ k
+  pub lookup_set : (es : List (ℕ × V)) (k i : ℕ) (v : V) (d : ℕ × V) (q : ℕ) → IsDistinct ◌==◌ (keys_of es) →
+      i < length es → (get_or es i d).0 ≡ k
       → lookup (λ p. q == p) (set es i (k, v)) ≡ cond (k == q) (Some v) (lookup (λ p. q == p) es)
   lookup_set es k i v d q apart lt e =
       lookup_looked (set es i (k, v)) q
@@ -62,10 +70,12 @@ module _ {V : Type 0} where
       ∙ map_cond value (k == q) (k, v) (looked key es q)
       ∙ ap (cond (k == q) (Some v)) (sym (lookup_looked es q))
 
-  pub apart_set : (es : List (ℕ × V)) (k i : ℕ) (v : V) (d : ℕ × V) → IsDistinct ◌==◌ (keys_of es) → i < length es → (get_or es i d).0 ≡ k → IsDistinct ◌==◌ (keys_of (set es i (k, v)))
+  pub apart_set : (es : List (ℕ × V)) (k i : ℕ) (v : V) (d : ℕ × V) → IsDistinct ◌==◌ (keys_of es) → i < length es →
+      (get_or es i d).0 ≡ k → IsDistinct ◌==◌ (keys_of (set es i (k, v)))
   apart_set es k i v d apart lt e = subst (IsDistinct ◌==◌) (sym (keys-set key es i (k, v) d lt (sym e))) apart
 
-  pub lookup_remove : (es : List (ℕ × V)) (k i : ℕ) (d : ℕ × V) (q : ℕ) → IsDistinct ◌==◌ (keys_of es) → i < length es → (get_or es i d).0 ≡ k
+  pub lookup_remove : (es : List (ℕ × V)) (k i : ℕ) (d : ℕ × V) (q : ℕ) → IsDistinct ◌==◌ (keys_of es) → i < length es →
+      (get_or es i d).0 ≡ k
       → lookup (λ p. q == p) (remove es i) ≡ cond (k == q) None (lookup (λ p. q == p) es)
   lookup_remove es k i d q apart lt e =
       lookup_looked (remove es i) q
@@ -74,10 +84,12 @@ module _ {V : Type 0} where
       ∙ ap (λ (n : ℕ). cond (n == q) None (option_map value (looked key es q))) e
       ∙ ap (cond (k == q) None) (sym (lookup_looked es q))
 
-  pub apart_remove : (es : List (ℕ × V)) (i : ℕ) (d : ℕ × V) → i < length es → IsDistinct ◌==◌ (keys_of es) → IsDistinct ◌==◌ (keys_of (remove es i))
+  pub apart_remove : (es : List (ℕ × V)) (i : ℕ) (d : ℕ × V) → i < length es → IsDistinct ◌==◌ (keys_of es) →
+      IsDistinct ◌==◌ (keys_of (remove es i))
   apart_remove es i d lt apart = distinct-remove key es i d lt apart
 
-  pub lookup_absent : (es : List (ℕ × V)) (k : ℕ) → ((i : ℕ) → i < length es → get_or (keys_of es) i 0 ≡ k → ⊥) → lookup (λ p. k == p) es ≡ None
+  pub lookup_absent : (es : List (ℕ × V)) (k : ℕ) → ((i : ℕ) → i < length es → get_or (keys_of es) i 0 ≡ k → ⊥) →
+      lookup (λ p. k == p) es ≡ None
   lookup_absent [] k h = refl
   lookup_absent (e ∷ es) k h =
       ap (λ (b : Bool). cond b (Some e.1) (lookup (λ p. k == p) es)) (eqb_flip k e.0 ∙ not_first)
@@ -91,13 +103,11 @@ module _ {V : Type 0} where
   all_get es k = get-from_entries nat_cmp_total es k ∙ same es where
     same : (es : List (ℕ × V)) → finmap.find nat_cmp k es ≡ lookup (λ q. k == q) es
     same [] = refl
-    same (e ∷ es) = ap (λ (b : Bool). cond b (Some e.1) (finmap.find nat_cmp k es)) (unsigned_tied k e.0) ∙ ap (cond (k == e.0) (Some e.1)) (same es)
+    same (e ∷ es) =
+        ap (λ (b : Bool). cond b (Some e.1) (finmap.find nat_cmp k es)) (unsigned_tied k e.0)
+        ∙ ap (cond (k == e.0) (Some e.1)) (same es)
 
   pub apart_none : (es : List (ℕ × V)) → es ≡ [] → IsDistinct ◌==◌ (keys_of es)
   unfolding IsDistinct
   apart_none [] e = tt
   apart_none (x ∷ es) e = absurd cc
-
--- a value that is there is not missing
-pub there_not : {A : Type 0} (o : Option A) → is_some o ≡ true → o ≡ None → ⊥
-there_not o h e = let f : is_some o ≡ false = ap (λ p. is_some p) e in cc

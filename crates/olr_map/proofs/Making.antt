@@ -1,8 +1,9 @@
 -- An accepted change gives a map, and another takes it back.
-use Rattle.std.proofs.Common.{◌≡◌, ◌==◌, ℕ, ◌≤◌, Bool, true, false, cond, Result, Ok, Err, IsOk, refl, sym, ap, ◌∙◌, subst, arith}
+use Rattle.std.proofs.Common.{◌≡◌, ◌==◌, ℕ, ◌≤◌, Bool, true, false, cond, Result, Ok, Err, IsOk, refl, ap, ◌∙◌, arith}
 use Rattle.std.specs.Result.{result_unwrap_or}
 use Rattle.std.proofs.lemmas.Bool.{eqb-true, eq-eqb}
 use Rattle.olr_spec.specs.Map.{Map, edited}
+use Rattle.olr_spec.proofs.OptionLemmas.{is_ok_of}
 use Rattle.olr_map.specs.Changes.{change_edit, changed_at, map_after}
 use Rattle.olr_map.specs.declared.change.Change.{Change}
 
@@ -14,9 +15,6 @@ ok_is (Err f) d h = absurd cc
 pub made_ok : (M : Map) (c : Change) → IsOk (edited M (change_edit c)) → edited M (change_edit c) ≡ Ok (map_after M c)
 made_ok M c h = ok_is (edited M (change_edit c)) M h
 
-is_ok_from : {A F : Type 0} (r : Result A F) (x : A) → r ≡ Ok x → IsOk r
-is_ok_from {A} {F} r x e = subst (λ (s : Result A F). IsOk s) (sym e) refl
-
 -- and so it does on an equal map
 pub record Accepted (M N K : Map) (c : Change) : Type 0 where
   pub accepted : IsOk (edited K (change_edit c))
@@ -25,7 +23,7 @@ pub record Accepted (M N K : Map) (c : Change) : Type 0 where
 pub accepted_from : (M N K : Map) (c : Change) → K ≡ N → edited N (change_edit c) ≡ Ok M → Accepted M N K c
 accepted_from M N K c same ok =
     let here : edited K (change_edit c) ≡ Ok M = ap (λ (m : Map). edited m (change_edit c)) same ∙ ok in
-    record { accepted = is_ok_from (edited K (change_edit c)) M here; before = ap (λ r. result_unwrap_or r K) here }
+    record { accepted = is_ok_of (edited K (change_edit c)) M here; before = ap (λ r. result_unwrap_or r K) here }
 
 -- ---- functions that differ at one number
 
@@ -33,7 +31,8 @@ pub le_same : (a b : ℕ) → a ≡ b → a ≤ b
 le_same a b e = omega arith
 
 -- a value that was changed, and changed back to no less
-pub changed_back : (f h : ℕ → ℕ) (k n m : ℕ) → ((v : ℕ) → h v ≡ changed_at k n f v) → f k ≤ m → (v : ℕ) → f v ≤ changed_at k m h v
+pub changed_back : (f h : ℕ → ℕ) (k n m : ℕ) → ((v : ℕ) → h v ≡ changed_at k n f v) → f k ≤ m → (v : ℕ) →
+    f v ≤ changed_at k m h v
 changed_back f h k n m is le v =
     elim (k == v) as (λ b. (k == v) ≡ b → h v ≡ cond b n (f v) → f v ≤ cond b m (h v)) [
       | true ↦ λ p e. let same : f k ≡ f v = ap f (eqb-true k v p) in omega arith

@@ -1,10 +1,13 @@
 -- Two rising lists are put together, from the front.
-use Rattle.std.proofs.Common.{◌≡◌, ◌↔◌, ℕ, ◌+◌, ◌-◌, ◌<◌, ◌≤◌, ◌⊎◌, List, [], ◌∷◌, ◌++◌, Contains, length, get_or, drop, sym, ap, ◌∙◌, inl, inr, arith, ⊎_elim, zero, suc}
+use Rattle.std.proofs.Common.{◌≡◌, ◌↔◌, ℕ, ◌+◌, ◌-◌, ◌<◌, ◌≤◌, ◌⊎◌, List, [], ◌∷◌, ◌++◌, Contains, length, get_or, drop}
+use Rattle.std.proofs.Common.{sym, ap, ◌∙◌, inl, inr, arith, ⊎_elim, zero, suc}
 use Rattle.std.specs.List.Sorted.{IsStrictlyIncreasing}
 use Rattle.std.proofs.Math.ListN.{get_or-append}
 use Rattle.std.proofs.lemmas.Bool.{cases_lt}
-use Rattle.std.proofs.lemmas.List.{append-nil, append_assoc, drop_all, drop_more, get_or_default, get_or_push, length_push}
+use Rattle.std.proofs.lemmas.List.{append-nil, append_assoc, drop_all, drop_more, get_or_default, get_or_push}
+use Rattle.std.proofs.lemmas.List.{length_push}
 use Rattle.std.proofs.lemmas.List.Elements.{Contains-append_left, Contains-get_or, Contains-push, Contains-push_cases}
+use Rattle.olr_spec.proofs.RisingLists.{rises_push}
 
 -- the first i numbers of the one list and the first j of the other are put together, and the next ones are above
 pub record Merging (left right : List ℕ) (i j : ℕ) (both : List ℕ) : Type 0 where
@@ -15,21 +18,8 @@ pub record Merging (left right : List ℕ) (i j : ℕ) (both : List ℕ) : Type 
   pub has_left : (k : ℕ) → k < i → Contains both (get_or left k 0)
   pub has_right : (k : ℕ) → k < j → Contains both (get_or right k 0)
 
--- a number above all of them goes to the end
-rises_push : (xs : List ℕ) (x : ℕ) → IsStrictlyIncreasing xs → ((k : ℕ) → k < length xs → get_or xs k 0 < x) → IsStrictlyIncreasing (xs ++ x ∷ [])
-rises_push xs x up below k lt =
-    let long : length (xs ++ x ∷ []) ≡ length xs + 1 = length_push xs x in
-    let here : get_or (xs ++ x ∷ []) k 0 ≡ get_or xs k 0 = get_or-append xs (x ∷ []) 0 k (omega arith) in
-    ⊎_elim
-    (λ (low : k + 1 < length xs).
-    let next : get_or (xs ++ x ∷ []) (k + 1) 0 ≡ get_or xs (k + 1) 0 = get_or-append xs (x ∷ []) 0 (k + 1) low in
-    let step = up k low in omega arith)
-    (λ (last : length xs ≤ k + 1).
-    let next : get_or (xs ++ x ∷ []) (k + 1) 0 ≡ x = get_or_push xs x 0 (k + 1) (omega arith) in
-    let step = below k (omega arith) in omega arith)
-    (cases_lt (k + 1) (length xs))
-
-pushed_below : (xs : List ℕ) (x y : ℕ) → ((k : ℕ) → k < length xs → get_or xs k 0 < x) → x < y → (k : ℕ) → k < length (xs ++ x ∷ []) → get_or (xs ++ x ∷ []) k 0 < y
+pushed_below : (xs : List ℕ) (x y : ℕ) → ((k : ℕ) → k < length xs → get_or xs k 0 < x) → x < y → (k : ℕ) →
+    k < length (xs ++ x ∷ []) → get_or (xs ++ x ∷ []) k 0 < y
 pushed_below xs x y below lt k in' =
     let long : length (xs ++ x ∷ []) ≡ length xs + 1 = length_push xs x in
     ⊎_elim
@@ -44,43 +34,62 @@ pushed_below xs x y below lt k in' =
 module _ (left right both : List ℕ) (i j i' j' x : ℕ) (m : Merging left right i j both) where
   pub merging_push : ((k : ℕ) → k < length both → get_or both k 0 < x) → Contains left x ⊎ Contains right x
       → (i' < length left → x < get_or left i' 0) → (j' < length right → x < get_or right j' 0)
-      → ((k : ℕ) → k < i' → (k < i) ⊎ (get_or left k 0 ≡ x)) → ((k : ℕ) → k < j' → (k < j) ⊎ (get_or right k 0 ≡ x)) → Merging left right i' j' (both ++ x ∷ [])
+      → ((k : ℕ) → k < i' → (k < i) ⊎ (get_or left k 0 ≡ x)) → ((k : ℕ) → k < j' → (k < j) ⊎ (get_or right k 0 ≡ x)) →
+      Merging left right i' j' (both ++ x ∷ [])
   merging_push below from next_left next_right more_left more_right = record {
     rising = rises_push both x m.rising below;
     below_left = λ k lt h. pushed_below both x (get_or left i' 0) below (next_left h) k lt;
     below_right = λ k lt h. pushed_below both x (get_or right j' 0) below (next_right h) k lt;
-    holds = λ n c. ⊎_elim (λ (old : Contains both n). m.holds n old) (λ (new : x ≡ n). rw (← new) from) (Contains-push_cases both x n c);
-    has_left = λ k lt. ⊎_elim (λ (old : k < i). Contains-append_left both (x ∷ []) _ (m.has_left k old)) (λ (new : get_or left k 0 ≡ x). rw new (Contains-push both x)) (more_left k lt);
-    has_right = λ k lt. ⊎_elim (λ (old : k < j). Contains-append_left both (x ∷ []) _ (m.has_right k old)) (λ (new : get_or right k 0 ≡ x). rw new (Contains-push both x)) (more_right k lt);
+    holds =
+        λ n c. ⊎_elim (λ (old : Contains both n). m.holds n old) (λ (new : x ≡ n). rw (← new) from)
+        (Contains-push_cases both x n c);
+    has_left =
+        λ k lt. ⊎_elim (λ (old : k < i). Contains-append_left both (x ∷ []) _ (m.has_left k old))
+        (λ (new : get_or left k 0 ≡ x). rw new (Contains-push both x)) (more_left k lt);
+    has_right =
+        λ k lt. ⊎_elim (λ (old : k < j). Contains-append_left both (x ∷ []) _ (m.has_right k old))
+        (λ (new : get_or right k 0 ≡ x). rw new (Contains-push both x)) (more_right k lt);
   }
 
 upto : (i k : ℕ) → k < i + 1 → (k < i) ⊎ (k ≡ i)
 upto i k lt = ⊎_elim (λ (low : k < i). inl low) (λ (at : i ≤ k). inr (omega arith)) (cases_lt k i)
 
-module _ (left right both : List ℕ) (i j : ℕ) (up_left : IsStrictlyIncreasing left) (up_right : IsStrictlyIncreasing right) (m : Merging left right i j both) where
+module _ (left right both : List ℕ) (i j : ℕ) (up_left : IsStrictlyIncreasing left)
+    (up_right : IsStrictlyIncreasing right) (m : Merging left right i j both) where
   -- the next number of the left list alone
-  pub merging_left : i < length left → (j < length right → get_or left i 0 < get_or right j 0) → Merging left right (i + 1) j (both ++ get_or left i 0 ∷ [])
+  pub merging_left : i < length left → (j < length right → get_or left i 0 < get_or right j 0) →
+      Merging left right (i + 1) j (both ++ get_or left i 0 ∷ [])
   merging_left in' lt =
-      merging_push left right both i j (i + 1) j (get_or left i 0) m (λ k h. m.below_left k h in') (inl (Contains-get_or left i 0 in'))
+      merging_push left right both i j (i + 1) j (get_or left i 0) m (λ k h. m.below_left k h in')
+      (inl (Contains-get_or left i 0 in'))
       (λ h. up_left i h) lt
-      (λ k h. ⊎_elim (λ (low : k < i). inl low) (λ (at : k ≡ i). inr (ap (λ n. get_or left n 0) at)) (upto i k h)) (λ k h. inl h)
+      (λ k h. ⊎_elim (λ (low : k < i). inl low) (λ (at : k ≡ i). inr (ap (λ n. get_or left n 0) at)) (upto i k h))
+      (λ k h. inl h)
 
-  pub merging_right : j < length right → (i < length left → get_or right j 0 < get_or left i 0) → Merging left right i (j + 1) (both ++ get_or right j 0 ∷ [])
+  pub merging_right : j < length right → (i < length left → get_or right j 0 < get_or left i 0) →
+      Merging left right i (j + 1) (both ++ get_or right j 0 ∷ [])
   merging_right in' lt =
-      merging_push left right both i j i (j + 1) (get_or right j 0) m (λ k h. m.below_right k h in') (inr (Contains-get_or right j 0 in'))
+      merging_push left right both i j i (j + 1) (get_or right j 0) m (λ k h. m.below_right k h in')
+      (inr (Contains-get_or right j 0 in'))
       lt (λ h. up_right j h)
-      (λ k h. inl h) (λ k h. ⊎_elim (λ (low : k < j). inl low) (λ (at : k ≡ j). inr (ap (λ n. get_or right n 0) at)) (upto j k h))
+      (λ k h. inl h) (λ k h. ⊎_elim (λ (low : k < j). inl low) (λ (at : k ≡ j). inr (ap (λ n. get_or right n 0) at))
+      (upto j k h))
 
   -- a number that is next in both
-  pub merging_both : i < length left → j < length right → get_or left i 0 ≡ get_or right j 0 → Merging left right (i + 1) (j + 1) (both ++ get_or left i 0 ∷ [])
+  pub merging_both : i < length left → j < length right → get_or left i 0 ≡ get_or right j 0 →
+      Merging left right (i + 1) (j + 1) (both ++ get_or left i 0 ∷ [])
   merging_both in' in'' e =
-      merging_push left right both i j (i + 1) (j + 1) (get_or left i 0) m (λ k h. m.below_left k h in') (inl (Contains-get_or left i 0 in'))
+      merging_push left right both i j (i + 1) (j + 1) (get_or left i 0) m (λ k h. m.below_left k h in')
+      (inl (Contains-get_or left i 0 in'))
       (λ h. up_left i h) (λ h. rw e (up_right j h))
       (λ k h. ⊎_elim (λ (low : k < i). inl low) (λ (at : k ≡ i). inr (ap (λ n. get_or left n 0) at)) (upto i k h))
-      (λ k h. ⊎_elim (λ (low : k < j). inl low) (λ (at : k ≡ j). inr (ap (λ n. get_or right n 0) at ∙ sym e)) (upto j k h))
+      (λ k h. ⊎_elim (λ (low : k < j). inl low) (λ (at : k ≡ j). inr (ap (λ n. get_or right n 0) at ∙ sym e))
+      (upto j k h))
 
 -- what is left of the one list, where nothing is left of the other: n more numbers
-left_end : (left right both : List ℕ) (n i j : ℕ) → IsStrictlyIncreasing left → IsStrictlyIncreasing right → i + n ≡ length left → length right ≤ j → Merging left right i j both → Merging left right (length left) j (both ++ drop i left)
+left_end : (left right both : List ℕ) (n i j : ℕ) → IsStrictlyIncreasing left → IsStrictlyIncreasing right →
+    i + n ≡ length left → length right ≤ j → Merging left right i j both →
+    Merging left right (length left) j (both ++ drop i left)
 left_end left right both zero i j up_left up_right e past m =
     let none : drop i left ≡ [] = drop_all i left (omega arith) in
     let at : i ≡ length left = omega arith in
@@ -88,10 +97,13 @@ left_end left right both zero i j up_left up_right e past m =
 left_end left right both (suc n) i j up_left up_right e past m =
     let more : drop i left ≡ get_or left i 0 ∷ drop (i + 1) left = drop_more left i 0 (omega arith) in
     let step = merging_left left right both i j up_left up_right m (omega arith) (λ h. absurd (omega arith)) in
-    let rest = left_end left right (both ++ get_or left i 0 ∷ []) n (i + 1) j up_left up_right (omega arith) past step in
+    let rest =
+    left_end left right (both ++ get_or left i 0 ∷ []) n (i + 1) j up_left up_right (omega arith) past step in
     rw (more, ← append_assoc both (get_or left i 0 ∷ []) (drop (i + 1) left)) rest
 
-right_end : (left right both : List ℕ) (n i j : ℕ) → IsStrictlyIncreasing left → IsStrictlyIncreasing right → j + n ≡ length right → length left ≤ i → Merging left right i j both → Merging left right i (length right) (both ++ drop j right)
+right_end : (left right both : List ℕ) (n i j : ℕ) → IsStrictlyIncreasing left → IsStrictlyIncreasing right →
+    j + n ≡ length right → length left ≤ i → Merging left right i j both →
+    Merging left right i (length right) (both ++ drop j right)
 right_end left right both zero i j up_left up_right e past m =
     let none : drop j right ≡ [] = drop_all j right (omega arith) in
     let at : j ≡ length right = omega arith in
@@ -99,7 +111,8 @@ right_end left right both zero i j up_left up_right e past m =
 right_end left right both (suc n) i j up_left up_right e past m =
     let more : drop j right ≡ get_or right j 0 ∷ drop (j + 1) right = drop_more right j 0 (omega arith) in
     let step = merging_right left right both i j up_left up_right m (omega arith) (λ h. absurd (omega arith)) in
-    let rest = right_end left right (both ++ get_or right j 0 ∷ []) n i (j + 1) up_left up_right (omega arith) past step in
+    let rest =
+    right_end left right (both ++ get_or right j 0 ∷ []) n i (j + 1) up_left up_right (omega arith) past step in
     rw (more, ← append_assoc both (get_or right j 0 ∷ []) (drop (j + 1) right)) rest
 
 pub record IsMerged (left right both : List ℕ) : Type 0 where
@@ -112,14 +125,17 @@ all_put left right both m = record {
   holds = λ n. (
     m.holds n,
     λ c. ⊎_elim
-        (λ (h : Contains left n). let is : get_or left h.0 0 ≡ n = get_or_default left h.0 0 n h.1 ∙ h.2 in rw is at (m.has_left h.0 h.1))
-        (λ (h : Contains right n). let is : get_or right h.0 0 ≡ n = get_or_default right h.0 0 n h.1 ∙ h.2 in rw is at (m.has_right h.0 h.1))
+        (λ (h : Contains left n). let is : get_or left h.0 0 ≡ n = get_or_default left h.0 0 n h.1 ∙ h.2 in
+        rw is at (m.has_left h.0 h.1))
+        (λ (h : Contains right n). let is : get_or right h.0 0 ≡ n = get_or_default right h.0 0 n h.1 ∙ h.2 in
+        rw is at (m.has_right h.0 h.1))
         c,
   );
 }
 
 -- at the end of one list, with what is left of both
-pub merged_all : (left right both : List ℕ) (i j : ℕ) → IsStrictlyIncreasing left → IsStrictlyIncreasing right → i ≤ length left → j ≤ length right → (length left ≤ i) ⊎ (length right ≤ j)
+pub merged_all : (left right both : List ℕ) (i j : ℕ) → IsStrictlyIncreasing left → IsStrictlyIncreasing right →
+    i ≤ length left → j ≤ length right → (length left ≤ i) ⊎ (length right ≤ j)
     → Merging left right i j both → IsMerged left right (both ++ drop i left ++ drop j right)
 merged_all left right both i j up_left up_right le_left le_right past m = ⊎_elim
     (λ (end : length left ≤ i).

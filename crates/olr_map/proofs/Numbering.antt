@@ -1,8 +1,10 @@
 -- Numbers with slots: what a thing that comes, goes or changes makes of them, and the things as a list.
-use Rattle.std.proofs.Common.{◌≡◌, ◌==◌, ℕ, Bool, true, false, cond, List, [], ◌∷◌, ◌++◌, Option, Some, None, is_some, IsSome, refl, sym, ap, ◌∙◌, eqb-true}
+use Rattle.std.proofs.Common.{◌≡◌, ◌==◌, ℕ, Bool, true, false, cond, List, [], ◌∷◌, ◌++◌, Option, Some, None, is_some}
+use Rattle.std.proofs.Common.{IsSome, refl, sym, ap, ◌∙◌, eqb-true}
 use Rattle.std.specs.Map.{lookup}
 use Rattle.std.specs.FinMap.{get}
 use Rattle.std.proofs.lemmas.Bool.{eq-eqb, ne_eqb}
+use Rattle.olr_spec.proofs.OptionLemmas.{some_of}
 use Rattle.olr_map.specs.ByNumbers.{entries_of, found}
 use Rattle.olr_map.specs.Slotted.{at, Comes, Goes, Turns}
 use Rattle.olr_map.specs.Slabs.{slots_of}
@@ -16,10 +18,6 @@ use Rattle.olr_map.proofs.Blocking.{lookup_second, listed_found}
 pub same_some : {A : Type 0} (x y : A) → ◌≡◌ {A = Option A} (Some x) (Some y) → x ≡ y
 same_some x y e = cc
 
-pub some_of : {A : Type 0} (o : Option A) → IsSome o → (x : A) × (o ≡ Some x)
-some_of None h = absurd cc
-some_of (Some x) h = (x, refl)
-
 module _ {X : Type 0} (b : ByNumber) (es : List (Option X)) (s : HaveSlots b es) where
   -- what stands in the slot of a number
   pub standing : (v p : ℕ) → found b v ≡ Some p → (e : X) × (at es p ≡ Some e)
@@ -30,7 +28,8 @@ module _ {X : Type 0} (b : ByNumber) (es : List (Option X)) (s : HaveSlots b es)
   no_slot v h = step (found b v) refl where
     step : (o : Option ℕ) → found b v ≡ o → o ≡ None
     step None e = refl
-    step (Some p) e = let x = standing v p e in let never : ◌≡◌ {A = Option X} None (Some x.0) = sym h ∙ ap (in_slot es) e ∙ x.1 in absurd cc
+    step (Some p) e = let x = standing v p e in let never : ◌≡◌ {A = Option X} None (Some x.0) =
+        sym h ∙ ap (in_slot es) e ∙ x.1 in absurd cc
 
   -- a number with something in its slot has one
   pub has_slot : (v : ℕ) → IsSome (in_slot es (found b v)) → (p : ℕ) × (found b v ≡ Some p)
@@ -54,22 +53,31 @@ module _ {X : Type 0} (b : ByNumber) (es : List (Option X)) (s : HaveSlots b es)
             both q h =
                 elim (v == k) as (λ c. (v == k) ≡ c → (p == q) ≡ c) [
                   | true ↦ λ i. eq-eqb p q (same_some _ _ (sym here ∙ ap (found b) (eqb-true v k i) ∙ h))
-                  | false ↦ λ i. ne_eqb p q (λ j. let is = eq-eqb v k (s.apart v k q (here ∙ ap (λ n. Some n) j) h) in cc)
+                  | false ↦ λ i. ne_eqb p q (λ j. let is = eq-eqb v k (s.apart v k q (here ∙ ap (λ n. Some n) j) h) in
+                      cc)
                 ] refl
 
     pub turned_slots : HaveSlots b es'
     turned_slots =
         record {
-          stands = λ k q h. ap (λ o. is_some o) (t.now q) ∙ elim (p == q) as (λ c. is_some (cond c (Some f) (at es q)) ≡ true) [ true ↦ refl | false ↦ s.stands k q h ];
+          stands =
+              λ k q h. ap (λ o. is_some o) (t.now q)
+              ∙ elim (p == q) as (λ c. is_some (cond c (Some f) (at es q)) ≡ true) [
+                | true ↦ refl
+                | false ↦
+                    s.stands k q h
+              ];
           apart = s.apart;
         }
 
   -- ---- a thing that comes
 
-  module _ (b' : ByNumber) (es' : List (Option X)) (p v : ℕ) (e : X) (c : Comes es es' p e) (put : (k : ℕ) → found b' k ≡ cond (v == k) (Some p) (found b k)) where
+  module _ (b' : ByNumber) (es' : List (Option X)) (p v : ℕ) (e : X) (c : Comes es es' p e)
+      (put : (k : ℕ) → found b' k ≡ cond (v == k) (Some p) (found b k)) where
     -- another number's slot is another one
     pub other_slot : (k q : ℕ) → found b k ≡ Some q → (p == q) ≡ false
-    other_slot k q h = ne_eqb p q (λ i. let x = standing k q h in let never : None ≡ Some x.0 = sym c.was ∙ ap (at es) i ∙ x.1 in cc)
+    other_slot k q h =
+        ne_eqb p q (λ i. let x = standing k q h in let never : None ≡ Some x.0 = sym c.was ∙ ap (at es) i ∙ x.1 in cc)
 
     pub stays : (k q : ℕ) → found b k ≡ Some q → at es' q ≡ at es q
     stays k q h = c.now q ∙ ap (λ (t : Bool). cond t (Some e) (at es q)) (other_slot k q h)
@@ -89,7 +97,8 @@ module _ {X : Type 0} (b : ByNumber) (es : List (Option X)) (s : HaveSlots b es)
           rest (Some q) h = stays k q h
 
     -- a number's slot is the one that came, or the one that it had
-    came_from : (k q : ℕ) → found b' k ≡ Some q → (A : Type 0) → ((v == k) ≡ true → p ≡ q → A) → (found b k ≡ Some q → A) → A
+    came_from : (k q : ℕ) → found b' k ≡ Some q → (A : Type 0) → ((v == k) ≡ true → p ≡ q → A) →
+        (found b k ≡ Some q → A) → A
     came_from k q h A new old =
         elim (v == k) as (λ t. (v == k) ≡ t → cond t (Some p) (found b k) ≡ Some q → A) [
           | true ↦ λ i g. new i (same_some _ _ g)
@@ -100,26 +109,32 @@ module _ {X : Type 0} (b : ByNumber) (es : List (Option X)) (s : HaveSlots b es)
     came_slots =
         record {
           stands = λ k q h.
-              came_from k q h (IsSome (at es' q)) (λ i is. ap (λ n. is_some (at es' n)) (sym is) ∙ ap (λ o. is_some o) arrives)
+              came_from k q h (IsSome (at es' q)) (λ i is. ap (λ n. is_some (at es' n)) (sym is)
+              ∙ ap (λ o. is_some o) arrives)
               (λ g. ap (λ o. is_some o) (stays k q g) ∙ s.stands k q g);
           apart = λ j k q h g.
               came_from j q h (j ≡ k)
-              (λ i is. came_from k q g (j ≡ k) (λ i' is'. sym (eqb-true v j i) ∙ eqb-true v k i') (λ old. let ne = other_slot k q old in let e = eq-eqb p q is in absurd cc))
-              (λ old. came_from k q g (j ≡ k) (λ i is. let ne = other_slot j q old in let e = eq-eqb p q is in absurd cc) (λ old'. s.apart j k q old old'));
+              (λ i is. came_from k q g (j ≡ k) (λ i' is'. sym (eqb-true v j i) ∙ eqb-true v k i')
+              (λ old. let ne = other_slot k q old in let e = eq-eqb p q is in absurd cc))
+              (λ old. came_from k q g (j ≡ k) (λ i is. let ne = other_slot j q old in let e = eq-eqb p q is in
+              absurd cc) (λ old'. s.apart j k q old old'));
         }
 
   -- ---- a thing that goes
 
-  module _ (b' : ByNumber) (es' : List (Option X)) (p v : ℕ) (e : X) (g : Goes es es' p e) (here : found b v ≡ Some p) (taken : (k : ℕ) → found b' k ≡ cond (v == k) None (found b k)) where
+  module _ (b' : ByNumber) (es' : List (Option X)) (p v : ℕ) (e : X) (g : Goes es es' p e) (here : found b v ≡ Some p)
+      (taken : (k : ℕ) → found b' k ≡ cond (v == k) None (found b k)) where
     pub remains : (k q : ℕ) → (v == k) ≡ false → found b k ≡ Some q → at es' q ≡ at es q
     remains k q ne h =
-        let apart : (p == q) ≡ false = ne_eqb p q (λ i. let is = eq-eqb v k (s.apart v k q (here ∙ ap (λ n. Some n) i) h) in cc) in
+        let apart : (p == q) ≡ false =
+        ne_eqb p q (λ i. let is = eq-eqb v k (s.apart v k q (here ∙ ap (λ n. Some n) i) h) in cc) in
         g.now q ∙ ap (λ (t : Bool). cond t None (at es q)) apart
 
     pub gone_held : (k : ℕ) → in_slot es' (found b' k) ≡ cond (v == k) None (in_slot es (found b k))
     gone_held k =
         ap (in_slot es') (taken k)
-        ∙ elim (v == k) as (λ t. (v == k) ≡ t → in_slot es' (cond t None (found b k)) ≡ cond t None (in_slot es (found b k))) [
+        ∙ elim (v == k) as (λ t. (v == k) ≡ t →
+        in_slot es' (cond t None (found b k)) ≡ cond t None (in_slot es (found b k))) [
           | true ↦ λ i. refl
           | false ↦ λ i. rest i (found b k) refl
         ] refl where
@@ -130,7 +145,8 @@ module _ {X : Type 0} (b : ByNumber) (es : List (Option X)) (s : HaveSlots b es)
     -- a number that has a slot is another one, and had it
     left : (k q : ℕ) → found b' k ≡ Some q → ((v == k) ≡ false) × (found b k ≡ Some q)
     left k q h =
-        elim (v == k) as (λ t. (v == k) ≡ t → cond t None (found b k) ≡ Some q → ((v == k) ≡ false) × (found b k ≡ Some q)) [
+        elim (v == k) as (λ t. (v == k) ≡ t → cond t None (found b k) ≡ Some q → ((v == k) ≡ false)
+        × (found b k ≡ Some q)) [
           | true ↦ λ i j. absurd cc
           | false ↦ λ i j. (i, j)
         ] refl (sym (taken k) ∙ h)
@@ -149,16 +165,20 @@ module _ {X : Type 0} where
   no_thing j k None ne = refl
   no_thing j k (Some x) ne = ap (λ (t : Bool). cond t (Some x) None) ne
 
-  the_thing : (j k : ℕ) (o : Option X) (rest : List (ℕ × X)) → (k == j) ≡ true → IsSome o → lookup (λ q. k == q) (thing j o ++ rest) ≡ o
+  the_thing : (j k : ℕ) (o : Option X) (rest : List (ℕ × X)) → (k == j) ≡ true → IsSome o →
+      lookup (λ q. k == q) (thing j o ++ rest) ≡ o
   the_thing j k None rest is h = absurd cc
   the_thing j k (Some x) rest is h = ap (λ (t : Bool). cond t (Some x) (lookup (λ q. k == q) rest)) is
 
-  things_held : (es : List (Option X)) (ns : List (ℕ × ℕ)) (k : ℕ) → ((p : ℕ) → lookup (λ q. k == q) ns ≡ Some p → IsSome (at es p))
+  things_held : (es : List (Option X)) (ns : List (ℕ × ℕ)) (k : ℕ) →
+      ((p : ℕ) → lookup (λ q. k == q) ns ≡ Some p → IsSome (at es p))
       → lookup (λ q. k == q) (things_in es ns) ≡ in_slot es (lookup (λ q. k == q) ns)
   things_held es [] k h = refl
   things_held es (n ∷ ns) k h =
-      elim (k == n.0) as (λ t. (k == n.0) ≡ t → lookup (λ q. k == q) (thing n.0 (at es n.1) ++ things_in es ns) ≡ in_slot es (cond t (Some n.1) (lookup (λ q. k == q) ns))) [
-        | true ↦ λ e. the_thing n.0 k (at es n.1) (things_in es ns) e (h n.1 (ap (λ (t : Bool). cond t (Some n.1) (lookup (λ q. k == q) ns)) e))
+      elim (k == n.0) as (λ t. (k == n.0) ≡ t → lookup (λ q. k == q) (thing n.0 (at es n.1) ++ things_in es ns)
+      ≡ in_slot es (cond t (Some n.1) (lookup (λ q. k == q) ns))) [
+        | true ↦ λ e. the_thing n.0 k (at es n.1) (things_in es ns) e
+            (h n.1 (ap (λ (t : Bool). cond t (Some n.1) (lookup (λ q. k == q) ns)) e))
         | false ↦ λ e.
             lookup_second k (thing n.0 (at es n.1)) (things_in es ns) (no_thing n.0 k (at es n.1) e)
             ∙ things_held es ns k (λ p g. h p (ap (λ (t : Bool). cond t (Some n.1) (lookup (λ q. k == q) ns)) e ∙ g))

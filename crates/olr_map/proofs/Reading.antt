@@ -1,11 +1,13 @@
 -- What the tables tell of the map.
-use Rattle.std.proofs.Common.{◌≡◌, ◌==◌, ℕ, ◌<◌, ◌≤◌, ◌^◌, true, false, cond, List, [], ◌∷◌, map, Option, Some, None, is_some, IsTrue, SomeIff, unwrap_or, length, refl, sym, ap, ◌∙◌, arith}
+use Rattle.std.proofs.Common.{◌≡◌, ◌==◌, ℕ, ◌<◌, ◌≤◌, ◌^◌, true, false, cond, List, [], ◌∷◌, map, Option, Some, None}
+use Rattle.std.proofs.Common.{is_some, IsTrue, SomeIff, unwrap_or, length, refl, sym, ap, subst, ◌∙◌, arith}
 use Rattle.std.specs.Option.{option_map, option_map_or}
 use Rattle.std.specs.Map.{lookup}
 use Rattle.std.specs.FinMap.{FinMap, get}
 use Rattle.std.specs.Ordering.{nat_cmp}
 use Rattle.olr_spec.specs.Coordinates.{Coord}
 use Rattle.olr_spec.specs.Map.{Map, Line, IsMap, has_node, has_line, lines_in, lines_out, no_place}
+use Rattle.olr_spec.proofs.OptionLemmas.{none_of, some_of}
 use Rattle.olr_map.specs.ByNumbers.{entries_of, found}
 use Rattle.olr_map.specs.Slotted.{at}
 use Rattle.olr_map.specs.Columns.{node_slots}
@@ -32,18 +34,25 @@ use Rattle.olr_map.proofs.Undoing.{line_starts, line_ends}
 abbrev pub place_of : NodeEntry → Coord
 place_of e = e.place
 
-lookup_mapped : {X Y : Type 0} (g : X → Y) (es : List (ℕ × X)) (k : ℕ) → lookup (λ q. k == q) (map (λ (e : ℕ × X). (e.0, g e.1)) es) ≡ option_map g (lookup (λ q. k == q) es)
+lookup_mapped : {X Y : Type 0} (g : X → Y) (es : List (ℕ × X)) (k : ℕ) →
+    lookup (λ q. k == q) (map (λ (e : ℕ × X). (e.0, g e.1)) es) ≡ option_map g (lookup (λ q. k == q) es)
 lookup_mapped g [] k = refl
-lookup_mapped g (e ∷ es) k = ap (cond (k == e.0) (Some (g e.1))) (lookup_mapped g es k) ∙ sym (map_cond g (k == e.0) e.1 (lookup (λ q. k == q) es))
+lookup_mapped g (e ∷ es) k =
+    ap (cond (k == e.0) (Some (g e.1))) (lookup_mapped g es k)
+    ∙ sym (map_cond g (k == e.0) e.1 (lookup (λ q. k == q) es))
 
-or_there : {X Y : Type 0} (f : X → Y) (d : Y) (o : Option X) (x : X) → o ≡ Some x → Some (option_map_or f o d) ≡ option_map f o
+or_there : {X Y : Type 0} (f : X → Y) (d : Y) (o : Option X) (x : X) → o ≡ Some x →
+    Some (option_map_or f o d) ≡ option_map f o
 or_there f d None x e = absurd cc
 or_there f d (Some y) x e = refl
 
 module _ (b : ByNumber) (es : List (Option NodeEntry)) (indexed : IsIndexed b es) where
-  pub got_node : (F : FinMap nat_cmp Line) (v : ℕ) → get (map_from b es F).nodes v ≡ option_map place_of (node_in b es v)
+  pub got_node : (F : FinMap nat_cmp Line) (v : ℕ) →
+      get (map_from b es F).nodes v ≡ option_map place_of (node_in b es v)
   got_node F v =
-      all_get (map (λ (e : ℕ × ℕ). (e.0, coord_in es e.1)) (entries_of b)) v ∙ lookup_mapped (coord_in es) (entries_of b) v ∙ ap (option_map (coord_in es)) (listed_found b v) ∙ step (found b v) refl where
+      all_get (map (λ (e : ℕ × ℕ). (e.0, coord_in es e.1)) (entries_of b)) v
+      ∙ lookup_mapped (coord_in es) (entries_of b) v ∙ ap (option_map (coord_in es)) (listed_found b v)
+      ∙ step (found b v) refl where
         step : (o : Option ℕ) → found b v ≡ o → option_map (coord_in es) o ≡ option_map place_of (in_slot es o)
         step None h = refl
         step (Some p) h = let x = entry_of b es indexed v p h in or_there place_of no_place (at es p) x.0 x.1
@@ -55,10 +64,12 @@ module _ (b : ByNumber) (es : List (Option NodeEntry)) (indexed : IsIndexed b es
   pub node_there : (F : FinMap nat_cmp Line) (v p : ℕ) → found b v ≡ Some p → has_node (map_from b es F) v ≡ true
   node_there F v p h =
       let x = entry_of b es indexed v p h in
-      ap (λ o. is_some o) (got_node F v) ∙ some_mapped (node_in b es v) ∙ ap (λ o. is_some (in_slot es o)) h ∙ ap (λ o. is_some o) x.1
+      ap (λ o. is_some o) (got_node F v) ∙ some_mapped (node_in b es v) ∙ ap (λ o. is_some (in_slot es o)) h
+      ∙ ap (λ o. is_some o) x.1
 
   pub node_missing : (F : FinMap nat_cmp Line) (v : ℕ) → found b v ≡ None → has_node (map_from b es F) v ≡ false
-  node_missing F v h = ap (λ o. is_some o) (got_node F v) ∙ some_mapped (node_in b es v) ∙ ap (λ o. is_some (in_slot es o)) h
+  node_missing F v h =
+      ap (λ o. is_some o) (got_node F v) ∙ some_mapped (node_in b es v) ∙ ap (λ o. is_some (in_slot es o)) h
 
   -- a node of the map has its slot
   pub slot_of : (F : FinMap nat_cmp Line) (v : ℕ) → has_node (map_from b es F) v ≡ true → (p : ℕ) × (found b v ≡ Some p)
@@ -83,19 +94,24 @@ within es p v h = step (at es p) refl h where
 pub place_is : (b : ByNumber) (v p : ℕ) → found b v ≡ Some p → place_in b v ≡ p
 place_is b v p h = ap (λ o. unwrap_or o 0) h
 
-module _ (b : ByNumber) (es : List (Option NodeEntry)) (F : FinMap nat_cmp Line) (indexed : IsIndexed b es) (few : length es ≤ 2 ^ 32) where
+module _ (b : ByNumber) (es : List (Option NodeEntry)) (F : FinMap nat_cmp Line) (indexed : IsIndexed b es)
+    (few : length es ≤ 2 ^ 32) where
   pub are_places : ArePlaces (map_from b es F) (place_in b) (length es)
   are_places =
       record {
-        below = λ v h. let s = slot_of b es indexed F v h in let lt = within es s.0 v (indexed.stands v s.0 s.1) in let is = place_is b v s.0 s.1 in omega arith;
+        below = λ v h. let s = slot_of b es indexed F v h in let lt =
+            within es s.0 v (indexed.stands v s.0 s.1) in let is = place_is b v s.0 s.1 in omega arith;
         apart = λ v w h k e.
             let s = slot_of b es indexed F v h in
             let r = slot_of b es indexed F w k in
-            one_node b es indexed v w s.0 s.1 (r.1 ∙ ap (λ n. Some n) (sym (place_is b w r.0 r.1) ∙ sym e ∙ place_is b v s.0 s.1));
+            one_node b es indexed v w s.0 s.1
+            (r.1 ∙ ap (λ n. Some n) (sym (place_is b w r.0 r.1) ∙ sym e ∙ place_is b v s.0 s.1));
         few = few;
       }
 
-  pub kept_from : IsMap (map_from b es F) → ((side : Side) (v : ℕ) (l : Links) → links_in side b es v ≡ Some l → IsListed side (map_from b es F) (place_in b) v l) → IsKept b es F
+  pub kept_from : IsMap (map_from b es F) →
+      ((side : Side) (v : ℕ) (l : Links) → links_in side b es v ≡ Some l →
+      IsListed side (map_from b es F) (place_in b) v l) → IsKept b es F
   kept_from sound listed = record { sound = sound; indexed = indexed; placed = are_places; listed = listed }
 
 -- ---- of tables
@@ -113,35 +129,50 @@ module _ (t : Tables) where
   pub got_line : (x : ℕ) → get M.lines x ≡ held t.lines x
   got_line x = held_get t.lines x
 
-  gone : {A : Type 0} (o : Option A) → is_some o ≡ false → o ≡ None
-  gone None h = refl
-  gone (Some x) h = absurd cc
-
   pub line_missing : (x : ℕ) → has_line M x ≡ false → held t.lines x ≡ None
-  line_missing x h = sym (got_line x) ∙ gone (get M.lines x) h
+  line_missing x h = sym (got_line x) ∙ none_of (get M.lines x) h
 
   pub no_line_there : (x : ℕ) → held t.lines x ≡ None → has_line M x ≡ false
   no_line_there x h = ap (λ o. is_some o) (got_line x ∙ h)
 
   -- a line that is there is found
   pub line_found : (x : ℕ) → has_line M x ≡ true → (l : Line) × (held t.lines x ≡ Some l)
-  line_found x h = some_of (held t.lines x) (ap (λ o. is_some o) (sym (got_line x)) ∙ h) where
-    some_of : (o : Option Line) → is_some o ≡ true → (l : Line) × (o ≡ Some l)
-    some_of None e = absurd cc
-    some_of (Some l) e = (l, refl)
+  line_found x h = some_of (held t.lines x) (ap (λ o. is_some o) (sym (got_line x)) ∙ h)
 
   -- a line's ends are found
   pub start_found : (x : ℕ) (l : Line) → held t.lines x ≡ Some l → (has_node M l.from ≡ true) × (has_node M l.to ≡ true)
   start_found x l h = (line_starts M t.kept.sound x l (got_line x ∙ h), line_ends M t.kept.sound x l (got_line x ∙ h))
 
   pub node_read : (v p : ℕ) (e : NodeEntry) → found b v ≡ Some p → at es p ≡ Some e → get M.nodes v ≡ Some e.place
-  node_read v p e h is = got_node b es t.kept.indexed (all_held t.lines) v ∙ ap (λ o. option_map place_of (in_slot es o)) h ∙ ap (option_map place_of) is
+  node_read v p e h is =
+      got_node b es t.kept.indexed (all_held t.lines) v ∙ ap (λ o. option_map place_of (in_slot es o)) h
+      ∙ ap (option_map place_of) is
 
   pub none_read : (v : ℕ) → found b v ≡ None → get M.nodes v ≡ None
   none_read v h = got_node b es t.kept.indexed (all_held t.lines) v ∙ ap (λ o. option_map place_of (in_slot es o)) h
 
-  pub listed_at : (side : Side) (v p : ℕ) (e : NodeEntry) → found b v ≡ Some p → at es p ≡ Some e → IsListed side M (place_in b) v (links_at side e)
-  listed_at side v p e h is = t.kept.listed side v (links_at side e) (ap (λ o. option_map (links_at side) (in_slot es o)) h ∙ ap (option_map (links_at side)) is)
+  -- a slot that is found has an entry
+  pub entry_at : (v p : ℕ) → found b v ≡ Some p → (e : NodeEntry) × (at es p ≡ Some e)
+  entry_at v p h = entry_of b es t.kept.indexed v p h
+
+  pub stands_in : (v p : ℕ) → found b v ≡ Some p → is_some (at es p) ≡ true
+  stands_in v p h = ap (λ o. is_some o) (entry_at v p h).1
+
+  pub listed_at : (side : Side) (v p : ℕ) (e : NodeEntry) → found b v ≡ Some p → at es p ≡ Some e →
+      IsListed side M (place_in b) v (links_at side e)
+  listed_at side v p e h is =
+      t.kept.listed side v (links_at side e) (ap (λ o. option_map (links_at side) (in_slot es o)) h
+      ∙ ap (option_map (links_at side)) is)
+
+  -- the same of what is read in the slot
+  pub listed_as : (side : Side) (v p : ℕ) (l : Links) → found b v ≡ Some p →
+      ((e : NodeEntry) → at es p ≡ Some e → l ≡ links_at side e) → IsListed side M (place_in b) v l
+  listed_as side v p l h is = let x =
+      entry_at v p h in subst (IsListed side M (place_in b) v) (sym (is x.0 x.1)) (listed_at side v p x.0 h x.1)
+
+  -- the slot that a search found
+  pub found_at : (v n : ℕ) (o : Option ℕ) → n ≡ v → o ≡ found b n → found b v ≡ o
+  found_at v n o same is = ap (found b) (sym same) ∙ sym is
 
   pub no_outs : (v : ℕ) → found b v ≡ None → [] ≡ lines_out M v
   no_outs v h = absent_outs M v t.kept.sound (node_missing b es t.kept.indexed (all_held t.lines) v h)
@@ -151,10 +182,14 @@ module _ (t : Tables) where
 
   -- the place of a node is its slot
   pub slot_is : (v p : ℕ) → has_node M v ≡ true → place_in b v ≡ p → found b v ≡ Some p
-  slot_is v p h e = let s = slot_of b es t.kept.indexed (all_held t.lines) v h in s.1 ∙ ap (λ n. Some n) (sym (place_is b v s.0 s.1) ∙ e)
+  slot_is v p h e = let s =
+      slot_of b es t.kept.indexed (all_held t.lines) v h in s.1 ∙ ap (λ n. Some n) (sym (place_is b v s.0 s.1) ∙ e)
 
   pub place_found : (v : ℕ) (o : Option ℕ) → o ≡ found b v → SomeIff o (IsTrue (has_node M v)) (place_in b v)
-  place_found v None e = λ h. let s = slot_of b es t.kept.indexed (all_held t.lines) v h in let never : None ≡ Some s.0 = e ∙ s.1 in absurd (ne never) where
-    ne : {A : Type 0} {x : A} → ◌≡◌ {A = Option A} None (Some x) → ⊥
-    ne h = cc
-  place_found v (Some p) e = (node_there b es t.kept.indexed (all_held t.lines) v p (sym e), sym (place_is b v p (sym e)))
+  place_found v None e = λ h. let s =
+      slot_of b es t.kept.indexed (all_held t.lines) v h in let never : None ≡ Some s.0 =
+      e ∙ s.1 in absurd (ne never) where
+        ne : {A : Type 0} {x : A} → ◌≡◌ {A = Option A} None (Some x) → ⊥
+        ne h = cc
+  place_found v (Some p) e =
+      (node_there b es t.kept.indexed (all_held t.lines) v p (sym e), sym (place_is b v p (sym e)))

@@ -1,33 +1,37 @@
 -- When a node is in use, by its two lists.
-use Rattle.std.proofs.Common.{◌≡◌, ◌==◌, ◌||◌, ◌<◌, ℕ, Bool, true, false, List, [], ◌∷◌, Option, Some, None, Result, Ok, Err, IsOk, not, length, refl, sym, ap, ◌∙◌, subst, arith}
+use Rattle.std.proofs.Common.{◌≡◌, ◌==◌, ◌||◌, ◌<◌, ℕ, Bool, true, false, List, [], ◌∷◌, Some, Result, Ok, Err, IsOk}
+use Rattle.std.proofs.Common.{not, length, map, refl, sym, ap, ◌∙◌, subst, arith}
 use Rattle.std.specs.FinMap.{get, remove}
 use Rattle.std.specs.Result.{MatchResult}
 use Rattle.std.proofs.lemmas.Bool.{eq-eqb, or_left, or_right, or_from, false_from_ne_true, not_from_true}
-use Rattle.std.proofs.lemmas.List.{nil_from_length}
-use Rattle.olr_spec.specs.Map.{Map, Line, lines_where, lines_in, lines_out, in_use, has_node, unless, edited, MapFault, No_node, Node_in_use, Drop_node, has}
+use Rattle.std.proofs.lemmas.List.{nil_from_length, length-map}
+use Rattle.olr_spec.specs.Map.{Map, Line, lines_where, lines_in, lines_out, in_use, has_node, unless, edited, MapFault}
+use Rattle.olr_spec.specs.Map.{No_node, Node_in_use, Drop_node, has}
 use Rattle.olr_spec.proofs.MapLemmas.{has-lines_where, passes_at}
+use Rattle.olr_spec.proofs.UndoLemmas.{passed_line, unless_false}
 use Rattle.olr_map.specs.Edits.{edit_fault_of}
+use Rattle.olr_map.specs.Ends.{end_in, end_out}
 use Rattle.olr_map.specs.declared.edit.EditFault.{EditFault}
 use Rattle.olr_map.specs.declared.judging.Judged.{Judged}
-use Rattle.olr_map.proofs.Undoing.{used_by, unused_by, passes}
-
-passing : (test : Line → Bool) (o : Option Line) → passes_at test o ≡ true → (l : Line) × (o ≡ Some l) × (test l ≡ true)
-passing test None h = absurd cc
-passing test (Some l) h = (l, refl, h)
+use Rattle.olr_map.specs.declared.read.LineEnd.{LineEnd}
+use Rattle.olr_map.proofs.Undoing.{used_by, unused_by}
 
 -- a line that is listed uses the node
-module _ (M : Map) (v : ℕ) (f : Line → ℕ) (uses : (l : Line) → (f l == v) ≡ true → (l.to == v || l.from == v) ≡ true) where
+module _ (M : Map) (v : ℕ) (f : Line → ℕ) (uses : (l : Line) → (f l == v) ≡ true →
+    (l.to == v || l.from == v) ≡ true) where
   first_uses : (zs : List ℕ) → zs ≡ lines_where M (λ l. f l == v) → 0 < length zs → in_use M v ≡ true
   first_uses [] is long = absurd (omega arith)
   first_uses (x ∷ xs) is long =
-      let here : has (lines_where M (λ l. f l == v)) x ≡ true = ap (λ zs. has zs x) (sym is) ∙ or_left (x == x) (has xs x) (eq-eqb x x refl) in
-      let p = passing (λ l. f l == v) (get M.lines x) (sym (has-lines_where M (λ l. f l == v) x) ∙ here) in
+      let here : has (lines_where M (λ l. f l == v)) x ≡ true =
+      ap (λ zs. has zs x) (sym is) ∙ or_left (x == x) (has xs x) (eq-eqb x x refl) in
+      let p = passed_line (λ l. f l == v) (get M.lines x) (sym (has-lines_where M (λ l. f l == v) x) ∙ here) in
       used_by M (λ l. l.to == v || l.from == v) x p.0 p.1 (uses p.0 p.2)
 
   none_uses : lines_where M (λ l. f l == v) ≡ [] → (x : ℕ) (l : Line) → get M.lines x ≡ Some l → (f l == v) ≡ false
   none_uses none x l e =
       false_from_ne_true (f l == v) (λ t.
-      let yes : has (lines_where M (λ k. f k == v)) x ≡ true = has-lines_where M (λ k. f k == v) x ∙ ap (passes_at (λ k. f k == v)) e ∙ t in
+      let yes : has (lines_where M (λ k. f k == v)) x ≡ true =
+      has-lines_where M (λ k. f k == v) x ∙ ap (passes_at (λ k. f k == v)) e ∙ t in
       let no : has (lines_where M (λ k. f k == v)) x ≡ false = ap (λ zs. has zs x) none in
       cc)
 
@@ -42,26 +46,53 @@ unused_if_empty M v out in' =
     unused_by M (λ l. l.to == v || l.from == v)
     (λ x l e. or_from (l.to == v) (l.from == v)
     (none_uses M v (λ k. k.to) (λ k h. or_left (k.to == v) (k.from == v) h) (nil_from_length (lines_in M v) in') x l e)
-    (none_uses M v (λ k. k.from) (λ k h. or_right (k.to == v) (k.from == v) h) (nil_from_length (lines_out M v) out) x l e))
+    (none_uses M v (λ k. k.from) (λ k h. or_right (k.to == v) (k.from == v) h) (nil_from_length (lines_out M v) out) x l
+    e))
 
 -- ---- what a drop of a node answers
 
-pub drop_taken : (M : Map) (v : ℕ) → has_node M v ≡ true → in_use M v ≡ false → edited M (Drop_node v) ≡ Ok (record M { nodes = remove M.nodes v })
-drop_taken M v there free =
-    passes (not (has_node M v)) No_node _ (not_from_true (has_node M v) there) ∙ passes (in_use M v) Node_in_use _ free
+-- the same by the ends of both lists
+pub unused_without_ends : (M : Map) (place : ℕ → ℕ) (v : ℕ) (outs ins : List LineEnd) →
+    outs ≡ map (end_out M place) (lines_out M v) → ins ≡ map (end_in M place) (lines_in M v)
+    → length outs ≡ 0 → length ins ≡ 0 → in_use M v ≡ false
+unused_without_ends M place v outs ins outs_are ins_are a b =
+    let out = ap (λ zs. length zs) outs_are ∙ length-map (lines_out M v) (end_out M place) in
+    let in' = ap (λ zs. length zs) ins_are ∙ length-map (lines_in M v) (end_in M place) in
+    unused_if_empty M v (omega arith) (omega arith)
 
-pub drop_refused : (M : Map) (v : ℕ) → has_node M v ≡ true → in_use M v ≡ true → edited M (Drop_node v) ≡ Err Node_in_use
+pub used_by_out : (M : Map) (place : ℕ → ℕ) (v : ℕ) (outs : List LineEnd) →
+    outs ≡ map (end_out M place) (lines_out M v) → (length outs ≡ 0 → ⊥) → in_use M v ≡ true
+used_by_out M place v outs are ne = let e =
+    ap (λ zs. length zs) are ∙ length-map (lines_out M v) (end_out M place) in used_out M v (omega arith)
+
+pub used_by_in : (M : Map) (place : ℕ → ℕ) (v : ℕ) (ins : List LineEnd) → ins ≡ map (end_in M place) (lines_in M v) →
+    (length ins ≡ 0 → ⊥) → in_use M v ≡ true
+used_by_in M place v ins are ne = let e =
+    ap (λ zs. length zs) are ∙ length-map (lines_in M v) (end_in M place) in used_in M v (omega arith)
+
+pub drop_taken : (M : Map) (v : ℕ) → has_node M v ≡ true → in_use M v ≡ false →
+    edited M (Drop_node v) ≡ Ok (record M { nodes = remove M.nodes v })
+drop_taken M v there free =
+    unless_false (not (has_node M v)) No_node _ (not_from_true (has_node M v) there)
+    ∙ unless_false (in_use M v) Node_in_use _ free
+
+pub drop_refused : (M : Map) (v : ℕ) → has_node M v ≡ true → in_use M v ≡ true →
+    edited M (Drop_node v) ≡ Err Node_in_use
 drop_refused M v there used =
-    passes (not (has_node M v)) No_node _ (not_from_true (has_node M v) there)
+    unless_false (not (has_node M v)) No_node _ (not_from_true (has_node M v) there)
     ∙ ap (λ (b : Bool). unless b Node_in_use (Ok (record M { nodes = remove M.nodes v }))) used
 
 -- the answer at either outcome
-pub ok_at : (r : Result Map MapFault) (N : Map) (j : Judged) → r ≡ Ok N → MatchResult r (λ _. IsOk {E = EditFault} (Ok j)) (λ f. ◌≡◌ {A = Result Judged EditFault} (Ok j) (Err (edit_fault_of f)))
-ok_at r N j e = subst (λ (s : Result Map MapFault). MatchResult s (λ _. IsOk {E = EditFault} (Ok j)) (λ f. ◌≡◌ {A = Result Judged EditFault} (Ok j) (Err (edit_fault_of f)))) (sym e) refl
+pub ok_at : (r : Result Map MapFault) (N : Map) (j : Judged) → r ≡ Ok N →
+    MatchResult r (λ _. IsOk {E = EditFault} (Ok j))
+    (λ f. ◌≡◌ {A = Result Judged EditFault} (Ok j) (Err (edit_fault_of f)))
+ok_at r N j e =
+    subst (λ (s : Result Map MapFault). MatchResult s (λ _. IsOk {E = EditFault} (Ok j))
+    (λ f. ◌≡◌ {A = Result Judged EditFault} (Ok j) (Err (edit_fault_of f)))) (sym e) refl
 
 pub err_at : (r : Result Map MapFault) (f : MapFault) → r ≡ Err f
-    → MatchResult r (λ _. IsOk {T = Judged} (Err (edit_fault_of f))) (λ g. ◌≡◌ {A = Result Judged EditFault} (Err (edit_fault_of f)) (Err (edit_fault_of g)))
-err_at r f e = subst (λ (s : Result Map MapFault). MatchResult s (λ _. IsOk {T = Judged} (Err (edit_fault_of f))) (λ g. ◌≡◌ {A = Result Judged EditFault} (Err (edit_fault_of f)) (Err (edit_fault_of g)))) (sym e) refl
-
-pub ok_from : (r : Result Map MapFault) (N : Map) → r ≡ Ok N → IsOk r
-ok_from r N e = subst (λ (s : Result Map MapFault). IsOk s) (sym e) refl
+    → MatchResult r (λ _. IsOk {T = Judged} (Err (edit_fault_of f)))
+    (λ g. ◌≡◌ {A = Result Judged EditFault} (Err (edit_fault_of f)) (Err (edit_fault_of g)))
+err_at r f e =
+    subst (λ (s : Result Map MapFault). MatchResult s (λ _. IsOk {T = Judged} (Err (edit_fault_of f)))
+    (λ g. ◌≡◌ {A = Result Judged EditFault} (Err (edit_fault_of f)) (Err (edit_fault_of g)))) (sym e) refl

@@ -1,10 +1,13 @@
 -- What was judged of an edit gives the slots of its nodes, and a fault of the map is answered by its name.
-use Rattle.std.proofs.Common.{◌≡◌, ◌==◌, ◌||◌, ℕ, true, false, List, [], ◌∷◌, map, Option, Some, None, Result, Ok, Err, IsOk, MatchResult, refl, sym, ap, ◌∙◌}
+use Rattle.std.proofs.Common.{◌≡◌, ◌==◌, ◌||◌, ℕ, true, false, List, [], ◌∷◌, map, Option, Some, None, Result, Ok, Err}
+use Rattle.std.proofs.Common.{IsOk, MatchResult, refl, sym, ap, ◌∙◌}
 use Rattle.std.specs.Option.{option_to_list}
 use Rattle.std.proofs.lemmas.Bool.{eqb-true, eq-eqb, or_left}
 use Rattle.olr_spec.specs.Map as maps
-use Rattle.olr_spec.specs.Map.{Map, MapFault, Node_exists, No_node, Line_exists, No_line, Node_in_use, Bad_shape, has_node, start, end, edited, touched_nodes, has}
+use Rattle.olr_spec.specs.Map.{Map, MapFault, Node_exists, No_node, Line_exists, No_line, Node_in_use, Bad_shape}
+use Rattle.olr_spec.specs.Map.{has_node, start, end, edited, touched_nodes, has}
 use Rattle.olr_spec.specs.Detours.{ChangedLine, changes_of}
+use Rattle.olr_spec.proofs.EditLemmas.{made_by}
 use Rattle.olr_map.specs.ByNumbers.{found}
 use Rattle.olr_map.specs.Kept.{place_in}
 use Rattle.olr_map.specs.Changes.{tables_map}
@@ -12,23 +15,30 @@ use Rattle.olr_map.specs.Edits.{edit_fault_of}
 use Rattle.olr_map.specs.Judgements.{IsJudged, AreSlots}
 use Rattle.olr_map.specs.declared.by_number.ByNumber.{ByNumber}
 use Rattle.olr_map.specs.declared.edit.EditFault.{EditFault}
-use Rattle.olr_map.specs.declared.edit.EditFault.TheVariants.{NodeExists, NoNode, LineExists, NoLine, NodeInUse, BadShape, Memory}
+use Rattle.olr_map.specs.declared.edit.EditFault.TheVariants.{NodeExists, NoNode, LineExists, NoLine, NodeInUse}
+use Rattle.olr_map.specs.declared.edit.EditFault.TheVariants.{BadShape, Memory}
 use Rattle.olr_map.specs.declared.judging.Judged.{Judged}
 use Rattle.olr_map.specs.declared.tables.Tables.{Tables}
 use Rattle.olr_map.proofs.Reading.{slot_is}
-use Rattle.olr_map.proofs.Undoing
 
 -- the ends of the one changed line
-told_ends : (line : Option ℕ) (from to len : ℕ) (c : ChangedLine) → ◌≡◌ {A = List ChangedLine} (map (λ (_ : ℕ). record { from = from; to = to; len = len }) (option_to_list line)) (c ∷ []) → (from ≡ c.from) × (to ≡ c.to)
+told_ends : (line : Option ℕ) (from to len : ℕ) (c : ChangedLine) →
+    ◌≡◌ {A = List ChangedLine} (map (λ (_ : ℕ). record { from = from; to = to; len = len }) (option_to_list line))
+    (c ∷ []) → (from ≡ c.from) × (to ≡ c.to)
 told_ends None from to len c e = absurd cc
-told_ends (Some x) from to len c e = let same : ◌≡◌ {A = ChangedLine} (record { from = from; to = to; len = len }) c = cc in (ap (λ (d : ChangedLine). d.from) same, ap (λ (d : ChangedLine). d.to) same)
+told_ends (Some x) from to len c e = let same : ◌≡◌ {A = ChangedLine} (record { from = from; to = to; len = len }) c =
+    cc in (ap (λ (d : ChangedLine). d.from) same, ap (λ (d : ChangedLine). d.to) same)
 
 -- the one node
 told_node : (v a b : ℕ) → ((u : ℕ) → has (v ∷ []) u ≡ ((a == u) || (b == u))) → v ≡ a
 told_node v a b h =
     let here : ((a == a) || (b == a)) ≡ true = or_left (a == a) (b == a) (eq-eqb a a refl) in
     let there : ((v == a) || false) ≡ true = h a ∙ here in
-    elim (v == a) as (λ c. (v == a) ≡ c → (c || false) ≡ true → v ≡ a) [ true ↦ λ e f. eqb-true v a e | false ↦ λ e f. absurd cc ] refl there
+    elim (v == a) as (λ c. (v == a) ≡ c → (c || false) ≡ true → v ≡ a) [
+      | true ↦ λ e f. eqb-true v a e
+      | false ↦
+          λ e f. absurd cc
+    ] refl there
 
 accepted_is : {A F : Type 0} (r : Result A F) → IsOk r → (x : A) × (r ≡ Ok x)
 accepted_is (Ok x) h = (x, refl)
@@ -45,7 +55,8 @@ module _ (t : Tables) where
   slot_at : (v w p : ℕ) → w ≡ v → (has_node M w ≡ true → place_in b w ≡ p) → has_node M v ≡ true → found b v ≡ Some p
   slot_at v w p is at there = slot_is t v p there (ap (place_in b) (sym is) ∙ at (ap (has_node M) is ∙ there))
 
-  ends_at : (j : Judged) (e : maps.Edit) (c : ChangedLine) → IsJudged M (place_in b) e j → changes_of M e ≡ c ∷ [] → has_node M c.from ≡ true → has_node M c.to ≡ true
+  ends_at : (j : Judged) (e : maps.Edit) (c : ChangedLine) → IsJudged M (place_in b) e j → changes_of M e ≡ c ∷ [] →
+      has_node M c.from ≡ true → has_node M c.to ≡ true
       → (found b c.from ≡ Some j.places.0) × (found b c.to ≡ Some j.places.1)
   ends_at j e c h is from to =
       let ends = told_ends j.line j.nodes.0 j.nodes.1 j.len c (h.changes ∙ is) in
@@ -58,19 +69,20 @@ module _ (t : Tables) where
   judged_slots (maps.Add_node v c) j h = tt
   judged_slots (maps.Move_node v c) j h =
       let r = accepted_is (edited M (maps.Move_node v c)) h.accepted in
-      slot_at v j.nodes.0 j.places.0 (sym (told_node v j.nodes.0 j.nodes.1 h.nodes)) h.first (Undoing.moved_node M r.0 v c r.1).0
+      slot_at v j.nodes.0 j.places.0 (sym (told_node v j.nodes.0 j.nodes.1 h.nodes)) h.first
+      (made_by M r.0 (maps.Move_node v c) r.1).0
   judged_slots (maps.Drop_node v) j h = tt
   judged_slots (maps.Add_line x l) j h =
       let r = accepted_is (edited M (maps.Add_line x l)) h.accepted in
-      let s = Undoing.added_line M r.0 x l r.1 in
+      let s = made_by M r.0 (maps.Add_line x l) r.1 in
       ends_at j (maps.Add_line x l) _ h refl s.1 s.2
   judged_slots (maps.Set_line x frc fow len shape) j h =
       let r = accepted_is (edited M (maps.Set_line x frc fow len shape)) h.accepted in
-      let s = line_ends x (Undoing.set_line M r.0 x (record { from = start M x; to = end M x; frc = frc; fow = fow; len = len; shape = shape }) refl refl r.1).0 in
+      let s = line_ends x (made_by M r.0 (maps.Set_line x frc fow len shape) r.1).0 in
       ends_at j (maps.Set_line x frc fow len shape) _ h refl s.0 s.1
   judged_slots (maps.Drop_line x) j h =
       let r = accepted_is (edited M (maps.Drop_line x)) h.accepted in
-      let s = line_ends x (Undoing.dropped_line M r.0 x r.1).0 in
+      let s = line_ends x (made_by M r.0 (maps.Drop_line x) r.1).0 in
       ends_at j (maps.Drop_line x) _ h refl s.0 s.1
 
 -- ---- a fault of the map, as it is answered
@@ -98,11 +110,16 @@ same_fault x y e = cc
 abbrev answer : (A : Type 0) → EditFault → Result A EditFault
 answer A x = Err x
 
-pub refused_as : (A B : Type 0) (r : Result Map MapFault) (x : EditFault) → MatchResult r (λ _. IsOk (answer A x)) (λ f. answer A x ≡ Err (edit_fault_of f))
-    → (f : MapFault) → (◌≡◌ {A = Result B EditFault} (Err x) (Err (edit_fault_of f)) → r ≡ Err f) × (r ≡ Err f → ◌≡◌ {A = Result B EditFault} (Err x) (Err (edit_fault_of f)))
+pub refused_as : (A B : Type 0) (r : Result Map MapFault) (x : EditFault) →
+    MatchResult r (λ _. IsOk (answer A x)) (λ f. answer A x ≡ Err (edit_fault_of f))
+    → (f : MapFault) → (◌≡◌ {A = Result B EditFault} (Err x) (Err (edit_fault_of f)) → r ≡ Err f)
+    × (r ≡ Err f → ◌≡◌ {A = Result B EditFault} (Err x) (Err (edit_fault_of f)))
 refused_as A B (Ok m) x h f = absurd cc
 refused_as A B (Err g) x h f =
-    let is : x ≡ edit_fault_of g = same_fault x (edit_fault_of g) h in
-    (λ e. ap (λ y. Err y) (sym (fault_again g) ∙ ap map_fault (sym is ∙ same_fault x (edit_fault_of f) e) ∙ fault_again f), λ e. ap (λ y. Err y) (is ∙ ap edit_fault_of (same_map_fault g f e))) where
+    let is : x ≡ edit_fault_of g = same_fault x (edit_fault_of g) h in (
+      λ e. ap (λ y. Err y) (sym (fault_again g) ∙ ap map_fault (sym is ∙ same_fault x (edit_fault_of f) e)
+          ∙ fault_again f),
+      λ e. ap (λ y. Err y) (is ∙ ap edit_fault_of (same_map_fault g f e)),
+    ) where
       same_map_fault : (g f : MapFault) → ◌≡◌ {A = Result Map MapFault} (Err g) (Err f) → g ≡ f
       same_map_fault g f e = cc

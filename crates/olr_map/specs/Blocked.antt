@@ -4,7 +4,8 @@
 --     found_in bs k      the slot of number k: block k / 4, place k % 4
 --     IsBlank b, AreUsed bs      no place has a slot;  no block is blank
 --     from n xs, all_in bs      the numbers that have slots, with them: in places from number n on;  in all blocks
-use Rattle.std.specs.Prelude.{◌≡◌, ℕ, zero, suc, ◌*◌, ◌/◌, ◌%◌, ◌==◌, List, [], ◌∷◌, ◌++◌, Option, Some, None, slice_index}
+use Rattle.std.specs.Prelude.{◌≡◌, ℕ, zero, suc, ◌*◌, ◌/◌, ◌%◌, ◌==◌, List, [], ◌∷◌, ◌++◌, Option, Some, None}
+use Rattle.std.specs.Prelude.{slice_index}
 use Rattle.std.specs.Map.{lookup}
 use Rattle.std.proofs.Props.{props}
 use Rattle.olr_map.specs.declared.block.Block.{Block}

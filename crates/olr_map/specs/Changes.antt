@@ -93,14 +93,31 @@ abbrev pub changed_at : ℕ → ℕ → (ℕ → ℕ) → ℕ → ℕ
 changed_at k n f v = if k == v then n else f v
 
 abbrev pub room_after : Map → Room → Change → Room
-room_after M R (PutNode id place outs ins) = record { nodes = R.nodes - 1; outs = changed_at id (places_kept outs) R.outs; ins = changed_at id (places_kept ins) R.ins }
+room_after M R (PutNode id place outs ins) =
+    record {
+      nodes = R.nodes - 1;
+      outs = changed_at id (places_kept outs) R.outs;
+      ins =
+          changed_at id (places_kept ins) R.ins;
+    }
 room_after M R (MoveNode id place) = R
-room_after M R (TakeNode id) = record { nodes = R.nodes + 1; outs = changed_at id 0 R.outs; ins = changed_at id 0 R.ins }
+room_after M R (TakeNode id) =
+    record { nodes = R.nodes + 1; outs = changed_at id 0 R.outs; ins = changed_at id 0 R.ins }
 room_after M R (PutLine id line) =
-    record { nodes = R.nodes; outs = changed_at line.from (R.outs line.from - 1) R.outs; ins = changed_at line.to (R.ins line.to - 1) R.ins }
+    record {
+      nodes = R.nodes;
+      outs = changed_at line.from (R.outs line.from - 1) R.outs;
+      ins =
+          changed_at line.to (R.ins line.to - 1) R.ins;
+    }
 room_after M R (SetLine id line) = R
 room_after M R (TakeLine id) =
-    record { nodes = R.nodes; outs = changed_at (start M id) (R.outs (start M id) + 1) R.outs; ins = changed_at (end M id) (R.ins (end M id) + 1) R.ins }
+    record {
+      nodes = R.nodes;
+      outs = changed_at (start M id) (R.outs (start M id) + 1) R.outs;
+      ins =
+          changed_at (end M id) (R.ins (end M id) + 1) R.ins;
+    }
 
 -- a node that comes has no lines yet, and a line that is set keeps its ends
 abbrev pub IsWhole : Map → Change → Type 0

@@ -22,4 +22,6 @@ abbrev pub node_slots : NodeSlots → List (Option NodeEntry)
 node_slots s = rows (slots_of s.heads) s.outs.items s.ins.items
 
 abbrev pub node_room : NodeSlots → ℕ
-node_room s = min (room_in s.heads) (free_in s.heads + (min (vec_capacity s.outs) (vec_capacity s.ins) - length (slots_of s.heads)))
+node_room s =
+    min (room_in s.heads) (free_in s.heads
+    + (min (vec_capacity s.outs) (vec_capacity s.ins) - length (slots_of s.heads)))

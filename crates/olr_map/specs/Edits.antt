@@ -7,7 +7,8 @@ use Rattle.olr_spec.specs.Map as map
 use Rattle.olr_map.specs.declared.edit.Edit.{Edit}
 use Rattle.olr_map.specs.declared.edit.Edit.TheVariants.{AddNode, MoveNode, DropNode, AddLine, SetLine, DropLine}
 use Rattle.olr_map.specs.declared.edit.EditFault.{EditFault}
-use Rattle.olr_map.specs.declared.edit.EditFault.TheVariants.{NodeExists, NoNode, LineExists, NoLine, NodeInUse, BadShape, Memory}
+use Rattle.olr_map.specs.declared.edit.EditFault.TheVariants.{NodeExists, NoNode, LineExists, NoLine, NodeInUse}
+use Rattle.olr_map.specs.declared.edit.EditFault.TheVariants.{BadShape, Memory}
 
 abbrev pub edit_of : Edit → map.Edit
 edit_of (AddNode id place) = map.Add_node id place

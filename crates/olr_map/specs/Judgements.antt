@@ -1,7 +1,8 @@
 -- What an edit touches on a map that takes it, as one value.
 --     judged_lines j, changes_told j      its line, and that line as a changed one
---     IsJudged M place e j      the map takes edit e, and j tells what it touches: nodes with their places, and a line with how it changes
---     AreSlots b M at e, AreEnds M nodes e      at: the slots of the nodes of e that are there before it;  nodes: the ends of the line that e sets
+--     IsJudged M place e j the map takes edit e, and j tells what it touches: nodes with their places, and a line with
+--     how it changes AreSlots b M at e, AreEnds M nodes e at: the slots of the nodes of e that are there before it;
+--     nodes: the ends of the line that e sets
 use Rattle.std.specs.Prelude.{◌≡◌, ◌==◌, ◌||◌, ℕ, List, map, Some, IsTrue, IsOk, ⊤}
 use Rattle.std.specs.Option.{option_to_list}
 use Rattle.olr_spec.specs.Map as maps
@@ -29,7 +30,8 @@ pub record IsJudged (M : Map) (place : ℕ → ℕ) (e : maps.Edit) (j : Judged)
 abbrev pub AreSlots : ByNumber → Map → ℕ × ℕ → maps.Edit → Type 0
 AreSlots b M at (maps.Move_node v c) = found b v ≡ Some at.0
 AreSlots b M at (maps.Add_line x l) = (found b l.from ≡ Some at.0) × (found b l.to ≡ Some at.1)
-AreSlots b M at (maps.Set_line x frc fow len shape) = (found b (start M x) ≡ Some at.0) × (found b (end M x) ≡ Some at.1)
+AreSlots b M at (maps.Set_line x frc fow len shape) =
+    (found b (start M x) ≡ Some at.0) × (found b (end M x) ≡ Some at.1)
 AreSlots b M at (maps.Drop_line x) = (found b (start M x) ≡ Some at.0) × (found b (end M x) ≡ Some at.1)
 AreSlots b M at _ = ⊤
 

@@ -34,7 +34,8 @@ abbrev pub coord_in : List (Option NodeEntry) → ℕ → Coord
 coord_in es p = option_map_or (λ (e : NodeEntry). e.place) (at es p) no_place
 
 abbrev pub map_from : ByNumber → List (Option NodeEntry) → FinMap nat_cmp Line → Map
-map_from b es F = record { nodes = from_entries (map (λ (e : ℕ × ℕ). (e.0, coord_in es e.1)) (entries_of b)); lines = F }
+map_from b es F =
+    record { nodes = from_entries (map (λ (e : ℕ × ℕ). (e.0, coord_in es e.1)) (entries_of b)); lines = F }
 
 abbrev pub place_in : ByNumber → ℕ → ℕ
 place_in b v = unwrap_or (found b v) 0
@@ -67,10 +68,13 @@ pub record IsKept (b : ByNumber) (es : List (Option NodeEntry)) (F : FinMap nat_
   pub sound : IsMap (map_from b es F)
   pub indexed : IsIndexed b es
   pub placed : ArePlaces (map_from b es F) (place_in b) (length es)
-  pub listed : (side : Side) (v : ℕ) (l : Links) → links_in side b es v ≡ Some l → IsListed side (map_from b es F) (place_in b) v l
+  pub listed : (side : Side) (v : ℕ) (l : Links) → links_in side b es v ≡ Some l →
+      IsListed side (map_from b es F) (place_in b) v l
 
 coded_end : Coded LineEnd
-coded_end = code_by (ℕ × (ℕ × ℕ)) (coded× coded_ℕ (coded× coded_ℕ coded_ℕ)) (λ e. (e.node, (e.place, e.len))) (λ p. record { node = p.0; place = p.1.0; len = p.1.1 }) (λ _. refl)
+coded_end =
+    code_by (ℕ × (ℕ × ℕ)) (coded× coded_ℕ (coded× coded_ℕ coded_ℕ)) (λ e. (e.node, (e.place, e.len)))
+    (λ p. record { node = p.0; place = p.1.0; len = p.1.1 }) (λ _. refl)
 
 IsListed-prop : (side : Side) (M : Map) (place : ℕ → ℕ) (v : ℕ) (l : Links) → IsProp (IsListed side M place v l)
 IsListed-prop side M place v l = hlevel (props, Coded-set (coded_list coded_ℕ), Coded-set (coded_list coded_end))

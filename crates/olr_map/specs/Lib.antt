@@ -5,7 +5,6 @@ pub mod HavingSlots
 pub mod Edits
 pub mod Ends
 pub mod Linked
-pub mod Places
 pub mod Slotted
 pub mod NodeLinks
 pub mod Slabs

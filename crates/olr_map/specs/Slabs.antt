@@ -1,6 +1,7 @@
 -- Things in their slots.
 --     slots_of s, free_in s, room_in s      what the slots hold;  how many are free;  how many more there is room for
---     Fills old new p      slot p was free and isn't listed any more, or it is a new one behind the others, and none was free
+--     Fills old new p slot p was free and isn't listed any more, or it is a new one behind the others, and none was
+--     free
 use Rattle.std.specs.Prelude.{◌≡◌, ℕ, ◌-◌, ◌+◌, ◌^◌, ◌<◌, ◌⊎◌, min, length, List, Option}
 use Rattle.std.specs.Vec.{vec_capacity}
 use Rattle.olr_map.specs.declared.slab.Slab.{Slab}
@@ -13,9 +14,11 @@ module _ {X : Type 0} where
   free_in s = length s.free.items
 
   abbrev pub room_in : Slab X → ℕ
-  room_in s = free_in s + (min (min (vec_capacity s.entries) (vec_capacity s.free)) (2 ^ 32 - 1) - length s.entries.items)
+  room_in s =
+      free_in s + (min (min (vec_capacity s.entries) (vec_capacity s.free)) (2 ^ 32 - 1) - length s.entries.items)
 
   abbrev pub Fills : Slab X → Slab X → ℕ → Type 0
   Fills old new p =
       ((p < length (slots_of old)) × (length (slots_of new) ≡ length (slots_of old)) × (free_in new + 1 ≡ free_in old))
-      ⊎ ((p ≡ length (slots_of old)) × (length (slots_of new) ≡ length (slots_of old) + 1) × (free_in old ≡ 0) × (free_in new ≡ 0))
+      ⊎ ((p ≡ length (slots_of old)) × (length (slots_of new) ≡ length (slots_of old) + 1) × (free_in old ≡ 0)
+      × (free_in new ≡ 0))

@@ -2,7 +2,8 @@
 --     present es      the things, in the slots' order
 --     at es p      what slot p holds
 --     IsSlotted es free room      the free slots are listed, each once, and there is room to list them all
-use Rattle.std.specs.Prelude.{◌≡◌, ◌≢◌, ℕ, ◌+◌, ◌<◌, ◌≤◌, ◌^◌, List, [], ◌∷◌, Option, Some, None, length, slice_index, slice_index_or, cond, ◌==◌, IsNone}
+use Rattle.std.specs.Prelude.{◌≡◌, ◌≢◌, ℕ, ◌+◌, ◌<◌, ◌≤◌, ◌^◌, List, [], ◌∷◌, Option, Some, None, length, slice_index}
+use Rattle.std.specs.Prelude.{slice_index_or, cond, ◌==◌, IsNone}
 use Rattle.std.specs.Coded.{Coded-set, coded_ℕ, le_prop}
 use Rattle.std.proofs.Props.{props}
 

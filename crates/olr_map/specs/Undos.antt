@@ -2,14 +2,15 @@
 --     CanMakeAll M R cs      the changes can be made one after the other, and take no memory
 --     made_all M cs      the map after them
 --     changes_of log      the changes that take back what a log knows, the last edit's first
---     CanUndoIn t u, undone_in t u      the tables are as the edit left them, their room for what comes back included;  the map from before
---     CanUndoAllIn t log, before_in t log      the same for all edits that a log knows
+--     CanUndoIn t u, undone_in t u the tables are as the edit left them, their room for what comes back included; the
+--     map from before CanUndoAllIn t log, before_in t log the same for all edits that a log knows
 use Rattle.std.specs.Prelude.{ℕ, List, [], ◌∷◌, reverse, ⊤}
 use Rattle.std.specs.Coded.{×_prop, Unit-prop, le_prop, coded_ℕ, coded_list, Coded-set}
 use Rattle.std.proofs.Props.{props}
 use Rattle.olr_spec.specs.Map as map
 use Rattle.olr_spec.specs.Map.{Map, HasPlace}
-use Rattle.olr_map.specs.Changes.{Room, CanMake, HasRoomFor, HasNumbers, IsWhole, change_edit, map_after, node_puts, line_puts, room_after, room_of, tables_map}
+use Rattle.olr_map.specs.Changes.{Room, CanMake, HasRoomFor, HasNumbers, IsWhole, change_edit, map_after, node_puts}
+use Rattle.olr_map.specs.Changes.{line_puts, room_after, room_of, tables_map}
 use Rattle.olr_map.specs.declared.change.Change.{Change}
 use Rattle.olr_map.specs.declared.change.Change.TheVariants.{PutNode, MoveNode, TakeNode, PutLine, SetLine, TakeLine}
 use Rattle.olr_map.specs.declared.tables.Tables.{Tables}
@@ -75,7 +76,10 @@ HasNumbers-prop : (t : Tables) (n l : ℕ) → IsProp (HasNumbers t n l)
 HasNumbers-prop t n l = hlevel (props, le_prop)
 
 pub CanUndoIn-prop : (t : Tables) (u : Undo) → IsProp (CanUndoIn t u)
-CanUndoIn-prop t u = ×_prop (CanMake-prop (tables_map t) (room_of t) u.change) (HasNumbers-prop t (node_puts u.change) (line_puts u.change))
+CanUndoIn-prop t u =
+    ×_prop (CanMake-prop (tables_map t) (room_of t) u.change)
+    (HasNumbers-prop t (node_puts u.change) (line_puts u.change))
 
 pub CanUndoAllIn-prop : (t : Tables) (log : UndoLog) → IsProp (CanUndoAllIn t log)
-CanUndoAllIn-prop t log = ×_prop (CanMakeAll-prop (tables_map t) (room_of t) (changes_of log)) (HasNumbers-prop t log.nodes log.lines)
+CanUndoAllIn-prop t log =
+    ×_prop (CanMakeAll-prop (tables_map t) (room_of t) (changes_of log)) (HasNumbers-prop t log.nodes log.lines)

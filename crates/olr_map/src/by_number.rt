@@ -1,5 +1,6 @@
 //! Slots by number, for the nodes and for the lines: one body over how a number is found.
-ghost use Rattle.std.specs.Prelude.{◌≡◌, ◌+◌, ◌^◌, ◌<◌, ◌≤◌, ◌==◌, ℕ, [], cond, length, vec_len, IsSome, Some, None, MatchOption, OnOk, slice_index};
+ghost use Rattle.std.specs.Prelude.{◌≡◌, ◌+◌, ◌^◌, ◌<◌, ◌≤◌, ◌==◌, ℕ, [], cond, length, vec_len, IsSome, Some, None};
+ghost use Rattle.std.specs.Prelude.{MatchOption, OnOk, slice_index};
 ghost use Rattle.std.specs.List.{IsDistinct, IsDistinct-prop};
 ghost use Rattle.std.specs.Map.{keys_of, lookup};
 ghost use Rattle.std.specs.Vec.{vec_capacity};
@@ -27,14 +28,14 @@ impl ByNumber {
     ghost use Rattle.olr_map.specs.ByNumbers.{entries_of, found, spare_of};
 
     /// No slots, to be found by hash. Takes no memory.
-    pub fn hashed(alloc: Global) -> ByNumber
+    pub fn with_hash(alloc: Global) -> ByNumber
         ensures { entries_of result ≡ [] }
     {
         ByNumber::Hashed(Blocks::new(alloc))
     }
 
     /// No slots, to be found by search from the front. Takes no memory.
-    pub fn listed(alloc: Global) -> ByNumber
+    pub fn with_list(alloc: Global) -> ByNumber
         ensures { entries_of result ≡ [] }
     {
         ByNumber::Listed(List {
@@ -98,7 +99,8 @@ impl ByNumber {
 impl List {
     /// Where the slot of this number stands.
     fn place(&self, number: u32) -> Option<usize>
-        ensures { MatchOption result ((k : ℕ) → k < length self.now.entries.items → slice_index (keys_of self.now.entries.items) k ≡ number → ⊥)
+        ensures { MatchOption result ((k : ℕ) → k < length self.now.entries.items →
+            slice_index (keys_of self.now.entries.items) k ≡ number → ⊥)
             (λ i. (i < length self.now.entries.items) × (slice_index (keys_of self.now.entries.items) i ≡ number)) }
     {
         for (i, entry) in self.entries.iter().enumerate() {
@@ -118,10 +120,7 @@ impl List {
         ensures len { vec_len self.new.entries ≡ vec_len self.old.entries + 1 }
         ensures capacity { vec_capacity self.old.entries ≤ vec_capacity self.new.entries }
     {
-        match self.entries.push((number, slot)) {
-            Ok(()) => {}
-            Err(_) => unreachable!(),
-        }
+        self.entries.push_reserved((number, slot));
     }
 
     /// Takes the slot of this number out.

@@ -1,5 +1,6 @@
 //! Up to four lines of a node, each with its far end, in the value itself.
-ghost use Rattle.std.specs.Prelude.{◌≡◌, ◌+◌, ◌-◌, ◌<◌, ◌≤◌, List, [], ◌∷◌, ◌++◌, length, take, insert, remove, set, slice_range};
+ghost use Rattle.std.specs.Prelude.{◌≡◌, ◌+◌, ◌-◌, ◌<◌, ◌≤◌, List, [], ◌∷◌, ◌++◌, length, take, insert, remove, set};
+ghost use Rattle.std.specs.Prelude.{slice_range};
 ghost use Rattle.std.specs.List.{remove_range};
 
 use crate::ids::LineId;

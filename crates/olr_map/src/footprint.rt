@@ -70,13 +70,13 @@ impl Footprint {
         ensures err { OnErr result (self.new ≡ self.old) }
     {
         let alloc = *self.nodes.allocator();
-        self.nodes = merged(alloc, &self.nodes, rising)?;
+        self.nodes = merge(alloc, &self.nodes, rising)?;
         Ok(())
     }
 }
 
 /// The numbers of both lists, rising.
-fn merged(alloc: Global, left: &[NodeId], right: &[NodeId]) -> Result<Vec<NodeId>, AllocError>
+fn merge(alloc: Global, left: &[NodeId], right: &[NodeId]) -> Result<Vec<NodeId>, AllocError>
     requires left { IsStrictlyIncreasing left.now }
     requires right { IsStrictlyIncreasing right.now }
     ensures rising { IfOk result (λ v. IsStrictlyIncreasing v.items) }

@@ -19,7 +19,9 @@ impl Tables {
     ghost use Rattle.olr_map.specs.Kept.{place_in};
     ghost use Rattle.olr_map.specs.Judgements.{IsJudged, AreEnds, AreSlots};
     ghost use Rattle.olr_map.specs.Edits.{edit_of, edit_fault_of};
-    ghost use Rattle.olr_map.specs.Changes.{tables_map, room_of, change_edit, node_puts, line_puts, node_numbers, line_numbers, HasRoomFor, HasNumbers, IsWhole, IsRoomWithin, CanMake, IsChangeMade, map_after, room_after};
+    ghost use Rattle.olr_map.specs.Changes.{tables_map, room_of, change_edit, node_puts, line_puts, node_numbers};
+    ghost use Rattle.olr_map.specs.Changes.{line_numbers, HasRoomFor, HasNumbers, IsWhole, IsRoomWithin, CanMake};
+    ghost use Rattle.olr_map.specs.Changes.{IsChangeMade, map_after, room_after};
     ghost use Rattle.olr_map.specs.Undos.{changes_of, CanUndoIn, undone_in, CanUndoAllIn, before_in};
 
     /// The slots of the nodes that a change touches and that are there before it.

@@ -1,5 +1,5 @@
-//! The road map: numbers of nodes and lines, lines with their shapes, what the layers above read of a map, sets of nodes,
-//! and edits that can be undone.
+//! The road map: numbers of nodes and lines, lines with their shapes, what the layers above read of a map, sets of
+//! nodes, and edits that can be undone.
 #![tactic(auto)]
 
 mod block;
@@ -8,21 +8,21 @@ mod by_number;
 mod change;
 pub mod edit;
 mod few;
-pub mod footprint;
+mod footprint;
 mod history;
-pub mod ids;
+mod ids;
 pub mod judging;
-pub mod line;
+mod line;
 mod links;
 mod number_hash;
 mod numbered;
-pub mod plain_map;
+mod plain_map;
 pub mod read;
 pub mod road_map;
 mod slab;
 mod slots;
 mod tables;
-pub mod touched;
+mod touched;
 pub mod undo;
 
 pub use edit::{Edit, EditFault};

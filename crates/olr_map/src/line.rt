@@ -65,8 +65,8 @@ impl Model for Line {
 }
 
 impl Line {
-    /// Whether both classes are at most 7, the length is from 1 to 1,000,000 dm, and at most 1,000 shape points stand at
-    /// distances that rise strictly and lie strictly between the two ends.
+    /// Whether both classes are at most 7, the length is from 1 to 1,000,000 dm, and at most 1,000 shape points stand
+    /// at distances that rise strictly and lie strictly between the two ends.
     pub fn is_good(&self) -> bool
         ensures good { result ≡ is_good self.now }
         ensures placed { OnTrue result (IsTrue (are_coords self.now.shape)) }
@@ -86,11 +86,11 @@ pub fn has_good_fields(frc: u8, fow: u8, len: u32, shape: &[Shape]) -> bool
         && len >= 1
         && len <= GREATEST_LEN
         && shape.len() <= MOST_SHAPE_POINTS
-        && rises(shape, len)
+        && is_rising(shape, len)
 }
 
 /// Whether the distances rise strictly, and lie strictly between 0 and `len`.
-fn rises(shape: &[Shape], len: u32) -> bool
+fn is_rising(shape: &[Shape], len: u32) -> bool
     ensures rises { result ≡ rises_between 0 shape.now len }
     ensures placed { OnTrue result (IsTrue (are_coords shape.now)) }
 {

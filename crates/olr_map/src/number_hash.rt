@@ -1,5 +1,5 @@
-//! The hash of numbers of nodes and lines: neighbours share a place of the table, so that a map whose numbers rise is read
-//! with few misses, and other patterns of numbers are spread.
+//! The hash of numbers of nodes and lines: neighbours share a place of the table, so that a map whose numbers rise is
+//! read with few misses, and other patterns of numbers are spread.
 ghost use Rattle.olr_map.specs.Hashing.{number_write, number_hash};
 
 use std::hash::Hasher;

@@ -20,21 +20,21 @@ impl<V: Drop> Numbered<V> {
     ghost use Rattle.olr_map.specs.Numbering.{things_of, held, spare_numbers};
 
     /// No things, to be found by hash. Takes no memory.
-    pub fn hashed(alloc: Global) -> Numbered<V>
+    pub fn with_hash(alloc: Global) -> Numbered<V>
         ensures { things_of result ≡ [] }
     {
         Numbered {
-            index: ByNumber::hashed(alloc),
+            index: ByNumber::with_hash(alloc),
             slab: Slab::new(alloc),
         }
     }
 
     /// No things, to be found by search from the front. Takes no memory.
-    pub fn listed(alloc: Global) -> Numbered<V>
+    pub fn with_list(alloc: Global) -> Numbered<V>
         ensures { things_of result ≡ [] }
     {
         Numbered {
-            index: ByNumber::listed(alloc),
+            index: ByNumber::with_list(alloc),
             slab: Slab::new(alloc),
         }
     }

@@ -88,7 +88,7 @@ impl PlainMap {
         ensures { map_of result ≡ empty_map }
     {
         PlainMap {
-            tables: Tables::listed(alloc),
+            tables: Tables::with_list(alloc),
         }
     }
 

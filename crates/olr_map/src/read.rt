@@ -47,11 +47,13 @@ pub trait MapRead {
     fn in_lines(&self, id: NodeId) -> &[LineId]
         ensures { result.now ≡ lines_in (map self.now) id };
 
-    /// For each line of `out_lines`, in that order: the node where it ends, that node's place, and the line's length. Lent.
+    /// For each line of `out_lines`, in that order: the node where it ends, that node's place, and the line's length.
+    /// Lent.
     fn out_ends(&self, id: NodeId) -> &[LineEnd]
         ensures { result.now ≡ ends_out (map self.now) (place_in self.now) id };
 
-    /// For each line of `in_lines`, in that order: the node where it begins, that node's place, and the line's length. Lent.
+    /// For each line of `in_lines`, in that order: the node where it begins, that node's place, and the line's length.
+    /// Lent.
     fn in_ends(&self, id: NodeId) -> &[LineEnd]
         ensures { result.now ≡ ends_in (map self.now) (place_in self.now) id };
 

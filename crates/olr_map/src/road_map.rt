@@ -88,7 +88,7 @@ impl RoadMap {
         ensures { map_of result ≡ empty_map }
     {
         RoadMap {
-            tables: Tables::hashed(alloc),
+            tables: Tables::with_hash(alloc),
         }
     }
 

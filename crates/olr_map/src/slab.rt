@@ -90,10 +90,8 @@ impl<V: Drop> Slab<V> {
             }
             None => {
                 let slot = self.entries.len();
-                match self.entries.push(Some(entry)) {
-                    Ok(()) => slot as u32,
-                    Err(_) => unreachable!(),
-                }
+                self.entries.push_reserved(Some(entry));
+                slot as u32
             }
         }
     }
@@ -121,10 +119,10 @@ impl<V: Drop> Slab<V> {
         ensures room { room_in self.old + 1 ≤ room_in self.new }
     {
         match mem::replace(&mut self.entries[slot as usize], None) {
-            Some(entry) => match self.free.push(slot) {
-                Ok(()) => entry,
-                Err(_) => unreachable!(),
-            },
+            Some(entry) => {
+                self.free.push_reserved(slot);
+                entry
+            }
             None => unreachable!(),
         }
     }

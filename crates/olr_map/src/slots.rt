@@ -1,5 +1,6 @@
 //! The nodes in their slots, in columns: their heads, the lines that leave them, and those that enter them.
-ghost use Rattle.std.specs.Prelude.{◌≡◌, ◌+◌, ◌<◌, ◌≤◌, ◌++◌, ◌∷◌, [], length, set, vec_len, cond, nat_lt, Some, IsSome, OnOk, IsTrue, IsFalse};
+ghost use Rattle.std.specs.Prelude.{◌≡◌, ◌+◌, ◌<◌, ◌≤◌, ◌++◌, ◌∷◌, [], length, set, vec_len, cond, nat_lt, Some};
+ghost use Rattle.std.specs.Prelude.{IsSome, OnOk, IsTrue, IsFalse};
 ghost use Rattle.std.specs.List.Sorted.{IsStrictlyIncreasing};
 ghost use Rattle.std.specs.Vec.{vec_capacity};
 
@@ -34,8 +35,8 @@ pub enum Side {
     In,
 }
 
-/// The nodes' heads in their slots, and beside each slot the lines that leave the node there and those that enter it, so
-/// that a search passes from lines to lines and reads nothing else.
+/// The nodes' heads in their slots, and beside each slot the lines that leave the node there and those that enter it,
+/// so that a search passes from lines to lines and reads nothing else.
 #[derive(Drop, Debug)]
 pub struct NodeSlots {
     pub heads: Slab<NodeHead>,
@@ -225,7 +226,8 @@ impl NodeSlots {
 fn put_links(column: &mut Vec<Links>, slot: u32, links: Links)
     requires within { slot ≤ length column.old.items }
     requires room { slot ≡ length column.old.items → vec_len column.old < vec_capacity column.old }
-    ensures items { column.new.items ≡ cond (nat_lt slot (length column.old.items)) (set column.old.items slot links) (column.old.items ++ links ∷ []) }
+    ensures items { column.new.items ≡ cond (nat_lt slot (length column.old.items)) (set column.old.items slot links)
+        (column.old.items ++ links ∷ []) }
     ensures capacity { vec_capacity column.old ≤ vec_capacity column.new }
 {
     let at = slot as usize;
@@ -233,8 +235,5 @@ fn put_links(column: &mut Vec<Links>, slot: u32, links: Links)
         column[at] = links;
         return;
     }
-    match column.push(links) {
-        Ok(()) => {}
-        Err(_) => unreachable!(),
-    }
+    column.push_reserved(links);
 }

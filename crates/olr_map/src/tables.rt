@@ -104,28 +104,30 @@ impl Tables {
     ghost use Rattle.olr_spec.specs.Map.{empty_map, has_node, has_line, start, end};
     ghost use Rattle.olr_map.specs.ByNumbers.{found, spare_of};
     ghost use Rattle.olr_map.specs.Numbering.{spare_numbers};
-    ghost use Rattle.olr_map.specs.Changes.{tables_map, room_of, spare_at, node_puts, line_puts, IsRoomWithin, HasNumbers, CanMake, IsChangeMade};
-    ghost use Rattle.olr_map.specs.declared.change.Change.TheVariants.{PutNode, MoveNode, TakeNode, PutLine, SetLine, TakeLine};
+    ghost use Rattle.olr_map.specs.Changes.{tables_map, room_of, spare_at, node_puts, line_puts, IsRoomWithin};
+    ghost use Rattle.olr_map.specs.Changes.{HasNumbers, CanMake, IsChangeMade};
+    ghost use Rattle.olr_map.specs.declared.change.Change.TheVariants.{PutNode, MoveNode, TakeNode, PutLine, SetLine};
+    ghost use Rattle.olr_map.specs.declared.change.Change.TheVariants.{TakeLine};
 
     /// No nodes and no lines, to be found by hash. Takes no memory.
-    pub fn hashed(alloc: Global) -> Tables
+    pub fn with_hash(alloc: Global) -> Tables
         ensures { tables_map result ≡ empty_map }
     {
         Tables {
-            index: ByNumber::hashed(alloc),
+            index: ByNumber::with_hash(alloc),
             nodes: NodeSlots::new(alloc),
-            lines: Numbered::hashed(alloc),
+            lines: Numbered::with_hash(alloc),
         }
     }
 
     /// No nodes and no lines, to be found by search from the front. Takes no memory.
-    pub fn listed(alloc: Global) -> Tables
+    pub fn with_list(alloc: Global) -> Tables
         ensures { tables_map result ≡ empty_map }
     {
         Tables {
-            index: ByNumber::listed(alloc),
+            index: ByNumber::with_list(alloc),
             nodes: NodeSlots::new(alloc),
-            lines: Numbered::listed(alloc),
+            lines: Numbered::with_list(alloc),
         }
     }
 

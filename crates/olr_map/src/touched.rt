@@ -8,8 +8,8 @@ use crate::edit::Edit;
 use crate::ids::{LineId, NodeId};
 use crate::read::MapRead;
 
-/// The nodes that an edit touches on the map before it: both ends of the line, or the node twice. None where the line that
-/// it sets or takes away is not there.
+/// The nodes that an edit touches on the map before it: both ends of the line, or the node twice. None where the line
+/// that it sets or takes away is not there.
 pub fn nodes_touched<M: MapRead>(map: &M, edit: &Edit) -> Option<(NodeId, NodeId)>
     ensures nodes { IfSome result (λ t. (v : ℕ)
         → has (touched_nodes (M.map map.now) (edit_of edit.now)) v ≡ ((t.0 == v) || (t.1 == v))) }

@@ -11,8 +11,8 @@ pub struct Undo {
     pub(crate) change: Change,
 }
 
-/// What takes back a list of edits, the last one first. What the edits took out of the map stands in the log, and nowhere
-/// else: a log may be dropped, which lets all that go and leaves the map as it is.
+/// What takes back a list of edits, the last one first. What the edits took out of the map stands in the log, and
+/// nowhere else: a log may be dropped, which lets all that go and leaves the map as it is.
 #[derive(Drop, Debug)]
 pub struct UndoLog {
     pub(crate) changes: Vec<Change>,

@@ -4,7 +4,11 @@ use Rattle.olr_map.proofs.blocks.Blocks.reserve.Goals as goal
 
 pub invariant_of-self : goal.invariant_of-self
 invariant_of-self c =
-    record { apart = c.reserve.ensures.unique; used = record { used = λ q b is. c.args.self.now.used.used q b (sym (c.reserve.ensures.entries.2 q) ∙ is) } }
+    record {
+      apart = c.reserve.ensures.unique;
+      used =
+          record { used = λ q b is. c.args.self.now.used.used q b (sym (c.reserve.ensures.entries.2 q) ∙ is) };
+    }
 
 pub returns-clause-same : goal.returns-clause-same
 returns-clause-same c = λ k. ap (λ o. slot_in o (k % 4)) (c.reserve.ensures.entries.2 (k / 4))

@@ -13,7 +13,8 @@ invariant_of-self c =
       apart = c.remove.ensures.unique;
       used = used_gone bs.blocks.entries _ (n / 4)
           (λ q.
-          c.remove.ensures.updates.0 q ∙ ap (cond (n / 4 == q) None) ((w.3 (ap (λ o. is_some o) (sym c.in-Some.ensures.value))).0 q)
+          c.remove.ensures.updates.0 q
+          ∙ ap (cond (n / 4 == q) None) ((w.3 (ap (λ o. is_some o) (sym c.in-Some.ensures.value))).0 q)
           ∙ gone_again (n / 4 == q) (Some c.take-slot.new.self) (lookup (λ p. q == p) bs.blocks.entries)) bs.used;
     }
 
@@ -23,7 +24,9 @@ invariant_of-self-else-is_empty c =
     let w = c.get_mut.follows.holds c.take-slot.new.self in
     record {
       apart = w.4;
-      used = used_put bs.blocks.entries _ (c.args.number / 4) c.take-slot.new.self (w.3 (ap (λ o. is_some o) (sym c.in-Some.ensures.value))).0
+      used =
+          used_put bs.blocks.entries _ (c.args.number / 4) c.take-slot.new.self
+          (w.3 (ap (λ o. is_some o) (sym c.in-Some.ensures.value))).0
           (λ blank. let is : c.is_empty.result ≡ true = c.is_empty.ensures.1 blank in cc) bs.used;
     }
 
@@ -37,11 +40,13 @@ returns-then-is_empty-clause-taken c =
     (λ q.
     c.remove.ensures.updates.0 q ∙ ap (cond (n / 4 == q) None) ((w.3 (ap (λ o. is_some o) (sym here))).0 q)
     ∙ gone_again (n / 4 == q) (Some c.take-slot.new.self) (lookup (λ p. q == p) bs))
-    (λ i. sym (c.is_empty.ensures.0 c.if-is_empty.true i) ∙ c.take-slot.ensures.taken i ∙ ap (λ o. cond (n % 4 == i) None (slot_in o i)) here)
+    (λ i. sym (c.is_empty.ensures.0 c.if-is_empty.true i) ∙ c.take-slot.ensures.taken i
+    ∙ ap (λ o. cond (n % 4 == i) None (slot_in o i)) here)
 
 pub returns-else-is_empty-clause-taken : goal.returns-else-is_empty-clause-taken
 returns-else-is_empty-clause-taken c =
     let w = c.get_mut.follows.holds c.take-slot.new.self in
     let here = c.in-Some.ensures.value in
-    block_changed c.args.self.now.blocks.entries _ c.args.number (Some c.take-slot.new.self) None (w.3 (ap (λ o. is_some o) (sym here))).0
+    block_changed c.args.self.now.blocks.entries _ c.args.number (Some c.take-slot.new.self) None
+    (w.3 (ap (λ o. is_some o) (sym here))).0
     (λ i. c.take-slot.ensures.taken i ∙ ap (λ o. cond (c.args.number % 4 == i) None (slot_in o i)) here)

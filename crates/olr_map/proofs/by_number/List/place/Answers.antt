@@ -8,4 +8,6 @@ loop-i-preserved c =
     let i = c.loop-i.i in
     let here = c.deref-entry-items.ensures.value in
     below_more _ _ c.loop-i.invariant
-    (λ e. c.if-entry-number.false (ap (λ (xs : List (ℕ × ℕ)). (get_or xs i (0, 0)).0) here ∙ sym (get_or-map (λ e. e.0) es i (0, 0) 0 (let lt = c.loop-i-test.true in let same = ap (λ xs. length xs) here in omega arith)) ∙ e))
+    (λ e. c.if-entry-number.false (ap (λ (xs : List (ℕ × ℕ)). (get_or xs i (0, 0)).0) here
+    ∙ sym (get_or-map (λ e. e.0) es i (0, 0) 0 (let lt = c.loop-i-test.true in let same = ap (λ xs. length xs) here in
+    omega arith)) ∙ e))

@@ -1,17 +1,15 @@
-use Rattle.std.proofs.Common.{Err}
-use Rattle.std.specs.List.Sorted.{IsStrictlyIncreasing}
-use Rattle.olr_map.specs.Places.{Place}
-use Rattle.olr_map.proofs.Rising.{place_of, insert_rises, insert_adds, insert_keeps}
+use Rattle.olr_spec.proofs.RisingLists.{put_rises, insert_adds, insert_keeps}
 use Rattle.olr_map.proofs.footprint.Footprint.note.Goals as goal
 
 pub invariant_of-self : goal.invariant_of-self
 invariant_of-self c =
     let xs = c.self.inside.nodes.items in
-    let place : Place xs c.args.node (Err c.in-Err.place) = place_of xs c.args.node (Err c.in-Err.place) c.self.invariant (rw c.deref.ensures.value at c.in-Err.ensures.position) in
-    let up : IsStrictlyIncreasing c.insert.new.self.items = rw c.in_ok-insert.ensures.items (insert_rises xs c.args.node c.in-Err.place c.self.invariant place) in
-    up
+    rw c.in_ok-insert.ensures.items
+    (put_rises xs c.args.node c.in-Err.place c.self.invariant (rw c.deref.ensures.value at c.in-Err.ensures.position))
 
 pub returns-in_ok-insert-clause-ok : goal.returns-in_ok-insert-clause-ok
 returns-in_ok-insert-clause-ok c = λ n.
-    rw (c.in_ok-insert.ensures.items, ← c.self.view_is)
-    (insert_adds c.self.inside.nodes.items c.args.node c.in-Err.place n, insert_keeps c.self.inside.nodes.items c.args.node c.in-Err.place n)
+    rw (c.in_ok-insert.ensures.items, ← c.self.view_is) (
+      insert_adds c.self.inside.nodes.items c.args.node c.in-Err.place n,
+      insert_keeps c.self.inside.nodes.items c.args.node c.in-Err.place n,
+    )

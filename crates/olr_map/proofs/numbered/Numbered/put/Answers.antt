@@ -4,17 +4,23 @@ use Rattle.olr_map.proofs.Numbering.{no_slot, came_held, came_slots}
 use Rattle.olr_map.proofs.numbered.Numbered.put.Goals as goal
 
 pub put-requires-clause-absent : goal.put-requires-clause-absent
-put-requires-clause-absent g c = let n = c.args.self.now in no_slot n.index (slots_of n.slab) n.kept c.args.number c.requires.absent
+put-requires-clause-absent g c = let n =
+    c.args.self.now in no_slot n.index (slots_of n.slab) n.kept c.args.number c.requires.absent
 
 pub put-requires-clause-fits : goal.put-requires-clause-fits
-put-requires-clause-fits g c = came_fits (slots_of c.args.self.now.slab) c.put-slot.result _ c.put-slot.new.self.slotted c.put-slot.ensures.comes
+put-requires-clause-fits g c =
+    came_fits (slots_of c.args.self.now.slab) c.put-slot.result _ c.put-slot.new.self.slotted c.put-slot.ensures.comes
 
 pub invariant_of-self : goal.invariant_of-self
 invariant_of-self g c =
     let n = c.args.self.now in
-    record { kept = came_slots n.index (slots_of n.slab) n.kept c.put.new.self (slots_of c.put-slot.new.self) c.put-slot.result c.args.number c.args.value c.put-slot.ensures.comes c.put.ensures.put }
+    record {
+      kept = came_slots n.index (slots_of n.slab) n.kept c.put.new.self (slots_of c.put-slot.new.self)
+          c.put-slot.result c.args.number c.args.value c.put-slot.ensures.comes c.put.ensures.put;
+    }
 
 pub returns-clause-put : goal.returns-clause-put
 returns-clause-put g c =
     let n = c.args.self.now in
-    came_held n.index (slots_of n.slab) n.kept c.put.new.self (slots_of c.put-slot.new.self) c.put-slot.result c.args.number c.args.value c.put-slot.ensures.comes c.put.ensures.put
+    came_held n.index (slots_of n.slab) n.kept c.put.new.self (slots_of c.put-slot.new.self) c.put-slot.result
+    c.args.number c.args.value c.put-slot.ensures.comes c.put.ensures.put

@@ -10,12 +10,17 @@ replace-requires g c = c.args.self.now.kept.stands c.args.number c.in-Some.slot 
 pub invariant_of-self : goal.invariant_of-self
 invariant_of-self g c =
     let n = c.args.self.now in
-    record { kept = turned_slots n.index (slots_of n.slab) n.kept (slots_of c.replace.new.self) c.in-Some.slot c.args.number c.replace.result c.args.value c.replace.ensures.turns (sym c.in-Some.ensures) }
+    record {
+      kept = turned_slots n.index (slots_of n.slab) n.kept (slots_of c.replace.new.self) c.in-Some.slot
+          c.args.number c.replace.result c.args.value c.replace.ensures.turns (sym c.in-Some.ensures);
+    }
 
 pub returns-clause-was : goal.returns-clause-was
-returns-clause-was g c = ap (in_slot (slots_of c.args.self.now.slab)) (sym c.in-Some.ensures) ∙ c.replace.ensures.turns.was
+returns-clause-was g c =
+    ap (in_slot (slots_of c.args.self.now.slab)) (sym c.in-Some.ensures) ∙ c.replace.ensures.turns.was
 
 pub returns-clause-put : goal.returns-clause-put
 returns-clause-put g c =
     let n = c.args.self.now in
-    turned_held n.index (slots_of n.slab) n.kept (slots_of c.replace.new.self) c.in-Some.slot c.args.number c.replace.result c.args.value c.replace.ensures.turns (sym c.in-Some.ensures)
+    turned_held n.index (slots_of n.slab) n.kept (slots_of c.replace.new.self) c.in-Some.slot c.args.number
+    c.replace.result c.args.value c.replace.ensures.turns (sym c.in-Some.ensures)

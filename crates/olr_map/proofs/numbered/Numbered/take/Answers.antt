@@ -5,7 +5,8 @@ use Rattle.olr_map.proofs.Numbering.{has_slot, gone_held, gone_slots}
 use Rattle.olr_map.proofs.numbered.Numbered.take.Goals as goal
 
 pub take-slot-requires : goal.take-slot-requires
-take-slot-requires g c = let n = c.args.self.now in ap (λ o. is_some o) (has_slot n.index (slots_of n.slab) n.kept c.args.number c.requires).1
+take-slot-requires g c = let n =
+    c.args.self.now in ap (λ o. is_some o) (has_slot n.index (slots_of n.slab) n.kept c.args.number c.requires).1
 
 pub take-requires : goal.take-requires
 take-requires g c = c.args.self.now.kept.stands c.args.number c.take-slot.result c.take-slot.ensures.was
@@ -13,7 +14,11 @@ take-requires g c = c.args.self.now.kept.stands c.args.number c.take-slot.result
 pub invariant_of-self : goal.invariant_of-self
 invariant_of-self g c =
     let n = c.args.self.now in
-    record { kept = gone_slots n.index (slots_of n.slab) n.kept c.take-slot.new.self (slots_of c.take.new.self) c.take-slot.result c.args.number c.take.result c.take.ensures.goes c.take-slot.ensures.was c.take-slot.ensures.taken }
+    record {
+      kept = gone_slots n.index (slots_of n.slab) n.kept c.take-slot.new.self (slots_of c.take.new.self)
+          c.take-slot.result c.args.number c.take.result c.take.ensures.goes c.take-slot.ensures.was
+          c.take-slot.ensures.taken;
+    }
 
 pub returns-clause-was : goal.returns-clause-was
 returns-clause-was g c = ap (in_slot (slots_of c.args.self.now.slab)) c.take-slot.ensures.was ∙ c.take.ensures.goes.was
@@ -21,4 +26,5 @@ returns-clause-was g c = ap (in_slot (slots_of c.args.self.now.slab)) c.take-slo
 pub returns-clause-taken : goal.returns-clause-taken
 returns-clause-taken g c =
     let n = c.args.self.now in
-    gone_held n.index (slots_of n.slab) n.kept c.take-slot.new.self (slots_of c.take.new.self) c.take-slot.result c.args.number c.take.result c.take.ensures.goes c.take-slot.ensures.was c.take-slot.ensures.taken
+    gone_held n.index (slots_of n.slab) n.kept c.take-slot.new.self (slots_of c.take.new.self) c.take-slot.result
+    c.args.number c.take.result c.take.ensures.goes c.take-slot.ensures.was c.take-slot.ensures.taken

@@ -1,6 +1,5 @@
-use Rattle.std.proofs.Common.{◌≡◌, ◌<◌, Some, sym, set, subst, ◌∙◌, length, vec_len, arith}
+use Rattle.std.proofs.Common.{◌≡◌, ◌<◌, Some, sym, set, subst, length, vec_len, arith}
 use Rattle.std.specs.Vec.{vec_capacity}
-use Rattle.std.proofs.lemmas.Bool.{cond-true}
 use Rattle.olr_map.specs.Slotted.{IsSlotted}
 use Rattle.olr_map.specs.Slabs.{room_in}
 use Rattle.olr_map.proofs.SlotLemmas.{popped, put_slotted, push_none, comes_free, comes_last}
@@ -11,14 +10,18 @@ invariant_of-self g c =
     let s = c.args.self.now in
     let es = s.entries.items in
     record {
-      slotted = subst (λ n. IsSlotted (set es c.in-Some.slot (Some c.args.entry)) c.pop.new.self.items n) (sym c.pop.ensures.capacity)
-          (put_slotted es s.free.items _ s.slotted c.pop.new.self.items c.in-Some.slot c.args.entry c.in-Some.ensures.items);
+      slotted =
+          subst (λ n. IsSlotted (set es c.in-Some.slot (Some c.args.entry)) c.pop.new.self.items n)
+          (sym c.pop.ensures.capacity)
+          (put_slotted es s.free.items _ s.slotted c.pop.new.self.items c.in-Some.slot c.args.entry
+          c.in-Some.ensures.items);
     }
 
 pub returns-in-Some-clause-comes : goal.returns-in-Some-clause-comes
 returns-in-Some-clause-comes g c =
     let s = c.args.self.now in
-    let pop = popped s.entries.items s.free.items _ s.slotted c.pop.new.self.items c.in-Some.slot c.in-Some.ensures.items in
+    let pop =
+    popped s.entries.items s.free.items _ s.slotted c.pop.new.self.items c.in-Some.slot c.in-Some.ensures.items in
     comes_free s.entries.items c.in-Some.slot c.args.entry pop.0 pop.1
 
 pub invariant_of-self-in-None : goal.invariant_of-self-in-None
@@ -33,14 +36,16 @@ invariant_of-self-in-None g c =
     let none' : length c.pop.new.self.items ≡ 0 = omega arith in
     let room : 0 < room_in s = c.requires in
     let long : vec_len s.entries < vec_capacity s.entries = omega arith in
-    let items = c.push.ensures.items ∙ cond-true _ _ _ (c.push.ensures.succeeds long) in
     record {
-      slotted = push_none s.entries.items s.free.items _ s.slotted c.args.entry c.pop.new.self.items _ c.push.new.self.items none none' c.pop.ensures.capacity (omega arith) (omega arith) items;
+      slotted =
+          push_none s.entries.items s.free.items _ s.slotted c.args.entry c.pop.new.self.items _
+          c.push_reserved.new.self.items none none' c.pop.ensures.capacity (omega arith) (omega arith)
+          c.push_reserved.ensures.items;
     }
 
-pub returns-in-Ok-clause-comes : goal.returns-in-Ok-clause-comes
-returns-in-Ok-clause-comes g c =
+pub returns-in-None-clause-comes : goal.returns-in-None-clause-comes
+returns-in-None-clause-comes g c =
     let s = c.args.self.now in
     let len = s.entries.ok.0 in
     let is = c.len-slot.ensures in
-    rw c.in-Ok.ensures.items (comes_last s.entries.items c.len-slot.result c.args.entry (omega arith))
+    rw c.push_reserved.ensures.items (comes_last s.entries.items c.len-slot.result c.args.entry (omega arith))

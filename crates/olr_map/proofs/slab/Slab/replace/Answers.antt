@@ -4,11 +4,16 @@ use Rattle.olr_map.proofs.slab.Slab.replace.Goals as goal
 pub invariant_of-self : goal.invariant_of-self
 invariant_of-self g c =
     let s = c.args.self.now in
-    let here = stood s.entries.items c.args.slot c.index_mut.result.now c.in-Some.place c.requires c.index_mut.ensures.value c.in-Some.is in
+    let here =
+    stood s.entries.items c.args.slot c.index_mut.result.now c.in-Some.place c.requires c.index_mut.ensures.value
+    c.in-Some.is in
     record { slotted = turned_slotted s.entries.items s.free.items _ s.slotted c.args.slot c.in-Some.place _ here }
 
 pub returns-clause-turns : goal.returns-clause-turns
 returns-clause-turns g c =
     let s = c.args.self.now in
-    let here = stood s.entries.items c.args.slot c.index_mut.result.now c.in-Some.place c.requires c.index_mut.ensures.value c.in-Some.is in
-    rw (c.replace.ensures.after, c.replace.ensures.value) (turns s.entries.items c.args.slot c.in-Some.place c.args.entry here)
+    let here =
+    stood s.entries.items c.args.slot c.index_mut.result.now c.in-Some.place c.requires c.index_mut.ensures.value
+    c.in-Some.is in
+    rw (c.replace.ensures.after, c.replace.ensures.value)
+    (turns s.entries.items c.args.slot c.in-Some.place c.args.entry here)

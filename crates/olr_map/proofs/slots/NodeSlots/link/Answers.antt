@@ -1,58 +1,73 @@
 use Rattle.std.proofs.Common.{subst}
+use Rattle.olr_spec.proofs.OptionLemmas.{is_some_of}
 use Rattle.olr_map.specs.declared.links.Links.{Links}
 use Rattle.olr_map.specs.Linked.{IsLinked}
-use Rattle.olr_map.proofs.SlotLemmas.{is_there}
 use Rattle.olr_map.proofs.ColumnLemmas.{inside_outs, inside_ins, outs_are, ins_are, outs_turned, ins_turned}
 use Rattle.olr_map.proofs.slots.NodeSlots.link.Goals as goal
 
 pub index_mut-requires : goal.index_mut-requires
-index_mut-requires c = inside_outs c.args.self.now c.args.slot (is_there _ _ c.requires.1)
+index_mut-requires c = inside_outs c.args.self.now c.args.slot (is_some_of _ _ c.requires.1)
 
-pub link-requires-clause-rising : goal.link-requires-clause-rising
-link-requires-clause-rising c =
+pub link-requires : goal.link-requires
+link-requires c =
     let r = c.requires in
-    rw (outs_are c.args.self.now c.args.side c.args.slot r.0 r.1 c.in-Out.is c.index_mut.result.now c.index_mut.ensures.value) r.2
-
-pub link-requires-clause-absent : goal.link-requires-clause-absent
-link-requires-clause-absent c =
-    let r = c.requires in
-    rw (outs_are c.args.self.now c.args.side c.args.slot r.0 r.1 c.in-Out.is c.index_mut.result.now c.index_mut.ensures.value) r.3
-
-pub link-requires-clause-room : goal.link-requires-clause-room
-link-requires-clause-room c =
-    let r = c.requires in
-    rw (outs_are c.args.self.now c.args.side c.args.slot r.0 r.1 c.in-Out.is c.index_mut.result.now c.index_mut.ensures.value) r.4
+    let is =
+    outs_are c.args.self.now c.args.side c.args.slot r.0 r.1 c.in-Out.is c.index_mut.result.now
+    c.index_mut.ensures.value in
+    record { rising = rw is r.2; absent = rw is r.3; room = rw is r.4 }
 
 pub index_mut-requires-in-In : goal.index_mut-requires-in-In
-index_mut-requires-in-In c = inside_ins c.args.self.now c.args.slot (is_there _ _ c.requires.1)
+index_mut-requires-in-In c = inside_ins c.args.self.now c.args.slot (is_some_of _ _ c.requires.1)
 
-pub link-requires-in-In-clause-rising : goal.link-requires-in-In-clause-rising
-link-requires-in-In-clause-rising c =
+pub link-requires-in-In : goal.link-requires-in-In
+link-requires-in-In c =
     let r = c.requires in
-    rw (ins_are c.args.self.now c.args.side c.args.slot r.0 r.1 c.in-In.is c.index_mut-in-In.result.now c.index_mut-in-In.ensures.value) r.2
-
-pub link-requires-in-In-clause-absent : goal.link-requires-in-In-clause-absent
-link-requires-in-In-clause-absent c =
-    let r = c.requires in
-    rw (ins_are c.args.self.now c.args.side c.args.slot r.0 r.1 c.in-In.is c.index_mut-in-In.result.now c.index_mut-in-In.ensures.value) r.3
-
-pub link-requires-in-In-clause-room : goal.link-requires-in-In-clause-room
-link-requires-in-In-clause-room c =
-    let r = c.requires in
-    rw (ins_are c.args.self.now c.args.side c.args.slot r.0 r.1 c.in-In.is c.index_mut-in-In.result.now c.index_mut-in-In.ensures.value) r.4
+    let is =
+    ins_are c.args.self.now c.args.side c.args.slot r.0 r.1 c.in-In.is c.index_mut-in-In.result.now
+    c.index_mut-in-In.ensures.value in
+    record { rising = rw is r.2; absent = rw is r.3; room = rw is r.4 }
 
 pub returns-in-Out-clause-turns : goal.returns-in-Out-clause-turns
 returns-in-Out-clause-turns c =
     let s = c.args.self.now in
     let r = c.requires in
     let l = c.link.new.self in
-    let is = outs_are s c.args.side c.args.slot r.0 r.1 c.in-Out.is c.index_mut.result.now c.index_mut.ensures.value in
-    (r.0, l, outs_turned s c.args.side c.args.slot r.0 r.1 c.in-Out.is l, subst (λ (o : Links). IsLinked o l c.args.id c.args.end) is (record { place = c.link.ensures.put.0; within = c.link.ensures.put.1; lines = c.link.ensures.put.2; ends = c.link.ensures.put.3; rises = c.link.ensures.rising; room = c.link.ensures.room }))
+    let is =
+    outs_are s c.args.side c.args.slot r.0 r.1 c.in-Out.is c.index_mut.result.now c.index_mut.ensures.value in (
+      r.0,
+      l,
+      outs_turned s c.args.side c.args.slot r.0 r.1 c.in-Out.is l,
+      subst (λ (o : Links). IsLinked o l c.args.id c.args.end) is
+          (record {
+            place = c.link.ensures.put.0;
+            within = c.link.ensures.put.1;
+            lines = c.link.ensures.put.2;
+            ends =
+                c.link.ensures.put.3;
+            rises = c.link.ensures.rising;
+            room = c.link.ensures.room;
+          }),
+    )
 
 pub returns-in-In-clause-turns : goal.returns-in-In-clause-turns
 returns-in-In-clause-turns c =
     let s = c.args.self.now in
     let r = c.requires in
     let l = c.link-in-In.new.self in
-    let is = ins_are s c.args.side c.args.slot r.0 r.1 c.in-In.is c.index_mut-in-In.result.now c.index_mut-in-In.ensures.value in
-    (r.0, l, ins_turned s c.args.side c.args.slot r.0 r.1 c.in-In.is l, subst (λ (o : Links). IsLinked o l c.args.id c.args.end) is (record { place = c.link-in-In.ensures.put.0; within = c.link-in-In.ensures.put.1; lines = c.link-in-In.ensures.put.2; ends = c.link-in-In.ensures.put.3; rises = c.link-in-In.ensures.rising; room = c.link-in-In.ensures.room }))
+    let is =
+    ins_are s c.args.side c.args.slot r.0 r.1 c.in-In.is
+    c.index_mut-in-In.result.now c.index_mut-in-In.ensures.value in (
+      r.0,
+      l,
+      ins_turned s c.args.side c.args.slot r.0 r.1 c.in-In.is l,
+      subst (λ (o : Links). IsLinked o l c.args.id c.args.end) is
+          (record {
+            place = c.link-in-In.ensures.put.0;
+            within = c.link-in-In.ensures.put.1;
+            lines =
+                c.link-in-In.ensures.put.2;
+            ends = c.link-in-In.ensures.put.3;
+            rises = c.link-in-In.ensures.rising;
+            room = c.link-in-In.ensures.room;
+          }),
+    )

@@ -13,4 +13,5 @@ entry-requires c =
 pub returns : goal.returns
 returns c = λ e h.
     let s = c.args.self.now in
-    ap (λ (x : NodeHead). x.place) (same_some _ _ (sym c.entry.ensures ∙ head_read (slots_of s.heads) s.outs.items s.ins.items c.args.slot e h))
+    ap (λ (x : NodeHead). x.place)
+    (same_some _ _ (sym c.entry.ensures ∙ head_read (slots_of s.heads) s.outs.items s.ins.items c.args.slot e h))

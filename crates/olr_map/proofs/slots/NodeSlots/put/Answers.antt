@@ -9,12 +9,17 @@ invariant_of-self c =
     let p = c.put-slot.result in
     let fills = c.put-slot.ensures.fills in
     record {
-      outs_beside = ap (λ (xs : Column). length xs) c.put_links.ensures.items ∙ stays_beside s heads s.outs.items p c.args.entry.outs s.outs_beside fills;
-      ins_beside = ap (λ (xs : Column). length xs) c.put_links-2.ensures.items ∙ stays_beside s heads s.ins.items p c.args.entry.ins s.ins_beside fills;
+      outs_beside =
+          ap (λ (xs : Column). length xs) c.put_links.ensures.items
+          ∙ stays_beside s heads s.outs.items p c.args.entry.outs s.outs_beside fills;
+      ins_beside =
+          ap (λ (xs : Column). length xs) c.put_links-2.ensures.items
+          ∙ stays_beside s heads s.ins.items p c.args.entry.ins s.ins_beside fills;
     }
 
 pub returns-clause-comes : goal.returns-clause-comes
 returns-clause-comes c =
     let s = c.args.self.now in
     rw (c.put_links.ensures.items, c.put_links-2.ensures.items)
-    (row_comes s c.put-slot.new.self c.put-slot.result _ c.args.entry.outs c.args.entry.ins c.put-slot.ensures.comes c.put-slot.ensures.fills)
+    (row_comes s c.put-slot.new.self c.put-slot.result _ c.args.entry.outs c.args.entry.ins c.put-slot.ensures.comes
+    c.put-slot.ensures.fills)

@@ -1,7 +1,7 @@
 use Rattle.std.proofs.Common.{subst, get_or, sym, ◌≡◌}
+use Rattle.olr_spec.proofs.OptionLemmas.{some_of}
 use Rattle.olr_map.specs.Slabs.{slots_of}
 use Rattle.olr_map.specs.declared.links.Links.{Links}
-use Rattle.olr_map.proofs.Numbering.{some_of}
 use Rattle.olr_map.proofs.ColumnLemmas.{head_there, entry_read, row_gone}
 use Rattle.olr_map.proofs.slots.NodeSlots.take.Goals as goal
 
@@ -20,5 +20,8 @@ returns-clause-goes c =
     subst (λ (w : Links). w ≡ get_or s.outs.items p w) (sym c.replace-outs.ensures.value) c.index_mut.ensures.value in
     let i : c.replace-ins.result ≡ get_or s.ins.items p c.replace-ins.result =
     subst (λ (w : Links). w ≡ get_or s.ins.items p w) (sym c.replace-ins.ensures.value) c.index_mut-2.ensures.value in
-    let is = entry_read (slots_of s.heads) s.outs.items s.ins.items p e.0 c.take-id.result c.replace-outs.result c.replace-ins.result e.1 taken.goes.was o i in
-    rw (← is) (row_gone s (slots_of c.take-id.new.self) p e.0 c.take-id.result c.replace-outs.new.dest c.replace-ins.new.dest e.1 taken.goes taken.count)
+    let is =
+    entry_read (slots_of s.heads) s.outs.items s.ins.items p e.0 c.take-id.result c.replace-outs.result
+    c.replace-ins.result e.1 taken.goes.was o i in
+    rw (← is) (row_gone s (slots_of c.take-id.new.self) p e.0 c.take-id.result c.replace-outs.new.dest
+    c.replace-ins.new.dest e.1 taken.goes taken.count)

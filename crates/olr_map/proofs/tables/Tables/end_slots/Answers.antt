@@ -11,13 +11,15 @@ pub slot-requires : goal.slot-requires
 slot-requires c =
     let t = c.args.self.now in
     let was = ap (held t.lines) (sym c.number.ensures.same) ∙ sym c.in-Some.ensures in
-    subst (λ (l : Line). has_node (tables_map t) l.from ≡ true) (sym c.line.view_is) (start_found t c.args.id c.in-Some.line.now was).0
+    subst (λ (l : Line). has_node (tables_map t) l.from ≡ true) (sym c.line.view_is)
+    (start_found t c.args.id c.in-Some.line.now was).0
 
 pub slot-requires-in-Some : goal.slot-requires-in-Some
 slot-requires-in-Some c =
     let t = c.args.self.now in
     let was = ap (held t.lines) (sym c.number.ensures.same) ∙ sym c.in-Some.ensures in
-    subst (λ (l : Line). has_node (tables_map t) l.to ≡ true) (sym c.line.view_is) (start_found t c.args.id c.in-Some.line.now was).1
+    subst (λ (l : Line). has_node (tables_map t) l.to ≡ true) (sym c.line.view_is)
+    (start_found t c.args.id c.in-Some.line.now was).1
 
 pub unreachable-requires : goal.unreachable-requires
 unreachable-requires c =

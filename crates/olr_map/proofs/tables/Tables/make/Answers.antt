@@ -9,4 +9,6 @@ make_room-requires-clause-slots c = judged_slots c.args.self.now (edit_of c.args
 
 pub returns-clause-done : goal.returns-clause-done
 returns-clause-done c =
-    done_by (tables_map c.args.self.now) (tables_map c.make_room.new.self) _ (edit_of c.args.edit) c.change_for-change.result c.change_for-change.ensures.same c.make_room.ensures.same c.requires.accepted c.make_change.ensures.made.map
+    done_by (tables_map c.args.self.now) (tables_map c.make_room.new.self) _ (edit_of c.args.edit)
+    c.change_for-change.result c.change_for-change.ensures.same c.make_room.ensures.same c.requires.accepted
+    c.make_change.ensures.made.map

@@ -10,11 +10,13 @@ use Rattle.olr_map.specs.Numbering.{spare_numbers}
 use Rattle.olr_map.proofs.tables.Tables.make_into.Goals as goal
 
 pub make_room-requires-clause-slots : goal.make_room-requires-clause-slots
-make_room-requires-clause-slots c = judged_slots c.args.self.now (edit_of c.args.edit) c.args.judged.now c.requires.judged
+make_room-requires-clause-slots c =
+    judged_slots c.args.self.now (edit_of c.args.edit) c.args.judged.now c.requires.judged
 
 pub returns-clause-done : goal.returns-clause-done
 returns-clause-done c =
-    done_by (tables_map c.args.self.now) (tables_map c.make_room.new.self) _ (edit_of c.args.edit) c.change_for-change.result c.change_for-change.ensures.same c.make_room.ensures.same
+    done_by (tables_map c.args.self.now) (tables_map c.make_room.new.self) _ (edit_of c.args.edit)
+    c.change_for-change.result c.change_for-change.ensures.same c.make_room.ensures.same
     c.requires.judged.accepted c.make_change-back.ensures.made.map
 
 pub returns-clause-can_undo : goal.returns-clause-can_undo
@@ -27,14 +29,22 @@ returns-clause-can_undo c =
     let order = c.push.ensures.more ∙ ap (λ (cs : List Change). back ∷ cs) c.reserve.ensures.same in
     let all =
     subst (λ (cs : List Change). CanMakeAll (tables_map new) (room_of new) cs) (sym order)
-    (one_more (tables_map old) (tables_map new) (room_of old) (room_of new) back (changes_of c.args.log.now) c.requires.log.0 made.can_back
-    (made.before ∙ c.make_room.ensures.same) (within_trans (room_of old) (room_of mid) _ c.make_room.ensures.more made.room_before)) in
-    let nodes : c.reserve.new.self.nodes + node_numbers (edit_of c.args.edit) ≤ spare_of mid.index = c.in_ok-make_room.ensures.numbers.nodes in
-    let lines : c.reserve.new.self.lines + line_numbers (edit_of c.args.edit) ≤ spare_numbers mid.lines = c.in_ok-make_room.ensures.numbers.lines in
-    let nodes_put : node_puts c.change_for-change.result + node_puts back ≡ node_numbers (edit_of c.args.edit) = c.make_change-back.ensures.nodes ∙ ap (λ e. node_numbers e) c.change_for-change.ensures.same in
-    let lines_put : line_puts c.change_for-change.result + line_puts back ≡ line_numbers (edit_of c.args.edit) = c.make_change-back.ensures.lines ∙ ap (λ e. line_numbers e) c.change_for-change.ensures.same in
-    let nodes_left : spare_of mid.index ≤ spare_of new.index + node_puts c.change_for-change.result = made.node_numbers in
-    let lines_left : spare_numbers mid.lines ≤ spare_numbers new.lines + line_puts c.change_for-change.result = made.line_numbers in
+    (one_more (tables_map old) (tables_map new) (room_of old) (room_of new) back (changes_of c.args.log.now)
+    c.requires.log.0 made.can_back
+    (made.before ∙ c.make_room.ensures.same)
+    (within_trans (room_of old) (room_of mid) _ c.make_room.ensures.more made.room_before)) in
+    let nodes : c.reserve.new.self.nodes + node_numbers (edit_of c.args.edit) ≤ spare_of mid.index =
+    c.in_ok-make_room.ensures.numbers.nodes in
+    let lines : c.reserve.new.self.lines + line_numbers (edit_of c.args.edit) ≤ spare_numbers mid.lines =
+    c.in_ok-make_room.ensures.numbers.lines in
+    let nodes_put : node_puts c.change_for-change.result + node_puts back ≡ node_numbers (edit_of c.args.edit) =
+    c.make_change-back.ensures.nodes ∙ ap (λ e. node_numbers e) c.change_for-change.ensures.same in
+    let lines_put : line_puts c.change_for-change.result + line_puts back ≡ line_numbers (edit_of c.args.edit) =
+    c.make_change-back.ensures.lines ∙ ap (λ e. line_numbers e) c.change_for-change.ensures.same in
+    let nodes_left : spare_of mid.index ≤ spare_of new.index + node_puts c.change_for-change.result =
+    made.node_numbers in
+    let lines_left : spare_numbers mid.lines ≤ spare_numbers new.lines + line_puts c.change_for-change.result =
+    made.line_numbers in
     let nodes_new = c.push.ensures.nodes in
     let lines_new = c.push.ensures.lines in
     (all, record { nodes = omega arith; lines = omega arith })
@@ -44,6 +54,7 @@ returns-in_err-make_room-clause-can_undo c =
     let old = c.args.self.now in
     let mid = c.make_room.new.self in (
       subst (λ (cs : List Change). CanMakeAll (tables_map mid) (room_of mid) cs) (sym c.reserve.ensures.same)
-          (all_on (tables_map old) (tables_map mid) (room_of old) (room_of mid) (changes_of c.args.log.now) c.make_room.ensures.same c.make_room.ensures.more c.requires.log.0),
+          (all_on (tables_map old) (tables_map mid) (room_of old) (room_of mid) (changes_of c.args.log.now)
+          c.make_room.ensures.same c.make_room.ensures.more c.requires.log.0),
       c.make_room.ensures.kept,
     )

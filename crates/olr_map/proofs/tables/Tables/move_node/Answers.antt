@@ -1,23 +1,26 @@
 use Rattle.std.proofs.Common.{is_some, ap}
-use Rattle.olr_map.specs.Columns.{node_slots}
-use Rattle.olr_map.proofs.Indexing.{entry_of}
 use Rattle.olr_map.proofs.NodeChanges.{move_node_kept, move_node_made}
+use Rattle.olr_map.proofs.Reading.{entry_at}
 use Rattle.olr_map.proofs.tables.Tables.move_node.Goals as goal
 
 pub move_node-requires : goal.move_node-requires
 move_node-requires c =
     let t = c.args.self.now in
-    let x = entry_of t.index (node_slots t.nodes) t.kept.indexed c.args.id c.args.slot c.requires.here in
+    let x = entry_at t c.args.id c.args.slot c.requires.here in
     ap (λ o. is_some o) x.1
 
 pub invariant_of-self : goal.invariant_of-self
 invariant_of-self c =
     let t = c.args.self.now in
     let w = c.move_node.ensures.turns in
-    record { kept = move_node_kept t c.move_node.new.self c.args.slot c.args.id w.0 c.args.place w.2 c.requires.here c.requires.can }
+    record {
+      kept = move_node_kept t c.move_node.new.self c.args.slot c.args.id w.0 c.args.place w.2 c.requires.here
+          c.requires.can;
+    }
 
 pub returns : goal.returns
 returns c =
     let t = c.args.self.now in
     let w = c.move_node.ensures.turns in
-    rw (← w.1) (move_node_made t c.move_node.new.self c.args.slot c.args.id w.0 c.args.place w.2 c.requires.here c.requires.can _ c.move_node.ensures.room)
+    rw (← w.1) (move_node_made t c.move_node.new.self c.args.slot c.args.id w.0 c.args.place w.2 c.requires.here
+    c.requires.can _ c.move_node.ensures.room)

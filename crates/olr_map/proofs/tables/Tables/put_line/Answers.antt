@@ -3,7 +3,8 @@ use Rattle.olr_map.specs.ByNumbers.{found}
 use Rattle.olr_map.specs.Changes.{spare_at}
 use Rattle.olr_map.specs.Linked.{spare_links, IsLinked}
 use Rattle.olr_map.specs.declared.slots.Side.TheVariants.{Out, In}
-use Rattle.olr_map.proofs.LineChanges.{first_entry, first_links, second_entry, second_links, both_turned, list_rises, list_lacks, list_spare, number_free, put_line_kept, put_line_made}
+use Rattle.olr_map.proofs.LineChanges.{first_entry, first_links, second_entry, second_links, both_turned, list_rises}
+use Rattle.olr_map.proofs.LineChanges.{list_lacks, list_spare, number_free, put_line_kept, put_line_made}
 use Rattle.olr_map.proofs.Reading.{line_missing}
 use Rattle.olr_map.specs.Numbering.{held}
 use Rattle.olr_map.proofs.tables.Tables.put_line.Goals as goal
@@ -17,8 +18,13 @@ link-requires c =
     let was = first_links t l.from c.args.from here Out e.0 e.1 in
     let spare = list_spare t Out l.from e.0.outs was in
     let fits : 0 < spare_at Out t l.from = c.requires.can.fits.0 in
-    let room : 0 < spare_links e.0.outs = omega arith in
-    (e.0, e.1, list_rises t Out l.from e.0.outs was, list_lacks t Out l.from e.0.outs was c.args.id (number_free t c.args.id l c.requires.can), room)
+    let room : 0 < spare_links e.0.outs = omega arith in (
+      e.0,
+      e.1,
+      list_rises t Out l.from e.0.outs was,
+      list_lacks t Out l.from e.0.outs was c.args.id (number_free t c.args.id l c.requires.can),
+      room,
+    )
 
 pub link-requires-2 : goal.link-requires-2
 link-requires-2 c =
@@ -31,11 +37,18 @@ link-requires-2 c =
     let was = second_links t l.from c.args.from here c.link.new.self w.0 w.1 w.2 l.to c.args.to there f.0 f.1 in
     let spare = list_spare t In l.to f.0.ins was in
     let fits : 0 < spare_at In t l.to = c.requires.can.fits.1 in
-    let room : 0 < spare_links f.0.ins = omega arith in
-    (f.0, f.1, list_rises t In l.to f.0.ins was, list_lacks t In l.to f.0.ins was c.args.id (number_free t c.args.id l c.requires.can), room)
+    let room : 0 < spare_links f.0.ins = omega arith in (
+      f.0,
+      f.1,
+      list_rises t In l.to f.0.ins was,
+      list_lacks t In l.to f.0.ins was c.args.id (number_free t c.args.id l c.requires.can),
+      room,
+    )
 
 pub put-requires-clause-absent : goal.put-requires-clause-absent
-put-requires-clause-absent c = ap (held c.args.self.now.lines) c.number.ensures.same ∙ line_missing c.args.self.now c.args.id (number_free c.args.self.now c.args.id c.args.line c.requires.can)
+put-requires-clause-absent c =
+    ap (held c.args.self.now.lines) c.number.ensures.same
+    ∙ line_missing c.args.self.now c.args.id (number_free c.args.self.now c.args.id c.args.line c.requires.can)
 
 pub invariant_of-self : goal.invariant_of-self
 invariant_of-self c =
@@ -50,8 +63,13 @@ invariant_of-self c =
     let r = both_turned t l.from p here c.link.new.self w.0 w.1 w.2 l.to q there c.link-2.new.self u.0 u.1 u.2 in
     let ko = subst (λ e. IsLinked w.0.outs w.1 c.args.id e) c.far_ends-begins.ensures.ends w.3 in
     let ki = subst (λ e. IsLinked u.0.ins u.1 c.args.id e) c.far_ends-begins.ensures.begins u.3 in
-    let put = subst (λ (n : ℕ). (k : ℕ) → held c.put.new.self k ≡ cond (n == k) (Some l) (held t.lines k)) c.number.ensures.same c.put.ensures.put in
-    record { kept = put_line_kept t c.link-2.new.self c.put.new.self c.args.id l p q w.0.outs w.1 u.0.ins u.1 r here there ko ki put c.requires.can }
+    let put =
+    subst (λ (n : ℕ). (k : ℕ) → held c.put.new.self k ≡ cond (n == k) (Some l) (held t.lines k)) c.number.ensures.same
+    c.put.ensures.put in
+    record {
+      kept = put_line_kept t c.link-2.new.self c.put.new.self c.args.id l p q w.0.outs w.1 u.0.ins u.1 r here
+          there ko ki put c.requires.can;
+    }
 
 pub returns : goal.returns
 returns c =
@@ -66,5 +84,8 @@ returns c =
     let r = both_turned t l.from p here c.link.new.self w.0 w.1 w.2 l.to q there c.link-2.new.self u.0 u.1 u.2 in
     let ko = subst (λ e. IsLinked w.0.outs w.1 c.args.id e) c.far_ends-begins.ensures.ends w.3 in
     let ki = subst (λ e. IsLinked u.0.ins u.1 c.args.id e) c.far_ends-begins.ensures.begins u.3 in
-    let put = subst (λ (n : ℕ). (k : ℕ) → held c.put.new.self k ≡ cond (n == k) (Some l) (held t.lines k)) c.number.ensures.same c.put.ensures.put in
-    put_line_made t c.link-2.new.self c.put.new.self c.args.id l p q w.0.outs w.1 u.0.ins u.1 r here there ko ki put c.requires.can _ (c.link-2.ensures.room ∙ c.link.ensures.room) c.put.ensures.spare
+    let put =
+    subst (λ (n : ℕ). (k : ℕ) → held c.put.new.self k ≡ cond (n == k) (Some l) (held t.lines k)) c.number.ensures.same
+    c.put.ensures.put in
+    put_line_made t c.link-2.new.self c.put.new.self c.args.id l p q w.0.outs w.1 u.0.ins u.1 r here there ko ki put
+    c.requires.can _ (c.link-2.ensures.room ∙ c.link.ensures.room) c.put.ensures.spare

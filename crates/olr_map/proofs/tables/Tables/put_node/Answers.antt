@@ -8,7 +8,8 @@ use Rattle.olr_map.proofs.tables.Tables.put_node.Goals as goal
 pub put-requires-clause-absent : goal.put-requires-clause-absent
 put-requires-clause-absent c =
     let t = c.args.self.now in
-    ap (found t.index) c.number.ensures.same ∙ free_number t c.args.id c.args.place c.args.outs c.args.ins c.requires.can
+    ap (found t.index) c.number.ensures.same
+    ∙ free_number t c.args.id c.args.place c.args.outs c.args.ins c.requires.can
 
 pub put-requires-clause-fits : goal.put-requires-clause-fits
 put-requires-clause-fits c =
@@ -18,10 +19,15 @@ pub invariant_of-self : goal.invariant_of-self
 invariant_of-self c =
     let t = c.args.self.now in
     let b' = c.put.new.self in
-    let put = subst (λ (n : ℕ). (k : ℕ) → found b' k ≡ cond (n == k) (Some c.put-slot.result) (found t.index k)) c.number.ensures.same c.put.ensures.put in
+    let put =
+    subst (λ (n : ℕ). (k : ℕ) → found b' k ≡ cond (n == k) (Some c.put-slot.result) (found t.index k))
+    c.number.ensures.same c.put.ensures.put in
     record {
-      kept = put_node_kept t b' c.put-slot.new.self c.put-slot.result c.args.id c.args.place c.args.outs c.args.ins c.in_spare-outs.result c.in_spare-ins.result
-          (record { lines = c.in_spare-outs.ensures.lines; room = c.in_spare-outs.ensures.room }) (record { lines = c.in_spare-ins.ensures.lines; room = c.in_spare-ins.ensures.room })
+      kept =
+          put_node_kept t b' c.put-slot.new.self c.put-slot.result c.args.id c.args.place c.args.outs c.args.ins
+          c.in_spare-outs.result c.in_spare-ins.result
+          (record { lines = c.in_spare-outs.ensures.lines; room = c.in_spare-outs.ensures.room })
+          (record { lines = c.in_spare-ins.ensures.lines; room = c.in_spare-ins.ensures.room })
           c.put-slot.ensures.comes put c.requires.can;
     }
 
@@ -29,7 +35,11 @@ pub returns : goal.returns
 returns c =
     let t = c.args.self.now in
     let b' = c.put.new.self in
-    let put = subst (λ (n : ℕ). (k : ℕ) → found b' k ≡ cond (n == k) (Some c.put-slot.result) (found t.index k)) c.number.ensures.same c.put.ensures.put in
-    put_node_made t b' c.put-slot.new.self c.put-slot.result c.args.id c.args.place c.args.outs c.args.ins c.in_spare-outs.result c.in_spare-ins.result
-    (record { lines = c.in_spare-outs.ensures.lines; room = c.in_spare-outs.ensures.room }) (record { lines = c.in_spare-ins.ensures.lines; room = c.in_spare-ins.ensures.room })
+    let put =
+    subst (λ (n : ℕ). (k : ℕ) → found b' k ≡ cond (n == k) (Some c.put-slot.result) (found t.index k))
+    c.number.ensures.same c.put.ensures.put in
+    put_node_made t b' c.put-slot.new.self c.put-slot.result c.args.id c.args.place c.args.outs c.args.ins
+    c.in_spare-outs.result c.in_spare-ins.result
+    (record { lines = c.in_spare-outs.ensures.lines; room = c.in_spare-outs.ensures.room })
+    (record { lines = c.in_spare-ins.ensures.lines; room = c.in_spare-ins.ensures.room })
     c.put-slot.ensures.comes put c.requires.can _ c.put-slot.ensures.room c.put.ensures.spare

@@ -11,6 +11,7 @@ pub unreachable-requires : goal.unreachable-requires
 unreachable-requires c =
     let t = c.args.self.now in
     let none = ap (found t.index) (sym c.number.ensures.same) ∙ sym c.in-None.ensures in
-    let absent : has_node (tables_map t) c.args.id ≡ false = node_missing t.index (node_slots t.nodes) t.kept.indexed (all_held t.lines) c.args.id none in
+    let absent : has_node (tables_map t) c.args.id ≡ false =
+    node_missing t.index (node_slots t.nodes) t.kept.indexed (all_held t.lines) c.args.id none in
     let there : has_node (tables_map t) c.args.id ≡ true = c.requires in
     cc

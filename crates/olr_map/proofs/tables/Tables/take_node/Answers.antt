@@ -1,8 +1,7 @@
 use Rattle.std.proofs.Common.{◌≡◌, ◌==◌, ℕ, cond, None, is_some, subst, sym, ap, ◌∙◌}
 use Rattle.olr_map.specs.ByNumbers.{found}
-use Rattle.olr_map.specs.Columns.{node_slots}
 use Rattle.olr_map.proofs.NodeChanges.{take_node_kept, take_node_made, slot_taken, go_no_outs, go_no_ins}
-use Rattle.olr_map.proofs.Indexing.{entry_of}
+use Rattle.olr_map.proofs.Reading.{entry_at}
 use Rattle.olr_map.proofs.tables.Tables.take_node.Goals as goal
 
 pub take-slot-requires : goal.take-slot-requires
@@ -15,7 +14,7 @@ pub take-entry-requires : goal.take-entry-requires
 take-entry-requires c =
     let t = c.args.self.now in
     let here = ap (found t.index) (sym c.number.ensures.same) ∙ c.take-slot.ensures.was in
-    let x = entry_of t.index (node_slots t.nodes) t.kept.indexed c.args.id c.take-slot.result here in
+    let x = entry_at t c.args.id c.take-slot.result here in
     ap (λ o. is_some o) x.1
 
 pub into_spare-outs-requires : goal.into_spare-outs-requires
@@ -23,30 +22,45 @@ into_spare-outs-requires c =
     let t = c.args.self.now in
     let b' = c.take-slot.new.self in
     let here = ap (found t.index) (sym c.number.ensures.same) ∙ c.take-slot.ensures.was in
-    let taken = subst (λ (n : ℕ). (k : ℕ) → found b' k ≡ cond (n == k) None (found t.index k)) c.number.ensures.same c.take-slot.ensures.taken in
-    go_no_outs t b' c.take-entry.new.self c.take-slot.result c.args.id c.take-entry.result c.take-entry.ensures.goes here taken c.requires
+    let taken =
+    subst (λ (n : ℕ). (k : ℕ) → found b' k ≡ cond (n == k) None (found t.index k)) c.number.ensures.same
+    c.take-slot.ensures.taken in
+    go_no_outs t b' c.take-entry.new.self c.take-slot.result c.args.id c.take-entry.result c.take-entry.ensures.goes
+    here taken c.requires
 
 pub into_spare-ins-requires : goal.into_spare-ins-requires
 into_spare-ins-requires c =
     let t = c.args.self.now in
     let b' = c.take-slot.new.self in
     let here = ap (found t.index) (sym c.number.ensures.same) ∙ c.take-slot.ensures.was in
-    let taken = subst (λ (n : ℕ). (k : ℕ) → found b' k ≡ cond (n == k) None (found t.index k)) c.number.ensures.same c.take-slot.ensures.taken in
-    go_no_ins t b' c.take-entry.new.self c.take-slot.result c.args.id c.take-entry.result c.take-entry.ensures.goes here taken c.requires
+    let taken =
+    subst (λ (n : ℕ). (k : ℕ) → found b' k ≡ cond (n == k) None (found t.index k)) c.number.ensures.same
+    c.take-slot.ensures.taken in
+    go_no_ins t b' c.take-entry.new.self c.take-slot.result c.args.id c.take-entry.result c.take-entry.ensures.goes here
+    taken c.requires
 
 pub invariant_of-self : goal.invariant_of-self
 invariant_of-self c =
     let t = c.args.self.now in
     let b' = c.take-slot.new.self in
     let here = ap (found t.index) (sym c.number.ensures.same) ∙ c.take-slot.ensures.was in
-    let taken = subst (λ (n : ℕ). (k : ℕ) → found b' k ≡ cond (n == k) None (found t.index k)) c.number.ensures.same c.take-slot.ensures.taken in
-    record { kept = take_node_kept t b' c.take-entry.new.self c.take-slot.result c.args.id c.take-entry.result c.take-entry.ensures.goes here taken c.requires }
+    let taken =
+    subst (λ (n : ℕ). (k : ℕ) → found b' k ≡ cond (n == k) None (found t.index k)) c.number.ensures.same
+    c.take-slot.ensures.taken in
+    record {
+      kept = take_node_kept t b' c.take-entry.new.self c.take-slot.result c.args.id c.take-entry.result
+          c.take-entry.ensures.goes here taken c.requires;
+    }
 
 pub returns-clause-made : goal.returns-clause-made
 returns-clause-made c =
     let t = c.args.self.now in
     let b' = c.take-slot.new.self in
     let here = ap (found t.index) (sym c.number.ensures.same) ∙ c.take-slot.ensures.was in
-    let taken = subst (λ (n : ℕ). (k : ℕ) → found b' k ≡ cond (n == k) None (found t.index k)) c.number.ensures.same c.take-slot.ensures.taken in
-    take_node_made t b' c.take-entry.new.self c.take-slot.result c.args.id c.take-entry.result c.take-entry.ensures.goes here taken c.requires _ c.take-entry.ensures.room c.take-slot.ensures.spare
-    _ _ c.into_spare-outs.ensures.lines c.into_spare-ins.ensures.lines c.into_spare-outs.ensures.room c.into_spare-ins.ensures.room
+    let taken =
+    subst (λ (n : ℕ). (k : ℕ) → found b' k ≡ cond (n == k) None (found t.index k)) c.number.ensures.same
+    c.take-slot.ensures.taken in
+    take_node_made t b' c.take-entry.new.self c.take-slot.result c.args.id c.take-entry.result c.take-entry.ensures.goes
+    here taken c.requires _ c.take-entry.ensures.room c.take-slot.ensures.spare
+    _ _ c.into_spare-outs.ensures.lines c.into_spare-ins.ensures.lines c.into_spare-outs.ensures.room
+    c.into_spare-ins.ensures.room

@@ -12,7 +12,8 @@ invariant-loop-change l =
       can : CanMakeAll (tables_map l.self) (room_of l.self) (reverse l.changes.items);
       nodes : all_node_puts (reverse l.changes.items) ≤ spare_of l.self.index;
       lines : all_line_puts (reverse l.changes.items) ≤ spare_numbers l.self.lines;
-      before : made_all (tables_map l.self) (reverse l.changes.items) ≡ made_all (tables_map l.initial.self) (reverse l.initial.changes.items);
+      before : made_all (tables_map l.self) (reverse l.changes.items)
+          ≡ made_all (tables_map l.initial.self) (reverse l.initial.changes.items);
     }
 
 abbrev pub decreases-loop-change : goal.decreases-loop-change

@@ -1,27 +1,19 @@
-use Rattle.std.proofs.Common.{is_some, sym, ap, ◌∙◌}
-use Rattle.olr_map.specs.ByNumbers.{found}
-use Rattle.olr_map.specs.Linked.{lines_on}
-use Rattle.olr_map.specs.Columns.{node_slots}
+use Rattle.std.proofs.Common.{◌∙◌}
 use Rattle.olr_map.specs.declared.slots.Side.TheVariants.{Out}
-use Rattle.olr_map.proofs.Indexing.{entry_of}
-use Rattle.olr_map.proofs.Reading.{listed_at, no_outs}
+use Rattle.olr_map.proofs.Reading.{no_outs, stands_in, listed_as, found_at}
 use Rattle.olr_map.proofs.tables.TablesMapRead.out_lines.Goals as goal
 
 pub outs-requires : goal.outs-requires
-outs-requires c =
-    let t = c.args.self.now in
-    let here = ap (found t.index) (sym c.number.ensures.same) ∙ sym c.in-Some.ensures in
-    ap (λ o. is_some o) (entry_of t.index (node_slots t.nodes) t.kept.indexed c.args.id c.in-Some.slot here).1
+outs-requires c = let t =
+    c.args.self.now in stands_in t c.args.id c.in-Some.slot
+    (found_at t c.args.id _ _ c.number.ensures.same c.in-Some.ensures)
 
 pub returns-in-Some : goal.returns-in-Some
 returns-in-Some c =
     let t = c.args.self.now in
-    let here = ap (found t.index) (sym c.number.ensures.same) ∙ sym c.in-Some.ensures in
-    let x = entry_of t.index (node_slots t.nodes) t.kept.indexed c.args.id c.in-Some.slot here in
-    c.lines.ensures ∙ ap (λ l. lines_on l) (c.outs.ensures x.0 x.1) ∙ (listed_at t Out c.args.id c.in-Some.slot x.0 here x.1).numbers
+    c.lines.ensures ∙ (listed_as t Out c.args.id c.in-Some.slot _
+    (found_at t c.args.id _ _ c.number.ensures.same c.in-Some.ensures) c.outs.ensures).numbers
 
 pub returns-in-None : goal.returns-in-None
-returns-in-None c =
-    let t = c.args.self.now in
-    let none = ap (found t.index) (sym c.number.ensures.same) ∙ sym c.in-None.ensures in
-    no_outs t c.args.id none
+returns-in-None c = let t =
+    c.args.self.now in no_outs t c.args.id (found_at t c.args.id _ _ c.number.ensures.same c.in-None.ensures)

@@ -1,9 +1,14 @@
 use Rattle.std.proofs.Common.{◌+◌, ◌-◌, ◌≤◌, length}
 use Rattle.olr_map.proofs.Merging.{Merging}
-use Rattle.olr_map.proofs.footprint.merged.Given as goal
+use Rattle.olr_map.proofs.footprint.merge.Given as goal
 
 abbrev pub invariant-loop-i : goal.invariant-loop-i
-invariant-loop-i l = record { left_in : l.i ≤ length l.left; right_in : l.j ≤ length l.right; merging : Merging l.left l.right l.i l.j l.both.items }
+invariant-loop-i l =
+    record {
+      left_in : l.i ≤ length l.left;
+      right_in : l.j ≤ length l.right;
+      merging : Merging l.left l.right l.i l.j l.both.items;
+    }
 
 abbrev pub decreases-loop-i : goal.decreases-loop-i
 decreases-loop-i l = length l.left + length l.right - (l.i + l.j)
