@@ -1,5 +1,6 @@
 -- How numbers change, and what they tell when no line leads on.
-use Rattle.std.proofs.Common.{◌≡◌, ◌≢◌, nat_eq, ◌*◌, ◌^◌, get_or, length, ℕ, ◌+◌, ◌-◌, ◌<◌, ◌≤◌, ◌⊎◌, List, [], ◌∷◌, Option, Some, None, IsSome, IsTrue, Bool, refl, sym, ap, ◌∙◌, subst, inl, inr, arith}
+use Rattle.std.proofs.Common.{◌≡◌, ◌≢◌, nat_eq, ◌*◌, ◌^◌, get_or, length, ℕ, ◌+◌, ◌-◌, ◌<◌, ◌≤◌, ◌⊎◌, List, [], ◌∷◌}
+use Rattle.std.proofs.Common.{Option, Some, None, IsSome, IsTrue, Bool, refl, sym, ap, ◌∙◌, subst, inl, inr, arith}
 use Rattle.std.proofs.lemmas.Bool.{cases_Bool, cases_eq, eqb-true, ne_eqb}
 use Rattle.std.specs.Prelude.{sum_by, unwrap_or}
 use Rattle.std.specs.Option.{option_map}
@@ -20,9 +21,11 @@ use Rattle.olr_spec.specs.Detours.{Near}
 use Rattle.olr_spec.proofs.AgreeLemmas.{turned_round, by_leaving, same_known, same_start, same_end, same_dm}
 use Rattle.olr_map.specs.Ends.{end_out, ends_out}
 use Rattle.olr_map.specs.declared.read.LineEnd.{LineEnd}
-use Rattle.olr_near.proofs.Waiting.{line_there, no_end, pushed_kept, pushed_there}
-use Rattle.olr_near.specs.Numbers.{Numbers, number_of, IsSource, Within, ClosedAt, IsRight, IsWaiting, IsUnderWay, SameBut, Moves, IsReopened}
+use Rattle.olr_near.proofs.Waiting.{line_there, pushed_kept, pushed_there}
+use Rattle.olr_near.specs.Numbers.{Numbers, number_of, IsSource, Within, ClosedAt, IsRight, IsWaiting, IsUnderWay}
+use Rattle.olr_near.specs.Numbers.{SameBut, Moves, IsReopened}
 use Rattle.olr_near.specs.declared.nearness.Nearness.{Nearness}
+use Rattle.olr_route.proofs.WayLemmas.{no_end}
 
 -- ---- numbers that got no greater
 
@@ -40,7 +43,8 @@ within_better L K better v d w =
     record { number = k.number; at = k.at; low = omega arith }
 
 pub closed_better : (M : Map) (L K : ℕ → Option ℕ) → Better L K → (u d : ℕ) → ClosedAt M L u d → ClosedAt M K u d
-closed_better M L K better u d closed x known from short = within_better L K better (end M x) (d + dm M x) (closed x known from short)
+closed_better M L K better u d closed x known from short =
+    within_better L K better (end M x) (d + dm M x) (closed x known from short)
 
 -- a number of at most 0 is that of a source
 pub source_within : (g : Nearness) (s : ℕ) → Within (number_of g) s 0 → number_of g s ≡ Some 0
@@ -49,12 +53,10 @@ source_within g s k =
     let none : k.number ≡ 0 = omega arith in
     subst (λ (n : ℕ). number_of g s ≡ Some n) none k.at
 
-pub source_better : (f g : Nearness) → g.known ≡ f.known → Better (number_of f) (number_of g) → (s : ℕ) → IsSource f s → IsSource g s
-source_better f g known better s source is = source_within g s (better s 0 (source (subst (λ (b : Bool). IsTrue b) known is)))
-
-pub none_numbered : (o : Option ℕ) → o ≡ None → IsSome o → ⊥
-none_numbered None is h = cc
-none_numbered (Some n) is h = let never : ⊥ = cc (is) in never
+pub source_better : (f g : Nearness) → g.known ≡ f.known → Better (number_of f) (number_of g) → (s : ℕ) → IsSource f s →
+    IsSource g s
+source_better f g known better s source is =
+    source_within g s (better s 0 (source (subst (λ (b : Bool). IsTrue b) known is)))
 
 pub moves_then : (f g h : Nearness) → Moves f g → Moves g h → Moves f h
 moves_then f g h m n = record {
@@ -93,8 +95,10 @@ module _ (L K : ℕ → Option ℕ) (v d : ℕ) (there : K v ≡ Some d) (others
   ]
 
 -- between f and g, where the node v of that number then waits
-pub put_moves : (f g : Nearness) (k v d : ℕ) → k ≡ v → Updates nat_eq f.numbers g.numbers k (Some d) → ((e : ℕ) → number_of f k ≡ Some e → d < e)
-    → IsPermutation (record { 0 = (d, v) } ∷ heap_items f.waiting) (heap_items g.waiting) → g.known ≡ f.known → Moves f g
+pub put_moves : (f g : Nearness) (k v d : ℕ) → k ≡ v → Updates nat_eq f.numbers g.numbers k (Some d) →
+    ((e : ℕ) → number_of f k ≡ Some e → d < e)
+    → IsPermutation (record { 0 = (d, v) } ∷ heap_items f.waiting) (heap_items g.waiting) → g.known ≡ f.known →
+    Moves f g
 put_moves f g k v d is updates less p known =
     let L = number_of f in
     let K = number_of g in
@@ -104,7 +108,8 @@ put_moves f g k v d is updates less p known =
       better = put_better L K v d there others (λ e at. let lt = less e (ap L is ∙ at) in omega arith);
       fresh = λ q e at. elim (put_fresh L K v d there others q e at) [
         | inl was ↦ inl was
-        | inr h ↦ inr (subst (λ (n : ℕ). IsWaiting g n q) (sym h.0) (subst (λ (u : ℕ). IsWaiting g d u) (sym h.1) (pushed_there _ _ _ p)))
+        | inr h ↦ inr (subst (λ (n : ℕ). IsWaiting g n q) (sym h.0)
+            (subst (λ (u : ℕ). IsWaiting g d u) (sym h.1) (pushed_there _ _ _ p)))
       ];
       kept = λ e q w. pushed_kept _ _ _ e q p w;
       known = known;
@@ -125,25 +130,34 @@ abbrev pub weight : ℕ → ℕ
 weight k = limit + 1 - k
 
 -- the gain of all numbers, by the one that is put and the one before
-gain_by : (a b d : ℕ) (old : Option ℕ) → b + unwrap_or (option_map weight old) 0 ≡ a + weight d → d ≤ limit → ((e : ℕ) → old ≡ Some e → d < e) → a + 1 ≤ b
+gain_by : (a b d : ℕ) (old : Option ℕ) → b + unwrap_or (option_map weight old) 0 ≡ a + weight d → d ≤ limit →
+    ((e : ℕ) → old ≡ Some e → d < e) → a + 1 ≤ b
 gain_by a b d None sum short less = omega arith
 gain_by a b d (Some e) sum short less = let lt = less e refl in omega arith
 
-pub gain_put : (m n : Numbers) (v d : ℕ) (old : Option ℕ) → old ≡ get nat_eq m v → PutsEntry nat_eq m n v d old → d ≤ limit → ((e : ℕ) → get nat_eq m v ≡ Some e → d < e)
+pub gain_put : (m n : Numbers) (v d : ℕ) (old : Option ℕ) → old ≡ get nat_eq m v → PutsEntry nat_eq m n v d old →
+    d ≤ limit → ((e : ℕ) → get nat_eq m v ≡ Some e → d < e)
     → sum_by weight (values m) + 1 ≤ sum_by weight (values n)
 gain_put m n v d old was puts short less =
-    gain_by (sum_by weight (values m)) (sum_by weight (values n)) d old (sum_by_puts_entry weight nat_eq m n v d old was puts) short (λ e is. less e (sym was ∙ is))
+    gain_by (sum_by weight (values m)) (sum_by weight (values n)) d old
+    (sum_by_puts_entry weight nat_eq m n v d old was puts) short (λ e is. less e (sym was ∙ is))
 
 -- where it stood there already
-pub gain_same : (m n : Numbers) (v d : ℕ) → Some d ≡ get nat_eq m v → PutsEntry nat_eq m n v d (Some d) → sum_by weight (values n) ≡ sum_by weight (values m)
+pub gain_same : (m n : Numbers) (v d : ℕ) → Some d ≡ get nat_eq m v → PutsEntry nat_eq m n v d (Some d) →
+    sum_by weight (values n) ≡ sum_by weight (values m)
 gain_same m n v d was puts = let sum = sum_by_puts_entry weight nat_eq m n v d (Some d) was puts in omega arith
 
 -- no more numbers than nodes, and none counts for more than one above the limit
-pub gain_le : (m : Numbers) → ((v : ℕ) → IsSome (get nat_eq m v) → v < 2 ^ 32) → IsUnique nat_eq m → sum_by weight (values m) ≤ 2 ^ 32 * (limit + 1)
+pub gain_le : (m : Numbers) → ((v : ℕ) → IsSome (get nat_eq m v) → v < 2 ^ 32) → IsUnique nat_eq m →
+    sum_by weight (values m) ≤ 2 ^ 32 * (limit + 1)
 gain_le m below unique =
     let each = sum_by-le weight (limit + 1) (values m) (λ i k lt. omega arith) in
-    let few = length-le_from_distinct_below (keys m) (2 ^ 32) unique (λ q h. below q (IsSome-lookup_from_Contains nat_eq_equiv q m.entries (Contains-from_any (λ x y e. eqb-true x y e) q (keys m) h))) in
-    let same : length (values m) ≡ length (keys m) = length-values_of m.entries ∙ sym (length-map m.entries (λ (e : ℕ × ℕ). e.0)) in
+    let few =
+    length-le_from_distinct_below (keys m) (2 ^ 32) unique
+    (λ q h. below q (IsSome-lookup_from_Contains nat_eq_equiv q m.entries
+    (Contains-from_any (λ x y e. eqb-true x y e) q (keys m) h))) in
+    let same : length (values m) ≡ length (keys m) =
+    length-values_of m.entries ∙ sym (length-map m.entries (λ (e : ℕ × ℕ). e.0)) in
     product (length (values m)) (2 ^ 32) (limit + 1) (sum_by weight (values m)) (omega arith) each
   where
     product : (a b n g : ℕ) → a ≤ b → g ≤ a * n → g ≤ b * n
@@ -164,7 +178,8 @@ module _ (M : Map) (f g : Nearness) (d v : ℕ) (same : g.numbers ≡ f.numbers)
         | inl closed ↦ inl (subst (λ (L : ℕ → Option ℕ). ClosedAt M L u e) (sym numbers_same) closed)
         | inr w ↦ elim (others e u w) [
           | inl still ↦ inr still
-          | inr k ↦ absurd (other (subst (λ (n : ℕ). number_of f v ≡ Some n) k.0 (subst (λ (q : ℕ). number_of f q ≡ Some e) k.1 was)))
+          | inr k ↦ absurd (other (subst (λ (n : ℕ). number_of f v ≡ Some n) k.0
+              (subst (λ (q : ℕ). number_of f q ≡ Some e) k.1 was)))
         ]
       ]
 
@@ -174,10 +189,12 @@ module _ (M : Map) (f g : Nearness) (d v : ℕ) (same : g.numbers ≡ f.numbers)
     | inl kept ↦
         let was : number_of f u ≡ Some e = ap (λ (L : ℕ → Option ℕ). L u) (sym numbers_same) ∙ kept in
         elim (under (subst (λ (b : Bool). IsTrue b) (m.known ∙ known) is) u e was) [
-          | inl closed ↦ inl (closed_better M (number_of g) (number_of h) m.better u e (subst (λ (L : ℕ → Option ℕ). ClosedAt M L u e) (sym numbers_same) closed))
+          | inl closed ↦ inl (closed_better M (number_of g) (number_of h) m.better u e
+              (subst (λ (L : ℕ → Option ℕ). ClosedAt M L u e) (sym numbers_same) closed))
           | inr w ↦ elim (others e u w) [
             | inl still ↦ inr (m.kept e u still)
-            | inr k ↦ inl (subst (λ (q : ℕ). ClosedAt M (number_of h) q e) (sym k.1) (subst (ClosedAt M (number_of h) v) (sym k.0) closed_here))
+            | inr k ↦ inl (subst (λ (q : ℕ). ClosedAt M (number_of h) q e) (sym k.1)
+                (subst (ClosedAt M (number_of h) v) (sym k.0) closed_here))
           ]
         ]
   ]
@@ -190,19 +207,23 @@ closed_same M N L u d same closed x known from short =
     let long = same_dm N M x is in
     subst (λ (v : ℕ). Within L v (d + dm N x)) (sym (same_end N M x is))
     (subst (λ (n : ℕ). Within L (end M x) (d + n)) (sym long)
-    (closed x (subst (λ (b : Bool). IsTrue b) (same_known N M x is) known) (sym (same_start N M x is) ∙ from) (omega arith)))
+    (closed x (subst (λ (b : Bool). IsTrue b) (same_known N M x is) known) (sym (same_start N M x is) ∙ from)
+    (omega arith)))
 
 pub reopened_sources : (T : List ℕ) (f g : Nearness) → IsReopened T f g → (s : ℕ) → IsSource f s → IsSource g s
-reopened_sources T f g r s source is = ap (λ (m : Numbers). get nat_eq m s) r.same ∙ source (subst (λ (b : Bool). IsTrue b) r.known is)
+reopened_sources T f g r s source is =
+    ap (λ (m : Numbers). get nat_eq m s) r.same ∙ source (subst (λ (b : Bool). IsTrue b) r.known is)
 
-pub reopened_under_way : (M N : Map) (T : List ℕ) (f g : Nearness) → IsReopened T f g → SameBut T M N → IsUnderWay M f → IsUnderWay N g
+pub reopened_under_way : (M N : Map) (T : List ℕ) (f g : Nearness) → IsReopened T f g → SameBut T M N → IsUnderWay M f →
+    IsUnderWay N g
 reopened_under_way M N T f g r same under is u d at =
     let numbers : number_of g ≡ number_of f = ap (λ (m : Numbers). λ (v : ℕ). get nat_eq m v) r.same in
     let was : number_of f u ≡ Some d = ap (λ (L : ℕ → Option ℕ). L u) (sym numbers) ∙ at in
     elim (cases_Bool (has T u)) [
       | inl on ↦ inr (r.waits u d on was)
       | inr off ↦ elim (under (subst (λ (b : Bool). IsTrue b) r.known is) u d was) [
-        | inl closed ↦ inl (subst (λ (L : ℕ → Option ℕ). ClosedAt N L u d) (sym numbers) (closed_same M N (number_of f) u d (same u off) closed))
+        | inl closed ↦ inl (subst (λ (L : ℕ → Option ℕ). ClosedAt N L u d) (sym numbers)
+            (closed_same M N (number_of f) u d (same u off) closed))
         | inr w ↦ inr (r.kept d u w)
       ]
     ]
@@ -210,24 +231,32 @@ reopened_under_way M N T f g r same under is u d at =
 -- ---- the law
 
 -- a walk within the limit leads from a number to a number
-number_along : (M : Map) (f : Nearness) → IsRight M f → IsTrue f.known → (u v d : ℕ) (xs : List ℕ) → number_of f u ≡ Some d → Walk M u v xs → d + dm_of M xs ≤ limit → IsSome (number_of f v)
-number_along M f right known u v d [] at w short = subst (λ (o : Option ℕ). IsSome o) (sym (ap (number_of f) (sym w) ∙ at)) refl
+number_along : (M : Map) (f : Nearness) → IsRight M f → IsTrue f.known → (u v d : ℕ) (xs : List ℕ) →
+    number_of f u ≡ Some d → Walk M u v xs → d + dm_of M xs ≤ limit → IsSome (number_of f v)
+number_along M f right known u v d [] at w short =
+    subst (λ (o : Option ℕ). IsSome o) (sym (ap (number_of f) (sym w) ∙ at)) refl
 number_along M f right known u v d (x ∷ xs) at w short =
     let k = right known u d at x w.0 w.1 (omega arith) in
     let low = k.low in
     number_along M f right known (end M x) v k.number xs k.at w.2 (omega arith)
 
-pub near_numbered : (M : Map) (f : Nearness) (s : ℕ) (T : List ℕ) → IsTrue f.known → IsRight M f → IsSource f s → (near : Near M T s limit) → IsSome (number_of f near.node)
-near_numbered M f s T known right source near = number_along M f right known s near.node 0 near.walk (source known) near.leads (let w = near.within in omega arith)
+pub near_numbered : (M : Map) (f : Nearness) (s : ℕ) (T : List ℕ) → IsTrue f.known → IsRight M f → IsSource f s →
+    (near : Near M T s limit) → IsSome (number_of f near.node)
+near_numbered M f s T known right source near =
+    number_along M f right known s near.node 0 near.walk (source known) near.leads (let w = near.within in omega arith)
 
 -- ---- the lines from a node
 
 -- each line that leaves a node has its far end in the list
-pub end_there : (M : Map) (place : ℕ → ℕ) (v x : ℕ) (items : List LineEnd) → items ≡ ends_out M place v → IsTrue (has_line M x) → start M x ≡ v
+pub end_there : (M : Map) (place : ℕ → ℕ) (v x : ℕ) (items : List LineEnd) → items ≡ ends_out M place v →
+    IsTrue (has_line M x) → start M x ≡ v
     → (k : ℕ) × (k < length items) × ((get_or items k no_end).node ≡ end M x) × ((get_or items k no_end).len ≡ dm M x)
 end_there M place v x items is known from =
     let k = line_there M v x known from in
-    let long : length items ≡ length (lines_out M v) = ap (λ (zs : List LineEnd). length zs) is ∙ length-map (lines_out M v) (end_out M place) in
+    let long : length items ≡ length (lines_out M v) =
+    ap (λ (zs : List LineEnd). length zs) is ∙ length-map (lines_out M v) (end_out M place) in
     let lt = k.1 in
-    let here : get_or items k.0 no_end ≡ end_out M place x = ap (λ (zs : List LineEnd). get_or zs k.0 no_end) is ∙ get_or-map (end_out M place) (lines_out M v) k.0 0 no_end k.1 ∙ ap (end_out M place) k.2 in
+    let here : get_or items k.0 no_end ≡ end_out M place x =
+    ap (λ (zs : List LineEnd). get_or zs k.0 no_end) is ∙ get_or-map (end_out M place) (lines_out M v) k.0 0 no_end k.1
+    ∙ ap (end_out M place) k.2 in
     (k.0, omega arith, ap (λ (e : LineEnd). e.node) here, ap (λ (e : LineEnd). e.len) here)

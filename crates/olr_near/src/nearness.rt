@@ -30,7 +30,8 @@ impl Nearness {
     ghost use Rattle.olr_spec.specs.Map.{Map, has};
     ghost use Rattle.olr_spec.specs.Extension.{limit};
     ghost use Rattle.olr_spec.specs.Detours.{Near};
-    ghost use Rattle.olr_near.specs.Numbers.{number_of, numbers_len, IsSource, IsRight, IsUnderWay, SameBut, Within, ClosedAt, Moves, IsPaid, IsReopened};
+    ghost use Rattle.olr_near.specs.Numbers.{number_of, numbers_len, IsSource, IsRight, IsUnderWay, SameBut, Within};
+    ghost use Rattle.olr_near.specs.Numbers.{ClosedAt, Moves, IsPaid, IsReopened};
 
     /// No sources, and no numbers. Takes no memory.
     pub fn new(alloc: Global) -> Nearness

@@ -1,11 +1,14 @@
 -- Marks that no line improves are the labels of the least walks.
-use Rattle.std.proofs.Common.{◌≡◌, ℕ, zero, suc, ◌+◌, ◌<◌, ◌≤◌, List, [], ◌∷◌, ◌++◌, reverse, length, Option, Some, None, IsSome, IsTrue, inl, inr, refl, sym, ap, ◌∙◌, subst, arith, length-append}
+use Rattle.std.proofs.Common.{◌≡◌, ℕ, zero, suc, ◌+◌, ◌<◌, ◌≤◌, List, [], ◌∷◌, ◌++◌, reverse, length, Option, Some}
+use Rattle.std.proofs.Common.{None, IsTrue, inl, inr, refl, sym, ap, ◌∙◌, subst, arith, length-append}
 use Rattle.olr_spec.specs.Map.{Map, IsMap, has_line, start, end, dm}
 use Rattle.olr_spec.specs.Walks.{Walk, dm_of, FirstSmaller, Before, Least}
 use Rattle.olr_spec.proofs.WalkLemmas.{positive, empty_least}
+use Rattle.olr_spec.proofs.LabelLemmas.{last_first}
+use Rattle.olr_spec.proofs.OptionLemmas.{some_of, is_some_of}
 use Rattle.olr_route.specs.Labels.{Label, Labels, label_at, last_of, IsLabel, AreLabels}
 use Rattle.olr_route.specs.Marks.{NotGreater, NotAfter, Capped, IsClosed, Found}
-use Rattle.olr_route.proofs.WalkEnds.{last_of-append, ends_of, dm_of-line, walk_on, LastStep, last_step, last_first}
+use Rattle.olr_route.proofs.WalkEnds.{last_of-append, ends_of, dm_of-line, walk_on, LastStep, last_step}
 use Rattle.olr_route.proofs.WalkEnds.Ends.{empty, ended}
 
 pub not_after_le : (d e : ℕ) (o p : Option ℕ) → NotAfter d o e p → d ≤ e
@@ -13,22 +16,17 @@ not_after_le d e o p (inl h) = omega arith
 not_after_le d e o p (inr h) = let k : d ≡ e = h.0 in omega arith
 
 -- one line more
-not_after_line : (e d : ℕ) (o p : Option ℕ) (f n : ℕ) (q : Option ℕ) (x : ℕ) → NotAfter e o d p → NotAfter f q (e + n) (Some x) → NotAfter f q (d + n) (Some x)
+not_after_line : (e d : ℕ) (o p : Option ℕ) (f n : ℕ) (q : Option ℕ) (x : ℕ) → NotAfter e o d p →
+    NotAfter f q (e + n) (Some x) → NotAfter f q (d + n) (Some x)
 not_after_line e d o p f n q x h (inl k) = let le = not_after_le e d o p h in inl (omega arith)
 not_after_line e d o p f n q x (inl h) (inr k) = let is : f ≡ e + n = k.0 in inl (omega arith)
-not_after_line e d o p f n q x (inr h) (inr k) = let same : e ≡ d = h.0 in let is : f ≡ e + n = k.0 in inr (omega arith, k.1)
+not_after_line e d o p f n q x (inr h) (inr k) = let same : e ≡ d = h.0 in let is : f ≡ e + n =
+    k.0 in inr (omega arith, k.1)
 
 pub same_label : (k : Option Label) (d e : ℕ) (o p : Option ℕ) → k ≡ Some (d, o) → k ≡ Some (e, p) → (d ≡ e) × (o ≡ p)
 same_label k d e o p h g = let both : ◌≡◌ {A = Option Label} (Some (d, o)) (Some (e, p)) = sym h ∙ g in
     let pair : ◌≡◌ {A = Label} (d, o) (e, p) = cc in
     (ap (λ (z : Label). z.0) pair, ap (λ (z : Label). z.1) pair)
-
-pub is_some_of : {A : Type 0} (k : Option A) (x : A) → k ≡ Some x → IsSome k
-is_some_of k x e = subst (λ o. IsSome o) (sym e) refl
-
-pub some_of : {A : Type 0} (k : Option A) → IsSome k → (x : A) × (k ≡ Some x)
-some_of None h = cc
-some_of (Some x) h = (x, refl)
 
 -- where the last line is at most some line, there is one
 last_below : (o : Option ℕ) (x : ℕ) → NotGreater (Some x) o → (y : ℕ) × (o ≡ Some y) × (x ≤ y)
@@ -44,9 +42,12 @@ pub record Certified (M : Map) (s limit : ℕ) (L : ℕ → Option Label) : Type
 
 module _ (M : Map) (m : IsMap M) (s limit : ℕ) (L : ℕ → Option Label) (c : Certified M s limit L) where
   capped_empty : (v : ℕ) → s ≡ v → Capped L v 0 None
-  capped_empty v e = record { dist = 0; last = None; at = subst (λ (u : ℕ). L u ≡ Some (0, None)) e c.at_source; low = inr (refl, tt) }
+  capped_empty v e =
+      record { dist = 0; last = None; at = subst (λ (u : ℕ). L u ≡ Some (0, None)) e c.at_source; low = inr (refl, tt) }
 
-  capped_on : (v x : ℕ) (front : List ℕ) → LastStep M s v x front → dm_of M (front ++ x ∷ []) ≤ limit → Capped L (start M x) (dm_of M front) (last_of front) → Capped L v (dm_of M (front ++ x ∷ [])) (last_of (front ++ x ∷ []))
+  capped_on : (v x : ℕ) (front : List ℕ) → LastStep M s v x front → dm_of M (front ++ x ∷ []) ≤ limit →
+      Capped L (start M x) (dm_of M front) (last_of front) →
+      Capped L v (dm_of M (front ++ x ∷ [])) (last_of (front ++ x ∷ []))
   capped_on v x front step short k =
       let long = dm_of-line M front x in
       let le = not_after_le k.dist (dm_of M front) k.last (last_of front) k.low in
@@ -62,7 +63,8 @@ module _ (M : Map) (m : IsMap M) (s limit : ℕ) (L : ℕ → Option Label) (c :
       }
 
   -- each walk within the limit ends at a mark that is not after it
-  capped_by : (n v : ℕ) (ys : List ℕ) → length ys ≤ n → Walk M s v ys → dm_of M ys ≤ limit → Capped L v (dm_of M ys) (last_of ys)
+  capped_by : (n v : ℕ) (ys : List ℕ) → length ys ≤ n → Walk M s v ys → dm_of M ys ≤ limit →
+      Capped L v (dm_of M ys) (last_of ys)
   capped_by zero v [] h w short = capped_empty v w
   capped_by zero v (y ∷ ys) h w short = absurd (omega arith)
   capped_by (suc n) v ys h w short = elim (ends_of ys) [
@@ -72,14 +74,16 @@ module _ (M : Map) (m : IsMap M) (s limit : ℕ) (L : ℕ → Option Label) (c :
         let size : length ys ≡ length (front ++ x ∷ []) = ap (λ (zs : List ℕ). length zs) e in
         let near : dm_of M (front ++ x ∷ []) ≤ limit = subst (λ (zs : List ℕ). dm_of M zs ≤ limit) e short in
         let parts = dm_of-line M front x in
-        rw e (capped_on v x front step near (capped_by n (start M x) front (omega (arith, length-append front (x ∷ []))) step.front (omega arith)))
+        rw e (capped_on v x front step near
+        (capped_by n (start M x) front (omega (arith, length-append front (x ∷ []))) step.front (omega arith)))
   ]
 
   pub capped : (v : ℕ) (ys : List ℕ) → Walk M s v ys → dm_of M ys ≤ limit → Capped L v (dm_of M ys) (last_of ys)
   capped v ys w short = capped_by (length ys) v ys (omega arith) w short
 
   -- a least walk goes on by the last line of a mark to a least walk
-  least_on : (v x e : ℕ) (ws : List ℕ) → L v ≡ Some (e + dm M x, Some x) → e + dm M x ≤ limit → IsTrue (has_line M x) → end M x ≡ v
+  least_on : (v x e : ℕ) (ws : List ℕ) → L v ≡ Some (e + dm M x, Some x) → e + dm M x ≤ limit → IsTrue (has_line M x) →
+      end M x ≡ v
       → Least M s (start M x) ws → dm_of M ws ≡ e → (ys : List ℕ) → Walk M s v ys → ¬ Before M ys (ws ++ x ∷ [])
   least_on v x e ws at short k to l long ys w b =
       let total = dm_of-line M ws x in
@@ -97,22 +101,26 @@ module _ (M : Map) (m : IsMap M) (s limit : ℕ) (L : ℕ → Option Label) (c :
               | inr q ↦ elim (ends_of ys) [
                 | empty none ↦ let never : ◌≡◌ {A = Option ℕ} None (Some y.0) = ap last_of (sym none) ∙ y.1 in cc
                 | ended front z is ↦
-                    let both : ◌≡◌ {A = Option ℕ} (Some z) (Some y.0) = sym (last_of-append front z) ∙ ap last_of (sym is) ∙ y.1 in
+                    let both : ◌≡◌ {A = Option ℕ} (Some z) (Some y.0) =
+                    sym (last_of-append front z) ∙ ap last_of (sym is) ∙ y.1 in
                     let last : z ≡ y.0 = cc in
                     let low : x ≤ y.0 = y.2 in
                     let step = last_step M s v z front (subst (λ (zs : List ℕ). Walk M s v zs) is w) in
                     let parts : dm_of M ys ≡ dm_of M front + dm M z = ap (dm_of M) is ∙ dm_of-line M front z in
-                    elim (last_first front ws z x (subst (λ (zs : List ℕ). FirstSmaller (reverse zs) (reverse (ws ++ x ∷ []))) is q.1)) [
+                    elim (last_first front ws z x
+                    (subst (λ (zs : List ℕ). FirstSmaller (reverse zs) (reverse (ws ++ x ∷ []))) is q.1)) [
                       | inl lt ↦ absurd (omega arith)
                       | inr r ↦
                           let each : dm M z ≡ dm M x = ap (dm M) r.0 in
-                          l.first front (subst (λ (n : ℕ). Walk M s (start M n) front) r.0 step.front) (inr (omega arith, r.1))
+                          l.first front (subst (λ (n : ℕ). Walk M s (start M n) front) r.0 step.front)
+                          (inr (omega arith, r.1))
                     ]
               ]
             ]
       ]
 
-  least_empty : (v d : ℕ) (o : Option ℕ) (ks : List ℕ) → Walk M s v ks → dm_of M ks ≡ d → last_of ks ≡ o → ks ≡ [] → IsLabel M s v d o
+  least_empty : (v d : ℕ) (o : Option ℕ) (ks : List ℕ) → Walk M s v ks → dm_of M ks ≡ d → last_of ks ≡ o → ks ≡ [] →
+      IsLabel M s v d o
   least_empty v d o ks w long last e = record {
     lines = [];
     least = subst (λ (u : ℕ). Least M s u []) (subst (λ (zs : List ℕ). Walk M s v zs) e w) (empty_least M s);
@@ -120,7 +128,8 @@ module _ (M : Map) (m : IsMap M) (s limit : ℕ) (L : ℕ → Option Label) (c :
     ends = ap last_of (sym e) ∙ last;
   }
 
-  least_ended : (v d : ℕ) (o : Option ℕ) → L v ≡ Some (d, o) → (front : List ℕ) (x : ℕ) → LastStep M s v x front → d ≡ dm_of M front + dm M x → o ≡ Some x
+  least_ended : (v d : ℕ) (o : Option ℕ) → L v ≡ Some (d, o) → (front : List ℕ) (x : ℕ) → LastStep M s v x front →
+      d ≡ dm_of M front + dm M x → o ≡ Some x
       → ((u e : ℕ) (p : Option ℕ) → e < d → L u ≡ Some (e, p) → IsLabel M s u e p) → IsLabel M s v d o
   least_ended v d o at front x step parts ends below =
       let some = positive M m x step.known in
@@ -133,11 +142,14 @@ module _ (M : Map) (m : IsMap M) (s limit : ℕ) (L : ℕ → Option Label) (c :
       let low = not_after_le r.dist (k.dist + dm M x) r.last (Some x) r.low in
       let tight : d ≡ k.dist + dm M x = omega arith in
       let rest = below (start M x) k.dist k.last (omega arith) k.at in
-      let label : L v ≡ Some (k.dist + dm M x, Some x) = at ∙ ap (λ (z : Label). Some z) (ap (λ (y : ℕ). (y, o)) tight ∙ ap (λ (q : Option ℕ). (k.dist + dm M x, q)) ends) in
+      let label : L v ≡ Some (k.dist + dm M x, Some x) = at ∙ ap (λ (z : Label). Some z)
+      (ap (λ (y : ℕ). (y, o)) tight ∙ ap (λ (q : Option ℕ). (k.dist + dm M x, q)) ends) in
       record {
         lines = rest.lines ++ x ∷ [];
         least = record {
-          walk = subst (λ (u : ℕ). Walk M s u (rest.lines ++ x ∷ [])) step.to (walk_on M s x rest.lines rest.least.walk step.known);
+          walk =
+              subst (λ (u : ℕ). Walk M s u (rest.lines ++ x ∷ [])) step.to
+              (walk_on M s x rest.lines rest.least.walk step.known);
           first = least_on v x k.dist rest.lines label (omega arith) step.known step.to rest.least rest.long;
         };
         long = dm_of-line M rest.lines x ∙ ap (λ (n : ℕ). n + dm M x) rest.long ∙ sym tight;
@@ -164,7 +176,8 @@ labels_of_certified M m x c = record {
         let k = some_of (label_at x v) h in
         let f = c.found v k.0.0 k.0.1 k.1 in
         (f.lines, f.walk, subst (λ (n : ℕ). n ≤ x.limit) (sym f.long) (c.within v k.0.0 k.0.1 k.1)),
-    λ r. let k = capped M m x.source x.limit (label_at x) c v r.0 r.1 r.2 in is_some_of (label_at x v) (k.dist, k.last) k.at,
+    λ r. let k =
+        capped M m x.source x.limit (label_at x) c v r.0 r.1 r.2 in is_some_of (label_at x v) (k.dist, k.last) k.at,
   );
   least = λ v d o at. least_below M m x.source x.limit (label_at x) c (suc d) v d o (omega arith) at;
 }

@@ -9,7 +9,7 @@ mod MarkLemmas
 mod HeapLemmas
 mod NoteLemmas
 mod DistinctLemmas
-mod WayLemmas
+pub mod WayLemmas
 pub mod SearchLemmas
 mod CountLemmas
 mod SoleLemmas

@@ -1,15 +1,14 @@
 -- The table of labels and the list of the nodes that have one, as either changes.
-use Rattle.std.proofs.Common.{◌≡◌, ◌≢◌, ℕ, ◌<◌, ◌≤◌, List, [], ◌∷◌, ◌++◌, Contains, length, get_or, refl, sym, ap, ◌∙◌, subst, inl, inr, arith}
+use Rattle.std.proofs.Common.{◌≡◌, ◌≢◌, ℕ, ◌<◌, ◌≤◌, List, [], ◌∷◌, ◌++◌, Contains, length, get_or, refl, sym, ap, ◌∙◌}
+use Rattle.std.proofs.Common.{subst, inl, inr, arith}
 use Rattle.std.proofs.lemmas.Bool.{cases_eq}
 use Rattle.std.proofs.lemmas.List.{get_or-set_same, get_or-set_other, get_or_past, get_or_read_under}
 use Rattle.std.proofs.lemmas.List.Elements.{Contains-append_cases, Contains-append_left, Contains-append_right}
 use Rattle.std.proofs.Math.ListN.{set}
+use Rattle.olr_spec.proofs.ListLemmas.{Contains-one}
 use Rattle.olr_route.specs.declared.found.TheConstants.{NO_LABEL}
 use Rattle.olr_route.specs.declared.found.Reached.{Reached}
 use Rattle.olr_route.specs.Notes.{label_in, AreNoted, NotesOnce}
-
-pub the_one : {X : Type 0} → (x y : X) → Contains (x ∷ []) y → y ≡ x
-the_one x y h = let e : h.0 ≡ 0 = omega (arith, h.1) in sym (ap (λ j. get_or (x ∷ []) j y) (sym e) ∙ h.2)
 
 pub first_one : {X : Type 0} → (x : X) → Contains (x ∷ []) x
 first_one x = (0, omega arith, refl)
@@ -19,16 +18,24 @@ pub read_label : (table : List ℕ) (p n x : ℕ) → x ≡ get_or table p x →
 read_label table p n x is lt long = get_or_read_under table p n x NO_LABEL is lt long
 
 -- a longer list notes what the shorter one does
-pub noted_more : (table : List ℕ) (old new : List Reached) (label : ℕ) (r : Reached) → NotesOnce old new label r → AreNoted table old → AreNoted table new
-noted_more table old new label r (inl h) noted p none = noted p (λ x c. none x (subst (λ (xs : List Reached). Contains xs x) (sym h.0) c))
-noted_more table old new label r (inr h) noted p none = noted p (λ x c. none x (subst (λ (xs : List Reached). Contains xs x) (sym h.0) (Contains-append_left old (r ∷ []) x c)))
+pub noted_more : (table : List ℕ) (old new : List Reached) (label : ℕ) (r : Reached) → NotesOnce old new label r →
+    AreNoted table old → AreNoted table new
+noted_more table old new label r (inl h) noted p none =
+    noted p (λ x c. none x (subst (λ (xs : List Reached). Contains xs x) (sym h.0) c))
+noted_more table old new label r (inr h) noted p none =
+    noted p (λ x c. none x (subst (λ (xs : List Reached). Contains xs x) (sym h.0)
+    (Contains-append_left old (r ∷ []) x c)))
 
-not_there : (table : List ℕ) (old new : List Reached) (r : Reached) (label p : ℕ) → NotesOnce old new label r → ((x : Reached) → Contains new x → x.place ≢ p) → p ≡ r.place → label ≡ NO_LABEL → ⊥
+not_there : (table : List ℕ) (old new : List Reached) (r : Reached) (label p : ℕ) → NotesOnce old new label r →
+    ((x : Reached) → Contains new x → x.place ≢ p) → p ≡ r.place → label ≡ NO_LABEL → ⊥
 not_there table old new r label p (inl h) none is no_label = let small = h.1 in absurd (omega arith)
-not_there table old new r label p (inr h) none is no_label = none r (subst (λ (xs : List Reached). Contains xs r) (sym h.0) (Contains-append_right old (r ∷ []) r (first_one r))) (sym is)
+not_there table old new r label p (inr h) none is no_label =
+    none r (subst (λ (xs : List Reached). Contains xs r) (sym h.0) (Contains-append_right old (r ∷ []) r (first_one r)))
+    (sym is)
 
 -- a label comes to the place of a node that is noted
-pub noted_put : (table : List ℕ) (old new : List Reached) (r : Reached) (d label : ℕ) → label ≡ label_in table r.place → NotesOnce old new label r → AreNoted table old → AreNoted (set table r.place d) new
+pub noted_put : (table : List ℕ) (old new : List Reached) (r : Reached) (d label : ℕ) → label ≡ label_in table r.place →
+    NotesOnce old new label r → AreNoted table old → AreNoted (set table r.place d) new
 noted_put table old new r d label is_label once noted p none =
     let was : label_in table p ≡ NO_LABEL = noted_more table old new label r once noted p none in
     elim (cases_eq p r.place) [
@@ -37,19 +44,23 @@ noted_put table old new r d label is_label once noted p none =
     ]
 
 -- one node less, whose label is taken away
-noted_without : (table : List ℕ) (front : List Reached) (r : Reached) (p : ℕ) → AreNoted table (front ++ r ∷ []) → p ≢ r.place → ((x : Reached) → Contains front x → x.place ≢ p) → label_in table p ≡ NO_LABEL
+noted_without : (table : List ℕ) (front : List Reached) (r : Reached) (p : ℕ) → AreNoted table (front ++ r ∷ []) →
+    p ≢ r.place → ((x : Reached) → Contains front x → x.place ≢ p) → label_in table p ≡ NO_LABEL
 noted_without table front r p noted ne none = noted p (λ x c same. elim (Contains-append_cases front (r ∷ []) x c) [
   | inl h ↦ none x h same
-  | inr h ↦ ne (sym same ∙ ap (λ (y : Reached). y.place) (the_one r x h))
+  | inr h ↦ ne (sym same ∙ ap (λ (y : Reached). y.place) (Contains-one r x h))
 ])
 
-pub noted_less : (table : List ℕ) (front : List Reached) (r : Reached) → r.place < length table → AreNoted table (front ++ r ∷ []) → AreNoted (set table r.place NO_LABEL) front
+pub noted_less : (table : List ℕ) (front : List Reached) (r : Reached) → r.place < length table →
+    AreNoted table (front ++ r ∷ []) → AreNoted (set table r.place NO_LABEL) front
 noted_less table front r lt noted p none = elim (cases_eq p r.place) [
-  | inl is ↦ ap (λ (k : ℕ). get_or (set table r.place NO_LABEL) k NO_LABEL) is ∙ get_or-set_same table r.place NO_LABEL NO_LABEL lt
+  | inl is ↦ ap (λ (k : ℕ). get_or (set table r.place NO_LABEL) k NO_LABEL) is
+      ∙ get_or-set_same table r.place NO_LABEL NO_LABEL lt
   | inr ne ↦ get_or-set_other table r.place p NO_LABEL NO_LABEL ne ∙ noted_without table front r p noted ne none
 ]
 
-pub noted_past : (table : List ℕ) (front : List Reached) (r : Reached) → length table ≤ r.place → AreNoted table (front ++ r ∷ []) → AreNoted table front
+pub noted_past : (table : List ℕ) (front : List Reached) (r : Reached) → length table ≤ r.place →
+    AreNoted table (front ++ r ∷ []) → AreNoted table front
 noted_past table front r past noted p none = elim (cases_eq p r.place) [
   | inl is ↦ ap (label_in table) is ∙ get_or_past table r.place NO_LABEL past
   | inr ne ↦ noted_without table front r p noted ne none

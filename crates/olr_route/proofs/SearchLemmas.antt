@@ -1,5 +1,6 @@
 -- How a search that can go on keeps what it says.
-use Rattle.std.proofs.Common.{◌≡◌, ◌==◌, ℕ, zero, suc, ◌+◌, ◌<◌, ◌≤◌, ◌⊎◌, List, [], ◌∷◌, Contains, IsTrue, length, get_or, map, refl, sym, ap, ◌∙◌, subst, inl, inr, arith}
+use Rattle.std.proofs.Common.{◌≡◌, ◌==◌, ℕ, zero, suc, ◌+◌, ◌<◌, ◌≤◌, ◌⊎◌, List, [], ◌∷◌, Contains, IsTrue, length}
+use Rattle.std.proofs.Common.{get_or, map, refl, sym, ap, ◌∙◌, subst, inl, inr, arith}
 use Rattle.std.specs.Prelude.{max, sum}
 use Rattle.std.proofs.Math.ListN.{set}
 use Rattle.std.specs.List.{IsDistinct}
@@ -10,17 +11,18 @@ use Rattle.std.proofs.lemmas.List.Sums.{sum_by-set}
 use Rattle.olr_spec.specs.Map.{Map, IsMap, has_node}
 use Rattle.olr_spec.specs.Walks.{dm_of}
 use Rattle.olr_spec.proofs.WalkLemmas.{positive}
+use Rattle.olr_spec.proofs.ListLemmas.{Contains-one}
 use Rattle.olr_route.specs.Distances.{Way, Leads, IsDistance, near_end, far_end}
 use Rattle.olr_route.specs.Notes.{label_in, NotesOnce}
 use Rattle.olr_route.specs.Founds.{label_of, found_len, queued_len, IsQueued, IsEmpty, IsPut, NotedOnce, Moves}
-use Rattle.olr_route.specs.Searches.{ClosedAt, CoversPlaces, IsListed, IsLabelled, IsUnderWay, IsSearch, IsNear, IsReached}
+use Rattle.olr_route.specs.Searches.{ClosedAt, CoversPlaces, IsListed, IsLabelled, IsUnderWay, IsSearch, IsNear}
+use Rattle.olr_route.specs.Searches.{IsReached}
 use Rattle.olr_route.specs.declared.routes.TheConstants.{GREATEST_LIMIT}
 use Rattle.olr_route.specs.declared.found.TheConstants.{NO_LABEL}
 use Rattle.olr_route.specs.declared.found.Reached.{Reached}
 use Rattle.olr_route.specs.declared.found.Found.{Found}
 use Rattle.olr_route.specs.declared.distances.Direction.{Direction}
 use Rattle.olr_route.specs.declared.distances.Search.{Search}
-use Rattle.olr_route.proofs.NoteLemmas.{the_one}
 use Rattle.olr_route.proofs.DistinctLemmas.{distinct_more, distinct_none, found_place}
 use Rattle.olr_route.proofs.WayLemmas.{LastLine, way_ends, near_node, leads_node}
 use Rattle.olr_route.proofs.WayLemmas.WayEnds.{stays, goes_on}
@@ -28,10 +30,13 @@ use Rattle.olr_route.proofs.WayLemmas.WayEnds.{stays, goes_on}
 -- ---- one label put
 
 -- a smaller label is written at p, and p waits
-pub put_by : (f g : Found) (v p d label : ℕ) → g.table.items ≡ set f.table.items p d → p < length f.table.items → label ≡ label_of f p → d < label → NotesOnce f.reached.items g.reached.items label (record { node = v; place = p })
-    → IsQueued g d p → ((e q : ℕ) → IsQueued f e q → IsQueued g e q) → found_len g ≡ found_len f → queued_len g ≡ queued_len f + 1 → IsPut f g v p d
+pub put_by : (f g : Found) (v p d label : ℕ) → g.table.items ≡ set f.table.items p d → p < length f.table.items →
+    label ≡ label_of f p → d < label → NotesOnce f.reached.items g.reached.items label (record { node = v; place = p })
+    → IsQueued g d p → ((e q : ℕ) → IsQueued f e q → IsQueued g e q) → found_len g ≡ found_len f →
+    queued_len g ≡ queued_len f + 1 → IsPut f g v p d
 put_by f g v p d label table within was lt once there kept len more =
-    let here : label_of g p ≡ d = ap (λ (t : List ℕ). label_in t p) table ∙ get_or-set_same f.table.items p d NO_LABEL within in
+    let here : label_of g p ≡ d =
+    ap (λ (t : List ℕ). label_in t p) table ∙ get_or-set_same f.table.items p d NO_LABEL within in
     record {
       here = omega arith;
       others = λ q ne. ap (λ (t : List ℕ). label_in t q) table ∙ get_or-set_other f.table.items p q d NO_LABEL ne;
@@ -43,7 +48,8 @@ put_by f g v p d label table within was lt once there kept len more =
       ];
       len = len;
       less =
-          let sums : sum (set f.table.items p d) + get_or f.table.items p NO_LABEL ≡ sum f.table.items + d = sum_by-set (λ (n : ℕ). n) f.table.items p d NO_LABEL within in
+          let sums : sum (set f.table.items p d) + get_or f.table.items p NO_LABEL ≡ sum f.table.items + d =
+          sum_by-set (λ (n : ℕ). n) f.table.items p d NO_LABEL within in
           let total : sum g.table.items ≡ sum (set f.table.items p d) = ap sum table in
           let old : label_of f p ≡ get_or f.table.items p NO_LABEL = refl in
           omega arith;
@@ -71,7 +77,8 @@ put_moves f g v p d k = record {
 }
 
 pub moves_none : (f : Found) → Moves f f
-moves_none f = record { better = λ p. omega arith; fresh = λ p. inl refl; kept = λ e q h. h; len = refl; less = omega arith }
+moves_none f =
+    record { better = λ p. omega arith; fresh = λ p. inl refl; kept = λ e q h. h; len = refl; less = omega arith }
 
 pub moves_then : (f g h : Found) → Moves f g → Moves g h → Moves f h
 moves_then f g h m n = record {
@@ -90,8 +97,10 @@ moves_then f g h m n = record {
 
 module _ (M : Map) (place : ℕ → ℕ) (direction : Direction) (from : List (ℕ × ℕ)) where
   -- a label that a way has is put at its node
-  module _ (f g : Found) (v p d : ℕ) (k : IsPut f g v p d) (there : IsTrue (has_node M v)) (at : place v ≡ p) (way : Leads M direction from v d) (l : IsLabelled M place direction from f) where
-    put_leads : (w : ℕ) → IsTrue (has_node M w) → label_of g (place w) ≤ GREATEST_LIMIT → Leads M direction from w (label_of g (place w))
+  module _ (f g : Found) (v p d : ℕ) (k : IsPut f g v p d) (there : IsTrue (has_node M v)) (at : place v ≡ p)
+      (way : Leads M direction from v d) (l : IsLabelled M place direction from f) where
+    put_leads : (w : ℕ) → IsTrue (has_node M w) → label_of g (place w) ≤ GREATEST_LIMIT →
+        Leads M direction from w (label_of g (place w))
     put_leads w known small = elim (cases_eq (place w) p) [
       | inr ne ↦
           let same = k.others (place w) ne in
@@ -104,7 +113,8 @@ module _ (M : Map) (place : ℕ → ℕ) (direction : Direction) (from : List (�
           elim (cases_lt d (label_of f p)) [
             | inl lt ↦
                 let new : d ≡ label_of g (place w) = omega arith in
-                subst (λ (e : ℕ). Leads M direction from w e) new (subst (λ (u : ℕ). Leads M direction from u d) (sym own) way)
+                subst (λ (e : ℕ). Leads M direction from w e) new
+                (subst (λ (u : ℕ). Leads M direction from u d) (sym own) way)
             | inr ge ↦
                 let old : label_of f (place w) ≡ label_of g (place w) = omega arith in
                 subst (λ (e : ℕ). Leads M direction from w e) old (l.leads w known (omega arith))
@@ -118,21 +128,25 @@ module _ (M : Map) (place : ℕ → ℕ) (direction : Direction) (from : List (�
     ]
 
     kept_listed : (r : Reached) → IsListed M place f r → IsListed M place g r
-    kept_listed r h = let le = put_le f g v p d k r.place in let was = h.label in record { there = h.there; at = h.at; label = omega arith }
+    kept_listed r h = let le = put_le f g v p d k r.place in let was =
+        h.label in record { there = h.there; at = h.at; label = omega arith }
 
     put_listed : NotedOnce f g v p → (r : Reached) → Contains g.reached.items r → IsListed M place g r
     put_listed (inl h) r c = kept_listed r (l.listed r (subst (λ (xs : List Reached). Contains xs r) h.0 c))
-    put_listed (inr h) r c = elim (Contains-append_cases f.reached.items (record { node = v; place = p } ∷ []) r (subst (λ (xs : List Reached). Contains xs r) h.0 c)) [
-      | inl old ↦ kept_listed r (l.listed r old)
-      | inr new ↦
-          let is : r ≡ record { node = v; place = p } = the_one (record { node = v; place = p }) r new in
-          let low = l.low p in
-          let less = h.2 in
-          subst (IsListed M place g) (sym is) (record { there = there; at = at; label = omega arith })
-    ]
+    put_listed (inr h) r c =
+        elim (Contains-append_cases f.reached.items (record { node = v; place = p } ∷ []) r
+        (subst (λ (xs : List Reached). Contains xs r) h.0 c)) [
+          | inl old ↦ kept_listed r (l.listed r old)
+          | inr new ↦
+              let is : r ≡ record { node = v; place = p } = Contains-one (record { node = v; place = p }) r new in
+              let low = l.low p in
+              let less = h.2 in
+              subst (IsListed M place g) (sym is) (record { there = there; at = at; label = omega arith })
+        ]
 
     put_apart : NotedOnce f g v p → IsDistinct ◌==◌ (map (λ (r : Reached). r.node) g.reached.items)
-    put_apart (inl h) = subst (λ (xs : List Reached). IsDistinct ◌==◌ (map (λ (r : Reached). r.node) xs)) (sym h.0) l.apart
+    put_apart (inl h) =
+        subst (λ (xs : List Reached). IsDistinct ◌==◌ (map (λ (r : Reached). r.node) xs)) (sym h.0) l.apart
     put_apart (inr h) =
         subst (λ (xs : List Reached). IsDistinct ◌==◌ (map (λ (r : Reached). r.node) xs)) (sym h.0)
         (distinct_more f.reached.items (record { node = v; place = p }) l.apart (λ r c same.
@@ -156,7 +170,9 @@ module _ (M : Map) (place : ℕ → ℕ) (direction : Direction) (from : List (�
     }
 
   -- no labels at all
-  pub empty_labelled : (f : Found) → IsMap M → ((v w : ℕ) → IsTrue (has_node M v) → IsTrue (has_node M w) → place v ≡ place w → v ≡ w) → CoversPlaces M place f → IsEmpty f → IsLabelled M place direction from f
+  pub empty_labelled : (f : Found) → IsMap M →
+      ((v w : ℕ) → IsTrue (has_node M v) → IsTrue (has_node M w) → place v ≡ place w → v ≡ w) → CoversPlaces M place f →
+      IsEmpty f → IsLabelled M place direction from f
   empty_labelled f m own room e = record {
     sound = m;
     own = own;
@@ -165,32 +181,42 @@ module _ (M : Map) (place : ℕ → ℕ) (direction : Direction) (from : List (�
     leads = λ v known small. let h = e.labels (place v) in absurd (omega arith);
     nodes = λ p small. let h = e.labels p in absurd (omega arith);
     listed = λ r c. let lt = (subst (λ (xs : List Reached). Contains xs r) e.reached c).1 in absurd (omega arith);
-    apart = subst (λ (xs : List Reached). IsDistinct ◌==◌ (map (λ (r : Reached). r.node) xs)) (sym e.reached) distinct_none;
+    apart =
+        subst (λ (xs : List Reached). IsDistinct ◌==◌ (map (λ (r : Reached). r.node) xs)) (sym e.reached) distinct_none;
   }
 
   -- ---- the front
 
-  pub closed_better : (f g : Found) (v d : ℕ) → ((p : ℕ) → label_of g p ≤ label_of f p) → ClosedAt M place direction f v d → ClosedAt M place direction g v d
-  closed_better f g v d better closed x known near = let was = closed x known near in let le = better (place (far_end M direction x)) in omega arith
+  pub closed_better : (f g : Found) (v d : ℕ) → ((p : ℕ) → label_of g p ≤ label_of f p) →
+      ClosedAt M place direction f v d → ClosedAt M place direction g v d
+  closed_better f g v d better closed x known near = let was = closed x known near in let le =
+      better (place (far_end M direction x)) in omega arith
 
   -- what does not depend on what waits
-  pub labelled_same : (f g : Found) → ((p : ℕ) → label_of g p ≡ label_of f p) → found_len g ≡ found_len f → g.reached.items ≡ f.reached.items → IsLabelled M place direction from f → IsLabelled M place direction from g
+  pub labelled_same : (f g : Found) → ((p : ℕ) → label_of g p ≡ label_of f p) → found_len g ≡ found_len f →
+      g.reached.items ≡ f.reached.items → IsLabelled M place direction from f → IsLabelled M place direction from g
   labelled_same f g same len reached l = record {
     sound = l.sound;
     own = l.own;
     room = λ v known. let was = l.room v known in omega arith;
     low = λ p. let was = l.low p in let is = same p in omega arith;
-    leads = λ v known small. let is = same (place v) in subst (λ (e : ℕ). Leads M direction from v e) (sym is) (l.leads v known (omega arith));
+    leads = λ v known small. let is =
+        same (place v) in subst (λ (e : ℕ). Leads M direction from v e) (sym is) (l.leads v known (omega arith));
     nodes = λ p small. let is = same p in l.nodes p (omega arith);
-    listed = λ r c. let was = l.listed r (subst (λ (xs : List Reached). Contains xs r) reached c) in let is = same r.place in let label = was.label in record { there = was.there; at = was.at; label = omega arith };
+    listed = λ r c. let was = l.listed r (subst (λ (xs : List Reached). Contains xs r) reached c) in let is =
+        same r.place in let label = was.label in record { there = was.there; at = was.at; label = omega arith };
     apart = subst (λ (xs : List Reached). IsDistinct ◌==◌ (map (λ (r : Reached). r.node) xs)) (sym reached) l.apart;
   }
 
   -- the place p is taken out of the queue at length d, between f and g
-  module _ (f g : Found) (d p : ℕ) (same : (q : ℕ) → label_of g q ≡ label_of f q) (others : (e q : ℕ) → IsQueued f e q → IsQueued g e q ⊎ ((e ≡ d) × (q ≡ p))) where
+  module _ (f g : Found) (d p : ℕ) (same : (q : ℕ) → label_of g q ≡ label_of f q)
+      (others : (e q : ℕ) → IsQueued f e q → IsQueued g e q ⊎ ((e ≡ d) × (q ≡ p))) where
     -- it was not the label there any more
-    pub front_skip : ¬ (label_of f p ≡ d) → ((v : ℕ) → IsTrue (has_node M v) → label_of f (place v) ≤ GREATEST_LIMIT → ClosedAt M place direction f v (label_of f (place v)) ⊎ IsQueued f (label_of f (place v)) (place v))
-        → (v : ℕ) → IsTrue (has_node M v) → label_of g (place v) ≤ GREATEST_LIMIT → ClosedAt M place direction g v (label_of g (place v)) ⊎ IsQueued g (label_of g (place v)) (place v)
+    pub front_skip : ¬ (label_of f p ≡ d) →
+        ((v : ℕ) → IsTrue (has_node M v) → label_of f (place v) ≤ GREATEST_LIMIT →
+        ClosedAt M place direction f v (label_of f (place v)) ⊎ IsQueued f (label_of f (place v)) (place v))
+        → (v : ℕ) → IsTrue (has_node M v) → label_of g (place v) ≤ GREATEST_LIMIT →
+        ClosedAt M place direction g v (label_of g (place v)) ⊎ IsQueued g (label_of g (place v)) (place v)
     front_skip ne front v known small =
         let is = same (place v) in
         let P : ℕ → Type 0 = λ e. ClosedAt M place direction g v e ⊎ IsQueued g e (place v) in
@@ -203,16 +229,20 @@ module _ (M : Map) (place : ℕ → ℕ) (direction : Direction) (from : List (�
         ])
 
     -- it was, and the lines from there are followed, up to h
-    pub front_more : (h : Found) → Moves g h → ((v : ℕ) → IsTrue (has_node M v) → place v ≡ p → ClosedAt M place direction h v d)
-        → ((v : ℕ) → IsTrue (has_node M v) → label_of f (place v) ≤ GREATEST_LIMIT → ClosedAt M place direction f v (label_of f (place v)) ⊎ IsQueued f (label_of f (place v)) (place v))
-        → (v : ℕ) → IsTrue (has_node M v) → label_of h (place v) ≤ GREATEST_LIMIT → ClosedAt M place direction h v (label_of h (place v)) ⊎ IsQueued h (label_of h (place v)) (place v)
+    pub front_more : (h : Found) → Moves g h →
+        ((v : ℕ) → IsTrue (has_node M v) → place v ≡ p → ClosedAt M place direction h v d)
+        → ((v : ℕ) → IsTrue (has_node M v) → label_of f (place v) ≤ GREATEST_LIMIT →
+        ClosedAt M place direction f v (label_of f (place v)) ⊎ IsQueued f (label_of f (place v)) (place v))
+        → (v : ℕ) → IsTrue (has_node M v) → label_of h (place v) ≤ GREATEST_LIMIT →
+        ClosedAt M place direction h v (label_of h (place v)) ⊎ IsQueued h (label_of h (place v)) (place v)
     front_more h moves closed front v known small = elim (moves.fresh (place v)) [
       | inr q ↦ inr q
       | inl kept ↦
           let is : label_of h (place v) ≡ label_of f (place v) = kept ∙ same (place v) in
           let P : ℕ → Type 0 = λ e. ClosedAt M place direction h v e ⊎ IsQueued h e (place v) in
           subst P (sym is) (elim (front v known (omega arith)) [
-            | inl c ↦ inl (closed_better f h v (label_of f (place v)) (λ q. let k = same q in let b = moves.better q in omega arith) c)
+            | inl c ↦ inl (closed_better f h v (label_of f (place v))
+                (λ q. let k = same q in let b = moves.better q in omega arith) c)
             | inr q ↦ elim (others (label_of f (place v)) (place v) q) [
               | inl still ↦ inr (moves.kept (label_of f (place v)) (place v) still)
               | inr e ↦ inl (subst (ClosedAt M place direction h v) (sym e.0) (closed v known e.1))
@@ -227,10 +257,14 @@ module _ (M : Map) (place : ℕ → ℕ) (direction : Direction) (from : List (�
     pub reached : g.reached.items ≡ f.reached.items
     pub others : (e q : ℕ) → IsQueued f e q → IsQueued g e q ⊎ ((e ≡ d) × (q ≡ p))
 
-  pub popped_by : (f g : Found) (d p : ℕ) → g.table.items ≡ f.table.items → found_len g ≡ found_len f → g.reached.items ≡ f.reached.items → ((e q : ℕ) → IsQueued f e q → IsQueued g e q ⊎ ((e ≡ d) × (q ≡ p))) → Popped f g d p
-  popped_by f g d p table len reached others = record { same = λ q. ap (λ (t : List ℕ). label_in t q) table; len = len; reached = reached; others = others }
+  pub popped_by : (f g : Found) (d p : ℕ) → g.table.items ≡ f.table.items → found_len g ≡ found_len f →
+      g.reached.items ≡ f.reached.items → ((e q : ℕ) → IsQueued f e q → IsQueued g e q ⊎ ((e ≡ d) × (q ≡ p))) →
+      Popped f g d p
+  popped_by f g d p table len reached others =
+      record { same = λ q. ap (λ (t : List ℕ). label_in t q) table; len = len; reached = reached; others = others }
 
-  pub under_way_skip : (f g : Found) (d p : ℕ) → Popped f g d p → ¬ (label_of f p ≡ d) → IsUnderWay M place direction from f → IsUnderWay M place direction from g
+  pub under_way_skip : (f g : Found) (d p : ℕ) → Popped f g d p → ¬ (label_of f p ≡ d) →
+      IsUnderWay M place direction from f → IsUnderWay M place direction from g
   under_way_skip f g d p k ne u = record {
     labelled = labelled_same f g k.same k.len k.reached u.labelled;
     begun = λ s b listed there. let was = u.begun s b listed there in let is = k.same (place s) in omega arith;
@@ -238,20 +272,25 @@ module _ (M : Map) (place : ℕ → ℕ) (direction : Direction) (from : List (�
   }
 
   pub under_way_more : (f g h : Found) (d p : ℕ) → Popped f g d p → label_of f p ≡ d → d ≤ GREATEST_LIMIT → Moves g h
-      → ((v : ℕ) (ways : List (ℕ × ℕ)) → IsTrue (has_node M v) → place v ≡ p → Leads M direction ways v d → IsLabelled M place direction ways g → IsLabelled M place direction ways h)
-      → ((v : ℕ) → IsTrue (has_node M v) → place v ≡ p → ClosedAt M place direction h v d) → IsUnderWay M place direction from f → IsUnderWay M place direction from h
+      → ((v : ℕ) (ways : List (ℕ × ℕ)) → IsTrue (has_node M v) → place v ≡ p → Leads M direction ways v d →
+      IsLabelled M place direction ways g → IsLabelled M place direction ways h)
+      → ((v : ℕ) → IsTrue (has_node M v) → place v ≡ p → ClosedAt M place direction h v d) →
+      IsUnderWay M place direction from f → IsUnderWay M place direction from h
   under_way_more f g h d p k at small moves labelled closed u =
       let own = u.labelled.nodes p (omega arith) in
       let is : label_of f (place own.0) ≡ d = ap (label_of f) own.2 ∙ at in
       let way = subst (λ (e : ℕ). Leads M direction from own.0 e) is (u.labelled.leads own.0 own.1 (omega arith)) in
       record {
         labelled = labelled own.0 from own.1 own.2 way (labelled_same f g k.same k.len k.reached u.labelled);
-        begun = λ s b listed there. let was = u.begun s b listed there in let same = k.same (place s) in let le = moves.better (place s) in omega arith;
+        begun = λ s b listed there. let was = u.begun s b listed there in let same = k.same (place s) in let le =
+            moves.better (place s) in omega arith;
         front = front_more f g d p k.same k.others h moves closed u.front;
       }
 
   -- nothing is taken out
-  pub under_way_same : (f g : Found) → g.table.items ≡ f.table.items → found_len g ≡ found_len f → g.reached.items ≡ f.reached.items → ((e q : ℕ) → IsQueued f e q → IsQueued g e q) → IsUnderWay M place direction from f → IsUnderWay M place direction from g
+  pub under_way_same : (f g : Found) → g.table.items ≡ f.table.items → found_len g ≡ found_len f →
+      g.reached.items ≡ f.reached.items → ((e q : ℕ) → IsQueued f e q → IsQueued g e q) →
+      IsUnderWay M place direction from f → IsUnderWay M place direction from g
   under_way_same f g table len reached kept u =
       let same : (q : ℕ) → label_of g q ≡ label_of f q = λ q. ap (λ (t : List ℕ). label_in t q) table in
       record {
@@ -268,9 +307,12 @@ module _ (M : Map) (place : ℕ → ℕ) (direction : Direction) (from : List (�
 
   -- ---- what is settled
 
-  module _ (f : Found) (limit : ℕ) (u : IsUnderWay M place direction from f) (small : limit ≤ GREATEST_LIMIT) (far : (d p : ℕ) → IsQueued f d p → limit < d) where
+  module _ (f : Found) (limit : ℕ) (u : IsUnderWay M place direction from f) (small : limit ≤ GREATEST_LIMIT)
+      (far : (d p : ℕ) → IsQueued f d p → limit < d) where
     -- by one line more
-    settled_on : (s b v : ℕ) (lines : List ℕ) → b + dm_of M lines ≤ limit → (k : LastLine M direction s v lines) → label_of f (place (near_end M direction k.line)) ≤ b + dm_of M k.front → label_of f (place v) ≤ b + dm_of M lines
+    settled_on : (s b v : ℕ) (lines : List ℕ) → b + dm_of M lines ≤ limit → (k : LastLine M direction s v lines) →
+        label_of f (place (near_end M direction k.line)) ≤ b + dm_of M k.front →
+        label_of f (place v) ≤ b + dm_of M lines
     settled_on s b v lines short k low =
         let long = k.long in
         let w = near_end M direction k.line in
@@ -281,27 +323,36 @@ module _ (M : Map) (place : ℕ → ℕ) (direction : Direction) (from : List (�
           | inr q ↦ let lt = far (label_of f (place w)) (place w) q in absurd (omega arith)
         ]
 
-    settled_by : (n s b v : ℕ) (lines : List ℕ) → length lines ≤ n → Contains from (s, b) → IsTrue (has_node M s) → Way M direction s v lines → b + dm_of M lines ≤ limit → label_of f (place v) ≤ b + dm_of M lines
+    settled_by : (n s b v : ℕ) (lines : List ℕ) → length lines ≤ n → Contains from (s, b) → IsTrue (has_node M s) →
+        Way M direction s v lines → b + dm_of M lines ≤ limit → label_of f (place v) ≤ b + dm_of M lines
     settled_by zero s b v lines size listed there way short = elim (way_ends M direction s v lines way) [
-      | stays e none ↦ let le = u.begun s b listed there in subst (λ (w : ℕ). label_of f (place w) ≤ b + dm_of M lines) e (omega arith)
+      | stays e none ↦ let le =
+          u.begun s b listed there in subst (λ (w : ℕ). label_of f (place w) ≤ b + dm_of M lines) e (omega arith)
       | goes_on k ↦ let more = k.size in absurd (omega arith)
     ]
     settled_by (suc n) s b v lines size listed there way short = elim (way_ends M direction s v lines way) [
-      | stays e none ↦ let le = u.begun s b listed there in subst (λ (w : ℕ). label_of f (place w) ≤ b + dm_of M lines) e (omega arith)
+      | stays e none ↦ let le =
+          u.begun s b listed there in subst (λ (w : ℕ). label_of f (place w) ≤ b + dm_of M lines) e (omega arith)
       | goes_on k ↦
           let more = k.size in
           let long = k.long in
-          settled_on s b v lines short k (settled_by n s b (near_end M direction k.line) k.front (omega arith) listed there k.way (omega arith))
+          settled_on s b v lines short k
+          (settled_by n s b (near_end M direction k.line) k.front (omega arith) listed there k.way (omega arith))
     ]
 
-    pub settled_far : (v d : ℕ) → IsTrue (has_node M v) → d ≤ limit → Leads M direction from v d → label_of f (place v) ≤ d
+    pub settled_far : (v d : ℕ) → IsTrue (has_node M v) → d ≤ limit → Leads M direction from v d →
+        label_of f (place v) ≤ d
     settled_far v d known le l =
         let long = l.long in
-        subst (λ (e : ℕ). label_of f (place v) ≤ e) long (settled_by (length l.lines) l.source l.begun v l.lines (omega arith) l.listed l.there l.way (omega arith))
+        subst (λ (e : ℕ). label_of f (place v) ≤ e) long
+        (settled_by (length l.lines) l.source l.begun v l.lines (omega arith) l.listed l.there l.way (omega arith))
 
   -- the search s is settled on to a limit, up to the search t
-  pub settled_on_to : (s t : Search) (limit : ℕ) → IsSearch M place direction from s → t.direction ≡ s.direction → IsUnderWay M place direction from t.found → limit ≤ GREATEST_LIMIT → ((d p : ℕ) → IsQueued t.found d p → limit < d)
-      → ((p : ℕ) → label_of t.found p ≤ label_of s.found p) → t.limit ≡ max s.limit limit → IsSearch M place direction from t
+  pub settled_on_to : (s t : Search) (limit : ℕ) → IsSearch M place direction from s → t.direction ≡ s.direction →
+      IsUnderWay M place direction from t.found → limit ≤ GREATEST_LIMIT →
+      ((d p : ℕ) → IsQueued t.found d p → limit < d)
+      → ((p : ℕ) → label_of t.found p ≤ label_of s.found p) → t.limit ≡ max s.limit limit →
+      IsSearch M place direction from t
   settled_on_to s t limit h way u small far better is =
       let was = h.small in
       record {
@@ -315,16 +366,19 @@ module _ (M : Map) (place : ℕ → ℕ) (direction : Direction) (from : List (�
       }
 
   -- at first each way of no length stays where it begins
-  pub settled_none : (f : Found) → IsUnderWay M place direction from f → (v d : ℕ) → IsTrue (has_node M v) → d ≤ 0 → Leads M direction from v d → label_of f (place v) ≤ d
+  pub settled_none : (f : Found) → IsUnderWay M place direction from f → (v d : ℕ) → IsTrue (has_node M v) → d ≤ 0 →
+      Leads M direction from v d → label_of f (place v) ≤ d
   settled_none f u v d known le l = let long = l.long in elim (way_ends M direction l.source v l.lines l.way) [
-    | stays e none ↦ let low = u.begun l.source l.begun l.listed l.there in subst (λ (w : ℕ). label_of f (place w) ≤ d) e (omega arith)
+    | stays e none ↦ let low =
+        u.begun l.source l.begun l.listed l.there in subst (λ (w : ℕ). label_of f (place w) ≤ d) e (omega arith)
     | goes_on k ↦ let some = positive M u.labelled.sound k.line k.known in let more = k.long in absurd (omega arith)
   ]
 
   -- ---- what the labels say
 
   module _ (s : Search) (h : IsSearch M place direction from s) where
-    pub is_distance : (v : ℕ) → IsTrue (has_node M v) → label_of s.found (place v) ≤ s.limit → IsDistance M direction from v (label_of s.found (place v))
+    pub is_distance : (v : ℕ) → IsTrue (has_node M v) → label_of s.found (place v) ≤ s.limit →
+        IsDistance M direction from v (label_of s.found (place v))
     is_distance v known le =
         let small = h.small in
         record {
@@ -342,7 +396,8 @@ module _ (M : Map) (place : ℕ → ℕ) (direction : Direction) (from : List (�
         let low = h.settled v d known le l in
         (label_of s.found (place v), is_distance v known (omega arith), omega arith)
 
-    pub label_is : (v d : ℕ) → IsTrue (has_node M v) → IsDistance M direction from v d → d ≤ s.limit → label_of s.found (place v) ≡ d
+    pub label_is : (v d : ℕ) → IsTrue (has_node M v) → IsDistance M direction from v d → d ≤ s.limit →
+        label_of s.found (place v) ≡ d
     label_is v d known x le =
         let small = h.small in
         let low = h.settled v d known le x.leads in
@@ -353,7 +408,8 @@ module _ (M : Map) (place : ℕ → ℕ) (direction : Direction) (from : List (�
     distance_node v d x = leads_node M h.under_way.labelled.sound direction from v d x.leads
 
     -- each near node is in the list
-    pub near_listed : (v : ℕ) → IsNear M direction from s.limit v → Contains s.found.reached.items (record { node = v; place = place v })
+    pub near_listed : (v : ℕ) → IsNear M direction from s.limit v →
+        Contains s.found.reached.items (record { node = v; place = place v })
     near_listed v near =
         let known = distance_node v near.0 near.1 in
         let is = label_is v near.0 known near.1 near.2 in
@@ -365,18 +421,22 @@ module _ (M : Map) (place : ℕ → ℕ) (direction : Direction) (from : List (�
               let r = k.0 in
               let x = h.under_way.labelled.listed r k.1 in
               let own : r.node ≡ v = h.under_way.labelled.own r.node v x.there known (x.at ∙ k.2) in
-              let same : r ≡ record { node = v; place = place v } = ap (λ (n : ℕ). record { node = n; place = r.place }) own ∙ ap (λ (q : ℕ). record { node = v; place = q }) k.2 in
+              let same : r ≡ record { node = v; place = place v } =
+              ap (λ (n : ℕ). record { node = n; place = r.place }) own
+              ∙ ap (λ (q : ℕ). record { node = v; place = q }) k.2 in
               subst (λ (y : Reached). Contains s.found.reached.items y) same k.1
         ]
 
-    pub listed_reached : (r : Reached) → Contains s.found.reached.items r → IsReached M direction from r.node × (place r.node ≡ r.place)
+    pub listed_reached : (r : Reached) → Contains s.found.reached.items r → IsReached M direction from r.node
+        × (place r.node ≡ r.place)
     listed_reached r c =
         let x = h.under_way.labelled.listed r c in
         let is : label_of s.found (place r.node) ≡ label_of s.found r.place = ap (label_of s.found) x.at in
         let label = x.label in
         ((label_of s.found (place r.node), h.under_way.labelled.leads r.node x.there (omega arith), omega arith), x.at)
 
-    pub listed_near : (r : Reached) → Contains s.found.reached.items r → label_of s.found r.place ≤ s.limit → IsNear M direction from s.limit r.node
+    pub listed_near : (r : Reached) → Contains s.found.reached.items r → label_of s.found r.place ≤ s.limit →
+        IsNear M direction from s.limit r.node
     listed_near r c le =
         let x = h.under_way.labelled.listed r c in
         let is : label_of s.found (place r.node) ≡ label_of s.found r.place = ap (label_of s.found) x.at in

@@ -1,9 +1,11 @@
 -- The first lines of a walk, one more at a time.
-use Rattle.std.proofs.Common.{◌≡◌, ℕ, ◌+◌, ◌<◌, ◌≤◌, List, [], ◌∷◌, ◌++◌, take, drop, length, get_or, IsTrue, sym, ap, ◌∙◌, subst, arith, append_assoc, add-one, drop-cons, suc}
+use Rattle.std.proofs.Common.{◌≡◌, ℕ, ◌+◌, ◌<◌, ◌≤◌, List, [], ◌∷◌, ◌++◌, take, drop, length, get_or, IsTrue, sym, ap}
+use Rattle.std.proofs.Common.{◌∙◌, subst, arith, append_assoc, add-one, drop-cons, suc}
 use Rattle.std.proofs.lemmas.List.{take_more, take-append-drop}
 use Rattle.olr_spec.specs.Map.{Map, IsMap, has_line, start, end}
 use Rattle.olr_spec.specs.Walks.{Walk, dm_of, Least, Sole}
-use Rattle.olr_spec.proofs.WalkLemmas.{dm_of-append, Walk-split, prefix_of_least, prefix_of_sole, empty_least, empty_sole}
+use Rattle.olr_spec.proofs.WalkLemmas.{dm_of-append, Walk-split, prefix_of_least, prefix_of_sole, empty_least}
+use Rattle.olr_spec.proofs.WalkLemmas.{empty_sole}
 use Rattle.olr_route.specs.Labels.{Labels, LeastWithin, SoleWithin}
 use Rattle.olr_route.proofs.WalkEnds.{walk_on, last_step}
 
@@ -15,10 +17,13 @@ pub record IsNext (M : Map) (s t : ℕ) (lines : List ℕ) (i y : ℕ) : Type 0 
   pub more : take (i + 1) lines ≡ take i lines ++ y ∷ []
   pub parts : lines ≡ (take i lines ++ y ∷ []) ++ drop (i + 1) lines
 
-pub next_of : (M : Map) (s t : ℕ) (lines : List ℕ) → Walk M s t lines → (i y : ℕ) → i < length lines → y ≡ get_or lines i y → IsNext M s t lines i y
+pub next_of : (M : Map) (s t : ℕ) (lines : List ℕ) → Walk M s t lines → (i y : ℕ) → i < length lines →
+    y ≡ get_or lines i y → IsNext M s t lines i y
 next_of M s t lines w i y lt is =
-    let here : drop i lines ≡ y ∷ drop (i + 1) lines = rw add-one (drop-cons lines i y lt ∙ ap (λ (z : ℕ). z ∷ drop (suc i) lines) (sym is)) in
-    let whole : lines ≡ take i lines ++ (y ∷ drop (i + 1) lines) = sym (take-append-drop i lines) ∙ ap (λ (zs : List ℕ). take i lines ++ zs) here in
+    let here : drop i lines ≡ y ∷ drop (i + 1) lines =
+    rw add-one (drop-cons lines i y lt ∙ ap (λ (z : ℕ). z ∷ drop (suc i) lines) (sym is)) in
+    let whole : lines ≡ take i lines ++ (y ∷ drop (i + 1) lines) =
+    sym (take-append-drop i lines) ∙ ap (λ (zs : List ℕ). take i lines ++ zs) here in
     let r = Walk-split M s t (take i lines) (y ∷ drop (i + 1) lines) (subst (λ (zs : List ℕ). Walk M s t zs) whole w) in
     record {
       known = r.2.0;
@@ -34,29 +39,37 @@ module _ (M : Map) (x : Labels) (t : ℕ) (lines : List ℕ) (i y : ℕ) (n : Is
 
   prefix_short : dm_of M lines ≤ x.limit → dm_of M (take i lines ++ y ∷ []) ≤ x.limit
   prefix_short h =
-      let parts : dm_of M lines ≡ dm_of M (take i lines ++ y ∷ []) + dm_of M (drop (i + 1) lines) = ap (dm_of M) n.parts ∙ dm_of-append M (take i lines ++ y ∷ []) (drop (i + 1) lines) in
+      let parts : dm_of M lines ≡ dm_of M (take i lines ++ y ∷ []) + dm_of M (drop (i + 1) lines) =
+      ap (dm_of M) n.parts ∙ dm_of-append M (take i lines ++ y ∷ []) (drop (i + 1) lines) in
       omega arith
 
   pub least_prefix : LeastWithin M x t lines → LeastWithin M x (end M y) (take i lines ++ y ∷ [])
   least_prefix l = record {
-    least = prefix_of_least M x.source (end M y) t (take i lines ++ y ∷ []) (drop (i + 1) lines) (subst (λ (zs : List ℕ). Least M x.source t zs) n.parts l.least) prefix_walk n.rest;
+    least =
+        prefix_of_least M x.source (end M y) t (take i lines ++ y ∷ []) (drop (i + 1) lines)
+        (subst (λ (zs : List ℕ). Least M x.source t zs) n.parts l.least) prefix_walk n.rest;
     within = prefix_short l.within;
   }
 
   pub sole_prefix : SoleWithin M x t lines → SoleWithin M x (end M y) (take i lines ++ y ∷ [])
   sole_prefix l = record {
-    sole = prefix_of_sole M x.source (end M y) t (take i lines ++ y ∷ []) (drop (i + 1) lines) (subst (λ (zs : List ℕ). Sole M x.source t zs) n.parts l.sole) prefix_walk n.rest;
+    sole =
+        prefix_of_sole M x.source (end M y) t (take i lines ++ y ∷ []) (drop (i + 1) lines)
+        (subst (λ (zs : List ℕ). Sole M x.source t zs) n.parts l.sole) prefix_walk n.rest;
     within = prefix_short l.within;
   }
 
   -- what holds of the first i + 1 lines, wherever they lead
-  pub held_more : (P : ℕ → List ℕ → Type 0) → P (end M y) (take i lines ++ y ∷ []) → (v : ℕ) → Walk M x.source v (take (i + 1) lines) → P v (take (i + 1) lines)
+  pub held_more : (P : ℕ → List ℕ → Type 0) → P (end M y) (take i lines ++ y ∷ []) → (v : ℕ) →
+      Walk M x.source v (take (i + 1) lines) → P v (take (i + 1) lines)
   held_more P here v w =
       let step = last_step M x.source v y (take i lines) (subst (λ (zs : List ℕ). Walk M x.source v zs) n.more w) in
       subst (λ (zs : List ℕ). P v zs) (sym n.more) (subst (λ (u : ℕ). P u (take i lines ++ y ∷ [])) step.to here)
 
 pub least_none : (M : Map) (x : Labels) (v : ℕ) → Walk M x.source v [] → LeastWithin M x v []
-least_none M x v w = record { least = subst (λ (u : ℕ). Least M x.source u []) w (empty_least M x.source); within = omega arith }
+least_none M x v w =
+    record { least = subst (λ (u : ℕ). Least M x.source u []) w (empty_least M x.source); within = omega arith }
 
 pub sole_none : (M : Map) → IsMap M → (x : Labels) (v : ℕ) → Walk M x.source v [] → SoleWithin M x v []
-sole_none M m x v w = record { sole = subst (λ (u : ℕ). Sole M x.source u []) w (empty_sole M m x.source); within = omega arith }
+sole_none M m x v w =
+    record { sole = subst (λ (u : ℕ). Sole M x.source u []) w (empty_sole M m x.source); within = omega arith }

@@ -1,5 +1,6 @@
 -- Distances with the last lines that they give are the labels of the least walks.
-use Rattle.std.proofs.Common.{◌≡◌, ℕ, ◌+◌, ◌<◌, ◌≤◌, ◌⊎◌, ◌↔◌, List, [], ◌∷◌, ◌++◌, length, get_or, Contains, Option, Some, None, IsSome, IsTrue, refl, sym, ap, ◌∙◌, subst, inl, inr, arith}
+use Rattle.std.proofs.Common.{◌≡◌, ℕ, ◌+◌, ◌<◌, ◌≤◌, ◌⊎◌, ◌↔◌, List, [], ◌∷◌, ◌++◌, length, get_or, Contains, Option}
+use Rattle.std.proofs.Common.{Some, None, IsSome, IsTrue, refl, sym, ap, ◌∙◌, subst, inl, inr, arith}
 use Rattle.std.specs.List.Sorted.{IsStrictlyIncreasing}
 use Rattle.std.proofs.lemmas.Bool.{cases_lt}
 use Rattle.std.proofs.lemmas.List.{get_or_default}
@@ -27,8 +28,11 @@ something : (o : Option ℕ) → (o ≡ None) ⊎ ((x : ℕ) × (o ≡ Some x))
 something None = inl refl
 something (Some x) = inr (x, refl)
 
-module _ (M : Map) (place : ℕ → ℕ) (s : ℕ) (q : Search) (h : IsSearch M place Along ((s, 0) ∷ []) q) (source : IsTrue (has_node M s)) (ks : List ℕ) (ls : List Label) (up : IsStrictlyIncreasing ks) (beside : length ls ≡ length ks)
-    (near : (v : ℕ) → Contains ks v ↔ IsNear M Along ((s, 0) ∷ []) q.limit v) (told : (i : ℕ) → i < length ks → IsTold M place q.found (get_or ks i 0) (get_or ls i (0, None))) where
+module _ (M : Map) (place : ℕ → ℕ) (s : ℕ) (q : Search) (h : IsSearch M place Along ((s, 0) ∷ []) q)
+    (source : IsTrue (has_node M s)) (ks : List ℕ) (ls : List Label) (up : IsStrictlyIncreasing ks)
+    (beside : length ls ≡ length ks)
+    (near : (v : ℕ) → Contains ks v ↔ IsNear M Along ((s, 0) ∷ []) q.limit v)
+    (told : (i : ℕ) → i < length ks → IsTold M place q.found (get_or ks i 0) (get_or ls i (0, None))) where
   -- what a label says, and that it is near
   record Says (v d : ℕ) (o : Option ℕ) : Type 0 where
     known : IsTrue (has_node M v)
@@ -40,7 +44,9 @@ module _ (M : Map) (place : ℕ → ℕ) (s : ℕ) (q : Search) (h : IsSearch M 
   says v d o at =
       let k = node_of_label s q.limit ks ls up beside v (d, o) at in
       let t = told k.0 k.1 in
-      let here : IsTold M place q.found v (d, o) = subst (λ (l : Label). IsTold M place q.found v l) k.3 (subst (λ (u : ℕ). IsTold M place q.found u (get_or ls k.0 (0, None))) k.2 t) in
+      let here : IsTold M place q.found v (d, o) =
+      subst (λ (l : Label). IsTold M place q.found v l) k.3
+      (subst (λ (u : ℕ). IsTold M place q.found u (get_or ls k.0 (0, None))) k.2 t) in
       let n = (near v).0 (k.0, k.1, get_or_default ks k.0 v 0 k.1 ∙ k.2) in
       let known = distance_node M place Along ((s, 0) ∷ []) q h v n.0 n.1 in
       let is = label_is M place Along ((s, 0) ∷ []) q h v n.0 known n.1 n.2 in
@@ -49,26 +55,35 @@ module _ (M : Map) (place : ℕ → ℕ) (s : ℕ) (q : Search) (h : IsSearch M 
       record { known = known; dist = here.dist; within = omega arith; last = here.last }
 
   -- a node within the limit has a label
-  labelled : (v : ℕ) → IsTrue (has_node M v) → label_of q.found (place v) ≤ q.limit → (k : Label) × (label_at (listed s q.limit ks ls) v ≡ Some k) × IsTold M place q.found v k
+  labelled : (v : ℕ) → IsTrue (has_node M v) → label_of q.found (place v) ≤ q.limit → (k : Label)
+      × (label_at (listed s q.limit ks ls) v ≡ Some k) × IsTold M place q.found v k
   labelled v known le =
       let c = (near v).1 (label_of q.found (place v), is_distance M place Along ((s, 0) ∷ []) q h v known le, le) in
-      let is : get_or ks c.0 0 ≡ v = get_or_default ks c.0 0 v c.1 ∙ c.2 in
-      (get_or ls c.0 (0, None), label_of_node s q.limit ks ls up beside v c.0 c.1 is, subst (λ (u : ℕ). IsTold M place q.found u (get_or ls c.0 (0, None))) is (told c.0 c.1))
+      let is : get_or ks c.0 0 ≡ v = get_or_default ks c.0 0 v c.1 ∙ c.2 in (
+        get_or ls c.0 (0, None),
+        label_of_node s q.limit ks ls up beside v c.0 c.1 is,
+        subst (λ (u : ℕ). IsTold M place q.found u (get_or ls c.0 (0, None))) is (told c.0 c.1),
+      )
 
   -- a shortest walk, and a line more
-  on_by : (u x : ℕ) → IsTrue (has_node M u) → IsTrue (has_line M x) → start M x ≡ u → label_of q.found (place u) + dm M x ≤ q.limit → label_of q.found (place (end M x)) ≤ label_of q.found (place u) + dm M x
+  on_by : (u x : ℕ) → IsTrue (has_node M u) → IsTrue (has_line M x) → start M x ≡ u →
+      label_of q.found (place u) + dm M x ≤ q.limit →
+      label_of q.found (place (end M x)) ≤ label_of q.found (place u) + dm M x
   on_by u x known line from short =
       let small = h.small in
       let w = label_way M place s q h u known (omega arith) in
       let long = w.2 in
       let more = dm_of-line M w.0 x in
-      let low = way_le M place s q h (end M x) (w.0 ++ x ∷ []) (h.under_way.labelled.sound.ends x line) (walk_on M s x w.0 (subst (λ (v : ℕ). Walk M s v w.0) (sym from) w.1) line) (omega arith) in
+      let low =
+      way_le M place s q h (end M x) (w.0 ++ x ∷ []) (h.under_way.labelled.sound.ends x line)
+      (walk_on M s x w.0 (subst (λ (v : ℕ). Walk M s v w.0) (sym from) w.1) line) (omega arith) in
       omega arith
 
   at_source : label_at (listed s q.limit ks ls) s ≡ Some (0, None)
   at_source =
       let m = h.under_way.labelled.sound in
-      let none : label_of q.found (place s) ≤ 0 = h.settled s 0 source (omega arith) (leads_first M Along ((s, 0) ∷ []) s 0 (first_one (s, 0)) source) in
+      let none : label_of q.found (place s) ≤ 0 =
+      h.settled s 0 source (omega arith) (leads_first M Along ((s, 0) ∷ []) s 0 (first_one (s, 0)) source) in
       let k = labelled s source (omega arith) in
       let dist = k.2.dist in
       let zero_is : k.0.0 ≡ 0 = omega arith in
@@ -93,14 +108,21 @@ module _ (M : Map) (place : ℕ → ℕ) (s : ℕ) (q : Search) (h : IsSearch M 
       elim (ends_of w.0) [
         | empty none ↦
             let nothing : dm_of M w.0 ≡ 0 = ap (dm_of M) none in
-            record { lines = []; walk = subst (λ (zs : List ℕ). Walk M s v zs) none w.1; long = omega arith; ends = sym e }
+            record {
+              lines = [];
+              walk = subst (λ (zs : List ℕ). Walk M s v zs) none w.1;
+              long = omega arith;
+              ends =
+                  sym e;
+            }
         | ended front z is ↦
             let step = last_step M s v z front (subst (λ (zs : List ℕ). Walk M s v zs) is w.1) in
             let parts : dm_of M w.0 ≡ dm_of M front + dm M z = ap (dm_of M) is ∙ dm_of-line M front z in
             let begins = m.starts z step.known in
             let low = way_le M place s q h (start M z) front begins step.front (omega arith) in
             let high = on_by (start M z) z begins step.known refl (omega arith) in
-            let same : label_of q.found (place (end M z)) ≡ label_of q.found (place v) = ap (λ (n : ℕ). label_of q.found (place n)) step.to in
+            let same : label_of q.found (place (end M z)) ≡ label_of q.found (place v) =
+            ap (λ (n : ℕ). label_of q.found (place n)) step.to in
             absurd (t.last.none e z (record { known = step.known; to = step.to; long = omega arith }))
       ]
 
@@ -121,14 +143,17 @@ module _ (M : Map) (place : ℕ → ℕ) (s : ℕ) (q : Search) (h : IsSearch M 
         ends = last_of-append w.0 y ∙ sym e;
       }
 
-  closed : (u d : ℕ) (o : Option ℕ) → label_at (listed s q.limit ks ls) u ≡ Some (d, o) → (x : ℕ) → IsTrue (has_line M x) → start M x ≡ u → d + dm M x ≤ q.limit → Capped (label_at (listed s q.limit ks ls)) (end M x) (d + dm M x) (Some x)
+  closed : (u d : ℕ) (o : Option ℕ) → label_at (listed s q.limit ks ls) u ≡ Some (d, o) → (x : ℕ) →
+      IsTrue (has_line M x) → start M x ≡ u → d + dm M x ≤ q.limit →
+      Capped (label_at (listed s q.limit ks ls)) (end M x) (d + dm M x) (Some x)
   closed u d o at x line from short =
       let t = says u d o at in
       let dist = t.dist in
       let low = on_by u x t.known line from (omega arith) in
       let r = labelled (end M x) (h.under_way.labelled.sound.ends x line) (omega arith) in
       let there = r.2.dist in
-      let begin_is : label_of q.found (place (start M x)) ≡ label_of q.found (place u) = ap (λ (n : ℕ). label_of q.found (place n)) from in
+      let begin_is : label_of q.found (place (start M x)) ≡ label_of q.found (place u) =
+      ap (λ (n : ℕ). label_of q.found (place n)) from in
       record {
         dist = r.0.0;
         last = r.0.1;
@@ -136,10 +161,15 @@ module _ (M : Map) (place : ℕ → ℕ) (s : ℕ) (q : Search) (h : IsSearch M 
         low = elim (cases_lt r.0.0 (d + dm M x)) [
           | inl lt ↦ inl lt
           | inr ge ↦
-              let tight : IsTight M place q.found (end M x) r.0.0 x = record { known = line; to = refl; long = omega arith } in
+              let tight : IsTight M place q.found (end M x) r.0.0 x =
+              record { known = line; to = refl; long = omega arith } in
               elim (something r.0.1) [
                 | inl e ↦ absurd (r.2.last.none e x tight)
-                | inr y ↦ inr (omega arith, subst (λ (p : Option ℕ). NotGreater p (Some x)) (sym y.1) (r.2.last.least y.0 x y.1 tight))
+                | inr y ↦ inr (
+                  omega arith,
+                  subst (λ (p : Option ℕ). NotGreater p (Some x)) (sym y.1)
+                      (r.2.last.least y.0 x y.1 tight),
+                )
               ]
         ];
       }
@@ -148,7 +178,12 @@ module _ (M : Map) (place : ℕ → ℕ) (s : ℕ) (q : Search) (h : IsSearch M 
   certified = record {
     at_source = at_source;
     within = λ v d o at. (says v d o at).within;
-    found = λ v d o at. elim (something o) [ inl e ↦ found_none v d o (says v d o at) e | inr y ↦ found_some v d y.0 o (says v d o at) y.1 ];
+    found =
+        λ v d o at. elim (something o) [
+          | inl e ↦ found_none v d o (says v d o at) e
+          | inr y ↦
+              found_some v d y.0 o (says v d o at) y.1
+        ];
     closed = closed;
   }
 
@@ -159,8 +194,13 @@ module _ (M : Map) (place : ℕ → ℕ) (s : ℕ) (q : Search) (h : IsSearch M 
   node_there v c = let n = (near v).0 c in distance_node M place Along ((s, 0) ∷ []) q h v n.0 n.1
 
 -- marks that no line improves, told in lists, are labels too
-pub marked_labels : (M : Map) → IsMap M → (s limit : ℕ) (m : Marks) (ks : List ℕ) (ls : List Label) → IsStrictlyIncreasing ks → length ls ≡ length ks → ((v : ℕ) → Contains ks v ↔ IsSome (mark_at m v))
-    → ((i : ℕ) → i < length ks → mark_at m (get_or ks i 0) ≡ Some (get_or ls i (0, None))) → IsSearchState M s limit m → IsClosed M limit (mark_at m) → AreLabels M (listed s limit ks ls)
+pub marked_labels : (M : Map) → IsMap M → (s limit : ℕ) (m : Marks) (ks : List ℕ) (ls : List Label) →
+    IsStrictlyIncreasing ks → length ls ≡ length ks → ((v : ℕ) → Contains ks v ↔ IsSome (mark_at m v))
+    → ((i : ℕ) → i < length ks → mark_at m (get_or ks i 0) ≡ Some (get_or ls i (0, None))) → IsSearchState M s limit m →
+    IsClosed M limit (mark_at m) → AreLabels M (listed s limit ks ls)
 marked_labels M sound s limit m ks ls up beside nodes each f closed =
-    let marks : Certified M s limit (mark_at m) = record { at_source = f.at_source; within = f.within; found = f.found; closed = closed } in
-    labels_of_certified M sound (listed s limit ks ls) (subst (Certified M s limit) (λ i v. sym (label_at-listed s limit ks ls up beside (mark_at m) nodes each v) i) marks)
+    let marks : Certified M s limit (mark_at m) =
+    record { at_source = f.at_source; within = f.within; found = f.found; closed = closed } in
+    labels_of_certified M sound (listed s limit ks ls)
+    (subst (Certified M s limit) (λ i v. sym (label_at-listed s limit ks ls up beside (mark_at m) nodes each v) i)
+    marks)

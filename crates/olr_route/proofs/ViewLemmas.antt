@@ -1,5 +1,6 @@
 -- Labels are a finite map, and are kept in two lists: the two answer alike.
-use Rattle.std.proofs.Common.{◌≡◌, ℕ, suc, ◌+◌, ◌<◌, ◌↔◌, Contains, List, [], ◌∷◌, length, get_or, Option, Some, None, Bool, false, cond, is_some, IsSome, refl, sym, ap, ◌∙◌, subst, arith, nat_cmp, eqb}
+use Rattle.std.proofs.Common.{◌≡◌, ℕ, suc, ◌+◌, ◌<◌, ◌↔◌, Contains, List, [], ◌∷◌, length, get_or, Option, Some, None}
+use Rattle.std.proofs.Common.{Bool, false, cond, is_some, IsSome, refl, sym, ap, ◌∙◌, subst, arith, nat_cmp, eqb}
 use Rattle.std.specs.Cmp.{nat_cmp_total, unsigned_tied}
 use Rattle.std.specs.FinMap.{get, len, from_entries, get-from_entries, len-insert, len-empty, contains_key}
 use Rattle.std.specs.FinMap.Entries.{find}
@@ -12,21 +13,24 @@ use Rattle.std.proofs.lemmas.Map.Keys.{IsDistinct-tail, IsDistinct-head}
 use Rattle.std.proofs.lemmas.Map.Made.{keys_of-zip}
 use Rattle.std.proofs.lemmas.Map.Views.{Contains-keys_from_lookup}
 use Rattle.std.proofs.lemmas.Slice.Zip.{get_or-zip, length-zip}
+use Rattle.olr_spec.proofs.OptionLemmas.{is_some_of}
 use Rattle.olr_map.proofs.Lookups.{lookup_at}
 use Rattle.olr_map.proofs.Numbers.{distinct_from_rising}
 use Rattle.olr_route.specs.Labels.{Label, label_at, count_of}
 use Rattle.olr_route.specs.Listed.{listed}
-use Rattle.olr_route.proofs.LabelLemmas.{is_some_of}
 
 find-lookup : (q : ℕ) (es : List (ℕ × Label)) → find nat_cmp q es ≡ lookup (eqb q) es
 find-lookup q [] = refl
-find-lookup q (e ∷ es) = ap (λ (b : Bool). cond b (Some e.1) (find nat_cmp q es)) (unsigned_tied q e.0) ∙ ap (λ (o : Option Label). cond (eqb q e.0) (Some e.1) o) (find-lookup q es)
+find-lookup q (e ∷ es) =
+    ap (λ (b : Bool). cond b (Some e.1) (find nat_cmp q es)) (unsigned_tied q e.0)
+    ∙ ap (λ (o : Option Label). cond (eqb q e.0) (Some e.1) o) (find-lookup q es)
 
 -- the value at a node
 pub get-view : (es : List (ℕ × Label)) (q : ℕ) → get (from_entries {R = nat_cmp} es) q ≡ lookup (eqb q) es
 get-view es q = get-from_entries nat_cmp_total es q ∙ find-lookup q es
 
-not_found : (k : ℕ) (es : List (ℕ × Label)) → AllByRecursion (λ y. eqb k y ≡ false) (keys_of es) → lookup (eqb k) es ≡ None
+not_found : (k : ℕ) (es : List (ℕ × Label)) → AllByRecursion (λ y. eqb k y ≡ false) (keys_of es) →
+    lookup (eqb k) es ≡ None
 not_found k [] h = refl
 not_found k (e ∷ es) h = ap (λ (b : Bool). cond b (Some e.1) (lookup (eqb k) es)) h.0 ∙ not_found k es h.1
 
@@ -34,7 +38,9 @@ not_found k (e ∷ es) h = ap (λ (b : Bool). cond b (Some e.1) (lookup (eqb k) 
 len-view : (es : List (ℕ × Label)) → IsDistinct eqb (keys_of es) → len (from_entries {R = nat_cmp} es) ≡ length es
 len-view [] h = len-empty nat_cmp Label
 len-view (e ∷ es) h =
-    let new : contains_key (from_entries {R = nat_cmp} es) e.0 ≡ false = ap (λ (o : Option Label). is_some o) (get-view es e.0 ∙ not_found e.0 es (IsDistinct-head eqb e.0 (keys_of es) h)) in
+    let new : contains_key (from_entries {R = nat_cmp} es) e.0 ≡ false =
+    ap (λ (o : Option Label). is_some o) (get-view es e.0
+    ∙ not_found e.0 es (IsDistinct-head eqb e.0 (keys_of es) h)) in
     len-insert nat_cmp_total (from_entries es) e.0 e.1
     ∙ ap (λ (b : Bool). cond b (len (from_entries {R = nat_cmp} es)) (len (from_entries {R = nat_cmp} es) + 1)) new
     ∙ ap (λ (n : ℕ). n + 1) (len-view es (IsDistinct-tail eqb e.0 (keys_of es) h)) ∙ one_more (length es)
@@ -46,45 +52,59 @@ none_of : {A : Type 0} (o : Option A) → ¬ IsSome o → o ≡ None
 none_of None h = refl
 none_of (Some x) h = absurd (h refl)
 
-module _ (s limit : ℕ) (ks : List ℕ) (ls : List Label) (up : IsStrictlyIncreasing ks) (beside : length ls ≡ length ks) where
+module _ (s limit : ℕ) (ks : List ℕ) (ls : List Label) (up : IsStrictlyIncreasing ks)
+    (beside : length ls ≡ length ks) where
   keys : keys_of (zip ks ls) ≡ ks
   keys = keys_of-zip ks ls beside
 
   -- the label at the i-th node
-  pub label_of_node : (v i : ℕ) → i < length ks → get_or ks i 0 ≡ v → label_at (listed s limit ks ls) v ≡ Some (get_or ls i (0, None))
+  pub label_of_node : (v i : ℕ) → i < length ks → get_or ks i 0 ≡ v →
+      label_at (listed s limit ks ls) v ≡ Some (get_or ls i (0, None))
   label_of_node v i lt is =
-      let pair : get_or (zip ks ls) i (0, (0, None)) ≡ (get_or ks i 0, get_or ls i (0, None)) = get_or-zip ks ls i (0, (0, None)) lt (omega arith) in
+      let pair : get_or (zip ks ls) i (0, (0, None)) ≡ (get_or ks i 0, get_or ls i (0, None)) =
+      get_or-zip ks ls i (0, (0, None)) lt (omega arith) in
       let long = length-zip ks ls in
       get-view (zip ks ls) v
-      ∙ lookup_at (zip ks ls) v i (0, (0, None)) (subst (λ (xs : List ℕ). IsDistinct eqb xs) (sym keys) (distinct_from_rising ks up)) (omega arith) (ap (λ (p : ℕ × Label). p.0) pair ∙ is)
+      ∙ lookup_at (zip ks ls) v i (0, (0, None))
+      (subst (λ (xs : List ℕ). IsDistinct eqb xs) (sym keys) (distinct_from_rising ks up)) (omega arith)
+      (ap (λ (p : ℕ × Label). p.0) pair ∙ is)
       ∙ ap (λ (p : ℕ × Label). Some p.1) pair
 
   -- just the nodes of the list have one
   pub has_label : (v : ℕ) → Contains ks v ↔ IsSome (label_at (listed s limit ks ls) v)
   has_label v = (
-    λ c. let lt = c.1 in is_some_of (label_at (listed s limit ks ls) v) (get_or ls c.0 (0, None)) (label_of_node v c.0 c.1 (get_or_default ks c.0 0 v c.1 ∙ c.2)),
-    λ h. subst (λ (xs : List ℕ). Contains xs v) keys (Contains-keys_from_lookup (λ x y e. eqb-true x y e) v (zip ks ls) (subst (λ (o : Option Label). IsSome o) (get-view (zip ks ls) v) h)),
+    λ c. let lt =
+        c.1 in is_some_of (label_at (listed s limit ks ls) v) (get_or ls c.0 (0, None))
+        (label_of_node v c.0 c.1 (get_or_default ks c.0 0 v c.1 ∙ c.2)),
+    λ h. subst (λ (xs : List ℕ). Contains xs v) keys
+        (Contains-keys_from_lookup (λ x y e. eqb-true x y e) v (zip ks ls)
+        (subst (λ (o : Option Label). IsSome o) (get-view (zip ks ls) v) h)),
   )
 
   pub none_there : (v : ℕ) → ¬ Contains ks v → label_at (listed s limit ks ls) v ≡ None
   none_there v absent = none_of (label_at (listed s limit ks ls) v) (λ h. absent ((has_label v).1 h))
 
   -- a label stands beside its node
-  pub node_of_label : (v : ℕ) (k : Label) → label_at (listed s limit ks ls) v ≡ Some k → (i : ℕ) × (i < length ks) × (get_or ks i 0 ≡ v) × (get_or ls i (0, None) ≡ k)
+  pub node_of_label : (v : ℕ) (k : Label) → label_at (listed s limit ks ls) v ≡ Some k → (i : ℕ) × (i < length ks)
+      × (get_or ks i 0 ≡ v) × (get_or ls i (0, None) ≡ k)
   node_of_label v k at =
       let c = (has_label v).1 (is_some_of (label_at (listed s limit ks ls) v) k at) in
       let is : get_or ks c.0 0 ≡ v = get_or_default ks c.0 0 v c.1 ∙ c.2 in
-      let both : ◌≡◌ {A = Option Label} (Some (get_or ls c.0 (0, None))) (Some k) = sym (label_of_node v c.0 c.1 is) ∙ at in
+      let both : ◌≡◌ {A = Option Label} (Some (get_or ls c.0 (0, None))) (Some k) =
+      sym (label_of_node v c.0 c.1 is) ∙ at in
       (c.0, c.1, is, cc)
 
   pub count_of-listed : count_of (listed s limit ks ls) ≡ length ks
   count_of-listed =
       let long = length-zip ks ls in
-      let count = len-view (zip ks ls) (subst (λ (xs : List ℕ). IsDistinct eqb xs) (sym keys) (distinct_from_rising ks up)) in
+      let count =
+      len-view (zip ks ls) (subst (λ (xs : List ℕ). IsDistinct eqb xs) (sym keys) (distinct_from_rising ks up)) in
       omega arith
 
   -- what each node's label is elsewhere, and nothing where there is no node of the list
-  pub label_at-listed : (L : ℕ → Option Label) → ((v : ℕ) → Contains ks v ↔ IsSome (L v)) → ((i : ℕ) → i < length ks → L (get_or ks i 0) ≡ Some (get_or ls i (0, None))) → (v : ℕ) → label_at (listed s limit ks ls) v ≡ L v
+  pub label_at-listed : (L : ℕ → Option Label) → ((v : ℕ) → Contains ks v ↔ IsSome (L v)) →
+      ((i : ℕ) → i < length ks → L (get_or ks i 0) ≡ Some (get_or ls i (0, None))) → (v : ℕ) →
+      label_at (listed s limit ks ls) v ≡ L v
   label_at-listed L nodes each v = decide (L v) refl
     where
       decide : (o : Option Label) → L v ≡ o → label_at (listed s limit ks ls) v ≡ L v

@@ -1,8 +1,8 @@
 -- Walks taken apart at their last line.
-use Rattle.std.proofs.Common.{◌≡◌, ℕ, ◌+◌, ◌<◌, List, [], ◌∷◌, ◌++◌, reverse, Option, Some, None, IsTrue, refl, sym, ap, ◌∙◌, subst, arith, ◌⊎◌}
-use Rattle.std.proofs.lemmas.List.{reverse-append}
+use Rattle.std.proofs.Common.{◌≡◌, ℕ, ◌+◌, List, [], ◌∷◌, ◌++◌, Option, Some, None, IsTrue, refl, sym, ap, ◌∙◌, subst}
+use Rattle.std.proofs.Common.{arith}
 use Rattle.olr_spec.specs.Map.{Map, has_line, start, end, dm}
-use Rattle.olr_spec.specs.Walks.{Walk, dm_of, FirstSmaller, Least}
+use Rattle.olr_spec.specs.Walks.{Walk, dm_of, Least}
 use Rattle.olr_spec.proofs.WalkLemmas.{dm_of-append, Walk-append, Walk-split, prefix_of_least}
 use Rattle.olr_route.specs.Labels.{last_of}
 
@@ -10,6 +10,11 @@ pub last_of-append : (xs : List ℕ) (x : ℕ) → last_of (xs ++ x ∷ []) ≡ 
 last_of-append [] x = refl
 last_of-append (y ∷ []) x = refl
 last_of-append (y ∷ z ∷ xs) x = last_of-append (z ∷ xs) x
+
+pub same_last : (xs ys : List ℕ) (x y : ℕ) → xs ++ x ∷ [] ≡ ys ++ y ∷ [] → x ≡ y
+same_last xs ys x y e =
+    let both : ◌≡◌ {A = Option ℕ} (Some x) (Some y) = sym (last_of-append xs x) ∙ ap last_of e ∙ last_of-append ys y in
+    cc
 
 -- a list is empty, or ends with one
 pub data Ends (xs : List ℕ) : Type 0 where
@@ -38,7 +43,8 @@ pub dm_of-line : (M : Map) (xs : List ℕ) (x : ℕ) → dm_of M (xs ++ x ∷ []
 dm_of-line M xs x = omega (arith, dm_of-append M xs (x ∷ []))
 
 -- a walk that goes on by a line, and back
-pub walk_on : (M : Map) (s x : ℕ) (xs : List ℕ) → Walk M s (start M x) xs → IsTrue (has_line M x) → Walk M s (end M x) (xs ++ x ∷ [])
+pub walk_on : (M : Map) (s x : ℕ) (xs : List ℕ) → Walk M s (start M x) xs → IsTrue (has_line M x) →
+    Walk M s (end M x) (xs ++ x ∷ [])
 walk_on M s x xs w k = Walk-append M s (start M x) (end M x) xs (x ∷ []) w (k, refl, refl)
 
 pub record LastStep (M : Map) (s t x : ℕ) (xs : List ℕ) : Type 0 where
@@ -56,9 +62,3 @@ pub least_front : (M : Map) (s t x : ℕ) (xs : List ℕ) → Least M s t (xs ++
 least_front M s t x xs l =
     let r = last_step M s t x xs l.walk in
     prefix_of_least M s (start M x) t xs (x ∷ []) l r.front (r.known, refl, r.to)
-
--- of two walks that end by a line the smaller last line decides, and then what leads there
-pub last_first : (xs ys : List ℕ) (x y : ℕ) → FirstSmaller (reverse (xs ++ x ∷ [])) (reverse (ys ++ y ∷ [])) → (x < y) ⊎ ((x ≡ y) × FirstSmaller (reverse xs) (reverse ys))
-last_first xs ys x y h =
-    subst (λ (zs : List ℕ). FirstSmaller (x ∷ reverse xs) zs) (reverse-append ys (y ∷ []))
-    (subst (λ (zs : List ℕ). FirstSmaller zs (reverse (ys ++ y ∷ []))) (reverse-append xs (x ∷ [])) h)

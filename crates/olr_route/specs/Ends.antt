@@ -9,4 +9,6 @@ FartherThan M labels x dist y = (d : ℕ) → dist_at labels (start M y) ≡ Som
 
 -- no line but x leads to where x ends within the length of the label there
 abbrev pub Alone : Map → Labels → ℕ → Type 0
-Alone M labels x = (y dist : ℕ) → IsTrue (has_line M y) → end M y ≡ end M x → dist_at labels (end M x) ≡ Some dist → FartherThan M labels x dist y
+Alone M labels x =
+    (y dist : ℕ) → IsTrue (has_line M y) → end M y ≡ end M x → dist_at labels (end M x) ≡ Some dist →
+    FartherThan M labels x dist y

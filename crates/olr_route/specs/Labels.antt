@@ -23,7 +23,8 @@ pub record Labels : Type 0 where
 
 abbrev pub coded_labels : Coded Labels
 coded_labels =
-    code_by (ℕ × (ℕ × FinMap nat_cmp Label)) (coded× coded_ℕ (coded× coded_ℕ (code coded_ℕ (coded× coded_ℕ (coded_option coded_ℕ)))))
+    code_by (ℕ × (ℕ × FinMap nat_cmp Label))
+    (coded× coded_ℕ (coded× coded_ℕ (code coded_ℕ (coded× coded_ℕ (coded_option coded_ℕ)))))
     (λ x. (x.source, (x.limit, x.by_node))) (λ p. record { source = p.0; limit = p.1.0; by_node = p.1.1 }) (λ _. refl)
 
 abbrev pub label_at : Labels → ℕ → Option Label

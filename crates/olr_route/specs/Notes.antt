@@ -23,4 +23,5 @@ pub AreNoted-prop : (table : List ℕ) (reached : List Reached) → IsProp (AreN
 AreNoted-prop table reached = hlevel (props, Coded-set coded_ℕ)
 
 abbrev pub NotesOnce : List Reached → List Reached → ℕ → Reached → Type 0
-NotesOnce old new label r = ((new ≡ old) × (label ≤ GREATEST_LIMIT)) ⊎ ((new ≡ old ++ r ∷ []) × (GREATEST_LIMIT < label))
+NotesOnce old new label r =
+    ((new ≡ old) × (label ≤ GREATEST_LIMIT)) ⊎ ((new ≡ old ++ r ∷ []) × (GREATEST_LIMIT < label))

@@ -1,6 +1,6 @@
 -- What waits in a queue.
---     entry d p      the number that stands for place p at length d: the nearer first, and of those as near the smaller place
---     Queued q d p      the place p waits, at length d.        queue_len q      how many entries there are
+--     entry d p the number that stands for place p at length d: the nearer first, and of those as near the smaller
+--     place Queued q d p the place p waits, at length d. queue_len q how many entries there are
 use Rattle.std.specs.Prelude.{ℕ, ◌+◌, ◌*◌, ◌<◌, ◌^◌, Contains}
 use Rattle.std.specs.BinaryHeap.{heap_items, heap_len}
 use Rattle.olr_route.specs.declared.queue.Queue.{Queue}

@@ -1,13 +1,12 @@
 -- A search that can go on.
 --     limit_of s      the limit in decimetres that it has been settled to
---     IsSearch M place direction from s      its labels within this limit are the distances within it, on the map M with its nodes' places
---     IsNear M direction from limit v      v has a distance of at most the limit
---     IsReached M direction from v      a way of at most the greatest limit leads to v
---     Counts M direction from limit n      so many nodes have one
---     IsAlone M place f x v length      no line but x leads to v within the length
---     ClosedAt M place direction f v d      no line from v, where d, leads to a greater label
---     IsLabelled M place direction from f      each label is the length of a way, and the list has the nodes that have one
---     IsUnderWay M place direction from f      and each label is closed or waits, those at which the search begins among them
+--     IsSearch M place direction from s its labels within this limit are the distances within it, on the map M with its
+--     nodes' places IsNear M direction from limit v v has a distance of at most the limit IsReached M direction from v
+--     a way of at most the greatest limit leads to v Counts M direction from limit n so many nodes have one IsAlone M
+--     place f x v length no line but x leads to v within the length ClosedAt M place direction f v d no line from v,
+--     where d, leads to a greater label IsLabelled M place direction from f each label is the length of a way, and the
+--     list has the nodes that have one IsUnderWay M place direction from f and each label is closed or waits, those at
+--     which the search begins among them
 use Rattle.std.specs.Prelude.{◌≡◌, ◌==◌, ℕ, ◌+◌, ◌<◌, ◌≤◌, ◌⊎◌, ◌↔◌, List, Contains, IsTrue, length, map}
 use Rattle.std.specs.List.{IsDistinct}
 use Rattle.olr_spec.specs.Map.{Map, IsMap, has_node, has_line, start, end, dm}
@@ -24,7 +23,9 @@ abbrev pub limit_of : Search → ℕ
 limit_of s = s.limit
 
 abbrev pub ClosedAt : Map → (ℕ → ℕ) → Direction → Found → ℕ → ℕ → Type 0
-ClosedAt M place direction f v d = (x : ℕ) → IsTrue (has_line M x) → near_end M direction x ≡ v → label_of f (place (far_end M direction x)) ≤ d + dm M x
+ClosedAt M place direction f v d =
+    (x : ℕ) → IsTrue (has_line M x) → near_end M direction x ≡ v →
+    label_of f (place (far_end M direction x)) ≤ d + dm M x
 
 -- the table has a place for each node
 abbrev pub CoversPlaces : Map → (ℕ → ℕ) → Found → Type 0
@@ -41,7 +42,8 @@ pub record IsLabelled (M : Map) (place : ℕ → ℕ) (direction : Direction) (f
   pub own : (v w : ℕ) → IsTrue (has_node M v) → IsTrue (has_node M w) → place v ≡ place w → v ≡ w
   pub room : CoversPlaces M place f
   pub low : (p : ℕ) → label_of f p ≤ NO_LABEL
-  pub leads : (v : ℕ) → IsTrue (has_node M v) → label_of f (place v) ≤ GREATEST_LIMIT → Leads M direction from v (label_of f (place v))
+  pub leads : (v : ℕ) → IsTrue (has_node M v) → label_of f (place v) ≤ GREATEST_LIMIT →
+      Leads M direction from v (label_of f (place v))
   pub nodes : (p : ℕ) → label_of f p ≤ GREATEST_LIMIT → (v : ℕ) × IsTrue (has_node M v) × (place v ≡ p)
   pub listed : (r : Reached) → Contains f.reached.items r → IsListed M place f r
   pub apart : IsDistinct ◌==◌ (map (λ (r : Reached). r.node) f.reached.items)
@@ -49,17 +51,20 @@ pub record IsLabelled (M : Map) (place : ℕ → ℕ) (direction : Direction) (f
 pub record IsUnderWay (M : Map) (place : ℕ → ℕ) (direction : Direction) (from : List (ℕ × ℕ)) (f : Found) : Type 0 where
   pub labelled : IsLabelled M place direction from f
   pub begun : (s b : ℕ) → Contains from (s, b) → IsTrue (has_node M s) → label_of f (place s) ≤ b
-  pub front : (v : ℕ) → IsTrue (has_node M v) → label_of f (place v) ≤ GREATEST_LIMIT → ClosedAt M place direction f v (label_of f (place v)) ⊎ IsQueued f (label_of f (place v)) (place v)
+  pub front : (v : ℕ) → IsTrue (has_node M v) → label_of f (place v) ≤ GREATEST_LIMIT →
+      ClosedAt M place direction f v (label_of f (place v)) ⊎ IsQueued f (label_of f (place v)) (place v)
 
 pub record IsSearch (M : Map) (place : ℕ → ℕ) (direction : Direction) (from : List (ℕ × ℕ)) (s : Search) : Type 0 where
   pub way : s.direction ≡ direction
   pub under_way : IsUnderWay M place direction from s.found
   pub small : s.limit ≤ GREATEST_LIMIT
-  pub settled : (v d : ℕ) → IsTrue (has_node M v) → d ≤ s.limit → Leads M direction from v d → label_of s.found (place v) ≤ d
+  pub settled : (v d : ℕ) → IsTrue (has_node M v) → d ≤ s.limit → Leads M direction from v d →
+      label_of s.found (place v) ≤ d
 
 -- no line but x leads to v within a length
 abbrev pub IsAlone : Map → (ℕ → ℕ) → Found → ℕ → ℕ → ℕ → Type 0
-IsAlone M place f x v length = (y : ℕ) → IsTrue (has_line M y) → end M y ≡ v → label_of f (place (start M y)) + dm M y ≤ length → y ≡ x
+IsAlone M place f x v length =
+    (y : ℕ) → IsTrue (has_line M y) → end M y ≡ v → label_of f (place (start M y)) + dm M y ≤ length → y ≡ x
 
 abbrev pub IsNear : Map → Direction → List (ℕ × ℕ) → ℕ → ℕ → Type 0
 IsNear M direction from limit v = (d : ℕ) × IsDistance M direction from v d × (d ≤ limit)

@@ -1,5 +1,6 @@
 //! A search that can go on: distances only, from one node or from many, along the lines or against them.
-ghost use Rattle.std.specs.Prelude.{◌≡◌, ◌==◌, ◌≢◌, ◌↔◌, ◌≤◌, ◌+◌, ℕ, List, [], ◌∷◌, ◌++◌, Some, Contains, OnOk, IfOk, IsTrue, max};
+ghost use Rattle.std.specs.Prelude.{◌≡◌, ◌==◌, ◌≢◌, ◌↔◌, ◌≤◌, ◌+◌, ℕ, List, [], ◌∷◌, ◌++◌, Some, Contains, OnOk, IfOk};
+ghost use Rattle.std.specs.Prelude.{IsTrue, max};
 ghost use Rattle.std.specs.List.{IsDistinct};
 ghost use Rattle.std.specs.List.Sorted.{IsStrictlyIncreasing};
 ghost use Rattle.olr_spec.specs.Map.{Map, has_node, start as start_node, end, dm};
@@ -27,8 +28,8 @@ pub enum Direction {
     Against,
 }
 
-/// Distances from some nodes, each with a length to begin with. One search may be begun over and over: what it keeps its
-/// labels in is made as long as the map needs once, and emptied of what was labelled.
+/// Distances from some nodes, each with a length to begin with. One search may be begun over and over: what it keeps
+/// its labels in is made as long as the map needs once, and emptied of what was labelled.
 ///
 /// All calls between one `begin` and the next are given the same map. After an error the search is begun anew before it
 /// is used again.
@@ -77,7 +78,8 @@ impl Search {
     /// greater one that it was settled to before.
     pub fn settle_to<M: MapRead>(&mut self, map: &M, limit: u32) -> Result<(), AllocError>
         requires small { limit ≤ GREATEST_LIMIT }
-        requires begun { (direction : _) × (from : List (ℕ × ℕ)) × IsSearch (M.map map.now) (M.place_in map.now) direction from self.old }
+        requires begun { (direction : _) × (from : List (ℕ × ℕ))
+            × IsSearch (M.map map.now) (M.place_in map.now) direction from self.old }
         ensures search { OnOk result ((direction : _) (from : List (ℕ × ℕ))
             → IsSearch (M.map map.now) (M.place_in map.now) direction from self.old
             → IsSearch (M.map map.now) (M.place_in map.now) direction from self.new) }
@@ -157,10 +159,12 @@ impl Search {
     pub(crate) fn reached_within(&self, alloc: Global) -> Result<Vec<Reached>, AllocError>
         ensures rising { IfOk result (λ within. (M : Map) (place_in : ℕ → ℕ) (direction : _) (from : List (ℕ × ℕ))
             → IsSearch M place_in direction from self.now → IsStrictlyIncreasing (numbers_of within.items)) }
-        ensures nodes { IfOk result (λ within. (M : Map) (place_in : ℕ → ℕ) (direction : _) (from : List (ℕ × ℕ)) (v : ℕ)
+        ensures nodes { IfOk result
+            (λ within. (M : Map) (place_in : ℕ → ℕ) (direction : _) (from : List (ℕ × ℕ)) (v : ℕ)
             → IsSearch M place_in direction from self.now
             → (Contains (numbers_of within.items) v ↔ IsNear M direction from (limit_of self.now) v)) }
-        ensures placed { IfOk result (λ within. (M : Map) (place_in : ℕ → ℕ) (direction : _) (from : List (ℕ × ℕ)) (r : ReachedRecord)
+        ensures placed { IfOk result
+            (λ within. (M : Map) (place_in : ℕ → ℕ) (direction : _) (from : List (ℕ × ℕ)) (r : ReachedRecord)
             → IsSearch M place_in direction from self.now → Contains within.items r
             → IsTrue (has_node M r.node) × (place_in r.node ≡ r.place)) }
     {
@@ -174,7 +178,8 @@ impl Search {
         ensures rising { IfOk result (λ nodes. (M : Map) (place_in : ℕ → ℕ) (direction : _) (from : List (ℕ × ℕ))
             → IsSearch M place_in direction from self.now → IsStrictlyIncreasing nodes.items) }
         ensures nodes { IfOk result (λ nodes. (M : Map) (place_in : ℕ → ℕ) (direction : _) (from : List (ℕ × ℕ)) (v : ℕ)
-            → IsSearch M place_in direction from self.now → (Contains nodes.items v ↔ IsNear M direction from (limit_of self.now) v)) }
+            → IsSearch M place_in direction from self.now →
+            (Contains nodes.items v ↔ IsNear M direction from (limit_of self.now) v)) }
     {
         let within = self.reached_within(alloc)?;
         let nodes = nodes_of(alloc, &within)?;
@@ -213,8 +218,9 @@ impl Search {
         true
     }
 
-    /// Whether a line prolongs the sole walk to where it begins to the sole walk to where it ends. Nothing is said where
-    /// there is no sole walk to where it begins, or where the walks go beyond the limit that the search has been settled to.
+    /// Whether a line prolongs the sole walk to where it begins to the sole walk to where it ends. Nothing is said
+    /// where there is no sole walk to where it begins, or where the walks go beyond the limit that the search has been
+    /// settled to.
     pub fn extends_sole<M: MapRead>(&self, map: &M, line: LineId) -> bool
         ensures { (s : ℕ) (walk : List ℕ)
             → IsSearch (M.map map.now) (M.place_in map.now) Along ((s, 0) ∷ []) self.now

@@ -30,7 +30,8 @@ pub struct Found {
 
 /// Notes a node where it has no label yet.
 fn note(reached: &mut Vec<Reached>, label: u32, node: NodeId, place: u32) -> Result<(), AllocError>
-    ensures noted { OnOk result (NotesOnce reached.old.items reached.new.items label (record { node = node; place = place })) }
+    ensures noted { OnOk result
+        (NotesOnce reached.old.items reached.new.items label (record { node = node; place = place })) }
     ensures unchanged { OnErr result (reached.new.items ≡ reached.old.items) }
 {
     if label > GREATEST_LIMIT {
@@ -152,7 +153,8 @@ impl Found {
         ensures reached { self.new.reached.items ≡ self.old.reached.items }
         ensures within { IfSome result (λ x. x.0 ≤ limit) }
         ensures least { IfSome result (λ x. (d p : ℕ) → IsQueued self.old d p → x.0 ≤ d) }
-        ensures others { IfSome result (λ x. (d p : ℕ) → IsQueued self.old d p → IsQueued self.new d p ⊎ ((d ≡ x.0) × (p ≡ x.1))) }
+        ensures others { IfSome result (λ x. (d p : ℕ) → IsQueued self.old d p → IsQueued self.new d p
+            ⊎ ((d ≡ x.0) × (p ≡ x.1))) }
         ensures len { IfSome result (λ x. queued_len self.new + 1 ≡ queued_len self.old) }
         ensures far { IfNone result ((d p : ℕ) → IsQueued self.new d p → limit < d) }
         ensures same { IfNone result ((d p : ℕ) → IsQueued self.old d p → IsQueued self.new d p) }

@@ -1,5 +1,6 @@
 //! The last lines of least walks, found by the distances of a search.
-ghost use Rattle.std.specs.Prelude.{◌≡◌, ◌↔◌, ◌+◌, ◌<◌, ℕ, None, Contains, IsTrue, IfOk, length, slice_index, slice_index_or};
+ghost use Rattle.std.specs.Prelude.{◌≡◌, ◌↔◌, ◌+◌, ◌<◌, ℕ, None, Contains, IsTrue, IfOk, length, slice_index};
+ghost use Rattle.std.specs.Prelude.{slice_index_or};
 ghost use Rattle.olr_spec.specs.Map.{has_node};
 ghost use Rattle.olr_route.specs.Founds.{label_of};
 ghost use Rattle.olr_route.specs.Listed.{IsLastLine, IsTold};
@@ -11,7 +12,7 @@ use olr_map::{LineEnd, LineId, MapRead, NodeId};
 use std::alloc::{AllocError, Global};
 
 /// Whether a line, as seen from where it ends, comes to this length there, from where it begins by the label there.
-fn comes_to(found: &Found, end: &LineEnd, length: u32) -> bool
+fn is_at_length(found: &Found, end: &LineEnd, length: u32) -> bool
     ensures { IsTrue result ↔ (label_of found.now end.now.place + end.now.len ≡ length) }
 {
     end.len <= length && found.label(end.place) == length - end.len
@@ -32,7 +33,7 @@ fn last_line<M: MapRead>(
     let lines = map.in_lines_at(place);
     let ends = map.in_ends_at(place);
     for (index, end) in ends.iter().enumerate() {
-        if comes_to(found, end, length) {
+        if is_at_length(found, end, length) {
             return Some(lines[index]);
         }
     }
@@ -63,7 +64,8 @@ pub fn labels_at<M: MapRead>(
         → IsTrue (has_node (M.map map.now) r.node) × (M.place_in map.now r.node ≡ r.place) }
     ensures beside { IfOk result (λ labels. length labels.items ≡ length reached.now) }
     ensures each { IfOk result (λ labels. (i : ℕ) → i < length reached.now
-        → IsTold (M.map map.now) (M.place_in map.now) found.now (slice_index (numbers_of reached.now) i) (slice_index_or labels.items i (0, None))) }
+        → IsTold (M.map map.now) (M.place_in map.now) found.now (slice_index (numbers_of reached.now) i)
+        (slice_index_or labels.items i (0, None))) }
 {
     let mut labels = Vec::with_capacity(alloc, reached.len())?;
     for entry in reached {

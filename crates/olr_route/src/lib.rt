@@ -1,6 +1,6 @@
 //! Least routes within a limit: a search from a node that labels what it reaches, and the tests, by these labels,
-//! whether a walk is the least or the sole one; and a search that can go on, from one node or from many, along the lines
-//! or against them, which tells distances alone. All of it reads the map through `MapRead` alone.
+//! whether a walk is the least or the sole one; and a search that can go on, from one node or from many, along the
+//! lines or against them, which tells distances alone. All of it reads the map through `MapRead` alone.
 //!
 //! The White Paper (version 1.5, revision 2) covers a location by shortest paths between its points. Which of equally
 //! long walks is the least, and that only a sole one joins two points, are choices of this project (profile).
@@ -8,15 +8,15 @@
 
 pub mod distances;
 mod found;
-pub mod labels;
+mod labels;
 mod last_lines;
 mod lines;
 mod marks;
-pub mod plain;
+mod plain;
 mod queue;
-pub mod routes;
+mod routes;
 mod steps;
-pub mod walks;
+mod walks;
 pub mod work;
 
 pub use distances::{Direction, Search, near};

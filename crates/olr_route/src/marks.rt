@@ -1,5 +1,6 @@
 //! The marks of a search under way, and what both bodies of the search do with them.
-ghost use Rattle.std.specs.Prelude.{◌≡◌, ◌≢◌, ◌≤◌, ◌<◌, ◌^◌, ◌+◌, ◌↔◌, ℕ, Some, None, true, IsSome, IsTrue, IfOk, OnOk, Contains, is_some, nat_eq, vec_len, if◌then◌else◌};
+ghost use Rattle.std.specs.Prelude.{◌≡◌, ◌≢◌, ◌≤◌, ◌<◌, ◌^◌, ◌+◌, ◌↔◌, ℕ, Some, None, true, IsSome, IsTrue, IfOk, OnOk};
+ghost use Rattle.std.specs.Prelude.{Contains, is_some, nat_eq, vec_len, if◌then◌else◌};
 ghost use Rattle.std.specs.Bool.{OnTrue, OnFalse};
 ghost use Rattle.std.specs.List.Sorted.{IsStrictlyIncreasing};
 ghost use Rattle.std.specs.HashMap.{IsUnique, hash_map_len};

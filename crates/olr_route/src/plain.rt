@@ -1,6 +1,7 @@
-//! The plain program of the search, which the tests compare it with: the lines that leave marked nodes are followed over
-//! and over, until no mark gets a shorter length.
-ghost use Rattle.std.specs.Prelude.{◌≡◌, ◌≤◌, ◌<◌, ◌+◌, ◌↔◌, ◌⊎◌, ℕ, Option, Some, None, true, false, Contains, IsSome, IsTrue, IfOk, OnOk, length, slice_index, slice_index_or, if◌then◌else◌};
+//! The plain program of the search, which the tests compare it with: the lines that leave marked nodes are followed
+//! over and over, until no mark gets a shorter length.
+ghost use Rattle.std.specs.Prelude.{◌≡◌, ◌≤◌, ◌<◌, ◌+◌, ◌↔◌, ◌⊎◌, ℕ, Option, Some, None, true, false, Contains, IsSome};
+ghost use Rattle.std.specs.Prelude.{IsTrue, IfOk, OnOk, length, slice_index, slice_index_or, if◌then◌else◌};
 ghost use Rattle.olr_spec.specs.Map.{has_node};
 ghost use Rattle.olr_route.specs.Labels.{AreLabels, label_at, count_of};
 ghost use Rattle.olr_route.specs.Counts.{after_search};

@@ -10,8 +10,8 @@ use std::collections::BinaryHeap;
 /// How many places there may be.
 const PLACES: u64 = 4_294_967_296;
 
-/// Lengths, and the places of the nodes that walks of these lengths lead to, each pair as one number. Its room is kept when
-/// it is emptied.
+/// Lengths, and the places of the nodes that walks of these lengths lead to, each pair as one number. Its room is kept
+/// when it is emptied.
 #[derive(Drop)]
 pub struct Queue {
     heap: BinaryHeap<Reverse<u64>>,
@@ -53,7 +53,8 @@ impl Queue {
     pub fn pop_within(&mut self, limit: u32) -> Option<(u32, u32)>
         ensures within { IfSome result (λ x. x.0 ≤ limit) }
         ensures least { IfSome result (λ x. (d p : ℕ) → Queued self.old d p → x.0 ≤ d) }
-        ensures others { IfSome result (λ x. (d p : ℕ) → Queued self.old d p → Queued self.new d p ⊎ ((d ≡ x.0) × (p ≡ x.1))) }
+        ensures others { IfSome result (λ x. (d p : ℕ) → Queued self.old d p → Queued self.new d p
+            ⊎ ((d ≡ x.0) × (p ≡ x.1))) }
         ensures len { IfSome result (λ x. queue_len self.new + 1 ≡ queue_len self.old) }
         ensures far { IfNone result ((d p : ℕ) → Queued self.new d p → limit < d) }
         ensures same { IfNone result (self.new ≡ self.old) }

@@ -23,7 +23,8 @@ pub fn start<M: MapRead>(
     ensures labelled { OnOk result ((direction : _) (from : List (ℕ × ℕ)) → Contains from (node, length)
         → IsLabelled (M.map map.now) (M.place_in map.now) direction from found.old
         → IsLabelled (M.map map.now) (M.place_in map.now) direction from found.new) }
-    ensures begun { OnOk result (IsTrue (has_node (M.map map.now) node) → label_of found.new (M.place_in map.now node) ≤ length) }
+    ensures begun { OnOk result (IsTrue (has_node (M.map map.now) node) →
+        label_of found.new (M.place_in map.now node) ≤ length) }
 {
     let Some(place) = map.place_of(node) else {
         return Ok(());
@@ -56,7 +57,8 @@ pub fn follow<M: MapRead>(
     requires within { dist ≤ GREATEST_LIMIT }
     requires room { CoversPlaces (M.map map.now) (M.place_in map.now) found.old }
     ensures moves { OnOk result (Moves found.old found.new) }
-    ensures labelled { OnOk result ((v : ℕ) (from : List (ℕ × ℕ)) → IsTrue (has_node (M.map map.now) v) → M.place_in map.now v ≡ place
+    ensures labelled { OnOk result ((v : ℕ) (from : List (ℕ × ℕ)) → IsTrue (has_node (M.map map.now) v) →
+        M.place_in map.now v ≡ place
         → Leads (M.map map.now) direction from v dist
         → IsLabelled (M.map map.now) (M.place_in map.now) direction from found.old
         → IsLabelled (M.map map.now) (M.place_in map.now) direction from found.new) }

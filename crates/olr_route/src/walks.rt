@@ -19,7 +19,7 @@ fn is_last<M: MapRead>(map: &M, labels: &Labels, line: LineId) -> bool
 }
 
 /// Whether a line of length `len` from a labelled node is no longer than `dist` in all.
-fn leads_within(labels: &Labels, from: NodeId, len: u32, dist: u32) -> bool
+fn is_within(labels: &Labels, from: NodeId, len: u32, dist: u32) -> bool
     ensures { IsTrue result ↔ ((d : ℕ) × (dist_at labels.now from ≡ Some d) × (d + len ≤ dist)) }
 {
     match labels.dist(from) {
@@ -40,7 +40,7 @@ fn is_alone<M: MapRead>(map: &M, labels: &Labels, line: LineId) -> bool
     for other in map.in_lines(to) {
         if *other != line {
             let (from, len) = start_of(map, *other);
-            if leads_within(labels, from, len, dist) {
+            if is_within(labels, from, len, dist) {
                 return false;
             }
         }
@@ -48,8 +48,9 @@ fn is_alone<M: MapRead>(map: &M, labels: &Labels, line: LineId) -> bool
     true
 }
 
-/// Whether a line prolongs the least walk to where it begins, within the limit of the labels, to the least walk to where
-/// it ends, still within the limit. Nothing is said where no walk within the limit leads to where the line begins.
+/// Whether a line prolongs the least walk to where it begins, within the limit of the labels, to the least walk to
+/// where it ends, still within the limit. Nothing is said where no walk within the limit leads to where the line
+/// begins.
 pub fn extends_least<M: MapRead>(map: &M, labels: &Labels, line: LineId) -> bool
     requires labels { AreLabels (M.map map.now) labels.now }
     requires line { IsTrue (has_line (M.map map.now) line) }

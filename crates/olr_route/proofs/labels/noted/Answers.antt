@@ -4,15 +4,22 @@ use Rattle.olr_route.proofs.labels.noted.Goals as goal
 
 pub returns-clause-footprint : goal.returns-clause-footprint
 returns-clause-footprint c = λ v. (
-  λ h. elim ((c.in_ok-note_all.ensures.ok v).0 h) [ inl old ↦ inl old | inr new ↦ inr ((c.nodes-nodes.ensures.nodes v).0 new) ],
-  λ h. (c.in_ok-note_all.ensures.ok v).1 (elim h as (λ _. Contains c.args.footprint.now v ⊎ Contains c.nodes-nodes.result.now v) [
+  λ h. elim ((c.in_ok-note_all.ensures.ok v).0 h) [
     | inl old ↦ inl old
-    | inr new ↦ inr ((c.nodes-nodes.ensures.nodes v).1 new)
-  ]),
+    | inr new ↦
+        inr ((c.nodes-nodes.ensures.nodes v).0 new)
+  ],
+  λ h. (c.in_ok-note_all.ensures.ok v).1
+      (elim h as (λ _. Contains c.args.footprint.now v ⊎ Contains c.nodes-nodes.result.now v) [
+        | inl old ↦ inl old
+        | inr new ↦ inr ((c.nodes-nodes.ensures.nodes v).1 new)
+      ]),
 )
 
 pub returns-clause-few : goal.returns-clause-few
 returns-clause-few c =
-    let few = rising_within c.nodes-nodes.result.now c.note_all.new.self c.nodes-nodes.ensures.rising (λ v h. (c.in_ok-note_all.ensures.ok v).1 (inr h)) in
+    let few =
+    rising_within c.nodes-nodes.result.now c.note_all.new.self c.nodes-nodes.ensures.rising
+    (λ v h. (c.in_ok-note_all.ensures.ok v).1 (inr h)) in
     let count = c.nodes-nodes.ensures.count in
     omega arith

@@ -6,5 +6,6 @@ use Rattle.olr_route.proofs.last_lines.labels_at.Given as goal
 abbrev pub invariant-loop-entry : goal.invariant-loop-entry
 invariant-loop-entry g l = record {
   beside : length l.labels.items ≡ l.entry-index;
-  each : (i : ℕ) → i < l.entry-index → IsTold (g.M.MapRead.map l.fn.map) (g.M.MapRead.place_in l.fn.map) l.fn.found (get_or (numbers_of l.reached) i 0) (get_or l.labels.items i (0, None));
+  each : (i : ℕ) → i < l.entry-index → IsTold (g.M.MapRead.map l.fn.map) (g.M.MapRead.place_in l.fn.map) l.fn.found
+      (get_or (numbers_of l.reached) i 0) (get_or l.labels.items i (0, None));
 }

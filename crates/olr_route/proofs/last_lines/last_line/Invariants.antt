@@ -3,4 +3,6 @@ use Rattle.olr_route.specs.Listed.{IsTight}
 use Rattle.olr_route.proofs.last_lines.last_line.Given as goal
 
 abbrev pub invariant-loop-index : goal.invariant-loop-index
-invariant-loop-index g l = (j : ℕ) → j < l.index → ¬ IsTight (g.M.MapRead.map l.fn.map) (g.M.MapRead.place_in l.fn.map) l.found l.fn.node l.length (get_or l.lines j 0)
+invariant-loop-index g l =
+    (j : ℕ) → j < l.index → ¬ IsTight (g.M.MapRead.map l.fn.map) (g.M.MapRead.place_in l.fn.map) l.found l.fn.node
+    l.length (get_or l.lines j 0)

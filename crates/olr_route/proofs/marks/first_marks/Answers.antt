@@ -15,7 +15,8 @@ pub returns-clause-state : goal.returns-clause-state
 returns-clause-state c = λ M limit.
     let number : c.number.result ≡ c.args.source = c.number.ensures.same in
     let range : c.number.result < 4294967296 = c.number.type_inv in
-    state_first M c.args.source limit c.insert.new.self (ap (mark_at c.insert.new.self) (sym number) ∙ c.in_ok-insert.ensures.updates.1) (others c)
+    state_first M c.args.source limit c.insert.new.self
+    (ap (mark_at c.insert.new.self) (sym number) ∙ c.in_ok-insert.ensures.updates.1) (others c)
     c.number.ensures.from_one (omega arith) c.in_ok-insert.ensures.unique
 
 pub returns-clause-others : goal.returns-clause-others

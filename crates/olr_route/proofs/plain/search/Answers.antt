@@ -26,7 +26,9 @@ returns-clause-labels g c =
     let labels = c.in_ok-labels.labels.items in
     let same = c.deref.ensures.value in
     subst (λ (x : Labels). AreLabels M x) (sym c.new-labels.ensures)
-    (marked_labels M (g.met.M.MapRead.sound c.args.map.now) c.args.source c.args.limit_dm c.sweep.new.marks nodes labels c.in_ok-nodes.ensures.rising
+    (marked_labels M (g.met.M.MapRead.sound c.args.map.now) c.args.source c.args.limit_dm c.sweep.new.marks nodes labels
+    c.in_ok-nodes.ensures.rising
     (subst (λ (zs : List ℕ). length labels ≡ length zs) same c.in_ok-labels.ensures.beside) c.in_ok-nodes.ensures.nodes
-    (subst (λ (zs : List ℕ). (i : ℕ) → i < length zs → mark_at c.sweep.new.marks (get_or zs i 0) ≡ Some (get_or labels i (0, None))) same c.in_ok-labels.ensures.each)
+    (subst (λ (zs : List ℕ). (i : ℕ) → i < length zs →
+    mark_at c.sweep.new.marks (get_or zs i 0) ≡ Some (get_or labels i (0, None))) same c.in_ok-labels.ensures.each)
     (c.in_ok-sweep.ensures.state c.args.source c.loop-marks.invariant) (c.in_ok-sweep.ensures.closed c.if-branch.false))

@@ -11,14 +11,16 @@ use Rattle.olr_route.proofs.routes.search.Goals as goal
 
 pub labels_at-requires : goal.labels_at-requires
 labels_at-requires g c = λ r there.
-    c.in_ok-reached.ensures.placed (g.M.MapRead.map c.args.map.now) (g.M.MapRead.place_in c.args.map.now) Along ((c.args.source, 0) ∷ []) r c.in_ok-settled.ensures.search
+    c.in_ok-reached.ensures.placed (g.M.MapRead.map c.args.map.now) (g.M.MapRead.place_in c.args.map.now) Along
+    ((c.args.source, 0) ∷ []) r c.in_ok-settled.ensures.search
     (subst (λ (rs : List Reached). Contains rs r) c.deref.ensures.value there)
 
 pub new-labels-requires-clause-rising : goal.new-labels-requires-clause-rising
 new-labels-requires-clause-rising g c =
     let same = ap numbers_of (sym c.deref-2.ensures.value) ∙ sym c.in_ok-nodes.ensures in
     subst IsStrictlyIncreasing same
-    (c.in_ok-reached.ensures.rising (g.M.MapRead.map c.args.map.now) (g.M.MapRead.place_in c.args.map.now) Along ((c.args.source, 0) ∷ []) c.in_ok-settled.ensures.search)
+    (c.in_ok-reached.ensures.rising (g.M.MapRead.map c.args.map.now) (g.M.MapRead.place_in c.args.map.now) Along
+    ((c.args.source, 0) ∷ []) c.in_ok-settled.ensures.search)
 
 pub returns-clause-labels : goal.returns-clause-labels
 returns-clause-labels g c =
@@ -30,12 +32,18 @@ returns-clause-labels g c =
     let labels = c.in_ok-labels.labels.items in
     let long : length (numbers_of rs) ≡ length rs = length-map rs (λ (r : Reached). r.node) in
     let read = c.deref.ensures.value in
-    let beside : length labels ≡ length rs = c.in_ok-labels.ensures.beside ∙ ap (λ (ys : List Reached). length ys) read in
-    let each : (i : ℕ) → i < length rs → IsTold M place q.found (get_or (numbers_of rs) i 0) (get_or labels i (0, None)) =
-    subst (λ (ys : List Reached). (i : ℕ) → i < length ys → IsTold M place q.found (get_or (numbers_of ys) i 0) (get_or labels i (0, None))) read c.in_ok-labels.ensures.each in
+    let beside : length labels ≡ length rs =
+    c.in_ok-labels.ensures.beside ∙ ap (λ (ys : List Reached). length ys) read in
+    let each : (i : ℕ) → i < length rs →
+    IsTold M place q.found (get_or (numbers_of rs) i 0) (get_or labels i (0, None)) =
+    subst (λ (ys : List Reached). (i : ℕ) → i < length ys →
+    IsTold M place q.found (get_or (numbers_of ys) i 0) (get_or labels i (0, None))) read c.in_ok-labels.ensures.each in
     let all = told_labels M place c.args.source q h c.requires.source (numbers_of rs) labels
-    (c.in_ok-reached.ensures.rising M place Along ((c.args.source, 0) ∷ []) h) (omega arith) (λ v. c.in_ok-reached.ensures.nodes M place Along ((c.args.source, 0) ∷ []) v h)
+    (c.in_ok-reached.ensures.rising M place Along ((c.args.source, 0) ∷ []) h) (omega arith)
+    (λ v. c.in_ok-reached.ensures.nodes M place Along ((c.args.source, 0) ∷ []) v h)
     (λ i lt. each i (omega arith)) in
-    let same : numbers_of rs ≡ c.in_ok-nodes.nodes.items = ap numbers_of (sym c.deref-2.ensures.value) ∙ sym c.in_ok-nodes.ensures in
+    let same : numbers_of rs ≡ c.in_ok-nodes.nodes.items =
+    ap numbers_of (sym c.deref-2.ensures.value) ∙ sym c.in_ok-nodes.ensures in
     subst (λ (x : Labels). AreLabels M x)
-    (ap (λ (n : ℕ). listed c.args.source n (numbers_of rs) labels) c.in_ok-settled.ensures.limit ∙ ap (λ (ks : List ℕ). listed c.args.source c.args.limit_dm ks labels) same ∙ sym c.new-labels.ensures) all
+    (ap (λ (n : ℕ). listed c.args.source n (numbers_of rs) labels) c.in_ok-settled.ensures.limit
+    ∙ ap (λ (ks : List ℕ). listed c.args.source c.args.limit_dm ks labels) same ∙ sym c.new-labels.ensures) all

@@ -9,7 +9,10 @@ use Rattle.olr_route.proofs.steps.follow.Given as goal
 abbrev pub invariant-loop-end : goal.invariant-loop-end
 invariant-loop-end g l = record {
   moves : Moves l.initial.found l.found;
-  labelled : (v : ℕ) (from : List (ℕ × ℕ)) → IsTrue (has_node (g.M.MapRead.map l.fn.map) v) → g.M.MapRead.place_in l.fn.map v ≡ l.fn.place → Leads (g.M.MapRead.map l.fn.map) l.fn.direction from v l.dist
-      → IsLabelled (g.M.MapRead.map l.fn.map) (g.M.MapRead.place_in l.fn.map) l.fn.direction from l.initial.found → IsLabelled (g.M.MapRead.map l.fn.map) (g.M.MapRead.place_in l.fn.map) l.fn.direction from l.found;
-  followed : (j : ℕ) → j < l.end-index → label_of l.found (get_or l.end-items j no_end).place ≤ l.dist + (get_or l.end-items j no_end).len;
+  labelled : (v : ℕ) (from : List (ℕ × ℕ)) → IsTrue (has_node (g.M.MapRead.map l.fn.map) v) →
+      g.M.MapRead.place_in l.fn.map v ≡ l.fn.place → Leads (g.M.MapRead.map l.fn.map) l.fn.direction from v l.dist
+      → IsLabelled (g.M.MapRead.map l.fn.map) (g.M.MapRead.place_in l.fn.map) l.fn.direction from l.initial.found →
+      IsLabelled (g.M.MapRead.map l.fn.map) (g.M.MapRead.place_in l.fn.map) l.fn.direction from l.found;
+  followed : (j : ℕ) → j < l.end-index → label_of l.found (get_or l.end-items j no_end).place ≤ l.dist
+      + (get_or l.end-items j no_end).len;
 }

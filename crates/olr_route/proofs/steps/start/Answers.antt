@@ -4,10 +4,12 @@ use Rattle.olr_route.proofs.SearchLemmas.{put_moves, put_labelled}
 use Rattle.olr_route.proofs.steps.start.Goals as goal
 
 pub returns-clause-moves : goal.returns-clause-moves
-returns-clause-moves g c = put_moves c.args.found.now c.put.new.self c.args.node c.in-Some.place c.args.length c.in_ok-put.ensures
+returns-clause-moves g c =
+    put_moves c.args.found.now c.put.new.self c.args.node c.in-Some.place c.args.length c.in_ok-put.ensures
 
 pub returns-clause-labelled : goal.returns-clause-labelled
 returns-clause-labelled g c = λ direction from listed l.
     let there = c.in-Some.ensures in
-    put_labelled (g.M.MapRead.map c.args.map.now) (g.M.MapRead.place_in c.args.map.now) direction from c.args.found.now c.put.new.self c.args.node c.in-Some.place c.args.length c.in_ok-put.ensures there.0 (sym there.1)
+    put_labelled (g.M.MapRead.map c.args.map.now) (g.M.MapRead.place_in c.args.map.now) direction from c.args.found.now
+    c.put.new.self c.args.node c.in-Some.place c.args.length c.in_ok-put.ensures there.0 (sym there.1)
     (leads_first (g.M.MapRead.map c.args.map.now) direction from c.args.node c.args.length listed there.0) l

@@ -5,7 +5,8 @@ pub returns-then-is_last : goal.returns-then-is_last
 returns-then-is_last g c = λ walk l.
     let M = g.M.MapRead.map c.args.map.now in
     let m = g.met.M.MapRead.sound c.args.map.now in (
-      λ h. sole_if_alone M m c.args.labels.now c.requires.labels c.args.line walk l (c.is_last.ensures.0 c.if-is_last.true) (c.is_alone.ensures.0 h),
+      λ h. sole_if_alone M m c.args.labels.now c.requires.labels c.args.line walk l
+          (c.is_last.ensures.0 c.if-is_last.true) (c.is_alone.ensures.0 h),
       λ f. c.is_alone.ensures.1 (alone_if_sole M m c.args.labels.now c.requires.labels c.args.line walk f),
     )
 

@@ -3,4 +3,5 @@ use Rattle.olr_route.specs.Ends.{FartherThan}
 use Rattle.olr_route.proofs.walks.is_alone.Given as goal
 
 abbrev pub invariant-loop-other : goal.invariant-loop-other
-invariant-loop-other g l = (j : ℕ) → j < l.other-index → FartherThan (g.M.MapRead.map l.map) l.labels l.line l.dist (get_or l.other-items j 0)
+invariant-loop-other g l =
+    (j : ℕ) → j < l.other-index → FartherThan (g.M.MapRead.map l.map) l.labels l.line l.dist (get_or l.other-items j 0)

@@ -5,7 +5,8 @@ pub returns-in-Ok-clause-source : goal.returns-in-Ok-clause-source
 returns-in-Ok-clause-source c = λ known. source_within c.lower.new.self c.args.source c.in-Ok.ensures.within
 
 pub returns-in-Ok-clause-sources : goal.returns-in-Ok-clause-sources
-returns-in-Ok-clause-sources c = λ s. let m = c.in-Ok.ensures.moves in source_better c.args.self.now c.lower.new.self m.known m.better s
+returns-in-Ok-clause-sources c = λ s. let m =
+    c.in-Ok.ensures.moves in source_better c.args.self.now c.lower.new.self m.known m.better s
 
 pub returns-in-Ok-clause-under_way : goal.returns-in-Ok-clause-under_way
 returns-in-Ok-clause-under_way c = λ M. moves_under_way M c.args.self.now c.lower.new.self c.in-Ok.ensures.moves

@@ -4,8 +4,8 @@ use Rattle.std.proofs.lemmas.List.{get_or_default}
 use Rattle.olr_spec.specs.Map.{dm}
 use Rattle.olr_map.specs.declared.read.LineEnd.{LineEnd}
 use Rattle.olr_near.specs.Numbers.{number_of, Within}
-use Rattle.olr_near.proofs.Waiting.{no_end}
 use Rattle.olr_near.proofs.NumberLemmas.{within_better, moves_then, end_there}
+use Rattle.olr_route.proofs.WayLemmas.{no_end}
 use Rattle.olr_near.proofs.nearness.Nearness.follow.Goals as goal
 use Rattle.olr_near.proofs.nearness.Nearness.follow.Goals.{then-end-room+in_ok-lower, else-end-room}
 
@@ -14,7 +14,9 @@ loop-end-preserved g c =
     let inv = c.loop-end.invariant in
     let items = c.out_ends-end-items.result.now in
     let n = c.loop-end.end-index in
-    let here : (j : ℕ) → j ≡ n → c.end-item.result ≡ get_or items j no_end = λ j same. c.end-item.is ∙ get_or_default items n c.end-item.result no_end c.loop-end-test.true ∙ ap (λ (k : ℕ). get_or items k no_end) (sym same) in
+    let here : (j : ℕ) → j ≡ n → c.end-item.result ≡ get_or items j no_end =
+    λ j same. c.end-item.is ∙ get_or_default items n c.end-item.result no_end c.loop-end-test.true
+    ∙ ap (λ (k : ℕ). get_or items k no_end) (sym same) in
     let paid = inv.paid in
     elim c.if-end-room.branch [
       | then-end-room+in_ok-lower w ↦
@@ -24,10 +26,13 @@ loop-end-preserved g c =
             moves = moves_then c.args.self.now c.loop-end.self w.lower.new.self inv.moves more.moves;
             paid = omega arith;
             followed = λ j lt. elim (cases_lt j n) [
-              | inl low ↦ λ short. within_better (number_of c.loop-end.self) (number_of w.lower.new.self) more.moves.better _ _ (inv.followed j low short)
+              | inl low ↦ λ short. within_better (number_of c.loop-end.self) (number_of w.lower.new.self)
+                  more.moves.better _ _ (inv.followed j low short)
               | inr high ↦
                   let same : j ≡ n = omega arith in
-                  subst (λ (e : LineEnd). e.len ≤ 150000 - c.args.number → Within (number_of w.lower.new.self) e.node (c.args.number + e.len)) (here j same) (λ short. more.within)
+                  subst (λ (e : LineEnd). e.len ≤ 150000 - c.args.number →
+                  Within (number_of w.lower.new.self) e.node (c.args.number + e.len)) (here j same)
+                  (λ short. more.within)
             ];
           })
       | else-end-room w ↦
@@ -39,18 +44,23 @@ loop-end-preserved g c =
               | inl low ↦ inv.followed j low
               | inr high ↦
                   let same : j ≡ n = omega arith in
-                  subst (λ (e : LineEnd). e.len ≤ 150000 - c.args.number → Within (number_of c.loop-end.self) e.node (c.args.number + e.len)) (here j same) (λ short. absurd (omega arith))
+                  subst (λ (e : LineEnd). e.len ≤ 150000 - c.args.number →
+                  Within (number_of c.loop-end.self) e.node (c.args.number + e.len)) (here j same)
+                  (λ short. absurd (omega arith))
             ];
           })
     ]
 
 pub returns-clause-closed : goal.returns-clause-closed
 returns-clause-closed g c = λ x known from short.
-    let k = end_there (g.M.MapRead.map c.args.map.now) (g.M.MapRead.place_in c.args.map.now) c.args.node x c.out_ends-end-items.result.now c.out_ends-end-items.ensures known from in
+    let k =
+    end_there (g.M.MapRead.map c.args.map.now) (g.M.MapRead.place_in c.args.map.now) c.args.node x
+    c.out_ends-end-items.result.now c.out_ends-end-items.ensures known from in
     let lt = k.1 in
     let len = k.3 in
     let past = c.loop-end-test.false in
     let w = c.loop-end.invariant.followed k.0 (omega arith) (omega arith) in
     let L = number_of c.loop-end.self in
     let e = get_or c.out_ends-end-items.result.now k.0 no_end in
-    subst (λ (v : ℕ). Within L v (c.args.number + dm (g.M.MapRead.map c.args.map.now) x)) k.2 (subst (λ (n : ℕ). Within L e.node (c.args.number + n)) len w)
+    subst (λ (v : ℕ). Within L v (c.args.number + dm (g.M.MapRead.map c.args.map.now) x)) k.2
+    (subst (λ (n : ℕ). Within L e.node (c.args.number + n)) len w)

@@ -16,9 +16,13 @@ loop-top-preserved-then-is_at g c =
     let inv = c.loop-top.invariant in
     let e = c.in_ok-follow.ensures in
     record {
-      better = λ v d at. within_better (number_of c.loop-top.self) (number_of c.follow.new.self) e.moves.better v d (inv.better v d at);
+      better =
+          λ v d at. within_better (number_of c.loop-top.self) (number_of c.follow.new.self) e.moves.better v d
+          (inv.better v d at);
       known = e.moves.known ∙ inv.known;
-      under_way = λ h. popped_more (g.M.MapRead.map c.args.map.now) c.loop-top.self _ c.in-Some.top.0.0 c.in-Some.top.0.1 refl refl (λ a u w. popped_others _ _ c.in-Some.top a u c.in-Some.ensures.permutation w)
+      under_way =
+          λ h. popped_more (g.M.MapRead.map c.args.map.now) c.loop-top.self _ c.in-Some.top.0.0 c.in-Some.top.0.1 refl
+          refl (λ a u w. popped_others _ _ c.in-Some.top a u c.in-Some.ensures.permutation w)
           c.follow.new.self e.moves e.closed (inv.under_way h);
     }
 
@@ -28,6 +32,9 @@ loop-top-preserved g c =
     record {
       better = inv.better;
       known = inv.known;
-      under_way = λ h. popped_skip (g.M.MapRead.map c.args.map.now) c.loop-top.self (record c.loop-top.self { waiting = c.pop.new.self }) c.in-Some.top.0.0 c.in-Some.top.0.1 refl refl (λ a u w. popped_others _ _ c.in-Some.top a u c.in-Some.ensures.permutation w)
+      under_way =
+          λ h. popped_skip (g.M.MapRead.map c.args.map.now) c.loop-top.self
+          (record c.loop-top.self { waiting = c.pop.new.self }) c.in-Some.top.0.0 c.in-Some.top.0.1 refl refl
+          (λ a u w. popped_others _ _ c.in-Some.top a u c.in-Some.ensures.permutation w)
           (λ at. let never : ◌≡◌ true false = sym (c.is_at.ensures.1 at) ∙ c.if-is_at.false in cc) (inv.under_way h);
     }

@@ -1,7 +1,8 @@
 use Rattle.std.proofs.Common.{◌≡◌, refl, sym, ap, ◌∙◌, arith, true}
+use Rattle.olr_spec.proofs.ListLemmas.{stands_at}
+use Rattle.olr_spec.proofs.OptionLemmas.{there_not}
 use Rattle.olr_near.specs.Numbers.{number_of}
-use Rattle.olr_near.proofs.Waiting.{stands_at}
-use Rattle.olr_near.proofs.NumberLemmas.{near_numbered, none_numbered}
+use Rattle.olr_near.proofs.NumberLemmas.{near_numbered}
 use Rattle.olr_near.proofs.nearness.Nearness.is_far.Goals as goal
 
 pub returns-clause-far : goal.returns-clause-far
@@ -11,7 +12,8 @@ returns-clause-far c = λ yes M s right source near.
     let k = stands_at c.args.nodes.now near.node near.touched in
     let lt = k.1 in
     let past = c.loop-node-test.false in
-    none_numbered (number_of c.args.self.now near.node) (ap (number_of c.args.self.now) (sym k.2) ∙ c.loop-node.invariant k.0 (omega arith)) some
+    there_not (number_of c.args.self.now near.node) some
+    (ap (number_of c.args.self.now) (sym k.2) ∙ c.loop-node.invariant k.0 (omega arith))
 
 -- each of the nodes was asked
 pub returns-clause-exact : goal.returns-clause-exact

@@ -9,7 +9,9 @@ use Rattle.olr_near.proofs.nearness.Nearness.lower.Goals as goal
 pub returns-then-had-number-clause-paid : goal.returns-then-had-number-clause-paid
 returns-then-had-number-clause-paid c =
     let e = c.in-Some.had.now in
-    let same = gain_same c.args.self.now.numbers (c.get_mut.follows.lender e) c.number-key.result e c.in-Some.ensures.value (c.get_mut.follows.holds e).0 in
+    let same =
+    gain_same c.args.self.now.numbers (c.get_mut.follows.lender e) c.number-key.result e c.in-Some.ensures.value
+    (c.get_mut.follows.holds e).0 in
     omega arith
 
 pub returns-then-had-number-clause-within : goal.returns-then-had-number-clause-within
@@ -24,15 +26,22 @@ returns-then-had-number-clause-within c =
 
 pub returns-in_ok-push-in-Some-clause-moves : goal.returns-in_ok-push-in-Some-clause-moves
 returns-in_ok-push-in-Some-clause-moves c =
-    let there = (c.get_mut.follows.holds c.args.number).3 (subst (λ (o : Option ℕ). IsSome o) c.in-Some.ensures.value refl) in
-    put_moves c.args.self.now _ c.number-key.result c.args.node c.args.number c.number-key.ensures.same there (less_some (number_of c.args.self.now c.number-key.result) c.in-Some.had.now c.args.number c.in-Some.ensures.value (omega (arith, c.if-had-number.false)))
+    let there =
+    (c.get_mut.follows.holds c.args.number).3 (subst (λ (o : Option ℕ). IsSome o) c.in-Some.ensures.value refl) in
+    put_moves c.args.self.now _ c.number-key.result c.args.node c.args.number c.number-key.ensures.same there
+    (less_some (number_of c.args.self.now c.number-key.result) c.in-Some.had.now c.args.number c.in-Some.ensures.value
+    (omega (arith, c.if-had-number.false)))
     c.in_ok-push-in-Some.ensures.permutation refl
 
 pub returns-in_ok-push-in-Some-clause-paid : goal.returns-in_ok-push-in-Some-clause-paid
 returns-in_ok-push-in-Some-clause-paid c =
     let more = c.in_ok-push-in-Some.ensures.len in
-    let risen = gain_put c.args.self.now.numbers (c.get_mut.follows.lender c.args.number) c.number-key.result c.args.number (Some c.in-Some.had.now) c.in-Some.ensures.value
-    (c.get_mut.follows.holds c.args.number).0 c.requires (less_some (number_of c.args.self.now c.number-key.result) c.in-Some.had.now c.args.number c.in-Some.ensures.value (omega (arith, c.if-had-number.false))) in
+    let risen =
+    gain_put c.args.self.now.numbers (c.get_mut.follows.lender c.args.number) c.number-key.result c.args.number
+    (Some c.in-Some.had.now) c.in-Some.ensures.value
+    (c.get_mut.follows.holds c.args.number).0 c.requires
+    (less_some (number_of c.args.self.now c.number-key.result) c.in-Some.had.now c.args.number c.in-Some.ensures.value
+    (omega (arith, c.if-had-number.false))) in
     omega arith
 
 -- ---- where it has none
@@ -40,15 +49,19 @@ returns-in_ok-push-in-Some-clause-paid c =
 pub returns-in_ok-insert-in-None-clause-moves : goal.returns-in_ok-insert-in-None-clause-moves
 returns-in_ok-insert-in-None-clause-moves c =
     put_moves c.args.self.now _ c.number-key.result c.args.node c.args.number c.number-key.ensures.same
-    (subst (λ (m : Numbers). Updates nat_eq m c.insert.new.self c.number-key.result (Some c.args.number)) c.get_mut.follows.holds-at-none c.in_ok-insert-in-None.ensures.updates)
-    (less_none (number_of c.args.self.now c.number-key.result) c.args.number c.in-None.ensures.value) c.in_ok-push-in-None.ensures.permutation refl
+    (subst (λ (m : Numbers). Updates nat_eq m c.insert.new.self c.number-key.result (Some c.args.number))
+    c.get_mut.follows.holds-at-none c.in_ok-insert-in-None.ensures.updates)
+    (less_none (number_of c.args.self.now c.number-key.result) c.args.number c.in-None.ensures.value)
+    c.in_ok-push-in-None.ensures.permutation refl
 
 pub returns-in_ok-insert-in-None-clause-paid : goal.returns-in_ok-insert-in-None-clause-paid
 returns-in_ok-insert-in-None-clause-paid c =
     let more = c.in_ok-push-in-None.ensures.len in
     let same = c.get_mut.follows.holds-at-none in
-    let risen = gain_put c.args.self.now.numbers c.insert.new.self c.number-key.result c.args.number c.in_ok-insert-in-None.field-0
+    let risen =
+    gain_put c.args.self.now.numbers c.insert.new.self c.number-key.result c.args.number c.in_ok-insert-in-None.field-0
     (c.in_ok-insert-in-None.ensures.old ∙ ap (λ (m : Numbers). get nat_eq m c.number-key.result) same)
-    (subst (λ (m : Numbers). PutsEntry nat_eq m c.insert.new.self c.number-key.result c.args.number c.in_ok-insert-in-None.field-0) same c.in_ok-insert-in-None.ensures.entries)
+    (subst (λ (m : Numbers). PutsEntry nat_eq m c.insert.new.self c.number-key.result c.args.number
+    c.in_ok-insert-in-None.field-0) same c.in_ok-insert-in-None.ensures.entries)
     c.requires (less_none (number_of c.args.self.now c.number-key.result) c.args.number c.in-None.ensures.value) in
     omega arith

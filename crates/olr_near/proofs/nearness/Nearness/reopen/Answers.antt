@@ -5,4 +5,5 @@ pub returns-in-Ok-clause-sources : goal.returns-in-Ok-clause-sources
 returns-in-Ok-clause-sources c = reopened_sources c.args.nodes.now c.args.self.now c.let_wait.new.self c.in-Ok.ensures
 
 pub returns-in-Ok-clause-under_way : goal.returns-in-Ok-clause-under_way
-returns-in-Ok-clause-under_way c = λ M N. reopened_under_way M N c.args.nodes.now c.args.self.now c.let_wait.new.self c.in-Ok.ensures
+returns-in-Ok-clause-under_way c =
+    λ M N. reopened_under_way M N c.args.nodes.now c.args.self.now c.let_wait.new.self c.in-Ok.ensures

@@ -6,7 +6,8 @@ use Rattle.olr_route.proofs.distances.Search.dist_at.Goals as goal
 
 pub returns-then-label-self : goal.returns-then-label-self
 returns-then-label-self c = λ M place_in direction from v d h known at.
-    let is : label_of c.args.self.now.found (place_in v) ≡ c.label-label.result = ap (label_of c.args.self.now.found) at ∙ sym c.label-label.ensures in
+    let is : label_of c.args.self.now.found (place_in v) ≡ c.label-label.result =
+    ap (label_of c.args.self.now.found) at ∙ sym c.label-label.ensures in
     let x = is_distance M place_in direction from c.args.self.now h v known (omega arith) in (
       λ e.
           let same : c.label-label.result ≡ d = cc in
@@ -18,7 +19,8 @@ pub returns-else-label-self : goal.returns-else-label-self
 returns-else-label-self c = λ M place_in direction from v d h known at. (
   λ e. let never : ⊥ = cc in absurd never,
   λ y.
-      let is : label_of c.args.self.now.found (place_in v) ≡ c.label-label.result = ap (label_of c.args.self.now.found) at ∙ sym c.label-label.ensures in
+      let is : label_of c.args.self.now.found (place_in v) ≡ c.label-label.result =
+      ap (label_of c.args.self.now.found) at ∙ sym c.label-label.ensures in
       let same = label_is M place_in direction from c.args.self.now h v d known y.0 y.1 in
       let near = y.1 in
       absurd (omega arith),

@@ -4,5 +4,8 @@ use Rattle.olr_route.specs.Founds.{label_of}
 use Rattle.olr_route.proofs.distances.Search.is_alone.Given as goal
 
 abbrev pub invariant-loop-index : goal.invariant-loop-index
-invariant-loop-index g l = (j : ℕ) → j < l.index → label_of l.self.found (g.M.MapRead.place_in l.fn.map (start (g.M.MapRead.map l.fn.map) (get_or l.lines j 0))) + dm (g.M.MapRead.map l.fn.map) (get_or l.lines j 0) ≤ l.length
+invariant-loop-index g l =
+    (j : ℕ) → j < l.index → label_of l.self.found
+    (g.M.MapRead.place_in l.fn.map (start (g.M.MapRead.map l.fn.map) (get_or l.lines j 0)))
+    + dm (g.M.MapRead.map l.fn.map) (get_or l.lines j 0) ≤ l.length
     → get_or l.lines j 0 ≡ l.line

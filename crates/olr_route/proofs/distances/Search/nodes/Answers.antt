@@ -9,8 +9,11 @@ same : (c : goal.After-drop-within-2) → numbers_of c.in_ok-within.within.items
 same c = ap numbers_of (sym c.deref.ensures.value) ∙ sym c.in_ok-nodes.ensures
 
 pub returns-clause-rising : goal.returns-clause-rising
-returns-clause-rising c = λ M place_in direction from h. subst IsStrictlyIncreasing (same c) (c.in_ok-within.ensures.rising M place_in direction from h)
+returns-clause-rising c =
+    λ M place_in direction from h. subst IsStrictlyIncreasing (same c)
+    (c.in_ok-within.ensures.rising M place_in direction from h)
 
 pub returns-clause-nodes : goal.returns-clause-nodes
 returns-clause-nodes c = λ M place_in direction from v h.
-    subst (λ (vs : List ℕ). Contains vs v ↔ IsNear M direction from c.args.self.now.limit v) (same c) (c.in_ok-within.ensures.nodes M place_in direction from v h)
+    subst (λ (vs : List ℕ). Contains vs v ↔ IsNear M direction from c.args.self.now.limit v) (same c)
+    (c.in_ok-within.ensures.nodes M place_in direction from v h)

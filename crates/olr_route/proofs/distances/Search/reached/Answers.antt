@@ -8,17 +8,22 @@ use Rattle.olr_route.proofs.distances.Search.reached.Goals as goal
 
 pub returns-clause-near : goal.returns-clause-near
 returns-clause-near c = λ M place_in direction from v h near.
-    subst (λ (xs : List Reached). Contains xs (record { node = v; place = place_in v })) (sym c.reached.ensures) (near_listed M place_in direction from c.args.self.now h v near)
+    subst (λ (xs : List Reached). Contains xs (record { node = v; place = place_in v })) (sym c.reached.ensures)
+    (near_listed M place_in direction from c.args.self.now h v near)
 
 pub returns-clause-once : goal.returns-clause-once
-returns-clause-once c = λ M place_in direction from h. subst (λ (xs : List Reached). IsDistinct ◌==◌ (numbers_of xs)) (sym c.reached.ensures) h.under_way.labelled.apart
+returns-clause-once c =
+    λ M place_in direction from h. subst (λ (xs : List Reached). IsDistinct ◌==◌ (numbers_of xs))
+    (sym c.reached.ensures) h.under_way.labelled.apart
 
 pub returns-clause-reached : goal.returns-clause-reached
 returns-clause-reached c = λ M place_in direction from r h there.
-    listed_reached M place_in direction from c.args.self.now h r (subst (λ (xs : List Reached). Contains xs r) c.reached.ensures there)
+    listed_reached M place_in direction from c.args.self.now h r
+    (subst (λ (xs : List Reached). Contains xs r) c.reached.ensures there)
 
 pub returns-clause-exactly : goal.returns-clause-exactly
 returns-clause-exactly c = λ M place_in direction from r h whole there.
     let listed = subst (λ (xs : List Reached). Contains xs r) c.reached.ensures there in
     let label = (h.under_way.labelled.listed r listed).label in
-    subst (λ (n : ℕ). IsNear M direction from n r.node) whole (listed_near M place_in direction from c.args.self.now h r listed (omega arith))
+    subst (λ (n : ℕ). IsNear M direction from n r.node) whole
+    (listed_near M place_in direction from c.args.self.now h r listed (omega arith))

@@ -13,8 +13,12 @@ pub follow-requires-clause-node : goal.follow-requires-clause-node
 follow-requires-clause-node g c =
     let b = c.requires.begun in
     let h = b.2 in
-    let u = c.loop-next.invariant.under_way b.1 (subst (λ (d : Direction). IsUnderWay (g.M.MapRead.map c.args.map.now) (g.M.MapRead.place_in c.args.map.now) d b.1 c.args.self.now.found) (sym h.way) h.under_way) in
-    let is : label_of c.pop_within.new.self c.in-Some.next.1 ≡ label_of c.loop-next.self.found c.in-Some.next.1 = ap (λ (t : List ℕ). label_in t c.in-Some.next.1) c.in-Some.ensures.table in
+    let u =
+    c.loop-next.invariant.under_way b.1
+    (subst (λ (d : Direction). IsUnderWay (g.M.MapRead.map c.args.map.now) (g.M.MapRead.place_in c.args.map.now) d b.1
+    c.args.self.now.found) (sym h.way) h.under_way) in
+    let is : label_of c.pop_within.new.self c.in-Some.next.1 ≡ label_of c.loop-next.self.found c.in-Some.next.1 =
+    ap (λ (t : List ℕ). label_in t c.in-Some.next.1) c.in-Some.ensures.table in
     let at = c.if-label-dist.true in
     let label = c.label.ensures in
     let within = c.in-Some.ensures.within in
@@ -25,7 +29,10 @@ pub follow-requires-clause-room : goal.follow-requires-clause-room
 follow-requires-clause-room g c = λ v known.
     let b = c.requires.begun in
     let h = b.2 in
-    let u = c.loop-next.invariant.under_way b.1 (subst (λ (d : Direction). IsUnderWay (g.M.MapRead.map c.args.map.now) (g.M.MapRead.place_in c.args.map.now) d b.1 c.args.self.now.found) (sym h.way) h.under_way) in
+    let u =
+    c.loop-next.invariant.under_way b.1
+    (subst (λ (d : Direction). IsUnderWay (g.M.MapRead.map c.args.map.now) (g.M.MapRead.place_in c.args.map.now) d b.1
+    c.args.self.now.found) (sym h.way) h.under_way) in
     let was = u.labelled.room v known in
     let same = c.in-Some.ensures.room in
     omega arith
@@ -36,7 +43,8 @@ loop-next-preserved-in-Continue-1 g c =
     let place = g.M.MapRead.place_in c.args.map.now in
     let f = c.loop-next.self.found in
     let p = c.in-Some.next.1 in
-    let same : (q : ℕ) → label_of c.pop_within.new.self q ≡ label_of f q = λ q. ap (λ (t : List ℕ). label_in t q) c.in-Some.ensures.table in
+    let same : (q : ℕ) → label_of c.pop_within.new.self q ≡ label_of f q =
+    λ q. ap (λ (t : List ℕ). label_in t q) c.in-Some.ensures.table in
     let inv = c.loop-next.invariant in
     let is = same p in
     let at = c.if-label-dist.true in
@@ -46,11 +54,16 @@ loop-next-preserved-in-Continue-1 g c =
     let e = c.in_ok-follow.ensures in
     record {
       under_way = λ from u.
-          under_way_more M place c.args.self.now.direction from f c.pop_within.new.self c.follow.new.found c.in-Some.next.0 p
-          (popped_by M place c.args.self.now.direction from f c.pop_within.new.self c.in-Some.next.0 p c.in-Some.ensures.table c.in-Some.ensures.room c.in-Some.ensures.reached c.in-Some.ensures.others)
+          under_way_more M place c.args.self.now.direction from f c.pop_within.new.self c.follow.new.found
+          c.in-Some.next.0 p
+          (popped_by M place c.args.self.now.direction from f c.pop_within.new.self c.in-Some.next.0 p
+          c.in-Some.ensures.table c.in-Some.ensures.room c.in-Some.ensures.reached c.in-Some.ensures.others)
           (omega arith) (omega arith) e.moves
-          (subst (λ (d : Direction). (v : ℕ) (ways : List (ℕ × ℕ)) → IsTrue (has_node M v) → place v ≡ p → Leads M d ways v c.in-Some.next.0 → IsLabelled M place d ways c.pop_within.new.self → IsLabelled M place d ways c.follow.new.found) inv.direction e.labelled)
-          (subst (λ (d : Direction). (v : ℕ) → IsTrue (has_node M v) → place v ≡ p → ClosedAt M place d c.follow.new.found v c.in-Some.next.0) inv.direction e.closed)
+          (subst (λ (d : Direction). (v : ℕ) (ways : List (ℕ × ℕ)) → IsTrue (has_node M v) → place v ≡ p →
+          Leads M d ways v c.in-Some.next.0 → IsLabelled M place d ways c.pop_within.new.self →
+          IsLabelled M place d ways c.follow.new.found) inv.direction e.labelled)
+          (subst (λ (d : Direction). (v : ℕ) → IsTrue (has_node M v) → place v ≡ p →
+          ClosedAt M place d c.follow.new.found v c.in-Some.next.0) inv.direction e.closed)
           (inv.under_way from u);
       better = λ q. let k = same q in let a = e.moves.better q in let b = inv.better q in omega arith;
       direction = inv.direction;
@@ -63,12 +76,14 @@ loop-next-preserved g c =
     let place = g.M.MapRead.place_in c.args.map.now in
     let f = c.loop-next.self.found in
     let p = c.in-Some.next.1 in
-    let same : (q : ℕ) → label_of c.pop_within.new.self q ≡ label_of f q = λ q. ap (λ (t : List ℕ). label_in t q) c.in-Some.ensures.table in
+    let same : (q : ℕ) → label_of c.pop_within.new.self q ≡ label_of f q =
+    λ q. ap (λ (t : List ℕ). label_in t q) c.in-Some.ensures.table in
     let inv = c.loop-next.invariant in
     record {
       under_way = λ from u.
           under_way_skip M place c.args.self.now.direction from f c.pop_within.new.self c.in-Some.next.0 p
-          (popped_by M place c.args.self.now.direction from f c.pop_within.new.self c.in-Some.next.0 p c.in-Some.ensures.table c.in-Some.ensures.room c.in-Some.ensures.reached c.in-Some.ensures.others)
+          (popped_by M place c.args.self.now.direction from f c.pop_within.new.self c.in-Some.next.0 p
+          c.in-Some.ensures.table c.in-Some.ensures.room c.in-Some.ensures.reached c.in-Some.ensures.others)
           (λ e. c.if-label-dist.false (c.label.ensures ∙ same p ∙ e))
           (inv.under_way from u);
       better = λ q. let k = same q in let b = inv.better q in omega arith;
@@ -82,9 +97,16 @@ returns-clause-search g c = λ direction from h.
     let place = g.M.MapRead.place_in c.args.map.now in
     let inv = c.loop-next.invariant in
     let e = c.in_default.ensures in
-    let u = inv.under_way from (subst (λ (d : Direction). IsUnderWay M place d from c.args.self.now.found) (sym h.way) h.under_way) in
-    let now = under_way_same M place c.args.self.now.direction from c.loop-next.self.found c.pop_within.new.self e.table e.room e.reached e.same u in
-    settled_on_to M place direction from c.args.self.now (record { direction = c.loop-next.self.direction; limit = c.max-self.result; found = c.pop_within.new.self }) c.args.limit h inv.direction
+    let u =
+    inv.under_way from (subst (λ (d : Direction). IsUnderWay M place d from c.args.self.now.found) (sym h.way)
+    h.under_way) in
+    let now =
+    under_way_same M place c.args.self.now.direction from c.loop-next.self.found c.pop_within.new.self e.table e.room
+    e.reached e.same u in
+    settled_on_to M place direction from c.args.self.now
+    (record { direction = c.loop-next.self.direction; limit = c.max-self.result; found = c.pop_within.new.self })
+    c.args.limit h inv.direction
     (subst (λ (d : Direction). IsUnderWay M place d from c.pop_within.new.self) h.way now) c.requires.small e.far
-    (λ p. let same : label_of c.pop_within.new.self p ≡ label_of c.loop-next.self.found p = ap (λ (t : List ℕ). label_in t p) e.table in let b = inv.better p in omega arith)
+    (λ p. let same : label_of c.pop_within.new.self p ≡ label_of c.loop-next.self.found p =
+    ap (λ (t : List ℕ). label_in t p) e.table in let b = inv.better p in omega arith)
     (c.max-self.ensures ∙ ap (λ (n : ℕ). max n c.args.limit) inv.limit)

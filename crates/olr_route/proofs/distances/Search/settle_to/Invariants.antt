@@ -5,7 +5,8 @@ use Rattle.olr_route.proofs.distances.Search.settle_to.Given as goal
 
 abbrev pub invariant-loop-next : goal.invariant-loop-next
 invariant-loop-next g l = record {
-  under_way : (from : List (ℕ × ℕ)) → IsUnderWay (g.M.MapRead.map l.map) (g.M.MapRead.place_in l.map) l.initial.self.direction from l.initial.self.found
+  under_way : (from : List (ℕ × ℕ)) → IsUnderWay (g.M.MapRead.map l.map) (g.M.MapRead.place_in l.map)
+      l.initial.self.direction from l.initial.self.found
       → IsUnderWay (g.M.MapRead.map l.map) (g.M.MapRead.place_in l.map) l.initial.self.direction from l.self.found;
   better : (p : ℕ) → label_of l.self.found p ≤ label_of l.initial.self.found p;
   direction : l.self.direction ≡ l.initial.self.direction;

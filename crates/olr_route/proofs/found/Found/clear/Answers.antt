@@ -6,8 +6,16 @@ use Rattle.olr_route.proofs.found.Found.clear.Goals as goal
 pub invariant_of-self : goal.invariant_of-self
 invariant_of-self c =
     let h = c.in-Some.ensures.items in
-    record { noted = noted_less c.loop-reached.self.table.items c.pop.new.self.items c.in-Some.reached (omega (arith, c.loop-reached.self.table.ok.0)) (subst (AreNoted c.loop-reached.self.table.items) h c.loop-reached.self.noted) }
+    record {
+      noted = noted_less c.loop-reached.self.table.items c.pop.new.self.items c.in-Some.reached
+          (omega (arith, c.loop-reached.self.table.ok.0))
+          (subst (AreNoted c.loop-reached.self.table.items) h c.loop-reached.self.noted);
+    }
 
 pub invariant_of-self-else-place-len : goal.invariant_of-self-else-place-len
 invariant_of-self-else-place-len c =
-    record { noted = noted_past c.loop-reached.self.table.items c.pop.new.self.items c.in-Some.reached (omega (arith, c.loop-reached.self.table.ok.0)) (subst (AreNoted c.loop-reached.self.table.items) c.in-Some.ensures.items c.loop-reached.self.noted) }
+    record {
+      noted = noted_past c.loop-reached.self.table.items c.pop.new.self.items c.in-Some.reached
+          (omega (arith, c.loop-reached.self.table.ok.0))
+          (subst (AreNoted c.loop-reached.self.table.items) c.in-Some.ensures.items c.loop-reached.self.noted);
+    }

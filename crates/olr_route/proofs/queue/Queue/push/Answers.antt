@@ -11,7 +11,13 @@ returns-clause-there c =
     let small = c.ranges.place.fits in
     let is : c.from.result * 4294967296 + c.from-2.result ≡ entry c.args.dist c.args.place = omega arith in
     let pushed : Entry = record { 0 = c.from.result * 4294967296 + c.from-2.result } in
-    record { small = omega arith; there = subst (λ (n : ℕ). Contains {X = Entry} (heap_items c.push.new.self) (record { 0 = n })) is (pushed_there _ _ pushed c.in_ok-push.ensures.permutation) }
+    record {
+      small = omega arith;
+      there =
+          subst (λ (n : ℕ). Contains {X = Entry} (heap_items c.push.new.self) (record { 0 = n })) is
+          (pushed_there _ _ pushed c.in_ok-push.ensures.permutation);
+    }
 
 pub returns-clause-kept : goal.returns-clause-kept
-returns-clause-kept c = λ d p w. record { small = w.small; there = pushed_kept _ _ _ _ c.in_ok-push.ensures.permutation w.there }
+returns-clause-kept c =
+    λ d p w. record { small = w.small; there = pushed_kept _ _ _ _ c.in_ok-push.ensures.permutation w.there }
