@@ -1,5 +1,6 @@
 -- Whole runs.
-use Rattle.std.proofs.Common.{inl, inr, ◌≡◌, ℕ, Bool, true, false, cond, not, List, [], ◌∷◌, ◌++◌, length, Option, Some, None, is_some, Result, Ok, Err, refl, sym, ap, ◌∙◌, subst, arith}
+use Rattle.std.proofs.Common.{inl, inr, ◌≡◌, ℕ, Bool, true, false, cond, not, List, [], ◌∷◌, ◌++◌, length, Option, Some}
+use Rattle.std.proofs.Common.{None, is_some, Result, Ok, Err, refl, sym, ap, ◌∙◌, subst, arith}
 use Rattle.std.specs.Prelude.{nat_le, ◌==◌, ◌||◌, ◌↔◌, MatchOption, IsSomeAnd, IfSome}
 use Rattle.std.specs.List.{list_any, AllByRecursion}
 use Rattle.std.specs.Result.{result_unwrap_or}
@@ -10,13 +11,19 @@ use Rattle.olr_spec.specs.Extension.{Path, extended}
 use Rattle.olr_spec.specs.Points.{last_position}
 use Rattle.olr_spec.specs.Reference.{Reference, legs, reference}
 use Rattle.olr_spec.specs.Encoding.{Answer, Points, Refused, Refusal, No_next_point, path_fault, Encoding, Encodes}
-use Rattle.olr_spec.proofs.AnswerLemmas.{one_answer}
+use Rattle.olr_spec.proofs.AnswerLemmas.{one_answer, path_also}
 use Rattle.olr_spec.proofs.DecideLemmas.{some_answer}
 use Rattle.olr_spec.proofs.JoinLemmas.{routes_join}
 use Rattle.olr_spec.proofs.UndoLemmas.{empty_sound}
-use Rattle.olr_commands.specs.State.{Named, Content, path_named, same_name, ArePaths, NamesDiffer, IsContent, has_path, TextFault, Fault, No_path, Batch_full, Count_differs, Change, with_change, next, after, Command, Make, Show, Report, Explain, Begin, Commit, Abort, State, start_state, full, at_once, into_batch, text_fault, unless_fault, step, changes_made, HasPlaces, IsState}
-use Rattle.olr_commands.specs.Reply.{Entry, entry, Paths, HasAnswer, Published, ChangedOf, Differences, IsReply, Outcome, IsOutcome}
-use Rattle.olr_commands.specs.History.{Run, History, AllHavePlaces, next_state, brought_by, all_changes_made, OneOf, IsPublished, Joined, names, NamesChanged, tells, IsNamed, IsRefused, Headline}
+use Rattle.olr_commands.specs.State.{Named, Content, path_named, same_name, ArePaths, NamesDiffer, IsContent, has_path}
+use Rattle.olr_commands.specs.State.{TextFault, Fault, No_path, Batch_full, Count_differs, Change, with_change, next}
+use Rattle.olr_commands.specs.State.{after, Command, Make, Show, Report, Explain, Begin, Commit, Abort, State}
+use Rattle.olr_commands.specs.State.{start_state, full, at_once, into_batch, text_fault, unless_fault, step}
+use Rattle.olr_commands.specs.State.{changes_made, HasPlaces, IsState}
+use Rattle.olr_commands.specs.Reply.{Entry, entry, Paths, HasAnswer, Published, ChangedOf, Differences, IsReply}
+use Rattle.olr_commands.specs.Reply.{Outcome, IsOutcome}
+use Rattle.olr_commands.specs.History.{Run, History, AllHavePlaces, next_state, brought_by, all_changes_made, OneOf}
+use Rattle.olr_commands.specs.History.{IsPublished, Joined, names, NamesChanged, tells, IsNamed, IsRefused, Headline}
 use Rattle.olr_commands.proofs.NameLemmas.{same_is}
 use Rattle.olr_commands.proofs.StateLemmas.{when_ok, next_ok, after_append, steps_keep}
 use Rattle.olr_commands.proofs.ReplyLemmas.{named_path}
@@ -26,13 +33,15 @@ use Rattle.olr_commands.proofs.ReplyLemmas.{named_path}
 -- what an accepted command brings is what it changes
 brings : (s t : State) (c : Command) → step s c ≡ Ok t → t.content ≡ after s.content (changes_made s c)
 brings s t c is = by_batch s.content s.batch t c is where
-  made_is : (c : Content) (x : Change) (r : Result Content Fault) (t : State) → with_change c x ≡ r → at_once r ≡ Ok t → t.content ≡ next c x
+  made_is : (c : Content) (x : Change) (r : Result Content Fault) (t : State) → with_change c x ≡ r → at_once r ≡ Ok t →
+      t.content ≡ next c x
   made_is c x (Ok d) t e is =
       let same : record { content = d; batch = None } ≡ t = cc in
       ap (λ (s : State). s.content) (sym same) ∙ sym (next_ok c d x e)
   made_is c x (Err f) t e is = absurd cc
 
-  held_is : (c : Content) (xs : List Change) (r : Result Content Fault) (t : State) → into_batch c xs r ≡ Ok t → t.content ≡ c
+  held_is : (c : Content) (xs : List Change) (r : Result Content Fault) (t : State) → into_batch c xs r ≡ Ok t →
+      t.content ≡ c
   held_is c xs (Ok d) t is =
       let same : record { content = c; batch = Some xs } ≡ t = cc in
       ap (λ (s : State). s.content) (sym same)
@@ -45,11 +54,17 @@ brings s t c is = by_batch s.content s.batch t c is where
   ok_is : (s t : State) → ◌≡◌ {A = Result State Fault} (Ok s) (Ok t) → t.content ≡ s.content
   ok_is s t is = let same : s ≡ t = cc in ap (λ (s : State). s.content) (sym same)
 
-  by_batch : (c : Content) (b : Option (List Change)) (t : State) (x : Command) → step (record { content = c; batch = b }) x ≡ Ok t → t.content ≡ after c (changes_made (record { content = c; batch = b }) x)
+  by_batch : (c : Content) (b : Option (List Change)) (t : State) (x : Command) →
+      step (record { content = c; batch = b }) x ≡ Ok t →
+      t.content ≡ after c (changes_made (record { content = c; batch = b }) x)
   by_batch c None t (Make x) is = made_is c x (with_change c x) t refl is
-  by_batch c (Some xs) t (Make x) is = held_is c (xs ++ x ∷ []) (with_change (after c xs) x) t (when_ok (nat_le full (length xs)) Batch_full (into_batch c (xs ++ x ∷ []) (with_change (after c xs) x)) t is).1
-  by_batch c None t (Show name) is = ok_is _ t (when_ok (not (has_path c name)) No_path (Ok (record { content = c; batch = None })) t is).1
-  by_batch c (Some xs) t (Show name) is = ok_is _ t (when_ok (not (has_path c name)) No_path (Ok (record { content = c; batch = Some xs })) t is).1
+  by_batch c (Some xs) t (Make x) is =
+      held_is c (xs ++ x ∷ []) (with_change (after c xs) x) t
+      (when_ok (nat_le full (length xs)) Batch_full (into_batch c (xs ++ x ∷ []) (with_change (after c xs) x)) t is).1
+  by_batch c None t (Show name) is =
+      ok_is _ t (when_ok (not (has_path c name)) No_path (Ok (record { content = c; batch = None })) t is).1
+  by_batch c (Some xs) t (Show name) is =
+      ok_is _ t (when_ok (not (has_path c name)) No_path (Ok (record { content = c; batch = Some xs })) t is).1
   by_batch c None t Report is = ok_is _ t is
   by_batch c (Some xs) t Report is = ok_is _ t is
   by_batch c None t (Explain text) is = unless_is (record { content = c; batch = None }) t (text_fault text) is
@@ -57,7 +72,9 @@ brings s t c is = by_batch s.content s.batch t c is where
   by_batch c None t Begin is = ok_is _ t is
   by_batch c (Some xs) t Begin is = absurd cc
   by_batch c None t (Commit count) is = absurd cc
-  by_batch c (Some xs) t (Commit count) is = ok_is _ t (when_ok (not (length xs == count)) Count_differs (Ok (record { content = after c xs; batch = None })) t is).1
+  by_batch c (Some xs) t (Commit count) is =
+      ok_is _ t (when_ok (not (length xs == count)) Count_differs (Ok (record { content = after c xs; batch = None })) t
+      is).1
   by_batch c None t Abort is = absurd cc
   by_batch c (Some xs) t Abort is = ok_is _ t is
 
@@ -67,14 +84,16 @@ next_state_ok s t c e = ap (λ (r : Result State Fault). result_unwrap_or r s) e
 -- ---- runs
 
 -- what is known of each step
-pub run_each : {A : Type 0} (P Q : State → A → Outcome → State → Type 0) → ((s : State) (x : A) (o : Outcome) (t : State) → P s x o t → Q s x o t)
+pub run_each : {A : Type 0} (P Q : State → A → Outcome → State → Type 0) →
+    ((s : State) (x : A) (o : Outcome) (t : State) → P s x o t → Q s x o t)
     → (s : State) (xs : List A) (os : List Outcome) (t : State) → Run P s xs os t → Run Q s xs os t
 run_each P Q f s xs [] t h = h
 run_each P Q f s [] (o ∷ os) t h = absurd h
 run_each P Q f s (x ∷ xs) (o ∷ os) t h = (h.0, f s x o h.0 h.1, run_each P Q f h.0 xs os t h.2)
 
 -- one more
-pub run_more : {A : Type 0} (P : State → A → Outcome → State → Type 0) (s t u : State) (xs : List A) (x : A) (os : List Outcome) (o : Outcome) → length os ≡ length xs
+pub run_more : {A : Type 0} (P : State → A → Outcome → State → Type 0) (s t u : State) (xs : List A) (x : A)
+    (os : List Outcome) (o : Outcome) → length os ≡ length xs
     → Run P s xs os t → P t x o u → Run P s (xs ++ x ∷ []) (os ++ o ∷ []) u
 run_more P s t u [] x [] o l h p = (u, subst (λ (a : State). P a x o u) (sym h) p, refl)
 run_more P s t u [] x (k ∷ os) o l h p = absurd h
@@ -82,13 +101,15 @@ run_more P s t u (y ∷ xs) x [] o l h p = absurd (omega arith)
 run_more P s t u (y ∷ xs) x (k ∷ os) o l h p = (h.0, h.1, run_more P h.0 t u xs x os o (omega arith) h.2 p)
 
 -- of more of them
-pub run_longer : {A : Type 0} (P : State → A → Outcome → State → Type 0) (s t : State) (xs rest : List A) (os : List Outcome) → Run P s xs os t → Run P s (xs ++ rest) os t
+pub run_longer : {A : Type 0} (P : State → A → Outcome → State → Type 0) (s t : State) (xs rest : List A)
+    (os : List Outcome) → Run P s xs os t → Run P s (xs ++ rest) os t
 run_longer P s t xs rest [] h = h
 run_longer P s t [] rest (o ∷ os) h = absurd h
 run_longer P s t (x ∷ xs) rest (o ∷ os) h = (h.0, h.1, run_longer P h.0 t xs rest os h.2)
 
 -- all of these, and then some of those
-pub run_join : {A : Type 0} (P : State → A → Outcome → State → Type 0) (s t u : State) (xs ys : List A) (os qs : List Outcome) → length os ≡ length xs
+pub run_join : {A : Type 0} (P : State → A → Outcome → State → Type 0) (s t u : State) (xs ys : List A)
+    (os qs : List Outcome) → length os ≡ length xs
     → Run P s xs os t → Run P t ys qs u → Run P s (xs ++ ys) (os ++ qs) u
 run_join P s t u [] ys [] qs l h p = subst (λ (a : State). Run P a ys qs u) (sym h) p
 run_join P s t u [] ys (k ∷ os) qs l h p = absurd h
@@ -105,17 +126,21 @@ pub outcome_leads : (s : State) (c : Command) (o : Outcome) (t : State) → IsOu
 outcome_leads s c (Ok reply) t h = h.0
 outcome_leads s c (Err fault) t h = h.1
 
-pub content_after : {A : Type 0} (asked : A → Option Command) (s t : State) (xs : List A) (os : List Outcome) → Run (λ a x o b. Leads a (asked x) o b) s xs os t
+pub content_after : {A : Type 0} (asked : A → Option Command) (s t : State) (xs : List A) (os : List Outcome) →
+    Run (λ a x o b. Leads a (asked x) o b) s xs os t
     → t.content ≡ after s.content (all_changes_made asked s xs os)
 content_after asked s t [] [] h = ap (λ (u : State). u.content) (sym h)
 content_after asked s t [] (o ∷ os) h = absurd h
 content_after asked s t (x ∷ xs) [] h = ap (λ (u : State). u.content) (sym h)
 content_after asked s t (x ∷ xs) (Ok reply ∷ os) h = accepted (asked x) h.1 (content_after asked h.0 t xs os h.2) where
-  accepted : (m : Option Command) → Leads s m (Ok reply) h.0 → t.content ≡ after h.0.content (all_changes_made asked h.0 xs os) → t.content ≡ after s.content (brought_by s m ++ all_changes_made asked (next_state s m) xs os)
+  accepted : (m : Option Command) → Leads s m (Ok reply) h.0 →
+      t.content ≡ after h.0.content (all_changes_made asked h.0 xs os) →
+      t.content ≡ after s.content (brought_by s m ++ all_changes_made asked (next_state s m) xs os)
   accepted None p rest = absurd p
   accepted (Some c) go rest =
       rest ∙ ap (λ (d : Content). after d (all_changes_made asked h.0 xs os)) (brings s h.0 c go)
-      ∙ ap (λ (u : State). after (after s.content (changes_made s c)) (all_changes_made asked u xs os)) (sym (next_state_ok s h.0 c go))
+      ∙ ap (λ (u : State). after (after s.content (changes_made s c)) (all_changes_made asked u xs os))
+      (sym (next_state_ok s h.0 c go))
       ∙ sym (after_append s.content (changes_made s c) (all_changes_made asked (next_state s (Some c)) xs os))
 content_after asked s t (x ∷ xs) (Err fault ∷ os) h =
     let back : h.0 ≡ s = h.1 in
@@ -130,15 +155,23 @@ one_of c i name P e =
     record { answer = some.0; encodes = some.1; only = λ B h. one_answer c.map i.map P sound B some.0 h some.1 }
 
 -- the one answer of a path is what is published
-only_published : (c : Content) (name : List ℕ) (P : Path) (one : OneOf c.map P) (answer : Option Answer) → path_named c.paths name ≡ Some P → Published c name answer → answer ≡ Some one.answer
-only_published c name P one answer e h = some answer (subst (λ (o : Option Path). MatchOption o (answer ≡ None) (λ Q. IsSomeAnd answer (λ A. Encodes c.map Q A))) e h) where
-  some : (o : Option Answer) → IsSomeAnd o (λ A. Encodes c.map P A) → o ≡ Some one.answer
-  some None k = absurd k
-  some (Some A) k = ap (λ (B : Answer). Some B) (one.only A k)
+only_published : (c : Content) (name : List ℕ) (P : Path) (one : OneOf c.map P) (answer : Option Answer) →
+    path_named c.paths name ≡ Some P → Published c name answer → answer ≡ Some one.answer
+only_published c name P one answer e h =
+    some answer (subst (λ (o : Option Path). MatchOption o (answer ≡ None)
+    (λ Q. IsSomeAnd answer (λ A. Encodes c.map Q A))) e h) where
+      some : (o : Option Answer) → IsSomeAnd o (λ A. Encodes c.map P A) → o ≡ Some one.answer
+      some None k = absurd k
+      some (Some A) k = ap (λ (B : Answer). Some B) (one.only A k)
 
-pub is_published : (before later : Content) (changes : List Change) → IsContent later → later ≡ after before changes → IsPublished before changes later
+pub is_published : (before later : Content) (changes : List Change) → IsContent later → later ≡ after before changes →
+    IsPublished before changes later
 is_published before later changes sound e =
-    record { content = e; answers = λ name P is. let one = one_of later sound name P is in (one, λ answer p. only_published later name P one answer is p) }
+    record {
+      content = e;
+      answers = λ name P is. let one = one_of later sound name P is in
+          (one, λ answer p. only_published later name P one answer is p);
+    }
 
 pub start_sound : IsState start_state
 start_sound = record { content = record { map = empty_sound; paths = tt; names = tt }; batch = tt }
@@ -148,71 +181,92 @@ start_sound = record { content = record { map = empty_sound; paths = tt; names =
 joined : (M : Map) (P : Path) (r : Reference) → Encoding M P (Points r) → Joined M P r
 joined M P r p =
     let E = extended M P p.before p.after in
-    elim (last_position 0 p.points == length E.lines) as (λ t. (last_position 0 p.points == length E.lines) ≡ t → Points r ≡ cond t (Points (reference (legs M E.lines) E.pos E.neg p.points)) (Refused (No_next_point (last_position 0 p.points))) → Joined M P r) [
+    elim (last_position 0 p.points == length E.lines) as (λ t. (last_position 0 p.points == length E.lines) ≡ t →
+    Points r ≡ cond t (Points (reference (legs M E.lines) E.pos E.neg p.points))
+    (Refused (No_next_point (last_position 0 p.points))) → Joined M P r) [
       | true ↦ λ t e.
           let same : r ≡ reference (legs M E.lines) E.pos E.neg p.points = cc in
-          record {
-            before = p.before;
-            after = p.after;
-            points = p.points;
-            tried = p.tried;
-            follow = p.follow;
-            holds = (same, routes_join M E.lines p.points E.pos E.neg p.follow (eqb-true (last_position 0 p.points) (length E.lines) t));
-          }
+          path_also p (
+            same,
+            routes_join M E.lines p.points E.pos E.neg p.follow
+                (eqb-true (last_position 0 p.points) (length E.lines) t),
+          )
       | false ↦ λ t e. absurd cc
     ] refl p.holds
 
-joined_by : (M : Map) (P : Path) (r : Reference) (o : Option Refusal) → MatchOption o (Encoding M P (Points r)) (λ f. Points r ≡ Refused f) → Joined M P r
+joined_by : (M : Map) (P : Path) (r : Reference) (o : Option Refusal) →
+    MatchOption o (Encoding M P (Points r)) (λ f. Points r ≡ Refused f) → Joined M P r
 joined_by M P r None p = joined M P r p
 joined_by M P r (Some f) p = absurd cc
 
-pub routes_of : (c : Content) (name : List ℕ) (r : Reference) → HasAnswer c name (Points r) → (P : Path) × (path_named c.paths name ≡ Some P) × Joined c.map P r
+pub routes_of : (c : Content) (name : List ℕ) (r : Reference) → HasAnswer c name (Points r) → (P : Path)
+    × (path_named c.paths name ≡ Some P) × Joined c.map P r
 routes_of c name r h = (h.0, h.1, joined_by c.map h.0 r (path_fault c.map h.0) h.2)
 
 -- ---- replies
 
 -- of a list without repeats: the path of a name further on isn't the first one
-not_first : (p : Named) (ps : List Named) (name : List ℕ) (P : Path) → NamesDiffer (p ∷ ps) → path_named ps name ≡ Some P → same_name p.name name ≡ false
+not_first : (p : Named) (ps : List Named) (name : List ℕ) (P : Path) → NamesDiffer (p ∷ ps) →
+    path_named ps name ≡ Some P → same_name p.name name ≡ false
 not_first p ps name P d e =
     elim (cases_Bool (same_name p.name name)) [
       | inl h ↦
           let is : p.name ≡ name = same_is p.name name h in
-          let there : is_some (path_named ps p.name) ≡ true = ap (λ (n : List ℕ). is_some (path_named ps n)) is ∙ ap is_some e in
+          let there : is_some (path_named ps p.name) ≡ true =
+          ap (λ (n : List ℕ). is_some (path_named ps n)) is ∙ ap is_some e in
           absurd (both_ways (is_some (path_named ps p.name)) d.0 there)
       | inr h ↦ h
     ]
 
-named_first : (p : Named) (ps : List Named) (name : List ℕ) → same_name p.name name ≡ true → path_named (p ∷ ps) name ≡ Some p.path
+named_first : (p : Named) (ps : List Named) (name : List ℕ) → same_name p.name name ≡ true →
+    path_named (p ∷ ps) name ≡ Some p.path
 named_first p ps name h = ap (λ (b : Bool). cond b (Some p.path) (path_named ps name)) h
 
-named_later : (p : Named) (ps : List Named) (name : List ℕ) → same_name p.name name ≡ false → path_named (p ∷ ps) name ≡ path_named ps name
+named_later : (p : Named) (ps : List Named) (name : List ℕ) → same_name p.name name ≡ false →
+    path_named (p ∷ ps) name ≡ path_named ps name
 named_later p ps name h = ap (λ (b : Bool). cond b (Some p.path) (path_named ps name)) h
 
 -- the path of a name in this list has an answer that it hadn't before
 Differs : Content → Map → List Named → List ℕ → Type 0
-Differs before M ps name = (A : Answer) × (P : Path) × (path_named ps name ≡ Some P) × Encodes M P A × ¬ HasAnswer before name A
+Differs before M ps name =
+    (A : Answer) × (P : Path) × (path_named ps name ≡ Some P) × Encodes M P A × ¬ HasAnswer before name A
 
-differs_later : (before : Content) (M : Map) (p : Named) (ps : List Named) (name : List ℕ) → NamesDiffer (p ∷ ps) → Differs before M ps name → Differs before M (p ∷ ps) name
+differs_later : (before : Content) (M : Map) (p : Named) (ps : List Named) (name : List ℕ) → NamesDiffer (p ∷ ps) →
+    Differs before M ps name → Differs before M (p ∷ ps) name
 unfolding Differs
 differs_later before M p ps name d h = (h.0, h.1, named_later p ps name (not_first p ps name h.1 d h.2) ∙ h.2, h.3, h.4)
 
-to_differs : (before : Content) (M : Map) (ps : List Named) (es : List Entry) → NamesDiffer ps → ChangedOf before M ps es → (name : List ℕ) → names es name → Differs before M ps name
+to_differs : (before : Content) (M : Map) (ps : List Named) (es : List Entry) → NamesDiffer ps →
+    ChangedOf before M ps es → (name : List ℕ) → names es name → Differs before M ps name
 unfolding Differs
 to_differs before M [] es d c name h =
-    let none : list_any (λ (e : Entry). same_name e.name name) [] ≡ true = ap (λ (xs : List Entry). list_any (λ (e : Entry). same_name e.name name) xs) (sym c) ∙ h in
+    let none : list_any (λ (e : Entry). same_name e.name name) [] ≡ true =
+    ap (λ (xs : List Entry). list_any (λ (e : Entry). same_name e.name name) xs) (sym c) ∙ h in
     absurd cc
 to_differs before M (p ∷ ps) es d c name h =
     elim c.4 [
-      | inl g ↦ differs_later before M p ps name d (to_differs before M ps c.1 d.1 c.3 name (ap (λ (xs : List Entry). list_any (λ (e : Entry). same_name e.name name) xs) (sym g.1) ∙ h))
+      | inl g ↦ differs_later before M p ps name d
+          (to_differs before M ps c.1 d.1 c.3 name
+          (ap (λ (xs : List Entry). list_any (λ (e : Entry). same_name e.name name) xs) (sym g.1) ∙ h))
       | inr g ↦
-          let here : (same_name p.name name || list_any (λ (e : Entry). same_name e.name name) c.1) ≡ true = ap (λ (xs : List Entry). list_any (λ (e : Entry). same_name e.name name) xs) (sym g.1) ∙ h in
+          let here : (same_name p.name name || list_any (λ (e : Entry). same_name e.name name) c.1) ≡ true =
+          ap (λ (xs : List Entry). list_any (λ (e : Entry). same_name e.name name) xs) (sym g.1) ∙ h in
           elim (cases_Bool (same_name p.name name)) [
-            | inl same ↦ (c.0, p.path, named_first p ps name same, c.2, subst (λ (n : List ℕ). ¬ HasAnswer before n c.0) (same_is p.name name same) g.0)
-            | inr other ↦ differs_later before M p ps name d (to_differs before M ps c.1 d.1 c.3 name (ap (λ (b : Bool). b || list_any (λ (e : Entry). same_name e.name name) c.1) (sym other) ∙ here))
+            | inl same ↦ (
+              c.0,
+              p.path,
+              named_first p ps name same,
+              c.2,
+              subst (λ (n : List ℕ). ¬ HasAnswer before n c.0) (same_is p.name name same) g.0,
+            )
+            | inr other ↦ differs_later before M p ps name d
+                (to_differs before M ps c.1 d.1 c.3 name
+                (ap (λ (b : Bool). b || list_any (λ (e : Entry). same_name e.name name) c.1) (sym other) ∙ here))
           ]
     ]
 
-from_differs : (before : Content) (M : Map) → IsMap M → (ps : List Named) (es : List Entry) → ArePaths ps → ChangedOf before M ps es → (name : List ℕ) → Differs before M ps name → names es name
+from_differs : (before : Content) (M : Map) → IsMap M → (ps : List Named) (es : List Entry) → ArePaths ps →
+    ChangedOf before M ps es → (name : List ℕ) → Differs before M ps name → names es name
 unfolding Differs
 from_differs before M m [] es a c name h = absurd (let no = h.2 in cc)
 from_differs before M m (p ∷ ps) es a c name h =
@@ -223,18 +277,23 @@ from_differs before M m (p ∷ ps) es a c name h =
           let answer : Encodes M p.path h.0 = subst (λ (Q : Path). Encodes M Q h.0) (sym is) h.3 in
           let one : c.0 ≡ h.0 = one_answer M m p.path a.0 c.0 h.0 c.2 answer in
           elim c.4 [
-            | inl g ↦ absurd (h.4 (subst (λ (A : Answer). HasAnswer before name A) one (subst (λ (n : List ℕ). HasAnswer before n c.0) (same_is p.name name same) g.0)))
-            | inr g ↦ ap (λ (xs : List Entry). list_any (λ (e : Entry). same_name e.name name) xs) g.1 ∙ ap (λ (b : Bool). b || list_any (λ (e : Entry). same_name e.name name) c.1) same
+            | inl g ↦ absurd (h.4 (subst (λ (A : Answer). HasAnswer before name A) one
+                (subst (λ (n : List ℕ). HasAnswer before n c.0) (same_is p.name name same) g.0)))
+            | inr g ↦ ap (λ (xs : List Entry). list_any (λ (e : Entry). same_name e.name name) xs) g.1
+                ∙ ap (λ (b : Bool). b || list_any (λ (e : Entry). same_name e.name name) c.1) same
           ]
       | inr other ↦
-          let rest : names c.1 name = from_differs before M m ps c.1 a.1 c.3 name (h.0, h.1, sym (named_later p ps name other) ∙ h.2, h.3, h.4) in
+          let rest : names c.1 name =
+          from_differs before M m ps c.1 a.1 c.3 name (h.0, h.1, sym (named_later p ps name other) ∙ h.2, h.3, h.4) in
           elim c.4 [
             | inl g ↦ ap (λ (xs : List Entry). list_any (λ (e : Entry). same_name e.name name) xs) g.1 ∙ rest
-            | inr g ↦ ap (λ (xs : List Entry). list_any (λ (e : Entry). same_name e.name name) xs) g.1 ∙ ap (λ (b : Bool). b || list_any (λ (e : Entry). same_name e.name name) c.1) other ∙ rest
+            | inr g ↦ ap (λ (xs : List Entry). list_any (λ (e : Entry). same_name e.name name) xs) g.1
+                ∙ ap (λ (b : Bool). b || list_any (λ (e : Entry). same_name e.name name) c.1) other ∙ rest
           ]
     ]
 
-replies_name : (before later : Content) (es : List Entry) → IsContent later → Differences before later es → (name : List ℕ)
+replies_name : (before later : Content) (es : List Entry) → IsContent later → Differences before later es →
+    (name : List ℕ)
     → names es name ↔ ((A : Answer) × HasAnswer later name A × ¬ HasAnswer before name A)
 unfolding Differs
 replies_name before later es i c name = (
@@ -247,43 +306,55 @@ replies_name before later es i c name = (
 Tells : Map → List Named → Entry → Type 0
 Tells M ps e = (A : Answer) × (P : Path) × (path_named ps e.name ≡ Some P) × Encodes M P A × (e ≡ entry e.name A)
 
-tell_later : (M : Map) (p : Named) (ps : List Named) → NamesDiffer (p ∷ ps) → (es : List Entry) → AllByRecursion (Tells M ps) es → AllByRecursion (Tells M (p ∷ ps)) es
+tell_later : (M : Map) (p : Named) (ps : List Named) → NamesDiffer (p ∷ ps) → (es : List Entry) →
+    AllByRecursion (Tells M ps) es → AllByRecursion (Tells M (p ∷ ps)) es
 unfolding Tells
 tell_later M p ps d [] h = tt
-tell_later M p ps d (e ∷ es) h =
-    ((h.0.0, h.0.1, named_later p ps e.name (not_first p ps e.name h.0.1 d h.0.2) ∙ h.0.2, h.0.3, h.0.4), tell_later M p ps d es h.1)
+tell_later M p ps d (e ∷ es) h = (
+  (h.0.0, h.0.1, named_later p ps e.name (not_first p ps e.name h.0.1 d h.0.2) ∙ h.0.2, h.0.3, h.0.4),
+  tell_later M p ps d es h.1,
+)
 
-tell : (before : Content) (M : Map) (ps : List Named) (es : List Entry) → NamesDiffer ps → ChangedOf before M ps es → AllByRecursion (Tells M ps) es
+tell : (before : Content) (M : Map) (ps : List Named) (es : List Entry) → NamesDiffer ps → ChangedOf before M ps es →
+    AllByRecursion (Tells M ps) es
 unfolding Tells
 tell before M [] es d c = subst (AllByRecursion (Tells M [])) (sym c) tt
 tell before M (p ∷ ps) es d c =
     let rest = tell_later M p ps d c.1 (tell before M ps c.1 d.1 c.3) in
     elim c.4 [
       | inl g ↦ subst (AllByRecursion (Tells M (p ∷ ps))) (sym g.1) rest
-      | inr g ↦ subst (AllByRecursion (Tells M (p ∷ ps))) (sym g.1) ((c.0, p.path, named_first p ps p.name ((bytes_decides p.name p.name).1 refl), c.2, refl), rest)
+      | inr g ↦ subst (AllByRecursion (Tells M (p ∷ ps))) (sym g.1)
+          ((c.0, p.path, named_first p ps p.name ((bytes_decides p.name p.name).1 refl), c.2, refl), rest)
     ]
 
-told : (c : Content) (es : List Entry) → AllByRecursion (Tells c.map c.paths) es → AllByRecursion (λ e. (A : Answer) × HasAnswer c e.name A × (e ≡ entry e.name A)) es
+told : (c : Content) (es : List Entry) → AllByRecursion (Tells c.map c.paths) es →
+    AllByRecursion (λ e. (A : Answer) × HasAnswer c e.name A × (e ≡ entry e.name A)) es
 unfolding Tells
 told c [] h = tt
 told c (e ∷ es) h = ((h.0.0, (h.0.1, h.0.2, h.0.3), h.0.4), told c es h.1)
 
-pub names_changed : (before later : Content) (es : List Entry) → IsContent later → Differences before later es → NamesChanged before later es
-names_changed before later es i c = (replies_name before later es i c, told later es (tell before later.map later.paths es i.names c))
+pub names_changed : (before later : Content) (es : List Entry) → IsContent later → Differences before later es →
+    NamesChanged before later es
+names_changed before later es i c =
+    (replies_name before later es i c, told later es (tell before later.map later.paths es i.names c))
 
 pub no_differences : (c : Content) (es : List Entry) → IsContent c → Differences c c es → es ≡ []
 no_differences c [] i d = refl
 no_differences c (e ∷ es) i d =
-    let here : names (e ∷ es) e.name = ap (λ (b : Bool). b || list_any (λ (x : Entry). same_name x.name e.name) es) ((bytes_decides e.name e.name).1 refl) in
+    let here : names (e ∷ es) e.name =
+    ap (λ (b : Bool). b || list_any (λ (x : Entry). same_name x.name e.name) es)
+    ((bytes_decides e.name e.name).1 refl) in
     let h = ((names_changed c c (e ∷ es) i d).0 e.name).0 here in
     absurd (h.2 h.1)
 
 -- ---- the claims of a run
 
 -- what is told of a command whose reply names paths
-told_of : (s t : State) (c : Command) (es : List Entry) → tells s.batch c ≡ true → IsReply s c t (Paths es) → Differences s.content t.content es
+told_of : (s t : State) (c : Command) (es : List Entry) → tells s.batch c ≡ true → IsReply s c t (Paths es) →
+    Differences s.content t.content es
 told_of s t c es = by s.batch c where
-  by : (b : Option (List Change)) (c : Command) → tells b c ≡ true → IsReply (record { content = s.content; batch = b }) c t (Paths es) → Differences s.content t.content es
+  by : (b : Option (List Change)) (c : Command) → tells b c ≡ true →
+      IsReply (record { content = s.content; batch = b }) c t (Paths es) → Differences s.content t.content es
   by None (Make x) e h = h
   by None (Show name) e h = absurd cc
   by None Report e h = absurd cc
@@ -300,21 +371,30 @@ told_of s t c es = by s.batch c where
   by (Some xs) Abort e h = absurd cc
 
 pub is_named : (s t : State) (c : Command) (o : Outcome) → IsContent t.content → IsOutcome s c o t → IsNamed s c o t
-is_named s t c o sound h tell es is = names_changed s.content t.content es sound (told_of s t c es tell (subst (λ (p : Outcome). IsOutcome s c p t) is h).1)
+is_named s t c o sound h tell es is =
+    names_changed s.content t.content es sound
+    (told_of s t c es tell (subst (λ (p : Outcome). IsOutcome s c p t) is h).1)
 
 pub is_refused : (s t : State) (c : Command) (o : Outcome) → IsOutcome s c o t → IsRefused s o t
 is_refused s t c o h fault is = (subst (λ (p : Outcome). IsOutcome s c p t) is h).1
 
 -- of any steps that lead on, name what changed and change nothing where refused
 pub headline_of : {A : Type 0} (P : State → A → Outcome → State → Type 0) (asked : A → Option Command)
-    → ((s : State) (x : A) (o : Outcome) (t : State) → P s x o t → Leads s (asked x) o t × IfSome (asked x) (λ c. IsNamed s c o t) × IsRefused s o t)
-    → (s : State) (xs : List A) (os : List Outcome) (t : State) → IsContent t.content → Run P s xs os t → Headline P asked s xs os t
+    → ((s : State) (x : A) (o : Outcome) (t : State) → P s x o t → Leads s (asked x) o t
+    × IfSome (asked x) (λ c. IsNamed s c o t) × IsRefused s o t)
+    → (s : State) (xs : List A) (os : List Outcome) (t : State) → IsContent t.content → Run P s xs os t →
+    Headline P asked s xs os t
 headline_of P asked f s xs os t sound h =
     record {
       run = h;
-      published = is_published s.content t.content _ sound (content_after asked s t xs os (run_each P (λ a x o b. Leads a (asked x) o b) (λ a x o b p. (f a x o b p).0) s xs os t h));
+      published =
+          is_published s.content t.content _ sound
+          (content_after asked s t xs os
+          (run_each P (λ a x o b. Leads a (asked x) o b) (λ a x o b p. (f a x o b p).0) s xs os t h));
       joined = routes_of t.content;
-      named = run_each P (λ a x o b. P a x o b × IfSome (asked x) (λ c. IsNamed a c o b)) (λ a x o b p. (p, (f a x o b p).1)) s xs os t h;
+      named =
+          run_each P (λ a x o b. P a x o b × IfSome (asked x) (λ c. IsNamed a c o b))
+          (λ a x o b p. (p, (f a x o b p).1)) s xs os t h;
       refused = run_each P (λ a x o b. P a x o b × IsRefused a o b) (λ a x o b p. (p, (f a x o b p).2)) s xs os t h;
     }
 
@@ -328,7 +408,8 @@ outcome_keeps s t c (Err fault) i h p = subst IsState (sym p.1) i
 abbrev pub SoundOutcome : State → Command → Outcome → State → Type 0
 SoundOutcome s c o t = IsOutcome s c o t × IsContent t.content
 
-history_keeps : (s t : State) (cs : List Command) (os : List Outcome) → IsState s → AllHavePlaces cs → Run IsOutcome s cs os t → IsState t × Run SoundOutcome s cs os t
+history_keeps : (s t : State) (cs : List Command) (os : List Outcome) → IsState s → AllHavePlaces cs →
+    Run IsOutcome s cs os t → IsState t × Run SoundOutcome s cs os t
 history_keeps s t cs [] i h p = (subst IsState p i, p)
 history_keeps s t [] (o ∷ os) i h p = absurd p
 history_keeps s t (c ∷ cs) (o ∷ os) i h p =
@@ -336,23 +417,33 @@ history_keeps s t (c ∷ cs) (o ∷ os) i h p =
     let rest = history_keeps p.0 t cs os mid h.1 p.2 in
     (rest.0, (p.0, (p.1, mid.content), rest.1))
 
-only_outcomes : {A : Type 0} (P Q : State → A → Outcome → State → Type 0) (asked : A → Option Command) (s : State) (xs : List A) (os : List Outcome) (t : State)
-    → ((a : State) (x : A) (o : Outcome) (b : State) → P a x o b → Q a x o b) → Headline P asked s xs os t → Headline Q asked s xs os t
+only_outcomes : {A : Type 0} (P Q : State → A → Outcome → State → Type 0) (asked : A → Option Command) (s : State)
+    (xs : List A) (os : List Outcome) (t : State)
+    → ((a : State) (x : A) (o : Outcome) (b : State) → P a x o b → Q a x o b) → Headline P asked s xs os t →
+    Headline Q asked s xs os t
 only_outcomes P Q asked s xs os t f h =
     record {
       run = run_each P Q f s xs os t h.run;
       published = h.published;
       joined = h.joined;
-      named = run_each (λ a x o b. P a x o b × IfSome (asked x) (λ c. IsNamed a c o b)) (λ a x o b. Q a x o b × IfSome (asked x) (λ c. IsNamed a c o b)) (λ a x o b p. (f a x o b p.0, p.1)) s xs os t h.named;
-      refused = run_each (λ a x o b. P a x o b × IsRefused a o b) (λ a x o b. Q a x o b × IsRefused a o b) (λ a x o b p. (f a x o b p.0, p.1)) s xs os t h.refused;
+      named =
+          run_each (λ a x o b. P a x o b × IfSome (asked x) (λ c. IsNamed a c o b))
+          (λ a x o b. Q a x o b × IfSome (asked x) (λ c. IsNamed a c o b)) (λ a x o b p. (f a x o b p.0, p.1)) s xs os t
+          h.named;
+      refused =
+          run_each (λ a x o b. P a x o b × IsRefused a o b) (λ a x o b. Q a x o b × IsRefused a o b)
+          (λ a x o b p. (f a x o b p.0, p.1)) s xs os t h.refused;
     }
 
-pub headline_of_outcomes : (s : State) (cs : List Command) (os : List Outcome) (t : State) → IsContent t.content → Run SoundOutcome s cs os t → Headline IsOutcome (λ c. Some c) s cs os t
+pub headline_of_outcomes : (s : State) (cs : List Command) (os : List Outcome) (t : State) → IsContent t.content →
+    Run SoundOutcome s cs os t → Headline IsOutcome (λ c. Some c) s cs os t
 headline_of_outcomes s cs os t sound h =
     only_outcomes SoundOutcome IsOutcome (λ c. Some c) s cs os t (λ a c o b p. p.0)
-    (headline_of SoundOutcome (λ c. Some c) (λ a c o b p. (outcome_leads a c o b p.0, is_named a b c o p.1 p.0, is_refused a b c o p.0)) s cs os t sound h)
+    (headline_of SoundOutcome (λ c. Some c)
+    (λ a c o b p. (outcome_leads a c o b p.0, is_named a b c o p.1 p.0, is_refused a b c o p.0)) s cs os t sound h)
 
-pub headline_of_histories : (cs : List Command) (os : List Outcome) (t : State) → AllHavePlaces cs → History start_state cs os t → IsState t × Headline IsOutcome (λ c. Some c) start_state cs os t
+pub headline_of_histories : (cs : List Command) (os : List Outcome) (t : State) → AllHavePlaces cs →
+    History start_state cs os t → IsState t × Headline IsOutcome (λ c. Some c) start_state cs os t
 headline_of_histories cs os t h run =
     let k = history_keeps start_state t cs os start_sound h run.1 in
     (k.0, headline_of_outcomes start_state cs os t k.0.content k.1)

@@ -1,23 +1,28 @@
 -- A reply is determined.
-use Rattle.std.proofs.Common.{inl, inr, ◌≡◌, ℕ, true, false, cond, List, [], ◌∷◌, Option, Some, None, IsTrue, sym, ap, ◌∙◌, subst}
+use Rattle.std.proofs.Common.{inl, inr, ◌≡◌, ℕ, true, false, cond, List, [], ◌∷◌, Option, Some, None, IsTrue, sym, ap}
+use Rattle.std.proofs.Common.{◌∙◌, subst}
 use Rattle.olr_spec.specs.Map.{Map, IsMap}
 use Rattle.olr_spec.specs.Extension.{Path, is_path}
 use Rattle.olr_spec.specs.Reference.{Reference}
 use Rattle.olr_spec.specs.Encoding.{Answer, Encodes}
 use Rattle.olr_spec.proofs.AnswerLemmas.{one_answer}
 use Rattle.olr_spec.proofs.BytesLemmas.{one_spelled}
-use Rattle.olr_commands.specs.State.{Named, Content, same_name, path_named, ArePaths, IsContent, Change, State, Command, Make, Show, Report, Explain, Begin, Commit, Abort, IsState}
-use Rattle.olr_commands.specs.Reply.{Entry, entry, Reply, Paths, Fields, Held, HasAnswer, AllOf, ChangedOf, Differences, Shown, Explained, IsPaths, IsFields, IsChangeReply, IsReply}
+use Rattle.olr_commands.specs.State.{Named, Content, same_name, path_named, ArePaths, IsContent, Change, State, Command}
+use Rattle.olr_commands.specs.State.{Make, Show, Report, Explain, Begin, Commit, Abort, IsState}
+use Rattle.olr_commands.specs.Reply.{Entry, entry, Reply, Paths, Fields, Held, HasAnswer, AllOf, ChangedOf, Differences}
+use Rattle.olr_commands.specs.Reply.{Shown, Explained, IsPaths, IsFields, IsChangeReply, IsReply}
 
 -- each path has one answer, so all of them one list of entries
-one_all : (M : Map) → IsMap M → (ps : List Named) (es fs : List Entry) → ArePaths ps → AllOf M ps es → AllOf M ps fs → es ≡ fs
+one_all : (M : Map) → IsMap M → (ps : List Named) (es fs : List Entry) → ArePaths ps → AllOf M ps es → AllOf M ps fs →
+    es ≡ fs
 one_all M m [] es fs a p q = p ∙ sym q
 one_all M m (n ∷ ps) es fs a p q =
     let same : p.0 ≡ q.0 = one_answer M m n.path a.0 p.0 q.0 p.2 q.2 in
     let rest : p.1 ≡ q.1 = one_all M m ps p.1 q.1 a.1 p.3 q.3 in
     p.4 ∙ (λ i. entry n.name (same i) ∷ rest i) ∙ sym q.4
 
-one_changed : (s : Content) (M : Map) → IsMap M → (ps : List Named) (es fs : List Entry) → ArePaths ps → ChangedOf s M ps es → ChangedOf s M ps fs → es ≡ fs
+one_changed : (s : Content) (M : Map) → IsMap M → (ps : List Named) (es fs : List Entry) → ArePaths ps →
+    ChangedOf s M ps es → ChangedOf s M ps fs → es ≡ fs
 one_changed s M m [] es fs a p q = p ∙ sym q
 one_changed s M m (n ∷ ps) es fs a p q =
     let same : p.0 ≡ q.0 = one_answer M m n.path a.0 p.0 q.0 p.2 q.2 in
@@ -33,22 +38,26 @@ one_changed s M m (n ∷ ps) es fs a p q =
       ]
     ]
 
-pub named_path : (ps : List Named) (name : List ℕ) (P : Path) → ArePaths ps → path_named ps name ≡ Some P → IsTrue (is_path P.lines)
+pub named_path : (ps : List Named) (name : List ℕ) (P : Path) → ArePaths ps → path_named ps name ≡ Some P →
+    IsTrue (is_path P.lines)
 named_path [] name P a e = absurd cc
 named_path (p ∷ ps) name P a e =
-    elim (same_name p.name name) as (λ b. cond b (Some p.path) (path_named ps name) ≡ Some P → IsTrue (is_path P.lines)) [
+    elim (same_name p.name name) as (λ b. cond b (Some p.path) (path_named ps name) ≡ Some P →
+    IsTrue (is_path P.lines)) [
       | true ↦ λ h. let is : p.path ≡ P = cc in subst (λ (Q : Path). IsTrue (is_path Q.lines)) is a.0
       | false ↦ λ h. named_path ps name P a.1 h
     ] e
 
-one_paths : (T : List Entry → Type 0) → ((es fs : List Entry) → T es → T fs → es ≡ fs) → (r q : Reply) → IsPaths r T → IsPaths q T → r ≡ q
+one_paths : (T : List Entry → Type 0) → ((es fs : List Entry) → T es → T fs → es ≡ fs) → (r q : Reply) → IsPaths r T →
+    IsPaths q T → r ≡ q
 one_paths T one (Paths es) (Paths fs) p g = ap (λ (xs : List Entry). Paths xs) (one es fs p g)
 one_paths T one (Paths es) (Fields y) p g = absurd g
 one_paths T one (Paths es) (Held n) p g = absurd g
 one_paths T one (Fields x) q p g = absurd p
 one_paths T one (Held n) q p g = absurd p
 
-one_fields : (T : Reference → Type 0) → ((x y : Reference) → T x → T y → x ≡ y) → (r q : Reply) → IsFields r T → IsFields q T → r ≡ q
+one_fields : (T : Reference → Type 0) → ((x y : Reference) → T x → T y → x ≡ y) → (r q : Reply) → IsFields r T →
+    IsFields q T → r ≡ q
 one_fields T one (Fields x) (Fields y) p g = ap (λ (z : Reference). Fields z) (one x y p g)
 one_fields T one (Fields x) (Paths fs) p g = absurd g
 one_fields T one (Fields x) (Held n) p g = absurd g
@@ -56,14 +65,16 @@ one_fields T one (Paths es) q p g = absurd p
 one_fields T one (Held n) q p g = absurd p
 
 -- a path of a name has one answer
-pub one_has : (c : Content) → IsContent c → (name : List ℕ) (A B : Answer) → HasAnswer c name A → HasAnswer c name B → A ≡ B
+pub one_has : (c : Content) → IsContent c → (name : List ℕ) (A B : Answer) → HasAnswer c name A → HasAnswer c name B →
+    A ≡ B
 one_has c i name A B p q =
     let path_is : Some p.0 ≡ Some q.0 = sym p.1 ∙ q.1 in
     let same_path : p.0 ≡ q.0 = cc in
     let answer : Encodes c.map p.0 B = subst (λ (Q : Path). Encodes c.map Q B) (sym same_path) q.2 in
     one_answer c.map i.map p.0 (named_path c.paths name p.0 i.paths p.1) A B p.2 answer
 
-one_shown : (c : Content) (name : List ℕ) → IsContent c → (es fs : List Entry) → Shown c name es → Shown c name fs → es ≡ fs
+one_shown : (c : Content) (name : List ℕ) → IsContent c → (es fs : List Entry) → Shown c name es → Shown c name fs →
+    es ≡ fs
 one_shown c name i es fs p q =
     let same : p.0 ≡ q.0 = one_has c i name p.0 q.0 p.1 q.1 in
     p.2 ∙ (λ k. entry name (same k) ∷ []) ∙ sym q.2
@@ -74,17 +85,23 @@ one_explained text x y p q =
     let bytes : p.0 ≡ q.0 = cc in
     one_spelled x y p.2.0 q.2.0 (sym p.2.1 ∙ bytes ∙ q.2.1)
 
-one_difference : (s t : Content) → IsContent t → (r q : Reply) → IsPaths r (Differences s t) → IsPaths q (Differences s t) → r ≡ q
-one_difference s t j r q p g = one_paths (Differences s t) (λ es fs. one_changed s t.map j.map t.paths es fs j.paths) r q p g
+one_difference : (s t : Content) → IsContent t → (r q : Reply) → IsPaths r (Differences s t) →
+    IsPaths q (Differences s t) → r ≡ q
+one_difference s t j r q p g =
+    one_paths (Differences s t) (λ es fs. one_changed s t.map j.map t.paths es fs j.paths) r q p g
 
-one_held : (b : Option (List Change)) (s t : Content) → IsContent t → (r q : Reply) → IsChangeReply b s t r → IsChangeReply b s t q → r ≡ q
+one_held : (b : Option (List Change)) (s t : Content) → IsContent t → (r q : Reply) → IsChangeReply b s t r →
+    IsChangeReply b s t q → r ≡ q
 one_held None s t j r q p g = one_difference s t j r q p g
 one_held (Some xs) s t j r q p g = p ∙ sym g
 
-pub one_reply : (s t : State) (c : Command) (r q : Reply) → IsState s → IsState t → IsReply s c t r → IsReply s c t q → r ≡ q
+pub one_reply : (s t : State) (c : Command) (r q : Reply) → IsState s → IsState t → IsReply s c t r → IsReply s c t q →
+    r ≡ q
 one_reply s t (Make x) r q i j p g = one_held s.batch s.content t.content j.content r q p g
 one_reply s t (Show name) r q i j p g = one_paths (Shown s.content name) (one_shown s.content name i.content) r q p g
-one_reply s t Report r q i j p g = one_paths (AllOf s.content.map s.content.paths) (λ es fs. one_all s.content.map i.content.map s.content.paths es fs i.content.paths) r q p g
+one_reply s t Report r q i j p g =
+    one_paths (AllOf s.content.map s.content.paths)
+    (λ es fs. one_all s.content.map i.content.map s.content.paths es fs i.content.paths) r q p g
 one_reply s t (Explain text) r q i j p g = one_fields (Explained text) (one_explained text) r q p g
 one_reply s t Begin r q i j p g = p ∙ sym g
 one_reply s t (Commit count) r q i j p g = one_difference s.content t.content j.content r q p g

@@ -1,18 +1,23 @@
 -- An accepted command has a reply.
-use Rattle.std.proofs.Common.{inl, inr, ◌⊎◌, ◌≡◌, ◌≢◌, ℕ, suc, true, false, not, List, [], ◌∷◌, length, Option, Some, None, is_some, Ok, IsTrue, refl, sym, ap, ◌∙◌, subst}
+use Rattle.std.proofs.Common.{inl, inr, ◌⊎◌, ◌≡◌, ◌≢◌, ℕ, suc, true, false, not, List, [], ◌∷◌, length, Option, Some}
+use Rattle.std.proofs.Common.{None, is_some, Ok, IsTrue, refl, sym, ap, ◌∙◌, subst}
 use Rattle.std.specs.Prelude.{◌==◌}
 use Rattle.std.proofs.lemmas.Bool.{cases_Bool, both_ways, eqb-true, eqb-false}
 use lib.Pointwise.{bytes_decides}
 use Rattle.olr_spec.specs.Map.{Map, IsMap}
 use Rattle.olr_spec.specs.Extension.{Path, is_path}
 use Rattle.olr_spec.specs.Reference.{Reference}
-use Rattle.olr_spec.specs.Encoding.{Answer, Points, Refused, Refusal, Unknown_line, Broken, Offset_too_long, No_next_point, Encodes}
+use Rattle.olr_spec.specs.Encoding.{Answer, Points, Refused, Refusal, Unknown_line, Broken, Offset_too_long}
+use Rattle.olr_spec.specs.Encoding.{No_next_point, Encodes}
 use Rattle.olr_spec.specs.Bytes.{IsReference, spelling}
 use Rattle.olr_spec.proofs.DecideLemmas.{some_answer}
 use Rattle.olr_spec.proofs.FitLemmas.{encoded_fits}
 use Rattle.olr_spec.proofs.BytesLemmas.{one_spelled}
-use Rattle.olr_commands.specs.State.{Named, Content, path_named, same_name, ArePaths, IsContent, has_path, No_path, Change, Command, Make, Show, Report, Explain, Begin, Commit, Abort, HasPlaces, State, step, IsState}
-use Rattle.olr_commands.specs.Reply.{Entry, entry, Reply, Paths, Held, HasAnswer, AllOf, ChangedOf, Differences, Shown, IsChangeReply, IsReply}
+use Rattle.olr_commands.specs.State.{Named, Content, path_named, same_name, ArePaths, IsContent, has_path, No_path}
+use Rattle.olr_commands.specs.State.{Change, Command, Make, Show, Report, Explain, Begin, Commit, Abort, HasPlaces}
+use Rattle.olr_commands.specs.State.{State, step, IsState}
+use Rattle.olr_commands.specs.Reply.{Entry, entry, Reply, Paths, Held, HasAnswer, AllOf, ChangedOf, Differences, Shown}
+use Rattle.olr_commands.specs.Reply.{IsChangeReply, IsReply}
 use Rattle.olr_commands.proofs.StateLemmas.{when_ok, steps_keep}
 use Rattle.olr_commands.proofs.ReplyLemmas.{named_path, one_has}
 
@@ -36,9 +41,12 @@ lists_decide xs ys =
 -- a refusal by its kind and its number
 refusals_decide : (x y : Refusal) → Is_or_not x y
 unfolding Is_or_not
-refusals_decide (Unknown_line n) (Unknown_line m) = elim (numbers_decide n m) [ inl e ↦ inl (ap (λ (k : ℕ). Unknown_line k) e) | inr ne ↦ inr (λ e. ne cc) ]
-refusals_decide (Broken n) (Broken m) = elim (numbers_decide n m) [ inl e ↦ inl (ap (λ (k : ℕ). Broken k) e) | inr ne ↦ inr (λ e. ne cc) ]
-refusals_decide (No_next_point n) (No_next_point m) = elim (numbers_decide n m) [ inl e ↦ inl (ap (λ (k : ℕ). No_next_point k) e) | inr ne ↦ inr (λ e. ne cc) ]
+refusals_decide (Unknown_line n) (Unknown_line m) =
+    elim (numbers_decide n m) [ inl e ↦ inl (ap (λ (k : ℕ). Unknown_line k) e) | inr ne ↦ inr (λ e. ne cc) ]
+refusals_decide (Broken n) (Broken m) =
+    elim (numbers_decide n m) [ inl e ↦ inl (ap (λ (k : ℕ). Broken k) e) | inr ne ↦ inr (λ e. ne cc) ]
+refusals_decide (No_next_point n) (No_next_point m) =
+    elim (numbers_decide n m) [ inl e ↦ inl (ap (λ (k : ℕ). No_next_point k) e) | inr ne ↦ inr (λ e. ne cc) ]
 refusals_decide Offset_too_long Offset_too_long = inl refl
 refusals_decide (Unknown_line n) (Broken m) = inr (λ e. absurd cc)
 refusals_decide (Unknown_line n) Offset_too_long = inr (λ e. absurd cc)
@@ -65,7 +73,8 @@ answers_decide (Points r) (Points q) f g =
       | inl e ↦ inl (ap (λ (x : Reference). Points x) (one_spelled r q f g e))
       | inr ne ↦ inr (λ e. let same : r ≡ q = cc in ne (ap spelling same))
     ]
-answers_decide (Refused x) (Refused y) f g = elim (refusals_decide x y) [ inl e ↦ inl (ap (λ (k : Refusal). Refused k) e) | inr ne ↦ inr (λ e. ne cc) ]
+answers_decide (Refused x) (Refused y) f g =
+    elim (refusals_decide x y) [ inl e ↦ inl (ap (λ (k : Refusal). Refused k) e) | inr ne ↦ inr (λ e. ne cc) ]
 answers_decide (Points r) (Refused y) f g = inr (λ e. absurd cc)
 answers_decide (Refused x) (Points q) f g = inr (λ e. absurd cc)
 
@@ -90,7 +99,8 @@ had c i name A f = by_path (path_named c.paths name) refl where
         | inr other ↦ inr (λ h. other (one_has c i name A some.0 h (P, e, some.1)))
       ]
 
-some_changed : (c : Content) → IsContent c → (M : Map) → IsMap M → (ps : List Named) → ArePaths ps → (es : List Entry) × ChangedOf c M ps es
+some_changed : (c : Content) → IsContent c → (M : Map) → IsMap M → (ps : List Named) → ArePaths ps → (es : List Entry)
+    × ChangedOf c M ps es
 some_changed c i M m [] a = ([], refl)
 some_changed c i M m (p ∷ ps) a =
     let some = some_answer M m p.path a.0 in
@@ -107,7 +117,8 @@ some_all M m (p ∷ ps) a =
     let rest = some_all M m ps a.1 in
     (entry p.name some.0 ∷ rest.0, (some.0, rest.0, some.1, rest.1, refl))
 
-some_shown : (c : Content) → IsContent c → (name : List ℕ) → not (has_path c name) ≡ false → (es : List Entry) × Shown c name es
+some_shown : (c : Content) → IsContent c → (name : List ℕ) → not (has_path c name) ≡ false → (es : List Entry)
+    × Shown c name es
 some_shown c i name h = by_path (path_named c.paths name) refl where
   by_path : (o : Option Path) → path_named c.paths name ≡ o → (es : List Entry) × Shown c name es
   by_path None e = absurd (both_ways true (ap (λ (o : Option Path). not (is_some o)) (sym e) ∙ h) refl)
@@ -118,15 +129,22 @@ some_shown c i name h = by_path (path_named c.paths name) refl where
 some_difference : (c d : Content) → IsContent c → IsContent d → (es : List Entry) × Differences c d es
 some_difference c d i j = some_changed c i d.map j.map d.paths j.paths
 
-some_held : (b : Option (List Change)) (c d : Content) → IsContent c → IsContent d → (reply : Reply) × IsChangeReply b c d reply
+some_held : (b : Option (List Change)) (c d : Content) → IsContent c → IsContent d → (reply : Reply)
+    × IsChangeReply b c d reply
 some_held None c d i j = let es = some_difference c d i j in (Paths es.0, es.1)
 some_held (Some xs) c d i j = (Held (suc (length xs)), refl)
 
-pub some_reply : (s t : State) (c : Command) → IsState s → HasPlaces c → step s c ≡ Ok t → ((text : List ℕ) → c ≢ Explain text) → (reply : Reply) × IsReply s c t reply
-some_reply s t (Make x) i h is n = some_held s.batch s.content t.content i.content (steps_keep s t (Make x) i h is).content
-some_reply s t (Show name) i h is n = let es = some_shown s.content i.content name (when_ok (not (has_path s.content name)) No_path (Ok s) t is).0 in (Paths es.0, es.1)
-some_reply s t Report i h is n = let es = some_all s.content.map i.content.map s.content.paths i.content.paths in (Paths es.0, es.1)
+pub some_reply : (s t : State) (c : Command) → IsState s → HasPlaces c → step s c ≡ Ok t →
+    ((text : List ℕ) → c ≢ Explain text) → (reply : Reply) × IsReply s c t reply
+some_reply s t (Make x) i h is n =
+    some_held s.batch s.content t.content i.content (steps_keep s t (Make x) i h is).content
+some_reply s t (Show name) i h is n = let es =
+    some_shown s.content i.content name (when_ok (not (has_path s.content name)) No_path (Ok s) t is).0 in
+    (Paths es.0, es.1)
+some_reply s t Report i h is n = let es =
+    some_all s.content.map i.content.map s.content.paths i.content.paths in (Paths es.0, es.1)
 some_reply s t (Explain text) i h is n = absurd (n text refl)
 some_reply s t Begin i h is n = (Paths [], refl)
-some_reply s t (Commit count) i h is n = let es = some_difference s.content t.content i.content (steps_keep s t (Commit count) i h is).content in (Paths es.0, es.1)
+some_reply s t (Commit count) i h is n = let es =
+    some_difference s.content t.content i.content (steps_keep s t (Commit count) i h is).content in (Paths es.0, es.1)
 some_reply s t Abort i h is n = (Paths [], refl)

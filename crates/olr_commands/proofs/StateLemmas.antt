@@ -1,27 +1,37 @@
 -- What changes and commands keep of the register.
-use Rattle.std.proofs.Common.{◌≡◌, ℕ, ◌+◌, ◌≤◌, arith, Bool, true, false, not, List, [], ◌∷◌, ◌++◌, map, filter, length, Option, Some, None, Result, Ok, Err, refl, sym, ap, ◌∙◌, subst}
+use Rattle.std.proofs.Common.{◌≡◌, ℕ, ◌+◌, ◌≤◌, arith, Bool, true, false, not, List, [], ◌∷◌, ◌++◌, map, filter, length}
+use Rattle.std.proofs.Common.{Option, Some, None, Result, Ok, Err, refl, sym, ap, ◌∙◌, subst}
 use Rattle.std.specs.Prelude.{nat_le, ◌==◌, IfSome}
 use Rattle.std.specs.Result.{result_unwrap_or}
 use Rattle.std.proofs.lemmas.Bool.{not-false, leb-false}
 use Rattle.olr_spec.specs.Map.{Map, IsMap, MapFault, edited}
 use Rattle.olr_spec.specs.Extension.{is_path}
-use Rattle.olr_commands.specs.State.{Named, Content, has_path, same_name, with_path, TextFault, Fault, Path_exists, No_path, Bad_path, Batch_full, Count_differs, when, Change, On_map, Add_path, Set_path, Drop_path, with_map, with_change, next, after, Command, Make, Show, Report, Explain, Begin, Commit, Abort, State, full, at_once, into_batch, text_fault, unless_fault, step, IsContent, AllAccepted, IsBatch, IsState, HasPlaces}
+use Rattle.olr_commands.specs.State.{Named, Content, has_path, same_name, with_path, TextFault, Fault, Path_exists}
+use Rattle.olr_commands.specs.State.{No_path, Bad_path, Batch_full, Count_differs, when, Change, On_map, Add_path}
+use Rattle.olr_commands.specs.State.{Set_path, Drop_path, with_map, with_change, next, after, Command, Make, Show}
+use Rattle.olr_commands.specs.State.{Report, Explain, Begin, Commit, Abort, State, full, at_once, into_batch}
+use Rattle.olr_commands.specs.State.{text_fault, unless_fault, step, IsContent, AllAccepted, IsBatch, IsState}
+use Rattle.olr_commands.specs.State.{HasPlaces}
 use Rattle.olr_spec.proofs.EditLemmas.{edits_keep}
 use Rattle.olr_commands.proofs.NameLemmas.{differ_push, differ_set, differ_filter, paths_push, paths_set, paths_filter}
+use Rattle.std.proofs.lemmas.List.{length_push}
 
-pub when_ok : {A : Type 0} (b : Bool) (f : Fault) (r : Result A Fault) (x : A) → when b f r ≡ Ok x → (b ≡ false) × (r ≡ Ok x)
+pub when_ok : {A : Type 0} (b : Bool) (f : Fault) (r : Result A Fault) (x : A) → when b f r ≡ Ok x → (b ≡ false)
+    × (r ≡ Ok x)
 when_ok true f r x e = absurd cc
 when_ok false f r x e = (refl, e)
 
 -- ---- changes
 
-map_keeps : (c d : Content) (r : Result Map MapFault) → ((m : Map) → r ≡ Ok m → IsMap m) → IsContent c → with_map c r ≡ Ok d → IsContent d
+map_keeps : (c d : Content) (r : Result Map MapFault) → ((m : Map) → r ≡ Ok m → IsMap m) → IsContent c →
+    with_map c r ≡ Ok d → IsContent d
 map_keeps c d (Ok m) sound i e =
     let is : record c { map = m } ≡ d = cc in
     subst IsContent is (record { map = sound m refl; paths = i.paths; names = i.names })
 map_keeps c d (Err f) sound i e = absurd cc
 
-pub changes_keep : (c d : Content) (x : Change) → IsContent c → HasPlaces (Make x) → with_change c x ≡ Ok d → IsContent d
+pub changes_keep : (c d : Content) (x : Change) → IsContent c → HasPlaces (Make x) → with_change c x ≡ Ok d →
+    IsContent d
 changes_keep c d (On_map e) i h is = map_keeps c d (edited c.map e) (λ m ok. edits_keep c.map m e i.map h ok) i is
 changes_keep c d (Add_path name path) i h is =
     let to = record c { paths = c.paths ++ record { name = name; path = path } ∷ [] } in
@@ -29,18 +39,32 @@ changes_keep c d (Add_path name path) i h is =
     let q = when_ok (not (is_path path.lines)) Bad_path (Ok to) d p.1 in
     let same : to ≡ d = cc in
     let n : Named = record { name = name; path = path } in
-    subst IsContent same (record { map = i.map; paths = paths_push c.paths n i.paths (not-false (is_path path.lines) q.0); names = differ_push c.paths n i.names p.0 })
+    subst IsContent same (record {
+      map = i.map;
+      paths =
+          paths_push c.paths n i.paths (not-false (is_path path.lines) q.0);
+      names = differ_push c.paths n i.names p.0;
+    })
 changes_keep c d (Set_path name path) i h is =
     let to = record c { paths = map (with_path name path) c.paths } in
     let p = when_ok (not (has_path c name)) No_path (when (not (is_path path.lines)) Bad_path (Ok to)) d is in
     let q = when_ok (not (is_path path.lines)) Bad_path (Ok to) d p.1 in
     let same : to ≡ d = cc in
-    subst IsContent same (record { map = i.map; paths = paths_set name path c.paths i.paths (not-false (is_path path.lines) q.0); names = differ_set name path c.paths i.names })
+    subst IsContent same (record {
+      map = i.map;
+      paths =
+          paths_set name path c.paths i.paths (not-false (is_path path.lines) q.0);
+      names = differ_set name path c.paths i.names;
+    })
 changes_keep c d (Drop_path name) i h is =
     let to = record c { paths = filter (λ p. not (same_name p.name name)) c.paths } in
     let p = when_ok (not (has_path c name)) No_path (Ok to) d is in
     let same : to ≡ d = cc in
-    subst IsContent same (record { map = i.map; paths = paths_filter (λ p. not (same_name p.name name)) c.paths i.paths; names = differ_filter (λ p. not (same_name p.name name)) c.paths i.names })
+    subst IsContent same (record {
+      map = i.map;
+      paths = paths_filter (λ p. not (same_name p.name name)) c.paths i.paths;
+      names = differ_filter (λ p. not (same_name p.name name)) c.paths i.names;
+    })
 
 -- ---- batches
 
@@ -55,19 +79,17 @@ pub after_append : (c : Content) (xs ys : List Change) → after c (xs ++ ys) �
 after_append c [] ys = refl
 after_append c (x ∷ xs) ys = after_append (next c x) xs ys
 
-accepted_push : (c : Content) (xs : List Change) (x : Change) → AllAccepted c xs → with_change (after c xs) x ≡ Ok (next (after c xs) x) → AllAccepted c (xs ++ x ∷ [])
+accepted_push : (c : Content) (xs : List Change) (x : Change) → AllAccepted c xs →
+    with_change (after c xs) x ≡ Ok (next (after c xs) x) → AllAccepted c (xs ++ x ∷ [])
 accepted_push c [] x a e = (e, tt)
 accepted_push c (y ∷ xs) x a e = (a.0, accepted_push (next c y) xs x a.1 e)
-
-pub length_push : {A : Type 0} (xs : List A) (x : A) → length (xs ++ x ∷ []) ≡ length xs + 1
-length_push [] x = refl
-length_push (y ∷ xs) x = let rest = length_push xs x in omega arith
 
 -- where there was room there is room for one more
 few_more : (n : ℕ) → nat_le full n ≡ false → n + 1 ≤ full
 few_more n h = let below = leb-false full n h in omega arith
 
-hold : (c : Content) (xs : List Change) (x : Change) (r : Result Content Fault) (t : State) → with_change (after c xs) x ≡ r → nat_le full (length xs) ≡ false
+hold : (c : Content) (xs : List Change) (x : Change) (r : Result Content Fault) (t : State) →
+    with_change (after c xs) x ≡ r → nat_le full (length xs) ≡ false
     → IsContent c → HasPlaces (Make x) → IsBatch c xs → into_batch c (xs ++ x ∷ []) r ≡ Ok t → IsState t
 hold c xs x (Ok d) t is room i h b e =
     let to : State = record { content = c; batch = Some (xs ++ x ∷ []) } in
@@ -86,7 +108,8 @@ hold c xs x (Err f) t is room i h b e = absurd cc
 
 -- ---- commands
 
-make : (c : Content) (x : Change) (r : Result Content Fault) (t : State) → with_change c x ≡ r → IsContent c → HasPlaces (Make x) → at_once r ≡ Ok t → IsState t
+make : (c : Content) (x : Change) (r : Result Content Fault) (t : State) → with_change c x ≡ r → IsContent c →
+    HasPlaces (Make x) → at_once r ≡ Ok t → IsState t
 make c x (Ok e) t is i h m =
     let to : State = record { content = e; batch = None } in
     let same : to ≡ t = cc in
@@ -99,17 +122,21 @@ explain s t (Some f) i e = absurd cc
 
 pub steps_keep : (s t : State) (c : Command) → IsState s → HasPlaces c → step s c ≡ Ok t → IsState t
 steps_keep s t c i h is = steps s.content s.batch t c i.content i.batch h is where
-  steps : (c : Content) (b : Option (List Change)) (t : State) (x : Command) → IsContent c → IfSome b (IsBatch c) → HasPlaces x → step (record { content = c; batch = b }) x ≡ Ok t → IsState t
+  steps : (c : Content) (b : Option (List Change)) (t : State) (x : Command) → IsContent c → IfSome b (IsBatch c) →
+      HasPlaces x → step (record { content = c; batch = b }) x ≡ Ok t → IsState t
   steps c None t (Make x) i b h is = make c x (with_change c x) t refl i h is
   steps c (Some xs) t (Make x) i b h is =
-      let p = when_ok (nat_le full (length xs)) Batch_full (into_batch c (xs ++ x ∷ []) (with_change (after c xs) x)) t is in
+      let p =
+      when_ok (nat_le full (length xs)) Batch_full (into_batch c (xs ++ x ∷ []) (with_change (after c xs) x)) t is in
       hold c xs x (with_change (after c xs) x) t refl p.0 i h b p.1
   steps c b t (Show name) i k h is =
       let p = when_ok (not (has_path c name)) No_path (Ok (record { content = c; batch = b })) t is in
       let same : record { content = c; batch = b } ≡ t = cc in
       subst IsState same (record { content = i; batch = k })
-  steps c b t Report i k h is = let same : record { content = c; batch = b } ≡ t = cc in subst IsState same (record { content = i; batch = k })
-  steps c b t (Explain text) i k h is = explain (record { content = c; batch = b }) t (text_fault text) (record { content = i; batch = k }) is
+  steps c b t Report i k h is = let same : record { content = c; batch = b } ≡ t =
+      cc in subst IsState same (record { content = i; batch = k })
+  steps c b t (Explain text) i k h is =
+      explain (record { content = c; batch = b }) t (text_fault text) (record { content = i; batch = k }) is
   steps c None t Begin i k h is =
       let same : record { content = c; batch = Some [] } ≡ t = cc in
       subst IsState same (record { content = i; batch = record { accepted = tt; sound = i; few = omega arith } })
@@ -121,4 +148,5 @@ steps_keep s t c i h is = steps s.content s.batch t c i.content i.batch h is whe
       let same : to ≡ t = cc in
       subst IsState same (record { content = k.sound; batch = tt })
   steps c None t Abort i k h is = absurd cc
-  steps c (Some xs) t Abort i k h is = let same : record { content = c; batch = None } ≡ t = cc in subst IsState same (record { content = i; batch = tt })
+  steps c (Some xs) t Abort i k h is = let same : record { content = c; batch = None } ≡ t =
+      cc in subst IsState same (record { content = i; batch = tt })

@@ -6,7 +6,8 @@ use Rattle.std.specs.Prelude.{◌≡◌, ℕ, suc, List, [], ◌∷◌, ◌++◌
 use Rattle.std.specs.List.{list_any}
 use Rattle.olr_spec.specs.Map.{Map, touched_nodes, touched_lines, has}
 use Rattle.olr_spec.specs.Footprint.{Foot}
-use Rattle.olr_commands.specs.State.{Named, Content, same_name, Change, On_map, Add_path, Set_path, next, State, Command, changes_made}
+use Rattle.olr_commands.specs.State.{Named, Content, same_name, Change, On_map, Add_path, Set_path, next, State}
+use Rattle.olr_commands.specs.State.{Command, changes_made}
 
 -- the nodes and the lines that a change touches, and the path that it gives
 abbrev pub nodes_of_change : Map → Change → List ℕ

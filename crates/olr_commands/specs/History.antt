@@ -1,9 +1,10 @@
 -- Whole runs of commands, and what is claimed of them.
---     Run Step s xs os t      the first of xs have these outcomes, one after another, and lead from s to t; Step says what that is for one
---     Whole Step s xs os t      so do all of xs.        History s cs os t      a whole run of commands
---     all_changes_made asked s xs os      the changes that the accepted commands bring, where each of xs asks for a command or for none
---     IsPublished, IsJoined, IsNamed, IsRefused      the four claims.        Headline      all of them, of one run
-use Rattle.std.specs.Prelude.{◌≡◌, ℕ, Bool, true, false, List, [], ◌∷◌, ◌++◌, length, Option, Some, None, IfSome, Ok, Err, IsTrue, ◌↔◌}
+--     Run Step s xs os t the first of xs have these outcomes, one after another, and lead from s to t; Step says what
+--     that is for one Whole Step s xs os t so do all of xs. History s cs os t a whole run of commands all_changes_made
+--     asked s xs os the changes that the accepted commands bring, where each of xs asks for a command or for none
+--     IsPublished, IsJoined, IsNamed, IsRefused the four claims. Headline all of them, of one run
+use Rattle.std.specs.Prelude.{◌≡◌, ℕ, Bool, true, false, List, [], ◌∷◌, ◌++◌, length, Option, Some, None, IfSome, Ok}
+use Rattle.std.specs.Prelude.{Err, IsTrue, ◌↔◌}
 use Rattle.std.specs.Result.{result_unwrap_or}
 use Rattle.std.specs.List.{list_any, AllByRecursion}
 use Rattle.olr_spec.specs.Map.{Map}
@@ -12,7 +13,8 @@ use Rattle.olr_spec.specs.Points.{OfPath}
 use Rattle.olr_spec.specs.Reference.{Reference, legs, kept, reference}
 use Rattle.olr_spec.specs.Joins.{Joins}
 use Rattle.olr_spec.specs.Encoding.{Answer, Points, Encodes}
-use Rattle.olr_commands.specs.State.{Content, path_named, same_name, Fault, Change, after, IsContent, State, start_state, Command, Make, Commit, HasPlaces, step, changes_made, IsState}
+use Rattle.olr_commands.specs.State.{Content, path_named, same_name, Fault, Change, after, IsContent, State}
+use Rattle.olr_commands.specs.State.{start_state, Command, Make, Commit, HasPlaces, step, changes_made, IsState}
 use Rattle.olr_commands.specs.Reply.{Entry, entry, Paths, HasAnswer, Published, Differences, Outcome, IsOutcome}
 
 -- ---- runs
@@ -22,7 +24,8 @@ Run Step s xs [] t = s ≡ t
 Run Step s [] (o ∷ os) t = ⊥
 Run Step s (x ∷ xs) (o ∷ os) t = (mid : State) × Step s x o mid × Run Step mid xs os t
 
-abbrev pub Whole : {A : Type 0} → (State → A → Outcome → State → Type 0) → State → List A → List Outcome → State → Type 0
+abbrev pub Whole : {A : Type 0} → (State → A → Outcome → State → Type 0) → State → List A → List Outcome → State →
+    Type 0
 Whole Step s xs os t = (length os ≡ length xs) × Run Step s xs os t
 
 abbrev pub History : State → List Command → List Outcome → State → Type 0
@@ -44,7 +47,8 @@ brought_by s (Some c) = changes_made s c
 abbrev pub all_changes_made : {A : Type 0} → (A → Option Command) → State → List A → List Outcome → List Change
 all_changes_made asked s [] os = []
 all_changes_made asked s (x ∷ xs) [] = []
-all_changes_made asked s (x ∷ xs) (Ok reply ∷ os) = brought_by s (asked x) ++ all_changes_made asked (next_state s (asked x)) xs os
+all_changes_made asked s (x ∷ xs) (Ok reply ∷ os) =
+    brought_by s (asked x) ++ all_changes_made asked (next_state s (asked x)) xs os
 all_changes_made asked s (x ∷ xs) (Err fault ∷ os) = all_changes_made asked s xs os
 
 -- ---- published answers
@@ -55,28 +59,34 @@ pub record OneOf (M : Map) (P : Path) : Type 0 where
   pub encodes : Encodes M P answer
   pub only : (B : Answer) → Encodes M P B → B ≡ answer
 
--- the later content is what these changes make of the earlier one; each of its paths has exactly one answer on its map, and that one is published
+-- the later content is what these changes make of the earlier one; each of its paths has exactly one answer on its map,
+-- and that one is published
 pub record IsPublished (before : Content) (changes : List Change) (later : Content) : Type 0 where
   pub content : later ≡ after before changes
-  pub answers : (name : List ℕ) (P : Path) → path_named later.paths name ≡ Some P → (one : OneOf later.map P) × ((answer : Option Answer) → Published later name answer → answer ≡ Some one.answer)
+  pub answers : (name : List ℕ) (P : Path) → path_named later.paths name ≡ Some P → (one : OneOf later.map P)
+      × ((answer : Option Answer) → Published later name answer → answer ≡ Some one.answer)
 
 -- ---- routes that join
 
 -- the sole routes between the points of a reference join to the extended path
 abbrev pub Joined : Map → Path → Reference → Type 0
 Joined M P r =
-    OfPath M P (λ E _ _ js. (r ≡ reference (legs M E.lines) E.pos E.neg js) × Joins M E.lines (kept (legs M E.lines) E.pos E.neg js))
+    OfPath M P (λ E _ _ js. (r ≡ reference (legs M E.lines) E.pos E.neg js)
+    × Joins M E.lines (kept (legs M E.lines) E.pos E.neg js))
 
 -- those of each path's reference do
 abbrev pub IsJoined : Content → Type 0
-IsJoined c = (name : List ℕ) (r : Reference) → HasAnswer c name (Points r) → (P : Path) × (path_named c.paths name ≡ Some P) × Joined c.map P r
+IsJoined c =
+    (name : List ℕ) (r : Reference) → HasAnswer c name (Points r) → (P : Path) × (path_named c.paths name ≡ Some P)
+    × Joined c.map P r
 
 -- ---- replies that name what changed
 
 abbrev pub names : List Entry → List ℕ → Type 0
 names es name = IsTrue (list_any (λ e. same_name e.name name) es)
 
--- an entry stands for each path of the later content whose answer was not its own before, and for no other, and each tells its answer
+-- an entry stands for each path of the later content whose answer was not its own before, and for no other, and each
+-- tells its answer
 abbrev pub NamesChanged : Content → Content → List Entry → Type 0
 NamesChanged before later es =
     ((name : List ℕ) → names es name ↔ ((A : Answer) × HasAnswer later name A × ¬ HasAnswer before name A))
@@ -98,7 +108,8 @@ IsRefused s o t = (fault : Fault) → o ≡ Err fault → t ≡ s
 
 -- ---- the four claims, of one run
 
-pub record Headline {A : Type 0} (Step : State → A → Outcome → State → Type 0) (asked : A → Option Command) (s : State) (xs : List A) (os : List Outcome) (t : State) : Type 0 where
+pub record Headline {A : Type 0} (Step : State → A → Outcome → State → Type 0) (asked : A → Option Command) (s : State)
+    (xs : List A) (os : List Outcome) (t : State) : Type 0 where
   pub run : Run Step s xs os t
   pub published : IsPublished s.content (all_changes_made asked s xs os) t.content
   pub joined : IsJoined t.content
@@ -117,7 +128,9 @@ abbrev pub RoutesOfReferences : Type 0
 RoutesOfReferences = (c : Content) → IsJoined c
 
 abbrev pub RepliesName : Type 0
-RepliesName = (before later : Content) (es : List Entry) → IsContent later → Differences before later es → NamesChanged before later es
+RepliesName =
+    (before later : Content) (es : List Entry) → IsContent later → Differences before later es →
+    NamesChanged before later es
 
 -- a content has no differences from itself
 abbrev pub NoDifferences : Type 0

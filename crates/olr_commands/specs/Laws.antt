@@ -1,7 +1,8 @@
 -- The laws of the definitions.
 use Rattle.std.specs.Prelude.{◌≡◌, ◌≢◌, ℕ, List, [], None, Ok, IsFalse}
 use Rattle.olr_spec.specs.Extension.{Path}
-use Rattle.olr_commands.specs.State.{Content, Add_path, Set_path, Make, State, Command, Explain, Begin, Commit, Abort, HasPlaces, IsState, step, changes_made}
+use Rattle.olr_commands.specs.State.{Content, Add_path, Set_path, Make, State, Command, Explain, Begin, Commit, Abort}
+use Rattle.olr_commands.specs.State.{HasPlaces, IsState, step, changes_made}
 use Rattle.olr_commands.specs.Reply.{Reply, IsReply, Outcome, IsOutcome, lacks_memory}
 use Rattle.olr_commands.specs.Counts.{Raises}
 
@@ -17,7 +18,8 @@ abbrev pub EmptyCommit : Type 0
 EmptyCommit = (s t u : State) → step s Begin ≡ Ok t → step t (Commit 0) ≡ Ok u → u ≡ s
 
 abbrev pub AbortGivesBack : Type 0
-AbortGivesBack = (c : Content) (b u : State) → b.content ≡ c → step b Abort ≡ Ok u → u ≡ record { content = c; batch = None }
+AbortGivesBack =
+    (c : Content) (b u : State) → b.content ≡ c → step b Abort ≡ Ok u → u ≡ record { content = c; batch = None }
 
 -- the count rises by one number, and by none for the commands that bring nothing
 abbrev pub OneRise : Type 0
@@ -29,12 +31,15 @@ NoRise = (s t : State) (c : Command) (n : ℕ) → changes_made s c ≡ [] → R
 -- want of memory aside, a command has one outcome
 abbrev pub OneOutcome : Type 0
 OneOutcome =
-    (s t u : State) (c : Command) (o q : Outcome) → IsState s → HasPlaces c → IsFalse (lacks_memory o) → IsFalse (lacks_memory q)
+    (s t u : State) (c : Command) (o q : Outcome) → IsState s → HasPlaces c → IsFalse (lacks_memory o) →
+    IsFalse (lacks_memory q)
     → IsOutcome s c o t → IsOutcome s c q u → (o ≡ q) × (t ≡ u)
 
 -- an accepted command has a reply; of explain that is what reading the bytes shows
 abbrev pub SomeReply : Type 0
-SomeReply = (s t : State) (c : Command) → IsState s → HasPlaces c → step s c ≡ Ok t → ((text : List ℕ) → c ≢ Explain text) → (reply : Reply) × IsReply s c t reply
+SomeReply =
+    (s t : State) (c : Command) → IsState s → HasPlaces c → step s c ≡ Ok t → ((text : List ℕ) → c ≢ Explain text) →
+    (reply : Reply) × IsReply s c t reply
 
 -- outside of batches an added or a set path raises it by one
 abbrev pub PathsRaiseOne : Type 0

@@ -3,7 +3,8 @@
 --     Published c name answer, PublishedText c name text      what stands published under a name
 --     IsReply s c t reply      the reply to an accepted command that leads from s to t
 --     IsOutcome s c outcome t      the command may lead from s to t with this reply, or this fault
-use Rattle.std.specs.Prelude.{◌≡◌, ℕ, suc, Bool, true, false, not, ◌&&◌, List, [], ◌∷◌, length, Option, Some, None, option_and_then, IsSomeAnd, MatchOption, Result, Ok, Err, ◌⊎◌, IsTrue}
+use Rattle.std.specs.Prelude.{◌≡◌, ℕ, suc, Bool, true, false, not, ◌&&◌, List, [], ◌∷◌, length, Option, Some, None}
+use Rattle.std.specs.Prelude.{option_and_then, IsSomeAnd, MatchOption, Result, Ok, Err, ◌⊎◌, IsTrue}
 use Rattle.std.specs.Result.{result_ok}
 use Rattle.base64.specs.Engines.{standard}
 use Rattle.base64.specs.GeneralPurpose.{decoded_of}
@@ -13,7 +14,10 @@ use Rattle.olr_spec.specs.Reference.{Reference}
 use Rattle.olr_spec.specs.Encoding.{Answer, Points, Refused, Refusal, Encodes}
 use Rattle.olr_spec.specs.Bytes.{Spells}
 use Rattle.olr_binary.specs.Text.{text_of}
-use Rattle.olr_commands.specs.State.{Named, Content, path_named, Fault, Syntax, Range, Map_fault, Path_exists, No_path, Bad_path, Not_a_reference, Memory, Batch_open, No_batch, Count_differs, Batch_full, Change, Drop_path, State, Command, Make, Show, Report, Explain, Begin, Commit, Abort, step}
+use Rattle.olr_commands.specs.State.{Named, Content, path_named, Fault, Syntax, Range, Map_fault, Path_exists, No_path}
+use Rattle.olr_commands.specs.State.{Bad_path, Not_a_reference, Memory, Batch_open, No_batch, Count_differs, Batch_full}
+use Rattle.olr_commands.specs.State.{Change, Drop_path, State, Command, Make, Show, Report, Explain, Begin, Commit}
+use Rattle.olr_commands.specs.State.{Abort, step}
 
 -- a path's string, or why it has none
 pub record Entry : Type 0 where
@@ -39,18 +43,22 @@ abbrev pub HasAnswer : Content → List ℕ → Answer → Type 0
 HasAnswer c name A = (P : Path) × (path_named c.paths name ≡ Some P) × Encodes c.map P A
 
 abbrev pub Published : Content → List ℕ → Option Answer → Type 0
-Published c name answer = MatchOption (path_named c.paths name) (answer ≡ None) (λ P. IsSomeAnd answer (λ A. Encodes c.map P A))
+Published c name answer =
+    MatchOption (path_named c.paths name) (answer ≡ None) (λ P. IsSomeAnd answer (λ A. Encodes c.map P A))
 
 -- its string, where it has one
 abbrev pub PublishedText : Content → List ℕ → Option (List ℕ) → Type 0
-PublishedText c name text = (answer : Option Answer) × Published c name answer × (text ≡ option_and_then (λ A. result_ok (published_text A)) answer)
+PublishedText c name text =
+    (answer : Option Answer) × Published c name answer
+    × (text ≡ option_and_then (λ A. result_ok (published_text A)) answer)
 
 -- ---- replies
 
 -- each path with its answer
 abbrev pub AllOf : Map → List Named → List Entry → Type 0
 AllOf M [] es = es ≡ []
-AllOf M (p ∷ ps) es = (A : Answer) × (rest : List Entry) × Encodes M p.path A × AllOf M ps rest × (es ≡ entry p.name A ∷ rest)
+AllOf M (p ∷ ps) es =
+    (A : Answer) × (rest : List Entry) × Encodes M p.path A × AllOf M ps rest × (es ≡ entry p.name A ∷ rest)
 
 -- those that are new, or whose answer is another than before
 abbrev pub ChangedOf : Content → Map → List Named → List Entry → Type 0

@@ -27,8 +27,10 @@ path_along lines positive negative = record { lines = lines; pos = positive; neg
 
 abbrev pub command_of : Command → state.Command
 command_of (command.Edit e) = state.Make (state.On_map (edit_of e))
-command_of (command.AddPath name lines p n) = state.Make (state.Add_path (string_bytes name) (path_along lines.items p n))
-command_of (command.SetPath name lines p n) = state.Make (state.Set_path (string_bytes name) (path_along lines.items p n))
+command_of (command.AddPath name lines p n) =
+    state.Make (state.Add_path (string_bytes name) (path_along lines.items p n))
+command_of (command.SetPath name lines p n) =
+    state.Make (state.Set_path (string_bytes name) (path_along lines.items p n))
 command_of (command.DropPath name) = state.Make (state.Drop_path (string_bytes name))
 command_of (command.Show name) = state.Show (string_bytes name)
 command_of command.Report = state.Report

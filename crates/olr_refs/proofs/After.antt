@@ -1,5 +1,7 @@
 -- The mirror image: a chain that leads from a list of lines, grown by a line at a time.
-use Rattle.std.proofs.Common.{◌⊎◌, inl, inr, ◌≡◌, ◌≢◌, ℕ, ◌+◌, ◌<◌, ◌≤◌, true, false, ◌==◌, List, [], ◌∷◌, ◌++◌, length, get_or, ◌-◌, suc, IsTrue, refl, sym, ap, ◌∙◌, subst, arith, append_assoc, append-nil, length-append}
+use Rattle.std.proofs.Common.{◌⊎◌, inl, inr, ◌≡◌, ◌≢◌, ℕ, ◌+◌, ◌<◌, ◌≤◌, true, false, ◌==◌, List, [], ◌∷◌, ◌++◌, length}
+use Rattle.std.proofs.Common.{get_or, ◌-◌, suc, IsTrue, refl, sym, ap, ◌∙◌, subst, arith, append_assoc, append-nil}
+use Rattle.std.proofs.Common.{length-append}
 use Rattle.std.proofs.lemmas.Bool.{both_ways, cases_Bool, cases_lt, or_from, or_left}
 use Rattle.std.proofs.lemmas.List.Folds.{list_any-append}
 use Rattle.olr_spec.specs.Map.{Map, has_line, start, end, dm, has}
@@ -18,7 +20,8 @@ use Rattle.olr_refs.proofs.Before.{not_has_one}
 follows_another : (M : Map) (z x : ℕ) → start M x ≡ end M z → end M x ≢ start M z → z ≢ x
 follows_another M z x joins onward is = onward (ap (end M) (sym is) ∙ sym joins ∙ ap (start M) (sym is))
 
-pub follows : (M : Map) (z x : ℕ) → IsTrue (has_line M x) → start M x ≡ end M z → IsTrue (passing M (end M z)) → end M x ≢ start M z → MayFollow M (z ∷ []) x
+pub follows : (M : Map) (z x : ℕ) → IsTrue (has_line M x) → start M x ≡ end M z → IsTrue (passing M (end M z)) →
+    end M x ≢ start M z → MayFollow M (z ∷ []) x
 follows M z x known joins through onward =
     record {
       known = known;
@@ -30,10 +33,18 @@ follows M z x known joins through onward =
 
 follows_alone : (M : Map) (ls : List ℕ) (x : ℕ) → MayFollow M ls x → MayFollow M (last ls ∷ []) x
 follows_alone M ls x p =
-    record { known = p.known; joins = p.joins; through = p.through; onward = p.onward; fresh = not_has_one (last ls) x (follows_another M (last ls) x p.joins p.onward) }
+    record {
+      known = p.known;
+      joins = p.joins;
+      through = p.through;
+      onward = p.onward;
+      fresh =
+          not_has_one (last ls) x (follows_another M (last ls) x p.joins p.onward);
+    }
 
 follows_all : (M : Map) (ls : List ℕ) (x : ℕ) → MayFollow M (last ls ∷ []) x → has ls x ≡ false → MayFollow M ls x
-follows_all M ls x p fresh = record { known = p.known; joins = p.joins; through = p.through; onward = p.onward; fresh = fresh }
+follows_all M ls x p fresh =
+    record { known = p.known; joins = p.joins; through = p.through; onward = p.onward; fresh = fresh }
 
 -- seen from the other side
 preceded : (M : Map) (z x : ℕ) → IsTrue (has_line M z) → MayFollow M (z ∷ []) x → MayPrecede M z (x ∷ [])
@@ -50,9 +61,11 @@ pub one_after : (M : Map) (z x y : ℕ) → IsTrue (has_line M z) → MayFollow 
 one_after M z x y k p q =
     let same : x ∷ [] ≡ y ∷ [] = same_end_chain M (z ∷ []) (x ∷ []) (y ∷ []) k (p, tt) (q, tt) refl in cc
 
-one_in_front : (M : Map) (y z x : ℕ) → IsTrue (has_line M y) → IsTrue (has_line M z) → MayFollow M (y ∷ []) x → MayFollow M (z ∷ []) x → y ≡ z
+one_in_front : (M : Map) (y z x : ℕ) → IsTrue (has_line M y) → IsTrue (has_line M z) → MayFollow M (y ∷ []) x →
+    MayFollow M (z ∷ []) x → y ≡ z
 one_in_front M y z x j k p q =
-    let same : y ∷ [] ≡ z ∷ [] = same_start_chain M (x ∷ []) (y ∷ []) (z ∷ []) p.known (preceded M y x j p, tt) (preceded M z x k q, tt) refl in cc
+    let same : y ∷ [] ≡ z ∷ [] =
+    same_start_chain M (x ∷ []) (y ∷ []) (z ∷ []) p.known (preceded M y x j p, tt) (preceded M z x k q, tt) refl in cc
 
 -- ---- a chain, grown
 
@@ -62,10 +75,12 @@ pushed ls y c = append_assoc ls (y ∷ []) c
 -- the last line of a chain may follow those before it
 EndChain-last : (M : Map) (ls c : List ℕ) (y : ℕ) → EndChain M ls (c ++ y ∷ []) → MayFollow M (ls ++ c) y
 EndChain-last M ls [] y p = subst (λ (zs : List ℕ). MayFollow M zs y) (sym (append-nil ls)) p.0
-EndChain-last M ls (x ∷ c) y p = subst (λ (zs : List ℕ). MayFollow M zs y) (pushed ls x c) (EndChain-last M (ls ++ x ∷ []) c y p.1)
+EndChain-last M ls (x ∷ c) y p =
+    subst (λ (zs : List ℕ). MayFollow M zs y) (pushed ls x c) (EndChain-last M (ls ++ x ∷ []) c y p.1)
 
 -- a line of a chain stands behind a line of the list or the chain
-in_front : (M : Map) (ls c : List ℕ) (x : ℕ) → 0 < length ls → IsTrue (has_line M (last ls)) → EndChain M ls c → has c x ≡ true → (z : ℕ) × (has (ls ++ c) z ≡ true) × IsTrue (has_line M z) × MayFollow M (z ∷ []) x
+in_front : (M : Map) (ls c : List ℕ) (x : ℕ) → 0 < length ls → IsTrue (has_line M (last ls)) → EndChain M ls c →
+    has c x ≡ true → (z : ℕ) × (has (ls ++ c) z ≡ true) × IsTrue (has_line M z) × MayFollow M (z ∷ []) x
 in_front M ls [] x some known p h = absurd cc
 in_front M ls (y ∷ c) x some known p h =
     elim (has_cases y c x h) [
@@ -76,7 +91,9 @@ in_front M ls (y ∷ c) x some known p h =
         subst (λ (n : ℕ). MayFollow M (last ls ∷ []) n) is (follows_alone M ls y p.0),
       )
       | inr i ↦
-          let r = in_front M (ls ++ y ∷ []) c x (omega (arith, length-append ls (y ∷ []))) (subst (λ (n : ℕ). IsTrue (has_line M n)) (sym (last_push ls y)) p.0.known) p.1 i in
+          let r =
+          in_front M (ls ++ y ∷ []) c x (omega (arith, length-append ls (y ∷ [])))
+          (subst (λ (n : ℕ). IsTrue (has_line M n)) (sym (last_push ls y)) p.0.known) p.1 i in
           (r.0, subst (λ (zs : List ℕ). has zs r.0 ≡ true) (pushed ls y c) r.1, r.2, r.3)
     ]
 
@@ -85,7 +102,8 @@ last_pushed ls c y = ap last (sym (append_assoc ls c (y ∷ []))) ∙ last_push 
 
 module _ (M : Map) (ls : List ℕ) (some : 0 < length ls) (known : IsTrue (has_line M (last ls))) where
   -- what follows a chain isn't among its lines
-  fresh_behind : (c : List ℕ) (y x : ℕ) → EndChain M ls (c ++ y ∷ []) → MayFollow M (y ∷ []) x → has (c ++ y ∷ []) x ≡ false
+  fresh_behind : (c : List ℕ) (y x : ℕ) → EndChain M ls (c ++ y ∷ []) → MayFollow M (y ∷ []) x →
+      has (c ++ y ∷ []) x ≡ false
   fresh_behind c y x p q =
       let at_last = EndChain-last M ls c y p in
       list_any-append (λ z. z == x) c (y ∷ [])
@@ -101,20 +119,30 @@ module _ (M : Map) (ls : List ℕ) (some : 0 < length ls) (known : IsTrue (has_l
   fresh_after [] x p q = refl
   fresh_after (y ∷ c) x p q =
       let s = last_of_list y c in
-      let follow : MayFollow M (s.1 ∷ []) x = subst (λ (n : ℕ). MayFollow M (n ∷ []) x) (ap (λ (zs : List ℕ). last (ls ++ zs)) s.2 ∙ last_pushed ls s.0 s.1) q in
-      ap (λ (zs : List ℕ). has zs x) s.2 ∙ fresh_behind s.0 s.1 x (subst (λ (zs : List ℕ). EndChain M ls zs) s.2 p) follow
+      let follow : MayFollow M (s.1 ∷ []) x =
+      subst (λ (n : ℕ). MayFollow M (n ∷ []) x) (ap (λ (zs : List ℕ). last (ls ++ zs)) s.2 ∙ last_pushed ls s.0 s.1)
+      q in
+      ap (λ (zs : List ℕ). has zs x) s.2
+      ∙ fresh_behind s.0 s.1 x (subst (λ (zs : List ℕ). EndChain M ls zs) s.2 p) follow
 
-  pub grown_after : (c : List ℕ) (x : ℕ) → EndChain M ls c → MayFollow M (last (ls ++ c) ∷ []) x → has ls x ≡ false → EndChain M ls (c ++ x ∷ [])
-  grown_after c x p q h = EndChain-push M ls c x p (follows_all M (ls ++ c) x q (list_any-append (λ y. y == x) ls c ∙ or_from _ _ h (fresh_after c x p q)))
+  pub grown_after : (c : List ℕ) (x : ℕ) → EndChain M ls c → MayFollow M (last (ls ++ c) ∷ []) x → has ls x ≡ false →
+      EndChain M ls (c ++ x ∷ [])
+  grown_after c x p q h =
+      EndChain-push M ls c x p
+      (follows_all M (ls ++ c) x q (list_any-append (λ y. y == x) ls c ∙ or_from _ _ h (fresh_after c x p q)))
 
   -- a chain that no line may grow, or none within the limit, is the longest
-  pub stops_after : (c : List ℕ) → EndChain M ls c → dm_of M c ≤ limit → ((x : ℕ) → MayFollow M (last (ls ++ c) ∷ []) x → (has ls x ≡ true) ⊎ (limit < dm_of M c + dm M x)) → LongestEnd M ls c
+  pub stops_after : (c : List ℕ) → EndChain M ls c → dm_of M c ≤ limit →
+      ((x : ℕ) → MayFollow M (last (ls ++ c) ∷ []) x → (has ls x ≡ true) ⊎ (limit < dm_of M c + dm M x)) →
+      LongestEnd M ls c
   stops_after c p w stops = record { chain = p; within = w; longest = λ d q v. no_longer d q v }
     where
       beyond : (d back : List ℕ) → d ≡ c ++ back → length c < length d → EndChain M ls d → dm_of M d ≤ limit → ⊥
       beyond d [] e more q v = omega (arith, ap (λ (zs : List ℕ). length zs) e, length-append c [])
       beyond d (x ∷ back) e more q v =
-          let front : EndChain M ls (c ++ x ∷ []) = EndChain-front M ls (c ++ x ∷ []) back (subst (λ (zs : List ℕ). EndChain M ls zs) (e ∙ sym (append_assoc c (x ∷ []) back)) q) in
+          let front : EndChain M ls (c ++ x ∷ []) =
+          EndChain-front M ls (c ++ x ∷ []) back
+          (subst (λ (zs : List ℕ). EndChain M ls zs) (e ∙ sym (append_assoc c (x ∷ []) back)) q) in
           let next = EndChain-last M ls c x front in
           elim (stops x (follows_alone M (ls ++ c) x next)) [
             | inl h ↦ both_ways (has (ls ++ c) x) next.fresh (list_any-append (λ z. z == x) ls c ∙ or_left _ _ h)
@@ -139,35 +167,43 @@ pub nothing_after : (M : Map) (ls : List ℕ) → GrowsAfter M ls [] (last ls) 0
 nothing_after M ls = record { chain = tt; ends = ap last (sym (append-nil ls)); long = refl; within = omega arith }
 
 -- the last line of a list and a chain behind it is one of the map's
-end_known : (M : Map) (ls c : List ℕ) → IsTrue (has_line M (last ls)) → EndChain M ls c → IsTrue (has_line M (last (ls ++ c)))
+end_known : (M : Map) (ls c : List ℕ) → IsTrue (has_line M (last ls)) → EndChain M ls c →
+    IsTrue (has_line M (last (ls ++ c)))
 end_known M ls [] known p = subst (λ (zs : List ℕ). IsTrue (has_line M (last zs))) (sym (append-nil ls)) known
 end_known M ls (y ∷ c) known p =
     subst (λ (zs : List ℕ). IsTrue (has_line M (last zs))) (pushed ls y c)
     (end_known M (ls ++ y ∷ []) c (subst (λ (n : ℕ). IsTrue (has_line M n)) (sym (last_push ls y)) p.0.known) p.1)
 
-module _ (M : Map) (ls : List ℕ) (some : 0 < length ls) (known : IsTrue (has_line M (last ls))) (c : List ℕ) (back len : ℕ) (grows : GrowsAfter M ls c back len) where
+module _ (M : Map) (ls : List ℕ) (some : 0 < length ls) (known : IsTrue (has_line M (last ls))) (c : List ℕ)
+    (back len : ℕ) (grows : GrowsAfter M ls c back len) where
   pub back_known : IsTrue (has_line M back)
   back_known = subst (λ (n : ℕ). IsTrue (has_line M n)) (sym grows.ends) (end_known M ls c known grows.chain)
 
-  pub grows_after : (x : ℕ) → MayFollow M (back ∷ []) x → has ls x ≡ false → len + dm M x ≤ limit → GrowsAfter M ls (c ++ x ∷ []) x (len + dm M x)
+  pub grows_after : (x : ℕ) → MayFollow M (back ∷ []) x → has ls x ≡ false → len + dm M x ≤ limit →
+      GrowsAfter M ls (c ++ x ∷ []) x (len + dm M x)
   grows_after x p fresh near =
       record {
-        chain = grown_after M ls some known c x grows.chain (subst (λ (n : ℕ). MayFollow M (n ∷ []) x) grows.ends p) fresh;
+        chain =
+            grown_after M ls some known c x grows.chain (subst (λ (n : ℕ). MayFollow M (n ∷ []) x) grows.ends p) fresh;
         ends = sym (last_pushed ls c x);
         long = let e = grows.long in omega (arith, dm_of-append M c (x ∷ []));
         within = near;
       }
 
-  pub longest_after : ((x : ℕ) → MayFollow M (back ∷ []) x → (has ls x ≡ true) ⊎ (limit < len + dm M x)) → LongestEnd M ls c
+  pub longest_after : ((x : ℕ) → MayFollow M (back ∷ []) x → (has ls x ≡ true) ⊎ (limit < len + dm M x)) →
+      LongestEnd M ls c
   longest_after stops =
       let e = grows.long in
       let w = grows.within in
       stops_after M ls some known c grows.chain (omega arith)
-      (λ x p. subst (λ (n : ℕ). (has ls x ≡ true) ⊎ (limit < n + dm M x)) e (stops x (subst (λ (n : ℕ). MayFollow M (n ∷ []) x) (sym grows.ends) p)))
+      (λ x p. subst (λ (n : ℕ). (has ls x ≡ true) ⊎ (limit < n + dm M x)) e
+      (stops x (subst (λ (n : ℕ). MayFollow M (n ∷ []) x) (sym grows.ends) p)))
 
 -- where no line follows the list, no chain does
-pub none_after : (M : Map) (ls : List ℕ) → 0 < length ls → IsTrue (has_line M (last ls)) → ((x : ℕ) → ¬ MayFollow M (last ls ∷ []) x) → LongestEnd M ls []
-none_after M ls some known none = longest_after M ls some known [] (last ls) 0 (nothing_after M ls) (λ x p. absurd (none x p))
+pub none_after : (M : Map) (ls : List ℕ) → 0 < length ls → IsTrue (has_line M (last ls)) →
+    ((x : ℕ) → ¬ MayFollow M (last ls ∷ []) x) → LongestEnd M ls []
+none_after M ls some known none =
+    longest_after M ls some known [] (last ls) 0 (nothing_after M ls) (λ x p. absurd (none x p))
 
 pub last_read : (ls : List ℕ) (x : ℕ) → 0 < length ls → x ≡ get_or ls (length ls - 1) x → x ≡ last ls
 last_read [] x h is = absurd (omega arith)

@@ -1,6 +1,7 @@
--- A chain that leads to a list of lines, grown by a line at a time: the line before it is determined by its first line, and
--- can stand in the chain already only where it stands in the list.
-use Rattle.std.proofs.Common.{false, ◌⊎◌, inl, inr, ◌≡◌, ◌≢◌, ℕ, ◌+◌, ◌<◌, ◌≤◌, true, ◌==◌, List, [], ◌∷◌, ◌++◌, length, get_or, IsTrue, refl, sym, ap, ◌∙◌, subst, arith, append_assoc, length-append}
+-- A chain that leads to a list of lines, grown by a line at a time: the line before it is determined by its first line,
+-- and can stand in the chain already only where it stands in the list.
+use Rattle.std.proofs.Common.{false, ◌⊎◌, inl, inr, ◌≡◌, ◌≢◌, ℕ, ◌+◌, ◌<◌, ◌≤◌, true, ◌==◌, List, [], ◌∷◌, ◌++◌, length}
+use Rattle.std.proofs.Common.{get_or, IsTrue, refl, sym, ap, ◌∙◌, subst, arith, append_assoc, length-append}
 use Rattle.std.proofs.lemmas.Bool.{both_ways, cases_Bool, cases_lt, ne_eqb, or_from, or_right}
 use Rattle.std.proofs.lemmas.List.Folds.{list_any-append}
 use Rattle.olr_spec.specs.Map.{Map, has_line, start, end, dm, has}
@@ -20,7 +21,8 @@ not_has_one z x ne = or_from _ _ (ne_eqb z x ne) refl
 precedes_another : (M : Map) (x z : ℕ) → end M x ≡ start M z → start M x ≢ end M z → z ≢ x
 precedes_another M x z joins onward is = onward (ap (start M) (sym is) ∙ sym joins ∙ ap (end M) (sym is))
 
-pub precedes : (M : Map) (x z : ℕ) → IsTrue (has_line M x) → end M x ≡ start M z → IsTrue (passing M (start M z)) → start M x ≢ end M z → MayPrecede M x (z ∷ [])
+pub precedes : (M : Map) (x z : ℕ) → IsTrue (has_line M x) → end M x ≡ start M z → IsTrue (passing M (start M z)) →
+    start M x ≢ end M z → MayPrecede M x (z ∷ [])
 precedes M x z known joins through onward =
     record {
       known = known;
@@ -32,10 +34,18 @@ precedes M x z known joins through onward =
 
 precedes_alone : (M : Map) (x : ℕ) (ls : List ℕ) → MayPrecede M x ls → MayPrecede M x (first ls ∷ [])
 precedes_alone M x ls p =
-    record { known = p.known; joins = p.joins; through = p.through; onward = p.onward; fresh = not_has_one (first ls) x (precedes_another M x (first ls) p.joins p.onward) }
+    record {
+      known = p.known;
+      joins = p.joins;
+      through = p.through;
+      onward = p.onward;
+      fresh =
+          not_has_one (first ls) x (precedes_another M x (first ls) p.joins p.onward);
+    }
 
 precedes_all : (M : Map) (x : ℕ) (ls : List ℕ) → MayPrecede M x (first ls ∷ []) → has ls x ≡ false → MayPrecede M x ls
-precedes_all M x ls p fresh = record { known = p.known; joins = p.joins; through = p.through; onward = p.onward; fresh = fresh }
+precedes_all M x ls p fresh =
+    record { known = p.known; joins = p.joins; through = p.through; onward = p.onward; fresh = fresh }
 
 -- seen from the other side
 followed : (M : Map) (x z : ℕ) → IsTrue (has_line M z) → MayPrecede M x (z ∷ []) → MayFollow M (x ∷ []) z
@@ -48,19 +58,23 @@ followed M x z k p =
       fresh = not_has_one x z (λ is. precedes_another M x z p.joins p.onward (sym is));
     }
 
-pub one_before : (M : Map) (x y z : ℕ) → IsTrue (has_line M z) → MayPrecede M x (z ∷ []) → MayPrecede M y (z ∷ []) → x ≡ y
+pub one_before : (M : Map) (x y z : ℕ) → IsTrue (has_line M z) → MayPrecede M x (z ∷ []) → MayPrecede M y (z ∷ []) →
+    x ≡ y
 one_before M x y z k p q =
     let same : x ∷ [] ≡ y ∷ [] = same_start_chain M (z ∷ []) (x ∷ []) (y ∷ []) k (p, tt) (q, tt) refl in cc
 
-one_behind : (M : Map) (x y z : ℕ) → IsTrue (has_line M y) → IsTrue (has_line M z) → MayPrecede M x (y ∷ []) → MayPrecede M x (z ∷ []) → y ≡ z
+one_behind : (M : Map) (x y z : ℕ) → IsTrue (has_line M y) → IsTrue (has_line M z) → MayPrecede M x (y ∷ []) →
+    MayPrecede M x (z ∷ []) → y ≡ z
 one_behind M x y z j k p q =
-    let same : y ∷ [] ≡ z ∷ [] = same_end_chain M (x ∷ []) (y ∷ []) (z ∷ []) p.known (followed M x y j p, tt) (followed M x z k q, tt) refl in cc
+    let same : y ∷ [] ≡ z ∷ [] =
+    same_end_chain M (x ∷ []) (y ∷ []) (z ∷ []) p.known (followed M x y j p, tt) (followed M x z k q, tt) refl in cc
 
 -- ---- a chain, grown
 
 module _ (M : Map) (ls : List ℕ) (some : 0 < length ls) (known : IsTrue (has_line M (first ls))) where
   -- a line of a chain stands before a line of the chain or the list
-  behind : (c : List ℕ) (x : ℕ) → StartChain M c ls → has c x ≡ true → (z : ℕ) × (has (c ++ ls) z ≡ true) × IsTrue (has_line M z) × MayPrecede M x (z ∷ [])
+  behind : (c : List ℕ) (x : ℕ) → StartChain M c ls → has c x ≡ true → (z : ℕ) × (has (c ++ ls) z ≡ true)
+      × IsTrue (has_line M z) × MayPrecede M x (z ∷ [])
   behind [] x p h = absurd cc
   behind (y ∷ c) x p h =
       elim (has_cases y c x h) [
@@ -88,11 +102,15 @@ module _ (M : Map) (ls : List ℕ) (some : 0 < length ls) (known : IsTrue (has_l
         | inr none ↦ none
       ]
 
-  pub grown_before : (c : List ℕ) (x : ℕ) → StartChain M c ls → MayPrecede M x (first (c ++ ls) ∷ []) → has ls x ≡ false → StartChain M (x ∷ c) ls
-  grown_before c x p q h = (precedes_all M x (c ++ ls) q (list_any-append (λ y. y == x) c ls ∙ or_from _ _ (fresh_before c x p q) h), p)
+  pub grown_before : (c : List ℕ) (x : ℕ) → StartChain M c ls → MayPrecede M x (first (c ++ ls) ∷ []) →
+      has ls x ≡ false → StartChain M (x ∷ c) ls
+  grown_before c x p q h =
+      (precedes_all M x (c ++ ls) q (list_any-append (λ y. y == x) c ls ∙ or_from _ _ (fresh_before c x p q) h), p)
 
   -- a chain that no line may grow, or none within the limit, is the longest
-  pub stops_before : (c : List ℕ) → StartChain M c ls → dm_of M c ≤ limit → ((x : ℕ) → MayPrecede M x (first (c ++ ls) ∷ []) → (has ls x ≡ true) ⊎ (limit < dm_of M c + dm M x)) → LongestStart M c ls
+  pub stops_before : (c : List ℕ) → StartChain M c ls → dm_of M c ≤ limit →
+      ((x : ℕ) → MayPrecede M x (first (c ++ ls) ∷ []) → (has ls x ≡ true) ⊎ (limit < dm_of M c + dm M x)) →
+      LongestStart M c ls
   stops_before c p w stops = record { chain = p; within = w; longest = λ d q v. no_longer d q v }
     where
       beyond : (d front : List ℕ) → d ≡ front ++ c → length c < length d → StartChain M d ls → dm_of M d ≤ limit → ⊥
@@ -101,7 +119,8 @@ module _ (M : Map) (ls : List ℕ) (some : 0 < length ls) (known : IsTrue (has_l
           let s = last_of_list x front in
           let y = s.1 in
           let parts : d ≡ s.0 ++ (y ∷ c) = e ∙ ap (λ (zs : List ℕ). zs ++ c) s.2 ∙ append_assoc s.0 (y ∷ []) c in
-          let chain : StartChain M (y ∷ c) ls = StartChain-back M ls s.0 (y ∷ c) (subst (λ (zs : List ℕ). StartChain M zs ls) parts q) in
+          let chain : StartChain M (y ∷ c) ls =
+          StartChain-back M ls s.0 (y ∷ c) (subst (λ (zs : List ℕ). StartChain M zs ls) parts q) in
           elim (stops y (precedes_alone M y (c ++ ls) chain.0)) [
             | inl h ↦ both_ways (has (c ++ ls) y) chain.0.fresh (list_any-append (λ z. z == y) c ls ∙ or_right _ _ h)
             | inr far ↦ omega (arith, ap (dm_of M) parts, dm_of-append M s.0 (y ∷ c))
@@ -111,7 +130,8 @@ module _ (M : Map) (ls : List ℕ) (some : 0 < length ls) (known : IsTrue (has_l
       no_longer d q v =
           elim (cases_lt (length c) (length d)) [
             | inl more ↦ let r = start_suffix M ls c d known p q (omega arith) in absurd (beyond d r.0 r.1 more q v)
-            | inr le ↦ let r = start_suffix M ls d c known q p le in omega (arith, ap (dm_of M) r.1, dm_of-append M r.0 d)
+            | inr le ↦ let r =
+                start_suffix M ls d c known q p le in omega (arith, ap (dm_of M) r.1, dm_of-append M r.0 d)
           ]
 
 -- a chain c, its first line, or that of the list, and its length
@@ -124,29 +144,37 @@ pub record GrowsBefore (M : Map) (ls c : List ℕ) (front len : ℕ) : Type 0 wh
 pub nothing_before : (M : Map) (ls : List ℕ) → GrowsBefore M ls [] (first ls) 0
 nothing_before M ls = record { chain = tt; begins = refl; long = refl; within = omega arith }
 
-module _ (M : Map) (ls : List ℕ) (some : 0 < length ls) (known : IsTrue (has_line M (first ls))) (c : List ℕ) (front len : ℕ) (grows : GrowsBefore M ls c front len) where
+module _ (M : Map) (ls : List ℕ) (some : 0 < length ls) (known : IsTrue (has_line M (first ls))) (c : List ℕ)
+    (front len : ℕ) (grows : GrowsBefore M ls c front len) where
   pub front_known : IsTrue (has_line M front)
   front_known = subst (λ (n : ℕ). IsTrue (has_line M n)) (sym grows.begins) (first_known M c ls grows.chain known)
 
-  pub grows_before : (x : ℕ) → MayPrecede M x (front ∷ []) → has ls x ≡ false → len + dm M x ≤ limit → GrowsBefore M ls (x ∷ c) x (len + dm M x)
+  pub grows_before : (x : ℕ) → MayPrecede M x (front ∷ []) → has ls x ≡ false → len + dm M x ≤ limit →
+      GrowsBefore M ls (x ∷ c) x (len + dm M x)
   grows_before x p fresh near =
       record {
-        chain = grown_before M ls some known c x grows.chain (subst (λ (n : ℕ). MayPrecede M x (n ∷ [])) grows.begins p) fresh;
+        chain =
+            grown_before M ls some known c x grows.chain (subst (λ (n : ℕ). MayPrecede M x (n ∷ [])) grows.begins p)
+            fresh;
         begins = refl;
         long = let e = grows.long in omega arith;
         within = near;
       }
 
-  pub longest_before : ((x : ℕ) → MayPrecede M x (front ∷ []) → (has ls x ≡ true) ⊎ (limit < len + dm M x)) → LongestStart M c ls
+  pub longest_before : ((x : ℕ) → MayPrecede M x (front ∷ []) → (has ls x ≡ true) ⊎ (limit < len + dm M x)) →
+      LongestStart M c ls
   longest_before stops =
       let e = grows.long in
       let w = grows.within in
       stops_before M ls some known c grows.chain (omega arith)
-      (λ x p. subst (λ (n : ℕ). (has ls x ≡ true) ⊎ (limit < n + dm M x)) e (stops x (subst (λ (n : ℕ). MayPrecede M x (n ∷ [])) (sym grows.begins) p)))
+      (λ x p. subst (λ (n : ℕ). (has ls x ≡ true) ⊎ (limit < n + dm M x)) e
+      (stops x (subst (λ (n : ℕ). MayPrecede M x (n ∷ [])) (sym grows.begins) p)))
 
 -- where no line precedes the list, no chain does
-pub none_before : (M : Map) (ls : List ℕ) → 0 < length ls → IsTrue (has_line M (first ls)) → ((x : ℕ) → ¬ MayPrecede M x (first ls ∷ [])) → LongestStart M [] ls
-none_before M ls some known none = longest_before M ls some known [] (first ls) 0 (nothing_before M ls) (λ x p. absurd (none x p))
+pub none_before : (M : Map) (ls : List ℕ) → 0 < length ls → IsTrue (has_line M (first ls)) →
+    ((x : ℕ) → ¬ MayPrecede M x (first ls ∷ [])) → LongestStart M [] ls
+none_before M ls some known none =
+    longest_before M ls some known [] (first ls) 0 (nothing_before M ls) (λ x p. absurd (none x p))
 
 pub first_read : (ls : List ℕ) (x : ℕ) → 0 < length ls → x ≡ get_or ls 0 x → x ≡ first ls
 first_read [] x h is = absurd (omega arith)

@@ -1,5 +1,6 @@
 -- The choice of the next point, from the last position that is covered and near enough back to the first.
-use Rattle.std.proofs.Common.{◌≡◌, ◌<◌, ◌≤◌, ◌-◌, ℕ, Bool, true, false, List, length, sym, subst, arith, inl, inr, Option, Some, None, MatchOption}
+use Rattle.std.proofs.Common.{◌≡◌, ◌<◌, ◌≤◌, ◌-◌, ℕ, Bool, true, false, List, length, sym, subst, arith, inl, inr}
+use Rattle.std.proofs.Common.{Option, Some, None, MatchOption}
 use Rattle.std.proofs.lemmas.Bool.{cases_order}
 use Rattle.std.specs.Option.{option_or}
 use Rattle.olr_spec.specs.Coordinates.{Coord}
@@ -12,11 +13,21 @@ abbrev pub fit : Map → List ℕ → ℕ → ℕ → Bool
 fit M ls i j = fit16 (place_at M (node_at M ls i)) (place_at M (node_at M ls j))
 
 -- as it is read: the places and the answer
-pub fit_read : (M : Map) (ls : List ℕ) (i j : ℕ) (p q : Coord) (b : Bool) → p ≡ place_at M (node_at M ls i) → q ≡ place_at M (node_at M ls j) → b ≡ fit16 p q → fit M ls i j ≡ b
+pub fit_read : (M : Map) (ls : List ℕ) (i j : ℕ) (p q : Coord) (b : Bool) → p ≡ place_at M (node_at M ls i) →
+    q ≡ place_at M (node_at M ls j) → b ≡ fit16 p q → fit M ls i j ≡ b
 fit_read M ls i j p q b hp hq hb = simp (hp, hq) at (sym hb)
 
-candidate_of : (M : Map) (ls : List ℕ) (i r j : ℕ) → IsReach M ls i r → i < j → j ≤ r → fit M ls i j ≡ true → Candidate M ls i j
-candidate_of M ls i r j a h k f = let u = a.upto in record { after = h; upto = omega arith; covered = (a.within j h k).0; near = (a.within j h k).1; fits = f }
+candidate_of : (M : Map) (ls : List ℕ) (i r j : ℕ) → IsReach M ls i r → i < j → j ≤ r → fit M ls i j ≡ true →
+    Candidate M ls i j
+candidate_of M ls i r j a h k f = let u =
+    a.upto in record {
+      after = h;
+      upto = omega arith;
+      covered = (a.within j h k).0;
+      near = (a.within j h k).1;
+      fits =
+          f;
+    }
 
 -- no candidate from k on, or the greatest of all
 abbrev Last : Map → List ℕ → ℕ → ℕ → Option ℕ → Type 0
@@ -32,7 +43,8 @@ pub record Scanned (M : Map) (ls : List ℕ) (i r k : ℕ) (last : Option ℕ) :
 not_fit : (M : Map) (ls : List ℕ) (i k j : ℕ) → fit M ls i (k - 1) ≡ false → j ≡ k - 1 → ¬ Candidate M ls i j
 not_fit M ls i k j f e c = let t : fit M ls i (k - 1) ≡ true = subst (λ (n : ℕ). fit M ls i n ≡ true) e c.fits in cc
 
-from_one_less : (Q : ℕ → Type 0) (k : ℕ) → 0 < k → ((j : ℕ) → k ≤ j → ¬ Q j) → ((j : ℕ) → j ≡ k - 1 → ¬ Q j) → (j : ℕ) → k - 1 ≤ j → ¬ Q j
+from_one_less : (Q : ℕ → Type 0) (k : ℕ) → 0 < k → ((j : ℕ) → k ≤ j → ¬ Q j) → ((j : ℕ) → j ≡ k - 1 → ¬ Q j) → (j : ℕ) →
+    k - 1 ≤ j → ¬ Q j
 from_one_less Q k p above here j h q =
     elim (cases_order j (k - 1)) [
       | inl e ↦ here j e q
@@ -40,11 +52,13 @@ from_one_less Q k p above here j h q =
       | inr (inr gt) ↦ above j (omega arith) q
     ]
 
-last_less : (M : Map) (ls : List ℕ) (i k : ℕ) (last : Option ℕ) → 0 < k → ((j : ℕ) → j ≡ k - 1 → ¬ Candidate M ls i j) → Last M ls i k last → Last M ls i (k - 1) last
+last_less : (M : Map) (ls : List ℕ) (i k : ℕ) (last : Option ℕ) → 0 < k → ((j : ℕ) → j ≡ k - 1 → ¬ Candidate M ls i j) →
+    Last M ls i k last → Last M ls i (k - 1) last
 last_less M ls i k None p here l = from_one_less (Candidate M ls i) k p l here
 last_less M ls i k (Some m) p here l = l
 
-pub scan_unfit : (M : Map) (ls : List ℕ) (i r k : ℕ) (last : Option ℕ) → 0 < k → Scanned M ls i r k last → fit M ls i (k - 1) ≡ false → Scanned M ls i r (k - 1) last
+pub scan_unfit : (M : Map) (ls : List ℕ) (i r k : ℕ) (last : Option ℕ) → 0 < k → Scanned M ls i r k last →
+    fit M ls i (k - 1) ≡ false → Scanned M ls i r (k - 1) last
 scan_unfit M ls i r k last p s f =
     record {
       not_end = s.not_end;
@@ -53,30 +67,46 @@ scan_unfit M ls i r k last p s f =
     }
 
 -- one that fits, at a passing node
-last_more : (M : Map) (ls : List ℕ) (i k : ℕ) (last : Option ℕ) → 0 < k → Candidate M ls i (k - 1) → Last M ls i k last → Last M ls i (k - 1) (option_or last (Some (k - 1)))
+last_more : (M : Map) (ls : List ℕ) (i k : ℕ) (last : Option ℕ) → 0 < k → Candidate M ls i (k - 1) →
+    Last M ls i k last → Last M ls i (k - 1) (option_or last (Some (k - 1)))
 last_more M ls i k None p c l =
     record {
       holds = c;
-      others = λ j d. elim (cases_order j (k - 1)) [ inl e ↦ omega arith | inr (inl lt) ↦ omega arith | inr (inr gt) ↦ absurd (l j (omega arith) d) ];
+      others =
+          λ j d. elim (cases_order j (k - 1)) [
+            | inl e ↦ omega arith
+            | inr (inl lt) ↦ omega arith
+            | inr (inr gt) ↦
+                absurd (l j (omega arith) d)
+          ];
     }
 last_more M ls i k (Some m) p c l = l
 
-pub scan_passing : (M : Map) (ls : List ℕ) (i r k : ℕ) (last : Option ℕ) → 0 < k → i < k - 1 → k - 1 ≤ r → IsReach M ls i r → Scanned M ls i r k last → fit M ls i (k - 1) ≡ true → passing M (node_at M ls (k - 1)) ≡ true
+pub scan_passing : (M : Map) (ls : List ℕ) (i r k : ℕ) (last : Option ℕ) → 0 < k → i < k - 1 → k - 1 ≤ r →
+    IsReach M ls i r → Scanned M ls i r k last → fit M ls i (k - 1) ≡ true → passing M (node_at M ls (k - 1)) ≡ true
     → Scanned M ls i r (k - 1) (option_or last (Some (k - 1)))
 scan_passing M ls i r k last p after upto a s f through =
     record {
       not_end = s.not_end;
       no_valid = from_one_less (ValidCandidate M ls i) k p s.no_valid (λ j e v.
           let valid : passing M (node_at M ls j) ≡ false = v.1 in
-          let here : passing M (node_at M ls j) ≡ true = subst (λ (n : ℕ). passing M (node_at M ls n) ≡ true) (sym e) through in cc);
+          let here : passing M (node_at M ls j) ≡ true =
+          subst (λ (n : ℕ). passing M (node_at M ls n) ≡ true) (sym e) through in cc);
       greatest = last_more M ls i k last p (candidate_of M ls i r (k - 1) a after upto f) s.greatest;
     }
 
 -- what is answered
-pub next_valid : (M : Map) (ls : List ℕ) (i r k : ℕ) (last : Option ℕ) → 0 < k → i < k - 1 → k - 1 ≤ r → IsReach M ls i r → Scanned M ls i r k last → fit M ls i (k - 1) ≡ true → passing M (node_at M ls (k - 1)) ≡ false
+pub next_valid : (M : Map) (ls : List ℕ) (i r k : ℕ) (last : Option ℕ) → 0 < k → i < k - 1 → k - 1 ≤ r →
+    IsReach M ls i r → Scanned M ls i r k last → fit M ls i (k - 1) ≡ true → passing M (node_at M ls (k - 1)) ≡ false
     → Next M ls i (k - 1)
 next_valid M ls i r k last p after upto a s f valid =
     To_valid s.not_end record {
       holds = (candidate_of M ls i r (k - 1) a after upto f, valid);
-      others = λ j v. elim (cases_order j (k - 1)) [ inl e ↦ omega arith | inr (inl lt) ↦ omega arith | inr (inr gt) ↦ absurd (s.no_valid j (omega arith) v) ];
+      others =
+          λ j v. elim (cases_order j (k - 1)) [
+            | inl e ↦ omega arith
+            | inr (inl lt) ↦ omega arith
+            | inr (inr gt) ↦
+                absurd (s.no_valid j (omega arith) v)
+          ];
     }

@@ -1,23 +1,32 @@
 -- A list names no number twice exactly where the same numbers, sorted, rise strictly.
-use Rattle.std.proofs.Common.{◌≡◌, ◌≢◌, ℕ, ◌+◌, ◌<◌, true, false, not, List, [], ◌∷◌, length, get_or, eqb, IsPermutation, refl, ◌∙◌, inl, inr, arith}
+use Rattle.std.proofs.Common.{◌≡◌, ◌≢◌, ℕ, ◌+◌, ◌<◌, true, false, not, List, [], ◌∷◌, length, get_or, eqb}
+use Rattle.std.proofs.Common.{IsPermutation, refl, ◌∙◌, inl, inr, arith}
 use Rattle.std.specs.List.{IsDistinct, AllByRecursion}
 use Rattle.std.specs.List.Sorted.{IsSorted}
 use Rattle.std.specs.Ordering.{nat_cmp}
-use Rattle.std.proofs.lemmas.Bool.{both_ways, and_parts, and_from, or_parts, or_from, not-true, not_from_false, ne_eqb, eq-eqb, eqb-true, cases_Bool, cases_order}
+use Rattle.std.proofs.lemmas.Bool.{both_ways, and_parts, and_from, or_parts, or_from, not-true, not_from_false, ne_eqb}
+use Rattle.std.proofs.lemmas.Bool.{eq-eqb, eqb-true, cases_Bool, cases_order}
 use Rattle.std.proofs.lemmas.List.Kept.{AllPairs-from_increasing}
 use Rattle.std.proofs.lemmas.List.Sorted.{IsPermutation-sym, IsNonDecreasingBy-from_sort}
-use Rattle.std.proofs.lemmas.Map.Keys.{IsDistinct-head, IsDistinct-tail, IsDistinct-cons, IsDistinct-IsPermutation, IsDistinct-from_apart, apart_from_distinct}
+use Rattle.std.proofs.lemmas.Map.Keys.{IsDistinct-head, IsDistinct-tail, IsDistinct-cons, IsDistinct-IsPermutation}
+use Rattle.std.proofs.lemmas.Map.Keys.{IsDistinct-from_apart, apart_from_distinct}
 use Rattle.olr_spec.specs.Map.{has}
 use Rattle.olr_spec.specs.Extension.{none_twice}
 
 eqb_flips : (x y : ℕ) → eqb x y ≡ eqb y x
-eqb_flips x y = elim (cases_Bool (eqb y x)) [ inl e ↦ eq-eqb x y (cc (eqb-true y x e)) ∙ cc | inr e ↦ ne_eqb x y (λ is. both_ways (eqb y x) e (eq-eqb y x (cc is))) ∙ cc ]
+eqb_flips x y =
+    elim (cases_Bool (eqb y x)) [
+      | inl e ↦ eq-eqb x y (cc (eqb-true y x e)) ∙ cc
+      | inr e ↦
+          ne_eqb x y (λ is. both_ways (eqb y x) e (eq-eqb y x (cc is))) ∙ cc
+    ]
 
 -- ---- the two ways to say it
 
 differs_from_all : (x : ℕ) (xs : List ℕ) → has xs x ≡ false → AllByRecursion (λ y. eqb x y ≡ false) xs
 differs_from_all x [] h = tt
-differs_from_all x (y ∷ xs) h = let parts = or_parts (eqb y x) (has xs x) h in (eqb_flips x y ∙ parts.0, differs_from_all x xs parts.1)
+differs_from_all x (y ∷ xs) h = let parts =
+    or_parts (eqb y x) (has xs x) h in (eqb_flips x y ∙ parts.0, differs_from_all x xs parts.1)
 
 is_none_of : (x : ℕ) (xs : List ℕ) → AllByRecursion (λ y. eqb x y ≡ false) xs → has xs x ≡ false
 is_none_of x [] h = refl
@@ -32,7 +41,8 @@ distinct (x ∷ xs) h =
 named_once : (xs : List ℕ) → IsDistinct eqb xs → none_twice xs ≡ true
 named_once [] h = refl
 named_once (x ∷ xs) h =
-    and_from (not (has xs x)) (none_twice xs) (not_from_false (has xs x) (is_none_of x xs (IsDistinct-head eqb x xs h))) (named_once xs (IsDistinct-tail eqb x xs h))
+    and_from (not (has xs x)) (none_twice xs) (not_from_false (has xs x) (is_none_of x xs (IsDistinct-head eqb x xs h)))
+    (named_once xs (IsDistinct-tail eqb x xs h))
 
 -- ---- after a sort
 
@@ -45,24 +55,33 @@ module _ (xs sorted : List ℕ) (moved : IsPermutation xs sorted) where
   rising_once up =
       let apart = AllPairs-from_increasing sorted up in
       named_once xs (IsDistinct-IsPermutation eqb eqb_flips sorted xs (IsPermutation-sym xs sorted moved)
-      (IsDistinct-from_apart eqb sorted (λ i j d lt in_list. ne_eqb (get_or sorted i d) (get_or sorted j d) (λ is. let below = apart i j d lt in_list in absurd (omega arith)))))
+      (IsDistinct-from_apart eqb sorted
+      (λ i j d lt in_list. ne_eqb (get_or sorted i d) (get_or sorted j d)
+      (λ is. let below = apart i j d lt in_list in absurd (omega arith)))))
 
-  pub equal_twice : (i j : ℕ) → i + 1 ≡ j → j < length sorted → get_or sorted i 0 ≡ get_or sorted j 0 → none_twice xs ≡ false
+  pub equal_twice : (i j : ℕ) → i + 1 ≡ j → j < length sorted → get_or sorted i 0 ≡ get_or sorted j 0 →
+      none_twice xs ≡ false
   equal_twice i j next h is =
       elim (cases_Bool (none_twice xs)) [
         | inl once ↦
-            let apart = apart_from_distinct eqb sorted i j 0 (IsDistinct-IsPermutation eqb eqb_flips xs sorted moved (distinct xs once)) (omega arith) h in
-            absurd (both_ways (eqb (get_or sorted i 0) (get_or sorted j 0)) apart (eq-eqb (get_or sorted i 0) (get_or sorted j 0) is))
+            let apart =
+            apart_from_distinct eqb sorted i j 0
+            (IsDistinct-IsPermutation eqb eqb_flips xs sorted moved (distinct xs once)) (omega arith) h in
+            absurd (both_ways (eqb (get_or sorted i 0) (get_or sorted j 0)) apart
+            (eq-eqb (get_or sorted i 0) (get_or sorted j 0) is))
         | inr twice ↦ twice
       ]
 
 -- one more neighbour in a sorted list, which is another number
-pub rises_more : (sorted : List ℕ) → IsSorted nat_cmp sorted → (i j : ℕ) → i + 1 ≡ j → j < length sorted → eqb (get_or sorted i 0) (get_or sorted j 0) ≡ false → RisesBelow sorted j → RisesBelow sorted (j + 1)
+pub rises_more : (sorted : List ℕ) → IsSorted nat_cmp sorted → (i j : ℕ) → i + 1 ≡ j → j < length sorted →
+    eqb (get_or sorted i 0) (get_or sorted j 0) ≡ false → RisesBelow sorted j → RisesBelow sorted (j + 1)
 rises_more sorted up i j next h ne below k lt =
     elim (cases_order k i) [
       | inl is ↦
           let le = IsNonDecreasingBy-from_sort (λ x. x) sorted up i j 0 (omega arith) h in
-          let differ : get_or sorted i 0 ≢ get_or sorted j 0 = λ same. both_ways (eqb (get_or sorted i 0) (get_or sorted j 0)) ne (eq-eqb (get_or sorted i 0) (get_or sorted j 0) same) in
+          let differ : get_or sorted i 0 ≢ get_or sorted j 0 =
+          λ same. both_ways (eqb (get_or sorted i 0) (get_or sorted j 0)) ne
+          (eq-eqb (get_or sorted i 0) (get_or sorted j 0) same) in
           rw (is, next) (omega arith)
       | inr o ↦ below k (omega arith)
     ]

@@ -1,5 +1,6 @@
 -- The ends of the lines of a list, put behind other nodes.
-use Rattle.std.proofs.Common.{◌⊎◌, inl, inr, ◌↔◌, ◌≡◌, ◌==◌, ℕ, ◌+◌, ◌<◌, ◌≤◌, ◌||◌, List, [], ◌∷◌, ◌++◌, length, take, get_or, eqb, Contains, IsPermutation, sym, ◌∙◌, subst, arith}
+use Rattle.std.proofs.Common.{◌⊎◌, inl, inr, ◌↔◌, ◌≡◌, ◌==◌, ℕ, ◌+◌, ◌<◌, ◌≤◌, ◌||◌, List, [], ◌∷◌, ◌++◌, length, take}
+use Rattle.std.proofs.Common.{get_or, eqb, Contains, IsPermutation, sym, ◌∙◌, subst, arith}
 use Rattle.std.specs.List.{dedup}
 use Rattle.std.proofs.lemmas.Bool.{or_cases, or_left, or_right, eq-eqb, eqb-true}
 use Rattle.std.proofs.lemmas.List.{take_all}
@@ -38,7 +39,8 @@ module _ (M : Map) (ls : List ℕ) (i x : ℕ) (inside : i < length ls) (is : x 
   ends_here : (v : ℕ) → EndOf M x v → NodeOf M (take (i + 1) ls) v
   ends_here v e = (x, more x ∙ or_right _ _ (eq-eqb (get_or ls i x) x (sym is)), e)
 
-  pub ends_more : (F ns : List ℕ) → HasEnds M F (take i ls) ns → HasEnds M F (take (i + 1) ls) ((ns ++ start M x ∷ []) ++ end M x ∷ [])
+  pub ends_more : (F ns : List ℕ) → HasEnds M F (take i ls) ns →
+      HasEnds M F (take (i + 1) ls) ((ns ++ start M x ∷ []) ++ end M x ∷ [])
   ends_more F ns h v = (one_of, among)
     where
       below : Contains ns v → Contains F v ⊎ NodeOf M (take (i + 1) ls) v
@@ -47,7 +49,11 @@ module _ (M : Map) (ls : List ℕ) (i x : ℕ) (inside : i < length ls) (is : x 
       one_of : Contains ((ns ++ start M x ∷ []) ++ end M x ∷ []) v → Contains F v ⊎ NodeOf M (take (i + 1) ls) v
       one_of k =
           elim (Contains-push_cases (ns ++ start M x ∷ []) (end M x) v k) [
-            | inl j ↦ elim (Contains-push_cases ns (start M x) v j) [ inl low ↦ below low | inr e ↦ inr (ends_here v (inl e)) ]
+            | inl j ↦ elim (Contains-push_cases ns (start M x) v j) [
+              | inl low ↦ below low
+              | inr e ↦
+                  inr (ends_here v (inl e))
+            ]
             | inr e ↦ inr (ends_here v (inr e))
           ]
 
@@ -61,7 +67,9 @@ module _ (M : Map) (ls : List ℕ) (i x : ℕ) (inside : i < length ls) (is : x 
       at_start e = front (subst (λ (n : ℕ). Contains (ns ++ start M x ∷ []) n) e (Contains-push ns (start M x)))
 
       at_end : end M x ≡ v → Contains ((ns ++ start M x ∷ []) ++ end M x ∷ []) v
-      at_end e = subst (λ (n : ℕ). Contains ((ns ++ start M x ∷ []) ++ end M x ∷ []) n) e (Contains-push (ns ++ start M x ∷ []) (end M x))
+      at_end e =
+          subst (λ (n : ℕ). Contains ((ns ++ start M x ∷ []) ++ end M x ∷ []) n) e
+          (Contains-push (ns ++ start M x ∷ []) (end M x))
 
       ends : EndOf M x v → Contains ((ns ++ start M x ∷ []) ++ end M x ∷ []) v
       ends (inl e) = at_start e
@@ -76,14 +84,18 @@ all_ends M F ls ns i h ends = subst (λ (zs : List ℕ). HasEnds M F zs ns) (tak
 
 -- ---- sorted, and none twice
 
-pub same_once : (ns sorted once : List ℕ) → IsPermutation ns sorted → once ≡ dedup eqb sorted → (v : ℕ) → Contains once v ↔ Contains ns v
+pub same_once : (ns sorted once : List ℕ) → IsPermutation ns sorted → once ≡ dedup eqb sorted → (v : ℕ) →
+    Contains once v ↔ Contains ns v
 same_once ns sorted once moved is v = (
-  λ h. Contains-permutation sorted ns v (IsPermutation-sym ns sorted moved) (Contains-from_dedup eqb sorted v (subst (λ (zs : List ℕ). Contains zs v) is h)),
-  λ h. subst (λ (zs : List ℕ). Contains zs v) (sym is) (Contains-dedup_nat sorted v (Contains-permutation ns sorted v moved h)),
+  λ h. Contains-permutation sorted ns v (IsPermutation-sym ns sorted moved)
+      (Contains-from_dedup eqb sorted v (subst (λ (zs : List ℕ). Contains zs v) is h)),
+  λ h. subst (λ (zs : List ℕ). Contains zs v) (sym is)
+      (Contains-dedup_nat sorted v (Contains-permutation ns sorted v moved h)),
 )
 
 -- what three lists put there, one after the other
-pub three_lists : (M : Map) (ls b a xs ys zs : List ℕ) → HasEnds M [] ls xs → HasEnds M xs b ys → HasEnds M ys a zs → (v : ℕ) → Contains zs v ↔ (NodeOf M ls v ⊎ (NodeOf M b v ⊎ NodeOf M a v))
+pub three_lists : (M : Map) (ls b a xs ys zs : List ℕ) → HasEnds M [] ls xs → HasEnds M xs b ys → HasEnds M ys a zs →
+    (v : ℕ) → Contains zs v ↔ (NodeOf M ls v ⊎ (NodeOf M b v ⊎ NodeOf M a v))
 three_lists M ls b a xs ys zs f g h v = (one_of, among)
   where
     first_list : Contains xs v → NodeOf M ls v
@@ -102,7 +114,8 @@ three_lists M ls b a xs ys zs f g h v = (one_of, among)
     among (inr (inr n)) = (h v).1 (inr n)
 
 -- a set that grew by numbers grew by what these stand for
-pub grown_by : (F G once : List ℕ) (Is : ℕ → Type 0) → ((v : ℕ) → Contains once v ↔ Is v) → ((v : ℕ) → Contains G v ↔ (Contains F v ⊎ Contains once v)) → (v : ℕ) → Contains G v ↔ (Contains F v ⊎ Is v)
+pub grown_by : (F G once : List ℕ) (Is : ℕ → Type 0) → ((v : ℕ) → Contains once v ↔ Is v) →
+    ((v : ℕ) → Contains G v ↔ (Contains F v ⊎ Contains once v)) → (v : ℕ) → Contains G v ↔ (Contains F v ⊎ Is v)
 grown_by F G once Is is grew v = (
   λ h. elim ((grew v).0 h) [ inl f ↦ inl f | inr o ↦ inr ((is v).0 o) ],
   λ h. (grew v).1 (elim h [ inl f ↦ inl f | inr n ↦ inr ((is v).1 n) ]),

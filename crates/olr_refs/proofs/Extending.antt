@@ -1,12 +1,14 @@
 -- The extended path, put together of the path and what is taken of the tried chains.
-use Rattle.std.proofs.Common.{◌⊎◌, ◌↔◌, ◌≡◌, ℕ, ◌+◌, ◌<◌, ◌==◌, Bool, true, false, not, cond, List, [], ◌++◌, length, get_or, Contains, None, IsTrue, refl, ap, ◌∙◌, subst, arith, length-append}
+use Rattle.std.proofs.Common.{◌⊎◌, ◌↔◌, ◌≡◌, ℕ, ◌+◌, ◌<◌, ◌==◌, Bool, true, false, not, cond, List, [], ◌++◌, length}
+use Rattle.std.proofs.Common.{get_or, Contains, None, IsTrue, refl, ap, ◌∙◌, subst, arith, length-append}
 use Rattle.std.specs.List.{All}
 use Rattle.std.proofs.lemmas.Bool.{eq-eqb}
 use Rattle.std.proofs.lemmas.List.Folds.{list_any_at}
 use Rattle.olr_spec.specs.Map.{Map, has_line, start, end}
 use Rattle.olr_spec.specs.Walks.{dm_of}
 use Rattle.olr_spec.specs.Encoding.{first_unknown}
-use Rattle.olr_spec.specs.Extension.{Path, is_path, first, last, passing, LongestStart, LongestEnd, taken_start, taken_end, from_start, Tried}
+use Rattle.olr_spec.specs.Extension.{Path, is_path, first, last, passing, LongestStart, LongestEnd, taken_start}
+use Rattle.olr_spec.specs.Extension.{taken_end, from_start, Tried}
 use Rattle.olr_spec.specs.Footprint.{NodeOf}
 use Rattle.olr_refs.specs.Extends.{Extends}
 use Rattle.olr_spec.proofs.AnswerLemmas.{no_unknown, path_nonempty}
@@ -22,7 +24,8 @@ pub all_known : (M : Map) (ls : List ℕ) → first_unknown M ls ≡ None → Ea
 all_known M ls e = Each-from (Known M) ls (no_unknown M ls e)
 
 pub All-from_each : (P : ℕ → Type 0) (xs : List ℕ) → Each P xs → All P xs
-All-from_each P xs h k d lt = h (get_or xs k d) (list_any_at (λ y. y == get_or xs k d) xs k d lt (eq-eqb (get_or xs k d) (get_or xs k d) refl))
+All-from_each P xs h k d lt =
+    h (get_or xs k d) (list_any_at (λ y. y == get_or xs k d) xs k d lt (eq-eqb (get_or xs k d) (get_or xs k d) refl))
 
 -- ---- what is taken of a chain, by whether it leads to a valid node
 
@@ -42,7 +45,8 @@ len_taken M true c = refl
 len_taken M false c = refl
 
 module _ (M : Map) (P : Path) (good : IsTrue (is_path P.lines)) (unknown : first_unknown M P.lines ≡ None)
-    (b : List ℕ) (before_valid : Bool) (longest : LongestStart M b P.lines) (is_valid : before_valid ≡ not (passing M (start M (first (b ++ P.lines))))) where
+    (b : List ℕ) (before_valid : Bool) (longest : LongestStart M b P.lines)
+    (is_valid : before_valid ≡ not (passing M (start M (first (b ++ P.lines))))) where
   pub path_known : Each (Known M) P.lines
   path_known = all_known M P.lines unknown
 
@@ -60,7 +64,9 @@ module _ (M : Map) (P : Path) (good : IsTrue (is_path P.lines)) (unknown : first
   before_known = StartChain-known M b P.lines longest.chain
 
   pub front_known : Each (Known M) front
-  front_known = Each-append (Known M) (if_valid before_valid b) P.lines (Each-if_valid (Known M) before_valid b before_known) path_known
+  front_known =
+      Each-append (Known M) (if_valid before_valid b) P.lines (Each-if_valid (Known M) before_valid b before_known)
+      path_known
 
   pub front_some : 0 < length front
   front_some = let n = path_nonempty P.lines good in omega (arith, length-append (if_valid before_valid b) P.lines)
@@ -68,7 +74,8 @@ module _ (M : Map) (P : Path) (good : IsTrue (is_path P.lines)) (unknown : first
   pub front_last : Known M (last front)
   front_last = front_known (last front) (has_last front front_some)
 
-  module _ (a : List ℕ) (after_valid : Bool) (longest_after : LongestEnd M front a) (ends_valid : after_valid ≡ not (passing M (end M (last (front ++ a))))) where
+  module _ (a : List ℕ) (after_valid : Bool) (longest_after : LongestEnd M front a)
+      (ends_valid : after_valid ≡ not (passing M (end M (last (front ++ a))))) where
     abbrev pub whole : List ℕ
     whole = front ++ if_valid after_valid a
 
@@ -76,23 +83,34 @@ module _ (M : Map) (P : Path) (good : IsTrue (is_path P.lines)) (unknown : first
     after_known = EndChain-known M front a longest_after.chain
 
     pub whole_known : Each (Known M) whole
-    whole_known = Each-append (Known M) front (if_valid after_valid a) front_known (Each-if_valid (Known M) after_valid a after_known)
+    whole_known =
+        Each-append (Known M) front (if_valid after_valid a) front_known
+        (Each-if_valid (Known M) after_valid a after_known)
 
     pub tried : Tried M P b a
     tried = record { before = longest; after = subst (λ (zs : List ℕ). LongestEnd M zs a) front_is longest_after }
 
     back_is : if_valid after_valid a ≡ taken_end M (from_start M P b) a
-    back_is = not_passing after_valid (passing M (end M (last (from_start M P b ++ a)))) a (ends_valid ∙ ap (λ (zs : List ℕ). not (passing M (end M (last (zs ++ a))))) front_is)
+    back_is =
+        not_passing after_valid (passing M (end M (last (from_start M P b ++ a)))) a
+        (ends_valid ∙ ap (λ (zs : List ℕ). not (passing M (end M (last (zs ++ a))))) front_is)
 
     whole_is : whole ≡ from_start M P b ++ taken_end M (from_start M P b) a
-    whole_is = ap (λ (zs : List ℕ). zs ++ if_valid after_valid a) front_is ∙ ap (λ (zs : List ℕ). from_start M P b ++ zs) back_is
+    whole_is =
+        ap (λ (zs : List ℕ). zs ++ if_valid after_valid a) front_is
+        ∙ ap (λ (zs : List ℕ). from_start M P b ++ zs) back_is
 
     -- what the code puts together is the extended path
-    pub extends : (E : Path) (F G : List ℕ) → E.lines ≡ whole → E.pos ≡ P.pos + cond before_valid (dm_of M b) 0 → E.neg ≡ P.neg + cond after_valid (dm_of M a) 0 → ((v : ℕ) → Contains G v ↔ (Contains F v ⊎ (NodeOf M E.lines v ⊎ (NodeOf M b v ⊎ NodeOf M a v)))) → Extends M P E F G
+    pub extends : (E : Path) (F G : List ℕ) → E.lines ≡ whole → E.pos ≡ P.pos + cond before_valid (dm_of M b) 0 →
+        E.neg ≡ P.neg + cond after_valid (dm_of M a) 0 →
+        ((v : ℕ) → Contains G v ↔ (Contains F v ⊎ (NodeOf M E.lines v ⊎ (NodeOf M b v ⊎ NodeOf M a v)))) →
+        Extends M P E F G
     extends E F G lines pos neg noted =
         let lines_are : E.lines ≡ from_start M P b ++ taken_end M (from_start M P b) a = lines ∙ whole_is in
-        let pos_is : E.pos ≡ P.pos + dm_of M (taken_start M b P.lines) = pos ∙ ap (λ n. P.pos + n) (len_taken M before_valid b ∙ ap (dm_of M) start_is) in
-        let neg_is : E.neg ≡ P.neg + dm_of M (taken_end M (from_start M P b) a) = neg ∙ ap (λ n. P.neg + n) (len_taken M after_valid a ∙ ap (dm_of M) back_is) in
+        let pos_is : E.pos ≡ P.pos + dm_of M (taken_start M b P.lines) =
+        pos ∙ ap (λ n. P.pos + n) (len_taken M before_valid b ∙ ap (dm_of M) start_is) in
+        let neg_is : E.neg ≡ P.neg + dm_of M (taken_end M (from_start M P b) a) =
+        neg ∙ ap (λ n. P.neg + n) (len_taken M after_valid a ∙ ap (dm_of M) back_is) in
         record {
           before = b;
           after = a;

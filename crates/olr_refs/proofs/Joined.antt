@@ -1,17 +1,17 @@
 -- What is known of joined lines.
-use Rattle.std.proofs.Common.{◌≡◌, ◌<◌, ◌≤◌, ◌-◌, ◌+◌, ◌*◌, ◌^◌, ℕ, zero, suc, List, [], ◌∷◌, ◌++◌, length, take, get_or, refl, sym, ap, ◌∙◌, subst, arith, inl, inr, length-append}
-use Rattle.std.proofs.lemmas.Bool.{and_parts, cases_order}
-use Rattle.std.proofs.lemmas.Bool.Decides.{nat_tests}
+use Rattle.std.proofs.Common.{◌≡◌, ◌<◌, ◌≤◌, ◌-◌, ◌+◌, ◌*◌, ◌^◌, ℕ, zero, suc, List, [], ◌∷◌, ◌++◌, length, take}
+use Rattle.std.proofs.Common.{get_or, refl, sym, ap, ◌∙◌, subst, arith, inl, inr, length-append}
+use Rattle.std.proofs.lemmas.Bool.{cases_order}
 use Rattle.std.proofs.lemmas.List.{get_or_default, get_or_append_left, take_more}
 use Rattle.std.proofs.Math.Seq.{get_or-append_seam}
 use Rattle.std.specs.List.{slice_index}
 use Rattle.std.specs.Prelude.{IsTrue}
-use Rattle.olr_spec.specs.Map.{Map, IsMap, Line, is_good, line_at, has_line, has_node, start, end, dm}
+use Rattle.olr_spec.specs.Map.{Map, IsMap, has_line, has_node, start, end, dm}
 use Rattle.olr_spec.specs.Walks.{Walk, dm_of}
-use Rattle.olr_spec.specs.Extension.{last}
-use Rattle.olr_spec.proofs.WalkLemmas.{dm_of-append}
+use Rattle.olr_spec.specs.Extension.{last, AreJoined}
+use Rattle.olr_spec.proofs.WalkLemmas.{dm_of-append, line_short}
 use Rattle.olr_spec.proofs.ListLemmas.{Each, Each-cons, Each-nil, has_index}
-use Rattle.olr_refs.specs.Along.{AreJoined, DistancesTo}
+use Rattle.olr_refs.specs.Along.{DistancesTo}
 
 -- each line of a walk is in the map
 pub walk_known : (M : Map) (s t : ℕ) (xs : List ℕ) → Walk M s t xs → Each (λ x. IsTrue (has_line M x)) xs
@@ -23,8 +23,10 @@ pub known_at : (M : Map) (ls : List ℕ) (k : ℕ) → AreJoined M ls → k < le
 known_at M ls k w h = walk_known M _ _ ls w (slice_index ls k) (has_index ls k h)
 
 -- the same of what was read there
-pub known_read : (M : Map) (ls : List ℕ) (k x : ℕ) → AreJoined M ls → k < length ls → x ≡ get_or ls k x → IsTrue (has_line M x)
-known_read M ls k x w h e = subst (λ y. IsTrue (has_line M y)) (sym (e ∙ get_or_default ls k x 0 h)) (known_at M ls k w h)
+pub known_read : (M : Map) (ls : List ℕ) (k x : ℕ) → AreJoined M ls → k < length ls → x ≡ get_or ls k x →
+    IsTrue (has_line M x)
+known_read M ls k x w h e =
+    subst (λ y. IsTrue (has_line M y)) (sym (e ∙ get_or_default ls k x 0 h)) (known_at M ls k w h)
 
 -- and of what is read there with another default
 pub known_get : (M : Map) (ls : List ℕ) (k d : ℕ) → AreJoined M ls → k < length ls → IsTrue (has_line M (get_or ls k d))
@@ -34,7 +36,8 @@ known_get M ls k d w h = known_read M ls k (get_or ls k d) w h (get_or_default l
 pub last_index : (ls : List ℕ) → 0 < length ls → slice_index ls (length ls - 1) ≡ last ls
 last_index [] h = absurd (omega arith)
 last_index (x ∷ []) h = refl
-last_index (x ∷ y ∷ xs) h = let n : length (x ∷ y ∷ xs) - 1 ≡ suc (length (y ∷ xs) - 1) = omega arith in ap (slice_index (x ∷ y ∷ xs)) n ∙ last_index (y ∷ xs) (omega arith)
+last_index (x ∷ y ∷ xs) h = let n : length (x ∷ y ∷ xs) - 1 ≡ suc (length (y ∷ xs) - 1) =
+    omega arith in ap (slice_index (x ∷ y ∷ xs)) n ∙ last_index (y ∷ xs) (omega arith)
 
 -- both ends of a line of the map are there
 pub start_known : (M : Map) → IsMap M → (x n : ℕ) → IsTrue (has_line M x) → n ≡ start M x → IsTrue (has_node M n)
@@ -45,18 +48,14 @@ end_known M m x n h e = subst (λ v. IsTrue (has_node M v)) (sym e) (m.ends x h)
 
 -- ---- sums of lengths
 
-good_short : (l : Line) → IsTrue (is_good l) → l.len ≤ 1000000
-good_short l h = grind (arith, nat_tests, and_parts)
-
-pub dm_short : (M : Map) → IsMap M → (x : ℕ) → IsTrue (has_line M x) → dm M x ≤ 1000000
-dm_short M m x h = good_short (line_at M x) (m.good x h)
-
 -- k lines are at most k times 10^6 dm long
-pub walk_short : (M : Map) → IsMap M → (s t : ℕ) (xs : List ℕ) (k : ℕ) → Walk M s t xs → dm_of M (take k xs) ≤ 1000000 * k
+pub walk_short : (M : Map) → IsMap M → (s t : ℕ) (xs : List ℕ) (k : ℕ) → Walk M s t xs →
+    dm_of M (take k xs) ≤ 1000000 * k
 walk_short M m s t [] zero w = omega arith
 walk_short M m s t [] (suc k) w = omega arith
 walk_short M m s t (x ∷ xs) zero w = omega arith
-walk_short M m s t (x ∷ xs) (suc k) w = let here = dm_short M m x w.0 in let rest = walk_short M m (end M x) t xs k w.2 in omega arith
+walk_short M m s t (x ∷ xs) (suc k) w = let here = line_short M m x w.0 in let rest =
+    walk_short M m (end M x) t xs k w.2 in omega arith
 
 pub sum_fits : (a b k : ℕ) → a ≤ 1000000 * k → k < 2 ^ 64 → b < 2 ^ 32 → a + b < 2 ^ 128
 sum_fits a b k h i j = omega arith
@@ -64,20 +63,31 @@ sum_fits a b k h i j = omega arith
 -- ---- distances
 
 pub no_distance : (M : Map) (ls : List ℕ) (ds : List ℕ) → ds ≡ 0 ∷ [] → DistancesTo M ls 0 ds
-no_distance M ls ds e = record { long = ap length e; each = λ k h. let z : k ≡ 0 = omega arith in subst (λ (j : ℕ). slice_index ds j ≡ dm_of M (take j ls)) (sym z) (ap (λ (xs : List ℕ). slice_index xs 0) e) }
+no_distance M ls ds e =
+    record {
+      long = ap length e;
+      each = λ k h. let z : k ≡ 0 = omega arith in
+          subst (λ (j : ℕ). slice_index ds j ≡ dm_of M (take j ls)) (sym z) (ap (λ (xs : List ℕ). slice_index xs 0) e);
+    }
 
 -- the length of one line more
-pub longer_by : (M : Map) (ls : List ℕ) (k x : ℕ) → k < length ls → x ≡ get_or ls k x → dm_of M (take (k + 1) ls) ≡ dm_of M (take k ls) + dm M x
+pub longer_by : (M : Map) (ls : List ℕ) (k x : ℕ) → k < length ls → x ≡ get_or ls k x →
+    dm_of M (take (k + 1) ls) ≡ dm_of M (take k ls) + dm M x
 longer_by M ls k x h r =
-    ap (dm_of M) (take_more ls k x h) ∙ dm_of-append M (take k ls) (get_or ls k x ∷ []) ∙ ap (λ (y : ℕ). dm_of M (take k ls) + (dm M y + 0)) (sym r) ∙ omega arith
+    ap (dm_of M) (take_more ls k x h) ∙ dm_of-append M (take k ls) (get_or ls k x ∷ [])
+    ∙ ap (λ (y : ℕ). dm_of M (take k ls) + (dm M y + 0)) (sym r) ∙ omega arith
 
-pub one_more : (M : Map) (ls ds es : List ℕ) (k a : ℕ) → DistancesTo M ls k ds → es ≡ ds ++ a ∷ [] → a ≡ dm_of M (take (k + 1) ls) → DistancesTo M ls (k + 1) es
+pub one_more : (M : Map) (ls ds es : List ℕ) (k a : ℕ) → DistancesTo M ls k ds → es ≡ ds ++ a ∷ [] →
+    a ≡ dm_of M (take (k + 1) ls) → DistancesTo M ls (k + 1) es
 one_more M ls ds es k a d e h =
     record {
       long = let l = d.long in omega (arith, ap length e, length-append ds (a ∷ []));
       each = λ j i. elim (cases_order j (k + 1)) [
-        | inl last ↦ ap (slice_index es) (last ∙ sym d.long) ∙ ap (λ (xs : List ℕ). slice_index xs (length ds)) e ∙ get_or-append_seam ds a [] 0 ∙ h ∙ ap (λ (n : ℕ). dm_of M (take n ls)) (sym last)
-        | inr (inl lt) ↦ let l = d.long in ap (λ (xs : List ℕ). slice_index xs j) e ∙ get_or_append_left ds (a ∷ []) 0 j (omega arith) ∙ d.each j (omega arith)
+        | inl last ↦ ap (slice_index es) (last ∙ sym d.long) ∙ ap (λ (xs : List ℕ). slice_index xs (length ds)) e
+            ∙ get_or-append_seam ds a [] 0 ∙ h ∙ ap (λ (n : ℕ). dm_of M (take n ls)) (sym last)
+        | inr (inl lt) ↦ let l =
+            d.long in ap (λ (xs : List ℕ). slice_index xs j) e ∙ get_or_append_left ds (a ∷ []) 0 j (omega arith)
+            ∙ d.each j (omega arith)
         | inr (inr gt) ↦ absurd (omega arith)
       ];
     }

@@ -11,9 +11,10 @@ use Rattle.olr_spec.specs.Reference.{Attrs, attrs, leg, legs, leg_at, no_leg, po
 use Rattle.olr_spec.proofs.ListLemmas.{Each}
 use Rattle.olr_spec.proofs.KeptLemmas.{dm_along-legs}
 use Rattle.olr_spec.proofs.FieldLemmas.{position_is}
+use Rattle.olr_spec.specs.Extension.{AreJoined}
 use Rattle.olr_bearing.specs.Legs as ends
 use Rattle.olr_bearing.specs.declared.places.Ends.{Ends}
-use Rattle.olr_refs.specs.Along.{AreJoined, AreDistances}
+use Rattle.olr_refs.specs.Along.{AreDistances}
 use Rattle.olr_refs.specs.Fields.{lowest_class}
 use Rattle.olr_refs.proofs.Joined.{walk_known}
 use Rattle.olr_refs.proofs.Stretches.{dm_stretch}
@@ -22,7 +23,8 @@ use Rattle.olr_refs.proofs.Stretches.{dm_stretch}
 pub joined_known : (M : Map) (ls : List ℕ) → AreJoined M ls → Each (λ x. IsTrue (has_line M x)) ls
 joined_known M ls w = walk_known M _ _ ls w
 
-pub position_at : (M : Map) → IsMap M → (ls : List ℕ) (i : ℕ) → AreJoined M ls → 0 < length ls → position (legs M ls) i ≡ place_at M (node_at M ls i)
+pub position_at : (M : Map) → IsMap M → (ls : List ℕ) (i : ℕ) → AreJoined M ls → 0 < length ls →
+    position (legs M ls) i ≡ place_at M (node_at M ls i)
 position_at M m ls i w n = position_is M m ls (joined_known M ls w) i n
 
 pub leg_at-legs : (M : Map) (ls : List ℕ) (i : ℕ) → i < length ls → leg_at (legs M ls) i ≡ leg M (slice_index ls i)
@@ -32,36 +34,46 @@ pub range_legs : (M : Map) (ls : List ℕ) (i j : ℕ) → slice_range (legs M l
 range_legs M ls i j = ap (take (j - i)) (drop-map (leg M) i ls) ∙ take-map (leg M) (j - i) (drop i ls)
 
 -- the leg of line i, by its record and the places of its ends
-pub leg_read : (M : Map) (ls : List ℕ) (i : ℕ) (l : Line) (e : Ends) → i < length ls → l ≡ line_at M (slice_index ls i) → e.from ≡ place_at M l.from → e.to ≡ place_at M l.to
+pub leg_read : (M : Map) (ls : List ℕ) (i : ℕ) (l : Line) (e : Ends) → i < length ls →
+    l ≡ line_at M (slice_index ls i) → e.from ≡ place_at M l.from → e.to ≡ place_at M l.to
     → ends.leg l e ≡ leg_at (legs M ls) i
 leg_read M ls i l e h is from to =
     let begin : e.from ≡ place_at M (start M (slice_index ls i)) = from ∙ ap (λ (r : Line). place_at M r.from) is in
     let finish : e.to ≡ place_at M (end M (slice_index ls i)) = to ∙ ap (λ (r : Line). place_at M r.to) is in
-    let same : ends.leg l e ≡ leg M (slice_index ls i) = λ k. record { line = is k; begin = begin k; finish = finish k } in
+    let same : ends.leg l e ≡ leg M (slice_index ls i) =
+    λ k. record { line = is k; begin = begin k; finish = finish k } in
     same ∙ sym (leg_at-legs M ls i h)
 
 -- what is known of the record of a line of the map
-pub record_sound : (M : Map) → IsMap M → (x : ℕ) (l : Line) → IsTrue (has_line M x) → l ≡ line_at M x → IsTrue (is_good l) × IsTrue (has_node M l.from) × IsTrue (has_node M l.to)
+pub record_sound : (M : Map) → IsMap M → (x : ℕ) (l : Line) → IsTrue (has_line M x) → l ≡ line_at M x →
+    IsTrue (is_good l) × IsTrue (has_node M l.from) × IsTrue (has_node M l.to)
 record_sound M m x l h e =
-    subst (λ (r : Line). IsTrue (is_good r) × IsTrue (has_node M r.from) × IsTrue (has_node M r.to)) (sym e) (m.good x h, m.starts x h, m.ends x h)
+    subst (λ (r : Line). IsTrue (is_good r) × IsTrue (has_node M r.from) × IsTrue (has_node M r.to)) (sym e)
+    (m.good x h, m.starts x h, m.ends x h)
 
 -- ---- lengths
 
-pub between_is : (M : Map) (ls ds : List ℕ) (i j : ℕ) → AreDistances M ls ds → i ≤ j → j ≤ length ls → slice_index ds j - slice_index ds i ≡ dm_between (legs M ls) i j
+pub between_is : (M : Map) (ls ds : List ℕ) (i j : ℕ) → AreDistances M ls ds → i ≤ j → j ≤ length ls →
+    slice_index ds j - slice_index ds i ≡ dm_between (legs M ls) i j
 between_is M ls ds i j a h g =
     let sum = dm_stretch M ls ds i j a h g in
-    let same : dm_between (legs M ls) i j ≡ dm_of M (stretch ls i j) = ap dm_along (range_legs M ls i j) ∙ dm_along-legs M (stretch ls i j) in
+    let same : dm_between (legs M ls) i j ≡ dm_of M (stretch ls i j) =
+    ap dm_along (range_legs M ls i j) ∙ dm_along-legs M (stretch ls i j) in
     omega arith
 
 -- ---- attributes
 
-pub attrs_read : (M : Map) (ls : List ℕ) (i j frc fow lfrc bearing d : ℕ) (l : Line) (e : Ends) → ends.leg l e ≡ leg_at (legs M ls) i → frc ≡ l.frc → fow ≡ l.fow
-    → lfrc ≡ lowest_class (legs M (stretch ls i j)) → bearing ≡ bearing_out (ends.leg l e) → d ≡ dm_between (legs M ls) i j
-    → ◌≡◌ {A = Attrs} (record { frc = frc; fow = fow; lfrc = lfrc; bearing = bearing; dnp = d / 586 }) (attrs (legs M ls) i j)
+pub attrs_read : (M : Map) (ls : List ℕ) (i j frc fow lfrc bearing d : ℕ) (l : Line) (e : Ends) →
+    ends.leg l e ≡ leg_at (legs M ls) i → frc ≡ l.frc → fow ≡ l.fow
+    → lfrc ≡ lowest_class (legs M (stretch ls i j)) → bearing ≡ bearing_out (ends.leg l e) →
+    d ≡ dm_between (legs M ls) i j
+    → ◌≡◌ {A = Attrs} (record { frc = frc; fow = fow; lfrc = lfrc; bearing = bearing; dnp = d / 586 })
+    (attrs (legs M ls) i j)
 attrs_read M ls i j frc fow lfrc bearing d l e is hr hf hl hb hd =
     let frc_is : frc ≡ (leg_at (legs M ls) i).line.frc = hr ∙ ap (λ (g : Leg). g.line.frc) is in
     let fow_is : fow ≡ (leg_at (legs M ls) i).line.fow = hf ∙ ap (λ (g : Leg). g.line.fow) is in
-    let lfrc_is : lfrc ≡ lowest_class (slice_range (legs M ls) i j) = hl ∙ ap lowest_class (sym (range_legs M ls i j)) in
+    let lfrc_is : lfrc ≡ lowest_class (slice_range (legs M ls) i j) =
+    hl ∙ ap lowest_class (sym (range_legs M ls i j)) in
     let bearing_is : bearing ≡ bearing_out (leg_at (legs M ls) i) = hb ∙ ap bearing_out is in
     let dnp_is : d / 586 ≡ dm_between (legs M ls) i j / 586 = ap (λ (n : ℕ). n / 586) hd in
     λ k. record { frc = frc_is k; fow = fow_is k; lfrc = lfrc_is k; bearing = bearing_is k; dnp = dnp_is k }

@@ -17,21 +17,27 @@ latitude_degrees z h =
     let p = and_parts (int_le (negsuc 29491167231999) z) (int_le z (pos 29491167232000)) h in
     let lo : negsuc 29491167231999 ≤ℤ z = le_yes (negsuc 29491167231999) z p.0 in
     let hi : z ≤ℤ pos 29491167232000 = le_yes z (pos 29491167232000) p.1 in
-    and_from (int_le (negsuc 58982399999999) z) (int_le z (pos 58982400000000)) (le_test (negsuc 58982399999999) z (omega (arith, ints))) (le_test z (pos 58982400000000) (omega (arith, ints)))
+    and_from (int_le (negsuc 58982399999999) z) (int_le z (pos 58982400000000))
+    (le_test (negsuc 58982399999999) z (omega (arith, ints))) (le_test z (pos 58982400000000) (omega (arith, ints)))
 
 -- the same of the latitude of a place, as it is passed
-pub latitude_passed : (p : Coord) (z : ℤ) → SFits w64 z → z ≡ p.lat → IsTrue (is_coord p) → IsTrue (is_degrees (to_z w64 (of_z w64 z)))
+pub latitude_passed : (p : Coord) (z : ℤ) → SFits w64 z → z ≡ p.lat → IsTrue (is_coord p) →
+    IsTrue (is_degrees (to_z w64 (of_z w64 z)))
 latitude_passed p z f e h =
-    subst (λ (y : ℤ). IsTrue (is_degrees y)) (sym (to_z-of_z w64 z f ∙ e)) (latitude_degrees p.lat (and_parts (is_longitude p.lon) (is_latitude p.lat) h).1)
+    subst (λ (y : ℤ). IsTrue (is_degrees y)) (sym (to_z-of_z w64 z f ∙ e))
+    (latitude_degrees p.lat (and_parts (is_longitude p.lon) (is_latitude p.lat) h).1)
 
 -- the second part of what fits
-pub latitudes_fit : (p q : Coord) (y z : ℤ) → SFits w64 y → SFits w64 z → y ≡ p.lat → z ≡ q.lat → IsTrue (fit16 p q) → IsTrue (fits16 (relative (to_z w64 (of_z w64 y)) (to_z w64 (of_z w64 z))))
+pub latitudes_fit : (p q : Coord) (y z : ℤ) → SFits w64 y → SFits w64 z → y ≡ p.lat → z ≡ q.lat → IsTrue (fit16 p q) →
+    IsTrue (fits16 (relative (to_z w64 (of_z w64 y)) (to_z w64 (of_z w64 z))))
 latitudes_fit p q y z f g e d h =
     let first = to_z-of_z w64 y f ∙ e in
     let second = to_z-of_z w64 z g ∙ d in
     let here = (and_parts (fits16 (relative p.lon q.lon)) (fits16 (relative p.lat q.lat)) h).1 in
-    subst (λ (x : ℤ). IsTrue (fits16 (relative x (to_z w64 (of_z w64 z))))) (sym first) (subst (λ (x : ℤ). IsTrue (fits16 (relative p.lat x))) (sym second) here)
+    subst (λ (x : ℤ). IsTrue (fits16 (relative x (to_z w64 (of_z w64 z))))) (sym first)
+    (subst (λ (x : ℤ). IsTrue (fits16 (relative p.lat x))) (sym second) here)
 
 -- what a call computes of a number that is passed, as it is stored
-pub stored : (w : Width) (f : ℤ → ℤ) (z x r : ℤ) → SFits w64 z → z ≡ x → SFits w r → r ≡ f (to_z w64 (of_z w64 z)) → to_z w (of_z w r) ≡ f x
+pub stored : (w : Width) (f : ℤ → ℤ) (z x r : ℤ) → SFits w64 z → z ≡ x → SFits w r → r ≡ f (to_z w64 (of_z w64 z)) →
+    to_z w (of_z w r) ≡ f x
 stored w f z x r h e g d = to_z-of_z w r g ∙ d ∙ ap f (to_z-of_z w64 z h ∙ e)

@@ -1,23 +1,28 @@
 -- The points of a reference, as they are read.
-use Rattle.std.proofs.Common.{◌≡◌, ◌<◌, ◌≤◌, ◌-◌, ◌+◌, ℕ, zero, suc, ℤ, Option, List, [], ◌∷◌, ◌++◌, length, take, refl, sym, ap, ◌∙◌, subst, arith}
+use Rattle.std.proofs.Common.{◌≡◌, ◌<◌, ◌≤◌, ◌-◌, ◌+◌, ℕ, zero, suc, ℤ, Option, List, [], ◌∷◌, ◌++◌, length, take, refl}
+use Rattle.std.proofs.Common.{sym, ap, ◌∙◌, subst, arith}
 use Rattle.std.specs.List.{slice_index, AllByRecursion}
 use Rattle.std.specs.Prelude.{IsTrue}
 use Rattle.olr_spec.specs.Coordinates.{abs24, relative}
 use Rattle.olr_spec.specs.Map.{Map, IsMap}
 use Rattle.olr_spec.specs.Points.{fit16, Candidate}
 use Rattle.olr_spec.specs.Bearings.{Leg, bearing_back}
-use Rattle.olr_spec.specs.Reference.{Attrs, First, Last, Middle, Reference, attrs, dm_between, offset, last_two, reference_by, first_point, middle_point, middle_points, last_point, legs, leg_at, position}
+use Rattle.olr_spec.specs.Reference.{Attrs, First, Last, Middle, Reference, attrs, dm_between, offset, last_two}
+use Rattle.olr_spec.specs.Reference.{reference_by, first_point, middle_point, middle_points, last_point, legs, leg_at}
+use Rattle.olr_spec.specs.Reference.{position}
 use Rattle.olr_spec.specs.Bytes.{IsMiddle, IsReference}
 use Rattle.olr_spec.proofs.JoinLemmas.{Linked}
 use Rattle.olr_spec.proofs.FieldLemmas.{first_fits, attrs_fit, middles_fit, last_fits, offset_fits}
-use Rattle.olr_refs.specs.Along.{AreJoined, AreDistances}
+use Rattle.olr_spec.specs.Extension.{AreJoined}
+use Rattle.olr_refs.specs.Along.{AreDistances}
 use Rattle.olr_refs.specs.Fields.{middle_points_of}
 use Rattle.olr_refs.specs.Kept.{AreLinked, distance_at}
 use Rattle.olr_refs.proofs.LegLemmas.{joined_known, position_at, between_is}
 use Rattle.olr_refs.proofs.Trimming.{linked_again, linked_end}
 
 -- the differences between neighbours fit 16 bits
-pub neighbours_fit : (M : Map) → IsMap M → (ls : List ℕ) (i j : ℕ) → AreJoined M ls → Candidate M ls i j → IsTrue (fit16 (position (legs M ls) i) (position (legs M ls) j))
+pub neighbours_fit : (M : Map) → IsMap M → (ls : List ℕ) (i j : ℕ) → AreJoined M ls → Candidate M ls i j →
+    IsTrue (fit16 (position (legs M ls) i) (position (legs M ls) j))
 neighbours_fit M m ls i j w c =
     let after = c.after in
     let upto = c.upto in
@@ -25,12 +30,15 @@ neighbours_fit M m ls i j w c =
     let q = position_at M m ls j w (omega arith) in
     (λ k. fit16 (p k) (q k)) ∙ c.fits
 
-pub first_read : (gs : List Leg) (i j : ℕ) (lon lat : ℤ) (a : Attrs) → lon ≡ abs24 (position gs i).lon → lat ≡ abs24 (position gs i).lat → a ≡ attrs gs i j
+pub first_read : (gs : List Leg) (i j : ℕ) (lon lat : ℤ) (a : Attrs) → lon ≡ abs24 (position gs i).lon →
+    lat ≡ abs24 (position gs i).lat → a ≡ attrs gs i j
     → ◌≡◌ {A = First} (record { lon = lon; lat = lat; attrs = a }) (first_point gs i j)
 first_read gs i j lon lat a hx hy ha = λ k. record { lon = hx k; lat = hy k; attrs = ha k }
 
 pub last_read : (gs : List Leg) (h i frc fow bearing : ℕ) (dlon dlat : ℤ) (g : Leg) → g ≡ leg_at gs (i - 1)
-    → dlon ≡ relative (position gs h).lon (position gs i).lon → dlat ≡ relative (position gs h).lat (position gs i).lat → frc ≡ g.line.frc → fow ≡ g.line.fow → bearing ≡ bearing_back g
+    → dlon ≡ relative (position gs h).lon (position gs i).lon →
+    dlat ≡ relative (position gs h).lat (position gs i).lat → frc ≡ g.line.frc → fow ≡ g.line.fow →
+    bearing ≡ bearing_back g
     → ◌≡◌ {A = Last} (record { dlon = dlon; dlat = dlat; frc = frc; fow = fow; bearing = bearing }) (last_point gs h i)
 last_read gs h i frc fow bearing dlon dlat g is hx hy hr hf hb =
     let frc_is : frc ≡ (leg_at gs (i - 1)).line.frc = hr ∙ ap (λ (g : Leg). g.line.frc) is in
@@ -41,13 +49,16 @@ last_read gs h i frc fow bearing dlon dlat g is hx hy hr hf hb =
 -- ---- one point more
 
 one_more : (gs : List Leg) (h i : ℕ) (js : List ℕ) (n : ℕ) → n < length js
-    → middle_points gs h i (take (suc n) js) ≡ middle_points gs h i (take n js) ++ middle_point gs (slice_index (h ∷ i ∷ js) n) (slice_index (i ∷ js) n) (slice_index js n) ∷ []
+    → middle_points gs h i (take (suc n) js) ≡ middle_points gs h i (take n js)
+    ++ middle_point gs (slice_index (h ∷ i ∷ js) n) (slice_index (i ∷ js) n) (slice_index js n) ∷ []
 one_more gs h i [] n lt = absurd (omega arith)
 one_more gs h i (j ∷ js) zero lt = refl
-one_more gs h i (j ∷ js) (suc n) lt = ap (λ (ps : List Middle). middle_point gs h i j ∷ ps) (one_more gs i j js n (omega arith))
+one_more gs h i (j ∷ js) (suc n) lt =
+    ap (λ (ps : List Middle). middle_point gs h i j ∷ ps) (one_more gs i j js n (omega arith))
 
 pub middle_more : (gs : List Leg) (ps : List ℕ) (k : ℕ) → 0 < k → k + 1 < length ps
-    → middle_points_of gs (take (k + 2) ps) ≡ middle_points_of gs (take (k + 1) ps) ++ middle_point gs (slice_index ps (k - 1)) (slice_index ps k) (slice_index ps (k + 1)) ∷ []
+    → middle_points_of gs (take (k + 2) ps) ≡ middle_points_of gs (take (k + 1) ps)
+    ++ middle_point gs (slice_index ps (k - 1)) (slice_index ps k) (slice_index ps (k + 1)) ∷ []
 middle_more gs [] k h lt = absurd (omega arith)
 middle_more gs (p ∷ []) k h lt = absurd (omega arith)
 middle_more gs (p ∷ q ∷ ps) zero h lt = absurd (omega arith)
@@ -56,9 +67,13 @@ middle_more gs (p ∷ q ∷ ps) (suc n) h lt =
     let one : suc n + 1 ≡ suc (suc n) = omega arith in
     let less : suc n - 1 ≡ n = omega arith in
     ap (λ (m : ℕ). middle_points_of gs (take m (p ∷ q ∷ ps))) two ∙ one_more gs p q ps n (omega arith)
-    ∙ ap (λ (m : ℕ). middle_points_of gs (take m (p ∷ q ∷ ps)) ++ middle_point gs (slice_index (p ∷ q ∷ ps) n) (slice_index (q ∷ ps) n) (slice_index ps n) ∷ []) (sym one)
-    ∙ ap (λ (m : ℕ). middle_points_of gs (take (suc n + 1) (p ∷ q ∷ ps)) ++ middle_point gs (slice_index (p ∷ q ∷ ps) m) (slice_index (q ∷ ps) n) (slice_index ps n) ∷ []) (sym less)
-    ∙ ap (λ (m : ℕ). middle_points_of gs (take (suc n + 1) (p ∷ q ∷ ps)) ++ middle_point gs (slice_index (p ∷ q ∷ ps) (suc n - 1)) (slice_index (q ∷ ps) n) (slice_index (p ∷ q ∷ ps) m) ∷ []) (sym one)
+    ∙ ap (λ (m : ℕ). middle_points_of gs (take m (p ∷ q ∷ ps))
+    ++ middle_point gs (slice_index (p ∷ q ∷ ps) n) (slice_index (q ∷ ps) n) (slice_index ps n) ∷ []) (sym one)
+    ∙ ap (λ (m : ℕ). middle_points_of gs (take (suc n + 1) (p ∷ q ∷ ps))
+    ++ middle_point gs (slice_index (p ∷ q ∷ ps) m) (slice_index (q ∷ ps) n) (slice_index ps n) ∷ []) (sym less)
+    ∙ ap (λ (m : ℕ). middle_points_of gs (take (suc n + 1) (p ∷ q ∷ ps))
+    ++ middle_point gs (slice_index (p ∷ q ∷ ps) (suc n - 1)) (slice_index (q ∷ ps) n) (slice_index (p ∷ q ∷ ps) m)
+    ∷ []) (sym one)
 
 -- ---- the whole
 
@@ -86,8 +101,10 @@ reference_parts gs pos_left neg_left (p ∷ []) h = absurd (omega arith)
 reference_parts gs pos_left neg_left (p ∷ q ∷ ks) h =
     let two : length (p ∷ q ∷ ks) - 1 - 1 ≡ length ks = omega arith in
     let one : length (p ∷ q ∷ ks) - 1 ≡ suc (length ks) = omega arith in
-    let before : slice_index (p ∷ q ∷ ks) (length (p ∷ q ∷ ks) - 1 - 1) ≡ (last_two p q ks).0 = ap (slice_index (p ∷ q ∷ ks)) two ∙ sym (last_two_at p q ks) in
-    let end : slice_index (p ∷ q ∷ ks) (length (p ∷ q ∷ ks) - 1) ≡ (last_two p q ks).1 = ap (slice_index (p ∷ q ∷ ks)) one ∙ sym (last_at p q ks) in
+    let before : slice_index (p ∷ q ∷ ks) (length (p ∷ q ∷ ks) - 1 - 1) ≡ (last_two p q ks).0 =
+    ap (slice_index (p ∷ q ∷ ks)) two ∙ sym (last_two_at p q ks) in
+    let end : slice_index (p ∷ q ∷ ks) (length (p ∷ q ∷ ks) - 1) ≡ (last_two p q ks).1 =
+    ap (slice_index (p ∷ q ∷ ks)) one ∙ sym (last_at p q ks) in
     λ k. record {
       first = first_point gs p q;
       middle = middle_points gs p q ks;
@@ -97,30 +114,40 @@ reference_parts gs pos_left neg_left (p ∷ q ∷ ks) h =
     }
 
 -- the same of parts that are read, the offsets by distances
-pub reference_read : (M : Map) (ls ks : List ℕ) (pos_left neg_left : ℕ) (first : First) (middle : List Middle) (last : Last) (pos neg : Option ℕ) → 2 ≤ length ks
-    → first ≡ first_point (legs M ls) (slice_index ks 0) (slice_index ks 1) → middle ≡ middle_points_of (legs M ls) ks → last ≡ last_point (legs M ls) (slice_index ks (length ks - 1 - 1)) (slice_index ks (length ks - 1))
-    → pos ≡ offset pos_left (dm_between (legs M ls) (slice_index ks 0) (slice_index ks 1)) → neg ≡ offset neg_left (dm_between (legs M ls) (slice_index ks (length ks - 1 - 1)) (slice_index ks (length ks - 1)))
-    → ◌≡◌ {A = Reference} (record { first = first; middle = middle; last = last; pos = pos; neg = neg }) (reference_by (legs M ls) pos_left neg_left ks)
+pub reference_read : (M : Map) (ls ks : List ℕ) (pos_left neg_left : ℕ) (first : First) (middle : List Middle)
+    (last : Last) (pos neg : Option ℕ) → 2 ≤ length ks
+    → first ≡ first_point (legs M ls) (slice_index ks 0) (slice_index ks 1) → middle ≡ middle_points_of (legs M ls) ks →
+    last ≡ last_point (legs M ls) (slice_index ks (length ks - 1 - 1)) (slice_index ks (length ks - 1))
+    → pos ≡ offset pos_left (dm_between (legs M ls) (slice_index ks 0) (slice_index ks 1)) →
+    neg ≡ offset neg_left (dm_between (legs M ls) (slice_index ks (length ks - 1 - 1)) (slice_index ks (length ks - 1)))
+    → ◌≡◌ {A = Reference} (record { first = first; middle = middle; last = last; pos = pos; neg = neg })
+    (reference_by (legs M ls) pos_left neg_left ks)
 reference_read M ls ks pos_left neg_left first middle last pos neg two hf hm hl pos_is neg_is =
-    let parts : ◌≡◌ {A = Reference} (record { first = first; middle = middle; last = last; pos = pos; neg = neg }) (record {
+    let parts : ◌≡◌ {A = Reference} (record { first = first; middle = middle; last = last; pos = pos; neg = neg })
+    (record {
       first = first_point (legs M ls) (slice_index ks 0) (slice_index ks 1);
       middle = middle_points_of (legs M ls) ks;
       last = last_point (legs M ls) (slice_index ks (length ks - 1 - 1)) (slice_index ks (length ks - 1));
       pos = offset pos_left (dm_between (legs M ls) (slice_index ks 0) (slice_index ks 1));
-      neg = offset neg_left (dm_between (legs M ls) (slice_index ks (length ks - 1 - 1)) (slice_index ks (length ks - 1)));
+      neg = offset neg_left (dm_between (legs M ls) (slice_index ks (length ks - 1 - 1))
+          (slice_index ks (length ks - 1)));
     }) = λ k. record { first = hf k; middle = hm k; last = hl k; pos = pos_is k; neg = neg_is k } in
     parts ∙ reference_parts (legs M ls) pos_left neg_left ks two
 
 -- ---- fields that fit their bits
 
-middle_fit : (M : Map) → IsMap M → (ls ks : List ℕ) → AreJoined M ls → 0 < length ls → Linked M ls ks → AllByRecursion IsMiddle (middle_points_of (legs M ls) ks)
+middle_fit : (M : Map) → IsMap M → (ls ks : List ℕ) → AreJoined M ls → 0 < length ls → Linked M ls ks →
+    AllByRecursion IsMiddle (middle_points_of (legs M ls) ks)
 middle_fit M m ls [] w n l = tt
 middle_fit M m ls (h ∷ []) w n l = tt
 middle_fit M m ls (h ∷ i ∷ ks) w n l = middles_fit M m ls (joined_known M ls w) h i ks n l
 
 -- where what is left of the offsets is less than the first stretch and less than the last
-pub kept_fit : (M : Map) → IsMap M → (ls ds ks : List ℕ) (pos_left neg_left : ℕ) → AreJoined M ls → AreDistances M ls ds → AreLinked M ls ks → 2 ≤ length ks
-    → distance_at ds ks 0 + pos_left < distance_at ds ks 1 → distance_at ds ks (length ks - 2) + neg_left < distance_at ds ks (length ks - 1) → IsReference (reference_by (legs M ls) pos_left neg_left ks)
+pub kept_fit : (M : Map) → IsMap M → (ls ds ks : List ℕ) (pos_left neg_left : ℕ) → AreJoined M ls →
+    AreDistances M ls ds → AreLinked M ls ks → 2 ≤ length ks
+    → distance_at ds ks 0 + pos_left < distance_at ds ks 1 →
+    distance_at ds ks (length ks - 2) + neg_left < distance_at ds ks (length ks - 1) →
+    IsReference (reference_by (legs M ls) pos_left neg_left ks)
 kept_fit M m ls ds ks pos_left neg_left w d linked two p q =
     let a = linked 0 (omega arith) in
     let b = linked_end M ls ks linked two in
@@ -131,13 +158,21 @@ kept_fit M m ls ds ks pos_left neg_left w d linked two p q =
     let known = joined_known M ls w in
     let first = first_fits M m ls known (slice_index ks 0) in
     let pos_stretch = between_is M ls ds (slice_index ks 0) (slice_index ks 1) d (omega arith) a.upto in
-    let neg_stretch = between_is M ls ds (slice_index ks (length ks - 1 - 1)) (slice_index ks (length ks - 1)) d (omega arith) b.upto in
+    let neg_stretch =
+    between_is M ls ds (slice_index ks (length ks - 1 - 1)) (slice_index ks (length ks - 1)) d (omega arith) b.upto in
     let same : length ks - 1 - 1 ≡ length ks - 2 = omega arith in
     let before = ap (distance_at ds ks) same in
     subst IsReference (reference_parts (legs M ls) pos_left neg_left ks two) (record {
-      first = record { lon = first.0; lat = first.1; attrs = attrs_fit M m ls known (slice_index ks 0) (slice_index ks 1) a };
+      first =
+          record {
+            lon = first.0;
+            lat = first.1;
+            attrs =
+                attrs_fit M m ls known (slice_index ks 0) (slice_index ks 1) a;
+          };
       middle = middle_fit M m ls ks w long (linked_again M ls ks linked);
       last = last_fits M m ls known (slice_index ks (length ks - 1 - 1)) (slice_index ks (length ks - 1)) long b;
       pos = offset_fits pos_left (dm_between (legs M ls) (slice_index ks 0) (slice_index ks 1)) (omega arith);
-      neg = offset_fits neg_left (dm_between (legs M ls) (slice_index ks (length ks - 1 - 1)) (slice_index ks (length ks - 1))) (omega arith);
+      neg = offset_fits neg_left
+          (dm_between (legs M ls) (slice_index ks (length ks - 1 - 1)) (slice_index ks (length ks - 1))) (omega arith);
     })

@@ -1,20 +1,22 @@
 -- The positions that are covered, by one walk along the lines after a position.
-use Rattle.std.proofs.Common.{◌≡◌, ◌<◌, ◌≤◌, ◌-◌, ◌+◌, ℕ, min, max, Bool, true, false, List, [], ◌∷◌, ◌++◌, length, take, drop, refl, sym, ap, ◌∙◌, subst, arith, inl, inr}
+use Rattle.std.proofs.Common.{◌≡◌, ◌<◌, ◌≤◌, ◌-◌, ◌+◌, ℕ, min, max, Bool, true, false, List, [], ◌∷◌, ◌++◌, length}
+use Rattle.std.proofs.Common.{take, drop, refl, sym, ap, ◌∙◌, subst, arith, inl, inr}
 use Rattle.std.proofs.lemmas.Bool.{cases_order}
 use Rattle.std.specs.Prelude.{IsTrue, ◌↔◌}
 use Rattle.std.specs.List.{slice_index}
 use Rattle.olr_spec.specs.Map.{Map, IsMap, start, end, dm}
 use Rattle.olr_spec.specs.Walks.{Walk, Sole, dm_of}
-use Rattle.olr_spec.specs.Extension.{limit}
+use Rattle.olr_spec.specs.Extension.{limit, AreJoined}
 use Rattle.olr_spec.specs.Points.{stretch, Covered}
 use Rattle.olr_spec.specs.Looks.{Needed, IsLastTested}
 use Rattle.olr_spec.proofs.WalkLemmas.{empty_sole, prefix_of_sole, dm_of-append}
 use Rattle.olr_spec.proofs.JoinLemmas.{stretch_last}
+use Rattle.olr_spec.proofs.LookLemmas.{stretch_parts}
+use Rattle.olr_spec.proofs.WayLemmas.{next_start, way_between}
 use Rattle.olr_route.specs.declared.distances.Direction.TheVariants.{Along}
 use Rattle.olr_route.specs.declared.distances.Search.{Search}
 use Rattle.olr_route.specs.Searches.{IsSearch, limit_of}
-use Rattle.olr_refs.specs.Along.{AreJoined, IsFar, IsReach}
-use Rattle.olr_refs.proofs.Stretches.{stretch_split, stretch_joined, next_joined}
+use Rattle.olr_refs.specs.Along.{IsFar, IsReach}
 
 -- the lines after line i, up to line k, are the sole shortest walk
 abbrev pub SoleTo : Map → List ℕ → ℕ → ℕ → Type 0
@@ -23,34 +25,47 @@ SoleTo M ls i k = Sole M (end M (slice_index ls i)) (start M (slice_index ls k))
 pub empty_stretch : (ls : List ℕ) (p : ℕ) → [] ≡ stretch ls p p
 empty_stretch ls p = let e : 0 ≡ p - p = omega arith in ap (λ (n : ℕ). take n (drop p ls)) e
 
-pub sole_start : (M : Map) → IsMap M → (ls : List ℕ) (i : ℕ) → AreJoined M ls → i + 1 < length ls → SoleTo M ls i (i + 1)
+pub sole_start : (M : Map) → IsMap M → (ls : List ℕ) (i : ℕ) → AreJoined M ls → i + 1 < length ls →
+    SoleTo M ls i (i + 1)
 sole_start M m ls i w h =
     let s = end M (slice_index ls i) in
-    let there : Sole M s (start M (slice_index ls (i + 1))) [] = subst (λ (t : ℕ). Sole M s t []) (next_joined M ls i w h) (empty_sole M m s) in
+    let there : Sole M s (start M (slice_index ls (i + 1))) [] =
+    subst (λ (t : ℕ). Sole M s t []) (next_start M _ _ ls i w h) (empty_sole M m s) in
     subst (Sole M s (start M (slice_index ls (i + 1)))) (empty_stretch ls (i + 1)) there
 
 -- one line more
 sole_on : (M : Map) (ls : List ℕ) (i k : ℕ) → AreJoined M ls → i < k → k + 1 < length ls
-    → Sole M (end M (slice_index ls i)) (end M (slice_index ls k)) (stretch ls (i + 1) k ++ slice_index ls k ∷ []) → SoleTo M ls i (k + 1)
+    → Sole M (end M (slice_index ls i)) (end M (slice_index ls k)) (stretch ls (i + 1) k ++ slice_index ls k ∷ []) →
+    SoleTo M ls i (k + 1)
 sole_on M ls i k w h g r =
     let s = end M (slice_index ls i) in
-    let there : Sole M s (start M (slice_index ls (k + 1))) (stretch ls (i + 1) k ++ slice_index ls k ∷ []) = subst (λ (t : ℕ). Sole M s t (stretch ls (i + 1) k ++ slice_index ls k ∷ [])) (next_joined M ls k w g) r in
-    subst (Sole M s (start M (slice_index ls (k + 1)))) (sym (stretch_last ls (i + 1) k (omega arith) (omega arith))) there
+    let there : Sole M s (start M (slice_index ls (k + 1))) (stretch ls (i + 1) k ++ slice_index ls k ∷ []) =
+    subst (λ (t : ℕ). Sole M s t (stretch ls (i + 1) k ++ slice_index ls k ∷ [])) (next_start M _ _ ls k w g) r in
+    subst (Sole M s (start M (slice_index ls (k + 1)))) (sym (stretch_last ls (i + 1) k (omega arith) (omega arith)))
+    there
 
 sole_off : (M : Map) (ls : List ℕ) (i k : ℕ) → AreJoined M ls → i < k → k + 1 < length ls
-    → SoleTo M ls i (k + 1) → Sole M (end M (slice_index ls i)) (end M (slice_index ls k)) (stretch ls (i + 1) k ++ slice_index ls k ∷ [])
+    → SoleTo M ls i (k + 1) → Sole M (end M (slice_index ls i)) (end M (slice_index ls k))
+    (stretch ls (i + 1) k ++ slice_index ls k ∷ [])
 sole_off M ls i k w h g r =
     let s = end M (slice_index ls i) in
-    let parts : Sole M s (start M (slice_index ls (k + 1))) (stretch ls (i + 1) k ++ slice_index ls k ∷ []) = subst (Sole M s (start M (slice_index ls (k + 1)))) (stretch_last ls (i + 1) k (omega arith) (omega arith)) r in
-    subst (λ (t : ℕ). Sole M s t (stretch ls (i + 1) k ++ slice_index ls k ∷ [])) (sym (next_joined M ls k w g)) parts
+    let parts : Sole M s (start M (slice_index ls (k + 1))) (stretch ls (i + 1) k ++ slice_index ls k ∷ []) =
+    subst (Sole M s (start M (slice_index ls (k + 1)))) (stretch_last ls (i + 1) k (omega arith) (omega arith)) r in
+    subst (λ (t : ℕ). Sole M s t (stretch ls (i + 1) k ++ slice_index ls k ∷ [])) (sym (next_start M _ _ ls k w g))
+    parts
 
 -- a shorter walk along the same lines is sole too
-sole_shorter : (M : Map) (ls : List ℕ) (i j k : ℕ) → AreJoined M ls → i < j → j ≤ k → k < length ls → SoleTo M ls i k → SoleTo M ls i j
+sole_shorter : (M : Map) (ls : List ℕ) (i j k : ℕ) → AreJoined M ls → i < j → j ≤ k → k < length ls → SoleTo M ls i k →
+    SoleTo M ls i j
 sole_shorter M ls i j k w h g f r =
     let s = end M (slice_index ls i) in
-    let whole : Sole M s (start M (slice_index ls k)) (stretch ls (i + 1) j ++ stretch ls j k) = subst (Sole M s (start M (slice_index ls k))) (stretch_split ls (i + 1) j k (omega arith) g) r in
-    let first = subst (λ (v : ℕ). Walk M v (start M (slice_index ls j)) (stretch ls (i + 1) j)) (sym (next_joined M ls i w (omega arith))) (stretch_joined M ls (i + 1) j w (omega arith) (omega arith)) in
-    prefix_of_sole M s (start M (slice_index ls j)) (start M (slice_index ls k)) (stretch ls (i + 1) j) (stretch ls j k) whole first (stretch_joined M ls j k w g f)
+    let whole : Sole M s (start M (slice_index ls k)) (stretch ls (i + 1) j ++ stretch ls j k) =
+    subst (Sole M s (start M (slice_index ls k))) (stretch_parts ls (i + 1) j k (omega arith) g) r in
+    let first =
+    subst (λ (v : ℕ). Walk M v (start M (slice_index ls j)) (stretch ls (i + 1) j))
+    (sym (next_start M _ _ ls i w (omega arith))) (way_between M _ _ ls (i + 1) j w (omega arith) (omega arith)) in
+    prefix_of_sole M s (start M (slice_index ls j)) (start M (slice_index ls k)) (stretch ls (i + 1) j) (stretch ls j k)
+    whole first (way_between M _ _ ls j k w g f)
 
 -- ---- what is covered
 
@@ -66,7 +81,8 @@ covered_last : (M : Map) (ls : List ℕ) (i j : ℕ) → length ls ≤ i + 1 →
 covered_last M ls i j h = λ lt. absurd (omega arith)
 
 -- the lines after i are the sole walk as far as the limit allows
-pub reach_far : (M : Map) (ls : List ℕ) (i far : ℕ) → AreJoined M ls → IsFar M ls i far → (i + 1 ≤ min far (length ls - 1) → SoleTo M ls i (min far (length ls - 1))) → IsReach M ls i far
+pub reach_far : (M : Map) (ls : List ℕ) (i far : ℕ) → AreJoined M ls → IsFar M ls i far →
+    (i + 1 ≤ min far (length ls - 1) → SoleTo M ls i (min far (length ls - 1))) → IsReach M ls i far
 reach_far M ls i far w f r =
     record {
       from = f.from;
@@ -82,7 +98,8 @@ reach_far M ls i far w f r =
       | inr (inr gt) ↦
           let u = f.upto in
           covered_by M ls i j (min j (length ls - 1)) refl
-          (sole_shorter M ls i (min j (length ls - 1)) (min far (length ls - 1)) w (omega arith) (omega arith) (omega arith) (r (omega arith)))
+          (sole_shorter M ls i (min j (length ls - 1)) (min far (length ls - 1)) w (omega arith) (omega arith)
+          (omega arith) (r (omega arith)))
     ]
 
 -- they are it up to line k, and no longer with line k
@@ -115,11 +132,13 @@ reach_to M ls i far k w f h g r no_more =
 
 -- ---- what is tested last
 
-tested_before : (M : Map) (ls : List ℕ) (i k : ℕ) → AreJoined M ls → i < k → k < length ls → SoleTo M ls i k → (m : ℕ) → i < m → m ≤ k → Covered M ls i m
+tested_before : (M : Map) (ls : List ℕ) (i k : ℕ) → AreJoined M ls → i < k → k < length ls → SoleTo M ls i k → (m : ℕ) →
+    i < m → m ≤ k → Covered M ls i m
 tested_before M ls i k w h g r m a b = covered_by M ls i m m (omega arith) (sole_shorter M ls i m k w a b g r)
 
 -- no position is needed behind those that are near enough
-needed_most : (M : Map) (ls : List ℕ) (i far : ℕ) → IsFar M ls i far → (m : ℕ) → Needed M ls i m → m ≤ min far (length ls - 1)
+needed_most : (M : Map) (ls : List ℕ) (i far : ℕ) → IsFar M ls i far → (m : ℕ) → Needed M ls i m →
+    m ≤ min far (length ls - 1)
 needed_most M ls i far f m n =
     elim (cases_order far n.0) [
       | inl e ↦ let le = n.3 in omega arith
@@ -127,11 +146,13 @@ needed_most M ls i far f m n =
       | inr (inr gt) ↦ let le = n.3 in omega arith
     ]
 
-needed_far : (M : Map) (ls : List ℕ) (i far k : ℕ) → IsFar M ls i far → i < far → k ≤ min far (length ls - 1) → Needed M ls i k
+needed_far : (M : Map) (ls : List ℕ) (i far k : ℕ) → IsFar M ls i far → i < far → k ≤ min far (length ls - 1) →
+    Needed M ls i k
 needed_far M ls i far k f h g = let from = f.from in (far, f.upto, f.near far h (omega arith), g)
 
 -- none isn't covered
-pub last_far : (M : Map) (ls : List ℕ) (i far k : ℕ) → AreJoined M ls → IsFar M ls i far → i + 1 < length ls → k ≡ max (min far (length ls - 1)) (i + 1) → SoleTo M ls i k → IsLastTested M ls i k
+pub last_far : (M : Map) (ls : List ℕ) (i far k : ℕ) → AreJoined M ls → IsFar M ls i far → i + 1 < length ls →
+    k ≡ max (min far (length ls - 1)) (i + 1) → SoleTo M ls i k → IsLastTested M ls i k
 last_far M ls i far k w f h e r =
     record {
       after = omega arith;
@@ -166,52 +187,82 @@ pub record Tests (M : Map) (place : ℕ → ℕ) (ls : List ℕ) (i k : ℕ) (s 
   pub settled : limit_of s ≡ dm_of M (stretch ls (i + 1) k)
   pub sole : SoleTo M ls i k
 
-pub tests_start : (M : Map) → IsMap M → (place : ℕ → ℕ) (ls : List ℕ) (i : ℕ) (s : Search) → AreJoined M ls → i + 1 < length ls
+pub tests_start : (M : Map) → IsMap M → (place : ℕ → ℕ) (ls : List ℕ) (i : ℕ) (s : Search) → AreJoined M ls →
+    i + 1 < length ls
     → IsSearch M place Along ((end M (slice_index ls i), 0) ∷ []) s → limit_of s ≡ 0 → Tests M place ls i (i + 1) s
 tests_start M m place ls i s w h search at_source =
-    record { search = search; settled = at_source ∙ ap (dm_of M) (empty_stretch ls (i + 1)); sole = sole_start M m ls i w h }
+    record {
+      search = search;
+      settled = at_source ∙ ap (dm_of M) (empty_stretch ls (i + 1));
+      sole =
+          sole_start M m ls i w h;
+    }
 
-pub stretch_longer : (M : Map) (ls : List ℕ) (p k : ℕ) → p ≤ k → k < length ls → dm_of M (stretch ls p (k + 1)) ≡ dm_of M (stretch ls p k) + dm M (slice_index ls k)
-stretch_longer M ls p k h g = let e = ap (dm_of M) (stretch_last ls p k h g) ∙ dm_of-append M (stretch ls p k) (slice_index ls k ∷ []) in omega arith
+pub stretch_longer : (M : Map) (ls : List ℕ) (p k : ℕ) → p ≤ k → k < length ls →
+    dm_of M (stretch ls p (k + 1)) ≡ dm_of M (stretch ls p k) + dm M (slice_index ls k)
+stretch_longer M ls p k h g = let e =
+    ap (dm_of M) (stretch_last ls p k h g) ∙ dm_of-append M (stretch ls p k) (slice_index ls k ∷ []) in omega arith
 
 -- how far it is settled to test line k
-pub settled_on : (M : Map) (ls : List ℕ) (i k old to new : ℕ) → i < k → k < length ls → old ≡ dm_of M (stretch ls (i + 1) k) → to ≡ dm_of M (stretch ls (i + 1) (k + 1)) → new ≡ max old to
+pub settled_on : (M : Map) (ls : List ℕ) (i k old to new : ℕ) → i < k → k < length ls →
+    old ≡ dm_of M (stretch ls (i + 1) k) → to ≡ dm_of M (stretch ls (i + 1) (k + 1)) → new ≡ max old to
     → new ≡ dm_of M (stretch ls (i + 1) (k + 1))
 settled_on M ls i k old to new h g e f n = let longer = stretch_longer M ls (i + 1) k (omega arith) g in omega arith
 
 -- what the test of line k says, as it is read
 abbrev pub Extends : Map → (ℕ → ℕ) → Search → ℕ → Bool → Type 0
 Extends M place search line b =
-    (s : ℕ) (walk : List ℕ) → IsSearch M place Along ((s, 0) ∷ []) search → Sole M s (start M line) walk → dm_of M walk + dm M line ≤ limit_of search
+    (s : ℕ) (walk : List ℕ) → IsSearch M place Along ((s, 0) ∷ []) search → Sole M s (start M line) walk →
+    dm_of M walk + dm M line ≤ limit_of search
     → (IsTrue b ↔ Sole M s (end M line) (walk ++ line ∷ []))
 
-extends_at : (M : Map) (place : ℕ → ℕ) (ls : List ℕ) (i k line : ℕ) (b : Bool) (s : Search) → AreJoined M ls → i < k → k + 1 < length ls → line ≡ slice_index ls k → Extends M place s line b
-    → IsSearch M place Along ((end M (slice_index ls i), 0) ∷ []) s → limit_of s ≡ dm_of M (stretch ls (i + 1) (k + 1)) → SoleTo M ls i k
-    → (IsTrue b ↔ Sole M (end M (slice_index ls i)) (end M (slice_index ls k)) (stretch ls (i + 1) k ++ slice_index ls k ∷ []))
+extends_at : (M : Map) (place : ℕ → ℕ) (ls : List ℕ) (i k line : ℕ) (b : Bool) (s : Search) → AreJoined M ls → i < k →
+    k + 1 < length ls → line ≡ slice_index ls k → Extends M place s line b
+    → IsSearch M place Along ((end M (slice_index ls i), 0) ∷ []) s →
+    limit_of s ≡ dm_of M (stretch ls (i + 1) (k + 1)) → SoleTo M ls i k
+    → (IsTrue b ↔ Sole M (end M (slice_index ls i)) (end M (slice_index ls k))
+    (stretch ls (i + 1) k ++ slice_index ls k ∷ []))
 extends_at M place ls i k line b s w h g e f search settled r =
     let f' : Extends M place s (slice_index ls k) b = subst (λ (y : ℕ). Extends M place s y b) e f in
     let longer = stretch_longer M ls (i + 1) k (omega arith) (omega arith) in
     f' (end M (slice_index ls i)) (stretch ls (i + 1) k) search r (omega arith)
 
-pub sole_if : (M : Map) (place : ℕ → ℕ) (ls : List ℕ) (i k line : ℕ) (b : Bool) (s : Search) → AreJoined M ls → i < k → k + 1 < length ls → line ≡ slice_index ls k → Extends M place s line b
-    → IsSearch M place Along ((end M (slice_index ls i), 0) ∷ []) s → limit_of s ≡ dm_of M (stretch ls (i + 1) (k + 1)) → SoleTo M ls i k → b ≡ true → SoleTo M ls i (k + 1)
-sole_if M place ls i k line b s w h g e f search settled r t = sole_on M ls i k w h g ((extends_at M place ls i k line b s w h g e f search settled r).0 t)
+pub sole_if : (M : Map) (place : ℕ → ℕ) (ls : List ℕ) (i k line : ℕ) (b : Bool) (s : Search) → AreJoined M ls → i < k →
+    k + 1 < length ls → line ≡ slice_index ls k → Extends M place s line b
+    → IsSearch M place Along ((end M (slice_index ls i), 0) ∷ []) s →
+    limit_of s ≡ dm_of M (stretch ls (i + 1) (k + 1)) → SoleTo M ls i k → b ≡ true → SoleTo M ls i (k + 1)
+sole_if M place ls i k line b s w h g e f search settled r t =
+    sole_on M ls i k w h g ((extends_at M place ls i k line b s w h g e f search settled r).0 t)
 
-pub not_sole_if : (M : Map) (place : ℕ → ℕ) (ls : List ℕ) (i k line : ℕ) (b : Bool) (s : Search) → AreJoined M ls → i < k → k + 1 < length ls → line ≡ slice_index ls k → Extends M place s line b
-    → IsSearch M place Along ((end M (slice_index ls i), 0) ∷ []) s → limit_of s ≡ dm_of M (stretch ls (i + 1) (k + 1)) → SoleTo M ls i k → b ≡ false → ¬ SoleTo M ls i (k + 1)
+pub not_sole_if : (M : Map) (place : ℕ → ℕ) (ls : List ℕ) (i k line : ℕ) (b : Bool) (s : Search) → AreJoined M ls →
+    i < k → k + 1 < length ls → line ≡ slice_index ls k → Extends M place s line b
+    → IsSearch M place Along ((end M (slice_index ls i), 0) ∷ []) s →
+    limit_of s ≡ dm_of M (stretch ls (i + 1) (k + 1)) → SoleTo M ls i k → b ≡ false → ¬ SoleTo M ls i (k + 1)
 not_sole_if M place ls i k line b s w h g e f search settled r t more =
-    let is : b ≡ true = (extends_at M place ls i k line b s w h g e f search settled r).1 (sole_off M ls i k w h g more) in cc
+    let is : b ≡ true =
+    (extends_at M place ls i k line b s w h g e f search settled r).1 (sole_off M ls i k w h g more) in cc
 
 -- where at most one line follows line i, nothing lies between
-pub reach_near_end : (M : Map) → IsMap M → (ls : List ℕ) (i far : ℕ) → AreJoined M ls → i < length ls → length ls ≤ i + 2 → IsFar M ls i far → IsReach M ls i far
+pub reach_near_end : (M : Map) → IsMap M → (ls : List ℕ) (i far : ℕ) → AreJoined M ls → i < length ls →
+    length ls ≤ i + 2 → IsFar M ls i far → IsReach M ls i far
 reach_near_end M m ls i far w h g f =
-    record { from = f.from; upto = f.upto; within = λ j a b. (covered j a b, f.near j a b); beyond = λ j a b c. f.beyond j a b }
+    record {
+      from = f.from;
+      upto = f.upto;
+      within = λ j a b. (covered j a b, f.near j a b);
+      beyond =
+          λ j a b c. f.beyond j a b;
+    }
   where
     covered : (j : ℕ) → i < j → j ≤ far → Covered M ls i j
     covered j a b = λ lt.
         let u = f.upto in
         let is : i + 1 ≡ min j (length ls - 1) = omega arith in
-        let here : Sole M (end M (slice_index ls i)) (end M (slice_index ls i)) [] = empty_sole M m (end M (slice_index ls i)) in
-        let next : Sole M (end M (slice_index ls i)) (start M (slice_index ls (i + 1))) [] = subst (λ (t : ℕ). Sole M (end M (slice_index ls i)) t []) (next_joined M ls i w (omega arith)) here in
-        let there : Sole M (end M (slice_index ls i)) (start M (slice_index ls (i + 1))) (stretch ls (i + 1) (i + 1)) = subst (Sole M (end M (slice_index ls i)) (start M (slice_index ls (i + 1)))) (empty_stretch ls (i + 1)) next in
-        subst (λ (n : ℕ). Sole M (end M (slice_index ls i)) (start M (slice_index ls n)) (stretch ls (i + 1) n)) is there
+        let here : Sole M (end M (slice_index ls i)) (end M (slice_index ls i)) [] =
+        empty_sole M m (end M (slice_index ls i)) in
+        let next : Sole M (end M (slice_index ls i)) (start M (slice_index ls (i + 1))) [] =
+        subst (λ (t : ℕ). Sole M (end M (slice_index ls i)) t []) (next_start M _ _ ls i w (omega arith)) here in
+        let there : Sole M (end M (slice_index ls i)) (start M (slice_index ls (i + 1))) (stretch ls (i + 1) (i + 1)) =
+        subst (Sole M (end M (slice_index ls i)) (start M (slice_index ls (i + 1)))) (empty_stretch ls (i + 1)) next in
+        subst (λ (n : ℕ). Sole M (end M (slice_index ls i)) (start M (slice_index ls n)) (stretch ls (i + 1) n)) is
+        there

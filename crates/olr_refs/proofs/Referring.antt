@@ -1,10 +1,11 @@
 -- The encoding of a path, put together of its extension, its points, its looks and its reference.
-use Rattle.std.proofs.Common.{◌≡◌, ◌<◌, ◌+◌, ◌==◌, ◌↔◌, ℕ, Bool, true, cond, List, [], ◌∷◌, length, Option, Some, None, MatchOption, Contains, sym, ap, ◌∙◌, subst, arith, inl, inr}
+use Rattle.std.proofs.Common.{◌≡◌, ◌<◌, ◌+◌, ◌==◌, ◌↔◌, ℕ, Bool, true, cond, List, [], ◌∷◌, length, Option, Some, None}
+use Rattle.std.proofs.Common.{MatchOption, Contains, sym, ap, ◌∙◌, subst, arith, inl, inr}
 use Rattle.std.proofs.lemmas.Bool.{eq-eqb}
 use Rattle.std.specs.Prelude.{IsTrue, nat_lt, Result, Ok, Err, IfOk}
 use Rattle.olr_spec.specs.Map.{Map, IsMap, Agree, has_line}
 use Rattle.olr_spec.specs.Walks.{dm_of}
-use Rattle.olr_spec.specs.Extension.{Path, Tried, is_path, extended}
+use Rattle.olr_spec.specs.Extension.{Path, Tried, is_path, extended, AreJoined}
 use Rattle.olr_spec.specs.Points.{Follow, last_position, OfPath}
 use Rattle.olr_spec.specs.Reference.{Reference, legs, reference, kept}
 use Rattle.olr_spec.specs.Encoding as spec
@@ -12,7 +13,7 @@ use Rattle.olr_spec.specs.Encoding.{first_unknown, first_break, path_fault, answ
 use Rattle.olr_spec.specs.Joins.{Joins}
 use Rattle.olr_spec.specs.Footprint.{Searched, Within_reach, Foot, FootOf}
 use Rattle.olr_spec.specs.Looks.{Look, IsLook, Own, OwnOfExtended, LooksFrom, LooksOf, LooksOfExtended, looking}
-use Rattle.olr_spec.proofs.AnswerLemmas.{path_nonempty, sound_lines, all_first, all_last}
+use Rattle.olr_spec.proofs.AnswerLemmas.{path_nonempty, sound_lines, all_first, all_last, path_also}
 use Rattle.olr_spec.proofs.ChainLemmas.{one_tried}
 use Rattle.olr_spec.proofs.FitLemmas.{extended_sound, answered}
 use Rattle.olr_spec.proofs.JoinLemmas.{routes_join}
@@ -20,7 +21,6 @@ use Rattle.olr_spec.proofs.LocalLemmas.{local_answer}
 use Rattle.olr_refs.specs.declared.answer.Answer.{Answer}
 use Rattle.olr_refs.specs.declared.answer.Answer.TheVariants.{Points, Refused}
 use Rattle.olr_refs.specs.Answers as answers
-use Rattle.olr_refs.specs.Along.{AreJoined}
 use Rattle.olr_route.specs.declared.work.Work.{Work}
 use Rattle.olr_refs.specs.Choice.{ForPoints, Looked, searches_of}
 use Rattle.olr_refs.proofs.Noting.{looked_wider, zip_length}
@@ -32,30 +32,39 @@ use Rattle.olr_spec.proofs.JoinedLemmas.{extended_joined}
 
 -- ---- a path without a fault of its own
 
-pub whole_joined : (M : Map) (P E : Path) (F G : List ℕ) → IsTrue (is_path P.lines) → path_fault M P ≡ None → Extends M P E F G → AreJoined M E.lines
+pub whole_joined : (M : Map) (P E : Path) (F G : List ℕ) → IsTrue (is_path P.lines) → path_fault M P ≡ None →
+    Extends M P E F G → AreJoined M E.lines
 whole_joined M P E F G is none x =
     subst (λ (e : Path). AreJoined M e.lines) (sym x.path) (extended_joined M P is none x.before x.after x.tried)
 
-pub whole_short : (M : Map) (P E : Path) (F G : List ℕ) → IsTrue (is_path P.lines) → path_fault M P ≡ None → Extends M P E F G → E.pos + E.neg < dm_of M E.lines
+pub whole_short : (M : Map) (P E : Path) (F G : List ℕ) → IsTrue (is_path P.lines) → path_fault M P ≡ None →
+    Extends M P E F G → E.pos + E.neg < dm_of M E.lines
 whole_short M P E F G is none x =
-    subst (λ (e : Path). e.pos + e.neg < dm_of M e.lines) (sym x.path) (extended_sound M P is none x.before x.after x.tried).long
+    subst (λ (e : Path). e.pos + e.neg < dm_of M e.lines) (sym x.path)
+    (extended_sound M P is none x.before x.after x.tried).long
 
 -- ---- the answer
 
 -- the points lead to the end, and this is their reference
-pub points_answer : (M : Map) (E : Path) (ls ps : List ℕ) (r : Reference) → ls ≡ E.lines → ForPoints M ls (λ js. (last_position 0 js ≡ length ls) × (ps ≡ 0 ∷ js))
-    → r ≡ reference (legs M E.lines) E.pos E.neg (later ps) → ForPoints M E.lines (λ js. spec.Points r ≡ answer_by_points M E js)
+pub points_answer : (M : Map) (E : Path) (ls ps : List ℕ) (r : Reference) → ls ≡ E.lines →
+    ForPoints M ls (λ js. (last_position 0 js ≡ length ls) × (ps ≡ 0 ∷ js))
+    → r ≡ reference (legs M E.lines) E.pos E.neg (later ps) →
+    ForPoints M E.lines (λ js. spec.Points r ≡ answer_by_points M E js)
 points_answer M E ls ps r e c a =
     let end : last_position 0 c.0 ≡ length E.lines = c.2.0 ∙ ap length e in
-    let is : r ≡ reference (legs M E.lines) E.pos E.neg c.0 = a ∙ ap (λ (qs : List ℕ). reference (legs M E.lines) E.pos E.neg (later qs)) c.2.1 in
+    let is : r ≡ reference (legs M E.lines) E.pos E.neg c.0 =
+    a ∙ ap (λ (qs : List ℕ). reference (legs M E.lines) E.pos E.neg (later qs)) c.2.1 in
     let test : (last_position 0 c.0 == length E.lines) ≡ true = eq-eqb _ _ end in (
       c.0,
       subst (λ (xs : List ℕ). Follow M xs 0 c.0) e c.1,
-      ap spec.Points is ∙ sym (ap (λ (b : Bool). cond b (spec.Points (reference (legs M E.lines) E.pos E.neg c.0)) (spec.Refused (spec.No_next_point (last_position 0 c.0)))) test),
+      ap spec.Points is ∙ sym (ap
+          (λ (b : Bool). cond b (spec.Points (reference (legs M E.lines) E.pos E.neg c.0))
+          (spec.Refused (spec.No_next_point (last_position 0 c.0)))) test),
     )
 
 -- what holds of the extension and its points, whatever the tried chains
-pub of_path : (M : Map) (P E : Path) (F G : List ℕ) (Q : Path → List ℕ → Type 0) → Extends M P E F G → ForPoints M E.lines (Q E) → OfPath M P (λ e _ _ js. Q e js)
+pub of_path : (M : Map) (P E : Path) (F G : List ℕ) (Q : Path → List ℕ → Type 0) → Extends M P E F G →
+    ForPoints M E.lines (Q E) → OfPath M P (λ e _ _ js. Q e js)
 of_path M P E F G Q x a =
     record {
       before = x.before;
@@ -66,63 +75,84 @@ of_path M P E F G Q x a =
       holds = subst (λ (e : Path). Q e a.0) x.path a.2;
     }
 
-pub encoding_of : (M : Map) (P E : Path) (F G : List ℕ) (A : spec.Answer) → Extends M P E F G → ForPoints M E.lines (λ js. A ≡ answer_by_points M E js) → Encoding M P A
+pub encoding_of : (M : Map) (P E : Path) (F G : List ℕ) (A : spec.Answer) → Extends M P E F G →
+    ForPoints M E.lines (λ js. A ≡ answer_by_points M E js) → Encoding M P A
 encoding_of M P E F G A x a = of_path M P E F G (λ e js. A ≡ answer_by_points M e js) x a
 
-pub joins_of : (M : Map) (P E : Path) (F G : List ℕ) (A : Answer) → Extends M P E F G → ForPoints M E.lines (λ js. answers.answer_of A ≡ answer_by_points M E js) → JoinsOf M P A
+pub joins_of : (M : Map) (P E : Path) (F G : List ℕ) (A : Answer) → Extends M P E F G →
+    ForPoints M E.lines (λ js. answers.answer_of A ≡ answer_by_points M E js) → JoinsOf M P A
 joins_of M P E F G (Refused f) x a = tt
 joins_of M P E F G (Points r) x a =
     let end = (answered M E a.0 r a.2).0 in
-    of_path M P E F G (λ e js. (last_position 0 js ≡ length e.lines) × Joins M e.lines (kept (legs M e.lines) e.pos e.neg js)) x
+    of_path M P E F G (λ e js. (last_position 0 js ≡ length e.lines)
+    × Joins M e.lines (kept (legs M e.lines) e.pos e.neg js)) x
     (a.0, a.1, (end, routes_join M E.lines a.0 E.pos E.neg a.1 end))
 
 -- ---- the own nodes, and the looks
 
 -- the own nodes are those that were noted
-one_own : (M : Map) → IsMap M → (P : Path) → IsTrue (is_path P.lines) → path_fault M P ≡ None → (b a : List ℕ) → Tried M P b a → (v : ℕ) → OwnOfExtended M P v → Own M (extended M P b a).lines b a v
+one_own : (M : Map) → IsMap M → (P : Path) → IsTrue (is_path P.lines) → path_fault M P ≡ None → (b a : List ℕ) →
+    Tried M P b a → (v : ℕ) → OwnOfExtended M P v → Own M (extended M P b a).lines b a v
 one_own M m P is none b a t v own =
     let n = path_nonempty P.lines is in
     let Known : ℕ → Type 0 = λ x. IsTrue (has_line M x) in
     let known = sound_lines M P none in
-    let chains = one_tried M m P n (all_first Known P.lines n known) (all_last Known P.lines n known) own.before own.after b a own.tried t in
-    let first : Own M (extended M P b own.after).lines b own.after v = subst (λ (c : List ℕ). Own M (extended M P c own.after).lines c own.after v) chains.0 own.own in
+    let chains =
+    one_tried M m P n (all_first Known P.lines n known) (all_last Known P.lines n known) own.before own.after b a
+    own.tried t in
+    let first : Own M (extended M P b own.after).lines b own.after v =
+    subst (λ (c : List ℕ). Own M (extended M P c own.after).lines c own.after v) chains.0 own.own in
     subst (λ (c : List ℕ). Own M (extended M P b c).lines b c v) chains.1 first
 
-pub own_of : (M : Map) → IsMap M → (P E : Path) (F G : List ℕ) → IsTrue (is_path P.lines) → path_fault M P ≡ None → F ≡ [] → Extends M P E F G → (v : ℕ) → Contains G v ↔ OwnOfExtended M P v
+pub own_of : (M : Map) → IsMap M → (P E : Path) (F G : List ℕ) → IsTrue (is_path P.lines) → path_fault M P ≡ None →
+    F ≡ [] → Extends M P E F G → (v : ℕ) → Contains G v ↔ OwnOfExtended M P v
 own_of M m P E F G is none empty x v = (forth, back)
   where
     none_before : Contains F v → ⊥
-    none_before c = let c' : Contains [] v = subst (λ (f : List ℕ). Contains f v) empty c in let never : c'.0 < 0 = c'.1 in omega arith
+    none_before c = let c' : Contains [] v = subst (λ (f : List ℕ). Contains f v) empty c in let never : c'.0 < 0 =
+        c'.1 in omega arith
 
     forth : Contains G v → OwnOfExtended M P v
     forth c = elim ((x.noted v).0 c) [
       | inl f ↦ absurd (none_before f)
-      | inr n ↦ record { before = x.before; after = x.after; tried = x.tried; own = subst (λ (e : Path). Own M e.lines x.before x.after v) x.path n }
+      | inr n ↦ record {
+        before = x.before;
+        after = x.after;
+        tried = x.tried;
+        own =
+            subst (λ (e : Path). Own M e.lines x.before x.after v) x.path n;
+      }
     ]
 
     back : OwnOfExtended M P v → Contains G v
-    back own = (x.noted v).1 (inr (subst (λ (e : Path). Own M e.lines x.before x.after v) (sym x.path) (one_own M m P is none x.before x.after x.tried v own)))
+    back own =
+        (x.noted v).1 (inr (subst (λ (e : Path). Own M e.lines x.before x.after v) (sym x.path)
+        (one_own M m P is none x.before x.after x.tried v own)))
 
-pub looks_of : (M : Map) (P E : Path) (F G : List ℕ) (looks : List Look) → Extends M P E F G → ForPoints M E.lines (λ js. LooksFrom M E.lines (looking E.lines (0 ∷ js)) looks) → LooksOfExtended M P looks
+pub looks_of : (M : Map) (P E : Path) (F G : List ℕ) (looks : List Look) → Extends M P E F G →
+    ForPoints M E.lines (λ js. LooksFrom M E.lines (looking E.lines (0 ∷ js)) looks) → LooksOfExtended M P looks
 looks_of M P E F G looks x a = of_path M P E F G (λ e js. LooksFrom M e.lines (looking e.lines (0 ∷ js)) looks) x a
 
 -- what is searched from the points is in the footprint
-pub looked_of : (M : Map) (P E : Path) (F G : List ℕ) (old new : Work) (n : ℕ) → Extends M P E F G → ForPoints M E.lines (λ js. Looked old new n (Searched M E.lines (0 ∷ js))) → Looked old new n (FootOf M P)
+pub looked_of : (M : Map) (P E : Path) (F G : List ℕ) (old new : Work) (n : ℕ) → Extends M P E F G →
+    ForPoints M E.lines (λ js. Looked old new n (Searched M E.lines (0 ∷ js))) → Looked old new n (FootOf M P)
 looked_of M P E F G old new n x a = looked_wider old new n (Searched M E.lines (0 ∷ a.0)) (FootOf M P) there a.2
   where
     there : (v : ℕ) → Searched M E.lines (0 ∷ a.0) v → FootOf M P v
     there v s =
         let h = of_path M P E F G (λ e js. Searched M e.lines (0 ∷ js) v) x (a.0, a.1, s) in
-        record { before = h.before; after = h.after; points = h.points; tried = h.tried; follow = h.follow; holds = Within_reach h.holds }
+        path_also h (Within_reach h.holds)
 
 -- ---- by the path's fault
 
 pub foot_from : (M : Map) (P : Path) (v : ℕ) → path_fault M P ≡ None → FootOf M P v → Foot M P v
 foot_from M P v none f = subst (λ (o : Option spec.Refusal). MatchOption o (FootOf M P v) (λ _. ⊥)) (sym none) f
 
-pub local_by : (M : Map) → IsMap M → (P : Path) → IsTrue (is_path P.lines) → (A : spec.Answer) (H : List ℕ) → Encodes M P A → ((v : ℕ) → (Contains H v) ↔ Foot M P v)
+pub local_by : (M : Map) → IsMap M → (P : Path) → IsTrue (is_path P.lines) → (A : spec.Answer) (H : List ℕ) →
+    Encodes M P A → ((v : ℕ) → (Contains H v) ↔ Foot M P v)
     → (N : Map) → IsMap N → Agree M N P.lines (Contains H) → Encodes N P A
-local_by M m P is A H e f N n g = local_answer M N m n P is record { nodes = λ v h. g.nodes v ((f v).1 h); lines = g.lines } A e
+local_by M m P is A H e f N n g =
+    local_answer M N m n P is record { nodes = λ v h. g.nodes v ((f v).1 h); lines = g.lines } A e
 
 -- ---- where a result is a success
 
@@ -136,15 +166,10 @@ if_ok (Err e) P Q f h = tt
 pub searches_looked : (M : Map) (P : Path) (looks : List Look) → LooksOf M P looks → SearchesOf M P (length looks)
 searches_looked M P looks o = by (path_fault M P) o
   where
-    by : (f : Option spec.Refusal) → MatchOption f (LooksOfExtended M P looks) (λ _. looks ≡ []) → MatchOption f (OfPath M P (λ E _ _ js. length looks ≡ searches_of E.lines (0 ∷ js))) (λ _. length looks ≡ 0)
+    by : (f : Option spec.Refusal) → MatchOption f (LooksOfExtended M P looks) (λ _. looks ≡ []) →
+        MatchOption f (OfPath M P (λ E _ _ js. length looks ≡ searches_of E.lines (0 ∷ js))) (λ _. length looks ≡ 0)
     by None l =
         let ls = (extended M P l.before l.after).lines in
-        record {
-          before = l.before;
-          after = l.after;
-          points = l.points;
-          tried = l.tried;
-          follow = l.follow;
-          holds = sym (zip_length (IsLook M ls) (looking ls (0 ∷ l.points)) looks l.holds) ∙ length-filter (λ i. nat_lt (i + 2) (length ls)) (0 ∷ l.points);
-        }
+        path_also l (sym (zip_length (IsLook M ls) (looking ls (0 ∷ l.points)) looks l.holds)
+        ∙ length-filter (λ i. nat_lt (i + 2) (length ls)) (0 ∷ l.points))
     by (Some f) e = ap length e

@@ -1,5 +1,6 @@
 -- Which points are kept, by the distances of all positions.
-use Rattle.std.proofs.Common.{inl, inr, ◌≡◌, ◌<◌, ◌≤◌, ◌-◌, ◌+◌, ℕ, zero, suc, Bool, true, false, cond, List, [], ◌∷◌, length, take, drop, refl, sym, ap, ◌∙◌, subst, arith, nat_le, length-take, length-drop}
+use Rattle.std.proofs.Common.{inl, inr, ◌≡◌, ◌<◌, ◌≤◌, ◌-◌, ◌+◌, ℕ, zero, suc, Bool, true, false, cond, List, [], ◌∷◌}
+use Rattle.std.proofs.Common.{length, take, drop, refl, sym, ap, ◌∙◌, subst, arith, nat_le, length-take, length-drop}
 use Rattle.std.proofs.lemmas.Bool.{cases_lt, cases_order, le-leb, lt-leb, and_from}
 use Rattle.std.proofs.lemmas.Bool.Decides.{nat_tests}
 use Rattle.std.proofs.lemmas.List.{take-map, take_all, get_or-take, get_or-drop}
@@ -7,11 +8,13 @@ use Rattle.std.specs.List.{slice_index, slice_range, filter}
 use Rattle.olr_spec.specs.Map.{Map}
 use Rattle.olr_spec.specs.Walks.{dm_of}
 use Rattle.olr_spec.specs.Points.{Candidate, last_position}
-use Rattle.olr_spec.specs.Reference.{leg, legs, dm_along, from_front, to_back, last_where, first_where, first_kept, last_kept, kept, reference, reference_by}
+use Rattle.olr_spec.specs.Reference.{leg, legs, dm_along, from_front, to_back, last_where, first_where, first_kept}
+use Rattle.olr_spec.specs.Reference.{last_kept, kept, reference, reference_by}
 use Rattle.olr_spec.proofs.JoinLemmas.{Linked, follow_linked, between}
 use Rattle.olr_spec.proofs.KeptLemmas.{dm_along-legs, whole}
 use Rattle.olr_refs.specs.Along.{AreDistances}
-use Rattle.olr_refs.specs.Kept.{later, AreAlong, ArePoints, AreLinked, AreTrimmed, distance_at, whole_distance, IsFirstKept, IsLastKept}
+use Rattle.olr_refs.specs.Kept.{later, AreAlong, ArePoints, AreLinked, AreTrimmed, distance_at, whole_distance}
+use Rattle.olr_refs.specs.Kept.{IsFirstKept, IsLastKept}
 use Rattle.olr_refs.proofs.Stretches.{distances_rise}
 
 -- ---- the points
@@ -22,34 +25,46 @@ linked_at M ls (p ∷ []) l k h = absurd (omega arith)
 linked_at M ls (p ∷ q ∷ ps) l zero h = l.0
 linked_at M ls (p ∷ q ∷ ps) l (suc k) h =
     let on : suc k + 1 ≡ suc (k + 1) = omega arith in
-    subst (λ (n : ℕ). Candidate M ls (slice_index (q ∷ ps) k) (slice_index (p ∷ q ∷ ps) n)) (sym on) (linked_at M ls (q ∷ ps) l.1 k (omega arith))
+    subst (λ (n : ℕ). Candidate M ls (slice_index (q ∷ ps) k) (slice_index (p ∷ q ∷ ps) n)) (sym on)
+    (linked_at M ls (q ∷ ps) l.1 k (omega arith))
 
 pub points_linked : (M : Map) (ls ps : List ℕ) → ArePoints M ls ps → AreLinked M ls ps
-points_linked M ls ps a = subst (AreLinked M ls) (sym a.from_start) (linked_at M ls (0 ∷ later ps) (follow_linked M ls 0 (later ps) a.follow))
+points_linked M ls ps a =
+    subst (AreLinked M ls) (sym a.from_start) (linked_at M ls (0 ∷ later ps) (follow_linked M ls 0 (later ps) a.follow))
 
 pub linked_again : (M : Map) (ls ps : List ℕ) → AreLinked M ls ps → Linked M ls ps
 linked_again M ls [] l = tt
 linked_again M ls (p ∷ []) l = tt
-linked_again M ls (p ∷ q ∷ ps) l =
-    (l 0 (omega arith), linked_again M ls (q ∷ ps) (λ k h. let on : suc k + 1 ≡ suc (k + 1) = omega arith in subst (λ (n : ℕ). Candidate M ls (slice_index (q ∷ ps) k) (slice_index (p ∷ q ∷ ps) n)) on (l (suc k) (omega arith))))
+linked_again M ls (p ∷ q ∷ ps) l = (
+  l 0 (omega arith),
+  linked_again M ls (q ∷ ps) (λ k h. let on : suc k + 1 ≡ suc (k + 1) = omega arith in
+      subst (λ (n : ℕ). Candidate M ls (slice_index (q ∷ ps) k) (slice_index (p ∷ q ∷ ps) n)) on
+      (l (suc k) (omega arith))),
+)
 
 -- the last two
-pub linked_end : (M : Map) (ls ps : List ℕ) → AreLinked M ls ps → 2 ≤ length ps → Candidate M ls (slice_index ps (length ps - 1 - 1)) (slice_index ps (length ps - 1))
+pub linked_end : (M : Map) (ls ps : List ℕ) → AreLinked M ls ps → 2 ≤ length ps →
+    Candidate M ls (slice_index ps (length ps - 1 - 1)) (slice_index ps (length ps - 1))
 linked_end M ls ps l h =
     let on : length ps - 1 - 1 + 1 ≡ length ps - 1 = omega arith in
-    subst (λ (n : ℕ). Candidate M ls (slice_index ps (length ps - 1 - 1)) (slice_index ps n)) on (l (length ps - 1 - 1) (omega arith))
+    subst (λ (n : ℕ). Candidate M ls (slice_index ps (length ps - 1 - 1)) (slice_index ps n)) on
+    (l (length ps - 1 - 1) (omega arith))
 
 -- neighbours rise, so all do
-pub linked_rise : (M : Map) (ls ps : List ℕ) → AreLinked M ls ps → (j n : ℕ) → suc (j + n) < length ps → slice_index ps j < slice_index ps (suc (j + n))
-linked_rise M ls ps l j zero h = let on : suc (j + 0) ≡ j + 1 = omega arith in subst (λ (k : ℕ). slice_index ps j < slice_index ps k) (sym on) (l j (omega arith)).after
+pub linked_rise : (M : Map) (ls ps : List ℕ) → AreLinked M ls ps → (j n : ℕ) → suc (j + n) < length ps →
+    slice_index ps j < slice_index ps (suc (j + n))
+linked_rise M ls ps l j zero h = let on : suc (j + 0) ≡ j + 1 =
+    omega arith in subst (λ (k : ℕ). slice_index ps j < slice_index ps k) (sym on) (l j (omega arith)).after
 linked_rise M ls ps l j (suc n) h =
     let front = linked_rise M ls ps l j n (omega arith) in
     let on : suc (j + n) + 1 ≡ suc (j + suc n) = omega arith in
     let step = (l (suc (j + n)) (omega arith)).after in
-    let here : slice_index ps (suc (j + n)) < slice_index ps (suc (j + suc n)) = subst (λ (k : ℕ). slice_index ps (suc (j + n)) < slice_index ps k) on step in
+    let here : slice_index ps (suc (j + n)) < slice_index ps (suc (j + suc n)) =
+    subst (λ (k : ℕ). slice_index ps (suc (j + n)) < slice_index ps k) on step in
     omega arith
 
-pub linked_less : (M : Map) (ls ps : List ℕ) → AreLinked M ls ps → (j k : ℕ) → j < k → k < length ps → slice_index ps j < slice_index ps k
+pub linked_less : (M : Map) (ls ps : List ℕ) → AreLinked M ls ps → (j k : ℕ) → j < k → k < length ps →
+    slice_index ps j < slice_index ps k
 linked_less M ls ps l j k h g =
     let on : suc (j + (k - suc j)) ≡ k = omega arith in
     subst (λ (n : ℕ). slice_index ps j < slice_index ps n) on (linked_rise M ls ps l j (k - suc j) (omega arith))
@@ -63,47 +78,63 @@ pub points_end : (M : Map) (ls ps : List ℕ) → ArePoints M ls ps → slice_in
 points_end M ls ps a =
     let long : length ps ≡ length (later ps) + 1 = ap length a.from_start ∙ omega arith in
     let less : length ps - 1 ≡ length (later ps) = omega arith in
-    ap (slice_index ps) less ∙ ap (λ (qs : List ℕ). slice_index qs (length (later ps))) a.from_start ∙ last_index 0 (later ps) ∙ a.to_end
+    ap (slice_index ps) less ∙ ap (λ (qs : List ℕ). slice_index qs (length (later ps))) a.from_start
+    ∙ last_index 0 (later ps) ∙ a.to_end
 
 pub points_some : (M : Map) (ls ps : List ℕ) → ArePoints M ls ps → 0 < length ps
-points_some M ls ps a = let long : length ps ≡ length (later ps) + 1 = ap length a.from_start ∙ omega arith in omega arith
+points_some M ls ps a = let long : length ps ≡ length (later ps) + 1 =
+    ap length a.from_start ∙ omega arith in omega arith
 
 -- ---- lists of which a middle part passes
 
 none_pass : (p : ℕ → Bool) (xs : List ℕ) → ((k : ℕ) → k < length xs → p (slice_index xs k) ≡ false) → filter p xs ≡ []
 none_pass p [] h = refl
 none_pass p (x ∷ xs) h =
-    ap (λ (b : Bool). cond b (x ∷ filter p xs) (filter p xs)) (h 0 (omega arith)) ∙ none_pass p xs (λ k lt. h (suc k) (omega arith))
+    ap (λ (b : Bool). cond b (x ∷ filter p xs) (filter p xs)) (h 0 (omega arith))
+    ∙ none_pass p xs (λ k lt. h (suc k) (omega arith))
 
-range_passes : (p : ℕ → Bool) (xs : List ℕ) (a n : ℕ) → a + n ≤ length xs → ((k : ℕ) → k < a → p (slice_index xs k) ≡ false)
-    → ((k : ℕ) → a ≤ k → k < a + n → p (slice_index xs k) ≡ true) → ((k : ℕ) → a + n ≤ k → k < length xs → p (slice_index xs k) ≡ false) → filter p xs ≡ take n (drop a xs)
+range_passes : (p : ℕ → Bool) (xs : List ℕ) (a n : ℕ) → a + n ≤ length xs →
+    ((k : ℕ) → k < a → p (slice_index xs k) ≡ false)
+    → ((k : ℕ) → a ≤ k → k < a + n → p (slice_index xs k) ≡ true) →
+    ((k : ℕ) → a + n ≤ k → k < length xs → p (slice_index xs k) ≡ false) → filter p xs ≡ take n (drop a xs)
 range_passes p xs zero zero h front mid back = none_pass p xs (λ k lt. back k (omega arith) lt)
 range_passes p [] zero (suc n) h front mid back = absurd (omega arith)
 range_passes p (x ∷ xs) zero (suc n) h front mid back =
     ap (λ (b : Bool). cond b (x ∷ filter p xs) (filter p xs)) (mid 0 (omega arith) (omega arith))
-    ∙ ap (λ (ys : List ℕ). x ∷ ys) (range_passes p xs zero n (omega arith) (λ k lt. absurd (omega arith)) (λ k ge lt. mid (suc k) (omega arith) (omega arith)) (λ k ge lt. back (suc k) (omega arith) (omega arith)))
+    ∙ ap (λ (ys : List ℕ). x ∷ ys)
+    (range_passes p xs zero n (omega arith) (λ k lt. absurd (omega arith))
+    (λ k ge lt. mid (suc k) (omega arith) (omega arith)) (λ k ge lt. back (suc k) (omega arith) (omega arith)))
 range_passes p [] (suc a) n h front mid back = absurd (omega arith)
 range_passes p (x ∷ xs) (suc a) n h front mid back =
     ap (λ (b : Bool). cond b (x ∷ filter p xs) (filter p xs)) (front 0 (omega arith))
-    ∙ range_passes p xs a n (omega arith) (λ k lt. front (suc k) (omega arith)) (λ k ge lt. mid (suc k) (omega arith) (omega arith)) (λ k ge lt. back (suc k) (omega arith) (omega arith))
+    ∙ range_passes p xs a n (omega arith) (λ k lt. front (suc k) (omega arith))
+    (λ k ge lt. mid (suc k) (omega arith) (omega arith)) (λ k ge lt. back (suc k) (omega arith) (omega arith))
 
 -- the last that passes, and the first
-none_last : (p : ℕ → Bool) (d : ℕ) (xs : List ℕ) → ((k : ℕ) → k < length xs → p (slice_index xs k) ≡ false) → last_where p d xs ≡ d
+none_last : (p : ℕ → Bool) (d : ℕ) (xs : List ℕ) → ((k : ℕ) → k < length xs → p (slice_index xs k) ≡ false) →
+    last_where p d xs ≡ d
 none_last p d [] h = refl
-none_last p d (x ∷ xs) h = ap (λ (b : Bool). last_where p (cond b x d) xs) (h 0 (omega arith)) ∙ none_last p d xs (λ k lt. h (suc k) (omega arith))
+none_last p d (x ∷ xs) h =
+    ap (λ (b : Bool). last_where p (cond b x d) xs) (h 0 (omega arith))
+    ∙ none_last p d xs (λ k lt. h (suc k) (omega arith))
 
-last_where_at : (p : ℕ → Bool) (d : ℕ) (xs : List ℕ) (a : ℕ) → a < length xs → p (slice_index xs a) ≡ true → ((k : ℕ) → a < k → k < length xs → p (slice_index xs k) ≡ false)
+last_where_at : (p : ℕ → Bool) (d : ℕ) (xs : List ℕ) (a : ℕ) → a < length xs → p (slice_index xs a) ≡ true →
+    ((k : ℕ) → a < k → k < length xs → p (slice_index xs k) ≡ false)
     → last_where p d xs ≡ slice_index xs a
 last_where_at p d [] a h t f = absurd (omega arith)
-last_where_at p d (x ∷ xs) zero h t f = ap (λ (b : Bool). last_where p (cond b x d) xs) t ∙ none_last p x xs (λ k lt. f (suc k) (omega arith) (omega arith))
-last_where_at p d (x ∷ xs) (suc a) h t f = last_where_at p (cond (p x) x d) xs a (omega arith) t (λ k gt lt. f (suc k) (omega arith) (omega arith))
+last_where_at p d (x ∷ xs) zero h t f =
+    ap (λ (b : Bool). last_where p (cond b x d) xs) t ∙ none_last p x xs (λ k lt. f (suc k) (omega arith) (omega arith))
+last_where_at p d (x ∷ xs) (suc a) h t f =
+    last_where_at p (cond (p x) x d) xs a (omega arith) t (λ k gt lt. f (suc k) (omega arith) (omega arith))
 
-first_where_at : (p : ℕ → Bool) (d : ℕ) (xs : List ℕ) (a : ℕ) → a < length xs → p (slice_index xs a) ≡ true → ((k : ℕ) → k < a → p (slice_index xs k) ≡ false)
+first_where_at : (p : ℕ → Bool) (d : ℕ) (xs : List ℕ) (a : ℕ) → a < length xs → p (slice_index xs a) ≡ true →
+    ((k : ℕ) → k < a → p (slice_index xs k) ≡ false)
     → first_where p d xs ≡ slice_index xs a
 first_where_at p d [] a h t f = absurd (omega arith)
 first_where_at p d (x ∷ xs) zero h t f = ap (λ (b : Bool). cond b x (first_where p d xs)) t
 first_where_at p d (x ∷ xs) (suc a) h t f =
-    ap (λ (b : Bool). cond b x (first_where p d xs)) (f 0 (omega arith)) ∙ first_where_at p d xs a (omega arith) t (λ k lt. f (suc k) (omega arith))
+    ap (λ (b : Bool). cond b x (first_where p d xs)) (f 0 (omega arith))
+    ∙ first_where_at p d xs a (omega arith) t (λ k lt. f (suc k) (omega arith))
 
 -- points before a, from a to b, and behind b
 outside_low : (a b k : ℕ) → k < a → between a b k ≡ false
@@ -162,14 +193,17 @@ module _ (M : Map) (ls ds ps : List ℕ) (d : AreDistances M ls ds) (p : ArePoin
   front k h = ap dm_along (take-map (leg M) k ls) ∙ dm_along-legs M (take k ls) ∙ sym (d.each k h)
 
   back : (k : ℕ) → k ≤ length ls → to_back (legs M ls) k + slice_index ds k ≡ whole_distance ds
-  back k h = let sum = whole (legs M ls) k in let here = front k h in let total = dm_along-legs M ls in let all = whole_is in omega arith
+  back k h = let sum = whole (legs M ls) k in let here = front k h in let total = dm_along-legs M ls in let all =
+      whole_is in omega arith
 
-  first_is : (positive a : ℕ) → IsFirstKept ds ps positive a → slice_index ps a ≡ first_kept (legs M ls) positive (later ps)
+  first_is : (positive a : ℕ) → IsFirstKept ds ps positive a →
+      slice_index ps a ≡ first_kept (legs M ls) positive (later ps)
   first_is positive a f =
       let test : ℕ → Bool = λ i. nat_le (from_front (legs M ls) i) positive in
       let here = front (slice_index ps a) (upto a f.within) in
       let near = f.near in
-      let passes : test (slice_index ps a) ≡ true = le-leb (from_front (legs M ls) (slice_index ps a)) positive (omega arith) in
+      let passes : test (slice_index ps a) ≡ true =
+      le-leb (from_front (legs M ls) (slice_index ps a)) positive (omega arith) in
       let after : (k : ℕ) → a < k → k < length ps → test (slice_index ps k) ≡ false = λ k gt lt.
       let next = f.next (omega arith) in
       let there = front (slice_index ps k) (upto k lt) in
@@ -177,12 +211,14 @@ module _ (M : Map) (ls ds ps : List ℕ) (d : AreDistances M ls ds) (p : ArePoin
       lt-leb (from_front (legs M ls) (slice_index ps k)) positive (omega arith) in
       sym (ap (last_where test 0) (sym p.from_start) ∙ last_where_at test 0 ps a f.within passes after)
 
-  last_is : (negative b : ℕ) → IsLastKept ds ps negative b → slice_index ps b ≡ last_kept (legs M ls) negative (later ps)
+  last_is : (negative b : ℕ) → IsLastKept ds ps negative b →
+      slice_index ps b ≡ last_kept (legs M ls) negative (later ps)
   last_is negative b l =
       let test : ℕ → Bool = λ i. nat_le (to_back (legs M ls) i) negative in
       let here = back (slice_index ps b) (upto b l.within) in
       let near = l.near in
-      let passes : test (slice_index ps b) ≡ true = le-leb (to_back (legs M ls) (slice_index ps b)) negative (omega arith) in
+      let passes : test (slice_index ps b) ≡ true =
+      le-leb (to_back (legs M ls) (slice_index ps b)) negative (omega arith) in
       let before : (k : ℕ) → k < b → test (slice_index ps k) ≡ false = λ k lt.
       let within = l.within in
       let next = l.before (omega arith) in
@@ -199,24 +235,29 @@ module _ (M : Map) (ls ds ps : List ℕ) (d : AreDistances M ls ds) (p : ArePoin
         | inr (inr gt) ↦ absurd (omega arith)
       ]
 
-  range_is : (a b : ℕ) → a ≤ b → b < length ps → filter (between (slice_index ps a) (slice_index ps b)) ps ≡ slice_range ps a (b + 1)
+  range_is : (a b : ℕ) → a ≤ b → b < length ps → filter (between (slice_index ps a) (slice_index ps b)) ps
+      ≡ slice_range ps a (b + 1)
   range_is a b h g =
       let A = slice_index ps a in
       let B = slice_index ps b in
       range_passes (between A B) ps a (b + 1 - a) (omega arith)
       (λ k lt. let rise = linked_less M ls ps linked k a lt (omega arith) in outside_low A B (slice_index ps k) rise)
       (λ k ge lt. inside_both A B (slice_index ps k) (not_above a k ge (omega arith)) (not_above k b (omega arith) g))
-      (λ k ge lt. let rise = linked_less M ls ps linked b k (omega arith) lt in outside_high A B (slice_index ps k) rise)
+      (λ k ge lt. let rise = linked_less M ls ps linked b k (omega arith) lt in
+      outside_high A B (slice_index ps k) rise)
 
 -- the points that are kept, and what is left of the offsets, give the reference
-pub record IsCut (M : Map) (ls ds ps : List ℕ) (positive negative : ℕ) (ks : List ℕ) (pos_left neg_left : ℕ) : Type 0 where
+pub record IsCut (M : Map) (ls ds ps : List ℕ) (positive negative : ℕ) (ks : List ℕ) (pos_left neg_left : ℕ) : Type
+    0 where
   pub two : 2 ≤ length ks
   pub linked : AreLinked M ls ks
   pub pos_within : distance_at ds ks 0 + pos_left < distance_at ds ks 1
   pub neg_within : distance_at ds ks (length ks - 2) + neg_left < distance_at ds ks (length ks - 1)
   pub value : reference_by (legs M ls) pos_left neg_left ks ≡ reference (legs M ls) positive negative (later ps)
 
-pub trimmed : (M : Map) (ls ds ps : List ℕ) (positive negative : ℕ) (ks : List ℕ) (pos_left neg_left : ℕ) → AreDistances M ls ds → ArePoints M ls ps → AreTrimmed ds ps positive negative ks pos_left neg_left → positive + negative < dm_of M ls
+pub trimmed : (M : Map) (ls ds ps : List ℕ) (positive negative : ℕ) (ks : List ℕ) (pos_left neg_left : ℕ) →
+    AreDistances M ls ds → ArePoints M ls ps → AreTrimmed ds ps positive negative ks pos_left neg_left →
+    positive + negative < dm_of M ls
     → IsCut M ls ds ps positive negative ks pos_left neg_left
 trimmed M ls ds ps positive negative ks pos_left neg_left d p r less =
     let a = r.first in
@@ -229,24 +270,37 @@ trimmed M ls ds ps positive negative ks pos_left neg_left d p r less =
     let pos_cut = r.pos_cut in
     let neg_cut = r.neg_cut in
     let total = whole_is M ls ds ps d p in
-    let two : a < b = elim (cases_lt a b) [ inl lt ↦ lt | inr ge ↦ let order = rise M ls ds ps d p b a ge f.within in absurd (omega arith) ] in
+    let two : a < b =
+    elim (cases_lt a b) [
+      | inl lt ↦ lt
+      | inr ge ↦ let order = rise M ls ds ps d p b a ge f.within in
+          absurd (omega arith)
+    ] in
     let first = first_is M ls ds ps d p positive a f in
     let last = last_is M ls ds ps d p negative b l in
-    let long : length ks ≡ b + 1 - a = ap length r.range ∙ omega (arith, length-take (b + 1 - a) (drop a ps), length-drop a ps) in
+    let long : length ks ≡ b + 1 - a =
+    ap length r.range ∙ omega (arith, length-take (b + 1 - a) (drop a ps), length-drop a ps) in
     let at : (k n : ℕ) → a + k ≡ n → n ≤ b → slice_index ks k ≡ slice_index ps n = λ k n e h.
-    ap (λ (qs : List ℕ). slice_index qs k) r.range ∙ get_or-take (b + 1 - a) (drop a ps) k 0 (omega arith) ∙ get_or-drop a ps k 0 ∙ ap (slice_index ps) e in
+    ap (λ (qs : List ℕ). slice_index qs k) r.range ∙ get_or-take (b + 1 - a) (drop a ps) k 0 (omega arith)
+    ∙ get_or-drop a ps k 0 ∙ ap (slice_index ps) e in
     let start : distance_at ds ks 0 ≡ distance_at ds ps a = ap (slice_index ds) (at 0 a (omega arith) (omega arith)) in
-    let next : distance_at ds ks 1 ≡ distance_at ds ps (a + 1) = ap (slice_index ds) (at 1 (a + 1) refl (omega arith)) in
-    let end : distance_at ds ks (length ks - 1) ≡ distance_at ds ps b = ap (slice_index ds) (at (length ks - 1) b (omega arith) (omega arith)) in
-    let before : distance_at ds ks (length ks - 2) ≡ distance_at ds ps (b - 1) = ap (slice_index ds) (at (length ks - 2) (b - 1) (omega arith) (omega arith)) in
+    let next : distance_at ds ks 1 ≡ distance_at ds ps (a + 1) =
+    ap (slice_index ds) (at 1 (a + 1) refl (omega arith)) in
+    let end : distance_at ds ks (length ks - 1) ≡ distance_at ds ps b =
+    ap (slice_index ds) (at (length ks - 1) b (omega arith) (omega arith)) in
+    let before : distance_at ds ks (length ks - 2) ≡ distance_at ds ps (b - 1) =
+    ap (slice_index ds) (at (length ks - 2) (b - 1) (omega arith) (omega arith)) in
     let next_left = f.next (omega arith) in
     let before_left = l.before (omega arith) in
-    let kept_is : ks ≡ kept (legs M ls) positive negative (later ps) = r.range ∙ sym (range_is M ls ds ps d p a b (omega arith) within) ∙ (λ i. filter (between (first i) (last i)) (p.from_start i)) in
+    let kept_is : ks ≡ kept (legs M ls) positive negative (later ps) =
+    r.range ∙ sym (range_is M ls ds ps d p a b (omega arith) within)
+    ∙ (λ i. filter (between (first i) (last i)) (p.from_start i)) in
     let front_cut = ap (from_front (legs M ls)) first in
     let front_at = front M ls ds ps d p (slice_index ps a) (upto M ls ds ps d p a f.within) in
     let back_cut = ap (to_back (legs M ls)) last in
     let back_at = back M ls ds ps d p (slice_index ps b) (upto M ls ds ps d p b within) in
-    let pos_is : pos_left ≡ positive - from_front (legs M ls) (first_kept (legs M ls) positive (later ps)) = omega arith in
+    let pos_is : pos_left ≡ positive - from_front (legs M ls) (first_kept (legs M ls) positive (later ps)) =
+    omega arith in
     let neg_is : neg_left ≡ negative - to_back (legs M ls) (last_kept (legs M ls) negative (later ps)) = omega arith in
     record {
       two = omega arith;
@@ -254,7 +308,8 @@ trimmed M ls ds ps positive negative ks pos_left neg_left d p r less =
           let step = points_linked M ls ps p (a + k) (omega arith) in
           let here = at k (a + k) refl (omega arith) in
           let there = at (k + 1) (a + k + 1) (omega arith) (omega arith) in
-          subst (λ (n : ℕ). Candidate M ls n (slice_index ks (k + 1))) (sym here) (subst (Candidate M ls (slice_index ps (a + k))) (sym there) step);
+          subst (λ (n : ℕ). Candidate M ls n (slice_index ks (k + 1))) (sym here)
+          (subst (Candidate M ls (slice_index ps (a + k))) (sym there) step);
       pos_within = omega arith;
       neg_within = omega arith;
       value = λ i. reference_by (legs M ls) (pos_is i) (neg_is i) (kept_is i);

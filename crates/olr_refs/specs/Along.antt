@@ -1,14 +1,10 @@
 -- Positions along the lines of a path.
---     AreJoined M ls      the lines are in the map, and each ends where the next begins
 --     AreDistances M ls ds      ds are the distances of all positions from the start, in decimetres
 use Rattle.std.specs.Prelude.{◌≡◌, ℕ, ◌+◌, ◌<◌, ◌≤◌, List, length, take, slice_index}
-use Rattle.olr_spec.specs.Map.{Map, start, end}
-use Rattle.olr_spec.specs.Walks.{Walk, dm_of}
-use Rattle.olr_spec.specs.Extension.{first, last, limit}
+use Rattle.olr_spec.specs.Map.{Map}
+use Rattle.olr_spec.specs.Walks.{dm_of}
+use Rattle.olr_spec.specs.Extension.{limit}
 use Rattle.olr_spec.specs.Points.{stretch, Covered}
-
-abbrev pub AreJoined : Map → List ℕ → Type 0
-AreJoined M ls = Walk M (start M (first ls)) (end M (last ls)) ls
 
 -- the distances of positions 0 to n
 pub record DistancesTo (M : Map) (ls : List ℕ) (n : ℕ) (ds : List ℕ) : Type 0 where

@@ -1,14 +1,16 @@
--- What a course knows of its lines and distances can be known in one way alone, as the compiler asks of a fact that a value carries.
+-- What a course knows of its lines and distances can be known in one way alone, as the compiler asks of a fact that a
+-- value carries.
 use Rattle.std.specs.Prelude.{ℕ, List, [], ◌∷◌}
 use Rattle.std.specs.Coded.{Coded-set, coded_ℕ, coded_bool}
 use Rattle.olr_spec.specs.Map.{Map, start, end}
 use Rattle.olr_spec.specs.Walks.{Walk}
-use Rattle.olr_spec.specs.Extension.{first, last}
-use Rattle.olr_refs.specs.Along.{AreJoined, AreDistances}
+use Rattle.olr_spec.specs.Extension.{first, last, AreJoined}
+use Rattle.olr_refs.specs.Along.{AreDistances}
 
 pub Walk-prop : (M : Map) (s t : ℕ) (xs : List ℕ) → IsProp (Walk M s t xs)
 Walk-prop M s t [] = Coded-set coded_ℕ s t
-Walk-prop M s t (x ∷ xs) = λ p q i. (Coded-set coded_bool _ _ p.0 q.0 i, Coded-set coded_ℕ _ _ p.1 q.1 i, Walk-prop M (end M x) t xs p.2 q.2 i)
+Walk-prop M s t (x ∷ xs) =
+    λ p q i. (Coded-set coded_bool _ _ p.0 q.0 i, Coded-set coded_ℕ _ _ p.1 q.1 i, Walk-prop M (end M x) t xs p.2 q.2 i)
 
 pub AreJoined-prop : (M : Map) (ls : List ℕ) → IsProp (AreJoined M ls)
 AreJoined-prop M ls = Walk-prop M (start M (first ls)) (end M (last ls)) ls

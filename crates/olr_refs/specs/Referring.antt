@@ -14,7 +14,9 @@ use Rattle.olr_refs.specs.Choice.{searches_of}
 
 abbrev pub JoinsOf : Map → Path → Answer → Type 0
 JoinsOf M P (Refused f) = ⊤
-JoinsOf M P (Points r) = OfPath M P (λ E _ _ js. (last_position 0 js ≡ length E.lines) × Joins M E.lines (kept (legs M E.lines) E.pos E.neg js))
+JoinsOf M P (Points r) =
+    OfPath M P (λ E _ _ js. (last_position 0 js ≡ length E.lines)
+    × Joins M E.lines (kept (legs M E.lines) E.pos E.neg js))
 
 abbrev pub SearchesOf : Map → Path → ℕ → Type 0
 SearchesOf M P n = MatchOption (path_fault M P) (OfPath M P (λ E _ _ js. n ≡ searches_of E.lines (0 ∷ js))) (λ _. n ≡ 0)

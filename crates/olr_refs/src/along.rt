@@ -5,7 +5,8 @@ ghost use Rattle.olr_spec.specs.Map.{has_line, has_node, end, is_good, line_at, 
 ghost use Rattle.olr_spec.specs.Walks.{dm_of};
 ghost use Rattle.olr_spec.specs.Points.{node_at, stretch};
 ghost use Rattle.olr_spec.specs.Reference.{legs, dm_between, position};
-ghost use Rattle.olr_refs.specs.Along.{AreJoined, AreDistances};
+ghost use Rattle.olr_refs.specs.Along.{AreDistances};
+ghost use Rattle.olr_spec.specs.Extension.{AreJoined};
 ghost use Rattle.olr_refs.specs.Courses.{AreJoined-prop, AreDistances-prop};
 
 use crate::lines::{end_of, len_of, start_of};
@@ -13,8 +14,8 @@ use olr_coords::Coord;
 use olr_map::{Line, LineId, MapRead, NodeId};
 use std::alloc::{AllocError, Global};
 
-/// Lines of a map, each of which ends where the next begins, with the distances of their positions: what an encoding goes
-/// along.
+/// Lines of a map, each of which ends where the next begins, with the distances of their positions: what an encoding
+/// goes along.
 #[derive(Drop)]
 pub struct Course<'a, M: MapRead> {
     /// The map.
@@ -66,7 +67,8 @@ impl<M: MapRead> Course<'_, M> {
     pub(crate) fn place(&self, k: usize) -> Coord
         requires some { 0 < length self.now.lines.now }
         requires within { k ≤ length self.now.lines.now }
-        ensures at { result ≡ place_at (M.map self.now.map.now) (node_at (M.map self.now.map.now) self.now.lines.now k) }
+        ensures at { result ≡ place_at (M.map self.now.map.now)
+            (node_at (M.map self.now.map.now) self.now.lines.now k) }
         ensures position { result ≡ position (legs (M.map self.now.map.now) self.now.lines.now) k }
     {
         place_of(self.map, self.node(k))

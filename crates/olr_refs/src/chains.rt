@@ -1,8 +1,10 @@
 //! Chains of lines through passing nodes, which move the ends of a path out to valid nodes.
-ghost use Rattle.std.specs.Prelude.{◌≡◌, ◌<◌, ◌≤◌, ◌+◌, ◌⊎◌, ℕ, IsTrue, IsFalse, not, if◌then◌else◌, IfOk, IfSome, IfNone, MatchOption, length, [], ◌∷◌, ◌++◌};
+ghost use Rattle.std.specs.Prelude.{◌≡◌, ◌<◌, ◌≤◌, ◌+◌, ◌⊎◌, ℕ, IsTrue, IsFalse, not, if◌then◌else◌, IfOk, IfSome};
+ghost use Rattle.std.specs.Prelude.{IfNone, MatchOption, length, [], ◌∷◌, ◌++◌};
 ghost use Rattle.olr_spec.specs.Map.{has_line, start, end, dm, has};
 ghost use Rattle.olr_spec.specs.Walks.{dm_of};
-ghost use Rattle.olr_spec.specs.Extension.{passing, first, last, limit, MayPrecede, MayFollow, LongestStart, LongestEnd};
+ghost use Rattle.olr_spec.specs.Extension.{passing, first, last, limit, MayPrecede, MayFollow, LongestStart};
+ghost use Rattle.olr_spec.specs.Extension.{LongestEnd};
 
 use crate::line_set::LineSet;
 use crate::lines::{end_of, ends_of, len_of, start_of};
@@ -36,8 +38,8 @@ impl Chain {
     }
 }
 
-/// The longest chain within the limit that leads to the first of these lines. The valid start of a list, the common case,
-/// takes no memory.
+/// The longest chain within the limit that leads to the first of these lines. The valid start of a list, the common
+/// case, takes no memory.
 pub(crate) fn chain_before<M: MapRead>(
     alloc: Global,
     map: &M,
@@ -62,8 +64,8 @@ pub(crate) fn chain_before<M: MapRead>(
     })
 }
 
-/// The longest chain within the limit that leads from the last of these lines. The valid end of a list, the common case,
-/// takes no memory.
+/// The longest chain within the limit that leads from the last of these lines. The valid end of a list, the common
+/// case, takes no memory.
 pub(crate) fn chain_after<M: MapRead>(
     alloc: Global,
     map: &M,
@@ -142,7 +144,8 @@ fn grown_after<M: MapRead>(alloc: Global, map: &M, lines: &[LineId]) -> Result<C
 }
 
 /// The line that a chain of the length `len` grows by at its first line: the one before that, where the list that the
-/// chain leads to lacks it and the chain stays within its limit. No chain meets a line of its own before one of the list.
+/// chain leads to lacks it and the chain stays within its limit. No chain meets a line of its own before one of the
+/// list.
 fn step_before<M: MapRead>(map: &M, first: LineId, len: u32, used: &LineSet) -> Option<LineId>
     requires known { IsTrue (has_line (M.map map.now) first) }
     requires within { len ≤ limit }
@@ -178,8 +181,8 @@ fn step_after<M: MapRead>(map: &M, last: LineId, len: u32, used: &LineSet) -> Op
     Some(behind)
 }
 
-/// The one line that may stand before `next`: it enters the node where `next` begins, which is passing, and doesn't come
-/// from where `next` ends. None where that node is valid.
+/// The one line that may stand before `next`: it enters the node where `next` begins, which is passing, and doesn't
+/// come from where `next` ends. None where that node is valid.
 fn line_before<M: MapRead>(map: &M, next: LineId) -> Option<LineId>
     requires { IsTrue (has_line (M.map map.now) next) }
     ensures { MatchOption result ((x : ℕ) → ¬ MayPrecede (M.map map.now) x (next ∷ []))

@@ -16,7 +16,8 @@ use olr_route::GREATEST_LIMIT;
 /// The farthest position from `i` on that is at most 150,000 dm from it.
 fn farthest(distances: &[u128], i: usize) -> usize
     requires within { i < length distances.now }
-    requires rising { (j k : ℕ) → j ≤ k → k < length distances.now → slice_index distances.now j ≤ slice_index distances.now k }
+    requires rising { (j k : ℕ) → j ≤ k → k < length distances.now →
+        slice_index distances.now j ≤ slice_index distances.now k }
     ensures { IsFarthest distances.now i result }
 {
     for k in i + 1..distances.len() {
@@ -45,26 +46,27 @@ fn is_close(from: i64, to: i64) -> bool
 }
 
 /// Whether both differences from one place to another fit 16 bits.
-fn fits(from: Coord, to: Coord) -> bool
+fn is_fit(from: Coord, to: Coord) -> bool
     ensures { result ≡ fit16 from to }
 {
     is_close(from.lon(), to.lon()) && is_close(from.lat(), to.lat())
 }
 
-/// The position that follows `i` as a point, where the positions up to `reach` are covered and near enough: the end if it
-/// is one of them and fits; else the last at a valid node that fits; else the last that fits.
+/// The position that follows `i` as a point, where the positions up to `reach` are covered and near enough: the end if
+/// it is one of them and fits; else the last at a valid node that fits; else the last that fits.
 pub fn next_of<M: MapRead>(course: &Course<M>, i: usize, reach: usize) -> Option<usize>
     requires some { i < length course.now.lines.now }
     requires reach { IsReach (M.map course.now.map.now) course.now.lines.now i reach }
-    ensures { MatchOption result (NoNext (M.map course.now.map.now) course.now.lines.now i) (Next (M.map course.now.map.now) course.now.lines.now i) }
+    ensures { MatchOption result (NoNext (M.map course.now.map.now) course.now.lines.now i)
+        (Next (M.map course.now.map.now) course.now.lines.now i) }
 {
     let here = course.place(i);
-    if reach == course.lines.len() && fits(here, course.place(reach)) {
+    if reach == course.lines.len() && is_fit(here, course.place(reach)) {
         return Some(reach);
     }
     let mut last = None;
     for k in (i + 1..reach + 1).rev() {
-        if fits(here, course.place(k)) {
+        if is_fit(here, course.place(k)) {
             if !passing(course.map, course.node(k)) {
                 return Some(k);
             }

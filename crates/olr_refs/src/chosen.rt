@@ -95,7 +95,8 @@ pub fn points<M: MapRead>(
     ensures choice { IfOk result (λ chosen. ForPoints (M.map course.now.map.now) course.now.lines.now
         (λ js. IsChoice course.now.lines.now js chosen.choice)) }
     ensures looks { IfOk result (λ chosen. ForPoints (M.map course.now.map.now) course.now.lines.now
-        (λ js. LooksFrom (M.map course.now.map.now) course.now.lines.now (looking course.now.lines.now (0 ∷ js)) chosen.looks.items)) }
+        (λ js. LooksFrom (M.map course.now.map.now) course.now.lines.now (looking course.now.lines.now (0 ∷ js))
+        chosen.looks.items)) }
     ensures work { IfOk result (λ chosen. ForPoints (M.map course.now.map.now) course.now.lines.now
         (λ js. Looked work.old work.new (length chosen.looks.items)
         (Searched (M.map course.now.map.now) course.now.lines.now (0 ∷ js)))) }

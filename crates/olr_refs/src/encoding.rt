@@ -1,13 +1,13 @@
 //! The encoding of a path on a map.
-ghost use Rattle.std.specs.Prelude.{◌≡◌, ℕ, List, ◌+◌, ◌*◌, ◌^◌, ◌<◌, ◌≤◌, ◌↔◌, ◌∷◌, IsTrue, IfOk, OnOk, None, Contains, length};
-ghost use Rattle.olr_spec.specs.Extension.{is_path};
+ghost use Rattle.std.specs.Prelude.{◌≡◌, ℕ, List, ◌+◌, ◌*◌, ◌^◌, ◌<◌, ◌≤◌, ◌↔◌, ◌∷◌, IsTrue, IfOk, OnOk, None};
+ghost use Rattle.std.specs.Prelude.{Contains, length};
+ghost use Rattle.olr_spec.specs.Extension.{is_path, AreJoined};
 ghost use Rattle.olr_spec.specs.Encoding.{path_fault, Encoding as EncodingRecord, Encodes};
 ghost use Rattle.olr_spec.specs.Footprint.{Foot, FootOf, Searched};
 ghost use Rattle.olr_spec.specs.Looks.{LooksFrom, LooksOf, LooksOfExtended, OwnOf, OwnOfExtended, looking};
 ghost use Rattle.olr_refs.specs.Answers.{answer_of};
 ghost use Rattle.olr_spec.specs.Encoding.{answer_by_points as answer_along};
 ghost use Rattle.olr_spec.specs.Walks.{dm_of};
-ghost use Rattle.olr_refs.specs.Along.{AreJoined};
 ghost use Rattle.olr_refs.specs.Choice.{ForPoints, IsChoice, Looked, raised};
 ghost use Rattle.olr_refs.specs.Referring.{JoinsOf};
 
@@ -83,7 +83,8 @@ fn encode_whole<M: MapRead>(
     ensures joins { IfOk result (λ e. JoinsOf (M.map map.now) path.now e.answer) }
     ensures own { IfOk result (λ e. (v : ℕ) → Contains e.own v ↔ OwnOfExtended (M.map map.now) path.now v) }
     ensures looks { IfOk result (λ e. LooksOfExtended (M.map map.now) path.now e.looks.items) }
-    ensures work { IfOk result (λ e. Looked work.old work.new (length e.looks.items) (FootOf (M.map map.now) path.now)) }
+    ensures work { IfOk result
+        (λ e. Looked work.old work.new (length e.looks.items) (FootOf (M.map map.now) path.now)) }
 {
     let mut own = Footprint::new(alloc);
     let extended = extend(alloc, map, path, &mut own)?;
@@ -128,7 +129,8 @@ fn answer_by<M: MapRead>(
     pos: u64,
     neg: u64,
 ) -> Result<Answer, AllocError>
-    requires choice { ForPoints (M.map course.now.map.now) course.now.lines.now (λ js. IsChoice course.now.lines.now js choice) }
+    requires choice { ForPoints (M.map course.now.map.now) course.now.lines.now
+        (λ js. IsChoice course.now.lines.now js choice) }
     requires short { pos + neg < dm_of (M.map course.now.map.now) course.now.lines.now }
     ensures { IfOk result (λ answer. ForPoints (M.map course.now.map.now) course.now.lines.now
         (λ js. answer_of answer

@@ -36,10 +36,10 @@ impl Model for Extended {
     ghost view = { λ e. record { lines = e.lines.items; pos = e.pos; neg = e.neg } };
 }
 
-/// Moves the ends of a path out to valid nodes (White Paper, rules on valid nodes; the limits are the profile's). At each
-/// end the longest chain of at most 15,000 m through passing nodes is tried, and taken where it leads to a valid node; at
-/// the end, what was taken at the start counts as part of the path. Notes the nodes of the extended path and of both
-/// tried chains, and no other; after want of memory the footprint is as before.
+/// Moves the ends of a path out to valid nodes (White Paper, rules on valid nodes; the limits are the profile's). At
+/// each end the longest chain of at most 15,000 m through passing nodes is tried, and taken where it leads to a valid
+/// node; at the end, what was taken at the start counts as part of the path. Notes the nodes of the extended path and
+/// of both tried chains, and no other; after want of memory the footprint is as before.
 pub fn extend<M: MapRead>(
     alloc: Global,
     map: &M,

@@ -5,9 +5,9 @@ ghost use Rattle.olr_spec.specs.Coordinates.{fits16, relative};
 ghost use Rattle.olr_coords.specs.Bounds.{is_degrees};
 ghost use Rattle.olr_spec.specs.Map.{has_line, has_node, is_good, line_at, place_at};
 ghost use Rattle.olr_spec.specs.Points.{fit16, Candidate};
-ghost use Rattle.olr_spec.specs.Extension.{limit};
+ghost use Rattle.olr_spec.specs.Extension.{limit, AreJoined};
 ghost use Rattle.olr_spec.specs.Reference.{attrs, first_point, last_point, legs, middle_point, offset, position};
-ghost use Rattle.olr_refs.specs.Along.{AreDistances, AreJoined};
+ghost use Rattle.olr_refs.specs.Along.{AreDistances};
 ghost use Rattle.olr_refs.specs.Fields.{lowest_class, middle_points_of};
 ghost use Rattle.olr_refs.specs.Kept.{AreLinked};
 
@@ -139,7 +139,8 @@ pub fn middle_points<M: MapRead>(
 ) -> Result<Vec<Middle>, AllocError>
     requires linked { AreLinked (M.map course.now.map.now) course.now.lines.now points.now }
     requires two { 2 ≤ length points.now }
-    ensures { IfOk result (λ middle. middle.items ≡ middle_points_of (legs (M.map course.now.map.now) course.now.lines.now) points.now) }
+    ensures { IfOk result (λ middle. middle.items ≡ middle_points_of
+        (legs (M.map course.now.map.now) course.now.lines.now) points.now) }
 {
     let mut middle = Vec::with_capacity(alloc, points.len() - 2)?;
     for k in 1..points.len() - 1 {
@@ -149,8 +150,8 @@ pub fn middle_points<M: MapRead>(
     Ok(middle)
 }
 
-/// What is left of an offset, in 256ths of the stretch that it lies in, rounded down; both are in decimetres. None where
-/// nothing is left (White Paper, binary format; rounding: profile).
+/// What is left of an offset, in 256ths of the stretch that it lies in, rounded down; both are in decimetres. None
+/// where nothing is left (White Paper, binary format; rounding: profile).
 pub fn offset(left: u128, stretch: u128) -> Option<u8>
     requires within { left < stretch }
     requires short { stretch ≤ limit }

@@ -1,5 +1,6 @@
 //! Footprints: the nodes on which an answer rests.
-ghost use Rattle.std.specs.Prelude.{◌≡◌, ℕ, ◌+◌, ◌*◌, ◌^◌, ◌<◌, ◌≤◌, ◌↔◌, ◌⊎◌, IsTrue, IfOk, OnOk, Contains, length, All};
+ghost use Rattle.std.specs.Prelude.{◌≡◌, ℕ, ◌+◌, ◌*◌, ◌^◌, ◌<◌, ◌≤◌, ◌↔◌, ◌⊎◌, IsTrue, IfOk, OnOk, Contains, length};
+ghost use Rattle.std.specs.Prelude.{All};
 ghost use Rattle.olr_spec.specs.Map.{Map, IsMap, Agree, has_node};
 ghost use Rattle.olr_spec.specs.Extension.{Path as PathRecord, is_path};
 ghost use Rattle.olr_spec.specs.Encoding.{Encodes};

@@ -22,9 +22,9 @@ pub struct Tested {
     pub last: usize,
 }
 
-/// Tests the positions from `i` to `far` one after another, by a search that begins at the end of line `i` and is settled
-/// no farther than the position that is asked for, up to the first that isn't covered. Covered positions follow one
-/// another: the beginning of a sole walk is a sole walk.
+/// Tests the positions from `i` to `far` one after another, by a search that begins at the end of line `i` and is
+/// settled no farther than the position that is asked for, up to the first that isn't covered. Covered positions follow
+/// one another: the beginning of a sole walk is a sole walk.
 pub fn covered_to<M: MapRead>(
     course: &Course<M>,
     i: usize,

@@ -2,7 +2,8 @@
 ghost use Rattle.std.specs.Prelude.{◌≡◌, ◌+◌, ◌-◌, ◌<◌, ◌≤◌, IfOk, length};
 ghost use Rattle.olr_spec.specs.Walks.{dm_of};
 ghost use Rattle.olr_spec.specs.Reference.{legs, reference, reference_by};
-ghost use Rattle.olr_refs.specs.Along.{AreDistances, AreJoined};
+ghost use Rattle.olr_refs.specs.Along.{AreDistances};
+ghost use Rattle.olr_spec.specs.Extension.{AreJoined};
 ghost use Rattle.olr_refs.specs.Kept.{later, AreLinked, ArePoints, distance_at};
 
 use crate::along::Course;
@@ -12,8 +13,8 @@ use olr_binary::Reference;
 use olr_map::MapRead;
 use std::alloc::{AllocError, Global};
 
-/// The reference of the points that are kept, at least two, with what is left of the offsets, in decimetres: less than the
-/// first stretch and less than the last.
+/// The reference of the points that are kept, at least two, with what is left of the offsets, in decimetres: less than
+/// the first stretch and less than the last.
 fn reference_by<M: MapRead>(
     alloc: Global,
     course: &Course<M>,
@@ -23,9 +24,12 @@ fn reference_by<M: MapRead>(
 ) -> Result<Reference, AllocError>
     requires linked { AreLinked (M.map course.now.map.now) course.now.lines.now kept.now }
     requires two { 2 ≤ length kept.now }
-    requires pos { distance_at course.now.distances.now kept.now 0 + pos_left < distance_at course.now.distances.now kept.now 1 }
-    requires neg { distance_at course.now.distances.now kept.now (length kept.now - 2) + neg_left < distance_at course.now.distances.now kept.now (length kept.now - 1) }
-    ensures { IfOk result (λ r. r ≡ reference_by (legs (M.map course.now.map.now) course.now.lines.now) pos_left neg_left kept.now) }
+    requires pos { distance_at course.now.distances.now kept.now 0
+        + pos_left < distance_at course.now.distances.now kept.now 1 }
+    requires neg { distance_at course.now.distances.now kept.now (length kept.now - 2)
+        + neg_left < distance_at course.now.distances.now kept.now (length kept.now - 1) }
+    ensures { IfOk result (λ r. r ≡ reference_by (legs (M.map course.now.map.now) course.now.lines.now) pos_left
+        neg_left kept.now) }
 {
     let last = kept.len() - 1;
     let middle = middle_points(alloc, course, kept)?;
@@ -38,8 +42,8 @@ fn reference_by<M: MapRead>(
     })
 }
 
-/// The reference of the lines of an extended path, by the distances of their positions, the points and the two offsets in
-/// decimetres, which together are shorter than the path.
+/// The reference of the lines of an extended path, by the distances of their positions, the points and the two offsets
+/// in decimetres, which together are shorter than the path.
 pub fn reference_of<M: MapRead>(
     alloc: Global,
     course: &Course<M>,
@@ -49,7 +53,8 @@ pub fn reference_of<M: MapRead>(
 ) -> Result<Reference, AllocError>
     requires points { ArePoints (M.map course.now.map.now) course.now.lines.now points.now }
     requires long { pos + neg < dm_of (M.map course.now.map.now) course.now.lines.now }
-    ensures { IfOk result (λ r. r ≡ reference (legs (M.map course.now.map.now) course.now.lines.now) pos neg (later points.now)) }
+    ensures { IfOk result (λ r. r ≡ reference (legs (M.map course.now.map.now) course.now.lines.now) pos neg
+        (later points.now)) }
 {
     let trimmed = trim(course.distances, points, pos, neg);
     reference_by(alloc, course, trimmed.points, trimmed.pos, trimmed.neg)

@@ -1,4 +1,5 @@
-use Rattle.olr_commands.proofs.HistoryLemmas.{headline_of_histories, routes_of, names_changed, no_differences, is_refused}
+use Rattle.olr_commands.proofs.HistoryLemmas.{headline_of_histories, routes_of, names_changed, no_differences}
+use Rattle.olr_commands.proofs.HistoryLemmas.{is_refused}
 use Rattle.olr_commands.proofs.laws.claims.Goals as goal
 
 pub returns-clause-headline : goal.returns-clause-headline

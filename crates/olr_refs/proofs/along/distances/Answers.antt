@@ -6,13 +6,16 @@ use Rattle.olr_refs.proofs.Joined.{known_read, walk_short, sum_fits, no_distance
 use Rattle.olr_refs.proofs.along.distances.Goals as goal
 
 pub len_of-requires : goal.len_of-requires
-len_of-requires g c = known_read (g.M.MapRead.map c.args.map.now) _ _ _ c.requires.joined c.loop-line-test.true c.line-item.is
+len_of-requires g c =
+    known_read (g.M.MapRead.map c.args.map.now) _ _ _ c.requires.joined c.loop-line-test.true c.line-item.is
 
 pub overflow_add-along : goal.overflow_add-along
 overflow_add-along g c =
     let M = g.M.MapRead.map c.args.map.now in
     let along : c.loop-line.along ≤ 1000000 * c.loop-line.line-index =
-    subst (λ (n : ℕ). n ≤ 1000000 * c.loop-line.line-index) (sym c.loop-line.invariant.1) (walk_short M (g.met.M.MapRead.sound c.args.map.now) _ _ c.args.lines.now c.loop-line.line-index c.requires.joined) in
+    subst (λ (n : ℕ). n ≤ 1000000 * c.loop-line.line-index) (sym c.loop-line.invariant.1)
+    (walk_short M (g.met.M.MapRead.sound c.args.map.now) _ _ c.args.lines.now c.loop-line.line-index
+    c.requires.joined) in
     record { fits = sum_fits _ _ c.loop-line.line-index along (omega arith) (omega arith) }
 
 pub loop-line-init : goal.loop-line-init
@@ -24,7 +27,8 @@ loop-line-preserved g c =
     let on : c.loop-line.along + c.from-along.result ≡ dm_of M (take (c.loop-line.line-index + 1) c.args.lines.now) =
     let read = longer_by M c.args.lines.now _ _ c.loop-line-test.true c.line-item.is in
     let added : c.from-along.result ≡ dm M c.line-item.result = search rules in
-    ap (λ (n : ℕ). c.loop-line.along + n) added ∙ ap (λ (n : ℕ). n + dm M c.line-item.result) c.loop-line.invariant.1 ∙ sym read in
+    ap (λ (n : ℕ). c.loop-line.along + n) added ∙ ap (λ (n : ℕ). n + dm M c.line-item.result) c.loop-line.invariant.1
+    ∙ sym read in
     (one_more M c.args.lines.now _ _ _ _ c.loop-line.invariant.0 (search rules) on, on)
 
 pub returns : goal.returns

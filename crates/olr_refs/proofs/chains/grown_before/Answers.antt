@@ -7,7 +7,8 @@ use Rattle.olr_refs.proofs.chains.grown_before.Goals as goal
 
 pub step_before-requires-clause-known : goal.step_before-requires-clause-known
 step_before-requires-clause-known g c =
-    front_known (g.M.MapRead.map c.args.map.now) c.args.lines.now c.requires.some c.requires.known (reverse c.loop-line.chain.items) c.loop-line.first c.loop-line.len c.loop-line.invariant
+    front_known (g.M.MapRead.map c.args.map.now) c.args.lines.now c.requires.some c.requires.known
+    (reverse c.loop-line.chain.items) c.loop-line.first c.loop-line.len c.loop-line.invariant
 
 pub loop-line-preserved : goal.loop-line-preserved
 loop-line-preserved g c =
@@ -15,22 +16,30 @@ loop-line-preserved g c =
     let ls : List ℕ = c.args.lines.now in
     let line : ℕ = c.in-Some.line in
     let items : List ℕ = c.loop-line.chain.items in
-    let pushed : reverse c.push.new.self.items ≡ line ∷ reverse items = rw (c.in_ok-push.ensures.items, reverse-append items (line ∷ [])) refl in
-    let grows = grows_before M ls c.requires.some c.requires.known (reverse items) c.loop-line.first c.loop-line.len c.loop-line.invariant line c.in-Some.ensures.before (sym (c.in_ok-ahead.ensures line) ∙ c.in-Some.ensures.fresh) c.in-Some.ensures.near in
+    let pushed : reverse c.push.new.self.items ≡ line ∷ reverse items =
+    rw (c.in_ok-push.ensures.items, reverse-append items (line ∷ [])) refl in
+    let grows =
+    grows_before M ls c.requires.some c.requires.known (reverse items) c.loop-line.first c.loop-line.len
+    c.loop-line.invariant line c.in-Some.ensures.before (sym (c.in_ok-ahead.ensures line) ∙ c.in-Some.ensures.fresh)
+    c.in-Some.ensures.near in
     rw (pushed, c.len_of-len.ensures) grows
 
 pub start_of-requires : goal.start_of-requires
 start_of-requires g c =
-    front_known (g.M.MapRead.map c.args.map.now) c.args.lines.now c.requires.some c.requires.known (reverse c.loop-line.chain.items) c.loop-line.first c.loop-line.len c.loop-line.invariant
+    front_known (g.M.MapRead.map c.args.map.now) c.args.lines.now c.requires.some c.requires.known
+    (reverse c.loop-line.chain.items) c.loop-line.first c.loop-line.len c.loop-line.invariant
 
 pub returns-clause-longest : goal.returns-clause-longest
 returns-clause-longest g c =
     let M = g.M.MapRead.map c.args.map.now in
     let ls : List ℕ = c.args.lines.now in
     let items : List ℕ = c.loop-line.chain.items in
-    let stops : (x : ℕ) → MayPrecede M x (c.loop-line.first ∷ []) → (has ls x ≡ true) ⊎ (limit < c.loop-line.len + dm M x) = λ x p.
+    let stops : (x : ℕ) → MayPrecede M x (c.loop-line.first ∷ []) → (has ls x ≡ true)
+    ⊎ (limit < c.loop-line.len + dm M x) = λ x p.
     rw (c.in_ok-ahead.ensures x) at (c.in_default.ensures.none x p) in
-    rw c.reverse.ensures.items (longest_before M ls c.requires.some c.requires.known (reverse items) c.loop-line.first c.loop-line.len c.loop-line.invariant stops)
+    rw c.reverse.ensures.items
+    (longest_before M ls c.requires.some c.requires.known (reverse items) c.loop-line.first c.loop-line.len
+    c.loop-line.invariant stops)
 
 pub returns-clause-valid : goal.returns-clause-valid
 returns-clause-valid g c =

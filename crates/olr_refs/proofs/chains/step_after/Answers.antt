@@ -11,7 +11,8 @@ returns-then-has-clause-none g c = λ x p.
     let line : ℕ = c.in_ok-behind.behind in
     let is : line ≡ x = one_after M c.args.last line x c.requires.known c.in_ok-behind.ensures p in
     elim c.then-has.branch [
-      | then-has-via-then-has w ↦ inl (subst (λ (n : ℕ). has c.args.used.now n ≡ true) is (sym c.has.ensures ∙ w.if-has.true))
+      | then-has-via-then-has w ↦
+          inl (subst (λ (n : ℕ). has c.args.used.now n ≡ true) is (sym c.has.ensures ∙ w.if-has.true))
       | then-has-via-else-has+then-len_of-len w ↦
           let long : limit < c.args.len + dm M line = let e = w.len_of.ensures in omega arith in
           inr (subst (λ (n : ℕ). limit < c.args.len + dm M n) is long)

@@ -14,4 +14,5 @@ returns-in_ok-reference-in-Positions g c =
     let E : Path = record { lines = ls; pos = c.args.pos; neg = c.args.neg } in
     points_answer M E ls c.in-Positions.points.items c.in_ok-reference-in-Positions.reference refl
     (subst (λ (choice : Choice). ForPoints M ls (λ js. IsChoice ls js choice)) c.in-Positions.is c.requires.choice)
-    (c.in_ok-reference-in-Positions.ensures ∙ ap (λ (ps : List ℕ). reference (legs M ls) c.args.pos c.args.neg (later ps)) c.deref.ensures.value)
+    (c.in_ok-reference-in-Positions.ensures
+    ∙ ap (λ (ps : List ℕ). reference (legs M ls) c.args.pos c.args.neg (later ps)) c.deref.ensures.value)

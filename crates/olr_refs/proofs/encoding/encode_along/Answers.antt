@@ -10,17 +10,26 @@ use Rattle.olr_refs.proofs.encoding.encode_along.Goals as goal
 pub returns-clause-answer : goal.returns-clause-answer
 returns-clause-answer g c =
     let M = g.M.MapRead.map c.args.map.now in
-    let lines = ap (λ (ls : List ℕ). let E : Path = record { lines = ls; pos = c.extended.inside.pos; neg = c.extended.inside.neg } in E) c.as_slice-lines.ensures.value in
-    subst (λ (E : Path). ForPoints M E.lines (λ js. answers.answer_of c.in_ok-answer.answer ≡ answer_by_points M E js)) (lines ∙ c.extended.view_is) c.in_ok-answer.ensures
+    let lines =
+    ap (λ (ls : List ℕ). let E : Path =
+    record { lines = ls; pos = c.extended.inside.pos; neg = c.extended.inside.neg } in E)
+    c.as_slice-lines.ensures.value in
+    subst (λ (E : Path). ForPoints M E.lines (λ js. answers.answer_of c.in_ok-answer.answer ≡ answer_by_points M E js))
+    (lines ∙ c.extended.view_is) c.in_ok-answer.ensures
 
 pub returns-clause-looks : goal.returns-clause-looks
 returns-clause-looks g c =
     let M = g.M.MapRead.map c.args.map.now in
-    let lines : c.as_slice-lines.result.now ≡ c.args.extended.now.lines = c.as_slice-lines.ensures.value ∙ ap (λ (p : Path). p.lines) c.extended.view_is in
-    subst (λ (ls : List ℕ). ForPoints M ls (λ js. LooksFrom M ls (looking ls (0 ∷ js)) c.in_ok-chosen.chosen.looks.items)) lines c.in_ok-chosen.ensures.looks
+    let lines : c.as_slice-lines.result.now ≡ c.args.extended.now.lines =
+    c.as_slice-lines.ensures.value ∙ ap (λ (p : Path). p.lines) c.extended.view_is in
+    subst (λ (ls : List ℕ). ForPoints M ls
+    (λ js. LooksFrom M ls (looking ls (0 ∷ js)) c.in_ok-chosen.chosen.looks.items)) lines c.in_ok-chosen.ensures.looks
 
 pub returns-clause-work : goal.returns-clause-work
 returns-clause-work g c =
     let M = g.M.MapRead.map c.args.map.now in
-    let lines : c.as_slice-lines.result.now ≡ c.args.extended.now.lines = c.as_slice-lines.ensures.value ∙ ap (λ (p : Path). p.lines) c.extended.view_is in
-    subst (λ (ls : List ℕ). ForPoints M ls (λ js. Looked c.args.work.now c.points.new.work (length c.in_ok-chosen.chosen.looks.items) (Searched M ls (0 ∷ js)))) lines c.in_ok-chosen.ensures.work
+    let lines : c.as_slice-lines.result.now ≡ c.args.extended.now.lines =
+    c.as_slice-lines.ensures.value ∙ ap (λ (p : Path). p.lines) c.extended.view_is in
+    subst (λ (ls : List ℕ). ForPoints M ls
+    (λ js. Looked c.args.work.now c.points.new.work (length c.in_ok-chosen.chosen.looks.items)
+    (Searched M ls (0 ∷ js)))) lines c.in_ok-chosen.ensures.work

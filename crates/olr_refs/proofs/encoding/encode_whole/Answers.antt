@@ -2,23 +2,36 @@ use Rattle.olr_refs.proofs.Referring.{whole_joined, whole_short, encoding_of, jo
 use Rattle.olr_refs.proofs.encoding.encode_whole.Goals as goal
 
 pub encode_along-requires-clause-joined : goal.encode_along-requires-clause-joined
-encode_along-requires-clause-joined g c = whole_joined (g.M.MapRead.map c.args.map.now) c.args.path.now c.in_ok-extended.extended _ _ c.requires.path c.requires.sound c.in_ok-extended.ensures.ok
+encode_along-requires-clause-joined g c =
+    whole_joined (g.M.MapRead.map c.args.map.now) c.args.path.now c.in_ok-extended.extended _ _ c.requires.path
+    c.requires.sound c.in_ok-extended.ensures.ok
 
 pub encode_along-requires-clause-short : goal.encode_along-requires-clause-short
-encode_along-requires-clause-short g c = whole_short (g.M.MapRead.map c.args.map.now) c.args.path.now c.in_ok-extended.extended _ _ c.requires.path c.requires.sound c.in_ok-extended.ensures.ok
+encode_along-requires-clause-short g c =
+    whole_short (g.M.MapRead.map c.args.map.now) c.args.path.now c.in_ok-extended.extended _ _ c.requires.path
+    c.requires.sound c.in_ok-extended.ensures.ok
 
 pub returns-clause-answer : goal.returns-clause-answer
-returns-clause-answer g c = encoding_of (g.M.MapRead.map c.args.map.now) c.args.path.now c.in_ok-extended.extended _ _ _ c.in_ok-extended.ensures.ok c.in_ok-answer.ensures.answer
+returns-clause-answer g c =
+    encoding_of (g.M.MapRead.map c.args.map.now) c.args.path.now c.in_ok-extended.extended _ _ _
+    c.in_ok-extended.ensures.ok c.in_ok-answer.ensures.answer
 
 pub returns-clause-joins : goal.returns-clause-joins
-returns-clause-joins g c = joins_of (g.M.MapRead.map c.args.map.now) c.args.path.now c.in_ok-extended.extended _ _ c.in_ok-answer.answer c.in_ok-extended.ensures.ok c.in_ok-answer.ensures.answer
+returns-clause-joins g c =
+    joins_of (g.M.MapRead.map c.args.map.now) c.args.path.now c.in_ok-extended.extended _ _ c.in_ok-answer.answer
+    c.in_ok-extended.ensures.ok c.in_ok-answer.ensures.answer
 
 pub returns-clause-own : goal.returns-clause-own
 returns-clause-own g c =
-    own_of (g.M.MapRead.map c.args.map.now) (g.met.M.MapRead.sound c.args.map.now) c.args.path.now c.in_ok-extended.extended _ _ c.requires.path c.requires.sound c.new-own.ensures c.in_ok-extended.ensures.ok
+    own_of (g.M.MapRead.map c.args.map.now) (g.met.M.MapRead.sound c.args.map.now) c.args.path.now
+    c.in_ok-extended.extended _ _ c.requires.path c.requires.sound c.new-own.ensures c.in_ok-extended.ensures.ok
 
 pub returns-clause-looks : goal.returns-clause-looks
-returns-clause-looks g c = looks_of (g.M.MapRead.map c.args.map.now) c.args.path.now c.in_ok-extended.extended _ _ _ c.in_ok-extended.ensures.ok c.in_ok-answer.ensures.looks
+returns-clause-looks g c =
+    looks_of (g.M.MapRead.map c.args.map.now) c.args.path.now c.in_ok-extended.extended _ _ _
+    c.in_ok-extended.ensures.ok c.in_ok-answer.ensures.looks
 
 pub returns-clause-work : goal.returns-clause-work
-returns-clause-work g c = looked_of (g.M.MapRead.map c.args.map.now) c.args.path.now c.in_ok-extended.extended _ _ _ _ _ c.in_ok-extended.ensures.ok c.in_ok-answer.ensures.work
+returns-clause-work g c =
+    looked_of (g.M.MapRead.map c.args.map.now) c.args.path.now c.in_ok-extended.extended _ _ _ _ _
+    c.in_ok-extended.ensures.ok c.in_ok-answer.ensures.work

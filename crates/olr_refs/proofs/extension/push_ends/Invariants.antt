@@ -4,4 +4,5 @@ use Rattle.olr_refs.proofs.extension.push_ends.Given as goal
 
 -- the ends of the lines so far are there
 abbrev pub invariant-loop-line : goal.invariant-loop-line
-invariant-loop-line g l = HasEnds (g.M.MapRead.map l.map) l.initial.nodes.items (take l.line-index l.lines) l.nodes.items
+invariant-loop-line g l =
+    HasEnds (g.M.MapRead.map l.map) l.initial.nodes.items (take l.line-index l.lines) l.nodes.items

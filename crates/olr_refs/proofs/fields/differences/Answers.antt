@@ -5,10 +5,12 @@ use Rattle.olr_refs.proofs.PlaceLemmas.{latitude_passed, latitudes_fit}
 use Rattle.olr_refs.proofs.fields.differences.Goals as goal
 
 pub difference-requires-2-clause-from : goal.difference-requires-2-clause-from
-difference-requires-2-clause-from c = latitude_passed c.args.from _ (search rules) c.lat.ensures.value c.lat.ensures.range
+difference-requires-2-clause-from c =
+    latitude_passed c.args.from _ (search rules) c.lat.ensures.value c.lat.ensures.range
 
 pub difference-requires-2-clause-to : goal.difference-requires-2-clause-to
-difference-requires-2-clause-to c = latitude_passed c.args.to _ (search rules) c.lat-2.ensures.value c.lat-2.ensures.range
+difference-requires-2-clause-to c =
+    latitude_passed c.args.to _ (search rules) c.lat-2.ensures.value c.lat-2.ensures.range
 
 pub difference-requires-2-clause-fits : goal.difference-requires-2-clause-fits
 difference-requires-2-clause-fits c =

@@ -10,6 +10,8 @@ pub returns : goal.returns
 returns g c =
     let gs = legs (g.M.MapRead.map c.args.course.now.map.now) c.args.course.now.lines.now in
     first_read gs c.args.i c.args.j _ _ _
-    (stored w32 abs24 _ _ _ (search rules) (c.lon.ensures.value ∙ ap (λ (p : Coord). p.lon) c.place-place.ensures.position) (search rules) c.abs24.ensures)
-    (stored w32 abs24 _ _ _ (search rules) (c.lat.ensures.value ∙ ap (λ (p : Coord). p.lat) c.place-place.ensures.position) (search rules) c.abs24-2.ensures)
+    (stored w32 abs24 _ _ _ (search rules) (c.lon.ensures.value
+    ∙ ap (λ (p : Coord). p.lon) c.place-place.ensures.position) (search rules) c.abs24.ensures)
+    (stored w32 abs24 _ _ _ (search rules) (c.lat.ensures.value
+    ∙ ap (λ (p : Coord). p.lat) c.place-place.ensures.position) (search rules) c.abs24-2.ensures)
     c.attrs.ensures

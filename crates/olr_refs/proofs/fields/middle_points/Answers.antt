@@ -13,4 +13,5 @@ loop-k-preserved g c =
     let on : k + 2 ≡ k + 1 + 1 = omega arith in
     c.in_ok-push.ensures.items ∙ ap (λ (ps : List Middle). ps ++ c.middle_point-point.result ∷ []) c.loop-k.invariant
     ∙ ap (λ (p : Middle). middle_points_of gs (take (k + 1) c.args.points.now) ++ p ∷ []) c.middle_point-point.ensures
-    ∙ sym (middle_more gs c.args.points.now k (omega arith) (omega arith)) ∙ ap (λ (n : ℕ). middle_points_of gs (take n c.args.points.now)) on
+    ∙ sym (middle_more gs c.args.points.now k (omega arith) (omega arith))
+    ∙ ap (λ (n : ℕ). middle_points_of gs (take n c.args.points.now)) on

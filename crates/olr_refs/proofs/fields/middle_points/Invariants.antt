@@ -5,4 +5,6 @@ use Rattle.olr_refs.proofs.fields.middle_points.Given as goal
 
 -- the points between the first and the one at index k
 abbrev pub invariant-loop-k : goal.invariant-loop-k
-invariant-loop-k g l = l.middle.items ≡ middle_points_of (legs (g.M.MapRead.map l.course.map.now) l.course.lines.now) (take (l.k + 1) l.points)
+invariant-loop-k g l =
+    l.middle.items ≡ middle_points_of (legs (g.M.MapRead.map l.course.map.now) l.course.lines.now)
+    (take (l.k + 1) l.points)

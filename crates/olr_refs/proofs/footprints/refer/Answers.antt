@@ -11,7 +11,8 @@ pub footprint-requires : goal.footprint-requires
 footprint-requires g c =
     let M = g.M.MapRead.map c.args.map.now in
     subst (λ (ls : List Look). All (λ l. IsTrue (has_node M l.from)) ls) (sym c.deref.ensures.value)
-    (looks_known M (g.met.M.MapRead.sound c.args.map.now) c.args.path.now c.encode.ensures.path _ c.in_ok-answer.ensures.looks)
+    (looks_known M (g.met.M.MapRead.sound c.args.map.now) c.args.path.now c.encode.ensures.path _
+    c.in_ok-answer.ensures.looks)
 
 pub returns-clause-footprint : goal.returns-clause-footprint
 returns-clause-footprint g c =
@@ -22,15 +23,25 @@ returns-clause-footprint g c =
 pub returns-clause-local : goal.returns-clause-local
 returns-clause-local g c =
     let M = g.M.MapRead.map c.args.map.now in
-    local_by M (g.met.M.MapRead.sound c.args.map.now) c.args.path.now c.encode.ensures.path (answer_of c.in_ok-answer.field-0.answer) c.in_ok-footprint.footprint c.in_ok-answer.ensures.answer
-    (c.in_ok-footprint.ensures.footprint c.args.path.now c.encode.ensures.path c.in_ok-answer.ensures.own (subst (LooksOf M c.args.path.now) (sym c.deref.ensures.value) c.in_ok-answer.ensures.looks))
+    local_by M (g.met.M.MapRead.sound c.args.map.now) c.args.path.now c.encode.ensures.path
+    (answer_of c.in_ok-answer.field-0.answer) c.in_ok-footprint.footprint c.in_ok-answer.ensures.answer
+    (c.in_ok-footprint.ensures.footprint c.args.path.now c.encode.ensures.path c.in_ok-answer.ensures.own
+    (subst (LooksOf M c.args.path.now) (sym c.deref.ensures.value) c.in_ok-answer.ensures.looks))
 
 pub returns-clause-searches : goal.returns-clause-searches
 returns-clause-searches g c =
-    let M = g.M.MapRead.map c.args.map.now in
-    (_, searches_looked M c.args.path.now c.deref.result.now (subst (LooksOf M c.args.path.now) (sym c.deref.ensures.value) c.in_ok-answer.ensures.looks), c.in_ok-footprint.ensures.work.searches)
+    let M = g.M.MapRead.map c.args.map.now in (
+      _,
+      searches_looked M c.args.path.now c.deref.result.now
+          (subst (LooksOf M c.args.path.now) (sym c.deref.ensures.value) c.in_ok-answer.ensures.looks),
+      c.in_ok-footprint.ensures.work.searches,
+    )
 
 pub returns-clause-settled : goal.returns-clause-settled
 returns-clause-settled g c =
-    let M = g.M.MapRead.map c.args.map.now in
-    (_, searches_looked M c.args.path.now c.deref.result.now (subst (LooksOf M c.args.path.now) (sym c.deref.ensures.value) c.in_ok-answer.ensures.looks), c.in_ok-footprint.ensures.work.settled)
+    let M = g.M.MapRead.map c.args.map.now in (
+      _,
+      searches_looked M c.args.path.now c.deref.result.now
+          (subst (LooksOf M c.args.path.now) (sym c.deref.ensures.value) c.in_ok-answer.ensures.looks),
+      c.in_ok-footprint.ensures.work.settled,
+    )

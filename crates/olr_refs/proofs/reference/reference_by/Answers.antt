@@ -15,7 +15,10 @@ offset-requires-clause-within g c =
     let after = next.after in
     let left = c.requires.pos in
     let long = c.between.ensures.value in
-    let sum = dm_stretch (g.M.MapRead.map c.args.course.now.map.now) c.args.course.now.lines.now c.args.course.now.distances.now (slice_index c.args.kept.now 0) (slice_index c.args.kept.now 1) c.args.course.now.measured (omega arith) next.upto in
+    let sum =
+    dm_stretch (g.M.MapRead.map c.args.course.now.map.now) c.args.course.now.lines.now c.args.course.now.distances.now
+    (slice_index c.args.kept.now 0) (slice_index c.args.kept.now 1) c.args.course.now.measured (omega arith)
+    next.upto in
     omega arith
 
 pub offset-requires-2-clause-within : goal.offset-requires-2-clause-within
@@ -25,9 +28,14 @@ offset-requires-2-clause-within g c =
     let next = linked_end M c.args.course.now.lines.now c.args.kept.now c.requires.linked c.requires.two in
     let after = next.after in
     let same : length c.args.kept.now - 2 ≡ length c.args.kept.now - 1 - 1 = omega arith in
-    let left = subst (λ (n : ℕ). distance_at c.args.course.now.distances.now c.args.kept.now n + c.args.neg_left < distance_at c.args.course.now.distances.now c.args.kept.now (length c.args.kept.now - 1)) same c.requires.neg in
+    let left =
+    subst (λ (n : ℕ). distance_at c.args.course.now.distances.now c.args.kept.now n
+    + c.args.neg_left < distance_at c.args.course.now.distances.now c.args.kept.now (length c.args.kept.now - 1)) same
+    c.requires.neg in
     let long = c.between-2.ensures.value in
-    let sum = dm_stretch M c.args.course.now.lines.now c.args.course.now.distances.now (slice_index c.args.kept.now (last - 1)) (slice_index c.args.kept.now last) c.args.course.now.measured (omega arith) next.upto in
+    let sum =
+    dm_stretch M c.args.course.now.lines.now c.args.course.now.distances.now (slice_index c.args.kept.now (last - 1))
+    (slice_index c.args.kept.now last) c.args.course.now.measured (omega arith) next.upto in
     omega arith
 
 pub offset-requires-clause-short : goal.offset-requires-clause-short
@@ -38,17 +46,24 @@ offset-requires-clause-short g c =
 pub offset-requires-2-clause-short : goal.offset-requires-2-clause-short
 offset-requires-2-clause-short g c =
     let M = g.M.MapRead.map c.args.course.now.map.now in
-    subst (λ (n : ℕ). n ≤ limit) (sym c.between-2.ensures.value) (linked_end M c.args.course.now.lines.now c.args.kept.now c.requires.linked c.requires.two).near
+    subst (λ (n : ℕ). n ≤ limit) (sym c.between-2.ensures.value)
+    (linked_end M c.args.course.now.lines.now c.args.kept.now c.requires.linked c.requires.two).near
 
 pub returns : goal.returns
 returns g c =
-    reference_read (g.M.MapRead.map c.args.course.now.map.now) c.args.course.now.lines.now c.args.kept.now c.args.pos_left c.args.neg_left _ _ _ _ _ c.requires.two
-    c.first_point.ensures c.in_ok-middle.ensures c.last_point.ensures (rw c.between.ensures.legs at c.offset.ensures) (rw c.between-2.ensures.legs at c.offset-2.ensures)
+    reference_read (g.M.MapRead.map c.args.course.now.map.now) c.args.course.now.lines.now c.args.kept.now
+    c.args.pos_left c.args.neg_left _ _ _ _ _ c.requires.two
+    c.first_point.ensures c.in_ok-middle.ensures c.last_point.ensures (rw c.between.ensures.legs at c.offset.ensures)
+    (rw c.between-2.ensures.legs at c.offset-2.ensures)
 
 pub invariant_of-result : goal.invariant_of-result
 invariant_of-result g c =
     let M = g.M.MapRead.map c.args.course.now.map.now in
     subst IsReference
-    (sym (reference_read M c.args.course.now.lines.now c.args.kept.now c.args.pos_left c.args.neg_left _ _ _ _ _ c.requires.two
-    c.first_point.ensures c.in_ok-middle.ensures c.last_point.ensures (rw c.between.ensures.legs at c.offset.ensures) (rw c.between-2.ensures.legs at c.offset-2.ensures)))
-    (kept_fit M (g.met.M.MapRead.sound c.args.course.now.map.now) c.args.course.now.lines.now c.args.course.now.distances.now c.args.kept.now c.args.pos_left c.args.neg_left c.args.course.now.joined c.args.course.now.measured c.requires.linked c.requires.two c.requires.pos c.requires.neg)
+    (sym (reference_read M c.args.course.now.lines.now c.args.kept.now c.args.pos_left c.args.neg_left _ _ _ _ _
+    c.requires.two
+    c.first_point.ensures c.in_ok-middle.ensures c.last_point.ensures (rw c.between.ensures.legs at c.offset.ensures)
+    (rw c.between-2.ensures.legs at c.offset-2.ensures)))
+    (kept_fit M (g.met.M.MapRead.sound c.args.course.now.map.now) c.args.course.now.lines.now
+    c.args.course.now.distances.now c.args.kept.now c.args.pos_left c.args.neg_left c.args.course.now.joined
+    c.args.course.now.measured c.requires.linked c.requires.two c.requires.pos c.requires.neg)

@@ -6,12 +6,16 @@ use Rattle.olr_refs.proofs.LegLemmas.{record_sound}
 use Rattle.olr_refs.proofs.along.Course.line.Goals as goal
 
 pub line_of-requires : goal.line_of-requires
-line_of-requires g c = known_get (g.M.MapRead.map c.args.self.now.map.now) c.args.self.now.lines.now c.args.k _ c.args.self.now.joined c.requires
+line_of-requires g c =
+    known_get (g.M.MapRead.map c.args.self.now.map.now) c.args.self.now.lines.now c.args.k _ c.args.self.now.joined
+    c.requires
 
 pub returns : goal.returns
 returns g c =
     let M = g.M.MapRead.map c.args.self.now.map.now in
-    let sound = record_sound M (g.met.M.MapRead.sound c.args.self.now.map.now) _ _ (known_get M c.args.self.now.lines.now c.args.k _ c.args.self.now.joined c.requires) c.line_of.ensures in
+    let sound =
+    record_sound M (g.met.M.MapRead.sound c.args.self.now.map.now) _ _
+    (known_get M c.args.self.now.lines.now c.args.k _ c.args.self.now.joined c.requires) c.line_of.ensures in
     record {
       value = c.line_of.ensures ∙ ap (line_at M) (get_or_default c.args.self.now.lines.now _ _ 0 c.requires);
       good = sound.0;

@@ -7,4 +7,8 @@ pub returns : goal.returns
 returns g c =
     let M = g.M.MapRead.map c.args.self.now.map.now in
     let at = c.place_of.ensures ∙ ap (place_at M) c.node.ensures.value in
-    record { at = at; position = at ∙ sym (position_at M (g.met.M.MapRead.sound c.args.self.now.map.now) c.args.self.now.lines.now c.args.k c.args.self.now.joined c.requires.some) }
+    record {
+      at = at;
+      position = at ∙ sym (position_at M (g.met.M.MapRead.sound c.args.self.now.map.now)
+          c.args.self.now.lines.now c.args.k c.args.self.now.joined c.requires.some);
+    }

@@ -8,5 +8,6 @@ returns c =
     let items : List ℕ = c.self.inside.sorted.items in
     let same : items ≡ c.args.self.now = c.self.view_is in
     c.is_ok.ensures.value
-    ∙ found items c.args.line c.binary_search.result c.self.invariant (rw c.deref.ensures.value at c.binary_search.ensures.position)
+    ∙ found items c.args.line c.binary_search.result c.self.invariant
+    (rw c.deref.ensures.value at c.binary_search.ensures.position)
     ∙ ap (λ (zs : List ℕ). has zs c.args.line) same

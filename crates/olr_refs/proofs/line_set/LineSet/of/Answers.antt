@@ -3,7 +3,10 @@ use Rattle.olr_refs.proofs.Sets.{same_members}
 use Rattle.olr_refs.proofs.line_set.LineSet.of.Goals as goal
 
 pub invariant_of-result : goal.invariant_of-result
-invariant_of-result c = IsNonDecreasingBy-from_sort (λ x. x) c.sort_unstable.new.self.items c.sort_unstable.ensures.sorted
+invariant_of-result c =
+    IsNonDecreasingBy-from_sort (λ x. x) c.sort_unstable.new.self.items c.sort_unstable.ensures.sorted
 
 pub returns : goal.returns
-returns c = same_members c.args.lines.now c.sort_unstable.new.self.items (rw c.in_ok-sorted.ensures.items at c.sort_unstable.ensures.permutation)
+returns c =
+    same_members c.args.lines.now c.sort_unstable.new.self.items
+    (rw c.in_ok-sorted.ensures.items at c.sort_unstable.ensures.permutation)
