@@ -1,5 +1,6 @@
 -- What is asked of each path of a list is asked of the one at a place.
-use Rattle.std.proofs.Common.{◌≡◌, ℕ, List, [], slice_get, Contains, Option, Some, None, option_map, IfSome, Bool, IsTrue, IsFalse, true, refl, sym, ap, ◌∙◌, subst, arith}
+use Rattle.std.proofs.Common.{◌≡◌, ℕ, List, [], slice_get, Contains, Option, Some, None, option_map, IfSome, Bool}
+use Rattle.std.proofs.Common.{IsTrue, IsFalse, true, refl, sym, ap, ◌∙◌, subst, arith}
 use Rattle.std.proofs.lemmas.Option.{slice_get_within, get_or_from_slice_get}
 use Rattle.olr_spec.specs.Looks.{Look}
 use Rattle.olr_spec.specs.Detours.{Near}
@@ -24,7 +25,8 @@ listed_at is k i at = (k, slice_get_within is k i at, get_or_from_slice_get is k
 -- ---- no looks
 
 -- of what was made, told by what it was made of
-pub made_if : {A : Type 0} (f : A → Made) (P : Made → Type 0) (o : Option A) → IfSome (option_map f o) P → IfSome o (λ a. P (f a))
+pub made_if : {A : Type 0} (f : A → Made) (P : Made → Type 0) (o : Option A) → IfSome (option_map f o) P →
+    IfSome o (λ a. P (f a))
 made_if f P None h = h
 made_if f P (Some a) h = h
 
@@ -36,18 +38,23 @@ lacks_untouched N T m none h = let lt = (subst (λ (ls : List Look). Contains ls
 
 module _ (N : Map) (place : ℕ → ℕ) (t : Touched) where
   -- what was asked rests on the search from the touched nodes alone
-  asked_made : (s r : Searches) (made : Option Made) → r.near ≡ s.near → r.far ≡ s.far → IfSome made (IsAsked N place t s) → IfSome made (IsAsked N place t r)
+  asked_made : (s r : Searches) (made : Option Made) → r.near ≡ s.near → r.far ≡ s.far →
+      IfSome made (IsAsked N place t s) → IfSome made (IsAsked N place t r)
   asked_made s r None near far h = h
   asked_made s r (Some m) near far h = record {
-    search = λ off. subst (λ (x : Search). IsSearch N place Against (sources t) x) (sym near) (h.search (subst (λ (b : Bool). IsFalse b) far off));
+    search =
+        λ off. subst (λ (x : Search). IsSearch N place Against (sources t) x) (sym near)
+        (h.search (subst (λ (b : Bool). IsFalse b) far off));
     settled = λ off. ap limit_of near ∙ h.settled (subst (λ (b : Bool). IsFalse b) far off);
     far = λ on. h.far (subst (λ (b : Bool). IsTrue b) far on);
   }
 
-  pub asked_again : (s r : Searches) (is : List Item) → r.near ≡ s.near → r.far ≡ s.far → AreAsked N place t s is → AreAsked N place t r is
+  pub asked_again : (s r : Searches) (is : List Item) → r.near ≡ s.near → r.far ≡ s.far → AreAsked N place t s is →
+      AreAsked N place t r is
   asked_again s r is near far h i there = asked_made s r i.made near far (h i there)
 
-  far_made : (s : Searches) (made : Option Made) → s.far ≡ true → IfSome made (λ m. ¬ LookTouched N (nodes_of t) m) → IfSome made (IsAsked N place t s)
+  far_made : (s : Searches) (made : Option Made) → s.far ≡ true → IfSome made (λ m. ¬ LookTouched N (nodes_of t) m) →
+      IfSome made (IsAsked N place t s)
   far_made s None on h = h
   far_made s (Some m) on h = record {
     search = λ off. let never : ⊥ = cc (on, off) in absurd never;
@@ -55,7 +62,8 @@ module _ (N : Map) (place : ℕ → ℕ) (t : Touched) where
     far = λ _. h;
   }
 
-  far_looks : (made : Option Made) → ((v : ℕ) → BeginsIn made v → ¬ Near N (nodes_of t) v limit) → IfSome made (λ m. ¬ LookTouched N (nodes_of t) m)
+  far_looks : (made : Option Made) → ((v : ℕ) → BeginsIn made v → ¬ Near N (nodes_of t) v limit) →
+      IfSome made (λ m. ¬ LookTouched N (nodes_of t) m)
   far_looks None h = tt
   far_looks (Some m) h = λ look. h look.0.from (look.0, look.1, refl) look.2
 

@@ -1,9 +1,10 @@
 -- Where the looks begin of a list in which something was put, or a path was added, set or dropped.
-use Rattle.std.proofs.Common.{inl, inr, ◌≡◌, ℕ, zero, suc, ◌+◌, ◌⊎◌, Bool, true, false, cond, if◌then◌else◌, List, [], ◌∷◌, ◌++◌, map, take, slice_get, Contains, Option, Some, sym, subst, arith}
+use Rattle.std.proofs.Common.{inl, inr, ◌≡◌, ℕ, zero, suc, ◌+◌, ◌⊎◌, Bool, true, false, cond, if◌then◌else◌, List, []}
+use Rattle.std.proofs.Common.{◌∷◌, ◌++◌, map, take, slice_get, Contains, Option, Some, sym, subst, arith}
 use Rattle.std.specs.List.{filter}
 use Rattle.std.specs.Prelude.{option_map}
-use Rattle.olr_spec.proofs.LookLists.{Contains-cases}
 use Rattle.olr_spec.specs.Extension.{Path}
+use Rattle.olr_spec.proofs.ListLemmas.{Contains-cases}
 use Rattle.olr_commands.specs.State.{same_name}
 use Rattle.olr_paths.specs.Items.{Made, Item, made_of}
 use Rattle.olr_paths.specs.Changes.{set_item}
@@ -22,12 +23,14 @@ begins_there (x ∷ is) i v on h = elim (Contains-cases x i is on) [
 
 -- ---- where something was put
 
-begins_put : (is : List Item) (k : ℕ) (path : Path) (made : Option Made) (v : ℕ) → Begins (put is k path made) v → Begins is v ⊎ BeginsIn made v
+begins_put : (is : List Item) (k : ℕ) (path : Path) (made : Option Made) (v : ℕ) → Begins (put is k path made) v →
+    Begins is v ⊎ BeginsIn made v
 begins_put [] k path made v h = absurd h
 begins_put (i ∷ is) zero path made v (inl h) = inr h
 begins_put (i ∷ is) zero path made v (inr h) = inl (inr h)
 begins_put (i ∷ is) (suc k) path made v (inl h) = inl (inl h)
-begins_put (i ∷ is) (suc k) path made v (inr h) = elim (begins_put is k path made v h) [ inl l ↦ inl (inr l) | inr r ↦ inr r ]
+begins_put (i ∷ is) (suc k) path made v (inr h) =
+    elim (begins_put is k path made v h) [ inl l ↦ inl (inr l) | inr r ↦ inr r ]
 
 pub begins_all_put : (is : List Item) (ps : List Put) (v : ℕ) → Begins (all_put is ps) v → Begins is v ⊎ BeginsPut ps v
 begins_all_put is [] v h = inl h
@@ -37,7 +40,8 @@ begins_all_put is (p ∷ ps) v h = elim (begins_put (all_put is ps) p.place p.pa
 ]
 
 -- one more, behind the others
-pub begins_push : (es : List (ℕ × NamedPath)) (e : ℕ × NamedPath) (v : ℕ) → BeginsPut (puts_of (es ++ e ∷ [])) v → BeginsPut (puts_of es) v ⊎ BeginsIn (option_map (λ p. made_of p.value) e.1.published) v
+pub begins_push : (es : List (ℕ × NamedPath)) (e : ℕ × NamedPath) (v : ℕ) → BeginsPut (puts_of (es ++ e ∷ [])) v →
+    BeginsPut (puts_of es) v ⊎ BeginsIn (option_map (λ p. made_of p.value) e.1.published) v
 begins_push [] e v (inl h) = inr h
 begins_push [] e v (inr h) = absurd h
 begins_push (x ∷ es) e v (inl h) = inl (inl h)
@@ -51,16 +55,22 @@ begins_add [] j v (inr h) = absurd h
 begins_add (i ∷ is) j v (inl h) = inl (inl h)
 begins_add (i ∷ is) j v (inr h) = elim (begins_add is j v h) [ inl l ↦ inl (inr l) | inr r ↦ inr r ]
 
-one_set : (b : Bool) (path : Path) (made : Option Made) (i : Item) (v : ℕ) → BeginsIn (if b then record { name = i.name; path = path; made = made } else i).made v → BeginsIn i.made v ⊎ BeginsIn made v
+one_set : (b : Bool) (path : Path) (made : Option Made) (i : Item) (v : ℕ) →
+    BeginsIn (if b then record { name = i.name; path = path; made = made } else i).made v → BeginsIn i.made v
+    ⊎ BeginsIn made v
 one_set true path made i v h = inr h
 one_set false path made i v h = inl h
 
-pub begins_set : (name : List ℕ) (path : Path) (made : Option Made) (is : List Item) (v : ℕ) → Begins (map (set_item name path made) is) v → Begins is v ⊎ BeginsIn made v
+pub begins_set : (name : List ℕ) (path : Path) (made : Option Made) (is : List Item) (v : ℕ) →
+    Begins (map (set_item name path made) is) v → Begins is v ⊎ BeginsIn made v
 begins_set name path made [] v h = absurd h
-begins_set name path made (i ∷ is) v (inl h) = elim (one_set (same_name i.name name) path made i v h) [ inl l ↦ inl (inl l) | inr r ↦ inr r ]
-begins_set name path made (i ∷ is) v (inr h) = elim (begins_set name path made is v h) [ inl l ↦ inl (inr l) | inr r ↦ inr r ]
+begins_set name path made (i ∷ is) v (inl h) =
+    elim (one_set (same_name i.name name) path made i v h) [ inl l ↦ inl (inl l) | inr r ↦ inr r ]
+begins_set name path made (i ∷ is) v (inr h) =
+    elim (begins_set name path made is v h) [ inl l ↦ inl (inr l) | inr r ↦ inr r ]
 
-one_kept : (b : Bool) (i : Item) (rest is : List Item) (v : ℕ) → (Begins rest v → Begins is v) → Begins (cond b (i ∷ rest) rest) v → Begins (i ∷ is) v
+one_kept : (b : Bool) (i : Item) (rest is : List Item) (v : ℕ) → (Begins rest v → Begins is v) →
+    Begins (cond b (i ∷ rest) rest) v → Begins (i ∷ is) v
 one_kept true i rest is v f (inl h) = inl h
 one_kept true i rest is v f (inr h) = inr (f h)
 one_kept false i rest is v f h = inr (f h)
@@ -70,5 +80,7 @@ begins_drop keep [] v h = h
 begins_drop keep (i ∷ is) v h = one_kept (keep i) i (filter keep is) is v (begins_drop keep is v) h
 
 -- as far as a loop has come
-pub begins_more : (is : List Item) (k : ℕ) (i : Item) (v : ℕ) → slice_get is k ≡ Some i → Begins (take (k + 1) is) v → Begins (take k is) v ⊎ BeginsIn i.made v
-begins_more is k i v at h = begins_add (take k is) i v (subst (λ (js : List Item). Begins js v) (take_more_items is k i at) h)
+pub begins_more : (is : List Item) (k : ℕ) (i : Item) (v : ℕ) → slice_get is k ≡ Some i → Begins (take (k + 1) is) v →
+    Begins (take k is) v ⊎ BeginsIn i.made v
+begins_more is k i v at h =
+    begins_add (take k is) i v (subst (λ (js : List Item). Begins js v) (take_more_items is k i at) h)

@@ -1,6 +1,9 @@
 -- A list under changes that take no path away: place by place, and with what was made put in place.
---     changed_by cs i      what becomes of one path.        Lies us vs      vs is us, where some paths are other ones that were not encoded yet
-use Rattle.std.proofs.Common.{inl, inr, ◌≡◌, ◌⊎◌, ℕ, zero, suc, ◌+◌, Bool, true, false, cond, List, [], ◌∷◌, ◌++◌, map, take, length, get_or, slice_get, unwrap_or, Option, Some, None, is_some, refl, sym, ap, ◌∙◌, subst, arith}
+--     changed_by cs i what becomes of one path. Lies us vs vs is us, where some paths are other ones that were not
+--     encoded yet
+use Rattle.std.proofs.Common.{inl, inr, ◌≡◌, ◌⊎◌, ℕ, zero, suc, ◌+◌, Bool, true, false, cond, List, [], ◌∷◌, ◌++◌, map}
+use Rattle.std.proofs.Common.{take, length, get_or, slice_get, unwrap_or, Option, Some, None, is_some, refl, sym, ap}
+use Rattle.std.proofs.Common.{◌∙◌, subst, arith}
 use Rattle.std.specs.Prelude.{⊤, option_map}
 use Rattle.olr_spec.specs.Extension.{Path}
 use Rattle.olr_commands.specs.State.{same_name, path_named, NamesDiffer}
@@ -54,20 +57,24 @@ all_changed cs (i ∷ is) h =
     ap (λ (js : List Item). js ++ under_changes cs is) (one_changed (change_at cs i.name) i (h i.name))
     ∙ ap (λ (js : List Item). changed_by cs i ∷ js) (all_changed cs is h)
 
-map_at : (f : Item → Item) (is ys : List Item) (k : ℕ) (i : Item) → slice_get is k ≡ Some i → slice_get (map f is ++ ys) k ≡ Some (f i)
+map_at : (f : Item → Item) (is ys : List Item) (k : ℕ) (i : Item) → slice_get is k ≡ Some i →
+    slice_get (map f is ++ ys) k ≡ Some (f i)
 map_at f [] ys k i at = let never : ⊥ = cc (at) in absurd never
 map_at f (x ∷ is) ys zero i at = let same : x ≡ i = cc (at) in ap (λ (j : Item). Some (f j)) same
 map_at f (x ∷ is) ys (suc k) i at = map_at f is ys k i at
 
-map_behind : (f : Item → Item) (is ys : List Item) (k m : ℕ) → k ≡ length is + m → slice_get (map f is ++ ys) k ≡ slice_get ys m
+map_behind : (f : Item → Item) (is ys : List Item) (k m : ℕ) → k ≡ length is + m →
+    slice_get (map f is ++ ys) k ≡ slice_get ys m
 map_behind f [] ys k m e = ap (slice_get ys) (let same : k ≡ m = omega arith in same)
 map_behind f (x ∷ is) ys zero m e = absurd (omega arith)
 map_behind f (x ∷ is) ys (suc k) m e = map_behind f is ys k m (omega arith)
 
 abbrev Where : (Item → Item) → List Item → List Item → ℕ → Item → Type 0
-Where f is ys k j = ((i : Item) × (slice_get is k ≡ Some i) × (j ≡ f i)) ⊎ ((m : ℕ) × (k ≡ length is + m) × (slice_get ys m ≡ Some j))
+Where f is ys k j =
+    ((i : Item) × (slice_get is k ≡ Some i) × (j ≡ f i)) ⊎ ((m : ℕ) × (k ≡ length is + m) × (slice_get ys m ≡ Some j))
 
-map_from : (f : Item → Item) (is ys : List Item) (k : ℕ) (j : Item) → slice_get (map f is ++ ys) k ≡ Some j → Where f is ys k j
+map_from : (f : Item → Item) (is ys : List Item) (k : ℕ) (j : Item) → slice_get (map f is ++ ys) k ≡ Some j →
+    Where f is ys k j
 map_from f [] ys k j at = inr (k, omega arith, at)
 map_from f (x ∷ is) ys zero j at = let same : f x ≡ j = cc (at) in inl (x, refl, sym same)
 map_from f (x ∷ is) ys (suc k) j at = elim (map_from f is ys k j at) [
@@ -105,15 +112,19 @@ lies_itself (i ∷ is) = (refl, inr refl, lies_itself is)
 
 map_lies : (cs : Changes) (is ys : List Item) → Lies (is ++ ys) (map (changed_by cs) is ++ ys)
 map_lies cs [] ys = lies_itself ys
-map_lies cs (i ∷ is) ys = (changed_name (change_at cs i.name) i, changed_made (change_at cs i.name) i, map_lies cs is ys)
+map_lies cs (i ∷ is) ys =
+    (changed_name (change_at cs i.name) i, changed_made (change_at cs i.name) i, map_lies cs is ys)
 
 pub laid_lies : (cs : Changes) (is ys : List Item) → TakesNone cs → Lies (is ++ ys) (under_changes cs is ++ ys)
-laid_lies cs is ys keeps = subst (λ (js : List Item). Lies (is ++ ys) js) (sym (parts cs is ys keeps)) (map_lies cs is ys)
+laid_lies cs is ys keeps =
+    subst (λ (js : List Item). Lies (is ++ ys) js) (sym (parts cs is ys keeps)) (map_lies cs is ys)
 
-put_lies : (us vs : List Item) (k : ℕ) (path : Path) (made : Option Made) → Lies us vs → Lies (put us k path made) (put vs k path made)
+put_lies : (us vs : List Item) (k : ℕ) (path : Path) (made : Option Made) → Lies us vs →
+    Lies (put us k path made) (put vs k path made)
 put_lies [] vs k path made h = ap (λ (js : List Item). put js k path made) h
 put_lies (a ∷ us) [] k path made h = absurd h
-put_lies (a ∷ us) (b ∷ vs) zero path made h = (h.0, inr (ap (λ (n : List ℕ). record { name = n; path = path; made = made }) h.0), h.2)
+put_lies (a ∷ us) (b ∷ vs) zero path made h =
+    (h.0, inr (ap (λ (n : List ℕ). record { name = n; path = path; made = made }) h.0), h.2)
 put_lies (a ∷ us) (b ∷ vs) (suc k) path made h = (h.0, h.1, put_lies us vs k path made h.2)
 
 all_put_lies : (us vs : List Item) (ps : List Put) → Lies us vs → Lies (all_put us ps) (all_put vs ps)
@@ -131,14 +142,20 @@ lies_same before (a ∷ us) (b ∷ vs) es h told = elim h.1 [
   | inr same ↦ (λ i. same i ∷ lies_same before us vs told.1 h.2 told.3 i)
 ]
 
-pub put_on_laid : (cs : Changes) (before is ys : List Item) (ps : List Put) (es : List Entry) → TakesNone cs → Reported before (all_put (under_changes cs is ++ ys) ps) es → all_put (is ++ ys) ps ≡ all_put (under_changes cs is ++ ys) ps
+pub put_on_laid : (cs : Changes) (before is ys : List Item) (ps : List Put) (es : List Entry) → TakesNone cs →
+    Reported before (all_put (under_changes cs is ++ ys) ps) es →
+    all_put (is ++ ys) ps ≡ all_put (under_changes cs is ++ ys) ps
 put_on_laid cs before is ys ps es keeps told =
-    lies_same before (all_put (is ++ ys) ps) (all_put (under_changes cs is ++ ys) ps) es (all_put_lies (is ++ ys) (under_changes cs is ++ ys) ps (laid_lies cs is ys keeps)) told
+    lies_same before (all_put (is ++ ys) ps) (all_put (under_changes cs is ++ ys) ps) es
+    (all_put_lies (is ++ ys) (under_changes cs is ++ ys) ps (laid_lies cs is ys keeps)) told
 
 -- ---- names
 
-has_one : (i : Item) (L : List Item) (name : List ℕ) → has_name (i ∷ L) name ≡ cond (same_name i.name name) true (has_name L name)
-has_one i L name = elim (same_name i.name name) as (λ b. is_some (cond b (Some i.path) (path_named (all_named L) name)) ≡ cond b true (has_name L name)) [ true ↦ refl | false ↦ refl ]
+has_one : (i : Item) (L : List Item) (name : List ℕ) →
+    has_name (i ∷ L) name ≡ cond (same_name i.name name) true (has_name L name)
+has_one i L name =
+    elim (same_name i.name name) as (λ b. is_some (cond b (Some i.path) (path_named (all_named L) name))
+    ≡ cond b true (has_name L name)) [ true ↦ refl | false ↦ refl ]
 
 names_of_both : (us vs : List Item) (name : List ℕ) → Lies us vs → has_name us name ≡ has_name vs name
 names_of_both [] vs name h = ap (λ (js : List Item). has_name js name) (sym h)
@@ -151,14 +168,17 @@ names_of_both (a ∷ us) (b ∷ vs) name h =
 pub lies_differ : (us vs : List Item) → Lies us vs → NamesDiffer (all_named vs) → NamesDiffer (all_named us)
 lies_differ [] vs h d = tt
 lies_differ (a ∷ us) [] h d = absurd h
-lies_differ (a ∷ us) (b ∷ vs) h d = (ap (has_name us) h.0 ∙ names_of_both us vs b.name h.2 ∙ d.0, lies_differ us vs h.2 d.1)
+lies_differ (a ∷ us) (b ∷ vs) h d =
+    (ap (has_name us) h.0 ∙ names_of_both us vs b.name h.2 ∙ d.0, lies_differ us vs h.2 d.1)
 
-pub grown_differ : (cs : Changes) (is ys : List Item) → TakesNone cs → NamesDiffer (all_named (under_changes cs is ++ ys)) → NamesDiffer (all_named (is ++ ys))
+pub grown_differ : (cs : Changes) (is ys : List Item) → TakesNone cs →
+    NamesDiffer (all_named (under_changes cs is ++ ys)) → NamesDiffer (all_named (is ++ ys))
 grown_differ cs is ys keeps d = lies_differ (is ++ ys) (under_changes cs is ++ ys) (laid_lies cs is ys keeps) d
 
 -- ---- which names are changed
 
-pub change_push : (cs : Changes) (c : List ℕ × Option Path) (name : List ℕ) → change_at cs name ≡ None → same_name c.0 name ≡ false → change_at (cs ++ c ∷ []) name ≡ None
+pub change_push : (cs : Changes) (c : List ℕ × Option Path) (name : List ℕ) → change_at cs name ≡ None →
+    same_name c.0 name ≡ false → change_at (cs ++ c ∷ []) name ≡ None
 change_push [] c name none other = ap (λ (b : Bool). cond b (Some c.1) None) other
 change_push (d ∷ cs) c name none other =
     elim (cases_Bool (same_name d.0 name)) [
@@ -166,25 +186,32 @@ change_push (d ∷ cs) c name none other =
           let here : change_at (d ∷ cs) name ≡ Some d.1 = ap (λ (b : Bool). cond b (Some d.1) (change_at cs name)) h in
           let never : ⊥ = cc (here, none) in absurd never
       | inr h ↦
-          let past : change_at (d ∷ cs) name ≡ change_at cs name = ap (λ (b : Bool). cond b (Some d.1) (change_at cs name)) h in
-          ap (λ (b : Bool). cond b (Some d.1) (change_at (cs ++ c ∷ []) name)) h ∙ change_push cs c name (sym past ∙ none) other
+          let past : change_at (d ∷ cs) name ≡ change_at cs name =
+          ap (λ (b : Bool). cond b (Some d.1) (change_at cs name)) h in
+          ap (λ (b : Bool). cond b (Some d.1) (change_at (cs ++ c ∷ []) name)) h
+          ∙ change_push cs c name (sym past ∙ none) other
     ]
 
-pub take_more_entries : (es : Entered) (k : ℕ) (e : String Global × Option (Rc Path Global)) → slice_get es k ≡ Some e → take (k + 1) es ≡ take k es ++ e ∷ []
+pub take_more_entries : (es : Entered) (k : ℕ) (e : String Global × Option (Rc Path Global)) → slice_get es k ≡ Some e →
+    take (k + 1) es ≡ take k es ++ e ∷ []
 take_more_entries es k e at =
     let E : Type 0 = String Global × Option (Rc Path Global) in
     let same : get_or es k e ≡ e = sym (unwrap_or-slice_get es k e) ∙ ap (λ (o : Option E). unwrap_or o e) at in
     take_more es k e (slice_get_within es k e at) ∙ ap (λ (x : E). take k es ++ x ∷ []) same
 
-pub take_more_changes : (es : Entered) (k : ℕ) (e : String Global × Option (Rc Path Global)) → slice_get es k ≡ Some e → changes_in (take (k + 1) es) ≡ changes_in (take k es) ++ (string_bytes e.0, path_in e.1) ∷ []
-take_more_changes es k e at = ap changes_in (take_more_entries es k e at) ∙ map-append (λ (x : String Global × Option (Rc Path Global)). (string_bytes x.0, path_in x.1)) (take k es) (e ∷ [])
+pub take_more_changes : (es : Entered) (k : ℕ) (e : String Global × Option (Rc Path Global)) → slice_get es k ≡ Some e →
+    changes_in (take (k + 1) es) ≡ changes_in (take k es) ++ (string_bytes e.0, path_in e.1) ∷ []
+take_more_changes es k e at =
+    ap changes_in (take_more_entries es k e at)
+    ∙ map-append (λ (x : String Global × Option (Rc Path Global)). (string_bytes x.0, path_in x.1)) (take k es) (e ∷ [])
 
 -- where each is another path, none is taken away
 abbrev pub AreOthers : Entered → Type 0
 AreOthers [] = ⊤
 AreOthers (e ∷ es) = (is_some e.1 ≡ true) × AreOthers es
 
-pub others_push : (es : Entered) (e : String Global × Option (Rc Path Global)) → AreOthers es → is_some e.1 ≡ true → AreOthers (es ++ e ∷ [])
+pub others_push : (es : Entered) (e : String Global × Option (Rc Path Global)) → AreOthers es → is_some e.1 ≡ true →
+    AreOthers (es ++ e ∷ [])
 others_push [] e h one = (one, tt)
 others_push (x ∷ es) e h one = (h.0, others_push es e h.1 one)
 
@@ -195,38 +222,52 @@ stays_so (Some p) h = refl
 pub others_keep : (es : Entered) → AreOthers es → TakesNone (changes_in es)
 others_keep [] h name = refl
 others_keep (e ∷ es) h name =
-    elim (same_name (string_bytes e.0) name) as (λ b. drops (cond b (Some (path_in e.1)) (change_at (changes_in es) name)) ≡ false) [ true ↦ stays_so e.1 h.0 | false ↦ others_keep es h.1 name ]
+    elim (same_name (string_bytes e.0) name) as (λ b.
+    drops (cond b (Some (path_in e.1)) (change_at (changes_in es) name)) ≡ false) [
+      | true ↦ stays_so e.1 h.0
+      | false ↦
+          others_keep es h.1 name
+    ]
 
 -- ---- the place of a name
 
-there_named : (is : List Item) (k : ℕ) (i : Item) (name : List ℕ) → slice_get is k ≡ Some i → same_name i.name name ≡ true → has_name is name ≡ true
+there_named : (is : List Item) (k : ℕ) (i : Item) (name : List ℕ) → slice_get is k ≡ Some i →
+    same_name i.name name ≡ true → has_name is name ≡ true
 there_named [] k i name at same = let never : ⊥ = cc (at) in absurd never
 there_named (x ∷ is) zero i name at same =
     let e : x ≡ i = cc (at) in
-    has_one x is name ∙ ap (λ (b : Bool). cond b true (has_name is name)) (ap (λ (j : Item). same_name j.name name) e ∙ same)
+    has_one x is name ∙ ap (λ (b : Bool). cond b true (has_name is name))
+    (ap (λ (j : Item). same_name j.name name) e ∙ same)
 there_named (x ∷ is) (suc k) i name at same =
-    has_one x is name ∙ ap (λ (b : Bool). cond (same_name x.name name) true b) (there_named is k i name at same) ∙ both_true (same_name x.name name)
+    has_one x is name ∙ ap (λ (b : Bool). cond (same_name x.name name) true b) (there_named is k i name at same)
+    ∙ both_true (same_name x.name name)
   where
     both_true : (b : Bool) → cond b true true ≡ true
     both_true true = refl
     both_true false = refl
 
 -- the first of a name is the only one
-pub first_only : (es : Entries) (name : List ℕ) (q k : ℕ) (i : Item) → First name es q → NamesDiffer (all_named (items_of es)) → slice_get (items_of es) k ≡ Some i → same_name i.name name ≡ true → q ≡ k
+pub first_only : (es : Entries) (name : List ℕ) (q k : ℕ) (i : Item) → First name es q →
+    NamesDiffer (all_named (items_of es)) → slice_get (items_of es) k ≡ Some i → same_name i.name name ≡ true → q ≡ k
 first_only [] name q k i h d at same = absurd h
 first_only (e ∷ es) name zero zero i h d at same = refl
 first_only (e ∷ es) name zero (suc k) i h d at same =
     let own : same_name (string_bytes e.0) name ≡ true = same_flip (string_bytes e.0) name ∙ h in
-    let here : same_name i.name (string_bytes e.0) ≡ true = ap (same_name i.name) (same_is (string_bytes e.0) name own) ∙ same in
-    let on : has_name (items_of es) (string_bytes e.0) ≡ true = there_named (items_of es) k i (string_bytes e.0) at here in
+    let here : same_name i.name (string_bytes e.0) ≡ true =
+    ap (same_name i.name) (same_is (string_bytes e.0) name own) ∙ same in
+    let on : has_name (items_of es) (string_bytes e.0) ≡ true =
+    there_named (items_of es) k i (string_bytes e.0) at here in
     let never : true ≡ false = sym on ∙ d.0 in absurd cc
 first_only (e ∷ es) name (suc q) zero i h d at same =
     let is : item_of e ≡ i = cc (at) in
-    let on : asks name e.0 ≡ true = same_flip name (string_bytes e.0) ∙ ap (λ (j : Item). same_name j.name name) is ∙ same in
+    let on : asks name e.0 ≡ true =
+    same_flip name (string_bytes e.0) ∙ ap (λ (j : Item). same_name j.name name) is ∙ same in
     let never : true ≡ false = sym on ∙ h.0 in absurd cc
 first_only (e ∷ es) name (suc q) (suc k) i h d at same = ap suc (first_only es name q k i h.1 d.1 at same)
 
-pub not_there : (es : Entries) (name : List ℕ) (k : ℕ) (i : Item) → is_some (path_named (all_named (items_of es)) name) ≡ false → slice_get (items_of es) k ≡ Some i → same_name i.name name ≡ false
+pub not_there : (es : Entries) (name : List ℕ) (k : ℕ) (i : Item) →
+    is_some (path_named (all_named (items_of es)) name) ≡ false → slice_get (items_of es) k ≡ Some i →
+    same_name i.name name ≡ false
 not_there es name k i free at =
     elim (cases_Bool (same_name i.name name)) [
       | inl on ↦ let never : true ≡ false = sym (there_named (items_of es) k i name at on) ∙ free in absurd cc

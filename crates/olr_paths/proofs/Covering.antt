@@ -1,5 +1,7 @@
 -- Positions that are found cover the paths that edits concern, and those between them stay.
-use Rattle.std.proofs.Common.{inl, inr, ◌≡◌, ◌≢◌, ℕ, zero, suc, ◌+◌, ◌-◌, ◌<◌, ◌≤◌, ◌==◌, ◌||◌, ◌⊎◌, Bool, true, false, All, List, [], ◌∷◌, ◌++◌, take, length, get_or, slice_get, Option, Some, None, IsTrue, refl, sym, ap, ◌∙◌, subst, arith}
+use Rattle.std.proofs.Common.{inl, inr, ◌≡◌, ◌≢◌, ℕ, zero, suc, ◌+◌, ◌-◌, ◌<◌, ◌≤◌, ◌==◌, ◌||◌, ◌⊎◌, Bool, true, false}
+use Rattle.std.proofs.Common.{All, List, [], ◌∷◌, ◌++◌, take, length, get_or, slice_get, Option, Some, None, IsTrue}
+use Rattle.std.proofs.Common.{refl, sym, ap, ◌∙◌, subst, arith}
 use Rattle.std.specs.List.Sorted.{IsNonDecreasing}
 use Rattle.std.proofs.lemmas.Bool.{cases_Bool, cases_lt, or_left, eq-eqb, eqb-true}
 use Rattle.std.proofs.lemmas.List.{take_all}
@@ -101,7 +103,8 @@ ranged_more from to old now h =
 
 -- ---- positions of numbers
 
-pub record PutAll {A : Type 0} (number : A → ℕ) (marks : List ℕ) (index : Index) (xs : List A) (old now : List ℕ) : Type 0 where
+pub record PutAll {A : Type 0} (number : A → ℕ) (marks : List ℕ) (index : Index) (xs : List A) (old now : List ℕ) : Type
+    0 where
   pub kept : Includes old now
   pub put : All (λ x. Finds marks index (number x) now) xs
 
@@ -109,20 +112,26 @@ module _ {A : Type 0} (number : A → ℕ) (marks : List ℕ) (index : Index) (o
   pub put_all_none : PutAll number marks index [] old old
   put_all_none = record { kept = λ k on. on; put = λ k d lt. absurd (omega arith) }
 
-  pub put_all_more : (xs : List A) (k : ℕ) (d : A) (v : ℕ) (of now new : List ℕ) → k < length xs → v ≡ number (get_or xs k d) → of ≡ marks_of index v → PutAll number marks index (take k xs) old now
-      → Includes now new → ((j : ℕ) → j < length marks → IsTrue (has of (get_or marks j 0)) → IsTrue (has new j)) → PutAll number marks index (take (k + 1) xs) old new
+  pub put_all_more : (xs : List A) (k : ℕ) (d : A) (v : ℕ) (of now new : List ℕ) → k < length xs →
+      v ≡ number (get_or xs k d) → of ≡ marks_of index v → PutAll number marks index (take k xs) old now
+      → Includes now new → ((j : ℕ) → j < length marks → IsTrue (has of (get_or marks j 0)) → IsTrue (has new j)) →
+      PutAll number marks index (take (k + 1) xs) old new
   put_all_more xs k d v of now new lt is marked h kept put =
       let P : A → Type 0 = λ x. Finds marks index (number x) new in
-      let one : Finds marks index v new = λ j low on. put j low (ap (λ (ms : List ℕ). has ms (get_or marks j 0)) marked ∙ on) in
+      let one : Finds marks index v new =
+      λ j low on. put j low (ap (λ (ms : List ℕ). has ms (get_or marks j 0)) marked ∙ on) in
       record {
         kept = λ j on. kept j (h.kept j on);
-        put = all_more P xs k d lt (λ i e low j below on. kept j (h.put i e low j below on)) (subst (λ (u : ℕ). Finds marks index u new) is one);
+        put = all_more P xs k d lt (λ i e low j below on. kept j (h.put i e low j below on))
+            (subst (λ (u : ℕ). Finds marks index u new) is one);
       }
 
-  pub put_all_end : (xs : List A) (k : ℕ) (now : List ℕ) → length xs ≤ k → PutAll number marks index (take k xs) old now → All (λ x. Finds marks index (number x) now) xs
+  pub put_all_end : (xs : List A) (k : ℕ) (now : List ℕ) → length xs ≤ k →
+      PutAll number marks index (take k xs) old now → All (λ x. Finds marks index (number x) now) xs
   put_all_end xs k now end h = subst (λ ys. All (λ x. Finds marks index (number x) now) ys) (take_all k xs end) h.put
 
-pub found_grown : {A : Type 0} (number : A → ℕ) (marks : List ℕ) (index : Index) (xs : List A) (old now : List ℕ) → Includes old now → All (λ x. Finds marks index (number x) old) xs → All (λ x. Finds marks index (number x) now) xs
+pub found_grown : {A : Type 0} (number : A → ℕ) (marks : List ℕ) (index : Index) (xs : List A) (old now : List ℕ) →
+    Includes old now → All (λ x. Finds marks index (number x) old) xs → All (λ x. Finds marks index (number x) now) xs
 found_grown number marks index xs old now kept h = λ i d lt k low on. kept k (h i d lt k low on)
 
 -- ---- going from one position to the next
@@ -137,42 +146,59 @@ has_place [] v on = let never : ⊥ = cc (on) in absurd never
 has_place (x ∷ xs) v on =
     elim (cases_Bool (x == v)) [
       | inl e ↦ (0, omega arith, eqb-true x v e)
-      | inr e ↦ let r = has_place xs v (ap (λ (b : Bool). b || has xs v) (sym e) ∙ on) in (suc r.0, (let lt = r.1 in omega arith), r.2)
+      | inr e ↦ let r =
+          has_place xs v (ap (λ (b : Bool). b || has xs v) (sym e) ∙ on) in
+          (suc r.0, (let lt = r.1 in omega arith), r.2)
     ]
 
 -- no candidate stands between
-none_between : (found : List ℕ) (long k next position j : ℕ) → IsNonDecreasing found → Passed found long k next → position ≡ get_or found k 0 → k < length found → position ≤ long → next ≤ j → j < position → has found j ≡ false
+none_between : (found : List ℕ) (long k next position j : ℕ) → IsNonDecreasing found → Passed found long k next →
+    position ≡ get_or found k 0 → k < length found → position ≤ long → next ≤ j → j < position → has found j ≡ false
 none_between found long k next position j up h is lt within above low =
     elim (cases_Bool (has found j)) [
       | inr e ↦ e
       | inl on ↦
           let r = has_place found j on in
           absurd (elim (cases_lt r.0 k) [
-            | inl before ↦ elim (h.below r.0 before) [ inl small ↦ let e = r.2 in omega arith | inr big ↦ let e = r.2 in omega arith ]
+            | inl before ↦ elim (h.below r.0 before) [
+              | inl small ↦ let e = r.2 in omega arith
+              | inr big ↦ let e = r.2 in
+                  omega arith
+            ]
             | inr after ↦ let e = r.2 in let s = up k r.0 0 after r.1 in omega arith
           ])
     ]
 
-none_after : (found : List ℕ) (long k next j : ℕ) → length found ≤ k → Passed found long k next → next ≤ j → j < long → has found j ≡ false
+none_after : (found : List ℕ) (long k next j : ℕ) → length found ≤ k → Passed found long k next → next ≤ j → j < long →
+    has found j ≡ false
 none_after found long k next j end h above low =
     elim (cases_Bool (has found j)) [
       | inr e ↦ e
       | inl on ↦
           let r = has_place found j on in
-          absurd (elim (h.below r.0 (omega (arith, r.1, end))) [ inl small ↦ let e = r.2 in omega arith | inr big ↦ let e = r.2 in omega arith ])
+          absurd (elim (h.below r.0 (omega (arith, r.1, end))) [
+            | inl small ↦ let e = r.2 in omega arith
+            | inr big ↦
+                let e = r.2 in omega arith
+          ])
     ]
 
-module _ (N : Map) (n : IsMap N) (T X : List ℕ) (C : List ChangedLine) (before is : List Item) (found : List ℕ) (follows : Follows before is) (covers : Covers N T X is found) (old : Counted) (r : Renewal) (now : Counted) where
+module _ (N : Map) (n : IsMap N) (T X : List ℕ) (C : List ChangedLine) (before is : List Item) (found : List ℕ)
+    (follows : Follows before is) (covers : Covers N T X is found) (old : Counted) (r : Renewal) (now : Counted) where
   -- paths that are no candidates stay
-  gap : (d p : ℕ) → p + d ≤ length is → ((j : ℕ) → p ≤ j → j < p + d → has found j ≡ false) → SoFar N T X C before is p r old now → SoFar N T X C before is (p + d) r old now
+  gap : (d p : ℕ) → p + d ≤ length is → ((j : ℕ) → p ≤ j → j < p + d → has found j ≡ false) →
+      SoFar N T X C before is p r old now → SoFar N T X C before is (p + d) r old now
   gap zero p le free h = subst (λ (q : ℕ). SoFar N T X C before is q r old now) (let e : p ≡ p + 0 = omega arith in e) h
   gap (suc d) p le free h =
       elim (slice_get is p) as (λ o. slice_get is p ≡ o → SoFar N T X C before is (p + suc d) r old now) [
         | None ↦ λ at. absurd (missing is p at (omega arith))
         | Some i ↦ λ at.
-            let one : SoFar N T X C before is (p + 1) r old now = so_far_step N n T X C before is p i follows at old r r now now h (Left (covers p i at (free p (omega arith) (omega arith))) refl refl) in
+            let one : SoFar N T X C before is (p + 1) r old now =
+            so_far_step N n T X C before is p i follows at old r r now now h
+            (Left (covers p i at (free p (omega arith) (omega arith))) refl refl) in
             let rest = gap d (p + 1) (omega arith) (λ j a b. free j (omega arith) (omega arith)) one in
-            subst (λ (q : ℕ). SoFar N T X C before is q r old now) (let e : p + 1 + d ≡ p + suc d = omega arith in e) rest
+            subst (λ (q : ℕ). SoFar N T X C before is q r old now) (let e : p + 1 + d ≡ p + suc d = omega arith in e)
+            rest
       ] refl
     where
       missing : (xs : List Item) (k : ℕ) → slice_get xs k ≡ None → k < length xs → ⊥
@@ -180,16 +206,23 @@ module _ (N : Map) (n : IsMap N) (T X : List ℕ) (C : List ChangedLine) (before
       missing (x ∷ xs) zero at lt = let never : ⊥ = cc (at) in never
       missing (x ∷ xs) (suc k) at lt = missing xs k at (omega arith)
 
-  pub to_candidate : (k next position : ℕ) → IsNonDecreasing found → Passed found (length is) k next → position ≡ get_or found k 0 → k < length found → position < length is → next ≤ position → SoFar N T X C before is next r old now → SoFar N T X C before is position r old now
+  pub to_candidate : (k next position : ℕ) → IsNonDecreasing found → Passed found (length is) k next →
+      position ≡ get_or found k 0 → k < length found → position < length is → next ≤ position →
+      SoFar N T X C before is next r old now → SoFar N T X C before is position r old now
   to_candidate k next position up h at lt within le so_far =
-      subst (λ (q : ℕ). SoFar N T X C before is q r old now) (let e : next + (position - next) ≡ position = omega arith in e)
-      (gap (position - next) next (omega arith) (λ j a b. none_between found (length is) k next position j up h at lt (omega arith) a (omega arith)) so_far)
+      subst (λ (q : ℕ). SoFar N T X C before is q r old now)
+      (let e : next + (position - next) ≡ position = omega arith in e)
+      (gap (position - next) next (omega arith)
+      (λ j a b. none_between found (length is) k next position j up h at lt (omega arith) a (omega arith)) so_far)
 
-  pub to_end : (k next : ℕ) → length found ≤ k → Passed found (length is) k next → SoFar N T X C before is next r old now → SoFar N T X C before is (length is) r old now
+  pub to_end : (k next : ℕ) → length found ≤ k → Passed found (length is) k next →
+      SoFar N T X C before is next r old now → SoFar N T X C before is (length is) r old now
   to_end k next end h so_far =
       let w = h.within in
-      subst (λ (q : ℕ). SoFar N T X C before is q r old now) (let e : next + (length is - next) ≡ length is = omega arith in e)
-      (gap (length is - next) next (omega arith) (λ j a b. none_after found (length is) k next j end h a (omega arith)) so_far)
+      subst (λ (q : ℕ). SoFar N T X C before is q r old now)
+      (let e : next + (length is - next) ≡ length is = omega arith in e)
+      (gap (length is - next) next (omega arith) (λ j a b. none_after found (length is) k next j end h a (omega arith))
+      so_far)
 
 -- past the last path
 pub past_end : (js : List Item) (q : ℕ) → slice_get js q ≡ None → length js ≤ q
@@ -202,23 +235,29 @@ pub passed_none : (found : List ℕ) (long : ℕ) → Passed found long 0 0
 passed_none found long = record { below = λ j lt. absurd (omega arith); within = omega arith }
 
 -- whose position is past
-pub passed_over : (found : List ℕ) (long k next position : ℕ) → Passed found long k next → position ≡ get_or found k 0 → (position < next) ⊎ (long ≤ position) → Passed found long (k + 1) next
+pub passed_over : (found : List ℕ) (long k next position : ℕ) → Passed found long k next → position ≡ get_or found k 0 →
+    (position < next) ⊎ (long ≤ position) → Passed found long (k + 1) next
 passed_over found long k next position h at out =
     record {
       below = λ j lt. elim (cases_lt j k) [
         | inl low ↦ h.below j low
-        | inr high ↦ let same : k ≡ j = omega arith in let e : position ≡ get_or found j 0 = at ∙ ap (λ (m : ℕ). get_or found m 0) same in subst (λ (q : ℕ). (q < next) ⊎ (long ≤ q)) e out
+        | inr high ↦ let same : k ≡ j =
+            omega arith in let e : position ≡ get_or found j 0 = at ∙ ap (λ (m : ℕ). get_or found m 0) same in
+            subst (λ (q : ℕ). (q < next) ⊎ (long ≤ q)) e out
       ];
       within = h.within;
     }
 
 -- which was gone to
-pub passed_to : (found : List ℕ) (long k next position : ℕ) → Passed found long k next → position ≡ get_or found k 0 → next ≤ position → position < long → Passed found long (k + 1) (position + 1)
+pub passed_to : (found : List ℕ) (long k next position : ℕ) → Passed found long k next → position ≡ get_or found k 0 →
+    next ≤ position → position < long → Passed found long (k + 1) (position + 1)
 passed_to found long k next position h at le within =
     record {
       below = λ j lt. elim (cases_lt j k) [
         | inl low ↦ elim (h.below j low) [ inl small ↦ inl (omega arith) | inr big ↦ inr big ]
-        | inr high ↦ let same : k ≡ j = omega arith in let e : position ≡ get_or found j 0 = at ∙ ap (λ (m : ℕ). get_or found m 0) same in inl (omega arith)
+        | inr high ↦ let same : k ≡ j =
+            omega arith in let e : position ≡ get_or found j 0 = at ∙ ap (λ (m : ℕ). get_or found m 0) same in
+            inl (omega arith)
       ];
       within = omega arith;
     }
@@ -229,52 +268,74 @@ is_there : (o : Option (Rc Published Global)) → o ≢ None → (p : Rc Publish
 is_there None h = absurd (h refl)
 is_there (Some p) h = (p, refl)
 
-module _ (N : Map) (n : IsMap N) (place : ℕ → ℕ) (t : Touched) (s : Searches) (es : Entries) (ms : List ℕ) (f : Finder) (noted : AreNoted es ms f) (all : AreAll es) (long : length ms ≡ length es) (found : List ℕ)
-    (own : AreFound ms f.own (nodes_of t) found) (from : AreFound ms f.from (nodes_of t) found) (lines : AreFound ms f.lines (lines_of t) found)
-    (reached : s.far ≡ false → IsSearch N place Against (sources t) s.near → limit_of s.near ≡ limit → (v : ℕ) → IsNear N Against (sources t) limit v → Finds ms f.from v found) where
-  module _ (k : ℕ) (e : String Global × NamedPath) (at : slice_get es k ≡ Some e) (p : Rc Published Global) (some : e.1.published ≡ Some p) (off : has found k ≡ false) where
+module _ (N : Map) (n : IsMap N) (place : ℕ → ℕ) (t : Touched) (s : Searches) (es : Entries) (ms : List ℕ) (f : Finder)
+    (noted : AreNoted es ms f) (all : AreAll es) (long : length ms ≡ length es) (found : List ℕ)
+    (own : AreFound ms f.own (nodes_of t) found) (from : AreFound ms f.from (nodes_of t) found)
+    (lines : AreFound ms f.lines (lines_of t) found)
+    (reached : s.far ≡ false → IsSearch N place Against (sources t) s.near → limit_of s.near ≡ limit → (v : ℕ) →
+    IsNear N Against (sources t) limit v → Finds ms f.from v found) where
+  module _ (k : ℕ) (e : String Global × NamedPath) (at : slice_get es k ≡ Some e) (p : Rc Published Global)
+      (some : e.1.published ≡ Some p) (off : has found k ≡ false) where
     lower : k < length ms
     lower = let lt = slice_get_within es k e at in omega arith
 
     never_own : OwnTouched (nodes_of t) (made_of p.value) → ⊥
     never_own h =
-        let held = All-contains (λ (v : ℕ). IsTrue (holds f.own v (get_or ms k 0))) p.value.own h.0 ((noted k e at p some).0) h.2 in
-        let on = All-contains (λ (v : ℕ). Finds ms f.own v found) (nodes_of t) h.0 own (in_from (nodes_of t) h.0 h.1) k lower held in
+        let held =
+        All-contains (λ (v : ℕ). IsTrue (holds f.own v (get_or ms k 0))) p.value.own h.0 ((noted k e at p some).0)
+        h.2 in
+        let on =
+        All-contains (λ (v : ℕ). Finds ms f.own v found) (nodes_of t) h.0 own (in_from (nodes_of t) h.0 h.1) k lower
+        held in
         cc (on, off)
 
     never_line : LineTouched (lines_of t) e.1.path.value → ⊥
     never_line h =
-        let held = All-contains (λ (v : ℕ). IsTrue (holds f.lines v (get_or ms k 0))) e.1.path.value.lines h.0 ((noted k e at p some).2) (in_from e.1.path.value.lines h.0 h.2) in
-        let on = All-contains (λ (v : ℕ). Finds ms f.lines v found) (lines_of t) h.0 lines (in_from (lines_of t) h.0 h.1) k lower held in
+        let held =
+        All-contains (λ (v : ℕ). IsTrue (holds f.lines v (get_or ms k 0))) e.1.path.value.lines h.0
+        ((noted k e at p some).2) (in_from e.1.path.value.lines h.0 h.2) in
+        let on =
+        All-contains (λ (v : ℕ). Finds ms f.lines v found) (lines_of t) h.0 lines (in_from (lines_of t) h.0 h.1) k lower
+        held in
         cc (on, off)
 
     never_look : IsAsked N place t s (made_of p.value) → LookTouched N (nodes_of t) (made_of p.value) → ⊥
     never_look a h =
         let v : ℕ = h.0.from in
         let near = h.2 in
-        let held : IsTrue (holds f.from v (get_or ms k 0)) = All-contains (λ (l : Look). IsTrue (holds f.from l.from (get_or ms k 0))) p.value.looks.items h.0 ((noted k e at p some).1) h.1 in
+        let held : IsTrue (holds f.from v (get_or ms k 0)) =
+        All-contains (λ (l : Look). IsTrue (holds f.from l.from (get_or ms k 0))) p.value.looks.items h.0
+        ((noted k e at p some).1) h.1 in
         elim (cases_Bool s.far) [
           | inl far ↦ a.far far h
           | inr close ↦ elim (cases_Bool (has_node N v)) [
             | inl there ↦
-                no_way N Against (sources t) v limit (λ d is le. let on = reached close (a.search close) (a.settled close) v (d, is, le) k lower held in let never : ⊥ = cc (on, off) in never) (suc (dm_of N near.walk)) (dm_of N near.walk) (omega arith) near.within
+                no_way N Against (sources t) v limit
+                (λ d is le. let on = reached close (a.search close) (a.settled close) v (d, is, le) k lower held in
+                let never : ⊥ =
+                cc (on, off) in never) (suc (dm_of N near.walk)) (dm_of N near.walk) (omega arith) near.within
                 (record {
                   source = near.node;
                   begun = 0;
                   lines = near.walk;
-                  listed = Contains-map (λ u. (u, 0)) (nodes_of t) near.node (in_from (nodes_of t) near.node near.touched);
+                  listed =
+                      Contains-map (λ u. (u, 0)) (nodes_of t) near.node (in_from (nodes_of t) near.node near.touched);
                   there = walk_end N n v near.node near.walk near.leads there;
                   way = near.leads;
                   long = omega arith;
                 })
             | inr lacks ↦
-                let touched : IsTrue (has (nodes_of t) v) = (near_absent N n (nodes_of t) v (λ there. let never : ⊥ = cc (there, lacks) in never)).1 near in
-                let on = All-contains (λ (u : ℕ). Finds ms f.from u found) (nodes_of t) v from (in_from (nodes_of t) v touched) k lower held in
+                let touched : IsTrue (has (nodes_of t) v) =
+                (near_absent N n (nodes_of t) v (λ there. let never : ⊥ = cc (there, lacks) in never)).1 near in
+                let on =
+                All-contains (λ (u : ℕ). Finds ms f.from u found) (nodes_of t) v from (in_from (nodes_of t) v touched) k
+                lower held in
                 let never : ⊥ = cc (on, off) in never
           ]
         ]
 
-    stays_there : IsAsked N place t s (made_of p.value) → ToStay N (nodes_of t) (lines_of t) (item_of e).made e.1.path.value
+    stays_there : IsAsked N place t s (made_of p.value) →
+        ToStay N (nodes_of t) (lines_of t) (item_of e).made e.1.path.value
     stays_there a = (
       made_of p.value,
       ap (option_map (λ (q : Rc Published Global). made_of q.value)) some,
@@ -285,29 +346,40 @@ module _ (N : Map) (n : IsMap N) (place : ℕ → ℕ) (t : Touched) (s : Search
   covers_by k i at off one =
       let b = back es k i at in
       let p = is_there b.0.1.published (all k b.0 b.1) in
-      let made : i.made ≡ Some (made_of p.0.value) = ap (λ (x : Item). x.made) (sym b.2) ∙ ap (option_map (λ (q : Rc Published Global). made_of q.value)) p.1 in
-      let a : IsAsked N place t s (made_of p.0.value) = subst (λ (o : Option Made). IfSome o (IsAsked N place t s)) made one in
+      let made : i.made ≡ Some (made_of p.0.value) =
+      ap (λ (x : Item). x.made) (sym b.2) ∙ ap (option_map (λ (q : Rc Published Global). made_of q.value)) p.1 in
+      let a : IsAsked N place t s (made_of p.0.value) =
+      subst (λ (o : Option Made). IfSome o (IsAsked N place t s)) made one in
       subst (λ (x : Item). ToStay N (nodes_of t) (lines_of t) x.made x.path) b.2 (stays_there k b.0 b.1 p.0 p.1 off a)
 
 -- what is found may be put in another order
-pub covers_order : (N : Map) (T X : List ℕ) (is : List Item) (xs ys : List ℕ) → IsPermutation xs ys → Covers N T X is xs → Covers N T X is ys
+pub covers_order : (N : Map) (T X : List ℕ) (is : List Item) (xs ys : List ℕ) → IsPermutation xs ys →
+    Covers N T X is xs → Covers N T X is ys
 covers_order N T X is xs ys same h k i at off = h k i at (list_any-IsPermutation (λ y. y == k) xs ys same ∙ off)
 
 -- the same of equal lists
-pub found_moved : {A : Type 0} (number : A → ℕ) (ms ns : List ℕ) (index : Index) (vs ws : List A) (found : List ℕ) → ms ≡ ns → vs ≡ ws → All (λ x. Finds ms index (number x) found) vs → All (λ x. Finds ns index (number x) found) ws
-found_moved number ms ns index vs ws found a b h = subst (λ (ys : List _). All (λ x. Finds ns index (number x) found) ys) b (subst (λ (xs : List ℕ). All (λ x. Finds xs index (number x) found) vs) a h)
+pub found_moved : {A : Type 0} (number : A → ℕ) (ms ns : List ℕ) (index : Index) (vs ws : List A) (found : List ℕ) →
+    ms ≡ ns → vs ≡ ws → All (λ x. Finds ms index (number x) found) vs → All (λ x. Finds ns index (number x) found) ws
+found_moved number ms ns index vs ws found a b h =
+    subst (λ (ys : List _). All (λ x. Finds ns index (number x) found) ys) b
+    (subst (λ (xs : List ℕ). All (λ x. Finds xs index (number x) found) vs) a h)
 
 -- ---- of a list under changes
 
 module _ (cs : Changes) (is ys : List Item) (keeps : TakesNone cs) where
   -- where those are found that are changed, and all behind, the others are as they were
-  pub covers_laid : (N : Map) (place : ℕ → ℕ) (t : Touched) (s : Searches) (found : List ℕ) → CoversAsked N place t s is found → FindsChanged cs is found → ((k : ℕ) → length is ≤ k → k < length is + length ys → IsTrue (has found k))
-      → AreAsked N place t s (under_changes cs is ++ ys) → Covers N (nodes_of t) (lines_of t) (under_changes cs is ++ ys) found
+  pub covers_laid : (N : Map) (place : ℕ → ℕ) (t : Touched) (s : Searches) (found : List ℕ) →
+      CoversAsked N place t s is found → FindsChanged cs is found →
+      ((k : ℕ) → length is ≤ k → k < length is + length ys → IsTrue (has found k))
+      → AreAsked N place t s (under_changes cs is ++ ys) →
+      Covers N (nodes_of t) (lines_of t) (under_changes cs is ++ ys) found
   covers_laid N place t s found covers given behind asked k j at off =
       elim (laid_from cs is ys keeps k j at) [
         | inl a ↦
             let same : j ≡ a.0 = a.2 ∙ ap (λ (c : Option (Option Path)). changed c a.0) (given k a.0 a.1 off) in
-            let one : IfSome a.0.made (IsAsked N place t s) = subst (λ (i : Item). IfSome i.made (IsAsked N place t s)) same (asked j (listed_at (under_changes cs is ++ ys) k j at)) in
+            let one : IfSome a.0.made (IsAsked N place t s) =
+            subst (λ (i : Item). IfSome i.made (IsAsked N place t s)) same
+            (asked j (listed_at (under_changes cs is ++ ys) k j at)) in
             subst (λ (i : Item). ToStay N (nodes_of t) (lines_of t) i.made i.path) (sym same) (covers k a.0 a.1 off one)
         | inr b ↦
             let low = slice_get_within ys b.0 j b.2 in
@@ -318,9 +390,11 @@ module _ (cs : Changes) (is ys : List Item) (keeps : TakesNone cs) where
   -- no path has a look, where none of either list has one
   pub lack_laid : LackLooks is → LackLooks ys → LackLooks (under_changes cs is ++ ys)
   lack_laid first second j on =
-      let at : slice_get (under_changes cs is ++ ys) on.0 ≡ Some j = slice_get_read (under_changes cs is ++ ys) (length (under_changes cs is ++ ys)) on.0 j refl on.1 (sym on.2) in
+      let at : slice_get (under_changes cs is ++ ys) on.0 ≡ Some j =
+      slice_get_read (under_changes cs is ++ ys) (length (under_changes cs is ++ ys)) on.0 j refl on.1 (sym on.2) in
       elim (laid_from cs is ys keeps on.0 j at) [
-        | inl a ↦ subst (λ (i : Item). LacksLooks i.made) (sym a.2) (lacks_changed (change_at cs a.0.name) a.0 (first a.0 (listed_at is on.0 a.0 a.1)))
+        | inl a ↦ subst (λ (i : Item). LacksLooks i.made) (sym a.2)
+            (lacks_changed (change_at cs a.0.name) a.0 (first a.0 (listed_at is on.0 a.0 a.1)))
         | inr b ↦ second j (listed_at ys b.0 j b.2)
       ]
     where
@@ -330,20 +404,36 @@ module _ (cs : Changes) (is ys : List Item) (keeps : TakesNone cs) where
       lacks_changed (Some (Some p)) i h = tt
 
 -- more positions are found
-pub covers_grown : (N : Map) (place : ℕ → ℕ) (t : Touched) (s : Searches) (is : List Item) (old now : List ℕ) → Includes old now → CoversAsked N place t s is old → CoversAsked N place t s is now
+pub covers_grown : (N : Map) (place : ℕ → ℕ) (t : Touched) (s : Searches) (is : List Item) (old now : List ℕ) →
+    Includes old now → CoversAsked N place t s is old → CoversAsked N place t s is now
 covers_grown N place t s is old now kept h k i at off =
-    h k i at (elim (cases_Bool (has old k)) [ inl on ↦ let there = kept k on in let never : ⊥ = cc (there, off) in absurd never | inr not_yet ↦ not_yet ])
+    h k i at (elim (cases_Bool (has old k)) [
+      | inl on ↦ let there = kept k on in let never : ⊥ = cc (there, off) in
+          absurd never
+      | inr not_yet ↦ not_yet
+    ])
 
-pub changed_grown : (cs : Changes) (is : List Item) (old now : List ℕ) → Includes old now → FindsChanged cs is old → FindsChanged cs is now
+pub changed_grown : (cs : Changes) (is : List Item) (old now : List ℕ) → Includes old now → FindsChanged cs is old →
+    FindsChanged cs is now
 changed_grown cs is old now kept h k i at off =
-    h k i at (elim (cases_Bool (has old k)) [ inl on ↦ let there = kept k on in let never : ⊥ = cc (there, off) in absurd never | inr not_yet ↦ not_yet ])
+    h k i at (elim (cases_Bool (has old k)) [
+      | inl on ↦ let there = kept k on in let never : ⊥ = cc (there, off) in
+          absurd never
+      | inr not_yet ↦ not_yet
+    ])
 
 -- of one change more
-pub changed_more : (cs : Changes) (c : List ℕ × Option Path) (is : List Item) (old now : List ℕ) → Includes old now → FindsChanged cs is old → ((k : ℕ) (i : Item) → slice_get is k ≡ Some i → has now k ≡ false → same_name c.0 i.name ≡ false) → FindsChanged (cs ++ c ∷ []) is now
-changed_more cs c is old now kept h other k i at off = change_push cs c i.name (changed_grown cs is old now kept h k i at off) (other k i at off)
+pub changed_more : (cs : Changes) (c : List ℕ × Option Path) (is : List Item) (old now : List ℕ) → Includes old now →
+    FindsChanged cs is old →
+    ((k : ℕ) (i : Item) → slice_get is k ≡ Some i → has now k ≡ false → same_name c.0 i.name ≡ false) →
+    FindsChanged (cs ++ c ∷ []) is now
+changed_more cs c is old now kept h other k i at off =
+    change_push cs c i.name (changed_grown cs is old now kept h k i at off) (other k i at off)
 
 -- where the position of the name is put, the others have other names
-pub others_apart : (es : Entries) (name : List ℕ) (q : ℕ) (old : List ℕ) → First name es q → NamesDiffer (all_named (items_of es)) → (k : ℕ) (i : Item) → slice_get (items_of es) k ≡ Some i → has (old ++ q ∷ []) k ≡ false → same_name name i.name ≡ false
+pub others_apart : (es : Entries) (name : List ℕ) (q : ℕ) (old : List ℕ) → First name es q →
+    NamesDiffer (all_named (items_of es)) → (k : ℕ) (i : Item) → slice_get (items_of es) k ≡ Some i →
+    has (old ++ q ∷ []) k ≡ false → same_name name i.name ≡ false
 others_apart es name q old first differ k i at off =
     elim (cases_Bool (same_name i.name name)) [
       | inl on ↦

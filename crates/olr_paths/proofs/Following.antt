@@ -4,6 +4,7 @@ use Rattle.olr_paths.specs.Items.{Item}
 use Rattle.olr_paths.specs.Changes.{Follows}
 
 -- one more path, not encoded yet
-pub follows_push : (before is : List Item) (i : Item) → i.made ≡ None → Follows before is → Follows before (is ++ i ∷ [])
+pub follows_push : (before is : List Item) (i : Item) → i.made ≡ None → Follows before is →
+    Follows before (is ++ i ∷ [])
 follows_push before [] i none h = (inl none, tt)
 follows_push before (x ∷ is) i none h = (h.0, follows_push before is i none h.1)

@@ -1,5 +1,6 @@
 -- What was made on a map is right on the next, where no change can concern it.
-use Rattle.std.proofs.Common.{inl, inr, ◌≡◌, ℕ, ◌≤◌, List, All, Contains, Some, IsTrue, true, false, subst, arith, get_or}
+use Rattle.std.proofs.Common.{inl, inr, ◌≡◌, ℕ, ◌≤◌, List, All, Contains, Some, IsTrue, true, false, subst, arith}
+use Rattle.std.proofs.Common.{get_or}
 use Rattle.std.proofs.lemmas.Bool.{cases_Bool}
 use Rattle.std.proofs.lemmas.List.Elements.{Contains-get_or}
 use Rattle.olr_spec.specs.Map.{Map, IsMap, has}
@@ -14,10 +15,12 @@ use Rattle.olr_paths.specs.Changes.{IsConcerned, By_name, By_node, By_line, Touc
 use Rattle.olr_paths.specs.Renewing.{Stays}
 use Rattle.olr_paths.proofs.LookLengths.{within_limit}
 
-module _ (M N : Map) (n : IsMap N) (T X : List ℕ) (C : List ChangedLine) (P : Path) (is : IsTrue (is_path P.lines)) (m : Made) where
+module _ (M N : Map) (n : IsMap N) (T X : List ℕ) (C : List ChangedLine) (P : Path) (is : IsTrue (is_path P.lines))
+    (m : Made) where
   untouched : IsMap M → Difference T X C M N → IsEncodingOf M P m → Stays N T X C m P → IsEncodingOf N P m
   untouched sound difference made stays =
-      let lines : (x : ℕ) → has X x ≡ true → has P.lines x ≡ false = λ x on. elim (cases_Bool (has P.lines x)) [ inl e ↦ absurd (stays.1 (x, on, e)) | inr e ↦ e ] in
+      let lines : (x : ℕ) → has X x ≡ true → has P.lines x ≡ false =
+      λ x on. elim (cases_Bool (has P.lines x)) [ inl e ↦ absurd (stays.1 (x, on, e)) | inr e ↦ e ] in
       let own : (v : ℕ) → has T v ≡ true → ¬ OwnOf M P v = λ v on o. stays.0 (v, on, (made.own v).1 o) in
       let k = untouched_kept M N sound n T X C difference P is lines own m.looks made.looks stays.2 in
       record {
@@ -27,35 +30,58 @@ module _ (M N : Map) (n : IsMap N) (T X : List ℕ) (C : List ChangedLine) (P : 
       }
 
   -- a detour begins with a walk to a touched node
-  clear_far : ((c : ChangedLine) → Contains C c → IsTrue (has T c.from)) → LooksOf M P m.looks → ¬ LookTouched N T m → All (IsClear N C) m.looks
+  clear_far : ((c : ChangedLine) → Contains C c → IsTrue (has T c.from)) → LooksOf M P m.looks → ¬ LookTouched N T m →
+      All (IsClear N C) m.looks
   clear_far starts looks far = λ k d lt detour.
       let l : Look = get_or m.looks k d in
       let on : Contains m.looks l = Contains-get_or m.looks k d lt in
       let short : l.within ≤ limit = within_limit M P m.looks looks l on in
       let w = detour.within in
-      far (l, on, record { node = detour.first.from; walk = detour.before; touched = starts detour.first detour.first_listed; leads = detour.leads; within = omega arith })
+      far (
+        l,
+        on,
+        record {
+          node = detour.first.from;
+          walk = detour.before;
+          touched =
+              starts detour.first detour.first_listed;
+          leads = detour.leads;
+          within = omega arith;
+        },
+      )
 
-  pub stays_unless : IsMap M → Difference T X C M N → ((c : ChangedLine) → Contains C c → IsTrue (has T c.from)) → IsEncodingOf M P m → ¬ Touches N T X m P → IsEncodingOf N P m
+  pub stays_unless : IsMap M → Difference T X C M N → ((c : ChangedLine) → Contains C c → IsTrue (has T c.from)) →
+      IsEncodingOf M P m → ¬ Touches N T X m P → IsEncodingOf N P m
   stays_unless sound difference starts made free =
-      untouched sound difference made ((λ o. free (inl o)), (λ x. free (inr (inl x))), clear_far starts made.looks (λ l. free (inr (inr l))))
+      untouched sound difference made (
+        (λ o. free (inl o)),
+        (λ x. free (inr (inl x))),
+        clear_far starts made.looks (λ l. free (inr (inr l))),
+      )
 
   pub stays_clear : IsMap M → Difference T X C M N → IsEncodingOf M P m → Stays N T X C m P → IsEncodingOf N P m
   stays_clear sound difference made stays = untouched sound difference made stays
 
   -- ---- which paths are concerned
 
-  pub concerned_by : IsMap M → Difference T X C M N → IsEncodingOf M P m → (name : List ℕ) → Touches N T X m P → IsConcerned M T X (record { name = name; path = P; made = Some m })
+  pub concerned_by : IsMap M → Difference T X C M N → IsEncodingOf M P m → (name : List ℕ) → Touches N T X m P →
+      IsConcerned M T X (record { name = name; path = P; made = Some m })
   concerned_by sound difference made name (inl own) =
-      let f = (foot_concerned M N sound T difference.nodes P is m.looks made.looks).1 (inl (own.0, own.1, (made.own own.0).0 own.2)) in By_node f.0 f.1 f.2
+      let f =
+      (foot_concerned M N sound T difference.nodes P is m.looks made.looks).1
+      (inl (own.0, own.1, (made.own own.0).0 own.2)) in By_node f.0 f.1 f.2
   concerned_by sound difference made name (inr (inl line)) = By_line line.0 line.1 line.2
   concerned_by sound difference made name (inr (inr look)) =
       let f = (foot_concerned M N sound T difference.nodes P is m.looks made.looks).1 (inr look) in By_node f.0 f.1 f.2
 
-  pub touched_by : IsMap M → Difference T X C M N → IsEncodingOf M P m → (i : Item) → i.path ≡ P → i.made ≡ Some m → IsConcerned M T X i → Touches N T X m P
+  pub touched_by : IsMap M → Difference T X C M N → IsEncodingOf M P m → (i : Item) → i.path ≡ P → i.made ≡ Some m →
+      IsConcerned M T X i → Touches N T X m P
   touched_by sound difference made i path some (By_name none) = absurd cc
   touched_by sound difference made i path some (By_node v on foot) =
-      elim ((foot_concerned M N sound T difference.nodes P is m.looks made.looks).0 (v, on, subst (λ (Q : Path). Foot M Q v) path foot)) [
+      elim ((foot_concerned M N sound T difference.nodes P is m.looks made.looks).0
+      (v, on, subst (λ (Q : Path). Foot M Q v) path foot)) [
         | inl own ↦ inl (own.0, own.1, (made.own own.0).1 own.2)
         | inr look ↦ inr (inr look)
       ]
-  touched_by sound difference made i path some (By_line x on line) = inr (inl (x, on, subst (λ (Q : Path). IsTrue (has Q.lines x)) path line))
+  touched_by sound difference made i path some (By_line x on line) =
+      inr (inl (x, on, subst (λ (Q : Path). IsTrue (has Q.lines x)) path line))

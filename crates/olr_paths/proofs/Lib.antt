@@ -1,6 +1,5 @@
 pub mod Raising
 pub mod Spellings
-pub mod Putting
 pub mod Sets
 pub mod Nearness
 pub mod Beginning

@@ -1,5 +1,6 @@
 -- A look is at most as long as the greatest limit.
-use Rattle.std.proofs.Common.{inl, inr, ◌≡◌, ℕ, ◌+◌, ◌<◌, ◌≤◌, List, [], ◌∷◌, ◌++◌, ◌⊎◌, length, Contains, Option, Some, None, MatchOption, ap, ◌∙◌, arith}
+use Rattle.std.proofs.Common.{inl, inr, ◌≡◌, ℕ, ◌+◌, ◌<◌, ◌≤◌, List, [], ◌∷◌, ◌++◌, ◌⊎◌, length, Contains, Option, Some}
+use Rattle.std.proofs.Common.{None, MatchOption, ap, ◌∙◌, arith}
 use Rattle.olr_spec.specs.Map.{Map}
 use Rattle.olr_spec.specs.Walks.{dm_of}
 use Rattle.olr_spec.specs.Extension.{Path, extended, limit}
@@ -21,10 +22,14 @@ module _ (M : Map) (ls : List ℕ) (i : ℕ) (l : Look) where
   by_need k after is (inr need) =
       let j = need.0 in
       let below : k ≤ j = omega (arith, need.3) in
-      let first : stretch ls i j ≡ stretch ls i (i + 1) ++ stretch ls (i + 1) j = stretch_parts ls i (i + 1) j (omega arith) (omega arith) in
-      let second : stretch ls (i + 1) j ≡ stretch ls (i + 1) k ++ stretch ls k j = stretch_parts ls (i + 1) k j (omega arith) below in
-      let one : dm_of M (stretch ls i j) ≡ dm_of M (stretch ls i (i + 1)) + dm_of M (stretch ls (i + 1) j) = ap (dm_of M) first ∙ dm_of-append M (stretch ls i (i + 1)) (stretch ls (i + 1) j) in
-      let two : dm_of M (stretch ls (i + 1) j) ≡ dm_of M (stretch ls (i + 1) k) + dm_of M (stretch ls k j) = ap (dm_of M) second ∙ dm_of-append M (stretch ls (i + 1) k) (stretch ls k j) in
+      let first : stretch ls i j ≡ stretch ls i (i + 1) ++ stretch ls (i + 1) j =
+      stretch_parts ls i (i + 1) j (omega arith) (omega arith) in
+      let second : stretch ls (i + 1) j ≡ stretch ls (i + 1) k ++ stretch ls k j =
+      stretch_parts ls (i + 1) k j (omega arith) below in
+      let one : dm_of M (stretch ls i j) ≡ dm_of M (stretch ls i (i + 1)) + dm_of M (stretch ls (i + 1) j) =
+      ap (dm_of M) first ∙ dm_of-append M (stretch ls i (i + 1)) (stretch ls (i + 1) j) in
+      let two : dm_of M (stretch ls (i + 1) j) ≡ dm_of M (stretch ls (i + 1) k) + dm_of M (stretch ls k j) =
+      ap (dm_of M) second ∙ dm_of-append M (stretch ls (i + 1) k) (stretch ls k j) in
       let near : dm_of M (stretch ls i j) ≤ limit = need.2 in
       let long : l.within ≡ dm_of M (stretch ls (i + 1) k) = ap (λ (x : Look). x.within) is in
       omega arith
@@ -32,15 +37,20 @@ module _ (M : Map) (ls : List ℕ) (i : ℕ) (l : Look) where
   short_look : IsLook M ls i l → l.within ≤ limit
   short_look h = by_need h.0 h.1.after h.2 h.1.needed
 
-short_looks : (M : Map) (P : Path) (looks : List Look) → LooksOfExtended M P looks → (l : Look) → Contains looks l → l.within ≤ limit
+short_looks : (M : Map) (P : Path) (looks : List Look) → LooksOfExtended M P looks → (l : Look) → Contains looks l →
+    l.within ≤ limit
 short_looks M P looks h l on =
     let ls = (extended M P h.before h.after).lines in
     let r = look_from M ls (0 ∷ h.points) looks h.holds l on in
     short_look M ls r.0 l r.3
 
-pub within_limit : (M : Map) (P : Path) (looks : List Look) → LooksOf M P looks → (l : Look) → Contains looks l → l.within ≤ limit
+pub within_limit : (M : Map) (P : Path) (looks : List Look) → LooksOf M P looks → (l : Look) → Contains looks l →
+    l.within ≤ limit
 within_limit M P looks = by (path_fault M P)
   where
-    by : (o : Option Refusal) → MatchOption o (LooksOfExtended M P looks) (λ _. looks ≡ []) → (l : Look) → Contains looks l → l.within ≤ limit
+    by : (o : Option Refusal) → MatchOption o (LooksOfExtended M P looks) (λ _. looks ≡ []) → (l : Look) →
+        Contains looks l → l.within ≤ limit
     by None h l on = short_looks M P looks h l on
-    by (Some r) h l on = absurd (let none : length looks ≡ 0 = ap (λ (ks : List Look). length ks) h in let lt : on.0 < length looks = on.1 in omega arith)
+    by (Some r) h l on =
+        absurd (let none : length looks ≡ 0 = ap (λ (ks : List Look). length ks) h in let lt : on.0 < length looks =
+        on.1 in omega arith)

@@ -1,5 +1,7 @@
 -- A list of entries with the marks of its paths, as paths come, go and change places with others.
-use Rattle.std.proofs.Common.{inl, inr, ◌≡◌, ◌≢◌, ℕ, zero, suc, ◌+◌, ◌<◌, Bool, true, false, not, cond, ◌&&◌, ◌==◌, List, [], ◌∷◌, ◌++◌, take, length, get_or, slice_get, Some, None, IsFalse, Contains, Result, Ok, Err, is_ok, ◌-◌, refl, sym, ap, ◌∙◌, subst, arith}
+use Rattle.std.proofs.Common.{inl, inr, ◌≡◌, ◌≢◌, ℕ, zero, suc, ◌+◌, ◌<◌, Bool, true, false, not, cond, ◌&&◌, ◌==◌}
+use Rattle.std.proofs.Common.{List, [], ◌∷◌, ◌++◌, take, length, get_or, slice_get, Some, None, IsFalse, Contains}
+use Rattle.std.proofs.Common.{Result, Ok, Err, is_ok, ◌-◌, refl, sym, ap, ◌∙◌, subst, arith}
 use Rattle.std.specs.Prelude.{String, string_bytes, if◌then◌else◌}
 use Rattle.std.specs.List.{remove, position}
 use Rattle.std.specs.List.Sorted.{IsStrictlyIncreasing, IsBinarySearchResult}
@@ -16,7 +18,7 @@ use Rattle.std.proofs.lemmas.Option.{get_or_from_slice_get}
 use Rattle.std.proofs.lemmas.List.Quantifiers.{position-Some}
 use Rattle.olr_spec.specs.Looks.{Look}
 use Rattle.olr_spec.specs.Map.{has}
-use Rattle.olr_index.proofs.Rising.{rises, place_of, has_at, place_not, rises-remove, has-remove}
+use Rattle.olr_spec.proofs.RisingLists.{rises, place_of, has_at, place_not, rises_push, rises-remove, has-remove}
 use Rattle.olr_paths.specs.Finding.{IsNoted, NamedNoted, AreNoted, AreAll, Grows, Spares}
 use Rattle.olr_paths.specs.Items.{Item}
 use Rattle.olr_paths.specs.declared.finder.Finder.{Finder}
@@ -28,33 +30,45 @@ use Rattle.olr_paths.proofs.Sets.{has_from}
 
 -- ---- what a path has, as marks come and go
 
-pub grown : (f g : Finder) (mark : ℕ) (xs own : List ℕ) (looks : List Look) → Grows f g → IsNoted f mark xs own looks → IsNoted g mark xs own looks
-grown f g mark xs own looks more h =
-    ((λ k d lt. more.0 (get_or own k d) mark (h.0 k d lt)), (λ k d lt. more.1 ((get_or looks k d).from) mark (h.1 k d lt)), (λ k d lt. more.2 (get_or xs k d) mark (h.2 k d lt)))
+pub grown : (f g : Finder) (mark : ℕ) (xs own : List ℕ) (looks : List Look) → Grows f g → IsNoted f mark xs own looks →
+    IsNoted g mark xs own looks
+grown f g mark xs own looks more h = (
+  (λ k d lt. more.0 (get_or own k d) mark (h.0 k d lt)),
+  (λ k d lt. more.1 ((get_or looks k d).from) mark (h.1 k d lt)),
+  (λ k d lt. more.2 (get_or xs k d) mark (h.2 k d lt)),
+)
 
-pub spared : (f g : Finder) (mark m : ℕ) (xs own : List ℕ) (looks : List Look) → m ≢ mark → Spares mark f g → IsNoted f m xs own looks → IsNoted g m xs own looks
-spared f g mark m xs own looks ne spare h =
-    ((λ k d lt. spare.0 (get_or own k d) m ne ∙ h.0 k d lt), (λ k d lt. spare.1 ((get_or looks k d).from) m ne ∙ h.1 k d lt), (λ k d lt. spare.2 (get_or xs k d) m ne ∙ h.2 k d lt))
+pub spared : (f g : Finder) (mark m : ℕ) (xs own : List ℕ) (looks : List Look) → m ≢ mark → Spares mark f g →
+    IsNoted f m xs own looks → IsNoted g m xs own looks
+spared f g mark m xs own looks ne spare h = (
+  (λ k d lt. spare.0 (get_or own k d) m ne ∙ h.0 k d lt),
+  (λ k d lt. spare.1 ((get_or looks k d).from) m ne ∙ h.1 k d lt),
+  (λ k d lt. spare.2 (get_or xs k d) m ne ∙ h.2 k d lt),
+)
 
 -- ---- marks that differ
 
 -- those of different places
-pub apart : (xs : List ℕ) → IsStrictlyIncreasing xs → (i j : ℕ) → i < length xs → j < length xs → i ≢ j → get_or xs i 0 ≢ get_or xs j 0
+pub apart : (xs : List ℕ) → IsStrictlyIncreasing xs → (i j : ℕ) → i < length xs → j < length xs → i ≢ j →
+    get_or xs i 0 ≢ get_or xs j 0
 apart xs up i j a b ne same =
     elim (cases_lt i j) [
-      | inl low ↦ let step = up i (omega arith) in let rest = rises xs up (i + 1) j (omega arith) b in absurd (omega arith)
+      | inl low ↦ let step = up i (omega arith) in let rest =
+          rises xs up (i + 1) j (omega arith) b in absurd (omega arith)
       | inr high ↦
           let lower : j < i = omega (arith, ne) in
           let step = up j (omega arith) in let rest = rises xs up (j + 1) i (omega arith) a in absurd (omega arith)
     ]
 
 -- one that was taken out is not among the rest
-pub not_left : (xs : List ℕ) (p k : ℕ) → IsStrictlyIncreasing xs → p < length xs → k < length (remove xs p) → get_or (remove xs p) k 0 ≢ get_or xs p 0
+pub not_left : (xs : List ℕ) (p k : ℕ) → IsStrictlyIncreasing xs → p < length xs → k < length (remove xs p) →
+    get_or (remove xs p) k 0 ≢ get_or xs p 0
 not_left xs p k up at lt same =
     let gone = has-remove xs p (get_or xs p 0) (get_or xs p 0) up at refl in
     let there = has_at (remove xs p) k (get_or xs p 0) lt same in
     let own : (get_or xs p 0 == get_or xs p 0) ≡ true = eq-eqb (get_or xs p 0) (get_or xs p 0) refl in
-    let off : (not (get_or xs p 0 == get_or xs p 0) && has xs (get_or xs p 0)) ≡ false = ap (λ (b : Bool). not b && has xs (get_or xs p 0)) own in
+    let off : (not (get_or xs p 0 == get_or xs p 0) && has xs (get_or xs p 0)) ≡ false =
+    ap (λ (b : Bool). not b && has xs (get_or xs p 0)) own in
     let never : ⊥ = cc (gone, there, off) in absurd never
 
 -- what stands in a longer list
@@ -69,29 +83,23 @@ get_last [] m (suc k) e = absurd (omega arith)
 get_last (y ∷ ys) m zero e = absurd (omega arith)
 get_last (y ∷ ys) m (suc k) e = get_last ys m k (omega arith)
 
--- one more, greater than the others
-pub rises_push : (xs : List ℕ) (m : ℕ) → IsStrictlyIncreasing xs → ((k : ℕ) → k < length xs → get_or xs k 0 < m) → IsStrictlyIncreasing (xs ++ m ∷ [])
-rises_push xs m up below k lt =
-    let long : length (xs ++ m ∷ []) ≡ length xs + 1 = length-append xs (m ∷ []) in
-    elim (cases_lt (k + 1) (length xs)) [
-      | inl low ↦ let a = get_front xs m k (omega arith) in let b = get_front xs m (k + 1) low in let step = up k low in omega arith
-      | inr high ↦ let a = get_front xs m k (omega arith) in let b = get_last xs m (k + 1) (omega arith) in let step = below k (omega arith) in omega arith
-    ]
-
 -- the one after the last
-pub below_next : (xs : List ℕ) (last mark : ℕ) → IsStrictlyIncreasing xs → slice_get xs (length xs - 1) ≡ Some last → mark ≡ last + 1 → (k : ℕ) → k < length xs → get_or xs k 0 < mark
+pub below_next : (xs : List ℕ) (last mark : ℕ) → IsStrictlyIncreasing xs → slice_get xs (length xs - 1) ≡ Some last →
+    mark ≡ last + 1 → (k : ℕ) → k < length xs → get_or xs k 0 < mark
 below_next xs last mark up at is k lt =
     let le = rises xs up k (length xs - 1) (omega arith) (omega arith) in
     let e : get_or xs (length xs - 1) 0 ≡ last = get_or_from_slice_get xs (length xs - 1) last 0 at in
     omega arith
 
 -- where a search finds a mark
-pub position_by : (xs : List ℕ) (x : ℕ) (r : Result ℕ ℕ) → IsStrictlyIncreasing xs → IsBinarySearchResult (λ y. nat_cmp y x) xs r → (k : ℕ) → k < length xs → get_or xs k 0 ≡ x → result_ok r ≡ Some k
+pub position_by : (xs : List ℕ) (x : ℕ) (r : Result ℕ ℕ) → IsStrictlyIncreasing xs →
+    IsBinarySearchResult (λ y. nat_cmp y x) xs r → (k : ℕ) → k < length xs → get_or xs k 0 ≡ x → result_ok r ≡ Some k
 position_by xs x (Ok i) up h k lt is =
     let p = place_of xs x (Ok i) up h in
     elim (cases_order i k) [
       | inl same ↦ ap Some same
-      | inr other ↦ absurd (apart xs up i k p.0 lt (λ e. elim other [ inl low ↦ omega arith | inr high ↦ omega arith ]) (p.1 ∙ sym is))
+      | inr other ↦ absurd (apart xs up i k p.0 lt (λ e. elim other [ inl low ↦ omega arith | inr high ↦ omega arith ])
+          (p.1 ∙ sym is))
     ]
 position_by xs x (Err i) up h k lt is =
     let off = place_not xs x i (place_of xs x (Err i) up h) in
@@ -99,7 +107,8 @@ position_by xs x (Err i) up h k lt is =
     let never : ⊥ = cc (on, off) in absurd never
 
 -- what a search does not find
-pub not_among : (xs : List ℕ) (x : ℕ) (r : Result ℕ ℕ) → IsStrictlyIncreasing xs → IsBinarySearchResult (λ y. nat_cmp y x) xs r → is_ok r ≡ false → ¬ Contains xs x
+pub not_among : (xs : List ℕ) (x : ℕ) (r : Result ℕ ℕ) → IsStrictlyIncreasing xs →
+    IsBinarySearchResult (λ y. nat_cmp y x) xs r → is_ok r ≡ false → ¬ Contains xs x
 not_among xs x (Ok i) up h off_at on = let never : ⊥ = cc (off_at) in absurd never
 not_among xs x (Err i) up h off_at on =
     let off = place_not xs x i (place_of xs x (Err i) up h) in
@@ -109,9 +118,11 @@ not_among xs x (Err i) up h off_at on =
 -- ---- entries with marks
 
 -- under a finder that spares all their marks
-pub noted_spared : (es : Entries) (ms : List ℕ) (f g : Finder) (mark : ℕ) → ((k : ℕ) → k < length es → get_or ms k 0 ≢ mark) → Spares mark f g → AreNoted es ms f → AreNoted es ms g
+pub noted_spared : (es : Entries) (ms : List ℕ) (f g : Finder) (mark : ℕ) →
+    ((k : ℕ) → k < length es → get_or ms k 0 ≢ mark) → Spares mark f g → AreNoted es ms f → AreNoted es ms g
 noted_spared es ms f g mark other spare h k e at p some =
-    spared f g mark (get_or ms k 0) e.1.path.value.lines p.value.own p.value.looks.items (other k (within es k e at)) spare (h k e at p some)
+    spared f g mark (get_or ms k 0) e.1.path.value.lines p.value.own p.value.looks.items (other k (within es k e at))
+    spare (h k e at p some)
   where
     within : (ys : Entries) (k : ℕ) (e : String Global × NamedPath) → slice_get ys k ≡ Some e → k < length ys
     within [] k e at = let never : ⊥ = cc (at) in absurd never
@@ -119,7 +130,8 @@ noted_spared es ms f g mark other spare h k e at p some =
     within (y ∷ ys) (suc k) e at = let lt = within ys k e at in omega arith
 
 -- one more
-pub noted_push : (es : Entries) (ms : List ℕ) (f : Finder) (key : String Global) (n : NamedPath) (m : ℕ) → length ms ≡ length es → AreNoted es ms f → NamedNoted f m n → AreNoted (es ++ (key, n) ∷ []) (ms ++ m ∷ []) f
+pub noted_push : (es : Entries) (ms : List ℕ) (f : Finder) (key : String Global) (n : NamedPath) (m : ℕ) →
+    length ms ≡ length es → AreNoted es ms f → NamedNoted f m n → AreNoted (es ++ (key, n) ∷ []) (ms ++ m ∷ []) f
 noted_push [] [] f key n m long h one zero e at p some =
     let is : n ≡ e.1 = cc (at) in
     subst (λ (x : NamedPath). NamedNoted f m x) is one p some
@@ -127,19 +139,23 @@ noted_push [] [] f key n m long h one (suc k) e at p some = let never : ⊥ = cc
 noted_push [] (y ∷ ms) f key n m long h one k e at p some = absurd (omega arith)
 noted_push (x ∷ es) [] f key n m long h one k e at p some = absurd (omega arith)
 noted_push (x ∷ es) (y ∷ ms) f key n m long h one zero e at p some = h zero e at p some
-noted_push (x ∷ es) (y ∷ ms) f key n m long h one (suc k) e at p some = noted_push es ms f key n m (omega arith) (λ j. h (suc j)) one k e at p some
+noted_push (x ∷ es) (y ∷ ms) f key n m long h one (suc k) e at p some =
+    noted_push es ms f key n m (omega arith) (λ j. h (suc j)) one k e at p some
 
 -- one taken out
-pub noted_removed : (es : Entries) (ms : List ℕ) (f : Finder) (q : ℕ) → length ms ≡ length es → AreNoted es ms f → AreNoted (remove es q) (remove ms q) f
+pub noted_removed : (es : Entries) (ms : List ℕ) (f : Finder) (q : ℕ) → length ms ≡ length es → AreNoted es ms f →
+    AreNoted (remove es q) (remove ms q) f
 noted_removed [] ms f zero long h k e at p some = let never : ⊥ = cc (at) in absurd never
 noted_removed [] ms f (suc q) long h k e at p some = let never : ⊥ = cc (at) in absurd never
 noted_removed (x ∷ es) [] f q long h k e at p some = absurd (omega arith)
 noted_removed (x ∷ es) (y ∷ ms) f zero long h k e at p some = h (suc k) e at p some
 noted_removed (x ∷ es) (y ∷ ms) f (suc q) long h zero e at p some = h zero e at p some
-noted_removed (x ∷ es) (y ∷ ms) f (suc q) long h (suc k) e at p some = noted_removed es ms f q (omega arith) (λ j. h (suc j)) k e at p some
+noted_removed (x ∷ es) (y ∷ ms) f (suc q) long h (suc k) e at p some =
+    noted_removed es ms f q (omega arith) (λ j. h (suc j)) k e at p some
 
 -- another in the place of one
-pub noted_set : (es : Entries) (ms : List ℕ) (f : Finder) (q : ℕ) (n : NamedPath) → AreNoted es ms f → NamedNoted f (get_or ms q 0) n → AreNoted (set_value_at es q n) ms f
+pub noted_set : (es : Entries) (ms : List ℕ) (f : Finder) (q : ℕ) (n : NamedPath) → AreNoted es ms f →
+    NamedNoted f (get_or ms q 0) n → AreNoted (set_value_at es q n) ms f
 noted_set [] ms f q n h one k e at p some = let never : ⊥ = cc (at) in absurd never
 noted_set (x ∷ es) ms f zero n h one zero e at p some =
     let is : n ≡ e.1 = cc (at) in
@@ -147,7 +163,8 @@ noted_set (x ∷ es) ms f zero n h one zero e at p some =
 noted_set (x ∷ es) ms f zero n h one (suc k) e at p some = h (suc k) e at p some
 noted_set (x ∷ es) ms f (suc q) n h one zero e at p some = h zero e at p some
 noted_set (x ∷ es) [] f (suc q) n h one (suc k) e at p some = noted_set es [] f q n (λ j. h (suc j)) one k e at p some
-noted_set (x ∷ es) (y ∷ ms) f (suc q) n h one (suc k) e at p some = noted_set es ms f q n (λ j. h (suc j)) one k e at p some
+noted_set (x ∷ es) (y ∷ ms) f (suc q) n h one (suc k) e at p some =
+    noted_set es ms f q n (λ j. h (suc j)) one k e at p some
 
 pub kept_long : (ys : Entries) (q : ℕ) (n : NamedPath) → length (set_value_at ys q n) ≡ length ys
 kept_long [] q n = refl
@@ -155,17 +172,23 @@ kept_long (y ∷ ys) zero n = refl
 kept_long (y ∷ ys) (suc q) n = ap suc (kept_long ys q n)
 
 -- at one place the marks change, and what is there has them still
-pub noted_but : (es : Entries) (ms : List ℕ) (f g : Finder) (q : ℕ) → IsStrictlyIncreasing ms → length ms ≡ length es → q < length ms → Spares (get_or ms q 0) f g
-    → ((e : String Global × NamedPath) → slice_get es q ≡ Some e → NamedNoted f (get_or ms q 0) e.1 → NamedNoted g (get_or ms q 0) e.1) → AreNoted es ms f → AreNoted es ms g
+pub noted_but : (es : Entries) (ms : List ℕ) (f g : Finder) (q : ℕ) → IsStrictlyIncreasing ms → length ms ≡ length es →
+    q < length ms → Spares (get_or ms q 0) f g
+    → ((e : String Global × NamedPath) → slice_get es q ≡ Some e → NamedNoted f (get_or ms q 0) e.1 →
+    NamedNoted g (get_or ms q 0) e.1) → AreNoted es ms f → AreNoted es ms g
 noted_but es ms f g q up long at spare here h k e there p some =
     elim (cases_lt k q) [
-      | inl low ↦ spared f g (get_or ms q 0) (get_or ms k 0) e.1.path.value.lines p.value.own p.value.looks.items (apart ms up k q (omega arith) at (λ e. omega arith)) spare (h k e there p some)
+      | inl low ↦ spared f g (get_or ms q 0) (get_or ms k 0) e.1.path.value.lines p.value.own p.value.looks.items
+          (apart ms up k q (omega arith) at (λ e. omega arith)) spare (h k e there p some)
       | inr high ↦ elim (cases_lt q k) [
-        | inl over ↦ spared f g (get_or ms q 0) (get_or ms k 0) e.1.path.value.lines p.value.own p.value.looks.items (apart ms up k q (omega (arith, within es k e there)) at (λ e. omega arith)) spare (h k e there p some)
+        | inl over ↦ spared f g (get_or ms q 0) (get_or ms k 0) e.1.path.value.lines p.value.own p.value.looks.items
+            (apart ms up k q (omega (arith, within es k e there)) at (λ e. omega arith)) spare (h k e there p some)
         | inr same ↦
             let is : k ≡ q = omega arith in
             subst (λ (j : ℕ). IsNoted g (get_or ms j 0) e.1.path.value.lines p.value.own p.value.looks.items) (sym is)
-            (here e (subst (λ (j : ℕ). slice_get es j ≡ Some e) is there) (λ r. subst (λ (j : ℕ). e.1.published ≡ Some r → IsNoted f (get_or ms j 0) e.1.path.value.lines r.value.own r.value.looks.items) is (h k e there r)) p some)
+            (here e (subst (λ (j : ℕ). slice_get es j ≡ Some e) is there)
+            (λ r. subst (λ (j : ℕ). e.1.published ≡ Some r →
+            IsNoted f (get_or ms j 0) e.1.path.value.lines r.value.own r.value.looks.items) is (h k e there r)) p some)
       ]
     ]
   where
@@ -176,7 +199,8 @@ noted_but es ms f g q up long at spare here h k e there p some =
 
 -- ---- whether all were encoded
 
-pub all_push : (es : Entries) (key : String Global) (n : NamedPath) → AreAll es → n.published ≢ None → AreAll (es ++ (key, n) ∷ [])
+pub all_push : (es : Entries) (key : String Global) (n : NamedPath) → AreAll es → n.published ≢ None →
+    AreAll (es ++ (key, n) ∷ [])
 all_push [] key n h one zero e at = let is : n ≡ e.1 = cc (at) in subst (λ (x : NamedPath). x.published ≢ None) is one
 all_push [] key n h one (suc k) e at = let never : ⊥ = cc (at) in absurd never
 all_push (x ∷ es) key n h one zero e at = h zero e at
@@ -191,7 +215,8 @@ all_removed (x ∷ es) (suc q) h (suc k) e at = all_removed es q (λ j. h (suc j
 
 pub all_set : (es : Entries) (q : ℕ) (n : NamedPath) → AreAll es → n.published ≢ None → AreAll (set_value_at es q n)
 all_set [] q n h one k e at = let never : ⊥ = cc (at) in absurd never
-all_set (x ∷ es) zero n h one zero e at = let is : n ≡ e.1 = cc (at) in subst (λ (y : NamedPath). y.published ≢ None) is one
+all_set (x ∷ es) zero n h one zero e at = let is : n ≡ e.1 =
+    cc (at) in subst (λ (y : NamedPath). y.published ≢ None) is one
 all_set (x ∷ es) zero n h one (suc k) e at = h (suc k) e at
 all_set (x ∷ es) (suc q) n h one zero e at = h zero e at
 all_set (x ∷ es) (suc q) n h one (suc k) e at = all_set es q n (λ j. h (suc j)) one k e at
@@ -203,28 +228,40 @@ First name [] p = ⊥
 First name (e ∷ es) zero = asks name e.0 ≡ true
 First name (e ∷ es) (suc p) = (asks name e.0 ≡ false) × First name es p
 
-pub first_of : (es : Entries) (name : List ℕ) (d : String Global) (p : ℕ) → p < length (keys_of es) → asks name (get_or (keys_of es) p d) ≡ true → ((k : ℕ) → k < p → asks name (get_or (keys_of es) k d) ≡ false) → First name es p
+pub first_of : (es : Entries) (name : List ℕ) (d : String Global) (p : ℕ) → p < length (keys_of es) →
+    asks name (get_or (keys_of es) p d) ≡ true → ((k : ℕ) → k < p → asks name (get_or (keys_of es) k d) ≡ false) →
+    First name es p
 first_of [] name d p lt h before = absurd (omega arith)
 first_of (e ∷ es) name d zero lt h before = h
-first_of (e ∷ es) name d (suc p) lt h before = (before zero (omega arith), first_of es name d p (omega arith) h (λ k low. before (suc k) (omega arith)))
+first_of (e ∷ es) name d (suc p) lt h before =
+    (before zero (omega arith), first_of es name d p (omega arith) h (λ k low. before (suc k) (omega arith)))
 
-pub first_at : (es : Entries) (name : List ℕ) (p : ℕ) → p < length es → position (asks name) (keys_of es) ≡ Some p → First name es p
+pub first_at : (es : Entries) (name : List ℕ) (p : ℕ) → p < length es → position (asks name) (keys_of es) ≡ Some p →
+    First name es p
 first_at [] name p lt at = absurd (omega arith)
-first_at (e ∷ es) name p lt at = let h = position-Some (asks name) (keys_of (e ∷ es)) p e.0 at in first_of (e ∷ es) name e.0 p h.0 h.1 h.2
+first_at (e ∷ es) name p lt at = let h =
+    position-Some (asks name) (keys_of (e ∷ es)) p e.0 at in first_of (e ∷ es) name e.0 p h.0 h.1 h.2
 
 pub removed_at : (es : Entries) (name : List ℕ) (p : ℕ) → First name es p → remove_entry (asks name) es ≡ remove es p
 removed_at [] name p h = absurd h
 removed_at (e ∷ es) name zero h = ap (λ (b : Bool). cond b es (e ∷ remove_entry (asks name) es)) h
-removed_at (e ∷ es) name (suc p) h = ap (λ (b : Bool). cond b es (e ∷ remove_entry (asks name) es)) h.0 ∙ ap (λ (ys : Entries). e ∷ ys) (removed_at es name p h.1)
+removed_at (e ∷ es) name (suc p) h =
+    ap (λ (b : Bool). cond b es (e ∷ remove_entry (asks name) es)) h.0
+    ∙ ap (λ (ys : Entries). e ∷ ys) (removed_at es name p h.1)
 
-pub set_at : (es : Entries) (name : List ℕ) (n : NamedPath) (p : ℕ) → First name es p → set_value (asks name) es n ≡ set_value_at es p n
+pub set_at : (es : Entries) (name : List ℕ) (n : NamedPath) (p : ℕ) → First name es p →
+    set_value (asks name) es n ≡ set_value_at es p n
 set_at [] name n p h = absurd h
 set_at (e ∷ es) name n zero h = ap (λ (b : Bool). cond b ((e.0, n) ∷ es) (e ∷ set_value (asks name) es n)) h
-set_at (e ∷ es) name n (suc p) h = ap (λ (b : Bool). cond b ((e.0, n) ∷ es) (e ∷ set_value (asks name) es n)) h.0 ∙ ap (λ (ys : Entries). e ∷ ys) (set_at es name n p h.1)
+set_at (e ∷ es) name n (suc p) h =
+    ap (λ (b : Bool). cond b ((e.0, n) ∷ es) (e ∷ set_value (asks name) es n)) h.0
+    ∙ ap (λ (ys : Entries). e ∷ ys) (set_at es name n p h.1)
 
 -- ---- a list without one of its paths
 
-module _ (es fs : Entries) (ms ns : List ℕ) (name : List ℕ) (q : ℕ) (mark : ℕ) (first : First name es q) (es_is : fs ≡ remove_entry (asks name) es) (ms_is : ns ≡ remove ms q) (long : length ms ≡ length es) (up : IsStrictlyIncreasing ms) (at : q < length ms) (mark_is : mark ≡ get_or ms q 0) where
+module _ (es fs : Entries) (ms ns : List ℕ) (name : List ℕ) (q : ℕ) (mark : ℕ) (first : First name es q)
+    (es_is : fs ≡ remove_entry (asks name) es) (ms_is : ns ≡ remove ms q) (long : length ms ≡ length es)
+    (up : IsStrictlyIncreasing ms) (at : q < length ms) (mark_is : mark ≡ get_or ms q 0) where
   left : fs ≡ remove es q
   left = es_is ∙ removed_at es name q first
 
@@ -241,28 +278,36 @@ module _ (es fs : Entries) (ms ns : List ℕ) (name : List ℕ) (q : ℕ) (mark 
 
   pub noted_left : (f g : Finder) → Spares mark f g → AreNoted es ms f → AreNoted fs ns g
   noted_left f g spare h =
-      let both : AreNoted fs ns f = subst (λ (xs : List ℕ). AreNoted fs xs f) (sym ms_is) (subst (λ (ys : Entries). AreNoted ys (remove ms q) f) (sym left) (noted_removed es ms f q long h)) in
+      let both : AreNoted fs ns f =
+      subst (λ (xs : List ℕ). AreNoted fs xs f) (sym ms_is)
+      (subst (λ (ys : Entries). AreNoted ys (remove ms q) f) (sym left) (noted_removed es ms f q long h)) in
       let short = long_left in
       noted_spared fs ns f g mark
-      (λ k lt same. not_left ms q k up at (let e : length ns ≡ length (remove ms q) = ap length ms_is in omega arith) (ap (λ (xs : List ℕ). get_or xs k 0) (sym ms_is) ∙ same ∙ mark_is))
+      (λ k lt same. not_left ms q k up at (let e : length ns ≡ length (remove ms q) = ap length ms_is in omega arith)
+      (ap (λ (xs : List ℕ). get_or xs k 0) (sym ms_is) ∙ same ∙ mark_is))
       spare both
 
   pub same_left : (f : Finder) → AreNoted es ms f → AreNoted fs ns f
-  same_left f h = subst (λ (xs : List ℕ). AreNoted fs xs f) (sym ms_is) (subst (λ (ys : Entries). AreNoted ys (remove ms q) f) (sym left) (noted_removed es ms f q long h))
+  same_left f h =
+      subst (λ (xs : List ℕ). AreNoted fs xs f) (sym ms_is)
+      (subst (λ (ys : Entries). AreNoted ys (remove ms q) f) (sym left) (noted_removed es ms f q long h))
 
   pub all_left : (held : Bool) → (IsFalse held → AreAll es) → IsFalse held → AreAll fs
   all_left held h off = subst (λ (ys : Entries). AreAll ys) (sym left) (all_removed es q (h off))
 
 -- ---- a list with one path more
 
-pub insert_last : (es : Entries) (key : String Global) (n : NamedPath) → absent (items_of es) (string_bytes key) → insert_entry string_eq es key n ≡ es ++ (key, n) ∷ []
+pub insert_last : (es : Entries) (key : String Global) (n : NamedPath) → absent (items_of es) (string_bytes key) →
+    insert_entry string_eq es key n ≡ es ++ (key, n) ∷ []
 insert_last [] key n h = refl
 insert_last (e ∷ es) key n h =
     let r = not_here (item_of e) (items_of es) (string_bytes key) h in
-    ap (λ (b : Bool). if b then (e.0, n) ∷ es else e ∷ insert_entry string_eq es key n) (flipped (string_bytes e.0) (string_bytes key) r.0)
+    ap (λ (b : Bool). if b then (e.0, n) ∷ es else e ∷ insert_entry string_eq es key n)
+    (flipped (string_bytes e.0) (string_bytes key) r.0)
     ∙ ap (λ (ys : Entries). e ∷ ys) (insert_last es key n r.1)
 
-module _ (es fs : Entries) (ms ns : List ℕ) (key : String Global) (n : NamedPath) (mark : ℕ) (es_is : fs ≡ es ++ (key, n) ∷ []) (ms_is : ns ≡ ms ++ mark ∷ []) (long : length ms ≡ length es) where
+module _ (es fs : Entries) (ms ns : List ℕ) (key : String Global) (n : NamedPath) (mark : ℕ)
+    (es_is : fs ≡ es ++ (key, n) ∷ []) (ms_is : ns ≡ ms ++ mark ∷ []) (long : length ms ≡ length es) where
   pub long_more : length ns ≡ length fs
   long_more =
       let a : length (ms ++ mark ∷ []) ≡ length ms + 1 = length-append ms (mark ∷ []) in
@@ -274,43 +319,57 @@ module _ (es fs : Entries) (ms ns : List ℕ) (key : String Global) (n : NamedPa
   pub rise_more : IsStrictlyIncreasing ms → ((k : ℕ) → k < length ms → get_or ms k 0 < mark) → IsStrictlyIncreasing ns
   rise_more up below = subst (λ (xs : List ℕ). IsStrictlyIncreasing xs) (sym ms_is) (rises_push ms mark up below)
 
-  pub noted_more : (f g : Finder) → ((k : ℕ) → k < length ms → get_or ms k 0 < mark) → Spares mark f g → NamedNoted g mark n → AreNoted es ms f → AreNoted fs ns g
+  pub noted_more : (f g : Finder) → ((k : ℕ) → k < length ms → get_or ms k 0 < mark) → Spares mark f g →
+      NamedNoted g mark n → AreNoted es ms f → AreNoted fs ns g
   noted_more f g below spare one h =
-      let kept : AreNoted es ms g = noted_spared es ms f g mark (λ k lt same. let low = below k (omega arith) in absurd (omega arith)) spare h in
-      subst (λ (xs : List ℕ). AreNoted fs xs g) (sym ms_is) (subst (λ (ys : Entries). AreNoted ys (ms ++ mark ∷ []) g) (sym es_is) (noted_push es ms g key n mark long kept one))
+      let kept : AreNoted es ms g =
+      noted_spared es ms f g mark (λ k lt same. let low = below k (omega arith) in absurd (omega arith)) spare h in
+      subst (λ (xs : List ℕ). AreNoted fs xs g) (sym ms_is)
+      (subst (λ (ys : Entries). AreNoted ys (ms ++ mark ∷ []) g) (sym es_is)
+      (noted_push es ms g key n mark long kept one))
 
-  pub all_more_unless : (held held2 : Bool) → (IsFalse held2 → IsFalse held × (n.published ≢ None)) → (IsFalse held → AreAll es) → IsFalse held2 → AreAll fs
-  all_more_unless held held2 is h off = let split = is off in subst (λ (ys : Entries). AreAll ys) (sym es_is) (all_push es key n (h split.0) split.1)
+  pub all_more_unless : (held held2 : Bool) → (IsFalse held2 → IsFalse held × (n.published ≢ None)) →
+      (IsFalse held → AreAll es) → IsFalse held2 → AreAll fs
+  all_more_unless held held2 is h off = let split =
+      is off in subst (λ (ys : Entries). AreAll ys) (sym es_is) (all_push es key n (h split.0) split.1)
 
 -- ---- a list with another path in the place of one
 
-module _ (es fs : Entries) (ms : List ℕ) (name : List ℕ) (n : NamedPath) (q : ℕ) (first : First name es q) (es_is : fs ≡ set_value (asks name) es n) (long : length ms ≡ length es) (up : IsStrictlyIncreasing ms) (at : q < length ms) where
+module _ (es fs : Entries) (ms : List ℕ) (name : List ℕ) (n : NamedPath) (q : ℕ) (first : First name es q)
+    (es_is : fs ≡ set_value (asks name) es n) (long : length ms ≡ length es) (up : IsStrictlyIncreasing ms)
+    (at : q < length ms) where
   other : fs ≡ set_value_at es q n
   other = es_is ∙ set_at es name n q first
 
   pub long_other : length ms ≡ length fs
   long_other = long ∙ sym (kept_long es q n) ∙ ap length (sym other)
 
-  pub noted_other : (f g : Finder) → Spares (get_or ms q 0) f g → NamedNoted g (get_or ms q 0) n → AreNoted es ms f → AreNoted fs ms g
+  pub noted_other : (f g : Finder) → Spares (get_or ms q 0) f g → NamedNoted g (get_or ms q 0) n → AreNoted es ms f →
+      AreNoted fs ms g
   noted_other f g spare one h =
       subst (λ (ys : Entries). AreNoted ys ms g) (sym other)
       (λ k e there p some. elim (cases_order k q) [
         | inl same ↦
             let first_there = subst (λ (j : ℕ). slice_get (set_value_at es q n) j ≡ Some e) same there in
             let is : n ≡ e.1 = set_there es q n e first_there in
-            subst (λ (j : ℕ). IsNoted g (get_or ms j 0) e.1.path.value.lines p.value.own p.value.looks.items) (sym same) (subst (λ (x : NamedPath). NamedNoted g (get_or ms q 0) x) is one p some)
+            subst (λ (j : ℕ). IsNoted g (get_or ms j 0) e.1.path.value.lines p.value.own p.value.looks.items) (sym same)
+            (subst (λ (x : NamedPath). NamedNoted g (get_or ms q 0) x) is one p some)
         | inr differ ↦
             let before = set_beside es q n k (λ e. elim differ [ inl low ↦ omega arith | inr high ↦ omega arith ]) in
             let lt : k < length ms = let w = entry_within es k e (sym before ∙ there) in omega arith in
-            spared f g (get_or ms q 0) (get_or ms k 0) e.1.path.value.lines p.value.own p.value.looks.items (apart ms up k q lt at (λ e. elim differ [ inl low ↦ omega arith | inr high ↦ omega arith ])) spare (h k e (sym before ∙ there) p some)
+            spared f g (get_or ms q 0) (get_or ms k 0) e.1.path.value.lines p.value.own p.value.looks.items
+            (apart ms up k q lt at (λ e. elim differ [ inl low ↦ omega arith | inr high ↦ omega arith ])) spare
+            (h k e (sym before ∙ there) p some)
       ])
     where
-      set_there : (ys : Entries) (q : ℕ) (n : NamedPath) (e : String Global × NamedPath) → slice_get (set_value_at ys q n) q ≡ Some e → n ≡ e.1
+      set_there : (ys : Entries) (q : ℕ) (n : NamedPath) (e : String Global × NamedPath) →
+          slice_get (set_value_at ys q n) q ≡ Some e → n ≡ e.1
       set_there [] q n e there = let never : ⊥ = cc (there) in absurd never
       set_there (y ∷ ys) zero n e there = cc (there)
       set_there (y ∷ ys) (suc q) n e there = set_there ys q n e there
 
-      set_beside : (ys : Entries) (q : ℕ) (n : NamedPath) (k : ℕ) → k ≢ q → slice_get (set_value_at ys q n) k ≡ slice_get ys k
+      set_beside : (ys : Entries) (q : ℕ) (n : NamedPath) (k : ℕ) → k ≢ q →
+          slice_get (set_value_at ys q n) k ≡ slice_get ys k
       set_beside [] q n k ne = refl
       set_beside (y ∷ ys) zero n zero ne = absurd (ne refl)
       set_beside (y ∷ ys) zero n (suc k) ne = refl
@@ -322,16 +381,21 @@ module _ (es fs : Entries) (ms : List ℕ) (name : List ℕ) (n : NamedPath) (q 
       entry_within (y ∷ ys) zero e at = omega arith
       entry_within (y ∷ ys) (suc k) e at = let lt = entry_within ys k e at in omega arith
 
-  pub all_other : (held held2 : Bool) → (IsFalse held2 → IsFalse held × (n.published ≢ None)) → (IsFalse held → AreAll es) → IsFalse held2 → AreAll fs
-  all_other held held2 is h off = let split = is off in subst (λ (ys : Entries). AreAll ys) (sym other) (all_set es q n (h split.0) split.1)
+  pub all_other : (held held2 : Bool) → (IsFalse held2 → IsFalse held × (n.published ≢ None)) →
+      (IsFalse held → AreAll es) → IsFalse held2 → AreAll fs
+  all_other held held2 is h off = let split =
+      is off in subst (λ (ys : Entries). AreAll ys) (sym other) (all_set es q n (h split.0) split.1)
 
 -- the same list, with more room
-pub moved_noted : (es fs : Entries) (ms ns : List ℕ) (f : Finder) → fs ≡ es → ns ≡ ms → AreNoted es ms f → AreNoted fs ns f
-moved_noted es fs ms ns f a b h = subst (λ (xs : List ℕ). AreNoted fs xs f) (sym b) (subst (λ (ys : Entries). AreNoted ys ms f) (sym a) h)
+pub moved_noted : (es fs : Entries) (ms ns : List ℕ) (f : Finder) → fs ≡ es → ns ≡ ms → AreNoted es ms f →
+    AreNoted fs ns f
+moved_noted es fs ms ns f a b h =
+    subst (λ (xs : List ℕ). AreNoted fs xs f) (sym b) (subst (λ (ys : Entries). AreNoted ys ms f) (sym a) h)
 
 -- ---- a list without the last of its paths
 
-cut_at : (es : Entries) (q k : ℕ) (e : String Global × NamedPath) → slice_get (take q es) k ≡ Some e → (slice_get es k ≡ Some e) × (k < q)
+cut_at : (es : Entries) (q k : ℕ) (e : String Global × NamedPath) → slice_get (take q es) k ≡ Some e →
+    (slice_get es k ≡ Some e) × (k < q)
 cut_at [] zero k e at = let never : ⊥ = cc (at) in absurd never
 cut_at [] (suc q) k e at = let never : ⊥ = cc (at) in absurd never
 cut_at (x ∷ es) zero k e at = let never : ⊥ = cc (at) in absurd never
@@ -344,7 +408,8 @@ cut_marks [] (suc q) k lt = refl
 cut_marks (m ∷ ms) (suc q) zero lt = refl
 cut_marks (m ∷ ms) (suc q) (suc k) lt = cut_marks ms q k (omega arith)
 
-same_cut : {A B : Type 0} (xs : List A) (ys : List B) (q : ℕ) → length xs ≡ length ys → length (take q xs) ≡ length (take q ys)
+same_cut : {A B : Type 0} (xs : List A) (ys : List B) (q : ℕ) → length xs ≡ length ys →
+    length (take q xs) ≡ length (take q ys)
 same_cut xs ys zero h = refl
 same_cut [] [] (suc q) h = refl
 same_cut [] (y ∷ ys) (suc q) h = absurd (omega arith)
@@ -356,7 +421,8 @@ items_cut es zero = refl
 items_cut [] (suc q) = refl
 items_cut (e ∷ es) (suc q) = ap (λ (is : List Item). item_of e ∷ is) (items_cut es q)
 
-pub long_cut : (es fs : Entries) (ms ns : List ℕ) (q : ℕ) → fs ≡ take q es → ns ≡ take q ms → length ms ≡ length es → length ns ≡ length fs
+pub long_cut : (es fs : Entries) (ms ns : List ℕ) (q : ℕ) → fs ≡ take q es → ns ≡ take q ms → length ms ≡ length es →
+    length ns ≡ length fs
 long_cut es fs ms ns q a b long = ap length b ∙ same_cut ms es q long ∙ sym (ap length a)
 
 rises_cut : (ms : List ℕ) (q : ℕ) → IsStrictlyIncreasing ms → IsStrictlyIncreasing (take q ms)
@@ -373,7 +439,8 @@ rises_cut ms q up = elim (cases_lt q (length ms)) [
 pub rise_cut : (ms ns : List ℕ) (q : ℕ) → ns ≡ take q ms → IsStrictlyIncreasing ms → IsStrictlyIncreasing ns
 rise_cut ms ns q b up = subst (λ (xs : List ℕ). IsStrictlyIncreasing xs) (sym b) (rises_cut ms q up)
 
-pub noted_cut : (es fs : Entries) (ms ns : List ℕ) (q : ℕ) → fs ≡ take q es → ns ≡ take q ms → (f : Finder) → AreNoted es ms f → AreNoted fs ns f
+pub noted_cut : (es fs : Entries) (ms ns : List ℕ) (q : ℕ) → fs ≡ take q es → ns ≡ take q ms → (f : Finder) →
+    AreNoted es ms f → AreNoted fs ns f
 noted_cut es fs ms ns q a b f h k e at p some =
     let r = cut_at es q k e (ap (λ (ys : Entries). slice_get ys k) (sym a) ∙ at) in
     let mark : get_or ms k 0 ≡ get_or ns k 0 = sym (ap (λ (xs : List ℕ). get_or xs k 0) b ∙ cut_marks ms q k r.1) in

@@ -1,5 +1,7 @@
 -- A map's entries as a list of named paths: look-ups, edits, and that no name stands twice.
-use Rattle.std.proofs.Common.{inl, inr, ◌≡◌, ℕ, ◌+◌, ◌<◌, Bool, true, false, not, cond, if◌then◌else◌, List, [], ◌∷◌, ◌++◌, map, take, length, get_or, slice_get, Option, Some, None, is_some, refl, sym, ap, ◌∙◌, unwrap_or}
+use Rattle.std.proofs.Common.{inl, inr, ◌≡◌, ℕ, ◌+◌, ◌<◌, Bool, true, false, not, cond, if◌then◌else◌, List, [], ◌∷◌}
+use Rattle.std.proofs.Common.{◌++◌, map, take, length, get_or, slice_get, Option, Some, None, is_some, refl, sym, ap}
+use Rattle.std.proofs.Common.{◌∙◌, unwrap_or}
 use Rattle.std.proofs.lemmas.Option.{slice_get-map, slice_get_within, unwrap_or-slice_get}
 use Rattle.std.proofs.lemmas.List.{take_more}
 use Rattle.indexmap.specs.IndexMap.{insert_entry}
@@ -46,23 +48,28 @@ same_flip a b = elim (cases_Bool (same_name a b)) [
 
 -- ---- look-ups
 
-pub looked_up : (es : Entries) (name : List ℕ) → made_in (items_of es) name ≡ option_and_then made_of_named (lookup (asks name) es)
+pub looked_up : (es : Entries) (name : List ℕ) →
+    made_in (items_of es) name ≡ option_and_then made_of_named (lookup (asks name) es)
 looked_up [] name = refl
 looked_up (e ∷ es) name =
     ap (λ (b : Bool). if b then made_of_named e.1 else made_in (items_of es) name) (same_flip (string_bytes e.0) name)
-    ∙ elim (asks name e.0) as (λ b. (if b then made_of_named e.1 else made_in (items_of es) name) ≡ option_and_then made_of_named (cond b (Some e.1) (lookup (asks name) es))) [
+    ∙ elim (asks name e.0) as (λ b. (if b then made_of_named e.1 else made_in (items_of es) name)
+    ≡ option_and_then made_of_named (cond b (Some e.1) (lookup (asks name) es))) [
       | true ↦ refl
       | false ↦ looked_up es name
     ]
 
-pub named_there : (es : Entries) (name : List ℕ) → is_some (lookup (asks name) es) ≡ is_some (path_named (all_named (items_of es)) name)
+pub named_there : (es : Entries) (name : List ℕ) →
+    is_some (lookup (asks name) es) ≡ is_some (path_named (all_named (items_of es)) name)
 named_there [] name = refl
 named_there (e ∷ es) name =
-    elim (asks name e.0) as (λ b. is_some (cond b (Some e.1) (lookup (asks name) es)) ≡ is_some (cond b (Some e.1.path.value) (path_named (all_named (items_of es)) name))) [
+    elim (asks name e.0) as (λ b. is_some (cond b (Some e.1) (lookup (asks name) es))
+    ≡ is_some (cond b (Some e.1.path.value) (path_named (all_named (items_of es)) name))) [
       | true ↦ refl
       | false ↦ named_there es name
     ]
-    ∙ ap (λ (b : Bool). is_some (cond b (Some e.1.path.value) (path_named (all_named (items_of es)) name))) (same_flip name (string_bytes e.0))
+    ∙ ap (λ (b : Bool). is_some (cond b (Some e.1.path.value) (path_named (all_named (items_of es)) name)))
+    (same_flip name (string_bytes e.0))
 
 pub none_from_absent : {X : Type 0} (o : Option X) → is_some o ≡ false → o ≡ None
 none_from_absent None h = refl
@@ -70,10 +77,12 @@ none_from_absent (Some x) h = absurd cc
 
 -- ---- no name stands twice
 
-others_named : (k : String Global) (es : Entries) → AllByRecursion (λ y. string_eq k y ≡ false) (keys_of es) → is_some (path_named (all_named (items_of es)) (string_bytes k)) ≡ false
+others_named : (k : String Global) (es : Entries) → AllByRecursion (λ y. string_eq k y ≡ false) (keys_of es) →
+    is_some (path_named (all_named (items_of es)) (string_bytes k)) ≡ false
 others_named k [] h = refl
 others_named k (e ∷ es) h =
-    ap (λ (b : Bool). is_some (cond b (Some e.1.path.value) (path_named (all_named (items_of es)) (string_bytes k)))) (flipped (string_bytes k) (string_bytes e.0) h.0)
+    ap (λ (b : Bool). is_some (cond b (Some e.1.path.value) (path_named (all_named (items_of es)) (string_bytes k))))
+    (flipped (string_bytes k) (string_bytes e.0) h.0)
     ∙ others_named k es h.1
 
 pub names_differ : (es : Entries) → IsDistinct string_eq (keys_of es) → NamesDiffer (all_named (items_of es))
@@ -87,9 +96,11 @@ names_differ (e ∷ es) h = (others_named e.0 es h.0, names_differ es h.1)
 abbrev pub absent : List Item → List ℕ → Type 0
 absent is name = is_some (path_named (all_named is) name) ≡ false
 
-pub not_here : (i : Item) (is : List Item) (name : List ℕ) → absent (i ∷ is) name → (same_name i.name name ≡ false) × absent is name
+pub not_here : (i : Item) (is : List Item) (name : List ℕ) → absent (i ∷ is) name → (same_name i.name name ≡ false)
+    × absent is name
 not_here i is name h =
-    elim (same_name i.name name) as (λ b. is_some (cond b (Some i.path) (path_named (all_named is) name)) ≡ false → (b ≡ false) × absent is name) [
+    elim (same_name i.name name) as (λ b. is_some (cond b (Some i.path) (path_named (all_named is) name)) ≡ false →
+    (b ≡ false) × absent is name) [
       | true ↦ λ e. absurd cc
       | false ↦ λ e. (refl, e)
     ] h
@@ -98,21 +109,27 @@ pub keeps_all : (is : List Item) (name : List ℕ) → absent is name → filter
 keeps_all [] name h = refl
 keeps_all (i ∷ is) name h =
     let r = not_here i is name h in
-    ap (λ (b : Bool). cond (not b) (i ∷ filter (λ j. not (same_name j.name name)) is) (filter (λ j. not (same_name j.name name)) is)) r.0
+    ap (λ (b : Bool). cond (not b) (i ∷ filter (λ j. not (same_name j.name name)) is)
+    (filter (λ j. not (same_name j.name name)) is)) r.0
     ∙ ap (λ (js : List Item). i ∷ js) (keeps_all is name r.1)
 
-pub sets_none : (is : List Item) (name : List ℕ) (path : Path) (made : Option Made) → absent is name → map (set_item name path made) is ≡ is
+pub sets_none : (is : List Item) (name : List ℕ) (path : Path) (made : Option Made) → absent is name →
+    map (set_item name path made) is ≡ is
 sets_none [] name path made h = refl
 sets_none (i ∷ is) name path made h =
     let r = not_here i is name h in
-    ap (λ (b : Bool). (if b then record { name = i.name; path = path; made = made } else i) ∷ map (set_item name path made) is) r.0
+    ap (λ (b : Bool). (if b then record { name = i.name; path = path; made = made } else i) ∷ map
+    (set_item name path made) is) r.0
     ∙ ap (λ (js : List Item). i ∷ js) (sets_none is name path made r.1)
 
 -- of a list whose first name is the one looked for, no other has it
-others_absent : (i : Item) (is : List Item) (name : List ℕ) → same_name i.name name ≡ true → absent is i.name → absent is name
-others_absent i is name e h = ap (λ (n : List ℕ). is_some (path_named (all_named is) n)) (sym (same_is i.name name e)) ∙ h
+others_absent : (i : Item) (is : List Item) (name : List ℕ) → same_name i.name name ≡ true → absent is i.name →
+    absent is name
+others_absent i is name e h =
+    ap (λ (n : List ℕ). is_some (path_named (all_named is) n)) (sym (same_is i.name name e)) ∙ h
 
-pub removed_items : (es : Entries) (name : List ℕ) → NamesDiffer (all_named (items_of es)) → items_of (remove_entry (asks name) es) ≡ filter (λ i. not (same_name i.name name)) (items_of es)
+pub removed_items : (es : Entries) (name : List ℕ) → NamesDiffer (all_named (items_of es)) →
+    items_of (remove_entry (asks name) es) ≡ filter (λ i. not (same_name i.name name)) (items_of es)
 removed_items [] name d = refl
 removed_items (e ∷ es) name d =
     let rest = filter (λ i. not (same_name i.name name)) (items_of es) in
@@ -129,16 +146,20 @@ removed_items (e ∷ es) name d =
           ∙ sym (ap (λ (b : Bool). cond (not b) (item_of e ∷ rest) rest) other)
     ]
 
-pub set_items : (es : Entries) (name : List ℕ) (n : NamedPath) → NamesDiffer (all_named (items_of es)) → items_of (set_value (asks name) es n) ≡ map (set_item name n.path.value (made_of_named n)) (items_of es)
+pub set_items : (es : Entries) (name : List ℕ) (n : NamedPath) → NamesDiffer (all_named (items_of es)) →
+    items_of (set_value (asks name) es n) ≡ map (set_item name n.path.value (made_of_named n)) (items_of es)
 set_items [] name n d = refl
 set_items (e ∷ es) name n d =
     let set = set_item name n.path.value (made_of_named n) in
-    let first : Bool → Item = λ b. if b then record { name = string_bytes e.0; path = n.path.value; made = made_of_named n } else item_of e in
+    let first : Bool → Item =
+    λ b. if b then record { name = string_bytes e.0; path = n.path.value; made = made_of_named n } else item_of e in
     elim (cases_Bool (asks name e.0)) [
       | inl h ↦
           let here : same_name (string_bytes e.0) name ≡ true = same_flip (string_bytes e.0) name ∙ h in
           ap (λ (b : Bool). items_of (cond b ((e.0, n) ∷ es) (e ∷ set_value (asks name) es n))) h
-          ∙ ap (λ (js : List Item). item_of (e.0, n) ∷ js) (sym (sets_none (items_of es) name n.path.value (made_of_named n) (others_absent (item_of e) (items_of es) name here d.0)))
+          ∙ ap (λ (js : List Item). item_of (e.0, n) ∷ js)
+          (sym (sets_none (items_of es) name n.path.value (made_of_named n)
+          (others_absent (item_of e) (items_of es) name here d.0)))
           ∙ sym (ap (λ (b : Bool). first b ∷ map set (items_of es)) here)
       | inr h ↦
           let other : same_name (string_bytes e.0) name ≡ false = same_flip (string_bytes e.0) name ∙ h in
@@ -147,47 +168,60 @@ set_items (e ∷ es) name n d =
           ∙ sym (ap (λ (b : Bool). first b ∷ map set (items_of es)) other)
     ]
 
-pub set_absent : (es : Entries) (name : List ℕ) (n : NamedPath) → lookup (asks name) es ≡ None → items_of es ≡ map (set_item name n.path.value (made_of_named n)) (items_of es)
-set_absent es name n h = sym (sets_none (items_of es) name n.path.value (made_of_named n) (sym (named_there es name) ∙ ap is_some h))
+pub set_absent : (es : Entries) (name : List ℕ) (n : NamedPath) → lookup (asks name) es ≡ None →
+    items_of es ≡ map (set_item name n.path.value (made_of_named n)) (items_of es)
+set_absent es name n h =
+    sym (sets_none (items_of es) name n.path.value (made_of_named n) (sym (named_there es name) ∙ ap is_some h))
 
 -- ---- one entry
 
-pub named_at : (es : Entries) (k : ℕ) (e : String Global × NamedPath) → slice_get es k ≡ Some e → slice_get (map (λ i. i.name) (items_of es)) k ≡ Some (string_bytes e.0)
-named_at es k e h = slice_get-map (λ i. i.name) (items_of es) k ∙ ap (option_map (λ (i : Item). i.name)) (slice_get-map item_of es k) ∙ ap (λ (o : Option (String Global × NamedPath)). option_map (λ (i : Item). i.name) (option_map item_of o)) h
+pub named_at : (es : Entries) (k : ℕ) (e : String Global × NamedPath) → slice_get es k ≡ Some e →
+    slice_get (map (λ i. i.name) (items_of es)) k ≡ Some (string_bytes e.0)
+named_at es k e h =
+    slice_get-map (λ i. i.name) (items_of es) k ∙ ap (option_map (λ (i : Item). i.name)) (slice_get-map item_of es k)
+    ∙ ap (λ (o : Option (String Global × NamedPath)). option_map (λ (i : Item). i.name) (option_map item_of o)) h
 
 pub published_absent : (es : Entries) (name : List ℕ) → lookup (asks name) es ≡ None → made_in (items_of es) name ≡ None
 published_absent es name h = looked_up es name ∙ ap (option_and_then made_of_named) h
 
-pub published_of : (es : Entries) (name : List ℕ) (n : NamedPath) → lookup (asks name) es ≡ Some n → made_in (items_of es) name ≡ made_of_named n
+pub published_of : (es : Entries) (name : List ℕ) (n : NamedPath) → lookup (asks name) es ≡ Some n →
+    made_in (items_of es) name ≡ made_of_named n
 published_of es name n h = looked_up es name ∙ ap (option_and_then made_of_named) h
 
 abbrev pub path_of_entry : NamedPath → Path
 path_of_entry n = n.path.value
 
-pub paths_named : (es : Entries) (name : List ℕ) → path_named (all_named (items_of es)) name ≡ option_map path_of_entry (lookup (asks name) es)
+pub paths_named : (es : Entries) (name : List ℕ) →
+    path_named (all_named (items_of es)) name ≡ option_map path_of_entry (lookup (asks name) es)
 paths_named [] name = refl
 paths_named (e ∷ es) name =
-    ap (λ (b : Bool). cond b (Some e.1.path.value) (path_named (all_named (items_of es)) name)) (sym (same_flip name (string_bytes e.0)))
-    ∙ elim (asks name e.0) as (λ b. cond b (Some e.1.path.value) (path_named (all_named (items_of es)) name) ≡ option_map path_of_entry (cond b (Some e.1) (lookup (asks name) es))) [
+    ap (λ (b : Bool). cond b (Some e.1.path.value) (path_named (all_named (items_of es)) name))
+    (sym (same_flip name (string_bytes e.0)))
+    ∙ elim (asks name e.0) as (λ b. cond b (Some e.1.path.value) (path_named (all_named (items_of es)) name)
+    ≡ option_map path_of_entry (cond b (Some e.1) (lookup (asks name) es))) [
       | true ↦ refl
       | false ↦ paths_named es name
     ]
 
 -- ---- one more at the end
 
-pub put_items : (es : Entries) (k : String Global) (n : NamedPath) → absent (items_of es) (string_bytes k) → items_of (insert_entry string_eq es k n) ≡ items_of es ++ item_of (k, n) ∷ []
+pub put_items : (es : Entries) (k : String Global) (n : NamedPath) → absent (items_of es) (string_bytes k) →
+    items_of (insert_entry string_eq es k n) ≡ items_of es ++ item_of (k, n) ∷ []
 put_items [] k n h = refl
 put_items (e ∷ es) k n h =
     let r = not_here (item_of e) (items_of es) (string_bytes k) h in
-    ap (λ (b : Bool). items_of (if b then (e.0, n) ∷ es else e ∷ insert_entry string_eq es k n)) (flipped (string_bytes e.0) (string_bytes k) r.0)
+    ap (λ (b : Bool). items_of (if b then (e.0, n) ∷ es else e ∷ insert_entry string_eq es k n))
+    (flipped (string_bytes e.0) (string_bytes k) r.0)
     ∙ ap (λ (js : List Item). item_of e ∷ js) (put_items es k n r.1)
 
-pub take_more_items : (is : List Item) (k : ℕ) (i : Item) → slice_get is k ≡ Some i → take (k + 1) is ≡ take k is ++ i ∷ []
+pub take_more_items : (is : List Item) (k : ℕ) (i : Item) → slice_get is k ≡ Some i →
+    take (k + 1) is ≡ take k is ++ i ∷ []
 take_more_items is k i at =
     let within : k < length is = slice_get_within is k i at in
     let same : get_or is k i ≡ i = sym (unwrap_or-slice_get is k i) ∙ ap (λ (o : Option Item). unwrap_or o i) at in
     take_more is k i within ∙ ap (λ (j : Item). take k is ++ j ∷ []) same
 
 -- the item of an entry
-pub item_at : (es : Entries) (k : ℕ) (e : String Global × NamedPath) → slice_get es k ≡ Some e → slice_get (items_of es) k ≡ Some (item_of e)
+pub item_at : (es : Entries) (k : ℕ) (e : String Global × NamedPath) → slice_get es k ≡ Some e →
+    slice_get (items_of es) k ≡ Some (item_of e)
 item_at es k e at = slice_get-map item_of es k ∙ ap (option_map item_of) at

@@ -1,10 +1,12 @@
 -- What distances tell: of touched nodes that are near, and of detours.
-use Rattle.std.proofs.Common.{◌≡◌, ℕ, zero, suc, ◌+◌, ◌<◌, ◌≤◌, true, List, [], ◌∷◌, map, Contains, IsTrue, ◌↔◌, Option, Some, None, is_some, refl, sym, ap, subst, arith, ⊎_elim}
+use Rattle.std.proofs.Common.{◌≡◌, ℕ, zero, suc, ◌+◌, ◌<◌, ◌≤◌, true, List, [], ◌∷◌, map, Contains, IsTrue, ◌↔◌, Option}
+use Rattle.std.proofs.Common.{Some, None, is_some, refl, sym, ap, subst, arith, ⊎_elim}
 use Rattle.std.proofs.lemmas.Bool.{cases_lt}
 use Rattle.olr_spec.specs.Map.{Map, IsMap, has_node, end, has}
 use Rattle.olr_spec.specs.Walks.{Walk, dm_of}
 use Rattle.olr_spec.specs.Extension.{limit}
 use Rattle.olr_spec.specs.Detours.{ChangedLine, Detour, Near}
+use Rattle.olr_spec.proofs.WalkLemmas.{walk_start}
 use Rattle.olr_route.specs.Distances.{Leads, IsDistance}
 use Rattle.olr_route.specs.declared.distances.Direction.{Direction}
 use Rattle.olr_route.specs.declared.distances.Direction.TheVariants.{Along, Against}
@@ -16,45 +18,60 @@ use Rattle.olr_paths.proofs.Sets.{has_from, in_from, Contains-map, Contains-unma
 -- ---- a least distance
 
 -- where no number is the distance, no way is as short
-pub no_way : (M : Map) (direction : Direction) (from : List (ℕ × ℕ)) (v most : ℕ) → ((d : ℕ) → IsDistance M direction from v d → d ≤ most → ⊥) → (n e : ℕ) → e < n → e ≤ most → Leads M direction from v e → ⊥
+pub no_way : (M : Map) (direction : Direction) (from : List (ℕ × ℕ)) (v most : ℕ) →
+    ((d : ℕ) → IsDistance M direction from v d → d ≤ most → ⊥) → (n e : ℕ) → e < n → e ≤ most →
+    Leads M direction from v e → ⊥
 no_way M direction from v most none zero e lt le leads = absurd (omega arith)
 no_way M direction from v most none (suc n) e lt le leads =
     none e (record {
       leads = leads;
-      least = λ k other. ⊎_elim (λ (low : k < e). absurd (no_way M direction from v most none n k (omega arith) (omega arith) other)) (λ (high : e ≤ k). high) (cases_lt k e);
+      least =
+          λ k other. ⊎_elim (λ (low : k < e).
+          absurd (no_way M direction from v most none n k (omega arith) (omega arith) other)) (λ (high : e ≤ k). high)
+          (cases_lt k e);
     }) le
 
 -- what an answer of a search says
 abbrev pub Tells : Map → Direction → List (ℕ × ℕ) → ℕ → ℕ → Option ℕ → Type 0
 Tells M direction from v most r = (d : ℕ) → (r ≡ Some d) ↔ (IsDistance M direction from v d × (d ≤ most))
 
-pub told_none : (M : Map) (direction : Direction) (from : List (ℕ × ℕ)) (v most : ℕ) (r : Option ℕ) → Tells M direction from v most r → r ≡ None → (e : ℕ) → e ≤ most → Leads M direction from v e → ⊥
+pub told_none : (M : Map) (direction : Direction) (from : List (ℕ × ℕ)) (v most : ℕ) (r : Option ℕ) →
+    Tells M direction from v most r → r ≡ None → (e : ℕ) → e ≤ most → Leads M direction from v e → ⊥
 told_none M direction from v most r tells is e le leads =
-    no_way M direction from v most (λ d h near. let some = (tells d).1 (h, near) in let never : ⊥ = cc in never) (suc e) e (omega arith) le leads
+    no_way M direction from v most (λ d h near. let some = (tells d).1 (h, near) in let never : ⊥ = cc in never) (suc e)
+    e (omega arith) le leads
 
 -- ---- near nodes
 
 -- a walk ends at a node of the map, if it begins at one
-pub walk_end : (M : Map) → IsMap M → (s v : ℕ) (xs : List ℕ) → Walk M s v xs → IsTrue (has_node M s) → IsTrue (has_node M v)
+pub walk_end : (M : Map) → IsMap M → (s v : ℕ) (xs : List ℕ) → Walk M s v xs → IsTrue (has_node M s) →
+    IsTrue (has_node M v)
 walk_end M m s v [] w there = subst (λ (u : ℕ). IsTrue (has_node M u)) w there
 walk_end M m s v (x ∷ xs) w there = walk_end M m (end M x) v xs w.2 (m.ends x w.0)
-
-pub walk_start : (M : Map) → IsMap M → (s v : ℕ) (xs : List ℕ) → Walk M s v xs → IsTrue (has_node M v) → IsTrue (has_node M s)
-walk_start M m s v [] w there = subst (λ (u : ℕ). IsTrue (has_node M u)) (sym w) there
-walk_start M m s v (x ∷ xs) w there = subst (λ (u : ℕ). IsTrue (has_node M u)) w.1 (m.starts x w.0)
 
 abbrev pub all_sources : List ℕ → List (ℕ × ℕ)
 all_sources T = map {A = ℕ} {B = ℕ × ℕ} (λ v. (v, 0)) T
 
 module _ (N : Map) (n : IsMap N) (T : List ℕ) (node : ℕ) where
   -- where the map has the node
-  pub near_by : (r : Option ℕ) → IsTrue (has_node N node) → Tells N Against (all_sources T) node limit r → IsTrue (is_some r) ↔ Near N T node limit
+  pub near_by : (r : Option ℕ) → IsTrue (has_node N node) → Tells N Against (all_sources T) node limit r →
+      IsTrue (is_some r) ↔ Near N T node limit
   near_by None there tells = (
     (λ no. absurd cc),
     (λ near.
-        let source : Contains (all_sources T) (near.node, 0) = Contains-map (λ v. (v, 0)) T near.node (in_from T near.node near.touched) in
+        let source : Contains (all_sources T) (near.node, 0) =
+        Contains-map (λ v. (v, 0)) T near.node (in_from T near.node near.touched) in
         absurd (told_none N Against (all_sources T) node limit None tells refl (dm_of N near.walk) near.within
-        (record { source = near.node; begun = 0; lines = near.walk; listed = source; there = walk_end N n node near.node near.walk near.leads there; way = near.leads; long = omega arith }))),
+        (record {
+          source = near.node;
+          begun = 0;
+          lines = near.walk;
+          listed = source;
+          there =
+              walk_end N n node near.node near.walk near.leads there;
+          way = near.leads;
+          long = omega arith;
+        }))),
   )
   near_by (Some d) there tells = (
     (λ yes.
@@ -92,7 +109,8 @@ all_starts C = map {A = ChangedLine} {B = ℕ × ℕ} (λ c. (c.from, c.len)) C
 abbrev pub all_ends : List ChangedLine → List (ℕ × ℕ)
 all_ends C = map {A = ChangedLine} {B = ℕ × ℕ} (λ c. (c.to, 0)) C
 
-module _ (N : Map) (n : IsMap N) (C : List ChangedLine) (s t d most far : ℕ) (from_there : IsTrue (has_node N s)) (to_there : IsTrue (has_node N t)) (le : d ≤ most) (le_far : d ≤ far) where
+module _ (N : Map) (n : IsMap N) (C : List ChangedLine) (s t d most far : ℕ) (from_there : IsTrue (has_node N s))
+    (to_there : IsTrue (has_node N t)) (le : d ≤ most) (le_far : d ≤ far) where
   leads_to : (h : Detour N C s t d) → Leads N Against (all_starts C) s (h.first.len + dm_of N h.before)
   leads_to h =
       record {
@@ -118,26 +136,32 @@ module _ (N : Map) (n : IsMap N) (C : List ChangedLine) (s t d most far : ℕ) (
       }
 
   pub no_start : (r : Option ℕ) → Tells N Against (all_starts C) s most r → r ≡ None → ¬ Detour N C s t d
-  no_start r tells is h = told_none N Against (all_starts C) s most r tells is (h.first.len + dm_of N h.before) (let w = h.within in omega arith) (leads_to h)
+  no_start r tells is h =
+      told_none N Against (all_starts C) s most r tells is (h.first.len + dm_of N h.before)
+      (let w = h.within in omega arith) (leads_to h)
 
   pub no_end : (r : Option ℕ) → Tells N Along (all_ends C) t far r → r ≡ None → ¬ Detour N C s t d
-  no_end r tells is h = told_none N Along (all_ends C) t far r tells is (dm_of N h.after) (let w = h.within in omega arith) (leads_back h)
+  no_end r tells is h =
+      told_none N Along (all_ends C) t far r tells is (dm_of N h.after) (let w = h.within in omega arith) (leads_back h)
 
-  pub too_far : (a b : ℕ) (q r : Option ℕ) → Tells N Against (all_starts C) s most q → q ≡ Some a → Tells N Along (all_ends C) t far r → r ≡ Some b → d < a + b → ¬ Detour N C s t d
+  pub too_far : (a b : ℕ) (q r : Option ℕ) → Tells N Against (all_starts C) s most q → q ≡ Some a →
+      Tells N Along (all_ends C) t far r → r ≡ Some b → d < a + b → ¬ Detour N C s t d
   too_far a b q r before is_a after is_b far_off h =
       let first = ((before a).0 is_a).0.least (h.first.len + dm_of N h.before) (leads_to h) in
       let second = ((after b).0 is_b).0.least (dm_of N h.after) (leads_back h) in
       let w = h.within in
       omega arith
 
-  pub clear_by : (q r : Option ℕ) → Tells N Against (all_starts C) s most q → Tells N Along (all_ends C) t far r → AreFarther q r d → ¬ Detour N C s t d
+  pub clear_by : (q r : Option ℕ) → Tells N Against (all_starts C) s most q → Tells N Along (all_ends C) t far r →
+      AreFarther q r d → ¬ Detour N C s t d
   clear_by None r before after h = no_start None before refl
   clear_by (Some a) None before after h = no_end None after refl
   clear_by (Some a) (Some b) before after h = too_far a b (Some a) (Some b) before refl after refl h
 
 -- ---- as they are noted
 
-map_two : {A B C : Type 0} (f : A → B) (g : B → C) (h : A → C) (xs : List A) → ((x : A) → h x ≡ g (f x)) → map h xs ≡ map g (map f xs)
+map_two : {A B C : Type 0} (f : A → B) (g : B → C) (h : A → C) (xs : List A) → ((x : A) → h x ≡ g (f x)) →
+    map h xs ≡ map g (map f xs)
 map_two f g h [] same = refl
 map_two f g h (x ∷ xs) same = λ i. same x i ∷ map_two f g h xs same i
 

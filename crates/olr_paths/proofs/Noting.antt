@@ -1,5 +1,6 @@
 -- Marks that are given and taken one by one.
-use Rattle.std.proofs.Common.{◌≡◌, ◌==◌, ℕ, ◌+◌, ◌<◌, ◌≤◌, List, [], Bool, true, false, not, ◌||◌, ◌&&◌, All, Contains, take, length, get_or, IsTrue, refl, sym, subst, ◌∙◌, arith}
+use Rattle.std.proofs.Common.{◌≡◌, ◌==◌, ℕ, ◌+◌, ◌<◌, ◌≤◌, List, [], Bool, true, false, not, ◌||◌, ◌&&◌, All, Contains}
+use Rattle.std.proofs.Common.{take, length, get_or, IsTrue, refl, sym, subst, ◌∙◌, arith}
 use Rattle.std.proofs.lemmas.Bool.{or_left, eq-eqb, ne_eqb}
 use Rattle.std.proofs.lemmas.List.{take_all}
 use Rattle.olr_index.specs.Marks.{holds}
@@ -43,26 +44,35 @@ module _ {A : Type 0} (number : A → ℕ) (mark : ℕ) (old : Index) where
   pub noted_none : Noted number mark old old []
   noted_none = record { noted = λ k d lt. absurd (omega arith); grows = λ n m t. t; spares = λ n m ne. refl }
 
-  pub noted_more : (now new : Index) (xs : List A) (k : ℕ) (d : A) (v : ℕ) → k < length xs → v ≡ number (get_or xs k d) → Noted number mark old now (take k xs)
-      → ((n m : ℕ) → holds new n m ≡ (holds now n m || ((v == n) && (mark == m)))) → Noted number mark old new (take (k + 1) xs)
+  pub noted_more : (now new : Index) (xs : List A) (k : ℕ) (d : A) (v : ℕ) → k < length xs →
+      v ≡ number (get_or xs k d) → Noted number mark old now (take k xs)
+      → ((n m : ℕ) → holds new n m ≡ (holds now n m || ((v == n) && (mark == m)))) →
+      Noted number mark old new (take (k + 1) xs)
   noted_more now new xs k d v lt is h added =
       let P : A → Type 0 = λ x. IsTrue (holds new (number x) mark) in
       let grown : Keeps now new = λ n m t. added n m ∙ or_left (holds now n m) ((v == n) && (mark == m)) t in
       record {
         noted = all_more P xs k d lt (λ i e low. grown (number (get_or (take k xs) i e)) mark (h.noted i e low))
-            (added (number (get_or xs k d)) mark ∙ second (holds now (number (get_or xs k d)) mark) (v == number (get_or xs k d)) (mark == mark) (eq-eqb v (number (get_or xs k d)) is) (eq-eqb mark mark refl));
+            (added (number (get_or xs k d)) mark
+            ∙ second (holds now (number (get_or xs k d)) mark) (v == number (get_or xs k d)) (mark == mark)
+            (eq-eqb v (number (get_or xs k d)) is) (eq-eqb mark mark refl));
         grows = λ n m t. grown n m (h.grows n m t);
-        spares = λ n m ne. added n m ∙ neither (holds now n m) (v == n) (mark == m) (ne_eqb mark m (λ e. ne (sym e))) ∙ h.spares n m ne;
+        spares =
+            λ n m ne. added n m ∙ neither (holds now n m) (v == n) (mark == m) (ne_eqb mark m (λ e. ne (sym e)))
+            ∙ h.spares n m ne;
       }
 
   -- after want of memory
-  pub grows_failed : (now new : Index) (xs : List A) → Noted number mark old now xs → ((n m : ℕ) → holds new n m ≡ holds now n m) → Keeps old new
+  pub grows_failed : (now new : Index) (xs : List A) → Noted number mark old now xs →
+      ((n m : ℕ) → holds new n m ≡ holds now n m) → Keeps old new
   grows_failed now new xs h same n m t = same n m ∙ h.grows n m t
 
-  pub spares_failed : (now new : Index) (xs : List A) → Noted number mark old now xs → ((n m : ℕ) → holds new n m ≡ holds now n m) → KeepsBut mark old new
+  pub spares_failed : (now new : Index) (xs : List A) → Noted number mark old now xs →
+      ((n m : ℕ) → holds new n m ≡ holds now n m) → KeepsBut mark old new
   spares_failed now new xs h same n m ne = same n m ∙ h.spares n m ne
 
-  pub noted_all : (now : Index) (xs : List A) (k : ℕ) → length xs ≤ k → Noted number mark old now (take k xs) → All (λ x. IsTrue (holds now (number x) mark)) xs
+  pub noted_all : (now : Index) (xs : List A) (k : ℕ) → length xs ≤ k → Noted number mark old now (take k xs) →
+      All (λ x. IsTrue (holds now (number x) mark)) xs
   noted_all now xs k end h = subst (λ ys. All (λ x. IsTrue (holds now (number x) mark)) ys) (take_all k xs end) h.noted
 
 -- after some of them were taken; the numbers that are kept have the mark if they had it
@@ -71,11 +81,16 @@ pub record Forgot (Kept : ℕ → Type 0) (mark : ℕ) (old now : Index) : Type 
   pub spares : KeepsBut mark old now
 
 module _ (Kept : ℕ → Type 0) (mark : ℕ) (old : Index) where
-  pub forgot_more : (now new : Index) (v : ℕ) → Forgot Kept mark old now → ¬ Kept v → ((n m : ℕ) → holds new n m ≡ (holds now n m && not ((v == n) && (mark == m)))) → Forgot Kept mark old new
+  pub forgot_more : (now new : Index) (v : ℕ) → Forgot Kept mark old now → ¬ Kept v →
+      ((n m : ℕ) → holds new n m ≡ (holds now n m && not ((v == n) && (mark == m)))) → Forgot Kept mark old new
   forgot_more now new v h free taken =
       record {
-        keeps = λ n k t. taken n mark ∙ left_there (holds now n mark) (v == n) (mark == mark) (ne_eqb v n (λ e. free (subst Kept (sym e) k))) (h.keeps n k t);
-        spares = λ n m ne. taken n m ∙ left_alone (holds now n m) (v == n) (mark == m) (ne_eqb mark m (λ e. ne (sym e))) ∙ h.spares n m ne;
+        keeps =
+            λ n k t. taken n mark ∙ left_there (holds now n mark) (v == n) (mark == mark)
+            (ne_eqb v n (λ e. free (subst Kept (sym e) k))) (h.keeps n k t);
+        spares =
+            λ n m ne. taken n m ∙ left_alone (holds now n m) (v == n) (mark == m) (ne_eqb mark m (λ e. ne (sym e)))
+            ∙ h.spares n m ne;
       }
 
 -- what is kept

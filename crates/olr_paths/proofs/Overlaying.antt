@@ -1,5 +1,7 @@
 -- Lists of named paths under changes: which names they have, and what one more change makes of them.
-use Rattle.std.proofs.Common.{inl, inr, ◌≡◌, ℕ, zero, suc, ◌+◌, Bool, true, false, not, cond, if◌then◌else◌, List, [], ◌∷◌, ◌++◌, map, take, length, slice_get, Option, Some, None, is_some, refl, sym, ap, ◌∙◌, subst, append_assoc, Result, Ok, Err}
+use Rattle.std.proofs.Common.{inl, inr, ◌≡◌, ℕ, zero, suc, ◌+◌, Bool, true, false, not, cond, if◌then◌else◌, List, []}
+use Rattle.std.proofs.Common.{◌∷◌, ◌++◌, map, take, length, slice_get, Option, Some, None, is_some, refl, sym, ap, ◌∙◌}
+use Rattle.std.proofs.Common.{subst, append_assoc, Result, Ok, Err}
 use Rattle.std.specs.Prelude.{String, option_map, string_bytes, OnOk}
 use Rattle.std.specs.List.{filter}
 use Rattle.std.specs.Map.{lookup}
@@ -29,28 +31,40 @@ has_name is name = is_some (path_named (all_named is) name)
 
 -- ---- what becomes of a name
 
-pub change_found : (es : Entered) (name : List ℕ) → change_at (changes_in es) name ≡ option_map path_in (lookup (asks name) es)
+pub change_found : (es : Entered) (name : List ℕ) →
+    change_at (changes_in es) name ≡ option_map path_in (lookup (asks name) es)
 change_found [] name = refl
 change_found (e ∷ es) name =
     ap (λ (b : Bool). cond b (Some (path_in e.1)) (change_at (changes_in es) name)) (same_flip (string_bytes e.0) name)
-    ∙ elim (asks name e.0) as (λ b. cond b (Some (path_in e.1)) (change_at (changes_in es) name) ≡ option_map path_in (cond b (Some e.1) (lookup (asks name) es))) [
+    ∙ elim (asks name e.0) as (λ b. cond b (Some (path_in e.1)) (change_at (changes_in es) name)
+    ≡ option_map path_in (cond b (Some e.1) (lookup (asks name) es))) [
       | true ↦ refl
       | false ↦ change_found es name
     ]
 
 -- an entry in the place of one of the same name
-put_here : (e : String Global × Option (Rc Path Global)) (k : String Global) (o : Option Path) (rest : Option (Option Path)) (name : List ℕ) → string_eq k e.0 ≡ true
-    → cond (same_name (string_bytes e.0) name) (Some o) rest ≡ cond (same_name (string_bytes k) name) (Some o) (cond (same_name (string_bytes e.0) name) (Some (path_in e.1)) rest)
+put_here : (e : String Global × Option (Rc Path Global)) (k : String Global) (o : Option Path)
+    (rest : Option (Option Path)) (name : List ℕ) → string_eq k e.0 ≡ true
+    → cond (same_name (string_bytes e.0) name) (Some o) rest
+    ≡ cond (same_name (string_bytes k) name) (Some o)
+    (cond (same_name (string_bytes e.0) name) (Some (path_in e.1)) rest)
 put_here e k o rest name h =
     let q = string_bytes e.0 in
     let same : q ≡ string_bytes k = sym (same_is (string_bytes k) q h) in
-    elim (same_name q name) as (λ b. cond b (Some o) rest ≡ cond b (Some o) (cond b (Some (path_in e.1)) rest)) [ true ↦ refl | false ↦ refl ]
+    elim (same_name q name) as (λ b. cond b (Some o) rest ≡ cond b (Some o) (cond b (Some (path_in e.1)) rest)) [
+      | true ↦
+          refl
+      | false ↦ refl
+    ]
     ∙ ap (λ (a : List ℕ). cond (same_name a name) (Some o) (cond (same_name q name) (Some (path_in e.1)) rest)) same
 
 -- behind an entry of another name
-put_later : (e : String Global × Option (Rc Path Global)) (k : String Global) (o : Option Path) (rest : Option (Option Path)) (name : List ℕ) → string_eq k e.0 ≡ false
-    → cond (same_name (string_bytes e.0) name) (Some (path_in e.1)) (cond (same_name (string_bytes k) name) (Some o) rest)
-    ≡ cond (same_name (string_bytes k) name) (Some o) (cond (same_name (string_bytes e.0) name) (Some (path_in e.1)) rest)
+put_later : (e : String Global × Option (Rc Path Global)) (k : String Global) (o : Option Path)
+    (rest : Option (Option Path)) (name : List ℕ) → string_eq k e.0 ≡ false
+    → cond (same_name (string_bytes e.0) name) (Some (path_in e.1))
+    (cond (same_name (string_bytes k) name) (Some o) rest)
+    ≡ cond (same_name (string_bytes k) name) (Some o)
+    (cond (same_name (string_bytes e.0) name) (Some (path_in e.1)) rest)
 put_later e k o rest name h =
     let q = string_bytes e.0 in
     let key = same_name (string_bytes k) name in
@@ -59,30 +73,39 @@ put_later e k o rest name h =
           let other : key ≡ false = ap (same_name (string_bytes k)) (sym (same_is q name g)) ∙ h in
           ap (λ (b : Bool). cond (same_name q name) (Some (path_in e.1)) (cond b (Some o) rest)) other
           ∙ ap (λ (b : Bool). cond b (Some (path_in e.1)) rest) g
-          ∙ sym (ap (λ (b : Bool). cond b (Some o) (cond (same_name q name) (Some (path_in e.1)) rest)) other ∙ ap (λ (b : Bool). cond b (Some (path_in e.1)) rest) g)
+          ∙ sym (ap (λ (b : Bool). cond b (Some o) (cond (same_name q name) (Some (path_in e.1)) rest)) other
+          ∙ ap (λ (b : Bool). cond b (Some (path_in e.1)) rest) g)
       | inr g ↦
           ap (λ (b : Bool). cond b (Some (path_in e.1)) (cond key (Some o) rest)) g
           ∙ sym (ap (λ (b : Bool). cond key (Some o) (cond b (Some (path_in e.1)) rest)) g)
     ]
 
 -- after one more
-pub change_put : (es : Entered) (k : String Global) (o : Option (Rc Path Global)) (name : List ℕ) → change_at (changes_in (insert_entry string_eq es k o)) name ≡ cond (same_name (string_bytes k) name) (Some (path_in o)) (change_at (changes_in es) name)
+pub change_put : (es : Entered) (k : String Global) (o : Option (Rc Path Global)) (name : List ℕ) →
+    change_at (changes_in (insert_entry string_eq es k o)) name
+    ≡ cond (same_name (string_bytes k) name) (Some (path_in o)) (change_at (changes_in es) name)
 change_put [] k o name = refl
 change_put (e ∷ es) k o name =
     let rest = change_at (changes_in es) name in
     elim (cases_Bool (string_eq k e.0)) [
       | inl h ↦
-          ap (λ (b : Bool). change_at (changes_in (if b then (e.0, o) ∷ es else e ∷ insert_entry string_eq es k o)) name) h
+          ap (λ (b : Bool). change_at (changes_in (if b then (e.0, o) ∷ es else e ∷ insert_entry string_eq es k o))
+          name) h
           ∙ put_here e k (path_in o) rest name h
       | inr h ↦
-          ap (λ (b : Bool). change_at (changes_in (if b then (e.0, o) ∷ es else e ∷ insert_entry string_eq es k o)) name) h
-          ∙ ap (λ (t : Option (Option Path)). cond (same_name (string_bytes e.0) name) (Some (path_in e.1)) t) (change_put es k o name)
+          ap (λ (b : Bool). change_at (changes_in (if b then (e.0, o) ∷ es else e ∷ insert_entry string_eq es k o))
+          name) h
+          ∙ ap (λ (t : Option (Option Path)). cond (same_name (string_bytes e.0) name) (Some (path_in e.1)) t)
+          (change_put es k o name)
           ∙ put_later e k (path_in o) rest name h
     ]
 
 -- of an entry that was looked up
-pub found_at : (es : Entered) (name : List ℕ) (x y : Option (Rc Path Global)) → Some x ≡ lookup (asks name) es → x ≡ y → change_at (changes_in es) name ≡ Some (path_in y)
-found_at es name x y at same = change_found es name ∙ ap (option_map path_in) (sym at) ∙ ap (λ (o : Option (Rc Path Global)). Some (path_in o)) same
+pub found_at : (es : Entered) (name : List ℕ) (x y : Option (Rc Path Global)) → Some x ≡ lookup (asks name) es → x ≡ y →
+    change_at (changes_in es) name ≡ Some (path_in y)
+found_at es name x y at same =
+    change_found es name ∙ ap (option_map path_in) (sym at)
+    ∙ ap (λ (o : Option (Rc Path Global)). Some (path_in o)) same
 
 pub not_found : (es : Entered) (name : List ℕ) → None ≡ lookup (asks name) es → change_at (changes_in es) name ≡ None
 not_found es name at = change_found es name ∙ ap (option_map path_in) (sym at)
@@ -93,37 +116,44 @@ taken_by None false h = absurd cc
 taken_by (Some p) true h = absurd cc
 taken_by (Some p) false h = refl
 
-pub taken_from : (es : Entered) (name : List ℕ) (x : Option (Rc Path Global)) (r : Bool) → Some x ≡ lookup (asks name) es → is_some x ≡ not r → r ≡ drops (change_at (changes_in es) name)
+pub taken_from : (es : Entered) (name : List ℕ) (x : Option (Rc Path Global)) (r : Bool) →
+    Some x ≡ lookup (asks name) es → is_some x ≡ not r → r ≡ drops (change_at (changes_in es) name)
 taken_from es name x r at h = taken_by x r h ∙ sym (ap drops (found_at es name x x at refl))
 
 -- ---- names
 
 -- one in front, by whether it has the name
-front_other : (i : Item) (L : List Item) (name : List ℕ) → same_name i.name name ≡ false → has_name (i ∷ L) name ≡ has_name L name
+front_other : (i : Item) (L : List Item) (name : List ℕ) → same_name i.name name ≡ false →
+    has_name (i ∷ L) name ≡ has_name L name
 front_other i L name h = ap (λ (b : Bool). is_some (cond b (Some i.path) (path_named (all_named L) name))) h
 
 front_here : (i : Item) (L : List Item) (name : List ℕ) → same_name i.name name ≡ true → has_name (i ∷ L) name ≡ true
 front_here i L name h = ap (λ (b : Bool). is_some (cond b (Some i.path) (path_named (all_named L) name))) h
 
-one_other : (c : Option (Option Path)) (i : Item) (L : List Item) (name : List ℕ) → same_name i.name name ≡ false → has_name (under_change c i ++ L) name ≡ has_name L name
+one_other : (c : Option (Option Path)) (i : Item) (L : List Item) (name : List ℕ) → same_name i.name name ≡ false →
+    has_name (under_change c i ++ L) name ≡ has_name L name
 one_other None i L name h = front_other i L name h
 one_other (Some None) i L name h = refl
 one_other (Some (Some p)) i L name h = front_other (record { name = i.name; path = p; made = None }) L name h
 
-one_here : (c : Option (Option Path)) (i : Item) (L : List Item) (name : List ℕ) → same_name i.name name ≡ true → (drops c ≡ true → has_name L name ≡ false) → has_name (under_change c i ++ L) name ≡ cond (drops c) false true
+one_here : (c : Option (Option Path)) (i : Item) (L : List Item) (name : List ℕ) → same_name i.name name ≡ true →
+    (drops c ≡ true → has_name L name ≡ false) → has_name (under_change c i ++ L) name ≡ cond (drops c) false true
 one_here None i L name h f = front_here i L name h
 one_here (Some None) i L name h f = f refl
 one_here (Some (Some p)) i L name h f = front_here (record { name = i.name; path = p; made = None }) L name h
 
-pub laid_has : (cs : Changes) (is : List Item) (name : List ℕ) → has_name (under_changes cs is) name ≡ cond (drops (change_at cs name)) false (has_name is name)
-laid_has cs [] name = elim (drops (change_at cs name)) as (λ b. false ≡ cond b false false) [ true ↦ refl | false ↦ refl ]
+pub laid_has : (cs : Changes) (is : List Item) (name : List ℕ) →
+    has_name (under_changes cs is) name ≡ cond (drops (change_at cs name)) false (has_name is name)
+laid_has cs [] name =
+    elim (drops (change_at cs name)) as (λ b. false ≡ cond b false false) [ true ↦ refl | false ↦ refl ]
 laid_has cs (i ∷ is) name =
     let c = change_at cs i.name in
     let L = under_changes cs is in
     elim (cases_Bool (same_name i.name name)) [
       | inl h ↦
           let same : c ≡ change_at cs name = ap (change_at cs) (same_is i.name name h) in
-          one_here c i L name h (λ on. laid_has cs is name ∙ ap (λ (b : Bool). cond b false (has_name is name)) (ap drops (sym same) ∙ on))
+          one_here c i L name h (λ on. laid_has cs is name
+          ∙ ap (λ (b : Bool). cond b false (has_name is name)) (ap drops (sym same) ∙ on))
           ∙ ap (λ (d : Option (Option Path)). cond (drops d) false true) same
           ∙ ap (λ (b : Bool). cond (drops (change_at cs name)) false b) (sym (front_here i is name h))
       | inr h ↦
@@ -132,20 +162,27 @@ laid_has cs (i ∷ is) name =
     ]
 
 -- of two lists
-pub both_have : (xs ys : List Item) (name : List ℕ) → has_name (xs ++ ys) name ≡ cond (has_name ys name) true (has_name xs name)
+pub both_have : (xs ys : List Item) (name : List ℕ) →
+    has_name (xs ++ ys) name ≡ cond (has_name ys name) true (has_name xs name)
 both_have [] ys name = elim (has_name ys name) as (λ b. b ≡ cond b true false) [ true ↦ refl | false ↦ refl ]
 both_have (x ∷ xs) ys name =
     elim (cases_Bool (same_name x.name name)) [
       | inl h ↦
-          front_here x (xs ++ ys) name h ∙ elim (has_name ys name) as (λ b. true ≡ cond b true true) [ true ↦ refl | false ↦ refl ]
+          front_here x (xs ++ ys) name h
+          ∙ elim (has_name ys name) as (λ b. true ≡ cond b true true) [ true ↦ refl | false ↦ refl ]
           ∙ ap (λ (b : Bool). cond (has_name ys name) true b) (sym (front_here x xs name h))
       | inr h ↦
-          front_other x (xs ++ ys) name h ∙ both_have xs ys name ∙ ap (λ (b : Bool). cond (has_name ys name) true b) (sym (front_other x xs name h))
+          front_other x (xs ++ ys) name h ∙ both_have xs ys name
+          ∙ ap (λ (b : Bool). cond (has_name ys name) true b) (sym (front_other x xs name h))
     ]
 
-pub has_by : (cs : Changes) (is ys : List Item) (name : List ℕ) (a d b : Bool) → a ≡ has_name ys name → d ≡ drops (change_at cs name) → b ≡ has_name is name → cond a true (cond d false b) ≡ has_name (under_changes cs is ++ ys) name
+pub has_by : (cs : Changes) (is ys : List Item) (name : List ℕ) (a d b : Bool) → a ≡ has_name ys name →
+    d ≡ drops (change_at cs name) → b ≡ has_name is name →
+    cond a true (cond d false b) ≡ has_name (under_changes cs is ++ ys) name
 has_by cs is ys name a d b is_a is_d is_b =
-    (λ i. cond (is_a i) true (cond (is_d i) false (is_b i))) ∙ sym (both_have (under_changes cs is) ys name ∙ ap (λ (t : Bool). cond (has_name ys name) true t) (laid_has cs is name))
+    (λ i. cond (is_a i) true (cond (is_d i) false (is_b i)))
+    ∙ sym (both_have (under_changes cs is) ys name
+    ∙ ap (λ (t : Bool). cond (has_name ys name) true t) (laid_has cs is name))
 
 pub second_absent : (xs ys : List Item) (name : List ℕ) → absent (xs ++ ys) name → absent ys name
 second_absent [] ys name h = h
@@ -156,15 +193,18 @@ first_differ [] ys d = tt
 first_differ (x ∷ xs) ys d = (first_free xs ys x.name d.0, first_differ xs ys d.1) where
   first_free : (us vs : List Item) (name : List ℕ) → absent (us ++ vs) name → absent us name
   first_free [] vs name h = refl
-  first_free (u ∷ us) vs name h = let r = not_here u (us ++ vs) name h in front_other u us name r.0 ∙ first_free us vs name r.1
+  first_free (u ∷ us) vs name h = let r =
+      not_here u (us ++ vs) name h in front_other u us name r.0 ∙ first_free us vs name r.1
 
 -- a name of the second is none of the first
-pub first_absent : (xs ys : List Item) (name : List ℕ) → NamesDiffer (all_named (xs ++ ys)) → has_name ys name ≡ true → absent xs name
+pub first_absent : (xs ys : List Item) (name : List ℕ) → NamesDiffer (all_named (xs ++ ys)) → has_name ys name ≡ true →
+    absent xs name
 first_absent [] ys name d there = refl
 first_absent (x ∷ xs) ys name d there =
     elim (cases_Bool (same_name x.name name)) [
       | inl h ↦
-          let gone : has_name ys name ≡ false = ap (has_name ys) (sym (same_is x.name name h)) ∙ second_absent xs ys x.name d.0 in
+          let gone : has_name ys name ≡ false =
+          ap (has_name ys) (sym (same_is x.name name h)) ∙ second_absent xs ys x.name d.0 in
           let never : true ≡ false = sym there ∙ gone in
           absurd cc
       | inr h ↦ front_other x xs name h ∙ first_absent xs ys name d.1 there
@@ -175,46 +215,62 @@ first_absent (x ∷ xs) ys name d there =
 set_other : (name : List ℕ) (path : Path) (i : Item) → same_name i.name name ≡ false → set_item name path None i ≡ i
 set_other name path i h = ap (λ (b : Bool). if b then record { name = i.name; path = path; made = None } else i) h
 
-set_here : (name : List ℕ) (path : Path) (i : Item) → same_name i.name name ≡ true → set_item name path None i ≡ record { name = i.name; path = path; made = None }
+set_here : (name : List ℕ) (path : Path) (i : Item) → same_name i.name name ≡ true →
+    set_item name path None i ≡ record { name = i.name; path = path; made = None }
 set_here name path i h = ap (λ (b : Bool). if b then record { name = i.name; path = path; made = None } else i) h
 
-one_set_here : (name : List ℕ) (path : Path) (c : Option (Option Path)) (i : Item) → same_name i.name name ≡ true → drops c ≡ false → map (set_item name path None) (under_change c i) ≡ record { name = i.name; path = path; made = None } ∷ []
+one_set_here : (name : List ℕ) (path : Path) (c : Option (Option Path)) (i : Item) → same_name i.name name ≡ true →
+    drops c ≡ false → map (set_item name path None) (under_change c i)
+    ≡ record { name = i.name; path = path; made = None } ∷ []
 one_set_here name path None i h stays = ap (λ (j : Item). j ∷ []) (set_here name path i h)
 one_set_here name path (Some None) i h stays = let never : true ≡ false = stays in absurd cc
-one_set_here name path (Some (Some p)) i h stays = ap (λ (j : Item). j ∷ []) (set_here name path (record { name = i.name; path = p; made = None }) h)
+one_set_here name path (Some (Some p)) i h stays =
+    ap (λ (j : Item). j ∷ []) (set_here name path (record { name = i.name; path = p; made = None }) h)
 
-one_set_other : (name : List ℕ) (path : Path) (c : Option (Option Path)) (i : Item) → same_name i.name name ≡ false → map (set_item name path None) (under_change c i) ≡ under_change c i
+one_set_other : (name : List ℕ) (path : Path) (c : Option (Option Path)) (i : Item) → same_name i.name name ≡ false →
+    map (set_item name path None) (under_change c i) ≡ under_change c i
 one_set_other name path None i h = ap (λ (j : Item). j ∷ []) (set_other name path i h)
 one_set_other name path (Some None) i h = refl
-one_set_other name path (Some (Some p)) i h = ap (λ (j : Item). j ∷ []) (set_other name path (record { name = i.name; path = p; made = None }) h)
+one_set_other name path (Some (Some p)) i h =
+    ap (λ (j : Item). j ∷ []) (set_other name path (record { name = i.name; path = p; made = None }) h)
 
 abbrev pub Puts : Changes → List ℕ → Option Path → Changes → Type 0
 Puts cs name o ds = (q : List ℕ) → change_at ds q ≡ cond (same_name name q) (Some o) (change_at cs q)
 
-pub puts_one : (es new : Entered) (k : String Global) (o : Option (Rc Path Global)) (name : List ℕ) (p : Option Path) → new ≡ insert_entry string_eq es k o → string_bytes k ≡ name → path_in o ≡ p → Puts (changes_in es) name p (changes_in new)
+pub puts_one : (es new : Entered) (k : String Global) (o : Option (Rc Path Global)) (name : List ℕ) (p : Option Path) →
+    new ≡ insert_entry string_eq es k o → string_bytes k ≡ name → path_in o ≡ p →
+    Puts (changes_in es) name p (changes_in new)
 puts_one es new k o name p is key path q =
-    ap (λ (fs : Entered). change_at (changes_in fs) q) is ∙ change_put es k o q ∙ (λ i. cond (same_name (key i) q) (Some (path i)) (change_at (changes_in es) q))
+    ap (λ (fs : Entered). change_at (changes_in fs) q) is ∙ change_put es k o q
+    ∙ (λ i. cond (same_name (key i) q) (Some (path i)) (change_at (changes_in es) q))
 
-put_one_here : (cs ds : Changes) (name q : List ℕ) (o : Option Path) → Puts cs name o ds → same_name q name ≡ true → change_at ds q ≡ Some o
+put_one_here : (cs ds : Changes) (name q : List ℕ) (o : Option Path) → Puts cs name o ds → same_name q name ≡ true →
+    change_at ds q ≡ Some o
 put_one_here cs ds name q o puts h = puts q ∙ ap (λ (b : Bool). cond b (Some o) (change_at cs q)) (same_flip name q ∙ h)
 
-put_one_other : (cs ds : Changes) (name q : List ℕ) (o : Option Path) → Puts cs name o ds → same_name q name ≡ false → change_at ds q ≡ change_at cs q
-put_one_other cs ds name q o puts h = puts q ∙ ap (λ (b : Bool). cond b (Some o) (change_at cs q)) (same_flip name q ∙ h)
+put_one_other : (cs ds : Changes) (name q : List ℕ) (o : Option Path) → Puts cs name o ds → same_name q name ≡ false →
+    change_at ds q ≡ change_at cs q
+put_one_other cs ds name q o puts h =
+    puts q ∙ ap (λ (b : Bool). cond b (Some o) (change_at cs q)) (same_flip name q ∙ h)
 
-pub laid_set : (cs ds : Changes) (name : List ℕ) (path : Path) (is : List Item) → Puts cs name (Some path) ds → drops (change_at cs name) ≡ false → under_changes ds is ≡ map (set_item name path None) (under_changes cs is)
+pub laid_set : (cs ds : Changes) (name : List ℕ) (path : Path) (is : List Item) → Puts cs name (Some path) ds →
+    drops (change_at cs name) ≡ false → under_changes ds is ≡ map (set_item name path None) (under_changes cs is)
 laid_set cs ds name path [] puts stays = refl
 laid_set cs ds name path (i ∷ is) puts stays =
-    let one : under_change (change_at ds i.name) i ≡ map (set_item name path None) (under_change (change_at cs i.name) i) =
+    let one : under_change (change_at ds i.name) i ≡ map (set_item name path None)
+    (under_change (change_at cs i.name) i) =
     elim (cases_Bool (same_name i.name name)) [
       | inl h ↦
           ap (λ (d : Option (Option Path)). under_change d i) (put_one_here cs ds name i.name (Some path) puts h)
-          ∙ sym (one_set_here name path (change_at cs i.name) i h (ap (λ (q : List ℕ). drops (change_at cs q)) (same_is i.name name h) ∙ stays))
+          ∙ sym (one_set_here name path (change_at cs i.name) i h
+          (ap (λ (q : List ℕ). drops (change_at cs q)) (same_is i.name name h) ∙ stays))
       | inr h ↦
           ap (λ (d : Option (Option Path)). under_change d i) (put_one_other cs ds name i.name (Some path) puts h)
           ∙ sym (one_set_other name path (change_at cs i.name) i h)
     ] in
     ap (λ (js : List Item). js ++ under_changes ds is) one
-    ∙ ap (λ (js : List Item). map (set_item name path None) (under_change (change_at cs i.name) i) ++ js) (laid_set cs ds name path is puts stays)
+    ∙ ap (λ (js : List Item). map (set_item name path None) (under_change (change_at cs i.name) i) ++ js)
+    (laid_set cs ds name path is puts stays)
     ∙ sym (map-append (set_item name path None) (under_change (change_at cs i.name) i) (under_changes cs is))
 
 -- the items of other names
@@ -227,17 +283,20 @@ drop_front_here name i h = ap (λ (b : Bool). cond (not b) (i ∷ []) []) h
 drop_front_other : (name : List ℕ) (i : Item) → same_name i.name name ≡ false → others name (i ∷ []) ≡ i ∷ []
 drop_front_other name i h = ap (λ (b : Bool). cond (not b) (i ∷ []) []) h
 
-one_dropped_here : (name : List ℕ) (c : Option (Option Path)) (i : Item) → same_name i.name name ≡ true → others name (under_change c i) ≡ []
+one_dropped_here : (name : List ℕ) (c : Option (Option Path)) (i : Item) → same_name i.name name ≡ true →
+    others name (under_change c i) ≡ []
 one_dropped_here name None i h = drop_front_here name i h
 one_dropped_here name (Some None) i h = refl
 one_dropped_here name (Some (Some p)) i h = drop_front_here name (record { name = i.name; path = p; made = None }) h
 
-one_dropped_other : (name : List ℕ) (c : Option (Option Path)) (i : Item) → same_name i.name name ≡ false → others name (under_change c i) ≡ under_change c i
+one_dropped_other : (name : List ℕ) (c : Option (Option Path)) (i : Item) → same_name i.name name ≡ false →
+    others name (under_change c i) ≡ under_change c i
 one_dropped_other name None i h = drop_front_other name i h
 one_dropped_other name (Some None) i h = refl
 one_dropped_other name (Some (Some p)) i h = drop_front_other name (record { name = i.name; path = p; made = None }) h
 
-pub laid_drop : (cs ds : Changes) (name : List ℕ) (is : List Item) → Puts cs name None ds → under_changes ds is ≡ others name (under_changes cs is)
+pub laid_drop : (cs ds : Changes) (name : List ℕ) (is : List Item) → Puts cs name None ds →
+    under_changes ds is ≡ others name (under_changes cs is)
 laid_drop cs ds name [] puts = refl
 laid_drop cs ds name (i ∷ is) puts =
     let one : under_change (change_at ds i.name) i ≡ others name (under_change (change_at cs i.name) i) =
@@ -251,29 +310,39 @@ laid_drop cs ds name (i ∷ is) puts =
     ] in
     ap (λ (js : List Item). js ++ under_changes ds is) one
     ∙ ap (λ (js : List Item). others name (under_change (change_at cs i.name) i) ++ js) (laid_drop cs ds name is puts)
-    ∙ sym (filter-append (λ (j : Item). not (same_name j.name name)) (under_change (change_at cs i.name) i) (under_changes cs is))
+    ∙ sym (filter-append (λ (j : Item). not (same_name j.name name)) (under_change (change_at cs i.name) i)
+    (under_changes cs is))
 
 -- ---- a list under changes, and new ones behind
 
 module _ (name : List ℕ) (path : Path) (xs ys : List Item) where
-  pub set_behind : NamesDiffer (all_named (xs ++ ys)) → has_name ys name ≡ true → xs ++ map (set_item name path None) ys ≡ map (set_item name path None) (xs ++ ys)
+  pub set_behind : NamesDiffer (all_named (xs ++ ys)) → has_name ys name ≡ true →
+      xs ++ map (set_item name path None) ys ≡ map (set_item name path None) (xs ++ ys)
   set_behind d there =
-      ap (λ (js : List Item). js ++ map (set_item name path None) ys) (sym (sets_none xs name path None (first_absent xs ys name d there)))
+      ap (λ (js : List Item). js ++ map (set_item name path None) ys)
+      (sym (sets_none xs name path None (first_absent xs ys name d there)))
       ∙ sym (map-append (set_item name path None) xs ys)
 
-  pub set_before : (zs : List Item) → zs ≡ map (set_item name path None) xs → absent ys name → zs ++ ys ≡ map (set_item name path None) (xs ++ ys)
+  pub set_before : (zs : List Item) → zs ≡ map (set_item name path None) xs → absent ys name →
+      zs ++ ys ≡ map (set_item name path None) (xs ++ ys)
   set_before zs e free =
       ap (λ (js : List Item). js ++ ys) e
       ∙ ap (λ (js : List Item). map (set_item name path None) xs ++ js) (sym (sets_none ys name path None free))
       ∙ sym (map-append (set_item name path None) xs ys)
 
-pub set_if_ok : {A E : Type 0} (cs : Changes) (ys zs : List Item) (name : List ℕ) (path : Path) (r : Result A E) → OnOk r (zs ≡ map (set_item name path None) ys) → has_name ys name ≡ true
-    → OnOk r ((is : List Item) → NamesDiffer (all_named (under_changes cs is ++ ys)) → has_name (under_changes cs is ++ ys) name ≡ true → under_changes cs is ++ zs ≡ map (set_item name path None) (under_changes cs is ++ ys))
-set_if_ok cs ys zs name path (Ok a) same there = λ is d on. ap (λ (js : List Item). under_changes cs is ++ js) same ∙ set_behind name path (under_changes cs is) ys d there
+pub set_if_ok : {A E : Type 0} (cs : Changes) (ys zs : List Item) (name : List ℕ) (path : Path) (r : Result A E) →
+    OnOk r (zs ≡ map (set_item name path None) ys) → has_name ys name ≡ true
+    → OnOk r ((is : List Item) → NamesDiffer (all_named (under_changes cs is ++ ys)) →
+    has_name (under_changes cs is ++ ys) name ≡ true →
+    under_changes cs is ++ zs ≡ map (set_item name path None) (under_changes cs is ++ ys))
+set_if_ok cs ys zs name path (Ok a) same there =
+    λ is d on. ap (λ (js : List Item). under_changes cs is ++ js) same
+    ∙ set_behind name path (under_changes cs is) ys d there
 set_if_ok cs ys zs name path (Err e) same there = tt
 
 module _ (name : List ℕ) (xs ys : List Item) where
-  pub drop_behind : NamesDiffer (all_named (xs ++ ys)) → has_name ys name ≡ true → xs ++ others name ys ≡ others name (xs ++ ys)
+  pub drop_behind : NamesDiffer (all_named (xs ++ ys)) → has_name ys name ≡ true →
+      xs ++ others name ys ≡ others name (xs ++ ys)
   drop_behind d there =
       ap (λ (js : List Item). js ++ others name ys) (sym (keeps_all xs name (first_absent xs ys name d there)))
       ∙ sym (filter-append (λ (j : Item). not (same_name j.name name)) xs ys)
@@ -285,12 +354,16 @@ module _ (name : List ℕ) (xs ys : List Item) where
       ∙ sym (filter-append (λ (j : Item). not (same_name j.name name)) xs ys)
 
 -- a path that is there, and not among the new ones, is not taken away
-pub not_dropped : (cs : Changes) (is ys : List Item) (name : List ℕ) → has_name (under_changes cs is ++ ys) name ≡ true → has_name ys name ≡ false → drops (change_at cs name) ≡ false
+pub not_dropped : (cs : Changes) (is ys : List Item) (name : List ℕ) →
+    has_name (under_changes cs is ++ ys) name ≡ true → has_name ys name ≡ false → drops (change_at cs name) ≡ false
 not_dropped cs is ys name there free =
-    let on : has_name (under_changes cs is) name ≡ true = sym (ap (λ (b : Bool). cond b true (has_name (under_changes cs is) name)) free) ∙ sym (both_have (under_changes cs is) ys name) ∙ there in
+    let on : has_name (under_changes cs is) name ≡ true =
+    sym (ap (λ (b : Bool). cond b true (has_name (under_changes cs is) name)) free)
+    ∙ sym (both_have (under_changes cs is) ys name) ∙ there in
     elim (cases_Bool (drops (change_at cs name))) [
       | inl h ↦
-          let never : true ≡ false = sym on ∙ laid_has cs is name ∙ ap (λ (b : Bool). cond b false (has_name is name)) h in
+          let never : true ≡ false =
+          sym on ∙ laid_has cs is name ∙ ap (λ (b : Bool). cond b false (has_name is name)) h in
           absurd cc
       | inr h ↦ h
     ]
@@ -301,12 +374,16 @@ pub laid_none : (is : List Item) → under_changes [] is ≡ is
 laid_none [] = refl
 laid_none (i ∷ is) = ap (λ (js : List Item). i ∷ js) (laid_none is)
 
-laid_append : (cs : Changes) (is js : List Item) → under_changes cs (is ++ js) ≡ under_changes cs is ++ under_changes cs js
+laid_append : (cs : Changes) (is js : List Item) →
+    under_changes cs (is ++ js) ≡ under_changes cs is ++ under_changes cs js
 laid_append cs [] js = refl
-laid_append cs (i ∷ is) js = ap (λ (ks : List Item). under_change (change_at cs i.name) i ++ ks) (laid_append cs is js) ∙ sym (append_assoc (under_change (change_at cs i.name) i) (under_changes cs is) (under_changes cs js))
+laid_append cs (i ∷ is) js =
+    ap (λ (ks : List Item). under_change (change_at cs i.name) i ++ ks) (laid_append cs is js)
+    ∙ sym (append_assoc (under_change (change_at cs i.name) i) (under_changes cs is) (under_changes cs js))
 
 -- a list by what is before a place, there and behind
-parted : (is : List Item) (k : ℕ) (i : Item) → slice_get is k ≡ Some i → (rest : List Item) × (is ≡ take k is ++ i ∷ rest)
+parted : (is : List Item) (k : ℕ) (i : Item) → slice_get is k ≡ Some i → (rest : List Item)
+    × (is ≡ take k is ++ i ∷ rest)
 parted [] k i at = let never : ⊥ = cc in absurd never
 parted (j ∷ is) zero i at = let same : j ≡ i = cc in (is, ap (λ (x : Item). x ∷ is) same)
 parted (j ∷ is) (suc k) i at = let p = parted is k i at in (p.0, ap (λ (xs : List Item). j ∷ xs) p.1)
@@ -320,7 +397,8 @@ before_absent xs zs j d =
 laid_name : (c : Option (Option Path)) (i j : Item) → under_change c i ≡ j ∷ [] → j.name ≡ i.name
 laid_name None i j e = let same : i ≡ j = cc in ap (λ (x : Item). x.name) (sym same)
 laid_name (Some None) i j e = absurd cc
-laid_name (Some (Some p)) i j e = let same : record { name = i.name; path = p; made = None } ≡ j = cc in ap (λ (x : Item). x.name) (sym same)
+laid_name (Some (Some p)) i j e = let same : record { name = i.name; path = p; made = None } ≡ j =
+    cc in ap (λ (x : Item). x.name) (sym same)
 
 module _ (cs : Changes) (is to : List Item) (k : ℕ) (i : Item) (at : slice_get is k ≡ Some i) where
   abbrev done : List Item
@@ -329,32 +407,42 @@ module _ (cs : Changes) (is to : List Item) (k : ℕ) (i : Item) (at : slice_get
   pub laid_more : to ++ under_changes cs (take (k + 1) is) ≡ done ++ under_change (change_at cs i.name) i
   laid_more =
       ap (λ (js : List Item). to ++ under_changes cs js) (take_more_items is k i at)
-      ∙ ap (λ (js : List Item). to ++ js) (laid_append cs (take k is) (i ∷ []) ∙ ap (λ (js : List Item). under_changes cs (take k is) ++ js) (append-nil (under_change (change_at cs i.name) i)))
+      ∙ ap (λ (js : List Item). to ++ js) (laid_append cs (take k is) (i ∷ [])
+      ∙ ap (λ (js : List Item). under_changes cs (take k is) ++ js) (append-nil (under_change (change_at cs i.name) i)))
       ∙ sym (append_assoc to (under_changes cs (take k is)) (under_change (change_at cs i.name) i))
 
-  laid_free : (j : Item) → under_change (change_at cs i.name) i ≡ j ∷ [] → NamesDiffer (all_named (to ++ under_changes cs is)) → absent done j.name
+  laid_free : (j : Item) → under_change (change_at cs i.name) i ≡ j ∷ [] →
+      NamesDiffer (all_named (to ++ under_changes cs is)) → absent done j.name
   laid_free j e d =
       let p = parted is k i at in
       let all : to ++ under_changes cs is ≡ done ++ j ∷ under_changes cs p.0 =
       ap (λ (js : List Item). to ++ under_changes cs js) p.1
-      ∙ ap (λ (js : List Item). to ++ js) (laid_append cs (take k is) (i ∷ p.0) ∙ ap (λ (js : List Item). under_changes cs (take k is) ++ (js ++ under_changes cs p.0)) e)
+      ∙ ap (λ (js : List Item). to ++ js) (laid_append cs (take k is) (i ∷ p.0)
+      ∙ ap (λ (js : List Item). under_changes cs (take k is) ++ (js ++ under_changes cs p.0)) e)
       ∙ sym (append_assoc to (under_changes cs (take k is)) (j ∷ under_changes cs p.0)) in
       before_absent done (under_changes cs p.0) j (subst (λ (js : List Item). NamesDiffer (all_named js)) all d)
 
   -- one more is put where none has its name
-  pub put_free : (now : List Item) (n : NamedPath) (j : Item) → now ≡ done → under_change (change_at cs i.name) (item_of i.name n) ≡ j ∷ [] → item_of i.name n ≡ i → NamesDiffer (all_named (to ++ under_changes cs is)) → absent now i.name
+  pub put_free : (now : List Item) (n : NamedPath) (j : Item) → now ≡ done →
+      under_change (change_at cs i.name) (item_of i.name n) ≡ j ∷ [] → item_of i.name n ≡ i →
+      NamesDiffer (all_named (to ++ under_changes cs is)) → absent now i.name
   put_free now n j so_far one same d =
-      let e : under_change (change_at cs i.name) i ≡ j ∷ [] = ap (under_change (change_at cs i.name)) (sym same) ∙ one in
-      ap (λ (js : List Item). has_name js i.name) so_far ∙ ap (λ (a : List ℕ). has_name done a) (sym (laid_name (change_at cs i.name) i j e)) ∙ laid_free j e d
+      let e : under_change (change_at cs i.name) i ≡ j ∷ [] =
+      ap (under_change (change_at cs i.name)) (sym same) ∙ one in
+      ap (λ (js : List Item). has_name js i.name) so_far
+      ∙ ap (λ (a : List ℕ). has_name done a) (sym (laid_name (change_at cs i.name) i j e)) ∙ laid_free j e d
 
 -- ---- nothing, and two lists, one behind the other
 
-pub no_changes : (es : Entered) (added is : List Item) → es ≡ [] → added ≡ [] → under_changes (changes_in es) is ++ added ≡ is
+pub no_changes : (es : Entered) (added is : List Item) → es ≡ [] → added ≡ [] →
+    under_changes (changes_in es) is ++ added ≡ is
 no_changes es added is none empty =
     (λ i. under_changes (changes_in (none i)) is ++ empty i) ∙ append-nil (under_changes [] is) ∙ laid_none is
 
 pub behind_none : (es : Entered) (xs ys : List Item) → es ≡ [] → xs ++ under_changes (changes_in es) ys ≡ xs ++ ys
-behind_none es xs ys none = ap (λ (fs : Entered). xs ++ under_changes (changes_in fs) ys) none ∙ ap (λ (js : List Item). xs ++ js) (laid_none ys)
+behind_none es xs ys none =
+    ap (λ (fs : Entered). xs ++ under_changes (changes_in fs) ys) none
+    ∙ ap (λ (js : List Item). xs ++ js) (laid_none ys)
 
 -- what a list begins with, with more behind
 pub take_first : (xs ys zs : List Item) → zs ≡ xs ++ ys → take (length xs) zs ≡ xs

@@ -1,5 +1,6 @@
 -- Putting what was made at its places.
-use Rattle.std.proofs.Common.{◌≡◌, ℕ, zero, suc, List, [], ◌∷◌, ◌++◌, length, slice_get, Option, Some, None, refl, sym, ap, ◌∙◌}
+use Rattle.std.proofs.Common.{◌≡◌, ℕ, zero, suc, List, [], ◌∷◌, ◌++◌, length, slice_get, Option, Some, None, refl, sym}
+use Rattle.std.proofs.Common.{ap, ◌∙◌}
 use Rattle.std.proofs.lemmas.List.{map-append}
 use Rattle.std.specs.Option.{option_to_list}
 use Rattle.std.specs.Map.{values_of}
@@ -11,25 +12,29 @@ use Rattle.olr_paths.specs.declared.listing.NamedPath.{NamedPath}
 use Rattle.olr_paths.proofs.NamedEntries.{Entries, made_of_named, item_of, items_of}
 
 -- at the end of a prefix
-pub put_behind : (xs : List Item) (i : Item) (ys : List Item) (path : Path) (made : Option Made) → put (xs ++ i ∷ ys) (length xs) path made ≡ xs ++ record { name = i.name; path = path; made = made } ∷ ys
+pub put_behind : (xs : List Item) (i : Item) (ys : List Item) (path : Path) (made : Option Made) →
+    put (xs ++ i ∷ ys) (length xs) path made ≡ xs ++ record { name = i.name; path = path; made = made } ∷ ys
 put_behind [] i ys path made = refl
 put_behind (x ∷ xs) i ys path made = ap (λ zs. x ∷ zs) (put_behind xs i ys path made)
 
 -- one more, behind the others, is put first
-pub all_put-push : (is : List Item) (ps : List Put) (p : Put) → all_put is (ps ++ p ∷ []) ≡ all_put (put is p.place p.path p.made) ps
+pub all_put-push : (is : List Item) (ps : List Put) (p : Put) →
+    all_put is (ps ++ p ∷ []) ≡ all_put (put is p.place p.path p.made) ps
 all_put-push is [] p = refl
 all_put-push is (q ∷ ps) p = ap (λ js. put js q.place q.path q.made) (all_put-push is ps p)
 
 -- ---- at the entries of a map
 
 -- the written value stands in place of what it was
-pub put_at : (es : Entries) (k : ℕ) (n : NamedPath) → items_of (set_value_at es k n) ≡ put (items_of es) k n.path.value (made_of_named n)
+pub put_at : (es : Entries) (k : ℕ) (n : NamedPath) →
+    items_of (set_value_at es k n) ≡ put (items_of es) k n.path.value (made_of_named n)
 put_at [] k n = refl
 put_at (e ∷ es) zero n = refl
 put_at (e ∷ es) (suc k) n = ap (λ (is : List Item). item_of e ∷ is) (put_at es k n)
 
 -- where there is no entry, nothing is put
-put_nowhere : (es : Entries) (k : ℕ) (path : Path) (made : Option Made) → None ≡ slice_get (values_of es) k → put (items_of es) k path made ≡ items_of es
+put_nowhere : (es : Entries) (k : ℕ) (path : Path) (made : Option Made) → None ≡ slice_get (values_of es) k →
+    put (items_of es) k path made ≡ items_of es
 put_nowhere [] k path made at = refl
 put_nowhere (e ∷ es) zero path made at = let never : ⊥ = cc in absurd never
 put_nowhere (e ∷ es) (suc k) path made at = ap (λ (is : List Item). item_of e ∷ is) (put_nowhere es k path made at)
@@ -37,17 +42,23 @@ put_nowhere (e ∷ es) (suc k) path made at = ap (λ (is : List Item). item_of e
 abbrev One : Type 0
 One = ℕ × NamedPath
 
-module _ (es : Entries) (k : ℕ) (n : NamedPath) (all rest : List One) (o : Option One) (last : all ≡ rest ++ option_to_list o) (is : o ≡ Some (k, n))
+module _ (es : Entries) (k : ℕ) (n : NamedPath) (all rest : List One) (o : Option One)
+    (last : all ≡ rest ++ option_to_list o) (is : o ≡ Some (k, n))
     (whole : List Item) (h : all_put (items_of es) (puts_of all) ≡ whole) where
   -- the last of those that are left, put first
   taken : all_put (put (items_of es) k n.path.value (made_of_named n)) (puts_of rest) ≡ whole
   taken =
       let parts : puts_of all ≡ puts_of rest ++ record { place = k; path = n.path.value; made = made_of_named n } ∷ [] =
-      ap puts_of last ∙ ap (λ (q : Option One). puts_of (rest ++ option_to_list q)) is ∙ map-append (λ (e : One). record { place = e.0; path = e.1.path.value; made = made_of_named e.1 }) rest ((k, n) ∷ []) in
-      sym (all_put-push (items_of es) (puts_of rest) (record { place = k; path = n.path.value; made = made_of_named n })) ∙ ap (all_put (items_of es)) (sym parts) ∙ h
+      ap puts_of last ∙ ap (λ (q : Option One). puts_of (rest ++ option_to_list q)) is
+      ∙ map-append (λ (e : One). record { place = e.0; path = e.1.path.value; made = made_of_named e.1 }) rest
+      ((k, n) ∷ []) in
+      sym (all_put-push (items_of es) (puts_of rest)
+      (record { place = k; path = n.path.value; made = made_of_named n })) ∙ ap (all_put (items_of es)) (sym parts) ∙ h
 
   pub placed : all_put (items_of (set_value_at es k n)) (puts_of rest) ≡ whole
   placed = ap (λ (js : List Item). all_put js (puts_of rest)) (put_at es k n) ∙ taken
 
   pub passed_by : None ≡ slice_get (values_of es) k → all_put (items_of es) (puts_of rest) ≡ whole
-  passed_by at = ap (λ (js : List Item). all_put js (puts_of rest)) (sym (put_nowhere es k n.path.value (made_of_named n) at)) ∙ taken
+  passed_by at =
+      ap (λ (js : List Item). all_put js (puts_of rest)) (sym (put_nowhere es k n.path.value (made_of_named n) at))
+      ∙ taken

@@ -1,11 +1,12 @@
 -- Membership in lists: by a test, and by a place.
-use Rattle.std.proofs.Common.{◌≡◌, ℕ, true, List, [], ◌∷◌, map, eqb, get_or, Contains, IsTrue, ◌↔◌, sym, ◌∙◌, subst, arith, inl, inr}
+use Rattle.std.proofs.Common.{◌≡◌, ℕ, true, List, [], ◌∷◌, map, eqb, get_or, Contains, IsTrue, ◌↔◌, sym, ◌∙◌, subst}
+use Rattle.std.proofs.Common.{arith, inl, inr}
 use Rattle.std.specs.List.{list_any}
 use Rattle.std.proofs.lemmas.Bool.{eq-eqb, eqb-true}
 use Rattle.std.proofs.lemmas.List.{get_or_default}
 use Rattle.std.proofs.lemmas.List.Folds.{Any-from_list_any, list_any_at}
 use Rattle.olr_spec.specs.Map.{has}
-use Rattle.olr_spec.proofs.LookLists.{Contains-here, Contains-later, Contains-cases}
+use Rattle.olr_spec.proofs.ListLemmas.{Contains-here, Contains-later, Contains-cases}
 
 pub has_from : (xs : List ℕ) (x : ℕ) → Contains xs x → has xs x ≡ true
 has_from xs x h = list_any_at (λ y. eqb y x) xs h.0 x h.1 (eq-eqb _ x h.2)
@@ -22,7 +23,8 @@ Contains-map f (y ∷ ys) x h = elim (Contains-cases y x ys h) [
   | inr c ↦ Contains-later (f y) (f x) (map f ys) (Contains-map f ys x c)
 ]
 
-pub Contains-unmap : {A B : Type 0} (f : A → B) (xs : List A) (y : B) → Contains (map f xs) y → (x : A) × Contains xs x × (f x ≡ y)
+pub Contains-unmap : {A B : Type 0} (f : A → B) (xs : List A) (y : B) → Contains (map f xs) y → (x : A) × Contains xs x
+    × (f x ≡ y)
 Contains-unmap f [] y h = absurd (let lt = h.1 in omega arith)
 Contains-unmap f (x ∷ xs) y h = elim (Contains-cases (f x) y (map f xs) h) [
   | inl e ↦ (x, Contains-here x xs, e)
@@ -35,5 +37,6 @@ shared ws xs = (
   (λ on. let f = Any-from_list_any (λ x. has ws x) xs on in
       let at : get_or xs f.0 f.1 ≡ f.1 = f.3 in
       (f.1, f.4, has_from xs f.1 (f.0, f.2, at))),
-  (λ h. let c = in_from xs h.0 h.2 in list_any_at (λ x. has ws x) xs c.0 h.0 c.1 (subst (λ (v : ℕ). has ws v ≡ true) (sym c.2) h.1)),
+  (λ h. let c = in_from xs h.0 h.2 in
+      list_any_at (λ x. has ws x) xs c.0 h.0 c.1 (subst (λ (v : ℕ). has ws v ≡ true) (sym c.2) h.1)),
 )

@@ -17,16 +17,22 @@ use Rattle.olr_refs.specs.declared.answer.Answer.{Answer}
 use Rattle.olr_refs.specs.declared.answer.Answer.TheVariants.{Points, Refused}
 use Rattle.olr_refs.specs.declared.answer.Refusal.{Refusal}
 
-pub spelled_points : (answer : Answer) (r : Reference) (text : Option (String Global)) (t : String Global) → answer ≡ Points r → text ≡ Some t → IsTextOf r (string_bytes t) → option_map string_bytes text ≡ result_ok (published_text (answer_of answer))
+pub spelled_points : (answer : Answer) (r : Reference) (text : Option (String Global)) (t : String Global) →
+    answer ≡ Points r → text ≡ Some t → IsTextOf r (string_bytes t) →
+    option_map string_bytes text ≡ result_ok (published_text (answer_of answer))
 spelled_points answer r text t is kept h =
-    ap (option_map string_bytes) kept ∙ ap Some h.1 ∙ sym (ap (λ (a : Answer). result_ok (published_text (answer_of a))) is)
+    ap (option_map string_bytes) kept ∙ ap Some h.1
+    ∙ sym (ap (λ (a : Answer). result_ok (published_text (answer_of a))) is)
 
-pub spelled_refused : (answer : Answer) (f : Refusal) (text : Option (String Global)) → answer ≡ Refused f → text ≡ None → option_map string_bytes text ≡ result_ok (published_text (answer_of answer))
-spelled_refused answer f text is kept = ap (option_map string_bytes) kept ∙ sym (ap (λ (a : Answer). result_ok (published_text (answer_of a))) is)
+pub spelled_refused : (answer : Answer) (f : Refusal) (text : Option (String Global)) → answer ≡ Refused f →
+    text ≡ None → option_map string_bytes text ≡ result_ok (published_text (answer_of answer))
+spelled_refused answer f text is kept =
+    ap (option_map string_bytes) kept ∙ sym (ap (λ (a : Answer). result_ok (published_text (answer_of a))) is)
 
 -- ---- two texts
 
-same_texts : (q r : Reference) (s t : List ℕ) → IsTextOf q s → IsTextOf r t → (IsTrue (bytes_eq s t) → spec.Points q ≡ spec.Points r) × (spec.Points q ≡ spec.Points r → IsTrue (bytes_eq s t))
+same_texts : (q r : Reference) (s t : List ℕ) → IsTextOf q s → IsTextOf r t →
+    (IsTrue (bytes_eq s t) → spec.Points q ≡ spec.Points r) × (spec.Points q ≡ spec.Points r → IsTrue (bytes_eq s t))
 same_texts q r s t p h = (
   (λ e. ap spec.Points (one_reference q r s p (h.0, (bytes_decides s t).0 e ∙ h.1))),
   (λ e. let same : q ≡ r = cc in (bytes_decides s t).1 (p.1 ∙ ap text_of same ∙ sym h.1)),
@@ -34,7 +40,8 @@ same_texts q r s t p h = (
 
 -- a kept text decides the reference that it is the text of
 pub decided : (q r : Reference) (o p : Option (Bor (List ℕ))) → IsReference q → IsReference r
-    → option_map (λ s. s.now) o ≡ result_ok (published_text (spec.Points q)) → option_map (λ s. s.now) p ≡ result_ok (published_text (spec.Points r))
+    → option_map (λ s. s.now) o ≡ result_ok (published_text (spec.Points q)) →
+    option_map (λ s. s.now) p ≡ result_ok (published_text (spec.Points r))
     → (b : Bool) → b ≡ option_eq (λ s t. bytes_eq s.now t.now) o p
     → (IsTrue b → spec.Points q ≡ spec.Points r) × (spec.Points q ≡ spec.Points r → IsTrue b)
 decided q r None p soundq soundr textq textr b e = absurd cc
@@ -43,4 +50,5 @@ decided q r (Some s) (Some t) soundq soundr textq textr b e =
     let first : s.now ≡ text_of q = cc in
     let second : t.now ≡ text_of r = cc in
     let both = same_texts q r s.now t.now (soundq, first) (soundr, second) in
-    subst (λ (c : Bool). (IsTrue c → spec.Points q ≡ spec.Points r) × (spec.Points q ≡ spec.Points r → IsTrue c)) (sym e) both
+    subst (λ (c : Bool). (IsTrue c → spec.Points q ≡ spec.Points r) × (spec.Points q ≡ spec.Points r → IsTrue c))
+    (sym e) both

@@ -1,5 +1,7 @@
 -- What is to be put at positions, and is noted under their marks.
-use Rattle.std.proofs.Common.{◌≡◌, ℕ, zero, suc, ◌+◌, ◌<◌, List, [], ◌∷◌, ◌++◌, Contains, take, length, get_or, slice_get, Option, Some, None, false, Result, Ok, Err, IsTrue, refl, sym, ap, ◌∙◌, subst, arith}
+use Rattle.std.proofs.Common.{◌≡◌, ℕ, zero, suc, ◌+◌, ◌<◌, List, [], ◌∷◌, ◌++◌, Contains, take, length, get_or}
+use Rattle.std.proofs.Common.{slice_get, Option, Some, None, false, Result, Ok, Err, IsTrue, refl, sym, ap, ◌∙◌, subst}
+use Rattle.std.proofs.Common.{arith}
 use Rattle.std.specs.Prelude.{String, option_map, OnOk, OnErr}
 use Rattle.std.specs.Result.{is_err}
 use Rattle.std.specs.Map.{values_of}
@@ -29,25 +31,34 @@ One = ℕ × NamedPath
 abbrev pub StandsAt : List ℕ → Finder → One → Type 0
 StandsAt ms f r = r.0 < length ms → NamedNoted f (get_or ms r.0 0) r.1
 
-pub at_front : (ms : List ℕ) (f : Finder) (rest : List One) (r : One) → AreNotedAt ms f (rest ++ r ∷ []) → AreNotedAt ms f rest
-at_front ms f rest r h k d lt = All-contains (StandsAt ms f) (rest ++ r ∷ []) (get_or rest k d) h (Contains-append_left rest (r ∷ []) (get_or rest k d) (Contains-get_or rest k d lt))
+pub at_front : (ms : List ℕ) (f : Finder) (rest : List One) (r : One) → AreNotedAt ms f (rest ++ r ∷ []) →
+    AreNotedAt ms f rest
+at_front ms f rest r h k d lt =
+    All-contains (StandsAt ms f) (rest ++ r ∷ []) (get_or rest k d) h
+    (Contains-append_left rest (r ∷ []) (get_or rest k d) (Contains-get_or rest k d lt))
 
-pub at_last : (ms : List ℕ) (f : Finder) (rest : List One) (r : One) → AreNotedAt ms f (rest ++ r ∷ []) → StandsAt ms f r
+pub at_last : (ms : List ℕ) (f : Finder) (rest : List One) (r : One) → AreNotedAt ms f (rest ++ r ∷ []) →
+    StandsAt ms f r
 at_last ms f rest r h = All-contains (StandsAt ms f) (rest ++ r ∷ []) r h (Contains-push rest r)
 
 -- under a finder with more
 pub named_grown : (f g : Finder) (mark : ℕ) (n : NamedPath) → Grows f g → NamedNoted f mark n → NamedNoted g mark n
 named_grown f g mark n more h p some = grown f g mark n.path.value.lines p.value.own p.value.looks.items more (h p some)
 
-pub at_grown : (ms : List ℕ) (f g : Finder) (fresh : List One) → Grows f g → AreNotedAt ms f fresh → AreNotedAt ms g fresh
-at_grown ms f g fresh more h k d lt low = let r : One = get_or fresh k d in named_grown f g (get_or ms r.0 0) r.1 more (h k d lt low)
+pub at_grown : (ms : List ℕ) (f g : Finder) (fresh : List One) → Grows f g → AreNotedAt ms f fresh →
+    AreNotedAt ms g fresh
+at_grown ms f g fresh more h k d lt low = let r : One =
+    get_or fresh k d in named_grown f g (get_or ms r.0 0) r.1 more (h k d lt low)
 
 pub noted_grown : (es : Entries) (ms : List ℕ) (f g : Finder) → Grows f g → AreNoted es ms f → AreNoted es ms g
-noted_grown es ms f g more h k e at p some = grown f g (get_or ms k 0) e.1.path.value.lines p.value.own p.value.looks.items more (h k e at p some)
+noted_grown es ms f g more h k e at p some =
+    grown f g (get_or ms k 0) e.1.path.value.lines p.value.own p.value.looks.items more (h k e at p some)
 
 -- of the first k, and one more
-pub at_more : (ms : List ℕ) (f g : Finder) (fresh : List One) (k : ℕ) (d : One) → k < length fresh → Grows f g → AreNotedAt ms f (take k fresh) → StandsAt ms g (get_or fresh k d) → AreNotedAt ms g (take (k + 1) fresh)
-at_more ms f g fresh k d lt more h one = all_more (StandsAt ms g) fresh k d lt (at_grown ms f g (take k fresh) more h) one
+pub at_more : (ms : List ℕ) (f g : Finder) (fresh : List One) (k : ℕ) (d : One) → k < length fresh → Grows f g →
+    AreNotedAt ms f (take k fresh) → StandsAt ms g (get_or fresh k d) → AreNotedAt ms g (take (k + 1) fresh)
+at_more ms f g fresh k d lt more h one =
+    all_more (StandsAt ms g) fresh k d lt (at_grown ms f g (take k fresh) more h) one
 
 -- where each path is reported, each was encoded
 pub all_encoded : (before : List Item) (es : Entries) (rs : List Entry) → Reported before (items_of es) rs → AreAll es
@@ -55,13 +66,16 @@ all_encoded before [] rs h k e at = let never : ⊥ = cc (at) in absurd never
 all_encoded before (x ∷ es) rs h zero e at = λ none.
     let same : x ≡ e = cc (at) in
     let gone : x.1.published ≡ None = ap (λ (y : String Global × NamedPath). y.1.published) same ∙ none in
-    let lost : option_map (λ (m : Made). m.answer) (made_of_named x.1) ≡ None = ap (λ (o : Option (Rc Published Global)). option_map (λ (m : Made). m.answer) (option_map (λ p. made_of p.value) o)) gone in
+    let lost : option_map (λ (m : Made). m.answer) (made_of_named x.1) ≡ None =
+    ap (λ (o : Option (Rc Published Global)). option_map (λ (m : Made). m.answer) (option_map (λ p. made_of p.value) o))
+    gone in
     let never : ⊥ = cc (lost, h.2) in absurd never
 all_encoded before (x ∷ es) rs h (suc k) e at = all_encoded before es h.1 h.3 k e at
 
 -- ---- no path has a look, where no node is looked from
 
-pub back : (es : Entries) (k : ℕ) (i : Item) → slice_get (items_of es) k ≡ Some i → (e : String Global × NamedPath) × (slice_get es k ≡ Some e) × (item_of e ≡ i)
+pub back : (es : Entries) (k : ℕ) (i : Item) → slice_get (items_of es) k ≡ Some i → (e : String Global × NamedPath)
+    × (slice_get es k ≡ Some e) × (item_of e ≡ i)
 back [] k i at = let never : ⊥ = cc (at) in absurd never
 back (x ∷ es) zero i at = let same : item_of x ≡ i = cc (at) in (x, refl, same)
 back (x ∷ es) (suc k) i at = back es k i at
@@ -70,18 +84,24 @@ none_listed : {A : Type 0} (xs : List A) → ((x : A) → Contains xs x → ⊥)
 none_listed [] h = refl
 none_listed (x ∷ xs) h = absurd (h x (0, omega arith, refl))
 
-lacks_made : (o : Option (Rc Published Global)) → ((p : Rc Published Global) → o ≡ Some p → p.value.looks.items ≡ []) → LacksLooks (option_map (λ p. made_of p.value) o)
+lacks_made : (o : Option (Rc Published Global)) → ((p : Rc Published Global) → o ≡ Some p → p.value.looks.items ≡ []) →
+    LacksLooks (option_map (λ p. made_of p.value) o)
 lacks_made None h = tt
 lacks_made (Some p) h = h p refl
 
-pub lack_by : (es : Entries) (ms : List ℕ) (f : Finder) → AreNoted es ms f → ((number : ℕ) → marks_of f.from number ≡ []) → LackLooks (items_of es)
+pub lack_by : (es : Entries) (ms : List ℕ) (f : Finder) → AreNoted es ms f →
+    ((number : ℕ) → marks_of f.from number ≡ []) → LackLooks (items_of es)
 lack_by es ms f noted empty i on =
-    let at : slice_get (items_of es) on.0 ≡ Some i = slice_get_read (items_of es) (length (items_of es)) on.0 i refl on.1 (sym on.2) in
+    let at : slice_get (items_of es) on.0 ≡ Some i =
+    slice_get_read (items_of es) (length (items_of es)) on.0 i refl on.1 (sym on.2) in
     let b = back es on.0 i at in
     subst (λ (x : Item). LacksLooks x.made) b.2
     (lacks_made b.0.1.published (λ p some. none_listed p.value.looks.items (λ l there.
-    let held : IsTrue (holds f.from l.from (get_or ms on.0 0)) = All-contains (λ (k : Look). IsTrue (holds f.from k.from (get_or ms on.0 0))) p.value.looks.items l ((noted on.0 b.0 b.1 p some).1) there in
-    let off : holds f.from l.from (get_or ms on.0 0) ≡ false = ap (λ (xs : List ℕ). has xs (get_or ms on.0 0)) (empty l.from) in
+    let held : IsTrue (holds f.from l.from (get_or ms on.0 0)) =
+    All-contains (λ (k : Look). IsTrue (holds f.from k.from (get_or ms on.0 0))) p.value.looks.items l
+    ((noted on.0 b.0 b.1 p some).1) there in
+    let off : holds f.from l.from (get_or ms on.0 0) ≡ false =
+    ap (λ (xs : List ℕ). has xs (get_or ms on.0 0)) (empty l.from) in
     cc (held, off))))
 
 -- lists with the same paths are encoded alike

@@ -1,5 +1,6 @@
 -- The entries of a list whose paths were encoded.
-use Rattle.std.proofs.Common.{Bor, true, is_some, inr, ◌≡◌, ◌≢◌, ℕ, zero, suc, ◌+◌, take, List, [], ◌∷◌, ◌++◌, slice_get, Option, Some, None, refl, sym, ap, ◌∙◌, append_assoc, append-nil}
+use Rattle.std.proofs.Common.{Bor, true, is_some, inr, ◌≡◌, ◌≢◌, ℕ, zero, suc, ◌+◌, take, List, [], ◌∷◌, ◌++◌}
+use Rattle.std.proofs.Common.{slice_get, Option, Some, None, refl, sym, ap, ◌∙◌, append_assoc, append-nil}
 use Rattle.olr_paths.proofs.NamedEntries.{take_more_items}
 use Rattle.std.specs.Prelude.{option_map}
 use Rattle.olr_commands.specs.Reply.{Entry, entry}
@@ -19,17 +20,25 @@ all_told (i ∷ is) = told_of i.name i.made ++ all_told is
 
 pub told_more : (is : List Item) (i : Item) → all_told (is ++ i ∷ []) ≡ all_told is ++ told_of i.name i.made
 told_more [] i = append-nil (told_of i.name i.made)
-told_more (j ∷ is) i = ap (λ (es : List Entry). told_of j.name j.made ++ es) (told_more is i) ∙ sym (append_assoc (told_of j.name j.made) (all_told is) (told_of i.name i.made))
+told_more (j ∷ is) i =
+    ap (λ (es : List Entry). told_of j.name j.made ++ es) (told_more is i)
+    ∙ sym (append_assoc (told_of j.name j.made) (all_told is) (told_of i.name i.made))
 
 pub encoded_at : (is : List Item) (k : ℕ) (i : Item) → AreEncoded is → slice_get is k ≡ Some i → i.made ≢ None
 encoded_at [] k i a at = cc
 encoded_at (j ∷ is) zero i a at = λ none. let same : j ≡ i = cc in a.0 (ap (λ (x : Item). x.made) same ∙ none)
 encoded_at (j ∷ is) (suc k) i a at = encoded_at is k i a.1 at
 
-one_reported : (i : Item) (is : List Item) (made : Option Made) → i.made ≡ made → i.made ≢ None → Reported [] is (all_told is) → Reported [] (i ∷ is) (all_told (i ∷ is))
+one_reported : (i : Item) (is : List Item) (made : Option Made) → i.made ≡ made → i.made ≢ None →
+    Reported [] is (all_told is) → Reported [] (i ∷ is) (all_told (i ∷ is))
 one_reported i is None e some rest = absurd (some e)
-one_reported i is (Some m) e some rest =
-    (m.answer, all_told is, ap (option_map (λ (n : Made). n.answer)) e, rest, inr ((λ h. cc), ap (λ (made : Option Made). told_of i.name made ++ all_told is) e))
+one_reported i is (Some m) e some rest = (
+  m.answer,
+  all_told is,
+  ap (option_map (λ (n : Made). n.answer)) e,
+  rest,
+  inr ((λ h. cc), ap (λ (made : Option Made). told_of i.name made ++ all_told is) e),
+)
 
 -- with none before, all are told
 pub all_reported : (is : List Item) → AreEncoded is → Reported [] is (all_told is)
@@ -37,14 +46,17 @@ all_reported [] a = refl
 all_reported (i ∷ is) a = one_reported i is i.made refl a.0 (all_reported is a.1)
 
 -- the first k, and one more
-pub told_more_at : (is : List Item) (k : ℕ) (i : Item) (m : Made) → slice_get is k ≡ Some i → i.made ≡ Some m → all_told (take (k + 1) is) ≡ all_told (take k is) ++ entry i.name m.answer ∷ []
+pub told_more_at : (is : List Item) (k : ℕ) (i : Item) (m : Made) → slice_get is k ≡ Some i → i.made ≡ Some m →
+    all_told (take (k + 1) is) ≡ all_told (take k is) ++ entry i.name m.answer ∷ []
 told_more_at is k i m at made =
-    ap all_told (take_more_items is k i at) ∙ told_more (take k is) i ∙ ap (λ (o : Option Made). all_told (take k is) ++ told_of i.name o) made
+    ap all_told (take_more_items is k i at) ∙ told_more (take k is) i
+    ∙ ap (λ (o : Option Made). all_told (take k is) ++ told_of i.name o) made
 
 -- ---- what was encoded
 
 -- a name under which something is published has an answer
-pub answered : (is : List Item) (name : List ℕ) (o : Option (Bor Encoded)) → option_map (λ p. made_of p.now) o ≡ made_in is name → is_some o ≡ true → (A : Answer) × (answer_in is name ≡ Some A)
+pub answered : (is : List Item) (name : List ℕ) (o : Option (Bor Encoded)) →
+    option_map (λ p. made_of p.now) o ≡ made_in is name → is_some o ≡ true → (A : Answer) × (answer_in is name ≡ Some A)
 answered is name None e some = absurd cc
 answered is name (Some p) e some = ((made_of p.now).answer, ap (option_map (λ (m : Made). m.answer)) (sym e))
 

@@ -1,6 +1,10 @@
--- A list, as far as it was renewed. SoFar is the same with the work, along a list; follows_itself gives the start where the list itself is the one before.
---     Through Q N T X before is ps es n      the paths is are renewed where ps are put, es tells them, and n of them are concerned, from each map that Q holds of
-use Rattle.std.proofs.Common.{◌≡◌, ◌≢◌, ℕ, map, zero, suc, take, is_some, ◌+◌, ◌<◌, ◌≤◌, ◌^◌, Bool, true, false, List, [], ◌∷◌, ◌++◌, length, slice_get, Option, None, Some, option_map, IfSome, ◌⊎◌, inl, inr, refl, sym, ap, subst, ◌∙◌, append_assoc, arith, IsTrue}
+-- A list, as far as it was renewed. SoFar is the same with the work, along a list; follows_itself gives the start where
+-- the list itself is the one before.
+--     Through Q N T X before is ps es n the paths is are renewed where ps are put, es tells them, and n of them are
+--     concerned, from each map that Q holds of
+use Rattle.std.proofs.Common.{◌≡◌, ◌≢◌, ℕ, map, zero, suc, take, is_some, ◌+◌, ◌<◌, ◌≤◌, ◌^◌, Bool, true, false, List}
+use Rattle.std.proofs.Common.{[], ◌∷◌, ◌++◌, length, slice_get, Option, None, Some, option_map, IfSome, ◌⊎◌, inl, inr}
+use Rattle.std.proofs.Common.{refl, sym, ap, subst, ◌∙◌, append_assoc, arith, IsTrue}
 use Rattle.std.specs.Prelude.{if◌then◌else◌}
 use Rattle.std.specs.List.{AllByRecursion}
 use Rattle.std.proofs.lemmas.List.{length-take-le, map-append, take_all}
@@ -15,8 +19,10 @@ use Rattle.olr_commands.specs.Words.{entry_of}
 use Rattle.olr_commands.specs.Reply.{Entry, entry}
 use Rattle.olr_commands.proofs.NameLemmas.{flipped, not_named}
 use Rattle.olr_paths.specs.Items.{Made, Item, IsEncodingOf, AreEncodingsIfAny, named, all_named, made_in, answer_in}
-use Rattle.olr_paths.specs.Changes.{with_made, IsBefore, IsConcerned, By_name, Touches, IsRemade, AreRemade, Reported, Follows}
-use Rattle.olr_paths.specs.Renewing.{Put, all_put, made_at, puts_of, entries_of, TellsIfOther, ToStay, ToKeep, ToEncode, IsStep, Left, Kept, Anew, Rises}
+use Rattle.olr_paths.specs.Changes.{with_made, IsBefore, IsConcerned, By_name, Touches, IsRemade, AreRemade, Reported}
+use Rattle.olr_paths.specs.Changes.{Follows}
+use Rattle.olr_paths.specs.Renewing.{Put, all_put, made_at, puts_of, entries_of, TellsIfOther, ToStay, ToKeep, ToEncode}
+use Rattle.olr_paths.specs.Renewing.{IsStep, Left, Kept, Anew, Rises}
 use Rattle.olr_paths.specs.declared.renewal.Renewal.{Renewal}
 use Rattle.olr_paths.specs.declared.renewal.Counted.{Counted}
 use Rattle.olr_paths.proofs.NamedEntries.{take_more_items}
@@ -24,18 +30,22 @@ use Rattle.olr_paths.proofs.Placing.{put_behind, all_put-push}
 use Rattle.olr_paths.proofs.KeptLemmas.{stays_unless, stays_clear, concerned_by, touched_by}
 use lib.Pointwise.{bytes_decides}
 
-AreRemade-push : (N : Map) (is js : List Item) (i j : Item) → AreRemade N is js → IsRemade N i j → AreRemade N (is ++ i ∷ []) (js ++ j ∷ [])
+AreRemade-push : (N : Map) (is js : List Item) (i j : Item) → AreRemade N is js → IsRemade N i j →
+    AreRemade N (is ++ i ∷ []) (js ++ j ∷ [])
 AreRemade-push N [] [] i j h one = (one, refl)
 AreRemade-push N [] (k ∷ js) i j h one = let never : ⊥ = cc in absurd never
 AreRemade-push N (x ∷ is) [] i j h one = absurd h
 AreRemade-push N (x ∷ is) (k ∷ js) i j h one = (h.0, AreRemade-push N is js i j h.1 one)
 
-Count-more : {A : Type 0} (P : A → Type 0) (xs : List A) (n : ℕ) (x : A) → CountIs P xs n → P x → CountIs P (xs ++ x ∷ []) (n + 1)
+Count-more : {A : Type 0} (P : A → Type 0) (xs : List A) (n : ℕ) (x : A) → CountIs P xs n → P x →
+    CountIs P (xs ++ x ∷ []) (n + 1)
 Count-more P [] n x h p = inl (p, (0, refl, ap (λ (k : ℕ). k + 1) h))
-Count-more P (y ∷ ys) n x (inl h) p = inl (h.0, (h.1.0 + 1, Count-more P ys h.1.0 x h.1.1 p, let e = h.1.2 in omega arith))
+Count-more P (y ∷ ys) n x (inl h) p =
+    inl (h.0, (h.1.0 + 1, Count-more P ys h.1.0 x h.1.1 p, let e = h.1.2 in omega arith))
 Count-more P (y ∷ ys) n x (inr h) p = inr (h.0, Count-more P ys n x h.1 p)
 
-Count-same : {A : Type 0} (P : A → Type 0) (xs : List A) (n : ℕ) (x : A) → CountIs P xs n → ¬ P x → CountIs P (xs ++ x ∷ []) n
+Count-same : {A : Type 0} (P : A → Type 0) (xs : List A) (n : ℕ) (x : A) → CountIs P xs n → ¬ P x →
+    CountIs P (xs ++ x ∷ []) n
 Count-same P [] n x h p = inr (p, h)
 Count-same P (y ∷ ys) n x (inl h) p = inl (h.0, (h.1.0, Count-same P ys h.1.0 x h.1.1 p, h.1.2))
 Count-same P (y ∷ ys) n x (inr h) p = inr (h.0, Count-same P ys n x h.1 p)
@@ -44,24 +54,34 @@ Count-same P (y ∷ ys) n x (inr h) p = inr (h.0, Count-same P ys n x h.1 p)
 abbrev pub answer : Item → Option Answer
 answer i = option_map (λ m. m.answer) i.made
 
-Reported-same : (before js : List Item) (es : List Entry) (j : Item) (A : Answer) → Reported before js es → answer j ≡ Some A → answer_in before j.name ≡ Some A → Reported before (js ++ j ∷ []) es
+Reported-same : (before js : List Item) (es : List Entry) (j : Item) (A : Answer) → Reported before js es →
+    answer j ≡ Some A → answer_in before j.name ≡ Some A → Reported before (js ++ j ∷ []) es
 Reported-same before [] es j A h is had = (A, [], is, refl, inl (had, h))
 Reported-same before (k ∷ js) es j A h is had = (h.0, h.1, h.2, Reported-same before js h.1 j A h.3 is had, h.4)
 
-Reported-told : (before js : List Item) (es : List Entry) (j : Item) (A : Answer) → Reported before js es → answer j ≡ Some A → answer_in before j.name ≢ Some A → Reported before (js ++ j ∷ []) (es ++ entry j.name A ∷ [])
-Reported-told before [] es j A h is had = (A, [], is, refl, inr (had, ap (λ (fs : List Entry). fs ++ entry j.name A ∷ []) h))
+Reported-told : (before js : List Item) (es : List Entry) (j : Item) (A : Answer) → Reported before js es →
+    answer j ≡ Some A → answer_in before j.name ≢ Some A → Reported before (js ++ j ∷ []) (es ++ entry j.name A ∷ [])
+Reported-told before [] es j A h is had =
+    (A, [], is, refl, inr (had, ap (λ (fs : List Entry). fs ++ entry j.name A ∷ []) h))
 Reported-told before (k ∷ js) es j A h is had =
-    let more = λ (fs : List Entry). fs ++ entry j.name A ∷ [] in
-    (h.0, more h.1, h.2, Reported-told before js h.1 j A h.3 is had, elim h.4 [ inl e ↦ inl (e.0, ap more e.1) | inr e ↦ inr (e.0, ap more e.1) ])
+    let more = λ (fs : List Entry). fs ++ entry j.name A ∷ [] in (
+      h.0,
+      more h.1,
+      h.2,
+      Reported-told before js h.1 j A h.3 is had,
+      elim h.4 [ inl e ↦ inl (e.0, ap more e.1) | inr e ↦ inr (e.0, ap more e.1) ],
+    )
 
-Reported-push : (before js : List Item) (es fs : List Entry) (j : Item) (A : Answer) → Reported before js es → answer j ≡ Some A → TellsIfOther before j.name A es fs → Reported before (js ++ j ∷ []) fs
+Reported-push : (before js : List Item) (es fs : List Entry) (j : Item) (A : Answer) → Reported before js es →
+    answer j ≡ Some A → TellsIfOther before j.name A es fs → Reported before (js ++ j ∷ []) fs
 Reported-push before js es fs j A h is told =
     elim told [
       | inl t ↦ subst (Reported before (js ++ j ∷ [])) (sym t.1) (Reported-same before js es j A h is t.0)
       | inr t ↦ subst (Reported before (js ++ j ∷ [])) (sym t.1) (Reported-told before js es j A h is t.0)
     ]
 
-pub record Through (Q : Map → Type 0) (N : Map) (T X : List ℕ) (before is : List Item) (ps : List Put) (es : List Entry) (n : ℕ) : Type 0 where
+pub record Through (Q : Map → Type 0) (N : Map) (T X : List ℕ) (before is : List Item) (ps : List Put) (es : List Entry)
+    (n : ℕ) : Type 0 where
   pub local : (ys : List Item) → all_put (is ++ ys) ps ≡ all_put is ps ++ ys
   pub names : all_named (all_put is ps) ≡ all_named is
   pub remade : (L : Map) → Q L → AreRemade N is (all_put is ps)
@@ -70,36 +90,53 @@ pub record Through (Q : Map → Type 0) (N : Map) (T X : List ℕ) (before is : 
 
 module _ (Q : Map → Type 0) (N : Map) (T X : List ℕ) (before : List Item) where
   pub through_none : Through Q N T X before [] [] [] 0
-  through_none = record { local = λ ys. refl; names = refl; remade = λ L q. refl; reported = refl; counted = λ L q. refl }
+  through_none =
+      record { local = λ ys. refl; names = refl; remade = λ L q. refl; reported = refl; counted = λ L q. refl }
 
   -- where j is at the end of what was put, and the rest stays
-  pub grown : (is : List Item) (ps qs : List Put) (es fs : List Entry) (n k : ℕ) (i j : Item) (A : Answer) → Through Q N T X before is ps es n
-      → ((ys : List Item) → all_put (is ++ i ∷ ys) qs ≡ all_put is ps ++ j ∷ ys) → named j ≡ named i → ((L : Map) → Q L → IsRemade N i j) → answer j ≡ Some A → TellsIfOther before j.name A es fs
+  pub grown : (is : List Item) (ps qs : List Put) (es fs : List Entry) (n k : ℕ) (i j : Item) (A : Answer) →
+      Through Q N T X before is ps es n
+      → ((ys : List Item) → all_put (is ++ i ∷ ys) qs ≡ all_put is ps ++ j ∷ ys) → named j ≡ named i →
+      ((L : Map) → Q L → IsRemade N i j) → answer j ≡ Some A → TellsIfOther before j.name A es fs
       → ((L : Map) → Q L → CountIs (IsConcerned L T X) (is ++ i ∷ []) k)
       → Through Q N T X before (is ++ i ∷ []) qs fs k
   grown is ps qs es fs n k i j A h puts same one is_A told counted =
       let end = puts [] in
       record {
-        local = λ ys. ap (λ (zs : List Item). all_put zs qs) (append_assoc is (i ∷ []) ys) ∙ puts ys ∙ sym (append_assoc (all_put is ps) (j ∷ []) ys) ∙ ap (λ (zs : List Item). zs ++ ys) (sym end);
-        names = ap all_named end ∙ map-append named (all_put is ps) (j ∷ []) ∙ ap (λ (xs : List Named). xs ++ named j ∷ []) h.names ∙ ap (λ (x : Named). all_named is ++ x ∷ []) same ∙ sym (map-append named is (i ∷ []));
-        remade = λ L q. subst (λ (js : List Item). AreRemade N (is ++ i ∷ []) js) (sym end) (AreRemade-push N is (all_put is ps) i j (h.remade L q) (one L q));
-        reported = subst (λ (js : List Item). Reported before js fs) (sym end) (Reported-push before (all_put is ps) es fs j A h.reported is_A told);
+        local =
+            λ ys. ap (λ (zs : List Item). all_put zs qs) (append_assoc is (i ∷ []) ys) ∙ puts ys
+            ∙ sym (append_assoc (all_put is ps) (j ∷ []) ys) ∙ ap (λ (zs : List Item). zs ++ ys) (sym end);
+        names =
+            ap all_named end ∙ map-append named (all_put is ps) (j ∷ [])
+            ∙ ap (λ (xs : List Named). xs ++ named j ∷ []) h.names ∙ ap (λ (x : Named). all_named is ++ x ∷ []) same
+            ∙ sym (map-append named is (i ∷ []));
+        remade =
+            λ L q. subst (λ (js : List Item). AreRemade N (is ++ i ∷ []) js) (sym end)
+            (AreRemade-push N is (all_put is ps) i j (h.remade L q) (one L q));
+        reported =
+            subst (λ (js : List Item). Reported before js fs) (sym end)
+            (Reported-push before (all_put is ps) es fs j A h.reported is_A told);
         counted = counted;
       }
 
-pub follows_at : (before is : List Item) (k : ℕ) (i : Item) → Follows before is → slice_get is k ≡ Some i → (i.made ≡ None) ⊎ (answer_in before i.name ≡ answer i)
+pub follows_at : (before is : List Item) (k : ℕ) (i : Item) → Follows before is → slice_get is k ≡ Some i →
+    (i.made ≡ None) ⊎ (answer_in before i.name ≡ answer i)
 follows_at before [] k i h at = let never : ⊥ = cc in absurd never
-follows_at before (x ∷ is) zero i h at = let e : x ≡ i = cc in subst (λ (j : Item). (j.made ≡ None) ⊎ (answer_in before j.name ≡ answer j)) e h.0
+follows_at before (x ∷ is) zero i h at = let e : x ≡ i =
+    cc in subst (λ (j : Item). (j.made ≡ None) ⊎ (answer_in before j.name ≡ answer j)) e h.0
 follows_at before (x ∷ is) (suc k) i h at = follows_at before is k i h.1 at
 
 -- ---- one path of the list before
 
-made_at_place : (M : Map) (is : List Item) (k : ℕ) (i : Item) → AreEncodingsIfAny M is → slice_get is k ≡ Some i → IfSome i.made (IsEncodingOf M i.path)
+made_at_place : (M : Map) (is : List Item) (k : ℕ) (i : Item) → AreEncodingsIfAny M is → slice_get is k ≡ Some i →
+    IfSome i.made (IsEncodingOf M i.path)
 made_at_place M [] k i h at = let never : ⊥ = cc in absurd never
-made_at_place M (x ∷ is) zero i h at = let e : x ≡ i = cc in subst (λ (j : Item). IfSome j.made (IsEncodingOf M j.path)) e h.0
+made_at_place M (x ∷ is) zero i h at = let e : x ≡ i =
+    cc in subst (λ (j : Item). IfSome j.made (IsEncodingOf M j.path)) e h.0
 made_at_place M (x ∷ is) (suc k) i h at = made_at_place M is k i h.1 at
 
-path_at_place : (is : List Item) (k : ℕ) (i : Item) → AllByRecursion (λ j. IsTrue (is_path j.path.lines)) is → slice_get is k ≡ Some i → IsTrue (is_path i.path.lines)
+path_at_place : (is : List Item) (k : ℕ) (i : Item) → AllByRecursion (λ j. IsTrue (is_path j.path.lines)) is →
+    slice_get is k ≡ Some i → IsTrue (is_path i.path.lines)
 path_at_place [] k i h at = let never : ⊥ = cc in absurd never
 path_at_place (x ∷ is) zero i h at = let e : x ≡ i = cc in subst (λ (j : Item). IsTrue (is_path j.path.lines)) e h.0
 path_at_place (x ∷ is) (suc k) i h at = path_at_place is k i h.1 at
@@ -108,7 +145,8 @@ path_at_place (x ∷ is) (suc k) i h at = path_at_place is k i h.1 at
 again : (i : Item) (m : Made) → i.made ≡ Some m → i ≡ with_made i m
 again i m e = λ j. record { name = i.name; path = i.path; made = e j }
 
-module _ (N : Map) (n : IsMap N) (T X : List ℕ) (C : List ChangedLine) (before is : List Item) (place : ℕ) (i : Item) (follows : Follows before is) (at : slice_get is place ≡ Some i) where
+module _ (N : Map) (n : IsMap N) (T X : List ℕ) (C : List ChangedLine) (before is : List Item) (place : ℕ) (i : Item)
+    (follows : Follows before is) (at : slice_get is place ≡ Some i) where
   abbrev Q : Map → Type 0
   Q L = IsBefore L N T X C is
 
@@ -119,7 +157,8 @@ module _ (N : Map) (n : IsMap N) (T X : List ℕ) (C : List ChangedLine) (before
   long = length-take-le place is (omega (arith, slice_get_within is place i at))
 
   is_made : (L : Map) → Q L → (m : Made) → i.made ≡ Some m → IsEncodingOf L i.path m
-  is_made L q m e = subst (λ (o : Option Made). IfSome o (IsEncodingOf L i.path)) e (made_at_place L is place i q.made at)
+  is_made L q m e =
+      subst (λ (o : Option Made). IfSome o (IsEncodingOf L i.path)) e (made_at_place L is place i q.made at)
 
   is_a_path : (L : Map) → Q L → IsTrue (is_path i.path.lines)
   is_a_path L q = path_at_place is place i q.paths at
@@ -127,25 +166,44 @@ module _ (N : Map) (n : IsMap N) (T X : List ℕ) (C : List ChangedLine) (before
   answered : (m : Made) → i.made ≡ Some m → answer_in before i.name ≡ Some m.answer
   answered m e =
       let is_A : answer i ≡ Some m.answer = ap (option_map (λ (k : Made). k.answer)) e in
-      elim (follows_at before is place i follows at) [ inl none ↦ let never : ⊥ = cc in absurd never | inr same ↦ same ∙ is_A ]
+      elim (follows_at before is place i follows at) [
+        | inl none ↦ let never : ⊥ = cc in absurd never
+        | inr same ↦ same
+            ∙ is_A
+      ]
 
-  through_left : (ps : List Put) (es : List Entry) (c : ℕ) → Through Q N T X before (take place is) ps es c → ToStay N T X i.made i.path → Through Q N T X before (take place is ++ i ∷ []) ps es c
+  through_left : (ps : List Put) (es : List Entry) (c : ℕ) → Through Q N T X before (take place is) ps es c →
+      ToStay N T X i.made i.path → Through Q N T X before (take place is ++ i ∷ []) ps es c
   through_left ps es c h f =
       let m = f.0 in
       grown Q N T X before (take place is) ps ps es es c c i i m.answer h (λ ys. h.local (i ∷ ys)) refl
-      (λ L q. (m, stays_unless L N n T X C i.path (is_a_path L q) m q.sound q.difference q.starts (is_made L q m f.1) f.2, again i m f.1))
+      (λ L q. (
+        m,
+        stays_unless L N n T X C i.path (is_a_path L q) m q.sound q.difference q.starts (is_made L q m f.1)
+            f.2,
+        again i m f.1,
+      ))
       (ap (option_map (λ (k : Made). k.answer)) f.1) (inl (answered m f.1, refl))
-      (λ L q. Count-same (IsConcerned L T X) (take place is) c i (h.counted L q) (λ on. f.2 (touched_by L N n T X C i.path (is_a_path L q) m q.sound q.difference (is_made L q m f.1) i refl f.1 on)))
+      (λ L q. Count-same (IsConcerned L T X) (take place is) c i (h.counted L q)
+      (λ on. f.2 (touched_by L N n T X C i.path (is_a_path L q) m q.sound q.difference (is_made L q m f.1) i refl f.1
+      on)))
 
   -- an item by its parts
   concerned : (L : Map) → Q L → (m : Made) → i.made ≡ Some m → Touches N T X m i.path → IsConcerned L T X i
-  concerned L q m e t = subst (λ (j : Item). IsConcerned L T X j) (sym (again i m e)) (concerned_by L N n T X C i.path (is_a_path L q) m q.sound q.difference (is_made L q m e) i.name t)
+  concerned L q m e t =
+      subst (λ (j : Item). IsConcerned L T X j) (sym (again i m e))
+      (concerned_by L N n T X C i.path (is_a_path L q) m q.sound q.difference (is_made L q m e) i.name t)
 
-  through_kept : (ps : List Put) (es : List Entry) (c : ℕ) → Through Q N T X before (take place is) ps es c → ToKeep N T X C i.made i.path → Through Q N T X before (take place is ++ i ∷ []) ps es (c + 1)
+  through_kept : (ps : List Put) (es : List Entry) (c : ℕ) → Through Q N T X before (take place is) ps es c →
+      ToKeep N T X C i.made i.path → Through Q N T X before (take place is ++ i ∷ []) ps es (c + 1)
   through_kept ps es c h f =
       let m = f.0 in
       grown Q N T X before (take place is) ps ps es es c (c + 1) i i m.answer h (λ ys. h.local (i ∷ ys)) refl
-      (λ L q. (m, stays_clear L N n T X C i.path (is_a_path L q) m q.sound q.difference (is_made L q m f.1) f.3, again i m f.1))
+      (λ L q. (
+        m,
+        stays_clear L N n T X C i.path (is_a_path L q) m q.sound q.difference (is_made L q m f.1) f.3,
+        again i m f.1,
+      ))
       (ap (option_map (λ (k : Made). k.answer)) f.1) (inl (answered m f.1, refl))
       (λ L q. Count-more (IsConcerned L T X) (take place is) c i (h.counted L q) (concerned L q m f.1 f.2))
 
@@ -153,18 +211,28 @@ module _ (N : Map) (n : IsMap N) (T X : List ℕ) (C : List ChangedLine) (before
   to_encode L q (inl none) = By_name none
   to_encode L q (inr f) = concerned L q f.0 f.1 f.2
 
-  through_anew : (ps : List Put) (es fs : List Entry) (c : ℕ) (m : Made) → Through Q N T X before (take place is) ps es c → ToEncode N T X i.made i.path → IsEncodingOf N i.path m → TellsIfOther before i.name m.answer es fs
-      → Through Q N T X before (take place is ++ i ∷ []) (ps ++ record { place = place; path = i.path; made = Some m } ∷ []) fs (c + 1)
+  through_anew : (ps : List Put) (es fs : List Entry) (c : ℕ) (m : Made) →
+      Through Q N T X before (take place is) ps es c → ToEncode N T X i.made i.path → IsEncodingOf N i.path m →
+      TellsIfOther before i.name m.answer es fs
+      → Through Q N T X before (take place is ++ i ∷ [])
+      (ps ++ record { place = place; path = i.path; made = Some m } ∷ []) fs (c + 1)
   through_anew ps es fs c m h f made told =
-      subst (λ (k : ℕ). Through Q N T X before (take place is ++ i ∷ []) (ps ++ record { place = k; path = i.path; made = Some m } ∷ []) fs (c + 1)) long
-      (grown Q N T X before (take place is) ps (ps ++ record { place = length (take place is); path = i.path; made = Some m } ∷ []) es fs c (c + 1) i (with_made i m) m.answer h
-      (λ ys. all_put-push (take place is ++ i ∷ ys) ps (record { place = length (take place is); path = i.path; made = Some m }) ∙ ap (λ (zs : List Item). all_put zs ps) (put_behind (take place is) i ys i.path (Some m)) ∙ h.local (with_made i m ∷ ys))
+      subst (λ (k : ℕ). Through Q N T X before (take place is ++ i ∷ [])
+      (ps ++ record { place = k; path = i.path; made = Some m } ∷ []) fs (c + 1)) long
+      (grown Q N T X before (take place is) ps
+      (ps ++ record { place = length (take place is); path = i.path; made = Some m } ∷ []) es fs c (c + 1) i
+      (with_made i m) m.answer h
+      (λ ys. all_put-push (take place is ++ i ∷ ys) ps
+      (record { place = length (take place is); path = i.path; made = Some m })
+      ∙ ap (λ (zs : List Item). all_put zs ps) (put_behind (take place is) i ys i.path (Some m))
+      ∙ h.local (with_made i m ∷ ys))
       refl (λ L q. (m, made, refl)) refl told
       (λ L q. Count-more (IsConcerned L T X) (take place is) c i (h.counted L q) (to_encode L q f)))
 
 -- ---- the paths before a place, with the work
 
-pub record SoFar (N : Map) (T X : List ℕ) (C : List ChangedLine) (before is : List Item) (place : ℕ) (r : Renewal) (old now : Counted) : Type 0 where
+pub record SoFar (N : Map) (T X : List ℕ) (C : List ChangedLine) (before is : List Item) (place : ℕ) (r : Renewal)
+    (old now : Counted) : Type 0 where
   pub many : ℕ
   pub through : Through (λ L. IsBefore L N T X C is) N T X before (take place is) (made_at r) (entries_of r) many
   pub raised : old.work.encodings + many < 2 ^ 64 → now.work.encodings ≡ old.work.encodings + many
@@ -179,35 +247,45 @@ rises_more old now later n r s =
     let e = r.kept in let f = s.kept in let g = r.spared in let h = s.spared in
     record { searches = omega arith; settled = omega arith; kept = omega arith; spared = omega arith }
 
-pub so_far_none : (N : Map) (T X : List ℕ) (C : List ChangedLine) (before is : List Item) (r : Renewal) (work : Counted) → r.fresh.items ≡ [] → r.entries.items ≡ [] → SoFar N T X C before is 0 r work work
+pub so_far_none : (N : Map) (T X : List ℕ) (C : List ChangedLine) (before is : List Item) (r : Renewal)
+    (work : Counted) → r.fresh.items ≡ [] → r.entries.items ≡ [] → SoFar N T X C before is 0 r work work
 so_far_none N T X C before is r work fresh entries =
     let Q : Map → Type 0 = λ L. IsBefore L N T X C is in
     let made : [] ≡ made_at r = sym (ap puts_of fresh) in
     let told : [] ≡ entries_of r = sym (ap (map entry_of) entries) in
     record {
       many = 0;
-      through = subst (λ (es : List Entry). Through Q N T X before [] (made_at r) es 0) told (subst (λ (ps : List Put). Through Q N T X before [] ps [] 0) made (through_none Q N T X before));
+      through =
+          subst (λ (es : List Entry). Through Q N T X before [] (made_at r) es 0) told
+          (subst (λ (ps : List Put). Through Q N T X before [] ps [] 0) made (through_none Q N T X before));
       raised = λ few. omega arith;
       rises = rises_none work;
     }
 
 -- of a list of no paths
-pub so_far_all : (N : Map) (T X : List ℕ) (C : List ChangedLine) (before is : List Item) (r : Renewal) (work : Counted) → length is ≡ 0 → r.fresh.items ≡ [] → r.entries.items ≡ [] → SoFar N T X C before is (length is) r work work
+pub so_far_all : (N : Map) (T X : List ℕ) (C : List ChangedLine) (before is : List Item) (r : Renewal)
+    (work : Counted) → length is ≡ 0 → r.fresh.items ≡ [] → r.entries.items ≡ [] →
+    SoFar N T X C before is (length is) r work work
 so_far_all N T X C before is r work none fresh entries =
-    subst (λ (k : ℕ). SoFar N T X C before is k r work work) (sym none) (so_far_none N T X C before is r work fresh entries)
+    subst (λ (k : ℕ). SoFar N T X C before is k r work work) (sym none)
+    (so_far_none N T X C before is r work fresh entries)
 
 -- as far as the whole list
-pub record Whole (N : Map) (T X : List ℕ) (C : List ChangedLine) (before is : List Item) (r : Renewal) (old now : Counted) : Type 0 where
+pub record Whole (N : Map) (T X : List ℕ) (C : List ChangedLine) (before is : List Item) (r : Renewal)
+    (old now : Counted) : Type 0 where
   pub remade : (L : Map) → IsBefore L N T X C is → AreRemade N is (all_put is (made_at r))
   pub names : all_named (all_put is (made_at r)) ≡ all_named is
   pub reported : Reported before (all_put is (made_at r)) (entries_of r)
-  pub counted : (L : Map) → IsBefore L N T X C is → (n : ℕ) × CountIs (IsConcerned L T X) is n × (old.work.encodings + n < 2 ^ 64 → now.work.encodings ≡ old.work.encodings + n) × (now.kept ≤ old.kept + n)
+  pub counted : (L : Map) → IsBefore L N T X C is → (n : ℕ) × CountIs (IsConcerned L T X) is n
+      × (old.work.encodings + n < 2 ^ 64 → now.work.encodings ≡ old.work.encodings + n) × (now.kept ≤ old.kept + n)
 
-pub whole : (N : Map) (T X : List ℕ) (C : List ChangedLine) (before is : List Item) (r : Renewal) (old now : Counted) → SoFar N T X C before is (length is) r old now → Whole N T X C before is r old now
+pub whole : (N : Map) (T X : List ℕ) (C : List ChangedLine) (before is : List Item) (r : Renewal) (old now : Counted) →
+    SoFar N T X C before is (length is) r old now → Whole N T X C before is r old now
 whole N T X C before is r old now h =
     let all : take (length is) is ≡ is = take_all (length is) is (omega arith) in
     let t : Through (λ L. IsBefore L N T X C is) N T X before is (made_at r) (entries_of r) h.many =
-    subst (λ (js : List Item). Through (λ L. IsBefore L N T X C is) N T X before js (made_at r) (entries_of r) h.many) all h.through in
+    subst (λ (js : List Item). Through (λ L. IsBefore L N T X C is) N T X before js (made_at r) (entries_of r) h.many)
+    all h.through in
     record {
       remade = t.remade;
       names = t.names;
@@ -215,14 +293,18 @@ whole N T X C before is r old now h =
       counted = λ L q. (h.many, t.counted L q, h.raised, h.rises.spared);
     }
 
-module _ (N : Map) (n : IsMap N) (T X : List ℕ) (C : List ChangedLine) (before is : List Item) (place : ℕ) (i : Item) (follows : Follows before is) (at : slice_get is place ≡ Some i) (old : Counted) where
-  pub so_far_step : (r s : Renewal) (now later : Counted) → SoFar N T X C before is place r old now → IsStep N T X C before i place r s now later → SoFar N T X C before is (place + 1) s old later
+module _ (N : Map) (n : IsMap N) (T X : List ℕ) (C : List ChangedLine) (before is : List Item) (place : ℕ) (i : Item)
+    (follows : Follows before is) (at : slice_get is place ≡ Some i) (old : Counted) where
+  pub so_far_step : (r s : Renewal) (now later : Counted) → SoFar N T X C before is place r old now →
+      IsStep N T X C before i place r s now later → SoFar N T X C before is (place + 1) s old later
   so_far_step r s now later h (Left f same still) =
       subst (λ (q : Renewal). SoFar N T X C before is (place + 1) q old later) (sym same)
       (subst (λ (d : Counted). SoFar N T X C before is (place + 1) r old d) (sym still)
       (record {
         many = h.many;
-        through = subst (λ (js : List Item). Through (λ L. IsBefore L N T X C is) N T X before js (made_at r) (entries_of r) h.many) (sym (take_more_items is place i at))
+        through =
+            subst (λ (js : List Item). Through (λ L. IsBefore L N T X C is) N T X before js (made_at r) (entries_of r)
+            h.many) (sym (take_more_items is place i at))
             (through_left N n T X C before is place i follows at (made_at r) (entries_of r) h.many h.through f);
         raised = h.raised;
         rises = h.rises;
@@ -231,7 +313,9 @@ module _ (N : Map) (n : IsMap N) (T X : List ℕ) (C : List ChangedLine) (before
       subst (λ (q : Renewal). SoFar N T X C before is (place + 1) q old later) (sym same)
       (record {
         many = h.many + 1;
-        through = subst (λ (js : List Item). Through (λ L. IsBefore L N T X C is) N T X before js (made_at r) (entries_of r) (h.many + 1)) (sym (take_more_items is place i at))
+        through =
+            subst (λ (js : List Item). Through (λ L. IsBefore L N T X C is) N T X before js (made_at r) (entries_of r)
+            (h.many + 1)) (sym (take_more_items is place i at))
             (through_kept N n T X C before is place i follows at (made_at r) (entries_of r) h.many h.through f);
         raised = λ few. let e = h.raised (omega arith) in let u = one.encodings (omega arith) in omega arith;
         rises = rises_more old now later h.many h.rises one.rises;
@@ -239,25 +323,33 @@ module _ (N : Map) (n : IsMap N) (T X : List ℕ) (C : List ChangedLine) (before
   so_far_step r s now later h (Anew f m made puts told one) =
       record {
         many = h.many + 1;
-        through = subst (λ (js : List Item). Through (λ L. IsBefore L N T X C is) N T X before js (made_at s) (entries_of s) (h.many + 1)) (sym (take_more_items is place i at))
-            (subst (λ (ps : List Put). Through (λ L. IsBefore L N T X C is) N T X before (take place is ++ i ∷ []) ps (entries_of s) (h.many + 1)) (sym puts)
-            (through_anew N n T X C before is place i follows at (made_at r) (entries_of r) (entries_of s) h.many m h.through f made told));
+        through =
+            subst (λ (js : List Item). Through (λ L. IsBefore L N T X C is) N T X before js (made_at s) (entries_of s)
+            (h.many + 1)) (sym (take_more_items is place i at))
+            (subst (λ (ps : List Put). Through (λ L. IsBefore L N T X C is) N T X before (take place is ++ i ∷ []) ps
+            (entries_of s) (h.many + 1)) (sym puts)
+            (through_anew N n T X C before is place i follows at (made_at r) (entries_of r) (entries_of s) h.many m
+            h.through f made told));
         raised = λ few. let e = h.raised (omega arith) in let u = one.encodings (omega arith) in omega arith;
         rises = rises_more old now later h.many h.rises one.rises;
       }
 
 -- ---- a list follows itself, since no name stands twice
 
-follows_more : (x : Item) (before is : List Item) → Follows before is → is_some (path_named (all_named is) x.name) ≡ false → Follows (x ∷ before) is
+follows_more : (x : Item) (before is : List Item) → Follows before is →
+    is_some (path_named (all_named is) x.name) ≡ false → Follows (x ∷ before) is
 follows_more x before [] h absent = h
 follows_more x before (i ∷ is) h absent =
     let r = not_named (named i) (all_named is) x.name absent in
     let other : same_name x.name i.name ≡ false = flipped i.name x.name r.0 in
-    let as_before : answer_in (x ∷ before) i.name ≡ answer_in before i.name = ap (λ (b : Bool). option_map (λ (m : Made). m.answer) (if b then x.made else made_in before i.name)) other in
+    let as_before : answer_in (x ∷ before) i.name ≡ answer_in before i.name =
+    ap (λ (b : Bool). option_map (λ (m : Made). m.answer) (if b then x.made else made_in before i.name)) other in
     (elim h.0 [ inl none ↦ inl none | inr same ↦ inr (as_before ∙ same) ], follows_more x before is h.1 r.1)
 
 pub follows_itself : (is : List Item) → NamesDiffer (all_named is) → Follows is is
 follows_itself [] d = tt
 follows_itself (i ∷ is) d =
-    let own : same_name i.name i.name ≡ true = (bytes_decides i.name i.name).1 refl in
-    (inr (ap (λ (b : Bool). option_map (λ (m : Made). m.answer) (if b then i.made else made_in is i.name)) own), follows_more i is is (follows_itself is d.1) d.0)
+    let own : same_name i.name i.name ≡ true = (bytes_decides i.name i.name).1 refl in (
+      inr (ap (λ (b : Bool). option_map (λ (m : Made). m.answer) (if b then i.made else made_in is i.name)) own),
+      follows_more i is is (follows_itself is d.1) d.0,
+    )

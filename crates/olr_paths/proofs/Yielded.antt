@@ -15,8 +15,10 @@ some_made (Some p) h = refl
 
 pub all_some : (es : Entries) → AreEncoded (items_of es) → list_all (λ e. is_some e.1.published) es ≡ true
 all_some [] a = refl
-all_some (e ∷ es) a = ap (λ b. b && list_all (λ e. is_some e.1.published) es) (some_made e.1.published a.0) ∙ all_some es a.1
+all_some (e ∷ es) a =
+    ap (λ b. b && list_all (λ e. is_some e.1.published) es) (some_made e.1.published a.0) ∙ all_some es a.1
 
-pub all_left : (es : Entries) → map {B = List ℕ × Option Made} (λ e. (string_bytes e.0, made_of_named e.1)) es ≡ map (λ (i : Item). (i.name, i.made)) (items_of es)
+pub all_left : (es : Entries) → map {B = List ℕ × Option Made} (λ e. (string_bytes e.0, made_of_named e.1)) es
+    ≡ map (λ (i : Item). (i.name, i.made)) (items_of es)
 all_left [] = refl
 all_left (e ∷ es) = ap (λ (xs : List (List ℕ × Option Made)). (string_bytes e.0, made_of_named e.1) ∷ xs) (all_left es)

@@ -1,8 +1,8 @@
 -- Positions of paths that edits may concern.
 --     Includes xs ys      the numbers of xs are among those of ys
---     Finds marks i v found      the positions whose marks the number v has are found.        AreFound      so of each number
---     Covers N T X is found      a path whose position isn't found is not concerned
---     CoversAsked N place t s is found      the same of those of which it was asked.        FindsChanged cs is found      a path whose position isn't found is not changed
+--     Finds marks i v found the positions whose marks the number v has are found. AreFound so of each number Covers N T
+--     X is found a path whose position isn't found is not concerned CoversAsked N place t s is found the same of those
+--     of which it was asked. FindsChanged cs is found a path whose position isn't found is not changed
 use Rattle.std.specs.Prelude.{◌≡◌, ℕ, ◌<◌, List, All, Some, None, IfSome, false, length, get_or, slice_get, IsTrue}
 use Rattle.olr_spec.specs.Map.{Map, has}
 use Rattle.olr_index.specs.Marks.{holds}
@@ -28,8 +28,10 @@ abbrev pub Covers : Map → List ℕ → List ℕ → List Item → List ℕ →
 Covers N T X is found = (k : ℕ) (i : Item) → slice_get is k ≡ Some i → has found k ≡ false → ToStay N T X i.made i.path
 
 abbrev pub CoversAsked : Map → (ℕ → ℕ) → Touched → Searches → List Item → List ℕ → Type 0
-CoversAsked N place t s is found = (k : ℕ) (i : Item) → slice_get is k ≡ Some i → has found k ≡ false → IfSome i.made (IsAsked N place t s)
+CoversAsked N place t s is found =
+    (k : ℕ) (i : Item) → slice_get is k ≡ Some i → has found k ≡ false → IfSome i.made (IsAsked N place t s)
     → ToStay N (nodes_of t) (lines_of t) i.made i.path
 
 abbrev pub FindsChanged : Changes → List Item → List ℕ → Type 0
-FindsChanged cs is found = (k : ℕ) (i : Item) → slice_get is k ≡ Some i → has found k ≡ false → change_at cs i.name ≡ None
+FindsChanged cs is found =
+    (k : ℕ) (i : Item) → slice_get is k ≡ Some i → has found k ≡ false → change_at cs i.name ≡ None

@@ -1,11 +1,11 @@
 -- Which marks a finder has, and that it has those of each path.
---     OwnNoted, FromNoted, LinesNoted      own nodes, the nodes from which looks look, and lines have a mark.        IsNoted      all three
---     Keeps i j      each number has the marks that it had.        KeepsBut mark i j      and the others, but for one mark
---     Grows f g, Spares f g mark      the same of a finder
---     AreNoted es marks f      each path that was encoded is noted under the mark at its place
---     AreNotedAt marks f fresh      what is to be put at positions is noted under their marks
---     AreAll es      each path was encoded
-use Rattle.std.specs.Prelude.{◌≡◌, ◌≢◌, ◌<◌, ℕ, List, All, Some, None, length, get_or, slice_get, IsTrue, IsFalse, String, Bool}
+--     OwnNoted, FromNoted, LinesNoted own nodes, the nodes from which looks look, and lines have a mark. IsNoted all
+--     three Keeps i j each number has the marks that it had. KeepsBut mark i j and the others, but for one mark Grows f
+--     g, Spares f g mark the same of a finder AreNoted es marks f each path that was encoded is noted under the mark at
+--     its place AreNotedAt marks f fresh what is to be put at positions is noted under their marks AreAll es each path
+--     was encoded
+use Rattle.std.specs.Prelude.{◌≡◌, ◌≢◌, ◌<◌, ℕ, List, All, Some, None, length, get_or, slice_get, IsTrue, IsFalse}
+use Rattle.std.specs.Prelude.{String, Bool}
 use Rattle.std.specs.Coded.{coded_ℕ, Coded-set}
 use Rattle.std.proofs.Props.{props}
 use Rattle.std.specs.declared.alloc.Global.{Global}
@@ -40,10 +40,12 @@ Spares mark f g = KeepsBut mark f.own g.own × KeepsBut mark f.from g.from × Ke
 
 -- one path, where it was encoded
 abbrev pub NamedNoted : Finder → ℕ → NamedPath → Type 0
-NamedNoted f mark n = (p : Rc Published Global) → n.published ≡ Some p → IsNoted f mark n.path.value.lines p.value.own p.value.looks.items
+NamedNoted f mark n =
+    (p : Rc Published Global) → n.published ≡ Some p → IsNoted f mark n.path.value.lines p.value.own p.value.looks.items
 
 abbrev pub AreNoted : List (String Global × NamedPath) → List ℕ → Finder → Type 0
-AreNoted es marks f = (k : ℕ) (e : String Global × NamedPath) → slice_get es k ≡ Some e → NamedNoted f (get_or marks k 0) e.1
+AreNoted es marks f =
+    (k : ℕ) (e : String Global × NamedPath) → slice_get es k ≡ Some e → NamedNoted f (get_or marks k 0) e.1
 
 -- what is to be put at positions is noted under their marks
 abbrev pub AreNotedAt : List ℕ → Finder → List (ℕ × NamedPath) → Type 0

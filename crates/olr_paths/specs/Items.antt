@@ -1,8 +1,9 @@
 -- A list of named paths, each with what is published of it.
---     Made      an answer with its own nodes and looks.        IsEncodingOf M P m      they are those of the path on the map
---     Item      a name, its path and, where it was encoded, what was made.        items l      those of a list
---     AreEncodings M is      each path was encoded, and rightly for the map.        AreEncodingsIfAny M is      each that was encoded
-use Rattle.std.specs.Prelude.{◌≡◌, ℕ, List, [], ◌∷◌, map, Contains, if◌then◌else◌, Option, Some, None, option_map, IfSome, string_bytes, ◌↔◌, ⊤}
+--     Made an answer with its own nodes and looks. IsEncodingOf M P m they are those of the path on the map Item a
+--     name, its path and, where it was encoded, what was made. items l those of a list AreEncodings M is each path was
+--     encoded, and rightly for the map. AreEncodingsIfAny M is each that was encoded
+use Rattle.std.specs.Prelude.{◌≡◌, ℕ, List, [], ◌∷◌, map, Contains, if◌then◌else◌, Option, Some, None, option_map}
+use Rattle.std.specs.Prelude.{IfSome, string_bytes, ◌↔◌, ⊤}
 use Rattle.olr_spec.specs.Map.{Map}
 use Rattle.olr_spec.specs.Extension.{Path}
 use Rattle.olr_spec.specs.Encoding.{Answer, Encodes}
@@ -28,7 +29,13 @@ abbrev pub made_of : Encoded → Made
 made_of p = record { answer = answer_of p.answer; own = p.own; looks = p.looks.items }
 
 abbrev pub items : Listing → List Item
-items l = map (λ e. record { name = string_bytes e.0; path = e.1.path.value; made = option_map (λ p. made_of p.value) e.1.published }) l.paths.entries
+items l =
+    map (λ e. record {
+      name = string_bytes e.0;
+      path = e.1.path.value;
+      made =
+          option_map (λ p. made_of p.value) e.1.published;
+    }) l.paths.entries
 
 -- ---- what is right on a map
 

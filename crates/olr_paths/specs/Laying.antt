@@ -1,8 +1,9 @@
 -- Changes that lie over a list of named paths.
---     Changes, change_at cs name      what becomes of paths by their names: another path, or none where it is taken away
---     under_changes cs is      the list with these changes.        under_overlay is o      with those of an overlay, and the new ones behind
---     TakesNone cs      no path is taken away
-use Rattle.std.specs.Prelude.{◌≡◌, ℕ, Bool, true, false, cond, List, [], ◌∷◌, ◌++◌, map, Option, Some, None, option_map, string_bytes}
+--     Changes, change_at cs name what becomes of paths by their names: another path, or none where it is taken away
+--     under_changes cs is the list with these changes. under_overlay is o with those of an overlay, and the new ones
+--     behind TakesNone cs no path is taken away
+use Rattle.std.specs.Prelude.{◌≡◌, ℕ, Bool, true, false, cond, List, [], ◌∷◌, ◌++◌, map, Option, Some, None, option_map}
+use Rattle.std.specs.Prelude.{string_bytes}
 use Rattle.std.specs.Coded.{coded_ℕ, Coded-set}
 use Rattle.std.proofs.Props.{props}
 use Rattle.olr_spec.specs.Extension.{Path}

@@ -1,12 +1,12 @@
 -- What was made anew of a list of named paths, and where it goes.
---     Put      a path with what was made of it, and its place.        puts_of es, made_at r      what was made.        all_put is ps      the list with these at their places
---     item_of name e      an entry of the list under a name
---     items_before o l      the list that is given as the earlier one, or else l itself
---     Stays N T X C m P      no own node and no line of the path is touched, and each look is clear
---     IsFate, IsStep      what is to be done with a path, and what is done
---     Rises old new n, OneMore old new      no count falls, and of n encodings no more are spared;  of one
---     TellsIfOther before name A es fs      an entry behind the others where the answer is not the one that the name had before
-use Rattle.std.specs.Prelude.{◌≡◌, ◌≢◌, ℕ, zero, suc, List, [], ◌∷◌, ◌++◌, map, All, ◌+◌, ◌<◌, ◌≤◌, ◌^◌, Option, Some, None, option_map, unwrap_or, ◌⊎◌}
+--     Put a path with what was made of it, and its place. puts_of es, made_at r what was made. all_put is ps the list
+--     with these at their places item_of name e an entry of the list under a name items_before o l the list that is
+--     given as the earlier one, or else l itself Stays N T X C m P no own node and no line of the path is touched, and
+--     each look is clear IsFate, IsStep what is to be done with a path, and what is done Rises old new n, OneMore old
+--     new no count falls, and of n encodings no more are spared; of one TellsIfOther before name A es fs an entry
+--     behind the others where the answer is not the one that the name had before
+use Rattle.std.specs.Prelude.{◌≡◌, ◌≢◌, ℕ, zero, suc, List, [], ◌∷◌, ◌++◌, map, All, ◌+◌, ◌<◌, ◌≤◌, ◌^◌, Option, Some}
+use Rattle.std.specs.Prelude.{None, option_map, unwrap_or, ◌⊎◌}
 use Rattle.std.specs.Borrow.{Bor}
 use Rattle.olr_spec.specs.Map.{Map}
 use Rattle.olr_spec.specs.Detours.{ChangedLine}
@@ -21,8 +21,8 @@ use Rattle.olr_paths.specs.declared.listing.NamedPath.{NamedPath}
 use Rattle.olr_paths.specs.declared.listing.Listing.{Listing}
 use Rattle.olr_paths.specs.declared.renewal.Renewal.{Renewal}
 use Rattle.olr_paths.specs.declared.renewal.Counted.{Counted}
-use Rattle.olr_paths.specs.declared.renewal.Fate.{Fate}
-use Rattle.olr_paths.specs.declared.renewal.Fate.TheVariants.{Stay, Keep, Encode}
+use Rattle.olr_paths.specs.declared.fates.Fate.{Fate}
+use Rattle.olr_paths.specs.declared.fates.Fate.TheVariants.{Stay, Keep, Encode}
 
 -- an entry of the list under a name
 abbrev pub item_of : List ℕ → NamedPath → Item
@@ -45,7 +45,8 @@ all_put is [] = is
 all_put is (p ∷ ps) = put (all_put is ps) p.place p.path p.made
 
 abbrev pub puts_of : List (ℕ × NamedPath) → List Put
-puts_of es = map (λ e. record { place = e.0; path = e.1.path.value; made = option_map (λ p. made_of p.value) e.1.published }) es
+puts_of es =
+    map (λ e. record { place = e.0; path = e.1.path.value; made = option_map (λ p. made_of p.value) e.1.published }) es
 
 abbrev pub made_at : Renewal → List Put
 made_at r = puts_of r.fresh.items
@@ -60,7 +61,8 @@ abbrev pub items_before : Option (Bor Listing) → Listing → List Item
 items_before o l = unwrap_or (option_map (λ b. items b.now) o) (items l)
 
 abbrev pub TellsIfOther : List Item → List ℕ → Answer → List Entry → List Entry → Type 0
-TellsIfOther before name A es fs = ((answer_in before name ≡ Some A) × (fs ≡ es)) ⊎ ((answer_in before name ≢ Some A) × (fs ≡ es ++ entry name A ∷ []))
+TellsIfOther before name A es fs =
+    ((answer_in before name ≡ Some A) × (fs ≡ es)) ⊎ ((answer_in before name ≢ Some A) × (fs ≡ es ++ entry name A ∷ []))
 
 -- ---- one path
 
@@ -93,8 +95,11 @@ pub record OneMore (old new : Counted) : Type 0 where
   pub encodings : old.work.encodings + 1 < 2 ^ 64 → new.work.encodings ≡ old.work.encodings + 1
   pub rises : Rises old new 1
 
-pub data IsStep (N : Map) (T X : List ℕ) (C : List ChangedLine) (before : List Item) (i : Item) (k : ℕ) (r s : Renewal) (c d : Counted) : Type 0 where
+pub data IsStep (N : Map) (T X : List ℕ) (C : List ChangedLine) (before : List Item) (i : Item) (k : ℕ) (r s : Renewal)
+    (c d : Counted) : Type 0 where
   Left : ToStay N T X i.made i.path → s ≡ r → d ≡ c → IsStep N T X C before i k r s c d
   Kept : ToKeep N T X C i.made i.path → s ≡ r → OneMore c d → IsStep N T X C before i k r s c d
-  Anew : ToEncode N T X i.made i.path → (m : Made) → IsEncodingOf N i.path m → made_at s ≡ made_at r ++ record { place = k; path = i.path; made = Some m } ∷ [] → TellsIfOther before i.name m.answer (entries_of r) (entries_of s)
+  Anew : ToEncode N T X i.made i.path → (m : Made) → IsEncodingOf N i.path m →
+      made_at s ≡ made_at r ++ record { place = k; path = i.path; made = Some m } ∷ [] →
+      TellsIfOther before i.name m.answer (entries_of r) (entries_of s)
       → OneMore c d → IsStep N T X C before i k r s c d

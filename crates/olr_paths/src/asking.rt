@@ -38,7 +38,8 @@ pub(crate) fn search_near<M: MapRead>(
     touched: &Touched,
     near: &mut Search,
 ) -> Result<(), AllocError>
-    ensures search { OnOk result (IsSearch (M.map map.now) (M.place_in map.now) Against (sources touched.now) near.new) }
+    ensures search { OnOk result
+        (IsSearch (M.map map.now) (M.place_in map.now) Against (sources touched.now) near.new) }
     ensures limit { OnOk result (limit_of near.new ≡ limit) }
 {
     let sources = sources_of(alloc, touched)?;
@@ -60,7 +61,7 @@ fn is_near<M: MapRead>(map: &M, touched: &Touched, near: &Search, node: NodeId) 
 }
 
 /// Whether one of the own nodes was touched.
-pub(crate) fn own_touched(touched: &Touched, own: &Footprint) -> bool
+pub(crate) fn is_own_touched(touched: &Touched, own: &Footprint) -> bool
     ensures { IsTrue result ↔ ((v : ℕ) × IsTrue (has (nodes_of touched.now) v) × Contains own.now v) }
 {
     let nodes = own.as_slice();
@@ -68,21 +69,21 @@ pub(crate) fn own_touched(touched: &Touched, own: &Footprint) -> bool
 }
 
 /// Whether one of the lines was touched, by a test of each.
-fn any_touched(touched: &Touched, lines: &[LineId]) -> bool
+fn is_any_touched(touched: &Touched, lines: &[LineId]) -> bool
     ensures { result ≡ list_any (λ x. has (lines_of touched.now) x) lines.now }
 {
     lines.iter().any(|line| touched.has_line(*line))
 }
 
 /// Whether one of the lines was touched.
-pub(crate) fn line_touched(touched: &Touched, lines: &[LineId]) -> bool
+pub(crate) fn is_line_touched(touched: &Touched, lines: &[LineId]) -> bool
     ensures { IsTrue result ↔ ((x : ℕ) × IsTrue (has (lines_of touched.now) x) × IsTrue (has lines.now x)) }
 {
-    any_touched(touched, lines)
+    is_any_touched(touched, lines)
 }
 
 /// Whether a touched node is near to where one of the looks begins.
-fn look_touched<M: MapRead>(
+fn is_look_touched<M: MapRead>(
     map: &M,
     touched: &Touched,
     near: &Search,
@@ -102,7 +103,7 @@ fn look_touched<M: MapRead>(
 }
 
 /// Whether edits concern a path, by what was made of it before them.
-pub(crate) fn touches<M: MapRead>(
+pub(crate) fn is_touched<M: MapRead>(
     map: &M,
     touched: &Touched,
     searches: &Searches,
@@ -113,7 +114,7 @@ pub(crate) fn touches<M: MapRead>(
     ensures { IsTrue result
         ↔ Touches (M.map map.now) (nodes_of touched.now) (lines_of touched.now) (made_of published.now) path.now }
 {
-    own_touched(touched, &published.own)
-        || line_touched(touched, path.lines())
-        || (!searches.far && look_touched(map, touched, &searches.near, published))
+    is_own_touched(touched, &published.own)
+        || is_line_touched(touched, path.lines())
+        || (!searches.far && is_look_touched(map, touched, &searches.near, published))
 }

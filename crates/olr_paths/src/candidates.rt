@@ -106,7 +106,8 @@ fn put_range(from: usize, to: usize, found: &mut Vec<usize>) -> Result<(), Alloc
 /// Puts the positions of the paths in whose place another comes behind others.
 fn put_changed(laid: Laid<'_>, found: &mut Vec<usize>) -> Result<(), AllocError>
     ensures kept { OnOk result (Includes found.old.items found.new.items) }
-    ensures put { OnOk result (FindsChanged (changes_of laid.entry.overlay.now) (items laid.entry.list.now) found.new.items) }
+    ensures put { OnOk result
+        (FindsChanged (changes_of laid.entry.overlay.now) (items laid.entry.list.now) found.new.items) }
 {
     let _names = laid.list.len();
     for k in 0..laid.overlay.changes.len() {
@@ -121,8 +122,8 @@ fn put_changed(laid: Laid<'_>, found: &mut Vec<usize>) -> Result<(), AllocError>
     Ok(())
 }
 
-/// Puts the positions of the paths that edits may concern behind others: those that have a touched node or line, or look from
-/// a node that the search reached.
+/// Puts the positions of the paths that edits may concern behind others: those that have a touched node or line, or
+/// look from a node that the search reached.
 fn put_touched<M: MapRead>(
     map: &M,
     list: &Listing,
@@ -154,9 +155,11 @@ fn put_listed<M: MapRead>(
     searches: &Searches,
     found: &mut Vec<usize>,
 ) -> Result<(), AllocError>
-    ensures changed { OnOk result (FindsChanged (changes_of laid.entry.overlay.now) (items laid.entry.list.now) found.new.items) }
+    ensures changed { OnOk result
+        (FindsChanged (changes_of laid.entry.overlay.now) (items laid.entry.list.now) found.new.items) }
     ensures asked { OnOk result
-        (CoversAsked (M.map map.now) (M.place_in map.now) touched.now searches.now (items laid.entry.list.now) found.new.items) }
+        (CoversAsked (M.map map.now) (M.place_in map.now) touched.now searches.now (items laid.entry.list.now)
+        found.new.items) }
 {
     if laid.list.held {
         put_range(0, laid.list.paths.len(), found)?;
@@ -167,8 +170,8 @@ fn put_listed<M: MapRead>(
     Ok(())
 }
 
-/// The positions, rising, of paths that edits may concern, or that changes give; a position may stand twice. All positions,
-/// where a path may be there that was not encoded yet.
+/// The positions, rising, of paths that edits may concern, or that changes give; a position may stand twice. All
+/// positions, where a path may be there that was not encoded yet.
 pub(crate) fn candidates<M: MapRead>(
     alloc: Global,
     map: &M,
@@ -179,7 +182,8 @@ pub(crate) fn candidates<M: MapRead>(
     requires { AreAsked (M.map map.now) (M.place_in map.now) touched.now searches.now (shown_items laid) }
     ensures rising { IfOk result (λ found. IsNonDecreasing found.items) }
     ensures covers { IfOk result
-        (λ found. Covers (M.map map.now) (nodes_of touched.now) (lines_of touched.now) (shown_items laid.entry) found.items) }
+        (λ found. Covers (M.map map.now) (nodes_of touched.now) (lines_of touched.now) (shown_items laid.entry)
+        found.items) }
 {
     let count = laid.list.paths.len();
     let mut found = Vec::new(alloc);

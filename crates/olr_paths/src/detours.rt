@@ -40,8 +40,8 @@ fn ends_of(alloc: Global, touched: &Touched) -> Result<Vec<(NodeId, u32)>, Alloc
     Ok(ends)
 }
 
-/// Searches within a limit in decimetres to where changed lines begin and from where they end, unless there are too many. The
-/// limit of the searches, if they were made.
+/// Searches within a limit in decimetres to where changed lines begin and from where they end, unless there are too
+/// many. The limit of the searches, if they were made.
 pub(crate) fn search_detours<M: MapRead>(
     alloc: Global,
     map: &M,
@@ -49,7 +49,8 @@ pub(crate) fn search_detours<M: MapRead>(
     limit: u32,
     searches: &mut Searches,
 ) -> Result<Option<u32>, AllocError>
-    ensures asked { IfOk result (λ asked. IfSome asked (AreDetours (M.map map.now) (M.place_in map.now) touched.now searches.new)) }
+    ensures asked { IfOk result
+        (λ asked. IfSome asked (AreDetours (M.map map.now) (M.place_in map.now) touched.now searches.new)) }
     ensures near { searches.new.near ≡ searches.old.near }
     ensures far { searches.new.far ≡ searches.old.far }
 {

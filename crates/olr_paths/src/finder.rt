@@ -32,7 +32,8 @@ impl Finder {
         }
     }
 
-    /// Gives the lines, the own nodes and the nodes from which a path looks its mark. After want of memory some have it.
+    /// Gives the lines, the own nodes and the nodes from which a path looks its mark. After want of memory some have
+    /// it.
     pub(crate) fn note(
         &mut self,
         mark: u64,
@@ -118,7 +119,7 @@ fn note_looks(index: &mut Index, mark: u64, looks: &[Look]) -> Result<(), AllocE
 }
 
 /// Whether one of the looks looks from a node.
-fn looks_from(looks: &[Look], node: NodeId) -> bool
+fn is_looked_from(looks: &[Look], node: NodeId) -> bool
     ensures { (l : LookRecord) → Contains looks.now l → l.from ≡ node → IsTrue result }
 {
     for look in looks {
@@ -149,7 +150,7 @@ fn forget_looks(index: &mut Index, mark: u64, gone: &[Look], kept: &[Look])
     ensures spares { KeepsBut mark index.old index.new }
 {
     for look in gone {
-        if looks_from(kept, look.from) {
+        if is_looked_from(kept, look.from) {
             continue;
         }
         index.remove(u64::from(look.from.number()), mark);

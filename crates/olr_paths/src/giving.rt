@@ -1,5 +1,6 @@
 //! Paths that are added or set one at a time, and encoded at once.
-ghost use Rattle.std.specs.Prelude.{◌≡◌, ◌≢◌, ◌+◌, ◌^◌, ◌<◌, ◌≤◌, ◌⊎◌, [], ◌∷◌, ◌++◌, ℕ, Contains, false, Some, map as list_map, is_some, string_bytes, option_map, IfOk, OnOk, OnErr};
+ghost use Rattle.std.specs.Prelude.{◌≡◌, ◌≢◌, ◌+◌, ◌^◌, ◌<◌, ◌≤◌, ◌⊎◌, [], ◌∷◌, ◌++◌, ℕ, Contains, false, Some};
+ghost use Rattle.std.specs.Prelude.{map as list_map, is_some, string_bytes, option_map, IfOk, OnOk, OnErr};
 ghost use Rattle.olr_spec.specs.Encoding.{Answer};
 ghost use Rattle.olr_commands.specs.State.{path_named};
 ghost use Rattle.olr_commands.specs.Reply.{entry};
@@ -59,8 +60,8 @@ impl Listing {
         Ok(entries)
     }
 
-    /// Encodes another path under a name. It keeps its place, and the reply names it if its answer is another than before.
-    /// After want of memory list and work are as before.
+    /// Encodes another path under a name. It keeps its place, and the reply names it if its answer is another than
+    /// before. After want of memory list and work are as before.
     pub fn set<M: MapRead>(
         &mut self,
         alloc: Global,

@@ -5,8 +5,8 @@ use crate::listing::Listing;
 use crate::overlay::Overlay;
 use crate::showing::{Shown, show, show_under};
 
-/// A list and changes that lie over it and take none of its paths away. A path has the position that it has in the list; the
-/// new ones stand behind.
+/// A list and changes that lie over it and take none of its paths away. A path has the position that it has in the
+/// list; the new ones stand behind.
 #[derive(Clone, Copy)]
 pub(crate) struct Laid<'a> {
     pub(crate) list: &'a Listing,

@@ -57,7 +57,8 @@ pub struct Listing {
 }
 
 impl Listing {
-    ghost use Rattle.std.specs.Prelude.{◌≡◌, [], ◌∷◌, ◌++◌, true, false, not, None, map, filter, take, length, is_some, slice_get, string_bytes, option_map, IfOk, OnOk, OnErr};
+    ghost use Rattle.std.specs.Prelude.{◌≡◌, [], ◌∷◌, ◌++◌, true, false, not, None, map, filter, take, length, is_some};
+    ghost use Rattle.std.specs.Prelude.{slice_get, string_bytes, option_map, IfOk, OnOk, OnErr};
     ghost use Rattle.olr_commands.specs.State.{NamesDiffer, path_named, same_name};
     ghost use Rattle.olr_paths.specs.Items.{items, made_of, all_named, made_in};
     ghost use Rattle.olr_paths.specs.Changes.{set_item};
@@ -129,7 +130,8 @@ impl Listing {
         self.put_last(name, named)
     }
 
-    /// Puts another path, not encoded yet, under a name. It keeps its place. After want of memory the list is as before.
+    /// Puts another path, not encoded yet, under a name. It keeps its place. After want of memory the list is as
+    /// before.
     pub fn hold_other(&mut self, alloc: Global, name: &str, path: Path) -> Result<(), AllocError>
         requires { is_some (path_named (all_named (items self.old)) name.now) ≡ true }
         ensures ok { OnOk result (items self.new ≡ map (set_item name.now path None) (items self.old)) }
@@ -179,10 +181,7 @@ impl Listing {
             Ok(_) => (),
             Err(_) => unreachable!(),
         }
-        match self.marks.push(mark) {
-            Ok(()) => (),
-            Err(_) => unreachable!(),
-        }
+        self.marks.push_reserved(mark);
         self.held = held;
         Ok(())
     }
@@ -198,7 +197,8 @@ impl Listing {
     /// Puts another path under a name, in its place. After want of memory the list is as before.
     pub(crate) fn put_other(&mut self, name: &str, named: NamedPath) -> Result<(), AllocError>
         ensures ok { OnOk result (items self.new
-            ≡ map (set_item name.now named.path.value (option_map (λ p. made_of p.value) named.published)) (items self.old)) }
+            ≡ map (set_item name.now named.path.value (option_map (λ p. made_of p.value) named.published))
+            (items self.old)) }
         ensures err { OnErr result (items self.new ≡ items self.old) }
     {
         let _names = self.len();
@@ -239,8 +239,8 @@ fn next_mark(marks: &[u64]) -> Result<u64, AllocError>
     }
 }
 
-/// Gives what a path has its mark, if it was encoded. After want of memory it is taken again, but from what the path that is
-/// kept has.
+/// Gives what a path has its mark, if it was encoded. After want of memory it is taken again, but from what the path
+/// that is kept has.
 fn note_named(
     finder: &mut Finder,
     mark: u64,
@@ -262,8 +262,8 @@ fn note_named(
     noted
 }
 
-/// Gives what a path has the mark of the one in whose place it comes, and takes it from what that one had. After want of
-/// memory that one has it still.
+/// Gives what a path has the mark of the one in whose place it comes, and takes it from what that one had. After want
+/// of memory that one has it still.
 fn renote(
     finder: &mut Finder,
     mark: u64,

@@ -1,10 +1,12 @@
 //! Changes of a list of named paths that are held until they are taken up all at once.
-ghost use Rattle.std.specs.Prelude.{◌≡◌, List, [], ◌∷◌, ◌++◌, map, take, length, false, is_some, IsFalse, IfOk, OnOk, OnErr};
+ghost use Rattle.std.specs.Prelude.{◌≡◌, List, [], ◌∷◌, ◌++◌, map, take, length, false, is_some, IsFalse, IfOk, OnOk};
+ghost use Rattle.std.specs.Prelude.{OnErr};
 ghost use Rattle.std.specs.Option.{option_to_list};
 ghost use Rattle.olr_commands.specs.State.{NamesDiffer, path_named};
 ghost use Rattle.olr_paths.specs.Items.{Item, items, all_named};
 ghost use Rattle.olr_paths.specs.Renewing.{item_of};
-ghost use Rattle.olr_paths.specs.Laying.{TakesNone, changes_in, changes_of, change_at, drops, under_change, under_changes, under_overlay};
+ghost use Rattle.olr_paths.specs.Laying.{TakesNone, changes_in, changes_of, change_at, drops, under_change};
+ghost use Rattle.olr_paths.specs.Laying.{under_changes, under_overlay};
 
 use crate::listing::{Listing, NamedPath};
 use indexmap::IndexMap;
@@ -12,8 +14,8 @@ use olr_refs::Path;
 use std::alloc::{AllocError, Global};
 use std::rc::Rc;
 
-/// Changes that lie over a list of named paths: another path in the place of one, one taken away, new ones behind all others.
-/// A name that is taken away and comes anew is among both.
+/// Changes that lie over a list of named paths: another path in the place of one, one taken away, new ones behind all
+/// others. A name that is taken away and comes anew is among both.
 #[derive(Drop, Debug)]
 pub struct Overlay {
     /// What becomes of paths of the list. None where the path is taken away.
@@ -51,7 +53,8 @@ fn put_one(
     named: &NamedPath,
     to: &mut Listing,
 ) -> Result<(), AllocError>
-    requires { (j : Item) → under_change (change_at (changes_in changes.now.entries) name.now) (item_of name.now named.now) ≡ j ∷ []
+    requires { (j : Item) → under_change (change_at (changes_in changes.now.entries) name.now)
+        (item_of name.now named.now) ≡ j ∷ []
         → is_some (path_named (all_named (items to.old)) name.now) ≡ false }
     ensures ok { OnOk result (items to.new ≡ items to.old
         ++ under_change (change_at (changes_in changes.now.entries) name.now) (item_of name.now named.now)) }
@@ -64,7 +67,8 @@ fn put_one(
     Ok(())
 }
 
-/// Puts a list under changes behind another. It shares paths and answers with it. After want of memory only some are put.
+/// Puts a list under changes behind another. It shares paths and answers with it. After want of memory only some are
+/// put.
 pub(crate) fn put_behind(
     alloc: Global,
     changes: &IndexMap<String, Option<Rc<Path>>>,
@@ -87,7 +91,8 @@ pub(crate) fn put_behind(
 }
 
 impl Overlay {
-    ghost use Rattle.std.specs.Prelude.{◌≡◌, [], ◌∷◌, ◌++◌, List, map, filter, not, true, false, None, is_some, string_bytes, IsFalse, IfOk, OnOk, OnErr};
+    ghost use Rattle.std.specs.Prelude.{◌≡◌, [], ◌∷◌, ◌++◌, List, map, filter, not, true, false, None, is_some};
+    ghost use Rattle.std.specs.Prelude.{string_bytes, IsFalse, IfOk, OnOk, OnErr};
     ghost use Rattle.olr_commands.specs.State.{NamesDiffer, path_named, same_name};
     ghost use Rattle.olr_paths.specs.Items.{Item, items, all_named};
     ghost use Rattle.olr_paths.specs.Changes.{set_item};

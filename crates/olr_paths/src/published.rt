@@ -36,7 +36,10 @@ impl Published {
     pub fn text(&self) -> Option<&str>
         ensures { option_map (λ t. t.now) result ≡ result_ok (published_text (made_of self.now).answer) }
     {
-        self.text.as_deref()
+        match &self.text {
+            Some(text) => Some(text.as_str()),
+            None => None,
+        }
     }
 
     /// The path's own nodes, rising: those of its extended path and of the tried chains.

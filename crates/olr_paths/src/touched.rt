@@ -6,8 +6,8 @@ ghost use Rattle.olr_spec.specs.Map.{has};
 use olr_map::{LineId, NodeId};
 use std::alloc::{AllocError, Global};
 
-/// Where a changed line begins and ends, and the lesser of its lengths before and after, in decimetres: its length, where
-/// it was added or dropped.
+/// Where a changed line begins and ends, and the lesser of its lengths before and after, in decimetres: its length,
+/// where it was added or dropped.
 #[derive(Clone, Copy, Debug)]
 pub struct ChangedLine {
     /// Where it begins.
@@ -78,8 +78,10 @@ impl Touched {
         changed: Option<ChangedLine>,
     )
         requires { HasRoom self.old }
-        ensures nodes { (v : ℕ) → has (nodes_of self.new) v ≡ (has (nodes_of self.old) v || ((nodes.0 == v) || (nodes.1 == v))) }
-        ensures lines { (x : ℕ) → has (lines_of self.new) x ≡ (has (lines_of self.old) x || has (option_to_list line) x) }
+        ensures nodes { (v : ℕ) → has (nodes_of self.new) v
+            ≡ (has (nodes_of self.old) v || ((nodes.0 == v) || (nodes.1 == v))) }
+        ensures lines { (x : ℕ) → has (lines_of self.new) x
+            ≡ (has (lines_of self.old) x || has (option_to_list line) x) }
         ensures changed { changed_of self.new ≡ changed_of self.old ++ map change_of (option_to_list changed) }
     {
         put_node(&mut self.nodes, nodes.0);
@@ -88,10 +90,7 @@ impl Touched {
             put_line(&mut self.lines, line);
         }
         if let Some(changed) = changed {
-            match self.changed.push(changed) {
-                Ok(()) => (),
-                Err(_) => unreachable!(),
-            }
+            self.changed.push_reserved(changed);
         }
     }
 

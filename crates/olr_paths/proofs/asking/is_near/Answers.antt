@@ -16,12 +16,16 @@ returns-in-Some g c =
     let there = c.in-Some.ensures.0 in
     let same : g.M.MapRead.place_in c.args.map.now c.args.node ≡ c.in-Some.place = sym c.in-Some.ensures.1 in
     let tells : Tells N Against (sources c.args.touched.now) c.args.node limit c.dist_at.result =
-    λ d. subst (λ (most : ℕ). (c.dist_at.result ≡ Some d) ↔ (IsDistance N Against (sources c.args.touched.now) c.args.node d × (d ≤ most))) c.requires.limit
-    (c.dist_at.ensures N (g.M.MapRead.place_in c.args.map.now) Against (sources c.args.touched.now) c.args.node d c.requires.search there same) in
-    subst (λ (b : Bool). IsTrue b ↔ Near N T c.args.node limit) (sym c.is_some.ensures) (near_by N (g.met.M.MapRead.sound c.args.map.now) T c.args.node c.dist_at.result there tells)
+    λ d. subst (λ (most : ℕ). (c.dist_at.result ≡ Some d) ↔
+    (IsDistance N Against (sources c.args.touched.now) c.args.node d × (d ≤ most))) c.requires.limit
+    (c.dist_at.ensures N (g.M.MapRead.place_in c.args.map.now) Against (sources c.args.touched.now) c.args.node d
+    c.requires.search there same) in
+    subst (λ (b : Bool). IsTrue b ↔ Near N T c.args.node limit) (sym c.is_some.ensures)
+    (near_by N (g.met.M.MapRead.sound c.args.map.now) T c.args.node c.dist_at.result there tells)
 
 pub returns-in-None : goal.returns-in-None
 returns-in-None g c =
     let N = g.M.MapRead.map c.args.map.now in
     let T = nodes_of c.args.touched.now in
-    subst (λ (b : Bool). IsTrue b ↔ Near N T c.args.node limit) (sym c.has_node.ensures) (near_absent N (g.met.M.MapRead.sound c.args.map.now) T c.args.node c.in-None.ensures)
+    subst (λ (b : Bool). IsTrue b ↔ Near N T c.args.node limit) (sym c.has_node.ensures)
+    (near_absent N (g.met.M.MapRead.sound c.args.map.now) T c.args.node c.in-None.ensures)

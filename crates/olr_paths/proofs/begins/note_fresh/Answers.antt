@@ -14,7 +14,9 @@ loop-named-preserved c = λ v h.
     let es : Fresh = c.args.fresh.now in
     let k = c.loop-named.named-index in
     let e : ℕ × NamedPath = c.loop-named-item.result in
-    let more : take (k + 1) es ≡ take k es ++ e ∷ [] = take_more es k e c.loop-named-test.true ∙ ap (λ (x : ℕ × NamedPath). take k es ++ x ∷ []) (sym c.loop-named-item.is) in
+    let more : take (k + 1) es ≡ take k es ++ e ∷ [] =
+    take_more es k e c.loop-named-test.true
+    ∙ ap (λ (x : ℕ × NamedPath). take k es ++ x ∷ []) (sym c.loop-named-item.is) in
     elim (begins_push (take k es) e v (subst (λ (xs : Fresh). BeginsPut (puts_of xs) v) more h)) [
       | inl a ↦ c.in_ok-note_named.ensures.before v (c.loop-named.invariant v a)
       | inr b ↦ c.in_ok-note_named.ensures.named v b
@@ -23,4 +25,6 @@ loop-named-preserved c = λ v h.
 pub returns : goal.returns
 returns c = λ v h.
     let es : Fresh = c.args.fresh.now in
-    c.loop-named.invariant v (subst (λ (xs : Fresh). BeginsPut (puts_of xs) v) (sym (take_all c.loop-named.named-index es (omega (arith, c.loop-named-test.false)))) h)
+    c.loop-named.invariant v
+    (subst (λ (xs : Fresh). BeginsPut (puts_of xs) v)
+    (sym (take_all c.loop-named.named-index es (omega (arith, c.loop-named-test.false)))) h)

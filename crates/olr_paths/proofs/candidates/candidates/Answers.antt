@@ -10,7 +10,8 @@ use Rattle.olr_paths.proofs.Covering.{covers_order, covers_laid, covers_grown, c
 use Rattle.olr_paths.proofs.candidates.candidates.Goals as goal
 
 pub returns-clause-rising : goal.returns-clause-rising
-returns-clause-rising g c = IsNonDecreasingBy-from_sort (λ (n : ℕ). n) c.sort_unstable.new.self.items c.sort_unstable.ensures.sorted
+returns-clause-rising g c =
+    IsNonDecreasingBy-from_sort (λ (n : ℕ). n) c.sort_unstable.new.self.items c.sort_unstable.ensures.sorted
 
 pub returns-clause-covers : goal.returns-clause-covers
 returns-clause-covers g c =
@@ -25,8 +26,13 @@ returns-clause-covers g c =
     let one = c.put_listed.new.found.items in
     let two = c.put_range.new.found.items in
     let kept = c.in_ok-put_range.ensures.kept in
-    let long : c.len-count.result ≡ length is = c.len-count.ensures.len ∙ sym (length-map l.list.now.paths.entries item_of) in
-    let more : c.len.result ≡ length ys = c.len.ensures.len ∙ sym (length-map l.overlay.now.added.paths.entries item_of) in
-    covers_order N (nodes_of t) (lines_of t) (shown_items l) two c.sort_unstable.new.self.items c.sort_unstable.ensures.permutation
-    (covers_laid cs is ys l.keeps N place t s two (covers_grown N place t s is one two kept c.in_ok-put_listed.ensures.asked) (changed_grown cs is one two kept c.in_ok-put_listed.ensures.changed)
+    let long : c.len-count.result ≡ length is =
+    c.len-count.ensures.len ∙ sym (length-map l.list.now.paths.entries item_of) in
+    let more : c.len.result ≡ length ys =
+    c.len.ensures.len ∙ sym (length-map l.overlay.now.added.paths.entries item_of) in
+    covers_order N (nodes_of t) (lines_of t) (shown_items l) two c.sort_unstable.new.self.items
+    c.sort_unstable.ensures.permutation
+    (covers_laid cs is ys l.keeps N place t s two
+    (covers_grown N place t s is one two kept c.in_ok-put_listed.ensures.asked)
+    (changed_grown cs is one two kept c.in_ok-put_listed.ensures.changed)
     (λ k low high. c.in_ok-put_range.ensures.put k (omega arith) (omega arith)) c.requires)

@@ -3,4 +3,6 @@ use Rattle.olr_paths.proofs.Marking.{position_by}
 use Rattle.olr_paths.proofs.candidates.position_of.Goals as goal
 
 pub returns : goal.returns
-returns c = λ k lt is. c.ok.ensures.value ∙ position_by c.args.marks.now c.args.mark c.binary_search.result c.requires c.binary_search.ensures.position k lt is
+returns c =
+    λ k lt is. c.ok.ensures.value ∙ position_by c.args.marks.now c.args.mark c.binary_search.result c.requires
+    c.binary_search.ensures.position k lt is

@@ -1,4 +1,5 @@
-use Rattle.std.proofs.Common.{◌≡◌, ◌++◌, ◌∷◌, [], ◌∙◌, ℕ, List, Option, String, Global, take, refl, false, sym, subst, arith}
+use Rattle.std.proofs.Common.{◌≡◌, ◌++◌, ◌∷◌, [], ◌∙◌, ℕ, List, Option, String, Global, take, refl, false, sym, subst}
+use Rattle.std.proofs.Common.{arith}
 use Rattle.std.proofs.lemmas.List.{take_all}
 use Rattle.std.specs.Prelude.{string_bytes}
 use Rattle.olr_spec.specs.Map.{has}
@@ -29,8 +30,11 @@ loop-k-preserved-in_default-get_index_of c =
     let more = take_more_changes cs at e (sym c.in-Some.ensures.entry) in (
       c.loop-k.invariant.0,
       subst (λ (ds : Changes). FindsChanged ds (items c.args.laid.list.now) now) (sym more)
-          (changed_more (changes_in (take at cs)) (string_bytes e.0, path_in e.1) (items c.args.laid.list.now) now now (λ k on. on) c.loop-k.invariant.1
-          (λ k i there off. same_flip (string_bytes e.0) i.name ∙ subst (λ (n : List ℕ). same_name i.name n ≡ false) c.as_str.ensures.value (not_there es name k i (sym (named_there es name) ∙ sym c.in_default-get_index_of.ensures.found) there))),
+          (changed_more (changes_in (take at cs)) (string_bytes e.0, path_in e.1) (items c.args.laid.list.now) now now
+          (λ k on. on) c.loop-k.invariant.1
+          (λ k i there off. same_flip (string_bytes e.0) i.name
+          ∙ subst (λ (n : List ℕ). same_name i.name n ≡ false) c.as_str.ensures.value
+          (not_there es name k i (sym (named_there es name) ∙ sym c.in_default-get_index_of.ensures.found) there))),
     )
 
 pub loop-k-preserved : goal.loop-k-preserved
@@ -45,13 +49,16 @@ loop-k-preserved c =
     let now = c.push.new.self.items in
     let put : now ≡ old ++ q ∷ [] = c.in_ok-push.ensures.items in
     let kept : Includes old now = subst (λ (xs : List ℕ). Includes old xs) (sym put) (pushed_kept old q) in
-    let first : First name es q = first_at es name q c.in-Some-get_index_of.ensures.within (sym c.in-Some-get_index_of.ensures.index) in
+    let first : First name es q =
+    first_at es name q c.in-Some-get_index_of.ensures.within (sym c.in-Some-get_index_of.ensures.index) in
     let more = take_more_changes cs at e (sym c.in-Some.ensures.entry) in (
       (λ k on. kept k (c.loop-k.invariant.0 k on)),
       subst (λ (ds : Changes). FindsChanged ds (items c.args.laid.list.now) now) (sym more)
-          (changed_more (changes_in (take at cs)) (string_bytes e.0, path_in e.1) (items c.args.laid.list.now) old now kept c.loop-k.invariant.1
+          (changed_more (changes_in (take at cs)) (string_bytes e.0, path_in e.1) (items c.args.laid.list.now) old now
+          kept c.loop-k.invariant.1
           (λ k i there off. subst (λ (n : List ℕ). same_name n i.name ≡ false) c.as_str.ensures.value
-          (others_apart es name q old first c.len-names.ensures.names k i there (subst (λ (xs : List ℕ). has xs k ≡ false) put off)))),
+          (others_apart es name q old first c.len-names.ensures.names k i there
+          (subst (λ (xs : List ℕ). has xs k ≡ false) put off)))),
     )
 
 pub returns-clause-kept : goal.returns-clause-kept
@@ -60,4 +67,5 @@ returns-clause-kept c = c.loop-k.invariant.0
 pub returns-clause-put : goal.returns-clause-put
 returns-clause-put c =
     let cs : Entered = c.args.laid.overlay.now.changes.entries in
-    subst (λ (ds : Entered). FindsChanged (changes_in ds) (items c.args.laid.list.now) c.loop-k.found.items) (take_all c.loop-k.k cs (omega (arith, c.loop-k-test.false, c.len-k-end.ensures.len))) c.loop-k.invariant.1
+    subst (λ (ds : Entered). FindsChanged (changes_in ds) (items c.args.laid.list.now) c.loop-k.found.items)
+    (take_all c.loop-k.k cs (omega (arith, c.loop-k-test.false, c.len-k-end.ensures.len))) c.loop-k.invariant.1

@@ -6,4 +6,6 @@ use Rattle.olr_paths.proofs.candidates.put_changed.Given as goal
 
 -- the positions of the changes so far are put
 abbrev pub invariant-loop-k : goal.invariant-loop-k
-invariant-loop-k l = Includes l.initial.found.items l.found.items × FindsChanged (changes_in (take l.k l.laid.overlay.now.changes.entries)) (items l.laid.list.now) l.found.items
+invariant-loop-k l =
+    Includes l.initial.found.items l.found.items
+    × FindsChanged (changes_in (take l.k l.laid.overlay.now.changes.entries)) (items l.laid.list.now) l.found.items

@@ -4,4 +4,5 @@ use Rattle.olr_paths.proofs.candidates.put_lines.Given as goal
 
 -- the positions of those so far are put
 abbrev pub invariant-loop-line : goal.invariant-loop-line
-invariant-loop-line l = PutAll (λ (v : ℕ). v) l.marks l.index (take l.line-index l.lines) l.initial.found.items l.found.items
+invariant-loop-line l =
+    PutAll (λ (v : ℕ). v) l.marks l.index (take l.line-index l.lines) l.initial.found.items l.found.items

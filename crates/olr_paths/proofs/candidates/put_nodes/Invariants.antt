@@ -4,4 +4,5 @@ use Rattle.olr_paths.proofs.candidates.put_nodes.Given as goal
 
 -- the positions of those so far are put
 abbrev pub invariant-loop-node : goal.invariant-loop-node
-invariant-loop-node l = PutAll (λ (v : ℕ). v) l.marks l.index (take l.node-index l.nodes) l.initial.found.items l.found.items
+invariant-loop-node l =
+    PutAll (λ (v : ℕ). v) l.marks l.index (take l.node-index l.nodes) l.initial.found.items l.found.items

@@ -8,11 +8,16 @@ loop-one-init c = put_all_none (λ (r : Reached). r.node) c.args.marks.now c.arg
 
 pub loop-one-preserved : goal.loop-one-preserved
 loop-one-preserved c =
-    put_all_more (λ (r : Reached). r.node) c.args.marks.now c.args.index.now c.args.found.now.items c.args.reached.now c.loop-one.one-index c.one-item.result c.from.result c.of.result.now c.loop-one.found.items c.put_positions.new.found.items
-    c.loop-one-test.true (c.from.ensures ∙ c.number.ensures.same ∙ ap (λ (r : Reached). r.node) c.one-item.is) c.of.ensures.marks c.loop-one.invariant c.in_ok-put_positions.ensures.kept c.in_ok-put_positions.ensures.put
+    put_all_more (λ (r : Reached). r.node) c.args.marks.now c.args.index.now c.args.found.now.items c.args.reached.now
+    c.loop-one.one-index c.one-item.result c.from.result c.of.result.now c.loop-one.found.items
+    c.put_positions.new.found.items
+    c.loop-one-test.true (c.from.ensures ∙ c.number.ensures.same ∙ ap (λ (r : Reached). r.node) c.one-item.is)
+    c.of.ensures.marks c.loop-one.invariant c.in_ok-put_positions.ensures.kept c.in_ok-put_positions.ensures.put
 
 pub returns-clause-kept : goal.returns-clause-kept
 returns-clause-kept c = c.loop-one.invariant.kept
 
 pub returns-clause-put : goal.returns-clause-put
-returns-clause-put c = put_all_end (λ (r : Reached). r.node) c.args.marks.now c.args.index.now c.args.found.now.items c.args.reached.now c.loop-one.one-index c.loop-one.found.items c.loop-one-test.false c.loop-one.invariant
+returns-clause-put c =
+    put_all_end (λ (r : Reached). r.node) c.args.marks.now c.args.index.now c.args.found.now.items c.args.reached.now
+    c.loop-one.one-index c.loop-one.found.items c.loop-one-test.false c.loop-one.invariant

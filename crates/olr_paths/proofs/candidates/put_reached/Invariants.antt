@@ -5,4 +5,5 @@ use Rattle.olr_paths.proofs.candidates.put_reached.Given as goal
 
 -- the positions of those so far are put
 abbrev pub invariant-loop-one : goal.invariant-loop-one
-invariant-loop-one l = PutAll (λ (r : Reached). r.node) l.marks l.index (take l.one-index l.reached) l.initial.found.items l.found.items
+invariant-loop-one l =
+    PutAll (λ (r : Reached). r.node) l.marks l.index (take l.one-index l.reached) l.initial.found.items l.found.items

@@ -20,10 +20,14 @@ returns g c =
     let from_is : raw.from ≡ l.from = ap (λ (k : Look). k.from) c.look.view_is in
     let to_is : raw.to ≡ l.to = ap (λ (k : Look). k.to) c.look.view_is in
     let within_is : raw.within ≡ l.within = ap (λ (k : Look). k.within) c.look.view_is in
-    let from_there : IsTrue (has_node N l.from) = subst (λ (v : ℕ). IsTrue (has_node N v)) from_is c.in-Some.ensures.0 in
-    let to_there : IsTrue (has_node N l.to) = subst (λ (v : ℕ). IsTrue (has_node N v)) to_is c.in-Some-place_of.ensures.0 in
-    let from_at : place l.from ≡ c.in-Some.from = subst (λ (v : ℕ). place v ≡ c.in-Some.from) from_is (sym c.in-Some.ensures.1) in
-    let to_at : place l.to ≡ c.in-Some-place_of.to = subst (λ (v : ℕ). place v ≡ c.in-Some-place_of.to) to_is (sym c.in-Some-place_of.ensures.1) in
+    let from_there : IsTrue (has_node N l.from) =
+    subst (λ (v : ℕ). IsTrue (has_node N v)) from_is c.in-Some.ensures.0 in
+    let to_there : IsTrue (has_node N l.to) =
+    subst (λ (v : ℕ). IsTrue (has_node N v)) to_is c.in-Some-place_of.ensures.0 in
+    let from_at : place l.from ≡ c.in-Some.from =
+    subst (λ (v : ℕ). place v ≡ c.in-Some.from) from_is (sym c.in-Some.ensures.1) in
+    let to_at : place l.to ≡ c.in-Some-place_of.to =
+    subst (λ (v : ℕ). place v ≡ c.in-Some-place_of.to) to_is (sym c.in-Some-place_of.ensures.1) in
     let before : Tells N Against (all_starts C) l.from (limit_of s.before) c.dist_at-before.result =
     subst (λ (xs : List (ℕ × ℕ)). Tells N Against xs l.from (limit_of s.before) c.dist_at-before.result) (starts_are t)
     (λ d. c.dist_at-before.ensures N place Against (starts t) l.from d c.requires.before from_there from_at) in
@@ -33,5 +37,7 @@ returns g c =
     let below : raw.within ≤ c.args.limit = c.if-look-limit.false in
     let first : l.within ≤ limit_of s.before = omega (arith, below, within_is, c.requires.before_limit) in
     let second : l.within ≤ limit_of s.after = omega (arith, below, within_is, c.requires.after_limit) in
-    λ yes. clear_by N (g.met.M.MapRead.sound c.args.map.now) C l.from l.to l.within (limit_of s.before) (limit_of s.after) from_there to_there first second c.dist_at-before.result c.dist_at-after.result before after
-    (subst (λ (d : ℕ). AreFarther c.dist_at-before.result c.dist_at-after.result d) within_is (c.is_farther.ensures yes))
+    λ yes. clear_by N (g.met.M.MapRead.sound c.args.map.now) C l.from l.to l.within (limit_of s.before)
+    (limit_of s.after) from_there to_there first second c.dist_at-before.result c.dist_at-after.result before after
+    (subst (λ (d : ℕ). AreFarther c.dist_at-before.result c.dist_at-after.result d) within_is
+    (c.is_farther.ensures yes))

@@ -3,4 +3,5 @@ use Rattle.olr_paths.specs.declared.touched.ChangedLine.{ChangedLine}
 use Rattle.olr_paths.proofs.detours.starts_of.Given as goal
 
 abbrev pub invariant-loop-line : goal.invariant-loop-line
-invariant-loop-line l = l.starts.items ≡ map {A = ChangedLine} {B = ℕ × ℕ} (λ c. (c.from, c.len)) (take l.line-index l.changed)
+invariant-loop-line l =
+    l.starts.items ≡ map {A = ChangedLine} {B = ℕ × ℕ} (λ c. (c.from, c.len)) (take l.line-index l.changed)

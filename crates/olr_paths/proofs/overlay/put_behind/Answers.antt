@@ -13,10 +13,12 @@ put_one-requires c =
     let is = items c.args.list.now in
     let named = c.in-Some.named.now in
     let i : Item = item_of (c.in-Some.name.now, named) in
-    let at : slice_get is c.loop-k.k ≡ Some i = item_at c.args.list.now.paths.entries c.loop-k.k (c.in-Some.name.now, named) (sym c.in-Some.ensures.entry) in
+    let at : slice_get is c.loop-k.k ≡ Some i =
+    item_at c.args.list.now.paths.entries c.loop-k.k (c.in-Some.name.now, named) (sym c.in-Some.ensures.entry) in
     subst (λ (q : List ℕ). absent (items c.loop-k.to) q) (sym c.as_str.ensures.value)
     (put_free cs is (items c.args.to.now) c.loop-k.k i at (items c.loop-k.to) named j c.loop-k.invariant
-    (subst (λ (q : List ℕ). under_change (change_at cs q) (renewing.item_of q named) ≡ j ∷ []) c.as_str.ensures.value one) refl c.requires)
+    (subst (λ (q : List ℕ). under_change (change_at cs q) (renewing.item_of q named) ≡ j ∷ []) c.as_str.ensures.value
+    one) refl c.requires)
 
 pub loop-k-preserved : goal.loop-k-preserved
 loop-k-preserved c =
@@ -24,14 +26,17 @@ loop-k-preserved c =
     let is = items c.args.list.now in
     let named = c.in-Some.named.now in
     let i : Item = item_of (c.in-Some.name.now, named) in
-    let at : slice_get is c.loop-k.k ≡ Some i = item_at c.args.list.now.paths.entries c.loop-k.k (c.in-Some.name.now, named) (sym c.in-Some.ensures.entry) in
+    let at : slice_get is c.loop-k.k ≡ Some i =
+    item_at c.args.list.now.paths.entries c.loop-k.k (c.in-Some.name.now, named) (sym c.in-Some.ensures.entry) in
     c.in_ok-put_one.ensures.ok
-    ∙ ap (λ (q : List ℕ). items c.loop-k.to ++ under_change (change_at cs q) (renewing.item_of q named)) c.as_str.ensures.value
+    ∙ ap (λ (q : List ℕ). items c.loop-k.to ++ under_change (change_at cs q) (renewing.item_of q named))
+    c.as_str.ensures.value
     ∙ ap (λ (js : List Item). js ++ under_change (change_at cs i.name) i) c.loop-k.invariant
     ∙ sym (laid_more cs is (items c.args.to.now) c.loop-k.k i at)
 
 pub returns-in_err-put_one-clause-before : goal.returns-in_err-put_one-clause-before
-returns-in_err-put_one-clause-before c = take_first (items c.args.to.now) _ (items c.put_one.new.to) (c.in_err-put_one.ensures.err ∙ c.loop-k.invariant)
+returns-in_err-put_one-clause-before c =
+    take_first (items c.args.to.now) _ (items c.put_one.new.to) (c.in_err-put_one.ensures.err ∙ c.loop-k.invariant)
 
 pub returns-clause-before : goal.returns-clause-before
 returns-clause-before c = take_first (items c.args.to.now) _ (items c.loop-k.to) c.loop-k.invariant

@@ -5,4 +5,5 @@ use Rattle.olr_paths.proofs.overlay.put_behind.Given as goal
 
 -- what the paths before the place become is put
 abbrev pub invariant-loop-k : goal.invariant-loop-k
-invariant-loop-k l = items l.to ≡ items l.initial.to ++ under_changes (changes_in l.changes.entries) (take l.k (items l.list))
+invariant-loop-k l =
+    items l.to ≡ items l.initial.to ++ under_changes (changes_in l.changes.entries) (take l.k (items l.list))

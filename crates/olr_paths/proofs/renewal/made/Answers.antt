@@ -16,7 +16,9 @@ use Rattle.olr_paths.proofs.renewal.made.Goals as goal
 
 pub made_by-requires-clause-asked : goal.made_by-requires-clause-asked
 made_by-requires-clause-asked g c =
-    asked_again (g.M.MapRead.map c.args.map.now) (g.M.MapRead.place_in c.args.map.now) c.args.touched.now c.ask.new.searches (record c.ask.new.searches { look = c.replace-look.new.dest }) (shown_items c.args.laid) refl refl c.in_ok-asked.ensures.asked
+    asked_again (g.M.MapRead.map c.args.map.now) (g.M.MapRead.place_in c.args.map.now) c.args.touched.now
+    c.ask.new.searches (record c.ask.new.searches { look = c.replace-look.new.dest }) (shown_items c.args.laid) refl
+    refl c.in_ok-asked.ensures.asked
 
 pub returns-then-is_none : goal.returns-then-is_none
 returns-then-is_none g c =
@@ -27,8 +29,23 @@ returns-then-is_none g c =
     let before = items c.args.before.now in
     let is : List Item = shown_items c.args.laid in
     let yes : c.is_none.result ≡ true = cc in
-    let none : length is ≡ 0 = let le = past_end is 0 (c.at.ensures.shown ∙ ap (option_map shown_item) (none_from_absent c.at.result c.if-is_none.ensures)) in omega arith in
+    let none : length is ≡ 0 = let le =
+    past_end is 0 (c.at.ensures.shown
+    ∙ ap (option_map shown_item) (none_from_absent c.at.result c.if-is_none.ensures)) in omega arith in
     let r : Renewal = record { fresh = c.new.result; entries = c.new-then-is_none.result } in
     let counted : Counted = record { work = c.args.work.now; kept = c.args.kept.now } in
-    let w = whole N T X C before is r counted counted (so_far_all N T X C before is r counted none c.new.ensures.items c.new-then-is_none.ensures.items) in
-    record { renewed = w.remade; named = w.names; reported = w.reported; counted = w.counted; searches = omega arith; settled = omega arith; kept = omega arith; begun = λ v b. absurd (subst (λ (es : List (ℕ × NamedPath)). BeginsPut (puts_of es) v) c.new.ensures.items b); err_work = tt; err_kept = tt }
+    let w =
+    whole N T X C before is r counted counted
+    (so_far_all N T X C before is r counted none c.new.ensures.items c.new-then-is_none.ensures.items) in
+    record {
+      renewed = w.remade;
+      named = w.names;
+      reported = w.reported;
+      counted = w.counted;
+      searches = omega arith;
+      settled = omega arith;
+      kept = omega arith;
+      begun = λ v b. absurd (subst (λ (es : List (ℕ × NamedPath)). BeginsPut (puts_of es) v) c.new.ensures.items b);
+      err_work = tt;
+      err_kept = tt;
+    }

@@ -15,11 +15,15 @@ decide-fate-requires-clause-asked g c =
     let N = g.M.MapRead.map c.args.map.now in
     let place = g.M.MapRead.place_in c.args.map.now in
     let shown = c.in-Some.shown in
-    made_if (λ p. made_of p.now) (IsAsked N place c.args.touched.now c.args.searches.now) shown.published (c.requires.asked (shown_item shown) (listed_at (shown_items c.args.laid) _ (shown_item shown) c.in-Some.ensures.shown))
+    made_if (λ p. made_of p.now) (IsAsked N place c.args.touched.now c.args.searches.now) shown.published
+    (c.requires.asked (shown_item shown)
+    (listed_at (shown_items c.args.laid) _ (shown_item shown) c.in-Some.ensures.shown))
 
 pub loop-candidate-init : goal.loop-candidate-init
 loop-candidate-init g c = (
-  so_far_none (g.M.MapRead.map c.args.map.now) (nodes_of c.args.touched.now) (lines_of c.args.touched.now) (changed_of c.args.touched.now) (items c.args.before.now) (shown_items c.args.laid) _ c.args.counted.now c.new.ensures.items c.new-2.ensures.items,
+  so_far_none (g.M.MapRead.map c.args.map.now) (nodes_of c.args.touched.now) (lines_of c.args.touched.now)
+      (changed_of c.args.touched.now) (items c.args.before.now) (shown_items c.args.laid) _ c.args.counted.now
+      c.new.ensures.items c.new-2.ensures.items,
   passed_none c.args.asked.now.found.items (length (shown_items c.args.laid)),
 )
 
@@ -29,8 +33,11 @@ loop-candidate-preserved-then-position-next g c =
     let same : c.deref-candidate-items.result.now ≡ found = c.deref-candidate-items.ensures.value in
     let k = c.loop-candidate.candidate-index in
     let position : ℕ = get_or c.deref-candidate-items.result.now k 0 in
-    let is_there : position ≡ get_or found k 0 = ap (λ (xs : List ℕ). get_or xs k 0) same in
-    (c.loop-candidate.invariant.0, passed_over found (length (shown_items c.args.laid)) k c.loop-candidate.next position c.loop-candidate.invariant.1 is_there (inl c.if-position-next.true))
+    let is_there : position ≡ get_or found k 0 = ap (λ (xs : List ℕ). get_or xs k 0) same in (
+      c.loop-candidate.invariant.0,
+      passed_over found (length (shown_items c.args.laid)) k c.loop-candidate.next position
+          c.loop-candidate.invariant.1 is_there (inl c.if-position-next.true),
+    )
 
 pub loop-candidate-preserved-in_default : goal.loop-candidate-preserved-in_default
 loop-candidate-preserved-in_default g c =
@@ -38,8 +45,12 @@ loop-candidate-preserved-in_default g c =
     let same : c.deref-candidate-items.result.now ≡ found = c.deref-candidate-items.ensures.value in
     let k = c.loop-candidate.candidate-index in
     let position : ℕ = get_or c.deref-candidate-items.result.now k 0 in
-    let is_there : position ≡ get_or found k 0 = ap (λ (xs : List ℕ). get_or xs k 0) same in
-    (c.loop-candidate.invariant.0, passed_over found (length (shown_items c.args.laid)) k c.loop-candidate.next position c.loop-candidate.invariant.1 is_there (inr (past_end (shown_items c.args.laid) position c.in_default.ensures.shown)))
+    let is_there : position ≡ get_or found k 0 = ap (λ (xs : List ℕ). get_or xs k 0) same in (
+      c.loop-candidate.invariant.0,
+      passed_over found (length (shown_items c.args.laid)) k c.loop-candidate.next position
+          c.loop-candidate.invariant.1 is_there
+          (inr (past_end (shown_items c.args.laid) position c.in_default.ensures.shown)),
+    )
 
 pub loop-candidate-preserved : goal.loop-candidate-preserved
 loop-candidate-preserved g c =
@@ -62,13 +73,20 @@ loop-candidate-preserved g c =
     let lt : k < length found = subst (λ (xs : List ℕ). k < length xs) same c.loop-candidate-test.true in
     let sound = g.met.M.MapRead.sound c.args.map.now in
     let so_far : SoFar N T X C before is position c.loop-candidate.renewal c.args.counted.now c.loop-candidate.counted =
-    to_candidate N sound T X C before is found c.requires.follows c.requires.covers c.args.counted.now c.loop-candidate.renewal c.loop-candidate.counted k next position c.requires.rising c.loop-candidate.invariant.1 is_there lt within le c.loop-candidate.invariant.0 in
-    let step : IsStep N T X C before i position c.loop-candidate.renewal c.go_on.new.self c.loop-candidate.counted c.go_on.new.counted = c.in_ok-go_on.ensures T X C c.decide-fate.ensures in (
-      so_far_step N sound T X C before is position i c.requires.follows at c.args.counted.now c.loop-candidate.renewal c.go_on.new.self c.loop-candidate.counted c.go_on.new.counted so_far step,
+    to_candidate N sound T X C before is found c.requires.follows c.requires.covers c.args.counted.now
+    c.loop-candidate.renewal c.loop-candidate.counted k next position c.requires.rising c.loop-candidate.invariant.1
+    is_there lt within le c.loop-candidate.invariant.0 in
+    let step : IsStep N T X C before i position c.loop-candidate.renewal c.go_on.new.self c.loop-candidate.counted
+    c.go_on.new.counted = c.in_ok-go_on.ensures T X C c.decide-fate.ensures in (
+      so_far_step N sound T X C before is position i c.requires.follows at c.args.counted.now c.loop-candidate.renewal
+          c.go_on.new.self c.loop-candidate.counted c.go_on.new.counted so_far step,
       passed_to found (length is) k next position c.loop-candidate.invariant.1 is_there le within,
     )
 
-end : (g : _) (c : goal.After-loop-candidate g) → SoFar (g.M.MapRead.map c.args.map.now) (nodes_of c.args.touched.now) (lines_of c.args.touched.now) (changed_of c.args.touched.now) (items c.args.before.now) (shown_items c.args.laid) (length (shown_items c.args.laid)) c.loop-candidate.renewal c.args.counted.now c.loop-candidate.counted
+end : (g : _) (c : goal.After-loop-candidate g) →
+    SoFar (g.M.MapRead.map c.args.map.now) (nodes_of c.args.touched.now) (lines_of c.args.touched.now)
+    (changed_of c.args.touched.now) (items c.args.before.now) (shown_items c.args.laid)
+    (length (shown_items c.args.laid)) c.loop-candidate.renewal c.args.counted.now c.loop-candidate.counted
 end g c =
     let N = g.M.MapRead.map c.args.map.now in
     let T = nodes_of c.args.touched.now in
@@ -77,10 +95,17 @@ end g c =
     let before = items c.args.before.now in
     let is = shown_items c.args.laid in
     let found = c.args.asked.now.found.items in
-    let past : length found ≤ c.loop-candidate.candidate-index = subst (λ (xs : List ℕ). length xs ≤ c.loop-candidate.candidate-index) c.deref-candidate-items.ensures.value c.loop-candidate-test.false in
-    to_end N (g.met.M.MapRead.sound c.args.map.now) T X C before is found c.requires.follows c.requires.covers c.args.counted.now c.loop-candidate.renewal c.loop-candidate.counted c.loop-candidate.candidate-index c.loop-candidate.next past c.loop-candidate.invariant.1 c.loop-candidate.invariant.0
+    let past : length found ≤ c.loop-candidate.candidate-index =
+    subst (λ (xs : List ℕ). length xs ≤ c.loop-candidate.candidate-index) c.deref-candidate-items.ensures.value
+    c.loop-candidate-test.false in
+    to_end N (g.met.M.MapRead.sound c.args.map.now) T X C before is found c.requires.follows c.requires.covers
+    c.args.counted.now c.loop-candidate.renewal c.loop-candidate.counted c.loop-candidate.candidate-index
+    c.loop-candidate.next past c.loop-candidate.invariant.1 c.loop-candidate.invariant.0
 
-done : (g : _) (c : goal.After-loop-candidate g) → Whole (g.M.MapRead.map c.args.map.now) (nodes_of c.args.touched.now) (lines_of c.args.touched.now) (changed_of c.args.touched.now) (items c.args.before.now) (shown_items c.args.laid) c.loop-candidate.renewal c.args.counted.now c.loop-candidate.counted
+done : (g : _) (c : goal.After-loop-candidate g) →
+    Whole (g.M.MapRead.map c.args.map.now) (nodes_of c.args.touched.now) (lines_of c.args.touched.now)
+    (changed_of c.args.touched.now) (items c.args.before.now) (shown_items c.args.laid) c.loop-candidate.renewal
+    c.args.counted.now c.loop-candidate.counted
 done g c =
     let N = g.M.MapRead.map c.args.map.now in
     let T = nodes_of c.args.touched.now in

@@ -9,5 +9,6 @@ use Rattle.olr_paths.proofs.renewal.made_by.Given as goal
 -- the paths before the next position are renewed, told and counted, and the candidates so far are among them
 abbrev pub invariant-loop-candidate : goal.invariant-loop-candidate
 invariant-loop-candidate g l =
-    SoFar (g.M.MapRead.map l.map) (nodes_of l.touched) (lines_of l.touched) (changed_of l.touched) (items l.before) (shown_items l.laid) l.next l.renewal l.initial.counted l.counted
+    SoFar (g.M.MapRead.map l.map) (nodes_of l.touched) (lines_of l.touched) (changed_of l.touched) (items l.before)
+    (shown_items l.laid) l.next l.renewal l.initial.counted l.counted
     × Passed l.asked.found.items (length (shown_items l.laid)) l.candidate-index l.next

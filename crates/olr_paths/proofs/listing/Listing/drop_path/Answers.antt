@@ -6,15 +6,20 @@ use Rattle.olr_paths.proofs.Marking.{First, first_at, long_left, rise_left, note
 use Rattle.olr_paths.proofs.listing.Listing.drop_path.Goals as goal
 
 pub returns : goal.returns
-returns c = ap items_of c.shift_remove.ensures.entries ∙ removed_items c.args.self.now.paths.entries c.args.name.now c.len-names.ensures.names
+returns c =
+    ap items_of c.shift_remove.ensures.entries
+    ∙ removed_items c.args.self.now.paths.entries c.args.name.now c.len-names.ensures.names
 
 pub returns-in-Some-published : goal.returns-in-Some-published
-returns-in-Some-published c = ap items_of c.shift_remove.ensures.entries ∙ removed_items c.args.self.now.paths.entries c.args.name.now c.len-names.ensures.names
+returns-in-Some-published c =
+    ap items_of c.shift_remove.ensures.entries
+    ∙ removed_items c.args.self.now.paths.entries c.args.name.now c.len-names.ensures.names
 
 pub returns-in_default : goal.returns-in_default
 returns-in_default c =
     let es = c.args.self.now.paths.entries in
-    sym (keeps_all (items c.args.self.now) c.args.name.now (sym (named_there es c.args.name.now) ∙ sym c.in_default.ensures.found))
+    sym (keeps_all (items c.args.self.now) c.args.name.now
+    (sym (named_there es c.args.name.now) ∙ sym c.in_default.ensures.found))
 
 pub invariant_of-self : goal.invariant_of-self
 invariant_of-self c =
@@ -31,10 +36,18 @@ invariant_of-self c =
     let is : mark ≡ get_or ms q 0 = c.remove-mark.ensures.value ∙ get_or_default ms q mark 0 at in
     let up = c.args.self.now.rise in
     record {
-      long = long_left es fs ms ns name q mark first c.shift_remove.ensures.entries c.remove-mark.ensures.items long up at is;
-      rise = rise_left es fs ms ns name q mark first c.shift_remove.ensures.entries c.remove-mark.ensures.items long up at is;
-      noted = noted_left es fs ms ns name q mark first c.shift_remove.ensures.entries c.remove-mark.ensures.items long up at is c.args.self.now.finder c.forget.new.self c.forget.ensures c.args.self.now.noted;
-      encoded = all_left es fs ms ns name q mark first c.shift_remove.ensures.entries c.remove-mark.ensures.items long up at is c.args.self.now.held c.args.self.now.encoded;
+      long =
+          long_left es fs ms ns name q mark first c.shift_remove.ensures.entries c.remove-mark.ensures.items long
+          up at is;
+      rise =
+          rise_left es fs ms ns name q mark first c.shift_remove.ensures.entries c.remove-mark.ensures.items long
+          up at is;
+      noted =
+          noted_left es fs ms ns name q mark first c.shift_remove.ensures.entries c.remove-mark.ensures.items long
+          up at is c.args.self.now.finder c.forget.new.self c.forget.ensures c.args.self.now.noted;
+      encoded =
+          all_left es fs ms ns name q mark first c.shift_remove.ensures.entries c.remove-mark.ensures.items long
+          up at is c.args.self.now.held c.args.self.now.encoded;
     }
 
 pub invariant_of-self-in_default-published : goal.invariant_of-self-in_default-published
@@ -52,8 +65,16 @@ invariant_of-self-in_default-published c =
     let is : mark ≡ get_or ms q 0 = c.remove-mark.ensures.value ∙ get_or_default ms q mark 0 at in
     let up = c.args.self.now.rise in
     record {
-      long = long_left es fs ms ns name q mark first c.shift_remove.ensures.entries c.remove-mark.ensures.items long up at is;
-      rise = rise_left es fs ms ns name q mark first c.shift_remove.ensures.entries c.remove-mark.ensures.items long up at is;
-      noted = same_left es fs ms ns name q mark first c.shift_remove.ensures.entries c.remove-mark.ensures.items long up at is c.args.self.now.finder c.args.self.now.noted;
-      encoded = all_left es fs ms ns name q mark first c.shift_remove.ensures.entries c.remove-mark.ensures.items long up at is c.args.self.now.held c.args.self.now.encoded;
+      long =
+          long_left es fs ms ns name q mark first c.shift_remove.ensures.entries c.remove-mark.ensures.items long
+          up at is;
+      rise =
+          rise_left es fs ms ns name q mark first c.shift_remove.ensures.entries c.remove-mark.ensures.items long
+          up at is;
+      noted =
+          same_left es fs ms ns name q mark first c.shift_remove.ensures.entries c.remove-mark.ensures.items long
+          up at is c.args.self.now.finder c.args.self.now.noted;
+      encoded =
+          all_left es fs ms ns name q mark first c.shift_remove.ensures.entries c.remove-mark.ensures.items long
+          up at is c.args.self.now.held c.args.self.now.encoded;
     }

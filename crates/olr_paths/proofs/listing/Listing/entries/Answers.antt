@@ -13,7 +13,9 @@ use Rattle.olr_paths.proofs.listing.Listing.entries.Goals as goal
 pub unreachable-requires-in_default-published : goal.unreachable-requires-in_default-published
 unreachable-requires-in_default-published c =
     let e : String Global × NamedPath = (c.in-Some.name.now, c.in-Some.named.now) in
-    encoded_at (items c.args.self.now) c.loop-k.k (item_of e) c.requires.encoded (item_at c.args.self.now.paths.entries c.loop-k.k e (sym c.in-Some.ensures.entry)) (ap (option_map (λ p. made_of p.value)) c.in_default-published.is)
+    encoded_at (items c.args.self.now) c.loop-k.k (item_of e) c.requires.encoded
+    (item_at c.args.self.now.paths.entries c.loop-k.k e (sym c.in-Some.ensures.entry))
+    (ap (option_map (λ p. made_of p.value)) c.in_default-published.is)
 
 pub loop-k-preserved : goal.loop-k-preserved
 loop-k-preserved c =
@@ -23,7 +25,9 @@ loop-k-preserved c =
     let m = made_of c.in-Some-published.published.value in
     let at = item_at c.args.self.now.paths.entries k e (sym c.in-Some.ensures.entry) in
     let made = ap (option_map (λ p. made_of p.value)) c.in-Some-published.is in
-    let told = c.in_ok-entry.ensures ∙ ap (λ name. entry name (made_of c.deref.result.now).answer) c.as_str.ensures.value ∙ ap (λ p. entry (item_of e).name (made_of p).answer) c.deref.ensures in
+    let told =
+    c.in_ok-entry.ensures ∙ ap (λ name. entry name (made_of c.deref.result.now).answer) c.as_str.ensures.value
+    ∙ ap (λ p. entry (item_of e).name (made_of p).answer) c.deref.ensures in
     ap (map entry_of) c.in_ok-push.ensures.items
     ∙ map-append entry_of c.loop-k.entries.items (c.in_ok-entry.field-0 ∷ [])
     ∙ ap (λ (es : List Entry). es ++ entry_of c.in_ok-entry.field-0 ∷ []) c.loop-k.invariant

@@ -5,8 +5,10 @@ use Rattle.olr_paths.proofs.listing.Listing.path.Goals as goal
 
 pub returns-in_err-named : goal.returns-in_err-named
 returns-in_err-named c =
-    rw c.from_residual.ensures (ap (option_map (λ n. n.path.value)) c.in_err-named.ensures.value ∙ sym (paths_named c.args.self.now.paths.entries c.args.name.now))
+    rw c.from_residual.ensures (ap (option_map (λ n. n.path.value)) c.in_err-named.ensures.value
+    ∙ sym (paths_named c.args.self.now.paths.entries c.args.name.now))
 
 pub returns : goal.returns
 returns c =
-    ap (λ p. Some p) c.deref.ensures ∙ ap (option_map (λ n. n.path.value)) c.in_ok-named.ensures.value ∙ sym (paths_named c.args.self.now.paths.entries c.args.name.now)
+    ap (λ p. Some p) c.deref.ensures ∙ ap (option_map (λ n. n.path.value)) c.in_ok-named.ensures.value
+    ∙ sym (paths_named c.args.self.now.paths.entries c.args.name.now)

@@ -10,7 +10,8 @@ use Rattle.olr_paths.proofs.listing.Listing.put_other.Goals as goal
 pub returns-in_default-clause-ok : goal.returns-in_default-clause-ok
 returns-in_default-clause-ok c =
     let es = c.args.self.now.paths.entries in
-    set_absent es c.args.name.now c.args.named (none_from_absent (lookup (asks c.args.name.now) es) (sym c.in_default.ensures.found))
+    set_absent es c.args.name.now c.args.named
+    (none_from_absent (lookup (asks c.args.name.now) es) (sym c.in_default.ensures.found))
 
 pub invariant_of-self-in-Break-1 : goal.invariant_of-self-in-Break-1
 invariant_of-self-in-Break-1 c =
@@ -19,7 +20,8 @@ invariant_of-self-in-Break-1 c =
     let q = c.in-Some.position in
     let long : length ms ≡ length es = c.args.self.now.long in
     let at : q < length ms = omega (arith, c.in-Some.ensures.within, long) in
-    let is : c.index-mark.result.now ≡ get_or ms q 0 = c.index-mark.ensures ∙ get_or_default ms q c.index-mark.result.now 0 at in
+    let is : c.index-mark.result.now ≡ get_or ms q 0 =
+    c.index-mark.ensures ∙ get_or_default ms q c.index-mark.result.now 0 at in
     let f = c.args.self.now.finder in
     let g = c.renote.new.finder in
     let spare : Spares (get_or ms q 0) f g = subst (λ (m : ℕ). Spares m f g) is c.renote.ensures.spares in
@@ -30,9 +32,12 @@ invariant_of-self-in-Break-1 c =
           (λ e there h.
           let x : String Global × NamedPath = (c.in-Some-get_index.field-0-0.now, c.in-Some-get_index.current.now) in
           let same : x ≡ e = cc (c.in-Some-get_index.ensures.entry, there) in
-          let now : NamedNoted f c.index-mark.result.now x.1 → NamedNoted g c.index-mark.result.now x.1 = c.in_err-renote.ensures.err in
-          subst (λ (m : ℕ). NamedNoted g m e.1) is (subst (λ (y : String Global × NamedPath). NamedNoted g c.index-mark.result.now y.1) same
-          (now (subst (λ (y : String Global × NamedPath). NamedNoted f c.index-mark.result.now y.1) (sym same) (subst (λ (m : ℕ). NamedNoted f m e.1) (sym is) h)))))
+          let now : NamedNoted f c.index-mark.result.now x.1 → NamedNoted g c.index-mark.result.now x.1 =
+          c.in_err-renote.ensures.err in
+          subst (λ (m : ℕ). NamedNoted g m e.1) is
+          (subst (λ (y : String Global × NamedPath). NamedNoted g c.index-mark.result.now y.1) same
+          (now (subst (λ (y : String Global × NamedPath). NamedNoted f c.index-mark.result.now y.1) (sym same)
+          (subst (λ (m : ℕ). NamedNoted f m e.1) (sym is) h)))))
           c.args.self.now.noted;
       encoded = c.args.self.now.encoded;
     }
@@ -44,7 +49,8 @@ invariant_of-self-in-Some-get_mut c =
     let q = c.in-Some.position in
     let long : length ms ≡ length es = c.args.self.now.long in
     let at : q < length ms = omega (arith, c.in-Some.ensures.within, long) in
-    let is : c.index-mark.result.now ≡ get_or ms q 0 = c.index-mark.ensures ∙ get_or_default ms q c.index-mark.result.now 0 at in
+    let is : c.index-mark.result.now ≡ get_or ms q 0 =
+    c.index-mark.ensures ∙ get_or_default ms q c.index-mark.result.now 0 at in
     let f = c.args.self.now.finder in
     let g = c.renote.new.finder in
     let spare : Spares (get_or ms q 0) f g = subst (λ (m : ℕ). Spares m f g) is c.renote.ensures.spares in
@@ -57,11 +63,15 @@ invariant_of-self-in-Some-get_mut c =
     record {
       long = long_other es fs ms name n q first es_is long c.args.self.now.rise at;
       rise = c.args.self.now.rise;
-      noted = noted_other es fs ms name n q first es_is long c.args.self.now.rise at f g spare one c.args.self.now.noted;
-      encoded = all_other es fs ms name n q first es_is long c.args.self.now.rise at c.args.self.now.held c.is_held-self.result c.is_held-self.ensures c.args.self.now.encoded;
+      noted =
+          noted_other es fs ms name n q first es_is long c.args.self.now.rise at f g spare one c.args.self.now.noted;
+      encoded =
+          all_other es fs ms name n q first es_is long c.args.self.now.rise at c.args.self.now.held
+          c.is_held-self.result c.is_held-self.ensures c.args.self.now.encoded;
     }
 
 pub returns-in-Some-get_mut-clause-ok : goal.returns-in-Some-get_mut-clause-ok
 returns-in-Some-get_mut-clause-ok c =
     ap items_of (c.get_mut.follows.holds c.args.named).0
-    ∙ set_items c.args.self.now.paths.entries c.args.name.now c.args.named (names_differ c.args.self.now.paths.entries c.get_mut.ensures.unique)
+    ∙ set_items c.args.self.now.paths.entries c.args.name.now c.args.named
+    (names_differ c.args.self.now.paths.entries c.get_mut.ensures.unique)

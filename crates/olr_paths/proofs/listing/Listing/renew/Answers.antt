@@ -27,11 +27,15 @@ pub returns-clause-renewed : goal.returns-clause-renewed
 returns-clause-renewed g c =
     let N = g.M.MapRead.map c.args.map.now in
     let t = c.args.touched.now in
-    subst (λ (is : List Item). OnOk c.renew_laid.result ((L : Map) → IsBefore L N (nodes_of t) (lines_of t) (changed_of t) is → AreRemade N is (items c.renew_laid.new.self))) (c.new-none.ensures (items c.args.self.now)) c.renew_laid.ensures.renewed
+    subst (λ (is : List Item). OnOk c.renew_laid.result
+    ((L : Map) → IsBefore L N (nodes_of t) (lines_of t) (changed_of t) is →
+    AreRemade N is (items c.renew_laid.new.self))) (c.new-none.ensures (items c.args.self.now))
+    c.renew_laid.ensures.renewed
 
 pub returns-clause-named : goal.returns-clause-named
 returns-clause-named g c =
-    subst (λ (is : List Item). OnOk c.renew_laid.result (all_named (items c.renew_laid.new.self) ≡ all_named is)) (c.new-none.ensures (items c.args.self.now)) c.renew_laid.ensures.named
+    subst (λ (is : List Item). OnOk c.renew_laid.result (all_named (items c.renew_laid.new.self) ≡ all_named is))
+    (c.new-none.ensures (items c.args.self.now)) c.renew_laid.ensures.named
 
 pub returns-clause-counted : goal.returns-clause-counted
 returns-clause-counted g c =
@@ -39,9 +43,14 @@ returns-clause-counted g c =
     let t = c.args.touched.now in
     let old = c.args.work.now in
     let new = c.renew_laid.new.work in
-    subst (λ (is : List Item). OnOk c.renew_laid.result ((L : Map) → IsBefore L N (nodes_of t) (lines_of t) (changed_of t) is → (n : ℕ) × CountIs (IsConcerned L (nodes_of t) (lines_of t)) is n
-    × (old.encodings + n < 2 ^ 64 → new.encodings ≡ old.encodings + n) × (c.renew_laid.new.kept ≤ c.args.kept.now + n))) (c.new-none.ensures (items c.args.self.now)) c.renew_laid.ensures.counted
+    subst (λ (is : List Item). OnOk c.renew_laid.result
+    ((L : Map) → IsBefore L N (nodes_of t) (lines_of t) (changed_of t) is → (n : ℕ)
+    × CountIs (IsConcerned L (nodes_of t) (lines_of t)) is n
+    × (old.encodings + n < 2 ^ 64 → new.encodings ≡ old.encodings + n) × (c.renew_laid.new.kept ≤ c.args.kept.now + n)))
+    (c.new-none.ensures (items c.args.self.now)) c.renew_laid.ensures.counted
 
 pub returns-clause-begun : goal.returns-clause-begun
 returns-clause-begun g c =
-    subst (λ (is : List Item). OnOk c.renew_laid.result ((v : ℕ) → Begins (items c.renew_laid.new.self) v → Begins is v ⊎ Contains (begun_in c.renew_laid.new.searches) v)) (c.new-none.ensures (items c.args.self.now)) c.renew_laid.ensures.begun
+    subst (λ (is : List Item). OnOk c.renew_laid.result ((v : ℕ) → Begins (items c.renew_laid.new.self) v → Begins is v
+    ⊎ Contains (begun_in c.renew_laid.new.searches) v)) (c.new-none.ensures (items c.args.self.now))
+    c.renew_laid.ensures.begun

@@ -1,4 +1,5 @@
-use Rattle.std.proofs.Common.{Bor, ◌≡◌, ◌++◌, ◌∙◌, List, Option, Some, None, map, inl, inr, refl, ap, sym, subst, unwrap_or}
+use Rattle.std.proofs.Common.{Bor, ◌≡◌, ◌++◌, ◌∙◌, List, Option, Some, None, map, inl, inr, refl, ap, sym, subst}
+use Rattle.std.proofs.Common.{unwrap_or}
 use Rattle.std.specs.Prelude.{option_map}
 use Rattle.olr_spec.specs.Map.{Map}
 use Rattle.olr_commands.specs.Reply.{Entry}
@@ -18,55 +19,79 @@ use Rattle.olr_paths.proofs.Standing.{all_encoded}
 use Rattle.olr_paths.proofs.listing.Listing.renew_laid.Goals as goal
 
 -- what was made, put on the list with the new ones behind
-module _ (before : List Item) (is : List Item) (o : Overlay) (r : Renewal) (new : List Item) (keeps : TakesNone (changes_of o)) (told : Reported before (after_renewal r (under_overlay is o)) (map entry_of r.entries.items))
+module _ (before : List Item) (is : List Item) (o : Overlay) (r : Renewal) (new : List Item)
+    (keeps : TakesNone (changes_of o))
+    (told : Reported before (after_renewal r (under_overlay is o)) (map entry_of r.entries.items))
     (put : new ≡ all_put (is ++ items o.added) (puts_of r.fresh.items)) where
   renewed : new ≡ after_renewal r (under_overlay is o)
-  renewed = put ∙ put_on_laid (changes_of o) before is (items o.added) (puts_of r.fresh.items) (map entry_of r.entries.items) keeps told
+  renewed =
+      put ∙ put_on_laid (changes_of o) before is (items o.added) (puts_of r.fresh.items) (map entry_of r.entries.items)
+      keeps told
 
-before_is : (o : Option (Bor Listing)) (b : Bor Listing) → items (unwrap_or o b).now ≡ unwrap_or (option_map (λ (x : Bor Listing). items x.now) o) (items b.now)
+before_is : (o : Option (Bor Listing)) (b : Bor Listing) →
+    items (unwrap_or o b).now ≡ unwrap_or (option_map (λ (x : Bor Listing). items x.now) o) (items b.now)
 before_is None b = refl
 before_is (Some x) b = refl
 
 pub returns-clause-begun : goal.returns-clause-begun
 returns-clause-begun g c = λ v h.
-    let same = renewed (items c.unwrap_or.result.now) (items c.args.self.now) c.args.overlay.now c.in_ok-fresh.field-0 (items c.put_in.new.list) c.requires.keeps c.in_ok-fresh.ensures.reported c.in_ok-put_in.ensures.ok in
-    elim (begins_all_put (under_overlay (items c.args.self.now) c.args.overlay.now) (puts_of c.in_ok-fresh.field-0.fresh.items) v (subst (λ (is : List Item). Begins is v) same h)) [
+    let same =
+    renewed (items c.unwrap_or.result.now) (items c.args.self.now) c.args.overlay.now c.in_ok-fresh.field-0
+    (items c.put_in.new.list) c.requires.keeps c.in_ok-fresh.ensures.reported c.in_ok-put_in.ensures.ok in
+    elim (begins_all_put (under_overlay (items c.args.self.now) c.args.overlay.now)
+    (puts_of c.in_ok-fresh.field-0.fresh.items) v (subst (λ (is : List Item). Begins is v) same h)) [
       | inl a ↦ inl a
       | inr b ↦ inr (c.in_ok-fresh.ensures.begun v b)
     ]
 
 pub returns-clause-renewed : goal.returns-clause-renewed
 returns-clause-renewed g c =
-    let same = renewed (items c.unwrap_or.result.now) (items c.args.self.now) c.args.overlay.now c.in_ok-fresh.field-0 (items c.put_in.new.list) c.requires.keeps c.in_ok-fresh.ensures.reported c.in_ok-put_in.ensures.ok in
+    let same =
+    renewed (items c.unwrap_or.result.now) (items c.args.self.now) c.args.overlay.now c.in_ok-fresh.field-0
+    (items c.put_in.new.list) c.requires.keeps c.in_ok-fresh.ensures.reported c.in_ok-put_in.ensures.ok in
     let N = g.M.MapRead.map c.args.map.now in
     let t = c.args.touched.now in
     let laid = under_overlay (items c.args.self.now) c.args.overlay.now in
-    subst (λ (js : List Item). (L : Map) → IsBefore L N (nodes_of t) (lines_of t) (changed_of t) laid → AreRemade N laid js) (sym same) c.in_ok-fresh.ensures.renewed
+    subst (λ (js : List Item). (L : Map) → IsBefore L N (nodes_of t) (lines_of t) (changed_of t) laid →
+    AreRemade N laid js) (sym same) c.in_ok-fresh.ensures.renewed
 
 pub returns-clause-named : goal.returns-clause-named
 returns-clause-named g c =
-    let same = renewed (items c.unwrap_or.result.now) (items c.args.self.now) c.args.overlay.now c.in_ok-fresh.field-0 (items c.put_in.new.list) c.requires.keeps c.in_ok-fresh.ensures.reported c.in_ok-put_in.ensures.ok in
+    let same =
+    renewed (items c.unwrap_or.result.now) (items c.args.self.now) c.args.overlay.now c.in_ok-fresh.field-0
+    (items c.put_in.new.list) c.requires.keeps c.in_ok-fresh.ensures.reported c.in_ok-put_in.ensures.ok in
     ap all_named same ∙ c.in_ok-fresh.ensures.named
 
 pub returns-clause-reported : goal.returns-clause-reported
 returns-clause-reported g c =
-    let same = renewed (items c.unwrap_or.result.now) (items c.args.self.now) c.args.overlay.now c.in_ok-fresh.field-0 (items c.put_in.new.list) c.requires.keeps c.in_ok-fresh.ensures.reported c.in_ok-put_in.ensures.ok in
+    let same =
+    renewed (items c.unwrap_or.result.now) (items c.args.self.now) c.args.overlay.now c.in_ok-fresh.field-0
+    (items c.put_in.new.list) c.requires.keeps c.in_ok-fresh.ensures.reported c.in_ok-put_in.ensures.ok in
     let es : List Entry = map entry_of c.in_ok-fresh.field-0.entries.items in
-    let told : Reported (items c.unwrap_or.result.now) (items c.put_in.new.list) es = subst (λ (js : List Item). Reported (items c.unwrap_or.result.now) js es) (sym same) c.in_ok-fresh.ensures.reported in
-    subst (λ (before : List Item). Reported before (items c.put_in.new.list) es) (ap (λ (b : Bor Listing). items b.now) c.unwrap_or.ensures ∙ before_is c.args.before _) told
+    let told : Reported (items c.unwrap_or.result.now) (items c.put_in.new.list) es =
+    subst (λ (js : List Item). Reported (items c.unwrap_or.result.now) js es) (sym same)
+    c.in_ok-fresh.ensures.reported in
+    subst (λ (before : List Item). Reported before (items c.put_in.new.list) es)
+    (ap (λ (b : Bor Listing). items b.now) c.unwrap_or.ensures ∙ before_is c.args.before _) told
 
 pub put_in-requires : goal.put_in-requires
-put_in-requires g c = grown_differ (changes_of c.args.overlay.now) (items c.args.self.now) (items c.args.overlay.now.added) c.requires.keeps c.requires.names
+put_in-requires g c =
+    grown_differ (changes_of c.args.overlay.now) (items c.args.self.now) (items c.args.overlay.now.added)
+    c.requires.keeps c.requires.names
 
 pub invariant_of-self : goal.invariant_of-self
 invariant_of-self g c =
     let l = c.put_in.new.list in
     let before = items c.unwrap_or.result.now in
     let es : List Entry = map entry_of c.in_ok-fresh.field-0.entries.items in
-    let same = renewed before (items c.args.self.now) c.args.overlay.now c.in_ok-fresh.field-0 (items l) c.requires.keeps c.in_ok-fresh.ensures.reported c.in_ok-put_in.ensures.ok in
+    let same =
+    renewed before (items c.args.self.now) c.args.overlay.now c.in_ok-fresh.field-0 (items l) c.requires.keeps
+    c.in_ok-fresh.ensures.reported c.in_ok-put_in.ensures.ok in
     record {
       long = l.long;
       rise = l.rise;
       noted = l.noted;
-      encoded = λ _. all_encoded before l.paths.entries es (subst (λ (is : List Item). Reported before is es) (sym same) c.in_ok-fresh.ensures.reported);
+      encoded =
+          λ _. all_encoded before l.paths.entries es
+          (subst (λ (is : List Item). Reported before is es) (sym same) c.in_ok-fresh.ensures.reported);
     }

@@ -18,7 +18,8 @@ renew_laid-requires-2 g c =
       keeps = none_keeps (changes_of c.new-none.result) (items c.new-none.result.added) c.new-none.ensures;
       names = subst (λ (js : List Item). NamesDiffer (all_named js)) (sym e) c.requires.names;
       follows = subst (Follows (items c.args.self.now)) (sym e) c.requires.follows;
-      far = λ on. subst (AreFar (g.M.MapRead.map c.args.map.now) (nodes_of c.args.touched.now)) (sym e) (c.requires.far on);
+      far = λ on. subst (AreFar (g.M.MapRead.map c.args.map.now) (nodes_of c.args.touched.now)) (sym e)
+          (c.requires.far on);
     }
 
 pub returns-clause-renewed : goal.returns-clause-renewed
@@ -26,7 +27,8 @@ returns-clause-renewed g c =
     let N = g.M.MapRead.map c.args.map.now in
     let t = c.args.touched.now in
     let e = c.new-none.ensures (items c.in_ok-list.list) ∙ c.in_ok-list.ensures in
-    subst (λ (is : List Item). (L : Map) → IsBefore L N (nodes_of t) (lines_of t) (changed_of t) is → AreRemade N is (items c.renew_laid-2.new.self)) e c.in_ok-entries.ensures.renewed
+    subst (λ (is : List Item). (L : Map) → IsBefore L N (nodes_of t) (lines_of t) (changed_of t) is →
+    AreRemade N is (items c.renew_laid-2.new.self)) e c.in_ok-entries.ensures.renewed
 
 pub returns-clause-named : goal.returns-clause-named
 returns-clause-named g c =
@@ -40,10 +42,25 @@ returns-clause-counted g c =
     let old = c.args.work.now in
     let new = c.renew_laid-2.new.work in
     let e = c.new-none.ensures (items c.in_ok-list.list) ∙ c.in_ok-list.ensures in
-    subst (λ (is : List Item). (L : Map) → IsBefore L N (nodes_of t) (lines_of t) (changed_of t) is → (n : ℕ) × CountIs (IsConcerned L (nodes_of t) (lines_of t)) is n
-    × (old.encodings + n < 2 ^ 64 → new.encodings ≡ old.encodings + n) × (c.renew_laid-2.new.kept ≤ c.args.kept.now + n)) e c.in_ok-entries.ensures.counted
+    subst (λ (is : List Item). (L : Map) → IsBefore L N (nodes_of t) (lines_of t) (changed_of t) is → (n : ℕ)
+    × CountIs (IsConcerned L (nodes_of t) (lines_of t)) is n
+    × (old.encodings + n < 2 ^ 64 → new.encodings ≡ old.encodings + n)
+    × (c.renew_laid-2.new.kept ≤ c.args.kept.now + n)) e c.in_ok-entries.ensures.counted
 
 pub returns-clause-begun : goal.returns-clause-begun
 returns-clause-begun g c =
     let e = c.new-none.ensures (items c.in_ok-list.list) ∙ c.in_ok-list.ensures in
-    subst (λ (is : List Item). (v : ℕ) → Begins (items c.renew_laid-2.new.self) v → Begins is v ⊎ Contains (begun_in c.renew_laid-2.new.searches) v) e c.in_ok-entries.ensures.begun
+    subst (λ (is : List Item). (v : ℕ) → Begins (items c.renew_laid-2.new.self) v → Begins is v
+    ⊎ Contains (begun_in c.renew_laid-2.new.searches) v) e c.in_ok-entries.ensures.begun
+
+pub returns-clause-reported : goal.returns-clause-reported
+returns-clause-reported g c = c.in_ok-entries.ensures.reported
+
+pub returns-clause-searches : goal.returns-clause-searches
+returns-clause-searches g c = c.in_ok-entries.ensures.searches
+
+pub returns-clause-settled : goal.returns-clause-settled
+returns-clause-settled g c = c.in_ok-entries.ensures.settled
+
+pub returns-clause-kept : goal.returns-clause-kept
+returns-clause-kept g c = c.in_ok-entries.ensures.kept

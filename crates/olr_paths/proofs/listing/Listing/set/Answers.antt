@@ -16,12 +16,23 @@ returns-clause-set g c =
     let none : map entry_of c.new-entries.result.items ≡ [] = ap (map entry_of) c.new-entries.ensures.items in (
       m,
       c.in_ok-published.ensures.made,
-      c.in_ok-put_other.ensures.ok ∙ (λ i. map (set_item name (c.in_ok-new.ensures.ok i) (Some (made_of (c.in_ok-new-2.ensures.ok i)))) (items c.args.self.now)),
+      c.in_ok-put_other.ensures.ok
+          ∙ (λ i. map (set_item name (c.in_ok-new.ensures.ok i) (Some (made_of (c.in_ok-new-2.ensures.ok i))))
+          (items c.args.self.now)),
       elim c.in_ok-tell.ensures [
         | inl t ↦ inl (t.0, t.1 ∙ none)
         | inr t ↦ inr (t.0, t.1 ∙ ap (λ (es : List Entry). es ++ entry name m.answer ∷ []) none)
       ],
     )
+
+pub returns-clause-counted : goal.returns-clause-counted
+returns-clause-counted g c = c.in_ok-published.ensures.counted
+
+pub returns-clause-searches : goal.returns-clause-searches
+returns-clause-searches g c = c.in_ok-published.ensures.searches
+
+pub returns-clause-settled : goal.returns-clause-settled
+returns-clause-settled g c = c.in_ok-published.ensures.settled
 
 pub returns-clause-begun : goal.returns-clause-begun
 returns-clause-begun g c = λ v h.
@@ -29,8 +40,11 @@ returns-clause-begun g c = λ v h.
     let name = c.args.name.now in
     let is = items c.args.self.now in
     let now : items c.put_other.new.self ≡ map (set_item name c.args.path (Some m)) is =
-    c.in_ok-put_other.ensures.ok ∙ (λ i. map (set_item name (c.in_ok-new.ensures.ok i) (Some (made_of (c.in_ok-new-2.ensures.ok i)))) is) in
+    c.in_ok-put_other.ensures.ok
+    ∙ (λ i. map (set_item name (c.in_ok-new.ensures.ok i) (Some (made_of (c.in_ok-new-2.ensures.ok i)))) is) in
     elim (begins_set name c.args.path (Some m) is v (subst (λ (js : List Item). Begins js v) now h)) [
       | inl a ↦ inl a
-      | inr b ↦ inr (subst (λ (u : ℕ). Contains c.note_looks.new.begun.items u) b.2 (c.in_ok-note_looks.ensures.looks b.0 (subst (λ (ls : List Look). Contains ls b.0) (sym c.deref.ensures.value) b.1)))
+      | inr b ↦ inr (subst (λ (u : ℕ). Contains c.note_looks.new.begun.items u) b.2
+          (c.in_ok-note_looks.ensures.looks b.0
+          (subst (λ (ls : List Look). Contains ls b.0) (sym c.deref.ensures.value) b.1)))
     ]

@@ -8,7 +8,8 @@ pub returns-then-has-clause-ok : goal.returns-then-has-clause-ok
 returns-then-has-clause-ok c =
     λ is d.
     let s = c.args.self.now in
-    ap (λ (js : List Item). under_changes (changes_of s) is ++ js) c.drop_path.ensures ∙ drop_behind c.args.name.now (under_changes (changes_of s) is) (items s.added) d (sym c.if-has.ensures)
+    ap (λ (js : List Item). under_changes (changes_of s) is ++ js) c.drop_path.ensures
+    ∙ drop_behind c.args.name.now (under_changes (changes_of s) is) (items s.added) d (sym c.if-has.ensures)
 
 pub returns-clause-ok : goal.returns-clause-ok
 returns-clause-ok c =
@@ -16,5 +17,8 @@ returns-clause-ok c =
     let s = c.args.self.now in
     let name = c.args.name.now in
     let ds = changes_in c.insert.new.self.entries in
-    let puts = puts_one s.changes.entries c.insert.new.self.entries c.in_ok-from_str.field-0 None name None c.in_ok-insert.ensures.entries c.in_ok-from_str.ensures.ok refl in
-    drop_before name (under_changes (changes_of s) is) (items s.added) (under_changes ds is) (laid_drop (changes_of s) ds name is puts) (sym c.if-has.ensures)
+    let puts =
+    puts_one s.changes.entries c.insert.new.self.entries c.in_ok-from_str.field-0 None name None
+    c.in_ok-insert.ensures.entries c.in_ok-from_str.ensures.ok refl in
+    drop_before name (under_changes (changes_of s) is) (items s.added) (under_changes ds is)
+    (laid_drop (changes_of s) ds name is puts) (sym c.if-has.ensures)

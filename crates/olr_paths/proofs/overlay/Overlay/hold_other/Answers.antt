@@ -7,7 +7,8 @@ use Rattle.olr_paths.proofs.overlay.Overlay.hold_other.Goals as goal
 pub returns-then-has-clause-ok : goal.returns-then-has-clause-ok
 returns-then-has-clause-ok c =
     let s = c.args.self.now in
-    set_if_ok (changes_of s) (items s.added) (items c.hold_other.new.self) c.args.name.now c.args.path c.hold_other.result c.hold_other.ensures.ok (sym c.if-has.ensures)
+    set_if_ok (changes_of s) (items s.added) (items c.hold_other.new.self) c.args.name.now c.args.path
+    c.hold_other.result c.hold_other.ensures.ok (sym c.if-has.ensures)
 
 pub returns-clause-ok : goal.returns-clause-ok
 returns-clause-ok c =
@@ -18,5 +19,9 @@ returns-clause-ok c =
     let ys = items s.added in
     let ds = changes_in c.insert.new.self.entries in
     let free : has_name ys name ≡ false = sym c.if-has.ensures in
-    let puts = puts_one s.changes.entries c.insert.new.self.entries c.in_ok-from_str.field-0 (Some c.in_ok-other.other) name (Some path) c.in_ok-insert.ensures.entries c.in_ok-from_str.ensures.ok (ap (λ p. Some p) c.in_ok-other.ensures.ok) in
-    set_before name path (under_changes (changes_of s) is) ys (under_changes ds is) (laid_set (changes_of s) ds name path is puts (not_dropped (changes_of s) is ys name there free)) free
+    let puts =
+    puts_one s.changes.entries c.insert.new.self.entries c.in_ok-from_str.field-0 (Some c.in_ok-other.other) name
+    (Some path) c.in_ok-insert.ensures.entries c.in_ok-from_str.ensures.ok
+    (ap (λ p. Some p) c.in_ok-other.ensures.ok) in
+    set_before name path (under_changes (changes_of s) is) ys (under_changes ds is)
+    (laid_set (changes_of s) ds name path is puts (not_dropped (changes_of s) is ys name there free)) free

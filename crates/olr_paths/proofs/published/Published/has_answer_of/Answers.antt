@@ -15,5 +15,6 @@ returns-in-Points-Points c =
     let left = ap answer_of c.in-Points-Points.is-0 in
     let right = ap answer_of c.in-Points-Points.is-1 in
     let both = decided one another c.text.result c.text-in-Points-Points.result first second
-    (c.text.ensures ∙ ap (λ a. result_ok (published_text a)) left) (c.text-in-Points-Points.ensures ∙ ap (λ a. result_ok (published_text a)) right) c.eq.result c.eq.ensures in
+    (c.text.ensures ∙ ap (λ a. result_ok (published_text a)) left)
+    (c.text-in-Points-Points.ensures ∙ ap (λ a. result_ok (published_text a)) right) c.eq.result c.eq.ensures in
     ((λ e. left ∙ both.0 e ∙ sym right), (λ e. both.1 (sym left ∙ e ∙ right)))

@@ -7,7 +7,7 @@ use Rattle.olr_paths.specs.Renewing.{Put, puts_of, IsFate, Anew}
 use Rattle.olr_paths.specs.Showing.{shown_item}
 use Rattle.olr_paths.specs.declared.published.Published.{Published}
 use Rattle.olr_paths.specs.declared.listing.NamedPath.{NamedPath}
-use Rattle.olr_paths.specs.declared.renewal.Fate.{Fate}
+use Rattle.olr_paths.specs.declared.fates.Fate.{Fate}
 use Rattle.olr_paths.proofs.renewal.Renewal.go_on.Goals as goal
 
 pub returns-in_ok-push-in-Encode : goal.returns-in_ok-push-in-Encode
@@ -18,18 +18,36 @@ returns-in_ok-push-in-Encode g c = λ T X C f.
     let i = shown_item c.args.shown in
     let published = c.in_ok-published-in-Encode.published in
     let m : Made = made_of published in
-    let n : NamedPath = record { path = c.in_ok-clone-in-Encode.field-0; published = Some c.in_ok-new-in-Encode.field-0 } in
+    let n : NamedPath =
+    record { path = c.in_ok-clone-in-Encode.field-0; published = Some c.in_ok-new-in-Encode.field-0 } in
     let path : c.in_ok-clone-in-Encode.field-0.value ≡ i.path = c.in_ok-clone-in-Encode.ensures.cases in
     let put : Put = record { place = position; path = i.path; made = Some m } in
-    let made : IsEncodingOf N i.path m = subst (λ (P : Path). IsEncodingOf N P m) c.deref.ensures c.in_ok-published-in-Encode.ensures.made in
+    let made : IsEncodingOf N i.path m =
+    subst (λ (P : Path). IsEncodingOf N P m) c.deref.ensures c.in_ok-published-in-Encode.ensures.made in
     Anew (subst (λ (fate : Fate). IsFate N T X C i.made i.path fate) c.in-Encode.is f)
     m
     made
-    (ap puts_of c.in_ok-push-in-Encode.ensures.items ∙ map-append (λ (e : ℕ × NamedPath). record { place = e.0; path = e.1.path.value; made = option_map (λ p. made_of p.value) e.1.published }) old ((position, n) ∷ [])
-    ∙ ap (λ (P : Path). puts_of old ++ record { place = position; path = P; made = Some (made_of c.in_ok-new-in-Encode.field-0.value) } ∷ []) path
-    ∙ ap (λ (p : Published). puts_of old ++ record { place = position; path = i.path; made = Some (made_of p) } ∷ []) c.in_ok-new-in-Encode.ensures.ok)
+    (ap puts_of c.in_ok-push-in-Encode.ensures.items
+    ∙ map-append (λ (e : ℕ × NamedPath).
+    record { place = e.0; path = e.1.path.value; made = option_map (λ p. made_of p.value) e.1.published }) old
+    ((position, n) ∷ [])
+    ∙ ap (λ (P : Path). puts_of old ++ record {
+      place = position;
+      path = P;
+      made =
+          Some (made_of c.in_ok-new-in-Encode.field-0.value);
+    } ∷ []) path
+    ∙ ap (λ (p : Published). puts_of old ++ record { place = position; path = i.path; made = Some (made_of p) } ∷ [])
+    c.in_ok-new-in-Encode.ensures.ok)
     c.in_ok-tell-in-Encode.ensures
     (record {
       encodings = c.in_ok-published-in-Encode.ensures.counted;
-      rises = record { searches = c.in_ok-published-in-Encode.ensures.searches; settled = c.in_ok-published-in-Encode.ensures.settled; kept = omega arith; spared = omega arith };
+      rises =
+          record {
+            searches = c.in_ok-published-in-Encode.ensures.searches;
+            settled =
+                c.in_ok-published-in-Encode.ensures.settled;
+            kept = omega arith;
+            spared = omega arith;
+          };
     })

@@ -1,0 +1,17 @@
+use Rattle.std.proofs.Common.{◌≡◌, true, ◌+◌, ◌≤◌, vec_len, vec_capacity}
+use Rattle.olr_paths.specs.Items.{items}
+use Rattle.olr_paths.specs.Renewing.{all_put, puts_of}
+use Rattle.olr_paths.specs.Finding.{AreNotedAt}
+use Rattle.olr_paths.proofs.positions.place.Given as goal
+
+-- those that are left, put on what is there, give what all of them give; they are noted, there is room, and the list
+-- may hold paths not encoded yet
+abbrev pub invariant-loop-position : goal.invariant-loop-position
+invariant-loop-position l =
+    (all_put (items l.list) (puts_of l.fresh.items) ≡ all_put (items l.initial.list) (puts_of l.initial.fresh.items))
+    × AreNotedAt l.list.marks.items l.list.finder l.fresh.items
+    × (vec_len l.before + vec_len l.fresh ≤ vec_capacity l.before)
+    × (l.list.held ≡ true)
+
+abbrev pub decreases-loop-position : goal.decreases-loop-position
+decreases-loop-position l = vec_len l.fresh

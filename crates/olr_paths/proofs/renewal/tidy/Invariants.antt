@@ -1,7 +1,0 @@
-use Rattle.std.proofs.Common.{◌≡◌}
-use Rattle.olr_paths.specs.Items.{items}
-use Rattle.olr_paths.proofs.renewal.tidy.Given as goal
-
--- the paths are as they were
-abbrev pub invariant-loop-position : goal.invariant-loop-position
-invariant-loop-position l = items l.list ≡ items l.initial.list

@@ -1,0 +1,75 @@
+//! What is to be done with a path where the map has changed.
+ghost use Rattle.std.specs.Prelude.{Some, IsTrue, IfSome};
+ghost use Rattle.olr_paths.specs.Items.{made_of};
+ghost use Rattle.olr_paths.specs.Showing.{shown_item};
+ghost use Rattle.olr_paths.specs.Touching.{nodes_of, lines_of, changed_of};
+ghost use Rattle.olr_paths.specs.Searching.{AreDetours, IsAsked};
+ghost use Rattle.olr_paths.specs.Renewing.{Stays, IsFate};
+
+use crate::asking::{is_line_touched, is_own_touched, is_touched};
+use crate::detours::are_clear;
+use crate::published::Published;
+use crate::searches::Searches;
+use crate::showing::Shown;
+use crate::touched::Touched;
+use olr_map::MapRead;
+use olr_refs::Path;
+
+/// What is to be done with a path.
+#[derive(Clone, Copy)]
+pub(crate) enum Fate {
+    /// It isn't concerned.
+    Stay,
+    /// It is concerned, and its answer is kept.
+    Keep,
+    /// It is encoded anew.
+    Encode,
+}
+
+/// Whether it is known that a path which edits concern has the same answer as before them.
+fn is_unchanged<M: MapRead>(
+    map: &M,
+    touched: &Touched,
+    searches: &Searches,
+    asked: Option<u32>,
+    path: &Path,
+    published: &Published,
+) -> bool
+    requires { IfSome asked (AreDetours (M.map map.now) (M.place_in map.now) touched.now searches.now) }
+    ensures { IsTrue result → Stays (M.map map.now) (nodes_of touched.now) (lines_of touched.now)
+        (changed_of touched.now)
+        (made_of published.now) path.now }
+{
+    let Some(limit) = asked else {
+        return false;
+    };
+    !is_own_touched(touched, &published.own)
+        && !is_line_touched(touched, path.lines())
+        && are_clear(map, touched, searches, limit, &published.looks)
+}
+
+/// What is to be done with a path.
+pub(crate) fn decide<M: MapRead>(
+    map: &M,
+    touched: &Touched,
+    searches: &Searches,
+    asked: Option<u32>,
+    shown: Shown<'_>,
+) -> Fate
+    requires asked { IfSome shown.published
+        (λ p. IsAsked (M.map map.now) (M.place_in map.now) touched.now searches.now (made_of p.now)) }
+    requires detours { IfSome asked (AreDetours (M.map map.now) (M.place_in map.now) touched.now searches.now) }
+    ensures { IsFate (M.map map.now) (nodes_of touched.now) (lines_of touched.now) (changed_of touched.now)
+        (shown_item shown.entry).made (shown_item shown.entry).path result }
+{
+    let Some(published) = shown.published else {
+        return Fate::Encode;
+    };
+    if !is_touched(map, touched, searches, shown.path, published) {
+        return Fate::Stay;
+    }
+    if is_unchanged(map, touched, searches, asked, shown.path, published) {
+        return Fate::Keep;
+    }
+    Fate::Encode
+}

@@ -1,0 +1,135 @@
+//! What was made of paths is put at their positions.
+ghost use Rattle.std.specs.Prelude.{◌≡◌, ◌+◌, ◌≤◌, ◌++◌, OnOk, OnErr, take, length, vec_len, vec_capacity};
+ghost use Rattle.olr_commands.specs.State.{NamesDiffer};
+ghost use Rattle.olr_paths.specs.Items.{items, all_named};
+ghost use Rattle.olr_paths.specs.Finding.{AreNotedAt, NamedNoted, Grows};
+ghost use Rattle.olr_paths.specs.Renewing.{all_put, puts_of};
+
+use crate::finder::Finder;
+use crate::listing::{Listing, NamedPath, forget_named};
+use crate::overlay::{Overlay, put_behind};
+use indexmap::IndexMap;
+use olr_map::LineId;
+use std::alloc::{AllocError, Global};
+use std::mem;
+use std::rc::Rc;
+
+/// Puts each at its position, and what was there behind others, for which there is room. Takes no memory.
+fn place(
+    list: &mut Listing,
+    mut fresh: Vec<(usize, NamedPath)>,
+    before: &mut Vec<(usize, NamedPath)>,
+)
+    requires room { vec_len before.old + vec_len fresh ≤ vec_capacity before.old }
+    requires noted { AreNotedAt list.old.marks.items list.old.finder fresh.items }
+    ensures { items list.new ≡ all_put (items list.old) (puts_of fresh.items) }
+{
+    list.held = true;
+    while let Some((position, named)) = fresh.pop() {
+        if let Some(place) = list.paths.get_index_mut(position) {
+            let earlier = mem::replace(place, named);
+            before.push_reserved((position, earlier));
+        }
+    }
+}
+
+/// The lines of a path in whose place another comes: none, where they are those of the same path, which was encoded.
+fn lines_gone<'a>(gone: &'a NamedPath, kept: &NamedPath) -> &'a [LineId] {
+    if kept.published.is_some() && Rc::ptr_eq(&gone.path, &kept.path) {
+        return &[];
+    }
+    gone.path.lines()
+}
+
+/// Takes the marks of the positions from what was there, or was to come there, but for what is there now. Takes no
+/// memory.
+fn tidy(list: &mut Listing, gone: &[(usize, NamedPath)])
+    ensures { items list.new ≡ items list.old }
+{
+    for (position, named) in gone {
+        let Some((_, kept)) = list.paths.get_index(*position) else {
+            continue;
+        };
+        let Some(published) = &named.published else {
+            continue;
+        };
+        let mark = list.marks[*position];
+        let lines = lines_gone(named, kept);
+        forget_named(&mut list.finder, mark, lines, published, Some(kept));
+    }
+}
+
+/// Gives what was made of a path a mark. After want of memory some has it.
+fn note_one(finder: &mut Finder, mark: u64, named: &NamedPath) -> Result<(), AllocError>
+    ensures noted { OnOk result (NamedNoted finder.new mark named.now) }
+    ensures grows { Grows finder.old finder.new }
+{
+    let Some(published) = &named.published else {
+        return Ok(());
+    };
+    finder.note(mark, named.path.lines(), published)
+}
+
+/// Gives what was made the marks of the positions to which it goes. After want of memory some has them.
+fn note_all(list: &mut Listing, fresh: &[(usize, NamedPath)]) -> Result<(), AllocError>
+    ensures noted { OnOk result (AreNotedAt list.new.marks.items list.new.finder fresh.now) }
+    ensures same { items list.new ≡ items list.old }
+{
+    for (position, named) in fresh {
+        if *position >= list.marks.len() {
+            continue;
+        }
+        let mark = list.marks[*position];
+        note_one(&mut list.finder, mark, named)?;
+    }
+    Ok(())
+}
+
+/// Puts the new paths of changes last, not encoded yet, and gives what was made the marks of the positions to which it
+/// goes. After want of memory only some paths are put.
+fn make_room(
+    alloc: Global,
+    list: &mut Listing,
+    overlay: &Overlay,
+    fresh: &[(usize, NamedPath)],
+) -> Result<(), AllocError>
+    requires { NamesDiffer (all_named (items list.old ++ items overlay.now.added)) }
+    ensures put { OnOk result (items list.new ≡ items list.old ++ items overlay.now.added) }
+    ensures noted { OnOk result (AreNotedAt list.new.marks.items list.new.finder fresh.now) }
+    ensures before { take (length (items list.old)) (items list.new) ≡ items list.old }
+{
+    put_behind(alloc, &IndexMap::new(alloc), &overlay.added, list)?;
+    let noted = note_all(list, fresh);
+    if noted.is_err() {
+        tidy(list, fresh);
+        return noted;
+    }
+    Ok(())
+}
+
+/// Puts the new paths of changes last, and each that was made at its position. After want of memory the list is as
+/// before.
+pub(crate) fn put_in(
+    alloc: Global,
+    list: &mut Listing,
+    overlay: &Overlay,
+    fresh: Vec<(usize, NamedPath)>,
+) -> Result<(), AllocError>
+    requires { NamesDiffer (all_named (items list.old ++ items overlay.now.added)) }
+    ensures ok { OnOk result
+        (items list.new ≡ all_put (items list.old ++ items overlay.now.added) (puts_of fresh.items)) }
+    ensures err { OnErr result (items list.new ≡ items list.old) }
+{
+    let mut before = Vec::with_capacity(alloc, fresh.len())?;
+    let count = list.paths.len();
+    let held = list.held;
+    let room = make_room(alloc, list, overlay, &fresh);
+    if room.is_err() {
+        list.cut(count);
+        list.held = held;
+        return room;
+    }
+    place(list, fresh, &mut before);
+    tidy(list, &before);
+    Ok(())
+}

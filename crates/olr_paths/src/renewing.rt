@@ -1,0 +1,193 @@
+//! Encoding anew what a change of the map can have changed, in place or over a list under changes.
+ghost use Rattle.std.specs.Prelude.{◌≡◌, ◌+◌, ◌<◌, ◌≤◌, ◌^◌, ◌⊎◌, ℕ, Contains, map as list_map, IsTrue, IfOk, OnOk};
+ghost use Rattle.std.specs.Prelude.{OnErr};
+ghost use Rattle.olr_spec.specs.Map.{Map};
+ghost use Rattle.olr_commands.specs.Counts.{CountIs};
+ghost use Rattle.olr_commands.specs.State.{NamesDiffer};
+ghost use Rattle.olr_commands.specs.Words.{entry_of};
+ghost use Rattle.olr_paths.specs.Items.{items, all_named};
+ghost use Rattle.olr_paths.specs.Changes.{IsBefore, IsConcerned, AreRemade, Reported, Follows};
+ghost use Rattle.olr_paths.specs.Laying.{TakesNone, changes_of, under_overlay};
+ghost use Rattle.olr_paths.specs.Touching.{nodes_of, lines_of, changed_of};
+ghost use Rattle.olr_paths.specs.Beginning.{Begins, AreFar, begun_in};
+ghost use Rattle.olr_paths.specs.Renewing.{items_before};
+
+use crate::laid::Laid;
+use crate::listing::Listing;
+use crate::overlay::Overlay;
+use crate::positions::put_in;
+use crate::renewal::{Renewal, made};
+use crate::searches::Searches;
+use crate::touched::Touched;
+use olr_commands::Entry;
+use olr_map::MapRead;
+use olr_route::Work;
+use std::alloc::{AllocError, Global};
+
+impl Listing {
+    /// Encodes on a map the paths that are new and those whose answer changes of it can have changed, and tells those
+    /// whose answer is another than before. Each path that is concerned is counted as an encoding; `kept` counts those
+    /// of them that kept their answer. `far` tells that no touched node is near to where a look begins: then nothing is
+    /// searched for that. After want of memory list and counts are as before.
+    pub fn renew<M: MapRead>(
+        &mut self,
+        alloc: Global,
+        map: &M,
+        touched: &Touched,
+        far: bool,
+        searches: &mut Searches,
+        work: &mut Work,
+        kept: &mut u64,
+    ) -> Result<Vec<Entry>, AllocError>
+        requires { IsTrue far → AreFar (M.map map.now) (nodes_of touched.now) (items self.old) }
+        ensures renewed { OnOk result ((L : Map)
+            → IsBefore L (M.map map.now) (nodes_of touched.now) (lines_of touched.now) (changed_of touched.now)
+            (items self.old)
+            → AreRemade (M.map map.now) (items self.old) (items self.new)) }
+        ensures named { OnOk result (all_named (items self.new) ≡ all_named (items self.old)) }
+        ensures reported { IfOk result (λ es. Reported (items self.old) (items self.new) (list_map entry_of es.items)) }
+        ensures counted { OnOk result ((L : Map)
+            → IsBefore L (M.map map.now) (nodes_of touched.now) (lines_of touched.now) (changed_of touched.now)
+            (items self.old)
+            → (n : ℕ) × CountIs (IsConcerned L (nodes_of touched.now) (lines_of touched.now)) (items self.old) n
+            × (work.old.encodings + n < 2 ^ 64 → work.new.encodings ≡ work.old.encodings + n)
+            × (kept.new ≤ kept.old + n)) }
+        ensures searches { OnOk result (work.old.searches ≤ work.new.searches) }
+        ensures settled { OnOk result (work.old.settled ≤ work.new.settled) }
+        ensures kept { OnOk result (kept.old ≤ kept.new) }
+        ensures begun { OnOk result ((v : ℕ) → Begins (items self.new) v
+            → Begins (items self.old) v ⊎ Contains (begun_in searches.new) v) }
+        ensures err { OnErr result (items self.new ≡ items self.old) }
+        ensures err_work { OnErr result (work.new ≡ work.old) }
+        ensures err_kept { OnErr result (kept.new ≡ kept.old) }
+    {
+        let _names = self.len();
+        let none = Overlay::new(alloc);
+        self.renew_laid(alloc, map, None, &none, touched, far, searches, work, kept)
+    }
+
+    /// The same for the list under changes that take no path away: what they give is put in place, so that it costs
+    /// what they hold. Told are those whose answer is another than the one that their name had, in an earlier list if
+    /// one is given.
+    fn renew_laid<M: MapRead>(
+        &mut self,
+        alloc: Global,
+        map: &M,
+        before: Option<&Listing>,
+        overlay: &Overlay,
+        touched: &Touched,
+        far: bool,
+        searches: &mut Searches,
+        work: &mut Work,
+        kept: &mut u64,
+    ) -> Result<Vec<Entry>, AllocError>
+        requires keeps { TakesNone (changes_of overlay.now) }
+        requires names { NamesDiffer (all_named (under_overlay (items self.old) overlay.now)) }
+        requires follows { Follows (items_before before self.old) (under_overlay (items self.old) overlay.now) }
+        requires far { IsTrue far
+            → AreFar (M.map map.now) (nodes_of touched.now) (under_overlay (items self.old) overlay.now) }
+        ensures renewed { OnOk result
+            ((L : Map) → IsBefore L (M.map map.now) (nodes_of touched.now) (lines_of touched.now)
+            (changed_of touched.now) (under_overlay (items self.old) overlay.now)
+            → AreRemade (M.map map.now) (under_overlay (items self.old) overlay.now) (items self.new)) }
+        ensures named { OnOk result
+            (all_named (items self.new) ≡ all_named (under_overlay (items self.old) overlay.now)) }
+        ensures reported { IfOk result (λ es. Reported (items_before before.entry self.old) (items self.new)
+            (list_map entry_of es.items)) }
+        ensures counted { OnOk result
+            ((L : Map) → IsBefore L (M.map map.now) (nodes_of touched.now) (lines_of touched.now)
+            (changed_of touched.now) (under_overlay (items self.old) overlay.now) → (n : ℕ)
+            × CountIs (IsConcerned L (nodes_of touched.now) (lines_of touched.now))
+            (under_overlay (items self.old) overlay.now) n
+            × (work.old.encodings + n < 2 ^ 64 → work.new.encodings ≡ work.old.encodings + n)
+            × (kept.new ≤ kept.old + n)) }
+        ensures searches { OnOk result (work.old.searches ≤ work.new.searches) }
+        ensures settled { OnOk result (work.old.settled ≤ work.new.settled) }
+        ensures kept { OnOk result (kept.old ≤ kept.new) }
+        ensures begun { OnOk result ((v : ℕ) → Begins (items self.new) v
+            → Begins (under_overlay (items self.old) overlay.now) v ⊎ Contains (begun_in searches.new) v) }
+        ensures err { OnErr result (items self.new ≡ items self.old) }
+        ensures err_work { OnErr result (work.new ≡ work.old) }
+        ensures err_kept { OnErr result (kept.new ≡ kept.old) }
+    {
+        let mut tried = *work;
+        let mut spared = *kept;
+        let laid = Laid {
+            list: self,
+            overlay,
+        };
+        let Renewal { fresh, entries } = made(
+            alloc,
+            map,
+            laid,
+            before.unwrap_or(self),
+            touched,
+            far,
+            searches,
+            &mut tried,
+            &mut spared,
+        )?;
+        put_in(alloc, self, overlay, fresh)?;
+        self.held = false;
+        *work = tried;
+        *kept = spared;
+        Ok(entries)
+    }
+
+    /// The same for the list under changes. Where they take no path away they are put in place, at the cost of what
+    /// they hold and of what is concerned; otherwise the list under them takes the list's place, at the cost of all
+    /// paths. Told are those whose answer is another than the one that their name had. After want of memory list and
+    /// counts are as before.
+    pub fn renew_over<M: MapRead>(
+        &mut self,
+        alloc: Global,
+        map: &M,
+        overlay: &Overlay,
+        touched: &Touched,
+        far: bool,
+        searches: &mut Searches,
+        work: &mut Work,
+        kept: &mut u64,
+    ) -> Result<Vec<Entry>, AllocError>
+        requires names { NamesDiffer (all_named (under_overlay (items self.old) overlay.now)) }
+        requires follows { Follows (items self.old) (under_overlay (items self.old) overlay.now) }
+        requires far { IsTrue far
+            → AreFar (M.map map.now) (nodes_of touched.now) (under_overlay (items self.old) overlay.now) }
+        ensures renewed { OnOk result
+            ((L : Map) → IsBefore L (M.map map.now) (nodes_of touched.now) (lines_of touched.now)
+            (changed_of touched.now) (under_overlay (items self.old) overlay.now)
+            → AreRemade (M.map map.now) (under_overlay (items self.old) overlay.now) (items self.new)) }
+        ensures named { OnOk result
+            (all_named (items self.new) ≡ all_named (under_overlay (items self.old) overlay.now)) }
+        ensures reported { IfOk result (λ es. Reported (items self.old) (items self.new) (list_map entry_of es.items)) }
+        ensures counted { OnOk result
+            ((L : Map) → IsBefore L (M.map map.now) (nodes_of touched.now) (lines_of touched.now)
+            (changed_of touched.now) (under_overlay (items self.old) overlay.now) → (n : ℕ)
+            × CountIs (IsConcerned L (nodes_of touched.now) (lines_of touched.now))
+            (under_overlay (items self.old) overlay.now) n
+            × (work.old.encodings + n < 2 ^ 64 → work.new.encodings ≡ work.old.encodings + n)
+            × (kept.new ≤ kept.old + n)) }
+        ensures searches { OnOk result (work.old.searches ≤ work.new.searches) }
+        ensures settled { OnOk result (work.old.settled ≤ work.new.settled) }
+        ensures kept { OnOk result (kept.old ≤ kept.new) }
+        ensures begun { OnOk result ((v : ℕ) → Begins (items self.new) v
+            → Begins (under_overlay (items self.old) overlay.now) v ⊎ Contains (begun_in searches.new) v) }
+        ensures err { OnErr result (items self.new ≡ items self.old) }
+        ensures err_work { OnErr result (work.new ≡ work.old) }
+        ensures err_kept { OnErr result (kept.new ≡ kept.old) }
+    {
+        if !overlay.takes_some() {
+            return self.renew_laid(
+                alloc, map, None, overlay, touched, far, searches, work, kept,
+            );
+        }
+        let mut list = overlay.laid_over(alloc, self)?;
+        let none = Overlay::new(alloc);
+        let before = Some(&*self);
+        let entries = list.renew_laid(
+            alloc, map, before, &none, touched, far, searches, work, kept,
+        )?;
+        *self = list;
+        Ok(entries)
+    }
+}
