@@ -1,10 +1,12 @@
 -- Committing a batch, as the register's parts have it.
-use Rattle.std.proofs.Common.{◌≡◌, ℕ, ◌+◌, ◌<◌, ◌≤◌, ◌^◌, true, false, not, List, map, length, Option, Some, None, Ok, Err, refl, sym, ap, ◌∙◌, subst}
+use Rattle.std.proofs.Common.{◌≡◌, ℕ, ◌+◌, ◌<◌, ◌≤◌, ◌^◌, true, false, not, List, map, length, Option, Some, None, Ok}
+use Rattle.std.proofs.Common.{Err, refl, sym, ap, ◌∙◌, subst}
 use Rattle.std.proofs.lemmas.Bool.{eq-eqb, ne_eqb}
 use Rattle.olr_spec.specs.Map.{Map}
 use Rattle.olr_map.specs.RoadMaps.{map_of, map_before}
 use Rattle.olr_map.specs.declared.road_map.RoadMap.{RoadMap}
-use Rattle.olr_commands.specs.State.{Named, Content, Memory, Count_differs, when, Change, State, Commit, after, step, changes_made, IsContent}
+use Rattle.olr_commands.specs.State.{Named, Content, Memory, Count_differs, when, Change, State, Commit, after, step}
+use Rattle.olr_commands.specs.State.{changes_made, IsContent}
 use Rattle.olr_commands.specs.Reply as replies
 use Rattle.olr_commands.specs.Reply.{IsRefusal, Told, Lacks, IsOutcome, may_want}
 use Rattle.olr_commands.specs.Counts.{Concerns, CountIs, Raises}
@@ -34,96 +36,139 @@ use Rattle.olr_register.proofs.BatchEnds.{answered_at}
 
 -- ---- refused
 
-pub count_refused : (roads : RoadMap) (is : List Item) (o : Option Batch) (b : Batch) (w : Tally) (n : ℕ) → o ≡ Some b → (b.count ≡ n → ⊥)
+pub count_refused : (roads : RoadMap) (is : List Item) (o : Option Batch) (b : Batch) (w : Tally) (n : ℕ) → o ≡ Some b →
+    (b.count ≡ n → ⊥)
     → Answered (of_parts roads is o w) (Commit n) (Err rust.CountDiffers) (of_parts roads is (Some b) w)
 count_refused roads is o b w n e other =
     let s = of_parts roads is (Some b) w in
     answered_at roads is o (Some b) w (Commit n) (Err rust.CountDiffers) s e
-    (answered_refused s s (Commit n) rust.CountDiffers refl (in_batch (content_on (map_before roads b.log) is) (batch_of roads is b) (λ a. IsRefusal a (Commit n) Count_differs)
-    (λ xs i. Told (ap (λ t. when (not t) Count_differs (Ok (state (after (content_on (map_before roads b.log) is) xs) None))) (ne_eqb (length xs) n (λ h. other (i.count ∙ h)))))))
+    (answered_refused s s (Commit n) rust.CountDiffers refl
+    (in_batch (content_on (map_before roads b.log) is) (batch_of roads is b) (λ a. IsRefusal a (Commit n) Count_differs)
+    (λ xs i. Told (ap (λ t. when (not t) Count_differs
+    (Ok (state (after (content_on (map_before roads b.log) is) xs) None)))
+    (ne_eqb (length xs) n (λ h. other (i.count ∙ h)))))))
 
 -- the step where the count is right
-right_count : (c : Content) (xs : List Change) (n : ℕ) → length xs ≡ n → step (state c (Some xs)) (Commit n) ≡ Ok (state (after c xs) None)
+right_count : (c : Content) (xs : List Change) (n : ℕ) → length xs ≡ n →
+    step (state c (Some xs)) (Commit n) ≡ Ok (state (after c xs) None)
 right_count c xs n e = ap (λ t. when (not t) Count_differs (Ok (state (after c xs) None))) (eq-eqb (length xs) n e)
 
-pub commit_lacks : (roads : RoadMap) (is ks : List Item) (o : Option Batch) (b : Batch) (w v : Tally) (n : ℕ) → o ≡ Some b → b.count ≡ n → ks ≡ is → v ≡ w
+pub commit_lacks : (roads : RoadMap) (is ks : List Item) (o : Option Batch) (b : Batch) (w v : Tally) (n : ℕ) →
+    o ≡ Some b → b.count ≡ n → ks ≡ is → v ≡ w
     → Answered (of_parts roads is o w) (Commit n) (Err rust.Memory) (of_parts roads ks (Some b) v)
 commit_lacks roads is ks o b w v n e count same same_work =
     let c : Content = content_on (map_before roads b.log) is in
     let new : Registered = of_parts roads ks (Some b) v in
     answered_at roads is o (Some b) w (Commit n) (Err rust.Memory) new e
-    (answered_refused (of_parts roads is (Some b) w) new (Commit n) rust.Memory (λ k. of_parts roads (same k) (Some b) (same_work k))
-    (in_batch c (batch_of roads is b) (λ a. IsRefusal a (Commit n) Memory) (λ xs i. Lacks refl (ap may_want (right_count c xs n (sym i.count ∙ count))))))
+    (answered_refused (of_parts roads is (Some b) w) new (Commit n) rust.Memory
+    (λ k. of_parts roads (same k) (Some b) (same_work k))
+    (in_batch c (batch_of roads is b) (λ a. IsRefusal a (Commit n) Memory)
+    (λ xs i. Lacks refl (ap may_want (right_count c xs n (sym i.count ∙ count))))))
 
 -- the list is as it was
-pub lacks_held : (roads : RoadMap) (is ks : List Item) (o : Option Batch) (b : Batch) → o ≡ Some b → ks ≡ is → IsRegister roads is o → IsRegister roads ks (Some b)
-lacks_held roads is ks o b e same reg = subst (λ (js : List Item). IsRegister roads js (Some b)) (sym same) (subst (IsRegister roads is) e reg)
+pub lacks_held : (roads : RoadMap) (is ks : List Item) (o : Option Batch) (b : Batch) → o ≡ Some b → ks ≡ is →
+    IsRegister roads is o → IsRegister roads ks (Some b)
+lacks_held roads is ks o b e same reg =
+    subst (λ (js : List Item). IsRegister roads js (Some b)) (sym same) (subst (IsRegister roads is) e reg)
 
 -- ---- accepted
 
 -- what is true of the batch
-pub commit_from : (roads : RoadMap) (is : List Item) (o : Option Batch) (b : Batch) → o ≡ Some b → IsRegister roads is o → IsHeld roads is b
+pub commit_from : (roads : RoadMap) (is : List Item) (o : Option Batch) (b : Batch) → o ≡ Some b →
+    IsRegister roads is o → IsHeld roads is b
 commit_from roads is o b e reg = let was : IsRegister roads is (Some b) = subst (IsRegister roads is) e reg in was.held
 
 -- what the renewal asks for
-pub commit_before : (roads : RoadMap) (is : List Item) (o : Option Batch) (b : Batch) → o ≡ Some b → IsRegister roads is o
-    → IsBefore (map_before roads b.log) (map_of roads) (nodes_of b.touched) (lines_of b.touched) (changed_of b.touched) (under_overlay is b.overlay)
+pub commit_before : (roads : RoadMap) (is : List Item) (o : Option Batch) (b : Batch) → o ≡ Some b →
+    IsRegister roads is o
+    → IsBefore (map_before roads b.log) (map_of roads) (nodes_of b.touched) (lines_of b.touched) (changed_of b.touched)
+    (under_overlay is b.overlay)
 commit_before roads is o b e reg =
     let was : IsRegister roads is (Some b) = subst (IsRegister roads is) e reg in
-    is_before (map_before roads b.log) (map_of roads) (nodes_of b.touched) (lines_of b.touched) (changed_of b.touched) (under_overlay is b.overlay) was.held.noted was.content.map was.held.sound.paths was.held.made
+    is_before (map_before roads b.log) (map_of roads) (nodes_of b.touched) (lines_of b.touched) (changed_of b.touched)
+    (under_overlay is b.overlay) was.held.noted was.content.map was.held.sound.paths was.held.made
 
 -- the content that a commit leads to
-content_after : (c : Content) (roads new : RoadMap) (b : Batch) (is js : List Item) (xs : List Change) → IsBatchOf c (batch_of roads is b) xs → map_of new ≡ map_of roads
+content_after : (c : Content) (roads new : RoadMap) (b : Batch) (is js : List Item) (xs : List Change) →
+    IsBatchOf c (batch_of roads is b) xs → map_of new ≡ map_of roads
     → all_named js ≡ all_named (under_overlay is b.overlay) → after c xs ≡ content_on (map_of new) js
 content_after c roads new b is js xs i same names =
     sym i.content ∙ ap (content_from (map_of roads)) (named_twice (under_overlay is b.overlay) ∙ sym names)
     ∙ ap (λ (M : Map). content_on M js) (sym same)
 
-made_after : (roads new : RoadMap) (is js : List Item) (b : Batch) → map_of new ≡ map_of roads → AreRemade (map_of roads) (under_overlay is b.overlay) js → AreEncodings (map_of new) js
-made_after roads new is js b same remade = subst (λ (M : Map). AreEncodings M js) (sym same) (remade_made (map_of roads) (under_overlay is b.overlay) js remade)
+made_after : (roads new : RoadMap) (is js : List Item) (b : Batch) → map_of new ≡ map_of roads →
+    AreRemade (map_of roads) (under_overlay is b.overlay) js → AreEncodings (map_of new) js
+made_after roads new is js b same remade =
+    subst (λ (M : Map). AreEncodings M js) (sym same)
+    (remade_made (map_of roads) (under_overlay is b.overlay) js remade)
 
-sound_after : (roads new : RoadMap) (is js : List Item) (b : Batch) → IsRegister roads is (Some b) → map_of new ≡ map_of roads
+sound_after : (roads new : RoadMap) (is js : List Item) (b : Batch) → IsRegister roads is (Some b) →
+    map_of new ≡ map_of roads
     → all_named js ≡ all_named (under_overlay is b.overlay) → IsContent (content_on (map_of new) js)
 sound_after roads new is js b reg same names =
     subst (λ (M : Map). IsContent (content_on M js)) (sym same)
     (subst (λ (ps : List Named). IsContent (content_from (map_of roads) ps)) (sym names) reg.held.sound)
 
-pub commit_held : (roads new : RoadMap) (is js : List Item) (o p : Option Batch) (b : Batch) → o ≡ Some b → p ≡ None → IsRegister roads is o → map_of new ≡ map_of roads
-    → AreRemade (map_of roads) (under_overlay is b.overlay) js → all_named js ≡ all_named (under_overlay is b.overlay) → IsRegister new js p
+pub commit_held : (roads new : RoadMap) (is js : List Item) (o p : Option Batch) (b : Batch) → o ≡ Some b → p ≡ None →
+    IsRegister roads is o → map_of new ≡ map_of roads
+    → AreRemade (map_of roads) (under_overlay is b.overlay) js → all_named js ≡ all_named (under_overlay is b.overlay) →
+    IsRegister new js p
 commit_held roads new is js o p b e g reg same remade names =
     let was : IsRegister roads is (Some b) = subst (IsRegister roads is) e reg in
-    subst (IsRegister new js) (sym g) (record { content = sound_after roads new is js b was same names; made = made_after roads new is js b same remade; held = tt })
+    subst (IsRegister new js) (sym g)
+    (record {
+      content = sound_after roads new is js b was same names;
+      made = made_after roads new is js b same remade;
+      held = tt;
+    })
 
 -- how many a commit counts
-commit_raises : (roads new : RoadMap) (is js : List Item) (b : Batch) (n many : ℕ) → all_named js ≡ all_named (under_overlay is b.overlay)
-    → CountIs (IsConcerned (map_before roads b.log) (nodes_of b.touched) (lines_of b.touched)) (under_overlay is b.overlay) many
-    → (s t : State) → Stands (record { content = content_on (map_before roads b.log) is; batch = Some (batch_of roads is b) }) s → Stands (record { content = content_on (map_of new) js; batch = None }) t
+commit_raises : (roads new : RoadMap) (is js : List Item) (b : Batch) (n many : ℕ) →
+    all_named js ≡ all_named (under_overlay is b.overlay)
+    → CountIs (IsConcerned (map_before roads b.log) (nodes_of b.touched) (lines_of b.touched))
+    (under_overlay is b.overlay) many
+    → (s t : State) → Stands
+    (record { content = content_on (map_before roads b.log) is; batch = Some (batch_of roads is b) }) s →
+    Stands (record { content = content_on (map_of new) js; batch = None }) t
     → Raises s (Commit n) t many
 commit_raises roads new is js b n many names count s t h g =
     let c : Content = content_on (map_before roads b.log) is in
-    in_batch c (batch_of roads is b) (λ a. CountIs (Concerns a.content (changes_made a (Commit n))) t.content.paths many)
+    in_batch c (batch_of roads is b)
+    (λ a. CountIs (Concerns a.content (changes_made a (Commit n))) t.content.paths many)
     (λ xs i.
     subst (λ (ps : List Named). CountIs (Concerns c xs) ps many) (sym names ∙ ap (λ (d : Content). d.paths) g.0)
-    (counted_changes c xs (nodes_of b.touched) (lines_of b.touched) i.nodes i.lines (under_overlay is b.overlay) many i.given count)) s h
+    (counted_changes c xs (nodes_of b.touched) (lines_of b.touched) i.nodes i.lines (under_overlay is b.overlay) many
+    i.given count)) s h
 
-module _ (roads new : RoadMap) (is js : List Item) (b : Batch) (w v : Tally) (n many : ℕ) (r : Reply) (es : List Entry) (told : reply_of r ≡ replies.Paths (map entry_of es)) (right : b.count ≡ n)
-    (same : map_of new ≡ map_of roads) (remade : AreRemade (map_of roads) (under_overlay is b.overlay) js) (names : all_named js ≡ all_named (under_overlay is b.overlay)) (reported : Reported is js (map entry_of es))
-    (count : CountIs (IsConcerned (map_before roads b.log) (nodes_of b.touched) (lines_of b.touched)) (under_overlay is b.overlay) many)
-    (encodings : w.work.encodings + many < 2 ^ 64 → v.work.encodings ≡ w.work.encodings + many) (spared : v.spared ≤ w.spared + many)
-    (searches : w.work.searches ≤ v.work.searches) (settled : w.work.settled ≤ v.work.settled) (rises : w.spared ≤ v.spared) where
-  commit_answered : IsRegister roads is (Some b) → Answered (of_parts roads is (Some b) w) (Commit n) (Ok r) (of_parts new js None v)
+module _ (roads new : RoadMap) (is js : List Item) (b : Batch) (w v : Tally) (n many : ℕ) (r : Reply) (es : List Entry)
+    (told : reply_of r ≡ replies.Paths (map entry_of es)) (right : b.count ≡ n)
+    (same : map_of new ≡ map_of roads) (remade : AreRemade (map_of roads) (under_overlay is b.overlay) js)
+    (names : all_named js ≡ all_named (under_overlay is b.overlay)) (reported : Reported is js (map entry_of es))
+    (count : CountIs (IsConcerned (map_before roads b.log) (nodes_of b.touched) (lines_of b.touched))
+    (under_overlay is b.overlay) many)
+    (encodings : w.work.encodings + many < 2 ^ 64 → v.work.encodings ≡ w.work.encodings + many)
+    (spared : v.spared ≤ w.spared + many)
+    (searches : w.work.searches ≤ v.work.searches) (settled : w.work.settled ≤ v.work.settled)
+    (rises : w.spared ≤ v.spared) where
+  commit_answered : IsRegister roads is (Some b) →
+      Answered (of_parts roads is (Some b) w) (Commit n) (Ok r) (of_parts new js None v)
   commit_answered reg =
       let c : Content = content_on (map_before roads b.log) is in
       let to : Content = content_on (map_of new) js in
       record {
-        outcome = in_batch c (batch_of roads is b) (λ s. (t : State) × Stands (record { content = to; batch = None }) t × IsOutcome s (Commit n) (Ok (reply_of r)) t)
+        outcome =
+            in_batch c (batch_of roads is b) (λ s. (t : State) × Stands (record { content = to; batch = None }) t
+            × IsOutcome s (Commit n) (Ok (reply_of r)) t)
             (λ xs i. (
               state to None,
               (refl, tt),
               (
-                right_count c xs n (sym i.count ∙ right) ∙ ap (λ (d : Content). Ok (state d None)) (content_after c roads new b is js xs i same names),
-                subst (λ (q : replies.Reply). replies.IsReply (state c (Some xs)) (Commit n) (state to None) q) (sym told)
-                    (changes_told (map_before roads b.log) (map_of new) is js (map entry_of es) reg.content reg.made (made_after roads new is js b same remade) reported),
+                right_count c xs n (sym i.count ∙ right)
+                    ∙ ap (λ (d : Content). Ok (state d None)) (content_after c roads new b is js xs i same names),
+                subst (λ (q : replies.Reply). replies.IsReply (state c (Some xs)) (Commit n) (state to None) q)
+                    (sym told)
+                    (changes_told (map_before roads b.log) (map_of new) is js (map entry_of es) reg.content reg.made
+                    (made_after roads new is js b same remade) reported),
               ),
             ));
         counted = λ s t h g. (many, commit_raises roads new is js b n many names count s t h g, encodings);
@@ -133,8 +178,10 @@ module _ (roads new : RoadMap) (is js : List Item) (b : Batch) (w v : Tally) (n 
         unchanged = tt;
       }
 
-  pub commit_done : (o p : Option Batch) → o ≡ Some b → p ≡ None → IsRegister roads is o → Answered (of_parts roads is o w) (Commit n) (Ok r) (of_parts new js p v)
+  pub commit_done : (o p : Option Batch) → o ≡ Some b → p ≡ None → IsRegister roads is o →
+      Answered (of_parts roads is o w) (Commit n) (Ok r) (of_parts new js p v)
   commit_done o p e g reg =
       answered_at roads is o (Some b) w (Commit n) (Ok r) (of_parts new js p v) e
-      (subst (λ (q : Option Batch). Answered (of_parts roads is (Some b) w) (Commit n) (Ok r) (of_parts new js q v)) (sym g)
+      (subst (λ (q : Option Batch). Answered (of_parts roads is (Some b) w) (Commit n) (Ok r) (of_parts new js q v))
+      (sym g)
       (commit_answered (subst (IsRegister roads is) e reg)))

@@ -1,5 +1,6 @@
 -- Opening a batch, its two ends and the changes between, as the register's parts have them.
-use Rattle.std.proofs.Common.{◌≡◌, ℕ, arith, true, false, List, [], ◌∷◌, map, Option, Some, None, is_some, Result, Ok, Err, refl, sym, ap, ◌∙◌, subst}
+use Rattle.std.proofs.Common.{◌≡◌, ℕ, arith, true, false, List, [], ◌∷◌, map, Option, Some, None, is_some, Result, Ok}
+use Rattle.std.proofs.Common.{Err, refl, sym, ap, ◌∙◌, subst}
 use Rattle.std.specs.Prelude.{is_none}
 use Rattle.olr_spec.specs.Map.{Map, IsMap, has}
 use Rattle.olr_map.specs.Changes.{room_of, all_node_puts, all_line_puts}
@@ -20,7 +21,8 @@ use Rattle.olr_paths.specs.Changes.{Follows}
 use Rattle.olr_paths.specs.Touching.{nodes_of, lines_of, changed_of}
 use Rattle.olr_register.specs.Kept.{named_held, IsBatchOf}
 use Rattle.olr_register.specs.Registered.{Registered}
-use Rattle.olr_register.specs.Holding.{IsNoted, held_of, batch_of, IsHeld, IsRegister}
+use Rattle.olr_near.specs.declared.nearness.Nearness.{Nearness}
+use Rattle.olr_register.specs.Holding.{IsNoted, held_of, batch_of, IsHeld, IsRegister, IsNumbered, IsWhole}
 use Rattle.olr_register.specs.Answering.{Answered}
 use Rattle.olr_register.specs.Given.{AreGiven, Given}
 use Rattle.olr_register.specs.declared.batch.Batch.{Batch}
@@ -35,40 +37,65 @@ use Rattle.olr_register.proofs.BatchStates.{state, register_of, in_batch, no_bat
 use Rattle.olr_register.proofs.BatchSteps.{answered_given}
 
 -- where the batch is known
-pub answered_at : (old : RoadMap) (is : List Item) (o p : Option Batch) (w : Tally) (x : Command) (result : Result Reply CommandFault) (new : Registered)
+pub answered_at : (old : RoadMap) (is : List Item) (o p : Option Batch) (w : Tally) (x : Command)
+    (result : Result Reply CommandFault) (new : Registered)
     → o ≡ p → Answered (of_parts old is p w) x result new → Answered (of_parts old is o w) x result new
-answered_at old is o p w x result new e h = subst (λ (q : Option Batch). Answered (of_parts old is q w) x result new) (sym e) h
+answered_at old is o p w x result new e h =
+    subst (λ (q : Option Batch). Answered (of_parts old is q w) x result new) (sym e) h
 
 -- ---- none is open
 
 pub none_refused : (old : RoadMap) (is : List Item) (o p : Option Batch) (w : Tally) (x : Command) (f : CommandFault)
-    → o ≡ None → p ≡ None → step (state (content_on (map_of old) is) None) x ≡ Err (command_fault_of f) → Answered (of_parts old is o w) x (Err f) (of_parts old is p w)
+    → o ≡ None → p ≡ None → step (state (content_on (map_of old) is) None) x ≡ Err (command_fault_of f) →
+    Answered (of_parts old is o w) x (Err f) (of_parts old is p w)
 none_refused old is o p w x f e g told =
     let c = content_on (map_of old) is in
     answered_at old is o None w x (Err f) (of_parts old is p w) e
-    (answered_refused (of_parts old is None w) (of_parts old is p w) x f (ap (λ (q : Option Batch). of_parts old is q w) g) (no_batch c (λ s. IsRefusal s x (command_fault_of f)) (Told told)))
+    (answered_refused (of_parts old is None w) (of_parts old is p w) x f
+    (ap (λ (q : Option Batch). of_parts old is q w) g)
+    (no_batch c (λ s. IsRefusal s x (command_fault_of f)) (Told told)))
 
 -- ---- abort
 
-pub abort_done : (old new : RoadMap) (is : List Item) (o p : Option Batch) (b : Batch) (w : Tally) (r : Reply) → o ≡ Some b → p ≡ None → reply_of r ≡ replies.Paths []
+pub abort_done : (old new : RoadMap) (is : List Item) (o p : Option Batch) (b : Batch) (w : Tally) (r : Reply) →
+    o ≡ Some b → p ≡ None → reply_of r ≡ replies.Paths []
     → map_of new ≡ map_before old b.log → Answered (of_parts old is o w) Abort (Ok r) (of_parts new is p w)
 abort_done old new is o p b w r e g empty same =
     let c = content_on (map_before old b.log) is in
     answered_at old is o (Some b) w Abort (Ok r) (of_parts new is p w) e
     (subst (λ (q : Option Batch). Answered (of_parts old is (Some b) w) Abort (Ok r) (of_parts new is q w)) (sym g)
-    (abort_answered c (content_on (map_of new) is) (batch_of old is b) w r empty (ap (λ (M : Map). content_on M is) same)))
+    (abort_answered c (content_on (map_of new) is) (batch_of old is b) w r empty
+    (ap (λ (M : Map). content_on M is) same)))
+
+-- the numbers too
+pub abort_held : (old new : RoadMap) (is : List Item) (o p : Option Batch) (b : Batch) (near : Nearness) → o ≡ Some b
+    → p ≡ None → map_of new ≡ map_before old b.log → IsWhole old is o near → IsWhole new is p near
+abort_held old new is o p b near e g same h =
+    let was : IsWhole old is (Some b) near = subst (λ (q : Option Batch). IsWhole old is q near) e h in
+    subst (λ (q : Option Batch). IsWhole new is q near) (sym g) (record {
+      register = record {
+        content = subst (λ (M : Map). IsContent (content_on M is)) (sym same) was.register.content;
+        made = subst (λ (M : Map). AreEncodings M is) (sym same) was.register.made;
+        held = tt;
+      };
+      numbered = subst (λ (M : Map). IsNumbered M is near) (sym same) was.numbered;
+    })
 
 -- ---- a change that is given
 
-pub given_answered : (old new : RoadMap) (is : List Item) (o p : Option Batch) (b d : Batch) (w : Tally) (x : Change) (r : Result Reply CommandFault) → o ≡ Some b → p ≡ Some d
-    → map_before new d.log ≡ map_before old b.log → Given (batch_of old is b) x r (batch_of new is d) → Answered (of_parts old is o w) (Make x) r (of_parts new is p w)
+pub given_answered : (old new : RoadMap) (is : List Item) (o p : Option Batch) (b d : Batch) (w : Tally) (x : Change)
+    (r : Result Reply CommandFault) → o ≡ Some b → p ≡ Some d
+    → map_before new d.log ≡ map_before old b.log → Given (batch_of old is b) x r (batch_of new is d) →
+    Answered (of_parts old is o w) (Make x) r (of_parts new is p w)
 given_answered old new is o p b d w x r e g same given =
     answered_at old is o (Some b) w (Make x) r (of_parts new is p w) e
     (subst (λ (q : Option Batch). Answered (of_parts old is (Some b) w) (Make x) r (of_parts new is q w)) (sym g)
-    (subst (λ (M : Map). Answered (of_parts old is (Some b) w) (Make x) r (register_of (content_on M is) (Some (batch_of new is d)) w)) (sym same)
+    (subst (λ (M : Map). Answered (of_parts old is (Some b) w) (Make x) r
+    (register_of (content_on M is) (Some (batch_of new is d)) w)) (sym same)
     (answered_given (content_on (map_before old b.log) is) (batch_of old is b) (batch_of new is d) w x r given)))
 
-pub given_held : (old new : RoadMap) (is : List Item) (o : Option Batch) (b d : Batch) → o ≡ Some b → IsRegister old is o → map_before new d.log ≡ map_before old b.log
+pub given_held : (old new : RoadMap) (is : List Item) (o : Option Batch) (b d : Batch) → o ≡ Some b →
+    IsRegister old is o → map_before new d.log ≡ map_before old b.log
     → (IsHeld old is b → IsHeld new is d) → IsRegister new is (Some d)
 given_held old new is o b d e reg same held =
     let was : IsRegister old is (Some b) = subst (IsRegister old is) e reg in
@@ -78,16 +105,21 @@ given_held old new is o b d e reg same held =
       held = held was.held;
     }
 
-pub first_sound : (roads : RoadMap) (is : List Item) (o : Option Batch) (b : Batch) → o ≡ Some b → IsRegister roads is o → IsMap (map_before roads b.log)
-first_sound roads is o b e reg = let was : IsRegister roads is (Some b) = subst (IsRegister roads is) e reg in was.content.map
+pub first_sound : (roads : RoadMap) (is : List Item) (o : Option Batch) (b : Batch) → o ≡ Some b →
+    IsRegister roads is o → IsMap (map_before roads b.log)
+first_sound roads is o b e reg = let was : IsRegister roads is (Some b) =
+    subst (IsRegister roads is) e reg in was.content.map
 
 -- ---- begin
 
-pub open_refused : (old : RoadMap) (is : List Item) (o : Option Batch) (w : Tally) → is_some o ≡ true → Answered (of_parts old is o w) Begin (Err rust.BatchOpen) (of_parts old is o w)
+pub open_refused : (old : RoadMap) (is : List Item) (o : Option Batch) (w : Tally) → is_some o ≡ true →
+    Answered (of_parts old is o w) Begin (Err rust.BatchOpen) (of_parts old is o w)
 open_refused old is None w e = absurd cc
 open_refused old is (Some b) w e =
     let s = of_parts old is (Some b) w in
-    answered_refused s s Begin rust.BatchOpen refl (in_batch (content_on (map_before old b.log) is) (batch_of old is b) (λ s. IsRefusal s Begin Batch_open) (λ xs i. Told refl))
+    answered_refused s s Begin rust.BatchOpen refl
+    (in_batch (content_on (map_before old b.log) is) (batch_of old is b) (λ s. IsRefusal s Begin Batch_open)
+    (λ xs i. Told refl))
 
 -- a batch that holds nothing
 pub record IsEmpty (b : Batch) : Type 0 where
@@ -102,20 +134,26 @@ given_at_first : (M : Map) (is : List Item) → AreEncodings M is → AreGiven [
 given_at_first M [] a = tt
 given_at_first M (i ∷ is) a = (ap (λ (o : Option Made). is_none o) a.0.1, given_at_first M is a.1)
 
-empty_batch : (roads : RoadMap) (is : List Item) (b : Batch) → AreEncodings (map_of roads) is → IsEmpty b → IsBatchOf (content_on (map_of roads) is) (batch_of roads is b) []
+empty_batch : (roads : RoadMap) (is : List Item) (b : Batch) → AreEncodings (map_of roads) is → IsEmpty b →
+    IsBatchOf (content_on (map_of roads) is) (batch_of roads is b) []
 empty_batch roads is b a e =
     record {
-      content = ap (λ (ps : List Named). content_from (map_of roads) ps) (ap (λ (ks : List Item). map named_held (map held_of ks)) (e.paths is) ∙ named_twice is);
+      content =
+          ap (λ (ps : List Named). content_from (map_of roads) ps)
+          (ap (λ (ks : List Item). map named_held (map held_of ks)) (e.paths is) ∙ named_twice is);
       count = e.count;
       nodes = λ v. ap (λ (vs : List ℕ). has vs v) e.nodes;
       lines = λ y. ap (λ (ys : List ℕ). has ys y) e.lines;
-      given = subst (λ (ks : List Item). AreGiven [] (map held_of ks)) (sym (e.paths is)) (given_at_first (map_of roads) is a);
+      given =
+          subst (λ (ks : List Item). AreGiven [] (map held_of ks)) (sym (e.paths is))
+          (given_at_first (map_of roads) is a);
     }
 
 same_before : (roads : RoadMap) (b : Batch) → changes_of b.log ≡ [] → map_before roads b.log ≡ map_of roads
 same_before roads b e = ap (made_all (map_of roads)) e
 
-pub begun_held : (roads : RoadMap) (is : List Item) (o : Option Batch) (b : Batch) → is_some o ≡ false → IsRegister roads is o → IsEmpty b → IsRegister roads is (Some b)
+pub begun_held : (roads : RoadMap) (is : List Item) (o : Option Batch) (b : Batch) → is_some o ≡ false →
+    IsRegister roads is o → IsEmpty b → IsRegister roads is (Some b)
 begun_held roads is (Some d) b none r e = absurd cc
 begun_held roads is None b none r e =
     let same = same_before roads b e.log in
@@ -131,16 +169,22 @@ begun_held roads is None b none r e =
         );
         sound = subst (λ (ks : List Item). IsContent (content_on (map_of roads) ks)) (sym (e.paths is)) r.content;
         few = let none_yet = e.count in omega arith;
-        noted = coe 0 1 (i. IsNoted (sym same i) (map_of roads) (sym e.nodes i) (sym e.lines i) (sym e.changed i)) (noted_none (map_of roads));
-        made = subst (λ (M : Map). AreEncodingsIfAny M (under_overlay is b.overlay)) (sym same) (subst (AreEncodingsIfAny (map_of roads)) (sym (e.paths is)) (made_if_any (map_of roads) is r.made));
+        noted =
+            coe 0 1 (i. IsNoted (sym same i) (map_of roads) (sym e.nodes i) (sym e.lines i) (sym e.changed i))
+            (noted_none (map_of roads));
+        made =
+            subst (λ (M : Map). AreEncodingsIfAny M (under_overlay is b.overlay)) (sym same)
+            (subst (AreEncodingsIfAny (map_of roads)) (sym (e.paths is)) (made_if_any (map_of roads) is r.made));
         follows = subst (Follows is) (sym (e.paths is)) (follows_self is r.content.names);
         begins = λ v b. subst (λ (ks : List Item). Begins ks v) (e.paths is) b;
       };
     }
 
-pub begin_done : (roads : RoadMap) (is : List Item) (o : Option Batch) (b : Batch) (w : Tally) (r : Reply) → is_some o ≡ false → IsRegister roads is o → IsEmpty b → reply_of r ≡ replies.Paths []
+pub begin_done : (roads : RoadMap) (is : List Item) (o : Option Batch) (b : Batch) (w : Tally) (r : Reply) →
+    is_some o ≡ false → IsRegister roads is o → IsEmpty b → reply_of r ≡ replies.Paths []
     → Answered (of_parts roads is o w) Begin (Ok r) (of_parts roads is (Some b) w)
 begin_done roads is (Some d) b w r none reg e empty = absurd cc
 begin_done roads is None b w r none reg e empty =
-    subst (λ (M : Map). Answered (of_parts roads is None w) Begin (Ok r) (register_of (content_on M is) (Some (batch_of roads is b)) w)) (sym (same_before roads b e.log))
+    subst (λ (M : Map). Answered (of_parts roads is None w) Begin (Ok r)
+    (register_of (content_on M is) (Some (batch_of roads is b)) w)) (sym (same_before roads b e.log))
     (begin_answered (content_on (map_of roads) is) (batch_of roads is b) w r empty (empty_batch roads is b reg.made e))

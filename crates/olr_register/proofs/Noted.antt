@@ -1,15 +1,16 @@
 -- What is noted of edits: the maps before and after them differ in nothing else.
-use Rattle.std.proofs.Common.{inl, inr, ◌≡◌, ◌==◌, ℕ, false, true, List, [], ◌∷◌, ◌++◌, Ok, Contains, sym, ◌∙◌, subst, arith}
+use Rattle.std.proofs.Common.{inl, inr, ◌≡◌, ◌==◌, ℕ, false, true, List, [], ◌∷◌, ◌++◌, Ok, Contains, sym, ◌∙◌, subst}
+use Rattle.std.proofs.Common.{arith}
 use Rattle.std.specs.Prelude.{◌||◌}
 use Rattle.std.specs.List.{AllByRecursion}
 use Rattle.std.proofs.lemmas.Bool.{or_left, or_right}
 use Rattle.std.proofs.lemmas.List.Elements.{Contains-append_cases}
 use Rattle.std.proofs.lemmas.List.Folds.{list_any-append}
-use Rattle.olr_spec.specs.Map.{Map, IsMap, Edit, Add_node, Move_node, Drop_node, Add_line, Set_line, Drop_line, edited, start, end, touched_nodes, touched_lines, has}
+use Rattle.olr_spec.specs.Map.{Map, IsMap, Edit, Add_node, Move_node, Drop_node, Add_line, Set_line, Drop_line, edited}
+use Rattle.olr_spec.specs.Map.{start, end, touched_nodes, touched_lines, has}
 use Rattle.olr_spec.specs.Extension.{is_path}
 use Rattle.olr_spec.specs.Detours.{ChangedLine, changes_of}
-use Rattle.olr_spec.proofs.ListLemmas.{has_here}
-use Rattle.olr_spec.proofs.LookLists.{Contains-cases}
+use Rattle.olr_spec.proofs.ListLemmas.{has_here, Contains-cases}
 use Rattle.olr_spec.proofs.ChangeLemmas.{edit_differs, none_differs, differences_add}
 use Rattle.olr_commands.specs.State.{ArePaths}
 use Rattle.olr_paths.specs.Items.{Item, AreEncodingsIfAny, all_named}
@@ -22,14 +23,20 @@ none_contained : {X : Type 0} (x : X) → ¬ Contains [] x
 none_contained x c = let h = c.1 in absurd (omega arith)
 
 starts_of_one : (T : List ℕ) (d c : ChangedLine) → has T d.from ≡ true → Contains (d ∷ []) c → has T c.from ≡ true
-starts_of_one T d c h k = elim (Contains-cases d c [] k) [ inl e ↦ subst (λ (b : ChangedLine). has T b.from ≡ true) e h | inr n ↦ absurd (none_contained c n) ]
+starts_of_one T d c h k =
+    elim (Contains-cases d c [] k) [
+      | inl e ↦ subst (λ (b : ChangedLine). has T b.from ≡ true) e h
+      | inr n ↦
+          absurd (none_contained c n)
+    ]
 
 starts_of : (M : Map) (e : Edit) (c : ChangedLine) → Contains (changes_of M e) c → has (touched_nodes M e) c.from ≡ true
 starts_of M (Add_node v p) c k = absurd (none_contained c k)
 starts_of M (Move_node v p) c k = absurd (none_contained c k)
 starts_of M (Drop_node v) c k = absurd (none_contained c k)
 starts_of M (Add_line x l) c k = starts_of_one (l.from ∷ l.to ∷ []) _ c (has_here l.from (l.to ∷ [])) k
-starts_of M (Set_line x frc fow len shape) c k = starts_of_one (start M x ∷ end M x ∷ []) _ c (has_here (start M x) (end M x ∷ [])) k
+starts_of M (Set_line x frc fow len shape) c k =
+    starts_of_one (start M x ∷ end M x ∷ []) _ c (has_here (start M x) (end M x ∷ [])) k
 starts_of M (Drop_line x) c k = starts_of_one (start M x ∷ end M x ∷ []) _ c (has_here (start M x) (end M x ∷ [])) k
 
 -- ---- no edit, and one more
@@ -41,11 +48,15 @@ noted_none M = record { difference = none_differs M; starts = λ c k. absurd (no
 held_by : (ms ns us : List ℕ) (v : ℕ) → has ms v ≡ (has ns v || has us v) → has ms v ≡ false → has (ns ++ us) v ≡ false
 held_by ms ns us v e off = list_any-append (λ y. y == v) ns us ∙ sym e ∙ off
 
-pub noted_more : (L M N : Map) (e : Edit) (ns xs ms ys : List ℕ) (cs ds : List ChangedLine) → IsNoted L M ns xs cs → edited M e ≡ Ok N
-    → ((v : ℕ) → has ms v ≡ (has ns v || has (touched_nodes M e) v)) → ((x : ℕ) → has ys x ≡ (has xs x || has (touched_lines e) x)) → ds ≡ cs ++ changes_of M e
+pub noted_more : (L M N : Map) (e : Edit) (ns xs ms ys : List ℕ) (cs ds : List ChangedLine) → IsNoted L M ns xs cs →
+    edited M e ≡ Ok N
+    → ((v : ℕ) → has ms v ≡ (has ns v || has (touched_nodes M e) v)) →
+    ((x : ℕ) → has ys x ≡ (has xs x || has (touched_lines e) x)) → ds ≡ cs ++ changes_of M e
     → IsNoted L N ms ys ds
 noted_more L M N e ns xs ms ys cs ds was ok nodes lines changes =
-    let all = differences_add L M N ns (touched_nodes M e) xs (touched_lines e) cs (changes_of M e) was.difference (edit_differs M N e ok) in
+    let all =
+    differences_add L M N ns (touched_nodes M e) xs (touched_lines e) cs (changes_of M e) was.difference
+    (edit_differs M N e ok) in
     subst (IsNoted L N ms ys) (sym changes) (record {
       difference = record {
         nodes = λ v off. all.nodes v (held_by ms ns (touched_nodes M e) v (nodes v) off);
@@ -61,8 +72,10 @@ noted_more L M N e ns xs ms ys cs ds was ok nodes lines changes =
 
 -- one edit alone
 pub noted_edit : (M N : Map) (e : Edit) (ns xs : List ℕ) (cs : List ChangedLine) → edited M e ≡ Ok N
-    → ((v : ℕ) → has ns v ≡ has (touched_nodes M e) v) → ((x : ℕ) → has xs x ≡ has (touched_lines e) x) → cs ≡ changes_of M e → IsNoted M N ns xs cs
-noted_edit M N e ns xs cs ok nodes lines changes = noted_more M M N e [] [] ns xs [] cs (noted_none M) ok nodes lines changes
+    → ((v : ℕ) → has ns v ≡ has (touched_nodes M e) v) → ((x : ℕ) → has xs x ≡ has (touched_lines e) x) →
+    cs ≡ changes_of M e → IsNoted M N ns xs cs
+noted_edit M N e ns xs cs ok nodes lines changes =
+    noted_more M M N e [] [] ns xs [] cs (noted_none M) ok nodes lines changes
 
 -- ---- what a renewal asks
 
@@ -70,6 +83,14 @@ are_paths : (is : List Item) → ArePaths (all_named is) → AllByRecursion (λ 
 are_paths [] p = tt
 are_paths (i ∷ is) p = (p.0, are_paths is p.1)
 
-pub is_before : (M N : Map) (T X : List ℕ) (C : List ChangedLine) (is : List Item) → IsNoted M N T X C → IsMap M → ArePaths (all_named is) → AreEncodingsIfAny M is → IsBefore M N T X C is
+pub is_before : (M N : Map) (T X : List ℕ) (C : List ChangedLine) (is : List Item) → IsNoted M N T X C → IsMap M →
+    ArePaths (all_named is) → AreEncodingsIfAny M is → IsBefore M N T X C is
 is_before M N T X C is noted sound paths made =
-    record { sound = sound; difference = noted.difference; starts = noted.starts; paths = are_paths is paths; made = made }
+    record {
+      sound = sound;
+      difference = noted.difference;
+      starts = noted.starts;
+      paths = are_paths is paths;
+      made =
+          made;
+    }

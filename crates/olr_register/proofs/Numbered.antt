@@ -1,5 +1,6 @@
 -- The numbers of nodes that a register keeps: right on its map, with a source where each look of its list begins.
-use Rattle.std.proofs.Common.{inl, inr, ◌≡◌, ℕ, ◌⊎◌, false, List, [], ◌∷◌, ◌++◌, map, Contains, Option, Some, None, is_some, Ok, IsFalse, sym, ap, ◌∙◌, subst}
+use Rattle.std.proofs.Common.{inl, inr, ◌≡◌, ℕ, ◌⊎◌, false, List, [], ◌∷◌, ◌++◌, map, Contains, Option, Some, None}
+use Rattle.std.proofs.Common.{is_some, Ok, IsFalse, sym, ap, ◌∙◌, subst}
 use Rattle.olr_spec.specs.Map.{Map, Edit, edited, touched_nodes, has}
 use Rattle.olr_spec.specs.Extension.{Path, limit}
 use Rattle.olr_spec.specs.Detours.{Near}
@@ -26,51 +27,81 @@ kept_closed roads b none = ap (map_kept roads) none
 
 -- unknown ones say nothing
 pub numbered_unknown : (M : Map) (is : List Item) (near : Nearness) → IsFalse near.known → IsNumbered M is near
-numbered_unknown M is near off = record { right = λ on. let never : ⊥ = cc (on, off) in absurd never; sources = λ v b on. let never : ⊥ = cc (on, off) in absurd never }
+numbered_unknown M is near off =
+    record {
+      right = λ on. let never : ⊥ = cc (on, off) in absurd never;
+      sources = λ v b on. let never : ⊥ =
+          cc (on, off) in absurd never;
+    }
 
 -- where no node has one, and no look begins
 pub right_without : (M : Map) (near : Nearness) → ((v : ℕ) → number_of near v ≡ None) → IsRight M near
 right_without M near none known u d at = let no : ◌≡◌ {A = Option ℕ} None (Some d) = sym (none u) ∙ at in absurd cc
 
-pub numbered_bare : (M : Map) (is : List Item) (near : Nearness) → ((v : ℕ) → number_of near v ≡ None) → is ≡ [] → IsNumbered M is near
-numbered_bare M is near none bare = record { right = right_without M near none; sources = λ v b. absurd (subst (λ (js : List Item). Begins js v) bare b) }
+pub numbered_bare : (M : Map) (is : List Item) (near : Nearness) → ((v : ℕ) → number_of near v ≡ None) → is ≡ [] →
+    IsNumbered M is near
+numbered_bare M is near none bare =
+    record {
+      right = right_without M near none;
+      sources =
+          λ v b. absurd (subst (λ (js : List Item). Begins js v) bare b);
+    }
 
 pub numbered_same : (M N : Map) (is : List Item) (near : Nearness) → N ≡ M → IsNumbered M is near → IsNumbered N is near
 numbered_same M N is near same h = subst (λ (L : Map). IsNumbered L is near) (sym same) h
 
-pub numbered_fewer : (M : Map) (is js : List Item) (near : Nearness) → ((v : ℕ) → Begins js v → Begins is v) → IsNumbered M is near → IsNumbered M js near
+pub numbered_fewer : (M : Map) (is js : List Item) (near : Nearness) → ((v : ℕ) → Begins js v → Begins is v) →
+    IsNumbered M is near → IsNumbered M js near
 numbered_fewer M is js near few h = record { right = h.right; sources = λ v b. h.sources v (few v b) }
 
-pub numbered_begun : (roads : RoadMap) (is : List Item) (o : Option Batch) (b : Batch) (near : Nearness) → is_some o ≡ false → changes_of b.log ≡ [] → IsNumbered (map_kept roads o) is near → IsNumbered (map_kept roads (Some b)) is near
+pub numbered_begun : (roads : RoadMap) (is : List Item) (o : Option Batch) (b : Batch) (near : Nearness) →
+    is_some o ≡ false → changes_of b.log ≡ [] → IsNumbered (map_kept roads o) is near →
+    IsNumbered (map_kept roads (Some b)) is near
 numbered_begun roads is (Some d) b near none e h = absurd cc
-numbered_begun roads is None b near none e h = numbered_same (map_of roads) (map_before roads b.log) is near (ap (made_all (map_of roads)) e) h
+numbered_begun roads is None b near none e h =
+    numbered_same (map_of roads) (map_before roads b.log) is near (ap (made_all (map_of roads)) e) h
 
-pub numbered_held : (old new : RoadMap) (is : List Item) (o : Option Batch) (b d : Batch) (near : Nearness) → o ≡ Some b → map_before new d.log ≡ map_before old b.log → IsNumbered (map_kept old o) is near
+pub numbered_held : (old new : RoadMap) (is : List Item) (o : Option Batch) (b d : Batch) (near : Nearness) →
+    o ≡ Some b → map_before new d.log ≡ map_before old b.log → IsNumbered (map_kept old o) is near
     → IsNumbered (map_kept new (Some d)) is near
-numbered_held old new is o b d near e same h = numbered_same (map_kept old o) (map_before new d.log) is near (same ∙ sym (ap (map_kept old) e)) h
+numbered_held old new is o b d near e same h =
+    numbered_same (map_kept old o) (map_before new d.log) is near (same ∙ sym (ap (map_kept old) e)) h
 
 -- ---- after edits
 
-pub edit_same_but : (M N : Map) (e : Edit) (T : List ℕ) → edited M e ≡ Ok N → ((v : ℕ) → has T v ≡ has (touched_nodes M e) v) → SameBut T M N
+pub edit_same_but : (M N : Map) (e : Edit) (T : List ℕ) → edited M e ≡ Ok N →
+    ((v : ℕ) → has T v ≡ has (touched_nodes M e) v) → SameBut T M N
 edit_same_but M N e T ok nodes v off = (edit_differs M N e ok).nodes v (sym (nodes v) ∙ off)
 
 -- the numbers f before, and g where edits of the nodes T, as the list ts, led from M to N
-module _ (M N : Map) (is : List Item) (T ts : List ℕ) (f g : Nearness) (same : ts ≡ T) (but : SameBut T M N) (h : IsNumbered M is f)
-    (right : (L : Map) → SameBut ts L N → IsRight L f → IsRight N g) (sources : (s : ℕ) → IsSource f s → IsSource g s) where
+module _ (M N : Map) (is : List Item) (T ts : List ℕ) (f g : Nearness) (same : ts ≡ T) (but : SameBut T M N)
+    (h : IsNumbered M is f)
+    (right : (L : Map) → SameBut ts L N → IsRight L f → IsRight N g)
+    (sources : (s : ℕ) → IsSource f s → IsSource g s) where
   pub numbered_asked : IsNumbered N is g
-  numbered_asked = record { right = right M (subst (λ (us : List ℕ). SameBut us M N) (sym same) but) h.right; sources = λ v b. sources v (h.sources v b) }
+  numbered_asked =
+      record {
+        right = right M (subst (λ (us : List ℕ). SameBut us M N) (sym same) but) h.right;
+        sources =
+            λ v b. sources v (h.sources v b);
+      }
 
   pub far_looks : ((s : ℕ) → IsRight N g → IsSource g s → ¬ Near N ts s limit) → AreFar N T is
-  far_looks far = λ v b. subst (λ (us : List ℕ). ¬ Near N us v limit) same (far v numbered_asked.right (numbered_asked.sources v b))
+  far_looks far =
+      λ v b. subst (λ (us : List ℕ). ¬ Near N us v limit) same (far v numbered_asked.right (numbered_asked.sources v b))
 
 -- the list under the changes of a batch has no look that the register's lacks
-pub commit_numbered : (roads : RoadMap) (is : List Item) (o : Option Batch) (b : Batch) (near : Nearness) → o ≡ Some b → IsHeld roads is b → IsNumbered (map_kept roads o) is near → IsNumbered (map_before roads b.log) (under_overlay is b.overlay) near
+pub commit_numbered : (roads : RoadMap) (is : List Item) (o : Option Batch) (b : Batch) (near : Nearness) → o ≡ Some b →
+    IsHeld roads is b → IsNumbered (map_kept roads o) is near →
+    IsNumbered (map_before roads b.log) (under_overlay is b.overlay) near
 commit_numbered roads is o b near e held h =
-    numbered_fewer (map_before roads b.log) is (under_overlay is b.overlay) near held.begins (numbered_same (map_kept roads o) (map_before roads b.log) is near (sym (ap (map_kept roads) e)) h)
+    numbered_fewer (map_before roads b.log) is (under_overlay is b.overlay) near held.begins
+    (numbered_same (map_kept roads o) (map_before roads b.log) is near (sym (ap (map_kept roads) e)) h)
 
 -- ---- with the looks that a renewal made
 
-pub numbered_more : (N : Map) (is js : List Item) (g h : Nearness) (begun : List ℕ) → IsNumbered N is g → ((v : ℕ) → Begins js v → Begins is v ⊎ Contains begun v)
+pub numbered_more : (N : Map) (is js : List Item) (g h : Nearness) (begun : List ℕ) → IsNumbered N is g →
+    ((v : ℕ) → Begins js v → Begins is v ⊎ Contains begun v)
     → (IsRight N g → ((v : ℕ) → Begins js v → IsSource g v ⊎ Contains begun v) → IsNumbered N js h) → IsNumbered N js h
 numbered_more N is js g h begun was begins numbers =
     numbers was.right (λ v b. elim (begins v b) [ inl old ↦ inl (was.sources v old) | inr new ↦ inr new ])
@@ -78,7 +109,9 @@ numbered_more N is js g h begun was begins numbers =
 -- ---- a path that is held has no look yet
 
 pub begins_held : (is : List Item) (j : Item) → j.made ≡ None → (v : ℕ) → Begins (is ++ j ∷ []) v → Begins is v
-begins_held is j none v h = elim (begins_add is j v h) [ inl old ↦ old | inr new ↦ absurd (subst (λ o. BeginsIn o v) none new) ]
+begins_held is j none v h =
+    elim (begins_add is j v h) [ inl old ↦ old | inr new ↦ absurd (subst (λ o. BeginsIn o v) none new) ]
 
-pub begins_other : (name : List ℕ) (path : Path) (is : List Item) (v : ℕ) → Begins (map (set_item name path None) is) v → Begins is v
+pub begins_other : (name : List ℕ) (path : Path) (is : List Item) (v : ℕ) →
+    Begins (map (set_item name path None) is) v → Begins is v
 begins_other name path is v h = elim (begins_set name path None is v h) [ inl old ↦ old | inr new ↦ absurd new ]

@@ -18,4 +18,5 @@ remade_made N (i ∷ is) (j ∷ js) r = (remade_one N i j r.0, remade_made N is 
 
 pub made_if_any : (M : Map) (is : List Item) → AreEncodings M is → AreEncodingsIfAny M is
 made_if_any M [] a = tt
-made_if_any M (i ∷ is) a = (subst (λ (o : Option Made). IfSome o (IsEncodingOf M i.path)) (sym a.0.1) a.0.2, made_if_any M is a.1)
+made_if_any M (i ∷ is) a =
+    (subst (λ (o : Option Made). IfSome o (IsEncodingOf M i.path)) (sym a.0.1) a.0.2, made_if_any M is a.1)

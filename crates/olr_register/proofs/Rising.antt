@@ -1,12 +1,14 @@
 -- By how much changes outside of batches raise the count.
-use Rattle.std.proofs.Common.{arith, append-nil, ◌≡◌, ℕ, ◌+◌, ◌<◌, ◌≤◌, ◌^◌, Bool, false, true, is_some, IsFalse, List, [], ◌∷◌, map, Option, Some, None, Ok, refl, sym, ap, ◌∙◌, subst}
+use Rattle.std.proofs.Common.{arith, append-nil, ◌≡◌, ℕ, ◌+◌, ◌<◌, ◌≤◌, ◌^◌, Bool, false, true, is_some, IsFalse, List}
+use Rattle.std.proofs.Common.{[], ◌∷◌, map, Option, Some, None, Ok, refl, sym, ap, ◌∙◌, subst}
 use Rattle.std.specs.Prelude.{is_none}
 use Rattle.std.proofs.lemmas.Bool.{both_ways}
 use Rattle.olr_route.specs.declared.work.Work.{Work}
 use Rattle.std.specs.List.{AllByRecursion}
 use Rattle.olr_spec.specs.Map.{Map, Edit, touched_nodes, touched_lines, has}
 use Rattle.olr_spec.specs.Extension.{Path}
-use Rattle.olr_commands.specs.State.{Named, Content, IsContent, Change, On_map, Add_path, Set_path, Drop_path, with_change, State, Make, at_once, step}
+use Rattle.olr_commands.specs.State.{Named, Content, IsContent, Change, On_map, Add_path, Set_path, Drop_path}
+use Rattle.olr_commands.specs.State.{with_change, State, Make, at_once, step}
 use Rattle.olr_commands.specs.Counts.{Concerns, By_name, By_node, By_line, CountIs, Raises}
 use Rattle.olr_commands.proofs.CountLemmas.{paths_raise}
 use Rattle.olr_paths.specs.Items.{Item, AreEncodings, all_named}
@@ -31,7 +33,8 @@ one_state k s none h =
 
 -- a number by which each such step raises
 raised_by : (old new : Registered) (x : Change) (n : ℕ) → old.kept.batch ≡ None → new.kept.batch ≡ None
-    → Raises (record { content = old.kept.content; batch = None }) (Make x) (record { content = new.kept.content; batch = None }) n
+    → Raises (record { content = old.kept.content; batch = None }) (Make x)
+    (record { content = new.kept.content; batch = None }) n
     → (s t : State) → Stands old.kept s → Stands new.kept t → Raises s (Make x) t n
 raised_by old new x n was later raises s t h k =
     let from = sym (one_state old.kept s was h) in
@@ -44,8 +47,10 @@ pub record Rise (old new : Registered) (n : ℕ) : Type 0 where
   pub spared : new.spared ≤ old.spared + n
 
 tallied_by : (old new : Registered) (x : Change) (n : ℕ) → old.kept.batch ≡ None → new.kept.batch ≡ None
-    → Raises (record { content = old.kept.content; batch = None }) (Make x) (record { content = new.kept.content; batch = None }) n
-    → Rise old new n → NoneFalls old new → (IsFalse (encodes (is_some old.kept.batch) (Make x)) → SameCounts old new) → Tallied old (Make x) new
+    → Raises (record { content = old.kept.content; batch = None }) (Make x)
+    (record { content = new.kept.content; batch = None }) n
+    → Rise old new n → NoneFalls old new → (IsFalse (encodes (is_some old.kept.batch) (Make x)) → SameCounts old new) →
+    Tallied old (Make x) new
 tallied_by old new x n was later raises rise falls same = record {
   counted = λ s t h k. (n, raised_by old new x n was later raises s t h k, rise.encodings);
   spares = λ s t h k. (n, raised_by old new x n was later raises s t h k, rise.spared);
@@ -54,7 +59,8 @@ tallied_by old new x n was later raises rise falls same = record {
 }
 
 -- outside of batches an edit and a path that is given encode
-encodes_closed : (old new : Registered) (x : Change) → old.kept.batch ≡ None → encodes false (Make x) ≡ true → IsFalse (encodes (is_some old.kept.batch) (Make x)) → SameCounts old new
+encodes_closed : (old new : Registered) (x : Change) → old.kept.batch ≡ None → encodes false (Make x) ≡ true →
+    IsFalse (encodes (is_some old.kept.batch) (Make x)) → SameCounts old new
 encodes_closed old new x was e off =
     let closed : is_some old.kept.batch ≡ false = ap is_some was in
     absurd (both_ways (encodes false (Make x)) (ap (λ (b : Bool). encodes b (Make x)) (sym closed) ∙ off) e)
@@ -67,7 +73,8 @@ none_given M [] a = tt
 none_given M (i ∷ is) a = (ap is_none a.0.1, none_given M is a.1)
 
 -- the count of an edit is how many paths it concerns
-pub tallied_edit : (old new : Registered) (M : Map) (is : List Item) (e : Edit) (ns xs : List ℕ) (n : ℕ) → old.kept ≡ record { content = record { map = M; paths = all_named is }; batch = None }
+pub tallied_edit : (old new : Registered) (M : Map) (is : List Item) (e : Edit) (ns xs : List ℕ) (n : ℕ) →
+    old.kept ≡ record { content = record { map = M; paths = all_named is }; batch = None }
     → new.kept.batch ≡ None → new.kept.content.paths ≡ all_named is → AreEncodings M is
     → ((v : ℕ) → has ns v ≡ has (touched_nodes M e) v) → ((x : ℕ) → has xs x ≡ has (touched_lines e) x)
     → CountIs (IsConcerned M ns xs) is n → Rise old new n → NoneFalls old new → Tallied old (Make (On_map e)) new
@@ -75,33 +82,42 @@ tallied_edit old new M is e ns xs n was later paths a nodes lines count rise fal
     let c : Content = record { map = M; paths = all_named is } in
     let changes : List Change = On_map e ∷ [] in
     let number =
-    counted_changes c changes ns xs (λ v. nodes v ∙ ap (λ (vs : List ℕ). has vs v) (sym (append-nil (touched_nodes M e)))) (λ x. lines x ∙ ap (λ (ys : List ℕ). has ys x) (sym (append-nil (touched_lines e)))) is n (none_given M is a) count in
+    counted_changes c changes ns xs
+    (λ v. nodes v ∙ ap (λ (vs : List ℕ). has vs v) (sym (append-nil (touched_nodes M e))))
+    (λ x. lines x ∙ ap (λ (ys : List ℕ). has ys x) (sym (append-nil (touched_lines e)))) is n (none_given M is a)
+    count in
     let content_is : old.kept.content ≡ c = ap (λ (k : Kept). k.content) was in
     let closed : old.kept.batch ≡ None = ap (λ (k : Kept). k.batch) was in
-    tallied_by old new (On_map e) n closed later (coe 0 1 (i. CountIs (Concerns (sym content_is i) changes) (sym paths i) n) number) rise falls
+    tallied_by old new (On_map e) n closed later
+    (coe 0 1 (i. CountIs (Concerns (sym content_is i) changes) (sym paths i) n) number) rise falls
     (encodes_closed old new (On_map e) closed refl)
 
 -- ---- paths
 
-made_state : (c d : Content) (x : Change) → with_change c x ≡ Ok d → step (record { content = c; batch = None }) (Make x) ≡ Ok (record { content = d; batch = None })
+made_state : (c d : Content) (x : Change) → with_change c x ≡ Ok d →
+    step (record { content = c; batch = None }) (Make x) ≡ Ok (record { content = d; batch = None })
 made_state c d x e = ap at_once e
 
 -- a path that is added, or set, raises by one
-pub tallied_add : (old new : Registered) (name : List ℕ) (path : Path) → IsContent old.kept.content → old.kept.batch ≡ None → new.kept.batch ≡ None
+pub tallied_add : (old new : Registered) (name : List ℕ) (path : Path) → IsContent old.kept.content →
+    old.kept.batch ≡ None → new.kept.batch ≡ None
     → with_change old.kept.content (Add_path name path) ≡ Ok new.kept.content
     → Rise old new 1 → NoneFalls old new → Tallied old (Make (Add_path name path)) new
 tallied_add old new name path content was later is rise falls =
     tallied_by old new (Add_path name path) 1 was later
-    ((paths_raise (record { content = old.kept.content; batch = None }) (record { content = new.kept.content; batch = None }) name path (record { content = content; batch = tt }) refl).0
+    ((paths_raise (record { content = old.kept.content; batch = None })
+    (record { content = new.kept.content; batch = None }) name path (record { content = content; batch = tt }) refl).0
     (made_state old.kept.content new.kept.content (Add_path name path) is))
     rise falls (encodes_closed old new (Add_path name path) was refl)
 
-pub tallied_set : (old new : Registered) (name : List ℕ) (path : Path) → IsContent old.kept.content → old.kept.batch ≡ None → new.kept.batch ≡ None
+pub tallied_set : (old new : Registered) (name : List ℕ) (path : Path) → IsContent old.kept.content →
+    old.kept.batch ≡ None → new.kept.batch ≡ None
     → with_change old.kept.content (Set_path name path) ≡ Ok new.kept.content
     → Rise old new 1 → NoneFalls old new → Tallied old (Make (Set_path name path)) new
 tallied_set old new name path content was later is rise falls =
     tallied_by old new (Set_path name path) 1 was later
-    ((paths_raise (record { content = old.kept.content; batch = None }) (record { content = new.kept.content; batch = None }) name path (record { content = content; batch = tt }) refl).1
+    ((paths_raise (record { content = old.kept.content; batch = None })
+    (record { content = new.kept.content; batch = None }) name path (record { content = content; batch = tt }) refl).1
     (made_state old.kept.content new.kept.content (Set_path name path) is))
     rise falls (encodes_closed old new (Set_path name path) was refl)
 
@@ -111,14 +127,16 @@ drop_concerns c name p (By_name h) = absurd cc
 drop_concerns c name p (By_node v h f) = absurd cc
 drop_concerns c name p (By_line x h f) = absurd cc
 
-pub tallied_drop : (old new : Registered) (name : List ℕ) → old.kept.batch ≡ None → new.kept.batch ≡ None → SameCounts old new → Tallied old (Make (Drop_path name)) new
+pub tallied_drop : (old new : Registered) (name : List ℕ) → old.kept.batch ≡ None → new.kept.batch ≡ None →
+    SameCounts old new → Tallied old (Make (Drop_path name)) new
 tallied_drop old new name was later same =
     let encodings : new.work.encodings ≡ old.work.encodings = ap (λ (w : Work). w.encodings) same.0 in
     let searches : new.work.searches ≡ old.work.searches = ap (λ (w : Work). w.searches) same.0 in
     let settled : new.work.settled ≡ old.work.settled = ap (λ (w : Work). w.settled) same.0 in
     let spared : new.spared ≡ old.spared = same.1 in
     tallied_by old new (Drop_path name) 0 was later
-    (none_counted (Concerns old.kept.content (Drop_path name ∷ [])) (drop_concerns old.kept.content name) new.kept.content.paths)
+    (none_counted (Concerns old.kept.content (Drop_path name ∷ [])) (drop_concerns old.kept.content name)
+    new.kept.content.paths)
     (record { encodings = λ room. omega arith; spared = omega arith })
     (record { searches = omega arith; settled = omega arith; spared = omega arith })
     (λ off. same)

@@ -20,9 +20,11 @@ map_same (x ∷ xs) = ap (λ ys. x ∷ ys) (map_same xs)
 
 -- a register that stands where the commands lead with these answers
 abbrev pub HasRun : Registered → List Asked → List (Result Answered CommandFault) → Type 0
-HasRun x cs rs = (t : State) × Stands x.kept t × Whole SoundOutcome start_state (map command_of cs) (map outcome_of rs) t
+HasRun x cs rs =
+    (t : State) × Stands x.kept t × Whole SoundOutcome start_state (map command_of cs) (map outcome_of rs) t
 
-pub run_starts : (x : Registered) (rs : List (Result Answered CommandFault)) → x ≡ nothing_registered → rs ≡ [] → HasRun x [] rs
+pub run_starts : (x : Registered) (rs : List (Result Answered CommandFault)) → x ≡ nothing_registered → rs ≡ [] →
+    HasRun x [] rs
 run_starts x rs new none =
     subst (λ (ss : List (Result Answered CommandFault)). HasRun x [] ss) (sym none)
     (subst (λ (y : Registered). HasRun y [] []) (sym new) (start_state, (refl, tt), (refl, refl)))
@@ -30,15 +32,22 @@ run_starts x rs new none =
 pub sound_at_start : (x : Registered) → x ≡ nothing_registered → IsContent x.kept.content
 sound_at_start x new = subst (λ (y : Registered). IsContent y.kept.content) (sym new) start_sound.content
 
-pub run_goes_on : (x y : Registered) (cs : List Asked) (c : Asked) (rs ss : List (Result Answered CommandFault)) (r : Result Answered CommandFault) → HasRun x cs rs → Applied x (command_of c) (outcome_of r) y → IsContent y.kept.content
+pub run_goes_on : (x y : Registered) (cs : List Asked) (c : Asked) (rs ss : List (Result Answered CommandFault))
+    (r : Result Answered CommandFault) → HasRun x cs rs → Applied x (command_of c) (outcome_of r) y →
+    IsContent y.kept.content
     → ss ≡ rs ++ r ∷ [] → HasRun y (cs ++ c ∷ []) ss
 run_goes_on x y cs c rs ss r run applied sound more =
     let next = applied run.0 run.1 in
     let right : IsContent next.0.content = subst IsContent next.1.0 sound in
-    let all = run_more SoundOutcome start_state run.0 next.0 (map command_of cs) (command_of c) (map outcome_of rs) (outcome_of r) run.2.0 run.2.1 (next.2, right) in
-    let size = length-append (map outcome_of rs) (outcome_of r ∷ []) ∙ ap (λ (n : ℕ). n + 1) run.2.0 ∙ sym (length-append (map command_of cs) (command_of c ∷ [])) in (
+    let all =
+    run_more SoundOutcome start_state run.0 next.0 (map command_of cs) (command_of c) (map outcome_of rs) (outcome_of r)
+    run.2.0 run.2.1 (next.2, right) in
+    let size =
+    length-append (map outcome_of rs) (outcome_of r ∷ []) ∙ ap (λ (n : ℕ). n + 1) run.2.0
+    ∙ sym (length-append (map command_of cs) (command_of c ∷ [])) in (
       next.0,
       next.1,
       subst (λ ds. Whole SoundOutcome start_state ds (map outcome_of ss) next.0) (sym (map_push command_of cs c))
-          (subst (λ os. Whole SoundOutcome start_state (map command_of cs ++ command_of c ∷ []) os next.0) (sym (ap (λ qs. map outcome_of qs) more ∙ map_push outcome_of rs r)) (size, all)),
+          (subst (λ os. Whole SoundOutcome start_state (map command_of cs ++ command_of c ∷ []) os next.0)
+          (sym (ap (λ qs. map outcome_of qs) more ∙ map_push outcome_of rs r)) (size, all)),
     )

@@ -1,5 +1,6 @@
 -- An edit of the map that is made at once.
-use Rattle.std.proofs.Common.{◌≡◌, ℕ, suc, ◌+◌, ◌<◌, ◌≤◌, ◌^◌, Bool, List, [], ◌∷◌, ◌++◌, length, Option, None, Result, Ok, Err, IsOk, refl, sym, ap, ◌∙◌, subst, arith, add-zero}
+use Rattle.std.proofs.Common.{◌≡◌, ℕ, suc, ◌+◌, ◌<◌, ◌≤◌, ◌^◌, Bool, List, [], ◌∷◌, ◌++◌, length, Option, None, Result}
+use Rattle.std.proofs.Common.{Ok, Err, IsOk, refl, sym, ap, ◌∙◌, subst, arith, add-zero}
 use Rattle.std.specs.Prelude.{MatchResult, ◌==◌, ◌||◌}
 use Rattle.std.specs.Option.{option_to_list}
 use Rattle.olr_spec.specs.Map.{Map, Edit, MapFault, edited, touched_nodes, touched_lines, has, HasPlace}
@@ -11,7 +12,8 @@ use Rattle.olr_map.specs.declared.judging.Judged.{Judged}
 use Rattle.olr_map.specs.RoadMaps.{map_of}
 use Rattle.olr_map.specs.declared.road_map.RoadMap.{RoadMap}
 use Rattle.olr_commands.specs.State as state
-use Rattle.olr_commands.specs.State.{Named, Content, IsContent, Fault, Map_fault, On_map, with_map, with_change, at_once, Make}
+use Rattle.olr_commands.specs.State.{Named, Content, IsContent, Fault, Map_fault, On_map, with_map, with_change}
+use Rattle.olr_commands.specs.State.{at_once, Make}
 use Rattle.olr_commands.specs.Reply as told
 use Rattle.olr_commands.specs.Reply.{may_want}
 use Rattle.olr_commands.specs.Counts.{CountIs}
@@ -37,7 +39,10 @@ use Rattle.olr_register.proofs.Singles.{accepted_now, told_now, lacks_now, close
 
 -- ---- what judging tells
 
-pub refused_is : (r : Result Map MapFault) (f : EditFault) → MatchResult r (λ _. IsOk {T = Judged} (Err f)) (λ g. ◌≡◌ {A = Result Judged EditFault} (Err f) (Err (edits.edit_fault_of g))) → (g : MapFault) × (r ≡ Err g) × (f ≡ edits.edit_fault_of g)
+pub refused_is : (r : Result Map MapFault) (f : EditFault) →
+    MatchResult r (λ _. IsOk {T = Judged} (Err f))
+    (λ g. ◌≡◌ {A = Result Judged EditFault} (Err f) (Err (edits.edit_fault_of g))) → (g : MapFault) × (r ≡ Err g)
+    × (f ≡ edits.edit_fault_of g)
 refused_is (Ok N) f h = absurd cc
 refused_is (Err g) f h = (g, refl, cc)
 
@@ -47,23 +52,34 @@ taken_is (Err g) h = absurd cc
 
 -- ---- refused
 
-pub edit_refused : (roads : RoadMap) (is : List Item) (b : Option Batch) (w : Tally) (x : Registered) (e : Edit) (g : MapFault) (f : EditFault) → of_parts roads is b w ≡ x → x.kept.batch ≡ None
+pub edit_refused : (roads : RoadMap) (is : List Item) (b : Option Batch) (w : Tally) (x : Registered) (e : Edit)
+    (g : MapFault) (f : EditFault) → of_parts roads is b w ≡ x → x.kept.batch ≡ None
     → edited (map_of roads) e ≡ Err g → f ≡ edits.edit_fault_of g → Answered x (Make (On_map e)) (Err (fault.Map f)) x
 edit_refused roads is b w x e g f view none refused is_that =
     let closed : b ≡ None = closed_by roads is b w x view none in
-    let there : x.kept.content.map ≡ map_of roads = ap (λ (y : Registered). y.kept.content.map) (sym view) ∙ ap (λ (o : Option Batch). (of_parts roads is o w).kept.content.map) closed in
-    told_now x (On_map e) (Map_fault g) (fault.Map f) none (ap (with_map x.kept.content) (ap (λ (M : Map). edited M e) there ∙ refused)) (ap map_fault_of is_that ∙ told_by_map g)
+    let there : x.kept.content.map ≡ map_of roads =
+    ap (λ (y : Registered). y.kept.content.map) (sym view)
+    ∙ ap (λ (o : Option Batch). (of_parts roads is o w).kept.content.map) closed in
+    told_now x (On_map e) (Map_fault g) (fault.Map f) none
+    (ap (with_map x.kept.content) (ap (λ (M : Map). edited M e) there ∙ refused))
+    (ap map_fault_of is_that ∙ told_by_map g)
 
-pub edit_lacks : (roads : RoadMap) (is : List Item) (b : Option Batch) (w : Tally) (x : Registered) (e : Edit) (N : Map) (f : CommandFault) → of_parts roads is b w ≡ x → x.kept.batch ≡ None
+pub edit_lacks : (roads : RoadMap) (is : List Item) (b : Option Batch) (w : Tally) (x : Registered) (e : Edit) (N : Map)
+    (f : CommandFault) → of_parts roads is b w ≡ x → x.kept.batch ≡ None
     → edited (map_of roads) e ≡ Ok N → command_fault_of f ≡ state.Memory → Answered x (Make (On_map e)) (Err f) x
 edit_lacks roads is b w x e N f view none taken says =
     let closed : b ≡ None = closed_by roads is b w x view none in
-    let there : x.kept.content.map ≡ map_of roads = ap (λ (y : Registered). y.kept.content.map) (sym view) ∙ ap (λ (o : Option Batch). (of_parts roads is o w).kept.content.map) closed in
-    lacks_now x (On_map e) f none refl (ap (λ (r : Result Map MapFault). may_want (at_once (with_map x.kept.content r))) (ap (λ (M : Map). edited M e) there ∙ taken)) says
+    let there : x.kept.content.map ≡ map_of roads =
+    ap (λ (y : Registered). y.kept.content.map) (sym view)
+    ∙ ap (λ (o : Option Batch). (of_parts roads is o w).kept.content.map) closed in
+    lacks_now x (On_map e) f none refl
+    (ap (λ (r : Result Map MapFault). may_want (at_once (with_map x.kept.content r)))
+    (ap (λ (M : Map). edited M e) there ∙ taken)) says
 
 -- ---- what is noted of an edit
 
-pub only_noted : (was now : List ℕ) (f : ℕ → Bool) → was ≡ [] → ((v : ℕ) → has now v ≡ (has was v || f v)) → (v : ℕ) → has now v ≡ f v
+pub only_noted : (was now : List ℕ) (f : ℕ → Bool) → was ≡ [] → ((v : ℕ) → has now v ≡ (has was v || f v)) → (v : ℕ) →
+    has now v ≡ f v
 only_noted was now f none h v = h v ∙ ap (λ (vs : List ℕ). has vs v || f v) none
 
 pub only_changes : (was now told : List ChangedLine) → was ≡ [] → now ≡ was ++ told → now ≡ told
@@ -75,7 +91,8 @@ pub record IsNotedOf (M : Map) (e : Edit) (t : Touched) : Type 0 where
   pub lines : (y : ℕ) → has (lines_of t) y ≡ has (touched_lines e) y
   pub changed : changed_of t ≡ changes_of M e
 
-pub noted_judged : (M : Map) (place : ℕ → ℕ) (e : Edit) (j : Judged) (t : Touched) → IsJudged M place e j → ((v : ℕ) → has (nodes_of t) v ≡ ((j.nodes.0 == v) || (j.nodes.1 == v)))
+pub noted_judged : (M : Map) (place : ℕ → ℕ) (e : Edit) (j : Judged) (t : Touched) → IsJudged M place e j →
+    ((v : ℕ) → has (nodes_of t) v ≡ ((j.nodes.0 == v) || (j.nodes.1 == v)))
     → ((y : ℕ) → has (lines_of t) y ≡ has (option_to_list j.line) y) → changed_of t ≡ changes_told j → IsNotedOf M e t
 noted_judged M place e j t judged nodes lines with_change = record {
   nodes = λ v. nodes v ∙ sym (judged.nodes v);
@@ -85,52 +102,72 @@ noted_judged M place e j t judged nodes lines with_change = record {
 
 -- ---- accepted
 
-module _ (roads later : RoadMap) (is js : List Item) (b : Option Batch) (w : Tally) (x : Registered) (e : Edit) (es : List told.Entry)
-    (view : of_parts roads is b w ≡ x) (none : x.kept.batch ≡ None) (right : IsRegister roads is b) (place : HasPlace e) (taken : edited (map_of roads) e ≡ Ok (map_of later)) where
+module _ (roads later : RoadMap) (is js : List Item) (b : Option Batch) (w : Tally) (x : Registered) (e : Edit)
+    (es : List told.Entry)
+    (view : of_parts roads is b w ≡ x) (none : x.kept.batch ≡ None) (right : IsRegister roads is b) (place : HasPlace e)
+    (taken : edited (map_of roads) e ≡ Ok (map_of later)) where
   was_closed : b ≡ None
   was_closed = closed_by roads is b w x view none
 
   was_right : IsRegister roads is None
   was_right = subst (IsRegister roads is) was_closed right
 
-  module _ (ns xs : List ℕ) (cs : List ChangedLine) (nodes : (v : ℕ) → has ns v ≡ has (touched_nodes (map_of roads) e) v) (lines : (y : ℕ) → has xs y ≡ has (touched_lines e) y)
+  module _ (ns xs : List ℕ) (cs : List ChangedLine)
+      (nodes : (v : ℕ) → has ns v ≡ has (touched_nodes (map_of roads) e) v)
+      (lines : (y : ℕ) → has xs y ≡ has (touched_lines e) y)
       (changed_lines : cs ≡ changes_of (map_of roads) e) where
     -- what the renewal asks for
     pub edit_before : (N : Map) → N ≡ map_of later → IsBefore (map_of roads) N ns xs cs is
     edit_before N same =
         subst (λ (M : Map). IsBefore (map_of roads) M ns xs cs is) (sym same)
-        (is_before (map_of roads) (map_of later) ns xs cs is (noted_edit (map_of roads) (map_of later) e ns xs cs taken nodes lines changed_lines) was_right.content.map was_right.content.paths
+        (is_before (map_of roads) (map_of later) ns xs cs is
+        (noted_edit (map_of roads) (map_of later) e ns xs cs taken nodes lines changed_lines) was_right.content.map
+        was_right.content.paths
         (made_if_any (map_of roads) is was_right.made))
 
-    module _ (remade : AreRemade (map_of later) is js) (names : all_named js ≡ all_named is) (reported : Reported is js es) where
+    module _ (remade : AreRemade (map_of later) is js) (names : all_named js ≡ all_named is)
+        (reported : Reported is js es) where
       all_renewed : RenewedAll (map_of roads) (map_of later) is js es
-      all_renewed = renewed_edit (map_of roads) (map_of later) e is js es was_right.content place taken was_right.made remade names reported
+      all_renewed =
+          renewed_edit (map_of roads) (map_of later) e is js es was_right.content place taken was_right.made remade
+          names reported
 
       pub edit_keeps : IsRegister later js b
       edit_keeps = is_closed later js b was_closed all_renewed.content all_renewed.made
 
-      module _ (u : Tally) (q : Reply) (n : ℕ) (says : reply_of q ≡ told.Paths es) (count : CountIs (IsConcerned (map_of roads) ns xs) is n)
-          (encodings : w.work.encodings + n < 2 ^ 64 → u.work.encodings ≡ w.work.encodings + n) (spared : u.spared ≤ w.spared + n) (falls : NoneFalls (of_parts roads is None w) (of_parts later js None u)) where
+      module _ (u : Tally) (q : Reply) (n : ℕ) (says : reply_of q ≡ told.Paths es)
+          (count : CountIs (IsConcerned (map_of roads) ns xs) is n)
+          (encodings : w.work.encodings + n < 2 ^ 64 → u.work.encodings ≡ w.work.encodings + n)
+          (spared : u.spared ≤ w.spared + n)
+          (falls : NoneFalls (of_parts roads is None w) (of_parts later js None u)) where
         edit_answered : Answered (of_parts roads is None w) (Make (On_map e)) (Ok q) (of_parts later js None u)
         edit_answered =
-            let there : with_change (of_parts roads is None w).kept.content (On_map e) ≡ Ok (of_parts later js None u).kept.content =
-            ap (with_map (record { map = map_of roads; paths = all_named is })) taken ∙ ap (λ (ps : List Named). Ok (record { map = map_of later; paths = ps })) (sym names) in
-            accepted_now (of_parts roads is None w) (of_parts later js None u) (On_map e) q es refl refl there says all_renewed.differences
-            (tallied_edit (of_parts roads is None w) (of_parts later js None u) (map_of roads) is e ns xs n refl refl names was_right.made nodes lines count (record { encodings = encodings; spared = spared }) falls)
+            let there : with_change (of_parts roads is None w).kept.content (On_map e)
+            ≡ Ok (of_parts later js None u).kept.content =
+            ap (with_map (record { map = map_of roads; paths = all_named is })) taken
+            ∙ ap (λ (ps : List Named). Ok (record { map = map_of later; paths = ps })) (sym names) in
+            accepted_now (of_parts roads is None w) (of_parts later js None u) (On_map e) q es refl refl there says
+            all_renewed.differences
+            (tallied_edit (of_parts roads is None w) (of_parts later js None u) (map_of roads) is e ns xs n refl refl
+            names was_right.made nodes lines count (record { encodings = encodings; spared = spared }) falls)
 
         pub edit_done : Answered x (Make (On_map e)) (Ok q) (of_parts later js b u)
         edit_done =
             subst (λ (o : Option Batch). Answered x (Make (On_map e)) (Ok q) (of_parts later js o u)) (sym was_closed)
-            (subst (λ (y : Registered). Answered y (Make (On_map e)) (Ok q) (of_parts later js None u)) (ap (λ (o : Option Batch). of_parts roads is o w) (sym was_closed) ∙ view) edit_answered)
+            (subst (λ (y : Registered). Answered y (Make (On_map e)) (Ok q) (of_parts later js None u))
+            (ap (λ (o : Option Batch). of_parts roads is o w) (sym was_closed) ∙ view) edit_answered)
 
 -- ---- where there are no paths
 
-pub no_items : (roads : RoadMap) (is : List Item) (b : Option Batch) (w : Tally) (x : Registered) → of_parts roads is b w ≡ x → length x.kept.content.paths ≡ 0 → is ≡ []
+pub no_items : (roads : RoadMap) (is : List Item) (b : Option Batch) (w : Tally) (x : Registered) →
+    of_parts roads is b w ≡ x → length x.kept.content.paths ≡ 0 → is ≡ []
 no_items roads [] b w x view none = refl
-no_items roads (i ∷ is) b w x view none = let no : suc (length (all_named is)) ≡ 0 = ap (λ (y : Registered). length y.kept.content.paths) view ∙ none in absurd cc
+no_items roads (i ∷ is) b w x view none = let no : suc (length (all_named is)) ≡ 0 =
+    ap (λ (y : Registered). length y.kept.content.paths) view ∙ none in absurd cc
 
 module _ (roads later : RoadMap) (is : List Item) (b : Option Batch) (w : Tally) (x : Registered) (e : Edit)
-    (view : of_parts roads is b w ≡ x) (none : x.kept.batch ≡ None) (right : IsRegister roads is b) (place : HasPlace e) (taken : edited (map_of roads) e ≡ Ok (map_of later)) (bare : is ≡ []) where
+    (view : of_parts roads is b w ≡ x) (none : x.kept.batch ≡ None) (right : IsRegister roads is b) (place : HasPlace e)
+    (taken : edited (map_of roads) e ≡ Ok (map_of later)) (bare : is ≡ []) where
   none_remade : AreRemade (map_of later) is is
   none_remade = subst (λ (js : List Item). AreRemade (map_of later) js js) (sym bare) refl
 
@@ -138,13 +175,18 @@ module _ (roads later : RoadMap) (is : List Item) (b : Option Batch) (w : Tally)
   none_reported = subst (λ (js : List Item). Reported js js []) (sym bare) refl
 
   none_concerned : CountIs (IsConcerned (map_of roads) (touched_nodes (map_of roads) e) (touched_lines e)) is 0
-  none_concerned = subst (λ (js : List Item). CountIs (IsConcerned (map_of roads) (touched_nodes (map_of roads) e) (touched_lines e)) js 0) (sym bare) refl
+  none_concerned =
+      subst (λ (js : List Item). CountIs (IsConcerned (map_of roads) (touched_nodes (map_of roads) e) (touched_lines e))
+      js 0) (sym bare) refl
 
   pub bare_keeps : IsRegister later is b
   bare_keeps =
-      edit_keeps roads later is is b w x e [] view none right place taken (touched_nodes (map_of roads) e) (touched_lines e) (changes_of (map_of roads) e) (λ v. refl) (λ y. refl) refl none_remade refl none_reported
+      edit_keeps roads later is is b w x e [] view none right place taken (touched_nodes (map_of roads) e)
+      (touched_lines e) (changes_of (map_of roads) e) (λ v. refl) (λ y. refl) refl none_remade refl none_reported
 
   pub bare_done : (q : Reply) → reply_of q ≡ told.Paths [] → Answered x (Make (On_map e)) (Ok q) (of_parts later is b w)
   bare_done q says =
-      edit_done roads later is is b w x e [] view none right place taken (touched_nodes (map_of roads) e) (touched_lines e) (changes_of (map_of roads) e) (λ v. refl) (λ y. refl) refl none_remade refl none_reported
-      w q 0 says none_concerned (λ few. sym (add-zero _)) (omega arith) (record { searches = omega arith; settled = omega arith; spared = omega arith })
+      edit_done roads later is is b w x e [] view none right place taken (touched_nodes (map_of roads) e)
+      (touched_lines e) (changes_of (map_of roads) e) (λ v. refl) (λ y. refl) refl none_remade refl none_reported
+      w q 0 says none_concerned (λ few. sym (add-zero _)) (omega arith)
+      (record { searches = omega arith; settled = omega arith; spared = omega arith })

@@ -9,12 +9,13 @@ use Rattle.base64.proofs.EngineFacts.{decode_of-encode_of}
 use Rattle.olr_spec.specs.Reference.{Reference}
 use Rattle.olr_spec.specs.Bytes as spec
 use Rattle.olr_spec.specs.Bytes.{spelling, v3_fault}
+use Rattle.olr_spec.proofs.ReadLemmas.{spelled_passes}
 use Rattle.olr_binary.specs.declared.faults.V3Fault.TheVariants.{Length, Status, Flags, Reserved, Memory}
 use Rattle.olr_binary.specs.declared.faults.TextFault.{TextFault}
 use Rattle.olr_binary.specs.declared.faults.TextFault.TheVariants.{Bytes, NotBase64}
 use Rattle.olr_binary.specs.Faults.{IsFaultOf}
 use Rattle.olr_binary.specs.Text.{IsTextOf, text_of}
-use Rattle.olr_binary.proofs.SpelledLemmas.{spelling-sound, spelling-bytes}
+use Rattle.olr_binary.proofs.SpelledLemmas.{spelling-bytes}
 use Rattle.olr_commands.specs.State as state
 use Rattle.olr_commands.specs.State.{text_fault, bytes_fault}
 use Rattle.olr_commands.specs.Reply as told
@@ -36,23 +37,31 @@ decoded_none text d e = ap result_ok e
 
 decoded_text : (r : Reference) (text : List ℕ) → IsTextOf r text → decoded_of standard text ≡ Some (spelling r)
 unfolding text_of
-decoded_text r text is = decoded_ok text (spelling r) (ap (decode_of standard) is.1 ∙ decode_of-encode_of standard (spelling r) refl (spelling-bytes r is.0))
+decoded_text r text is =
+    decoded_ok text (spelling r) (ap (decode_of standard) is.1
+    ∙ decode_of-encode_of standard (spelling r) refl (spelling-bytes r is.0))
 
-pub explain_text : (x : Registered) (text : List ℕ) (r : Reply) (q : Reference) → reply_of r ≡ told.Fields q → IsTextOf q text → Answered x (state.Explain text) (Ok r) x
+pub explain_text : (x : Registered) (text : List ℕ) (r : Reply) (q : Reference) → reply_of r ≡ told.Fields q →
+    IsTextOf q text → Answered x (state.Explain text) (Ok r) x
 explain_text x text r q is of =
     let bytes = decoded_text q text of in
-    let sound : text_fault text ≡ None = ap bytes_fault bytes ∙ ap (option_map (λ (f : spec.V3Fault). state.Not_v3 f)) (spelling-sound q of.0) in
+    let sound : text_fault text ≡ None =
+    ap bytes_fault bytes ∙ ap (option_map (λ (f : spec.V3Fault). state.Not_v3 f)) (spelled_passes q of.0) in
     explain_answered x text r q is sound (spelling q, bytes, (of.0, refl))
 
-bytes_refused : (x : Registered) (text b : List ℕ) (g : spec.V3Fault) (f : CommandFault) → decode_of standard text ≡ Ok b → v3_fault b ≡ Some g → command_fault_of f ≡ state.Not_a_reference (state.Not_v3 g)
+bytes_refused : (x : Registered) (text b : List ℕ) (g : spec.V3Fault) (f : CommandFault) →
+    decode_of standard text ≡ Ok b → v3_fault b ≡ Some g → command_fault_of f ≡ state.Not_a_reference (state.Not_v3 g)
     → Answered x (state.Explain text) (Err f) x
 bytes_refused x text b g f decoded fault is =
-    explain_refused x text f (state.Not_v3 g) is (ap bytes_fault (decoded_ok text b decoded) ∙ ap (option_map (λ (h : spec.V3Fault). state.Not_v3 h)) fault)
+    explain_refused x text f (state.Not_v3 g) is (ap bytes_fault (decoded_ok text b decoded)
+    ∙ ap (option_map (λ (h : spec.V3Fault). state.Not_v3 h)) fault)
 
-pub explain_fault : (x : Registered) (text : List ℕ) (fault : TextFault) (f : CommandFault) → IsFaultOf text fault → command_fault_of f ≡ text_fault_of fault → Answered x (state.Explain text) (Err f) x
+pub explain_fault : (x : Registered) (text : List ℕ) (fault : TextFault) (f : CommandFault) → IsFaultOf text fault →
+    command_fault_of f ≡ text_fault_of fault → Answered x (state.Explain text) (Err f) x
 explain_fault x text (Bytes Memory) f is e = explain_lacks x text f e
 explain_fault x text (Bytes Length) f is e = bytes_refused x text is.0 spec.Length f is.1 is.2 e
 explain_fault x text (Bytes Status) f is e = bytes_refused x text is.0 spec.Status f is.1 is.2 e
 explain_fault x text (Bytes Flags) f is e = bytes_refused x text is.0 spec.Flags f is.1 is.2 e
 explain_fault x text (Bytes Reserved) f is e = bytes_refused x text is.0 spec.Reserved f is.1 is.2 e
-explain_fault x text NotBase64 f is e = explain_refused x text f state.Not_base64 e (ap bytes_fault (decoded_none text is.0 is.1))
+explain_fault x text NotBase64 f is e =
+    explain_refused x text f state.Not_base64 e (ap bytes_fault (decoded_none text is.0 is.1))

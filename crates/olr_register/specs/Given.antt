@@ -32,7 +32,8 @@ pub record IsAdded (old : Batch) (x : Change) (new : Batch) : Type 0 where
 -- want of memory is told only where no fault is that comes before it
 pub data IsRefused (taking : Result Content Fault) (fault : Fault) : Type 0 where
   Told : taking ≡ Err fault → IsRefused taking fault
-  Lacks : fault ≡ Memory → ((first : Fault) → taking ≡ Err first → IsFalse (is_told_first first)) → IsRefused taking fault
+  Lacks : fault ≡ Memory → ((first : Fault) → taking ≡ Err first → IsFalse (is_told_first first)) →
+      IsRefused taking fault
 
 pub record Given (old : Batch) (x : Change) (result : Result Reply CommandFault) (new : Batch) : Type 0 where
   pub added : OnOk result (IsAdded old x new)

@@ -1,7 +1,8 @@
 -- What a register keeps, and what is true of it.
 --     IsNoted M N T X C      what is noted of edits that lead from M to N
 --     IsHeld, IsRegister      what is true of an open batch, and of map, list and batch
---     IsNumbered M is near      the numbers are right on the map, and each look of the list begins at a source.        IsWhole      what is true of the whole
+--     IsNumbered M is near the numbers are right on the map, and each look of the list begins at a source. IsWhole what
+--     is true of the whole
 use Rattle.std.specs.Prelude.{ℕ, ◌≤◌, List, map, Contains, Option, Some, None, is_none, IfSome, IsTrue}
 use Rattle.olr_spec.specs.Map.{Map, has}
 use Rattle.olr_spec.specs.Detours.{ChangedLine, Difference}
@@ -60,7 +61,8 @@ pub record IsHeld (roads : RoadMap) (before : List Item) (b : Batch) : Type 0 wh
   pub undo : CanUndoAll roads b.log
   pub sound : IsContent (record { map = map_of roads; paths = all_named (under_overlay before b.overlay) })
   pub few : b.count ≤ full
-  pub noted : IsNoted (map_before roads b.log) (map_of roads) (nodes_of b.touched) (lines_of b.touched) (changed_of b.touched)
+  pub noted : IsNoted (map_before roads b.log) (map_of roads) (nodes_of b.touched) (lines_of b.touched)
+      (changed_of b.touched)
   pub made : AreEncodingsIfAny (map_before roads b.log) (under_overlay before b.overlay)
   pub follows : Follows before (under_overlay before b.overlay)
   pub begins : (v : ℕ) → Begins (under_overlay before b.overlay) v → Begins before v

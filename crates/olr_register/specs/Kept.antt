@@ -56,10 +56,14 @@ Stands k s = (k.content ≡ s.content) × StandsIn k.content k.batch s.batch
 -- ---- codes, for an `impl Model`
 
 abbrev pub coded_named : Coded Named
-coded_named = code_by (List ℕ × Path) (coded× (coded_list coded_ℕ) coded_path) (λ n. (n.name, n.path)) (λ t. record { name = t.0; path = t.1 }) (λ _. refl)
+coded_named =
+    code_by (List ℕ × Path) (coded× (coded_list coded_ℕ) coded_path) (λ n. (n.name, n.path))
+    (λ t. record { name = t.0; path = t.1 }) (λ _. refl)
 
 abbrev pub coded_content : Coded Content
-coded_content = code_by (Map × List Named) (coded× coded_map (coded_list coded_named)) (λ c. (c.map, c.paths)) (λ t. record { map = t.0; paths = t.1 }) (λ _. refl)
+coded_content =
+    code_by (Map × List Named) (coded× coded_map (coded_list coded_named)) (λ c. (c.map, c.paths))
+    (λ t. record { map = t.0; paths = t.1 }) (λ _. refl)
 
 abbrev pub coded_held : Coded Held
 coded_held =
@@ -69,8 +73,12 @@ coded_held =
 abbrev pub coded_batch : Coded Batch
 coded_batch =
     code_by (Map × (List Held × (ℕ × (List ℕ × List ℕ))))
-    (coded× coded_map (coded× (coded_list coded_held) (coded× coded_ℕ (coded× (coded_list coded_ℕ) (coded_list coded_ℕ)))))
-    (λ b. (b.map, (b.paths, (b.count, (b.nodes, b.lines))))) (λ t. record { map = t.0; paths = t.1.0; count = t.1.1.0; nodes = t.1.1.1.0; lines = t.1.1.1.1 }) (λ _. refl)
+    (coded× coded_map (coded× (coded_list coded_held)
+    (coded× coded_ℕ (coded× (coded_list coded_ℕ) (coded_list coded_ℕ)))))
+    (λ b. (b.map, (b.paths, (b.count, (b.nodes, b.lines)))))
+    (λ t. record { map = t.0; paths = t.1.0; count = t.1.1.0; nodes = t.1.1.1.0; lines = t.1.1.1.1 }) (λ _. refl)
 
 abbrev pub coded_kept : Coded Kept
-coded_kept = code_by (Content × Option Batch) (coded× coded_content (coded_option coded_batch)) (λ k. (k.content, k.batch)) (λ t. record { content = t.0; batch = t.1 }) (λ _. refl)
+coded_kept =
+    code_by (Content × Option Batch) (coded× coded_content (coded_option coded_batch)) (λ k. (k.content, k.batch))
+    (λ t. record { content = t.0; batch = t.1 }) (λ _. refl)

@@ -1,9 +1,9 @@
 -- A register as its callers see it, and what its calls promise of whole commands.
---     Registered      what is held of the state, and the counts: the work, and how many of the counted encodings were spared
---     PublishedWhole c name made      what is published under a name, with its own nodes and looks
---     HaveEncodings M ps xs      the names of the paths, each with an encoding of it on the map, in order.        AllPublished c xs      so of all paths of a content
---     Applied old c o new      from each state in which it stood, the command leads with this outcome to one in which it stands
---     Counted old c new      by how much an accepted command raises the count of encodings
+--     Registered what is held of the state, and the counts: the work, and how many of the counted encodings were spared
+--     PublishedWhole c name made what is published under a name, with its own nodes and looks HaveEncodings M ps xs the
+--     names of the paths, each with an encoding of it on the map, in order. AllPublished c xs so of all paths of a
+--     content Applied old c o new from each state in which it stood, the command leads with this outcome to one in
+--     which it stands Counted old c new by how much an accepted command raises the count of encodings
 use Rattle.std.specs.Prelude.{◌≡◌, ℕ, ◌+◌, ◌<◌, ◌^◌, List, Option, Some, None, [], ◌∷◌, MatchOption, IsSomeAnd}
 use Rattle.std.specs.Coded.{Coded, code_by, coded_ℕ, coded×}
 use Rattle.std.proofs.Common.{refl}
@@ -33,15 +33,23 @@ coded_registered =
 -- nothing is held, and nothing was counted
 abbrev pub nothing_registered : Registered
 nothing_registered =
-    record { kept = record { content = no_content; batch = None }; work = record { encodings = 0; searches = 0; settled = 0 }; spared = 0 }
+    record {
+      kept = record { content = no_content; batch = None };
+      work =
+          record { encodings = 0; searches = 0; settled = 0 };
+      spared = 0;
+    }
 
 -- an encoding of the path on the map
 abbrev pub PublishedWhole : Content → List ℕ → Option Made → Type 0
-PublishedWhole c name made = MatchOption (path_named c.paths name) (made ≡ None) (λ P. IsSomeAnd made (IsEncodingOf c.map P))
+PublishedWhole c name made =
+    MatchOption (path_named c.paths name) (made ≡ None) (λ P. IsSomeAnd made (IsEncodingOf c.map P))
 
 abbrev pub HaveEncodings : Map → List Named → List (List ℕ × Option Made) → Type 0
 HaveEncodings M [] xs = xs ≡ []
-HaveEncodings M (p ∷ ps) xs = (m : Made) × (rest : List (List ℕ × Option Made)) × IsEncodingOf M p.path m × HaveEncodings M ps rest × (xs ≡ (p.name, Some m) ∷ rest)
+HaveEncodings M (p ∷ ps) xs =
+    (m : Made) × (rest : List (List ℕ × Option Made)) × IsEncodingOf M p.path m × HaveEncodings M ps rest
+    × (xs ≡ (p.name, Some m) ∷ rest)
 
 abbrev pub AllPublished : Content → List (List ℕ × Option Made) → Type 0
 AllPublished c xs = HaveEncodings c.map c.paths xs
@@ -52,4 +60,5 @@ Applied old c o new = (s : State) → Stands old.kept s → (t : State) × Stand
 -- the number is given: each of two registers that stand in states of such a step raises by it
 abbrev pub Counted : Registered → Command → Registered → Type 0
 Counted old c new =
-    (s t : State) → Stands old.kept s → Stands new.kept t → (n : ℕ) × Raises s c t n × (old.work.encodings + n < 2 ^ 64 → new.work.encodings ≡ old.work.encodings + n)
+    (s t : State) → Stands old.kept s → Stands new.kept t → (n : ℕ) × Raises s c t n
+    × (old.work.encodings + n < 2 ^ 64 → new.work.encodings ≡ old.work.encodings + n)

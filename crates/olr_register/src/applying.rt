@@ -44,9 +44,9 @@ impl Register {
         }
     }
 
-    /// Carries a command out. In an open batch edits and path commands are held; elsewhere they are accepted at once, and
-    /// the reply tells the paths that are new or whose answer is another than before. After a fault map, paths, answers,
-    /// texts, counts and an open batch are as they were. `Memory` comes only where no fault is told before it.
+    /// Carries a command out. In an open batch edits and path commands are held; elsewhere they are accepted at once,
+    /// and the reply tells the paths that are new or whose answer is another than before. After a fault map, paths,
+    /// answers, texts, counts and an open batch are as they were. `Memory` comes only where no fault is told before it.
     pub fn apply(&mut self, command: Command) -> Result<Reply, CommandFault>
         ensures outcome { Applied self.old (command_of command) (outcome_of result) self.new }
         ensures counted { OnOk result (Counted self.old (command_of command) self.new) }

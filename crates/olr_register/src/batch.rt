@@ -84,8 +84,10 @@ impl Batch {
         neg: u32,
     ) -> Result<Reply, CommandFault>
         ensures given { (roads : Roads) → Given (batch_of roads (items list.now) self.old)
-            (Add_path (string_bytes name) (path_along lines.items pos neg)) result (batch_of roads (items list.now) self.new) }
-        ensures held { (roads : Roads) → IsHeld roads (items list.now) self.old → IsHeld roads (items list.now) self.new }
+            (Add_path (string_bytes name) (path_along lines.items pos neg)) result
+            (batch_of roads (items list.now) self.new) }
+        ensures held { (roads : Roads) → IsHeld roads (items list.now) self.old →
+            IsHeld roads (items list.now) self.new }
         ensures log { self.new.log ≡ self.old.log }
     {
         if self.is_full() {
@@ -117,7 +119,8 @@ impl Batch {
         requires { NamesDiffer (all_named (under_overlay (items list.now) self.old.overlay)) }
         ensures given { (roads : Roads) → Given (batch_of roads (items list.now) self.old)
             (Set_path name.now (path_along lines.items pos neg)) result (batch_of roads (items list.now) self.new) }
-        ensures held { (roads : Roads) → IsHeld roads (items list.now) self.old → IsHeld roads (items list.now) self.new }
+        ensures held { (roads : Roads) → IsHeld roads (items list.now) self.old →
+            IsHeld roads (items list.now) self.new }
         ensures log { self.new.log ≡ self.old.log }
     {
         if self.is_full() {
@@ -146,7 +149,8 @@ impl Batch {
         requires { NamesDiffer (all_named (under_overlay (items list.now) self.old.overlay)) }
         ensures given { (roads : Roads) → Given (batch_of roads (items list.now) self.old) (Drop_path name.now) result
             (batch_of roads (items list.now) self.new) }
-        ensures held { (roads : Roads) → IsHeld roads (items list.now) self.old → IsHeld roads (items list.now) self.new }
+        ensures held { (roads : Roads) → IsHeld roads (items list.now) self.old →
+            IsHeld roads (items list.now) self.new }
         ensures log { self.new.log ≡ self.old.log }
     {
         if self.is_full() {

@@ -52,7 +52,8 @@ impl Register {
         neg: u32,
     ) -> Result<Reply, CommandFault>
         requires { IsSome self.old.kept.batch }
-        ensures { Answered self.old (Make (Add_path (string_bytes name) (path_along lines.items pos neg))) result self.new }
+        ensures { Answered self.old (Make (Add_path (string_bytes name) (path_along lines.items pos neg))) result
+            self.new }
     {
         let Some(mut batch) = self.batch.take() else {
             unreachable!()
@@ -94,8 +95,8 @@ impl Register {
         result
     }
 
-    /// Accepts all held changes at once, if there are so many, and encodes the paths that they concern. After a fault the
-    /// batch is open as before.
+    /// Accepts all held changes at once, if there are so many, and encodes the paths that they concern. After a fault
+    /// the batch is open as before.
     pub(crate) fn commit(&mut self, count: u32) -> Result<Reply, CommandFault>
         ensures { Answered self.old (Commit count) result self.new }
     {

@@ -29,7 +29,8 @@ pub(crate) fn line_changed(judged: &Judged) -> Option<ChangedLine>
 
 /// Notes what a judged edit touches, and nothing else.
 fn note_alone(touched: &mut Touched, judged: &Judged) -> Result<(), AllocError>
-    ensures nodes { OnOk result ((v : ℕ) → has (nodes_of touched.new) v ≡ ((judged.now.nodes.0 == v) || (judged.now.nodes.1 == v))) }
+    ensures nodes { OnOk result
+        ((v : ℕ) → has (nodes_of touched.new) v ≡ ((judged.now.nodes.0 == v) || (judged.now.nodes.1 == v))) }
     ensures lines { OnOk result ((x : ℕ) → has (lines_of touched.new) x ≡ has (option_to_list judged.now.line) x) }
     ensures changed { OnOk result (changed_of touched.new ≡ changes_told judged.now) }
 {
@@ -63,7 +64,8 @@ impl Register {
         Ok(Reply::Paths(Vec::new(self.alloc)))
     }
 
-    /// Makes an edit of the map and encodes anew the paths that it concerns. The map's own faults are told before `Memory`.
+    /// Makes an edit of the map and encodes anew the paths that it concerns. The map's own faults are told before
+    /// `Memory`.
     pub(crate) fn edit_now(&mut self, edit: Edit) -> Result<Reply, CommandFault>
         requires { self.old.kept.batch ≡ None }
         ensures { Answered self.old (Make (On_map (edit_of edit))) result self.new }

@@ -1,5 +1,6 @@
 //! What a path's answer rests on: its own nodes and its looks, and its footprint.
-ghost use Rattle.std.specs.Prelude.{◌≡◌, ◌↔◌, ℕ, Contains, is_some, IsTrue, IsFalse, MatchOption, IsSomeAnd, Err, None, option_map};
+ghost use Rattle.std.specs.Prelude.{◌≡◌, ◌↔◌, ℕ, Contains, is_some, IsTrue, IsFalse, MatchOption, IsSomeAnd, Err, None};
+ghost use Rattle.std.specs.Prelude.{option_map};
 ghost use Rattle.std.specs.Result.{IfOk, IfErr};
 ghost use Rattle.olr_spec.specs.Footprint.{Foot};
 ghost use Rattle.olr_commands.specs.State.{path_named};
@@ -23,9 +24,9 @@ impl Register {
         self.paths.published(name)
     }
 
-    /// The footprint of the path of that name, searched for when it is asked: a change of the map that touches none of these
-    /// nodes and no line of the path leaves its answer. None where no path has the name. While a batch is open the map is
-    /// the batch's, and the fault is `BatchOpen`; else `Memory` is the only one.
+    /// The footprint of the path of that name, searched for when it is asked: a change of the map that touches none of
+    /// these nodes and no line of the path leaves its answer. None where no path has the name. While a batch is open
+    /// the map is the batch's, and the fault is `BatchOpen`; else `Memory` is the only one.
     pub fn footprint(&self, name: &str) -> Result<Option<Footprint>, CommandFault>
         ensures open { IsTrue (is_some self.now.kept.batch) → result ≡ Err CommandFault.BatchOpen }
         ensures memory { IfErr result (λ f. IsFalse (is_some self.now.kept.batch) → f ≡ CommandFault.Memory) }

@@ -2,14 +2,14 @@
 #![tactic(auto)]
 
 mod applying;
-pub mod batch;
+mod batch;
 mod batches;
 mod edits;
 mod footprints;
 mod nearing;
 mod paths;
 mod questions;
-pub mod register;
+mod register;
 
 pub use applying::replay;
 pub use olr_paths::{Iter, Published};

@@ -20,7 +20,8 @@ pub(crate) fn path_of(
 ) -> Result<Path, CommandFault>
     ensures ok { IfOk result (λ p. p ≡ path_along lines.items pos neg) }
     ensures good { OnOk result (IsTrue (is_path lines.items)) }
-    ensures fault { IfErr result (λ f. (f ≡ CommandFault.Memory) ⊎ ((f ≡ CommandFault.BadPath) × IsFalse (is_path lines.items))) }
+    ensures fault { IfErr result (λ f. (f ≡ CommandFault.Memory)
+        ⊎ ((f ≡ CommandFault.BadPath) × IsFalse (is_path lines.items))) }
 {
     match Path::new(alloc, lines, pos, neg) {
         Ok(path) => Ok(path),
@@ -44,7 +45,8 @@ impl Register {
         neg: u32,
     ) -> Result<Reply, CommandFault>
         requires { self.old.kept.batch ≡ None }
-        ensures { Answered self.old (Make (Add_path (string_bytes name) (path_along lines.items pos neg))) result self.new }
+        ensures { Answered self.old (Make (Add_path (string_bytes name) (path_along lines.items pos neg))) result
+            self.new }
     {
         if self.paths.has(&name) {
             return Err(CommandFault::PathExists);

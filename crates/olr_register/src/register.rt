@@ -108,8 +108,8 @@ impl Register {
         self.paths.name_at(k)
     }
 
-    /// The names of all paths in the order of their registration, each with what is published of it. An open batch is left
-    /// out of account.
+    /// The names of all paths in the order of their registration, each with what is published of it. An open batch is
+    /// left out of account.
     pub fn iter(&self) -> Iter<'_>
         ensures { AllPublished self.now.kept.content (left result) }
     {

@@ -15,23 +15,37 @@ loop-command-init c = record {
 
 pub loop-command-preserved : goal.loop-command-preserved
 loop-command-preserved c = record {
-  run = run_goes_on c.loop-command.register c.apply-outcome.new.self c.loop-command.yielded c.in-Some.command c.loop-command.outcomes.items _ c.apply-outcome.result c.loop-command.invariant.run
+  run = run_goes_on c.loop-command.register c.apply-outcome.new.self c.loop-command.yielded c.in-Some.command
+      c.loop-command.outcomes.items _ c.apply-outcome.result c.loop-command.invariant.run
       c.apply-outcome.ensures.outcome c.apply-outcome.ensures.sound c.in_ok-push.ensures.items;
   sound = c.apply-outcome.ensures.sound;
 }
 
 -- where all commands lead
-whole_run : (c : goal.After-drop-command-iterator-2) → HasRun c.loop-command.register c.args.commands.items c.loop-command.outcomes.items
+whole_run : (c : goal.After-drop-command-iterator-2) →
+    HasRun c.loop-command.register c.args.commands.items c.loop-command.outcomes.items
 whole_run c =
     let from = c.into_iter-command-iterator.ensures.into_iter_gives in
     let whole = YieldsList-from_vec c.args.commands.items from.0 (omega (arith, from.1, c.args.commands.ok.0)) in
-    let all = YieldsList-end whole c.loop-command.yielded c.loop-command.command-iterator c.loop-command.yielded_by c.next.result c.next.new.self c.in-None.is c.next.ensures.steps in
-    subst (λ cs. HasRun c.loop-command.register cs c.loop-command.outcomes.items) (sym (map_same c.loop-command.yielded) ∙ all.0) c.loop-command.invariant.run
+    let all =
+    YieldsList-end whole c.loop-command.yielded c.loop-command.command-iterator c.loop-command.yielded_by c.next.result
+    c.next.new.self c.in-None.is c.next.ensures.steps in
+    subst (λ cs. HasRun c.loop-command.register cs c.loop-command.outcomes.items)
+    (sym (map_same c.loop-command.yielded) ∙ all.0) c.loop-command.invariant.run
 
 pub returns-clause-history : goal.returns-clause-history
-returns-clause-history c = let run = whole_run c in (run.0, run.1, (run.2.0, run_each SoundOutcome IsOutcome (λ a x o b p. p.0) start_state _ _ run.0 run.2.1))
+returns-clause-history c = let run =
+    whole_run c in (
+      run.0,
+      run.1,
+      (run.2.0, run_each SoundOutcome IsOutcome (λ a x o b p. p.0) start_state _ _ run.0 run.2.1),
+    )
 
 pub returns-clause-headline : goal.returns-clause-headline
 returns-clause-headline c =
-    let run = whole_run c in
-    (run.0, run.1, headline_of_outcomes start_state _ _ run.0 (subst IsContent run.1.0 c.loop-command.invariant.sound) run.2.1)
+    let run = whole_run c in (
+      run.0,
+      run.1,
+      headline_of_outcomes start_state _ _ run.0 (subst IsContent run.1.0 c.loop-command.invariant.sound)
+          run.2.1,
+    )

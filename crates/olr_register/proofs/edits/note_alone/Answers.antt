@@ -7,10 +7,15 @@ use Rattle.olr_register.proofs.edits.note_alone.Goals as goal
 pub returns-clause-nodes : goal.returns-clause-nodes
 returns-clause-nodes c =
     let at = c.args.judged.now.nodes in
-    only_noted _ _ (λ v. (at.0 == v) || (at.1 == v)) (c.reserve.ensures.nodes ∙ c.clear.ensures.nodes) c.note.ensures.nodes
+    only_noted _ _ (λ v. (at.0 == v) || (at.1 == v)) (c.reserve.ensures.nodes ∙ c.clear.ensures.nodes)
+    c.note.ensures.nodes
 
 pub returns-clause-lines : goal.returns-clause-lines
-returns-clause-lines c = only_noted _ _ (λ x. has (option_to_list c.args.judged.now.line) x) (c.reserve.ensures.lines ∙ c.clear.ensures.lines) c.note.ensures.lines
+returns-clause-lines c =
+    only_noted _ _ (λ x. has (option_to_list c.args.judged.now.line) x)
+    (c.reserve.ensures.lines ∙ c.clear.ensures.lines) c.note.ensures.lines
 
 pub returns-clause-changed : goal.returns-clause-changed
-returns-clause-changed c = only_changes _ _ _ (c.reserve.ensures.changed ∙ c.clear.ensures.changed) c.note.ensures.changed ∙ c.line_changed.ensures
+returns-clause-changed c =
+    only_changes _ _ _ (c.reserve.ensures.changed ∙ c.clear.ensures.changed) c.note.ensures.changed
+    ∙ c.line_changed.ensures

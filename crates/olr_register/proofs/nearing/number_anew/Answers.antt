@@ -7,8 +7,11 @@ use Rattle.olr_register.proofs.nearing.number_anew.Goals as goal
 pub returns-in-Ok : goal.returns-in-Ok
 returns-in-Ok c =
     record {
-      right = c.add_near.ensures.right (right_without (map_of c.args.roads.now) c.clear.new.self c.clear.ensures.numbers);
-      sources = λ v b. c.add_near.ensures.sources v (subst (λ (ns : List ℕ). Contains ns v) (sym c.deref.ensures.value) (c.in-Ok.ensures v b));
+      right =
+          c.add_near.ensures.right (right_without (map_of c.args.roads.now) c.clear.new.self c.clear.ensures.numbers);
+      sources =
+          λ v b. c.add_near.ensures.sources v
+          (subst (λ (ns : List ℕ). Contains ns v) (sym c.deref.ensures.value) (c.in-Ok.ensures v b));
     }
 
 pub returns : goal.returns

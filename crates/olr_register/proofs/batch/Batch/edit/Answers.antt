@@ -13,7 +13,8 @@ returns-in-Err-clause-given c =
     λ is.
     let b = c.args.self.now in
     let told = refused_is _ c.in-Err.fault c.in-Err.ensures.fault in
-    edit_told (batch_of c.args.roads.now is b) _ (edit_of c.args.edit) _ told.0 (sym c.if-is_full.ensures) told.1 (ap map_fault_of told.2 ∙ told_by_map told.0) refl
+    edit_told (batch_of c.args.roads.now is b) _ (edit_of c.args.edit) _ told.0 (sym c.if-is_full.ensures) told.1
+    (ap map_fault_of told.2 ∙ told_by_map told.0) refl
 
 pub returns-then-is_err-clause-given : goal.returns-then-is_err-clause-given
 returns-then-is_err-clause-given c =
@@ -21,17 +22,21 @@ returns-then-is_err-clause-given c =
     let b = c.args.self.now in
     let ok = taken_is _ c.in-Ok.ensures.judged.accepted in
     edit_lacks (batch_of c.args.roads.now is b) _ (edit_of c.args.edit) _ ok.0 (sym c.if-is_full.ensures) ok.1 refl
-    (same_batch c.args.roads.now c.args.roads.now is b b.log c.reserve.new.self refl c.reserve.ensures.nodes c.reserve.ensures.lines)
+    (same_batch c.args.roads.now c.args.roads.now is b b.log c.reserve.new.self refl c.reserve.ensures.nodes
+    c.reserve.ensures.lines)
 
 pub returns-in-Ok-make_into-clause-held : goal.returns-in-Ok-make_into-clause-held
 returns-in-Ok-make_into-clause-held c =
     λ before first h.
     let b = c.args.self.now in
     let j = c.in-Ok.ensures.judged in
-    held_edit c.args.roads.now c.make_into.new.self before b c.make_into.new.log c.note.new.self (edit_of c.args.edit) (sym c.if-is_full.ensures) j.placed
+    held_edit c.args.roads.now c.make_into.new.self before b c.make_into.new.log c.note.new.self (edit_of c.args.edit)
+    (sym c.if-is_full.ensures) j.placed
     c.make_into.ensures.can_undo c.in-Ok-make_into.ensures.done c.make_into.ensures.before
-    (λ v. has_either _ _ _ _ _ (c.note.ensures.nodes v) (ap (λ (vs : List ℕ). has vs v) c.reserve.ensures.nodes) (j.nodes v))
-    (λ y. has_either _ _ _ _ _ (c.note.ensures.lines y) (ap (λ (ys : List ℕ). has ys y) c.reserve.ensures.lines) (ap (λ (ys : List ℕ). has ys y) (sym j.lines)))
+    (λ v. has_either _ _ _ _ _ (c.note.ensures.nodes v) (ap (λ (vs : List ℕ). has vs v) c.reserve.ensures.nodes)
+    (j.nodes v))
+    (λ y. has_either _ _ _ _ _ (c.note.ensures.lines y) (ap (λ (ys : List ℕ). has ys y) c.reserve.ensures.lines)
+    (ap (λ (ys : List ℕ). has ys y) (sym j.lines)))
     (changes_more _ _ _ _ c.reserve.ensures.changed c.note.ensures.changed (c.line_changed.ensures ∙ j.changes)) first h
 
 pub returns-in-Err-make_into-clause-given : goal.returns-in-Err-make_into-clause-given
@@ -40,4 +45,5 @@ returns-in-Err-make_into-clause-given c =
     let b = c.args.self.now in
     let ok = taken_is _ c.in-Ok.ensures.judged.accepted in
     edit_lacks (batch_of c.args.roads.now is b) _ (edit_of c.args.edit) _ ok.0 (sym c.if-is_full.ensures) ok.1 refl
-    (same_batch c.args.roads.now c.make_into.new.self is b c.make_into.new.log c.reserve.new.self c.in-Err-make_into.ensures.same c.reserve.ensures.nodes c.reserve.ensures.lines)
+    (same_batch c.args.roads.now c.make_into.new.self is b c.make_into.new.log c.reserve.new.self
+    c.in-Err-make_into.ensures.same c.reserve.ensures.nodes c.reserve.ensures.lines)

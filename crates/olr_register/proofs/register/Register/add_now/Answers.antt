@@ -14,22 +14,30 @@ pub returns-then-has : goal.returns-then-has
 returns-then-has c =
     let r = c.self.inside in
     let x = c.args.self.now in
-    add_exists x _ _ _ c.requires (has_in r.roads (items r.paths) r.batch (tally r.work r.kept) x _ _ _ c.self.view_is c.deref.ensures c.if-has.ensures) refl
+    add_exists x _ _ _ c.requires
+    (has_in r.roads (items r.paths) r.batch (tally r.work r.kept) x _ _ _ c.self.view_is c.deref.ensures
+    c.if-has.ensures) refl
 
 pub returns-in_err-path : goal.returns-in_err-path
 returns-in_err-path c =
     let r = c.self.inside in
     let x = c.args.self.now in
     let p = err_from_is_err_and c.from_residual.result c.from_residual.ensures.1 in
-    rw (p.1, p.2) (add_refused x _ _ _ c.requires (has_in r.roads (items r.paths) r.batch (tally r.work r.kept) x _ _ _ c.self.view_is c.deref.ensures c.if-has.ensures) c.in_err-path.ensures.fault)
+    rw (p.1, p.2) (add_refused x _ _ _ c.requires
+    (has_in r.roads (items r.paths) r.batch (tally r.work r.kept) x _ _ _ c.self.view_is c.deref.ensures
+    c.if-has.ensures) c.in_err-path.ensures.fault)
 
 pub returns-in_default : goal.returns-in_default
 returns-in_default c =
     let r = c.self.inside in
     let x = c.args.self.now in
     let none = closed_by r.roads (items r.paths) r.batch (tally r.work r.kept) x c.self.view_is c.requires in
-    as_before x _ _ _ (same_parts r.roads r.roads (items r.paths) _ r.batch (tally r.work r.kept) (tally c.add.new.work r.kept) none refl c.in_default.ensures.err (ap (λ u. tally u r.kept) c.in_default.ensures.err_work) ∙ c.self.view_is)
-    (add_refused x _ _ _ c.requires (has_in r.roads (items r.paths) r.batch (tally r.work r.kept) x _ _ _ c.self.view_is c.deref.ensures c.if-has.ensures) (inl refl))
+    as_before x _ _ _ (same_parts r.roads r.roads (items r.paths) _ r.batch (tally r.work r.kept)
+    (tally c.add.new.work r.kept) none refl c.in_default.ensures.err
+    (ap (λ u. tally u r.kept) c.in_default.ensures.err_work) ∙ c.self.view_is)
+    (add_refused x _ _ _ c.requires
+    (has_in r.roads (items r.paths) r.batch (tally r.work r.kept) x _ _ _ c.self.view_is c.deref.ensures
+    c.if-has.ensures) (inl refl))
 
 pub invariant_of-self-2 : goal.invariant_of-self-2
 invariant_of-self-2 c =
@@ -37,14 +45,20 @@ invariant_of-self-2 c =
     let x = c.args.self.now in
     let path = c.in_ok-path.path in
     let new = c.in-Ok.ensures.added in
-    let good : IsTrue (is_path path.lines) = subst (λ (p : Path). IsTrue (is_path p.lines)) (sym c.in_ok-path.ensures.ok) c.in_ok-path.ensures.good in
+    let good : IsTrue (is_path path.lines) =
+    subst (λ (p : Path). IsTrue (is_path p.lines)) (sym c.in_ok-path.ensures.ok) c.in_ok-path.ensures.good in
     let none = closed_by r.roads (items r.paths) r.batch (tally r.work r.kept) x c.self.view_is c.requires in
     let kept = kept_closed r.roads r.batch none in
     record {
-      register = add_keeps r.roads (items r.paths) r.batch (tally r.work r.kept) x _ c.self.view_is c.requires c.self.invariant.register path new.0 good new.1 _
-          (has_in r.roads (items r.paths) r.batch (tally r.work r.kept) x _ _ _ c.self.view_is c.deref.ensures c.if-has.ensures) new.2;
+      register =
+          add_keeps r.roads (items r.paths) r.batch (tally r.work r.kept) x _ c.self.view_is c.requires
+          c.self.invariant.register path new.0 good new.1 _
+          (has_in r.roads (items r.paths) r.batch (tally r.work r.kept) x _ _ _ c.self.view_is c.deref.ensures
+          c.if-has.ensures) new.2;
       numbered = numbered_same (map_of r.roads) (map_kept r.roads r.batch) _ _ kept
-          (numbered_more (map_of r.roads) (items r.paths) _ r.near _ _ (numbered_same (map_kept r.roads r.batch) (map_of r.roads) (items r.paths) r.near (sym kept) c.self.invariant.numbered) c.in-Ok.ensures.begun c.renumber.ensures);
+          (numbered_more (map_of r.roads) (items r.paths) _ r.near _ _
+          (numbered_same (map_kept r.roads r.batch) (map_of r.roads) (items r.paths) r.near (sym kept)
+          c.self.invariant.numbered) c.in-Ok.ensures.begun c.renumber.ensures);
     }
 
 pub returns : goal.returns
@@ -53,6 +67,9 @@ returns c =
     let x = c.args.self.now in
     let path = c.in_ok-path.path in
     let new = c.in-Ok.ensures.added in
-    let good : IsTrue (is_path path.lines) = subst (λ (p : Path). IsTrue (is_path p.lines)) (sym c.in_ok-path.ensures.ok) c.in_ok-path.ensures.good in
-    add_done r.roads (items r.paths) r.batch (tally r.work r.kept) x _ c.self.view_is c.requires c.self.invariant.register path new.0 good new.1 _ _ (tally c.add.new.work r.kept) _ _ c.in_ok-path.ensures.ok
-    (has_in r.roads (items r.paths) r.batch (tally r.work r.kept) x _ _ _ c.self.view_is c.deref.ensures c.if-has.ensures) new.2 refl new.3 c.in-Ok.ensures.counted c.in-Ok.ensures.searches c.in-Ok.ensures.settled refl
+    let good : IsTrue (is_path path.lines) =
+    subst (λ (p : Path). IsTrue (is_path p.lines)) (sym c.in_ok-path.ensures.ok) c.in_ok-path.ensures.good in
+    add_done r.roads (items r.paths) r.batch (tally r.work r.kept) x _ c.self.view_is c.requires
+    c.self.invariant.register path new.0 good new.1 _ _ (tally c.add.new.work r.kept) _ _ c.in_ok-path.ensures.ok
+    (has_in r.roads (items r.paths) r.batch (tally r.work r.kept) x _ _ _ c.self.view_is c.deref.ensures
+    c.if-has.ensures) new.2 refl new.3 c.in-Ok.ensures.counted c.in-Ok.ensures.searches c.in-Ok.ensures.settled refl

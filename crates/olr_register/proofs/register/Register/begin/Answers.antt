@@ -10,22 +10,43 @@ use Rattle.olr_register.proofs.register.Register.begin.Goals as goal
 pub returns-then-is_some : goal.returns-then-is_some
 returns-then-is_some c =
     let s = c.self.inside in
-    rw (← c.self.view_is) (open_refused s.roads (items s.paths) s.batch (tally s.work s.kept) (sym c.if-is_some.ensures))
+    rw (← c.self.view_is) (open_refused s.roads (items s.paths) s.batch (tally s.work s.kept)
+    (sym c.if-is_some.ensures))
 
 pub invariant_of-self : goal.invariant_of-self
 invariant_of-self c =
     let s = c.self.inside in
     let e : IsEmpty (record { log = c.new.result; overlay = c.new-2.result; count = 0; touched = c.new-3.result }) =
-    record { log = c.new.ensures; paths = c.new-2.ensures; count = refl; nodes = c.new-3.ensures.nodes; lines = c.new-3.ensures.lines; changed = c.new-3.ensures.changed } in
+    record {
+      log = c.new.ensures;
+      paths = c.new-2.ensures;
+      count = refl;
+      nodes = c.new-3.ensures.nodes;
+      lines =
+          c.new-3.ensures.lines;
+      changed = c.new-3.ensures.changed;
+    } in
     record {
       register = begun_held s.roads (items s.paths) s.batch _ (sym c.if-is_some.ensures) c.self.invariant.register e;
-      numbered = numbered_begun s.roads (items s.paths) s.batch (record { log = c.new.result; overlay = c.new-2.result; count = 0; touched = c.new-3.result }) s.near (sym c.if-is_some.ensures) e.log c.self.invariant.numbered;
+      numbered =
+          numbered_begun s.roads (items s.paths) s.batch
+          (record { log = c.new.result; overlay = c.new-2.result; count = 0; touched = c.new-3.result }) s.near
+          (sym c.if-is_some.ensures) e.log c.self.invariant.numbered;
     }
 
 pub returns : goal.returns
 returns c =
     let s = c.self.inside in
     let e : IsEmpty (record { log = c.new.result; overlay = c.new-2.result; count = 0; touched = c.new-3.result }) =
-    record { log = c.new.ensures; paths = c.new-2.ensures; count = refl; nodes = c.new-3.ensures.nodes; lines = c.new-3.ensures.lines; changed = c.new-3.ensures.changed } in
+    record {
+      log = c.new.ensures;
+      paths = c.new-2.ensures;
+      count = refl;
+      nodes = c.new-3.ensures.nodes;
+      lines =
+          c.new-3.ensures.lines;
+      changed = c.new-3.ensures.changed;
+    } in
     rw (← c.self.view_is)
-    (begin_done s.roads (items s.paths) s.batch _ (tally s.work s.kept) _ (sym c.if-is_some.ensures) c.self.invariant.register e (ap (λ es. replies.Paths (map entry_of es)) c.new-4.ensures.items))
+    (begin_done s.roads (items s.paths) s.batch _ (tally s.work s.kept) _ (sym c.if-is_some.ensures)
+    c.self.invariant.register e (ap (λ es. replies.Paths (map entry_of es)) c.new-4.ensures.items))

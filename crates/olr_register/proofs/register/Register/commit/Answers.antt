@@ -1,25 +1,34 @@
-use Rattle.std.proofs.Common.{refl, sym, ◌∙◌}
+use Rattle.std.proofs.Common.{refl, sym, ◌∙◌, subst}
 use Rattle.olr_commands.specs.State.{Commit}
 use Rattle.olr_map.specs.RoadMaps.{map_of, map_before}
 use Rattle.olr_paths.specs.Items.{items}
 use Rattle.olr_paths.specs.Laying.{under_overlay}
 use Rattle.olr_paths.specs.Touching.{nodes_of}
-use Rattle.olr_register.specs.Holding.{map_kept}
+use Rattle.olr_register.specs.Holding.{map_kept, IsWhole}
 use Rattle.olr_register.proofs.BatchEnds.{none_refused}
-use Rattle.olr_register.proofs.BatchCommit.{count_refused, commit_lacks, lacks_held, commit_from, commit_before, commit_held, commit_done}
-use Rattle.olr_register.proofs.Numbered.{kept_closed, numbered_unknown, numbered_same, numbered_asked, far_looks, numbered_more, commit_numbered}
+use Rattle.olr_register.proofs.BatchCommit.{count_refused, commit_lacks, lacks_held, commit_from, commit_before}
+use Rattle.olr_register.proofs.BatchCommit.{commit_held, commit_done}
+use Rattle.olr_register.proofs.Numbered.{kept_closed, numbered_unknown, numbered_same, numbered_asked, far_looks}
+use Rattle.olr_register.proofs.Numbered.{numbered_more, commit_numbered}
 use Rattle.olr_register.proofs.Tallies.{tally}
 use Rattle.olr_register.proofs.register.Register.commit.Goals as goal
 
 pub returns-in_default : goal.returns-in_default
 returns-in_default c =
     let s = c.self.inside in
-    rw (← c.self.view_is) (none_refused s.roads (items s.paths) s.batch c.take.new.self (tally s.work s.kept) (Commit c.args.count) _ (sym c.take.ensures.value ∙ c.in_default.is) c.take.ensures.after refl)
+    rw (← c.self.view_is) (none_refused s.roads (items s.paths) s.batch c.take.new.self (tally s.work s.kept)
+    (Commit c.args.count) _ (sym c.take.ensures.value ∙ c.in_default.is) c.take.ensures.after refl)
+
+pub invariant_of-self-then-batch-count : goal.invariant_of-self-then-batch-count
+invariant_of-self-then-batch-count c =
+    let s = c.self.inside in
+    subst (λ o. IsWhole s.roads (items s.paths) o s.near) (sym c.in-Some.ensures.value) c.self.invariant
 
 pub returns-then-batch-count : goal.returns-then-batch-count
 returns-then-batch-count c =
     let s = c.self.inside in
-    rw (← c.self.view_is) (count_refused s.roads (items s.paths) s.batch c.in-Some.batch (tally s.work s.kept) c.args.count (sym c.in-Some.ensures.value) c.if-batch-count.true)
+    rw (← c.self.view_is) (count_refused s.roads (items s.paths) s.batch c.in-Some.batch (tally s.work s.kept)
+    c.args.count (sym c.in-Some.ensures.value) c.if-batch-count.true)
 
 pub returns : goal.returns
 returns c =
@@ -29,24 +38,41 @@ returns c =
     let before = commit_before s.roads (items s.paths) s.batch b e c.self.invariant.register in
     let count = c.in-Ok.ensures.counted _ before in
     rw (← c.self.view_is)
-    (commit_done s.roads c.keep_all.new.self (items s.paths) (items c.renew_over.new.self) b (tally s.work s.kept) (tally c.renew_over.new.work c.renew_over.new.kept) c.args.count count.0 _ c.in-Ok.entries.items
-    refl c.if-batch-count.false c.keep_all.ensures (c.in-Ok.ensures.renewed _ before) c.in-Ok.ensures.named c.in-Ok.ensures.reported count.1 count.2 count.3
-    c.in-Ok.ensures.searches c.in-Ok.ensures.settled c.in-Ok.ensures.kept s.batch c.take.new.self e c.take.ensures.after c.self.invariant.register)
+    (commit_done s.roads c.keep_all.new.self (items s.paths) (items c.renew_over.new.self) b (tally s.work s.kept)
+    (tally c.renew_over.new.work c.renew_over.new.kept) c.args.count count.0 _ c.in-Ok.entries.items
+    refl c.if-batch-count.false c.keep_all.ensures (c.in-Ok.ensures.renewed _ before) c.in-Ok.ensures.named
+    c.in-Ok.ensures.reported count.1 count.2 count.3
+    c.in-Ok.ensures.searches c.in-Ok.ensures.settled c.in-Ok.ensures.kept s.batch c.take.new.self e c.take.ensures.after
+    c.self.invariant.register)
 
 pub invariant_of-self-2 : goal.invariant_of-self-2
 invariant_of-self-2 c =
     let s = c.self.inside in
-    let before = commit_before s.roads (items s.paths) s.batch c.in-Some.batch (sym c.in-Some.ensures.value) c.self.invariant.register in
-    let held = commit_from s.roads (items s.paths) s.batch c.in-Some.batch (sym c.in-Some.ensures.value) c.self.invariant.register in
+    let before =
+    commit_before s.roads (items s.paths) s.batch c.in-Some.batch (sym c.in-Some.ensures.value)
+    c.self.invariant.register in
+    let held =
+    commit_from s.roads (items s.paths) s.batch c.in-Some.batch (sym c.in-Some.ensures.value)
+    c.self.invariant.register in
     let laid = under_overlay (items s.paths) c.in-Some.batch.overlay in
-    let was = commit_numbered s.roads (items s.paths) s.batch c.in-Some.batch s.near (sym c.in-Some.ensures.value) held c.self.invariant.numbered in
-    let now = numbered_asked (map_before s.roads c.in-Some.batch.log) (map_of s.roads) laid (nodes_of c.in-Some.batch.touched) c.nodes.result.now s.near c.ask_near-far.new.near c.nodes.ensures held.noted.difference.nodes was
+    let was =
+    commit_numbered s.roads (items s.paths) s.batch c.in-Some.batch s.near (sym c.in-Some.ensures.value) held
+    c.self.invariant.numbered in
+    let now =
+    numbered_asked (map_before s.roads c.in-Some.batch.log) (map_of s.roads) laid (nodes_of c.in-Some.batch.touched)
+    c.nodes.result.now s.near c.ask_near-far.new.near c.nodes.ensures held.noted.difference.nodes was
     c.ask_near-far.ensures.right c.ask_near-far.ensures.sources in
     record {
-      register = commit_held s.roads c.keep_all.new.self (items s.paths) (items c.renew_over.new.self) s.batch c.take.new.self c.in-Some.batch (sym c.in-Some.ensures.value) c.take.ensures.after c.self.invariant.register
+      register =
+          commit_held s.roads c.keep_all.new.self (items s.paths) (items c.renew_over.new.self) s.batch c.take.new.self
+          c.in-Some.batch (sym c.in-Some.ensures.value) c.take.ensures.after c.self.invariant.register
           c.keep_all.ensures (c.in-Ok.ensures.renewed _ before) c.in-Ok.ensures.named;
-      numbered = numbered_same (map_of c.keep_all.new.self) (map_kept c.keep_all.new.self c.take.new.self) _ _ (kept_closed c.keep_all.new.self c.take.new.self c.take.ensures.after)
-          (numbered_more (map_of c.keep_all.new.self) laid _ c.ask_near-far.new.near _ _ (numbered_same (map_of s.roads) (map_of c.keep_all.new.self) laid _ c.keep_all.ensures now) c.in-Ok.ensures.begun c.renumber.ensures);
+      numbered =
+          numbered_same (map_of c.keep_all.new.self) (map_kept c.keep_all.new.self c.take.new.self) _ _
+          (kept_closed c.keep_all.new.self c.take.new.self c.take.ensures.after)
+          (numbered_more (map_of c.keep_all.new.self) laid _ c.ask_near-far.new.near _ _
+          (numbered_same (map_of s.roads) (map_of c.keep_all.new.self) laid _ c.keep_all.ensures now)
+          c.in-Ok.ensures.begun c.renumber.ensures);
     }
 
 pub returns-in_default-renew_over : goal.returns-in_default-renew_over
@@ -54,26 +80,37 @@ returns-in_default-renew_over c =
     let s = c.self.inside in
     let e = c.in_default-renew_over.ensures in
     rw (← c.self.view_is)
-    (commit_lacks s.roads (items s.paths) (items c.renew_over.new.self) s.batch c.in-Some.batch (tally s.work s.kept) (tally c.renew_over.new.work c.renew_over.new.kept) c.args.count (sym c.in-Some.ensures.value) c.if-batch-count.false
+    (commit_lacks s.roads (items s.paths) (items c.renew_over.new.self) s.batch c.in-Some.batch (tally s.work s.kept)
+    (tally c.renew_over.new.work c.renew_over.new.kept) c.args.count (sym c.in-Some.ensures.value)
+    c.if-batch-count.false
     e.err (λ i. tally (e.err_work i) (e.err_kept i)))
 
 pub renew_over-requires : goal.renew_over-requires
 renew_over-requires c =
     let s = c.self.inside in
-    let held = commit_from s.roads (items s.paths) s.batch c.in-Some.batch (sym c.in-Some.ensures.value) c.self.invariant.register in
-    let was = commit_numbered s.roads (items s.paths) s.batch c.in-Some.batch s.near (sym c.in-Some.ensures.value) held c.self.invariant.numbered in
+    let held =
+    commit_from s.roads (items s.paths) s.batch c.in-Some.batch (sym c.in-Some.ensures.value)
+    c.self.invariant.register in
+    let was =
+    commit_numbered s.roads (items s.paths) s.batch c.in-Some.batch s.near (sym c.in-Some.ensures.value) held
+    c.self.invariant.numbered in
     record {
       names = held.sound.names;
       follows = held.follows;
       far = λ on.
-          far_looks (map_before s.roads c.in-Some.batch.log) (map_of s.roads) (under_overlay (items s.paths) c.in-Some.batch.overlay) (nodes_of c.in-Some.batch.touched) c.nodes.result.now s.near c.ask_near-far.new.near c.nodes.ensures
-          held.noted.difference.nodes was c.ask_near-far.ensures.right c.ask_near-far.ensures.sources (c.ask_near-far.ensures.far on);
+          far_looks (map_before s.roads c.in-Some.batch.log) (map_of s.roads)
+          (under_overlay (items s.paths) c.in-Some.batch.overlay) (nodes_of c.in-Some.batch.touched) c.nodes.result.now
+          s.near c.ask_near-far.new.near c.nodes.ensures
+          held.noted.difference.nodes was c.ask_near-far.ensures.right c.ask_near-far.ensures.sources
+          (c.ask_near-far.ensures.far on);
     }
 
 pub invariant_of-self-in_default-renew_over : goal.invariant_of-self-in_default-renew_over
 invariant_of-self-in_default-renew_over c =
     let s = c.self.inside in
     record {
-      register = lacks_held s.roads (items s.paths) (items c.renew_over.new.self) s.batch c.in-Some.batch (sym c.in-Some.ensures.value) c.in_default-renew_over.ensures.err c.self.invariant.register;
+      register =
+          lacks_held s.roads (items s.paths) (items c.renew_over.new.self) s.batch c.in-Some.batch
+          (sym c.in-Some.ensures.value) c.in_default-renew_over.ensures.err c.self.invariant.register;
       numbered = numbered_unknown _ _ c.forget.new.self c.forget.ensures;
     }

@@ -18,23 +18,30 @@ pub returns-then-not-has : goal.returns-then-not-has
 returns-then-not-has c =
     let r = c.self.inside in
     let x = c.args.self.now in
-    drop_unknown x _ _ c.requires (has_in r.roads (items r.paths) r.batch (tally r.work r.kept) x _ _ _ c.self.view_is refl c.if-not-has.ensures) refl
+    drop_unknown x _ _ c.requires
+    (has_in r.roads (items r.paths) r.batch (tally r.work r.kept) x _ _ _ c.self.view_is refl c.if-not-has.ensures) refl
 
 pub invariant_of-self : goal.invariant_of-self
 invariant_of-self c =
     let r = c.self.inside in
     let x = c.args.self.now in
     record {
-      register = drop_keeps r.roads (items r.paths) r.batch (tally r.work r.kept) x c.args.name.now c.self.view_is c.requires c.self.invariant.register _
-          (has_in r.roads (items r.paths) r.batch (tally r.work r.kept) x _ _ _ c.self.view_is refl c.if-not-has.ensures) c.drop_path.ensures;
+      register =
+          drop_keeps r.roads (items r.paths) r.batch (tally r.work r.kept) x c.args.name.now c.self.view_is c.requires
+          c.self.invariant.register _
+          (has_in r.roads (items r.paths) r.batch (tally r.work r.kept) x _ _ _ c.self.view_is refl
+          c.if-not-has.ensures) c.drop_path.ensures;
       numbered = numbered_fewer (map_kept r.roads r.batch) (items r.paths) _ r.near
-          (λ v b. begins_drop (λ i. not (same_name i.name c.args.name.now)) (items r.paths) v (subst (λ (is : List Item). Begins is v) c.drop_path.ensures b)) c.self.invariant.numbered;
+          (λ v b. begins_drop (λ i. not (same_name i.name c.args.name.now)) (items r.paths) v
+          (subst (λ (is : List Item). Begins is v) c.drop_path.ensures b)) c.self.invariant.numbered;
     }
 
 pub returns : goal.returns
 returns c =
     let r = c.self.inside in
     let x = c.args.self.now in
-    drop_done r.roads (items r.paths) r.batch (tally r.work r.kept) x c.args.name.now c.self.view_is c.requires c.self.invariant.register _ _
-    (has_in r.roads (items r.paths) r.batch (tally r.work r.kept) x _ _ _ c.self.view_is refl c.if-not-has.ensures) c.drop_path.ensures
+    drop_done r.roads (items r.paths) r.batch (tally r.work r.kept) x c.args.name.now c.self.view_is c.requires
+    c.self.invariant.register _ _
+    (has_in r.roads (items r.paths) r.batch (tally r.work r.kept) x _ _ _ c.self.view_is refl c.if-not-has.ensures)
+    c.drop_path.ensures
     (ap (λ (es : List Entry). told.Paths (map entry_of es)) c.new.ensures.items)

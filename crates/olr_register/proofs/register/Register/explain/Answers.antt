@@ -6,4 +6,6 @@ pub returns-in-Ok : goal.returns-in-Ok
 returns-in-Ok c = explain_text c.args.self.now c.args.text.now _ c.in-Ok.reference refl c.in-Ok.ensures.ok
 
 pub returns-in-Err : goal.returns-in-Err
-returns-in-Err c = explain_fault c.args.self.now c.args.text.now c.in-Err.fault c.text_fault.result c.in-Err.ensures.fault c.text_fault.ensures
+returns-in-Err c =
+    explain_fault c.args.self.now c.args.text.now c.in-Err.fault c.text_fault.result c.in-Err.ensures.fault
+    c.text_fault.ensures

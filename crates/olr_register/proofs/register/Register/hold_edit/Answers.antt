@@ -11,14 +11,21 @@ pub invariant_of-self : goal.invariant_of-self
 invariant_of-self c =
     let s = c.self.inside in
     record {
-      register = given_held s.roads c.edit-result.new.roads (items s.paths) s.batch c.in-Some.batch c.edit-result.new.self (sym c.in-Some.ensures.value) c.self.invariant.register c.edit-result.ensures.before
-          (c.edit-result.ensures.held (items s.paths) (first_sound s.roads (items s.paths) s.batch c.in-Some.batch (sym c.in-Some.ensures.value) c.self.invariant.register));
-      numbered = numbered_held s.roads c.edit-result.new.roads (items s.paths) s.batch c.in-Some.batch c.edit-result.new.self s.near (sym c.in-Some.ensures.value) c.edit-result.ensures.before c.self.invariant.numbered;
+      register =
+          given_held s.roads c.edit-result.new.roads (items s.paths) s.batch c.in-Some.batch c.edit-result.new.self
+          (sym c.in-Some.ensures.value) c.self.invariant.register c.edit-result.ensures.before
+          (c.edit-result.ensures.held (items s.paths)
+          (first_sound s.roads (items s.paths) s.batch c.in-Some.batch (sym c.in-Some.ensures.value)
+          c.self.invariant.register));
+      numbered =
+          numbered_held s.roads c.edit-result.new.roads (items s.paths) s.batch c.in-Some.batch c.edit-result.new.self
+          s.near (sym c.in-Some.ensures.value) c.edit-result.ensures.before c.self.invariant.numbered;
     }
 
 pub returns : goal.returns
 returns c =
     let s = c.self.inside in
     rw (← c.self.view_is)
-    (given_answered s.roads c.edit-result.new.roads (items s.paths) s.batch _ c.in-Some.batch c.edit-result.new.self (tally s.work s.kept) (On_map (edit_of c.args.edit)) _ (sym c.in-Some.ensures.value) refl
+    (given_answered s.roads c.edit-result.new.roads (items s.paths) s.batch _ c.in-Some.batch c.edit-result.new.self
+    (tally s.work s.kept) (On_map (edit_of c.args.edit)) _ (sym c.in-Some.ensures.value) refl
     c.edit-result.ensures.before (c.edit-result.ensures.given (items s.paths)))

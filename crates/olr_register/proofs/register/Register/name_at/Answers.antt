@@ -8,4 +8,5 @@ use Rattle.olr_register.proofs.register.Register.name_at.Goals as goal
 pub returns : goal.returns
 returns c =
     let r = c.self.inside in
-    c.name_at.ensures ∙ name_is (map_kept r.roads r.batch) (items r.paths) _ c.args.k (ap (λ (x : Registered). x.kept.content) c.self.view_is)
+    c.name_at.ensures ∙ name_is (map_kept r.roads r.batch) (items r.paths) _ c.args.k
+    (ap (λ (x : Registered). x.kept.content) c.self.view_is)

@@ -8,4 +8,5 @@ use Rattle.olr_register.proofs.register.Register.published.Goals as goal
 pub returns : goal.returns
 returns c =
     let r = c.self.inside in
-    whole_is (map_kept r.roads r.batch) (items r.paths) _ c.args.name.now _ (ap (λ (x : Registered). x.kept.content) c.self.view_is) c.self.invariant.register.made c.published.ensures
+    whole_is (map_kept r.roads r.batch) (items r.paths) _ c.args.name.now _
+    (ap (λ (x : Registered). x.kept.content) c.self.view_is) c.self.invariant.register.made c.published.ensures
