@@ -1,6 +1,7 @@
 -- Items of a record, read one after another.
 --     onto x y      those of x, and then those of y
-use Rattle.std.proofs.Common.{◌≡◌, ℕ, suc, ◌+◌, ◌<◌, ◌≤◌, List, [], ◌∷◌, ◌++◌, length, drop, Ok, Err, refl, sym, ap, ◌∙◌, append_assoc, drop-cons, arith}
+use Rattle.std.proofs.Common.{◌≡◌, ℕ, suc, ◌+◌, ◌<◌, ◌≤◌, List, [], ◌∷◌, ◌++◌, length, drop, Ok, Err, refl, sym, ap}
+use Rattle.std.proofs.Common.{◌∙◌, append_assoc, drop-cons, arith}
 use Rattle.std.specs.Prelude.{Result, IfOk, IsOkAnd, slice_index_or}
 use Rattle.std.proofs.lemmas.List.{append-nil, drop_all, length-drop}
 use Rattle.olr_spec.specs.Map.{ShapePoint}
@@ -53,12 +54,14 @@ short (a ∷ b ∷ []) some few = refl
 short (a ∷ b ∷ c ∷ fs) some few = absurd (omega arith)
 
 module _ (fs : List Field) (k : ℕ) where
-  numbers_next : k < length fs → numbers (drop k fs) ≡ Ok (λ x xs. x ∷ xs) ⊛ number (at fs k) ⊛ numbers (drop (k + 1) fs)
+  numbers_next : k < length fs → numbers (drop k fs) ≡ Ok (λ x xs. x ∷ xs) ⊛ number (at fs k) ⊛ numbers
+      (drop (k + 1) fs)
   numbers_next lt =
       let n : suc k ≡ k + 1 = omega arith in
       ap (λ (r : List Field). numbers r) (drop-cons fs k [] lt ∙ ap (λ (i : ℕ). at fs k ∷ drop i fs) n)
 
-  pub numbers-more : (x w : Read (List ℕ)) → k < length fs → onto x (numbers (drop k fs)) ≡ w → onto (with x (number (at fs k))) (numbers (drop (k + 1) fs)) ≡ w
+  pub numbers-more : (x w : Read (List ℕ)) → k < length fs → onto x (numbers (drop k fs)) ≡ w →
+      onto (with x (number (at fs k))) (numbers (drop (k + 1) fs)) ≡ w
   numbers-more x w lt e =
       onto_more x (number (at fs k)) (numbers (drop (k + 1) fs)) ∙ ap (λ y. onto x y) (sym (numbers_next lt)) ∙ e
 
@@ -74,25 +77,30 @@ module _ (fs : List Field) (k : ℕ) where
       let m : suc k ≡ k + 1 = omega arith in
       let n : suc (k + 1) ≡ k + 2 = omega arith in
       let o : suc (k + 2) ≡ k + 3 = omega arith in
-      a ∙ ap (λ (i : ℕ). at fs k ∷ drop i fs) m ∙ ap (λ (r : List Field). at fs k ∷ r) b ∙ ap (λ (i : ℕ). at fs k ∷ at fs (k + 1) ∷ drop i fs) n
-      ∙ ap (λ (r : List Field). at fs k ∷ at fs (k + 1) ∷ r) c ∙ ap (λ (i : ℕ). at fs k ∷ at fs (k + 1) ∷ at fs (k + 2) ∷ drop i fs) o
+      a ∙ ap (λ (i : ℕ). at fs k ∷ drop i fs) m ∙ ap (λ (r : List Field). at fs k ∷ r) b
+      ∙ ap (λ (i : ℕ). at fs k ∷ at fs (k + 1) ∷ drop i fs) n
+      ∙ ap (λ (r : List Field). at fs k ∷ at fs (k + 1) ∷ r) c
+      ∙ ap (λ (i : ℕ). at fs k ∷ at fs (k + 1) ∷ at fs (k + 2) ∷ drop i fs) o
 
   over : k < length fs → length fs < k + 3 → shape (drop k fs) ≡ Err Bad_form
   over some few = short (drop k fs) (omega (arith, length-drop k fs)) (omega (arith, length-drop k fs))
 
-  shape_next : k + 3 ≤ length fs → shape (drop k fs) ≡ Ok (λ p ps. p ∷ ps) ⊛ point (at fs k) (at fs (k + 1)) (at fs (k + 2)) ⊛ shape (drop (k + 3) fs)
+  shape_next : k + 3 ≤ length fs → shape (drop k fs) ≡ Ok (λ p ps. p ∷ ps) ⊛ point (at fs k) (at fs (k + 1))
+      (at fs (k + 2)) ⊛ shape (drop (k + 3) fs)
   shape_next few = rw (three few) refl
 
   pub shape-more : (x w : Read (List ShapePoint)) → k + 3 ≤ length fs → onto x (shape (drop k fs)) ≡ w
       → onto (with x (point (at fs k) (at fs (k + 1)) (at fs (k + 2)))) (shape (drop (k + 3) fs)) ≡ w
   shape-more x w few e =
-      onto_more x (point (at fs k) (at fs (k + 1)) (at fs (k + 2))) (shape (drop (k + 3) fs)) ∙ ap (λ y. onto x y) (sym (shape_next few)) ∙ e
+      onto_more x (point (at fs k) (at fs (k + 1)) (at fs (k + 2))) (shape (drop (k + 3) fs))
+      ∙ ap (λ y. onto x y) (sym (shape_next few)) ∙ e
 
   pub shape-end : (x w : Read (List ShapePoint)) → length fs ≤ k → onto x (shape (drop k fs)) ≡ w → x ≡ w
   shape-end x w past e = sym (onto-nothing x) ∙ ap (λ y. onto x (shape y)) (sym (drop_all k fs past)) ∙ e
 
   -- one or two fields over
-  pub shape-over : (x w : Read (List ShapePoint)) → k < length fs → length fs < k + 3 → onto x (shape (drop k fs)) ≡ w → w ≡ Err Bad_form
+  pub shape-over : (x w : Read (List ShapePoint)) → k < length fs → length fs < k + 3 → onto x (shape (drop k fs)) ≡ w →
+      w ≡ Err Bad_form
   shape-over x w some few e = sym e ∙ ap (λ y. onto x y) (over some few) ∙ onto-bad x
 
 -- ---- want of memory
@@ -102,7 +110,8 @@ okay P Q (Ok b) h m = h
 okay P Q (Err f) h m = absurd m
 
 -- it is told only of what takes memory
-pub gathers-only : {A B : Type 0} (P Q : B → Type 0) (view : A → B) (x : Read B) (r : Result A ReadFault) → IfOk x Q → Gathers P view x r → Gathers Q view x r
+pub gathers-only : {A B : Type 0} (P Q : B → Type 0) (view : A → B) (x : Read B) (r : Result A ReadFault) → IfOk x Q →
+    Gathers P view x r → Gathers Q view x r
 gathers-only P Q view x (Ok a) h g = g
 gathers-only P Q view x (Err Syntax) h g = g
 gathers-only P Q view x (Err Range) h g = g

@@ -7,21 +7,24 @@ use Rattle.olr_records.specs.declared.faults.ReadFault.{ReadFault}
 use Rattle.olr_records.specs.declared.faults.ReadFault.TheVariants.{Syntax, Range, Memory}
 
 -- a part that takes no memory
-pub no-memory : {A B : Type 0} (P : B → Type 0) (view : A → B) (x : Read B) (r : Result A ReadFault) → Reads view x r → Gathers P view x r
+pub no-memory : {A B : Type 0} (P : B → Type 0) (view : A → B) (x : Read B) (r : Result A ReadFault) → Reads view x r →
+    Gathers P view x r
 no-memory P view x (Ok a) h = h
 no-memory P view x (Err Syntax) h = h
 no-memory P view x (Err Range) h = h
 no-memory P view x (Err Memory) h = absurd h
 
 -- the first part
-pub first-part : {A Y Z : Type 0} (g : Y → Z) (v : A → Y) (y : Read Y) (r : Result A ReadFault) → Reads v y r → Reads (λ a. g (v a)) (Ok g ⊛ y) r
+pub first-part : {A Y Z : Type 0} (g : Y → Z) (v : A → Y) (y : Read Y) (r : Result A ReadFault) → Reads v y r →
+    Reads (λ a. g (v a)) (Ok g ⊛ y) r
 first-part g v y (Ok a) h = ap (λ (q : Read _). Ok g ⊛ q) h
 first-part g v y (Err Syntax) h = ap (λ (q : Read _). Ok g ⊛ q) h
 first-part g v y (Err Range) h = ap (λ (q : Read _). Ok g ⊛ q) h
 first-part g v y (Err Memory) h = h
 
 -- one part, made into something else
-pub made-part : {A Y Z : Type 0} (P : Y → Type 0) (R : Z → Type 0) (g : Y → Z) (v : A → Y) (y : Read Y) (r : Result A ReadFault) → ((b : Y) → P b → R (g b))
+pub made-part : {A Y Z : Type 0} (P : Y → Type 0) (R : Z → Type 0) (g : Y → Z) (v : A → Y) (y : Read Y)
+    (r : Result A ReadFault) → ((b : Y) → P b → R (g b))
     → Gathers P v y r → Gathers R (λ a. g (v a)) (Ok g ⊛ y) r
 made-part P R g v y (Ok a) makes h = ap (λ (q : Read _). Ok g ⊛ q) h
 made-part P R g v y (Err Syntax) makes h = ap (λ (q : Read _). Ok g ⊛ q) h
@@ -32,31 +35,36 @@ made-part P R g v (Err f) (Err Memory) makes h = h
 -- ---- two parts
 
 -- neither of which takes memory
-pub parts : {A B Y Z : Type 0} (u : A → Y → Z) (v : B → Y) (x : Read (Y → Z)) (y : Read Y) (r : Result A ReadFault) (s : Result B ReadFault) (q : Result (A × B) ReadFault) → q ≡ both r s
+pub parts : {A B Y Z : Type 0} (u : A → Y → Z) (v : B → Y) (x : Read (Y → Z)) (y : Read Y) (r : Result A ReadFault)
+    (s : Result B ReadFault) (q : Result (A × B) ReadFault) → q ≡ both r s
     → Reads u x r → Reads v y s → Reads (λ p. u p.0 (v p.1)) (x ⊛ y) q
-parts {A} {B} u v x y r s q is h k = subst (λ (t : Result (A × B) ReadFault). Reads (λ p. u p.0 (v p.1)) (x ⊛ y) t) (sym is) (by r s h k) where
-  by : (r : Result A ReadFault) (s : Result B ReadFault) → Reads u x r → Reads v y s → Reads (λ p. u p.0 (v p.1)) (x ⊛ y) (both r s)
-  by (Ok a) (Ok b) h k = (λ i. h i ⊛ k i)
-  by (Ok a) (Err Syntax) h k = (λ i. h i ⊛ k i)
-  by (Ok a) (Err Range) h k = (λ i. h i ⊛ k i)
-  by (Ok a) (Err Memory) h k = absurd k
-  by (Err Syntax) (Ok b) h k = (λ i. h i ⊛ k i)
-  by (Err Syntax) (Err Syntax) h k = (λ i. h i ⊛ k i)
-  by (Err Syntax) (Err Range) h k = (λ i. h i ⊛ k i)
-  by (Err Syntax) (Err Memory) h k = absurd k
-  by (Err Range) (Ok b) h k = (λ i. h i ⊛ k i)
-  by (Err Range) (Err Syntax) h k = (λ i. h i ⊛ k i)
-  by (Err Range) (Err Range) h k = (λ i. h i ⊛ k i)
-  by (Err Range) (Err Memory) h k = absurd k
-  by (Err Memory) s h k = absurd h
+parts {A} {B} u v x y r s q is h k =
+    subst (λ (t : Result (A × B) ReadFault). Reads (λ p. u p.0 (v p.1)) (x ⊛ y) t) (sym is) (by r s h k) where
+      by : (r : Result A ReadFault) (s : Result B ReadFault) → Reads u x r → Reads v y s →
+          Reads (λ p. u p.0 (v p.1)) (x ⊛ y) (both r s)
+      by (Ok a) (Ok b) h k = (λ i. h i ⊛ k i)
+      by (Ok a) (Err Syntax) h k = (λ i. h i ⊛ k i)
+      by (Ok a) (Err Range) h k = (λ i. h i ⊛ k i)
+      by (Ok a) (Err Memory) h k = absurd k
+      by (Err Syntax) (Ok b) h k = (λ i. h i ⊛ k i)
+      by (Err Syntax) (Err Syntax) h k = (λ i. h i ⊛ k i)
+      by (Err Syntax) (Err Range) h k = (λ i. h i ⊛ k i)
+      by (Err Syntax) (Err Memory) h k = absurd k
+      by (Err Range) (Ok b) h k = (λ i. h i ⊛ k i)
+      by (Err Range) (Err Syntax) h k = (λ i. h i ⊛ k i)
+      by (Err Range) (Err Range) h k = (λ i. h i ⊛ k i)
+      by (Err Range) (Err Memory) h k = absurd k
+      by (Err Memory) s h k = absurd h
 
 module _ {A B Y Z : Type 0} (P : (Y → Z) → Type 0) (Q : Y → Type 0) (R : Z → Type 0) (u : A → Y → Z) (v : B → Y) where
-  told : (x : Read (Y → Z)) (y : Read Y) (r : Result A ReadFault) (s : Result B ReadFault) → ((g : Y → Z) (b : Y) → P g → R (g b)) → ((a : A) (b : Y) → Q b → R (u a b))
+  told : (x : Read (Y → Z)) (y : Read Y) (r : Result A ReadFault) (s : Result B ReadFault) →
+      ((g : Y → Z) (b : Y) → P g → R (g b)) → ((a : A) (b : Y) → Q b → R (u a b))
       → Gathers P u x r → Gathers Q v y s → Gathers R (λ p. u p.0 (v p.1)) (x ⊛ y) (both r s)
   told x y (Ok a) (Ok b) first second h k = (λ i. h i ⊛ k i)
   told x y (Ok a) (Err Syntax) first second h k = (λ i. h i ⊛ k i)
   told x y (Ok a) (Err Range) first second h k = (λ i. h i ⊛ k i)
-  told x (Ok b) (Ok a) (Err Memory) first second h k = subst (λ (q : Read (Y → Z)). IsOkAnd (q ⊛ Ok b) R) (sym h) (second a b k)
+  told x (Ok b) (Ok a) (Err Memory) first second h k =
+      subst (λ (q : Read (Y → Z)). IsOkAnd (q ⊛ Ok b) R) (sym h) (second a b k)
   told x (Err f) (Ok a) (Err Memory) first second h k = absurd k
   told x y (Err Syntax) (Ok b) first second h k = (λ i. h i ⊛ k i)
   told x y (Err Syntax) (Err Syntax) first second h k = (λ i. h i ⊛ k i)
@@ -68,7 +76,8 @@ module _ {A B Y Z : Type 0} (P : (Y → Z) → Type 0) (Q : Y → Type 0) (R : Z
   told x y (Err Range) (Err Range) first second h k = (λ i. h i ⊛ k i)
   told x (Ok b) (Err Range) (Err Memory) first second h k = ap (λ (q : Read (Y → Z)). q ⊛ Ok b) h
   told x (Err f) (Err Range) (Err Memory) first second h k = absurd k
-  told (Ok g) y (Err Memory) (Ok b) first second h k = subst (λ (q : Read Y). IsOkAnd (Ok g ⊛ q) R) (sym k) (first g (v b) h)
+  told (Ok g) y (Err Memory) (Ok b) first second h k =
+      subst (λ (q : Read Y). IsOkAnd (Ok g ⊛ q) R) (sym k) (first g (v b) h)
   told (Ok g) y (Err Memory) (Err Syntax) first second h k = ap (λ (q : Read Y). Ok g ⊛ q) k
   told (Ok g) y (Err Memory) (Err Range) first second h k = ap (λ (q : Read Y). Ok g ⊛ q) k
   told (Ok g) (Ok b) (Err Memory) (Err Memory) first second h k = first g b h
@@ -76,18 +85,24 @@ module _ {A B Y Z : Type 0} (P : (Y → Z) → Type 0) (Q : Y → Type 0) (R : Z
   told (Err f) y (Err Memory) s first second h k = absurd h
 
   -- what both tell
-  pub both-parts : (x : Read (Y → Z)) (y : Read Y) (r : Result A ReadFault) (s : Result B ReadFault) (q : Result (A × B) ReadFault) → q ≡ both r s
+  pub both-parts : (x : Read (Y → Z)) (y : Read Y) (r : Result A ReadFault) (s : Result B ReadFault)
+      (q : Result (A × B) ReadFault) → q ≡ both r s
       → ((g : Y → Z) (b : Y) → P g → R (g b)) → ((a : A) (b : Y) → Q b → R (u a b))
       → Gathers P u x r → Gathers Q v y s → Gathers R (λ p. u p.0 (v p.1)) (x ⊛ y) q
-  both-parts x y r s q is first second h k = subst (λ (t : Result (A × B) ReadFault). Gathers R (λ p. u p.0 (v p.1)) (x ⊛ y) t) (sym is) (told x y r s first second h k)
+  both-parts x y r s q is first second h k =
+      subst (λ (t : Result (A × B) ReadFault). Gathers R (λ p. u p.0 (v p.1)) (x ⊛ y) t) (sym is)
+      (told x y r s first second h k)
 
 -- and a fault that is handed on
-handed : {A C B : Type 0} (P : B → Type 0) (view : A → B) (look : C → B) (x : Read B) (f : ReadFault) → Gathers P view x (Err f) → Gathers P look x (Err f)
+handed : {A C B : Type 0} (P : B → Type 0) (view : A → B) (look : C → B) (x : Read B) (f : ReadFault) →
+    Gathers P view x (Err f) → Gathers P look x (Err f)
 handed P view look x Syntax h = h
 handed P view look x Range h = h
 handed P view look x Memory h = h
 
-pub handed-on : {A C B : Type 0} (P : B → Type 0) (view : A → B) (look : C → B) (x : Read B) (r : Result A ReadFault) (q : Result C ReadFault) (f : ReadFault)
+pub handed-on : {A C B : Type 0} (P : B → Type 0) (view : A → B) (look : C → B) (x : Read B) (r : Result A ReadFault)
+    (q : Result C ReadFault) (f : ReadFault)
     → r ≡ Err f → q ≡ Err f → Gathers P view x r → Gathers P look x q
 handed-on P view look x r q f is that h =
-    subst (λ (t : Result _ ReadFault). Gathers P look x t) (sym that) (handed P view look x f (subst (λ (t : Result _ ReadFault). Gathers P view x t) is h))
+    subst (λ (t : Result _ ReadFault). Gathers P look x t) (sym that)
+    (handed P view look x f (subst (λ (t : Result _ ReadFault). Gathers P view x t) is h))

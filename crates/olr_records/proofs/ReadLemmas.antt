@@ -1,28 +1,36 @@
 -- The places that are read are in range.
-use Rattle.std.proofs.Common.{◌≡◌, ℕ, ℤ, Bool, true, false, List, [], ◌∷◌, Option, Some, None, Ok, Err, IsTrue, refl, subst}
+use Rattle.std.proofs.Common.{◌≡◌, ℕ, ℤ, Bool, true, false, List, [], ◌∷◌, Option, Some, None, Ok, Err, IsTrue, refl}
+use Rattle.std.proofs.Common.{subst}
 use Rattle.std.specs.Prelude.{IfOk, if◌then◌else◌}
 use Rattle.std.specs.List.{AllByRecursion}
 use Rattle.std.proofs.lemmas.Bool.{and_from}
 use Rattle.olr_spec.specs.Coordinates.{Coord, is_coord, is_longitude, is_latitude}
 use Rattle.olr_spec.specs.Degrees.{degrees}
-use Rattle.olr_spec.specs.Map.{ShapePoint, Line, are_coords, Edit, Add_node, Move_node, Drop_node, Add_line, Set_line, Drop_line, HasPlace}
+use Rattle.olr_spec.specs.Map.{ShapePoint, Line, are_coords, Edit, Add_node, Move_node, Drop_node, Add_line, Set_line}
+use Rattle.olr_spec.specs.Map.{Drop_line, HasPlace}
 use Rattle.olr_spec.specs.Extension.{Path}
-use Rattle.olr_commands.specs.State.{same_name, Change, Add_path, Set_path, Drop_path, Command, Make, Show, Report, Explain, Begin, Commit, Abort, HasPlaces}
-use Rattle.olr_records.specs.Records.{Field, Read, ◌⊛◌, bounded, digits, number, amount, class, coordinate, longitude, latitude, place, name, point, shape, node_fields, edit, one, none, node_record, line, course, whole_line, line_record, set_line_record, path_fields, path_record, forms, read_by, read}
+use Rattle.olr_commands.specs.State.{same_name, Change, Add_path, Set_path, Drop_path, Command, Make, Show, Report}
+use Rattle.olr_commands.specs.State.{Explain, Begin, Commit, Abort, HasPlaces}
+use Rattle.olr_records.specs.Records.{Field, Read, ◌⊛◌, bounded, digits, number, amount, class, coordinate, longitude}
+use Rattle.olr_records.specs.Records.{latitude, place, name, point, shape, node_fields, edit, one, none, node_record}
+use Rattle.olr_records.specs.Records.{line, course, whole_line, line_record, set_line_record, path_fields, path_record}
+use Rattle.olr_records.specs.Records.{forms, read_by, read}
 
 if_read : {A : Type 0} (P : A → Type 0) (b : Bool) (r q : Read A) → IfOk r P → IfOk q P → IfOk (if b then r else q) P
 if_read P true r q h g = h
 if_read P false r q h g = g
 
 -- of a function all of whose values pass
-given : {A B : Type 0} (P : B → Type 0) (g : Read (A → B)) (r : Read A) → IfOk g (λ f. (a : A) → P (f a)) → IfOk (g ⊛ r) P
+given : {A B : Type 0} (P : B → Type 0) (g : Read (A → B)) (r : Read A) → IfOk g (λ f. (a : A) → P (f a)) →
+    IfOk (g ⊛ r) P
 given P (Ok g) (Ok a) h = h a
 given P (Ok g) (Err f) h = tt
 given P (Err f) (Ok a) h = tt
 given P (Err f) (Err k) h = tt
 
 -- and of one whose values at what is read pass
-given_read : {A B : Type 0} (P : B → Type 0) (Q : A → Type 0) (g : Read (A → B)) (r : Read A) → IfOk r Q → IfOk g (λ f. (a : A) → Q a → P (f a)) → IfOk (g ⊛ r) P
+given_read : {A B : Type 0} (P : B → Type 0) (Q : A → Type 0) (g : Read (A → B)) (r : Read A) → IfOk r Q →
+    IfOk g (λ f. (a : A) → Q a → P (f a)) → IfOk (g ⊛ r) P
 given_read P Q (Ok g) (Ok a) q h = h a q
 given_read P Q (Ok g) (Err f) q h = tt
 given_read P Q (Err f) (Ok a) q h = tt
@@ -30,7 +38,8 @@ given_read P Q (Err f) (Err k) q h = tt
 
 bounded_passes : {A : Type 0} (test : A → Bool) (a : A) → IfOk (bounded (test a) a) (λ x. IsTrue (test x))
 bounded_passes {A} test a =
-    elim (test a) as (λ b. test a ≡ b → IfOk (bounded b a) (λ x. IsTrue (test x))) [ true ↦ λ e. e | false ↦ λ e. tt ] refl
+    elim (test a) as (λ b. test a ≡ b → IfOk (bounded b a) (λ x. IsTrue (test x))) [ true ↦ λ e. e | false ↦ λ e. tt ]
+    refl
 
 coordinate_passes : (test : ℤ → Bool) (o : Option ℤ) → IfOk (coordinate test o) (λ z. IsTrue (test z))
 coordinate_passes test None = tt
@@ -38,9 +47,11 @@ coordinate_passes test (Some z) = bounded_passes test z
 
 place_passes : (lon lat : Field) → IfOk (place lon lat) (λ c. IsTrue (is_coord c))
 place_passes lon lat =
-    given_read (λ c. IsTrue (is_coord c)) (λ z. IsTrue (is_latitude z)) (Ok (λ x y. record { lon = x; lat = y }) ⊛ longitude lon) (latitude lat)
+    given_read (λ c. IsTrue (is_coord c)) (λ z. IsTrue (is_latitude z))
+    (Ok (λ x y. record { lon = x; lat = y }) ⊛ longitude lon) (latitude lat)
     (coordinate_passes is_latitude (degrees lat))
-    (given_read (λ f. (z : ℤ) → IsTrue (is_latitude z) → IsTrue (is_coord (f z))) (λ z. IsTrue (is_longitude z)) (Ok (λ x y. record { lon = x; lat = y })) (longitude lon)
+    (given_read (λ f. (z : ℤ) → IsTrue (is_latitude z) → IsTrue (is_coord (f z))) (λ z. IsTrue (is_longitude z))
+    (Ok (λ x y. record { lon = x; lat = y })) (longitude lon)
     (coordinate_passes is_longitude (degrees lon))
     (λ x h y g. and_from (is_longitude x) (is_latitude y) h g))
 
@@ -50,29 +61,36 @@ PlacePasses p = IsTrue (is_coord p.1)
 node_fields_pass : (fs : List Field) → IfOk (node_fields fs) PlacePasses
 unfolding PlacePasses
 node_fields_pass (node ∷ lon ∷ lat ∷ []) =
-    given_read PlacePasses (λ c. IsTrue (is_coord c)) (Ok (λ x p. (x, p)) ⊛ number node) (place lon lat) (place_passes lon lat)
+    given_read PlacePasses (λ c. IsTrue (is_coord c)) (Ok (λ x p. (x, p)) ⊛ number node) (place lon lat)
+    (place_passes lon lat)
     (given (λ f. (c : Coord) → IsTrue (is_coord c) → PlacePasses (f c)) (Ok (λ x p. (x, p))) (number node) (λ n c h. h))
 node_fields_pass [] = tt
 node_fields_pass (node ∷ []) = tt
 node_fields_pass (node ∷ lon ∷ []) = tt
 node_fields_pass (node ∷ lon ∷ lat ∷ x ∷ fs) = tt
 
-node_places : (g : ℕ → Coord → Edit) → ((n : ℕ) (c : Coord) → IsTrue (is_coord c) → HasPlace (g n c)) → (fs : List Field) → IfOk (node_record g fs) HasPlace
+node_places : (g : ℕ → Coord → Edit) → ((n : ℕ) (c : Coord) → IsTrue (is_coord c) → HasPlace (g n c)) →
+    (fs : List Field) → IfOk (node_record g fs) HasPlace
 unfolding PlacePasses
-node_places g h fs = given_read HasPlace PlacePasses (Ok (λ p. g p.0 p.1)) (node_fields fs) (node_fields_pass fs) (λ p i. h p.0 p.1 i)
+node_places g h fs =
+    given_read HasPlace PlacePasses (Ok (λ p. g p.0 p.1)) (node_fields fs) (node_fields_pass fs) (λ p i. h p.0 p.1 i)
 
 point_passes : (at lon lat : Field) → IfOk (point at lon lat) (λ p. IsTrue (is_coord p.place))
 point_passes at lon lat =
-    given_read (λ p. IsTrue (is_coord p.place)) (λ c. IsTrue (is_coord c)) (Ok (λ x c. record { at = x; place = c }) ⊛ digits 1 999999 at) (place lon lat) (place_passes lon lat)
-    (given (λ f. (c : Coord) → IsTrue (is_coord c) → IsTrue (is_coord (f c).place)) (Ok (λ x c. record { at = x; place = c })) (digits 1 999999 at) (λ x c h. h))
+    given_read (λ p. IsTrue (is_coord p.place)) (λ c. IsTrue (is_coord c))
+    (Ok (λ x c. record { at = x; place = c }) ⊛ digits 1 999999 at) (place lon lat) (place_passes lon lat)
+    (given (λ f. (c : Coord) → IsTrue (is_coord c) → IsTrue (is_coord (f c).place))
+    (Ok (λ x c. record { at = x; place = c })) (digits 1 999999 at) (λ x c h. h))
 
 shape_passes : (fs : List Field) → IfOk (shape fs) (λ ps. IsTrue (are_coords ps))
 shape_passes [] = refl
 shape_passes (at ∷ []) = tt
 shape_passes (at ∷ lon ∷ []) = tt
 shape_passes (at ∷ lon ∷ lat ∷ fs) =
-    given_read (λ ps. IsTrue (are_coords ps)) (λ ps. IsTrue (are_coords ps)) (Ok (λ p ps. p ∷ ps) ⊛ point at lon lat) (shape fs) (shape_passes fs)
-    (given_read (λ g. (ps : List ShapePoint) → IsTrue (are_coords ps) → IsTrue (are_coords (g ps))) (λ p. IsTrue (is_coord p.place)) (Ok (λ p ps. p ∷ ps)) (point at lon lat)
+    given_read (λ ps. IsTrue (are_coords ps)) (λ ps. IsTrue (are_coords ps)) (Ok (λ p ps. p ∷ ps) ⊛ point at lon lat)
+    (shape fs) (shape_passes fs)
+    (given_read (λ g. (ps : List ShapePoint) → IsTrue (are_coords ps) → IsTrue (are_coords (g ps)))
+    (λ p. IsTrue (is_coord p.place)) (Ok (λ p ps. p ∷ ps)) (point at lon lat)
     (point_passes at lon lat)
     (λ p h ps g. and_from (is_coord p.place) (are_coords ps) h g))
 
@@ -82,22 +100,33 @@ ShapePasses c = IsTrue (are_coords c.3)
 course_passes : (frc fow len : Field) (fs : List Field) → IfOk (course frc fow len fs) ShapePasses
 unfolding ShapePasses
 course_passes frc fow len fs =
-    given_read ShapePasses (λ ps. IsTrue (are_coords ps)) (Ok (λ a b c d. (a, b, c, d)) ⊛ class frc ⊛ class fow ⊛ digits 1 1000000 len) (shape fs) (shape_passes fs)
-    (given (λ g. (ps : List ShapePoint) → IsTrue (are_coords ps) → ShapePasses (g ps)) (Ok (λ a b c d. (a, b, c, d)) ⊛ class frc ⊛ class fow) (digits 1 1000000 len)
-    (given (λ g. (n : ℕ) (ps : List ShapePoint) → IsTrue (are_coords ps) → ShapePasses (g n ps)) (Ok (λ a b c d. (a, b, c, d)) ⊛ class frc) (class fow)
-    (given (λ g. (m n : ℕ) (ps : List ShapePoint) → IsTrue (are_coords ps) → ShapePasses (g m n ps)) (Ok (λ a b c d. (a, b, c, d))) (class frc) (λ k m n ps h. h))))
+    given_read ShapePasses (λ ps. IsTrue (are_coords ps))
+    (Ok (λ a b c d. (a, b, c, d)) ⊛ class frc ⊛ class fow ⊛ digits 1 1000000 len) (shape fs) (shape_passes fs)
+    (given (λ g. (ps : List ShapePoint) → IsTrue (are_coords ps) → ShapePasses (g ps))
+    (Ok (λ a b c d. (a, b, c, d)) ⊛ class frc ⊛ class fow) (digits 1 1000000 len)
+    (given (λ g. (n : ℕ) (ps : List ShapePoint) → IsTrue (are_coords ps) → ShapePasses (g n ps))
+    (Ok (λ a b c d. (a, b, c, d)) ⊛ class frc) (class fow)
+    (given (λ g. (m n : ℕ) (ps : List ShapePoint) → IsTrue (are_coords ps) → ShapePasses (g m n ps))
+    (Ok (λ a b c d. (a, b, c, d))) (class frc) (λ k m n ps h. h))))
 
-line_passes : (from to frc fow len : Field) (fs : List Field) → IfOk (whole_line from to (course frc fow len fs)) (λ l. IsTrue (are_coords l.shape))
+line_passes : (from to frc fow len : Field) (fs : List Field) →
+    IfOk (whole_line from to (course frc fow len fs)) (λ l. IsTrue (are_coords l.shape))
 unfolding ShapePasses
 line_passes from to frc fow len fs =
-    given_read (λ l. IsTrue (are_coords l.shape)) ShapePasses (Ok (λ a b c. line a b c.0 c.1 c.2 c.3) ⊛ number from ⊛ number to) (course frc fow len fs) (course_passes frc fow len fs)
-    (given (λ g. (c : ℕ × ℕ × ℕ × List ShapePoint) → ShapePasses c → IsTrue (are_coords (g c).shape)) (Ok (λ a b c. line a b c.0 c.1 c.2 c.3) ⊛ number from) (number to)
-    (given (λ g. (b : ℕ) (c : ℕ × ℕ × ℕ × List ShapePoint) → ShapePasses c → IsTrue (are_coords (g b c).shape)) (Ok (λ a b c. line a b c.0 c.1 c.2 c.3)) (number from) (λ a b c h. h)))
+    given_read (λ l. IsTrue (are_coords l.shape)) ShapePasses
+    (Ok (λ a b c. line a b c.0 c.1 c.2 c.3) ⊛ number from ⊛ number to) (course frc fow len fs)
+    (course_passes frc fow len fs)
+    (given (λ g. (c : ℕ × ℕ × ℕ × List ShapePoint) → ShapePasses c → IsTrue (are_coords (g c).shape))
+    (Ok (λ a b c. line a b c.0 c.1 c.2 c.3) ⊛ number from) (number to)
+    (given (λ g. (b : ℕ) (c : ℕ × ℕ × ℕ × List ShapePoint) → ShapePasses c → IsTrue (are_coords (g b c).shape))
+    (Ok (λ a b c. line a b c.0 c.1 c.2 c.3)) (number from) (λ a b c h. h)))
 
 line_places : (fs : List Field) → IfOk (line_record fs) HasPlace
 line_places (x ∷ from ∷ to ∷ frc ∷ fow ∷ len ∷ fs) =
-    given_read HasPlace (λ l. IsTrue (are_coords l.shape)) (Ok (λ x l. Add_line x l) ⊛ number x) (whole_line from to (course frc fow len fs)) (line_passes from to frc fow len fs)
-    (given (λ g. (l : Line) → IsTrue (are_coords l.shape) → HasPlace (g l)) (Ok (λ x l. Add_line x l)) (number x) (λ x l h. h))
+    given_read HasPlace (λ l. IsTrue (are_coords l.shape)) (Ok (λ x l. Add_line x l) ⊛ number x)
+    (whole_line from to (course frc fow len fs)) (line_passes from to frc fow len fs)
+    (given (λ g. (l : Line) → IsTrue (are_coords l.shape) → HasPlace (g l)) (Ok (λ x l. Add_line x l)) (number x)
+    (λ x l h. h))
 line_places [] = tt
 line_places (a ∷ []) = tt
 line_places (a ∷ b ∷ []) = tt
@@ -108,8 +137,10 @@ line_places (a ∷ b ∷ c ∷ d ∷ e ∷ []) = tt
 set_line_places : (fs : List Field) → IfOk (set_line_record fs) HasPlace
 unfolding ShapePasses
 set_line_places (x ∷ frc ∷ fow ∷ len ∷ fs) =
-    given_read HasPlace ShapePasses (Ok (λ x c. Set_line x c.0 c.1 c.2 c.3) ⊛ number x) (course frc fow len fs) (course_passes frc fow len fs)
-    (given (λ g. (c : ℕ × ℕ × ℕ × List ShapePoint) → ShapePasses c → HasPlace (g c)) (Ok (λ x c. Set_line x c.0 c.1 c.2 c.3)) (number x) (λ x c h. h))
+    given_read HasPlace ShapePasses (Ok (λ x c. Set_line x c.0 c.1 c.2 c.3) ⊛ number x) (course frc fow len fs)
+    (course_passes frc fow len fs)
+    (given (λ g. (c : ℕ × ℕ × ℕ × List ShapePoint) → ShapePasses c → HasPlace (g c))
+    (Ok (λ x c. Set_line x c.0 c.1 c.2 c.3)) (number x) (λ x c h. h))
 set_line_places [] = tt
 set_line_places (a ∷ []) = tt
 set_line_places (a ∷ b ∷ []) = tt
@@ -119,7 +150,8 @@ edit_places : (r : Read Edit) → IfOk r HasPlace → IfOk (edit r) HasPlaces
 edit_places (Ok e) h = h
 edit_places (Err f) h = tt
 
-one_places : {A B : Type 0} (P : B → Type 0) (g : A → B) (r : Field → Read A) (fs : List Field) → ((a : A) → P (g a)) → IfOk (one g r fs) P
+one_places : {A B : Type 0} (P : B → Type 0) (g : A → B) (r : Field → Read A) (fs : List Field) → ((a : A) → P (g a)) →
+    IfOk (one g r fs) P
 one_places P g r [] h = tt
 one_places P g r (f ∷ []) h = given P (Ok g) (r f) h
 one_places P g r (f ∷ k ∷ fs) h = tt
@@ -128,16 +160,19 @@ none_places : (c : Command) (fs : List Field) → HasPlaces c → IfOk (none c f
 none_places c [] h = h
 none_places c (f ∷ fs) h = tt
 
-path_places : (g : List ℕ → Path → Change) → ((n : List ℕ) (p : Path) → HasPlaces (Make (g n p))) → (fs : List Field) → IfOk (path_record g fs) HasPlaces
+path_places : (g : List ℕ → Path → Change) → ((n : List ℕ) (p : Path) → HasPlaces (Make (g n p))) → (fs : List Field) →
+    IfOk (path_record g fs) HasPlaces
 path_places g h fs = given HasPlaces (Ok (λ p. Make (g p.0 p.1))) (path_fields fs) (λ p. h p.0 p.1)
 
 Passes : (List Field → Read Command) → Type 0
 Passes form = (fs : List Field) → IfOk (form fs) HasPlaces
 
-by_passes : (rs : List (Field × (List Field → Read Command))) → AllByRecursion (λ r. Passes r.1) rs → (word : Field) (fs : List Field) → IfOk (read_by rs word fs) HasPlaces
+by_passes : (rs : List (Field × (List Field → Read Command))) → AllByRecursion (λ r. Passes r.1) rs →
+    (word : Field) (fs : List Field) → IfOk (read_by rs word fs) HasPlaces
 unfolding Passes
 by_passes [] h word fs = tt
-by_passes (r ∷ rs) h word fs = if_read HasPlaces (same_name word r.0) (r.1 fs) (read_by rs word fs) (h.0 fs) (by_passes rs h.1 word fs)
+by_passes (r ∷ rs) h word fs =
+    if_read HasPlaces (same_name word r.0) (r.1 fs) (read_by rs word fs) (h.0 fs) (by_passes rs h.1 word fs)
 
 forms_pass : AllByRecursion (λ r. Passes r.1) forms
 unfolding Passes

@@ -1,5 +1,6 @@
 -- Lines, and texts of several lines.
-use Rattle.std.proofs.Common.{◌≡◌, ℕ, ◌+◌, ◌<◌, List, [], ◌∷◌, ◌++◌, length, take, get_or, map, refl, sym, ap, ◌∙◌, append_assoc, arith, ◌≤◌, ◌^◌}
+use Rattle.std.proofs.Common.{◌≡◌, ℕ, ◌+◌, ◌<◌, List, [], ◌∷◌, ◌++◌, length, take, get_or, map, refl, sym, ap, ◌∙◌}
+use Rattle.std.proofs.Common.{append_assoc, arith, ◌≤◌, ◌^◌}
 use Rattle.std.specs.Prelude.{codes, decimal}
 use Rattle.std.specs.List.{join_with_byte, concat}
 use Rattle.std.proofs.lemmas.Fmt.{length-decimal-le}
@@ -8,7 +9,8 @@ use Rattle.std.proofs.lemmas.List.Folds.{concat-append}
 use Rattle.olr_spec.specs.Reference.{Reference}
 use Rattle.olr_commands.specs.Words.{entry_of}
 use Rattle.olr_commands.specs.declared.reply.Entry.{Entry}
-use Rattle.olr_records.specs.ReplyText.{after_commas, line, entry_line, accepted, first_line, middle_line, last_line, offset_lines, reference_lines}
+use Rattle.olr_records.specs.ReplyText.{after_commas, line, entry_line, accepted, first_line, middle_line, last_line}
+use Rattle.olr_records.specs.ReplyText.{offset_lines, reference_lines}
 
 joined : (f : List ℕ) (fs : List (List ℕ)) → join_with_byte 44 (f ∷ fs) ≡ f ++ after_commas fs
 joined f [] = sym (append-nil f)
@@ -18,7 +20,8 @@ joined f (g ∷ gs) = ap (λ (r : List ℕ). f ++ 44 ∷ r) (joined g gs)
 pub fields-line : (t w a b : List ℕ) (fs : List (List ℕ))
     → (t ++ w) ++ 44 ∷ (a ++ 44 ∷ (b ++ (after_commas fs ++ 10 ∷ []))) ≡ t ++ line (w ∷ a ∷ b ∷ fs)
 fields-line t w a b fs =
-    let inside : (t ++ w) ++ 44 ∷ (a ++ 44 ∷ (b ++ (after_commas fs ++ 10 ∷ []))) ≡ t ++ ((w ++ after_commas (a ∷ b ∷ fs)) ++ 10 ∷ []) = simp append_assoc refl in
+    let inside : (t ++ w) ++ 44 ∷ (a ++ 44 ∷ (b ++ (after_commas fs ++ 10 ∷ []))) ≡ t
+    ++ ((w ++ after_commas (a ∷ b ∷ fs)) ++ 10 ∷ []) = simp append_assoc refl in
     inside ∙ ap (λ (r : List ℕ). t ++ (r ++ 10 ∷ [])) (sym (joined w (a ∷ b ∷ fs)))
 
 -- the lines of one item more
@@ -26,7 +29,12 @@ pub lines-more : {A : Type 0} (f : A → List ℕ) (t : List ℕ) (xs : List A) 
     → (t ++ concat (map f (take k xs))) ++ f (get_or xs k d) ≡ t ++ concat (map f (take (k + 1) xs))
 lines-more f t xs k d lt =
     let last : concat (f (get_or xs k d) ∷ []) ≡ f (get_or xs k d) = append-nil (f (get_or xs k d)) in
-    rw (take_more xs k d lt, map-append f (take k xs) (get_or xs k d ∷ []), concat-append (map f (take k xs)) (f (get_or xs k d) ∷ []), last)
+    rw (
+      take_more xs k d lt,
+      map-append f (take k xs) (get_or xs k d ∷ []),
+      concat-append (map f (take k xs)) (f (get_or xs k d) ∷ []),
+      last,
+    )
     (append_assoc t (concat (map f (take k xs))) (f (get_or xs k d)))
 
 pub entry-lines : (es : List Entry) → map (λ e. entry_line (entry_of e)) es ≡ map entry_line (map entry_of es)
@@ -34,12 +42,15 @@ entry-lines [] = refl
 entry-lines (e ∷ es) = ap (λ (ls : List (List ℕ)). entry_line (entry_of e) ∷ ls) (entry-lines es)
 
 -- the text of a reference, part by part
-parts : (t l f x : List ℕ) (m p n : List (List ℕ)) → (((((t ++ l) ++ f) ++ concat m) ++ x) ++ concat p) ++ concat n ≡ t ++ (l ++ concat (f ∷ (m ++ x ∷ (p ++ n))))
+parts : (t l f x : List ℕ) (m p n : List (List ℕ)) →
+    (((((t ++ l) ++ f) ++ concat m) ++ x) ++ concat p) ++ concat n ≡ t ++ (l ++ concat (f ∷ (m ++ x ∷ (p ++ n))))
 parts t l f x m p n = rw (concat-append m (x ∷ (p ++ n)), concat-append p n) (simp append_assoc refl)
 
 pub reference-text : (t : List ℕ) (r : Reference) (n : ℕ)
-    → n ≡ length r.middle + 2 + (length (offset_lines (codes "positive") r.pos) + length (offset_lines (codes "negative") r.neg))
-    → (((((t ++ line (codes "ok" ∷ decimal n ∷ [])) ++ first_line r.first) ++ concat (map middle_line r.middle)) ++ last_line r.last)
+    → n ≡ length r.middle + 2
+    + (length (offset_lines (codes "positive") r.pos) + length (offset_lines (codes "negative") r.neg))
+    → (((((t ++ line (codes "ok" ∷ decimal n ∷ [])) ++ first_line r.first) ++ concat (map middle_line r.middle))
+    ++ last_line r.last)
     ++ concat (offset_lines (codes "positive") r.pos)) ++ concat (offset_lines (codes "negative") r.neg)
     ≡ t ++ accepted (reference_lines r)
 reference-text t r n e =
@@ -47,7 +58,12 @@ reference-text t r n e =
     let positive = offset_lines (codes "positive") r.pos in
     let negative = offset_lines (codes "negative") r.neg in
     let count : n ≡ length (reference_lines r) =
-    omega (arith, length-map r.middle middle_line, length-append middle (last_line r.last ∷ (positive ++ negative)), length-append positive negative)
+    omega (
+      arith,
+      length-map r.middle middle_line,
+      length-append middle (last_line r.last ∷ (positive ++ negative)),
+      length-append positive negative,
+    )
     in
     parts t (line (codes "ok" ∷ decimal n ∷ [])) (first_line r.first) (last_line r.last) middle positive negative
     ∙ ap (λ (k : ℕ). t ++ (line (codes "ok" ∷ decimal k ∷ []) ++ concat (reference_lines r))) count

@@ -1,16 +1,17 @@
 -- What command the fields of a record read as.
---     Read A      a value, or why there is none.        g ⊛ r      both read: where neither is, Syntax is told before Range
---     digits low high f, longitude f, latitude f, name f      a field as a number, a coordinate or a name
---     read fields      the command
---     HoldsList c, TakesMemory fields      the commands and the records whose reading takes memory
-use Rattle.std.specs.Prelude.{ℕ, ◌<◌, Bool, ◌&&◌, ◌||◌, List, [], ◌∷◌, length, nat_le, ◌==◌, ℤ, Option, Some, None, Result, Ok, Err, IsOkAnd, codes, if◌then◌else◌, ⊤}
+--     Read A a value, or why there is none. g ⊛ r both read: where neither is, Syntax is told before Range digits low
+--     high f, longitude f, latitude f, name f a field as a number, a coordinate or a name read fields the command
+--     HoldsList c, TakesMemory fields the commands and the records whose reading takes memory
+use Rattle.std.specs.Prelude.{ℕ, ◌<◌, Bool, ◌&&◌, ◌||◌, List, [], ◌∷◌, length, nat_le, ◌==◌, ℤ, Option, Some, None}
+use Rattle.std.specs.Prelude.{Result, Ok, Err, IsOkAnd, codes, if◌then◌else◌, ⊤}
 use Rattle.std.specs.List.{list_all}
 use Rattle.std.specs.Char.{is_ascii_alphanumeric}
 use Rattle.olr_spec.specs.Coordinates.{Coord, is_longitude, is_latitude}
 use Rattle.olr_spec.specs.Degrees.{are_digits, digits_value, degrees}
 use Rattle.olr_spec.specs.Map.{ShapePoint, Line, Edit, Add_node, Move_node, Drop_node, Add_line, Set_line, Drop_line}
 use Rattle.olr_spec.specs.Extension.{Path}
-use Rattle.olr_commands.specs.State.{same_name, Fault, Syntax, Range, Change, On_map, Add_path, Set_path, Drop_path, Command, Make, Show, Report, Explain, Begin, Commit, Abort}
+use Rattle.olr_commands.specs.State.{same_name, Fault, Syntax, Range, Change, On_map, Add_path, Set_path, Drop_path}
+use Rattle.olr_commands.specs.State.{Command, Make, Show, Report, Explain, Begin, Commit, Abort}
 
 -- the fields of a record, or one field, by their bytes
 abbrev pub Field : Type 0
@@ -42,7 +43,8 @@ bounded b a = if b then Ok a else Err Out_of_range
 -- one or more digits, of a value from low to high
 abbrev pub digits : ℕ → ℕ → Field → Read ℕ
 digits low high f =
-    if are_digits f then bounded (nat_le low (digits_value f) && nat_le (digits_value f) high) (digits_value f) else Err Bad_form
+    if are_digits f then bounded (nat_le low (digits_value f) && nat_le (digits_value f) high) (digits_value f) else Err
+    Bad_form
 
 -- the greatest number of 32 bits
 abbrev pub max32 : ℕ
@@ -129,7 +131,8 @@ abbrev pub whole_line : Field → Field → Read (ℕ × ℕ × ℕ × List Shap
 whole_line from to rest = Ok (λ a b c. line a b c.0 c.1 c.2 c.3) ⊛ number from ⊛ number to ⊛ rest
 
 abbrev pub line_record : List Field → Read Edit
-line_record (x ∷ from ∷ to ∷ frc ∷ fow ∷ len ∷ fs) = Ok (λ x l. Add_line x l) ⊛ number x ⊛ whole_line from to (course frc fow len fs)
+line_record (x ∷ from ∷ to ∷ frc ∷ fow ∷ len ∷ fs) =
+    Ok (λ x l. Add_line x l) ⊛ number x ⊛ whole_line from to (course frc fow len fs)
 line_record _ = Err Bad_form
 
 abbrev pub set_line_record : List Field → Read Edit
@@ -138,7 +141,8 @@ set_line_record _ = Err Bad_form
 
 -- a name, two offsets and the lines
 abbrev pub path_fields : List Field → Read (List ℕ × Path)
-path_fields (n ∷ pos ∷ neg ∷ fs) = Ok (λ n p q ls. (n, record { lines = ls; pos = p; neg = q })) ⊛ name n ⊛ amount pos ⊛ amount neg ⊛ numbers fs
+path_fields (n ∷ pos ∷ neg ∷ fs) =
+    Ok (λ n p q ls. (n, record { lines = ls; pos = p; neg = q })) ⊛ name n ⊛ amount pos ⊛ amount neg ⊛ numbers fs
 path_fields _ = Err Bad_form
 
 abbrev pub path_record : (List ℕ → Path → Change) → List Field → Read Command

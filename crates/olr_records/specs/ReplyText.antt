@@ -8,7 +8,9 @@ use Rattle.olr_spec.specs.Reference.{Attrs, First, Middle, Last, Reference}
 use Rattle.olr_spec.specs.Encoding.{Refusal, Unknown_line, Broken, Offset_too_long, No_next_point}
 use Rattle.olr_spec.specs.Bytes.{V3Fault, Length, Flags, Reserved}
 use Rattle.olr_spec.specs.Bytes as b
-use Rattle.olr_commands.specs.State.{TextFault, Not_base64, Not_v3, Fault, Syntax, Range, Map_fault, Path_exists, No_path, Bad_path, Not_a_reference, Memory, Batch_open, No_batch, Count_differs, Batch_full}
+use Rattle.olr_commands.specs.State.{TextFault, Not_base64, Not_v3, Fault, Syntax, Range, Map_fault, Path_exists}
+use Rattle.olr_commands.specs.State.{No_path, Bad_path, Not_a_reference, Memory, Batch_open, No_batch, Count_differs}
+use Rattle.olr_commands.specs.State.{Batch_full}
 use Rattle.olr_commands.specs.Reply.{Entry, Reply, Paths, Fields, Held, Outcome}
 
 -- each field after a comma
@@ -46,7 +48,9 @@ abbrev pub middle_line : Middle → List ℕ
 middle_line p = line (codes "middle" ∷ signed_decimal p.dlon ∷ signed_decimal p.dlat ∷ attr_fields p.attrs)
 
 abbrev pub last_line : Last → List ℕ
-last_line p = line (codes "last" ∷ signed_decimal p.dlon ∷ signed_decimal p.dlat ∷ decimal p.frc ∷ decimal p.fow ∷ decimal p.bearing ∷ [])
+last_line p =
+    line (codes "last" ∷ signed_decimal p.dlon ∷ signed_decimal p.dlat ∷ decimal p.frc ∷ decimal p.fow ∷ decimal
+    p.bearing ∷ [])
 
 -- a byte, where there is an offset
 abbrev pub offset_lines : List ℕ → Option ℕ → List (List ℕ)
@@ -55,7 +59,8 @@ offset_lines word (Some n) = line (word ∷ decimal n ∷ []) ∷ []
 
 abbrev pub reference_lines : Reference → List (List ℕ)
 reference_lines r =
-    first_line r.first ∷ (map middle_line r.middle ++ last_line r.last ∷ (offset_lines (codes "positive") r.pos ++ offset_lines (codes "negative") r.neg))
+    first_line r.first ∷ (map middle_line r.middle ++ last_line r.last
+    ∷ (offset_lines (codes "positive") r.pos ++ offset_lines (codes "negative") r.neg))
 
 -- ---- replies
 

@@ -1,5 +1,6 @@
 //! The fields of a record, each read by its form and then by its bounds.
-ghost use Rattle.std.specs.Prelude.{◌≡◌, ◌≤◌, ◌^◌, [], IsTrue, IfOk, IfSome, is_some, length, min, slice_index_or, string_bytes, ⊤};
+ghost use Rattle.std.specs.Prelude.{◌≡◌, ◌≤◌, ◌^◌, [], IsTrue, IfOk, IfSome, is_some, length, min, slice_index_or};
+ghost use Rattle.std.specs.Prelude.{string_bytes, ⊤};
 ghost use Rattle.std.specs.Char.{is_ascii_digit};
 ghost use Rattle.std.specs.List.{list_all};
 ghost use Rattle.csv.specs.Records.{fields_of};

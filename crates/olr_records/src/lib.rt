@@ -8,8 +8,8 @@ pub mod laws;
 mod lines;
 mod parts;
 mod paths;
-pub mod read;
-pub mod reply;
+mod read;
+mod reply;
 pub mod rows;
 mod texts;
 

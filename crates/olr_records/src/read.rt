@@ -15,8 +15,8 @@ use olr_commands::Command;
 use std::alloc::Global;
 
 /// The command that a record spells. A record of no command's form is `Syntax`; one that has the form of a command and
-/// a value out of bounds is `Range`, wherever the two stand. `Memory` comes only of a record that spells a command with a
-/// name, some text or shape points.
+/// a value out of bounds is `Range`, wherever the two stand. `Memory` comes only of a record that spells a command with
+/// a name, some text or shape points.
 pub fn read_command(alloc: Global, fields: &ByteRecord) -> Result<Command, ReadFault>
     ensures { IsRead (records.read (fields_of fields.now)) result }
 {
@@ -54,20 +54,20 @@ fn read_by(alloc: Global, word: &[u8], fields: &ByteRecord) -> Result<Command, R
     } else if is(b"show") {
         show(alloc, fields)
     } else if is(b"begin") {
-        alone(fields, Command::Begin)
+        single_word(fields, Command::Begin)
     } else if is(b"commit") {
         commit(fields)
     } else if is(b"abort") {
-        alone(fields, Command::Abort)
+        single_word(fields, Command::Abort)
     } else if is(b"report") {
-        alone(fields, Command::Report)
+        single_word(fields, Command::Report)
     } else {
         Err(ReadFault::Syntax)
     }
 }
 
 /// A command whose record is its word alone.
-fn alone(fields: &ByteRecord, command: Command) -> Result<Command, ReadFault>
+fn single_word(fields: &ByteRecord, command: Command) -> Result<Command, ReadFault>
     ensures { IsRead (records.none (command_of command) (drop 1 (fields_of fields.now))) result }
 {
     if fields.len() > 1 {

@@ -37,7 +37,8 @@ fn put_byte(line: &mut [u8], end: usize, byte: u8) -> usize
     end - 1
 }
 
-/// Writes a number before what stands from `end` on, and returns where it starts. Most numbers of a point are one digit.
+/// Writes a number before what stands from `end` on, and returns where it starts. Most numbers of a point are one
+/// digit.
 fn put_byte_number(line: &mut [u8], end: usize, number: u8) -> usize
     requires within { end ≤ length line.old }
     requires room { 3 ≤ end }

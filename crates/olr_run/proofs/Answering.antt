@@ -12,11 +12,15 @@ use Rattle.olr_records.specs.declared.faults.ReadFault.TheVariants.{Syntax, Rang
 use Rattle.olr_run.specs.Output.{CommandOutcome, RecordOutcome}
 
 -- of a record that reads as a command
-pub commanded : (s t : State) (fields : List Field) (c : Command) (o : Outcome) → IsRead (read fields) (Ok c) → IsOutcome s (command_of c) o t → RecordOutcome s fields o t
+pub commanded : (s t : State) (fields : List Field) (c : Command) (o : Outcome) → IsRead (read fields) (Ok c) →
+    IsOutcome s (command_of c) o t → RecordOutcome s fields o t
 commanded s t fields c o e h = inl (subst (λ (r : Read state.Command). CommandOutcome s r o t) (sym e) h)
 
 -- and of one that can't be read
-pub unread : (s : State) (fields : List Field) (f : ReadFault) → IsRead (read fields) (Err f) → RecordOutcome s fields (Err (read_fault_of f)) s
-unread s fields Syntax e = inl (subst (λ (r : Read state.Command). CommandOutcome s r (Err state.Syntax) s) (sym e) (refl, refl))
-unread s fields Range e = inl (subst (λ (r : Read state.Command). CommandOutcome s r (Err state.Range) s) (sym e) (refl, refl))
+pub unread : (s : State) (fields : List Field) (f : ReadFault) → IsRead (read fields) (Err f) →
+    RecordOutcome s fields (Err (read_fault_of f)) s
+unread s fields Syntax e =
+    inl (subst (λ (r : Read state.Command). CommandOutcome s r (Err state.Syntax) s) (sym e) (refl, refl))
+unread s fields Range e =
+    inl (subst (λ (r : Read state.Command). CommandOutcome s r (Err state.Range) s) (sym e) (refl, refl))
 unread s fields Memory e = inr (e, (refl, refl))

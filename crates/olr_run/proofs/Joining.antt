@@ -1,5 +1,6 @@
 -- Two runs on one register are one over the records of both.
-use Rattle.std.proofs.Common.{◌≡◌, ◌∙◌, ◌≢◌, ◌+◌, ℕ, Bool, true, false, List, [], ◌∷◌, ◌++◌, length, length-append, None, Some, Result, Ok, Err, inl, inr, refl, sym, ap, subst}
+use Rattle.std.proofs.Common.{◌≡◌, ◌∙◌, ◌≢◌, ◌+◌, ℕ, Bool, true, false, List, [], ◌∷◌, ◌++◌, length, length-append}
+use Rattle.std.proofs.Common.{None, Some, Result, Ok, Err, inl, inr, refl, sym, ap, subst}
 use Rattle.std.specs.Prelude.{◌&&◌, ◌||◌, is_err, if◌then◌else◌, OnErr}
 use Rattle.std.proofs.lemmas.List.{append-nil, append_assoc}
 use Rattle.std.proofs.lemmas.List.Concat.{flat_map-append}
@@ -7,37 +8,58 @@ use Rattle.std.proofs.lemmas.List.Folds.{list_any-append}
 use Rattle.std.proofs.KnownBytes.{Appends-nil, Appends-trans}
 use Rattle.csv.proofs.OnLiterals.{csv_on_literals}
 use Rattle.olr_commands.specs.Reply.{Outcome}
-use Rattle.olr_commands.specs.State.{IsContent, State}
+use Rattle.olr_commands.specs.State.{IsContent}
 use Rattle.olr_commands.proofs.HistoryLemmas.{run_join, run_longer}
 use Rattle.olr_records.specs.Records.{Field}
 use Rattle.olr_records.specs.ReplyText.{outcome_text}
-use Rattle.olr_register.specs.Kept.{Stands}
 use Rattle.olr_register.specs.Registered.{Registered}
 use Rattle.olr_run.specs.Output as output
-use Rattle.olr_run.specs.Output.{SoundOutcome, SoundOutcomes, Claims, StopsAtFault, any_refused, AreAll, texts, Ran, CutOff, Nothing, In_last, Faulted, greater}
+use Rattle.olr_run.specs.Output.{SoundOutcome, SoundOutcomes, Claims, StopsAtFault, any_refused, AreAll, texts, Ran}
+use Rattle.olr_run.specs.Output.{CutOff, Nothing, In_last, Faulted, greater}
 use Rattle.olr_run.specs.Runs.{Known, Records, known_records, known_both, status_of, RanOn, FaultedOn}
 use Rattle.olr_run.specs.declared.ends.RunFault.{RunFault}
 use Rattle.olr_run.specs.declared.ends.Status.{Status}
 use Rattle.olr_run.specs.declared.ends.Status.TheVariants as status
 use Rattle.olr_run.proofs.RunLemmas.{claims_of}
-use Rattle.olr_run.proofs.Running.{cut_whole}
+use Rattle.olr_run.proofs.Running.{cut_whole, standing}
 
 -- no bytes are no records
-pub no_file : (stop : Bool) (old : Registered) (before : Known) → RanOn SoundOutcomes stop old (known_records (Some [])) before old before status.AllAccepted
+pub no_file : (stop : Bool) (old : Registered) (before : Known) →
+    RanOn SoundOutcomes stop old (known_records (Some [])) before old before status.AllAccepted
 unfolding csv_on_literals
-no_file stop old before s stands = (s, stands, [], Appends-nil before, record { outcomes = []; each = refl; stops = tt; all = inl refl; wrote = refl; ended = refl })
+no_file stop old before s stands = (
+  s,
+  stands,
+  [],
+  Appends-nil before,
+  record { outcomes = []; each = refl; stops = tt; all = inl refl; wrote = refl; ended = refl },
+)
 
 -- the claims hold of a run whose outcomes leave the content sound
-pub only_sound : (stop : Bool) (old : Registered) (records : Records) (before : Known) (new : Registered) (later : Known) (end : Status)
+pub only_sound : (stop : Bool) (old : Registered) (records : Records) (before : Known) (new : Registered)
+    (later : Known) (end : Status)
     → RanOn Claims stop old records before new later end → RanOn SoundOutcomes stop old records before new later end
 only_sound stop old None before new later end h = tt
 only_sound stop old (Some rs) before new later end h =
     λ s stands.
     let r = h s stands in
-    let ran = r.4 in
-    (r.0, r.1, r.2, r.3, record { outcomes = ran.outcomes; each = ran.each.run; stops = ran.stops; all = ran.all; wrote = ran.wrote; ended = ran.ended })
+    let ran = r.4 in (
+      r.0,
+      r.1,
+      r.2,
+      r.3,
+      record {
+        outcomes = ran.outcomes;
+        each = ran.each.run;
+        stops = ran.stops;
+        all = ran.all;
+        wrote = ran.wrote;
+        ended = ran.ended;
+      },
+    )
 
-pub only_sound_faulted : (stop : Bool) (old : Registered) (records : Records) (before : Known) (new : Registered) (later : Known)
+pub only_sound_faulted : (stop : Bool) (old : Registered) (records : Records) (before : Known) (new : Registered)
+    (later : Known)
     → FaultedOn Claims stop old records before new later → FaultedOn SoundOutcomes stop old records before new later
 only_sound_faulted stop old None before new later h = tt
 only_sound_faulted stop old (Some rs) before new later h =
@@ -58,46 +80,59 @@ both_false true true b e = absurd cc
 both_false true false b e = (refl, e)
 both_false false a b e = (refl, refl)
 
-stops_join : (stop : Bool) (os qs : List Outcome) → (stop && any_refused os) ≡ false → StopsAtFault stop os → StopsAtFault stop qs → StopsAtFault stop (os ++ qs)
+stops_join : (stop : Bool) (os qs : List Outcome) → (stop && any_refused os) ≡ false → StopsAtFault stop os →
+    StopsAtFault stop qs → StopsAtFault stop (os ++ qs)
 stops_join stop [] qs n h k = k
 stops_join stop (o ∷ os) qs n h k =
     let parts = both_false stop (is_err o) (any_refused os) n in
     (λ e. let never : true ≡ false = sym e ∙ parts.0 in absurd cc, stops_join stop os qs parts.1 h.1 k)
 
 -- a run that was not stopped refused nothing where stop is set
-goes_on : (stop : Bool) (p : Status) (os : List Outcome) → p ≢ status.Stopped → status_of p ≡ output.run_status stop os → (stop && any_refused os) ≡ false
+goes_on : (stop : Bool) (p : Status) (os : List Outcome) → p ≢ status.Stopped →
+    status_of p ≡ output.run_status stop os → (stop && any_refused os) ≡ false
 goes_on false p os n e = refl
 goes_on true p os n e = by p (any_refused os) n e where
-  by : (p : Status) (b : Bool) → p ≢ status.Stopped → status_of p ≡ (if b then output.Stopped else output.All_accepted) → b ≡ false
+  by : (p : Status) (b : Bool) → p ≢ status.Stopped →
+      status_of p ≡ (if b then output.Stopped else output.All_accepted) → b ≡ false
   by p false n e = refl
   by status.AllAccepted true n e = absurd cc
   by status.SomeRefused true n e = absurd cc
   by status.Stopped true n e = absurd (n refl)
 
-all_whole : (stop : Bool) (rs : List (List Field)) (os : List Outcome) → (stop && any_refused os) ≡ false → AreAll stop rs os → length os ≡ length rs
+all_whole : (stop : Bool) (rs : List (List Field)) (os : List Outcome) → (stop && any_refused os) ≡ false →
+    AreAll stop rs os → length os ≡ length rs
 all_whole stop rs os n (inl h) = h
 all_whole stop rs os n (inr h) = let never : true ≡ false = sym h ∙ n in absurd cc
 
-all_join : (stop : Bool) (rs ms : List (List Field)) (os qs : List Outcome) → length os ≡ length rs → AreAll stop ms qs → AreAll stop (rs ++ ms) (os ++ qs)
+all_join : (stop : Bool) (rs ms : List (List Field)) (os qs : List Outcome) → length os ≡ length rs →
+    AreAll stop ms qs → AreAll stop (rs ++ ms) (os ++ qs)
 all_join stop rs ms os qs l (inl h) = inl (length-append os qs ∙ (λ i. l i + h i) ∙ sym (length-append rs ms))
-all_join stop rs ms os qs l (inr h) = inr (ap (λ (x : Bool). stop && x) (list_any-append is_err os qs) ∙ still stop (any_refused os) (any_refused qs) h) where
-  still : (stop a b : Bool) → (stop && b) ≡ true → (stop && (a || b)) ≡ true
-  still true true b h = refl
-  still true false b h = h
-  still false a b h = absurd cc
+all_join stop rs ms os qs l (inr h) =
+    inr (ap (λ (x : Bool). stop && x) (list_any-append is_err os qs)
+    ∙ still stop (any_refused os) (any_refused qs) h) where
+      still : (stop a b : Bool) → (stop && b) ≡ true → (stop && (a || b)) ≡ true
+      still true true b h = refl
+      still true false b h = h
+      still false a b h = absurd cc
 
-stopped_is : (stop b : Bool) → output.Stopped ≡ (if b then (if stop then output.Stopped else output.Some_refused) else output.All_accepted) → (stop && b) ≡ true
+stopped_is : (stop b : Bool) →
+    output.Stopped ≡ (if b then (if stop then output.Stopped else output.Some_refused) else output.All_accepted) →
+    (stop && b) ≡ true
 stopped_is true true e = refl
 stopped_is true false e = absurd cc
 stopped_is false true e = absurd cc
 stopped_is false false e = absurd cc
 
-status_join : (stop : Bool) (os qs : List Outcome) → (stop && any_refused os) ≡ false → greater (output.run_status stop os) (output.run_status stop qs) ≡ output.run_status stop (os ++ qs)
+status_join : (stop : Bool) (os qs : List Outcome) → (stop && any_refused os) ≡ false →
+    greater (output.run_status stop os) (output.run_status stop qs) ≡ output.run_status stop (os ++ qs)
 status_join stop os qs n =
-    by stop (any_refused os) (any_refused qs) n ∙ ap (λ (x : Bool). if x then (if stop then output.Stopped else output.Some_refused) else output.All_accepted) (sym (list_any-append is_err os qs))
+    by stop (any_refused os) (any_refused qs) n
+    ∙ ap (λ (x : Bool). if x then (if stop then output.Stopped else output.Some_refused) else output.All_accepted)
+    (sym (list_any-append is_err os qs))
   where
     by : (stop a b : Bool) → (stop && a) ≡ false
-        → greater (if a then (if stop then output.Stopped else output.Some_refused) else output.All_accepted) (if b then (if stop then output.Stopped else output.Some_refused) else output.All_accepted)
+        → greater (if a then (if stop then output.Stopped else output.Some_refused) else output.All_accepted)
+        (if b then (if stop then output.Stopped else output.Some_refused) else output.All_accepted)
         ≡ (if a || b then (if stop then output.Stopped else output.Some_refused) else output.All_accepted)
     by true true b n = absurd cc
     by true false b n = refl
@@ -112,17 +147,18 @@ cut_join : (os qs : List Outcome) (second : List ℕ) → CutOff qs second → C
 cut_join os qs second (Nothing none empty) =
     subst (λ (x : List Outcome). CutOff (os ++ x) (texts os ++ second)) (sym none)
     (subst (λ (x : List ℕ). CutOff (os ++ []) (texts os ++ x)) (sym empty)
-    (subst (λ (x : List Outcome). CutOff x (texts os ++ [])) (sym (append-nil os)) (subst (CutOff os) (sym (append-nil (texts os))) (cut_whole os))))
+    (subst (λ (x : List Outcome). CutOff x (texts os ++ [])) (sym (append-nil os))
+    (subst (CutOff os) (sym (append-nil (texts os))) (cut_whole os))))
 cut_join os qs second (In_last before last front rest are text wrote) =
-    In_last (os ++ before) last front rest (ap (λ (x : List Outcome). os ++ x) are ∙ sym (append_assoc os before (last ∷ []))) text
-    (ap (λ (x : List ℕ). texts os ++ x) wrote ∙ sym (append_assoc (texts os) (texts before) front) ∙ ap (λ (x : List ℕ). x ++ front) (sym (texts_join os before)))
+    In_last (os ++ before) last front rest (ap (λ (x : List Outcome). os ++ x) are
+    ∙ sym (append_assoc os before (last ∷ []))) text
+    (ap (λ (x : List ℕ). texts os ++ x) wrote ∙ sym (append_assoc (texts os) (texts before) front)
+    ∙ ap (λ (x : List ℕ). x ++ front) (sym (texts_join os before)))
 
 -- ---- both runs
 
-content_is : (old : Registered) (s : State) → IsContent old.kept.content → Stands old.kept s → IsContent s.content
-content_is old s sound stands = subst IsContent stands.0 sound
-
-pub both_stopped : (stop : Bool) (old mid : Registered) (first second : Records) (before later : Known) (p : Status) → IsContent old.kept.content → RanOn SoundOutcomes stop old first before mid later p → p ≡ status.Stopped
+pub both_stopped : (stop : Bool) (old mid : Registered) (first second : Records) (before later : Known) (p : Status) →
+    IsContent old.kept.content → RanOn SoundOutcomes stop old first before mid later p → p ≡ status.Stopped
     → RanOn Claims stop old (known_both first second) before mid later p
 both_stopped stop old mid None second before later p base h e = tt
 both_stopped stop old mid (Some rs) None before later p base h e = tt
@@ -137,7 +173,9 @@ both_stopped stop old mid (Some rs) (Some ms) before later p base h e =
       r.3,
       record {
         outcomes = ran.outcomes;
-        each = claims_of s (rs ++ ms) ran.outcomes r.0 (content_is old s base stands) (run_longer SoundOutcome s r.0 rs ms ran.outcomes ran.each);
+        each =
+            claims_of s (rs ++ ms) ran.outcomes r.0 (standing old s base stands)
+            (run_longer SoundOutcome s r.0 rs ms ran.outcomes ran.each);
         stops = ran.stops;
         all = inr (stopped_is stop (any_refused ran.outcomes) stopped);
         wrote = ran.wrote;
@@ -145,8 +183,11 @@ both_stopped stop old mid (Some rs) (Some ms) before later p base h e =
       },
     )
 
-pub both_ran : (stop : Bool) (old mid new : Registered) (first second : Records) (before now later : Known) (p q end : Status) → IsContent old.kept.content → RanOn SoundOutcomes stop old first before mid now p → p ≢ status.Stopped
-    → RanOn Claims stop mid second now new later q → status_of end ≡ greater (status_of p) (status_of q) → RanOn Claims stop old (known_both first second) before new later end
+pub both_ran : (stop : Bool) (old mid new : Registered) (first second : Records) (before now later : Known)
+    (p q end : Status) → IsContent old.kept.content → RanOn SoundOutcomes stop old first before mid now p →
+    p ≢ status.Stopped
+    → RanOn Claims stop mid second now new later q → status_of end ≡ greater (status_of p) (status_of q) →
+    RanOn Claims stop old (known_both first second) before new later end
 both_ran stop old mid new None second before now later p q end base h n k e = tt
 both_ran stop old mid new (Some rs) None before now later p q end base h n k e = tt
 both_ran stop old mid new (Some rs) (Some ms) before now later p q end base h n k e =
@@ -158,14 +199,15 @@ both_ran stop old mid new (Some rs) (Some ms) before now later p q end base h n 
     let on = goes_on stop p one.outcomes n one.ended in
     let size = all_whole stop rs one.outcomes on one.all in
     let ended : status_of end ≡ output.run_status stop (one.outcomes ++ two.outcomes) =
-    e ∙ ap (λ (x : output.Status). greater x (status_of q)) one.ended ∙ ap (greater (output.run_status stop one.outcomes)) two.ended ∙ status_join stop one.outcomes two.outcomes on in (
+    e ∙ ap (λ (x : output.Status). greater x (status_of q)) one.ended
+    ∙ ap (greater (output.run_status stop one.outcomes)) two.ended ∙ status_join stop one.outcomes two.outcomes on in (
       b.0,
       b.1,
       a.2 ++ b.2,
       Appends-trans before now later _ _ a.3 b.3,
       record {
         outcomes = one.outcomes ++ two.outcomes;
-        each = claims_of s (rs ++ ms) (one.outcomes ++ two.outcomes) b.0 (content_is old s base stands)
+        each = claims_of s (rs ++ ms) (one.outcomes ++ two.outcomes) b.0 (standing old s base stands)
             (run_join SoundOutcome s a.0 b.0 rs ms one.outcomes two.outcomes size one.each two.each.run);
         stops = stops_join stop one.outcomes two.outcomes on one.stops two.stops;
         all = all_join stop rs ms one.outcomes two.outcomes size two.all;
@@ -174,7 +216,8 @@ both_ran stop old mid new (Some rs) (Some ms) before now later p q end base h n 
       },
     )
 
-pub both_faulted_first : (stop : Bool) (old mid : Registered) (first second : Records) (before later : Known) → IsContent old.kept.content → FaultedOn SoundOutcomes stop old first before mid later
+pub both_faulted_first : (stop : Bool) (old mid : Registered) (first second : Records) (before later : Known) →
+    IsContent old.kept.content → FaultedOn SoundOutcomes stop old first before mid later
     → FaultedOn Claims stop old (known_both first second) before mid later
 both_faulted_first stop old mid None second before later base h = tt
 both_faulted_first stop old mid (Some rs) None before later base h = tt
@@ -188,14 +231,18 @@ both_faulted_first stop old mid (Some rs) (Some ms) before later base h =
       r.3,
       record {
         outcomes = cut.outcomes;
-        each = claims_of s (rs ++ ms) cut.outcomes r.0 (content_is old s base stands) (run_longer SoundOutcome s r.0 rs ms cut.outcomes cut.each);
+        each =
+            claims_of s (rs ++ ms) cut.outcomes r.0 (standing old s base stands)
+            (run_longer SoundOutcome s r.0 rs ms cut.outcomes cut.each);
         stops = cut.stops;
         wrote = cut.wrote;
       },
     )
 
-pub both_faulted_second : (stop : Bool) (old mid new : Registered) (first second : Records) (before now later : Known) (p : Status) → IsContent old.kept.content → RanOn SoundOutcomes stop old first before mid now p
-    → p ≢ status.Stopped → FaultedOn Claims stop mid second now new later → FaultedOn Claims stop old (known_both first second) before new later
+pub both_faulted_second : (stop : Bool) (old mid new : Registered) (first second : Records) (before now later : Known)
+    (p : Status) → IsContent old.kept.content → RanOn SoundOutcomes stop old first before mid now p
+    → p ≢ status.Stopped → FaultedOn Claims stop mid second now new later →
+    FaultedOn Claims stop old (known_both first second) before new later
 both_faulted_second stop old mid new None second before now later p base h n k = tt
 both_faulted_second stop old mid new (Some rs) None before now later p base h n k = tt
 both_faulted_second stop old mid new (Some rs) (Some ms) before now later p base h n k =
@@ -212,9 +259,11 @@ both_faulted_second stop old mid new (Some rs) (Some ms) before now later p base
       Appends-trans before now later _ _ a.3 b.3,
       record {
         outcomes = one.outcomes ++ cut.outcomes;
-        each = claims_of s (rs ++ ms) (one.outcomes ++ cut.outcomes) b.0 (content_is old s base stands)
+        each = claims_of s (rs ++ ms) (one.outcomes ++ cut.outcomes) b.0 (standing old s base stands)
             (run_join SoundOutcome s a.0 b.0 rs ms one.outcomes cut.outcomes size one.each cut.each.run);
         stops = stops_join stop one.outcomes cut.outcomes on one.stops cut.stops;
-        wrote = subst (λ (x : List ℕ). CutOff (one.outcomes ++ cut.outcomes) (x ++ b.2)) (sym one.wrote) (cut_join one.outcomes cut.outcomes b.2 cut.wrote);
+        wrote =
+            subst (λ (x : List ℕ). CutOff (one.outcomes ++ cut.outcomes) (x ++ b.2)) (sym one.wrote)
+            (cut_join one.outcomes cut.outcomes b.2 cut.wrote);
       },
     )

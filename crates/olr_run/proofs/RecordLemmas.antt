@@ -1,7 +1,9 @@
 -- The records of a text, one after another.
-use Rattle.std.proofs.Common.{◌≡◌, ℕ, zero, suc, ◌+◌, ◌<◌, ◌≤◌, Bool, true, false, List, [], ◌∷◌, ◌++◌, length, Option, Some, None, refl, sym, ap, ◌∙◌, subst, arith}
+use Rattle.std.proofs.Common.{◌≡◌, ℕ, zero, suc, ◌+◌, ◌<◌, ◌≤◌, Bool, true, false, List, [], ◌∷◌, ◌++◌, length, Option}
+use Rattle.std.proofs.Common.{Some, None, refl, sym, ap, ◌∙◌, subst, arith}
 use Rattle.std.specs.Prelude.{◌==◌, if◌then◌else◌}
-use Rattle.csv.specs.Machine.{Read, next_record, step, in_field, start_field, start_record, after_end, ends_with, is_end, ends_at_end, fields_after, field_after}
+use Rattle.csv.specs.Machine.{Read, next_record, step, in_field, start_field, start_record, after_end, ends_with}
+use Rattle.csv.specs.Machine.{is_end, ends_at_end, fields_after, field_after}
 use Rattle.csv.specs.Reading.{records_next, records_from, Reached, default_config, strip_bom}
 use Rattle.csv.specs.declared.parser.State.{State}
 use Rattle.csv.specs.declared.parser.State.TheVariants as st
@@ -22,9 +24,16 @@ if_rests false p q h g = g
 in_field_rests : (c : ℕ) → Rests (in_field default_config c)
 unfolding Rests
 in_field_rests c =
-    if_rests _ (st.StartField, act.EndField) (if ends_with default_config.terminator c then (after_end default_config.terminator c, act.EndRecord) else (st.InField, act.Copy)) (λ e. absurd cc)
-    (if_rests (ends_with default_config.terminator c) (after_end default_config.terminator c, act.EndRecord) (st.InField, act.Copy)
-    (λ e. elim (c == 13) as (λ b. ends_at_end (if b then st.AfterCr else st.StartRecord) ≡ false) [ true ↦ refl | false ↦ refl ])
+    if_rests _ (st.StartField, act.EndField)
+    (if ends_with default_config.terminator c then (after_end default_config.terminator c, act.EndRecord) else
+    (st.InField, act.Copy)) (λ e. absurd cc)
+    (if_rests (ends_with default_config.terminator c) (after_end default_config.terminator c, act.EndRecord)
+    (st.InField, act.Copy)
+    (λ e. elim (c == 13) as (λ b. ends_at_end (if b then st.AfterCr else st.StartRecord) ≡ false) [
+      | true ↦
+          refl
+      | false ↦ refl
+    ])
     (λ e. absurd cc))
 
 start_field_rests : (c : ℕ) → Rests (start_field default_config c)
@@ -33,25 +42,32 @@ start_field_rests c = if_rests _ (st.InQuoted, act.Skip) (in_field default_confi
 
 start_record_rests : (c : ℕ) → Rests (start_record default_config c)
 unfolding Rests
-start_record_rests c = if_rests _ (st.StartRecord, act.Skip) (start_field default_config c) (λ e. absurd cc) (start_field_rests c)
+start_record_rests c =
+    if_rests _ (st.StartRecord, act.Skip) (start_field default_config c) (λ e. absurd cc) (start_field_rests c)
 
 step_rests : (s : State) (c : ℕ) → Rests (step default_config s c)
 unfolding Rests
 step_rests st.StartRecord c = start_record_rests c
 step_rests st.StartField c = start_field_rests c
 step_rests st.InField c = in_field_rests c
-step_rests st.InQuoted c = if_rests _ (st.AfterQuote, act.Skip) (st.InQuoted, act.Copy) (λ e. absurd cc) (λ e. absurd cc)
+step_rests st.InQuoted c =
+    if_rests _ (st.AfterQuote, act.Skip) (st.InQuoted, act.Copy) (λ e. absurd cc) (λ e. absurd cc)
 step_rests st.InEscape c = λ e. absurd cc
-step_rests st.AfterQuote c = if_rests _ (st.InQuoted, act.Copy) (in_field default_config c) (λ e. absurd cc) (in_field_rests c)
-step_rests st.InComment c = if_rests _ (st.StartRecord, act.Skip) (st.InComment, act.Skip) (λ e. absurd cc) (λ e. absurd cc)
-step_rests st.AfterCr c = if_rests _ (st.StartRecord, act.Skip) (start_record default_config c) (λ e. absurd cc) (start_record_rests c)
+step_rests st.AfterQuote c =
+    if_rests _ (st.InQuoted, act.Copy) (in_field default_config c) (λ e. absurd cc) (in_field_rests c)
+step_rests st.InComment c =
+    if_rests _ (st.StartRecord, act.Skip) (st.InComment, act.Skip) (λ e. absurd cc) (λ e. absurd cc)
+step_rests st.AfterCr c =
+    if_rests _ (st.StartRecord, act.Skip) (start_record default_config c) (λ e. absurd cc) (start_record_rests c)
 
 -- what is left is no longer, and after it no record has begun
-read_leaves : (s : State) (fields : List Field) (field xs : List ℕ) (p : Read) → next_record default_config s fields field xs ≡ Some p
+read_leaves : (s : State) (fields : List Field) (field xs : List ℕ) (p : Read) →
+    next_record default_config s fields field xs ≡ Some p
     → (length p.2 ≤ length xs) × (ends_at_end p.1 ≡ false)
 unfolding next_record Rests
 read_leaves s fields field [] p e =
-    elim (ends_at_end s) as (λ b. (if b then Some (fields ++ (field ∷ []), st.StartRecord, []) else None) ≡ Some p → (length p.2 ≤ 0) × (ends_at_end p.1 ≡ false)) [
+    elim (ends_at_end s) as (λ b. (if b then Some (fields ++ (field ∷ []), st.StartRecord, []) else None) ≡ Some p →
+    (length p.2 ≤ 0) × (ends_at_end p.1 ≡ false)) [
       | true ↦ λ h.
           let is : (fields ++ (field ∷ []), st.StartRecord, []) ≡ p = cc in
           subst (λ (q : Read). (length q.2 ≤ 0) × (ends_at_end q.1 ≡ false)) is (omega arith, refl)
@@ -59,50 +75,75 @@ read_leaves s fields field [] p e =
     ] e
 read_leaves s fields field (c ∷ rest) p e =
     let to : Read = (fields_after (step default_config s c).1 fields field, (step default_config s c).0, rest) in
-    let on = next_record default_config (step default_config s c).0 (fields_after (step default_config s c).1 fields field) (field_after (step default_config s c).1 c field) rest in
-    elim (is_end (step default_config s c).1) as (λ b. is_end (step default_config s c).1 ≡ b → (if b then Some to else on) ≡ Some p → (length p.2 ≤ length (c ∷ rest)) × (ends_at_end p.1 ≡ false)) [
+    let on =
+    next_record default_config (step default_config s c).0 (fields_after (step default_config s c).1 fields field)
+    (field_after (step default_config s c).1 c field) rest in
+    elim (is_end (step default_config s c).1) as (λ b. is_end (step default_config s c).1 ≡ b →
+    (if b then Some to else on) ≡ Some p → (length p.2 ≤ length (c ∷ rest)) × (ends_at_end p.1 ≡ false)) [
       | true ↦ λ t h.
           let is : to ≡ p = cc in
-          subst (λ (q : Read). (length q.2 ≤ length (c ∷ rest)) × (ends_at_end q.1 ≡ false)) is (omega arith, step_rests s c t)
+          subst (λ (q : Read). (length q.2 ≤ length (c ∷ rest)) × (ends_at_end q.1 ≡ false)) is
+          (omega arith, step_rests s c t)
       | false ↦ λ t h.
-          let r = read_leaves (step default_config s c).0 (fields_after (step default_config s c).1 fields field) (field_after (step default_config s c).1 c field) rest p h in
+          let r =
+          read_leaves (step default_config s c).0 (fields_after (step default_config s c).1 fields field)
+          (field_after (step default_config s c).1 c field) rest p h in
           (let l = r.0 in omega arith, r.1)
     ] refl e
 
 -- and shorter, where none had begun
-read_shortens : (s : State) (xs : List ℕ) (p : Read) → ends_at_end s ≡ false → next_record default_config s [] [] xs ≡ Some p → length p.2 < length xs
+read_shortens : (s : State) (xs : List ℕ) (p : Read) → ends_at_end s ≡ false →
+    next_record default_config s [] [] xs ≡ Some p → length p.2 < length xs
 unfolding next_record
 read_shortens s [] p f e =
-    absurd (let no : ◌≡◌ {A = Option Read} None (Some p) = ap (λ (b : Bool). if b then Some ([] ++ ([] ∷ []), st.StartRecord, []) else None) (sym f) ∙ e in cc)
+    absurd (let no : ◌≡◌ {A = Option Read} None (Some p) =
+    ap (λ (b : Bool). if b then Some ([] ++ ([] ∷ []), st.StartRecord, []) else None) (sym f) ∙ e in cc)
 read_shortens s (c ∷ rest) p f e =
     let to : Read = (fields_after (step default_config s c).1 [] [], (step default_config s c).0, rest) in
-    let on = next_record default_config (step default_config s c).0 (fields_after (step default_config s c).1 [] []) (field_after (step default_config s c).1 c []) rest in
-    elim (is_end (step default_config s c).1) as (λ b. (if b then Some to else on) ≡ Some p → length p.2 < length (c ∷ rest)) [
+    let on =
+    next_record default_config (step default_config s c).0 (fields_after (step default_config s c).1 [] [])
+    (field_after (step default_config s c).1 c []) rest in
+    elim (is_end (step default_config s c).1) as (λ b. (if b then Some to else on) ≡ Some p →
+    length p.2 < length (c ∷ rest)) [
       | true ↦ λ h. let is : to ≡ p = cc in subst (λ (q : Read). length q.2 < length (c ∷ rest)) is (omega arith)
       | false ↦ λ h.
-          let r = read_leaves (step default_config s c).0 (fields_after (step default_config s c).1 [] []) (field_after (step default_config s c).1 c []) rest p h in
+          let r =
+          read_leaves (step default_config s c).0 (fields_after (step default_config s c).1 [] [])
+          (field_after (step default_config s c).1 c []) rest p h in
           let l = r.0 in omega arith
     ] e
 
 -- with enough turns
-from_reached : (n : ℕ) (s : State) (xs : List ℕ) (records : List (List Field)) (s2 : State) (ys : List ℕ) → length xs < n → ends_at_end s ≡ false
-    → Reached default_config s xs records s2 ys → (m : ℕ) × (length ys < m) × (records_from default_config n s xs ≡ records ++ records_from default_config m s2 ys)
+from_reached : (n : ℕ) (s : State) (xs : List ℕ) (records : List (List Field)) (s2 : State) (ys : List ℕ) →
+    length xs < n → ends_at_end s ≡ false
+    → Reached default_config s xs records s2 ys → (m : ℕ) × (length ys < m)
+    × (records_from default_config n s xs ≡ records ++ records_from default_config m s2 ys)
 unfolding Reached records_from
-from_reached n s xs [] s2 ys l f h = (n, subst (λ (zs : List ℕ). length zs < n) h.1 l, λ i. records_from default_config n (h.0 i) (h.1 i))
+from_reached n s xs [] s2 ys l f h =
+    (n, subst (λ (zs : List ℕ). length zs < n) h.1 l, λ i. records_from default_config n (h.0 i) (h.1 i))
 from_reached zero s xs (r ∷ records) s2 ys l f h = absurd (omega arith)
 from_reached (suc n) s xs (r ∷ records) s2 ys l f h =
     let p = h.0 in
     let less = read_shortens s xs p f h.1 in
-    let again = from_reached n p.1 p.2 records s2 ys (omega arith) (read_leaves s [] [] xs p h.1).1 h.3 in
-    (again.0, again.1, ap (λ (o : Option Read). records_next (records_from default_config n) o) h.1 ∙ (λ i. sym h.2 i ∷ again.2 i))
+    let again = from_reached n p.1 p.2 records s2 ys (omega arith) (read_leaves s [] [] xs p h.1).1 h.3 in (
+      again.0,
+      again.1,
+      ap (λ (o : Option Read). records_next (records_from default_config n) o) h.1
+          ∙ (λ i. sym h.2 i ∷ again.2 i),
+    )
 
-none_more : (m : ℕ) (s : State) (ys : List ℕ) → length ys < m → next_record default_config s [] [] ys ≡ None → records_from default_config m s ys ≡ []
+none_more : (m : ℕ) (s : State) (ys : List ℕ) → length ys < m → next_record default_config s [] [] ys ≡ None →
+    records_from default_config m s ys ≡ []
 unfolding records_from
 none_more zero s ys l e = absurd (omega arith)
 none_more (suc m) s ys l e = ap (λ (o : Option Read). records_next (records_from default_config m) o) e
 
-pub first_records : (input : List ℕ) (records : List (List Field)) (state : State) (left : List ℕ) → Reached default_config st.StartRecord (strip_bom input) records state left
-    → (rest : List (List Field)) × (records_of input ≡ records ++ rest) × (next_record default_config state [] [] left ≡ None → rest ≡ [])
+pub first_records : (input : List ℕ) (records : List (List Field)) (state : State) (left : List ℕ) →
+    Reached default_config st.StartRecord (strip_bom input) records state left
+    → (rest : List (List Field)) × (records_of input ≡ records ++ rest)
+    × (next_record default_config state [] [] left ≡ None → rest ≡ [])
 first_records input records state left h =
-    let all = from_reached (length (strip_bom input) + 1) st.StartRecord (strip_bom input) records state left (omega arith) refl h in
+    let all =
+    from_reached (length (strip_bom input) + 1) st.StartRecord (strip_bom input) records state left (omega arith) refl
+    h in
     (records_from default_config all.0 state left, all.2, none_more all.0 state left all.1)

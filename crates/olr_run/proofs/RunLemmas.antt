@@ -1,5 +1,6 @@
 -- Runs.
-use Rattle.std.proofs.Common.{inl, inr, ◌≡◌, ℕ, Bool, true, false, List, [], ◌∷◌, Option, None, Some, Ok, Err, IsFalse, refl, sym, ap, ◌∙◌, subst, arith}
+use Rattle.std.proofs.Common.{inl, inr, ◌≡◌, ℕ, Bool, true, false, List, [], ◌∷◌, Option, None, Some, Ok, Err, IsFalse}
+use Rattle.std.proofs.Common.{refl, sym, ap, ◌∙◌, subst, arith}
 use Rattle.std.specs.Prelude.{◌&&◌, ◌||◌, is_err, IfSome}
 use Rattle.std.specs.Result.{result_ok}
 use Rattle.std.specs.List.{list_any}
@@ -10,10 +11,13 @@ use Rattle.olr_commands.specs.History.{IsNamed, IsRefused}
 use Rattle.olr_commands.proofs.HistoryLemmas.{Leads, outcome_leads, outcome_keeps, is_named, is_refused, headline_of}
 use Rattle.olr_commands.proofs.OutcomeLemmas.{one_outcome}
 use Rattle.olr_records.specs.Records.{Field, Read, read}
-use Rattle.olr_run.specs.Output.{CommandOutcome, OutOfMemory, RecordOutcome, Outcomes, SoundOutcome, SoundOutcomes, command_spelled, Claims, StopsAtFault, any_refused, AreAll, texts, run_status, Status, Ran, AllHadMemory}
+use Rattle.olr_run.specs.Output.{CommandOutcome, OutOfMemory, RecordOutcome, Outcomes, SoundOutcome, SoundOutcomes}
+use Rattle.olr_run.specs.Output.{command_spelled, Claims, StopsAtFault, any_refused, AreAll, texts, run_status, Status}
+use Rattle.olr_run.specs.Output.{Ran, AllHadMemory}
 use Rattle.olr_records.proofs.ReadLemmas.{places_read}
 
-command_keeps : (s t : State) (r : Read Command) (o : Outcome) → ((c : Command) → r ≡ Ok c → HasPlaces c) → IsState s → CommandOutcome s r o t → IsState t
+command_keeps : (s t : State) (r : Read Command) (o : Outcome) → ((c : Command) → r ≡ Ok c → HasPlaces c) → IsState s →
+    CommandOutcome s r o t → IsState t
 command_keeps s t (Ok c) o h i p = outcome_keeps s t c o i (h c refl) p
 command_keeps s t (Err f) o h i p = subst IsState (sym p.1) i
 
@@ -21,7 +25,8 @@ record_keeps : (s t : State) (fields : List Field) (o : Outcome) → IsState s �
 record_keeps s t fields o i (inl p) = command_keeps s t (read fields) o (places_read fields) i p
 record_keeps s t fields o i (inr p) = subst IsState (sym p.1.1) i
 
-pub outcomes_keep : (s t : State) (rs : List (List Field)) (os : List Outcome) → IsState s → Outcomes s rs os t → IsState t
+pub outcomes_keep : (s t : State) (rs : List (List Field)) (os : List Outcome) → IsState s → Outcomes s rs os t →
+    IsState t
 outcomes_keep s t rs [] i p = subst IsState p i
 outcomes_keep s t [] (o ∷ os) i p = absurd p
 outcomes_keep s t (r ∷ rs) (o ∷ os) i p = outcomes_keep p.0 t rs os (record_keeps s p.0 r o i p.1) p.2
@@ -57,17 +62,20 @@ record_claims s fields o t h =
       | inr p ↦ lacking_claims s t (command_spelled fields) o p.1
     ]
 
-pub sound_after : (s t : State) (rs : List (List Field)) (os : List Outcome) → IsContent s.content → SoundOutcomes s rs os t → IsContent t.content
+pub sound_after : (s t : State) (rs : List (List Field)) (os : List Outcome) → IsContent s.content →
+    SoundOutcomes s rs os t → IsContent t.content
 sound_after s t rs [] i p = subst (λ (u : State). IsContent u.content) p i
 sound_after s t [] (o ∷ os) i p = absurd p
 sound_after s t (r ∷ rs) (o ∷ os) i p = sound_after p.0 t rs os p.1.1 p.2
 
-pub claims_of : (s : State) (rs : List (List Field)) (os : List Outcome) (t : State) → IsContent s.content → SoundOutcomes s rs os t → Claims s rs os t
+pub claims_of : (s : State) (rs : List (List Field)) (os : List Outcome) (t : State) → IsContent s.content →
+    SoundOutcomes s rs os t → Claims s rs os t
 claims_of s rs os t i h = headline_of SoundOutcome command_spelled record_claims s rs os t (sound_after s t rs os i h) h
 
 -- ---- one run
 
-one_command : (s t u : State) (r : Read Command) (o q : Outcome) → ((c : Command) → r ≡ Ok c → HasPlaces c) → IsState s → IsFalse (lacks_memory o) → IsFalse (lacks_memory q)
+one_command : (s t u : State) (r : Read Command) (o q : Outcome) → ((c : Command) → r ≡ Ok c → HasPlaces c) →
+    IsState s → IsFalse (lacks_memory o) → IsFalse (lacks_memory q)
     → CommandOutcome s r o t → CommandOutcome s r q u → (o ≡ q) × (t ≡ u)
 one_command s t u (Ok c) o q h i n m p g = one_outcome s t u c o q i (h c refl) n m p g
 one_command s t u (Err f) o q h i n m p g = (p.0 ∙ sym g.0, p.1 ∙ sym g.1)
@@ -75,14 +83,16 @@ one_command s t u (Err f) o q h i n m p g = (p.0 ∙ sym g.0, p.1 ∙ sym g.1)
 not_memory : (o : Outcome) → IsFalse (lacks_memory o) → o ≡ Err Memory → ⊥
 not_memory o n e = both_ways (lacks_memory o) n (ap lacks_memory e)
 
-one_record : (s t u : State) (fields : List Field) (o q : Outcome) → IsState s → IsFalse (lacks_memory o) → IsFalse (lacks_memory q)
+one_record : (s t u : State) (fields : List Field) (o q : Outcome) → IsState s → IsFalse (lacks_memory o) →
+    IsFalse (lacks_memory q)
     → RecordOutcome s fields o t → RecordOutcome s fields q u → (o ≡ q) × (t ≡ u)
 one_record s t u fields o q i n m (inl p) (inl g) = one_command s t u (read fields) o q (places_read fields) i n m p g
 one_record s t u fields o q i n m (inl p) (inr g) = absurd (not_memory q m g.1.0)
 one_record s t u fields o q i n m (inr p) g = absurd (not_memory o n p.1.0)
 
 -- what is left to do after an outcome that doesn't end the run
-all_rest : (stop : Bool) (r : List Field) (rs : List (List Field)) (o : Outcome) (os : List Outcome) → (stop && is_err o) ≡ false → AreAll stop (r ∷ rs) (o ∷ os) → AreAll stop rs os
+all_rest : (stop : Bool) (r : List Field) (rs : List (List Field)) (o : Outcome) (os : List Outcome) →
+    (stop && is_err o) ≡ false → AreAll stop (r ∷ rs) (o ∷ os) → AreAll stop rs os
 all_rest stop r rs o os e (inl h) = inl (omega arith)
 all_rest true r rs o os e (inr h) = inr (ap (λ (b : Bool). b || any_refused os) (sym e) ∙ h)
 all_rest false r rs o os e (inr h) = absurd cc
@@ -92,7 +102,8 @@ none_left stop r rs (inl h) = omega arith
 none_left true r rs (inr h) = absurd cc
 none_left false r rs (inr h) = absurd cc
 
-one_list : (stop : Bool) (s t u : State) (rs : List (List Field)) (os qs : List Outcome) → IsState s → AllHadMemory os → AllHadMemory qs → AreAll stop rs os → AreAll stop rs qs
+one_list : (stop : Bool) (s t u : State) (rs : List (List Field)) (os qs : List Outcome) → IsState s → AllHadMemory os →
+    AllHadMemory qs → AreAll stop rs os → AreAll stop rs qs
     → StopsAtFault stop os → StopsAtFault stop qs → Outcomes s rs os t → Outcomes s rs qs u → (os ≡ qs) × (t ≡ u)
 one_list stop s t u [] [] [] i n m a b c d p q = (refl, sym p ∙ q)
 one_list stop s t u [] [] (o ∷ qs) i n m a b c d p q = absurd q
@@ -112,12 +123,14 @@ one_list stop s t u (r ∷ rs) (o ∷ os) (k ∷ qs) i n m a b c d p q =
           let u_is : p.0 ≡ u = subst (λ (xs : List Outcome). Outcomes p.0 rs xs u) qs_none again in
           ((λ j. head.0 j ∷ (os_none ∙ sym qs_none) j), sym t_is ∙ u_is)
       | inr e ↦
-          let rest = one_list stop p.0 t u rs os qs (record_keeps s p.0 r o i p.1) on.1 km.1 (all_rest stop r rs o os e a)
+          let rest =
+          one_list stop p.0 t u rs os qs (record_keeps s p.0 r o i p.1) on.1 km.1 (all_rest stop r rs o os e a)
           (all_rest stop r rs k qs (ap (λ (x : Outcome). stop && is_err x) (sym head.0) ∙ e) b) c.1 d.1 p.2 again in
           ((λ j. head.0 j ∷ rest.0 j), rest.1)
     ]
 
-pub one_run : (stop : Bool) (s t u : State) (rs : List (List Field)) (w v : List ℕ) (end stand : Status) → IsState s → (p : Ran Outcomes stop s rs t w end) (q : Ran Outcomes stop s rs u v stand)
+pub one_run : (stop : Bool) (s t u : State) (rs : List (List Field)) (w v : List ℕ) (end stand : Status) → IsState s →
+    (p : Ran Outcomes stop s rs t w end) (q : Ran Outcomes stop s rs u v stand)
     → AllHadMemory p.outcomes → AllHadMemory q.outcomes → (t ≡ u) × (w ≡ v) × (end ≡ stand)
 one_run stop s t u rs w v end stand i p q n m =
     let one = one_list stop s t u rs p.outcomes q.outcomes i n m p.all q.all p.stops q.stops p.each q.each in

@@ -1,5 +1,6 @@
 -- What is written so far.
-use Rattle.std.proofs.Common.{◌≡◌, ◌∙◌, ◌+◌, ◌-◌, ◌≤◌, ℕ, List, [], ◌++◌, length, take, drop, None, Some, ap, sym, subst, arith, length-drop}
+use Rattle.std.proofs.Common.{◌≡◌, ◌∙◌, ◌+◌, ◌-◌, ◌≤◌, ℕ, List, [], ◌++◌, length, take, drop, None, Some, ap, sym}
+use Rattle.std.proofs.Common.{subst, arith, length-drop}
 use Rattle.std.proofs.lemmas.List.{append-nil, take-append-drop, take_all}
 use Rattle.std.proofs.Math.Seq.{take-add}
 use Rattle.std.specs.Io.KnownBytes.{Appends, Keeps}
@@ -18,12 +19,16 @@ rest_from bytes n = take (length bytes - n) (drop n bytes)
 rest_is : (bytes : List ℕ) (n : ℕ) → rest_from bytes n ≡ drop n bytes
 rest_is bytes n = take_all (length bytes - n) (drop n bytes) (let size = length-drop n bytes in omega arith)
 
-pub written_more : (before now later : Known) (bytes : List ℕ) (n k : ℕ) → Written before now bytes n → k ≤ length (rest_from bytes n)
+pub written_more : (before now later : Known) (bytes : List ℕ) (n k : ℕ) → Written before now bytes n →
+    k ≤ length (rest_from bytes n)
     → Appends now later (take k (rest_from bytes n)) → Written before later bytes (n + k)
 written_more before now later bytes n k w l h =
     record {
-      within = let size : length (rest_from bytes n) ≡ length bytes - n = ap length (rest_is bytes n) ∙ length-drop n bytes in let within = w.within in omega arith;
-      front = subst (Appends before later) (ap (λ (xs : List ℕ). take n bytes ++ take k xs) (rest_is bytes n) ∙ sym (take-add n k bytes)) (Appends-trans before now later _ _ w.front h);
+      within = let size : length (rest_from bytes n) ≡ length bytes - n =
+          ap length (rest_is bytes n) ∙ length-drop n bytes in let within = w.within in omega arith;
+      front =
+          subst (Appends before later) (ap (λ (xs : List ℕ). take n bytes ++ take k xs) (rest_is bytes n)
+          ∙ sym (take-add n k bytes)) (Appends-trans before now later _ _ w.front h);
     }
 
 -- a front of the bytes was written
@@ -31,8 +36,10 @@ abbrev pub Front : Known → Known → List ℕ → Type 0
 Front before later bytes = (front rest : List ℕ) × (bytes ≡ front ++ rest) × Appends before later front
 
 -- a writer that took nothing more, or failed
-pub front_of : (before now later : Known) (bytes : List ℕ) (n : ℕ) → Written before now bytes n → Keeps now later → Front before later bytes
-front_of before now later bytes n w k = (take n bytes, drop n bytes, sym (take-append-drop n bytes), Appends-kept before now later _ w.front k)
+pub front_of : (before now later : Known) (bytes : List ℕ) (n : ℕ) → Written before now bytes n → Keeps now later →
+    Front before later bytes
+front_of before now later bytes n w k =
+    (take n bytes, drop n bytes, sym (take-append-drop n bytes), Appends-kept before now later _ w.front k)
 
 pub took_nothing : (now later : Known) → Appends now later [] → Keeps now later
 took_nothing None later h = tt

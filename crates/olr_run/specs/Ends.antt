@@ -1,8 +1,10 @@
--- How the program ends: over the words of its command line, what opening the file gives, and the bytes of file and input.
---     Explains kinds before later code      words with these kinds of fault are answered with help, the version or a fault
---     Opens call remaining opener name opened      opening the file of that name gives known bytes, or fails
---     Ends words Opened input old before new later code      the register, what is written and the status at the end
-use Rattle.std.specs.Prelude.{◌≡◌, ℕ, Bool, true, false, List, [], Option, Some, None, option_map, MatchOption, Result, Ok, Err, ◌⊎◌}
+-- How the program ends: over the words of its command line, what opening the file gives, and the bytes of file and
+-- input.
+--     Explains kinds before later code words with these kinds of fault are answered with help, the version or a fault
+--     Opens call remaining opener name opened opening the file of that name gives known bytes, or fails Ends words
+--     Opened input old before new later code the register, what is written and the status at the end
+use Rattle.std.specs.Prelude.{◌≡◌, ℕ, Bool, true, false, List, [], Option, Some, None, option_map, MatchOption, Result}
+use Rattle.std.specs.Prelude.{Ok, Err, ◌⊎◌}
 use Rattle.std.specs.Result.{result_ok}
 use Rattle.std.specs.Borrow.{Bor}
 use Rattle.std.specs.Fn.{Once, FnOnceReturnsAt}
@@ -49,15 +51,18 @@ pub data Explains (kinds : Kinds) (before later : Known) (code : ℕ) : Type 0 w
 -- ---- the command file
 
 -- the bytes of the file where they are known, or None where it can't be opened
-abbrev pub Opens : {O F E : Type 0} → Once O (Bor (List ℕ) × Unit {0}) (Result F E) → (F → Known) → O → List ℕ → Option Known → Type 0
-Opens {O} {F} {E} call remaining opener name opened = (r : Result F E) × FnOnceReturnsAt call opener name r × (option_map remaining (result_ok r) ≡ opened)
+abbrev pub Opens : {O F E : Type 0} → Once O (Bor (List ℕ) × Unit {0}) (Result F E) → (F → Known) → O → List ℕ →
+    Option Known → Type 0
+Opens {O} {F} {E} call remaining opener name opened =
+    (r : Result F E) × FnOnceReturnsAt call opener name r × (option_map remaining (result_ok r) ≡ opened)
 
 -- the bytes of the file that is asked for, or none where none is
 abbrev pub IsFile : Option (List ℕ) → (List ℕ → Option Known → Type 0) → Known → Type 0
 IsFile asked Opened file = MatchOption asked (file ≡ Some []) (λ name. Opened name (Some file))
 
 -- the file of that name, where one is asked for, was opened or not
-abbrev pub OpensFile : {O F E : Type 0} → Once O (Bor (List ℕ) × Unit {0}) (Result F E) → O → Option (List ℕ) → Result (Option F) E → Type 0
+abbrev pub OpensFile : {O F E : Type 0} → Once O (Bor (List ℕ) × Unit {0}) (Result F E) → O → Option (List ℕ) →
+    Result (Option F) E → Type 0
 OpensFile call opener None (Ok None) = Unit {0}
 OpensFile call opener (Some name) (Ok (Some file)) = FnOnceReturnsAt call opener name (Ok file)
 OpensFile call opener (Some name) (Err error) = FnOnceReturnsAt call opener name (Err error)
@@ -66,11 +71,17 @@ OpensFile call opener _ _ = ⊥
 -- ---- the whole program
 
 -- a run is made only of words without a fault, and of a file that was opened
-pub data Ends (words : List (List ℕ)) (Opened : List ℕ → Option Known → Type 0) (input : Known) (old : Registered) (before : Known) (new : Registered) (later : Known) (code : ℕ) : Type 0 where
-  Explained : Explains (fault_of keep_app words) before later code → new ≡ old → Ends words Opened input old before new later code
-  Not_opened : fault_of keep_app words ≡ [] → (name : List ℕ) → (options words).file ≡ Some name → Opened name None → later ≡ before → new ≡ old → code ≡ 3
+pub data Ends (words : List (List ℕ)) (Opened : List ℕ → Option Known → Type 0) (input : Known) (old : Registered)
+    (before : Known) (new : Registered) (later : Known) (code : ℕ) : Type 0 where
+  Explained : Explains (fault_of keep_app words) before later code → new ≡ old →
+      Ends words Opened input old before new later code
+  Not_opened : fault_of keep_app words ≡ [] → (name : List ℕ) → (options words).file ≡ Some name → Opened name None →
+      later ≡ before → new ≡ old → code ≡ 3
       → Ends words Opened input old before new later code
-  Ran : fault_of keep_app words ≡ [] → (file : Known) → IsFile (options words).file Opened file → (end : Status) → RanOn Claims (options words).stop old (known_both (known_records file) (known_records input)) before new later end
+  Ran : fault_of keep_app words ≡ [] → (file : Known) → IsFile (options words).file Opened file → (end : Status) →
+      RanOn Claims (options words).stop old (known_both (known_records file) (known_records input)) before new later end
       → code ≡ exit_code (Ok end) → Ends words Opened input old before new later code
-  Cut_off : fault_of keep_app words ≡ [] → (file : Known) → IsFile (options words).file Opened file → (e : RunFault) → FaultedOn Claims (options words).stop old (known_both (known_records file) (known_records input)) before new later
-      → (e ≡ fault.TooMany → HasTooMany file ⊎ HasTooMany input) → code ≡ exit_code (Err e) → Ends words Opened input old before new later code
+  Cut_off : fault_of keep_app words ≡ [] → (file : Known) → IsFile (options words).file Opened file → (e : RunFault) →
+      FaultedOn Claims (options words).stop old (known_both (known_records file) (known_records input)) before new later
+      → (e ≡ fault.TooMany → HasTooMany file ⊎ HasTooMany input) → code ≡ exit_code (Err e) →
+      Ends words Opened input old before new later code

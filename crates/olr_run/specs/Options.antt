@@ -29,7 +29,12 @@ is_set None = false
 is_set (Some text) = bytes_eq text (codes "true")
 
 abbrev pub options : List (List ℕ) → Options
-options words = record { file = first_of (codes "file") (matches_of keep_app words); stop = is_set (first_of (codes "stop") (matches_of keep_app words)) }
+options words =
+    record {
+      file = first_of (codes "file") (matches_of keep_app words);
+      stop =
+          is_set (first_of (codes "stop") (matches_of keep_app words));
+    }
 
 abbrev pub options_of : Arguments → Options
 options_of o = record { file = option_map (λ s. s.now) o.file; stop = o.stop }

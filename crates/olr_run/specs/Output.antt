@@ -1,10 +1,11 @@
 -- What a run writes of what it reads.
 --     records_of input      the records of the bytes read
---     RecordOutcome s fields o t      what a record answers: by its command, by its own fault, or by want of memory to read it
---     Outcomes s rs os t      the first records answer so, one after another, from s to t
---     command_spelled fields      the command that a record spells.        Claims s rs os t      what is claimed of such a run
---     Ran Each stop s rs t written status      a whole run.        Faulted Each stop s rs t written      a run that was cut off
-use Rattle.std.specs.Prelude.{◌≡◌, ◌^◌, ℕ, Bool, ◌&&◌, List, [], ◌∷◌, ◌++◌, length, flat_map, is_err, Option, Result, Ok, Err, ◌⊎◌, IsTrue, IsFalse, if◌then◌else◌, ⊤}
+--     RecordOutcome s fields o t what a record answers: by its command, by its own fault, or by want of memory to read
+--     it Outcomes s rs os t the first records answer so, one after another, from s to t command_spelled fields the
+--     command that a record spells. Claims s rs os t what is claimed of such a run Ran Each stop s rs t written status
+--     a whole run. Faulted Each stop s rs t written a run that was cut off
+use Rattle.std.specs.Prelude.{◌≡◌, ◌^◌, ℕ, Bool, ◌&&◌, List, [], ◌∷◌, ◌++◌, length, flat_map, is_err, Option, Result}
+use Rattle.std.specs.Prelude.{Ok, Err, ◌⊎◌, IsTrue, IsFalse, if◌then◌else◌, ⊤}
 use Rattle.std.specs.Result.{result_ok}
 use Rattle.std.specs.List.{list_any}
 use Rattle.csv.specs.Reading.{records, default_config, strip_bom}
@@ -75,7 +76,8 @@ run_status stop os = if any_refused os then (if stop then Stopped else Some_refu
 
 -- ---- runs, of whose records, outcomes and states Each says more
 
-pub record Ran (Each : State → List (List Field) → List Outcome → State → Type 0) (stop : Bool) (s : State) (rs : List (List Field)) (t : State) (written : List ℕ) (end : Status) : Type 0 where
+pub record Ran (Each : State → List (List Field) → List Outcome → State → Type 0) (stop : Bool) (s : State)
+    (rs : List (List Field)) (t : State) (written : List ℕ) (end : Status) : Type 0 where
   pub outcomes : List Outcome
   pub each : Each s rs outcomes t
   pub stops : StopsAtFault stop outcomes
@@ -86,9 +88,11 @@ pub record Ran (Each : State → List (List Field) → List Outcome → State �
 -- all but a rest of the last text
 pub data CutOff (os : List Outcome) (written : List ℕ) : Type 0 where
   Nothing : os ≡ [] → written ≡ [] → CutOff os written
-  In_last : (before : List Outcome) (last : Outcome) (front rest : List ℕ) → os ≡ before ++ last ∷ [] → outcome_text last ≡ front ++ rest → written ≡ texts before ++ front → CutOff os written
+  In_last : (before : List Outcome) (last : Outcome) (front rest : List ℕ) → os ≡ before ++ last ∷ [] →
+      outcome_text last ≡ front ++ rest → written ≡ texts before ++ front → CutOff os written
 
-pub record Faulted (Each : State → List (List Field) → List Outcome → State → Type 0) (stop : Bool) (s : State) (rs : List (List Field)) (t : State) (written : List ℕ) : Type 0 where
+pub record Faulted (Each : State → List (List Field) → List Outcome → State → Type 0) (stop : Bool) (s : State)
+    (rs : List (List Field)) (t : State) (written : List ℕ) : Type 0 where
   pub outcomes : List Outcome
   pub each : Each s rs outcomes t
   pub stops : StopsAtFault stop outcomes

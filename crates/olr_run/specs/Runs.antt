@@ -3,10 +3,10 @@
 --     Takes remaining old new found fields      a plain reader took its next record, where there was one
 --     CarriedOut old fields new r      what a record does to the register, and its answer
 --     TellsRecord old fields new before later r      the same, and its text was written
---     known_records known      the records of known bytes.        known_both      those of a file and then those of more input
---     RanOn, FaultedOn      a run over known records
---     exit_code r      the status of the program
-use Rattle.std.specs.Prelude.{◌≡◌, ℕ, ◌<◌, Bool, List, [], ◌++◌, length, Option, Some, None, option_map, Result, Ok, Err, IfSome, is_ok}
+--     known_records known the records of known bytes. known_both those of a file and then those of more input RanOn,
+--     FaultedOn a run over known records exit_code r the status of the program
+use Rattle.std.specs.Prelude.{◌≡◌, ℕ, ◌<◌, Bool, List, [], ◌++◌, length, Option, Some, None, option_map, Result, Ok}
+use Rattle.std.specs.Prelude.{Err, IfSome, is_ok}
 use Rattle.std.specs.Io.KnownBytes.{Appends}
 use Rattle.std.specs.Option.{option_map_or}
 use Rattle.std.specs.Borrow.{Bor}
@@ -33,7 +33,8 @@ Known = Option (List ℕ)
 
 abbrev pub WritesAll : Known → Known → List ℕ → Result (Unit {0}) RunFault → Type 0
 WritesAll before later bytes (Ok done) = Appends before later bytes
-WritesAll before later bytes (Err e) = (front rest : List ℕ) × (bytes ≡ front ++ rest) × Appends before later front × (e ≡ fault.Write)
+WritesAll before later bytes (Err e) =
+    (front rest : List ℕ) × (bytes ≡ front ++ rest) × Appends before later front × (e ≡ fault.Write)
 
 -- ---- one record
 
@@ -53,7 +54,8 @@ IsAnswer (Err line) o = (fault : Fault) × (o ≡ Err fault) × (line.now ≡ fa
 
 abbrev pub CarriedOut : Registered → List Field → Registered → Result Reply (Bor (List ℕ)) → Type 0
 CarriedOut old fields new r =
-    (s : State) → Stands old.kept s → IsContent s.content → (t : State) × (o : Outcome) × Stands new.kept t × SoundOutcome s fields o t × IsAnswer r o
+    (s : State) → Stands old.kept s → IsContent s.content → (t : State) × (o : Outcome) × Stands new.kept t
+    × SoundOutcome s fields o t × IsAnswer r o
 
 -- all of its text, or a front of it
 abbrev pub TellsText : Known → Known → Outcome → Result Bool RunFault → Type 0
@@ -62,7 +64,8 @@ TellsText before later o (Err e) = (front rest : List ℕ) × (outcome_text o �
 
 abbrev pub TellsRecord : Registered → List Field → Registered → Known → Known → Result Bool RunFault → Type 0
 TellsRecord old fields new before later r =
-    (s : State) → Stands old.kept s → IsContent s.content → (t : State) × (o : Outcome) × Stands new.kept t × SoundOutcome s fields o t × TellsText before later o r
+    (s : State) → Stands old.kept s → IsContent s.content → (t : State) × (o : Outcome) × Stands new.kept t
+    × SoundOutcome s fields o t × TellsText before later o r
 
 -- ---- runs
 
@@ -87,16 +90,20 @@ known_both (Some rs) None = None
 known_both (Some rs) (Some qs) = Some (rs ++ qs)
 
 -- from each state in which the register stood, a whole run leads to one in which it stands
-abbrev pub RanOn : (State → List (List Field) → List Outcome → State → Type 0) → Bool → Registered → Records → Known → Registered → Known → Status → Type 0
+abbrev pub RanOn : (State → List (List Field) → List Outcome → State → Type 0) → Bool → Registered → Records → Known →
+    Registered → Known → Status → Type 0
 RanOn Each stop old records before new later end =
     IfSome records (λ rs. (s : State) → Stands old.kept s
-    → (t : State) × Stands new.kept t × (written : List ℕ) × Appends before later written × Ran Each stop s rs t written (status_of end))
+    → (t : State) × Stands new.kept t × (written : List ℕ) × Appends before later written
+    × Ran Each stop s rs t written (status_of end))
 
 -- and one that was cut off does
-abbrev pub FaultedOn : (State → List (List Field) → List Outcome → State → Type 0) → Bool → Registered → Records → Known → Registered → Known → Type 0
+abbrev pub FaultedOn : (State → List (List Field) → List Outcome → State → Type 0) → Bool → Registered → Records →
+    Known → Registered → Known → Type 0
 FaultedOn Each stop old records before new later =
     IfSome records (λ rs. (s : State) → Stands old.kept s
-    → (t : State) × Stands new.kept t × (written : List ℕ) × Appends before later written × Faulted Each stop s rs t written)
+    → (t : State) × Stands new.kept t × (written : List ℕ) × Appends before later written
+    × Faulted Each stop s rs t written)
 
 abbrev pub HasTooMany : Known → Type 0
 HasTooMany known = IfSome known (λ input. most_records < length (records_of input))

@@ -61,7 +61,8 @@ fn write_answer<W: Write>(
     text: &mut Vec<u8>,
     output: &mut W,
 ) -> Result<bool, RunFault>
-    ensures told { (o : Outcome) → IsAnswer answer.now o → TellsText (W.contents output.old) (W.contents output.new) o result }
+    ensures told { (o : Outcome) → IsAnswer answer.now o →
+        TellsText (W.contents output.old) (W.contents output.new) o result }
     ensures failed { IfErr result (λ e. e ≢ RunFault.TooMany) }
 {
     match answer {
@@ -86,7 +87,8 @@ pub fn tell<W: Write>(
     text: &mut Vec<u8>,
     output: &mut W,
 ) -> Result<bool, RunFault>
-    ensures told { TellsRecord register.old (fields_of fields.now) register.new (W.contents output.old) (W.contents output.new) result }
+    ensures told { TellsRecord register.old (fields_of fields.now) register.new (W.contents output.old)
+        (W.contents output.new) result }
     ensures failed { IfErr result (λ e. e ≢ RunFault.TooMany) }
 {
     let answer = carry_out(alloc, register, fields);

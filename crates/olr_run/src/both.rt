@@ -32,7 +32,8 @@ fn run_file<F: Read + Drop, W: Write>(
 ) -> Result<Status, RunFault>
     ensures ran { IfOk result (RanOn SoundOutcomes stop register.old (known_records (known_file F.remaining file))
         (W.contents output.old) register.new (W.contents output.new)) }
-    ensures faulted { OnErr result (FaultedOn SoundOutcomes stop register.old (known_records (known_file F.remaining file))
+    ensures faulted { OnErr result
+        (FaultedOn SoundOutcomes stop register.old (known_records (known_file F.remaining file))
         (W.contents output.old) register.new (W.contents output.new)) }
     ensures too_many { IfErr result (λ e. e ≡ RunFault.TooMany → HasTooMany (known_file F.remaining file)) }
 {
@@ -42,9 +43,9 @@ fn run_file<F: Read + Drop, W: Write>(
     }
 }
 
-/// The commands of a file, where there is one, and then those of the input, on one register: a batch that the file leaves
-/// open stays open. Where the first run is stopped or fails, nothing is read of the input and the end is that run's; else
-/// it is the greater of the two. So it is one run over all of their records.
+/// The commands of a file, where there is one, and then those of the input, on one register: a batch that the file
+/// leaves open stays open. Where the first run is stopped or fails, nothing is read of the input and the end is that
+/// run's; else it is the greater of the two. So it is one run over all of their records.
 pub fn run_both<F: Read + Drop, R: Read + Drop, W: Write>(
     alloc: Global,
     register: &mut Register,

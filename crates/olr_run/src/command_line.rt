@@ -58,7 +58,8 @@ fn is_given(flag: Option<&str>) -> bool
 pub fn options<'a, S: AsStr>(alloc: Global, words: &'a [S]) -> Result<Options<'a>, OptionsFault>
     ensures ok { IfOk result (λ o. options_of o ≡ options (map S.text words.entry.now)) }
     ensures taken { takes keep_app (map S.text words.entry.now) ≡ true → IfErr result (λ e. e ≡ OptionsFault.Memory) }
-    ensures kinds { MatchResult result (λ _. fault_of keep_app (map S.text words.entry.now) ≡ []) (IsOptionsFault (fault_of keep_app (map S.text words.entry.now))) }
+    ensures kinds { MatchResult result (λ _. fault_of keep_app (map S.text words.entry.now) ≡ [])
+        (IsOptionsFault (fault_of keep_app (map S.text words.entry.now))) }
 {
     let Ok(command) = command(alloc) else {
         return Err(OptionsFault::Memory);

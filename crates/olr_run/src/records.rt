@@ -35,8 +35,9 @@ fn next_record<R: Read + Drop>(
 /// Takes the records of the input, and writes a reply or a fault for each before it takes the next. Where `stop` is set
 /// it takes none after the first refused one. After a fault the register stands after the records that were taken, and
 /// all of their answers are written but for a rest of the last. Either way, of the commands that these records spell:
-/// each path's published answer is the one that encoding it from nothing gives on the map of the accepted ones, the routes
-/// of its reference join, each reply to a change names the paths whose answer changed, and a refused one changed nothing.
+/// each path's published answer is the one that encoding it from nothing gives on the map of the accepted ones, the
+/// routes of its reference join, each reply to a change names the paths whose answer changed, and a refused one changed
+/// nothing.
 pub fn run<R: Read + Drop, W: Write>(
     alloc: Global,
     register: &mut Register,

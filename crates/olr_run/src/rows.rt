@@ -6,13 +6,17 @@ ghost use Rattle.clap.specs.Takes.{takes};
 ghost use Rattle.clap.specs.declared.error.kind.ErrorKind.TheVariants as kind;
 ghost use Rattle.olr_commands.specs.State.{start_state};
 ghost use Rattle.olr_run.specs.Options.{keep_app, options};
-ghost use Rattle.olr_run.specs.Output.{records_of, greater, Outcomes, Ran, Faulted, Some_refused, Stopped, All_accepted};
-ghost use Rattle.olr_run.specs.Rows.{lines_of, input20, output20, state20};
+ghost use Rattle.olr_run.specs.Output.{records_of, greater, Outcomes, Ran, Faulted, Some_refused, Stopped};
+ghost use Rattle.olr_run.specs.Output.{All_accepted};
+ghost use Rattle.olr_records.specs.Rows.{lines_of};
+ghost use Rattle.olr_run.specs.Rows.{input20, output20, state20};
 
 /// Command lines.
+#[tactic(auto, unfolding(clap::proofs::OnLiterals::clap_on_literals))]
 pub fn rows_options()
     ensures none { options (codes "olr-keep" ∷ []) ≡ record { file = None; stop = false } }
-    ensures both { options (codes "olr-keep" ∷ codes "-s" ∷ codes "-m" ∷ codes "f" ∷ []) ≡ record { file = Some (codes "f"); stop = true } }
+    ensures both { options (codes "olr-keep" ∷ codes "-s" ∷ codes "-m" ∷ codes "f" ∷ [])
+        ≡ record { file = Some (codes "f"); stop = true } }
     ensures joined { options (codes "olr-keep" ∷ codes "-smf" ∷ []) ≡ record { file = Some (codes "f"); stop = true } }
     ensures takes_none { takes keep_app (codes "olr-keep" ∷ []) ≡ true }
     ensures takes_both { takes keep_app (codes "olr-keep" ∷ codes "-s" ∷ codes "-m" ∷ codes "f" ∷ []) ≡ true }
@@ -23,22 +27,29 @@ pub fn rows_options()
 {}
 
 /// Records of bytes.
+#[tactic(auto, unfolding(csv::proofs::OnLiterals::csv_on_literals))]
 pub fn rows_input()
-    ensures lines { records_of (lines_of (codes "node,1,0,0" ∷ codes "drop-node,2" ∷ codes "node,x,0,0" ∷ [])) ≡ (codes "node" ∷ codes "1" ∷ codes "0" ∷ codes "0" ∷ []) ∷ (codes "drop-node" ∷ codes "2" ∷ []) ∷ (codes "node" ∷ codes "x" ∷ codes "0" ∷ codes "0" ∷ []) ∷ [] }
-    ensures quoted { records_of (codes "\"node\",1,0,0") ≡ (codes "node" ∷ codes "1" ∷ codes "0" ∷ codes "0" ∷ []) ∷ [] }
+    ensures lines { records_of (lines_of (codes "node,1,0,0" ∷ codes "drop-node,2" ∷ codes "node,x,0,0" ∷ []))
+        ≡ (codes "node" ∷ codes "1" ∷ codes "0" ∷ codes "0" ∷ []) ∷ (codes "drop-node" ∷ codes "2" ∷ [])
+        ∷ (codes "node" ∷ codes "x" ∷ codes "0" ∷ codes "0" ∷ []) ∷ [] }
+    ensures quoted { records_of (codes "\"node\",1,0,0") ≡ (codes "node" ∷ codes "1" ∷ codes "0" ∷ codes "0" ∷ [])
+        ∷ [] }
     ensures nothing { records_of [] ≡ [] }
-    ensures empty_lines { records_of (10 ∷ codes "report" ++ 13 ∷ 10 ∷ 10 ∷ codes "a,") ≡ (codes "report" ∷ []) ∷ (codes "a" ∷ [] ∷ []) ∷ [] }
+    ensures empty_lines { records_of (10 ∷ codes "report" ++ 13 ∷ 10 ∷ 10 ∷ codes "a,")
+        ≡ (codes "report" ∷ []) ∷ (codes "a" ∷ [] ∷ []) ∷ [] }
     ensures mark { records_of (239 ∷ 187 ∷ 191 ∷ codes "report") ≡ (codes "report" ∷ []) ∷ [] }
 {}
 
 /// Whole runs.
 pub fn rows_runs()
     ensures all { Ran Outcomes false start_state (records_of input20) state20 output20 Some_refused }
-    ensures stopped { Ran Outcomes true start_state (records_of input20) state20 (lines_of (codes "ok,0" ∷ codes "fault,3,NodeExists" ∷ [])) Stopped }
+    ensures stopped { Ran Outcomes true start_state (records_of input20) state20
+        (lines_of (codes "ok,0" ∷ codes "fault,3,NodeExists" ∷ [])) Stopped }
     ensures cut { Faulted Outcomes false start_state (records_of input20) state20 (codes "ok,0" ++ 10 ∷ codes "fau") }
     ensures cut_at_once { Faulted Outcomes false start_state (records_of input20) start_state [] }
     ensures nothing { Ran Outcomes false start_state (records_of []) start_state [] All_accepted }
     ensures greatest { greater Some_refused All_accepted ≡ Some_refused }
-    ensures stopped_in_file { Ran Outcomes true start_state (records_of input20 ++ records_of []) state20 (lines_of (codes "ok,0" ∷ codes "fault,3,NodeExists" ∷ [])) Stopped }
+    ensures stopped_in_file { Ran Outcomes true start_state (records_of input20 ++ records_of []) state20
+        (lines_of (codes "ok,0" ∷ codes "fault,3,NodeExists" ∷ [])) Stopped }
     ensures both { Ran Outcomes false start_state (records_of [] ++ records_of input20) state20 output20 Some_refused }
 {}

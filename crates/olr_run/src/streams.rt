@@ -25,7 +25,8 @@ pub const WRONG_WORDS: u8 = 2;
 const NO_FILE: u8 = 3;
 
 /// Reads the words, opens the command file if they name one, carries out its commands and then those of the input, and
-/// gives the program's status. Replies, and the help that was asked for, go to `output`; what went wrong goes to `errors`.
+/// gives the program's status. Replies, and the help that was asked for, go to `output`; what went wrong goes to
+/// `errors`.
 pub fn program<
     S: AsStr,
     F: Read + Drop,

@@ -16,8 +16,14 @@ returns-in_err-id c =
     let rest = whole_line (at fs 2) (at fs 3) (course (at fs 4) (at fs 5) (at fs 6) (drop 7 fs)) in
     let id = subst (λ (f : Field). Reads (λ n. n) (number f) c.line_id.result) c.field.ensures c.line_id.ensures in
     let told : c.from_residual.result ≡ Err c.in_err-id.field-0.0 = search rules in
-    let both = both-parts (λ _. ⊥) (λ l. 0 < length l.shape) (λ e. HoldsList (Make (On_map e))) _ (λ l. l) front rest c.line_id.result c.line.result c.both.result c.both.ensures
-    (λ g b never. absurd never) (λ a b some. some) (no-memory (λ _. ⊥) _ front c.line_id.result (first-part _ (λ n. n) (number (at fs 1)) c.line_id.result id)) c.line.ensures in
+    let both =
+    both-parts (λ _. ⊥) (λ l. 0 < length l.shape) (λ e. HoldsList (Make (On_map e))) _ (λ l. l) front rest
+    c.line_id.result c.line.result c.both.result c.both.ensures
+    (λ g b never. absurd never) (λ a b some. some)
+    (no-memory (λ _. ⊥) _ front c.line_id.result (first-part _ (λ n. n) (number (at fs 1)) c.line_id.result id))
+    c.line.ensures in
     rw (line-record fs (omega arith))
-    (handed-on HoldsList _ _ (Ok (λ e. Make (On_map e)) ⊛ (front ⊛ rest)) c.both.result c.from_residual.result c.in_err-id.field-0.0 c.in_err-id.was told
-    (made-part (λ e. HoldsList (Make (On_map e))) HoldsList (λ e. Make (On_map e)) _ (front ⊛ rest) c.both.result (λ e h. h) both))
+    (handed-on HoldsList _ _ (Ok (λ e. Make (On_map e)) ⊛ (front ⊛ rest)) c.both.result c.from_residual.result
+    c.in_err-id.field-0.0 c.in_err-id.was told
+    (made-part (λ e. HoldsList (Make (On_map e))) HoldsList (λ e. Make (On_map e)) _ (front ⊛ rest) c.both.result
+    (λ e h. h) both))

@@ -5,7 +5,8 @@ use Rattle.csv.specs.Records.{fields_of}
 use Rattle.olr_spec.specs.Map.{ShapePoint}
 use Rattle.olr_records.specs.Records.{Read, point, shape}
 use Rattle.olr_records.specs.Words.{Gathers, Reads}
-use Rattle.olr_records.proofs.LoopLemmas.{at, with, nothing-onto, shape-end, shape-more, shape-over, gathers-only, some-points}
+use Rattle.olr_records.proofs.LoopLemmas.{at, with, nothing-onto, shape-end, shape-more, shape-over, gathers-only}
+use Rattle.olr_records.proofs.LoopLemmas.{some-points}
 use Rattle.olr_records.proofs.lines.shape.Goals as goal
 
 pub loop-k-init : goal.loop-k-init
@@ -22,7 +23,8 @@ loop-k-preserved c =
     let one = point (at fs k) (at fs (k + 1)) (at fs (k + 2)) in
     let few : k + 3 ≤ length fs = omega arith in
     let read = subst (λ (q : Read ShapePoint). Reads (λ p. p) q c.shape_point-point.result)
-    (λ i. point (c.field.ensures i) (c.field-in-loop-k.ensures i) (c.field-in-loop-k-2.ensures i)) c.shape_point-point.ensures
+    (λ i. point (c.field.ensures i) (c.field-in-loop-k.ensures i) (c.field-in-loop-k-2.ensures i))
+    c.shape_point-point.ensures
     in
     record {
       within = few;
@@ -36,13 +38,16 @@ loop-k-preserved c =
 pub returns-then-k-len : goal.returns-then-k-len
 returns-then-k-len c =
     let fs = fields_of c.args.fields.now in
-    shape-over fs c.loop-k.k c.loop-k.invariant.gathered.0 (shape (drop c.args.start fs)) (omega arith) (omega arith) c.loop-k.invariant.gathered.2
+    shape-over fs c.loop-k.k c.loop-k.invariant.gathered.0 (shape (drop c.args.start fs)) (omega arith) (omega arith)
+    c.loop-k.invariant.gathered.2
 
 pub returns : goal.returns
 returns c =
     let fs = fields_of c.args.fields.now in
     let whole = shape (drop c.args.start fs) in
     let read = subst (λ (x : Read (List ShapePoint)). Gathers (λ _. ⊤) (λ v. v.items) x c.loop-k.points)
-    (shape-end fs c.loop-k.k c.loop-k.invariant.gathered.0 whole (omega arith) c.loop-k.invariant.gathered.2) c.loop-k.invariant.gathered.1
+    (shape-end fs c.loop-k.k c.loop-k.invariant.gathered.0 whole (omega arith) c.loop-k.invariant.gathered.2)
+    c.loop-k.invariant.gathered.1
     in
-    gathers-only (λ _. ⊤) (λ ps. 0 < length ps) (λ v. v.items) whole c.loop-k.points (some-points (drop c.args.start fs) (omega (arith, length-drop c.args.start fs))) read
+    gathers-only (λ _. ⊤) (λ ps. 0 < length ps) (λ v. v.items) whole c.loop-k.points
+    (some-points (drop c.args.start fs) (omega (arith, length-drop c.args.start fs))) read

@@ -11,7 +11,8 @@ use Rattle.olr_records.proofs.lines.shape.Given as goal
 abbrev pub invariant-loop-k : goal.invariant-loop-k
 invariant-loop-k l = record {
   within : l.k ≤ length (fields_of l.fields);
-  gathered : (x : Read (List ShapePoint)) × Gathers (λ _. ⊤) (λ v. v.items) x l.points × (onto x (shape (drop l.k (fields_of l.fields))) ≡ shape (drop l.fn.start (fields_of l.fields)));
+  gathered : (x : Read (List ShapePoint)) × Gathers (λ _. ⊤) (λ v. v.items) x l.points
+      × (onto x (shape (drop l.k (fields_of l.fields))) ≡ shape (drop l.fn.start (fields_of l.fields)));
 }
 
 abbrev pub decreases-loop-k : goal.decreases-loop-k

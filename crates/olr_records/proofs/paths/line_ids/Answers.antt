@@ -24,4 +24,5 @@ pub returns : goal.returns
 returns c =
     let fs = fields_of c.args.fields.now in
     subst (λ (x : Read (List ℕ)). Gathers (λ _. ⊤) (λ v. v.items) x c.loop-k.ids)
-    (numbers-end fs c.loop-k.k c.loop-k.invariant.0 (numbers (drop 4 fs)) (omega arith) c.loop-k.invariant.2) c.loop-k.invariant.1
+    (numbers-end fs c.loop-k.k c.loop-k.invariant.0 (numbers (drop 4 fs)) (omega arith) c.loop-k.invariant.2)
+    c.loop-k.invariant.1

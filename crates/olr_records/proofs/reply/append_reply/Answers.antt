@@ -10,5 +10,6 @@ pub returns-in-Paths : goal.returns-in-Paths
 returns-in-Paths c =
     rw c.in-Paths.is
     (subst (λ (t : List ℕ). OnOk c.push_paths.result (c.push_paths.new.text.items ≡ c.args.text.now.items ++ t))
-    (ap (λ (es : List Entry). accepted (map (λ e. entry_line (entry_of e)) es)) c.deref.ensures.value ∙ ap accepted (entry-lines c.in-Paths.entries.items))
+    (ap (λ (es : List Entry). accepted (map (λ e. entry_line (entry_of e)) es)) c.deref.ensures.value
+    ∙ ap accepted (entry-lines c.in-Paths.entries.items))
     c.push_paths.ensures)

@@ -10,5 +10,8 @@ pub loop-entry-preserved : goal.loop-entry-preserved
 loop-entry-preserved c =
     c.in_ok-push_entry.ensures
     ∙ ap (λ (t : List ℕ). t ++ entry_line (entry_of c.entry-item.result)) c.loop-entry.invariant
-    ∙ ap (λ (e : Entry). (c.args.text.now.items ++ concat (map (λ d. entry_line (entry_of d)) (take c.loop-entry.entry-index c.args.entries.now))) ++ entry_line (entry_of e)) c.entry-item.is
-    ∙ lines-more (λ e. entry_line (entry_of e)) c.args.text.now.items c.args.entries.now c.loop-entry.entry-index c.entry-item.result c.loop-entry-test.true
+    ∙ ap (λ (e : Entry). (c.args.text.now.items
+    ++ concat (map (λ d. entry_line (entry_of d)) (take c.loop-entry.entry-index c.args.entries.now)))
+    ++ entry_line (entry_of e)) c.entry-item.is
+    ∙ lines-more (λ e. entry_line (entry_of e)) c.args.text.now.items c.args.entries.now c.loop-entry.entry-index
+    c.entry-item.result c.loop-entry-test.true

@@ -9,5 +9,7 @@ pub loop-point-preserved : goal.loop-point-preserved
 loop-point-preserved c =
     c.in_ok-push_middle.ensures
     ∙ ap (λ (t : List ℕ). t ++ middle_line c.point-item.result) c.loop-point.invariant
-    ∙ ap (λ (p : Middle). (c.args.text.now.items ++ concat (map middle_line (take c.loop-point.point-index c.args.points.now))) ++ middle_line p) c.point-item.is
-    ∙ lines-more middle_line c.args.text.now.items c.args.points.now c.loop-point.point-index c.point-item.result c.loop-point-test.true
+    ∙ ap (λ (p : Middle). (c.args.text.now.items
+    ++ concat (map middle_line (take c.loop-point.point-index c.args.points.now))) ++ middle_line p) c.point-item.is
+    ∙ lines-more middle_line c.args.text.now.items c.args.points.now c.loop-point.point-index c.point-item.result
+    c.loop-point-test.true

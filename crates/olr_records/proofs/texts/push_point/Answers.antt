@@ -1,4 +1,5 @@
-use Rattle.std.proofs.Common.{take, ◌-◌, arith, ◌≡◌, ℤ, to_z, of_z, w32, rules, List, ℕ, [], ◌∷◌, ◌++◌, map, drop, ap, ◌∙◌}
+use Rattle.std.proofs.Common.{take, ◌-◌, arith, ◌≡◌, ℤ, to_z, of_z, w32, rules, List, ℕ, [], ◌∷◌, ◌++◌, map, drop, ap}
+use Rattle.std.proofs.Common.{◌∙◌}
 use Rattle.std.specs.Prelude.{decimal}
 use Rattle.std.specs.Fmt.{signed_decimal}
 use Rattle.std.proofs.lemmas.List.{take_all, length-drop}
@@ -14,9 +15,11 @@ returns c =
     let numbers : List (List ℕ) = map decimal a.numbers.now in
     let same_lon : to_z w32 (of_z w32 a.lon) ≡ a.lon = search rules in
     let same_lat : to_z w32 (of_z w32 a.lat) ≡ a.lat = search rules in
-    let tail : drop c.put_coordinate-start-2.result c.put_coordinate-start-2.new.line ≡ 44 ∷ (lon ++ 44 ∷ (lat ++ (after_commas numbers ++ 10 ∷ []))) =
+    let tail : drop c.put_coordinate-start-2.result c.put_coordinate-start-2.new.line
+    ≡ 44 ∷ (lon ++ 44 ∷ (lat ++ (after_commas numbers ++ 10 ∷ []))) =
     c.put_coordinate-start-2.ensures.written
-    ∙ ap (λ (z : ℤ). 44 ∷ (signed_decimal z ++ drop c.put_coordinate-start.result c.put_coordinate-start.new.line)) same_lon
+    ∙ ap (λ (z : ℤ). 44 ∷ (signed_decimal z ++ drop c.put_coordinate-start.result c.put_coordinate-start.new.line))
+    same_lon
     ∙ ap (λ (r : List ℕ). 44 ∷ (lon ++ r)) (c.put_coordinate-start.ensures.written
     ∙ ap (λ (z : ℤ). 44 ∷ (signed_decimal z ++ drop c.put_numbers-start.result c.put_numbers-start.new.line)) same_lat
     ∙ ap (λ (r : List ℕ). 44 ∷ (lat ++ r)) c.put_numbers-start.ensures.written)

@@ -12,13 +12,15 @@ put_byte-start-requires-clause-room c = omega (arith, word-digits c.from.result 
 pub put_byte-requires-clause-room : goal.put_byte-requires-clause-room
 put_byte-requires-clause-room c =
     elim c.if-coordinate-lt0.branch [
-      | then-coordinate-lt0 w ↦ omega (arith, word-digits c.from.result (omega arith), w.start-is, w.put_byte-start.ensures.start)
+      | then-coordinate-lt0 w ↦
+          omega (arith, word-digits c.from.result (omega arith), w.start-is, w.put_byte-start.ensures.start)
       | else-coordinate-lt0 w ↦ omega (arith, word-digits c.from.result (omega arith), w.start-is)
     ]
 
 pub returns-clause-start : goal.returns-clause-start
 returns-clause-start c =
     elim c.if-coordinate-lt0.branch [
-      | then-coordinate-lt0 w ↦ omega (arith, word-digits c.from.result (omega arith), w.start-is, w.put_byte-start.ensures.start)
+      | then-coordinate-lt0 w ↦
+          omega (arith, word-digits c.from.result (omega arith), w.start-is, w.put_byte-start.ensures.start)
       | else-coordinate-lt0 w ↦ omega (arith, word-digits c.from.result (omega arith), w.start-is)
     ]

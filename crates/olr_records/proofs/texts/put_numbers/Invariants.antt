@@ -9,7 +9,8 @@ invariant-loop-k l = record {
   within : l.k ≤ length l.numbers;
   room : l.initial.start + 4 * l.k ≤ l.start + 4 * length l.numbers;
   before : l.start ≤ l.initial.start;
-  written : drop l.start l.line ≡ after_commas (map decimal (drop l.k l.numbers)) ++ drop l.initial.start l.initial.line;
+  written : drop l.start l.line ≡ after_commas (map decimal (drop l.k l.numbers))
+      ++ drop l.initial.start l.initial.line;
   size : length l.line ≡ length l.initial.line;
 }
 

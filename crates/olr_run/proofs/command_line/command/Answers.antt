@@ -19,7 +19,10 @@ pub returns : goal.returns
 returns c =
     let file_is : rule_of c.help-file.result ≡ file = search rules in
     let stop_is : rule_of c.help-stop.result ≡ stop = search rules in
-    let version_is : app_of c.version.result ≡ versioned (new_app (codes "olr-keep")) = ap app_of_fields c.version.ensures ∙ ap versioned c.new-3.ensures.app in
-    let head_is : app_of c.after_help.result ≡ versioned (new_app (codes "olr-keep")) = ap app_of_fields c.after_help.ensures ∙ (ap app_of_fields c.about.ensures ∙ version_is) in
-    let first_is : app_of c.in_ok-arg.field-0 ≡ with_rule (versioned (new_app (codes "olr-keep"))) file = c.in_ok-arg.ensures.shape (search rules) ∙ ap₂ with_rule head_is file_is in
+    let version_is : app_of c.version.result ≡ versioned (new_app (codes "olr-keep")) =
+    ap app_of_fields c.version.ensures ∙ ap versioned c.new-3.ensures.app in
+    let head_is : app_of c.after_help.result ≡ versioned (new_app (codes "olr-keep")) =
+    ap app_of_fields c.after_help.ensures ∙ (ap app_of_fields c.about.ensures ∙ version_is) in
+    let first_is : app_of c.in_ok-arg.field-0 ≡ with_rule (versioned (new_app (codes "olr-keep"))) file =
+    c.in_ok-arg.ensures.shape (search rules) ∙ ap₂ with_rule head_is file_is in
     IfOk-weaker c.arg-2.result _ _ (λ r h. h.shape (search rules) ∙ ap₂ with_rule first_is stop_is) c.arg-2.ensures

@@ -16,16 +16,20 @@ returns-in-Ok-try_get_matches_from-clause-ok g c =
     let words = map g.S.AsStr.text c.args.words.now in
     let found = found_of c.in-Ok-try_get_matches_from.matches in
     let app_is : app_of c.in-Ok.command ≡ keep_app = c.in-Ok.ensures in
-    let rows_are : rows_of found ≡ matches_of keep_app words = (c.in-Ok-try_get_matches_from.ensures.matches (ap is_simple app_is)).0 ∙ ap (λ (a : App). matches_of a words) app_is in
+    let rows_are : rows_of found ≡ matches_of keep_app words =
+    (c.in-Ok-try_get_matches_from.ensures.matches (ap is_simple app_is)).0
+    ∙ ap (λ (a : App). matches_of a words) app_is in
     let first : (id : Text) → _ = λ id. first_value-rows found id ∙ ap (first_of id) rows_are in
     let file_is = c.get_str.ensures ∙ first (codes "file") in
-    let stop_is = c.is_given.ensures ∙ ap is_set (c.get_str-in-Ok-try_get_matches_from.ensures ∙ first (codes "stop")) in
+    let stop_is =
+    c.is_given.ensures ∙ ap is_set (c.get_str-in-Ok-try_get_matches_from.ensures ∙ first (codes "stop")) in
     λ i. record { file = file_is i; stop = stop_is i }
 
 pub returns-in-Ok-try_get_matches_from-clause-kinds : goal.returns-in-Ok-try_get_matches_from-clause-kinds
 returns-in-Ok-try_get_matches_from-clause-kinds g c =
     let words = map g.S.AsStr.text c.args.words.now in
-    ap (λ (a : App). fault_of a words) (sym c.in-Ok.ensures) ∙ c.in-Ok-try_get_matches_from.ensures.kinds (ap is_simple_and_free c.in-Ok.ensures)
+    ap (λ (a : App). fault_of a words) (sym c.in-Ok.ensures)
+    ∙ c.in-Ok-try_get_matches_from.ensures.kinds (ap is_simple_and_free c.in-Ok.ensures)
 
 pub returns-in-Err-2-clause-taken : goal.returns-in-Err-2-clause-taken
 returns-in-Err-2-clause-taken g c =

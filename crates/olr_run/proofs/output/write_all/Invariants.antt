@@ -3,7 +3,8 @@ use Rattle.olr_run.proofs.Writing.{Written}
 use Rattle.olr_run.proofs.output.write_all.Given as goal
 
 abbrev pub invariant-loop-written : goal.invariant-loop-written
-invariant-loop-written g l = Written (g.W.Write.contents l.initial.output) (g.W.Write.contents l.output) l.bytes l.written
+invariant-loop-written g l =
+    Written (g.W.Write.contents l.initial.output) (g.W.Write.contents l.output) l.bytes l.written
 
 abbrev pub decreases-loop-written : goal.decreases-loop-written
 decreases-loop-written g l = length l.bytes - l.written

@@ -11,7 +11,8 @@ abbrev pub invariant-records : goal.invariant-records
 invariant-records g l =
     (l.answered ≤ most_records) × IsPlain l.reader
     × IfSome (g.R.Read.remaining l.fn.input) (λ input.
-    SoFar l.fn.stop l.fn.register input (g.W.Write.contents l.fn.output) l.register (g.W.Write.contents l.output) l.status (reader_state l.reader) (source_of g.R.Read.remaining l.reader) l.answered)
+    SoFar l.fn.stop l.fn.register input (g.W.Write.contents l.fn.output) l.register (g.W.Write.contents l.output)
+    l.status (reader_state l.reader) (source_of g.R.Read.remaining l.reader) l.answered)
 
 abbrev pub decreases-records : goal.decreases-records
 decreases-records g l = most_records - l.answered

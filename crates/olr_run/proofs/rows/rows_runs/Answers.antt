@@ -7,21 +7,34 @@ use Rattle.std.specs.Fmt.{digits}
 use Rattle.csv.proofs.OnLiterals.{csv_on_literals}
 use Rattle.olr_spec.specs.Coordinates.{Coord}
 use Rattle.olr_spec.specs.Map.{empty_map, unless, Node_exists, No_node, Node_in_use, Add_node, Drop_node, in_use}
-use Rattle.olr_commands.specs.State.{no_content, start_state, Syntax, Range, Map_fault, On_map, Make, with_map, at_once, step}
+use Rattle.olr_commands.specs.State.{no_content, start_state, Syntax, Range, Map_fault, On_map, Make, with_map, at_once}
+use Rattle.olr_commands.specs.State.{step}
 use Rattle.olr_commands.specs.Reply.{Paths, Told}
 use Rattle.olr_run.specs.Output.{Nothing, In_last}
-use Rattle.olr_run.specs.Rows.{zero, state20}
+use Rattle.olr_records.specs.Rows.{zero}
+use Rattle.olr_run.specs.Rows.{state20}
 use Rattle.olr_run.proofs.rows.rows_runs.Goals as goal
 
 add_first : step start_state (Make (On_map (Add_node 1 zero))) ≡ Ok state20
-add_first = ap (λ (o : Option Coord). at_once (with_map no_content (unless (is_some o) Node_exists (Ok (record empty_map { nodes = insert empty 1 zero }))))) (get-empty nat_cmp 1)
+add_first =
+    ap (λ (o : Option Coord).
+    at_once (with_map no_content
+    (unless (is_some o) Node_exists (Ok (record empty_map { nodes = insert empty 1 zero }))))) (get-empty nat_cmp 1)
 
 add_again : step state20 (Make (On_map (Add_node 1 zero))) ≡ Err (Map_fault Node_exists)
-add_again = ap (λ (o : Option Coord). at_once (with_map state20.content (unless (is_some o) Node_exists (Ok (record empty_map { nodes = insert (insert empty 1 zero) 1 zero }))))) (get-insert nat_cmp_total empty 1 zero 1)
+add_again =
+    ap (λ (o : Option Coord).
+    at_once (with_map state20.content
+    (unless (is_some o) Node_exists (Ok (record empty_map { nodes = insert (insert empty 1 zero) 1 zero })))))
+    (get-insert nat_cmp_total empty 1 zero 1)
 
 drop_none : step state20 (Make (On_map (Drop_node 2))) ≡ Err (Map_fault No_node)
 drop_none =
-    ap (λ (o : Option Coord). at_once (with_map state20.content (unless (not (is_some o)) No_node (unless (in_use state20.content.map 2) Node_in_use (Ok (record empty_map { nodes = remove (insert empty 1 zero) 2 }))))))
+    ap (λ (o : Option Coord).
+    at_once (with_map state20.content
+    (unless (not (is_some o)) No_node
+    (unless (in_use state20.content.map 2) Node_in_use
+    (Ok (record empty_map { nodes = remove (insert empty 1 zero) 2 }))))))
     (get-insert nat_cmp_total empty 1 zero 2 ∙ get-empty nat_cmp 2)
 
 pub returns-clause-all : goal.returns-clause-all
@@ -32,7 +45,11 @@ returns-clause-all c =
       each = (
         state20,
         inl (add_first, refl),
-        (state20, inl (Told add_again, refl), (state20, inl (Told drop_none, refl), (state20, inl (refl, refl), (state20, inl (refl, refl), refl)))),
+        (
+          state20,
+          inl (Told add_again, refl),
+          (state20, inl (Told drop_none, refl), (state20, inl (refl, refl), (state20, inl (refl, refl), refl))),
+        ),
       );
       stops = (λ e. absurd cc, (λ e. absurd cc, (λ e. absurd cc, (λ e. absurd cc, (λ e. refl, tt)))));
       all = inl refl;
@@ -63,7 +80,9 @@ returns-clause-cut c =
       outcomes = Ok (Paths []) ∷ Err (Map_fault Node_exists) ∷ [];
       each = (state20, inl (add_first, refl), (state20, inl (Told add_again, refl), refl));
       stops = (λ e. absurd cc, (λ e. refl, tt));
-      wrote = In_last (Ok (Paths []) ∷ []) (Err (Map_fault Node_exists)) (codes "fau") (codes "lt,3,NodeExists" ++ 10 ∷ []) refl refl refl;
+      wrote =
+          In_last (Ok (Paths []) ∷ []) (Err (Map_fault Node_exists)) (codes "fau") (codes "lt,3,NodeExists" ++ 10 ∷ [])
+          refl refl refl;
     }
 
 pub returns-clause-cut_at_once : goal.returns-clause-cut_at_once
