@@ -20,7 +20,8 @@ const NODES: u32 = 12;
 /// Its lines have those from 1 to this one.
 const LINES: u32 = 26;
 
-/// A register, its twin, and a spare one, which is like the twin; while a batch is open the held commands change the spare.
+/// A register, its twin, and a spare one, which is like the twin; while a batch is open the held commands change the
+/// spare.
 #[derive(Drop)]
 pub struct Pair {
     register: Register,

@@ -1,5 +1,12 @@
-//! Tests of the encoding's parts: paths, passing nodes and the extension, on worked maps.
+//! Tests of what encodings do with a path, on maps that are built by edits: the extension, and what is then chosen and
+//! looked at; each worked out by hand.
 #![tactic(auto)]
 
 #[cfg(test)]
-mod tests;
+mod choices;
+#[cfg(test)]
+mod extension;
+#[cfg(test)]
+mod looks;
+#[cfg(test)]
+mod maps;

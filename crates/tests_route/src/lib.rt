@@ -1,5 +1,10 @@
-//! Tests of searches, least and sole walks, and distances, on small maps.
+//! Tests of searches, walks and distances, of both searches and both maps on a grid of 400 nodes, and of numbers at
+//! nodes.
 #![tactic(auto)]
 
 #[cfg(test)]
-mod tests;
+mod grid;
+#[cfg(test)]
+mod nearness;
+#[cfg(test)]
+mod searches;

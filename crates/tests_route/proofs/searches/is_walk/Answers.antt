@@ -3,7 +3,7 @@ use Rattle.std.proofs.lemmas.List.{take_all, take_more}
 use Rattle.olr_spec.specs.Map.{has_line, start, end}
 use Rattle.olr_spec.specs.Walks.{Walk}
 use Rattle.olr_spec.proofs.WalkLemmas.{Walk-append}
-use Rattle.tests_route.proofs.tests.is_walk.Goals as goal
+use Rattle.tests_route.proofs.searches.is_walk.Goals as goal
 
 pub loop-id-preserved : goal.loop-id-preserved
 loop-id-preserved g c =
@@ -12,8 +12,12 @@ loop-id-preserved g c =
     let x = c.id-item.result in
     let known : IsTrue (has_line M x) = search rules in
     let from : start M x ≡ c.loop-id.at = search rules in
-    let walk : Walk M c.args.source (end M x) (take c.loop-id.id-index lines ++ x ∷ []) = Walk-append M c.args.source c.loop-id.at (end M x) (take c.loop-id.id-index lines) (x ∷ []) c.loop-id.invariant (known, from, refl) in
-    let more : take (c.loop-id.id-index + 1) lines ≡ take c.loop-id.id-index lines ++ x ∷ [] = take_more lines c.loop-id.id-index x c.loop-id-test.true ∙ ap (λ (n : ℕ). take c.loop-id.id-index lines ++ n ∷ []) (sym c.id-item.is) in
+    let walk : Walk M c.args.source (end M x) (take c.loop-id.id-index lines ++ x ∷ []) =
+    Walk-append M c.args.source c.loop-id.at (end M x) (take c.loop-id.id-index lines) (x ∷ []) c.loop-id.invariant
+    (known, from, refl) in
+    let more : take (c.loop-id.id-index + 1) lines ≡ take c.loop-id.id-index lines ++ x ∷ [] =
+    take_more lines c.loop-id.id-index x c.loop-id-test.true
+    ∙ ap (λ (n : ℕ). take c.loop-id.id-index lines ++ n ∷ []) (sym c.id-item.is) in
     subst (λ (v : ℕ). Walk M c.args.source v (take (c.loop-id.id-index + 1) lines)) (sym c.end_of-at.ensures)
     (subst (λ (zs : List ℕ). Walk M c.args.source (end M x) zs) (sym more) walk)
 

@@ -115,8 +115,14 @@ fn judged<M: MapRead>(
     )
 }
 
-/// A node's label: the length, and the number of the last line.
-fn label(labels: &Labels, number: u32) -> (Option<u32>, Option<u32>) {
+/// What is told of a node: the length of the least walk there, and the number of its last line.
+type Label = (Option<u32>, Option<u32>);
+
+/// What is told where no walk leads.
+const NONE: Label = (None, None);
+
+/// A node's label.
+fn label(labels: &Labels, number: u32) -> Label {
     let node = node(number);
     (
         labels.dist(node),
@@ -124,60 +130,101 @@ fn label(labels: &Labels, number: u32) -> (Option<u32>, Option<u32>) {
     )
 }
 
+/// The labels of the nodes from 1 on.
+fn told(labels: &Labels) -> [Label; 4] {
+    [
+        label(labels, 1),
+        label(labels, 2),
+        label(labels, 3),
+        label(labels, 4),
+    ]
+}
+
+/// Those of a search from the node of that number. Labels go here, where that is proved once.
+fn found<M: MapRead>(rt: &impl Abort, alloc: Global, map: &M, source: u32, limit: u32) -> [Label; 4]
+    requires { limit ≤ GREATEST_LIMIT }
+{
+    told(&labels_from(rt, alloc, map, node(source), limit))
+}
+
+/// The labels of nodes 1 to 4 by lines 99 and 30 from node 2.
+const FROM_SECOND: [Label; 4] = [
+    NONE,
+    (Some(0), None),
+    (Some(1500), Some(99)),
+    (Some(2240), Some(30)),
+];
+
+/// A search of the worked map from node 2: its labels, its footprint and what it counts.
+fn assert_searched(rt: &impl Abort, alloc: Global, map: &RoadMap) {
+    let source = node(2);
+    assert!(rt; map.node(source).is_some());
+    let mut footprint = Footprint::new(alloc);
+    let mut work = Work::default();
+    match search(alloc, map, source, 150_000, &mut footprint, &mut work) {
+        Ok(labels) => same!(rt; told(&labels), FROM_SECOND),
+        Err(_) => panic!(rt; "no memory"),
+    }
+    same!(rt; footprint.as_slice(), [source, node(3), node(4)].as_slice());
+    same!(rt; (work.encodings, work.searches, work.settled), (0, 1, 3));
+}
+
 #[test]
 fn search_on_the_base_map(rt: HostRuntime) -> Result<(), Fail> {
     let mut map = base(&rt, rt.alloc());
-    let source = node(2);
-    assert!(rt; map.node(source).is_some());
-    let mut footprint = Footprint::new(rt.alloc());
-    let mut work = Work::default();
-    let labels = search(rt.alloc(), &map, source, 150_000, &mut footprint, &mut work)?;
-    same!(&rt; label(&labels, 1), (None, None));
-    same!(&rt; label(&labels, 2), (Some(0), None));
-    same!(&rt; label(&labels, 3), (Some(1500), Some(99)));
-    same!(&rt; label(&labels, 4), (Some(2240), Some(30)));
-    same!(&rt; footprint.as_slice(), [source, node(3), node(4)].as_slice());
-    same!(&rt; work, Work {
-            encodings: 0,
-            searches: 1,
-            settled: 3
-        });
-
-    for (limit, end) in [(1500, Some(1500)), (1499, None)] {
-        let near = labels_from(&rt, rt.alloc(), &map, source, limit);
-        same!(&rt; label(&near, 2), (Some(0), None));
-        same!(&rt; near.dist(node(3)), end);
-        same!(&rt; label(&near, 4), (None, None));
+    assert_searched(&rt, rt.alloc(), &map);
+    let start = (Some(0), None);
+    for (limit, end) in [(1500, (Some(1500), Some(99))), (1499, NONE)] {
+        same!(&rt; found(&rt, rt.alloc(), &map, 2, limit), [NONE, start, end, NONE]);
     }
-
     make(&mut map, other_line(rt.alloc(), 99, 2000, STRAIGHT)?)?;
-    let tied = labels_from(&rt, rt.alloc(), &map, source, GREATEST_LIMIT);
-    same!(&rt; label(&tied, 3), (Some(2000), Some(20)));
+    let tied = (Some(2000), Some(20));
+    let last = (Some(2740), Some(30));
+    same!(&rt; found(&rt, rt.alloc(), &map, 2, GREATEST_LIMIT), [NONE, start, tied, last]);
     Ok(())
+}
+
+/// Whether each of these walks from a node is the least one, and whether it is the sole one.
+fn assert_judged<M: MapRead>(
+    rt: &impl Abort,
+    alloc: Global,
+    map: &M,
+    source: u32,
+    walks: &[(&[u32], (bool, bool))],
+) {
+    for (lines, wanted) in walks {
+        let found = judged(rt, alloc, map, node(source), lines);
+        assert_eq!(rt; found, *wanted, "the walk {lines:?}");
+    }
 }
 
 #[test]
 fn least_and_sole_walks(rt: HostRuntime) {
     let map = base(&rt, rt.alloc());
-    let source = node(2);
-    for (lines, least) in [
-        (&[][..], true),
-        (&[99], true),
-        (&[99, 30], true),
-        (&[20], false),
-    ] {
-        same!(&rt; judged(&rt, rt.alloc(), &map, source, lines), (least, least));
-    }
+    let walks = [
+        (&[][..], (true, true)),
+        (&[99], (true, true)),
+        (&[99, 30], (true, true)),
+        (&[20], (false, false)),
+    ];
+    assert_judged(&rt, rt.alloc(), &map, 2, &walks);
 
     let map = diamond(&rt, rt.alloc());
-    let source = node(1);
-    let labels = labels_from(&rt, rt.alloc(), &map, source, GREATEST_LIMIT);
-    same!(&rt; label(&labels, 4), (Some(200), Some(7)));
-    same!(&rt; judged(&rt, rt.alloc(), &map, source, &[]), (true, true));
-    same!(&rt; judged(&rt, rt.alloc(), &map, source, &[6]), (true, true));
-    same!(&rt; judged(&rt, rt.alloc(), &map, source, &[6, 7]), (true, false));
-    same!(&rt; judged(&rt, rt.alloc(), &map, source, &[5, 8]), (false, false));
-    same!(&rt; judged(&rt, rt.alloc(), &map, source, &[6, 7, 9]), (true, false));
+    let by_seventh = [
+        (Some(0), None),
+        (Some(100), Some(5)),
+        (Some(100), Some(6)),
+        (Some(200), Some(7)),
+    ];
+    same!(&rt; found(&rt, rt.alloc(), &map, 1, GREATEST_LIMIT), by_seventh);
+    let walks = [
+        (&[][..], (true, true)),
+        (&[6], (true, true)),
+        (&[6, 7], (true, false)),
+        (&[5, 8], (false, false)),
+        (&[6, 7, 9], (true, false)),
+    ];
+    assert_judged(&rt, rt.alloc(), &map, 1, &walks);
 }
 
 #[test]
@@ -187,8 +234,11 @@ fn lines_that_prolong_walks(rt: HostRuntime) {
     for (number, least, sole) in [(6, true, true), (7, true, false), (8, false, false)] {
         let line = line(number);
         assert!(rt; map.line(line).is_some());
-        same!(&rt; extends_least(&map, &labels, line), least);
-        same!(&rt; extends_sole(&map, &labels, line), sole);
+        let found = (
+            extends_least(&map, &labels, line),
+            extends_sole(&map, &labels, line),
+        );
+        same!(&rt; found, (least, sole));
     }
 }
 
@@ -200,21 +250,20 @@ fn loops_and_parallel_lines(rt: HostRuntime) {
         2,
         &[(1, 1, 1, 50), (3, 1, 2, 100), (2, 1, 2, 100)],
     );
-    let source = node(1);
-    let labels = labels_from(&rt, rt.alloc(), &map, source, GREATEST_LIMIT);
-    same!(&rt; label(&labels, 1), (Some(0), None));
-    same!(&rt; label(&labels, 2), (Some(100), Some(2)));
-    same!(&rt; judged(&rt, rt.alloc(), &map, source, &[1]), (false, false));
-    same!(&rt; judged(&rt, rt.alloc(), &map, source, &[2]), (true, false));
-    same!(&rt; judged(&rt, rt.alloc(), &map, source, &[3]), (false, false));
-
-    let here = labels_from(&rt, rt.alloc(), &map, source, 0);
-    same!(&rt; label(&here, 1), (Some(0), None));
-    same!(&rt; label(&here, 2), (None, None));
+    let start = (Some(0), None);
+    let second = (Some(100), Some(2));
+    same!(&rt; found(&rt, rt.alloc(), &map, 1, GREATEST_LIMIT), [start, second, NONE, NONE]);
+    same!(&rt; found(&rt, rt.alloc(), &map, 1, 0), [start, NONE, NONE, NONE]);
+    let walks = [
+        (&[1][..], (false, false)),
+        (&[2], (true, false)),
+        (&[3], (false, false)),
+    ];
+    assert_judged(&rt, rt.alloc(), &map, 1, &walks);
 }
 
 #[test]
-fn plain_search_on_the_base_map(rt: HostRuntime) -> Result<(), Fail> {
+fn plain_search_on_the_base_map(rt: HostRuntime) {
     let map = base(&rt, rt.alloc());
     let source = node(2);
     assert!(rt; map.node(source).is_some());
@@ -224,15 +273,11 @@ fn plain_search_on_the_base_map(rt: HostRuntime) -> Result<(), Fail> {
         searches: u64::MAX,
         settled: 0,
     };
-    let labels = plain::search(rt.alloc(), &map, source, 150_000, &mut footprint, &mut work)?;
-    same!(&rt; label(&labels, 3), (Some(1500), Some(99)));
-    same!(&rt; label(&labels, 4), (Some(2240), Some(30)));
-    same!(&rt; work, Work {
-            encodings: 7,
-            searches: u64::MAX,
-            settled: 3
-        });
-    Ok(())
+    match plain::search(rt.alloc(), &map, source, 150_000, &mut footprint, &mut work) {
+        Ok(labels) => same!(&rt; told(&labels), FROM_SECOND),
+        Err(_) => panic!(rt; "no memory"),
+    }
+    same!(&rt; (work.encodings, work.searches, work.settled), (7, u64::MAX, 3));
 }
 
 /// What a search from nodes, given by number and length, tells at the nodes from 1 on.
@@ -325,54 +370,77 @@ fn distances_in_either_direction(rt: HostRuntime) {
     same!(&rt; distances(&rt, rt.alloc(), &ring, Direction::Against, &[(1, 0)], 100), [Some(0), Some(50), Some(30), None]);
 }
 
+/// What a search tells at the nodes from 1 on, and how many it settled.
+fn seen(map: &RoadMap, search: &Search) -> ([Option<u32>; 4], usize) {
+    let dists = [
+        search.dist(map, node(1)),
+        search.dist(map, node(2)),
+        search.dist(map, node(3)),
+        search.dist(map, node(4)),
+    ];
+    (dists, search.settled())
+}
+
+/// Settles a search of the worked map from node 2 step by step.
+fn settle_in_steps(rt: &impl Abort, map: &RoadMap, search: &mut Search) -> Result<(), Fail> {
+    search.begin(map, Direction::Along, &[(node(2), 0)])?;
+    same!(rt; seen(map, search), ([None, Some(0), None, None], 1));
+    search.settle_to(map, 1500)?;
+    let third = [None, Some(0), Some(1500), None];
+    same!(rt; seen(map, search), (third, 2));
+    search.settle_to(map, 700)?;
+    same!(rt; seen(map, search), (third, 2));
+    search.settle_to(map, 2240)?;
+    same!(rt; seen(map, search), ([None, Some(0), Some(1500), Some(2240)], 3));
+    Ok(())
+}
+
+/// That a search reached these nodes in this order, each with its distance.
+fn assert_reached(rt: &impl Abort, map: &RoadMap, search: &Search, numbers: &[u32]) {
+    for (at, number) in search.reached().iter().zip(numbers) {
+        let reached = node(*number);
+        same!(rt; at.node, reached);
+        same!(rt; search.dist_at(at.place), search.dist(map, reached));
+    }
+}
+
+/// The same search begun anew on the diamond, against its lines from node 4.
+fn begin_anew(rt: &impl Abort, map: &RoadMap, search: &mut Search) -> Result<(), Fail> {
+    search.begin(map, Direction::Against, &[(node(4), 0)])?;
+    search.settle_to(map, 100)?;
+    same!(rt; seen(map, search), ([None, Some(100), Some(100), Some(0)], 3));
+    Ok(())
+}
+
 #[test]
 fn search_step_by_step(rt: HostRuntime) -> Result<(), Fail> {
     let map = base(&rt, rt.alloc());
-    let (second, third, fourth) = (node(2), node(3), node(4));
     let mut search = Search::new(rt.alloc());
-    search.begin(&map, Direction::Along, &[(second, 0)])?;
-    same!(&rt; search.dist(&map, second), Some(0));
-    same!(&rt; search.dist(&map, third), None);
-    same!(&rt; search.settled(), 1);
-    search.settle_to(&map, 1500)?;
-    same!(&rt; search.dist(&map, third), Some(1500));
-    same!(&rt; search.dist(&map, fourth), None);
-    same!(&rt; search.settled(), 2);
-    search.settle_to(&map, 700)?;
-    same!(&rt; search.dist(&map, third), Some(1500));
-    search.settle_to(&map, 2240)?;
-    same!(&rt; search.dist(&map, fourth), Some(2240));
-    same!(&rt; search.settled(), 3);
-    let reached: [NodeId; 3] = [second, third, fourth];
-    for (at, reached) in search.reached().iter().zip(reached) {
-        same!(&rt; at.node, reached);
-        same!(&rt; search.dist_at(at.place), search.dist(&map, reached));
-    }
+    settle_in_steps(&rt, &map, &mut search)?;
+    assert_reached(&rt, &map, &search, &[2, 3, 4]);
+    begin_anew(&rt, &diamond(&rt, rt.alloc()), &mut search)
+}
 
-    let other = diamond(&rt, rt.alloc());
-    search.begin(&other, Direction::Against, &[(fourth, 0)])?;
-    search.settle_to(&other, 100)?;
-    same!(&rt; search.dist(&other, node(1)), None);
-    same!(&rt; search.dist(&other, second), Some(100));
-    same!(&rt; search.dist(&other, third), Some(100));
-    same!(&rt; search.settled(), 3);
+/// Whether a line prolongs a sole walk from node 1, for each of these.
+fn assert_sole(
+    rt: &impl Abort,
+    alloc: Global,
+    map: &RoadMap,
+    lines: &[(u32, bool)],
+) -> Result<(), Fail> {
+    let from = [(node(1), 0)];
+    let search = near(alloc, map, Direction::Along, &from, GREATEST_LIMIT)?;
+    for (number, sole) in lines {
+        same!(rt; search.extends_sole(map, line(*number)), *sole);
+    }
     Ok(())
 }
 
 #[test]
 fn sole_walks_by_distances(rt: HostRuntime) -> Result<(), Fail> {
     let map = diamond(&rt, rt.alloc());
-    let from = node(1);
-    let search = near(
-        rt.alloc(),
-        &map,
-        Direction::Along,
-        &[(from, 0)],
-        GREATEST_LIMIT,
-    )?;
-    for (number, sole) in [(5, true), (6, true), (7, false), (8, false), (10, false)] {
-        same!(&rt; search.extends_sole(&map, line(number)), sole);
-    }
+    let lines = [(5, true), (6, true), (7, false), (8, false), (10, false)];
+    assert_sole(&rt, rt.alloc(), &map, &lines)?;
 
     let map = made(
         &rt,
@@ -386,15 +454,6 @@ fn sole_walks_by_distances(rt: HostRuntime) -> Result<(), Fail> {
             (5, 2, 3, 11),
         ],
     );
-    let search = near(
-        rt.alloc(),
-        &map,
-        Direction::Along,
-        &[(from, 0)],
-        GREATEST_LIMIT,
-    )?;
-    for (number, sole) in [(1, false), (2, false), (3, false), (4, true), (5, false)] {
-        same!(&rt; search.extends_sole(&map, line(number)), sole);
-    }
-    Ok(())
+    let lines = [(1, false), (2, false), (3, false), (4, true), (5, false)];
+    assert_sole(&rt, rt.alloc(), &map, &lines)
 }

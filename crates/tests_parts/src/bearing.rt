@@ -1,0 +1,301 @@
+use olr_bearing::{Ends, Scaled, bearing_back, bearing_out, place, sector};
+use olr_coords::Coord;
+use olr_map::{Line, NodeId, Shape};
+use std::alloc::{AllocError, Global};
+use std::process::Abort;
+use std::test::Fail;
+
+/// The greatest latitude of a place, 89.9999 degrees, in units.
+const GREATEST_LAT: i64 = 29_491_167_232_000;
+/// The greatest part of a direction, 10^31.
+const GREATEST_PART: i128 = 10_000_000_000_000_000_000_000_000_000_000;
+
+/// A place, in 10^-5 degree.
+fn at_degrees(rt: &impl Abort, lon: i32, lat: i32) -> Coord {
+    at_units(rt, i64::from(lon) * 3_276_800, i64::from(lat) * 3_276_800)
+}
+
+fn at_units(rt: &impl Abort, lon: i64, lat: i64) -> Coord {
+    Coord::new(lon, lat).expect(rt, "a place on the earth")
+}
+
+fn ends_of(from: Coord, to: Coord) -> Ends {
+    Ends { from, to }
+}
+
+/// A shape point so far along its line, in 10^-5 degree.
+fn shape(rt: &impl Abort, at: u32, lon: i32, lat: i32) -> Shape {
+    Shape {
+        at,
+        place: at_degrees(rt, lon, lat),
+    }
+}
+
+fn node(rt: &impl Abort, number: u32) -> NodeId {
+    NodeId::new(number).expect(rt, "a number from 1")
+}
+
+/// A line of this length with these shape points.
+fn line(rt: &impl Abort, alloc: Global, len: u32, points: &[Shape]) -> Result<Line, AllocError> {
+    Ok(Line {
+        from: node(rt, 1),
+        to: node(rt, 2),
+        frc: 3,
+        fow: 3,
+        len,
+        shape: Vec::from_slice(alloc, points)?,
+    })
+}
+
+fn place_at(rt: &impl Abort, line: &Line, ends: &Ends, at: u32) -> Scaled {
+    assert!(rt; line.is_good() && at <= line.len);
+    place(line, *ends, at)
+}
+
+fn out_of(rt: &impl Abort, line: &Line, ends: &Ends) -> u8 {
+    assert!(rt; line.is_good());
+    bearing_out(line, *ends)
+}
+
+fn back_of(rt: &impl Abort, line: &Line, ends: &Ends) -> u8 {
+    assert!(rt; line.is_good());
+    bearing_back(line, *ends)
+}
+
+fn sector_of(rt: &impl Abort, east: i128, north: i128) -> u8 {
+    assert!(rt; (-GREATEST_PART..=GREATEST_PART).contains(&east));
+    assert!(rt; (-GREATEST_PART..=GREATEST_PART).contains(&north));
+    sector(east, north)
+}
+
+#[test]
+fn sector_boundaries(rt: HostRuntime) {
+    for (east, north, want) in [(0, 1, 0), (1, 1, 4), (1, 0, 8), (-1, 1000, 31), (0, 0, 0)] {
+        assert_eq!(rt; sector_of(&rt, east, north), want, "at {east}, {north}");
+    }
+}
+
+/// A boundary belongs to the sector after it.
+#[test]
+fn sectors_on_boundaries(rt: HostRuntime) {
+    for (east, north, want) in [
+        (0, 1_000_000, 0),
+        (198_912, 1_000_000, 1),
+        (414_214, 1_000_000, 2),
+        (668_179, 1_000_000, 3),
+        (1_000_000, 1_000_000, 4),
+        (1_000_000, 668_179, 5),
+        (1_000_000, 414_214, 6),
+        (1_000_000, 198_912, 7),
+        (1_000_000, 0, 8),
+        (1_000_000, -198_912, 9),
+        (1_000_000, -414_214, 10),
+        (1_000_000, -668_179, 11),
+        (1_000_000, -1_000_000, 12),
+        (668_179, -1_000_000, 13),
+        (414_214, -1_000_000, 14),
+        (198_912, -1_000_000, 15),
+        (0, -1_000_000, 16),
+        (-198_912, -1_000_000, 17),
+        (-414_214, -1_000_000, 18),
+        (-668_179, -1_000_000, 19),
+        (-1_000_000, -1_000_000, 20),
+        (-1_000_000, -668_179, 21),
+        (-1_000_000, -414_214, 22),
+        (-1_000_000, -198_912, 23),
+        (-1_000_000, 0, 24),
+        (-1_000_000, 198_912, 25),
+        (-1_000_000, 414_214, 26),
+        (-1_000_000, 668_179, 27),
+        (-1_000_000, 1_000_000, 28),
+        (-668_179, 1_000_000, 29),
+        (-414_214, 1_000_000, 30),
+        (-198_912, 1_000_000, 31),
+    ] {
+        assert_eq!(rt; sector_of(&rt, east, north), want, "at {east}, {north}");
+    }
+}
+
+#[test]
+fn sectors_before_boundaries(rt: HostRuntime) {
+    for (east, north, want) in [
+        (-1, 1_000_000, 31),
+        (198_911, 1_000_000, 0),
+        (414_213, 1_000_000, 1),
+        (668_178, 1_000_000, 2),
+        (999_999, 1_000_000, 3),
+        (999_999, 668_179, 4),
+        (999_999, 414_214, 5),
+        (999_999, 198_912, 6),
+        (1_000_000, 1, 7),
+        (1_000_001, -1_000_000, 11),
+        (668_180, -1_000_000, 12),
+        (1, -1_000_000, 15),
+        (-999_999, -1_000_000, 19),
+        (-999_999, -198_912, 22),
+        (-1_000_000, -1, 23),
+        (-1_000_001, 1_000_000, 27),
+        (-198_913, 1_000_000, 30),
+    ] {
+        assert_eq!(rt; sector_of(&rt, east, north), want, "at {east}, {north}");
+    }
+}
+
+#[test]
+fn sectors_of_the_greatest_directions(rt: HostRuntime) {
+    same!(&rt; sector_of(&rt, GREATEST_PART, 0), 8);
+    same!(&rt; sector_of(&rt, 0, -GREATEST_PART), 16);
+    same!(&rt; sector_of(&rt, -GREATEST_PART, -GREATEST_PART), 20);
+    same!(&rt; sector_of(&rt, -1, GREATEST_PART), 31);
+}
+
+/// A line of 1000 dm to the east, on the equator.
+#[test]
+fn places_and_bearings(rt: HostRuntime) -> Result<(), Fail> {
+    let line = line(&rt, rt.alloc(), 1000, &[])?;
+    let ends = ends_of(at_degrees(&rt, 0, 0), at_degrees(&rt, 100, 0));
+    let at_200 = Scaled {
+        lon: 65_536_000_000,
+        lat: 0,
+        width: 1000,
+    };
+    same!(&rt; place_at(&rt, &line, &ends, 200), at_200);
+    same!(&rt; place_at(&rt, &line, &ends, 0).lon, 0);
+    same!(&rt; place_at(&rt, &line, &ends, 1000).lon, 327_680_000_000);
+    same!(&rt; out_of(&rt, &line, &ends), 8);
+    same!(&rt; back_of(&rt, &line, &ends), 24);
+    Ok(())
+}
+
+/// At latitude 60 the cosine is a half, so that twice as far to the east as to the north is north-east.
+#[test]
+fn bearings_at_latitude_60(rt: HostRuntime) -> Result<(), Fail> {
+    let line = line(&rt, rt.alloc(), 700, &[])?;
+    let from = at_degrees(&rt, 0, 6_000_000);
+    let half_way = ends_of(from, at_degrees(&rt, 100, 6_000_050));
+    same!(&rt; out_of(&rt, &line, &half_way), 4);
+    same!(&rt; back_of(&rt, &line, &half_way), 20);
+    let steeper = ends_of(from, at_degrees(&rt, 100, 6_000_051));
+    same!(&rt; out_of(&rt, &line, &steeper), 3);
+    Ok(())
+}
+
+/// The bearing looks past a shape point at 100 dm to the place at 200 dm, and to the line's end where that is nearer.
+/// The line goes north and then east: at 201 dm the place lies before the end, a little north of north-east.
+#[test]
+fn bearing_out_of_200_dm(rt: HostRuntime) -> Result<(), Fail> {
+    let ends = ends_of(at_degrees(&rt, 0, 0), at_degrees(&rt, 50, 50));
+    let corner = shape(&rt, 100, 0, 50);
+    for (len, want) in [(199, 4), (200, 4), (201, 3)] {
+        let line = line(&rt, rt.alloc(), len, &[corner])?;
+        assert_eq!(rt; out_of(&rt, &line, &ends), want, "of {len} dm");
+    }
+    Ok(())
+}
+
+/// The same backwards, on a line that goes east and then north.
+#[test]
+fn bearing_back_of_200_dm(rt: HostRuntime) -> Result<(), Fail> {
+    let ends = ends_of(at_degrees(&rt, 0, 0), at_degrees(&rt, 50, 50));
+    let corner = shape(&rt, 100, 50, 0);
+    for (len, want) in [(199, 20), (200, 20), (201, 19)] {
+        let line = line(&rt, rt.alloc(), len, &[corner])?;
+        assert_eq!(rt; back_of(&rt, &line, &ends), want, "of {len} dm");
+    }
+    Ok(())
+}
+
+/// A shape point belongs to the interval before it.
+#[test]
+fn shape_point_at_200_dm(rt: HostRuntime) -> Result<(), Fail> {
+    let ends = ends_of(at_degrees(&rt, 0, 0), at_degrees(&rt, 300, 0));
+    let corner = shape(&rt, 200, 0, -100);
+    let line = line(&rt, rt.alloc(), 500, &[corner])?;
+    let at_200 = Scaled {
+        lon: 0,
+        lat: -65_536_000_000,
+        width: 200,
+    };
+    let at_201 = Scaled {
+        lon: 983_040_000,
+        lat: -97_976_320_000,
+        width: 300,
+    };
+    same!(&rt; place_at(&rt, &line, &ends, 200), at_200);
+    same!(&rt; place_at(&rt, &line, &ends, 201), at_201);
+    same!(&rt; out_of(&rt, &line, &ends), 16);
+    Ok(())
+}
+
+/// At 89.9999 degrees north and south a degree of longitude is some 56,250 times as short as one of latitude.
+#[test]
+fn bearings_near_the_poles(rt: HostRuntime) -> Result<(), Fail> {
+    let line = line(&rt, rt.alloc(), 10, &[])?;
+    for (lon, south, north) in [(56_250, 12, 3), (56_251, 11, 4)] {
+        let from_north = ends_of(
+            at_units(&rt, 0, GREATEST_LAT),
+            at_units(&rt, lon, GREATEST_LAT - 1),
+        );
+        let from_south = ends_of(
+            at_units(&rt, 0, -GREATEST_LAT),
+            at_units(&rt, lon, 1 - GREATEST_LAT),
+        );
+        assert_eq!(rt; out_of(&rt, &line, &from_north), south, "of {lon}");
+        assert_eq!(rt; out_of(&rt, &line, &from_south), north, "of {lon}");
+    }
+    Ok(())
+}
+
+/// The longest and widest lines: from pole to pole, and round the earth.
+#[test]
+fn bearings_of_the_widest_lines(rt: HostRuntime) -> Result<(), Fail> {
+    let line = line(&rt, rt.alloc(), 1_000_000, &[])?;
+    let least_lon = -58_982_400_000_000;
+    let greatest_lon = 58_982_367_232_000;
+    let north = ends_of(
+        at_units(&rt, 0, -GREATEST_LAT),
+        at_units(&rt, 0, GREATEST_LAT),
+    );
+    let east = ends_of(at_units(&rt, least_lon, 0), at_units(&rt, greatest_lon, 0));
+    same!(&rt; out_of(&rt, &line, &north), 0);
+    same!(&rt; back_of(&rt, &line, &north), 16);
+    same!(&rt; out_of(&rt, &line, &east), 8);
+    same!(&rt; back_of(&rt, &line, &east), 24);
+    Ok(())
+}
+
+/// A line that ends where it began.
+#[test]
+fn bearing_of_no_direction(rt: HostRuntime) -> Result<(), Fail> {
+    let line = line(&rt, rt.alloc(), 100, &[])?;
+    let ends = ends_of(
+        at_degrees(&rt, 612_683, 4_960_852),
+        at_degrees(&rt, 612_683, 4_960_852),
+    );
+    same!(&rt; out_of(&rt, &line, &ends), 0);
+    same!(&rt; back_of(&rt, &line, &ends), 0);
+    Ok(())
+}
+
+/// The bearings out of two lines and the bearing back of a third, which join.
+#[test]
+fn bearings_of_three_points(rt: HostRuntime) -> Result<(), Fail> {
+    let first = at_degrees(&rt, 612_683, 4_960_852);
+    let second = at_degrees(&rt, 612_838, 4_960_399);
+    let third = at_degrees(&rt, 612_790, 4_960_350);
+    let last = at_degrees(&rt, 612_817, 4_960_306);
+    let near_first = shape(&rt, 200, 612_701, 4_960_838);
+    let before_second = shape(&rt, 5410, 612_820, 4_960_413);
+    let after_second = shape(&rt, 200, 612_820, 4_960_389);
+    let before_last = shape(&rt, 540, 612_792, 4_960_311);
+    let to_second = ends_of(first, second);
+    let to_third = ends_of(second, third);
+    let to_last = ends_of(third, last);
+    let line_to_second = line(&rt, rt.alloc(), 5610, &[near_first, before_second])?;
+    let line_to_third = line(&rt, rt.alloc(), 2000, &[after_second])?;
+    let line_to_last = line(&rt, rt.alloc(), 740, &[before_last])?;
+    same!(&rt; out_of(&rt, &line_to_second, &to_second), 12);
+    same!(&rt; out_of(&rt, &line_to_third, &to_third), 20);
+    same!(&rt; back_of(&rt, &line_to_last, &to_last), 25);
+    Ok(())
+}

@@ -1,0 +1,215 @@
+ghost use Rattle.std.specs.Prelude.{◌<◌};
+
+use olr_binary::{
+    Attrs, First, Last, Middle, Reference, TextFault, V3Fault, decoded, from_text, read_v3,
+    to_text, write_v3,
+};
+use std::alloc::{AllocError, Global};
+use std::process::Abort;
+use std::test::Fail;
+
+/// The bytes of the reference of three points.
+const THREE_POINTS: [u8; 24] = [
+    0x0b, 0x04, 0x5b, 0x5b, 0x23, 0x46, 0xf5, 0x1a, 0x6c, 0x09, 0x00, 0x9b, 0xfe, 0x3b, 0x1b, 0xb4,
+    0x04, 0xff, 0xeb, 0xff, 0xa3, 0x2b, 0x59, 0x44,
+];
+/// Their base64.
+const THREE_POINTS_TEXT: &str = "CwRbWyNG9RpsCQCb/jsbtAT/6/+jK1lE";
+
+const FIRST: First = First {
+    lon: 285_531,
+    lat: 2_311_925,
+    attrs: Attrs {
+        frc: 3,
+        fow: 2,
+        lfrc: 3,
+        bearing: 12,
+        dnp: 9,
+    },
+};
+
+const MIDDLE: Middle = Middle {
+    dlon: 155,
+    dlat: -453,
+    attrs: Attrs {
+        frc: 3,
+        fow: 3,
+        lfrc: 5,
+        bearing: 20,
+        dnp: 4,
+    },
+};
+
+const LAST: Last = Last {
+    dlon: -21,
+    dlat: -93,
+    frc: 5,
+    fow: 3,
+    bearing: 25,
+};
+
+/// The reference of three points.
+fn three_points(alloc: Global) -> Result<Reference, AllocError> {
+    Ok(Reference {
+        first: FIRST,
+        middle: Vec::from_array(alloc, [MIDDLE])?,
+        last: LAST,
+        pos: Some(68),
+        neg: None,
+    })
+}
+
+/// Asserts that the reference is the one of three points.
+fn assert_three_points(rt: &impl Abort, reference: &Reference) {
+    same!(rt; reference.first, FIRST);
+    same!(rt; reference.middle.as_slice(), [MIDDLE].as_slice());
+    same!(rt; reference.last, LAST);
+    same!(rt; reference.pos, Some(68));
+    same!(rt; reference.neg, None);
+}
+
+#[test]
+fn three_points_are_spelled(rt: HostRuntime) -> Result<(), Fail> {
+    let reference = three_points(rt.alloc())?;
+    let bytes = write_v3(rt.alloc(), &reference)?;
+    same!(&rt; bytes.as_slice(), THREE_POINTS.as_slice());
+    let text = to_text(rt.alloc(), &reference)?;
+    same!(&rt; text.as_str(), THREE_POINTS_TEXT);
+    Ok(())
+}
+
+#[test]
+fn three_points_are_read(rt: HostRuntime) -> Result<(), Fail> {
+    assert_three_points(&rt, &read_v3(rt.alloc(), &THREE_POINTS)?);
+    assert_three_points(&rt, &from_text(rt.alloc(), THREE_POINTS_TEXT.as_bytes())?);
+    Ok(())
+}
+
+#[test]
+fn two_points_are_read(rt: HostRuntime) -> Result<(), Fail> {
+    let reference = from_text(rt.alloc(), b"CwRbWyNG9RpsCQCb/jsaHA==")?;
+    same!(&rt; reference.first, FIRST);
+    assert!(rt; reference.middle.is_empty());
+    let last = Last {
+        dlon: 155,
+        dlat: -453,
+        frc: 3,
+        fow: 2,
+        bearing: 28,
+    };
+    same!(&rt; reference.last, last);
+    same!(&rt; reference.pos, None);
+    same!(&rt; reference.neg, None);
+    Ok(())
+}
+
+/// The fault of a text.
+fn fault_of(alloc: Global, text: &str) -> Option<TextFault> {
+    from_text(alloc, text.as_bytes()).err()
+}
+
+#[test]
+fn other_texts_are_refused(rt: HostRuntime) {
+    let cases = [
+        ("", TextFault::Bytes(V3Fault::Length)),
+        (
+            "CgRbWyNG9RpsCQCb/jsaHA==",
+            TextFault::Bytes(V3Fault::Status),
+        ),
+        (
+            "CwRbWyNG9RpsCQCb/jsbtAT/6/+jK1k=",
+            TextFault::Bytes(V3Fault::Flags),
+        ),
+        (
+            "CwRbWyNG9ZpsCQCb/jsaHA==",
+            TextFault::Bytes(V3Fault::Reserved),
+        ),
+        ("*", TextFault::NotBase64),
+        ("CwRbWyNG9RpsCQCb/jsaHA", TextFault::NotBase64),
+        ("CwRbWyNG9RpsCQCb_jsaHA==", TextFault::NotBase64),
+    ];
+    for (text, fault) in cases {
+        same!(&rt; fault_of(rt.alloc(), text), Some(fault));
+    }
+}
+
+#[test]
+fn bytes_cut_short(rt: HostRuntime) {
+    for len in 0..24 {
+        let fault = match len {
+            16 | 18 | 23 => V3Fault::Flags,
+            17 => V3Fault::Reserved,
+            _ => V3Fault::Length,
+        };
+        same!(&rt; read_v3(rt.alloc(), &THREE_POINTS[..len]).err(), Some(fault));
+    }
+}
+
+/// The fault of the three points with one bit changed.
+fn fault_with(alloc: Global, place: usize, bit: u8) -> Option<V3Fault>
+    requires { place < 24 }
+{
+    let mut bytes = THREE_POINTS;
+    bytes[place] ^= bit;
+    read_v3(alloc, &bytes).err()
+}
+
+#[test]
+fn single_bits_are_told(rt: HostRuntime) {
+    for bit in [1, 2, 4, 8, 16, 32, 64, 128] {
+        same!(&rt; fault_with(rt.alloc(), 0, bit), Some(V3Fault::Status));
+    }
+    for bit in [32, 64] {
+        same!(&rt; fault_with(rt.alloc(), 22, bit), Some(V3Fault::Flags));
+    }
+    for bit in [64, 128] {
+        same!(&rt; fault_with(rt.alloc(), 7, bit), Some(V3Fault::Reserved));
+        same!(&rt; fault_with(rt.alloc(), 14, bit), Some(V3Fault::Reserved));
+        same!(&rt; fault_with(rt.alloc(), 21, bit), Some(V3Fault::Reserved));
+    }
+    same!(&rt; fault_with(rt.alloc(), 22, 128), Some(V3Fault::Reserved));
+    same!(&rt; fault_with(rt.alloc(), 8, 128), None);
+}
+
+#[test]
+fn offset_bytes_of_0_are_accepted(rt: HostRuntime) -> Result<(), Fail> {
+    let reference = from_text(rt.alloc(), b"CwRbWyNG9RpsCQCb/jsaXAA=")?;
+    same!(&rt; reference.pos, Some(0));
+    same!(&rt; reference.neg, None);
+    let text = to_text(rt.alloc(), &reference)?;
+    same!(&rt; text.as_str(), "CwRbWyNG9RpsCQCb/jsaXAA=");
+    Ok(())
+}
+
+#[test]
+fn fifty_points_and_both_offsets(rt: HostRuntime) -> Result<(), Fail> {
+    let mut bytes = Vec::new(rt.alloc());
+    bytes.extend_from_slice(&THREE_POINTS[..10])?;
+    for dlon in 0..48 {
+        bytes.extend_from_slice(&[0, dlon, 0xfe, 0x3b, 0x1b, 0xb4, 0x04])?;
+    }
+    bytes.extend_from_slice(&[0xff, 0xeb, 0xff, 0xa3, 0x2b, 0x79, 0xff, 0x01])?;
+    let reference = read_v3(rt.alloc(), &bytes)?;
+    same!(&rt; reference.first, FIRST);
+    same!(&rt; reference.middle.len(), 48);
+    same!(&rt; reference.middle.get(47).copied(), Some(Middle { dlon: 47, ..MIDDLE }));
+    same!(&rt; reference.last, LAST);
+    same!(&rt; reference.pos, Some(255));
+    same!(&rt; reference.neg, Some(1));
+    let written = write_v3(rt.alloc(), &reference)?;
+    same!(&rt; written.as_slice(), bytes.as_slice());
+    let text = to_text(rt.alloc(), &reference)?;
+    let again = from_text(rt.alloc(), text.as_bytes())?;
+    same!(&rt; again.middle.as_slice(), reference.middle.as_slice());
+    Ok(())
+}
+
+#[test]
+fn points_are_decoded(rt: HostRuntime) -> Result<(), Fail> {
+    let reference = three_points(rt.alloc())?;
+    same!(&rt; decoded(&reference, 0), Some((2_007_636_328_125, 16_255_719_140_625)));
+    same!(&rt; decoded(&reference, 1), Some((2_008_144_232_125, 16_254_234_750_225)));
+    same!(&rt; decoded(&reference, 2), Some((2_008_075_419_325, 16_253_930_007_825)));
+    same!(&rt; decoded(&reference, 3), None);
+    Ok(())
+}

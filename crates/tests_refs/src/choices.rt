@@ -1,0 +1,155 @@
+//! The points of extended paths, by position.
+ghost use Rattle.std.specs.Bool.{OnTrue};
+ghost use Rattle.olr_spec.specs.Extension.{AreJoined};
+
+use crate::maps::{BARE, Course, LONG, LONG_BARE, PASSING, path_of};
+use made_maps::{Place, Plan, STRAIGHT, WORKED, end_of, map_of, start_of};
+use olr_map::{Footprint, LineId, MapRead, RoadMap};
+use olr_refs::{Choice, distances, extend, points, unknown_line};
+use olr_route::{Search, Work};
+use std::alloc::{AllocError, Global};
+use std::process::Abort;
+use std::test::Fail;
+
+/// What an extended path is and what is chosen on it: its lines, its offsets in decimetres, the points' positions, and
+/// how many searches that took.
+type Expected = (&'static [u32], (u64, u64), &'static [usize], u64);
+
+/// Whether there are lines, all in the map, each of which ends where the next one begins.
+fn are_joined<M: MapRead>(map: &M, lines: &[LineId]) -> bool
+    ensures { OnTrue result (AreJoined (M.map map.now) lines.now) }
+{
+    if lines.is_empty() || unknown_line(map, lines).is_some() {
+        return false;
+    }
+    for k in 1..lines.len() {
+        if end_of(map, lines[k - 1]) != start_of(map, lines[k]) {
+            return false;
+        }
+    }
+    true
+}
+
+/// The numbers of lines.
+fn numbers_of(alloc: Global, lines: &[LineId]) -> Result<Vec<u32>, AllocError> {
+    let mut numbers = Vec::new(alloc);
+    for line in lines {
+        numbers.push(line.number())?;
+    }
+    Ok(numbers)
+}
+
+/// Asserts what is chosen on lines of a map.
+fn expect_chosen(
+    rt: &impl Abort,
+    alloc: Global,
+    map: &RoadMap,
+    lines: &[LineId],
+    positions: &[usize],
+    searches: u64,
+) -> Result<(), Fail> {
+    assert!(rt; are_joined(map, lines));
+    let distances = distances(alloc, map, lines)?;
+    let along = olr_refs::Course {
+        map,
+        lines,
+        distances: &distances,
+    };
+    let mut search = Search::new(alloc);
+    let mut work = Work::default();
+    let olr_refs::Chosen { choice, looks } = points(alloc, &along, &mut search, &mut work)?;
+    match choice {
+        Choice::Positions(found) => assert_eq!(rt; found.as_slice(), positions, "the points"),
+        Choice::NoNext(k) => panic!(rt; "no point after position {k}"),
+    }
+    let counted = (looks.len() as u64, work.encodings, work.searches);
+    assert_eq!(rt; counted, (searches, 0, searches), "of {positions:?}");
+    Ok(())
+}
+
+/// Asserts the extended path of a path on a map, and its points.
+fn expect_points(
+    rt: &impl Abort,
+    alloc: Global,
+    map: &RoadMap,
+    course: Course,
+    expected: Expected,
+) -> Result<(), Fail> {
+    let (wanted, offsets, positions, searches) = expected;
+    let path = path_of(rt, alloc, course);
+    assert!(rt; unknown_line(map, path.lines()).is_none());
+    let mut footprint = Footprint::new(alloc);
+    let extended = extend(alloc, map, &path, &mut footprint)?;
+    let lines = numbers_of(alloc, &extended.lines).expect(rt, "memory");
+    let found = (lines.as_slice(), (extended.pos, extended.neg));
+    assert_eq!(rt; found, (wanted, offsets), "of {course:?}");
+    expect_chosen(rt, alloc, map, &extended.lines, positions, searches)
+}
+
+/// The same on the map of a plan.
+fn expect_points_on(
+    rt: &impl Abort,
+    alloc: Global,
+    plan: Plan,
+    course: Course,
+    expected: Expected,
+) -> Result<(), Fail> {
+    let map = map_of(alloc, plan)?;
+    expect_points(rt, alloc, &map, course, expected)
+}
+
+/// The nodes of a long line that leads to a passing node, and of a short line behind it.
+const CHAIN_PLACES: &[Place] = &[(1, 0, 0), (2, 0, 10_000), (3, 0, 20_000)];
+
+/// A ring of three lines, whose nodes are all passing.
+const RING: Plan = (
+    &[(1, 0, 0), (2, 100, 0), (3, 0, 100)],
+    &[
+        (10, 1, 2, 4, 3, 1000, STRAIGHT),
+        (20, 2, 3, 4, 3, 1000, STRAIGHT),
+        (30, 3, 1, 4, 3, 1000, STRAIGHT),
+    ],
+);
+
+/// A chain just as long as may be put before, and one a decimetre longer.
+const CHAIN: Plan = (
+    CHAIN_PLACES,
+    &[
+        (10, 1, 2, 0, 1, 150_000, STRAIGHT),
+        (20, 2, 3, 0, 1, 1000, STRAIGHT),
+    ],
+);
+
+const LONGER_CHAIN: Plan = (
+    CHAIN_PLACES,
+    &[
+        (10, 1, 2, 0, 1, 150_001, STRAIGHT),
+        (20, 2, 3, 0, 1, 1000, STRAIGHT),
+    ],
+);
+
+const ROAD: &[u32] = &[10, 20, 30];
+
+const CASES: &[(Plan, Course, Expected)] = &[
+    (WORKED, (ROAD, 1500, 0), (ROAD, (1500, 0), &[0, 1, 3], 1)),
+    (BARE, (ROAD, 1500, 0), (ROAD, (1500, 0), &[0, 3], 1)),
+    (PASSING, (&[20], 0, 0), (&[10, 20], (1000, 0), &[0, 2], 0)),
+    (RING, (&[10], 0, 0), (&[10], (0, 0), &[0, 1], 0)),
+    // a valid node is taken, though a passing one is farther; without the side road there is none
+    (LONG, (ROAD, 0, 0), (ROAD, (0, 0), &[0, 1, 3], 1)),
+    (LONG_BARE, (ROAD, 0, 0), (ROAD, (0, 0), &[0, 2, 3], 1)),
+    (
+        CHAIN,
+        (&[20], 0, 0),
+        (&[10, 20], (150_000, 0), &[0, 1, 2], 0),
+    ),
+    (LONGER_CHAIN, (&[20], 0, 0), (&[20], (0, 0), &[0, 1], 0)),
+];
+
+#[test]
+fn points_by_position(rt: HostRuntime) -> Result<(), Fail> {
+    for (plan, course, expected) in CASES {
+        expect_points_on(&rt, rt.alloc(), *plan, *course, *expected)?;
+    }
+    Ok(())
+}

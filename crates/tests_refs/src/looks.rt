@@ -1,0 +1,303 @@
+//! What encodings look at: own nodes and looks, worked out by hand, and the footprints that they make up.
+
+use crate::maps::{BARE, Course, LONG, LONG_BARE, PASSING, path_of};
+use made_maps::{
+    FIRST, PLACES, Place, Plan, SECOND, SIDE, STRAIGHT, THIRD, WORKED, make, map_of, new_node,
+    plain_line,
+};
+use olr_map::{Edit, Footprint, RoadMap};
+use olr_refs::{Encoding, Path, encode, refer};
+use olr_route::{Direction, GREATEST_LIMIT, Search, Work, near};
+use std::alloc::{AllocError, Global};
+use std::process::Abort;
+use std::test::Fail;
+
+/// A look: the node where it begins, that of the last position that it tested, and how far apart they are along the
+/// path, in decimetres.
+type Seen = (u32, u32, u32);
+
+/// What is wanted of an encoding: its own nodes, and its looks.
+type Wanted = (&'static [u32], &'static [Seen]);
+
+/// The own nodes, and those within 150,000 dm of where a look begins.
+fn within_reach(alloc: Global, map: &RoadMap, encoding: &Encoding) -> Result<Footprint, Fail> {
+    let mut nodes = Footprint::new(alloc);
+    nodes.note_all(encoding.own.as_slice())?;
+    for look in &encoding.looks {
+        let begin = [(look.from, 0)];
+        let search = near(alloc, map, Direction::Along, &begin, GREATEST_LIMIT)?;
+        for reached in search.reached() {
+            nodes.note(reached.node)?;
+        }
+    }
+    Ok(nodes)
+}
+
+/// Asserts that the own nodes of an encoding and its looks make up the footprint of the path.
+fn expect_footprint(
+    rt: &impl Abort,
+    alloc: Global,
+    map: &RoadMap,
+    path: &Path,
+    encoding: &Encoding,
+) -> Result<(), Fail> {
+    let wanted = within_reach(alloc, map, encoding)?;
+    let mut work = Work::default();
+    let (_, found) = refer(alloc, map, path, &mut work)?;
+    assert_eq!(rt; found.as_slice(), wanted.as_slice(), "the footprint");
+    let looks = encoding.looks.len() as u64;
+    assert_eq!(rt; (work.encodings, work.searches), (1, looks), "the work");
+    Ok(())
+}
+
+/// The numbers of the own nodes of an encoding.
+fn own_of(alloc: Global, encoding: &Encoding) -> Result<Vec<u32>, AllocError> {
+    let mut own = Vec::new(alloc);
+    for node in encoding.own.as_slice() {
+        own.push(node.number())?;
+    }
+    Ok(own)
+}
+
+/// What an encoding looked at.
+fn looks_of(alloc: Global, encoding: &Encoding) -> Result<Vec<Seen>, AllocError> {
+    let mut looks = Vec::new(alloc);
+    for look in &encoding.looks {
+        looks.push((look.from.number(), look.to.number(), look.within))?;
+    }
+    Ok(looks)
+}
+
+/// Asserts what the encoding of a path looked at.
+fn expect_seen(
+    rt: &impl Abort,
+    alloc: Global,
+    encoding: &Encoding,
+    wanted: Wanted,
+    course: Course,
+) {
+    let own = own_of(alloc, encoding).expect(rt, "memory");
+    let looks = looks_of(alloc, encoding).expect(rt, "memory");
+    assert_eq!(rt; (own.as_slice(), looks.as_slice()), wanted, "of {course:?}");
+}
+
+/// Asserts what a path on a map looks at, and that this makes up its footprint.
+fn expect_looks(
+    rt: &impl Abort,
+    alloc: Global,
+    map: &RoadMap,
+    course: Course,
+    wanted: Wanted,
+) -> Result<(), Fail> {
+    let path = path_of(rt, alloc, course);
+    let mut search = Search::new(alloc);
+    let mut work = Work::default();
+    let encoding = encode(alloc, map, &path, &mut search, &mut work)?;
+    expect_seen(rt, alloc, &encoding, wanted, course);
+    let searches = encoding.looks.len() as u64;
+    let counted = (work.encodings, work.searches);
+    assert_eq!(rt; counted, (1, searches), "of {course:?}");
+    expect_footprint(rt, alloc, map, &path, &encoding)
+}
+
+/// The same on the map of a plan.
+fn expect_looks_on(
+    rt: &impl Abort,
+    alloc: Global,
+    plan: Plan,
+    course: Course,
+    wanted: Wanted,
+) -> Result<(), Fail> {
+    let map = map_of(alloc, plan)?;
+    expect_looks(rt, alloc, &map, course, wanted)
+}
+
+/// The worked map with a side road as long as the line beside it.
+const EQUAL: Plan = (
+    PLACES,
+    &[FIRST, SECOND, THIRD, (99, 2, 3, 4, 3, 2000, STRAIGHT)],
+);
+
+/// The worked map without its second line.
+const BROKEN: Plan = (PLACES, &[FIRST, THIRD, SIDE]);
+
+/// The worked map without its side road, and a way round the second line by nodes 6 and 7.
+const DETOUR: Plan = (
+    &[
+        (1, 612_683, 4_960_852),
+        (2, 612_838, 4_960_399),
+        (3, 612_790, 4_960_350),
+        (4, 612_817, 4_960_306),
+        (6, 612_900, 4_960_400),
+        (7, 612_900, 4_960_350),
+    ],
+    &[
+        FIRST,
+        SECOND,
+        THIRD,
+        (60, 2, 6, 4, 3, 700, STRAIGHT),
+        (61, 6, 7, 4, 3, 600, STRAIGHT),
+        (62, 7, 3, 4, 3, 700, STRAIGHT),
+    ],
+);
+
+/// Nodes in a row.
+const ROW: &[Place] = &[(1, 0, 0), (2, 0, 10_000), (3, 0, 11_000), (4, 0, 12_000)];
+
+/// A line as long as two points may be apart, one a decimetre longer, and that one with two lines behind it.
+const LONGEST: Plan = (ROW, &[(10, 1, 2, 0, 1, 150_000, STRAIGHT)]);
+
+const TOO_LONG: Plan = (ROW, &[(10, 1, 2, 0, 1, 150_001, STRAIGHT)]);
+
+const TOO_LONG_FIRST: Plan = (
+    ROW,
+    &[
+        (10, 1, 2, 0, 1, 150_001, STRAIGHT),
+        (20, 2, 3, 0, 1, 1000, STRAIGHT),
+        (30, 3, 4, 0, 1, 1000, STRAIGHT),
+    ],
+);
+
+/// A way round from node 2 to node 2.
+const ROUND: Plan = (
+    &[
+        (1, 0, 0),
+        (2, 100, 0),
+        (3, 200, 100),
+        (4, 200, -100),
+        (5, 100, -100),
+    ],
+    &[
+        (10, 1, 2, 4, 3, 1200, STRAIGHT),
+        (20, 2, 3, 5, 3, 1500, STRAIGHT),
+        (30, 3, 4, 6, 2, 2000, STRAIGHT),
+        (40, 4, 2, 5, 3, 1500, STRAIGHT),
+        (50, 2, 5, 4, 3, 1000, STRAIGHT),
+    ],
+);
+
+const WHOLE: Course = (&[10, 20, 30], 1500, 0);
+
+const ROAD: Course = (&[10, 20, 30], 0, 0);
+
+const FOUR: &[u32] = &[1, 2, 3, 4];
+
+const CASES: &[(Plan, Course, Wanted)] = &[
+    // From node 2, where line 10 ends, to node 3 it is 2000 dm along line 20, and not the 1500 of the side road. Only
+    // line 30 follows line 20, so nothing is looked at from there.
+    (WORKED, WHOLE, (FOUR, &[(2, 3, 2000)])),
+    // of two ways equally long none is taken
+    (EQUAL, WHOLE, (FOUR, &[(2, 3, 2000)])),
+    // without the side road position 2 is covered, and it is the last that is tested
+    (BARE, WHOLE, (FOUR, &[(2, 3, 2000)])),
+    // the way round by nodes 6 and 7 is within reach, and they are none of the path's own
+    (DETOUR, ROAD, (FOUR, &[(2, 3, 2000)])),
+    // line 10 is put before, so node 1 is one of the path's own; two lines need no look
+    (PASSING, (&[20], 0, 0), (&[1, 2, 3], &[])),
+    // one decimetre more, and no point follows the start
+    (LONGEST, (&[10], 0, 0), (&[1, 2], &[])),
+    (TOO_LONG, (&[10], 0, 0), (&[1, 2], &[])),
+    // no position is near enough, so none is tested: the look ends where it begins
+    (TOO_LONG_FIRST, ROAD, (FOUR, &[(2, 2, 0)])),
+    // Position 2, 140,000 dm on, is covered, and it is the last before the end. Node 5 is on the side road.
+    (LONG, ROAD, (FOUR, &[(2, 3, 40_000)])),
+    (LONG_BARE, ROAD, (FOUR, &[(2, 3, 40_000)])),
+    // From node 2 the way round to node 2 fails: 5000 dm, and not the 0 of staying there. Node 2 is the next point, and
+    // from the end of line 20 all is covered as far as line 50: 3500 dm.
+    (
+        ROUND,
+        (&[10, 20, 30, 40, 50], 300, 250),
+        (&[1, 2, 3, 4, 5], &[(2, 2, 5000), (3, 2, 3500)]),
+    ),
+    // a line of the path is gone
+    (BROKEN, WHOLE, (&[], &[])),
+];
+
+#[test]
+fn own_nodes_and_looks(rt: HostRuntime) -> Result<(), Fail> {
+    for (plan, course, wanted) in CASES {
+        expect_looks_on(&rt, rt.alloc(), *plan, *course, *wanted)?;
+    }
+    Ok(())
+}
+
+/// Makes an edit of a grid, and lets it stand.
+fn put(rt: &impl Abort, map: &mut RoadMap, edit: Edit) {
+    let made = make(map, edit);
+    assert!(rt; made.is_ok());
+}
+
+/// The edit that adds a line between two neighbours of the grid.
+fn road(alloc: Global, number: u32, from: u32, to: u32) -> Edit {
+    plain_line(alloc, (number, from, to, 40_000))
+}
+
+/// A grid of five by five nodes, row by row, with a line each way between neighbours, so long that no more than three
+/// follow one another within 150,000 dm. From node n lines 100 + n, 200 + n, 300 + n and 400 + n go east, west, north
+/// and south.
+fn grid_map(rt: &impl Abort, alloc: Global) -> RoadMap {
+    let mut map = RoadMap::new(alloc);
+    for node in 0..25 {
+        let (column, row) = ((node % 5) as i32, (node / 5) as i32);
+        put(
+            rt,
+            &mut map,
+            new_node((node + 1, 1000 * column, 1000 * row)),
+        );
+    }
+    for node in 1..26 {
+        if node % 5 != 0 {
+            put(rt, &mut map, road(alloc, 100 + node, node, node + 1));
+            put(rt, &mut map, road(alloc, 201 + node, node + 1, node));
+        }
+        if node <= 20 {
+            put(rt, &mut map, road(alloc, 300 + node, node, node + 5));
+            put(rt, &mut map, road(alloc, 405 + node, node + 5, node));
+        }
+    }
+    map
+}
+
+const ON_GRID: &[(Course, Wanted)] = &[
+    // No way is as short as straight on. From node 11 three lines are near enough, so the look ends where the fourth
+    // begins. That is the next point, and no two lines follow it.
+    (
+        (&[111, 112, 113, 114], 0, 0),
+        (&[11, 12, 13, 14, 15], &[(12, 14, 80_000)]),
+    ),
+    // From node 12 to node 18 round the corner there are two ways equally long, so node 13 is a point. From node 18,
+    // the end of line 313, it is straight on to node 23, where the last line begins.
+    (
+        (&[111, 112, 313, 318, 123], 0, 0),
+        (
+            &[11, 12, 13, 18, 23, 24],
+            &[(12, 18, 80_000), (18, 23, 40_000)],
+        ),
+    ),
+    // Nodes 1 and 5 are passing, so line 406 from node 6 is put before, and line 305 to node 10 behind. From node 1
+    // three lines are near enough for a look as far as node 3, which is the next point; from node 4 only line 104 is
+    // tested.
+    (
+        (&[101, 102, 103, 104], 0, 0),
+        (&[1, 2, 3, 4, 5, 6, 10], &[(1, 3, 80_000), (4, 5, 40_000)]),
+    ),
+];
+
+/// Asserts what paths on a map look at.
+fn expect_all(
+    rt: &impl Abort,
+    alloc: Global,
+    map: &RoadMap,
+    cases: &[(Course, Wanted)],
+) -> Result<(), Fail> {
+    for (course, wanted) in cases {
+        expect_looks(rt, alloc, map, *course, *wanted)?;
+    }
+    Ok(())
+}
+
+#[test]
+fn looks_on_a_grid(rt: HostRuntime) -> Result<(), Fail> {
+    let map = grid_map(&rt, rt.alloc());
+    expect_all(&rt, rt.alloc(), &map, ON_GRID)
+}

@@ -1,0 +1,60 @@
+//! Maps on which points and looks were worked out by hand, and paths on them.
+
+use made_maps::{FIRST, PLACES, Place, Plan, SECOND, STRAIGHT, THIRD, lines};
+use olr_refs::Path;
+use std::alloc::Global;
+use std::process::Abort;
+
+/// A path: its lines, and the positive and the negative offset in decimetres.
+pub type Course = (&'static [u32], u32, u32);
+
+/// The worked map without its side road.
+pub const BARE: Plan = (PLACES, &[FIRST, SECOND, THIRD]);
+
+/// A road of two lines each way over a passing node, node 2.
+pub const PASSING: Plan = (
+    &[(1, 0, 0), (2, 100, 0), (3, 200, 0)],
+    &[
+        (10, 1, 2, 4, 3, 1000, STRAIGHT),
+        (11, 2, 1, 4, 3, 1000, STRAIGHT),
+        (20, 2, 3, 4, 3, 1000, STRAIGHT),
+        (21, 3, 2, 4, 3, 1000, STRAIGHT),
+    ],
+);
+
+/// The nodes of a road that is longer than two points may be apart, and of a side road at node 2.
+pub const LONG_PLACES: &[Place] = &[
+    (1, 0, 0),
+    (2, 0, 9000),
+    (3, 0, 12_600),
+    (4, 0, 16_200),
+    (5, 1000, 9000),
+];
+
+/// Its three lines and the side road.
+pub const LONG: Plan = (
+    LONG_PLACES,
+    &[
+        (10, 1, 2, 2, 3, 100_000, STRAIGHT),
+        (20, 2, 3, 2, 3, 40_000, STRAIGHT),
+        (30, 3, 4, 2, 3, 40_000, STRAIGHT),
+        (40, 2, 5, 2, 3, 10_000, STRAIGHT),
+    ],
+);
+
+/// The long road without the side road.
+pub const LONG_BARE: Plan = (
+    LONG_PLACES,
+    &[
+        (10, 1, 2, 2, 3, 100_000, STRAIGHT),
+        (20, 2, 3, 2, 3, 40_000, STRAIGHT),
+        (30, 3, 4, 2, 3, 40_000, STRAIGHT),
+    ],
+);
+
+/// A path with these lines and offsets.
+pub fn path_of(rt: &impl Abort, alloc: Global, course: Course) -> Path {
+    let (numbers, pos, neg) = course;
+    let lines = lines(alloc, numbers).expect(rt, "memory");
+    Path::new(alloc, lines, pos, neg).expect(rt, "a path")
+}

@@ -1,0 +1,119 @@
+//! Numbers on small maps, kept right through edits.
+
+use made_maps::{Plain, STRAIGHT, line, make, node, other_line, plain_line, plain_map};
+use olr_map::{Edit, RoadMap};
+use olr_near::Nearness;
+use std::alloc::Global;
+use std::process::Abort;
+
+/// A one-way road over the nodes 1 to 5, of four lines of 5,000 m each.
+const ROAD: &[Plain] = &[
+    (1, 1, 2, 50_000),
+    (2, 2, 3, 50_000),
+    (3, 3, 4, 50_000),
+    (4, 4, 5, 50_000),
+];
+
+/// The map of the road, and node 6 apart.
+fn road(rt: &impl Abort, alloc: Global) -> RoadMap {
+    plain_map(alloc, 6, ROAD).expect(rt, "a map")
+}
+
+/// Makes an edit, and lets it stand.
+fn edit(rt: &impl Abort, map: &mut RoadMap, edit: Edit) {
+    let made = make(map, edit);
+    assert!(rt; made.is_ok());
+}
+
+/// That of the nodes 1 to 6 those with a number are these.
+fn assert_near(rt: &impl Abort, nearness: &Nearness, nodes: &[u32]) {
+    for number in 1..=6 {
+        let alone = [node(number)];
+        let far = !nodes.contains(&number);
+        assert!(rt; nearness.is_far(&alone) == far, "at node {number}");
+    }
+}
+
+/// Follows the lines from what has a number. Those with a number are then these.
+fn settle(rt: &impl Abort, nearness: &mut Nearness, map: &RoadMap, nodes: &[u32]) {
+    let settled = nearness.settle(map);
+    assert!(rt; settled.is_ok());
+    assert_near(rt, nearness, nodes);
+}
+
+/// The same after a node was made a source.
+fn add(rt: &impl Abort, nearness: &mut Nearness, map: &RoadMap, source: u32, nodes: &[u32]) {
+    let added = nearness.add(node(source));
+    assert!(rt; added.is_ok());
+    settle(rt, nearness, map, nodes);
+}
+
+/// The same after a line from one node to another was changed.
+fn reopen(
+    rt: &impl Abort,
+    nearness: &mut Nearness,
+    map: &RoadMap,
+    ends: (u32, u32),
+    nodes: &[u32],
+) {
+    let opened = nearness.reopen(&[node(ends.0), node(ends.1)]);
+    assert!(rt; opened.is_ok());
+    settle(rt, nearness, map, nodes);
+}
+
+#[test]
+fn along_the_lines_within_the_limit(rt: HostRuntime) {
+    let map = road(&rt, rt.alloc());
+    let mut nearness = Nearness::new(rt.alloc());
+    assert!(&rt; nearness.is_known());
+    assert_near(&rt, &nearness, &[]);
+    add(&rt, &mut nearness, &map, 1, &[1, 2, 3, 4]);
+    add(&rt, &mut nearness, &map, 4, &[1, 2, 3, 4, 5]);
+    let both = [node(6), node(5)];
+    assert!(&rt; !nearness.is_far(&both));
+    nearness.clear();
+    assert_near(&rt, &nearness, &[]);
+}
+
+/// Adds a line.
+fn add_line(rt: &impl Abort, alloc: Global, map: &mut RoadMap, plain: Plain) {
+    edit(rt, map, plain_line(alloc, plain));
+}
+
+/// Gives line 4 another length.
+fn shorten(rt: &impl Abort, alloc: Global, map: &mut RoadMap) {
+    let shorter = other_line(alloc, 4, 49_998, STRAIGHT).expect(rt, "memory");
+    edit(rt, map, shorter);
+}
+
+#[test]
+fn lines_come_and_go(rt: HostRuntime) {
+    let mut map = road(&rt, rt.alloc());
+    let mut nearness = Nearness::new(rt.alloc());
+    add(&rt, &mut nearness, &map, 2, &[2, 3, 4, 5]);
+    // From where no number stands nothing is followed.
+    add_line(&rt, rt.alloc(), &mut map, (10, 6, 1, 1));
+    reopen(&rt, &mut nearness, &map, (6, 1), &[2, 3, 4, 5]);
+    add_line(&rt, rt.alloc(), &mut map, (11, 5, 6, 1));
+    reopen(&rt, &mut nearness, &map, (5, 6), &[2, 3, 4, 5]);
+    shorten(&rt, rt.alloc(), &mut map);
+    reopen(&rt, &mut nearness, &map, (4, 5), &[1, 2, 3, 4, 5, 6]);
+    // A line that is dropped leaves the numbers as they are.
+    edit(&rt, &mut map, Edit::DropLine(line(2)));
+    assert_near(&rt, &nearness, &[1, 2, 3, 4, 5, 6]);
+    nearness.clear();
+    add(&rt, &mut nearness, &map, 2, &[2]);
+}
+
+#[test]
+fn unknown_until_begun_anew(rt: HostRuntime) {
+    let map = road(&rt, rt.alloc());
+    let mut nearness = Nearness::new(rt.alloc());
+    nearness.forget();
+    assert!(&rt; !nearness.is_known());
+    assert_near(&rt, &nearness, &[1, 2, 3, 4, 5, 6]);
+    add(&rt, &mut nearness, &map, 1, &[1, 2, 3, 4, 5, 6]);
+    nearness.clear();
+    assert!(&rt; nearness.is_known());
+    add(&rt, &mut nearness, &map, 3, &[3, 4, 5]);
+}
