@@ -1,5 +1,0 @@
-//! Tests of coordinates, degrees and steps.
-#![tactic(auto)]
-
-#[cfg(test)]
-mod tests;
