@@ -12,7 +12,7 @@ mod labels;
 mod last_lines;
 mod lines;
 mod marks;
-mod plain;
+pub mod plain;
 mod queue;
 mod routes;
 mod steps;
