@@ -1,4 +1,5 @@
 -- What an open batch makes of a change that it is given.
+--     path_by lines offsets      the path along these lines with these offsets
 --     content_with b x      the content with the change after those that are held, or the first fault
 --     IsAdded old x new      the change is held too
 --     Given old x result new      it is held, or refused and the batch is as it was
@@ -10,10 +11,15 @@ use Rattle.olr_commands.specs.State.{Content, Fault, Memory, Batch_full, full, w
 use Rattle.olr_commands.specs.Reply.{is_told_first}
 use Rattle.olr_commands.specs.Reply as replies
 use Rattle.olr_commands.specs.Counts.{nodes_of_change, lines_of_change, names_of_change}
-use Rattle.olr_commands.specs.Words.{command_fault_of, reply_of}
+use Rattle.olr_spec.specs.Extension.{Path}
+use Rattle.olr_commands.specs.Words.{command_fault_of, reply_of, path_along}
 use Rattle.olr_commands.specs.declared.reply.Reply.{Reply}
 use Rattle.olr_commands.specs.declared.fault.CommandFault.{CommandFault}
 use Rattle.olr_register.specs.Kept.{Batch, Held, content_of}
+use Rattle.olr_register.specs.declared.paths.Offsets.{Offsets}
+
+abbrev pub path_by : List ℕ → Offsets → Path
+path_by lines offsets = path_along lines offsets.pos offsets.neg
 
 abbrev pub content_with : Batch → Change → Result Content Fault
 content_with b x = when (nat_le full b.count) Batch_full (with_change (content_of b) x)
@@ -30,13 +36,13 @@ pub record IsAdded (old : Batch) (x : Change) (new : Batch) : Type 0 where
   pub given : (names : List (List ℕ)) → AreGiven names old.paths → AreGiven (names ++ names_of_change x) new.paths
 
 -- want of memory is told only where no fault is that comes before it
-pub data IsRefused (taking : Result Content Fault) (fault : Fault) : Type 0 where
-  Told : taking ≡ Err fault → IsRefused taking fault
+pub data MayTell (taking : Result Content Fault) (fault : Fault) : Type 0 where
+  Told : taking ≡ Err fault → MayTell taking fault
   Lacks : fault ≡ Memory → ((first : Fault) → taking ≡ Err first → IsFalse (is_told_first first)) →
-      IsRefused taking fault
+      MayTell taking fault
 
 pub record Given (old : Batch) (x : Change) (result : Result Reply CommandFault) (new : Batch) : Type 0 where
   pub added : OnOk result (IsAdded old x new)
   pub reply : IfOk result (λ r. reply_of r ≡ replies.Held new.count)
-  pub refused : IfErr result (λ f. IsRefused (content_with old x) (command_fault_of f))
+  pub refused : IfErr result (λ f. MayTell (content_with old x) (command_fault_of f))
   pub unchanged : OnErr result (new ≡ old)

@@ -6,6 +6,7 @@ ghost use Rattle.olr_commands.specs.History.{History, Headline};
 ghost use Rattle.olr_commands.specs.Words.{command_of, outcome_of};
 ghost use Rattle.olr_register.specs.Kept.{Stands};
 
+use crate::paths::Offsets;
 use crate::register::Register;
 use olr_commands::{Command, CommandFault, Reply};
 use std::alloc::{AllocError, Global};
@@ -15,7 +16,7 @@ impl Register {
     ghost use Rattle.olr_commands.specs.State.{IsContent};
     ghost use Rattle.olr_register.specs.Registered.{Applied, Counted};
     ghost use Rattle.olr_register.specs.Answering.{Answered};
-    ghost use Rattle.olr_register.specs.Sparing.{encodes, Spares, NoneFalls, SameCounts};
+    ghost use Rattle.olr_register.specs.Sparing.{encodes, SparesAtMost, NoneFalls, SameCounts};
 
     /// The answer to a command.
     fn answer_to(&mut self, command: Command) -> Result<Reply, CommandFault>
@@ -26,13 +27,21 @@ impl Register {
             Command::Edit(edit) if open => self.hold_edit(edit),
             Command::Edit(edit) => self.edit_now(edit),
             Command::AddPath(name, lines, pos, neg) if open => {
-                self.hold_add(name, lines, pos, neg)
+                self.hold_add(name, lines, Offsets { pos, neg })
             }
-            Command::AddPath(name, lines, pos, neg) => self.add_now(name, lines, pos, neg),
+            Command::AddPath(name, lines, pos, neg) => self.add_now(
+                name,
+                lines,
+                Offsets { pos, neg },
+            ),
             Command::SetPath(name, lines, pos, neg) if open => {
-                self.hold_set(&name, lines, pos, neg)
+                self.hold_set(&name, lines, Offsets { pos, neg })
             }
-            Command::SetPath(name, lines, pos, neg) => self.set_now(&name, lines, pos, neg),
+            Command::SetPath(name, lines, pos, neg) => self.set_now(
+                &name,
+                lines,
+                Offsets { pos, neg },
+            ),
             Command::DropPath(name) if open => self.hold_drop(&name),
             Command::DropPath(name) => self.drop_now(&name),
             Command::Show(name) => self.show(&name),
@@ -52,7 +61,7 @@ impl Register {
         ensures counted { OnOk result (Counted self.old (command_of command) self.new) }
         ensures unchanged { OnErr result (self.new ≡ self.old) }
         ensures sound { IsContent self.new.kept.content }
-        ensures spares { OnOk result (Spares self.old (command_of command) self.new) }
+        ensures spares { OnOk result (SparesAtMost self.old (command_of command) self.new) }
         ensures rises { OnOk result (NoneFalls self.old self.new) }
         ensures same { OnOk result
             (IsFalse (encodes (is_some self.old.kept.batch) (command_of command)) → SameCounts self.old self.new) }
@@ -67,7 +76,7 @@ impl Register {
     pub fn is_sound(&self)
         ensures { IsContent self.now.kept.content }
     {
-        // The content is sound by the register's invariant.
+        // For the proof alone: the content is sound, as that of every register is.
         let _encodings = self.work.encodings;
     }
 }

@@ -1,7 +1,7 @@
 //! An open batch, and the changes that it holds.
 
 use crate::edits::line_changed;
-use crate::paths::path_of;
+use crate::paths::{Offsets, path_of};
 use olr_commands::{CommandFault, Reply};
 use olr_map::{Edit, LineId, RoadMap, UndoLog, judge};
 use olr_paths::{Listing, Overlay, Touched};
@@ -30,11 +30,10 @@ impl Batch {
     ghost use Rattle.olr_map.specs.RoadMaps.{CanUndoAll, map_before};
     ghost use Rattle.olr_map.specs.declared.road_map.RoadMap.{RoadMap as Roads};
     ghost use Rattle.olr_commands.specs.State.{On_map, Add_path, Set_path, Drop_path, full, NamesDiffer};
-    ghost use Rattle.olr_commands.specs.Words.{path_along};
     ghost use Rattle.olr_paths.specs.Items.{Item, items, all_named};
     ghost use Rattle.olr_paths.specs.Laying.{under_overlay};
     ghost use Rattle.olr_register.specs.Holding.{IsHeld, batch_of};
-    ghost use Rattle.olr_register.specs.Given.{Given};
+    ghost use Rattle.olr_register.specs.Given.{Given, path_by};
 
     /// Whether it holds as many changes as it may.
     fn is_full(&self) -> bool
@@ -80,11 +79,10 @@ impl Batch {
         list: &Listing,
         name: String,
         lines: Vec<LineId>,
-        pos: u32,
-        neg: u32,
+        offsets: Offsets,
     ) -> Result<Reply, CommandFault>
         ensures given { (roads : Roads) → Given (batch_of roads (items list.now) self.old)
-            (Add_path (string_bytes name) (path_along lines.items pos neg)) result
+            (Add_path (string_bytes name) (path_by lines.items offsets)) result
             (batch_of roads (items list.now) self.new) }
         ensures held { (roads : Roads) → IsHeld roads (items list.now) self.old →
             IsHeld roads (items list.now) self.new }
@@ -96,7 +94,7 @@ impl Batch {
         if self.overlay.has(list, &name) {
             return Err(CommandFault::PathExists);
         }
-        let path = path_of(alloc, lines, pos, neg)?;
+        let path = path_of(alloc, lines, offsets)?;
         match self.overlay.hold(alloc, name, path) {
             Ok(()) => {
                 self.count += 1;
@@ -113,12 +111,11 @@ impl Batch {
         list: &Listing,
         name: &str,
         lines: Vec<LineId>,
-        pos: u32,
-        neg: u32,
+        offsets: Offsets,
     ) -> Result<Reply, CommandFault>
         requires { NamesDiffer (all_named (under_overlay (items list.now) self.old.overlay)) }
         ensures given { (roads : Roads) → Given (batch_of roads (items list.now) self.old)
-            (Set_path name.now (path_along lines.items pos neg)) result (batch_of roads (items list.now) self.new) }
+            (Set_path name.now (path_by lines.items offsets)) result (batch_of roads (items list.now) self.new) }
         ensures held { (roads : Roads) → IsHeld roads (items list.now) self.old →
             IsHeld roads (items list.now) self.new }
         ensures log { self.new.log ≡ self.old.log }
@@ -129,7 +126,7 @@ impl Batch {
         if !self.overlay.has(list, name) {
             return Err(CommandFault::NoPath);
         }
-        let path = path_of(alloc, lines, pos, neg)?;
+        let path = path_of(alloc, lines, offsets)?;
         match self.overlay.hold_other(alloc, name, path) {
             Ok(()) => {
                 self.count += 1;

@@ -2,10 +2,11 @@
 ghost use Rattle.std.specs.Prelude.{string_bytes, IsSome};
 ghost use Rattle.olr_map.specs.Edits.{edit_of};
 ghost use Rattle.olr_commands.specs.State.{Make, On_map, Add_path, Set_path, Drop_path, Begin, Commit, Abort};
-ghost use Rattle.olr_commands.specs.Words.{path_along};
+ghost use Rattle.olr_register.specs.Given.{path_by};
 
 use crate::batch::Batch;
 use crate::nearing::{ask_near, renumber};
+use crate::paths::Offsets;
 use crate::register::Register;
 use olr_commands::{CommandFault, Reply};
 use olr_map::{Edit, LineId, UndoLog};
@@ -48,17 +49,16 @@ impl Register {
         &mut self,
         name: String,
         lines: Vec<LineId>,
-        pos: u32,
-        neg: u32,
+        offsets: Offsets,
     ) -> Result<Reply, CommandFault>
         requires { IsSome self.old.kept.batch }
-        ensures { Answered self.old (Make (Add_path (string_bytes name) (path_along lines.items pos neg))) result
+        ensures { Answered self.old (Make (Add_path (string_bytes name) (path_by lines.items offsets))) result
             self.new }
     {
         let Some(mut batch) = self.batch.take() else {
             unreachable!()
         };
-        let result = batch.add_path(self.alloc, &self.paths, name, lines, pos, neg);
+        let result = batch.add_path(self.alloc, &self.paths, name, lines, offsets);
         self.batch = Some(batch);
         result
     }
@@ -68,16 +68,15 @@ impl Register {
         &mut self,
         name: &str,
         lines: Vec<LineId>,
-        pos: u32,
-        neg: u32,
+        offsets: Offsets,
     ) -> Result<Reply, CommandFault>
         requires { IsSome self.old.kept.batch }
-        ensures { Answered self.old (Make (Set_path name.now (path_along lines.items pos neg))) result self.new }
+        ensures { Answered self.old (Make (Set_path name.now (path_by lines.items offsets))) result self.new }
     {
         let Some(mut batch) = self.batch.take() else {
             unreachable!()
         };
-        let result = batch.set_path(self.alloc, &self.paths, name, lines, pos, neg);
+        let result = batch.set_path(self.alloc, &self.paths, name, lines, offsets);
         self.batch = Some(batch);
         result
     }

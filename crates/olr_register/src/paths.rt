@@ -2,7 +2,7 @@
 ghost use Rattle.std.specs.Prelude.{◌≡◌, ◌⊎◌, IsTrue, IsFalse, OnOk};
 ghost use Rattle.std.specs.Result.{IfOk, IfErr};
 ghost use Rattle.olr_spec.specs.Extension.{is_path};
-ghost use Rattle.olr_commands.specs.Words.{path_along};
+ghost use Rattle.olr_register.specs.Given.{path_by};
 
 use crate::nearing::renumber;
 use crate::register::Register;
@@ -11,19 +11,25 @@ use olr_map::LineId;
 use olr_refs::{Path, PathFault};
 use std::alloc::Global;
 
-/// The path along these lines with these offsets, in decimetres.
+/// How far from the beginning and from the end of its lines a path begins and ends, in decimetres.
+#[derive(Clone, Copy)]
+pub(crate) struct Offsets {
+    pub pos: u32,
+    pub neg: u32,
+}
+
+/// The path along these lines with these offsets.
 pub(crate) fn path_of(
     alloc: Global,
     lines: Vec<LineId>,
-    pos: u32,
-    neg: u32,
+    offsets: Offsets,
 ) -> Result<Path, CommandFault>
-    ensures ok { IfOk result (λ p. p ≡ path_along lines.items pos neg) }
+    ensures ok { IfOk result (λ p. p ≡ path_by lines.items offsets) }
     ensures good { OnOk result (IsTrue (is_path lines.items)) }
     ensures fault { IfErr result (λ f. (f ≡ CommandFault.Memory)
         ⊎ ((f ≡ CommandFault.BadPath) × IsFalse (is_path lines.items))) }
 {
-    match Path::new(alloc, lines, pos, neg) {
+    match Path::new(alloc, lines, offsets.pos, offsets.neg) {
         Ok(path) => Ok(path),
         Err(PathFault::BadPath) => Err(CommandFault::BadPath),
         Err(PathFault::Memory) => Err(CommandFault::Memory),
@@ -33,7 +39,7 @@ pub(crate) fn path_of(
 impl Register {
     ghost use Rattle.std.specs.Prelude.{◌≡◌, None, string_bytes};
     ghost use Rattle.olr_commands.specs.State.{Make, Add_path, Set_path, Drop_path};
-    ghost use Rattle.olr_commands.specs.Words.{path_along};
+    ghost use Rattle.olr_register.specs.Given.{path_by};
     ghost use Rattle.olr_register.specs.Answering.{Answered};
 
     /// Encodes a new path and puts it last. Told are `PathExists`, `BadPath`, `Memory`, in this order.
@@ -41,17 +47,16 @@ impl Register {
         &mut self,
         name: String,
         lines: Vec<LineId>,
-        pos: u32,
-        neg: u32,
+        offsets: Offsets,
     ) -> Result<Reply, CommandFault>
         requires { self.old.kept.batch ≡ None }
-        ensures { Answered self.old (Make (Add_path (string_bytes name) (path_along lines.items pos neg))) result
+        ensures { Answered self.old (Make (Add_path (string_bytes name) (path_by lines.items offsets))) result
             self.new }
     {
         if self.paths.has(&name) {
             return Err(CommandFault::PathExists);
         }
-        let path = path_of(self.alloc, lines, pos, neg)?;
+        let path = path_of(self.alloc, lines, offsets)?;
         let Ok(entries) = self.paths.add(
             self.alloc,
             &self.roads,
@@ -78,16 +83,15 @@ impl Register {
         &mut self,
         name: &str,
         lines: Vec<LineId>,
-        pos: u32,
-        neg: u32,
+        offsets: Offsets,
     ) -> Result<Reply, CommandFault>
         requires { self.old.kept.batch ≡ None }
-        ensures { Answered self.old (Make (Set_path name.now (path_along lines.items pos neg))) result self.new }
+        ensures { Answered self.old (Make (Set_path name.now (path_by lines.items offsets))) result self.new }
     {
         if !self.paths.has(name) {
             return Err(CommandFault::NoPath);
         }
-        let path = path_of(self.alloc, lines, pos, neg)?;
+        let path = path_of(self.alloc, lines, offsets)?;
         let Ok(entries) = self.paths.set(
             self.alloc,
             &self.roads,

@@ -31,7 +31,7 @@ pub struct Register {
 impl Model for Register {
     ghost use Rattle.olr_paths.specs.Items.{items};
     ghost use Rattle.olr_register.specs.Registered.{Registered, coded_registered};
-    ghost use Rattle.olr_register.specs.Holding.{kept_of, IsWhole};
+    ghost use Rattle.olr_register.specs.Holding.{kept_of, IsKeptRight};
 
     ghost Value = { Registered };
 
@@ -39,7 +39,7 @@ impl Model for Register {
 
     ghost view = { λ r. record { kept = kept_of r.roads (items r.paths) r.batch; work = r.work; spared = r.kept } };
 
-    ghost invariant = { λ r. IsWhole r.roads (items r.paths) r.batch r.near };
+    ghost invariant = { λ r. IsKeptRight r.roads (items r.paths) r.batch r.near };
 }
 
 impl Register {

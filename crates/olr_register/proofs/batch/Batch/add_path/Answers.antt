@@ -2,11 +2,12 @@ use Rattle.std.proofs.Common.{◌≡◌, false, true, string_bytes, refl, sym, a
 use Rattle.std.proofs.lemmas.Result.{err_from_is_err_and}
 use Rattle.olr_map.specs.RoadMaps.{map_of}
 use Rattle.olr_commands.specs.State.{Add_path}
-use Rattle.olr_commands.specs.Words.{path_along}
 use Rattle.olr_paths.specs.Items.{items}
 use Rattle.olr_paths.specs.Laying.{under_overlay}
 use Rattle.olr_paths.specs.Touching.{nodes_of, lines_of}
-use Rattle.olr_register.proofs.HoldChanges.{has_name, held_same, given_told, given_bad_path, given_no_room, add_taken}
+use Rattle.olr_paths.proofs.Overlaying.{has_name}
+use Rattle.olr_register.specs.Given.{path_by}
+use Rattle.olr_register.proofs.HoldChanges.{held_same, given_told, given_bad_path, given_no_room, add_taken}
 use Rattle.olr_register.proofs.HoldChanges.{add_path_only, given_added, held_added}
 use Rattle.olr_register.proofs.batch.Batch.add_path.Goals as goal
 
@@ -19,10 +20,10 @@ returns-then-has-clause-given c =
     ap (λ q. has_name (under_overlay before b.overlay) q) (sym c.deref.ensures) ∙ sym c.if-has.ensures in
     given_told (map_of roads) (under_overlay before b.overlay) (under_overlay before b.overlay) b.count
     (nodes_of b.touched) (lines_of b.touched)
-    (Add_path (string_bytes c.args.name) (path_along c.args.lines.items c.args.pos c.args.neg)) _
+    (Add_path (string_bytes c.args.name) (path_by c.args.lines.items c.args.offsets)) _
     (sym c.if-is_full.ensures)
     (add_taken (map_of roads) (under_overlay before b.overlay) (string_bytes c.args.name)
-    (path_along c.args.lines.items c.args.pos c.args.neg) named) refl
+    (path_by c.args.lines.items c.args.offsets) named) refl
 
 pub returns-in_err-path-clause-given : goal.returns-in_err-path-clause-given
 returns-in_err-path-clause-given c =
@@ -34,10 +35,10 @@ returns-in_err-path-clause-given c =
     let p = err_from_is_err_and c.from_residual.result c.from_residual.ensures.1 in
     rw (p.1, p.2)
     (given_bad_path (map_of roads) (under_overlay before b.overlay) b.count (nodes_of b.touched) (lines_of b.touched)
-    (Add_path (string_bytes c.args.name) (path_along c.args.lines.items c.args.pos c.args.neg)) _ c.args.lines.items _
+    (Add_path (string_bytes c.args.name) (path_by c.args.lines.items c.args.offsets)) _ c.args.lines.items _
     (sym c.if-is_full.ensures)
     (add_path_only (map_of roads) (under_overlay before b.overlay) (string_bytes c.args.name)
-    (path_along c.args.lines.items c.args.pos c.args.neg) named) c.in_err-path.ensures.fault)
+    (path_by c.args.lines.items c.args.offsets) named) c.in_err-path.ensures.fault)
 
 pub returns-in-Ok-clause-given : goal.returns-in-Ok-clause-given
 returns-in-Ok-clause-given c =
@@ -48,7 +49,7 @@ returns-in-Ok-clause-given c =
     ap (λ q. has_name (under_overlay before b.overlay) q) (sym c.deref.ensures) ∙ sym c.if-has.ensures in
     given_added (map_of roads) (under_overlay before b.overlay) (under_overlay before c.hold.new.self) b.count
     (nodes_of b.touched) (lines_of b.touched) (string_bytes c.args.name)
-    (path_along c.args.lines.items c.args.pos c.args.neg) c.in_ok-path.path _ (sym c.if-is_full.ensures) named
+    (path_by c.args.lines.items c.args.offsets) c.in_ok-path.path _ (sym c.if-is_full.ensures) named
     c.in_ok-path.ensures.good c.in_ok-path.ensures.ok (c.in-Ok.ensures.ok before) refl
 
 pub returns-in-Ok-clause-held : goal.returns-in-Ok-clause-held
@@ -59,7 +60,7 @@ returns-in-Ok-clause-held c =
     let named : has_name (under_overlay before b.overlay) (string_bytes c.args.name) ≡ false =
     ap (λ q. has_name (under_overlay before b.overlay) q) (sym c.deref.ensures) ∙ sym c.if-has.ensures in
     held_added roads before b c.hold.new.self (string_bytes c.args.name)
-    (path_along c.args.lines.items c.args.pos c.args.neg) c.in_ok-path.path (sym c.if-is_full.ensures) named
+    (path_by c.args.lines.items c.args.offsets) c.in_ok-path.path (sym c.if-is_full.ensures) named
     c.in_ok-path.ensures.good c.in_ok-path.ensures.ok (c.in-Ok.ensures.ok before) h
 
 pub returns-in-Err-clause-given : goal.returns-in-Err-clause-given
@@ -71,10 +72,10 @@ returns-in-Err-clause-given c =
     ap (λ q. has_name (under_overlay before b.overlay) q) (sym c.deref.ensures) ∙ sym c.if-has.ensures in
     given_no_room (map_of roads) (under_overlay before b.overlay) (under_overlay before c.hold.new.self) b.count
     (nodes_of b.touched) (lines_of b.touched)
-    (Add_path (string_bytes c.args.name) (path_along c.args.lines.items c.args.pos c.args.neg)) _ c.args.lines.items
+    (Add_path (string_bytes c.args.name) (path_by c.args.lines.items c.args.offsets)) _ c.args.lines.items
     (sym c.if-is_full.ensures)
     (add_path_only (map_of roads) (under_overlay before b.overlay) (string_bytes c.args.name)
-    (path_along c.args.lines.items c.args.pos c.args.neg) named) (c.in-Err.ensures.err before)
+    (path_by c.args.lines.items c.args.offsets) named) (c.in-Err.ensures.err before)
 
 pub returns-in-Err-clause-held : goal.returns-in-Err-clause-held
 returns-in-Err-clause-held c =

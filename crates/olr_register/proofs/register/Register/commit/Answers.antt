@@ -4,7 +4,7 @@ use Rattle.olr_map.specs.RoadMaps.{map_of, map_before}
 use Rattle.olr_paths.specs.Items.{items}
 use Rattle.olr_paths.specs.Laying.{under_overlay}
 use Rattle.olr_paths.specs.Touching.{nodes_of}
-use Rattle.olr_register.specs.Holding.{map_kept, IsWhole}
+use Rattle.olr_register.specs.Holding.{map_kept, IsKeptRight}
 use Rattle.olr_register.proofs.BatchEnds.{none_refused}
 use Rattle.olr_register.proofs.BatchCommit.{count_refused, commit_lacks, lacks_held, commit_from, commit_before}
 use Rattle.olr_register.proofs.BatchCommit.{commit_held, commit_done}
@@ -22,7 +22,7 @@ returns-in_default c =
 pub invariant_of-self-then-batch-count : goal.invariant_of-self-then-batch-count
 invariant_of-self-then-batch-count c =
     let s = c.self.inside in
-    subst (λ o. IsWhole s.roads (items s.paths) o s.near) (sym c.in-Some.ensures.value) c.self.invariant
+    subst (λ o. IsKeptRight s.roads (items s.paths) o s.near) (sym c.in-Some.ensures.value) c.self.invariant
 
 pub returns-then-batch-count : goal.returns-then-batch-count
 returns-then-batch-count c =

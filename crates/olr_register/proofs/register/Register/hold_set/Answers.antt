@@ -1,8 +1,8 @@
 use Rattle.std.proofs.Common.{refl, sym, ap}
 use Rattle.olr_commands.specs.State.{Set_path}
-use Rattle.olr_commands.specs.Words.{path_along}
 use Rattle.olr_map.specs.RoadMaps.{map_before}
 use Rattle.olr_paths.specs.Items.{items}
+use Rattle.olr_register.specs.Given.{path_by}
 use Rattle.olr_register.proofs.BatchEnds.{given_answered, given_held}
 use Rattle.olr_register.proofs.BatchCommit.{commit_from}
 use Rattle.olr_register.proofs.Numbered.{numbered_held}
@@ -29,7 +29,7 @@ returns c =
     let s = c.self.inside in
     rw (← c.self.view_is)
     (given_answered s.roads s.roads (items s.paths) s.batch _ c.in-Some.batch c.set_path-result.new.self
-    (tally s.work s.kept) (Set_path c.args.name.now (path_along c.args.lines.items c.args.pos c.args.neg)) _
+    (tally s.work s.kept) (Set_path c.args.name.now (path_by c.args.lines.items c.args.offsets)) _
     (sym c.in-Some.ensures.value) refl
     (ap (map_before s.roads) c.set_path-result.ensures.log) (c.set_path-result.ensures.given s.roads))
 
