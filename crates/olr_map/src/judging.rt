@@ -56,7 +56,7 @@ fn judge_node_added<M: MapRead>(map: &M, id: NodeId, place: Coord) -> Result<Jud
     if map.place_of(id).is_some() {
         return Err(EditFault::NodeExists);
     }
-    // The place is in range, as every `Coord` is.
+    // For the proof alone: the place is in range, as every `Coord` is.
     let _latitude = place.lat();
     Ok(Judged {
         nodes: (id, id),
@@ -75,6 +75,7 @@ fn judge_node_moved<M: MapRead>(map: &M, id: NodeId, place: Coord) -> Result<Jud
     let Some(at) = map.place_of(id) else {
         return Err(EditFault::NoNode);
     };
+    // For the proof alone: the place is in range, as every `Coord` is.
     let _latitude = place.lat();
     Ok(Judged {
         nodes: (id, id),

@@ -99,7 +99,7 @@ fn is_rising(shape: &[Shape], len: u32) -> bool
         if point.at <= low || point.at >= len {
             return false;
         }
-        // The place is in range, as every `Coord` is.
+        // For the proof alone: the place is in range, as every `Coord` is.
         let _latitude = point.place.lat();
         low = point.at;
     }

@@ -223,7 +223,7 @@ impl Nearness {
             let (number, node) = nearest;
             if self.is_at(node, number) {
                 self.follow(map, node, number)?;
-                // No node has two numbers.
+                // For the proof alone: no node has two numbers.
                 let _ = self.numbers.len();
             }
         }

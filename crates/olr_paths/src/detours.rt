@@ -108,7 +108,6 @@ fn is_clear<M: MapRead>(
     requires { AreDetours (M.map map.now) (M.place_in map.now) touched.now searches.now limit }
     ensures { IsTrue result → IsClear (M.map map.now) (changed_of touched.now) look.now }
 {
-    let _ = touched.changed.len();
     if look.within > limit {
         return false;
     }

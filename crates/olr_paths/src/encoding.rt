@@ -39,7 +39,7 @@ pub fn publish<M: MapRead>(
     ensures searches { OnOk result (work.old.searches ≤ work.new.searches) }
     ensures settled { OnOk result (work.old.settled ≤ work.new.settled) }
 {
-    // What is read is in range.
+    // For the proof alone: what was counted is in range.
     let _searches = work.searches;
     let _settled = work.settled;
     let Encoding { answer, own, looks } = encode(alloc, map, path, search, work)?;

@@ -62,6 +62,7 @@ impl Published {
     {
         match (&self.answer, &other.answer) {
             (Answer::Points(one), Answer::Points(another)) => {
+                // For the proof alone: the fields of both are in range.
                 let (_, _) = (one.pos, another.pos);
                 self.text() == other.text()
             }
