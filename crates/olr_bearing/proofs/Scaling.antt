@@ -7,7 +7,7 @@ use Rattle.std.proofs.lemmas.Bool.{and_parts}
 use Rattle.olr_spec.specs.Coordinates.{Coord, is_coord, is_longitude, is_latitude}
 use Rattle.olr_spec.specs.Bearings.{thousandths}
 use Rattle.olr_spec.proofs.BytesLemmas.{bounds}
-use Rattle.olr_bearing.specs.Ranges.{IsWithin, degrees}
+use Rattle.olr_bearing.specs.Ranges.{IsWithin, degree_units}
 use Rattle.olr_bearing.proofs.Products.{natural_product_within, times_sum, sum_times}
 
 -- a number as an integer type holds it
@@ -16,14 +16,15 @@ held w z = to_z w (of_z w z)
 
 -- ---- coordinates
 
-pub coord_within : (c : Coord) → IsTrue (is_coord c) → IsWithin (degrees 180) c.lon × IsWithin (degrees 90) c.lat
+pub coord_within : (c : Coord) → IsTrue (is_coord c) →
+    IsWithin (degree_units 180) c.lon × IsWithin (degree_units 90) c.lat
 coord_within c h =
     let both = and_parts (is_longitude c.lon) (is_latitude c.lat) h in
     let lon = bounds (neg_ℤ (pos 58982400000000)) (pos 58982367232000) c.lon both.0 in
     let lat = bounds (neg_ℤ (pos 29491167232000)) (pos 29491167232000) c.lat both.1 in
     ((omega (arith, ints, lon.0), omega (arith, ints, lon.1)), (omega (arith, ints, lat.0), omega (arith, ints, lat.1)))
 
-pub thousandths_within : (z : ℤ) → IsWithin (degrees 90) z → IsWithin 90000 (thousandths z)
+pub thousandths_within : (z : ℤ) → IsWithin (degree_units 90) z → IsWithin 90000 (thousandths z)
 thousandths_within (pos n) h = (omega (arith, ints, h.0, h.1), omega (arith, ints, h.0, h.1))
 thousandths_within (negsuc n) h = (omega (arith, ints, h.0, h.1), omega (arith, ints, h.0, h.1))
 

@@ -3,5 +3,5 @@ use Rattle.olr_spec.specs.Map.{Line}
 use Rattle.olr_spec.specs.Bearings.{Leg}
 use Rattle.olr_bearing.specs.declared.places.Ends.{Ends}
 
-abbrev pub leg : Line → Ends → Leg
-leg l e = record { line = l; begin = e.from; finish = e.to }
+abbrev pub leg_between : Line → Ends → Leg
+leg_between l e = record { line = l; begin = e.from; finish = e.to }

@@ -2,7 +2,8 @@
 --     IsWithin most z      at most `most` either way
 --     IsFactor z      a factor of the cosine: at most 32,400,000,000 and the square of 90,000
 --     IsPart z      a direction's part to the east or to the north: at most 10^31 either way
---     degrees n      n degrees in units.        IsInRange s      a scaled place whose coordinates are in range
+--     degree_units n      n degrees in units.
+--     IsInRange s      a scaled place whose coordinates are in range
 use Rattle.std.specs.Prelude.{ℕ, ◌^◌, ◌*◌, ℤ, pos, neg_ℤ, ◌≤ℤ◌}
 use Rattle.olr_spec.specs.Bearings.{Scaled}
 
@@ -15,9 +16,9 @@ IsFactor z = IsWithin 40500000000 z
 abbrev pub IsPart : ℤ → Type 0
 IsPart z = IsWithin (10 ^ 31) z
 
-abbrev pub degrees : ℕ → ℕ
-degrees n = n * 327680000000
+abbrev pub degree_units : ℕ → ℕ
+degree_units n = n * 327680000000
 
 -- the longitude and the latitude, each times the width
 abbrev pub IsInRange : Scaled → Type 0
-IsInRange s = IsWithin (s.width * degrees 180) s.lon × IsWithin (s.width * degrees 90) s.lat
+IsInRange s = IsWithin (s.width * degree_units 180) s.lon × IsWithin (s.width * degree_units 90) s.lat

@@ -2,8 +2,8 @@
 ghost use Rattle.std.specs.Prelude.{◌≡◌, ◌*◌, ◌<◌, ◌≤◌, pos, ◌+ℤ◌, ◌-ℤ◌, ◌*ℤ◌, IsTrue};
 ghost use Rattle.olr_spec.specs.Map.{is_good};
 ghost use Rattle.olr_spec.specs.Bearings.{bearing, bearing_back, bearing_out, thousandths};
-ghost use Rattle.olr_bearing.specs.Legs.{leg};
-ghost use Rattle.olr_bearing.specs.Ranges.{IsFactor, IsInRange, IsPart, IsWithin, degrees};
+ghost use Rattle.olr_bearing.specs.Legs.{leg_between};
+ghost use Rattle.olr_bearing.specs.Ranges.{IsFactor, IsInRange, IsPart, IsWithin, degree_units};
 
 use crate::places::{Ends, Scaled, place};
 use crate::sectors::sector;
@@ -19,7 +19,7 @@ const THOUSANDTH: i64 = 327_680_000;
 /// place 200 dm along it, or to its end where it is shorter.
 pub fn bearing_out(line: &Line, ends: Ends) -> u8
     requires { IsTrue (is_good line.now) }
-    ensures value { result ≡ bearing_out (leg line.now ends) }
+    ensures value { result ≡ bearing_out (leg_between line.now ends) }
     ensures below { result < 32 }
 {
     let at = BEARING_DISTANCE.min(line.len);
@@ -30,7 +30,7 @@ pub fn bearing_out(line: &Line, ends: Ends) -> u8
 /// back to the place 200 dm before it, or to its begin where it is shorter.
 pub fn bearing_back(line: &Line, ends: Ends) -> u8
     requires { IsTrue (is_good line.now) }
-    ensures value { result ≡ bearing_back (leg line.now ends) }
+    ensures value { result ≡ bearing_back (leg_between line.now ends) }
     ensures below { result < 32 }
 {
     let at = line.len.saturating_sub(BEARING_DISTANCE);
@@ -56,8 +56,8 @@ fn bearing(origin: Coord, place: Scaled) -> u8
 fn part(factor: i128, scaled: i128, width: u32, origin: i64) -> i128
     requires factor { IsFactor factor }
     requires short { width ≤ 1000000 }
-    requires place { IsWithin (width * degrees 180) scaled }
-    requires origin { IsWithin (degrees 180) origin }
+    requires place { IsWithin (width * degree_units 180) scaled }
+    requires origin { IsWithin (degree_units 180) origin }
     ensures value { result ≡ factor *ℤ (scaled -ℤ pos width *ℤ origin) }
     ensures in_range { IsPart result }
 {

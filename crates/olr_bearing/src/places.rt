@@ -3,7 +3,7 @@ ghost use Rattle.std.specs.Prelude.{◌≡◌, ◌<◌, ◌≤◌, IsTrue, pos, 
 ghost use Rattle.olr_spec.specs.Map.{is_good};
 ghost use Rattle.olr_spec.specs.Bearings.{scaled_place, scaled_between};
 ghost use Rattle.olr_bearing.specs.Ranges.{IsInRange};
-ghost use Rattle.olr_bearing.specs.Legs.{leg};
+ghost use Rattle.olr_bearing.specs.Legs.{leg_between};
 
 use olr_coords::Coord;
 use olr_map::{Line, Shape};
@@ -47,7 +47,7 @@ impl Model for Scaled {
 pub fn place(line: &Line, ends: Ends, at: u32) -> Scaled
     requires good { IsTrue (is_good line.now) }
     requires on_line { at ≤ line.now.len }
-    ensures value { result ≡ scaled_place (leg line.now ends) at }
+    ensures value { result ≡ scaled_place (leg_between line.now ends) at }
     ensures positive { 0 < result.width }
     ensures short { result.width ≤ line.now.len }
     ensures in_range { IsInRange result }

@@ -2,6 +2,7 @@
 use Rattle.std.proofs.Common.{◌≡◌, ℕ, ◌+◌, ◌<◌, ◌≤◌, ℤ, pos, ◌+ℤ◌, List, [], ◌∷◌, ◌++◌, length, map, take, get_or}
 use Rattle.std.proofs.Common.{nat_le, true, Some, sym, ap, ◌∙◌, arith, length-append}
 use Rattle.std.proofs.lemmas.Int.{ints}
+use lib.IntN.{+ℤ_assoc}
 use Rattle.std.proofs.lemmas.Bool.Decides.{nat_tests}
 use Rattle.std.proofs.lemmas.List.{map-append, take-map, length-map, take_more, take_all, take-append-le}
 use Rattle.olr_spec.specs.Coordinates.{from_abs24, from_rel16}
@@ -11,10 +12,6 @@ use Rattle.olr_spec.specs.Decoded.{decoded, steps_sum}
 pub add_none : (z : ℤ) → z +ℤ pos 0 ≡ z
 add_none z = omega (arith, ints)
 
--- over plain numbers
-add_assoc_ℤ : (a b c : ℤ) → a +ℤ b +ℤ c ≡ a +ℤ (b +ℤ c)
-add_assoc_ℤ a b c = omega (arith, ints)
-
 none_add : (z : ℤ) → z ≡ pos 0 +ℤ z
 none_add z = omega (arith, ints)
 
@@ -22,7 +19,7 @@ steps_sum-push : (zs : List ℤ) (z : ℤ) → steps_sum (zs ++ z ∷ []) ≡ st
 steps_sum-push [] z = add_none (from_rel16 z) ∙ none_add (from_rel16 z)
 steps_sum-push (y ∷ ys) z =
     ap (λ (n : ℤ). from_rel16 y +ℤ n) (steps_sum-push ys z)
-    ∙ sym (add_assoc_ℤ (from_rel16 y) (steps_sum ys) (from_rel16 z))
+    ∙ sym (+ℤ_assoc (from_rel16 y) (steps_sum ys) (from_rel16 z))
 
 -- one more point
 pub place-more : (a : ℤ) (f : Middle → ℤ) (ps : List Middle) (i : ℕ) (p : Middle) → i < length ps → p ≡ get_or ps i p
@@ -32,7 +29,7 @@ place-more a f ps i p within is =
     take_more ps i p within ∙ ap (λ (q : Middle). take i ps ++ q ∷ []) (sym is) in
     let steps : map f (take (i + 1) ps) ≡ map f (take i ps) ++ f p ∷ [] =
     ap (λ (qs : List Middle). map f qs) more ∙ map-append f (take i ps) (p ∷ []) in
-    add_assoc_ℤ a (steps_sum (map f (take i ps))) (from_rel16 (f p))
+    +ℤ_assoc a (steps_sum (map f (take i ps))) (from_rel16 (f p))
     ∙ ap (λ (n : ℤ). a +ℤ n) (sym (ap (λ (zs : List ℤ). steps_sum zs) steps ∙ steps_sum-push (map f (take i ps)) (f p)))
 
 module _ (a : ℤ) (f : Middle → ℤ) (ps : List Middle) (z : ℤ) (k : ℕ) where
@@ -50,7 +47,7 @@ module _ (a : ℤ) (f : Middle → ℤ) (ps : List Middle) (z : ℤ) (k : ℕ) w
       let whole : take k (map f ps ++ z ∷ []) ≡ map f ps ++ z ∷ [] =
       take_all k (map f ps ++ z ∷ []) (omega (arith, length-append (map f ps) (z ∷ []))) in
       ap (λ (zs : List ℤ). a +ℤ steps_sum zs) whole ∙ ap (λ (n : ℤ). a +ℤ n) (steps_sum-push (map f ps) z)
-      ∙ sym (add_assoc_ℤ a (steps_sum (map f ps)) (from_rel16 z))
+      ∙ sym (+ℤ_assoc a (steps_sum (map f ps)) (from_rel16 z))
 
 -- a point before the last
 pub decoded-between : (r : Reference) (k : ℕ) → k ≤ length r.middle

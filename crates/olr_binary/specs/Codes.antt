@@ -29,8 +29,8 @@ coded_last =
     (λ _. refl)
 
 -- a reference of its parts
-abbrev pub reference : First → List Middle → Last → Option ℕ → Option ℕ → Reference
-reference first middle last positive negative =
+abbrev pub reference_from : First → List Middle → Last → Option ℕ → Option ℕ → Reference
+reference_from first middle last positive negative =
     record { first = first; middle = middle; last = last; pos = positive; neg = negative }
 
 abbrev pub coded_reference : Coded Reference
@@ -39,5 +39,5 @@ coded_reference =
     (coded× coded_first (coded× (coded_list coded_middle)
     (coded× coded_last (coded× (coded_option coded_ℕ) (coded_option coded_ℕ)))))
     (λ r. (r.first, (r.middle, (r.last, (r.pos, r.neg)))))
-    (λ p. reference p.0 p.1.0 p.1.1.0 p.1.1.1.0 p.1.1.1.1)
+    (λ p. reference_from p.0 p.1.0 p.1.1.0 p.1.1.1.0 p.1.1.1.1)
     (λ _. refl)

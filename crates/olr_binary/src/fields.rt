@@ -123,13 +123,13 @@ pub struct Reference {
 impl Model for Reference {
     ghost use Rattle.olr_spec.specs.Reference.{Reference as Fields};
     ghost use Rattle.olr_spec.specs.Bytes.{IsReference};
-    ghost use Rattle.olr_binary.specs.Codes.{coded_reference, reference};
+    ghost use Rattle.olr_binary.specs.Codes.{coded_reference, reference_from};
 
     ghost Value = { Fields };
 
     ghost coded = { coded_reference };
 
-    ghost view = { λ r. reference r.first r.middle.items r.last r.pos r.neg };
+    ghost view = { λ r. reference_from r.first r.middle.items r.last r.pos r.neg };
 
-    ghost invariant = { λ r. IsReference (reference r.first r.middle.items r.last r.pos r.neg) };
+    ghost invariant = { λ r. IsReference (reference_from r.first r.middle.items r.last r.pos r.neg) };
 }

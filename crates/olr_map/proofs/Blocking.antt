@@ -10,7 +10,7 @@ use Rattle.std.proofs.lemmas.Map.Keys.{IsDistinct-head, IsDistinct-tail}
 use Rattle.std.proofs.lemmas.Nat.{div-add-mod'}
 use Rattle.std.proofs.Math.Nat.{mod-lt}
 use Rattle.olr_map.specs.Blocked.{told, slot_at, slot_in, found_in, IsBlank, AreUsed, from, all_in}
-use Rattle.olr_map.specs.ByNumbers.{entries_of, found}
+use Rattle.olr_map.specs.ByNumbers.{pairs_of, found}
 use Rattle.olr_map.specs.declared.block.Block.{Block}
 use Rattle.olr_map.specs.declared.by_number.ByNumber.{ByNumber}
 use Rattle.olr_map.specs.declared.by_number.ByNumber.TheVariants.{Hashed, Listed}
@@ -191,6 +191,6 @@ all_listed (b ∷ bs) k apart =
       | false ↦ λ e. lookup_second k (from (b.0 * 4) b.1.slots) (all_in bs) (outside b k e) ∙ later
     ] refl
 
-pub listed_found : (b : ByNumber) (k : ℕ) → lookup (λ q. k == q) (entries_of b) ≡ found b k
+pub listed_found : (b : ByNumber) (k : ℕ) → lookup (λ q. k == q) (pairs_of b) ≡ found b k
 listed_found (Hashed bs) k = all_listed bs.blocks.entries k bs.apart
 listed_found (Listed l) k = refl

@@ -8,7 +8,7 @@ use Rattle.std.proofs.lemmas.Bool.{eqb-true}
 use Rattle.std.specs.Ordering.{nat_cmp}
 use Rattle.olr_spec.specs.Coordinates.{Coord}
 use Rattle.olr_spec.specs.Map.{Map, IsMap, Line, has_node, has_line, line_at}
-use Rattle.olr_map.specs.ByNumbers.{entries_of, found}
+use Rattle.olr_map.specs.ByNumbers.{pairs_of, found}
 use Rattle.olr_map.specs.Slotted.{at, Turns}
 use Rattle.olr_map.specs.Columns.{node_slots}
 use Rattle.olr_map.specs.NodeLinks.{links_at, relinked}
@@ -49,7 +49,7 @@ empty_map_sound M no_node no_line =
       never true e h = absurd cc
       never false e h = absurd cc
 
-pub kept_none : (b : ByNumber) (s : NodeSlots) (ls : Numbered Line) → entries_of b ≡ [] → node_slots s ≡ [] →
+pub kept_none : (b : ByNumber) (s : NodeSlots) (ls : Numbered Line) → pairs_of b ≡ [] → node_slots s ≡ [] →
     things_of ls ≡ [] → IsKept b (node_slots s) (all_held ls)
 kept_none b s ls no_nodes no_slots no_lines =
     let none : (v : ℕ) → found b v ≡ None = λ v. sym (listed_found b v) ∙ ap (lookup (λ q. v == q)) no_nodes in

@@ -19,9 +19,6 @@ Slots = List (Option NodeEntry)
 
 -- what a slot holds has the node's number
 module _ (b : ByNumber) (es : Slots) (indexed : IsIndexed b es) where
-  pub id_here : (v p : ℕ) (e : NodeEntry) → found b v ≡ Some p → at es p ≡ Some e → e.id ≡ v
-  id_here v p e h is = same_some _ _ (ap (option_map id_of) (sym is) ∙ indexed.stands v p h)
-
   -- two nodes are not in one slot
   pub one_node : (v w p : ℕ) → found b v ≡ Some p → found b w ≡ Some p → v ≡ w
   one_node v w p h k = same_some _ _ (sym (indexed.stands v p h) ∙ indexed.stands w p k)

@@ -123,23 +123,6 @@ module _ {X : Type 0} (key : X → ℕ) where
       (not_both (key x) (key (get_or xs i d)) k
       (differs_at (key x) xs i d (IsDistinct-head ◌==◌ (key x) (map key xs) apart) (omega arith)))
 
-  pub looked-set : (xs : List X) (i : ℕ) (y d : X) (k : ℕ) → IsDistinct ◌==◌ (map key xs) → i < length xs →
-      key y ≡ key (get_or xs i d) → looked (set xs i y) k ≡ cond (key y == k) (Some y) (looked xs k)
-  looked-set [] i y d k apart lt e = absurd (omega arith)
-  looked-set (x ∷ xs) zero y d k apart lt e =
-      elim (key y == k) as (λ b. (key y == k) ≡ b →
-      cond b (Some y) (looked xs k) ≡ cond b (Some y) (cond (key x == k) (Some x) (looked xs k))) [
-        | true ↦ λ p. refl
-        | false ↦ λ p. ap (λ (b : Bool). cond b (Some x) (looked xs k)) (sym p ∙ ap (λ (n : ℕ). n == k) e)
-      ] refl
-  looked-set (x ∷ xs) (suc i) y d k apart lt e =
-      let ne : (key x == key y) ≡ false =
-      ap (λ (n : ℕ). key x == n) e ∙ differs_at (key x) xs i d (IsDistinct-head ◌==◌ (key x) (map key xs) apart)
-      (omega arith) in
-      ap (cond (key x == k) (Some x))
-      (looked-set xs i y d k (IsDistinct-tail ◌==◌ (key x) (map key xs) apart) (omega arith) e)
-      ∙ swapped (key x == k) (key y == k) (Some x) (Some y) (looked xs k) (not_both (key x) (key y) k ne)
-
   -- ---- the keys differ still
 
   pub distinct-insert : (xs : List X) (i : ℕ) (x : X) → IsDistinct ◌==◌ (map key xs) → Differs (key x) xs →
@@ -157,12 +140,6 @@ module _ {X : Type 0} (key : X → ℕ) where
       IsDistinct-tail ◌==◌ (key x) (map key (remove xs i))
       (IsDistinct-IsPermutation ◌==◌ eqb_flip (map key xs) (map key (x ∷ remove xs i))
       (IsPermutation-map key xs (x ∷ remove xs i) moves) apart)
-
-  pub keys-set : (xs : List X) (i : ℕ) (y d : X) → i < length xs → key y ≡ key (get_or xs i d) →
-      map key (set xs i y) ≡ map key xs
-  keys-set [] i y d lt e = absurd (omega arith)
-  keys-set (x ∷ xs) zero y d lt e = ap (λ (k : ℕ). k ∷ map key xs) e
-  keys-set (x ∷ xs) (suc i) y d lt e = ap (λ (ks : List ℕ). key x ∷ ks) (keys-set xs i y d (omega arith) e)
 
   -- the list as a map
   module _ {Y : Type 0} (val : X → Y) where

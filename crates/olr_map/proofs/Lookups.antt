@@ -10,7 +10,7 @@ use Rattle.std.specs.FinMap as finmap
 use Rattle.std.specs.FinMap.{from_entries, get, get-from_entries}
 use Rattle.std.proofs.lemmas.Bool.{ne_eqb}
 use Rattle.olr_map.proofs.Looks.{eqb_flip, map_cond, looked, looked_at, differs_from, looked-insert, looked-remove}
-use Rattle.olr_map.proofs.Looks.{looked-set, distinct-insert, distinct-remove, keys-set}
+use Rattle.olr_map.proofs.Looks.{distinct-insert, distinct-remove}
 
 module _ {V : Type 0} where
   abbrev key : ℕ × V → ℕ
@@ -60,19 +60,6 @@ module _ {V : Type 0} where
   pub lookup_at : (es : List (ℕ × V)) (k i : ℕ) (d : ℕ × V) → IsDistinct ◌==◌ (keys_of es) → i < length es →
       (get_or es i d).0 ≡ k → lookup (λ p. k == p) es ≡ Some (get_or es i d).1
   lookup_at es k i d apart lt e = lookup_looked es k ∙ ap (option_map value) (looked_at key es k i d apart lt e)
-
-  pub lookup_set : (es : List (ℕ × V)) (k i : ℕ) (v : V) (d : ℕ × V) (q : ℕ) → IsDistinct ◌==◌ (keys_of es) →
-      i < length es → (get_or es i d).0 ≡ k
-      → lookup (λ p. q == p) (set es i (k, v)) ≡ cond (k == q) (Some v) (lookup (λ p. q == p) es)
-  lookup_set es k i v d q apart lt e =
-      lookup_looked (set es i (k, v)) q
-      ∙ ap (option_map value) (looked-set key es i (k, v) d q apart lt (sym e))
-      ∙ map_cond value (k == q) (k, v) (looked key es q)
-      ∙ ap (cond (k == q) (Some v)) (sym (lookup_looked es q))
-
-  pub apart_set : (es : List (ℕ × V)) (k i : ℕ) (v : V) (d : ℕ × V) → IsDistinct ◌==◌ (keys_of es) → i < length es →
-      (get_or es i d).0 ≡ k → IsDistinct ◌==◌ (keys_of (set es i (k, v)))
-  apart_set es k i v d apart lt e = subst (IsDistinct ◌==◌) (sym (keys-set key es i (k, v) d lt (sym e))) apart
 
   pub lookup_remove : (es : List (ℕ × V)) (k i : ℕ) (d : ℕ × V) (q : ℕ) → IsDistinct ◌==◌ (keys_of es) → i < length es →
       (get_or es i d).0 ≡ k

@@ -5,7 +5,7 @@ use Rattle.std.specs.Map.{lookup}
 use Rattle.std.specs.FinMap.{get}
 use Rattle.std.proofs.lemmas.Bool.{eq-eqb, ne_eqb}
 use Rattle.olr_spec.proofs.OptionLemmas.{some_of}
-use Rattle.olr_map.specs.ByNumbers.{entries_of, found}
+use Rattle.olr_map.specs.ByNumbers.{pairs_of, found}
 use Rattle.olr_map.specs.Slotted.{at, Comes, Goes, Turns}
 use Rattle.olr_map.specs.Slabs.{slots_of}
 use Rattle.olr_map.specs.HavingSlots.{in_slot, HaveSlots}
@@ -186,7 +186,7 @@ module _ {X : Type 0} where
 
   pub things_found : (n : Numbered X) (k : ℕ) → lookup (λ q. k == q) (things_of n) ≡ held n k
   things_found n k =
-      things_held (slots_of n.slab) (entries_of n.index) k (λ p h. n.kept.stands k p (sym (listed_found n.index k) ∙ h))
+      things_held (slots_of n.slab) (pairs_of n.index) k (λ p h. n.kept.stands k p (sym (listed_found n.index k) ∙ h))
       ∙ ap (in_slot (slots_of n.slab)) (listed_found n.index k)
 
   pub held_get : (n : Numbered X) (k : ℕ) → get (all_held n) k ≡ held n k
@@ -194,7 +194,7 @@ module _ {X : Type 0} where
 
 -- ---- no numbers
 
-pub no_numbers : {X : Type 0} (b : ByNumber) (es : List (Option X)) → entries_of b ≡ [] → HaveSlots b es
+pub no_numbers : {X : Type 0} (b : ByNumber) (es : List (Option X)) → pairs_of b ≡ [] → HaveSlots b es
 no_numbers b es e = record { stands = λ v p h. absurd (never v p h); apart = λ v w p h i. absurd (never v p h) } where
   none : (v : ℕ) → found b v ≡ None
   none v = sym (listed_found b v) ∙ ap (lookup (λ q. v == q)) e

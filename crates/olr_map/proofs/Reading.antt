@@ -8,7 +8,7 @@ use Rattle.std.specs.Ordering.{nat_cmp}
 use Rattle.olr_spec.specs.Coordinates.{Coord}
 use Rattle.olr_spec.specs.Map.{Map, Line, IsMap, has_node, has_line, lines_in, lines_out, no_place}
 use Rattle.olr_spec.proofs.OptionLemmas.{none_of, some_of}
-use Rattle.olr_map.specs.ByNumbers.{entries_of, found}
+use Rattle.olr_map.specs.ByNumbers.{pairs_of, found}
 use Rattle.olr_map.specs.Slotted.{at}
 use Rattle.olr_map.specs.Columns.{node_slots}
 use Rattle.olr_map.specs.NodeLinks.{links_at}
@@ -50,8 +50,8 @@ module _ (b : ByNumber) (es : List (Option NodeEntry)) (indexed : IsIndexed b es
   pub got_node : (F : FinMap nat_cmp Line) (v : ℕ) →
       get (map_from b es F).nodes v ≡ option_map place_of (node_in b es v)
   got_node F v =
-      all_get (map (λ (e : ℕ × ℕ). (e.0, coord_in es e.1)) (entries_of b)) v
-      ∙ lookup_mapped (coord_in es) (entries_of b) v ∙ ap (option_map (coord_in es)) (listed_found b v)
+      all_get (map (λ (e : ℕ × ℕ). (e.0, coord_in es e.1)) (pairs_of b)) v
+      ∙ lookup_mapped (coord_in es) (pairs_of b) v ∙ ap (option_map (coord_in es)) (listed_found b v)
       ∙ step (found b v) refl where
         step : (o : Option ℕ) → found b v ≡ o → option_map (coord_in es) o ≡ option_map place_of (in_slot es o)
         step None h = refl

@@ -1,6 +1,6 @@
 -- Slots by number.
 --     found b k      the slot of number k
---     entries_of b      the numbers with their slots
+--     pairs_of b      the numbers with their slots
 --     spare_of b      how many more there is room for
 use Rattle.std.specs.Prelude.{ℕ, ◌-◌, ◌==◌, List, Option, vec_len}
 use Rattle.std.specs.Vec.{vec_capacity}
@@ -14,9 +14,9 @@ abbrev pub found : ByNumber → ℕ → Option ℕ
 found (Hashed bs) k = found_in bs.blocks.entries k
 found (Listed l) k = lookup (λ q. k == q) l.entries.items
 
-abbrev pub entries_of : ByNumber → List (ℕ × ℕ)
-entries_of (Hashed bs) = all_in bs.blocks.entries
-entries_of (Listed l) = l.entries.items
+abbrev pub pairs_of : ByNumber → List (ℕ × ℕ)
+pairs_of (Hashed bs) = all_in bs.blocks.entries
+pairs_of (Listed l) = l.entries.items
 
 abbrev pub spare_of : ByNumber → ℕ
 spare_of (Hashed bs) = spare bs.blocks

@@ -12,7 +12,7 @@ use Rattle.std.proofs.Props.{props}
 use Rattle.olr_spec.specs.Coordinates.{Coord}
 use Rattle.olr_spec.specs.Map.{Map, Line, IsMap, lines_where, line_at, dm, no_place}
 use Rattle.olr_map.specs.Linked.{lines_on, ends_on}
-use Rattle.olr_map.specs.ByNumbers.{entries_of, found}
+use Rattle.olr_map.specs.ByNumbers.{pairs_of, found}
 use Rattle.olr_map.specs.Ends.{ArePlaces}
 use Rattle.olr_map.specs.Slotted.{at}
 use Rattle.olr_map.specs.HavingSlots.{in_slot}
@@ -35,7 +35,7 @@ coord_in es p = option_map_or (λ (e : NodeEntry). e.place) (at es p) no_place
 
 abbrev pub map_from : ByNumber → List (Option NodeEntry) → FinMap nat_cmp Line → Map
 map_from b es F =
-    record { nodes = from_entries (map (λ (e : ℕ × ℕ). (e.0, coord_in es e.1)) (entries_of b)); lines = F }
+    record { nodes = from_entries (map (λ (e : ℕ × ℕ). (e.0, coord_in es e.1)) (pairs_of b)); lines = F }
 
 abbrev pub place_in : ByNumber → ℕ → ℕ
 place_in b v = unwrap_or (found b v) 0

@@ -5,7 +5,7 @@
 use Rattle.std.specs.Prelude.{ℕ, min, List, [], ◌∷◌, ◌++◌, Option, Some, None}
 use Rattle.std.specs.FinMap.{FinMap, from_entries}
 use Rattle.std.specs.Ordering.{nat_cmp}
-use Rattle.olr_map.specs.ByNumbers.{entries_of, found, spare_of}
+use Rattle.olr_map.specs.ByNumbers.{pairs_of, found, spare_of}
 use Rattle.olr_map.specs.Slotted.{at}
 use Rattle.olr_map.specs.Slabs.{slots_of, room_in}
 use Rattle.olr_map.specs.HavingSlots.{in_slot}
@@ -25,7 +25,7 @@ module _ {X : Type 0} where
   held n k = in_slot (slots_of n.slab) (found n.index k)
 
   abbrev pub things_of : Numbered X → List (ℕ × X)
-  things_of n = things_in (slots_of n.slab) (entries_of n.index)
+  things_of n = things_in (slots_of n.slab) (pairs_of n.index)
 
   abbrev pub all_held : Numbered X → FinMap nat_cmp X
   all_held n = from_entries (things_of n)

@@ -1,7 +1,8 @@
 -- A plain map as the definitions see it, and when an edit of it can be taken back.
 --     map_of m, slot_of m      its nodes and lines;  where each node has its place, by which `place_of` answers
---     CanUndo m u, map_undone m u the map is as the edit left it, its room for what comes back included; the map from
---     before CanUndoAll m log, map_before m log the same for all edits that a log knows
+--     CanUndo m u, map_undone m u      the map is as the edit left it, its room for what comes back included; the map
+--         from before
+--     CanUndoAll m log, map_before m log      the same for all edits that a log knows
 use Rattle.std.specs.Prelude.{ℕ}
 use Rattle.olr_spec.specs.Map.{Map}
 use Rattle.olr_map.specs.Kept.{place_in}

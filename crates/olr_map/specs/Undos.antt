@@ -1,9 +1,10 @@
 -- What takes edits back, one or a list of them.
 --     CanMakeAll M R cs      the changes can be made one after the other, and take no memory
 --     made_all M cs      the map after them
---     changes_of log      the changes that take back what a log knows, the last edit's first
---     CanUndoIn t u, undone_in t u the tables are as the edit left them, their room for what comes back included; the
---     map from before CanUndoAllIn t log, before_in t log the same for all edits that a log knows
+--     log_changes log      the changes that take back what a log knows, the last edit's first
+--     CanUndoIn t u, undone_in t u      the tables are as the edit left them, their room for what comes back included;
+--         the map from before
+--     CanUndoAllIn t log, before_in t log      the same for all edits that a log knows
 use Rattle.std.specs.Prelude.{ℕ, List, [], ◌∷◌, reverse, ⊤}
 use Rattle.std.specs.Coded.{×_prop, Unit-prop, le_prop, coded_ℕ, coded_list, Coded-set}
 use Rattle.std.proofs.Props.{props}
@@ -25,8 +26,8 @@ abbrev pub made_all : Map → List Change → Map
 made_all M [] = M
 made_all M (c ∷ cs) = made_all (map_after M c) cs
 
-abbrev pub changes_of : UndoLog → List Change
-changes_of log = reverse log.changes.items
+abbrev pub log_changes : UndoLog → List Change
+log_changes log = reverse log.changes.items
 
 abbrev pub CanUndoIn : Tables → Undo → Type 0
 CanUndoIn t u = CanMake (tables_map t) (room_of t) u.change × HasNumbers t (node_puts u.change) (line_puts u.change)
@@ -35,10 +36,10 @@ abbrev pub undone_in : Tables → Undo → Map
 undone_in t u = map_after (tables_map t) u.change
 
 abbrev pub CanUndoAllIn : Tables → UndoLog → Type 0
-CanUndoAllIn t log = CanMakeAll (tables_map t) (room_of t) (changes_of log) × HasNumbers t log.nodes log.lines
+CanUndoAllIn t log = CanMakeAll (tables_map t) (room_of t) (log_changes log) × HasNumbers t log.nodes log.lines
 
 abbrev pub before_in : Tables → UndoLog → Map
-before_in t log = made_all (tables_map t) (changes_of log)
+before_in t log = made_all (tables_map t) (log_changes log)
 
 -- these facts have one proof at most
 HasPlace-prop : (e : map.Edit) → IsProp (HasPlace e)
@@ -82,4 +83,4 @@ CanUndoIn-prop t u =
 
 pub CanUndoAllIn-prop : (t : Tables) (log : UndoLog) → IsProp (CanUndoAllIn t log)
 CanUndoAllIn-prop t log =
-    ×_prop (CanMakeAll-prop (tables_map t) (room_of t) (changes_of log)) (HasNumbers-prop t log.nodes log.lines)
+    ×_prop (CanMakeAll-prop (tables_map t) (room_of t) (log_changes log)) (HasNumbers-prop t log.nodes log.lines)

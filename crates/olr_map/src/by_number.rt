@@ -25,18 +25,18 @@ pub struct List {
 }
 
 impl ByNumber {
-    ghost use Rattle.olr_map.specs.ByNumbers.{entries_of, found, spare_of};
+    ghost use Rattle.olr_map.specs.ByNumbers.{pairs_of, found, spare_of};
 
     /// No slots, to be found by hash. Takes no memory.
     pub fn with_hash(alloc: Global) -> ByNumber
-        ensures { entries_of result ≡ [] }
+        ensures { pairs_of result ≡ [] }
     {
         ByNumber::Hashed(Blocks::new(alloc))
     }
 
     /// No slots, to be found by search from the front. Takes no memory.
     pub fn with_list(alloc: Global) -> ByNumber
-        ensures { entries_of result ≡ [] }
+        ensures { pairs_of result ≡ [] }
     {
         ByNumber::Listed(List {
             entries: Vec::new(alloc),

@@ -22,7 +22,7 @@ impl Tables {
     ghost use Rattle.olr_map.specs.Changes.{tables_map, room_of, change_edit, node_puts, line_puts, node_numbers};
     ghost use Rattle.olr_map.specs.Changes.{line_numbers, HasRoomFor, HasNumbers, IsWhole, IsRoomWithin, CanMake};
     ghost use Rattle.olr_map.specs.Changes.{IsChangeMade, map_after, room_after};
-    ghost use Rattle.olr_map.specs.Undos.{changes_of, CanUndoIn, undone_in, CanUndoAllIn, before_in};
+    ghost use Rattle.olr_map.specs.Undos.{log_changes, CanUndoIn, undone_in, CanUndoAllIn, before_in};
 
     /// The slots of the nodes that a change touches and that are there before it.
     fn slots_for(&self, change: &Change) -> (u32, u32)
@@ -211,7 +211,7 @@ impl Tables {
             ↔ (edited (tables_map self.old) (edit_of edit) ≡ Err f) }
         ensures done { OnOk result (edited (tables_map self.old) (edit_of edit) ≡ Ok (tables_map self.new)) }
         ensures same { OnErr result (tables_map self.new ≡ tables_map self.old) }
-        ensures same_log { OnErr result (changes_of log.new ≡ changes_of log.old) }
+        ensures same_log { OnErr result (log_changes log.new ≡ log_changes log.old) }
         ensures can_undo { CanUndoAllIn self.new log.new }
         ensures before { before_in self.new log.new ≡ before_in self.old log.old }
     {
@@ -235,7 +235,7 @@ impl Tables {
         requires log { CanUndoAllIn self.old log.old }
         ensures done { OnOk result (edited (tables_map self.old) (edit_of edit) ≡ Ok (tables_map self.new)) }
         ensures same { OnErr result (tables_map self.new ≡ tables_map self.old) }
-        ensures same_log { OnErr result (changes_of log.new ≡ changes_of log.old) }
+        ensures same_log { OnErr result (log_changes log.new ≡ log_changes log.old) }
         ensures can_undo { CanUndoAllIn self.new log.new }
         ensures before { before_in self.new log.new ≡ before_in self.old log.old }
     {

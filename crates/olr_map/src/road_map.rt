@@ -79,7 +79,7 @@ impl RoadMap {
     ghost use Rattle.std.specs.Prelude.{◌≡◌, ◌↔◌, IfOk, OnOk, OnErr, Ok, Err};
     ghost use Rattle.olr_spec.specs.Map.{MapFault, empty_map, edited};
     ghost use Rattle.olr_map.specs.Edits.{edit_of, edit_fault_of};
-    ghost use Rattle.olr_map.specs.Undos.{changes_of};
+    ghost use Rattle.olr_map.specs.Undos.{log_changes};
     ghost use Rattle.olr_map.specs.Judgements.{IsJudged};
     ghost use Rattle.olr_map.specs.RoadMaps.{map_of, slot_of, CanUndo, map_undone, CanUndoAll, map_before};
 
@@ -140,7 +140,7 @@ impl RoadMap {
             ↔ (edited (map_of self.old) (edit_of edit) ≡ Err f) }
         ensures done { OnOk result (edited (map_of self.old) (edit_of edit) ≡ Ok (map_of self.new)) }
         ensures same { OnErr result (map_of self.new ≡ map_of self.old) }
-        ensures same_log { OnErr result (changes_of log.new ≡ changes_of log.old) }
+        ensures same_log { OnErr result (log_changes log.new ≡ log_changes log.old) }
         ensures can_undo { CanUndoAll self.new log.new }
         ensures before { map_before self.new log.new ≡ map_before self.old log.old }
     {
@@ -159,7 +159,7 @@ impl RoadMap {
         requires log { CanUndoAll self.old log.old }
         ensures done { OnOk result (edited (map_of self.old) (edit_of edit) ≡ Ok (map_of self.new)) }
         ensures same { OnErr result (map_of self.new ≡ map_of self.old) }
-        ensures same_log { OnErr result (changes_of log.new ≡ changes_of log.old) }
+        ensures same_log { OnErr result (log_changes log.new ≡ log_changes log.old) }
         ensures can_undo { CanUndoAll self.new log.new }
         ensures before { map_before self.new log.new ≡ map_before self.old log.old }
     {

@@ -28,11 +28,11 @@ impl UndoLog {
     ghost use Rattle.std.specs.Prelude.{◌<◌, ◌+◌, ◌∷◌, [], OnOk};
     ghost use Rattle.std.specs.Vec.{vec_capacity};
     ghost use Rattle.olr_map.specs.Changes.{node_puts, line_puts};
-    ghost use Rattle.olr_map.specs.Undos.{changes_of};
+    ghost use Rattle.olr_map.specs.Undos.{log_changes};
 
     /// A log of no edits. Takes no memory.
     pub fn new(alloc: Global) -> UndoLog
-        ensures { changes_of result ≡ [] }
+        ensures { log_changes result ≡ [] }
     {
         UndoLog {
             changes: Vec::new(alloc),
@@ -43,7 +43,7 @@ impl UndoLog {
 
     /// Makes room for one more change.
     pub(crate) fn reserve(&mut self) -> Result<(), AllocError>
-        ensures same { changes_of self.new ≡ changes_of self.old }
+        ensures same { log_changes self.new ≡ log_changes self.old }
         ensures nodes { self.new.nodes ≡ self.old.nodes }
         ensures lines { self.new.lines ≡ self.old.lines }
         ensures room { OnOk result (vec_len self.new.changes < vec_capacity self.new.changes) }
@@ -54,7 +54,7 @@ impl UndoLog {
     /// Adds what takes back one more edit. There is room for it.
     pub(crate) fn push(&mut self, change: Change)
         requires { vec_len self.old.changes < vec_capacity self.old.changes }
-        ensures more { changes_of self.new ≡ change ∷ changes_of self.old }
+        ensures more { log_changes self.new ≡ change ∷ log_changes self.old }
         ensures nodes { self.new.nodes ≡ node_puts change + self.old.nodes }
         ensures lines { self.new.lines ≡ line_puts change + self.old.lines }
     {

@@ -8,7 +8,7 @@ use Rattle.std.specs.FinMap.{get, insert, remove}
 use Rattle.olr_spec.specs.Map.{Map, Line, has_line, line_at, no_line, start, end, dm, Edit, Add_node, Move_node}
 use Rattle.olr_spec.specs.Map.{Drop_node, Add_line, Set_line, Drop_line, edited, touched_nodes, touched_lines, SameLine}
 use Rattle.olr_spec.specs.Map.{SameRound, has}
-use Rattle.olr_spec.specs.Detours.{ChangedLine, changes_of, IsTold, Tells, Difference}
+use Rattle.olr_spec.specs.Detours.{ChangedLine, changes_of, IsChangedLine, Tells, Difference}
 use Rattle.olr_spec.proofs.AgreeLemmas.{same_known, same_start, same_end, same_dm}
 use Rattle.olr_spec.proofs.EditLemmas.{made_by, got_other, got_same, left_other, left_same, edits_are_local}
 use Rattle.olr_spec.proofs.ListLemmas.{Contains-here}
@@ -17,16 +17,16 @@ use Rattle.olr_spec.proofs.ListLemmas.{Contains-here}
 
 -- maps whose lines differ at y alone, which is told
 tells_one : (C : List ChangedLine) (M N : Map) (y : ℕ) → ((x : ℕ) → x ≢ y → SameLine M N x)
-    → (IsTrue (has_line M y) → IsTold C M y) → Tells C M N
+    → (IsTrue (has_line M y) → IsChangedLine C M y) → Tells C M N
 tells_one C M N y same told x h =
     elim (cases_eq x y) [
-      | inl e ↦ inr (subst (IsTold C M) (sym e) (told (ap (has_line M) (sym e) ∙ h)))
+      | inl e ↦ inr (subst (IsChangedLine C M) (sym e) (told (ap (has_line M) (sym e) ∙ h)))
       | inr ne ↦ inl (same x ne)
     ]
 
 -- the only one of the changed lines
 told_alone : (M : Map) (y : ℕ) (c : ChangedLine) → c.from ≡ start M y → c.to ≡ end M y → c.len ≤ dm M y
-    → IsTold (c ∷ []) M y
+    → IsChangedLine (c ∷ []) M y
 told_alone M y c a b h = record { change = c; listed = Contains-here c []; from = a; to = b; len = h }
 
 -- line y as it is set
@@ -114,7 +114,7 @@ none_differs M = record {
 -- ---- one after another
 
 pub more_told : (C D : List ChangedLine) (M : Map) (x : ℕ) → ((c : ChangedLine) → Contains C c → Contains D c)
-    → IsTold C M x → IsTold D M x
+    → IsChangedLine C M x → IsChangedLine D M x
 more_told C D M x more t = record {
   change = t.change;
   listed = more t.change t.listed;
@@ -123,7 +123,7 @@ more_told C D M x more t = record {
   len = t.len;
 }
 
-told_back : (C : List ChangedLine) (L M : Map) (x : ℕ) → SameLine L M x → IsTold C M x → IsTold C L x
+told_back : (C : List ChangedLine) (L M : Map) (x : ℕ) → SameLine L M x → IsChangedLine C M x → IsChangedLine C L x
 told_back C L M x is t =
     record {
       change = t.change;

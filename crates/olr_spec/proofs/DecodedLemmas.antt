@@ -5,6 +5,7 @@ use Rattle.std.proofs.Common.{is_some, IsTrue, cond, Bool, refl, sym, ap, ◌∙
 use Rattle.std.specs.Prelude.{nat_abs, slice_get, option_map}
 use Rattle.std.proofs.lemmas.Bool.{le-leb, leb-true}
 use Rattle.std.proofs.lemmas.Int.{ints}
+use lib.IntN.{+ℤ_assoc}
 use Rattle.std.specs.List.{slice_index}
 use Rattle.olr_spec.specs.Coordinates.{abs24, from_abs24, nearest, relative, from_rel16}
 use Rattle.olr_spec.specs.Map.{Map, IsMap, has_line, place_at, has}
@@ -93,10 +94,7 @@ close_on f n h (suc k) (i ∷ ks) a c le =
     close_on f (n + 1638400) i k ks (a +ℤ r) (close_step n a r (f h) (f i) c (close16 (f i -ℤ f h))) (omega arith) in
     close_same (n + 1638400 + k * 1638400) (n + suc k * 1638400) (a +ℤ r +ℤ steps_sum (take k (relatives f i ks)))
     (a +ℤ (r +ℤ steps_sum (take k (relatives f i ks)))) (f (slice_index (i ∷ ks) k)) (omega arith)
-    (assoc a r (steps_sum (take k (relatives f i ks)))) rest
-  where
-    assoc : (a b c : ℤ) → a +ℤ b +ℤ c ≡ a +ℤ (b +ℤ c)
-    assoc a b c = omega (arith, ints)
+    (+ℤ_assoc a r (steps_sum (take k (relatives f i ks)))) rest
 
 -- ---- the fields of a reference
 

@@ -1,9 +1,9 @@
 -- Places on a line, directions, and the 32 sectors of bearings (White Paper, bearing attribute).
 --     Leg      a line with the places of its two ends
 --     scaled_place g t      the place t dm along the line, times the width of its interval between shape points
---     bearing_out g, bearing_back g the sector of the direction from the line's begin to the place 200 dm along it, or
---     from its end to the place 200 dm back IsSector east north k, sector east north k is the sector between two
---     boundary vectors; that sector
+--     bearing_out g, bearing_back g      the sector of the direction from the line's begin to the place 200 dm along
+--         it, or from its end to the place 200 dm back
+--     IsSector east north k, sector east north      k is the sector between two boundary vectors;  that sector
 use Rattle.std.specs.Prelude.{ℕ, zero, suc, ◌-◌, ◌<◌, min, ℤ, pos, ◌+ℤ◌, ◌-ℤ◌, ◌*ℤ◌, neg_ℤ, int_le, int_lt, int_div}
 use Rattle.std.specs.Prelude.{Bool, ◌&&◌, List, [], ◌∷◌, ◌++◌, map, find, nat_le, unwrap_or, slice_index_or}
 use Rattle.std.specs.Prelude.{if◌then◌else◌, IsTrue}

@@ -1,9 +1,10 @@
 -- Coordinates, and how the binary format rounds them. They count one unit, 1/327,680,000,000 degree, so that each step
 -- is whole (profile): 10^-7 degree is 32,768 units, 10^-5 degree 3,276,800, and a step of 360 degrees / 2^24 is
 -- 7,031,250.
---     Coord, coord a longitude and a latitude. is_longitude, is_latitude, is_coord within the ranges of a map abs24,
---     from_abs24 a coordinate in 24-bit steps of 360 degrees / 2^24, and back relative, rel16, from_rel16 a difference
---     in steps of 10^-5 degree; where it fits 16 bits; and back
+--     Coord, coord      a longitude and a latitude.
+--     is_longitude, is_latitude, is_coord      within the ranges of a map
+--     abs24, from_abs24      a coordinate in 24-bit steps of 360 degrees / 2^24, and back
+--     relative, rel16, from_rel16      a difference in steps of 10^-5 degree;  where it fits 16 bits;  and back
 use Rattle.std.specs.Prelude.{ℕ, suc, ◌+◌, ◌/◌, ◌*◌, ℤ, pos, negsuc, zero, ◌-ℤ◌, ◌*ℤ◌, neg_ℤ, nat_abs, int_le, Bool}
 use Rattle.std.specs.Prelude.{◌&&◌, Option, Some, None, if◌then◌else◌}
 

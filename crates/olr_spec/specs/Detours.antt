@@ -1,9 +1,12 @@
 -- What changes of a map can concern (profile). M and N are the map before and after, or the other way round.
---     ChangedLine, changes_of M e where a changed line begins and ends, and at most its length; those of an edit of M
---     Tells C M N the changed lines C tell every line of M that is another on N Difference T X C M N the maps differ
---     round the nodes T and in the lines X alone, and C tells the changed lines Detour M C s t d a walk from s to a
---     changed line, and one from a changed line to t, within d decimetres together Near M T s d a walk of at most d
---     decimetres from s to one of the nodes T
+--     ChangedLine, changes_of M e      where a changed line begins and ends, and at most its length; those of an edit
+--         of M
+--     Tells C M N      the changed lines C tell every line of M that is another on N
+--     Difference T X C M N      the maps differ round the nodes T and in the lines X alone, and C tells the changed
+--         lines
+--     Detour M C s t d      a walk from s to a changed line, and one from a changed line to t, within d decimetres
+--         together
+--     Near M T s d      a walk of at most d decimetres from s to one of the nodes T
 use Rattle.std.specs.Prelude.{◌≡◌, ℕ, ◌+◌, ◌≤◌, min, List, [], ◌∷◌, ◌⊎◌, Contains, IsTrue, IsFalse}
 use Rattle.olr_spec.specs.Map.{Map, Edit, Add_line, Set_line, Drop_line, has_line, start, end, dm, SameLine, SameRound}
 use Rattle.olr_spec.specs.Map.{has}
@@ -23,7 +26,7 @@ changes_of M (Drop_line x) = record { from = start M x; to = end M x; len = dm M
 changes_of M _ = []
 
 -- line x of M is one of them
-pub record IsTold (C : List ChangedLine) (M : Map) (x : ℕ) : Type 0 where
+pub record IsChangedLine (C : List ChangedLine) (M : Map) (x : ℕ) : Type 0 where
   pub change : ChangedLine
   pub listed : Contains C change
   pub from : change.from ≡ start M x
@@ -32,7 +35,7 @@ pub record IsTold (C : List ChangedLine) (M : Map) (x : ℕ) : Type 0 where
 
 -- more of them than needed do no harm
 abbrev pub Tells : List ChangedLine → Map → Map → Type 0
-Tells C M N = (x : ℕ) → IsTrue (has_line M x) → SameLine M N x ⊎ IsTold C M x
+Tells C M N = (x : ℕ) → IsTrue (has_line M x) → SameLine M N x ⊎ IsChangedLine C M x
 
 pub record Difference (T X : List ℕ) (C : List ChangedLine) (M N : Map) : Type 0 where
   pub nodes : (v : ℕ) → IsFalse (has T v) → SameRound M N v

@@ -1,11 +1,11 @@
 -- A path, and how its ends are moved out to valid nodes.
 --     Path, is_path ls      lines, none twice, with the two offsets in decimetres;  from 1 to 10,000 lines, none twice
 --     passing M v      v has exactly two neighbours, and its lines only pass between them. Every other node is valid
---     AreJoined M ls      the lines are in the map, and each ends where the next begins
 --     StartChain M c ls, EndChain M ls c      the lines c lead to the lines ls, or from them, through passing nodes
 --     LongestStart M c ls, LongestEnd M ls c      c is the longest such chain within the limit
 --     Tried M P b a      b and a are the longest chains at the start of the path and at its end
 --     extended M P b a      the path with those of them that lead to valid nodes, and the raised offsets
+--     AreJoined M ls      the lines are in the map, and each ends where the next begins
 use Rattle.std.specs.Prelude.{◌≡◌, ◌≢◌, ℕ, ◌+◌, ◌≤◌, Bool, true, false, not, ◌&&◌, ◌||◌, List, [], ◌∷◌, ◌++◌, map}
 use Rattle.std.specs.Prelude.{length, nat_le, ◌==◌, if◌then◌else◌, ⊤, IsTrue, IsFalse}
 use Rattle.olr_spec.specs.Map.{Map, has_line, start, end, lines_in, lines_out, has}

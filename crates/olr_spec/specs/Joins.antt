@@ -1,7 +1,8 @@
 -- The routes between the kept points join to the extended path, so that a decoder who follows them comes along it
 -- (White Paper, encoding steps).
---     JoinsTo M ls p q, JoinsLast M ls p q the stretch between two neighbouring points is a line, a route, and for the
---     last two a line Joins M ls ks so at each two neighbours of ks
+--     JoinsTo M ls p q, JoinsLast M ls p q      the stretch between two neighbouring points is a line, a route, and for
+--         the last two a line
+--     Joins M ls ks      so at each two neighbours of ks
 use Rattle.std.specs.Prelude.{◌≡◌, ℕ, ◌-◌, List, [], ◌∷◌, ◌++◌, slice_index, ◌⊎◌, ⊤}
 use Rattle.olr_spec.specs.Map.{Map, start, end}
 use Rattle.olr_spec.specs.Walks.{Route}

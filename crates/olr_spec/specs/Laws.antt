@@ -2,10 +2,12 @@
 -- references and bytes.
 --     maps       lines in and out of a node rise and are exactly these; an accepted edit keeps a map sound
 --     walks      there is one least and one sole walk, and the front of one is one
---     answers a path has exactly one answer; its reference fits its bits; the routes between its points join to the
---     path bytes a direction has one sector, a reference one spelling, bytes one reference or one fault locality an
---     answer rests on its footprint alone changes what edits change, and which walks they can concern looks a path
---     looks at its own nodes and what lies near; where no change concerns that, its answer is kept
+--     answers    a path has exactly one answer; its reference fits its bits; the routes between its points join to the
+--         path
+--     bytes      a direction has one sector, a reference one spelling, bytes one reference or one fault
+--     locality   an answer rests on its footprint alone
+--     changes    what edits change, and which walks they can concern
+--     looks      a path looks at its own nodes and what lies near; where no change concerns that, its answer is kept
 use Rattle.std.specs.Prelude.{◌≡◌, ℕ, ◌+◌, ◌<◌, ◌≤◌, ℤ, pos, List, [], ◌++◌, length, Option, Some, None, is_some, All}
 use Rattle.std.specs.Prelude.{Contains, Ok, ◌↔◌, ◌⊎◌, IsTrue, IsFalse}
 use Rattle.std.specs.List.{AllByRecursion}

@@ -1,10 +1,14 @@
 -- What an encoding of a path looks at (profile).
---     Own M ls b a v v lies on the extended path ls, or on one of the tried chains b and a. OwnOf M P v v is one of the
---     own nodes of the path Needed M ls i m a position that is near enough to follow i as a point asks whether position
---     m is covered IsLastTested M ls i k k is the last position that is tested: one after another from i + 1 on, while
---     covered and needed Look, look_to M ls i k a search for that: where it begins, the node of position k, and how far
---     along the path this is IsClear M C l no detour over the changed lines C is as short LooksFrom M ls is looks,
---     LooksOf M P looks one for each of the points is, in their order; the looks of the path
+--     Own M ls b a v      v lies on the extended path ls, or on one of the tried chains b and a.
+--     OwnOf M P v      v is one of the own nodes of the path
+--     Needed M ls i m      a position that is near enough to follow i as a point asks whether position m is covered
+--     IsLastTested M ls i k      k is the last position that is tested: one after another from i + 1 on, while covered
+--         and needed
+--     Look, look_to M ls i k      a search for that: where it begins, the node of position k, and how far along the
+--         path this is
+--     IsClear M C l      no detour over the changed lines C is as short
+--     LooksFrom M ls is looks, LooksOf M P looks      one for each of the points is, in their order; the looks of the
+--         path
 use Rattle.std.specs.Prelude.{◌≡◌, ℕ, ◌+◌, ◌-◌, ◌<◌, ◌≤◌, min, List, [], ◌∷◌, length, filter, nat_lt, slice_index}
 use Rattle.std.specs.Prelude.{MatchOption, ◌⊎◌}
 use Rattle.std.specs.List.{AllZip}

@@ -1,11 +1,15 @@
 -- The directed road map, its edits, and what two maps have in common round some nodes (White Paper, map model).
---     Line, ShapePoint, Map a line from a node to a node, its class and form, its length and the distances `at` in
---     decimetres; nodes and lines by number is_good l classes, length and shape in range. IsMap M every line good, both
---     its ends there, and every place in range line_at M x, start, end, dm the record of line x, and its parts.
---     lines_in M v, lines_out M v the lines that enter and leave v, rising Edit, edited M e the map after an edit, or
---     the first fault. touched_nodes M e, touched_lines e what it touches HasPlace e each place that the edit brings is
---     in range. has xs x whether x is one of xs Agree M N P F the maps have the same round the nodes of F, and the same
---     lines of the list P
+--     Line, ShapePoint, Map      a line from a node to a node, its class and form, its length and the distances `at` in
+--         decimetres; nodes and lines by number
+--     is_good l      classes, length and shape in range.
+--     IsMap M      every line good, both its ends there, and every place in range
+--     line_at M x, start, end, dm      the record of line x, and its parts.
+--     lines_in M v, lines_out M v      the lines that enter and leave v, rising
+--     Edit, edited M e      the map after an edit, or the first fault.
+--     touched_nodes M e, touched_lines e      what it touches
+--     HasPlace e      each place that the edit brings is in range.
+--     has xs x      whether x is one of xs
+--     Agree M N P F      the maps have the same round the nodes of F, and the same lines of the list P
 use Rattle.std.specs.Prelude.{◌≡◌, ℕ, pos, Bool, true, not, cond, ◌&&◌, ◌||◌, List, [], ◌∷◌, length, map, filter, Some}
 use Rattle.std.specs.Prelude.{is_some, unwrap_or, Result, Ok, Err, nat_lt, nat_le, ◌==◌, ◌↔◌, IsTrue, ⊤}
 use Rattle.std.specs.List.{list_all, list_any, AllByRecursion}

@@ -1,9 +1,11 @@
 -- What is published of an extended path and its points (White Paper, location reference points and their attributes).
 -- It is a function of the path's legs alone.
 --     Reference      the fields of a line location reference
---     legs M ls      the path's lines with the places of their ends.        position gs i      the place of position i
---     kept gs positive negative js of the points 0 and js, those that are left when the offsets have cut whole
---     stretches off reference gs positive negative js the reference of the kept points
+--     legs M ls      the path's lines with the places of their ends.
+--     position gs i      the place of position i
+--     kept gs positive negative js      of the points 0 and js, those that are left when the offsets have cut whole
+--         stretches off
+--     reference gs positive negative js      the reference of the kept points
 use Rattle.std.specs.Prelude.{ℕ, ◌+◌, ◌-◌, ◌*◌, ◌/◌, max, ℤ, Bool, ◌&&◌, List, [], ◌∷◌, length, filter, take, drop, map}
 use Rattle.std.specs.Prelude.{fold, nat_lt, nat_le, ◌==◌, slice_index_or, slice_range, Option, Some, None}
 use Rattle.std.specs.Prelude.{if◌then◌else◌}

@@ -1,7 +1,8 @@
 -- Worked values, by hand: the legs, references and bytes that the worked rows speak of.
---     legs1, reference1, bytes1 the first worked path, of three lines; its reference with three points, and the bytes
---     of it .._bytes the bytes of the same path with other points or offsets straight, slanted lat lines of the rows on
---     bearings
+--     legs1, reference1, bytes1      the first worked path, of three lines; its reference with three points, and the
+--         bytes of it
+--     .._bytes      the bytes of the same path with other points or offsets
+--     straight, slanted lat      lines of the rows on bearings
 use Rattle.std.specs.Prelude.{ℕ, List, [], ◌∷◌, pos, neg_ℤ, Some, None}
 use Rattle.olr_spec.specs.Coordinates.{Coord, coord}
 use Rattle.olr_spec.specs.Bearings.{Leg}

@@ -1,9 +1,12 @@
 -- Walks on a map, their order, and the sole walk that no other is as short as.
---     Walk M s t xs the lines xs lead from s to t, each beginning where the one before ends. dm_of M xs their length
---     Reaches M s limit v a walk of at most the limit leads from s to v Before M xs ys xs is shorter, or equally long
---     with the smaller number at the first difference, counted from the end Least M s t xs a walk from s to t that none
---     is before. Sole M s t xs a walk such that every other is longer Route M s t xs the walk that joins two points of
---     a reference
+--     Walk M s t xs      the lines xs lead from s to t, each beginning where the one before ends.
+--     dm_of M xs      their length
+--     Reaches M s limit v      a walk of at most the limit leads from s to v
+--     Before M xs ys      xs is shorter, or equally long with the smaller number at the first difference, counted from
+--         the end
+--     Least M s t xs      a walk from s to t that none is before.
+--     Sole M s t xs      a walk such that every other is longer
+--     Route M s t xs      the walk that joins two points of a reference
 use Rattle.std.specs.Prelude.{◌≡◌, ◌≢◌, ℕ, ◌+◌, ◌<◌, ◌≤◌, List, [], ◌∷◌, reverse, ◌⊎◌, IsTrue}
 use Rattle.olr_spec.specs.Map.{Map, has_line, start, end, dm}
 

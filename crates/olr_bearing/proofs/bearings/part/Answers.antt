@@ -1,7 +1,7 @@
 use Rattle.std.proofs.Common.{◌≡◌, ℕ, ◌*◌, ◌^◌, ◌≤◌, ℤ, pos, ◌-ℤ◌, ◌*ℤ◌, FitsSigned, arith}
 use Rattle.std.specs.Int.{w128}
 use Rattle.std.proofs.lemmas.Int.{ints}
-use Rattle.olr_bearing.specs.Ranges.{IsFactor, IsWithin, degrees}
+use Rattle.olr_bearing.specs.Ranges.{IsFactor, IsWithin, degree_units}
 use Rattle.olr_bearing.proofs.Products.{same_product, natural_product_within, product_within}
 use Rattle.olr_bearing.proofs.Scaling.{held}
 use Rattle.olr_bearing.proofs.bearings.part.Goals as goal
@@ -13,7 +13,7 @@ record Settled (a b : ℤ) : Type 0 where
   value : held w128 a ≡ b
   in_range : IsWithin (10 ^ 31) (held w128 a)
 
-settled : (a b : ℤ) → a ≡ b → IsWithin (40500000000 * (2000000 * degrees 180)) b → Settled a b
+settled : (a b : ℤ) → a ≡ b → IsWithin (40500000000 * (2000000 * degree_units 180)) b → Settled a b
 settled a b is h = record {
   fits = omega (arith, ints, h.0, h.1);
   value = omega (arith, ints, h.0, h.1);
@@ -23,30 +23,31 @@ settled a b is h = record {
 -- the code's product of the width and the origin, from x and y that are these
 record Shift (width : ℕ) (origin x y : ℤ) : Type 0 where
   value : held w128 x *ℤ held w128 y ≡ pos width *ℤ origin
-  in_range : IsWithin (width * degrees 180) (pos width *ℤ origin)
+  in_range : IsWithin (width * degree_units 180) (pos width *ℤ origin)
 
-shift : (width : ℕ) (origin x y : ℤ) → width ≤ 1000000 → IsWithin (degrees 180) origin → x ≡ pos width → y ≡ origin →
+shift : (width : ℕ) (origin x y : ℤ) → width ≤ 1000000 → IsWithin (degree_units 180) origin → x ≡ pos width →
+    y ≡ origin →
     Shift width origin x y
 shift width origin x y h o p q = record {
   value =
       same_product (held w128 x) (pos width) (held w128 y) origin (omega (arith, ints)) (omega (arith, ints, o.0, o.1));
-  in_range = natural_product_within width width (degrees 180) origin (omega arith) o;
+  in_range = natural_product_within width width (degree_units 180) origin (omega arith) o;
 }
 
-offset_fits : (width : ℕ) (scaled origin x y : ℤ) → width ≤ 1000000 → IsWithin (width * degrees 180) scaled →
+offset_fits : (width : ℕ) (scaled origin x y : ℤ) → width ≤ 1000000 → IsWithin (width * degree_units 180) scaled →
     Shift width origin x y
     → FitsSigned w128 (held w128 scaled -ℤ held w128 (held w128 x *ℤ held w128 y))
 offset_fits width scaled origin x y h s g = omega (arith, ints, g.value, g.in_range.0, g.in_range.1, s.0, s.1)
 
 the_part : (factor scaled origin x y : ℤ) (width : ℕ) → IsFactor factor → width ≤ 1000000 →
-    IsWithin (width * degrees 180) scaled → Shift width origin x y
+    IsWithin (width * degree_units 180) scaled → Shift width origin x y
     → Settled (held w128 factor *ℤ held w128 (held w128 scaled -ℤ held w128 (held w128 x *ℤ held w128 y)))
     (factor *ℤ (scaled -ℤ pos width *ℤ origin))
 the_part factor scaled origin x y width f h s g =
     let shifted = pos width *ℤ origin in
     let offset_is : held w128 (held w128 scaled -ℤ held w128 (held w128 x *ℤ held w128 y)) ≡ scaled -ℤ shifted =
     omega (arith, ints, g.value, g.in_range.0, g.in_range.1, s.0, s.1) in
-    let offset : IsWithin (2000000 * degrees 180) (scaled -ℤ shifted) = (
+    let offset : IsWithin (2000000 * degree_units 180) (scaled -ℤ shifted) = (
       omega (arith, ints, g.in_range.0, g.in_range.1, s.0, s.1),
       omega (arith, ints, g.in_range.0, g.in_range.1, s.0, s.1),
     ) in
@@ -54,7 +55,7 @@ the_part factor scaled origin x y width f h s g =
     (factor *ℤ (scaled -ℤ shifted))
     (same_product (held w128 factor) factor (held w128 (held w128 scaled -ℤ held w128 (held w128 x *ℤ held w128 y)))
     (scaled -ℤ shifted) (omega (arith, ints, f.0, f.1)) offset_is)
-    (product_within 40500000000 (2000000 * degrees 180) factor (scaled -ℤ shifted) f offset)
+    (product_within 40500000000 (2000000 * degree_units 180) factor (scaled -ℤ shifted) f offset)
 
 shift_here : (c : After-from-2) → Shift c.args.width c.args.origin c.from.result c.from-2.result
 shift_here c =

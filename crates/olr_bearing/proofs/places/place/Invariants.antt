@@ -1,7 +1,7 @@
 use Rattle.std.proofs.Common.{◌≡◌, ℕ, ◌<◌, ◌≤◌, List, [], ◌∷◌, ◌++◌, IsTrue, drop}
 use Rattle.olr_spec.specs.Map.{ShapePoint, rises_between}
 use Rattle.olr_spec.specs.Bearings.{Leg, scaled_on, scaled_place}
-use Rattle.olr_bearing.specs.Legs.{leg}
+use Rattle.olr_bearing.specs.Legs.{leg_between}
 use Rattle.olr_bearing.proofs.places.place.Given as goal
 
 -- the line's end, as the last of its shape points
@@ -16,4 +16,4 @@ pub record Reached (g : Leg) (at : ℕ) (from : ShapePoint) (rest : List ShapePo
   pub found : scaled_on from (rest ++ end_point g ∷ []) at ≡ scaled_place g at
 
 abbrev pub invariant-loop-to : goal.invariant-loop-to
-invariant-loop-to l = Reached (leg l.line l.ends) l.at l.from (drop l.to-index l.to-items)
+invariant-loop-to l = Reached (leg_between l.line l.ends) l.at l.from (drop l.to-index l.to-items)

@@ -1,7 +1,7 @@
 use Rattle.std.proofs.Common.{◌≡◌, ℕ, ◌-◌, ◌*◌, ◌≤◌, ℤ, pos, ◌+ℤ◌, ◌-ℤ◌, ◌*ℤ◌, subst, sym, ap, w64, arith}
 use Rattle.std.proofs.lemmas.Int.{ints}
 use Rattle.olr_spec.specs.Map.{ShapePoint}
-use Rattle.olr_bearing.specs.Ranges.{IsWithin, degrees}
+use Rattle.olr_bearing.specs.Ranges.{IsWithin, degree_units}
 use Rattle.olr_bearing.proofs.Scaling.{held, along_within, coord_within}
 use Rattle.olr_bearing.proofs.places.place_between.Goals as goal
 
@@ -22,10 +22,10 @@ returns-clause-in_range c =
     let d = c.args.at - from.at in
     let from_at : from.at ≡ c.args.from.at = ap (λ (s : ShapePoint). s.at) c.from.view_is in
     let to_at : to.at ≡ c.args.to.at = ap (λ (s : ShapePoint). s.at) c.to.view_is in
-    let lon : IsWithin (w * degrees 180) c.along.result =
-    passed w d (degrees 180) from.place.lon to.place.lon c.lon.result c.lon-2.result c.along.result c.along.ensures
+    let lon : IsWithin (w * degree_units 180) c.along.result =
+    passed w d (degree_units 180) from.place.lon to.place.lon c.lon.result c.lon-2.result c.along.result c.along.ensures
     (omega (arith, ints)) (omega (arith, ints)) (omega arith) p.0 q.0 in
-    let lat : IsWithin (w * degrees 90) c.along-2.result =
-    passed w d (degrees 90) from.place.lat to.place.lat c.lat.result c.lat-2.result c.along-2.result c.along-2.ensures
-    (omega (arith, ints)) (omega (arith, ints)) (omega arith) p.1 q.1 in
+    let lat : IsWithin (w * degree_units 90) c.along-2.result =
+    passed w d (degree_units 90) from.place.lat to.place.lat c.lat.result c.lat-2.result c.along-2.result
+    c.along-2.ensures (omega (arith, ints)) (omega (arith, ints)) (omega arith) p.1 q.1 in
     ((omega (arith, ints, lon.0), omega (arith, ints, lon.1)), (omega (arith, ints, lat.0), omega (arith, ints, lat.1)))

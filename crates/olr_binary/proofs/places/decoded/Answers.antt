@@ -6,14 +6,14 @@ use Rattle.std.proofs.lemmas.List.{take_all}
 use Rattle.olr_spec.specs.Coordinates.{from_abs24, from_rel16}
 use Rattle.olr_spec.specs.Reference.{Middle, Last, Reference}
 use Rattle.olr_spec.specs.Decoded.{decoded, steps_sum}
-use Rattle.olr_binary.specs.Codes.{reference}
+use Rattle.olr_binary.specs.Codes.{reference_from}
 use Rattle.olr_binary.proofs.PlaceLemmas.{decoded-between, decoded-last}
 use Rattle.olr_binary.proofs.places.decoded.Goals as goal
 
 pub returns-then-k-between-2 : goal.returns-then-k-between-2
 returns-then-k-between-2 c =
     let i = c.reference.inside in
-    let r : Reference = reference i.first i.middle.items i.last i.pos i.neg in
+    let r : Reference = reference_from i.first i.middle.items i.last i.pos i.neg in
     let k = c.args.k in
     let within : k ≤ length i.middle.items = omega (arith, c.len-between.ensures) in
     let value : decoded c.args.reference.now k ≡ decoded r k =
@@ -34,7 +34,7 @@ returns-then-k-between-2 c =
 pub returns : goal.returns
 returns c =
     let i = c.reference.inside in
-    let r : Reference = reference i.first i.middle.items i.last i.pos i.neg in
+    let r : Reference = reference_from i.first i.middle.items i.last i.pos i.neg in
     let k = c.args.k in
     let past : k ≡ length i.middle.items + 1 = omega (arith, c.len-between.ensures) in
     let value : decoded c.args.reference.now k ≡ decoded r k =

@@ -4,7 +4,7 @@ use Rattle.std.specs.List.{flat_map}
 use Rattle.std.proofs.lemmas.List.{get_or-take, get_or-drop}
 use Rattle.olr_spec.specs.Reference.{Reference}
 use Rattle.olr_spec.specs.Bytes.{IsReference, middle_bytes, status_byte, v3_fault}
-use Rattle.olr_binary.specs.Codes.{reference}
+use Rattle.olr_binary.specs.Codes.{reference_from}
 use Rattle.olr_binary.specs.Faults.{bytes_fault_of}
 use Rattle.olr_binary.proofs.LayoutLemmas.{low_attribute1, status-is}
 use Rattle.olr_binary.proofs.PointLemmas.{spelling-parts}
@@ -38,7 +38,7 @@ returns-clause-ok c =
     let size = c.in_ok-layout.ensures.ok.size in
     let points = c.in_ok-middle.middle.items in
     let r : Reference =
-    reference c.read_first-first.result points c.read_last-last.result.0 c.read_last-last.result.1
+    reference_from c.read_first-first.result points c.read_last-last.result.0 c.read_last-last.result.1
     c.read_last-last.result.2 in
     let fit : IsReference r = search rules in
     let middle : flat_map middle_bytes points ≡ slice_range b 10 (10 + 7 * m) = search rules in

@@ -2,7 +2,7 @@ use Rattle.std.proofs.Common.{◌≡◌, ◌+◌, ◌≤◌, ◌∷◌, List, �
 use Rattle.olr_map.specs.ByNumbers.{spare_of}
 use Rattle.olr_map.specs.Edits.{edit_of}
 use Rattle.olr_map.specs.Changes.{tables_map, room_of, node_numbers, line_numbers, node_puts, line_puts}
-use Rattle.olr_map.specs.Undos.{CanMakeAll, changes_of}
+use Rattle.olr_map.specs.Undos.{CanMakeAll, log_changes}
 use Rattle.olr_map.specs.declared.change.Change.{Change}
 use Rattle.olr_map.proofs.Log.{done_by, one_more, all_on, within_trans}
 use Rattle.olr_map.proofs.Verdicts.{judged_slots}
@@ -29,7 +29,7 @@ returns-clause-can_undo c =
     let order = c.push.ensures.more ∙ ap (λ (cs : List Change). back ∷ cs) c.reserve.ensures.same in
     let all =
     subst (λ (cs : List Change). CanMakeAll (tables_map new) (room_of new) cs) (sym order)
-    (one_more (tables_map old) (tables_map new) (room_of old) (room_of new) back (changes_of c.args.log.now)
+    (one_more (tables_map old) (tables_map new) (room_of old) (room_of new) back (log_changes c.args.log.now)
     c.requires.log.0 made.can_back
     (made.before ∙ c.make_room.ensures.same)
     (within_trans (room_of old) (room_of mid) _ c.make_room.ensures.more made.room_before)) in
@@ -54,7 +54,7 @@ returns-in_err-make_room-clause-can_undo c =
     let old = c.args.self.now in
     let mid = c.make_room.new.self in (
       subst (λ (cs : List Change). CanMakeAll (tables_map mid) (room_of mid) cs) (sym c.reserve.ensures.same)
-          (all_on (tables_map old) (tables_map mid) (room_of old) (room_of mid) (changes_of c.args.log.now)
+          (all_on (tables_map old) (tables_map mid) (room_of old) (room_of mid) (log_changes c.args.log.now)
           c.make_room.ensures.same c.make_room.ensures.more c.requires.log.0),
       c.make_room.ensures.kept,
     )
