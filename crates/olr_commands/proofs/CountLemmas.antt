@@ -5,6 +5,7 @@ use Rattle.std.specs.Prelude.{◌||◌}
 use Rattle.std.specs.List.{list_any}
 use Rattle.std.proofs.lemmas.Bool.{cases_Bool, both_ways, not-false}
 use lib.Pointwise.{bytes_decides}
+use Rattle.std.proofs.Math.Bool.{or-false}
 use Rattle.olr_spec.specs.Map.{has}
 use Rattle.olr_spec.specs.Extension.{Path, is_path}
 use Rattle.olr_commands.specs.State.{Named, Content, same_name, path_named, has_path, with_path, NamesDiffer, Fault}
@@ -102,15 +103,11 @@ named_still name path (p ∷ ps) q h =
       | false ↦ λ e. named_still name path ps q e
     ] h
 
-or_false : (b : Bool) → (b || false) ≡ true → b ≡ true
-or_false true h = refl
-or_false false h = h
-
 -- what concerns a path that gives one name
 only_name : (c : Content) (x : Change) (name : List ℕ) → all_nodes c (x ∷ []) ≡ [] → all_lines (x ∷ []) ≡ [] →
     all_names (x ∷ []) ≡ name ∷ [] → (p : Named) → Concerns c (x ∷ []) p → same_name p.name name ≡ true
 only_name c x name a b d p (By_name h) =
-    or_false (same_name p.name name) (subst (λ (ns : List (List ℕ)). list_any (same_name p.name) ns ≡ true) d h)
+    sym (or-false (same_name p.name name)) ∙ (subst (λ (ns : List (List ℕ)). list_any (same_name p.name) ns ≡ true) d h)
 only_name c x name a b d p (By_node v h f) =
     absurd (let no : has [] v ≡ true = subst (λ (vs : List ℕ). has vs v ≡ true) a h in cc)
 only_name c x name a b d p (By_line y h f) =

@@ -1,8 +1,12 @@
 -- Whole runs of commands, and what is claimed of them.
---     Run Step s xs os t the first of xs have these outcomes, one after another, and lead from s to t; Step says what
---     that is for one Whole Step s xs os t so do all of xs. History s cs os t a whole run of commands all_changes_made
---     asked s xs os the changes that the accepted commands bring, where each of xs asks for a command or for none
---     IsPublished, IsJoined, IsNamed, IsRefused the four claims. Headline all of them, of one run
+--     Run Step s xs os t      the first of xs have these outcomes, one after another, and lead from s to t; Step says
+--         what that is for one
+--     Whole Step s xs os t      so do all of xs.
+--     History s cs os t      a whole run of commands
+--     all_changes_made asked s xs os      the changes that the accepted commands bring, where each of xs asks for a
+--         command or for none
+--     IsPublished, IsJoined, IsNamed, IsRefused      the four claims.
+--     Headline      all of them, of one run
 use Rattle.std.specs.Prelude.{◌≡◌, ℕ, Bool, true, false, List, [], ◌∷◌, ◌++◌, length, Option, Some, None, IfSome, Ok}
 use Rattle.std.specs.Prelude.{Err, IsTrue, ◌↔◌}
 use Rattle.std.specs.Result.{result_unwrap_or}

@@ -1,6 +1,7 @@
 -- How numbers change, and what they tell when no line leads on.
 use Rattle.std.proofs.Common.{◌≡◌, ◌≢◌, nat_eq, ◌*◌, ◌^◌, get_or, length, ℕ, ◌+◌, ◌-◌, ◌<◌, ◌≤◌, ◌⊎◌, List, [], ◌∷◌}
 use Rattle.std.proofs.Common.{Option, Some, None, IsSome, IsTrue, Bool, refl, sym, ap, ◌∙◌, subst, inl, inr, arith}
+use Rattle.std.proofs.Common.{le_trans}
 use Rattle.std.proofs.lemmas.Bool.{cases_Bool, cases_eq, eqb-true, ne_eqb}
 use Rattle.std.specs.Prelude.{sum_by, unwrap_or}
 use Rattle.std.specs.Option.{option_map}
@@ -158,10 +159,8 @@ gain_le m below unique =
     (Contains-from_any (λ x y e. eqb-true x y e) q (keys m) h))) in
     let same : length (values m) ≡ length (keys m) =
     length-values_of m.entries ∙ sym (length-map m.entries (λ (e : ℕ × ℕ). e.0)) in
-    product (length (values m)) (2 ^ 32) (limit + 1) (sum_by weight (values m)) (omega arith) each
-  where
-    product : (a b n g : ℕ) → a ≤ b → g ≤ a * n → g ≤ b * n
-    product a b n g le h = let up = mul-le-mul_right n le in omega arith
+    let less : length (values m) ≤ 2 ^ 32 = omega arith in
+    le_trans each (mul-le-mul_right (limit + 1) less)
 
 -- ---- what waits
 

@@ -1,13 +1,18 @@
 -- Numbers of nodes, by which it is told that no source is near.
---     number_of f v      the number of node v, in decimetres.        numbers_len f      how many nodes have one
+--     number_of f v      the number of node v, in decimetres.
+--     numbers_len f      how many nodes have one
 --     IsSource f s      the node s is a source: its number is 0
 --     Within L v d      node v has a number, of at most d
---     ClosedAt M L u d each line from u, where d, leads within the limit to a number that is no greater than the way
---     there IsRight M f so at each number: then each is at most the distance from the nearest source, and other nodes
---     are beyond the limit IsUnderWay M f so at each number, unless the node waits SameBut T M N round all nodes but T
---     the maps are the same Moves f g no number got greater, and where one is new its node waits IsReopened T f g the
---     numbers are the same, and the nodes T wait where they have one gain f rises with each new number and each lesser
---     one. IsPaid f g so much that no more waits than was gained
+--     ClosedAt M L u d      each line from u, where d, leads within the limit to a number that is no greater than the
+--         way there
+--     IsRight M f      so at each number: then each is at most the distance from the nearest source, and other nodes
+--         are beyond the limit
+--     IsUnderWay M f      so at each number, unless the node waits
+--     SameBut T M N      round all nodes but T the maps are the same
+--     Moves f g      no number got greater, and where one is new its node waits
+--     IsReopened T f g      the numbers are the same, and the nodes T wait where they have one
+--     gain f      rises with each new number and each lesser one.
+--     IsPaid f g      so much that no more waits than was gained
 -- Where the numbers are unknown nothing is said.
 use Rattle.std.specs.Prelude.{◌≡◌, ℕ, ◌+◌, ◌-◌, ◌*◌, ◌≤◌, ◌⊎◌, List, Option, Some, Contains, IsTrue, IsFalse, nat_eq}
 use Rattle.std.specs.Prelude.{sum_by}

@@ -36,11 +36,11 @@ range_legs M ls i j = ap (take (j - i)) (drop-map (leg M) i ls) ∙ take-map (le
 -- the leg of line i, by its record and the places of its ends
 pub leg_read : (M : Map) (ls : List ℕ) (i : ℕ) (l : Line) (e : Ends) → i < length ls →
     l ≡ line_at M (slice_index ls i) → e.from ≡ place_at M l.from → e.to ≡ place_at M l.to
-    → ends.leg l e ≡ leg_at (legs M ls) i
+    → ends.leg_between l e ≡ leg_at (legs M ls) i
 leg_read M ls i l e h is from to =
     let begin : e.from ≡ place_at M (start M (slice_index ls i)) = from ∙ ap (λ (r : Line). place_at M r.from) is in
     let finish : e.to ≡ place_at M (end M (slice_index ls i)) = to ∙ ap (λ (r : Line). place_at M r.to) is in
-    let same : ends.leg l e ≡ leg M (slice_index ls i) =
+    let same : ends.leg_between l e ≡ leg M (slice_index ls i) =
     λ k. record { line = is k; begin = begin k; finish = finish k } in
     same ∙ sym (leg_at-legs M ls i h)
 
@@ -64,8 +64,8 @@ between_is M ls ds i j a h g =
 -- ---- attributes
 
 pub attrs_read : (M : Map) (ls : List ℕ) (i j frc fow lfrc bearing d : ℕ) (l : Line) (e : Ends) →
-    ends.leg l e ≡ leg_at (legs M ls) i → frc ≡ l.frc → fow ≡ l.fow
-    → lfrc ≡ lowest_class (legs M (stretch ls i j)) → bearing ≡ bearing_out (ends.leg l e) →
+    ends.leg_between l e ≡ leg_at (legs M ls) i → frc ≡ l.frc → fow ≡ l.fow
+    → lfrc ≡ lowest_class (legs M (stretch ls i j)) → bearing ≡ bearing_out (ends.leg_between l e) →
     d ≡ dm_between (legs M ls) i j
     → ◌≡◌ {A = Attrs} (record { frc = frc; fow = fow; lfrc = lfrc; bearing = bearing; dnp = d / 586 })
     (attrs (legs M ls) i j)

@@ -22,7 +22,7 @@ use Rattle.olr_spec.proofs.AnswerLemmas.{Next-candidate}
 use Rattle.olr_route.specs.declared.work.Work.{Work}
 use Rattle.olr_route.specs.declared.distances.Direction.TheVariants.{Along}
 use Rattle.olr_route.specs.Counts.{saturated}
-use Rattle.olr_route.specs.Searches.{IsNear, Counts}
+use Rattle.olr_route.specs.Searches.{LiesWithin, Counts}
 use Rattle.olr_refs.specs.Choice.{Looked, LookedAfter, raised}
 use Rattle.olr_refs.proofs.Stretches.{later_stretch, longer_stretch}
 use Rattle.olr_refs.proofs.Reaching.{empty_stretch}
@@ -31,7 +31,7 @@ use Rattle.std.proofs.lemmas.List.{append-nil}
 -- ---- what a search settles
 
 -- what is near to where a look begins is within its reach
-pub near_reach : (M : Map) (s v far : ℕ) → far ≤ limit → IsNear M Along ((s, 0) ∷ []) far v → Reach M s v
+pub near_reach : (M : Map) (s v far : ℕ) → far ≤ limit → LiesWithin M Along ((s, 0) ∷ []) far v → Reach M s v
 near_reach M s v far h n =
     let l = n.1.leads in
     elim (Contains-cases (s, 0) (l.source, l.begun) [] l.listed) [

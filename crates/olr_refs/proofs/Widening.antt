@@ -20,7 +20,7 @@ use Rattle.olr_spec.proofs.TestedLemmas.{foot_looked}
 use Rattle.olr_spec.proofs.ListLemmas.{Contains-here, Contains-cases}
 use Rattle.olr_route.specs.declared.work.Work.{Work}
 use Rattle.olr_route.specs.Counts.{saturated}
-use Rattle.olr_route.specs.Searches.{IsSearch, IsNear, limit_of}
+use Rattle.olr_route.specs.Searches.{IsSearch, LiesWithin, limit_of}
 use Rattle.olr_route.specs.declared.distances.Direction.TheVariants.{Along}
 use Rattle.olr_route.specs.declared.distances.Search.{Search}
 use Rattle.olr_route.proofs.SearchLemmas.{near_leads}
@@ -66,7 +66,7 @@ holds_more M own looks l old new h f v = (forth, back)
 
 -- what a search that is settled to the limit tells of its nodes
 pub near_reached : (M : Map) (place : ℕ → ℕ) (s : ℕ) (q : Search) → IsSearch M place Along ((s, 0) ∷ []) q →
-    IsTrue (has_node M s) → limit_of q ≡ limit → (v : ℕ) → IsNear M Along ((s, 0) ∷ []) (limit_of q) v ↔ Reach M s v
+    IsTrue (has_node M s) → limit_of q ≡ limit → (v : ℕ) → LiesWithin M Along ((s, 0) ∷ []) (limit_of q) v ↔ Reach M s v
 near_reached M place s q h there far v = (
   λ n. near_reach M s v (limit_of q) (omega arith) n,
   λ r. let short =

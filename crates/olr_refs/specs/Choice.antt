@@ -1,10 +1,12 @@
 -- What a choice of points says, what it looks at, and what it costs.
 --     ForPoints M ls P      P of the points after position 0, of which there is exactly one list
---     IsChoice ls js c the choice is 0 and js where they lead to the end, and else the position that has no next point
---     searches_of ls is how many of the points is are searched from: those that two lines or more follow Looked old new
---     n near n searches more, which settled nodes that are `near` alone, each at most once a search LookedAfter M ls i
---     old new before after where two lines or more follow line i there is one look more, and its search is counted
---     Searches old new n size n searches more, each of which labelled at most `size` nodes
+--     IsChoice ls js c      the choice is 0 and js where they lead to the end, and else the position that has no next
+--         point
+--     searches_of ls is      how many of the points is are searched from: those that two lines or more follow
+--     Looked old new n near      n searches more, which settled nodes that are `near` alone, each at most once a search
+--     LookedAfter M ls i old new before after      where two lines or more follow line i there is one look more, and
+--         its search is counted
+--     Searches old new n size      n searches more, each of which labelled at most `size` nodes
 use Rattle.std.specs.Prelude.{◌≡◌, ◌≢◌, ℕ, zero, suc, ◌+◌, ◌*◌, ◌≤◌, List, [], ◌∷◌, ◌++◌, length, count_by, nat_lt}
 use Rattle.std.specs.Prelude.{Contains}
 use Rattle.olr_spec.specs.Map.{Map}

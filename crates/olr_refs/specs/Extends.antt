@@ -1,6 +1,6 @@
 -- What moving the ends of a path out to valid nodes answers, and what it notes.
---     Extends M P E F G E is the extended path of P, and the set G has the nodes of F, those of E and those of both
---     tried chains
+--     Extends M P E F G      E is the extended path of P, and the set G has the nodes of F, those of E and those of
+--         both tried chains
 use Rattle.std.specs.Prelude.{◌≡◌, ℕ, ◌⊎◌, ◌↔◌, List, Contains}
 use Rattle.olr_spec.specs.Map.{Map}
 use Rattle.olr_spec.specs.Extension.{Path, Tried, extended}

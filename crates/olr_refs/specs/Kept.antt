@@ -5,8 +5,8 @@
 --     AreAlong ds ps      their distances rise from 0 to that of the end; ds are the distances of all positions
 --     IsFirstKept ds ps positive k      point k is the last that is at most the positive offset from the start
 --     IsLastKept ds ps negative k      point k is the first that is at most the negative offset from the end
---     AreTrimmed ds ps positive negative ks pos_left neg_left ks are the points from the one to the other, and so much
---     is left of the offsets
+--     AreTrimmed ds ps positive negative ks pos_left neg_left      ks are the points from the one to the other, and so
+--         much is left of the offsets
 use Rattle.std.specs.Prelude.{◌≡◌, ℕ, ◌+◌, ◌-◌, ◌<◌, ◌≤◌, List, [], ◌∷◌, length, slice_index, slice_range}
 use Rattle.olr_spec.specs.Map.{Map}
 use Rattle.olr_spec.specs.Points.{Candidate, Follow, last_position}

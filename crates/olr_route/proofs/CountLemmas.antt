@@ -11,7 +11,7 @@ use Rattle.olr_spec.specs.Map.{Map}
 use Rattle.olr_spec.proofs.ListLemmas.{Contains-one, Contains-here, Contains-later}
 use Rattle.olr_route.specs.Founds.{label_of}
 use Rattle.olr_route.specs.Notes.{numbers_of}
-use Rattle.olr_route.specs.Searches.{IsSearch, IsNear, Counts}
+use Rattle.olr_route.specs.Searches.{IsSearch, LiesWithin, Counts}
 use Rattle.olr_route.specs.declared.found.Reached.{Reached}
 use Rattle.olr_route.specs.declared.distances.Direction.{Direction}
 use Rattle.olr_route.specs.declared.distances.Search.{Search}
@@ -79,11 +79,11 @@ module _ (M : Map) (place : ℕ → ℕ) (direction : Direction) (from : List (�
   near_apart =
       distinct_fewer (λ r. nat_le (label_of s.found r.place) s.limit) s.found.reached.items h.under_way.labelled.apart
 
-  pub near_exactly : (v : ℕ) → Contains near_nodes v ↔ IsNear M direction from s.limit v
+  pub near_exactly : (v : ℕ) → Contains near_nodes v ↔ LiesWithin M direction from s.limit v
   near_exactly v = (
     λ c.
         let k = nodes_out (λ r. nat_le (label_of s.found r.place) s.limit) s.found.reached.items v c in
-        subst (IsNear M direction from s.limit) k.3
+        subst (LiesWithin M direction from s.limit) k.3
         (listed_near M place direction from s h k.0 k.1 (grind (arith, nat_tests, k.2))),
     λ near.
         let known = distance_node M place direction from s h v near.0 near.1 in

@@ -10,26 +10,26 @@ use Rattle.std.proofs.lemmas.Map.Keys.{ge_from_not_lt}
 use Rattle.std.proofs.lemmas.Nat.{div-mul-add, mod-mul-add}
 use Rattle.olr_spec.proofs.ListLemmas.{Contains-one}
 use Rattle.olr_route.specs.Entries.{entry_cmp}
-use Rattle.olr_route.specs.Queues.{entry}
+use Rattle.olr_route.specs.Queues.{queue_key}
 
 abbrev pub Entry : Type 0
 Entry = Reverse ℕ
 
 -- an entry tells the length and the place
-pub entry_dist : (d p : ℕ) → p < 2 ^ 32 → entry d p / 2 ^ 32 ≡ d
+pub entry_dist : (d p : ℕ) → p < 2 ^ 32 → queue_key d p / 2 ^ 32 ≡ d
 entry_dist d p small = div-mul-add d (2 ^ 32) p small
 
-pub entry_place : (d p : ℕ) → p < 2 ^ 32 → entry d p % 2 ^ 32 ≡ p
+pub entry_place : (d p : ℕ) → p < 2 ^ 32 → queue_key d p % 2 ^ 32 ≡ p
 entry_place d p small = mod-mul-add d (2 ^ 32) p small
 
 pub popped_others : (xs ys : List Entry) (x : Entry) (d p : ℕ) → p < 2 ^ 32 → IsPermutation xs (x ∷ ys) →
-    Contains xs (record { 0 = entry d p }) → Contains ys (record { 0 = entry d p })
+    Contains xs (record { 0 = queue_key d p }) → Contains ys (record { 0 = queue_key d p })
     ⊎ ((d ≡ x.0 / 2 ^ 32) × (p ≡ x.0 % 2 ^ 32))
 popped_others xs ys x d p small perm w =
-    elim (Contains-append_cases (x ∷ []) ys (record { 0 = entry d p })
-    (Contains-permutation xs (x ∷ ys) (record { 0 = entry d p }) perm w)) [
+    elim (Contains-append_cases (x ∷ []) ys (record { 0 = queue_key d p })
+    (Contains-permutation xs (x ∷ ys) (record { 0 = queue_key d p }) perm w)) [
       | inl h ↦
-          let e = Contains-one x (record { 0 = entry d p }) h in
+          let e = Contains-one x (record { 0 = queue_key d p }) h in
           inr (
             sym (entry_dist d p small) ∙ ap (λ (y : Entry). y.0 / 2 ^ 32) e,
             sym (entry_place d p small)
@@ -48,9 +48,9 @@ low_from_greatest x (z ∷ zs) h y w = elim (Contains-append_cases (z ∷ []) zs
 
 -- what is taken out has the least length
 pub popped_least : (xs ys : List Entry) (x : Entry) (d p : ℕ) → p < 2 ^ 32 → IsPermutation xs (x ∷ ys) →
-    IsUpperBound entry_cmp x ys → Contains xs (record { 0 = entry d p }) → x.0 / 2 ^ 32 ≤ d
+    IsUpperBound entry_cmp x ys → Contains xs (record { 0 = queue_key d p }) → x.0 / 2 ^ 32 ≤ d
 popped_least xs ys x d p small perm top w = elim (popped_others xs ys x d p small perm w) [
-  | inl h ↦ let le = low_from_greatest x ys top (record { 0 = entry d p }) h in omega arith
+  | inl h ↦ let le = low_from_greatest x ys top (record { 0 = queue_key d p }) h in omega arith
   | inr is ↦ let same = is.0 in omega arith
 ]
 

@@ -1,7 +1,7 @@
 -- How marks change in the course of the plain search.
 use Rattle.std.proofs.Common.{◌≡◌, ◌≢◌, ℕ, ◌+◌, ◌-◌, ◌*◌, ◌<◌, ◌≤◌, ◌^◌, ◌⊎◌, List, [], ◌∷◌, ◌++◌, Option, Some, None}
 use Rattle.std.proofs.Common.{Bool, true, false, IsSome, IsTrue, Contains, nat_eq, length, get_or, refl, sym, ap, ◌∙◌}
-use Rattle.std.proofs.Common.{subst, inl, inr, arith}
+use Rattle.std.proofs.Common.{subst, inl, inr, arith, le_trans}
 use Rattle.std.specs.Prelude.{unwrap_or, if◌then◌else◌, nat_lt}
 use Rattle.std.specs.Option.{option_map}
 use Rattle.std.specs.HashMap.{IsUnique, PutsEntry, keys, values}
@@ -309,10 +309,8 @@ gain_le limit m below unique =
     (Contains-from_any (λ x y e. eqb-true x y e) q (keys m) h))) in
     let same : length (values m) ≡ length (keys m) =
     length-values_of m.entries ∙ sym (length-map m.entries (λ (e : ℕ × Label). e.0)) in
-    product (length (values m)) (2 ^ 32) (limit + 1) (gain limit m) (omega arith) each
-  where
-    product : (a b n g : ℕ) → a ≤ b → g ≤ a * n → g ≤ b * n
-    product a b n g le h = let up = mul-le-mul_right n le in omega arith
+    let less : length (values m) ≤ 2 ^ 32 = omega arith in
+    le_trans each (mul-le-mul_right (limit + 1) less)
 
 -- the keys are the marked nodes
 pub marked_key : (m : Marks) (v : ℕ) → Contains (keys m) v → IsSome (mark_at m v)

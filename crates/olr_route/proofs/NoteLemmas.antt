@@ -8,7 +8,7 @@ use Rattle.std.proofs.Math.ListN.{set}
 use Rattle.olr_spec.proofs.ListLemmas.{Contains-one}
 use Rattle.olr_route.specs.declared.found.TheConstants.{NO_LABEL}
 use Rattle.olr_route.specs.declared.found.Reached.{Reached}
-use Rattle.olr_route.specs.Notes.{label_in, AreNoted, NotesOnce}
+use Rattle.olr_route.specs.Notes.{label_in, AreAllReached, NotesOnce}
 
 pub first_one : {X : Type 0} → (x : X) → Contains (x ∷ []) x
 first_one x = (0, omega arith, refl)
@@ -19,7 +19,7 @@ read_label table p n x is lt long = get_or_read_under table p n x NO_LABEL is lt
 
 -- a longer list notes what the shorter one does
 pub noted_more : (table : List ℕ) (old new : List Reached) (label : ℕ) (r : Reached) → NotesOnce old new label r →
-    AreNoted table old → AreNoted table new
+    AreAllReached table old → AreAllReached table new
 noted_more table old new label r (inl h) noted p none =
     noted p (λ x c. none x (subst (λ (xs : List Reached). Contains xs x) (sym h.0) c))
 noted_more table old new label r (inr h) noted p none =
@@ -35,7 +35,7 @@ not_there table old new r label p (inr h) none is no_label =
 
 -- a label comes to the place of a node that is noted
 pub noted_put : (table : List ℕ) (old new : List Reached) (r : Reached) (d label : ℕ) → label ≡ label_in table r.place →
-    NotesOnce old new label r → AreNoted table old → AreNoted (set table r.place d) new
+    NotesOnce old new label r → AreAllReached table old → AreAllReached (set table r.place d) new
 noted_put table old new r d label is_label once noted p none =
     let was : label_in table p ≡ NO_LABEL = noted_more table old new label r once noted p none in
     elim (cases_eq p r.place) [
@@ -44,7 +44,7 @@ noted_put table old new r d label is_label once noted p none =
     ]
 
 -- one node less, whose label is taken away
-noted_without : (table : List ℕ) (front : List Reached) (r : Reached) (p : ℕ) → AreNoted table (front ++ r ∷ []) →
+noted_without : (table : List ℕ) (front : List Reached) (r : Reached) (p : ℕ) → AreAllReached table (front ++ r ∷ []) →
     p ≢ r.place → ((x : Reached) → Contains front x → x.place ≢ p) → label_in table p ≡ NO_LABEL
 noted_without table front r p noted ne none = noted p (λ x c same. elim (Contains-append_cases front (r ∷ []) x c) [
   | inl h ↦ none x h same
@@ -52,7 +52,7 @@ noted_without table front r p noted ne none = noted p (λ x c same. elim (Contai
 ])
 
 pub noted_less : (table : List ℕ) (front : List Reached) (r : Reached) → r.place < length table →
-    AreNoted table (front ++ r ∷ []) → AreNoted (set table r.place NO_LABEL) front
+    AreAllReached table (front ++ r ∷ []) → AreAllReached (set table r.place NO_LABEL) front
 noted_less table front r lt noted p none = elim (cases_eq p r.place) [
   | inl is ↦ ap (λ (k : ℕ). get_or (set table r.place NO_LABEL) k NO_LABEL) is
       ∙ get_or-set_same table r.place NO_LABEL NO_LABEL lt
@@ -60,7 +60,7 @@ noted_less table front r lt noted p none = elim (cases_eq p r.place) [
 ]
 
 pub noted_past : (table : List ℕ) (front : List Reached) (r : Reached) → length table ≤ r.place →
-    AreNoted table (front ++ r ∷ []) → AreNoted table front
+    AreAllReached table (front ++ r ∷ []) → AreAllReached table front
 noted_past table front r past noted p none = elim (cases_eq p r.place) [
   | inl is ↦ ap (label_in table) is ∙ get_or_past table r.place NO_LABEL past
   | inr ne ↦ noted_without table front r p noted ne none

@@ -15,7 +15,7 @@ use Rattle.olr_spec.proofs.ListLemmas.{Contains-one}
 use Rattle.olr_route.specs.Distances.{Way, Leads, IsDistance, near_end, far_end}
 use Rattle.olr_route.specs.Notes.{label_in, NotesOnce}
 use Rattle.olr_route.specs.Founds.{label_of, found_len, queued_len, IsQueued, IsEmpty, IsPut, NotedOnce, Moves}
-use Rattle.olr_route.specs.Searches.{ClosedAt, CoversPlaces, IsListed, IsLabelled, IsUnderWay, IsSearch, IsNear}
+use Rattle.olr_route.specs.Searches.{ClosedAt, CoversPlaces, IsLabelledAt, IsLabelled, IsUnderWay, IsSearch, LiesWithin}
 use Rattle.olr_route.specs.Searches.{IsReached}
 use Rattle.olr_route.specs.declared.routes.TheConstants.{GREATEST_LIMIT}
 use Rattle.olr_route.specs.declared.found.TheConstants.{NO_LABEL}
@@ -127,11 +127,11 @@ module _ (M : Map) (place : ℕ → ℕ) (direction : Direction) (from : List (�
       | inr ne ↦ let same = k.others q ne in l.nodes q (omega arith)
     ]
 
-    kept_listed : (r : Reached) → IsListed M place f r → IsListed M place g r
+    kept_listed : (r : Reached) → IsLabelledAt M place f r → IsLabelledAt M place g r
     kept_listed r h = let le = put_le f g v p d k r.place in let was =
         h.label in record { there = h.there; at = h.at; label = omega arith }
 
-    put_listed : NotedOnce f g v p → (r : Reached) → Contains g.reached.items r → IsListed M place g r
+    put_listed : NotedOnce f g v p → (r : Reached) → Contains g.reached.items r → IsLabelledAt M place g r
     put_listed (inl h) r c = kept_listed r (l.listed r (subst (λ (xs : List Reached). Contains xs r) h.0 c))
     put_listed (inr h) r c =
         elim (Contains-append_cases f.reached.items (record { node = v; place = p } ∷ []) r
@@ -141,7 +141,7 @@ module _ (M : Map) (place : ℕ → ℕ) (direction : Direction) (from : List (�
               let is : r ≡ record { node = v; place = p } = Contains-one (record { node = v; place = p }) r new in
               let low = l.low p in
               let less = h.2 in
-              subst (IsListed M place g) (sym is) (record { there = there; at = at; label = omega arith })
+              subst (IsLabelledAt M place g) (sym is) (record { there = there; at = at; label = omega arith })
         ]
 
     put_apart : NotedOnce f g v p → IsDistinct ◌==◌ (map (λ (r : Reached). r.node) g.reached.items)
@@ -390,7 +390,7 @@ module _ (M : Map) (place : ℕ → ℕ) (direction : Direction) (from : List (�
         }
 
     -- what a way within the limit leads to is near
-    pub near_leads : (v d : ℕ) → d ≤ s.limit → Leads M direction from v d → IsNear M direction from s.limit v
+    pub near_leads : (v d : ℕ) → d ≤ s.limit → Leads M direction from v d → LiesWithin M direction from s.limit v
     near_leads v d le l =
         let known = leads_node M h.under_way.labelled.sound direction from v d l in
         let low = h.settled v d known le l in
@@ -408,7 +408,7 @@ module _ (M : Map) (place : ℕ → ℕ) (direction : Direction) (from : List (�
     distance_node v d x = leads_node M h.under_way.labelled.sound direction from v d x.leads
 
     -- each near node is in the list
-    pub near_listed : (v : ℕ) → IsNear M direction from s.limit v →
+    pub near_listed : (v : ℕ) → LiesWithin M direction from s.limit v →
         Contains s.found.reached.items (record { node = v; place = place v })
     near_listed v near =
         let known = distance_node v near.0 near.1 in
@@ -436,7 +436,7 @@ module _ (M : Map) (place : ℕ → ℕ) (direction : Direction) (from : List (�
         ((label_of s.found (place r.node), h.under_way.labelled.leads r.node x.there (omega arith), omega arith), x.at)
 
     pub listed_near : (r : Reached) → Contains s.found.reached.items r → label_of s.found r.place ≤ s.limit →
-        IsNear M direction from s.limit r.node
+        LiesWithin M direction from s.limit r.node
     listed_near r c le =
         let x = h.under_way.labelled.listed r c in
         let is : label_of s.found (place r.node) ≡ label_of s.found r.place = ap (label_of s.found) x.at in

@@ -11,7 +11,7 @@ use Rattle.olr_route.specs.Labels.{Label, AreLabels, label_at}
 use Rattle.olr_route.specs.Listed.{listed, IsTight, IsLastLine, IsTold}
 use Rattle.olr_route.specs.Founds.{label_of}
 use Rattle.olr_route.specs.Marks.{Marks, NotGreater, Capped, Found, IsClosed, IsSearchState, mark_at}
-use Rattle.olr_route.specs.Searches.{IsSearch, IsNear}
+use Rattle.olr_route.specs.Searches.{IsSearch, LiesWithin}
 use Rattle.olr_route.specs.declared.distances.Direction.TheVariants.{Along}
 use Rattle.olr_route.specs.declared.distances.Search.{Search}
 use Rattle.olr_route.proofs.NoteLemmas.{first_one}
@@ -31,7 +31,7 @@ something (Some x) = inr (x, refl)
 module _ (M : Map) (place : ℕ → ℕ) (s : ℕ) (q : Search) (h : IsSearch M place Along ((s, 0) ∷ []) q)
     (source : IsTrue (has_node M s)) (ks : List ℕ) (ls : List Label) (up : IsStrictlyIncreasing ks)
     (beside : length ls ≡ length ks)
-    (near : (v : ℕ) → Contains ks v ↔ IsNear M Along ((s, 0) ∷ []) q.limit v)
+    (near : (v : ℕ) → Contains ks v ↔ LiesWithin M Along ((s, 0) ∷ []) q.limit v)
     (told : (i : ℕ) → i < length ks → IsTold M place q.found (get_or ks i 0) (get_or ls i (0, None))) where
   -- what a label says, and that it is near
   record Says (v d : ℕ) (o : Option ℕ) : Type 0 where

@@ -1,9 +1,11 @@
 -- Distances from some nodes, each with a length to begin with, along the lines or against them.
---     Way M direction s v xs the lines xs are a walk from s to v, or where the direction is against them, a walk from v
---     to s near_end M direction x, far_end M direction x where line x is entered in this direction, and where it leads
---     ends_at M place direction v the far ends of the lines that are entered at v Leads M direction from v d a way
---     leads to v from a node of the map that is listed, of length d with what is listed there IsDistance M direction
---     from v d the least such d
+--     Way M direction s v xs      the lines xs are a walk from s to v, or where the direction is against them, a walk
+--         from v to s
+--     near_end M direction x, far_end M direction x      where line x is entered in this direction, and where it leads
+--     ends_at M place direction v      the far ends of the lines that are entered at v
+--     Leads M direction from v d      a way leads to v from a node of the map that is listed, of length d with what is
+--         listed there
+--     IsDistance M direction from v d      the least such d
 use Rattle.std.specs.Prelude.{◌≡◌, ℕ, ◌+◌, ◌≤◌, List, Contains, IsTrue}
 use Rattle.olr_spec.specs.Map.{Map, has_node, start, end}
 use Rattle.olr_spec.specs.Walks.{Walk, dm_of}

@@ -1,9 +1,12 @@
 -- What a search has found so far, and how it changes.
---     label_of f p the label at place p, NO_LABEL where none stands. found_len f how many places the table has IsQueued
---     f d p place p waits, at length d. queued_len f how many wait IsEmpty f no labels, and nothing waits IsPut f g v p
---     d node v with place p was labelled d, unless the label there was no greater Moves f g no label got greater, and
---     where one is new its place waits to_do f what is left to do: it gets less with each label that gets less and each
---     place that is taken out
+--     label_of f p      the label at place p, NO_LABEL where none stands.
+--     found_len f      how many places the table has
+--     IsQueued f d p      place p waits, at length d.
+--     queued_len f      how many wait
+--     IsEmpty f      no labels, and nothing waits
+--     IsPut f g v p d      node v with place p was labelled d, unless the label there was no greater
+--     Moves f g      no label got greater, and where one is new its place waits
+--     to_do f      what is left to do: it gets less with each label that gets less and each place that is taken out
 use Rattle.std.specs.Prelude.{◌≡◌, ◌≢◌, ℕ, ◌+◌, ◌*◌, ◌≤◌, ◌<◌, ◌⊎◌, [], ◌∷◌, ◌++◌, min, sum, vec_len}
 use Rattle.olr_route.specs.Notes.{label_in}
 use Rattle.olr_route.specs.Queues.{Queued, queue_len}

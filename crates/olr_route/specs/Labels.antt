@@ -1,6 +1,7 @@
 -- The labels of a search: at each node that it reaches, the length and the last line of the least walk there.
 --     Labels      the source, the limit in decimetres, and the labels by node
---     dist_at, last_at      the parts of the label at a node.        count_of x      how many labels there are
+--     dist_at, last_at      the parts of the label at a node.
+--     count_of x      how many labels there are
 --     AreLabels M x      the labels stand at exactly the nodes that are reached, and are those of the least walks
 --     LeastWithin, SoleWithin M x t xs      the least walk from the source to t, or the sole one, of at most the limit
 use Rattle.std.specs.Prelude.{◌≡◌, ℕ, ◌≤◌, ◌↔◌, List, [], ◌∷◌, Option, Some, None, IsSome, option_and_then}

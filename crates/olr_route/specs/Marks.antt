@@ -1,14 +1,18 @@
 -- The marks of the plain search under way: at each node that it has found, the length and the last line of the best
 -- walk so far.
 --     Marks, mark_at m v      the marks by node, and the mark at v
---     NotAfter d o e p a walk of length d with last line o comes before, or is as good as, one of length e with last
---     line p Capped L v d o the mark at v is not after a walk of length d with last line o ClosedAt M limit L u d no
---     line out of u, where d, improves a mark. IsClosed M limit L no line improves one: then the marks are the labels
---     Found M s v d o a walk of length d with last line o leads from s to v. FoundAt M s v d one with any last line
---     IsSearchState M s limit m the marks of a search from s: each is of such a walk, within the limit Keeps M limit u
---     d m n the marks stay those of each search that finds a walk of length d to u Marked L K v d x shorter a walk of
---     length d with last line x is put at v Moves L K next from marks L to marks K none got worse, and where a length
---     is new the node stands in `next` gain limit m rises with each new mark and each shorter length
+--     NotAfter d o e p      a walk of length d with last line o comes before, or is as good as, one of length e with
+--         last line p
+--     Capped L v d o      the mark at v is not after a walk of length d with last line o
+--     ClosedAt M limit L u d      no line out of u, where d, improves a mark.
+--     IsClosed M limit L      no line improves one: then the marks are the labels
+--     Found M s v d o      a walk of length d with last line o leads from s to v.
+--     FoundAt M s v d      one with any last line
+--     IsSearchState M s limit m      the marks of a search from s: each is of such a walk, within the limit
+--     Keeps M limit u d m n      the marks stay those of each search that finds a walk of length d to u
+--     Marked L K v d x shorter      a walk of length d with last line x is put at v
+--     Moves L K next      from marks L to marks K none got worse, and where a length is new the node stands in `next`
+--     gain limit m      rises with each new mark and each shorter length
 use Rattle.std.specs.Prelude.{◌≡◌, ◌≢◌, ℕ, ◌+◌, ◌-◌, ◌<◌, ◌≤◌, ◌^◌, ◌⊎◌, Bool, true, List, Option, Some, None, IsSome}
 use Rattle.std.specs.Prelude.{IsTrue, nat_eq, sum_by}
 use Rattle.std.specs.declared.hash.FoldHasher.{FoldHasher}

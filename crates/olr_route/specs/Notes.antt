@@ -1,6 +1,6 @@
 -- A table of labels by place, and the list of the nodes that have one.
 --     label_in table p      the label at place p, NO_LABEL where none stands
---     AreNoted table reached      each label stands at the place of a node of the list
+--     AreAllReached table reached      each label stands at the place of a node of the list
 --     numbers_of reached      the nodes' numbers
 --     NotesOnce old new label r      r comes to the list where the label is none
 use Rattle.std.specs.Prelude.{◌≡◌, ◌≢◌, ℕ, ◌<◌, ◌≤◌, ◌⊎◌, List, [], ◌∷◌, ◌++◌, Contains, map, slice_index_or}
@@ -16,11 +16,11 @@ label_in table p = slice_index_or table p NO_LABEL
 abbrev pub numbers_of : List Reached → List ℕ
 numbers_of xs = map (λ (r : Reached). r.node) xs
 
-abbrev pub AreNoted : List ℕ → List Reached → Type 0
-AreNoted table reached = (p : ℕ) → ((r : Reached) → Contains reached r → r.place ≢ p) → label_in table p ≡ NO_LABEL
+abbrev pub AreAllReached : List ℕ → List Reached → Type 0
+AreAllReached table reached = (p : ℕ) → ((r : Reached) → Contains reached r → r.place ≢ p) → label_in table p ≡ NO_LABEL
 
-pub AreNoted-prop : (table : List ℕ) (reached : List Reached) → IsProp (AreNoted table reached)
-AreNoted-prop table reached = hlevel (props, Coded-set coded_ℕ)
+pub AreAllReached-prop : (table : List ℕ) (reached : List Reached) → IsProp (AreAllReached table reached)
+AreAllReached-prop table reached = hlevel (props, Coded-set coded_ℕ)
 
 abbrev pub NotesOnce : List Reached → List Reached → ℕ → Reached → Type 0
 NotesOnce old new label r =

@@ -1,16 +1,18 @@
 -- What waits in a queue.
---     entry d p the number that stands for place p at length d: the nearer first, and of those as near the smaller
---     place Queued q d p the place p waits, at length d. queue_len q how many entries there are
+--     queue_key d p      the number that stands for place p at length d: the nearer first, and of those as near the
+--         smaller place
+--     Queued q d p      the place p waits, at length d.
+--     queue_len q      how many entries there are
 use Rattle.std.specs.Prelude.{ℕ, ◌+◌, ◌*◌, ◌<◌, ◌^◌, Contains}
 use Rattle.std.specs.BinaryHeap.{heap_items, heap_len}
 use Rattle.olr_route.specs.declared.queue.Queue.{Queue}
 
-abbrev pub entry : ℕ → ℕ → ℕ
-entry d p = d * 2 ^ 32 + p
+abbrev pub queue_key : ℕ → ℕ → ℕ
+queue_key d p = d * 2 ^ 32 + p
 
 pub record Queued (q : Queue) (d p : ℕ) : Type 0 where
   pub small : p < 2 ^ 32
-  pub there : Contains (heap_items q.heap) (record { 0 = entry d p })
+  pub there : Contains (heap_items q.heap) (record { 0 = queue_key d p })
 
 abbrev pub queue_len : Queue → ℕ
 queue_len q = heap_len q.heap

@@ -1,12 +1,16 @@
 -- A search that can go on.
 --     limit_of s      the limit in decimetres that it has been settled to
---     IsSearch M place direction from s its labels within this limit are the distances within it, on the map M with its
---     nodes' places IsNear M direction from limit v v has a distance of at most the limit IsReached M direction from v
---     a way of at most the greatest limit leads to v Counts M direction from limit n so many nodes have one IsAlone M
---     place f x v length no line but x leads to v within the length ClosedAt M place direction f v d no line from v,
---     where d, leads to a greater label IsLabelled M place direction from f each label is the length of a way, and the
---     list has the nodes that have one IsUnderWay M place direction from f and each label is closed or waits, those at
---     which the search begins among them
+--     IsSearch M place direction from s      its labels within this limit are the distances within it, on the map M
+--         with its nodes' places
+--     LiesWithin M direction from limit v      v has a distance of at most the limit
+--     IsReached M direction from v      a way of at most the greatest limit leads to v
+--     Counts M direction from limit n      so many nodes have one
+--     IsAlone M place f x v length      no line but x leads to v within the length
+--     ClosedAt M place direction f v d      no line from v, where d, leads to a greater label
+--     IsLabelled M place direction from f      each label is the length of a way, and the list has the nodes that have
+--         one
+--     IsUnderWay M place direction from f      and each label is closed or waits, those at which the search begins
+--         among them
 use Rattle.std.specs.Prelude.{◌≡◌, ◌==◌, ℕ, ◌+◌, ◌<◌, ◌≤◌, ◌⊎◌, ◌↔◌, List, Contains, IsTrue, length, map}
 use Rattle.std.specs.List.{IsDistinct}
 use Rattle.olr_spec.specs.Map.{Map, IsMap, has_node, has_line, start, end, dm}
@@ -32,7 +36,7 @@ abbrev pub CoversPlaces : Map → (ℕ → ℕ) → Found → Type 0
 CoversPlaces M place f = (v : ℕ) → IsTrue (has_node M v) → place v < found_len f
 
 -- a node of the list stands at its place, with a label
-pub record IsListed (M : Map) (place : ℕ → ℕ) (f : Found) (r : Reached) : Type 0 where
+pub record IsLabelledAt (M : Map) (place : ℕ → ℕ) (f : Found) (r : Reached) : Type 0 where
   pub there : IsTrue (has_node M r.node)
   pub at : place r.node ≡ r.place
   pub label : label_of f r.place ≤ GREATEST_LIMIT
@@ -45,7 +49,7 @@ pub record IsLabelled (M : Map) (place : ℕ → ℕ) (direction : Direction) (f
   pub leads : (v : ℕ) → IsTrue (has_node M v) → label_of f (place v) ≤ GREATEST_LIMIT →
       Leads M direction from v (label_of f (place v))
   pub nodes : (p : ℕ) → label_of f p ≤ GREATEST_LIMIT → (v : ℕ) × IsTrue (has_node M v) × (place v ≡ p)
-  pub listed : (r : Reached) → Contains f.reached.items r → IsListed M place f r
+  pub listed : (r : Reached) → Contains f.reached.items r → IsLabelledAt M place f r
   pub apart : IsDistinct ◌==◌ (map (λ (r : Reached). r.node) f.reached.items)
 
 pub record IsUnderWay (M : Map) (place : ℕ → ℕ) (direction : Direction) (from : List (ℕ × ℕ)) (f : Found) : Type 0 where
@@ -66,8 +70,8 @@ abbrev pub IsAlone : Map → (ℕ → ℕ) → Found → ℕ → ℕ → ℕ →
 IsAlone M place f x v length =
     (y : ℕ) → IsTrue (has_line M y) → end M y ≡ v → label_of f (place (start M y)) + dm M y ≤ length → y ≡ x
 
-abbrev pub IsNear : Map → Direction → List (ℕ × ℕ) → ℕ → ℕ → Type 0
-IsNear M direction from limit v = (d : ℕ) × IsDistance M direction from v d × (d ≤ limit)
+abbrev pub LiesWithin : Map → Direction → List (ℕ × ℕ) → ℕ → ℕ → Type 0
+LiesWithin M direction from limit v = (d : ℕ) × IsDistance M direction from v d × (d ≤ limit)
 
 -- a way of at most the greatest limit leads to v
 abbrev pub IsReached : Map → Direction → List (ℕ × ℕ) → ℕ → Type 0
@@ -76,5 +80,5 @@ IsReached M direction from v = (d : ℕ) × Leads M direction from v d × (d ≤
 pub record Counts (M : Map) (direction : Direction) (from : List (ℕ × ℕ)) (limit n : ℕ) : Type 0 where
   pub nodes : List ℕ
   pub apart : IsDistinct ◌==◌ nodes
-  pub exactly : (v : ℕ) → Contains nodes v ↔ IsNear M direction from limit v
+  pub exactly : (v : ℕ) → Contains nodes v ↔ LiesWithin M direction from limit v
   pub many : length nodes ≡ n

@@ -8,7 +8,7 @@ ghost use Rattle.olr_spec.specs.Walks.{Sole, dm_of};
 ghost use Rattle.olr_route.specs.Distances.{IsDistance, Leads};
 ghost use Rattle.olr_route.specs.Founds.{label_of};
 ghost use Rattle.olr_route.specs.Notes.{numbers_of};
-ghost use Rattle.olr_route.specs.Searches.{IsSearch, IsNear, IsReached, Counts, IsAlone, limit_of};
+ghost use Rattle.olr_route.specs.Searches.{IsSearch, LiesWithin, IsReached, Counts, IsAlone, limit_of};
 ghost use Rattle.olr_route.specs.declared.found.Reached.{Reached as ReachedRecord};
 ghost use Rattle.olr_route.specs.declared.distances.Direction.TheVariants.{Along};
 
@@ -132,7 +132,7 @@ impl Search {
     /// settled to, and some that lie farther, where that is less than `GREATEST_LIMIT`. In no particular order.
     pub fn reached(&self) -> &[Reached]
         ensures near { (M : Map) (place_in : ℕ → ℕ) (direction : _) (from : List (ℕ × ℕ)) (v : ℕ)
-            → IsSearch M place_in direction from self.now → IsNear M direction from (limit_of self.now) v
+            → IsSearch M place_in direction from self.now → LiesWithin M direction from (limit_of self.now) v
             → Contains result.now (record { node = v; place = place_in v }) }
         ensures once { (M : Map) (place_in : ℕ → ℕ) (direction : _) (from : List (ℕ × ℕ))
             → IsSearch M place_in direction from self.now → IsDistinct ◌==◌ (numbers_of result.now) }
@@ -141,7 +141,7 @@ impl Search {
             → IsReached M direction from r.node × (place_in r.node ≡ r.place) }
         ensures exactly { (M : Map) (place_in : ℕ → ℕ) (direction : _) (from : List (ℕ × ℕ)) (r : ReachedRecord)
             → IsSearch M place_in direction from self.now → limit_of self.now ≡ GREATEST_LIMIT → Contains result.now r
-            → IsNear M direction from GREATEST_LIMIT r.node }
+            → LiesWithin M direction from GREATEST_LIMIT r.node }
     {
         self.found.reached()
     }
@@ -162,7 +162,7 @@ impl Search {
         ensures nodes { IfOk result
             (λ within. (M : Map) (place_in : ℕ → ℕ) (direction : _) (from : List (ℕ × ℕ)) (v : ℕ)
             → IsSearch M place_in direction from self.now
-            → (Contains (numbers_of within.items) v ↔ IsNear M direction from (limit_of self.now) v)) }
+            → (Contains (numbers_of within.items) v ↔ LiesWithin M direction from (limit_of self.now) v)) }
         ensures placed { IfOk result
             (λ within. (M : Map) (place_in : ℕ → ℕ) (direction : _) (from : List (ℕ × ℕ)) (r : ReachedRecord)
             → IsSearch M place_in direction from self.now → Contains within.items r
@@ -179,7 +179,7 @@ impl Search {
             → IsSearch M place_in direction from self.now → IsStrictlyIncreasing nodes.items) }
         ensures nodes { IfOk result (λ nodes. (M : Map) (place_in : ℕ → ℕ) (direction : _) (from : List (ℕ × ℕ)) (v : ℕ)
             → IsSearch M place_in direction from self.now →
-            (Contains nodes.items v ↔ IsNear M direction from (limit_of self.now) v)) }
+            (Contains nodes.items v ↔ LiesWithin M direction from (limit_of self.now) v)) }
     {
         let within = self.reached_within(alloc)?;
         let nodes = nodes_of(alloc, &within)?;

@@ -1,6 +1,6 @@
 //! What a search has found so far: labels by place, the nodes that have one, and the places to go on from.
 ghost use Rattle.std.specs.Prelude.{◌≡◌, ◌<◌, OnErr, OnOk, IfOk};
-ghost use Rattle.olr_route.specs.Notes.{AreNoted, AreNoted-prop, NotesOnce, numbers_of};
+ghost use Rattle.olr_route.specs.Notes.{AreAllReached, AreAllReached-prop, NotesOnce, numbers_of};
 
 use crate::queue::Queue;
 use crate::routes::GREATEST_LIMIT;
@@ -25,7 +25,7 @@ pub struct Found {
     table: Vec<u32>,
     reached: Vec<Reached>,
     queue: Queue,
-    ghost noted: { AreNoted table.items reached.items } by { AreNoted-prop table.items reached.items },
+    ghost noted: { AreAllReached table.items reached.items } by { AreAllReached-prop table.items reached.items },
 }
 
 /// Notes a node where it has no label yet.

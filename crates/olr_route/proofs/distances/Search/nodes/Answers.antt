@@ -1,7 +1,7 @@
 use Rattle.std.proofs.Common.{◌≡◌, ◌↔◌, ℕ, List, Contains, sym, ap, ◌∙◌, subst}
 use Rattle.std.specs.List.Sorted.{IsStrictlyIncreasing}
 use Rattle.olr_route.specs.Notes.{numbers_of}
-use Rattle.olr_route.specs.Searches.{IsNear}
+use Rattle.olr_route.specs.Searches.{LiesWithin}
 use Rattle.olr_route.proofs.distances.Search.nodes.Goals as goal
 
 -- the nodes of what is near
@@ -15,5 +15,5 @@ returns-clause-rising c =
 
 pub returns-clause-nodes : goal.returns-clause-nodes
 returns-clause-nodes c = λ M place_in direction from v h.
-    subst (λ (vs : List ℕ). Contains vs v ↔ IsNear M direction from c.args.self.now.limit v) (same c)
+    subst (λ (vs : List ℕ). Contains vs v ↔ LiesWithin M direction from c.args.self.now.limit v) (same c)
     (c.in_ok-within.ensures.nodes M place_in direction from v h)

@@ -2,7 +2,7 @@ use Rattle.std.proofs.Common.{◌==◌, ℕ, List, Contains, sym, subst, arith}
 use Rattle.std.specs.List.{IsDistinct}
 use Rattle.olr_route.specs.Notes.{numbers_of}
 use Rattle.olr_route.specs.declared.found.Reached.{Reached}
-use Rattle.olr_route.specs.Searches.{IsNear}
+use Rattle.olr_route.specs.Searches.{LiesWithin}
 use Rattle.olr_route.proofs.SearchLemmas.{near_listed, listed_reached, listed_near}
 use Rattle.olr_route.proofs.distances.Search.reached.Goals as goal
 
@@ -25,5 +25,5 @@ pub returns-clause-exactly : goal.returns-clause-exactly
 returns-clause-exactly c = λ M place_in direction from r h whole there.
     let listed = subst (λ (xs : List Reached). Contains xs r) c.reached.ensures there in
     let label = (h.under_way.labelled.listed r listed).label in
-    subst (λ (n : ℕ). IsNear M direction from n r.node) whole
+    subst (λ (n : ℕ). LiesWithin M direction from n r.node) whole
     (listed_near M place_in direction from c.args.self.now h r listed (omega arith))

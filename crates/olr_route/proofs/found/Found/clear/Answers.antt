@@ -1,5 +1,5 @@
 use Rattle.std.proofs.Common.{subst, arith}
-use Rattle.olr_route.specs.Notes.{AreNoted}
+use Rattle.olr_route.specs.Notes.{AreAllReached}
 use Rattle.olr_route.proofs.NoteLemmas.{noted_less, noted_past}
 use Rattle.olr_route.proofs.found.Found.clear.Goals as goal
 
@@ -9,7 +9,7 @@ invariant_of-self c =
     record {
       noted = noted_less c.loop-reached.self.table.items c.pop.new.self.items c.in-Some.reached
           (omega (arith, c.loop-reached.self.table.ok.0))
-          (subst (AreNoted c.loop-reached.self.table.items) h c.loop-reached.self.noted);
+          (subst (AreAllReached c.loop-reached.self.table.items) h c.loop-reached.self.noted);
     }
 
 pub invariant_of-self-else-place-len : goal.invariant_of-self-else-place-len
@@ -17,5 +17,5 @@ invariant_of-self-else-place-len c =
     record {
       noted = noted_past c.loop-reached.self.table.items c.pop.new.self.items c.in-Some.reached
           (omega (arith, c.loop-reached.self.table.ok.0))
-          (subst (AreNoted c.loop-reached.self.table.items) c.in-Some.ensures.items c.loop-reached.self.noted);
+          (subst (AreAllReached c.loop-reached.self.table.items) c.in-Some.ensures.items c.loop-reached.self.noted);
     }

@@ -1,5 +1,5 @@
 use Rattle.std.proofs.Common.{refl, subst, sym, arith}
-use Rattle.olr_route.specs.Notes.{AreNoted}
+use Rattle.olr_route.specs.Notes.{AreAllReached}
 use Rattle.olr_route.proofs.NoteLemmas.{noted_more, noted_put, read_label}
 use Rattle.olr_route.proofs.SearchLemmas.{put_by}
 use Rattle.olr_route.proofs.found.Found.put.Goals as goal
@@ -7,7 +7,7 @@ use Rattle.olr_route.proofs.found.Found.put.Goals as goal
 pub invariant_of-self : goal.invariant_of-self
 invariant_of-self c =
     record {
-      noted = subst (AreNoted c.args.self.now.table.items) (sym c.in_err-note.ensures.unchanged)
+      noted = subst (AreAllReached c.args.self.now.table.items) (sym c.in_err-note.ensures.unchanged)
           c.args.self.now.noted;
     }
 

@@ -1,6 +1,6 @@
 use Rattle.std.proofs.Common.{◌≡◌, ◌+◌, ◌*◌, ℕ, Contains, subst, arith}
 use Rattle.std.specs.BinaryHeap.{heap_items}
-use Rattle.olr_route.specs.Queues.{entry}
+use Rattle.olr_route.specs.Queues.{queue_key}
 use Rattle.olr_route.proofs.HeapLemmas.{Entry, pushed_kept, pushed_there}
 use Rattle.olr_route.proofs.queue.Queue.push.Goals as goal
 
@@ -9,7 +9,7 @@ returns-clause-there c =
     let dist = c.from.ensures in
     let place = c.from-2.ensures in
     let small = c.ranges.place.fits in
-    let is : c.from.result * 4294967296 + c.from-2.result ≡ entry c.args.dist c.args.place = omega arith in
+    let is : c.from.result * 4294967296 + c.from-2.result ≡ queue_key c.args.dist c.args.place = omega arith in
     let pushed : Entry = record { 0 = c.from.result * 4294967296 + c.from-2.result } in
     record {
       small = omega arith;
