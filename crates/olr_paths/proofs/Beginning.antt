@@ -11,7 +11,7 @@ use Rattle.olr_paths.specs.Changes.{set_item}
 use Rattle.olr_paths.specs.Beginning.{BeginsIn, Begins, BeginsPut}
 use Rattle.olr_paths.specs.Renewing.{Put, put, all_put, puts_of}
 use Rattle.olr_paths.specs.declared.listing.NamedPath.{NamedPath}
-use Rattle.olr_paths.proofs.NamedEntries.{take_more_items}
+use Rattle.olr_spec.proofs.ListLemmas.{take_more_at}
 
 -- of one of the list's items
 pub begins_there : (is : List Item) (i : Item) (v : ℕ) → Contains is i → BeginsIn i.made v → Begins is v
@@ -83,4 +83,4 @@ begins_drop keep (i ∷ is) v h = one_kept (keep i) i (filter keep is) is v (beg
 pub begins_more : (is : List Item) (k : ℕ) (i : Item) (v : ℕ) → slice_get is k ≡ Some i → Begins (take (k + 1) is) v →
     Begins (take k is) v ⊎ BeginsIn i.made v
 begins_more is k i v at h =
-    begins_add (take k is) i v (subst (λ (js : List Item). Begins js v) (take_more_items is k i at) h)
+    begins_add (take k is) i v (subst (λ (js : List Item). Begins js v) (take_more_at is k i at) h)

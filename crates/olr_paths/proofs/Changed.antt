@@ -1,6 +1,6 @@
 -- A list under changes that take no path away: place by place, and with what was made put in place.
---     changed_by cs i what becomes of one path. Lies us vs vs is us, where some paths are other ones that were not
---     encoded yet
+--     changed_by cs i      what becomes of one path.
+--     Lies us vs      vs is us, where some paths are other ones that were not encoded yet
 use Rattle.std.proofs.Common.{inl, inr, ◌≡◌, ◌⊎◌, ℕ, zero, suc, ◌+◌, Bool, true, false, cond, List, [], ◌∷◌, ◌++◌, map}
 use Rattle.std.proofs.Common.{take, length, get_or, slice_get, unwrap_or, Option, Some, None, is_some, refl, sym, ap}
 use Rattle.std.proofs.Common.{◌∙◌, subst, arith}
@@ -13,8 +13,8 @@ use Rattle.olr_paths.specs.Changes.{Reported}
 use Rattle.olr_paths.specs.Laying.{Changes, TakesNone, change_at, drops, under_change, under_changes}
 use Rattle.olr_paths.specs.Renewing.{Put, put, all_put}
 use Rattle.std.proofs.lemmas.Bool.{cases_Bool}
-use Rattle.std.proofs.lemmas.List.{take_more, map-append}
-use Rattle.std.proofs.lemmas.Option.{slice_get_within, unwrap_or-slice_get}
+use Rattle.std.proofs.lemmas.List.{map-append}
+use Rattle.olr_spec.proofs.ListLemmas.{take_more_at}
 use Rattle.std.specs.Prelude.{String, string_bytes}
 use Rattle.std.specs.declared.alloc.Global.{Global}
 use Rattle.std.specs.declared.rc.Rc.{Rc}
@@ -192,17 +192,10 @@ change_push (d ∷ cs) c name none other =
           ∙ change_push cs c name (sym past ∙ none) other
     ]
 
-pub take_more_entries : (es : Entered) (k : ℕ) (e : String Global × Option (Rc Path Global)) → slice_get es k ≡ Some e →
-    take (k + 1) es ≡ take k es ++ e ∷ []
-take_more_entries es k e at =
-    let E : Type 0 = String Global × Option (Rc Path Global) in
-    let same : get_or es k e ≡ e = sym (unwrap_or-slice_get es k e) ∙ ap (λ (o : Option E). unwrap_or o e) at in
-    take_more es k e (slice_get_within es k e at) ∙ ap (λ (x : E). take k es ++ x ∷ []) same
-
 pub take_more_changes : (es : Entered) (k : ℕ) (e : String Global × Option (Rc Path Global)) → slice_get es k ≡ Some e →
     changes_in (take (k + 1) es) ≡ changes_in (take k es) ++ (string_bytes e.0, path_in e.1) ∷ []
 take_more_changes es k e at =
-    ap changes_in (take_more_entries es k e at)
+    ap changes_in (take_more_at es k e at)
     ∙ map-append (λ (x : String Global × Option (Rc Path Global)). (string_bytes x.0, path_in x.1)) (take k es) (e ∷ [])
 
 -- where each is another path, none is taken away

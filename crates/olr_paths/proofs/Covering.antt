@@ -5,9 +5,11 @@ use Rattle.std.proofs.Common.{refl, sym, ap, ◌∙◌, subst, arith}
 use Rattle.std.specs.List.Sorted.{IsNonDecreasing}
 use Rattle.std.proofs.lemmas.Bool.{cases_Bool, cases_lt, or_left, eq-eqb, eqb-true}
 use Rattle.std.proofs.lemmas.List.{take_all}
+use Rattle.std.proofs.Math.Bool.{or-false}
 use Rattle.std.proofs.lemmas.List.Elements.{All-contains}
 use Rattle.std.proofs.lemmas.Option.{slice_get_within}
 use Rattle.olr_spec.specs.Map.{Map, IsMap, has}
+use Rattle.olr_spec.proofs.ListLemmas.{stands_at}
 use Rattle.olr_spec.specs.Detours.{ChangedLine}
 use Rattle.olr_index.specs.Marks.{holds, marks_of}
 use Rattle.olr_index.specs.declared.Index.{Index}
@@ -26,14 +28,14 @@ use Rattle.olr_spec.specs.Map.{has_node}
 use Rattle.olr_spec.specs.Walks.{dm_of}
 use Rattle.olr_spec.specs.Looks.{Look}
 use Rattle.olr_spec.specs.Extension.{limit}
-use Rattle.olr_route.specs.Searches.{IsNear, IsSearch, limit_of}
+use Rattle.olr_route.specs.Searches.{LiesWithin, IsSearch, limit_of}
 use Rattle.olr_route.specs.declared.distances.Direction.TheVariants.{Against}
 use Rattle.olr_paths.specs.Items.{Made, made_of}
 use Rattle.olr_paths.specs.Changes.{OwnTouched, LineTouched, LookTouched}
 use Rattle.olr_paths.specs.Touching.{nodes_of, lines_of}
 use Rattle.olr_paths.specs.Searching.{sources, IsAsked, AreAsked, LacksLooks, LackLooks}
 use Rattle.olr_paths.specs.Candidates.{AreFound}
-use Rattle.olr_paths.specs.Finding.{AreNoted, AreAll}
+use Rattle.olr_paths.specs.Finding.{AreNoted, ArePublished}
 use Rattle.olr_paths.specs.declared.touched.Touched.{Touched}
 use Rattle.olr_paths.specs.declared.searches.Searches.{Searches}
 use Rattle.olr_paths.specs.declared.finder.Finder.{Finder}
@@ -58,10 +60,7 @@ use Rattle.olr_paths.proofs.Marking.{First}
 -- ---- lists of numbers
 
 pub has_push : (xs : List ℕ) (x v : ℕ) → has (xs ++ x ∷ []) v ≡ (has xs v || (x == v))
-has_push [] x v = or_false (x == v) where
-  or_false : (b : Bool) → (b || false) ≡ b
-  or_false true = refl
-  or_false false = refl
+has_push [] x v = or-false (x == v)
 has_push (y ∷ ys) x v = ap (λ (b : Bool). (y == v) || b) (has_push ys x v) ∙ moved (y == v) (has ys v) (x == v) where
   moved : (a b c : Bool) → (a || (b || c)) ≡ ((a || b) || c)
   moved true b c = refl
@@ -141,16 +140,6 @@ pub record Passed (found : List ℕ) (long k next : ℕ) : Type 0 where
   pub below : (j : ℕ) → j < k → (get_or found j 0 < next) ⊎ (long ≤ get_or found j 0)
   pub within : next ≤ long
 
-has_place : (xs : List ℕ) (v : ℕ) → IsTrue (has xs v) → (j : ℕ) × (j < length xs) × (get_or xs j 0 ≡ v)
-has_place [] v on = let never : ⊥ = cc (on) in absurd never
-has_place (x ∷ xs) v on =
-    elim (cases_Bool (x == v)) [
-      | inl e ↦ (0, omega arith, eqb-true x v e)
-      | inr e ↦ let r =
-          has_place xs v (ap (λ (b : Bool). b || has xs v) (sym e) ∙ on) in
-          (suc r.0, (let lt = r.1 in omega arith), r.2)
-    ]
-
 -- no candidate stands between
 none_between : (found : List ℕ) (long k next position j : ℕ) → IsNonDecreasing found → Passed found long k next →
     position ≡ get_or found k 0 → k < length found → position ≤ long → next ≤ j → j < position → has found j ≡ false
@@ -158,7 +147,7 @@ none_between found long k next position j up h is lt within above low =
     elim (cases_Bool (has found j)) [
       | inr e ↦ e
       | inl on ↦
-          let r = has_place found j on in
+          let r = stands_at found j on in
           absurd (elim (cases_lt r.0 k) [
             | inl before ↦ elim (h.below r.0 before) [
               | inl small ↦ let e = r.2 in omega arith
@@ -175,7 +164,7 @@ none_after found long k next j end h above low =
     elim (cases_Bool (has found j)) [
       | inr e ↦ e
       | inl on ↦
-          let r = has_place found j on in
+          let r = stands_at found j on in
           absurd (elim (h.below r.0 (omega (arith, r.1, end))) [
             | inl small ↦ let e = r.2 in omega arith
             | inr big ↦
@@ -269,11 +258,11 @@ is_there None h = absurd (h refl)
 is_there (Some p) h = (p, refl)
 
 module _ (N : Map) (n : IsMap N) (place : ℕ → ℕ) (t : Touched) (s : Searches) (es : Entries) (ms : List ℕ) (f : Finder)
-    (noted : AreNoted es ms f) (all : AreAll es) (long : length ms ≡ length es) (found : List ℕ)
+    (noted : AreNoted es ms f) (all : ArePublished es) (long : length ms ≡ length es) (found : List ℕ)
     (own : AreFound ms f.own (nodes_of t) found) (from : AreFound ms f.from (nodes_of t) found)
     (lines : AreFound ms f.lines (lines_of t) found)
     (reached : s.far ≡ false → IsSearch N place Against (sources t) s.near → limit_of s.near ≡ limit → (v : ℕ) →
-    IsNear N Against (sources t) limit v → Finds ms f.from v found) where
+    LiesWithin N Against (sources t) limit v → Finds ms f.from v found) where
   module _ (k : ℕ) (e : String Global × NamedPath) (at : slice_get es k ≡ Some e) (p : Rc Published Global)
       (some : e.1.published ≡ Some p) (off : has found k ≡ false) where
     lower : k < length ms

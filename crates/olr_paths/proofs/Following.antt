@@ -1,10 +1,29 @@
--- What a held path leaves of following an earlier list.
-use Rattle.std.proofs.Common.{◌≡◌, List, [], ◌∷◌, ◌++◌, None, inl}
-use Rattle.olr_paths.specs.Items.{Item}
+-- A list follows itself, since no name stands twice.
+use Rattle.std.proofs.Common.{inl, inr, ◌≡◌, Bool, true, false, List, [], ◌∷◌, Option, is_some, refl, ap, ◌∙◌}
+use Rattle.std.specs.Prelude.{option_map, if◌then◌else◌}
+use lib.Pointwise.{bytes_decides}
+use Rattle.olr_spec.specs.Encoding.{Answer}
+use Rattle.olr_commands.specs.State.{same_name, path_named, NamesDiffer}
+use Rattle.olr_commands.proofs.NameLemmas.{not_named, flipped}
+use Rattle.olr_paths.specs.Items.{Made, Item, named, all_named, made_in, answer_in}
 use Rattle.olr_paths.specs.Changes.{Follows}
 
--- one more path, not encoded yet
-pub follows_push : (before is : List Item) (i : Item) → i.made ≡ None → Follows before is →
-    Follows before (is ++ i ∷ [])
-follows_push before [] i none h = (inl none, tt)
-follows_push before (x ∷ is) i none h = (h.0, follows_push before is i none h.1)
+abbrev pub answer_made : Option Made → Option Answer
+answer_made o = option_map (λ m. m.answer) o
+
+-- one path more in front, whose name is none of these
+follows_behind : (i : Item) (before js : List Item) → is_some (path_named (all_named js) i.name) ≡ false →
+    Follows before js → Follows (i ∷ before) js
+follows_behind i before [] h f = tt
+follows_behind i before (j ∷ js) h f =
+    let p = not_named (named j) (all_named js) i.name h in
+    let same : answer_in (i ∷ before) j.name ≡ answer_in before j.name =
+    ap (λ (b : Bool). answer_made (if b then i.made else made_in before j.name)) (flipped j.name i.name p.0) in
+    (elim f.0 [ inl e ↦ inl e | inr e ↦ inr (same ∙ e) ], follows_behind i before js p.1 f.1)
+
+pub follows_self : (is : List Item) → NamesDiffer (all_named is) → Follows is is
+follows_self [] d = tt
+follows_self (i ∷ is) d = (
+  inr (ap (λ (b : Bool). answer_made (if b then i.made else made_in is i.name)) ((bytes_decides i.name i.name).1 refl)),
+  follows_behind i is is d.0 (follows_self is d.1),
+)

@@ -17,8 +17,8 @@ use Rattle.olr_paths.proofs.LookLengths.{within_limit}
 
 module _ (M N : Map) (n : IsMap N) (T X : List ℕ) (C : List ChangedLine) (P : Path) (is : IsTrue (is_path P.lines))
     (m : Made) where
-  untouched : IsMap M → Difference T X C M N → IsEncodingOf M P m → Stays N T X C m P → IsEncodingOf N P m
-  untouched sound difference made stays =
+  pub stays_clear : IsMap M → Difference T X C M N → IsEncodingOf M P m → Stays N T X C m P → IsEncodingOf N P m
+  stays_clear sound difference made stays =
       let lines : (x : ℕ) → has X x ≡ true → has P.lines x ≡ false =
       λ x on. elim (cases_Bool (has P.lines x)) [ inl e ↦ absurd (stays.1 (x, on, e)) | inr e ↦ e ] in
       let own : (v : ℕ) → has T v ≡ true → ¬ OwnOf M P v = λ v on o. stays.0 (v, on, (made.own v).1 o) in
@@ -53,14 +53,11 @@ module _ (M N : Map) (n : IsMap N) (T X : List ℕ) (C : List ChangedLine) (P : 
   pub stays_unless : IsMap M → Difference T X C M N → ((c : ChangedLine) → Contains C c → IsTrue (has T c.from)) →
       IsEncodingOf M P m → ¬ Touches N T X m P → IsEncodingOf N P m
   stays_unless sound difference starts made free =
-      untouched sound difference made (
+      stays_clear sound difference made (
         (λ o. free (inl o)),
         (λ x. free (inr (inl x))),
         clear_far starts made.looks (λ l. free (inr (inr l))),
       )
-
-  pub stays_clear : IsMap M → Difference T X C M N → IsEncodingOf M P m → Stays N T X C m P → IsEncodingOf N P m
-  stays_clear sound difference made stays = untouched sound difference made stays
 
   -- ---- which paths are concerned
 

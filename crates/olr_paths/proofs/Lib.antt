@@ -13,9 +13,9 @@ pub mod Overlaying
 pub mod Changed
 pub mod Telling
 pub mod Placing
-pub mod Following
 pub mod LookLengths
 pub mod KeptLemmas
+pub mod Following
 pub mod Through
 pub mod Covering
 pub mod Yielded

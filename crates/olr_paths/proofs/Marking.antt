@@ -14,12 +14,12 @@ use Rattle.std.specs.declared.alloc.Global.{Global}
 use Rattle.std.proofs.lemmas.Bool.{cases_lt, cases_order, eq-eqb}
 use Rattle.std.proofs.lemmas.List.{length-append, length-take-le, take_all}
 use Rattle.std.proofs.lemmas.List.Edits.{length-remove}
-use Rattle.std.proofs.lemmas.Option.{get_or_from_slice_get}
+use Rattle.std.proofs.lemmas.Option.{get_or_from_slice_get, slice_get_within}
 use Rattle.std.proofs.lemmas.List.Quantifiers.{position-Some}
 use Rattle.olr_spec.specs.Looks.{Look}
 use Rattle.olr_spec.specs.Map.{has}
 use Rattle.olr_spec.proofs.RisingLists.{rises, place_of, has_at, place_not, rises_push, rises-remove, has-remove}
-use Rattle.olr_paths.specs.Finding.{IsNoted, NamedNoted, AreNoted, AreAll, Grows, Spares}
+use Rattle.olr_paths.specs.Finding.{IsNoted, NamedNoted, AreNoted, ArePublished, Grows, Spares}
 use Rattle.olr_paths.specs.Items.{Item}
 use Rattle.olr_paths.specs.declared.finder.Finder.{Finder}
 use Rattle.olr_paths.specs.declared.listing.NamedPath.{NamedPath}
@@ -71,18 +71,6 @@ not_left xs p k up at lt same =
     ap (λ (b : Bool). not b && has xs (get_or xs p 0)) own in
     let never : ⊥ = cc (gone, there, off) in absurd never
 
--- what stands in a longer list
-pub get_front : (ys : List ℕ) (m k : ℕ) → k < length ys → get_or (ys ++ m ∷ []) k 0 ≡ get_or ys k 0
-get_front [] m k lt = absurd (omega arith)
-get_front (y ∷ ys) m zero lt = refl
-get_front (y ∷ ys) m (suc k) lt = get_front ys m k (omega arith)
-
-pub get_last : (ys : List ℕ) (m k : ℕ) → k ≡ length ys → get_or (ys ++ m ∷ []) k 0 ≡ m
-get_last [] m zero e = refl
-get_last [] m (suc k) e = absurd (omega arith)
-get_last (y ∷ ys) m zero e = absurd (omega arith)
-get_last (y ∷ ys) m (suc k) e = get_last ys m k (omega arith)
-
 -- the one after the last
 pub below_next : (xs : List ℕ) (last mark : ℕ) → IsStrictlyIncreasing xs → slice_get xs (length xs - 1) ≡ Some last →
     mark ≡ last + 1 → (k : ℕ) → k < length xs → get_or xs k 0 < mark
@@ -121,13 +109,8 @@ not_among xs x (Err i) up h off_at on =
 pub noted_spared : (es : Entries) (ms : List ℕ) (f g : Finder) (mark : ℕ) →
     ((k : ℕ) → k < length es → get_or ms k 0 ≢ mark) → Spares mark f g → AreNoted es ms f → AreNoted es ms g
 noted_spared es ms f g mark other spare h k e at p some =
-    spared f g mark (get_or ms k 0) e.1.path.value.lines p.value.own p.value.looks.items (other k (within es k e at))
-    spare (h k e at p some)
-  where
-    within : (ys : Entries) (k : ℕ) (e : String Global × NamedPath) → slice_get ys k ≡ Some e → k < length ys
-    within [] k e at = let never : ⊥ = cc (at) in absurd never
-    within (y ∷ ys) zero e at = omega arith
-    within (y ∷ ys) (suc k) e at = let lt = within ys k e at in omega arith
+    spared f g mark (get_or ms k 0) e.1.path.value.lines p.value.own p.value.looks.items
+    (other k (slice_get_within es k e at)) spare (h k e at p some)
 
 -- one more
 pub noted_push : (es : Entries) (ms : List ℕ) (f : Finder) (key : String Global) (n : NamedPath) (m : ℕ) →
@@ -182,7 +165,8 @@ noted_but es ms f g q up long at spare here h k e there p some =
           (apart ms up k q (omega arith) at (λ e. omega arith)) spare (h k e there p some)
       | inr high ↦ elim (cases_lt q k) [
         | inl over ↦ spared f g (get_or ms q 0) (get_or ms k 0) e.1.path.value.lines p.value.own p.value.looks.items
-            (apart ms up k q (omega (arith, within es k e there)) at (λ e. omega arith)) spare (h k e there p some)
+            (apart ms up k q (omega (arith, slice_get_within es k e there)) at (λ e. omega arith)) spare
+            (h k e there p some)
         | inr same ↦
             let is : k ≡ q = omega arith in
             subst (λ (j : ℕ). IsNoted g (get_or ms j 0) e.1.path.value.lines p.value.own p.value.looks.items) (sym is)
@@ -191,29 +175,25 @@ noted_but es ms f g q up long at spare here h k e there p some =
             IsNoted f (get_or ms j 0) e.1.path.value.lines r.value.own r.value.looks.items) is (h k e there r)) p some)
       ]
     ]
-  where
-    within : (ys : Entries) (k : ℕ) (e : String Global × NamedPath) → slice_get ys k ≡ Some e → k < length ys
-    within [] k e at = let never : ⊥ = cc (at) in absurd never
-    within (y ∷ ys) zero e at = omega arith
-    within (y ∷ ys) (suc k) e at = let lt = within ys k e at in omega arith
 
 -- ---- whether all were encoded
 
-pub all_push : (es : Entries) (key : String Global) (n : NamedPath) → AreAll es → n.published ≢ None →
-    AreAll (es ++ (key, n) ∷ [])
+pub all_push : (es : Entries) (key : String Global) (n : NamedPath) → ArePublished es → n.published ≢ None →
+    ArePublished (es ++ (key, n) ∷ [])
 all_push [] key n h one zero e at = let is : n ≡ e.1 = cc (at) in subst (λ (x : NamedPath). x.published ≢ None) is one
 all_push [] key n h one (suc k) e at = let never : ⊥ = cc (at) in absurd never
 all_push (x ∷ es) key n h one zero e at = h zero e at
 all_push (x ∷ es) key n h one (suc k) e at = all_push es key n (λ j. h (suc j)) one k e at
 
-pub all_removed : (es : Entries) (q : ℕ) → AreAll es → AreAll (remove es q)
+pub all_removed : (es : Entries) (q : ℕ) → ArePublished es → ArePublished (remove es q)
 all_removed [] zero h k e at = let never : ⊥ = cc (at) in absurd never
 all_removed [] (suc q) h k e at = let never : ⊥ = cc (at) in absurd never
 all_removed (x ∷ es) zero h k e at = h (suc k) e at
 all_removed (x ∷ es) (suc q) h zero e at = h zero e at
 all_removed (x ∷ es) (suc q) h (suc k) e at = all_removed es q (λ j. h (suc j)) k e at
 
-pub all_set : (es : Entries) (q : ℕ) (n : NamedPath) → AreAll es → n.published ≢ None → AreAll (set_value_at es q n)
+pub all_set : (es : Entries) (q : ℕ) (n : NamedPath) → ArePublished es → n.published ≢ None → ArePublished
+    (set_value_at es q n)
 all_set [] q n h one k e at = let never : ⊥ = cc (at) in absurd never
 all_set (x ∷ es) zero n h one zero e at = let is : n ≡ e.1 =
     cc (at) in subst (λ (y : NamedPath). y.published ≢ None) is one
@@ -292,8 +272,8 @@ module _ (es fs : Entries) (ms ns : List ℕ) (name : List ℕ) (q : ℕ) (mark 
       subst (λ (xs : List ℕ). AreNoted fs xs f) (sym ms_is)
       (subst (λ (ys : Entries). AreNoted ys (remove ms q) f) (sym left) (noted_removed es ms f q long h))
 
-  pub all_left : (held : Bool) → (IsFalse held → AreAll es) → IsFalse held → AreAll fs
-  all_left held h off = subst (λ (ys : Entries). AreAll ys) (sym left) (all_removed es q (h off))
+  pub all_left : (held : Bool) → (IsFalse held → ArePublished es) → IsFalse held → ArePublished fs
+  all_left held h off = subst (λ (ys : Entries). ArePublished ys) (sym left) (all_removed es q (h off))
 
 -- ---- a list with one path more
 
@@ -329,9 +309,9 @@ module _ (es fs : Entries) (ms ns : List ℕ) (key : String Global) (n : NamedPa
       (noted_push es ms g key n mark long kept one))
 
   pub all_more_unless : (held held2 : Bool) → (IsFalse held2 → IsFalse held × (n.published ≢ None)) →
-      (IsFalse held → AreAll es) → IsFalse held2 → AreAll fs
+      (IsFalse held → ArePublished es) → IsFalse held2 → ArePublished fs
   all_more_unless held held2 is h off = let split =
-      is off in subst (λ (ys : Entries). AreAll ys) (sym es_is) (all_push es key n (h split.0) split.1)
+      is off in subst (λ (ys : Entries). ArePublished ys) (sym es_is) (all_push es key n (h split.0) split.1)
 
 -- ---- a list with another path in the place of one
 
@@ -382,9 +362,9 @@ module _ (es fs : Entries) (ms : List ℕ) (name : List ℕ) (n : NamedPath) (q 
       entry_within (y ∷ ys) (suc k) e at = let lt = entry_within ys k e at in omega arith
 
   pub all_other : (held held2 : Bool) → (IsFalse held2 → IsFalse held × (n.published ≢ None)) →
-      (IsFalse held → AreAll es) → IsFalse held2 → AreAll fs
+      (IsFalse held → ArePublished es) → IsFalse held2 → ArePublished fs
   all_other held held2 is h off = let split =
-      is off in subst (λ (ys : Entries). AreAll ys) (sym other) (all_set es q n (h split.0) split.1)
+      is off in subst (λ (ys : Entries). ArePublished ys) (sym other) (all_set es q n (h split.0) split.1)
 
 -- the same list, with more room
 pub moved_noted : (es fs : Entries) (ms ns : List ℕ) (f : Finder) → fs ≡ es → ns ≡ ms → AreNoted es ms f →
@@ -446,5 +426,5 @@ noted_cut es fs ms ns q a b f h k e at p some =
     let mark : get_or ms k 0 ≡ get_or ns k 0 = sym (ap (λ (xs : List ℕ). get_or xs k 0) b ∙ cut_marks ms q k r.1) in
     subst (λ (m : ℕ). IsNoted f m e.1.path.value.lines p.value.own p.value.looks.items) mark (h k e r.0 p some)
 
-pub all_cut : (es fs : Entries) (q : ℕ) → fs ≡ take q es → AreAll es → AreAll fs
+pub all_cut : (es fs : Entries) (q : ℕ) → fs ≡ take q es → ArePublished es → ArePublished fs
 all_cut es fs q a h k e at = h k e (cut_at es q k e (ap (λ (ys : Entries). slice_get ys k) (sym a) ∙ at)).0

@@ -1,9 +1,8 @@
 -- A map's entries as a list of named paths: look-ups, edits, and that no name stands twice.
 use Rattle.std.proofs.Common.{inl, inr, ◌≡◌, ℕ, ◌+◌, ◌<◌, Bool, true, false, not, cond, if◌then◌else◌, List, [], ◌∷◌}
 use Rattle.std.proofs.Common.{◌++◌, map, take, length, get_or, slice_get, Option, Some, None, is_some, refl, sym, ap}
-use Rattle.std.proofs.Common.{◌∙◌, unwrap_or}
-use Rattle.std.proofs.lemmas.Option.{slice_get-map, slice_get_within, unwrap_or-slice_get}
-use Rattle.std.proofs.lemmas.List.{take_more}
+use Rattle.std.proofs.Common.{◌∙◌}
+use Rattle.std.proofs.lemmas.Option.{slice_get-map}
 use Rattle.indexmap.specs.IndexMap.{insert_entry}
 use Rattle.std.specs.Prelude.{String, option_map, string_bytes}
 use Rattle.std.specs.Option.{option_and_then}
@@ -70,10 +69,6 @@ named_there (e ∷ es) name =
     ]
     ∙ ap (λ (b : Bool). is_some (cond b (Some e.1.path.value) (path_named (all_named (items_of es)) name)))
     (same_flip name (string_bytes e.0))
-
-pub none_from_absent : {X : Type 0} (o : Option X) → is_some o ≡ false → o ≡ None
-none_from_absent None h = refl
-none_from_absent (Some x) h = absurd cc
 
 -- ---- no name stands twice
 
@@ -213,13 +208,6 @@ put_items (e ∷ es) k n h =
     ap (λ (b : Bool). items_of (if b then (e.0, n) ∷ es else e ∷ insert_entry string_eq es k n))
     (flipped (string_bytes e.0) (string_bytes k) r.0)
     ∙ ap (λ (js : List Item). item_of e ∷ js) (put_items es k n r.1)
-
-pub take_more_items : (is : List Item) (k : ℕ) (i : Item) → slice_get is k ≡ Some i →
-    take (k + 1) is ≡ take k is ++ i ∷ []
-take_more_items is k i at =
-    let within : k < length is = slice_get_within is k i at in
-    let same : get_or is k i ≡ i = sym (unwrap_or-slice_get is k i) ∙ ap (λ (o : Option Item). unwrap_or o i) at in
-    take_more is k i within ∙ ap (λ (j : Item). take k is ++ j ∷ []) same
 
 -- the item of an entry
 pub item_at : (es : Entries) (k : ℕ) (e : String Global × NamedPath) → slice_get es k ≡ Some e →

@@ -5,7 +5,7 @@ use Rattle.std.proofs.lemmas.Bool.{or_left, eq-eqb, ne_eqb}
 use Rattle.std.proofs.lemmas.List.{take_all}
 use Rattle.olr_index.specs.Marks.{holds}
 use Rattle.olr_index.specs.declared.Index.{Index}
-use Rattle.olr_paths.specs.Finding.{Keeps, KeepsBut}
+use Rattle.olr_paths.specs.Finding.{KeepsAll, KeepsBut}
 use Rattle.olr_paths.proofs.Alls.{all_more}
 
 neither : (a b c : Bool) → c ≡ false → (a || (b && c)) ≡ a
@@ -37,7 +37,7 @@ left_there false b c h g = g
 -- after so many of the numbers
 pub record Noted {A : Type 0} (number : A → ℕ) (mark : ℕ) (old now : Index) (xs : List A) : Type 0 where
   pub noted : All (λ x. IsTrue (holds now (number x) mark)) xs
-  pub grows : Keeps old now
+  pub grows : KeepsAll old now
   pub spares : KeepsBut mark old now
 
 module _ {A : Type 0} (number : A → ℕ) (mark : ℕ) (old : Index) where
@@ -50,7 +50,7 @@ module _ {A : Type 0} (number : A → ℕ) (mark : ℕ) (old : Index) where
       Noted number mark old new (take (k + 1) xs)
   noted_more now new xs k d v lt is h added =
       let P : A → Type 0 = λ x. IsTrue (holds new (number x) mark) in
-      let grown : Keeps now new = λ n m t. added n m ∙ or_left (holds now n m) ((v == n) && (mark == m)) t in
+      let grown : KeepsAll now new = λ n m t. added n m ∙ or_left (holds now n m) ((v == n) && (mark == m)) t in
       record {
         noted = all_more P xs k d lt (λ i e low. grown (number (get_or (take k xs) i e)) mark (h.noted i e low))
             (added (number (get_or xs k d)) mark
@@ -64,7 +64,7 @@ module _ {A : Type 0} (number : A → ℕ) (mark : ℕ) (old : Index) where
 
   -- after want of memory
   pub grows_failed : (now new : Index) (xs : List A) → Noted number mark old now xs →
-      ((n m : ℕ) → holds new n m ≡ holds now n m) → Keeps old new
+      ((n m : ℕ) → holds new n m ≡ holds now n m) → KeepsAll old new
   grows_failed now new xs h same n m t = same n m ∙ h.grows n m t
 
   pub spares_failed : (now new : Index) (xs : List A) → Noted number mark old now xs →

@@ -20,7 +20,8 @@ use Rattle.olr_paths.specs.Changes.{set_item}
 use Rattle.olr_paths.specs.Renewing.{item_of}
 use Rattle.olr_paths.specs.declared.listing.NamedPath.{NamedPath}
 use Rattle.olr_paths.specs.Laying.{Changes, change_at, drops, under_change, under_changes, path_in, changes_in}
-use Rattle.olr_paths.proofs.NamedEntries.{asks, same_flip, absent, not_here, keeps_all, sets_none, take_more_items}
+use Rattle.olr_spec.proofs.ListLemmas.{take_more_at}
+use Rattle.olr_paths.proofs.NamedEntries.{asks, same_flip, absent, not_here, keeps_all, sets_none}
 use lib.Pointwise.{bytes_decides}
 
 abbrev pub Entered : Type 0
@@ -406,7 +407,7 @@ module _ (cs : Changes) (is to : List Item) (k : ℕ) (i : Item) (at : slice_get
 
   pub laid_more : to ++ under_changes cs (take (k + 1) is) ≡ done ++ under_change (change_at cs i.name) i
   laid_more =
-      ap (λ (js : List Item). to ++ under_changes cs js) (take_more_items is k i at)
+      ap (λ (js : List Item). to ++ under_changes cs js) (take_more_at is k i at)
       ∙ ap (λ (js : List Item). to ++ js) (laid_append cs (take k is) (i ∷ [])
       ∙ ap (λ (js : List Item). under_changes cs (take k is) ++ js) (append-nil (under_change (change_at cs i.name) i)))
       ∙ sym (append_assoc to (under_changes cs (take k is)) (under_change (change_at cs i.name) i))

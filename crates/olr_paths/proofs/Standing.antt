@@ -13,7 +13,7 @@ use Rattle.olr_spec.specs.Map.{has}
 use Rattle.olr_spec.specs.Looks.{Look}
 use Rattle.olr_index.specs.Marks.{holds, marks_of}
 use Rattle.olr_paths.specs.Searching.{LacksLooks, LackLooks}
-use Rattle.olr_paths.specs.Finding.{NamedNoted, AreNoted, AreNotedAt, AreAll, Grows}
+use Rattle.olr_paths.specs.Finding.{NamedNoted, AreNoted, AreNotedAt, ArePublished, Grows}
 use Rattle.olr_paths.specs.declared.finder.Finder.{Finder}
 use Rattle.olr_paths.specs.declared.published.Published.{Published}
 use Rattle.olr_paths.specs.declared.listing.NamedPath.{NamedPath}
@@ -61,7 +61,8 @@ at_more ms f g fresh k d lt more h one =
     all_more (StandsAt ms g) fresh k d lt (at_grown ms f g (take k fresh) more h) one
 
 -- where each path is reported, each was encoded
-pub all_encoded : (before : List Item) (es : Entries) (rs : List Entry) → Reported before (items_of es) rs → AreAll es
+pub all_encoded : (before : List Item) (es : Entries) (rs : List Entry) → Reported before (items_of es) rs →
+    ArePublished es
 all_encoded before [] rs h k e at = let never : ⊥ = cc (at) in absurd never
 all_encoded before (x ∷ es) rs h zero e at = λ none.
     let same : x ≡ e = cc (at) in
@@ -105,7 +106,7 @@ lack_by es ms f noted empty i on =
     cc (held, off))))
 
 -- lists with the same paths are encoded alike
-pub all_same : (es fs : Entries) → items_of fs ≡ items_of es → AreAll es → AreAll fs
+pub all_same : (es fs : Entries) → items_of fs ≡ items_of es → ArePublished es → ArePublished fs
 all_same es fs same h k e at = λ none.
     let b = back es k (item_of e) (ap (λ (js : List Item). slice_get js k) (sym same) ∙ item_at fs k e at) in
     let made : made_of_named b.0.1 ≡ made_of_named e.1 = ap (λ (i : Item). i.made) b.2 in

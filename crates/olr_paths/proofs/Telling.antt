@@ -1,7 +1,7 @@
 -- The entries of a list whose paths were encoded.
 use Rattle.std.proofs.Common.{Bor, true, is_some, inr, ◌≡◌, ◌≢◌, ℕ, zero, suc, ◌+◌, take, List, [], ◌∷◌, ◌++◌}
 use Rattle.std.proofs.Common.{slice_get, Option, Some, None, refl, sym, ap, ◌∙◌, append_assoc, append-nil}
-use Rattle.olr_paths.proofs.NamedEntries.{take_more_items}
+use Rattle.olr_spec.proofs.ListLemmas.{take_more_at}
 use Rattle.std.specs.Prelude.{option_map}
 use Rattle.olr_commands.specs.Reply.{Entry, entry}
 use Rattle.olr_spec.specs.Encoding.{Answer}
@@ -49,7 +49,7 @@ all_reported (i ∷ is) a = one_reported i is i.made refl a.0 (all_reported is a
 pub told_more_at : (is : List Item) (k : ℕ) (i : Item) (m : Made) → slice_get is k ≡ Some i → i.made ≡ Some m →
     all_told (take (k + 1) is) ≡ all_told (take k is) ++ entry i.name m.answer ∷ []
 told_more_at is k i m at made =
-    ap all_told (take_more_items is k i at) ∙ told_more (take k is) i
+    ap all_told (take_more_at is k i at) ∙ told_more (take k is) i
     ∙ ap (λ (o : Option Made). all_told (take k is) ++ told_of i.name o) made
 
 -- ---- what was encoded
@@ -59,7 +59,3 @@ pub answered : (is : List Item) (name : List ℕ) (o : Option (Bor Encoded)) →
     option_map (λ p. made_of p.now) o ≡ made_in is name → is_some o ≡ true → (A : Answer) × (answer_in is name ≡ Some A)
 answered is name None e some = absurd cc
 answered is name (Some p) e some = ((made_of p.now).answer, ap (option_map (λ (m : Made). m.answer)) (sym e))
-
-pub encoded_push : (is : List Item) (i : Item) → AreEncoded is → i.made ≢ None → AreEncoded (is ++ i ∷ [])
-encoded_push [] i a h = (h, tt)
-encoded_push (j ∷ is) i a h = (a.0, encoded_push is i a.1 h)

@@ -1,7 +1,7 @@
--- A list, as far as it was renewed. SoFar is the same with the work, along a list; follows_itself gives the start where
+-- A list, as far as it was renewed. SoFar is the same with the work, along a list; follows_self gives the start where
 -- the list itself is the one before.
---     Through Q N T X before is ps es n the paths is are renewed where ps are put, es tells them, and n of them are
---     concerned, from each map that Q holds of
+--     Through Q N T X before is ps es n      the paths is are renewed where ps are put, es tells them, and n of them
+--         are concerned, from each map that Q holds of
 use Rattle.std.proofs.Common.{◌≡◌, ◌≢◌, ℕ, map, zero, suc, take, is_some, ◌+◌, ◌<◌, ◌≤◌, ◌^◌, Bool, true, false, List}
 use Rattle.std.proofs.Common.{[], ◌∷◌, ◌++◌, length, slice_get, Option, None, Some, option_map, IfSome, ◌⊎◌, inl, inr}
 use Rattle.std.proofs.Common.{refl, sym, ap, subst, ◌∙◌, append_assoc, arith, IsTrue}
@@ -25,7 +25,7 @@ use Rattle.olr_paths.specs.Renewing.{Put, all_put, made_at, puts_of, entries_of,
 use Rattle.olr_paths.specs.Renewing.{IsStep, Left, Kept, Anew, Rises}
 use Rattle.olr_paths.specs.declared.renewal.Renewal.{Renewal}
 use Rattle.olr_paths.specs.declared.renewal.Counted.{Counted}
-use Rattle.olr_paths.proofs.NamedEntries.{take_more_items}
+use Rattle.olr_spec.proofs.ListLemmas.{take_more_at}
 use Rattle.olr_paths.proofs.Placing.{put_behind, all_put-push}
 use Rattle.olr_paths.proofs.KeptLemmas.{stays_unless, stays_clear, concerned_by, touched_by}
 use lib.Pointwise.{bytes_decides}
@@ -151,7 +151,7 @@ module _ (N : Map) (n : IsMap N) (T X : List ℕ) (C : List ChangedLine) (before
   Q L = IsBefore L N T X C is
 
   more : take (place + 1) is ≡ take place is ++ i ∷ []
-  more = take_more_items is place i at
+  more = take_more_at is place i at
 
   long : length (take place is) ≡ place
   long = length-take-le place is (omega (arith, slice_get_within is place i at))
@@ -304,7 +304,7 @@ module _ (N : Map) (n : IsMap N) (T X : List ℕ) (C : List ChangedLine) (before
         many = h.many;
         through =
             subst (λ (js : List Item). Through (λ L. IsBefore L N T X C is) N T X before js (made_at r) (entries_of r)
-            h.many) (sym (take_more_items is place i at))
+            h.many) (sym (take_more_at is place i at))
             (through_left N n T X C before is place i follows at (made_at r) (entries_of r) h.many h.through f);
         raised = h.raised;
         rises = h.rises;
@@ -315,7 +315,7 @@ module _ (N : Map) (n : IsMap N) (T X : List ℕ) (C : List ChangedLine) (before
         many = h.many + 1;
         through =
             subst (λ (js : List Item). Through (λ L. IsBefore L N T X C is) N T X before js (made_at r) (entries_of r)
-            (h.many + 1)) (sym (take_more_items is place i at))
+            (h.many + 1)) (sym (take_more_at is place i at))
             (through_kept N n T X C before is place i follows at (made_at r) (entries_of r) h.many h.through f);
         raised = λ few. let e = h.raised (omega arith) in let u = one.encodings (omega arith) in omega arith;
         rises = rises_more old now later h.many h.rises one.rises;
@@ -325,7 +325,7 @@ module _ (N : Map) (n : IsMap N) (T X : List ℕ) (C : List ChangedLine) (before
         many = h.many + 1;
         through =
             subst (λ (js : List Item). Through (λ L. IsBefore L N T X C is) N T X before js (made_at s) (entries_of s)
-            (h.many + 1)) (sym (take_more_items is place i at))
+            (h.many + 1)) (sym (take_more_at is place i at))
             (subst (λ (ps : List Put). Through (λ L. IsBefore L N T X C is) N T X before (take place is ++ i ∷ []) ps
             (entries_of s) (h.many + 1)) (sym puts)
             (through_anew N n T X C before is place i follows at (made_at r) (entries_of r) (entries_of s) h.many m
@@ -333,23 +333,3 @@ module _ (N : Map) (n : IsMap N) (T X : List ℕ) (C : List ChangedLine) (before
         raised = λ few. let e = h.raised (omega arith) in let u = one.encodings (omega arith) in omega arith;
         rises = rises_more old now later h.many h.rises one.rises;
       }
-
--- ---- a list follows itself, since no name stands twice
-
-follows_more : (x : Item) (before is : List Item) → Follows before is →
-    is_some (path_named (all_named is) x.name) ≡ false → Follows (x ∷ before) is
-follows_more x before [] h absent = h
-follows_more x before (i ∷ is) h absent =
-    let r = not_named (named i) (all_named is) x.name absent in
-    let other : same_name x.name i.name ≡ false = flipped i.name x.name r.0 in
-    let as_before : answer_in (x ∷ before) i.name ≡ answer_in before i.name =
-    ap (λ (b : Bool). option_map (λ (m : Made). m.answer) (if b then x.made else made_in before i.name)) other in
-    (elim h.0 [ inl none ↦ inl none | inr same ↦ inr (as_before ∙ same) ], follows_more x before is h.1 r.1)
-
-pub follows_itself : (is : List Item) → NamesDiffer (all_named is) → Follows is is
-follows_itself [] d = tt
-follows_itself (i ∷ is) d =
-    let own : same_name i.name i.name ≡ true = (bytes_decides i.name i.name).1 refl in (
-      inr (ap (λ (b : Bool). option_map (λ (m : Made). m.answer) (if b then i.made else made_in is i.name)) own),
-      follows_more i is is (follows_itself is d.1) d.0,
-    )

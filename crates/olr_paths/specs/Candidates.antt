@@ -1,8 +1,10 @@
 -- Positions of paths that edits may concern.
 --     Includes xs ys      the numbers of xs are among those of ys
---     Finds marks i v found the positions whose marks the number v has are found. AreFound so of each number Covers N T
---     X is found a path whose position isn't found is not concerned CoversAsked N place t s is found the same of those
---     of which it was asked. FindsChanged cs is found a path whose position isn't found is not changed
+--     Finds marks i v found      the positions whose marks the number v has are found.
+--     AreFound      so of each number
+--     Covers N T X is found      a path whose position isn't found is not concerned
+--     CoversAsked N place t s is found      the same of those of which it was asked.
+--     FindsChanged cs is found      a path whose position isn't found is not changed
 use Rattle.std.specs.Prelude.{◌≡◌, ℕ, ◌<◌, List, All, Some, None, IfSome, false, length, get_or, slice_get, IsTrue}
 use Rattle.olr_spec.specs.Map.{Map, has}
 use Rattle.olr_index.specs.Marks.{holds}

@@ -1,10 +1,13 @@
 -- What a change of the map, or of one path, makes of a list of named paths.
---     Touches N T X m P an own node of the path is touched, or one of its lines, or a node near to where a look begins
---     IsBefore M N T X C is what was made of the list is right on M, and edits led from M to N IsConcerned M T X i the
---     path was not encoded yet, or its footprint on M holds a touched node, or one of its lines was touched AreRemade N
---     is js each path has what is right on N Reported before js es an entry for each path whose answer is not the one
---     that its name had before, in order AreEncoded is each path was encoded Follows before is each path that was
---     encoded has the answer that its name had before
+--     Touches N T X m P      an own node of the path is touched, or one of its lines, or a node near to where a look
+--         begins
+--     IsBefore M N T X C is      what was made of the list is right on M, and edits led from M to N
+--     IsConcerned M T X i      the path was not encoded yet, or its footprint on M holds a touched node, or one of its
+--         lines was touched
+--     AreRemade N is js      each path has what is right on N
+--     Reported before js es      an entry for each path whose answer is not the one that its name had before, in order
+--     AreEncoded is      each path was encoded
+--     Follows before is      each path that was encoded has the answer that its name had before
 use Rattle.std.specs.Prelude.{◌≡◌, ◌≢◌, ℕ, List, [], ◌∷◌, Contains, Option, Some, None, option_map, ◌⊎◌, IsTrue, ⊤}
 use Rattle.std.specs.Prelude.{if◌then◌else◌}
 use Rattle.std.specs.List.{AllByRecursion}

@@ -1,9 +1,12 @@
 -- Which marks a finder has, and that it has those of each path.
---     OwnNoted, FromNoted, LinesNoted own nodes, the nodes from which looks look, and lines have a mark. IsNoted all
---     three Keeps i j each number has the marks that it had. KeepsBut mark i j and the others, but for one mark Grows f
---     g, Spares f g mark the same of a finder AreNoted es marks f each path that was encoded is noted under the mark at
---     its place AreNotedAt marks f fresh what is to be put at positions is noted under their marks AreAll es each path
---     was encoded
+--     OwnNoted, FromNoted, LinesNoted      own nodes, the nodes from which looks look, and lines have a mark.
+--     IsNoted      all three
+--     KeepsAll i j      each number has the marks that it had.
+--     KeepsBut mark i j      and the others, but for one mark
+--     Grows f g, Spares f g mark      the same of a finder
+--     AreNoted es marks f      each path that was encoded is noted under the mark at its place
+--     AreNotedAt marks f fresh      what is to be put at positions is noted under their marks
+--     ArePublished es      each path was encoded
 use Rattle.std.specs.Prelude.{◌≡◌, ◌≢◌, ◌<◌, ℕ, List, All, Some, None, length, get_or, slice_get, IsTrue, IsFalse}
 use Rattle.std.specs.Prelude.{String, Bool}
 use Rattle.std.specs.Coded.{coded_ℕ, Coded-set}
@@ -26,14 +29,14 @@ FromNoted i mark looks = All (λ l. IsTrue (holds i l.from mark)) looks
 abbrev pub IsNoted : Finder → ℕ → List ℕ → List ℕ → List Look → Type 0
 IsNoted f mark xs own looks = OwnNoted f.own mark own × FromNoted f.from mark looks × OwnNoted f.lines mark xs
 
-abbrev pub Keeps : Index → Index → Type 0
-Keeps i j = (n m : ℕ) → IsTrue (holds i n m) → IsTrue (holds j n m)
+abbrev pub KeepsAll : Index → Index → Type 0
+KeepsAll i j = (n m : ℕ) → IsTrue (holds i n m) → IsTrue (holds j n m)
 
 abbrev pub KeepsBut : ℕ → Index → Index → Type 0
 KeepsBut mark i j = (n m : ℕ) → m ≢ mark → holds j n m ≡ holds i n m
 
 abbrev pub Grows : Finder → Finder → Type 0
-Grows f g = Keeps f.own g.own × Keeps f.from g.from × Keeps f.lines g.lines
+Grows f g = KeepsAll f.own g.own × KeepsAll f.from g.from × KeepsAll f.lines g.lines
 
 abbrev pub Spares : ℕ → Finder → Finder → Type 0
 Spares mark f g = KeepsBut mark f.own g.own × KeepsBut mark f.from g.from × KeepsBut mark f.lines g.lines
@@ -51,11 +54,11 @@ AreNoted es marks f =
 abbrev pub AreNotedAt : List ℕ → Finder → List (ℕ × NamedPath) → Type 0
 AreNotedAt marks f fresh = All (λ r. r.0 < length marks → NamedNoted f (get_or marks r.0 0) r.1) fresh
 
-abbrev pub AreAll : List (String Global × NamedPath) → Type 0
-AreAll es = (k : ℕ) (e : String Global × NamedPath) → slice_get es k ≡ Some e → e.1.published ≢ None
+abbrev pub ArePublished : List (String Global × NamedPath) → Type 0
+ArePublished es = (k : ℕ) (e : String Global × NamedPath) → slice_get es k ≡ Some e → e.1.published ≢ None
 
 pub AreNoted-prop : (es : List (String Global × NamedPath)) (marks : List ℕ) (f : Finder) → IsProp (AreNoted es marks f)
 AreNoted-prop es marks f = hlevel (props, Coded-set coded_ℕ)
 
-pub AreAll-prop : (held : Bool) (es : List (String Global × NamedPath)) → IsProp (IsFalse held → AreAll es)
-AreAll-prop held es = hlevel (props, Coded-set coded_ℕ)
+pub ArePublished-prop : (held : Bool) (es : List (String Global × NamedPath)) → IsProp (IsFalse held → ArePublished es)
+ArePublished-prop held es = hlevel (props, Coded-set coded_ℕ)

@@ -1,7 +1,10 @@
 -- A list of named paths, each with what is published of it.
---     Made an answer with its own nodes and looks. IsEncodingOf M P m they are those of the path on the map Item a
---     name, its path and, where it was encoded, what was made. items l those of a list AreEncodings M is each path was
---     encoded, and rightly for the map. AreEncodingsIfAny M is each that was encoded
+--     Made      an answer with its own nodes and looks.
+--     IsEncodingOf M P m      they are those of the path on the map
+--     Item      a name, its path and, where it was encoded, what was made.
+--     items l      those of a list
+--     AreEncodings M is      each path was encoded, and rightly for the map.
+--     AreEncodingsIfAny M is      each that was encoded
 use Rattle.std.specs.Prelude.{◌≡◌, ℕ, List, [], ◌∷◌, map, Contains, if◌then◌else◌, Option, Some, None, option_map}
 use Rattle.std.specs.Prelude.{IfSome, string_bytes, ◌↔◌, ⊤}
 use Rattle.olr_spec.specs.Map.{Map}

@@ -1,7 +1,9 @@
 -- Changes that lie over a list of named paths.
---     Changes, change_at cs name what becomes of paths by their names: another path, or none where it is taken away
---     under_changes cs is the list with these changes. under_overlay is o with those of an overlay, and the new ones
---     behind TakesNone cs no path is taken away
+--     Changes, change_at cs name      what becomes of paths by their names: another path, or none where it is taken
+--         away
+--     under_changes cs is      the list with these changes.
+--     under_overlay is o      with those of an overlay, and the new ones behind
+--     TakesNone cs      no path is taken away
 use Rattle.std.specs.Prelude.{◌≡◌, ℕ, Bool, true, false, cond, List, [], ◌∷◌, ◌++◌, map, Option, Some, None, option_map}
 use Rattle.std.specs.Prelude.{string_bytes}
 use Rattle.std.specs.Coded.{coded_ℕ, Coded-set}
@@ -49,8 +51,8 @@ path_in o = option_map (λ p. p.value) o
 abbrev pub changes_in : List (String Global × Option (Rc Path Global)) → Changes
 changes_in es = map (λ e. (string_bytes e.0, path_in e.1)) es
 
-abbrev pub changes_of : Overlay → Changes
-changes_of o = changes_in o.changes.entries
+abbrev pub overlay_changes : Overlay → Changes
+overlay_changes o = changes_in o.changes.entries
 
 abbrev pub under_overlay : List Item → Overlay → List Item
-under_overlay is o = under_changes (changes_of o) is ++ items o.added
+under_overlay is o = under_changes (overlay_changes o) is ++ items o.added

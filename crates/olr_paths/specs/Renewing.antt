@@ -1,10 +1,14 @@
 -- What was made anew of a list of named paths, and where it goes.
---     Put a path with what was made of it, and its place. puts_of es, made_at r what was made. all_put is ps the list
---     with these at their places item_of name e an entry of the list under a name items_before o l the list that is
---     given as the earlier one, or else l itself Stays N T X C m P no own node and no line of the path is touched, and
---     each look is clear IsFate, IsStep what is to be done with a path, and what is done Rises old new n, OneMore old
---     new no count falls, and of n encodings no more are spared; of one TellsIfOther before name A es fs an entry
---     behind the others where the answer is not the one that the name had before
+--     Put      a path with what was made of it, and its place.
+--     puts_of es, made_at r      what was made.
+--     all_put is ps      the list with these at their places
+--     item_of name e      an entry of the list under a name
+--     items_before o l      the list that is given as the earlier one, or else l itself
+--     Stays N T X C m P      no own node and no line of the path is touched, and each look is clear
+--     IsFate, IsStep      what is to be done with a path, and what is done
+--     Rises old new n, OneMore old new      no count falls, and of n encodings no more are spared;  of one
+--     TellsIfOther before name A es fs      an entry behind the others where the answer is not the one that the name
+--         had before
 use Rattle.std.specs.Prelude.{◌≡◌, ◌≢◌, ℕ, zero, suc, List, [], ◌∷◌, ◌++◌, map, All, ◌+◌, ◌<◌, ◌≤◌, ◌^◌, Option, Some}
 use Rattle.std.specs.Prelude.{None, option_map, unwrap_or, ◌⊎◌}
 use Rattle.std.specs.Borrow.{Bor}

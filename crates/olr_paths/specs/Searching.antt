@@ -1,8 +1,10 @@
 -- The searches of a renewal.
---     IsAsked N place t s m the search from the touched nodes is made, unless no look of m is touched. AreAsked the
---     same of each path that was encoded LacksLooks made, LackLooks is nothing was made, or it has no look; so of each
---     path AreDetours N place t s far the distances to where changed lines begin and from where they end, within a
---     limit AreFarther p q d two distances together are more than d, or one is none
+--     IsAsked N place t s m      the search from the touched nodes is made, unless no look of m is touched.
+--     AreAsked      the same of each path that was encoded
+--     LacksLooks made, LackLooks is      nothing was made, or it has no look;  so of each path
+--     AreDetours N place t s far      the distances to where changed lines begin and from where they end, within a
+--         limit
+--     AreFarther p q d      two distances together are more than d, or one is none
 use Rattle.std.specs.Prelude.{◌≡◌, ℕ, ◌+◌, ◌<◌, List, [], map, Contains, Option, Some, None, IfSome, IsTrue, IsFalse, ⊤}
 use Rattle.olr_spec.specs.Map.{Map}
 use Rattle.olr_route.specs.Searches.{IsSearch, limit_of}

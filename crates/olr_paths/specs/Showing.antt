@@ -1,5 +1,6 @@
 -- A list under changes, as it is read in place.
---     shown_items l      the list under its changes.        shown_item s      what is shown of one path
+--     shown_items l      the list under its changes.
+--     shown_item s      what is shown of one path
 use Rattle.std.specs.Prelude.{List, option_map}
 use Rattle.olr_paths.specs.Items.{Item, items, made_of}
 use Rattle.olr_paths.specs.Laying.{under_overlay}

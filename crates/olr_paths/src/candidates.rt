@@ -5,7 +5,7 @@ ghost use Rattle.olr_spec.specs.Map.{has};
 ghost use Rattle.olr_paths.specs.Items.{items};
 ghost use Rattle.olr_paths.specs.Touching.{nodes_of, lines_of};
 ghost use Rattle.olr_paths.specs.Searching.{AreAsked};
-ghost use Rattle.olr_paths.specs.Laying.{changes_of};
+ghost use Rattle.olr_paths.specs.Laying.{overlay_changes};
 ghost use Rattle.olr_paths.specs.Showing.{shown_items};
 ghost use Rattle.olr_paths.specs.Candidates.{Includes, Finds, AreFound, Covers, CoversAsked, FindsChanged};
 
@@ -107,8 +107,9 @@ fn put_range(from: usize, to: usize, found: &mut Vec<usize>) -> Result<(), Alloc
 fn put_changed(laid: Laid<'_>, found: &mut Vec<usize>) -> Result<(), AllocError>
     ensures kept { OnOk result (Includes found.old.items found.new.items) }
     ensures put { OnOk result
-        (FindsChanged (changes_of laid.entry.overlay.now) (items laid.entry.list.now) found.new.items) }
+        (FindsChanged (overlay_changes laid.entry.overlay.now) (items laid.entry.list.now) found.new.items) }
 {
+    // For the proof alone: no name stands twice.
     let _names = laid.list.len();
     for k in 0..laid.overlay.changes.len() {
         let Some((name, _)) = laid.overlay.changes.get_index(k) else {
@@ -156,7 +157,7 @@ fn put_listed<M: MapRead>(
     found: &mut Vec<usize>,
 ) -> Result<(), AllocError>
     ensures changed { OnOk result
-        (FindsChanged (changes_of laid.entry.overlay.now) (items laid.entry.list.now) found.new.items) }
+        (FindsChanged (overlay_changes laid.entry.overlay.now) (items laid.entry.list.now) found.new.items) }
     ensures asked { OnOk result
         (CoversAsked (M.map map.now) (M.place_in map.now) touched.now searches.now (items laid.entry.list.now)
         found.new.items) }

@@ -2,7 +2,7 @@
 ghost use Rattle.std.specs.Prelude.{◌≡◌, ℕ, Contains, IsTrue, OnOk};
 ghost use Rattle.std.specs.List.Sorted.{IsStrictlyIncreasing};
 ghost use Rattle.olr_spec.specs.Looks.{Look as LookRecord};
-ghost use Rattle.olr_paths.specs.Finding.{OwnNoted, FromNoted, Keeps, KeepsBut};
+ghost use Rattle.olr_paths.specs.Finding.{OwnNoted, FromNoted, KeepsAll, KeepsBut};
 
 use crate::published::Published;
 use olr_index::Index;
@@ -85,7 +85,7 @@ impl Finder {
 /// Gives nodes a mark. After want of memory some have it.
 fn note_nodes(index: &mut Index, mark: u64, nodes: &[NodeId]) -> Result<(), AllocError>
     ensures noted { OnOk result (OwnNoted index.new mark nodes.now) }
-    ensures grows { Keeps index.old index.new }
+    ensures grows { KeepsAll index.old index.new }
     ensures spares { KeepsBut mark index.old index.new }
 {
     for node in nodes {
@@ -97,7 +97,7 @@ fn note_nodes(index: &mut Index, mark: u64, nodes: &[NodeId]) -> Result<(), Allo
 /// Gives lines a mark. After want of memory some have it.
 fn note_lines(index: &mut Index, mark: u64, lines: &[LineId]) -> Result<(), AllocError>
     ensures noted { OnOk result (OwnNoted index.new mark lines.now) }
-    ensures grows { Keeps index.old index.new }
+    ensures grows { KeepsAll index.old index.new }
     ensures spares { KeepsBut mark index.old index.new }
 {
     for line in lines {
@@ -109,7 +109,7 @@ fn note_lines(index: &mut Index, mark: u64, lines: &[LineId]) -> Result<(), Allo
 /// Gives the nodes from which looks look a mark. After want of memory some have it.
 fn note_looks(index: &mut Index, mark: u64, looks: &[Look]) -> Result<(), AllocError>
     ensures noted { OnOk result (FromNoted index.new mark looks.now) }
-    ensures grows { Keeps index.old index.new }
+    ensures grows { KeepsAll index.old index.new }
     ensures spares { KeepsBut mark index.old index.new }
 {
     for look in looks {

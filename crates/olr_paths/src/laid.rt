@@ -1,5 +1,5 @@
 //! A list under changes, read in place.
-ghost use Rattle.olr_paths.specs.Laying.{TakesNone, TakesNone-prop, changes_of};
+ghost use Rattle.olr_paths.specs.Laying.{TakesNone, TakesNone-prop, overlay_changes};
 
 use crate::listing::Listing;
 use crate::overlay::Overlay;
@@ -11,7 +11,7 @@ use crate::showing::{Shown, show, show_under};
 pub(crate) struct Laid<'a> {
     pub(crate) list: &'a Listing,
     pub(crate) overlay: &'a Overlay,
-    ghost keeps: { TakesNone (changes_of overlay.now) } by { TakesNone-prop (changes_of overlay.now) },
+    ghost keeps: { TakesNone (overlay_changes overlay.now) } by { TakesNone-prop (overlay_changes overlay.now) },
 }
 
 impl<'a> Laid<'a> {
@@ -24,6 +24,7 @@ impl<'a> Laid<'a> {
         ensures small { IsSome result → position + 1 < 2 ^ 64 }
     {
         let count = self.list.paths.len();
+        // For the proof alone: a list has fewer than 2^64 paths.
         let _few = self.overlay.added.paths.len();
         if position < count {
             let (name, named) = self.list.paths.get_index(position)?;

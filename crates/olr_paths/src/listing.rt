@@ -2,7 +2,8 @@
 ghost use Rattle.std.specs.Prelude.{◌≡◌, IfOk, option_map};
 ghost use Rattle.std.specs.Prelude.{◌≢◌, ◌<◌, ℕ, None, length, get_or, IsFalse, IfSome, OnOk, OnErr};
 ghost use Rattle.std.specs.List.Sorted.{IsStrictlyIncreasing};
-ghost use Rattle.olr_paths.specs.Finding.{AreNoted, AreNoted-prop, AreAll, AreAll-prop, NamedNoted, Grows, Spares};
+ghost use Rattle.olr_paths.specs.Finding.{AreNoted, AreNoted-prop, ArePublished, ArePublished-prop, NamedNoted, Grows};
+ghost use Rattle.olr_paths.specs.Finding.{Spares};
 
 use crate::finder::Finder;
 use crate::published::Published;
@@ -53,7 +54,7 @@ pub struct Listing {
     ghost long: { length marks.items ≡ length paths.entries },
     ghost rise: { IsStrictlyIncreasing marks.items },
     ghost noted: { AreNoted paths.entries marks.items finder } by { AreNoted-prop paths.entries marks.items finder },
-    ghost encoded: { IsFalse held → AreAll paths.entries } by { AreAll-prop held paths.entries },
+    ghost encoded: { IsFalse held → ArePublished paths.entries } by { ArePublished-prop held paths.entries },
 }
 
 impl Listing {
@@ -148,6 +149,7 @@ impl Listing {
     pub fn drop_path(&mut self, name: &str)
         ensures { items self.new ≡ filter (λ i. not (same_name i.name name.now)) (items self.old) }
     {
+        // For the proof alone: no name stands twice.
         let _names = self.len();
         let Some(position) = self.paths.get_index_of(name) else {
             return;
@@ -201,6 +203,7 @@ impl Listing {
             (items self.old)) }
         ensures err { OnErr result (items self.new ≡ items self.old) }
     {
+        // For the proof alone: no name stands twice.
         let _names = self.len();
         let Some(position) = self.paths.get_index_of(name) else {
             return Ok(());

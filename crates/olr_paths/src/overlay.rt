@@ -5,7 +5,7 @@ ghost use Rattle.std.specs.Option.{option_to_list};
 ghost use Rattle.olr_commands.specs.State.{NamesDiffer, path_named};
 ghost use Rattle.olr_paths.specs.Items.{Item, items, all_named};
 ghost use Rattle.olr_paths.specs.Renewing.{item_of};
-ghost use Rattle.olr_paths.specs.Laying.{TakesNone, changes_in, changes_of, change_at, drops, under_change};
+ghost use Rattle.olr_paths.specs.Laying.{TakesNone, changes_in, overlay_changes, change_at, drops, under_change};
 ghost use Rattle.olr_paths.specs.Laying.{under_changes, under_overlay};
 
 use crate::listing::{Listing, NamedPath};
@@ -109,7 +109,7 @@ impl Overlay {
 
     /// Whether some path is taken away.
     pub(crate) fn takes_some(&self) -> bool
-        ensures { IsFalse result → TakesNone (changes_of self.now) }
+        ensures { IsFalse result → TakesNone (overlay_changes self.now) }
     {
         for k in 0..self.changes.len() {
             let Some((_, change)) = self.changes.get_index(k) else {
@@ -124,7 +124,7 @@ impl Overlay {
 
     /// Whether the path of that name is taken away.
     fn takes_away(&self, name: &str) -> bool
-        ensures { result ≡ drops (change_at (changes_of self.now) name.now) }
+        ensures { result ≡ drops (change_at (overlay_changes self.now) name.now) }
     {
         match self.changes.get(name) {
             Some(change) => change.is_none(),

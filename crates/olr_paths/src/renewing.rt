@@ -7,7 +7,7 @@ ghost use Rattle.olr_commands.specs.State.{NamesDiffer};
 ghost use Rattle.olr_commands.specs.Words.{entry_of};
 ghost use Rattle.olr_paths.specs.Items.{items, all_named};
 ghost use Rattle.olr_paths.specs.Changes.{IsBefore, IsConcerned, AreRemade, Reported, Follows};
-ghost use Rattle.olr_paths.specs.Laying.{TakesNone, changes_of, under_overlay};
+ghost use Rattle.olr_paths.specs.Laying.{TakesNone, overlay_changes, under_overlay};
 ghost use Rattle.olr_paths.specs.Touching.{nodes_of, lines_of, changed_of};
 ghost use Rattle.olr_paths.specs.Beginning.{Begins, AreFar, begun_in};
 ghost use Rattle.olr_paths.specs.Renewing.{items_before};
@@ -61,6 +61,7 @@ impl Listing {
         ensures err_work { OnErr result (work.new ≡ work.old) }
         ensures err_kept { OnErr result (kept.new ≡ kept.old) }
     {
+        // For the proof alone: no name stands twice.
         let _names = self.len();
         let none = Overlay::new(alloc);
         self.renew_laid(alloc, map, None, &none, touched, far, searches, work, kept)
@@ -81,7 +82,7 @@ impl Listing {
         work: &mut Work,
         kept: &mut u64,
     ) -> Result<Vec<Entry>, AllocError>
-        requires keeps { TakesNone (changes_of overlay.now) }
+        requires keeps { TakesNone (overlay_changes overlay.now) }
         requires names { NamesDiffer (all_named (under_overlay (items self.old) overlay.now)) }
         requires follows { Follows (items_before before self.old) (under_overlay (items self.old) overlay.now) }
         requires far { IsTrue far

@@ -4,7 +4,7 @@ use Rattle.std.proofs.Common.{Err, refl, sym, ap, ◌∙◌, subst}
 use Rattle.std.specs.Prelude.{is_none}
 use Rattle.olr_spec.specs.Map.{Map, IsMap, has}
 use Rattle.olr_map.specs.Changes.{room_of, all_node_puts, all_line_puts}
-use Rattle.olr_map.specs.Undos.{CanMakeAll, made_all, changes_of}
+use Rattle.olr_map.specs.Undos.{CanMakeAll, made_all, log_changes}
 use Rattle.olr_map.specs.RoadMaps.{map_of, map_before}
 use Rattle.olr_map.specs.declared.road_map.RoadMap.{RoadMap}
 use Rattle.olr_commands.specs.State.{Named, Batch_open, Change, Command, Make, Begin, Abort, step, IsContent}
@@ -22,14 +22,14 @@ use Rattle.olr_paths.specs.Touching.{nodes_of, lines_of, changed_of}
 use Rattle.olr_register.specs.Kept.{named_held, IsBatchOf}
 use Rattle.olr_register.specs.Registered.{Registered}
 use Rattle.olr_near.specs.declared.nearness.Nearness.{Nearness}
-use Rattle.olr_register.specs.Holding.{IsNoted, held_of, batch_of, IsHeld, IsRegister, IsNumbered, IsWhole}
+use Rattle.olr_register.specs.Holding.{AreEditsNoted, held_of, batch_of, IsHeld, IsRegister, IsNumbered, IsKeptRight}
 use Rattle.olr_register.specs.Answering.{Answered}
 use Rattle.olr_register.specs.Given.{AreGiven, Given}
 use Rattle.olr_register.specs.declared.batch.Batch.{Batch}
 use Rattle.olr_register.proofs.Tallies.{Tally, of_parts}
 use Rattle.olr_register.proofs.Noted.{noted_none}
 use Rattle.olr_register.proofs.Renewed.{made_if_any}
-use Rattle.olr_register.proofs.Followed.{follows_self}
+use Rattle.olr_paths.proofs.Following.{follows_self}
 use Rattle.olr_register.proofs.HoldLists.{named_twice}
 use Rattle.olr_register.proofs.HoldChanges.{content_from, content_on}
 use Rattle.olr_register.proofs.Outcomes.{answered_refused}
@@ -69,10 +69,10 @@ abort_done old new is o p b w r e g empty same =
 
 -- the numbers too
 pub abort_held : (old new : RoadMap) (is : List Item) (o p : Option Batch) (b : Batch) (near : Nearness) → o ≡ Some b
-    → p ≡ None → map_of new ≡ map_before old b.log → IsWhole old is o near → IsWhole new is p near
+    → p ≡ None → map_of new ≡ map_before old b.log → IsKeptRight old is o near → IsKeptRight new is p near
 abort_held old new is o p b near e g same h =
-    let was : IsWhole old is (Some b) near = subst (λ (q : Option Batch). IsWhole old is q near) e h in
-    subst (λ (q : Option Batch). IsWhole new is q near) (sym g) (record {
+    let was : IsKeptRight old is (Some b) near = subst (λ (q : Option Batch). IsKeptRight old is q near) e h in
+    subst (λ (q : Option Batch). IsKeptRight new is q near) (sym g) (record {
       register = record {
         content = subst (λ (M : Map). IsContent (content_on M is)) (sym same) was.register.content;
         made = subst (λ (M : Map). AreEncodings M is) (sym same) was.register.made;
@@ -123,7 +123,7 @@ open_refused old is (Some b) w e =
 
 -- a batch that holds nothing
 pub record IsEmpty (b : Batch) : Type 0 where
-  pub log : changes_of b.log ≡ []
+  pub log : log_changes b.log ≡ []
   pub paths : (js : List Item) → under_overlay js b.overlay ≡ js
   pub count : b.count ≡ 0
   pub nodes : nodes_of b.touched ≡ []
@@ -149,7 +149,7 @@ empty_batch roads is b a e =
           (given_at_first (map_of roads) is a);
     }
 
-same_before : (roads : RoadMap) (b : Batch) → changes_of b.log ≡ [] → map_before roads b.log ≡ map_of roads
+same_before : (roads : RoadMap) (b : Batch) → log_changes b.log ≡ [] → map_before roads b.log ≡ map_of roads
 same_before roads b e = ap (made_all (map_of roads)) e
 
 pub begun_held : (roads : RoadMap) (is : List Item) (o : Option Batch) (b : Batch) → is_some o ≡ false →
@@ -170,7 +170,7 @@ begun_held roads is None b none r e =
         sound = subst (λ (ks : List Item). IsContent (content_on (map_of roads) ks)) (sym (e.paths is)) r.content;
         few = let none_yet = e.count in omega arith;
         noted =
-            coe 0 1 (i. IsNoted (sym same i) (map_of roads) (sym e.nodes i) (sym e.lines i) (sym e.changed i))
+            coe 0 1 (i. AreEditsNoted (sym same i) (map_of roads) (sym e.nodes i) (sym e.lines i) (sym e.changed i))
             (noted_none (map_of roads));
         made =
             subst (λ (M : Map). AreEncodingsIfAny M (under_overlay is b.overlay)) (sym same)

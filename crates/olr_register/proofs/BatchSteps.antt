@@ -18,7 +18,7 @@ use Rattle.olr_commands.specs.declared.fault.CommandFault.{CommandFault}
 use Rattle.olr_commands.proofs.StateLemmas.{when_ok, next_ok, after_push}
 use Rattle.olr_register.specs.Kept.{Batch, IsBatchOf, Stands, content_of}
 use Rattle.olr_register.specs.Answering.{Answered}
-use Rattle.olr_register.specs.Given.{content_with, AreGiven, IsAdded, IsRefused, Told, Lacks, Given}
+use Rattle.olr_register.specs.Given.{content_with, AreGiven, IsAdded, MayTell, Told, Lacks, Given}
 use Rattle.olr_register.proofs.Tallies.{Tally}
 use Rattle.olr_register.proofs.Outcomes.{answered_uncounted, answered_refused}
 use Rattle.olr_register.proofs.BatchStates.{state, register_of, in_batch}
@@ -108,7 +108,7 @@ held_takes (Add_path name path) xs = refl
 held_takes (Set_path name path) xs = refl
 held_takes (Drop_path name) xs = refl
 
-is_refusal : (c : Content) (b : Batch) (x : Change) (f : Fault) → IsRefused (content_with b x) f → (xs : List Change) →
+is_refusal : (c : Content) (b : Batch) (x : Change) (f : Fault) → MayTell (content_with b x) f → (xs : List Change) →
     IsBatchOf c b xs → IsRefusal (state c (Some xs)) (Make x) f
 is_refusal c b x f (Told e) xs i = replies.Told (step_given c b xs x i ∙ ap (into_batch c (xs ++ x ∷ [])) e)
 is_refusal c b x f (Lacks e first) xs i =

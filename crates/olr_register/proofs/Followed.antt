@@ -10,27 +10,7 @@ use Rattle.olr_commands.specs.State.{same_name, path_named, NamesDiffer}
 use Rattle.olr_commands.proofs.NameLemmas.{not_named, flipped}
 use Rattle.olr_paths.specs.Items.{Made, Item, AreEncodings, named, all_named, made_in, answer_in}
 use Rattle.olr_paths.specs.Changes.{Reported, Follows, set_item}
-
-abbrev answer_made : Option Made → Option Answer
-answer_made o = option_map (λ m. m.answer) o
-
--- one path more in front, whose name is none of these
-follows_behind : (i : Item) (before js : List Item) → is_some (path_named (all_named js) i.name) ≡ false →
-    Follows before js → Follows (i ∷ before) js
-follows_behind i before [] h f = tt
-follows_behind i before (j ∷ js) h f =
-    let p = not_named (named j) (all_named js) i.name h in
-    let same : answer_in (i ∷ before) j.name ≡ answer_in before j.name =
-    ap (λ (b : Bool). answer_made (if b then i.made else made_in before j.name)) (flipped j.name i.name p.0) in
-    (elim f.0 [ inl e ↦ inl e | inr e ↦ inr (same ∙ e) ], follows_behind i before js p.1 f.1)
-
--- a list follows itself
-pub follows_self : (is : List Item) → NamesDiffer (all_named is) → Follows is is
-follows_self [] d = tt
-follows_self (i ∷ is) d = (
-  inr (ap (λ (b : Bool). answer_made (if b then i.made else made_in is i.name)) ((bytes_decides i.name i.name).1 refl)),
-  follows_behind i is is d.0 (follows_self is d.1),
-)
+use Rattle.olr_paths.proofs.Following.{answer_made}
 
 pub follows_add : (before is : List Item) (name : List ℕ) (path : Path) → Follows before is →
     Follows before (is ++ record { name = name; path = path; made = None } ∷ [])

@@ -24,6 +24,7 @@ use Rattle.olr_paths.specs.Changes.{Follows, set_item}
 use Rattle.olr_paths.specs.Beginning.{Begins}
 use Rattle.olr_paths.specs.Laying.{under_overlay}
 use Rattle.olr_paths.specs.declared.overlay.Overlay.{Overlay}
+use Rattle.olr_paths.proofs.Overlaying.{has_name}
 use Rattle.olr_register.specs.Kept as kept
 use Rattle.olr_register.specs.Kept.{content_of}
 use Rattle.olr_register.specs.Holding.{held_of, IsHeld}
@@ -120,9 +121,6 @@ given_held_path M is js ks n ns ys x r room e same no_nodes no_lines given told 
     }
 
 -- ---- the changes of paths
-
-abbrev pub has_name : List Item → List ℕ → Bool
-has_name is name = is_some (path_named (all_named is) name)
 
 pub add_ok : (M : Map) (is : List Item) (name : List ℕ) (path : Path) → has_name is name ≡ false →
     is_path path.lines ≡ true

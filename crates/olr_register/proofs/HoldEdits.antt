@@ -18,7 +18,7 @@ use Rattle.olr_paths.specs.Touching.{nodes_of, lines_of, changed_of}
 use Rattle.olr_paths.specs.declared.touched.Touched.{Touched}
 use Rattle.olr_register.specs.Kept as kept
 use Rattle.olr_register.specs.Kept.{content_of}
-use Rattle.olr_register.specs.Holding.{IsNoted, batch_of, IsHeld}
+use Rattle.olr_register.specs.Holding.{AreEditsNoted, batch_of, IsHeld}
 use Rattle.olr_register.specs.Given.{Given}
 use Rattle.olr_register.specs.declared.batch.Batch.{Batch}
 use Rattle.olr_register.proofs.Noted.{noted_more}
@@ -76,7 +76,7 @@ held_edit old new before b log t e room placed undo ok same_before nodes lines w
       sound = record { map = later; paths = h.sound.paths; names = h.sound.names };
       few = omega arith;
       noted =
-          subst (λ (M : Map). IsNoted M (map_of new) (nodes_of t) (lines_of t) (changed_of t)) (sym same_before)
+          subst (λ (M : Map). AreEditsNoted M (map_of new) (nodes_of t) (lines_of t) (changed_of t)) (sym same_before)
           (noted_more (map_before old b.log) (map_of old) (map_of new) e (nodes_of b.touched) (lines_of b.touched)
           (nodes_of t) (lines_of t) (changed_of b.touched) (changed_of t) h.noted ok nodes lines with_change);
       made = subst (λ (M : Map). AreEncodingsIfAny M (under_overlay before b.overlay)) (sym same_before) h.made;

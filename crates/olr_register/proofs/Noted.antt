@@ -15,7 +15,7 @@ use Rattle.olr_spec.proofs.ChangeLemmas.{edit_differs, none_differs, differences
 use Rattle.olr_commands.specs.State.{ArePaths}
 use Rattle.olr_paths.specs.Items.{Item, AreEncodingsIfAny, all_named}
 use Rattle.olr_paths.specs.Changes.{IsBefore}
-use Rattle.olr_register.specs.Holding.{IsNoted}
+use Rattle.olr_register.specs.Holding.{AreEditsNoted}
 
 -- ---- where changed lines begin
 
@@ -41,23 +41,24 @@ starts_of M (Drop_line x) c k = starts_of_one (start M x ∷ end M x ∷ []) _ c
 
 -- ---- no edit, and one more
 
-pub noted_none : (M : Map) → IsNoted M M [] [] []
+pub noted_none : (M : Map) → AreEditsNoted M M [] [] []
 noted_none M = record { difference = none_differs M; starts = λ c k. absurd (none_contained c k) }
 
 -- what the lists hold is what counts
 held_by : (ms ns us : List ℕ) (v : ℕ) → has ms v ≡ (has ns v || has us v) → has ms v ≡ false → has (ns ++ us) v ≡ false
 held_by ms ns us v e off = list_any-append (λ y. y == v) ns us ∙ sym e ∙ off
 
-pub noted_more : (L M N : Map) (e : Edit) (ns xs ms ys : List ℕ) (cs ds : List ChangedLine) → IsNoted L M ns xs cs →
+pub noted_more : (L M N : Map) (e : Edit) (ns xs ms ys : List ℕ) (cs ds : List ChangedLine) →
+    AreEditsNoted L M ns xs cs →
     edited M e ≡ Ok N
     → ((v : ℕ) → has ms v ≡ (has ns v || has (touched_nodes M e) v)) →
     ((x : ℕ) → has ys x ≡ (has xs x || has (touched_lines e) x)) → ds ≡ cs ++ changes_of M e
-    → IsNoted L N ms ys ds
+    → AreEditsNoted L N ms ys ds
 noted_more L M N e ns xs ms ys cs ds was ok nodes lines changes =
     let all =
     differences_add L M N ns (touched_nodes M e) xs (touched_lines e) cs (changes_of M e) was.difference
     (edit_differs M N e ok) in
-    subst (IsNoted L N ms ys) (sym changes) (record {
+    subst (AreEditsNoted L N ms ys) (sym changes) (record {
       difference = record {
         nodes = λ v off. all.nodes v (held_by ms ns (touched_nodes M e) v (nodes v) off);
         lines = λ x off. all.lines x (held_by ys xs (touched_lines e) x (lines x) off);
@@ -73,7 +74,7 @@ noted_more L M N e ns xs ms ys cs ds was ok nodes lines changes =
 -- one edit alone
 pub noted_edit : (M N : Map) (e : Edit) (ns xs : List ℕ) (cs : List ChangedLine) → edited M e ≡ Ok N
     → ((v : ℕ) → has ns v ≡ has (touched_nodes M e) v) → ((x : ℕ) → has xs x ≡ has (touched_lines e) x) →
-    cs ≡ changes_of M e → IsNoted M N ns xs cs
+    cs ≡ changes_of M e → AreEditsNoted M N ns xs cs
 noted_edit M N e ns xs cs ok nodes lines changes =
     noted_more M M N e [] [] ns xs [] cs (noted_none M) ok nodes lines changes
 
@@ -83,7 +84,7 @@ are_paths : (is : List Item) → ArePaths (all_named is) → AllByRecursion (λ 
 are_paths [] p = tt
 are_paths (i ∷ is) p = (p.0, are_paths is p.1)
 
-pub is_before : (M N : Map) (T X : List ℕ) (C : List ChangedLine) (is : List Item) → IsNoted M N T X C → IsMap M →
+pub is_before : (M N : Map) (T X : List ℕ) (C : List ChangedLine) (is : List Item) → AreEditsNoted M N T X C → IsMap M →
     ArePaths (all_named is) → AreEncodingsIfAny M is → IsBefore M N T X C is
 is_before M N T X C is noted sound paths made =
     record {

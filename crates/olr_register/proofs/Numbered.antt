@@ -6,7 +6,7 @@ use Rattle.olr_spec.specs.Extension.{Path, limit}
 use Rattle.olr_spec.specs.Detours.{Near}
 use Rattle.olr_spec.proofs.ChangeLemmas.{edit_differs}
 use Rattle.olr_map.specs.RoadMaps.{map_of, map_before}
-use Rattle.olr_map.specs.Undos.{made_all, changes_of}
+use Rattle.olr_map.specs.Undos.{made_all, log_changes}
 use Rattle.olr_map.specs.declared.road_map.RoadMap.{RoadMap}
 use Rattle.olr_near.specs.Numbers.{number_of, IsRight, IsSource, SameBut}
 use Rattle.olr_near.specs.declared.nearness.Nearness.{Nearness}
@@ -55,7 +55,7 @@ pub numbered_fewer : (M : Map) (is js : List Item) (near : Nearness) → ((v : �
 numbered_fewer M is js near few h = record { right = h.right; sources = λ v b. h.sources v (few v b) }
 
 pub numbered_begun : (roads : RoadMap) (is : List Item) (o : Option Batch) (b : Batch) (near : Nearness) →
-    is_some o ≡ false → changes_of b.log ≡ [] → IsNumbered (map_kept roads o) is near →
+    is_some o ≡ false → log_changes b.log ≡ [] → IsNumbered (map_kept roads o) is near →
     IsNumbered (map_kept roads (Some b)) is near
 numbered_begun roads is (Some d) b near none e h = absurd cc
 numbered_begun roads is None b near none e h =

@@ -15,7 +15,8 @@ use Rattle.olr_paths.specs.Changes.{AreRemade, Reported, Follows, set_item}
 use Rattle.olr_register.proofs.Renewed.{remade_made}
 use Rattle.olr_register.proofs.Replies.{changes_told}
 use Rattle.olr_register.proofs.Listed.{made_add, made_set, made_drop}
-use Rattle.olr_register.proofs.Followed.{follows_self, follows_same, follows_drop, follows_untold}
+use Rattle.olr_paths.proofs.Following.{follows_self}
+use Rattle.olr_register.proofs.Followed.{follows_same, follows_drop, follows_untold}
 
 -- ---- added
 

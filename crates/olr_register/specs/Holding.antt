@@ -1,8 +1,8 @@
 -- What a register keeps, and what is true of it.
---     IsNoted M N T X C      what is noted of edits that lead from M to N
+--     AreEditsNoted M N T X C      what is noted of edits that lead from M to N
 --     IsHeld, IsRegister      what is true of an open batch, and of map, list and batch
---     IsNumbered M is near the numbers are right on the map, and each look of the list begins at a source. IsWhole what
---     is true of the whole
+--     IsNumbered M is near      the numbers are right on the map, and each look of the list begins at a source.
+--     IsKeptRight      what is true of the whole
 use Rattle.std.specs.Prelude.{ℕ, ◌≤◌, List, map, Contains, Option, Some, None, is_none, IfSome, IsTrue}
 use Rattle.olr_spec.specs.Map.{Map, has}
 use Rattle.olr_spec.specs.Detours.{ChangedLine, Difference}
@@ -53,7 +53,7 @@ kept_of roads is batch =
 -- ---- what is true
 
 -- what is noted of edits that lead from M to N: no other difference, and each changed line begins at a touched node
-pub record IsNoted (M N : Map) (T X : List ℕ) (C : List ChangedLine) : Type 0 where
+pub record AreEditsNoted (M N : Map) (T X : List ℕ) (C : List ChangedLine) : Type 0 where
   pub difference : Difference T X C M N
   pub starts : (c : ChangedLine) → Contains C c → IsTrue (has T c.from)
 
@@ -61,7 +61,7 @@ pub record IsHeld (roads : RoadMap) (before : List Item) (b : Batch) : Type 0 wh
   pub undo : CanUndoAll roads b.log
   pub sound : IsContent (record { map = map_of roads; paths = all_named (under_overlay before b.overlay) })
   pub few : b.count ≤ full
-  pub noted : IsNoted (map_before roads b.log) (map_of roads) (nodes_of b.touched) (lines_of b.touched)
+  pub noted : AreEditsNoted (map_before roads b.log) (map_of roads) (nodes_of b.touched) (lines_of b.touched)
       (changed_of b.touched)
   pub made : AreEncodingsIfAny (map_before roads b.log) (under_overlay before b.overlay)
   pub follows : Follows before (under_overlay before b.overlay)
@@ -76,6 +76,6 @@ pub record IsNumbered (M : Map) (is : List Item) (near : Nearness) : Type 0 wher
   pub right : IsRight M near
   pub sources : (v : ℕ) → Begins is v → IsSource near v
 
-pub record IsWhole (roads : RoadMap) (is : List Item) (batch : Option Batch) (near : Nearness) : Type 0 where
+pub record IsKeptRight (roads : RoadMap) (is : List Item) (batch : Option Batch) (near : Nearness) : Type 0 where
   pub register : IsRegister roads is batch
   pub numbered : IsNumbered (map_kept roads batch) is near

@@ -1,9 +1,12 @@
 -- A register as its callers see it, and what its calls promise of whole commands.
---     Registered what is held of the state, and the counts: the work, and how many of the counted encodings were spared
---     PublishedWhole c name made what is published under a name, with its own nodes and looks HaveEncodings M ps xs the
---     names of the paths, each with an encoding of it on the map, in order. AllPublished c xs so of all paths of a
---     content Applied old c o new from each state in which it stood, the command leads with this outcome to one in
---     which it stands Counted old c new by how much an accepted command raises the count of encodings
+--     Registered      what is held of the state, and the counts: the work, and how many of the counted encodings were
+--         spared
+--     PublishedWhole c name made      what is published under a name, with its own nodes and looks
+--     HaveEncodings M ps xs      the names of the paths, each with an encoding of it on the map, in order.
+--     AllPublished c xs      so of all paths of a content
+--     Applied old c o new      from each state in which it stood, the command leads with this outcome to one in which
+--         it stands
+--     Counted old c new      by how much an accepted command raises the count of encodings
 use Rattle.std.specs.Prelude.{◌≡◌, ℕ, ◌+◌, ◌<◌, ◌^◌, List, Option, Some, None, [], ◌∷◌, MatchOption, IsSomeAnd}
 use Rattle.std.specs.Coded.{Coded, code_by, coded_ℕ, coded×}
 use Rattle.std.proofs.Common.{refl}

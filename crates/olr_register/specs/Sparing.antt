@@ -1,7 +1,9 @@
 -- How the counts of a register go on.
---     encodes open c the command encodes: outside of batches an edit and a path that is new or another, of an open
---     batch its commit Spares old c new of the encodings that an accepted command counts: no more are spared NoneFalls
---     old new no count is less than before SameCounts old new each is as before
+--     encodes open c      the command encodes: outside of batches an edit and a path that is new or another, of an open
+--         batch its commit
+--     SparesAtMost old c new      of the encodings that an accepted command counts: no more are spared
+--     NoneFalls old new      no count is less than before
+--     SameCounts old new      each is as before
 use Rattle.std.specs.Prelude.{◌≡◌, ℕ, ◌+◌, ◌≤◌, Bool, true, false}
 use Rattle.olr_commands.specs.State.{State, On_map, Add_path, Set_path, Command, Make, Commit}
 use Rattle.olr_commands.specs.Counts.{Raises}
@@ -16,8 +18,8 @@ encodes true (Commit count) = true
 encodes _ _ = false
 
 -- by at most as many as the command counts
-abbrev pub Spares : Registered → Command → Registered → Type 0
-Spares old c new =
+abbrev pub SparesAtMost : Registered → Command → Registered → Type 0
+SparesAtMost old c new =
     (s t : State) → Stands old.kept s → Stands new.kept t → (n : ℕ) × Raises s c t n × (new.spared ≤ old.spared + n)
 
 pub record NoneFalls (old new : Registered) : Type 0 where

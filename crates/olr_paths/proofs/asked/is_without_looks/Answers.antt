@@ -1,5 +1,5 @@
 use Rattle.olr_paths.specs.Items.{items}
-use Rattle.olr_paths.specs.Laying.{changes_of}
+use Rattle.olr_paths.specs.Laying.{overlay_changes}
 use Rattle.olr_paths.proofs.Standing.{lack_by}
 use Rattle.olr_paths.proofs.Covering.{lack_laid}
 use Rattle.olr_paths.proofs.asked.is_without_looks.Goals as goal
@@ -9,6 +9,6 @@ returns-then-is_empty c = λ yes.
     let l = c.args.laid in
     let ls = l.list.now in
     let ns = l.overlay.now.added in
-    lack_laid (changes_of l.overlay.now) (items ls) (items ns) l.keeps
+    lack_laid (overlay_changes l.overlay.now) (items ls) (items ns) l.keeps
     (lack_by ls.paths.entries ls.marks.items ls.finder ls.noted (c.is_empty.ensures c.if-is_empty.true))
     (lack_by ns.paths.entries ns.marks.items ns.finder ns.noted (c.is_empty-then-is_empty.ensures yes))

@@ -2,7 +2,7 @@ use Rattle.std.proofs.Common.{◌≡◌, ◌∙◌, sym, ℕ, length, arith}
 use Rattle.std.proofs.lemmas.List.{length-map}
 use Rattle.std.proofs.lemmas.List.Sorted.{IsNonDecreasingBy-from_sort}
 use Rattle.olr_paths.specs.Items.{items}
-use Rattle.olr_paths.specs.Laying.{changes_of}
+use Rattle.olr_paths.specs.Laying.{overlay_changes}
 use Rattle.olr_paths.specs.Showing.{shown_items}
 use Rattle.olr_paths.specs.Touching.{nodes_of, lines_of}
 use Rattle.olr_paths.proofs.NamedEntries.{item_of}
@@ -20,7 +20,7 @@ returns-clause-covers g c =
     let t = c.args.touched.now in
     let s = c.args.searches.now in
     let l = c.args.laid in
-    let cs = changes_of l.overlay.now in
+    let cs = overlay_changes l.overlay.now in
     let is = items l.list.now in
     let ys = items l.overlay.now.added in
     let one = c.put_listed.new.found.items in

@@ -1,6 +1,6 @@
 use Rattle.std.proofs.Common.{◌≡◌, true, ℕ, All, refl, sym, subst}
 use Rattle.std.proofs.lemmas.List.Elements.{All-contains}
-use Rattle.olr_route.specs.Searches.{IsNear}
+use Rattle.olr_route.specs.Searches.{LiesWithin}
 use Rattle.olr_route.specs.declared.found.Reached.{Reached}
 use Rattle.olr_route.specs.declared.distances.Direction.TheVariants.{Against}
 use Rattle.olr_paths.specs.Searching.{sources}
@@ -86,4 +86,4 @@ returns g c =
     (λ close search settled v near.
     All-contains (λ (r : Reached). Finds ms f.from r.node four) rs (record { node = v; place = place v }) all
     (c.reached-reached.ensures.near N place Against (sources t) v search
-    (subst (λ (m : ℕ). IsNear N Against (sources t) m v) (sym settled) near)))
+    (subst (λ (m : ℕ). LiesWithin N Against (sources t) m v) (sym settled) near)))

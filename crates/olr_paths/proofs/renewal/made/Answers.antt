@@ -8,7 +8,7 @@ use Rattle.olr_paths.specs.Renewing.{puts_of}
 use Rattle.olr_paths.specs.declared.listing.NamedPath.{NamedPath}
 use Rattle.olr_paths.specs.declared.renewal.Renewal.{Renewal}
 use Rattle.olr_paths.specs.declared.renewal.Counted.{Counted}
-use Rattle.olr_paths.proofs.NamedEntries.{none_from_absent}
+use Rattle.olr_spec.proofs.OptionLemmas.{none_of}
 use Rattle.olr_paths.proofs.Covering.{past_end}
 use Rattle.olr_paths.proofs.AskedLemmas.{asked_again}
 use Rattle.olr_paths.proofs.Through.{whole, so_far_all}
@@ -31,7 +31,7 @@ returns-then-is_none g c =
     let yes : c.is_none.result ≡ true = cc in
     let none : length is ≡ 0 = let le =
     past_end is 0 (c.at.ensures.shown
-    ∙ ap (option_map shown_item) (none_from_absent c.at.result c.if-is_none.ensures)) in omega arith in
+    ∙ ap (option_map shown_item) (none_of c.at.result c.if-is_none.ensures)) in omega arith in
     let r : Renewal = record { fresh = c.new.result; entries = c.new-then-is_none.result } in
     let counted : Counted = record { work = c.args.work.now; kept = c.args.kept.now } in
     let w =

@@ -5,7 +5,7 @@ use Rattle.std.proofs.lemmas.Option.{slice_get-map}
 use Rattle.std.specs.Prelude.{option_map}
 use Rattle.olr_paths.specs.Items.{Item, items}
 use Rattle.olr_paths.specs.Renewing.{item_of as under}
-use Rattle.olr_paths.specs.Laying.{changes_of, change_at, under_change}
+use Rattle.olr_paths.specs.Laying.{overlay_changes, change_at, under_change}
 use Rattle.olr_paths.specs.Showing.{shown_items, shown_item}
 use Rattle.olr_paths.specs.declared.laid.Laid.{Laid}
 use Rattle.olr_paths.specs.declared.listing.NamedPath.{NamedPath}
@@ -16,7 +16,7 @@ use Rattle.olr_paths.proofs.laid.Laid.at.Goals as goal
 pub returns-then-position-count-clause-shown : goal.returns-then-position-count-clause-shown
 returns-then-position-count-clause-shown c =
     let l = c.args.self in
-    let cs = changes_of l.overlay.now in
+    let cs = overlay_changes l.overlay.now in
     let e : String Global × NamedPath = (c.in_ok-name.name.now, c.in_ok-name.named.now) in
     let i : Item = item_of e in
     let at = item_at l.list.now.paths.entries c.args.position e (sym c.in_ok-name.ensures.entry) in
@@ -32,7 +32,7 @@ behind : (l : Laid) (k n : ℕ) → n ≡ length l.list.now.paths.entries → n 
     slice_get (shown_items l) k ≡ slice_get (items l.overlay.now.added) (k - n)
 behind l k n long le =
     let all : length (items l.list.now) ≡ n = length-map l.list.now.paths.entries item_of ∙ sym long in
-    laid_behind (changes_of l.overlay.now) (items l.list.now) (items l.overlay.now.added) l.keeps k (k - n)
+    laid_behind (overlay_changes l.overlay.now) (items l.list.now) (items l.overlay.now.added) l.keeps k (k - n)
     (omega arith)
 
 pub returns-in_err-name-2-clause-shown : goal.returns-in_err-name-2-clause-shown

@@ -2,7 +2,7 @@ use Rattle.std.proofs.Common.{◌≡◌, ◌<◌, ◌++◌, ◌∷◌, [], ◌�
 use Rattle.std.specs.List.Sorted.{IsStrictlyIncreasing}
 use Rattle.std.specs.String.{string_eq}
 use Rattle.indexmap.specs.IndexMap.{insert_entry}
-use Rattle.olr_paths.specs.Finding.{AreAll}
+use Rattle.olr_paths.specs.Finding.{ArePublished}
 use Rattle.olr_paths.proofs.NamedEntries.{Entries, put_items, items_of}
 use Rattle.olr_paths.proofs.Marking.{insert_last, noted_spared, long_more, rise_more, noted_more, all_more_unless}
 use Rattle.olr_paths.proofs.Marking.{moved_noted}
@@ -33,7 +33,7 @@ invariant_of-self-in-Break-branch-4 c =
           (noted_spared es ms c.args.self.now.finder c.note_named.new.finder mark
           (λ k lt is. let low = below k (omega (arith, lt, long)) in absurd (omega (arith, low, is)))
           c.note_named.ensures.spares c.args.self.now.noted);
-      encoded = λ off. subst (λ (ys : Entries). AreAll ys) (sym same) (c.args.self.now.encoded off);
+      encoded = λ off. subst (λ (ys : Entries). ArePublished ys) (sym same) (c.args.self.now.encoded off);
     }
 
 pub invariant_of-self-2 : goal.invariant_of-self-2

@@ -3,7 +3,8 @@ use Rattle.std.specs.Map.{lookup}
 use Rattle.std.proofs.lemmas.List.{get_or_default}
 use Rattle.olr_paths.specs.Finding.{NamedNoted, Spares}
 use Rattle.olr_paths.specs.declared.listing.NamedPath.{NamedPath}
-use Rattle.olr_paths.proofs.NamedEntries.{asks, set_items, set_absent, items_of, names_differ, none_from_absent}
+use Rattle.olr_paths.proofs.NamedEntries.{asks, set_items, set_absent, items_of, names_differ}
+use Rattle.olr_spec.proofs.OptionLemmas.{none_of}
 use Rattle.olr_paths.proofs.Marking.{First, first_at, noted_but, long_other, noted_other, all_other}
 use Rattle.olr_paths.proofs.listing.Listing.put_other.Goals as goal
 
@@ -11,7 +12,7 @@ pub returns-in_default-clause-ok : goal.returns-in_default-clause-ok
 returns-in_default-clause-ok c =
     let es = c.args.self.now.paths.entries in
     set_absent es c.args.name.now c.args.named
-    (none_from_absent (lookup (asks c.args.name.now) es) (sym c.in_default.ensures.found))
+    (none_of (lookup (asks c.args.name.now) es) (sym c.in_default.ensures.found))
 
 pub invariant_of-self-in-Break-1 : goal.invariant_of-self-in-Break-1
 invariant_of-self-in-Break-1 c =

@@ -7,8 +7,8 @@ use Rattle.olr_paths.specs.Items.{Item, items, all_named}
 use Rattle.olr_paths.specs.Changes.{IsBefore, IsConcerned, AreRemade, Follows}
 use Rattle.olr_paths.specs.Beginning.{Begins, AreFar, begun_in}
 use Rattle.olr_paths.specs.Touching.{nodes_of, lines_of, changed_of}
-use Rattle.olr_paths.proofs.Through.{follows_itself}
-use Rattle.olr_paths.specs.Laying.{changes_of}
+use Rattle.olr_paths.proofs.Following.{follows_self}
+use Rattle.olr_paths.specs.Laying.{overlay_changes}
 use Rattle.olr_paths.proofs.Changed.{none_keeps}
 use Rattle.olr_paths.proofs.listing.Listing.renew.Goals as goal
 
@@ -17,9 +17,9 @@ renew_laid-requires g c =
     let is = items c.args.self.now in
     let e = c.new-none.ensures is in
     record {
-      keeps = none_keeps (changes_of c.new-none.result) (items c.new-none.result.added) c.new-none.ensures;
+      keeps = none_keeps (overlay_changes c.new-none.result) (items c.new-none.result.added) c.new-none.ensures;
       names = subst (λ (js : List Item). NamesDiffer (all_named js)) (sym e) c.len-names.ensures.names;
-      follows = subst (Follows is) (sym e) (follows_itself is c.len-names.ensures.names);
+      follows = subst (Follows is) (sym e) (follows_self is c.len-names.ensures.names);
       far = λ on. subst (AreFar (g.M.MapRead.map c.args.map.now) (nodes_of c.args.touched.now)) (sym e) (c.requires on);
     }
 

@@ -8,7 +8,7 @@ use Rattle.olr_paths.specs.Items.{Item, items, all_named}
 use Rattle.olr_paths.specs.Beginning.{Begins}
 use Rattle.olr_paths.specs.Changes.{Reported, IsBefore, AreRemade}
 use Rattle.olr_paths.specs.Touching.{nodes_of, lines_of, changed_of}
-use Rattle.olr_paths.specs.Laying.{TakesNone, changes_of, under_overlay}
+use Rattle.olr_paths.specs.Laying.{TakesNone, overlay_changes, under_overlay}
 use Rattle.olr_paths.specs.Renewing.{all_put, puts_of, after_renewal}
 use Rattle.olr_paths.specs.declared.listing.Listing.{Listing}
 use Rattle.olr_paths.specs.declared.overlay.Overlay.{Overlay}
@@ -20,12 +20,13 @@ use Rattle.olr_paths.proofs.listing.Listing.renew_laid.Goals as goal
 
 -- what was made, put on the list with the new ones behind
 module _ (before : List Item) (is : List Item) (o : Overlay) (r : Renewal) (new : List Item)
-    (keeps : TakesNone (changes_of o))
+    (keeps : TakesNone (overlay_changes o))
     (told : Reported before (after_renewal r (under_overlay is o)) (map entry_of r.entries.items))
     (put : new ≡ all_put (is ++ items o.added) (puts_of r.fresh.items)) where
   renewed : new ≡ after_renewal r (under_overlay is o)
   renewed =
-      put ∙ put_on_laid (changes_of o) before is (items o.added) (puts_of r.fresh.items) (map entry_of r.entries.items)
+      put ∙ put_on_laid (overlay_changes o) before is (items o.added) (puts_of r.fresh.items)
+      (map entry_of r.entries.items)
       keeps told
 
 before_is : (o : Option (Bor Listing)) (b : Bor Listing) →
@@ -76,7 +77,7 @@ returns-clause-reported g c =
 
 pub put_in-requires : goal.put_in-requires
 put_in-requires g c =
-    grown_differ (changes_of c.args.overlay.now) (items c.args.self.now) (items c.args.overlay.now.added)
+    grown_differ (overlay_changes c.args.overlay.now) (items c.args.self.now) (items c.args.overlay.now.added)
     c.requires.keeps c.requires.names
 
 pub invariant_of-self : goal.invariant_of-self

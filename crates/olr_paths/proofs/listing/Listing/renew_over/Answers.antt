@@ -6,7 +6,7 @@ use Rattle.olr_paths.specs.Items.{Item, items, all_named}
 use Rattle.olr_paths.specs.Changes.{IsBefore, IsConcerned, AreRemade, Follows}
 use Rattle.olr_paths.specs.Beginning.{Begins, AreFar, begun_in}
 use Rattle.olr_paths.specs.Touching.{nodes_of, lines_of, changed_of}
-use Rattle.olr_paths.specs.Laying.{changes_of}
+use Rattle.olr_paths.specs.Laying.{overlay_changes}
 use Rattle.olr_paths.proofs.Changed.{none_keeps}
 use Rattle.olr_paths.proofs.listing.Listing.renew_over.Goals as goal
 
@@ -15,7 +15,7 @@ pub renew_laid-requires-2 : goal.renew_laid-requires-2
 renew_laid-requires-2 g c =
     let e = c.new-none.ensures (items c.in_ok-list.list) ∙ c.in_ok-list.ensures in
     record {
-      keeps = none_keeps (changes_of c.new-none.result) (items c.new-none.result.added) c.new-none.ensures;
+      keeps = none_keeps (overlay_changes c.new-none.result) (items c.new-none.result.added) c.new-none.ensures;
       names = subst (λ (js : List Item). NamesDiffer (all_named js)) (sym e) c.requires.names;
       follows = subst (Follows (items c.args.self.now)) (sym e) c.requires.follows;
       far = λ on. subst (AreFar (g.M.MapRead.map c.args.map.now) (nodes_of c.args.touched.now)) (sym e)

@@ -1,6 +1,6 @@
 use Rattle.std.proofs.Common.{◌++◌, ◌∙◌, List, None, refl, ap, sym}
 use Rattle.olr_paths.specs.Items.{Item, items}
-use Rattle.olr_paths.specs.Laying.{changes_in, changes_of, under_changes}
+use Rattle.olr_paths.specs.Laying.{changes_in, overlay_changes, under_changes}
 use Rattle.olr_paths.proofs.Overlaying.{drop_behind, drop_before, laid_drop, puts_one}
 use Rattle.olr_paths.proofs.overlay.Overlay.drop_path.Goals as goal
 
@@ -8,8 +8,8 @@ pub returns-then-has-clause-ok : goal.returns-then-has-clause-ok
 returns-then-has-clause-ok c =
     λ is d.
     let s = c.args.self.now in
-    ap (λ (js : List Item). under_changes (changes_of s) is ++ js) c.drop_path.ensures
-    ∙ drop_behind c.args.name.now (under_changes (changes_of s) is) (items s.added) d (sym c.if-has.ensures)
+    ap (λ (js : List Item). under_changes (overlay_changes s) is ++ js) c.drop_path.ensures
+    ∙ drop_behind c.args.name.now (under_changes (overlay_changes s) is) (items s.added) d (sym c.if-has.ensures)
 
 pub returns-clause-ok : goal.returns-clause-ok
 returns-clause-ok c =
@@ -20,5 +20,5 @@ returns-clause-ok c =
     let puts =
     puts_one s.changes.entries c.insert.new.self.entries c.in_ok-from_str.field-0 None name None
     c.in_ok-insert.ensures.entries c.in_ok-from_str.ensures.ok refl in
-    drop_before name (under_changes (changes_of s) is) (items s.added) (under_changes ds is)
-    (laid_drop (changes_of s) ds name is puts) (sym c.if-has.ensures)
+    drop_before name (under_changes (overlay_changes s) is) (items s.added) (under_changes ds is)
+    (laid_drop (overlay_changes s) ds name is puts) (sym c.if-has.ensures)

@@ -1,10 +1,10 @@
 use Rattle.std.specs.Prelude.{string_bytes}
 use Rattle.olr_paths.specs.Items.{items}
-use Rattle.olr_paths.specs.Laying.{changes_of, under_changes}
+use Rattle.olr_paths.specs.Laying.{overlay_changes, under_changes}
 use Rattle.olr_paths.proofs.Overlaying.{second_absent}
 use Rattle.olr_paths.proofs.overlay.Overlay.hold.Goals as goal
 
 pub hold-requires : goal.hold-requires
 hold-requires c =
-    second_absent (under_changes (changes_of c.args.self.now) c.requires.0) (items c.args.self.now.added)
+    second_absent (under_changes (overlay_changes c.args.self.now) c.requires.0) (items c.args.self.now.added)
     (string_bytes c.args.name) c.requires.1

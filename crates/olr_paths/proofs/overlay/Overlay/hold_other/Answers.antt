@@ -1,13 +1,13 @@
 use Rattle.std.proofs.Common.{◌≡◌, Some, false, ap, sym}
 use Rattle.olr_paths.specs.Items.{items}
-use Rattle.olr_paths.specs.Laying.{changes_in, changes_of, under_changes}
+use Rattle.olr_paths.specs.Laying.{changes_in, overlay_changes, under_changes}
 use Rattle.olr_paths.proofs.Overlaying.{has_name, set_if_ok, set_before, laid_set, not_dropped, puts_one}
 use Rattle.olr_paths.proofs.overlay.Overlay.hold_other.Goals as goal
 
 pub returns-then-has-clause-ok : goal.returns-then-has-clause-ok
 returns-then-has-clause-ok c =
     let s = c.args.self.now in
-    set_if_ok (changes_of s) (items s.added) (items c.hold_other.new.self) c.args.name.now c.args.path
+    set_if_ok (overlay_changes s) (items s.added) (items c.hold_other.new.self) c.args.name.now c.args.path
     c.hold_other.result c.hold_other.ensures.ok (sym c.if-has.ensures)
 
 pub returns-clause-ok : goal.returns-clause-ok
@@ -23,5 +23,5 @@ returns-clause-ok c =
     puts_one s.changes.entries c.insert.new.self.entries c.in_ok-from_str.field-0 (Some c.in_ok-other.other) name
     (Some path) c.in_ok-insert.ensures.entries c.in_ok-from_str.ensures.ok
     (ap (λ p. Some p) c.in_ok-other.ensures.ok) in
-    set_before name path (under_changes (changes_of s) is) ys (under_changes ds is)
-    (laid_set (changes_of s) ds name path is puts (not_dropped (changes_of s) is ys name there free)) free
+    set_before name path (under_changes (overlay_changes s) is) ys (under_changes ds is)
+    (laid_set (overlay_changes s) ds name path is puts (not_dropped (overlay_changes s) is ys name there free)) free

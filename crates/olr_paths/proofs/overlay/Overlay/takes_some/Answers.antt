@@ -4,7 +4,8 @@ use Rattle.std.proofs.lemmas.List.{take_all}
 use Rattle.std.specs.declared.rc.Rc.{Rc}
 use Rattle.olr_spec.specs.Extension.{Path}
 use Rattle.olr_paths.proofs.Overlaying.{Entered}
-use Rattle.olr_paths.proofs.Changed.{AreOthers, others_push, others_keep, take_more_entries}
+use Rattle.olr_paths.proofs.Changed.{AreOthers, others_push, others_keep}
+use Rattle.olr_spec.proofs.ListLemmas.{take_more_at}
 use Rattle.olr_paths.proofs.overlay.Overlay.takes_some.Goals as goal
 
 pub loop-k-preserved : goal.loop-k-preserved
@@ -12,7 +13,7 @@ loop-k-preserved c =
     let es : Entered = c.args.self.now.changes.entries in
     let k = c.loop-k.k in
     let e : String Global × Option (Rc Path Global) = (c.in-Some.field-0-0.now, c.in-Some.change.now) in
-    let more : take (k + 1) es ≡ take k es ++ e ∷ [] = take_more_entries es k e (sym c.in-Some.ensures.entry) in
+    let more : take (k + 1) es ≡ take k es ++ e ∷ [] = take_more_at es k e (sym c.in-Some.ensures.entry) in
     let one : is_some e.1 ≡ true = c.is_none.ensures ∙ ap not c.if-is_none.false in
     subst AreOthers (sym more) (others_push (take k es) e c.loop-k.invariant one)
 
