@@ -13,7 +13,8 @@ use Rattle.olr_commands.specs.State.{same_name, Change, Add_path, Set_path, Drop
 use Rattle.olr_commands.specs.State.{Explain, Begin, Commit, Abort, HasPlaces}
 use Rattle.olr_records.specs.Records.{Field, Read, ◌⊛◌, bounded, digits, number, amount, class, coordinate, longitude}
 use Rattle.olr_records.specs.Records.{latitude, place, name, point, shape, node_fields, edit, one, none, node_record}
-use Rattle.olr_records.specs.Records.{line, course, whole_line, line_record, set_line_record, path_fields, path_record}
+use Rattle.olr_records.specs.Records.{line_between, course, whole_line, line_record, set_line_record, path_fields}
+use Rattle.olr_records.specs.Records.{path_record}
 use Rattle.olr_records.specs.Records.{forms, read_by, read}
 
 if_read : {A : Type 0} (P : A → Type 0) (b : Bool) (r q : Read A) → IfOk r P → IfOk q P → IfOk (if b then r else q) P
@@ -114,12 +115,12 @@ line_passes : (from to frc fow len : Field) (fs : List Field) →
 unfolding ShapePasses
 line_passes from to frc fow len fs =
     given_read (λ l. IsTrue (are_coords l.shape)) ShapePasses
-    (Ok (λ a b c. line a b c.0 c.1 c.2 c.3) ⊛ number from ⊛ number to) (course frc fow len fs)
+    (Ok (λ a b c. line_between a b c.0 c.1 c.2 c.3) ⊛ number from ⊛ number to) (course frc fow len fs)
     (course_passes frc fow len fs)
     (given (λ g. (c : ℕ × ℕ × ℕ × List ShapePoint) → ShapePasses c → IsTrue (are_coords (g c).shape))
-    (Ok (λ a b c. line a b c.0 c.1 c.2 c.3) ⊛ number from) (number to)
+    (Ok (λ a b c. line_between a b c.0 c.1 c.2 c.3) ⊛ number from) (number to)
     (given (λ g. (b : ℕ) (c : ℕ × ℕ × ℕ × List ShapePoint) → ShapePasses c → IsTrue (are_coords (g b c).shape))
-    (Ok (λ a b c. line a b c.0 c.1 c.2 c.3)) (number from) (λ a b c h. h)))
+    (Ok (λ a b c. line_between a b c.0 c.1 c.2 c.3)) (number from) (λ a b c h. h)))
 
 line_places : (fs : List Field) → IfOk (line_record fs) HasPlace
 line_places (x ∷ from ∷ to ∷ frc ∷ fow ∷ len ∷ fs) =

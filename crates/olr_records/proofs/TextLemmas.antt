@@ -9,7 +9,8 @@ use Rattle.std.proofs.lemmas.List.Folds.{concat-append}
 use Rattle.olr_spec.specs.Reference.{Reference}
 use Rattle.olr_commands.specs.Words.{entry_of}
 use Rattle.olr_commands.specs.declared.reply.Entry.{Entry}
-use Rattle.olr_records.specs.ReplyText.{after_commas, line, entry_line, accepted, first_line, middle_line, last_line}
+use Rattle.olr_records.specs.ReplyText.{after_commas, reply_line, entry_line, accepted, first_line, middle_line}
+use Rattle.olr_records.specs.ReplyText.{last_line}
 use Rattle.olr_records.specs.ReplyText.{offset_lines, reference_lines}
 
 joined : (f : List ℕ) (fs : List (List ℕ)) → join_with_byte 44 (f ∷ fs) ≡ f ++ after_commas fs
@@ -18,7 +19,7 @@ joined f (g ∷ gs) = ap (λ (r : List ℕ). f ++ 44 ∷ r) (joined g gs)
 
 -- a line of a word, two fields and more
 pub fields-line : (t w a b : List ℕ) (fs : List (List ℕ))
-    → (t ++ w) ++ 44 ∷ (a ++ 44 ∷ (b ++ (after_commas fs ++ 10 ∷ []))) ≡ t ++ line (w ∷ a ∷ b ∷ fs)
+    → (t ++ w) ++ 44 ∷ (a ++ 44 ∷ (b ++ (after_commas fs ++ 10 ∷ []))) ≡ t ++ reply_line (w ∷ a ∷ b ∷ fs)
 fields-line t w a b fs =
     let inside : (t ++ w) ++ 44 ∷ (a ++ 44 ∷ (b ++ (after_commas fs ++ 10 ∷ []))) ≡ t
     ++ ((w ++ after_commas (a ∷ b ∷ fs)) ++ 10 ∷ []) = simp append_assoc refl in
@@ -49,7 +50,7 @@ parts t l f x m p n = rw (concat-append m (x ∷ (p ++ n)), concat-append p n) (
 pub reference-text : (t : List ℕ) (r : Reference) (n : ℕ)
     → n ≡ length r.middle + 2
     + (length (offset_lines (codes "positive") r.pos) + length (offset_lines (codes "negative") r.neg))
-    → (((((t ++ line (codes "ok" ∷ decimal n ∷ [])) ++ first_line r.first) ++ concat (map middle_line r.middle))
+    → (((((t ++ reply_line (codes "ok" ∷ decimal n ∷ [])) ++ first_line r.first) ++ concat (map middle_line r.middle))
     ++ last_line r.last)
     ++ concat (offset_lines (codes "positive") r.pos)) ++ concat (offset_lines (codes "negative") r.neg)
     ≡ t ++ accepted (reference_lines r)
@@ -65,8 +66,8 @@ reference-text t r n e =
       length-append positive negative,
     )
     in
-    parts t (line (codes "ok" ∷ decimal n ∷ [])) (first_line r.first) (last_line r.last) middle positive negative
-    ∙ ap (λ (k : ℕ). t ++ (line (codes "ok" ∷ decimal k ∷ []) ++ concat (reference_lines r))) count
+    parts t (reply_line (codes "ok" ∷ decimal n ∷ [])) (first_line r.first) (last_line r.last) middle positive negative
+    ∙ ap (λ (k : ℕ). t ++ (reply_line (codes "ok" ∷ decimal k ∷ []) ++ concat (reference_lines r))) count
 
 -- a byte takes at most three digits, and a number of 32 bits at most ten
 pub byte-digits : (n : ℕ) → n < 256 → length (decimal n) ≤ 3

@@ -1,7 +1,9 @@
 -- What command the fields of a record read as.
---     Read A a value, or why there is none. g ⊛ r both read: where neither is, Syntax is told before Range digits low
---     high f, longitude f, latitude f, name f a field as a number, a coordinate or a name read fields the command
---     HoldsList c, TakesMemory fields the commands and the records whose reading takes memory
+--     Read A      a value, or why there is none.
+--     g ⊛ r      both read: where neither is, Syntax is told before Range
+--     digits low high f, longitude f, latitude f, name f      a field as a number, a coordinate or a name
+--     read fields      the command
+--     HoldsList c, TakesMemory fields      the commands and the records whose reading takes memory
 use Rattle.std.specs.Prelude.{ℕ, ◌<◌, Bool, ◌&&◌, ◌||◌, List, [], ◌∷◌, length, nat_le, ◌==◌, ℤ, Option, Some, None}
 use Rattle.std.specs.Prelude.{Result, Ok, Err, IsOkAnd, codes, if◌then◌else◌, ⊤}
 use Rattle.std.specs.List.{list_all}
@@ -120,15 +122,15 @@ node_fields _ = Err Bad_form
 abbrev pub node_record : (ℕ → Coord → Edit) → List Field → Read Edit
 node_record g fs = Ok (λ p. g p.0 p.1) ⊛ node_fields fs
 
-abbrev pub line : ℕ → ℕ → ℕ → ℕ → ℕ → List ShapePoint → Line
-line from to frc fow len shape = record { from = from; to = to; frc = frc; fow = fow; len = len; shape = shape }
+abbrev pub line_between : ℕ → ℕ → ℕ → ℕ → ℕ → List ShapePoint → Line
+line_between from to frc fow len shape = record { from = from; to = to; frc = frc; fow = fow; len = len; shape = shape }
 
 -- what a line has beside its ends
 abbrev pub course : Field → Field → Field → List Field → Read (ℕ × ℕ × ℕ × List ShapePoint)
 course frc fow len fs = Ok (λ a b c d. (a, b, c, d)) ⊛ class frc ⊛ class fow ⊛ digits 1 1000000 len ⊛ shape fs
 
 abbrev pub whole_line : Field → Field → Read (ℕ × ℕ × ℕ × List ShapePoint) → Read Line
-whole_line from to rest = Ok (λ a b c. line a b c.0 c.1 c.2 c.3) ⊛ number from ⊛ number to ⊛ rest
+whole_line from to rest = Ok (λ a b c. line_between a b c.0 c.1 c.2 c.3) ⊛ number from ⊛ number to ⊛ rest
 
 abbrev pub line_record : List Field → Read Edit
 line_record (x ∷ from ∷ to ∷ frc ∷ fow ∷ len ∷ fs) =

@@ -18,8 +18,8 @@ abbrev pub after_commas : List (List ℕ) → List ℕ
 after_commas [] = []
 after_commas (f ∷ fs) = 44 ∷ (f ++ after_commas fs)
 
-abbrev pub line : List (List ℕ) → List ℕ
-line fields = join_with_byte 44 fields ++ 10 ∷ []
+abbrev pub reply_line : List (List ℕ) → List ℕ
+reply_line fields = join_with_byte 44 fields ++ 10 ∷ []
 
 -- ---- entries
 
@@ -34,7 +34,7 @@ published_fields (Ok text) = codes "text" ∷ text ∷ []
 published_fields (Err refusal) = codes "refused" ∷ refusal_fields refusal
 
 abbrev pub entry_line : Entry → List ℕ
-entry_line e = line (e.name ∷ published_fields e.published)
+entry_line e = reply_line (e.name ∷ published_fields e.published)
 
 -- ---- fields of a reference
 
@@ -42,20 +42,20 @@ abbrev pub attr_fields : Attrs → List (List ℕ)
 attr_fields a = decimal a.frc ∷ decimal a.fow ∷ decimal a.lfrc ∷ decimal a.bearing ∷ decimal a.dnp ∷ []
 
 abbrev pub first_line : First → List ℕ
-first_line p = line (codes "first" ∷ signed_decimal p.lon ∷ signed_decimal p.lat ∷ attr_fields p.attrs)
+first_line p = reply_line (codes "first" ∷ signed_decimal p.lon ∷ signed_decimal p.lat ∷ attr_fields p.attrs)
 
 abbrev pub middle_line : Middle → List ℕ
-middle_line p = line (codes "middle" ∷ signed_decimal p.dlon ∷ signed_decimal p.dlat ∷ attr_fields p.attrs)
+middle_line p = reply_line (codes "middle" ∷ signed_decimal p.dlon ∷ signed_decimal p.dlat ∷ attr_fields p.attrs)
 
 abbrev pub last_line : Last → List ℕ
 last_line p =
-    line (codes "last" ∷ signed_decimal p.dlon ∷ signed_decimal p.dlat ∷ decimal p.frc ∷ decimal p.fow ∷ decimal
+    reply_line (codes "last" ∷ signed_decimal p.dlon ∷ signed_decimal p.dlat ∷ decimal p.frc ∷ decimal p.fow ∷ decimal
     p.bearing ∷ [])
 
 -- a byte, where there is an offset
 abbrev pub offset_lines : List ℕ → Option ℕ → List (List ℕ)
 offset_lines word None = []
-offset_lines word (Some n) = line (word ∷ decimal n ∷ []) ∷ []
+offset_lines word (Some n) = reply_line (word ∷ decimal n ∷ []) ∷ []
 
 abbrev pub reference_lines : Reference → List (List ℕ)
 reference_lines r =
@@ -66,17 +66,17 @@ reference_lines r =
 
 -- their number, and the lines
 abbrev pub accepted : List (List ℕ) → List ℕ
-accepted lines = line (codes "ok" ∷ decimal (length lines) ∷ []) ++ concat lines
+accepted lines = reply_line (codes "ok" ∷ decimal (length lines) ∷ []) ++ concat lines
 
 abbrev pub reply_text : Reply → List ℕ
 reply_text (Paths es) = accepted (map entry_line es)
 reply_text (Fields r) = accepted (reference_lines r)
-reply_text (Held n) = line (codes "held" ∷ decimal n ∷ [])
+reply_text (Held n) = reply_line (codes "held" ∷ decimal n ∷ [])
 
 -- ---- faults
 
 abbrev pub fault_line : ℕ → List ℕ → List (List ℕ) → List ℕ
-fault_line n word more = line (codes "fault" ∷ decimal n ∷ word ∷ more)
+fault_line n word more = reply_line (codes "fault" ∷ decimal n ∷ word ∷ more)
 
 abbrev pub cause : TextFault → ℕ
 cause (Not_v3 Length) = 1

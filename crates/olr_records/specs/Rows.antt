@@ -10,5 +10,5 @@ abbrev pub zero : Coord
 zero = at (pos 0) (pos 0)
 
 -- a text of these lines
-abbrev pub lines_of : List (List ℕ) → List ℕ
-lines_of ls = flat_map (λ l. l ++ 10 ∷ []) ls
+abbrev pub text_of_lines : List (List ℕ) → List ℕ
+text_of_lines ls = flat_map (λ l. l ++ 10 ∷ []) ls

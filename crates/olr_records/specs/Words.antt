@@ -2,7 +2,8 @@
 --     Reads view x r      r is what x reads, seen by `view`; it takes no memory
 --     Gathers Takes view x r      the same, but want of memory may come where x reads as something that takes memory
 --     IsRead x r      the same of a command, which takes memory where it holds a list
---     worse_fault f g      of two faults the one that is told.        both r s      what two parts of a record read as
+--     worse_fault f g      of two faults the one that is told.
+--     both r s      what two parts of a record read as
 --     read_fault_of f      the fault that a record's own fault is told as
 use Rattle.std.specs.Prelude.{◌≡◌, Result, Ok, Err, IsOkAnd}
 use Rattle.olr_commands.specs.State as state

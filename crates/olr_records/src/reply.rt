@@ -43,7 +43,7 @@ pub fn append_reply(text: &mut Vec<u8>, reply: &Reply) -> Result<(), AllocError>
 /// The line of a word and a count.
 fn push_count(text: &mut Vec<u8>, word: &[u8], count: usize) -> Result<(), AllocError>
     ensures { OnOk result (text.new.items
-        ≡ text.old.items ++ texts.line (word.now ∷ decimal count ∷ [])) }
+        ≡ text.old.items ++ texts.reply_line (word.now ∷ decimal count ∷ [])) }
 {
     text.extend_from_slice(word)?;
     push_number(text, count)?;

@@ -10,9 +10,9 @@ ghost use Rattle.olr_commands.specs.State.{Commit, Abort};
 ghost use Rattle.olr_commands.specs.State as state;
 ghost use Rattle.olr_commands.specs.Reply as reply;
 ghost use Rattle.olr_commands.specs.Rows.{reference2};
-ghost use Rattle.olr_records.specs.Records.{line, read, Bad_form, Out_of_range};
+ghost use Rattle.olr_records.specs.Records.{line_between, read, Bad_form, Out_of_range};
 ghost use Rattle.olr_records.specs.ReplyText.{reply_text, fault_text};
-ghost use Rattle.olr_records.specs.Rows.{at, zero, lines_of};
+ghost use Rattle.olr_records.specs.Rows.{at, zero, text_of_lines};
 
 /// Records of one node.
 pub fn nodes()
@@ -48,10 +48,10 @@ pub fn lines()
         (codes "line" ∷ codes "10" ∷ codes "1" ∷ codes "2" ∷ codes "3" ∷ codes "2" ∷ codes "5610" ∷ codes "200" ∷ codes
         "6.12701" ∷ codes "49.60838" ∷ codes "5410" ∷ codes "6.1282" ∷ codes "49.60413" ∷ [])
         ≡ Ok (Make (On_map (Add_line 10
-        (line 1 2 3 2 5610 (record { at = 200; place = (at (pos 2007698636800) (pos 16255673958400)) }
+        (line_between 1 2 3 2 5610 (record { at = 200; place = (at (pos 2007698636800) (pos 16255673958400)) }
         ∷ record { at = 5410; place = (at (pos 2008088576000) (pos 16254281318400)) } ∷ []))))) }
     ensures no_shape { read (codes "line" ∷ codes "99" ∷ codes "2" ∷ codes "3" ∷ codes "4" ∷ codes "3" ∷ codes "1500"
-        ∷ []) ≡ Ok (Make (On_map (Add_line 99 (line 2 3 4 3 1500 [])))) }
+        ∷ []) ≡ Ok (Make (On_map (Add_line 99 (line_between 2 3 4 3 1500 [])))) }
     ensures two_of_three { read
         (codes "line" ∷ codes "10" ∷ codes "1" ∷ codes "2" ∷ codes "0" ∷ codes "1" ∷ codes "100" ∷ codes "50" ∷ codes
         "0" ∷ []) ≡ Err Bad_form }
@@ -68,7 +68,9 @@ pub fn lines()
     ensures far_shape { read
         (codes "line" ∷ codes "10" ∷ codes "1" ∷ codes "2" ∷ codes "0" ∷ codes "0" ∷ codes "1000000" ∷ codes "1000000"
         ∷ codes "0" ∷ codes "0" ∷ []) ≡ Err Out_of_range }
-    ensures shape_past_the_end { read (codes "line" ∷ codes "98" ∷ codes "2" ∷ codes "3" ∷ codes "4" ∷ codes "3" ∷ codes "1500" ∷ codes "1500" ∷ codes "0" ∷ codes "0" ∷ []) ≡ Ok (Make (On_map (Add_line 98 (line 2 3 4 3 1500 (record { at = 1500; place = (at (pos 0) (pos 0)) } ∷ []))))) }
+    ensures shape_past_the_end { read (codes "line" ∷ codes "98" ∷ codes "2" ∷ codes "3" ∷ codes "4" ∷ codes "3" ∷
+        codes "1500" ∷ codes "1500" ∷ codes "0" ∷ codes "0" ∷ []) ≡ Ok (Make (On_map (Add_line 98
+        (line_between 2 3 4 3 1500 (record { at = 1500; place = (at (pos 0) (pos 0)) } ∷ []))))) }
     ensures set { read (codes "set-line" ∷ codes "99" ∷ codes "4" ∷ codes "3" ∷ codes "2000" ∷ [])
         ≡ Ok (Make (On_map (Set_line 99 4 3 2000 []))) }
     ensures set_shape { read
@@ -119,51 +121,52 @@ pub fn paths()
 
 /// Texts of replies.
 pub fn replies()
-    ensures nothing { reply_text (reply.Paths []) ≡ lines_of (codes "ok,0" ∷ []) }
+    ensures nothing { reply_text (reply.Paths []) ≡ text_of_lines (codes "ok,0" ∷ []) }
     ensures text { reply_text
         (reply.Paths (record { name = codes "a"; published = Ok (codes "CwRbWyNG9RpsCQCb/jsaHA==") } ∷ []))
-        ≡ lines_of (codes "ok,1" ∷ codes "a,text,CwRbWyNG9RpsCQCb/jsaHA==" ∷ []) }
+        ≡ text_of_lines (codes "ok,1" ∷ codes "a,text,CwRbWyNG9RpsCQCb/jsaHA==" ∷ []) }
     ensures refusals { reply_text
         (reply.Paths (record { name = codes "a"; published = Err (encoding.Unknown_line 20) }
         ∷ record { name = codes "b"; published = Err (encoding.Broken 0) }
         ∷ record { name = codes "c"; published = Err encoding.Offset_too_long }
         ∷ record { name = codes "d"; published = Err (encoding.No_next_point 0) } ∷ []))
-        ≡ lines_of (codes "ok,4" ∷ codes "a,refused,1,20" ∷ codes "b,refused,2,0" ∷ codes "c,refused,3" ∷ codes
+        ≡ text_of_lines (codes "ok,4" ∷ codes "a,refused,1,20" ∷ codes "b,refused,2,0" ∷ codes "c,refused,3" ∷ codes
         "d,refused,4,0" ∷ []) }
     ensures fields { reply_text (reply.Fields reference1)
-        ≡ lines_of (codes "ok,4" ∷ codes "first,285531,2311925,3,2,3,12,9" ∷ codes "middle,155,-453,3,3,5,20,4" ∷ codes
+        ≡ text_of_lines (codes "ok,4" ∷ codes "first,285531,2311925,3,2,3,12,9" ∷ codes "middle,155,-453,3,3,5,20,4" ∷
+        codes
         "last,-21,-93,5,3,25" ∷ codes "positive,68" ∷ []) }
     ensures two_fields { reply_text (reply.Fields reference2)
-        ≡ lines_of (codes "ok,2" ∷ codes "first,285531,2311925,3,2,3,12,9" ∷ codes "last,155,-453,3,2,28" ∷ []) }
-    ensures held { reply_text (reply.Held 100000) ≡ lines_of (codes "held,100000" ∷ []) }
+        ≡ text_of_lines (codes "ok,2" ∷ codes "first,285531,2311925,3,2,3,12,9" ∷ codes "last,155,-453,3,2,28" ∷ []) }
+    ensures held { reply_text (reply.Held 100000) ≡ text_of_lines (codes "held,100000" ∷ []) }
 {}
 
 /// Texts of faults.
 pub fn faults()
-    ensures syntax { fault_text state.Syntax ≡ lines_of (codes "fault,1,Syntax" ∷ []) }
-    ensures range { fault_text state.Range ≡ lines_of (codes "fault,2,Range" ∷ []) }
-    ensures node_exists { fault_text (state.Map_fault Node_exists) ≡ lines_of (codes "fault,3,NodeExists" ∷ []) }
-    ensures no_node { fault_text (state.Map_fault No_node) ≡ lines_of (codes "fault,4,NoNode" ∷ []) }
-    ensures line_exists { fault_text (state.Map_fault Line_exists) ≡ lines_of (codes "fault,5,LineExists" ∷ []) }
-    ensures no_line { fault_text (state.Map_fault No_line) ≡ lines_of (codes "fault,6,NoLine" ∷ []) }
-    ensures node_in_use { fault_text (state.Map_fault Node_in_use) ≡ lines_of (codes "fault,7,NodeInUse" ∷ []) }
-    ensures bad_shape { fault_text (state.Map_fault Bad_shape) ≡ lines_of (codes "fault,8,BadShape" ∷ []) }
-    ensures path_exists { fault_text state.Path_exists ≡ lines_of (codes "fault,9,PathExists" ∷ []) }
-    ensures no_path { fault_text state.No_path ≡ lines_of (codes "fault,10,NoPath" ∷ []) }
-    ensures bad_path { fault_text state.Bad_path ≡ lines_of (codes "fault,11,BadPath" ∷ []) }
-    ensures memory { fault_text state.Memory ≡ lines_of (codes "fault,13,Memory" ∷ []) }
-    ensures batch_open { fault_text state.Batch_open ≡ lines_of (codes "fault,14,BatchOpen" ∷ []) }
-    ensures no_batch { fault_text state.No_batch ≡ lines_of (codes "fault,15,NoBatch" ∷ []) }
-    ensures count_differs { fault_text state.Count_differs ≡ lines_of (codes "fault,16,CountDiffers" ∷ []) }
-    ensures batch_full { fault_text state.Batch_full ≡ lines_of (codes "fault,17,BatchFull" ∷ []) }
+    ensures syntax { fault_text state.Syntax ≡ text_of_lines (codes "fault,1,Syntax" ∷ []) }
+    ensures range { fault_text state.Range ≡ text_of_lines (codes "fault,2,Range" ∷ []) }
+    ensures node_exists { fault_text (state.Map_fault Node_exists) ≡ text_of_lines (codes "fault,3,NodeExists" ∷ []) }
+    ensures no_node { fault_text (state.Map_fault No_node) ≡ text_of_lines (codes "fault,4,NoNode" ∷ []) }
+    ensures line_exists { fault_text (state.Map_fault Line_exists) ≡ text_of_lines (codes "fault,5,LineExists" ∷ []) }
+    ensures no_line { fault_text (state.Map_fault No_line) ≡ text_of_lines (codes "fault,6,NoLine" ∷ []) }
+    ensures node_in_use { fault_text (state.Map_fault Node_in_use) ≡ text_of_lines (codes "fault,7,NodeInUse" ∷ []) }
+    ensures bad_shape { fault_text (state.Map_fault Bad_shape) ≡ text_of_lines (codes "fault,8,BadShape" ∷ []) }
+    ensures path_exists { fault_text state.Path_exists ≡ text_of_lines (codes "fault,9,PathExists" ∷ []) }
+    ensures no_path { fault_text state.No_path ≡ text_of_lines (codes "fault,10,NoPath" ∷ []) }
+    ensures bad_path { fault_text state.Bad_path ≡ text_of_lines (codes "fault,11,BadPath" ∷ []) }
+    ensures memory { fault_text state.Memory ≡ text_of_lines (codes "fault,13,Memory" ∷ []) }
+    ensures batch_open { fault_text state.Batch_open ≡ text_of_lines (codes "fault,14,BatchOpen" ∷ []) }
+    ensures no_batch { fault_text state.No_batch ≡ text_of_lines (codes "fault,15,NoBatch" ∷ []) }
+    ensures count_differs { fault_text state.Count_differs ≡ text_of_lines (codes "fault,16,CountDiffers" ∷ []) }
+    ensures batch_full { fault_text state.Batch_full ≡ text_of_lines (codes "fault,17,BatchFull" ∷ []) }
     ensures cause_1 { fault_text (state.Not_a_reference (state.Not_v3 bytes.Length))
-        ≡ lines_of (codes "fault,12,NotAReference,1" ∷ []) }
+        ≡ text_of_lines (codes "fault,12,NotAReference,1" ∷ []) }
     ensures cause_2 { fault_text (state.Not_a_reference (state.Not_v3 bytes.Status))
-        ≡ lines_of (codes "fault,12,NotAReference,2" ∷ []) }
+        ≡ text_of_lines (codes "fault,12,NotAReference,2" ∷ []) }
     ensures cause_3 { fault_text (state.Not_a_reference (state.Not_v3 bytes.Flags))
-        ≡ lines_of (codes "fault,12,NotAReference,3" ∷ []) }
+        ≡ text_of_lines (codes "fault,12,NotAReference,3" ∷ []) }
     ensures cause_4 { fault_text (state.Not_a_reference (state.Not_v3 bytes.Reserved))
-        ≡ lines_of (codes "fault,12,NotAReference,4" ∷ []) }
+        ≡ text_of_lines (codes "fault,12,NotAReference,4" ∷ []) }
     ensures cause_6 { fault_text (state.Not_a_reference state.Not_base64)
-        ≡ lines_of (codes "fault,12,NotAReference,6" ∷ []) }
+        ≡ text_of_lines (codes "fault,12,NotAReference,6" ∷ []) }
 {}

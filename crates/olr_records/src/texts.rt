@@ -1,7 +1,7 @@
 //! Fields of a line, written one after another, or from the line's end back.
 ghost use Rattle.std.specs.Prelude.{◌≡◌, ◌≤◌, ◌+◌, ◌++◌, ◌∷◌, [], decimal, drop, length, map, OnOk};
 ghost use Rattle.std.specs.Fmt.{signed_decimal};
-ghost use Rattle.olr_records.specs.ReplyText.{after_commas, line};
+ghost use Rattle.olr_records.specs.ReplyText.{after_commas, reply_line};
 
 use itoa::{Buffer, Integer, write_digits};
 use std::alloc::AllocError;
@@ -111,7 +111,7 @@ pub(crate) fn push_point(
 ) -> Result<(), AllocError>
     requires few { length numbers.now ≤ 5 }
     ensures { OnOk result (text.new.items ≡ text.old.items
-        ++ line (word.now ∷ signed_decimal lon ∷ signed_decimal lat ∷ map decimal numbers.now)) }
+        ++ reply_line (word.now ∷ signed_decimal lon ∷ signed_decimal lat ∷ map decimal numbers.now)) }
 {
     let mut end = [b'\n'; ROOM];
     let start = put_numbers(&mut end, ROOM - 1, numbers);

@@ -14,7 +14,8 @@ use Rattle.olr_records.specs.Records.{Field}
 use Rattle.olr_records.specs.ReplyText.{outcome_text}
 use Rattle.olr_register.specs.Registered.{Registered}
 use Rattle.olr_run.specs.Output as output
-use Rattle.olr_run.specs.Output.{SoundOutcome, SoundOutcomes, Claims, StopsAtFault, any_refused, AreAll, texts, Ran}
+use Rattle.olr_run.specs.Output.{SoundOutcome, SoundOutcomes, Claims, StopsAtFault, any_refused, AreAnswered, texts}
+use Rattle.olr_run.specs.Output.{Ran}
 use Rattle.olr_run.specs.Output.{CutOff, Nothing, In_last, Faulted, greater}
 use Rattle.olr_run.specs.Runs.{Known, Records, known_records, known_both, status_of, RanOn, FaultedOn}
 use Rattle.olr_run.specs.declared.ends.RunFault.{RunFault}
@@ -100,12 +101,12 @@ goes_on true p os n e = by p (any_refused os) n e where
   by status.Stopped true n e = absurd (n refl)
 
 all_whole : (stop : Bool) (rs : List (List Field)) (os : List Outcome) → (stop && any_refused os) ≡ false →
-    AreAll stop rs os → length os ≡ length rs
+    AreAnswered stop rs os → length os ≡ length rs
 all_whole stop rs os n (inl h) = h
 all_whole stop rs os n (inr h) = let never : true ≡ false = sym h ∙ n in absurd cc
 
 all_join : (stop : Bool) (rs ms : List (List Field)) (os qs : List Outcome) → length os ≡ length rs →
-    AreAll stop ms qs → AreAll stop (rs ++ ms) (os ++ qs)
+    AreAnswered stop ms qs → AreAnswered stop (rs ++ ms) (os ++ qs)
 all_join stop rs ms os qs l (inl h) = inl (length-append os qs ∙ (λ i. l i + h i) ∙ sym (length-append rs ms))
 all_join stop rs ms os qs l (inr h) =
     inr (ap (λ (x : Bool). stop && x) (list_any-append is_err os qs)

@@ -12,7 +12,8 @@ use Rattle.olr_commands.proofs.HistoryLemmas.{Leads, outcome_leads, outcome_keep
 use Rattle.olr_commands.proofs.OutcomeLemmas.{one_outcome}
 use Rattle.olr_records.specs.Records.{Field, Read, read}
 use Rattle.olr_run.specs.Output.{CommandOutcome, OutOfMemory, RecordOutcome, Outcomes, SoundOutcome, SoundOutcomes}
-use Rattle.olr_run.specs.Output.{command_spelled, Claims, StopsAtFault, any_refused, AreAll, texts, run_status, Status}
+use Rattle.olr_run.specs.Output.{command_spelled, Claims, StopsAtFault, any_refused, AreAnswered, texts, run_status}
+use Rattle.olr_run.specs.Output.{Status}
 use Rattle.olr_run.specs.Output.{Ran, AllHadMemory}
 use Rattle.olr_records.proofs.ReadLemmas.{places_read}
 
@@ -92,18 +93,18 @@ one_record s t u fields o q i n m (inr p) g = absurd (not_memory o n p.1.0)
 
 -- what is left to do after an outcome that doesn't end the run
 all_rest : (stop : Bool) (r : List Field) (rs : List (List Field)) (o : Outcome) (os : List Outcome) →
-    (stop && is_err o) ≡ false → AreAll stop (r ∷ rs) (o ∷ os) → AreAll stop rs os
+    (stop && is_err o) ≡ false → AreAnswered stop (r ∷ rs) (o ∷ os) → AreAnswered stop rs os
 all_rest stop r rs o os e (inl h) = inl (omega arith)
 all_rest true r rs o os e (inr h) = inr (ap (λ (b : Bool). b || any_refused os) (sym e) ∙ h)
 all_rest false r rs o os e (inr h) = absurd cc
 
-none_left : (stop : Bool) (r : List Field) (rs : List (List Field)) → AreAll stop (r ∷ rs) [] → ⊥
+none_left : (stop : Bool) (r : List Field) (rs : List (List Field)) → AreAnswered stop (r ∷ rs) [] → ⊥
 none_left stop r rs (inl h) = omega arith
 none_left true r rs (inr h) = absurd cc
 none_left false r rs (inr h) = absurd cc
 
 one_list : (stop : Bool) (s t u : State) (rs : List (List Field)) (os qs : List Outcome) → IsState s → AllHadMemory os →
-    AllHadMemory qs → AreAll stop rs os → AreAll stop rs qs
+    AllHadMemory qs → AreAnswered stop rs os → AreAnswered stop rs qs
     → StopsAtFault stop os → StopsAtFault stop qs → Outcomes s rs os t → Outcomes s rs qs u → (os ≡ qs) × (t ≡ u)
 one_list stop s t u [] [] [] i n m a b c d p q = (refl, sym p ∙ q)
 one_list stop s t u [] [] (o ∷ qs) i n m a b c d p q = absurd q

@@ -20,7 +20,7 @@ use Rattle.olr_records.specs.Records.{Field}
 use Rattle.olr_records.specs.ReplyText.{outcome_text}
 use Rattle.olr_register.specs.Kept.{Stands}
 use Rattle.olr_register.specs.Registered.{Registered}
-use Rattle.olr_run.specs.Output.{SoundOutcome, SoundOutcomes, Claims, StopsAtFault, any_refused, AreAll, texts}
+use Rattle.olr_run.specs.Output.{SoundOutcome, SoundOutcomes, Claims, StopsAtFault, any_refused, AreAnswered, texts}
 use Rattle.olr_run.specs.Output.{run_status, Ran, CutOff, Nothing, In_last, Faulted, records_of, most_records}
 use Rattle.olr_run.specs.Output as output
 use Rattle.olr_run.specs.Runs.{Known, known_records, IsPlain, status_of, TellsRecord}
@@ -249,7 +249,8 @@ ran_whole stop old now input before later end state source n base a none s stand
     let sound = standing old s base stands in
     let so = a.answered s stands sound in
     let rows_are : records_of input ≡ a.records =
-    all.1 ∙ ap (λ (xs : List (List Field)). a.records ++ xs) (all.2 (none a.left a.source_is)) ∙ append-nil a.records in (
+    all.1 ∙ ap (λ (xs : List (List Field)). a.records ++ xs) (all.2 (none a.left a.source_is))
+    ∙ append-nil a.records in (
       so.0,
       so.1,
       texts so.2.outcomes,

@@ -1,8 +1,9 @@
 -- How the program ends: over the words of its command line, what opening the file gives, and the bytes of file and
 -- input.
---     Explains kinds before later code words with these kinds of fault are answered with help, the version or a fault
---     Opens call remaining opener name opened opening the file of that name gives known bytes, or fails Ends words
---     Opened input old before new later code the register, what is written and the status at the end
+--     Explains kinds before later code      words with these kinds of fault are answered with help, the version or a
+--         fault
+--     Opens call remaining opener name opened      opening the file of that name gives known bytes, or fails
+--     Ends words Opened input old before new later code      the register, what is written and the status at the end
 use Rattle.std.specs.Prelude.{◌≡◌, ℕ, Bool, true, false, List, [], Option, Some, None, option_map, MatchOption, Result}
 use Rattle.std.specs.Prelude.{Ok, Err, ◌⊎◌}
 use Rattle.std.specs.Result.{result_ok}

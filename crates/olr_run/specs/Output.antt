@@ -1,9 +1,12 @@
 -- What a run writes of what it reads.
 --     records_of input      the records of the bytes read
---     RecordOutcome s fields o t what a record answers: by its command, by its own fault, or by want of memory to read
---     it Outcomes s rs os t the first records answer so, one after another, from s to t command_spelled fields the
---     command that a record spells. Claims s rs os t what is claimed of such a run Ran Each stop s rs t written status
---     a whole run. Faulted Each stop s rs t written a run that was cut off
+--     RecordOutcome s fields o t      what a record answers: by its command, by its own fault, or by want of memory to
+--         read it
+--     Outcomes s rs os t      the first records answer so, one after another, from s to t
+--     command_spelled fields      the command that a record spells.
+--     Claims s rs os t      what is claimed of such a run
+--     Ran Each stop s rs t written status      a whole run.
+--     Faulted Each stop s rs t written      a run that was cut off
 use Rattle.std.specs.Prelude.{◌≡◌, ◌^◌, ℕ, Bool, ◌&&◌, List, [], ◌∷◌, ◌++◌, length, flat_map, is_err, Option, Result}
 use Rattle.std.specs.Prelude.{Ok, Err, ◌⊎◌, IsTrue, IsFalse, if◌then◌else◌, ⊤}
 use Rattle.std.specs.Result.{result_ok}
@@ -62,8 +65,8 @@ abbrev pub any_refused : List Outcome → Bool
 any_refused os = list_any is_err os
 
 -- each record was answered, or stop ended it
-abbrev pub AreAll : Bool → List (List Field) → List Outcome → Type 0
-AreAll stop rs os = (length os ≡ length rs) ⊎ IsTrue (stop && any_refused os)
+abbrev pub AreAnswered : Bool → List (List Field) → List Outcome → Type 0
+AreAnswered stop rs os = (length os ≡ length rs) ⊎ IsTrue (stop && any_refused os)
 
 abbrev pub texts : List Outcome → List ℕ
 texts os = flat_map outcome_text os
@@ -81,7 +84,7 @@ pub record Ran (Each : State → List (List Field) → List Outcome → State �
   pub outcomes : List Outcome
   pub each : Each s rs outcomes t
   pub stops : StopsAtFault stop outcomes
-  pub all : AreAll stop rs outcomes
+  pub all : AreAnswered stop rs outcomes
   pub wrote : written ≡ texts outcomes
   pub ended : end ≡ run_status stop outcomes
 

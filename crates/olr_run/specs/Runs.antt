@@ -3,8 +3,10 @@
 --     Takes remaining old new found fields      a plain reader took its next record, where there was one
 --     CarriedOut old fields new r      what a record does to the register, and its answer
 --     TellsRecord old fields new before later r      the same, and its text was written
---     known_records known the records of known bytes. known_both those of a file and then those of more input RanOn,
---     FaultedOn a run over known records exit_code r the status of the program
+--     known_records known      the records of known bytes.
+--     known_both      those of a file and then those of more input
+--     RanOn, FaultedOn      a run over known records
+--     exit_code r      the status of the program
 use Rattle.std.specs.Prelude.{◌≡◌, ℕ, ◌<◌, Bool, List, [], ◌++◌, length, Option, Some, None, option_map, Result, Ok}
 use Rattle.std.specs.Prelude.{Err, IfSome, is_ok}
 use Rattle.std.specs.Io.KnownBytes.{Appends}

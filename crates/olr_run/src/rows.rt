@@ -8,7 +8,7 @@ ghost use Rattle.olr_commands.specs.State.{start_state};
 ghost use Rattle.olr_run.specs.Options.{keep_app, options};
 ghost use Rattle.olr_run.specs.Output.{records_of, greater, Outcomes, Ran, Faulted, Some_refused, Stopped};
 ghost use Rattle.olr_run.specs.Output.{All_accepted};
-ghost use Rattle.olr_records.specs.Rows.{lines_of};
+ghost use Rattle.olr_records.specs.Rows.{text_of_lines};
 ghost use Rattle.olr_run.specs.Rows.{input20, output20, state20};
 
 /// Command lines.
@@ -29,7 +29,7 @@ pub fn rows_options()
 /// Records of bytes.
 #[tactic(auto, unfolding(csv::proofs::OnLiterals::csv_on_literals))]
 pub fn rows_input()
-    ensures lines { records_of (lines_of (codes "node,1,0,0" ∷ codes "drop-node,2" ∷ codes "node,x,0,0" ∷ []))
+    ensures lines { records_of (text_of_lines (codes "node,1,0,0" ∷ codes "drop-node,2" ∷ codes "node,x,0,0" ∷ []))
         ≡ (codes "node" ∷ codes "1" ∷ codes "0" ∷ codes "0" ∷ []) ∷ (codes "drop-node" ∷ codes "2" ∷ [])
         ∷ (codes "node" ∷ codes "x" ∷ codes "0" ∷ codes "0" ∷ []) ∷ [] }
     ensures quoted { records_of (codes "\"node\",1,0,0") ≡ (codes "node" ∷ codes "1" ∷ codes "0" ∷ codes "0" ∷ [])
@@ -44,12 +44,12 @@ pub fn rows_input()
 pub fn rows_runs()
     ensures all { Ran Outcomes false start_state (records_of input20) state20 output20 Some_refused }
     ensures stopped { Ran Outcomes true start_state (records_of input20) state20
-        (lines_of (codes "ok,0" ∷ codes "fault,3,NodeExists" ∷ [])) Stopped }
+        (text_of_lines (codes "ok,0" ∷ codes "fault,3,NodeExists" ∷ [])) Stopped }
     ensures cut { Faulted Outcomes false start_state (records_of input20) state20 (codes "ok,0" ++ 10 ∷ codes "fau") }
     ensures cut_at_once { Faulted Outcomes false start_state (records_of input20) start_state [] }
     ensures nothing { Ran Outcomes false start_state (records_of []) start_state [] All_accepted }
     ensures greatest { greater Some_refused All_accepted ≡ Some_refused }
     ensures stopped_in_file { Ran Outcomes true start_state (records_of input20 ++ records_of []) state20
-        (lines_of (codes "ok,0" ∷ codes "fault,3,NodeExists" ∷ [])) Stopped }
+        (text_of_lines (codes "ok,0" ∷ codes "fault,3,NodeExists" ∷ [])) Stopped }
     ensures both { Ran Outcomes false start_state (records_of [] ++ records_of input20) state20 output20 Some_refused }
 {}

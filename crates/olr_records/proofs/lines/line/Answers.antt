@@ -13,14 +13,15 @@ pub returns-in_err-from : goal.returns-in_err-from
 returns-in_err-from c =
     let fs = fields_of c.args.fields.now in
     let front : Read (ℕ × ℕ × ℕ × List ShapePoint → Line) =
-    Ok (λ a b c. records.line a b c.0 c.1 c.2 c.3) ⊛ number (at fs 2) ⊛ number (at fs 3) in
+    Ok (λ a b c. records.line_between a b c.0 c.1 c.2 c.3) ⊛ number (at fs 2) ⊛ number (at fs 3) in
     let rest = course (at fs 4) (at fs 5) (at fs 6) (drop 7 fs) in
     let from = subst (λ (f : Field). Reads (λ n. n) (number f) c.node_id.result) c.field.ensures c.node_id.ensures in
     let to =
     subst (λ (f : Field). Reads (λ n. n) (number f) c.node_id-2.result) c.field-2.ensures c.node_id-2.ensures in
     let told : c.from_residual.result ≡ Err c.in_err-from.field-0.0 = search rules in
     let ends = parts _ _ _ (number (at fs 3)) c.node_id.result c.node_id-2.result c.both-ends.result c.both-ends.ensures
-    (first-part (λ a b c. records.line a b c.0 c.1 c.2 c.3) (λ n. n) (number (at fs 2)) c.node_id.result from) to in
+    (first-part (λ a b c. records.line_between a b c.0 c.1 c.2 c.3) (λ n. n)
+    (number (at fs 2)) c.node_id.result from) to in
     handed-on (λ l. 0 < length l.shape) _ _ (front ⊛ rest) c.both.result c.from_residual.result c.in_err-from.field-0.0
     c.in_err-from.was told
     (both-parts (λ _. ⊥) (λ p. 0 < length p.3) (λ l. 0 < length l.shape) _

@@ -2,8 +2,8 @@ use Rattle.std.proofs.Common.{◌≡◌, List, ℕ, ◌+◌, [], ◌∷◌, ◌+
 use Rattle.std.specs.Prelude.{codes, decimal}
 use Rattle.std.specs.List.{concat}
 use Rattle.olr_spec.specs.Reference.{Middle, Reference}
-use Rattle.olr_binary.specs.Codes.{reference}
-use Rattle.olr_records.specs.ReplyText.{line, accepted, first_line, middle_line, last_line, offset_lines}
+use Rattle.olr_binary.specs.Codes.{reference_from}
+use Rattle.olr_records.specs.ReplyText.{reply_line, accepted, first_line, middle_line, last_line, offset_lines}
 use Rattle.olr_records.specs.ReplyText.{reference_lines}
 use Rattle.olr_records.proofs.TextLemmas.{reference-text}
 use Rattle.olr_records.proofs.reply.push_reference.Goals as goal
@@ -12,7 +12,7 @@ pub returns : goal.returns
 returns c =
     let t : List ℕ = c.args.text.now.items in
     let i = c.reference.inside in
-    let r : Reference = reference i.first i.middle.items i.last i.pos i.neg in
+    let r : Reference = reference_from i.first i.middle.items i.last i.pos i.neg in
     let positive = offset_lines (codes "positive") i.pos in
     let negative = offset_lines (codes "negative") i.neg in
     let n : ℕ = length c.as_slice-points.result.now + 2 + (c.offset_count.result + c.offset_count-2.result) in
@@ -32,7 +32,7 @@ returns c =
     ∙ ap (λ (u : List ℕ). u ++ concat (map middle_line c.as_slice-points.result.now)) (c.in_ok-push_first.ensures
     ∙ ap (λ (u : List ℕ). u ++ first_line i.first) c.in_ok-push_count.ensures))))
     ∙ ap (λ (ps : List Middle).
-    (((((t ++ line (codes "ok" ∷ decimal n ∷ [])) ++ first_line i.first) ++ concat (map middle_line ps))
+    (((((t ++ reply_line (codes "ok" ∷ decimal n ∷ [])) ++ first_line i.first) ++ concat (map middle_line ps))
     ++ last_line i.last) ++ concat positive) ++ concat negative) same
     ∙ reference-text t r n count
     ∙ ap (λ (q : Reference). t ++ accepted (reference_lines q)) c.reference.view_is
