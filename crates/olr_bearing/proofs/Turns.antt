@@ -4,50 +4,51 @@ use Rattle.std.proofs.Common.{IsTrue, refl, sym, ap, ◌∙◌, subst, arith}
 use Rattle.std.proofs.lemmas.Int.{ints}
 use Rattle.std.proofs.lemmas.List.{get_or-drop, get_or-take, get_or-map}
 use Rattle.std.specs.Int.RustNames.{int_le, int_lt}
-use Rattle.olr_spec.specs.Bearings.{Vector, vector, boundary, boundaries, turned, beyond, lies_between, IsSector}
+use Rattle.olr_spec.specs.Bearings.{Vector, vector, boundary, boundaries, quarter_turn, beyond, lies_between, IsSector}
 use Rattle.olr_spec.specs.Bearings.{sector}
 use Rattle.olr_spec.proofs.SectorLemmas.{one_sector, sector_is, neg_right, neg_left}
 
 -- ---- one quarter turn
 
-all_turned : map turned (take 25 boundaries) ≡ drop 8 boundaries
+all_turned : map quarter_turn (take 25 boundaries) ≡ drop 8 boundaries
 all_turned = refl
 
 nowhere : Vector
 nowhere = vector (pos 0) (pos 0)
 
-boundary_turned : (k : ℕ) → k < 25 → boundary (8 + k) ≡ turned (boundary k)
+boundary_turned : (k : ℕ) → k < 25 → boundary (8 + k) ≡ quarter_turn (boundary k)
 unfolding nowhere
 boundary_turned k h =
     sym (get_or-drop 8 boundaries k nowhere)
     ∙ ap (λ bs. get_or bs k nowhere) (sym all_turned)
-    ∙ get_or-map turned (take 25 boundaries) k nowhere nowhere h
-    ∙ ap turned (get_or-take 25 boundaries k nowhere h)
+    ∙ get_or-map quarter_turn (take 25 boundaries) k nowhere nowhere h
+    ∙ ap quarter_turn (get_or-take 25 boundaries k nowhere h)
 
 cross_turned : (be bn ve vn : ℤ) → vn *ℤ neg_ℤ be -ℤ neg_ℤ ve *ℤ bn ≡ ve *ℤ bn -ℤ vn *ℤ be
 cross_turned be bn ve vn = omega (arith, ints, neg_right vn be, neg_left ve bn)
 
-beyond_turned : (b v : Vector) → beyond (turned b) (turned v) ≡ beyond b v
+beyond_turned : (b v : Vector) → beyond (quarter_turn b) (quarter_turn v) ≡ beyond b v
 beyond_turned b v = cross_turned b.east b.north v.east v.north
 
-between_turned : (b c v : Vector) → lies_between (turned b) (turned c) (turned v) ≡ lies_between b c v
+between_turned : (b c v : Vector) → lies_between (quarter_turn b) (quarter_turn c) (quarter_turn v) ≡ lies_between b c v
 between_turned b c v =
-    ap (λ z. int_le (pos 0) z && int_lt (beyond (turned c) (turned v)) (pos 0)) (beyond_turned b v)
+    ap (λ z. int_le (pos 0) z && int_lt (beyond (quarter_turn c) (quarter_turn v)) (pos 0)) (beyond_turned b v)
     ∙ ap (λ z. int_le (pos 0) (beyond b v) && int_lt z (pos 0)) (beyond_turned c v)
 
 -- between the turned boundaries
-between_these : (b c v b' c' : Vector) → b' ≡ turned b → c' ≡ turned c → IsTrue (lies_between b c v) →
-    IsTrue (lies_between b' c' (turned v))
+between_these : (b c v b' c' : Vector) → b' ≡ quarter_turn b → c' ≡ quarter_turn c → IsTrue (lies_between b c v) →
+    IsTrue (lies_between b' c' (quarter_turn v))
 between_these b c v b' c' p q h =
-    subst (λ x. IsTrue (lies_between x c' (turned v))) (sym p)
-    (subst (λ y. IsTrue (lies_between (turned b) y (turned v))) (sym q) (subst IsTrue (sym (between_turned b c v)) h))
+    subst (λ x. IsTrue (lies_between x c' (quarter_turn v))) (sym p)
+    (subst (λ y. IsTrue (lies_between (quarter_turn b) y (quarter_turn v))) (sym q)
+    (subst IsTrue (sym (between_turned b c v)) h))
 
 -- (e, n) is (a, b) turned by a quarter
 sector_turned : (a b e n : ℤ) (j k : ℕ) → IsSector a b k → e ≡ b → n ≡ neg_ℤ a → k < 24 → j ≡ 8 + k → IsSector e n j
 sector_turned a b e n j k s p q h is =
-    let here : boundary (8 + k) ≡ turned (boundary k) = boundary_turned k (omega arith) in
+    let here : boundary (8 + k) ≡ quarter_turn (boundary k) = boundary_turned k (omega arith) in
     let after : suc (8 + k) ≡ 8 + suc k = omega arith in
-    let next : boundary (suc (8 + k)) ≡ turned (boundary (suc k)) =
+    let next : boundary (suc (8 + k)) ≡ quarter_turn (boundary (suc k)) =
     ap boundary after ∙ boundary_turned (suc k) (omega arith) in
     let whole : IsSector b (neg_ℤ a) (8 + k) = (
       omega arith,

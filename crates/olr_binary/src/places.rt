@@ -8,7 +8,7 @@ use crate::fields::{First, Middle, Reference};
 use olr_coords::{from_abs24, from_rel16};
 
 /// A coordinate, in units, moved on by relative steps.
-fn moved(coordinate: i128, steps: i16) -> i128
+fn after_steps(coordinate: i128, steps: i16) -> i128
     requires { nat_abs coordinate ≤ 2 ^ 120 }
     ensures value { result ≡ coordinate +ℤ from_rel16 steps }
     ensures bound { nat_abs result ≤ nat_abs coordinate + 2 ^ 37 }
@@ -27,8 +27,8 @@ fn way(first: First, points: &[Middle]) -> (i128, i128)
     let mut lon = i128::from(from_abs24(first.lon));
     let mut lat = i128::from(from_abs24(first.lat));
     for point in points {
-        lon = moved(lon, point.dlon);
-        lat = moved(lat, point.dlat);
+        lon = after_steps(lon, point.dlon);
+        lat = after_steps(lat, point.dlat);
     }
     (lon, lat)
 }
@@ -47,5 +47,5 @@ pub fn decoded(reference: &Reference, k: usize) -> Option<(i128, i128)>
         return Some((lon, lat));
     }
     let last = reference.last;
-    Some((moved(lon, last.dlon), moved(lat, last.dlat)))
+    Some((after_steps(lon, last.dlon), after_steps(lat, last.dlat)))
 }

@@ -7,7 +7,7 @@ use Rattle.std.specs.Result.{result_unwrap_or}
 use Rattle.std.proofs.lemmas.Bool.{cases_Bool, both_ways, eqb-true}
 use lib.Pointwise.{bytes_decides}
 use Rattle.olr_spec.specs.Map.{Map, IsMap}
-use Rattle.olr_spec.specs.Extension.{Path, extended}
+use Rattle.olr_spec.specs.Extension.{Path, extended_path}
 use Rattle.olr_spec.specs.Points.{last_position}
 use Rattle.olr_spec.specs.Reference.{Reference, legs, reference}
 use Rattle.olr_spec.specs.Encoding.{Answer, Points, Refused, Refusal, No_next_point, path_fault, Encoding, Encodes}
@@ -180,7 +180,7 @@ start_sound = record { content = record { map = empty_sound; paths = tt; names =
 
 joined : (M : Map) (P : Path) (r : Reference) → Encoding M P (Points r) → Joined M P r
 joined M P r p =
-    let E = extended M P p.before p.after in
+    let E = extended_path M P p.before p.after in
     elim (last_position 0 p.points == length E.lines) as (λ t. (last_position 0 p.points == length E.lines) ≡ t →
     Points r ≡ cond t (Points (reference (legs M E.lines) E.pos E.neg p.points))
     (Refused (No_next_point (last_position 0 p.points))) → Joined M P r) [

@@ -14,7 +14,7 @@ use Rattle.std.specs.List.{list_any, AllByRecursion}
 use Rattle.olr_spec.specs.Map.{Map}
 use Rattle.olr_spec.specs.Extension.{Path}
 use Rattle.olr_spec.specs.Points.{OfPath}
-use Rattle.olr_spec.specs.Reference.{Reference, legs, kept, reference}
+use Rattle.olr_spec.specs.Reference.{Reference, legs, kept_points, reference}
 use Rattle.olr_spec.specs.Joins.{Joins}
 use Rattle.olr_spec.specs.Encoding.{Answer, Points, Encodes}
 use Rattle.olr_commands.specs.State.{Content, path_named, same_name, Fault, Change, after, IsContent, State}
@@ -76,7 +76,7 @@ pub record IsPublished (before : Content) (changes : List Change) (later : Conte
 abbrev pub Joined : Map → Path → Reference → Type 0
 Joined M P r =
     OfPath M P (λ E _ _ js. (r ≡ reference (legs M E.lines) E.pos E.neg js)
-    × Joins M E.lines (kept (legs M E.lines) E.pos E.neg js))
+    × Joins M E.lines (kept_points (legs M E.lines) E.pos E.neg js))
 
 -- those of each path's reference do
 abbrev pub IsJoined : Content → Type 0

@@ -1,7 +1,7 @@
 //! Degrees as text.
 ghost use Rattle.std.specs.Prelude.{◌≡◌, ◌^◌, ◌<◌, ◌≤◌, ◌&&◌, length, nat_le, if◌then◌else◌, IfSome, IfOk, IfErr};
-ghost use Rattle.olr_spec.specs.Degrees.{are_digits, before_point, digits_value, whole, fraction, unsigned, degrees};
-ghost use Rattle.olr_spec.specs.Degrees.{read_degrees};
+ghost use Rattle.olr_spec.specs.Degrees.{are_digits, before_point, digits_value, whole, fraction, unsigned_degrees};
+ghost use Rattle.olr_spec.specs.Degrees.{degrees, read_degrees};
 ghost use Rattle.olr_coords.specs.Faults.{coord_fault_of};
 
 /// The digits of whole degrees, at most.
@@ -86,7 +86,7 @@ fn point(text: &[u8]) -> usize
 
 /// Degrees without a sign, in units.
 fn without_sign(text: &[u8]) -> Option<u64>
-    ensures value { result ≡ unsigned text.now }
+    ensures value { result ≡ unsigned_degrees text.now }
     ensures bound { IfSome result (λ n. n < 2 ^ 60) }
 {
     let (before, rest) = text.split_at(point(text));

@@ -9,8 +9,8 @@ use Rattle.std.proofs.lemmas.Bool.{cases_eq, cases_order, eq-eqb, ne_eqb}
 use Rattle.std.proofs.lemmas.Map.Keys.{IsDistinct-head, IsDistinct-tail}
 use Rattle.std.proofs.lemmas.Nat.{div-add-mod'}
 use Rattle.std.proofs.Math.Nat.{mod-lt}
-use Rattle.olr_map.specs.Blocked.{told, slot_at, slot_in, found_in, IsBlank, AreUsed, from, all_in}
-use Rattle.olr_map.specs.ByNumbers.{pairs_of, found}
+use Rattle.olr_map.specs.Blocked.{number_before, slot_at, slot_in, found_in, IsBlank, AreUsed, from, all_in}
+use Rattle.olr_map.specs.ByNumbers.{pairs_of, slot_by}
 use Rattle.olr_map.specs.declared.block.Block.{Block}
 use Rattle.olr_map.specs.declared.by_number.ByNumber.{ByNumber}
 use Rattle.olr_map.specs.declared.by_number.ByNumber.TheVariants.{Hashed, Listed}
@@ -60,24 +60,24 @@ abbrev pub zeros : ℕ → List ℕ
 zeros zero = []
 zeros (suc n) = 0 ∷ zeros n
 
-zeros_tell : (n i : ℕ) → told (slice_index (zeros n) i) ≡ None
+zeros_tell : (n i : ℕ) → number_before (slice_index (zeros n) i) ≡ None
 zeros_tell zero i = refl
 zeros_tell (suc n) zero = refl
 zeros_tell (suc n) (suc i) = zeros_tell n i
 
-told_none : (n : ℕ) → told n ≡ None → n ≡ 0
-told_none zero e = refl
-told_none (suc p) e = absurd cc
+none_before : (n : ℕ) → number_before n ≡ None → n ≡ 0
+none_before zero e = refl
+none_before (suc p) e = absurd cc
 
-blank_zeros : (xs : List ℕ) → ((i : ℕ) → told (slice_index xs i) ≡ None) → xs ≡ zeros (length xs)
+blank_zeros : (xs : List ℕ) → ((i : ℕ) → number_before (slice_index xs i) ≡ None) → xs ≡ zeros (length xs)
 blank_zeros [] h = refl
-blank_zeros (x ∷ xs) h = let first = told_none x (h 0) in let rest = blank_zeros xs (λ i. h (suc i)) in cc
+blank_zeros (x ∷ xs) h = let first = none_before x (h 0) in let rest = blank_zeros xs (λ i. h (suc i)) in cc
 
 -- what a comparison with four zeros tells
 pub blank_test : (b : Block) (t : Bool) → t ≡ pointwise nat_eq b.slots (zeros 4) → (t ≡ true → IsBlank b)
     × (IsBlank b → t ≡ true)
 blank_test b true e =
-    (λ _ i. ap (λ xs. told (slice_index xs i)) (same_text b.slots (zeros 4) e) ∙ zeros_tell 4 i, λ _. refl)
+    (λ _ i. ap (λ xs. number_before (slice_index xs i)) (same_text b.slots (zeros 4) e) ∙ zeros_tell 4 i, λ _. refl)
 blank_test b false e =
     (λ h. absurd cc, λ blank. absurd (other_text b.slots (zeros 4) e (blank_zeros b.slots blank ∙ ap zeros b.four)))
 
@@ -142,7 +142,8 @@ below n (suc p ∷ xs) k lt =
     ap (λ (t : Bool). cond t (Some p) (lookup (λ q. k == q) (from (suc n) xs))) (ne_eqb k n (λ e. omega arith))
     ∙ below (suc n) xs k (omega arith)
 
-within : (n : ℕ) (xs : List ℕ) (i k : ℕ) → k ≡ n + i → lookup (λ q. k == q) (from n xs) ≡ told (slice_index xs i)
+within : (n : ℕ) (xs : List ℕ) (i k : ℕ) → k ≡ n + i →
+    lookup (λ q. k == q) (from n xs) ≡ number_before (slice_index xs i)
 within n [] i k e = refl
 within n (zero ∷ xs) zero k e = below (suc n) xs k (omega arith)
 within n (suc p ∷ xs) zero k e =
@@ -163,7 +164,7 @@ outside b k ne =
       | inr o ↦ elim o [
         | inl low ↦ below (b.0 * 4) b.1.slots k (omega arith)
         | inr high ↦ within (b.0 * 4) b.1.slots (k - b.0 * 4) k (omega arith)
-            ∙ ap told (none_above b.1.slots (k - b.0 * 4) 0 (omega arith))
+            ∙ ap number_before (none_above b.1.slots (k - b.0 * 4) 0 (omega arith))
       ]
     ]
 
@@ -191,6 +192,6 @@ all_listed (b ∷ bs) k apart =
       | false ↦ λ e. lookup_second k (from (b.0 * 4) b.1.slots) (all_in bs) (outside b k e) ∙ later
     ] refl
 
-pub listed_found : (b : ByNumber) (k : ℕ) → lookup (λ q. k == q) (pairs_of b) ≡ found b k
+pub listed_found : (b : ByNumber) (k : ℕ) → lookup (λ q. k == q) (pairs_of b) ≡ slot_by b k
 listed_found (Hashed bs) k = all_listed bs.blocks.entries k bs.apart
 listed_found (Listed l) k = refl

@@ -7,7 +7,7 @@ use Rattle.std.proofs.lemmas.List.{ext_get_or, length-set, length_push}
 use Rattle.olr_map.specs.Slotted.{at, Comes, Goes, Turns}
 use Rattle.olr_map.specs.Slabs.{slots_of, Fills}
 use Rattle.olr_map.specs.Columns.{with_lines, rows, node_slots}
-use Rattle.olr_map.specs.NodeLinks.{links_at, relinked}
+use Rattle.olr_map.specs.NodeLinks.{links_at, with_links}
 use Rattle.olr_map.specs.declared.links.Links.{Links}
 use Rattle.olr_map.specs.declared.slab.Slab.{Slab}
 use Rattle.olr_map.specs.declared.slots.NodeEntry.{NodeEntry}
@@ -118,24 +118,24 @@ entry_read hs os is p e h o i here is_h r q =
 -- ---- the rows after a change of one column, or of all
 
 pub rows_set_outs : (hs : Heads) (os is : Column) (p : ℕ) (e : NodeEntry) (l : Links) → at (rows hs os is) p ≡ Some e →
-    rows hs (set os p l) is ≡ set (rows hs os is) p (Some (relinked Out e l))
+    rows hs (set os p l) is ≡ set (rows hs os is) p (Some (with_links Out e l))
 rows_set_outs [] os is p e l h = absurd cc
 rows_set_outs (x ∷ hs) [] is p e l h = absurd cc
 rows_set_outs (x ∷ hs) (o ∷ os) [] p e l h = absurd cc
 rows_set_outs (None ∷ hs) (o ∷ os) (i ∷ is) zero e l h = absurd cc
 rows_set_outs (Some x ∷ hs) (o ∷ os) (i ∷ is) zero e l h =
-    ap (λ (f : NodeEntry). Some (relinked Out f l) ∷ rows hs os is) (same_some _ _ h)
+    ap (λ (f : NodeEntry). Some (with_links Out f l) ∷ rows hs os is) (same_some _ _ h)
 rows_set_outs (x ∷ hs) (o ∷ os) (i ∷ is) (suc p) e l h =
     ap (λ rs. with_lines x o i ∷ rs) (rows_set_outs hs os is p e l h)
 
 pub rows_set_ins : (hs : Heads) (os is : Column) (p : ℕ) (e : NodeEntry) (l : Links) → at (rows hs os is) p ≡ Some e →
-    rows hs os (set is p l) ≡ set (rows hs os is) p (Some (relinked In e l))
+    rows hs os (set is p l) ≡ set (rows hs os is) p (Some (with_links In e l))
 rows_set_ins [] os is p e l h = absurd cc
 rows_set_ins (x ∷ hs) [] is p e l h = absurd cc
 rows_set_ins (x ∷ hs) (o ∷ os) [] p e l h = absurd cc
 rows_set_ins (None ∷ hs) (o ∷ os) (i ∷ is) zero e l h = absurd cc
 rows_set_ins (Some x ∷ hs) (o ∷ os) (i ∷ is) zero e l h =
-    ap (λ (f : NodeEntry). Some (relinked In f l) ∷ rows hs os is) (same_some _ _ h)
+    ap (λ (f : NodeEntry). Some (with_links In f l) ∷ rows hs os is) (same_some _ _ h)
 rows_set_ins (x ∷ hs) (o ∷ os) (i ∷ is) (suc p) e l h = ap (λ rs. with_lines x o i ∷ rs) (rows_set_ins hs os is p e l h)
 
 -- an entry with another head
@@ -213,22 +213,22 @@ module _ (s : NodeSlots) where
         ins_read (slots_of s.heads) s.outs.items s.ins.items p e w here r ∙ ap (λ (x : Side). links_at x e) (sym h)
 
     pub outs_turned : side ≡ Out → (l : Links) →
-        Turns (node_slots s) (rows (slots_of s.heads) (set s.outs.items p l) s.ins.items) p e (relinked side e l)
+        Turns (node_slots s) (rows (slots_of s.heads) (set s.outs.items p l) s.ins.items) p e (with_links side e l)
     outs_turned h l =
         subst (λ (x : Side). Turns (node_slots s) (rows (slots_of s.heads) (set s.outs.items p l) s.ins.items) p e
-        (relinked x e l)) (sym h)
-        (subst (λ rs. Turns (node_slots s) rs p e (relinked Out e l))
+        (with_links x e l)) (sym h)
+        (subst (λ rs. Turns (node_slots s) rs p e (with_links Out e l))
         (sym (rows_set_outs (slots_of s.heads) s.outs.items s.ins.items p e l here))
-        (turns (node_slots s) p e (relinked Out e l) here))
+        (turns (node_slots s) p e (with_links Out e l) here))
 
     pub ins_turned : side ≡ In → (l : Links) →
-        Turns (node_slots s) (rows (slots_of s.heads) s.outs.items (set s.ins.items p l)) p e (relinked side e l)
+        Turns (node_slots s) (rows (slots_of s.heads) s.outs.items (set s.ins.items p l)) p e (with_links side e l)
     ins_turned h l =
         subst (λ (x : Side). Turns (node_slots s) (rows (slots_of s.heads) s.outs.items (set s.ins.items p l)) p e
-        (relinked x e l)) (sym h)
-        (subst (λ rs. Turns (node_slots s) rs p e (relinked In e l))
+        (with_links x e l)) (sym h)
+        (subst (λ rs. Turns (node_slots s) rs p e (with_links In e l))
         (sym (rows_set_ins (slots_of s.heads) s.outs.items s.ins.items p e l here))
-        (turns (node_slots s) p e (relinked In e l) here))
+        (turns (node_slots s) p e (with_links In e l) here))
 
   -- another head in a slot
   pub head_turned : (heads : List (Option NodeHead)) (p : ℕ) (e : NodeEntry) (f g : NodeHead) → at (node_slots s) p

@@ -8,10 +8,10 @@ use Rattle.std.proofs.lemmas.Bool.{eqb-true}
 use Rattle.std.specs.Ordering.{nat_cmp}
 use Rattle.olr_spec.specs.Coordinates.{Coord}
 use Rattle.olr_spec.specs.Map.{Map, IsMap, Line, has_node, has_line, line_at}
-use Rattle.olr_map.specs.ByNumbers.{pairs_of, found}
+use Rattle.olr_map.specs.ByNumbers.{pairs_of, slot_by}
 use Rattle.olr_map.specs.Slotted.{at, Turns}
 use Rattle.olr_map.specs.Columns.{node_slots}
-use Rattle.olr_map.specs.NodeLinks.{links_at, relinked}
+use Rattle.olr_map.specs.NodeLinks.{links_at, with_links}
 use Rattle.olr_map.specs.Linked.{lines_on, ends_on, spare_links}
 use Rattle.olr_map.specs.Kept.{far, node_in, links_in, map_from, place_in, IsListed, IsIndexed, IsKept}
 use Rattle.olr_map.specs.Changes.{tables_map}
@@ -52,7 +52,7 @@ empty_map_sound M no_node no_line =
 pub kept_none : (b : ByNumber) (s : NodeSlots) (ls : Numbered Line) → pairs_of b ≡ [] → node_slots s ≡ [] →
     things_of ls ≡ [] → IsKept b (node_slots s) (all_held ls)
 kept_none b s ls no_nodes no_slots no_lines =
-    let none : (v : ℕ) → found b v ≡ None = λ v. sym (listed_found b v) ∙ ap (lookup (λ q. v == q)) no_nodes in
+    let none : (v : ℕ) → slot_by b v ≡ None = λ v. sym (listed_found b v) ∙ ap (lookup (λ q. v == q)) no_nodes in
     let free : (p : ℕ) → at (node_slots s) p ≡ None = λ p. ap (λ es. at es p) no_slots in
     let indexed : IsIndexed b (node_slots s) =
     record {
@@ -71,7 +71,7 @@ kept_none b s ls no_nodes no_slots no_lines =
 
 -- ---- more room for numbers
 
-module _ (t : Tables) (b' : ByNumber) (same : (k : ℕ) → found b' k ≡ found t.index k) where
+module _ (t : Tables) (b' : ByNumber) (same : (k : ℕ) → slot_by b' k ≡ slot_by t.index k) where
   index_indexed : IsIndexed b' (node_slots t.nodes)
   index_indexed =
       record {
@@ -118,26 +118,26 @@ pub record Grown (old new : Links) : Type 0 where
 grown_same : (l : Links) → Grown l l
 grown_same l = record { lines = refl; ends = refl; spare = omega arith }
 
-same_id : (side : Side) (e : NodeEntry) (l : Links) → (relinked side e l).id ≡ e.id
+same_id : (side : Side) (e : NodeEntry) (l : Links) → (with_links side e l).id ≡ e.id
 same_id Out e l = refl
 same_id In e l = refl
 
-same_place : (side : Side) (e : NodeEntry) (l : Links) → (relinked side e l).place ≡ e.place
+same_place : (side : Side) (e : NodeEntry) (l : Links) → (with_links side e l).place ≡ e.place
 same_place Out e l = refl
 same_place In e l = refl
 
 grown_at : (s side : Side) (e : NodeEntry) (l : Links) → Grown (links_at side e) l →
-    Grown (links_at s e) (links_at s (relinked side e l))
+    Grown (links_at s e) (links_at s (with_links side e l))
 grown_at Out Out e l g = g
 grown_at Out In e l g = grown_same e.outs
 grown_at In Out e l g = grown_same e.ins
 grown_at In In e l g = g
 
 module _ (t : Tables) (nodes' : NodeSlots) (side : Side) (p v : ℕ) (e : NodeEntry) (l : Links)
-    (u : Turns (node_slots t.nodes) (node_slots nodes') p e (relinked side e l))
-    (here : found t.index v ≡ Some p) (g : Grown (links_at side e) l) where
+    (u : Turns (node_slots t.nodes) (node_slots nodes') p e (with_links side e l))
+    (here : slot_by t.index v ≡ Some p) (g : Grown (links_at side e) l) where
   abbrev f : NodeEntry
-  f = relinked side e l
+  f = with_links side e l
 
   grown_indexed : IsIndexed t.index (node_slots nodes')
   grown_indexed =

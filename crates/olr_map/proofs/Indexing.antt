@@ -3,7 +3,7 @@ use Rattle.std.proofs.Common.{◌≡◌, ◌==◌, ℕ, Bool, true, false, cond,
 use Rattle.std.proofs.Common.{is_some, eqb-true}
 use Rattle.std.specs.Option.{option_map}
 use Rattle.std.proofs.lemmas.Bool.{eq-eqb, ne_eqb}
-use Rattle.olr_map.specs.ByNumbers.{found}
+use Rattle.olr_map.specs.ByNumbers.{slot_by}
 use Rattle.olr_map.specs.Slotted.{at, Comes, Goes, Turns}
 use Rattle.olr_map.specs.HavingSlots.{HaveSlots}
 use Rattle.olr_map.specs.Kept.{node_in, IsIndexed}
@@ -20,7 +20,7 @@ Slots = List (Option NodeEntry)
 -- what a slot holds has the node's number
 module _ (b : ByNumber) (es : Slots) (indexed : IsIndexed b es) where
   -- two nodes are not in one slot
-  pub one_node : (v w p : ℕ) → found b v ≡ Some p → found b w ≡ Some p → v ≡ w
+  pub one_node : (v w p : ℕ) → slot_by b v ≡ Some p → slot_by b w ≡ Some p → v ≡ w
   one_node v w p h k = same_some _ _ (sym (indexed.stands v p h) ∙ indexed.stands w p k)
 
   mapped_some : (o : Option NodeEntry) (v : ℕ) → option_map id_of o ≡ Some v → is_some o ≡ true
@@ -31,12 +31,12 @@ module _ (b : ByNumber) (es : Slots) (indexed : IsIndexed b es) where
   nodes_stand = record { stands = λ v p h. mapped_some (at es p) v (indexed.stands v p h); apart = one_node }
 
   -- the entry of a node that is found
-  pub entry_of : (v p : ℕ) → found b v ≡ Some p → (e : NodeEntry) × (at es p ≡ Some e)
+  pub entry_of : (v p : ℕ) → slot_by b v ≡ Some p → (e : NodeEntry) × (at es p ≡ Some e)
   entry_of = standing b es nodes_stand
 
   -- ---- another entry for a node
 
-  module _ (es' : Slots) (p v : ℕ) (e f : NodeEntry) (t : Turns es es' p e f) (here : found b v ≡ Some p)
+  module _ (es' : Slots) (p v : ℕ) (e f : NodeEntry) (t : Turns es es' p e f) (here : slot_by b v ≡ Some p)
       (same : f.id ≡ e.id) where
     ids : (q : ℕ) → option_map id_of (at es' q) ≡ option_map id_of (at es q)
     ids q =
@@ -57,8 +57,8 @@ module _ (b : ByNumber) (es : Slots) (indexed : IsIndexed b es) where
   -- ---- a node that comes
 
   module _ (b' : ByNumber) (es' : Slots) (p v : ℕ) (e : NodeEntry) (c : Comes es es' p e) (id : e.id ≡ v)
-      (absent : found b v ≡ None)
-      (put : (k : ℕ) → found b' k ≡ cond (v == k) (Some p) (found b k)) where
+      (absent : slot_by b v ≡ None)
+      (put : (k : ℕ) → slot_by b' k ≡ cond (v == k) (Some p) (slot_by b k)) where
     pub came_node : (k : ℕ) → node_in b' es' k ≡ cond (v == k) (Some e) (node_in b es k)
     came_node = came_held b es nodes_stand b' es' p v e c put
 
@@ -66,7 +66,7 @@ module _ (b : ByNumber) (es : Slots) (indexed : IsIndexed b es) where
     came_indexed =
         record {
           stands = λ k q h.
-              elim (v == k) as (λ t. (v == k) ≡ t → cond t (Some p) (found b k) ≡ Some q →
+              elim (v == k) as (λ t. (v == k) ≡ t → cond t (Some p) (slot_by b k) ≡ Some q →
               option_map id_of (at es' q) ≡ Some k) [
                 | true ↦ λ i g.
                     ap (λ n. option_map id_of (at es' n)) (sym (same_some _ _ g))
@@ -77,23 +77,23 @@ module _ (b : ByNumber) (es : Slots) (indexed : IsIndexed b es) where
               ] refl (sym (put k) ∙ h);
           named = λ k q h.
               elim (p == q) as (λ t. (p == q) ≡ t → option_map id_of (cond t (Some e) (at es q)) ≡ Some k →
-              found b' k ≡ Some q) [
+              slot_by b' k ≡ Some q) [
                 | true ↦ λ i g.
                     let is : v ≡ k = sym id ∙ same_some _ _ g in
-                    put k ∙ ap (λ (t : Bool). cond t (Some p) (found b k)) (eq-eqb v k is)
+                    put k ∙ ap (λ (t : Bool). cond t (Some p) (slot_by b k)) (eq-eqb v k is)
                     ∙ ap (λ n. Some n) (eqb-true p q i)
                 | false ↦ λ i g.
                     let old = indexed.named k q g in
                     let ne : (v == k) ≡ false =
-                    ne_eqb v k (λ j. let never : None ≡ Some q = sym absent ∙ ap (found b) j ∙ old in cc) in
-                    put k ∙ ap (λ (t : Bool). cond t (Some p) (found b k)) ne ∙ old
+                    ne_eqb v k (λ j. let never : None ≡ Some q = sym absent ∙ ap (slot_by b) j ∙ old in cc) in
+                    put k ∙ ap (λ (t : Bool). cond t (Some p) (slot_by b k)) ne ∙ old
               ] refl (ap (option_map id_of) (sym (c.now q)) ∙ h);
         }
 
   -- ---- a node that goes
 
-  module _ (b' : ByNumber) (es' : Slots) (p v : ℕ) (e : NodeEntry) (g : Goes es es' p e) (here : found b v ≡ Some p)
-      (taken : (k : ℕ) → found b' k ≡ cond (v == k) None (found b k)) where
+  module _ (b' : ByNumber) (es' : Slots) (p v : ℕ) (e : NodeEntry) (g : Goes es es' p e) (here : slot_by b v ≡ Some p)
+      (taken : (k : ℕ) → slot_by b' k ≡ cond (v == k) None (slot_by b k)) where
     pub gone_node : (k : ℕ) → node_in b' es' k ≡ cond (v == k) None (node_in b es k)
     gone_node = gone_held b es nodes_stand b' es' p v e g here taken
 
@@ -101,7 +101,7 @@ module _ (b : ByNumber) (es : Slots) (indexed : IsIndexed b es) where
     gone_indexed =
         record {
           stands = λ k q h.
-              elim (v == k) as (λ t. (v == k) ≡ t → cond t None (found b k) ≡ Some q →
+              elim (v == k) as (λ t. (v == k) ≡ t → cond t None (slot_by b k) ≡ Some q →
               option_map id_of (at es' q) ≡ Some k) [
                 | true ↦ λ i j. absurd cc
                 | false ↦ λ i j. ap (option_map id_of) (remains b es nodes_stand b' es' p v e g here taken k q i j)
@@ -109,12 +109,12 @@ module _ (b : ByNumber) (es : Slots) (indexed : IsIndexed b es) where
               ] refl (sym (taken k) ∙ h);
           named = λ k q h.
               elim (p == q) as (λ t. (p == q) ≡ t → option_map id_of (cond t None (at es q)) ≡ Some k →
-              found b' k ≡ Some q) [
+              slot_by b' k ≡ Some q) [
                 | true ↦ λ i j. absurd cc
                 | false ↦ λ i j.
                     let old = indexed.named k q j in
                     let ne : (v == k) ≡ false =
-                    ne_eqb v k (λ m. let is = eq-eqb p q (same_some _ _ (sym here ∙ ap (found b) m ∙ old)) in cc) in
-                    taken k ∙ ap (λ (t : Bool). cond t None (found b k)) ne ∙ old
+                    ne_eqb v k (λ m. let is = eq-eqb p q (same_some _ _ (sym here ∙ ap (slot_by b) m ∙ old)) in cc) in
+                    taken k ∙ ap (λ (t : Bool). cond t None (slot_by b k)) ne ∙ old
               ] refl (ap (option_map id_of) (sym (g.now q)) ∙ h);
         }

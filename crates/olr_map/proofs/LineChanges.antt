@@ -11,10 +11,10 @@ use Rattle.olr_spec.proofs.EditLemmas.{edits_keep, made_by}
 use Rattle.olr_spec.proofs.MapLemmas.{has-lines_where, passes_at}
 use Rattle.olr_spec.proofs.UndoLemmas.{takes_back}
 use Rattle.olr_spec.proofs.OptionLemmas.{none_of}
-use Rattle.olr_map.specs.ByNumbers.{found}
+use Rattle.olr_map.specs.ByNumbers.{slot_by}
 use Rattle.olr_map.specs.Slotted.{at, Turns}
 use Rattle.olr_map.specs.Columns.{node_slots, node_room}
-use Rattle.olr_map.specs.NodeLinks.{links_at, relinked}
+use Rattle.olr_map.specs.NodeLinks.{links_at, with_links}
 use Rattle.olr_map.specs.Linked.{lines_on, spare_links, IsLinked, IsUnlinked, IsReset}
 use Rattle.olr_map.specs.Kept.{near, far, node_in, links_in, map_from, place_in, end_at, IsListed, IsIndexed, IsKept}
 use Rattle.olr_map.specs.Changes.{tables_map, room_of, spare_at, changed_at, CanMake, map_after, IsChangeMade}
@@ -65,7 +65,7 @@ kept_by fn N N' v e f was now same k =
       | false ↦ λ i. refl
     ] refl
 
-module _ (t : Tables) (from p : ℕ) (here : found t.index from ≡ Some p) where
+module _ (t : Tables) (from p : ℕ) (here : slot_by t.index from ≡ Some p) where
   pub first_entry : (e : NodeEntry) × (at (node_slots t.nodes) p ≡ Some e)
   first_entry = entry_of t.index (node_slots t.nodes) t.kept.indexed from p here
 
@@ -74,21 +74,22 @@ module _ (t : Tables) (from p : ℕ) (here : found t.index from ≡ Some p) wher
   first_links side e is = ap (option_map (links_at side)) (ap (in_slot (node_slots t.nodes)) here ∙ is)
 
   module _ (mid : NodeSlots) (e : NodeEntry) (l : Links)
-      (g : Turns (node_slots t.nodes) (node_slots mid) p e (relinked Out e l)) where
+      (g : Turns (node_slots t.nodes) (node_slots mid) p e (with_links Out e l)) where
     mid_indexed : IsIndexed t.index (node_slots mid)
     mid_indexed =
-        turned_indexed t.index (node_slots t.nodes) t.kept.indexed (node_slots mid) p from e (relinked Out e l) g here
+        turned_indexed t.index (node_slots t.nodes) t.kept.indexed (node_slots mid) p from e (with_links Out e l) g here
         refl
 
     mid_node : (k : ℕ) → node_in t.index (node_slots mid) k
-        ≡ cond (from == k) (Some (relinked Out e l)) (node_in t.index (node_slots t.nodes) k)
+        ≡ cond (from == k) (Some (with_links Out e l)) (node_in t.index (node_slots t.nodes) k)
     mid_node =
-        turned_node t.index (node_slots t.nodes) t.kept.indexed (node_slots mid) p from e (relinked Out e l) g here refl
+        turned_node t.index (node_slots t.nodes) t.kept.indexed (node_slots mid) p from e (with_links Out e l) g here
+        refl
 
     at_from : node_in t.index (node_slots t.nodes) from ≡ Some e
     at_from = ap (in_slot (node_slots t.nodes)) here ∙ g.was
 
-    module _ (to q : ℕ) (there : found t.index to ≡ Some q) where
+    module _ (to q : ℕ) (there : slot_by t.index to ≡ Some q) where
       pub second_entry : (f : NodeEntry) × (at (node_slots mid) q ≡ Some f)
       second_entry = entry_of t.index (node_slots mid) mid_indexed to q there
 
@@ -96,38 +97,40 @@ module _ (t : Tables) (from p : ℕ) (here : found t.index from ≡ Some p) wher
           links_in In t.index (node_slots t.nodes) to ≡ Some f.ins
       second_links f is =
           sym (kept_by (links_at In) (node_in t.index (node_slots t.nodes)) (node_in t.index (node_slots mid)) from e
-          (relinked Out e l) at_from mid_node refl to)
+          (with_links Out e l) at_from mid_node refl to)
           ∙ ap (option_map (links_at In)) (ap (in_slot (node_slots mid)) there ∙ is)
 
       pub both_turned : (nodes' : NodeSlots) (f : NodeEntry) (m : Links) →
-          Turns (node_slots mid) (node_slots nodes') q f (relinked In f m) → Relinked t nodes' from to e.outs l f.ins m
+          Turns (node_slots mid) (node_slots nodes') q f (with_links In f m) →
+          Relinked t nodes' from to e.outs l f.ins m
       both_turned nodes' f m h =
           let b : ByNumber = t.index in
           let node : (k : ℕ) → node_in b (node_slots nodes') k
-          ≡ cond (to == k) (Some (relinked In f m)) (node_in b (node_slots mid) k) =
-          turned_node b (node_slots mid) mid_indexed (node_slots nodes') q to f (relinked In f m) h there refl in
+          ≡ cond (to == k) (Some (with_links In f m)) (node_in b (node_slots mid) k) =
+          turned_node b (node_slots mid) mid_indexed (node_slots nodes') q to f (with_links In f m) h there refl in
           let at_to : node_in b (node_slots mid) to ≡ Some f = ap (in_slot (node_slots mid)) there ∙ h.was in
           record {
             indexed =
-                turned_indexed b (node_slots mid) mid_indexed (node_slots nodes') q to f (relinked In f m) h there refl;
+                turned_indexed b (node_slots mid) mid_indexed (node_slots nodes') q to f (with_links In f m) h there
+                refl;
             nodes = λ k.
-                kept_by place_of (node_in b (node_slots mid)) (node_in b (node_slots nodes')) to f (relinked In f m)
+                kept_by place_of (node_in b (node_slots mid)) (node_in b (node_slots nodes')) to f (with_links In f m)
                 at_to node refl k
                 ∙ kept_by place_of (node_in b (node_slots t.nodes)) (node_in b (node_slots mid)) from e
-                (relinked Out e l) at_from mid_node refl k;
+                (with_links Out e l) at_from mid_node refl k;
             out_was = ap (option_map (links_at Out)) at_from;
             out_now = λ k.
                 kept_by (links_at Out) (node_in b (node_slots mid)) (node_in b (node_slots nodes')) to f
-                (relinked In f m) at_to node refl k
+                (with_links In f m) at_to node refl k
                 ∙ ap (option_map (links_at Out)) (mid_node k)
-                ∙ map_cond (links_at Out) (from == k) (relinked Out e l) (node_in b (node_slots t.nodes) k);
+                ∙ map_cond (links_at Out) (from == k) (with_links Out e l) (node_in b (node_slots t.nodes) k);
             in_was = second_links f h.was;
             in_now = λ k.
                 ap (option_map (links_at In)) (node k)
-                ∙ map_cond (links_at In) (to == k) (relinked In f m) (node_in b (node_slots mid) k)
+                ∙ map_cond (links_at In) (to == k) (with_links In f m) (node_in b (node_slots mid) k)
                 ∙ ap (cond (to == k) (Some m))
                 (kept_by (links_at In) (node_in b (node_slots t.nodes)) (node_in b (node_slots mid)) from e
-                (relinked Out e l) at_from mid_node refl k);
+                (with_links Out e l) at_from mid_node refl k);
           }
 
 -- ---- what a list takes and gives
@@ -158,19 +161,20 @@ module _ (t : Tables) (side : Side) (v : ℕ) (o : Links)
 pub record Standing (t : Tables) (x p q : ℕ) : Type 0 where
   pub line : Line
   pub is : held t.lines x ≡ Some line
-  pub here : found t.index line.from ≡ Some p
-  pub there : found t.index line.to ≡ Some q
+  pub here : slot_by t.index line.from ≡ Some p
+  pub there : slot_by t.index line.to ≡ Some q
 
 pub standing_line : (t : Tables) (x p q : ℕ) → has_line (tables_map t) x ≡ true →
-    found t.index (start (tables_map t) x) ≡ Some p → found t.index (end (tables_map t) x) ≡ Some q → Standing t x p q
+    slot_by t.index (start (tables_map t) x) ≡ Some p → slot_by t.index (end (tables_map t) x) ≡ Some q →
+    Standing t x p q
 standing_line t x p q known begin finish =
     let l = line_found t x known in
     let is = record_of (tables_map t) x l.0 (got_line t x ∙ l.1) in
     record {
       line = l.0;
       is = l.1;
-      here = ap (λ (k : Line). found t.index k.from) (sym is) ∙ begin;
-      there = ap (λ (k : Line). found t.index k.to) (sym is) ∙ finish;
+      here = ap (λ (k : Line). slot_by t.index k.from) (sym is) ∙ begin;
+      there = ap (λ (k : Line). slot_by t.index k.to) (sym is) ∙ finish;
     }
 
 -- both lists have it, that at its end also where the other has changed
@@ -187,7 +191,7 @@ module _ (t : Tables) (x p q : ℕ) (s : Standing t x p q) where
       )
 
   module _ (mid : NodeSlots) (e : NodeEntry) (l : Links)
-      (g : Turns (node_slots t.nodes) (node_slots mid) p e (relinked Out e l)) where
+      (g : Turns (node_slots t.nodes) (node_slots mid) p e (with_links Out e l)) where
     pub end_lists : (f : NodeEntry) × (at (node_slots mid) q ≡ Some f) × IsStrictlyIncreasing (lines_on f.ins)
         × (has (lines_on f.ins) x ≡ true)
     end_lists =
@@ -200,13 +204,13 @@ module _ (t : Tables) (x p q : ℕ) (s : Standing t x p q) where
         )
 
     pub both_relinked : (nodes' : NodeSlots) (f : NodeEntry) (m : Links) →
-        Turns (node_slots mid) (node_slots nodes') q f (relinked In f m) →
+        Turns (node_slots mid) (node_slots nodes') q f (with_links In f m) →
         Relinked t nodes' s.line.from s.line.to e.outs l f.ins m
     both_relinked nodes' f m h = both_turned t s.line.from p s.here mid e l g s.line.to q s.there nodes' f m h
 
 -- the end that stands in a list
 pub end_is : (side : Side) (b : ByNumber) (N : Map) (x : ℕ) (l : Line) (q : ℕ) → get N.lines x ≡ Some l →
-    found b (far side l) ≡ Some q
+    slot_by b (far side l) ≡ Some q
     → ◌≡◌ {A = LineEnd} (record { node = far side l; place = q; len = l.len }) (end_at side N (place_in b) x)
 end_is side b N x l q is at' =
     let same : ◌≡◌ {A = LineEnd} (record { node = far side l; place = q; len = l.len }) (seen side (place_in b) l) =
@@ -261,7 +265,7 @@ number_free t x l can =
 
 module _ (t : Tables) (nodes' : NodeSlots) (lines' : Numbered Line) (x : ℕ) (l : Line) (p q : ℕ) (o o' i i' : Links)
     (r : Relinked t nodes' l.from l.to o o' i i')
-    (here : found t.index l.from ≡ Some p) (there : found t.index l.to ≡ Some q)
+    (here : slot_by t.index l.from ≡ Some p) (there : slot_by t.index l.to ≡ Some q)
     (ko : IsLinked o o' x (record { node = l.to; place = q; len = l.len }))
     (ki : IsLinked i i' x (record { node = l.from; place = p; len = l.len }))
     (put : (k : ℕ) → held lines' k ≡ cond (x == k) (Some l) (held t.lines k))
@@ -480,7 +484,7 @@ line_set t x k can =
 
 module _ (t : Tables) (nodes' : NodeSlots) (lines' : Numbered Line) (x : ℕ) (k l : Line) (p q : ℕ) (o o' i i' : Links)
     (r : Relinked t nodes' l.from l.to o o' i i')
-    (here : found t.index k.from ≡ Some p) (there : found t.index k.to ≡ Some q)
+    (here : slot_by t.index k.from ≡ Some p) (there : slot_by t.index k.to ≡ Some q)
     (ko : IsReset o o' x (record { node = k.to; place = q; len = k.len }))
     (ki : IsReset i i' x (record { node = k.from; place = p; len = k.len }))
     (was : held t.lines x ≡ Some l) (put : (n : ℕ) → held lines' n ≡ cond (x == n) (Some k) (held t.lines n))

@@ -14,7 +14,7 @@ use Rattle.olr_spec.proofs.EditLemmas.{edits_keep, made_by}
 use Rattle.olr_spec.proofs.MapLemmas.{has-lines_where, passes_at}
 use Rattle.olr_spec.proofs.UndoLemmas.{takes_back}
 use Rattle.olr_spec.proofs.OptionLemmas.{is_some_of}
-use Rattle.olr_map.specs.ByNumbers.{found, spare_of}
+use Rattle.olr_map.specs.ByNumbers.{slot_by, spare_of}
 use Rattle.olr_map.specs.Slotted.{Comes, Goes, Turns}
 use Rattle.olr_map.specs.Columns.{node_slots, node_room}
 use Rattle.olr_map.specs.NodeLinks.{links_at}
@@ -71,9 +71,9 @@ pub absent_lines : (side : Side) (M : Map) (v : ℕ) → IsMap M → has_node M 
 absent_lines Out M v sound h = absent_outs M v sound h
 absent_lines In M v sound h = absent_ins M v sound h
 
-other_place : (b b' : ByNumber) (v u : ℕ) (o : Option ℕ) → ((k : ℕ) → found b' k ≡ cond (v == k) o (found b k)) →
+other_place : (b b' : ByNumber) (v u : ℕ) (o : Option ℕ) → ((k : ℕ) → slot_by b' k ≡ cond (v == k) o (slot_by b k)) →
     (v == u) ≡ false → place_in b u ≡ place_in b' u
-other_place b b' v u o put ne = sym (ap (λ p. unwrap_or p 0) (put u ∙ ap (λ (t : Bool). cond t o (found b u)) ne))
+other_place b b' v u o put ne = sym (ap (λ p. unwrap_or p 0) (put u ∙ ap (λ (t : Bool). cond t o (slot_by b u)) ne))
 
 -- what holds of each node's lines, where one node has others
 pub each_but : (L L' : ℕ → Option Links) (n : ℕ) (l : Links) (Q Q' : ℕ → Links → Type 0) →
@@ -111,7 +111,7 @@ linked_none side false o = refl
 -- ---- a node comes
 
 pub free_number : (t : Tables) (v : ℕ) (q : Coord) (o i : Spare) →
-    CanMake (tables_map t) (room_of t) (PutNode v q o i) → found t.index v ≡ None
+    CanMake (tables_map t) (room_of t) (PutNode v q o i) → slot_by t.index v ≡ None
 free_number t v q o i can =
     not_found t.index (node_slots t.nodes) t.kept.indexed (all_held t.lines) v
     (made_by (tables_map t) (map_after (tables_map t) (PutNode v q o i)) (Add_node v q)
@@ -125,7 +125,7 @@ pub record IsBare (l : Links) (s : Spare) : Type 0 where
 module _ (t : Tables) (b' : ByNumber) (nodes' : NodeSlots) (p v : ℕ) (q : Coord) (o i : Spare) (outs' ins' : Links)
     (bare_outs : IsBare outs' o) (bare_ins : IsBare ins' i)
     (c : Comes (node_slots t.nodes) (node_slots nodes') p (record { id = v; place = q; outs = outs'; ins = ins' }))
-    (put : (k : ℕ) → found b' k ≡ cond (v == k) (Some p) (found t.index k))
+    (put : (k : ℕ) → slot_by b' k ≡ cond (v == k) (Some p) (slot_by t.index k))
     (can : CanMake (tables_map t) (room_of t) (PutNode v q o i)) where
   abbrev e : NodeEntry
   e = record { id = v; place = q; outs = outs'; ins = ins' }
@@ -157,7 +157,7 @@ module _ (t : Tables) (b' : ByNumber) (nodes' : NodeSlots) (p v : ℕ) (q : Coor
   says : (has_node M v ≡ false) × (N ≡ map_after M came)
   says = made_by M (map_after M came) (Add_node v q) (made_ok M came can.accepted)
 
-  put_absent : found t.index v ≡ None
+  put_absent : slot_by t.index v ≡ None
   put_absent = free_number t v q o i can
 
   put_indexed : IsIndexed b' (node_slots nodes')
@@ -259,15 +259,15 @@ module _ (t : Tables) (b' : ByNumber) (nodes' : NodeSlots) (p v : ℕ) (q : Coor
 -- ---- a node goes
 
 pub slot_taken : (t : Tables) (v : ℕ) → CanMake (tables_map t) (room_of t) (TakeNode v) → (p : ℕ)
-    × (found t.index v ≡ Some p)
+    × (slot_by t.index v ≡ Some p)
 slot_taken t v can =
     slot_of t.index (node_slots t.nodes) t.kept.indexed (all_held t.lines) v
     (made_by (tables_map t) (map_after (tables_map t) (TakeNode v)) (Drop_node v)
     (made_ok (tables_map t) (TakeNode v) can.accepted)).0
 
 module _ (t : Tables) (b' : ByNumber) (nodes' : NodeSlots) (p v : ℕ) (e : NodeEntry)
-    (g : Goes (node_slots t.nodes) (node_slots nodes') p e) (here : found t.index v ≡ Some p)
-    (taken : (k : ℕ) → found b' k ≡ cond (v == k) None (found t.index k))
+    (g : Goes (node_slots t.nodes) (node_slots nodes') p e) (here : slot_by t.index v ≡ Some p)
+    (taken : (k : ℕ) → slot_by b' k ≡ cond (v == k) None (slot_by t.index k))
     (can : CanMake (tables_map t) (room_of t) (TakeNode v)) where
   abbrev go_M : Map
   go_M = tables_map t
@@ -390,7 +390,7 @@ links_moved In e q = refl
 module _ (t : Tables) (nodes' : NodeSlots) (p v : ℕ) (e : NodeEntry) (q : Coord)
     (g : Turns (node_slots t.nodes) (node_slots nodes') p e
     (record { id = e.id; place = q; outs = e.outs; ins = e.ins }))
-    (here : found t.index v ≡ Some p) (can : CanMake (tables_map t) (room_of t) (MoveNode v q)) where
+    (here : slot_by t.index v ≡ Some p) (can : CanMake (tables_map t) (room_of t) (MoveNode v q)) where
   abbrev mv_M : Map
   mv_M = tables_map t
 
@@ -423,7 +423,7 @@ module _ (t : Tables) (nodes' : NodeSlots) (p v : ℕ) (e : NodeEntry) (q : Coor
         | true ↦ λ i.
             ap (λ l. Some l) (links_moved side e q) ∙ ap (option_map (links_at side)) (sym g.was)
             ∙ ap (λ o. option_map (links_at side) (in_slot (node_slots t.nodes) o))
-            (sym here ∙ ap (found t.index) (eqb-true v k i))
+            (sym here ∙ ap (slot_by t.index) (eqb-true v k i))
         | false ↦ λ i. refl
       ] refl
 

@@ -5,7 +5,7 @@ use Rattle.std.specs.Map.{lookup}
 use Rattle.std.specs.FinMap.{get}
 use Rattle.std.proofs.lemmas.Bool.{eq-eqb, ne_eqb}
 use Rattle.olr_spec.proofs.OptionLemmas.{some_of}
-use Rattle.olr_map.specs.ByNumbers.{pairs_of, found}
+use Rattle.olr_map.specs.ByNumbers.{pairs_of, slot_by}
 use Rattle.olr_map.specs.Slotted.{at, Comes, Goes, Turns}
 use Rattle.olr_map.specs.Slabs.{slots_of}
 use Rattle.olr_map.specs.HavingSlots.{in_slot, HaveSlots}
@@ -20,39 +20,40 @@ same_some x y e = cc
 
 module _ {X : Type 0} (b : ByNumber) (es : List (Option X)) (s : HaveSlots b es) where
   -- what stands in the slot of a number
-  pub standing : (v p : ℕ) → found b v ≡ Some p → (e : X) × (at es p ≡ Some e)
+  pub standing : (v p : ℕ) → slot_by b v ≡ Some p → (e : X) × (at es p ≡ Some e)
   standing v p h = some_of (at es p) (s.stands v p h)
 
   -- a number with nothing in its slot has no slot
-  pub no_slot : (v : ℕ) → in_slot es (found b v) ≡ None → found b v ≡ None
-  no_slot v h = step (found b v) refl where
-    step : (o : Option ℕ) → found b v ≡ o → o ≡ None
+  pub no_slot : (v : ℕ) → in_slot es (slot_by b v) ≡ None → slot_by b v ≡ None
+  no_slot v h = step (slot_by b v) refl where
+    step : (o : Option ℕ) → slot_by b v ≡ o → o ≡ None
     step None e = refl
     step (Some p) e = let x = standing v p e in let never : ◌≡◌ {A = Option X} None (Some x.0) =
         sym h ∙ ap (in_slot es) e ∙ x.1 in absurd cc
 
   -- a number with something in its slot has one
-  pub has_slot : (v : ℕ) → IsSome (in_slot es (found b v)) → (p : ℕ) × (found b v ≡ Some p)
-  has_slot v h = step (found b v) refl where
-    step : (o : Option ℕ) → found b v ≡ o → (p : ℕ) × (found b v ≡ Some p)
-    step None e = let never : is_some (in_slot es (found b v)) ≡ false = ap (λ o. is_some (in_slot es o)) e in absurd cc
+  pub has_slot : (v : ℕ) → IsSome (in_slot es (slot_by b v)) → (p : ℕ) × (slot_by b v ≡ Some p)
+  has_slot v h = step (slot_by b v) refl where
+    step : (o : Option ℕ) → slot_by b v ≡ o → (p : ℕ) × (slot_by b v ≡ Some p)
+    step None e =
+        let never : is_some (in_slot es (slot_by b v)) ≡ false = ap (λ o. is_some (in_slot es o)) e in absurd cc
     step (Some p) e = (p, e)
 
   -- ---- another thing for a number
 
-  module _ (es' : List (Option X)) (p v : ℕ) (e f : X) (t : Turns es es' p e f) (here : found b v ≡ Some p) where
-    pub turned_held : (k : ℕ) → in_slot es' (found b k) ≡ cond (v == k) (Some f) (in_slot es (found b k))
-    turned_held k = step (found b k) refl where
-      step : (o : Option ℕ) → found b k ≡ o → in_slot es' o ≡ cond (v == k) (Some f) (in_slot es o)
+  module _ (es' : List (Option X)) (p v : ℕ) (e f : X) (t : Turns es es' p e f) (here : slot_by b v ≡ Some p) where
+    pub turned_held : (k : ℕ) → in_slot es' (slot_by b k) ≡ cond (v == k) (Some f) (in_slot es (slot_by b k))
+    turned_held k = step (slot_by b k) refl where
+      step : (o : Option ℕ) → slot_by b k ≡ o → in_slot es' o ≡ cond (v == k) (Some f) (in_slot es o)
       step None h =
-          let ne : (v == k) ≡ false = ne_eqb v k (λ i. let never = sym here ∙ ap (found b) i ∙ h in cc) in
+          let ne : (v == k) ≡ false = ne_eqb v k (λ i. let never = sym here ∙ ap (slot_by b) i ∙ h in cc) in
           ap (λ (c : Bool). cond c (Some f) None) (sym ne)
       step (Some q) h =
           t.now q ∙ ap (λ (c : Bool). cond c (Some f) (at es q)) (both q h) where
-            both : (q : ℕ) → found b k ≡ Some q → (p == q) ≡ (v == k)
+            both : (q : ℕ) → slot_by b k ≡ Some q → (p == q) ≡ (v == k)
             both q h =
                 elim (v == k) as (λ c. (v == k) ≡ c → (p == q) ≡ c) [
-                  | true ↦ λ i. eq-eqb p q (same_some _ _ (sym here ∙ ap (found b) (eqb-true v k i) ∙ h))
+                  | true ↦ λ i. eq-eqb p q (same_some _ _ (sym here ∙ ap (slot_by b) (eqb-true v k i) ∙ h))
                   | false ↦ λ i. ne_eqb p q (λ j. let is = eq-eqb v k (s.apart v k q (here ∙ ap (λ n. Some n) j) h) in
                       cc)
                 ] refl
@@ -73,34 +74,35 @@ module _ {X : Type 0} (b : ByNumber) (es : List (Option X)) (s : HaveSlots b es)
   -- ---- a thing that comes
 
   module _ (b' : ByNumber) (es' : List (Option X)) (p v : ℕ) (e : X) (c : Comes es es' p e)
-      (put : (k : ℕ) → found b' k ≡ cond (v == k) (Some p) (found b k)) where
+      (put : (k : ℕ) → slot_by b' k ≡ cond (v == k) (Some p) (slot_by b k)) where
     -- another number's slot is another one
-    pub other_slot : (k q : ℕ) → found b k ≡ Some q → (p == q) ≡ false
+    pub other_slot : (k q : ℕ) → slot_by b k ≡ Some q → (p == q) ≡ false
     other_slot k q h =
         ne_eqb p q (λ i. let x = standing k q h in let never : None ≡ Some x.0 = sym c.was ∙ ap (at es) i ∙ x.1 in cc)
 
-    pub stays : (k q : ℕ) → found b k ≡ Some q → at es' q ≡ at es q
+    pub stays : (k q : ℕ) → slot_by b k ≡ Some q → at es' q ≡ at es q
     stays k q h = c.now q ∙ ap (λ (t : Bool). cond t (Some e) (at es q)) (other_slot k q h)
 
     pub arrives : at es' p ≡ Some e
     arrives = c.now p ∙ ap (λ (t : Bool). cond t (Some e) (at es p)) (eq-eqb p p refl)
 
-    pub came_held : (k : ℕ) → in_slot es' (found b' k) ≡ cond (v == k) (Some e) (in_slot es (found b k))
+    pub came_held : (k : ℕ) → in_slot es' (slot_by b' k) ≡ cond (v == k) (Some e) (in_slot es (slot_by b k))
     came_held k =
         ap (in_slot es') (put k)
-        ∙ elim (v == k) as (λ t. in_slot es' (cond t (Some p) (found b k)) ≡ cond t (Some e) (in_slot es (found b k))) [
+        ∙ elim (v == k) as (λ t. in_slot es' (cond t (Some p) (slot_by b k))
+        ≡ cond t (Some e) (in_slot es (slot_by b k))) [
           | true ↦ arrives
-          | false ↦ rest (found b k) refl
+          | false ↦ rest (slot_by b k) refl
         ] where
-          rest : (o : Option ℕ) → found b k ≡ o → in_slot es' o ≡ in_slot es o
+          rest : (o : Option ℕ) → slot_by b k ≡ o → in_slot es' o ≡ in_slot es o
           rest None h = refl
           rest (Some q) h = stays k q h
 
     -- a number's slot is the one that came, or the one that it had
-    came_from : (k q : ℕ) → found b' k ≡ Some q → (A : Type 0) → ((v == k) ≡ true → p ≡ q → A) →
-        (found b k ≡ Some q → A) → A
+    came_from : (k q : ℕ) → slot_by b' k ≡ Some q → (A : Type 0) → ((v == k) ≡ true → p ≡ q → A) →
+        (slot_by b k ≡ Some q → A) → A
     came_from k q h A new old =
-        elim (v == k) as (λ t. (v == k) ≡ t → cond t (Some p) (found b k) ≡ Some q → A) [
+        elim (v == k) as (λ t. (v == k) ≡ t → cond t (Some p) (slot_by b k) ≡ Some q → A) [
           | true ↦ λ i g. new i (same_some _ _ g)
           | false ↦ λ i g. old g
         ] refl (sym (put k) ∙ h)
@@ -122,31 +124,31 @@ module _ {X : Type 0} (b : ByNumber) (es : List (Option X)) (s : HaveSlots b es)
 
   -- ---- a thing that goes
 
-  module _ (b' : ByNumber) (es' : List (Option X)) (p v : ℕ) (e : X) (g : Goes es es' p e) (here : found b v ≡ Some p)
-      (taken : (k : ℕ) → found b' k ≡ cond (v == k) None (found b k)) where
-    pub remains : (k q : ℕ) → (v == k) ≡ false → found b k ≡ Some q → at es' q ≡ at es q
+  module _ (b' : ByNumber) (es' : List (Option X)) (p v : ℕ) (e : X) (g : Goes es es' p e) (here : slot_by b v ≡ Some p)
+      (taken : (k : ℕ) → slot_by b' k ≡ cond (v == k) None (slot_by b k)) where
+    pub remains : (k q : ℕ) → (v == k) ≡ false → slot_by b k ≡ Some q → at es' q ≡ at es q
     remains k q ne h =
         let apart : (p == q) ≡ false =
         ne_eqb p q (λ i. let is = eq-eqb v k (s.apart v k q (here ∙ ap (λ n. Some n) i) h) in cc) in
         g.now q ∙ ap (λ (t : Bool). cond t None (at es q)) apart
 
-    pub gone_held : (k : ℕ) → in_slot es' (found b' k) ≡ cond (v == k) None (in_slot es (found b k))
+    pub gone_held : (k : ℕ) → in_slot es' (slot_by b' k) ≡ cond (v == k) None (in_slot es (slot_by b k))
     gone_held k =
         ap (in_slot es') (taken k)
         ∙ elim (v == k) as (λ t. (v == k) ≡ t →
-        in_slot es' (cond t None (found b k)) ≡ cond t None (in_slot es (found b k))) [
+        in_slot es' (cond t None (slot_by b k)) ≡ cond t None (in_slot es (slot_by b k))) [
           | true ↦ λ i. refl
-          | false ↦ λ i. rest i (found b k) refl
+          | false ↦ λ i. rest i (slot_by b k) refl
         ] refl where
-          rest : (v == k) ≡ false → (o : Option ℕ) → found b k ≡ o → in_slot es' o ≡ in_slot es o
+          rest : (v == k) ≡ false → (o : Option ℕ) → slot_by b k ≡ o → in_slot es' o ≡ in_slot es o
           rest i None h = refl
           rest i (Some q) h = remains k q i h
 
     -- a number that has a slot is another one, and had it
-    left : (k q : ℕ) → found b' k ≡ Some q → ((v == k) ≡ false) × (found b k ≡ Some q)
+    left : (k q : ℕ) → slot_by b' k ≡ Some q → ((v == k) ≡ false) × (slot_by b k ≡ Some q)
     left k q h =
-        elim (v == k) as (λ t. (v == k) ≡ t → cond t None (found b k) ≡ Some q → ((v == k) ≡ false)
-        × (found b k ≡ Some q)) [
+        elim (v == k) as (λ t. (v == k) ≡ t → cond t None (slot_by b k) ≡ Some q → ((v == k) ≡ false)
+        × (slot_by b k ≡ Some q)) [
           | true ↦ λ i j. absurd cc
           | false ↦ λ i j. (i, j)
         ] refl (sym (taken k) ∙ h)
@@ -196,8 +198,8 @@ module _ {X : Type 0} where
 
 pub no_numbers : {X : Type 0} (b : ByNumber) (es : List (Option X)) → pairs_of b ≡ [] → HaveSlots b es
 no_numbers b es e = record { stands = λ v p h. absurd (never v p h); apart = λ v w p h i. absurd (never v p h) } where
-  none : (v : ℕ) → found b v ≡ None
+  none : (v : ℕ) → slot_by b v ≡ None
   none v = sym (listed_found b v) ∙ ap (lookup (λ q. v == q)) e
 
-  never : (v p : ℕ) → found b v ≡ Some p → ⊥
+  never : (v p : ℕ) → slot_by b v ≡ Some p → ⊥
   never v p h = let no : None ≡ Some p = sym (none v) ∙ h in cc

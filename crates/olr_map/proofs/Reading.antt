@@ -8,7 +8,7 @@ use Rattle.std.specs.Ordering.{nat_cmp}
 use Rattle.olr_spec.specs.Coordinates.{Coord}
 use Rattle.olr_spec.specs.Map.{Map, Line, IsMap, has_node, has_line, lines_in, lines_out, no_place}
 use Rattle.olr_spec.proofs.OptionLemmas.{none_of, some_of}
-use Rattle.olr_map.specs.ByNumbers.{pairs_of, found}
+use Rattle.olr_map.specs.ByNumbers.{pairs_of, slot_by}
 use Rattle.olr_map.specs.Slotted.{at}
 use Rattle.olr_map.specs.Columns.{node_slots}
 use Rattle.olr_map.specs.NodeLinks.{links_at}
@@ -52,8 +52,8 @@ module _ (b : ByNumber) (es : List (Option NodeEntry)) (indexed : IsIndexed b es
   got_node F v =
       all_get (map (λ (e : ℕ × ℕ). (e.0, coord_in es e.1)) (pairs_of b)) v
       ∙ lookup_mapped (coord_in es) (pairs_of b) v ∙ ap (option_map (coord_in es)) (listed_found b v)
-      ∙ step (found b v) refl where
-        step : (o : Option ℕ) → found b v ≡ o → option_map (coord_in es) o ≡ option_map place_of (in_slot es o)
+      ∙ step (slot_by b v) refl where
+        step : (o : Option ℕ) → slot_by b v ≡ o → option_map (coord_in es) o ≡ option_map place_of (in_slot es o)
         step None h = refl
         step (Some p) h = let x = entry_of b es indexed v p h in or_there place_of no_place (at es p) x.0 x.1
 
@@ -61,26 +61,27 @@ module _ (b : ByNumber) (es : List (Option NodeEntry)) (indexed : IsIndexed b es
   some_mapped None = refl
   some_mapped (Some e) = refl
 
-  pub node_there : (F : FinMap nat_cmp Line) (v p : ℕ) → found b v ≡ Some p → has_node (map_from b es F) v ≡ true
+  pub node_there : (F : FinMap nat_cmp Line) (v p : ℕ) → slot_by b v ≡ Some p → has_node (map_from b es F) v ≡ true
   node_there F v p h =
       let x = entry_of b es indexed v p h in
       ap (λ o. is_some o) (got_node F v) ∙ some_mapped (node_in b es v) ∙ ap (λ o. is_some (in_slot es o)) h
       ∙ ap (λ o. is_some o) x.1
 
-  pub node_missing : (F : FinMap nat_cmp Line) (v : ℕ) → found b v ≡ None → has_node (map_from b es F) v ≡ false
+  pub node_missing : (F : FinMap nat_cmp Line) (v : ℕ) → slot_by b v ≡ None → has_node (map_from b es F) v ≡ false
   node_missing F v h =
       ap (λ o. is_some o) (got_node F v) ∙ some_mapped (node_in b es v) ∙ ap (λ o. is_some (in_slot es o)) h
 
   -- a node of the map has its slot
-  pub slot_of : (F : FinMap nat_cmp Line) (v : ℕ) → has_node (map_from b es F) v ≡ true → (p : ℕ) × (found b v ≡ Some p)
-  slot_of F v h = step (found b v) refl where
-    step : (o : Option ℕ) → found b v ≡ o → (p : ℕ) × (found b v ≡ Some p)
+  pub slot_of : (F : FinMap nat_cmp Line) (v : ℕ) → has_node (map_from b es F) v ≡ true →
+      (p : ℕ) × (slot_by b v ≡ Some p)
+  slot_of F v h = step (slot_by b v) refl where
+    step : (o : Option ℕ) → slot_by b v ≡ o → (p : ℕ) × (slot_by b v ≡ Some p)
     step None e = let f = node_missing F v e in absurd cc
     step (Some p) e = (p, e)
 
-  pub not_found : (F : FinMap nat_cmp Line) (v : ℕ) → has_node (map_from b es F) v ≡ false → found b v ≡ None
-  not_found F v h = step (found b v) refl where
-    step : (o : Option ℕ) → found b v ≡ o → o ≡ None
+  pub not_found : (F : FinMap nat_cmp Line) (v : ℕ) → has_node (map_from b es F) v ≡ false → slot_by b v ≡ None
+  not_found F v h = step (slot_by b v) refl where
+    step : (o : Option ℕ) → slot_by b v ≡ o → o ≡ None
     step None e = refl
     step (Some p) e = let t = node_there F v p e in absurd cc
 
@@ -91,7 +92,7 @@ within es p v h = step (at es p) refl h where
   step None e g = absurd cc
   step (Some x) e g = holds_within es p x e
 
-pub place_is : (b : ByNumber) (v p : ℕ) → found b v ≡ Some p → place_in b v ≡ p
+pub place_is : (b : ByNumber) (v p : ℕ) → slot_by b v ≡ Some p → place_in b v ≡ p
 place_is b v p h = ap (λ o. unwrap_or o 0) h
 
 module _ (b : ByNumber) (es : List (Option NodeEntry)) (F : FinMap nat_cmp Line) (indexed : IsIndexed b es)
@@ -143,49 +144,49 @@ module _ (t : Tables) where
   pub start_found : (x : ℕ) (l : Line) → held t.lines x ≡ Some l → (has_node M l.from ≡ true) × (has_node M l.to ≡ true)
   start_found x l h = (line_starts M t.kept.sound x l (got_line x ∙ h), line_ends M t.kept.sound x l (got_line x ∙ h))
 
-  pub node_read : (v p : ℕ) (e : NodeEntry) → found b v ≡ Some p → at es p ≡ Some e → get M.nodes v ≡ Some e.place
+  pub node_read : (v p : ℕ) (e : NodeEntry) → slot_by b v ≡ Some p → at es p ≡ Some e → get M.nodes v ≡ Some e.place
   node_read v p e h is =
       got_node b es t.kept.indexed (all_held t.lines) v ∙ ap (λ o. option_map place_of (in_slot es o)) h
       ∙ ap (option_map place_of) is
 
-  pub none_read : (v : ℕ) → found b v ≡ None → get M.nodes v ≡ None
+  pub none_read : (v : ℕ) → slot_by b v ≡ None → get M.nodes v ≡ None
   none_read v h = got_node b es t.kept.indexed (all_held t.lines) v ∙ ap (λ o. option_map place_of (in_slot es o)) h
 
   -- a slot that is found has an entry
-  pub entry_at : (v p : ℕ) → found b v ≡ Some p → (e : NodeEntry) × (at es p ≡ Some e)
+  pub entry_at : (v p : ℕ) → slot_by b v ≡ Some p → (e : NodeEntry) × (at es p ≡ Some e)
   entry_at v p h = entry_of b es t.kept.indexed v p h
 
-  pub stands_in : (v p : ℕ) → found b v ≡ Some p → is_some (at es p) ≡ true
+  pub stands_in : (v p : ℕ) → slot_by b v ≡ Some p → is_some (at es p) ≡ true
   stands_in v p h = ap (λ o. is_some o) (entry_at v p h).1
 
-  pub listed_at : (side : Side) (v p : ℕ) (e : NodeEntry) → found b v ≡ Some p → at es p ≡ Some e →
+  pub listed_at : (side : Side) (v p : ℕ) (e : NodeEntry) → slot_by b v ≡ Some p → at es p ≡ Some e →
       IsListed side M (place_in b) v (links_at side e)
   listed_at side v p e h is =
       t.kept.listed side v (links_at side e) (ap (λ o. option_map (links_at side) (in_slot es o)) h
       ∙ ap (option_map (links_at side)) is)
 
   -- the same of what is read in the slot
-  pub listed_as : (side : Side) (v p : ℕ) (l : Links) → found b v ≡ Some p →
+  pub listed_as : (side : Side) (v p : ℕ) (l : Links) → slot_by b v ≡ Some p →
       ((e : NodeEntry) → at es p ≡ Some e → l ≡ links_at side e) → IsListed side M (place_in b) v l
   listed_as side v p l h is = let x =
       entry_at v p h in subst (IsListed side M (place_in b) v) (sym (is x.0 x.1)) (listed_at side v p x.0 h x.1)
 
   -- the slot that a search found
-  pub found_at : (v n : ℕ) (o : Option ℕ) → n ≡ v → o ≡ found b n → found b v ≡ o
-  found_at v n o same is = ap (found b) (sym same) ∙ sym is
+  pub found_at : (v n : ℕ) (o : Option ℕ) → n ≡ v → o ≡ slot_by b n → slot_by b v ≡ o
+  found_at v n o same is = ap (slot_by b) (sym same) ∙ sym is
 
-  pub no_outs : (v : ℕ) → found b v ≡ None → [] ≡ lines_out M v
+  pub no_outs : (v : ℕ) → slot_by b v ≡ None → [] ≡ lines_out M v
   no_outs v h = absent_outs M v t.kept.sound (node_missing b es t.kept.indexed (all_held t.lines) v h)
 
-  pub no_ins : (v : ℕ) → found b v ≡ None → [] ≡ lines_in M v
+  pub no_ins : (v : ℕ) → slot_by b v ≡ None → [] ≡ lines_in M v
   no_ins v h = absent_ins M v t.kept.sound (node_missing b es t.kept.indexed (all_held t.lines) v h)
 
   -- the place of a node is its slot
-  pub slot_is : (v p : ℕ) → has_node M v ≡ true → place_in b v ≡ p → found b v ≡ Some p
+  pub slot_is : (v p : ℕ) → has_node M v ≡ true → place_in b v ≡ p → slot_by b v ≡ Some p
   slot_is v p h e = let s =
       slot_of b es t.kept.indexed (all_held t.lines) v h in s.1 ∙ ap (λ n. Some n) (sym (place_is b v s.0 s.1) ∙ e)
 
-  pub place_found : (v : ℕ) (o : Option ℕ) → o ≡ found b v → SomeIff o (IsTrue (has_node M v)) (place_in b v)
+  pub place_found : (v : ℕ) (o : Option ℕ) → o ≡ slot_by b v → SomeIff o (IsTrue (has_node M v)) (place_in b v)
   place_found v None e = λ h. let s =
       slot_of b es t.kept.indexed (all_held t.lines) v h in let never : None ≡ Some s.0 =
       e ∙ s.1 in absurd (ne never) where

@@ -8,7 +8,7 @@ use Rattle.olr_spec.specs.Map.{Map, MapFault, Node_exists, No_node, Line_exists,
 use Rattle.olr_spec.specs.Map.{has_node, start, end, edited, touched_nodes, has}
 use Rattle.olr_spec.specs.Detours.{ChangedLine, changes_of}
 use Rattle.olr_spec.proofs.EditLemmas.{made_by}
-use Rattle.olr_map.specs.ByNumbers.{found}
+use Rattle.olr_map.specs.ByNumbers.{slot_by}
 use Rattle.olr_map.specs.Kept.{place_in}
 use Rattle.olr_map.specs.Changes.{tables_map}
 use Rattle.olr_map.specs.Edits.{edit_fault_of}
@@ -52,12 +52,12 @@ module _ (t : Tables) where
   M = tables_map t
 
   -- the slot of an end that is there
-  slot_at : (v w p : ℕ) → w ≡ v → (has_node M w ≡ true → place_in b w ≡ p) → has_node M v ≡ true → found b v ≡ Some p
+  slot_at : (v w p : ℕ) → w ≡ v → (has_node M w ≡ true → place_in b w ≡ p) → has_node M v ≡ true → slot_by b v ≡ Some p
   slot_at v w p is at there = slot_is t v p there (ap (place_in b) (sym is) ∙ at (ap (has_node M) is ∙ there))
 
   ends_at : (j : Judged) (e : maps.Edit) (c : ChangedLine) → IsJudged M (place_in b) e j → changes_of M e ≡ c ∷ [] →
       has_node M c.from ≡ true → has_node M c.to ≡ true
-      → (found b c.from ≡ Some j.places.0) × (found b c.to ≡ Some j.places.1)
+      → (slot_by b c.from ≡ Some j.places.0) × (slot_by b c.to ≡ Some j.places.1)
   ends_at j e c h is from to =
       let ends = told_ends j.line j.nodes.0 j.nodes.1 j.len c (h.changes ∙ is) in
       (slot_at c.from j.nodes.0 j.places.0 ends.0 h.first from, slot_at c.to j.nodes.1 j.places.1 ends.1 h.second to)

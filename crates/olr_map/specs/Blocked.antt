@@ -1,5 +1,5 @@
 -- Slots of numbers, in blocks of four neighbours.
---     told n      the slot that a place of a block tells: the number before n;  0 tells none
+--     number_before n      the slot that a place of a block tells: the number before n;  0 tells none
 --     slot_at b i, slot_in o i      the slot in place i of a block, which may be missing
 --     found_in bs k      the slot of number k: block k / 4, place k % 4
 --     IsBlank b, AreUsed bs      no place has a slot;  no block is blank
@@ -10,12 +10,12 @@ use Rattle.std.specs.Map.{lookup}
 use Rattle.std.proofs.Props.{props}
 use Rattle.olr_map.specs.declared.block.Block.{Block}
 
-abbrev pub told : ℕ → Option ℕ
-told zero = None
-told (suc p) = Some p
+abbrev pub number_before : ℕ → Option ℕ
+number_before zero = None
+number_before (suc p) = Some p
 
 abbrev pub slot_at : Block → ℕ → Option ℕ
-slot_at b i = told (slice_index b.slots i)
+slot_at b i = number_before (slice_index b.slots i)
 
 abbrev pub slot_in : Option Block → ℕ → Option ℕ
 slot_in None i = None

@@ -1,5 +1,5 @@
 -- Slots by number.
---     found b k      the slot of number k
+--     slot_by b k      the slot of number k
 --     pairs_of b      the numbers with their slots
 --     spare_of b      how many more there is room for
 use Rattle.std.specs.Prelude.{ℕ, ◌-◌, ◌==◌, List, Option, vec_len}
@@ -10,9 +10,9 @@ use Rattle.olr_map.specs.Blocked.{found_in, all_in}
 use Rattle.olr_map.specs.declared.by_number.ByNumber.{ByNumber}
 use Rattle.olr_map.specs.declared.by_number.ByNumber.TheVariants.{Hashed, Listed}
 
-abbrev pub found : ByNumber → ℕ → Option ℕ
-found (Hashed bs) k = found_in bs.blocks.entries k
-found (Listed l) k = lookup (λ q. k == q) l.entries.items
+abbrev pub slot_by : ByNumber → ℕ → Option ℕ
+slot_by (Hashed bs) k = found_in bs.blocks.entries k
+slot_by (Listed l) k = lookup (λ q. k == q) l.entries.items
 
 abbrev pub pairs_of : ByNumber → List (ℕ × ℕ)
 pairs_of (Hashed bs) = all_in bs.blocks.entries

@@ -9,7 +9,7 @@ use Rattle.std.specs.Option.{option_to_list}
 use Rattle.olr_spec.specs.Map as maps
 use Rattle.olr_spec.specs.Map.{Map, has_node, start, end, edited, touched_nodes, touched_lines, has, HasPlace}
 use Rattle.olr_spec.specs.Detours.{ChangedLine, changes_of}
-use Rattle.olr_map.specs.ByNumbers.{found}
+use Rattle.olr_map.specs.ByNumbers.{slot_by}
 use Rattle.olr_map.specs.declared.by_number.ByNumber.{ByNumber}
 use Rattle.olr_map.specs.declared.judging.Judged.{Judged}
 
@@ -29,11 +29,11 @@ pub record IsJudged (M : Map) (place : ℕ → ℕ) (e : maps.Edit) (j : Judged)
   pub second : IsTrue (has_node M j.nodes.1) → place j.nodes.1 ≡ j.places.1
 
 abbrev pub AreSlots : ByNumber → Map → ℕ × ℕ → maps.Edit → Type 0
-AreSlots b M at (maps.Move_node v c) = found b v ≡ Some at.0
-AreSlots b M at (maps.Add_line x l) = (found b l.from ≡ Some at.0) × (found b l.to ≡ Some at.1)
+AreSlots b M at (maps.Move_node v c) = slot_by b v ≡ Some at.0
+AreSlots b M at (maps.Add_line x l) = (slot_by b l.from ≡ Some at.0) × (slot_by b l.to ≡ Some at.1)
 AreSlots b M at (maps.Set_line x frc fow len shape) =
-    (found b (start M x) ≡ Some at.0) × (found b (end M x) ≡ Some at.1)
-AreSlots b M at (maps.Drop_line x) = (found b (start M x) ≡ Some at.0) × (found b (end M x) ≡ Some at.1)
+    (slot_by b (start M x) ≡ Some at.0) × (slot_by b (end M x) ≡ Some at.1)
+AreSlots b M at (maps.Drop_line x) = (slot_by b (start M x) ≡ Some at.0) × (slot_by b (end M x) ≡ Some at.1)
 AreSlots b M at _ = ⊤
 
 -- the ends of the line that e sets

@@ -12,7 +12,7 @@ use Rattle.std.proofs.Props.{props}
 use Rattle.olr_spec.specs.Coordinates.{Coord}
 use Rattle.olr_spec.specs.Map.{Map, Line, IsMap, lines_where, line_at, dm, no_place}
 use Rattle.olr_map.specs.Linked.{lines_on, ends_on}
-use Rattle.olr_map.specs.ByNumbers.{pairs_of, found}
+use Rattle.olr_map.specs.ByNumbers.{pairs_of, slot_by}
 use Rattle.olr_map.specs.Ends.{ArePlaces}
 use Rattle.olr_map.specs.Slotted.{at}
 use Rattle.olr_map.specs.HavingSlots.{in_slot}
@@ -25,7 +25,7 @@ use Rattle.olr_map.specs.declared.slots.Side.{Side}
 use Rattle.olr_map.specs.declared.slots.Side.TheVariants.{Out, In}
 
 abbrev pub node_in : ByNumber → List (Option NodeEntry) → ℕ → Option NodeEntry
-node_in b es v = in_slot es (found b v)
+node_in b es v = in_slot es (slot_by b v)
 
 abbrev pub links_in : Side → ByNumber → List (Option NodeEntry) → ℕ → Option Links
 links_in side b es v = option_map (links_at side) (node_in b es v)
@@ -38,7 +38,7 @@ map_from b es F =
     record { nodes = from_entries (map (λ (e : ℕ × ℕ). (e.0, coord_in es e.1)) (pairs_of b)); lines = F }
 
 abbrev pub place_in : ByNumber → ℕ → ℕ
-place_in b v = unwrap_or (found b v) 0
+place_in b v = unwrap_or (slot_by b v) 0
 
 -- the end of a line on one side of a node: this one, and the far one
 abbrev pub near : Side → Line → ℕ
@@ -61,8 +61,8 @@ pub record IsListed (side : Side) (M : Map) (place : ℕ → ℕ) (v : ℕ) (l :
 
 -- each node's slot has its entry, and the other way round
 pub record IsIndexed (b : ByNumber) (es : List (Option NodeEntry)) : Type 0 where
-  pub stands : (v p : ℕ) → found b v ≡ Some p → option_map (λ (e : NodeEntry). e.id) (at es p) ≡ Some v
-  pub named : (v p : ℕ) → option_map (λ (e : NodeEntry). e.id) (at es p) ≡ Some v → found b v ≡ Some p
+  pub stands : (v p : ℕ) → slot_by b v ≡ Some p → option_map (λ (e : NodeEntry). e.id) (at es p) ≡ Some v
+  pub named : (v p : ℕ) → option_map (λ (e : NodeEntry). e.id) (at es p) ≡ Some v → slot_by b v ≡ Some p
 
 pub record IsKept (b : ByNumber) (es : List (Option NodeEntry)) (F : FinMap nat_cmp Line) : Type 0 where
   pub sound : IsMap (map_from b es F)

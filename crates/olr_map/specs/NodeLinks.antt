@@ -1,5 +1,5 @@
 -- The lines of a node on one side.
---     links_at side e, relinked side e l      those that leave it or enter it;  the entry with others there
+--     links_at side e, with_links side e l      those that leave it or enter it;  the entry with others there
 use Rattle.olr_map.specs.declared.links.Links.{Links}
 use Rattle.olr_map.specs.declared.slots.NodeEntry.{NodeEntry}
 use Rattle.olr_map.specs.declared.slots.Side.{Side}
@@ -9,6 +9,6 @@ abbrev pub links_at : Side → NodeEntry → Links
 links_at Out e = e.outs
 links_at In e = e.ins
 
-abbrev pub relinked : Side → NodeEntry → Links → NodeEntry
-relinked Out e l = record { id = e.id; place = e.place; outs = l; ins = e.ins }
-relinked In e l = record { id = e.id; place = e.place; outs = e.outs; ins = l }
+abbrev pub with_links : Side → NodeEntry → Links → NodeEntry
+with_links Out e l = record { id = e.id; place = e.place; outs = l; ins = e.ins }
+with_links In e l = record { id = e.id; place = e.place; outs = e.outs; ins = l }

@@ -5,7 +5,7 @@
 use Rattle.std.specs.Prelude.{ℕ, min, List, [], ◌∷◌, ◌++◌, Option, Some, None}
 use Rattle.std.specs.FinMap.{FinMap, from_entries}
 use Rattle.std.specs.Ordering.{nat_cmp}
-use Rattle.olr_map.specs.ByNumbers.{pairs_of, found, spare_of}
+use Rattle.olr_map.specs.ByNumbers.{pairs_of, slot_by, spare_of}
 use Rattle.olr_map.specs.Slotted.{at}
 use Rattle.olr_map.specs.Slabs.{slots_of, room_in}
 use Rattle.olr_map.specs.HavingSlots.{in_slot}
@@ -22,7 +22,7 @@ module _ {X : Type 0} where
   things_in es (e ∷ ns) = thing e.0 (at es e.1) ++ things_in es ns
 
   abbrev pub held : Numbered X → ℕ → Option X
-  held n k = in_slot (slots_of n.slab) (found n.index k)
+  held n k = in_slot (slots_of n.slab) (slot_by n.index k)
 
   abbrev pub things_of : Numbered X → List (ℕ × X)
   things_of n = things_in (slots_of n.slab) (pairs_of n.index)

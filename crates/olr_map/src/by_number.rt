@@ -25,7 +25,7 @@ pub struct List {
 }
 
 impl ByNumber {
-    ghost use Rattle.olr_map.specs.ByNumbers.{pairs_of, found, spare_of};
+    ghost use Rattle.olr_map.specs.ByNumbers.{pairs_of, slot_by, spare_of};
 
     /// No slots, to be found by hash. Takes no memory.
     pub fn with_hash(alloc: Global) -> ByNumber
@@ -45,7 +45,7 @@ impl ByNumber {
 
     /// The slot of this number.
     pub fn get(&self, number: u32) -> Option<u32>
-        ensures { result ≡ found self.now number }
+        ensures { result ≡ slot_by self.now number }
     {
         match self {
             ByNumber::Hashed(blocks) => blocks.get(number),
@@ -58,7 +58,7 @@ impl ByNumber {
 
     /// Makes room for so many more numbers.
     pub fn reserve(&mut self, additional: usize) -> Result<(), AllocError>
-        ensures same { (k : ℕ) → found self.new k ≡ found self.old k }
+        ensures same { (k : ℕ) → slot_by self.new k ≡ slot_by self.old k }
         ensures more { spare_of self.old ≤ spare_of self.new }
         ensures room { OnOk result (additional ≤ spare_of self.new) }
     {
@@ -70,10 +70,10 @@ impl ByNumber {
 
     /// Puts the slot of a number in that has none. There is room for it.
     pub fn put(&mut self, number: u32, slot: u32)
-        requires absent { found self.old number ≡ None }
+        requires absent { slot_by self.old number ≡ None }
         requires fits { slot + 1 < 2 ^ 32 }
         requires room { 0 < spare_of self.old }
-        ensures put { (k : ℕ) → found self.new k ≡ cond (number == k) (Some slot) (found self.old k) }
+        ensures put { (k : ℕ) → slot_by self.new k ≡ cond (number == k) (Some slot) (slot_by self.old k) }
         ensures spare { spare_of self.old ≤ spare_of self.new + 1 }
     {
         match self {
@@ -84,9 +84,9 @@ impl ByNumber {
 
     /// Takes the slot of this number out.
     pub fn take(&mut self, number: u32) -> u32
-        requires { IsSome (found self.old number) }
-        ensures was { found self.old number ≡ Some result }
-        ensures taken { (k : ℕ) → found self.new k ≡ cond (number == k) None (found self.old k) }
+        requires { IsSome (slot_by self.old number) }
+        ensures was { slot_by self.old number ≡ Some result }
+        ensures taken { (k : ℕ) → slot_by self.new k ≡ cond (number == k) None (slot_by self.old k) }
         ensures spare { spare_of self.old ≤ spare_of self.new }
     {
         match self {

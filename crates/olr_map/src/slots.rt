@@ -49,7 +49,7 @@ pub struct NodeSlots {
 impl NodeSlots {
     ghost use Rattle.olr_map.specs.Slotted.{at, Comes, Goes, Turns};
     ghost use Rattle.olr_map.specs.Columns.{node_slots, node_room};
-    ghost use Rattle.olr_map.specs.NodeLinks.{links_at, relinked};
+    ghost use Rattle.olr_map.specs.NodeLinks.{links_at, with_links};
     ghost use Rattle.olr_map.specs.Linked.{lines_on, ends_on, spare_links, IsLinked, IsUnlinked, IsReset};
     ghost use Rattle.olr_spec.specs.Map.{has};
     ghost use Rattle.olr_map.specs.declared.links.Links.{Links as AllLinks};
@@ -160,7 +160,7 @@ impl NodeSlots {
     pub fn reserve_link(&mut self, side: Side, slot: u32) -> Result<(), AllocError>
         requires { IsSome (at (node_slots self.old) slot) }
         ensures turns { (e : Entry) × (l : AllLinks)
-            × Turns (node_slots self.old) (node_slots self.new) slot e (relinked side e l)
+            × Turns (node_slots self.old) (node_slots self.new) slot e (with_links side e l)
             × (lines_on l ≡ lines_on (links_at side e)) × (ends_on l ≡ ends_on (links_at side e))
             × (spare_links (links_at side e) ≤ spare_links l) × OnOk result (0 < spare_links l) }
         ensures room { node_room self.new ≡ node_room self.old }
@@ -179,7 +179,7 @@ impl NodeSlots {
             × IsFalse (has (lines_on (links_at side e)) id)
             × (0 < spare_links (links_at side e)) }
         ensures turns { (e : Entry) × (l : AllLinks)
-            × Turns (node_slots self.old) (node_slots self.new) slot e (relinked side e l)
+            × Turns (node_slots self.old) (node_slots self.new) slot e (with_links side e l)
             × IsLinked (links_at side e) l id end }
         ensures room { node_room self.new ≡ node_room self.old }
     {
@@ -195,7 +195,7 @@ impl NodeSlots {
             × IsStrictlyIncreasing (lines_on (links_at side e))
             × IsTrue (has (lines_on (links_at side e)) id) }
         ensures turns { (e : Entry) × (l : AllLinks)
-            × Turns (node_slots self.old) (node_slots self.new) slot e (relinked side e l)
+            × Turns (node_slots self.old) (node_slots self.new) slot e (with_links side e l)
             × IsUnlinked (links_at side e) l id }
         ensures room { node_room self.new ≡ node_room self.old }
     {
@@ -211,7 +211,7 @@ impl NodeSlots {
             × IsStrictlyIncreasing (lines_on (links_at side e))
             × IsTrue (has (lines_on (links_at side e)) id) }
         ensures turns { (e : Entry) × (l : AllLinks)
-            × Turns (node_slots self.old) (node_slots self.new) slot e (relinked side e l)
+            × Turns (node_slots self.old) (node_slots self.new) slot e (with_links side e l)
             × IsReset (links_at side e) l id end }
         ensures room { node_room self.new ≡ node_room self.old }
     {

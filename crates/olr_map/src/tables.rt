@@ -102,7 +102,7 @@ impl MapRead for Tables {
 impl Tables {
     ghost use Rattle.std.specs.Prelude.{◌+◌, ◌<◌, ◌≤◌, ℕ, OnOk, IsTrue, Some};
     ghost use Rattle.olr_spec.specs.Map.{empty_map, has_node, has_line, start, end};
-    ghost use Rattle.olr_map.specs.ByNumbers.{found, spare_of};
+    ghost use Rattle.olr_map.specs.ByNumbers.{slot_by, spare_of};
     ghost use Rattle.olr_map.specs.Numbering.{spare_numbers};
     ghost use Rattle.olr_map.specs.Changes.{tables_map, room_of, spare_at, node_puts, line_puts, IsRoomWithin};
     ghost use Rattle.olr_map.specs.Changes.{HasNumbers, CanMake, IsChangeMade};
@@ -134,7 +134,7 @@ impl Tables {
     /// The slot of a node of the map.
     pub fn slot(&self, id: NodeId) -> u32
         requires { IsTrue (has_node (tables_map self.now) id) }
-        ensures { found self.now.index id ≡ Some result }
+        ensures { slot_by self.now.index id ≡ Some result }
     {
         match self.index.get(id.number()) {
             Some(slot) => slot,
@@ -145,8 +145,8 @@ impl Tables {
     /// The slots where a line of the map begins and ends.
     pub fn end_slots(&self, id: LineId) -> (u32, u32)
         requires { IsTrue (has_line (tables_map self.now) id) }
-        ensures from { found self.now.index (start (tables_map self.now) id) ≡ Some result.0 }
-        ensures to { found self.now.index (end (tables_map self.now) id) ≡ Some result.1 }
+        ensures from { slot_by self.now.index (start (tables_map self.now) id) ≡ Some result.0 }
+        ensures to { slot_by self.now.index (end (tables_map self.now) id) ≡ Some result.1 }
     {
         match self.lines.get(id.number()) {
             Some(line) => (self.slot(line.from), self.slot(line.to)),
@@ -160,7 +160,7 @@ impl Tables {
         ensures more { IsRoomWithin (room_of self.old) (room_of self.new) }
         ensures nodes { spare_of self.old.index ≤ spare_of self.new.index }
         ensures lines { spare_numbers self.new.lines ≡ spare_numbers self.old.lines }
-        ensures slots { (v : ℕ) → found self.new.index v ≡ found self.old.index v }
+        ensures slots { (v : ℕ) → slot_by self.new.index v ≡ slot_by self.old.index v }
         ensures room { OnOk result (owed + 1 ≤ spare_of self.new.index) }
     {
         match owed.checked_add(1) {
@@ -175,7 +175,7 @@ impl Tables {
         ensures more { IsRoomWithin (room_of self.old) (room_of self.new) }
         ensures nodes { spare_of self.new.index ≡ spare_of self.old.index }
         ensures lines { spare_numbers self.old.lines ≤ spare_numbers self.new.lines }
-        ensures slots { (v : ℕ) → found self.new.index v ≡ found self.old.index v }
+        ensures slots { (v : ℕ) → slot_by self.new.index v ≡ slot_by self.old.index v }
         ensures room { OnOk result (owed + 1 ≤ spare_numbers self.new.lines) }
     {
         match owed.checked_add(1) {
@@ -190,7 +190,7 @@ impl Tables {
         ensures more { IsRoomWithin (room_of self.old) (room_of self.new) }
         ensures nodes { spare_of self.new.index ≡ spare_of self.old.index }
         ensures lines { spare_numbers self.new.lines ≡ spare_numbers self.old.lines }
-        ensures slots { (v : ℕ) → found self.new.index v ≡ found self.old.index v }
+        ensures slots { (v : ℕ) → slot_by self.new.index v ≡ slot_by self.old.index v }
         ensures room { OnOk result (0 < (room_of self.new).nodes) }
     {
         self.nodes.reserve(1)
@@ -198,13 +198,13 @@ impl Tables {
 
     /// Makes room for one more line on one side of the node in a slot.
     pub fn reserve_link(&mut self, side: Side, slot: u32) -> Result<(), AllocError>
-        requires { (v : ℕ) × (found self.old.index v ≡ Some slot) }
+        requires { (v : ℕ) × (slot_by self.old.index v ≡ Some slot) }
         ensures map { tables_map self.new ≡ tables_map self.old }
         ensures more { IsRoomWithin (room_of self.old) (room_of self.new) }
         ensures nodes { spare_of self.new.index ≡ spare_of self.old.index }
         ensures lines { spare_numbers self.new.lines ≡ spare_numbers self.old.lines }
-        ensures slots { (v : ℕ) → found self.new.index v ≡ found self.old.index v }
-        ensures room { OnOk result ((v : ℕ) → found self.old.index v ≡ Some slot → 0 < spare_at side self.new v) }
+        ensures slots { (v : ℕ) → slot_by self.new.index v ≡ slot_by self.old.index v }
+        ensures room { OnOk result ((v : ℕ) → slot_by self.old.index v ≡ Some slot → 0 < spare_at side self.new v) }
     {
         self.nodes.reserve_link(side, slot)
     }
@@ -254,7 +254,7 @@ impl Tables {
     /// Gives the node in this slot another place on the earth, and tells the one that it had.
     pub fn move_node(&mut self, id: NodeId, place: Coord, slot: u32) -> Coord
         requires can { CanMake (tables_map self.old) (room_of self.old) (MoveNode id place) }
-        requires here { found self.old.index id ≡ Some slot }
+        requires here { slot_by self.old.index id ≡ Some slot }
         ensures { IsChangeMade self.old self.new (MoveNode id place) (MoveNode id result) }
     {
         self.nodes.move_node(slot, place)
@@ -264,8 +264,8 @@ impl Tables {
     pub fn put_line(&mut self, id: LineId, line: Line, from: u32, to: u32)
         requires can { CanMake (tables_map self.old) (room_of self.old) (PutLine id line) }
         requires numbers { HasNumbers self.old 0 1 }
-        requires begin { found self.old.index line.from ≡ Some from }
-        requires end { found self.old.index line.to ≡ Some to }
+        requires begin { slot_by self.old.index line.from ≡ Some from }
+        requires end { slot_by self.old.index line.to ≡ Some to }
         ensures { IsChangeMade self.old self.new (PutLine id line) (TakeLine id) }
     {
         let (begins, ends) = far_ends(&line, from, to);
@@ -277,8 +277,8 @@ impl Tables {
     /// Takes a line out, and its number out of the lists of its ends, which are in these slots.
     pub fn take_line(&mut self, id: LineId, from: u32, to: u32) -> Line
         requires can { CanMake (tables_map self.old) (room_of self.old) (TakeLine id) }
-        requires begin { found self.old.index (start (tables_map self.old) id) ≡ Some from }
-        requires end { found self.old.index (end (tables_map self.old) id) ≡ Some to }
+        requires begin { slot_by self.old.index (start (tables_map self.old) id) ≡ Some from }
+        requires end { slot_by self.old.index (end (tables_map self.old) id) ≡ Some to }
         ensures { IsChangeMade self.old self.new (TakeLine id) (PutLine id result) }
     {
         self.nodes.unlink(Side::Out, from, id);
@@ -290,8 +290,8 @@ impl Tables {
     /// there.
     pub fn set_line(&mut self, id: LineId, line: Line, from: u32, to: u32) -> Line
         requires can { CanMake (tables_map self.old) (room_of self.old) (SetLine id line) }
-        requires begin { found self.old.index (start (tables_map self.old) id) ≡ Some from }
-        requires end { found self.old.index (end (tables_map self.old) id) ≡ Some to }
+        requires begin { slot_by self.old.index (start (tables_map self.old) id) ≡ Some from }
+        requires end { slot_by self.old.index (end (tables_map self.old) id) ≡ Some to }
         ensures { IsChangeMade self.old self.new (SetLine id line) (SetLine id result) }
     {
         let (begins, ends) = far_ends(&line, from, to);

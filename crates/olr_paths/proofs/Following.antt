@@ -5,7 +5,7 @@ use lib.Pointwise.{bytes_decides}
 use Rattle.olr_spec.specs.Encoding.{Answer}
 use Rattle.olr_commands.specs.State.{same_name, path_named, NamesDiffer}
 use Rattle.olr_commands.proofs.NameLemmas.{not_named, flipped}
-use Rattle.olr_paths.specs.Items.{Made, Item, named, all_named, made_in, answer_in}
+use Rattle.olr_paths.specs.Items.{Made, Item, named_of, all_named, made_in, answer_in}
 use Rattle.olr_paths.specs.Changes.{Follows}
 
 abbrev pub answer_made : Option Made → Option Answer
@@ -16,7 +16,7 @@ follows_behind : (i : Item) (before js : List Item) → is_some (path_named (all
     Follows before js → Follows (i ∷ before) js
 follows_behind i before [] h f = tt
 follows_behind i before (j ∷ js) h f =
-    let p = not_named (named j) (all_named js) i.name h in
+    let p = not_named (named_of j) (all_named js) i.name h in
     let same : answer_in (i ∷ before) j.name ≡ answer_in before j.name =
     ap (λ (b : Bool). answer_made (if b then i.made else made_in before j.name)) (flipped j.name i.name p.0) in
     (elim f.0 [ inl e ↦ inl e | inr e ↦ inr (same ∙ e) ], follows_behind i before js p.1 f.1)

@@ -3,7 +3,7 @@ use Rattle.std.proofs.Common.{inl, inr, ◌≡◌, ℕ, ◌+◌, ◌<◌, ◌≤
 use Rattle.std.proofs.Common.{None, MatchOption, ap, ◌∙◌, arith}
 use Rattle.olr_spec.specs.Map.{Map}
 use Rattle.olr_spec.specs.Walks.{dm_of}
-use Rattle.olr_spec.specs.Extension.{Path, extended, limit}
+use Rattle.olr_spec.specs.Extension.{Path, extended_path, limit}
 use Rattle.olr_spec.specs.Encoding.{Refusal, path_fault}
 use Rattle.olr_spec.specs.Points.{stretch}
 use Rattle.olr_spec.specs.Looks.{Look, IsLook, Needed, look_to, LooksOf, LooksOfExtended}
@@ -40,7 +40,7 @@ module _ (M : Map) (ls : List ℕ) (i : ℕ) (l : Look) where
 short_looks : (M : Map) (P : Path) (looks : List Look) → LooksOfExtended M P looks → (l : Look) → Contains looks l →
     l.within ≤ limit
 short_looks M P looks h l on =
-    let ls = (extended M P h.before h.after).lines in
+    let ls = (extended_path M P h.before h.after).lines in
     let r = look_from M ls (0 ∷ h.points) looks h.holds l on in
     short_look M ls r.0 l r.3
 

@@ -18,7 +18,7 @@ use Rattle.olr_commands.specs.Counts.{CountIs}
 use Rattle.olr_commands.specs.Words.{entry_of}
 use Rattle.olr_commands.specs.Reply.{Entry, entry}
 use Rattle.olr_commands.proofs.NameLemmas.{flipped, not_named}
-use Rattle.olr_paths.specs.Items.{Made, Item, IsEncodingOf, AreEncodingsIfAny, named, all_named, made_in, answer_in}
+use Rattle.olr_paths.specs.Items.{Made, Item, IsEncodingOf, AreEncodingsIfAny, named_of, all_named, made_in, answer_in}
 use Rattle.olr_paths.specs.Changes.{with_made, IsBefore, IsConcerned, By_name, Touches, IsRemade, AreRemade, Reported}
 use Rattle.olr_paths.specs.Changes.{Follows}
 use Rattle.olr_paths.specs.Renewing.{Put, all_put, made_at, puts_of, entries_of, TellsIfOther, ToStay, ToKeep, ToEncode}
@@ -96,7 +96,7 @@ module _ (Q : Map → Type 0) (N : Map) (T X : List ℕ) (before : List Item) wh
   -- where j is at the end of what was put, and the rest stays
   pub grown : (is : List Item) (ps qs : List Put) (es fs : List Entry) (n k : ℕ) (i j : Item) (A : Answer) →
       Through Q N T X before is ps es n
-      → ((ys : List Item) → all_put (is ++ i ∷ ys) qs ≡ all_put is ps ++ j ∷ ys) → named j ≡ named i →
+      → ((ys : List Item) → all_put (is ++ i ∷ ys) qs ≡ all_put is ps ++ j ∷ ys) → named_of j ≡ named_of i →
       ((L : Map) → Q L → IsRemade N i j) → answer j ≡ Some A → TellsIfOther before j.name A es fs
       → ((L : Map) → Q L → CountIs (IsConcerned L T X) (is ++ i ∷ []) k)
       → Through Q N T X before (is ++ i ∷ []) qs fs k
@@ -107,9 +107,9 @@ module _ (Q : Map → Type 0) (N : Map) (T X : List ℕ) (before : List Item) wh
             λ ys. ap (λ (zs : List Item). all_put zs qs) (append_assoc is (i ∷ []) ys) ∙ puts ys
             ∙ sym (append_assoc (all_put is ps) (j ∷ []) ys) ∙ ap (λ (zs : List Item). zs ++ ys) (sym end);
         names =
-            ap all_named end ∙ map-append named (all_put is ps) (j ∷ [])
-            ∙ ap (λ (xs : List Named). xs ++ named j ∷ []) h.names ∙ ap (λ (x : Named). all_named is ++ x ∷ []) same
-            ∙ sym (map-append named is (i ∷ []));
+            ap all_named end ∙ map-append named_of (all_put is ps) (j ∷ [])
+            ∙ ap (λ (xs : List Named). xs ++ named_of j ∷ []) h.names ∙ ap (λ (x : Named). all_named is ++ x ∷ []) same
+            ∙ sym (map-append named_of is (i ∷ []));
         remade =
             λ L q. subst (λ (js : List Item). AreRemade N (is ++ i ∷ []) js) (sym end)
             (AreRemade-push N is (all_put is ps) i j (h.remade L q) (one L q));

@@ -57,11 +57,11 @@ AreEncodingsIfAny M (i ∷ is) = IfSome i.made (IsEncodingOf M i.path) × AreEnc
 
 -- ---- the list as the register's definitions see it
 
-abbrev pub named : Item → Named
-named i = record { name = i.name; path = i.path }
+abbrev pub named_of : Item → Named
+named_of i = record { name = i.name; path = i.path }
 
 abbrev pub all_named : List Item → List Named
-all_named is = map named is
+all_named is = map named_of is
 
 -- what was made of the path of that name
 abbrev pub made_in : List Item → List ℕ → Option Made

@@ -142,7 +142,7 @@ fn put_touched<M: MapRead>(
     if searches.far {
         return Ok(());
     }
-    let reached = searches.near.reached();
+    let reached = searches.near.reached_nodes();
     put_reached(&list.marks, &list.finder.from, reached, found)?;
     Ok(())
 }

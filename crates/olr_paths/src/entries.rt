@@ -19,7 +19,7 @@ impl Listing {
         ensures { IfOk result (λ e. (A : Answer) × (answer_in (items self.now) name.now ≡ Some A)
             × (entry_of e ≡ entry name.now A)) }
     {
-        match self.published(name) {
+        match self.published_of(name) {
             Some(published) => published.entry(alloc, name),
             None => unreachable!(),
         }

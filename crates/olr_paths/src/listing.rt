@@ -100,7 +100,7 @@ impl Listing {
     }
 
     /// What is published of the path of that name. None where there is none, or it was not encoded.
-    pub fn published(&self, name: &str) -> Option<&Published>
+    pub fn published_of(&self, name: &str) -> Option<&Published>
         ensures { option_map (λ p. made_of p.now) result ≡ made_in (items self.now) name.now }
     {
         match self.paths.get(name)?.published.as_ref() {

@@ -54,7 +54,7 @@ impl Counted {
 fn is_same_as_before(before: &Listing, name: &str, published: &Published) -> bool
     ensures { IsTrue result ↔ (answer_in (items before.now) name.now ≡ Some (made_of published.now).answer) }
 {
-    match before.published(name) {
+    match before.published_of(name) {
         Some(earlier) => earlier.has_answer_of(published),
         None => false,
     }
@@ -123,7 +123,7 @@ impl Renewal {
 }
 
 /// What renewing a list under changes on a map comes to, after the searches from what edits touched and changed.
-fn made_by<M: MapRead>(
+fn renewal_by<M: MapRead>(
     alloc: Global,
     map: &M,
     laid: Laid<'_>,
@@ -181,7 +181,7 @@ fn made_by<M: MapRead>(
 }
 
 /// What renewing a list under changes on a map comes to, counted. After want of memory the counts are as before.
-pub(crate) fn made<M: MapRead>(
+pub(crate) fn renewal_of<M: MapRead>(
     alloc: Global,
     map: &M,
     laid: Laid<'_>,
@@ -229,7 +229,7 @@ pub(crate) fn made<M: MapRead>(
         work: *work,
         kept: *kept,
     };
-    let renewal = made_by(
+    let renewal = renewal_by(
         alloc,
         map,
         laid,

@@ -16,7 +16,7 @@ use crate::laid::Laid;
 use crate::listing::Listing;
 use crate::overlay::Overlay;
 use crate::positions::put_in;
-use crate::renewal::{Renewal, made};
+use crate::renewal::{Renewal, renewal_of};
 use crate::searches::Searches;
 use crate::touched::Touched;
 use olr_commands::Entry;
@@ -117,7 +117,7 @@ impl Listing {
             list: self,
             overlay,
         };
-        let Renewal { fresh, entries } = made(
+        let Renewal { fresh, entries } = renewal_of(
             alloc,
             map,
             laid,

@@ -59,7 +59,7 @@ impl Searches {
     /// Counts what a renewal searched from touched nodes, if it found no path.
     pub(crate) fn count(&mut self, found: bool) {
         if !found && !self.far {
-            let labelled = self.near.reached().len();
+            let labelled = self.near.reached_nodes().len();
             self.vain = self.vain.saturating_add(labelled);
         }
     }

@@ -11,8 +11,9 @@ use Rattle.olr_spec.specs.Map.{Drop_line, HasPlace}
 use Rattle.olr_spec.specs.Extension.{Path}
 use Rattle.olr_commands.specs.State.{same_name, Change, Add_path, Set_path, Drop_path, Command, Make, Show, Report}
 use Rattle.olr_commands.specs.State.{Explain, Begin, Commit, Abort, HasPlaces}
-use Rattle.olr_records.specs.Records.{Field, Read, ◌⊛◌, bounded, digits, number, amount, class, coordinate, longitude}
-use Rattle.olr_records.specs.Records.{latitude, place, name, point, shape, node_fields, edit, one, none, node_record}
+use Rattle.olr_records.specs.Records.{Field, Read, ◌⊛◌, value_or_fault, digits, number, amount, class, coordinate}
+use Rattle.olr_records.specs.Records.{longitude, latitude, place, name, point, shape, node_fields, edit, one, none}
+use Rattle.olr_records.specs.Records.{node_record}
 use Rattle.olr_records.specs.Records.{line_between, course, whole_line, line_record, set_line_record, path_fields}
 use Rattle.olr_records.specs.Records.{path_record}
 use Rattle.olr_records.specs.Records.{forms, read_by, read}
@@ -37,9 +38,10 @@ given_read P Q (Ok g) (Err f) q h = tt
 given_read P Q (Err f) (Ok a) q h = tt
 given_read P Q (Err f) (Err k) q h = tt
 
-bounded_passes : {A : Type 0} (test : A → Bool) (a : A) → IfOk (bounded (test a) a) (λ x. IsTrue (test x))
+bounded_passes : {A : Type 0} (test : A → Bool) (a : A) → IfOk (value_or_fault (test a) a) (λ x. IsTrue (test x))
 bounded_passes {A} test a =
-    elim (test a) as (λ b. test a ≡ b → IfOk (bounded b a) (λ x. IsTrue (test x))) [ true ↦ λ e. e | false ↦ λ e. tt ]
+    elim (test a) as (λ b. test a ≡ b → IfOk (value_or_fault b a) (λ x. IsTrue (test x)))
+    [ true ↦ λ e. e | false ↦ λ e. tt ]
     refl
 
 coordinate_passes : (test : ℤ → Bool) (o : Option ℤ) → IfOk (coordinate test o) (λ z. IsTrue (test z))

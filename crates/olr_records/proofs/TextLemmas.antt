@@ -9,7 +9,7 @@ use Rattle.std.proofs.lemmas.List.Folds.{concat-append}
 use Rattle.olr_spec.specs.Reference.{Reference}
 use Rattle.olr_commands.specs.Words.{entry_of}
 use Rattle.olr_commands.specs.declared.reply.Entry.{Entry}
-use Rattle.olr_records.specs.ReplyText.{after_commas, reply_line, entry_line, accepted, first_line, middle_line}
+use Rattle.olr_records.specs.ReplyText.{after_commas, reply_line, entry_line, accepted_text, first_line, middle_line}
 use Rattle.olr_records.specs.ReplyText.{last_line}
 use Rattle.olr_records.specs.ReplyText.{offset_lines, reference_lines}
 
@@ -53,7 +53,7 @@ pub reference-text : (t : List ℕ) (r : Reference) (n : ℕ)
     → (((((t ++ reply_line (codes "ok" ∷ decimal n ∷ [])) ++ first_line r.first) ++ concat (map middle_line r.middle))
     ++ last_line r.last)
     ++ concat (offset_lines (codes "positive") r.pos)) ++ concat (offset_lines (codes "negative") r.neg)
-    ≡ t ++ accepted (reference_lines r)
+    ≡ t ++ accepted_text (reference_lines r)
 reference-text t r n e =
     let middle = map middle_line r.middle in
     let positive = offset_lines (codes "positive") r.pos in

@@ -37,16 +37,16 @@ abbrev pub ◌⊛◌ : {A B : Type 0} → Read (A → B) → Read A → Read B
 ◌⊛◌ (Err f) (Ok a) = Err f
 ◌⊛◌ (Err f) (Err h) = Err (worse f h)
 
-abbrev pub bounded : {A : Type 0} → Bool → A → Read A
-bounded b a = if b then Ok a else Err Out_of_range
+abbrev pub value_or_fault : {A : Type 0} → Bool → A → Read A
+value_or_fault b a = if b then Ok a else Err Out_of_range
 
 -- ---- fields
 
 -- one or more digits, of a value from low to high
 abbrev pub digits : ℕ → ℕ → Field → Read ℕ
 digits low high f =
-    if are_digits f then bounded (nat_le low (digits_value f) && nat_le (digits_value f) high) (digits_value f) else Err
-    Bad_form
+    if are_digits f then value_or_fault (nat_le low (digits_value f) && nat_le (digits_value f) high) (digits_value f)
+    else Err Bad_form
 
 -- the greatest number of 32 bits
 abbrev pub max32 : ℕ
@@ -63,7 +63,7 @@ class f = digits 0 7 f
 
 abbrev pub coordinate : (ℤ → Bool) → Option ℤ → Read ℤ
 coordinate test None = Err Bad_form
-coordinate test (Some z) = bounded (test z) z
+coordinate test (Some z) = value_or_fault (test z) z
 
 abbrev pub longitude : Field → Read ℤ
 longitude f = coordinate is_longitude (degrees f)

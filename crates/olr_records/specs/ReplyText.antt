@@ -65,12 +65,12 @@ reference_lines r =
 -- ---- replies
 
 -- their number, and the lines
-abbrev pub accepted : List (List ℕ) → List ℕ
-accepted lines = reply_line (codes "ok" ∷ decimal (length lines) ∷ []) ++ concat lines
+abbrev pub accepted_text : List (List ℕ) → List ℕ
+accepted_text lines = reply_line (codes "ok" ∷ decimal (length lines) ∷ []) ++ concat lines
 
 abbrev pub reply_text : Reply → List ℕ
-reply_text (Paths es) = accepted (map entry_line es)
-reply_text (Fields r) = accepted (reference_lines r)
+reply_text (Paths es) = accepted_text (map entry_line es)
+reply_text (Fields r) = accepted_text (reference_lines r)
 reply_text (Held n) = reply_line (codes "held" ∷ decimal n ∷ [])
 
 -- ---- faults

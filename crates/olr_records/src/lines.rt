@@ -7,7 +7,7 @@ ghost use Rattle.olr_records.specs.Words.{Gathers};
 
 use crate::faults::ReadFault;
 use crate::fields::{class, field, length, node_id, shape_point};
-use crate::parts::{both, pushed, room};
+use crate::parts::{both, room, with_item};
 use csv::ByteRecord;
 use olr_map::{Line, Shape};
 use std::alloc::Global;
@@ -79,7 +79,7 @@ fn shape(alloc: Global, fields: &ByteRecord, start: usize) -> Result<Vec<Shape>,
     let mut k = start;
     while fields.len() - k >= 3 {
         let point = shape_point(field(fields, k), field(fields, k + 1), field(fields, k + 2));
-        points = pushed(points, point);
+        points = with_item(points, point);
         k += 3;
     }
     if k < fields.len() {

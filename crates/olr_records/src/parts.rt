@@ -39,7 +39,7 @@ pub(crate) fn room<T>(alloc: Global, count: usize) -> Result<Vec<T>, ReadFault>
 }
 
 /// One more item after those read so far.
-pub(crate) fn pushed<T: Drop>(
+pub(crate) fn with_item<T: Drop>(
     items: Result<Vec<T>, ReadFault>,
     item: Result<T, ReadFault>,
 ) -> Result<Vec<T>, ReadFault>

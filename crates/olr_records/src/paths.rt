@@ -8,7 +8,7 @@ ghost use Rattle.olr_records.specs.Words.{Gathers, IsRead};
 
 use crate::faults::ReadFault;
 use crate::fields::{amount, field, line_id, name};
-use crate::parts::{both, pushed, room};
+use crate::parts::{both, room, with_item};
 use csv::ByteRecord;
 use olr_commands::Command;
 use olr_map::LineId;
@@ -51,7 +51,7 @@ fn line_ids(alloc: Global, fields: &ByteRecord) -> Result<Vec<LineId>, ReadFault
 {
     let mut ids = room(alloc, fields.len().saturating_sub(4));
     for k in 4..fields.len() {
-        ids = pushed(ids, line_id(field(fields, k)));
+        ids = with_item(ids, line_id(field(fields, k)));
     }
     ids
 }

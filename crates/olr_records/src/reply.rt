@@ -54,7 +54,7 @@ fn push_count(text: &mut Vec<u8>, word: &[u8], count: usize) -> Result<(), Alloc
 /// How many paths there are, and each with its string or its refusal.
 fn push_paths(text: &mut Vec<u8>, entries: &[Entry]) -> Result<(), AllocError>
     ensures { OnOk result (text.new.items ≡ text.old.items
-        ++ texts.accepted (map (λ e. texts.entry_line (entry_of e)) entries.now)) }
+        ++ texts.accepted_text (map (λ e. texts.entry_line (entry_of e)) entries.now)) }
 {
     push_count(text, b"ok", entries.len())?;
     push_entries(text, entries)
@@ -115,7 +115,7 @@ fn push_refusal(text: &mut Vec<u8>, refusal: Refusal) -> Result<(), AllocError>
 /// How many lines the fields of a reference take, and the fields, point by point.
 fn push_reference(text: &mut Vec<u8>, reference: &Reference) -> Result<(), AllocError>
     ensures { OnOk result (text.new.items
-        ≡ text.old.items ++ texts.accepted (texts.reference_lines reference.now)) }
+        ≡ text.old.items ++ texts.accepted_text (texts.reference_lines reference.now)) }
 {
     let points = reference.middle.as_slice();
     let offsets = offset_count(reference.pos) + offset_count(reference.neg);

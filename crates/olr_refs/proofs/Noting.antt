@@ -21,9 +21,9 @@ use Rattle.olr_spec.proofs.ListLemmas.{has_here, Contains-cases}
 use Rattle.olr_spec.proofs.AnswerLemmas.{Next-candidate}
 use Rattle.olr_route.specs.declared.work.Work.{Work}
 use Rattle.olr_route.specs.declared.distances.Direction.TheVariants.{Along}
-use Rattle.olr_route.specs.Counts.{saturated}
+use Rattle.olr_route.specs.Counts.{saturated_count}
 use Rattle.olr_route.specs.Searches.{LiesWithin, Counts}
-use Rattle.olr_refs.specs.Choice.{Looked, LookedAfter, raised}
+use Rattle.olr_refs.specs.Choice.{Looked, LookedAfter, raised_count}
 use Rattle.olr_refs.proofs.Stretches.{later_stretch, longer_stretch}
 use Rattle.olr_refs.proofs.Reaching.{empty_stretch}
 use Rattle.std.proofs.lemmas.List.{append-nil}
@@ -74,10 +74,10 @@ look_short M ls i k t =
 
 -- ---- counts
 
-raised_more : (count n m : ℕ) → raised (raised count n) m ≡ raised count (n + m)
-raised_more count n zero = ap (raised count) (omega arith)
+raised_more : (count n m : ℕ) → raised_count (raised_count count n) m ≡ raised_count count (n + m)
+raised_more count n zero = ap (raised_count count) (omega arith)
 raised_more count n (suc m) = let e : suc (n + m) ≡ n + suc m =
-    omega arith in ap (λ (k : ℕ). saturated (k + 1)) (raised_more count n m) ∙ ap (raised count) e
+    omega arith in ap (λ (k : ℕ). saturated_count (k + 1)) (raised_more count n m) ∙ ap (raised_count count) e
 
 settled_more : (a b c n m t : ℕ) → b ≤ a + n * t → c ≤ b + m * t → c ≤ a + (n + m) * t
 settled_more a b c n m t f g = let parts : (n + m) * t ≡ n * t + m * t =
@@ -92,7 +92,7 @@ pub looked_more : (a b c : Work) (n m : ℕ) (P Q R : ℕ → Type 0) → Looked
 looked_more a b c n m P Q R f g p q =
     record {
       encodings = g.encodings ∙ f.encodings;
-      searches = g.searches ∙ ap (λ (k : ℕ). raised k m) f.searches ∙ raised_more a.searches n m;
+      searches = g.searches ∙ ap (λ (k : ℕ). raised_count k m) f.searches ∙ raised_more a.searches n m;
       rises = let x = f.rises in let y = g.rises in omega arith;
       settled =
           λ all h. settled_more a.settled b.settled c.settled n m (length all) (f.settled all (λ v r. h v (p v r)))
@@ -112,8 +112,8 @@ looked_wider a b n P Q p f =
 -- one search from the end of line i
 pub one_look : (M : Map) (ls : List ℕ) (i k far n : ℕ) (before after : Work) → IsLastTested M ls i k →
     far ≡ dm_of M (stretch ls (i + 1) k) → Counts M Along ((end M (slice_index ls i), 0) ∷ []) far n
-    → after.encodings ≡ before.encodings → after.searches ≡ saturated (before.searches + 1) →
-    after.settled ≡ saturated (before.settled + n) → Looked before after 1 (Reach M (end M (slice_index ls i)))
+    → after.encodings ≡ before.encodings → after.searches ≡ saturated_count (before.searches + 1) →
+    after.settled ≡ saturated_count (before.settled + n) → Looked before after 1 (Reach M (end M (slice_index ls i)))
 one_look M ls i k far n before after t e c encodings searches settled =
     record {
       encodings = encodings;

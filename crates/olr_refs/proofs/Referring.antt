@@ -5,9 +5,9 @@ use Rattle.std.proofs.lemmas.Bool.{eq-eqb}
 use Rattle.std.specs.Prelude.{IsTrue, nat_lt, Result, Ok, Err, IfOk}
 use Rattle.olr_spec.specs.Map.{Map, IsMap, Agree, has_line}
 use Rattle.olr_spec.specs.Walks.{dm_of}
-use Rattle.olr_spec.specs.Extension.{Path, Tried, is_path, extended, AreJoined}
+use Rattle.olr_spec.specs.Extension.{Path, Tried, is_path, extended_path, AreJoined}
 use Rattle.olr_spec.specs.Points.{Follow, last_position, OfPath}
-use Rattle.olr_spec.specs.Reference.{Reference, legs, reference, kept}
+use Rattle.olr_spec.specs.Reference.{Reference, legs, reference, kept_points}
 use Rattle.olr_spec.specs.Encoding as spec
 use Rattle.olr_spec.specs.Encoding.{first_unknown, first_break, path_fault, answer_by_points, Encoding, Encodes}
 use Rattle.olr_spec.specs.Joins.{Joins}
@@ -85,14 +85,14 @@ joins_of M P E F G (Refused f) x a = tt
 joins_of M P E F G (Points r) x a =
     let end = (answered M E a.0 r a.2).0 in
     of_path M P E F G (λ e js. (last_position 0 js ≡ length e.lines)
-    × Joins M e.lines (kept (legs M e.lines) e.pos e.neg js)) x
+    × Joins M e.lines (kept_points (legs M e.lines) e.pos e.neg js)) x
     (a.0, a.1, (end, routes_join M E.lines a.0 E.pos E.neg a.1 end))
 
 -- ---- the own nodes, and the looks
 
 -- the own nodes are those that were noted
 one_own : (M : Map) → IsMap M → (P : Path) → IsTrue (is_path P.lines) → path_fault M P ≡ None → (b a : List ℕ) →
-    Tried M P b a → (v : ℕ) → OwnOfExtended M P v → Own M (extended M P b a).lines b a v
+    Tried M P b a → (v : ℕ) → OwnOfExtended M P v → Own M (extended_path M P b a).lines b a v
 one_own M m P is none b a t v own =
     let n = path_nonempty P.lines is in
     let Known : ℕ → Type 0 = λ x. IsTrue (has_line M x) in
@@ -100,9 +100,9 @@ one_own M m P is none b a t v own =
     let chains =
     one_tried M m P n (all_first Known P.lines n known) (all_last Known P.lines n known) own.before own.after b a
     own.tried t in
-    let first : Own M (extended M P b own.after).lines b own.after v =
-    subst (λ (c : List ℕ). Own M (extended M P c own.after).lines c own.after v) chains.0 own.own in
-    subst (λ (c : List ℕ). Own M (extended M P b c).lines b c v) chains.1 first
+    let first : Own M (extended_path M P b own.after).lines b own.after v =
+    subst (λ (c : List ℕ). Own M (extended_path M P c own.after).lines c own.after v) chains.0 own.own in
+    subst (λ (c : List ℕ). Own M (extended_path M P b c).lines b c v) chains.1 first
 
 pub own_of : (M : Map) → IsMap M → (P E : Path) (F G : List ℕ) → IsTrue (is_path P.lines) → path_fault M P ≡ None →
     F ≡ [] → Extends M P E F G → (v : ℕ) → Contains G v ↔ OwnOfExtended M P v
@@ -169,7 +169,7 @@ searches_looked M P looks o = by (path_fault M P) o
     by : (f : Option spec.Refusal) → MatchOption f (LooksOfExtended M P looks) (λ _. looks ≡ []) →
         MatchOption f (OfPath M P (λ E _ _ js. length looks ≡ searches_of E.lines (0 ∷ js))) (λ _. length looks ≡ 0)
     by None l =
-        let ls = (extended M P l.before l.after).lines in
+        let ls = (extended_path M P l.before l.after).lines in
         path_also l (sym (zip_length (IsLook M ls) (looking ls (0 ∷ l.points)) looks l.holds)
         ∙ length-filter (λ i. nat_lt (i + 2) (length ls)) (0 ∷ l.points))
     by (Some f) e = ap length e

@@ -9,7 +9,7 @@ use Rattle.olr_spec.specs.Map.{Map}
 use Rattle.olr_spec.specs.Walks.{dm_of}
 use Rattle.olr_spec.specs.Points.{Candidate, last_position}
 use Rattle.olr_spec.specs.Reference.{leg, legs, dm_along, from_front, to_back, last_where, first_where, first_kept}
-use Rattle.olr_spec.specs.Reference.{last_kept, kept, reference, reference_by}
+use Rattle.olr_spec.specs.Reference.{last_kept, kept_points, reference, reference_by}
 use Rattle.olr_spec.proofs.JoinLemmas.{Linked, follow_linked, between}
 use Rattle.olr_spec.proofs.KeptLemmas.{dm_along-legs, whole}
 use Rattle.olr_refs.specs.Along.{AreDistances}
@@ -292,7 +292,7 @@ trimmed M ls ds ps positive negative ks pos_left neg_left d p r less =
     ap (slice_index ds) (at (length ks - 2) (b - 1) (omega arith) (omega arith)) in
     let next_left = f.next (omega arith) in
     let before_left = l.before (omega arith) in
-    let kept_is : ks ≡ kept (legs M ls) positive negative (later ps) =
+    let kept_is : ks ≡ kept_points (legs M ls) positive negative (later ps) =
     r.range ∙ sym (range_is M ls ds ps d p a b (omega arith) within)
     ∙ (λ i. filter (between (first i) (last i)) (p.from_start i)) in
     let front_cut = ap (from_front (legs M ls)) first in

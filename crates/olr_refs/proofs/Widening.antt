@@ -10,7 +10,7 @@ use Rattle.std.proofs.lemmas.List.Elements.{Contains-append_cases}
 use Rattle.std.proofs.Math.Seq.{take-length}
 use Rattle.olr_spec.specs.Map.{Map, IsMap, has_node}
 use Rattle.olr_spec.specs.Walks.{dm_of}
-use Rattle.olr_spec.specs.Extension.{Path, is_path, extended, limit}
+use Rattle.olr_spec.specs.Extension.{Path, is_path, extended_path, limit}
 use Rattle.olr_spec.specs.Encoding.{Refusal, path_fault}
 use Rattle.olr_spec.specs.Footprint.{Reach, Foot}
 use Rattle.olr_spec.specs.Looks.{Look, OwnOf, LooksOf, LooksOfExtended}
@@ -19,12 +19,12 @@ use Rattle.olr_spec.proofs.LookLists.{look_from}
 use Rattle.olr_spec.proofs.TestedLemmas.{foot_looked}
 use Rattle.olr_spec.proofs.ListLemmas.{Contains-here, Contains-cases}
 use Rattle.olr_route.specs.declared.work.Work.{Work}
-use Rattle.olr_route.specs.Counts.{saturated}
+use Rattle.olr_route.specs.Counts.{saturated_count}
 use Rattle.olr_route.specs.Searches.{IsSearch, LiesWithin, limit_of}
 use Rattle.olr_route.specs.declared.distances.Direction.TheVariants.{Along}
 use Rattle.olr_route.specs.declared.distances.Search.{Search}
 use Rattle.olr_route.proofs.SearchLemmas.{near_leads}
-use Rattle.olr_refs.specs.Choice.{Searches, raised}
+use Rattle.olr_refs.specs.Choice.{Searches, raised_count}
 use Rattle.olr_refs.proofs.Joined.{known_at}
 use Rattle.olr_refs.proofs.Noting.{near_reach}
 
@@ -84,8 +84,9 @@ near_reached M place s q h there far v = (
 )
 
 -- one search is counted
-pub one_searched : (a b : Work) (labels t : ℕ) → b.encodings ≡ a.encodings → b.searches ≡ saturated (a.searches + 1) →
-    b.settled ≡ saturated (a.settled + labels) → labels ≤ t → Searches a b 1 t
+pub one_searched : (a b : Work) (labels t : ℕ) → b.encodings ≡ a.encodings →
+    b.searches ≡ saturated_count (a.searches + 1) → b.settled ≡ saturated_count (a.settled + labels) → labels ≤ t
+    → Searches a b 1 t
 one_searched a b labels t encodings searches settled h =
     record { encodings = encodings; searches = searches; rises = omega arith; settled = omega arith }
 
@@ -100,7 +101,7 @@ searches_more a b c n s t f g h =
     let parts : (n + 1) * t ≡ n * t + t = omega arith in
     record {
       encodings = g.encodings ∙ f.encodings;
-      searches = g.searches ∙ ap (λ (k : ℕ). saturated (k + 1)) f.searches ∙ ap (raised a.searches) one;
+      searches = g.searches ∙ ap (λ (k : ℕ). saturated_count (k + 1)) f.searches ∙ ap (raised_count a.searches) one;
       rises = omega arith;
       settled = omega arith;
     }
@@ -155,7 +156,7 @@ looks_known M m P is looks o = by (path_fault M P) refl o
     by : (f : Option Refusal) → path_fault M P ≡ f → MatchOption f (LooksOfExtended M P looks) (λ _. looks ≡ []) →
         All (λ l. IsTrue (has_node M l.from)) looks
     by None e l = λ k d h.
-        let ls = (extended M P l.before l.after).lines in
+        let ls = (extended_path M P l.before l.after).lines in
         let r = look_from M ls (0 ∷ l.points) looks l.holds (get_or looks k d) (Contains-get_or looks k d h) in
         let two = r.2 in
         let joined = extended_joined M P is e l.before l.after l.tried in

@@ -14,7 +14,7 @@ use Rattle.olr_spec.specs.Points.{Follow, last_position}
 use Rattle.olr_spec.specs.Footprint.{Searched}
 use Rattle.olr_spec.specs.Looks.{Look, LooksFrom, looking}
 use Rattle.olr_route.specs.declared.work.Work.{Work}
-use Rattle.olr_route.specs.Counts.{saturated}
+use Rattle.olr_route.specs.Counts.{saturated_count}
 use Rattle.olr_refs.specs.declared.chosen.Choice.{Choice}
 use Rattle.olr_refs.specs.declared.chosen.Choice.TheVariants.{Positions, NoNext}
 
@@ -29,15 +29,15 @@ abbrev pub searches_of : List ℕ → List ℕ → ℕ
 searches_of ls is = count_by (λ i. nat_lt (i + 2) (length ls)) is
 
 -- a count that is raised by one so many times
-abbrev pub raised : ℕ → ℕ → ℕ
-raised count zero = count
-raised count (suc n) = saturated (raised count n + 1)
+abbrev pub raised_count : ℕ → ℕ → ℕ
+raised_count count zero = count
+raised_count count (suc n) = saturated_count (raised_count count n + 1)
 
 -- so of any list of nodes that holds all that are near
 pub record Looked (old new : Work) (n : ℕ) (near : ℕ → Type 0) : Type 0 where
   pub encodings : new.encodings ≡ old.encodings
-  pub searches : new.searches ≡ raised old.searches n
-  pub rises : saturated old.settled ≤ new.settled
+  pub searches : new.searches ≡ raised_count old.searches n
+  pub rises : saturated_count old.settled ≤ new.settled
   pub settled : (all : List ℕ) → ((v : ℕ) → near v → Contains all v) → new.settled ≤ old.settled + n * length all
 
 pub record LookedAfter (M : Map) (ls : List ℕ) (i : ℕ) (old new : List Look) (before after : Work) : Type 0 where
@@ -48,6 +48,6 @@ pub record LookedAfter (M : Map) (ls : List ℕ) (i : ℕ) (old new : List Look)
 
 pub record Searches (old new : Work) (n size : ℕ) : Type 0 where
   pub encodings : new.encodings ≡ old.encodings
-  pub searches : new.searches ≡ raised old.searches n
-  pub rises : saturated old.settled ≤ new.settled
+  pub searches : new.searches ≡ raised_count old.searches n
+  pub rises : saturated_count old.settled ≤ new.settled
   pub settled : new.settled ≤ old.settled + n * size

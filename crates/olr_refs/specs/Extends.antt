@@ -3,12 +3,12 @@
 --         both tried chains
 use Rattle.std.specs.Prelude.{◌≡◌, ℕ, ◌⊎◌, ◌↔◌, List, Contains}
 use Rattle.olr_spec.specs.Map.{Map}
-use Rattle.olr_spec.specs.Extension.{Path, Tried, extended}
+use Rattle.olr_spec.specs.Extension.{Path, Tried, extended_path}
 use Rattle.olr_spec.specs.Footprint.{NodeOf}
 
 pub record Extends (M : Map) (P E : Path) (F G : List ℕ) : Type 0 where
   pub before : List ℕ
   pub after : List ℕ
   pub tried : Tried M P before after
-  pub path : E ≡ extended M P before after
+  pub path : E ≡ extended_path M P before after
   pub noted : (v : ℕ) → Contains G v ↔ (Contains F v ⊎ (NodeOf M E.lines v ⊎ (NodeOf M before v ⊎ NodeOf M after v)))

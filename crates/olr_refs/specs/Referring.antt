@@ -5,7 +5,7 @@ use Rattle.std.specs.Prelude.{◌≡◌, ℕ, ◌∷◌, length, MatchOption, �
 use Rattle.olr_spec.specs.Map.{Map}
 use Rattle.olr_spec.specs.Extension.{Path}
 use Rattle.olr_spec.specs.Points.{last_position, OfPath}
-use Rattle.olr_spec.specs.Reference.{legs, kept}
+use Rattle.olr_spec.specs.Reference.{legs, kept_points}
 use Rattle.olr_spec.specs.Encoding.{path_fault}
 use Rattle.olr_spec.specs.Joins.{Joins}
 use Rattle.olr_refs.specs.declared.answer.Answer.{Answer}
@@ -16,7 +16,7 @@ abbrev pub JoinsOf : Map → Path → Answer → Type 0
 JoinsOf M P (Refused f) = ⊤
 JoinsOf M P (Points r) =
     OfPath M P (λ E _ _ js. (last_position 0 js ≡ length E.lines)
-    × Joins M E.lines (kept (legs M E.lines) E.pos E.neg js))
+    × Joins M E.lines (kept_points (legs M E.lines) E.pos E.neg js))
 
 abbrev pub SearchesOf : Map → Path → ℕ → Type 0
 SearchesOf M P n = MatchOption (path_fault M P) (OfPath M P (λ E _ _ js. n ≡ searches_of E.lines (0 ∷ js))) (λ _. n ≡ 0)

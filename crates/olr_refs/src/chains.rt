@@ -26,7 +26,7 @@ pub(crate) struct Chain {
 
 impl Chain {
     /// What is taken of the chain, and the length of that: all of it where it leads to a valid node, and else nothing.
-    pub(crate) fn taken(&self) -> (&[LineId], u32)
+    pub(crate) fn taken_part(&self) -> (&[LineId], u32)
         ensures lines { result.0.now ≡ (if self.now.valid then self.now.lines.items else []) }
         ensures len { result.1 ≡ (if self.now.valid then self.now.len else 0) }
     {

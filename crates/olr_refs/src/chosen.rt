@@ -50,7 +50,7 @@ fn look_after<M: MapRead>(
     search.begin(course.map, Direction::Along, &[(from, 0)])?;
     let tested = covered_to(course, i, farthest_from(course, i), search)?;
     work.searches = work.searches.saturating_add(1);
-    work.settled = work.settled.saturating_add(search.settled() as u64);
+    work.settled = work.settled.saturating_add(search.settled_count() as u64);
     let look = Look {
         from,
         to: course.node(tested.last),

@@ -8,7 +8,7 @@ ghost use Rattle.olr_spec.specs.Looks.{LooksFrom, LooksOf, LooksOfExtended, OwnO
 ghost use Rattle.olr_refs.specs.Answers.{answer_of};
 ghost use Rattle.olr_spec.specs.Encoding.{answer_by_points as answer_along};
 ghost use Rattle.olr_spec.specs.Walks.{dm_of};
-ghost use Rattle.olr_refs.specs.Choice.{ForPoints, IsChoice, Looked, raised};
+ghost use Rattle.olr_refs.specs.Choice.{ForPoints, IsChoice, Looked, raised_count};
 ghost use Rattle.olr_refs.specs.Referring.{JoinsOf};
 
 use crate::along::{Course, distances};
@@ -53,7 +53,7 @@ pub fn encode<M: MapRead>(
     ensures path { IsTrue (is_path path.now.lines) }
     ensures encodings { OnOk result
         (work.old.encodings + 1 < 2 ^ 64 → work.new.encodings ≡ work.old.encodings + 1) }
-    ensures searches { IfOk result (λ e. work.new.searches ≡ raised work.old.searches (length e.looks.items)) }
+    ensures searches { IfOk result (λ e. work.new.searches ≡ raised_count work.old.searches (length e.looks.items)) }
     ensures settled_rises { OnOk result (work.old.settled < 2 ^ 64 → work.old.settled ≤ work.new.settled) }
     ensures settled { IfOk result (λ e. (all : List ℕ) → ((v : ℕ) → Foot (M.map map.now) path.now v → Contains all v)
         → work.new.settled ≤ work.old.settled + length e.looks.items * length all) }

@@ -52,11 +52,11 @@ pub fn extend<M: MapRead>(
     ensures err { OnErr result (footprint.new ≡ footprint.old) }
 {
     let before = chain_before(alloc, map, path.lines())?;
-    let (front, front_len) = before.taken();
+    let (front, front_len) = before.taken_part();
     let mut lines = Vec::from_slice(alloc, front)?;
     lines.extend_from_slice(path.lines())?;
     let after = chain_after(alloc, map, &lines)?;
-    let (back, back_len) = after.taken();
+    let (back, back_len) = after.taken_part();
     lines.extend_from_slice(back)?;
     note_ends(alloc, map, &lines, &before.lines, &after.lines, footprint)?;
     Ok(Extended {

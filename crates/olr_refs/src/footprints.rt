@@ -7,7 +7,7 @@ ghost use Rattle.olr_spec.specs.Encoding.{Encodes};
 ghost use Rattle.olr_spec.specs.Footprint.{Foot, Reach};
 ghost use Rattle.olr_spec.specs.Looks.{Look as LookRecord, LooksOf, OwnOf};
 ghost use Rattle.olr_refs.specs.Answers.{answer_of};
-ghost use Rattle.olr_refs.specs.Choice.{raised, Searches};
+ghost use Rattle.olr_refs.specs.Choice.{raised_count, Searches};
 ghost use Rattle.olr_refs.specs.Referring.{JoinsOf, SearchesOf};
 
 use crate::answer::Answer;
@@ -88,7 +88,7 @@ pub fn refer<M: MapRead>(
     ensures encodings { OnOk result
         (work.old.encodings + 1 < 2 ^ 64 → work.new.encodings ≡ work.old.encodings + 1) }
     ensures searches { OnOk result ((n : ℕ) × SearchesOf (M.map map.now) path.now n
-        × (work.new.searches ≡ raised work.old.searches n)) }
+        × (work.new.searches ≡ raised_count work.old.searches n)) }
     ensures settled_rises { OnOk result (work.old.settled < 2 ^ 64 → work.old.settled ≤ work.new.settled) }
     ensures settled { IfOk result (λ r. (n : ℕ) × SearchesOf (M.map map.now) path.now n
         × (work.new.settled ≤ work.old.settled + n * length r.1)) }

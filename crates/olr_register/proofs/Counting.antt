@@ -6,7 +6,7 @@ use Rattle.olr_spec.specs.Map.{has}
 use Rattle.olr_commands.specs.State.{Named, Content, same_name, Change, State, Command, changes_made}
 use Rattle.olr_commands.specs.Counts.{Concerns, By_name, By_node, By_line, CountIs, Raises, all_nodes, all_lines}
 use Rattle.olr_commands.specs.Counts.{all_names}
-use Rattle.olr_paths.specs.Items.{Made, Item, named, all_named}
+use Rattle.olr_paths.specs.Items.{Made, Item, named_of, all_named}
 use Rattle.olr_paths.specs.Changes.{IsConcerned}
 use Rattle.olr_paths.specs.Changes as made
 use Rattle.olr_register.specs.Holding.{held_of}
@@ -20,13 +20,13 @@ module _ (c : Content) (changes : List Change) (ns xs : List ℕ)
     (same_nodes : (v : ℕ) → has ns v ≡ has (all_nodes c changes) v)
     (same_lines : (x : ℕ) → has xs x ≡ has (all_lines changes) x) where
   concerns_by_made : (i : Item) → is_none i.made ≡ list_any (same_name i.name) (all_names changes) →
-      IsConcerned c.map ns xs i → Concerns c changes (named i)
+      IsConcerned c.map ns xs i → Concerns c changes (named_of i)
   concerns_by_made i given (made.By_name e) = By_name (sym given ∙ ap (λ (o : Option Made). is_none o) e)
   concerns_by_made i given (made.By_node v h f) = By_node v (sym (same_nodes v) ∙ h) f
   concerns_by_made i given (made.By_line x h f) = By_line x (sym (same_lines x) ∙ h) f
 
   made_by_concerns : (i : Item) → is_none i.made ≡ list_any (same_name i.name) (all_names changes) →
-      Concerns c changes (named i) → IsConcerned c.map ns xs i
+      Concerns c changes (named_of i) → IsConcerned c.map ns xs i
   made_by_concerns i given (By_name h) = made.By_name (none_made i.made (given ∙ h))
   made_by_concerns i given (By_node v h f) = made.By_node v (same_nodes v ∙ h) f
   made_by_concerns i given (By_line x h f) = made.By_line x (same_lines x ∙ h) f

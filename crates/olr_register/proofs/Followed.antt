@@ -8,7 +8,7 @@ use Rattle.olr_spec.specs.Extension.{Path}
 use Rattle.olr_spec.specs.Encoding.{Answer}
 use Rattle.olr_commands.specs.State.{same_name, path_named, NamesDiffer}
 use Rattle.olr_commands.proofs.NameLemmas.{not_named, flipped}
-use Rattle.olr_paths.specs.Items.{Made, Item, AreEncodings, named, all_named, made_in, answer_in}
+use Rattle.olr_paths.specs.Items.{Made, Item, AreEncodings, named_of, all_named, made_in, answer_in}
 use Rattle.olr_paths.specs.Changes.{Reported, Follows, set_item}
 use Rattle.olr_paths.proofs.Following.{answer_made}
 

@@ -11,7 +11,7 @@ use lib.Pointwise.{bytes_decides}
 use Rattle.olr_spec.specs.Extension.{Path}
 use Rattle.olr_commands.specs.State.{Named, same_name, path_named}
 use Rattle.olr_commands.proofs.NameLemmas.{not_named}
-use Rattle.olr_paths.specs.Items.{Item, named, all_named}
+use Rattle.olr_paths.specs.Items.{Item, named_of, all_named}
 use Rattle.olr_paths.specs.Changes.{set_item}
 use Rattle.olr_register.specs.Kept.{Held, named_held}
 use Rattle.olr_register.specs.Holding.{held_of}
@@ -19,7 +19,7 @@ use Rattle.olr_register.specs.Given.{AreGiven}
 
 pub named_twice : (is : List Item) → map named_held (map held_of is) ≡ all_named is
 named_twice [] = refl
-named_twice (i ∷ is) = ap (λ (ps : List Named). named i ∷ ps) (named_twice is)
+named_twice (i ∷ is) = ap (λ (ps : List Named). named_of i ∷ ps) (named_twice is)
 
 -- ---- one name more
 
@@ -44,7 +44,7 @@ pub given_add : (name : List ℕ) (path : Path) (names : List (List ℕ)) (is : 
     → AreGiven (names ++ name ∷ []) (map held_of (is ++ record { name = name; path = path; made = None } ∷ []))
 given_add name path names [] free g = (given_here name name names ((bytes_decides name name).1 refl), tt)
 given_add name path names (i ∷ is) free g =
-    let p = not_named (named i) (all_named is) name free in
+    let p = not_named (named_of i) (all_named is) name free in
     (given_still i.name name names (is_none i.made) p.0 g.0, given_add name path names is p.1 g.1)
 
 pub given_set : (name : List ℕ) (path : Path) (names : List (List ℕ)) (is : List Item) →

@@ -5,22 +5,22 @@ use Rattle.std.specs.Prelude.{IfSome}
 use Rattle.olr_spec.specs.Map.{Map}
 use Rattle.olr_spec.specs.Extension.{Path}
 use Rattle.olr_commands.specs.State.{Named, same_name, with_path}
-use Rattle.olr_paths.specs.Items.{Made, Item, IsEncodingOf, AreEncodings, AreEncodingsIfAny, named, all_named}
+use Rattle.olr_paths.specs.Items.{Made, Item, IsEncodingOf, AreEncodings, AreEncodingsIfAny, named_of, all_named}
 use Rattle.olr_paths.specs.Changes.{set_item}
 
 -- ---- names and paths
 
-pub names_add : (is : List Item) (j : Item) → all_named (is ++ j ∷ []) ≡ all_named is ++ named j ∷ []
+pub names_add : (is : List Item) (j : Item) → all_named (is ++ j ∷ []) ≡ all_named is ++ named_of j ∷ []
 names_add [] j = refl
-names_add (i ∷ is) j = ap (λ (ps : List Named). named i ∷ ps) (names_add is j)
+names_add (i ∷ is) j = ap (λ (ps : List Named). named_of i ∷ ps) (names_add is j)
 
 pub names_set : (name : List ℕ) (path : Path) (made : Option Made) (is : List Item) →
     all_named (map (set_item name path made) is) ≡ map (with_path name path) (all_named is)
 names_set name path made [] = refl
 names_set name path made (i ∷ is) =
-    let one : named (set_item name path made i) ≡ with_path name path (named i) =
-    elim (same_name i.name name) as (λ b. named (cond b (record { name = i.name; path = path; made = made }) i)
-    ≡ cond b (record { name = i.name; path = path }) (named i)) [ true ↦ refl | false ↦ refl ] in
+    let one : named_of (set_item name path made i) ≡ with_path name path (named_of i) =
+    elim (same_name i.name name) as (λ b. named_of (cond b (record { name = i.name; path = path; made = made }) i)
+    ≡ cond b (record { name = i.name; path = path }) (named_of i)) [ true ↦ refl | false ↦ refl ] in
     let rest = names_set name path made is in
     λ k. one k ∷ rest k
 
@@ -31,9 +31,9 @@ names_drop name (i ∷ is) =
     let rest = names_drop name is in
     elim (not (same_name i.name name)) as (λ b.
     all_named (cond b (i ∷ filter (λ j. not (same_name j.name name)) is) (filter (λ j. not (same_name j.name name)) is))
-    ≡ cond b (named i ∷ filter (λ p. not (same_name p.name name)) (all_named is))
+    ≡ cond b (named_of i ∷ filter (λ p. not (same_name p.name name)) (all_named is))
     (filter (λ p. not (same_name p.name name)) (all_named is))) [
-      | true ↦ ap (λ (ps : List Named). named i ∷ ps) rest
+      | true ↦ ap (λ (ps : List Named). named_of i ∷ ps) rest
       | false ↦ rest
     ]
 

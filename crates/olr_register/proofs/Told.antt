@@ -10,7 +10,7 @@ use Rattle.olr_spec.specs.Encoding.{Answer}
 use Rattle.olr_commands.specs.State.{Named, same_name, path_named, NamesDiffer, IsContent}
 use Rattle.olr_commands.specs.Reply.{Entry, entry, Differences}
 use Rattle.olr_commands.proofs.NameLemmas.{not_named, same_is}
-use Rattle.olr_paths.specs.Items.{Made, Item, IsEncodingOf, AreEncodings, named, all_named, made_in, answer_in}
+use Rattle.olr_paths.specs.Items.{Made, Item, IsEncodingOf, AreEncodings, named_of, all_named, made_in, answer_in}
 use Rattle.olr_paths.specs.Changes.{AreRemade, Reported, Follows, set_item}
 use Rattle.olr_register.proofs.Renewed.{remade_made}
 use Rattle.olr_register.proofs.Replies.{changes_told}
@@ -24,7 +24,7 @@ use Rattle.olr_register.proofs.Followed.{follows_same, follows_drop, follows_unt
 not_made : (is : List Item) (name : List ℕ) → is_some (path_named (all_named is) name) ≡ false → made_in is name ≡ None
 not_made [] name h = refl
 not_made (i ∷ is) name h =
-    let p = not_named (named i) (all_named is) name h in
+    let p = not_named (named_of i) (all_named is) name h in
     ap (λ (b : Bool). if b then i.made else made_in is name) p.0 ∙ not_made is name p.1
 
 told_last : (before js : List Item) (j : Item) (A : Answer) (es : List Entry) →
@@ -64,7 +64,7 @@ set_absent : (name : List ℕ) (path : Path) (made : Option Made) (is : List Ite
     is_some (path_named (all_named is) name) ≡ false → map (set_item name path made) is ≡ is
 set_absent name path made [] h = refl
 set_absent name path made (i ∷ is) h =
-    let p = not_named (named i) (all_named is) name h in
+    let p = not_named (named_of i) (all_named is) name h in
     let one : set_item name path made i ≡ i =
     ap (λ (b : Bool). if b then record { name = i.name; path = path; made = made } else i) p.0 in
     let rest = set_absent name path made is p.1 in

@@ -18,10 +18,10 @@ impl Register {
 
     /// What is published of the path of that name, with the own nodes and the looks of its encoding on the map. None
     /// where no path has it. An open batch is left out of account.
-    pub fn published(&self, name: &str) -> Option<&Published>
+    pub fn published_of(&self, name: &str) -> Option<&Published>
         ensures { PublishedWhole self.now.kept.content name.now (option_map (λ p. made_of p.now) result) }
     {
-        self.paths.published(name)
+        self.paths.published_of(name)
     }
 
     /// The footprint of the path of that name, searched for when it is asked: a change of the map that touches none of

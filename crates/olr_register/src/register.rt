@@ -74,7 +74,7 @@ impl Register {
     pub fn answer(&self, name: &str) -> Option<&Answer>
         ensures { Published self.now.kept.content name.now (option_map (λ a. answer_of a.now) result) }
     {
-        let published = self.paths.published(name)?;
+        let published = self.paths.published_of(name)?;
         Some(published.answer())
     }
 
@@ -82,7 +82,7 @@ impl Register {
     pub fn text(&self, name: &str) -> Option<&str>
         ensures { PublishedText self.now.kept.content name.now (option_map (λ t. t.now) result) }
     {
-        let shown = self.paths.published(name)?;
+        let shown = self.paths.published_of(name)?;
         shown.text()
     }
 
@@ -131,7 +131,7 @@ impl Register {
     }
 
     /// Of the counted encodings, how many kept their answer by the law, without a search for their points.
-    pub fn kept(&self) -> u64
+    pub fn spared_count(&self) -> u64
         ensures { result ≡ self.now.spared }
     {
         self.kept

@@ -8,7 +8,7 @@ use Rattle.olr_spec.specs.Map.{Map, IsMap, has_node, has_line, start, end, dm}
 use Rattle.olr_spec.specs.Walks.{Walk, dm_of}
 use Rattle.olr_spec.proofs.WalkLemmas.{positive}
 use Rattle.olr_route.specs.Labels.{Label, AreLabels, label_at}
-use Rattle.olr_route.specs.Listed.{listed, IsTight, IsLastLine, IsTold}
+use Rattle.olr_route.specs.Listed.{listed_labels, IsTight, IsLastLine, IsTold}
 use Rattle.olr_route.specs.Founds.{label_of}
 use Rattle.olr_route.specs.Marks.{Marks, NotGreater, Capped, Found, IsClosed, IsSearchState, mark_at}
 use Rattle.olr_route.specs.Searches.{IsSearch, LiesWithin}
@@ -40,7 +40,7 @@ module _ (M : Map) (place : ℕ → ℕ) (s : ℕ) (q : Search) (h : IsSearch M 
     within : d ≤ q.limit
     last : IsLastLine M place q.found v d o
 
-  says : (v d : ℕ) (o : Option ℕ) → label_at (listed s q.limit ks ls) v ≡ Some (d, o) → Says v d o
+  says : (v d : ℕ) (o : Option ℕ) → label_at (listed_labels s q.limit ks ls) v ≡ Some (d, o) → Says v d o
   says v d o at =
       let k = node_of_label s q.limit ks ls up beside v (d, o) at in
       let t = told k.0 k.1 in
@@ -56,7 +56,7 @@ module _ (M : Map) (place : ℕ → ℕ) (s : ℕ) (q : Search) (h : IsSearch M 
 
   -- a node within the limit has a label
   labelled : (v : ℕ) → IsTrue (has_node M v) → label_of q.found (place v) ≤ q.limit → (k : Label)
-      × (label_at (listed s q.limit ks ls) v ≡ Some k) × IsTold M place q.found v k
+      × (label_at (listed_labels s q.limit ks ls) v ≡ Some k) × IsTold M place q.found v k
   labelled v known le =
       let c = (near v).1 (label_of q.found (place v), is_distance M place Along ((s, 0) ∷ []) q h v known le, le) in
       let is : get_or ks c.0 0 ≡ v = get_or_default ks c.0 0 v c.1 ∙ c.2 in (
@@ -79,7 +79,7 @@ module _ (M : Map) (place : ℕ → ℕ) (s : ℕ) (q : Search) (h : IsSearch M 
       (walk_on M s x w.0 (subst (λ (v : ℕ). Walk M s v w.0) (sym from) w.1) line) (omega arith) in
       omega arith
 
-  at_source : label_at (listed s q.limit ks ls) s ≡ Some (0, None)
+  at_source : label_at (listed_labels s q.limit ks ls) s ≡ Some (0, None)
   at_source =
       let m = h.under_way.labelled.sound in
       let none : label_of q.found (place s) ≤ 0 =
@@ -143,9 +143,9 @@ module _ (M : Map) (place : ℕ → ℕ) (s : ℕ) (q : Search) (h : IsSearch M 
         ends = last_of-append w.0 y ∙ sym e;
       }
 
-  closed : (u d : ℕ) (o : Option ℕ) → label_at (listed s q.limit ks ls) u ≡ Some (d, o) → (x : ℕ) →
+  closed : (u d : ℕ) (o : Option ℕ) → label_at (listed_labels s q.limit ks ls) u ≡ Some (d, o) → (x : ℕ) →
       IsTrue (has_line M x) → start M x ≡ u → d + dm M x ≤ q.limit →
-      Capped (label_at (listed s q.limit ks ls)) (end M x) (d + dm M x) (Some x)
+      Capped (label_at (listed_labels s q.limit ks ls)) (end M x) (d + dm M x) (Some x)
   closed u d o at x line from short =
       let t = says u d o at in
       let dist = t.dist in
@@ -174,7 +174,7 @@ module _ (M : Map) (place : ℕ → ℕ) (s : ℕ) (q : Search) (h : IsSearch M 
         ];
       }
 
-  certified : Certified M s q.limit (label_at (listed s q.limit ks ls))
+  certified : Certified M s q.limit (label_at (listed_labels s q.limit ks ls))
   certified = record {
     at_source = at_source;
     within = λ v d o at. (says v d o at).within;
@@ -187,8 +187,8 @@ module _ (M : Map) (place : ℕ → ℕ) (s : ℕ) (q : Search) (h : IsSearch M 
     closed = closed;
   }
 
-  pub told_labels : AreLabels M (listed s q.limit ks ls)
-  told_labels = labels_of_certified M h.under_way.labelled.sound (listed s q.limit ks ls) certified
+  pub told_labels : AreLabels M (listed_labels s q.limit ks ls)
+  told_labels = labels_of_certified M h.under_way.labelled.sound (listed_labels s q.limit ks ls) certified
 
   pub node_there : (v : ℕ) → Contains ks v → IsTrue (has_node M v)
   node_there v c = let n = (near v).0 c in distance_node M place Along ((s, 0) ∷ []) q h v n.0 n.1
@@ -197,10 +197,10 @@ module _ (M : Map) (place : ℕ → ℕ) (s : ℕ) (q : Search) (h : IsSearch M 
 pub marked_labels : (M : Map) → IsMap M → (s limit : ℕ) (m : Marks) (ks : List ℕ) (ls : List Label) →
     IsStrictlyIncreasing ks → length ls ≡ length ks → ((v : ℕ) → Contains ks v ↔ IsSome (mark_at m v))
     → ((i : ℕ) → i < length ks → mark_at m (get_or ks i 0) ≡ Some (get_or ls i (0, None))) → IsSearchState M s limit m →
-    IsClosed M limit (mark_at m) → AreLabels M (listed s limit ks ls)
+    IsClosed M limit (mark_at m) → AreLabels M (listed_labels s limit ks ls)
 marked_labels M sound s limit m ks ls up beside nodes each f closed =
     let marks : Certified M s limit (mark_at m) =
     record { at_source = f.at_source; within = f.within; found = f.found; closed = closed } in
-    labels_of_certified M sound (listed s limit ks ls)
+    labels_of_certified M sound (listed_labels s limit ks ls)
     (subst (Certified M s limit) (λ i v. sym (label_at-listed s limit ks ls up beside (mark_at m) nodes each v) i)
     marks)

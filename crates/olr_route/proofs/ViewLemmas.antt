@@ -17,7 +17,7 @@ use Rattle.olr_spec.proofs.OptionLemmas.{is_some_of}
 use Rattle.olr_map.proofs.Lookups.{lookup_at}
 use Rattle.olr_map.proofs.Numbers.{distinct_from_rising}
 use Rattle.olr_route.specs.Labels.{Label, label_at, count_of}
-use Rattle.olr_route.specs.Listed.{listed}
+use Rattle.olr_route.specs.Listed.{listed_labels}
 
 find-lookup : (q : ℕ) (es : List (ℕ × Label)) → find nat_cmp q es ≡ lookup (eqb q) es
 find-lookup q [] = refl
@@ -59,7 +59,7 @@ module _ (s limit : ℕ) (ks : List ℕ) (ls : List Label) (up : IsStrictlyIncre
 
   -- the label at the i-th node
   pub label_of_node : (v i : ℕ) → i < length ks → get_or ks i 0 ≡ v →
-      label_at (listed s limit ks ls) v ≡ Some (get_or ls i (0, None))
+      label_at (listed_labels s limit ks ls) v ≡ Some (get_or ls i (0, None))
   label_of_node v i lt is =
       let pair : get_or (zip ks ls) i (0, (0, None)) ≡ (get_or ks i 0, get_or ls i (0, None)) =
       get_or-zip ks ls i (0, (0, None)) lt (omega arith) in
@@ -71,30 +71,30 @@ module _ (s limit : ℕ) (ks : List ℕ) (ls : List Label) (up : IsStrictlyIncre
       ∙ ap (λ (p : ℕ × Label). Some p.1) pair
 
   -- just the nodes of the list have one
-  pub has_label : (v : ℕ) → Contains ks v ↔ IsSome (label_at (listed s limit ks ls) v)
+  pub has_label : (v : ℕ) → Contains ks v ↔ IsSome (label_at (listed_labels s limit ks ls) v)
   has_label v = (
     λ c. let lt =
-        c.1 in is_some_of (label_at (listed s limit ks ls) v) (get_or ls c.0 (0, None))
+        c.1 in is_some_of (label_at (listed_labels s limit ks ls) v) (get_or ls c.0 (0, None))
         (label_of_node v c.0 c.1 (get_or_default ks c.0 0 v c.1 ∙ c.2)),
     λ h. subst (λ (xs : List ℕ). Contains xs v) keys
         (Contains-keys_from_lookup (λ x y e. eqb-true x y e) v (zip ks ls)
         (subst (λ (o : Option Label). IsSome o) (get-view (zip ks ls) v) h)),
   )
 
-  pub none_there : (v : ℕ) → ¬ Contains ks v → label_at (listed s limit ks ls) v ≡ None
-  none_there v absent = none_of (label_at (listed s limit ks ls) v) (λ h. absent ((has_label v).1 h))
+  pub none_there : (v : ℕ) → ¬ Contains ks v → label_at (listed_labels s limit ks ls) v ≡ None
+  none_there v absent = none_of (label_at (listed_labels s limit ks ls) v) (λ h. absent ((has_label v).1 h))
 
   -- a label stands beside its node
-  pub node_of_label : (v : ℕ) (k : Label) → label_at (listed s limit ks ls) v ≡ Some k → (i : ℕ) × (i < length ks)
-      × (get_or ks i 0 ≡ v) × (get_or ls i (0, None) ≡ k)
+  pub node_of_label : (v : ℕ) (k : Label) → label_at (listed_labels s limit ks ls) v ≡ Some k →
+      (i : ℕ) × (i < length ks) × (get_or ks i 0 ≡ v) × (get_or ls i (0, None) ≡ k)
   node_of_label v k at =
-      let c = (has_label v).1 (is_some_of (label_at (listed s limit ks ls) v) k at) in
+      let c = (has_label v).1 (is_some_of (label_at (listed_labels s limit ks ls) v) k at) in
       let is : get_or ks c.0 0 ≡ v = get_or_default ks c.0 0 v c.1 ∙ c.2 in
       let both : ◌≡◌ {A = Option Label} (Some (get_or ls c.0 (0, None))) (Some k) =
       sym (label_of_node v c.0 c.1 is) ∙ at in
       (c.0, c.1, is, cc)
 
-  pub count_of-listed : count_of (listed s limit ks ls) ≡ length ks
+  pub count_of-listed : count_of (listed_labels s limit ks ls) ≡ length ks
   count_of-listed =
       let long = length-zip ks ls in
       let count =
@@ -104,10 +104,10 @@ module _ (s limit : ℕ) (ks : List ℕ) (ls : List Label) (up : IsStrictlyIncre
   -- what each node's label is elsewhere, and nothing where there is no node of the list
   pub label_at-listed : (L : ℕ → Option Label) → ((v : ℕ) → Contains ks v ↔ IsSome (L v)) →
       ((i : ℕ) → i < length ks → L (get_or ks i 0) ≡ Some (get_or ls i (0, None))) → (v : ℕ) →
-      label_at (listed s limit ks ls) v ≡ L v
+      label_at (listed_labels s limit ks ls) v ≡ L v
   label_at-listed L nodes each v = decide (L v) refl
     where
-      decide : (o : Option Label) → L v ≡ o → label_at (listed s limit ks ls) v ≡ L v
+      decide : (o : Option Label) → L v ≡ o → label_at (listed_labels s limit ks ls) v ≡ L v
       decide None e = none_there v (λ c. let some = (nodes v).0 c in cc) ∙ sym e
       decide (Some k) e =
           let c = (nodes v).1 (is_some_of (L v) k e) in

@@ -1,5 +1,5 @@
 -- Labels as they are kept: rising nodes, and beside each its label.
---     listed s limit nodes labels      the labels that these lists are
+--     listed_labels s limit nodes labels      the labels that these lists are
 --     IsTight M place f v d x      line x ends at v, and from where it begins, by its label, it comes to length d
 --     IsLastLine M place f v d o      the least such line. None where there is none
 --     IsTold M place f v label      the node's label in the table, and the last line at that length
@@ -11,8 +11,8 @@ use Rattle.olr_route.specs.Labels.{Label, Labels}
 use Rattle.olr_route.specs.Founds.{label_of}
 use Rattle.olr_route.specs.declared.found.Found.{Found}
 
-abbrev pub listed : ℕ → ℕ → List ℕ → List Label → Labels
-listed s limit nodes labels = record { source = s; limit = limit; by_node = from_entries (zip nodes labels) }
+abbrev pub listed_labels : ℕ → ℕ → List ℕ → List Label → Labels
+listed_labels s limit nodes labels = record { source = s; limit = limit; by_node = from_entries (zip nodes labels) }
 
 pub record IsTight (M : Map) (place : ℕ → ℕ) (f : Found) (v d x : ℕ) : Type 0 where
   pub known : IsTrue (has_line M x)

@@ -130,7 +130,7 @@ impl Search {
 
     /// The nodes that the search has labelled, each once, with their places: those within the limit that it has been
     /// settled to, and some that lie farther, where that is less than `GREATEST_LIMIT`. In no particular order.
-    pub fn reached(&self) -> &[Reached]
+    pub fn reached_nodes(&self) -> &[Reached]
         ensures near { (M : Map) (place_in : ℕ → ℕ) (direction : _) (from : List (ℕ × ℕ)) (v : ℕ)
             → IsSearch M place_in direction from self.now → LiesWithin M direction from (limit_of self.now) v
             → Contains result.now (record { node = v; place = place_in v }) }
@@ -143,12 +143,12 @@ impl Search {
             → IsSearch M place_in direction from self.now → limit_of self.now ≡ GREATEST_LIMIT → Contains result.now r
             → LiesWithin M direction from GREATEST_LIMIT r.node }
     {
-        self.found.reached()
+        self.found.reached_nodes()
     }
 
     /// How many nodes the search has settled since it began: those within the limit that it has been settled to. Takes
     /// time that rises with the number of the nodes that it has labelled.
-    pub fn settled(&self) -> usize
+    pub fn settled_count(&self) -> usize
         ensures { (M : Map) (place_in : ℕ → ℕ) (direction : _) (from : List (ℕ × ℕ))
             → IsSearch M place_in direction from self.now → Counts M direction from (limit_of self.now) result }
     {

@@ -78,7 +78,7 @@ impl Found {
     }
 
     /// The nodes that have a label, each once.
-    pub fn reached(&self) -> &[Reached]
+    pub fn reached_nodes(&self) -> &[Reached]
         ensures { result.now ≡ self.now.reached.items }
     {
         &self.reached

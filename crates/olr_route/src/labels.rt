@@ -24,13 +24,13 @@ impl Model for Labels {
     ghost use Rattle.std.specs.Prelude.{◌≡◌, length};
     ghost use Rattle.std.specs.List.Sorted.{IsStrictlyIncreasing};
     ghost use Rattle.olr_route.specs.Labels.{Labels as Record, coded_labels};
-    ghost use Rattle.olr_route.specs.Listed.{listed};
+    ghost use Rattle.olr_route.specs.Listed.{listed_labels};
 
     ghost Value = { Record };
 
     ghost coded = { coded_labels };
 
-    ghost view = { λ a. listed a.source a.limit a.nodes.items a.labels.items };
+    ghost view = { λ a. listed_labels a.source a.limit a.nodes.items a.labels.items };
 
     ghost invariant = { λ a. IsStrictlyIncreasing a.nodes.items × (length a.labels.items ≡ length a.nodes.items) };
 }
@@ -39,7 +39,7 @@ impl Labels {
     ghost use Rattle.std.specs.Prelude.{◌≡◌, ◌↔◌, ℕ, IsSome, Contains, length};
     ghost use Rattle.std.specs.List.Sorted.{IsStrictlyIncreasing};
     ghost use Rattle.olr_route.specs.Labels.{label_at, dist_at, last_at, count_of};
-    ghost use Rattle.olr_route.specs.Listed.{listed};
+    ghost use Rattle.olr_route.specs.Listed.{listed_labels};
 
     /// The labels of a search from `source` within `limit` decimetres, beside the nodes at which they stand.
     pub(crate) fn new(
@@ -50,7 +50,7 @@ impl Labels {
     ) -> Labels
         requires rising { IsStrictlyIncreasing nodes.items }
         requires beside { length labels.items ≡ length nodes.items }
-        ensures { result ≡ listed source limit nodes.items labels.items }
+        ensures { result ≡ listed_labels source limit nodes.items labels.items }
     {
         Labels {
             source,
@@ -97,7 +97,7 @@ impl Labels {
 }
 
 /// Puts the labelled nodes into the footprint, and counts the search.
-pub(crate) fn noted(
+pub(crate) fn note_labels(
     labels: &Labels,
     footprint: &mut Footprint,
     work: &mut Work,

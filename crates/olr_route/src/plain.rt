@@ -7,7 +7,7 @@ ghost use Rattle.olr_route.specs.Labels.{AreLabels, label_at, count_of};
 ghost use Rattle.olr_route.specs.Counts.{after_search};
 ghost use Rattle.olr_route.specs.Marks.{mark_at, ClosedAt, IsClosed, IsSearchState, Keeps, Moves, gain};
 
-use crate::labels::{Labels, noted};
+use crate::labels::{Labels, note_labels};
 use crate::marks::{Marks, first_marks, follow, nodes_of};
 use crate::routes::GREATEST_LIMIT;
 use crate::work::Work;
@@ -118,6 +118,6 @@ pub fn search<M: MapRead>(
     let nodes = nodes_of(alloc, &marks)?;
     let labels = labels_of(alloc, &marks, &nodes)?;
     let labels = Labels::new(source, limit_dm, nodes, labels);
-    noted(&labels, footprint, work)?;
+    note_labels(&labels, footprint, work)?;
     Ok(labels)
 }

@@ -6,7 +6,7 @@ ghost use Rattle.olr_route.specs.Counts.{after_search};
 
 use crate::distances::{Direction, near};
 use crate::found::nodes_of;
-use crate::labels::{Labels, noted};
+use crate::labels::{Labels, note_labels};
 use crate::last_lines::labels_at;
 use crate::work::Work;
 use olr_map::{Footprint, MapRead, NodeId};
@@ -43,6 +43,6 @@ pub fn search<M: MapRead>(
     let labels = labels_at(alloc, map, &settled.found, &reached)?;
     let nodes = nodes_of(alloc, &reached)?;
     let labels = Labels::new(source, limit_dm, nodes, labels);
-    noted(&labels, footprint, work)?;
+    note_labels(&labels, footprint, work)?;
     Ok(labels)
 }

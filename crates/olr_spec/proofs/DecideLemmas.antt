@@ -10,7 +10,7 @@ use Rattle.std.specs.FinMap.{get}
 use Rattle.olr_spec.specs.Map.{Map, IsMap, Line, has_line, start, end, dm, place_at, lines_where, has}
 use Rattle.olr_spec.specs.Walks.{Walk, dm_of, Sole, Route}
 use Rattle.olr_spec.specs.Extension.{Path, is_path, first, last, passing, MayPrecede, MayFollow, StartChain, EndChain}
-use Rattle.olr_spec.specs.Extension.{LongestStart, LongestEnd, Tried, from_start, taken_start, extended, limit}
+use Rattle.olr_spec.specs.Extension.{LongestStart, LongestEnd, Tried, from_start, taken_start, extended_path, limit}
 use Rattle.olr_spec.specs.Points.{node_at, stretch, Covered, fit16, Candidate, ValidCandidate, Greatest, Next, To_end}
 use Rattle.olr_spec.specs.Points.{To_valid, To_passing, NoNext, Follow}
 use Rattle.olr_spec.specs.Encoding.{Answer, Refused, Refusal, path_fault, answer_by_points, Encoding, Encodes}
@@ -341,8 +341,8 @@ some_tried M m P n f l =
 
 -- ---- an answer
 
-encoding_of : (M : Map) (P : Path) (b a js : List ℕ) → Tried M P b a → Follow M (extended M P b a).lines 0 js →
-    Encoding M P (answer_by_points M (extended M P b a) js)
+encoding_of : (M : Map) (P : Path) (b a js : List ℕ) → Tried M P b a → Follow M (extended_path M P b a).lines 0 js →
+    Encoding M P (answer_by_points M (extended_path M P b a) js)
 encoding_of M P b a js t f = record { before = b; after = a; points = js; tried = t; follow = f; holds = refl }
 
 pub some_encoding : (M : Map) → IsMap M → (P : Path) → IsTrue (is_path P.lines) → path_fault M P ≡ None → (A : Answer)
@@ -352,7 +352,7 @@ some_encoding M m P is e =
     let known = sound_lines M P e in
     let Known : ℕ → Type 0 = λ x. IsTrue (has_line M x) in
     let t = some_tried M m P n (all_first Known P.lines n known) (all_last Known P.lines n known) in
-    let E = extended M P t.0 t.1 in
+    let E = extended_path M P t.0 t.1 in
     let js = some_follow M m E.lines (length E.lines) 0 (omega arith) in
     (answer_by_points M E js.0, encoding_of M P t.0 t.1 js.0 t.2 js.1)
 

@@ -9,10 +9,10 @@ use lib.IntN.{+ℤ_assoc}
 use Rattle.std.specs.List.{slice_index}
 use Rattle.olr_spec.specs.Coordinates.{abs24, from_abs24, nearest, relative, from_rel16}
 use Rattle.olr_spec.specs.Map.{Map, IsMap, has_line, place_at, has}
-use Rattle.olr_spec.specs.Extension.{Path, is_path, extended}
+use Rattle.olr_spec.specs.Extension.{Path, is_path, extended_path}
 use Rattle.olr_spec.specs.Points.{node_at, Follow}
 use Rattle.olr_spec.specs.Bearings.{Leg}
-use Rattle.olr_spec.specs.Reference.{Middle, Reference, legs, position, first_kept, last_kept, kept, last_two}
+use Rattle.olr_spec.specs.Reference.{Middle, Reference, legs, position, first_kept, last_kept, kept_points, last_two}
 use Rattle.olr_spec.specs.Reference.{middle_points, reference_by_kept, reference_by, reference}
 use Rattle.olr_spec.specs.Reference as fields
 use Rattle.olr_spec.specs.Encoding.{Points, Refused, Refusal, path_fault, Encoding, Encodes, IsPoint}
@@ -179,19 +179,20 @@ decodes gs p q ks t =
 
 answer_decodes : (M : Map) → (P : Path) → IsTrue (is_path P.lines) → path_fault M P ≡ None → (r : Reference) →
     (e : Encoding M P (Points r))
-    → Decodes (legs M (extended M P e.before e.after).lines)
-    (kept (legs M (extended M P e.before e.after).lines) (extended M P e.before e.after).pos
-    (extended M P e.before e.after).neg e.points) r
+    → Decodes (legs M (extended_path M P e.before e.after).lines)
+    (kept_points (legs M (extended_path M P e.before e.after).lines) (extended_path M P e.before e.after).pos
+    (extended_path M P e.before e.after).neg e.points) r
 answer_decodes M P is none r e =
-    let E = extended M P e.before e.after in
+    let E = extended_path M P e.before e.after in
     let gs = legs M E.lines in
     let s = extended_sound M P is none e.before e.after e.tried in
     let a = answered M E e.points r e.holds in
     let ends = kept_ends M E.lines e.points E.pos E.neg e.follow a.0 s.long in
     let two = two_kept M E.lines e.points E.pos E.neg e.follow a.0 s.long in
-    subst (Decodes gs (kept gs E.pos E.neg e.points)) (sym a.1)
-    (decodes gs _ _ (kept gs E.pos E.neg e.points)
-    (two_of (kept gs E.pos E.neg e.points) (first_kept gs E.pos e.points) (last_kept gs E.neg e.points) ends.0 ends.1
+    subst (Decodes gs (kept_points gs E.pos E.neg e.points)) (sym a.1)
+    (decodes gs _ _ (kept_points gs E.pos E.neg e.points)
+    (two_of (kept_points gs E.pos E.neg e.points) (first_kept gs E.pos e.points) (last_kept gs E.neg e.points) ends.0
+    ends.1
     two))
 
 got_index : (f : ℕ → ℕ) (ks : List ℕ) (k v : ℕ) → option_map f (slice_get ks k) ≡ Some v → (k < length ks)
@@ -212,30 +213,31 @@ module _ (M : Map) (m : IsMap M) (P : Path) (is : IsTrue (is_path P.lines)) (non
       let Known : ℕ → Type 0 = λ x. IsTrue (has_line M x) in
       let n = path_nonempty P.lines is in
       let known = sound_lines M P none in
-      let E = extended M P e.before e.after in
+      let E = extended_path M P e.before e.after in
       let chains =
       one_tried M m P n (all_first Known P.lines n known) (all_last Known P.lines n known) e.before e.after p.before
       p.after e.tried p.tried in
-      let same : E ≡ extended M P p.before p.after = λ i. extended M P (chains.0 i) (chains.1 i) in
+      let same : E ≡ extended_path M P p.before p.after = λ i. extended_path M P (chains.0 i) (chains.1 i) in
       let points : e.points ≡ p.points =
       one_follow M E.lines 0 e.points p.points e.follow
       (subst (λ (E : Path). Follow M E.lines 0 p.points) (sym same) p.follow) in
-      let there : option_map (node_at M E.lines) (slice_get (kept (legs M E.lines) E.pos E.neg e.points) k) ≡ Some v =
+      let there : option_map (node_at M E.lines) (slice_get (kept_points (legs M E.lines) E.pos E.neg e.points) k)
+      ≡ Some v =
       (λ i. option_map (node_at M (same i).lines)
-      (slice_get (kept (legs M (same i).lines) (same i).pos (same i).neg (points i)) k)) ∙ p.holds in
-      let at = got_index (node_at M E.lines) (kept (legs M E.lines) E.pos E.neg e.points) k v there in
+      (slice_get (kept_points (legs M (same i).lines) (same i).pos (same i).neg (points i)) k)) ∙ p.holds in
+      let at = got_index (node_at M E.lines) (kept_points (legs M E.lines) E.pos E.neg e.points) k v there in
       let near = (answer_decodes M P is none r e).near k at.0 in
       let s = extended_sound M P is none e.before e.after e.tried in
-      let place : position (legs M E.lines) (slice_index (kept (legs M E.lines) E.pos E.neg e.points) k)
+      let place : position (legs M E.lines) (slice_index (kept_points (legs M E.lines) E.pos E.neg e.points) k)
       ≡ place_at M v =
-      position_is M m E.lines s.known (slice_index (kept (legs M E.lines) E.pos E.neg e.points) k) s.size
+      position_is M m E.lines s.known (slice_index (kept_points (legs M E.lines) E.pos E.neg e.points) k) s.size
       ∙ ap (place_at M) at.1 in
       (near.0, near.1, subst (IsNear k near.0) place near.2)
 
   point_at : (k : ℕ) → is_some (decoded r k) ≡ true → (v : ℕ) × IsPoint M P k v
   point_at k h =
-      let E = extended M P e.before e.after in
-      let ks = kept (legs M E.lines) E.pos E.neg e.points in
+      let E = extended_path M P e.before e.after in
+      let ks = kept_points (legs M E.lines) E.pos E.neg e.points in
       let count = (answer_decodes M P is none r e).count in
       let low : k ≤ length r.middle + 1 =
       leb-true k (length r.middle + 1) (taken (nat_le k (length r.middle + 1)) _ h) in (

@@ -18,8 +18,8 @@ use Rattle.olr_spec.specs.Bearings.{Leg, Scaled, scaled_place, bearing, thousand
 use Rattle.olr_spec.specs.Bearings.{lies_between}
 use Rattle.olr_spec.specs.Reference.{Attrs, First, Middle, Last, Reference, leg, legs, no_leg, leg_at, position}
 use Rattle.olr_spec.specs.Reference.{dm_along, dm_between, from_front, to_back, last_where, first_where, first_kept}
-use Rattle.olr_spec.specs.Reference.{last_kept, kept, attrs, first_point, middle_point, last_two, middle_points, offset}
-use Rattle.olr_spec.specs.Reference.{reference_by_kept, reference_by, reference}
+use Rattle.olr_spec.specs.Reference.{last_kept, kept_points, attrs, first_point, middle_point, last_two, middle_points}
+use Rattle.olr_spec.specs.Reference.{offset, reference_by_kept, reference_by, reference}
 use Rattle.olr_spec.specs.Reference as fields
 use Rattle.olr_spec.specs.Bytes.{AreAttrs, IsMiddle, IsLast, fits24}
 use Rattle.olr_spec.proofs.ListLemmas.{Each, Each-nil, Each-cons, Each-head, Each-tail, Each-range, has_index, has_here}

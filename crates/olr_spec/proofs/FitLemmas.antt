@@ -8,10 +8,10 @@ use Rattle.std.proofs.lemmas.List.{length-map}
 use Rattle.std.specs.Option.{option_map}
 use Rattle.olr_spec.specs.Map.{Map, IsMap, has_line, has}
 use Rattle.olr_spec.specs.Walks.{dm_of}
-use Rattle.olr_spec.specs.Extension.{Path, Tried, is_path, extended, from_start, taken_start, taken_end}
+use Rattle.olr_spec.specs.Extension.{Path, Tried, is_path, extended_path, from_start, taken_start, taken_end}
 use Rattle.olr_spec.specs.Points.{Follow, last_position}
-use Rattle.olr_spec.specs.Reference.{Reference, leg, legs, dm_between, from_front, to_back, first_kept, last_kept, kept}
-use Rattle.olr_spec.specs.Reference.{last_two, reference_by, reference}
+use Rattle.olr_spec.specs.Reference.{Reference, leg, legs, dm_between, from_front, to_back, first_kept, last_kept}
+use Rattle.olr_spec.specs.Reference.{kept_points, last_two, reference_by, reference}
 use Rattle.olr_spec.specs.Encoding.{Points, Refused, Refusal, Unknown_line, Broken, Offset_too_long, No_next_point}
 use Rattle.olr_spec.specs.Encoding.{first_unknown, first_break, path_fault, answer_by_points, Encoding, Encodes}
 use Rattle.olr_spec.specs.Bytes.{IsReference}
@@ -78,8 +78,8 @@ module _ (M : Map) (m : IsMap M) (ls : List ℕ) (known : Each (λ x. IsTrue (ha
 -- the first and the last kept point are kept
 pub kept_ends : (M : Map) (ls js : List ℕ) (positive negative : ℕ) → Follow M ls 0 js → last_position 0 js ≡ length ls →
     positive + negative < dm_of M ls
-    → (has (kept (legs M ls) positive negative js) (first_kept (legs M ls) positive js) ≡ true)
-    × (has (kept (legs M ls) positive negative js) (last_kept (legs M ls) negative js) ≡ true)
+    → (has (kept_points (legs M ls) positive negative js) (first_kept (legs M ls) positive js) ≡ true)
+    × (has (kept_points (legs M ls) positive negative js) (last_kept (legs M ls) negative js) ≡ true)
 kept_ends M ls js positive negative f e less =
     let gs = legs M ls in
     let a = first_kept gs positive js in
@@ -119,7 +119,7 @@ reference_fits M m ls known n js positive negative f e less =
     let ends = kept_ends M ls js positive negative f e less in
     let front = front_within gs positive js in
     let back = back_within gs negative js (e ∙ sym (length-map ls (leg M))) in
-    by_kept M m ls known n positive negative a b two front back (kept gs positive negative js)
+    by_kept M m ls known n positive negative a b two front back (kept_points gs positive negative js)
     (kept_linked M ls a b (0 ∷ js) l) ends.0 ends.1
     (λ k h. let r = has_filter (between a b) (0 ∷ js) k h in leb-true a k (and_parts (nat_le a k) (nat_le k b) r.1).0)
     (λ k h. let r = has_filter (between a b) (0 ∷ js) k h in leb-true k b (and_parts (nat_le a k) (nat_le k b) r.1).1)
@@ -149,7 +149,7 @@ pub record Sound (M : Map) (E : Path) : Type 0 where
   pub long : E.pos + E.neg < dm_of M E.lines
 
 pub extended_sound : (M : Map) (P : Path) → IsTrue (is_path P.lines) → path_fault M P ≡ None → (before after : List ℕ) →
-    Tried M P before after → Sound M (extended M P before after)
+    Tried M P before after → Sound M (extended_path M P before after)
 extended_sound M P is none before after tried =
     let Known : ℕ → Type 0 = λ x. IsTrue (has_line M x) in
     let n = path_nonempty P.lines is in
@@ -182,7 +182,7 @@ answered M E js r h =
 answer_fits : (M : Map) → IsMap M → (P : Path) → IsTrue (is_path P.lines) → path_fault M P ≡ None → (r : Reference) →
     Encoding M P (Points r) → IsReference r
 answer_fits M m P is none r p =
-    let E = extended M P p.before p.after in
+    let E = extended_path M P p.before p.after in
     let s = extended_sound M P is none p.before p.after p.tried in
     let a = answered M E p.points r p.holds in
     subst IsReference (sym a.1) (reference_fits M m E.lines s.known s.size p.points E.pos E.neg p.follow a.0 s.long)

@@ -6,7 +6,7 @@ use Rattle.std.proofs.Math.Nat.{min-le_left}
 use Rattle.std.specs.List.{slice_index}
 use Rattle.olr_spec.specs.Map.{Map, IsMap, has_line, start, end, SameLine, SameRound, has}
 use Rattle.olr_spec.specs.Walks.{dm_of, Route}
-use Rattle.olr_spec.specs.Extension.{Path, Tried, extended, limit}
+use Rattle.olr_spec.specs.Extension.{Path, Tried, extended_path, limit}
 use Rattle.olr_spec.specs.Points.{stretch, Covered}
 use Rattle.olr_spec.specs.Footprint.{NodeOf, Reach, Searched, Touched, On_path, On_start_chain, On_end_chain}
 use Rattle.olr_spec.specs.Footprint.{Within_reach}
@@ -99,9 +99,9 @@ module _ (M N : Map) (m : IsMap M) (n : IsMap N) (ls : List ℕ) (same : Each (S
 
 module _ (M N : Map) (m : IsMap M) (n : IsMap N) (P : Path) (b a js : List ℕ) (nonempty : 0 < length P.lines)
     (known : Each (λ x. IsTrue (has_line M x)) P.lines) (same : Each (SameLine M N) P.lines)
-    (tried : Tried M P b a) (round : (v : ℕ) → Touched M (extended M P b a).lines b a js v → SameRound M N v) where
+    (tried : Tried M P b a) (round : (v : ℕ) → Touched M (extended_path M P b a).lines b a js v → SameRound M N v) where
   abbrev ls : List ℕ
-  ls = (extended M P b a).lines
+  ls = (extended_path M P b a).lines
 
   pub own_round : (v : ℕ) → Own M ls b a v → SameRound M N v
   own_round v (inl o) = round v (On_path o)
@@ -111,7 +111,7 @@ module _ (M N : Map) (m : IsMap M) (n : IsMap N) (P : Path) (b a js : List ℕ) 
   all_same : Each (SameLine M N) ls
   all_same = ls_same M N m n P b a nonempty known same tried own_round
 
-  path_same : extended M P b a ≡ extended N P b a
+  path_same : extended_path M P b a ≡ extended_path N P b a
   path_same = extended_same M N m n P b a nonempty known same tried own_round
 
   before_same : Each (SameLine M N) b
@@ -128,7 +128,7 @@ module _ (M N : Map) (m : IsMap M) (n : IsMap N) (P : Path) (b a js : List ℕ) 
       → Covered M ls i j ↔ Covered N ls i j
   covered_same = covers_same M N m n ls all_same (0 ∷ js) reached_round
 
-  pub touched_moves : (v : ℕ) → Touched M ls b a js v → Touched N (extended N P b a).lines b a js v
+  pub touched_moves : (v : ℕ) → Touched M ls b a js v → Touched N (extended_path N P b a).lines b a js v
   touched_moves v (On_path o) = On_path (subst (λ (E : Path). NodeOf N E.lines v) path_same
       (NodeOf-moves M N ls v all_same o))
   touched_moves v (On_start_chain o) = On_start_chain (NodeOf-moves M N b v before_same o)
@@ -143,5 +143,5 @@ module _ (M N : Map) (m : IsMap M) (n : IsMap N) (P : Path) (b a js : List ℕ) 
   touched_here v (On_end_chain o) = On_end_chain (NodeOf-moves N M a v (turned_lines M N a after_same) o)
   touched_here v (Within_reach s) = Within_reach (searched_back M N m n ls all_same (0 ∷ js) reached_round v s)
 
-  pub touched_back : (v : ℕ) → Touched N (extended N P b a).lines b a js v → Touched M ls b a js v
+  pub touched_back : (v : ℕ) → Touched N (extended_path N P b a).lines b a js v → Touched M ls b a js v
   touched_back v o = touched_here v (subst (λ (E : Path). Touched N E.lines b a js v) (sym path_same) o)

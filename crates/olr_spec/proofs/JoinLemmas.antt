@@ -10,7 +10,7 @@ use Rattle.std.specs.Bool.{⊤}
 use Rattle.olr_spec.specs.Map.{Map, start, end}
 use Rattle.olr_spec.specs.Walks.{Walk, Route}
 use Rattle.olr_spec.specs.Points.{stretch, Candidate, Follow, last_position}
-use Rattle.olr_spec.specs.Reference.{legs, kept, first_kept, last_kept}
+use Rattle.olr_spec.specs.Reference.{legs, kept_points, first_kept, last_kept}
 use Rattle.olr_spec.specs.Joins.{JoinsTo, JoinsLast, Joins}
 use Rattle.olr_spec.proofs.WalkLemmas.{Walk-split, prefix_of_sole}
 use Rattle.olr_spec.proofs.AnswerLemmas.{Next-candidate}
@@ -175,8 +175,8 @@ kept_linked M ls a b (p ∷ q ∷ ks) l =
         none_beyond M ls a b r ks (omega arith) l.1.1
 
 pub routes_join : (M : Map) (ls js : List ℕ) (positive negative : ℕ) → Follow M ls 0 js →
-    last_position 0 js ≡ length ls → Joins M ls (kept (legs M ls) positive negative js)
+    last_position 0 js ≡ length ls → Joins M ls (kept_points (legs M ls) positive negative js)
 routes_join M ls js positive negative f e =
-    linked_joins M ls (kept (legs M ls) positive negative js)
+    linked_joins M ls (kept_points (legs M ls) positive negative js)
     (kept_linked M ls (first_kept (legs M ls) positive js) (last_kept (legs M ls) negative js) (0 ∷ js)
     (follow_linked M ls 0 js f))

@@ -7,7 +7,7 @@ use Rattle.std.specs.Prelude.{IsTrue, Some, if◌then◌else◌}
 use Rattle.olr_spec.specs.Map.{Map, has_line, start, end}
 use Rattle.olr_spec.specs.Walks.{Walk}
 use Rattle.olr_spec.specs.Extension.{Path, is_path, Tried, first, last, passing, StartChain, EndChain, from_start}
-use Rattle.olr_spec.specs.Extension.{extended, AreJoined}
+use Rattle.olr_spec.specs.Extension.{extended_path, AreJoined}
 use Rattle.olr_spec.specs.Encoding.{Broken, first_break, path_fault}
 use Rattle.olr_spec.proofs.WalkLemmas.{Walk-append}
 use Rattle.olr_spec.proofs.ListLemmas.{Each, Each-head, Each-tail, Each-from}
@@ -108,15 +108,15 @@ end_taken M true ls c s j = subst (Course M) (sym (append-nil ls)) j
 end_taken M false ls c s j = end_joined M ls c s j
 
 pub chains_joined : (M : Map) (P : Path) (b a : List ℕ) → 0 < length P.lines → AreJoined M P.lines → Tried M P b a
-    → AreJoined M (extended M P b a).lines
+    → AreJoined M (extended_path M P b a).lines
 chains_joined M P b a some joined tried =
     let path : Course M P.lines = record { some = some; joined = joined } in
     let front : Course M (from_start M P b) =
     start_taken M (passing M (start M (first (b ++ P.lines)))) b P.lines tried.before.chain path in
-    let whole : Course M (extended M P b a).lines =
+    let whole : Course M (extended_path M P b a).lines =
     end_taken M (passing M (end M (last (from_start M P b ++ a)))) (from_start M P b) a tried.after.chain front in
     whole.joined
 
 pub extended_joined : (M : Map) (P : Path) → IsTrue (is_path P.lines) → path_fault M P ≡ None → (b a : List ℕ)
-    → Tried M P b a → AreJoined M (extended M P b a).lines
+    → Tried M P b a → AreJoined M (extended_path M P b a).lines
 extended_joined M P is e b a tried = chains_joined M P b a (path_nonempty P.lines is) (path_joined M P is e) tried

@@ -8,8 +8,8 @@ use Rattle.olr_spec.specs.Map.{Map, IsMap, has_line, start, end, place_at, SameL
 use Rattle.olr_spec.specs.Walks.{Walk, dm_of, Route}
 use Rattle.olr_spec.proofs.WalkLemmas.{empty_sole}
 use Rattle.olr_spec.proofs.JoinLemmas.{empty_stretch}
-use Rattle.olr_spec.specs.Extension.{Path, passing, first, last, Tried, taken_start, taken_end, from_start, extended}
-use Rattle.olr_spec.specs.Extension.{limit, LongestStart, LongestEnd}
+use Rattle.olr_spec.specs.Extension.{Path, passing, first, last, Tried, taken_start, taken_end, from_start}
+use Rattle.olr_spec.specs.Extension.{extended_path, limit, LongestStart, LongestEnd}
 use Rattle.olr_spec.specs.Points.{node_at, stretch, Covered, fit16, Candidate, ValidCandidate, Greatest, Next, To_end}
 use Rattle.olr_spec.specs.Points.{To_valid, To_passing, Follow, last_position}
 use Rattle.olr_spec.specs.Reference.{leg, legs, reference}
@@ -174,12 +174,12 @@ Own-moves M N ls b a v h i j (inr (inr o)) = inr (inr (NodeOf-moves M N a v j o)
 
 module _ (M N : Map) (m : IsMap M) (n : IsMap N) (P : Path) (b a : List ℕ) (nonempty : 0 < length P.lines)
     (known : Each (λ x. IsTrue (has_line M x)) P.lines) (same : Each (SameLine M N) P.lines)
-    (tried : Tried M P b a) (round : (v : ℕ) → Own M (extended M P b a).lines b a v → SameRound M N v) where
+    (tried : Tried M P b a) (round : (v : ℕ) → Own M (extended_path M P b a).lines b a v → SameRound M N v) where
   abbrev front : List ℕ
   front = taken_start M b P.lines
 
   abbrev ls : List ℕ
-  ls = (extended M P b a).lines
+  ls = (extended_path M P b a).lines
 
   ls_starts : Each (λ x. SameRound M N (start M x)) ls
   ls_starts x h = round (start M x) (inl (x, h, inl refl))
@@ -262,7 +262,7 @@ module _ (M N : Map) (m : IsMap M) (n : IsMap N) (P : Path) (b a : List ℕ) (no
   ls_same = Each-append (SameLine M N) (from_start M P b) (taken_end M (from_start M P b) a) fs_lines
       (Each-cond (SameLine M N) _ a a_same)
 
-  pub extended_same : extended M P b a ≡ extended N P b a
+  pub extended_same : extended_path M P b a ≡ extended_path N P b a
   extended_same =
       let d : dm_of M (taken_start M b P.lines) ≡ dm_of N (taken_start N b P.lines) =
       same_dm_of M N front (Each-cond (SameLine M N) _ b b_same) ∙ ap (dm_of N) front_same in
@@ -279,14 +279,15 @@ module _ (M N : Map) (m : IsMap M) (n : IsMap N) (P : Path) (b a : List ℕ) (no
   Covers js = (i j : ℕ) → has (0 ∷ js) i ≡ true → i < j → j ≤ length ls → dm_of M (stretch ls i j) ≤ limit
       → Covered M ls i j ↔ Covered N ls i j
 
-  pub follow_same : (js : List ℕ) → Covers js → Follow M ls 0 js → Follow N (extended N P b a).lines 0 js
+  pub follow_same : (js : List ℕ) → Covers js → Follow M ls 0 js → Follow N (extended_path N P b a).lines 0 js
   follow_same js covers f =
       subst (λ (E : Path). Follow N E.lines 0 js) extended_same
       (follow_moves M N ls ls_nonempty ls_same ls_starts ls_ends (0 ∷ js) covers 0 js (λ k h. h) f)
 
-  pub answer_same : (js : List ℕ) → answer_by_points M (extended M P b a) js ≡ answer_by_points N (extended N P b a) js
+  pub answer_same : (js : List ℕ) →
+      answer_by_points M (extended_path M P b a) js ≡ answer_by_points N (extended_path N P b a) js
   answer_same js =
-      let E = extended M P b a in
+      let E = extended_path M P b a in
       let gs : legs M ls ≡ legs N ls = legs_same M N ls ls_same ls_starts ls_ends in
       let here : answer_by_points M E js ≡ answer_by_points N E js =
       λ i. cond (last_position 0 js == length E.lines) (Points (reference (gs i) E.pos E.neg js))

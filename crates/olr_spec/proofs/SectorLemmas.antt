@@ -8,7 +8,8 @@ use Rattle.std.proofs.lemmas.List.Folds.{list_any-append}
 use Rattle.std.proofs.lemmas.Int.{ints, by_lt_z}
 use Rattle.std.specs.Int.RustNames.{int_le, int_lt}
 use Rattle.std.specs.List.{find, AllByRecursion}
-use Rattle.olr_spec.specs.Bearings.{Vector, vector, turned, boundary, beyond, lies_between, IsSector, sector, up_to}
+use Rattle.olr_spec.specs.Bearings.{Vector, vector, quarter_turn, boundary, beyond, lies_between, IsSector, sector}
+use Rattle.olr_spec.specs.Bearings.{up_to}
 use Rattle.olr_spec.specs.Map.{has}
 use Rattle.olr_spec.proofs.ListLemmas.{Each, Each-nil, Each-cons, Each-append, Each-head, Each-weaker, Each-tail}
 
@@ -69,7 +70,7 @@ InQuadrant zero e n = (pos 0 ≤ℤ e) × (pos 0 <ℤ n)
 InQuadrant (suc q) e n = InQuadrant q (neg_ℤ n) e
 
 abbrev Turned : ℕ → Type 0
-Turned k = boundary (k + 8) ≡ turned (boundary k)
+Turned k = boundary (k + 8) ≡ quarter_turn (boundary k)
 
 every_turned : AllByRecursion Turned (up_to 25)
 every_turned = (

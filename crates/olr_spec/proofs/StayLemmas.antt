@@ -6,7 +6,7 @@ use Rattle.std.proofs.lemmas.List.Elements.{All-contains}
 use Rattle.std.specs.List.{AllZip}
 use Rattle.olr_spec.specs.Map.{Map, IsMap, has_line, start, end, SameLine, SameRound, has}
 use Rattle.olr_spec.specs.Walks.{Walk, dm_of}
-use Rattle.olr_spec.specs.Extension.{Path, is_path, first, last, Tried, extended, limit}
+use Rattle.olr_spec.specs.Extension.{Path, is_path, first, last, Tried, extended_path, limit}
 use Rattle.olr_spec.specs.Points.{stretch, Covered, Follow, OfPath}
 use Rattle.olr_spec.specs.Encoding.{Answer, Refused, Refusal, path_fault, answer_by_points, Encoding, Encodes}
 use Rattle.olr_spec.specs.Detours.{ChangedLine, Tells, Difference}
@@ -28,7 +28,7 @@ module _ (M N : Map) (m : IsMap M) (n : IsMap N) (C : List ChangedLine) (there :
     (same : Each (SameLine M N) P.lines) (own : (v : ℕ) → OwnOfExtended M P v
     → SameRound M N v) (looks : List Look) (o : LooksOfExtended M P looks) (clear : All (IsClear N C) looks) where
   abbrev E : Path
-  E = extended M P o.before o.after
+  E = extended_path M P o.before o.after
 
   known : Each (λ x. IsTrue (has_line M x)) P.lines
   known = Each-from (λ x. IsTrue (has_line M x)) P.lines (sound_lines M P sound)
@@ -36,7 +36,7 @@ module _ (M N : Map) (m : IsMap M) (n : IsMap N) (C : List ChangedLine) (there :
   nonempty : 0 < length P.lines
   nonempty = path_nonempty P.lines is
 
-  rounds : (b a : List ℕ) → Tried M P b a → (v : ℕ) → Own M (extended M P b a).lines b a v → SameRound M N v
+  rounds : (b a : List ℕ) → Tried M P b a → (v : ℕ) → Own M (extended_path M P b a).lines b a v → SameRound M N v
   rounds b a tried v h = own v (record { before = b; after = a; tried = tried; own = h })
 
   all_same : Each (SameLine M N) E.lines
@@ -62,16 +62,16 @@ module _ (M N : Map) (m : IsMap M) (n : IsMap N) (C : List ChangedLine) (there :
   tried_there : Tried N P o.before o.after
   tried_there = tried_moves M N m n P o.before o.after nonempty known same o.tried (rounds o.before o.after o.tried)
 
-  path_there : E ≡ extended N P o.before o.after
+  path_there : E ≡ extended_path N P o.before o.after
   path_there = extended_same M N m n P o.before o.after nonempty known same o.tried (rounds o.before o.after o.tried)
 
-  follow_there : Follow N (extended N P o.before o.after).lines 0 o.points
+  follow_there : Follow N (extended_path N P o.before o.after).lines 0 o.points
   follow_there = follow_same M N m n P o.before o.after nonempty known same o.tried
       (rounds o.before o.after o.tried) o.points covers o.follow
 
   -- the same chains and points, with what is said of them there
   goes_over : {R : Path → List ℕ → List ℕ → List ℕ → Type 0} →
-      R (extended N P o.before o.after) o.before o.after o.points → OfPath N P R
+      R (extended_path N P o.before o.after) o.before o.after o.points → OfPath N P R
   goes_over h =
       record {
         before = o.before;
@@ -104,7 +104,7 @@ module _ (M N : Map) (m : IsMap M) (n : IsMap N) (C : List ChangedLine) (there :
       let r = rounds p.before p.after p.tried in
       let lines = ls_same M N m n P p.before p.after nonempty known same p.tried r in
       let path = extended_same M N m n P p.before p.after nonempty known same p.tried r in
-      let moved = Own-moves M N (extended M P p.before p.after).lines p.before p.after v lines
+      let moved = Own-moves M N (extended_path M P p.before p.after).lines p.before p.after v lines
       (b_same M N m n P p.before p.after nonempty known same p.tried r)
       (a_same M N m n P p.before p.after nonempty known same p.tried r) p.own in
       record {
@@ -121,8 +121,8 @@ module _ (M N : Map) (m : IsMap M) (n : IsMap N) (C : List ChangedLine) (there :
       let k = Each-from (λ x. IsTrue (has_line N x)) P.lines (sound_lines N P e) in
       let chains = one_tried N n P nonempty (k (first P.lines) (has_first P.lines nonempty))
       (k (last P.lines) (has_last P.lines nonempty)) p.before p.after o.before o.after p.tried tried_there in
-      let there : Own N (extended N P o.before o.after).lines o.before o.after v =
-      coe 0 1 (i. Own N (extended N P (chains.0 i) (chains.1 i)).lines (chains.0 i) (chains.1 i) v) p.own in
+      let there : Own N (extended_path N P o.before o.after).lines o.before o.after v =
+      coe 0 1 (i. Own N (extended_path N P (chains.0 i) (chains.1 i)).lines (chains.0 i) (chains.1 i) v) p.own in
       let on : Own N E.lines o.before o.after v =
       subst (λ (F : Path). Own N F.lines o.before o.after v) (sym path_there) there in
       let back = Own-moves N M E.lines o.before o.after v (turned_lines M N E.lines all_same)

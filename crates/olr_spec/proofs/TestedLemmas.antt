@@ -6,7 +6,7 @@ use Rattle.std.proofs.lemmas.Bool.{cases_lt, cases_eq, cases_order}
 use Rattle.std.specs.List.{slice_index, AllZip}
 use Rattle.olr_spec.specs.Map.{Map, IsMap, end, SameRound, has}
 use Rattle.olr_spec.specs.Walks.{dm_of}
-use Rattle.olr_spec.specs.Extension.{Path, is_path, extended, limit}
+use Rattle.olr_spec.specs.Extension.{Path, is_path, extended_path, limit}
 use Rattle.olr_spec.specs.Points.{stretch, Covered, Greatest}
 use Rattle.olr_spec.specs.Encoding.{Refusal, path_fault}
 use Rattle.olr_spec.specs.Footprint.{Reach, Searched, Touched, On_path, On_start_chain, On_end_chain, Within_reach}
@@ -126,18 +126,18 @@ module _ (M : Map) (m : IsMap M) (P : Path) (is : IsTrue (is_path P.lines)) (sou
   one_list ks ls p q =
       let same = one_course M m P is sound q.before q.after q.points p.before p.after p.points q.tried q.follow p.tried
       p.follow in
-      let each : AllZip (IsLook M (extended M P p.before p.after).lines)
-      (looking (extended M P p.before p.after).lines (0 ∷ p.points)) ls =
-      coe 0 1 (i. AllZip (IsLook M (extended M P (same.0 i) (same.1 i)).lines)
-      (looking (extended M P (same.0 i) (same.1 i)).lines (0 ∷ same.2 i)) ls) q.holds in
-      one_zip M (extended M P p.before p.after).lines
-      (looking (extended M P p.before p.after).lines (0 ∷ p.points)) ks ls p.holds each
+      let each : AllZip (IsLook M (extended_path M P p.before p.after).lines)
+      (looking (extended_path M P p.before p.after).lines (0 ∷ p.points)) ls =
+      coe 0 1 (i. AllZip (IsLook M (extended_path M P (same.0 i) (same.1 i)).lines)
+      (looking (extended_path M P (same.0 i) (same.1 i)).lines (0 ∷ same.2 i)) ls) q.holds in
+      one_zip M (extended_path M P p.before p.after).lines
+      (looking (extended_path M P p.before p.after).lines (0 ∷ p.points)) ks ls p.holds each
 
   some_list : (looks : List Look) × LooksOfExtended M P looks
   some_list =
       let a = some_encoding M m P is sound in
       let p = a.1 in
-      let ls = (extended M P p.before p.after).lines in
+      let ls = (extended_path M P p.before p.after).lines in
       let z = some_zip M m ls (looking ls (0 ∷ p.points)) (λ i on. (looks_here ls (0 ∷ p.points) i on).1) in (
         z.0,
         path_also p z.1,
@@ -148,10 +148,10 @@ module _ (M : Map) (m : IsMap M) (P : Path) (is : IsTrue (is_path P.lines)) (sou
       → OwnOfExtended M P v ⊎ ((l : Look) × Contains looks l × Reach M l.from v)
   foot_there looks o v f = by f.holds
     where
-      own : Own M (extended M P f.before f.after).lines f.before f.after v → OwnOfExtended M P v
+      own : Own M (extended_path M P f.before f.after).lines f.before f.after v → OwnOfExtended M P v
       own h = record { before = f.before; after = f.after; tried = f.tried; own = h }
 
-      by : Touched M (extended M P f.before f.after).lines f.before f.after f.points v
+      by : Touched M (extended_path M P f.before f.after).lines f.before f.after f.points v
           → OwnOfExtended M P v ⊎ ((l : Look) × Contains looks l × Reach M l.from v)
       by (On_path n) = inl (own (inl n))
       by (On_start_chain n) = inl (own (inr (inl n)))
@@ -159,9 +159,9 @@ module _ (M : Map) (m : IsMap M) (P : Path) (is : IsTrue (is_path P.lines)) (sou
       by (Within_reach s) =
           let same = one_course M m P is sound f.before f.after f.points o.before o.after o.points f.tried f.follow
           o.tried o.follow in
-          let ls = (extended M P o.before o.after).lines in
+          let ls = (extended_path M P o.before o.after).lines in
           let t : Searched M ls (0 ∷ o.points) v =
-          coe 0 1 (i. Searched M (extended M P (same.0 i) (same.1 i)).lines (0 ∷ same.2 i) v) s in
+          coe 0 1 (i. Searched M (extended_path M P (same.0 i) (same.1 i)).lines (0 ∷ same.2 i) v) s in
           let l = look_for M ls (0 ∷ o.points) looks o.holds t.0 t.1 t.2 in
           let from : end M (slice_index ls t.0) ≡ l.0.from = sym (ap (λ (k : Look). k.from) l.2.2) in
           inr (l.0, l.1, subst (λ (u : ℕ). Reach M u v) from t.3)
@@ -169,17 +169,17 @@ module _ (M : Map) (m : IsMap M) (P : Path) (is : IsTrue (is_path P.lines)) (sou
   foot_here : (looks : List Look) → LooksOfExtended M P looks → (v : ℕ)
       → OwnOfExtended M P v ⊎ ((l : Look) × Contains looks l × Reach M l.from v) → FootOf M P v
   foot_here looks o v (inl p) =
-      let js = some_follow M m (extended M P p.before p.after).lines (length (extended M P p.before p.after).lines) 0
-      (omega arith) in
+      let ls = (extended_path M P p.before p.after).lines in
+      let js = some_follow M m ls (length ls) 0 (omega arith) in
       record { before = p.before; after = p.after; points = js.0; tried = p.tried; follow = js.1; holds = by p.own }
     where
-      by : {js : List ℕ} → Own M (extended M P p.before p.after).lines p.before p.after v
-          → Touched M (extended M P p.before p.after).lines p.before p.after js v
+      by : {js : List ℕ} → Own M (extended_path M P p.before p.after).lines p.before p.after v
+          → Touched M (extended_path M P p.before p.after).lines p.before p.after js v
       by (inl n) = On_path n
       by (inr (inl n)) = On_start_chain n
       by (inr (inr n)) = On_end_chain n
   foot_here looks o v (inr r) =
-      let ls = (extended M P o.before o.after).lines in
+      let ls = (extended_path M P o.before o.after).lines in
       let i = look_from M ls (0 ∷ o.points) looks o.holds r.0 r.1 in
       let from : r.0.from ≡ end M (slice_index ls i.0) = ap (λ (k : Look). k.from) i.3.2 in
       path_also o (Within_reach (i.0, i.1, i.2, subst (λ (u : ℕ). Reach M u v) from r.2))

@@ -36,12 +36,12 @@ first_quarter =
     ∷ vector (pos 1000000) (pos 198912) ∷ []
 
 -- a quarter to the right
-abbrev pub turned : Vector → Vector
-turned v = vector v.north (neg_ℤ v.east)
+abbrev pub quarter_turn : Vector → Vector
+quarter_turn v = vector v.north (neg_ℤ v.east)
 
 abbrev pub quarters : ℕ → List Vector → List Vector
 quarters zero vs = []
-quarters (suc n) vs = vs ++ quarters n (map turned vs)
+quarters (suc n) vs = vs ++ quarters n (map quarter_turn vs)
 
 -- boundaries 0 to 31, and 0 again
 abbrev pub boundaries : List Vector

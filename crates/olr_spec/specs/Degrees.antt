@@ -33,15 +33,16 @@ abbrev pub before_point : List ℕ → List ℕ
 before_point text = take_while (λ c. not (c == 46)) text
 
 -- without a sign, in units
-abbrev pub unsigned : List ℕ → Option ℕ
-unsigned text =
+abbrev pub unsigned_degrees : List ℕ → Option ℕ
+unsigned_degrees text =
     option_and_then (λ n. option_map (λ m. (n + m) * unit7) (fraction (drop (length (before_point text)) text)))
     (whole (before_point text))
 
 abbrev pub degrees : List ℕ → Option ℤ
 degrees [] = None
 degrees (c ∷ text) =
-    if c == 45 then option_map (λ n. neg_ℤ (pos n)) (unsigned text) else option_map pos (unsigned (c ∷ text))
+    if c == 45 then option_map (λ n. neg_ℤ (pos n)) (unsigned_degrees text)
+    else option_map pos (unsigned_degrees (c ∷ text))
 
 pub data CoordFault : Type 0 where
   Text Range : CoordFault

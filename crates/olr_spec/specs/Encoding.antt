@@ -10,7 +10,7 @@ use Rattle.olr_spec.specs.Map.{Map, has_line, start, end}
 use Rattle.olr_spec.specs.Walks.{dm_of}
 use Rattle.olr_spec.specs.Extension.{Path}
 use Rattle.olr_spec.specs.Points.{node_at, last_position, OfPath}
-use Rattle.olr_spec.specs.Reference.{Reference, legs, kept, reference}
+use Rattle.olr_spec.specs.Reference.{Reference, legs, kept_points, reference}
 
 -- a line that isn't on the map; the place of a line that the next doesn't join; offsets as long as the path; a position
 -- that no point may follow. In this order (profile)
@@ -59,5 +59,5 @@ Encodes M P A = MatchOption (path_fault M P) (Encoding M P A) (λ r. A ≡ Refus
 -- node v is point k of the path's reference, counted from 0
 abbrev pub IsPoint : Map → Path → ℕ → ℕ → Type 0
 IsPoint M P k v =
-    OfPath M P (λ E _ _ js. option_map (node_at M E.lines) (slice_get (kept (legs M E.lines) E.pos E.neg js) k)
+    OfPath M P (λ E _ _ js. option_map (node_at M E.lines) (slice_get (kept_points (legs M E.lines) E.pos E.neg js) k)
     ≡ Some v)

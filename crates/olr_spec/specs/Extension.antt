@@ -4,7 +4,7 @@
 --     StartChain M c ls, EndChain M ls c      the lines c lead to the lines ls, or from them, through passing nodes
 --     LongestStart M c ls, LongestEnd M ls c      c is the longest such chain within the limit
 --     Tried M P b a      b and a are the longest chains at the start of the path and at its end
---     extended M P b a      the path with those of them that lead to valid nodes, and the raised offsets
+--     extended_path M P b a      the path with those of them that lead to valid nodes, and the raised offsets
 --     AreJoined M ls      the lines are in the map, and each ends where the next begins
 use Rattle.std.specs.Prelude.{◌≡◌, ◌≢◌, ℕ, ◌+◌, ◌≤◌, Bool, true, false, not, ◌&&◌, ◌||◌, List, [], ◌∷◌, ◌++◌, map}
 use Rattle.std.specs.Prelude.{length, nat_le, ◌==◌, if◌then◌else◌, ⊤, IsTrue, IsFalse}
@@ -120,8 +120,8 @@ pub record Tried (M : Map) (P : Path) (b a : List ℕ) : Type 0 where
   pub after : LongestEnd M (from_start M P b) a
 
 -- each offset grows by what is taken at its end
-abbrev pub extended : Map → Path → List ℕ → List ℕ → Path
-extended M P b a =
+abbrev pub extended_path : Map → Path → List ℕ → List ℕ → Path
+extended_path M P b a =
     record {
       lines = from_start M P b ++ taken_end M (from_start M P b) a;
       pos = P.pos + dm_of M (taken_start M b P.lines);

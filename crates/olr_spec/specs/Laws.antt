@@ -19,7 +19,7 @@ use Rattle.olr_spec.specs.Labels.{Settled}
 use Rattle.olr_spec.specs.Extension.{Path, is_path, first, last, LongestStart, LongestEnd, limit}
 use Rattle.olr_spec.specs.Points.{stretch, Covered, Next, Follow, last_position}
 use Rattle.olr_spec.specs.Bearings.{IsSector, sector}
-use Rattle.olr_spec.specs.Reference.{Reference, legs, first_kept, last_kept, kept}
+use Rattle.olr_spec.specs.Reference.{Reference, legs, first_kept, last_kept, kept_points}
 use Rattle.olr_spec.specs.Encoding.{Answer, Points, Encodes, IsPoint}
 use Rattle.olr_spec.specs.Bytes.{IsReference, Spells, v3_fault}
 use Rattle.olr_spec.specs.Decoded.{decoded, IsNear}
@@ -155,7 +155,7 @@ TwoKept =
 abbrev pub RoutesJoin : Type 0
 RoutesJoin =
     (M : Map) (ls js : List ℕ) (positive negative : ℕ) → Follow M ls 0 js → last_position 0 js ≡ length ls
-    → Joins M ls (kept (legs M ls) positive negative js)
+    → Joins M ls (kept_points (legs M ls) positive negative js)
 
 -- each point of an answer is decoded near its place on the map
 abbrev pub DecodedNear : Type 0

@@ -14,7 +14,7 @@ use Rattle.std.specs.Prelude.{MatchOption, ◌⊎◌}
 use Rattle.std.specs.List.{AllZip}
 use Rattle.olr_spec.specs.Map.{Map, start, end}
 use Rattle.olr_spec.specs.Walks.{dm_of}
-use Rattle.olr_spec.specs.Extension.{Path, Tried, extended, limit}
+use Rattle.olr_spec.specs.Extension.{Path, Tried, extended_path, limit}
 use Rattle.olr_spec.specs.Points.{stretch, Covered, OfPath}
 use Rattle.olr_spec.specs.Encoding.{path_fault}
 use Rattle.olr_spec.specs.Footprint.{NodeOf}
@@ -29,7 +29,7 @@ pub record OwnOfExtended (M : Map) (P : Path) (v : ℕ) : Type 0 where
   pub before : List ℕ
   pub after : List ℕ
   pub tried : Tried M P before after
-  pub own : Own M (extended M P before after).lines before after v
+  pub own : Own M (extended_path M P before after).lines before after v
 
 -- none where the path's own lines are refused
 abbrev pub OwnOf : Map → Path → ℕ → Type 0

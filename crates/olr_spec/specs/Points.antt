@@ -10,7 +10,7 @@ use Rattle.std.specs.Prelude.{slice_range, if◌then◌else◌, IsTrue, IsFalse}
 use Rattle.olr_spec.specs.Coordinates.{Coord, relative, fits16}
 use Rattle.olr_spec.specs.Map.{Map, start, end, place_at}
 use Rattle.olr_spec.specs.Walks.{dm_of, Route}
-use Rattle.olr_spec.specs.Extension.{Path, Tried, extended, passing, last, limit}
+use Rattle.olr_spec.specs.Extension.{Path, Tried, extended_path, passing, last, limit}
 
 -- the node at position i
 abbrev pub node_at : Map → List ℕ → ℕ → ℕ
@@ -77,5 +77,5 @@ pub record OfPath (M : Map) (P : Path) (Q : Path → List ℕ → List ℕ → L
   pub after : List ℕ
   pub points : List ℕ
   pub tried : Tried M P before after
-  pub follow : Follow M (extended M P before after).lines 0 points
-  pub holds : Q (extended M P before after) before after points
+  pub follow : Follow M (extended_path M P before after).lines 0 points
+  pub holds : Q (extended_path M P before after) before after points

@@ -3,7 +3,7 @@
 --     Reference      the fields of a line location reference
 --     legs M ls      the path's lines with the places of their ends.
 --     position gs i      the place of position i
---     kept gs positive negative js      of the points 0 and js, those that are left when the offsets have cut whole
+--     kept_points gs positive negative js      of the points 0 and js, those left when the offsets have cut whole
 --         stretches off
 --     reference gs positive negative js      the reference of the kept points
 use Rattle.std.specs.Prelude.{ℕ, ◌+◌, ◌-◌, ◌*◌, ◌/◌, max, ℤ, Bool, ◌&&◌, List, [], ◌∷◌, length, filter, take, drop, map}
@@ -105,8 +105,8 @@ abbrev pub last_kept : List Leg → ℕ → List ℕ → ℕ
 last_kept gs negative js = first_where (λ i. nat_le (to_back gs i) negative) 0 (0 ∷ js)
 
 -- from the one to the other (White Paper, encoding steps, trimming; in this form: profile)
-abbrev pub kept : List Leg → ℕ → ℕ → List ℕ → List ℕ
-kept gs positive negative js =
+abbrev pub kept_points : List Leg → ℕ → ℕ → List ℕ → List ℕ
+kept_points gs positive negative js =
     filter (λ i. nat_le (first_kept gs positive js) i && nat_le i (last_kept gs negative js)) (0 ∷ js)
 
 -- ---- fields
@@ -187,4 +187,4 @@ reference_by gs pos_left neg_left (h ∷ i ∷ js) = reference_by_kept gs pos_le
 abbrev pub reference : List Leg → ℕ → ℕ → List ℕ → Reference
 reference gs positive negative js =
     reference_by gs (positive - from_front gs (first_kept gs positive js))
-    (negative - to_back gs (last_kept gs negative js)) (kept gs positive negative js)
+    (negative - to_back gs (last_kept gs negative js)) (kept_points gs positive negative js)

@@ -2,7 +2,7 @@
 --     legs1, reference1, bytes1      the first worked path, of three lines; its reference with three points, and the
 --         bytes of it
 --     .._bytes      the bytes of the same path with other points or offsets
---     straight, slanted lat      lines of the rows on bearings
+--     straight_leg, slanted_leg lat      lines of the rows on bearings
 use Rattle.std.specs.Prelude.{ℕ, List, [], ◌∷◌, pos, neg_ℤ, Some, None}
 use Rattle.olr_spec.specs.Coordinates.{Coord, coord}
 use Rattle.olr_spec.specs.Bearings.{Leg}
@@ -131,8 +131,8 @@ reserved_bytes =
 -- ---- lines for bearings
 
 -- from (0, 0) to (0.001, 0) degrees
-abbrev pub straight : Leg
-straight =
+abbrev pub straight_leg : Leg
+straight_leg =
     record {
       line = record { from = 1; to = 2; frc = 4; fow = 3; len = 1000; shape = [] };
       begin = place 0 0;
@@ -141,8 +141,8 @@ straight =
     }
 
 -- from (0, 60) to (0.001, lat), lat in units
-abbrev pub slanted : ℕ → Leg
-slanted lat =
+abbrev pub slanted_leg : ℕ → Leg
+slanted_leg lat =
     record {
       line = record { from = 1; to = 2; frc = 4; fow = 3; len = 700; shape = [] };
       begin =

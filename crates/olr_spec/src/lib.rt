@@ -19,7 +19,7 @@ ghost use Rattle.olr_spec.specs.Degrees.{read_degrees};
 ghost use Rattle.olr_spec.specs.Map.{empty_map, no_place, Add_node, Add_line};
 ghost use Rattle.olr_spec.specs.Extension.{passes_between};
 ghost use Rattle.olr_spec.specs.Bearings.{sector, up_to, thousandths, scaled_place, bearing_out, bearing_back};
-ghost use Rattle.olr_spec.specs.Reference.{kept, reference};
+ghost use Rattle.olr_spec.specs.Reference.{kept_points, reference};
 ghost use Rattle.olr_spec.specs.Bytes.{spelling, v3_fault, Length, Status, Flags, Reserved};
 ghost use Rattle.olr_spec.specs.Decoded.{decoded};
 ghost use Rattle.olr_spec.specs.Detours.{changes_of};
@@ -27,7 +27,7 @@ ghost use Rattle.olr_spec.specs.Looks.{looking};
 ghost use Rattle.olr_spec.specs.Laws;
 ghost use Rattle.olr_spec.specs.Rows.{legs1, leg10, reference1, bytes1, side_road_dropped_bytes, first_dropped_bytes};
 ghost use Rattle.olr_spec.specs.Rows.{last_dropped_bytes, both_offsets_bytes, offset_bytes_of, version2_bytes};
-ghost use Rattle.olr_spec.specs.Rows.{reserved_bytes, straight, slanted};
+ghost use Rattle.olr_spec.specs.Rows.{reserved_bytes, straight_leg, slanted_leg};
 
 /// The lines that enter and leave a node rise by number and are exactly these; an accepted edit
 /// keeps a map sound, and one edit takes it back.
@@ -197,14 +197,14 @@ pub fn rows_sector()
 
 /// Places on a line, and bearings. A place on a shape point ends its interval.
 pub fn rows_bearing()
-    ensures place { scaled_place straight 200 ≡ record { lon = pos 65536000000; lat = pos 0; width = 1000 } }
+    ensures place { scaled_place straight_leg 200 ≡ record { lon = pos 65536000000; lat = pos 0; width = 1000 } }
     ensures at_shape { (scaled_place leg10 200).width ≡ 200 }
     ensures past_shape { (scaled_place leg10 201).width ≡ 5210 }
-    ensures out { bearing_out straight ≡ 8 }
-    ensures back { bearing_back straight ≡ 24 }
-    ensures slanted_out { bearing_out (slanted 19660963840000) ≡ 4 }
-    ensures slanted_back { bearing_back (slanted 19660963840000) ≡ 20 }
-    ensures steeper_out { bearing_out (slanted 19660967116800) ≡ 3 }
+    ensures out { bearing_out straight_leg ≡ 8 }
+    ensures back { bearing_back straight_leg ≡ 24 }
+    ensures slanted_out { bearing_out (slanted_leg 19660963840000) ≡ 4 }
+    ensures slanted_back { bearing_back (slanted_leg 19660963840000) ≡ 20 }
+    ensures steeper_out { bearing_out (slanted_leg 19660967116800) ≡ 3 }
     ensures south { thousandths (neg_ℤ (pos 327679999)) ≡ pos 0 }
 {}
 
@@ -223,11 +223,11 @@ pub fn rows_changes()
 
 /// The points that the offsets leave, in dm from the start and from the end.
 pub fn rows_kept()
-    ensures all { kept legs1 1500 740 (1 ∷ 3 ∷ []) ≡ 0 ∷ 1 ∷ 3 ∷ [] }
-    ensures first_dropped { kept legs1 5610 0 (1 ∷ 3 ∷ []) ≡ 1 ∷ 3 ∷ [] }
-    ensures first_kept { kept legs1 5609 0 (1 ∷ 3 ∷ []) ≡ 0 ∷ 1 ∷ 3 ∷ [] }
-    ensures last_dropped { kept legs1 0 2740 (1 ∷ 3 ∷ []) ≡ 0 ∷ 1 ∷ [] }
-    ensures last_kept { kept legs1 0 2739 (1 ∷ 3 ∷ []) ≡ 0 ∷ 1 ∷ 3 ∷ [] }
+    ensures all { kept_points legs1 1500 740 (1 ∷ 3 ∷ []) ≡ 0 ∷ 1 ∷ 3 ∷ [] }
+    ensures first_dropped { kept_points legs1 5610 0 (1 ∷ 3 ∷ []) ≡ 1 ∷ 3 ∷ [] }
+    ensures first_kept { kept_points legs1 5609 0 (1 ∷ 3 ∷ []) ≡ 0 ∷ 1 ∷ 3 ∷ [] }
+    ensures last_dropped { kept_points legs1 0 2740 (1 ∷ 3 ∷ []) ≡ 0 ∷ 1 ∷ [] }
+    ensures last_kept { kept_points legs1 0 2739 (1 ∷ 3 ∷ []) ≡ 0 ∷ 1 ∷ 3 ∷ [] }
 {}
 
 /// The fields and bytes of the first worked path, by its points and offsets.

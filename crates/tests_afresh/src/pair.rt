@@ -78,7 +78,7 @@ impl Pair {
     pub fn step<R: Abort + AllocGlobal>(&mut self, rt: &R, record: &str) -> Result<(), Fail> {
         let alloc = rt.alloc();
         let before = self.register.work().encodings;
-        let rise = self.expected(alloc, record)?;
+        let rise = self.expected_rise(alloc, record)?;
         let command = command(alloc, record)?;
         let accepted = self.register.apply(command).is_ok();
         assert!(rt; accepted == rise.is_some(), "whether {record} is accepted");
@@ -89,7 +89,7 @@ impl Pair {
     }
 
     /// Changes the twin. By how much the command raises the count, where it is accepted.
-    fn expected(&mut self, alloc: Global, record: &str) -> Result<Option<u64>, Fail> {
+    fn expected_rise(&mut self, alloc: Global, record: &str) -> Result<Option<u64>, Fail> {
         match command(alloc, record)? {
             Command::Begin if self.is_open => Ok(None),
             Command::Begin => {
@@ -130,7 +130,7 @@ impl Pair {
         if !self.twin.change(alloc, change)? {
             return Ok(None);
         }
-        let rise = self.twin.concerned(alloc, &self.spare.roads)?;
+        let rise = self.twin.concerned_count(alloc, &self.spare.roads)?;
         push_line(&mut self.history, record)?;
         replay(alloc, &mut self.spare, record)?;
         Ok(Some(rise))
@@ -140,7 +140,7 @@ impl Pair {
         if !self.is_open || count != self.count {
             return Ok(None);
         }
-        let rise = self.spare.concerned(alloc, &self.twin.roads)?;
+        let rise = self.spare.concerned_count(alloc, &self.twin.roads)?;
         replay(alloc, &mut self.twin, &self.pending)?;
         self.history.push_str(&self.pending)?;
         self.is_open = false;
@@ -170,7 +170,7 @@ impl Pair {
         };
         let name = named.name.as_str();
         assert!(rt; self.register.name_at(k) == Some(name), "after {record}");
-        let fresh = named.encoded(rt.alloc(), &self.twin.roads)?;
+        let fresh = named.encoding(rt.alloc(), &self.twin.roads)?;
         self.assert_answer(rt, name, &fresh.answer, record)?;
         self.assert_looks(rt, name, &fresh, record);
         self.assert_footprint(rt, named, record)
@@ -202,7 +202,7 @@ impl Pair {
 
     /// That it keeps these own nodes and looks of the path of that name.
     fn assert_looks(&self, rt: &impl Abort, name: &str, fresh: &Encoding, record: &str) {
-        let Some(kept) = self.register.published(name) else {
+        let Some(kept) = self.register.published_of(name) else {
             panic!(rt; "no path {name} after {record}");
         };
         let own = kept.own().as_slice() == fresh.own.as_slice();
@@ -234,7 +234,7 @@ impl Pair {
 
     /// How often a path was encoded, and how many of these kept their answer.
     pub fn encodings(&self) -> (u64, u64) {
-        (self.register.work().encodings, self.register.kept())
+        (self.register.work().encodings, self.register.spared_count())
     }
 
     /// A ring of twelve nodes, some of its lines both ways, and some short cuts.

@@ -96,13 +96,13 @@ fn one_talk<R: Abort + AllocGlobal>(rt: &R, pair: &mut Pair, talk: &str) -> Resu
 }
 
 /// A register and its twin go here, and not in each function that has them, where that would be proved anew.
-fn gone(_pair: Pair) {}
+fn let_go(_pair: Pair) {}
 
 /// The same of a fresh register and its twin.
 fn fresh_talk<R: Abort + AllocGlobal>(rt: &R, talk: &str) -> Result<(), Fail> {
     let mut pair = Pair::new(rt.alloc());
     let done = one_talk(rt, &mut pair, talk);
-    gone(pair);
+    let_go(pair);
     done
 }
 
@@ -124,7 +124,7 @@ fn all_counted<R: Abort + AllocGlobal>(
 fn fresh_counted<R: Abort + AllocGlobal>(rt: &R, rows: &[(&str, u64, u64)]) -> Result<(), Fail> {
     let mut pair = Pair::new(rt.alloc());
     let done = all_counted(rt, &mut pair, rows);
-    gone(pair);
+    let_go(pair);
     done
 }
 
@@ -144,7 +144,7 @@ fn many<R: Abort + AllocGlobal>(rt: &R, pair: &mut Pair, first: u64) -> Result<u
 fn fresh_many<R: Abort + AllocGlobal>(rt: &R, first: u64) -> Result<u64, Fail> {
     let mut pair = Pair::new(rt.alloc());
     let kept = many(rt, &mut pair, first);
-    gone(pair);
+    let_go(pair);
     kept
 }
 

@@ -33,7 +33,7 @@ impl Named {
     }
 
     /// The path's answer, own nodes and looks on a map.
-    pub fn encoded(&self, alloc: Global, roads: &RoadMap) -> Result<Encoding, Fail> {
+    pub fn encoding(&self, alloc: Global, roads: &RoadMap) -> Result<Encoding, Fail> {
         let path = self.path(alloc)?;
         let mut search = Search::new(alloc);
         let mut work = Work::default();
@@ -155,7 +155,7 @@ impl Twin {
     }
 
     /// How many of this twin's paths the changes since `forget` concern, which found the map `before`.
-    pub fn concerned(&self, alloc: Global, before: &RoadMap) -> Result<u64, Fail> {
+    pub fn concerned_count(&self, alloc: Global, before: &RoadMap) -> Result<u64, Fail> {
         let mut count = 0u64;
         for named in &self.paths {
             let footprint = named.footprint(alloc, before)?;

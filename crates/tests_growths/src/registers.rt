@@ -112,7 +112,7 @@ fn assert_same_path(rt: &impl Abort, one: &Register, other: &Register, name: &st
 fn assert_alike(rt: &impl Abort, one: &Register, other: &Register) {
     assert!(rt; one.len() == other.len());
     assert!(rt; one.is_open() == other.is_open());
-    assert!(rt; (one.work(), one.kept()) == (other.work(), other.kept()));
+    assert!(rt; (one.work(), one.spared_count()) == (other.work(), other.spared_count()));
     for k in 0..one.len() {
         assert!(rt; one.name_at(k) == other.name_at(k));
         if let Some(name) = one.name_at(k) {
@@ -136,7 +136,7 @@ fn text_of(rt: &impl Abort, alloc: Global, outcome: &Result<Reply, CommandFault>
 }
 
 /// What a register answers to a record. None where a growth was refused.
-fn answered(
+fn answer_to(
     rt: &impl Abort,
     alloc: Global,
     register: &mut Register,
@@ -151,21 +151,21 @@ fn answered(
 
 /// What it answers, asked a second time where a growth was refused.
 fn again(rt: &impl Abort, alloc: Global, register: &mut Register, record: &str) -> Vec<u8> {
-    match answered(rt, alloc, register, record) {
+    match answer_to(rt, alloc, register, record) {
         Some(text) => text,
-        None => answered(rt, alloc, register, record).expect(rt, "memory the second time"),
+        None => answer_to(rt, alloc, register, record).expect(rt, "memory the second time"),
     }
 }
 
 /// What a register answers to a record. Where a growth was refused it is as its twin, and is asked a second time.
-fn survived(
+fn answer_at_last(
     rt: &impl Abort,
     alloc: Global,
     register: &mut Register,
     twin: &Register,
     record: &str,
 ) -> Vec<u8> {
-    match answered(rt, alloc, register, record) {
+    match answer_to(rt, alloc, register, record) {
         Some(text) => text,
         None => {
             assert_alike(rt, register, twin);
@@ -182,7 +182,7 @@ fn give(
     twin: &mut Register,
     record: &str,
 ) {
-    let text = survived(rt, alloc, register, twin, record);
+    let text = answer_at_last(rt, alloc, register, twin, record);
     let other = again(rt, alloc, twin, record);
     assert!(rt; text.as_slice() == other.as_slice(), "to {record}");
 }
@@ -192,18 +192,18 @@ fn give_all(rt: &impl Abort, alloc: Global, register: &mut Register, twin: &mut 
     for record in SCRIPT.lines() {
         give(rt, alloc, register, twin, record);
     }
-    assert!(rt; register.kept() > 0);
+    assert!(rt; register.spared_count() > 0);
     assert_alike(rt, register, twin);
 }
 
 /// A register goes here, where that is proved once.
-fn gone(_register: Register) {}
+fn let_go(_register: Register) {}
 
 #[test]
 fn a_register_survives(rt: HostRuntime) {
     let mut register = Register::new(rt.alloc());
     let mut twin = Register::new(rt.alloc());
     give_all(&rt, rt.alloc(), &mut register, &mut twin);
-    gone(register);
-    gone(twin);
+    let_go(register);
+    let_go(twin);
 }

@@ -11,7 +11,7 @@ use std::process::Abort;
 use std::test::Fail;
 
 /// What a line of fields with commas between them reads as.
-fn read(alloc: Global, line: &str) -> Result<Result<Command, ReadFault>, Fail> {
+fn reading_of(alloc: Global, line: &str) -> Result<Result<Command, ReadFault>, Fail> {
     let mut row = ByteRecord::new(alloc);
     for field in line.split(',') {
         row.push_field(field.as_bytes())?;
@@ -22,7 +22,7 @@ fn read(alloc: Global, line: &str) -> Result<Result<Command, ReadFault>, Fail> {
 /// Asserts what each line reads as, by its printed form.
 fn expect<R: Abort + AllocGlobal>(rt: &R, cases: &[(&str, &str)]) -> Result<(), Fail> {
     for (line, want) in cases {
-        let command = read(rt.alloc(), line)?;
+        let command = reading_of(rt.alloc(), line)?;
         let got = format!(in rt.alloc(); "{command:?}")?;
         assert_eq!(rt; got.as_str(), *want, "{line}");
     }
@@ -167,7 +167,7 @@ fn bytes_that_are_no_text(rt: HostRuntime) -> Result<(), Fail> {
 }
 
 /// A path's entry with a string.
-fn told(alloc: Global, name: &str, text: &str) -> Result<Entry, Fail> {
+fn text_entry(alloc: Global, name: &str, text: &str) -> Result<Entry, Fail> {
     Ok(Entry {
         name: String::from_str(alloc, name)?,
         published: Ok(String::from_str(alloc, text)?),
@@ -175,7 +175,7 @@ fn told(alloc: Global, name: &str, text: &str) -> Result<Entry, Fail> {
 }
 
 /// A path's entry with a refusal.
-fn refused(alloc: Global, name: &str, refusal: Refusal) -> Result<Entry, Fail> {
+fn refused_entry(alloc: Global, name: &str, refusal: Refusal) -> Result<Entry, Fail> {
     Ok(Entry {
         name: String::from_str(alloc, name)?,
         published: Err(refusal),
@@ -195,11 +195,11 @@ fn replies_of_paths(rt: HostRuntime) -> Result<(), Fail> {
     expect_reply(&rt, &Reply::Paths(Vec::new(alloc)), "ok,0\n")?;
     let line = LineId::new(20).expect(&rt, "a number from 1");
     let mut entries = Vec::new(alloc);
-    entries.push(told(alloc, "a", "CwRbWyNG9RpsCQCb/jsaHA==")?)?;
-    entries.push(refused(alloc, "a", Refusal::UnknownLine(line))?)?;
-    entries.push(refused(alloc, "b", Refusal::Broken(0))?)?;
-    entries.push(refused(alloc, "b", Refusal::OffsetTooLong)?)?;
-    entries.push(refused(alloc, "a", Refusal::NoNextPoint(12))?)?;
+    entries.push(text_entry(alloc, "a", "CwRbWyNG9RpsCQCb/jsaHA==")?)?;
+    entries.push(refused_entry(alloc, "a", Refusal::UnknownLine(line))?)?;
+    entries.push(refused_entry(alloc, "b", Refusal::Broken(0))?)?;
+    entries.push(refused_entry(alloc, "b", Refusal::OffsetTooLong)?)?;
+    entries.push(refused_entry(alloc, "a", Refusal::NoNextPoint(12))?)?;
     expect_reply(
         &rt,
         &Reply::Paths(entries),

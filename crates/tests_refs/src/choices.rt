@@ -2,7 +2,7 @@
 ghost use Rattle.std.specs.Bool.{OnTrue};
 ghost use Rattle.olr_spec.specs.Extension.{AreJoined};
 
-use crate::maps::{BARE, Course, LONG, LONG_BARE, PASSING, path_of};
+use crate::maps::{BARE, LONG, LONG_BARE, PASSING, PlainPath, path_of};
 use made_maps::{Place, Plan, STRAIGHT, WORKED, end_of, map_of, start_of};
 use olr_map::{Footprint, LineId, MapRead, RoadMap};
 use olr_refs::{Choice, distances, extend, points, unknown_line};
@@ -72,17 +72,17 @@ fn expect_points(
     rt: &impl Abort,
     alloc: Global,
     map: &RoadMap,
-    course: Course,
+    plain: PlainPath,
     expected: Expected,
 ) -> Result<(), Fail> {
     let (wanted, offsets, positions, searches) = expected;
-    let path = path_of(rt, alloc, course);
+    let path = path_of(rt, alloc, plain);
     assert!(rt; unknown_line(map, path.lines()).is_none());
     let mut footprint = Footprint::new(alloc);
     let extended = extend(alloc, map, &path, &mut footprint)?;
     let lines = numbers_of(alloc, &extended.lines).expect(rt, "memory");
     let found = (lines.as_slice(), (extended.pos, extended.neg));
-    assert_eq!(rt; found, (wanted, offsets), "of {course:?}");
+    assert_eq!(rt; found, (wanted, offsets), "of {plain:?}");
     expect_chosen(rt, alloc, map, &extended.lines, positions, searches)
 }
 
@@ -91,11 +91,11 @@ fn expect_points_on(
     rt: &impl Abort,
     alloc: Global,
     plan: Plan,
-    course: Course,
+    plain: PlainPath,
     expected: Expected,
 ) -> Result<(), Fail> {
     let map = map_of(alloc, plan)?;
-    expect_points(rt, alloc, &map, course, expected)
+    expect_points(rt, alloc, &map, plain, expected)
 }
 
 /// The nodes of a long line that leads to a passing node, and of a short line behind it.
@@ -130,7 +130,7 @@ const LONGER_CHAIN: Plan = (
 
 const ROAD: &[u32] = &[10, 20, 30];
 
-const CASES: &[(Plan, Course, Expected)] = &[
+const CASES: &[(Plan, PlainPath, Expected)] = &[
     (WORKED, (ROAD, 1500, 0), (ROAD, (1500, 0), &[0, 1, 3], 1)),
     (BARE, (ROAD, 1500, 0), (ROAD, (1500, 0), &[0, 3], 1)),
     (PASSING, (&[20], 0, 0), (&[10, 20], (1000, 0), &[0, 2], 0)),
@@ -148,8 +148,8 @@ const CASES: &[(Plan, Course, Expected)] = &[
 
 #[test]
 fn points_by_position(rt: HostRuntime) -> Result<(), Fail> {
-    for (plan, course, expected) in CASES {
-        expect_points_on(&rt, rt.alloc(), *plan, *course, *expected)?;
+    for (plan, plain, expected) in CASES {
+        expect_points_on(&rt, rt.alloc(), *plan, *plain, *expected)?;
     }
     Ok(())
 }

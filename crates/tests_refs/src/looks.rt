@@ -1,6 +1,6 @@
 //! What encodings look at: own nodes and looks, worked out by hand, and the footprints that they make up.
 
-use crate::maps::{BARE, Course, LONG, LONG_BARE, PASSING, path_of};
+use crate::maps::{BARE, LONG, LONG_BARE, PASSING, PlainPath, path_of};
 use made_maps::{
     FIRST, PLACES, Place, Plan, SECOND, SIDE, STRAIGHT, THIRD, WORKED, make, map_of, new_node,
     plain_line,
@@ -26,7 +26,7 @@ fn within_reach(alloc: Global, map: &RoadMap, encoding: &Encoding) -> Result<Foo
     for look in &encoding.looks {
         let begin = [(look.from, 0)];
         let search = near(alloc, map, Direction::Along, &begin, GREATEST_LIMIT)?;
-        for reached in search.reached() {
+        for reached in search.reached_nodes() {
             nodes.note(reached.node)?;
         }
     }
@@ -74,11 +74,11 @@ fn expect_seen(
     alloc: Global,
     encoding: &Encoding,
     wanted: Wanted,
-    course: Course,
+    plain: PlainPath,
 ) {
     let own = own_of(alloc, encoding).expect(rt, "memory");
     let looks = looks_of(alloc, encoding).expect(rt, "memory");
-    assert_eq!(rt; (own.as_slice(), looks.as_slice()), wanted, "of {course:?}");
+    assert_eq!(rt; (own.as_slice(), looks.as_slice()), wanted, "of {plain:?}");
 }
 
 /// Asserts what a path on a map looks at, and that this makes up its footprint.
@@ -86,17 +86,17 @@ fn expect_looks(
     rt: &impl Abort,
     alloc: Global,
     map: &RoadMap,
-    course: Course,
+    plain: PlainPath,
     wanted: Wanted,
 ) -> Result<(), Fail> {
-    let path = path_of(rt, alloc, course);
+    let path = path_of(rt, alloc, plain);
     let mut search = Search::new(alloc);
     let mut work = Work::default();
     let encoding = encode(alloc, map, &path, &mut search, &mut work)?;
-    expect_seen(rt, alloc, &encoding, wanted, course);
+    expect_seen(rt, alloc, &encoding, wanted, plain);
     let searches = encoding.looks.len() as u64;
     let counted = (work.encodings, work.searches);
-    assert_eq!(rt; counted, (1, searches), "of {course:?}");
+    assert_eq!(rt; counted, (1, searches), "of {plain:?}");
     expect_footprint(rt, alloc, map, &path, &encoding)
 }
 
@@ -105,11 +105,11 @@ fn expect_looks_on(
     rt: &impl Abort,
     alloc: Global,
     plan: Plan,
-    course: Course,
+    plain: PlainPath,
     wanted: Wanted,
 ) -> Result<(), Fail> {
     let map = map_of(alloc, plan)?;
-    expect_looks(rt, alloc, &map, course, wanted)
+    expect_looks(rt, alloc, &map, plain, wanted)
 }
 
 /// The worked map with a side road as long as the line beside it.
@@ -176,13 +176,13 @@ const ROUND: Plan = (
     ],
 );
 
-const WHOLE: Course = (&[10, 20, 30], 1500, 0);
+const WHOLE: PlainPath = (&[10, 20, 30], 1500, 0);
 
-const ROAD: Course = (&[10, 20, 30], 0, 0);
+const ROAD: PlainPath = (&[10, 20, 30], 0, 0);
 
 const FOUR: &[u32] = &[1, 2, 3, 4];
 
-const CASES: &[(Plan, Course, Wanted)] = &[
+const CASES: &[(Plan, PlainPath, Wanted)] = &[
     // From node 2, where line 10 ends, to node 3 it is 2000 dm along line 20, and not the 1500 of the side road. Only
     // line 30 follows line 20, so nothing is looked at from there.
     (WORKED, WHOLE, (FOUR, &[(2, 3, 2000)])),
@@ -215,8 +215,8 @@ const CASES: &[(Plan, Course, Wanted)] = &[
 
 #[test]
 fn own_nodes_and_looks(rt: HostRuntime) -> Result<(), Fail> {
-    for (plan, course, wanted) in CASES {
-        expect_looks_on(&rt, rt.alloc(), *plan, *course, *wanted)?;
+    for (plan, plain, wanted) in CASES {
+        expect_looks_on(&rt, rt.alloc(), *plan, *plain, *wanted)?;
     }
     Ok(())
 }
@@ -258,7 +258,7 @@ fn grid_map(rt: &impl Abort, alloc: Global) -> RoadMap {
     map
 }
 
-const ON_GRID: &[(Course, Wanted)] = &[
+const ON_GRID: &[(PlainPath, Wanted)] = &[
     // No way is as short as straight on. From node 11 three lines are near enough, so the look ends where the fourth
     // begins. That is the next point, and no two lines follow it.
     (
@@ -288,10 +288,10 @@ fn expect_all(
     rt: &impl Abort,
     alloc: Global,
     map: &RoadMap,
-    cases: &[(Course, Wanted)],
+    cases: &[(PlainPath, Wanted)],
 ) -> Result<(), Fail> {
-    for (course, wanted) in cases {
-        expect_looks(rt, alloc, map, *course, *wanted)?;
+    for (plain, wanted) in cases {
+        expect_looks(rt, alloc, map, *plain, *wanted)?;
     }
     Ok(())
 }

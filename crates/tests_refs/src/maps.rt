@@ -6,7 +6,7 @@ use std::alloc::Global;
 use std::process::Abort;
 
 /// A path: its lines, and the positive and the negative offset in decimetres.
-pub type Course = (&'static [u32], u32, u32);
+pub type PlainPath = (&'static [u32], u32, u32);
 
 /// The worked map without its side road.
 pub const BARE: Plan = (PLACES, &[FIRST, SECOND, THIRD]);
@@ -53,8 +53,8 @@ pub const LONG_BARE: Plan = (
 );
 
 /// A path with these lines and offsets.
-pub fn path_of(rt: &impl Abort, alloc: Global, course: Course) -> Path {
-    let (numbers, pos, neg) = course;
+pub fn path_of(rt: &impl Abort, alloc: Global, plain: PlainPath) -> Path {
+    let (numbers, pos, neg) = plain;
     let lines = lines(alloc, numbers).expect(rt, "memory");
     Path::new(alloc, lines, pos, neg).expect(rt, "a path")
 }

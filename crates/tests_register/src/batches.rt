@@ -28,7 +28,7 @@ fn fill(rt: &impl Abort, register: &mut Register, edits: Vec<Edit>, path: Comman
 }
 
 /// The register of the worked map and path, made by one batch.
-fn worked(rt: &impl Abort, alloc: Global) -> Register {
+fn worked_register(rt: &impl Abort, alloc: Global) -> Register {
     let mut register = Register::new(alloc);
     fill(
         rt,
@@ -41,7 +41,7 @@ fn worked(rt: &impl Abort, alloc: Global) -> Register {
 
 #[test]
 fn a_batch_that_cancels_out(rt: HostRuntime) {
-    let mut register = worked(&rt, rt.alloc());
+    let mut register = worked_register(&rt, rt.alloc());
     tells(&rt, &mut register, Command::Begin, &[]);
     let dropped = Command::Edit(Edit::DropLine(line(99)));
     holds(&rt, &mut register, dropped, 1);
@@ -61,7 +61,7 @@ fn fill_up(rt: &impl Abort, register: &mut Register) {
 
 #[test]
 fn a_full_batch(rt: HostRuntime) {
-    let mut register = worked(&rt, rt.alloc());
+    let mut register = worked_register(&rt, rt.alloc());
     tells(&rt, &mut register, Command::Begin, &[]);
     fill_up(&rt, &mut register);
     let more = Command::Edit(Edit::DropNode(node(9)));

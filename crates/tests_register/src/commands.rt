@@ -105,7 +105,7 @@ fn script(rt: &impl Abort, alloc: Global) -> Vec<Command> {
 }
 
 /// How many of the outcomes are those of accepted commands.
-fn accepted(outcomes: &[Result<Reply, CommandFault>]) -> usize {
+fn accepted_count(outcomes: &[Result<Reply, CommandFault>]) -> usize {
     outcomes.iter().filter(|outcome| outcome.is_ok()).count()
 }
 
@@ -113,7 +113,7 @@ fn accepted(outcomes: &[Result<Reply, CommandFault>]) -> usize {
 fn a_whole_run(rt: HostRuntime) -> Result<(), Fail> {
     let (register, outcomes) = replay(rt.alloc(), script(&rt, rt.alloc()))?;
     expect_text(&rt, &register, "a", Some(ALONE));
-    assert_eq!(rt; (outcomes.len(), accepted(&outcomes)), (8, 6));
+    assert_eq!(rt; (outcomes.len(), accepted_count(&outcomes)), (8, 6));
     ends(&rt, register, 1, 0);
     Ok(())
 }

@@ -47,7 +47,7 @@ fn hold(rt: &impl Abort, alloc: Global, list: &mut Listing, name: &str, number: 
 }
 
 /// The list of the paths b and a on two roads, neither encoded yet.
-fn both(rt: &impl Abort, alloc: Global) -> Listing {
+fn two_paths(rt: &impl Abort, alloc: Global) -> Listing {
     let mut list = Listing::new(alloc);
     hold(rt, alloc, &mut list, "b", 30);
     hold(rt, alloc, &mut list, "a", 10);
@@ -105,19 +105,22 @@ fn renew_thrice(rt: &impl Abort, alloc: Global, list: &mut Listing) {
 }
 
 /// All that a list keeps.
-fn inside(rt: &impl Abort, alloc: Global, list: &Listing) -> String {
+fn printed_list(rt: &impl Abort, alloc: Global, list: &Listing) -> String {
     format!(in alloc; "{list:?}").expect(rt, "memory")
 }
 
 /// That two lists keep the same.
 fn expect_alike(rt: &impl Abort, alloc: Global, list: &Listing, other: &Listing) {
-    let (found, wanted) = (inside(rt, alloc, list), inside(rt, alloc, other));
+    let (found, wanted) = (
+        printed_list(rt, alloc, list),
+        printed_list(rt, alloc, other),
+    );
     assert_eq!(rt; found.as_str(), wanted.as_str());
 }
 
 /// The list of both paths of which b was dropped before it was encoded.
 fn without_b(rt: &impl Abort, alloc: Global) -> Listing {
-    let mut list = both(rt, alloc);
+    let mut list = two_paths(rt, alloc);
     list.drop_path("b");
     renew_thrice(rt, alloc, &mut list);
     list
@@ -135,7 +138,7 @@ fn expect_nothing_left(rt: &impl Abort, alloc: Global, mut list: Listing) {
 
 #[test]
 fn dropped_paths_leave_nothing(rt: HostRuntime) {
-    let mut list = both(&rt, rt.alloc());
+    let mut list = two_paths(&rt, rt.alloc());
     renew_thrice(&rt, rt.alloc(), &mut list);
     expect_nothing_left(&rt, rt.alloc(), list);
 }

@@ -64,7 +64,7 @@ fn all_paths_are_told_in_order(rt: HostRuntime) {
 }
 
 /// The text that is shown of a path.
-fn shown(rt: &impl Abort, alloc: Global, register: &mut Register, name: &str) -> String {
+fn shown_text(rt: &impl Abort, alloc: Global, register: &mut Register, name: &str) -> String {
     let name = String::from_str(alloc, name).expect(rt, "memory");
     match register.apply(Command::Show(name)) {
         Ok(Reply::Paths(entries)) => match entries.into_iter().next() {
@@ -90,7 +90,7 @@ fn expect_plain(rt: &impl Abort, alloc: Global, register: &mut Register, text: &
 
 /// That this text is published of a path, whose answer it is.
 fn expect_published(rt: &impl Abort, register: &Register, name: &str, text: &str) {
-    let Some(published) = register.published(name) else {
+    let Some(published) = register.published_of(name) else {
         panic!(rt; "no path");
     };
     assert_eq!(rt; published.text(), Some(text));
@@ -103,7 +103,7 @@ fn one_path_is_shown(rt: HostRuntime) {
     let mut register = roads(&rt, rt.alloc(), ROAD);
     let way = add(&rt, rt.alloc(), "way", &[20], 0);
     names(&rt, &mut register, way, &["way"]);
-    let text = shown(&rt, rt.alloc(), &mut register, "way");
+    let text = shown_text(&rt, rt.alloc(), &mut register, "way");
     expect_plain(&rt, rt.alloc(), &mut register, &text);
     expect_published(&rt, &register, "way", &text);
     ends(&rt, register, 1, 0);
@@ -217,6 +217,6 @@ fn one_more_path_by_a_batch(rt: HostRuntime) {
     let second = add(&rt, rt.alloc(), "b", &[30], 0);
     holds(&rt, &mut register, second, 1);
     names(&rt, &mut register, Command::Commit(1), &["b"]);
-    assert!(rt; register.published("b").is_some());
+    assert!(rt; register.published_of("b").is_some());
     ends(&rt, register, 2, 0);
 }

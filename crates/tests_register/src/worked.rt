@@ -156,7 +156,7 @@ fn expect_iterated(rt: &impl Abort, register: &Register, names: &[&str]) {
 /// That so many paths were encoded or kept their answer, and so many kept it.
 pub(crate) fn expect_counts(rt: &impl Abort, register: &Register, encodings: u64, kept: u64) {
     assert_eq!(rt; register.work().encodings, encodings);
-    assert_eq!(rt; register.kept(), kept);
+    assert_eq!(rt; register.spared_count(), kept);
 }
 
 /// The same at the end of a test. The register goes here, and not in each test, where that would be proved anew.

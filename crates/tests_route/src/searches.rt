@@ -30,7 +30,7 @@ macro_rules! same {
 }
 
 /// The map with the nodes from 1 to `nodes`, and lines given by number, begin, end and length.
-fn made(rt: &impl Abort, alloc: Global, nodes: u32, lines: &[Plain]) -> RoadMap {
+fn map_with(rt: &impl Abort, alloc: Global, nodes: u32, lines: &[Plain]) -> RoadMap {
     plain_map(alloc, nodes, lines).expect(rt, "a map")
 }
 
@@ -41,7 +41,7 @@ fn base(rt: &impl Abort, alloc: Global) -> RoadMap {
 
 /// Two ways of equal length from node 1 to node 4, and a line on to node 5.
 fn diamond(rt: &impl Abort, alloc: Global) -> RoadMap {
-    made(
+    map_with(
         rt,
         alloc,
         5,
@@ -95,7 +95,7 @@ fn is_walk<M: MapRead>(map: &M, source: NodeId, lines: &[LineId]) -> bool
 }
 
 /// Whether a walk is the least one, and whether it is the sole one, by a search from where it begins.
-fn judged<M: MapRead>(
+fn judgement<M: MapRead>(
     rt: &impl Abort,
     alloc: Global,
     map: &M,
@@ -131,7 +131,7 @@ fn label(labels: &Labels, number: u32) -> Label {
 }
 
 /// The labels of the nodes from 1 on.
-fn told(labels: &Labels) -> [Label; 4] {
+fn labels_of(labels: &Labels) -> [Label; 4] {
     [
         label(labels, 1),
         label(labels, 2),
@@ -141,10 +141,16 @@ fn told(labels: &Labels) -> [Label; 4] {
 }
 
 /// Those of a search from the node of that number. Labels go here, where that is proved once.
-fn found<M: MapRead>(rt: &impl Abort, alloc: Global, map: &M, source: u32, limit: u32) -> [Label; 4]
+fn labels_within<M: MapRead>(
+    rt: &impl Abort,
+    alloc: Global,
+    map: &M,
+    source: u32,
+    limit: u32,
+) -> [Label; 4]
     requires { limit ≤ GREATEST_LIMIT }
 {
-    told(&labels_from(rt, alloc, map, node(source), limit))
+    labels_of(&labels_from(rt, alloc, map, node(source), limit))
 }
 
 /// The labels of nodes 1 to 4 by lines 99 and 30 from node 2.
@@ -162,7 +168,7 @@ fn assert_searched(rt: &impl Abort, alloc: Global, map: &RoadMap) {
     let mut footprint = Footprint::new(alloc);
     let mut work = Work::default();
     match search(alloc, map, source, 150_000, &mut footprint, &mut work) {
-        Ok(labels) => same!(rt; told(&labels), FROM_SECOND),
+        Ok(labels) => same!(rt; labels_of(&labels), FROM_SECOND),
         Err(_) => panic!(rt; "no memory"),
     }
     same!(rt; footprint.as_slice(), [source, node(3), node(4)].as_slice());
@@ -175,12 +181,12 @@ fn search_on_the_base_map(rt: HostRuntime) -> Result<(), Fail> {
     assert_searched(&rt, rt.alloc(), &map);
     let start = (Some(0), None);
     for (limit, end) in [(1500, (Some(1500), Some(99))), (1499, NONE)] {
-        same!(&rt; found(&rt, rt.alloc(), &map, 2, limit), [NONE, start, end, NONE]);
+        same!(&rt; labels_within(&rt, rt.alloc(), &map, 2, limit), [NONE, start, end, NONE]);
     }
     make(&mut map, other_line(rt.alloc(), 99, 2000, STRAIGHT)?)?;
     let tied = (Some(2000), Some(20));
     let last = (Some(2740), Some(30));
-    same!(&rt; found(&rt, rt.alloc(), &map, 2, GREATEST_LIMIT), [NONE, start, tied, last]);
+    same!(&rt; labels_within(&rt, rt.alloc(), &map, 2, GREATEST_LIMIT), [NONE, start, tied, last]);
     Ok(())
 }
 
@@ -193,7 +199,7 @@ fn assert_judged<M: MapRead>(
     walks: &[(&[u32], (bool, bool))],
 ) {
     for (lines, wanted) in walks {
-        let found = judged(rt, alloc, map, node(source), lines);
+        let found = judgement(rt, alloc, map, node(source), lines);
         assert_eq!(rt; found, *wanted, "the walk {lines:?}");
     }
 }
@@ -216,7 +222,7 @@ fn least_and_sole_walks(rt: HostRuntime) {
         (Some(100), Some(6)),
         (Some(200), Some(7)),
     ];
-    same!(&rt; found(&rt, rt.alloc(), &map, 1, GREATEST_LIMIT), by_seventh);
+    same!(&rt; labels_within(&rt, rt.alloc(), &map, 1, GREATEST_LIMIT), by_seventh);
     let walks = [
         (&[][..], (true, true)),
         (&[6], (true, true)),
@@ -244,7 +250,7 @@ fn lines_that_prolong_walks(rt: HostRuntime) {
 
 #[test]
 fn loops_and_parallel_lines(rt: HostRuntime) {
-    let map = made(
+    let map = map_with(
         &rt,
         rt.alloc(),
         2,
@@ -252,8 +258,8 @@ fn loops_and_parallel_lines(rt: HostRuntime) {
     );
     let start = (Some(0), None);
     let second = (Some(100), Some(2));
-    same!(&rt; found(&rt, rt.alloc(), &map, 1, GREATEST_LIMIT), [start, second, NONE, NONE]);
-    same!(&rt; found(&rt, rt.alloc(), &map, 1, 0), [start, NONE, NONE, NONE]);
+    same!(&rt; labels_within(&rt, rt.alloc(), &map, 1, GREATEST_LIMIT), [start, second, NONE, NONE]);
+    same!(&rt; labels_within(&rt, rt.alloc(), &map, 1, 0), [start, NONE, NONE, NONE]);
     let walks = [
         (&[1][..], (false, false)),
         (&[2], (true, false)),
@@ -274,7 +280,7 @@ fn plain_search_on_the_base_map(rt: HostRuntime) {
         settled: 0,
     };
     match plain::search(rt.alloc(), &map, source, 150_000, &mut footprint, &mut work) {
-        Ok(labels) => same!(&rt; told(&labels), FROM_SECOND),
+        Ok(labels) => same!(&rt; labels_of(&labels), FROM_SECOND),
         Err(_) => panic!(rt; "no memory"),
     }
     same!(&rt; (work.encodings, work.searches, work.settled), (7, u64::MAX, 3));
@@ -354,7 +360,7 @@ fn distances_in_either_direction(rt: HostRuntime) {
         same!(&rt; distances(&rt, rt.alloc(), &map, direction, from, limit), found);
     }
 
-    let ring = made(
+    let ring = map_with(
         &rt,
         rt.alloc(),
         4,
@@ -371,33 +377,33 @@ fn distances_in_either_direction(rt: HostRuntime) {
 }
 
 /// What a search tells at the nodes from 1 on, and how many it settled.
-fn seen(map: &RoadMap, search: &Search) -> ([Option<u32>; 4], usize) {
+fn distances_of(map: &RoadMap, search: &Search) -> ([Option<u32>; 4], usize) {
     let dists = [
         search.dist(map, node(1)),
         search.dist(map, node(2)),
         search.dist(map, node(3)),
         search.dist(map, node(4)),
     ];
-    (dists, search.settled())
+    (dists, search.settled_count())
 }
 
 /// Settles a search of the worked map from node 2 step by step.
 fn settle_in_steps(rt: &impl Abort, map: &RoadMap, search: &mut Search) -> Result<(), Fail> {
     search.begin(map, Direction::Along, &[(node(2), 0)])?;
-    same!(rt; seen(map, search), ([None, Some(0), None, None], 1));
+    same!(rt; distances_of(map, search), ([None, Some(0), None, None], 1));
     search.settle_to(map, 1500)?;
     let third = [None, Some(0), Some(1500), None];
-    same!(rt; seen(map, search), (third, 2));
+    same!(rt; distances_of(map, search), (third, 2));
     search.settle_to(map, 700)?;
-    same!(rt; seen(map, search), (third, 2));
+    same!(rt; distances_of(map, search), (third, 2));
     search.settle_to(map, 2240)?;
-    same!(rt; seen(map, search), ([None, Some(0), Some(1500), Some(2240)], 3));
+    same!(rt; distances_of(map, search), ([None, Some(0), Some(1500), Some(2240)], 3));
     Ok(())
 }
 
 /// That a search reached these nodes in this order, each with its distance.
 fn assert_reached(rt: &impl Abort, map: &RoadMap, search: &Search, numbers: &[u32]) {
-    for (at, number) in search.reached().iter().zip(numbers) {
+    for (at, number) in search.reached_nodes().iter().zip(numbers) {
         let reached = node(*number);
         same!(rt; at.node, reached);
         same!(rt; search.dist_at(at.place), search.dist(map, reached));
@@ -408,7 +414,7 @@ fn assert_reached(rt: &impl Abort, map: &RoadMap, search: &Search, numbers: &[u3
 fn begin_anew(rt: &impl Abort, map: &RoadMap, search: &mut Search) -> Result<(), Fail> {
     search.begin(map, Direction::Against, &[(node(4), 0)])?;
     search.settle_to(map, 100)?;
-    same!(rt; seen(map, search), ([None, Some(100), Some(100), Some(0)], 3));
+    same!(rt; distances_of(map, search), ([None, Some(100), Some(100), Some(0)], 3));
     Ok(())
 }
 
@@ -442,7 +448,7 @@ fn sole_walks_by_distances(rt: HostRuntime) -> Result<(), Fail> {
     let lines = [(5, true), (6, true), (7, false), (8, false), (10, false)];
     assert_sole(&rt, rt.alloc(), &map, &lines)?;
 
-    let map = made(
+    let map = map_with(
         &rt,
         rt.alloc(),
         3,

@@ -48,7 +48,7 @@ fn whole(text: &'static str) -> Slow {
 }
 
 /// A reader that fails at once.
-fn broken() -> Slow {
+fn outage() -> Slow {
     Slow::new("node,1,0,0\n", 100, 0)
 }
 
@@ -119,7 +119,7 @@ fn first_lines(text: &str, count: usize) -> Option<&[u8]> {
 }
 
 /// A register goes here, and not in each function that has one, where that would be proved anew.
-fn gone(_register: Register) {}
+fn let_go(_register: Register) {}
 
 /// Runs the records on a fresh register, and asserts how the run ends and what is written.
 fn expect<R: Abort + AllocGlobal>(
@@ -138,7 +138,7 @@ fn expect<R: Abort + AllocGlobal>(
         (replies.as_bytes(), Ok(status)),
         "after {records:?}"
     );
-    gone(register);
+    let_go(register);
 }
 
 /// The same of records that are text, without stopping.
@@ -229,7 +229,7 @@ fn expect_answered<R: Abort + AllocGlobal>(rt: &R, step: usize, fails_at: usize)
         wanted,
         "at call {fails_at} of {step}"
     );
-    gone(register);
+    let_go(register);
 }
 
 #[test]
@@ -250,7 +250,7 @@ fn expect_unharmed<R: Abort + AllocGlobal>(rt: &R, step: usize) {
     let ended = run(rt.alloc(), &mut register, input, &mut output, false);
     let found = (output.taken.as_slice(), ended);
     assert_eq!(rt; found, (REPLIES.as_bytes(), Ok(Status::SomeRefused)));
-    gone(register);
+    let_go(register);
 }
 
 /// Whether the bytes are as many of the text, from its front.
@@ -268,7 +268,7 @@ fn expect_cut<R: Abort + AllocGlobal>(rt: &R, fails_at: usize, takes_nothing: bo
     let found = (is_cut, ended);
     assert_eq!(rt; found, (true, Err(RunFault::Write)), "at call {fails_at}");
     expect_first_applied(rt, &mut register);
-    gone(register);
+    let_go(register);
 }
 
 #[test]
@@ -306,7 +306,7 @@ fn expect_both<R: Abort + AllocGlobal>(
         (replies.as_bytes(), end),
         "where {end:?} is expected"
     );
-    gone(register);
+    let_go(register);
 }
 
 #[test]
@@ -330,9 +330,9 @@ fn first_run_that_ends_both(rt: HostRuntime) {
     let stopped = Ok(Status::Stopped);
     let failed = Err(RunFault::Read);
     let file = Some(whole("x\nnode,1,0,0\n"));
-    expect_both(&rt, file, broken(), true, "fault,1,Syntax\n", stopped);
+    expect_both(&rt, file, outage(), true, "fault,1,Syntax\n", stopped);
     let file = Some(whole("node,1,0,0\n"));
-    expect_both(&rt, file, broken(), true, "ok,0\n", failed);
+    expect_both(&rt, file, outage(), true, "ok,0\n", failed);
     let file = Some(Slow::new("node,1,0,0\n", 100, 2));
     expect_both(&rt, file, whole("x\n"), false, "ok,0\n", failed);
 }
@@ -382,7 +382,7 @@ fn expect_program<R: Abort + AllocGlobal>(
     let found = (ended, output.as_slice(), errors.as_slice());
     let wanted = (status, replies.as_bytes(), told.as_bytes());
     assert_eq!(rt; found, wanted, "of {words:?}");
-    gone(register);
+    let_go(register);
 }
 
 #[test]
@@ -405,7 +405,7 @@ fn whole_programs(rt: HostRuntime) {
         "",
     );
     expect_program(&rt, named, None, whole(node), 3, "", unopened);
-    expect_program(&rt, named, Some(node), broken(), 3, "ok,0\n", unread);
+    expect_program(&rt, named, Some(node), outage(), 3, "ok,0\n", unread);
 }
 
 /// Runs the program on words, with a writer that fails at once.
@@ -424,7 +424,7 @@ fn expect_write_fault<R: Abort + AllocGlobal>(rt: &R, words: &[&str]) {
     );
     let wanted = (3, b"olr-keep: write fault\n".as_slice());
     assert_eq!(rt; (ended, errors.as_slice()), wanted, "of {words:?}");
-    gone(register);
+    let_go(register);
 }
 
 #[test]
@@ -459,7 +459,7 @@ Usage: olr-keep [OPTIONS]
 For more information, try '--help'.
 ";
     let version = "olr-keep 1.1.0, proved with rattle-kit-13b logic dac8208d650f15bf\n";
-    expect_program(&rt, &["olr-keep", "--help"], None, broken(), 0, help, "");
-    expect_program(&rt, &["olr-keep", "-V"], None, broken(), 0, version, "");
-    expect_program(&rt, &["olr-keep", "-x"], None, broken(), 2, "", usage);
+    expect_program(&rt, &["olr-keep", "--help"], None, outage(), 0, help, "");
+    expect_program(&rt, &["olr-keep", "-V"], None, outage(), 0, version, "");
+    expect_program(&rt, &["olr-keep", "-x"], None, outage(), 2, "", usage);
 }

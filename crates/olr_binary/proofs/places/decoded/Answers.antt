@@ -47,10 +47,10 @@ returns c =
     let lat_128 : FitsSigned w128 c.way-lon.result.1 = search rules in
     let lon_16 : FitsSigned w16 c.last.inside.dlon = search rules in
     let lat_16 : FitsSigned w16 c.last.inside.dlat = search rules in
-    let moved_lon_128 : FitsSigned w128 c.moved.result = record { sfits = c.moved.type_inv } in
-    let moved_lat_128 : FitsSigned w128 c.moved-2.result = record { sfits = c.moved-2.type_inv } in
-    let lon_moved = simp to_z-of_z at c.moved.ensures.value in
-    let lat_moved = simp to_z-of_z at c.moved-2.ensures.value in
+    let moved_lon_128 : FitsSigned w128 c.after_steps.result = record { sfits = c.after_steps.type_inv } in
+    let moved_lat_128 : FitsSigned w128 c.after_steps-2.result = record { sfits = c.after_steps-2.type_inv } in
+    let lon_moved = simp to_z-of_z at c.after_steps.ensures.value in
+    let lat_moved = simp to_z-of_z at c.after_steps-2.ensures.value in
     let lon_before =
     c.way-lon.ensures.lon ∙ ap (λ (ps : List Middle). from_abs24 i.first.lon +ℤ steps_sum (map (λ m. m.dlon) ps))
     points in
@@ -60,7 +60,7 @@ returns c =
     let lon_last : c.last.inside.dlon ≡ i.last.dlon = ap (λ (p : Last). p.dlon) c.last.view_is in
     let lat_last : c.last.inside.dlat ≡ i.last.dlat = ap (λ (p : Last). p.dlat) c.last.view_is in
     let lon =
-    to_z-of_z w128 c.moved.result moved_lon_128 ∙ lon_moved ∙ (λ j. lon_before j +ℤ from_rel16 (lon_last j)) in
+    to_z-of_z w128 c.after_steps.result moved_lon_128 ∙ lon_moved ∙ (λ j. lon_before j +ℤ from_rel16 (lon_last j)) in
     let lat =
-    to_z-of_z w128 c.moved-2.result moved_lat_128 ∙ lat_moved ∙ (λ j. lat_before j +ℤ from_rel16 (lat_last j)) in
+    to_z-of_z w128 c.after_steps-2.result moved_lat_128 ∙ lat_moved ∙ (λ j. lat_before j +ℤ from_rel16 (lat_last j)) in
     (λ j. Some (lon j, lat j)) ∙ sym (value ∙ decoded-last r k past)

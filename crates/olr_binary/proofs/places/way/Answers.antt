@@ -33,13 +33,13 @@ pub loop-point-preserved : goal.loop-point-preserved
 loop-point-preserved c =
     let lon_16 : FitsSigned w16 c.point.inside.dlon = search rules in
     let lat_16 : FitsSigned w16 c.point.inside.dlat = search rules in
-    let lon_128 : FitsSigned w128 c.moved-lon.result = record { sfits = c.moved-lon.type_inv } in
-    let lat_128 : FitsSigned w128 c.moved-lat.result = record { sfits = c.moved-lat.type_inv } in
+    let lon_128 : FitsSigned w128 c.after_steps-lon.result = record { sfits = c.after_steps-lon.type_inv } in
+    let lat_128 : FitsSigned w128 c.after_steps-lat.result = record { sfits = c.after_steps-lat.type_inv } in
     let ps : List Middle = c.args.points.now in
     let i = c.loop-point.point-index in
     let p : Middle = c.point-item.result in
-    let lon_moved = simp to_z-of_z at c.moved-lon.ensures.value in
-    let lat_moved = simp to_z-of_z at c.moved-lat.ensures.value in
+    let lon_moved = simp to_z-of_z at c.after_steps-lon.ensures.value in
+    let lat_moved = simp to_z-of_z at c.after_steps-lat.ensures.value in
     let lon_more =
     place-more (from_abs24 c.args.first.lon) (λ m. m.dlon) ps i p c.loop-point-test.true c.point-item.is in
     let lat_more =
@@ -49,10 +49,10 @@ loop-point-preserved c =
     let lon_is : c.point.inside.dlon ≡ p.dlon = ap (λ (q : Middle). q.dlon) c.point.view_is in
     let lat_is : c.point.inside.dlat ≡ p.dlat = ap (λ (q : Middle). q.dlat) c.point.view_is in
     record {
-      lon = to_z-of_z w128 c.moved-lon.result lon_128 ∙ lon_moved ∙ (λ j. lon_before j +ℤ from_rel16 (lon_is j))
+      lon = to_z-of_z w128 c.after_steps-lon.result lon_128 ∙ lon_moved ∙ (λ j. lon_before j +ℤ from_rel16 (lon_is j))
           ∙ lon_more;
-      lat = to_z-of_z w128 c.moved-lat.result lat_128 ∙ lat_moved ∙ (λ j. lat_before j +ℤ from_rel16 (lat_is j))
+      lat = to_z-of_z w128 c.after_steps-lat.result lat_128 ∙ lat_moved ∙ (λ j. lat_before j +ℤ from_rel16 (lat_is j))
           ∙ lat_more;
-      lon_bound = omega (arith, ints, c.moved-lon.ensures.bound);
-      lat_bound = omega (arith, ints, c.moved-lat.ensures.bound);
+      lon_bound = omega (arith, ints, c.after_steps-lon.ensures.bound);
+      lat_bound = omega (arith, ints, c.after_steps-lat.ensures.bound);
     }

@@ -77,7 +77,7 @@ returns g c =
     found_grown id ms f.from (nodes_of t) three four c.in_ok-put_reached.ensures.kept from3 in
     let lines4 : AreFound ms f.lines (lines_of t) four =
     found_grown id ms f.lines (lines_of t) three four c.in_ok-put_reached.ensures.kept lines3 in
-    let rs = c.reached-reached.result.now in
+    let rs = c.reached_nodes-reached.result.now in
     let all : All (λ (r : Reached). Finds ms f.from r.node four) rs =
     found_moved (λ (r : Reached). r.node) c.deref-7.result.now ms f.from rs rs four c.deref-7.ensures.value refl
     c.in_ok-put_reached.ensures.put in
@@ -85,5 +85,5 @@ returns g c =
     (l.encoded c.requires.encoded) l.long four own4 from4 lines4
     (λ close search settled v near.
     All-contains (λ (r : Reached). Finds ms f.from r.node four) rs (record { node = v; place = place v }) all
-    (c.reached-reached.ensures.near N place Against (sources t) v search
+    (c.reached_nodes-reached.ensures.near N place Against (sources t) v search
     (subst (λ (m : ℕ). LiesWithin N Against (sources t) m v) (sym settled) near)))

@@ -9,7 +9,7 @@ returns-in-Some c =
     let had = made_of c.in-Some.earlier.now in
     let has = made_of c.args.published.now in
     let is : answer_in (items c.args.before.now) c.args.name.now ≡ Some had.answer =
-    sym (ap (option_map (λ (m : Made). m.answer)) c.published.ensures)
+    sym (ap (option_map (λ (m : Made). m.answer)) c.published_of.ensures)
     ∙ ap (λ (o : Option (Bor Published)). option_map (λ (m : Made). m.answer) (option_map (λ p. made_of p.now) o))
     c.in-Some.is in (
       (λ same. is ∙ ap Some (c.has_answer_of.ensures.0 same)),

@@ -30,7 +30,7 @@ loop-k-preserved c =
       within = few;
       gathered = (
         with x one,
-        c.pushed-points.ensures x one c.loop-k.invariant.gathered.1 read,
+        c.with_item-points.ensures x one c.loop-k.invariant.gathered.1 read,
         shape-more fs k x (shape (drop c.args.start fs)) few c.loop-k.invariant.gathered.2,
       );
     }

@@ -16,7 +16,7 @@ loop-k-preserved c =
     let one = number (at fs c.loop-k.k) in
     let read = subst (λ (f : Field). Reads (λ n. n) (number f) c.line_id.result) c.field.ensures c.line_id.ensures in (
       with x one,
-      c.pushed-ids.ensures x one c.loop-k.invariant.1 read,
+      c.with_item-ids.ensures x one c.loop-k.invariant.1 read,
       numbers-more fs c.loop-k.k x (numbers (drop 4 fs)) (omega arith) c.loop-k.invariant.2,
     )
 

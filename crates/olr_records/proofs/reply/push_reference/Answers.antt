@@ -3,7 +3,7 @@ use Rattle.std.specs.Prelude.{codes, decimal}
 use Rattle.std.specs.List.{concat}
 use Rattle.olr_spec.specs.Reference.{Middle, Reference}
 use Rattle.olr_binary.specs.Codes.{reference_from}
-use Rattle.olr_records.specs.ReplyText.{reply_line, accepted, first_line, middle_line, last_line, offset_lines}
+use Rattle.olr_records.specs.ReplyText.{reply_line, accepted_text, first_line, middle_line, last_line, offset_lines}
 use Rattle.olr_records.specs.ReplyText.{reference_lines}
 use Rattle.olr_records.proofs.TextLemmas.{reference-text}
 use Rattle.olr_records.proofs.reply.push_reference.Goals as goal
@@ -35,4 +35,4 @@ returns c =
     (((((t ++ reply_line (codes "ok" ∷ decimal n ∷ [])) ++ first_line i.first) ++ concat (map middle_line ps))
     ++ last_line i.last) ++ concat positive) ++ concat negative) same
     ∙ reference-text t r n count
-    ∙ ap (λ (q : Reference). t ++ accepted (reference_lines q)) c.reference.view_is
+    ∙ ap (λ (q : Reference). t ++ accepted_text (reference_lines q)) c.reference.view_is

@@ -12,7 +12,7 @@ overflow_cast-look g c =
 
 pub returns-clause-work : goal.returns-clause-work
 returns-clause-work g c =
-    let counts = c.settled.ensures _ _ _ _ c.in_ok-tested.ensures.search in
+    let counts = c.settled_count.ensures _ _ _ _ c.in_ok-tested.ensures.search in
     one_look (g.M.MapRead.map c.args.course.now.map.now) c.args.course.now.lines.now c.args.i c.in_ok-tested.tested.last
-    _ c.settled.result c.args.work.now _
+    _ c.settled_count.result c.args.work.now _
     c.in_ok-tested.ensures.last c.in_ok-tested.ensures.no_farther counts refl (omega arith) (omega arith)

@@ -15,7 +15,7 @@ chain_after-requires-clause-known g c =
       c.deref.ensures.value,
       c.in_ok-extend_from_slice.ensures.items,
       c.in_ok-lines.ensures.items,
-      c.taken-front_len.ensures.lines,
+      c.taken_part-front_len.ensures.lines,
       c.lines-2.ensures.value,
     ) (front_last M P c.lines.ensures.path c.requires b c.in_ok-before.before.valid before_longest before_valid)
 
@@ -32,7 +32,7 @@ note_ends-requires-clause-lines g c =
       c.deref.ensures.value,
       c.in_ok-extend_from_slice.ensures.items,
       c.in_ok-lines.ensures.items,
-      c.taken-front_len.ensures.lines,
+      c.taken_part-front_len.ensures.lines,
       c.lines-2.ensures.value,
     ) at c.in_ok-after.ensures.longest in
     let after_valid =
@@ -40,7 +40,7 @@ note_ends-requires-clause-lines g c =
       c.deref.ensures.value,
       c.in_ok-extend_from_slice.ensures.items,
       c.in_ok-lines.ensures.items,
-      c.taken-front_len.ensures.lines,
+      c.taken_part-front_len.ensures.lines,
       c.lines-2.ensures.value,
     ) at c.in_ok-after.ensures.valid in
     rw (
@@ -48,9 +48,9 @@ note_ends-requires-clause-lines g c =
       c.in_ok-extend_from_slice-2.ensures.items,
       c.in_ok-extend_from_slice.ensures.items,
       c.in_ok-lines.ensures.items,
-      c.taken-front_len.ensures.lines,
+      c.taken_part-front_len.ensures.lines,
       c.lines-2.ensures.value,
-      c.taken-back_len.ensures.lines,
+      c.taken_part-back_len.ensures.lines,
     ) (All-from_each (Known M) _
     (whole_known M P c.lines.ensures.path c.requires b c.in_ok-before.before.valid before_longest before_valid a
     c.in_ok-after.after.valid after_longest after_valid))
@@ -79,7 +79,7 @@ note_ends-requires-clause-after g c =
       c.deref.ensures.value,
       c.in_ok-extend_from_slice.ensures.items,
       c.in_ok-lines.ensures.items,
-      c.taken-front_len.ensures.lines,
+      c.taken_part-front_len.ensures.lines,
       c.lines-2.ensures.value,
     ) at c.in_ok-after.ensures.longest in
     let after_valid =
@@ -87,7 +87,7 @@ note_ends-requires-clause-after g c =
       c.deref.ensures.value,
       c.in_ok-extend_from_slice.ensures.items,
       c.in_ok-lines.ensures.items,
-      c.taken-front_len.ensures.lines,
+      c.taken_part-front_len.ensures.lines,
       c.lines-2.ensures.value,
     ) at c.in_ok-after.ensures.valid in
     rw c.deref-4.ensures.value
@@ -108,7 +108,7 @@ returns-clause-ok g c =
       c.deref.ensures.value,
       c.in_ok-extend_from_slice.ensures.items,
       c.in_ok-lines.ensures.items,
-      c.taken-front_len.ensures.lines,
+      c.taken_part-front_len.ensures.lines,
       c.lines-2.ensures.value,
     ) at c.in_ok-after.ensures.longest in
     let after_valid =
@@ -116,7 +116,7 @@ returns-clause-ok g c =
       c.deref.ensures.value,
       c.in_ok-extend_from_slice.ensures.items,
       c.in_ok-lines.ensures.items,
-      c.taken-front_len.ensures.lines,
+      c.taken_part-front_len.ensures.lines,
       c.lines-2.ensures.value,
     ) at c.in_ok-after.ensures.valid in
     let lines : c.extend_from_slice-2.new.self.items ≡ whole M P c.lines.ensures.path c.requires b
@@ -125,15 +125,15 @@ returns-clause-ok g c =
       c.in_ok-extend_from_slice-2.ensures.items,
       c.in_ok-extend_from_slice.ensures.items,
       c.in_ok-lines.ensures.items,
-      c.taken-front_len.ensures.lines,
+      c.taken_part-front_len.ensures.lines,
       c.lines-2.ensures.value,
-      c.taken-back_len.ensures.lines,
+      c.taken_part-back_len.ensures.lines,
     ) refl in
     let pos : c.from.result + c.from-2.result ≡ P.pos + cond c.in_ok-before.before.valid (dm_of M b) 0 =
-    rw (c.from.ensures, c.pos.ensures, c.from-2.ensures, c.taken-front_len.ensures.len, c.in_ok-before.ensures.len)
+    rw (c.from.ensures, c.pos.ensures, c.from-2.ensures, c.taken_part-front_len.ensures.len, c.in_ok-before.ensures.len)
     refl in
     let neg : c.from-3.result + c.from-4.result ≡ P.neg + cond c.in_ok-after.after.valid (dm_of M a) 0 =
-    rw (c.from-3.ensures, c.neg.ensures, c.from-4.ensures, c.taken-back_len.ensures.len, c.in_ok-after.ensures.len)
+    rw (c.from-3.ensures, c.neg.ensures, c.from-4.ensures, c.taken_part-back_len.ensures.len, c.in_ok-after.ensures.len)
     refl in
     let noted =
     rw (c.deref-2.ensures.value, c.deref-3.ensures.value, c.deref-4.ensures.value) at c.in_ok-note_ends.ensures.ok in

@@ -2,7 +2,7 @@ use Rattle.std.proofs.Common.{◌≡◌, ◌<◌, ◌∷◌, [], ℕ, List, None
 use Rattle.std.specs.List.Sorted.{IsStrictlyIncreasing}
 use Rattle.std.proofs.lemmas.List.{length-map}
 use Rattle.olr_route.specs.Labels.{Labels, AreLabels}
-use Rattle.olr_route.specs.Listed.{IsTold, listed}
+use Rattle.olr_route.specs.Listed.{IsTold, listed_labels}
 use Rattle.olr_route.specs.Notes.{numbers_of}
 use Rattle.olr_route.specs.declared.found.Reached.{Reached}
 use Rattle.olr_route.specs.declared.distances.Direction.TheVariants.{Along}
@@ -45,5 +45,5 @@ returns-clause-labels g c =
     let same : numbers_of rs ≡ c.in_ok-nodes.nodes.items =
     ap numbers_of (sym c.deref-2.ensures.value) ∙ sym c.in_ok-nodes.ensures in
     subst (λ (x : Labels). AreLabels M x)
-    (ap (λ (n : ℕ). listed c.args.source n (numbers_of rs) labels) c.in_ok-settled.ensures.limit
-    ∙ ap (λ (ks : List ℕ). listed c.args.source c.args.limit_dm ks labels) same ∙ sym c.new-labels.ensures) all
+    (ap (λ (n : ℕ). listed_labels c.args.source n (numbers_of rs) labels) c.in_ok-settled.ensures.limit
+    ∙ ap (λ (ks : List ℕ). listed_labels c.args.source c.args.limit_dm ks labels) same ∙ sym c.new-labels.ensures) all

@@ -1,6 +1,6 @@
 use Rattle.std.proofs.Common.{◌≡◌, true, false, subst, sym, ap, ◌∙◌}
 use Rattle.olr_spec.specs.Map.{Line, has_node, has_line}
-use Rattle.olr_map.specs.ByNumbers.{found}
+use Rattle.olr_map.specs.ByNumbers.{slot_by}
 use Rattle.olr_map.specs.Changes.{tables_map}
 use Rattle.olr_map.proofs.Undoing.{record_of}
 use Rattle.olr_map.proofs.Reading.{got_line, start_found, no_line_there}
@@ -34,11 +34,11 @@ returns-clause-from c =
     let t = c.args.self.now in
     let was = ap (held t.lines) (sym c.number.ensures.same) ∙ sym c.in-Some.ensures in
     let is = record_of (tables_map t) c.args.id c.in-Some.line.now (got_line t c.args.id ∙ was) in
-    ap (λ (l : Line). found t.index l.from) (is ∙ sym c.line.view_is) ∙ c.slot.ensures
+    ap (λ (l : Line). slot_by t.index l.from) (is ∙ sym c.line.view_is) ∙ c.slot.ensures
 
 pub returns-clause-to : goal.returns-clause-to
 returns-clause-to c =
     let t = c.args.self.now in
     let was = ap (held t.lines) (sym c.number.ensures.same) ∙ sym c.in-Some.ensures in
     let is = record_of (tables_map t) c.args.id c.in-Some.line.now (got_line t c.args.id ∙ was) in
-    ap (λ (l : Line). found t.index l.to) (is ∙ sym c.line.view_is) ∙ c.slot-in-Some.ensures
+    ap (λ (l : Line). slot_by t.index l.to) (is ∙ sym c.line.view_is) ∙ c.slot-in-Some.ensures

@@ -1,5 +1,5 @@
 use Rattle.std.proofs.Common.{◌≡◌, ◌==◌, ℕ, ◌<◌, cond, Some, subst, ap, ◌∙◌, arith}
-use Rattle.olr_map.specs.ByNumbers.{found}
+use Rattle.olr_map.specs.ByNumbers.{slot_by}
 use Rattle.olr_map.specs.Changes.{spare_at}
 use Rattle.olr_map.specs.Linked.{spare_links, IsLinked}
 use Rattle.olr_map.specs.declared.slots.Side.TheVariants.{Out, In}
@@ -13,7 +13,7 @@ pub link-requires : goal.link-requires
 link-requires c =
     let t = c.args.self.now in
     let l = c.args.line in
-    let here : found t.index l.from ≡ Some c.args.from = c.requires.begin in
+    let here : slot_by t.index l.from ≡ Some c.args.from = c.requires.begin in
     let e = first_entry t l.from c.args.from here in
     let was = first_links t l.from c.args.from here Out e.0 e.1 in
     let spare = list_spare t Out l.from e.0.outs was in
@@ -30,8 +30,8 @@ pub link-requires-2 : goal.link-requires-2
 link-requires-2 c =
     let t = c.args.self.now in
     let l = c.args.line in
-    let here : found t.index l.from ≡ Some c.args.from = c.requires.begin in
-    let there : found t.index l.to ≡ Some c.args.to = c.requires.end in
+    let here : slot_by t.index l.from ≡ Some c.args.from = c.requires.begin in
+    let there : slot_by t.index l.to ≡ Some c.args.to = c.requires.end in
     let w = c.link.ensures.turns in
     let f = second_entry t l.from c.args.from here c.link.new.self w.0 w.1 w.2 l.to c.args.to there in
     let was = second_links t l.from c.args.from here c.link.new.self w.0 w.1 w.2 l.to c.args.to there f.0 f.1 in
@@ -56,8 +56,8 @@ invariant_of-self c =
     let l = c.args.line in
     let p = c.args.from in
     let q = c.args.to in
-    let here : found t.index l.from ≡ Some p = c.requires.begin in
-    let there : found t.index l.to ≡ Some q = c.requires.end in
+    let here : slot_by t.index l.from ≡ Some p = c.requires.begin in
+    let there : slot_by t.index l.to ≡ Some q = c.requires.end in
     let w = c.link.ensures.turns in
     let u = c.link-2.ensures.turns in
     let r = both_turned t l.from p here c.link.new.self w.0 w.1 w.2 l.to q there c.link-2.new.self u.0 u.1 u.2 in
@@ -77,8 +77,8 @@ returns c =
     let l = c.args.line in
     let p = c.args.from in
     let q = c.args.to in
-    let here : found t.index l.from ≡ Some p = c.requires.begin in
-    let there : found t.index l.to ≡ Some q = c.requires.end in
+    let here : slot_by t.index l.from ≡ Some p = c.requires.begin in
+    let there : slot_by t.index l.to ≡ Some q = c.requires.end in
     let w = c.link.ensures.turns in
     let u = c.link-2.ensures.turns in
     let r = both_turned t l.from p here c.link.new.self w.0 w.1 w.2 l.to q there c.link-2.new.self u.0 u.1 u.2 in

@@ -1,5 +1,5 @@
 use Rattle.std.proofs.Common.{◌≡◌, ◌==◌, ℕ, cond, Some, subst, ap, ◌∙◌}
-use Rattle.olr_map.specs.ByNumbers.{found}
+use Rattle.olr_map.specs.ByNumbers.{slot_by}
 use Rattle.olr_map.specs.Columns.{node_slots}
 use Rattle.olr_map.proofs.ColumnLemmas.{node_fits}
 use Rattle.olr_map.proofs.NodeChanges.{free_number, put_node_kept, put_node_made}
@@ -8,7 +8,7 @@ use Rattle.olr_map.proofs.tables.Tables.put_node.Goals as goal
 pub put-requires-clause-absent : goal.put-requires-clause-absent
 put-requires-clause-absent c =
     let t = c.args.self.now in
-    ap (found t.index) c.number.ensures.same
+    ap (slot_by t.index) c.number.ensures.same
     ∙ free_number t c.args.id c.args.place c.args.outs c.args.ins c.requires.can
 
 pub put-requires-clause-fits : goal.put-requires-clause-fits
@@ -20,7 +20,7 @@ invariant_of-self c =
     let t = c.args.self.now in
     let b' = c.put.new.self in
     let put =
-    subst (λ (n : ℕ). (k : ℕ) → found b' k ≡ cond (n == k) (Some c.put-slot.result) (found t.index k))
+    subst (λ (n : ℕ). (k : ℕ) → slot_by b' k ≡ cond (n == k) (Some c.put-slot.result) (slot_by t.index k))
     c.number.ensures.same c.put.ensures.put in
     record {
       kept =
@@ -36,7 +36,7 @@ returns c =
     let t = c.args.self.now in
     let b' = c.put.new.self in
     let put =
-    subst (λ (n : ℕ). (k : ℕ) → found b' k ≡ cond (n == k) (Some c.put-slot.result) (found t.index k))
+    subst (λ (n : ℕ). (k : ℕ) → slot_by b' k ≡ cond (n == k) (Some c.put-slot.result) (slot_by t.index k))
     c.number.ensures.same c.put.ensures.put in
     put_node_made t b' c.put-slot.new.self c.put-slot.result c.args.id c.args.place c.args.outs c.args.ins
     c.in_spare-outs.result c.in_spare-ins.result

@@ -1,5 +1,5 @@
 use Rattle.std.proofs.Common.{◌≡◌, ◌==◌, ℕ, cond, Some, is_some, subst, sym, ap, ◌∙◌}
-use Rattle.olr_map.specs.ByNumbers.{found}
+use Rattle.olr_map.specs.ByNumbers.{slot_by}
 use Rattle.olr_map.specs.Linked.{IsReset}
 use Rattle.olr_map.proofs.Numbering.{same_some}
 use Rattle.olr_map.proofs.Reading.{line_found}
@@ -41,8 +41,8 @@ invariant_of-self c =
     let r = both_relinked t _ _ _ s c.set_end.new.self w.0 w.1 w.2 c.set_end-2.new.self u.0 u.1 u.2 in
     let ko = subst (λ e. IsReset w.0.outs w.1 x e) c.far_ends-begins.ensures.ends w.3 in
     let ki = subst (λ e. IsReset u.0.ins u.1 x e) c.far_ends-begins.ensures.begins u.3 in
-    let here = ap (found t.index) c.requires.can.whole.0 ∙ c.requires.begin in
-    let there = ap (found t.index) c.requires.can.whole.1 ∙ c.requires.end in
+    let here = ap (slot_by t.index) c.requires.can.whole.0 ∙ c.requires.begin in
+    let there = ap (slot_by t.index) c.requires.can.whole.1 ∙ c.requires.end in
     let put =
     subst (λ (n : ℕ). (k : ℕ) → held c.replace.new.self k ≡ cond (n == k) (Some c.args.line) (held t.lines k))
     c.number.ensures.same c.replace.ensures.put in
@@ -62,8 +62,8 @@ returns c =
     let r = both_relinked t _ _ _ s c.set_end.new.self w.0 w.1 w.2 c.set_end-2.new.self u.0 u.1 u.2 in
     let ko = subst (λ e. IsReset w.0.outs w.1 x e) c.far_ends-begins.ensures.ends w.3 in
     let ki = subst (λ e. IsReset u.0.ins u.1 x e) c.far_ends-begins.ensures.begins u.3 in
-    let here = ap (found t.index) c.requires.can.whole.0 ∙ c.requires.begin in
-    let there = ap (found t.index) c.requires.can.whole.1 ∙ c.requires.end in
+    let here = ap (slot_by t.index) c.requires.can.whole.0 ∙ c.requires.begin in
+    let there = ap (slot_by t.index) c.requires.can.whole.1 ∙ c.requires.end in
     let put =
     subst (λ (n : ℕ). (k : ℕ) → held c.replace.new.self k ≡ cond (n == k) (Some c.args.line) (held t.lines k))
     c.number.ensures.same c.replace.ensures.put in

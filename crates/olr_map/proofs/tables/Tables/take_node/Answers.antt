@@ -1,5 +1,5 @@
 use Rattle.std.proofs.Common.{◌≡◌, ◌==◌, ℕ, cond, None, is_some, subst, sym, ap, ◌∙◌}
-use Rattle.olr_map.specs.ByNumbers.{found}
+use Rattle.olr_map.specs.ByNumbers.{slot_by}
 use Rattle.olr_map.proofs.NodeChanges.{take_node_kept, take_node_made, slot_taken, go_no_outs, go_no_ins}
 use Rattle.olr_map.proofs.Reading.{entry_at}
 use Rattle.olr_map.proofs.tables.Tables.take_node.Goals as goal
@@ -8,12 +8,12 @@ pub take-slot-requires : goal.take-slot-requires
 take-slot-requires c =
     let t = c.args.self.now in
     let s = slot_taken t c.args.id c.requires in
-    ap (λ o. is_some o) (ap (found t.index) c.number.ensures.same ∙ s.1)
+    ap (λ o. is_some o) (ap (slot_by t.index) c.number.ensures.same ∙ s.1)
 
 pub take-entry-requires : goal.take-entry-requires
 take-entry-requires c =
     let t = c.args.self.now in
-    let here = ap (found t.index) (sym c.number.ensures.same) ∙ c.take-slot.ensures.was in
+    let here = ap (slot_by t.index) (sym c.number.ensures.same) ∙ c.take-slot.ensures.was in
     let x = entry_at t c.args.id c.take-slot.result here in
     ap (λ o. is_some o) x.1
 
@@ -21,9 +21,9 @@ pub into_spare-outs-requires : goal.into_spare-outs-requires
 into_spare-outs-requires c =
     let t = c.args.self.now in
     let b' = c.take-slot.new.self in
-    let here = ap (found t.index) (sym c.number.ensures.same) ∙ c.take-slot.ensures.was in
+    let here = ap (slot_by t.index) (sym c.number.ensures.same) ∙ c.take-slot.ensures.was in
     let taken =
-    subst (λ (n : ℕ). (k : ℕ) → found b' k ≡ cond (n == k) None (found t.index k)) c.number.ensures.same
+    subst (λ (n : ℕ). (k : ℕ) → slot_by b' k ≡ cond (n == k) None (slot_by t.index k)) c.number.ensures.same
     c.take-slot.ensures.taken in
     go_no_outs t b' c.take-entry.new.self c.take-slot.result c.args.id c.take-entry.result c.take-entry.ensures.goes
     here taken c.requires
@@ -32,9 +32,9 @@ pub into_spare-ins-requires : goal.into_spare-ins-requires
 into_spare-ins-requires c =
     let t = c.args.self.now in
     let b' = c.take-slot.new.self in
-    let here = ap (found t.index) (sym c.number.ensures.same) ∙ c.take-slot.ensures.was in
+    let here = ap (slot_by t.index) (sym c.number.ensures.same) ∙ c.take-slot.ensures.was in
     let taken =
-    subst (λ (n : ℕ). (k : ℕ) → found b' k ≡ cond (n == k) None (found t.index k)) c.number.ensures.same
+    subst (λ (n : ℕ). (k : ℕ) → slot_by b' k ≡ cond (n == k) None (slot_by t.index k)) c.number.ensures.same
     c.take-slot.ensures.taken in
     go_no_ins t b' c.take-entry.new.self c.take-slot.result c.args.id c.take-entry.result c.take-entry.ensures.goes here
     taken c.requires
@@ -43,9 +43,9 @@ pub invariant_of-self : goal.invariant_of-self
 invariant_of-self c =
     let t = c.args.self.now in
     let b' = c.take-slot.new.self in
-    let here = ap (found t.index) (sym c.number.ensures.same) ∙ c.take-slot.ensures.was in
+    let here = ap (slot_by t.index) (sym c.number.ensures.same) ∙ c.take-slot.ensures.was in
     let taken =
-    subst (λ (n : ℕ). (k : ℕ) → found b' k ≡ cond (n == k) None (found t.index k)) c.number.ensures.same
+    subst (λ (n : ℕ). (k : ℕ) → slot_by b' k ≡ cond (n == k) None (slot_by t.index k)) c.number.ensures.same
     c.take-slot.ensures.taken in
     record {
       kept = take_node_kept t b' c.take-entry.new.self c.take-slot.result c.args.id c.take-entry.result
@@ -56,9 +56,9 @@ pub returns-clause-made : goal.returns-clause-made
 returns-clause-made c =
     let t = c.args.self.now in
     let b' = c.take-slot.new.self in
-    let here = ap (found t.index) (sym c.number.ensures.same) ∙ c.take-slot.ensures.was in
+    let here = ap (slot_by t.index) (sym c.number.ensures.same) ∙ c.take-slot.ensures.was in
     let taken =
-    subst (λ (n : ℕ). (k : ℕ) → found b' k ≡ cond (n == k) None (found t.index k)) c.number.ensures.same
+    subst (λ (n : ℕ). (k : ℕ) → slot_by b' k ≡ cond (n == k) None (slot_by t.index k)) c.number.ensures.same
     c.take-slot.ensures.taken in
     take_node_made t b' c.take-entry.new.self c.take-slot.result c.args.id c.take-entry.result c.take-entry.ensures.goes
     here taken c.requires _ c.take-entry.ensures.room c.take-slot.ensures.spare

@@ -2,7 +2,7 @@ use Rattle.std.proofs.Common.{◌∙◌, ap, sym, Some}
 use Rattle.olr_paths.proofs.NamedEntries.{published_absent, published_of}
 use Rattle.olr_paths.specs.Items.{made_of}
 use Rattle.std.specs.Prelude.{option_map}
-use Rattle.olr_paths.proofs.listing.Listing.published.Goals as goal
+use Rattle.olr_paths.proofs.listing.Listing.published_of.Goals as goal
 
 pub returns-in_err-get : goal.returns-in_err-get
 returns-in_err-get c =

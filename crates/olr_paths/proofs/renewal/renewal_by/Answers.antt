@@ -8,7 +8,7 @@ use Rattle.olr_paths.specs.Showing.{shown_items, shown_item}
 use Rattle.olr_paths.proofs.AskedLemmas.{listed_at, made_if}
 use Rattle.olr_paths.proofs.Through.{SoFar, Whole, so_far_none, so_far_step, whole}
 use Rattle.olr_paths.proofs.Covering.{passed_none, passed_over, passed_to, to_candidate, to_end, past_end}
-use Rattle.olr_paths.proofs.renewal.made_by.Goals as goal
+use Rattle.olr_paths.proofs.renewal.renewal_by.Goals as goal
 
 pub decide-fate-requires-clause-asked : goal.decide-fate-requires-clause-asked
 decide-fate-requires-clause-asked g c =

@@ -4,26 +4,26 @@ use Rattle.olr_route.specs.Notes.{numbers_of}
 use Rattle.olr_route.specs.declared.found.Reached.{Reached}
 use Rattle.olr_route.specs.Searches.{LiesWithin}
 use Rattle.olr_route.proofs.SearchLemmas.{near_listed, listed_reached, listed_near}
-use Rattle.olr_route.proofs.distances.Search.reached.Goals as goal
+use Rattle.olr_route.proofs.distances.Search.reached_nodes.Goals as goal
 
 pub returns-clause-near : goal.returns-clause-near
 returns-clause-near c = λ M place_in direction from v h near.
-    subst (λ (xs : List Reached). Contains xs (record { node = v; place = place_in v })) (sym c.reached.ensures)
+    subst (λ (xs : List Reached). Contains xs (record { node = v; place = place_in v })) (sym c.reached_nodes.ensures)
     (near_listed M place_in direction from c.args.self.now h v near)
 
 pub returns-clause-once : goal.returns-clause-once
 returns-clause-once c =
     λ M place_in direction from h. subst (λ (xs : List Reached). IsDistinct ◌==◌ (numbers_of xs))
-    (sym c.reached.ensures) h.under_way.labelled.apart
+    (sym c.reached_nodes.ensures) h.under_way.labelled.apart
 
 pub returns-clause-reached : goal.returns-clause-reached
 returns-clause-reached c = λ M place_in direction from r h there.
     listed_reached M place_in direction from c.args.self.now h r
-    (subst (λ (xs : List Reached). Contains xs r) c.reached.ensures there)
+    (subst (λ (xs : List Reached). Contains xs r) c.reached_nodes.ensures there)
 
 pub returns-clause-exactly : goal.returns-clause-exactly
 returns-clause-exactly c = λ M place_in direction from r h whole there.
-    let listed = subst (λ (xs : List Reached). Contains xs r) c.reached.ensures there in
+    let listed = subst (λ (xs : List Reached). Contains xs r) c.reached_nodes.ensures there in
     let label = (h.under_way.labelled.listed r listed).label in
     subst (λ (n : ℕ). LiesWithin M direction from n r.node) whole
     (listed_near M place_in direction from c.args.self.now h r listed (omega arith))

@@ -1,6 +1,6 @@
 use Rattle.std.proofs.Common.{◌⊎◌, Contains, inl, inr, arith}
 use Rattle.olr_map.proofs.Sizes.{rising_within}
-use Rattle.olr_route.proofs.labels.noted.Goals as goal
+use Rattle.olr_route.proofs.labels.note_labels.Goals as goal
 
 pub returns-clause-footprint : goal.returns-clause-footprint
 returns-clause-footprint c = λ v. (

@@ -12,10 +12,10 @@ use Rattle.olr_spec.proofs.OptionLemmas.{none_of}
 use Rattle.olr_paths.proofs.Covering.{past_end}
 use Rattle.olr_paths.proofs.AskedLemmas.{asked_again}
 use Rattle.olr_paths.proofs.Through.{whole, so_far_all}
-use Rattle.olr_paths.proofs.renewal.made.Goals as goal
+use Rattle.olr_paths.proofs.renewal.renewal_of.Goals as goal
 
-pub made_by-requires-clause-asked : goal.made_by-requires-clause-asked
-made_by-requires-clause-asked g c =
+pub renewal_by-requires-clause-asked : goal.renewal_by-requires-clause-asked
+renewal_by-requires-clause-asked g c =
     asked_again (g.M.MapRead.map c.args.map.now) (g.M.MapRead.place_in c.args.map.now) c.args.touched.now
     c.ask.new.searches (record c.ask.new.searches { look = c.replace-look.new.dest }) (shown_items c.args.laid) refl
     refl c.in_ok-asked.ensures.asked

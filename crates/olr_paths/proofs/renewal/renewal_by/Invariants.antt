@@ -4,7 +4,7 @@ use Rattle.olr_paths.specs.Showing.{shown_items}
 use Rattle.olr_paths.specs.Touching.{nodes_of, lines_of, changed_of}
 use Rattle.olr_paths.proofs.Through.{SoFar}
 use Rattle.olr_paths.proofs.Covering.{Passed}
-use Rattle.olr_paths.proofs.renewal.made_by.Given as goal
+use Rattle.olr_paths.proofs.renewal.renewal_by.Given as goal
 
 -- the paths before the next position are renewed, told and counted, and the candidates so far are among them
 abbrev pub invariant-loop-candidate : goal.invariant-loop-candidate

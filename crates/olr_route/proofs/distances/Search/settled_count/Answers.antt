@@ -1,5 +1,5 @@
 use Rattle.olr_route.proofs.CountLemmas.{counted}
-use Rattle.olr_route.proofs.distances.Search.settled.Goals as goal
+use Rattle.olr_route.proofs.distances.Search.settled_count.Goals as goal
 
 pub returns : goal.returns
 returns c =
