@@ -372,8 +372,16 @@ fn distances_in_either_direction(rt: HostRuntime) {
             (5, 1, 2, 15),
         ],
     );
-    same!(&rt; distances(&rt, rt.alloc(), &ring, Direction::Along, &[(1, 0)], 100), [Some(0), Some(10), Some(30), None]);
-    same!(&rt; distances(&rt, rt.alloc(), &ring, Direction::Against, &[(1, 0)], 100), [Some(0), Some(50), Some(30), None]);
+    same!(
+        &rt;
+        distances(&rt, rt.alloc(), &ring, Direction::Along, &[(1, 0)], 100),
+        [Some(0), Some(10), Some(30), None]
+    );
+    same!(
+        &rt;
+        distances(&rt, rt.alloc(), &ring, Direction::Against, &[(1, 0)], 100),
+        [Some(0), Some(50), Some(30), None]
+    );
 }
 
 /// What a search tells at the nodes from 1 on, and how many it settled.
