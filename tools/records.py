@@ -1,0 +1,160 @@
+"""Reads files of records: the map and the paths to which the accepted ones lead, and what is published of the paths.
+
+    state = read_state(["map.csv", "paths.csv"])
+    for name, path in state.paths.items():
+        print(name, path.lines, state.published[name])
+
+The program itself carries the records out, so a record counts exactly where it is accepted. Coordinates are whole numbers
+of 10^-7 degree, lengths and offsets decimetres, as in records.
+"""
+import csv
+import io
+import os
+import shutil
+import subprocess
+import tempfile
+from typing import NamedTuple
+
+from replies import read_reply
+
+UNITS = 10_000_000
+BESIDE = os.path.join(os.path.dirname(os.path.dirname(os.path.realpath(__file__))), "crates/olr_keep/out/olr_keep")
+
+
+class Line(NamedTuple):
+    """A line of the map; `shape` has a distance from its start and a coordinate for each point between its ends."""
+
+    start: int
+    end: int
+    frc: int
+    fow: int
+    length: int
+    shape: tuple
+
+
+class Path(NamedTuple):
+    """A registered path: its two offsets, and its lines in the order of travel."""
+
+    positive: int
+    negative: int
+    lines: tuple
+
+
+class RecordsError(Exception):
+    """A file that can't be read as records, or a program that can't be run; its text is for the user."""
+
+
+class State:
+    """Nodes as (lon, lat) and lines by number, paths by name, what is published by name, and the rejected records."""
+
+    def __init__(self):
+        self.nodes, self.lines, self.paths, self.published, self.rejected, self.held = {}, {}, {}, {}, [], None
+
+    def take(self, fields):
+        """Takes an accepted record: at once, or with its batch."""
+        word = fields[0]
+        if word == "begin":
+            self.held = []
+        elif word in ("commit", "abort"):
+            held, self.held = self.held, None
+            for it in held if word == "commit" else ():
+                self.change(*it)
+        elif self.held is not None and word not in ("show", "report", "explain"):
+            self.held.append(fields)
+        else:
+            self.change(*fields)
+
+    def change(self, word, *fields):
+        """Carries out one edit of the map or of the paths. A question changes nothing."""
+        if word in ("node", "move"):
+            self.nodes[int(fields[0])] = coordinate(*fields[1:3])
+        elif word == "line":
+            self.lines[int(fields[0])] = line_of(fields[1:3], fields[3:])
+        elif word == "set-line":
+            old = self.lines[int(fields[0])]
+            self.lines[int(fields[0])] = line_of((old.start, old.end), fields[1:])
+        elif word in ("path", "repath"):
+            self.paths[fields[0]] = Path(int(fields[1]), int(fields[2]), tuple(map(int, fields[3:])))
+        elif word == "drop-path":
+            del self.paths[fields[0]]
+        elif word in ("drop-node", "drop-line"):
+            del {"drop-node": self.nodes, "drop-line": self.lines}[word][int(fields[0])]
+
+
+def units(text):
+    """Degrees as a whole number of 10^-7 degree."""
+    whole, _, part = text.lstrip("-").partition(".")
+    value = int(whole) * UNITS + int(part.ljust(7, "0") or 0)
+    return -value if text.startswith("-") else value
+
+
+def coordinate(lon, lat):
+    """A longitude and a latitude in whole units."""
+    return units(lon), units(lat)
+
+
+def line_of(ends, fields):
+    """The line between these ends with the class, form, length and shape of a record's fields."""
+    frc, fow, length, *rest = fields
+    shape = tuple((int(at), *coordinate(lon, lat)) for at, lon, lat in zip(rest[::3], rest[1::3], rest[2::3]))
+    return Line(int(ends[0]), int(ends[1]), int(frc), int(fow), int(length), shape)
+
+
+def program_name():
+    """The program: that of the environment's OLR_KEEP, else the one built in this repository, else the installed one."""
+    found = os.environ.get("OLR_KEEP") or (BESIDE if os.path.exists(BESIDE) else shutil.which("olr-keep"))
+    if not found:
+        raise RecordsError("olr-keep is neither built here nor installed; OLR_KEEP can name it")
+    return found
+
+
+def joined(files):
+    """One temporary file with the text of all files, each ended by a line end."""
+    whole = tempfile.TemporaryFile()
+    for name in files:
+        try:
+            with open(name, "rb") as file:
+                shutil.copyfileobj(file, whole)
+        except OSError as error:
+            raise RecordsError(f"{name}: {error.strerror}") from None
+        whole.write(b"\n")
+    whole.seek(0)
+    return whole
+
+
+def read_state(files, program=None):
+    """The state after the records of these files, in this order. An open batch at the end is left out."""
+    state = State()
+    with joined(files) as records, joined(files) as copy:
+        try:
+            process = subprocess.Popen([program or program_name()], stdin=copy, stdout=subprocess.PIPE, encoding="utf-8")
+        except OSError as error:
+            raise RecordsError(f"{program or program_name()}: {error.strerror}") from None
+        text = io.TextIOWrapper(records, encoding="utf-8", errors="surrogateescape", newline="")
+        with process:
+            try:
+                for fields in filter(None, csv.reader(text)):
+                    follow(state, fields, read_reply(process.stdout))
+            except (EOFError, csv.Error) as error:
+                process.kill()
+                raise RecordsError(f"{', '.join(files)}: {error}") from None
+    if process.returncode not in (0, 1):
+        raise RecordsError(f"olr-keep ended with status {process.returncode}")
+    return state
+
+
+def follow(state, fields, reply):
+    """Takes one record and its reply."""
+    if reply is None:
+        raise EOFError("olr-keep ended before the last record")
+    if not reply.accepted:
+        state.rejected.append((fields, reply))
+        return
+    state.take(fields)
+    if fields[0] == "drop-path" and reply.word == "ok":
+        state.published.pop(fields[1], None)
+    if fields[0] != "explain":
+        for name, *answer in (entry.split(",") for entry in reply.lines):
+            state.published[name] = answer
+    if fields[0] == "commit":
+        state.published = {name: state.published[name] for name in state.paths}
