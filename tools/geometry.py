@@ -1,0 +1,217 @@
+"""Geometry of maps, paths and strings, for people: degrees and metres, courses, offsets, location reference points.
+
+Places of records are whole numbers of 10^-7 degree, as in records.py; a course is a list of (decimetres from the start,
+lon, lat) in these. Places of location reference points are degrees. Strings are read by the program (`explain`), and
+turned to degrees and metres by the White Paper's binary format.
+"""
+import math
+import os
+from typing import NamedTuple, Optional
+
+from records import UNITS, RecordsError, program_name
+from replies import Keep
+
+EARTH = 6371008.8  # mean radius, in metres
+SECTOR = 11.25  # degrees of a bearing's sector
+STEP = 58.6  # metres of a step of the distance to the next point
+LIMIT = 150000  # decimetres by which an end of a path is moved out at most
+FORMS = ("undefined", "motorway", "multiple carriageway", "single carriageway", "roundabout", "traffic square")
+FORMS += ("slip road", "other")
+COMPASS = ("N", "NNE", "NE", "ENE", "E", "ESE", "SE", "SSE", "S", "SSW", "SW", "WSW", "W", "WNW", "NW", "NNW")
+CAUSES = {
+    "1": "its number of bytes is that of no line location",
+    "2": "its first byte is not the status byte of version 3 with attributes",
+    "3": "its offset flags ask for another number of bytes",
+    "4": "a reserved bit is set",
+    "6": "it is not base64 with padding",
+}
+
+
+class Point(NamedTuple):
+    """A location reference point in degrees; the last one has no lowest class (LFRCNP) and no distance to a next one."""
+
+    lon: float
+    lat: float
+    frc: int
+    fow: int
+    sector: int
+    lfrcnp: Optional[int] = None
+    dnp: Optional[int] = None
+
+    @property
+    def bearing(self):
+        """The middle of the bearing's sector, in degrees clockwise from north."""
+        return (self.sector + 0.5) * SECTOR
+
+    @property
+    def compass(self):
+        """The nearest of the sixteen winds of the compass."""
+        return COMPASS[round(self.bearing / 22.5) % 16]
+
+
+class Reference(NamedTuple):
+    """What a string says: its points, and its offsets in 256ths of the first and of the last stretch."""
+
+    points: tuple
+    positive: Optional[int]
+    negative: Optional[int]
+
+
+def absolute(steps):
+    """Degrees of a coordinate in 24-bit steps."""
+    return (steps - (steps > 0) / 2 + (steps < 0) / 2) * 360 / 2**24
+
+
+def reference_of(lines):
+    """The reference of a reply to `explain`, by the White Paper's formulas for absolute and relative coordinates."""
+    points, offsets = [], {}
+    for word, *fields in (line.split(",") for line in lines):
+        x, *more = map(int, fields)
+        if not more:
+            offsets[word] = x
+            continue
+        y, frc, fow, *more = more
+        lon, lat = (absolute(x), absolute(y)) if word == "first" else (points[-1].lon + x * 1e-5, points[-1].lat + y * 1e-5)
+        lfrcnp, sector, dnp = (None, *more, None) if word == "last" else more
+        points.append(Point(lon, lat, frc, fow, sector, lfrcnp, dnp))
+    return Reference(tuple(points), offsets.get("positive"), offsets.get("negative"))
+
+
+def explained(texts, program=None):
+    """Of each string its reference, or words that say why it is none. One run of the program reads them all."""
+    found = {}
+    try:
+        with Keep(program or program_name()) as keep:
+            for text in texts:
+                quoted = os.fsencode(text).decode("utf-8", "replace").replace('"', '""')
+                reply = keep.ask(f'explain,"{quoted}"')
+                if reply is None:
+                    raise RecordsError("olr-keep ended before the last string")
+                found[text] = reference_of(reply.lines) if reply.accepted else why_not(reply)
+    except (OSError, EOFError) as error:
+        raise RecordsError(f"{program or program_name()}: {getattr(error, 'strerror', None) or error}") from None
+    return found
+
+
+def why_not(fault):
+    """A fault of `explain` in words."""
+    return CAUSES.get(fault.rest.rpartition(",")[2], f"fault,{fault.number},{fault.rest}")
+
+
+def degrees(place):
+    """A place of records, in degrees."""
+    return place[0] / UNITS, place[1] / UNITS
+
+
+def metres(a, b):
+    """The distance of two places in degrees, on a sphere."""
+    (lon, lat), (east, north) = (map(math.radians, it) for it in (a, b))
+    half = math.sin((north - lat) / 2) ** 2 + math.cos(lat) * math.cos(north) * math.sin((east - lon) / 2) ** 2
+    return 2 * EARTH * math.asin(math.sqrt(min(1, half)))
+
+
+def moved(place, bearing, far):
+    """The place that lies so many metres from one in degrees, on this bearing."""
+    lon, lat, turn, angle = *map(math.radians, (*place, bearing)), far / EARTH
+    north = math.asin(math.sin(lat) * math.cos(angle) + math.cos(lat) * math.sin(angle) * math.cos(turn))
+    east = math.atan2(math.sin(turn) * math.sin(angle) * math.cos(lat), math.cos(angle) - math.sin(lat) * math.sin(north))
+    return (math.degrees(lon + east) + 540) % 360 - 180, math.degrees(north)
+
+
+def courses(state, lines):
+    """The courses of these lines, one for all that join. A line that is not in the map is left out, and parts them."""
+    found, end = [], None
+    for number in lines:
+        line = state.lines.get(number)
+        if line and line.start != end:
+            found.append([(0, *state.nodes[line.start])])
+        end = line.end if line else None
+        if line:
+            at, course = found[-1][-1][0], found[-1]
+            course += [(at + far, lon, lat) for far, lon, lat in (*line.shape, (line.length, *state.nodes[line.end]))]
+    return found
+
+
+def part(course, start, end):
+    """The places of a course between two distances from its start."""
+    return [place_along(course, start), *(it[1:] for it in course if start < it[0] < end), place_along(course, end)]
+
+
+def place_along(course, at):
+    """The place at a distance from the start of a course, or at its end where that is nearer."""
+    for (was, *a), (far, *b) in zip(course, course[1:]):
+        if at <= far:
+            share = (at - was) / (far - was)
+            return a[0] + (b[0] - a[0]) * share, a[1] + (b[1] - a[1]) * share
+    return course[-1][1:]
+
+
+def offset_parts(state, path):
+    """The parts that the offsets cut off, as (`positive` or `negative`, decimetres, places). None of a broken path."""
+    found = courses(state, path.lines)
+    if len(found) != 1 or any(it not in state.lines for it in path.lines):
+        return []
+    course, length = found[0], found[0][-1][0]
+    parts = [("positive", path.positive, part(course, 0, min(path.positive, length)))]
+    parts.append(("negative", path.negative, part(course, max(0, length - path.negative), length)))
+    return [it for it in parts if it[1]]
+
+
+class Junctions:
+    """The lines at each node of a map: which nodes are only passed, and how ends of paths are moved out to junctions."""
+
+    def __init__(self, state):
+        self.state, self.into, self.out = state, {}, {}
+        for number, line in state.lines.items():
+            self.into.setdefault(line.end, []).append(number)
+            self.out.setdefault(line.start, []).append(number)
+
+    def is_passed(self, node):
+        """Whether a node has exactly two neighbours and its lines only lead from the one to the other, or back too."""
+        comes = sorted(self.state.lines[it].start for it in self.into.get(node, ()))
+        leads = sorted(self.state.lines[it].end for it in self.out.get(node, ()))
+        around = {*comes, *leads}
+        if len(around) != 2 or node in around:
+            return False
+        return comes == leads == sorted(around) or (len(comes) == len(leads) == 1)
+
+    def moved_out(self, lines):
+        """The lines before a path's start and those behind its end by which the ends are moved to a junction."""
+        before = self.chain(lines, self.into, "start", "end")[::-1]
+        return before, self.chain([*before, *lines][::-1], self.out, "end", "start")
+
+    def chain(self, lines, beside, far, near):
+        """The lines by which the first of these is moved out, in the order of the search; none if no junction is near."""
+        known, used, chain, length, now = self.state.lines, set(lines), [], 0, lines[0]
+        while self.is_passed(node := getattr(known[now], far)):
+            back = getattr(known[now], near)
+            new = [it for it in beside.get(node, ()) if it not in used and getattr(known[it], far) != back]
+            length += known[new[0]].length if new else LIMIT + 1
+            if length > LIMIT:
+                return []
+            now = new[0]
+            chain.append(now)
+            used.add(now)
+        return chain
+
+
+def refusal(state, path, answer, junctions):
+    """Why a path is not encodable, in words, and where: up to two places of records, the ends of what is missing."""
+    kind, at = answer[1], int(answer[2]) if len(answer) > 2 else None
+    lines, known = path.lines, state.lines
+    if kind == "1":
+        k = lines.index(at)
+        ends = [state.nodes[known[it].end] for it in lines[max(0, k - 1) : k] if it in known]
+        starts = [state.nodes[known[it].start] for it in lines[k + 1 : k + 2] if it in known]
+        return f"Line {at} is not in the map.", [*ends, *starts]
+    if kind == "2":
+        a, b = known[lines[at]], known[lines[at + 1]]
+        words = f"Line {lines[at]} ends at node {a.end}, but the next line, {lines[at + 1]}, starts at node {b.start}."
+        return words, [state.nodes[a.end], state.nodes[b.start]]
+    if kind == "3":
+        words = "The offsets together are as long as the path, or longer, so nothing of it is left."
+        return words, [place_along(courses(state, lines)[0], path.positive)]
+    whole = [*junctions.moved_out(lines)[0], *lines]
+    line = known[whole[at]]
+    words = f"No next location reference point can follow node {line.start}: line {whole[at]}, which starts there, is longer"
+    return f"{words} than 15 km, or leads more than a third of a degree away.", [state.nodes[line.start]]
