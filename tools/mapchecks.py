@@ -1,0 +1,149 @@
+"""What makes strings ambiguous on a map, or a map wrong: findings, each with the numbers of its lines and nodes."""
+import itertools
+import math
+from collections import defaultdict
+from typing import NamedTuple
+
+from receiver import SECTOR, STEP_16, STEP_24, bearing, distance, place, project, shape_length
+from refound import SHORT, are_twins
+
+KINDS = ("twin-lines", "alike-lines", "line-over-node", "short-line", "same-coordinate", "near-nodes", "under-straight",
+         "over-shape", "over-15-km", "one-way-dead-end", "separate-part", "lone-node")
+LONGEST = 15_000  # metres between two points of a string
+
+# How far, on each axis, the coordinate that a string gives for a node may be from the node, in degrees: the first point's is
+# less than a step of 360 / 2^24 degrees off, as the format's rounding cuts the value and gives half a step back; each further
+# point's is off by at most half a step of 10^-5 degree more than that of the point before. The law `DecodedNear` of
+# docs/THEOREMS.md has the same numbers.
+FIRST_ERROR = STEP_24
+FURTHER_ERROR = STEP_16 / 2
+
+
+def decoding_error(k):
+    """The bound at point k, from 0."""
+    return FIRST_ERROR + k * FURTHER_ERROR
+
+
+class Finding(NamedTuple):
+    """What was found: its kind, the lines and nodes that it is about, and a text with their numbers."""
+
+    kind: str
+    lines: tuple
+    nodes: tuple
+    text: str
+
+
+def findings(roads, point=0):
+    """All findings; nodes are near where the coordinates of this point of a string can't tell them apart."""
+    return itertools.chain(
+        lines_alike(roads), lines_over_nodes(roads), lines_alone(roads), nodes_near(roads, point), dead_ends(roads), parts(roads)
+    )
+
+
+def sector(road, is_last):
+    """The sector of a line's bearing where it begins, or where it ends."""
+    return int(bearing(road, road.length if is_last else 0.0, is_last) // SECTOR)
+
+
+def lines_alike(roads):
+    """Twin lines, and lines that are alike at one of their ends."""
+    for is_last, sides in ((False, roads.leaving), (True, roads.entering)):
+        groups = defaultdict(list)
+        for node, numbers in sorted(sides.items()):
+            for it in numbers:
+                road = roads.lines[it]
+                groups[node, road.frc, road.fow, sector(road, is_last)].append(it)
+        for (node, frc, fow, _), numbers in groups.items():
+            for a, b in itertools.combinations(numbers, 2):
+                if not are_twins(roads.lines[a], roads.lines[b]):
+                    how = f"{'enter' if is_last else 'leave'} node {node} alike, class {frc}, form {fow}"
+                    yield Finding("alike-lines", (a, b), (node,), f"lines {a} and {b} {how}")
+    same = defaultdict(list)
+    for number, road in roads.lines.items():
+        same[road[:4]].append(number)
+    for numbers in same.values():
+        for a, b in itertools.combinations(numbers, 2):
+            one, other = roads.lines[a], roads.lines[b]
+            if are_twins(one, other):
+                text = f"lines {a} and {b} from node {one.start} to {one.end}, {one.length:.1f} m and {other.length:.1f} m"
+                yield Finding("twin-lines", (a, b), one[:2], text)
+
+
+def lines_over_nodes(roads):
+    """Lines that pass a node which isn't their end, and look there as one does that leaves it."""
+    for node, coordinate in sorted(roads.nodes.items()):
+        for number, far, at in roads.lines_near(*coordinate, SHORT):
+            road = roads.lines[number]
+            if node in road[:2] or min(at, road.length - at) <= SHORT:
+                continue
+            ahead = place(road, at), place(road, min(road.length, at + 20))
+            rest = road._replace(length=distance(*ahead), points=((0.0, *ahead[0]), (distance(*ahead), *ahead[1])))
+            for other in roads.leaving[node]:
+                one = roads.lines[other]
+                if one[2:4] == road[2:4] and sector(one, False) == sector(rest, False):
+                    text = f"line {number} passes node {node} within {far:.1f} m, alike to line {other} that leaves there"
+                    yield Finding("line-over-node", (number, other), (node,), text)
+
+
+def lines_alone(roads):
+    """What a line's length shows."""
+    for number, road in sorted(roads.lines.items()):
+        straight = distance(roads.nodes[road.start], roads.nodes[road.end])
+        shape = shape_length(road.points)
+        if road.length < SHORT:
+            yield Finding("short-line", (number,), road[:2], f"line {number}, {road.length:.1f} m")
+        if road.length + 1 < 0.99 * straight:
+            text = f"line {number}, {road.length:.1f} m, and straight {straight:.1f} m"
+            yield Finding("under-straight", (number,), road[:2], text)
+        if road.length > 1.2 * shape + SHORT:
+            yield Finding("over-shape", (number,), road[:2], f"line {number}, {road.length:.1f} m, and its shape {shape:.1f} m")
+        if road.length > LONGEST:
+            yield Finding("over-15-km", (number,), road[:2], f"line {number}, {road.length / 1000:.1f} km")
+
+
+def nodes_near(roads, point):
+    """Nodes at one coordinate, and nodes which aren't twice the decoding error apart on any axis: a decoded coordinate is then
+    perhaps not the nearest to its own node."""
+    width, cells = 2 * decoding_error(point), defaultdict(list)
+    for number, (lon, lat) in sorted(roads.nodes.items()):
+        column, row = math.floor(lon / width), math.floor(lat / width)
+        for cell in itertools.product((column - 1, column, column + 1), (row - 1, row, row + 1)):
+            for other in cells.get(cell, ()):
+                there = roads.nodes[other]
+                if max(abs(there[0] - lon), abs(there[1] - lat)) < width:
+                    is_same = there == (lon, lat)
+                    text = f"nodes {other} and {number}, {distance(there, (lon, lat)):.1f} m apart"
+                    yield Finding("same-coordinate" if is_same else "near-nodes", (), (other, number), text)
+        cells[column, row].append(number)
+
+
+def dead_ends(roads):
+    """Nodes that can only be entered, or only be left, and nodes without lines."""
+    for node in sorted(roads.nodes):
+        entering, leaving = roads.entering.get(node, []), roads.leaving.get(node, [])
+        if not entering and not leaving:
+            yield Finding("lone-node", (), (node,), f"node {node}")
+        elif not leaving:
+            yield Finding("one-way-dead-end", tuple(entering), (node,), f"node {node}: line {entering[0]} enters, none leaves")
+        elif not entering:
+            yield Finding("one-way-dead-end", tuple(leaving), (node,), f"node {node}: line {leaving[0]} leaves, none enters")
+
+
+def parts(roads):
+    """The parts of the map that no line joins to its greatest one; a node without lines is no part."""
+    beside = defaultdict(set)
+    for road in roads.lines.values():
+        beside[road.start].add(road.end)
+        beside[road.end].add(road.start)
+    seen, found = set(), []
+    for node in sorted(beside):
+        if node not in seen:
+            seen.add(node)
+            part = [node]
+            for it in part:
+                more = beside[it] - seen
+                seen |= more
+                part += sorted(more)
+            found.append(part)
+    for part in sorted(found, key=len, reverse=True)[1:]:
+        yield Finding("separate-part", (), tuple(part), f"{len(part)} nodes, of them node {part[0]}")
