@@ -6,6 +6,7 @@ from typing import NamedTuple
 from receiver import METRES, Failed, Road, RoadMap, cells_along, decode, distance, on_piece, place, scale, shape_length
 
 SHORT = 5.0  # metres; lines below it are shorter than the coordinates of a string are exact
+UNDER_5_M = "a line under 5 m"
 APART = 30.0  # metres; up to here two shapes are the same road
 
 
@@ -135,17 +136,25 @@ def cause(roads, reference, rules, found, location):
         any_class = rules._replace(class_variance=7)
         is_class = rules.class_variance < 7 and not isinstance(decode(roads, reference, any_class), Failed)
         return "a class above LFRCNP" if is_class else found.kind
-    if index_of(found.whole, location.lines) is not None:
-        return "an offset"
-    missed = [roads.lines[it] for it in location.lines if it not in found.whole]
-    if missed and all(any(are_twins(it, roads.lines[other]) for other in found.whole) for it in missed):
+    at_points = {roads.lines[it.line][0] for it in found.taken[:-1]} | {roads.lines[found.taken[-1].line].end}
+    k = index_of(found.whole, location.lines)
+    if k is not None:
+        more = found.whole[:k] + found.whole[k + len(location.lines) :]
+        if has_short(roads, more, at_points):
+            return UNDER_5_M
+        return "a path of one line" if len(location.lines) == 1 else "an offset"
+    missed = [it for it in location.lines if it not in found.whole]
+    if missed and all(any(are_twins(roads.lines[it], roads.lines[other]) for other in found.whole) for it in missed):
         return "a twin line"
     mistaken = list(mistaken_points(roads, reference, found, location))
-    at_points = {roads.lines[it.line][0] for it in found.taken[:-1]} | {roads.lines[found.taken[-1].line].end}
-    short = [it for it in missed if it.length < SHORT and at_points & {it.start, it.end}]
-    if short or any(min(one.length, other.length) < SHORT for one, other in mistaken):
-        return f"a line under {SHORT:g} m"
+    if has_short(roads, missed, at_points) or any(min(one.length, other.length) < SHORT for one, other in mistaken):
+        return UNDER_5_M
     return "another line at a point" if mistaken else "another route"
+
+
+def has_short(roads, lines, nodes):
+    """Whether one of the lines is short and begins or ends at one of the nodes."""
+    return any(roads.lines[it].length < SHORT and nodes & set(roads.lines[it][:2]) for it in lines)
 
 
 def mistaken_points(roads, reference, found, location):
