@@ -112,12 +112,14 @@ class RoadMap:
     def __init__(self, nodes, lines):
         self.nodes, self.lines = nodes, lines
         self.leaving, self.entering = defaultdict(list), defaultdict(list)
-        self.node_cells, self.line_cells = defaultdict(list), defaultdict(set)
+        self.node_cells, self.line_cells, self.boxes = defaultdict(list), defaultdict(set), {}
         for number, (lon, lat) in nodes.items():
             self.node_cells[int(lon // CELL), int(lat // CELL)].append(number)
         for number, road in lines.items():
             self.leaving[road.start].append(number)
             self.entering[road.end].append(number)
+            _, lons, lats = zip(*road.points)
+            self.boxes[number] = min(lons), min(lats), max(lons), max(lats)
             for (_, *a), (_, *b) in zip(road.points, road.points[1:]):
                 for cell in cells_along(a, b):
                     self.line_cells[cell].add(number)
@@ -129,7 +131,7 @@ class RoadMap:
         return cls(nodes, {number: road_of(line, nodes) for number, line in state.lines.items()})
 
     def near(self, cells, lon, lat, radius):
-        """What stands in the cells within a radius of a coordinate, in ascending order."""
+        """What is in the cells within a radius of a coordinate, in ascending order."""
         east, north = radius / scale(lat), radius / METRES
         columns = range(int((lon - east) // CELL), int((lon + east) // CELL) + 1)
         rows = range(int((lat - north) // CELL), int((lat + north) // CELL) + 1)
@@ -142,8 +144,14 @@ class RoadMap:
 
     def lines_near(self, lon, lat, radius):
         """The lines within a radius of a coordinate, each with its distance and how far along it the nearest place is."""
-        triples = ((it, *project(self.lines[it], lon, lat)) for it in self.near(self.line_cells, lon, lat, radius))
-        return [it for it in triples if it[1] <= radius]
+        east, north, found = radius / scale(lat), radius / METRES, []
+        for it in self.near(self.line_cells, lon, lat, radius):
+            west, south, other_east, other_north = self.boxes[it]
+            if west - east <= lon <= other_east + east and south - north <= lat <= other_north + north:
+                far, at = project(self.lines[it], lon, lat)
+                if far <= radius:
+                    found.append((it, far, at))
+        return found
 
 
 def road_of(line, nodes):
@@ -286,15 +294,15 @@ class Candidate(NamedTuple):
 
 
 def candidates(roads, point, is_last, rules):
-    """The candidates of a point, the best first, and how many lines were too unlike it."""
-    ways, unlike = (by_nodes, by_shape) if rules.nodes_first else (by_shape,), 0
+    """The candidates of a point, the best first, and how many lines were rated."""
+    ways, count = (by_nodes, by_shape) if rules.nodes_first else (by_shape,), 0
     for places in ways:
         rated = [rate(roads, point, is_last, rules, *it) for it in places(roads, point, is_last, rules)]
         good = [it for it in rated if it.rating >= rules.least and it.bearing <= rules.bearing_limit]
-        unlike = max(unlike, len(rated))
+        count = max(count, len(rated))
         if good:
             break
-    return sorted(good, key=lambda it: (-it.rating, it.line)), unlike
+    return sorted(good, key=lambda it: (-it.rating, it.line)), count
 
 
 def by_nodes(roads, point, is_last, rules):
@@ -438,9 +446,10 @@ def decode(roads, reference, rules):
     points = reference.points
     ranked = []
     for k, point in enumerate(points):
-        good, unlike = candidates(roads, point, k == len(points) - 1, rules)
+        good, count = candidates(roads, point, k == len(points) - 1, rules)
         if not good:
-            return Failed(k, "no candidate", f"no line within {rules.radius:g} m is like it; {unlike} are unlike it")
+            why = f"none of the {count} lines within {{}} m is like it" if count else "no line within {} m"
+            return Failed(k, "no candidate", why.format(f"{rules.radius:g}"))
         ranked.append(good)
     chain = joined_candidates(Router(roads, rules), points, ranked)
     if isinstance(chain, Failed):
@@ -521,7 +530,7 @@ def bearings_text(rules):
 
 
 ROWS = (
-    ("lines looked at", lambda it: "at nodes near by, else by shape" if it.nodes_first else "by shape",
+    ("candidate lines", lambda it: "at nodes within `radius`, else by shape" if it.nodes_first else "by shape",
      "White Paper, candidate nodes and direct search; dereferencer: projection on each line"),
     ("`radius`, in m", lambda it: f"{it.radius:g}", "greatest distance of a node; search radius"),
     ("`weights` of distance, class, form, bearing", lambda it: numbers(it.weights),

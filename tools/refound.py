@@ -133,9 +133,7 @@ def cause(roads, reference, rules, found, location):
     if location is None:
         return "a line is missing"
     if isinstance(found, Failed):
-        any_class = rules._replace(class_variance=7)
-        is_class = rules.class_variance < 7 and not isinstance(decode(roads, reference, any_class), Failed)
-        return "a class above LFRCNP" if is_class else found.kind
+        return "a class above LFRCNP" if is_by_class(roads, reference, rules, location) else found.kind
     at_points = {roads.lines[it.line][0] for it in found.taken[:-1]} | {roads.lines[found.taken[-1].line].end}
     k = index_of(found.whole, location.lines)
     if k is not None:
@@ -149,7 +147,15 @@ def cause(roads, reference, rules, found, location):
     mistaken = list(mistaken_points(roads, reference, found, location))
     if has_short(roads, missed, at_points) or any(min(one.length, other.length) < SHORT for one, other in mistaken):
         return UNDER_5_M
-    return "another line at a point" if mistaken else "another route"
+    if mistaken:
+        return "another line at a point"
+    return "a class above LFRCNP" if is_by_class(roads, reference, rules, location) else "another route"
+
+
+def is_by_class(roads, reference, rules, location):
+    """Whether the path would be found if routes could take lines of any class."""
+    found = decode(roads, reference, rules._replace(class_variance=7))
+    return not isinstance(found, Failed) and index_of(found.whole, location.lines) is not None
 
 
 def has_short(roads, lines, nodes):
