@@ -70,7 +70,7 @@ def lines_alike(roads):
 
 
 def lines_over_nodes(roads):
-    """Lines that pass a node which isn't their end, and look there as one does that leaves it."""
+    """Lines that pass a node which isn't their end, and have there the class, form and sector of one that leaves it."""
     for node, coordinate in sorted(roads.nodes.items()):
         for number, far, at in roads.lines_near(*coordinate, SHORT):
             road = roads.lines[number]

@@ -342,7 +342,7 @@ def rate(roads, point, is_last, rules, line, at, far):
 
 
 class Search:
-    """Shortest routes from the end of a line, over lines whose class is at most a limit; goes on where it was left."""
+    """Shortest routes from the end of a line, over lines whose class is at most a limit; each call continues from the last."""
 
     def __init__(self, roads, start, lowest):
         self.roads, self.lowest = roads, lowest

@@ -62,7 +62,7 @@ def cut_out(roads, location):
 
 
 def index_of(whole, lines):
-    """Where the lines stand one after another in the whole, or None."""
+    """The index at which the lines follow one after another in the whole, or None."""
     starts = (k for k, it in enumerate(whole) if it == lines[0] and whole[k : k + len(lines)] == lines)
     return next(starts, None)
 
