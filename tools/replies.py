@@ -1,4 +1,4 @@
-"""Reads what olr-keep writes, reply by reply, and talks with it.
+"""Sends records to olr-keep and reads its replies.
 
     with Keep("./olr-keep") as keep:
         reply = keep.ask("path,a,0,0,10")
@@ -6,12 +6,25 @@
             for entry in reply.lines:
                 ...
 """
+import re
 import subprocess
 from typing import NamedTuple
 
+# Fields of one line as CSV has them: quoted, with what may follow the closing quote, or without a quote at the start.
+FIELD = rb'(?:"(?:[^"]|"")*"(?:[^",][^,]*)?|[^",][^,]*|)'
+ONE_RECORD = re.compile(rb"(?=[^\r\n]+\Z)" + FIELD + rb"(?:," + FIELD + rb")*")
+
+# A line that is no record in any case, to be sent in place of one that would go on behind its line end.
+NO_RECORD = b"?"
+
+
+def is_one_record(line):
+    """Whether this text, bytes or str, is one record on one line: neither empty, nor with a line end or an open quote."""
+    return ONE_RECORD.fullmatch(line if isinstance(line, bytes) else line.encode("utf-8", "surrogateescape")) is not None
+
 
 class Reply(NamedTuple):
-    """What one record was answered: `ok` and the lines that it counts, `held`, or `fault`."""
+    """The reply to one record: `ok` and the lines that it counts, `held`, or `fault`."""
 
     word: str
     number: int
@@ -20,7 +33,7 @@ class Reply(NamedTuple):
 
     @property
     def accepted(self):
-        """Whether the record was accepted, be it at once or into a batch."""
+        """Whether the record was accepted, at once or into a batch."""
         return self.word != "fault"
 
     def text(self):
@@ -52,12 +65,17 @@ def read_reply(stream):
 class Keep:
     """A running olr-keep: one record to it, then one reply from it."""
 
-    def __init__(self, *words):
+    def __init__(self, *arguments):
         pipe = subprocess.PIPE
-        self.process = subprocess.Popen(words, stdin=pipe, stdout=pipe, encoding="utf-8")
+        self.process = subprocess.Popen(arguments, stdin=pipe, stdout=pipe, encoding="utf-8", errors="surrogateescape")
 
     def ask(self, record):
-        """Sends a record and gives its reply. None says that the program has ended: see `close`."""
+        """Sends a record and returns its reply. None says that the program has ended: see `close`.
+
+        Raises ValueError for a text that isn't one record on one line, since no reply, or more than one, would follow.
+        """
+        if not is_one_record(record):
+            raise ValueError(f"not one record on one line: {record!r}")
         try:
             self.process.stdin.write(record + "\n")
             self.process.stdin.flush()
@@ -66,7 +84,7 @@ class Keep:
         return read_reply(self.process.stdout)
 
     def close(self):
-        """Ends the input, and gives the program's status."""
+        """Ends the input, and returns the program's status."""
         try:
             self.process.stdin.close()
         except BrokenPipeError:

@@ -1,0 +1,152 @@
+"""Explains why a record was rejected: the field, where the record and its fault show it, and what to do.
+
+    advice("line,1,2,3,9,3,10", "fault,2,Range")
+    'fault,2,Range: line,1,2,3,9,3,10: FRC is 9, and has to be 0 to 7'
+"""
+import csv
+import re
+
+from replies import is_one_record
+
+NUMBER = re.compile("[0-9]+", re.ASCII)
+DEGREES = re.compile("-?[0-9]{1,3}([.][0-9]{1,7})?", re.ASCII)
+NAME = re.compile("[A-Za-z0-9_.-]{1,64}")
+TEXT = re.compile(".*", re.DOTALL)
+MOST = 4294967295
+
+# For each kind of field: its form, what that is in words, and its bounds.
+KINDS = {
+    **dict.fromkeys(("NODE", "LINE", "FROM", "TO"), (NUMBER, "a number", (1, MOST))),
+    **dict.fromkeys(("FRC", "FOW"), (NUMBER, "a number", (0, 7))),
+    **dict.fromkeys(("POS", "NEG", "COUNT"), (NUMBER, "a number", (0, MOST))),
+    "LEN": (NUMBER, "a number of decimetres", (1, 1000000)),
+    "AT": (NUMBER, "a number of decimetres", (1, 999999)),
+    "LON": (DEGREES, "degrees with at most 7 decimals", (-180, 179.9999)),
+    "LAT": (DEGREES, "degrees with at most 7 decimals", (-89.9999, 89.9999)),
+    "NAME": (NAME, "1 to 64 of the letters a to z and A to Z, digits, - _ .", None),
+    "TEXT": (TEXT, "text", None),
+}
+
+# The fields of each record, and those that may be repeated at its end.
+FORMS = {
+    "node": ("NODE LON LAT", ""),
+    "move": ("NODE LON LAT", ""),
+    "drop-node": ("NODE", ""),
+    "line": ("LINE FROM TO FRC FOW LEN", "AT LON LAT"),
+    "set-line": ("LINE FRC FOW LEN", "AT LON LAT"),
+    "drop-line": ("LINE", ""),
+    "path": ("NAME POS NEG", "LINE"),
+    "repath": ("NAME POS NEG", "LINE"),
+    "drop-path": ("NAME", ""),
+    "show": ("NAME", ""),
+    "report": ("", ""),
+    "dump": ("", ""),
+    "explain": ("TEXT", ""),
+    "begin": ("", ""),
+    "commit": ("COUNT", ""),
+    "abort": ("", ""),
+}
+
+WHAT_TO_DO = {
+    3: "node {1} is in the map: move it, unless this was sent twice",
+    4: "a node that it names is not in the map: send that node first",
+    5: "line {1} is in the map: set-line changes it, unless this was sent twice",
+    6: "line {1} is not in the map: the edit is for another map, or was sent twice",
+    7: "a line enters or leaves node {1}: drop the lines first",
+    8: "its shape points have to be at most 1,000, at ascending distances, less than the length",
+    9: "path {1} is registered: repath changes it, unless this was sent twice",
+    10: "path {1} is not registered: path registers it",
+    11: "a path has 1 to 10,000 lines, none of them twice",
+    12: "it is no OpenLR string that olr-keep writes",
+    13: "there was no memory for it: send it again once there is",
+    14: "a batch is open: commit or abort it first",
+    15: "no batch is open: begin was rejected or not sent",
+    16: "the batch holds another number of changes and stays open: see which one was rejected, then abort or commit",
+    17: "the batch is full: commit it, and begin another one",
+}
+CAUSES = {1: "its length is wrong", 2: "its status byte is wrong", 3: "its offset flags are wrong",
+          4: "a reserved bit is set", 6: "it is not base64"}  # fmt: skip
+
+
+def fields_of(record):
+    """The fields of a record of one line."""
+    csv.field_size_limit(max(1, len(record)))
+    return next(csv.reader([record.replace("\0", "\ufffd")]))
+
+
+def named(fields):
+    """The fields behind the command word with the names of their kinds, or None where their number is wrong."""
+    fixed, repeated = (it.split() for it in FORMS[fields[0]])
+    more = len(fields) - 1 - len(fixed)
+    if more < 0 or more % max(1, len(repeated)) or (more and not repeated):
+        return None
+    return list(zip(fixed + repeated * (more // max(1, len(repeated))), fields[1:]))
+
+
+def wrong_form(fields):
+    """Why fields have no form of a record."""
+    word = fields[0]
+    if word not in FORMS:
+        near = word.strip(" \t\ufeff").lower()
+        return f"{word[:40]!r} is no command word" + (f": write {near}, in lower case without spaces" if near in FORMS else "")
+    fixed, repeated = (",".join(it.split()) for it in FORMS[word])
+    form = ",".join(filter(None, [word, fixed])) + (f"[,{repeated}]*" if repeated else "")
+    if (kinds := named(fields)) is None:
+        return f"its form is {form}, and it has {len(fields)} fields"
+    for kind, field in kinds:
+        if not KINDS[kind][0].fullmatch(field):
+            return f"{kind} is {field[:40]!r}, and has to be {KINDS[kind][1]}"
+    return f"its form is {form}"
+
+
+def out_of_range(fields):
+    """Which field is out of its bounds."""
+    for kind, field in named(fields) or []:
+        bounds = KINDS[kind][2]
+        if bounds and not bounds[0] <= (float(field) if kind in ("LON", "LAT") else int(field[:30])) <= bounds[1]:
+            return f"{kind} is {field[:40]}, and has to be {bounds[0]} to {bounds[1]}"
+    return "a value is out of its bounds"
+
+
+def bad_shape(fields):
+    """Which shape distance is wrong."""
+    first = 7 if fields[0] == "line" else 5
+    at = list(map(int, fields[first::3]))
+    if len(at) > 1000:
+        return f"it has {len(at)} shape points, and 1,000 at most are allowed"
+    for k, (before, here) in enumerate(zip([0, *at], at), 1):
+        if here <= before:
+            return f"AT of shape point {k} is {here}, and has to be more than {before}"
+    return f"AT of the last shape point is {at[-1]}, and has to be less than LEN, {fields[first - 1]}"
+
+
+def bad_path(fields):
+    """Why the lines of a path are not taken."""
+    lines, seen = list(map(int, fields[4:])), set()
+    if not 1 <= len(lines) <= 10000:
+        return f"it has {len(lines)} lines, and has to have 1 to 10,000"
+    twice = next(it for it in lines if it in seen or seen.add(it))
+    return f"line {twice} is in it twice"
+
+
+def reason(record, number, rest, nodes):
+    """What is wrong with a record, in words."""
+    if not is_one_record(record):
+        return 'a quote " is open at the end of the line' if '"' in record else "a line end is within the record"
+    fields = fields_of(record)
+    if number in (1, 2, 8, 11):
+        return {1: wrong_form, 2: out_of_range, 8: bad_shape, 11: bad_path}[number](fields)
+    if number == 4 and nodes is not None:
+        missing = [it for it in (fields[2:4] if fields[0] == "line" else fields[1:2]) if int(it) not in nodes]
+        if missing:
+            return f"node {missing[0]} is not in the map: send it first"
+    if number == 12 and rest.isdigit():
+        return f"{CAUSES.get(int(rest), rest)}: {WHAT_TO_DO[12]}"
+    return WHAT_TO_DO.get(number, "").format(*fields)
+
+
+def advice(record, head, nodes=None):
+    """The fault, the record, and what is wrong with it; `nodes` are the numbers of the nodes in the map, where known."""
+    _, number, *rest = head.split(",")
+    shown = record if len(record) <= 200 else f"{record[:200]}.. ({len(record)} characters)"
+    return f"{head}: {shown}: {reason(record, int(number), ','.join(rest[1:]), nodes)}"
