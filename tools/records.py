@@ -110,7 +110,7 @@ def program_name():
 
 def joined(files):
     """One temporary file with the text of all files, each ended by a line end."""
-    whole = tempfile.TemporaryFile()
+    whole = tempfile.NamedTemporaryFile()
     for name in files:
         try:
             with open(name, "rb") as file:
@@ -125,12 +125,12 @@ def joined(files):
 def read_state(files, program=None):
     """The state after the records of these files, in this order. An open batch at the end is left out."""
     state = State()
-    with joined(files) as records, joined(files) as copy:
+    with joined(files) as records, open(records.name, "rb") as copy:
         try:
             process = subprocess.Popen([program or program_name()], stdin=copy, stdout=subprocess.PIPE, encoding="utf-8")
         except OSError as error:
             raise RecordsError(f"{program or program_name()}: {error.strerror}") from None
-        text = io.TextIOWrapper(records, encoding="utf-8", errors="surrogateescape", newline="")
+        text = io.TextIOWrapper(records, encoding="utf-8-sig", errors="surrogateescape", newline="")
         with process:
             try:
                 for fields in filter(None, csv.reader(text)):
