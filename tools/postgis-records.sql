@@ -13,64 +13,144 @@
 --         geom        geometry(LineString, 4326)
 --     region(geom)    the region's polygons, with the margin by which regions overlap
 --
--- A road that meets the region is taken whole, with both its nodes, also where it leads across the border.
+-- A road that meets the region is taken whole, with both its nodes, also where it leads across the border. A value that is
+-- none of these stops the query with a message that names the road, and so does a region that no road meets.
+-- A table without nodes, whose roads go on across junctions, becomes `roads` by tools/postgis-split.sql.
 
-with road as (
-    select roads.* from roads
-    where exists (select from region where ST_Intersects(region.geom, roads.geom))
-),
-directed as (
-    select 2 * id as line, start_node, end_node, class, form, geom
-    from road where direction in ('both', 'along')
-    union all
-    select 2 * id + 1, end_node, start_node, class, form, ST_Reverse(geom)
-    from road where direction in ('both', 'against')
-),
-vertex as (
-    select line, (dump).path[1] as k, (dump).geom as place
-    from (select line, ST_DumpPoints(geom) as dump from directed) as dumped
-),
-step as (
-    select line, k, place,
-        coalesce(ST_Distance(place::geography, (lag(place) over (partition by line order by k))::geography), 0) as metres
-    from vertex
-),
--- The distance of each vertex along its line, in whole decimetres.
-along as (
-    select line, k, place, round((10 * sum(metres) over (partition by line order by k))::numeric) as at
-    from step
-),
-total as (
-    select line, greatest(1, max(at)) as len from along group by line
-),
--- Shape points are the vertices between the ends whose distances rise.
-risen as (
-    select line, k, place, at,
-        max(at) over (partition by line order by k rows between unbounded preceding and 1 preceding) as before
-    from along
-),
-shape as (
-    select line,
-        string_agg(format(',%s,%s,%s', at, round(ST_X(place)::numeric, 7), round(ST_Y(place)::numeric, 7)), '' order by k) as fields
-    from risen join total using (line)
-    where at > before and at < len
-    group by line
+begin isolation level repeatable read;
+set local work_mem = '256MB';
+set local jit = off;
+
+do $$
+declare
+    wrong text;
+begin
+    select format('road %s: %s', coalesce(id::text, 'without id'), reason) into wrong
+    from (
+        select id, case
+            when num_nulls(id, start_node, end_node, class, form, direction, geom) > 0 then 'a column is NULL'
+            when direction not in ('both', 'along', 'against')
+                then format('direction is %L, and has to be both, along or against', direction)
+            when ST_GeometryType(geom) <> 'ST_LineString'
+                then format('geom is of type %s, and has to be a LineString; ST_Dump gives the parts', ST_GeometryType(geom))
+            when ST_SRID(geom) <> 4326 then format('geom has SRID %s; ST_Transform(geom, 4326) gives degrees', ST_SRID(geom))
+            when ST_NPoints(geom) < 2 then 'geom is empty'
+            when id not between 1 and 2147483646 then 'id has to be 1 to 2147483646'
+            when least(start_node, end_node) < 1 or greatest(start_node, end_node) > 4294967295
+                then 'start_node and end_node have to be 1 to 4294967295'
+            when class not between 0 and 7 then format('class is %s, and has to be 0 to 7', class)
+            when form not between 0 and 7 then format('form is %s, and has to be 0 to 7', form)
+            when ST_XMin(geom) < -180 or ST_XMax(geom) > 179.9999 or ST_YMin(geom) < -89.9999 or ST_YMax(geom) > 89.9999
+                then 'geom is beyond the longitudes -180 to 179.9999 or the latitudes -89.9999 to 89.9999'
+        end as reason
+        from roads
+    ) as judged
+    where reason is not null
+    order by id
+    limit 1;
+    if wrong is not null then
+        raise exception '%', wrong;
+    end if;
+end $$;
+
+create temporary table road on commit drop as
+select roads.* from roads
+where exists (select from region where ST_Intersects(region.geom, roads.geom));
+analyze road;
+
+do $$
+declare
+    wrong text;
+begin
+    if not exists (select from road) then
+        raise exception 'no road meets the region';
+    end if;
+    select format('id %s is that of %s roads', id, count(*)) into wrong from road group by id having count(*) > 1 limit 1;
+    if wrong is null then
+        select format('node %s is at several places: that at the start of road %s is not where the others are', node, id) into wrong
+        from (
+            select node, id, place, first_value(place) over (partition by node order by id) as other
+            from (
+                select start_node as node, id, ST_StartPoint(geom) as place from road
+                union all
+                select end_node, id, ST_EndPoint(geom) from road
+            ) as ends
+        ) as compared
+        where ST_Distance(place, other) > 0.00001 and ST_DistanceSphere(place, other) > 1
+        order by node, id
+        limit 1;
+    end if;
+    if wrong is not null then
+        raise exception '%', wrong;
+    end if;
+end $$;
+
+-- The length of a road in decimetres, and the shape points of its two lines: the vertices between the ends whose distances
+-- ascend. Lengths are those of the spheroid; between vertices they are shared out by the spheroid's two radii there.
+create function pg_temp.measured(road geometry, out len bigint, out along text, out against text) language plpgsql as $$
+declare
+    places text[] := string_to_array(translate(ST_AsText(ST_Force2D(road), 7), 'LINESTRING()', ''), ',');
+    far float8[];
+    here float8 := 0;
+    x float8; y float8; last_x float8; last_y float8; east float8; north float8; sine float8; bend float8; scale float8;
+    at bigint; before bigint := 0;
+begin
+    for k in 1 .. array_length(places, 1) loop
+        x := split_part(places[k], ' ', 1);
+        y := split_part(places[k], ' ', 2);
+        if k > 1 then
+            east := x - last_x;
+            north := y - last_y;
+            sine := sin(radians(y + last_y) / 2);
+            bend := 1 - 0.00669437999014 * sine * sine;
+            here := here + sqrt((1 - sine * sine) * east * east / bend + 0.98665605 * north * north / (bend * bend * bend));
+        end if;
+        far[k] := here;
+        last_x := x;
+        last_y := y;
+    end loop;
+    scale := case when here > 0 then 10 * ST_Length(road::geography) / here else 0 end;
+    len := greatest(1, round(scale * here));
+    for k in 2 .. array_length(places, 1) - 1 loop
+        at := round(scale * far[k]);
+        if at > before and at < len then
+            along := concat(along, ',', at, ',', replace(places[k], ' ', ','));
+            before := at;
+        end if;
+    end loop;
+    before := 0;
+    for k in reverse array_length(places, 1) - 1 .. 2 loop
+        at := round(scale * (here - far[k]));
+        if at > before and at < len then
+            against := concat(against, ',', at, ',', replace(places[k], ' ', ','));
+            before := at;
+        end if;
+    end loop;
+end $$;
+
+with shape as materialized (
+    select road.*, measured.* from road, pg_temp.measured(geom) as measured
 ),
 node as (
     select distinct on (node) node, place
     from (
-        select start_node as node, ST_StartPoint(geom) as place from road
+        select start_node as node, id, ST_StartPoint(geom) as place from road
         union all
-        select end_node, ST_EndPoint(geom) from road
+        select end_node, id, ST_EndPoint(geom) from road
     ) as ends
-    order by node
+    order by node, id
 ),
 record as (
-    select 1 as part, node as number,
-        format('node,%s,%s,%s', node, round(ST_X(place)::numeric, 7), round(ST_Y(place)::numeric, 7)) as text
+    select 1 as part, node::bigint as number,
+        format('node,%s,%s', node, translate(ST_AsText(ST_Force2D(place), 7), ' POINT()', ',')) as text
     from node
     union all
-    select 2, line, format('line,%s,%s,%s,%s,%s,%s%s', line, start_node, end_node, class, form, len, fields)
-    from directed join total using (line) left join shape using (line)
+    select 2, 2 * id, format('line,%s,%s,%s,%s,%s,%s%s', 2 * id, start_node, end_node, class, form, len, along)
+    from shape where direction in ('both', 'along')
+    union all
+    select 2, 2 * id + 1, format('line,%s,%s,%s,%s,%s,%s%s', 2 * id + 1, end_node, start_node, class, form, len, against)
+    from shape where direction in ('both', 'against')
 )
 select text from record order by part, number;
+
+commit;
