@@ -64,8 +64,8 @@ WHAT_TO_DO = {
     16: "the batch holds another number of changes and stays open: see which one was rejected, then abort or commit",
     17: "the batch is full: commit it, and begin another one",
 }
-CAUSES = {1: "its length is wrong", 2: "its status byte is wrong", 3: "its offset flags are wrong",
-          4: "a reserved bit is set", 6: "it is not base64"}  # fmt: skip
+CAUSES = {1: "its length is wrong", 2: "its status byte is wrong", 3: "its offset flags are wrong"}
+CAUSES |= {4: "a reserved bit is set", 6: "it is not base64"}
 
 
 def fields_of(record):
@@ -88,7 +88,8 @@ def wrong_form(fields):
     word = fields[0]
     if word not in FORMS:
         near = word.strip(" \t\ufeff").lower()
-        return f"{word[:40]!r} is no command word" + (f": write {near}, in lower case without spaces" if near in FORMS else "")
+        hint = f": write {near}, in lower case without spaces" if near in FORMS else ""
+        return f"{word[:40]!r} is no command word{hint}"
     fixed, repeated = (",".join(it.split()) for it in FORMS[word])
     form = ",".join(filter(None, [word, fixed])) + (f"[,{repeated}]*" if repeated else "")
     if (kinds := named(fields)) is None:
