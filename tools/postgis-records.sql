@@ -89,15 +89,16 @@ end $$;
 -- ascend. Lengths are those of the spheroid; between vertices they are shared out by the spheroid's two radii there.
 create function pg_temp.measured(road geometry, out len bigint, out along text, out against text) language plpgsql as $$
 declare
-    places text[] := string_to_array(translate(ST_AsText(ST_Force2D(road), 7), 'LINESTRING()', ''), ',');
+    places text[] := string_to_array(translate(ST_AsText(ST_Force2D(road), 7), ', LINESTRING()', ';,'), ';');
+    count int := array_length(places, 1);
     far float8[];
     here float8 := 0;
     x float8; y float8; last_x float8; last_y float8; east float8; north float8; sine float8; bend float8; scale float8;
     at bigint; before bigint := 0;
 begin
-    for k in 1 .. array_length(places, 1) loop
-        x := split_part(places[k], ' ', 1);
-        y := split_part(places[k], ' ', 2);
+    for k in 1 .. count loop
+        x := split_part(places[k], ',', 1)::float8;
+        y := split_part(places[k], ',', 2)::float8;
         if k > 1 then
             east := x - last_x;
             north := y - last_y;
@@ -111,18 +112,11 @@ begin
     end loop;
     scale := case when here > 0 then 10 * ST_Length(road::geography) / here else 0 end;
     len := greatest(1, round(scale * here));
-    for k in 2 .. array_length(places, 1) - 1 loop
+    for k in 2 .. count - 1 loop
         at := round(scale * far[k]);
         if at > before and at < len then
-            along := concat(along, ',', at, ',', replace(places[k], ' ', ','));
-            before := at;
-        end if;
-    end loop;
-    before := 0;
-    for k in reverse array_length(places, 1) - 1 .. 2 loop
-        at := round(scale * (here - far[k]));
-        if at > before and at < len then
-            against := concat(against, ',', at, ',', replace(places[k], ' ', ','));
+            along := concat(along, ',', at, ',', places[k]);
+            against := concat(',', len - at, ',', places[k], against);
             before := at;
         end if;
     end loop;
