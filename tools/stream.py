@@ -104,7 +104,7 @@ def complain(text):
     print(f"{os.path.basename(sys.argv[0])}: {text}", file=sys.stderr, flush=True)
 
 
-def keep_connected(url, session):
+def keep_connected(url, session, say=complain):
     """What `session` returns, which is called with a connection, and with another one each time that is lost."""
     try:
         nodes = [pika.URLParameters(it) for it in url.split(",")]
@@ -121,7 +121,7 @@ def keep_connected(url, session):
         except (AMQPError, OSError) as error:
             if str(error) != said:
                 said = str(error)
-                complain(f"the broker is not there, trying again: {type(error).__name__} {error}")
+                say(f"the broker is not there, trying again: {type(error).__name__} {error}")
             time.sleep(0.5)
         finally:
             close(connection)
