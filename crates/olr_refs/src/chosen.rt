@@ -1,7 +1,6 @@
 //! The location reference points of an extended path.
-ghost use Rattle.std.specs.Prelude.{◌+◌, ◌<◌, ◌≤◌, ◌∷◌, IfOk, length, slice_index};
-ghost use Rattle.olr_spec.specs.Map.{end};
-ghost use Rattle.olr_spec.specs.Footprint.{Reach, Searched};
+ghost use Rattle.std.specs.Prelude.{◌+◌, ◌<◌, ◌≤◌, ◌∷◌, IfOk, length};
+ghost use Rattle.olr_spec.specs.Footprint.{Sees, Searched};
 ghost use Rattle.olr_spec.specs.Looks.{IsLook, LooksFrom, looking};
 ghost use Rattle.olr_refs.specs.Along.{IsReach};
 ghost use Rattle.olr_refs.specs.Choice.{ForPoints, IsChoice, Looked, LookedAfter};
@@ -43,8 +42,7 @@ fn look_after<M: MapRead>(
     requires { i + 2 < length course.now.lines.now }
     ensures reach { IfOk result (λ r. IsReach (M.map course.now.map.now) course.now.lines.now i r.0) }
     ensures look { IfOk result (λ r. IsLook (M.map course.now.map.now) course.now.lines.now i r.1) }
-    ensures work { IfOk result (λ _. Looked work.old work.new 1
-        (Reach (M.map course.now.map.now) (end (M.map course.now.map.now) (slice_index course.now.lines.now i)))) }
+    ensures work { IfOk result (λ r. Looked work.old work.new 1 (Sees (M.map course.now.map.now) r.1)) }
 {
     let from = course.end(i);
     search.begin(course.map, Direction::Along, &[(from, 0)])?;

@@ -22,8 +22,7 @@ pub mod BytesLemmas
 pub mod ReadLemmas
 pub mod RouteMoves
 pub mod PointMoves
-pub mod FootMoves
-pub mod LocalLemmas
+pub mod FaultMoves
 pub mod LookLists
 pub mod ChangeLemmas
 pub mod DetourLemmas
@@ -32,3 +31,4 @@ pub mod WayLemmas
 pub mod LookLemmas
 pub mod StayLemmas
 pub mod TestedLemmas
+pub mod LocalLemmas

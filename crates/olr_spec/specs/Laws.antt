@@ -24,7 +24,7 @@ use Rattle.olr_spec.specs.Encoding.{Answer, Points, Encodes, IsPoint}
 use Rattle.olr_spec.specs.Bytes.{IsReference, Spells, v3_fault}
 use Rattle.olr_spec.specs.Decoded.{decoded, IsNear}
 use Rattle.olr_spec.specs.Joins.{Joins}
-use Rattle.olr_spec.specs.Footprint.{Reach, Foot}
+use Rattle.olr_spec.specs.Footprint.{Sees, Foot}
 use Rattle.olr_spec.specs.Detours.{ChangedLine, changes_of, Tells, Difference, Detour, Near}
 use Rattle.olr_spec.specs.Looks.{OwnOf, IsLastTested, Look, look_to, LooksOf, IsClear}
 
@@ -266,20 +266,19 @@ OneLooks =
 abbrev pub SomeLooks : Type 0
 SomeLooks = (M : Map) → IsMap M → (P : Path) → IsTrue (is_path P.lines) → (looks : List Look) × LooksOf M P looks
 
--- the footprint is the own nodes, and what is within reach of where a look begins
+-- the footprint is the own nodes, and what the looks see
 abbrev pub FootIsLooked : Type 0
 FootIsLooked =
     (M : Map) → IsMap M → (P : Path) → IsTrue (is_path P.lines) → (looks : List Look) → LooksOf M P looks
-    → (v : ℕ) → Foot M P v ↔ (OwnOf M P v ⊎ ((l : Look) × Contains looks l × Reach M l.from v))
+    → (v : ℕ) → Foot M P v ↔ (OwnOf M P v ⊎ ((l : Look) × Contains looks l × Sees M l v))
 
--- so a footprint holds a touched node exactly where an own node is touched, or one is near to where a look begins, on
--- the changed map
+-- so a footprint holds a touched node exactly where an own node is touched, or a look sees one, on the changed map
 abbrev pub FootConcerned : Type 0
 FootConcerned =
     (M N : Map) → IsMap M → (T : List ℕ) → ((v : ℕ) → IsFalse (has T v) → SameRound M N v)
     → (P : Path) → IsTrue (is_path P.lines) → (looks : List Look) → LooksOf M P looks
     → ((v : ℕ) × IsTrue (has T v) × Foot M P v) ↔
-    (((v : ℕ) × IsTrue (has T v) × OwnOf M P v) ⊎ ((l : Look) × Contains looks l × Near N T l.from limit))
+    (((v : ℕ) × IsTrue (has T v) × OwnOf M P v) ⊎ ((l : Look) × Contains looks l × Near N T l.from l.within))
 
 -- where the look from line i is clear, it is the same on both maps, and the positions that are near enough are covered
 -- on both alike

@@ -3,7 +3,7 @@
 //! A road map, a path, a reference and its bytes are values here: finite maps, lists and whole
 //! numbers. The other crates' contracts cite these definitions; nothing here is run. In reading
 //! order: `Coordinates`, `Degrees`, `Map`, `Walks`, `Labels`, `Extension`, `Points`, `Bearings`,
-//! `Reference`, `Encoding`, `Bytes`, `Decoded`, `Joins`, `Footprint`, `Detours`, `Looks`, and
+//! `Reference`, `Encoding`, `Bytes`, `Decoded`, `Joins`, `Detours`, `Looks`, `Footprint`, and
 //! `Laws`, which says what follows from them. `Codes` tells the compiler how the values are stored,
 //! and `Rows` has the values of the worked rows.
 //!

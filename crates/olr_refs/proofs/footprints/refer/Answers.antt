@@ -1,6 +1,7 @@
 use Rattle.std.proofs.Common.{sym, subst, All, IsTrue}
-use Rattle.std.specs.Prelude.{List}
+use Rattle.std.specs.Prelude.{List, ◌≤◌}
 use Rattle.olr_spec.specs.Map.{has_node}
+use Rattle.olr_spec.specs.Extension.{limit}
 use Rattle.olr_spec.specs.Looks.{Look, LooksOf}
 use Rattle.olr_refs.specs.Answers.{answer_of}
 use Rattle.olr_refs.proofs.Referring.{local_by, searches_looked}
@@ -10,7 +11,7 @@ use Rattle.olr_refs.proofs.footprints.refer.Goals as goal
 pub footprint-requires : goal.footprint-requires
 footprint-requires g c =
     let M = g.M.MapRead.map c.args.map.now in
-    subst (λ (ls : List Look). All (λ l. IsTrue (has_node M l.from)) ls) (sym c.deref.ensures.value)
+    subst (λ (ls : List Look). All (λ l. IsTrue (has_node M l.from) × (l.within ≤ limit)) ls) (sym c.deref.ensures.value)
     (looks_known M (g.met.M.MapRead.sound c.args.map.now) c.args.path.now c.encode.ensures.path _
     c.in_ok-answer.ensures.looks)
 
