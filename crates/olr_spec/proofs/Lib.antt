@@ -17,6 +17,9 @@ pub mod KeptLemmas
 pub mod FieldLemmas
 pub mod FitLemmas
 pub mod DecodedLemmas
+pub mod CandidateLemmas
+pub mod RecoverLemmas
+pub mod ReceiverLemmas
 pub mod SectorLemmas
 pub mod BytesLemmas
 pub mod ReadLemmas

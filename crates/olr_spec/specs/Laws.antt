@@ -7,10 +7,11 @@
 --     bytes      a direction has one sector, a reference one spelling, bytes one reference or one fault
 --     locality   an answer rests on its footprint alone
 --     changes    what edits change, and which walks they can concern
+--     receivers      what every receiver recovers from a reference, and where the nearest node is the own one
 --     looks      a path looks at its own nodes and what lies near; where no change concerns that, its answer is kept
 use Rattle.std.specs.Prelude.{◌≡◌, ℕ, ◌+◌, ◌<◌, ◌≤◌, ℤ, pos, List, [], ◌++◌, length, Option, Some, None, is_some, All}
 use Rattle.std.specs.Prelude.{Contains, Ok, ◌↔◌, ◌⊎◌, IsTrue, IsFalse}
-use Rattle.std.specs.List.{AllByRecursion}
+use Rattle.std.specs.List.{AllByRecursion, concat}
 use Rattle.std.specs.List.Sorted.{IsStrictlyIncreasing}
 use Rattle.olr_spec.specs.Map.{Map, empty_map, IsMap, Line, has_line, place_at, lines_in, lines_out, Edit, edited}
 use Rattle.olr_spec.specs.Map.{touched_nodes, touched_lines, Enters, Leaves, Agree, SameLine, SameRound, has, HasPlace}
@@ -24,6 +25,8 @@ use Rattle.olr_spec.specs.Encoding.{Answer, Points, Encodes, IsPoint}
 use Rattle.olr_spec.specs.Bytes.{IsReference, Spells, v3_fault}
 use Rattle.olr_spec.specs.Decoded.{decoded, IsNear}
 use Rattle.olr_spec.specs.Joins.{Joins}
+use Rattle.olr_spec.specs.Receiver.{Receiver, Recovers}
+use Rattle.olr_spec.specs.Recovery.{Distinct, IsStretches, IsKeptPart}
 use Rattle.olr_spec.specs.Footprint.{Reach, Foot}
 use Rattle.olr_spec.specs.Detours.{ChangedLine, changes_of, Tells, Difference, Detour, Near}
 use Rattle.olr_spec.specs.Looks.{OwnOf, IsLastTested, Look, look_to, LooksOf, IsClear}
@@ -168,6 +171,18 @@ abbrev pub DecodedPoints : Type 0
 DecodedPoints =
     (M : Map) → IsMap M → (P : Path) → IsTrue (is_path P.lines) → (r : Reference) → Encodes M P (Points r)
     → (k : ℕ) → IsTrue (is_some (decoded r k)) → (v : ℕ) × IsPoint M P k v
+
+-- ---- receivers
+
+-- where each point's own line is distinct, every receiver recovers the stretches between the points, and nothing else
+abbrev pub Recovered : Type 0
+Recovered =
+    (R : Receiver) (M : Map) → IsMap M → (P : Path) → IsTrue (is_path P.lines) → (r : Reference)
+    → Encodes M P (Points r) → Distinct R.far M P r → (ws : List (List ℕ)) → Recovers R M r ws ↔ IsStretches M P ws
+
+-- which together are the lines from the first kept point to the last
+abbrev pub StretchesJoin : Type 0
+StretchesJoin = (M : Map) (P : Path) (ws : List (List ℕ)) → IsStretches M P ws → IsKeptPart M P (concat ws)
 
 -- ---- sectors and bytes
 

@@ -3,8 +3,8 @@
 //! A road map, a path, a reference and its bytes are values here: finite maps, lists and whole
 //! numbers. The other crates' contracts cite these definitions; nothing here is run. In reading
 //! order: `Coordinates`, `Degrees`, `Map`, `Walks`, `Labels`, `Extension`, `Points`, `Bearings`,
-//! `Reference`, `Encoding`, `Bytes`, `Decoded`, `Joins`, `Footprint`, `Detours`, `Looks`, and
-//! `Laws`, which says what follows from them. `Codes` tells the compiler how the values are stored,
+//! `Reference`, `Encoding`, `Bytes`, `Decoded`, `Joins`, `Receiver`, `Recovery`, `Footprint`,
+//! `Detours`, `Looks`, and `Laws`, which says what follows from them. `Codes` tells the compiler how the values are stored,
 //! and `Rows` has the values of the worked rows.
 //!
 //! Each function below does nothing. Its contract is what is proved: first the laws, and then
@@ -77,6 +77,12 @@ pub fn laws_of_points()
     ensures routes_join { Laws.RoutesJoin }
     ensures decoded_near { Laws.DecodedNear }
     ensures decoded_points { Laws.DecodedPoints }
+{}
+
+/// Every receiver that takes distinct lines recovers the stretches between the kept points.
+pub fn laws_of_receivers()
+    ensures recovered { Laws.Recovered }
+    ensures stretches_join { Laws.StretchesJoin }
 {}
 
 /// Each direction lies in exactly one sector.
