@@ -165,9 +165,9 @@ two_of (h ∷ []) a b p q lt =
 two_of (h ∷ i ∷ js) a b p q lt = (h, i, js, refl)
 
 -- what is decoded of the points ks: one place for each, near its own
-record Decodes (gs : List Leg) (ks : List ℕ) (r : Reference) : Type 0 where
-  count : length r.middle + 2 ≡ length ks
-  near : (k : ℕ) → k < length ks → (d : ℤ × ℤ) × (decoded r k ≡ Some d) × IsNear k d (position gs (slice_index ks k))
+pub record Decodes (gs : List Leg) (ks : List ℕ) (r : Reference) : Type 0 where
+  pub count : length r.middle + 2 ≡ length ks
+  pub near : (k : ℕ) → k < length ks → (d : ℤ × ℤ) × (decoded r k ≡ Some d) × IsNear k d (position gs (slice_index ks k))
 
 decodes : (gs : List Leg) (p q : ℕ) (ks : List ℕ) → (h i : ℕ) × (js : List ℕ) × (ks ≡ h ∷ i ∷ js) →
     Decodes gs ks (reference_by gs p q ks)
@@ -177,7 +177,7 @@ decodes gs p q ks t =
       near = λ k lt. near_of gs p q t.0 t.1 t.2 k (omega arith);
     })
 
-answer_decodes : (M : Map) → (P : Path) → IsTrue (is_path P.lines) → path_fault M P ≡ None → (r : Reference) →
+pub answer_decodes : (M : Map) → (P : Path) → IsTrue (is_path P.lines) → path_fault M P ≡ None → (r : Reference) →
     (e : Encoding M P (Points r))
     → Decodes (legs M (extended_path M P e.before e.after).lines)
     (kept_points (legs M (extended_path M P e.before e.after).lines) (extended_path M P e.before e.after).pos

@@ -305,7 +305,7 @@ module _ (M : Map) (m : IsMap M) (ls : List ℕ) (known : Each (λ x. IsTrue (ha
 
   -- ---- positions
 
-  last_index : (xs : List ℕ) → 0 < length xs → last xs ≡ slice_index xs (length xs - 1)
+  pub last_index : (xs : List ℕ) → 0 < length xs → last xs ≡ slice_index xs (length xs - 1)
   last_index [] h = absurd (omega arith)
   last_index (x ∷ []) h = refl
   last_index (x ∷ y ∷ xs) h =

@@ -20,6 +20,9 @@ pub mod DecodedLemmas
 pub mod CandidateLemmas
 pub mod RecoverLemmas
 pub mod ReceiverLemmas
+pub mod OffsetLemmas
+pub mod NearestLemmas
+pub mod RecoveryLemmas
 pub mod SectorLemmas
 pub mod BytesLemmas
 pub mod ReadLemmas

@@ -152,6 +152,16 @@ module _ (R : Receiver) (M : Map) (m : IsMap M) (ls : List ℕ) (known : Each (�
 
 -- ---- an answer
 
+-- at least two points are kept, h, i and js, and the reference is that of these
+pub record Form (M : Map) (ls ks : List ℕ) (p q : ℕ) (r : Reference) : Type 0 where
+  pub h : ℕ
+  pub i : ℕ
+  pub js : List ℕ
+  pub kept : ks ≡ h ∷ i ∷ js
+  pub linked : Linked M ls (h ∷ i ∷ js)
+  pub fields_are : r ≡ reference_by_kept (legs M ls) p q h i js
+  pub size : last_place r + 1 ≡ length ks
+
 -- a fact of a path's extension and points, whichever they are found to be
 module _ (M : Map) (m : IsMap M) (P : Path) (is : IsTrue (is_path P.lines)) (none : path_fault M P ≡ None)
     (r : Reference) (e : Encoding M P (Points r)) where
@@ -166,10 +176,10 @@ module _ (M : Map) (m : IsMap M) (P : Path) (is : IsTrue (is_path P.lines)) (non
       (subst (λ (js : List ℕ). Q (extended_path M P p.before p.after) js) (sym same.2) p.holds)
 
   -- the extended path, its points, and those that are kept
-  abbrev Lines : List ℕ
+  abbrev pub Lines : List ℕ
   Lines = (extended_path M P e.before e.after).lines
 
-  abbrev Kept : List ℕ
+  abbrev pub Kept : List ℕ
   Kept =
       kept_points (legs M Lines) (extended_path M P e.before e.after).pos (extended_path M P e.before e.after).neg e.points
 
@@ -194,9 +204,19 @@ module _ (M : Map) (m : IsMap M) (P : Path) (is : IsTrue (is_path P.lines)) (non
               (omega arith),
         )
 
-  recovered_by : (R : Receiver) → Distinct R.far M P r → (ws : List (List ℕ)) →
-      Recovers R M r ws ↔ (ws ≡ stretches Lines Kept)
-  recovered_by R d ws =
+  -- what is left of the offsets
+  abbrev pub Front : ℕ
+  Front =
+      (extended_path M P e.before e.after).pos
+      - from_front (legs M Lines) (first_kept (legs M Lines) (extended_path M P e.before e.after).pos e.points)
+
+  abbrev pub Back : ℕ
+  Back =
+      (extended_path M P e.before e.after).neg
+      - to_back (legs M Lines) (last_kept (legs M Lines) (extended_path M P e.before e.after).neg e.points)
+
+  pub form : Form M Lines Kept Front Back r
+  form =
       let E = extended_path M P e.before e.after in
       let gs = legs M Lines in
       let a = first_kept gs E.pos e.points in
@@ -204,28 +224,42 @@ module _ (M : Map) (m : IsMap M) (P : Path) (is : IsTrue (is_path P.lines)) (non
       let p = E.pos - from_front gs a in
       let q = E.neg - to_back gs b in
       let s = extended_sound M P is none e.before e.after e.tried in
-      let once = extended_once M P e.before e.after is e.tried in
       let ans = answered M E e.points r e.holds in
       let ends = kept_ends M Lines e.points E.pos E.neg e.follow ans.0 s.long in
       let two = two_kept M Lines e.points E.pos E.neg e.follow ans.0 s.long in
       let t = two_of Kept a b ends.0 ends.1 two in
-      let h = t.0 in
-      let i = t.1 in
-      let js = t.2 in
-      let r_is : r ≡ reference_by_kept gs p q h i js = ans.1 ∙ ap (reference_by gs p q) t.3 in
-      let count = middle_count gs h i js in
-      let size : last_place r + 1 ≡ length js + 2 =
-      ap (λ (v : Reference). last_place v + 1) r_is ∙ (let n = count in omega arith) in
-      let owns : Owns R M Lines r 0 (h ∷ i ∷ js) =
-      subst (Owns R M Lines r 0) t.3 (owns_from R d 0 Kept (λ n. let z : 0 + n ≡ n = omega arith in
-      ap (slice_get Kept) z) (let l = ap (λ (ks : List ℕ). length ks) t.3 in omega arith)) in
-      let linked : Linked M Lines (h ∷ i ∷ js) =
-      subst (Linked M Lines) t.3 (kept_linked M Lines a b (0 ∷ e.points) (follow_linked M Lines 0 e.points e.follow)) in
+      let fields_are : r ≡ reference_by_kept gs p q t.0 t.1 t.2 = ans.1 ∙ ap (reference_by gs p q) t.3 in
+      let count = middle_count gs t.0 t.1 t.2 in
+      let length_is = ap (λ (ks : List ℕ). length ks) t.3 in
+      let place_is = ap (λ (v : Reference). last_place v + 1) fields_are in
+      record {
+        h = t.0;
+        i = t.1;
+        js = t.2;
+        kept = t.3;
+        linked = subst (Linked M Lines) t.3
+            (kept_linked M Lines a b (0 ∷ e.points) (follow_linked M Lines 0 e.points e.follow));
+        fields_are = fields_are;
+        size = omega arith;
+      }
+
+  recovered_by : (R : Receiver) → Distinct R.far M P r → (ws : List (List ℕ)) →
+      Recovers R M r ws ↔ (ws ≡ stretches Lines Kept)
+  recovered_by R d ws =
+      let gs = legs M Lines in
+      let f = form in
+      let s = extended_sound M P is none e.before e.after e.tried in
+      let once = extended_once M P e.before e.after is e.tried in
+      let size = f.size in
+      let ks = f.h ∷ f.i ∷ f.js in
+      let owns : Owns R M Lines r 0 ks =
+      subst (Owns R M Lines r 0) f.kept (owns_from R d 0 Kept (λ n. let z : 0 + n ≡ n = omega arith in
+      ap (slice_get Kept) z) (omega arith)) in
       let by_kept =
-      recovers_kept R M m Lines s.known once p q h i js linked
-      (subst (λ (v : Reference). Owns R M Lines v 0 (h ∷ i ∷ js)) r_is owns) ws in
-      subst (λ (ks : List ℕ). Recovers R M r ws ↔ (ws ≡ stretches Lines ks)) (sym t.3)
-      (subst (λ (v : Reference). Recovers R M v ws ↔ (ws ≡ stretches Lines (h ∷ i ∷ js))) (sym r_is) by_kept)
+      recovers_kept R M m Lines s.known once Front Back f.h f.i f.js f.linked
+      (subst (λ (v : Reference). Owns R M Lines v 0 ks) f.fields_are owns) ws in
+      subst (λ (ns : List ℕ). Recovers R M r ws ↔ (ws ≡ stretches Lines ns)) (sym f.kept)
+      (subst (λ (v : Reference). Recovers R M v ws ↔ (ws ≡ stretches Lines ks)) (sym f.fields_are) by_kept)
 
   recovered_of : (R : Receiver) → Distinct R.far M P r → (ws : List (List ℕ)) → Recovers R M r ws ↔ IsStretches M P ws
   recovered_of R d ws =
