@@ -9,6 +9,7 @@ ghost use Rattle.olr_spec.specs.Footprint.{Foot, Sees};
 ghost use Rattle.olr_spec.specs.Looks.{Look as LookRecord, LooksOf, OwnOf};
 ghost use Rattle.olr_refs.specs.Answers.{answer_of};
 ghost use Rattle.olr_refs.specs.Choice.{raised_count, Searches};
+ghost use Rattle.olr_refs.specs.Recovered.{RecoveredOf};
 ghost use Rattle.olr_refs.specs.Referring.{JoinsOf, SearchesOf};
 
 use crate::answer::Answer;
@@ -73,7 +74,8 @@ fn footprint<M: MapRead>(
 }
 
 /// The answer of a path on a map, and its footprint: the nodes on which the answer rests. On any sound map that has the
-/// same round these nodes, and the same lines of the path, the answer is the same.
+/// same round these nodes, and the same lines of the path, the answer is the same. On this map every receiver to which
+/// each point's own line is distinct recovers the lines between the points.
 ///
 /// One encoding is counted, and each search that it takes to find the footprint. After want of memory the work may hold
 /// more than before.
@@ -85,6 +87,7 @@ pub fn refer<M: MapRead>(
 ) -> Result<(Answer, Footprint), AllocError>
     ensures answer { IfOk result (λ r. Encodes (M.map map.now) path.now (answer_of r.0)) }
     ensures joins { IfOk result (λ r. JoinsOf (M.map map.now) path.now r.0) }
+    ensures recovered { IfOk result (λ r. RecoveredOf (M.map map.now) path.now r.0) }
     ensures footprint { IfOk result (λ r. (v : ℕ) → Contains r.1 v ↔ Foot (M.map map.now) path.now v) }
     ensures local { IfOk result (λ r. (other : Map) → IsMap other
         → Agree (M.map map.now) other path.now.lines (Contains r.1) → Encodes other path.now (answer_of r.0)) }

@@ -17,6 +17,12 @@ pub mod KeptLemmas
 pub mod FieldLemmas
 pub mod FitLemmas
 pub mod DecodedLemmas
+pub mod CandidateLemmas
+pub mod RecoverLemmas
+pub mod ReceiverLemmas
+pub mod OffsetLemmas
+pub mod NearestLemmas
+pub mod RecoveryLemmas
 pub mod SectorLemmas
 pub mod BytesLemmas
 pub mod ReadLemmas

@@ -14,6 +14,8 @@ pub mod Joins
 pub mod Detours
 pub mod Looks
 pub mod Footprint
+pub mod Receiver
+pub mod Recovery
 pub mod Laws
 pub mod Rows
 pub mod Codes

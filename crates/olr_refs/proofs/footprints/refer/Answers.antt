@@ -4,6 +4,7 @@ use Rattle.olr_spec.specs.Map.{has_node}
 use Rattle.olr_spec.specs.Extension.{limit}
 use Rattle.olr_spec.specs.Looks.{Look, LooksOf}
 use Rattle.olr_refs.specs.Answers.{answer_of}
+use Rattle.olr_refs.proofs.Recovering.{recovered_of}
 use Rattle.olr_refs.proofs.Referring.{local_by, searches_looked}
 use Rattle.olr_refs.proofs.Widening.{looks_known}
 use Rattle.olr_refs.proofs.footprints.refer.Goals as goal
@@ -28,6 +29,11 @@ returns-clause-local g c =
     (answer_of c.in_ok-answer.field-0.answer) c.in_ok-footprint.footprint c.in_ok-answer.ensures.answer
     (c.in_ok-footprint.ensures.footprint c.args.path.now c.encode.ensures.path c.in_ok-answer.ensures.own
     (subst (LooksOf M c.args.path.now) (sym c.deref.ensures.value) c.in_ok-answer.ensures.looks))
+
+pub returns-clause-recovered : goal.returns-clause-recovered
+returns-clause-recovered g c =
+    recovered_of (g.M.MapRead.map c.args.map.now) (g.met.M.MapRead.sound c.args.map.now) c.args.path.now
+    c.encode.ensures.path c.in_ok-answer.field-0.answer c.in_ok-answer.ensures.answer
 
 pub returns-clause-searches : goal.returns-clause-searches
 returns-clause-searches g c =
