@@ -1,7 +1,6 @@
 -- Runs over an input of known bytes, by the history of their session.
 use Rattle.std.proofs.Common.{◌≡◌, ◌≢◌, ◌∙◌, ◌+◌, ◌<◌, ℕ, Bool, true, false, List, [], ◌∷◌, ◌++◌, length, map}
 use Rattle.std.proofs.Common.{option_map, None, Some, inl, inr, refl, sym, ap, subst, arith, length-append}
-use Rattle.std.specs.Prelude.{◌&&◌, if◌then◌else◌}
 use Rattle.std.proofs.lemmas.List.{append-nil, append_assoc, length-map}
 use Rattle.std.specs.Io.KnownBytes.{Appends}
 use Rattle.std.proofs.KnownBytes.{Appends-nil, Appends-trans}
@@ -11,18 +10,16 @@ use Rattle.csv.specs.Reading.{is_flexible, names_headers, reader_headers, source
 use Rattle.csv.specs.declared.reader.Trim.TheVariants as trim
 use Rattle.csv.specs.declared.reader.Reader.{Reader}
 use Rattle.csv.proofs.ReadFacts.{rows-more, rows-end}
-use Rattle.csv.specs.declared.parser.State.{State as CsvState}
 use Rattle.csv.specs.declared.parser.State.TheVariants as st
 use Rattle.olr_commands.specs.Reply.{Outcome}
 use Rattle.olr_commands.specs.State.{IsContent, State}
 use Rattle.olr_commands.proofs.HistoryLemmas.{run_longer}
 use Rattle.olr_records.specs.Records.{Field}
 use Rattle.olr_records.specs.ReplyText.{outcome_text}
-use Rattle.olr_register.specs.Kept.{Stands}
 use Rattle.olr_register.specs.Registered.{Registered}
 use Rattle.olr_run.specs.Output.{SoundOutcome, SoundOutcomes, Claims, texts, Ran, Faulted, records_of, most_records}
 use Rattle.olr_run.specs.Output as output
-use Rattle.olr_run.specs.Sessions.{Known, Event, Took, Ended, Not_taken, Wrote, Cut, History, exchanges, IsPlain}
+use Rattle.olr_run.specs.Sessions.{Known, Event, Took, Ended, Not_taken, Cut, History, exchanges, IsPlain}
 use Rattle.olr_run.specs.Sessions.{CsvHappens, IsOfTaking}
 use Rattle.olr_run.specs.Runs.{known_records, RanOn, FaultedOn, HasTooMany, RanIn, CutIn, In_taking, Past_the_most}
 use Rattle.olr_run.specs.Runs.{No_text, In_text, AnsweredOn, status_of}

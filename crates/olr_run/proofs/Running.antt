@@ -1,6 +1,6 @@
 -- The records that a run has answered so far.
 use Rattle.std.proofs.Common.{◌≡◌, ◌∙◌, ◌+◌, ℕ, Bool, true, false, List, [], ◌∷◌, ◌++◌, length, map, Ok, Err, IsTrue}
-use Rattle.std.proofs.Common.{Result, inl, inr, refl, sym, ap, subst, arith, length-append}
+use Rattle.std.proofs.Common.{Result, inl, inr, refl, sym, ap, subst, length-append}
 use Rattle.std.specs.Prelude.{◌&&◌, ◌||◌, is_err, is_ok, if◌then◌else◌, ⊤, IfErr, IsErrAnd}
 use Rattle.std.proofs.lemmas.List.{append-nil}
 use Rattle.std.proofs.lemmas.List.Concat.{flat_map-append}
