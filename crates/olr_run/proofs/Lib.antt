@@ -2,7 +2,9 @@ pub mod RecordLemmas
 pub mod RunLemmas
 pub mod Answering
 pub mod Writing
+pub mod SessionLemmas
 pub mod Running
 pub mod Joining
+pub mod InputRuns
 pub mod Ending
 pub mod Lacking

@@ -2,5 +2,6 @@ pub mod Output
 pub mod Laws
 pub mod Rows
 pub mod Options
+pub mod Sessions
 pub mod Runs
 pub mod Ends

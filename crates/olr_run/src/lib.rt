@@ -11,9 +11,11 @@ pub mod laws;
 mod output;
 mod records;
 pub mod rows;
+mod sessions;
 mod streams;
 
 pub use both::run_both;
 pub use ends::{RunFault, Status, exit_code};
-pub use records::run;
+pub use records::{run, run_session};
+pub use sessions::Session;
 pub use streams::{WRONG_WORDS, program, tell_fault};
