@@ -18,7 +18,8 @@ from typing import NamedTuple
 from replies import read_reply
 
 UNITS = 10_000_000
-BESIDE = os.path.join(os.path.dirname(os.path.dirname(os.path.realpath(__file__))), "crates/olr_keep/out/olr_keep")
+TOP = os.path.dirname(os.path.dirname(os.path.realpath(__file__)))
+BESIDE = [os.path.join(TOP, name) for name in ("crates/olr_keep/out/olr_keep", "../../bin/olr-keep")]
 
 
 class Line(NamedTuple):
@@ -102,7 +103,8 @@ def line_of(ends, fields):
 
 def program_name():
     """The program: that of the environment's OLR_KEEP, else the one built in this repository, else the installed one."""
-    found = os.environ.get("OLR_KEEP") or (BESIDE if os.path.exists(BESIDE) else shutil.which("olr-keep"))
+    beside = next(filter(os.path.exists, BESIDE), None)
+    found = os.environ.get("OLR_KEEP") or beside or shutil.which("olr-keep")
     if not found:
         raise RecordsError("olr-keep is neither built here nor installed; OLR_KEEP can name it")
     return found

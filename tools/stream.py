@@ -16,8 +16,8 @@ try:
     import pika
     from pika.exceptions import AMQPError, ConsumerCancelled
 except ImportError:
-    sys.exit(f"{os.path.basename(sys.argv[0])}: {sys.executable} has no module pika: install Debian's python3-pika,"
-             " and run this by /usr/bin/python3")
+    # Without it --help is all that can be had: see `keep_connected`.
+    pika, AMQPError, ConsumerCancelled = None, OSError, OSError
 
 PLAIN = re.compile(r"[ !#-~]+")
 OF_A_PATH = ("path", "repath", "drop-path", "show")
@@ -108,6 +108,9 @@ def complain(text):
 
 def keep_connected(url, session, say=complain):
     """What `session` returns, which is called with a connection, and with another one each time that is lost."""
+    if pika is None:
+        sys.exit(f"{os.path.basename(sys.argv[0])}: {sys.executable} has no module pika: install Debian's python3-pika,"
+                 " and run this by /usr/bin/python3")
     try:
         nodes = [pika.URLParameters(it) for it in url.split(",")]
     except (ValueError, TypeError, IndexError):
