@@ -1,14 +1,14 @@
 -- The own line of a location reference point is preferred to every other candidate.
-use Rattle.std.proofs.Common.{inl, inr, ◌≡◌, ◌≢◌, ℕ, Bool, true, false, not, ◌||◌, List, [], ◌∷◌, map, ◌<◌}
+use Rattle.std.proofs.Common.{inl, inr, ◌≡◌, ◌≢◌, ℕ, ◌+◌, ◌-◌, Bool, true, false, not, ◌||◌, List, [], ◌∷◌, map, ◌<◌}
 use Rattle.std.proofs.Common.{◌≤◌, ◌↔◌, IsTrue, IsFalse, refl, sym, ap, ◌∙◌, subst, arith, nat_lt, ◌==◌}
 use Rattle.std.proofs.lemmas.Bool.{cases_Bool, cases_eq, cases_lt, both_ways, and_parts, and_from, or_cases, eqb-true}
-use Rattle.std.proofs.lemmas.Bool.{eq-eqb, ltb-true}
+use Rattle.std.proofs.lemmas.Bool.{eq-eqb, ltb-true, lt-ltb, le-ltb}
 use Rattle.std.specs.List.{list_all}
 use Rattle.olr_spec.specs.Map.{Map, has_line, line_at, place_at, lines_where, has}
 use Rattle.olr_spec.specs.Bearings.{Leg}
 use Rattle.olr_spec.specs.Reference.{leg}
 use Rattle.olr_spec.specs.Receiver.{Side, Outgoing, Incoming, node_on, coordinate_on, sector_on, candidates, Lrp, Rating}
-use Rattle.olr_spec.specs.Receiver.{NowhereWorse, SomewhereBetter, IsDifference, Receiver, rating, Takes, is_nearest}
+use Rattle.olr_spec.specs.Receiver.{Measure, NowhereWorse, SomewhereBetter, IsDifference, Receiver, rating, Takes, is_nearest}
 use Rattle.olr_spec.specs.Receiver.{are_twins, has_no_twin}
 use Rattle.olr_spec.proofs.ListLemmas.{has_cases}
 use Rattle.olr_spec.proofs.MapLemmas.{has-lines_where, passes_at}
@@ -155,3 +155,41 @@ module _ (R : Receiver) (M : Map) (t : Lrp) (x : ℕ) (o : Own R M t x) where
       ];
     })),
   )
+
+-- ---- there are receivers
+
+abbrev apart : ℕ → ℕ → ℕ
+apart a b = a - b + (b - a)
+
+apart_differs : IsDifference apart
+apart_differs = record { same = λ a. omega arith; other = λ a b e. omega arith }
+
+abbrev total : Rating → ℕ
+total a = a.far + a.frc + a.fow + a.bearing
+
+smaller : (a b : Rating) → NowhereWorse a b → SomewhereBetter a b → total a < total b
+smaller a b w (inl h) = let p = w.frc in let q = w.fow in let r = w.bearing in omega arith
+smaller a b w (inr (inl h)) = let p = w.far in let q = w.fow in let r = w.bearing in omega arith
+smaller a b w (inr (inr (inl h))) = let p = w.far in let q = w.frc in let r = w.bearing in omega arith
+smaller a b w (inr (inr (inr h))) = let p = w.far in let q = w.frc in let r = w.fow in omega arith
+
+one_way : (m n : ℕ) → nat_lt m n ≡ true → nat_lt n m ≡ false
+one_way m n h = le-ltb n m (let lt = ltb-true m n h in omega arith)
+
+-- by the sum of the measure and the differences
+pub some_receiver : (far : Measure) → (R : Receiver) × (R.far ≡ far)
+some_receiver far = (
+  record {
+    far = far;
+    frc_apart = apart;
+    fow_apart = apart;
+    bearing_apart = apart;
+    prefers = λ a b. nat_lt (total a) (total b);
+    frcs = apart_differs;
+    fows = apart_differs;
+    bearings = apart_differs;
+    monotone = λ a b w h. lt-ltb (total a) (total b) (smaller a b w h);
+    strict = λ a b h. one_way (total a) (total b) h;
+  },
+  refl,
+)

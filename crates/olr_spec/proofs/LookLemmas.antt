@@ -97,9 +97,6 @@ module _ (M N : Map) (ls : List ℕ) (same : Each (SameLine M N) ls) (s t : ℕ)
   abbrev part : ℕ → List ℕ
   part m = stretch ls (i + 1) m
 
-  joined_there : Walk N s t ls
-  joined_there = Walk-moves M N s t ls same joined
-
   from_same : from ≡ end N (slice_index ls i)
   from_same = let h = look.after in let g = look.inside in
       same_end M N (slice_index ls i) (same (slice_index ls i) (has_index ls i (omega arith)))

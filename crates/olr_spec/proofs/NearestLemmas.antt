@@ -94,3 +94,20 @@ nearer n d scale far w k p a b near spaced =
           there.most (omega arith) (leb-true (3 * (d * B)) (n * nat_abs (a.lon -ℤ b.lon)) h) there.by_lon
     ] in
     omega arith
+
+-- ---- there are such measures
+
+pub some_weighted : (n d : ℕ) → n ≤ d → 0 < d → IsWeighted n d d (λ p c. n * lon_apart p c + d * lat_apart p c)
+some_weighted n d h some =
+    record {
+      some = some;
+      unit = some;
+      all = λ p c. record {
+        u = n;
+        least = let turned = mul_comm n d in omega arith;
+        most = h;
+        by_lon = omega arith;
+        by_lat = omega arith;
+        by_both = omega arith;
+      };
+    }

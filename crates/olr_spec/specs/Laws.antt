@@ -9,7 +9,7 @@
 --     changes    what edits change, and which walks they can concern
 --     receivers      what every receiver recovers from a reference, and where the nearest node is the own one
 --     looks      a path looks at its own nodes and what lies near; where no change concerns that, its answer is kept
-use Rattle.std.specs.Prelude.{◌≡◌, ℕ, ◌+◌, ◌<◌, ◌≤◌, ℤ, pos, List, [], ◌++◌, length, map, Option, Some, None, is_some, All}
+use Rattle.std.specs.Prelude.{◌≡◌, ℕ, ◌+◌, ◌*◌, ◌<◌, ◌≤◌, ℤ, pos, List, [], ◌++◌, length, map, Option, Some, None, is_some, All}
 use Rattle.std.specs.Prelude.{Contains, Ok, ◌↔◌, ◌⊎◌, IsTrue, IsFalse}
 use Rattle.std.specs.List.{AllByRecursion, AllZip, concat}
 use Rattle.std.specs.List.Sorted.{IsStrictlyIncreasing}
@@ -28,7 +28,7 @@ use Rattle.olr_spec.specs.Joins.{Joins}
 use Rattle.olr_spec.specs.Receiver.{Outgoing, Incoming, Measure, Receiver, Recovers, attributes, candidates}
 use Rattle.olr_spec.specs.Receiver.{last_place, decoded_place, is_nearest}
 use Rattle.olr_spec.specs.Recovery.{Distinct, IsLineAt, IsStretches, IsKeptPart, IsLeft, IsCut, IsClose, IsStep}
-use Rattle.olr_spec.specs.Recovery.{IsWeighted, are_spaced}
+use Rattle.olr_spec.specs.Recovery.{IsWeighted, are_spaced, lon_apart, lat_apart}
 use Rattle.olr_spec.specs.Footprint.{Sees, Foot}
 use Rattle.olr_spec.specs.Detours.{ChangedLine, changes_of, Tells, Difference, Detour, Near}
 use Rattle.olr_spec.specs.Looks.{OwnOf, IsLastTested, Look, look_to, LooksOf, IsClear}
@@ -186,6 +186,10 @@ Recovered =
 abbrev pub StretchesJoin : Type 0
 StretchesJoin = (M : Map) (P : Path) (ws : List (List ℕ)) → IsStretches M P ws → IsKeptPart M P (concat ws)
 
+-- each measure is one of a receiver
+abbrev pub SomeReceiver : Type 0
+SomeReceiver = (far : Measure) → (R : Receiver) × (R.far ≡ far)
+
 -- what an offset byte cuts off, read as any value of its interval, differs from what is left of the offset by less than
 -- a 256th of the first stretch, or of the last
 abbrev pub Offsets : Type 0
@@ -213,6 +217,11 @@ Nearest =
     × ((x : ℕ) → IsLineAt M P Incoming (last_place r) x →
     IsTrue (are_spaced n d (last_place r) Incoming (leg M x) (candidates M)) →
     IsTrue (is_nearest far Incoming (decoded_place r (last_place r)) (leg M x) (candidates M)))
+
+-- the weighted sum of both axes is such a measure
+abbrev pub SomeWeighted : Type 0
+SomeWeighted =
+    (n d : ℕ) → n ≤ d → 0 < d → IsWeighted n d d (λ p c. n * lon_apart p c + d * lat_apart p c)
 
 -- ---- sectors and bytes
 

@@ -91,6 +91,8 @@ pub fn laws_of_receivers()
     ensures offsets { Laws.Offsets }
     ensures distances { Laws.Distances }
     ensures nearest { Laws.Nearest }
+    ensures some { Laws.SomeReceiver }
+    ensures weighted { Laws.SomeWeighted }
 {}
 
 /// Each direction lies in exactly one sector.
