@@ -3,7 +3,6 @@ use Rattle.std.proofs.Common.{◌≡◌, ◌∙◌, ◌+◌, ℕ, Bool, true, fa
 use Rattle.std.proofs.Common.{Result, inl, inr, refl, sym, ap, subst, length-append}
 use Rattle.std.specs.Prelude.{◌&&◌, ◌||◌, is_err, is_ok, if◌then◌else◌, ⊤, IfErr, IsErrAnd}
 use Rattle.std.proofs.lemmas.List.{append-nil}
-use Rattle.std.proofs.lemmas.List.Concat.{flat_map-append}
 use Rattle.std.proofs.lemmas.List.Folds.{list_any-append}
 use Rattle.olr_commands.specs.Reply.{Outcome}
 use Rattle.olr_commands.specs.State.{IsContent, State}
@@ -12,7 +11,7 @@ use Rattle.olr_records.specs.Records.{Field}
 use Rattle.olr_records.specs.ReplyText.{outcome_text}
 use Rattle.olr_register.specs.Kept.{Stands}
 use Rattle.olr_register.specs.Registered.{Registered}
-use Rattle.olr_run.specs.Output.{SoundOutcome, SoundOutcomes, StopsAtFault, any_refused, texts, run_status, most_records}
+use Rattle.olr_run.specs.Output.{SoundOutcome, SoundOutcomes, StopsAtFault, any_refused, run_status, most_records}
 use Rattle.olr_run.specs.Output as output
 use Rattle.olr_run.specs.Sessions.{Event, Took, Ended, Not_taken, Wrote, Cut, History, exchanges, IsOfTaking}
 use Rattle.olr_run.specs.Runs.{status_of, AnswersRecord, AnsweredOn, last_events, RanIn, CutIn, In_taking, Past_the_most}
@@ -45,10 +44,6 @@ stops_more stop (k ∷ os) o n h = (
   λ e. absurd (no_refusal stop (is_err k) (any_refused os) n e),
   stops_more stop os o (none_later stop (is_err k) (any_refused os) n) h.1,
 )
-
-texts_more : (os : List Outcome) (o : Outcome) → texts (os ++ o ∷ []) ≡ texts os ++ outcome_text o
-texts_more os o =
-    flat_map-append outcome_text os (o ∷ []) ∙ ap (λ (xs : List ℕ). texts os ++ xs) (append-nil (outcome_text o))
 
 refused_more : (os : List Outcome) (o : Outcome) → any_refused (os ++ o ∷ []) ≡ (any_refused os || (is_err o || false))
 refused_more os o = list_any-append is_err os (o ∷ [])
