@@ -102,15 +102,17 @@ def lines_alone(roads):
 
 
 def nodes_near(roads, point):
-    """Nodes at one coordinate, and nodes which aren't twice the decoding error apart on any axis: a decoded coordinate is then
-    perhaps not the nearest to its own node."""
-    width, cells = 2 * decoding_error(point), defaultdict(list)
+    """Nodes at one coordinate, and nodes too near to each other for the law `Nearest`: in latitude, and in longitude times
+    the least cosine of the map, less than three times the decoding error apart. Another node is then perhaps as near to a
+    decoded coordinate as its own."""
+    width, cells = 3 * decoding_error(point), defaultdict(list)
+    least = min((math.cos(math.radians(lat)) for _, lat in roads.nodes.values()), default=1.0)
     for number, (lon, lat) in sorted(roads.nodes.items()):
-        column, row = math.floor(lon / width), math.floor(lat / width)
+        column, row = math.floor(lon * least / width), math.floor(lat / width)
         for cell in itertools.product((column - 1, column, column + 1), (row - 1, row, row + 1)):
             for other in cells.get(cell, ()):
                 there = roads.nodes[other]
-                if max(abs(there[0] - lon), abs(there[1] - lat)) < width:
+                if max(abs(there[0] - lon) * least, abs(there[1] - lat)) < width:
                     is_same = there == (lon, lat)
                     text = f"nodes {other} and {number}, {distance(there, (lon, lat)):.1f} m apart"
                     yield Finding("same-coordinate" if is_same else "near-nodes", (), (other, number), text)
