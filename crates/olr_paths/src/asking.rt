@@ -59,13 +59,7 @@ fn is_at_most(distance: Option<u32>, length: u32) -> bool
 }
 
 /// Whether a touched node can be reached from a node within a length in decimetres and the greatest limit.
-fn is_near<M: MapRead>(
-    map: &M,
-    touched: &Touched,
-    near: &Search,
-    node: NodeId,
-    within: u32,
-) -> bool
+fn is_near<M: MapRead>(map: &M, touched: &Touched, near: &Search, node: NodeId, within: u32) -> bool
     requires search { IsSearch (M.map map.now) (M.place_in map.now) Against (sources touched.now) near.now }
     requires limit { limit_of near.now ≡ limit }
     ensures { IsTrue result ↔ Near (M.map map.now) (nodes_of touched.now) node (min within limit) }

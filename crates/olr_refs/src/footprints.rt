@@ -67,7 +67,15 @@ fn footprint<M: MapRead>(
     let mut footprint = own;
     let mut search = Search::new(alloc);
     for look in looks {
-        note_seen(alloc, map, look.from, look.within, &mut search, &mut footprint, work)?;
+        note_seen(
+            alloc,
+            map,
+            look.from,
+            look.within,
+            &mut search,
+            &mut footprint,
+            work,
+        )?;
     }
     Ok(footprint)
 }

@@ -97,9 +97,6 @@ module _ (M N : Map) (ls : List ℕ) (same : Each (SameLine M N) ls) (s t : ℕ)
   abbrev part : ℕ → List ℕ
   part m = stretch ls (i + 1) m
 
-  joined_there : Walk N s t ls
-  joined_there = Walk-moves M N s t ls same joined
-
   from_same : from ≡ end N (slice_index ls i)
   from_same = let h = look.after in let g = look.inside in
       same_end M N (slice_index ls i) (same (slice_index ls i) (has_index ls i (omega arith)))
@@ -213,7 +210,8 @@ module _ (M N : Map) (ls : List ℕ) (same : Each (SameLine M N) ls) (s t : ℕ)
       elim (cases_lt k (min j (length ls - 1))) [
         | inl beyond ↦ (
           (λ c. absurd (covered_known M ls s t joined i k look j h g near beyond c)),
-          (λ c. absurd (covered_known N ls s t (Walk-moves M N s t ls same joined) i k look_stays j h g (omega arith) beyond c)),
+          (λ c. absurd (covered_known N ls s t (Walk-moves M N s t ls same joined) i k look_stays j h g (omega arith)
+              beyond c)),
         )
         | inr within ↦ (covered_there j (omega arith), covered_here j (omega arith))
       ]
