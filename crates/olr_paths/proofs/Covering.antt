@@ -316,7 +316,8 @@ module _ (N : Map) (n : IsMap N) (place : ℕ → ℕ) (t : Touched) (s : Search
                 })
             | inr lacks ↦
                 let touched : IsTrue (has (nodes_of t) v) =
-                (near_absent N n (nodes_of t) v (min h.0.within limit) (λ there. let never : ⊥ = cc (there, lacks) in never)).1 near in
+                (near_absent N n (nodes_of t) v (min h.0.within limit)
+                (λ there. let never : ⊥ = cc (there, lacks) in never)).1 near in
                 let on =
                 All-contains (λ (u : ℕ). Finds ms f.from u found) (nodes_of t) v from (in_from (nodes_of t) v touched) k
                 lower held in

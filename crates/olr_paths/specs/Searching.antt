@@ -6,7 +6,8 @@
 --         limit
 --     IsAtMost p d      a distance is at most d, and is one
 --     AreFarther p q d      two distances together are more than d, or one is none
-use Rattle.std.specs.Prelude.{◌≡◌, ℕ, ◌+◌, ◌<◌, ◌≤◌, List, [], map, Contains, Option, Some, None, IfSome, IsTrue, IsFalse, ⊤}
+use Rattle.std.specs.Prelude.{◌≡◌, ℕ, ◌+◌, ◌<◌, ◌≤◌, List, [], map, Contains, Option, Some, None, IfSome, IsTrue}
+use Rattle.std.specs.Prelude.{IsFalse, ⊤}
 use Rattle.olr_spec.specs.Map.{Map}
 use Rattle.olr_route.specs.Searches.{IsSearch, limit_of}
 use Rattle.olr_route.specs.declared.distances.Direction.TheVariants.{Along, Against}

@@ -169,7 +169,8 @@ looks_once M ls i look old new before after h is grown counts =
       added = look ∷ [];
       each = subst (λ (is : List ℕ). LooksFrom M ls is (look ∷ [])) one (is, tt);
       grown = grown;
-      counts = looked_wider before after 1 _ (Searched M ls (i ∷ [])) (λ v r. (i, has_here i [], h, (look, is, r))) counts;
+      counts =
+          looked_wider before after 1 _ (Searched M ls (i ∷ [])) (λ v r. (i, has_here i [], h, (look, is, r))) counts;
     }
 
 -- ---- from point to point

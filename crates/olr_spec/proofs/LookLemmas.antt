@@ -210,7 +210,8 @@ module _ (M N : Map) (ls : List ℕ) (same : Each (SameLine M N) ls) (s t : ℕ)
       elim (cases_lt k (min j (length ls - 1))) [
         | inl beyond ↦ (
           (λ c. absurd (covered_known M ls s t joined i k look j h g near beyond c)),
-          (λ c. absurd (covered_known N ls s t (Walk-moves M N s t ls same joined) i k look_stays j h g (omega arith) beyond c)),
+          (λ c. absurd (covered_known N ls s t (Walk-moves M N s t ls same joined) i k look_stays j h g (omega arith)
+              beyond c)),
         )
         | inr within ↦ (covered_there j (omega arith), covered_here j (omega arith))
       ]

@@ -35,7 +35,8 @@ returns-then-is_near g c =
 
 pub loop-look-preserved : goal.loop-look-preserved
 loop-look-preserved g c =
-    let P : Look → Type 0 = λ k. ¬ Near (g.M.MapRead.map c.args.map.now) (nodes_of c.args.touched.now) k.from (min k.within limit) in
+    let P : Look → Type 0 =
+    λ k. ¬ Near (g.M.MapRead.map c.args.map.now) (nodes_of c.args.touched.now) k.from (min k.within limit) in
     let off : c.is_near.result ≡ false = cc in
     let item : Look = c.look-item.result in
     let no : P item = λ near.
@@ -48,7 +49,8 @@ loop-look-preserved g c =
 
 pub returns : goal.returns
 returns g c =
-    let P : Look → Type 0 = λ k. ¬ Near (g.M.MapRead.map c.args.map.now) (nodes_of c.args.touched.now) k.from (min k.within limit) in
+    let P : Look → Type 0 =
+    λ k. ¬ Near (g.M.MapRead.map c.args.map.now) (nodes_of c.args.touched.now) k.from (min k.within limit) in
     let all : All P c.args.published.now.looks.items =
     subst (λ (ls : List Look). All P ls)
     (take_all c.loop-look.look-index c.as_slice-looks.result.now (omega (arith, c.loop-look-test.false))

@@ -33,7 +33,9 @@ reached g c v =
     let M = g.M.MapRead.map c.args.map.now in
     let place = g.M.MapRead.place_in c.args.map.now in
     let near = c.in_ok-nodes.ensures.nodes M place Along ((c.args.from, 0) ∷ []) v (searched g c) in
-    let reach = near_reached M place c.args.from c.args.within c.settle_to.new.self (searched g c) c.requires.known (settled g c) v in
+    let reach =
+    near_reached M place c.args.from c.args.within c.settle_to.new.self (searched g c) c.requires.known (settled g c)
+    v in
     subst (λ (vs : List ℕ). Contains vs v ↔ Reaches M c.args.from c.args.within v) (sym c.deref.ensures.value)
     ((λ h. reach.0 (near.0 h)), (λ r. near.1 (reach.1 r)))
 

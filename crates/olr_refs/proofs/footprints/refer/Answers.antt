@@ -12,7 +12,8 @@ use Rattle.olr_refs.proofs.footprints.refer.Goals as goal
 pub footprint-requires : goal.footprint-requires
 footprint-requires g c =
     let M = g.M.MapRead.map c.args.map.now in
-    subst (λ (ls : List Look). All (λ l. IsTrue (has_node M l.from) × (l.within ≤ limit)) ls) (sym c.deref.ensures.value)
+    subst (λ (ls : List Look). All (λ l. IsTrue (has_node M l.from) × (l.within ≤ limit)) ls)
+    (sym c.deref.ensures.value)
     (looks_known M (g.met.M.MapRead.sound c.args.map.now) c.args.path.now c.encode.ensures.path _
     c.in_ok-answer.ensures.looks)
 
