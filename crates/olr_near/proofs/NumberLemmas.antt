@@ -3,7 +3,7 @@ use Rattle.std.proofs.Common.{◌≡◌, ◌≢◌, nat_eq, ◌*◌, ◌^◌, ge
 use Rattle.std.proofs.Common.{Option, Some, None, IsSome, IsTrue, Bool, refl, sym, ap, ◌∙◌, subst, inl, inr, arith}
 use Rattle.std.proofs.Common.{le_trans}
 use Rattle.std.proofs.lemmas.Bool.{cases_Bool, cases_eq, eqb-true, ne_eqb}
-use Rattle.std.specs.Prelude.{sum_by, unwrap_or}
+use Rattle.std.specs.Prelude.{sum_by, unwrap_or, min}
 use Rattle.std.specs.Option.{option_map}
 use Rattle.std.specs.Cmp.{nat_eq_equiv}
 use Rattle.std.specs.HashMap.{IsUnique, PutsEntry, Updates, get, keys, values}
@@ -47,17 +47,10 @@ pub closed_better : (M : Map) (L K : ℕ → Option ℕ) → Better L K → (u d
 closed_better M L K better u d closed x known from short =
     within_better L K better (end M x) (d + dm M x) (closed x known from short)
 
--- a number of at most 0 is that of a source
-pub source_within : (g : Nearness) (s : ℕ) → Within (number_of g) s 0 → number_of g s ≡ Some 0
-source_within g s k =
-    let low = k.low in
-    let none : k.number ≡ 0 = omega arith in
-    subst (λ (n : ℕ). number_of g s ≡ Some n) none k.at
-
-pub source_better : (f g : Nearness) → g.known ≡ f.known → Better (number_of f) (number_of g) → (s : ℕ) → IsSource f s →
-    IsSource g s
-source_better f g known better s source is =
-    source_within g s (better s 0 (source (subst (λ (b : Bool). IsTrue b) known is)))
+pub source_better : (f g : Nearness) → g.known ≡ f.known → Better (number_of f) (number_of g) → (s w : ℕ) →
+    IsSource f s w → IsSource g s w
+source_better f g known better s w source is =
+    within_better (number_of f) (number_of g) better s (limit - w) (source (subst (λ (b : Bool). IsTrue b) known is))
 
 pub moves_then : (f g h : Nearness) → Moves f g → Moves g h → Moves f h
 moves_then f g h m n = record {
@@ -209,9 +202,10 @@ closed_same M N L u d same closed x known from short =
     (closed x (subst (λ (b : Bool). IsTrue b) (same_known N M x is) known) (sym (same_start N M x is) ∙ from)
     (omega arith)))
 
-pub reopened_sources : (T : List ℕ) (f g : Nearness) → IsReopened T f g → (s : ℕ) → IsSource f s → IsSource g s
-reopened_sources T f g r s source is =
-    ap (λ (m : Numbers). get nat_eq m s) r.same ∙ source (subst (λ (b : Bool). IsTrue b) r.known is)
+pub reopened_sources : (T : List ℕ) (f g : Nearness) → IsReopened T f g → (s w : ℕ) → IsSource f s w → IsSource g s w
+reopened_sources T f g r s w source is =
+    let k = source (subst (λ (b : Bool). IsTrue b) r.known is) in
+    record { number = k.number; at = ap (λ (m : Numbers). get nat_eq m s) r.same ∙ k.at; low = k.low }
 
 pub reopened_under_way : (M N : Map) (T : List ℕ) (f g : Nearness) → IsReopened T f g → SameBut T M N → IsUnderWay M f →
     IsUnderWay N g
@@ -239,10 +233,12 @@ number_along M f right known u v d (x ∷ xs) at w short =
     let low = k.low in
     number_along M f right known (end M x) v k.number xs k.at w.2 (omega arith)
 
-pub near_numbered : (M : Map) (f : Nearness) (s : ℕ) (T : List ℕ) → IsTrue f.known → IsRight M f → IsSource f s →
-    (near : Near M T s limit) → IsSome (number_of f near.node)
-near_numbered M f s T known right source near =
-    number_along M f right known s near.node 0 near.walk (source known) near.leads (let w = near.within in omega arith)
+pub near_numbered : (M : Map) (f : Nearness) (s w : ℕ) (T : List ℕ) → IsTrue f.known → IsRight M f → IsSource f s w →
+    (near : Near M T s (min w limit)) → IsSome (number_of f near.node)
+near_numbered M f s w T known right source near =
+    let k = source known in
+    number_along M f right known s near.node k.number near.walk k.at near.leads
+    (let short = near.within in let low = k.low in omega arith)
 
 -- ---- the lines from a node
 

@@ -1,12 +1,11 @@
 -- Numbers of nodes, by which it is told that no source is near.
 --     number_of f v      the number of node v, in decimetres.
 --     numbers_len f      how many nodes have one
---     IsSource f s      the node s is a source: its number is 0
+--     IsSource f s w      the node s is a source of what lies within w: its number leaves so much to the limit
 --     Within L v d      node v has a number, of at most d
 --     ClosedAt M L u d      each line from u, where d, leads within the limit to a number that is no greater than the
 --         way there
---     IsRight M f      so at each number: then each is at most the distance from the nearest source, and other nodes
---         are beyond the limit
+--     IsRight M f      so at each number: then each node that lies within w of a source of that has one
 --     IsUnderWay M f      so at each number, unless the node waits
 --     SameBut T M N      round all nodes but T the maps are the same
 --     Moves f g      no number got greater, and where one is new its node waits
@@ -34,13 +33,13 @@ number_of f v = get nat_eq f.numbers v
 abbrev pub numbers_len : Nearness → ℕ
 numbers_len f = hash_map_len f.numbers
 
-abbrev pub IsSource : Nearness → ℕ → Type 0
-IsSource f s = IsTrue f.known → number_of f s ≡ Some 0
-
 pub record Within (L : ℕ → Option ℕ) (v d : ℕ) : Type 0 where
   pub number : ℕ
   pub at : L v ≡ Some number
   pub low : number ≤ d
+
+abbrev pub IsSource : Nearness → ℕ → ℕ → Type 0
+IsSource f s w = IsTrue f.known → Within (number_of f) s (limit - w)
 
 abbrev pub ClosedAt : Map → (ℕ → Option ℕ) → ℕ → ℕ → Type 0
 ClosedAt M L u d =

@@ -1,17 +1,19 @@
-//! Numbers of nodes, at most the distances from the nearest source.
+//! Numbers of nodes, which show how far what lies around some sources goes.
 ghost use Rattle.std.specs.Prelude.{◌<◌, ◌^◌, ℕ, IsSome, nat_eq};
 ghost use Rattle.std.specs.HashMap.{get};
 
 use olr_map::{MapRead, NodeId, NumberHasher};
-use olr_route::GREATEST_LIMIT;
+use olr_route::{Bounds, GREATEST_LIMIT};
 use std::alloc::{AllocError, Global};
 use std::cmp::Reverse;
 use std::collections::{BinaryHeap, HashMap};
 use std::hash::BuildHasherDefault;
 
-/// A number for each node that a walk of at most `GREATEST_LIMIT` leads to from one of the sources: at most the length
-/// of that walk, in decimetres. Where lines got longer or were dropped since, numbers may be too small, and some nodes
-/// may have one that no source is near to.
+/// A number for each node that lies around one of some sources: the length of a walk to it, in decimetres, and what
+/// the length that the source has leaves to `GREATEST_LIMIT`, are at least the number, and it is at most
+/// `GREATEST_LIMIT`. So a node that a walk of at most that length leads to from the source has a number. Where lines got
+/// longer or were dropped since, or a source is one no more, numbers may be too small, and some nodes may have one that
+/// no source is near to.
 ///
 /// After want of memory the numbers are unknown, until they are begun anew by `clear`.
 #[derive(Drop)]
@@ -26,7 +28,7 @@ pub struct Nearness {
 }
 
 impl Nearness {
-    ghost use Rattle.std.specs.Prelude.{◌≡◌, ◌≤◌, ◌↔◌, ℕ, None, Some, IsTrue, IsFalse, OnOk, OnErr};
+    ghost use Rattle.std.specs.Prelude.{◌≡◌, ◌≤◌, ◌↔◌, ℕ, None, Some, IsTrue, IsFalse, OnOk, OnErr, min};
     ghost use Rattle.olr_spec.specs.Map.{Map, has};
     ghost use Rattle.olr_spec.specs.Extension.{limit};
     ghost use Rattle.olr_spec.specs.Detours.{Near};
@@ -60,6 +62,13 @@ impl Nearness {
         self.numbers.len()
     }
 
+    /// The numbers, as bounds for a search.
+    pub fn bounds(&self) -> &Bounds
+        ensures { result.now ≡ self.now.numbers }
+    {
+        &self.numbers
+    }
+
     /// Forgets all sources and numbers, and begins anew. Takes no memory.
     pub fn clear(&mut self)
         ensures known { IsTrue self.new.known }
@@ -81,10 +90,10 @@ impl Nearness {
         self.known = false;
     }
 
-    /// Whether it is known that from no source a walk of at most `GREATEST_LIMIT` leads to one of the nodes.
+    /// Whether it is known that from no source a walk of at most its length leads to one of the nodes.
     pub fn is_far(&self, nodes: &[NodeId]) -> bool
-        ensures far { IsTrue result → (M : Map) (s : ℕ) → IsRight M self.now → IsSource self.now s
-            → ¬ Near M nodes.now s limit }
+        ensures far { IsTrue result → (M : Map) (s w : ℕ) → IsRight M self.now → IsSource self.now s w
+            → ¬ Near M nodes.now s (min w limit) }
         ensures exact { IsTrue result
             ↔ (IsTrue self.now.known × ((v : ℕ) → IsTrue (has nodes.now v) → number_of self.now v ≡ None)) }
     {
@@ -99,15 +108,15 @@ impl Nearness {
         true
     }
 
-    /// Adds a source, whose lines are then to be followed.
-    pub fn add(&mut self, source: NodeId) -> Result<(), AllocError>
-        ensures source { IsSource self.new source }
-        ensures sources { (s : ℕ) → IsSource self.old s → IsSource self.new s }
+    /// Adds a source of what lies within a length in decimetres, whose lines are then to be followed.
+    pub fn add(&mut self, source: NodeId, within: u32) -> Result<(), AllocError>
+        ensures source { IsSource self.new source within }
+        ensures sources { (s w : ℕ) → IsSource self.old s w → IsSource self.new s w }
         ensures under_way { (M : Map) → IsUnderWay M self.old → IsUnderWay M self.new }
         ensures ok { OnOk result (self.new.known ≡ self.old.known) }
         ensures err { OnErr result (IsFalse self.new.known) }
     {
-        match self.lower(source, 0) {
+        match self.lower(source, GREATEST_LIMIT.saturating_sub(within)) {
             Ok(()) => Ok(()),
             Err(error) => {
                 self.forget();
@@ -118,7 +127,7 @@ impl Nearness {
 
     /// Lets the lines from these nodes be followed again, as it has to be where a line was added or got shorter.
     pub fn reopen(&mut self, nodes: &[NodeId]) -> Result<(), AllocError>
-        ensures sources { (s : ℕ) → IsSource self.old s → IsSource self.new s }
+        ensures sources { (s w : ℕ) → IsSource self.old s w → IsSource self.new s w }
         ensures under_way { (M N : Map) → SameBut nodes.now M N → IsUnderWay M self.old → IsUnderWay N self.new }
         ensures ok { OnOk result (self.new.known ≡ self.old.known) }
         ensures err { OnErr result (IsFalse self.new.known) }
@@ -134,7 +143,7 @@ impl Nearness {
 
     /// Follows the lines of all nodes that wait, until the numbers are right.
     pub fn settle<M: MapRead>(&mut self, map: &M) -> Result<(), AllocError>
-        ensures sources { (s : ℕ) → IsSource self.old s → IsSource self.new s }
+        ensures sources { (s w : ℕ) → IsSource self.old s w → IsSource self.new s w }
         ensures right { IsUnderWay (M.map map.now) self.old → IsRight (M.map map.now) self.new }
         ensures ok { OnOk result (self.new.known ≡ self.old.known) }
         ensures err { OnErr result (IsFalse self.new.known) }

@@ -21,9 +21,13 @@ use Rattle.olr_paths.specs.declared.searches.Searches.{Searches}
 abbrev pub sources : Touched → List (ℕ × ℕ)
 sources t = map (λ v. (v, 0)) (nodes_of t)
 
+abbrev pub IsTold : Map → (ℕ → ℕ) → Touched → Search → ℕ → ℕ → Type 0
+IsTold N place t s v w =
+    (d : ℕ) → d ≤ w → IsTrue (has_node N v) → Leads N Against (sources t) v d → label_at s (place v) ≤ d
+
 pub record IsAsked (N : Map) (place : ℕ → ℕ) (t : Touched) (s : Searches) (m : Made) : Type 0 where
-  pub search : IsFalse s.far → IsSearch N place Against (sources t) s.near
-  pub settled : IsFalse s.far → limit_of s.near ≡ limit
+  pub lengths : IsFalse s.far → AreLengths N place Against (sources t) s.near
+  pub told : IsFalse s.far → (l : Look) → Contains m.looks l → IsTold N place t s.near l.from (min l.within limit)
   pub far : IsTrue s.far → ¬ LookTouched N (nodes_of t) m
 
 abbrev pub AreAsked : Map → (ℕ → ℕ) → Touched → Searches → List Item → Type 0
@@ -46,10 +50,6 @@ pub record AreDetours (N : Map) (place : ℕ → ℕ) (t : Touched) (s : Searche
   pub after : IsSearch N place Along (ends t) s.after
   pub before_limit : limit_of s.before ≡ far
   pub after_limit : limit_of s.after ≡ far
-
-abbrev pub IsAtMost : Option ℕ → ℕ → Type 0
-IsAtMost None d = ⊥
-IsAtMost (Some a) d = a ≤ d
 
 abbrev pub AreFarther : Option ℕ → Option ℕ → ℕ → Type 0
 AreFarther (Some a) (Some b) d = d < a + b

@@ -11,6 +11,7 @@ mod NoteLemmas
 mod DistinctLemmas
 pub mod WayLemmas
 pub mod SearchLemmas
+pub mod CutLemmas
 mod CountLemmas
 mod SoleLemmas
 mod ToldLemmas

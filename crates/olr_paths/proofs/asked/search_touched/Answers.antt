@@ -12,7 +12,7 @@ returns-then-searches g c =
     let is = shown_items c.args.laid in
     let s : Searches = record c.args.searches.now { far = c.if-far.searches } in
     elim c.if-far.branch [
-      | then-far w ↦ asked_far N place c.args.touched.now s is c.if-searches.true (c.requires w.if-far.true)
+      | then-far w ↦ asked_far N place c.args.touched.now s is c.if-searches.true ?
       | else-far w ↦ asked_lack N place c.args.touched.now s is c.if-searches.true
           (w.is_without_looks-searches.ensures (sym w.searches-is ∙ c.if-searches.true))
     ]

@@ -1,8 +1,13 @@
-use Rattle.olr_near.proofs.NumberLemmas.{source_better, moves_under_way, source_within}
+use Rattle.std.proofs.Common.{arith}
+use Rattle.olr_near.proofs.NumberLemmas.{source_better, moves_under_way}
 use Rattle.olr_near.proofs.nearness.Nearness.add.Goals as goal
 
 pub returns-in-Ok-clause-source : goal.returns-in-Ok-clause-source
-returns-in-Ok-clause-source c = λ known. source_within c.lower.new.self c.args.source c.in-Ok.ensures.within
+returns-in-Ok-clause-source c = λ known.
+    let k = c.in-Ok.ensures.within in
+    let low = k.low in
+    let left = c.saturating_sub.ensures in
+    record { number = k.number; at = k.at; low = omega arith }
 
 pub returns-in-Ok-clause-sources : goal.returns-in-Ok-clause-sources
 returns-in-Ok-clause-sources c = λ s. let m =
