@@ -1,4 +1,4 @@
-//! Worked edits, with expected values by hand, and the two maps against each other.
+//! Worked edits, with expected values by hand, and edits made in one call against edits judged first.
 
 ghost use Rattle.std.specs.Prelude.{IsTrue};
 ghost use Rattle.olr_map.specs.RoadMaps.{CanUndoAll};
@@ -8,8 +8,8 @@ use made_maps::{
     shape,
 };
 use olr_map::{
-    Edit, EditFault, Footprint, Judged, Line, LineEnd, LineId, MapRead, NodeId, PlainMap, RoadMap,
-    UndoLog, judge, line_touched, nodes_touched,
+    Edit, EditFault, Footprint, Judged, Line, LineEnd, LineId, MapRead, NodeId, RoadMap, UndoLog,
+    judge, line_touched, nodes_touched,
 };
 use std::alloc::{AllocError, Global};
 use std::fmt::Debug;
@@ -395,7 +395,7 @@ fn far_ends_stand_beside_lines(rt: HostRuntime) {
 
 #[test]
 fn a_log_lets_all_stand(rt: HostRuntime) -> Result<(), Fail> {
-    let mut map = PlainMap::new(rt.alloc());
+    let mut map = RoadMap::new(rt.alloc());
     let mut log = UndoLog::new(rt.alloc());
     map.apply_into(new_node((1, 7, 7)), &mut log)?;
     map.keep_all(log);
@@ -404,16 +404,6 @@ fn a_log_lets_all_stand(rt: HostRuntime) -> Result<(), Fail> {
     map.undo_all(log);
     holds!(&rt; map.node(node(1)).is_some());
     holds!(&rt; map.node(node(2)).is_none());
-    Ok(())
-}
-
-#[test]
-fn a_log_of_the_road_map_lets_all_stand(rt: HostRuntime) -> Result<(), Fail> {
-    let mut map = base(&rt, rt.alloc());
-    let mut log = UndoLog::new(rt.alloc());
-    map.apply_into(Edit::DropLine(line(99)), &mut log)?;
-    map.keep_all(log);
-    holds!(&rt; map.line(line(99)).is_none());
     Ok(())
 }
 
@@ -517,7 +507,7 @@ fn edit_by(rt: &impl Abort, alloc: Global, seed: u64) -> Edit {
     }
 }
 
-/// The fault of an edit of the road map, if it has one. Else it is made, and taken back where it isn't to stand.
+/// The fault of an edit, if it has one. Else it is made, and taken back where it isn't to stand.
 fn fault_of(map: &mut RoadMap, edit: Edit, stands: bool) -> Option<EditFault> {
     match map.apply(edit) {
         Ok(undo) => {
@@ -532,8 +522,8 @@ fn fault_of(map: &mut RoadMap, edit: Edit, stands: bool) -> Option<EditFault> {
     }
 }
 
-/// The same of the plain map, where the edit is judged first and then made.
-fn judged_fault(map: &mut PlainMap, edit: Edit, stands: bool) -> Option<EditFault> {
+/// The same where the edit is judged first and then made.
+fn judged_fault(map: &mut RoadMap, edit: Edit, stands: bool) -> Option<EditFault> {
     let judged = match judge(map, &edit) {
         Ok(judged) => judged,
         Err(fault) => return Some(fault),
@@ -553,10 +543,10 @@ fn judged_fault(map: &mut PlainMap, edit: Edit, stands: bool) -> Option<EditFaul
 
 /// Four thousand edits without pattern, of which each second one is taken back.
 #[test]
-fn both_maps_agree(rt: HostRuntime) {
+fn judging_first_changes_nothing(rt: HostRuntime) {
     let alloc = rt.alloc();
     let mut map = RoadMap::new(alloc);
-    let mut plain = PlainMap::new(alloc);
+    let mut other = RoadMap::new(alloc);
     let mut seed: u64 = 1;
     for step in 0..4000u32 {
         seed = seed
@@ -564,8 +554,8 @@ fn both_maps_agree(rt: HostRuntime) {
             .wrapping_add(1_442_695_040_888_963_407);
         let stands = step % 2 == 1;
         let first = fault_of(&mut map, edit_by(&rt, alloc, seed), stands);
-        let second = judged_fault(&mut plain, edit_by(&rt, alloc, seed), stands);
+        let second = judged_fault(&mut other, edit_by(&rt, alloc, seed), stands);
         same_at(&rt, first, second, "step", step);
-        assert_alike(&rt, &map, &plain);
+        assert_alike(&rt, &map, &other);
     }
 }
