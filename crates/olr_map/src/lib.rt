@@ -20,7 +20,6 @@ pub mod road_map;
 mod slab;
 mod slots;
 mod tables;
-mod touched;
 pub mod undo;
 
 pub use edit::{Edit, EditFault};
@@ -31,5 +30,4 @@ pub use line::{Line, Shape};
 pub use number_hash::NumberHasher;
 pub use read::{LineEnd, MapRead};
 pub use road_map::RoadMap;
-pub use touched::{line_touched, nodes_touched};
 pub use undo::{Undo, UndoLog};
