@@ -1,19 +1,24 @@
 -- Whole runs.
-use Rattle.std.proofs.Common.{inl, inr, ◌≡◌, ℕ, Bool, true, false, cond, not, List, [], ◌∷◌, ◌++◌, length, Option, Some}
-use Rattle.std.proofs.Common.{None, is_some, Result, Ok, Err, refl, sym, ap, ◌∙◌, subst, arith}
+use Rattle.std.proofs.Common.{inl, inr, ◌≡◌, ◌+◌, ◌<◌, ◌≤◌, ℕ, Bool, true, false, cond, not, List, [], ◌∷◌, ◌++◌}
+use Rattle.std.proofs.Common.{length, Option, Some, None, is_some, Result, Ok, Err, refl, sym, ap, ◌∙◌, subst, arith}
 use Rattle.std.specs.Prelude.{nat_le, ◌==◌, ◌||◌, ◌↔◌, MatchOption, IsSomeAnd, IfSome}
 use Rattle.std.specs.List.{list_any, AllByRecursion}
 use Rattle.std.specs.Result.{result_unwrap_or}
 use Rattle.std.proofs.lemmas.Bool.{cases_Bool, both_ways, eqb-true}
 use lib.Pointwise.{bytes_decides}
-use Rattle.olr_spec.specs.Map.{Map, IsMap}
-use Rattle.olr_spec.specs.Extension.{Path, extended_path}
+use Rattle.olr_spec.specs.Map.{Map, IsMap, has}
+use Rattle.olr_spec.specs.Walks.{dm_of}
+use Rattle.olr_spec.specs.Extension.{Path, extended_path, from_start, taken_start, taken_end}
 use Rattle.olr_spec.specs.Points.{last_position}
-use Rattle.olr_spec.specs.Reference.{Reference, legs, reference}
+use Rattle.olr_spec.specs.Reference.{Reference, legs, first_kept, last_kept, kept_points, reference}
 use Rattle.olr_spec.specs.Encoding.{Answer, Points, Refused, Refusal, No_next_point, path_fault, Encoding, Encodes}
 use Rattle.olr_spec.proofs.AnswerLemmas.{one_answer, path_also}
 use Rattle.olr_spec.proofs.DecideLemmas.{some_answer}
+use Rattle.olr_spec.proofs.FitLemmas.{long_enough, kept_ends}
 use Rattle.olr_spec.proofs.JoinLemmas.{routes_join}
+use Rattle.olr_spec.proofs.KeptLemmas.{two_kept}
+use Rattle.olr_spec.proofs.ListLemmas.{has_cases}
+use Rattle.olr_spec.proofs.WalkLemmas.{dm_of-append}
 use Rattle.olr_spec.proofs.UndoLemmas.{empty_sound}
 use Rattle.olr_commands.specs.State.{Named, Content, path_named, same_name, ArePaths, NamesDiffer, IsContent, has_path}
 use Rattle.olr_commands.specs.State.{TextFault, Fault, No_path, Batch_full, Count_differs, Change, with_change, next}
@@ -178,30 +183,56 @@ start_sound = record { content = record { map = empty_sound; paths = tt; names =
 
 -- ---- joins
 
-joined : (M : Map) (P : Path) (r : Reference) → Encoding M P (Points r) → Joined M P r
-joined M P r p =
+-- a list with two different numbers has two elements
+two_of : (ks : List ℕ) (a b : ℕ) → has ks a ≡ true → has ks b ≡ true → a < b → 2 ≤ length ks
+two_of [] a b p q lt = absurd cc
+two_of (h ∷ []) a b p q lt =
+    elim (has_cases h [] a p) [
+      | inr g ↦ absurd cc
+      | inl e ↦ elim (has_cases h [] b q) [ inr g ↦ absurd cc | inl f ↦ absurd (omega arith) ]
+    ]
+two_of (h ∷ i ∷ js) a b p q lt = omega arith
+
+-- the offsets leave some of the extended path
+some_left : (M : Map) (P : Path) → path_fault M P ≡ None → (before after : List ℕ) →
+    (extended_path M P before after).pos + (extended_path M P before after).neg
+    < dm_of M (extended_path M P before after).lines
+some_left M P none before after =
+    let b = taken_start M before P.lines in
+    let fs = from_start M P before in
+    let a = taken_end M fs after in
+    let less = long_enough M P none in
+    omega (arith, dm_of-append M fs a, dm_of-append M b P.lines)
+
+joined : (M : Map) (P : Path) (r : Reference) → path_fault M P ≡ None → Encoding M P (Points r) → Joined M P r
+joined M P r none p =
     let E = extended_path M P p.before p.after in
     elim (last_position 0 p.points == length E.lines) as (λ t. (last_position 0 p.points == length E.lines) ≡ t →
     Points r ≡ cond t (Points (reference (legs M E.lines) E.pos E.neg p.points))
     (Refused (No_next_point (last_position 0 p.points))) → Joined M P r) [
       | true ↦ λ t e.
           let same : r ≡ reference (legs M E.lines) E.pos E.neg p.points = cc in
+          let end = eqb-true (last_position 0 p.points) (length E.lines) t in
+          let left = some_left M P none p.before p.after in
+          let ends = kept_ends M E.lines p.points E.pos E.neg p.follow end left in
           path_also p (
             same,
-            routes_join M E.lines p.points E.pos E.neg p.follow
-                (eqb-true (last_position 0 p.points) (length E.lines) t),
+            two_of (kept_points (legs M E.lines) E.pos E.neg p.points) (first_kept (legs M E.lines) E.pos p.points)
+                (last_kept (legs M E.lines) E.neg p.points) ends.0 ends.1
+                (two_kept M E.lines p.points E.pos E.neg p.follow end left),
+            routes_join M E.lines p.points E.pos E.neg p.follow end,
           )
       | false ↦ λ t e. absurd cc
     ] refl p.holds
 
-joined_by : (M : Map) (P : Path) (r : Reference) (o : Option Refusal) →
+joined_by : (M : Map) (P : Path) (r : Reference) (o : Option Refusal) → path_fault M P ≡ o →
     MatchOption o (Encoding M P (Points r)) (λ f. Points r ≡ Refused f) → Joined M P r
-joined_by M P r None p = joined M P r p
-joined_by M P r (Some f) p = absurd cc
+joined_by M P r None none p = joined M P r none p
+joined_by M P r (Some f) is p = absurd cc
 
 pub routes_of : (c : Content) (name : List ℕ) (r : Reference) → HasAnswer c name (Points r) → (P : Path)
     × (path_named c.paths name ≡ Some P) × Joined c.map P r
-routes_of c name r h = (h.0, h.1, joined_by c.map h.0 r (path_fault c.map h.0) h.2)
+routes_of c name r h = (h.0, h.1, joined_by c.map h.0 r (path_fault c.map h.0) refl h.2)
 
 -- ---- replies
 

@@ -7,8 +7,8 @@
 --         command or for none
 --     IsPublished, IsJoined, IsNamed, IsRefused      the four claims.
 --     Headline      all of them, of one run
-use Rattle.std.specs.Prelude.{◌≡◌, ℕ, Bool, true, false, List, [], ◌∷◌, ◌++◌, length, Option, Some, None, IfSome, Ok}
-use Rattle.std.specs.Prelude.{Err, IsTrue, ◌↔◌}
+use Rattle.std.specs.Prelude.{◌≡◌, ◌≤◌, ℕ, Bool, true, false, List, [], ◌∷◌, ◌++◌, length, Option, Some, None}
+use Rattle.std.specs.Prelude.{IfSome, Ok, Err, IsTrue, ◌↔◌}
 use Rattle.std.specs.Result.{result_unwrap_or}
 use Rattle.std.specs.List.{list_any, AllByRecursion}
 use Rattle.olr_spec.specs.Map.{Map}
@@ -72,10 +72,11 @@ pub record IsPublished (before : Content) (changes : List Change) (later : Conte
 
 -- ---- routes that join
 
--- the sole routes between the points of a reference join to the extended path
+-- the reference is that of at least two points, and the sole routes between them join to the extended path
 abbrev pub Joined : Map → Path → Reference → Type 0
 Joined M P r =
     OfPath M P (λ E _ _ js. (r ≡ reference (legs M E.lines) E.pos E.neg js)
+    × (2 ≤ length (kept_points (legs M E.lines) E.pos E.neg js))
     × Joins M E.lines (kept_points (legs M E.lines) E.pos E.neg js))
 
 -- those of each path's reference do
