@@ -12,8 +12,7 @@ use Rattle.std.proofs.Math.Nat.{mod-lt}
 use Rattle.olr_map.specs.Blocked.{number_before, slot_at, slot_in, found_in, IsBlank, AreUsed, from, all_in}
 use Rattle.olr_map.specs.ByNumbers.{pairs_of, slot_by}
 use Rattle.olr_map.specs.declared.block.Block.{Block}
-use Rattle.olr_map.specs.declared.by_number.ByNumber.{ByNumber}
-use Rattle.olr_map.specs.declared.by_number.ByNumber.TheVariants.{Hashed, Listed}
+use Rattle.olr_map.specs.declared.blocks.Blocks.{Blocks}
 use Rattle.olr_map.proofs.SlotLemmas.{none_above}
 
 -- ---- a number is its block and its place there
@@ -192,6 +191,5 @@ all_listed (b ∷ bs) k apart =
       | false ↦ λ e. lookup_second k (from (b.0 * 4) b.1.slots) (all_in bs) (outside b k e) ∙ later
     ] refl
 
-pub listed_found : (b : ByNumber) (k : ℕ) → lookup (λ q. k == q) (pairs_of b) ≡ slot_by b k
-listed_found (Hashed bs) k = all_listed bs.blocks.entries k bs.apart
-listed_found (Listed l) k = refl
+pub listed_found : (b : Blocks) (k : ℕ) → lookup (λ q. k == q) (pairs_of b) ≡ slot_by b k
+listed_found b k = all_listed b.blocks.entries k b.apart

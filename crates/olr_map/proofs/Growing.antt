@@ -15,7 +15,7 @@ use Rattle.olr_map.specs.NodeLinks.{links_at, with_links}
 use Rattle.olr_map.specs.Linked.{lines_on, ends_on, spare_links}
 use Rattle.olr_map.specs.Kept.{far, node_in, links_in, map_from, place_in, IsListed, IsIndexed, IsKept}
 use Rattle.olr_map.specs.Changes.{tables_map}
-use Rattle.olr_map.specs.declared.by_number.ByNumber.{ByNumber}
+use Rattle.olr_map.specs.declared.blocks.Blocks.{Blocks}
 use Rattle.olr_map.specs.declared.links.Links.{Links}
 use Rattle.olr_map.specs.declared.slots.NodeEntry.{NodeEntry}
 use Rattle.olr_map.specs.declared.slots.NodeSlots.{NodeSlots}
@@ -49,7 +49,7 @@ empty_map_sound M no_node no_line =
       never true e h = absurd cc
       never false e h = absurd cc
 
-pub kept_none : (b : ByNumber) (s : NodeSlots) (ls : Numbered Line) → pairs_of b ≡ [] → node_slots s ≡ [] →
+pub kept_none : (b : Blocks) (s : NodeSlots) (ls : Numbered Line) → pairs_of b ≡ [] → node_slots s ≡ [] →
     things_of ls ≡ [] → IsKept b (node_slots s) (all_held ls)
 kept_none b s ls no_nodes no_slots no_lines =
     let none : (v : ℕ) → slot_by b v ≡ None = λ v. sym (listed_found b v) ∙ ap (lookup (λ q. v == q)) no_nodes in
@@ -71,7 +71,7 @@ kept_none b s ls no_nodes no_slots no_lines =
 
 -- ---- more room for numbers
 
-module _ (t : Tables) (b' : ByNumber) (same : (k : ℕ) → slot_by b' k ≡ slot_by t.index k) where
+module _ (t : Tables) (b' : Blocks) (same : (k : ℕ) → slot_by b' k ≡ slot_by t.index k) where
   index_indexed : IsIndexed b' (node_slots t.nodes)
   index_indexed =
       record {

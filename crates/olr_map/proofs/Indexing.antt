@@ -7,7 +7,7 @@ use Rattle.olr_map.specs.ByNumbers.{slot_by}
 use Rattle.olr_map.specs.Slotted.{at, Comes, Goes, Turns}
 use Rattle.olr_map.specs.HavingSlots.{HaveSlots}
 use Rattle.olr_map.specs.Kept.{node_in, IsIndexed}
-use Rattle.olr_map.specs.declared.by_number.ByNumber.{ByNumber}
+use Rattle.olr_map.specs.declared.blocks.Blocks.{Blocks}
 use Rattle.olr_map.specs.declared.slots.NodeEntry.{NodeEntry}
 use Rattle.olr_map.proofs.Numbering.{same_some, standing, turned_held, stays, arrives, came_held, remains, gone_held}
 
@@ -18,7 +18,7 @@ abbrev Slots : Type 0
 Slots = List (Option NodeEntry)
 
 -- what a slot holds has the node's number
-module _ (b : ByNumber) (es : Slots) (indexed : IsIndexed b es) where
+module _ (b : Blocks) (es : Slots) (indexed : IsIndexed b es) where
   -- two nodes are not in one slot
   pub one_node : (v w p : ℕ) → slot_by b v ≡ Some p → slot_by b w ≡ Some p → v ≡ w
   one_node v w p h k = same_some _ _ (sym (indexed.stands v p h) ∙ indexed.stands w p k)
@@ -56,7 +56,7 @@ module _ (b : ByNumber) (es : Slots) (indexed : IsIndexed b es) where
 
   -- ---- a node that comes
 
-  module _ (b' : ByNumber) (es' : Slots) (p v : ℕ) (e : NodeEntry) (c : Comes es es' p e) (id : e.id ≡ v)
+  module _ (b' : Blocks) (es' : Slots) (p v : ℕ) (e : NodeEntry) (c : Comes es es' p e) (id : e.id ≡ v)
       (absent : slot_by b v ≡ None)
       (put : (k : ℕ) → slot_by b' k ≡ cond (v == k) (Some p) (slot_by b k)) where
     pub came_node : (k : ℕ) → node_in b' es' k ≡ cond (v == k) (Some e) (node_in b es k)
@@ -92,7 +92,7 @@ module _ (b : ByNumber) (es : Slots) (indexed : IsIndexed b es) where
 
   -- ---- a node that goes
 
-  module _ (b' : ByNumber) (es' : Slots) (p v : ℕ) (e : NodeEntry) (g : Goes es es' p e) (here : slot_by b v ≡ Some p)
+  module _ (b' : Blocks) (es' : Slots) (p v : ℕ) (e : NodeEntry) (g : Goes es es' p e) (here : slot_by b v ≡ Some p)
       (taken : (k : ℕ) → slot_by b' k ≡ cond (v == k) None (slot_by b k)) where
     pub gone_node : (k : ℕ) → node_in b' es' k ≡ cond (v == k) None (node_in b es k)
     gone_node = gone_held b es nodes_stand b' es' p v e g here taken

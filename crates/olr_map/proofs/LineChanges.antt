@@ -18,7 +18,7 @@ use Rattle.olr_map.specs.NodeLinks.{links_at, with_links}
 use Rattle.olr_map.specs.Linked.{lines_on, spare_links, IsLinked, IsUnlinked, IsReset}
 use Rattle.olr_map.specs.Kept.{near, far, node_in, links_in, map_from, place_in, end_at, IsListed, IsIndexed, IsKept}
 use Rattle.olr_map.specs.Changes.{tables_map, room_of, spare_at, changed_at, CanMake, map_after, IsChangeMade}
-use Rattle.olr_map.specs.declared.by_number.ByNumber.{ByNumber}
+use Rattle.olr_map.specs.declared.blocks.Blocks.{Blocks}
 use Rattle.olr_map.specs.declared.links.Links.{Links}
 use Rattle.olr_map.specs.declared.read.LineEnd.{LineEnd}
 use Rattle.olr_map.specs.declared.slots.NodeEntry.{NodeEntry}
@@ -104,7 +104,7 @@ module _ (t : Tables) (from p : ℕ) (here : slot_by t.index from ≡ Some p) wh
           Turns (node_slots mid) (node_slots nodes') q f (with_links In f m) →
           Relinked t nodes' from to e.outs l f.ins m
       both_turned nodes' f m h =
-          let b : ByNumber = t.index in
+          let b : Blocks = t.index in
           let node : (k : ℕ) → node_in b (node_slots nodes') k
           ≡ cond (to == k) (Some (with_links In f m)) (node_in b (node_slots mid) k) =
           turned_node b (node_slots mid) mid_indexed (node_slots nodes') q to f (with_links In f m) h there refl in
@@ -209,7 +209,7 @@ module _ (t : Tables) (x p q : ℕ) (s : Standing t x p q) where
     both_relinked nodes' f m h = both_turned t s.line.from p s.here mid e l g s.line.to q s.there nodes' f m h
 
 -- the end that stands in a list
-pub end_is : (side : Side) (b : ByNumber) (N : Map) (x : ℕ) (l : Line) (q : ℕ) → get N.lines x ≡ Some l →
+pub end_is : (side : Side) (b : Blocks) (N : Map) (x : ℕ) (l : Line) (q : ℕ) → get N.lines x ≡ Some l →
     slot_by b (far side l) ≡ Some q
     → ◌≡◌ {A = LineEnd} (record { node = far side l; place = q; len = l.len }) (end_at side N (place_in b) x)
 end_is side b N x l q is at' =
@@ -230,7 +230,7 @@ changed_at_end f h k v n e le u = subst (λ (m : ℕ). f u ≤ changed_at m (h m
 
 module _ (t : Tables) (nodes' : NodeSlots) (lines' : Numbered Line) (from to : ℕ) (o o' i i' : Links)
     (r : Relinked t nodes' from to o o' i i') where
-  abbrev b : ByNumber
+  abbrev b : Blocks
   b = t.index
 
   abbrev M : Map

@@ -22,7 +22,7 @@ use Rattle.olr_map.specs.Linked.{lines_on, ends_on, spare_links, lines_kept, pla
 use Rattle.olr_map.specs.Kept.{near, far, node_in, links_in, map_from, place_in, lines_at, end_at, IsListed, IsIndexed}
 use Rattle.olr_map.specs.Kept.{IsKept}
 use Rattle.olr_map.specs.Changes.{tables_map, room_of, spare_at, changed_at, CanMake, map_after, IsChangeMade}
-use Rattle.olr_map.specs.declared.by_number.ByNumber.{ByNumber}
+use Rattle.olr_map.specs.declared.blocks.Blocks.{Blocks}
 use Rattle.olr_map.specs.declared.links.Links.{Links}
 use Rattle.olr_map.specs.declared.links.Links.TheVariants.{Few, Many}
 use Rattle.olr_map.specs.declared.links.Spare.{Spare}
@@ -71,7 +71,7 @@ pub absent_lines : (side : Side) (M : Map) (v : ℕ) → IsMap M → has_node M 
 absent_lines Out M v sound h = absent_outs M v sound h
 absent_lines In M v sound h = absent_ins M v sound h
 
-other_place : (b b' : ByNumber) (v u : ℕ) (o : Option ℕ) → ((k : ℕ) → slot_by b' k ≡ cond (v == k) o (slot_by b k)) →
+other_place : (b b' : Blocks) (v u : ℕ) (o : Option ℕ) → ((k : ℕ) → slot_by b' k ≡ cond (v == k) o (slot_by b k)) →
     (v == u) ≡ false → place_in b u ≡ place_in b' u
 other_place b b' v u o put ne = sym (ap (λ p. unwrap_or p 0) (put u ∙ ap (λ (t : Bool). cond t o (slot_by b u)) ne))
 
@@ -122,7 +122,7 @@ pub record IsBare (l : Links) (s : Spare) : Type 0 where
   pub lines : lines_on l ≡ lines_kept s
   pub room : spare_links l ≡ places_kept s
 
-module _ (t : Tables) (b' : ByNumber) (nodes' : NodeSlots) (p v : ℕ) (q : Coord) (o i : Spare) (outs' ins' : Links)
+module _ (t : Tables) (b' : Blocks) (nodes' : NodeSlots) (p v : ℕ) (q : Coord) (o i : Spare) (outs' ins' : Links)
     (bare_outs : IsBare outs' o) (bare_ins : IsBare ins' i)
     (c : Comes (node_slots t.nodes) (node_slots nodes') p (record { id = v; place = q; outs = outs'; ins = ins' }))
     (put : (k : ℕ) → slot_by b' k ≡ cond (v == k) (Some p) (slot_by t.index k))
@@ -265,7 +265,7 @@ slot_taken t v can =
     (made_by (tables_map t) (map_after (tables_map t) (TakeNode v)) (Drop_node v)
     (made_ok (tables_map t) (TakeNode v) can.accepted)).0
 
-module _ (t : Tables) (b' : ByNumber) (nodes' : NodeSlots) (p v : ℕ) (e : NodeEntry)
+module _ (t : Tables) (b' : Blocks) (nodes' : NodeSlots) (p v : ℕ) (e : NodeEntry)
     (g : Goes (node_slots t.nodes) (node_slots nodes') p e) (here : slot_by t.index v ≡ Some p)
     (taken : (k : ℕ) → slot_by b' k ≡ cond (v == k) None (slot_by t.index k))
     (can : CanMake (tables_map t) (room_of t) (TakeNode v)) where

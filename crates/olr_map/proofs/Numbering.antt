@@ -10,7 +10,7 @@ use Rattle.olr_map.specs.Slotted.{at, Comes, Goes, Turns}
 use Rattle.olr_map.specs.Slabs.{slots_of}
 use Rattle.olr_map.specs.HavingSlots.{in_slot, HaveSlots}
 use Rattle.olr_map.specs.Numbering.{thing, things_in, held, things_of, all_held}
-use Rattle.olr_map.specs.declared.by_number.ByNumber.{ByNumber}
+use Rattle.olr_map.specs.declared.blocks.Blocks.{Blocks}
 use Rattle.olr_map.specs.declared.numbered.Numbered.{Numbered}
 use Rattle.olr_map.proofs.Lookups.{all_get}
 use Rattle.olr_map.proofs.Blocking.{lookup_second, listed_found}
@@ -18,18 +18,10 @@ use Rattle.olr_map.proofs.Blocking.{lookup_second, listed_found}
 pub same_some : {A : Type 0} (x y : A) → ◌≡◌ {A = Option A} (Some x) (Some y) → x ≡ y
 same_some x y e = cc
 
-module _ {X : Type 0} (b : ByNumber) (es : List (Option X)) (s : HaveSlots b es) where
+module _ {X : Type 0} (b : Blocks) (es : List (Option X)) (s : HaveSlots b es) where
   -- what stands in the slot of a number
   pub standing : (v p : ℕ) → slot_by b v ≡ Some p → (e : X) × (at es p ≡ Some e)
   standing v p h = some_of (at es p) (s.stands v p h)
-
-  -- a number with nothing in its slot has no slot
-  pub no_slot : (v : ℕ) → in_slot es (slot_by b v) ≡ None → slot_by b v ≡ None
-  no_slot v h = step (slot_by b v) refl where
-    step : (o : Option ℕ) → slot_by b v ≡ o → o ≡ None
-    step None e = refl
-    step (Some p) e = let x = standing v p e in let never : ◌≡◌ {A = Option X} None (Some x.0) =
-        sym h ∙ ap (in_slot es) e ∙ x.1 in absurd cc
 
   -- a number with something in its slot has one
   pub has_slot : (v : ℕ) → IsSome (in_slot es (slot_by b v)) → (p : ℕ) × (slot_by b v ≡ Some p)
@@ -73,7 +65,7 @@ module _ {X : Type 0} (b : ByNumber) (es : List (Option X)) (s : HaveSlots b es)
 
   -- ---- a thing that comes
 
-  module _ (b' : ByNumber) (es' : List (Option X)) (p v : ℕ) (e : X) (c : Comes es es' p e)
+  module _ (b' : Blocks) (es' : List (Option X)) (p v : ℕ) (e : X) (c : Comes es es' p e)
       (put : (k : ℕ) → slot_by b' k ≡ cond (v == k) (Some p) (slot_by b k)) where
     -- another number's slot is another one
     pub other_slot : (k q : ℕ) → slot_by b k ≡ Some q → (p == q) ≡ false
@@ -124,7 +116,7 @@ module _ {X : Type 0} (b : ByNumber) (es : List (Option X)) (s : HaveSlots b es)
 
   -- ---- a thing that goes
 
-  module _ (b' : ByNumber) (es' : List (Option X)) (p v : ℕ) (e : X) (g : Goes es es' p e) (here : slot_by b v ≡ Some p)
+  module _ (b' : Blocks) (es' : List (Option X)) (p v : ℕ) (e : X) (g : Goes es es' p e) (here : slot_by b v ≡ Some p)
       (taken : (k : ℕ) → slot_by b' k ≡ cond (v == k) None (slot_by b k)) where
     pub remains : (k q : ℕ) → (v == k) ≡ false → slot_by b k ≡ Some q → at es' q ≡ at es q
     remains k q ne h =
@@ -196,7 +188,7 @@ module _ {X : Type 0} where
 
 -- ---- no numbers
 
-pub no_numbers : {X : Type 0} (b : ByNumber) (es : List (Option X)) → pairs_of b ≡ [] → HaveSlots b es
+pub no_numbers : {X : Type 0} (b : Blocks) (es : List (Option X)) → pairs_of b ≡ [] → HaveSlots b es
 no_numbers b es e = record { stands = λ v p h. absurd (never v p h); apart = λ v w p h i. absurd (never v p h) } where
   none : (v : ℕ) → slot_by b v ≡ None
   none v = sym (listed_found b v) ∙ ap (lookup (λ q. v == q)) e

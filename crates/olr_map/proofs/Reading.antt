@@ -15,7 +15,7 @@ use Rattle.olr_map.specs.NodeLinks.{links_at}
 use Rattle.olr_map.specs.Kept.{node_in, links_in, coord_in, map_from, place_in, IsListed, IsIndexed, IsKept}
 use Rattle.olr_map.specs.Changes.{tables_map}
 use Rattle.olr_map.specs.Ends.{ArePlaces}
-use Rattle.olr_map.specs.declared.by_number.ByNumber.{ByNumber}
+use Rattle.olr_map.specs.declared.blocks.Blocks.{Blocks}
 use Rattle.olr_map.specs.declared.links.Links.{Links}
 use Rattle.olr_map.specs.declared.slots.NodeEntry.{NodeEntry}
 use Rattle.olr_map.specs.declared.slots.Side.{Side}
@@ -46,7 +46,7 @@ or_there : {X Y : Type 0} (f : X → Y) (d : Y) (o : Option X) (x : X) → o ≡
 or_there f d None x e = absurd cc
 or_there f d (Some y) x e = refl
 
-module _ (b : ByNumber) (es : List (Option NodeEntry)) (indexed : IsIndexed b es) where
+module _ (b : Blocks) (es : List (Option NodeEntry)) (indexed : IsIndexed b es) where
   pub got_node : (F : FinMap nat_cmp Line) (v : ℕ) →
       get (map_from b es F).nodes v ≡ option_map place_of (node_in b es v)
   got_node F v =
@@ -92,10 +92,10 @@ within es p v h = step (at es p) refl h where
   step None e g = absurd cc
   step (Some x) e g = holds_within es p x e
 
-pub place_is : (b : ByNumber) (v p : ℕ) → slot_by b v ≡ Some p → place_in b v ≡ p
+pub place_is : (b : Blocks) (v p : ℕ) → slot_by b v ≡ Some p → place_in b v ≡ p
 place_is b v p h = ap (λ o. unwrap_or o 0) h
 
-module _ (b : ByNumber) (es : List (Option NodeEntry)) (F : FinMap nat_cmp Line) (indexed : IsIndexed b es)
+module _ (b : Blocks) (es : List (Option NodeEntry)) (F : FinMap nat_cmp Line) (indexed : IsIndexed b es)
     (few : length es ≤ 2 ^ 32) where
   pub are_places : ArePlaces (map_from b es F) (place_in b) (length es)
   are_places =
@@ -118,7 +118,7 @@ module _ (b : ByNumber) (es : List (Option NodeEntry)) (F : FinMap nat_cmp Line)
 -- ---- of tables
 
 module _ (t : Tables) where
-  abbrev b : ByNumber
+  abbrev b : Blocks
   b = t.index
 
   abbrev es : List (Option NodeEntry)

@@ -13,7 +13,7 @@ use Rattle.olr_map.specs.Kept.{place_in}
 use Rattle.olr_map.specs.Changes.{tables_map}
 use Rattle.olr_map.specs.Edits.{edit_fault_of}
 use Rattle.olr_map.specs.Judgements.{IsJudged, AreSlots}
-use Rattle.olr_map.specs.declared.by_number.ByNumber.{ByNumber}
+use Rattle.olr_map.specs.declared.blocks.Blocks.{Blocks}
 use Rattle.olr_map.specs.declared.edit.EditFault.{EditFault}
 use Rattle.olr_map.specs.declared.edit.EditFault.TheVariants.{NodeExists, NoNode, LineExists, NoLine, NodeInUse}
 use Rattle.olr_map.specs.declared.edit.EditFault.TheVariants.{BadShape, Memory}
@@ -45,7 +45,7 @@ accepted_is (Ok x) h = (x, refl)
 accepted_is (Err f) h = absurd cc
 
 module _ (t : Tables) where
-  abbrev b : ByNumber
+  abbrev b : Blocks
   b = t.index
 
   abbrev M : Map

@@ -1,14 +1,12 @@
 -- Edits and their faults as the definitions of a map see them.
 --     edit_of e      the edit
 --     edit_fault_of f      the answer where the map refuses with f;  want of memory is no fault of the map
---     fault_number f, fault_word f      how replies name a fault
-use Rattle.std.specs.Prelude.{ℕ, List, codes}
 use Rattle.olr_spec.specs.Map as map
 use Rattle.olr_map.specs.declared.edit.Edit.{Edit}
 use Rattle.olr_map.specs.declared.edit.Edit.TheVariants.{AddNode, MoveNode, DropNode, AddLine, SetLine, DropLine}
 use Rattle.olr_map.specs.declared.edit.EditFault.{EditFault}
 use Rattle.olr_map.specs.declared.edit.EditFault.TheVariants.{NodeExists, NoNode, LineExists, NoLine, NodeInUse}
-use Rattle.olr_map.specs.declared.edit.EditFault.TheVariants.{BadShape, Memory}
+use Rattle.olr_map.specs.declared.edit.EditFault.TheVariants.{BadShape}
 
 abbrev pub edit_of : Edit → map.Edit
 edit_of (AddNode id place) = map.Add_node id place
@@ -25,21 +23,3 @@ edit_fault_of map.Line_exists = LineExists
 edit_fault_of map.No_line = NoLine
 edit_fault_of map.Node_in_use = NodeInUse
 edit_fault_of map.Bad_shape = BadShape
-
-abbrev pub fault_number : EditFault → ℕ
-fault_number NodeExists = 3
-fault_number NoNode = 4
-fault_number LineExists = 5
-fault_number NoLine = 6
-fault_number NodeInUse = 7
-fault_number BadShape = 8
-fault_number Memory = 13
-
-abbrev pub fault_word : EditFault → List ℕ
-fault_word NodeExists = codes "NodeExists"
-fault_word NoNode = codes "NoNode"
-fault_word LineExists = codes "LineExists"
-fault_word NoLine = codes "NoLine"
-fault_word NodeInUse = codes "NodeInUse"
-fault_word BadShape = codes "BadShape"
-fault_word Memory = codes "Memory"

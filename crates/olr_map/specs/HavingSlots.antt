@@ -6,16 +6,16 @@ use Rattle.std.specs.Coded.{Coded-set, coded_ℕ}
 use Rattle.std.proofs.Props.{props}
 use Rattle.olr_map.specs.ByNumbers.{slot_by}
 use Rattle.olr_map.specs.Slotted.{at}
-use Rattle.olr_map.specs.declared.by_number.ByNumber.{ByNumber}
+use Rattle.olr_map.specs.declared.blocks.Blocks.{Blocks}
 
 module _ {X : Type 0} where
   abbrev pub in_slot : List (Option X) → Option ℕ → Option X
   in_slot es None = None
   in_slot es (Some p) = at es p
 
-  pub record HaveSlots (b : ByNumber) (es : List (Option X)) : Type 0 where
+  pub record HaveSlots (b : Blocks) (es : List (Option X)) : Type 0 where
     pub stands : (v p : ℕ) → slot_by b v ≡ Some p → IsSome (at es p)
     pub apart : (v w p : ℕ) → slot_by b v ≡ Some p → slot_by b w ≡ Some p → v ≡ w
 
-  pub HaveSlots-prop : (b : ByNumber) (es : List (Option X)) → IsProp (HaveSlots b es)
+  pub HaveSlots-prop : (b : Blocks) (es : List (Option X)) → IsProp (HaveSlots b es)
   HaveSlots-prop b es = hlevel (props, Coded-set coded_ℕ)

@@ -10,7 +10,7 @@ use Rattle.olr_spec.specs.Map as maps
 use Rattle.olr_spec.specs.Map.{Map, has_node, start, end, edited, touched_nodes, touched_lines, has, HasPlace}
 use Rattle.olr_spec.specs.Detours.{ChangedLine, changes_of}
 use Rattle.olr_map.specs.ByNumbers.{slot_by}
-use Rattle.olr_map.specs.declared.by_number.ByNumber.{ByNumber}
+use Rattle.olr_map.specs.declared.blocks.Blocks.{Blocks}
 use Rattle.olr_map.specs.declared.judging.Judged.{Judged}
 
 abbrev pub judged_lines : Judged → List ℕ
@@ -28,7 +28,7 @@ pub record IsJudged (M : Map) (place : ℕ → ℕ) (e : maps.Edit) (j : Judged)
   pub first : IsTrue (has_node M j.nodes.0) → place j.nodes.0 ≡ j.places.0
   pub second : IsTrue (has_node M j.nodes.1) → place j.nodes.1 ≡ j.places.1
 
-abbrev pub AreSlots : ByNumber → Map → ℕ × ℕ → maps.Edit → Type 0
+abbrev pub AreSlots : Blocks → Map → ℕ × ℕ → maps.Edit → Type 0
 AreSlots b M at (maps.Move_node v c) = slot_by b v ≡ Some at.0
 AreSlots b M at (maps.Add_line x l) = (slot_by b l.from ≡ Some at.0) × (slot_by b l.to ≡ Some at.1)
 AreSlots b M at (maps.Set_line x frc fow len shape) =

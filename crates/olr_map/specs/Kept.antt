@@ -17,27 +17,27 @@ use Rattle.olr_map.specs.Ends.{ArePlaces}
 use Rattle.olr_map.specs.Slotted.{at}
 use Rattle.olr_map.specs.HavingSlots.{in_slot}
 use Rattle.olr_map.specs.NodeLinks.{links_at}
-use Rattle.olr_map.specs.declared.by_number.ByNumber.{ByNumber}
+use Rattle.olr_map.specs.declared.blocks.Blocks.{Blocks}
 use Rattle.olr_map.specs.declared.links.Links.{Links}
 use Rattle.olr_map.specs.declared.read.LineEnd.{LineEnd}
 use Rattle.olr_map.specs.declared.slots.NodeEntry.{NodeEntry}
 use Rattle.olr_map.specs.declared.slots.Side.{Side}
 use Rattle.olr_map.specs.declared.slots.Side.TheVariants.{Out, In}
 
-abbrev pub node_in : ByNumber → List (Option NodeEntry) → ℕ → Option NodeEntry
+abbrev pub node_in : Blocks → List (Option NodeEntry) → ℕ → Option NodeEntry
 node_in b es v = in_slot es (slot_by b v)
 
-abbrev pub links_in : Side → ByNumber → List (Option NodeEntry) → ℕ → Option Links
+abbrev pub links_in : Side → Blocks → List (Option NodeEntry) → ℕ → Option Links
 links_in side b es v = option_map (links_at side) (node_in b es v)
 
 abbrev pub coord_in : List (Option NodeEntry) → ℕ → Coord
 coord_in es p = option_map_or (λ (e : NodeEntry). e.place) (at es p) no_place
 
-abbrev pub map_from : ByNumber → List (Option NodeEntry) → FinMap nat_cmp Line → Map
+abbrev pub map_from : Blocks → List (Option NodeEntry) → FinMap nat_cmp Line → Map
 map_from b es F =
     record { nodes = from_entries (map (λ (e : ℕ × ℕ). (e.0, coord_in es e.1)) (pairs_of b)); lines = F }
 
-abbrev pub place_in : ByNumber → ℕ → ℕ
+abbrev pub place_in : Blocks → ℕ → ℕ
 place_in b v = unwrap_or (slot_by b v) 0
 
 -- the end of a line on one side of a node: this one, and the far one
@@ -60,11 +60,11 @@ pub record IsListed (side : Side) (M : Map) (place : ℕ → ℕ) (v : ℕ) (l :
   pub ends : ends_on l ≡ map (end_at side M place) (lines_at side M v)
 
 -- each node's slot has its entry, and the other way round
-pub record IsIndexed (b : ByNumber) (es : List (Option NodeEntry)) : Type 0 where
+pub record IsIndexed (b : Blocks) (es : List (Option NodeEntry)) : Type 0 where
   pub stands : (v p : ℕ) → slot_by b v ≡ Some p → option_map (λ (e : NodeEntry). e.id) (at es p) ≡ Some v
   pub named : (v p : ℕ) → option_map (λ (e : NodeEntry). e.id) (at es p) ≡ Some v → slot_by b v ≡ Some p
 
-pub record IsKept (b : ByNumber) (es : List (Option NodeEntry)) (F : FinMap nat_cmp Line) : Type 0 where
+pub record IsKept (b : Blocks) (es : List (Option NodeEntry)) (F : FinMap nat_cmp Line) : Type 0 where
   pub sound : IsMap (map_from b es F)
   pub indexed : IsIndexed b es
   pub placed : ArePlaces (map_from b es F) (place_in b) (length es)
@@ -79,11 +79,11 @@ coded_end =
 IsListed-prop : (side : Side) (M : Map) (place : ℕ → ℕ) (v : ℕ) (l : Links) → IsProp (IsListed side M place v l)
 IsListed-prop side M place v l = hlevel (props, Coded-set (coded_list coded_ℕ), Coded-set (coded_list coded_end))
 
-IsIndexed-prop : (b : ByNumber) (es : List (Option NodeEntry)) → IsProp (IsIndexed b es)
+IsIndexed-prop : (b : Blocks) (es : List (Option NodeEntry)) → IsProp (IsIndexed b es)
 IsIndexed-prop b es = hlevel (props, Coded-set (coded_option coded_ℕ))
 
 ArePlaces-prop : (M : Map) (place : ℕ → ℕ) (count : ℕ) → IsProp (ArePlaces M place count)
 ArePlaces-prop M place count = hlevel (props, le_prop, Coded-set coded_ℕ)
 
-pub IsKept-prop : (b : ByNumber) (es : List (Option NodeEntry)) (F : FinMap nat_cmp Line) → IsProp (IsKept b es F)
+pub IsKept-prop : (b : Blocks) (es : List (Option NodeEntry)) (F : FinMap nat_cmp Line) → IsProp (IsKept b es F)
 IsKept-prop b es F = hlevel (props, IsIndexed-prop, IsListed-prop, ArePlaces-prop)

@@ -15,4 +15,3 @@ pub mod Judgements
 pub mod Changes
 pub mod Undos
 pub mod RoadMaps
-pub mod PlainMaps

@@ -1,7 +1,6 @@
 //! Slots by number, in blocks of neighbouring numbers that are found by hash.
 ghost use Rattle.std.specs.Prelude.{◌≡◌, ◌==◌, ◌+◌, ◌^◌, ◌<◌, ◌≤◌, ℕ, [], cond, IsSome, Some, None, OnOk};
 ghost use Rattle.std.specs.List.{IsDistinct, IsDistinct-prop};
-ghost use Rattle.std.specs.HashMap.{spare};
 ghost use Rattle.std.specs.Map.{keys_of};
 ghost use Rattle.olr_map.specs.Blocked.{AreUsed, AreUsed-prop};
 
@@ -20,7 +19,7 @@ pub struct Blocks {
 }
 
 impl Blocks {
-    ghost use Rattle.olr_map.specs.Blocked.{found_in};
+    ghost use Rattle.olr_map.specs.ByNumbers.{slot_by, spare_of};
 
     /// No slots. Takes no memory.
     pub fn new(alloc: Global) -> Blocks
@@ -33,7 +32,7 @@ impl Blocks {
 
     /// The slot of this number.
     pub fn get(&self, number: u32) -> Option<u32>
-        ensures { result ≡ found_in self.now.blocks.entries number }
+        ensures { result ≡ slot_by self.now number }
     {
         match self.blocks.get(&(number / BLOCK_LEN)) {
             Some(block) => block.slot((number % BLOCK_LEN) as usize),
@@ -43,9 +42,9 @@ impl Blocks {
 
     /// Makes room for so many more numbers.
     pub fn reserve(&mut self, additional: usize) -> Result<(), AllocError>
-        ensures same { (k : ℕ) → found_in self.new.blocks.entries k ≡ found_in self.old.blocks.entries k }
-        ensures more { spare self.old.blocks ≤ spare self.new.blocks }
-        ensures room { OnOk result (additional ≤ spare self.new.blocks) }
+        ensures same { (k : ℕ) → slot_by self.new k ≡ slot_by self.old k }
+        ensures more { spare_of self.old ≤ spare_of self.new }
+        ensures room { OnOk result (additional ≤ spare_of self.new) }
     {
         self.blocks.reserve(additional)
     }
@@ -53,10 +52,10 @@ impl Blocks {
     /// Puts the slot of a number in. There is room for it.
     pub fn put(&mut self, number: u32, slot: u32)
         requires fits { slot + 1 < 2 ^ 32 }
-        requires room { 0 < spare self.old.blocks }
-        ensures put { (k : ℕ) → found_in self.new.blocks.entries k
-            ≡ cond (number == k) (Some slot) (found_in self.old.blocks.entries k) }
-        ensures spare { spare self.old.blocks ≤ spare self.new.blocks + 1 }
+        requires room { 0 < spare_of self.old }
+        ensures put { (k : ℕ) → slot_by self.new k
+            ≡ cond (number == k) (Some slot) (slot_by self.old k) }
+        ensures spare { spare_of self.old ≤ spare_of self.new + 1 }
     {
         let key = number / BLOCK_LEN;
         let place = (number % BLOCK_LEN) as usize;
@@ -74,11 +73,11 @@ impl Blocks {
 
     /// Takes the slot of a number out.
     pub fn take(&mut self, number: u32) -> u32
-        requires { IsSome (found_in self.old.blocks.entries number) }
-        ensures was { found_in self.old.blocks.entries number ≡ Some result }
-        ensures taken { (k : ℕ) → found_in self.new.blocks.entries k
-            ≡ cond (number == k) None (found_in self.old.blocks.entries k) }
-        ensures spare { spare self.old.blocks ≤ spare self.new.blocks }
+        requires { IsSome (slot_by self.old number) }
+        ensures was { slot_by self.old number ≡ Some result }
+        ensures taken { (k : ℕ) → slot_by self.new k
+            ≡ cond (number == k) None (slot_by self.old k) }
+        ensures spare { spare_of self.old ≤ spare_of self.new }
     {
         let key = number / BLOCK_LEN;
         match self.blocks.get_mut(&key) {

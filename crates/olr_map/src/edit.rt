@@ -1,5 +1,4 @@
 //! Edits of a map, and why one is refused.
-ghost use Rattle.std.specs.Prelude.{◌≡◌};
 
 use crate::ids::{LineId, NodeId};
 use crate::line::{Line, Shape};
@@ -53,39 +52,4 @@ pub enum EditFault {
     /// There was no memory for what the edit adds.
     #[error("Memory")]
     Memory,
-}
-
-impl EditFault {
-    ghost use Rattle.std.specs.Prelude.{◌≡◌};
-    ghost use Rattle.olr_map.specs.Edits.{fault_number, fault_word};
-
-    /// The number by which replies name the fault.
-    pub fn number(self) -> u8
-        ensures { result ≡ fault_number self }
-    {
-        match self {
-            EditFault::NodeExists => 3,
-            EditFault::NoNode => 4,
-            EditFault::LineExists => 5,
-            EditFault::NoLine => 6,
-            EditFault::NodeInUse => 7,
-            EditFault::BadShape => 8,
-            EditFault::Memory => 13,
-        }
-    }
-
-    /// The word that stands beside the number.
-    pub fn word(self) -> &'static str
-        ensures { result.now ≡ fault_word self }
-    {
-        match self {
-            EditFault::NodeExists => "NodeExists",
-            EditFault::NoNode => "NoNode",
-            EditFault::LineExists => "LineExists",
-            EditFault::NoLine => "NoLine",
-            EditFault::NodeInUse => "NodeInUse",
-            EditFault::BadShape => "BadShape",
-            EditFault::Memory => "Memory",
-        }
-    }
 }

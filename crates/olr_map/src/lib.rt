@@ -4,7 +4,6 @@
 
 mod block;
 mod blocks;
-mod by_number;
 mod change;
 pub mod edit;
 mod few;
@@ -16,13 +15,11 @@ mod line;
 mod links;
 mod number_hash;
 mod numbered;
-mod plain_map;
 pub mod read;
 pub mod road_map;
 mod slab;
 mod slots;
 mod tables;
-mod touched;
 pub mod undo;
 
 pub use edit::{Edit, EditFault};
@@ -31,8 +28,6 @@ pub use ids::{LineId, NodeId};
 pub use judging::{Judged, judge};
 pub use line::{Line, Shape};
 pub use number_hash::NumberHasher;
-pub use plain_map::PlainMap;
 pub use read::{LineEnd, MapRead};
 pub use road_map::RoadMap;
-pub use touched::{line_touched, nodes_touched};
 pub use undo::{Undo, UndoLog};

@@ -3,14 +3,14 @@ ghost use Rattle.std.specs.Prelude.{◌≡◌, ◌==◌, ◌+◌, ◌≤◌, ◌
 ghost use Rattle.std.specs.Option.{option_copied};
 ghost use Rattle.olr_map.specs.HavingSlots.{HaveSlots, HaveSlots-prop};
 
-use crate::by_number::ByNumber;
+use crate::blocks::Blocks;
 use crate::slab::Slab;
 use std::alloc::{AllocError, Global};
 
 /// Things by number, one for each at most: the slots of the numbers, and the things in them.
 #[derive(Drop, Debug)]
 pub struct Numbered<V> {
-    pub index: ByNumber,
+    pub index: Blocks,
     pub slab: Slab<V>,
     ghost kept: { HaveSlots index slab.entries.items } by { HaveSlots-prop index slab.entries.items },
 }
@@ -19,22 +19,12 @@ pub struct Numbered<V> {
 impl<V: Drop> Numbered<V> {
     ghost use Rattle.olr_map.specs.Numbering.{things_of, held, spare_numbers};
 
-    /// No things, to be found by hash. Takes no memory.
-    pub fn with_hash(alloc: Global) -> Numbered<V>
+    /// No things. Takes no memory.
+    pub fn new(alloc: Global) -> Numbered<V>
         ensures { things_of result ≡ [] }
     {
         Numbered {
-            index: ByNumber::with_hash(alloc),
-            slab: Slab::new(alloc),
-        }
-    }
-
-    /// No things, to be found by search from the front. Takes no memory.
-    pub fn with_list(alloc: Global) -> Numbered<V>
-        ensures { things_of result ≡ [] }
-    {
-        Numbered {
-            index: ByNumber::with_list(alloc),
+            index: Blocks::new(alloc),
             slab: Slab::new(alloc),
         }
     }

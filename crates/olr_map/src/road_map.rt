@@ -1,4 +1,4 @@
-//! The map of the program: nodes and lines are found by hash.
+//! The road map: nodes and lines are found by hash.
 use crate::edit::{Edit, EditFault};
 use crate::ids::{LineId, NodeId};
 use crate::judging::Judged;
@@ -88,7 +88,7 @@ impl RoadMap {
         ensures { map_of result ≡ empty_map }
     {
         RoadMap {
-            tables: Tables::with_hash(alloc),
+            tables: Tables::new(alloc),
         }
     }
 

@@ -4,7 +4,7 @@ ghost use Rattle.olr_map.specs.Numbering.{all_held};
 ghost use Rattle.olr_map.specs.Columns.{node_slots};
 ghost use Rattle.olr_map.specs.Kept.{IsKept, IsKept-prop};
 
-use crate::by_number::ByNumber;
+use crate::blocks::Blocks;
 use crate::change::Change;
 use crate::ids::{LineId, NodeId};
 use crate::line::Line;
@@ -18,7 +18,7 @@ use std::alloc::{AllocError, Global};
 /// The slots of the nodes by number, their entries, and the lines by number.
 #[derive(Drop, Debug)]
 pub struct Tables {
-    pub index: ByNumber,
+    pub index: Blocks,
     pub nodes: NodeSlots,
     pub lines: Numbered<Line>,
     pub ghost kept: { IsKept index (node_slots nodes) (all_held lines) } by { IsKept-prop index (node_slots nodes) (all_held lines) },
@@ -109,25 +109,14 @@ impl Tables {
     ghost use Rattle.olr_map.specs.declared.change.Change.TheVariants.{PutNode, MoveNode, TakeNode, PutLine, SetLine};
     ghost use Rattle.olr_map.specs.declared.change.Change.TheVariants.{TakeLine};
 
-    /// No nodes and no lines, to be found by hash. Takes no memory.
-    pub fn with_hash(alloc: Global) -> Tables
+    /// No nodes and no lines. Takes no memory.
+    pub fn new(alloc: Global) -> Tables
         ensures { tables_map result ≡ empty_map }
     {
         Tables {
-            index: ByNumber::with_hash(alloc),
+            index: Blocks::new(alloc),
             nodes: NodeSlots::new(alloc),
-            lines: Numbered::with_hash(alloc),
-        }
-    }
-
-    /// No nodes and no lines, to be found by search from the front. Takes no memory.
-    pub fn with_list(alloc: Global) -> Tables
-        ensures { tables_map result ≡ empty_map }
-    {
-        Tables {
-            index: ByNumber::with_list(alloc),
-            nodes: NodeSlots::new(alloc),
-            lines: Numbered::with_list(alloc),
+            lines: Numbered::new(alloc),
         }
     }
 

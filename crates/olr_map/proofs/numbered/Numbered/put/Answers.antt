@@ -1,11 +1,7 @@
 use Rattle.olr_map.specs.Slabs.{slots_of}
 use Rattle.olr_map.proofs.SlotLemmas.{came_fits}
-use Rattle.olr_map.proofs.Numbering.{no_slot, came_held, came_slots}
+use Rattle.olr_map.proofs.Numbering.{came_held, came_slots}
 use Rattle.olr_map.proofs.numbered.Numbered.put.Goals as goal
-
-pub put-requires-clause-absent : goal.put-requires-clause-absent
-put-requires-clause-absent g c = let n =
-    c.args.self.now in no_slot n.index (slots_of n.slab) n.kept c.args.number c.requires.absent
 
 pub put-requires-clause-fits : goal.put-requires-clause-fits
 put-requires-clause-fits g c =

@@ -1,15 +1,9 @@
-use Rattle.std.proofs.Common.{◌≡◌, ◌==◌, ℕ, cond, Some, subst, ap, ◌∙◌}
+use Rattle.std.proofs.Common.{◌≡◌, ◌==◌, ℕ, cond, Some, subst}
 use Rattle.olr_map.specs.ByNumbers.{slot_by}
 use Rattle.olr_map.specs.Columns.{node_slots}
 use Rattle.olr_map.proofs.ColumnLemmas.{node_fits}
-use Rattle.olr_map.proofs.NodeChanges.{free_number, put_node_kept, put_node_made}
+use Rattle.olr_map.proofs.NodeChanges.{put_node_kept, put_node_made}
 use Rattle.olr_map.proofs.tables.Tables.put_node.Goals as goal
-
-pub put-requires-clause-absent : goal.put-requires-clause-absent
-put-requires-clause-absent c =
-    let t = c.args.self.now in
-    ap (slot_by t.index) c.number.ensures.same
-    ∙ free_number t c.args.id c.args.place c.args.outs c.args.ins c.requires.can
 
 pub put-requires-clause-fits : goal.put-requires-clause-fits
 put-requires-clause-fits c =
