@@ -34,10 +34,10 @@ scaled-lt n k below few =
     let scale : 0 < 10 ^ (7 - k) = search rules in
     subst (λ (m : ℕ). n * 10 ^ (7 - k) < m) whole (mul-lt-mul_of_pos_right below scale)
 
-before-more : (c : ℕ) (text : List ℕ) → not (c == 46) ≡ true → before_point (c ∷ text) ≡ c ∷ before_point text
+pub before-more : (c : ℕ) (text : List ℕ) → not (c == 46) ≡ true → before_point (c ∷ text) ≡ c ∷ before_point text
 before-more c text other = take_while-cons (λ d. not (d == 46)) c text ∙ rw other refl
 
-before-none : (c : ℕ) (text : List ℕ) → c ≡ 46 → before_point (c ∷ text) ≡ []
+pub before-none : (c : ℕ) (text : List ℕ) → c ≡ 46 → before_point (c ∷ text) ≡ []
 before-none c text point = take_while-cons (λ d. not (d == 46)) c text ∙ rw point refl
 
 -- where the first point stands

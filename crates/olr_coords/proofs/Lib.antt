@@ -1,2 +1,3 @@
+pub mod DegreesTextLemmas
 pub mod DigitLemmas
 pub mod StepLemmas

@@ -1,2 +1,4 @@
 pub mod Bounds
+pub mod DegreesText
 pub mod Faults
+pub mod Laws

@@ -1,12 +1,15 @@
 //! Coordinates in whole units of 1/327,680,000,000 degree: degrees as text, and the 24-bit and 16-bit values of the
 //! binary format. A 10^-7 degree is 32,768 units, a 10^-5 degree 3,276,800, a 24-bit step 7,031,250, so that all of
-//! them, and half of each step, are whole. No call takes memory.
+//! them, and half of each step, are whole. Only `push_degrees` takes memory.
 #![tactic(auto)]
 
 mod coord;
 mod degrees;
+pub mod laws;
 mod steps;
+mod text;
 
 pub use coord::Coord;
 pub use degrees::{CoordFault, read_degrees};
 pub use steps::{abs24, from_abs24, from_rel16, rel16};
+pub use text::{has_degrees_text, push_degrees};

@@ -1,4 +1,7 @@
-use olr_coords::{Coord, CoordFault, abs24, from_abs24, from_rel16, read_degrees, rel16};
+use olr_coords::{
+    Coord, CoordFault, abs24, from_abs24, from_rel16, has_degrees_text, push_degrees, read_degrees,
+    rel16,
+};
 use std::process::Abort;
 use std::test::Fail;
 
@@ -28,6 +31,32 @@ fn degrees_are_read(rt: HostRuntime) {
     same!(&rt; read_degrees(b"007.5000000"), Ok(75_000_000 * FINEST));
     same!(&rt; read_degrees(b"180.0"), Ok(1_800_000_000 * FINEST));
     same!(&rt; read_degrees(b"-180"), Ok(-1_800_000_000 * FINEST));
+}
+
+#[test]
+fn degrees_are_written_with_the_decimals_that_are_needed(rt: HostRuntime) -> Result<(), Fail> {
+    for text in [
+        "0",
+        "7",
+        "-0.0000001",
+        "6.12683",
+        "-49.6085209",
+        "0.5",
+        "10.01",
+        "179.9999",
+        "180",
+        "-180",
+    ] {
+        let units = read_degrees(text.as_bytes())?;
+        assert!(rt; has_degrees_text(units));
+        let mut written = Vec::new(rt.alloc());
+        push_degrees(&mut written, units)?;
+        same!(&rt; written.as_slice(), text.as_bytes());
+    }
+    same!(&rt; has_degrees_text(1), false);
+    same!(&rt; has_degrees_text(FINEST / 2), false);
+    same!(&rt; has_degrees_text(180 * 10_000_000 * FINEST + FINEST), false);
+    Ok(())
 }
 
 #[test]

@@ -1,0 +1,274 @@
+-- The text of degrees is read as the very unit.
+use Rattle.std.proofs.Common.{◌≡◌, ℕ, ◌+◌, ◌*◌, ◌-◌, ◌/◌, ◌%◌, ◌<◌, ◌≤◌, ◌^◌, true, false, Bool, ◌==◌, not, ◌&&◌}
+use Rattle.std.proofs.Common.{ℤ, pos, negsuc, List, [], ◌∷◌, ◌++◌, length, drop, fold, refl, ap, IsTrue, Some, None, Ok, Err}
+use Rattle.std.proofs.Common.{sym, subst, ◌∙◌, arith, rules, zero, suc, Option}
+use Rattle.std.specs.Prelude.{decimal, if◌then◌else◌, option_map, option_and_then, nat_abs, neg_ℤ, nat_le, IfSome}
+use Rattle.std.specs.List.{list_all}
+use Rattle.std.specs.Char.{is_ascii_digit}
+use Rattle.std.proofs.lemmas.Bool.{and_parts, and_from, eqb-true, eqb-false, le-leb, eq-eqb, ne_eqb}
+use Rattle.std.proofs.lemmas.Bool.Decides.{nat_tests}
+use Rattle.std.proofs.lemmas.Int.{ints}
+use Rattle.std.proofs.lemmas.Fmt.{digits_decimal, digits_value-decimal, decimal_nonempty, length-decimal-le}
+use Rattle.std.proofs.Math.Nat.{pow-succ', div-add-mod, mod-lt, mul_assoc, mul_comm, add-mul, div-lt_iff_lt-mul}
+use Rattle.std.proofs.Math.Nat.{one-le-pow, pow-le-pow_right}
+use Rattle.std.proofs.Math.Seq.{drop-append_seam}
+use Rattle.olr_spec.specs.Coordinates.{unit4, within}
+use Rattle.olr_spec.specs.Degrees.{are_digits, before_point, digits_value, whole, fraction, unsigned_degrees, degrees}
+use Rattle.olr_spec.specs.Degrees.{read_degrees, unit7, at_most_180, degrees_or_fault, Range}
+use Rattle.olr_coords.specs.Bounds.{is_degrees}
+use Rattle.olr_coords.specs.DegreesText.{decimals, after_point, steps_text, degrees_text, has_degrees_text}
+use Rattle.olr_coords.specs.Laws.{TextsRead, ReadHaveText}
+use Rattle.olr_coords.proofs.DigitLemmas.{own, before-more, before-none}
+
+-- one digit more
+one-more : (a q p r n : ℕ) → p * q + r ≡ n → (10 * a + ((48 + q) - 48)) * p + r ≡ a * (10 * p) + n
+one-more a q p r n e =
+    let same : (48 + q) - 48 ≡ q = omega arith in
+    let wide : (10 * a + q) * p ≡ 10 * (a * p) + q * p = add-mul (10 * a) q p ∙ ap (λ (m : ℕ). m + q * p) (mul_assoc 10 a p)
+    in
+    let far : a * (10 * p) ≡ 10 * (a * p) =
+    sym (mul_assoc a 10 p) ∙ ap (λ (m : ℕ). m * p) (mul_comm a 10) ∙ mul_assoc 10 a p
+    in
+    let turned : q * p ≡ p * q = mul_comm q p in
+    rw same (omega (arith, wide, far, turned))
+
+ten-positive : (k : ℕ) → 0 < 10 ^ k
+ten-positive k = one-le-pow k 10 (omega arith)
+
+decimals-fold : (k n a : ℕ) → n < 10 ^ k →
+    fold (λ m d. 10 * m + (d - 48)) a (decimals k n) * 10 ^ (k - length (decimals k n)) ≡ a * 10 ^ k + n
+unfolding decimals
+decimals-fold zero n a h = omega arith
+decimals-fold (suc k) n a h =
+    let q : ℕ = n / 10 ^ k in
+    let r : ℕ = n % 10 ^ k in
+    let ds : List ℕ = decimals k r in
+    let ind = decimals-fold k r (10 * a + ((48 + q) - 48)) (mod-lt n (ten-positive k)) in
+    elim (n == 0) as (λ b. (n == 0) ≡ b
+    → fold (λ m d. 10 * m + (d - 48)) a (if b then [] else (48 + q) ∷ ds)
+    * 10 ^ (suc k - length (if b then [] else (48 + q) ∷ ds)) ≡ a * 10 ^ suc k + n) [
+      | true ↦
+          λ e.
+          let all : suc k - 0 ≡ suc k = omega arith in
+          let none : n ≡ 0 = eqb-true n 0 e in
+          omega (arith, ap (λ (m : ℕ). a * 10 ^ m) all)
+      | false ↦
+          λ e.
+          let fewer : suc k - suc (length ds) ≡ k - length ds = omega arith in
+          ap (λ (m : ℕ). fold (λ m d. 10 * m + (d - 48)) (10 * a + ((48 + q) - 48)) ds * 10 ^ m) fewer
+          ∙ ind
+          ∙ one-more a q (10 ^ k) r n (div-add-mod n (10 ^ k))
+          ∙ ap (λ (p : ℕ). a * p + n) (sym (pow-succ' 10 k))
+    ]
+    refl
+
+pub decimals-short : (k n : ℕ) → length (decimals k n) ≤ k
+unfolding decimals
+decimals-short zero n = omega arith
+decimals-short (suc k) n =
+    elim (n == 0) as (λ b. length (if b then [] else (48 + n / 10 ^ k) ∷ decimals k (n % 10 ^ k)) ≤ suc k)
+    [ true ↦ omega arith | false ↦ omega (arith, decimals-short k (n % 10 ^ k)) ]
+
+-- a digit of a number below ten times a scale
+digit-small : (k n : ℕ) → n < 10 ^ suc k → n / 10 ^ k < 10
+digit-small k n h =
+    (div-lt_iff_lt-mul {k = 10 ^ k} {x = n} {y = 10} (ten-positive k)).1 (subst (λ (m : ℕ). n < m) (pow-succ' 10 k) h)
+
+is-digit : (q : ℕ) → q < 10 → is_ascii_digit (48 + q) ≡ true
+is-digit q h = grind (arith, nat_tests)
+
+pub decimals-digits : (k n : ℕ) → n < 10 ^ k → list_all is_ascii_digit (decimals k n) ≡ true
+unfolding decimals
+decimals-digits zero n h = refl
+decimals-digits (suc k) n h =
+    elim (n == 0) as (λ b. list_all is_ascii_digit (if b then [] else (48 + n / 10 ^ k) ∷ decimals k (n % 10 ^ k)) ≡ true) [
+      | true ↦ refl
+      | false ↦
+          and_from (is_ascii_digit (48 + n / 10 ^ k)) (list_all is_ascii_digit (decimals k (n % 10 ^ k)))
+          (is-digit (n / 10 ^ k) (digit-small k n h))
+          (decimals-digits k (n % 10 ^ k) (mod-lt n (ten-positive k)))
+    ]
+
+no-point-byte : (d : ℕ) → is_ascii_digit d ≡ true → not (d == 46) ≡ true
+no-point-byte d h = grind (arith, nat_tests)
+
+no-minus-byte : (d : ℕ) → is_ascii_digit d ≡ true → (d == 45) ≡ false
+no-minus-byte d h = grind (arith, nat_tests)
+
+before-digits : (ds tail : List ℕ) → list_all is_ascii_digit ds ≡ true → before_point tail ≡ [] →
+    before_point (ds ++ tail) ≡ ds
+before-digits [] tail all e = e
+before-digits (d ∷ ds) tail all e =
+    let p = and_parts (is_ascii_digit d) (list_all is_ascii_digit ds) all in
+    before-more d (ds ++ tail) (no-point-byte d p.0)
+    ∙ ap (λ (t : List ℕ). d ∷ t) (before-digits ds tail p.1 e)
+
+before-fraction : (ds : List ℕ) → before_point (after_point ds) ≡ []
+before-fraction [] = refl
+before-fraction (d ∷ ds) = before-none 46 (d ∷ ds) refl
+
+fraction-digits : (ds : List ℕ) (n : ℕ) → list_all is_ascii_digit ds ≡ true → length ds ≤ 7 →
+    digits_value ds * 10 ^ (7 - length ds) ≡ n → fraction (after_point ds) ≡ Some n
+fraction-digits [] n all few e = ap (λ (m : ℕ). Some m) e
+fraction-digits (d ∷ ds) n all few e =
+    let least : nat_le 1 (length (d ∷ ds)) ≡ true = le-leb 1 (length (d ∷ ds)) (omega arith) in
+    let most : nat_le (length (d ∷ ds)) 7 ≡ true = le-leb (length (d ∷ ds)) 7 few in
+    rw (least, all, most) (ap (λ (m : ℕ). Some m) e)
+
+fraction-text : (n : ℕ) → n < 10 ^ 7 → fraction (after_point (decimals 7 n)) ≡ Some n
+fraction-text n h =
+    fraction-digits (decimals 7 n) n (decimals-digits 7 n h) (decimals-short 7 n) (decimals-fold 7 n 0 h ∙ omega arith)
+
+whole-digits : (ds : List ℕ) (n : ℕ) → list_all is_ascii_digit ds ≡ true → 0 < length ds → length ds ≤ 3 →
+    digits_value ds ≡ n → whole ds ≡ Some (n * 10 ^ 7)
+whole-digits ds n all some few e =
+    let least : nat_le 1 (length ds) ≡ true = le-leb 1 (length ds) some in
+    let most : nat_le (length ds) 3 ≡ true = le-leb (length ds) 3 few in
+    rw (least, all, most) (ap (λ (m : ℕ). Some (m * 10 ^ 7)) e)
+
+whole-text : (n : ℕ) → n < 1000 → whole (decimal n) ≡ Some (n * 10 ^ 7)
+whole-text n h =
+    let small : n < 2 ^ 64 = omega arith in
+    whole-digits (decimal n) n (digits_decimal own n small) (decimal_nonempty n small)
+    (length-decimal-le 3 n (omega arith) h small) (digits_value-decimal own n small)
+
+-- a text of digits before a tail without digits
+split-text : (ds tail : List ℕ) (w f : ℕ) → before_point (ds ++ tail) ≡ ds → whole ds ≡ Some w → fraction tail ≡ Some f →
+    unsigned_degrees (ds ++ tail) ≡ Some ((w + f) * unit7)
+split-text ds tail w f before e g = rw (before, drop-append_seam, e, g) refl
+
+pub steps-read : (n : ℕ) → n < 10 ^ 10 → unsigned_degrees (steps_text n) ≡ Some (n * unit7)
+steps-read n h =
+    let high : n / 10 ^ 7 < 1000 = omega arith in
+    let low : n % 10 ^ 7 < 10 ^ 7 = mod-lt n (ten-positive 7) in
+    let small : n / 10 ^ 7 < 2 ^ 64 = omega arith in
+    let sum : n / 10 ^ 7 * 10 ^ 7 + n % 10 ^ 7 ≡ n = omega arith in
+    split-text (decimal (n / 10 ^ 7)) (after_point (decimals 7 (n % 10 ^ 7))) (n / 10 ^ 7 * 10 ^ 7) (n % 10 ^ 7)
+    (before-digits _ _ (digits_decimal own (n / 10 ^ 7) small) (before-fraction (decimals 7 (n % 10 ^ 7))))
+    (whole-text (n / 10 ^ 7) high) (fraction-text (n % 10 ^ 7) low)
+    ∙ ap (λ (m : ℕ). Some (m * unit7)) sum
+
+-- digits first: no sign
+no-sign : (ds tail : List ℕ) → list_all is_ascii_digit ds ≡ true → 0 < length ds →
+    degrees (ds ++ tail) ≡ option_map pos (unsigned_degrees (ds ++ tail))
+no-sign [] tail all some = absurd (omega arith)
+no-sign (d ∷ ds) tail all some =
+    let p = and_parts (is_ascii_digit d) (list_all is_ascii_digit ds) all in
+    ap (λ (b : Bool). if b then option_map (λ n. neg_ℤ (pos n)) (unsigned_degrees (ds ++ tail))
+    else option_map pos (unsigned_degrees (d ∷ (ds ++ tail)))) (no-minus-byte d p.0)
+
+plain-read : (n : ℕ) → n < 10 ^ 10 → degrees (steps_text n) ≡ Some (pos (n * unit7))
+plain-read n h =
+    let small : n / 10 ^ 7 < 2 ^ 64 = omega arith in
+    no-sign (decimal (n / 10 ^ 7)) (after_point (decimals 7 (n % 10 ^ 7))) (digits_decimal own (n / 10 ^ 7) small)
+    (decimal_nonempty (n / 10 ^ 7) small)
+    ∙ ap (λ (o : Option ℕ). option_map pos o) (steps-read n h)
+
+-- what is written is read as it was
+pub degrees-read : (z : ℤ) → IsTrue (has_degrees_text z) → degrees (degrees_text z) ≡ Some z
+degrees-read (pos n) h =
+    let p = and_parts (is_degrees (pos n)) (n % unit7 == 0) h in
+    let even : n % unit7 ≡ 0 = eqb-true (n % unit7) 0 p.1 in
+    let most : n ≤ 58982400000000 = grind (arith, nat_tests) in
+    plain-read (n / unit7) (omega arith) ∙ ap (λ (m : ℕ). Some (pos m)) (omega arith)
+degrees-read (negsuc n) h =
+    let p = and_parts (is_degrees (negsuc n)) (suc n % unit7 == 0) h in
+    let even : suc n % unit7 ≡ 0 = eqb-true (suc n % unit7) 0 p.1 in
+    let most : suc n ≤ 58982400000000 = grind (arith, nat_tests) in
+    let same : suc n / unit7 * unit7 ≡ suc n = omega arith in
+    ap (λ (o : Option ℕ). option_map (λ n. neg_ℤ (pos n)) o) (steps-read (suc n / unit7) (omega arith))
+    ∙ ap (λ (m : ℕ). Some (neg_ℤ (pos m))) same
+
+pub texts-read : TextsRead
+texts-read z h =
+    let p = and_parts (is_degrees z) (nat_abs z % unit7 == 0) h in
+    ap degrees_or_fault (degrees-read z h) ∙ rw p.0 refl
+
+-- ---- what is read is in whole steps
+
+units-whole : (o p : Option ℕ) →
+    IfSome (option_and_then (λ n. option_map (λ m. (n + m) * unit7) p) o) (λ u. u % unit7 ≡ 0)
+units-whole None p = tt
+units-whole (Some n) None = tt
+units-whole (Some n) (Some m) = omega arith
+
+plain-whole : (o : Option ℕ) → IfSome o (λ u. u % unit7 ≡ 0) → IfSome (option_map pos o) (λ z. nat_abs z % unit7 ≡ 0)
+plain-whole None h = tt
+plain-whole (Some n) h = h
+
+minus-whole : (o : Option ℕ) → IfSome o (λ u. u % unit7 ≡ 0) →
+    IfSome (option_map (λ n. neg_ℤ (pos n)) o) (λ z. nat_abs z % unit7 ≡ 0)
+minus-whole None h = tt
+minus-whole (Some zero) h = refl
+minus-whole (Some (suc n)) h = h
+
+pub degrees-whole : (text : List ℕ) → IfSome (degrees text) (λ z. nat_abs z % unit7 ≡ 0)
+degrees-whole [] = tt
+degrees-whole (c ∷ text) =
+    elim (c == 45) as (λ b. IfSome (if b then option_map (λ n. neg_ℤ (pos n)) (unsigned_degrees text)
+    else option_map pos (unsigned_degrees (c ∷ text))) (λ z. nat_abs z % unit7 ≡ 0)) [
+      | true ↦ minus-whole (unsigned_degrees text) (units-whole (whole (before_point text)) _)
+      | false ↦ plain-whole (unsigned_degrees (c ∷ text)) (units-whole (whole (before_point (c ∷ text))) _)
+    ]
+
+-- what passes a test
+passed : (b : Bool) (y z : ℤ) → (if b then Ok y else Err Range) ≡ Ok z → (b ≡ true) × (y ≡ z)
+passed true y z e = (refl, cc)
+passed false y z e = absurd (cc)
+
+found-whole : (o : Option ℤ) (z : ℤ) → IfSome o (λ z. nat_abs z % unit7 ≡ 0) → degrees_or_fault o ≡ Ok z →
+    IsTrue (has_degrees_text z)
+found-whole None z h e = absurd (cc)
+found-whole (Some y) z h e =
+    let p = passed (is_degrees y) y z e in
+    subst (λ (x : ℤ). IsTrue (has_degrees_text x)) p.1
+    (and_from (is_degrees y) (nat_abs y % unit7 == 0) p.0 (eq-eqb (nat_abs y % unit7) 0 h))
+
+pub read-have-text : ReadHaveText
+read-have-text text z e = found-whole (degrees text) z (degrees-whole text) e
+
+-- ---- digit by digit
+
+pub decimals-end : (k n : ℕ) → n ≡ 0 → decimals k n ≡ []
+unfolding decimals
+decimals-end zero n e = refl
+decimals-end (suc k) n e = rw (eq-eqb n 0 e) refl
+
+next-digit : (k n : ℕ) → 0 < n → decimals (suc k) n ≡ (48 + n / 10 ^ k) ∷ decimals k (n % 10 ^ k)
+unfolding decimals
+next-digit k n more =
+    let left : (n == 0) ≡ false = ne_eqb n 0 (λ e. omega arith) in
+    rw left refl
+
+places-left : (k n : ℕ) → n < 10 ^ k → 0 < n → 0 < k
+places-left zero n h more = absurd (omega arith)
+places-left (suc k) n h more = omega arith
+
+-- a step of the digits that are left
+pub record IsStep (k n : ℕ) : Type 0 where
+  pub places : 1 ≤ k
+  pub positive : 0 < 10 ^ (k - 1)
+  pub small : 10 ^ (k - 1) ≤ 10 ^ 7
+  pub digit : n / 10 ^ (k - 1) < 10
+  pub rest : n % 10 ^ (k - 1) < 10 ^ (k - 1)
+  pub next : decimals k n ≡ (48 + n / 10 ^ (k - 1)) ∷ decimals (k - 1) (n % 10 ^ (k - 1))
+
+step-at : (k j n : ℕ) → k ≤ 7 → n < 10 ^ k → 0 < n → k ≡ suc j → k - 1 ≡ j → IsStep k n
+step-at k j n few h more e f =
+    let below : n < 10 ^ suc j = subst (λ (m : ℕ). n < 10 ^ m) e h in
+    record {
+      places = omega arith;
+      positive = ten-positive (k - 1);
+      small = pow-le-pow_right {n = 10} (omega arith) {i = k - 1} {j = 7} (omega arith);
+      digit = rw f (digit-small j n below);
+      rest = mod-lt n (ten-positive (k - 1));
+      next = rw f (ap (λ (m : ℕ). decimals m n) e ∙ next-digit j n more);
+    }
+
+pub step : (k n : ℕ) → k ≤ 7 → n < 10 ^ k → 0 < n → IsStep k n
+step k n few h more =
+    let left : 0 < k = places-left k n h more in
+    step-at k (k - 1) n few h more (omega arith) refl
+
+pub point-first : (n : ℕ) → n < 10 ^ 7 → 0 < n → after_point (decimals 7 n) ≡ 46 ∷ decimals 7 n
+point-first n h more = ap after_point (next-digit 6 n more) ∙ ap (λ (ds : List ℕ). 46 ∷ ds) (sym (next-digit 6 n more))

@@ -1,0 +1,14 @@
+use Rattle.std.proofs.Common.{◌≡◌, ◌<◌, ◌≤◌, ◌^◌, ◌++◌}
+use Rattle.olr_coords.specs.DegreesText.{decimals}
+use Rattle.olr_coords.proofs.text.push_decimals.Given as goal
+
+-- what is left has so many digits to come
+abbrev pub invariant-loop-rest : goal.invariant-loop-rest
+invariant-loop-rest l = record {
+  few : l.places ≤ 7;
+  left : l.rest < 10 ^ l.places;
+  written : l.text.items ++ decimals l.places l.rest ≡ l.initial.text.items ++ decimals 7 l.fraction;
+}
+
+abbrev pub decreases-loop-rest : goal.decreases-loop-rest
+decreases-loop-rest l = l.places

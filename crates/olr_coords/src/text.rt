@@ -1,0 +1,73 @@
+//! The text of degrees.
+ghost use Rattle.std.specs.Prelude.{◌≡◌, ◌<◌, ◌^◌, ◌++◌, IsTrue, Ok, OnOk};
+ghost use Rattle.olr_spec.specs.Degrees.{read_degrees};
+ghost use Rattle.olr_coords.specs.DegreesText.{decimals, after_point, steps_text, degrees_text, has_degrees_text};
+
+use itoa::Buffer;
+use std::alloc::AllocError;
+
+/// The digits of a degree's fraction, at most.
+const FRACTION_DIGITS: u32 = 7;
+/// The finest steps of a degree: it has so many.
+const STEPS: u64 = 10_000_000;
+/// A finest step, a 10^-7 degree, in units.
+const STEP: u64 = 32_768;
+/// The degrees that are written lie within 180 either way, in units.
+const GREATEST: i64 = 58_982_400_000_000;
+
+/// Whether a coordinate, in units, can be written in degrees: it is a whole number of 10^-7 degrees, at most 180
+/// degrees either way.
+pub fn has_degrees_text(units: i64) -> bool
+    ensures { result ≡ has_degrees_text units }
+{
+    (-GREATEST..=GREATEST).contains(&units) && units.unsigned_abs() % STEP == 0
+}
+
+/// Appends a coordinate, in units, as degrees: with as many decimals as are needed, seven at most, and `-` only before
+/// what isn't zero. It fails where there is no memory for the text.
+pub fn push_degrees(text: &mut Vec<u8>, units: i64) -> Result<(), AllocError>
+    requires { IsTrue (has_degrees_text units) }
+    ensures text { OnOk result (text.new.items ≡ text.old.items ++ degrees_text units) }
+    ensures read { read_degrees (degrees_text units) ≡ Ok units }
+{
+    if units < 0 {
+        text.push(b'-')?;
+    }
+    push_steps(text, units.unsigned_abs() / STEP)
+}
+
+/// Appends a number of 10^-7 degrees as degrees.
+fn push_steps(text: &mut Vec<u8>, steps: u64) -> Result<(), AllocError>
+    ensures { OnOk result (text.new.items ≡ text.old.items ++ steps_text steps) }
+{
+    text.extend_from_slice(Buffer::new().format(steps / STEPS).as_bytes())?;
+    push_fraction(text, steps % STEPS)
+}
+
+/// Appends a point and the digits of a fraction, in 10^-7 degrees. Appends nothing where it is zero.
+fn push_fraction(text: &mut Vec<u8>, fraction: u64) -> Result<(), AllocError>
+    requires { fraction < 10 ^ 7 }
+    ensures { OnOk result (text.new.items ≡ text.old.items ++ after_point (decimals 7 fraction)) }
+{
+    if fraction == 0 {
+        return Ok(());
+    }
+    text.push(b'.')?;
+    push_decimals(text, fraction)
+}
+
+/// Appends the digits of a fraction, in 10^-7 degrees, up to the last that isn't zero.
+fn push_decimals(text: &mut Vec<u8>, fraction: u64) -> Result<(), AllocError>
+    requires { fraction < 10 ^ 7 }
+    ensures { OnOk result (text.new.items ≡ text.old.items ++ decimals 7 fraction) }
+{
+    let mut rest = fraction;
+    let mut places = FRACTION_DIGITS;
+    while rest > 0 {
+        places -= 1;
+        let scale = 10_u64.pow(places);
+        text.push(b'0' + (rest / scale) as u8)?;
+        rest %= scale;
+    }
+    Ok(())
+}
