@@ -114,7 +114,7 @@ lat_relatives gs h i [] = refl
 lat_relatives gs h i (j ∷ js) =
     ap (λ (zs : List ℤ). relative (position gs h).lat (position gs i).lat ∷ zs) (lat_relatives gs i j js)
 
-middle_count : (gs : List Leg) (h i : ℕ) (js : List ℕ) → length (middle_points gs h i js) ≡ length js
+pub middle_count : (gs : List Leg) (h i : ℕ) (js : List ℕ) → length (middle_points gs h i js) ≡ length js
 middle_count gs h i [] = refl
 middle_count gs h i (j ∷ js) = ap suc (middle_count gs i j js)
 
@@ -154,7 +154,7 @@ near_of gs p q h i js k le =
 -- ---- the points of an answer
 
 -- a list with two different numbers has two elements
-two_of : (ks : List ℕ) (a b : ℕ) → has ks a ≡ true → has ks b ≡ true → a < b → (h i : ℕ) × (js : List ℕ)
+pub two_of : (ks : List ℕ) (a b : ℕ) → has ks a ≡ true → has ks b ≡ true → a < b → (h i : ℕ) × (js : List ℕ)
     × (ks ≡ h ∷ i ∷ js)
 two_of [] a b p q lt = absurd cc
 two_of (h ∷ []) a b p q lt =
@@ -165,9 +165,9 @@ two_of (h ∷ []) a b p q lt =
 two_of (h ∷ i ∷ js) a b p q lt = (h, i, js, refl)
 
 -- what is decoded of the points ks: one place for each, near its own
-record Decodes (gs : List Leg) (ks : List ℕ) (r : Reference) : Type 0 where
-  count : length r.middle + 2 ≡ length ks
-  near : (k : ℕ) → k < length ks → (d : ℤ × ℤ) × (decoded r k ≡ Some d) × IsNear k d (position gs (slice_index ks k))
+pub record Decodes (gs : List Leg) (ks : List ℕ) (r : Reference) : Type 0 where
+  pub count : length r.middle + 2 ≡ length ks
+  pub near : (k : ℕ) → k < length ks → (d : ℤ × ℤ) × (decoded r k ≡ Some d) × IsNear k d (position gs (slice_index ks k))
 
 decodes : (gs : List Leg) (p q : ℕ) (ks : List ℕ) → (h i : ℕ) × (js : List ℕ) × (ks ≡ h ∷ i ∷ js) →
     Decodes gs ks (reference_by gs p q ks)
@@ -177,7 +177,7 @@ decodes gs p q ks t =
       near = λ k lt. near_of gs p q t.0 t.1 t.2 k (omega arith);
     })
 
-answer_decodes : (M : Map) → (P : Path) → IsTrue (is_path P.lines) → path_fault M P ≡ None → (r : Reference) →
+pub answer_decodes : (M : Map) → (P : Path) → IsTrue (is_path P.lines) → path_fault M P ≡ None → (r : Reference) →
     (e : Encoding M P (Points r))
     → Decodes (legs M (extended_path M P e.before e.after).lines)
     (kept_points (legs M (extended_path M P e.before e.after).lines) (extended_path M P e.before e.after).pos
@@ -195,13 +195,13 @@ answer_decodes M P is none r e =
     ends.1
     two))
 
-got_index : (f : ℕ → ℕ) (ks : List ℕ) (k v : ℕ) → option_map f (slice_get ks k) ≡ Some v → (k < length ks)
+pub got_index : (f : ℕ → ℕ) (ks : List ℕ) (k v : ℕ) → option_map f (slice_get ks k) ≡ Some v → (k < length ks)
     × (f (slice_index ks k) ≡ v)
 got_index f [] k v e = absurd cc
 got_index f (x ∷ ks) zero v e = (omega arith, cc)
 got_index f (x ∷ ks) (suc k) v e = let r = got_index f ks k v e in (omega (arith, r.0), r.1)
 
-index_got : (ks : List ℕ) (k : ℕ) → k < length ks → slice_get ks k ≡ Some (slice_index ks k)
+pub index_got : (ks : List ℕ) (k : ℕ) → k < length ks → slice_get ks k ≡ Some (slice_index ks k)
 index_got [] k lt = absurd (omega arith)
 index_got (x ∷ ks) zero lt = refl
 index_got (x ∷ ks) (suc k) lt = index_got ks k (omega arith)
@@ -250,7 +250,7 @@ module _ (M : Map) (m : IsMap M) (P : Path) (is : IsTrue (is_path P.lines)) (non
       taken false d h = absurd cc
 
 -- the same of an answer
-by_fault : (M : Map) (P : Path) (r : Reference) (o : Option Refusal) → path_fault M P ≡ o →
+pub by_fault : (M : Map) (P : Path) (r : Reference) (o : Option Refusal) → path_fault M P ≡ o →
     MatchOption o (Encoding M P (Points r)) (λ f. Points r ≡ Refused f) → (path_fault M P ≡ None)
     × Encoding M P (Points r)
 by_fault M P r None f e = (f, e)

@@ -272,10 +272,10 @@ module _ (M : Map) (m : IsMap M) (ls : List ℕ) (known : Each (λ x. IsTrue (ha
 
   -- ---- stretches of legs
 
-  range_legs : (i j : ℕ) → slice_range (legs M ls) i j ≡ legs M (stretch ls i j)
+  pub range_legs : (i j : ℕ) → slice_range (legs M ls) i j ≡ legs M (stretch ls i j)
   range_legs i j = ap (take (j - i)) (drop-map (leg M) i ls) ∙ take-map (leg M) (j - i) (drop i ls)
 
-  dm_same : (i j : ℕ) → dm_between (legs M ls) i j ≡ dm_of M (stretch ls i j)
+  pub dm_same : (i j : ℕ) → dm_between (legs M ls) i j ≡ dm_of M (stretch ls i j)
   dm_same i j = ap dm_along (range_legs i j) ∙ dm_along-legs M (stretch ls i j)
 
   greatest_below : (a : ℕ) (xs : List ℕ) → Each (λ x. IsTrue (has_line M x)) xs → a < 8 →
@@ -305,7 +305,7 @@ module _ (M : Map) (m : IsMap M) (ls : List ℕ) (known : Each (λ x. IsTrue (ha
 
   -- ---- positions
 
-  last_index : (xs : List ℕ) → 0 < length xs → last xs ≡ slice_index xs (length xs - 1)
+  pub last_index : (xs : List ℕ) → 0 < length xs → last xs ≡ slice_index xs (length xs - 1)
   last_index [] h = absurd (omega arith)
   last_index (x ∷ []) h = refl
   last_index (x ∷ y ∷ xs) h =

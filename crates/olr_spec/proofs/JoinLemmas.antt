@@ -48,7 +48,7 @@ empty_stretch ls p q h = let e : q - p ≡ 0 = omega arith in ap (λ (n : ℕ). 
 
 -- ---- one stretch
 
-joins_to : (M : Map) (ls : List ℕ) (p q : ℕ) → q < length ls → Candidate M ls p q → JoinsTo M ls p q
+pub joins_to : (M : Map) (ls : List ℕ) (p q : ℕ) → q < length ls → Candidate M ls p q → JoinsTo M ls p q
 joins_to M ls p q h c =
     let lt = c.after in
     let is : min q (length ls - 1) ≡ q = omega arith in
@@ -82,7 +82,7 @@ without_last M s t xs x r =
     let walk : Walk M s (start M x) xs = subst (λ (v : ℕ). Walk M s v xs) (sym parts.2.1) parts.1 in
     prefix_of_route M s (start M x) t xs (x ∷ []) r walk (parts.2.0, refl, parts.2.2)
 
-joins_last : (M : Map) (ls : List ℕ) (p q : ℕ) → Candidate M ls p q → JoinsLast M ls p q
+pub joins_last : (M : Map) (ls : List ℕ) (p q : ℕ) → Candidate M ls p q → JoinsLast M ls p q
 joins_last M ls p q c =
     let lt = c.after in
     let up = c.upto in

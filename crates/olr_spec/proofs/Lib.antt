@@ -17,13 +17,18 @@ pub mod KeptLemmas
 pub mod FieldLemmas
 pub mod FitLemmas
 pub mod DecodedLemmas
+pub mod CandidateLemmas
+pub mod RecoverLemmas
+pub mod ReceiverLemmas
+pub mod OffsetLemmas
+pub mod NearestLemmas
+pub mod RecoveryLemmas
 pub mod SectorLemmas
 pub mod BytesLemmas
 pub mod ReadLemmas
 pub mod RouteMoves
 pub mod PointMoves
-pub mod FootMoves
-pub mod LocalLemmas
+pub mod FaultMoves
 pub mod LookLists
 pub mod ChangeLemmas
 pub mod DetourLemmas
@@ -32,3 +37,4 @@ pub mod WayLemmas
 pub mod LookLemmas
 pub mod StayLemmas
 pub mod TestedLemmas
+pub mod LocalLemmas

@@ -1,11 +1,12 @@
--- Where a point's look is clear, the positions after the point are covered on both maps alike.
+-- Where the routes that a point's look tests are the same, as where it is clear of changes or two maps agree on what it
+-- sees, the positions after the point are covered on both maps alike.
 use Rattle.std.proofs.Common.{inl, inr, ◌≡◌, ℕ, ◌+◌, ◌-◌, min, List, ◌++◌, length, take, drop, ◌<◌, ◌≤◌, sym, ap, ◌∙◌}
 use Rattle.std.proofs.Common.{subst, arith, drop-drop, ◌↔◌}
 use Rattle.std.proofs.lemmas.Bool.{cases_lt}
 use Rattle.std.proofs.Math.Seq.{take-add}
 use Rattle.std.specs.List.{slice_index}
-use Rattle.olr_spec.specs.Map.{Map, start, end, SameLine}
-use Rattle.olr_spec.specs.Walks.{Walk, dm_of, Sole, Route}
+use Rattle.olr_spec.specs.Map.{Map, start, end, SameLine, SameRound}
+use Rattle.olr_spec.specs.Walks.{Walk, dm_of, Reaches, Sole, Route}
 use Rattle.olr_spec.specs.Extension.{limit}
 use Rattle.olr_spec.specs.Points.{stretch, Covered}
 use Rattle.olr_spec.specs.Detours.{ChangedLine, Tells, Detour}
@@ -13,7 +14,7 @@ use Rattle.olr_spec.specs.Looks.{Needed, IsLastTested, look_to, IsClear}
 use Rattle.olr_spec.proofs.WalkLemmas.{Walk-append, dm_of-append, prefix_of_sole}
 use Rattle.olr_spec.proofs.ListLemmas.{Each, Each-range, has_index}
 use Rattle.olr_spec.proofs.AgreeLemmas.{same_start, same_end, same_dm_of}
-use Rattle.olr_spec.proofs.RouteMoves.{Walk-moves}
+use Rattle.olr_spec.proofs.RouteMoves.{Walk-moves, sole_moves, sole_back}
 use Rattle.olr_spec.proofs.DetourLemmas.{sole_there, sole_here}
 use Rattle.olr_spec.proofs.WayLemmas.{way_between, next_start}
 
@@ -77,10 +78,16 @@ covered_known M ls s t joined i k look j h g near beyond = λ c.
           absurd (omega arith)
     ]
 
-module _ (M N : Map) (C : List ChangedLine) (there : Tells C M N) (here : Tells C N M) (ls : List ℕ)
-    (same : Each (SameLine M N) ls)
-    (s t : ℕ) (joined : Walk M s t ls) (i k : ℕ) (look : IsLastTested M ls i k)
-    (clear : IsClear N C (look_to M ls i k)) where
+-- the routes from line i as far as position k
+abbrev pub RoutesStay : Map → Map → List ℕ → ℕ → ℕ → Type 0
+RoutesStay M N ls i k =
+    (m : ℕ) → i < m → m ≤ k → Route M (end M (slice_index ls i)) (start M (slice_index ls m)) (stretch ls (i + 1) m)
+    ↔ Route N (end N (slice_index ls i)) (start N (slice_index ls m)) (stretch ls (i + 1) m)
+
+-- ---- on maps with the same lines
+
+module _ (M N : Map) (ls : List ℕ) (same : Each (SameLine M N) ls) (s t : ℕ) (joined : Walk M s t ls) (i k : ℕ)
+    (look : IsLastTested M ls i k) where
   abbrev from : ℕ
   from = end M (slice_index ls i)
 
@@ -89,9 +96,6 @@ module _ (M N : Map) (C : List ChangedLine) (there : Tells C M N) (here : Tells 
 
   abbrev part : ℕ → List ℕ
   part m = stretch ls (i + 1) m
-
-  joined_there : Walk N s t ls
-  joined_there = Walk-moves M N s t ls same joined
 
   from_same : from ≡ end N (slice_index ls i)
   from_same = let h = look.after in let g = look.inside in
@@ -103,44 +107,77 @@ module _ (M N : Map) (C : List ChangedLine) (there : Tells C M N) (here : Tells 
   length_same : (p q : ℕ) → dm_of M (stretch ls p q) ≡ dm_of N (stretch ls p q)
   length_same p q = same_dm_of M N (stretch ls p q) (Each-range (SameLine M N) ls p q same)
 
-  -- no detour is as short to a position before k either
-  clear_at : (m : ℕ) → i < m → m ≤ k → ¬ Detour N C from (at m) (dm_of N (part m))
-  clear_at m h g = λ o.
+  -- so far it is to position k
+  parts_length : (m : ℕ) → i < m → m ≤ k → dm_of N (part m) + dm_of N (stretch ls m k) ≡ dm_of M (part k)
+  parts_length m h g =
+      sym (dm_of-append N (part m) (stretch ls m k)) ∙ ap (dm_of N) (sym (stretch_parts ls (i + 1) m k (omega arith) g))
+      ∙ sym (length_same (i + 1) k)
+
+  -- with the ends as they are on the other map
+  ends_there : (m : ℕ) → m ≤ k → Sole N from (at m) (part m)
+      → Route N (end N (slice_index ls i)) (start N (slice_index ls m)) (part m)
+  ends_there m g o =
+      let g2 = look.inside in
+      subst (λ (u : ℕ). Sole N u (start N (slice_index ls m)) (part m)) from_same
+      (subst (λ (v : ℕ). Sole N from v (part m)) (at_same m (omega arith)) o)
+
+  ends_here : (m : ℕ) → m ≤ k → Route N (end N (slice_index ls i)) (start N (slice_index ls m)) (part m)
+      → Sole N from (at m) (part m)
+  ends_here m g r =
+      let g2 = look.inside in
+      subst (λ (u : ℕ). Sole N u (at m) (part m)) (sym from_same)
+      (subst (λ (v : ℕ). Sole N (end N (slice_index ls i)) v (part m)) (sym (at_same m (omega arith))) r)
+
+  pub to_same : look_to M ls i k ≡ look_to N ls i k
+  to_same =
+      let e = at_same k look.inside in
+      let d = length_same (i + 1) k in
+      λ j. record { from = from_same j; to = e j; within = d j }
+
+  -- where no detour is as short, to a position before k neither
+  clear_at : (C : List ChangedLine) → IsClear N C (look_to M ls i k) → (m : ℕ) → i < m → m ≤ k
+      → ¬ Detour N C from (at m) (dm_of N (part m))
+  clear_at C clear m h g = λ o.
       let g2 = look.inside in
       let way : Walk N (at m) (at k) (stretch ls m k) =
       Walk-moves M N (at m) (at k) (stretch ls m k) (Each-range (SameLine M N) ls m k same)
       (way_between M s t ls m k joined g g2) in
       let longer = onward N C from (at m) (at k) (dm_of N (part m)) (stretch ls m k) o way in
-      let e : dm_of N (part m) + dm_of N (stretch ls m k) ≡ dm_of M (part k) =
-      sym (dm_of-append N (part m) (stretch ls m k)) ∙ ap (dm_of N) (sym (stretch_parts ls (i + 1) m k (omega arith) g))
-      ∙ sym (length_same (i + 1) k) in
-      clear (subst (λ (d : ℕ). Detour N C from (at k) d) e longer)
+      clear (subst (λ (d : ℕ). Detour N C from (at k) d) (parts_length m h g) longer)
 
-  route_there : (m : ℕ) → i < m → m ≤ k → Route M from (at m) (part m)
-      → Route N (end N (slice_index ls i)) (start N (slice_index ls m)) (part m)
-  route_there m h g r =
-      let g2 = look.inside in
+  pub clear_routes : (C : List ChangedLine) → Tells C M N → Tells C N M → IsClear N C (look_to M ls i k)
+      → RoutesStay M N ls i k
+  clear_routes C there here clear m h g =
       let e = length_same (i + 1) m in
-      let here : Sole N from (at m) (part m) =
-      sole_there M N C from (at m) (dm_of N (part m)) there here (clear_at m h g) (part m) e (omega arith) r in
-      subst (λ (u : ℕ). Sole N u (start N (slice_index ls m)) (part m)) from_same
-      (subst (λ (v : ℕ). Sole N from v (part m)) (at_same m (omega arith)) here)
+      let free = clear_at C clear m h g in (
+        (λ r. ends_there m g
+            (sole_there M N C from (at m) (dm_of N (part m)) there here free (part m) e (omega arith) r)),
+        (λ r. sole_here M N C from (at m) (dm_of N (part m)) there here free (part m) e (omega arith)
+            (ends_here m g r)),
+      )
 
-  route_here : (m : ℕ) → i < m → m ≤ k → Route N (end N (slice_index ls i)) (start N (slice_index ls m)) (part m)
-      → Route M from (at m) (part m)
-  route_here m h g r =
-      let g2 = look.inside in
+  -- where the maps agree on what the look sees
+  pub seen_routes : ((v : ℕ) → Reaches M from (dm_of M (part k)) v → SameRound M N v) → RoutesStay M N ls i k
+  seen_routes round m h g =
       let e = length_same (i + 1) m in
-      let ends : Sole N from (at m) (part m) =
-      subst (λ (u : ℕ). Sole N u (at m) (part m)) (sym from_same)
-      (subst (λ (v : ℕ). Sole N (end N (slice_index ls i)) v (part m)) (sym (at_same m (omega arith))) r) in
-      sole_here M N C from (at m) (dm_of N (part m)) there here (clear_at m h g) (part m) e (omega arith) ends
+      let f = parts_length m h g in (
+        (λ r. ends_there m g
+            (sole_moves M N from (dm_of M (part k)) round (at m) (part m) (omega arith) r)),
+        (λ r. sole_back M N from (dm_of M (part k)) round (at m) (part m) (omega arith) (ends_here m g r)),
+      )
+
+-- ---- where the routes are the same
+
+module _ (M N : Map) (ls : List ℕ) (same : Each (SameLine M N) ls) (s t : ℕ) (joined : Walk M s t ls) (i k : ℕ)
+    (look : IsLastTested M ls i k) (routes : RoutesStay M N ls i k) where
+  alike : (p q : ℕ) → dm_of M (stretch ls p q) ≡ dm_of N (stretch ls p q)
+  alike p q = same_dm_of M N (stretch ls p q) (Each-range (SameLine M N) ls p q same)
 
   covered_there : (j : ℕ) → min j (length ls - 1) ≤ k → Covered M ls i j → Covered N ls i j
-  covered_there j h c = λ inside. route_there (min j (length ls - 1)) inside h (c inside)
+  covered_there j h c = λ inside. (routes (min j (length ls - 1)) inside h).0 (c inside)
 
   covered_here : (j : ℕ) → min j (length ls - 1) ≤ k → Covered N ls i j → Covered M ls i j
-  covered_here j h c = λ inside. route_here (min j (length ls - 1)) inside h (c inside)
+  covered_here j h c = λ inside. (routes (min j (length ls - 1)) inside h).1 (c inside)
 
   -- and the look is one of the other map
   pub look_stays : IsLastTested N ls i k
@@ -148,10 +185,10 @@ module _ (M N : Map) (C : List ChangedLine) (there : Tells C M N) (here : Tells 
       let a = look.after in
       let z = look.inside in
       let needed_there : (m : ℕ) → Needed M ls i m
-      → Needed N ls i m = λ m n. let e = length_same i n.0 in let h : dm_of M (stretch ls i n.0) ≤ limit = n.2 in
+      → Needed N ls i m = λ m n. let e = alike i n.0 in let h : dm_of M (stretch ls i n.0) ≤ limit = n.2 in
       (n.0, n.1, omega arith, n.3) in
       let needed_here : (m : ℕ) → Needed N ls i m
-      → Needed M ls i m = λ m n. let e = length_same i n.0 in let h : dm_of N (stretch ls i n.0) ≤ limit = n.2 in
+      → Needed M ls i m = λ m n. let e = alike i n.0 in let h : dm_of N (stretch ls i n.0) ≤ limit = n.2 in
       (n.0, n.1, omega arith, n.3) in
       record {
         after = a;
@@ -165,21 +202,16 @@ module _ (M N : Map) (C : List ChangedLine) (there : Tells C M N) (here : Tells 
         ];
       }
 
-  pub to_same : look_to M ls i k ≡ look_to N ls i k
-  to_same =
-      let e = at_same k look.inside in
-      let d = length_same (i + 1) k in
-      λ j. record { from = from_same j; to = e j; within = d j }
-
   -- a position that is near enough
   pub covered_stays : (j : ℕ) → i < j → j ≤ length ls → dm_of M (stretch ls i j) ≤ limit
       → Covered M ls i j ↔ Covered N ls i j
   covered_stays j h g near =
-      let e = length_same i j in
+      let e = alike i j in
       elim (cases_lt k (min j (length ls - 1))) [
         | inl beyond ↦ (
           (λ c. absurd (covered_known M ls s t joined i k look j h g near beyond c)),
-          (λ c. absurd (covered_known N ls s t joined_there i k look_stays j h g (omega arith) beyond c)),
+          (λ c. absurd (covered_known N ls s t (Walk-moves M N s t ls same joined) i k look_stays j h g (omega arith)
+              beyond c)),
         )
         | inr within ↦ (covered_there j (omega arith), covered_here j (omega arith))
       ]

@@ -14,8 +14,7 @@ use Rattle.olr_spec.specs.Points.{node_at, stretch, Covered, fit16, Candidate, V
 use Rattle.olr_spec.specs.Points.{To_valid, To_passing, Follow, last_position}
 use Rattle.olr_spec.specs.Reference.{leg, legs, reference}
 use Rattle.olr_spec.specs.Encoding.{Points, Refused, No_next_point, answer_by_points}
-use Rattle.olr_spec.specs.Looks.{Own}
-use Rattle.olr_spec.specs.Footprint.{NodeOf}
+use Rattle.olr_spec.specs.Looks.{NodeOf, Own}
 use Rattle.olr_spec.proofs.ListLemmas.{Each, Each-nil, Each-head, Each-tail, Each-left, Each-right, Each-append}
 use Rattle.olr_spec.proofs.ListLemmas.{Each-range, has_last, has_index, map_same}
 use Rattle.olr_spec.proofs.AgreeLemmas.{same_record, same_start, same_end, same_dm_of, same_place, same_passing}

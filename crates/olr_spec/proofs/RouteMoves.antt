@@ -1,10 +1,8 @@
--- Routes within the limit are the same on two maps that agree round each node within reach.
+-- Routes within a length are the same on two maps that agree round each node that a walk within it reaches.
 use Rattle.std.proofs.Common.{inl, inr, ◌≡◌, ℕ, ◌+◌, List, [], ◌∷◌, ◌++◌, ◌≤◌, refl, sym, ◌∙◌, subst, arith}
 use Rattle.std.proofs.lemmas.Bool.{cases_lt}
 use Rattle.olr_spec.specs.Map.{Map, end, dm, SameLine, SameRound}
-use Rattle.olr_spec.specs.Walks.{Walk, dm_of, Sole}
-use Rattle.olr_spec.specs.Extension.{limit}
-use Rattle.olr_spec.specs.Footprint.{Reach}
+use Rattle.olr_spec.specs.Walks.{Walk, dm_of, Reaches, Sole}
 use Rattle.olr_spec.proofs.WalkLemmas.{Walk-append, dm_of-append}
 use Rattle.olr_spec.proofs.ListLemmas.{Each, Each-nil, Each-cons, Each-head, Each-tail}
 use Rattle.olr_spec.proofs.AgreeLemmas.{turned_round, by_leaving, same_known, same_start, same_end, same_dm, same_dm_of}
@@ -21,7 +19,7 @@ Walk-moves M N s t (x ∷ xs) h w =
     (Walk-moves M N (end M x) t xs (Each-tail (SameLine M N) x xs h) w.2) in
     (sym (same_known M N x e) ∙ w.0, sym (same_start M N x e) ∙ w.1, rest)
 
-module _ (M N : Map) (s : ℕ) (round : (v : ℕ) → Reach M s v → SameRound M N v) where
+module _ (M N : Map) (s limit : ℕ) (round : (v : ℕ) → Reaches M s limit v → SameRound M N v) where
   -- a walk of the first map on from a node within reach
   onward : (v t : ℕ) (front xs : List ℕ) → Walk M s v front → Walk M v t xs → dm_of M front + dm_of M xs ≤ limit →
       Each (SameLine M N) xs
@@ -52,14 +50,14 @@ module _ (M N : Map) (s : ℕ) (round : (v : ℕ) → Reach M s v → SameRound 
   pub within_other : (t : ℕ) (xs : List ℕ) → Walk N s t xs → dm_of N xs ≤ limit → Each (SameLine M N) xs
   within_other t xs w h = onward_other s t [] xs refl w (omega arith)
 
-  pub reach_moves : (v : ℕ) → Reach M s v → Reach N s v
+  pub reach_moves : (v : ℕ) → Reaches M s limit v → Reaches N s limit v
   reach_moves v r =
       let each = within v r.0 r.1 r.2 in
       let e = same_dm_of M N r.0 each in
       let h : dm_of M r.0 ≤ limit = r.2 in
       (r.0, Walk-moves M N s v r.0 each r.1, omega arith)
 
-  pub reach_back : (v : ℕ) → Reach N s v → Reach M s v
+  pub reach_back : (v : ℕ) → Reaches N s limit v → Reaches M s limit v
   reach_back v r =
       let each = within_other v r.0 r.1 r.2 in
       let e = same_dm_of M N r.0 each in

@@ -1,6 +1,6 @@
--- Where nothing that a path looked at has changed, its answer, own nodes and looks are the same.
+-- Where nothing that a path looked at has changed, its answer, own nodes, looks and footprint are the same.
 use Rattle.std.proofs.Common.{inl, inr, ◌≡◌, ℕ, ◌+◌, List, [], ◌∷◌, length, true, false, refl, ◌<◌, ◌≤◌, Option, None}
-use Rattle.std.proofs.Common.{Some, IsTrue, All, sym, ◌∙◌, subst, arith, MatchOption, ◌↔◌}
+use Rattle.std.proofs.Common.{Some, IsTrue, All, Contains, sym, ◌∙◌, subst, arith, MatchOption, ◌↔◌}
 use Rattle.std.proofs.lemmas.Bool.{cases_lt, cases_Bool, both_ways}
 use Rattle.std.proofs.lemmas.List.Elements.{All-contains}
 use Rattle.std.specs.List.{AllZip}
@@ -10,23 +10,28 @@ use Rattle.olr_spec.specs.Extension.{Path, is_path, first, last, Tried, extended
 use Rattle.olr_spec.specs.Points.{stretch, Covered, Follow, OfPath}
 use Rattle.olr_spec.specs.Encoding.{Answer, Refused, Refusal, path_fault, answer_by_points, Encoding, Encodes}
 use Rattle.olr_spec.specs.Detours.{ChangedLine, Tells, Difference}
-use Rattle.olr_spec.specs.Looks.{Own, OwnOfExtended, OwnOf, Look, look_to, IsLook, IsClear, looking, LooksOfExtended}
-use Rattle.olr_spec.specs.Looks.{LooksOf}
+use Rattle.olr_spec.specs.Looks.{Own, OwnOfExtended, OwnOf, IsLastTested, Look, look_to, IsLook, IsClear, looking}
+use Rattle.olr_spec.specs.Looks.{LooksOfExtended, LooksOf}
 use Rattle.olr_spec.proofs.ListLemmas.{Each, Each-from, has_first, has_last}
 use Rattle.olr_spec.proofs.AnswerLemmas.{sound_lines, path_nonempty, one_answer, path_also}
 use Rattle.olr_spec.proofs.ChainLemmas.{one_tried}
 use Rattle.olr_spec.proofs.RouteMoves.{turned_lines}
-use Rattle.olr_spec.proofs.LocalLemmas.{fault_same}
+use Rattle.olr_spec.proofs.FaultMoves.{fault_same}
 use Rattle.olr_spec.proofs.JoinedLemmas.{extended_joined}
-use Rattle.olr_spec.proofs.LookLemmas.{look_stays, to_same, covered_stays}
+use Rattle.olr_spec.proofs.LookLemmas.{RoutesStay, to_same, clear_routes, look_stays, covered_stays}
 use Rattle.olr_spec.proofs.LookLists.{look_for, zip_moves}
 use Rattle.olr_spec.proofs.PointMoves.{close_stays, Own-moves, tried_moves, b_same, a_same, ls_same, extended_same}
 use Rattle.olr_spec.proofs.PointMoves.{follow_same, answer_same}
 
-module _ (M N : Map) (m : IsMap M) (n : IsMap N) (C : List ChangedLine) (there : Tells C M N) (here : Tells C N M)
-    (P : Path) (is : IsTrue (is_path P.lines)) (sound : path_fault M P ≡ None)
-    (same : Each (SameLine M N) P.lines) (own : (v : ℕ) → OwnOfExtended M P v
-    → SameRound M N v) (looks : List Look) (o : LooksOfExtended M P looks) (clear : All (IsClear N C) looks) where
+-- along any lines of both maps each of these looks has the same routes
+abbrev pub RoutesOf : Map → Map → List Look → Type 0
+RoutesOf M N looks =
+    (ls : List ℕ) → Each (SameLine M N) ls → (s t : ℕ) → Walk M s t ls → (i k : ℕ) → IsLastTested M ls i k →
+    Contains looks (look_to M ls i k) → RoutesStay M N ls i k
+
+module _ (M N : Map) (m : IsMap M) (n : IsMap N) (P : Path) (is : IsTrue (is_path P.lines))
+    (sound : path_fault M P ≡ None) (same : Each (SameLine M N) P.lines) (own : (v : ℕ) → OwnOfExtended M P v
+    → SameRound M N v) (looks : List Look) (o : LooksOfExtended M P looks) (routes : RoutesOf M N looks) where
   abbrev E : Path
   E = extended_path M P o.before o.after
 
@@ -45,6 +50,9 @@ module _ (M N : Map) (m : IsMap M) (n : IsMap N) (C : List ChangedLine) (there :
   joined : Walk M (start M (first E.lines)) (end M (last E.lines)) E.lines
   joined = extended_joined M P is sound o.before o.after o.tried
 
+  stay : (i k : ℕ) → IsLastTested M E.lines i k → Contains looks (look_to M E.lines i k) → RoutesStay M N E.lines i k
+  stay = routes E.lines all_same (start M (first E.lines)) (end M (last E.lines)) joined
+
   covers : (i j : ℕ) → has (0 ∷ o.points) i ≡ true → i < j → j ≤ length E.lines → dm_of M (stretch E.lines i j) ≤ limit
       → Covered M E.lines i j ↔ Covered N E.lines i j
   covers i j on h g near =
@@ -52,10 +60,8 @@ module _ (M N : Map) (m : IsMap M) (n : IsMap N) (C : List ChangedLine) (there :
         | inl far ↦
             let l = look_for M E.lines (0 ∷ o.points) looks o.holds i on far in
             let k = l.2 in
-            let free : IsClear N C (look_to M E.lines i k.0) =
-            subst (IsClear N C) k.2 (All-contains (IsClear N C) looks l.0 clear l.1) in
-            covered_stays M N C there here E.lines all_same (start M (first E.lines))
-            (end M (last E.lines)) joined i k.0 k.1 free j h g near
+            covered_stays M N E.lines all_same (start M (first E.lines)) (end M (last E.lines)) joined i k.0 k.1
+            (stay i k.0 k.1 (subst (Contains looks) k.2 l.1)) j h g near
         | inr close ↦ close_stays M N m n E.lines all_same i j h g (omega arith)
       ]
 
@@ -134,29 +140,26 @@ module _ (M N : Map) (m : IsMap M) (n : IsMap N) (C : List ChangedLine) (there :
   own_stays v = (own_there v, own_here v)
 
   -- the looks
-  one_look : (i : ℕ) (l : Look) → IsClear N C l → IsLook M E.lines i l → IsLook N E.lines i l
-  one_look i l c k =
-      let free : IsClear N C (look_to M E.lines i k.0) = subst (IsClear N C) k.2 c in
+  one_look : (i : ℕ) (l : Look) → Contains looks l → IsLook M E.lines i l → IsLook N E.lines i l
+  one_look i l on k =
       let s = start M (first E.lines) in
       let t = end M (last E.lines) in (
         k.0,
-        look_stays M N C there here E.lines all_same s t joined i k.0 k.1 free,
-        k.2
-            ∙ to_same M N C there here E.lines all_same s t joined i k.0 k.1 free,
+        look_stays M N E.lines all_same s t joined i k.0 k.1 (stay i k.0 k.1 (subst (Contains looks) k.2 on)),
+        k.2 ∙ to_same M N E.lines all_same s t joined i k.0 k.1,
       )
 
   pub looks_stay : LooksOfExtended N P looks
   looks_stay =
       let each : AllZip (IsLook N E.lines) (looking E.lines (0 ∷ o.points)) looks =
       zip_moves (IsLook M E.lines) (IsLook N E.lines) (looking E.lines (0 ∷ o.points)) looks
-      (λ i l on k. one_look i l (All-contains (IsClear N C) looks l clear on) k) o.holds in
+      one_look o.holds in
       goes_over (subst (λ (F : Path). AllZip (IsLook N F.lines) (looking F.lines (0 ∷ o.points)) looks) path_there each)
 
 -- ---- whether or not the path has a fault
 
-module _ (M N : Map) (m : IsMap M) (n : IsMap N) (C : List ChangedLine) (there : Tells C M N) (here : Tells C N M)
-    (P : Path) (is : IsTrue (is_path P.lines))
-    (same : Each (SameLine M N) P.lines) (looks : List Look) (clear : All (IsClear N C) looks) where
+module _ (M N : Map) (m : IsMap M) (n : IsMap N) (P : Path) (is : IsTrue (is_path P.lines))
+    (same : Each (SameLine M N) P.lines) (looks : List Look) (routes : RoutesOf M N looks) where
   by_case : (f : Option Refusal) → path_fault M P ≡ f
       → ((v : ℕ) → MatchOption f (OwnOfExtended M P v) (λ _. ⊥) → SameRound M N v)
       → MatchOption f (LooksOfExtended M P looks) (λ _. looks ≡ [])
@@ -165,20 +168,30 @@ module _ (M N : Map) (m : IsMap M) (n : IsMap N) (C : List ChangedLine) (there :
       × ((v : ℕ) → MatchOption f (OwnOfExtended M P v) (λ _. ⊥) ↔ MatchOption f (OwnOfExtended N P v) (λ _. ⊥))
       × MatchOption f (LooksOfExtended N P looks) (λ _. looks ≡ [])
   by_case None e own o = (
-    answer_stays M N m n C there here P is e same own looks o clear,
-    own_stays M N m n C there here P is e same own looks o clear,
-    looks_stay M N m n C there here P is e same own looks o clear,
+    answer_stays M N m n P is e same own looks o routes,
+    own_stays M N m n P is e same own looks o routes,
+    looks_stay M N m n P is e same own looks o routes,
   )
   by_case (Some r) e own o = ((λ A p. p), (λ v. ((λ h. h), (λ h. h))), o)
 
-  pub kept : ((v : ℕ) → OwnOf M P v → SameRound M N v) → LooksOf M P looks
+  pub looked_kept : ((v : ℕ) → OwnOf M P v → SameRound M N v) → LooksOf M P looks
       → ((A : Answer) → Encodes M P A → Encodes N P A) × ((v : ℕ) → OwnOf M P v ↔ OwnOf N P v) × LooksOf N P looks
-  kept own o =
+  looked_kept own o =
       subst (λ (f : Option Refusal). ((A : Answer) → Encodes M P A
       → MatchOption f (Encoding N P A) (λ r. A ≡ Refused r))
       × ((v : ℕ) → OwnOf M P v ↔ MatchOption f (OwnOfExtended N P v) (λ _. ⊥)) × MatchOption f
       (LooksOfExtended N P looks) (λ _. looks ≡ []))
       (fault_same M N P same) (by_case (path_fault M P) refl own o)
+
+-- where each look is clear
+pub kept : (M N : Map) → IsMap M → IsMap N → (C : List ChangedLine) → Tells C M N → Tells C N M → (P : Path)
+    → IsTrue (is_path P.lines) → Each (SameLine M N) P.lines → (looks : List Look) → All (IsClear N C) looks
+    → ((v : ℕ) → OwnOf M P v → SameRound M N v) → LooksOf M P looks
+    → ((A : Answer) → Encodes M P A → Encodes N P A) × ((v : ℕ) → OwnOf M P v ↔ OwnOf N P v) × LooksOf N P looks
+kept M N m n C there here P is same looks clear =
+    looked_kept M N m n P is same looks (λ ls each s t joined i k last on.
+    clear_routes M N ls each s t joined i k last C there here
+    (All-contains (IsClear N C) looks (look_to M ls i k) clear on))
 
 -- the same, told by what is touched
 pub untouched_kept : (M N : Map) → IsMap M → IsMap N → (T X : List ℕ) (C : List ChangedLine) → Difference T X C M N

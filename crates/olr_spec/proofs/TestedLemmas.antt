@@ -3,13 +3,13 @@ use Rattle.std.proofs.Common.{inl, inr, ◌≡◌, ℕ, zero, suc, ◌+◌, ◌-
 use Rattle.std.proofs.Common.{Option, None, Some, IsTrue, Contains, refl, sym, ap, ◌∙◌, subst, arith, MatchOption, ◌↔◌}
 use Rattle.std.proofs.Common.{◌⊎◌}
 use Rattle.std.proofs.lemmas.Bool.{cases_lt, cases_eq, cases_order}
-use Rattle.std.specs.List.{slice_index, AllZip}
-use Rattle.olr_spec.specs.Map.{Map, IsMap, end, SameRound, has}
+use Rattle.std.specs.List.{AllZip}
+use Rattle.olr_spec.specs.Map.{Map, IsMap, SameRound, has}
 use Rattle.olr_spec.specs.Walks.{dm_of}
 use Rattle.olr_spec.specs.Extension.{Path, is_path, extended_path, limit}
 use Rattle.olr_spec.specs.Points.{stretch, Covered, Greatest}
 use Rattle.olr_spec.specs.Encoding.{Refusal, path_fault}
-use Rattle.olr_spec.specs.Footprint.{Reach, Searched, Touched, On_path, On_start_chain, On_end_chain, Within_reach}
+use Rattle.olr_spec.specs.Footprint.{Sees, Searched, Touched, On_path, On_start_chain, On_end_chain, Within_reach}
 use Rattle.olr_spec.specs.Footprint.{FootOf, Foot}
 use Rattle.olr_spec.specs.Detours.{Near}
 use Rattle.olr_spec.specs.Looks.{Own, OwnOfExtended, OwnOf, Needed, IsLastTested, Look, look_to, IsLook, looking}
@@ -145,14 +145,14 @@ module _ (M : Map) (m : IsMap M) (P : Path) (is : IsTrue (is_path P.lines)) (sou
 
   -- the footprint
   foot_there : (looks : List Look) → LooksOfExtended M P looks → (v : ℕ) → FootOf M P v
-      → OwnOfExtended M P v ⊎ ((l : Look) × Contains looks l × Reach M l.from v)
+      → OwnOfExtended M P v ⊎ ((l : Look) × Contains looks l × Sees M l v)
   foot_there looks o v f = by f.holds
     where
       own : Own M (extended_path M P f.before f.after).lines f.before f.after v → OwnOfExtended M P v
       own h = record { before = f.before; after = f.after; tried = f.tried; own = h }
 
       by : Touched M (extended_path M P f.before f.after).lines f.before f.after f.points v
-          → OwnOfExtended M P v ⊎ ((l : Look) × Contains looks l × Reach M l.from v)
+          → OwnOfExtended M P v ⊎ ((l : Look) × Contains looks l × Sees M l v)
       by (On_path n) = inl (own (inl n))
       by (On_start_chain n) = inl (own (inr (inl n)))
       by (On_end_chain n) = inl (own (inr (inr n)))
@@ -163,11 +163,11 @@ module _ (M : Map) (m : IsMap M) (P : Path) (is : IsTrue (is_path P.lines)) (sou
           let t : Searched M ls (0 ∷ o.points) v =
           coe 0 1 (i. Searched M (extended_path M P (same.0 i) (same.1 i)).lines (0 ∷ same.2 i) v) s in
           let l = look_for M ls (0 ∷ o.points) looks o.holds t.0 t.1 t.2 in
-          let from : end M (slice_index ls t.0) ≡ l.0.from = sym (ap (λ (k : Look). k.from) l.2.2) in
-          inr (l.0, l.1, subst (λ (u : ℕ). Reach M u v) from t.3)
+          let one : t.3.0 ≡ l.0 = one_look M ls t.0 t.3.0 l.0 t.3.1 l.2 in
+          inr (l.0, l.1, subst (λ (k : Look). Sees M k v) one t.3.2)
 
   foot_here : (looks : List Look) → LooksOfExtended M P looks → (v : ℕ)
-      → OwnOfExtended M P v ⊎ ((l : Look) × Contains looks l × Reach M l.from v) → FootOf M P v
+      → OwnOfExtended M P v ⊎ ((l : Look) × Contains looks l × Sees M l v) → FootOf M P v
   foot_here looks o v (inl p) =
       let ls = (extended_path M P p.before p.after).lines in
       let js = some_follow M m ls (length ls) 0 (omega arith) in
@@ -181,8 +181,7 @@ module _ (M : Map) (m : IsMap M) (P : Path) (is : IsTrue (is_path P.lines)) (sou
   foot_here looks o v (inr r) =
       let ls = (extended_path M P o.before o.after).lines in
       let i = look_from M ls (0 ∷ o.points) looks o.holds r.0 r.1 in
-      let from : r.0.from ≡ end M (slice_index ls i.0) = ap (λ (k : Look). k.from) i.3.2 in
-      path_also o (Within_reach (i.0, i.1, i.2, subst (λ (u : ℕ). Reach M u v) from r.2))
+      path_also o (Within_reach (i.0, i.1, i.2, (r.0, i.3, r.2)))
 
 -- ---- whether or not the path has a fault
 
@@ -204,17 +203,17 @@ some_looks M m P is = by (path_fault M P) refl
     by (Some r) e = ([], refl)
 
 pub foot_looked : (M : Map) → IsMap M → (P : Path) → IsTrue (is_path P.lines) → (looks : List Look) → LooksOf M P looks
-    → (v : ℕ) → Foot M P v ↔ (OwnOf M P v ⊎ ((l : Look) × Contains looks l × Reach M l.from v))
+    → (v : ℕ) → Foot M P v ↔ (OwnOf M P v ⊎ ((l : Look) × Contains looks l × Sees M l v))
 foot_looked M m P is looks o v = by (path_fault M P) refl o
   where
-    none : looks ≡ [] → ⊥ ⊎ ((l : Look) × Contains looks l × Reach M l.from v) → ⊥
+    none : looks ≡ [] → ⊥ ⊎ ((l : Look) × Contains looks l × Sees M l v) → ⊥
     none e (inl f) = f
     none e (inr r) = let c = (r.2.0) in let h : r.1.0 < length looks = r.1.1 in
         omega (arith, ap (λ (ks : List Look). length ks) e)
 
     by : (o : Option Refusal) → path_fault M P ≡ o → MatchOption o (LooksOfExtended M P looks) (λ _. looks ≡ [])
         → MatchOption o (FootOf M P v) (λ _. ⊥) ↔
-        (MatchOption o (OwnOfExtended M P v) (λ _. ⊥) ⊎ ((l : Look) × Contains looks l × Reach M l.from v))
+        (MatchOption o (OwnOfExtended M P v) (λ _. ⊥) ⊎ ((l : Look) × Contains looks l × Sees M l v))
     by None e p = (foot_there M m P is e looks p v, foot_here M m P is e looks p v)
     by (Some r) e p = ((λ f. absurd f), none p)
 
@@ -223,17 +222,17 @@ foot_looked M m P is looks o v = by (path_fault M P) refl o
 pub foot_concerned : (M N : Map) → IsMap M → (T : List ℕ) → ((v : ℕ) → has T v ≡ false → SameRound M N v) → (P : Path)
     → IsTrue (is_path P.lines) → (looks : List Look) → LooksOf M P looks
     → ((v : ℕ) × IsTrue (has T v) × Foot M P v) ↔
-    (((v : ℕ) × IsTrue (has T v) × OwnOf M P v) ⊎ ((l : Look) × Contains looks l × Near N T l.from limit))
+    (((v : ℕ) × IsTrue (has T v) × OwnOf M P v) ⊎ ((l : Look) × Contains looks l × Near N T l.from l.within))
 foot_concerned M N m T round P is looks o = (there, here)
   where
     there : (v : ℕ) × IsTrue (has T v) × Foot M P v
-        → ((v : ℕ) × IsTrue (has T v) × OwnOf M P v) ⊎ ((l : Look) × Contains looks l × Near N T l.from limit)
+        → ((v : ℕ) × IsTrue (has T v) × OwnOf M P v) ⊎ ((l : Look) × Contains looks l × Near N T l.from l.within)
     there f = elim ((foot_looked M m P is looks o f.0).0 f.2) [
       | inl own ↦ inl (f.0, f.1, own)
       | inr r ↦ inr (
         r.0,
         r.1,
-        near_there M N T round r.0.from limit (record {
+        near_there M N T round r.0.from r.0.within (record {
           node = f.0;
           walk = r.2.0;
           touched = f.1;
@@ -243,9 +242,9 @@ foot_concerned M N m T round P is looks o = (there, here)
       )
     ]
 
-    here : ((v : ℕ) × IsTrue (has T v) × OwnOf M P v) ⊎ ((l : Look) × Contains looks l × Near N T l.from limit)
+    here : ((v : ℕ) × IsTrue (has T v) × OwnOf M P v) ⊎ ((l : Look) × Contains looks l × Near N T l.from l.within)
         → (v : ℕ) × IsTrue (has T v) × Foot M P v
     here (inl own) = (own.0, own.1, (foot_looked M m P is looks o own.0).1 (inl own.2))
     here (inr r) =
-        let n = near_there N M T (λ v e. turned_round M N v (round v e)) r.0.from limit r.2 in
+        let n = near_there N M T (λ v e. turned_round M N v (round v e)) r.0.from r.0.within r.2 in
         (n.node, n.touched, (foot_looked M m P is looks o n.node).1 (inr (r.0, r.1, (n.walk, n.leads, n.within))))

@@ -1,27 +1,25 @@
 -- The nodes on which an answer rests (profile).
---     Reach M s v      a walk of at most the limit leads from s to v
+--     Sees M l v      a walk of at most the look's length leads from where it begins to node v
 --     Foot M P v      node v belongs to the footprint of the path
-use Rattle.std.specs.Prelude.{◌≡◌, ℕ, ◌+◌, ◌<◌, List, ◌∷◌, length, slice_index, MatchOption, IsTrue, ◌⊎◌}
-use Rattle.olr_spec.specs.Map.{Map, start, end, has}
+use Rattle.std.specs.Prelude.{ℕ, ◌+◌, ◌<◌, List, ◌∷◌, length, MatchOption, IsTrue}
+use Rattle.olr_spec.specs.Map.{Map, has}
 use Rattle.olr_spec.specs.Walks.{Reaches}
-use Rattle.olr_spec.specs.Extension.{Path, limit}
+use Rattle.olr_spec.specs.Extension.{Path}
 use Rattle.olr_spec.specs.Points.{OfPath}
 use Rattle.olr_spec.specs.Encoding.{path_fault}
+use Rattle.olr_spec.specs.Looks.{NodeOf, Look, IsLook}
 
--- v is an end of one of the lines
-abbrev pub NodeOf : Map → List ℕ → ℕ → Type 0
-NodeOf M ls v = (x : ℕ) × IsTrue (has ls x) × ((start M x ≡ v) ⊎ (end M x ≡ v))
+-- only so far does the search for the look have to go: the standard's 15,000 m bounds how far a position may be, and
+-- not what decides whether it is covered
+abbrev pub Sees : Map → Look → ℕ → Type 0
+Sees M l v = Reaches M l.from l.within v
 
--- at most 15,000 m
-abbrev pub Reach : Map → ℕ → ℕ → Type 0
-Reach M s v = Reaches M s limit v
-
--- from the end of the line of one of the points is, where two lines or more follow it: for later points nothing is
--- searched
+-- seen by the look of one of the points is, where two lines or more follow it: for later points nothing is searched
 abbrev pub Searched : Map → List ℕ → List ℕ → ℕ → Type 0
-Searched M ls is v = (i : ℕ) × IsTrue (has is i) × (i + 2 < length ls) × Reach M (end M (slice_index ls i)) v
+Searched M ls is v =
+    (i : ℕ) × IsTrue (has is i) × (i + 2 < length ls) × ((l : Look) × IsLook M ls i l × Sees M l v)
 
--- on the extended path, on one of the tried chains, or within reach of a point
+-- on the extended path, on one of the tried chains, or seen from a point
 pub data Touched (M : Map) (ls b a js : List ℕ) (v : ℕ) : Type 0 where
   On_path : NodeOf M ls v → Touched M ls b a js v
   On_start_chain : NodeOf M b v → Touched M ls b a js v

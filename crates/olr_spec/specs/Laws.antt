@@ -7,10 +7,11 @@
 --     bytes      a direction has one sector, a reference one spelling, bytes one reference or one fault
 --     locality   an answer rests on its footprint alone
 --     changes    what edits change, and which walks they can concern
+--     receivers      what every receiver recovers from a reference, and where the nearest node is the own one
 --     looks      a path looks at its own nodes and what lies near; where no change concerns that, its answer is kept
-use Rattle.std.specs.Prelude.{◌≡◌, ℕ, ◌+◌, ◌<◌, ◌≤◌, ℤ, pos, List, [], ◌++◌, length, Option, Some, None, is_some, All}
+use Rattle.std.specs.Prelude.{◌≡◌, ℕ, ◌+◌, ◌*◌, ◌<◌, ◌≤◌, ℤ, pos, List, [], ◌++◌, length, map, Option, Some, None, is_some, All}
 use Rattle.std.specs.Prelude.{Contains, Ok, ◌↔◌, ◌⊎◌, IsTrue, IsFalse}
-use Rattle.std.specs.List.{AllByRecursion}
+use Rattle.std.specs.List.{AllByRecursion, AllZip, concat}
 use Rattle.std.specs.List.Sorted.{IsStrictlyIncreasing}
 use Rattle.olr_spec.specs.Map.{Map, empty_map, IsMap, Line, has_line, place_at, lines_in, lines_out, Edit, edited}
 use Rattle.olr_spec.specs.Map.{touched_nodes, touched_lines, Enters, Leaves, Agree, SameLine, SameRound, has, HasPlace}
@@ -19,12 +20,16 @@ use Rattle.olr_spec.specs.Labels.{Settled}
 use Rattle.olr_spec.specs.Extension.{Path, is_path, first, last, LongestStart, LongestEnd, limit}
 use Rattle.olr_spec.specs.Points.{stretch, Covered, Next, Follow, last_position}
 use Rattle.olr_spec.specs.Bearings.{IsSector, sector}
-use Rattle.olr_spec.specs.Reference.{Reference, legs, first_kept, last_kept, kept_points}
+use Rattle.olr_spec.specs.Reference.{Reference, leg, legs, first_kept, last_kept, kept_points}
 use Rattle.olr_spec.specs.Encoding.{Answer, Points, Encodes, IsPoint}
 use Rattle.olr_spec.specs.Bytes.{IsReference, Spells, v3_fault}
 use Rattle.olr_spec.specs.Decoded.{decoded, IsNear}
 use Rattle.olr_spec.specs.Joins.{Joins}
-use Rattle.olr_spec.specs.Footprint.{Reach, Foot}
+use Rattle.olr_spec.specs.Receiver.{Outgoing, Incoming, Measure, Receiver, Recovers, attributes, candidates}
+use Rattle.olr_spec.specs.Receiver.{last_place, decoded_place, is_nearest}
+use Rattle.olr_spec.specs.Recovery.{Distinct, IsLineAt, IsStretches, IsKeptPart, IsLeft, IsCut, IsClose, IsStep}
+use Rattle.olr_spec.specs.Recovery.{IsWeighted, are_spaced, lon_apart, lat_apart}
+use Rattle.olr_spec.specs.Footprint.{Sees, Foot}
 use Rattle.olr_spec.specs.Detours.{ChangedLine, changes_of, Tells, Difference, Detour, Near}
 use Rattle.olr_spec.specs.Looks.{OwnOf, IsLastTested, Look, look_to, LooksOf, IsClear}
 
@@ -169,6 +174,55 @@ DecodedPoints =
     (M : Map) → IsMap M → (P : Path) → IsTrue (is_path P.lines) → (r : Reference) → Encodes M P (Points r)
     → (k : ℕ) → IsTrue (is_some (decoded r k)) → (v : ℕ) × IsPoint M P k v
 
+-- ---- receivers
+
+-- where each point's own line is distinct, every receiver recovers the stretches between the points, and nothing else
+abbrev pub Recovered : Type 0
+Recovered =
+    (R : Receiver) (M : Map) → IsMap M → (P : Path) → IsTrue (is_path P.lines) → (r : Reference)
+    → Encodes M P (Points r) → Distinct R.far M P r → (ws : List (List ℕ)) → Recovers R M r ws ↔ IsStretches M P ws
+
+-- which together are the lines from the first kept point to the last
+abbrev pub StretchesJoin : Type 0
+StretchesJoin = (M : Map) (P : Path) (ws : List (List ℕ)) → IsStretches M P ws → IsKeptPart M P (concat ws)
+
+-- each measure is one of a receiver
+abbrev pub SomeReceiver : Type 0
+SomeReceiver = (far : Measure) → (R : Receiver) × (R.far ≡ far)
+
+-- what an offset byte cuts off, read as any value of its interval, differs from what is left of the offset by less than
+-- a 256th of the first stretch, or of the last
+abbrev pub Offsets : Type 0
+Offsets =
+    (M : Map) → IsMap M → (P : Path) → IsTrue (is_path P.lines) → (r : Reference) → Encodes M P (Points r)
+    → (ws : List (List ℕ)) → IsStretches M P ws → (front back : ℕ) → IsLeft M P front back → (q : ℕ) → 0 < q
+    → ((c : ℕ) → IsCut q (first (map (dm_of M) ws)) r.pos c → IsClose q (first (map (dm_of M) ws)) front c)
+    × ((c : ℕ) → IsCut q (last (map (dm_of M) ws)) r.neg c → IsClose q (last (map (dm_of M) ws)) back c)
+
+-- and the length of each stretch lies in the interval of its distance to the next point
+abbrev pub Distances : Type 0
+Distances =
+    (M : Map) → IsMap M → (P : Path) → IsTrue (is_path P.lines) → (r : Reference) → Encodes M P (Points r)
+    → (ws : List (List ℕ)) → IsStretches M P ws → AllZip (λ a w. IsStep a (dm_of M w)) (attributes r) ws
+
+-- where the other nodes with candidates are at least three times the bound of DecodedNear away from the own node of a
+-- point, that node is the nearest
+abbrev pub Nearest : Type 0
+Nearest =
+    (M : Map) → IsMap M → (P : Path) → IsTrue (is_path P.lines) → (r : Reference) → Encodes M P (Points r)
+    → (n d scale : ℕ) (far : Measure) → IsWeighted n d scale far
+    → ((k x : ℕ) → k < last_place r → IsLineAt M P Outgoing k x →
+    IsTrue (are_spaced n d k Outgoing (leg M x) (candidates M)) →
+    IsTrue (is_nearest far Outgoing (decoded_place r k) (leg M x) (candidates M)))
+    × ((x : ℕ) → IsLineAt M P Incoming (last_place r) x →
+    IsTrue (are_spaced n d (last_place r) Incoming (leg M x) (candidates M)) →
+    IsTrue (is_nearest far Incoming (decoded_place r (last_place r)) (leg M x) (candidates M)))
+
+-- the weighted sum of both axes is such a measure
+abbrev pub SomeWeighted : Type 0
+SomeWeighted =
+    (n d : ℕ) → n ≤ d → 0 < d → IsWeighted n d d (λ p c. n * lon_apart p c + d * lat_apart p c)
+
 -- ---- sectors and bytes
 
 -- a direction lies in at most one sector
@@ -266,20 +320,19 @@ OneLooks =
 abbrev pub SomeLooks : Type 0
 SomeLooks = (M : Map) → IsMap M → (P : Path) → IsTrue (is_path P.lines) → (looks : List Look) × LooksOf M P looks
 
--- the footprint is the own nodes, and what is within reach of where a look begins
+-- the footprint is the own nodes, and what the looks see
 abbrev pub FootIsLooked : Type 0
 FootIsLooked =
     (M : Map) → IsMap M → (P : Path) → IsTrue (is_path P.lines) → (looks : List Look) → LooksOf M P looks
-    → (v : ℕ) → Foot M P v ↔ (OwnOf M P v ⊎ ((l : Look) × Contains looks l × Reach M l.from v))
+    → (v : ℕ) → Foot M P v ↔ (OwnOf M P v ⊎ ((l : Look) × Contains looks l × Sees M l v))
 
--- so a footprint holds a touched node exactly where an own node is touched, or one is near to where a look begins, on
--- the changed map
+-- so a footprint holds a touched node exactly where an own node is touched, or a look sees one, on the changed map
 abbrev pub FootConcerned : Type 0
 FootConcerned =
     (M N : Map) → IsMap M → (T : List ℕ) → ((v : ℕ) → IsFalse (has T v) → SameRound M N v)
     → (P : Path) → IsTrue (is_path P.lines) → (looks : List Look) → LooksOf M P looks
     → ((v : ℕ) × IsTrue (has T v) × Foot M P v) ↔
-    (((v : ℕ) × IsTrue (has T v) × OwnOf M P v) ⊎ ((l : Look) × Contains looks l × Near N T l.from limit))
+    (((v : ℕ) × IsTrue (has T v) × OwnOf M P v) ⊎ ((l : Look) × Contains looks l × Near N T l.from l.within))
 
 -- where the look from line i is clear, it is the same on both maps, and the positions that are near enough are covered
 -- on both alike

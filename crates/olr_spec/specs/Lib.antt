@@ -11,9 +11,11 @@ pub mod Encoding
 pub mod Bytes
 pub mod Decoded
 pub mod Joins
-pub mod Footprint
 pub mod Detours
 pub mod Looks
+pub mod Footprint
+pub mod Receiver
+pub mod Recovery
 pub mod Laws
 pub mod Rows
 pub mod Codes

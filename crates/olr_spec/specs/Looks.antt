@@ -1,4 +1,5 @@
 -- What an encoding of a path looks at (profile).
+--     NodeOf M ls v      v is an end of one of the lines
 --     Own M ls b a v      v lies on the extended path ls, or on one of the tried chains b and a.
 --     OwnOf M P v      v is one of the own nodes of the path
 --     Needed M ls i m      a position that is near enough to follow i as a point asks whether position m is covered
@@ -10,17 +11,19 @@
 --     LooksFrom M ls is looks, LooksOf M P looks      one for each of the points is, in their order; the looks of the
 --         path
 use Rattle.std.specs.Prelude.{◌≡◌, ℕ, ◌+◌, ◌-◌, ◌<◌, ◌≤◌, min, List, [], ◌∷◌, length, filter, nat_lt, slice_index}
-use Rattle.std.specs.Prelude.{MatchOption, ◌⊎◌}
+use Rattle.std.specs.Prelude.{MatchOption, ◌⊎◌, IsTrue}
 use Rattle.std.specs.List.{AllZip}
-use Rattle.olr_spec.specs.Map.{Map, start, end}
+use Rattle.olr_spec.specs.Map.{Map, start, end, has}
 use Rattle.olr_spec.specs.Walks.{dm_of}
 use Rattle.olr_spec.specs.Extension.{Path, Tried, extended_path, limit}
 use Rattle.olr_spec.specs.Points.{stretch, Covered, OfPath}
 use Rattle.olr_spec.specs.Encoding.{path_fault}
-use Rattle.olr_spec.specs.Footprint.{NodeOf}
 use Rattle.olr_spec.specs.Detours.{ChangedLine, Detour}
 
 -- ---- own nodes
+
+abbrev pub NodeOf : Map → List ℕ → ℕ → Type 0
+NodeOf M ls v = (x : ℕ) × IsTrue (has ls x) × ((start M x ≡ v) ⊎ (end M x ≡ v))
 
 abbrev pub Own : Map → List ℕ → List ℕ → List ℕ → ℕ → Type 0
 Own M ls b a v = NodeOf M ls v ⊎ (NodeOf M b v ⊎ NodeOf M a v)

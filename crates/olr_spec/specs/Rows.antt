@@ -3,10 +3,14 @@
 --         bytes of it
 --     .._bytes      the bytes of the same path with other points or offsets
 --     straight_leg, slanted_leg lat      lines of the rows on bearings
-use Rattle.std.specs.Prelude.{ℕ, List, [], ◌∷◌, pos, neg_ℤ, Some, None}
+--     morning_lines, twin_lines      all lines of the first worked path's map, and those of one where line 20 has a twin
+--     axes_sum      a measure: the sum of both axes
+use Rattle.std.specs.Prelude.{ℕ, ◌+◌, List, [], ◌∷◌, pos, neg_ℤ, Some, None}
 use Rattle.olr_spec.specs.Coordinates.{Coord, coord}
 use Rattle.olr_spec.specs.Bearings.{Leg}
 use Rattle.olr_spec.specs.Reference.{Attrs, Reference}
+use Rattle.olr_spec.specs.Receiver.{Measure}
+use Rattle.olr_spec.specs.Recovery.{lon_apart, lat_apart}
 
 -- a place north of the equator and east of Greenwich
 abbrev place : ℕ → ℕ → Coord
@@ -31,7 +35,7 @@ leg10 =
       finish = place 2008147558400 16254235443200;
     }
 
-abbrev leg20 : Leg
+abbrev pub leg20 : Leg
 leg20 =
     record {
       line =
@@ -48,7 +52,7 @@ leg20 =
       finish = place 2007990272000 16254074880000;
     }
 
-abbrev leg30 : Leg
+abbrev pub leg30 : Leg
 leg30 =
     record {
       line =
@@ -149,3 +153,23 @@ slanted_leg lat =
           place 0 19660800000000;
       finish = place 327680000 lat;
     }
+
+-- ---- candidates
+
+-- from node 2 to node 3, as line 20, but shorter and of a lower class
+abbrev leg99 : Leg
+leg99 =
+    record {
+      line = record { from = 2; to = 3; frc = 4; fow = 3; len = 1500; shape = [] };
+      begin = leg20.begin;
+      finish = leg20.finish;
+    }
+
+abbrev pub morning_lines : List (ℕ × Leg)
+morning_lines = (10, leg10) ∷ (20, leg20) ∷ (30, leg30) ∷ (99, leg99) ∷ []
+
+abbrev pub twin_lines : List (ℕ × Leg)
+twin_lines = (10, leg10) ∷ (20, leg20) ∷ (21, leg20) ∷ (30, leg30) ∷ []
+
+abbrev pub axes_sum : Measure
+axes_sum p c = lon_apart p c + lat_apart p c

@@ -3,8 +3,8 @@
 //! A road map, a path, a reference and its bytes are values here: finite maps, lists and whole
 //! numbers. The other crates' contracts cite these definitions; nothing here is run. In reading
 //! order: `Coordinates`, `Degrees`, `Map`, `Walks`, `Labels`, `Extension`, `Points`, `Bearings`,
-//! `Reference`, `Encoding`, `Bytes`, `Decoded`, `Joins`, `Footprint`, `Detours`, `Looks`, and
-//! `Laws`, which says what follows from them. `Codes` tells the compiler how the values are stored,
+//! `Reference`, `Encoding`, `Bytes`, `Decoded`, `Joins`, `Detours`, `Looks`, `Footprint`, `Receiver`,
+//! `Recovery`, and `Laws`, which says what follows from them. `Codes` tells the compiler how the values are stored,
 //! and `Rows` has the values of the worked rows.
 //!
 //! Each function below does nothing. Its contract is what is proved: first the laws, and then
@@ -22,12 +22,15 @@ ghost use Rattle.olr_spec.specs.Bearings.{sector, up_to, thousandths, scaled_pla
 ghost use Rattle.olr_spec.specs.Reference.{kept_points, reference};
 ghost use Rattle.olr_spec.specs.Bytes.{spelling, v3_fault, Length, Status, Flags, Reserved};
 ghost use Rattle.olr_spec.specs.Decoded.{decoded};
+ghost use Rattle.olr_spec.specs.Receiver.{Outgoing, Incoming, decoded_place, is_nearest, has_no_twin};
+ghost use Rattle.olr_spec.specs.Recovery.{are_spaced};
 ghost use Rattle.olr_spec.specs.Detours.{changes_of};
 ghost use Rattle.olr_spec.specs.Looks.{looking};
 ghost use Rattle.olr_spec.specs.Laws;
 ghost use Rattle.olr_spec.specs.Rows.{legs1, leg10, reference1, bytes1, side_road_dropped_bytes, first_dropped_bytes};
 ghost use Rattle.olr_spec.specs.Rows.{last_dropped_bytes, both_offsets_bytes, offset_bytes_of, version2_bytes};
-ghost use Rattle.olr_spec.specs.Rows.{reserved_bytes, straight_leg, slanted_leg};
+ghost use Rattle.olr_spec.specs.Rows.{reserved_bytes, straight_leg, slanted_leg, leg20, leg30, morning_lines};
+ghost use Rattle.olr_spec.specs.Rows.{twin_lines, axes_sum};
 
 /// The lines that enter and leave a node rise by number and are exactly these; an accepted edit
 /// keeps a map sound, and one edit takes it back.
@@ -77,6 +80,19 @@ pub fn laws_of_points()
     ensures routes_join { Laws.RoutesJoin }
     ensures decoded_near { Laws.DecodedNear }
     ensures decoded_points { Laws.DecodedPoints }
+{}
+
+/// Every receiver to which each point's own line is distinct recovers the stretches between the kept
+/// points, and cuts their ends off where the offsets say. A node is the nearest where the others are
+/// three times the bound of decoding away.
+pub fn laws_of_receivers()
+    ensures recovered { Laws.Recovered }
+    ensures stretches_join { Laws.StretchesJoin }
+    ensures offsets { Laws.Offsets }
+    ensures distances { Laws.Distances }
+    ensures nearest { Laws.Nearest }
+    ensures some { Laws.SomeReceiver }
+    ensures weighted { Laws.SomeWeighted }
 {}
 
 /// Each direction lies in exactly one sector.
@@ -266,4 +282,22 @@ pub fn rows_decoded()
     ensures second { decoded reference1 1 ≡ Some (pos 2008144232125, pos 16254234750225) }
     ensures third { decoded reference1 2 ≡ Some (pos 2008075419325, pos 16253930007825) }
     ensures past { decoded reference1 3 ≡ None }
+{}
+
+/// The own lines of the first worked path among all lines of its map: each is the nearest candidate
+/// and has no twin. Beside a second line 20 it isn't distinct. The cosine of 49.6 degrees is above
+/// 64/100.
+pub fn rows_distinct()
+    ensures first { is_nearest axes_sum Outgoing (decoded_place reference1 0) leg10 morning_lines ≡ true }
+    ensures second { is_nearest axes_sum Outgoing (decoded_place reference1 1) leg20 morning_lines ≡ true }
+    ensures third { is_nearest axes_sum Incoming (decoded_place reference1 2) leg30 morning_lines ≡ true }
+    ensures first_alone { has_no_twin Outgoing 10 leg10 morning_lines ≡ true }
+    ensures second_alone { has_no_twin Outgoing 20 leg20 morning_lines ≡ true }
+    ensures third_alone { has_no_twin Incoming 30 leg30 morning_lines ≡ true }
+    ensures beside_its_twin { is_nearest axes_sum Outgoing (decoded_place reference1 1) leg20 twin_lines ≡ true }
+    ensures not_alone { has_no_twin Outgoing 20 leg20 twin_lines ≡ false }
+    ensures first_spaced { are_spaced 64 100 0 Outgoing leg10 morning_lines ≡ true }
+    ensures second_spaced { are_spaced 64 100 1 Outgoing leg20 morning_lines ≡ true }
+    ensures third_spaced { are_spaced 64 100 2 Incoming leg30 morning_lines ≡ true }
+    ensures node_by_far { is_nearest axes_sum Outgoing (decoded_place reference1 0) leg20 morning_lines ≡ false }
 {}

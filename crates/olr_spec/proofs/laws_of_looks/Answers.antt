@@ -1,6 +1,6 @@
 use Rattle.olr_spec.specs.Map.{SameLine}
 use Rattle.olr_spec.proofs.ListLemmas.{Each-from}
-use Rattle.olr_spec.proofs.LookLemmas.{look_stays, to_same, covered_stays}
+use Rattle.olr_spec.proofs.LookLemmas.{to_same, clear_routes, look_stays, covered_stays}
 use Rattle.olr_spec.proofs.StayLemmas.{kept, untouched_kept}
 use Rattle.olr_spec.proofs.TestedLemmas.{one_last_tested, some_last_tested, one_looks, some_looks, foot_looked}
 use Rattle.olr_spec.proofs.TestedLemmas.{foot_concerned}
@@ -26,10 +26,11 @@ returns-clause-concerned c = foot_concerned
 
 pub returns-clause-looks : goal.returns-clause-looks
 returns-clause-looks c = λ M N C there here ls same s t joined i k look clear.
-    let each = Each-from (SameLine M N) ls same in (
-      look_stays M N C there here ls each s t joined i k look clear,
-      to_same M N C there here ls each s t joined i k look clear,
-      covered_stays M N C there here ls each s t joined i k look clear,
+    let each = Each-from (SameLine M N) ls same in
+    let routes = clear_routes M N ls each s t joined i k look C there here clear in (
+      look_stays M N ls each s t joined i k look routes,
+      to_same M N ls each s t joined i k look,
+      covered_stays M N ls each s t joined i k look routes,
     )
 
 pub returns-clause-kept : goal.returns-clause-kept
