@@ -9,7 +9,7 @@ use Rattle.olr_spec.specs.Walks.{dm_of}
 use Rattle.olr_spec.specs.Encoding.{first_unknown}
 use Rattle.olr_spec.specs.Extension.{Path, is_path, first, last, passing, LongestStart, LongestEnd, taken_start}
 use Rattle.olr_spec.specs.Extension.{taken_end, from_start, Tried}
-use Rattle.olr_spec.specs.Footprint.{NodeOf}
+use Rattle.olr_spec.specs.Looks.{NodeOf}
 use Rattle.olr_refs.specs.Extends.{Extends}
 use Rattle.olr_spec.proofs.AnswerLemmas.{no_unknown, path_nonempty}
 use Rattle.olr_spec.proofs.ChainMoves.{StartChain-known, EndChain-known}

@@ -12,6 +12,7 @@ pub mod Noting
 pub mod PlaceLemmas
 pub mod PointLemmas
 pub mod Reaching
+pub mod Recovering
 pub mod Referring
 pub mod Sets
 pub mod Stretches

@@ -3,7 +3,7 @@ use Rattle.std.proofs.Common.{◌≡◌, ◌<◌, ◌≤◌, ◌+◌, ◌*◌, �
 use Rattle.std.proofs.Common.{ap, ◌∙◌, subst, arith, inl, inr, ◌==◌, length-append}
 use Rattle.std.specs.Prelude.{nat_lt}
 use Rattle.std.specs.Cmp.{nat_eq_equiv}
-use Rattle.std.specs.List.{slice_index, AllZip}
+use Rattle.std.specs.List.{AllZip}
 use Rattle.std.proofs.Math.Nat.{mul-add, mul_comm}
 use Rattle.std.proofs.lemmas.Bool.{or_left, or_right, eqb-true}
 use Rattle.std.proofs.lemmas.Bool.Decides.{nat_tests}
@@ -11,11 +11,11 @@ use Rattle.std.proofs.lemmas.List.Elements.{filter-append}
 use Rattle.std.proofs.lemmas.List.Folds.{list_any-append}
 use Rattle.std.proofs.lemmas.Map.Made.{length-le_from_is_member}
 use Rattle.std.proofs.lemmas.Map.Views.{Contains-from_any, list_any-from_Contains}
-use Rattle.olr_spec.specs.Map.{Map, end}
-use Rattle.olr_spec.specs.Walks.{Walk, dm_of}
+use Rattle.olr_spec.specs.Map.{Map}
+use Rattle.olr_spec.specs.Walks.{Walk, dm_of, Reaches}
 use Rattle.olr_spec.specs.Extension.{limit}
 use Rattle.olr_spec.specs.Points.{Next, Follow, NoNext, last_position, stretch}
-use Rattle.olr_spec.specs.Footprint.{Reach, Searched}
+use Rattle.olr_spec.specs.Footprint.{Sees, Searched}
 use Rattle.olr_spec.specs.Looks.{Look, IsLastTested, IsLook, LooksFrom, looking}
 use Rattle.olr_spec.proofs.ListLemmas.{has_here, Contains-cases}
 use Rattle.olr_spec.proofs.AnswerLemmas.{Next-candidate}
@@ -30,9 +30,9 @@ use Rattle.std.proofs.lemmas.List.{append-nil}
 
 -- ---- what a search settles
 
--- what is near to where a look begins is within its reach
-pub near_reach : (M : Map) (s v far : ℕ) → far ≤ limit → LiesWithin M Along ((s, 0) ∷ []) far v → Reach M s v
-near_reach M s v far h n =
+-- what a search labels within a length is reached by a walk of at most the length
+pub near_reach : (M : Map) (s v far : ℕ) → LiesWithin M Along ((s, 0) ∷ []) far v → Reaches M s far v
+near_reach M s v far n =
     let l = n.1.leads in
     elim (Contains-cases (s, 0) (l.source, l.begun) [] l.listed) [
       | inl e ↦
@@ -44,14 +44,14 @@ near_reach M s v far h n =
       | inr none ↦ let never : none.0 < 0 = none.1 in absurd (omega arith)
     ]
 
--- no more than there are nodes within reach
-settled_few : (M : Map) (s far n : ℕ) (all : List ℕ) → far ≤ limit → Counts M Along ((s, 0) ∷ []) far n →
-    ((v : ℕ) → Reach M s v → Contains all v) → n ≤ length all
-settled_few M s far n all h c each =
+-- no more than there are such nodes
+settled_few : (M : Map) (s far n : ℕ) (all : List ℕ) → Counts M Along ((s, 0) ∷ []) far n →
+    ((v : ℕ) → Reaches M s far v → Contains all v) → n ≤ length all
+settled_few M s far n all c each =
     let few =
     length-le_from_is_member nat_eq_equiv c.nodes all c.apart
     (λ q is. list_any-from_Contains nat_eq_equiv q all
-    (each q (near_reach M s q far h ((c.exactly q).0 (Contains-from_any (λ x y e. eqb-true x y e) q c.nodes is))))) in
+    (each q (near_reach M s q far ((c.exactly q).0 (Contains-from_any (λ x y e. eqb-true x y e) q c.nodes is))))) in
     let many = c.many in
     omega arith
 
@@ -109,18 +109,20 @@ looked_wider a b n P Q p f =
           λ all h. f.settled all (λ v r. h v (p v r));
     }
 
--- one search from the end of line i
-pub one_look : (M : Map) (ls : List ℕ) (i k far n : ℕ) (before after : Work) → IsLastTested M ls i k →
-    far ≡ dm_of M (stretch ls (i + 1) k) → Counts M Along ((end M (slice_index ls i), 0) ∷ []) far n
+-- one search for a look
+pub one_look : (M : Map) (l : Look) (s far n : ℕ) (before after : Work) → s ≡ l.from → far ≡ l.within
+    → Counts M Along ((s, 0) ∷ []) far n
     → after.encodings ≡ before.encodings → after.searches ≡ saturated_count (before.searches + 1) →
-    after.settled ≡ saturated_count (before.settled + n) → Looked before after 1 (Reach M (end M (slice_index ls i)))
-one_look M ls i k far n before after t e c encodings searches settled =
+    after.settled ≡ saturated_count (before.settled + n) → Looked before after 1 (Sees M l)
+one_look M l s far n before after begun e c encodings searches settled =
     record {
       encodings = encodings;
       searches = searches;
       rises = omega arith;
-      settled = λ all h. let short = look_short M ls i k t in let few =
-          settled_few M (end M (slice_index ls i)) far n all (omega arith) c h in omega arith;
+      settled = λ all h.
+          let few = settled_few M s far n all c (λ v r. h v (subst (λ (u : ℕ). Reaches M u l.within v) begun
+          (subst (λ (d : ℕ). Reaches M s d v) e r))) in
+          omega arith;
     }
 
 -- ---- looks
@@ -160,14 +162,15 @@ looks_nowhere M ls i looks w h =
 -- and else there is one look
 pub looks_once : (M : Map) (ls : List ℕ) (i : ℕ) (look : Look) (old new : List Look) (before after : Work) →
     i + 2 < length ls → IsLook M ls i look → new ≡ old ++ look ∷ []
-    → Looked before after 1 (Reach M (end M (slice_index ls i))) → LookedAfter M ls i old new before after
+    → Looked before after 1 (Sees M look) → LookedAfter M ls i old new before after
 looks_once M ls i look old new before after h is grown counts =
     let one : i ∷ [] ≡ looking ls (i ∷ []) = grind (arith, nat_tests) in
     record {
       added = look ∷ [];
       each = subst (λ (is : List ℕ). LooksFrom M ls is (look ∷ [])) one (is, tt);
       grown = grown;
-      counts = looked_wider before after 1 _ (Searched M ls (i ∷ [])) (λ v r. (i, has_here i [], h, r)) counts;
+      counts =
+          looked_wider before after 1 _ (Searched M ls (i ∷ [])) (λ v r. (i, has_here i [], h, (look, is, r))) counts;
     }
 
 -- ---- from point to point

@@ -5,19 +5,22 @@ use Rattle.std.proofs.lemmas.Bool.{eq-eqb}
 use Rattle.std.specs.Prelude.{IsTrue, nat_lt, Result, Ok, Err, IfOk}
 use Rattle.olr_spec.specs.Map.{Map, IsMap, Agree, has_line}
 use Rattle.olr_spec.specs.Walks.{dm_of}
-use Rattle.olr_spec.specs.Extension.{Path, Tried, is_path, extended_path, AreJoined}
+use Rattle.olr_spec.specs.Extension.{Path, Tried, is_path, extended_path, from_start, taken_start, taken_end}
+use Rattle.olr_spec.specs.Extension.{AreJoined}
 use Rattle.olr_spec.specs.Points.{Follow, last_position, OfPath}
-use Rattle.olr_spec.specs.Reference.{Reference, legs, reference, kept_points}
+use Rattle.olr_spec.specs.Reference.{Reference, legs, reference, first_kept, last_kept, kept_points}
 use Rattle.olr_spec.specs.Encoding as spec
 use Rattle.olr_spec.specs.Encoding.{first_unknown, first_break, path_fault, answer_by_points, Encoding, Encodes}
-use Rattle.olr_spec.specs.Joins.{Joins}
 use Rattle.olr_spec.specs.Footprint.{Searched, Within_reach, Foot, FootOf}
 use Rattle.olr_spec.specs.Looks.{Look, IsLook, Own, OwnOfExtended, LooksFrom, LooksOf, LooksOfExtended, looking}
 use Rattle.olr_spec.proofs.AnswerLemmas.{path_nonempty, sound_lines, all_first, all_last, path_also}
 use Rattle.olr_spec.proofs.ChainLemmas.{one_tried}
-use Rattle.olr_spec.proofs.FitLemmas.{extended_sound, answered}
+use Rattle.olr_spec.proofs.DecodedLemmas.{two_of}
+use Rattle.olr_spec.proofs.FitLemmas.{long_enough, kept_ends, extended_sound, answered}
 use Rattle.olr_spec.proofs.JoinLemmas.{routes_join}
+use Rattle.olr_spec.proofs.KeptLemmas.{two_kept}
 use Rattle.olr_spec.proofs.LocalLemmas.{local_answer}
+use Rattle.olr_spec.proofs.WalkLemmas.{dm_of-append}
 use Rattle.olr_refs.specs.declared.answer.Answer.{Answer}
 use Rattle.olr_refs.specs.declared.answer.Answer.TheVariants.{Points, Refused}
 use Rattle.olr_refs.specs.Answers as answers
@@ -27,7 +30,7 @@ use Rattle.olr_refs.proofs.Noting.{looked_wider, zip_length}
 use Rattle.std.proofs.lemmas.List.Sums.{length-filter}
 use Rattle.olr_refs.specs.Extends.{Extends}
 use Rattle.olr_refs.specs.Kept.{later}
-use Rattle.olr_refs.specs.Referring.{JoinsOf, SearchesOf}
+use Rattle.olr_refs.specs.Referring.{Joined, JoinsOf, SearchesOf}
 use Rattle.olr_spec.proofs.JoinedLemmas.{extended_joined}
 
 -- ---- a path without a fault of its own
@@ -79,14 +82,37 @@ pub encoding_of : (M : Map) (P E : Path) (F G : List ℕ) (A : spec.Answer) → 
     ForPoints M E.lines (λ js. A ≡ answer_by_points M E js) → Encoding M P A
 encoding_of M P E F G A x a = of_path M P E F G (λ e js. A ≡ answer_by_points M e js) x a
 
-pub joins_of : (M : Map) (P E : Path) (F G : List ℕ) (A : Answer) → Extends M P E F G →
-    ForPoints M E.lines (λ js. answers.answer_of A ≡ answer_by_points M E js) → JoinsOf M P A
-joins_of M P E F G (Refused f) x a = tt
-joins_of M P E F G (Points r) x a =
-    let end = (answered M E a.0 r a.2).0 in
-    of_path M P E F G (λ e js. (last_position 0 js ≡ length e.lines)
-    × Joins M e.lines (kept_points (legs M e.lines) e.pos e.neg js)) x
-    (a.0, a.1, (end, routes_join M E.lines a.0 E.pos E.neg a.1 end))
+-- ---- the routes
+
+-- the offsets leave some of the extended path
+some_left : (M : Map) (P : Path) → path_fault M P ≡ None → (before after : List ℕ) →
+    (extended_path M P before after).pos + (extended_path M P before after).neg
+    < dm_of M (extended_path M P before after).lines
+some_left M P none before after =
+    let b = taken_start M before P.lines in
+    let fs = from_start M P before in
+    let a = taken_end M fs after in
+    let less = long_enough M P none in
+    omega (arith, dm_of-append M fs a, dm_of-append M b P.lines)
+
+-- so at least two points are kept
+pub joined : (M : Map) (P : Path) (r : Reference) → path_fault M P ≡ None → Encoding M P (spec.Points r) → Joined M P r
+joined M P r none p =
+    let E = extended_path M P p.before p.after in
+    let gs = legs M E.lines in
+    let is = answered M E p.points r p.holds in
+    let left = some_left M P none p.before p.after in
+    let ends = kept_ends M E.lines p.points E.pos E.neg p.follow is.0 left in
+    let two =
+    two_of (kept_points gs E.pos E.neg p.points) (first_kept gs E.pos p.points) (last_kept gs E.neg p.points) ends.0
+    ends.1 (two_kept M E.lines p.points E.pos E.neg p.follow is.0 left) in
+    let count = ap (λ (ks : List ℕ). length ks) two.3 in
+    path_also p (is.1, is.0, omega arith, routes_join M E.lines p.points E.pos E.neg p.follow is.0)
+
+pub joins_of : (M : Map) (P : Path) (A : Answer) → path_fault M P ≡ None → Encoding M P (answers.answer_of A) →
+    JoinsOf M P A
+joins_of M P (Refused f) none p = tt
+joins_of M P (Points r) none p = joined M P r none p
 
 -- ---- the own nodes, and the looks
 

@@ -1,4 +1,4 @@
--- A footprint, widened by what is within reach of where each look begins.
+-- A footprint, widened by what each look sees.
 use Rattle.std.proofs.Common.{◌≡◌, ◌<◌, ◌≤◌, ◌+◌, ◌*◌, ℕ, suc, List, [], ◌∷◌, ◌++◌, length, take, get_or, All, Contains}
 use Rattle.std.proofs.Common.{None, Some, Option, refl, sym, ap, ◌∙◌, subst, arith, inl, inr, ◌⊎◌}
 use Rattle.std.specs.Prelude.{IsTrue, ◌↔◌, MatchOption}
@@ -9,10 +9,10 @@ use Rattle.std.proofs.lemmas.List.Elements.{Contains-get_or, Contains-append_lef
 use Rattle.std.proofs.lemmas.List.Elements.{Contains-append_cases}
 use Rattle.std.proofs.Math.Seq.{take-length}
 use Rattle.olr_spec.specs.Map.{Map, IsMap, has_node}
-use Rattle.olr_spec.specs.Walks.{dm_of}
+use Rattle.olr_spec.specs.Walks.{dm_of, Reaches}
 use Rattle.olr_spec.specs.Extension.{Path, is_path, extended_path, limit}
 use Rattle.olr_spec.specs.Encoding.{Refusal, path_fault}
-use Rattle.olr_spec.specs.Footprint.{Reach, Foot}
+use Rattle.olr_spec.specs.Footprint.{Sees, Foot}
 use Rattle.olr_spec.specs.Looks.{Look, OwnOf, LooksOf, LooksOfExtended}
 use Rattle.olr_spec.proofs.JoinedLemmas.{extended_joined}
 use Rattle.olr_spec.proofs.LookLists.{look_from}
@@ -26,17 +26,17 @@ use Rattle.olr_route.specs.declared.distances.Search.{Search}
 use Rattle.olr_route.proofs.SearchLemmas.{near_leads}
 use Rattle.olr_refs.specs.Choice.{Searches, raised_count}
 use Rattle.olr_refs.proofs.Joined.{known_at}
-use Rattle.olr_refs.proofs.Noting.{near_reach}
+use Rattle.olr_refs.proofs.Noting.{near_reach, look_short}
 
 abbrev pub Within : Map → List Look → ℕ → Type 0
-Within M looks v = (l : Look) × Contains looks l × Reach M l.from v
+Within M looks v = (l : Look) × Contains looks l × Sees M l v
 
--- the footprint has the own nodes, and those within reach of where these looks begin
+-- the footprint has the own nodes, and those that these looks see
 abbrev Holds : Map → List ℕ → List Look → List ℕ → Type 0
 Holds M own looks foot = (v : ℕ) → Contains foot v ↔ (Contains own v ⊎ Within M looks v)
 
 holds_more : (M : Map) (own : List ℕ) (looks : List Look) (l : Look) (old new : List ℕ) → Holds M own looks old →
-    ((v : ℕ) → Contains new v ↔ (Contains old v ⊎ Reach M l.from v))
+    ((v : ℕ) → Contains new v ↔ (Contains old v ⊎ Sees M l v))
     → Holds M own (looks ++ l ∷ []) new
 holds_more M own looks l old new h f v = (forth, back)
   where
@@ -57,29 +57,28 @@ holds_more M own looks l old new h f v = (forth, back)
     back (inr w) = elim (Contains-append_cases looks (l ∷ []) w.0 w.1) [
       | inl there ↦ (f v).1 (inl ((h v).1 (inr (w.0, there, w.2))))
       | inr last ↦ elim (Contains-cases l w.0 [] last) [
-        | inl e ↦ (f v).1 (inr (subst (λ (k : Look). Reach M k.from v) (sym e) w.2))
+        | inl e ↦ (f v).1 (inr (subst (λ (k : Look). Sees M k v) (sym e) w.2))
         | inr none ↦ let never : none.0 < 0 = none.1 in absurd (omega arith)
       ]
     ]
 
 -- ---- one search more
 
--- what a search that is settled to the limit tells of its nodes
-pub near_reached : (M : Map) (place : ℕ → ℕ) (s : ℕ) (q : Search) → IsSearch M place Along ((s, 0) ∷ []) q →
-    IsTrue (has_node M s) → limit_of q ≡ limit → (v : ℕ) → LiesWithin M Along ((s, 0) ∷ []) (limit_of q) v ↔ Reach M s v
-near_reached M place s q h there far v = (
-  λ n. near_reach M s v (limit_of q) (omega arith) n,
-  λ r. let short =
-      r.2 in near_leads M place Along ((s, 0) ∷ []) q h v (dm_of M r.0) (omega arith)
-      record {
+-- what a search that is settled to a length tells of its nodes
+pub near_reached : (M : Map) (place : ℕ → ℕ) (s within : ℕ) (q : Search) → IsSearch M place Along ((s, 0) ∷ []) q →
+    IsTrue (has_node M s) → limit_of q ≡ within → (v : ℕ)
+    → LiesWithin M Along ((s, 0) ∷ []) (limit_of q) v ↔ Reaches M s within v
+near_reached M place s within q h there far v = (
+  λ n. subst (λ (d : ℕ). Reaches M s d v) far (near_reach M s v (limit_of q) n),
+  λ r. let short = r.2 in
+      near_leads M place Along ((s, 0) ∷ []) q h v (dm_of M r.0) (omega arith) record {
         source = s;
         begun = 0;
         lines = r.0;
         listed = Contains-here (s, 0) [];
         there = there;
         way = r.1;
-        long =
-            omega arith;
+        long = omega arith;
       },
 )
 
@@ -114,7 +113,7 @@ pub record Widened (M : Map) (own : List ℕ) (looks : List Look) (n : ℕ) (foo
 
 pub widened_more : (M : Map) (own : List ℕ) (looks : List Look) (n : ℕ) (l : Look) (old new : List ℕ)
     (before work after : Work) → Widened M own looks n old before work → n < length looks → l ≡ get_or looks n l
-    → ((v : ℕ) → Contains new v ↔ (Contains old v ⊎ Reach M l.from v)) → Searches work after 1 (length new) →
+    → ((v : ℕ) → Contains new v ↔ (Contains old v ⊎ Sees M l v)) → Searches work after 1 (length new) →
     length old ≤ length new → Widened M own looks (n + 1) new before after
 widened_more M own looks n l old new before work after w h is f one grows =
     let next : take (n + 1) looks ≡ take n looks ++ l ∷ [] =
@@ -148,19 +147,23 @@ widened_foot M m own looks foot w P is o l v =
       (λ f. (w v).1 (elim (law.0 f) [ inl p ↦ inl ((o v).1 p) | inr r ↦ inr r ])),
     )
 
--- each look begins at a node of the map
+-- each look begins at a node of the map, and goes no farther than points may lie apart
 pub looks_known : (M : Map) → IsMap M → (P : Path) → IsTrue (is_path P.lines) → (looks : List Look) →
-    LooksOf M P looks → All (λ l. IsTrue (has_node M l.from)) looks
+    LooksOf M P looks → All (λ l. IsTrue (has_node M l.from) × (l.within ≤ limit)) looks
 looks_known M m P is looks o = by (path_fault M P) refl o
   where
     by : (f : Option Refusal) → path_fault M P ≡ f → MatchOption f (LooksOfExtended M P looks) (λ _. looks ≡ []) →
-        All (λ l. IsTrue (has_node M l.from)) looks
+        All (λ l. IsTrue (has_node M l.from) × (l.within ≤ limit)) looks
     by None e l = λ k d h.
         let ls = (extended_path M P l.before l.after).lines in
         let r = look_from M ls (0 ∷ l.points) looks l.holds (get_or looks k d) (Contains-get_or looks k d h) in
         let two = r.2 in
         let joined = extended_joined M P is e l.before l.after l.tried in
         let from = ap (λ (q : Look). q.from) r.3.2 in
-        subst (λ (v : ℕ). IsTrue (has_node M v)) (sym from)
-        (m.ends (slice_index ls r.0) (known_at M ls r.0 joined (omega arith)))
+        let short = look_short M ls r.0 r.3.0 r.3.1 in
+        let long = ap (λ (q : Look). q.within) r.3.2 in (
+          subst (λ (v : ℕ). IsTrue (has_node M v)) (sym from)
+              (m.ends (slice_index ls r.0) (known_at M ls r.0 joined (omega arith))),
+          omega arith,
+        )
     by (Some f) e none = λ k d h. let empty = ap length none in absurd (omega arith)

@@ -6,4 +6,5 @@ pub mod Courses
 pub mod Extends
 pub mod Fields
 pub mod Kept
+pub mod Recovered
 pub mod Referring

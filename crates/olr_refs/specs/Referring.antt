@@ -1,22 +1,28 @@
 -- What an encoding answers beside its answer: the routes that join, and the searches that it makes.
---     JoinsOf M P A      where the answer has points, the routes between those that are kept join to the extended path
+--     Joined M P r      r is the reference of at least two points, and the routes between them join to the extended path
+--     JoinsOf M P A      where the answer has points, its reference is so
 --     SearchesOf M P n      the path is encoded by n searches
-use Rattle.std.specs.Prelude.{◌≡◌, ℕ, ◌∷◌, length, MatchOption, ⊤}
+use Rattle.std.specs.Prelude.{◌≡◌, ◌≤◌, ℕ, ◌∷◌, length, MatchOption, ⊤}
 use Rattle.olr_spec.specs.Map.{Map}
 use Rattle.olr_spec.specs.Extension.{Path}
 use Rattle.olr_spec.specs.Points.{last_position, OfPath}
-use Rattle.olr_spec.specs.Reference.{legs, kept_points}
+use Rattle.olr_spec.specs.Reference.{Reference, legs, kept_points, reference}
 use Rattle.olr_spec.specs.Encoding.{path_fault}
 use Rattle.olr_spec.specs.Joins.{Joins}
 use Rattle.olr_refs.specs.declared.answer.Answer.{Answer}
 use Rattle.olr_refs.specs.declared.answer.Answer.TheVariants.{Points, Refused}
 use Rattle.olr_refs.specs.Choice.{searches_of}
 
+-- the points lead to the end of the extended path
+abbrev pub Joined : Map → Path → Reference → Type 0
+Joined M P r =
+    OfPath M P (λ E _ _ js. (r ≡ reference (legs M E.lines) E.pos E.neg js) × (last_position 0 js ≡ length E.lines)
+    × (2 ≤ length (kept_points (legs M E.lines) E.pos E.neg js))
+    × Joins M E.lines (kept_points (legs M E.lines) E.pos E.neg js))
+
 abbrev pub JoinsOf : Map → Path → Answer → Type 0
 JoinsOf M P (Refused f) = ⊤
-JoinsOf M P (Points r) =
-    OfPath M P (λ E _ _ js. (last_position 0 js ≡ length E.lines)
-    × Joins M E.lines (kept_points (legs M E.lines) E.pos E.neg js))
+JoinsOf M P (Points r) = Joined M P r
 
 abbrev pub SearchesOf : Map → Path → ℕ → Type 0
 SearchesOf M P n = MatchOption (path_fault M P) (OfPath M P (λ E _ _ js. n ≡ searches_of E.lines (0 ∷ js))) (λ _. n ≡ 0)

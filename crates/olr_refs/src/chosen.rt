@@ -1,7 +1,6 @@
 //! The location reference points of an extended path.
-ghost use Rattle.std.specs.Prelude.{◌+◌, ◌<◌, ◌≤◌, ◌∷◌, IfOk, length, slice_index};
-ghost use Rattle.olr_spec.specs.Map.{end};
-ghost use Rattle.olr_spec.specs.Footprint.{Reach, Searched};
+ghost use Rattle.std.specs.Prelude.{◌+◌, ◌<◌, ◌≤◌, ◌∷◌, IfOk, length};
+ghost use Rattle.olr_spec.specs.Footprint.{Sees, Searched};
 ghost use Rattle.olr_spec.specs.Looks.{IsLook, LooksFrom, looking};
 ghost use Rattle.olr_refs.specs.Along.{IsReach};
 ghost use Rattle.olr_refs.specs.Choice.{ForPoints, IsChoice, Looked, LookedAfter};
@@ -43,8 +42,7 @@ fn look_after<M: MapRead>(
     requires { i + 2 < length course.now.lines.now }
     ensures reach { IfOk result (λ r. IsReach (M.map course.now.map.now) course.now.lines.now i r.0) }
     ensures look { IfOk result (λ r. IsLook (M.map course.now.map.now) course.now.lines.now i r.1) }
-    ensures work { IfOk result (λ _. Looked work.old work.new 1
-        (Reach (M.map course.now.map.now) (end (M.map course.now.map.now) (slice_index course.now.lines.now i)))) }
+    ensures work { IfOk result (λ r. Looked work.old work.new 1 (Sees (M.map course.now.map.now) r.1)) }
 {
     let from = course.end(i);
     search.begin(course.map, Direction::Along, &[(from, 0)])?;
@@ -85,7 +83,7 @@ fn reach_of<M: MapRead>(
 /// point, and so on to the end, or the position that none can follow (White Paper, intermediate points and the 15,000 m
 /// rule; which one follows is the profile's choice). Each point that two lines or more follow is searched from once, no
 /// farther than it takes to find the next one. After want of memory the work may hold more than before, and the search
-/// has to be begun anew.
+/// has to be begun again.
 pub fn points<M: MapRead>(
     alloc: Global,
     course: &Course<M>,

@@ -38,7 +38,7 @@ pub struct Encoding {
 /// The encoding of a path on a map, by searches that settle no more than it takes to find the points.
 ///
 /// One encoding is counted, and one search for each look. After want of memory the work may hold more than before, and
-/// the search has to be begun anew.
+/// the search has to be begun again.
 pub fn encode<M: MapRead>(
     alloc: Global,
     map: &M,

@@ -3,7 +3,7 @@ ghost use Rattle.std.specs.Prelude.{◌≡◌, ◌⊎◌, ◌↔◌, ℕ, IsTrue
 ghost use Rattle.std.specs.List.{All};
 ghost use Rattle.olr_spec.specs.Map.{has_line};
 ghost use Rattle.olr_spec.specs.Encoding.{first_unknown};
-ghost use Rattle.olr_spec.specs.Footprint.{NodeOf};
+ghost use Rattle.olr_spec.specs.Looks.{NodeOf};
 ghost use Rattle.olr_refs.specs.Extends.{Extends};
 
 use crate::chains::{chain_after, chain_before};

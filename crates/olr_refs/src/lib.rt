@@ -25,7 +25,7 @@ pub use answer::{Answer, Refusal};
 pub use chosen::{Choice, Chosen, points};
 pub use encoding::{Encoding, encode};
 pub use extension::{Extended, extend};
-pub use footprints::{footprint, refer};
+pub use footprints::refer;
 pub use lines::unknown_line;
 pub use look::Look;
 pub use nodes::passing;

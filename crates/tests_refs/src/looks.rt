@@ -19,15 +19,16 @@ type Seen = (u32, u32, u32);
 /// What is wanted of an encoding: its own nodes, and its looks.
 type Wanted = (&'static [u32], &'static [Seen]);
 
-/// The own nodes, and those within 150,000 dm of where a look begins.
-fn within_reach(alloc: Global, map: &RoadMap, encoding: &Encoding) -> Result<Footprint, Fail> {
+/// The traversed nodes, and those that a route of at most the length of a coverage query reaches from its begin.
+fn seen(alloc: Global, map: &RoadMap, encoding: &Encoding) -> Result<Footprint, Fail> {
     let mut nodes = Footprint::new(alloc);
     nodes.note_all(encoding.own.as_slice())?;
     for look in &encoding.looks {
         let begin = [(look.from, 0)];
-        let search = near(alloc, map, Direction::Along, &begin, GREATEST_LIMIT)?;
-        for reached in search.reached_nodes() {
-            nodes.note(reached.node)?;
+        let within = look.within.min(GREATEST_LIMIT);
+        let search = near(alloc, map, Direction::Along, &begin, within)?;
+        for node in &search.nodes(alloc)? {
+            nodes.note(*node)?;
         }
     }
     Ok(nodes)
@@ -41,7 +42,7 @@ fn expect_footprint(
     path: &Path,
     encoding: &Encoding,
 ) -> Result<(), Fail> {
-    let wanted = within_reach(alloc, map, encoding)?;
+    let wanted = seen(alloc, map, encoding)?;
     let mut work = Work::default();
     let (_, found) = refer(alloc, map, path, &mut work)?;
     assert_eq!(rt; found.as_slice(), wanted.as_slice(), "the footprint");
@@ -190,7 +191,7 @@ const CASES: &[(Plan, PlainPath, Wanted)] = &[
     (EQUAL, WHOLE, (FOUR, &[(2, 3, 2000)])),
     // without the side road position 2 is covered, and it is the last that is tested
     (BARE, WHOLE, (FOUR, &[(2, 3, 2000)])),
-    // the way round by nodes 6 and 7 is within reach, and they are none of the path's own
+    // nodes 6 and 7 of the way round are none of the path's own
     (DETOUR, ROAD, (FOUR, &[(2, 3, 2000)])),
     // line 10 is put before, so node 1 is one of the path's own; two lines need no look
     (PASSING, (&[20], 0, 0), (&[1, 2, 3], &[])),

@@ -18,8 +18,10 @@ returns-clause-answer g c =
 
 pub returns-clause-joins : goal.returns-clause-joins
 returns-clause-joins g c =
-    joins_of (g.M.MapRead.map c.args.map.now) c.args.path.now c.in_ok-extended.extended _ _ c.in_ok-answer.answer
-    c.in_ok-extended.ensures.ok c.in_ok-answer.ensures.answer
+    let M = g.M.MapRead.map c.args.map.now in
+    joins_of M c.args.path.now c.in_ok-answer.answer c.requires.sound
+    (encoding_of M c.args.path.now c.in_ok-extended.extended _ _ _ c.in_ok-extended.ensures.ok
+    c.in_ok-answer.ensures.answer)
 
 pub returns-clause-own : goal.returns-clause-own
 returns-clause-own g c =

@@ -1,14 +1,13 @@
 use Rattle.std.proofs.Common.{◌≡◌, ◌⊎◌, ◌∷◌, [], ℕ, List, Contains, length, sym, subst, inl, inr, refl, arith}
 use Rattle.std.specs.Prelude.{◌↔◌}
 use Rattle.std.specs.List.Sorted.{IsStrictlyIncreasing}
-use Rattle.olr_spec.specs.Extension.{limit}
-use Rattle.olr_spec.specs.Footprint.{Reach}
+use Rattle.olr_spec.specs.Walks.{Reaches}
 use Rattle.olr_map.proofs.Sizes.{rising_within}
 use Rattle.olr_route.specs.declared.distances.Direction.TheVariants.{Along}
 use Rattle.olr_route.specs.Searches.{IsSearch, limit_of}
 use Rattle.olr_refs.proofs.Widening.{near_reached, one_searched}
-use Rattle.olr_refs.proofs.footprints.note_near.Goals as goal
-use Rattle.olr_refs.proofs.footprints.note_near.Given.{Over}
+use Rattle.olr_refs.proofs.footprints.note_seen.Goals as goal
+use Rattle.olr_refs.proofs.footprints.note_seen.Given.{Over}
 
 pub note_all-requires : goal.note_all-requires
 note_all-requires g c = record {
@@ -24,18 +23,20 @@ searched : (g : Over) (c : goal.After-drop-nodes-2 g) →
     c.settle_to.new.self
 searched g c = c.in_ok-settle_to.ensures.search Along ((c.args.from, 0) ∷ []) c.in_ok-begin.ensures.search
 
-settled : (g : Over) (c : goal.After-drop-nodes-2 g) → limit_of c.settle_to.new.self ≡ limit
+settled : (g : Over) (c : goal.After-drop-nodes-2 g) → limit_of c.settle_to.new.self ≡ c.args.within
 settled g c = let none = c.in_ok-begin.ensures.limit in let most = c.in_ok-settle_to.ensures.limit in omega arith
 
--- its nodes are those within reach
+-- its nodes are those within the length
 reached : (g : Over) (c : goal.After-drop-nodes-2 g) (v : ℕ) → Contains c.deref.result.now v ↔
-    Reach (g.M.MapRead.map c.args.map.now) c.args.from v
+    Reaches (g.M.MapRead.map c.args.map.now) c.args.from c.args.within v
 reached g c v =
     let M = g.M.MapRead.map c.args.map.now in
     let place = g.M.MapRead.place_in c.args.map.now in
     let near = c.in_ok-nodes.ensures.nodes M place Along ((c.args.from, 0) ∷ []) v (searched g c) in
-    let reach = near_reached M place c.args.from c.settle_to.new.self (searched g c) c.requires (settled g c) v in
-    subst (λ (vs : List ℕ). Contains vs v ↔ Reach M c.args.from v) (sym c.deref.ensures.value)
+    let reach =
+    near_reached M place c.args.from c.args.within c.settle_to.new.self (searched g c) c.requires.known (settled g c)
+    v in
+    subst (λ (vs : List ℕ). Contains vs v ↔ Reaches M c.args.from c.args.within v) (sym c.deref.ensures.value)
     ((λ h. reach.0 (near.0 h)), (λ r. near.1 (reach.1 r)))
 
 pub returns-clause-nodes : goal.returns-clause-nodes

@@ -1,0 +1,15 @@
+-- What receivers recover from the reference of an answer.
+--     RecoveredOf M P A      where the answer has points, every receiver to which each point's own line is distinct
+--         recovers the stretches between the points
+use Rattle.std.specs.Prelude.{ℕ, List, ◌↔◌, ⊤}
+use Rattle.olr_spec.specs.Map.{Map}
+use Rattle.olr_spec.specs.Extension.{Path}
+use Rattle.olr_spec.specs.Receiver.{Receiver, Recovers}
+use Rattle.olr_spec.specs.Recovery.{Distinct, IsStretches}
+use Rattle.olr_refs.specs.declared.answer.Answer.{Answer}
+use Rattle.olr_refs.specs.declared.answer.Answer.TheVariants.{Points, Refused}
+
+abbrev pub RecoveredOf : Map → Path → Answer → Type 0
+RecoveredOf M P (Refused f) = ⊤
+RecoveredOf M P (Points r) =
+    (R : Receiver) → Distinct R.far M P r → (ws : List (List ℕ)) → Recovers R M r ws ↔ IsStretches M P ws
