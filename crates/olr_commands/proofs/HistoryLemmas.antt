@@ -4,17 +4,17 @@ use Rattle.std.proofs.Common.{None, is_some, Result, Ok, Err, refl, sym, ap, ◌
 use Rattle.std.specs.Prelude.{nat_le, ◌==◌, ◌||◌, ◌↔◌, MatchOption, IsSomeAnd, IfSome}
 use Rattle.std.specs.List.{list_any, AllByRecursion}
 use Rattle.std.specs.Result.{result_unwrap_or}
-use Rattle.std.proofs.lemmas.Bool.{cases_Bool, both_ways, eqb-true}
+use Rattle.std.proofs.lemmas.Bool.{cases_Bool, both_ways}
 use lib.Pointwise.{bytes_decides}
 use Rattle.olr_spec.specs.Map.{Map, IsMap}
-use Rattle.olr_spec.specs.Extension.{Path, extended_path}
-use Rattle.olr_spec.specs.Points.{last_position}
-use Rattle.olr_spec.specs.Reference.{Reference, legs, reference}
-use Rattle.olr_spec.specs.Encoding.{Answer, Points, Refused, Refusal, No_next_point, path_fault, Encoding, Encodes}
-use Rattle.olr_spec.proofs.AnswerLemmas.{one_answer, path_also}
+use Rattle.olr_spec.specs.Extension.{Path}
+use Rattle.olr_spec.specs.Reference.{Reference}
+use Rattle.olr_spec.specs.Encoding.{Answer, Points, Refused, Refusal, path_fault, Encoding, Encodes}
+use Rattle.olr_spec.proofs.AnswerLemmas.{one_answer}
 use Rattle.olr_spec.proofs.DecideLemmas.{some_answer}
-use Rattle.olr_spec.proofs.JoinLemmas.{routes_join}
 use Rattle.olr_spec.proofs.UndoLemmas.{empty_sound}
+use Rattle.olr_refs.specs.Referring.{Joined}
+use Rattle.olr_refs.proofs.Referring.{joined}
 use Rattle.olr_commands.specs.State.{Named, Content, path_named, same_name, ArePaths, NamesDiffer, IsContent, has_path}
 use Rattle.olr_commands.specs.State.{TextFault, Fault, No_path, Batch_full, Count_differs, Change, with_change, next}
 use Rattle.olr_commands.specs.State.{after, Command, Make, Show, Report, Explain, Begin, Commit, Abort, State}
@@ -23,7 +23,7 @@ use Rattle.olr_commands.specs.State.{changes_made, HasPlaces, IsState}
 use Rattle.olr_commands.specs.Reply.{Entry, entry, Paths, HasAnswer, Published, ChangedOf, Differences, IsReply}
 use Rattle.olr_commands.specs.Reply.{Outcome, IsOutcome}
 use Rattle.olr_commands.specs.History.{Run, History, AllHavePlaces, next_state, brought_by, all_changes_made, OneOf}
-use Rattle.olr_commands.specs.History.{IsPublished, Joined, names, NamesChanged, tells, IsNamed, IsRefused, Headline}
+use Rattle.olr_commands.specs.History.{IsPublished, names, NamesChanged, tells, IsNamed, IsRefused, Headline}
 use Rattle.olr_commands.proofs.NameLemmas.{same_is}
 use Rattle.olr_commands.proofs.StateLemmas.{when_ok, next_ok, after_append, steps_keep}
 use Rattle.olr_commands.proofs.ReplyLemmas.{named_path}
@@ -178,30 +178,14 @@ start_sound = record { content = record { map = empty_sound; paths = tt; names =
 
 -- ---- joins
 
-joined : (M : Map) (P : Path) (r : Reference) → Encoding M P (Points r) → Joined M P r
-joined M P r p =
-    let E = extended_path M P p.before p.after in
-    elim (last_position 0 p.points == length E.lines) as (λ t. (last_position 0 p.points == length E.lines) ≡ t →
-    Points r ≡ cond t (Points (reference (legs M E.lines) E.pos E.neg p.points))
-    (Refused (No_next_point (last_position 0 p.points))) → Joined M P r) [
-      | true ↦ λ t e.
-          let same : r ≡ reference (legs M E.lines) E.pos E.neg p.points = cc in
-          path_also p (
-            same,
-            routes_join M E.lines p.points E.pos E.neg p.follow
-                (eqb-true (last_position 0 p.points) (length E.lines) t),
-          )
-      | false ↦ λ t e. absurd cc
-    ] refl p.holds
-
-joined_by : (M : Map) (P : Path) (r : Reference) (o : Option Refusal) →
+joined_by : (M : Map) (P : Path) (r : Reference) (o : Option Refusal) → path_fault M P ≡ o →
     MatchOption o (Encoding M P (Points r)) (λ f. Points r ≡ Refused f) → Joined M P r
-joined_by M P r None p = joined M P r p
-joined_by M P r (Some f) p = absurd cc
+joined_by M P r None none p = joined M P r none p
+joined_by M P r (Some f) is p = absurd cc
 
 pub routes_of : (c : Content) (name : List ℕ) (r : Reference) → HasAnswer c name (Points r) → (P : Path)
     × (path_named c.paths name ≡ Some P) × Joined c.map P r
-routes_of c name r h = (h.0, h.1, joined_by c.map h.0 r (path_fault c.map h.0) h.2)
+routes_of c name r h = (h.0, h.1, joined_by c.map h.0 r (path_fault c.map h.0) refl h.2)
 
 -- ---- replies
 

@@ -5,3 +5,4 @@ pub mod CountLemmas
 pub mod HistoryLemmas
 pub mod OutcomeLemmas
 pub mod SomeLemmas
+pub mod DumpLemmas

@@ -13,10 +13,9 @@ use Rattle.std.specs.Result.{result_unwrap_or}
 use Rattle.std.specs.List.{list_any, AllByRecursion}
 use Rattle.olr_spec.specs.Map.{Map}
 use Rattle.olr_spec.specs.Extension.{Path}
-use Rattle.olr_spec.specs.Points.{OfPath}
-use Rattle.olr_spec.specs.Reference.{Reference, legs, kept_points, reference}
-use Rattle.olr_spec.specs.Joins.{Joins}
+use Rattle.olr_spec.specs.Reference.{Reference}
 use Rattle.olr_spec.specs.Encoding.{Answer, Points, Encodes}
+use Rattle.olr_refs.specs.Referring.{Joined}
 use Rattle.olr_commands.specs.State.{Content, path_named, same_name, Fault, Change, after, IsContent, State}
 use Rattle.olr_commands.specs.State.{start_state, Command, Make, Commit, HasPlaces, step, changes_made, IsState}
 use Rattle.olr_commands.specs.Reply.{Entry, entry, Paths, HasAnswer, Published, Differences, Outcome, IsOutcome}
@@ -72,13 +71,7 @@ pub record IsPublished (before : Content) (changes : List Change) (later : Conte
 
 -- ---- routes that join
 
--- the sole routes between the points of a reference join to the extended path
-abbrev pub Joined : Map → Path → Reference → Type 0
-Joined M P r =
-    OfPath M P (λ E _ _ js. (r ≡ reference (legs M E.lines) E.pos E.neg js)
-    × Joins M E.lines (kept_points (legs M E.lines) E.pos E.neg js))
-
--- those of each path's reference do
+-- each path's reference is that of at least two points, and the sole routes between them join to its extended path
 abbrev pub IsJoined : Content → Type 0
 IsJoined c =
     (name : List ℕ) (r : Reference) → HasAnswer c name (Points r) → (P : Path) × (path_named c.paths name ≡ Some P)

@@ -120,9 +120,11 @@ abbrev pub may_want : Result State Fault → Bool
 may_want (Ok t) = true
 may_want (Err fault) = not (is_told_first fault)
 
--- an abort takes no memory, nor does a path that is dropped outside of batches
+-- opening and dropping a batch take no memory, nor does a path that is dropped outside of batches; each other command
+-- may be out of memory
 abbrev pub takes_memory : Command → Option (List Change) → Bool
 takes_memory (Make (Drop_path name)) None = false
+takes_memory Begin batch = false
 takes_memory Abort batch = false
 takes_memory c batch = true
 

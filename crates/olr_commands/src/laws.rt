@@ -1,4 +1,5 @@
 //! The laws of states, replies and counts, and the claims on whole runs.
+ghost use Rattle.olr_commands.specs.Dump;
 ghost use Rattle.olr_commands.specs.History;
 ghost use Rattle.olr_commands.specs.Laws;
 
@@ -26,4 +27,11 @@ pub fn claims()
     ensures named { History.RepliesName }
     ensures no_differences { History.NoDifferences }
     ensures refused { History.RefusedChangeNothing }
+{}
+
+/// The changes that a content is written out as make it from nothing.
+pub fn laws_of_dumps()
+    ensures lead { Dump.DumpsLead }
+    ensures run { Dump.DumpsRun }
+    ensures again { Dump.DumpsAgain }
 {}

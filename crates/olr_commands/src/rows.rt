@@ -61,7 +61,7 @@ pub fn batches()
 pub fn memory()
     ensures abort { may_lack (in_batch []) Abort ≡ false }
     ensures abort_nothing { may_lack start_state Abort ≡ false }
-    ensures begin { may_lack start_state Begin ≡ true }
+    ensures begin { may_lack start_state Begin ≡ false }
     ensures begin_again { may_lack (in_batch []) Begin ≡ false }
     ensures commit { may_lack (in_batch []) (Commit 0) ≡ true }
     ensures commit_nothing { may_lack start_state (Commit 0) ≡ false }

@@ -1,0 +1,52 @@
+-- A content written out as changes that make it from nothing.
+--     dump_changes c      an added node for each node, an added line for each line, both in ascending order of number,
+--         and an added path for each path, in their order
+--     Leads c xs d      each of the changes is accepted in its turn, and they lead from c to d
+--     steps s cs      the state after commands, or the first fault
+use Rattle.std.specs.Prelude.{◌≡◌, ℕ, List, [], ◌∷◌, ◌++◌, map, None, Result, Ok, Err}
+use Rattle.std.specs.FinMap.{entries}
+use Rattle.olr_spec.specs.Map.{Line, Add_node, Add_line}
+use Rattle.olr_spec.specs.Coordinates.{Coord}
+use Rattle.olr_commands.specs.State.{Named, Content, no_content, Fault, Change, On_map, Add_path, after, Command, Make}
+use Rattle.olr_commands.specs.State.{State, start_state, step, IsContent, AllAccepted}
+
+abbrev pub node_change : ℕ × Coord → Change
+node_change e = On_map (Add_node e.0 e.1)
+
+abbrev pub line_change : ℕ × Line → Change
+line_change e = On_map (Add_line e.0 e.1)
+
+abbrev pub path_change : Named → Change
+path_change p = Add_path p.name p.path
+
+-- a line's ends are added before it
+abbrev pub dump_changes : Content → List Change
+dump_changes c =
+    map node_change (entries c.map.nodes) ++ (map line_change (entries c.map.lines) ++ map path_change c.paths)
+
+abbrev pub Leads : Content → List Change → Content → Type 0
+Leads c xs d = AllAccepted c xs × (after c xs ≡ d)
+
+abbrev pub steps_then : Result State Fault → (State → Result State Fault) → Result State Fault
+steps_then (Ok s) f = f s
+steps_then (Err fault) f = Err fault
+
+abbrev pub steps : State → List Command → Result State Fault
+steps s [] = Ok s
+steps s (c ∷ cs) = steps_then (step s c) (λ t. steps t cs)
+
+-- ---- the laws
+
+-- from the empty content, the changes are all accepted, and lead to that very content
+abbrev pub DumpsLead : Type 0
+DumpsLead = (c : Content) → IsContent c → Leads no_content (dump_changes c) c
+
+-- so do the commands, and no batch is open at the end
+abbrev pub DumpsRun : Type 0
+DumpsRun =
+    (c : Content) → IsContent c →
+    steps start_state (map (λ x. Make x) (dump_changes c)) ≡ Ok (record { content = c; batch = None })
+
+-- what they lead to is written out the same again
+abbrev pub DumpsAgain : Type 0
+DumpsAgain = (c : Content) → IsContent c → dump_changes (after no_content (dump_changes c)) ≡ dump_changes c
