@@ -13,7 +13,7 @@ use std::hash::BuildHasherDefault;
 /// of that walk, in decimetres. Where lines got longer or were dropped since, numbers may be too small, and some nodes
 /// may have one that no source is near to.
 ///
-/// After want of memory the numbers are unknown, until they are begun anew by `clear`.
+/// After want of memory the numbers are unknown, until they are begun again by `clear`.
 #[derive(Drop)]
 pub struct Nearness {
     alloc: Global,

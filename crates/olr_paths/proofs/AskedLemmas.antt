@@ -65,7 +65,16 @@ module _ (N : Map) (place : ℕ → ℕ) (t : Touched) where
   far_looks : (made : Option Made) → ((v : ℕ) → BeginsIn made v → ¬ Near N (nodes_of t) v limit) →
       IfSome made (λ m. ¬ LookTouched N (nodes_of t) m)
   far_looks None h = tt
-  far_looks (Some m) h = λ look. h look.0.from (look.0, look.1, refl) look.2
+  far_looks (Some m) h = λ look.
+      let near = look.2 in
+      let short = near.within in
+      h look.0.from (look.0, look.1, refl) (record {
+        node = near.node;
+        walk = near.walk;
+        touched = near.touched;
+        leads = near.leads;
+        within = omega arith;
+      })
 
   -- where it is told that they are far from all looks
   pub asked_far : (s : Searches) (is : List Item) → s.far ≡ true → AreFar N (nodes_of t) is → AreAsked N place t s is

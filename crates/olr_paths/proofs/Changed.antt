@@ -2,7 +2,7 @@
 --     changed_by cs i      what becomes of one path.
 --     Lies us vs      vs is us, where some paths are other ones that were not encoded yet
 use Rattle.std.proofs.Common.{inl, inr, ◌≡◌, ◌⊎◌, ℕ, zero, suc, ◌+◌, Bool, true, false, cond, List, [], ◌∷◌, ◌++◌, map}
-use Rattle.std.proofs.Common.{take, length, get_or, slice_get, unwrap_or, Option, Some, None, is_some, refl, sym, ap}
+use Rattle.std.proofs.Common.{take, length, slice_get, Option, Some, None, is_some, refl, sym, ap}
 use Rattle.std.proofs.Common.{◌∙◌, subst, arith}
 use Rattle.std.specs.Prelude.{⊤, option_map}
 use Rattle.olr_spec.specs.Extension.{Path}

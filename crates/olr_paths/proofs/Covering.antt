@@ -1,9 +1,9 @@
 -- Positions that are found cover the paths that edits concern, and those between them stay.
 use Rattle.std.proofs.Common.{inl, inr, ◌≡◌, ◌≢◌, ℕ, zero, suc, ◌+◌, ◌-◌, ◌<◌, ◌≤◌, ◌==◌, ◌||◌, ◌⊎◌, Bool, true, false}
 use Rattle.std.proofs.Common.{All, List, [], ◌∷◌, ◌++◌, take, length, get_or, slice_get, Option, Some, None, IsTrue}
-use Rattle.std.proofs.Common.{refl, sym, ap, ◌∙◌, subst, arith}
+use Rattle.std.proofs.Common.{refl, sym, ap, ◌∙◌, subst, arith, min}
 use Rattle.std.specs.List.Sorted.{IsNonDecreasing}
-use Rattle.std.proofs.lemmas.Bool.{cases_Bool, cases_lt, or_left, eq-eqb, eqb-true}
+use Rattle.std.proofs.lemmas.Bool.{cases_Bool, cases_lt, or_left, eq-eqb}
 use Rattle.std.proofs.lemmas.List.{take_all}
 use Rattle.std.proofs.Math.Bool.{or-false}
 use Rattle.std.proofs.lemmas.List.Elements.{All-contains}
@@ -302,7 +302,8 @@ module _ (N : Map) (n : IsMap N) (place : ℕ → ℕ) (t : Touched) (s : Search
                 no_way N Against (sources t) v limit
                 (λ d is le. let on = reached close (a.search close) (a.settled close) v (d, is, le) k lower held in
                 let never : ⊥ =
-                cc (on, off) in never) (suc (dm_of N near.walk)) (dm_of N near.walk) (omega arith) near.within
+                cc (on, off) in never) (suc (dm_of N near.walk)) (dm_of N near.walk) (omega arith)
+                (let short = near.within in omega arith)
                 (record {
                   source = near.node;
                   begun = 0;
@@ -315,7 +316,8 @@ module _ (N : Map) (n : IsMap N) (place : ℕ → ℕ) (t : Touched) (s : Search
                 })
             | inr lacks ↦
                 let touched : IsTrue (has (nodes_of t) v) =
-                (near_absent N n (nodes_of t) v (λ there. let never : ⊥ = cc (there, lacks) in never)).1 near in
+                (near_absent N n (nodes_of t) v (min h.0.within limit)
+                (λ there. let never : ⊥ = cc (there, lacks) in never)).1 near in
                 let on =
                 All-contains (λ (u : ℕ). Finds ms f.from u found) (nodes_of t) v from (in_from (nodes_of t) v touched) k
                 lower held in

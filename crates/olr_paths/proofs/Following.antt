@@ -1,9 +1,9 @@
 -- A list follows itself, since no name stands twice.
-use Rattle.std.proofs.Common.{inl, inr, ◌≡◌, Bool, true, false, List, [], ◌∷◌, Option, is_some, refl, ap, ◌∙◌}
+use Rattle.std.proofs.Common.{inl, inr, ◌≡◌, Bool, false, List, [], ◌∷◌, Option, is_some, refl, ap, ◌∙◌}
 use Rattle.std.specs.Prelude.{option_map, if◌then◌else◌}
 use lib.Pointwise.{bytes_decides}
 use Rattle.olr_spec.specs.Encoding.{Answer}
-use Rattle.olr_commands.specs.State.{same_name, path_named, NamesDiffer}
+use Rattle.olr_commands.specs.State.{path_named, NamesDiffer}
 use Rattle.olr_commands.proofs.NameLemmas.{not_named, flipped}
 use Rattle.olr_paths.specs.Items.{Made, Item, named_of, all_named, made_in, answer_in}
 use Rattle.olr_paths.specs.Changes.{Follows}

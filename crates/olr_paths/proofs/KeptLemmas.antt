@@ -1,12 +1,12 @@
 -- What was made on a map is right on the next, where no change can concern it.
 use Rattle.std.proofs.Common.{inl, inr, ◌≡◌, ℕ, ◌≤◌, List, All, Contains, Some, IsTrue, true, false, subst, arith}
-use Rattle.std.proofs.Common.{get_or}
+use Rattle.std.proofs.Common.{get_or, min}
 use Rattle.std.proofs.lemmas.Bool.{cases_Bool}
 use Rattle.std.proofs.lemmas.List.Elements.{Contains-get_or}
 use Rattle.olr_spec.specs.Map.{Map, IsMap, has}
 use Rattle.olr_spec.specs.Extension.{Path, is_path, limit}
 use Rattle.olr_spec.specs.Footprint.{Foot}
-use Rattle.olr_spec.specs.Detours.{ChangedLine, Difference}
+use Rattle.olr_spec.specs.Detours.{ChangedLine, Difference, Near}
 use Rattle.olr_spec.specs.Looks.{Look, IsClear, LooksOf, OwnOf}
 use Rattle.olr_spec.proofs.StayLemmas.{untouched_kept}
 use Rattle.olr_spec.proofs.TestedLemmas.{foot_concerned}
@@ -61,6 +61,12 @@ module _ (M N : Map) (n : IsMap N) (T X : List ℕ) (C : List ChangedLine) (P : 
 
   -- ---- which paths are concerned
 
+  -- no look is longer than the limit
+  near_wider : (L : Map) (s d e : ℕ) → d ≤ e → Near L T s d → Near L T s e
+  near_wider L s d e le near =
+      let short = near.within in
+      record { node = near.node; walk = near.walk; touched = near.touched; leads = near.leads; within = omega arith }
+
   pub concerned_by : IsMap M → Difference T X C M N → IsEncodingOf M P m → (name : List ℕ) → Touches N T X m P →
       IsConcerned M T X (record { name = name; path = P; made = Some m })
   concerned_by sound difference made name (inl own) =
@@ -69,7 +75,11 @@ module _ (M N : Map) (n : IsMap N) (T X : List ℕ) (C : List ChangedLine) (P : 
       (inl (own.0, own.1, (made.own own.0).0 own.2)) in By_node f.0 f.1 f.2
   concerned_by sound difference made name (inr (inl line)) = By_line line.0 line.1 line.2
   concerned_by sound difference made name (inr (inr look)) =
-      let f = (foot_concerned M N sound T difference.nodes P is m.looks made.looks).1 (inr look) in By_node f.0 f.1 f.2
+      let l : Look = look.0 in
+      let f =
+      (foot_concerned M N sound T difference.nodes P is m.looks made.looks).1
+      (inr (l, look.1, near_wider N l.from (min l.within limit) l.within (omega arith) look.2)) in
+      By_node f.0 f.1 f.2
 
   pub touched_by : IsMap M → Difference T X C M N → IsEncodingOf M P m → (i : Item) → i.path ≡ P → i.made ≡ Some m →
       IsConcerned M T X i → Touches N T X m P
@@ -78,7 +88,10 @@ module _ (M N : Map) (n : IsMap N) (T X : List ℕ) (C : List ChangedLine) (P : 
       elim ((foot_concerned M N sound T difference.nodes P is m.looks made.looks).0
       (v, on, subst (λ (Q : Path). Foot M Q v) path foot)) [
         | inl own ↦ inl (own.0, own.1, (made.own own.0).1 own.2)
-        | inr look ↦ inr (inr look)
+        | inr look ↦
+            let l : Look = look.0 in
+            let short : l.within ≤ limit = within_limit M P m.looks made.looks l look.1 in
+            inr (inr (l, look.1, near_wider N l.from l.within (min l.within limit) (omega arith) look.2))
       ]
   touched_by sound difference made i path some (By_line x on line) =
       inr (inl (x, on, subst (λ (Q : Path). IsTrue (has Q.lines x)) path line))

@@ -1,6 +1,6 @@
 -- What distances tell: of touched nodes that are near, and of detours.
-use Rattle.std.proofs.Common.{◌≡◌, ℕ, zero, suc, ◌+◌, ◌<◌, ◌≤◌, true, List, [], ◌∷◌, map, Contains, IsTrue, ◌↔◌, Option}
-use Rattle.std.proofs.Common.{Some, None, is_some, refl, sym, ap, subst, arith, ⊎_elim}
+use Rattle.std.proofs.Common.{◌≡◌, ℕ, zero, suc, ◌+◌, ◌<◌, ◌≤◌, true, List, [], ◌∷◌, map, IsTrue, ◌↔◌, Option}
+use Rattle.std.proofs.Common.{Some, None, min, refl, sym, ap, subst, arith, ⊎_elim}
 use Rattle.std.proofs.lemmas.Bool.{cases_lt}
 use Rattle.olr_spec.specs.Map.{Map, IsMap, has_node, end, has}
 use Rattle.olr_spec.specs.Walks.{Walk, dm_of}
@@ -11,7 +11,7 @@ use Rattle.olr_route.specs.Distances.{Leads, IsDistance}
 use Rattle.olr_route.specs.declared.distances.Direction.{Direction}
 use Rattle.olr_route.specs.declared.distances.Direction.TheVariants.{Along, Against}
 use Rattle.olr_paths.specs.Touching.{change_of, changed_of}
-use Rattle.olr_paths.specs.Searching.{starts, ends, AreFarther}
+use Rattle.olr_paths.specs.Searching.{starts, ends, IsAtMost, AreFarther}
 use Rattle.olr_paths.specs.declared.touched.Touched.{Touched}
 use Rattle.olr_paths.proofs.Sets.{has_from, in_from, Contains-map, Contains-unmap}
 
@@ -53,46 +53,55 @@ abbrev pub all_sources : List ℕ → List (ℕ × ℕ)
 all_sources T = map {A = ℕ} {B = ℕ × ℕ} (λ v. (v, 0)) T
 
 module _ (N : Map) (n : IsMap N) (T : List ℕ) (node : ℕ) where
+  leads_from : (v : ℕ) (xs : List ℕ) → IsTrue (has T v) → Walk N node v xs → IsTrue (has_node N node) →
+      Leads N Against (all_sources T) node (dm_of N xs)
+  leads_from v xs touched leads there = record {
+    source = v;
+    begun = 0;
+    lines = xs;
+    listed = Contains-map (λ u. (u, 0)) T v (in_from T v touched);
+    there = walk_end N n node v xs leads there;
+    way = leads;
+    long = omega arith;
+  }
+
   -- where the map has the node
-  pub near_by : (r : Option ℕ) → IsTrue (has_node N node) → Tells N Against (all_sources T) node limit r →
-      IsTrue (is_some r) ↔ Near N T node limit
-  near_by None there tells = (
-    (λ no. absurd cc),
+  pub near_by : (r : Option ℕ) (most : ℕ) → IsTrue (has_node N node) →
+      Tells N Against (all_sources T) node limit r → IsAtMost r most ↔ Near N T node (min most limit)
+  near_by None most there tells = (
+    (λ no. absurd no),
     (λ near.
-        let source : Contains (all_sources T) (near.node, 0) =
-        Contains-map (λ v. (v, 0)) T near.node (in_from T near.node near.touched) in
-        absurd (told_none N Against (all_sources T) node limit None tells refl (dm_of N near.walk) near.within
-        (record {
-          source = near.node;
-          begun = 0;
-          lines = near.walk;
-          listed = source;
-          there =
-              walk_end N n node near.node near.walk near.leads there;
-          way = near.leads;
-          long = omega arith;
-        }))),
+        let short = near.within in
+        told_none N Against (all_sources T) node limit None tells refl (dm_of N near.walk) (omega arith)
+        (leads_from near.node near.walk near.touched near.leads there)),
   )
-  near_by (Some d) there tells = (
-    (λ yes.
+  near_by (Some d) most there tells = (
+    (λ le.
         let known = (tells d).0 refl in
         let leads = known.0.leads in
         let source = Contains-unmap (λ v. (v, 0)) T (leads.source, leads.begun) leads.listed in
         let same : source.0 ≡ leads.source = ap (λ (p : ℕ × ℕ). p.0) source.2 in
+        let begun : 0 ≡ leads.begun = ap (λ (p : ℕ × ℕ). p.1) source.2 in
         let long = leads.long in
+        let far = known.1 in
         record {
           node = leads.source;
           walk = leads.lines;
           touched = subst (λ (v : ℕ). has T v ≡ true) same (has_from T source.0 source.1);
           leads = leads.way;
-          within = omega (arith, known.1, leads.long);
+          within = omega arith;
         }),
-    (λ near. refl),
+    (λ near.
+        let short = near.within in
+        let low =
+        ((tells d).0 refl).0.least (dm_of N near.walk)
+        (leads_from near.node near.walk near.touched near.leads there) in
+        omega arith),
   )
 
   -- where the map lacks it
-  pub near_absent : ¬ IsTrue (has_node N node) → IsTrue (has T node) ↔ Near N T node limit
-  near_absent lacks = (
+  pub near_absent : (most : ℕ) → ¬ IsTrue (has_node N node) → IsTrue (has T node) ↔ Near N T node most
+  near_absent most lacks = (
     (λ on. record { node = node; walk = []; touched = on; leads = refl; within = omega arith }),
     (λ near. by near.node near.walk near.touched near.leads),
   )

@@ -1,6 +1,6 @@
 -- What a change of the map, or of one path, makes of a list of named paths.
---     Touches N T X m P      an own node of the path is touched, or one of its lines, or a node near to where a look
---         begins
+--     Touches N T X m P      an own node of the path is touched, or one of its lines, or a node that a look sees. No
+--         look is longer than the limit
 --     IsBefore M N T X C is      what was made of the list is right on M, and edits led from M to N
 --     IsConcerned M T X i      the path was not encoded yet, or its footprint on M holds a touched node, or one of its
 --         lines was touched
@@ -9,7 +9,7 @@
 --     AreEncoded is      each path was encoded
 --     Follows before is      each path that was encoded has the answer that its name had before
 use Rattle.std.specs.Prelude.{◌≡◌, ◌≢◌, ℕ, List, [], ◌∷◌, Contains, Option, Some, None, option_map, ◌⊎◌, IsTrue, ⊤}
-use Rattle.std.specs.Prelude.{if◌then◌else◌}
+use Rattle.std.specs.Prelude.{min, if◌then◌else◌}
 use Rattle.std.specs.List.{AllByRecursion}
 use Rattle.olr_spec.specs.Map.{Map, IsMap, has}
 use Rattle.olr_spec.specs.Extension.{Path, is_path, limit}
@@ -31,7 +31,7 @@ abbrev pub LineTouched : List ℕ → Path → Type 0
 LineTouched X P = (x : ℕ) × IsTrue (has X x) × IsTrue (has P.lines x)
 
 abbrev pub LookTouched : Map → List ℕ → Made → Type 0
-LookTouched N T m = (l : Look) × Contains m.looks l × Near N T l.from limit
+LookTouched N T m = (l : Look) × Contains m.looks l × Near N T l.from (min l.within limit)
 
 abbrev pub Touches : Map → List ℕ → List ℕ → Made → Path → Type 0
 Touches N T X m P = OwnTouched T m ⊎ (LineTouched X P ⊎ LookTouched N T m)

@@ -4,8 +4,10 @@
 --     LacksLooks made, LackLooks is      nothing was made, or it has no look;  so of each path
 --     AreDetours N place t s far      the distances to where changed lines begin and from where they end, within a
 --         limit
+--     IsAtMost p d      a distance is at most d, and is one
 --     AreFarther p q d      two distances together are more than d, or one is none
-use Rattle.std.specs.Prelude.{◌≡◌, ℕ, ◌+◌, ◌<◌, List, [], map, Contains, Option, Some, None, IfSome, IsTrue, IsFalse, ⊤}
+use Rattle.std.specs.Prelude.{◌≡◌, ℕ, ◌+◌, ◌<◌, ◌≤◌, List, [], map, Contains, Option, Some, None, IfSome, IsTrue}
+use Rattle.std.specs.Prelude.{IsFalse, ⊤}
 use Rattle.olr_spec.specs.Map.{Map}
 use Rattle.olr_route.specs.Searches.{IsSearch, limit_of}
 use Rattle.olr_route.specs.declared.distances.Direction.TheVariants.{Along, Against}
@@ -44,6 +46,10 @@ pub record AreDetours (N : Map) (place : ℕ → ℕ) (t : Touched) (s : Searche
   pub after : IsSearch N place Along (ends t) s.after
   pub before_limit : limit_of s.before ≡ far
   pub after_limit : limit_of s.after ≡ far
+
+abbrev pub IsAtMost : Option ℕ → ℕ → Type 0
+IsAtMost None d = ⊥
+IsAtMost (Some a) d = a ≤ d
 
 abbrev pub AreFarther : Option ℕ → Option ℕ → ℕ → Type 0
 AreFarther (Some a) (Some b) d = d < a + b

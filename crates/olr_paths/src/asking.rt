@@ -1,5 +1,5 @@
 //! Which paths edits of the map concern.
-ghost use Rattle.std.specs.Prelude.{◌≡◌, ◌↔◌, ℕ, Contains, IsTrue, IfOk, OnOk};
+ghost use Rattle.std.specs.Prelude.{◌≡◌, ◌↔◌, ℕ, min, Contains, IsTrue, IfOk, OnOk};
 ghost use Rattle.std.specs.List.{list_any};
 ghost use Rattle.olr_spec.specs.Map.{has};
 ghost use Rattle.olr_spec.specs.Extension.{limit};
@@ -8,7 +8,7 @@ ghost use Rattle.olr_route.specs.Searches.{IsSearch, limit_of};
 ghost use Rattle.olr_route.specs.declared.distances.Direction.TheVariants.{Against};
 ghost use Rattle.olr_paths.specs.Items.{made_of};
 ghost use Rattle.olr_paths.specs.Touching.{nodes_of, lines_of};
-ghost use Rattle.olr_paths.specs.Searching.{sources, IsAsked};
+ghost use Rattle.olr_paths.specs.Searching.{sources, IsAsked, IsAtMost};
 ghost use Rattle.olr_paths.specs.Changes.{Touches, LookTouched};
 
 use crate::published::Published;
@@ -48,14 +48,24 @@ pub(crate) fn search_near<M: MapRead>(
     Ok(())
 }
 
-/// Whether a touched node can be reached from a node within the greatest limit.
-fn is_near<M: MapRead>(map: &M, touched: &Touched, near: &Search, node: NodeId) -> bool
+/// Whether there is a distance, and it is at most a length, both in decimetres.
+fn is_at_most(distance: Option<u32>, length: u32) -> bool
+    ensures { IsTrue result ↔ IsAtMost distance length }
+{
+    match distance {
+        Some(distance) => distance <= length,
+        None => false,
+    }
+}
+
+/// Whether a touched node can be reached from a node within a length in decimetres and the greatest limit.
+fn is_near<M: MapRead>(map: &M, touched: &Touched, near: &Search, node: NodeId, within: u32) -> bool
     requires search { IsSearch (M.map map.now) (M.place_in map.now) Against (sources touched.now) near.now }
     requires limit { limit_of near.now ≡ limit }
-    ensures { IsTrue result ↔ Near (M.map map.now) (nodes_of touched.now) node limit }
+    ensures { IsTrue result ↔ Near (M.map map.now) (nodes_of touched.now) node (min within limit) }
 {
     match map.place_of(node) {
-        Some(place) => near.dist_at(place).is_some(),
+        Some(place) => is_at_most(near.dist_at(place), within),
         None => touched.has_node(node),
     }
 }
@@ -82,7 +92,7 @@ pub(crate) fn is_line_touched(touched: &Touched, lines: &[LineId]) -> bool
     is_any_touched(touched, lines)
 }
 
-/// Whether a touched node is near to where one of the looks begins.
+/// Whether one of the looks sees a touched node.
 fn is_look_touched<M: MapRead>(
     map: &M,
     touched: &Touched,
@@ -95,7 +105,7 @@ fn is_look_touched<M: MapRead>(
 {
     let looks = published.looks.as_slice();
     for look in looks {
-        if is_near(map, touched, near, look.from) {
+        if is_near(map, touched, near, look.from, look.within) {
             return true;
         }
     }

@@ -31,7 +31,7 @@ pub enum Direction {
 /// Distances from some nodes, each with a length to begin with. One search may be begun over and over: what it keeps
 /// its labels in is made as long as the map needs once, and emptied of what was labelled.
 ///
-/// All calls between one `begin` and the next are given the same map. After an error the search is begun anew before it
+/// All calls between one `begin` and the next are given the same map. After an error the search is begun again before it
 /// is used again.
 #[derive(Drop)]
 pub struct Search {

@@ -1,5 +1,5 @@
-use Rattle.std.proofs.Common.{◌≡◌, ℕ, List, All, Contains, length, get_or, ◌<◌, true, false, refl, sym, ap, subst, ◌∙◌}
-use Rattle.std.proofs.Common.{arith}
+use Rattle.std.proofs.Common.{◌≡◌, List, All, Contains, length, get_or, ◌<◌, true, false, refl, sym, subst, ◌∙◌}
+use Rattle.std.proofs.Common.{arith, min}
 use Rattle.std.proofs.lemmas.List.{take_all}
 use Rattle.std.proofs.lemmas.List.Elements.{All-contains, Contains-get_or}
 use Rattle.olr_spec.specs.Extension.{limit}
@@ -27,7 +27,7 @@ returns-then-is_near g c =
       (λ t. (
         item,
         on,
-        subst (λ (v : ℕ). Near N T v limit) (ap (λ (l : Look). l.from) c.look.view_is)
+        subst (λ (l : Look). Near N T l.from (min l.within limit)) c.look.view_is
             (c.is_near.ensures.0 yes),
       )),
       (λ h. refl),
@@ -35,19 +35,22 @@ returns-then-is_near g c =
 
 pub loop-look-preserved : goal.loop-look-preserved
 loop-look-preserved g c =
-    let P : Look → Type 0 = λ k. ¬ Near (g.M.MapRead.map c.args.map.now) (nodes_of c.args.touched.now) k.from limit in
+    let P : Look → Type 0 =
+    λ k. ¬ Near (g.M.MapRead.map c.args.map.now) (nodes_of c.args.touched.now) k.from (min k.within limit) in
     let off : c.is_near.result ≡ false = cc in
     let item : Look = c.look-item.result in
     let no : P item = λ near.
     let on : c.is_near.result ≡ true =
-    c.is_near.ensures.1 (subst (λ (v : ℕ). Near (g.M.MapRead.map c.args.map.now) (nodes_of c.args.touched.now) v limit)
-    (sym (ap (λ (l : Look). l.from) c.look.view_is)) near) in cc in
+    c.is_near.ensures.1
+    (subst (λ (l : Look). Near (g.M.MapRead.map c.args.map.now) (nodes_of c.args.touched.now) l.from
+    (min l.within limit)) (sym c.look.view_is) near) in cc in
     all_more P c.as_slice-looks.result.now c.loop-look.look-index item c.loop-look-test.true c.loop-look.invariant
     (subst (λ (l : Look). P l) c.look-item.is no)
 
 pub returns : goal.returns
 returns g c =
-    let P : Look → Type 0 = λ k. ¬ Near (g.M.MapRead.map c.args.map.now) (nodes_of c.args.touched.now) k.from limit in
+    let P : Look → Type 0 =
+    λ k. ¬ Near (g.M.MapRead.map c.args.map.now) (nodes_of c.args.touched.now) k.from (min k.within limit) in
     let all : All P c.args.published.now.looks.items =
     subst (λ (ls : List Look). All P ls)
     (take_all c.loop-look.look-index c.as_slice-looks.result.now (omega (arith, c.loop-look-test.false))

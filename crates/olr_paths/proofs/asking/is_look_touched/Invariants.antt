@@ -1,10 +1,11 @@
-use Rattle.std.proofs.Common.{All, take}
+use Rattle.std.proofs.Common.{All, take, min}
 use Rattle.olr_spec.specs.Extension.{limit}
 use Rattle.olr_spec.specs.Detours.{Near}
 use Rattle.olr_paths.specs.Touching.{nodes_of}
 use Rattle.olr_paths.proofs.asking.is_look_touched.Given as goal
 
--- near to none of the looks so far is a touched node
+-- none of the looks so far sees a touched node
 abbrev pub invariant-loop-look : goal.invariant-loop-look
 invariant-loop-look g l =
-    All (λ k. ¬ Near (g.M.MapRead.map l.map) (nodes_of l.touched) k.from limit) (take l.look-index l.looks)
+    All (λ k. ¬ Near (g.M.MapRead.map l.map) (nodes_of l.touched) k.from (min k.within limit))
+    (take l.look-index l.looks)
