@@ -1,5 +1,5 @@
 -- The outcome of a record, by what was read of it.
-use Rattle.std.proofs.Common.{List, Ok, Err, inl, inr, refl, sym, subst}
+use Rattle.std.proofs.Common.{◌≡◌, ℕ, List, Result, Ok, Err, inl, inr, refl, sym, ap, ◌∙◌, subst}
 use Rattle.olr_commands.specs.State as state
 use Rattle.olr_commands.specs.State.{State}
 use Rattle.olr_commands.specs.Reply.{Outcome, IsOutcome}
@@ -9,7 +9,12 @@ use Rattle.olr_records.specs.Records.{Field, Read, read}
 use Rattle.olr_records.specs.Words.{IsRead, read_fault_of}
 use Rattle.olr_records.specs.declared.faults.ReadFault.{ReadFault}
 use Rattle.olr_records.specs.declared.faults.ReadFault.TheVariants.{Syntax, Range, Memory}
+use Rattle.olr_commands.specs.declared.reply.Reply.{Reply}
+use Rattle.olr_records.specs.ReplyText.{outcome_text}
 use Rattle.olr_run.specs.Output.{CommandOutcome, RecordOutcome}
+use Rattle.olr_run.specs.Runs.{IsAnswer, answer_text}
+use Rattle.std.specs.Prelude.{is_ok}
+use Rattle.std.specs.Borrow.{Bor}
 
 -- of a record that reads as a command
 pub commanded : (s t : State) (fields : List Field) (c : Command) (o : Outcome) → IsRead (read fields) (Ok c) →
@@ -24,3 +29,9 @@ unread s fields Syntax e =
 unread s fields Range e =
     inl (subst (λ (r : Read state.Command). CommandOutcome s r (Err state.Range) s) (sym e) (refl, refl))
 unread s fields Memory e = inr (e, (refl, refl))
+
+-- an outcome has the text of its answer, and accepts where that does
+pub text_of_answer : (r : Result Reply (Bor (List ℕ))) (o : Outcome) → IsAnswer r o →
+    (outcome_text o ≡ answer_text r) × (is_ok o ≡ is_ok r)
+text_of_answer (Ok reply) o h = (ap outcome_text h, ap is_ok h)
+text_of_answer (Err line) o h = (ap outcome_text h.1 ∙ sym h.2, ap is_ok h.1)

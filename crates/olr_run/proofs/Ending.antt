@@ -7,7 +7,8 @@ use Rattle.olr_register.specs.Registered.{Registered}
 use Rattle.olr_run.specs.Options.{Options, keep_app, options}
 use Rattle.olr_run.specs.Ends.{Opens, IsFile, OpensFile, Ends, Not_opened, Ran, Cut_off}
 use Rattle.olr_run.specs.Output.{Claims}
-use Rattle.olr_run.specs.Runs.{Known, known_file, known_records, known_both, RanOn, FaultedOn, HasTooMany, exit_code}
+use Rattle.olr_run.specs.Sessions.{Known}
+use Rattle.olr_run.specs.Runs.{known_file, known_records, known_both, RanOn, FaultedOn, HasTooMany, exit_code}
 use Rattle.olr_run.specs.declared.ends.RunFault.{RunFault}
 use Rattle.olr_run.specs.declared.ends.RunFault.TheVariants as fault
 use Rattle.olr_run.specs.declared.ends.Status.{Status}
@@ -55,7 +56,7 @@ pub was_cut_off : {O F E : Type 0} (call : Once O (Bor (List ℕ) × Unit {0}) (
     (input : Known) (old : Registered) (before : Known) (new : Registered) (later : Known) (e : RunFault) (code : ℕ) →
     fault_of keep_app words ≡ [] → o ≡ options words → OpensFile call opener o.file (Ok file)
     → FaultedOn Claims o.stop old (known_both (known_records (known_file remaining file)) (known_records input)) before
-    new later
+    new later e
     → (e ≡ fault.TooMany → HasTooMany (known_file remaining file) ⊎ HasTooMany input) → code ≡ exit_code (Err e)
     → Ends words (Opens call remaining opener) input old before new later code
 was_cut_off call remaining opener words o file input old before new later e code none is h run many status =
@@ -63,4 +64,4 @@ was_cut_off call remaining opener words o file input old before new later e code
     (subst (λ (p : Options). IsFile p.file (Opens call remaining opener) (known_file remaining file)) is
     (file_is call remaining opener o.file file h)) e
     (subst (λ (p : Options). FaultedOn Claims p.stop old
-    (known_both (known_records (known_file remaining file)) (known_records input)) before new later) is run) many status
+    (known_both (known_records (known_file remaining file)) (known_records input)) before new later e) is run) many status

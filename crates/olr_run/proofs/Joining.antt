@@ -1,8 +1,8 @@
 -- Two runs on one register are one over the records of both.
 use Rattle.std.proofs.Common.{◌≡◌, ◌∙◌, ◌≢◌, ◌+◌, ℕ, Bool, true, false, List, [], ◌∷◌, ◌++◌, length, length-append}
-use Rattle.std.proofs.Common.{None, Some, Result, Ok, Err, inl, inr, refl, sym, ap, subst}
-use Rattle.std.specs.Prelude.{◌&&◌, ◌||◌, is_err, if◌then◌else◌, OnErr}
-use Rattle.std.proofs.lemmas.List.{append-nil, append_assoc}
+use Rattle.std.proofs.Common.{None, Some, inl, inr, refl, sym, ap, subst}
+use Rattle.std.specs.Prelude.{◌&&◌, ◌||◌, is_err, if◌then◌else◌}
+use Rattle.std.proofs.lemmas.List.{append_assoc}
 use Rattle.std.proofs.lemmas.List.Concat.{flat_map-append}
 use Rattle.std.proofs.lemmas.List.Folds.{list_any-append}
 use Rattle.std.proofs.KnownBytes.{Appends-nil, Appends-trans}
@@ -16,13 +16,14 @@ use Rattle.olr_register.specs.Registered.{Registered}
 use Rattle.olr_run.specs.Output as output
 use Rattle.olr_run.specs.Output.{SoundOutcome, SoundOutcomes, Claims, StopsAtFault, any_refused, AreAnswered, texts}
 use Rattle.olr_run.specs.Output.{Ran}
-use Rattle.olr_run.specs.Output.{CutOff, Nothing, In_last, Faulted, greater}
-use Rattle.olr_run.specs.Runs.{Known, Records, known_records, known_both, status_of, RanOn, FaultedOn}
+use Rattle.olr_run.specs.Output.{CutOff, Before_next, No_text, In_last, Faulted, greater}
+use Rattle.olr_run.specs.Sessions.{Known}
+use Rattle.olr_run.specs.Runs.{Records, known_records, known_both, status_of, RanOn, FaultedOn}
 use Rattle.olr_run.specs.declared.ends.RunFault.{RunFault}
 use Rattle.olr_run.specs.declared.ends.Status.{Status}
 use Rattle.olr_run.specs.declared.ends.Status.TheVariants as status
 use Rattle.olr_run.proofs.RunLemmas.{claims_of}
-use Rattle.olr_run.proofs.Running.{cut_whole, standing}
+use Rattle.olr_run.proofs.Running.{standing}
 
 -- no bytes are no records
 pub no_file : (stop : Bool) (old : Registered) (before : Known) →
@@ -60,18 +61,14 @@ only_sound stop old (Some rs) before new later end h =
     )
 
 pub only_sound_faulted : (stop : Bool) (old : Registered) (records : Records) (before : Known) (new : Registered)
-    (later : Known)
-    → FaultedOn Claims stop old records before new later → FaultedOn SoundOutcomes stop old records before new later
-only_sound_faulted stop old None before new later h = tt
-only_sound_faulted stop old (Some rs) before new later h =
+    (later : Known) (e : RunFault)
+    → FaultedOn Claims stop old records before new later e → FaultedOn SoundOutcomes stop old records before new later e
+only_sound_faulted stop old None before new later e h = tt
+only_sound_faulted stop old (Some rs) before new later e h =
     λ s stands.
     let r = h s stands in
     let cut = r.4 in
     (r.0, r.1, r.2, r.3, record { outcomes = cut.outcomes; each = cut.each.run; stops = cut.stops; wrote = cut.wrote })
-
-pub on_fault : (r : Result Status RunFault) (P : Type 0) → P → OnErr r P
-on_fault (Ok end) P h = tt
-on_fault (Err e) P h = h
 
 -- ---- outcomes of both
 
@@ -116,7 +113,7 @@ all_join stop rs ms os qs l (inr h) =
       still true false b h = h
       still false a b h = absurd cc
 
-stopped_is : (stop b : Bool) →
+pub stopped_is : (stop b : Bool) →
     output.Stopped ≡ (if b then (if stop then output.Stopped else output.Some_refused) else output.All_accepted) →
     (stop && b) ≡ true
 stopped_is true true e = refl
@@ -144,15 +141,27 @@ status_join stop os qs n =
 texts_join : (os qs : List Outcome) → texts (os ++ qs) ≡ texts os ++ texts qs
 texts_join os qs = flat_map-append outcome_text os qs
 
-cut_join : (os qs : List Outcome) (second : List ℕ) → CutOff qs second → CutOff (os ++ qs) (texts os ++ second)
-cut_join os qs second (Nothing none empty) =
-    subst (λ (x : List Outcome). CutOff (os ++ x) (texts os ++ second)) (sym none)
-    (subst (λ (x : List ℕ). CutOff (os ++ []) (texts os ++ x)) (sym empty)
-    (subst (λ (x : List Outcome). CutOff x (texts os ++ [])) (sym (append-nil os))
-    (subst (CutOff os) (sym (append-nil (texts os))) (cut_whole os))))
-cut_join os qs second (In_last before last front rest are text wrote) =
-    In_last (os ++ before) last front rest (ap (λ (x : List Outcome). os ++ x) are
-    ∙ sym (append_assoc os before (last ∷ []))) text
+none_stopped : (stop : Bool) (os qs : List Outcome) → (stop && any_refused os) ≡ false →
+    (stop && any_refused qs) ≡ false → (stop && any_refused (os ++ qs)) ≡ false
+none_stopped stop os qs n m =
+    ap (λ (x : Bool). stop && x) (list_any-append is_err os qs) ∙ by stop (any_refused os) (any_refused qs) n m
+  where
+    by : (stop a b : Bool) → (stop && a) ≡ false → (stop && b) ≡ false → (stop && (a || b)) ≡ false
+    by true true b n m = absurd cc
+    by true false b n m = m
+    by false a b n m = refl
+
+cut_join : (stop : Bool) (os qs : List Outcome) (second : List ℕ) (e : RunFault) → (stop && any_refused os) ≡ false →
+    CutOff stop qs second e → CutOff stop (os ++ qs) (texts os ++ second) e
+cut_join stop os qs second e n (Before_next no_write none wrote) =
+    Before_next no_write (none_stopped stop os qs n none)
+    (ap (λ (x : List ℕ). texts os ++ x) wrote ∙ sym (texts_join os qs))
+cut_join stop os qs second e n (No_text is before last are wrote) =
+    No_text is (os ++ before) last (ap (λ (x : List Outcome). os ++ x) are ∙ sym (append_assoc os before (last ∷ [])))
+    (ap (λ (x : List ℕ). texts os ++ x) wrote ∙ sym (texts_join os before))
+cut_join stop os qs second e n (In_last is before last front rest are text some wrote) =
+    In_last is (os ++ before) last front rest (ap (λ (x : List Outcome). os ++ x) are
+    ∙ sym (append_assoc os before (last ∷ []))) text some
     (ap (λ (x : List ℕ). texts os ++ x) wrote ∙ sym (append_assoc (texts os) (texts before) front)
     ∙ ap (λ (x : List ℕ). x ++ front) (sym (texts_join os before)))
 
@@ -217,12 +226,12 @@ both_ran stop old mid new (Some rs) (Some ms) before now later p q end base h n 
       },
     )
 
-pub both_faulted_first : (stop : Bool) (old mid : Registered) (first second : Records) (before later : Known) →
-    IsContent old.kept.content → FaultedOn SoundOutcomes stop old first before mid later
-    → FaultedOn Claims stop old (known_both first second) before mid later
-both_faulted_first stop old mid None second before later base h = tt
-both_faulted_first stop old mid (Some rs) None before later base h = tt
-both_faulted_first stop old mid (Some rs) (Some ms) before later base h =
+pub both_faulted_first : (stop : Bool) (old mid : Registered) (first second : Records) (before later : Known)
+    (e : RunFault) → IsContent old.kept.content → FaultedOn SoundOutcomes stop old first before mid later e
+    → FaultedOn Claims stop old (known_both first second) before mid later e
+both_faulted_first stop old mid None second before later e base h = tt
+both_faulted_first stop old mid (Some rs) None before later e base h = tt
+both_faulted_first stop old mid (Some rs) (Some ms) before later e base h =
     λ s stands.
     let r = h s stands in
     let cut = r.4 in (
@@ -241,12 +250,12 @@ both_faulted_first stop old mid (Some rs) (Some ms) before later base h =
     )
 
 pub both_faulted_second : (stop : Bool) (old mid new : Registered) (first second : Records) (before now later : Known)
-    (p : Status) → IsContent old.kept.content → RanOn SoundOutcomes stop old first before mid now p
-    → p ≢ status.Stopped → FaultedOn Claims stop mid second now new later →
-    FaultedOn Claims stop old (known_both first second) before new later
-both_faulted_second stop old mid new None second before now later p base h n k = tt
-both_faulted_second stop old mid new (Some rs) None before now later p base h n k = tt
-both_faulted_second stop old mid new (Some rs) (Some ms) before now later p base h n k =
+    (p : Status) (e : RunFault) → IsContent old.kept.content → RanOn SoundOutcomes stop old first before mid now p
+    → p ≢ status.Stopped → FaultedOn Claims stop mid second now new later e →
+    FaultedOn Claims stop old (known_both first second) before new later e
+both_faulted_second stop old mid new None second before now later p e base h n k = tt
+both_faulted_second stop old mid new (Some rs) None before now later p e base h n k = tt
+both_faulted_second stop old mid new (Some rs) (Some ms) before now later p e base h n k =
     λ s stands.
     let a = h s stands in
     let b = k a.0 a.1 in
@@ -264,7 +273,7 @@ both_faulted_second stop old mid new (Some rs) (Some ms) before now later p base
             (run_join SoundOutcome s a.0 b.0 rs ms one.outcomes cut.outcomes size one.each cut.each.run);
         stops = stops_join stop one.outcomes cut.outcomes on one.stops cut.stops;
         wrote =
-            subst (λ (x : List ℕ). CutOff (one.outcomes ++ cut.outcomes) (x ++ b.2)) (sym one.wrote)
-            (cut_join one.outcomes cut.outcomes b.2 cut.wrote);
+            subst (λ (x : List ℕ). CutOff stop (one.outcomes ++ cut.outcomes) (x ++ b.2) e) (sym one.wrote)
+            (cut_join stop one.outcomes cut.outcomes b.2 e on cut.wrote);
       },
     )

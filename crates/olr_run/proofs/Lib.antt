@@ -2,7 +2,11 @@ pub mod RecordLemmas
 pub mod RunLemmas
 pub mod Answering
 pub mod Writing
+pub mod SessionLemmas
 pub mod Running
 pub mod Joining
+pub mod InputRuns
+pub mod CsvBytes
+pub mod InMemoryRuns
 pub mod Ending
 pub mod Lacking

@@ -5,19 +5,23 @@
 --     Opens call remaining opener name opened      opening the file of that name gives known bytes, or fails
 --     Ends words Opened input old before new later code      the register, what is written and the status at the end
 use Rattle.std.specs.Prelude.{◌≡◌, ℕ, Bool, true, false, List, [], Option, Some, None, option_map, MatchOption, Result}
-use Rattle.std.specs.Prelude.{Ok, Err, ◌⊎◌}
+use Rattle.std.specs.Prelude.{Ok, Err, ◌⊎◌, IfSome}
 use Rattle.std.specs.Result.{result_ok}
 use Rattle.std.specs.Borrow.{Bor}
 use Rattle.std.specs.Fn.{Once, FnOnceReturnsAt}
 use Rattle.std.specs.Io.KnownBytes.{Appends}
 use Rattle.clap.specs.Faults.{fault_of}
 use Rattle.clap.specs.Kinds.{Kinds, IsAmong}
+use Rattle.clap.specs.Values.{kind_of}
 use Rattle.clap.specs.declared.error.kind.ErrorKind.{ErrorKind}
 use Rattle.clap.specs.declared.error.kind.ErrorKind.TheVariants as kind
 use Rattle.olr_register.specs.Registered.{Registered}
 use Rattle.olr_run.specs.Options.{keep_app, options}
 use Rattle.olr_run.specs.Output.{Claims}
-use Rattle.olr_run.specs.Runs.{Known, known_records, known_both, RanOn, FaultedOn, HasTooMany, exit_code}
+use Rattle.olr_run.specs.Sessions.{Known}
+use Rattle.olr_run.specs.Runs.{known_records, known_both, RanOn, FaultedOn, HasTooMany, exit_code}
+use Rattle.olr_run.specs.declared.arguments.OptionsFault.{OptionsFault}
+use Rattle.olr_run.specs.declared.arguments.OptionsFault.TheVariants as opts
 use Rattle.olr_run.specs.declared.ends.RunFault.{RunFault}
 use Rattle.olr_run.specs.declared.ends.RunFault.TheVariants as fault
 use Rattle.olr_run.specs.declared.ends.Status.{Status}
@@ -36,12 +40,24 @@ HasKind kinds asked = (k : ErrorKind) × IsAmong k kinds × (is_asked_for k ≡ 
 abbrev pub Adds : Known → Known → Type 0
 Adds before later = (text : List ℕ) × Appends before later text
 
--- a text was written: all of it, a front of it, or nothing for want of memory
-abbrev pub Shows : Known → Known → Result (Unit {0}) RunFault → Type 0
-Shows before later (Ok done) = Adds before later
-Shows before later (Err fault.Write) = Adds before later
-Shows before later (Err fault.Memory) = later ≡ before
-Shows before later (Err e) = ⊥
+-- a text was written: all of it, and exactly it where it is known; a front of it; or nothing, out of memory
+abbrev pub Shows : Known → Known → Known → Result (Unit {0}) RunFault → Type 0
+Shows text before later (Ok done) = (t : List ℕ) × Appends before later t × IfSome text (λ x. t ≡ x)
+Shows text before later (Err fault.Write) = Adds before later
+Shows text before later (Err fault.Memory) = later ≡ before
+Shows text before later (Err e) = ⊥
+
+-- help or the version was written, with status 0; or not all of it, with 3; or nothing, out of memory, with 4
+abbrev pub IsShown : Known → Known → ℕ → Type 0
+IsShown before later code =
+    (Adds before later × (code ≡ 0)) ⊎ (Adds before later × (code ≡ 3)) ⊎ ((later ≡ before) × (code ≡ 4))
+
+-- by the fault of the arguments: status 4 out of memory, and 2 for a mistake
+abbrev pub ExplainsFault : OptionsFault → Known → Known → ℕ → Type 0
+ExplainsFault opts.Memory before later code = (later ≡ before) × (code ≡ 4)
+ExplainsFault (opts.Clap e) before later code =
+    (is_asked_for (kind_of e) ≡ false → (later ≡ before) × (code ≡ 2))
+    × (is_asked_for (kind_of e) ≡ true → IsShown before later code)
 
 pub data Explains (kinds : Kinds) (before later : Known) (code : ℕ) : Type 0 where
   Shown : HasKind kinds true → Adds before later → code ≡ 0 → Explains kinds before later code
@@ -84,5 +100,5 @@ pub data Ends (words : List (List ℕ)) (Opened : List ℕ → Option Known → 
       → code ≡ exit_code (Ok end) → Ends words Opened input old before new later code
   Cut_off : fault_of keep_app words ≡ [] → (file : Known) → IsFile (options words).file Opened file → (e : RunFault) →
       FaultedOn Claims (options words).stop old (known_both (known_records file) (known_records input)) before new later
-      → (e ≡ fault.TooMany → HasTooMany file ⊎ HasTooMany input) → code ≡ exit_code (Err e) →
+      e → (e ≡ fault.TooMany → HasTooMany file ⊎ HasTooMany input) → code ≡ exit_code (Err e) →
       Ends words Opened input old before new later code

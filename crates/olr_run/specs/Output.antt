@@ -6,8 +6,8 @@
 --     command_spelled fields      the command that a record spells.
 --     Claims s rs os t      what is claimed of such a run
 --     Ran Each stop s rs t written status      a whole run.
---     Faulted Each stop s rs t written      a run that was cut off
-use Rattle.std.specs.Prelude.{◌≡◌, ◌^◌, ℕ, Bool, ◌&&◌, List, [], ◌∷◌, ◌++◌, length, flat_map, is_err, Option, Result}
+--     Faulted Each stop s rs t written e      a run that was cut off by this fault
+use Rattle.std.specs.Prelude.{◌≡◌, ◌≢◌, ◌^◌, ℕ, Bool, ◌&&◌, List, [], ◌∷◌, ◌++◌, length, flat_map, is_err, Option, Result}
 use Rattle.std.specs.Prelude.{Ok, Err, ◌⊎◌, IsTrue, IsFalse, if◌then◌else◌, ⊤}
 use Rattle.std.specs.Result.{result_ok}
 use Rattle.std.specs.List.{list_any}
@@ -17,6 +17,8 @@ use Rattle.olr_commands.specs.Reply.{Outcome, IsOutcome, lacks_memory}
 use Rattle.olr_commands.specs.History.{Run, Headline}
 use Rattle.olr_records.specs.Records.{Field, ReadFault, read, read_fault, TakesMemory}
 use Rattle.olr_records.specs.ReplyText.{outcome_text}
+use Rattle.olr_run.specs.declared.ends.RunFault.{RunFault}
+use Rattle.olr_run.specs.declared.ends.RunFault.TheVariants as fault
 
 -- with commas, quotes and line ends as csv has them by default, no header, and any number of fields
 abbrev pub records_of : List ℕ → List (List Field)
@@ -88,18 +90,20 @@ pub record Ran (Each : State → List (List Field) → List Outcome → State �
   pub wrote : written ≡ texts outcomes
   pub ended : end ≡ run_status stop outcomes
 
--- all but a rest of the last text
-pub data CutOff (os : List Outcome) (written : List ℕ) : Type 0 where
-  Nothing : os ≡ [] → written ≡ [] → CutOff os written
-  In_last : (before : List Outcome) (last : Outcome) (front rest : List ℕ) → os ≡ before ++ last ∷ [] →
-      outcome_text last ≡ front ++ rest → written ≡ texts before ++ front → CutOff os written
+-- by a fault before another record was taken, out of memory for the last text, or while it was written
+pub data CutOff (stop : Bool) (os : List Outcome) (written : List ℕ) (e : RunFault) : Type 0 where
+  Before_next : e ≢ fault.Write → IsFalse (stop && any_refused os) → written ≡ texts os → CutOff stop os written e
+  No_text : e ≡ fault.Memory → (before : List Outcome) (last : Outcome) → os ≡ before ++ last ∷ [] →
+      written ≡ texts before → CutOff stop os written e
+  In_last : e ≡ fault.Write → (before : List Outcome) (last : Outcome) (front rest : List ℕ) → os ≡ before ++ last ∷ []
+      → outcome_text last ≡ front ++ rest → rest ≢ [] → written ≡ texts before ++ front → CutOff stop os written e
 
 pub record Faulted (Each : State → List (List Field) → List Outcome → State → Type 0) (stop : Bool) (s : State)
-    (rs : List (List Field)) (t : State) (written : List ℕ) : Type 0 where
+    (rs : List (List Field)) (t : State) (written : List ℕ) (e : RunFault) : Type 0 where
   pub outcomes : List Outcome
   pub each : Each s rs outcomes t
   pub stops : StopsAtFault stop outcomes
-  pub wrote : CutOff outcomes written
+  pub wrote : CutOff stop outcomes written e
 
 -- the greater of two statuses
 abbrev pub greater : Status → Status → Status

@@ -1,53 +1,40 @@
--- Runs on a register, as Rust's values say them, of what a reader and a writer tell of their bytes.
+-- Runs on a register, as Rust's values say them, in a session, and of what a reader and a writer tell of their bytes.
 --     WritesAll before later bytes r      all of the bytes were written, or a front of them
---     Takes remaining old new found fields      a plain reader took its next record, where there was one
 --     CarriedOut old fields new r      what a record does to the register, and its answer
---     TellsRecord old fields new before later r      the same, and its text was written
---     known_records known      the records of known bytes.
+--     AnswersRecord      the same, and its text was written
+--     RanIn, CutIn      a run in a session: each record was taken and answered before the next
+--     known_records known      the records of known bytes
 --     known_both      those of a file and then those of more input
 --     RanOn, FaultedOn      a run over known records
 --     exit_code r      the status of the program
-use Rattle.std.specs.Prelude.{◌≡◌, ℕ, ◌<◌, Bool, List, [], ◌++◌, length, Option, Some, None, option_map, Result, Ok}
-use Rattle.std.specs.Prelude.{Err, IfSome, is_ok}
+use Rattle.std.specs.Prelude.{◌≡◌, ◌≢◌, ℕ, ◌<◌, Bool, ◌&&◌, List, [], ◌∷◌, ◌++◌, length, map, Option, Some, None}
+use Rattle.std.specs.Prelude.{option_map, Result, Ok, Err, IfSome, is_ok, IsFalse, ◌⊎◌, ⊤}
 use Rattle.std.specs.Io.KnownBytes.{Appends}
 use Rattle.std.specs.Option.{option_map_or}
 use Rattle.std.specs.Borrow.{Bor}
-use Rattle.csv.specs.Reading.{ReadRecord, Ready, default_config, reader_config, reader_trim}
-use Rattle.csv.specs.declared.reader.Reader.{Reader}
-use Rattle.csv.specs.declared.reader.Trim.TheVariants as trim
 use Rattle.olr_commands.specs.Reply.{Outcome}
 use Rattle.olr_commands.specs.State.{IsContent, State, Fault}
 use Rattle.olr_commands.specs.Words.{reply_of}
 use Rattle.olr_commands.specs.declared.reply.Reply.{Reply}
 use Rattle.olr_records.specs.Records.{Field}
-use Rattle.olr_records.specs.ReplyText.{outcome_text, fault_text}
+use Rattle.olr_records.specs.ReplyText.{outcome_text, reply_text, fault_text}
 use Rattle.olr_register.specs.Kept.{Stands}
 use Rattle.olr_register.specs.Registered.{Registered}
 use Rattle.olr_run.specs.Output as output
-use Rattle.olr_run.specs.Output.{SoundOutcome, Ran, Faulted, records_of, most_records}
+use Rattle.olr_run.specs.Output.{SoundOutcome, Claims, StopsAtFault, any_refused, run_status, Ran, Faulted, records_of}
+use Rattle.olr_run.specs.Output.{most_records}
+use Rattle.olr_run.specs.Sessions.{Known, Event, Took, Ended, Not_taken, Wrote, Cut, History, exchanges, IsOfTaking}
 use Rattle.olr_run.specs.declared.ends.RunFault.{RunFault}
 use Rattle.olr_run.specs.declared.ends.RunFault.TheVariants as fault
 use Rattle.olr_run.specs.declared.ends.Status.{Status}
 use Rattle.olr_run.specs.declared.ends.Status.TheVariants as status
 
-abbrev pub Known : Type 0
-Known = Option (List ℕ)
-
 abbrev pub WritesAll : Known → Known → List ℕ → Result (Unit {0}) RunFault → Type 0
 WritesAll before later bytes (Ok done) = Appends before later bytes
 WritesAll before later bytes (Err e) =
-    (front rest : List ℕ) × (bytes ≡ front ++ rest) × Appends before later front × (e ≡ fault.Write)
+    (front rest : List ℕ) × (bytes ≡ front ++ rest) × (rest ≢ []) × Appends before later front × (e ≡ fault.Write)
 
 -- ---- one record
-
--- a reader of records as csv has them by default, with no header and no field trimmed
-pub record IsPlain {R : Type 0} (r : Reader R) : Type 0 where
-  pub config : reader_config r ≡ default_config
-  pub trim : reader_trim r ≡ trim.None
-  pub ready : Ready r
-
-abbrev pub Takes : {R : Type 0} → (R → Known) → Reader R → Reader R → Bool → List Field → Type 0
-Takes remaining old new found fields = IsPlain old → IsPlain new × ReadRecord remaining old new found fields
 
 -- the reply, or the text of the fault
 abbrev pub IsAnswer : Result Reply (Bor (List ℕ)) → Outcome → Type 0
@@ -59,22 +46,79 @@ CarriedOut old fields new r =
     (s : State) → Stands old.kept s → IsContent s.content → (t : State) × (o : Outcome) × Stands new.kept t
     × SoundOutcome s fields o t × IsAnswer r o
 
--- all of its text, or a front of it
-abbrev pub TellsText : Known → Known → Outcome → Result Bool RunFault → Type 0
-TellsText before later o (Ok accepted) = Appends before later (outcome_text o) × (accepted ≡ is_ok o)
-TellsText before later o (Err e) = (front rest : List ℕ) × (outcome_text o ≡ front ++ rest) × Appends before later front
+-- the text of an answer
+abbrev pub answer_text : Result Reply (Bor (List ℕ)) → List ℕ
+answer_text (Ok reply) = reply_text (reply_of reply)
+answer_text (Err line) = line.now
 
-abbrev pub TellsRecord : Registered → List Field → Registered → Known → Known → Result Bool RunFault → Type 0
-TellsRecord old fields new before later r =
-    (s : State) → Stands old.kept s → IsContent s.content → (t : State) × (o : Outcome) × Stands new.kept t
-    × SoundOutcome s fields o t × TellsText before later o r
+-- the text was written, or there was no memory for it, or not all of it was written
+abbrev pub WritesText : {S : Type 0} → (S → Event → S → Type 0) → S → List ℕ → S → Result Bool RunFault → Bool → Type 0
+WritesText happens before text later (Ok accepted) is = happens before (Wrote text) later × (accepted ≡ is)
+WritesText happens before text later (Err e) is =
+    ((e ≡ fault.Memory) × (later ≡ before))
+    ⊎ ((front rest : List ℕ) × (text ≡ front ++ rest) × (rest ≢ []) × happens before (Cut front) later × (e ≡ fault.Write))
 
--- ---- runs
+-- a record's command is carried out, and its answer, which has this text and accepts it or not, is written
+pub record AnswersRecord {S : Type 0} (happens : S → Event → S → Type 0) (old : Registered) (fields : List Field)
+    (new : Registered) (before later : S) (r : Result Bool RunFault) : Type 0 where
+  pub text : List ℕ
+  pub accepts : Bool
+  pub writes : WritesText happens before text later r accepts
+  pub outcome : (s : State) → Stands old.kept s → IsContent s.content → (t : State) × (o : Outcome) × Stands new.kept t
+      × SoundOutcome s fields o t × (outcome_text o ≡ text) × (is_ok o ≡ accepts)
+
+-- ---- runs in a session
 
 abbrev pub status_of : Status → output.Status
 status_of status.AllAccepted = output.All_accepted
 status_of status.SomeRefused = output.Some_refused
 status_of status.Stopped = output.Stopped
+
+-- from each state in which the register stood, these records have outcomes of these texts, and lead to a state in which
+-- it stands
+abbrev pub AnsweredOn : Bool → (List Outcome → Type 0) → Registered → List (List Field) → List (List ℕ) → Registered →
+    Type 0
+AnsweredOn stop And old rs texts new =
+    (s : State) → Stands old.kept s → (t : State) × Stands new.kept t × (os : List Outcome) × Claims s rs os t
+    × (map outcome_text os ≡ texts) × StopsAtFault stop os × And os
+
+-- nothing more is taken after the refusal that stops the run; else there is no further record
+abbrev pub last_events : Status → List Event
+last_events status.Stopped = []
+last_events _ = Ended ∷ []
+
+-- each record was taken, and its text written before the next
+pub record RanIn {S : Type 0} (happens : S → Event → S → Type 0) (stop : Bool) (old : Registered) (before : S)
+    (new : Registered) (later : S) (end : Status) : Type 0 where
+  pub records : List (List Field)
+  pub texts : List (List ℕ)
+  pub each : length texts ≡ length records
+  pub history : History happens before (exchanges records texts ++ last_events end) later
+  pub answered : AnsweredOn stop (λ os. status_of end ≡ run_status stop os) old records texts new
+
+-- the same, up to a record that can't be taken, or one more than the most; or to one whose text was not made, for want of
+-- memory, or not written whole
+pub data CutIn {S : Type 0} (happens : S → Event → S → Type 0) (stop : Bool) (old : Registered) (before : S)
+    (new : Registered) (later : S) (e : RunFault) : Type 0 where
+  In_taking : IsOfTaking e → (rs : List (List Field)) (texts : List (List ℕ)) → length texts ≡ length rs →
+      History happens before (exchanges rs texts ++ Not_taken e ∷ []) later
+      → AnsweredOn stop (λ os. IsFalse (stop && any_refused os)) old rs texts new
+      → CutIn happens stop old before new later e
+  Past_the_most : e ≡ fault.TooMany → (rs : List (List Field)) (texts : List (List ℕ)) → length texts ≡ length rs →
+      length rs ≡ most_records → (r : List Field) → History happens before (exchanges rs texts ++ Took r ∷ []) later
+      → AnsweredOn stop (λ os. IsFalse (stop && any_refused os)) old rs texts new
+      → CutIn happens stop old before new later e
+  No_text : e ≡ fault.Memory → (rs : List (List Field)) (texts : List (List ℕ)) → length texts ≡ length rs →
+      (r : List Field) (text : List ℕ) → History happens before (exchanges rs texts ++ Took r ∷ []) later
+      → AnsweredOn stop (λ os. ⊤) old (rs ++ r ∷ []) (texts ++ text ∷ []) new
+      → CutIn happens stop old before new later e
+  In_text : e ≡ fault.Write → (rs : List (List Field)) (texts : List (List ℕ)) → length texts ≡ length rs →
+      (r : List Field) (front rest : List ℕ) → rest ≢ []
+      → History happens before (exchanges rs texts ++ Took r ∷ Cut front ∷ []) later
+      → AnsweredOn stop (λ os. ⊤) old (rs ++ r ∷ []) (texts ++ (front ++ rest) ∷ []) new
+      → CutIn happens stop old before new later e
+
+-- ---- runs over known records
 
 abbrev pub Records : Type 0
 Records = Option (List (List Field))
@@ -99,13 +143,13 @@ RanOn Each stop old records before new later end =
     → (t : State) × Stands new.kept t × (written : List ℕ) × Appends before later written
     × Ran Each stop s rs t written (status_of end))
 
--- and one that was cut off does
+-- and one that was cut off by this fault does
 abbrev pub FaultedOn : (State → List (List Field) → List Outcome → State → Type 0) → Bool → Registered → Records →
-    Known → Registered → Known → Type 0
-FaultedOn Each stop old records before new later =
+    Known → Registered → Known → RunFault → Type 0
+FaultedOn Each stop old records before new later e =
     IfSome records (λ rs. (s : State) → Stands old.kept s
     → (t : State) × Stands new.kept t × (written : List ℕ) × Appends before later written
-    × Faulted Each stop s rs t written)
+    × Faulted Each stop s rs t written e)
 
 abbrev pub HasTooMany : Known → Type 0
 HasTooMany known = IfSome known (λ input. most_records < length (records_of input))

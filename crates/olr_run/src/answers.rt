@@ -1,20 +1,19 @@
 //! What one record answers.
 
-ghost use Rattle.std.specs.Prelude.{◌≡◌, ◌≢◌, [], true, IfErr, IfOk};
+ghost use Rattle.std.specs.Prelude.{◌≡◌, [], true, IfOk, is_ok};
 ghost use Rattle.csv.specs.Records.{fields_of};
-ghost use Rattle.olr_commands.specs.Reply.{Outcome, Paths};
+ghost use Rattle.olr_commands.specs.Reply.{Paths};
 ghost use Rattle.olr_commands.specs.Words.{reply_of};
 ghost use Rattle.olr_records.specs.ReplyText.{reply_text};
-ghost use Rattle.olr_run.specs.Runs.{CarriedOut, IsAnswer, TellsText, TellsRecord};
+ghost use Rattle.olr_run.specs.Runs.{CarriedOut, answer_text, WritesText, AnswersRecord};
 
 use crate::ends::RunFault;
-use crate::output::write_all;
+use crate::sessions::Session;
 use csv::ByteRecord;
 use olr_commands::Reply;
 use olr_records::{append_reply, fault_text, no_paths_text, read_command, read_fault_text};
 use olr_register::Register;
 use std::alloc::{AllocError, Global};
-use std::io::Write;
 
 /// Carries out what a record asks for: the reply, or the line of the fault.
 fn carry_out(
@@ -56,23 +55,23 @@ fn reply_lines<'a>(text: &'a mut Vec<u8>, reply: &Reply) -> Result<&'a [u8], All
 }
 
 /// Writes an answer; the text of a reply is made in `text`, whose room is kept. Whether it accepts the command.
-fn write_answer<W: Write>(
+fn write_answer<W, S: Session<W>>(
     answer: &Result<Reply, &'static str>,
     text: &mut Vec<u8>,
+    session: &mut S,
     output: &mut W,
 ) -> Result<bool, RunFault>
-    ensures told { (o : Outcome) → IsAnswer answer.now o →
-        TellsText (W.contents output.old) (W.contents output.new) o result }
-    ensures failed { IfErr result (λ e. e ≢ RunFault.TooMany) }
+    ensures { WritesText S.happens (session.old, output.old) (answer_text answer.now) (session.new, output.new) result
+        (is_ok answer.now) }
 {
     match answer {
         Ok(reply) => {
             let lines = reply_lines(text, reply)?;
-            write_all(output, lines)?;
+            session.answer(output, lines)?;
             Ok(true)
         }
         Err(line) => {
-            write_all(output, line.as_bytes())?;
+            session.answer(output, line.as_bytes())?;
             Ok(false)
         }
     }
@@ -80,17 +79,17 @@ fn write_answer<W: Write>(
 
 /// Carries out what a record asks for and writes the answer, whose text is made in `text`. Whether the command was
 /// accepted.
-pub fn tell<W: Write>(
+pub fn tell<W, S: Session<W>>(
     alloc: Global,
     register: &mut Register,
     fields: &ByteRecord,
     text: &mut Vec<u8>,
+    session: &mut S,
     output: &mut W,
 ) -> Result<bool, RunFault>
-    ensures told { TellsRecord register.old (fields_of fields.now) register.new (W.contents output.old)
-        (W.contents output.new) result }
-    ensures failed { IfErr result (λ e. e ≢ RunFault.TooMany) }
+    ensures { AnswersRecord S.happens register.old (fields_of fields.now) register.new (session.old, output.old)
+        (session.new, output.new) result }
 {
     let answer = carry_out(alloc, register, fields);
-    write_answer(&answer, text, output)
+    write_answer(&answer, text, session, output)
 }

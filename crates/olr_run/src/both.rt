@@ -1,6 +1,6 @@
 //! A file's commands and then those of the input, on one register.
 
-ghost use Rattle.std.specs.Prelude.{◌≡◌, ◌⊎◌, IfOk, IfErr, OnErr};
+ghost use Rattle.std.specs.Prelude.{◌≡◌, ◌⊎◌, IfOk, IfErr};
 ghost use Rattle.olr_run.specs.Output.{greater, SoundOutcomes, Claims};
 ghost use Rattle.olr_run.specs.Runs.{known_file, known_records, known_both, status_of, RanOn, FaultedOn, HasTooMany};
 
@@ -32,7 +32,7 @@ fn run_file<F: Read + Drop, W: Write>(
 ) -> Result<Status, RunFault>
     ensures ran { IfOk result (RanOn SoundOutcomes stop register.old (known_records (known_file F.remaining file))
         (W.contents output.old) register.new (W.contents output.new)) }
-    ensures faulted { OnErr result
+    ensures faulted { IfErr result
         (FaultedOn SoundOutcomes stop register.old (known_records (known_file F.remaining file))
         (W.contents output.old) register.new (W.contents output.new)) }
     ensures too_many { IfErr result (λ e. e ≡ RunFault.TooMany → HasTooMany (known_file F.remaining file)) }
@@ -57,7 +57,7 @@ pub fn run_both<F: Read + Drop, R: Read + Drop, W: Write>(
     ensures ran { IfOk result (RanOn Claims stop register.old
         (known_both (known_records (known_file F.remaining file)) (known_records (R.remaining input)))
         (W.contents output.old) register.new (W.contents output.new)) }
-    ensures faulted { OnErr result (FaultedOn Claims stop register.old
+    ensures faulted { IfErr result (FaultedOn Claims stop register.old
         (known_both (known_records (known_file F.remaining file)) (known_records (R.remaining input)))
         (W.contents output.old) register.new (W.contents output.new)) }
     ensures too_many { IfErr result (λ e. e ≡ RunFault.TooMany

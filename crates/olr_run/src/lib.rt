@@ -7,13 +7,16 @@ mod arguments;
 mod both;
 mod command_line;
 mod ends;
+mod in_memory;
 pub mod laws;
 mod output;
 mod records;
 pub mod rows;
+mod sessions;
 mod streams;
 
 pub use both::run_both;
 pub use ends::{RunFault, Status, exit_code};
-pub use records::run;
+pub use records::{Room, run, run_bytes, run_session};
+pub use sessions::Session;
 pub use streams::{WRONG_WORDS, program, tell_fault};

@@ -1,13 +1,14 @@
 //! A whole run: the records of an input, one after another, each answered before the next is taken.
 
-ghost use Rattle.std.specs.Prelude.{◌≡◌, ◌≢◌, IfOk, IfErr, OnErr};
-ghost use Rattle.csv.specs.Records.{fields_of};
-ghost use Rattle.olr_run.specs.Output.{Claims};
-ghost use Rattle.olr_run.specs.Runs.{known_records, Takes, RanOn, FaultedOn, HasTooMany};
+ghost use Rattle.std.specs.Prelude.{◌≡◌, Some, IfOk, IfErr};
+ghost use Rattle.olr_run.specs.Output.{Claims, records_of};
+ghost use Rattle.olr_run.specs.Runs.{known_records, RanIn, CutIn, RanOn, FaultedOn, HasTooMany};
 
 use crate::answers::tell;
 use crate::ends::{RunFault, Status};
-use csv::{ByteRecord, ErrorKind, Reader, ReaderBuilder};
+use crate::in_memory::InMemory;
+use crate::sessions::Session;
+use csv::{ByteRecord, ReaderBuilder};
 use olr_register::Register;
 use std::alloc::Global;
 use std::io::{Read, Write};
@@ -15,29 +16,88 @@ use std::io::{Read, Write};
 /// The most records of one run, 2^40.
 const MOST_RECORDS: u64 = 1 << 40;
 
-/// Whether there was one more record, which is then in `fields`.
-fn next_record<R: Read + Drop>(
-    reader: &mut Reader<R>,
-    fields: &mut ByteRecord,
-) -> Result<bool, RunFault>
-    ensures took { IfOk result (λ found. Takes R.remaining reader.old reader.new found (fields_of fields.new)) }
-    ensures failed { IfErr result (λ e. e ≢ RunFault.TooMany) }
-{
-    match reader.read_byte_record(fields) {
-        Ok(found) => Ok(found),
-        Err(error) => match error.kind() {
-            ErrorKind::OutOfMemory => Err(RunFault::Memory),
-            _ => Err(RunFault::Read),
-        },
+/// Room for a record and for the text of its answer, kept from one record to the next.
+#[derive(Drop)]
+pub struct Room {
+    fields: ByteRecord,
+    text: Vec<u8>,
+}
+
+impl Room {
+    /// No room yet. Takes no memory.
+    pub fn new(alloc: Global) -> Room {
+        Room {
+            fields: ByteRecord::new(alloc),
+            text: Vec::new(alloc),
+        }
     }
 }
 
-/// Takes the records of the input, and writes a reply or a fault for each before it takes the next. Where `stop` is set
-/// it takes none after the first refused one. After a fault the register stands after the records that were taken, and
-/// all of their answers are written but for a rest of the last. Either way, of the commands that these records spell:
-/// each path's published answer is the one that encoding it from nothing gives on the map of the accepted ones, the
-/// routes of its reference join, each reply to a change names the paths whose answer changed, and a refused one changed
-/// nothing.
+/// `run_session`, with room that may have served runs before.
+fn run_within<W, S: Session<W>>(
+    alloc: Global,
+    register: &mut Register,
+    session: &mut S,
+    output: &mut W,
+    stop: bool,
+    room: &mut Room,
+) -> Result<Status, RunFault>
+    ensures ran { IfOk result (RanIn S.happens stop register.old (session.old, output.old) register.new
+        (session.new, output.new)) }
+    ensures cut { IfErr result (CutIn S.happens stop register.old (session.old, output.old) register.new
+        (session.new, output.new)) }
+{
+    register.is_sound();
+    let mut status = Status::AllAccepted;
+    let mut answered: u64 = 0;
+    'records: while session.take(output, &mut room.fields)? {
+        if answered == MOST_RECORDS {
+            return Err(RunFault::TooMany);
+        }
+        answered += 1;
+        if !tell(
+            alloc,
+            register,
+            &room.fields,
+            &mut room.text,
+            session,
+            output,
+        )? {
+            if stop {
+                return Ok(Status::Stopped);
+            }
+            status = Status::SomeRefused;
+        }
+    }
+    Ok(status)
+}
+
+/// Takes the records of a session, and writes the text of each one's answer before it takes the next: the history of the
+/// session is a record, its text, a record, its text, to the end. Where `stop` is set it takes none after the first
+/// refused one. Where a record can't be taken, all that came before it have been answered. Of the commands that the
+/// records spell: each path's published answer is the one that encoding it from nothing gives on the map of the accepted
+/// ones, the routes of its reference join, each reply to a change names the paths whose answer changed, and a refused
+/// one changed nothing.
+pub fn run_session<W, S: Session<W>>(
+    alloc: Global,
+    register: &mut Register,
+    session: &mut S,
+    output: &mut W,
+    stop: bool,
+) -> Result<Status, RunFault>
+    ensures ran { IfOk result (RanIn S.happens stop register.old (session.old, output.old) register.new
+        (session.new, output.new)) }
+    ensures cut { IfErr result (CutIn S.happens stop register.old (session.old, output.old) register.new
+        (session.new, output.new)) }
+{
+    let mut room = Room::new(alloc);
+    run_within(alloc, register, session, output, stop, &mut room)
+}
+
+/// Runs the records of the input, as `csv` reads them, in a session whose answers go to the output. After a fault the
+/// register stands after the records that were answered: after a fault of reading all of their texts are written, and
+/// none of them stops the run; out of memory for a text, or after a fault of writing, all but the last one's, or but a
+/// rest of it.
 pub fn run<R: Read + Drop, W: Write>(
     alloc: Global,
     register: &mut Register,
@@ -47,7 +107,7 @@ pub fn run<R: Read + Drop, W: Write>(
 ) -> Result<Status, RunFault>
     ensures ran { IfOk result (RanOn Claims stop register.old (known_records (R.remaining input))
         (W.contents output.old) register.new (W.contents output.new)) }
-    ensures faulted { OnErr result (FaultedOn Claims stop register.old (known_records (R.remaining input))
+    ensures faulted { IfErr result (FaultedOn Claims stop register.old (known_records (R.remaining input))
         (W.contents output.old) register.new (W.contents output.new)) }
     ensures too_many { IfErr result (λ e. e ≡ RunFault.TooMany → HasTooMany (R.remaining input)) }
 {
@@ -56,21 +116,25 @@ pub fn run<R: Read + Drop, W: Write>(
         .has_headers(false)
         .flexible(true)
         .from_reader(alloc, input);
-    let mut fields = ByteRecord::new(alloc);
-    let mut text = Vec::new(alloc);
-    let mut status = Status::AllAccepted;
-    let mut answered: u64 = 0;
-    'records: while next_record(&mut reader, &mut fields)? {
-        if answered == MOST_RECORDS {
-            return Err(RunFault::TooMany);
-        }
-        answered += 1;
-        if !tell(alloc, register, &fields, &mut text, output)? {
-            if stop {
-                return Ok(Status::Stopped);
-            }
-            status = Status::SomeRefused;
-        }
-    }
-    Ok(status)
+    run_session(alloc, register, &mut reader, output, stop)
+}
+
+/// Runs the records of bytes in memory, with the same promises. `room` is used again by later runs.
+pub fn run_bytes<W: Write>(
+    alloc: Global,
+    register: &mut Register,
+    bytes: &[u8],
+    output: &mut W,
+    stop: bool,
+    room: &mut Room,
+) -> Result<Status, RunFault>
+    ensures ran { IfOk result (RanOn Claims stop register.old (Some (records_of bytes.now))
+        (W.contents output.old) register.new (W.contents output.new)) }
+    ensures faulted { IfErr result (FaultedOn Claims stop register.old (Some (records_of bytes.now))
+        (W.contents output.old) register.new (W.contents output.new)) }
+    ensures too_many { IfErr result (λ e. e ≡ RunFault.TooMany → HasTooMany (Some bytes.now)) }
+{
+    register.is_sound();
+    let mut records = InMemory::new(alloc, bytes);
+    run_within(alloc, register, &mut records, output, stop, room)
 }

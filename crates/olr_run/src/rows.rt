@@ -10,6 +10,7 @@ ghost use Rattle.olr_run.specs.Output.{records_of, greater, Outcomes, Ran, Fault
 ghost use Rattle.olr_run.specs.Output.{All_accepted};
 ghost use Rattle.olr_records.specs.Rows.{text_of_lines};
 ghost use Rattle.olr_run.specs.Rows.{input20, output20, state20};
+ghost use Rattle.olr_run.specs.declared.ends.RunFault.TheVariants as fault;
 
 /// Command lines.
 #[tactic(auto, unfolding(clap::proofs::OnLiterals::clap_on_literals))]
@@ -45,8 +46,9 @@ pub fn rows_runs()
     ensures all { Ran Outcomes false start_state (records_of input20) state20 output20 Some_refused }
     ensures stopped { Ran Outcomes true start_state (records_of input20) state20
         (text_of_lines (codes "ok,0" ∷ codes "fault,3,NodeExists" ∷ [])) Stopped }
-    ensures cut { Faulted Outcomes false start_state (records_of input20) state20 (codes "ok,0" ++ 10 ∷ codes "fau") }
-    ensures cut_at_once { Faulted Outcomes false start_state (records_of input20) start_state [] }
+    ensures cut { Faulted Outcomes false start_state (records_of input20) state20 (codes "ok,0" ++ 10 ∷ codes "fau")
+        fault.Write }
+    ensures cut_at_once { Faulted Outcomes false start_state (records_of input20) start_state [] fault.Read }
     ensures nothing { Ran Outcomes false start_state (records_of []) start_state [] All_accepted }
     ensures greatest { greater Some_refused All_accepted ≡ Some_refused }
     ensures stopped_in_file { Ran Outcomes true start_state (records_of input20 ++ records_of []) state20

@@ -4,7 +4,7 @@ ghost use Rattle.std.specs.Prelude.{◌≡◌, ◌≢◌, ◌≤◌, [], map, op
 ghost use Rattle.clap.specs.Faults.{fault_of};
 ghost use Rattle.clap.specs.Kinds.{Kinds};
 ghost use Rattle.olr_run.specs.Options.{keep_app, IsOptionsFault};
-ghost use Rattle.olr_run.specs.Ends.{Ends, Explains, Opens, OpensFile, Shows};
+ghost use Rattle.olr_run.specs.Ends.{Ends, Explains, ExplainsFault, Opens, OpensFile, Shows};
 ghost use Rattle.olr_run.specs.Runs as runs;
 
 use crate::arguments::OptionsFault;
@@ -15,6 +15,7 @@ use crate::output::write_all;
 use olr_register::Register;
 use std::alloc::Global;
 use std::convert::AsStr;
+use std::fmt::Display;
 use std::io;
 use std::io::{Read, Write};
 
@@ -90,15 +91,16 @@ pub fn tell_fault<E: Write>(fault: RunFault, errors: &mut E) -> u8
     exit_code(&Err(fault))
 }
 
-/// Writes the help or the version.
-fn show<W: Write>(alloc: Global, error: &clap::Error, output: &mut W) -> Result<(), RunFault>
-    ensures { Shows (W.contents output.old) (W.contents output.new) result }
+/// Writes a text to show, as it is: the help or the version.
+fn show<D: Display, W: Write>(alloc: Global, shown: &D, output: &mut W) -> Result<(), RunFault>
+    ensures { Shows (D.output shown.now) (W.contents output.old) (W.contents output.new) result }
 {
-    let text = format!(in alloc; "{error}")?;
+    let text = format!(in alloc; "{shown}")?;
     write_all(output, text.as_bytes())
 }
 
-/// Writes why the words gave no options, and gives the status: help and the version are no mistake.
+/// Writes why the arguments gave no options, and gives the status: help and the version are no mistake. Status 4 comes
+/// only where `clap` had no memory, or there was none for the text.
 fn explain<W: Write, E: Write>(
     alloc: Global,
     fault: &OptionsFault,
@@ -108,6 +110,7 @@ fn explain<W: Write, E: Write>(
     ensures bounded { result ≤ 4 }
     ensures explains { (kinds : Kinds) → IsOptionsFault kinds fault.now
         → Explains kinds (W.contents output.old) (W.contents output.new) result }
+    ensures by_fault { ExplainsFault fault.now (W.contents output.old) (W.contents output.new) result }
     ensures quiet { result ≤ 1 → errors.new ≡ errors.old }
 {
     match fault {

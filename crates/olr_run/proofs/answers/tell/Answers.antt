@@ -1,5 +1,15 @@
+use Rattle.std.specs.Prelude.{is_ok}
+use Rattle.olr_run.specs.Runs.{answer_text}
+use Rattle.olr_run.proofs.Answering.{text_of_answer}
 use Rattle.olr_run.proofs.answers.tell.Goals as goal
 
-pub returns-clause-told : goal.returns-clause-told
-returns-clause-told g c s stands sound = let h =
-    c.carry_out-answer.ensures s stands sound in (h.0, h.1, h.2, h.3, c.write_answer.ensures.told h.1 h.4)
+pub returns : goal.returns
+returns g c =
+    record {
+      text = answer_text c.carry_out-answer.result;
+      accepts = is_ok c.carry_out-answer.result;
+      writes = c.write_answer.ensures;
+      outcome = λ s stands sound.
+          let h = c.carry_out-answer.ensures s stands sound in
+          let is = text_of_answer c.carry_out-answer.result h.1 h.4 in (h.0, h.1, h.2, h.3, is.0, is.1);
+    }

@@ -1,4 +1,4 @@
-use Rattle.std.proofs.lemmas.Result.{IfOk-weaker, on_err_weaker}
+use Rattle.std.proofs.lemmas.Result.{IfOk-weaker, IfErr-weaker}
 use Rattle.olr_run.proofs.Joining.{no_file, only_sound, only_sound_faulted}
 use Rattle.olr_run.proofs.both.run_file.Goals as goal
 
@@ -12,9 +12,9 @@ returns-in-Some-clause-ran g c =
 pub returns-in-Some-clause-faulted : goal.returns-in-Some-clause-faulted
 returns-in-Some-clause-faulted g c =
     rw c.in-Some.is
-    (on_err_weaker c.run.result
-    (only_sound_faulted c.args.stop c.args.register.now _ (g.W.Write.contents c.args.output.now) c.run.new.register
-    (g.W.Write.contents c.run.new.output)) c.run.ensures.faulted)
+    (IfErr-weaker c.run.result _ _
+    (λ e h. only_sound_faulted c.args.stop c.args.register.now _ (g.W.Write.contents c.args.output.now)
+    c.run.new.register (g.W.Write.contents c.run.new.output) e h) c.run.ensures.faulted)
 
 pub returns-in-None-clause-ran : goal.returns-in-None-clause-ran
 returns-in-None-clause-ran g c =

@@ -10,7 +10,7 @@ use Rattle.olr_spec.specs.Map.{empty_map, unless, Node_exists, No_node, Node_in_
 use Rattle.olr_commands.specs.State.{no_content, start_state, Syntax, Range, Map_fault, On_map, Make, with_map, at_once}
 use Rattle.olr_commands.specs.State.{step}
 use Rattle.olr_commands.specs.Reply.{Paths, Told}
-use Rattle.olr_run.specs.Output.{Nothing, In_last}
+use Rattle.olr_run.specs.Output.{Before_next, In_last}
 use Rattle.olr_records.specs.Rows.{zero}
 use Rattle.olr_run.specs.Rows.{state20}
 use Rattle.olr_run.proofs.rows.rows_runs.Goals as goal
@@ -81,13 +81,14 @@ returns-clause-cut c =
       each = (state20, inl (add_first, refl), (state20, inl (Told add_again, refl), refl));
       stops = (λ e. absurd cc, (λ e. refl, tt));
       wrote =
-          In_last (Ok (Paths []) ∷ []) (Err (Map_fault Node_exists)) (codes "fau") (codes "lt,3,NodeExists" ++ 10 ∷ [])
-          refl refl refl;
+          In_last refl (Ok (Paths []) ∷ []) (Err (Map_fault Node_exists)) (codes "fau")
+          (codes "lt,3,NodeExists" ++ 10 ∷ []) refl refl (λ e. absurd cc) refl;
     }
 
 pub returns-clause-cut_at_once : goal.returns-clause-cut_at_once
 unfolding csv_on_literals digits
-returns-clause-cut_at_once c = record { outcomes = []; each = refl; stops = tt; wrote = Nothing refl refl }
+returns-clause-cut_at_once c =
+    record { outcomes = []; each = refl; stops = tt; wrote = Before_next (λ e. absurd cc) refl refl }
 
 pub returns-clause-stopped_in_file : goal.returns-clause-stopped_in_file
 unfolding csv_on_literals

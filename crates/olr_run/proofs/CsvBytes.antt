@@ -1,0 +1,145 @@
+-- What one byte does to a record, and that a byte order mark is left out.
+use Rattle.std.proofs.Common.{◌≡◌, ◌≤◌, ◌<◌, ◌+◌, ◌-◌, ◌++◌, ℕ, List, [], ◌∷◌, Some, None, true, false, refl}
+use Rattle.std.proofs.Common.{length, take, drop, get_or, sym, ap, ◌∙◌, arith, append_assoc, append-nil}
+use Rattle.std.proofs.Common.{length-drop, get_or-drop, drop-cons, add-one}
+use Rattle.std.proofs.lemmas.List.{take_more}
+use Rattle.std.proofs.Math.Seq.{drop-length, take-length}
+use Rattle.std.proofs.Math.ListN.{drop_of_length-le}
+use Rattle.csv.specs.Machine.{next_record, step, ends_at_end}
+use Rattle.csv.specs.Reading.{default_config, is_bom, strip_bom}
+use Rattle.csv.specs.declared.parser.Action.{Action as CsvAction}
+use Rattle.csv.specs.declared.parser.Action.TheVariants as act
+use Rattle.csv.specs.declared.parser.State.{State}
+use Rattle.csv.specs.declared.parser.State.TheVariants.{StartRecord}
+use Rattle.olr_run.specs.InMemory.{csv_state, csv_action, csv_step}
+use Rattle.olr_run.specs.declared.in_memory.Action.{Action}
+use Rattle.olr_run.specs.declared.in_memory.State.{State as Here}
+
+-- what a byte does, by the state and the action after it
+pub did : (r : Here × Action) (a : Action) (x : State × CsvAction) → csv_step r ≡ x → r.1 ≡ a →
+    x ≡ (csv_state r.0, csv_action a)
+did r a x e h = sym e ∙ ap (λ (k : Action). (csv_state r.0, csv_action k)) h
+
+-- what a byte does to a record
+pub of_copy : (s t : State) (f : List (List ℕ)) (p rest : List ℕ) (c : ℕ) → step default_config s c ≡ (t, act.Copy) →
+    next_record default_config s f p (c ∷ rest) ≡ next_record default_config t f (p ++ c ∷ []) rest
+unfolding next_record
+of_copy s t f p rest c e = rw e refl
+
+pub of_skip : (s t : State) (f : List (List ℕ)) (p rest : List ℕ) (c : ℕ) → step default_config s c ≡ (t, act.Skip) →
+    next_record default_config s f p (c ∷ rest) ≡ next_record default_config t f p rest
+unfolding next_record
+of_skip s t f p rest c e = rw e refl
+
+pub of_end_field : (s t : State) (f : List (List ℕ)) (p rest : List ℕ) (c : ℕ) →
+    step default_config s c ≡ (t, act.EndField) →
+    next_record default_config s f p (c ∷ rest) ≡ next_record default_config t (f ++ p ∷ []) [] rest
+unfolding next_record
+of_end_field s t f p rest c e = rw e refl
+
+pub of_end_record : (s t : State) (f : List (List ℕ)) (p rest : List ℕ) (c : ℕ) →
+    step default_config s c ≡ (t, act.EndRecord) →
+    next_record default_config s f p (c ∷ rest) ≡ Some (f ++ p ∷ [], t, rest)
+unfolding next_record
+of_end_record s t f p rest c e = rw e refl
+
+-- the bytes from a place on, by the first of them
+at : (text : List ℕ) (i : ℕ) → i < length text → drop i text ≡ get_or text i 0 ∷ drop (i + 1) text
+at text i low = drop-cons text i 0 low ∙ ap (λ (k : ℕ). get_or text i 0 ∷ drop k text) (sym (add-one i))
+
+-- a part of a text, one byte longer
+longer : (text : List ℕ) (start i : ℕ) → start ≤ i → i < length text →
+    take (i + 1 - start) (drop start text) ≡ take (i - start) (drop start text) ++ get_or text i 0 ∷ []
+longer text start i from low =
+    let one : i + 1 - start ≡ (i - start) + 1 = omega arith in
+    let there : start + (i - start) ≡ i = omega arith in
+    let within : i - start < length (drop start text) = omega (arith, length-drop start text) in
+    ap (λ (n : ℕ). take n (drop start text)) one ∙ take_more (drop start text) (i - start) 0 within
+    ∙ ap (λ (b : ℕ). take (i - start) (drop start text) ++ b ∷ [])
+    (get_or-drop start text (i - start) 0 ∙ ap (λ (k : ℕ). get_or text k 0) there)
+
+empty : (text : List ℕ) (i : ℕ) → take (i + 1 - (i + 1)) (drop (i + 1) text) ≡ []
+empty text i =
+    let zero : i + 1 - (i + 1) ≡ 0 = omega arith in ap (λ (n : ℕ). take n (drop (i + 1) text)) zero
+
+-- what the loop of bytes does with the byte at a place, after which the field has these bytes and those from `start` on
+pub copied : (s t : State) (f : List (List ℕ)) (field text : List ℕ) (start i : ℕ) → start ≤ i → i < length text →
+    step default_config s (get_or text i 0) ≡ (t, act.Copy) →
+    next_record default_config s f (field ++ take (i - start) (drop start text)) (drop i text)
+    ≡ next_record default_config t f (field ++ take (i + 1 - start) (drop start text)) (drop (i + 1) text)
+copied s t f field text start i from low e =
+    let part = take (i - start) (drop start text) in
+    let bytes : (field ++ part) ++ get_or text i 0 ∷ [] ≡ field ++ take (i + 1 - start) (drop start text) =
+    append_assoc field part (get_or text i 0 ∷ [])
+    ∙ ap (λ (xs : List ℕ). field ++ xs) (sym (longer text start i from low)) in
+    ap (λ (xs : List ℕ). next_record default_config s f (field ++ part) xs) (at text i low)
+    ∙ of_copy s t f (field ++ part) (drop (i + 1) text) (get_or text i 0) e
+    ∙ ap (λ (xs : List ℕ). next_record default_config t f xs (drop (i + 1) text)) bytes
+
+pub skipped : (s t : State) (f : List (List ℕ)) (field p text : List ℕ) (i : ℕ) → i < length text → field ≡ p →
+    step default_config s (get_or text i 0) ≡ (t, act.Skip) →
+    next_record default_config s f p (drop i text)
+    ≡ next_record default_config t f (field ++ take (i + 1 - (i + 1)) (drop (i + 1) text)) (drop (i + 1) text)
+skipped s t f field p text i low same e =
+    ap (λ (xs : List ℕ). next_record default_config s f p xs) (at text i low)
+    ∙ of_skip s t f p (drop (i + 1) text) (get_or text i 0) e
+    ∙ ap (λ (xs : List ℕ). next_record default_config t f xs (drop (i + 1) text))
+    (sym same ∙ sym (append-nil field) ∙ ap (λ (xs : List ℕ). field ++ xs) (sym (empty text i)))
+
+pub field_ended : (s t : State) (f g : List (List ℕ)) (field p text : List ℕ) (i : ℕ) → i < length text → field ≡ [] →
+    g ≡ f ++ p ∷ [] → step default_config s (get_or text i 0) ≡ (t, act.EndField) →
+    next_record default_config s f p (drop i text)
+    ≡ next_record default_config t g (field ++ take (i + 1 - (i + 1)) (drop (i + 1) text)) (drop (i + 1) text)
+field_ended s t f g field p text i low none more e =
+    ap (λ (xs : List ℕ). next_record default_config s f p xs) (at text i low)
+    ∙ of_end_field s t f p (drop (i + 1) text) (get_or text i 0) e
+    ∙ ap (λ (fs : List (List ℕ)). next_record default_config t fs [] (drop (i + 1) text)) (sym more)
+    ∙ ap (λ (xs : List ℕ). next_record default_config t g xs (drop (i + 1) text))
+    (sym (ap (λ (xs : List ℕ). field ++ xs) (empty text i) ∙ append-nil field ∙ none))
+
+pub record_ended : (s t : State) (f g : List (List ℕ)) (p text : List ℕ) (i : ℕ) → i < length text →
+    g ≡ f ++ p ∷ [] → step default_config s (get_or text i 0) ≡ (t, act.EndRecord) →
+    next_record default_config s f p (drop i text) ≡ Some (g, t, drop (i + 1) text)
+record_ended s t f g p text i low more e =
+    ap (λ (xs : List ℕ). next_record default_config s f p xs) (at text i low)
+    ∙ of_end_record s t f p (drop (i + 1) text) (get_or text i 0) e
+    ∙ ap (λ (fs : List (List ℕ)). Some (fs, t, drop (i + 1) text)) (sym more)
+
+-- the end of the text
+pub text_ended : (s : State) (f g : List (List ℕ)) (p text : List ℕ) (i : ℕ) → length text ≤ i → g ≡ f ++ p ∷ [] →
+    ends_at_end s ≡ true → next_record default_config s f p (drop i text)
+    ≡ Some (g, StartRecord, drop (length text) text)
+unfolding next_record
+text_ended s f g p text i high more ends =
+    rw (drop_of_length-le text {i = i} high, drop-length text, more, ends) refl
+
+pub none_left : (s : State) (f : List (List ℕ)) (p text : List ℕ) (i : ℕ) → length text ≤ i → ends_at_end s ≡ false →
+    next_record default_config s f p (drop i text) ≡ None
+unfolding next_record
+none_left s f p text i high ends = rw (drop_of_length-le text {i = i} high, ends) refl
+
+-- ---- byte order marks
+
+pub no_mark_in_few : (xs : List ℕ) → length xs < 3 → xs ≡ strip_bom xs
+unfolding strip_bom
+no_mark_in_few [] few = refl
+no_mark_in_few (a ∷ []) few = refl
+no_mark_in_few (a ∷ b ∷ []) few = refl
+no_mark_in_few (a ∷ b ∷ c ∷ rest) few = absurd (omega arith)
+
+pub mark_goes : (xs : List ℕ) → 3 ≤ length xs → is_bom (get_or xs 0 0) (get_or xs 1 0) (get_or xs 2 0) ≡ true →
+    take (length xs - 3) (drop 3 xs) ≡ strip_bom xs
+unfolding strip_bom
+mark_goes [] many e = absurd (omega arith)
+mark_goes (a ∷ []) many e = absurd (omega arith)
+mark_goes (a ∷ b ∷ []) many e = absurd (omega arith)
+mark_goes (a ∷ b ∷ c ∷ rest) many e =
+    let left : length (a ∷ b ∷ c ∷ rest) - 3 ≡ length rest = omega arith in
+    rw e (ap (λ (n : ℕ). take n rest) left ∙ take-length rest)
+
+pub no_mark : (xs : List ℕ) → is_bom (get_or xs 0 0) (get_or xs 1 0) (get_or xs 2 0) ≡ false → xs ≡ strip_bom xs
+unfolding strip_bom
+no_mark [] e = refl
+no_mark (a ∷ []) e = refl
+no_mark (a ∷ b ∷ []) e = refl
+no_mark (a ∷ b ∷ c ∷ rest) e = rw e refl

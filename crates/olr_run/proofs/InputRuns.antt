@@ -1,0 +1,402 @@
+-- Runs over an input of known bytes, by the history of their session.
+use Rattle.std.proofs.Common.{◌≡◌, ◌≢◌, ◌∙◌, ◌+◌, ◌<◌, ℕ, Bool, true, false, List, [], ◌∷◌, ◌++◌, length, map}
+use Rattle.std.proofs.Common.{option_map, None, Some, inl, inr, refl, sym, ap, subst, arith, length-append}
+use Rattle.std.proofs.lemmas.List.{append-nil, append_assoc, length-map}
+use Rattle.std.specs.Io.KnownBytes.{Appends}
+use Rattle.std.proofs.KnownBytes.{Appends-nil, Appends-trans}
+use Rattle.csv.specs.Machine.{next_record}
+use Rattle.csv.specs.Reading.{Reached, ReadRecord, default_config, reader_config, reader_trim, reader_state}
+use Rattle.csv.specs.Reading.{is_flexible, names_headers, reader_headers, source_of, strip_bom}
+use Rattle.csv.specs.declared.reader.Trim.TheVariants as trim
+use Rattle.csv.specs.declared.reader.Reader.{Reader}
+use Rattle.csv.proofs.ReadFacts.{rows-more, rows-end}
+use Rattle.csv.specs.declared.parser.State.TheVariants as st
+use Rattle.olr_commands.specs.Reply.{Outcome}
+use Rattle.olr_commands.specs.State.{IsContent, State}
+use Rattle.olr_commands.proofs.HistoryLemmas.{run_longer}
+use Rattle.olr_records.specs.Records.{Field}
+use Rattle.olr_records.specs.ReplyText.{outcome_text}
+use Rattle.olr_register.specs.Registered.{Registered}
+use Rattle.olr_run.specs.Output.{SoundOutcome, SoundOutcomes, Claims, texts, Ran, Faulted, records_of, most_records}
+use Rattle.olr_run.specs.Output as output
+use Rattle.olr_run.specs.Sessions.{Known, Event, Took, Ended, Not_taken, Cut, History, exchanges, IsPlain}
+use Rattle.olr_run.specs.Sessions.{CsvHappens, IsOfTaking}
+use Rattle.olr_run.specs.Runs.{known_records, RanOn, FaultedOn, HasTooMany, RanIn, CutIn, In_taking, Past_the_most}
+use Rattle.olr_run.specs.Runs.{No_text, In_text, AnsweredOn, status_of}
+use Rattle.olr_run.specs.declared.ends.Status.{Status}
+use Rattle.olr_run.specs.declared.ends.Status.TheVariants as ended
+use Rattle.olr_run.specs.declared.ends.RunFault.{RunFault}
+use Rattle.olr_run.specs.declared.ends.RunFault.TheVariants as fault
+use Rattle.olr_run.proofs.RecordLemmas.{first_records}
+use Rattle.olr_run.proofs.RunLemmas.{claims_of}
+use Rattle.olr_run.proofs.Running.{standing}
+use Rattle.olr_run.proofs.Joining.{stopped_is}
+
+-- ---- texts
+
+pub joined : List (List ℕ) → List ℕ
+joined [] = []
+joined (w ∷ ws) = w ++ joined ws
+
+joined_texts : (os : List Outcome) → joined (map outcome_text os) ≡ texts os
+unfolding joined
+joined_texts [] = refl
+joined_texts (o ∷ os) = ap (λ (xs : List ℕ). outcome_text o ++ xs) (joined_texts os)
+
+joined_more : (ws : List (List ℕ)) (front : List ℕ) → joined (ws ++ front ∷ []) ≡ joined ws ++ front
+unfolding joined
+joined_more [] front = append-nil front
+joined_more (w ∷ ws) front = ap (λ (xs : List ℕ). w ++ xs) (joined_more ws front) ∙ sym (append_assoc w (joined ws) front)
+
+-- the outcome of the last text
+last_of : (os : List Outcome) (ws : List (List ℕ)) (w : List ℕ) → map outcome_text os ≡ ws ++ w ∷ [] →
+    (before : List Outcome) × (last : Outcome) × (os ≡ before ++ last ∷ []) × (map outcome_text before ≡ ws)
+    × (outcome_text last ≡ w)
+last_of [] [] w e = absurd cc
+last_of [] (x ∷ ws) w e = absurd cc
+last_of (o ∷ []) [] w e = ([], o, refl, refl, cc)
+last_of (o ∷ p ∷ os) [] w e = absurd cc
+last_of (o ∷ os) (x ∷ ws) w e =
+    let r = last_of os ws w cc in
+    (o ∷ r.0, r.1, ap (λ (zs : List Outcome). o ∷ zs) r.2, (let h : outcome_text o ≡ x = cc in λ i. h i ∷ r.3 i), r.4)
+
+-- ---- records of the bytes
+
+abbrev pub OfReader : {R W : Type 0} → (R → Known) → (W → Known) → Reader R × W → Event → Reader R × W → Type 0
+OfReader remaining contents a e b = CsvHappens remaining a.0 b.0 (contents a.1) (contents b.1) e
+
+-- the later reader has read these records after those that the earlier one had read
+abbrev Follows : {R : Type 0} → (R → Known) → Reader R → List (List Field) → Reader R → Type 0
+Follows remaining a rs b =
+    (input : List ℕ) (records : List (List Field)) (left : List ℕ) → source_of remaining a ≡ Some left →
+    Reached default_config st.StartRecord (strip_bom input) records (reader_state a) left
+    → (z : List ℕ) × (source_of remaining b ≡ Some z)
+    × Reached default_config st.StartRecord (strip_bom input) (records ++ rs) (reader_state b) z
+
+follows_none : {R : Type 0} (remaining : R → Known) (a : Reader R) → Follows remaining a [] a
+follows_none remaining a input records left source h = (
+  left,
+  source,
+  subst (λ (rs : List (List Field)). Reached default_config st.StartRecord (strip_bom input) rs (reader_state a) left)
+      (sym (append-nil records)) h,
+)
+
+follows_one : {R : Type 0} (remaining : R → Known) (a b : Reader R) (r : List Field) → IsPlain a →
+    ReadRecord remaining a b true r → Follows remaining a (r ∷ []) b
+follows_one remaining a b r plain read input records left source h =
+    rows-more remaining a b r default_config st.StartRecord (strip_bom input) left records plain.config source h read
+
+follows_join : {R : Type 0} (remaining : R → Known) (a b c : Reader R) (rs ms : List (List Field)) →
+    Follows remaining a rs b → Follows remaining b ms c → Follows remaining a (rs ++ ms) c
+follows_join remaining a b c rs ms h k input records left source reached =
+    let p = h input records left source reached in
+    let q = k input (records ++ rs) p.0 p.1 p.2 in (
+      q.0,
+      q.1,
+      subst (λ (xs : List (List Field)). Reached default_config st.StartRecord (strip_bom input) xs (reader_state c) q.0)
+          (append_assoc records rs ms) q.2,
+    )
+
+-- after these exchanges comes what is left of the history
+pub record Exchanged {R W : Type 0} (remaining : R → Known) (contents : W → Known) (a : Reader R × W)
+    (rs : List (List Field)) (ws : List (List ℕ)) (es : List Event) (b : Reader R × W) : Type 0 where
+  pub mid : Reader R × W
+  pub plain : IsPlain mid.0
+  pub wrote : Appends (contents a.1) (contents mid.1) (joined ws)
+  pub read : Follows remaining a.0 rs mid.0
+  pub rest : History (OfReader remaining contents) mid es b
+
+exchanged : {R W : Type 0} (remaining : R → Known) (contents : W → Known) (a b : Reader R × W) (rs : List (List Field))
+    (ws : List (List ℕ)) (es : List Event) → length ws ≡ length rs → IsPlain a.0
+    → History (OfReader remaining contents) a (exchanges rs ws ++ es) b → Exchanged remaining contents a rs ws es b
+unfolding joined
+exchanged remaining contents a b [] [] es l plain h =
+    record {
+      mid = a;
+      plain = plain;
+      wrote = Appends-nil (contents a.1);
+      read = follows_none remaining a.0;
+      rest = h;
+    }
+exchanged remaining contents a b [] (w ∷ ws) es l plain h = absurd (omega arith)
+exchanged remaining contents a b (r ∷ rs) [] es l plain h = absurd (omega arith)
+exchanged remaining contents a b (r ∷ rs) (w ∷ ws) es l plain h =
+    let one = h.1.0 plain in
+    let same : h.2.0.0 ≡ h.0.0 = h.2.1.0 in
+    let wrote : Appends (contents a.1) (contents h.2.0.1) w =
+    subst (λ (x : Known). Appends x (contents h.2.0.1) w) h.1.1 h.2.1.1 in
+    let read : Follows remaining a.0 (r ∷ []) h.2.0.0 =
+    subst (Follows remaining a.0 (r ∷ [])) (sym same) (follows_one remaining a.0 h.0.0 r plain one.1) in
+    let next =
+    exchanged remaining contents h.2.0 b rs ws es (omega arith) (subst (λ (x : Reader _). IsPlain x) (sym same) one.0) h.2.2
+    in
+    record {
+      mid = next.mid;
+      plain = next.plain;
+      wrote = Appends-trans (contents a.1) (contents h.2.0.1) (contents next.mid.1) w (joined ws) wrote next.wrote;
+      read = follows_join remaining a.0 h.2.0.0 next.mid.0 (r ∷ []) rs read next.read;
+      rest = next.rest;
+    }
+
+-- what the reader of an input has before its first record
+pub record Starts {R : Type 0} (remaining : R → Known) (a : Reader R) (known : Known) : Type 0 where
+  pub plain : IsPlain a
+  pub state : reader_state a ≡ st.StartRecord
+  pub source : source_of remaining a ≡ option_map strip_bom known
+
+pub starts_with : {R : Type 0} (remaining : R → Known) (r : Reader R) (known : Known) → reader_config r ≡ default_config
+    → reader_trim r ≡ trim.None → is_flexible r ≡ true → names_headers r ≡ false → reader_headers r ≡ None
+    → reader_state r ≡ st.StartRecord → source_of remaining r ≡ option_map strip_bom known → Starts remaining r known
+starts_with remaining r known config trim flexible names headers state source =
+    record {
+      plain = record { config = config; trim = trim; flexible = flexible; ready = inr (inr (names, headers)) };
+      state = state;
+      source = source;
+    }
+
+-- these records are the first of the input
+first_of : {R : Type 0} (remaining : R → Known) (a b : Reader R) (input : List ℕ) (rs : List (List Field)) →
+    Starts remaining a (Some input) → Follows remaining a rs b
+    → (z : List ℕ) × (rest : List (List Field)) × (source_of remaining b ≡ Some z)
+    × (records_of input ≡ rs ++ rest) × (next_record default_config (reader_state b) [] [] z ≡ None → rest ≡ [])
+unfolding Reached
+first_of remaining a b input rs starts h =
+    let start : Reached default_config st.StartRecord (strip_bom input) [] (reader_state a) (strip_bom input) =
+    (sym starts.state, refl) in
+    let r = h input [] (strip_bom input) starts.source start in
+    let all = first_records input rs (reader_state b) r.0 r.2 in (r.0, all.0, r.1, all.1, all.2)
+
+-- ---- runs
+
+longer : (s t : State) (rs rest all : List (List Field)) (os : List Outcome) → IsContent s.content → all ≡ rs ++ rest →
+    Claims s rs os t → Claims s all os t
+longer s t rs rest all os sound e h =
+    claims_of s all os t sound
+    (subst (λ (xs : List (List Field)). SoundOutcomes s xs os t) (sym e) (run_longer SoundOutcome s t rs rest os h.run))
+
+written_is : (before later : Known) (ws : List (List ℕ)) (os : List Outcome) → map outcome_text os ≡ ws →
+    Appends before later (joined ws) → Appends before later (texts os)
+written_is before later ws os e h =
+    subst (Appends before later) (ap joined (sym e) ∙ joined_texts os) h
+
+all_answered : (ws : List (List ℕ)) (os : List Outcome) (rs : List (List Field)) → map outcome_text os ≡ ws →
+    length ws ≡ length rs → length os ≡ length rs
+all_answered ws os rs e l = sym (length-map os outcome_text) ∙ ap length e ∙ l
+
+-- the end of a run in which no record of the input is left
+ended_whole : {R W : Type 0} (remaining : R → Known) (contents : W → Known) (stop : Bool) (old new : Registered)
+    (a b : Reader R × W) (input : List ℕ) (end : Status) (rs : List (List Field)) (ws : List (List ℕ))
+    → IsContent old.kept.content → Starts remaining a.0 (Some input) → length ws ≡ length rs
+    → Exchanged remaining contents a rs ws (Ended ∷ []) b
+    → AnsweredOn stop (λ os. status_of end ≡ output.run_status stop os) old rs ws new
+    → RanOn Claims stop old (Some (records_of input)) (contents a.1) new (contents b.1) end
+ended_whole remaining contents stop old new a b input end rs ws base starts l x answered s stands =
+    let f = first_of remaining a.0 x.mid.0 input rs starts x.read in
+    let h = answered s stands in
+    let sound = standing old s base stands in
+    let none =
+    rows-end remaining x.mid.0 x.rest.0.0 x.rest.1.0.0 default_config f.0 x.plain.config f.2
+    ((x.rest.1.0.1 x.plain).1) in
+    let rows_are : records_of input ≡ rs =
+    f.3 ∙ ap (λ (ms : List (List Field)). rs ++ ms) (f.4 none) ∙ append-nil rs in
+    let later : contents b.1 ≡ contents x.mid.1 = ap (λ (p : Reader _ × _). contents p.1) (sym x.rest.2) ∙ x.rest.1.1 in (
+      h.0,
+      h.1,
+      texts h.2,
+      subst (λ (k : Known). Appends (contents a.1) k (texts h.2)) (sym later)
+          (written_is (contents a.1) (contents x.mid.1) ws h.2 h.4 x.wrote),
+      record {
+        outcomes = h.2;
+        each = longer s h.0 rs f.1 (records_of input) h.2 sound f.3 h.3;
+        stops = h.5;
+        all = inl (all_answered ws h.2 rs h.4 l ∙ ap length (sym rows_are));
+        wrote = refl;
+        ended = h.6;
+      },
+    )
+
+ended_stopped : {R W : Type 0} (remaining : R → Known) (contents : W → Known) (stop : Bool) (old new : Registered)
+    (a b : Reader R × W) (input : List ℕ) (rs : List (List Field)) (ws : List (List ℕ)) → IsContent old.kept.content
+    → Starts remaining a.0 (Some input) → Exchanged remaining contents a rs ws [] b
+    → AnsweredOn stop (λ os. output.Stopped ≡ output.run_status stop os) old rs ws new
+    → RanOn Claims stop old (Some (records_of input)) (contents a.1) new (contents b.1) ended.Stopped
+ended_stopped remaining contents stop old new a b input rs ws base starts x answered s stands =
+    let f = first_of remaining a.0 x.mid.0 input rs starts x.read in
+    let h = answered s stands in
+    let sound = standing old s base stands in
+    let later : contents b.1 ≡ contents x.mid.1 = ap (λ (p : Reader _ × _). contents p.1) (sym x.rest) in (
+      h.0,
+      h.1,
+      texts h.2,
+      subst (λ (k : Known). Appends (contents a.1) k (texts h.2)) (sym later)
+          (written_is (contents a.1) (contents x.mid.1) ws h.2 h.4 x.wrote),
+      record {
+        outcomes = h.2;
+        each = longer s h.0 rs f.1 (records_of input) h.2 sound f.3 h.3;
+        stops = h.5;
+        all = inr (stopped_is stop (output.any_refused h.2) h.6);
+        wrote = refl;
+        ended = h.6;
+      },
+    )
+
+pub ran_on : {R W : Type 0} (remaining : R → Known) (contents : W → Known) (stop : Bool) (old new : Registered)
+    (a b : Reader R × W) (known : Known) (end : Status) → IsContent old.kept.content → Starts remaining a.0 known
+    → RanIn (OfReader remaining contents) stop old a new b end
+    → RanOn Claims stop old (known_records known) (contents a.1) new (contents b.1) end
+ran_on remaining contents stop old new a b None end base starts h = tt
+ran_on remaining contents stop old new a b (Some input) ended.Stopped base starts h =
+    ended_stopped remaining contents stop old new a b input h.records h.texts base starts
+    (exchanged remaining contents a b h.records h.texts [] h.each starts.plain h.history) h.answered
+ran_on remaining contents stop old new a b (Some input) ended.AllAccepted base starts h =
+    ended_whole remaining contents stop old new a b input ended.AllAccepted h.records h.texts base starts h.each
+    (exchanged remaining contents a b h.records h.texts (Ended ∷ []) h.each starts.plain h.history) h.answered
+ran_on remaining contents stop old new a b (Some input) ended.SomeRefused base starts h =
+    ended_whole remaining contents stop old new a b input ended.SomeRefused h.records h.texts base starts h.each
+    (exchanged remaining contents a b h.records h.texts (Ended ∷ []) h.each starts.plain h.history) h.answered
+
+-- ---- runs that were cut off
+
+not_writing : (e : RunFault) → IsOfTaking e → e ≢ fault.Write
+not_writing fault.Read h = λ e. cc
+not_writing fault.Memory h = λ e. cc
+not_writing fault.Write h = absurd h
+not_writing fault.TooMany h = absurd h
+
+-- one record more was taken
+record TakenOne {R W : Type 0} (remaining : R → Known) (contents : W → Known) (a : Reader R × W)
+    (rs : List (List Field)) (r : List Field) (ws : List (List ℕ)) (es : List Event) (b : Reader R × W) : Type 0 where
+  mid : Reader R × W
+  wrote : Appends (contents a.1) (contents mid.1) (joined ws)
+  read : Follows remaining a.0 (rs ++ r ∷ []) mid.0
+  rest : History (OfReader remaining contents) mid es b
+
+taken_one : {R W : Type 0} (remaining : R → Known) (contents : W → Known) (a b : Reader R × W) (rs : List (List Field))
+    (r : List Field) (ws : List (List ℕ)) (es : List Event) → Exchanged remaining contents a rs ws (Took r ∷ es) b
+    → TakenOne remaining contents a rs r ws es b
+taken_one remaining contents a b rs r ws es x =
+    let one = x.rest.1.0 x.plain in
+    record {
+      mid = x.rest.0;
+      wrote = subst (λ (k : Known). Appends (contents a.1) k (joined ws)) (sym x.rest.1.1) x.wrote;
+      read =
+          follows_join remaining a.0 x.mid.0 x.rest.0.0 rs (r ∷ []) x.read
+          (follows_one remaining x.mid.0 x.rest.0.0 r x.plain one.1);
+      rest = x.rest.2;
+    }
+
+pub cut_on : {R W : Type 0} (remaining : R → Known) (contents : W → Known) (stop : Bool) (old new : Registered)
+    (a b : Reader R × W) (known : Known) (e : RunFault) → IsContent old.kept.content → Starts remaining a.0 known
+    → CutIn (OfReader remaining contents) stop old a new b e
+    → FaultedOn Claims stop old (known_records known) (contents a.1) new (contents b.1) e
+cut_on remaining contents stop old new a b None e base starts h = tt
+cut_on remaining contents stop old new a b (Some input) e base starts (In_taking of rs ws l history answered) =
+    λ s stands.
+    let x = exchanged remaining contents a b rs ws (Not_taken e ∷ []) l starts.plain history in
+    let f = first_of remaining a.0 x.mid.0 input rs starts x.read in
+    let h = answered s stands in
+    let sound = standing old s base stands in
+    let later : contents b.1 ≡ contents x.mid.1 = ap (λ (p : Reader _ × _). contents p.1) (sym x.rest.2) ∙ x.rest.1.1 in (
+      h.0,
+      h.1,
+      texts h.2,
+      subst (λ (k : Known). Appends (contents a.1) k (texts h.2)) (sym later)
+          (written_is (contents a.1) (contents x.mid.1) ws h.2 h.4 x.wrote),
+      record {
+        outcomes = h.2;
+        each = longer s h.0 rs f.1 (records_of input) h.2 sound f.3 h.3;
+        stops = h.5;
+        wrote = output.Before_next (not_writing e of) h.6 refl;
+      },
+    )
+cut_on remaining contents stop old new a b (Some input) e base starts (Past_the_most is rs ws l most r history answered)
+    =
+    λ s stands.
+    let x = exchanged remaining contents a b rs ws (Took r ∷ []) l starts.plain history in
+    let f = first_of remaining a.0 x.mid.0 input rs starts x.read in
+    let h = answered s stands in
+    let sound = standing old s base stands in
+    let later : contents b.1 ≡ contents x.mid.1 = ap (λ (p : Reader _ × _). contents p.1) (sym x.rest.2) ∙ x.rest.1.1 in (
+      h.0,
+      h.1,
+      texts h.2,
+      subst (λ (k : Known). Appends (contents a.1) k (texts h.2)) (sym later)
+          (written_is (contents a.1) (contents x.mid.1) ws h.2 h.4 x.wrote),
+      record {
+        outcomes = h.2;
+        each = longer s h.0 rs f.1 (records_of input) h.2 sound f.3 h.3;
+        stops = h.5;
+        wrote = output.Before_next (λ write. let never : fault.TooMany ≡ fault.Write = sym is ∙ write in cc) h.6 refl;
+      },
+    )
+cut_on remaining contents stop old new a b (Some input) e base starts (No_text is rs ws l r w history answered) =
+    λ s stands.
+    let x =
+    taken_one remaining contents a b rs r ws [] (exchanged remaining contents a b rs ws (Took r ∷ []) l starts.plain
+    history) in
+    let f = first_of remaining a.0 x.mid.0 input (rs ++ r ∷ []) starts x.read in
+    let h = answered s stands in
+    let sound = standing old s base stands in
+    let o = last_of h.2 ws w h.4 in
+    let later : contents b.1 ≡ contents x.mid.1 = ap (λ (p : Reader _ × _). contents p.1) (sym x.rest) in (
+      h.0,
+      h.1,
+      texts o.0,
+      subst (λ (k : Known). Appends (contents a.1) k (texts o.0)) (sym later)
+          (written_is (contents a.1) (contents x.mid.1) ws o.0 o.3 x.wrote),
+      record {
+        outcomes = h.2;
+        each = longer s h.0 (rs ++ r ∷ []) f.1 (records_of input) h.2 sound f.3 h.3;
+        stops = h.5;
+        wrote = output.No_text is o.0 o.1 o.2 refl;
+      },
+    )
+cut_on remaining contents stop old new a b (Some input) e base starts (In_text is rs ws l r front rest some history
+    answered) =
+    λ s stands.
+    let x =
+    taken_one remaining contents a b rs r ws (Cut front ∷ []) (exchanged remaining contents a b rs ws
+    (Took r ∷ Cut front ∷ []) l starts.plain history) in
+    let f = first_of remaining a.0 x.mid.0 input (rs ++ r ∷ []) starts x.read in
+    let h = answered s stands in
+    let sound = standing old s base stands in
+    let o = last_of h.2 ws (front ++ rest) h.4 in
+    let later : contents b.1 ≡ contents x.rest.0.1 = ap (λ (p : Reader _ × _). contents p.1) (sym x.rest.2) in (
+      h.0,
+      h.1,
+      texts o.0 ++ front,
+      subst (λ (k : Known). Appends (contents a.1) k (texts o.0 ++ front)) (sym later)
+          (Appends-trans (contents a.1) (contents x.mid.1) (contents x.rest.0.1) (texts o.0) front
+          (written_is (contents a.1) (contents x.mid.1) ws o.0 o.3 x.wrote) x.rest.1.1),
+      record {
+        outcomes = h.2;
+        each = longer s h.0 (rs ++ r ∷ []) f.1 (records_of input) h.2 sound f.3 h.3;
+        stops = h.5;
+        wrote = output.In_last is o.0 o.1 front rest o.2 o.4 some refl;
+      },
+    )
+
+pub too_many : {R W : Type 0} (remaining : R → Known) (contents : W → Known) (stop : Bool) (old new : Registered)
+    (a b : Reader R × W) (known : Known) (e : RunFault) → Starts remaining a.0 known
+    → CutIn (OfReader remaining contents) stop old a new b e → e ≡ fault.TooMany → HasTooMany known
+too_many remaining contents stop old new a b None e starts h is = tt
+too_many remaining contents stop old new a b (Some input) e starts (In_taking of rs ws l history answered) is =
+    absurd (subst IsOfTaking is of)
+too_many remaining contents stop old new a b (Some input) e starts (Past_the_most _ rs ws l most r history answered) is
+    =
+    let x =
+    taken_one remaining contents a b rs r ws [] (exchanged remaining contents a b rs ws (Took r ∷ []) l starts.plain
+    history) in
+    let f = first_of remaining a.0 x.mid.0 input (rs ++ r ∷ []) starts x.read in
+    let size : length (records_of input) ≡ (length rs + 1) + length f.1 =
+    ap length f.3 ∙ length-append (rs ++ r ∷ []) f.1 ∙ ap (λ (k : ℕ). k + length f.1) (length-append rs (r ∷ [])) in
+    subst (λ (k : ℕ). most_records < k) (sym size)
+    (subst (λ (k : ℕ). most_records < (k + 1) + length f.1) (sym most) (above most_records (length f.1)))
+  where
+    above : (k m : ℕ) → k < (k + 1) + m
+    above k m = omega arith
+too_many remaining contents stop old new a b (Some input) e starts (No_text memory rs ws l r w history answered) is =
+    let never : fault.Memory ≡ fault.TooMany = sym memory ∙ is in absurd cc
+too_many remaining contents stop old new a b (Some input) e starts (In_text write rs ws l r front rest some history
+    answered) is =
+    let never : fault.Write ≡ fault.TooMany = sym write ∙ is in absurd cc

@@ -1,0 +1,33 @@
+-- Histories of sessions.
+use Rattle.std.proofs.Common.{◌≡◌, ◌∙◌, ℕ, true, false, List, [], ◌∷◌, ◌++◌, length, refl, sym, ap, subst, arith}
+use Rattle.csv.specs.Reading.{ExplainsRead, is_flexible, stops_reader}
+use Rattle.csv.specs.declared.reader.Reader.{Reader}
+use Rattle.csv.specs.declared.error.ErrorKind.{ErrorKind}
+use Rattle.csv.specs.declared.error.ErrorKind.TheVariants as kind
+use Rattle.olr_records.specs.Records.{Field}
+use Rattle.olr_run.specs.Sessions.{Known, Event, Took, Wrote, History, exchanges}
+
+-- where records may have any number of fields, a fault stops the reader
+pub stopped : {R : Type 0} (remaining : R → Known) (old new : Reader R) (k : ErrorKind) → is_flexible old ≡ true →
+    ExplainsRead remaining old new false k → stops_reader k ≡ true
+stopped remaining old new (kind.Io e) f h = refl
+stopped remaining old new kind.OutOfMemory f h = refl
+stopped remaining old new (kind.UnequalLengths pos expected len) f h =
+    absurd (let never : true ≡ false = sym f ∙ h.0 in cc)
+stopped remaining old new (kind.Utf8 pos err) f h = absurd (let never = h.0 in cc)
+stopped remaining old new (kind.Serialize why) f h = absurd h
+stopped remaining old new (kind.Deserialize pos err) f h = absurd h
+
+pub history_join : {S : Type 0} (happens : S → Event → S → Type 0) (a b c : S) (es fs : List Event) →
+    History happens a es b → History happens b fs c → History happens a (es ++ fs) c
+history_join {S} happens a b c [] fs h k = subst (λ (x : S). History happens x fs c) (sym h) k
+history_join happens a b c (e ∷ es) fs h k = (h.0, h.1, history_join happens h.0 b c es fs h.2 k)
+
+pub exchanges_more : (rs : List (List Field)) (texts : List (List ℕ)) (r : List Field) (text : List ℕ) →
+    length texts ≡ length rs → exchanges (rs ++ r ∷ []) (texts ++ text ∷ []) ≡ exchanges rs texts ++ Took r ∷ Wrote text
+    ∷ []
+exchanges_more [] [] r text l = refl
+exchanges_more [] (w ∷ texts) r text l = absurd (omega arith)
+exchanges_more (x ∷ rs) [] r text l = absurd (omega arith)
+exchanges_more (x ∷ rs) (w ∷ texts) r text l =
+    ap (λ (es : List Event). Took x ∷ Wrote w ∷ es) (exchanges_more rs texts r text (omega arith))

@@ -1,0 +1,53 @@
+-- Each end of a run, by the records so far.
+use Rattle.std.proofs.Common.{arith}
+use Rattle.csv.specs.Records.{fields_of}
+use Rattle.olr_run.proofs.Running.{so_far_none, accepted_so_far, refused_so_far, ran_whole, ran_stopped}
+use Rattle.olr_run.proofs.Running.{cut_in_taking, cut_past, cut_in_answer, passed_on}
+use Rattle.olr_run.proofs.records.run_within.Goals as goal
+
+pub records-init : goal.records-init
+records-init g c = (omega arith, so_far_none g.S.Session.happens _ _ _)
+
+pub returns-clause-ran : goal.returns-clause-ran
+returns-clause-ran g c =
+    ran_whole g.S.Session.happens _ _ _ _ _ _ _ _ c.is_sound.ensures c.records.invariant.1
+    (rw c.if-branch.false at c.in_ok-take.ensures)
+
+pub returns-in_err-take-clause-cut : goal.returns-in_err-take-clause-cut
+returns-in_err-take-clause-cut g c =
+    passed_on c.from_residual.result c.in_err-take.field-0.0 _ c.from_residual.ensures.1
+    (cut_in_taking g.S.Session.happens _ _ _ _ _ _ _ _ _ c.is_sound.ensures c.records.invariant.1
+    c.in_err-take.ensures)
+
+pub returns-then-answered-eq-MOST_RECORDS-clause-cut : goal.returns-then-answered-eq-MOST_RECORDS-clause-cut
+returns-then-answered-eq-MOST_RECORDS-clause-cut g c =
+    cut_past g.S.Session.happens _ _ _ _ _ _ _ _ (fields_of c.take.new.fields) c.is_sound.ensures
+    c.records.invariant.1 c.if-answered-eq-MOST_RECORDS.true (rw c.if-branch.true at c.in_ok-take.ensures)
+
+pub returns-in_err-tell-clause-cut : goal.returns-in_err-tell-clause-cut
+returns-in_err-tell-clause-cut g c =
+    passed_on c.from_residual-in_err-tell.result c.in_err-tell.field-0.0 _ c.from_residual-in_err-tell.ensures.1
+    (cut_in_answer g.S.Session.happens _ _ _ _ _ _ _ _ _ _ (fields_of c.take.new.fields) _ c.is_sound.ensures
+    c.records.invariant.1 (rw c.if-branch.true at c.in_ok-take.ensures) c.in_err-tell.ensures)
+
+pub returns-then-stop-clause-ran : goal.returns-then-stop-clause-ran
+returns-then-stop-clause-ran g c =
+    ran_stopped g.S.Session.happens _ _ _ _ _ _ _ _ _ (fields_of c.take.new.fields) _ c.in_ok-tell.field-0
+    c.is_sound.ensures c.if-not-branch.true c.if-stop.true c.records.invariant.1
+    (rw c.if-branch.true at c.in_ok-take.ensures) c.in_ok-tell.ensures
+
+pub records-preserved-then-not-branch : goal.records-preserved-then-not-branch
+records-preserved-then-not-branch g c = (
+  (let few = c.records.invariant.0 in omega arith),
+  refused_so_far g.S.Session.happens _ _ _ _ _ _ _ _ _ (fields_of c.take.new.fields) _ c.in_ok-tell.field-0
+      c.if-not-branch.true c.if-stop.false c.records.invariant.1 (rw c.if-branch.true at c.in_ok-take.ensures)
+      c.in_ok-tell.ensures,
+)
+
+pub records-preserved : goal.records-preserved
+records-preserved g c = (
+  (let few = c.records.invariant.0 in omega arith),
+  accepted_so_far g.S.Session.happens _ _ _ _ _ _ _ _ _ (fields_of c.take.new.fields) _ c.in_ok-tell.field-0
+      c.if-not-branch.false c.records.invariant.1 (rw c.if-branch.true at c.in_ok-take.ensures)
+      c.in_ok-tell.ensures,
+)
