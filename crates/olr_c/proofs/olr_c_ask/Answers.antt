@@ -1,0 +1,11 @@
+-- The register that is asked is the one that the handle had, and the one that it has again.
+use Rattle.std.proofs.Common.{ap, Some, ◌∙◌}
+use Rattle.olr_c.specs.declared.keep.Keep.{Keep}
+use Rattle.olr_c.proofs.Asking.{asked_of}
+use Rattle.olr_c.proofs.olr_c_ask.Goals as goal
+
+pub returns : goal.returns
+returns c =
+    asked_of c.args.handle.now.owned.keep c.put.result.owned.keep c.deref_mut.result.now c.ask-status.new.self
+    c.args.records.now c.ask-status.result
+    (ap (λ (k : Keep). Some k) c.deref_mut.ensures.value ∙ c.in-Some.ensures.value) c.put.ensures c.ask-status.ensures

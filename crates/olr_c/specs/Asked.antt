@@ -1,0 +1,33 @@
+-- What the calls of C do to a register.
+--     code_of end      the status that C is given for a run
+--     Asked old records new reply code      the records were carried out, and the reply is the texts of their outcomes; or
+--         memory ran out on the way, and it is a front of these texts
+--     AskedOf old records new code      the same of what a handle holds
+--     IsNew keep      a register of no map and no paths, with no reply
+use Rattle.std.specs.Prelude.{◌≡◌, ℕ, false, List, [], Option, Some, None, Result, Ok, Err, IfOk, IfErr, IsSomeAnd}
+use Rattle.olr_register.specs.Registered.{Registered, nothing_registered}
+use Rattle.olr_run.specs.Output.{Claims, records_of}
+use Rattle.olr_run.specs.Runs.{RanOn, FaultedOn}
+use Rattle.olr_run.specs.declared.ends.RunFault.{RunFault}
+use Rattle.olr_run.specs.declared.ends.Status.{Status}
+use Rattle.olr_run.specs.declared.ends.Status.TheVariants as status
+use Rattle.olr_c.specs.declared.keep.Keep.{Keep}
+
+abbrev pub code_of : Result Status RunFault → ℕ
+code_of (Ok status.AllAccepted) = 0
+code_of (Ok status.SomeRefused) = 1
+code_of (Ok status.Stopped) = 1
+code_of (Err fault) = 4
+
+abbrev pub Asked : Registered → List ℕ → Registered → List ℕ → ℕ → Type 0
+Asked old records new reply code =
+    (end : Result Status RunFault) × IfOk end (RanOn Claims false old (Some (records_of records)) (Some []) new (Some reply))
+    × IfErr end (FaultedOn Claims false old (Some (records_of records)) (Some []) new (Some reply)) × (code ≡ code_of end)
+
+abbrev pub AskedOf : Option Keep → List ℕ → Option Keep → ℕ → Type 0
+AskedOf None records new code = (code ≡ 2) × (new ≡ None)
+AskedOf (Some old) records new code =
+    IsSomeAnd new (λ k. Asked old.register records k.register k.reply.items code)
+
+abbrev pub IsNew : Keep → Type 0
+IsNew k = (k.register ≡ nothing_registered) × (k.reply.items ≡ [])
