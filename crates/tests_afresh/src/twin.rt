@@ -1,7 +1,7 @@
 //! A map and named paths that are changed by the same commands as a register, and encoded from nothing.
 
 use olr_commands::Command;
-use olr_map::{Edit, Footprint, LineId, NodeId, RoadMap, line_touched, nodes_touched};
+use olr_map::{Edit, Footprint, LineId, NodeId, RoadMap, judge};
 use olr_refs::{Encoding, Path, encode, refer};
 use olr_route::{Search, Work};
 use std::alloc::Global;
@@ -136,22 +136,19 @@ impl Twin {
     }
 
     fn edit(&mut self, edit: Edit) -> Result<bool, Fail> {
-        let nodes = nodes_touched(&self.roads, &edit);
-        let line = line_touched(&edit);
-        match self.roads.apply(edit) {
-            Ok(undo) => {
-                self.roads.keep(undo);
-                if let Some((from, to)) = nodes {
-                    self.nodes.push(from)?;
-                    self.nodes.push(to)?;
-                }
-                if let Some(line) = line {
-                    self.lines.push(line)?;
-                }
-                Ok(true)
-            }
-            Err(_) => Ok(false),
+        let judged = match judge(&self.roads, &edit) {
+            Ok(judged) => judged,
+            Err(_) => return Ok(false),
+        };
+        let undo = self.roads.make(edit, &judged)?;
+        self.roads.keep(undo);
+        let (from, to) = judged.nodes;
+        self.nodes.push(from)?;
+        self.nodes.push(to)?;
+        if let Some(line) = judged.line {
+            self.lines.push(line)?;
         }
+        Ok(true)
     }
 
     /// How many of this twin's paths the changes since `forget` concern, which found the map `before`.

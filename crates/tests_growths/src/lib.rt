@@ -1,5 +1,5 @@
-//! Tests that `checks/growths` runs with each growth refused in turn. After want of memory a map, a log beside it, a
-//! set of nodes and a register are as before, and the same call is then taken; and a path or a search gives the same as
+//! Tests that `checks/allocations` runs with each allocation failed in turn. If out of memory, a map, a log beside it, a
+//! set of nodes and a register are unchanged, and the same call then succeeds; a path or a search gives the same as
 //! without it.
 #![tactic(auto)]
 

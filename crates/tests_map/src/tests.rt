@@ -1,4 +1,4 @@
-//! Worked edits, with expected values by hand, and the two maps against each other.
+//! Worked edits, with expected values by hand, and edits made in one call against edits judged first.
 
 ghost use Rattle.std.specs.Prelude.{IsTrue};
 ghost use Rattle.olr_map.specs.RoadMaps.{CanUndoAll};
@@ -8,8 +8,8 @@ use made_maps::{
     shape,
 };
 use olr_map::{
-    Edit, EditFault, Footprint, Judged, Line, LineEnd, LineId, MapRead, NodeId, PlainMap, RoadMap,
-    UndoLog, judge, line_touched, nodes_touched,
+    Edit, EditFault, Footprint, Judged, Line, LineEnd, LineId, MapRead, NodeId, RoadMap, UndoLog,
+    judge,
 };
 use std::alloc::{AllocError, Global};
 use std::fmt::Debug;
@@ -79,17 +79,14 @@ fn assert_alike<M: MapRead, N: MapRead>(rt: &impl Abort, one: &M, other: &N) {
 }
 
 /// That the map refuses an edit with this fault, and is as before.
-fn assert_refused(rt: &impl Abort, alloc: Global, edit: Edit, number: u8, word: &str) {
+fn assert_refused(rt: &impl Abort, alloc: Global, edit: Edit, wanted: EditFault) {
     let mut map = base(rt, alloc);
     match map.apply(edit) {
         Ok(undo) => {
             map.undo(undo);
             panic!(rt; "an edit that is taken");
         }
-        Err(fault) => {
-            same(rt, fault.number(), number, "the number");
-            same(rt, fault.word(), word, "the word");
-        }
+        Err(fault) => same(rt, fault, wanted, "the fault"),
     }
     assert_alike(rt, &map, &base(rt, alloc));
 }
@@ -142,38 +139,39 @@ fn reads_the_base_map(rt: HostRuntime) {
 fn refuses_in_order(rt: HostRuntime) -> Result<(), Fail> {
     let alloc = rt.alloc();
     let here = place(0, 0);
-    assert_refused(&rt, alloc, Edit::AddNode(node(1), here), 3, "NodeExists");
-    assert_refused(&rt, alloc, Edit::MoveNode(node(9), here), 4, "NoNode");
-    assert_refused(&rt, alloc, Edit::DropNode(node(9)), 4, "NoNode");
-    assert_refused(&rt, alloc, Edit::DropNode(node(1)), 7, "NodeInUse");
-    assert_refused(&rt, alloc, Edit::DropNode(node(4)), 7, "NodeInUse");
+    assert_refused(
+        &rt,
+        alloc,
+        Edit::AddNode(node(1), here),
+        EditFault::NodeExists,
+    );
+    assert_refused(&rt, alloc, Edit::MoveNode(node(9), here), EditFault::NoNode);
+    assert_refused(&rt, alloc, Edit::DropNode(node(9)), EditFault::NoNode);
+    assert_refused(&rt, alloc, Edit::DropNode(node(1)), EditFault::NodeInUse);
+    assert_refused(&rt, alloc, Edit::DropNode(node(4)), EditFault::NodeInUse);
     assert_refused(
         &rt,
         alloc,
         new_line(&rt, alloc, (99, 2, 3, 3, 2, 1500, STRAIGHT)),
-        5,
-        "LineExists",
+        EditFault::LineExists,
     );
     assert_refused(
         &rt,
         alloc,
         new_line(&rt, alloc, (99, 9, 3, 3, 2, 0, STRAIGHT)),
-        5,
-        "LineExists",
+        EditFault::LineExists,
     );
     assert_refused(
         &rt,
         alloc,
         new_line(&rt, alloc, (98, 9, 3, 3, 2, 0, STRAIGHT)),
-        4,
-        "NoNode",
+        EditFault::NoNode,
     );
     assert_refused(
         &rt,
         alloc,
         new_line(&rt, alloc, (98, 3, 9, 3, 2, 1500, STRAIGHT)),
-        4,
-        "NoNode",
+        EditFault::NoNode,
     );
     assert_refused(
         &rt,
@@ -183,22 +181,19 @@ fn refuses_in_order(rt: HostRuntime) -> Result<(), Fail> {
             alloc,
             (98, 2, 3, 3, 2, 1500, &[(1500, 612_000, 4_960_000)]),
         ),
-        8,
-        "BadShape",
+        EditFault::BadShape,
     );
     assert_refused(
         &rt,
         alloc,
         other_line(&rt, alloc, 98, 0, STRAIGHT),
-        6,
-        "NoLine",
+        EditFault::NoLine,
     );
     assert_refused(
         &rt,
         alloc,
         other_line(&rt, alloc, 99, 0, STRAIGHT),
-        8,
-        "BadShape",
+        EditFault::BadShape,
     );
     assert_refused(
         &rt,
@@ -210,17 +205,15 @@ fn refuses_in_order(rt: HostRuntime) -> Result<(), Fail> {
             9,
             &[(3, 612_000, 4_960_000), (3, 612_000, 4_960_000)],
         ),
-        8,
-        "BadShape",
+        EditFault::BadShape,
     );
     assert_refused(
         &rt,
         alloc,
         other_line(&rt, alloc, 99, 9, &[(0, 612_000, 4_960_000)]),
-        8,
-        "BadShape",
+        EditFault::BadShape,
     );
-    assert_refused(&rt, alloc, Edit::DropLine(line(98)), 6, "NoLine");
+    assert_refused(&rt, alloc, Edit::DropLine(line(98)), EditFault::NoLine);
     Ok(())
 }
 
@@ -395,7 +388,7 @@ fn far_ends_stand_beside_lines(rt: HostRuntime) {
 
 #[test]
 fn a_log_lets_all_stand(rt: HostRuntime) -> Result<(), Fail> {
-    let mut map = PlainMap::new(rt.alloc());
+    let mut map = RoadMap::new(rt.alloc());
     let mut log = UndoLog::new(rt.alloc());
     map.apply_into(new_node((1, 7, 7)), &mut log)?;
     map.keep_all(log);
@@ -407,32 +400,23 @@ fn a_log_lets_all_stand(rt: HostRuntime) -> Result<(), Fail> {
     Ok(())
 }
 
-#[test]
-fn a_log_of_the_road_map_lets_all_stand(rt: HostRuntime) -> Result<(), Fail> {
-    let mut map = base(&rt, rt.alloc());
-    let mut log = UndoLog::new(rt.alloc());
-    map.apply_into(Edit::DropLine(line(99)), &mut log)?;
-    map.keep_all(log);
-    holds!(&rt; map.line(line(99)).is_none());
-    Ok(())
+/// What an edit that the map takes touches: nodes, and a line.
+fn touched(map: &RoadMap, edit: &Edit) -> Result<((u32, u32), Option<u32>), EditFault> {
+    let judged = judge(map, edit)?;
+    let nodes = (judged.nodes.0.number(), judged.nodes.1.number());
+    Ok((nodes, judged.line.map(|line| line.number())))
 }
 
 #[test]
 fn tells_what_an_edit_touches(rt: HostRuntime) -> Result<(), Fail> {
     let alloc = rt.alloc();
     let map = base(&rt, alloc);
-    let (second, third) = (node(2), node(3));
     let drop = Edit::DropLine(line(99));
-    same!(&rt; nodes_touched(&map, &drop), Some((second, third)));
-    same!(&rt; line_touched(&drop), Some(line(99)));
-    let absent = other_line(&rt, alloc, 98, 5, STRAIGHT);
-    same!(&rt; nodes_touched(&map, &absent), None);
-    same!(&rt; line_touched(&absent), Some(line(98)));
+    same!(&rt; touched(&map, &drop)?, ((2, 3), Some(99)));
     let new = new_line(&rt, alloc, (98, 3, 2, 3, 2, 5, STRAIGHT));
-    same!(&rt; nodes_touched(&map, &new), Some((third, second)));
-    let drop = Edit::DropNode(second);
-    same!(&rt; nodes_touched(&map, &drop), Some((second, second)));
-    same!(&rt; line_touched(&drop), None);
+    same!(&rt; touched(&map, &new)?, ((3, 2), Some(98)));
+    let moved = Edit::MoveNode(node(2), place(7, 7));
+    same!(&rt; touched(&map, &moved)?, ((2, 2), None));
     Ok(())
 }
 
@@ -517,7 +501,7 @@ fn edit_by(rt: &impl Abort, alloc: Global, seed: u64) -> Edit {
     }
 }
 
-/// The fault of an edit of the road map, if it has one. Else it is made, and taken back where it isn't to stand.
+/// The fault of an edit, if it has one. Else it is made, and taken back where it isn't to stand.
 fn fault_of(map: &mut RoadMap, edit: Edit, stands: bool) -> Option<EditFault> {
     match map.apply(edit) {
         Ok(undo) => {
@@ -532,8 +516,8 @@ fn fault_of(map: &mut RoadMap, edit: Edit, stands: bool) -> Option<EditFault> {
     }
 }
 
-/// The same of the plain map, where the edit is judged first and then made.
-fn judged_fault(map: &mut PlainMap, edit: Edit, stands: bool) -> Option<EditFault> {
+/// The same where the edit is judged first and then made.
+fn judged_fault(map: &mut RoadMap, edit: Edit, stands: bool) -> Option<EditFault> {
     let judged = match judge(map, &edit) {
         Ok(judged) => judged,
         Err(fault) => return Some(fault),
@@ -553,10 +537,10 @@ fn judged_fault(map: &mut PlainMap, edit: Edit, stands: bool) -> Option<EditFaul
 
 /// Four thousand edits without pattern, of which each second one is taken back.
 #[test]
-fn both_maps_agree(rt: HostRuntime) {
+fn judging_first_changes_nothing(rt: HostRuntime) {
     let alloc = rt.alloc();
     let mut map = RoadMap::new(alloc);
-    let mut plain = PlainMap::new(alloc);
+    let mut other = RoadMap::new(alloc);
     let mut seed: u64 = 1;
     for step in 0..4000u32 {
         seed = seed
@@ -564,8 +548,8 @@ fn both_maps_agree(rt: HostRuntime) {
             .wrapping_add(1_442_695_040_888_963_407);
         let stands = step % 2 == 1;
         let first = fault_of(&mut map, edit_by(&rt, alloc, seed), stands);
-        let second = judged_fault(&mut plain, edit_by(&rt, alloc, seed), stands);
+        let second = judged_fault(&mut other, edit_by(&rt, alloc, seed), stands);
         same_at(&rt, first, second, "step", step);
-        assert_alike(&rt, &map, &plain);
+        assert_alike(&rt, &map, &other);
     }
 }

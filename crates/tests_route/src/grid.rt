@@ -2,7 +2,7 @@
 ghost use Rattle.std.specs.Prelude.{◌≤◌};
 
 use made_maps::{make, new_node, node, plain_line};
-use olr_map::{Edit, Footprint, MapRead, PlainMap, RoadMap};
+use olr_map::{Edit, Footprint, MapRead, RoadMap};
 use olr_route::{Labels, Work, plain, search};
 use std::alloc::Global;
 use std::process::Abort;
@@ -68,17 +68,6 @@ fn road_map(rt: &impl Abort, alloc: Global) -> RoadMap {
     map
 }
 
-fn plain_map(rt: &impl Abort, alloc: Global) -> PlainMap {
-    let mut map = PlainMap::new(alloc);
-    for edit in edits(rt, alloc) {
-        match map.apply(edit) {
-            Ok(undo) => map.keep(undo),
-            Err(_) => panic!(rt; "a refused edit"),
-        }
-    }
-    map
-}
-
 fn assert_same(rt: &impl Abort, left: &Labels, right: &Labels) {
     for number in 0..SIDE * SIDE {
         let node = node(number + 1);
@@ -87,24 +76,8 @@ fn assert_same(rt: &impl Abort, left: &Labels, right: &Labels) {
     }
 }
 
-/// That both maps tell the same far ends of each node's lines.
-fn assert_same_ends(rt: &impl Abort, left: &RoadMap, right: &PlainMap) {
-    for number in 0..SIDE * SIDE {
-        let node = node(number + 1);
-        assert_eq!(rt; left.out_ends(node), right.out_ends(node), "from {node:?}");
-        assert_eq!(rt; left.in_ends(node), right.in_ends(node), "to {node:?}");
-    }
-}
-
-/// The labels of a search, which are those of the plain program too, and as many as are wanted.
-fn labels_from<M: MapRead>(
-    rt: &impl Abort,
-    alloc: Global,
-    map: &M,
-    source: u32,
-    limit: u32,
-    count: u64,
-) -> Labels
+/// That both searches give the same labels, and as many as are wanted.
+fn assert_both(rt: &impl Abort, alloc: Global, map: &RoadMap, source: u32, limit: u32, count: u64)
     requires { limit ≤ 150000 }
 {
     let source = node(source);
@@ -117,25 +90,18 @@ fn labels_from<M: MapRead>(
     let plain = plain::search(alloc, map, source, limit, &mut plain_footprint, &mut work);
     assert!(rt; footprint.as_slice() == plain_footprint.as_slice());
     match (found, plain) {
-        (Ok(labels), Ok(plain)) => {
-            assert_same(rt, &labels, &plain);
-            labels
-        }
+        (Ok(labels), Ok(plain)) => assert_same(rt, &labels, &plain),
         _ => panic!(rt; "no memory"),
     }
 }
 
 #[test]
-fn both_bodies_on_both_maps(rt: HostRuntime) {
-    let road = road_map(&rt, rt.alloc());
-    let plain = plain_map(&rt, rt.alloc());
-    assert_same_ends(&rt, &road, &plain);
+fn both_bodies_on_the_grid(rt: HostRuntime) {
+    let map = road_map(&rt, rt.alloc());
     // Seven lines are at most 4,928 dm long, and eight at least 5,600 dm.
     for (source, near) in [(1, 36), (210, 113), (400, 36)] {
         for (limit, count) in [(0, 1), (5000, near), (150_000, 400)] {
-            let on_road = labels_from(&rt, rt.alloc(), &road, source, limit, count);
-            let on_plain = labels_from(&rt, rt.alloc(), &plain, source, limit, count);
-            assert_same(&rt, &on_road, &on_plain);
+            assert_both(&rt, rt.alloc(), &map, source, limit, count);
         }
     }
 }

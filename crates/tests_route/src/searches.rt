@@ -418,7 +418,7 @@ fn assert_reached(rt: &impl Abort, map: &RoadMap, search: &Search, numbers: &[u3
     }
 }
 
-/// The same search begun anew on the diamond, against its lines from node 4.
+/// The same search begun again on the diamond, against its lines from node 4.
 fn begin_anew(rt: &impl Abort, map: &RoadMap, search: &mut Search) -> Result<(), Fail> {
     search.begin(map, Direction::Against, &[(node(4), 0)])?;
     search.settle_to(map, 100)?;
