@@ -1,4 +1,4 @@
-"""The crates of this repository, as crates.txt lists them: what each depends on, and the files that it is made of."""
+"""The crates of this repository by crates.txt: the dependencies and the source files of each."""
 import os
 
 TOP = os.path.dirname(os.path.dirname(os.path.realpath(__file__)))
@@ -27,7 +27,7 @@ def crates_below(crate):
 
 
 def sources(crate):
-    """The files of a crate from which it is proved and built."""
+    """The source files of a crate."""
     for part in ("src", "specs", "proofs"):
         for folder, _, files in os.walk(f"{TOP}/crates/{crate}/{part}"):
             yield from (os.path.join(folder, file) for file in files)
