@@ -1,4 +1,4 @@
-"""Runs olr-keep as it was built, as a whole program, with growths, reads or writes that fail."""
+"""Runs olr-keep as it was built, as a whole program, with allocations, reads or writes that fail."""
 import io
 import os
 import shutil
@@ -15,12 +15,12 @@ from replies import read_reply  # noqa: E402
 
 
 class Ended(NamedTuple):
-    """How a run ended, and its counts of growths, reads, writes and refusals, where they were taken."""
+    """How a run ended, and its counts of allocations, reads, writes and refused calls, where they were taken."""
 
     status: int
     output: str
     errors: str
-    growths: int = 0
+    allocations: int = 0
     reads: int = 0
     writes: int = 0
     refused: int = 0
@@ -33,9 +33,9 @@ class Refuser:
         self.folder = tempfile.mkdtemp(prefix="olr-keep-")
         self.library, self.counts = f"{self.folder}/refuse.so", f"{self.folder}/counts"
         compiler = f"{os.path.dirname(os.path.dirname(os.path.realpath(shutil.which('rt') or '/')))}/toolchain/bin/clang"
-        words = [compiler, "-fuse-ld=lld"] if os.path.exists(compiler) else [os.environ.get("CC", "cc")]
-        words += ["-O1", "-fno-builtin", "-shared", "-fPIC", "-nostdlib", "-o", self.library, f"{TOP}/checks/refuse.c"]
-        subprocess.run(words, check=True)
+        command = [compiler, "-fuse-ld=lld"] if os.path.exists(compiler) else [os.environ.get("CC", "cc")]
+        command += ["-O1", "-fno-builtin", "-shared", "-fPIC", "-nostdlib", "-o", self.library, f"{TOP}/checks/refuse.c"]
+        subprocess.run(command, check=True)
 
     def __enter__(self):
         return self
@@ -43,24 +43,25 @@ class Refuser:
     def __exit__(self, *_):
         shutil.rmtree(self.folder)
 
-    def run(self, text, refuse="", slow=False, words=(PROGRAM,)):
-        """The program, or another one by its words, on this input, with this refusal, as `growth 7`."""
+    def run(self, text, refuse="", slow=False, command=(PROGRAM,)):
+        """Runs the program, or another command, on this input, with this call refused, such as `allocation 7`."""
         more = {"LD_PRELOAD": self.library, "COUNTS": self.counts, "REFUSE": refuse, **({"SLOW": "1"} if slow else {})}
         with open(self.counts, "w", encoding="utf-8"):
             pass
-        ended = run(text, words, more)
+        ended = run(text, command, more)
         with open(self.counts, encoding="utf-8") as counts:
-            return ended._replace(**dict(zip(("growths", "reads", "writes", "refused"), map(int, counts.read().split()))))
+            names = ("allocations", "reads", "writes", "refused")
+            return ended._replace(**dict(zip(names, map(int, counts.read().split()))))
 
 
-def run(text, words=(PROGRAM,), env=None):
-    """The program, or another one by its words, on this input."""
-    ended = subprocess.run(words, input=text.encode(), capture_output=True, env=env, timeout=600)
+def run(text, command=(PROGRAM,), env=None):
+    """Runs the program, or another command, on this input."""
+    ended = subprocess.run(command, input=text.encode(), capture_output=True, env=env, timeout=600)
     return Ended(ended.returncode, ended.stdout.decode(), ended.stderr.decode())
 
 
 def replies_of(output):
-    """The texts of the whole replies in what was written, and what stands after the last of them."""
+    """The texts of the complete replies in what was written, and the rest after the last of them."""
     stream, texts, at = io.StringIO(output, newline="\n"), [], 0
     try:
         while reply := read_reply(stream):
