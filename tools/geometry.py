@@ -1,8 +1,8 @@
-"""Geometry of maps, paths and strings, for people: degrees and metres, courses, offsets, location reference points.
+"""Geometry of maps, paths and strings: degrees and metres, courses, offsets, location reference points (LRPs).
 
-Places of records are whole numbers of 10^-7 degree, as in records.py; a course is a list of (decimetres from the start,
-lon, lat) in these. Places of location reference points are degrees. Strings are read by the program (`explain`), and
-turned to degrees and metres by the White Paper's binary format.
+Coordinates of records are whole numbers of 10^-7 degree, as in records.py. A course is a list of (decimetres from the start,
+lon, lat) in this unit. Coordinates of LRPs are degrees. Strings are read by the program (`explain`), and converted to degrees
+and metres by the White Paper's binary format.
 """
 import math
 import os
@@ -14,7 +14,7 @@ from replies import Keep
 EARTH = 6371008.8  # mean radius, in metres
 SECTOR = 11.25  # degrees of a bearing's sector
 STEP = 58.6  # metres of a step of the distance to the next point
-LIMIT = 150000  # decimetres by which an end of a path is moved out at most
+LIMIT = 150000  # decimetres by which an end of a path is extended at most
 FORMS = ("undefined", "motorway", "multiple carriageway", "single carriageway", "roundabout", "traffic square")
 FORMS += ("slip road", "other")
 COMPASS = ("N", "NNE", "NE", "ENE", "E", "ESE", "SE", "SSE", "S", "SSW", "SW", "WSW", "W", "WNW", "NW", "NNW")
@@ -50,7 +50,7 @@ class Point(NamedTuple):
 
 
 class Reference(NamedTuple):
-    """What a string says: its points, and its offsets in 256ths of the first and of the last stretch."""
+    """The contents of a string: its LRPs, and its offsets in 256ths of the first and of the last leg."""
 
     points: tuple
     positive: Optional[int]
@@ -78,7 +78,7 @@ def reference_of(lines):
 
 
 def explained(texts, program=None):
-    """Of each string its reference, or words that say why it is none. One run of the program reads them all."""
+    """The reference of each string, or a text that says why it has none. One run of the program reads all strings."""
     found = {}
     try:
         with Keep(program or program_name()) as keep:
@@ -94,24 +94,24 @@ def explained(texts, program=None):
 
 
 def why_not(fault):
-    """A fault of `explain` in words."""
+    """The text of a fault of `explain`."""
     return CAUSES.get(fault.rest.rpartition(",")[2], f"fault,{fault.number},{fault.rest}")
 
 
 def degrees(place):
-    """A place of records, in degrees."""
+    """A coordinate of records, in degrees."""
     return place[0] / UNITS, place[1] / UNITS
 
 
 def metres(a, b):
-    """The distance of two places in degrees, on a sphere."""
+    """The distance of two coordinates in degrees, on a sphere."""
     (lon, lat), (east, north) = (map(math.radians, it) for it in (a, b))
     half = math.sin((north - lat) / 2) ** 2 + math.cos(lat) * math.cos(north) * math.sin((east - lon) / 2) ** 2
     return 2 * EARTH * math.asin(math.sqrt(min(1, half)))
 
 
 def moved(place, bearing, far):
-    """The place that lies so many metres from one in degrees, on this bearing."""
+    """The coordinate at this distance in metres and this bearing from a coordinate in degrees."""
     lon, lat, turn, angle = *map(math.radians, (*place, bearing)), far / EARTH
     north = math.asin(math.sin(lat) * math.cos(angle) + math.cos(lat) * math.sin(angle) * math.cos(turn))
     east = math.atan2(math.sin(turn) * math.sin(angle) * math.cos(lat), math.cos(angle) - math.sin(lat) * math.sin(north))
@@ -119,7 +119,7 @@ def moved(place, bearing, far):
 
 
 def courses(state, lines):
-    """The courses of these lines, one for all that join. A line that is not in the map is left out, and parts them."""
+    """The courses of these lines, one for each connected part. A line that is not in the map is skipped, and separates them."""
     found, end = [], None
     for number in lines:
         line = state.lines.get(number)
@@ -133,12 +133,12 @@ def courses(state, lines):
 
 
 def part(course, start, end):
-    """The places of a course between two distances from its start."""
+    """The coordinates of a course between two distances from its start."""
     return [place_along(course, start), *(it[1:] for it in course if start < it[0] < end), place_along(course, end)]
 
 
 def place_along(course, at):
-    """The place at a distance from the start of a course, or at its end where that is nearer."""
+    """The coordinate at a distance from the start of a course, or its end if the course is shorter."""
     for (was, *a), (far, *b) in zip(course, course[1:]):
         if at <= far:
             share = (at - was) / (far - was)
@@ -147,7 +147,7 @@ def place_along(course, at):
 
 
 def offset_parts(state, path):
-    """The parts that the offsets cut off, as (`positive` or `negative`, decimetres, places). None of a broken path."""
+    """The parts that the offsets cut off, as (`positive` or `negative`, decimetres, coordinates); empty if lines don't join."""
     found = courses(state, path.lines)
     if len(found) != 1 or any(it not in state.lines for it in path.lines):
         return []
@@ -158,7 +158,7 @@ def offset_parts(state, path):
 
 
 class Junctions:
-    """The lines at each node of a map: which nodes are only passed, and how ends of paths are moved out to junctions."""
+    """The lines at each node of a map: which nodes have degree two, and how the ends of paths are extended to junctions."""
 
     def __init__(self, state):
         self.state, self.into, self.out = state, {}, {}
@@ -166,37 +166,37 @@ class Junctions:
             self.into.setdefault(line.end, []).append(number)
             self.out.setdefault(line.start, []).append(number)
 
-    def is_passed(self, node):
-        """Whether a node has exactly two neighbours and its lines only lead from the one to the other, or back too."""
-        comes = sorted(self.state.lines[it].start for it in self.into.get(node, ()))
-        leads = sorted(self.state.lines[it].end for it in self.out.get(node, ()))
-        around = {*comes, *leads}
+    def has_degree_two(self, node):
+        """Whether a node has exactly two neighbours and its lines lead from one to the other, in one direction or in both."""
+        before = sorted(self.state.lines[it].start for it in self.into.get(node, ()))
+        after = sorted(self.state.lines[it].end for it in self.out.get(node, ()))
+        around = {*before, *after}
         if len(around) != 2 or node in around:
             return False
-        return comes == leads == sorted(around) or (len(comes) == len(leads) == 1)
+        return before == after == sorted(around) or (len(before) == len(after) == 1)
 
-    def moved_out(self, lines):
-        """The lines before a path's start and those behind its end by which the ends are moved to a junction."""
-        before = self.chain(lines, self.into, "start", "end")[::-1]
-        return before, self.chain([*before, *lines][::-1], self.out, "end", "start")
+    def extension(self, lines):
+        """The lines before a path's start and those after its end by which the ends are extended to a junction."""
+        before = self.extend(lines, self.into, "start", "end")[::-1]
+        return before, self.extend([*before, *lines][::-1], self.out, "end", "start")
 
-    def chain(self, lines, beside, far, near):
-        """The lines by which the first of these is moved out, in the order of the search; none if no junction is near."""
-        known, used, chain, length, now = self.state.lines, set(lines), [], 0, lines[0]
-        while self.is_passed(node := getattr(known[now], far)):
+    def extend(self, lines, beside, far, near):
+        """The lines that extend the first of these, in the order of the search; none if no junction is near enough."""
+        known, used, found, length, now = self.state.lines, set(lines), [], 0, lines[0]
+        while self.has_degree_two(node := getattr(known[now], far)):
             back = getattr(known[now], near)
             new = [it for it in beside.get(node, ()) if it not in used and getattr(known[it], far) != back]
             length += known[new[0]].length if new else LIMIT + 1
             if length > LIMIT:
                 return []
             now = new[0]
-            chain.append(now)
+            found.append(now)
             used.add(now)
-        return chain
+        return found
 
 
 def refusal(state, path, answer, junctions):
-    """Why a path is not encodable, in words, and where: up to two places of records, the ends of what is missing."""
+    """Why a path is not encodable, as a text, and where: up to two coordinates of records, the ends of what is missing."""
     kind, at = answer[1], int(answer[2]) if len(answer) > 2 else None
     lines, known = path.lines, state.lines
     if kind == "1":
@@ -211,7 +211,7 @@ def refusal(state, path, answer, junctions):
     if kind == "3":
         words = "The offsets together are as long as the path, or longer, so nothing of it is left."
         return words, [place_along(courses(state, lines)[0], path.positive)]
-    whole = [*junctions.moved_out(lines)[0], *lines]
+    whole = [*junctions.extension(lines)[0], *lines]
     line = known[whole[at]]
     words = f"No next location reference point can follow node {line.start}: line {whole[at]}, which starts there, is longer"
     return f"{words} than 15 km, or leads more than a third of a degree away.", [state.nodes[line.start]]

@@ -1,4 +1,4 @@
-"""What makes strings ambiguous on a map, or a map wrong: findings, each with the numbers of its lines and nodes."""
+"""Findings on properties of a map that make strings ambiguous, and on errors of the map, with numbers of lines and nodes."""
 import itertools
 import math
 from collections import defaultdict
@@ -9,23 +9,22 @@ from refound import SHORT, are_twins
 
 KINDS = ("twin-lines", "alike-lines", "line-over-node", "short-line", "same-coordinate", "near-nodes", "under-straight",
          "over-shape", "over-15-km", "one-way-dead-end", "separate-part", "lone-node")
-LONGEST = 15_000  # metres between two points of a string
+LONGEST = 15_000  # metres between two location reference points (LRPs) of a string
 
-# How far, on each axis, the coordinate that a string gives for a node may be from the node, in degrees: the first point's is
-# less than a step of 360 / 2^24 degrees off, as the format's rounding cuts the value and gives half a step back; each further
-# point's is off by at most half a step of 10^-5 degree more than that of the point before. The law `DecodedNear` of
-# docs/THEOREMS.md has the same numbers.
+# The greatest difference on each axis, in degrees, between a node and its coordinate in a string. For the first LRP it is less
+# than a step of 360 / 2^24 degrees, since the format truncates the value and decoding adds half a step. Each further LRP adds
+# at most half a step of 10^-5 degree. The law `DecodedNear` of docs/THEOREMS.md has the same numbers.
 FIRST_ERROR = STEP_24
 FURTHER_ERROR = STEP_16 / 2
 
 
 def decoding_error(k):
-    """The bound at point k, from 0."""
+    """The bound at LRP k, from 0."""
     return FIRST_ERROR + k * FURTHER_ERROR
 
 
 class Finding(NamedTuple):
-    """What was found: its kind, the lines and nodes that it is about, and a text with their numbers."""
+    """A finding: its kind, the affected lines and nodes, and a text with their numbers."""
 
     kind: str
     lines: tuple
@@ -34,19 +33,19 @@ class Finding(NamedTuple):
 
 
 def findings(roads, point=0):
-    """All findings; nodes are near where the coordinates of this point of a string can't tell them apart."""
+    """All findings; nodes are near if the coordinates of this LRP of a string can't distinguish them."""
     return itertools.chain(
         lines_alike(roads), lines_over_nodes(roads), lines_alone(roads), nodes_near(roads, point), dead_ends(roads), parts(roads)
     )
 
 
 def sector(road, is_last):
-    """The sector of a line's bearing where it begins, or where it ends."""
+    """The bearing sector of a line at its start, or at its end."""
     return int(bearing(road, road.length if is_last else 0.0, is_last) // SECTOR)
 
 
 def lines_alike(roads):
-    """Twin lines, and lines that are alike at one of their ends."""
+    """Twin lines, and lines with the same attributes at one of their ends."""
     for is_last, sides in ((False, roads.leaving), (True, roads.entering)):
         groups = defaultdict(list)
         for node, numbers in sorted(sides.items()):
@@ -70,7 +69,7 @@ def lines_alike(roads):
 
 
 def lines_over_nodes(roads):
-    """Lines that pass a node which isn't their end, and have there the class, form and sector of one that leaves it."""
+    """Lines that pass a node that isn't their end, and have the class, form and sector of a line that leaves the node."""
     for node, coordinate in sorted(roads.nodes.items()):
         for number, far, at in roads.lines_near(*coordinate, SHORT):
             road = roads.lines[number]
@@ -86,7 +85,7 @@ def lines_over_nodes(roads):
 
 
 def lines_alone(roads):
-    """What a line's length shows."""
+    """Findings on the length of a line."""
     for number, road in sorted(roads.lines.items()):
         straight = distance(roads.nodes[road.start], roads.nodes[road.end])
         shape = shape_length(road.points)
@@ -102,15 +101,17 @@ def lines_alone(roads):
 
 
 def nodes_near(roads, point):
-    """Nodes at one coordinate, and nodes which aren't twice the decoding error apart on any axis: a decoded coordinate is then
-    perhaps not the nearest to its own node."""
-    width, cells = 2 * decoding_error(point), defaultdict(list)
+    """Nodes at one coordinate, and nodes too near to each other for the law `Nearest`: in latitude, and in longitude times
+    the least cosine of the map, less than three times the decoding error apart. Then another node may be as near to a
+    decoded coordinate as the right one."""
+    width, cells = 3 * decoding_error(point), defaultdict(list)
+    least = min((math.cos(math.radians(lat)) for _, lat in roads.nodes.values()), default=1.0)
     for number, (lon, lat) in sorted(roads.nodes.items()):
-        column, row = math.floor(lon / width), math.floor(lat / width)
+        column, row = math.floor(lon * least / width), math.floor(lat / width)
         for cell in itertools.product((column - 1, column, column + 1), (row - 1, row, row + 1)):
             for other in cells.get(cell, ()):
                 there = roads.nodes[other]
-                if max(abs(there[0] - lon), abs(there[1] - lat)) < width:
+                if max(abs(there[0] - lon) * least, abs(there[1] - lat)) < width:
                     is_same = there == (lon, lat)
                     text = f"nodes {other} and {number}, {distance(there, (lon, lat)):.1f} m apart"
                     yield Finding("same-coordinate" if is_same else "near-nodes", (), (other, number), text)
@@ -118,7 +119,7 @@ def nodes_near(roads, point):
 
 
 def dead_ends(roads):
-    """Nodes that can only be entered, or only be left, and nodes without lines."""
+    """Nodes with only entering or only leaving lines, and nodes without lines."""
     for node in sorted(roads.nodes):
         entering, leaving = roads.entering.get(node, []), roads.leaving.get(node, [])
         if not entering and not leaving:
@@ -130,7 +131,7 @@ def dead_ends(roads):
 
 
 def parts(roads):
-    """The parts of the map that no line joins to its greatest one; a node without lines is no part."""
+    """The parts of the map that are not connected to the largest one; a node without lines is no part."""
     beside = defaultdict(set)
     for road in roads.lines.values():
         beside[road.start].add(road.end)

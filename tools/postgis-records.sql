@@ -1,4 +1,4 @@
--- The records of the roads of a region, from a table of roads in PostGIS:
+-- Prints the records of the roads of a region, from a table of roads in PostGIS:
 --
 --     psql -AtXq -v ON_ERROR_STOP=1 -f tools/postgis-records.sql DATABASE > map.csv
 --
@@ -9,13 +9,13 @@
 --         start_node  1 to 4294967295, the node at the first point of the geometry; end_node that at the last
 --         class       functional road class, 0 to 7
 --         form        form of way, 0 to 7
---         direction   'both', 'along' or 'against', as the road may be driven
+--         direction   'both', 'along' or 'against': the directions in which the road may be driven
 --         geom        geometry(LineString, 4326)
 --     region(geom)    the region's polygons, with the margin by which regions overlap
 --
--- A road that meets the region is taken whole, with both its nodes, also where it leads across the border. A value that is
--- none of these stops the query with a message that names the road, and so does a region that no road meets.
--- A table without nodes, whose roads go on across junctions, becomes `roads` by tools/postgis-split.sql.
+-- A road that meets the region is included whole, with both its nodes, even if it crosses the border. An invalid value stops
+-- the query with a message that names the road, and so does a region that no road meets. A table without nodes, whose roads
+-- continue across junctions, is converted by tools/postgis-split.sql.
 
 begin isolation level repeatable read;
 set local work_mem = '256MB';
@@ -86,7 +86,7 @@ begin
 end $$;
 
 -- The length of a road in decimetres, and the shape points of its two lines: the vertices between the ends whose distances
--- ascend. Lengths are those of the spheroid; between vertices they are shared out by the spheroid's two radii there.
+-- ascend. Lengths are those of the spheroid, distributed between the vertices by the spheroid's two radii there.
 create function pg_temp.measured(road geometry, out len bigint, out along text, out against text) language plpgsql as $$
 declare
     places text[] := string_to_array(translate(ST_AsText(ST_Force2D(road), 7), ', LINESTRING()', ';,'), ';');

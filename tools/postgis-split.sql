@@ -1,19 +1,19 @@
--- Cuts streets at their junctions and numbers nodes and parts, for a table of streets that has neither:
+-- Splits streets at their junctions and numbers nodes and parts, for a table of streets that has neither:
 --
 --     psql -q -v ON_ERROR_STOP=1 -f tools/postgis-split.sql DATABASE
 --     psql -q -v ON_ERROR_STOP=1 -c 'drop table if exists roads; create table roads as select * from split_streets()' DATABASE
 --
--- The first command makes the function and the tables in which it keeps its numbers; the second one, each night, makes the
--- table `roads` that tools/postgis-records.sql reads. The function reads a table, or a view of this name:
+-- The first command creates the function and the tables in which it stores its numbers. The second one, run each night, makes
+-- the table `roads` that tools/postgis-records.sql reads. The function reads a table, or a view of this name:
 --
 --     streets(id, class, form, direction, geom)
 --         id      any key
 --         class, form, direction, geom    as in `roads`
 --
--- A street is cut at each vertex that it shares with another street, or has twice. Streets that cross without a common
--- vertex, as on a bridge, do not meet. Vertices are the same where seven decimals of a degree are.
+-- A street is split at each vertex that it shares with another street, or has twice. Streets that cross without a common
+-- vertex, as on a bridge, do not meet. Vertices are equal if seven decimals of a degree are.
 --
--- Numbers are kept: a node has the number of its coordinate, and a part that of its street and its two nodes.
+-- Numbers are stable: a node has the number of its coordinate, and a part that of its street and its two nodes.
 
 create table if not exists road_nodes (
     node bigint generated always as identity primary key, x bigint not null, y bigint not null, unique (x, y)
@@ -72,7 +72,7 @@ begin
     create index on split_vertex (street, k);
     analyze split_vertex;
 
-    -- The vertices at which streets are cut, each with the next one of its street.
+    -- The vertices at which streets are split, each with the next one of its street.
     create temporary table split_cut on commit drop as
     select street, k, x, y, lead(k) over way as next_k, lead(x) over way as next_x, lead(y) over way as next_y
     from (

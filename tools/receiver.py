@@ -1,4 +1,4 @@
-"""A receiver of OpenLR line locations: reads strings and finds them on a road map, by the decoding rules of the White Paper.
+"""A receiver of OpenLR line locations: decodes strings on a road map by the decoding rules of the White Paper.
 
     roads = RoadMap.of_state(read_state(["map.csv"]))
     found = decode(roads, read_reference("CwRbWyNG9RqsDgCG/d4rWS0="), RULES["reference"])
@@ -23,7 +23,7 @@ SECTOR = 11.25
 
 
 class TextError(Exception):
-    """A text that is no line location of version 3; its text is for the user."""
+    """A text that is not a line location of version 3; the text of the error is printed."""
 
 
 class Point(NamedTuple):
@@ -39,7 +39,7 @@ class Point(NamedTuple):
 
 
 class Reference(NamedTuple):
-    """The points of a string, and the least and greatest share of the first and of the last stretch that is cut off."""
+    """The points of a string, and the least and greatest share of the first and of the last leg that is cut off."""
 
     points: list
     positive: tuple
@@ -47,7 +47,7 @@ class Reference(NamedTuple):
 
 
 def read_reference(text):
-    """The reference that a base64 text holds."""
+    """The reference in a base64 text."""
     try:
         data = base64.b64decode(text.encode(), validate=True)
     except (ValueError, binascii.Error):
@@ -82,7 +82,7 @@ def degrees_24(data):
 
 
 def share(byte):
-    """The bounds of the share of a stretch that an offset's byte means."""
+    """The bounds of the share of a leg that an offset's byte stands for."""
     return byte / 256, (byte + 1) / 256
 
 
@@ -131,7 +131,7 @@ class RoadMap:
         return cls(nodes, {number: road_of(line, nodes) for number, line in state.lines.items()})
 
     def near(self, cells, lon, lat, radius):
-        """What is in the cells within a radius of a coordinate, in ascending order."""
+        """The contents of the cells within a radius of a coordinate, in ascending order."""
         east, north = radius / scale(lat), radius / METRES
         columns = range(int((lon - east) // CELL), int((lon + east) // CELL) + 1)
         rows = range(int((lat - north) // CELL), int((lat + north) // CELL) + 1)
@@ -143,7 +143,7 @@ class RoadMap:
         return [(it, far) for it, far in pairs if far <= radius]
 
     def lines_near(self, lon, lat, radius):
-        """The lines within a radius of a coordinate, each with its distance and how far along it the nearest place is."""
+        """The lines within a radius of a coordinate, each with its distance and the position of its nearest point."""
         east, north, found = radius / scale(lat), radius / METRES, []
         for it in self.near(self.line_cells, lon, lat, radius):
             west, south, other_east, other_north = self.boxes[it]
@@ -162,7 +162,7 @@ def road_of(line, nodes):
 
 
 def cells_along(a, b):
-    """The cells of the grid that a straight piece passes, and some beside them."""
+    """The cells of the grid that a straight segment passes, and some neighbours."""
     count = max(1, math.ceil(max(abs(b[0] - a[0]), abs(b[1] - a[1])) / CELL))
     stops = [(a[0] + (b[0] - a[0]) * k / count, a[1] + (b[1] - a[1]) * k / count) for k in range(count + 1)]
     for p, q in zip(stops, stops[1:]):
@@ -180,17 +180,17 @@ def scale(lat):
 
 
 def distance(a, b):
-    """The straight distance between two coordinates that are near to each other."""
+    """The straight distance between two coordinates that are near each other."""
     return math.hypot((b[0] - a[0]) * scale((a[1] + b[1]) / 2), (b[1] - a[1]) * METRES)
 
 
 def shape_length(points):
-    """The length of a shape along its straight pieces."""
+    """The length of a shape along its straight segments."""
     return sum(distance(a[1:], b[1:]) for a, b in zip(points, points[1:]))
 
 
 def place(road, at):
-    """The coordinate so far along a line."""
+    """The coordinate at this distance along a line."""
     for (d, *a), (e, *b) in zip(road.points, road.points[1:]):
         if at <= e:
             part = max(0.0, (at - d) / (e - d))
@@ -199,12 +199,12 @@ def place(road, at):
 
 
 def direction(a, b):
-    """The bearing from one coordinate to another; 0 where they are the same."""
+    """The bearing from one coordinate to another; 0 if they are equal."""
     return math.degrees(math.atan2((b[0] - a[0]) * scale(a[1]), (b[1] - a[1]) * METRES)) % 360
 
 
 def bearing(road, at, is_last, length=20.0):
-    """The bearing from a place on a line to the one 20 m along it, or 20 m back for a last point, or to the line's end."""
+    """The bearing from a position on a line to the one 20 m along it, or 20 m back for a last point, or to the line's end."""
     other = max(0.0, at - length) if is_last else min(road.length, at + length)
     return direction(place(road, at), place(road, other))
 
@@ -215,7 +215,7 @@ def angle_between(a, b):
 
 
 def on_piece(a, b, lon, lat):
-    """The distance of a coordinate from a straight piece, and the share of the piece before the nearest place."""
+    """The distance of a coordinate from a straight segment, and the share of the segment before the nearest point."""
     east, bx, by = scale(lat), b[0] - a[0], b[1] - a[1]
     px, py, qx, qy = (lon - a[0]) * east, (lat - a[1]) * METRES, bx * east, by * METRES
     square = qx * qx + qy * qy
@@ -224,7 +224,7 @@ def on_piece(a, b, lon, lat):
 
 
 def project(road, lon, lat):
-    """The distance of a coordinate from a line, and how far along it the nearest place is."""
+    """The distance of a coordinate from a line, and the position of the nearest point along the line."""
     best = (math.inf, 0.0)
     for (d, *a), (e, *b) in zip(road.points, road.points[1:]):
         far, part = on_piece(a, b, lon, lat)
@@ -237,9 +237,9 @@ def project(road, lon, lat):
 
 
 class Rules(NamedTuple):
-    """What a receiver weighs and allows; `RULES` has two sets. Each rating and each score is between 0 and 1."""
+    """The weights and limits of a receiver; `RULES` has two sets. Each rating and each score is between 0 and 1."""
 
-    radius: float  # how far a candidate may be from the point
+    radius: float  # the greatest distance of a candidate from the point
     weights: tuple  # of distance, class, form and bearing; together 1
     least: float  # the least rating of a candidate
     class_scores: tuple  # by the difference of the classes
@@ -247,12 +247,12 @@ class Rules(NamedTuple):
     bearing_scores: tuple  # (degrees, score) up to each of these differences, in ascending order; empty: 1 - degrees / 180
     bearing_limit: float  # the greatest difference of bearings of a candidate
     class_variance: int  # how much lower than LFRCNP a line of a route may be
-    dnp_share: float  # by what share of it a route may be longer or shorter than the distance to the next point
-    dnp_metres: float  # and by how many metres more
-    pairs: int  # how many pairs of candidates are tried for a stretch
-    same_line: float  # the share taken from a pair's rating where both are on one line
-    nodes_first: bool  # whether lines are found by their nodes, and by their shape only where that gives no candidate
-    snap: float  # how near to a line's relevant end a place on it counts as that end, or to its other end as past it
+    dnp_share: float  # the share by which a route may be longer or shorter than the distance to the next point
+    dnp_metres: float  # and the metres in addition
+    pairs: int  # the number of pairs of candidates that are tried for a leg
+    same_line: float  # the share subtracted from a pair's rating if both are on one line
+    nodes_first: bool  # whether lines are found by their nodes, and by their shape only if that gives no candidate
+    snap: float  # a position this near to a line's relevant end counts as that end, and this near to the other one as past it
 
 
 ALIKE = tuple(tuple(1.0 if a == b else 0.5 if 0 in (a, b) or {a, b} <= {1, 2} else 0.25 for b in range(8)) for a in range(8))
@@ -284,7 +284,7 @@ RULES = {
 
 
 class Candidate(NamedTuple):
-    """A line that a point may mean, and how far along it; a higher rating is better. `bearing` is the difference of bearings."""
+    """A line that may be meant by a point, and the position on it; higher ratings are better. `bearing` is the difference."""
 
     rating: float
     line: int
@@ -294,7 +294,7 @@ class Candidate(NamedTuple):
 
 
 def candidates(roads, point, is_last, rules):
-    """The candidates of a point, the best first, and how many lines were rated."""
+    """The candidates of a point, the best first, and the number of rated lines."""
     ways, count = (by_nodes, by_shape) if rules.nodes_first else (by_shape,), 0
     for places in ways:
         rated = [rate(roads, point, is_last, rules, *it) for it in places(roads, point, is_last, rules)]
@@ -306,7 +306,7 @@ def candidates(roads, point, is_last, rules):
 
 
 def by_nodes(roads, point, is_last, rules):
-    """Lines that leave (of the last point: enter) a node within the radius."""
+    """Lines that leave (for the last point: enter) a node within the radius."""
     sides = roads.entering if is_last else roads.leaving
     for node, far in roads.nodes_near(point.lon, point.lat, rules.radius):
         for line in sides[node]:
@@ -314,7 +314,7 @@ def by_nodes(roads, point, is_last, rules):
 
 
 def by_shape(roads, point, is_last, rules):
-    """Lines whose shape is within the radius, from the place on them that is nearest to the point."""
+    """Lines whose shape is within the radius, from their position nearest to the point."""
     for line, far, at in roads.lines_near(point.lon, point.lat, rules.radius):
         road = roads.lines[line]
         end = road.length if is_last else 0.0
@@ -342,14 +342,14 @@ def rate(roads, point, is_last, rules, line, at, far):
 
 
 class Search:
-    """Shortest routes from the end of a line, over lines whose class is at most a limit; each call continues from the last."""
+    """Dijkstra's algorithm from the end of a line, over lines whose class is at most a limit; each call continues the search."""
 
     def __init__(self, roads, start, lowest):
         self.roads, self.lowest = roads, lowest
         self.far, self.last, self.settled, self.heap = {start: 0.0}, {}, set(), [(0.0, start)]
 
     def to(self, node, limit):
-        """The length of the shortest route to a node, or None where none is within the limit."""
+        """The length of the shortest route to a node, or None if it is beyond the limit."""
         while node not in self.settled and self.heap and self.heap[0][0] <= limit:
             far, here = heapq.heappop(self.heap)
             if here in self.settled:
@@ -372,30 +372,30 @@ class Search:
         return lines[::-1]
 
 
-class Stretch(NamedTuple):
-    """A route between two candidates: the lines behind that of the first one, up to that of the second, and its length."""
+class Leg(NamedTuple):
+    """A route between two candidates: the lines after that of the first one, up to that of the second, and its length."""
 
     lines: list
     length: float
 
 
 class Router:
-    """Routes for one string, by its rules. Searches are kept, since many candidates share a node."""
+    """Routes for one string, by its rules. Searches are cached, since many candidates share a node."""
 
     def __init__(self, roads, rules):
         self.roads, self.rules, self.searches = roads, rules, {}
 
     def bounds(self, point):
-        """The least and the greatest length of the route that follows a point."""
+        """The least and the greatest length of the route after a point."""
         more = point.dnp * self.rules.dnp_share + self.rules.dnp_metres
         return point.dnp - more, point.dnp + more
 
     def route(self, point, a, b):
-        """The stretch from one candidate to the next, or the kind and the text of why there is none."""
+        """The leg from one candidate to the next, or the kind and the text of why there is none."""
         least, most = self.bounds(point)
         road, lowest = self.roads.lines[a.line], point.lfrcnp + self.rules.class_variance
         if a.line == b.line and a.at < b.at:
-            stretch = Stretch([], b.at - a.at)
+            leg = Leg([], b.at - a.at)
         else:
             key = road.end, lowest
             if key not in self.searches:
@@ -407,20 +407,20 @@ class Router:
             if between is None:
                 how = f"of at most {most:.0f} m over classes 0 to {min(7, lowest)}"
                 return "no route", f"no route {how} from line {a.line} to line {b.line}"
-            stretch = Stretch([*search.lines_to(target), b.line], ends + between)
-        if not least <= stretch.length <= most:
-            how = f"{stretch.length:.0f} m and not {max(0, least):.0f} to {most:.0f} m"
+            leg = Leg([*search.lines_to(target), b.line], ends + between)
+        if not least <= leg.length <= most:
+            how = f"{leg.length:.0f} m and not {max(0, least):.0f} to {most:.0f} m"
             return "another length", f"the route from line {a.line} to line {b.line} is of {how}"
-        return stretch
+        return leg
 
 
 # ---- decoding
 
 
 class Found(NamedTuple):
-    """What a string was found as: the lines between its offsets, what is cut off the first and the last of them, all lines
-    between the first and the last point, the place of the first on the first line and of the last on the last one, the
-    candidates that were taken, the second best of each point or None, and the length of each stretch."""
+    """A decoded string: the lines between its offsets, what is cut off the first and the last of them, all lines between the
+    first and the last point, the positions of these two points on the first and the last line, the chosen candidates, the
+    second best of each point or None, and the length of each leg."""
 
     lines: list
     positive: float
@@ -434,7 +434,7 @@ class Found(NamedTuple):
 
 
 class Failed(NamedTuple):
-    """At which point, from 0, decoding ended, and why; of the kinds `no candidate`, `no route` and `another length`."""
+    """The point, from 0, at which decoding failed, and why; of the kinds `no candidate`, `no route` and `another length`."""
 
     point: int
     kind: str
@@ -442,21 +442,21 @@ class Failed(NamedTuple):
 
 
 def decode(roads, reference, rules):
-    """Finds a reference on a map: a `Found` or a `Failed`."""
+    """Decodes a reference on a map: a `Found` or a `Failed`."""
     points = reference.points
     ranked = []
     for k, point in enumerate(points):
         good, count = candidates(roads, point, k == len(points) - 1, rules)
         if not good:
-            why = f"none of the {count} lines within {{}} m is like it" if count else "no line within {} m"
+            why = f"none of the {count} lines within {{}} m matches" if count else "no line within {} m"
             return Failed(k, "no candidate", why.format(f"{rules.radius:g}"))
         ranked.append(good)
-    chain = joined_candidates(Router(roads, rules), points, ranked)
-    if isinstance(chain, Failed):
-        return chain
-    taken, stretches = chain
+    joined = joined_candidates(Router(roads, rules), points, ranked)
+    if isinstance(joined, Failed):
+        return joined
+    taken, legs = joined
     second = [next((it for it in good if it.line != one.line), None) for good, one in zip(ranked, taken)]
-    return cut(roads, reference, taken, second, stretches)
+    return cut(roads, reference, taken, second, legs)
 
 
 def pairs_of(starts, ends, rules):
@@ -470,9 +470,9 @@ def pairs_of(starts, ends, rules):
 
 
 def joined_candidates(router, points, ranked):
-    """One candidate for each point and the stretches between them. Where a stretch has no route the one before it is tried
-    with its next pair; a candidate from which the rest was tried in vain is not tried again."""
-    waiting, taken, stretches, dead = [pairs_of(ranked[0], ranked[1], router.rules)], [], [], set()
+    """One candidate for each point and the legs between them. If a leg has no route, the leg before it is tried with its next
+    pair (backtracking); a candidate from which the rest failed is not tried again."""
+    waiting, taken, legs, dead = [pairs_of(ranked[0], ranked[1], router.rules)], [], [], set()
     deepest = Failed(0, "no route", "")
     while waiting:
         k = len(waiting) - 1
@@ -481,28 +481,28 @@ def joined_candidates(router, points, ranked):
             waiting.pop()
             if taken:
                 dead.add((k, taken.pop()[1]))
-                stretches.pop()
+                legs.pop()
             continue
         if (k + 1, b) in dead:
             continue
-        stretch = router.route(points[k], a, b)
-        if not isinstance(stretch, Stretch):
+        leg = router.route(points[k], a, b)
+        if not isinstance(leg, Leg):
             if k > deepest.point or not deepest.why:
-                deepest = Failed(k, stretch[0], f"to point {k + 1}: {stretch[1]}")
+                deepest = Failed(k, leg[0], f"to point {k + 1}: {leg[1]}")
             continue
         taken.append((a, b))
-        stretches.append(stretch)
+        legs.append(leg)
         if k + 2 == len(points):
-            return [taken[0][0], *(b for _, b in taken)], stretches
+            return [taken[0][0], *(b for _, b in taken)], legs
         waiting.append(pairs_of([b], ranked[k + 2], router.rules))
     return deepest
 
 
-def cut(roads, reference, taken, second, stretches):
+def cut(roads, reference, taken, second, legs):
     """The whole route with its offsets cut off, each in the middle of its interval."""
-    whole = [taken[0].line, *(line for it in stretches for line in it.lines)]
+    whole = [taken[0].line, *(line for it in legs for line in it.lines)]
     begin, end = taken[0].at, taken[-1].at
-    lengths = [it.length for it in stretches]
+    lengths = [it.length for it in legs]
     lines, first = whole, begin + sum(reference.positive) / 2 * lengths[0]
     while len(lines) > 1 and first >= roads.lines[lines[0]].length:
         first -= roads.lines[lines[0]].length
@@ -518,12 +518,12 @@ def cut(roads, reference, taken, second, stretches):
 
 
 def numbers(values):
-    """Numbers as a text, with two digits behind the point."""
+    """Numbers as a text, with two decimals."""
     return ", ".join(f"{it:.2f}".rstrip("0").rstrip(".") for it in values)
 
 
 def bearings_text(rules):
-    """How a difference of bearings is scored."""
+    """The score of a difference of bearings, as a text."""
     if not rules.bearing_scores:
         return "1 - difference / 180"
     return ", ".join(f"{score:g} to {limit:g} degrees" for limit, score in rules.bearing_scores)
@@ -535,12 +535,12 @@ ROWS = (
     ("`radius`, in m", lambda it: f"{it.radius:g}", "greatest distance of a node; search radius"),
     ("`weights` of distance, class, form, bearing", lambda it: numbers(it.weights),
      "node factor 3 and line factor 3 of ratings up to 100; four weights"),
-    ("distance", lambda it: "1 - distance / `radius`", "rating of nodes; score of places"),
+    ("distance", lambda it: "1 - distance / `radius`", "rating of nodes; geographic score"),
     ("`class_scores`, by difference", lambda it: numbers(it.class_scores),
      "ratings 100, 75, 50, 0; share of the 7 classes"),
     ("form: the same, motorway and multiple carriageway, undefined, roundabout and single carriageway",
      lambda it: numbers(it.form_scores[a][b] for a, b in ((3, 3), (1, 2), (0, 3), (4, 3))),
-     "ratings 100, 50, 50, 25; table of stand-ins"),
+     "ratings 100, 50, 50, 25; substitution table"),
     ("bearing", bearings_text, "ratings 100, 50, 25, 0 at 6, 12, 18 degrees; linear score"),
     ("`bearing_limit`, in degrees", lambda it: f"{it.bearing_limit:g}", "none; greatest deviation of bearings"),
     ("`least` rating", lambda it: f"{it.least:.3g}", "least accepted rating 800 of 1,200; least score"),
@@ -548,13 +548,13 @@ ROWS = (
     ("`dnp_share` and `dnp_metres`, by which a route may differ", lambda it: f"{it.dnp_share:g} and {it.dnp_metres:g}",
      "DNP variance; greatest deviation and tolerated metres"),
     ("`pairs` of candidates tried", lambda it: f"{it.pairs}" if it.pairs < 1000 else "all", "3 retries; all pairs"),
-    ("`same_line`, taken from a pair on one line", lambda it: f"{it.same_line:g}", "same line degradation; none"),
-    ("`snap`, in m, of places near a line's ends", lambda it: f"{it.snap:g}" if it.snap else "none",
+    ("`same_line`, subtracted for a pair on one line", lambda it: f"{it.same_line:g}", "same line degradation; none"),
+    ("`snap`, in m, of positions near a line's ends", lambda it: f"{it.snap:g}" if it.snap else "none",
      "none; threshold for partial lines"),
     ("bearing taken over", lambda it: "20 m", "White Paper"),
     ("DNP, bearing, offset", lambda it: "middle of the interval", "White Paper gives the interval; both take its middle"),
     ("order of pairs", lambda it: "sum of ratings", "this tool, in place of a product; dereferencer"),
-    ("no route", lambda it: "back to the stretch before", "this tool; dereferencer"),
+    ("no route", lambda it: "backtrack to the previous leg", "this tool; dereferencer"),
 )
 
 

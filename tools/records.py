@@ -1,11 +1,11 @@
-"""Reads files of records: the map and the paths to which the accepted ones lead, and what is published of the paths.
+"""Reads files of records: the map and the paths after the accepted records, and what is published of the paths.
 
     state = read_state(["map.csv", "paths.csv"])
     for name, path in state.paths.items():
         print(name, path.lines, state.published[name])
 
-The program itself carries the records out, so a record counts exactly where it is accepted. Coordinates are whole numbers
-of 10^-7 degree, lengths and offsets decimetres, as in records.
+The program itself carries the records out, so a record counts exactly if it is accepted. Coordinates are whole numbers of
+10^-7 degree, lengths and offsets decimetres, as in records.
 """
 import csv
 import io
@@ -42,7 +42,7 @@ class Path(NamedTuple):
 
 
 class RecordsError(Exception):
-    """A file that can't be read as records, or a program that can't be run; its text is for the user."""
+    """A file that can't be read as records, or a program that can't be run; the text is printed."""
 
 
 class State:
@@ -51,8 +51,8 @@ class State:
     def __init__(self):
         self.nodes, self.lines, self.paths, self.published, self.rejected, self.held = {}, {}, {}, {}, [], None
 
-    def take(self, fields):
-        """Takes an accepted record: at once, or with its batch."""
+    def accept(self, fields):
+        """Carries out an accepted record: at once, or with its batch."""
         word = fields[0]
         if word == "begin":
             self.held = []
@@ -102,11 +102,11 @@ def line_of(ends, fields):
 
 
 def program_name():
-    """The program: that of the environment's OLR_KEEP, else the one built in this repository, else the installed one."""
+    """The program: the variable OLR_KEEP, or the program built in this repository, or the installed one."""
     beside = next(filter(os.path.exists, BESIDE), None)
     found = os.environ.get("OLR_KEEP") or beside or shutil.which("olr-keep")
     if not found:
-        raise RecordsError("olr-keep is neither built here nor installed; OLR_KEEP can name it")
+        raise RecordsError("olr-keep is neither built here nor installed; the variable OLR_KEEP can name it")
     return found
 
 
@@ -125,7 +125,7 @@ def joined(files):
 
 
 def read_state(files, program=None):
-    """The state after the records of these files, in this order. An open batch at the end is left out."""
+    """The state after the records of these files, in this order. An open batch at the end is ignored."""
     state = State()
     with joined(files) as records, open(records.name, "rb") as copy:
         try:
@@ -146,13 +146,13 @@ def read_state(files, program=None):
 
 
 def follow(state, fields, reply):
-    """Takes one record and its reply."""
+    """Handles one record and its reply."""
     if reply is None:
         raise EOFError("olr-keep ended before the last record")
     if not reply.accepted:
         state.rejected.append((fields, reply))
         return
-    state.take(fields)
+    state.accept(fields)
     if fields[0] == "drop-path" and reply.word == "ok":
         state.published.pop(fields[1], None)
     if fields[0] != "explain":

@@ -1,11 +1,11 @@
-"""Whether a receiver finds a path again, and if not, why; and maps that differ from the publisher's as a receiver's does."""
+"""Whether a receiver recovers a path, and if not, why; and maps that differ from the publisher's like a receiver's map."""
 import math
 import random
 from typing import NamedTuple
 
 from receiver import METRES, Failed, Road, RoadMap, cells_along, decode, distance, on_piece, place, scale, shape_length
 
-SHORT = 5.0  # metres; lines below it are shorter than the coordinates of a string are exact
+SHORT = 5.0  # metres; shorter lines are below the precision of the coordinates of a string
 UNDER_5_M = "a line under 5 m"
 APART = 30.0  # metres; up to here two shapes are the same road
 
@@ -14,7 +14,7 @@ APART = 30.0  # metres; up to here two shapes are the same road
 
 
 class Location(NamedTuple):
-    """Lines, the place on the first of them at which the location begins, and the place on the last at which it ends."""
+    """Lines, the position on the first of them at which the location begins, and that on the last at which it ends."""
 
     lines: list
     begin: float
@@ -22,7 +22,7 @@ class Location(NamedTuple):
 
 
 def location_of(roads, path):
-    """What a registered path's offsets leave of it. Its lines have to be on the map."""
+    """The part of a registered path between its offsets. Its lines have to be on the map."""
     lines, begin, back = list(path.lines), path.positive / 10, path.negative / 10
     while len(lines) > 1 and begin >= roads.lines[lines[0]].length:
         begin -= roads.lines[lines.pop(0)].length
@@ -32,7 +32,7 @@ def location_of(roads, path):
 
 
 def carried(location, old, new, parts):
-    """The location on another map, or None where a line of it is missing there."""
+    """The location on another map, or None if one of its lines is missing there."""
     if any(parts[it] is None for it in location.lines):
         return None
     head, tail = parts[location.lines[0]], parts[location.lines[-1]]
@@ -47,7 +47,7 @@ def carried(location, old, new, parts):
 
 
 def cut_out(roads, location):
-    """The coordinates of a location, from its begin to its end."""
+    """The coordinates of a location, from its start to its end."""
     coordinates = []
     for k, number in enumerate(location.lines):
         road = roads.lines[number]
@@ -62,13 +62,13 @@ def cut_out(roads, location):
 
 
 def index_of(whole, lines):
-    """The index at which the lines follow one after another in the whole, or None."""
+    """The index at which the lines are consecutive in the whole, or None."""
     starts = (k for k, it in enumerate(whole) if it == lines[0] and whole[k : k + len(lines)] == lines)
     return next(starts, None)
 
 
 def is_same(roads, reference, found, location, slack):
-    """Whether the whole route holds the location's lines, and the offsets' intervals hold its ends."""
+    """Whether the whole route contains the location's lines, and the offsets' intervals contain its ends."""
     k = index_of(found.whole, location.lines)
     if k is None:
         return False
@@ -76,8 +76,8 @@ def is_same(roads, reference, found, location, slack):
     before = sum(lengths[:k]) + location.begin - found.begin
     after = sum(lengths[k + len(location.lines) - 1 :]) - location.end - (lengths[-1] - found.end)
     return all(
-        low * stretch - slack <= cut <= high * stretch + slack
-        for (low, high), stretch, cut in (
+        low * leg - slack <= cut <= high * leg + slack
+        for (low, high), leg, cut in (
             (reference.positive, found.lengths[0], before),
             (reference.negative, found.lengths[-1], after),
         )
@@ -85,7 +85,7 @@ def is_same(roads, reference, found, location, slack):
 
 
 def farthest(coordinates, others):
-    """The greatest distance, tried each 10 m, of a shape from another."""
+    """The greatest distance of a shape from another one, sampled every 10 m."""
     cells, worst = {}, 0.0
     for k, (a, b) in enumerate(zip(others, others[1:])):
         for cell in cells_along(a, b):
@@ -99,8 +99,8 @@ def farthest(coordinates, others):
 
 
 def is_near(reference, found, shape, other):
-    """Whether two shapes run along each other, and begin and end near to each other as the offsets' intervals allow."""
-    more = ((high - low) * stretch / 2 for (low, high), stretch in (
+    """Whether two shapes follow each other, and their ends are as near as the offsets' intervals allow."""
+    more = ((high - low) * leg / 2 for (low, high), leg in (
         (reference.positive, found.lengths[0]), (reference.negative, found.lengths[-1])))
     ends = ((shape[0], other[0]), (shape[-1], other[-1]))
     if any(distance(a, b) > APART + further for (a, b), further in zip(ends, more)):
@@ -113,8 +113,8 @@ VERDICTS = ("same lines", "same road", "elsewhere", "not decoded")
 
 
 def verdict(roads, reference, found, location, shape, slack):
-    """How a path was found again: one of VERDICTS. `location` is None where a line of it is missing; `shape` is the one that
-    was meant."""
+    """How a path was recovered: one of VERDICTS. `location` is None if one of its lines is missing; `shape` is that of the
+    publisher's path."""
     if isinstance(found, Failed):
         return "not decoded"
     if location and is_same(roads, reference, found, location, slack):
@@ -129,7 +129,7 @@ def are_twins(a, b):
 
 
 def cause(roads, reference, rules, found, location):
-    """Why a path was not found as the same lines."""
+    """Why a path was not recovered as the same lines."""
     if location is None:
         return "a line is missing"
     if isinstance(found, Failed):
@@ -153,7 +153,7 @@ def cause(roads, reference, rules, found, location):
 
 
 def is_by_class(roads, reference, rules, location):
-    """Whether the path would be found if routes could take lines of any class."""
+    """Whether the path would be recovered if routes could use lines of any class."""
     found = decode(roads, reference, rules._replace(class_variance=7))
     return not isinstance(found, Failed) and index_of(found.whole, location.lines) is not None
 
@@ -164,8 +164,8 @@ def has_short(roads, lines, nodes):
 
 
 def mistaken_points(roads, reference, found, location):
-    """The points at which another line was taken than the one of the location: of each the two lines. Of a first or last point
-    only those are known whose line is nearer than the one that was taken, since the location's ends may lie behind it."""
+    """The points at which another line was chosen than that of the location: the two lines of each. A first or last point is
+    included only if its line is nearer than the chosen one, since the ends of the location may be beyond it."""
     last = len(reference.points) - 1
     for k, (point, taken) in enumerate(zip(reference.points, found.taken)):
         side = 1 if k == last else 0
@@ -179,8 +179,8 @@ def mistaken_points(roads, reference, found, location):
 
 
 class Shake(NamedTuple):
-    """How a map differs: nodes and shape points are up to so many metres off, and so many roads in a hundred are split in
-    two, are missing, and have a class one lower or higher. A road is a line with the ones that have its ends and length."""
+    """How a map differs: nodes and shape points are off by up to `metres`, and of a hundred roads `split` are split in two,
+    `missing` are missing, and `classes` have a class one lower or higher. A road is all lines with the same ends and length."""
 
     seed: int
     metres: float = 5.0
@@ -193,7 +193,7 @@ class Shake(NamedTuple):
 
 
 def shaken(roads, shake):
-    """The map that differs so, and for each line those that it became there, or None where it is missing."""
+    """The map that differs, and for each line the lines that it became there, or None if it is missing."""
     rnd, nodes, lines, parts = random.Random(shake.seed), {}, {}, {}
     for number in sorted(roads.nodes):
         nodes[number] = off(rnd, roads.nodes[number], shake.metres)
@@ -224,7 +224,7 @@ def shaken(roads, shake):
 
 
 def off(rnd, at, metres):
-    """A coordinate up to so many metres off, in any direction."""
+    """A coordinate off by up to this many metres, in any direction."""
     far, angle = metres * rnd.random(), 2 * math.pi * rnd.random()
     return at[0] + far * math.sin(angle) / scale(at[1]), at[1] + far * math.cos(angle) / METRES
 
@@ -239,7 +239,7 @@ def moved(rnd, road, nodes, metres):
 
 
 def halves(road, at, middle):
-    """The two parts of a line that is split at a place, where the node `middle` is put."""
+    """The two parts of a line that is split at the node `middle`."""
     node, coordinate = middle
     first = [it for it in road.points if it[0] < at]
     second = [(it[0] - at, *it[1:]) for it in road.points if it[0] > at]

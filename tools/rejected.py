@@ -1,4 +1,4 @@
-"""Explains why a record was rejected: the field, where the record and its fault show it, and what to do.
+"""Explains why a record was rejected: the field, if the record and its fault show it, and what to do.
 
     advice("line,1,2,3,9,3,10", "fault,2,Range")
     'fault,2,Range: line,1,2,3,9,3,10: FRC is 9, and has to be 0 to 7'
@@ -14,7 +14,7 @@ NAME = re.compile("[A-Za-z0-9_.-]{1,64}")
 TEXT = re.compile(".*", re.DOTALL)
 MOST = 4294967295
 
-# For each kind of field: its form, what that is in words, and its bounds.
+# For each kind of field: its form, the text for that form, and its bounds.
 KINDS = {
     **dict.fromkeys(("NODE", "LINE", "FROM", "TO"), (NUMBER, "a number", (1, MOST))),
     **dict.fromkeys(("FRC", "FOW"), (NUMBER, "a number", (0, 7))),
@@ -57,8 +57,8 @@ WHAT_TO_DO = {
     9: "path {1} is registered: repath changes it, unless this was sent twice",
     10: "path {1} is not registered: path registers it",
     11: "a path has 1 to 10,000 lines, none of them twice",
-    12: "it is no OpenLR string that olr-keep writes",
-    13: "there was no memory for it: send it again once there is",
+    12: "it is not an OpenLR string that olr-keep writes",
+    13: "out of memory: send it again when there is more",
     14: "a batch is open: commit or abort it first",
     15: "no batch is open: begin was rejected or not sent",
     16: "the batch holds another number of changes and stays open: see which one was rejected, then abort or commit",
@@ -75,7 +75,7 @@ def fields_of(record):
 
 
 def named(fields):
-    """The fields behind the command word with the names of their kinds, or None where their number is wrong."""
+    """The fields after the command word with the names of their kinds, or None if their number is wrong."""
     fixed, repeated = (it.split() for it in FORMS[fields[0]])
     more = len(fields) - 1 - len(fixed)
     if more < 0 or more % max(1, len(repeated)) or (more and not repeated):
@@ -84,7 +84,7 @@ def named(fields):
 
 
 def wrong_form(fields):
-    """Why fields have no form of a record."""
+    """Why fields are not a record."""
     word = fields[0]
     if word not in FORMS:
         near = word.strip(" \t\ufeff").lower()
@@ -122,7 +122,7 @@ def bad_shape(fields):
 
 
 def bad_path(fields):
-    """Why the lines of a path are not taken."""
+    """Why the lines of a path are not accepted."""
     lines, seen = list(map(int, fields[4:])), set()
     if not 1 <= len(lines) <= 10000:
         return f"it has {len(lines)} lines, and has to have 1 to 10,000"
@@ -131,7 +131,7 @@ def bad_path(fields):
 
 
 def reason(record, number, rest, nodes):
-    """What is wrong with a record, in words."""
+    """What is wrong with a record, as a text."""
     if not is_one_record(record):
         return 'a quote " is open at the end of the line' if '"' in record else "a line end is within the record"
     fields = fields_of(record)
@@ -147,7 +147,7 @@ def reason(record, number, rest, nodes):
 
 
 def advice(record, head, nodes=None):
-    """The fault, the record, and what is wrong with it; `nodes` are the numbers of the nodes in the map, where known."""
+    """The fault, the record, and what is wrong with it; `nodes` are the numbers of the nodes in the map, if known."""
     _, number, *rest = head.split(",")
     shown = record if len(record) <= 200 else f"{record[:200]}.. ({len(record)} characters)"
     return f"{head}: {shown}: {reason(record, int(number), ','.join(rest[1:]), nodes)}"

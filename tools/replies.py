@@ -10,11 +10,11 @@ import re
 import subprocess
 from typing import NamedTuple
 
-# Fields of one line as CSV has them: quoted, with what may follow the closing quote, or without a quote at the start.
+# The CSV fields of one line: quoted, with text after the closing quote allowed, or without a quote at the start.
 FIELD = rb'(?:"(?:[^"]|"")*"(?:[^",][^,]*)?|[^",][^,]*|)'
 ONE_RECORD = re.compile(rb"(?=[^\r\n]+\Z)" + FIELD + rb"(?:," + FIELD + rb")*")
 
-# A line that is no record in any case, to be sent in place of one that would go on behind its line end.
+# A line that is always rejected, to be sent in place of a record that would continue after its line end.
 NO_RECORD = b"?"
 
 
@@ -24,7 +24,7 @@ def is_one_record(line):
 
 
 class Reply(NamedTuple):
-    """The reply to one record: `ok` and the lines that it counts, `held`, or `fault`."""
+    """The reply to one record: `ok` with the lines that it counts, `held`, or `fault`."""
 
     word: str
     number: int
@@ -33,7 +33,7 @@ class Reply(NamedTuple):
 
     @property
     def accepted(self):
-        """Whether the record was accepted, at once or into a batch."""
+        """Whether the record was accepted, or is held by a batch."""
         return self.word != "fault"
 
     def text(self):
@@ -70,9 +70,9 @@ class Keep:
         self.process = subprocess.Popen(arguments, stdin=pipe, stdout=pipe, encoding="utf-8", errors="surrogateescape")
 
     def ask(self, record):
-        """Sends a record and returns its reply. None says that the program has ended: see `close`.
+        """Sends a record and returns its reply, or None if the program has ended: see `close`.
 
-        Raises ValueError for a text that isn't one record on one line, since no reply, or more than one, would follow.
+        Raises ValueError for a text that isn't one record on one line, since it would get no reply, or more than one.
         """
         if not is_one_record(record):
             raise ValueError(f"not one record on one line: {record!r}")
@@ -84,7 +84,7 @@ class Keep:
         return read_reply(self.process.stdout)
 
     def close(self):
-        """Ends the input, and returns the program's status."""
+        """Closes the input, and returns the program's exit status."""
         try:
             self.process.stdin.close()
         except BrokenPipeError:
