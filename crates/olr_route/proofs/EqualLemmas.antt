@@ -1,6 +1,6 @@
 -- What comparisons of two numbers say.
-use Rattle.std.proofs.Common.{◌≡◌, ℕ, Bool, true, false, not, refl, sym, eqb}
-use Rattle.std.proofs.lemmas.Bool.{eq-eqb, eqb-true, ne_eqb}
+use Rattle.std.proofs.Common.{◌≡◌, ℕ, Bool, true, false, not, refl, eqb}
+use Rattle.std.proofs.lemmas.Bool.{eq-eqb, eqb-true}
 
 pub differ : (a b : ℕ) → true ≡ not (eqb a b) → ¬ (a ≡ b)
 differ a b e h = let t : eqb a b ≡ true = eq-eqb a b h in cc
@@ -11,6 +11,3 @@ agree a b e = eqb-true a b (other (eqb a b) e)
     other : (t : Bool) → false ≡ not t → t ≡ true
     other true e = refl
     other false e = cc
-
-pub other_number : (v q : ℕ) → ¬ (q ≡ v) → eqb v q ≡ false
-other_number v q ne = ne_eqb v q (λ e. ne (sym e))

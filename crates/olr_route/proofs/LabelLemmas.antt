@@ -7,7 +7,7 @@ use Rattle.olr_spec.proofs.WalkLemmas.{positive, empty_least}
 use Rattle.olr_spec.proofs.LabelLemmas.{last_first}
 use Rattle.olr_spec.proofs.OptionLemmas.{some_of, is_some_of}
 use Rattle.olr_route.specs.Labels.{Label, Labels, label_at, last_of, IsLabel, AreLabels}
-use Rattle.olr_route.specs.Marks.{NotGreater, NotAfter, Capped, IsClosed, Found}
+use Rattle.olr_route.specs.Relaxed.{NotGreater, NotAfter, Capped, IsClosed, Found}
 use Rattle.olr_route.proofs.WalkEnds.{last_of-append, ends_of, dm_of-line, walk_on, LastStep, last_step}
 use Rattle.olr_route.proofs.WalkEnds.Ends.{empty, ended}
 

@@ -5,7 +5,6 @@ mod ViewLemmas
 mod StretchLemmas
 mod ReadLemmas
 mod EqualLemmas
-mod MarkLemmas
 mod HeapLemmas
 mod NoteLemmas
 mod DistinctLemmas

@@ -1,16 +1,16 @@
 -- Distances with the last lines that they give are the labels of the least walks.
 use Rattle.std.proofs.Common.{◌≡◌, ℕ, ◌+◌, ◌<◌, ◌≤◌, ◌⊎◌, ◌↔◌, List, [], ◌∷◌, ◌++◌, length, get_or, Contains, Option}
-use Rattle.std.proofs.Common.{Some, None, IsSome, IsTrue, refl, sym, ap, ◌∙◌, subst, inl, inr, arith}
+use Rattle.std.proofs.Common.{Some, None, IsTrue, refl, sym, ap, ◌∙◌, subst, inl, inr, arith}
 use Rattle.std.specs.List.Sorted.{IsStrictlyIncreasing}
 use Rattle.std.proofs.lemmas.Bool.{cases_lt}
 use Rattle.std.proofs.lemmas.List.{get_or_default}
-use Rattle.olr_spec.specs.Map.{Map, IsMap, has_node, has_line, start, end, dm}
+use Rattle.olr_spec.specs.Map.{Map, has_node, has_line, start, end, dm}
 use Rattle.olr_spec.specs.Walks.{Walk, dm_of}
 use Rattle.olr_spec.proofs.WalkLemmas.{positive}
 use Rattle.olr_route.specs.Labels.{Label, AreLabels, label_at}
 use Rattle.olr_route.specs.Listed.{listed_labels, IsTight, IsLastLine, IsTold}
 use Rattle.olr_route.specs.Founds.{label_of}
-use Rattle.olr_route.specs.Marks.{Marks, NotGreater, Capped, Found, IsClosed, IsSearchState, mark_at}
+use Rattle.olr_route.specs.Relaxed.{NotGreater, Capped, Found}
 use Rattle.olr_route.specs.Searches.{IsSearch, LiesWithin}
 use Rattle.olr_route.specs.declared.distances.Direction.TheVariants.{Along}
 use Rattle.olr_route.specs.declared.distances.Search.{Search}
@@ -18,7 +18,7 @@ use Rattle.olr_route.proofs.NoteLemmas.{first_one}
 use Rattle.olr_route.proofs.LabelLemmas.{Certified, labels_of_certified}
 use Rattle.olr_route.proofs.SearchLemmas.{is_distance, label_is, distance_node}
 use Rattle.olr_route.proofs.SoleLemmas.{way_le, label_way}
-use Rattle.olr_route.proofs.ViewLemmas.{label_of_node, node_of_label, label_at-listed}
+use Rattle.olr_route.proofs.ViewLemmas.{label_of_node, node_of_label}
 use Rattle.olr_route.proofs.WalkEnds.{last_of-append, ends_of, dm_of-line, walk_on, last_step}
 use Rattle.olr_route.proofs.WalkEnds.Ends.{empty, ended}
 use Rattle.olr_route.proofs.WayLemmas.{leads_first}
@@ -192,15 +192,3 @@ module _ (M : Map) (place : ℕ → ℕ) (s : ℕ) (q : Search) (h : IsSearch M 
 
   pub node_there : (v : ℕ) → Contains ks v → IsTrue (has_node M v)
   node_there v c = let n = (near v).0 c in distance_node M place Along ((s, 0) ∷ []) q h v n.0 n.1
-
--- marks that no line improves, told in lists, are labels too
-pub marked_labels : (M : Map) → IsMap M → (s limit : ℕ) (m : Marks) (ks : List ℕ) (ls : List Label) →
-    IsStrictlyIncreasing ks → length ls ≡ length ks → ((v : ℕ) → Contains ks v ↔ IsSome (mark_at m v))
-    → ((i : ℕ) → i < length ks → mark_at m (get_or ks i 0) ≡ Some (get_or ls i (0, None))) → IsSearchState M s limit m →
-    IsClosed M limit (mark_at m) → AreLabels M (listed_labels s limit ks ls)
-marked_labels M sound s limit m ks ls up beside nodes each f closed =
-    let marks : Certified M s limit (mark_at m) =
-    record { at_source = f.at_source; within = f.within; found = f.found; closed = closed } in
-    labels_of_certified M sound (listed_labels s limit ks ls)
-    (subst (Certified M s limit) (λ i v. sym (label_at-listed s limit ks ls up beside (mark_at m) nodes each v) i)
-    marks)

@@ -100,16 +100,3 @@ module _ (s limit : ℕ) (ks : List ℕ) (ls : List Label) (up : IsStrictlyIncre
       let count =
       len-view (zip ks ls) (subst (λ (xs : List ℕ). IsDistinct eqb xs) (sym keys) (distinct_from_rising ks up)) in
       omega arith
-
-  -- what each node's label is elsewhere, and nothing where there is no node of the list
-  pub label_at-listed : (L : ℕ → Option Label) → ((v : ℕ) → Contains ks v ↔ IsSome (L v)) →
-      ((i : ℕ) → i < length ks → L (get_or ks i 0) ≡ Some (get_or ls i (0, None))) → (v : ℕ) →
-      label_at (listed_labels s limit ks ls) v ≡ L v
-  label_at-listed L nodes each v = decide (L v) refl
-    where
-      decide : (o : Option Label) → L v ≡ o → label_at (listed_labels s limit ks ls) v ≡ L v
-      decide None e = none_there v (λ c. let some = (nodes v).0 c in cc) ∙ sym e
-      decide (Some k) e =
-          let c = (nodes v).1 (is_some_of (L v) k e) in
-          let is : get_or ks c.0 0 ≡ v = get_or_default ks c.0 0 v c.1 ∙ c.2 in
-          label_of_node v c.0 c.1 is ∙ sym (each c.0 c.1) ∙ ap L is

@@ -1,6 +1,6 @@
 pub mod Labels
 pub mod Counts
-pub mod Marks
+pub mod Relaxed
 pub mod Ends
 pub mod Entries
 pub mod Queues

@@ -11,8 +11,6 @@ mod found;
 mod labels;
 mod last_lines;
 mod lines;
-mod marks;
-pub mod plain;
 mod queue;
 mod routes;
 mod steps;

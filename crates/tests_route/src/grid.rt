@@ -2,8 +2,8 @@
 ghost use Rattle.std.specs.Prelude.{◌≤◌};
 
 use made_maps::{make, new_node, node, plain_line};
-use olr_map::{Edit, Footprint, MapRead, RoadMap};
-use olr_route::{Labels, Work, plain, search};
+use olr_map::{Edit, Footprint, LineId, MapRead, RoadMap};
+use olr_route::{Labels, Work, search};
 use std::alloc::Global;
 use std::process::Abort;
 
@@ -52,7 +52,7 @@ fn edits(rt: &impl Abort, alloc: Global) -> Vec<Edit> {
     let mut number = 0u32;
     for (from, to) in &ends(rt, alloc) {
         number = number.saturating_add(1);
-        let line = (number, *from, *to, 700 + number % 5);
+        let line = (number, *from, *to, length(number));
         let added = edits.push(plain_line(alloc, line));
         assert!(rt; added.is_ok());
     }
@@ -68,40 +68,70 @@ fn road_map(rt: &impl Abort, alloc: Global) -> RoadMap {
     map
 }
 
-fn assert_same(rt: &impl Abort, left: &Labels, right: &Labels) {
-    for number in 0..SIDE * SIDE {
-        let node = node(number + 1);
-        assert_eq!(rt; left.dist(node), right.dist(node), "at {node:?}");
-        assert_eq!(rt; left.last_line(node), right.last_line(node), "at {node:?}");
+/// The length of a line in decimetres.
+fn length(number: u32) -> u32
+    ensures { result ≤ 704 }
+{
+    700 + number % 5
+}
+
+/// The distance and the last line that the lines into a node give it, by the labels where they begin: of the lines that
+/// give the least distance, the one with the least number.
+fn label_by_lines(labels: &Labels, ends: &[(u32, u32)], limit: u32, number: u32) -> (Option<u32>, u32) {
+    let mut best = (None, 0);
+    let mut line = 0u32;
+    for (from, to) in ends {
+        line = line.saturating_add(1);
+        if *to != number {
+            continue;
+        }
+        let Some(near) = labels.dist(node(*from)) else {
+            continue;
+        };
+        let dist = near.saturating_add(length(line));
+        if dist <= limit && best.0.is_none_or(|least| dist < least) {
+            best = (Some(dist), line);
+        }
+    }
+    best
+}
+
+/// That each label but the source's is the one that the lines into its node give it.
+fn assert_labels(rt: &impl Abort, labels: &Labels, ends: &[(u32, u32)], source: u32, limit: u32) {
+    for before in 0..SIDE * SIDE {
+        let number = before + 1;
+        let (dist, last) = label_by_lines(labels, ends, limit, number);
+        let at = node(number);
+        if number == source {
+            assert_eq!(rt; (labels.dist(at), labels.last_line(at)), (Some(0), None), "at {at:?}");
+        } else {
+            assert_eq!(rt; (labels.dist(at), labels.last_line(at)), (dist, LineId::new(last)), "at {at:?}");
+        }
     }
 }
 
-/// That both searches give the same labels, and as many as are wanted.
-fn assert_both(rt: &impl Abort, alloc: Global, map: &RoadMap, source: u32, limit: u32, count: u64)
+/// That a search labels as many nodes as are wanted, and each as the lines into it do.
+fn assert_searched(rt: &impl Abort, alloc: Global, map: &RoadMap, source: u32, limit: u32, count: u64)
     requires { limit ≤ 150000 }
 {
-    let source = node(source);
-    assert!(rt; map.node(source).is_some());
+    assert!(rt; map.node(node(source)).is_some());
     let mut work = Work::default();
     let mut footprint = Footprint::new(alloc);
-    let found = search(alloc, map, source, limit, &mut footprint, &mut work);
-    assert_eq!(rt; work.settled, count, "from {source:?} within {limit}");
-    let mut plain_footprint = Footprint::new(alloc);
-    let plain = plain::search(alloc, map, source, limit, &mut plain_footprint, &mut work);
-    assert!(rt; footprint.as_slice() == plain_footprint.as_slice());
-    match (found, plain) {
-        (Ok(labels), Ok(plain)) => assert_same(rt, &labels, &plain),
-        _ => panic!(rt; "no memory"),
+    let found = search(alloc, map, node(source), limit, &mut footprint, &mut work);
+    assert_eq!(rt; work.settled, count, "from {source} within {limit}");
+    match found {
+        Ok(labels) => assert_labels(rt, &labels, &ends(rt, alloc), source, limit),
+        Err(_) => panic!(rt; "no memory"),
     }
 }
 
 #[test]
-fn both_bodies_on_the_grid(rt: HostRuntime) {
+fn search_on_the_grid(rt: HostRuntime) {
     let map = road_map(&rt, rt.alloc());
     // Seven lines are at most 4,928 dm long, and eight at least 5,600 dm.
     for (source, near) in [(1, 36), (210, 113), (400, 36)] {
         for (limit, count) in [(0, 1), (5000, near), (150_000, 400)] {
-            assert_both(&rt, rt.alloc(), &map, source, limit, count);
+            assert_searched(&rt, rt.alloc(), &map, source, limit, count);
         }
     }
 }

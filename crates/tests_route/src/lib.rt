@@ -1,4 +1,4 @@
-//! Tests of searches, walks and distances, of both searches on a grid of 400 nodes, and of numbers at nodes.
+//! Tests of searches, walks and distances, of a search on a grid of 400 nodes, and of numbers at nodes.
 #![tactic(auto)]
 
 #[cfg(test)]

@@ -10,7 +10,7 @@ use made_maps::{
 use olr_map::{Footprint, LineId, MapRead, NodeId, RoadMap};
 use olr_route::{
     Direction, GREATEST_LIMIT, Labels, Search, Work, extends_least, extends_sole, is_least,
-    is_sole, near, plain, search,
+    is_sole, near, search,
 };
 use std::alloc::Global;
 use std::fmt::Debug;
@@ -269,7 +269,7 @@ fn loops_and_parallel_lines(rt: HostRuntime) {
 }
 
 #[test]
-fn plain_search_on_the_base_map(rt: HostRuntime) {
+fn counts_end_at_the_greatest_number(rt: HostRuntime) {
     let map = base(&rt, rt.alloc());
     let source = node(2);
     assert!(rt; map.node(source).is_some());
@@ -279,7 +279,7 @@ fn plain_search_on_the_base_map(rt: HostRuntime) {
         searches: u64::MAX,
         settled: 0,
     };
-    match plain::search(rt.alloc(), &map, source, 150_000, &mut footprint, &mut work) {
+    match search(rt.alloc(), &map, source, 150_000, &mut footprint, &mut work) {
         Ok(labels) => same!(&rt; labels_of(&labels), FROM_SECOND),
         Err(_) => panic!(rt; "no memory"),
     }
