@@ -77,7 +77,12 @@ fn length(number: u32) -> u32
 
 /// The distance and the last line that the lines into a node give it, by the labels where they begin: of the lines that
 /// give the least distance, the one with the least number.
-fn label_by_lines(labels: &Labels, ends: &[(u32, u32)], limit: u32, number: u32) -> (Option<u32>, u32) {
+fn label_by_lines(
+    labels: &Labels,
+    ends: &[(u32, u32)],
+    limit: u32,
+    number: u32,
+) -> (Option<u32>, u32) {
     let mut best = (None, 0);
     let mut line = 0u32;
     for (from, to) in ends {
@@ -103,21 +108,37 @@ fn assert_labels(rt: &impl Abort, labels: &Labels, ends: &[(u32, u32)], source: 
         let (dist, last) = label_by_lines(labels, ends, limit, number);
         let at = node(number);
         if number == source {
-            assert_eq!(rt; (labels.dist(at), labels.last_line(at)), (Some(0), None), "at {at:?}");
+            assert_eq!(rt;
+                (labels.dist(at), labels.last_line(at)),
+                (Some(0), None),
+                "at {at:?}"
+            );
         } else {
-            assert_eq!(rt; (labels.dist(at), labels.last_line(at)), (dist, LineId::new(last)), "at {at:?}");
+            assert_eq!(rt;
+                (labels.dist(at), labels.last_line(at)),
+                (dist, LineId::new(last)),
+                "at {at:?}"
+            );
         }
     }
 }
 
 /// That a search labels as many nodes as are wanted, and each as the lines into it do.
-fn assert_searched(rt: &impl Abort, alloc: Global, map: &RoadMap, source: u32, limit: u32, count: u64)
+fn assert_searched(
+    rt: &impl Abort,
+    alloc: Global,
+    map: &RoadMap,
+    source: u32,
+    limit: u32,
+    count: u64,
+)
     requires { limit ≤ 150000 }
 {
-    assert!(rt; map.node(node(source)).is_some());
+    let start = node(source);
+    assert!(rt; map.node(start).is_some());
     let mut work = Work::default();
     let mut footprint = Footprint::new(alloc);
-    let found = search(alloc, map, node(source), limit, &mut footprint, &mut work);
+    let found = search(alloc, map, start, limit, &mut footprint, &mut work);
     assert_eq!(rt; work.settled, count, "from {source} within {limit}");
     match found {
         Ok(labels) => assert_labels(rt, &labels, &ends(rt, alloc), source, limit),
