@@ -1,9 +1,9 @@
 -- How numbers change, and what they tell when no line leads on.
-use Rattle.std.proofs.Common.{◌≡◌, ◌≢◌, nat_eq, ◌*◌, ◌^◌, get_or, length, ℕ, ◌+◌, ◌-◌, ◌<◌, ◌≤◌, ◌⊎◌, List, [], ◌∷◌}
+use Rattle.std.proofs.Common.{◌≡◌, ◌≢◌, nat_eq, ◌*◌, ◌^◌, get_or, length, ℕ, ◌+◌, ◌-◌, ◌<◌, ◌≤◌, ◌⊎◌, List, [], ◌∷◌, ◌++◌}
 use Rattle.std.proofs.Common.{Option, Some, None, IsSome, IsTrue, Bool, refl, sym, ap, ◌∙◌, subst, inl, inr, arith}
 use Rattle.std.proofs.Common.{le_trans}
-use Rattle.std.proofs.lemmas.Bool.{cases_Bool, cases_eq, eqb-true, ne_eqb}
-use Rattle.std.specs.Prelude.{sum_by, unwrap_or}
+use Rattle.std.proofs.lemmas.Bool.{cases_Bool, cases_eq, cases_lt, eqb-true, ne_eqb}
+use Rattle.std.specs.Prelude.{sum_by, unwrap_or, min}
 use Rattle.std.specs.Option.{option_map}
 use Rattle.std.specs.Cmp.{nat_eq_equiv}
 use Rattle.std.specs.HashMap.{IsUnique, PutsEntry, Updates, get, keys, values}
@@ -19,12 +19,13 @@ use Rattle.olr_spec.specs.Map.{Map, has_line, start, end, dm, lines_out, SameLin
 use Rattle.olr_spec.specs.Walks.{Walk, dm_of}
 use Rattle.olr_spec.specs.Extension.{limit}
 use Rattle.olr_spec.specs.Detours.{Near}
+use Rattle.olr_spec.proofs.WalkLemmas.{Walk-append, dm_of-append}
 use Rattle.olr_spec.proofs.AgreeLemmas.{turned_round, by_leaving, same_known, same_start, same_end, same_dm}
 use Rattle.olr_map.specs.Ends.{end_out, ends_out}
 use Rattle.olr_map.specs.declared.read.LineEnd.{LineEnd}
 use Rattle.olr_near.proofs.Waiting.{line_there, pushed_kept, pushed_there}
 use Rattle.olr_near.specs.Numbers.{Numbers, number_of, IsSource, Within, ClosedAt, IsRight, IsWaiting, IsUnderWay}
-use Rattle.olr_near.specs.Numbers.{SameBut, Moves, IsReopened}
+use Rattle.olr_near.specs.Numbers.{SameBut, Moves, IsReopened, IsLowered, IsFollowed, IsLed, lesser}
 use Rattle.olr_near.specs.declared.nearness.Nearness.{Nearness}
 use Rattle.olr_route.proofs.WayLemmas.{no_end}
 
@@ -47,17 +48,10 @@ pub closed_better : (M : Map) (L K : ℕ → Option ℕ) → Better L K → (u d
 closed_better M L K better u d closed x known from short =
     within_better L K better (end M x) (d + dm M x) (closed x known from short)
 
--- a number of at most 0 is that of a source
-pub source_within : (g : Nearness) (s : ℕ) → Within (number_of g) s 0 → number_of g s ≡ Some 0
-source_within g s k =
-    let low = k.low in
-    let none : k.number ≡ 0 = omega arith in
-    subst (λ (n : ℕ). number_of g s ≡ Some n) none k.at
-
-pub source_better : (f g : Nearness) → g.known ≡ f.known → Better (number_of f) (number_of g) → (s : ℕ) → IsSource f s →
-    IsSource g s
-source_better f g known better s source is =
-    source_within g s (better s 0 (source (subst (λ (b : Bool). IsTrue b) known is)))
+pub source_better : (f g : Nearness) → g.known ≡ f.known → Better (number_of f) (number_of g) → (s w : ℕ) →
+    IsSource f s w → IsSource g s w
+source_better f g known better s w source is =
+    within_better (number_of f) (number_of g) better s (limit - w) (source (subst (λ (b : Bool). IsTrue b) known is))
 
 pub moves_then : (f g h : Nearness) → Moves f g → Moves g h → Moves f h
 moves_then f g h m n = record {
@@ -125,6 +119,52 @@ less_some o had d is lt e at =
 
 pub less_none : (o : Option ℕ) (d : ℕ) → None ≡ o → (e : ℕ) → o ≡ Some e → d < e
 less_none o d is e at = let never : ◌≡◌ {A = Option ℕ} None (Some e) = is ∙ at in absurd cc
+
+-- it is there already, and no greater
+pub kept_lowered : (f g : Nearness) (k v d e : ℕ) → k ≡ v → Updates nat_eq f.numbers g.numbers k (Some e) →
+    Some e ≡ number_of f k → e ≤ d → IsLowered f g v d
+kept_lowered f g k v d e is updates was le =
+    let same : e ≡ min e d = omega arith in
+    let had : Some e ≡ number_of f v = was ∙ ap (number_of f) is in
+    record {
+      at =
+          ap (number_of g) (sym is) ∙ updates.1 ∙ ap (λ (n : ℕ). Some n) same
+          ∙ ap (λ (o : Option ℕ). Some (lesser o d)) had;
+      others = λ q ne. updates.2 q (ne_eqb k q (λ i. ne (sym i ∙ is)));
+    }
+
+lesser_put : (o : Option ℕ) (d : ℕ) → ((e : ℕ) → o ≡ Some e → d < e) → d ≡ lesser o d
+lesser_put None d less = refl
+lesser_put (Some e) d less = let lt = less e refl in omega arith
+
+pub put_lowered : (f g : Nearness) (k v d : ℕ) → k ≡ v → Updates nat_eq f.numbers g.numbers k (Some d) →
+    ((e : ℕ) → number_of f k ≡ Some e → d < e) → IsLowered f g v d
+put_lowered f g k v d is updates less = record {
+  at =
+      ap (number_of g) (sym is) ∙ updates.1 ∙ ap (λ (n : ℕ). Some n) (lesser_put (number_of f k) d less)
+      ∙ ap (λ (q : ℕ). Some (lesser (number_of f q) d)) is;
+  others = λ q ne. updates.2 q (ne_eqb k q (λ i. ne (sym i ∙ is)));
+}
+
+lesser_one : (o : Option ℕ) (d e : ℕ) → ◌≡◌ {A = Option ℕ} (Some (lesser o d)) (Some e) → (o ≡ Some e) ⊎ (e ≡ d)
+lesser_one None d e at = let is : d ≡ e = cc in inr (sym is)
+lesser_one (Some k) d e at =
+    let is : min k d ≡ e = cc in
+    elim (cases_lt k d) [
+      | inl lt ↦ let same : k ≡ e = omega arith in inl (ap (λ (n : ℕ). Some n) same)
+      | inr le ↦ inr (omega arith)
+    ]
+
+-- each number is one of before, or the new one
+pub lowered_from : (f g : Nearness) (v d : ℕ) → IsLowered f g v d → (q e : ℕ) → number_of g q ≡ Some e →
+    (number_of f q ≡ Some e) ⊎ ((e ≡ d) × (q ≡ v))
+lowered_from f g v d l q e at = elim (cases_eq q v) [
+  | inr ne ↦ inl (sym (l.others q ne) ∙ at)
+  | inl is ↦ elim (lesser_one (number_of f v) d e (sym l.at ∙ ap (number_of g) (sym is) ∙ at)) [
+    | inl was ↦ inl (ap (number_of f) is ∙ was)
+    | inr new ↦ inr (new, is)
+  ]
+]
 
 -- what it counts
 abbrev pub weight : ℕ → ℕ
@@ -198,6 +238,25 @@ module _ (M : Map) (f g : Nearness) (d v : ℕ) (same : g.numbers ≡ f.numbers)
         ]
   ]
 
+-- ---- where numbers come from
+
+pub led_itself : (M : Map) (L : ℕ → Option ℕ) (v d : ℕ) → L v ≡ Some d → IsLed M L v d
+led_itself M L v d at = record { from = v; number = d; at = at; route = []; leads = refl; long = omega arith }
+
+pub led_on : (M : Map) (L : ℕ → Option ℕ) (u n v d : ℕ) → IsLed M L u n → IsFollowed M u n v d → IsLed M L v d
+led_on M L u n v d k f =
+    let before = k.long in
+    let more = f.long in
+    let both = dm_of-append M k.route (f.line ∷ []) in
+    record {
+      from = k.from;
+      number = k.number;
+      at = k.at;
+      route = k.route ++ f.line ∷ [];
+      leads = Walk-append M k.from u v k.route (f.line ∷ []) k.leads (f.known, f.near, f.far);
+      long = omega arith;
+    }
+
 -- ---- lines that are followed again
 
 pub closed_same : (M N : Map) (L : ℕ → Option ℕ) (u d : ℕ) → SameRound M N u → ClosedAt M L u d → ClosedAt N L u d
@@ -209,9 +268,10 @@ closed_same M N L u d same closed x known from short =
     (closed x (subst (λ (b : Bool). IsTrue b) (same_known N M x is) known) (sym (same_start N M x is) ∙ from)
     (omega arith)))
 
-pub reopened_sources : (T : List ℕ) (f g : Nearness) → IsReopened T f g → (s : ℕ) → IsSource f s → IsSource g s
-reopened_sources T f g r s source is =
-    ap (λ (m : Numbers). get nat_eq m s) r.same ∙ source (subst (λ (b : Bool). IsTrue b) r.known is)
+pub reopened_sources : (T : List ℕ) (f g : Nearness) → IsReopened T f g → (s w : ℕ) → IsSource f s w → IsSource g s w
+reopened_sources T f g r s w source is =
+    let k = source (subst (λ (b : Bool). IsTrue b) r.known is) in
+    record { number = k.number; at = ap (λ (m : Numbers). get nat_eq m s) r.same ∙ k.at; low = k.low }
 
 pub reopened_under_way : (M N : Map) (T : List ℕ) (f g : Nearness) → IsReopened T f g → SameBut T M N → IsUnderWay M f →
     IsUnderWay N g
@@ -239,10 +299,12 @@ number_along M f right known u v d (x ∷ xs) at w short =
     let low = k.low in
     number_along M f right known (end M x) v k.number xs k.at w.2 (omega arith)
 
-pub near_numbered : (M : Map) (f : Nearness) (s : ℕ) (T : List ℕ) → IsTrue f.known → IsRight M f → IsSource f s →
-    (near : Near M T s limit) → IsSome (number_of f near.node)
-near_numbered M f s T known right source near =
-    number_along M f right known s near.node 0 near.walk (source known) near.leads (let w = near.within in omega arith)
+pub near_numbered : (M : Map) (f : Nearness) (s w : ℕ) (T : List ℕ) → IsTrue f.known → IsRight M f → IsSource f s w →
+    (near : Near M T s (min w limit)) → IsSome (number_of f near.node)
+near_numbered M f s w T known right source near =
+    let k = source known in
+    number_along M f right known s near.node k.number near.walk k.at near.leads
+    (let short = near.within in let low = k.low in omega arith)
 
 -- ---- the lines from a node
 

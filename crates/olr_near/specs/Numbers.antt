@@ -1,26 +1,29 @@
--- Numbers of nodes, by which it is told that no source is near.
+-- Numbers of nodes: distance bounds.
 --     number_of f v      the number of node v, in decimetres.
 --     numbers_len f      how many nodes have one
---     IsSource f s      the node s is a source: its number is 0
+--     IsSource f s w      a query of length w begins at the node s: its number is at most the limit less w
 --     Within L v d      node v has a number, of at most d
 --     ClosedAt M L u d      each line from u, where d, leads within the limit to a number that is no greater than the
 --         way there
---     IsRight M f      so at each number: then each is at most the distance from the nearest source, and other nodes
---         are beyond the limit
+--     IsRight M f      so at each number: then each node that a query reaches has one
 --     IsUnderWay M f      so at each number, unless the node waits
 --     SameBut T M N      round all nodes but T the maps are the same
 --     Moves f g      no number got greater, and where one is new its node waits
+--     IsLowered f g v d      only the number of v changed: it is the lesser of d and the one before
+--     IsFollowed M u n v d      a line leads from u, where n, to v, where d
+--     IsLed M L v d      a route leads from a node to v, of which the length and the number there are d
 --     IsReopened T f g      the numbers are the same, and the nodes T wait where they have one
 --     gain f      rises with each new number and each lesser one.
 --     IsPaid f g      so much that no more waits than was gained
 -- Where the numbers are unknown nothing is said.
-use Rattle.std.specs.Prelude.{◌≡◌, ℕ, ◌+◌, ◌-◌, ◌*◌, ◌≤◌, ◌⊎◌, List, Option, Some, Contains, IsTrue, IsFalse, nat_eq}
-use Rattle.std.specs.Prelude.{sum_by}
+use Rattle.std.specs.Prelude.{◌≡◌, ◌≢◌, ℕ, ◌+◌, ◌-◌, ◌*◌, ◌≤◌, ◌⊎◌, List, Option, Some, None, Contains, IsTrue, IsFalse}
+use Rattle.std.specs.Prelude.{nat_eq, min, sum_by}
 use Rattle.std.specs.declared.hash.BuildHasherDefault.{BuildHasherDefault}
 use Rattle.std.specs.declared.cmp.Reverse.{Reverse}
 use Rattle.std.specs.HashMap.{HashMap, get, values, hash_map_len}
 use Rattle.std.specs.BinaryHeap.{heap_items, heap_len}
 use Rattle.olr_spec.specs.Map.{Map, has_line, start, end, dm, SameRound, has}
+use Rattle.olr_spec.specs.Walks.{Walk, dm_of}
 use Rattle.olr_spec.specs.Extension.{limit}
 use Rattle.olr_map.specs.declared.number_hash.NumberHasher.{NumberHasher}
 use Rattle.olr_near.specs.declared.nearness.Nearness.{Nearness}
@@ -34,13 +37,13 @@ number_of f v = get nat_eq f.numbers v
 abbrev pub numbers_len : Nearness → ℕ
 numbers_len f = hash_map_len f.numbers
 
-abbrev pub IsSource : Nearness → ℕ → Type 0
-IsSource f s = IsTrue f.known → number_of f s ≡ Some 0
-
 pub record Within (L : ℕ → Option ℕ) (v d : ℕ) : Type 0 where
   pub number : ℕ
   pub at : L v ≡ Some number
   pub low : number ≤ d
+
+abbrev pub IsSource : Nearness → ℕ → ℕ → Type 0
+IsSource f s w = IsTrue f.known → Within (number_of f) s (limit - w)
 
 abbrev pub ClosedAt : Map → (ℕ → Option ℕ) → ℕ → ℕ → Type 0
 ClosedAt M L u d =
@@ -80,6 +83,30 @@ pub record Moves (f g : Nearness) : Type 0 where
 -- each place that is taken by what waits is paid for
 abbrev pub IsPaid : Nearness → Nearness → Type 0
 IsPaid f g = 2 * gain f + waiting_len g ≤ 2 * gain g + waiting_len f
+
+-- of a number, if there is one, and d
+abbrev pub lesser : Option ℕ → ℕ → ℕ
+lesser None d = d
+lesser (Some e) d = min e d
+
+pub record IsLowered (f g : Nearness) (v d : ℕ) : Type 0 where
+  pub at : number_of g v ≡ Some (lesser (number_of f v) d)
+  pub others : (q : ℕ) → q ≢ v → number_of g q ≡ number_of f q
+
+pub record IsFollowed (M : Map) (u n v d : ℕ) : Type 0 where
+  pub line : ℕ
+  pub known : IsTrue (has_line M line)
+  pub near : start M line ≡ u
+  pub far : end M line ≡ v
+  pub long : n + dm M line ≡ d
+
+pub record IsLed (M : Map) (L : ℕ → Option ℕ) (v d : ℕ) : Type 0 where
+  pub from : ℕ
+  pub number : ℕ
+  pub at : L from ≡ Some number
+  pub route : List ℕ
+  pub leads : Walk M from v route
+  pub long : number + dm_of M route ≡ d
 
 pub record IsReopened (T : List ℕ) (f g : Nearness) : Type 0 where
   pub same : g.numbers ≡ f.numbers

@@ -1,5 +1,5 @@
-//! Whether edits of a map are far from all of some nodes: told without a search, by a number at each node that lies
-//! within the greatest limit of one of them. The numbers are kept right through edits.
+//! Distance bounds of nodes, maintained under edits: they cut the search from an edit where no coverage query can reach
+//! on, and show without a search that none reaches the edit.
 #![tactic(auto)]
 
 pub mod nearness;

@@ -1,17 +1,18 @@
-//! Numbers of nodes, at most the distances from the nearest source.
+//! Numbers of nodes: distance bounds, which cut the search from an edit.
 ghost use Rattle.std.specs.Prelude.{◌<◌, ◌^◌, ℕ, IsSome, nat_eq};
 ghost use Rattle.std.specs.HashMap.{get};
 
 use olr_map::{MapRead, NodeId, NumberHasher};
-use olr_route::GREATEST_LIMIT;
+use olr_route::{Bounds, GREATEST_LIMIT};
 use std::alloc::{AllocError, Global};
 use std::cmp::Reverse;
 use std::collections::{BinaryHeap, HashMap};
 use std::hash::BuildHasherDefault;
 
-/// A number for each node that a walk of at most `GREATEST_LIMIT` leads to from one of the sources: at most the length
-/// of that walk, in decimetres. Where lines got longer or were dropped since, numbers may be too small, and some nodes
-/// may have one that no source is near to.
+/// A number, in decimetres, for each node that a query reaches. A query begins at its source and has a length, and
+/// reaches the nodes that a route of at most that length leads to. The number is a lower bound: at most `GREATEST_LIMIT`
+/// less what is left of the query's length at the node. If lines get longer or are removed, or queries are removed,
+/// numbers may be too small, and nodes that no query reaches may have one.
 ///
 /// After want of memory the numbers are unknown, until they are begun again by `clear`.
 #[derive(Drop)]
@@ -26,12 +27,12 @@ pub struct Nearness {
 }
 
 impl Nearness {
-    ghost use Rattle.std.specs.Prelude.{◌≡◌, ◌≤◌, ◌↔◌, ℕ, None, Some, IsTrue, IsFalse, OnOk, OnErr};
+    ghost use Rattle.std.specs.Prelude.{◌≡◌, ◌≤◌, ◌-◌, ◌⊎◌, ◌↔◌, ℕ, None, Some, IsTrue, IsFalse, OnOk, OnErr, min};
     ghost use Rattle.olr_spec.specs.Map.{Map, has};
     ghost use Rattle.olr_spec.specs.Extension.{limit};
     ghost use Rattle.olr_spec.specs.Detours.{Near};
     ghost use Rattle.olr_near.specs.Numbers.{number_of, numbers_len, IsSource, IsRight, IsUnderWay, SameBut, Within};
-    ghost use Rattle.olr_near.specs.Numbers.{ClosedAt, Moves, IsPaid, IsReopened};
+    ghost use Rattle.olr_near.specs.Numbers.{ClosedAt, Moves, IsPaid, IsReopened, IsLowered, IsFollowed, IsLed};
 
     /// No sources, and no numbers. Takes no memory.
     pub fn new(alloc: Global) -> Nearness
@@ -60,6 +61,13 @@ impl Nearness {
         self.numbers.len()
     }
 
+    /// The numbers, as bounds of a search.
+    pub fn bounds(&self) -> &Bounds
+        ensures { result.now ≡ self.now.numbers }
+    {
+        &self.numbers
+    }
+
     /// Forgets all sources and numbers, and begins anew. Takes no memory.
     pub fn clear(&mut self)
         ensures known { IsTrue self.new.known }
@@ -81,10 +89,10 @@ impl Nearness {
         self.known = false;
     }
 
-    /// Whether it is known that from no source a walk of at most `GREATEST_LIMIT` leads to one of the nodes.
+    /// Whether it is known that no query reaches one of the nodes.
     pub fn is_far(&self, nodes: &[NodeId]) -> bool
-        ensures far { IsTrue result → (M : Map) (s : ℕ) → IsRight M self.now → IsSource self.now s
-            → ¬ Near M nodes.now s limit }
+        ensures far { IsTrue result → (M : Map) (s w : ℕ) → IsRight M self.now → IsSource self.now s w
+            → ¬ Near M nodes.now s (min w limit) }
         ensures exact { IsTrue result
             ↔ (IsTrue self.now.known × ((v : ℕ) → IsTrue (has nodes.now v) → number_of self.now v ≡ None)) }
     {
@@ -99,15 +107,16 @@ impl Nearness {
         true
     }
 
-    /// Adds a source, whose lines are then to be followed.
-    pub fn add(&mut self, source: NodeId) -> Result<(), AllocError>
-        ensures source { IsSource self.new source }
-        ensures sources { (s : ℕ) → IsSource self.old s → IsSource self.new s }
+    /// Adds a query of a length in decimetres that begins at the source, whose lines are then to be followed.
+    pub fn add(&mut self, source: NodeId, within: u32) -> Result<(), AllocError>
+        ensures source { IsSource self.new source within }
+        ensures lowered { OnOk result (IsLowered self.old self.new source (limit - within)) }
+        ensures sources { (s w : ℕ) → IsSource self.old s w → IsSource self.new s w }
         ensures under_way { (M : Map) → IsUnderWay M self.old → IsUnderWay M self.new }
         ensures ok { OnOk result (self.new.known ≡ self.old.known) }
         ensures err { OnErr result (IsFalse self.new.known) }
     {
-        match self.lower(source, 0) {
+        match self.lower(source, GREATEST_LIMIT.saturating_sub(within)) {
             Ok(()) => Ok(()),
             Err(error) => {
                 self.forget();
@@ -118,7 +127,7 @@ impl Nearness {
 
     /// Lets the lines from these nodes be followed again, as it has to be where a line was added or got shorter.
     pub fn reopen(&mut self, nodes: &[NodeId]) -> Result<(), AllocError>
-        ensures sources { (s : ℕ) → IsSource self.old s → IsSource self.new s }
+        ensures sources { (s w : ℕ) → IsSource self.old s w → IsSource self.new s w }
         ensures under_way { (M N : Map) → SameBut nodes.now M N → IsUnderWay M self.old → IsUnderWay N self.new }
         ensures ok { OnOk result (self.new.known ≡ self.old.known) }
         ensures err { OnErr result (IsFalse self.new.known) }
@@ -134,8 +143,10 @@ impl Nearness {
 
     /// Follows the lines of all nodes that wait, until the numbers are right.
     pub fn settle<M: MapRead>(&mut self, map: &M) -> Result<(), AllocError>
-        ensures sources { (s : ℕ) → IsSource self.old s → IsSource self.new s }
+        ensures sources { (s w : ℕ) → IsSource self.old s w → IsSource self.new s w }
         ensures right { IsUnderWay (M.map map.now) self.old → IsRight (M.map map.now) self.new }
+        ensures reached { OnOk result ((v d : ℕ) → number_of self.new v ≡ Some d
+            → IsLed (M.map map.now) (number_of self.old) v d) }
         ensures ok { OnOk result (self.new.known ≡ self.old.known) }
         ensures err { OnErr result (IsFalse self.new.known) }
     {
@@ -154,6 +165,7 @@ impl Nearness {
         ensures moves { OnOk result (Moves self.old self.new) }
         ensures paid { OnOk result (IsPaid self.old self.new) }
         ensures within { OnOk result (Within (number_of self.new) node number) }
+        ensures lowered { OnOk result (IsLowered self.old self.new node number) }
     {
         let key = node.number();
         match self.numbers.get_mut(&key) {
@@ -199,6 +211,8 @@ impl Nearness {
         ensures moves { OnOk result (Moves self.old self.new) }
         ensures paid { OnOk result (IsPaid self.old self.new) }
         ensures closed { OnOk result (ClosedAt (M.map map.now) (number_of self.new) node number) }
+        ensures followed { OnOk result ((v d : ℕ) → number_of self.new v ≡ Some d
+            → (number_of self.old v ≡ Some d) ⊎ IsFollowed (M.map map.now) node number v d) }
     {
         if number > GREATEST_LIMIT {
             return Ok(());
@@ -217,6 +231,8 @@ impl Nearness {
         ensures better { OnOk result ((v d : ℕ) → number_of self.old v ≡ Some d → Within (number_of self.new) v d) }
         ensures known { OnOk result (self.new.known ≡ self.old.known) }
         ensures right { OnOk result (IsUnderWay (M.map map.now) self.old → IsRight (M.map map.now) self.new) }
+        ensures reached { OnOk result ((v d : ℕ) → number_of self.new v ≡ Some d
+            → IsLed (M.map map.now) (number_of self.old) v d) }
     {
         while let Some(top) = self.waiting.pop() {
             let Reverse(nearest) = top;

@@ -1,19 +1,19 @@
 -- What is asked of each path of a list is asked of the one at a place.
 use Rattle.std.proofs.Common.{◌≡◌, ℕ, List, [], slice_get, Contains, Option, Some, None, option_map, IfSome, Bool}
-use Rattle.std.proofs.Common.{IsTrue, IsFalse, true, refl, sym, ap, ◌∙◌, subst, arith}
+use Rattle.std.proofs.Common.{IsTrue, IsFalse, true, false, min, sym, subst, arith}
 use Rattle.std.proofs.lemmas.Option.{slice_get_within, get_or_from_slice_get}
 use Rattle.olr_spec.specs.Looks.{Look}
 use Rattle.olr_spec.specs.Detours.{Near}
 use Rattle.olr_spec.specs.Map.{Map}
 use Rattle.olr_paths.specs.Items.{Made, Item}
 use Rattle.olr_paths.specs.Changes.{LookTouched}
-use Rattle.olr_route.specs.Searches.{IsSearch, limit_of}
+use Rattle.olr_route.specs.Bounds.{AreLengths}
 use Rattle.olr_route.specs.declared.distances.Search.{Search}
 use Rattle.olr_route.specs.declared.distances.Direction.TheVariants.{Against}
 use Rattle.olr_spec.specs.Extension.{limit}
 use Rattle.olr_paths.specs.Touching.{nodes_of}
-use Rattle.olr_paths.specs.Searching.{sources, IsAsked, AreAsked, LacksLooks, LackLooks}
-use Rattle.olr_paths.specs.Beginning.{BeginsIn, AreFar}
+use Rattle.olr_paths.specs.Searching.{sources, IsTold, IsAsked, AreAsked, LacksLooks, LackLooks}
+use Rattle.olr_paths.specs.Beginning.{BeginsIn, Begins, AreFar}
 use Rattle.olr_paths.proofs.Beginning.{begins_there}
 use Rattle.olr_paths.specs.declared.touched.Touched.{Touched}
 use Rattle.olr_paths.specs.declared.searches.Searches.{Searches}
@@ -42,10 +42,12 @@ module _ (N : Map) (place : ℕ → ℕ) (t : Touched) where
       IfSome made (IsAsked N place t s) → IfSome made (IsAsked N place t r)
   asked_made s r None near far h = h
   asked_made s r (Some m) near far h = record {
-    search =
-        λ off. subst (λ (x : Search). IsSearch N place Against (sources t) x) (sym near)
-        (h.search (subst (λ (b : Bool). IsFalse b) far off));
-    settled = λ off. ap limit_of near ∙ h.settled (subst (λ (b : Bool). IsFalse b) far off);
+    lengths =
+        λ off. subst (λ (x : Search). AreLengths N place Against (sources t) x) (sym near)
+        (h.lengths (subst (λ (b : Bool). IsFalse b) far off));
+    told =
+        λ off l on. subst (λ (x : Search). IsTold N place t x l.from (min l.within limit)) (sym near)
+        (h.told (subst (λ (b : Bool). IsFalse b) far off) l on);
     far = λ on. h.far (subst (λ (b : Bool). IsTrue b) far on);
   }
 
@@ -57,28 +59,35 @@ module _ (N : Map) (place : ℕ → ℕ) (t : Touched) where
       IfSome made (IsAsked N place t s)
   far_made s None on h = h
   far_made s (Some m) on h = record {
-    search = λ off. let never : ⊥ = cc (on, off) in absurd never;
-    settled = λ off. let never : ⊥ = cc (on, off) in absurd never;
+    lengths = λ off. let never : ⊥ = cc (on, off) in absurd never;
+    told = λ off. let never : ⊥ = cc (on, off) in absurd never;
     far = λ _. h;
   }
 
-  far_looks : (made : Option Made) → ((v : ℕ) → BeginsIn made v → ¬ Near N (nodes_of t) v limit) →
+  far_looks : (made : Option Made) → ((l : Look) → BeginsIn made l → ¬ Near N (nodes_of t) l.from (min l.within limit)) →
       IfSome made (λ m. ¬ LookTouched N (nodes_of t) m)
   far_looks None h = tt
-  far_looks (Some m) h = λ look.
-      let near = look.2 in
-      let short = near.within in
-      h look.0.from (look.0, look.1, refl) (record {
-        node = near.node;
-        walk = near.walk;
-        touched = near.touched;
-        leads = near.leads;
-        within = omega arith;
-      })
+  far_looks (Some m) h = λ look. h look.0 look.1 look.2
 
-  -- where it is told that they are far from all looks
+  -- where it is known that they are far from all looks
   pub asked_far : (s : Searches) (is : List Item) → s.far ≡ true → AreFar N (nodes_of t) is → AreAsked N place t s is
-  asked_far s is on far i there = far_made s i.made on (far_looks i.made (λ v b. far v (begins_there is i v there b)))
+  asked_far s is on far i there = far_made s i.made on (far_looks i.made (λ l b. far l (begins_there is i l there b)))
+
+  searched_made : (s : Searches) (made : Option Made) → s.far ≡ false → AreLengths N place Against (sources t) s.near
+      → ((l : Look) → BeginsIn made l → IsTold N place t s.near l.from (min l.within limit))
+      → IfSome made (IsAsked N place t s)
+  searched_made s None off lengths told = tt
+  searched_made s (Some m) off lengths told = record {
+    lengths = λ _. lengths;
+    told = λ _ l on. told l on;
+    far = λ on. let never : ⊥ = cc (on, off) in absurd never;
+  }
+
+  -- where it was searched as far as each look goes
+  pub asked_searched : (s : Searches) (is : List Item) → s.far ≡ false → AreLengths N place Against (sources t) s.near
+      → ((l : Look) → Begins is l → IsTold N place t s.near l.from (min l.within limit)) → AreAsked N place t s is
+  asked_searched s is off lengths told i there =
+      searched_made s i.made off lengths (λ l b. told l (begins_there is i l there b))
 
   untouched_made : (made : Option Made) → LacksLooks made → IfSome made (λ m. ¬ LookTouched N (nodes_of t) m)
   untouched_made None h = h

@@ -28,7 +28,7 @@ use Rattle.olr_spec.specs.Map.{has_node}
 use Rattle.olr_spec.specs.Walks.{dm_of}
 use Rattle.olr_spec.specs.Looks.{Look}
 use Rattle.olr_spec.specs.Extension.{limit}
-use Rattle.olr_route.specs.Searches.{LiesWithin, IsSearch, limit_of}
+use Rattle.olr_route.specs.Bounds.{AreLengths, label_at}
 use Rattle.olr_route.specs.declared.distances.Direction.TheVariants.{Against}
 use Rattle.olr_paths.specs.Items.{Made, made_of}
 use Rattle.olr_paths.specs.Changes.{OwnTouched, LineTouched, LookTouched}
@@ -42,8 +42,8 @@ use Rattle.olr_paths.specs.declared.finder.Finder.{Finder}
 use Rattle.olr_paths.specs.declared.published.Published.{Published}
 use Rattle.olr_paths.specs.declared.listing.NamedPath.{NamedPath}
 use Rattle.olr_paths.proofs.NamedEntries.{Entries, item_of, items_of}
-use Rattle.olr_paths.proofs.Sets.{in_from, Contains-map}
-use Rattle.olr_paths.proofs.Nearness.{no_way, near_absent, walk_end}
+use Rattle.olr_paths.proofs.Sets.{in_from}
+use Rattle.olr_paths.proofs.Nearness.{near_absent, leads_from}
 use Rattle.olr_paths.proofs.AskedLemmas.{listed_at}
 use Rattle.olr_paths.proofs.Standing.{back}
 use Rattle.olr_paths.proofs.Alls.{all_more}
@@ -261,8 +261,8 @@ module _ (N : Map) (n : IsMap N) (place : ℕ → ℕ) (t : Touched) (s : Search
     (noted : AreNoted es ms f) (all : ArePublished es) (long : length ms ≡ length es) (found : List ℕ)
     (own : AreFound ms f.own (nodes_of t) found) (from : AreFound ms f.from (nodes_of t) found)
     (lines : AreFound ms f.lines (lines_of t) found)
-    (reached : s.far ≡ false → IsSearch N place Against (sources t) s.near → limit_of s.near ≡ limit → (v : ℕ) →
-    LiesWithin N Against (sources t) limit v → Finds ms f.from v found) where
+    (reached : s.far ≡ false → AreLengths N place Against (sources t) s.near → (v : ℕ) → IsTrue (has_node N v) →
+    label_at s.near (place v) ≤ limit → Finds ms f.from v found) where
   module _ (k : ℕ) (e : String Global × NamedPath) (at : slice_get es k ≡ Some e) (p : Rc Published Global)
       (some : e.1.published ≡ Some p) (off : has found k ≡ false) where
     lower : k < length ms
@@ -299,21 +299,12 @@ module _ (N : Map) (n : IsMap N) (place : ℕ → ℕ) (t : Touched) (s : Search
           | inl far ↦ a.far far h
           | inr close ↦ elim (cases_Bool (has_node N v)) [
             | inl there ↦
-                no_way N Against (sources t) v limit
-                (λ d is le. let on = reached close (a.search close) (a.settled close) v (d, is, le) k lower held in
-                let never : ⊥ =
-                cc (on, off) in never) (suc (dm_of N near.walk)) (dm_of N near.walk) (omega arith)
-                (let short = near.within in omega arith)
-                (record {
-                  source = near.node;
-                  begun = 0;
-                  lines = near.walk;
-                  listed =
-                      Contains-map (λ u. (u, 0)) (nodes_of t) near.node (in_from (nodes_of t) near.node near.touched);
-                  there = walk_end N n v near.node near.walk near.leads there;
-                  way = near.leads;
-                  long = omega arith;
-                })
+                let short = near.within in
+                let way =
+                leads_from N n (nodes_of t) v near.node near.walk near.touched near.leads there in
+                let low = a.told close h.0 h.1 (dm_of N near.walk) short there way in
+                let on = reached close (a.lengths close) v there (omega arith) k lower held in
+                let never : ⊥ = cc (on, off) in never
             | inr lacks ↦
                 let touched : IsTrue (has (nodes_of t) v) =
                 (near_absent N n (nodes_of t) v (min h.0.within limit)

@@ -3,6 +3,7 @@ pub mod Spellings
 pub mod Sets
 pub mod Nearness
 pub mod Beginning
+pub mod Bounding
 pub mod AskedLemmas
 pub mod Alls
 pub mod Noting

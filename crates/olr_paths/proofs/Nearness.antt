@@ -1,17 +1,16 @@
 -- What distances tell: of touched nodes that are near, and of detours.
 use Rattle.std.proofs.Common.{◌≡◌, ℕ, zero, suc, ◌+◌, ◌<◌, ◌≤◌, true, List, [], ◌∷◌, map, IsTrue, ◌↔◌, Option}
-use Rattle.std.proofs.Common.{Some, None, min, refl, sym, ap, subst, arith, ⊎_elim}
+use Rattle.std.proofs.Common.{Some, None, refl, sym, ap, subst, arith, ⊎_elim}
 use Rattle.std.proofs.lemmas.Bool.{cases_lt}
 use Rattle.olr_spec.specs.Map.{Map, IsMap, has_node, end, has}
 use Rattle.olr_spec.specs.Walks.{Walk, dm_of}
-use Rattle.olr_spec.specs.Extension.{limit}
 use Rattle.olr_spec.specs.Detours.{ChangedLine, Detour, Near}
 use Rattle.olr_spec.proofs.WalkLemmas.{walk_start}
 use Rattle.olr_route.specs.Distances.{Leads, IsDistance}
 use Rattle.olr_route.specs.declared.distances.Direction.{Direction}
 use Rattle.olr_route.specs.declared.distances.Direction.TheVariants.{Along, Against}
 use Rattle.olr_paths.specs.Touching.{change_of, changed_of}
-use Rattle.olr_paths.specs.Searching.{starts, ends, IsAtMost, AreFarther}
+use Rattle.olr_paths.specs.Searching.{starts, ends, AreFarther}
 use Rattle.olr_paths.specs.declared.touched.Touched.{Touched}
 use Rattle.olr_paths.proofs.Sets.{has_from, in_from, Contains-map, Contains-unmap}
 
@@ -53,7 +52,7 @@ abbrev pub all_sources : List ℕ → List (ℕ × ℕ)
 all_sources T = map {A = ℕ} {B = ℕ × ℕ} (λ v. (v, 0)) T
 
 module _ (N : Map) (n : IsMap N) (T : List ℕ) (node : ℕ) where
-  leads_from : (v : ℕ) (xs : List ℕ) → IsTrue (has T v) → Walk N node v xs → IsTrue (has_node N node) →
+  pub leads_from : (v : ℕ) (xs : List ℕ) → IsTrue (has T v) → Walk N node v xs → IsTrue (has_node N node) →
       Leads N Against (all_sources T) node (dm_of N xs)
   leads_from v xs touched leads there = record {
     source = v;
@@ -65,25 +64,17 @@ module _ (N : Map) (n : IsMap N) (T : List ℕ) (node : ℕ) where
     long = omega arith;
   }
 
-  -- where the map has the node
-  pub near_by : (r : Option ℕ) (most : ℕ) → IsTrue (has_node N node) →
-      Tells N Against (all_sources T) node limit r → IsAtMost r most ↔ Near N T node (min most limit)
-  near_by None most there tells = (
-    (λ no. absurd no),
-    (λ near.
-        let short = near.within in
-        told_none N Against (all_sources T) node limit None tells refl (dm_of N near.walk) (omega arith)
-        (leads_from near.node near.walk near.touched near.leads there)),
-  )
-  near_by (Some d) most there tells = (
+  -- where the map has the node, whose label is the length of a way
+  pub near_by : (label most : ℕ) → IsTrue (has_node N node) →
+      (label ≤ most → Leads N Against (all_sources T) node label) →
+      ((d : ℕ) → d ≤ most → Leads N Against (all_sources T) node d → label ≤ d) → (label ≤ most) ↔ Near N T node most
+  near_by label most there way told = (
     (λ le.
-        let known = (tells d).0 refl in
-        let leads = known.0.leads in
+        let leads = way le in
         let source = Contains-unmap (λ v. (v, 0)) T (leads.source, leads.begun) leads.listed in
         let same : source.0 ≡ leads.source = ap (λ (p : ℕ × ℕ). p.0) source.2 in
         let begun : 0 ≡ leads.begun = ap (λ (p : ℕ × ℕ). p.1) source.2 in
         let long = leads.long in
-        let far = known.1 in
         record {
           node = leads.source;
           walk = leads.lines;
@@ -94,8 +85,7 @@ module _ (N : Map) (n : IsMap N) (T : List ℕ) (node : ℕ) where
     (λ near.
         let short = near.within in
         let low =
-        ((tells d).0 refl).0.least (dm_of N near.walk)
-        (leads_from near.node near.walk near.touched near.leads there) in
+        told (dm_of N near.walk) short (leads_from near.node near.walk near.touched near.leads there) in
         omega arith),
   )
 

@@ -5,7 +5,7 @@ ghost use Rattle.olr_paths.specs.Touching.{nodes_of, lines_of};
 ghost use Rattle.olr_paths.specs.Searching.{AreDetours, AreAsked, LackLooks};
 ghost use Rattle.olr_paths.specs.Candidates.{Covers};
 ghost use Rattle.std.specs.List.Sorted.{IsNonDecreasing};
-ghost use Rattle.olr_paths.specs.Beginning.{AreFar};
+ghost use Rattle.olr_paths.specs.Beginning.{AreNumbered};
 
 use crate::asking::{is_line_touched, is_own_touched, is_touched, search_near};
 use crate::candidates::candidates;
@@ -14,6 +14,7 @@ use crate::laid::Laid;
 use crate::searches::Searches;
 use crate::touched::Touched;
 use olr_map::MapRead;
+use olr_near::Nearness;
 use std::alloc::{AllocError, Global};
 
 /// Whether it is known that no path has a look: then no touched node can be near to one.
@@ -62,25 +63,25 @@ pub(crate) struct Asked {
     pub(crate) detours: Option<u32>,
 }
 
-/// Searches from what edits touched, unless no look can be touched, as where it is told that they are far from all of
-/// them, or no path has one.
+/// Searches from what edits touched, unless no coverage query can reach it: the distance bounds show so, or no path has
+/// one.
 fn search_touched<M: MapRead>(
     alloc: Global,
     map: &M,
     laid: Laid<'_>,
     touched: &Touched,
-    far: bool,
+    numbers: &Nearness,
     searches: &mut Searches,
 ) -> Result<(), AllocError>
-    requires { IsTrue far → AreFar (M.map map.now) (nodes_of touched.now) (shown_items laid) }
+    requires { AreNumbered (M.map map.now) numbers.now (shown_items laid) }
     ensures { OnOk result
         (AreAsked (M.map map.now) (M.place_in map.now) touched.now searches.new (shown_items laid.entry)) }
 {
-    searches.far = far || is_without_looks(laid);
+    searches.far = numbers.is_far(touched.nodes()) || is_without_looks(laid);
     if searches.far {
         return Ok(());
     }
-    search_near(alloc, map, touched, &mut searches.near)?;
+    search_near(alloc, map, touched, numbers, &mut searches.near)?;
     Ok(())
 }
 
@@ -114,10 +115,10 @@ pub(crate) fn ask<M: MapRead>(
     map: &M,
     laid: Laid<'_>,
     touched: &Touched,
-    far: bool,
+    numbers: &Nearness,
     searches: &mut Searches,
 ) -> Result<Asked, AllocError>
-    requires { IsTrue far → AreFar (M.map map.now) (nodes_of touched.now) (shown_items laid) }
+    requires { AreNumbered (M.map map.now) numbers.now (shown_items laid) }
     ensures asked { OnOk result
         (AreAsked (M.map map.now) (M.place_in map.now) touched.now searches.new (shown_items laid.entry)) }
     ensures rising { IfOk result (λ a. IsNonDecreasing a.found.items) }
@@ -127,7 +128,7 @@ pub(crate) fn ask<M: MapRead>(
     ensures detours { IfOk result
         (λ a. IfSome a.detours (AreDetours (M.map map.now) (M.place_in map.now) touched.now searches.new)) }
 {
-    search_touched(alloc, map, laid, touched, far, searches)?;
+    search_touched(alloc, map, laid, touched, numbers, searches)?;
     let found = candidates(alloc, map, laid, touched, searches)?;
     let detours = ask_detours(alloc, map, laid, &found, touched, searches)?;
     Ok(Asked { found, detours })

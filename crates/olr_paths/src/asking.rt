@@ -4,17 +4,20 @@ ghost use Rattle.std.specs.List.{list_any};
 ghost use Rattle.olr_spec.specs.Map.{has};
 ghost use Rattle.olr_spec.specs.Extension.{limit};
 ghost use Rattle.olr_spec.specs.Detours.{Near};
-ghost use Rattle.olr_route.specs.Searches.{IsSearch, limit_of};
+ghost use Rattle.olr_spec.specs.Looks.{Look};
+ghost use Rattle.olr_route.specs.Bounds.{AreLengths};
+ghost use Rattle.olr_near.specs.Numbers.{IsRight, IsSource};
 ghost use Rattle.olr_route.specs.declared.distances.Direction.TheVariants.{Against};
 ghost use Rattle.olr_paths.specs.Items.{made_of};
 ghost use Rattle.olr_paths.specs.Touching.{nodes_of, lines_of};
-ghost use Rattle.olr_paths.specs.Searching.{sources, IsAsked, IsAtMost};
+ghost use Rattle.olr_paths.specs.Searching.{sources, IsTold, IsAsked};
 ghost use Rattle.olr_paths.specs.Changes.{Touches, LookTouched};
 
 use crate::published::Published;
 use crate::searches::Searches;
 use crate::touched::Touched;
 use olr_map::{Footprint, LineId, MapRead, NodeId};
+use olr_near::Nearness;
 use olr_refs::Path;
 use olr_route::{Direction, GREATEST_LIMIT, Search};
 use std::alloc::{AllocError, Global};
@@ -31,41 +34,37 @@ fn sources_of(alloc: Global, touched: &Touched) -> Result<Vec<(NodeId, u32)>, Al
     Ok(sources)
 }
 
-/// Searches against the lines from all touched nodes.
+/// Searches against the lines from all touched nodes, as far as the distance bounds let it if they are known.
 pub(crate) fn search_near<M: MapRead>(
     alloc: Global,
     map: &M,
     touched: &Touched,
+    numbers: &Nearness,
     near: &mut Search,
 ) -> Result<(), AllocError>
-    ensures search { OnOk result
-        (IsSearch (M.map map.now) (M.place_in map.now) Against (sources touched.now) near.new) }
-    ensures limit { OnOk result (limit_of near.new ≡ limit) }
+    ensures lengths { OnOk result
+        (AreLengths (M.map map.now) (M.place_in map.now) Against (sources touched.now) near.new) }
+    ensures told { OnOk result (IsRight (M.map map.now) numbers.now → (v w : ℕ) → IsSource numbers.now v w
+        → IsTold (M.map map.now) (M.place_in map.now) touched.now near.new v (min w limit)) }
 {
     let sources = sources_of(alloc, touched)?;
     near.begin(map, Direction::Against, &sources)?;
+    if numbers.is_known() {
+        near.settle_under(map, numbers.bounds())?;
+        return Ok(());
+    }
     near.settle_to(map, GREATEST_LIMIT)?;
     Ok(())
 }
 
-/// Whether there is a distance, and it is at most a length, both in decimetres.
-fn is_at_most(distance: Option<u32>, length: u32) -> bool
-    ensures { IsTrue result ↔ IsAtMost distance length }
-{
-    match distance {
-        Some(distance) => distance <= length,
-        None => false,
-    }
-}
-
 /// Whether a touched node can be reached from a node within a length in decimetres and the greatest limit.
 fn is_near<M: MapRead>(map: &M, touched: &Touched, near: &Search, node: NodeId, within: u32) -> bool
-    requires search { IsSearch (M.map map.now) (M.place_in map.now) Against (sources touched.now) near.now }
-    requires limit { limit_of near.now ≡ limit }
+    requires lengths { AreLengths (M.map map.now) (M.place_in map.now) Against (sources touched.now) near.now }
+    requires told { IsTold (M.map map.now) (M.place_in map.now) touched.now near.now node (min within limit) }
     ensures { IsTrue result ↔ Near (M.map map.now) (nodes_of touched.now) node (min within limit) }
 {
     match map.place_of(node) {
-        Some(place) => is_at_most(near.dist_at(place), within),
+        Some(place) => near.is_within(place, within.min(GREATEST_LIMIT)),
         None => touched.has_node(node),
     }
 }
@@ -99,8 +98,9 @@ fn is_look_touched<M: MapRead>(
     near: &Search,
     published: &Published,
 ) -> bool
-    requires search { IsSearch (M.map map.now) (M.place_in map.now) Against (sources touched.now) near.now }
-    requires limit { limit_of near.now ≡ limit }
+    requires lengths { AreLengths (M.map map.now) (M.place_in map.now) Against (sources touched.now) near.now }
+    requires told { (l : Look) → Contains (made_of published.now).looks l
+        → IsTold (M.map map.now) (M.place_in map.now) touched.now near.now l.from (min l.within limit) }
     ensures { IsTrue result ↔ LookTouched (M.map map.now) (nodes_of touched.now) (made_of published.now) }
 {
     let looks = published.looks.as_slice();

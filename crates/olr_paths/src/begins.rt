@@ -1,4 +1,4 @@
-//! Where looks begin.
+//! The coverage queries of a list.
 ghost use Rattle.std.specs.Prelude.{ℕ, Contains, OnOk, option_map};
 ghost use Rattle.olr_spec.specs.Looks.{Look as LookRecord};
 ghost use Rattle.olr_paths.specs.Items.{items, made_of};
@@ -6,25 +6,24 @@ ghost use Rattle.olr_paths.specs.Beginning.{BeginsIn, Begins, BeginsPut};
 ghost use Rattle.olr_paths.specs.Renewing.{puts_of};
 
 use crate::listing::{Listing, NamedPath};
-use olr_map::NodeId;
 use olr_refs::Look;
 use std::alloc::AllocError;
 
-/// Puts where the looks begin behind other nodes.
-pub(crate) fn note_looks(looks: &[Look], begun: &mut Vec<NodeId>) -> Result<(), AllocError>
-    ensures before { OnOk result ((v : ℕ) → Contains begun.old.items v → Contains begun.new.items v) }
-    ensures looks { OnOk result ((l : LookRecord) → Contains looks.now l → Contains begun.new.items l.from) }
+/// Appends coverage queries.
+pub(crate) fn note_looks(looks: &[Look], begun: &mut Vec<Look>) -> Result<(), AllocError>
+    ensures before { OnOk result ((v : LookRecord) → Contains begun.old.items v → Contains begun.new.items v) }
+    ensures looks { OnOk result ((l : LookRecord) → Contains looks.now l → Contains begun.new.items l) }
 {
     for look in looks {
-        begun.push(look.from)?;
+        begun.push(*look)?;
     }
     Ok(())
 }
 
-/// Puts where the looks of a path begin behind other nodes.
-fn note_named(named: &NamedPath, begun: &mut Vec<NodeId>) -> Result<(), AllocError>
-    ensures before { OnOk result ((v : ℕ) → Contains begun.old.items v → Contains begun.new.items v) }
-    ensures named { OnOk result ((v : ℕ) → BeginsIn (option_map (λ p. made_of p.value) named.now.published) v
+/// Appends the coverage queries of a path.
+fn note_named(named: &NamedPath, begun: &mut Vec<Look>) -> Result<(), AllocError>
+    ensures before { OnOk result ((v : LookRecord) → Contains begun.old.items v → Contains begun.new.items v) }
+    ensures named { OnOk result ((v : LookRecord) → BeginsIn (option_map (λ p. made_of p.value) named.now.published) v
         → Contains begun.new.items v) }
 {
     if let Some(published) = &named.published {
@@ -33,12 +32,12 @@ fn note_named(named: &NamedPath, begun: &mut Vec<NodeId>) -> Result<(), AllocErr
     Ok(())
 }
 
-/// Puts where the looks begin of what was encoded anew behind other nodes.
+/// Appends the coverage queries of what was encoded again.
 pub(crate) fn note_fresh(
     fresh: &[(usize, NamedPath)],
-    begun: &mut Vec<NodeId>,
+    begun: &mut Vec<Look>,
 ) -> Result<(), AllocError>
-    ensures { OnOk result ((v : ℕ) → BeginsPut (puts_of fresh.now) v → Contains begun.new.items v) }
+    ensures { OnOk result ((v : LookRecord) → BeginsPut (puts_of fresh.now) v → Contains begun.new.items v) }
 {
     for (_, named) in fresh {
         note_named(named, begun)?;
@@ -47,9 +46,9 @@ pub(crate) fn note_fresh(
 }
 
 impl Listing {
-    /// Puts behind other nodes where the looks of all paths begin, as often as one does.
-    pub fn begins(&self, begun: &mut Vec<NodeId>) -> Result<(), AllocError>
-        ensures { OnOk result ((v : ℕ) → Begins (items self.now) v → Contains begun.new.items v) }
+    /// Appends the coverage queries of all paths.
+    pub fn begins(&self, begun: &mut Vec<Look>) -> Result<(), AllocError>
+        ensures { OnOk result ((v : LookRecord) → Begins (items self.now) v → Contains begun.new.items v) }
     {
         for position in 0..self.paths.len() {
             let Some((_, named)) = self.paths.get_index(position) else {

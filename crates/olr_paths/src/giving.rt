@@ -5,6 +5,7 @@ ghost use Rattle.olr_spec.specs.Encoding.{Answer};
 ghost use Rattle.olr_commands.specs.State.{path_named};
 ghost use Rattle.olr_commands.specs.Reply.{entry};
 ghost use Rattle.olr_commands.specs.Words.{entry_of};
+ghost use Rattle.olr_spec.specs.Looks.{Look as LookRecord};
 ghost use Rattle.olr_paths.specs.Items.{Made, IsEncodingOf, items, made_of, all_named, answer_in};
 ghost use Rattle.olr_paths.specs.Changes.{set_item};
 ghost use Rattle.olr_paths.specs.Beginning.{Begins, begun_in};
@@ -40,7 +41,7 @@ impl Listing {
             (work.old.encodings + 1 < 2 ^ 64 → work.new.encodings ≡ work.old.encodings + 1) }
         ensures searches { OnOk result (work.old.searches ≤ work.new.searches) }
         ensures settled { OnOk result (work.old.settled ≤ work.new.settled) }
-        ensures begun { OnOk result ((v : ℕ) → Begins (items self.new) v
+        ensures begun { OnOk result ((v : LookRecord) → Begins (items self.new) v
             → Begins (items self.old) v ⊎ Contains (begun_in searches.new) v) }
         ensures err { OnErr result (items self.new ≡ items self.old) }
         ensures err_work { OnErr result (work.new ≡ work.old) }
@@ -81,7 +82,7 @@ impl Listing {
             (work.old.encodings + 1 < 2 ^ 64 → work.new.encodings ≡ work.old.encodings + 1) }
         ensures searches { OnOk result (work.old.searches ≤ work.new.searches) }
         ensures settled { OnOk result (work.old.settled ≤ work.new.settled) }
-        ensures begun { OnOk result ((v : ℕ) → Begins (items self.new) v
+        ensures begun { OnOk result ((v : LookRecord) → Begins (items self.new) v
             → Begins (items self.old) v ⊎ Contains (begun_in searches.new) v) }
         ensures err { OnErr result (items self.new ≡ items self.old) }
         ensures err_work { OnErr result (work.new ≡ work.old) }

@@ -6,6 +6,7 @@ ghost use Rattle.olr_commands.specs.Counts.{CountIs};
 ghost use Rattle.olr_commands.specs.Words.{entry_of};
 ghost use Rattle.std.specs.Prelude.{List};
 ghost use Rattle.olr_spec.specs.Detours.{ChangedLine};
+ghost use Rattle.olr_spec.specs.Looks.{Look as LookRecord};
 ghost use Rattle.olr_paths.specs.Items.{made_of, items, answer_in, all_named};
 ghost use Rattle.olr_paths.specs.Changes.{IsBefore, IsConcerned, AreRemade, Reported, Follows};
 ghost use Rattle.olr_paths.specs.Showing.{shown_items, shown_item};
@@ -13,7 +14,7 @@ ghost use Rattle.olr_paths.specs.Touching.{nodes_of, lines_of, changed_of};
 ghost use Rattle.olr_paths.specs.Searching.{AreDetours, AreAsked};
 ghost use Rattle.olr_paths.specs.Candidates.{Covers};
 ghost use Rattle.std.specs.List.Sorted.{IsNonDecreasing};
-ghost use Rattle.olr_paths.specs.Beginning.{BeginsPut, AreFar, begun_in};
+ghost use Rattle.olr_paths.specs.Beginning.{BeginsPut, AreNumbered, begun_in};
 ghost use Rattle.olr_paths.specs.Renewing.{made_at, after_renewal, TellsIfOther, IsFate, IsStep, OneMore};
 
 use crate::asked::{Asked, ask};
@@ -28,6 +29,7 @@ use crate::showing::Shown;
 use crate::touched::Touched;
 use olr_commands::Entry;
 use olr_map::MapRead;
+use olr_near::Nearness;
 use olr_route::{Search, Work};
 use std::alloc::{AllocError, Global};
 use std::mem;
@@ -187,13 +189,13 @@ pub(crate) fn renewal_of<M: MapRead>(
     laid: Laid<'_>,
     before: &Listing,
     touched: &Touched,
-    far: bool,
+    numbers: &Nearness,
     searches: &mut Searches,
     work: &mut Work,
     kept: &mut u64,
 ) -> Result<Renewal, AllocError>
     requires follows { Follows (items before.now) (shown_items laid) }
-    requires far { IsTrue far → AreFar (M.map map.now) (nodes_of touched.now) (shown_items laid) }
+    requires numbers { AreNumbered (M.map map.now) numbers.now (shown_items laid) }
     ensures renewed { IfOk result (λ r. (L : Map)
         → IsBefore L (M.map map.now) (nodes_of touched.now) (lines_of touched.now) (changed_of touched.now)
         (shown_items laid.entry)
@@ -212,7 +214,7 @@ pub(crate) fn renewal_of<M: MapRead>(
     ensures searches { OnOk result (work.old.searches ≤ work.new.searches) }
     ensures settled { OnOk result (work.old.settled ≤ work.new.settled) }
     ensures kept { OnOk result (kept.old ≤ kept.new) }
-    ensures begun { IfOk result (λ r. (v : ℕ) → BeginsPut (made_at r) v → Contains (begun_in searches.new) v) }
+    ensures begun { IfOk result (λ r. (v : LookRecord) → BeginsPut (made_at r) v → Contains (begun_in searches.new) v) }
     ensures err_work { OnErr result (work.new ≡ work.old) }
     ensures err_kept { OnErr result (kept.new ≡ kept.old) }
 {
@@ -223,7 +225,7 @@ pub(crate) fn renewal_of<M: MapRead>(
             entries: Vec::new(alloc),
         });
     }
-    let asked = ask(alloc, map, laid, touched, far, searches)?;
+    let asked = ask(alloc, map, laid, touched, numbers, searches)?;
     let mut look = mem::replace(&mut searches.look, Search::new(alloc));
     let mut counted = Counted {
         work: *work,

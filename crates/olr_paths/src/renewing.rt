@@ -5,11 +5,12 @@ ghost use Rattle.olr_spec.specs.Map.{Map};
 ghost use Rattle.olr_commands.specs.Counts.{CountIs};
 ghost use Rattle.olr_commands.specs.State.{NamesDiffer};
 ghost use Rattle.olr_commands.specs.Words.{entry_of};
+ghost use Rattle.olr_spec.specs.Looks.{Look as LookRecord};
 ghost use Rattle.olr_paths.specs.Items.{items, all_named};
 ghost use Rattle.olr_paths.specs.Changes.{IsBefore, IsConcerned, AreRemade, Reported, Follows};
 ghost use Rattle.olr_paths.specs.Laying.{TakesNone, overlay_changes, under_overlay};
 ghost use Rattle.olr_paths.specs.Touching.{nodes_of, lines_of, changed_of};
-ghost use Rattle.olr_paths.specs.Beginning.{Begins, AreFar, begun_in};
+ghost use Rattle.olr_paths.specs.Beginning.{Begins, AreNumbered, begun_in};
 ghost use Rattle.olr_paths.specs.Renewing.{items_before};
 
 use crate::laid::Laid;
@@ -21,25 +22,27 @@ use crate::searches::Searches;
 use crate::touched::Touched;
 use olr_commands::Entry;
 use olr_map::MapRead;
+use olr_near::Nearness;
 use olr_route::Work;
 use std::alloc::{AllocError, Global};
 
 impl Listing {
     /// Encodes on a map the paths that are new and those whose answer changes of it can have changed, and tells those
     /// whose answer is another than before. Each path that is concerned is counted as an encoding; `kept` counts those
-    /// of them that kept their answer. `far` tells that no touched node is near to where a look begins: then nothing is
-    /// searched for that. After want of memory list and counts are as before.
+    /// of them that kept their answer. The numbers are distance bounds that are right on the map, for all coverage
+    /// queries of the list: they cut the search from touched nodes. If an allocation fails, list and counts are as
+    /// before.
     pub fn renew<M: MapRead>(
         &mut self,
         alloc: Global,
         map: &M,
         touched: &Touched,
-        far: bool,
+        numbers: &Nearness,
         searches: &mut Searches,
         work: &mut Work,
         kept: &mut u64,
     ) -> Result<Vec<Entry>, AllocError>
-        requires { IsTrue far → AreFar (M.map map.now) (nodes_of touched.now) (items self.old) }
+        requires { AreNumbered (M.map map.now) numbers.now (items self.old) }
         ensures renewed { OnOk result ((L : Map)
             → IsBefore L (M.map map.now) (nodes_of touched.now) (lines_of touched.now) (changed_of touched.now)
             (items self.old)
@@ -55,7 +58,7 @@ impl Listing {
         ensures searches { OnOk result (work.old.searches ≤ work.new.searches) }
         ensures settled { OnOk result (work.old.settled ≤ work.new.settled) }
         ensures kept { OnOk result (kept.old ≤ kept.new) }
-        ensures begun { OnOk result ((v : ℕ) → Begins (items self.new) v
+        ensures begun { OnOk result ((v : LookRecord) → Begins (items self.new) v
             → Begins (items self.old) v ⊎ Contains (begun_in searches.new) v) }
         ensures err { OnErr result (items self.new ≡ items self.old) }
         ensures err_work { OnErr result (work.new ≡ work.old) }
@@ -64,7 +67,9 @@ impl Listing {
         // For the proof alone: no name stands twice.
         let _names = self.len();
         let none = Overlay::new(alloc);
-        self.renew_laid(alloc, map, None, &none, touched, far, searches, work, kept)
+        self.renew_laid(
+            alloc, map, None, &none, touched, numbers, searches, work, kept,
+        )
     }
 
     /// The same for the list under changes that take no path away: what they give is put in place, so that it costs
@@ -77,7 +82,7 @@ impl Listing {
         before: Option<&Listing>,
         overlay: &Overlay,
         touched: &Touched,
-        far: bool,
+        numbers: &Nearness,
         searches: &mut Searches,
         work: &mut Work,
         kept: &mut u64,
@@ -85,8 +90,7 @@ impl Listing {
         requires keeps { TakesNone (overlay_changes overlay.now) }
         requires names { NamesDiffer (all_named (under_overlay (items self.old) overlay.now)) }
         requires follows { Follows (items_before before self.old) (under_overlay (items self.old) overlay.now) }
-        requires far { IsTrue far
-            → AreFar (M.map map.now) (nodes_of touched.now) (under_overlay (items self.old) overlay.now) }
+        requires numbers { AreNumbered (M.map map.now) numbers.now (under_overlay (items self.old) overlay.now) }
         ensures renewed { OnOk result
             ((L : Map) → IsBefore L (M.map map.now) (nodes_of touched.now) (lines_of touched.now)
             (changed_of touched.now) (under_overlay (items self.old) overlay.now)
@@ -105,7 +109,7 @@ impl Listing {
         ensures searches { OnOk result (work.old.searches ≤ work.new.searches) }
         ensures settled { OnOk result (work.old.settled ≤ work.new.settled) }
         ensures kept { OnOk result (kept.old ≤ kept.new) }
-        ensures begun { OnOk result ((v : ℕ) → Begins (items self.new) v
+        ensures begun { OnOk result ((v : LookRecord) → Begins (items self.new) v
             → Begins (under_overlay (items self.old) overlay.now) v ⊎ Contains (begun_in searches.new) v) }
         ensures err { OnErr result (items self.new ≡ items self.old) }
         ensures err_work { OnErr result (work.new ≡ work.old) }
@@ -123,7 +127,7 @@ impl Listing {
             laid,
             before.unwrap_or(self),
             touched,
-            far,
+            numbers,
             searches,
             &mut tried,
             &mut spared,
@@ -145,15 +149,14 @@ impl Listing {
         map: &M,
         overlay: &Overlay,
         touched: &Touched,
-        far: bool,
+        numbers: &Nearness,
         searches: &mut Searches,
         work: &mut Work,
         kept: &mut u64,
     ) -> Result<Vec<Entry>, AllocError>
         requires names { NamesDiffer (all_named (under_overlay (items self.old) overlay.now)) }
         requires follows { Follows (items self.old) (under_overlay (items self.old) overlay.now) }
-        requires far { IsTrue far
-            → AreFar (M.map map.now) (nodes_of touched.now) (under_overlay (items self.old) overlay.now) }
+        requires numbers { AreNumbered (M.map map.now) numbers.now (under_overlay (items self.old) overlay.now) }
         ensures renewed { OnOk result
             ((L : Map) → IsBefore L (M.map map.now) (nodes_of touched.now) (lines_of touched.now)
             (changed_of touched.now) (under_overlay (items self.old) overlay.now)
@@ -171,7 +174,7 @@ impl Listing {
         ensures searches { OnOk result (work.old.searches ≤ work.new.searches) }
         ensures settled { OnOk result (work.old.settled ≤ work.new.settled) }
         ensures kept { OnOk result (kept.old ≤ kept.new) }
-        ensures begun { OnOk result ((v : ℕ) → Begins (items self.new) v
+        ensures begun { OnOk result ((v : LookRecord) → Begins (items self.new) v
             → Begins (under_overlay (items self.old) overlay.now) v ⊎ Contains (begun_in searches.new) v) }
         ensures err { OnErr result (items self.new ≡ items self.old) }
         ensures err_work { OnErr result (work.new ≡ work.old) }
@@ -179,14 +182,14 @@ impl Listing {
     {
         if !overlay.takes_some() {
             return self.renew_laid(
-                alloc, map, None, overlay, touched, far, searches, work, kept,
+                alloc, map, None, overlay, touched, numbers, searches, work, kept,
             );
         }
         let mut list = overlay.laid_over(alloc, self)?;
         let none = Overlay::new(alloc);
         let before = Some(&*self);
         let entries = list.renew_laid(
-            alloc, map, before, &none, touched, far, searches, work, kept,
+            alloc, map, before, &none, touched, numbers, searches, work, kept,
         )?;
         *self = list;
         Ok(entries)

@@ -2,7 +2,7 @@
 ghost use Rattle.std.specs.Prelude.{◌≡◌};
 ghost use Rattle.olr_paths.specs.Beginning.{begun_in};
 
-use olr_map::NodeId;
+use olr_refs::Look;
 use olr_route::Search;
 use std::alloc::Global;
 
@@ -19,8 +19,8 @@ pub struct Searches {
     pub(crate) after: Search,
     /// For the looks of encodings.
     pub(crate) look: Search,
-    /// Where the looks begin that the last renewal made.
-    pub(crate) begun: Vec<NodeId>,
+    /// The coverage queries that the last renewal made.
+    pub(crate) begun: Vec<Look>,
     /// How many nodes were labelled by searches that found no path.
     pub(crate) vain: usize,
 }
@@ -39,8 +39,8 @@ impl Searches {
         }
     }
 
-    /// Where the looks begin of what the last renewal encoded.
-    pub fn begun(&self) -> &[NodeId]
+    /// The coverage queries of what the last renewal encoded.
+    pub fn begun(&self) -> &[Look]
         ensures { result.now ≡ begun_in self.now }
     {
         self.begun.as_slice()

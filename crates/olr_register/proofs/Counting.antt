@@ -3,7 +3,7 @@ use Rattle.std.proofs.Common.{inl, inr, ◌≡◌, ℕ, true, List, [], ◌∷�
 use Rattle.std.specs.Prelude.{is_none}
 use Rattle.std.specs.List.{list_any, AllByRecursion}
 use Rattle.olr_spec.specs.Map.{has}
-use Rattle.olr_commands.specs.State.{Named, Content, same_name, Change, State, Command, changes_made}
+use Rattle.olr_commands.specs.State.{Content, same_name, Change, State, Command, changes_made}
 use Rattle.olr_commands.specs.Counts.{Concerns, By_name, By_node, By_line, CountIs, Raises, all_nodes, all_lines}
 use Rattle.olr_commands.specs.Counts.{all_names}
 use Rattle.olr_paths.specs.Items.{Made, Item, named_of, all_named}

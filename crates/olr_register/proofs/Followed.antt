@@ -1,14 +1,11 @@
 -- Lists in which each path that was encoded has the answer that its name had before.
-use Rattle.std.proofs.Common.{inl, inr, ◌⊎◌, ◌≡◌, ℕ, Bool, true, false, cond, not, List, [], ◌∷◌, ◌++◌, map, filter}
-use Rattle.std.proofs.Common.{Option, Some, None, is_some, refl, sym, ap, ◌∙◌}
-use Rattle.std.specs.Prelude.{option_map, if◌then◌else◌}
+use Rattle.std.proofs.Common.{inl, inr, ◌⊎◌, ◌≡◌, ℕ, true, false, cond, not, List, [], ◌∷◌, ◌++◌, map, filter}
+use Rattle.std.proofs.Common.{Option, Some, None, refl, sym, ap, ◌∙◌}
 use lib.Pointwise.{bytes_decides}
 use Rattle.olr_spec.specs.Map.{Map}
 use Rattle.olr_spec.specs.Extension.{Path}
-use Rattle.olr_spec.specs.Encoding.{Answer}
-use Rattle.olr_commands.specs.State.{same_name, path_named, NamesDiffer}
-use Rattle.olr_commands.proofs.NameLemmas.{not_named, flipped}
-use Rattle.olr_paths.specs.Items.{Made, Item, AreEncodings, named_of, all_named, made_in, answer_in}
+use Rattle.olr_commands.specs.State.{same_name}
+use Rattle.olr_paths.specs.Items.{Made, Item, AreEncodings, answer_in}
 use Rattle.olr_paths.specs.Changes.{Reported, Follows, set_item}
 use Rattle.olr_paths.proofs.Following.{answer_made}
 

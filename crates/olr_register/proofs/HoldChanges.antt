@@ -1,6 +1,6 @@
 -- What an open batch makes of a change, as its parts have it.
 use Rattle.std.proofs.Common.{inl, inr, ◌⊎◌, ◌≡◌, ℕ, ◌+◌, arith, Bool, true, false, not, List, [], ◌∷◌, ◌++◌, map}
-use Rattle.std.proofs.Common.{filter, None, is_some, Result, Ok, Err, refl, sym, ap, ◌∙◌, subst}
+use Rattle.std.proofs.Common.{filter, None, Result, Ok, Err, refl, sym, ap, ◌∙◌, subst}
 use Rattle.std.specs.Prelude.{◌||◌, nat_le}
 use Rattle.std.proofs.Math.Bool.{or-false}
 use Rattle.std.proofs.lemmas.Bool.{leb-false}
@@ -8,7 +8,7 @@ use Rattle.olr_spec.specs.Map.{Map, has}
 use Rattle.olr_spec.specs.Extension.{Path, is_path}
 use Rattle.olr_map.specs.RoadMaps.{map_of, map_before}
 use Rattle.olr_map.specs.declared.road_map.RoadMap.{RoadMap}
-use Rattle.olr_commands.specs.State.{Named, Content, path_named, same_name, with_path, Fault, Memory, Batch_full}
+use Rattle.olr_commands.specs.State.{Named, Content, same_name, with_path, Fault, Memory, Batch_full}
 use Rattle.olr_commands.specs.State.{Path_exists, No_path, Bad_path, full, when, Change, Add_path, Set_path, Drop_path}
 use Rattle.olr_commands.specs.State.{with_change, Make, HasPlaces, IsContent}
 use Rattle.olr_commands.specs.Reply as replies
@@ -21,6 +21,7 @@ use Rattle.olr_commands.specs.declared.fault.CommandFault.TheVariants as rust
 use Rattle.olr_commands.proofs.StateLemmas.{changes_keep}
 use Rattle.olr_paths.specs.Items.{Item, AreEncodingsIfAny, all_named}
 use Rattle.olr_paths.specs.Changes.{Follows, set_item}
+use Rattle.olr_spec.specs.Looks.{Look}
 use Rattle.olr_paths.specs.Beginning.{Begins}
 use Rattle.olr_paths.specs.Laying.{under_overlay}
 use Rattle.olr_paths.specs.declared.overlay.Overlay.{Overlay}
@@ -222,7 +223,7 @@ pub held_path : (roads : RoadMap) (before : List Item) (b : Batch) (l : Overlay)
     → with_change (content_on (map_of roads) (under_overlay before b.overlay)) x ≡ Ok (content_on (map_of roads) js) →
     HasPlaces (Make x)
     → AreEncodingsIfAny (map_before roads b.log) js → Follows before js →
-    ((v : ℕ) → Begins js v → Begins (under_overlay before b.overlay) v) → IsHeld roads before b
+    ((v : Look) → Begins js v → Begins (under_overlay before b.overlay) v) → IsHeld roads before b
     → IsHeld roads before (record { log = b.log; overlay = l; count = b.count + 1; touched = b.touched })
 held_path roads before b l js x same room e placed made follows begins h =
     let few = leb-false full b.count room in

@@ -2,8 +2,8 @@
 use Rattle.std.proofs.Common.{inl, inr, ◌≡◌, ℕ, ◌⊎◌, false, List, [], ◌∷◌, ◌++◌, map, Contains, Option, Some, None}
 use Rattle.std.proofs.Common.{is_some, Ok, IsFalse, sym, ap, ◌∙◌, subst}
 use Rattle.olr_spec.specs.Map.{Map, Edit, edited, touched_nodes, has}
-use Rattle.olr_spec.specs.Extension.{Path, limit}
-use Rattle.olr_spec.specs.Detours.{Near}
+use Rattle.olr_spec.specs.Extension.{Path}
+use Rattle.olr_spec.specs.Looks.{Look}
 use Rattle.olr_spec.proofs.ChangeLemmas.{edit_differs}
 use Rattle.olr_map.specs.RoadMaps.{map_of, map_before}
 use Rattle.olr_map.specs.Undos.{made_all, log_changes}
@@ -13,7 +13,7 @@ use Rattle.olr_near.specs.declared.nearness.Nearness.{Nearness}
 use Rattle.olr_paths.specs.Items.{Item}
 use Rattle.olr_paths.specs.Changes.{set_item}
 use Rattle.olr_paths.specs.Laying.{under_overlay}
-use Rattle.olr_paths.specs.Beginning.{BeginsIn, Begins, AreFar}
+use Rattle.olr_paths.specs.Beginning.{BeginsIn, Begins}
 use Rattle.olr_paths.proofs.Beginning.{begins_add, begins_set}
 use Rattle.olr_register.specs.Holding.{map_kept, IsHeld, IsNumbered}
 use Rattle.olr_register.specs.declared.batch.Batch.{Batch}
@@ -50,7 +50,7 @@ numbered_bare M is near none bare =
 pub numbered_same : (M N : Map) (is : List Item) (near : Nearness) → N ≡ M → IsNumbered M is near → IsNumbered N is near
 numbered_same M N is near same h = subst (λ (L : Map). IsNumbered L is near) (sym same) h
 
-pub numbered_fewer : (M : Map) (is js : List Item) (near : Nearness) → ((v : ℕ) → Begins js v → Begins is v) →
+pub numbered_fewer : (M : Map) (is js : List Item) (near : Nearness) → ((l : Look) → Begins js l → Begins is l) →
     IsNumbered M is near → IsNumbered M js near
 numbered_fewer M is js near few h = record { right = h.right; sources = λ v b. h.sources v (few v b) }
 
@@ -77,18 +77,14 @@ edit_same_but M N e T ok nodes v off = (edit_differs M N e ok).nodes v (sym (nod
 module _ (M N : Map) (is : List Item) (T ts : List ℕ) (f g : Nearness) (same : ts ≡ T) (but : SameBut T M N)
     (h : IsNumbered M is f)
     (right : (L : Map) → SameBut ts L N → IsRight L f → IsRight N g)
-    (sources : (s : ℕ) → IsSource f s → IsSource g s) where
+    (sources : (s w : ℕ) → IsSource f s w → IsSource g s w) where
   pub numbered_asked : IsNumbered N is g
   numbered_asked =
       record {
         right = right M (subst (λ (us : List ℕ). SameBut us M N) (sym same) but) h.right;
         sources =
-            λ v b. sources v (h.sources v b);
+            λ l b. sources l.from l.within (h.sources l b);
       }
-
-  pub far_looks : ((s : ℕ) → IsRight N g → IsSource g s → ¬ Near N ts s limit) → AreFar N T is
-  far_looks far =
-      λ v b. subst (λ (us : List ℕ). ¬ Near N us v limit) same (far v numbered_asked.right (numbered_asked.sources v b))
 
 -- the list under the changes of a batch has no look that the register's lacks
 pub commit_numbered : (roads : RoadMap) (is : List Item) (o : Option Batch) (b : Batch) (near : Nearness) → o ≡ Some b →
@@ -100,18 +96,18 @@ commit_numbered roads is o b near e held h =
 
 -- ---- with the looks that a renewal made
 
-pub numbered_more : (N : Map) (is js : List Item) (g h : Nearness) (begun : List ℕ) → IsNumbered N is g →
-    ((v : ℕ) → Begins js v → Begins is v ⊎ Contains begun v)
-    → (IsRight N g → ((v : ℕ) → Begins js v → IsSource g v ⊎ Contains begun v) → IsNumbered N js h) → IsNumbered N js h
+pub numbered_more : (N : Map) (is js : List Item) (g h : Nearness) (begun : List Look) → IsNumbered N is g →
+    ((l : Look) → Begins js l → Begins is l ⊎ Contains begun l)
+    → (IsRight N g → ((l : Look) → Begins js l → IsSource g l.from l.within ⊎ Contains begun l) → IsNumbered N js h) → IsNumbered N js h
 numbered_more N is js g h begun was begins numbers =
     numbers was.right (λ v b. elim (begins v b) [ inl old ↦ inl (was.sources v old) | inr new ↦ inr new ])
 
 -- ---- a path that is held has no look yet
 
-pub begins_held : (is : List Item) (j : Item) → j.made ≡ None → (v : ℕ) → Begins (is ++ j ∷ []) v → Begins is v
+pub begins_held : (is : List Item) (j : Item) → j.made ≡ None → (v : Look) → Begins (is ++ j ∷ []) v → Begins is v
 begins_held is j none v h =
     elim (begins_add is j v h) [ inl old ↦ old | inr new ↦ absurd (subst (λ o. BeginsIn o v) none new) ]
 
-pub begins_other : (name : List ℕ) (path : Path) (is : List Item) (v : ℕ) →
+pub begins_other : (name : List ℕ) (path : Path) (is : List Item) (v : Look) →
     Begins (map (set_item name path None) is) v → Begins is v
 begins_other name path is v h = elim (begins_set name path None is v h) [ inl old ↦ old | inr new ↦ absurd new ]

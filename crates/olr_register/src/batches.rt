@@ -106,13 +106,13 @@ impl Register {
             self.batch = Some(batch);
             return Err(CommandFault::CountDiffers);
         }
-        let far = ask_near(&mut self.near, &self.roads, batch.touched.nodes());
+        ask_near(&mut self.near, &self.roads, batch.touched.nodes());
         let Ok(entries) = self.paths.renew_over(
             self.alloc,
             &self.roads,
             &batch.overlay,
             &batch.touched,
-            far,
+            &self.near,
             &mut self.searches,
             &mut self.work,
             &mut self.kept,

@@ -83,12 +83,12 @@ impl Register {
         let Ok(undo) = self.roads.make(edit, &judged) else {
             return Err(CommandFault::Memory);
         };
-        let far = ask_near(&mut self.near, &self.roads, self.touched.nodes());
+        ask_near(&mut self.near, &self.roads, self.touched.nodes());
         let Ok(entries) = self.paths.renew(
             self.alloc,
             &self.roads,
             &self.touched,
-            far,
+            &self.near,
             &mut self.searches,
             &mut self.work,
             &mut self.kept,

@@ -1,8 +1,7 @@
-//! Numbers of nodes by which it is known without a search that no path is near to an edit.
-ghost use Rattle.std.specs.Prelude.{◌⊎◌, ℕ, Contains, IsTrue};
+//! Numbers of nodes: distance bounds, which cut the search from an edit.
+ghost use Rattle.std.specs.Prelude.{◌⊎◌, ℕ, Contains};
 ghost use Rattle.olr_spec.specs.Map.{Map};
-ghost use Rattle.olr_spec.specs.Extension.{limit};
-ghost use Rattle.olr_spec.specs.Detours.{Near};
+ghost use Rattle.olr_spec.specs.Looks.{Look as LookRecord};
 ghost use Rattle.olr_map.specs.RoadMaps.{map_of};
 ghost use Rattle.olr_near.specs.Numbers.{IsRight, IsSource, SameBut};
 ghost use Rattle.olr_paths.specs.Items.{items};
@@ -12,36 +11,33 @@ ghost use Rattle.olr_register.specs.Holding.{IsNumbered};
 use olr_map::{NodeId, RoadMap};
 use olr_near::Nearness;
 use olr_paths::{Listing, Searches};
+use olr_refs::Look;
 use std::alloc::Global;
 
 /// So many nodes, at the least, searches label that find no path before the numbers are made anew.
 const LEAST: usize = 65_536;
 
-/// Makes the numbers right on the map after edits that touched these nodes. Whether it is then known that no source is
-/// near to one of them. Where memory is wanting the numbers are unknown.
-pub(crate) fn ask_near(near: &mut Nearness, roads: &RoadMap, touched: &[NodeId]) -> bool
+/// Makes the numbers right on the map after edits that touched these nodes. If an allocation fails they are unknown.
+pub(crate) fn ask_near(near: &mut Nearness, roads: &RoadMap, touched: &[NodeId])
     ensures right { (M : Map) → SameBut touched.now M (map_of roads.now) → IsRight M near.old
         → IsRight (map_of roads.now) near.new }
-    ensures sources { (s : ℕ) → IsSource near.old s → IsSource near.new s }
-    ensures far { IsTrue result → (s : ℕ) → IsRight (map_of roads.now) near.new → IsSource near.new s
-        → ¬ Near (map_of roads.now) touched.now s limit }
+    ensures sources { (s w : ℕ) → IsSource near.old s w → IsSource near.new s w }
 {
     let _ = near.reopen(touched);
     let _ = near.settle(roads);
-    near.is_far(touched)
 }
 
-/// Adds sources and makes the numbers right. Where memory is wanting they are unknown.
-fn add_near(near: &mut Nearness, roads: &RoadMap, sources: &[NodeId])
+/// Adds coverage queries, and makes the numbers right. If an allocation fails they are unknown.
+fn add_near(near: &mut Nearness, roads: &RoadMap, looks: &[Look])
     ensures right { IsRight (map_of roads.now) near.old → IsRight (map_of roads.now) near.new }
-    ensures before { (s : ℕ) → IsSource near.old s → IsSource near.new s }
-    ensures sources { (s : ℕ) → Contains sources.now s → IsSource near.new s }
+    ensures before { (s w : ℕ) → IsSource near.old s w → IsSource near.new s w }
+    ensures sources { (l : LookRecord) → Contains looks.now l → IsSource near.new l.from l.within }
 {
     if !near.is_known() {
         return;
     }
-    for source in sources {
-        let _ = near.add(*source);
+    for look in looks {
+        let _ = near.add(look.from, look.within);
     }
     let _ = near.settle(roads);
 }
@@ -76,7 +72,8 @@ pub(crate) fn renumber(
     searches: &mut Searches,
 )
     ensures { IsRight (map_of roads.now) near.old
-        → ((v : ℕ) → Begins (items paths.now) v → IsSource near.old v ⊎ Contains (begun_in searches.old) v)
+        → ((l : LookRecord) → Begins (items paths.now) l
+        → IsSource near.old l.from l.within ⊎ Contains (begun_in searches.old) l)
         → IsNumbered (map_of roads.now) (items paths.now) near.new }
 {
     add_near(near, roads, searches.begun());

@@ -10,6 +10,7 @@ mod NoteLemmas
 mod DistinctLemmas
 pub mod WayLemmas
 pub mod SearchLemmas
+pub mod CutLemmas
 mod CountLemmas
 mod SoleLemmas
 mod ToldLemmas

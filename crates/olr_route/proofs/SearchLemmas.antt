@@ -208,20 +208,22 @@ module _ (M : Map) (place : ℕ → ℕ) (direction : Direction) (from : List (�
     apart = subst (λ (xs : List Reached). IsDistinct ◌==◌ (map (λ (r : Reached). r.node) xs)) (sym reached) l.apart;
   }
 
-  -- the place p is taken out of the queue at length d, between f and g
-  module _ (f g : Found) (d p : ℕ) (same : (q : ℕ) → label_of g q ≡ label_of f q)
+  -- the place p is taken out of the queue at length d, between f and g. Each label is closed, in whatever sense, or
+  -- waits
+  module _ (Closed : Found → ℕ → ℕ → Type 0) (better : (f g : Found) (v d : ℕ) → ((p : ℕ) → label_of g p ≤ label_of f p)
+      → Closed f v d → Closed g v d) (f g : Found) (d p : ℕ) (same : (q : ℕ) → label_of g q ≡ label_of f q)
       (others : (e q : ℕ) → IsQueued f e q → IsQueued g e q ⊎ ((e ≡ d) × (q ≡ p))) where
     -- it was not the label there any more
     pub front_skip : ¬ (label_of f p ≡ d) →
         ((v : ℕ) → IsTrue (has_node M v) → label_of f (place v) ≤ GREATEST_LIMIT →
-        ClosedAt M place direction f v (label_of f (place v)) ⊎ IsQueued f (label_of f (place v)) (place v))
+        Closed f v (label_of f (place v)) ⊎ IsQueued f (label_of f (place v)) (place v))
         → (v : ℕ) → IsTrue (has_node M v) → label_of g (place v) ≤ GREATEST_LIMIT →
-        ClosedAt M place direction g v (label_of g (place v)) ⊎ IsQueued g (label_of g (place v)) (place v)
+        Closed g v (label_of g (place v)) ⊎ IsQueued g (label_of g (place v)) (place v)
     front_skip ne front v known small =
         let is = same (place v) in
-        let P : ℕ → Type 0 = λ e. ClosedAt M place direction g v e ⊎ IsQueued g e (place v) in
+        let P : ℕ → Type 0 = λ e. Closed g v e ⊎ IsQueued g e (place v) in
         subst P (sym is) (elim (front v known (omega arith)) [
-          | inl closed ↦ inl (closed_better f g v (label_of f (place v)) (λ q. let k = same q in omega arith) closed)
+          | inl closed ↦ inl (better f g v (label_of f (place v)) (λ q. let k = same q in omega arith) closed)
           | inr q ↦ elim (others (label_of f (place v)) (place v) q) [
             | inl still ↦ inr still
             | inr h ↦ absurd (ne (ap (label_of f) (sym h.1) ∙ h.0))
@@ -230,22 +232,22 @@ module _ (M : Map) (place : ℕ → ℕ) (direction : Direction) (from : List (�
 
     -- it was, and the lines from there are followed, up to h
     pub front_more : (h : Found) → Moves g h →
-        ((v : ℕ) → IsTrue (has_node M v) → place v ≡ p → ClosedAt M place direction h v d)
+        ((v : ℕ) → IsTrue (has_node M v) → place v ≡ p → Closed h v d)
         → ((v : ℕ) → IsTrue (has_node M v) → label_of f (place v) ≤ GREATEST_LIMIT →
-        ClosedAt M place direction f v (label_of f (place v)) ⊎ IsQueued f (label_of f (place v)) (place v))
+        Closed f v (label_of f (place v)) ⊎ IsQueued f (label_of f (place v)) (place v))
         → (v : ℕ) → IsTrue (has_node M v) → label_of h (place v) ≤ GREATEST_LIMIT →
-        ClosedAt M place direction h v (label_of h (place v)) ⊎ IsQueued h (label_of h (place v)) (place v)
+        Closed h v (label_of h (place v)) ⊎ IsQueued h (label_of h (place v)) (place v)
     front_more h moves closed front v known small = elim (moves.fresh (place v)) [
       | inr q ↦ inr q
       | inl kept ↦
           let is : label_of h (place v) ≡ label_of f (place v) = kept ∙ same (place v) in
-          let P : ℕ → Type 0 = λ e. ClosedAt M place direction h v e ⊎ IsQueued h e (place v) in
+          let P : ℕ → Type 0 = λ e. Closed h v e ⊎ IsQueued h e (place v) in
           subst P (sym is) (elim (front v known (omega arith)) [
-            | inl c ↦ inl (closed_better f h v (label_of f (place v))
+            | inl c ↦ inl (better f h v (label_of f (place v))
                 (λ q. let k = same q in let b = moves.better q in omega arith) c)
             | inr q ↦ elim (others (label_of f (place v)) (place v) q) [
               | inl still ↦ inr (moves.kept (label_of f (place v)) (place v) still)
-              | inr e ↦ inl (subst (ClosedAt M place direction h v) (sym e.0) (closed v known e.1))
+              | inr e ↦ inl (subst (Closed h v) (sym e.0) (closed v known e.1))
             ]
           ])
     ]
@@ -268,7 +270,7 @@ module _ (M : Map) (place : ℕ → ℕ) (direction : Direction) (from : List (�
   under_way_skip f g d p k ne u = record {
     labelled = labelled_same f g k.same k.len k.reached u.labelled;
     begun = λ s b listed there. let was = u.begun s b listed there in let is = k.same (place s) in omega arith;
-    front = front_skip f g d p k.same k.others ne u.front;
+    front = front_skip (ClosedAt M place direction) closed_better f g d p k.same k.others ne u.front;
   }
 
   pub under_way_more : (f g h : Found) (d p : ℕ) → Popped f g d p → label_of f p ≡ d → d ≤ GREATEST_LIMIT → Moves g h
@@ -284,7 +286,7 @@ module _ (M : Map) (place : ℕ → ℕ) (direction : Direction) (from : List (�
         labelled = labelled own.0 from own.1 own.2 way (labelled_same f g k.same k.len k.reached u.labelled);
         begun = λ s b listed there. let was = u.begun s b listed there in let same = k.same (place s) in let le =
             moves.better (place s) in omega arith;
-        front = front_more f g d p k.same k.others h moves closed u.front;
+        front = front_more (ClosedAt M place direction) closed_better f g d p k.same k.others h moves closed u.front;
       }
 
   -- nothing is taken out
@@ -376,6 +378,22 @@ module _ (M : Map) (place : ℕ → ℕ) (direction : Direction) (from : List (�
 
   -- ---- what the labels say
 
+  -- each node that has a label is in the list
+  pub labelled_listed : (f : Found) → IsLabelled M place direction from f → (v : ℕ) → IsTrue (has_node M v) →
+      label_of f (place v) ≤ GREATEST_LIMIT → Contains f.reached.items (record { node = v; place = place v })
+  labelled_listed f l v known small =
+      elim (found_place f.reached.items (place v)) [
+        | inr none ↦ let no_label = f.noted (place v) none in absurd (omega arith)
+        | inl k ↦
+            let r = k.0 in
+            let x = l.listed r k.1 in
+            let own : r.node ≡ v = l.own r.node v x.there known (x.at ∙ k.2) in
+            let same : r ≡ record { node = v; place = place v } =
+            ap (λ (n : ℕ). record { node = n; place = r.place }) own
+            ∙ ap (λ (q : ℕ). record { node = v; place = q }) k.2 in
+            subst (λ (y : Reached). Contains f.reached.items y) same k.1
+      ]
+
   module _ (s : Search) (h : IsSearch M place direction from s) where
     pub is_distance : (v : ℕ) → IsTrue (has_node M v) → label_of s.found (place v) ≤ s.limit →
         IsDistance M direction from v (label_of s.found (place v))
@@ -415,17 +433,7 @@ module _ (M : Map) (place : ℕ → ℕ) (direction : Direction) (from : List (�
         let is = label_is v near.0 known near.1 near.2 in
         let le = near.2 in
         let small = h.small in
-        elim (found_place s.found.reached.items (place v)) [
-          | inr none ↦ let no_label = s.found.noted (place v) none in absurd (omega arith)
-          | inl k ↦
-              let r = k.0 in
-              let x = h.under_way.labelled.listed r k.1 in
-              let own : r.node ≡ v = h.under_way.labelled.own r.node v x.there known (x.at ∙ k.2) in
-              let same : r ≡ record { node = v; place = place v } =
-              ap (λ (n : ℕ). record { node = n; place = r.place }) own
-              ∙ ap (λ (q : ℕ). record { node = v; place = q }) k.2 in
-              subst (λ (y : Reached). Contains s.found.reached.items y) same k.1
-        ]
+        labelled_listed s.found h.under_way.labelled v known (omega arith)
 
     pub listed_reached : (r : Reached) → Contains s.found.reached.items r → IsReached M direction from r.node
         × (place r.node ≡ r.place)

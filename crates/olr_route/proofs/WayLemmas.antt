@@ -152,20 +152,22 @@ no_end = record { node = 0; place = 0; len = 0 }
 pub record HasEnd (M : Map) (place : ℕ → ℕ) (direction : Direction) (items : List LineEnd) (x : ℕ) : Type 0 where
   pub index : ℕ
   pub within : index < length items
+  pub node : (get_or items index no_end).node ≡ far_end M direction x
   pub there : (get_or items index no_end).place ≡ place (far_end M direction x)
   pub len : (get_or items index no_end).len ≡ dm M x
 
 has_by : (M : Map) (place : ℕ → ℕ) (direction : Direction) (f : ℕ → LineEnd) (xs : List ℕ) (items : List LineEnd)
-    (i x : ℕ) → items ≡ map f xs → i < length xs → get_or xs i 0 ≡ x → (f x).place ≡ place (far_end M direction x) →
-    (f x).len ≡ dm M x
+    (i x : ℕ) → items ≡ map f xs → i < length xs → get_or xs i 0 ≡ x → (f x).node ≡ far_end M direction x →
+    (f x).place ≡ place (far_end M direction x) → (f x).len ≡ dm M x
     → HasEnd M place direction items x
-has_by M place direction f xs items i x is lt at there len =
+has_by M place direction f xs items i x is lt at node there len =
     let long : length items ≡ length xs = ap (λ (zs : List LineEnd). length zs) is ∙ length-map xs f in
     let e : get_or items i no_end ≡ f x =
     ap (λ (zs : List LineEnd). get_or zs i no_end) is ∙ get_or-map f xs i 0 no_end lt ∙ ap f at in
     record {
       index = i;
       within = omega arith;
+      node = ap (λ (k : LineEnd). k.node) e ∙ node;
       there = ap (λ (k : LineEnd). k.place) e ∙ there;
       len = ap (λ (k : LineEnd). k.len) e ∙ len;
     }
@@ -175,10 +177,10 @@ pub has_end : (M : Map) (place : ℕ → ℕ) (direction : Direction) (v x : ℕ
     HasEnd M place direction items x
 has_end M place Along v x items is known near =
     let k = leaving M v x (lines_out M v) refl known near in
-    has_by M place Along (end_out M place) (lines_out M v) items k.0 x is k.1 k.2 refl refl
+    has_by M place Along (end_out M place) (lines_out M v) items k.0 x is k.1 k.2 refl refl refl
 has_end M place Against v x items is known near =
     let k = entering M v x (lines_in M v) refl known near in
-    has_by M place Against (end_in M place) (lines_in M v) items k.0 x is k.1 k.2 refl refl
+    has_by M place Against (end_in M place) (lines_in M v) items k.0 x is k.1 k.2 refl refl refl
 
 -- the i-th line that enters a node, and how its far end is told
 pub record IsEntry (M : Map) (place : ℕ → ℕ) (to : ℕ) (lines : List ℕ) (i : ℕ) (e : LineEnd) : Type 0 where

@@ -9,3 +9,4 @@ pub mod Founds
 pub mod Listed
 pub mod Distances
 pub mod Searches
+pub mod Bounds

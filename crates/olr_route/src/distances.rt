@@ -9,13 +9,15 @@ ghost use Rattle.olr_route.specs.Distances.{IsDistance, Leads};
 ghost use Rattle.olr_route.specs.Founds.{label_of};
 ghost use Rattle.olr_route.specs.Notes.{numbers_of};
 ghost use Rattle.olr_route.specs.Searches.{IsSearch, LiesWithin, IsReached, Counts, IsAlone, limit_of};
+ghost use Rattle.olr_route.specs.Bounds.{AreBounds, AreLengths, IsUnder, bound_in, label_at};
 ghost use Rattle.olr_route.specs.declared.found.Reached.{Reached as ReachedRecord};
 ghost use Rattle.olr_route.specs.declared.distances.Direction.TheVariants.{Along};
 
+use crate::bounds::Bounds;
 use crate::found::{Found, Reached, nodes_of};
 use crate::lines::both_ends;
 use crate::routes::GREATEST_LIMIT;
-use crate::steps::{follow, start};
+use crate::steps::{follow, follow_under, start};
 use olr_map::{LineEnd, LineId, MapRead, NodeId};
 use std::alloc::{AllocError, Global};
 
@@ -95,6 +97,38 @@ impl Search {
         Ok(())
     }
 
+    /// Settles on as far as bounds let it: a node is labelled only if the sum of its bound and its label is at most
+    /// `GREATEST_LIMIT`. If each line that is followed to a node with a bound begins at one whose bound is at most that
+    /// and the line's length together, a label is the least length wherever that sum is within the limit. Afterwards
+    /// only `is_within` and `reached_nodes` may be called, until the search is begun again.
+    pub fn settle_under<M: MapRead>(&mut self, map: &M, bounds: &Bounds) -> Result<(), AllocError>
+        requires begun { (direction : _) × (from : List (ℕ × ℕ))
+            × IsSearch (M.map map.now) (M.place_in map.now) direction from self.old }
+        ensures labelled { OnOk result ((direction : _) (from : List (ℕ × ℕ))
+            → IsSearch (M.map map.now) (M.place_in map.now) direction from self.old
+            → AreLengths (M.map map.now) (M.place_in map.now) direction from self.new) }
+        ensures settled { OnOk result ((direction : _) (from : List (ℕ × ℕ))
+            → IsSearch (M.map map.now) (M.place_in map.now) direction from self.old
+            → AreBounds (M.map map.now) direction (bound_in bounds.now)
+            → (v d : ℕ) → IsUnder (bound_in bounds.now) v d → IsTrue (has_node (M.map map.now) v)
+            → Leads (M.map map.now) direction from v d → label_at self.new (M.place_in map.now v) ≤ d) }
+    {
+        while let Some(next) = self.found.pop_within(GREATEST_LIMIT) {
+            let (dist, place) = next;
+            if self.found.label(place) == dist {
+                follow_under(map, self.direction, dist, place, bounds, &mut self.found)?;
+            }
+        }
+        Ok(())
+    }
+
+    /// Whether the node in this slot of the map has a label of at most a length in decimetres.
+    pub fn is_within(&self, place: u32, length: u32) -> bool
+        ensures { IsTrue result ↔ (label_at self.now place ≤ length) }
+    {
+        self.found.label(place) <= length
+    }
+
     /// The distance of a node in decimetres. None where it is beyond the limit that the search has been settled to.
     pub fn dist<M: MapRead>(&self, map: &M, node: NodeId) -> Option<u32>
         ensures { (direction : _) (from : List (ℕ × ℕ)) (d : ℕ)
@@ -133,6 +167,10 @@ impl Search {
     pub fn reached_nodes(&self) -> &[Reached]
         ensures near { (M : Map) (place_in : ℕ → ℕ) (direction : _) (from : List (ℕ × ℕ)) (v : ℕ)
             → IsSearch M place_in direction from self.now → LiesWithin M direction from (limit_of self.now) v
+            → Contains result.now (record { node = v; place = place_in v }) }
+        ensures labelled { (M : Map) (place_in : ℕ → ℕ) (direction : _) (from : List (ℕ × ℕ)) (v : ℕ)
+            → AreLengths M place_in direction from self.now → IsTrue (has_node M v)
+            → label_at self.now (place_in v) ≤ GREATEST_LIMIT
             → Contains result.now (record { node = v; place = place_in v }) }
         ensures once { (M : Map) (place_in : ℕ → ℕ) (direction : _) (from : List (ℕ × ℕ))
             → IsSearch M place_in direction from self.now → IsDistinct ◌==◌ (numbers_of result.now) }

@@ -6,6 +6,7 @@
 //! long walks is the least, and that only a sole one joins two points, are choices of this project (profile).
 #![tactic(auto)]
 
+pub mod bounds;
 pub mod distances;
 mod found;
 mod labels;
@@ -17,6 +18,7 @@ mod steps;
 mod walks;
 pub mod work;
 
+pub use bounds::Bounds;
 pub use distances::{Direction, Search, near};
 pub use found::Reached;
 pub use labels::Labels;

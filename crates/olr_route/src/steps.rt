@@ -4,7 +4,9 @@ ghost use Rattle.olr_spec.specs.Map.{has_node};
 ghost use Rattle.olr_route.specs.Distances.{Leads, ends_at};
 ghost use Rattle.olr_route.specs.Founds.{Moves, label_of};
 ghost use Rattle.olr_route.specs.Searches.{ClosedAt, CoversPlaces, IsLabelled};
+ghost use Rattle.olr_route.specs.Bounds.{CutAt, bound_in};
 
+use crate::bounds::{Bounds, is_under};
 use crate::distances::Direction;
 use crate::found::Found;
 use crate::routes::GREATEST_LIMIT;
@@ -67,6 +69,36 @@ pub fn follow<M: MapRead>(
 {
     for end in ends_from(map, direction, place) {
         found.put(end.node, end.place, dist + end.len)?;
+    }
+    Ok(())
+}
+
+/// As `follow`, but labels only the far ends that the bounds let it.
+pub fn follow_under<M: MapRead>(
+    map: &M,
+    direction: Direction,
+    dist: u32,
+    place: u32,
+    bounds: &Bounds,
+    found: &mut Found,
+) -> Result<(), AllocError>
+    requires node { (v : ℕ) × IsTrue (has_node (M.map map.now) v) × (M.place_in map.now v ≡ place) }
+    requires within { dist ≤ GREATEST_LIMIT }
+    requires room { CoversPlaces (M.map map.now) (M.place_in map.now) found.old }
+    ensures moves { OnOk result (Moves found.old found.new) }
+    ensures labelled { OnOk result ((v : ℕ) (from : List (ℕ × ℕ)) → IsTrue (has_node (M.map map.now) v) →
+        M.place_in map.now v ≡ place
+        → Leads (M.map map.now) direction from v dist
+        → IsLabelled (M.map map.now) (M.place_in map.now) direction from found.old
+        → IsLabelled (M.map map.now) (M.place_in map.now) direction from found.new) }
+    ensures closed { OnOk result ((v : ℕ) → IsTrue (has_node (M.map map.now) v) → M.place_in map.now v ≡ place
+        → CutAt (M.map map.now) (M.place_in map.now) direction (bound_in bounds.now) found.new v dist) }
+{
+    for end in ends_from(map, direction, place) {
+        let length = dist + end.len;
+        if is_under(bounds, end.node, length) {
+            found.put(end.node, end.place, length)?;
+        }
     }
     Ok(())
 }

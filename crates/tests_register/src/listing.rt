@@ -3,6 +3,7 @@ ghost use Rattle.std.specs.Prelude.{◌≡◌, string_bytes};
 
 use made_maps::{Plain, STRAIGHT, line, lines, make, node, other_line, plain_map};
 use olr_map::{Edit, RoadMap};
+use olr_near::Nearness;
 use olr_paths::{ChangedLine, Listing, Searches, Touched};
 use olr_refs::Path;
 use olr_route::Work;
@@ -73,13 +74,16 @@ fn renew(
         len: 1000,
     };
     touched.note((from, to), Some(line(number)), Some(change));
+    // Unknown bounds cut nothing.
+    let mut bounds = Nearness::new(alloc);
+    bounds.forget();
     let mut searches = Searches::new(alloc);
     let (mut work, mut kept) = (Work::default(), 0);
     let renewed = list.renew(
         alloc,
         map,
         &touched,
-        false,
+        &bounds,
         &mut searches,
         &mut work,
         &mut kept,

@@ -3,6 +3,7 @@
 use made_maps::{Plain, STRAIGHT, line, make, node, other_line, plain_line, plain_map};
 use olr_map::{Edit, RoadMap};
 use olr_near::Nearness;
+use olr_route::GREATEST_LIMIT;
 use std::alloc::Global;
 use std::process::Abort;
 
@@ -41,11 +42,22 @@ fn settle(rt: &impl Abort, nearness: &mut Nearness, map: &RoadMap, nodes: &[u32]
     assert_near(rt, nearness, nodes);
 }
 
-/// The same after a node was made a source.
-fn add(rt: &impl Abort, nearness: &mut Nearness, map: &RoadMap, source: u32, nodes: &[u32]) {
-    let added = nearness.add(node(source));
+/// As `settle`, after a query of a length that begins at a node was added.
+fn add_within(
+    rt: &impl Abort,
+    nearness: &mut Nearness,
+    map: &RoadMap,
+    source: (u32, u32),
+    nodes: &[u32],
+) {
+    let added = nearness.add(node(source.0), source.1);
     assert!(rt; added.is_ok());
     settle(rt, nearness, map, nodes);
+}
+
+/// As `add_within`, for a query of the greatest length.
+fn add(rt: &impl Abort, nearness: &mut Nearness, map: &RoadMap, source: u32, nodes: &[u32]) {
+    add_within(rt, nearness, map, (source, GREATEST_LIMIT), nodes);
 }
 
 /// The same after a line from one node to another was changed.
@@ -116,4 +128,16 @@ fn unknown_until_begun_anew(rt: HostRuntime) {
     nearness.clear();
     assert!(&rt; nearness.is_known());
     add(&rt, &mut nearness, &map, 3, &[3, 4, 5]);
+}
+
+#[test]
+fn as_far_as_a_source_goes(rt: HostRuntime) {
+    let map = road(&rt, rt.alloc());
+    let mut nearness = Nearness::new(rt.alloc());
+    add_within(&rt, &mut nearness, &map, (1, 0), &[1]);
+    add_within(&rt, &mut nearness, &map, (1, 49_999), &[1]);
+    add_within(&rt, &mut nearness, &map, (1, 50_000), &[1, 2]);
+    // A shorter query changes no number.
+    add_within(&rt, &mut nearness, &map, (1, 0), &[1, 2]);
+    add_within(&rt, &mut nearness, &map, (4, 50_000), &[1, 2, 4, 5]);
 }

@@ -5,9 +5,28 @@ use Rattle.std.proofs.lemmas.List.Elements.{All-contains, Contains-get_or}
 use Rattle.olr_spec.specs.Extension.{limit}
 use Rattle.olr_spec.specs.Detours.{Near}
 use Rattle.olr_spec.specs.Looks.{Look}
+use Rattle.olr_paths.specs.Searching.{IsTold}
 use Rattle.olr_paths.specs.Touching.{nodes_of}
 use Rattle.olr_paths.proofs.Alls.{all_more}
 use Rattle.olr_paths.proofs.asking.is_look_touched.Goals as goal
+
+pub is_near-requires-clause-told : goal.is_near-requires-clause-told
+is_near-requires-clause-told g c =
+    let N = g.M.MapRead.map c.args.map.now in
+    let place = g.M.MapRead.place_in c.args.map.now in
+    let t = c.args.touched.now in
+    let item : Look = c.look-item.result in
+    let xs : List Look = c.args.published.now.looks.items in
+    let lt : c.loop-look.look-index < length xs =
+    subst (λ (ys : List Look). c.loop-look.look-index < length ys) c.as_slice-looks.ensures.value
+    c.loop-look-test.true in
+    let is : item ≡ get_or xs c.loop-look.look-index item =
+    subst (λ (ys : List Look). item ≡ get_or ys c.loop-look.look-index item) c.as_slice-looks.ensures.value
+    c.look-item.is in
+    let on : Contains xs item =
+    subst (λ (l : Look). Contains xs l) (sym is) (Contains-get_or xs c.loop-look.look-index item lt) in
+    subst (λ (l : Look). IsTold N place t c.args.near.now l.from (min l.within limit)) (sym c.look.view_is)
+    (c.requires.told item on)
 
 pub returns-then-is_near : goal.returns-then-is_near
 returns-then-is_near g c =

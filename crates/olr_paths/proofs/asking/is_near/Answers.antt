@@ -1,29 +1,26 @@
-use Rattle.std.proofs.Common.{◌≡◌, ℕ, ◌≤◌, Bool, Some, IsTrue, ◌↔◌, min, sym, subst}
+use Rattle.std.proofs.Common.{Bool, IsTrue, ◌↔◌, min, sym, ap, subst, arith}
 use Rattle.olr_spec.specs.Extension.{limit}
 use Rattle.olr_spec.specs.Detours.{Near}
-use Rattle.olr_route.specs.Distances.{IsDistance}
-use Rattle.olr_route.specs.declared.distances.Direction.TheVariants.{Against}
+use Rattle.olr_route.specs.Bounds.{label_at}
 use Rattle.olr_paths.specs.Touching.{nodes_of}
-use Rattle.olr_paths.specs.Searching.{sources}
-use Rattle.olr_paths.proofs.Nearness.{Tells, near_by, near_absent}
+use Rattle.olr_paths.proofs.Nearness.{near_by, near_absent}
 use Rattle.olr_paths.proofs.asking.is_near.Goals as goal
 
 pub returns-in-Some : goal.returns-in-Some
 returns-in-Some g c =
     let N = g.M.MapRead.map c.args.map.now in
-    let T = nodes_of c.args.touched.now in
-    let near = c.args.near.now in
+    let place = g.M.MapRead.place_in c.args.map.now in
     let there = c.in-Some.ensures.0 in
-    let same : g.M.MapRead.place_in c.args.map.now c.args.node ≡ c.in-Some.place = sym c.in-Some.ensures.1 in
-    let tells : Tells N Against (sources c.args.touched.now) c.args.node limit c.dist_at.result =
-    λ d. subst (λ (most : ℕ). (c.dist_at.result ≡ Some d) ↔
-    (IsDistance N Against (sources c.args.touched.now) c.args.node d × (d ≤ most))) c.requires.limit
-    (c.dist_at.ensures N (g.M.MapRead.place_in c.args.map.now) Against (sources c.args.touched.now) c.args.node d
-    c.requires.search there same) in
-    let at = c.is_at_most.ensures in
-    let near =
-    near_by N (g.met.M.MapRead.sound c.args.map.now) T c.args.node c.dist_at.result c.args.within there tells in
-    ((λ yes. near.0 (at.0 yes)), (λ h. at.1 (near.1 h)))
+    let most = min c.args.within limit in
+    let label = label_at c.args.near.now (place c.args.node) in
+    let known =
+    near_by N (g.met.M.MapRead.sound c.args.map.now) (nodes_of c.args.touched.now) c.args.node label most there
+    (λ le. c.requires.lengths.leads c.args.node there (omega arith))
+    (λ d le way. c.requires.told d le there way) in
+    let at = c.is_within.ensures in
+    let same = ap (label_at c.args.near.now) c.in-Some.ensures.1 in
+    let least = c.min.ensures in
+    ((λ yes. let low = at.0 yes in known.0 (omega arith)), (λ h. let low = known.1 h in at.1 (omega arith)))
 
 pub returns-in-None : goal.returns-in-None
 returns-in-None g c =

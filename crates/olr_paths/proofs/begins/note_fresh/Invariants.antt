@@ -1,8 +1,9 @@
-use Rattle.std.proofs.Common.{ℕ, Contains, take}
+use Rattle.std.proofs.Common.{Contains, take}
+use Rattle.olr_spec.specs.Looks.{Look}
 use Rattle.olr_paths.specs.Beginning.{BeginsPut}
 use Rattle.olr_paths.specs.Renewing.{puts_of}
 use Rattle.olr_paths.proofs.begins.note_fresh.Given as goal
 
 -- where the looks begin of what was made so far is there
 abbrev pub invariant-loop-named : goal.invariant-loop-named
-invariant-loop-named l = (v : ℕ) → BeginsPut (puts_of (take l.named-index l.fresh)) v → Contains l.begun.items v
+invariant-loop-named l = (v : Look) → BeginsPut (puts_of (take l.named-index l.fresh)) v → Contains l.begun.items v

@@ -1,4 +1,4 @@
-use Rattle.std.proofs.Common.{◌≡◌, ℕ, List, Contains, sym, ap, ◌∙◌, subst, Option}
+use Rattle.std.proofs.Common.{◌≡◌, List, Contains, sym, ap, ◌∙◌, subst, Option}
 use Rattle.std.specs.Prelude.{option_map}
 use Rattle.std.specs.declared.alloc.Global.{Global}
 use Rattle.std.specs.declared.rc.Rc.{Rc}
@@ -14,5 +14,4 @@ returns-in_ok-note_looks-clause-named c = λ v h.
     subst (λ (o : Option (Rc Published Global)). BeginsIn (option_map (λ p. made_of p.value) o) v) c.in-Some.is h in
     let looks : c.deref-in-Some.result.now ≡ c.in-Some.published.value.looks.items =
     c.deref-in-Some.ensures.value ∙ ap (λ (p : Published). p.looks.items) c.deref.ensures in
-    subst (λ (u : ℕ). Contains c.note_looks.new.begun.items u) b.2
-    (c.in_ok-note_looks.ensures.looks b.0 (subst (λ (ls : List Look). Contains ls b.0) (sym looks) b.1))
+    c.in_ok-note_looks.ensures.looks v (subst (λ (ls : List Look). Contains ls v) (sym looks) b)

@@ -1,6 +1,5 @@
-use Rattle.std.proofs.Common.{◌≡◌, true, ℕ, All, refl, sym, subst}
+use Rattle.std.proofs.Common.{◌≡◌, true, ℕ, All, refl}
 use Rattle.std.proofs.lemmas.List.Elements.{All-contains}
-use Rattle.olr_route.specs.Searches.{LiesWithin}
 use Rattle.olr_route.specs.declared.found.Reached.{Reached}
 use Rattle.olr_route.specs.declared.distances.Direction.TheVariants.{Against}
 use Rattle.olr_paths.specs.Searching.{sources}
@@ -39,7 +38,7 @@ returns-then-searches g c =
     c.deref-6.ensures.value c.in_ok-put_lines.ensures.put in
     covers_by N (g.met.M.MapRead.sound c.args.map.now) place t s l.paths.entries ms f l.noted
     (l.encoded c.requires.encoded) l.long three own3 from3 lines3
-    (λ close search settled v near. let far : s.far ≡ true = c.if-searches.true in let never : ⊥ = cc (far, close) in
+    (λ close lengths v known small. let far : s.far ≡ true = c.if-searches.true in let never : ⊥ = cc (far, close) in
     absurd never)
 
 pub returns : goal.returns
@@ -83,7 +82,6 @@ returns g c =
     c.in_ok-put_reached.ensures.put in
     covers_by N (g.met.M.MapRead.sound c.args.map.now) place t s l.paths.entries ms f l.noted
     (l.encoded c.requires.encoded) l.long four own4 from4 lines4
-    (λ close search settled v near.
+    (λ close lengths v known small.
     All-contains (λ (r : Reached). Finds ms f.from r.node four) rs (record { node = v; place = place v }) all
-    (c.reached_nodes-reached.ensures.near N place Against (sources t) v search
-    (subst (λ (m : ℕ). LiesWithin N Against (sources t) m v) (sym settled) near)))
+    (c.reached_nodes-reached.ensures.labelled N place Against (sources t) v lengths known small))

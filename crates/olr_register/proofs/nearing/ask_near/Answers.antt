@@ -8,7 +8,4 @@ returns-clause-right c =
     (c.reopen.ensures.under_way M (map_of c.args.roads.now) same (λ known u d at. inl (right known u d at)))
 
 pub returns-clause-sources : goal.returns-clause-sources
-returns-clause-sources c = λ s is. c.settle.ensures.sources s (c.reopen.ensures.sources s is)
-
-pub returns-clause-far : goal.returns-clause-far
-returns-clause-far c = λ yes s right source. c.is_far.ensures.far yes (map_of c.args.roads.now) s right source
+returns-clause-sources c = λ s w is. c.settle.ensures.sources s w (c.reopen.ensures.sources s w is)

@@ -1,6 +1,7 @@
-use Rattle.std.proofs.Common.{ℕ, List, Contains, sym, subst}
+use Rattle.std.proofs.Common.{List, Contains, sym, subst}
 use Rattle.olr_map.specs.RoadMaps.{map_of}
 use Rattle.olr_paths.specs.Items.{items}
+use Rattle.olr_spec.specs.Looks.{Look}
 use Rattle.olr_register.proofs.Numbered.{numbered_unknown, right_without}
 use Rattle.olr_register.proofs.nearing.number_anew.Goals as goal
 
@@ -11,7 +12,7 @@ returns-in-Ok c =
           c.add_near.ensures.right (right_without (map_of c.args.roads.now) c.clear.new.self c.clear.ensures.numbers);
       sources =
           λ v b. c.add_near.ensures.sources v
-          (subst (λ (ns : List ℕ). Contains ns v) (sym c.deref.ensures.value) (c.in-Ok.ensures v b));
+          (subst (λ (ns : List Look). Contains ns v) (sym c.deref.ensures.value) (c.in-Ok.ensures v b));
     }
 
 pub returns : goal.returns

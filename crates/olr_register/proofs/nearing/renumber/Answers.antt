@@ -1,4 +1,5 @@
-use Rattle.std.proofs.Common.{ℕ, List, Contains, inl, inr, sym, subst}
+use Rattle.std.proofs.Common.{List, Contains, inl, inr, sym, subst}
+use Rattle.olr_spec.specs.Looks.{Look}
 use Rattle.olr_register.proofs.nearing.renumber.Goals as goal
 
 pub returns-then-not-is_worn : goal.returns-then-not-is_worn
@@ -6,8 +7,8 @@ returns-then-not-is_worn c = λ right begins.
     record {
       right = c.add_near.ensures.right right;
       sources = λ v b. elim (begins v b) [
-        | inl h ↦ c.add_near.ensures.before v h
-        | inr on ↦ c.add_near.ensures.sources v (subst (λ (ns : List ℕ). Contains ns v) (sym c.begun.ensures) on)
+        | inl h ↦ c.add_near.ensures.before v.from v.within h
+        | inr on ↦ c.add_near.ensures.sources v (subst (λ (ns : List Look). Contains ns v) (sym c.begun.ensures) on)
       ];
     }
 

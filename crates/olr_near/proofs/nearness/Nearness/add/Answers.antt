@@ -1,8 +1,14 @@
-use Rattle.olr_near.proofs.NumberLemmas.{source_better, moves_under_way, source_within}
+use Rattle.std.proofs.Common.{ℕ, subst, arith}
+use Rattle.olr_near.specs.Numbers.{IsLowered}
+use Rattle.olr_near.proofs.NumberLemmas.{source_better, moves_under_way}
 use Rattle.olr_near.proofs.nearness.Nearness.add.Goals as goal
 
 pub returns-in-Ok-clause-source : goal.returns-in-Ok-clause-source
-returns-in-Ok-clause-source c = λ known. source_within c.lower.new.self c.args.source c.in-Ok.ensures.within
+returns-in-Ok-clause-source c = λ known.
+    let k = c.in-Ok.ensures.within in
+    let low = k.low in
+    let left = c.saturating_sub.ensures in
+    record { number = k.number; at = k.at; low = omega arith }
 
 pub returns-in-Ok-clause-sources : goal.returns-in-Ok-clause-sources
 returns-in-Ok-clause-sources c = λ s. let m =
@@ -10,3 +16,8 @@ returns-in-Ok-clause-sources c = λ s. let m =
 
 pub returns-in-Ok-clause-under_way : goal.returns-in-Ok-clause-under_way
 returns-in-Ok-clause-under_way c = λ M. moves_under_way M c.args.self.now c.lower.new.self c.in-Ok.ensures.moves
+
+pub returns-in-Ok-clause-lowered : goal.returns-in-Ok-clause-lowered
+returns-in-Ok-clause-lowered c =
+    subst (λ (d : ℕ). IsLowered c.args.self.now c.lower.new.self c.args.source d) c.saturating_sub.ensures
+    c.in-Ok.ensures.lowered

@@ -4,8 +4,9 @@ use Rattle.std.proofs.lemmas.List.{get_or_default}
 use Rattle.olr_spec.specs.Map.{dm}
 use Rattle.olr_map.specs.declared.read.LineEnd.{LineEnd}
 use Rattle.olr_near.specs.Numbers.{number_of, Within}
-use Rattle.olr_near.proofs.NumberLemmas.{within_better, moves_then, end_there}
-use Rattle.olr_route.proofs.WayLemmas.{no_end}
+use Rattle.olr_near.proofs.NumberLemmas.{within_better, moves_then, end_there, lowered_from}
+use Rattle.olr_route.proofs.WayLemmas.{no_end, end_is}
+use Rattle.olr_route.specs.declared.distances.Direction.TheVariants.{Along}
 use Rattle.olr_near.proofs.nearness.Nearness.follow.Goals as goal
 use Rattle.olr_near.proofs.nearness.Nearness.follow.Goals.{then-end-room+in_ok-lower, else-end-room}
 
@@ -25,6 +26,24 @@ loop-end-preserved g c =
           rw w.self-is (record {
             moves = moves_then c.args.self.now c.loop-end.self w.lower.new.self inv.moves more.moves;
             paid = omega arith;
+            led = λ v d at.
+                elim (lowered_from c.loop-end.self w.lower.new.self c.end-item.result.node
+                (c.args.number + c.end-item.result.len) more.lowered v d at) [
+                  | inl was ↦ inv.led v d was
+                  | inr new ↦
+                      let e =
+                      end_is (g.M.MapRead.map c.args.map.now) (g.M.MapRead.place_in c.args.map.now) Along c.args.node
+                      items n c.end-item.result c.out_ends-end-items.ensures c.loop-end-test.true c.end-item.is in
+                      let len = e.len in
+                      let long = new.0 in
+                      inr (record {
+                        line = e.line;
+                        known = e.known;
+                        near = e.near;
+                        far = sym e.node ∙ sym new.1;
+                        long = omega arith;
+                      })
+                ];
             followed = λ j lt. elim (cases_lt j n) [
               | inl low ↦ λ short. within_better (number_of c.loop-end.self) (number_of w.lower.new.self)
                   more.moves.better _ _ (inv.followed j low short)
@@ -40,6 +59,7 @@ loop-end-preserved g c =
           rw w.self-is (record {
             moves = inv.moves;
             paid = inv.paid;
+            led = inv.led;
             followed = λ j lt. elim (cases_lt j n) [
               | inl low ↦ inv.followed j low
               | inr high ↦

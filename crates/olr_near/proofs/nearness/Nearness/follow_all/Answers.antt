@@ -1,8 +1,16 @@
-use Rattle.std.proofs.Common.{◌≡◌, true, false, refl, sym, ◌∙◌, arith}
+use Rattle.std.proofs.Common.{◌≡◌, true, false, inl, inr, refl, sym, ◌∙◌, arith}
 use Rattle.olr_near.specs.Numbers.{number_of}
 use Rattle.olr_near.proofs.Waiting.{popped_others}
-use Rattle.olr_near.proofs.NumberLemmas.{within_better, popped_skip, popped_more, gain_le}
+use Rattle.olr_near.proofs.NumberLemmas.{within_better, within_itself, popped_skip, popped_more, gain_le, led_itself, led_on}
 use Rattle.olr_near.proofs.nearness.Nearness.follow_all.Goals as goal
+
+pub loop-top-init : goal.loop-top-init
+loop-top-init g c = record {
+  better = λ v d at. within_itself (number_of c.args.self.now) v d at;
+  known = refl;
+  under_way = λ h. h;
+  led = λ v d at. led_itself (g.M.MapRead.map c.args.map.now) (number_of c.args.self.now) v d at;
+}
 
 pub loop-top-smaller-then-is_at : goal.loop-top-smaller-then-is_at
 loop-top-smaller-then-is_at g c =
@@ -24,6 +32,11 @@ loop-top-preserved-then-is_at g c =
           λ h. popped_more (g.M.MapRead.map c.args.map.now) c.loop-top.self _ c.in-Some.top.0.0 c.in-Some.top.0.1 refl
           refl (λ a u w. popped_others _ _ c.in-Some.top a u c.in-Some.ensures.permutation w)
           c.follow.new.self e.moves e.closed (inv.under_way h);
+      led = λ v d at. elim (e.followed v d at) [
+        | inl was ↦ inv.led v d was
+        | inr on ↦ led_on (g.M.MapRead.map c.args.map.now) (number_of c.args.self.now) c.in-Some.top.0.1 c.in-Some.top.0.0
+            v d (inv.led c.in-Some.top.0.1 c.in-Some.top.0.0 (c.is_at.ensures.0 c.if-is_at.true)) on
+      ];
     }
 
 pub loop-top-preserved : goal.loop-top-preserved
@@ -37,4 +50,5 @@ loop-top-preserved g c =
           (record c.loop-top.self { waiting = c.pop.new.self }) c.in-Some.top.0.0 c.in-Some.top.0.1 refl refl
           (λ a u w. popped_others _ _ c.in-Some.top a u c.in-Some.ensures.permutation w)
           (λ at. let never : ◌≡◌ true false = sym (c.is_at.ensures.1 at) ∙ c.if-is_at.false in cc) (inv.under_way h);
+      led = inv.led;
     }

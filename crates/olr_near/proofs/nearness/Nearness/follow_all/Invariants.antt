@@ -1,6 +1,6 @@
 use Rattle.std.proofs.Common.{◌≡◌, ℕ, ◌+◌, ◌-◌, ◌*◌, ◌^◌, Some}
 use Rattle.olr_spec.specs.Extension.{limit}
-use Rattle.olr_near.specs.Numbers.{number_of, Within, IsUnderWay, gain, waiting_len}
+use Rattle.olr_near.specs.Numbers.{number_of, Within, IsUnderWay, IsLed, gain, waiting_len}
 use Rattle.olr_near.proofs.nearness.Nearness.follow_all.Given as goal
 
 abbrev pub invariant-loop-top : goal.invariant-loop-top
@@ -8,6 +8,7 @@ invariant-loop-top g l = record {
   better : (v d : ℕ) → number_of l.initial.self v ≡ Some d → Within (number_of l.self) v d;
   known : l.self.known ≡ l.initial.self.known;
   under_way : IsUnderWay (g.M.MapRead.map l.map) l.initial.self → IsUnderWay (g.M.MapRead.map l.map) l.self;
+  led : (v d : ℕ) → number_of l.self v ≡ Some d → IsLed (g.M.MapRead.map l.map) (number_of l.initial.self) v d;
 }
 
 abbrev pub decreases-loop-top : goal.decreases-loop-top

@@ -6,9 +6,9 @@ use Rattle.olr_near.proofs.NumberLemmas.{near_numbered}
 use Rattle.olr_near.proofs.nearness.Nearness.is_far.Goals as goal
 
 pub returns-clause-far : goal.returns-clause-far
-returns-clause-far c = λ yes M s right source near.
+returns-clause-far c = λ yes M s w right source near.
     let known : c.args.self.now.known ≡ true = cc in
-    let some = near_numbered M c.args.self.now s c.args.nodes.now known right source near in
+    let some = near_numbered M c.args.self.now s w c.args.nodes.now known right source near in
     let k = stands_at c.args.nodes.now near.node near.touched in
     let lt = k.1 in
     let past = c.loop-node-test.false in

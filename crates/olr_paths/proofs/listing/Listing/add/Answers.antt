@@ -1,4 +1,4 @@
-use Rattle.std.proofs.Common.{◌≡◌, inl, inr, ℕ, List, [], ◌∷◌, ◌++◌, Contains, Some, Result, Ok, Err, map}
+use Rattle.std.proofs.Common.{◌≡◌, inl, inr, List, [], ◌∷◌, ◌++◌, Contains, Some, Result, Ok, Err, map}
 use Rattle.std.proofs.Common.{refl, sym, ap, ◌∙◌, subst}
 use Rattle.std.specs.Prelude.{string_bytes, OnErr}
 use Rattle.olr_spec.specs.Looks.{Look}
@@ -61,7 +61,6 @@ returns-clause-begun g c = λ v h.
     } ∷ []) in
     elim (begins_add is j v (subst (λ (js : List Item). Begins js v) now h)) [
       | inl a ↦ inl a
-      | inr b ↦ inr (subst (λ (u : ℕ). Contains c.note_looks.new.begun.items u) b.2
-          (c.in_ok-note_looks.ensures.looks b.0
-          (subst (λ (ls : List Look). Contains ls b.0) (sym c.deref.ensures.value) b.1)))
+      | inr b ↦ inr (c.in_ok-note_looks.ensures.looks v
+          (subst (λ (ls : List Look). Contains ls v) (sym c.deref.ensures.value) b))
     ]

@@ -1,8 +1,9 @@
-use Rattle.std.proofs.Common.{ℕ, Contains, take}
+use Rattle.std.proofs.Common.{Contains, take}
+use Rattle.olr_spec.specs.Looks.{Look}
 use Rattle.olr_paths.specs.Items.{items}
 use Rattle.olr_paths.specs.Beginning.{Begins}
 use Rattle.olr_paths.proofs.listing.Listing.begins.Given as goal
 
 -- where the looks of the paths so far begin is there
 abbrev pub invariant-loop-position : goal.invariant-loop-position
-invariant-loop-position l = (v : ℕ) → Begins (take l.position (items l.self)) v → Contains l.begun.items v
+invariant-loop-position l = (v : Look) → Begins (take l.position (items l.self)) v → Contains l.begun.items v

@@ -3,9 +3,10 @@ use Rattle.std.specs.Prelude.{OnOk}
 use Rattle.olr_spec.specs.Map.{Map}
 use Rattle.olr_commands.specs.Counts.{CountIs}
 use Rattle.olr_commands.specs.State.{NamesDiffer}
+use Rattle.olr_spec.specs.Looks.{Look}
 use Rattle.olr_paths.specs.Items.{Item, items, all_named}
 use Rattle.olr_paths.specs.Changes.{IsBefore, IsConcerned, AreRemade, Follows}
-use Rattle.olr_paths.specs.Beginning.{Begins, AreFar, begun_in}
+use Rattle.olr_paths.specs.Beginning.{Begins, AreNumbered, begun_in}
 use Rattle.olr_paths.specs.Touching.{nodes_of, lines_of, changed_of}
 use Rattle.olr_paths.proofs.Following.{follows_self}
 use Rattle.olr_paths.specs.Laying.{overlay_changes}
@@ -20,7 +21,7 @@ renew_laid-requires g c =
       keeps = none_keeps (overlay_changes c.new-none.result) (items c.new-none.result.added) c.new-none.ensures;
       names = subst (λ (js : List Item). NamesDiffer (all_named js)) (sym e) c.len-names.ensures.names;
       follows = subst (Follows is) (sym e) (follows_self is c.len-names.ensures.names);
-      far = λ on. subst (AreFar (g.M.MapRead.map c.args.map.now) (nodes_of c.args.touched.now)) (sym e) (c.requires on);
+      numbers = subst (AreNumbered (g.M.MapRead.map c.args.map.now) c.args.numbers.now) (sym e) c.requires;
     }
 
 pub returns-clause-renewed : goal.returns-clause-renewed
@@ -51,6 +52,6 @@ returns-clause-counted g c =
 
 pub returns-clause-begun : goal.returns-clause-begun
 returns-clause-begun g c =
-    subst (λ (is : List Item). OnOk c.renew_laid.result ((v : ℕ) → Begins (items c.renew_laid.new.self) v → Begins is v
+    subst (λ (is : List Item). OnOk c.renew_laid.result ((v : Look) → Begins (items c.renew_laid.new.self) v → Begins is v
     ⊎ Contains (begun_in c.renew_laid.new.searches) v)) (c.new-none.ensures (items c.args.self.now))
     c.renew_laid.ensures.begun

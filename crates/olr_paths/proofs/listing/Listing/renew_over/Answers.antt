@@ -2,9 +2,10 @@ use Rattle.std.proofs.Common.{◌≡◌, ◌+◌, ◌<◌, ◌≤◌, ◌^◌, �
 use Rattle.olr_spec.specs.Map.{Map}
 use Rattle.olr_commands.specs.Counts.{CountIs}
 use Rattle.olr_commands.specs.State.{NamesDiffer}
+use Rattle.olr_spec.specs.Looks.{Look}
 use Rattle.olr_paths.specs.Items.{Item, items, all_named}
 use Rattle.olr_paths.specs.Changes.{IsBefore, IsConcerned, AreRemade, Follows}
-use Rattle.olr_paths.specs.Beginning.{Begins, AreFar, begun_in}
+use Rattle.olr_paths.specs.Beginning.{Begins, AreNumbered, begun_in}
 use Rattle.olr_paths.specs.Touching.{nodes_of, lines_of, changed_of}
 use Rattle.olr_paths.specs.Laying.{overlay_changes}
 use Rattle.olr_paths.proofs.Changed.{none_keeps}
@@ -18,8 +19,7 @@ renew_laid-requires-2 g c =
       keeps = none_keeps (overlay_changes c.new-none.result) (items c.new-none.result.added) c.new-none.ensures;
       names = subst (λ (js : List Item). NamesDiffer (all_named js)) (sym e) c.requires.names;
       follows = subst (Follows (items c.args.self.now)) (sym e) c.requires.follows;
-      far = λ on. subst (AreFar (g.M.MapRead.map c.args.map.now) (nodes_of c.args.touched.now)) (sym e)
-          (c.requires.far on);
+      numbers = subst (AreNumbered (g.M.MapRead.map c.args.map.now) c.args.numbers.now) (sym e) c.requires.numbers;
     }
 
 pub returns-clause-renewed : goal.returns-clause-renewed
@@ -50,7 +50,7 @@ returns-clause-counted g c =
 pub returns-clause-begun : goal.returns-clause-begun
 returns-clause-begun g c =
     let e = c.new-none.ensures (items c.in_ok-list.list) ∙ c.in_ok-list.ensures in
-    subst (λ (is : List Item). (v : ℕ) → Begins (items c.renew_laid-2.new.self) v → Begins is v
+    subst (λ (is : List Item). (v : Look) → Begins (items c.renew_laid-2.new.self) v → Begins is v
     ⊎ Contains (begun_in c.renew_laid-2.new.searches) v) e c.in_ok-entries.ensures.begun
 
 pub returns-clause-reported : goal.returns-clause-reported

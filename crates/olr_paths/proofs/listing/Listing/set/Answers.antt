@@ -1,4 +1,4 @@
-use Rattle.std.proofs.Common.{◌≡◌, inl, inr, ℕ, List, [], ◌∷◌, ◌++◌, Contains, Some, sym, ap, ◌∙◌, subst}
+use Rattle.std.proofs.Common.{◌≡◌, inl, inr, List, [], ◌∷◌, ◌++◌, Contains, Some, sym, ap, ◌∙◌, subst}
 use Rattle.std.specs.Prelude.{map}
 use Rattle.olr_spec.specs.Looks.{Look}
 use Rattle.olr_commands.specs.Reply.{Entry, entry}
@@ -44,7 +44,6 @@ returns-clause-begun g c = λ v h.
     ∙ (λ i. map (set_item name (c.in_ok-new.ensures.ok i) (Some (made_of (c.in_ok-new-2.ensures.ok i)))) is) in
     elim (begins_set name c.args.path (Some m) is v (subst (λ (js : List Item). Begins js v) now h)) [
       | inl a ↦ inl a
-      | inr b ↦ inr (subst (λ (u : ℕ). Contains c.note_looks.new.begun.items u) b.2
-          (c.in_ok-note_looks.ensures.looks b.0
-          (subst (λ (ls : List Look). Contains ls b.0) (sym c.deref.ensures.value) b.1)))
+      | inr b ↦ inr (c.in_ok-note_looks.ensures.looks v
+          (subst (λ (ls : List Look). Contains ls v) (sym c.deref.ensures.value) b))
     ]

@@ -8,7 +8,7 @@ use Rattle.olr_register.specs.Holding.{map_kept, IsKeptRight}
 use Rattle.olr_register.proofs.BatchEnds.{none_refused}
 use Rattle.olr_register.proofs.BatchCommit.{count_refused, commit_lacks, lacks_held, commit_from, commit_before}
 use Rattle.olr_register.proofs.BatchCommit.{commit_held, commit_done}
-use Rattle.olr_register.proofs.Numbered.{kept_closed, numbered_unknown, numbered_same, numbered_asked, far_looks}
+use Rattle.olr_register.proofs.Numbered.{kept_closed, numbered_unknown, numbered_same, numbered_asked}
 use Rattle.olr_register.proofs.Numbered.{numbered_more, commit_numbered}
 use Rattle.olr_register.proofs.Tallies.{tally}
 use Rattle.olr_register.proofs.register.Register.commit.Goals as goal
@@ -60,8 +60,8 @@ invariant_of-self-2 c =
     c.self.invariant.numbered in
     let now =
     numbered_asked (map_before s.roads c.in-Some.batch.log) (map_of s.roads) laid (nodes_of c.in-Some.batch.touched)
-    c.nodes.result.now s.near c.ask_near-far.new.near c.nodes.ensures held.noted.difference.nodes was
-    c.ask_near-far.ensures.right c.ask_near-far.ensures.sources in
+    c.nodes.result.now s.near c.ask_near.new.near c.nodes.ensures held.noted.difference.nodes was
+    c.ask_near.ensures.right c.ask_near.ensures.sources in
     record {
       register =
           commit_held s.roads c.keep_all.new.self (items s.paths) (items c.renew_over.new.self) s.batch c.take.new.self
@@ -70,7 +70,7 @@ invariant_of-self-2 c =
       numbered =
           numbered_same (map_of c.keep_all.new.self) (map_kept c.keep_all.new.self c.take.new.self) _ _
           (kept_closed c.keep_all.new.self c.take.new.self c.take.ensures.after)
-          (numbered_more (map_of c.keep_all.new.self) laid _ c.ask_near-far.new.near _ _
+          (numbered_more (map_of c.keep_all.new.self) laid _ c.ask_near.new.near _ _
           (numbered_same (map_of s.roads) (map_of c.keep_all.new.self) laid _ c.keep_all.ensures now)
           c.in-Ok.ensures.begun c.renumber.ensures);
     }
@@ -97,12 +97,11 @@ renew_over-requires c =
     record {
       names = held.sound.names;
       follows = held.follows;
-      far = λ on.
-          far_looks (map_before s.roads c.in-Some.batch.log) (map_of s.roads)
+      numbers =
+          numbered_asked (map_before s.roads c.in-Some.batch.log) (map_of s.roads)
           (under_overlay (items s.paths) c.in-Some.batch.overlay) (nodes_of c.in-Some.batch.touched) c.nodes.result.now
-          s.near c.ask_near-far.new.near c.nodes.ensures
-          held.noted.difference.nodes was c.ask_near-far.ensures.right c.ask_near-far.ensures.sources
-          (c.ask_near-far.ensures.far on);
+          s.near c.ask_near.new.near c.nodes.ensures
+          held.noted.difference.nodes was c.ask_near.ensures.right c.ask_near.ensures.sources;
     }
 
 pub invariant_of-self-in_default-renew_over : goal.invariant_of-self-in_default-renew_over

@@ -12,7 +12,7 @@ use Rattle.olr_register.proofs.Singles.{as_before, closed_by, still_closed, same
 use Rattle.olr_register.proofs.SingleEdit.{refused_is, taken_is, edit_refused, edit_lacks, noted_judged, edit_before}
 use Rattle.olr_register.proofs.SingleEdit.{edit_keeps, edit_done}
 use Rattle.olr_register.proofs.Numbered.{kept_closed, numbered_unknown, numbered_same, edit_same_but, numbered_asked}
-use Rattle.olr_register.proofs.Numbered.{far_looks, numbered_more}
+use Rattle.olr_register.proofs.Numbered.{numbered_more}
 use Rattle.olr_register.proofs.Tallies.{tally}
 use Rattle.olr_register.proofs.register.Register.edit_now.Goals as goal
 
@@ -101,7 +101,7 @@ invariant_of-self-2 c =
     (sym (kept_closed r.roads r.batch none)) c.self.invariant.numbered in
     let now =
     numbered_asked (map_of r.roads) (map_of c.make.new.self) (items r.paths) (nodes_of t) c.nodes.result.now r.near
-    c.ask_near-far.new.near c.nodes.ensures but was c.ask_near-far.ensures.right c.ask_near-far.ensures.sources in
+    c.ask_near.new.near c.nodes.ensures but was c.ask_near.ensures.right c.ask_near.ensures.sources in
     let before =
     edit_before r.roads c.keep.new.self (items r.paths) (items c.renew.new.self) r.batch (tally r.work r.kept)
     c.args.self.now e (list_map entry_of c.in-Ok-renew.entries.items) c.self.view_is c.requires
@@ -118,7 +118,7 @@ invariant_of-self-2 c =
       numbered =
           numbered_same (map_of c.keep.new.self) (map_kept c.keep.new.self r.batch) _ _
           (kept_closed c.keep.new.self r.batch none)
-          (numbered_more (map_of c.keep.new.self) (items r.paths) _ c.ask_near-far.new.near _ _
+          (numbered_more (map_of c.keep.new.self) (items r.paths) _ c.ask_near.new.near _ _
           (numbered_same (map_of c.make.new.self) (map_of c.keep.new.self) (items r.paths) _ c.keep.ensures now)
           c.in-Ok-renew.ensures.begun c.renumber.ensures);
     }
@@ -153,7 +153,7 @@ returns c =
     })
 
 pub renew-requires : goal.renew-requires
-renew-requires c = λ on.
+renew-requires c =
     let r = c.self.inside in
     let e = edit_of c.args.edit in
     let t = c.note_alone.new.touched in
@@ -167,6 +167,5 @@ renew-requires c = λ on.
     let was =
     numbered_same (map_kept r.roads r.batch) (map_of r.roads) (items r.paths) r.near
     (sym (kept_closed r.roads r.batch none)) c.self.invariant.numbered in
-    far_looks (map_of r.roads) (map_of c.make.new.self) (items r.paths) (nodes_of t) c.nodes.result.now r.near
-    c.ask_near-far.new.near c.nodes.ensures but was c.ask_near-far.ensures.right c.ask_near-far.ensures.sources
-    (c.ask_near-far.ensures.far on)
+    numbered_asked (map_of r.roads) (map_of c.make.new.self) (items r.paths) (nodes_of t) c.nodes.result.now r.near
+    c.ask_near.new.near c.nodes.ensures but was c.ask_near.ensures.right c.ask_near.ensures.sources

@@ -3,13 +3,18 @@ use Rattle.std.specs.List.{IsDistinct}
 use Rattle.olr_route.specs.Notes.{numbers_of}
 use Rattle.olr_route.specs.declared.found.Reached.{Reached}
 use Rattle.olr_route.specs.Searches.{LiesWithin}
-use Rattle.olr_route.proofs.SearchLemmas.{near_listed, listed_reached, listed_near}
+use Rattle.olr_route.proofs.SearchLemmas.{labelled_listed, near_listed, listed_reached, listed_near}
 use Rattle.olr_route.proofs.distances.Search.reached_nodes.Goals as goal
 
 pub returns-clause-near : goal.returns-clause-near
 returns-clause-near c = λ M place_in direction from v h near.
     subst (λ (xs : List Reached). Contains xs (record { node = v; place = place_in v })) (sym c.reached_nodes.ensures)
     (near_listed M place_in direction from c.args.self.now h v near)
+
+pub returns-clause-labelled : goal.returns-clause-labelled
+returns-clause-labelled c = λ M place_in direction from v l known small.
+    subst (λ (xs : List Reached). Contains xs (record { node = v; place = place_in v })) (sym c.reached_nodes.ensures)
+    (labelled_listed M place_in direction from c.args.self.now.found l v known small)
 
 pub returns-clause-once : goal.returns-clause-once
 returns-clause-once c =

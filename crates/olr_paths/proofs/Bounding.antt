@@ -1,0 +1,22 @@
+-- How far the numbers of nodes let a search go.
+use Rattle.std.proofs.Common.{ℕ, ◌≤◌, min, IsTrue, refl, arith}
+use Rattle.olr_spec.specs.Map.{Map}
+use Rattle.olr_spec.specs.Extension.{limit}
+use Rattle.olr_route.specs.Bounds.{AreBounds, IsUnder}
+use Rattle.olr_route.specs.declared.distances.Direction.TheVariants.{Against}
+use Rattle.olr_near.specs.Numbers.{IsRight, IsSource, number_of}
+use Rattle.olr_near.specs.declared.nearness.Nearness.{Nearness}
+
+-- right numbers are bounds
+pub numbers_bound : (M : Map) (f : Nearness) → IsTrue f.known → IsRight M f → AreBounds M Against (number_of f)
+numbers_bound M f known right x b line at short =
+    let k = right known _ b at x line refl short in
+    (k.number, k.at, k.low)
+
+-- and no source is beyond them
+pub source_under : (f : Nearness) (v w d : ℕ) → IsTrue f.known → IsSource f v w → d ≤ min w limit →
+    IsUnder (number_of f) v d
+source_under f v w d known source le =
+    let k = source known in
+    let low = k.low in
+    record { bound = k.number; at = k.at; low = omega arith }

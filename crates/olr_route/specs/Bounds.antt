@@ -1,0 +1,44 @@
+-- Bounds at nodes, and searches that go no farther than these let them.
+--     bound_in bs v      the bound of node v, in decimetres
+--     IsUnder B v d      v has a bound that is with d at most the greatest limit
+--     AreBounds M direction B      a line that leads under the greatest limit to a bound begins at one that is no
+--         greater than the length there
+--     CutAt M place direction B f v d      no line from v, where d, leads to a greater label, if a bound lets it
+--     AreLengths M place direction from s      each label is the length of a way
+--     label_at s p      the label at place p
+use Rattle.std.specs.Prelude.{◌≡◌, ℕ, ◌+◌, ◌≤◌, List, Option, Some, IsTrue, nat_eq}
+use Rattle.std.specs.declared.hash.BuildHasherDefault.{BuildHasherDefault}
+use Rattle.std.specs.HashMap.{HashMap, get}
+use Rattle.olr_spec.specs.Map.{Map, has_line, dm}
+use Rattle.olr_map.specs.declared.number_hash.NumberHasher.{NumberHasher}
+use Rattle.olr_route.specs.Distances.{near_end, far_end}
+use Rattle.olr_route.specs.Founds.{label_of}
+use Rattle.olr_route.specs.Searches.{IsLabelled}
+use Rattle.olr_route.specs.declared.routes.TheConstants.{GREATEST_LIMIT}
+use Rattle.olr_route.specs.declared.found.Found.{Found}
+use Rattle.olr_route.specs.declared.distances.Direction.{Direction}
+use Rattle.olr_route.specs.declared.distances.Search.{Search}
+
+abbrev pub bound_in : HashMap ℕ ℕ (BuildHasherDefault NumberHasher) → ℕ → Option ℕ
+bound_in bs v = get nat_eq bs v
+
+pub record IsUnder (B : ℕ → Option ℕ) (v d : ℕ) : Type 0 where
+  pub bound : ℕ
+  pub at : B v ≡ Some bound
+  pub low : bound + d ≤ GREATEST_LIMIT
+
+abbrev pub AreBounds : Map → Direction → (ℕ → Option ℕ) → Type 0
+AreBounds M direction B =
+    (x b : ℕ) → IsTrue (has_line M x) → B (far_end M direction x) ≡ Some b → b + dm M x ≤ GREATEST_LIMIT →
+    (c : ℕ) × (B (near_end M direction x) ≡ Some c) × (c ≤ b + dm M x)
+
+abbrev pub CutAt : Map → (ℕ → ℕ) → Direction → (ℕ → Option ℕ) → Found → ℕ → ℕ → Type 0
+CutAt M place direction B f v d =
+    (x : ℕ) → IsTrue (has_line M x) → near_end M direction x ≡ v → IsUnder B (far_end M direction x) (d + dm M x) →
+    label_of f (place (far_end M direction x)) ≤ d + dm M x
+
+abbrev pub AreLengths : Map → (ℕ → ℕ) → Direction → List (ℕ × ℕ) → Search → Type 0
+AreLengths M place direction from s = IsLabelled M place direction from s.found
+
+abbrev pub label_at : Search → ℕ → ℕ
+label_at s p = label_of s.found p
