@@ -14,7 +14,7 @@ pub mod PointLemmas
 pub mod Reaching
 pub mod Recovering
 pub mod Referring
+pub mod Seen
 pub mod Sets
 pub mod Stretches
 pub mod Trimming
-pub mod Widening

@@ -1,29 +1,29 @@
 -- What a choice of points looks at, and the counts that its searches raise.
 use Rattle.std.proofs.Common.{◌≡◌, ◌<◌, ◌≤◌, ◌+◌, ◌*◌, ℕ, zero, suc, List, [], ◌∷◌, ◌++◌, length, Contains, refl, sym}
-use Rattle.std.proofs.Common.{ap, ◌∙◌, subst, arith, inl, inr, ◌==◌, length-append}
-use Rattle.std.specs.Prelude.{nat_lt}
+use Rattle.std.proofs.Common.{ap, ◌∙◌, subst, arith, inl, inr, length-append}
+use Rattle.std.specs.Prelude.{IsTrue, ◌↔◌, nat_lt}
 use Rattle.std.specs.Cmp.{nat_eq_equiv}
 use Rattle.std.specs.List.{AllZip}
-use Rattle.std.proofs.Math.Nat.{mul-add, mul_comm}
-use Rattle.std.proofs.lemmas.Bool.{or_left, or_right, eqb-true}
+use Rattle.std.proofs.lemmas.Bool.{eqb-true}
 use Rattle.std.proofs.lemmas.Bool.Decides.{nat_tests}
-use Rattle.std.proofs.lemmas.List.Elements.{filter-append}
-use Rattle.std.proofs.lemmas.List.Folds.{list_any-append}
+use Rattle.std.proofs.lemmas.List.Elements.{filter-append, Contains-append_right}
 use Rattle.std.proofs.lemmas.Map.Made.{length-le_from_is_member}
 use Rattle.std.proofs.lemmas.Map.Views.{Contains-from_any, list_any-from_Contains}
-use Rattle.olr_spec.specs.Map.{Map}
+use Rattle.olr_spec.specs.Map.{Map, has_node}
 use Rattle.olr_spec.specs.Walks.{Walk, dm_of, Reaches}
 use Rattle.olr_spec.specs.Extension.{limit}
 use Rattle.olr_spec.specs.Points.{Next, Follow, NoNext, last_position, stretch}
-use Rattle.olr_spec.specs.Footprint.{Sees, Searched}
+use Rattle.olr_spec.specs.Footprint.{Sees}
 use Rattle.olr_spec.specs.Looks.{Look, IsLastTested, IsLook, LooksFrom, looking}
-use Rattle.olr_spec.proofs.ListLemmas.{has_here, Contains-cases}
+use Rattle.olr_spec.proofs.ListLemmas.{Contains-here, Contains-cases}
 use Rattle.olr_spec.proofs.AnswerLemmas.{Next-candidate}
 use Rattle.olr_route.specs.declared.work.Work.{Work}
 use Rattle.olr_route.specs.declared.distances.Direction.TheVariants.{Along}
 use Rattle.olr_route.specs.Counts.{saturated_count}
-use Rattle.olr_route.specs.Searches.{LiesWithin, Counts}
-use Rattle.olr_refs.specs.Choice.{Looked, LookedAfter, raised_count}
+use Rattle.olr_route.specs.declared.distances.Search.{Search}
+use Rattle.olr_route.specs.Searches.{IsSearch, LiesWithin, Counts, limit_of}
+use Rattle.olr_route.proofs.SearchLemmas.{near_leads}
+use Rattle.olr_refs.specs.Choice.{CountOf, Looked, LookedAfter, SeenBy, SettledBy, raised_count}
 use Rattle.olr_refs.proofs.Stretches.{later_stretch, longer_stretch}
 use Rattle.olr_refs.proofs.Reaching.{empty_stretch}
 use Rattle.std.proofs.lemmas.List.{append-nil}
@@ -31,7 +31,7 @@ use Rattle.std.proofs.lemmas.List.{append-nil}
 -- ---- what a search settles
 
 -- what a search labels within a length is reached by a walk of at most the length
-pub near_reach : (M : Map) (s v far : ℕ) → LiesWithin M Along ((s, 0) ∷ []) far v → Reaches M s far v
+near_reach : (M : Map) (s v far : ℕ) → LiesWithin M Along ((s, 0) ∷ []) far v → Reaches M s far v
 near_reach M s v far n =
     let l = n.1.leads in
     elim (Contains-cases (s, 0) (l.source, l.begun) [] l.listed) [
@@ -44,16 +44,34 @@ near_reach M s v far n =
       | inr none ↦ let never : none.0 < 0 = none.1 in absurd (omega arith)
     ]
 
--- no more than there are such nodes
-settled_few : (M : Map) (s far n : ℕ) (all : List ℕ) → Counts M Along ((s, 0) ∷ []) far n →
-    ((v : ℕ) → Reaches M s far v → Contains all v) → n ≤ length all
-settled_few M s far n all c each =
-    let few =
-    length-le_from_is_member nat_eq_equiv c.nodes all c.apart
-    (λ q is. list_any-from_Contains nat_eq_equiv q all
-    (each q (near_reach M s q far ((c.exactly q).0 (Contains-from_any (λ x y e. eqb-true x y e) q c.nodes is))))) in
-    let many = c.many in
-    omega arith
+-- and where the search is settled so far, exactly what such a walk reaches
+near_reached : (M : Map) (place : ℕ → ℕ) (s : ℕ) (q : Search) → IsSearch M place Along ((s, 0) ∷ []) q →
+    IsTrue (has_node M s) → (v : ℕ) → LiesWithin M Along ((s, 0) ∷ []) (limit_of q) v ↔ Reaches M s (limit_of q) v
+near_reached M place s q h there v = (
+  near_reach M s v (limit_of q),
+  λ r. let short = r.2 in
+      near_leads M place Along ((s, 0) ∷ []) q h v (dm_of M r.0) (omega arith) record {
+        source = s;
+        begun = 0;
+        lines = r.0;
+        listed = Contains-here (s, 0) [];
+        there = there;
+        way = r.1;
+        long = omega arith;
+      },
+)
+
+-- a search for a look settles what the look sees
+pub search_sees : (M : Map) (place : ℕ → ℕ) (l : Look) (s : ℕ) (q : Search) → IsSearch M place Along ((s, 0) ∷ []) q →
+    IsTrue (has_node M s) → s ≡ l.from → limit_of q ≡ l.within → (v : ℕ) →
+    LiesWithin M Along ((s, 0) ∷ []) (limit_of q) v ↔ Sees M l v
+search_sees M place l s q h there begun far v =
+    let reach = near_reached M place s q h there v in
+    let from : Reaches M s (limit_of q) v ↔ Reaches M l.from (limit_of q) v =
+    subst (λ (u : ℕ). Reaches M s (limit_of q) v ↔ Reaches M u (limit_of q) v) begun ((λ r. r), (λ r. r)) in
+    let to : Reaches M l.from (limit_of q) v ↔ Reaches M l.from l.within v =
+    subst (λ (d : ℕ). Reaches M l.from (limit_of q) v ↔ Reaches M l.from d v) far ((λ r. r), (λ r. r)) in
+    ((λ n. to.0 (from.0 (reach.0 n))), (λ r. reach.1 (from.1 (to.1 r))))
 
 -- a look leads no farther than points may lie apart
 pub look_short : (M : Map) (ls : List ℕ) (i k : ℕ) → IsLastTested M ls i k → dm_of M (stretch ls (i + 1) k) ≤ limit
@@ -79,50 +97,74 @@ raised_more count n zero = ap (raised_count count) (omega arith)
 raised_more count n (suc m) = let e : suc (n + m) ≡ n + suc m =
     omega arith in ap (λ (k : ℕ). saturated_count (k + 1)) (raised_more count n m) ∙ ap (raised_count count) e
 
-settled_more : (a b c n m t : ℕ) → b ≤ a + n * t → c ≤ b + m * t → c ≤ a + (n + m) * t
-settled_more a b c n m t f g = let parts : (n + m) * t ≡ n * t + m * t =
-    mul_comm (n + m) t ∙ mul-add t n m ∙ ap (λ (k : ℕ). k + t * m) (mul_comm t n)
-    ∙ ap (λ (k : ℕ). n * t + k) (mul_comm t m) in omega arith
+settled_append : (M : Map) (ks ls : List Look) (a b c : ℕ) → SettledBy M ks a b → SettledBy M ls b c →
+    SettledBy M (ks ++ ls) a c
+settled_append M [] ls a b c p q = subst (λ (k : ℕ). SettledBy M ls k c) p q
+settled_append M (k ∷ ks) ls a b c p q = (p.0, p.1, settled_append M ks ls (saturated_count (a + p.0)) b c p.2 q)
 
-pub looked_none : (w : Work) (near : ℕ → Type 0) → Looked w w 0 near
-looked_none w near = record { encodings = refl; searches = refl; rises = omega arith; settled = λ all h. omega arith }
+-- no more than there are such nodes
+settled_few : (near : ℕ → Type 0) (n : ℕ) (all : List ℕ) → CountOf near n → ((v : ℕ) → near v → Contains all v) →
+    n ≤ length all
+settled_few near n all c each =
+    let few =
+    length-le_from_is_member nat_eq_equiv c.nodes all c.apart
+    (λ q is. list_any-from_Contains nat_eq_equiv q all
+    (each q ((c.exactly q).0 (Contains-from_any (λ x y e. eqb-true x y e) q c.nodes is)))) in
+    let many = c.many in
+    omega arith
 
-pub looked_more : (a b c : Work) (n m : ℕ) (P Q R : ℕ → Type 0) → Looked a b n P → Looked b c m Q →
-    ((v : ℕ) → P v → R v) → ((v : ℕ) → Q v → R v) → Looked a c (n + m) R
-looked_more a b c n m P Q R f g p q =
+most_more : (a b c n m t : ℕ) → b ≤ a + n → n ≤ t → c ≤ b + m * t → c ≤ a + suc m * t
+most_more a b c n m t f h g = let parts : suc m * t ≡ m * t + t = omega arith in omega arith
+
+-- no look sees more than all nodes that any of them sees
+pub settled_most : (M : Map) (looks : List Look) (a c : ℕ) → SettledBy M looks a c → (all : List ℕ) →
+    ((v : ℕ) → SeenBy M looks v → Contains all v) → c ≤ a + length looks * length all
+settled_most M [] a c s all h = omega arith
+settled_most M (l ∷ ls) a c s all h =
+    most_more a (saturated_count (a + s.0)) c s.0 (length ls) (length all) (omega arith)
+    (settled_few (Sees M l) s.0 all s.1 (λ v r. h v (l, Contains-here l ls, r)))
+    (settled_most M ls (saturated_count (a + s.0)) c s.2 all
+    (λ v r. h v (r.0, Contains-append_right (l ∷ []) ls r.0 r.1, r.2)))
+
+pub settled_none : (M : Map) (looks : List Look) (a : ℕ) → looks ≡ [] → SettledBy M looks a a
+settled_none M looks a e = subst (λ (ls : List Look). SettledBy M ls a a) (sym e) refl
+
+pub looked_none : (M : Map) (w : Work) → Looked M [] w w
+looked_none M w = record { encodings = refl; searches = refl; rises = omega arith; settled = refl }
+
+pub looked_more : (M : Map) (ks ls : List Look) (a b c : Work) → Looked M ks a b → Looked M ls b c →
+    Looked M (ks ++ ls) a c
+looked_more M ks ls a b c f g =
     record {
       encodings = g.encodings ∙ f.encodings;
-      searches = g.searches ∙ ap (λ (k : ℕ). raised_count k m) f.searches ∙ raised_more a.searches n m;
+      searches = g.searches ∙ ap (λ (k : ℕ). raised_count k (length ls)) f.searches
+          ∙ raised_more a.searches (length ks) (length ls) ∙ ap (raised_count a.searches) (sym (length-append ks ls));
       rises = let x = f.rises in let y = g.rises in omega arith;
-      settled =
-          λ all h. settled_more a.settled b.settled c.settled n m (length all) (f.settled all (λ v r. h v (p v r)))
-          (g.settled all (λ v r. h v (q v r)));
-    }
-
-pub looked_wider : (a b : Work) (n : ℕ) (P Q : ℕ → Type 0) → ((v : ℕ) → P v → Q v) → Looked a b n P → Looked a b n Q
-looked_wider a b n P Q p f =
-    record {
-      encodings = f.encodings;
-      searches = f.searches;
-      rises = f.rises;
-      settled =
-          λ all h. f.settled all (λ v r. h v (p v r));
+      settled = settled_append M ks ls a.settled b.settled c.settled f.settled g.settled;
     }
 
 -- one search for a look
-pub one_look : (M : Map) (l : Look) (s far n : ℕ) (before after : Work) → s ≡ l.from → far ≡ l.within
-    → Counts M Along ((s, 0) ∷ []) far n
+pub one_look : (M : Map) (place : ℕ → ℕ) (l : Look) (s n : ℕ) (q : Search) (before after : Work) →
+    IsSearch M place Along ((s, 0) ∷ []) q → IsTrue (has_node M s) → s ≡ l.from → limit_of q ≡ l.within
+    → Counts M Along ((s, 0) ∷ []) (limit_of q) n
     → after.encodings ≡ before.encodings → after.searches ≡ saturated_count (before.searches + 1) →
-    after.settled ≡ saturated_count (before.settled + n) → Looked before after 1 (Sees M l)
-one_look M l s far n before after begun e c encodings searches settled =
+    after.settled ≡ saturated_count (before.settled + n) → Looked M (l ∷ []) before after
+one_look M place l s n q before after h there begun far c encodings searches settled =
     record {
       encodings = encodings;
       searches = searches;
       rises = omega arith;
-      settled = λ all h.
-          let few = settled_few M s far n all c (λ v r. h v (subst (λ (u : ℕ). Reaches M u l.within v) begun
-          (subst (λ (d : ℕ). Reaches M s d v) e r))) in
-          omega arith;
+      settled = (
+        n,
+        record {
+          nodes = c.nodes;
+          apart = c.apart;
+          exactly = λ v. let sees = search_sees M place l s q h there begun far v in
+              ((λ m. sees.0 ((c.exactly v).0 m)), (λ r. (c.exactly v).1 (sees.1 r)));
+          many = c.many;
+        },
+        settled,
+      );
     }
 
 -- ---- looks
@@ -141,12 +183,6 @@ zip_length R [] (y ∷ ys) z = absurd z
 zip_length R (x ∷ xs) [] z = absurd z
 zip_length R (x ∷ xs) (y ∷ ys) z = let rest = zip_length R xs ys z.1 in omega arith
 
-searched_before : (M : Map) (ls done : List ℕ) (k v : ℕ) → Searched M ls done v → Searched M ls (done ++ k ∷ []) v
-searched_before M ls done k v s = (s.0, list_any-append (λ y. y == s.0) done (k ∷ []) ∙ or_left _ _ s.1, s.2, s.3)
-
-searched_here : (M : Map) (ls done : List ℕ) (k v : ℕ) → Searched M ls (k ∷ []) v → Searched M ls (done ++ k ∷ []) v
-searched_here M ls done k v s = (s.0, list_any-append (λ y. y == s.0) done (k ∷ []) ∙ or_right _ _ s.1, s.2, s.3)
-
 -- where at most one line follows line i nothing is looked at
 pub looks_nowhere : (M : Map) (ls : List ℕ) (i : ℕ) (looks : List Look) (w : Work) → length ls ≤ i + 2 →
     LookedAfter M ls i looks looks w w
@@ -156,21 +192,20 @@ looks_nowhere M ls i looks w h =
       added = [];
       each = subst (λ (is : List ℕ). LooksFrom M ls is []) none tt;
       grown = sym (append-nil looks);
-      counts = looked_none w _;
+      counts = looked_none M w;
     }
 
 -- and else there is one look
 pub looks_once : (M : Map) (ls : List ℕ) (i : ℕ) (look : Look) (old new : List Look) (before after : Work) →
     i + 2 < length ls → IsLook M ls i look → new ≡ old ++ look ∷ []
-    → Looked before after 1 (Sees M look) → LookedAfter M ls i old new before after
+    → Looked M (look ∷ []) before after → LookedAfter M ls i old new before after
 looks_once M ls i look old new before after h is grown counts =
     let one : i ∷ [] ≡ looking ls (i ∷ []) = grind (arith, nat_tests) in
     record {
       added = look ∷ [];
       each = subst (λ (is : List ℕ). LooksFrom M ls is (look ∷ [])) one (is, tt);
       grown = grown;
-      counts =
-          looked_wider before after 1 _ (Searched M ls (i ∷ [])) (λ v r. (i, has_here i [], h, (look, is, r))) counts;
+      counts = counts;
     }
 
 -- ---- from point to point
@@ -202,7 +237,7 @@ pub record Gone (M : Map) (ls ps : List ℕ) (last : ℕ) (looks : List Look) (b
   pub led : Led M ls 0 points last
   pub within : last ≤ length ls
   pub each : LooksFrom M ls (looking ls done) looks
-  pub counts : Looked before work (length looks) (Searched M ls done)
+  pub counts : Looked M looks before work
 
 pub gone_none : (M : Map) (ls ps : List ℕ) (looks : List Look) (w : Work) → ps ≡ 0 ∷ [] → looks ≡ [] →
     Gone M ls ps 0 looks w w
@@ -215,7 +250,7 @@ gone_none M ls ps looks w p l =
       led = refl;
       within = omega arith;
       each = subst (λ (xs : List Look). LooksFrom M ls [] xs) (sym l) tt;
-      counts = subst (λ (xs : List Look). Looked w w (length xs) (Searched M ls [])) (sym l) (looked_none w _);
+      counts = subst (λ (xs : List Look). Looked M xs w w) (sym l) (looked_none M w);
     }
 
 -- the last point has been searched from too
@@ -230,14 +265,11 @@ each_more M ls done k old new work after e a =
     (sym (filter-append (λ i. nat_lt (i + 2) (length ls)) done (k ∷ []))) both in
     subst (LooksFrom M ls (looking ls (done ++ k ∷ []))) (sym a.grown) there
 
-counts_more : (M : Map) (ls done : List ℕ) (k : ℕ) (old new : List Look) (before work after : Work) →
-    Looked before work (length old) (Searched M ls done) → (a : LookedAfter M ls k old new work after)
-    → Looked before after (length new) (Searched M ls (done ++ k ∷ []))
-counts_more M ls done k old new before work after c a =
-    let long : length old + length a.added ≡ length new = omega (arith, ap length a.grown, length-append old a.added) in
-    subst (λ (n : ℕ). Looked before after n (Searched M ls (done ++ k ∷ []))) long
-    (looked_more before work after (length old) (length a.added) _ _ (Searched M ls (done ++ k ∷ [])) c a.counts
-    (searched_before M ls done k) (searched_here M ls done k))
+counts_more : (M : Map) (ls : List ℕ) (k : ℕ) (old new : List Look) (before work after : Work) →
+    Looked M old before work → (a : LookedAfter M ls k old new work after) → Looked M new before after
+counts_more M ls k old new before work after c a =
+    subst (λ (ks : List Look). Looked M ks before after) (sym a.grown)
+    (looked_more M old a.added before work after c a.counts)
 
 pub gone_more : (M : Map) (ls ps qs : List ℕ) (last m : ℕ) (old new : List Look) (before work after : Work) →
     Gone M ls ps last old before work
@@ -251,7 +283,7 @@ gone_more M ls ps qs last m old new before work after s a n e =
       led = led_more M ls 0 last m s.points s.led n;
       within = (Next-candidate M ls last m n).upto;
       each = each_more M ls s.done last old new work after s.each a;
-      counts = counts_more M ls s.done last old new before work after s.counts a;
+      counts = counts_more M ls last old new before work after s.counts a;
     }
 
 -- ---- at the end
@@ -259,7 +291,7 @@ gone_more M ls ps qs last m old new before work after s a n e =
 -- what was looked at and counted when the last point has been searched from too
 pub record Ended (M : Map) (ls points : List ℕ) (looks : List Look) (before after : Work) : Type 0 where
   pub each : LooksFrom M ls (looking ls (0 ∷ points)) looks
-  pub counts : Looked before after (length looks) (Searched M ls (0 ∷ points))
+  pub counts : Looked M looks before after
 
 pub ended : (M : Map) (ls ps : List ℕ) (last : ℕ) (old new : List Look) (before work after : Work) →
     (s : Gone M ls ps last old before work)
@@ -269,9 +301,7 @@ ended M ls ps last old new before work after s a =
       each =
           subst (λ (is : List ℕ). LooksFrom M ls (looking ls is) new) s.first
           (each_more M ls s.done last old new work after s.each a);
-      counts =
-          subst (λ (is : List ℕ). Looked before after (length new) (Searched M ls is)) s.first
-          (counts_more M ls s.done last old new before work after s.counts a);
+      counts = counts_more M ls last old new before work after s.counts a;
     }
 
 -- nothing is searched from the end

@@ -1,5 +1,5 @@
 -- The encoding of a path, put together of its extension, its points, its looks and its reference.
-use Rattle.std.proofs.Common.{◌≡◌, ◌<◌, ◌+◌, ◌==◌, ◌↔◌, ℕ, Bool, true, cond, List, [], ◌∷◌, length, Option, Some, None}
+use Rattle.std.proofs.Common.{◌≡◌, ◌<◌, ◌≤◌, ◌+◌, ◌*◌, ◌==◌, ◌↔◌, ℕ, Bool, true, cond, List, [], ◌∷◌, length, Option, Some, None}
 use Rattle.std.proofs.Common.{MatchOption, Contains, sym, ap, ◌∙◌, subst, arith, inl, inr}
 use Rattle.std.proofs.lemmas.Bool.{eq-eqb}
 use Rattle.std.specs.Prelude.{IsTrue, nat_lt, Result, Ok, Err, IfOk}
@@ -11,7 +11,7 @@ use Rattle.olr_spec.specs.Points.{Follow, last_position, OfPath}
 use Rattle.olr_spec.specs.Reference.{Reference, legs, reference, first_kept, last_kept, kept_points}
 use Rattle.olr_spec.specs.Encoding as spec
 use Rattle.olr_spec.specs.Encoding.{first_unknown, first_break, path_fault, answer_by_points, Encoding, Encodes}
-use Rattle.olr_spec.specs.Footprint.{Searched, Within_reach, Foot, FootOf}
+use Rattle.olr_spec.specs.Footprint.{Foot}
 use Rattle.olr_spec.specs.Looks.{Look, IsLook, Own, OwnOfExtended, LooksFrom, LooksOf, LooksOfExtended, looking}
 use Rattle.olr_spec.proofs.AnswerLemmas.{path_nonempty, sound_lines, all_first, all_last, path_also}
 use Rattle.olr_spec.proofs.ChainLemmas.{one_tried}
@@ -20,13 +20,13 @@ use Rattle.olr_spec.proofs.FitLemmas.{long_enough, kept_ends, extended_sound, an
 use Rattle.olr_spec.proofs.JoinLemmas.{routes_join}
 use Rattle.olr_spec.proofs.KeptLemmas.{two_kept}
 use Rattle.olr_spec.proofs.LocalLemmas.{local_answer}
+use Rattle.olr_spec.proofs.TestedLemmas.{foot_looked}
 use Rattle.olr_spec.proofs.WalkLemmas.{dm_of-append}
 use Rattle.olr_refs.specs.declared.answer.Answer.{Answer}
 use Rattle.olr_refs.specs.declared.answer.Answer.TheVariants.{Points, Refused}
 use Rattle.olr_refs.specs.Answers as answers
-use Rattle.olr_route.specs.declared.work.Work.{Work}
-use Rattle.olr_refs.specs.Choice.{ForPoints, Looked, searches_of}
-use Rattle.olr_refs.proofs.Noting.{looked_wider, zip_length}
+use Rattle.olr_refs.specs.Choice.{ForPoints, SettledBy, searches_of}
+use Rattle.olr_refs.proofs.Noting.{settled_most, zip_length}
 use Rattle.std.proofs.lemmas.List.Sums.{length-filter}
 use Rattle.olr_refs.specs.Extends.{Extends}
 use Rattle.olr_refs.specs.Kept.{later}
@@ -159,20 +159,20 @@ pub looks_of : (M : Map) (P E : Path) (F G : List ℕ) (looks : List Look) → E
     ForPoints M E.lines (λ js. LooksFrom M E.lines (looking E.lines (0 ∷ js)) looks) → LooksOfExtended M P looks
 looks_of M P E F G looks x a = of_path M P E F G (λ e js. LooksFrom M e.lines (looking e.lines (0 ∷ js)) looks) x a
 
--- what is searched from the points is in the footprint
-pub looked_of : (M : Map) (P E : Path) (F G : List ℕ) (old new : Work) (n : ℕ) → Extends M P E F G →
-    ForPoints M E.lines (λ js. Looked old new n (Searched M E.lines (0 ∷ js))) → Looked old new n (FootOf M P)
-looked_of M P E F G old new n x a = looked_wider old new n (Searched M E.lines (0 ∷ a.0)) (FootOf M P) there a.2
-  where
-    there : (v : ℕ) → Searched M E.lines (0 ∷ a.0) v → FootOf M P v
-    there v s =
-        let h = of_path M P E F G (λ e js. Searched M e.lines (0 ∷ js) v) x (a.0, a.1, s) in
-        path_also h (Within_reach h.holds)
-
 -- ---- by the path's fault
 
-pub foot_from : (M : Map) (P : Path) (v : ℕ) → path_fault M P ≡ None → FootOf M P v → Foot M P v
-foot_from M P v none f = subst (λ (o : Option spec.Refusal). MatchOption o (FootOf M P v) (λ _. ⊥)) (sym none) f
+-- the looks of a path without a fault of its own
+pub looks_whole : (M : Map) (P : Path) (looks : List Look) → path_fault M P ≡ None → LooksOfExtended M P looks →
+    LooksOf M P looks
+looks_whole M P looks none l =
+    subst (λ (o : Option spec.Refusal). MatchOption o (LooksOfExtended M P looks) (λ _. looks ≡ [])) (sym none) l
+
+-- the footprint holds what the looks see
+pub settled_foot : (M : Map) → IsMap M → (P : Path) → IsTrue (is_path P.lines) → (looks : List Look) → LooksOf M P looks
+    → (a c : ℕ) → SettledBy M looks a c → (all : List ℕ) → ((v : ℕ) → Foot M P v → Contains all v) →
+    c ≤ a + length looks * length all
+settled_foot M m P is looks o a c s all h =
+    settled_most M looks a c s all (λ v r. h v ((foot_looked M m P is looks o v).1 (inr r)))
 
 pub local_by : (M : Map) → IsMap M → (P : Path) → IsTrue (is_path P.lines) → (A : spec.Answer) (H : List ℕ) →
     Encodes M P A → ((v : ℕ) → (Contains H v) ↔ Foot M P v)
@@ -182,9 +182,10 @@ local_by M m P is A H e f N n g =
 
 -- ---- where a result is a success
 
-pub if_ok : {A F : Type 0} (r : Result A F) (P Q : A → Type 0) → ((x : A) → P x → Q x) → IfOk r P → IfOk r Q
-if_ok (Ok x) P Q f h = f x h
-if_ok (Err e) P Q f h = tt
+pub if_both : {A F : Type 0} (r : Result A F) (P Q R : A → Type 0) → ((x : A) → P x → Q x → R x) → IfOk r P →
+    IfOk r Q → IfOk r R
+if_both (Ok x) P Q R f p q = f x p q
+if_both (Err e) P Q R f p q = tt
 
 -- ---- counts
 

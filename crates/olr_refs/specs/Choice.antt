@@ -3,15 +3,20 @@
 --     IsChoice ls js c      the choice is 0 and js where they lead to the end, and else the position that has no next
 --         point
 --     searches_of ls is      how many of the points is are searched from: those that two lines or more follow
---     Looked old new n near      n searches more, which settled nodes that are `near` alone, each at most once a search
+--     CountOf near n      so many nodes are `near`
+--     SettledBy M looks old new      a count is raised for each of the looks, by the number of nodes that the look sees
+--     Looked M looks old new      one search more for each of the looks, which settles the nodes that the look sees
 --     LookedAfter M ls i old new before after      where two lines or more follow line i there is one look more, and
 --         its search is counted
---     Searches old new n size      n searches more, each of which labelled at most `size` nodes
-use Rattle.std.specs.Prelude.{◌≡◌, ◌≢◌, ℕ, zero, suc, ◌+◌, ◌*◌, ◌≤◌, List, [], ◌∷◌, ◌++◌, length, count_by, nat_lt}
-use Rattle.std.specs.Prelude.{Contains}
+--     SeenBy M looks v      one of the looks sees node v
+--     Notes near old new      where nodes are noted, those that are `near` are noted besides
+--     NotedAfter M old new before after      the looks that were added are noted: the nodes that they see
+use Rattle.std.specs.Prelude.{◌≡◌, ◌≢◌, ◌==◌, ℕ, zero, suc, ◌+◌, ◌≤◌, List, [], ◌∷◌, ◌++◌, length, count_by, nat_lt}
+use Rattle.std.specs.Prelude.{Contains, Option, Some, None, ◌↔◌, ◌⊎◌, ⊤}
+use Rattle.std.specs.List.{IsDistinct}
 use Rattle.olr_spec.specs.Map.{Map}
 use Rattle.olr_spec.specs.Points.{Follow, last_position}
-use Rattle.olr_spec.specs.Footprint.{Searched}
+use Rattle.olr_spec.specs.Footprint.{Sees}
 use Rattle.olr_spec.specs.Looks.{Look, LooksFrom, looking}
 use Rattle.olr_route.specs.declared.work.Work.{Work}
 use Rattle.olr_route.specs.Counts.{saturated_count}
@@ -33,21 +38,37 @@ abbrev pub raised_count : ℕ → ℕ → ℕ
 raised_count count zero = count
 raised_count count (suc n) = saturated_count (raised_count count n + 1)
 
--- so of any list of nodes that holds all that are near
-pub record Looked (old new : Work) (n : ℕ) (near : ℕ → Type 0) : Type 0 where
+pub record CountOf (near : ℕ → Type 0) (n : ℕ) : Type 0 where
+  pub nodes : List ℕ
+  pub apart : IsDistinct ◌==◌ nodes
+  pub exactly : (v : ℕ) → Contains nodes v ↔ near v
+  pub many : length nodes ≡ n
+
+abbrev pub SettledBy : Map → List Look → ℕ → ℕ → Type 0
+SettledBy M [] old new = new ≡ old
+SettledBy M (l ∷ ls) old new = (n : ℕ) × CountOf (Sees M l) n × SettledBy M ls (saturated_count (old + n)) new
+
+pub record Looked (M : Map) (looks : List Look) (old new : Work) : Type 0 where
   pub encodings : new.encodings ≡ old.encodings
-  pub searches : new.searches ≡ raised_count old.searches n
+  pub searches : new.searches ≡ raised_count old.searches (length looks)
   pub rises : saturated_count old.settled ≤ new.settled
-  pub settled : (all : List ℕ) → ((v : ℕ) → near v → Contains all v) → new.settled ≤ old.settled + n * length all
+  pub settled : SettledBy M looks old.settled new.settled
 
 pub record LookedAfter (M : Map) (ls : List ℕ) (i : ℕ) (old new : List Look) (before after : Work) : Type 0 where
   pub added : List Look
   pub each : LooksFrom M ls (looking ls (i ∷ [])) added
   pub grown : new ≡ old ++ added
-  pub counts : Looked before after (length added) (Searched M ls (i ∷ []))
+  pub counts : Looked M added before after
 
-pub record Searches (old new : Work) (n size : ℕ) : Type 0 where
-  pub encodings : new.encodings ≡ old.encodings
-  pub searches : new.searches ≡ raised_count old.searches n
-  pub rises : saturated_count old.settled ≤ new.settled
-  pub settled : new.settled ≤ old.settled + n * size
+abbrev pub SeenBy : Map → List Look → ℕ → Type 0
+SeenBy M looks v = (l : Look) × Contains looks l × Sees M l v
+
+-- where none are noted, none are afterwards
+abbrev pub Notes : (ℕ → Type 0) → Option (List ℕ) → Option (List ℕ) → Type 0
+Notes near None None = ⊤
+Notes near None (Some new) = ⊥
+Notes near (Some old) None = ⊥
+Notes near (Some old) (Some new) = (v : ℕ) → Contains new v ↔ (Contains old v ⊎ near v)
+
+abbrev pub NotedAfter : Map → List Look → List Look → Option (List ℕ) → Option (List ℕ) → Type 0
+NotedAfter M old new before after = (added : List Look) × (new ≡ old ++ added) × Notes (SeenBy M added) before after

@@ -3,12 +3,12 @@ ghost use Rattle.std.specs.Prelude.{◌≡◌, ℕ, List, ◌+◌, ◌*◌, ◌^
 ghost use Rattle.std.specs.Prelude.{Contains, length};
 ghost use Rattle.olr_spec.specs.Extension.{is_path, AreJoined};
 ghost use Rattle.olr_spec.specs.Encoding.{path_fault, Encoding as EncodingRecord, Encodes};
-ghost use Rattle.olr_spec.specs.Footprint.{Foot, FootOf, Searched};
+ghost use Rattle.olr_spec.specs.Footprint.{Foot};
 ghost use Rattle.olr_spec.specs.Looks.{LooksFrom, LooksOf, LooksOfExtended, OwnOf, OwnOfExtended, looking};
 ghost use Rattle.olr_refs.specs.Answers.{answer_of};
 ghost use Rattle.olr_spec.specs.Encoding.{answer_by_points as answer_along};
 ghost use Rattle.olr_spec.specs.Walks.{dm_of};
-ghost use Rattle.olr_refs.specs.Choice.{ForPoints, IsChoice, Looked, raised_count};
+ghost use Rattle.olr_refs.specs.Choice.{ForPoints, IsChoice, Looked, Notes, SeenBy, SettledBy, raised_count};
 ghost use Rattle.olr_refs.specs.Referring.{JoinsOf};
 
 use crate::along::{Course, distances};
@@ -57,6 +57,39 @@ pub fn encode<M: MapRead>(
     ensures settled_rises { OnOk result (work.old.settled < 2 ^ 64 → work.old.settled ≤ work.new.settled) }
     ensures settled { IfOk result (λ e. (all : List ℕ) → ((v : ℕ) → Foot (M.map map.now) path.now v → Contains all v)
         → work.new.settled ≤ work.old.settled + length e.looks.items * length all) }
+    ensures settled_exactly { IfOk result
+        (λ e. SettledBy (M.map map.now) e.looks.items work.old.settled work.new.settled) }
+{
+    let mut seen = None;
+    encode_noting(alloc, map, path, search, &mut seen, work)
+}
+
+/// The encoding of a path on a map, as `encode` makes it. The nodes that its searches settle are added to those that
+/// were seen, where these are noted; `None` notes nothing.
+///
+/// After want of memory what was seen may be more than before.
+pub fn encode_noting<M: MapRead>(
+    alloc: Global,
+    map: &M,
+    path: &Path,
+    search: &mut Search,
+    seen: &mut Option<Footprint>,
+    work: &mut Work,
+) -> Result<Encoding, AllocError>
+    ensures answer { IfOk result (λ e. Encodes (M.map map.now) path.now (answer_of e.answer)) }
+    ensures joins { IfOk result (λ e. JoinsOf (M.map map.now) path.now e.answer) }
+    ensures own { IfOk result (λ e. (v : ℕ) → Contains e.own v ↔ OwnOf (M.map map.now) path.now v) }
+    ensures looks { IfOk result (λ e. LooksOf (M.map map.now) path.now e.looks.items) }
+    ensures path { IsTrue (is_path path.now.lines) }
+    ensures encodings { OnOk result
+        (work.old.encodings + 1 < 2 ^ 64 → work.new.encodings ≡ work.old.encodings + 1) }
+    ensures searches { IfOk result (λ e. work.new.searches ≡ raised_count work.old.searches (length e.looks.items)) }
+    ensures settled_rises { OnOk result (work.old.settled < 2 ^ 64 → work.old.settled ≤ work.new.settled) }
+    ensures settled { IfOk result (λ e. (all : List ℕ) → ((v : ℕ) → Foot (M.map map.now) path.now v → Contains all v)
+        → work.new.settled ≤ work.old.settled + length e.looks.items * length all) }
+    ensures settled_exactly { IfOk result
+        (λ e. SettledBy (M.map map.now) e.looks.items work.old.settled work.new.settled) }
+    ensures seen { IfOk result (λ e. Notes (SeenBy (M.map map.now) e.looks.items) seen.old seen.new) }
 {
     work.encodings = work.encodings.saturating_add(1);
     match path_fault(map, path) {
@@ -65,7 +98,7 @@ pub fn encode<M: MapRead>(
             own: Footprint::new(alloc),
             looks: Vec::new(alloc),
         }),
-        None => encode_whole(alloc, map, path, search, work),
+        None => encode_whole(alloc, map, path, search, seen, work),
     }
 }
 
@@ -75,6 +108,7 @@ fn encode_whole<M: MapRead>(
     map: &M,
     path: &Path,
     search: &mut Search,
+    seen: &mut Option<Footprint>,
     work: &mut Work,
 ) -> Result<Encoding, AllocError>
     requires path { IsTrue (is_path path.now.lines) }
@@ -83,12 +117,12 @@ fn encode_whole<M: MapRead>(
     ensures joins { IfOk result (λ e. JoinsOf (M.map map.now) path.now e.answer) }
     ensures own { IfOk result (λ e. (v : ℕ) → Contains e.own v ↔ OwnOfExtended (M.map map.now) path.now v) }
     ensures looks { IfOk result (λ e. LooksOfExtended (M.map map.now) path.now e.looks.items) }
-    ensures work { IfOk result
-        (λ e. Looked work.old work.new (length e.looks.items) (FootOf (M.map map.now) path.now)) }
+    ensures seen { IfOk result (λ e. Notes (SeenBy (M.map map.now) e.looks.items) seen.old seen.new) }
+    ensures work { IfOk result (λ e. Looked (M.map map.now) e.looks.items work.old work.new) }
 {
     let mut own = Footprint::new(alloc);
     let extended = extend(alloc, map, path, &mut own)?;
-    let (answer, looks) = encode_along(alloc, map, &extended, search, work)?;
+    let (answer, looks) = encode_along(alloc, map, &extended, search, seen, work)?;
     Ok(Encoding { answer, own, looks })
 }
 
@@ -98,6 +132,7 @@ fn encode_along<M: MapRead>(
     map: &M,
     extended: &Extended,
     search: &mut Search,
+    seen: &mut Option<Footprint>,
     work: &mut Work,
 ) -> Result<(Answer, Vec<Look>), AllocError>
     requires joined { AreJoined (M.map map.now) extended.now.lines }
@@ -106,8 +141,8 @@ fn encode_along<M: MapRead>(
         (λ js. answer_of r.0 ≡ answer_along (M.map map.now) extended.now js)) }
     ensures looks { IfOk result (λ r. ForPoints (M.map map.now) extended.now.lines
         (λ js. LooksFrom (M.map map.now) extended.now.lines (looking extended.now.lines (0 ∷ js)) r.1.items)) }
-    ensures work { IfOk result (λ r. ForPoints (M.map map.now) extended.now.lines
-        (λ js. Looked work.old work.new (length r.1.items) (Searched (M.map map.now) extended.now.lines (0 ∷ js)))) }
+    ensures seen { IfOk result (λ r. Notes (SeenBy (M.map map.now) r.1.items) seen.old seen.new) }
+    ensures work { IfOk result (λ r. Looked (M.map map.now) r.1.items work.old work.new) }
 {
     let lines = extended.lines.as_slice();
     let distances = distances(alloc, map, lines)?;
@@ -116,7 +151,7 @@ fn encode_along<M: MapRead>(
         lines,
         distances: &distances,
     };
-    let chosen = points(alloc, &course, search, work)?;
+    let chosen = points(alloc, &course, search, seen, work)?;
     let answer = answer_by(alloc, &course, chosen.choice, extended.pos, extended.neg)?;
     Ok((answer, chosen.looks))
 }

@@ -57,7 +57,9 @@ fn expect_chosen(
     };
     let mut search = Search::new(alloc);
     let mut work = Work::default();
-    let olr_refs::Chosen { choice, looks } = points(alloc, &along, &mut search, &mut work)?;
+    let mut seen = None;
+    let chosen = points(alloc, &along, &mut search, &mut seen, &mut work)?;
+    let olr_refs::Chosen { choice, looks } = chosen;
     match choice {
         Choice::Positions(found) => assert_eq!(rt; found.as_slice(), positions, "the points"),
         Choice::NoNext(k) => panic!(rt; "no point after position {k}"),

@@ -34,20 +34,21 @@ fn seen(alloc: Global, map: &RoadMap, encoding: &Encoding) -> Result<Footprint, 
     Ok(nodes)
 }
 
-/// Asserts that the own nodes of an encoding and its looks make up the footprint of the path.
+/// Asserts that the own nodes of an encoding and its looks make up the footprint of the path, and that finding it takes
+/// the work of the encoding.
 fn expect_footprint(
     rt: &impl Abort,
     alloc: Global,
     map: &RoadMap,
     path: &Path,
     encoding: &Encoding,
+    encoded: Work,
 ) -> Result<(), Fail> {
     let wanted = seen(alloc, map, encoding)?;
     let mut work = Work::default();
     let (_, found) = refer(alloc, map, path, &mut work)?;
     assert_eq!(rt; found.as_slice(), wanted.as_slice(), "the footprint");
-    let looks = encoding.looks.len() as u64;
-    assert_eq!(rt; (work.encodings, work.searches), (1, looks), "the work");
+    assert_eq!(rt; work, encoded, "the work");
     Ok(())
 }
 
@@ -98,7 +99,7 @@ fn expect_looks(
     let searches = encoding.looks.len() as u64;
     let counted = (work.encodings, work.searches);
     assert_eq!(rt; counted, (1, searches), "of {plain:?}");
-    expect_footprint(rt, alloc, map, &path, &encoding)
+    expect_footprint(rt, alloc, map, &path, &encoding, work)
 }
 
 /// The same on the map of a plan.

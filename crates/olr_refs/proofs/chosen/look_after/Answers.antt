@@ -1,6 +1,9 @@
-use Rattle.std.proofs.Common.{refl, sym, ◌∙◌, arith}
+use Rattle.std.proofs.Common.{ℕ, refl, sym, ◌∙◌, subst, arith}
+use Rattle.std.specs.Prelude.{IsTrue}
+use Rattle.olr_spec.specs.Map.{has_node}
 use Rattle.olr_spec.specs.Looks.{Look}
 use Rattle.olr_refs.proofs.Noting.{look_short, one_look}
+use Rattle.olr_refs.proofs.Seen.{look_noted}
 use Rattle.olr_refs.proofs.chosen.look_after.Goals as goal
 
 pub overflow_cast-look : goal.overflow_cast-look
@@ -11,10 +14,27 @@ overflow_cast-look g c =
     let is = c.between.ensures.value in
     record { fits = omega arith }
 
+pub note_settled-requires : goal.note_settled-requires
+note_settled-requires g c = (_, _, _, _, c.in_ok-tested.ensures.search)
+
+pub returns-clause-seen : goal.returns-clause-seen
+returns-clause-seen g c =
+    let M = g.M.MapRead.map c.args.course.now.map.now in
+    let place = g.M.MapRead.place_in c.args.course.now.map.now in
+    let look : Look = record { from = c.end-from.result; to = c.node.result; within = c.between.result } in
+    look_noted M place look _ c.covered_to.new.search _ _ c.in_ok-tested.ensures.search
+    (subst (λ (v : ℕ). IsTrue (has_node M v)) c.end-from.ensures.value c.end-from.ensures.known)
+    (sym c.end-from.ensures.value)
+    (c.in_ok-tested.ensures.no_farther ∙ sym c.between.ensures.value)
+    (c.in_ok-note_settled.ensures M place _ _ c.in_ok-tested.ensures.search)
+
 pub returns-clause-work : goal.returns-clause-work
 returns-clause-work g c =
     let M = g.M.MapRead.map c.args.course.now.map.now in
-    let counts = c.settled_count.ensures _ _ _ _ c.in_ok-tested.ensures.search in
+    let place = g.M.MapRead.place_in c.args.course.now.map.now in
     let look : Look = record { from = c.end-from.result; to = c.node.result; within = c.between.result } in
-    one_look M look _ _ c.settled_count.result c.args.work.now _ (sym c.end-from.ensures.value)
-    (c.in_ok-tested.ensures.no_farther ∙ sym c.between.ensures.value) counts refl (omega arith) (omega arith)
+    one_look M place look _ c.settled_count.result c.covered_to.new.search c.args.work.now _
+    c.in_ok-tested.ensures.search (subst (λ (v : ℕ). IsTrue (has_node M v)) c.end-from.ensures.value
+    c.end-from.ensures.known) (sym c.end-from.ensures.value)
+    (c.in_ok-tested.ensures.no_farther ∙ sym c.between.ensures.value)
+    (c.settled_count.ensures _ _ _ _ c.in_ok-tested.ensures.search) refl (omega arith) (omega arith)

@@ -1,23 +1,34 @@
 use Rattle.std.proofs.Common.{◌≡◌, ◌∙◌, ◌++◌, ◌∷◌, [], ℕ, List, ap, sym, arith, length}
 use Rattle.olr_refs.proofs.Noting.{gone_none, gone_more, ended, ended_there, follows, follows_end, last_is}
+use Rattle.olr_refs.proofs.Seen.{noted_none, noted_more}
 use Rattle.olr_refs.proofs.chosen.points.Goals as goal
 
 pub loop-last-init : goal.loop-last-init
 loop-last-init g c =
-    gone_none (g.M.MapRead.map c.args.course.now.map.now) c.args.course.now.lines.now _ _ c.args.work.now
-    (c.in_ok-push.ensures.items ∙ ap (λ (xs : List ℕ). xs ++ 0 ∷ []) c.new-positions.ensures.items)
-    c.new-looks.ensures.items
+    record {
+      gone =
+          gone_none (g.M.MapRead.map c.args.course.now.map.now) c.args.course.now.lines.now _ _ c.args.work.now
+          (c.in_ok-push.ensures.items ∙ ap (λ (xs : List ℕ). xs ++ 0 ∷ []) c.new-positions.ensures.items)
+          c.new-looks.ensures.items;
+      seen = noted_none (g.M.MapRead.map c.args.course.now.map.now) _ _ c.new-looks.ensures.items;
+    }
 
 pub loop-last-preserved : goal.loop-last-preserved
 loop-last-preserved g c =
-    gone_more (g.M.MapRead.map c.args.course.now.map.now) c.args.course.now.lines.now c.loop-last.positions.items
-    c.push-in-Some.new.self.items c.loop-last.last c.in-Some.next
-    c.loop-last.looks.items c.reach_of.new.looks.items c.args.work.now c.loop-last.work c.reach_of.new.work
-    c.loop-last.invariant c.in_ok-reach.ensures.looks c.in-Some.ensures c.in_ok-push-in-Some.ensures.items
+    record {
+      gone =
+          gone_more (g.M.MapRead.map c.args.course.now.map.now) c.args.course.now.lines.now c.loop-last.positions.items
+          c.push-in-Some.new.self.items c.loop-last.last c.in-Some.next
+          c.loop-last.looks.items c.reach_of.new.looks.items c.args.work.now c.loop-last.work c.reach_of.new.work
+          c.loop-last.invariant.gone c.in_ok-reach.ensures.looks c.in-Some.ensures c.in_ok-push-in-Some.ensures.items;
+      seen =
+          noted_more (g.M.MapRead.map c.args.course.now.map.now) c.loop-last.looks.items c.reach_of.new.looks.items
+          _ _ _ c.loop-last.invariant.seen c.in_ok-reach.ensures.seen;
+    }
 
 pub returns-in-None-clause-choice : goal.returns-in-None-clause-choice
 returns-in-None-clause-choice g c =
-    let s = c.loop-last.invariant in
+    let s = c.loop-last.invariant.gone in
     let is =
     last_is (g.M.MapRead.map c.args.course.now.map.now) c.args.course.now.lines.now s.points c.loop-last.last s.led in (
       s.points,
@@ -28,7 +39,7 @@ returns-in-None-clause-choice g c =
 
 pub returns-in-None-clause-looks : goal.returns-in-None-clause-looks
 returns-in-None-clause-looks g c =
-    let s = c.loop-last.invariant in
+    let s = c.loop-last.invariant.gone in
     let e =
     ended (g.M.MapRead.map c.args.course.now.map.now) c.args.course.now.lines.now c.loop-last.positions.items
     c.loop-last.last c.loop-last.looks.items c.reach_of.new.looks.items
@@ -39,22 +50,20 @@ returns-in-None-clause-looks g c =
       e.each,
     )
 
+pub returns-in-None-clause-seen : goal.returns-in-None-clause-seen
+returns-in-None-clause-seen g c =
+    noted_more (g.M.MapRead.map c.args.course.now.map.now) c.loop-last.looks.items c.reach_of.new.looks.items _ _ _
+    c.loop-last.invariant.seen c.in_ok-reach.ensures.seen
+
 pub returns-in-None-clause-work : goal.returns-in-None-clause-work
 returns-in-None-clause-work g c =
-    let s = c.loop-last.invariant in
-    let e =
-    ended (g.M.MapRead.map c.args.course.now.map.now) c.args.course.now.lines.now c.loop-last.positions.items
+    (ended (g.M.MapRead.map c.args.course.now.map.now) c.args.course.now.lines.now c.loop-last.positions.items
     c.loop-last.last c.loop-last.looks.items c.reach_of.new.looks.items
-    c.args.work.now c.loop-last.work c.reach_of.new.work s c.in_ok-reach.ensures.looks in (
-      s.points,
-      follows (g.M.MapRead.map c.args.course.now.map.now) c.args.course.now.lines.now s.points c.loop-last.last
-          s.led c.in-None.ensures,
-      e.counts,
-    )
+    c.args.work.now c.loop-last.work c.reach_of.new.work c.loop-last.invariant.gone c.in_ok-reach.ensures.looks).counts
 
 pub returns-clause-choice : goal.returns-clause-choice
 returns-clause-choice g c =
-    let s = c.loop-last.invariant in
+    let s = c.loop-last.invariant.gone in
     let is =
     last_is (g.M.MapRead.map c.args.course.now.map.now) c.args.course.now.lines.now s.points c.loop-last.last s.led in
     let end : c.loop-last.last ≡ length c.args.course.now.lines.now = let w = s.within in omega arith in (
@@ -66,7 +75,7 @@ returns-clause-choice g c =
 
 pub returns-clause-looks : goal.returns-clause-looks
 returns-clause-looks g c =
-    let s = c.loop-last.invariant in
+    let s = c.loop-last.invariant.gone in
     let e =
     ended_there (g.M.MapRead.map c.args.course.now.map.now) c.args.course.now.lines.now c.loop-last.positions.items
     c.loop-last.last c.loop-last.looks.items c.args.work.now c.loop-last.work s (omega arith) in (
@@ -77,13 +86,4 @@ returns-clause-looks g c =
     )
 
 pub returns-clause-work : goal.returns-clause-work
-returns-clause-work g c =
-    let s = c.loop-last.invariant in
-    let e =
-    ended_there (g.M.MapRead.map c.args.course.now.map.now) c.args.course.now.lines.now c.loop-last.positions.items
-    c.loop-last.last c.loop-last.looks.items c.args.work.now c.loop-last.work s (omega arith) in (
-      s.points,
-      follows_end (g.M.MapRead.map c.args.course.now.map.now) c.args.course.now.lines.now s.points
-          c.loop-last.last s.led (omega arith),
-      e.counts,
-    )
+returns-clause-work g c = c.loop-last.invariant.gone.counts

@@ -1,11 +1,15 @@
 use Rattle.std.proofs.Common.{◌-◌, length}
+use Rattle.olr_refs.specs.Choice.{Notes, SeenBy}
 use Rattle.olr_refs.proofs.Noting.{Gone}
 use Rattle.olr_refs.proofs.chosen.points.Given as goal
 
 abbrev pub invariant-loop-last : goal.invariant-loop-last
 invariant-loop-last g l =
-    Gone (g.M.MapRead.map l.course.map.now) l.course.lines.now l.positions.items l.last l.looks.items l.initial.work
-    l.work
+    record {
+      gone : Gone (g.M.MapRead.map l.course.map.now) l.course.lines.now l.positions.items l.last l.looks.items
+          l.initial.work l.work;
+      seen : Notes (SeenBy (g.M.MapRead.map l.course.map.now) l.looks.items) l.initial.seen l.seen;
+    }
 
 -- the positions that are left
 abbrev pub decreases-loop-last : goal.decreases-loop-last

@@ -1,10 +1,9 @@
-use Rattle.std.proofs.Common.{◌≡◌, ◌∷◌, ℕ, List, length, ap, ◌∙◌, subst}
+use Rattle.std.proofs.Common.{◌≡◌, ◌∷◌, ℕ, List, ap, ◌∙◌, subst}
 use Rattle.olr_spec.specs.Extension.{Path}
 use Rattle.olr_spec.specs.Encoding.{answer_by_points}
-use Rattle.olr_spec.specs.Footprint.{Searched}
 use Rattle.olr_spec.specs.Looks.{LooksFrom, looking}
 use Rattle.olr_refs.specs.Answers as answers
-use Rattle.olr_refs.specs.Choice.{ForPoints, Looked}
+use Rattle.olr_refs.specs.Choice.{ForPoints}
 use Rattle.olr_refs.proofs.encoding.encode_along.Goals as goal
 
 pub returns-clause-answer : goal.returns-clause-answer
@@ -24,12 +23,3 @@ returns-clause-looks g c =
     c.as_slice-lines.ensures.value ∙ ap (λ (p : Path). p.lines) c.extended.view_is in
     subst (λ (ls : List ℕ). ForPoints M ls
     (λ js. LooksFrom M ls (looking ls (0 ∷ js)) c.in_ok-chosen.chosen.looks.items)) lines c.in_ok-chosen.ensures.looks
-
-pub returns-clause-work : goal.returns-clause-work
-returns-clause-work g c =
-    let M = g.M.MapRead.map c.args.map.now in
-    let lines : c.as_slice-lines.result.now ≡ c.args.extended.now.lines =
-    c.as_slice-lines.ensures.value ∙ ap (λ (p : Path). p.lines) c.extended.view_is in
-    subst (λ (ls : List ℕ). ForPoints M ls
-    (λ js. Looked c.args.work.now c.points.new.work (length c.in_ok-chosen.chosen.looks.items)
-    (Searched M ls (0 ∷ js)))) lines c.in_ok-chosen.ensures.work

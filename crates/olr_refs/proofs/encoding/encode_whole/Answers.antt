@@ -1,4 +1,4 @@
-use Rattle.olr_refs.proofs.Referring.{whole_joined, whole_short, encoding_of, joins_of, own_of, looks_of, looked_of}
+use Rattle.olr_refs.proofs.Referring.{whole_joined, whole_short, encoding_of, joins_of, own_of, looks_of}
 use Rattle.olr_refs.proofs.encoding.encode_whole.Goals as goal
 
 pub encode_along-requires-clause-joined : goal.encode_along-requires-clause-joined
@@ -32,8 +32,3 @@ pub returns-clause-looks : goal.returns-clause-looks
 returns-clause-looks g c =
     looks_of (g.M.MapRead.map c.args.map.now) c.args.path.now c.in_ok-extended.extended _ _ _
     c.in_ok-extended.ensures.ok c.in_ok-answer.ensures.looks
-
-pub returns-clause-work : goal.returns-clause-work
-returns-clause-work g c =
-    looked_of (g.M.MapRead.map c.args.map.now) c.args.path.now c.in_ok-extended.extended _ _ _ _ _
-    c.in_ok-extended.ensures.ok c.in_ok-answer.ensures.work

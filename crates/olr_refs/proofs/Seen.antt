@@ -1,0 +1,165 @@
+-- What the searches of an encoding note.
+use Rattle.std.proofs.Common.{◌≡◌, ◌<◌, ℕ, List, [], ◌∷◌, ◌++◌, length, Contains, None, Some, Option, refl, sym, ap}
+use Rattle.std.proofs.Common.{subst, arith, inl, inr, ◌⊎◌}
+use Rattle.std.specs.Prelude.{IsTrue, ◌↔◌, MatchOption}
+use Rattle.std.proofs.lemmas.List.{append-nil}
+use Rattle.std.proofs.lemmas.List.Elements.{Contains-append_left, Contains-append_right, Contains-append_cases}
+use Rattle.olr_spec.specs.Map.{Map, IsMap, has_node}
+use Rattle.olr_spec.specs.Extension.{Path, is_path}
+use Rattle.olr_spec.specs.Footprint.{Sees, Foot}
+use Rattle.olr_spec.specs.Looks.{Look, OwnOf, LooksOf}
+use Rattle.olr_spec.proofs.TestedLemmas.{foot_looked}
+use Rattle.olr_spec.proofs.ListLemmas.{Contains-here, Contains-cases}
+use Rattle.olr_route.specs.Searches.{IsSearch, LiesWithin, limit_of}
+use Rattle.olr_route.specs.declared.distances.Direction.TheVariants.{Along}
+use Rattle.olr_route.specs.declared.distances.Search.{Search}
+use Rattle.olr_refs.specs.Choice.{SeenBy, Notes, NotedAfter}
+use Rattle.olr_refs.proofs.Noting.{search_sees}
+
+-- ---- what is noted
+
+notes_same : (P Q : ℕ → Type 0) (a b : Option (List ℕ)) → ((v : ℕ) → P v ↔ Q v) → Notes P a b → Notes Q a b
+notes_same P Q None None e n = tt
+notes_same P Q None (Some g) e n = absurd n
+notes_same P Q (Some f) None e n = absurd n
+notes_same P Q (Some f) (Some g) e n = λ v. (forth v, back v)
+  where
+    forth : (v : ℕ) → Contains g v → Contains f v ⊎ Q v
+    forth v c = elim ((n v).0 c) [ inl o ↦ inl o | inr p ↦ inr ((e v).0 p) ]
+
+    back : (v : ℕ) → Contains f v ⊎ Q v → Contains g v
+    back v (inl o) = (n v).1 (inl o)
+    back v (inr q) = (n v).1 (inr ((e v).1 q))
+
+notes_none : (P : ℕ → Type 0) (a : Option (List ℕ)) → ((v : ℕ) → P v → ⊥) → Notes P a a
+notes_none P None e = tt
+notes_none P (Some f) e = λ v. (λ c. inl c, back v)
+  where
+    back : (v : ℕ) → Contains f v ⊎ P v → Contains f v
+    back v (inl o) = o
+    back v (inr p) = absurd (e v p)
+
+notes_more : (P Q R : ℕ → Type 0) (a b c : Option (List ℕ)) → ((v : ℕ) → R v ↔ (P v ⊎ Q v)) → Notes P a b →
+    Notes Q b c → Notes R a c
+notes_more P Q R None None c e n m = more c m
+  where
+    more : (c : Option (List ℕ)) → Notes Q None c → Notes R None c
+    more None k = tt
+    more (Some h) k = absurd k
+notes_more P Q R None (Some g) c e n m = absurd n
+notes_more P Q R (Some f) None c e n m = absurd n
+notes_more P Q R (Some f) (Some g) None e n m = absurd m
+notes_more P Q R (Some f) (Some g) (Some h) e n m = λ v. (forth v, back v)
+  where
+    from : (v : ℕ) → Contains f v ⊎ P v → Contains f v ⊎ R v
+    from v (inl o) = inl o
+    from v (inr p) = inr ((e v).1 (inl p))
+
+    forth : (v : ℕ) → Contains h v → Contains f v ⊎ R v
+    forth v c = elim ((m v).0 c) [ inl o ↦ from v ((n v).0 o) | inr q ↦ inr ((e v).1 (inr q)) ]
+
+    there : (v : ℕ) → P v ⊎ Q v → Contains h v
+    there v (inl p) = (m v).1 (inl ((n v).1 (inr p)))
+    there v (inr q) = (m v).1 (inr q)
+
+    back : (v : ℕ) → Contains f v ⊎ R v → Contains h v
+    back v (inl o) = (m v).1 (inl ((n v).1 (inl o)))
+    back v (inr r) = there v ((e v).0 r)
+
+-- the nodes of a search are noted
+pub nodes_noted : (P : ℕ → Type 0) (a : Option (List ℕ)) (f g nodes : List ℕ) → a ≡ Some f
+    → ((v : ℕ) → Contains g v ↔ (Contains f v ⊎ Contains nodes v)) → ((v : ℕ) → Contains nodes v ↔ P v) →
+    Notes P a (Some g)
+nodes_noted P a f g nodes e n p =
+    subst (λ (b : Option (List ℕ)). Notes P b (Some g)) (sym e)
+    (notes_same (Contains nodes) P (Some f) (Some g) p n)
+
+-- what the search for a look notes
+pub look_noted : (M : Map) (place : ℕ → ℕ) (l : Look) (s : ℕ) (q : Search) (a b : Option (List ℕ)) →
+    IsSearch M place Along ((s, 0) ∷ []) q → IsTrue (has_node M s) → s ≡ l.from → limit_of q ≡ l.within
+    → Notes (LiesWithin M Along ((s, 0) ∷ []) (limit_of q)) a b → Notes (Sees M l) a b
+look_noted M place l s q a b h there begun far n = notes_same _ _ a b (search_sees M place l s q h there begun far) n
+
+-- ---- what the looks see
+
+seen_none : (M : Map) (v : ℕ) → SeenBy M [] v → ⊥
+seen_none M v s = let h = s.1.1 in absurd (omega arith)
+
+seen_one : (M : Map) (l : Look) (v : ℕ) → Sees M l v ↔ SeenBy M (l ∷ []) v
+seen_one M l v = (λ s. (l, Contains-here l [], s), forth)
+  where
+    forth : SeenBy M (l ∷ []) v → Sees M l v
+    forth w = elim (Contains-cases l w.0 [] w.1) [
+      | inl e ↦ subst (λ (k : Look). Sees M k v) (sym e) w.2
+      | inr none ↦ let never : none.0 < 0 = none.1 in absurd (omega arith)
+    ]
+
+seen_append : (M : Map) (ks ls : List Look) (v : ℕ) → SeenBy M (ks ++ ls) v ↔ (SeenBy M ks v ⊎ SeenBy M ls v)
+seen_append M ks ls v = (forth, back)
+  where
+    forth : SeenBy M (ks ++ ls) v → SeenBy M ks v ⊎ SeenBy M ls v
+    forth w = elim (Contains-append_cases ks ls w.0 w.1) [
+      | inl there ↦ inl (w.0, there, w.2)
+      | inr there ↦ inr (w.0, there, w.2)
+    ]
+
+    back : SeenBy M ks v ⊎ SeenBy M ls v → SeenBy M (ks ++ ls) v
+    back (inl w) = (w.0, Contains-append_left ks ls w.0 w.1, w.2)
+    back (inr w) = (w.0, Contains-append_right ks ls w.0 w.1, w.2)
+
+pub noted_none : (M : Map) (looks : List Look) (a : Option (List ℕ)) → looks ≡ [] → Notes (SeenBy M looks) a a
+noted_none M looks a e =
+    subst (λ (ks : List Look). Notes (SeenBy M ks) a a) (sym e) (notes_none (SeenBy M []) a (seen_none M))
+
+-- no look more
+pub noted_nowhere : (M : Map) (looks : List Look) (a : Option (List ℕ)) → NotedAfter M looks looks a a
+noted_nowhere M looks a = ([], sym (append-nil looks), noted_none M [] a refl)
+
+-- and one more
+pub noted_once : (M : Map) (l : Look) (old new : List Look) (a b : Option (List ℕ)) → new ≡ old ++ l ∷ [] →
+    Notes (Sees M l) a b → NotedAfter M old new a b
+noted_once M l old new a b e n = (l ∷ [], e, notes_same _ _ a b (seen_one M l) n)
+
+pub noted_more : (M : Map) (old new : List Look) (a b c : Option (List ℕ)) → Notes (SeenBy M old) a b →
+    NotedAfter M old new b c → Notes (SeenBy M new) a c
+noted_more M old new a b c n m =
+    subst (λ (ks : List Look). Notes (SeenBy M ks) a c) (sym m.1)
+    (notes_more (SeenBy M old) (SeenBy M m.0) _ a b c (seen_append M old m.0) n m.2)
+
+-- ---- the footprint
+
+-- the nodes that were seen are put to the own nodes
+pub seen_added : (own new : List ℕ) (seen : Option (List ℕ)) (nodes : List ℕ) → seen ≡ Some nodes
+    → ((v : ℕ) → Contains new v ↔ (Contains own v ⊎ Contains nodes v)) → (v : ℕ) →
+    Contains new v ↔ (Contains own v ⊎ MatchOption seen ⊥ (λ s. Contains s v))
+seen_added own new seen nodes e f v =
+    subst (λ (o : Option (List ℕ)). Contains new v ↔ (Contains own v ⊎ MatchOption o ⊥ (λ s. Contains s v))) (sym e)
+    (f v)
+
+-- of a path's own nodes and what its looks see
+pub noted_foot : (M : Map) → IsMap M → (P : Path) → IsTrue (is_path P.lines) → (looks : List Look) → LooksOf M P looks →
+    (own begun : List ℕ) (seen : Option (List ℕ)) (foot : List ℕ) → ((v : ℕ) → Contains own v ↔ OwnOf M P v)
+    → begun ≡ [] → Notes (SeenBy M looks) (Some begun) seen
+    → ((v : ℕ) → Contains foot v ↔ (Contains own v ⊎ MatchOption seen ⊥ (λ s. Contains s v))) → (v : ℕ) →
+    Contains foot v ↔ Foot M P v
+noted_foot M m P is looks l own begun None foot o e n f v = absurd n
+noted_foot M m P is looks l own begun (Some seen) foot o e n f v = (forth, back)
+  where
+    law : Foot M P v ↔ (OwnOf M P v ⊎ SeenBy M looks v)
+    law = foot_looked M m P is looks l v
+
+    none : Contains begun v ⊎ SeenBy M looks v → SeenBy M looks v
+    none (inl c) = let never : c.0 < length begun = c.1 in absurd (omega (arith, ap (λ (vs : List ℕ). length vs) e))
+    none (inr s) = s
+
+    forth : Contains foot v → Foot M P v
+    forth c = elim ((f v).0 c) [
+      | inl p ↦ law.1 (inl ((o v).0 p))
+      | inr s ↦ law.1 (inr (none ((n v).0 s)))
+    ]
+
+    back : Foot M P v → Contains foot v
+    back g = elim (law.0 g) [
+      | inl p ↦ (f v).1 (inl ((o v).1 p))
+      | inr s ↦ (f v).1 (inr ((n v).1 (inr s)))
+    ]

@@ -1,0 +1,21 @@
+use Rattle.std.proofs.Common.{ℕ, List, Contains, sym, subst}
+use Rattle.std.specs.Prelude.{◌↔◌}
+use Rattle.std.specs.List.Sorted.{IsStrictlyIncreasing}
+use Rattle.olr_route.specs.Searches.{LiesWithin, limit_of}
+use Rattle.olr_refs.proofs.Seen.{nodes_noted}
+use Rattle.olr_refs.proofs.chosen.note_settled.Goals as goal
+
+pub note_all-requires : goal.note_all-requires
+note_all-requires c =
+    let r = c.requires in
+    record {
+      rising = subst (λ (vs : List ℕ). IsStrictlyIncreasing vs) (sym c.deref.ensures.value)
+          (c.in_ok-nodes.ensures.rising r.0 r.1 r.2 r.3 r.4);
+    }
+
+pub returns-in_ok-note_all : goal.returns-in_ok-note_all
+returns-in_ok-note_all c = λ M place direction from search.
+    nodes_noted (LiesWithin M direction from (limit_of c.args.search.now)) c.args.seen.now c.in-Some.seen
+    c.note_all.new.self c.deref.result.now c.in-Some.is c.in_ok-note_all.ensures.ok
+    (λ v. subst (λ (vs : List ℕ). Contains vs v ↔ LiesWithin M direction from (limit_of c.args.search.now) v)
+    (sym c.deref.ensures.value) (c.in_ok-nodes.ensures.nodes M place direction from v search))
