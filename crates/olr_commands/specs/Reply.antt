@@ -3,8 +3,8 @@
 --     Published c name answer, PublishedText c name text      what stands published under a name
 --     IsReply s c t reply      the reply to an accepted command that leads from s to t
 --     IsOutcome s c outcome t      the command may lead from s to t with this reply, or this fault
-use Rattle.std.specs.Prelude.{◌≡◌, ℕ, suc, Bool, true, false, not, ◌&&◌, List, [], ◌∷◌, length, Option, Some, None}
-use Rattle.std.specs.Prelude.{option_and_then, IsSomeAnd, MatchOption, Result, Ok, Err, ◌⊎◌, IsTrue}
+use Rattle.std.specs.Prelude.{◌≡◌, ◌==◌, ℕ, suc, Bool, true, false, not, ◌&&◌, ◌||◌, List, [], ◌∷◌, length, Option}
+use Rattle.std.specs.Prelude.{Some, None, option_and_then, IsSomeAnd, MatchOption, Result, Ok, Err, ◌⊎◌, IsTrue}
 use Rattle.std.specs.Result.{result_ok}
 use Rattle.base64.specs.Engines.{standard}
 use Rattle.base64.specs.GeneralPurpose.{decoded_of}
@@ -13,11 +13,12 @@ use Rattle.olr_spec.specs.Extension.{Path}
 use Rattle.olr_spec.specs.Reference.{Reference}
 use Rattle.olr_spec.specs.Encoding.{Answer, Points, Refused, Refusal, Encodes}
 use Rattle.olr_spec.specs.Bytes.{Spells}
+use Rattle.olr_map.specs.Edits.{allocates}
 use Rattle.olr_binary.specs.Text.{text_of}
 use Rattle.olr_commands.specs.State.{Named, Content, path_named, Fault, Syntax, Range, Map_fault, Path_exists, No_path}
 use Rattle.olr_commands.specs.State.{Bad_path, Not_a_reference, Memory, Batch_open, No_batch, Count_differs, Batch_full}
-use Rattle.olr_commands.specs.State.{Change, Drop_path, State, Command, Make, Show, Report, Explain, Begin, Commit}
-use Rattle.olr_commands.specs.State.{Abort, step}
+use Rattle.olr_commands.specs.State.{Change, On_map, Drop_path, State, Command, Make, Show, Report, Explain, Begin}
+use Rattle.olr_commands.specs.State.{Commit, Abort, step}
 
 -- a path's string, or why it has none
 pub record Entry : Type 0 where
@@ -120,17 +121,20 @@ abbrev pub may_want : Result State Fault → Bool
 may_want (Ok t) = true
 may_want (Err fault) = not (is_told_first fault)
 
--- opening and dropping a batch take no memory, nor does a path that is dropped outside of batches; each other command
+-- opening and dropping a batch take no memory, nor does a path that is dropped outside of batches. Where there are no
+-- paths, a report takes none, nor, outside of batches, an edit for which the map does not allocate. Each other command
 -- may be out of memory
-abbrev pub takes_memory : Command → Option (List Change) → Bool
-takes_memory (Make (Drop_path name)) None = false
-takes_memory Begin batch = false
-takes_memory Abort batch = false
-takes_memory c batch = true
+abbrev pub takes_memory : Command → Option (List Change) → Bool → Bool
+takes_memory (Make (Drop_path name)) None bare = false
+takes_memory (Make (On_map e)) None bare = not bare || allocates e
+takes_memory Report batch bare = not bare
+takes_memory Begin batch bare = false
+takes_memory Abort batch bare = false
+takes_memory c batch bare = true
 
 -- want of memory is an outcome where memory is taken and step has no fault that is told before it
 abbrev pub may_lack : State → Command → Bool
-may_lack s c = takes_memory c s.batch && may_want (step s c)
+may_lack s c = takes_memory c s.batch (length s.content.paths == 0) && may_want (step s c)
 
 pub data IsRefusal (s : State) (c : Command) (fault : Fault) : Type 0 where
   Told : step s c ≡ Err fault → IsRefusal s c fault

@@ -1,5 +1,7 @@
 -- Worked values.
 use Rattle.std.specs.Prelude.{List, [], ◌∷◌, codes, pos, neg_ℤ, Option, None, Some}
+use Rattle.std.specs.FinMap.{insert, empty}
+use Rattle.olr_spec.specs.Map.{empty_map, no_place}
 use Rattle.olr_spec.specs.Reference.{Reference}
 use Rattle.olr_spec.specs.Rows.{reference1}
 use Rattle.olr_commands.specs.State.{no_content, after, State, Change, Add_path}
@@ -26,3 +28,8 @@ path_a = Add_path (codes "a") (record { lines = 10 ∷ []; pos = 0; neg = 0 })
 -- that path is registered, on the map of nothing
 abbrev pub with_a : Option (List Change) → State
 with_a batch = record { content = after no_content (path_a ∷ []); batch = batch }
+
+-- node 1 is on the map, and there are no paths
+abbrev pub with_node : State
+with_node =
+    record { content = record no_content { map = record empty_map { nodes = insert empty 1 no_place } }; batch = None }

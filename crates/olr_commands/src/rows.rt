@@ -4,12 +4,13 @@ ghost use Rattle.olr_spec.specs.Reference.{reference};
 ghost use Rattle.olr_spec.specs.Rows.{reference1, legs1};
 ghost use Rattle.olr_spec.specs.Bytes.{Length, Flags, Reserved};
 ghost use Rattle.olr_spec.specs.Bytes as bytes;
-ghost use Rattle.olr_commands.specs.State.{Add_path, Not_a_reference, Not_v3, Not_base64, Path_exists, No_path};
+ghost use Rattle.olr_spec.specs.Map.{Move_node, Drop_node, no_place};
+ghost use Rattle.olr_commands.specs.State.{On_map, Add_path, Not_a_reference, Not_v3, Not_base64, Path_exists, No_path};
 ghost use Rattle.olr_commands.specs.State.{Batch_open, No_batch, Count_differs, Drop_path, Make, Show, Report, Explain};
 ghost use Rattle.olr_commands.specs.State.{Begin, Commit, Abort, start_state, step};
 ghost use Rattle.olr_binary.specs.Text.{text_of};
-ghost use Rattle.olr_commands.specs.Reply.{Paths, Held, IsReply, may_lack};
-ghost use Rattle.olr_commands.specs.Rows.{reference2, in_batch, path_a, with_a};
+ghost use Rattle.olr_commands.specs.Reply.{Paths, Held, IsReply, takes_memory, may_lack};
+ghost use Rattle.olr_commands.specs.Rows.{reference2, in_batch, path_a, with_a, with_node};
 
 /// Texts of references: the worked paths by their points and offsets.
 #[tactic(auto, unfolding(olr_binary::specs::Text::text_of, base64::specs::Rfc4648::encode_symbols))]
@@ -66,7 +67,8 @@ pub fn memory()
     ensures commit { may_lack (in_batch []) (Commit 0) ≡ true }
     ensures commit_nothing { may_lack start_state (Commit 0) ≡ false }
     ensures commit_other { may_lack (in_batch []) (Commit 1) ≡ false }
-    ensures report { may_lack start_state Report ≡ true }
+    ensures report { may_lack (with_a None) Report ≡ true }
+    ensures report_of_none { may_lack start_state Report ≡ false }
     ensures show { may_lack start_state (Show (codes "a")) ≡ false }
     ensures added { may_lack start_state (Make path_a) ≡ true }
     ensures no_lines { may_lack start_state (Make (Add_path (codes "a") (record { lines = []; pos = 0; neg = 0 })))
@@ -74,4 +76,7 @@ pub fn memory()
     ensures dropped { may_lack start_state (Make (Drop_path (codes "a"))) ≡ false }
     ensures dropped_one { may_lack (with_a None) (Make (Drop_path (codes "a"))) ≡ false }
     ensures dropped_in_batch { may_lack (with_a (Some [])) (Make (Drop_path (codes "a"))) ≡ true }
+    ensures moved { may_lack with_node (Make (On_map (Move_node 1 no_place))) ≡ false }
+    ensures moved_beside_paths { takes_memory (Make (On_map (Move_node 1 no_place))) None false ≡ true }
+    ensures node_dropped { takes_memory (Make (On_map (Drop_node 1))) None true ≡ true }
 {}

@@ -1,6 +1,8 @@
 -- Edits and their faults as the definitions of a map see them.
 --     edit_of e      the edit
 --     edit_fault_of f      the answer where the map refuses with f;  want of memory is no fault of the map
+--     allocates e      the edit adds or removes a node or a line, for which the map allocates
+use Rattle.std.specs.Prelude.{Bool, true, false}
 use Rattle.olr_spec.specs.Map as map
 use Rattle.olr_map.specs.declared.edit.Edit.{Edit}
 use Rattle.olr_map.specs.declared.edit.Edit.TheVariants.{AddNode, MoveNode, DropNode, AddLine, SetLine, DropLine}
@@ -23,3 +25,9 @@ edit_fault_of map.Line_exists = LineExists
 edit_fault_of map.No_line = NoLine
 edit_fault_of map.Node_in_use = NodeInUse
 edit_fault_of map.Bad_shape = BadShape
+
+-- a node that is moved and a line that is set are replaced where they are
+abbrev pub allocates : map.Edit → Bool
+allocates (map.Move_node id place) = false
+allocates (map.Set_line id frc fow len shape) = false
+allocates _ = true

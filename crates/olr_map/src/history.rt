@@ -12,13 +12,13 @@ use crate::undo::{Undo, UndoLog};
 use std::alloc::AllocError;
 
 impl Tables {
-    ghost use Rattle.std.specs.Prelude.{◌≡◌, ◌↔◌, ◌+◌, ◌≤◌, IsOk, IfOk, OnOk, OnErr, Ok, Err};
+    ghost use Rattle.std.specs.Prelude.{◌≡◌, ◌↔◌, ◌+◌, ◌≤◌, IsOk, IfOk, OnOk, OnErr, Ok, Err, IsTrue};
     ghost use Rattle.olr_spec.specs.Map.{MapFault, edited};
     ghost use Rattle.olr_map.specs.ByNumbers.{spare_of};
     ghost use Rattle.olr_map.specs.Numbering.{spare_numbers};
     ghost use Rattle.olr_map.specs.Kept.{place_in};
     ghost use Rattle.olr_map.specs.Judgements.{IsJudged, AreEnds, AreSlots};
-    ghost use Rattle.olr_map.specs.Edits.{edit_of, edit_fault_of};
+    ghost use Rattle.olr_map.specs.Edits.{edit_of, edit_fault_of, allocates};
     ghost use Rattle.olr_map.specs.Changes.{tables_map, room_of, change_edit, node_puts, line_puts, node_numbers};
     ghost use Rattle.olr_map.specs.Changes.{line_numbers, HasRoomFor, HasNumbers, IsWhole, IsRoomWithin, CanMake};
     ghost use Rattle.olr_map.specs.Changes.{IsChangeMade, map_after, room_after};
@@ -105,6 +105,7 @@ impl Tables {
         ensures room { OnOk result (HasRoomFor (room_of self.new) (edit_of edit.now)) }
         ensures numbers { OnOk result (HasNumbers self.new (nodes + node_numbers (edit_of edit.now))
             (lines + line_numbers (edit_of edit.now))) }
+        ensures lacks { OnErr result (IsTrue (allocates (edit_of edit.now))) }
     {
         match edit {
             Edit::AddNode(..) => {
@@ -170,6 +171,7 @@ impl Tables {
         ensures same { OnErr result (tables_map self.new ≡ tables_map self.old) }
         ensures can_undo { IfOk result (CanUndoIn self.new) }
         ensures before { IfOk result (λ undo. undone_in self.new undo ≡ tables_map self.old) }
+        ensures lacks { result ≡ Err EditFault.Memory → IsTrue (allocates (edit_of edit)) }
     {
         match judge(self, &edit) {
             Ok(judged) => match self.make(edit, &judged) {
@@ -187,6 +189,7 @@ impl Tables {
         ensures same { OnErr result (tables_map self.new ≡ tables_map self.old) }
         ensures can_undo { IfOk result (CanUndoIn self.new) }
         ensures before { IfOk result (λ undo. undone_in self.new undo ≡ tables_map self.old) }
+        ensures lacks { OnErr result (IsTrue (allocates (edit_of edit))) }
     {
         self.make_room(&edit, judged.places, 0, 0)?;
         let change = self.change_for(edit, judged.nodes);

@@ -76,9 +76,9 @@ impl MapRead for RoadMap {
 }
 
 impl RoadMap {
-    ghost use Rattle.std.specs.Prelude.{◌≡◌, ◌↔◌, IfOk, OnOk, OnErr, Ok, Err};
+    ghost use Rattle.std.specs.Prelude.{◌≡◌, ◌↔◌, IfOk, OnOk, OnErr, Ok, Err, IsTrue};
     ghost use Rattle.olr_spec.specs.Map.{MapFault, empty_map, edited};
-    ghost use Rattle.olr_map.specs.Edits.{edit_of, edit_fault_of};
+    ghost use Rattle.olr_map.specs.Edits.{edit_of, edit_fault_of, allocates};
     ghost use Rattle.olr_map.specs.Undos.{log_changes};
     ghost use Rattle.olr_map.specs.Judgements.{IsJudged};
     ghost use Rattle.olr_map.specs.RoadMaps.{map_of, slot_of, CanUndo, map_undone, CanUndoAll, map_before};
@@ -92,8 +92,9 @@ impl RoadMap {
         }
     }
 
-    /// Makes an edit. Any fault leaves the map as it was; want of memory is told last, and only where a growth was
-    /// refused. What it gives must be spent by `undo` or by `keep`.
+    /// Makes an edit. Any fault leaves the map as it was. `Memory` has the last place among the faults, and is
+    /// reported only for an edit that adds or removes a node or a line. What it returns must be spent by `undo` or by
+    /// `keep`.
     pub fn apply(&mut self, edit: Edit) -> Result<Undo, EditFault>
         ensures refused { (f : MapFault) → (result ≡ Err (edit_fault_of f))
             ↔ (edited (map_of self.old) (edit_of edit) ≡ Err f) }
@@ -101,18 +102,20 @@ impl RoadMap {
         ensures same { OnErr result (map_of self.new ≡ map_of self.old) }
         ensures can_undo { IfOk result (CanUndo self.new) }
         ensures before { IfOk result (λ undo. map_undone self.new undo ≡ map_of self.old) }
+        ensures lacks { result ≡ Err EditFault.Memory → IsTrue (allocates (edit_of edit)) }
     {
         self.tables.apply(edit)
     }
 
-    /// Makes an edit that was judged on this map. After want of memory the map is as it was, and it is told only
-    /// where a growth was refused. What it gives must be spent by `undo` or by `keep`.
+    /// Makes an edit that was judged on this map. An error leaves the map as it was, and is returned only for an edit
+    /// that adds or removes a node or a line. What it returns must be spent by `undo` or by `keep`.
     pub fn make(&mut self, edit: Edit, judged: &Judged) -> Result<Undo, AllocError>
         requires { IsJudged (map_of self.old) (slot_of self.old) (edit_of edit) judged.now }
         ensures done { OnOk result (edited (map_of self.old) (edit_of edit) ≡ Ok (map_of self.new)) }
         ensures same { OnErr result (map_of self.new ≡ map_of self.old) }
         ensures can_undo { IfOk result (CanUndo self.new) }
         ensures before { IfOk result (λ undo. map_undone self.new undo ≡ map_of self.old) }
+        ensures lacks { OnErr result (IsTrue (allocates (edit_of edit))) }
     {
         self.tables.make(edit, judged)
     }

@@ -8,7 +8,7 @@ use olr_commands::Entry;
 use std::alloc::{AllocError, Global};
 
 impl Listing {
-    ghost use Rattle.std.specs.Prelude.{◌≡◌, [], Some, map, IfOk};
+    ghost use Rattle.std.specs.Prelude.{◌≡◌, ◌≢◌, [], Some, map, length, IfOk, OnErr};
     ghost use Rattle.olr_spec.specs.Encoding.{Answer};
     ghost use Rattle.olr_paths.specs.Items.{items, answer_in};
     ghost use Rattle.olr_paths.specs.Changes.{AreEncoded, Reported};
@@ -25,10 +25,11 @@ impl Listing {
         }
     }
 
-    /// The entries of all paths, in order. Each of them was encoded.
+    /// The entries of all paths, in order. Each of them was encoded. Takes no memory if there are none.
     pub fn entries(&self, alloc: Global) -> Result<Vec<Entry>, AllocError>
         requires encoded { AreEncoded (items self.now) }
-        ensures { IfOk result (λ es. Reported [] (items self.now) (map entry_of es.items)) }
+        ensures reported { IfOk result (λ es. Reported [] (items self.now) (map entry_of es.items)) }
+        ensures lacks { OnErr result (length (items self.now) ≢ 0) }
     {
         let count = self.paths.len();
         let mut entries = Vec::with_capacity(alloc, count)?;

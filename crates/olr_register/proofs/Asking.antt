@@ -1,8 +1,11 @@
 -- What the register shows of its paths.
-use Rattle.std.proofs.Common.{◌≡◌, ℕ, true, false, cond, List, [], ◌∷◌, map, Option, Some, None, refl, sym, ap, ◌∙◌}
-use Rattle.std.proofs.Common.{subst}
-use Rattle.std.specs.Prelude.{◌↔◌, Contains, is_some, slice_get, option_map, option_and_then, MatchOption, IsSomeAnd}
+use Rattle.std.proofs.Common.{◌≡◌, ◌≢◌, ℕ, true, false, cond, List, [], ◌∷◌, map, length, Option, Some, None, refl, sym}
+use Rattle.std.proofs.Common.{ap, ◌∙◌, subst}
+use Rattle.std.specs.Prelude.{◌==◌, ◌↔◌, Contains, is_some, slice_get, option_map, option_and_then, MatchOption}
+use Rattle.std.specs.Prelude.{IsSomeAnd}
 use Rattle.std.specs.Result.{result_ok}
+use Rattle.std.proofs.lemmas.Bool.{ne_eqb}
+use Rattle.std.proofs.lemmas.List.{length-map}
 use Rattle.olr_spec.specs.Map.{Map}
 use Rattle.olr_spec.specs.Encoding.{Answer, Encodes}
 use Rattle.olr_spec.specs.Extension.{Path}
@@ -11,7 +14,7 @@ use Rattle.olr_map.specs.RoadMaps.{map_of}
 use Rattle.olr_map.specs.declared.road_map.RoadMap.{RoadMap}
 use Rattle.olr_commands.specs.State.{Named, Content, IsContent, same_name, path_named}
 use Rattle.olr_commands.specs.Reply.{Entry, entry, Published, PublishedText, published_text, Shown, AllOf}
-use Rattle.olr_paths.specs.Items.{Made, Item, IsEncodingOf, AreEncodings, all_named, made_in, answer_in}
+use Rattle.olr_paths.specs.Items.{Made, Item, IsEncodingOf, AreEncodings, named_of, all_named, made_in, answer_in}
 use Rattle.olr_paths.specs.Changes.{AreEncoded, Reported}
 use Rattle.olr_register.specs.Registered.{PublishedWhole, HaveEncodings, AllPublished}
 use Rattle.olr_register.specs.Holding.{map_kept}
@@ -91,6 +94,10 @@ some_answer_in M (i ∷ is) name made h =
       | true ↦ λ e. (made.0.0.answer, ap (option_map (λ (m : Made). m.answer)) made.0.1)
       | false ↦ λ e. some_answer_in M is name made.1 e
     ] h
+
+-- of a list with paths
+pub some_named : (is : List Item) → length is ≢ 0 → (length (all_named is) == 0) ≡ false
+some_named is h = ne_eqb (length (all_named is)) 0 (λ e. h (sym (length-map is named_of) ∙ e))
 
 pub all_encoded : (M : Map) (is : List Item) → AreEncodings M is → AreEncoded is
 all_encoded M [] made = tt

@@ -102,18 +102,18 @@ may_by c ys (Ok d) first = refl
 may_by c ys (Err g) first = ap not (first g refl)
 
 -- what is held takes memory
-held_takes : (x : Change) (xs : List Change) → takes_memory (Make x) (Some xs) ≡ true
-held_takes (On_map e) xs = refl
-held_takes (Add_path name path) xs = refl
-held_takes (Set_path name path) xs = refl
-held_takes (Drop_path name) xs = refl
+held_takes : (x : Change) (xs : List Change) (bare : Bool) → takes_memory (Make x) (Some xs) bare ≡ true
+held_takes (On_map e) xs bare = refl
+held_takes (Add_path name path) xs bare = refl
+held_takes (Set_path name path) xs bare = refl
+held_takes (Drop_path name) xs bare = refl
 
 is_refusal : (c : Content) (b : Batch) (x : Change) (f : Fault) → MayTell (content_with b x) f → (xs : List Change) →
     IsBatchOf c b xs → IsRefusal (state c (Some xs)) (Make x) f
 is_refusal c b x f (Told e) xs i = replies.Told (step_given c b xs x i ∙ ap (into_batch c (xs ++ x ∷ [])) e)
 is_refusal c b x f (Lacks e first) xs i =
     let may = ap may_want (step_given c b xs x i) ∙ may_by c (xs ++ x ∷ []) (content_with b x) first in
-    replies.Lacks e (λ j. held_takes x xs j && may j)
+    replies.Lacks e (λ j. held_takes x xs (length c.paths == 0) j && may j)
 
 pub answered_given : (c : Content) (b d : Batch) (w : Tally) (x : Change) (r : Result Reply CommandFault) →
     Given b x r d → Answered (register_of c (Some b) w) (Make x) r (register_of c (Some d) w)

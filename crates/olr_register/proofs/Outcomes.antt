@@ -1,6 +1,7 @@
 -- What it takes to answer a command that raises no count, and one that leaves the register as it was.
 use Rattle.std.proofs.Common.{arith, ◌≡◌, ℕ, Bool, true, false, not, List, [], Option, Some, None, is_some, Ok, Err}
-use Rattle.std.proofs.Common.{refl, sym, ap, ◌∙◌, subst, add-zero}
+use Rattle.std.proofs.Common.{length, refl, sym, ap, ◌∙◌, subst, add-zero}
+use Rattle.std.specs.Prelude.{◌==◌, ◌&&◌}
 use Rattle.olr_spec.specs.Extension.{Path}
 use Rattle.olr_spec.specs.Reference.{Reference}
 use Rattle.olr_commands.specs.State as state
@@ -114,9 +115,13 @@ report_answered x r es is all =
     ))
     (λ s. report_brings s.batch)
 
-pub report_lacks : (x : Registered) (f : CommandFault) → command_fault_of f ≡ Memory → Answered x state.Report (Err f) x
-report_lacks x f is =
-    answered_refused x x state.Report f refl (λ s stands. Lacks is (ap may_want (report_ok s.content s.batch)))
+pub report_lacks : (x : Registered) (f : CommandFault) → (length x.kept.content.paths == 0) ≡ false →
+    command_fault_of f ≡ Memory → Answered x state.Report (Err f) x
+report_lacks x f some is =
+    answered_refused x x state.Report f refl
+    (λ s stands.
+    let there = ap (λ (c : Content). not (length c.paths == 0)) (sym stands.0) ∙ ap not some in
+    let may = ap may_want (report_ok s.content s.batch) in Lacks is (λ i. there i && may i))
 
 -- ---- explain
 

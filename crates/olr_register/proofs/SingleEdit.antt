@@ -1,6 +1,6 @@
 -- An edit of the map that is made at once.
-use Rattle.std.proofs.Common.{◌≡◌, ℕ, suc, ◌+◌, ◌<◌, ◌≤◌, ◌^◌, Bool, List, [], ◌∷◌, ◌++◌, length, Option, None, Result}
-use Rattle.std.proofs.Common.{Ok, Err, IsOk, refl, sym, ap, ◌∙◌, subst, arith, add-zero}
+use Rattle.std.proofs.Common.{◌≡◌, ℕ, suc, ◌+◌, ◌<◌, ◌≤◌, ◌^◌, Bool, true, false, List, [], ◌∷◌, ◌++◌}
+use Rattle.std.proofs.Common.{length, Option, None, Result, Ok, Err, IsOk, refl, sym, ap, ◌∙◌, subst, arith, add-zero}
 use Rattle.std.specs.Prelude.{MatchResult, ◌==◌, ◌||◌}
 use Rattle.std.specs.Option.{option_to_list}
 use Rattle.olr_spec.specs.Map.{Map, Edit, MapFault, edited, touched_nodes, touched_lines, has, HasPlace}
@@ -15,7 +15,7 @@ use Rattle.olr_commands.specs.State as state
 use Rattle.olr_commands.specs.State.{Named, Content, IsContent, Fault, Map_fault, On_map, with_map, with_change}
 use Rattle.olr_commands.specs.State.{at_once, Make}
 use Rattle.olr_commands.specs.Reply as told
-use Rattle.olr_commands.specs.Reply.{may_want}
+use Rattle.olr_commands.specs.Reply.{takes_memory, may_want}
 use Rattle.olr_commands.specs.Counts.{CountIs}
 use Rattle.olr_commands.specs.Words.{reply_of, command_fault_of, map_fault_of}
 use Rattle.olr_commands.specs.declared.reply.Reply.{Reply}
@@ -64,15 +64,26 @@ edit_refused roads is b w x e g f view none refused is_that =
     (ap (with_map x.kept.content) (ap (λ (M : Map). edited M e) there ∙ refused))
     (ap map_fault_of is_that ∙ told_by_map g)
 
+-- where the map allocates, or there is a path
+pub wants_for_map : (bare : Bool) (e : Edit) → edits.allocates e ≡ true →
+    takes_memory (Make (On_map e)) None bare ≡ true
+wants_for_map true e h = h
+wants_for_map false e h = refl
+
+pub wants_for_paths : (bare : Bool) (e : Edit) → bare ≡ false → takes_memory (Make (On_map e)) None bare ≡ true
+wants_for_paths true e h = absurd cc
+wants_for_paths false e h = refl
+
 pub edit_lacks : (roads : RoadMap) (is : List Item) (b : Option Batch) (w : Tally) (x : Registered) (e : Edit) (N : Map)
     (f : CommandFault) → of_parts roads is b w ≡ x → x.kept.batch ≡ None
-    → edited (map_of roads) e ≡ Ok N → command_fault_of f ≡ state.Memory → Answered x (Make (On_map e)) (Err f) x
-edit_lacks roads is b w x e N f view none taken says =
+    → edited (map_of roads) e ≡ Ok N → takes_memory (Make (On_map e)) None (length x.kept.content.paths == 0) ≡ true →
+    command_fault_of f ≡ state.Memory → Answered x (Make (On_map e)) (Err f) x
+edit_lacks roads is b w x e N f view none taken takes says =
     let closed : b ≡ None = closed_by roads is b w x view none in
     let there : x.kept.content.map ≡ map_of roads =
     ap (λ (y : Registered). y.kept.content.map) (sym view)
     ∙ ap (λ (o : Option Batch). (of_parts roads is o w).kept.content.map) closed in
-    lacks_now x (On_map e) f none refl
+    lacks_now x (On_map e) f none takes
     (ap (λ (r : Result Map MapFault). may_want (at_once (with_map x.kept.content r)))
     (ap (λ (M : Map). edited M e) there ∙ taken)) says
 

@@ -1,7 +1,7 @@
 -- Changes that are made at once.
-use Rattle.std.proofs.Common.{◌≡◌, ℕ, Bool, true, List, map, Option, Some, None, is_some, Ok, Err, refl, sym, ap, ◌∙◌}
-use Rattle.std.proofs.Common.{subst}
-use Rattle.std.specs.Prelude.{◌&&◌}
+use Rattle.std.proofs.Common.{◌≡◌, ℕ, Bool, true, List, map, length, Option, Some, None, is_some, Ok, Err, refl, sym}
+use Rattle.std.proofs.Common.{ap, ◌∙◌, subst}
+use Rattle.std.specs.Prelude.{◌==◌, ◌&&◌}
 use Rattle.olr_spec.specs.Map.{Map, MapFault}
 use Rattle.olr_map.specs.Edits as edits
 use Rattle.olr_map.specs.RoadMaps.{map_of}
@@ -57,7 +57,8 @@ told_now old x g f was is says =
     (Told (ap at_once is ∙ ap (λ (h : Fault). Err h) (sym says))))
 
 pub lacks_now : (old : Registered) (x : Change) (f : CommandFault) → old.kept.batch ≡ None →
-    takes_memory (Make x) None ≡ true → may_want (at_once (with_change old.kept.content x)) ≡ true →
+    takes_memory (Make x) None (length old.kept.content.paths == 0) ≡ true →
+    may_want (at_once (with_change old.kept.content x)) ≡ true →
     command_fault_of f ≡ state.Memory → Answered old (Make x) (Err f) old
 lacks_now old x f was takes may says =
     answered_refused old old (Make x) f refl

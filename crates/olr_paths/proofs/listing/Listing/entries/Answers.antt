@@ -34,8 +34,8 @@ loop-k-preserved c =
     ∙ ap (λ (one : Entry). all_told (take k is) ++ one ∷ []) told
     ∙ sym (told_more_at is k (item_of e) m at made)
 
-pub returns : goal.returns
-returns c =
+pub returns-clause-reported : goal.returns-clause-reported
+returns-clause-reported c =
     let es = c.args.self.now.paths.entries in
     let is = items c.args.self.now in
     let long : length is ≤ c.loop-k.k = omega (arith, length-map es item_of, c.len-count.ensures.len) in

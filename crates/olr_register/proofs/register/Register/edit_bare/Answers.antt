@@ -9,7 +9,7 @@ use Rattle.olr_paths.specs.Items.{items}
 use Rattle.olr_register.specs.Holding.{map_kept}
 use Rattle.olr_register.proofs.Singles.{as_before, closed_by, still_closed, same_parts}
 use Rattle.olr_register.proofs.SingleEdit.{refused_is, taken_is, edit_refused, edit_lacks, no_items, bare_keeps}
-use Rattle.olr_register.proofs.SingleEdit.{bare_done}
+use Rattle.olr_register.proofs.SingleEdit.{bare_done, wants_for_map}
 use Rattle.olr_register.proofs.Numbered.{kept_closed, numbered_same, numbered_bare}
 use Rattle.olr_register.proofs.Tallies.{tally}
 use Rattle.olr_register.proofs.register.Register.edit_bare.Goals as goal
@@ -30,7 +30,7 @@ returns-in_default c =
     as_before x _ _ _ (same_parts r.roads c.make.new.self (items r.paths) (items r.paths) r.batch (tally r.work r.kept)
     (tally r.work r.kept) none c.in_default.ensures.same refl refl ∙ c.self.view_is)
     (edit_lacks r.roads (items r.paths) r.batch (tally r.work r.kept) x (edit_of c.args.edit) taken.0 _ c.self.view_is
-    c.requires.closed taken.1 refl)
+    c.requires.closed taken.1 (wants_for_map _ (edit_of c.args.edit) c.in_default.ensures.lacks) refl)
 
 pub invariant_of-self : goal.invariant_of-self
 invariant_of-self c =

@@ -1,4 +1,5 @@
-use Rattle.std.proofs.Common.{Ok, refl, ap, ◌∙◌, subst, sym}
+use Rattle.std.proofs.Common.{length, Ok, refl, ap, ◌∙◌, subst, sym}
+use Rattle.std.proofs.lemmas.Bool.{ne_eqb}
 use Rattle.std.specs.Prelude.{map as list_map}
 use Rattle.olr_spec.specs.Map.{Map}
 use Rattle.olr_map.specs.Edits.{edit_of}
@@ -10,7 +11,7 @@ use Rattle.olr_paths.specs.Touching.{nodes_of, lines_of, changed_of}
 use Rattle.olr_register.specs.Holding.{map_kept}
 use Rattle.olr_register.proofs.Singles.{as_before, closed_by, still_closed, same_parts}
 use Rattle.olr_register.proofs.SingleEdit.{refused_is, taken_is, edit_refused, edit_lacks, noted_judged, edit_before}
-use Rattle.olr_register.proofs.SingleEdit.{edit_keeps, edit_done}
+use Rattle.olr_register.proofs.SingleEdit.{edit_keeps, edit_done, wants_for_paths}
 use Rattle.olr_register.proofs.Numbered.{kept_closed, numbered_unknown, numbered_same, edit_same_but, numbered_asked}
 use Rattle.olr_register.proofs.Numbered.{numbered_more}
 use Rattle.olr_register.proofs.Tallies.{tally}
@@ -26,13 +27,17 @@ returns-in-Err c =
 pub returns-in_default : goal.returns-in_default
 returns-in_default c =
     let r = c.self.inside in
+    let some =
+    ne_eqb (length c.args.self.now.kept.content.paths) 0 (λ none. c.if-len-eq0.false (c.len.ensures ∙ none)) in
     let taken = taken_is _ c.in-Ok.ensures.judged.accepted in
     as_before c.args.self.now _ _ _ c.self.view_is
     (edit_lacks r.roads (items r.paths) r.batch (tally r.work r.kept) c.args.self.now (edit_of c.args.edit) taken.0 _
-    c.self.view_is c.requires taken.1 refl)
+    c.self.view_is c.requires taken.1 (wants_for_paths _ (edit_of c.args.edit) some) refl)
 
 pub returns-in_default-make : goal.returns-in_default-make
 returns-in_default-make c =
+    let some =
+    ne_eqb (length c.args.self.now.kept.content.paths) 0 (λ none. c.if-len-eq0.false (c.len.ensures ∙ none)) in
     let r = c.self.inside in
     let x = c.args.self.now in
     let none = closed_by r.roads (items r.paths) r.batch (tally r.work r.kept) x c.self.view_is c.requires in
@@ -40,10 +45,12 @@ returns-in_default-make c =
     as_before x _ _ _ (same_parts r.roads c.make.new.self (items r.paths) (items r.paths) r.batch (tally r.work r.kept)
     (tally r.work r.kept) none c.in_default-make.ensures.same refl refl ∙ c.self.view_is)
     (edit_lacks r.roads (items r.paths) r.batch (tally r.work r.kept) x (edit_of c.args.edit) taken.0 _ c.self.view_is
-    c.requires taken.1 refl)
+    c.requires taken.1 (wants_for_paths _ (edit_of c.args.edit) some) refl)
 
 pub returns-in_default-renew : goal.returns-in_default-renew
 returns-in_default-renew c =
+    let some =
+    ne_eqb (length c.args.self.now.kept.content.paths) 0 (λ none. c.if-len-eq0.false (c.len.ensures ∙ none)) in
     let r = c.self.inside in
     let x = c.args.self.now in
     let e = c.in_default-renew.ensures in
@@ -53,7 +60,7 @@ returns-in_default-renew c =
     (tally c.renew.new.work c.renew.new.kept) none (c.undo.ensures ∙ c.in-Ok-make.ensures.before) e.err
     (λ i. tally (e.err_work i) (e.err_kept i)) ∙ c.self.view_is)
     (edit_lacks r.roads (items r.paths) r.batch (tally r.work r.kept) x (edit_of c.args.edit) taken.0 _ c.self.view_is
-    c.requires taken.1 refl)
+    c.requires taken.1 (wants_for_paths _ (edit_of c.args.edit) some) refl)
 
 pub invariant_of-self-in_default-make : goal.invariant_of-self-in_default-make
 invariant_of-self-in_default-make c =
