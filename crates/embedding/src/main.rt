@@ -1,4 +1,4 @@
-//! A program of one page that uses the crates as a library: a register, and the encoder alone.
+//! A short program that uses the crates as a library: a register, and the encoder alone.
 #![tactic(auto)]
 
 use anyhow::Context;
@@ -20,7 +20,7 @@ fn line_id(number: u32) -> anyhow::Result<LineId> {
     LineId::new(number).context("numbers begin at 1")
 }
 
-/// A new node, at so many steps of 10^-7 degree.
+/// A new node; longitude and latitude are in steps of 10^-7 degrees.
 fn node(number: u32, lon: i32, lat: i32) -> anyhow::Result<Edit> {
     let place = Coord::new(i64::from(lon) * 32_768, i64::from(lat) * 32_768);
     let place = place.context("a place on the earth")?;
@@ -41,7 +41,7 @@ fn line(alloc: Global, number: u32, from: u32, to: u32) -> anyhow::Result<Edit> 
     Ok(Edit::AddLine(number, line))
 }
 
-/// Takes an edit into a list of them.
+/// Appends an edit to a list.
 fn add(edits: &mut Vec<Edit>, edit: anyhow::Result<Edit>) -> anyhow::Result<()> {
     edits.push(edit?)?;
     Ok(())
@@ -59,7 +59,7 @@ fn street(alloc: Global) -> anyhow::Result<Vec<Edit>> {
     Ok(edits)
 }
 
-/// Prints a path's name with its string, or with its refusal.
+/// Prints a path's name with its string, or with the reason why it has none.
 fn tell(rt: &impl Print, entry: &Entry) -> io::Result<()> {
     match &entry.published {
         Ok(text) => println!(rt; "{} {text}", entry.name),
@@ -77,7 +77,7 @@ fn tell_all(rt: &impl Print, reply: &Reply) -> io::Result<()> {
     Ok(())
 }
 
-/// Gives a register a command, and prints the paths whose string it changed.
+/// Applies a command to a register, and prints the paths whose string it changed.
 fn apply(rt: &impl Print, register: &mut Register, command: Command) -> anyhow::Result<()> {
     let reply = register.apply(command)?;
     tell_all(rt, &reply)?;
@@ -92,7 +92,7 @@ fn path(alloc: Global) -> anyhow::Result<Command> {
     Ok(Command::AddPath(name, lines, 0, 0))
 }
 
-/// A question what the path's string says.
+/// The command that asks for the fields of the path's string.
 fn question(alloc: Global, register: &Register) -> anyhow::Result<Command> {
     let text = register.text("street").context("a string")?;
     let text = Vec::from_slice(alloc, text.as_bytes())?;
@@ -109,7 +109,7 @@ fn fill(rt: &impl Print, alloc: Global, register: &mut Register) -> anyhow::Resu
     apply(rt, register, Command::Edit(line(alloc, 40, 2, 4)?))
 }
 
-/// What the string says.
+/// Prints the fields of the string.
 fn explain(rt: &impl Print, alloc: Global, register: &mut Register) -> anyhow::Result<()> {
     let question = question(alloc, register)?;
     if let Reply::Fields(reference) = register.apply(question)? {
@@ -118,7 +118,7 @@ fn explain(rt: &impl Print, alloc: Global, register: &mut Register) -> anyhow::R
     Ok(())
 }
 
-/// An edit that is far from the path.
+/// Makes an edit that is far from the path.
 fn edit_far(rt: &impl Print, register: &mut Register) -> anyhow::Result<()> {
     let before = register.work().encodings;
     apply(
@@ -131,20 +131,20 @@ fn edit_far(rt: &impl Print, register: &mut Register) -> anyhow::Result<()> {
     Ok(())
 }
 
-/// The register alone.
+/// Uses a register.
 fn keep(rt: &impl Print, alloc: Global) -> anyhow::Result<()> {
     let mut register = Register::new(alloc);
     keep_in(rt, alloc, &mut register)
 }
 
-/// What is done with a register.
+/// What is done with the register.
 fn keep_in(rt: &impl Print, alloc: Global, register: &mut Register) -> anyhow::Result<()> {
     fill(rt, alloc, register)?;
     explain(rt, alloc, register)?;
     edit_far(rt, register)
 }
 
-/// The street as a map alone.
+/// The map of the street, without a register.
 fn street_map(alloc: Global) -> anyhow::Result<RoadMap> {
     let mut map = RoadMap::new(alloc);
     for edit in street(alloc)? {
@@ -154,7 +154,7 @@ fn street_map(alloc: Global) -> anyhow::Result<RoadMap> {
     Ok(map)
 }
 
-/// A map of one's own: another map, with the year in which it was surveyed beside it. Each call passes on.
+/// A map type of an application: another map, and the year in which it was surveyed. Each call is passed on.
 #[derive(Drop)]
 struct Survey<M> {
     map: M,
@@ -217,7 +217,7 @@ impl<M: MapRead> MapRead for Survey<M> {
     ghost placed = { λ s. M.placed s.map };
 }
 
-/// The string of a line on any map, and on how many nodes it rests.
+/// The string of a line on any map, and the number of nodes in its footprint.
 fn encode<M: MapRead>(rt: &impl Print, alloc: Global, map: &M, line: LineId) -> anyhow::Result<()> {
     let path = Path::new(alloc, Vec::from_array(alloc, [line])?, 0, 0)?;
     let (answer, footprint) = refer(alloc, map, &path, &mut Work::default())?;
@@ -228,7 +228,7 @@ fn encode<M: MapRead>(rt: &impl Print, alloc: Global, map: &M, line: LineId) -> 
     Ok(())
 }
 
-/// The encoder alone, on a map of one's own.
+/// Uses the encoder alone, on the application's map type.
 fn encode_survey(rt: &impl Print, alloc: Global) -> anyhow::Result<()> {
     let line = line_id(20)?;
     let map = street_map(alloc)?;

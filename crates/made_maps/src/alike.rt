@@ -1,9 +1,9 @@
-//! Whether two maps answer alike.
+//! Whether two maps read the same.
 
 use crate::{line, node};
 use olr_map::{Line, LineEnd, LineId, MapRead, NodeId};
 
-/// The first number up to `last` at which two maps don't answer alike of the node and the line with this number.
+/// The first number up to `last` for which the node or the line with this number differs on two maps.
 pub fn difference<M: MapRead, N: MapRead>(one: &M, other: &N, last: u32) -> Option<u32> {
     for number in 1..=last {
         let nodes = are_nodes_alike(one, other, node(number));
@@ -15,7 +15,7 @@ pub fn difference<M: MapRead, N: MapRead>(one: &M, other: &N, last: u32) -> Opti
     None
 }
 
-/// Whether two maps have the same at a node: its place, its lines, and their far ends.
+/// Whether a node is the same on two maps: its coordinate, its lines, and their far ends.
 fn are_nodes_alike<M: MapRead, N: MapRead>(one: &M, other: &N, id: NodeId) -> bool {
     one.node(id) == other.node(id)
         && one.out_lines(id) == other.out_lines(id)
@@ -24,7 +24,7 @@ fn are_nodes_alike<M: MapRead, N: MapRead>(one: &M, other: &N, id: NodeId) -> bo
         && are_ends_alike(one, other, one.in_ends(id), other.in_ends(id))
 }
 
-/// Whether two lists have the same far ends with the same lengths, and each node's place on its map.
+/// Whether two lists have the same far ends with the same lengths, and each node's slot on its own map.
 fn are_ends_alike<M: MapRead, N: MapRead>(
     one: &M,
     other: &N,
@@ -49,7 +49,7 @@ fn is_end_alike<M: MapRead, N: MapRead>(one: &M, other: &N, here: LineEnd, there
         && other.place_of(there.node) == Some(there.place)
 }
 
-/// Whether two maps have the same line under a number, or none.
+/// Whether two maps have the same line under a number, or both have none.
 fn are_lines_alike<M: MapRead, N: MapRead>(one: &M, other: &N, id: LineId) -> bool {
     match (one.line(id), other.line(id)) {
         (Some(first), Some(second)) => is_same_line(first, second),

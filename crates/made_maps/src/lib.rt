@@ -1,4 +1,4 @@
-//! Maps that the tests of several crates are on, and short words for what is given to a map.
+//! Maps that the tests of several crates use, and short functions for nodes, coordinates, lines and edits.
 #![tactic(auto)]
 
 pub mod alike;
@@ -13,7 +13,7 @@ use std::alloc::{AllocError, Global};
 /// A node: its number, and its longitude and latitude in 1/100,000 degree.
 pub type Place = (u32, i32, i32);
 
-/// A place on the way of a line: its distance from where the line begins, in decimetres, its longitude and latitude.
+/// A shape point of a line: its distance from the start of the line, in decimetres, its longitude and latitude.
 pub type Bend = (u32, i32, i32);
 
 /// A line: its number, the nodes where it begins and ends, class, form of way, length in decimetres, and its bends.
@@ -56,26 +56,26 @@ pub const THIRD: Road = (30, 3, 4, 5, 3, 740, &[(540, 612_792, 4_960_311)]);
 /// The side road beside the second line, which is shorter than it.
 pub const SIDE: Road = (99, 2, 3, 4, 3, 1500, STRAIGHT);
 
-/// The worked map: a road of three lines from node 1 to node 4, and the side road, which comes first.
+/// The worked map: a road of three lines from node 1 to node 4, and the side road, which is added first.
 pub const WORKED: Plan = (PLACES, &[SIDE, FIRST, SECOND, THIRD]);
 
-/// The number after this one in a row without pattern.
+/// The next number of a pseudorandom sequence.
 pub fn next(seed: u64) -> u64 {
     seed.wrapping_mul(6_364_136_223_846_793_005)
         .wrapping_add(1_442_695_040_888_963_407)
 }
 
-/// The node with this number. Numbers begin at 1, which stands for 0 too.
+/// The node with this number; node 1 for the number 0.
 pub fn node(number: u32) -> NodeId {
     NodeId::new(number).unwrap_or_default()
 }
 
-/// The line with this number. Numbers begin at 1, which stands for 0 too.
+/// The line with this number; line 1 for the number 0.
 pub fn line(number: u32) -> LineId {
     LineId::new(number).unwrap_or_default()
 }
 
-/// The place with this longitude and latitude, in 1/100,000 degree. Beyond the bounds of a map it is that of (0, 0).
+/// The coordinate with this longitude and latitude, in 1/100,000 degree; (0, 0) if it is out of range.
 pub fn place(lon: i32, lat: i32) -> Coord {
     match Coord::new(i64::from(lon) * 3_276_800, i64::from(lat) * 3_276_800) {
         Some(place) => place,
@@ -138,7 +138,7 @@ pub fn plain_line(alloc: Global, plain: Plain) -> Edit {
     Edit::AddLine(line(number), record)
 }
 
-/// The edit that gives a line class 4, form 3, and another length and shape.
+/// The edit that sets class 4, form 3, and another length and shape for a line.
 pub fn other_line(
     alloc: Global,
     number: u32,
@@ -154,7 +154,7 @@ pub fn other_line(
     })
 }
 
-/// Makes an edit, and lets it stand.
+/// Makes an edit, and discards its undo record.
 pub fn make(map: &mut RoadMap, edit: Edit) -> Result<(), EditFault> {
     let undo = map.apply(edit)?;
     map.keep(undo);
@@ -184,7 +184,7 @@ pub fn map_of(alloc: Global, plan: Plan) -> Result<RoadMap, EditFault> {
     Ok(map)
 }
 
-/// The map with the nodes from 1 to `last`, all at one place, and these lines.
+/// The map with the nodes from 1 to `last`, all at one coordinate, and these lines.
 pub fn plain_map(alloc: Global, last: u32, lines: &[Plain]) -> Result<RoadMap, EditFault> {
     let mut map = RoadMap::new(alloc);
     for number in 1..=last {

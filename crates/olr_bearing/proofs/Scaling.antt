@@ -1,4 +1,4 @@
--- Coordinates and latitudes: how large they are, and places between two coordinates.
+-- The ranges of coordinates, and of coordinates between two others.
 use Rattle.std.proofs.Common.{◌≡◌, ℕ, ◌+◌, ◌-◌, ◌*◌, ◌≤◌, ℤ, pos, negsuc, ◌+ℤ◌, ◌-ℤ◌, ◌*ℤ◌, neg_ℤ, IsTrue, to_z, of_z}
 use Rattle.std.proofs.Common.{ap, arith}
 use Rattle.std.specs.Int.{Width}
@@ -10,7 +10,7 @@ use Rattle.olr_spec.proofs.BytesLemmas.{bounds}
 use Rattle.olr_bearing.specs.Ranges.{IsWithin, degree_units}
 use Rattle.olr_bearing.proofs.Products.{natural_product_within, times_sum, sum_times}
 
--- a number as an integer type holds it
+-- the value of a number in an integer type
 abbrev pub held : Width → ℤ → ℤ
 held w z = to_z w (of_z w z)
 
@@ -28,9 +28,9 @@ pub thousandths_within : (z : ℤ) → IsWithin (degree_units 90) z → IsWithin
 thousandths_within (pos n) h = (omega (arith, ints, h.0, h.1), omega (arith, ints, h.0, h.1))
 thousandths_within (negsuc n) h = (omega (arith, ints, h.0, h.1), omega (arith, ints, h.0, h.1))
 
--- ---- d of w on from f to t
+-- ---- d of w decimetres from f to t
 
--- it is w - d shares of f and d shares of t
+-- it is w - d times f plus d times t
 shares : (w d : ℕ) (f t : ℤ) → d ≤ w → pos w *ℤ f +ℤ pos d *ℤ (t -ℤ f) ≡ pos (w - d) *ℤ f +ℤ pos d *ℤ t
 shares w d f t h =
     let is : (w - d) + d ≡ w = omega arith in
@@ -39,7 +39,7 @@ shares w d f t h =
     let there : pos d *ℤ ((t -ℤ f) +ℤ f) ≡ pos d *ℤ t = ap (λ z. pos d *ℤ z) back in
     omega (arith, ints, whole, there, sum_times (w - d) d f, times_sum d (t -ℤ f) f)
 
--- so it stays within w times a bound of both
+-- so it is within w times a bound of both
 pub along_within : (w d b : ℕ) (f t : ℤ) → d ≤ w → IsWithin b f → IsWithin b t →
     IsWithin (w * b) (pos w *ℤ f +ℤ pos d *ℤ (t -ℤ f))
 along_within w d b f t h p q =

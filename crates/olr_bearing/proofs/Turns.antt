@@ -1,4 +1,4 @@
--- A quarter turn of a direction turns its sector, so that the sectors of one quarter give those of the others.
+-- A quarter turn of a direction turns its sector, so the sectors of one quarter determine those of the others.
 use Rattle.std.proofs.Common.{◌≡◌, ℕ, suc, ◌+◌, ◌<◌, ℤ, pos, ◌-ℤ◌, ◌*ℤ◌, neg_ℤ, ◌<ℤ◌, ◌&&◌, map, take, drop, get_or}
 use Rattle.std.proofs.Common.{IsTrue, refl, sym, ap, ◌∙◌, subst, arith}
 use Rattle.std.proofs.lemmas.Int.{ints}
@@ -60,14 +60,14 @@ sector_turned a b e n j k s p q h is =
 
 -- ---- the sector of a direction
 
--- a direction's own sector
+-- the sector of a direction
 pub in_sector : (e n : ℤ) (k : ℕ) → k ≡ sector e n → ¬ ((e ≡ pos 0) × (n ≡ pos 0)) → IsSector e n k
 in_sector e n k is ne = subst (IsSector e n) (sym is) (sector_is e n ne)
 
 pub nowhere_sector : (e n : ℤ) → e ≡ pos 0 → n ≡ pos 0 → 0 ≡ sector e n
 nowhere_sector e n p q = sym (ap (λ d. sector d n) p ∙ ap (sector (pos 0)) q)
 
--- ---- the four quarters, from the sector of the direction (a, b) of the first
+-- ---- the four quarters, from the sector of the direction (a, b) in the first
 
 the_sector : (e n : ℤ) (k : ℕ) → ¬ ((e ≡ pos 0) × (n ≡ pos 0)) → IsSector e n k → k ≡ sector e n
 the_sector e n k ne s = one_sector e n k (sector e n) s (sector_is e n ne)

@@ -1,4 +1,4 @@
--- How a scaled place is coded, for an `impl Model` whose value it is.
+-- How a scaled coordinate is stored as one value, for each `impl Model` with such a value.
 use Rattle.std.specs.Prelude.{ℕ, ℤ}
 use Rattle.std.specs.Coded.{Coded, code_by, coded_ℕ, coded_ℤ, coded×}
 use Rattle.std.proofs.Common.{refl}

@@ -1,4 +1,4 @@
--- A line with its ends, as the definitions of bearings see it.
+-- A line with its ends, as the definitions of bearings use it.
 use Rattle.olr_spec.specs.Map.{Line}
 use Rattle.olr_spec.specs.Bearings.{Leg}
 use Rattle.olr_bearing.specs.declared.places.Ends.{Ends}

@@ -1,9 +1,9 @@
--- What the numbers of this crate stay within, so that no product leaves 128 bits.
+-- The ranges of this crate's numbers, in which no product exceeds 128 bits.
 --     IsWithin most z      at most `most` either way
---     IsFactor z      a factor of the cosine: at most 32,400,000,000 and the square of 90,000
+--     IsFactor z      a factor of the cosine: at most 32,400,000,000 plus the square of 90,000
 --     IsPart z      a direction's part to the east or to the north: at most 10^31 either way
---     degree_units n      n degrees in units.
---     IsInRange s      a scaled place whose coordinates are in range
+--     degree_units n      n degrees in units
+--     IsInRange s      a scaled coordinate whose longitude and latitude are in range
 use Rattle.std.specs.Prelude.{ℕ, ◌^◌, ◌*◌, ℤ, pos, neg_ℤ, ◌≤ℤ◌}
 use Rattle.olr_spec.specs.Bearings.{Scaled}
 

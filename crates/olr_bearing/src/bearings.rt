@@ -10,13 +10,13 @@ use crate::sectors::sector;
 use olr_coords::Coord;
 use olr_map::Line;
 
-/// How much of a line its bearing is taken over, in decimetres: BEARDIST.
+/// BEARDIST, the length of a line over which its bearing is taken, in decimetres.
 const BEARING_DISTANCE: u32 = 200;
 /// A thousandth of a degree, in units.
 const THOUSANDTH: i64 = 327_680_000;
 
-/// The bearing of a point where a good line leaves: the sector, 0 to 31, of the direction from the line's begin to the
-/// place 200 dm along it, or to its end where it is shorter.
+/// The bearing at a location reference point (LRP) that a good line leaves: the sector, 0 to 31, of the direction from
+/// the line's start to the coordinate 200 dm along it, or to its end if it is shorter (White Paper, bearing attribute).
 pub fn bearing_out(line: &Line, ends: Ends) -> u8
     requires { IsTrue (is_good line.now) }
     ensures value { result ≡ bearing_out (leg_between line.now ends) }
@@ -26,8 +26,8 @@ pub fn bearing_out(line: &Line, ends: Ends) -> u8
     bearing(ends.from, place(line, ends, at))
 }
 
-/// The bearing of a last point, where a good line comes in: the sector, 0 to 31, of the direction from the line's end
-/// back to the place 200 dm before it, or to its begin where it is shorter.
+/// The bearing at the last LRP, which a good line enters: the sector, 0 to 31, of the direction from the line's end to
+/// the coordinate 200 dm before it, or to its start if it is shorter (White Paper, bearing attribute).
 pub fn bearing_back(line: &Line, ends: Ends) -> u8
     requires { IsTrue (is_good line.now) }
     ensures value { result ≡ bearing_back (leg_between line.now ends) }
@@ -37,7 +37,7 @@ pub fn bearing_back(line: &Line, ends: Ends) -> u8
     bearing(ends.to, place(line, ends, at))
 }
 
-/// The sector of the direction from `origin` to `place`. The part to the east is shortened by the cosine of the
+/// The sector of the direction from `origin` to `place`. The part to the east is multiplied by the cosine of the
 /// origin's latitude.
 fn bearing(origin: Coord, place: Scaled) -> u8
     requires short { place.width ≤ 1000000 }
@@ -52,7 +52,7 @@ fn bearing(origin: Coord, place: Scaled) -> u8
     sector(east, north)
 }
 
-/// A part of a direction: how far a coordinate, times `width`, lies from `origin`, times a factor of the cosine.
+/// A part of a direction: a coordinate scaled by `width`, minus `width` times `origin`, times a factor of the cosine.
 fn part(factor: i128, scaled: i128, width: u32, origin: i64) -> i128
     requires factor { IsFactor factor }
     requires short { width ≤ 1000000 }
@@ -64,15 +64,15 @@ fn part(factor: i128, scaled: i128, width: u32, origin: i64) -> i128
     factor * (scaled - i128::from(width) * i128::from(origin))
 }
 
-/// A cosine above 0, as the quotient of two whole numbers.
+/// A cosine greater than 0, as the quotient of two whole numbers.
 #[derive(Clone, Copy)]
 struct Cosine {
     numerator: i128,
     denominator: i128,
 }
 
-/// The cosine of a place's latitude (profile): for `x` degrees Bhaskara's `4 (8100 - x^2) / (32400 + x^2)`, with `x` in
-/// whole thousandths, cut toward zero.
+/// The cosine of a coordinate's latitude, approximated (profile): for `x` degrees Bhaskara's
+/// `4 (8100 - x^2) / (32400 + x^2)`, with `x` in whole thousandths, rounded toward zero.
 fn cosine_at(place: Coord) -> Cosine
     ensures numerator { let m = thousandths place.lat in result.numerator ≡ pos 4 *ℤ (pos 8100000000 -ℤ m *ℤ m) }
     ensures denominator { let m = thousandths place.lat in result.denominator ≡ pos 32400000000 +ℤ m *ℤ m }

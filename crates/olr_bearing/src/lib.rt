@@ -1,7 +1,8 @@
-//! Bearings: places on a line, the 32 sectors of the compass, and the sectors in which a line leaves its begin
-//! and its end. A bearing is the attribute BEAR of a location reference point, taken over BEARDIST, 20 m of the
-//! line (OpenLR White Paper, version 1.5 rev 2). That it is found in whole numbers, by boundaries and a cosine that
-//! are whole, is this project's profile. No number leaves 128 bits and no call takes memory.
+//! Bearings: coordinates along a line, the 32 sectors of the compass, and the sectors of a line's direction from its
+//! start and back from its end. A bearing is the attribute BEAR of a location reference point (LRP), taken over
+//! BEARDIST, which is 20 m of the line (OpenLR White Paper, version 1.5 rev 2). The calculation in whole numbers, with
+//! boundaries of whole numbers and the cosine as a quotient of two, is this project's profile. All numbers fit 128
+//! bits, and no call allocates.
 #![tactic(auto)]
 
 mod bearings;

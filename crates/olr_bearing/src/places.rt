@@ -1,4 +1,4 @@
-//! Places on a line.
+//! Coordinates along a line.
 ghost use Rattle.std.specs.Prelude.{◌≡◌, ◌<◌, ◌≤◌, IsTrue, pos, ◌+ℤ◌, ◌-ℤ◌, ◌*ℤ◌};
 ghost use Rattle.olr_spec.specs.Map.{is_good};
 ghost use Rattle.olr_spec.specs.Bearings.{scaled_place, scaled_between};
@@ -9,16 +9,16 @@ use olr_coords::Coord;
 use olr_map::{Line, Shape};
 use std::marker::Model;
 
-/// The places of a line's two ends.
+/// The coordinates of a line's two ends.
 #[derive(Clone, Copy, Debug, PartialEq, Eq)]
 pub struct Ends {
-    /// Where the line begins.
+    /// Where the line starts.
     pub from: Coord,
     /// Where it ends.
     pub to: Coord,
 }
 
-/// A place, times a width: so a place between two shape points is whole.
+/// A coordinate times a width, so that a coordinate between two shape points is whole.
 #[derive(Clone, Copy, Debug, PartialEq, Eq)]
 pub struct Scaled {
     /// The longitude in units of 1/327,680,000,000 degree, times the width.
@@ -42,8 +42,8 @@ impl Model for Scaled {
     ghost inverse = { λ s. record { lon = s.lon; lat = s.lat; width = s.width } };
 }
 
-/// The place `at` decimetres along a good line, at most the line's length. Places between neighbouring shape points
-/// are linear. At a shape point the interval is the one that ends there.
+/// The coordinate `at` decimetres along a good line, at most the line's length. Between neighbouring shape points the
+/// line is straight. At a shape point the interval is the one that ends there.
 pub fn place(line: &Line, ends: Ends, at: u32) -> Scaled
     requires good { IsTrue (is_good line.now) }
     requires on_line { at ≤ line.now.len }
@@ -69,7 +69,7 @@ pub fn place(line: &Line, ends: Ends, at: u32) -> Scaled
     place_between(from, end, at)
 }
 
-/// The place `at` decimetres along a line, on the straight way between two neighbouring shape points.
+/// The coordinate `at` decimetres along a line, on the straight line between two neighbouring shape points.
 fn place_between(from: Shape, to: Shape, at: u32) -> Scaled
     requires wide { from.at < to.at }
     requires low { from.at ≤ at }
@@ -86,7 +86,7 @@ fn place_between(from: Shape, to: Shape, at: u32) -> Scaled
     }
 }
 
-/// The coordinate that lies `done` of `width` decimetres on from `from` to `to`, times `width`.
+/// The longitude or latitude at `done` of `width` decimetres from `from` to `to`, times `width`.
 fn along(from: i64, to: i64, done: u32, width: u32) -> i128
     ensures { result ≡ pos width *ℤ from +ℤ pos done *ℤ (to -ℤ from) }
 {

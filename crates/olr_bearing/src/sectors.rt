@@ -15,7 +15,7 @@ const TANGENT_33: i128 = 668_179;
 /// The sector of a direction, from its parts to the east and to the north: 0 to 31, clockwise from north. Both parts
 /// are at most 10^31 either way.
 ///
-/// A direction on a boundary belongs to the sector that begins there, and (0, 0) to sector 0 (profile).
+/// A direction on a boundary belongs to the sector that starts there, and (0, 0) to sector 0 (profile).
 pub fn sector(east: i128, north: i128) -> u8
     requires east { IsPart east }
     requires north { IsPart north }
@@ -36,7 +36,7 @@ pub fn sector(east: i128, north: i128) -> u8
     }
 }
 
-/// The sector of a direction of the first quarter, from north on and before east.
+/// The sector of a direction in the first quarter, from north to before east.
 fn quarter_sector(east: i128, north: i128) -> u8
     requires east { IsPart east }
     requires north { IsPart north }

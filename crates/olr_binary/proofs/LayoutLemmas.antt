@@ -1,4 +1,4 @@
--- The places of the parts of a reference.
+-- The indices of the parts of a reference.
 use Rattle.std.proofs.Common.{◌≡◌, ℕ, zero, suc, ◌+◌, ◌-◌, ◌*◌, ◌/◌, ◌<◌, ◌≤◌, Bool, true, false, not, ◌||◌, ◌==◌}
 use Rattle.std.proofs.Common.{nat_lt, if◌then◌else◌, List, length, Some, None, nat_le, slice_index, refl, sym, subst}
 use Rattle.std.proofs.Common.{◌∙◌, arith, add-zero}
@@ -9,11 +9,11 @@ use Rattle.olr_spec.specs.Bytes.{Length, Status, Flags, Reserved, status_byte, b
 use Rattle.olr_spec.specs.Bytes.{has_reserved, v3_fault}
 use Rattle.olr_binary.specs.Layout.{IsLayout}
 
--- some of the attribute bytes 1 of n points, of which the first stands at place i, has a reserved bit
+-- of n LRPs, the first of which has its attribute byte 1 at index i, some attribute byte 1 has a reserved bit
 abbrev pub some_reserved : List ℕ → ℕ → ℕ → Bool
 some_reserved b i n = list_any (λ a. nat_le 64 a) (attribute1_bytes b i n)
 
--- a byte with no such bit is passed
+-- a byte without a reserved bit can be skipped
 pub some_reserved-more : (b : List ℕ) (i n : ℕ) → i < n → slice_index b (7 + 7 * i) < 64 →
     some_reserved b (7 + 7 * (i + 1)) (n - (i + 1)) ≡ some_reserved b (7 + 7 * i) (n - i)
 some_reserved-more b i n within low =
@@ -27,7 +27,7 @@ some_reserved-none b i n k past =
     let left : n - k ≡ 0 = omega arith in
     rw left refl
 
--- each byte is free of them
+-- each byte has no reserved bit
 pub some_reserved-at : (b : List ℕ) (i n : ℕ) → some_reserved b i n ≡ false → (k : ℕ) → k < n →
     slice_index b (i + 7 * k) < 64
 some_reserved-at b i zero none k within = absurd (omega arith)
@@ -52,7 +52,7 @@ module _ (b : List ℕ) (m o : ℕ) (w : IsLayout b m o) where
       let more : m + 2 ≡ suc (m + 1) = omega arith in
       rw (more, extra-is, count-is) refl
 
--- what bytes with no fault are
+-- what holds of bytes without a fault
 pub record HasNoFault (b : List ℕ) : Type 0 where
   pub state : slice_index b 0 ≡ status_byte
   pub flags : bit 6 (flags_of b) + bit 5 (flags_of b) ≡ extra b
@@ -80,9 +80,9 @@ no_fault b e =
       reserved = t.2;
     }
 
--- places of attribute bytes
+-- indices of attribute bytes
 module _ (b : List ℕ) (m o : ℕ) (w : IsLayout b m o) (e : v3_fault b ≡ None) where
-  -- byte 1 of point k, of all points
+  -- attribute byte 1 of LRP k, of all LRPs
   pub low_attribute1 : (k : ℕ) → k < m + 2 → slice_index b (7 + 7 * k) < 64
   low_attribute1 k within =
       let none = (or_parts (some_reserved b 7 (m + 2)) _ (sym (has_reserved-is b m o w) ∙ (no_fault b e).reserved)).0 in

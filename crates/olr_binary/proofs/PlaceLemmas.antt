@@ -1,4 +1,4 @@
--- Places that relative steps lead to.
+-- Coordinates after relative steps.
 use Rattle.std.proofs.Common.{◌≡◌, ℕ, ◌+◌, ◌<◌, ◌≤◌, ℤ, pos, ◌+ℤ◌, List, [], ◌∷◌, ◌++◌, length, map, take, get_or}
 use Rattle.std.proofs.Common.{nat_le, true, Some, sym, ap, ◌∙◌, arith, length-append}
 use Rattle.std.proofs.lemmas.Int.{ints}
@@ -21,7 +21,7 @@ steps_sum-push (y ∷ ys) z =
     ap (λ (n : ℤ). from_rel16 y +ℤ n) (steps_sum-push ys z)
     ∙ sym (+ℤ_assoc (from_rel16 y) (steps_sum ys) (from_rel16 z))
 
--- one more point
+-- one more LRP
 pub place-more : (a : ℤ) (f : Middle → ℤ) (ps : List Middle) (i : ℕ) (p : Middle) → i < length ps → p ≡ get_or ps i p
     → a +ℤ steps_sum (map f (take i ps)) +ℤ from_rel16 (f p) ≡ a +ℤ steps_sum (map f (take (i + 1) ps))
 place-more a f ps i p within is =
@@ -49,7 +49,7 @@ module _ (a : ℤ) (f : Middle → ℤ) (ps : List Middle) (z : ℤ) (k : ℕ) w
       ap (λ (zs : List ℤ). a +ℤ steps_sum zs) whole ∙ ap (λ (n : ℤ). a +ℤ n) (steps_sum-push (map f ps) z)
       ∙ sym (+ℤ_assoc a (steps_sum (map f ps)) (from_rel16 z))
 
--- a point before the last
+-- an LRP before the last
 pub decoded-between : (r : Reference) (k : ℕ) → k ≤ length r.middle
     → decoded r k ≡ Some (
       from_abs24 r.first.lon +ℤ steps_sum (map (λ m. m.dlon) (take k r.middle)),
@@ -61,7 +61,7 @@ decoded-between r k within =
     let lat = axis-between (from_abs24 r.first.lat) (λ m. m.dlat) r.middle r.last.dlat k within in
     rw test (λ i. Some (lon i, lat i))
 
--- the last point
+-- the last LRP
 pub decoded-last : (r : Reference) (k : ℕ) → k ≡ length r.middle + 1
     → decoded r k
     ≡ Some (

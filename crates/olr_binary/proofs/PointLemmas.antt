@@ -1,4 +1,4 @@
--- Points read of their bytes.
+-- LRPs decoded from their bytes.
 use Rattle.std.proofs.Common.{◌≡◌, ℕ, zero, suc, ◌+◌, ◌<◌, ◌≤◌, ◌*◌, List, [], ◌∷◌, ◌++◌, length, drop, slice_index}
 use Rattle.std.proofs.Common.{slice_range, get_or, refl, sym, ap, ◌∙◌, arith}
 use Rattle.std.specs.List.{AllByRecursion, flat_map}
@@ -31,7 +31,7 @@ pub AllByRecursion-push : {X : Type 0} (P : X → Type 0) (xs : List X) (x : X) 
 AllByRecursion-push P [] x all p = (p, tt)
 AllByRecursion-push P (y ∷ ys) x all p = (all.0, AllByRecursion-push P ys x all.1 p)
 
--- one more point between
+-- one more LRP between the first and the last
 pub flat_map-push : (b : List ℕ) (i : ℕ) (ps : List Middle) (p : Middle) →
     flat_map middle_bytes ps ≡ slice_range b 10 (10 + 7 * i) →
     middle_bytes p ≡ slice_range b (10 + 7 * i) (10 + 7 * i + 7)
@@ -46,7 +46,7 @@ head_of : (b : List ℕ) → 0 < length b → slice_range b 0 1 ≡ slice_index 
 head_of [] some = absurd (omega arith)
 head_of (x ∷ xs) some = refl
 
--- the parts make the whole
+-- the parts together are the bytes of the reference
 pub spelling-parts : (b : List ℕ) (m : ℕ) (r : Reference) → 10 + 7 * m ≤ length b → slice_index b 0 ≡ status_byte →
     first_bytes r.first ≡ slice_range b 1 10
     → flat_map middle_bytes r.middle ≡ slice_range b 10 (10 + 7 * m) →

@@ -1,4 +1,4 @@
--- The bytes of a reference have no fault.
+-- The bytes that a reference encodes as have no fault.
 use Rattle.std.proofs.Common.{◌≡◌, ℕ, zero, suc, ◌%◌, ◌<◌, List, [], ◌∷◌, ◌++◌, Option, Some, None, IsSome, IfSome}
 use Rattle.std.proofs.Common.{IfErr, Result, Ok, Err, slice_index, sym, ap, ◌∙◌, arith}
 use Rattle.std.specs.List.{AllByRecursion, flat_map}
@@ -21,7 +21,7 @@ unspelled b (Err f) told =
     let never : ⊥ = cc (some, none) in
     never
 
--- ---- each is a byte
+-- ---- each element is a byte
 
 both : (xs ys : List ℕ) → AreBytes xs → AreBytes ys → AreBytes (xs ++ ys)
 both [] ys a b = b

@@ -1,4 +1,4 @@
--- The text of a reference, read again.
+-- The text of a reference decodes to this reference.
 use Rattle.std.proofs.Common.{◌≡◌, ℕ, List, Some, None, IfErr, Result, Ok, Err, refl, sym, ap, ◌∙◌}
 use Rattle.base64.specs.Engines.{standard}
 use Rattle.base64.specs.GeneralPurpose.{decode_of}

@@ -1,4 +1,4 @@
--- How the fields of a reference are coded, for an `impl Model` whose value they are.
+-- How the fields of a reference are stored as one value, for each `impl Model` with such a value.
 use Rattle.std.specs.Prelude.{ℕ, ℤ, List, Option}
 use Rattle.std.specs.Coded.{Coded, code_by, coded_ℕ, coded_ℤ, coded_list, coded_option, coded×}
 use Rattle.std.proofs.Common.{refl}
@@ -28,7 +28,7 @@ coded_last =
     (λ p. record { dlon = p.0; dlat = p.1.0; frc = p.1.1.0; fow = p.1.1.1.0; bearing = p.1.1.1.1 })
     (λ _. refl)
 
--- a reference of its parts
+-- a reference from its parts
 abbrev pub reference_from : First → List Middle → Last → Option ℕ → Option ℕ → Reference
 reference_from first middle last positive negative =
     record { first = first; middle = middle; last = last; pos = positive; neg = negative }

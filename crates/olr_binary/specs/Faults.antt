@@ -10,7 +10,7 @@ use Rattle.olr_binary.specs.declared.faults.V3Fault.TheVariants.{Length, Status,
 use Rattle.olr_binary.specs.declared.faults.TextFault.{TextFault}
 use Rattle.olr_binary.specs.declared.faults.TextFault.TheVariants.{Bytes, NotBase64}
 
--- what is wrong with the bytes; want of memory tells nothing of them
+-- what is wrong with the bytes; out of memory says nothing about them
 abbrev pub bytes_fault_of : V3Fault → Option Fault
 bytes_fault_of Length = Some Wrong_length
 bytes_fault_of Status = Some Wrong_status
@@ -18,13 +18,13 @@ bytes_fault_of Flags = Some Wrong_flags
 bytes_fault_of Reserved = Some Bits_reserved
 bytes_fault_of Memory = None
 
--- what is wrong with the text: its bytes have that fault, or it encodes none
+-- what is wrong with the text: it decodes to bytes with that fault, or it isn't base64
 abbrev pub IsFaultOf : List ℕ → TextFault → Type 0
 IsFaultOf text (Bytes Memory) = Unit {0}
 IsFaultOf text (Bytes f) = (b : List ℕ) × (decode_of standard text ≡ Ok b) × (v3_fault b ≡ bytes_fault_of f)
 IsFaultOf text NotBase64 = (e : DecodeError) × (decode_of standard text ≡ Err e)
 
--- the fault says something of the text
+-- the fault says something about the text
 abbrev pub IsOfText : TextFault → Type 0
 IsOfText (Bytes Memory) = ⊥
 IsOfText f = Unit {0}

@@ -1,5 +1,5 @@
 -- References as text: the standard base64 of their bytes.
---     IsTextOf r text      the text is the one of the reference
+--     IsTextOf r text      the reference encodes as the text
 use Rattle.std.specs.Prelude.{◌≡◌, ℕ, List}
 use Rattle.base64.specs.Engines.{standard}
 use Rattle.base64.specs.GeneralPurpose.{encode_of}

@@ -1,4 +1,4 @@
-//! The attribute bytes, and numbers of 24 bits.
+//! The attribute bytes, and numbers of 24 and 16 bits.
 ghost use Rattle.std.specs.Prelude.{◌≡◌, ◌<◌, IsTrue};
 ghost use Rattle.std.specs.Int.{from_bool};
 ghost use Rattle.olr_spec.specs.Coordinates.{fits16};
@@ -9,7 +9,7 @@ const POSITIVE: u8 = 6;
 /// The bit of attribute byte 4 that flags a negative offset.
 const NEGATIVE: u8 = 5;
 
-/// A number in three bytes, the highest first.
+/// A number as three bytes, high byte first.
 pub(crate) fn signed24(value: i32) -> [u8; 3]
     requires { IsTrue (fits24 value) }
     ensures { result ≡ signed24 value }
@@ -18,14 +18,14 @@ pub(crate) fn signed24(value: i32) -> [u8; 3]
     [high, middle, low]
 }
 
-/// A number in two bytes, the highest first.
+/// A number as two bytes, high byte first.
 pub(crate) fn signed16(value: i16) -> [u8; 2]
     ensures { result ≡ signed16 value }
 {
     value.to_be_bytes()
 }
 
-/// Attribute byte 1: the functional road class in bits 5 to 3, the form of way in bits 2 to 0.
+/// Attribute byte 1: the functional road class (FRC) in bits 5 to 3, the form of way (FOW) in bits 2 to 0.
 pub(crate) fn attribute1(frc: u8, fow: u8) -> u8
     requires frc { frc < 8 }
     requires fow { fow < 8 }
@@ -34,7 +34,7 @@ pub(crate) fn attribute1(frc: u8, fow: u8) -> u8
     (frc << 3) | fow
 }
 
-/// Attribute byte 2: the lowest class on the way to the next point in bits 7 to 5, the bearing in bits 4 to 0.
+/// Attribute byte 2: the lowest FRC to the next point (LFRCNP) in bits 7 to 5, the bearing in bits 4 to 0.
 pub(crate) fn attribute2(lfrc: u8, bearing: u8) -> u8
     requires lfrc { lfrc < 8 }
     requires bearing { bearing < 32 }
@@ -53,7 +53,7 @@ pub(crate) fn attribute4(pos: Option<u8>, neg: Option<u8>, bearing: u8) -> u8
     positive | negative | bearing
 }
 
-/// The number that three bytes write, the highest first.
+/// The number of three bytes, high byte first.
 pub(crate) fn read_signed24(bytes: [u8; 3]) -> i32
     ensures spelled { signed24 result ≡ bytes }
     ensures fits { IsTrue (fits24 result) }
@@ -67,7 +67,7 @@ pub(crate) fn read_signed24(bytes: [u8; 3]) -> i32
     }
 }
 
-/// The number that two bytes write, the highest first.
+/// The number of two bytes, high byte first.
 pub(crate) fn read_signed16(bytes: [u8; 2]) -> i16
     ensures spelled { signed16 result ≡ bytes }
     ensures fits { IsTrue (fits16 result) }
@@ -75,7 +75,7 @@ pub(crate) fn read_signed16(bytes: [u8; 2]) -> i16
     i16::from_be_bytes(bytes)
 }
 
-/// The functional road class and the form of way of attribute byte 1.
+/// The FRC and the FOW of attribute byte 1.
 pub(crate) fn read_attribute1(byte: u8) -> (u8, u8)
     requires { byte < 64 }
     ensures spelled { attribute1 result.0 result.1 ≡ byte }
@@ -85,7 +85,7 @@ pub(crate) fn read_attribute1(byte: u8) -> (u8, u8)
     (byte >> 3, byte & 0b111)
 }
 
-/// The lowest class on the way to the next point and the bearing of attribute byte 2.
+/// The LFRCNP and the bearing of attribute byte 2.
 pub(crate) fn read_attribute2(byte: u8) -> (u8, u8)
     ensures spelled { attribute2 result.0 result.1 ≡ byte }
     ensures lfrc { result.0 < 8 }

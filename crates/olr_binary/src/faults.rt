@@ -1,32 +1,32 @@
-//! Why bytes or a text give no reference.
+//! Why bytes or a text do not decode to a reference.
 
-/// Why bytes give no reference. Of several faults the first is told, in this order.
+/// Why bytes do not decode to a reference. Of several faults the first in this order is returned.
 #[derive(Clone, Copy, Debug, PartialEq, Eq, thiserror::Error)]
 pub enum V3Fault {
-    /// No reference has so many bytes.
+    /// No reference has this number of bytes.
     #[error("wrong number of bytes")]
     Length,
-    /// The status byte tells another version, or no attributes.
+    /// The status byte is that of another version, or of a reference without attributes.
     #[error("wrong status byte")]
     Status,
-    /// There are more or fewer offset flags than offset bytes.
+    /// The number of offset flags is not the number of offset bytes.
     #[error("offset flags do not match the offset bytes")]
     Flags,
-    /// A bit is set that is always 0.
+    /// A reserved bit is set.
     #[error("a reserved bit is set")]
     Reserved,
-    /// A growth was refused.
+    /// An allocation failed.
     #[error("out of memory")]
     Memory,
 }
 
-/// Why a text gives no reference.
+/// Why a text does not decode to a reference.
 #[derive(Clone, Copy, Debug, PartialEq, Eq, thiserror::Error)]
 pub enum TextFault {
-    /// Its bytes spell none, or memory was refused, also while the text was read.
+    /// The fault of its bytes, or `Memory` if an allocation failed in decoding the text or its bytes.
     #[error(transparent)]
     Bytes(V3Fault),
-    /// It is no base64.
+    /// It is not base64.
     #[error("not base64")]
     NotBase64,
 }

@@ -1,18 +1,19 @@
 //! The fields of a line location reference.
 use std::marker::Model;
 
-/// What is published of each point but the last, of the line that leaves it and of the way to the next point.
+/// The attributes of each location reference point (LRP) but the last: of the line that leaves it, and of the leg to
+/// the next.
 #[derive(Clone, Copy, Debug, PartialEq, Eq)]
 pub struct Attrs {
-    /// The functional road class of the line, from 0 to 7; 0 is the most important.
+    /// The functional road class (FRC) of the line, from 0 to 7; 0 is the most important.
     pub frc: u8,
-    /// The form of way of the line, from 0 to 7.
+    /// The form of way (FOW) of the line, from 0 to 7.
     pub fow: u8,
-    /// The lowest functional road class on the way to the next point, so the greatest number, from 0 to 7.
+    /// The lowest FRC to the next point (LFRCNP): the greatest class number of the leg, from 0 to 7.
     pub lfrc: u8,
     /// The sector of the bearing, from 0 to 31, each of 11.25 degrees, clockwise from north.
     pub bearing: u8,
-    /// The distance to the next point, in steps of 58.6 m, rounded down (profile).
+    /// The distance to the next point (DNP), in steps of 58.6 m, rounded down (profile).
     pub dnp: u8,
 }
 
@@ -29,7 +30,7 @@ impl Model for Attrs {
     ghost inverse = { λ a. record { frc = a.frc; fow = a.fow; lfrc = a.lfrc; bearing = a.bearing; dnp = a.dnp } };
 }
 
-/// The first point.
+/// The first LRP.
 #[derive(Clone, Copy, Debug, PartialEq, Eq)]
 pub struct First {
     /// The longitude, in 24-bit steps of 360 degrees / 2^24.
@@ -53,12 +54,12 @@ impl Model for First {
     ghost inverse = { λ p. record { lon = p.lon; lat = p.lat; attrs = p.attrs } };
 }
 
-/// A point between the first and the last.
+/// An LRP between the first and the last.
 #[derive(Clone, Copy, Debug, PartialEq, Eq)]
 pub struct Middle {
-    /// The longitude less that of the point before, in steps of 10^-5 degree.
+    /// The longitude minus that of the LRP before, in steps of 10^-5 degree.
     pub dlon: i16,
-    /// The latitude less that of the point before, in the same steps.
+    /// The latitude minus that of the LRP before, in the same steps.
     pub dlat: i16,
     /// The attributes.
     pub attrs: Attrs,
@@ -77,16 +78,16 @@ impl Model for Middle {
     ghost inverse = { λ p. record { dlon = p.dlon; dlat = p.dlat; attrs = p.attrs } };
 }
 
-/// The last point, with what is published of the line that enters it.
+/// The last LRP, with the attributes of the line that enters it.
 #[derive(Clone, Copy, Debug, PartialEq, Eq)]
 pub struct Last {
-    /// The longitude less that of the point before, in steps of 10^-5 degree.
+    /// The longitude minus that of the LRP before, in steps of 10^-5 degree.
     pub dlon: i16,
-    /// The latitude less that of the point before, in the same steps.
+    /// The latitude minus that of the LRP before, in the same steps.
     pub dlat: i16,
-    /// The functional road class of the line, from 0 to 7.
+    /// The functional road class (FRC) of the line, from 0 to 7.
     pub frc: u8,
-    /// The form of way of the line, from 0 to 7.
+    /// The form of way (FOW) of the line, from 0 to 7.
     pub fow: u8,
     /// The sector of the bearing back along the line, from 0 to 31.
     pub bearing: u8,
@@ -108,15 +109,15 @@ impl Model for Last {
 /// A line location reference. Its fields fit the bits that the binary format has for them.
 #[derive(Debug, Drop)]
 pub struct Reference {
-    /// The first point.
+    /// The first LRP.
     pub first: First,
-    /// The points between, in order.
+    /// The LRPs between, in order.
     pub middle: Vec<Middle>,
-    /// The last point.
+    /// The last LRP.
     pub last: Last,
-    /// Where there is one, the positive offset in 256ths of the first stretch, rounded down.
+    /// The positive offset, if there is one, in 256ths of the first leg, rounded down.
     pub pos: Option<u8>,
-    /// Where there is one, the negative offset in 256ths of the last stretch, rounded down.
+    /// The negative offset, if there is one, in 256ths of the last leg, rounded down.
     pub neg: Option<u8>,
 }
 

@@ -1,6 +1,6 @@
 //! Line location references in the binary physical format of OpenLR, version 3, and as base64 text: their fields
-//! (`fields`), their bytes (`write`, `read`), their text (`text`), and where their points lie (`places`). Bytes and
-//! references spell each other, and so do texts: what is written is read again as it was, and the other way round.
+//! (`fields`), their bytes (`write`, `read`), their text (`text`), and the decoded coordinates of their location
+//! reference points, LRPs (`places`). Encoding and decoding are inverse to each other, for bytes and for texts.
 #![tactic(auto)]
 
 mod bits;

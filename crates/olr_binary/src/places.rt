@@ -1,4 +1,4 @@
-//! Where the points of a reference lie, as far as its fields tell it.
+//! The coordinates of the LRPs of a reference, decoded from its fields.
 ghost use Rattle.std.specs.Prelude.{◌≡◌, ◌+◌, ◌*◌, ◌^◌, ◌≤◌, ◌+ℤ◌, length, map, nat_abs};
 ghost use Rattle.olr_spec.specs.Coordinates.{from_abs24, from_rel16};
 ghost use Rattle.olr_spec.specs.Bytes.{IsFirst};
@@ -7,7 +7,7 @@ ghost use Rattle.olr_spec.specs.Decoded.{decoded, steps_sum};
 use crate::fields::{First, Middle, Reference};
 use olr_coords::{from_abs24, from_rel16};
 
-/// A coordinate, in units, moved on by relative steps.
+/// A coordinate, in units, plus relative steps.
 fn after_steps(coordinate: i128, steps: i16) -> i128
     requires { nat_abs coordinate ≤ 2 ^ 120 }
     ensures value { result ≡ coordinate +ℤ from_rel16 steps }
@@ -16,7 +16,7 @@ fn after_steps(coordinate: i128, steps: i16) -> i128
     coordinate + i128::from(from_rel16(steps))
 }
 
-/// The longitude and the latitude, in units, to which the points between lead on from the first one.
+/// The longitude and the latitude, in units, of the first LRP plus the relative steps of the LRPs between.
 fn way(first: First, points: &[Middle]) -> (i128, i128)
     requires { IsFirst first }
     ensures lon { result.0 ≡ from_abs24 first.lon +ℤ steps_sum (map (λ m. m.dlon) points.now) }
@@ -33,8 +33,8 @@ fn way(first: First, points: &[Middle]) -> (i128, i128)
     (lon, lat)
 }
 
-/// The longitude and the latitude, in units, of point `k` of a reference, counted from 0: those of the first by its
-/// 24-bit steps, those of each later one by adding its relative steps. None exactly past the last point.
+/// The longitude and the latitude, in units, of LRP `k` of a reference, counted from 0: the first LRP by its 24-bit
+/// steps, each later one by adding its relative steps (White Paper, binary format). None exactly after the last LRP.
 pub fn decoded(reference: &Reference, k: usize) -> Option<(i128, i128)>
     ensures { result ≡ decoded reference.now k }
 {

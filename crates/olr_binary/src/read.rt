@@ -1,4 +1,4 @@
-//! Reading version 3.
+//! Decoding version 3.
 ghost use Rattle.std.specs.Prelude.{◌≡◌, ◌+◌, ◌*◌, ◌<◌, [], ◌∷◌, ◌++◌, length, slice_index, slice_range, IsSome};
 ghost use Rattle.std.specs.Prelude.{IfSome, IfNone, IfOk, IfErr, OnOk};
 ghost use Rattle.std.specs.List.{AllByRecursion, flat_map};
@@ -17,24 +17,24 @@ use crate::fields::{Attrs, First, Last, Middle, Reference};
 use crate::write::STATUS;
 use std::alloc::{AllocError, Global};
 
-/// Bytes of a reference of two points and no offset.
+/// The number of bytes of a reference with two LRPs and no offset.
 const LEAST: usize = 16;
-/// The place of the first point.
+/// The index of the first LRP.
 const FIRST: usize = 1;
-/// The place of the point after it.
+/// The index of the LRP after it.
 const MIDDLE: usize = 10;
-/// Bytes of a point between.
+/// The number of bytes of an LRP between the first and the last.
 const POINT: usize = 7;
-/// Bytes of the last point.
+/// The number of bytes of the last LRP, without the offset bytes.
 const LAST: usize = 6;
-/// The place of attribute byte 1 of the first point. That of each later point stands `POINT` bytes further.
+/// The index of attribute byte 1 of the first LRP. That of each later LRP is `POINT` bytes later.
 const ATTRIBUTE_1: usize = 7;
-/// What attribute byte 1 stays below, and so keeps its reserved bits free.
+/// Attribute byte 1 is less than this if its reserved bits are 0.
 const ATTRIBUTE_1_END: u8 = 1 << 6;
-/// What attribute byte 4 stays below.
+/// Attribute byte 4 is less than this if its reserved bit is 0.
 const ATTRIBUTE_4_END: u8 = 1 << 7;
 
-/// Attributes, of their three bytes.
+/// Attributes, from their three bytes.
 fn read_attrs(one: u8, two: u8, dnp: u8) -> Attrs
     requires { one < 64 }
     ensures spelled { attr_bytes result ≡ one ∷ two ∷ dnp ∷ [] }
@@ -51,7 +51,7 @@ fn read_attrs(one: u8, two: u8, dnp: u8) -> Attrs
     }
 }
 
-/// The first point, of its nine bytes.
+/// The first LRP, from its nine bytes.
 fn read_first(bytes: &[u8]) -> First
     requires nine { length bytes.now ≡ 9 }
     requires reserved { slice_index bytes.now 6 < 64 }
@@ -79,7 +79,7 @@ fn read_first(bytes: &[u8]) -> First
     }
 }
 
-/// A point between, of its seven bytes.
+/// An LRP between the first and the last, from its seven bytes.
 fn read_middle(bytes: &[u8]) -> Middle
     requires seven { length bytes.now ≡ 7 }
     requires reserved { slice_index bytes.now 4 < 64 }
@@ -96,7 +96,7 @@ fn read_middle(bytes: &[u8]) -> Middle
     }
 }
 
-/// The offsets that attribute byte 4 flags, of their bytes.
+/// The offsets that attribute byte 4 flags, from their bytes.
 fn read_offsets(four: u8, bytes: &[u8]) -> (Option<u8>, Option<u8>)
     requires { length bytes.now ≡ bit 6 four + bit 5 four }
     ensures spelled { offset_bytes result.0 ++ offset_bytes result.1 ≡ bytes.now }
@@ -112,7 +112,7 @@ fn read_offsets(four: u8, bytes: &[u8]) -> (Option<u8>, Option<u8>)
     }
 }
 
-/// The last point and the offsets, of the six bytes of the point and the offset bytes.
+/// The last LRP and the offsets, from the six bytes of the LRP and the offset bytes.
 fn read_last(bytes: &[u8]) -> (Last, Option<u8>, Option<u8>)
     requires size { let four = slice_index bytes.now 5 in
         length bytes.now ≡ 6 + (bit 6 four + bit 5 four) }
@@ -137,16 +137,16 @@ fn read_last(bytes: &[u8]) -> (Last, Option<u8>, Option<u8>)
     (last, pos, neg)
 }
 
-/// What bytes of a right number hold.
+/// What bytes of a valid length hold.
 #[derive(Clone, Copy)]
 struct Layout {
-    /// The points between.
+    /// The number of LRPs between the first and the last.
     middle: usize,
-    /// The offset bytes.
+    /// The number of offset bytes.
     offsets: usize,
 }
 
-/// The layout of bytes. None where no reference has so many.
+/// The layout of bytes. None if no reference has so many.
 fn layout_of(bytes: &[u8]) -> Option<Layout>
     ensures some { IfSome result (λ l. IsLayout bytes.now l.middle l.offsets) }
     ensures none { IfNone result (v3_fault bytes.now ≡ Some Wrong_length) }
@@ -159,7 +159,7 @@ fn layout_of(bytes: &[u8]) -> Option<Layout>
     (layout.offsets <= 2).then_some(layout)
 }
 
-/// Whether a bit is set that is always 0.
+/// Whether a reserved bit is set.
 fn has_reserved(bytes: &[u8], layout: Layout) -> bool
     requires { IsLayout bytes.now layout.middle layout.offsets }
     ensures { result ≡ has_reserved bytes.now }
@@ -172,7 +172,7 @@ fn has_reserved(bytes: &[u8], layout: Layout) -> bool
     bytes[bytes.len() - 1 - layout.offsets] >= ATTRIBUTE_4_END
 }
 
-/// The layout of bytes that spell a reference, or else their first fault.
+/// The layout of bytes that decode to a reference, or else their first fault.
 fn check(bytes: &[u8]) -> Result<Layout, V3Fault>
     ensures ok { IfOk result (λ l. IsLayout bytes.now l.middle l.offsets) }
     ensures sound { OnOk result (v3_fault bytes.now ≡ None) }
@@ -193,7 +193,7 @@ fn check(bytes: &[u8]) -> Result<Layout, V3Fault>
     Ok(layout)
 }
 
-/// The points between.
+/// The LRPs between the first and the last.
 fn read_points(alloc: Global, bytes: &[u8], layout: Layout) -> Result<Vec<Middle>, AllocError>
     requires layout { IsLayout bytes.now layout.middle layout.offsets }
     requires sound { v3_fault bytes.now ≡ None }
@@ -209,8 +209,9 @@ fn read_points(alloc: Global, bytes: &[u8], layout: Layout) -> Result<Vec<Middle
     Ok(points)
 }
 
-/// The reference that bytes in version 3 spell, or else their first fault. `Memory` comes only for bytes without one.
-/// All other bytes are accepted as they are, coordinates past the poles and offset bytes of 0 among them.
+/// The reference that bytes in version 3 decode to, or else their first fault. `Memory`, for a failed allocation, is
+/// returned only for bytes without a fault. All bytes without a fault are accepted, including those with coordinates
+/// beyond the poles and with offset bytes of 0.
 pub fn read_v3(alloc: Global, bytes: &[u8]) -> Result<Reference, V3Fault>
     ensures ok { IfOk result (λ r. Spells r bytes.now) }
     ensures fault { IfErr result (λ fault. v3_fault bytes.now ≡ bytes_fault_of fault) }

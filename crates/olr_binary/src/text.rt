@@ -1,4 +1,4 @@
-//! References as base64 text: the standard alphabet, padded.
+//! References as base64 text: the standard alphabet, with padding.
 ghost use Rattle.std.specs.Prelude.{IfErr, IfOk};
 ghost use Rattle.std.specs.String.{string_bytes};
 ghost use Rattle.olr_spec.specs.Reference.{Reference as Fields};
@@ -13,7 +13,7 @@ use base64::DecodeAllocError;
 use base64::engine::general_purpose::STANDARD;
 use std::alloc::{AllocError, Global};
 
-/// The text of a reference: the base64 of its bytes in version 3.
+/// The text that a reference encodes as: the base64 of its bytes in version 3. Fails if an allocation fails.
 #[tactic(auto, unfolding(crate::specs::Text::text_of))]
 pub fn to_text(alloc: Global, reference: &Reference) -> Result<String, AllocError>
     ensures { IfOk result (λ text. IsTextOf reference.now (string_bytes text)) }
@@ -22,7 +22,7 @@ pub fn to_text(alloc: Global, reference: &Reference) -> Result<String, AllocErro
     STANDARD.encode(alloc, &bytes)
 }
 
-/// The reference that a text is the text of. Where it is none, why.
+/// The reference that a text decodes to. If there is none, or if an allocation fails, the fault.
 #[tactic(auto, unfolding(crate::specs::Text::text_of))]
 pub fn from_text(alloc: Global, text: &[u8]) -> Result<Reference, TextFault>
     ensures ok { IfOk result (λ r. IsTextOf r text.now) }
@@ -37,8 +37,8 @@ pub fn from_text(alloc: Global, text: &[u8]) -> Result<Reference, TextFault>
     read_v3(alloc, &bytes).map_err(TextFault::Bytes)
 }
 
-/// Each reference has one text, and no text is that of two. So what `to_text` gives, `from_text` reads as the same
-/// reference, and what `from_text` reads, `to_text` gives again.
+/// Each reference encodes as one text, and no text decodes to two references. So `from_text` decodes what `to_text`
+/// returns to the same reference, and `to_text` encodes what `from_text` returns as the same text.
 pub fn laws_of_text()
     ensures one_text { OneText }
     ensures one_reference { OneReference }

@@ -1,4 +1,4 @@
-//! Writing version 3.
+//! Encoding in version 3.
 ghost use Rattle.std.specs.Prelude.{◌≡◌, ◌++◌, IfOk, OnOk};
 ghost use Rattle.olr_spec.specs.Bytes.{IsFirst, IsMiddle, IsLast, AreAttrs, Spells, attr_bytes, first_bytes};
 ghost use Rattle.olr_spec.specs.Bytes.{middle_bytes, last_bytes, offset_bytes};
@@ -7,14 +7,14 @@ use crate::bits::{attribute1, attribute2, attribute4, signed16, signed24};
 use crate::fields::{Attrs, First, Last, Middle, Reference};
 use std::alloc::{AllocError, Global};
 
-/// The first byte: version 3, with attributes.
+/// The status byte: version 3, with attributes.
 pub(crate) const STATUS: u8 = 0x0b;
-/// Bytes of a reference of two points and two offsets.
+/// The number of bytes of a reference with two LRPs and two offsets.
 const TWO_POINTS: usize = 18;
-/// Bytes of a point between.
+/// The number of bytes of an LRP between the first and the last.
 const POINT: usize = 7;
 
-/// Attribute bytes 1 and 2, and the distance to the next point.
+/// Attribute bytes 1 and 2, and the distance to the next point (DNP).
 fn attr_bytes(attrs: Attrs) -> [u8; 3]
     requires { AreAttrs attrs }
     ensures { result ≡ attr_bytes attrs }
@@ -26,7 +26,7 @@ fn attr_bytes(attrs: Attrs) -> [u8; 3]
     ]
 }
 
-/// The bytes of the first point.
+/// The bytes of the first LRP.
 fn first_bytes(point: First) -> [u8; 9]
     requires { IsFirst point }
     ensures { result ≡ first_bytes point }
@@ -39,7 +39,7 @@ fn first_bytes(point: First) -> [u8; 9]
     ]
 }
 
-/// The bytes of a point between.
+/// The bytes of an LRP between the first and the last.
 fn middle_bytes(point: Middle) -> [u8; 7]
     requires { IsMiddle point }
     ensures { result ≡ middle_bytes point }
@@ -50,7 +50,7 @@ fn middle_bytes(point: Middle) -> [u8; 7]
     [lon_high, lon_low, lat_high, lat_low, one, two, dnp]
 }
 
-/// The bytes of the last point, less the offset bytes.
+/// The bytes of the last LRP, without the offset bytes.
 fn last_bytes(point: Last, pos: Option<u8>, neg: Option<u8>) -> [u8; 6]
     requires { IsLast point }
     ensures { result ++ offset_bytes pos ++ offset_bytes neg ≡ last_bytes point pos neg }
@@ -62,7 +62,7 @@ fn last_bytes(point: Last, pos: Option<u8>, neg: Option<u8>) -> [u8; 6]
     [lon_high, lon_low, lat_high, lat_low, one, four]
 }
 
-/// Puts an offset byte at the end, where there is one.
+/// Appends the offset byte, if there is an offset.
 fn push_offset(bytes: &mut Vec<u8>, offset: Option<u8>) -> Result<(), AllocError>
     ensures { OnOk result (bytes.new.items ≡ bytes.old.items ++ offset_bytes offset) }
 {
@@ -72,7 +72,8 @@ fn push_offset(bytes: &mut Vec<u8>, offset: Option<u8>) -> Result<(), AllocError
     Ok(())
 }
 
-/// The bytes of a reference in version 3, whatever the number of its points. Each reference has one spelling.
+/// The bytes that a reference encodes as in version 3, for any number of LRPs. Each reference has exactly one encoding.
+/// Fails if an allocation fails.
 pub fn write_v3(alloc: Global, reference: &Reference) -> Result<Vec<u8>, AllocError>
     ensures { IfOk result (λ bytes. Spells reference.now bytes.items) }
 {

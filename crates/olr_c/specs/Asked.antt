@@ -1,9 +1,9 @@
--- What the calls of C do to a register.
---     code_of end      the status that C is given for a run
---     Asked old records new reply code      the records were carried out, and the reply is the texts of their outcomes; or
---         memory ran out on the way, and it is a front of these texts
---     AskedOf old records new code      the same of what a handle holds
---     IsNew keep      a register of no map and no paths, with no reply
+-- What the calls from C do to a register.
+--     code_of end      the status that is returned to C for a run
+--     Asked old records new reply code      the records were carried out, and the reply has their outcomes' texts; or
+--         an allocation failed, and it has the first bytes of these texts
+--     AskedOf old records new code      the same for the register of a handle
+--     IsNew keep      a register of an empty map and no paths, with an empty reply
 use Rattle.std.specs.Prelude.{◌≡◌, ℕ, false, List, [], Option, Some, None, Result, Ok, Err, IfOk, IfErr, IsSomeAnd}
 use Rattle.olr_register.specs.Registered.{Registered, nothing_registered}
 use Rattle.olr_run.specs.Output.{Claims, records_of}

@@ -1,6 +1,6 @@
 -- What the pointer of a handle owns.
---     owns_keep p heap held      nothing, or the value and the right to free its block
---     coded_held      by which proofs tell such values apart
+--     owns_keep p heap held      nothing, or the value and the permission to free its block
+--     coded_held      the code by which proofs distinguish such values
 use Rattle.std.specs.Prelude.{Option, Some, None}
 use base.Fml.{Fml, ftrue}
 use denote.RawPtr.{Ptr}

@@ -1,4 +1,4 @@
-//! What C holds.
+//! The handle that C holds.
 
 ghost use Rattle.std.specs.Prelude.{◌≡◌, option_map, is_some, None, Some};
 
@@ -27,7 +27,7 @@ pub fn put(keep: Box<Keep>) -> Handle
     }
 }
 
-/// The register of a handle, which is left with none.
+/// Takes the register out of a handle, which then has none.
 pub fn taken(alloc: Global, handle: &mut Handle) -> Option<Box<Keep>>
     ensures value { option_map (λ b. b.value) result ≡ handle.old.owned.keep }
     ensures left { handle.new.owned.keep ≡ None }

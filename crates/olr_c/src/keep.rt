@@ -1,4 +1,4 @@
-//! A register with the reply to what it was last asked.
+//! A register with its last reply.
 
 ghost use Rattle.std.specs.Prelude.{◌≡◌};
 ghost use Rattle.olr_c.specs.Asked.{Asked, IsNew};
@@ -8,19 +8,19 @@ use olr_register::Register;
 use olr_run::{Room, RunFault, Status, run_bytes};
 use std::alloc::Global;
 
-/// A register, and the reply to what it was last asked.
+/// A register and its last reply.
 #[derive(Drop)]
 pub struct Keep {
     /// The register.
     pub register: Register,
     /// The last reply.
     pub reply: Vec<u8>,
-    /// Room for records, kept from one call to the next.
+    /// Buffers for records, reused from call to call.
     room: Room,
 }
 
 impl Keep {
-    /// A register of no map and no paths. Takes no memory.
+    /// A register of an empty map and no paths. Takes no memory.
     pub fn new(alloc: Global) -> Keep
         ensures { IsNew result }
     {
@@ -31,8 +31,8 @@ impl Keep {
         }
     }
 
-    /// Carries out records, whose replies become the reply. 0 where all were accepted, 1 where some were rejected, 4 where
-    /// memory ran out on the way.
+    /// Carries out records, and stores their replies as the last reply. Returns 0 if all were accepted, 1 if some were
+    /// rejected, and 4 if an allocation failed before the last one was answered.
     pub fn ask(&mut self, alloc: Global, records: &[u8]) -> u8
         ensures { Asked self.old.register records.now self.new.register self.new.reply.items result }
     {
@@ -49,7 +49,7 @@ impl Keep {
     }
 }
 
-/// The status that C is given for a run.
+/// The status that is returned to C for a run.
 fn code_of(ended: &Result<Status, RunFault>) -> u8
     ensures { result ≡ asked.code_of ended.now }
 {

@@ -1,4 +1,4 @@
-//! A library for C: registers behind handles. Each takes records and has their replies.
+//! A library for C: registers behind handles, which take records and return replies.
 #![tactic(auto)]
 
 mod handle;
@@ -13,7 +13,7 @@ use crate::handle::{Handle, put, taken};
 use crate::keep::Keep;
 use std::alloc::Global;
 
-/// What was asked for was done.
+/// The call succeeded.
 const DONE: u8 = 0;
 
 /// The handle has no register.
@@ -22,10 +22,10 @@ const NO_REGISTER: u8 = 2;
 /// The buffer is too short.
 const TOO_SHORT: u8 = 3;
 
-/// There was no memory.
+/// Out of memory.
 const NO_MEMORY: u8 = 4;
 
-/// Makes a register of no map and no paths; one that the handle had is dropped.
+/// Makes a register of an empty map and no paths. A register that the handle had is dropped.
 #[unsafe(no_mangle)]
 pub extern "C" fn olr_c_make(alloc: Global, handle: &mut Handle) -> u8
     ensures made { result ≡ 0 → IsSomeAnd handle.new.owned.keep IsNew }
@@ -39,7 +39,7 @@ pub extern "C" fn olr_c_make(alloc: Global, handle: &mut Handle) -> u8
     DONE
 }
 
-/// Drops the register of a handle, where it has one.
+/// Drops the register of a handle, if it has one.
 #[unsafe(no_mangle)]
 pub extern "C" fn olr_c_drop(alloc: Global, handle: &mut Handle)
     ensures { handle.new.owned.keep ≡ None }
@@ -47,7 +47,7 @@ pub extern "C" fn olr_c_drop(alloc: Global, handle: &mut Handle)
     let _dropped = taken(alloc, handle);
 }
 
-/// Carries out records, one as a rule, with or without its line's end.
+/// Carries out records, usually one, with or without its line end.
 #[unsafe(no_mangle)]
 pub extern "C" fn olr_c_ask(alloc: Global, handle: &mut Handle, records: &[u8]) -> u8
     ensures { AskedOf handle.old.owned.keep records.now handle.new.owned.keep result }
@@ -90,7 +90,7 @@ pub extern "C" fn olr_c_reply(alloc: Global, handle: &mut Handle, buffer: &mut [
     status
 }
 
-/// Copies a text to the front of a buffer.
+/// Copies a text to the start of a buffer.
 fn copied(text: &[u8], buffer: &mut [u8]) -> u8
     ensures done { result ≡ 0 → buffer.new ≡ text.now ++ drop (length text.now) buffer.old }
     ensures short { result ≢ 0

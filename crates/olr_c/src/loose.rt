@@ -25,7 +25,7 @@ pub fn apart<T: Drop, A: Allocator>(boxed: Box<T, A>) -> Loose<T, A>
     Loose { at, alloc }
 }
 
-/// The box again.
+/// Builds the box again.
 pub fn boxed<T, A: Allocator>(loose: Loose<T, A>) -> Box<T, A>
     ensures { result.value ≡ loose.value }
 {

@@ -1,4 +1,4 @@
-//! A keep as a pointer that C may hold.
+//! A `Keep` as a pointer that C may hold.
 
 ghost use Rattle.std.specs.Prelude.{◌≡◌, Option, Some, None, IsSome};
 ghost use Rattle.olr_c.specs.Held.{coded_held, owns_keep};

@@ -30,12 +30,12 @@ one_count P (x ∷ xs) n m p q =
       ]
     ]
 
--- a claim that never holds
+-- a claim that holds of nothing
 pub no_count : {A : Type 0} (P : A → Type 0) → ((x : A) → ¬ P x) → (xs : List A) (n : ℕ) → CountIs P xs n → n ≡ 0
 no_count P none [] n p = p
 no_count P none (x ∷ xs) n p = elim p [ inl h ↦ absurd (none x h.0) | inr h ↦ no_count P none xs n h.1 ]
 
--- nothing concerns no path
+-- no change affects no path
 pub unconcerned : (c : Content) (p : Named) → ¬ Concerns c [] p
 unconcerned c p (By_name h) = absurd cc
 unconcerned c p (By_node v h f) = absurd cc
@@ -103,7 +103,7 @@ named_still name path (p ∷ ps) q h =
       | false ↦ λ e. named_still name path ps q e
     ] h
 
--- what concerns a path that gives one name
+-- a change of one name affects only the path of that name
 only_name : (c : Content) (x : Change) (name : List ℕ) → all_nodes c (x ∷ []) ≡ [] → all_lines (x ∷ []) ≡ [] →
     all_names (x ∷ []) ≡ name ∷ [] → (p : Named) → Concerns c (x ∷ []) p → same_name p.name name ≡ true
 only_name c x name a b d p (By_name h) =
@@ -119,7 +119,7 @@ by_name c x name d p h =
     By_name (subst (λ (ns : List (List ℕ)). list_any (same_name p.name) ns ≡ true) (sym d)
     (ap (λ (b : Bool). b || false) h))
 
--- outside of batches
+-- outside a batch
 one_path : (s t : State) (x : Change) (name : List ℕ) → s.batch ≡ None → NamesDiffer t.content.paths
     → all_nodes s.content (x ∷ []) ≡ [] → all_lines (x ∷ []) ≡ [] → all_names (x ∷ []) ≡ name ∷ [] →
     is_some (path_named t.content.paths name) ≡ true → Raises s (Make x) t 1

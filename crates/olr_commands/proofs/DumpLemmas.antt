@@ -1,4 +1,4 @@
--- The changes that a content is written out as make it from nothing.
+-- The changes that a content is written as build it from an empty one.
 use Rattle.std.proofs.Common.{inl, inr, ◌≡◌, ◌≢◌, ℕ, Bool, true, false, cond, not, ◌&&◌, T, List, [], ◌∷◌, ◌++◌, map}
 use Rattle.std.proofs.Common.{Option, Some, None, is_some, unwrap_or, Result, Ok, refl, sym, ap, ◌∙◌, subst, append_assoc}
 use Rattle.std.proofs.Common.{nat_cmp, Ordering, Less, Equal, Greater, is_lt, is_eq, IsTrue}
@@ -50,14 +50,14 @@ some_not_none o x is none =
     both_ways (is_some o) (ap (λ (p : Option _). is_some p) none) (ap (λ (p : Option _). is_some p) is)
 
 module _ {X : Type 0} where
-  -- a number below all of them is none of them
+  -- a number below all of them equals none of them
   missed : (k : ℕ) (es : List (ℕ × X)) → T (below_all nat_cmp k es) → find nat_cmp k es ≡ None
   missed k [] h = refl
   missed k (e ∷ es) h =
       ap (λ (b : Bool). cond b (Some e.1) (find nat_cmp k es)) (lt_not_eq (nat_cmp k e.0) (T_first _ _ h))
       ∙ missed k es (T_second _ _ h)
 
-  -- these entries put in, one after another
+  -- the map with these entries inserted, one after another
   abbrev filled : FinMap nat_cmp X → List (ℕ × X) → FinMap nat_cmp X
   filled m [] = m
   filled m (e ∷ es) = filled (insert m e.0 e.1) es
@@ -80,7 +80,7 @@ module _ {X : Type 0} where
             (unsigned_tied q e.0 ∙ ne_eqb q e.0 ne))
       ]
 
-  -- a map is its entries put into the empty one
+  -- a map is its entries inserted into the empty map
   filled_all : (m : FinMap nat_cmp X) → filled empty (entries m) ≡ m
   filled_all m =
       same_map nat_cmp_total nat_cmp-IsAntisymmetric (filled empty (entries m)) m (λ q.
@@ -103,7 +103,7 @@ module _ {X : Type 0} where
     still_absent m k v es (T_second _ _ h) a.1,
   )
 
-  -- what holds of each number with its value holds of all entries
+  -- what is true of each number with its value is true of all entries
   of_entries : (P : ℕ × X → Type 0) (es : List (ℕ × X)) → T (is_sorted nat_cmp es) →
       ((e : ℕ × X) → find nat_cmp e.0 es ≡ Some e.1 → P e) → AllByRecursion P es
   of_entries P [] s h = tt
@@ -149,7 +149,7 @@ lead_nodes m lines ps (e ∷ es) s a =
     (lead_nodes (insert m e.0 e.1) lines ps es (T_second _ _ s)
     (still_absent m e.0 e.1 es (T_first _ _ s) a.1))
 
--- the line has its ends among these nodes, and is good
+-- the ends of the line are among these nodes, and the line is valid
 abbrev Fits : FinMap nat_cmp Coord → ℕ × Line → Type 0
 Fits nodes e =
     (is_some (get nodes e.1.from) ≡ true) × (is_some (get nodes e.1.to) ≡ true) × (is_good e.1 ≡ true)
@@ -174,7 +174,7 @@ lead_lines nodes m ps (e ∷ es) s a f =
     (lead_lines nodes (insert m e.0 e.1) ps es (T_second _ _ s)
     (still_absent m e.0 e.1 es (T_first _ _ s) a.1) f.1)
 
--- no path of qs has one of their names
+-- no path of qs has the name of one of ps
 abbrev NewNames : List Named → List Named → Type 0
 NewNames qs ps = AllByRecursion (λ p. is_some (path_named qs p.name) ≡ false) ps
 
@@ -237,7 +237,7 @@ dumps_lead c i =
     leads_append no_content a c (map node_change N) (map line_change L ++ map path_change c.paths) nodes
     (leads_append a b c (map line_change L) (map path_change c.paths) lines paths)
 
--- changes that are accepted in their turn are so as commands
+-- changes that are accepted one after another are accepted as commands too
 run_leads : (c d : Content) (xs : List Change) → Leads c xs d →
     steps (record { content = c; batch = None }) (map (λ x. Make x) xs) ≡ Ok (record { content = d; batch = None })
 run_leads c d [] l = ap (λ (y : Content). Ok (record { content = y; batch = None })) l.1

@@ -30,7 +30,7 @@ use Rattle.olr_commands.proofs.ReplyLemmas.{named_path}
 
 -- ---- the content
 
--- what an accepted command brings is what it changes
+-- the changes that an accepted command applies make the new content
 brings : (s t : State) (c : Command) → step s c ≡ Ok t → t.content ≡ after s.content (changes_made s c)
 brings s t c is = by_batch s.content s.batch t c is where
   made_is : (c : Content) (x : Change) (r : Result Content Fault) (t : State) → with_change c x ≡ r → at_once r ≡ Ok t →
@@ -83,7 +83,7 @@ next_state_ok s t c e = ap (λ (r : Result State Fault). result_unwrap_or r s) e
 
 -- ---- runs
 
--- what is known of each step
+-- a property of each step that follows from another
 pub run_each : {A : Type 0} (P Q : State → A → Outcome → State → Type 0) →
     ((s : State) (x : A) (o : Outcome) (t : State) → P s x o t → Q s x o t)
     → (s : State) (xs : List A) (os : List Outcome) (t : State) → Run P s xs os t → Run Q s xs os t
@@ -91,7 +91,7 @@ run_each P Q f s xs [] t h = h
 run_each P Q f s [] (o ∷ os) t h = absurd h
 run_each P Q f s (x ∷ xs) (o ∷ os) t h = (h.0, f s x o h.0 h.1, run_each P Q f h.0 xs os t h.2)
 
--- one more
+-- a run with one step more
 pub run_more : {A : Type 0} (P : State → A → Outcome → State → Type 0) (s t u : State) (xs : List A) (x : A)
     (os : List Outcome) (o : Outcome) → length os ≡ length xs
     → Run P s xs os t → P t x o u → Run P s (xs ++ x ∷ []) (os ++ o ∷ []) u
@@ -100,14 +100,14 @@ run_more P s t u [] x (k ∷ os) o l h p = absurd h
 run_more P s t u (y ∷ xs) x [] o l h p = absurd (omega arith)
 run_more P s t u (y ∷ xs) x (k ∷ os) o l h p = (h.0, h.1, run_more P h.0 t u xs x os o (omega arith) h.2 p)
 
--- of more of them
+-- a run of more inputs, of which only the first are used
 pub run_longer : {A : Type 0} (P : State → A → Outcome → State → Type 0) (s t : State) (xs rest : List A)
     (os : List Outcome) → Run P s xs os t → Run P s (xs ++ rest) os t
 run_longer P s t xs rest [] h = h
 run_longer P s t [] rest (o ∷ os) h = absurd h
 run_longer P s t (x ∷ xs) rest (o ∷ os) h = (h.0, h.1, run_longer P h.0 t xs rest os h.2)
 
--- all of these, and then some of those
+-- one run, and then another
 pub run_join : {A : Type 0} (P : State → A → Outcome → State → Type 0) (s t u : State) (xs ys : List A)
     (os qs : List Outcome) → length os ≡ length xs
     → Run P s xs os t → Run P t ys qs u → Run P s (xs ++ ys) (os ++ qs) u
@@ -116,7 +116,7 @@ run_join P s t u [] ys (k ∷ os) qs l h p = absurd h
 run_join P s t u (x ∷ xs) ys [] qs l h p = absurd (omega arith)
 run_join P s t u (x ∷ xs) ys (k ∷ os) qs l h p = (h.0, h.1, run_join P h.0 t u xs ys os qs (omega arith) h.2 p)
 
--- where each leads: an accepted one by its command, a refused one nowhere
+-- the state after each: by its command if accepted, unchanged if rejected
 abbrev pub Leads : State → Option Command → Outcome → State → Type 0
 Leads s None (Ok reply) t = ⊥
 Leads s (Some c) (Ok reply) t = step s c ≡ Ok t
@@ -154,7 +154,7 @@ one_of c i name P e =
     let some = some_answer c.map i.map P sound in
     record { answer = some.0; encodes = some.1; only = λ B h. one_answer c.map i.map P sound B some.0 h some.1 }
 
--- the one answer of a path is what is published
+-- the only answer of a path is the published one
 only_published : (c : Content) (name : List ℕ) (P : Path) (one : OneOf c.map P) (answer : Option Answer) →
     path_named c.paths name ≡ Some P → Published c name answer → answer ≡ Some one.answer
 only_published c name P one answer e h =
@@ -189,7 +189,7 @@ routes_of c name r h = (h.0, h.1, joined_by c.map h.0 r (path_fault c.map h.0) r
 
 -- ---- replies
 
--- of a list without repeats: the path of a name further on isn't the first one
+-- in a list without repeated names, the path of a name in the rest isn't the first path
 not_first : (p : Named) (ps : List Named) (name : List ℕ) (P : Path) → NamesDiffer (p ∷ ps) →
     path_named ps name ≡ Some P → same_name p.name name ≡ false
 not_first p ps name P d e =
@@ -210,7 +210,7 @@ named_later : (p : Named) (ps : List Named) (name : List ℕ) → same_name p.na
     path_named (p ∷ ps) name ≡ path_named ps name
 named_later p ps name h = ap (λ (b : Bool). cond b (Some p.path) (path_named ps name)) h
 
--- the path of a name in this list has an answer that it hadn't before
+-- the path of that name in this list has an answer that it did not have before
 Differs : Content → Map → List Named → List ℕ → Type 0
 Differs before M ps name =
     (A : Answer) × (P : Path) × (path_named ps name ≡ Some P) × Encodes M P A × ¬ HasAnswer before name A
@@ -285,7 +285,7 @@ replies_name before later es i c name = (
   λ h. from_differs before later.map i.map later.paths es i.paths c name (h.0, h.1.0, h.1.1, h.1.2, h.2),
 )
 
--- ---- what the entries tell
+-- ---- what the entries report
 
 Tells : Map → List Named → Entry → Type 0
 Tells M ps e = (A : Answer) × (P : Path) × (path_named ps e.name ≡ Some P) × Encodes M P A × (e ≡ entry e.name A)
@@ -333,7 +333,7 @@ no_differences c (e ∷ es) i d =
 
 -- ---- the claims of a run
 
--- what is told of a command whose reply names paths
+-- what the reply to a command reports, if it names paths
 told_of : (s t : State) (c : Command) (es : List Entry) → tells s.batch c ≡ true → IsReply s c t (Paths es) →
     Differences s.content t.content es
 told_of s t c es = by s.batch c where
@@ -362,7 +362,7 @@ is_named s t c o sound h tell es is =
 pub is_refused : (s t : State) (c : Command) (o : Outcome) → IsOutcome s c o t → IsRefused s o t
 is_refused s t c o h fault is = (subst (λ (p : Outcome). IsOutcome s c p t) is h).1
 
--- of any steps that lead on, name what changed and change nothing where refused
+-- runs whose steps lead on, name what changed, and change nothing when rejected
 pub headline_of : {A : Type 0} (P : State → A → Outcome → State → Type 0) (asked : A → Option Command)
     → ((s : State) (x : A) (o : Outcome) (t : State) → P s x o t → Leads s (asked x) o t
     × IfSome (asked x) (λ c. IsNamed s c o t) × IsRefused s o t)
@@ -388,7 +388,7 @@ pub outcome_keeps : (s t : State) (c : Command) (o : Outcome) → IsState s → 
 outcome_keeps s t c (Ok reply) i h p = steps_keep s t c i h p.0
 outcome_keeps s t c (Err fault) i h p = subst IsState (sym p.1) i
 
--- an outcome, after which the content is sound
+-- an outcome after which the content is sound
 abbrev pub SoundOutcome : State → Command → Outcome → State → Type 0
 SoundOutcome s c o t = IsOutcome s c o t × IsContent t.content
 

@@ -1,4 +1,4 @@
--- Lists of named paths: what pushing, setting and dropping keep.
+-- Lists of named paths: what is preserved when a path is appended, set or dropped.
 use Rattle.std.proofs.Common.{inl, inr, ◌≡◌, ℕ, Bool, true, false, cond, List, [], ◌∷◌, ◌++◌, map, Some, None, is_some}
 use Rattle.std.proofs.Common.{IsTrue, refl, sym, ap, ◌∙◌}
 use Rattle.std.proofs.lemmas.Bool.{cases_Bool, both_ways}
@@ -19,7 +19,7 @@ flipped a b h =
       | inr e ↦ e
     ]
 
--- one more name at the end
+-- with one more name at the end
 pub named_push : (ps : List Named) (n : Named) (name : List ℕ) → is_some (path_named ps name) ≡ false →
     same_name n.name name ≡ false → is_some (path_named (ps ++ n ∷ []) name) ≡ false
 named_push [] n name h g = ap (λ (b : Bool). is_some (cond b (Some n.path) None)) g

@@ -1,4 +1,4 @@
--- Want of memory aside, a command has one outcome.
+-- Apart from out of memory, a command has one outcome.
 use Rattle.std.proofs.Common.{◌≡◌, Result, Ok, Err, IsFalse, sym, ap, ◌∙◌, subst}
 use Rattle.std.proofs.lemmas.Bool.{both_ways}
 use Rattle.olr_commands.specs.State.{Fault, State, Command, HasPlaces, step, IsState}
@@ -6,7 +6,7 @@ use Rattle.olr_commands.specs.Reply.{Reply, IsReply, IsRefusal, Told, Lacks, Out
 use Rattle.olr_commands.proofs.StateLemmas.{steps_keep}
 use Rattle.olr_commands.proofs.ReplyLemmas.{one_reply}
 
--- with another fault than want of memory, step has it
+-- a fault other than out of memory is that of step
 pub told_by : (s : State) (c : Command) (fault : Fault) → IsFalse (lacks_memory (Err fault)) → IsRefusal s c fault →
     step s c ≡ Err fault
 told_by s c fault n (Told e) = e

@@ -12,7 +12,7 @@ use Rattle.olr_commands.specs.State.{Make, Show, Report, Explain, Begin, Commit,
 use Rattle.olr_commands.specs.Reply.{Entry, entry, Reply, Paths, Fields, Held, HasAnswer, AllOf, ChangedOf, Differences}
 use Rattle.olr_commands.specs.Reply.{Shown, Explained, IsPaths, IsFields, IsChangeReply, IsReply}
 
--- each path has one answer, so all of them one list of entries
+-- each path has one answer, so a list of paths has one list of entries
 one_all : (M : Map) → IsMap M → (ps : List Named) (es fs : List Entry) → ArePaths ps → AllOf M ps es → AllOf M ps fs →
     es ≡ fs
 one_all M m [] es fs a p q = p ∙ sym q
@@ -64,7 +64,7 @@ one_fields T one (Fields x) (Held n) p g = absurd g
 one_fields T one (Paths es) q p g = absurd p
 one_fields T one (Held n) q p g = absurd p
 
--- a path of a name has one answer
+-- the path of a name has one answer
 pub one_has : (c : Content) → IsContent c → (name : List ℕ) (A B : Answer) → HasAnswer c name A → HasAnswer c name B →
     A ≡ B
 one_has c i name A B p q =

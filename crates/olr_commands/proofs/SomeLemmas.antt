@@ -21,7 +21,7 @@ use Rattle.olr_commands.specs.Reply.{IsChangeReply, IsReply}
 use Rattle.olr_commands.proofs.StateLemmas.{when_ok, steps_keep}
 use Rattle.olr_commands.proofs.ReplyLemmas.{named_path, one_has}
 
--- ---- answers are the same, or not
+-- ---- answers are equal or not
 
 Is_or_not : {A : Type 0} → A → A → Type 0
 Is_or_not a b = (a ≡ b) ⊎ (a ≢ b)
@@ -38,7 +38,7 @@ lists_decide xs ys =
       | inr f ↦ inr (λ e. both_ways (same_name xs ys) f ((bytes_decides xs ys).1 e))
     ]
 
--- a refusal by its kind and its number
+-- a reason is decided by its kind and its number
 refusals_decide : (x y : Refusal) → Is_or_not x y
 unfolding Is_or_not
 refusals_decide (Unknown_line n) (Unknown_line m) =
@@ -61,7 +61,7 @@ refusals_decide (No_next_point n) (Unknown_line m) = inr (λ e. absurd cc)
 refusals_decide (No_next_point n) (Broken m) = inr (λ e. absurd cc)
 refusals_decide (No_next_point n) Offset_too_long = inr (λ e. absurd cc)
 
--- a reference by its spelling
+-- a reference is decided by its bytes
 Fits : Answer → Type 0
 Fits (Points r) = IsReference r
 Fits (Refused f) = ◌≡◌ {A = Refusal} f f

@@ -1,4 +1,4 @@
--- What changes and commands keep of the register.
+-- What changes and commands preserve of the register.
 use Rattle.std.proofs.Common.{◌≡◌, ℕ, ◌+◌, ◌≤◌, arith, Bool, true, false, not, List, [], ◌∷◌, ◌++◌, map, filter, length}
 use Rattle.std.proofs.Common.{Option, Some, None, Result, Ok, Err, refl, sym, ap, ◌∙◌, subst}
 use Rattle.std.specs.Prelude.{nat_le, ◌==◌, IfSome}
@@ -84,7 +84,7 @@ accepted_push : (c : Content) (xs : List Change) (x : Change) → AllAccepted c 
 accepted_push c [] x a e = (e, tt)
 accepted_push c (y ∷ xs) x a e = (a.0, accepted_push (next c y) xs x a.1 e)
 
--- where there was room there is room for one more
+-- a batch that is not full has capacity for one change more
 few_more : (n : ℕ) → nat_le full n ≡ false → n + 1 ≤ full
 few_more n h = let below = leb-false full n h in omega arith
 

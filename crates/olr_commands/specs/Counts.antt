@@ -1,5 +1,5 @@
 -- By how much an accepted command raises the count of encodings.
---     Concerns c xs p      the changes xs, made from the content c, concern the named path p
+--     Concerns c xs p      the changes xs, made from the content c, affect the named path p
 --     CountIs P ps n      P holds of n of the elements
 --     Raises s c t n      the accepted command, which leads from s to t, raises the count by n
 use Rattle.std.specs.Prelude.{◌≡◌, ℕ, suc, List, [], ◌∷◌, ◌++◌, flat_map, ◌⊎◌, IsTrue}
@@ -9,7 +9,7 @@ use Rattle.olr_spec.specs.Footprint.{Foot}
 use Rattle.olr_commands.specs.State.{Named, Content, same_name, Change, On_map, Add_path, Set_path, next, State}
 use Rattle.olr_commands.specs.State.{Command, changes_made}
 
--- the nodes and the lines that a change touches, and the path that it gives
+-- the nodes and the lines that a change touches, and the name of the path that it adds, sets or drops
 abbrev pub nodes_of_change : Map → Change → List ℕ
 nodes_of_change M (On_map e) = touched_nodes M e
 nodes_of_change M _ = []
@@ -23,7 +23,7 @@ names_of_change (Add_path name path) = name ∷ []
 names_of_change (Set_path name path) = name ∷ []
 names_of_change _ = []
 
--- each change touches the nodes of the map that it finds
+-- the nodes that each change touches, on the map on which it is made
 abbrev pub all_nodes : Content → List Change → List ℕ
 all_nodes c [] = []
 all_nodes c (x ∷ xs) = nodes_of_change c.map x ++ all_nodes (next c x) xs
@@ -34,7 +34,7 @@ all_lines xs = flat_map lines_of_change xs
 abbrev pub all_names : List Change → List (List ℕ)
 all_names xs = flat_map names_of_change xs
 
--- a change gives the path, or touches a node of its footprint on the map before them all, or one of its lines
+-- a change names the path, or touches a node of its footprint on the map before all changes, or one of its lines
 pub data Concerns (c : Content) (xs : List Change) (p : Named) : Type 0 where
   By_name : IsTrue (list_any (same_name p.name) (all_names xs)) → Concerns c xs p
   By_node : (v : ℕ) → IsTrue (has (all_nodes c xs) v) → Foot c.map p.path v → Concerns c xs p
@@ -44,6 +44,6 @@ abbrev pub CountIs : {A : Type 0} → (A → Type 0) → List A → ℕ → Type
 CountIs P [] n = n ≡ 0
 CountIs P (x ∷ xs) n = (P x × ((m : ℕ) × CountIs P xs m × (n ≡ suc m))) ⊎ ((¬ P x) × CountIs P xs n)
 
--- each path of the later list that is concerned, once
+-- the number of affected paths of the later list, each counted once
 abbrev pub Raises : State → Command → State → ℕ → Type 0
 Raises s c t n = CountIs (Concerns s.content (changes_made s c)) t.content.paths n

@@ -1,7 +1,7 @@
--- A content written out as changes that make it from nothing.
---     dump_changes c      an added node for each node, an added line for each line, both in ascending order of number,
---         and an added path for each path, in their order
---     Leads c xs d      each of the changes is accepted in its turn, and they lead from c to d
+-- A content written as changes that build it from an empty one.
+--     dump_changes c      an added node for each node, an added line for each line, both in ascending order,
+--         and an added path for each path, in order
+--     Leads c xs d      the changes are accepted one after another and lead from c to d
 --     steps s cs      the state after commands, or the first fault
 use Rattle.std.specs.Prelude.{◌≡◌, ℕ, List, [], ◌∷◌, ◌++◌, map, None, Result, Ok, Err}
 use Rattle.std.specs.FinMap.{entries}
@@ -19,7 +19,7 @@ line_change e = On_map (Add_line e.0 e.1)
 abbrev pub path_change : Named → Change
 path_change p = Add_path p.name p.path
 
--- a line's ends are added before it
+-- both ends of a line are added before the line
 abbrev pub dump_changes : Content → List Change
 dump_changes c =
     map node_change (entries c.map.nodes) ++ (map line_change (entries c.map.lines) ++ map path_change c.paths)
@@ -37,16 +37,16 @@ steps s (c ∷ cs) = steps_then (step s c) (λ t. steps t cs)
 
 -- ---- the laws
 
--- from the empty content, the changes are all accepted, and lead to that very content
+-- from the empty content, all changes are accepted and lead to this content
 abbrev pub DumpsLead : Type 0
 DumpsLead = (c : Content) → IsContent c → Leads no_content (dump_changes c) c
 
--- so do the commands, and no batch is open at the end
+-- so are the commands, and no batch is open after them
 abbrev pub DumpsRun : Type 0
 DumpsRun =
     (c : Content) → IsContent c →
     steps start_state (map (λ x. Make x) (dump_changes c)) ≡ Ok (record { content = c; batch = None })
 
--- what they lead to is written out the same again
+-- the content that they lead to is written as the same changes
 abbrev pub DumpsAgain : Type 0
 DumpsAgain = (c : Content) → IsContent c → dump_changes (after no_content (dump_changes c)) ≡ dump_changes c

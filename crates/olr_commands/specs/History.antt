@@ -1,9 +1,9 @@
--- Whole runs of commands, and what is claimed of them.
---     Run Step s xs os t      the first of xs have these outcomes, one after another, and lead from s to t; Step says
---         what that is for one
---     Whole Step s xs os t      so do all of xs.
+-- Whole runs of commands, and the claims about them.
+--     Run Step s xs os t      the first of xs have these outcomes, one after another, and lead from s to t; Step is
+--         the relation of one step
+--     Whole Step s xs os t      the same for all of xs.
 --     History s cs os t      a whole run of commands
---     all_changes_made asked s xs os      the changes that the accepted commands bring, where each of xs asks for a
+--     all_changes_made asked s xs os      the changes that the accepted commands apply, where each of xs asks for a
 --         command or for none
 --     IsPublished, IsJoined, IsNamed, IsRefused      the four claims.
 --     Headline      all of them, of one run
@@ -37,7 +37,7 @@ History s cs os t = Whole IsOutcome s cs os t
 abbrev pub AllHavePlaces : List Command → Type 0
 AllHavePlaces cs = AllByRecursion HasPlaces cs
 
--- ---- what a run brings
+-- ---- the changes that a run applies
 
 abbrev pub next_state : State → Option Command → State
 next_state s None = s
@@ -56,14 +56,14 @@ all_changes_made asked s (x ∷ xs) (Err fault ∷ os) = all_changes_made asked 
 
 -- ---- published answers
 
--- exactly one answer
+-- the path has exactly one answer
 pub record OneOf (M : Map) (P : Path) : Type 0 where
   pub answer : Answer
   pub encodes : Encodes M P answer
   pub only : (B : Answer) → Encodes M P B → B ≡ answer
 
--- the later content is what these changes make of the earlier one; each of its paths has exactly one answer on its map,
--- and that one is published
+-- the later content is the earlier one after these changes; each of its paths has exactly one answer on its map, and
+-- this answer is published
 pub record IsPublished (before : Content) (changes : List Change) (later : Content) : Type 0 where
   pub content : later ≡ after before changes
   pub answers : (name : List ℕ) (P : Path) → path_named later.paths name ≡ Some P → (one : OneOf later.map P)
@@ -71,7 +71,7 @@ pub record IsPublished (before : Content) (changes : List Change) (later : Conte
 
 -- ---- routes that join
 
--- each path's reference is that of at least two points, and the sole routes between them join to its extended path
+-- each reference has at least two LRPs, and the unique shortest paths between them join to the path's extended path
 abbrev pub IsJoined : Content → Type 0
 IsJoined c =
     (name : List ℕ) (r : Reference) → HasAnswer c name (Points r) → (P : Path) × (path_named c.paths name ≡ Some P)
@@ -82,14 +82,14 @@ IsJoined c =
 abbrev pub names : List Entry → List ℕ → Type 0
 names es name = IsTrue (list_any (λ e. same_name e.name name) es)
 
--- an entry stands for each path of the later content whose answer was not its own before, and for no other, and each
--- tells its answer
+-- there is an entry for each path of the later content whose answer is not its earlier one, and for no other path; each
+-- entry has the new answer
 abbrev pub NamesChanged : Content → Content → List Entry → Type 0
 NamesChanged before later es =
     ((name : List ℕ) → names es name ↔ ((A : Answer) × HasAnswer later name A × ¬ HasAnswer before name A))
     × AllByRecursion (λ e. (A : Answer) × HasAnswer later e.name A × (e ≡ entry e.name A)) es
 
--- the reply names paths: that of a change outside of batches, and of a commit
+-- the reply names paths: to a change outside a batch, and to a commit
 abbrev pub tells : Option (List Change) → Command → Bool
 tells None (Make x) = true
 tells (Some xs) (Commit count) = true
@@ -98,7 +98,7 @@ tells _ _ = false
 abbrev pub IsNamed : State → Command → Outcome → State → Type 0
 IsNamed s c o t = IsTrue (tells s.batch c) → (es : List Entry) → o ≡ Ok (Paths es) → NamesChanged s.content t.content es
 
--- ---- refused commands that change nothing
+-- ---- rejected commands change nothing
 
 abbrev pub IsRefused : State → Outcome → State → Type 0
 IsRefused s o t = (fault : Fault) → o ≡ Err fault → t ≡ s
@@ -115,7 +115,7 @@ pub record Headline {A : Type 0} (Step : State → A → Outcome → State → T
 
 -- ---- the laws behind them
 
--- a run of commands from the start keeps the state sound, and all four claims hold of it
+-- a run of commands from the start leaves the state sound, and all four claims are true of it
 abbrev pub HeadlineOfHistories : Type 0
 HeadlineOfHistories =
     (cs : List Command) (os : List Outcome) (t : State) → AllHavePlaces cs → History start_state cs os t
@@ -129,7 +129,7 @@ RepliesName =
     (before later : Content) (es : List Entry) → IsContent later → Differences before later es →
     NamesChanged before later es
 
--- a content has no differences from itself
+-- there are no differences between a content and itself
 abbrev pub NoDifferences : Type 0
 NoDifferences = (c : Content) (es : List Entry) → IsContent c → Differences c c es → es ≡ []
 

@@ -9,11 +9,11 @@ use Rattle.olr_commands.specs.Counts.{Raises}
 abbrev pub StepsKeep : Type 0
 StepsKeep = (s t : State) (c : Command) → IsState s → HasPlaces c → step s c ≡ Ok t → IsState t
 
--- a command that is accepted has at most one reply
+-- an accepted command has at most one reply
 abbrev pub OneReply : Type 0
 OneReply = (s t : State) (c : Command) (r q : Reply) → IsState s → IsState t → IsReply s c t r → IsReply s c t q → r ≡ q
 
--- a batch that holds nothing leaves the content, and an abort the state from before begin
+-- committing an empty batch leaves the content; abort restores the state before begin
 abbrev pub EmptyCommit : Type 0
 EmptyCommit = (s t u : State) → step s Begin ≡ Ok t → step t (Commit 0) ≡ Ok u → u ≡ s
 
@@ -21,27 +21,27 @@ abbrev pub AbortGivesBack : Type 0
 AbortGivesBack =
     (c : Content) (b u : State) → b.content ≡ c → step b Abort ≡ Ok u → u ≡ record { content = c; batch = None }
 
--- the count rises by one number, and by none for the commands that bring nothing
+-- the rise of the count is determined, and 0 for commands that apply no change
 abbrev pub OneRise : Type 0
 OneRise = (s t : State) (c : Command) (n m : ℕ) → Raises s c t n → Raises s c t m → n ≡ m
 
 abbrev pub NoRise : Type 0
 NoRise = (s t : State) (c : Command) (n : ℕ) → changes_made s c ≡ [] → Raises s c t n → n ≡ 0
 
--- want of memory aside, a command has one outcome
+-- apart from out of memory, a command has one outcome
 abbrev pub OneOutcome : Type 0
 OneOutcome =
     (s t u : State) (c : Command) (o q : Outcome) → IsState s → HasPlaces c → IsFalse (lacks_memory o) →
     IsFalse (lacks_memory q)
     → IsOutcome s c o t → IsOutcome s c q u → (o ≡ q) × (t ≡ u)
 
--- an accepted command has a reply; of explain that is what reading the bytes shows
+-- an accepted command has a reply; for explain this follows from reading the bytes
 abbrev pub SomeReply : Type 0
 SomeReply =
     (s t : State) (c : Command) → IsState s → HasPlaces c → step s c ≡ Ok t → ((text : List ℕ) → c ≢ Explain text) →
     (reply : Reply) × IsReply s c t reply
 
--- outside of batches an added or a set path raises it by one
+-- outside a batch, adding or setting a path raises the count by one
 abbrev pub PathsRaiseOne : Type 0
 PathsRaiseOne =
     (s t : State) (name : List ℕ) (path : Path) → IsState s → s.batch ≡ None

@@ -1,6 +1,6 @@
 -- Replies, and the outcomes of a command.
---     Entry, Reply      what an accepted command answers
---     Published c name answer, PublishedText c name text      what stands published under a name
+--     Entry, Reply      the reply to an accepted command
+--     Published c name answer, PublishedText c name text      what is published under a name
 --     IsReply s c t reply      the reply to an accepted command that leads from s to t
 --     IsOutcome s c outcome t      the command may lead from s to t with this reply, or this fault
 use Rattle.std.specs.Prelude.{◌≡◌, ◌==◌, ℕ, suc, Bool, true, false, not, ◌&&◌, ◌||◌, List, [], ◌∷◌, length, Option}
@@ -20,7 +20,7 @@ use Rattle.olr_commands.specs.State.{Bad_path, Not_a_reference, Memory, Batch_op
 use Rattle.olr_commands.specs.State.{Change, On_map, Drop_path, State, Command, Make, Show, Report, Explain, Begin}
 use Rattle.olr_commands.specs.State.{Commit, Abort, step}
 
--- a path's string, or why it has none
+-- a path's string, or the reason why it has none
 pub record Entry : Type 0 where
   pub name : List ℕ
   pub published : Result (List ℕ) Refusal
@@ -47,7 +47,7 @@ abbrev pub Published : Content → List ℕ → Option Answer → Type 0
 Published c name answer =
     MatchOption (path_named c.paths name) (answer ≡ None) (λ P. IsSomeAnd answer (λ A. Encodes c.map P A))
 
--- its string, where it has one
+-- its string, if it has one
 abbrev pub PublishedText : Content → List ℕ → Option (List ℕ) → Type 0
 PublishedText c name text =
     (answer : Option Answer) × Published c name answer
@@ -61,7 +61,7 @@ AllOf M [] es = es ≡ []
 AllOf M (p ∷ ps) es =
     (A : Answer) × (rest : List Entry) × Encodes M p.path A × AllOf M ps rest × (es ≡ entry p.name A ∷ rest)
 
--- those that are new, or whose answer is another than before
+-- the new paths, and those with another answer than before
 abbrev pub ChangedOf : Content → Map → List Named → List Entry → Type 0
 ChangedOf before M [] es = es ≡ []
 ChangedOf before M (p ∷ ps) es =
@@ -74,7 +74,7 @@ Differences before later es = ChangedOf before later.map later.paths es
 abbrev pub Shown : Content → List ℕ → List Entry → Type 0
 Shown c name es = (A : Answer) × HasAnswer c name A × (es ≡ entry name A ∷ [])
 
--- the text is the base64 text of bytes that spell the reference
+-- the text is base64 of bytes that encode the reference
 abbrev pub Explained : List ℕ → Reference → Type 0
 Explained text r = (b : List ℕ) × (decoded_of standard text ≡ Some b) × Spells r b
 
@@ -86,7 +86,7 @@ abbrev pub IsFields : Reply → (Reference → Type 0) → Type 0
 IsFields (Fields r) P = P r
 IsFields _ P = ⊥
 
--- to a change in the batch that holds so many, or outside of batches
+-- to a change, in a batch that holds these changes or outside a batch
 abbrev pub IsChangeReply : Option (List Change) → Content → Content → Reply → Type 0
 IsChangeReply None before later reply = IsPaths reply (Differences before later)
 IsChangeReply (Some xs) before later reply = reply ≡ Held (suc (length xs))
@@ -102,7 +102,7 @@ IsReply s Abort t reply = reply ≡ Paths []
 
 -- ---- outcomes
 
--- a fault that is told before want of memory
+-- a fault that takes precedence over out of memory
 abbrev pub is_told_first : Fault → Bool
 is_told_first (Map_fault fault) = true
 is_told_first Path_exists = true
@@ -132,7 +132,7 @@ takes_memory Begin batch bare = false
 takes_memory Abort batch bare = false
 takes_memory c batch bare = true
 
--- want of memory is an outcome where memory is taken and step has no fault that is told before it
+-- out of memory is an outcome if the command takes memory and step has no fault that takes precedence
 abbrev pub may_lack : State → Command → Bool
 may_lack s c = takes_memory c s.batch (length s.content.paths == 0) && may_want (step s c)
 
@@ -143,12 +143,12 @@ pub data IsRefusal (s : State) (c : Command) (fault : Fault) : Type 0 where
 abbrev pub Outcome : Type 0
 Outcome = Result Reply Fault
 
--- a refused command leaves the state
+-- a rejected command leaves the state unchanged
 abbrev pub IsOutcome : State → Command → Outcome → State → Type 0
 IsOutcome s c (Ok reply) t = (step s c ≡ Ok t) × IsReply s c t reply
 IsOutcome s c (Err fault) t = IsRefusal s c fault × (t ≡ s)
 
--- want of memory
+-- out of memory
 abbrev pub lacks_memory : Outcome → Bool
 lacks_memory (Err Memory) = true
 lacks_memory _ = false

@@ -17,15 +17,15 @@ reference2 =
       neg = None;
     }
 
--- a state with a batch that holds these
+-- a state with an open batch that holds these changes
 abbrev pub in_batch : List Change → State
 in_batch xs = record { content = no_content; batch = Some xs }
 
--- a path of one line, under the name a
+-- a path of one line, with the name a
 abbrev pub path_a : Change
 path_a = Add_path (codes "a") (record { lines = 10 ∷ []; pos = 0; neg = 0 })
 
--- that path is registered, on the map of nothing
+-- the state in which this path is registered, on the empty map
 abbrev pub with_a : Option (List Change) → State
 with_a batch = record { content = after no_content (path_a ∷ []); batch = batch }
 

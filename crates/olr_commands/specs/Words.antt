@@ -47,7 +47,7 @@ reply_of (answered.Paths entries) = reply.Paths (map entry_of entries.items)
 reply_of (answered.Fields r) = reply.Fields r
 reply_of (answered.Held count) = reply.Held count
 
--- want of memory has one name, wherever it was told
+-- out of memory is one fault, wherever it was reported
 abbrev pub map_fault_of : EditFault → state.Fault
 map_fault_of edit.NodeExists = state.Map_fault map_faults.Node_exists
 map_fault_of edit.NoNode = state.Map_fault map_faults.No_node

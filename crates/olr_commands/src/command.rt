@@ -2,26 +2,26 @@
 
 use olr_map::{Edit, LineId};
 
-/// A command. Names are 1 to 64 bytes where they come from records; here any text is a name.
+/// A command. In records a name has 1 to 64 bytes; here it may be any text.
 #[derive(Drop, Debug)]
 pub enum Command {
     /// An edit of the map.
     Edit(Edit),
-    /// A new path under a name that is free: its lines, and its positive and negative offset in decimetres.
+    /// Adds a path under an unused name: its lines, and its positive and negative offset in decimetres.
     AddPath(String, Vec<LineId>, u32, u32),
-    /// Other lines and offsets for a path. It keeps its place.
+    /// Replaces the lines and offsets of a path, which keeps its position.
     SetPath(String, Vec<LineId>, u32, u32),
-    /// Takes a path away.
+    /// Removes a path.
     DropPath(String),
     /// Asks for one path's answer.
     Show(String),
-    /// Asks for every path's answer.
+    /// Asks for the answer of every path.
     Report,
-    /// Asks what a reference in base64 says.
+    /// Asks for the fields of a reference, given as base64 text.
     Explain(Vec<u8>),
     /// Opens a batch, which holds the commands that follow.
     Begin,
-    /// Accepts all held commands at once, if so many are held.
+    /// Accepts all held commands at once, if their number is this one.
     Commit(u32),
     /// Drops all held commands.
     Abort,

@@ -1,28 +1,28 @@
-//! Why a command is refused.
+//! Why a command is rejected.
 
 use olr_binary::{TextFault, V3Fault};
 use olr_map::EditFault;
 use thiserror::Error;
 
-/// Why a command is refused. Register, answers and counts are then as they were, an open batch too.
+/// Why a command is rejected. The register, its answers, its counts and an open batch are unchanged then.
 #[derive(Clone, Copy, Debug, PartialEq, Eq, Error)]
 pub enum CommandFault {
-    /// The map refuses the edit, or had no memory for it.
+    /// The map rejects the edit, or is out of memory.
     #[error(transparent)]
     Map(EditFault),
-    /// The new path's name is taken.
+    /// A path with this name exists already.
     #[error("PathExists")]
     PathExists,
-    /// No path has the name.
+    /// No path has this name.
     #[error("NoPath")]
     NoPath,
-    /// A path has 1 to 10,000 lines, none twice.
+    /// A path has 1 to 10,000 lines, and none of them twice.
     #[error("BadPath")]
     BadPath,
-    /// The text is no reference; want of memory is `Memory` instead.
+    /// The text encodes no reference. Out of memory is reported as `Memory` instead.
     #[error("NotAReference")]
     NotAReference(TextFault),
-    /// There was no memory.
+    /// Out of memory.
     #[error("Memory")]
     Memory,
     /// A batch is open already.
@@ -31,7 +31,7 @@ pub enum CommandFault {
     /// No batch is open.
     #[error("NoBatch")]
     NoBatch,
-    /// The batch holds another number of commands. It stays open.
+    /// The batch holds another number of commands than `commit` names. It stays open.
     #[error("CountDiffers")]
     CountDiffers,
     /// The batch holds 100,000 commands already.

@@ -1,9 +1,9 @@
-//! The laws of states, replies and counts, and the claims on whole runs.
+//! The laws of states, replies and counts, and the claims about whole runs.
 ghost use Rattle.olr_commands.specs.Dump;
 ghost use Rattle.olr_commands.specs.History;
 ghost use Rattle.olr_commands.specs.Laws;
 
-/// What commands keep, and that a reply is determined.
+/// What commands preserve, and that a reply is determined.
 pub fn laws_of_states()
     ensures kept { Laws.StepsKeep }
     ensures one_reply { Laws.OneReply }
@@ -13,14 +13,14 @@ pub fn laws_of_states()
     ensures some_reply { Laws.SomeReply }
 {}
 
-/// The count of encodings rises by one number.
+/// The rise of the count of encodings is determined.
 pub fn laws_of_counts()
     ensures one { Laws.OneRise }
     ensures none { Laws.NoRise }
     ensures paths { Laws.PathsRaiseOne }
 {}
 
-/// The claims on whole runs of commands.
+/// The claims about whole runs of commands.
 pub fn claims()
     ensures headline { History.HeadlineOfHistories }
     ensures joined { History.RoutesOfReferences }
@@ -29,7 +29,7 @@ pub fn claims()
     ensures refused { History.RefusedChangeNothing }
 {}
 
-/// The changes that a content is written out as make it from nothing.
+/// The changes that a content is written as build it from an empty one.
 pub fn laws_of_dumps()
     ensures lead { Dump.DumpsLead }
     ensures run { Dump.DumpsRun }

@@ -1,5 +1,5 @@
-//! Commands to a register of named paths, their replies and faults, and what they mean: states and their steps,
-//! replies, how often a path is encoded, and the claims on whole runs of commands.
+//! Commands to a register of named paths, their replies and faults, and their meaning: states and their steps, replies,
+//! the count of encodings, and the claims about whole runs of commands.
 #![tactic(auto)]
 
 pub mod command;

@@ -12,7 +12,7 @@ ghost use Rattle.olr_binary.specs.Text.{text_of};
 ghost use Rattle.olr_commands.specs.Reply.{Paths, Held, IsReply, takes_memory, may_lack};
 ghost use Rattle.olr_commands.specs.Rows.{reference2, in_batch, path_a, with_a, with_node};
 
-/// Texts of references: the worked paths by their points and offsets.
+/// Texts of references: the worked paths by their LRPs and offsets.
 #[tactic(auto, unfolding(olr_binary::specs::Text::text_of, base64::specs::Rfc4648::encode_symbols))]
 pub fn texts()
     ensures one { text_of reference1 ≡ codes "CwRbWyNG9RpsCQCb/jsbtAT/6/+jK1lE" }
@@ -25,7 +25,7 @@ pub fn texts()
         ≡ codes "CwRbWyNG9RpsCQCb/jsbtAT/6/+jK3lERQ==" }
 {}
 
-/// What `explain` says of a text.
+/// The steps of `explain`.
 #[tactic(auto, unfolding(base64::specs::GeneralPurpose::decoded_of, base64::specs::Decode::groups_error, base64::specs::Decode::groups_bytes, base64::specs::Decode::scan_steps))]
 pub fn explain()
     ensures one { step start_state (Explain (codes "CwRbWyNG9RpsCQCb/jsbtAT/6/+jK1lE")) ≡ Ok start_state }
@@ -40,7 +40,7 @@ pub fn explain()
     ensures no_text { step start_state (Explain (codes "*")) ≡ Err (Not_a_reference Not_base64) }
 {}
 
-/// Batches, on a register of no paths.
+/// Batches, in a register without paths.
 pub fn batches()
     ensures begin { step start_state Begin ≡ Ok (in_batch []) }
     ensures again { step (in_batch []) Begin ≡ Err Batch_open }
@@ -58,7 +58,7 @@ pub fn batches()
     ensures one_held { IsReply (in_batch []) (Make path_a) (in_batch (path_a ∷ [])) (Held 1) }
 {}
 
-/// Where want of memory may be told.
+/// Which commands may run out of memory.
 pub fn memory()
     ensures abort { may_lack (in_batch []) Abort ≡ false }
     ensures abort_nothing { may_lack start_state Abort ≡ false }

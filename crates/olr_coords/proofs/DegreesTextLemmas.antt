@@ -1,4 +1,4 @@
--- The text of degrees is read as the very unit.
+-- The text of degrees is read as the same number of units.
 use Rattle.std.proofs.Common.{◌≡◌, ℕ, ◌+◌, ◌*◌, ◌-◌, ◌/◌, ◌%◌, ◌<◌, ◌≤◌, ◌^◌, true, false, Bool, ◌==◌, not, ◌&&◌}
 use Rattle.std.proofs.Common.{ℤ, pos, negsuc, List, [], ◌∷◌, ◌++◌, length, drop, fold, refl, ap, IsTrue, Some, None, Ok, Err}
 use Rattle.std.proofs.Common.{sym, subst, ◌∙◌, arith, rules, zero, suc, Option}
@@ -20,7 +20,7 @@ use Rattle.olr_coords.specs.DegreesText.{decimals, after_point, steps_text, degr
 use Rattle.olr_coords.specs.Laws.{TextsRead, ReadHaveText}
 use Rattle.olr_coords.proofs.DigitLemmas.{own, before-more, before-none}
 
--- one digit more
+-- one more digit
 one-more : (a q p r n : ℕ) → p * q + r ≡ n → (10 * a + ((48 + q) - 48)) * p + r ≡ a * (10 * p) + n
 one-more a q p r n e =
     let same : (48 + q) - 48 ≡ q = omega arith in
@@ -148,7 +148,7 @@ steps-read n h =
     (whole-text (n / 10 ^ 7) high) (fraction-text (n % 10 ^ 7) low)
     ∙ ap (λ (m : ℕ). Some (m * unit7)) sum
 
--- digits first: no sign
+-- a text that begins with a digit has no sign
 no-sign : (ds tail : List ℕ) → list_all is_ascii_digit ds ≡ true → 0 < length ds →
     degrees (ds ++ tail) ≡ option_map pos (unsigned_degrees (ds ++ tail))
 no-sign [] tail all some = absurd (omega arith)
@@ -164,7 +164,7 @@ plain-read n h =
     (decimal_nonempty (n / 10 ^ 7) small)
     ∙ ap (λ (o : Option ℕ). option_map pos o) (steps-read n h)
 
--- what is written is read as it was
+-- a coordinate that is written is read as the same
 pub degrees-read : (z : ℤ) → IsTrue (has_degrees_text z) → degrees (degrees_text z) ≡ Some z
 degrees-read (pos n) h =
     let p = and_parts (is_degrees (pos n)) (n % unit7 == 0) h in
@@ -184,7 +184,7 @@ texts-read z h =
     let p = and_parts (is_degrees z) (nat_abs z % unit7 == 0) h in
     ap degrees_or_fault (degrees-read z h) ∙ rw p.0 refl
 
--- ---- what is read is in whole steps
+-- ---- coordinates that are read are whole steps
 
 units-whole : (o p : Option ℕ) →
     IfSome (option_and_then (λ n. option_map (λ m. (n + m) * unit7) p) o) (λ u. u % unit7 ≡ 0)
@@ -211,7 +211,7 @@ degrees-whole (c ∷ text) =
       | false ↦ plain-whole (unsigned_degrees (c ∷ text)) (units-whole (whole (before_point (c ∷ text))) _)
     ]
 
--- what passes a test
+-- a value that passes a test
 passed : (b : Bool) (y z : ℤ) → (if b then Ok y else Err Range) ≡ Ok z → (b ≡ true) × (y ≡ z)
 passed true y z e = (refl, cc)
 passed false y z e = absurd (cc)
@@ -244,7 +244,7 @@ places-left : (k n : ℕ) → n < 10 ^ k → 0 < n → 0 < k
 places-left zero n h more = absurd (omega arith)
 places-left (suc k) n h more = omega arith
 
--- a step of the digits that are left
+-- one step of writing the digits that are left
 pub record IsStep (k n : ℕ) : Type 0 where
   pub places : 1 ≤ k
   pub positive : 0 < 10 ^ (k - 1)

@@ -1,4 +1,4 @@
--- Numbers written in digits.
+-- The values of digits.
 use Rattle.std.proofs.Common.{◌≡◌, ℕ, ◌+◌, ◌*◌, ◌-◌, ◌<◌, ◌≤◌, ◌^◌, true, ◌==◌, List, [], ◌∷◌, length, fold, refl, ap}
 use Rattle.std.proofs.Common.{sym, subst, ◌∙◌, arith, rules, take, not, get_or, zero, suc}
 use Rattle.std.specs.List.{list_all}
@@ -14,17 +14,17 @@ use Rattle.olr_spec.specs.Degrees.{before_point, digits_value}
 pub own : IsNumeralModel (λ ds. list_all is_ascii_digit ds ≡ true) digits_value
 own = numerals_by_fold _ (search rules) (λ n ds. fold (λ m d. 10 * m + (d - 48)) n ds) (search rules)
 
--- few digits have a small value
+-- at most seven digits have a value below 10^7
 pub few-digits : (ds : List ℕ) (k : ℕ) → list_all is_ascii_digit (take k ds) ≡ true → length ds ≤ 7 →
     digits_value (take k ds) < 10 ^ 7
 few-digits ds k all few = digits_value_short own (take k ds) 7 all (omega (arith, length-take k ds))
 
--- digits write a number below a power of ten
+-- digits have a value below a power of ten
 pub digits-lt : (ds : List ℕ) (k : ℕ) → list_all is_ascii_digit (take k ds) ≡ true → length ds ≤ k →
     digits_value (take k ds) < 10 ^ length ds
 digits-lt ds k all whole = digits_value_short own (take k ds) (length ds) all (omega (arith, length-take k ds))
 
--- a fraction is below one
+-- a fraction is less than one degree
 pub scaled-lt : (n k : ℕ) → n < 10 ^ k → k ≤ 7 → n * 10 ^ (7 - k) < 10 ^ 7
 scaled-lt n k below few =
     let whole : 10 ^ k * 10 ^ (7 - k) ≡ 10 ^ 7 =
@@ -40,7 +40,7 @@ before-more c text other = take_while-cons (λ d. not (d == 46)) c text ∙ rw o
 pub before-none : (c : ℕ) (text : List ℕ) → c ≡ 46 → before_point (c ∷ text) ≡ []
 before-none c text point = take_while-cons (λ d. not (d == 46)) c text ∙ rw point refl
 
--- where the first point stands
+-- the index of the first decimal point
 pub point-at : (text : List ℕ) (i : ℕ) → i < length text → list_all (λ c. not (c == 46)) (take i text) ≡ true →
     get_or text i 0 ≡ 46 → i ≡ length (before_point text)
 point-at [] i lt all e = absurd (omega arith)

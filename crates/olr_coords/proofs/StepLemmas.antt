@@ -15,7 +15,7 @@ fits16_true : (z : ℤ) → FitsSigned w16 z → fits16 z ≡ true
 fits16_true (pos n) f = grind (arith, nat_tests)
 fits16_true (negsuc n) f = grind (arith, nat_tests)
 
--- what `i16::try_from` gives
+-- the result of `i16::try_from`
 pub in_16_bits : {E : Type 0} (r : Result ℤ E) (z : ℤ) → OkIff r (FitsSigned w16 z) z →
     result_ok r ≡ (if fits16 z then Some z else None)
 in_16_bits (Ok x) z h = rw (fits16_true z h.0, h.1) refl
@@ -26,7 +26,7 @@ in_16_bits (Err e) z h =
       | false ↦ λ _. refl
     ] refl
 
--- two coordinates differ by what fits 64 bits
+-- the difference of two coordinates fits 64 bits
 pub difference_fits : (a b : ℤ) → IsTrue (is_degrees a) → IsTrue (is_degrees b) → FitsSigned w64 (b -ℤ a)
 difference_fits (pos m) (pos n) f g = search (arith, ints)
 difference_fits (pos m) (negsuc n) f g = search (arith, ints)

@@ -1,4 +1,4 @@
--- The bounds within which this crate's calls take and give coordinates.
+-- The bounds of the coordinates that this crate's functions take and return.
 use Rattle.std.specs.Prelude.{◌*◌, ℤ, pos, neg_ℤ, Bool}
 use Rattle.olr_spec.specs.Coordinates.{unit4, within}
 

@@ -1,4 +1,4 @@
--- The text of degrees: as many decimals as are needed and no more, and a minus sign only before what isn't zero.
+-- Degrees as text: as many decimals as are needed and no more, and a minus sign only if the value is less than zero.
 --     has_degrees_text z      z units are whole steps of 10^-7 degree, at most 180 degrees either way
 --     degrees_text z      their text
 use Rattle.std.specs.Prelude.{ℕ, zero, suc, ◌+◌, ◌/◌, ◌%◌, ◌^◌, ℤ, pos, negsuc, nat_abs, Bool, ◌&&◌, ◌==◌}
@@ -6,17 +6,17 @@ use Rattle.std.specs.Prelude.{List, [], ◌∷◌, ◌++◌, decimal, if◌then�
 use Rattle.olr_spec.specs.Degrees.{unit7}
 use Rattle.olr_coords.specs.Bounds.{is_degrees}
 
--- the digits of n / 10^k behind the point, up to the last that isn't zero
+-- the digits of n / 10^k after the decimal point, up to the last that isn't zero
 unfoldable pub decimals : ℕ → ℕ → List ℕ
 decimals zero n = []
 decimals (suc k) n = if n == 0 then [] else (48 + n / 10 ^ k) ∷ decimals k (n % 10 ^ k)
 
--- a point before digits
+-- a decimal point before digits, if there are any
 abbrev pub after_point : List ℕ → List ℕ
 after_point [] = []
 after_point (d ∷ ds) = 46 ∷ d ∷ ds
 
--- n steps of 10^-7 degree
+-- n steps of 10^-7 degree as text
 abbrev pub steps_text : ℕ → List ℕ
 steps_text n = decimal (n / 10 ^ 7) ++ after_point (decimals 7 (n % 10 ^ 7))
 

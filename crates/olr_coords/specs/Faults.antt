@@ -1,4 +1,4 @@
--- The faults of a text of degrees, as the definition of `read_degrees` tells them.
+-- The faults of a text of degrees, as those of the definition of `read_degrees`.
 use Rattle.olr_spec.specs.Degrees.{CoordFault as Fault, Text as No_degrees, Range as Too_far}
 use Rattle.olr_coords.specs.declared.degrees.CoordFault.{CoordFault}
 use Rattle.olr_coords.specs.declared.degrees.CoordFault.TheVariants.{Text, Range}

@@ -1,4 +1,4 @@
-//! Places on the earth.
+//! Coordinates on the earth.
 ghost use Rattle.std.specs.Prelude.{◌≡◌, ◌↔◌, IsTrue, IsSome, IfSome};
 ghost use Rattle.olr_spec.specs.Coordinates.{is_coord, coord};
 
@@ -11,8 +11,8 @@ const GREATEST_LON: i64 = 58_982_367_232_000;
 /// The highest latitude, 89.9999 degrees; the lowest is its negative.
 const GREATEST_LAT: i64 = 29_491_167_232_000;
 
-/// A place, by its longitude and latitude in units of 1/327,680,000,000 degree. The longitude lies from -180 to
-/// 179.9999 degrees and the latitude from -89.9999 to 89.9999 degrees.
+/// A coordinate: its longitude and latitude in units of 1/327,680,000,000 degree. The longitude is from -180 to
+/// 179.9999 degrees and the latitude from -89.9999 to 89.9999 degrees (profile).
 #[derive(Clone, Copy, Debug, PartialEq, Eq)]
 pub struct Coord {
     lon: i64,
@@ -36,7 +36,7 @@ impl Model for Coord {
 }
 
 impl Coord {
-    /// The place with this longitude and latitude, in units. None exactly outside the ranges.
+    /// The coordinate with this longitude and latitude, in units. None exactly if one of them is out of range.
     pub fn new(lon: i64, lat: i64) -> Option<Coord>
         ensures inside { IsSome result ↔ IsTrue (is_coord (coord lon lat)) }
         ensures value { IfSome result (λ c. c ≡ coord lon lat) }

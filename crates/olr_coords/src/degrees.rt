@@ -1,32 +1,32 @@
-//! Degrees as text.
+//! Degrees as text: reading.
 ghost use Rattle.std.specs.Prelude.{◌≡◌, ◌^◌, ◌<◌, ◌≤◌, ◌&&◌, length, nat_le, if◌then◌else◌, IfSome, IfOk, IfErr};
 ghost use Rattle.olr_spec.specs.Degrees.{are_digits, before_point, digits_value, whole, fraction, unsigned_degrees};
 ghost use Rattle.olr_spec.specs.Degrees.{degrees, read_degrees};
 ghost use Rattle.olr_coords.specs.Faults.{coord_fault_of};
 
-/// The digits of whole degrees, at most.
+/// The greatest number of digits of the whole degrees.
 const WHOLE_DIGITS: usize = 3;
-/// The digits of a degree's fraction, at most.
+/// The greatest number of digits in the fraction of a degree.
 const FRACTION_DIGITS: usize = 7;
-/// The finest steps of a degree: it has so many.
+/// The number of finest steps, of 10^-7 degree, in a degree.
 const STEPS: u64 = 10_000_000;
-/// A finest step, a 10^-7 degree, in units.
+/// A finest step, 10^-7 degree, in units.
 const STEP: u64 = 32_768;
-/// The degrees that are read lie within 180 either way, in units.
+/// The greatest coordinate that is read, 180 degrees, in units; the least is its negative.
 const GREATEST: i64 = 58_982_400_000_000;
 
-/// Why a text gives no degrees.
+/// Why a text is not read as degrees.
 #[derive(Clone, Copy, Debug, PartialEq, Eq, thiserror::Error)]
 pub enum CoordFault {
-    /// The text has another form than degrees.
+    /// The text does not have the form of degrees.
     #[error("not a number of degrees")]
     Text,
-    /// The degrees lie beyond 180 either way.
+    /// The degrees are more than 180 either way.
     #[error("more than 180 degrees")]
     Range,
 }
 
-/// The number that digits write. None for no digits, for more than `most`, and for another byte among them.
+/// The value of decimal digits. None if there are no digits, more than `most`, or another byte among them.
 fn number(digits: &[u8], most: usize) -> Option<u64>
     requires { most ≤ 7 }
     ensures value { result
@@ -48,7 +48,7 @@ fn number(digits: &[u8], most: usize) -> Option<u64>
     Some(value)
 }
 
-/// Whole degrees, in the finest steps.
+/// The whole degrees, in the finest steps.
 fn whole(digits: &[u8]) -> Option<u64>
     ensures value { result ≡ whole digits.now }
     ensures bound { IfSome result (λ n. n < 10 ^ 10) }
@@ -56,7 +56,7 @@ fn whole(digits: &[u8]) -> Option<u64>
     Some(number(digits, WHOLE_DIGITS)? * STEPS)
 }
 
-/// What follows the whole degrees, nothing or a point and digits, in the finest steps.
+/// What follows the whole degrees, in the finest steps: nothing, or a decimal point and digits.
 fn fraction(text: &[u8]) -> Option<u64>
     ensures value { result ≡ fraction text.now }
     ensures bound { IfSome result (λ n. n < 10 ^ 7) }
@@ -72,7 +72,7 @@ fn fraction(text: &[u8]) -> Option<u64>
     Some(value * 10_u64.pow(scale as u32))
 }
 
-/// How many bytes stand before the first point.
+/// The number of bytes before the first decimal point.
 fn point(text: &[u8]) -> usize
     ensures { result ≡ length (before_point text.now) }
 {
@@ -94,7 +94,7 @@ fn without_sign(text: &[u8]) -> Option<u64>
     Some(steps * STEP)
 }
 
-/// Degrees, in units.
+/// Degrees with an optional sign, in units.
 fn degrees(text: &[u8]) -> Option<i64>
     ensures { result ≡ degrees text.now }
 {
@@ -104,8 +104,8 @@ fn degrees(text: &[u8]) -> Option<i64>
     }
 }
 
-/// The coordinate, in units, that a text of degrees writes: an optional `-`, 1 to 3 digits, and optionally `.` with
-/// 1 to 7 digits (profile). A text of another form is the fault `Text`; degrees beyond 180 either way are `Range`.
+/// The coordinate, in units, of a text of degrees: an optional `-`, 1 to 3 digits, and optionally `.` with 1 to 7
+/// digits (profile). A text of another form is the fault `Text`; degrees beyond 180 either way are `Range`.
 pub fn read_degrees(text: &[u8]) -> Result<i64, CoordFault>
     ensures ok { IfOk result (λ units. read_degrees text.now ≡ Ok units) }
     ensures fault { IfErr result (λ fault. read_degrees text.now ≡ Err (coord_fault_of fault)) }

@@ -1,6 +1,6 @@
 //! Coordinates in whole units of 1/327,680,000,000 degree: degrees as text, and the 24-bit and 16-bit values of the
-//! binary format. A 10^-7 degree is 32,768 units, a 10^-5 degree 3,276,800, a 24-bit step 7,031,250, so that all of
-//! them, and half of each step, are whole. Only `push_degrees` takes memory.
+//! binary format. 10^-7 degree is 32,768 units, 10^-5 degree 3,276,800, and a 24-bit step 7,031,250, so all of them,
+//! and half of each, are whole. Only `push_degrees` allocates.
 #![tactic(auto)]
 
 mod coord;

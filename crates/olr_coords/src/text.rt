@@ -1,4 +1,4 @@
-//! The text of degrees.
+//! Degrees as text: writing.
 ghost use Rattle.std.specs.Prelude.{◌≡◌, ◌<◌, ◌^◌, ◌++◌, IsTrue, Ok, OnOk};
 ghost use Rattle.olr_spec.specs.Degrees.{read_degrees};
 ghost use Rattle.olr_coords.specs.DegreesText.{decimals, after_point, steps_text, degrees_text, has_degrees_text};
@@ -6,13 +6,13 @@ ghost use Rattle.olr_coords.specs.DegreesText.{decimals, after_point, steps_text
 use itoa::Buffer;
 use std::alloc::AllocError;
 
-/// The digits of a degree's fraction, at most.
+/// The greatest number of digits in the fraction of a degree.
 const FRACTION_DIGITS: u32 = 7;
-/// The finest steps of a degree: it has so many.
+/// The number of finest steps, of 10^-7 degree, in a degree.
 const STEPS: u64 = 10_000_000;
-/// A finest step, a 10^-7 degree, in units.
+/// A finest step, 10^-7 degree, in units.
 const STEP: u64 = 32_768;
-/// The degrees that are written lie within 180 either way, in units.
+/// The greatest coordinate that is written, 180 degrees, in units; the least is its negative.
 const GREATEST: i64 = 58_982_400_000_000;
 
 /// Whether a coordinate, in units, can be written in degrees: it is a whole number of 10^-7 degrees, at most 180
@@ -23,8 +23,8 @@ pub fn has_degrees_text(units: i64) -> bool
     (-GREATEST..=GREATEST).contains(&units) && units.unsigned_abs() % STEP == 0
 }
 
-/// Appends a coordinate, in units, as degrees: with as many decimals as are needed, seven at most, and `-` only before
-/// what isn't zero. It fails where there is no memory for the text.
+/// Appends a coordinate, in units, as degrees: with as many decimals as are needed, at most seven, and with `-` only if
+/// it is less than zero. Fails if an allocation fails.
 pub fn push_degrees(text: &mut Vec<u8>, units: i64) -> Result<(), AllocError>
     requires { IsTrue (has_degrees_text units) }
     ensures text { OnOk result (text.new.items ≡ text.old.items ++ degrees_text units) }
@@ -44,7 +44,7 @@ fn push_steps(text: &mut Vec<u8>, steps: u64) -> Result<(), AllocError>
     push_fraction(text, steps % STEPS)
 }
 
-/// Appends a point and the digits of a fraction, in 10^-7 degrees. Appends nothing where it is zero.
+/// Appends a decimal point and the digits of a fraction, in 10^-7 degrees, or nothing if the fraction is zero.
 fn push_fraction(text: &mut Vec<u8>, fraction: u64) -> Result<(), AllocError>
     requires { fraction < 10 ^ 7 }
     ensures { OnOk result (text.new.items ≡ text.old.items ++ after_point (decimals 7 fraction)) }

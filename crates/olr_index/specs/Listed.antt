@@ -1,4 +1,4 @@
--- The list that a table has at a number: that of nothing where the table lacks the number.
+-- The list of path ids of a number in a table: the empty list if the table doesn't have the number.
 use Rattle.std.specs.Prelude.{ℕ, List, [], nat_eq, Option, Some, None}
 use Rattle.std.specs.HashMap.{HashMap, get}
 use Rattle.std.specs.declared.alloc.Global.{Global}

@@ -1,6 +1,6 @@
--- A relation between numbers and marks.
---     marks_of i n      the marks of a number, rising
---     holds i n m      whether the number has the mark
+-- A relation between numbers and path ids.
+--     marks_of i n      the path ids of a number, in ascending order
+--     holds i n m      whether the number has the path id
 use Rattle.std.specs.Prelude.{ℕ, Bool, List}
 use Rattle.olr_spec.specs.Map.{has}
 use Rattle.olr_index.specs.Listed.{marks_in}

@@ -1,4 +1,4 @@
-//! A relation between numbers and marks: which marks a number has is found by the number.
+//! A relation between numbers and path ids: which path ids a number has is found by the number.
 #![tactic(auto)]
 
 ghost use Rattle.std.specs.Prelude.{◌≡◌, ◌||◌, ◌==◌, ◌&&◌, not, ℕ, OnOk, OnErr};
@@ -9,7 +9,7 @@ ghost use Rattle.olr_index.specs.Listed.{marks_in};
 use std::alloc::{AllocError, Global};
 use std::collections::HashMap;
 
-/// Numbers and their marks. Each number has each mark once, and a number without marks takes no room.
+/// Numbers and their path ids. Each number has each path id at most once, and a number without path ids has no entry.
 #[derive(Drop, Debug)]
 pub struct Index {
     marks: HashMap<u64, Vec<u64>>,
@@ -23,7 +23,7 @@ impl Index {
     ghost use Rattle.olr_spec.specs.Map.{has};
     ghost use Rattle.olr_index.specs.Marks.{marks_of, holds};
 
-    /// No number has a mark. Takes no memory.
+    /// An index in which no number has a path id. Allocates nothing.
     pub fn new(alloc: Global) -> Index
         ensures { (number : ℕ) → marks_of result number ≡ [] }
     {
@@ -33,7 +33,7 @@ impl Index {
         }
     }
 
-    /// The marks of a number, rising, each once.
+    /// The path ids of a number, in ascending order, without duplicates.
     pub fn of(&self, number: u64) -> &[u64]
         ensures marks { result.now ≡ marks_of self.now number }
         ensures rising { IsStrictlyIncreasing result.now }
@@ -44,14 +44,15 @@ impl Index {
         }
     }
 
-    /// Whether it is known that no number has a mark.
+    /// Whether it is known that no number has a path id.
     pub fn is_empty(&self) -> bool
         ensures { IsTrue result → (number : ℕ) → marks_of self.now number ≡ [] }
     {
         self.marks.is_empty()
     }
 
-    /// Gives a number a mark, unless it has it already. After want of memory the numbers have the marks that they had.
+    /// Adds a path id to a number, unless the number has it. If an allocation fails, the path ids of all numbers are
+    /// unchanged.
     pub fn add(&mut self, number: u64, mark: u64) -> Result<(), AllocError>
         ensures ok { OnOk result ((n m : ℕ) → holds self.new n m
             ≡ (holds self.old n m || ((number == n) && (mark == m)))) }
@@ -66,7 +67,7 @@ impl Index {
         Ok(())
     }
 
-    /// Takes a mark from a number, if it has it. Takes no memory.
+    /// Removes a path id from a number, if the number has it. Allocates nothing.
     pub fn remove(&mut self, number: u64, mark: u64)
         ensures { (n m : ℕ) → holds self.new n m
             ≡ (holds self.old n m && not ((number == n) && (mark == m))) }
@@ -81,7 +82,8 @@ impl Index {
     }
 }
 
-/// Puts a mark among rising ones, unless it is there. After want of memory they are as before.
+/// Inserts a path id into a list in ascending order, unless the list has it. If an allocation fails, the list is
+/// unchanged.
 fn put(marks: &mut Vec<u64>, mark: u64) -> Result<(), AllocError>
     requires { IsStrictlyIncreasing marks.old.items }
     ensures rise { IsStrictlyIncreasing marks.new.items }
@@ -94,7 +96,7 @@ fn put(marks: &mut Vec<u64>, mark: u64) -> Result<(), AllocError>
     Ok(())
 }
 
-/// Takes a mark out of rising ones, if it is there. Takes no memory.
+/// Removes a path id from a list in ascending order, if the list has it. Allocates nothing.
 fn take_out(marks: &mut Vec<u64>, mark: u64)
     requires { IsStrictlyIncreasing marks.old.items }
     ensures rise { IsStrictlyIncreasing marks.new.items }

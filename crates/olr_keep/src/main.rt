@@ -1,6 +1,6 @@
-//! `olr-keep`: keeps published OpenLR strings right while the road map under them is edited.
+//! `olr-keep` keeps published OpenLR strings correct while the road map under them is edited.
 //!
-//! Commands come as CSV records from a file and from standard input, and replies go to standard output.
+//! Commands are read as CSV records from a file and from standard input. Replies are written to standard output.
 #![tactic(auto)]
 
 use olr_register::Register;
@@ -8,13 +8,13 @@ use olr_run::{RunFault, WRONG_WORDS, program, tell_fault};
 use std::process::ExitCode;
 use std::{env, fs, io};
 
-/// The words of the command line. They fail where one is no text, or for want of memory.
+/// The arguments of the command line. It fails if one of them is not UTF-8, or if an allocation fails.
 fn words(rt: &HostRuntime) -> io::Result<Vec<String>> {
     let words = env::args(rt)?.collect(rt.alloc())?;
     Ok(words)
 }
 
-/// Tells why there are no words, and gives the status.
+/// Reports why there are no arguments, and returns the exit status.
 fn without_words(rt: &HostRuntime, error: &io::Error) -> u8 {
     if error.kind() == io::ErrorKind::OutOfMemory {
         return tell_fault(RunFault::Memory, &mut rt.stderr());

@@ -1,4 +1,4 @@
--- Slots in blocks: what a block with another slot makes of them, and how they stand in a list.
+-- Slots in blocks: after another slot is stored in a block, and as a list.
 use Rattle.std.proofs.Common.{◌≡◌, ◌==◌, ℕ, ◌+◌, ◌-◌, ◌*◌, ◌/◌, ◌%◌, ◌<◌, zero, suc, Bool, true, false, cond, List, []}
 use Rattle.std.proofs.Common.{◌∷◌, ◌++◌, Option, Some, None, length, slice_index, nat_eq, refl, sym, ap, ◌∙◌, subst}
 use Rattle.std.proofs.Common.{inl, inr, arith, eqb-true}
@@ -15,7 +15,7 @@ use Rattle.olr_map.specs.declared.block.Block.{Block}
 use Rattle.olr_map.specs.declared.blocks.Blocks.{Blocks}
 use Rattle.olr_map.proofs.SlotLemmas.{none_above}
 
--- ---- a number is its block and its place there
+-- ---- a number is its block and its position there
 
 same_number : (n k : ℕ) → n / 4 ≡ k / 4 → n % 4 ≡ k % 4 → n ≡ k
 same_number n k e f = let a = div-add-mod' n 4 in let b = div-add-mod' k 4 in omega arith
@@ -48,7 +48,7 @@ module _ (old new : List (ℕ × Block)) (n : ℕ) (o : Option Block) (w : Optio
             ap (λ (t : Bool). cond t w (found_in old k)) (sym ne)
       ] refl
 
--- a block that is written and then goes
+-- a block that is written and then removed
 pub gone_again : {A : Type 0} (t : Bool) (o p : Option A) → cond t None (cond t o p) ≡ cond t None p
 gone_again true o p = refl
 gone_again false o p = refl
@@ -72,7 +72,7 @@ blank_zeros : (xs : List ℕ) → ((i : ℕ) → number_before (slice_index xs i
 blank_zeros [] h = refl
 blank_zeros (x ∷ xs) h = let first = none_before x (h 0) in let rest = blank_zeros xs (λ i. h (suc i)) in cc
 
--- what a comparison with four zeros tells
+-- what a comparison with four zeros shows
 pub blank_test : (b : Block) (t : Bool) → t ≡ pointwise nat_eq b.slots (zeros 4) → (t ≡ true → IsBlank b)
     × (IsBlank b → t ≡ true)
 blank_test b true e =

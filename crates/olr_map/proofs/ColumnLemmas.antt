@@ -1,4 +1,4 @@
--- Nodes in columns: what comes, goes and turns in their slots.
+-- Nodes in columns: values are added to, removed from and replaced in their slots.
 use Rattle.std.proofs.Common.{◌≡◌, ◌==◌, ℕ, ◌+◌, ◌<◌, ◌≤◌, ◌^◌, zero, suc, Bool, true, cond, List, [], ◌∷◌, ◌++◌}
 use Rattle.std.proofs.Common.{Option, Some, None, is_some, length, get_or, set, nat_lt, vec_len, refl, sym, ap, ◌∙◌}
 use Rattle.std.proofs.Common.{subst, inl, inr, arith}
@@ -74,7 +74,7 @@ no_row (None ∷ hs) (o ∷ os) (i ∷ is) zero h = refl
 no_row (Some x ∷ hs) (o ∷ os) (i ∷ is) zero h = absurd cc
 no_row (x ∷ hs) (o ∷ os) (i ∷ is) (suc p) h = no_row hs os is p h
 
--- what stands in the columns, where an entry is seen
+-- the contents of the columns, where an entry is read
 pub head_read : (hs : Heads) (os is : Column) (p : ℕ) (e : NodeEntry) → at (rows hs os is) p ≡ Some e → at hs p
     ≡ Some (record { id = e.id; place = e.place })
 head_read [] os is p e h = absurd cc
@@ -103,7 +103,7 @@ ins_read (None ∷ hs) (o ∷ os) (i ∷ is) zero e w h r = absurd cc
 ins_read (Some x ∷ hs) (o ∷ os) (i ∷ is) zero e w h r = r ∙ ap (λ (f : NodeEntry). f.ins) (same_some _ _ h)
 ins_read (x ∷ hs) (o ∷ os) (i ∷ is) (suc p) e w h r = ins_read hs os is p e w h r
 
--- an entry is put together from its parts
+-- an entry is composed of its parts
 entry_is : (e : NodeEntry) (h : NodeHead) (o i : Links) → h ≡ record { id = e.id; place = e.place } → o ≡ e.outs →
     i ≡ e.ins → e ≡ record { outs = o; ins = i; id = h.id; place = h.place }
 entry_is e h o i a b c = rw (a, b, c) refl
@@ -174,7 +174,7 @@ rows_push (x ∷ hs) (y ∷ os) [] h o i a b = absurd (omega arith)
 rows_push (x ∷ hs) (y ∷ os) (z ∷ is) h o i a b =
     ap (λ rs. with_lines x y z ∷ rs) (rows_push hs os is h o i (omega arith) (omega arith))
 
--- ---- of slots
+-- ---- the slots of nodes
 
 module _ (s : NodeSlots) where
   pub slot_count : length (node_slots s) ≡ length (slots_of s.heads)
@@ -253,7 +253,7 @@ module _ (s : NodeSlots) where
       (sym (rows_set (slots_of s.heads) s.outs.items s.ins.items p None o i s.outs_beside s.ins_beside))
       (goes (node_slots s) p e here))
 
-  -- a node comes into all columns
+  -- a node is added to all columns
   abbrev column_with : Column → ℕ → Links → Column
   column_with ls p l = cond (nat_lt p (length ls)) (set ls p l) (ls ++ l ∷ [])
 

@@ -1,4 +1,4 @@
--- Tables of nothing, and tables with more room.
+-- Empty tables, and tables with more capacity.
 use Rattle.std.proofs.Common.{◌≡◌, ◌==◌, ℕ, ◌≤◌, Bool, true, false, cond, [], Option, Some, None, is_some, unwrap_or}
 use Rattle.std.proofs.Common.{refl, sym, ap, ◌∙◌, subst, arith}
 use Rattle.std.specs.Option.{option_map}
@@ -34,7 +34,7 @@ use Rattle.olr_map.proofs.Numbering.{same_some, held_get}
 use Rattle.olr_map.specs.declared.numbered.Numbered.{Numbered}
 use Rattle.olr_map.proofs.Reading.{place_of, got_node, got_line, kept_from, node_missing}
 
--- ---- nothing
+-- ---- empty tables
 
 empty_map_sound : (M : Map) → ((v : ℕ) → has_node M v ≡ false) → ((x : ℕ) → has_line M x ≡ false) → IsMap M
 empty_map_sound M no_node no_line =
@@ -69,7 +69,7 @@ kept_none b s ls no_nodes no_slots no_lines =
       no_some : {A : Type 0} (x : A) → ◌≡◌ {A = Option A} None (Some x) → ⊥
       no_some x h = cc
 
--- ---- more room for numbers
+-- ---- more capacity for numbers
 
 module _ (t : Tables) (b' : Blocks) (same : (k : ℕ) → slot_by b' k ≡ slot_by t.index k) where
   index_indexed : IsIndexed b' (node_slots t.nodes)
@@ -108,7 +108,7 @@ module _ (t : Tables) (ls' : Numbered Line) (same : (k : ℕ) → held ls' k ≡
   pub lines_map : map_from t.index (node_slots t.nodes) (all_held ls') ≡ tables_map t
   lines_map = ap (λ (F : FinMap nat_cmp Line). record (tables_map t) { lines = F }) same_lines
 
--- ---- more room for a node's lines
+-- ---- more capacity for a node's lines
 
 pub record Grown (old new : Links) : Type 0 where
   pub lines : lines_on new ≡ lines_on old
@@ -168,7 +168,7 @@ module _ (t : Tables) (nodes' : NodeSlots) (side : Side) (p v : ℕ) (e : NodeEn
       got_node t.index (node_slots nodes') grown_indexed (all_held t.lines) k ∙ grown_places k
       ∙ sym (got_node t.index (node_slots t.nodes) t.kept.indexed (all_held t.lines) k)))
 
-  -- each node's lines on each side are the same, with more room
+  -- each node's lines on each side are the same, with more capacity
   grown_links : (s : Side) (k : ℕ) (h : Links) → links_in s t.index (node_slots nodes') k ≡ Some h → (m : Links)
       × (links_in s t.index (node_slots t.nodes) k ≡ Some m) × Grown m h
   grown_links s k h is =

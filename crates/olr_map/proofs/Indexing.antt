@@ -1,4 +1,4 @@
--- Numbers and slots that name one another: what a node that comes, goes or changes makes of them.
+-- Numbers and slots that refer to each other, after a node is added, removed or changed.
 use Rattle.std.proofs.Common.{◌≡◌, ◌==◌, ℕ, Bool, true, false, cond, List, Option, Some, None, refl, sym, ap, ◌∙◌}
 use Rattle.std.proofs.Common.{is_some, eqb-true}
 use Rattle.std.specs.Option.{option_map}
@@ -17,7 +17,7 @@ id_of e = e.id
 abbrev Slots : Type 0
 Slots = List (Option NodeEntry)
 
--- what a slot holds has the node's number
+-- the entry in a slot has the node's number
 module _ (b : Blocks) (es : Slots) (indexed : IsIndexed b es) where
   -- two nodes are not in one slot
   pub one_node : (v w p : ℕ) → slot_by b v ≡ Some p → slot_by b w ≡ Some p → v ≡ w
@@ -54,7 +54,7 @@ module _ (b : Blocks) (es : Slots) (indexed : IsIndexed b es) where
     pub turned_node : (k : ℕ) → node_in b es' k ≡ cond (v == k) (Some f) (node_in b es k)
     turned_node = turned_held b es nodes_stand es' p v e f t here
 
-  -- ---- a node that comes
+  -- ---- a node is added
 
   module _ (b' : Blocks) (es' : Slots) (p v : ℕ) (e : NodeEntry) (c : Comes es es' p e) (id : e.id ≡ v)
       (absent : slot_by b v ≡ None)
@@ -90,7 +90,7 @@ module _ (b : Blocks) (es : Slots) (indexed : IsIndexed b es) where
               ] refl (ap (option_map id_of) (sym (c.now q)) ∙ h);
         }
 
-  -- ---- a node that goes
+  -- ---- a node is removed
 
   module _ (b' : Blocks) (es' : Slots) (p v : ℕ) (e : NodeEntry) (g : Goes es es' p e) (here : slot_by b v ≡ Some p)
       (taken : (k : ℕ) → slot_by b' k ≡ cond (v == k) None (slot_by b k)) where

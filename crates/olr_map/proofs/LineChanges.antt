@@ -1,4 +1,4 @@
--- A line comes, goes and is set.
+-- A line is added, removed and set.
 use Rattle.std.proofs.Common.{◌≡◌, ◌==◌, ℕ, ◌+◌, ◌-◌, ◌<◌, ◌≤◌, Bool, true, false, cond, Option, Some, None, Ok, refl}
 use Rattle.std.proofs.Common.{sym, ap, ◌∙◌, subst, arith}
 use Rattle.std.specs.Option.{option_map, option_map_or}
@@ -54,7 +54,7 @@ pub record Relinked (t : Tables) (nodes' : NodeSlots) (from to : ℕ) (o o' i i'
   pub in_now : (k : ℕ) → links_in In t.index (node_slots nodes') k
       ≡ cond (to == k) (Some i') (links_in In t.index (node_slots t.nodes) k)
 
--- a function of the entries that the change of one leaves
+-- a function of the entries that is unchanged when one entry is replaced
 kept_by : {Y : Type 0} (fn : NodeEntry → Y) (N N' : ℕ → Option NodeEntry) (v : ℕ) (e f : NodeEntry) → N v ≡ Some e →
     ((k : ℕ) → N' k ≡ cond (v == k) (Some f) (N k)) → fn f ≡ fn e
     → (k : ℕ) → option_map fn (N' k) ≡ option_map fn (N k)
@@ -133,7 +133,7 @@ module _ (t : Tables) (from p : ℕ) (here : slot_by t.index from ≡ Some p) wh
                 (with_links Out e l) at_from mid_node refl k);
           }
 
--- ---- what a list takes and gives
+-- ---- a node's list of lines on one side
 
 module _ (t : Tables) (side : Side) (v : ℕ) (o : Links)
     (was : links_in side t.index (node_slots t.nodes) v ≡ Some o) where
@@ -177,7 +177,7 @@ standing_line t x p q known begin finish =
       there = ap (λ (k : Line). slot_by t.index k.to) (sym is) ∙ finish;
     }
 
--- both lists have it, that at its end also where the other has changed
+-- both lists have the line, the one at its end also after the other has changed
 module _ (t : Tables) (x p q : ℕ) (s : Standing t x p q) where
   pub begin_lists : (e : NodeEntry) × (at (node_slots t.nodes) p ≡ Some e) × IsStrictlyIncreasing (lines_on e.outs)
       × (has (lines_on e.outs) x ≡ true)
@@ -208,7 +208,7 @@ module _ (t : Tables) (x p q : ℕ) (s : Standing t x p q) where
         Relinked t nodes' s.line.from s.line.to e.outs l f.ins m
     both_relinked nodes' f m h = both_turned t s.line.from p s.here mid e l g s.line.to q s.there nodes' f m h
 
--- the end that stands in a list
+-- the far end that is in a list
 pub end_is : (side : Side) (b : Blocks) (N : Map) (x : ℕ) (l : Line) (q : ℕ) → get N.lines x ≡ Some l →
     slot_by b (far side l) ≡ Some q
     → ◌≡◌ {A = LineEnd} (record { node = far side l; place = q; len = l.len }) (end_at side N (place_in b) x)
@@ -223,7 +223,7 @@ start_is M x l e = ap (λ (k : Line). k.from) (record_of M x l e)
 finish_is : (M : Map) (x : ℕ) (l : Line) → get M.lines x ≡ Some l → end M x ≡ l.to
 finish_is M x l e = ap (λ (k : Line). k.to) (record_of M x l e)
 
--- what a change at a line's end leaves, with the end named by the line
+-- a bound after a change at a line's end, with the end named by the line
 changed_at_end : (f h : ℕ → ℕ) (k v n : ℕ) → k ≡ v → ((u : ℕ) → f u ≤ changed_at v (h v + n) h u) → (u : ℕ) →
     f u ≤ changed_at k (h k + n) h u
 changed_at_end f h k v n e le u = subst (λ (m : ℕ). f u ≤ changed_at m (h m + n) h u) (sym e) (le u)
@@ -255,7 +255,7 @@ module _ (t : Tables) (nodes' : NodeSlots) (lines' : Numbered Line) (from to : �
         ap (λ p. option_map_or (λ l. spare_links l) p 0) (r.in_now k)
         ∙ map_or_cond (λ l. spare_links l) 0 (to == k) i' (links_in In b (node_slots t.nodes) k)
 
--- ---- a line comes
+-- ---- a line is added
 
 pub number_free : (t : Tables) (x : ℕ) (l : Line) → CanMake (tables_map t) (room_of t) (PutLine x l) →
     has_line (tables_map t) x ≡ false
@@ -363,7 +363,7 @@ module _ (t : Tables) (nodes' : NodeSlots) (lines' : Numbered Line) (x : ℕ) (l
           line_numbers = spare;
         }
 
--- ---- a line goes
+-- ---- a line is removed
 
 pub line_taken : (t : Tables) (x : ℕ) → CanMake (tables_map t) (room_of t) (TakeLine x) →
     has_line (tables_map t) x ≡ true

@@ -1,4 +1,4 @@
--- The lists of a node's lines, where a line comes, goes or is set.
+-- The lists of a node's lines, after a line is added, removed or set.
 use Rattle.std.proofs.Common.{◌≡◌, ◌==◌, ◌&&◌, ◌||◌, ℕ, Bool, true, false, cond, not, [], Option, Some, None, refl, sym}
 use Rattle.std.proofs.Common.{ap, ◌∙◌, arith}
 use Rattle.std.specs.List.Sorted.{IsStrictlyIncreasing}
@@ -116,7 +116,7 @@ pub absent_ins : (M : Map) (v : ℕ) → IsMap M → has_node M v ≡ false → 
 absent_ins M v sound absent =
     none_listed M (λ l. l.to == v) (rise_in M v) (λ x l e. other_node M l.to v (line_ends M sound x l e) absent)
 
--- and those of a node that no line uses
+-- and so are those of a node that no line uses
 pub unused_fails : (M : Map) (v x : ℕ) (l : Line) → in_use M v ≡ false → get M.lines x ≡ Some l → ((l.to == v) ≡ false)
     × ((l.from == v) ≡ false)
 unused_fails M v x l free e =

@@ -1,4 +1,4 @@
--- The lines of a node with their far ends, where a line comes, goes or is set, and where nodes come and go.
+-- The lines of a node with their far ends, after a line is added, removed or set, and after nodes are added or removed.
 use Rattle.std.proofs.Common.{◌≡◌, ◌==◌, ◌&&◌, ◌||◌, ℕ, zero, suc, ◌<◌, ◌≤◌, Bool, true, false, cond, not, List, []}
 use Rattle.std.proofs.Common.{◌∷◌, map, Option, Some, None, unwrap_or, length, get_or, set, refl, sym, ap, ◌∙◌, subst}
 use Rattle.std.proofs.Common.{arith}
@@ -55,7 +55,7 @@ module _ {Y : Type 0} where
   map_off f g x [] h d = refl
   map_off f g x (z ∷ zs) h d = λ i. h z d.0 i ∷ map_off f g x zs h d.1 i
 
-  -- functions that differ at one number, which stands once
+  -- functions that differ at one number, which is in the list once
   map_set_at : (f g : ℕ → Y) (x : ℕ) (xs : List ℕ) (i : ℕ) → IsDistinct ◌==◌ xs → i < length xs → get_or xs i 0 ≡ x →
       ((y : ℕ) → (x == y) ≡ false → f y ≡ g y) → set (map f xs) i (g x) ≡ map g xs
   map_set_at f g x [] i apart lt is h = absurd (omega arith)
@@ -85,7 +85,7 @@ module _ (side : Side) (P : ℕ → ℕ) where
   abbrev pub seen : Line → LineEnd
   seen l = record { node = far side l; place = P (far side l); len = l.len }
 
-  -- a line that stands in a list is there
+  -- a line that is in a list is on the map
   listed_there : (M : Map) (v y : ℕ) → has (lines_at side M v) y ≡ true → passes_at (test v) (get M.lines y) ≡ true
   listed_there M v y h = sym (has-lines_where M (test v) y) ∙ h
 
@@ -106,7 +106,7 @@ module _ (side : Side) (P : ℕ → ℕ) where
         ap (λ (o : Option Line). seen (unwrap_or o no_line))
         (sym (got_remove M.lines x y ∙ ap (λ (b : Bool). cond b None (get M.lines y)) ne))
 
-    -- ---- a line comes
+    -- ---- a line is added
 
     module _ (absent : has_line M x ≡ false) where
       not_it : (v y : ℕ) → has (lines_at side M v) y ≡ true → (x == y) ≡ false
@@ -152,10 +152,10 @@ module _ (side : Side) (P : ℕ → ℕ) where
                 ∙ ap (map (end_at side added P)) (sym k.lines ∙ numbers);
           }
 
-    -- ---- a line goes
+    -- ---- a line is removed
 
     module _ (was : get M.lines x ≡ Some l) where
-      -- the line stands in no other list
+      -- the line is in no other list
       elsewhere : (v y : ℕ) → (near side l == v) ≡ false → has (lines_at side M v) y ≡ true → (x == y) ≡ false
       elsewhere v y ne h =
           ne_eqb x y (λ e.
@@ -248,7 +248,7 @@ module _ (side : Side) (P : ℕ → ℕ) where
                   ∙ ap (map (end_at side changed P)) (sym r.lines ∙ numbers);
             }
 
--- ---- other nodes, and other places
+-- ---- other nodes, and other slots
 
 pub replaced : (side : Side) (M : Map) (nodes : FinMap nat_cmp Coord) (P Q : ℕ → ℕ) (v : ℕ) (l : Links)
     → ((y : ℕ) → has (lines_at side M v) y ≡ true → P (far side (line_at M y)) ≡ Q (far side (line_at M y))) →

@@ -1,4 +1,4 @@
--- Changes that can be made with some room can be made with more.
+-- Changes that can be made with some capacity can be made with more.
 use Rattle.std.proofs.Common.{◌≡◌, ◌==◌, ℕ, ◌+◌, ◌<◌, ◌≤◌, true, false, cond, List, [], ◌∷◌, ◌++◌, reverse, Ok, IsOk}
 use Rattle.std.proofs.Common.{sym, ap, ◌∙◌, subst, arith}
 use Rattle.std.proofs.lemmas.List.{reverse-append}
@@ -125,7 +125,7 @@ one_more M N R S c cs all can back within = (can, all_on M (map_after N c) R (ro
 pub last_of : (xs ys : List Change) (c : Change) → xs ≡ ys ++ c ∷ [] → reverse xs ≡ c ∷ reverse ys
 last_of xs ys c e = ap (λ (zs : List Change). reverse zs) e ∙ last_first ys c
 
--- once it is taken back, the others can be
+-- once it is undone, the others can be undone
 pub rest_can : (M N : Map) (R S : Room) (c : Change) (cs ds : List Change) → ds ≡ c ∷ cs → CanMakeAll M R ds →
     N ≡ map_after M c → IsRoomWithin (room_after M R c) S → CanMakeAll N S cs
 rest_can M N R S c cs ds is all same within =
@@ -140,7 +140,7 @@ pub rest_made : (M N : Map) (c : Change) (cs ds : List Change) → ds ≡ c ∷ 
     made_all N cs ≡ made_all M ds
 rest_made M N c cs ds is same = ap (λ (K : Map). made_all K cs) same ∙ ap (made_all M) (sym is)
 
--- ---- how many numbers the edits of a log may put back
+-- ---- how many numbers the undo of a log may put back
 
 pub node_puts_last : (xs ys : List Change) (c : Change) → xs ≡ ys ++ c ∷ [] →
     all_node_puts (reverse xs) ≡ node_puts c + all_node_puts (reverse ys)

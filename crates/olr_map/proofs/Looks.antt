@@ -1,4 +1,4 @@
--- Answers of an option and of a map after an insert and a removal.
+-- Values of an option and of a map after an insert and a removal.
 use Rattle.std.proofs.Common.{◌≡◌, ◌==◌, ℕ, Bool, true, false, cond, Option, Some, None, refl, sym, ap, ◌∙◌, inl, inr}
 use Rattle.std.proofs.Common.{nat_cmp}
 use Rattle.std.specs.Option.{option_map, option_map_or}
@@ -30,7 +30,7 @@ pub map_or_none : {A B : Type 0} (f : A → B) (d : B) (b : Bool) (o : Option A)
 map_or_none f d true o = refl
 map_or_none f d false o = refl
 
--- what a map answers after an insert and a removal
+-- the value of a map at a key after an insert and a removal
 pub got_insert : {Y : Type 0} (m : FinMap nat_cmp Y) (k : ℕ) (v : Y) (q : ℕ) →
     get (finmap.insert m k v) q ≡ cond (k == q) (Some v) (get m q)
 got_insert m k v q =

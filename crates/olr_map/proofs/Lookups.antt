@@ -1,4 +1,4 @@
--- Values by number, in a list in which no number stands twice.
+-- Values by number, in a list without duplicate numbers.
 use Rattle.std.proofs.Common.{◌≡◌, ◌==◌, ℕ, zero, suc, ◌<◌, Bool, false, cond, List, [], ◌∷◌, Some, length, get_or}
 use Rattle.std.proofs.Common.{refl, sym, ap, ◌∙◌, arith, nat_cmp}
 use Rattle.std.specs.List.{AllByRecursion, IsDistinct}

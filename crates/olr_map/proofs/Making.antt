@@ -1,4 +1,4 @@
--- An accepted change gives a map, and another takes it back.
+-- An accepted change has a map as its result, and another change undoes it.
 use Rattle.std.proofs.Common.{◌≡◌, ◌==◌, ℕ, ◌≤◌, Bool, true, false, cond, Result, Ok, Err, IsOk, refl, ap, ◌∙◌, arith}
 use Rattle.std.specs.Result.{result_unwrap_or}
 use Rattle.std.proofs.lemmas.Bool.{eqb-true, eq-eqb}
@@ -7,7 +7,7 @@ use Rattle.olr_spec.proofs.OptionLemmas.{is_ok_of}
 use Rattle.olr_map.specs.Changes.{change_edit, changed_at, map_after}
 use Rattle.olr_map.specs.declared.change.Change.{Change}
 
--- an accepted edit gives a map
+-- an accepted edit has a map as its result
 ok_is : {A F : Type 0} (r : Result A F) (d : A) → IsOk r → r ≡ Ok (result_unwrap_or r d)
 ok_is (Ok x) d h = refl
 ok_is (Err f) d h = absurd cc
@@ -15,7 +15,7 @@ ok_is (Err f) d h = absurd cc
 pub made_ok : (M : Map) (c : Change) → IsOk (edited M (change_edit c)) → edited M (change_edit c) ≡ Ok (map_after M c)
 made_ok M c h = ok_is (edited M (change_edit c)) M h
 
--- and so it does on an equal map
+-- and it has one on an equal map
 pub record Accepted (M N K : Map) (c : Change) : Type 0 where
   pub accepted : IsOk (edited K (change_edit c))
   pub before : map_after K c ≡ M

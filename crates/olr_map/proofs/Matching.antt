@@ -1,4 +1,4 @@
--- What a result's arm knows.
+-- What holds in an arm of a match on a result.
 use Rattle.std.proofs.Common.{Result, Ok, Err, IsOk, OnOk}
 
 -- what holds where there is a value

@@ -1,4 +1,4 @@
--- Two rising lists are put together, from the front.
+-- Two ascending lists are merged from the front.
 use Rattle.std.proofs.Common.{◌≡◌, ◌↔◌, ℕ, ◌+◌, ◌-◌, ◌<◌, ◌≤◌, ◌⊎◌, List, [], ◌∷◌, ◌++◌, Contains, length, get_or, drop}
 use Rattle.std.proofs.Common.{sym, ap, ◌∙◌, inl, inr, arith, ⊎_elim, zero, suc}
 use Rattle.std.specs.List.Sorted.{IsStrictlyIncreasing}
@@ -9,7 +9,7 @@ use Rattle.std.proofs.lemmas.List.{length_push}
 use Rattle.std.proofs.lemmas.List.Elements.{Contains-append_left, Contains-get_or, Contains-push, Contains-push_cases}
 use Rattle.olr_spec.proofs.RisingLists.{rises_push}
 
--- the first i numbers of the one list and the first j of the other are put together, and the next ones are above
+-- the first i numbers of one list and the first j of the other are merged, and the next ones are greater
 pub record Merging (left right : List ℕ) (i j : ℕ) (both : List ℕ) : Type 0 where
   pub rising : IsStrictlyIncreasing both
   pub below_left : (k : ℕ) → k < length both → i < length left → get_or both k 0 < get_or left i 0
@@ -56,7 +56,7 @@ upto i k lt = ⊎_elim (λ (low : k < i). inl low) (λ (at : i ≤ k). inr (omeg
 
 module _ (left right both : List ℕ) (i j : ℕ) (up_left : IsStrictlyIncreasing left)
     (up_right : IsStrictlyIncreasing right) (m : Merging left right i j both) where
-  -- the next number of the left list alone
+  -- the next number, which is in the left list only
   pub merging_left : i < length left → (j < length right → get_or left i 0 < get_or right j 0) →
       Merging left right (i + 1) j (both ++ get_or left i 0 ∷ [])
   merging_left in' lt =
@@ -86,7 +86,7 @@ module _ (left right both : List ℕ) (i j : ℕ) (up_left : IsStrictlyIncreasin
       (λ k h. ⊎_elim (λ (low : k < j). inl low) (λ (at : k ≡ j). inr (ap (λ n. get_or right n 0) at ∙ sym e))
       (upto j k h))
 
--- what is left of the one list, where nothing is left of the other: n more numbers
+-- the rest of one list, of n numbers, where the other list is used up
 left_end : (left right both : List ℕ) (n i j : ℕ) → IsStrictlyIncreasing left → IsStrictlyIncreasing right →
     i + n ≡ length left → length right ≤ j → Merging left right i j both →
     Merging left right (length left) j (both ++ drop i left)
@@ -133,7 +133,7 @@ all_put left right both m = record {
   );
 }
 
--- at the end of one list, with what is left of both
+-- at the end of one list, with the rest of both
 pub merged_all : (left right both : List ℕ) (i j : ℕ) → IsStrictlyIncreasing left → IsStrictlyIncreasing right →
     i ≤ length left → j ≤ length right → (length left ≤ i) ⊎ (length right ≤ j)
     → Merging left right i j both → IsMerged left right (both ++ drop i left ++ drop j right)

@@ -1,4 +1,4 @@
--- A node comes, goes and moves.
+-- A node is added, removed and moved.
 use Rattle.std.proofs.Common.{◌≡◌, ◌==◌, ℕ, ◌+◌, ◌<◌, ◌≤◌, Bool, true, false, cond, [], map, Option, Some, None, Ok}
 use Rattle.std.proofs.Common.{IsTrue, unwrap_or, length, refl, sym, ap, ◌∙◌, subst, arith, arith, length-take-le}
 use Rattle.std.specs.Option.{option_map, option_map_or}
@@ -75,7 +75,7 @@ other_place : (b b' : Blocks) (v u : ℕ) (o : Option ℕ) → ((k : ℕ) → sl
     (v == u) ≡ false → place_in b u ≡ place_in b' u
 other_place b b' v u o put ne = sym (ap (λ p. unwrap_or p 0) (put u ∙ ap (λ (t : Bool). cond t o (slot_by b u)) ne))
 
--- what holds of each node's lines, where one node has others
+-- what holds for each node's lines, after one node has other lines
 pub each_but : (L L' : ℕ → Option Links) (n : ℕ) (l : Links) (Q Q' : ℕ → Links → Type 0) →
     ((k : ℕ) → L' k ≡ cond (n == k) (Some l) (L k)) → Q' n l
     → ((k : ℕ) (h : Links) → (n == k) ≡ false → Q k h → Q' k h) → ((k : ℕ) (h : Links) → L k ≡ Some h → Q k h) →
@@ -108,7 +108,7 @@ linked_none : (side : Side) (b : Bool) (o : Option NodeEntry) →
 linked_none side true o = refl
 linked_none side false o = refl
 
--- ---- a node comes
+-- ---- a node is added
 
 pub free_number : (t : Tables) (v : ℕ) (q : Coord) (o i : Spare) →
     CanMake (tables_map t) (room_of t) (PutNode v q o i) → slot_by t.index v ≡ None
@@ -117,7 +117,7 @@ free_number t v q o i can =
     (made_by (tables_map t) (map_after (tables_map t) (PutNode v q o i)) (Add_node v q)
     (made_ok (tables_map t) (PutNode v q o i) can.accepted)).0
 
--- a list has no lines, and room for so many
+-- a list without lines, with this capacity
 pub record IsBare (l : Links) (s : Spare) : Type 0 where
   pub lines : lines_on l ≡ lines_kept s
   pub room : spare_links l ≡ places_kept s
@@ -256,7 +256,7 @@ module _ (t : Tables) (b' : Blocks) (nodes' : NodeSlots) (p v : ℕ) (q : Coord)
           line_numbers = omega arith;
         }
 
--- ---- a node goes
+-- ---- a node is removed
 
 pub slot_taken : (t : Tables) (v : ℕ) → CanMake (tables_map t) (room_of t) (TakeNode v) → (p : ℕ)
     × (slot_by t.index v ≡ Some p)
@@ -380,7 +380,7 @@ module _ (t : Tables) (b' : Blocks) (nodes' : NodeSlots) (p v : ℕ) (e : NodeEn
           line_numbers = omega arith;
         }
 
--- ---- a node moves
+-- ---- a node is moved
 
 links_moved : (side : Side) (e : NodeEntry) (q : Coord) →
     links_at side (record { id = e.id; place = q; outs = e.outs; ins = e.ins }) ≡ links_at side e

@@ -1,4 +1,4 @@
--- Numbers with slots: what a thing that comes, goes or changes makes of them, and the things as a list.
+-- Numbers with slots, after a value is added, removed or changed, and the values as a list.
 use Rattle.std.proofs.Common.{◌≡◌, ◌==◌, ℕ, Bool, true, false, cond, List, [], ◌∷◌, ◌++◌, Option, Some, None, is_some}
 use Rattle.std.proofs.Common.{IsSome, refl, sym, ap, ◌∙◌, eqb-true}
 use Rattle.std.specs.Map.{lookup}
@@ -19,11 +19,11 @@ pub same_some : {A : Type 0} (x y : A) → ◌≡◌ {A = Option A} (Some x) (So
 same_some x y e = cc
 
 module _ {X : Type 0} (b : Blocks) (es : List (Option X)) (s : HaveSlots b es) where
-  -- what stands in the slot of a number
+  -- the value in the slot of a number
   pub standing : (v p : ℕ) → slot_by b v ≡ Some p → (e : X) × (at es p ≡ Some e)
   standing v p h = some_of (at es p) (s.stands v p h)
 
-  -- a number with something in its slot has one
+  -- a number with a value in its slot has a slot
   pub has_slot : (v : ℕ) → IsSome (in_slot es (slot_by b v)) → (p : ℕ) × (slot_by b v ≡ Some p)
   has_slot v h = step (slot_by b v) refl where
     step : (o : Option ℕ) → slot_by b v ≡ o → (p : ℕ) × (slot_by b v ≡ Some p)
@@ -31,7 +31,7 @@ module _ {X : Type 0} (b : Blocks) (es : List (Option X)) (s : HaveSlots b es) w
         let never : is_some (in_slot es (slot_by b v)) ≡ false = ap (λ o. is_some (in_slot es o)) e in absurd cc
     step (Some p) e = (p, e)
 
-  -- ---- another thing for a number
+  -- ---- another value for a number
 
   module _ (es' : List (Option X)) (p v : ℕ) (e f : X) (t : Turns es es' p e f) (here : slot_by b v ≡ Some p) where
     pub turned_held : (k : ℕ) → in_slot es' (slot_by b k) ≡ cond (v == k) (Some f) (in_slot es (slot_by b k))
@@ -63,11 +63,11 @@ module _ {X : Type 0} (b : Blocks) (es : List (Option X)) (s : HaveSlots b es) w
           apart = s.apart;
         }
 
-  -- ---- a thing that comes
+  -- ---- a value is added
 
   module _ (b' : Blocks) (es' : List (Option X)) (p v : ℕ) (e : X) (c : Comes es es' p e)
       (put : (k : ℕ) → slot_by b' k ≡ cond (v == k) (Some p) (slot_by b k)) where
-    -- another number's slot is another one
+    -- the slot of another number is a different one
     pub other_slot : (k q : ℕ) → slot_by b k ≡ Some q → (p == q) ≡ false
     other_slot k q h =
         ne_eqb p q (λ i. let x = standing k q h in let never : None ≡ Some x.0 = sym c.was ∙ ap (at es) i ∙ x.1 in cc)
@@ -90,7 +90,7 @@ module _ {X : Type 0} (b : Blocks) (es : List (Option X)) (s : HaveSlots b es) w
           rest None h = refl
           rest (Some q) h = stays k q h
 
-    -- a number's slot is the one that came, or the one that it had
+    -- a number's slot is the new one, or the one that it had
     came_from : (k q : ℕ) → slot_by b' k ≡ Some q → (A : Type 0) → ((v == k) ≡ true → p ≡ q → A) →
         (slot_by b k ≡ Some q → A) → A
     came_from k q h A new old =
@@ -114,7 +114,7 @@ module _ {X : Type 0} (b : Blocks) (es : List (Option X)) (s : HaveSlots b es) w
               absurd cc) (λ old'. s.apart j k q old old'));
         }
 
-  -- ---- a thing that goes
+  -- ---- a value is removed
 
   module _ (b' : Blocks) (es' : List (Option X)) (p v : ℕ) (e : X) (g : Goes es es' p e) (here : slot_by b v ≡ Some p)
       (taken : (k : ℕ) → slot_by b' k ≡ cond (v == k) None (slot_by b k)) where
@@ -136,7 +136,7 @@ module _ {X : Type 0} (b : Blocks) (es : List (Option X)) (s : HaveSlots b es) w
           rest i None h = refl
           rest i (Some q) h = remains k q i h
 
-    -- a number that has a slot is another one, and had it
+    -- a number that has a slot is another one, and had this slot before
     left : (k q : ℕ) → slot_by b' k ≡ Some q → ((v == k) ≡ false) × (slot_by b k ≡ Some q)
     left k q h =
         elim (v == k) as (λ t. (v == k) ≡ t → cond t None (slot_by b k) ≡ Some q → ((v == k) ≡ false)

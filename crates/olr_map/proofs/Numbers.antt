@@ -1,4 +1,4 @@
--- Rising lists of numbers, by the numbers that they have.
+-- Ascending lists of numbers, by the numbers that they contain.
 use Rattle.std.proofs.Common.{◌≡◌, ◌==◌, ℕ, ◌<◌, ◌≤◌, true, false, ◌||◌, List, [], ◌∷◌, refl, sym, ap, ◌∙◌, subst}
 use Rattle.std.proofs.Common.{arith, nat_cmp, Less}
 use Rattle.std.specs.List.{AllByRecursion, IsDistinct}
@@ -15,7 +15,7 @@ distinct_from_rising xs up =
     (λ i j d lt h. ne_eqb _ _ (λ e. let low = below_from_sorted xs i j d (sorted_from_strictly_increasing xs up) lt h in
     omega arith))
 
--- ---- rising lists with the same numbers are the same
+-- ---- ascending lists with the same numbers are equal
 
 above : (x n : ℕ) (xs : List ℕ) → AllByRecursion (λ (y : ℕ). nat_cmp x y ≡ Less) xs → has xs n ≡ true → x < n
 above x n [] h e = absurd cc
@@ -25,7 +25,7 @@ above x n (y ∷ ys) h e =
       | false ↦ λ p q. above x n ys h.1 q
     ] refl e
 
--- a number that stands in a list is its first, or is above it
+-- a number in a list is its first, or is greater
 in_list : (x n : ℕ) (xs : List ℕ) → AllByRecursion (λ (y : ℕ). nat_cmp x y ≡ Less) xs → has (x ∷ xs) n ≡ true → x ≤ n
 in_list x n xs h e =
     elim (x == n) as (λ b. (x == n) ≡ b → (b || has xs n) ≡ true → x ≤ n) [
@@ -33,7 +33,7 @@ in_list x n xs h e =
       | false ↦ λ p q. let lt = above x n xs h q in omega arith
     ] refl e
 
--- what stands behind the first
+-- the numbers after the first
 tail_has : (x n : ℕ) (xs ys : List ℕ) → AllByRecursion (λ (y : ℕ). nat_cmp x y ≡ Less) xs →
     AllByRecursion (λ (y : ℕ). nat_cmp x y ≡ Less) ys → has (x ∷ xs) n ≡ has (x ∷ ys) n → has xs n ≡ has ys n
 tail_has x n xs ys h k e =

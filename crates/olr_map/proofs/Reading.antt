@@ -1,4 +1,4 @@
--- What the tables tell of the map.
+-- The map that the tables represent.
 use Rattle.std.proofs.Common.{◌≡◌, ◌==◌, ℕ, ◌<◌, ◌≤◌, ◌^◌, true, false, cond, List, [], ◌∷◌, map, Option, Some, None}
 use Rattle.std.proofs.Common.{is_some, IsTrue, SomeIff, unwrap_or, length, refl, sym, ap, subst, ◌∙◌, arith}
 use Rattle.std.specs.Option.{option_map, option_map_or}
@@ -85,7 +85,7 @@ module _ (b : Blocks) (es : List (Option NodeEntry)) (indexed : IsIndexed b es) 
     step None e = refl
     step (Some p) e = let t = node_there F v p e in absurd cc
 
--- the nodes' slots are places
+-- the nodes' slots are in range
 within : (es : List (Option NodeEntry)) (p v : ℕ) → option_map id_of (at es p) ≡ Some v → p < length es
 within es p v h = step (at es p) refl h where
   step : (o : Option NodeEntry) → at es p ≡ o → option_map id_of o ≡ Some v → p < length es
@@ -115,7 +115,7 @@ module _ (b : Blocks) (es : List (Option NodeEntry)) (F : FinMap nat_cmp Line) (
       IsListed side (map_from b es F) (place_in b) v l) → IsKept b es F
   kept_from sound listed = record { sound = sound; indexed = indexed; placed = are_places; listed = listed }
 
--- ---- of tables
+-- ---- tables
 
 module _ (t : Tables) where
   abbrev b : Blocks
@@ -136,11 +136,11 @@ module _ (t : Tables) where
   pub no_line_there : (x : ℕ) → held t.lines x ≡ None → has_line M x ≡ false
   no_line_there x h = ap (λ o. is_some o) (got_line x ∙ h)
 
-  -- a line that is there is found
+  -- a line of the map is found
   pub line_found : (x : ℕ) → has_line M x ≡ true → (l : Line) × (held t.lines x ≡ Some l)
   line_found x h = some_of (held t.lines x) (ap (λ o. is_some o) (sym (got_line x)) ∙ h)
 
-  -- a line's ends are found
+  -- the ends of a line are on the map
   pub start_found : (x : ℕ) (l : Line) → held t.lines x ≡ Some l → (has_node M l.from ≡ true) × (has_node M l.to ≡ true)
   start_found x l h = (line_starts M t.kept.sound x l (got_line x ∙ h), line_ends M t.kept.sound x l (got_line x ∙ h))
 
@@ -165,13 +165,13 @@ module _ (t : Tables) where
       t.kept.listed side v (links_at side e) (ap (λ o. option_map (links_at side) (in_slot es o)) h
       ∙ ap (option_map (links_at side)) is)
 
-  -- the same of what is read in the slot
+  -- the list in the slot is that of the node
   pub listed_as : (side : Side) (v p : ℕ) (l : Links) → slot_by b v ≡ Some p →
       ((e : NodeEntry) → at es p ≡ Some e → l ≡ links_at side e) → IsListed side M (place_in b) v l
   listed_as side v p l h is = let x =
       entry_at v p h in subst (IsListed side M (place_in b) v) (sym (is x.0 x.1)) (listed_at side v p x.0 h x.1)
 
-  -- the slot that a search found
+  -- the slot that a lookup found
   pub found_at : (v n : ℕ) (o : Option ℕ) → n ≡ v → o ≡ slot_by b n → slot_by b v ≡ o
   found_at v n o same is = ap (slot_by b) (sym same) ∙ sym is
 
@@ -181,7 +181,7 @@ module _ (t : Tables) where
   pub no_ins : (v : ℕ) → slot_by b v ≡ None → [] ≡ lines_in M v
   no_ins v h = absent_ins M v t.kept.sound (node_missing b es t.kept.indexed (all_held t.lines) v h)
 
-  -- the place of a node is its slot
+  -- the slot of a node, by `place_in`
   pub slot_is : (v p : ℕ) → has_node M v ≡ true → place_in b v ≡ p → slot_by b v ≡ Some p
   slot_is v p h e = let s =
       slot_of b es t.kept.indexed (all_held t.lines) v h in s.1 ∙ ap (λ n. Some n) (sym (place_is b v s.0 s.1) ∙ e)

@@ -1,4 +1,4 @@
--- A rising list is no longer than a list that has all its numbers.
+-- An ascending list is no longer than a list that has all its numbers.
 use Rattle.std.proofs.Common.{◌≤◌, ℕ, List, length, Contains}
 use Rattle.std.specs.List.Sorted.{IsStrictlyIncreasing}
 use Rattle.std.proofs.lemmas.Bool.{eqb-true}

@@ -1,4 +1,4 @@
--- Slots: what comes, goes and turns in them.
+-- Slots, after a value is added, removed or replaced.
 use Rattle.std.proofs.Common.{◌≡◌, ◌==◌, ℕ, ◌+◌, ◌<◌, ◌≤◌, ◌^◌, zero, suc, Bool, true, false, cond, List, [], ◌∷◌, ◌++◌}
 use Rattle.std.proofs.Common.{Option, Some, None, is_some, IsNone, length, get_or, set, slice_index, refl, sym, ap, ◌∙◌}
 use Rattle.std.proofs.Common.{subst, inl, inr, arith}
@@ -93,7 +93,7 @@ module _ {X : Type 0} where
       let inside = holds_within es p e (c.now p ∙ ap (λ (b : Bool). cond b (Some e) (at old p)) (eq-eqb p p refl)) in
       omega arith
 
-  -- ---- how many are present
+  -- ---- how many values there are
 
   length-turned : (es : List (Option X)) (p : ℕ) (e f : X) → at es p ≡ Some e →
       length (present (set es p (Some f))) ≡ length (present es)
@@ -134,7 +134,7 @@ module _ {X : Type 0} where
   some_within (x ∷ es) zero h = omega arith
   some_within (x ∷ es) (suc p) h = let lt = some_within es p h in omega arith
 
-  -- what a write found in a slot
+  -- the value that a write replaced
   pub stood : (es : List (Option X)) (p : ℕ) (w : Option X) (e : X) → is_some (at es p) ≡ true → w ≡ get_or es p w →
       w ≡ Some e → at es p ≡ Some e
   stood es p w e there value is = get_or_default es p None w (some_within es p there) ∙ sym value ∙ is

@@ -1,4 +1,4 @@
--- What an edit makes of a map, another edit takes back.
+-- Each edit of a map is undone by another edit.
 use Rattle.std.proofs.Common.{◌≡◌, ◌==◌, ℕ, Bool, true, false, cond, List, [], ◌∷◌, Option, Some, None, unwrap_or, Ok}
 use Rattle.std.proofs.Common.{refl, sym, ap, ◌∙◌, subst, nat_cmp, ◌||◌}
 use Rattle.std.specs.List.{list_any}
@@ -14,7 +14,7 @@ use Rattle.olr_spec.proofs.MapLemmas.{has-lines_where, passes_at}
 use Rattle.olr_spec.proofs.UndoLemmas.{any_has, takes_back}
 use Rattle.olr_spec.proofs.OptionLemmas.{is_some_of}
 
--- ---- what an accepted edit says
+-- ---- what holds for an accepted edit
 
 -- a line set to one with the same ends
 pub set_line : (M N : Map) (x : ℕ) (l : Line) → l.from ≡ start M x → l.to ≡ end M x →
@@ -60,7 +60,7 @@ unused_by M test h =
 
 -- ---- lines of a sound map
 
--- the record of a line that is there
+-- the record of a line of the map
 pub record_of : (M : Map) (x : ℕ) (l : Line) → get M.lines x ≡ Some l → line_at M x ≡ l
 record_of M x l e = ap (λ (o : Option Line). unwrap_or o no_line) e
 
@@ -79,11 +79,11 @@ module _ (M : Map) (sound : IsMap M) (x : ℕ) (l : Line) (e : get M.lines x ≡
       subst (λ (k : Line). are_coords k.shape ≡ true) (record_of M x l e)
       (sound.shapes x (is_some_of (get M.lines x) l e))
 
--- no line goes to an absent node, or from it
+-- a node of the map is not an absent node
 pub other_node : (M : Map) (u v : ℕ) → has_node M u ≡ true → has_node M v ≡ false → (u == v) ≡ false
 other_node M u v a b = ne_eqb u v (λ e. let same : has_node M u ≡ has_node M v = ap (has_node M) e in cc)
 
--- ---- the edits that take edits back
+-- ---- the edits that undo edits
 
 module _ (M N : Map) (sound : IsMap M) where
   pub undo_move_node : (v : ℕ) (c d : Coord) → get M.nodes v ≡ Some d → edited M (Move_node v c) ≡ Ok N →

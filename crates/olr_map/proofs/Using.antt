@@ -16,7 +16,7 @@ use Rattle.olr_map.specs.declared.judging.Judged.{Judged}
 use Rattle.olr_map.specs.declared.read.LineEnd.{LineEnd}
 use Rattle.olr_map.proofs.Undoing.{used_by, unused_by}
 
--- a line that is listed uses the node
+-- a line in the list uses the node
 module _ (M : Map) (v : ℕ) (f : Line → ℕ) (uses : (l : Line) → (f l == v) ≡ true →
     (l.to == v || l.from == v) ≡ true) where
   first_uses : (zs : List ℕ) → zs ≡ lines_where M (λ l. f l == v) → 0 < length zs → in_use M v ≡ true
@@ -49,9 +49,9 @@ unused_if_empty M v out in' =
     (none_uses M v (λ k. k.from) (λ k h. or_right (k.to == v) (k.from == v) h) (nil_from_length (lines_out M v) out) x l
     e))
 
--- ---- what a drop of a node answers
+-- ---- the outcome of removing a node
 
--- the same by the ends of both lists
+-- when a node is not in use, by the ends of both lists
 pub unused_without_ends : (M : Map) (place : ℕ → ℕ) (v : ℕ) (outs ins : List LineEnd) →
     outs ≡ map (end_out M place) (lines_out M v) → ins ≡ map (end_in M place) (lines_in M v)
     → length outs ≡ 0 → length ins ≡ 0 → in_use M v ≡ false
@@ -82,7 +82,7 @@ drop_refused M v there used =
     unless_false (not (has_node M v)) No_node _ (not_from_true (has_node M v) there)
     ∙ ap (λ (b : Bool). unless b Node_in_use (Ok (record M { nodes = remove M.nodes v }))) used
 
--- the answer at either outcome
+-- the result for either outcome
 pub ok_at : (r : Result Map MapFault) (N : Map) (j : Judged) → r ≡ Ok N →
     MatchResult r (λ _. IsOk {E = EditFault} (Ok j))
     (λ f. ◌≡◌ {A = Result Judged EditFault} (Ok j) (Err (edit_fault_of f)))

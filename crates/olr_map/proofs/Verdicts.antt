@@ -1,4 +1,4 @@
--- What was judged of an edit gives the slots of its nodes, and a fault of the map is answered by its name.
+-- The slots of an accepted edit's nodes, and the faults of a map as they are returned.
 use Rattle.std.proofs.Common.{◌≡◌, ◌==◌, ◌||◌, ℕ, true, false, List, [], ◌∷◌, map, Option, Some, None, Result, Ok, Err}
 use Rattle.std.proofs.Common.{IsOk, MatchResult, refl, sym, ap, ◌∙◌}
 use Rattle.std.specs.Option.{option_to_list}
@@ -51,7 +51,7 @@ module _ (t : Tables) where
   abbrev M : Map
   M = tables_map t
 
-  -- the slot of an end that is there
+  -- the slot of an end that is on the map
   slot_at : (v w p : ℕ) → w ≡ v → (has_node M w ≡ true → place_in b w ≡ p) → has_node M v ≡ true → slot_by b v ≡ Some p
   slot_at v w p is at there = slot_is t v p there (ap (place_in b) (sym is) ∙ at (ap (has_node M) is ∙ there))
 
@@ -85,7 +85,7 @@ module _ (t : Tables) where
       let s = line_ends x (made_by M r.0 (maps.Drop_line x) r.1).0 in
       ends_at j (maps.Drop_line x) _ h refl s.0 s.1
 
--- ---- a fault of the map, as it is answered
+-- ---- a fault of the map, as it is returned
 
 abbrev map_fault : EditFault → MapFault
 map_fault NodeExists = Node_exists

@@ -1,9 +1,9 @@
 -- Slots of numbers, in blocks of four neighbours.
---     number_before n      the slot that a place of a block tells: the number before n;  0 tells none
---     slot_at b i, slot_in o i      the slot in place i of a block, which may be missing
---     found_in bs k      the slot of number k: block k / 4, place k % 4
---     IsBlank b, AreUsed bs      no place has a slot;  no block is blank
---     from n xs, all_in bs      the numbers that have slots, with them: in places from number n on;  in all blocks
+--     number_before n      the slot that a block stores as n: n - 1;  none for 0
+--     slot_at b i, slot_in o i      the slot at position i of a block, which may be missing
+--     found_in bs k      the slot of number k: block k / 4, position k % 4
+--     IsBlank b, AreUsed bs      no position has a slot;  no block is blank
+--     from n xs, all_in bs      the numbers that have slots, with them: at positions from number n on;  in all blocks
 use Rattle.std.specs.Prelude.{◌≡◌, ℕ, zero, suc, ◌*◌, ◌/◌, ◌%◌, ◌==◌, List, [], ◌∷◌, ◌++◌, Option, Some, None}
 use Rattle.std.specs.Prelude.{slice_index}
 use Rattle.std.specs.Map.{lookup}

@@ -1,7 +1,7 @@
 -- Slots by number.
 --     slot_by b k      the slot of number k
 --     pairs_of b      the numbers with their slots
---     spare_of b      how many more there is room for
+--     spare_of b      the capacity for more numbers
 use Rattle.std.specs.Prelude.{ℕ, List, Option}
 use Rattle.std.specs.HashMap.{spare}
 use Rattle.olr_map.specs.Blocked.{found_in, all_in}

@@ -1,9 +1,9 @@
--- Changes of the tables, each with the one that takes it back.
+-- Changes of the tables, each with the change that undoes it.
 --     change_edit c      the edit that a change makes
---     Room, room_of t      how many more nodes there are places for, and lines at each node
---     CanMake M R c      on this map, with this room, the change is accepted and takes no memory
---     made M c, room_after M R c      the map and the room after it
---     IsChangeMade old new c back      the change was made, and `back` can take it back
+--     Room, room_of t      the capacity for more nodes, and for more lines at each node
+--     CanMake M R c      on this map, with this capacity, the change is accepted and does not allocate
+--     made M c, room_after M R c      the map and the capacity after it
+--     IsChangeMade old new c back      the change was made, and `back` can undo it
 use Rattle.std.specs.Prelude.{◌≡◌, ◌==◌, ℕ, ◌+◌, ◌-◌, ◌<◌, ◌≤◌, if◌then◌else◌, List, [], ◌∷◌, ⊤, IsOk}
 use Rattle.std.specs.Option.{option_map_or}
 use Rattle.std.specs.Result.{result_unwrap_or}
@@ -28,7 +28,7 @@ change_edit (PutLine id line) = map.Add_line id line
 change_edit (SetLine id line) = map.Set_line id line.frc line.fow line.len line.shape
 change_edit (TakeLine id) = map.Drop_line id
 
--- how many more there are places for: nodes, and lines that leave and that enter each node
+-- the capacity for more: for nodes, and for lines that leave and that enter each node
 pub record Room : Type 0 where
   pub nodes : ℕ
   pub outs : ℕ → ℕ
@@ -43,7 +43,7 @@ spare_at side t v = option_map_or (λ l. spare_links l) (links_in side t.index (
 abbrev pub room_of : Tables → Room
 room_of t = record { nodes = node_room t.nodes; outs = spare_at Out t; ins = spare_at In t }
 
--- how many numbers of nodes, and of lines, a change puts in
+-- how many node numbers, and line numbers, a change inserts
 abbrev pub node_puts : Change → ℕ
 node_puts (PutNode id place outs ins) = 1
 node_puts _ = 0
@@ -60,7 +60,7 @@ abbrev pub all_line_puts : List Change → ℕ
 all_line_puts [] = 0
 all_line_puts (c ∷ cs) = line_puts c + all_line_puts cs
 
--- how many numbers of nodes, and of lines, an edit puts in or takes out
+-- how many node numbers, and line numbers, an edit inserts or removes
 abbrev pub node_numbers : map.Edit → ℕ
 node_numbers (map.Add_node id place) = 1
 node_numbers (map.Drop_node id) = 1
@@ -71,18 +71,18 @@ line_numbers (map.Add_line id line) = 1
 line_numbers (map.Drop_line id) = 1
 line_numbers _ = 0
 
--- there is room for the numbers
+-- there is capacity for the numbers
 pub record HasNumbers (t : Tables) (n l : ℕ) : Type 0 where
   pub nodes : n ≤ spare_of t.index
   pub lines : l ≤ spare_numbers t.lines
 
--- at least as much room
+-- at least as much capacity
 pub record IsRoomWithin (R S : Room) : Type 0 where
   pub nodes : R.nodes ≤ S.nodes
   pub outs : (v : ℕ) → R.outs v ≤ S.outs v
   pub ins : (v : ℕ) → R.ins v ≤ S.ins v
 
--- a place for each thing that the edit brings
+-- capacity for each node and line that the edit adds
 abbrev pub HasRoomFor : Room → map.Edit → Type 0
 HasRoomFor R (map.Add_node id place) = 0 < R.nodes
 HasRoomFor R (map.Add_line id line) = (0 < R.outs line.from) × (0 < R.ins line.to)
@@ -119,7 +119,7 @@ room_after M R (TakeLine id) =
           changed_at (end M id) (R.ins (end M id) + 1) R.ins;
     }
 
--- a node that comes has no lines yet, and a line that is set keeps its ends
+-- a node that is added has no lines yet, and a line that is set keeps its ends
 abbrev pub IsWhole : Map → Change → Type 0
 IsWhole M (PutNode id place outs ins) = (lines_kept outs ≡ []) × (lines_kept ins ≡ [])
 IsWhole M (SetLine id line) = (line.from ≡ start M id) × (line.to ≡ end M id)

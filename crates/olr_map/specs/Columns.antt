@@ -1,7 +1,7 @@
--- Nodes in their slots, kept in columns.
+-- Nodes in their slots, stored in columns.
 --     with_lines h o i      the entry of a node with this head and these lines
---     rows hs os is      what slots hold by their columns
---     node_slots s, node_room s      what the slots hold;  how many more there is room for
+--     rows hs os is      the contents of slots by their columns
+--     node_slots s, node_room s      the contents of the slots;  the capacity for more nodes
 use Rattle.std.specs.Prelude.{ℕ, ◌-◌, ◌+◌, min, length, List, [], ◌∷◌, Option, Some, None}
 use Rattle.std.specs.Vec.{vec_capacity}
 use Rattle.olr_map.specs.Slabs.{slots_of, free_in, room_in}

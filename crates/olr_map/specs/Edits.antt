@@ -1,4 +1,4 @@
--- Edits and their faults as the definitions of a map see them.
+-- Edits and their faults as those of the specification.
 --     edit_of e      the edit
 --     edit_fault_of f      the answer where the map refuses with f;  want of memory is no fault of the map
 --     allocates e      the edit adds or removes a node or a line, for which the map allocates

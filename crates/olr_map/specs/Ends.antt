@@ -1,7 +1,7 @@
--- The lines of a node with their far ends and lengths, and where the nodes have their places.
+-- The lines of a node with their far ends and lengths, and the slots of the nodes.
 --     ends_out M place v, ends_in M place v      for each line that leaves v (enters v), in order: the node at its far
---         end, that node's place, and its length
---     ArePlaces M place count      the nodes have places apart, each below the count
+--         end, that node's slot, and its length
+--     ArePlaces M place count      the nodes have distinct slots, each below the count
 use Rattle.std.specs.Prelude.{◌≡◌, ℕ, ◌<◌, ◌≤◌, ◌^◌, List, map, IsTrue}
 use Rattle.olr_spec.specs.Map.{Map, has_node, start, end, dm, lines_in, lines_out}
 use Rattle.olr_map.specs.declared.read.LineEnd.{LineEnd}

@@ -1,5 +1,5 @@
--- The hash of a number of a node or a line.
---     number_step n b      the last four bytes as a number, the lowest first, after one more
+-- The hash of a node number or a line number.
+--     number_step n b      the last four bytes as a number, the lowest first, after one more byte
 --     number_write h bytes, number_hash h      the state after these bytes, and its hash
 use Rattle.std.specs.Prelude.{ℕ, ◌+◌, ◌*◌, ◌/◌, ◌%◌, ◌^◌, List, fold, bit_xor}
 use Rattle.olr_map.specs.declared.number_hash.NumberHasher.{NumberHasher}

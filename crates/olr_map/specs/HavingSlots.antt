@@ -1,6 +1,6 @@
 -- Numbers that have slots.
---     in_slot es o      what stands in the slot, if there is one
---     HaveSlots b es      something stands in the slot of each number, and no two have one slot
+--     in_slot es o      the value in the slot, if there is a slot
+--     HaveSlots b es      the slot of each number has a value, and no two numbers share a slot
 use Rattle.std.specs.Prelude.{◌≡◌, ℕ, List, Option, Some, None, IsSome}
 use Rattle.std.specs.Coded.{Coded-set, coded_ℕ}
 use Rattle.std.proofs.Props.{props}

@@ -1,8 +1,8 @@
--- What an edit touches on a map that takes it, as one value.
+-- What an edit touches on a map that accepts it, as one value.
 --     judged_lines j, changes_told j      its line, and that line as a changed one
---     IsJudged M place e j      the map takes edit e, and j tells what it touches: nodes with their places, and a line
---         with how it changes
---     AreSlots b M at e, AreEnds M nodes e      at: the slots of the nodes of e that are there before it; nodes: the
+--     IsJudged M place e j      the map accepts edit e, and j is what it touches: nodes with their slots, and a line
+--         with its change
+--     AreSlots b M at e, AreEnds M nodes e      at: the slots of the nodes of e that exist before it; nodes: the
 --         ends of the line that e sets
 use Rattle.std.specs.Prelude.{◌≡◌, ◌==◌, ◌||◌, ℕ, List, map, Some, IsTrue, IsOk, ⊤}
 use Rattle.std.specs.Option.{option_to_list}

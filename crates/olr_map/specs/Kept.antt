@@ -1,8 +1,8 @@
--- The tables of a map: slots by node number, the nodes' entries by slot, the lines by number; and what is kept of them.
+-- The tables of a map: slots by node number, the nodes' entries by slot, the lines by number; and their invariant.
 --     node_in b es v      the entry of node v;  links_in side b es v      its lines on one side
 --     map_from b es F      the map
 --     place_in b v      the slot of node v
---     IsKept b es F      the map is sound, numbers and slots name one another, and each node has the lists of its lines
+--     IsKept b es F      the map is sound, numbers and slots refer to each other, each node has the lists of its lines
 use Rattle.std.specs.Prelude.{◌≡◌, ◌==◌, ℕ, List, map, Option, Some, unwrap_or, length, refl}
 use Rattle.std.specs.Option.{option_map, option_map_or}
 use Rattle.std.specs.Coded.{Coded, code_by, coded×, coded_ℕ, coded_list, coded_option, Coded-set, le_prop}
@@ -40,7 +40,7 @@ map_from b es F =
 abbrev pub place_in : Blocks → ℕ → ℕ
 place_in b v = unwrap_or (slot_by b v) 0
 
--- the end of a line on one side of a node: this one, and the far one
+-- the ends of a line that is in a node's list on one side: the one at this node, and the far one
 abbrev pub near : Side → Line → ℕ
 near Out l = l.from
 near In l = l.to
@@ -59,7 +59,7 @@ pub record IsListed (side : Side) (M : Map) (place : ℕ → ℕ) (v : ℕ) (l :
   pub numbers : lines_on l ≡ lines_at side M v
   pub ends : ends_on l ≡ map (end_at side M place) (lines_at side M v)
 
--- each node's slot has its entry, and the other way round
+-- each node's slot has its entry, and each entry is in the slot of its node
 pub record IsIndexed (b : Blocks) (es : List (Option NodeEntry)) : Type 0 where
   pub stands : (v p : ℕ) → slot_by b v ≡ Some p → option_map (λ (e : NodeEntry). e.id) (at es p) ≡ Some v
   pub named : (v p : ℕ) → option_map (λ (e : NodeEntry). e.id) (at es p) ≡ Some v → slot_by b v ≡ Some p

@@ -1,10 +1,9 @@
 -- Lines of a node with their far ends.
---     lines_on l, ends_on l      the lines, and beside each its far end
---     spare_in m, spare_links l      how many more there are places for, in vectors and in a list
---     lines_kept s, places_kept s      the lines in memory that is kept for a list, which are none, and how many there
---         are places for
---     IsLinked old new id end, IsUnlinked old new id, IsReset old new id end      a line came, went, or has another far
---         end
+--     lines_on l, ends_on l      the lines, and the far end of each
+--     spare_in m, spare_links l      the capacity for more lines, in vectors and in a list
+--     lines_kept s, places_kept s      the lines in the memory of an empty list, which are none, and its capacity
+--     IsLinked old new id end, IsUnlinked old new id, IsReset old new id end      a line was inserted, was removed, or
+--         has another far end
 use Rattle.std.specs.Prelude.{◌≡◌, ℕ, ◌+◌, ◌-◌, ◌<◌, ◌≤◌, List, [], min, length, take, set, slice_index, vec_len}
 use Rattle.std.specs.Vec.{vec_capacity}
 use Rattle.std.specs.List.{insert, remove}

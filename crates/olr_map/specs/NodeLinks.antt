@@ -1,5 +1,5 @@
 -- The lines of a node on one side.
---     links_at side e, with_links side e l      those that leave it or enter it;  the entry with others there
+--     links_at side e, with_links side e l      those that leave it or enter it;  the entry with others instead
 use Rattle.olr_map.specs.declared.links.Links.{Links}
 use Rattle.olr_map.specs.declared.slots.NodeEntry.{NodeEntry}
 use Rattle.olr_map.specs.declared.slots.Side.{Side}

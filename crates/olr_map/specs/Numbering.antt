@@ -1,7 +1,7 @@
--- Things by number, in slots.
---     held n k      the thing with number k
---     things_of n, all_held n      the numbers with their things;  the same as a finite map
---     spare_numbers n      how many more there is room for
+-- Values by number, in slots.
+--     held n k      the value with number k
+--     things_of n, all_held n      the numbers with their values, as a list;  as a finite map
+--     spare_numbers n      the capacity for more
 use Rattle.std.specs.Prelude.{ℕ, min, List, [], ◌∷◌, ◌++◌, Option, Some, None}
 use Rattle.std.specs.FinMap.{FinMap, from_entries}
 use Rattle.std.specs.Ordering.{nat_cmp}
@@ -12,7 +12,7 @@ use Rattle.olr_map.specs.HavingSlots.{in_slot}
 use Rattle.olr_map.specs.declared.numbered.Numbered.{Numbered}
 
 module _ {X : Type 0} where
-  -- the number with what stands in its slot
+  -- the number with the value in its slot
   abbrev pub thing : ℕ → Option X → List (ℕ × X)
   thing k None = []
   thing k (Some x) = (k, x) ∷ []

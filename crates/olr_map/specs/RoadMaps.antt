@@ -1,8 +1,8 @@
--- A road map as the definitions see it, and when an edit of it can be taken back.
---     map_of m, slot_of m      its nodes and lines;  where each node has its place, by which `place_of` answers
---     CanUndo m u, map_undone m u      the map is as the edit left it, its room for what comes back included; the map
---         from before
---     CanUndoAll m log, map_before m log      the same for all edits that a log knows
+-- A road map as a map of the specification, and when an edit of it can be undone.
+--     map_of m, slot_of m      its nodes and lines;  the slot of each node, which `place_of` returns
+--     CanUndo m u, map_undone m u      the map is as the edit left it, with capacity for what the undo puts back;
+--         the map before the edit
+--     CanUndoAll m log, map_before m log      both, for all edits of a log
 use Rattle.std.specs.Prelude.{ℕ}
 use Rattle.olr_spec.specs.Map.{Map}
 use Rattle.olr_map.specs.Kept.{place_in}
@@ -30,7 +30,7 @@ CanUndoAll m log = CanUndoAllIn m.tables log
 abbrev pub map_before : RoadMap → UndoLog → Map
 map_before m log = before_in m.tables log
 
--- for a ghost field beside a map and what takes its edits back
+-- for a ghost field beside a map and its undo records
 pub CanUndo-prop : (m : RoadMap) (u : Undo) → IsProp (CanUndo m u)
 CanUndo-prop m u = CanUndoIn-prop m.tables u
 

@@ -1,7 +1,7 @@
--- Things in their slots.
---     slots_of s, free_in s, room_in s      what the slots hold;  how many are free;  how many more there is room for
---     Fills old new p      slot p was free and isn't listed any more, or it is a new one behind the others, and none
---         was free
+-- Values in their slots.
+--     slots_of s, free_in s, room_in s      the contents of the slots;  how many are free;  the capacity for more
+--     Fills old new p      slot p was free and is no longer listed, or it is a new one at the end, and none was
+--         free
 use Rattle.std.specs.Prelude.{◌≡◌, ℕ, ◌-◌, ◌+◌, ◌^◌, ◌<◌, ◌⊎◌, min, length, List, Option}
 use Rattle.std.specs.Vec.{vec_capacity}
 use Rattle.olr_map.specs.declared.slab.Slab.{Slab}

@@ -1,7 +1,7 @@
--- Things in slots, some of which are free.
---     present es      the things, in the slots' order
---     at es p      what slot p holds
---     IsSlotted es free room      the free slots are listed, each once, and there is room to list them all
+-- Values in slots, some of which are free.
+--     present es      the values, in the order of the slots
+--     at es p      the content of slot p
+--     IsSlotted es free room      the free slots are listed, each once, and there is capacity to list all slots
 use Rattle.std.specs.Prelude.{◌≡◌, ◌≢◌, ℕ, ◌+◌, ◌<◌, ◌≤◌, ◌^◌, List, [], ◌∷◌, Option, Some, None, length, slice_index}
 use Rattle.std.specs.Prelude.{slice_index_or, cond, ◌==◌, IsNone}
 use Rattle.std.specs.Coded.{Coded-set, coded_ℕ, le_prop}
@@ -27,17 +27,17 @@ module _ {X : Type 0} where
   pub IsSlotted-prop : (es : List (Option X)) (free : List ℕ) (room : ℕ) → IsProp (IsSlotted es free room)
   IsSlotted-prop es free room = hlevel (props, Coded-set coded_ℕ, le_prop)
 
-  -- slot p, which was free, holds e, and the others what they held
+  -- slot p, which was free, holds e; the other slots are unchanged
   pub record Comes (old new : List (Option X)) (p : ℕ) (e : X) : Type 0 where
     pub was : at old p ≡ None
     pub now : (q : ℕ) → at new q ≡ cond (p == q) (Some e) (at old q)
 
-  -- slot p, which held e, is free
+  -- slot p, which held e, is free; the other slots are unchanged
   pub record Goes (old new : List (Option X)) (p : ℕ) (e : X) : Type 0 where
     pub was : at old p ≡ Some e
     pub now : (q : ℕ) → at new q ≡ cond (p == q) None (at old q)
 
-  -- slot p, which held e, holds f
+  -- slot p, which held e, holds f; the other slots are unchanged
   pub record Turns (old new : List (Option X)) (p : ℕ) (e f : X) : Type 0 where
     pub was : at old p ≡ Some e
     pub now : (q : ℕ) → at new q ≡ cond (p == q) (Some f) (at old q)

@@ -1,10 +1,10 @@
--- What takes edits back, one or a list of them.
---     CanMakeAll M R cs      the changes can be made one after the other, and take no memory
+-- Undo records, of one edit or of a list of edits.
+--     CanMakeAll M R cs      the changes can be made one after the other, without allocation
 --     made_all M cs      the map after them
---     log_changes log      the changes that take back what a log knows, the last edit's first
---     CanUndoIn t u, undone_in t u      the tables are as the edit left them, their room for what comes back included;
---         the map from before
---     CanUndoAllIn t log, before_in t log      the same for all edits that a log knows
+--     log_changes log      the changes that undo the edits of a log, from the last edit to the first
+--     CanUndoIn t u, undone_in t u      the tables are as the edit left them, with capacity for what the undo puts
+--         back; the map before the edit
+--     CanUndoAllIn t log, before_in t log      both, for all edits of a log
 use Rattle.std.specs.Prelude.{ℕ, List, [], ◌∷◌, reverse, ⊤}
 use Rattle.std.specs.Coded.{×_prop, Unit-prop, le_prop, coded_ℕ, coded_list, Coded-set}
 use Rattle.std.proofs.Props.{props}
@@ -41,7 +41,7 @@ CanUndoAllIn t log = CanMakeAll (tables_map t) (room_of t) (log_changes log) × 
 abbrev pub before_in : Tables → UndoLog → Map
 before_in t log = made_all (tables_map t) (log_changes log)
 
--- these facts have one proof at most
+-- these statements have at most one proof
 HasPlace-prop : (e : map.Edit) → IsProp (HasPlace e)
 HasPlace-prop (map.Add_node v c) = hlevel props
 HasPlace-prop (map.Move_node v c) = hlevel props

@@ -6,7 +6,7 @@ use std::mem;
 /// How many neighbouring numbers share a block.
 pub const BLOCK_LEN: u32 = 4;
 
-/// The slots of neighbouring numbers: one more than the slot, or 0 where a number has none.
+/// The slots of neighbouring numbers, each stored as slot + 1, or as 0 for a number without a slot.
 #[derive(Clone, Copy, Debug)]
 pub struct Block {
     pub slots: [u32; BLOCK_LEN as usize],
@@ -25,7 +25,7 @@ impl Block {
         }
     }
 
-    /// The slot in this place.
+    /// The slot at this position.
     pub fn slot(&self, place: usize) -> Option<u32>
         requires { place < 4 }
         ensures { result ≡ slot_at self.now place }
@@ -33,7 +33,7 @@ impl Block {
         self.slots[place].checked_sub(1)
     }
 
-    /// Puts a slot in this place.
+    /// Stores a slot at this position.
     pub fn put(&mut self, place: usize, slot: u32)
         requires within { place < 4 }
         requires fits { slot + 1 < 2 ^ 32 }
@@ -42,7 +42,7 @@ impl Block {
         self.slots[place] = slot + 1;
     }
 
-    /// Takes the slot out of this place.
+    /// Removes the slot at this position, and returns it.
     pub fn take(&mut self, place: usize) -> u32
         requires { IsSome (slot_at self.old place) }
         ensures was { slot_at self.old place ≡ Some result }
@@ -51,7 +51,7 @@ impl Block {
         mem::replace(&mut self.slots[place], 0) - 1
     }
 
-    /// Whether no place has a slot.
+    /// Whether no position has a slot.
     pub fn is_empty(&self) -> bool
         ensures { IsTrue result ↔ IsBlank self.now }
     {

@@ -10,7 +10,7 @@ use std::alloc::{AllocError, Global};
 use std::collections::HashMap;
 use std::hash::BuildHasherDefault;
 
-/// Blocks by number: that of number `n` is `n / 4`. A block goes with its last slot.
+/// Blocks by number: number `n` is in block `n / 4`. A block is removed with its last slot.
 #[derive(Drop, Debug)]
 pub struct Blocks {
     pub blocks: HashMap<u32, Block, BuildHasherDefault<NumberHasher>>,
@@ -21,7 +21,7 @@ pub struct Blocks {
 impl Blocks {
     ghost use Rattle.olr_map.specs.ByNumbers.{slot_by, spare_of};
 
-    /// No slots. Takes no memory.
+    /// No slots. Does not allocate.
     pub fn new(alloc: Global) -> Blocks
         ensures { result.blocks.entries ≡ [] }
     {
@@ -40,7 +40,7 @@ impl Blocks {
         }
     }
 
-    /// Makes room for so many more numbers.
+    /// Reserves capacity for `additional` more numbers.
     pub fn reserve(&mut self, additional: usize) -> Result<(), AllocError>
         ensures same { (k : ℕ) → slot_by self.new k ≡ slot_by self.old k }
         ensures more { spare_of self.old ≤ spare_of self.new }
@@ -49,7 +49,7 @@ impl Blocks {
         self.blocks.reserve(additional)
     }
 
-    /// Puts the slot of a number in. There is room for it.
+    /// Stores the slot of a number. Capacity for it is reserved.
     pub fn put(&mut self, number: u32, slot: u32)
         requires fits { slot + 1 < 2 ^ 32 }
         requires room { 0 < spare_of self.old }
@@ -71,7 +71,7 @@ impl Blocks {
         }
     }
 
-    /// Takes the slot of a number out.
+    /// Removes the slot of a number, and returns it.
     pub fn take(&mut self, number: u32) -> u32
         requires { IsSome (slot_by self.old number) }
         ensures was { slot_by self.old number ≡ Some result }

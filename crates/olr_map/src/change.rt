@@ -1,4 +1,4 @@
-//! Changes of the tables of a map. Each is taken back by another, so that an edit is undone by a change as well.
+//! Changes of the tables of a map. Each is undone by another change, so that the undo of an edit is a change as well.
 
 use crate::ids::{LineId, NodeId};
 use crate::line::Line;
@@ -8,21 +8,21 @@ use olr_coords::Coord;
 /// A change of the tables.
 #[derive(Drop, Debug)]
 pub enum Change {
-    /// Puts a node without lines in, and the memory for the lines that leave it and that enter it.
+    /// Inserts a node without lines, with the memory for the lines that leave it and that enter it.
     PutNode {
         id: NodeId,
         place: Coord,
         outs: Spare,
         ins: Spare,
     },
-    /// Gives a node another place on the earth.
+    /// Moves a node to another coordinate.
     MoveNode(NodeId, Coord),
-    /// Takes a node's entry out.
+    /// Removes a node's entry.
     TakeNode(NodeId),
-    /// Puts a line in, and its number into the lists of its ends.
+    /// Inserts a line, and its number into the lists of its ends.
     PutLine(LineId, Line),
-    /// Puts another line with the same ends in a line's place.
+    /// Replaces a line by another one with the same ends.
     SetLine(LineId, Line),
-    /// Takes a line out, and its number out of the lists of its ends.
+    /// Removes a line, and its number from the lists of its ends.
     TakeLine(LineId),
 }

@@ -1,4 +1,4 @@
-//! Edits of a map, and why one is refused.
+//! Edits of a map, and the faults for which an edit is rejected.
 
 use crate::ids::{LineId, NodeId};
 use crate::line::{Line, Shape};
@@ -8,15 +8,15 @@ use thiserror::Error;
 /// An edit of a map.
 #[derive(Drop, Debug)]
 pub enum Edit {
-    /// A new node at a place.
+    /// Adds a node at a coordinate.
     AddNode(NodeId, Coord),
-    /// Another place for a node.
+    /// Moves a node to another coordinate.
     MoveNode(NodeId, Coord),
-    /// Takes a node away that no line uses.
+    /// Removes a node that no line uses.
     DropNode(NodeId),
-    /// A new line between two nodes of the map.
+    /// Adds a line between two nodes of the map.
     AddLine(LineId, Line),
-    /// Other classes, another length (in decimetres) and another shape for a line; its ends stay.
+    /// Sets the classes, the length (in decimetres) and the shape of a line. Its ends do not change.
     SetLine {
         id: LineId,
         frc: u8,
@@ -24,23 +24,23 @@ pub enum Edit {
         len: u32,
         shape: Vec<Shape>,
     },
-    /// Takes a line away.
+    /// Removes a line.
     DropLine(LineId),
 }
 
-/// Why an edit is refused. The map is then as it was.
+/// Why an edit is rejected. The map is then unchanged.
 #[derive(Clone, Copy, Debug, PartialEq, Eq, Error)]
 pub enum EditFault {
-    /// The new node is in the map already.
+    /// The new node is on the map already.
     #[error("NodeExists")]
     NodeExists,
-    /// The node, or an end of the new line, is not in the map.
+    /// The node, or an end of the new line, is not on the map.
     #[error("NoNode")]
     NoNode,
-    /// The new line is in the map already.
+    /// The new line is on the map already.
     #[error("LineExists")]
     LineExists,
-    /// The line is not in the map.
+    /// The line is not on the map.
     #[error("NoLine")]
     NoLine,
     /// A line enters or leaves the node.
@@ -49,7 +49,7 @@ pub enum EditFault {
     /// The line would not be good.
     #[error("BadShape")]
     BadShape,
-    /// There was no memory for what the edit adds.
+    /// Out of memory: an allocation for the edit failed.
     #[error("Memory")]
     Memory,
 }

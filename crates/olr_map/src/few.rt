@@ -6,10 +6,10 @@ ghost use Rattle.std.specs.List.{remove_range};
 use crate::ids::LineId;
 use crate::read::LineEnd;
 
-/// How many lines there are places for.
+/// How many lines fit in the value.
 pub const FEW: usize = 4;
 
-/// The numbers of up to four lines, and beside each the line's far end.
+/// The numbers of up to four lines, and the far end of each.
 #[derive(Drop, Debug)]
 pub struct Few {
     pub count: u32,
@@ -46,7 +46,7 @@ impl Few {
         &self.ends[..self.count as usize]
     }
 
-    /// Puts a line in at this place among them. There is room for it.
+    /// Inserts a line at this position. There are fewer than four lines.
     pub fn insert(&mut self, at: usize, id: LineId, end: LineEnd)
         requires within { at ≤ self.old.count }
         requires room { self.old.count < 4 }
@@ -60,7 +60,7 @@ impl Few {
         self.count += 1;
     }
 
-    /// Takes the line at this place out.
+    /// Removes the line at this position.
     pub fn remove(&mut self, at: usize)
         requires { at < self.old.count }
         ensures count { self.new.count + 1 ≡ self.old.count }
@@ -73,7 +73,7 @@ impl Few {
         self.count -= 1;
     }
 
-    /// Gives the line at this place another far end.
+    /// Sets another far end for the line at this position.
     pub fn set_end(&mut self, at: usize, end: LineEnd)
         requires { at < self.old.count }
         ensures count { self.new.count ≡ self.old.count }
@@ -84,7 +84,7 @@ impl Few {
     }
 }
 
-/// Puts a value in at a place among the first `count` values. There is a place behind these.
+/// Inserts a value at a position among the first `count` values. The slice is longer than `count`.
 fn put_in<T: Copy>(values: &mut [T], count: usize, at: usize, value: T)
     requires within { at ≤ count }
     requires room { count < length values.old }
@@ -95,7 +95,7 @@ fn put_in<T: Copy>(values: &mut [T], count: usize, at: usize, value: T)
     last_to(&mut values[..count + 1], at);
 }
 
-/// Takes the value at a place among the first `count` values out.
+/// Removes the value at a position among the first `count` values.
 fn take_out<T>(values: &mut [T], count: usize, at: usize)
     requires within { at < count }
     requires few { count ≤ length values.old }
@@ -105,7 +105,7 @@ fn take_out<T>(values: &mut [T], count: usize, at: usize)
     move_to_end(&mut values[..count], at, at + 1);
 }
 
-/// Moves the last value to a place, and those from there on one place further.
+/// Moves the last value to a position, and the values from that position on one further.
 fn last_to<T>(values: &mut [T], at: usize)
     requires { at < length values.old }
     ensures len { length values.new ≡ length values.old }
@@ -114,7 +114,7 @@ fn last_to<T>(values: &mut [T], at: usize)
     values[at..].rotate_right(1);
 }
 
-/// Moves the values from `start` up to `end` behind the others.
+/// Moves the values from `start` up to `end` to the end of the slice.
 fn move_to_end<T>(values: &mut [T], start: usize, end: usize)
     requires start_le_end { start ≤ end }
     requires in_bounds { end ≤ length values.old }

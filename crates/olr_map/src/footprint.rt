@@ -7,7 +7,7 @@ use std::alloc::{AllocError, Global};
 use std::cmp::Ordering;
 use std::marker::Model;
 
-/// A set of node numbers, kept and lent in rising order.
+/// A set of node numbers, stored and returned in ascending order.
 #[derive(Drop, Debug)]
 pub struct Footprint {
     nodes: Vec<NodeId>,
@@ -25,7 +25,7 @@ impl Model for Footprint {
 }
 
 impl Footprint {
-    /// The set of no nodes. Takes no memory.
+    /// The empty set. Does not allocate.
     pub fn new(alloc: Global) -> Footprint
         ensures { result ≡ [] }
     {
@@ -34,7 +34,7 @@ impl Footprint {
         }
     }
 
-    /// The nodes, rising.
+    /// The nodes in ascending order.
     pub fn as_slice(&self) -> &[NodeId]
         ensures same { result.now ≡ self.now }
         ensures rising { IsStrictlyIncreasing self.now }
@@ -49,7 +49,7 @@ impl Footprint {
         self.nodes.binary_search(&node).is_ok()
     }
 
-    /// Puts one node in. After want of memory the set is as before.
+    /// Adds one node. If an allocation fails, the set is unchanged.
     pub fn note(&mut self, node: NodeId) -> Result<(), AllocError>
         ensures ok { OnOk result
             ((n : ℕ) → (Contains self.new n) ↔ ((Contains self.old n) ⊎ (n ≡ node))) }
@@ -61,7 +61,7 @@ impl Footprint {
         Ok(())
     }
 
-    /// Puts all these nodes in, by one merge into room that is made at once. After want of memory the set is as before.
+    /// Adds all these nodes by one merge into capacity that is allocated at once. If that fails, the set is unchanged.
     pub fn note_all(&mut self, rising: &[NodeId]) -> Result<(), AllocError>
         requires rising { IsStrictlyIncreasing rising.now }
         ensures ok { OnOk result
@@ -75,7 +75,7 @@ impl Footprint {
     }
 }
 
-/// The numbers of both lists, rising.
+/// The numbers of both lists, in ascending order without duplicates.
 fn merge(alloc: Global, left: &[NodeId], right: &[NodeId]) -> Result<Vec<NodeId>, AllocError>
     requires left { IsStrictlyIncreasing left.now }
     requires right { IsStrictlyIncreasing right.now }

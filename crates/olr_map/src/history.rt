@@ -1,4 +1,4 @@
-//! Edits of the tables of a map, and what takes them back.
+//! Edits of the tables of a map, and their undo records.
 
 use crate::change::Change;
 use crate::edit::{Edit, EditFault};
@@ -24,7 +24,7 @@ impl Tables {
     ghost use Rattle.olr_map.specs.Changes.{IsChangeMade, map_after, room_after};
     ghost use Rattle.olr_map.specs.Undos.{log_changes, CanUndoIn, undone_in, CanUndoAllIn, before_in};
 
-    /// The slots of the nodes that a change touches and that are there before it.
+    /// The slots of the nodes that a change touches and that exist before it.
     fn slots_for(&self, change: &Change) -> (u32, u32)
         requires { IsOk (edited (tables_map self.now) (change_edit change.now)) }
         ensures { AreSlots self.now.index (tables_map self.now) result (change_edit change.now) }
@@ -40,7 +40,7 @@ impl Tables {
         }
     }
 
-    /// Makes a change at these slots, and tells the one that takes it back.
+    /// Makes a change at these slots, and returns the change that undoes it.
     fn make_change(&mut self, change: Change, slots: (u32, u32)) -> Change
         requires can { CanMake (tables_map self.old) (room_of self.old) change }
         requires slots { AreSlots self.old.index (tables_map self.old) slots (change_edit change) }
@@ -74,7 +74,7 @@ impl Tables {
         }
     }
 
-    /// Makes a change that takes an edit back, and lets go what the edit brought.
+    /// Makes a change that undoes an edit, and frees what the edit added.
     fn take_back(&mut self, change: Change)
         requires can { CanMake (tables_map self.old) (room_of self.old) change }
         requires numbers { HasNumbers self.old (node_puts change) (line_puts change) }
@@ -87,8 +87,8 @@ impl Tables {
         let _ = self.make_change(change, slots);
     }
 
-    /// Makes room for what an edit brings at these slots, and for what takes it back, beside so many numbers of nodes
-    /// and of lines that others may want to put back.
+    /// Reserves capacity for what an edit adds at these slots and for its undo, in addition to the numbers of nodes and of
+    /// lines that other undo records may put back.
     fn make_room(
         &mut self,
         edit: &Edit,
@@ -123,7 +123,7 @@ impl Tables {
         }
     }
 
-    /// The change that makes an edit of a line between these nodes, or of a node.
+    /// The change for an edit of a node, or of a line between these nodes.
     fn change_for(&self, edit: Edit, nodes: (NodeId, NodeId)) -> Change
         requires { AreEnds (tables_map self.now) nodes (edit_of edit) }
         ensures same { change_edit result ≡ edit_of edit }
@@ -163,7 +163,7 @@ impl Tables {
         }
     }
 
-    /// Makes an edit, and gives what takes it back.
+    /// Makes an edit, and returns its undo record.
     pub fn apply(&mut self, edit: Edit) -> Result<Undo, EditFault>
         ensures refused { (f : MapFault) → (result ≡ Err (edit_fault_of f))
             ↔ (edited (tables_map self.old) (edit_of edit) ≡ Err f) }
@@ -182,7 +182,7 @@ impl Tables {
         }
     }
 
-    /// Makes an edit that was judged on this map, and gives what takes it back.
+    /// Makes an edit that `judge` accepted on this map, and returns its undo record.
     pub fn make(&mut self, edit: Edit, judged: &Judged) -> Result<Undo, AllocError>
         requires { IsJudged (tables_map self.old) (place_in self.old.index) (edit_of edit) judged.now }
         ensures done { OnOk result (edited (tables_map self.old) (edit_of edit) ≡ Ok (tables_map self.new)) }
@@ -198,7 +198,7 @@ impl Tables {
         })
     }
 
-    /// Takes an edit back: the map is as it was before. Takes no memory.
+    /// Undoes an edit: the map is as it was before. Does not allocate.
     pub fn undo(&mut self, undo: Undo)
         requires { CanUndoIn self.old undo }
         ensures { tables_map self.new ≡ undone_in self.old undo }
@@ -207,7 +207,7 @@ impl Tables {
         self.take_back(change);
     }
 
-    /// Makes an edit, and adds what takes it back to a log.
+    /// Makes an edit, and appends its undo record to a log.
     pub fn apply_into(&mut self, edit: Edit, log: &mut UndoLog) -> Result<(), EditFault>
         requires { CanUndoAllIn self.old log.old }
         ensures refused { (f : MapFault) → (result ≡ Err (edit_fault_of f))
@@ -227,7 +227,7 @@ impl Tables {
         }
     }
 
-    /// Makes an edit that was judged on this map, and adds what takes it back to a log.
+    /// Makes an edit that `judge` accepted on this map, and appends its undo record to a log.
     pub fn make_into(
         &mut self,
         edit: Edit,
@@ -250,7 +250,7 @@ impl Tables {
         Ok(())
     }
 
-    /// Takes all edits of a log back, the last one first: the map is as it was before the first. Takes no memory.
+    /// Undoes all edits of a log, the last one first: the map is as it was before the first. Does not allocate.
     pub fn undo_all(&mut self, log: UndoLog)
         requires { CanUndoAllIn self.old log }
         ensures { tables_map self.new ≡ before_in self.old log }

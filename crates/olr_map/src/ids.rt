@@ -21,7 +21,7 @@ impl Model for NodeId {
     ghost inverse = { λ n. record { number = n } };
 }
 
-/// The first number.
+/// The default is the first number, 1.
 impl Default for NodeId {
     ghost is_default = { λ n. n ≡ 1 };
 
@@ -31,7 +31,7 @@ impl Default for NodeId {
 }
 
 impl NodeId {
-    /// The node with this number. None exactly for 0.
+    /// The node with this number. None if and only if the number is 0.
     pub fn new(number: u32) -> Option<NodeId>
         ensures { SomeIff result (1 ≤ number) number }
     {
@@ -69,7 +69,7 @@ impl Model for LineId {
     ghost inverse = { λ n. record { number = n } };
 }
 
-/// The first number.
+/// The default is the first number, 1.
 impl Default for LineId {
     ghost is_default = { λ n. n ≡ 1 };
 
@@ -79,7 +79,7 @@ impl Default for LineId {
 }
 
 impl LineId {
-    /// The line with this number. None exactly for 0.
+    /// The line with this number. None if and only if the number is 0.
     pub fn new(number: u32) -> Option<LineId>
         ensures { SomeIff result (1 ≤ number) number }
     {

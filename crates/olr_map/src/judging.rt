@@ -1,4 +1,4 @@
-//! Why a map refuses an edit, or what the edit touches, for every map that can be read.
+//! Why a map rejects an edit, or what the edit touches, for every `MapRead`.
 ghost use Rattle.std.specs.Prelude.{◌≡◌, Some, Err, IsOk, IfOk, MatchResult};
 ghost use Rattle.std.specs.FinMap.{get};
 ghost use Rattle.olr_spec.specs.Map.{edited, Add_node, Move_node, Drop_node, Add_line, Set_line, Drop_line};
@@ -11,21 +11,21 @@ use crate::line::{Line, Shape, has_good_fields};
 use crate::read::MapRead;
 use olr_coords::Coord;
 
-/// What an edit touches on a map that takes it.
+/// What an edit touches on a map that accepts it.
 #[derive(Clone, Copy, Debug, PartialEq, Eq)]
 pub struct Judged {
     /// The nodes: both ends of the line, or one node twice.
     pub nodes: (NodeId, NodeId),
-    /// Where these have their places in the map, see `MapRead::place_of`; 0 for a node that comes.
+    /// Their slots in the map, see `MapRead::place_of`; 0 for a node that is added.
     pub places: (u32, u32),
-    /// The line. None where a node alone is touched.
+    /// The line. None if only a node is touched.
     pub line: Option<LineId>,
-    /// The lesser of the line's lengths before and after, in decimetres: its length, where it comes or goes. 0 where
-    /// no line is touched.
+    /// The lesser of the line's lengths before and after the edit, in decimetres. The line's length if it is added or
+    /// removed. 0 if no line is touched.
     pub len: u32,
 }
 
-/// The first fault of the edit on this map, want of memory aside, or what the edit touches.
+/// The first fault of the edit on this map, or what the edit touches. Out of memory is not tested.
 pub fn judge<M: MapRead>(map: &M, edit: &Edit) -> Result<Judged, EditFault>
     ensures fault { MatchResult (edited (M.map map.now) (edit_of edit.now))
         (λ _. IsOk result) (λ f. result ≡ Err (edit_fault_of f)) }
@@ -47,7 +47,7 @@ pub fn judge<M: MapRead>(map: &M, edit: &Edit) -> Result<Judged, EditFault>
     }
 }
 
-/// A node comes only where it is not yet.
+/// A node can be added only if it is not on the map.
 fn judge_node_added<M: MapRead>(map: &M, id: NodeId, place: Coord) -> Result<Judged, EditFault>
     ensures fault { MatchResult (edited (M.map map.now) (Add_node id place))
         (λ _. IsOk result) (λ f. result ≡ Err (edit_fault_of f)) }
@@ -56,7 +56,7 @@ fn judge_node_added<M: MapRead>(map: &M, id: NodeId, place: Coord) -> Result<Jud
     if map.place_of(id).is_some() {
         return Err(EditFault::NodeExists);
     }
-    // For the proof alone: the place is in range, as every `Coord` is.
+    // Only for the proof: the coordinate is in range, as every `Coord` is.
     let _latitude = place.lat();
     Ok(Judged {
         nodes: (id, id),
@@ -66,7 +66,7 @@ fn judge_node_added<M: MapRead>(map: &M, id: NodeId, place: Coord) -> Result<Jud
     })
 }
 
-/// A node moves only where it is.
+/// A node can be moved only if it is on the map.
 fn judge_node_moved<M: MapRead>(map: &M, id: NodeId, place: Coord) -> Result<Judged, EditFault>
     ensures fault { MatchResult (edited (M.map map.now) (Move_node id place))
         (λ _. IsOk result) (λ f. result ≡ Err (edit_fault_of f)) }
@@ -75,7 +75,7 @@ fn judge_node_moved<M: MapRead>(map: &M, id: NodeId, place: Coord) -> Result<Jud
     let Some(at) = map.place_of(id) else {
         return Err(EditFault::NoNode);
     };
-    // For the proof alone: the place is in range, as every `Coord` is.
+    // Only for the proof: the coordinate is in range, as every `Coord` is.
     let _latitude = place.lat();
     Ok(Judged {
         nodes: (id, id),
@@ -85,7 +85,7 @@ fn judge_node_moved<M: MapRead>(map: &M, id: NodeId, place: Coord) -> Result<Jud
     })
 }
 
-/// A node goes only where it is, and no line uses it.
+/// A node can be removed only if it is on the map and no line uses it.
 fn judge_node_dropped<M: MapRead>(map: &M, id: NodeId) -> Result<Judged, EditFault>
     ensures fault { MatchResult (edited (M.map map.now) (Drop_node id))
         (λ _. IsOk result) (λ f. result ≡ Err (edit_fault_of f)) }
@@ -105,7 +105,7 @@ fn judge_node_dropped<M: MapRead>(map: &M, id: NodeId) -> Result<Judged, EditFau
     })
 }
 
-/// A line comes only where it is not yet, its ends are, and it is good.
+/// A line can be added only if it is not on the map, its ends are, and it is good.
 fn judge_line_added<M: MapRead>(map: &M, id: LineId, line: &Line) -> Result<Judged, EditFault>
     ensures fault { MatchResult (edited (M.map map.now) (Add_line id line.now))
         (λ _. IsOk result) (λ f. result ≡ Err (edit_fault_of f)) }
@@ -128,7 +128,7 @@ fn judge_line_added<M: MapRead>(map: &M, id: LineId, line: &Line) -> Result<Judg
     })
 }
 
-/// A line is set only where it is, and is then good.
+/// A line can be set only if it is on the map, and if it is good afterwards.
 fn judge_line_set<M: MapRead>(
     map: &M,
     id: LineId,
@@ -155,7 +155,7 @@ fn judge_line_set<M: MapRead>(
     })
 }
 
-/// A line goes only where it is.
+/// A line can be removed only if it is on the map.
 fn judge_line_dropped<M: MapRead>(map: &M, id: LineId) -> Result<Judged, EditFault>
     ensures fault { MatchResult (edited (M.map map.now) (Drop_line id))
         (λ _. IsOk result) (λ f. result ≡ Err (edit_fault_of f)) }
@@ -172,7 +172,7 @@ fn judge_line_dropped<M: MapRead>(map: &M, id: LineId) -> Result<Judged, EditFau
     })
 }
 
-/// The places of the nodes where a line of the map begins and ends.
+/// The slots of the nodes where a line of the map begins and ends.
 fn end_places<M: MapRead>(map: &M, id: LineId, line: &Line) -> (u32, u32)
     requires { get (M.map map.now).lines id ≡ Some line.now }
     ensures begin { M.place_in map.now line.now.from ≡ result.0 }

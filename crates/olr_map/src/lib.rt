@@ -1,5 +1,5 @@
-//! The road map: numbers of nodes and lines, lines with their shapes, what the layers above read of a map, sets of
-//! nodes, and edits that can be undone.
+//! The road map: node and line numbers, lines with their shapes, the read interface `MapRead`, sets of nodes, and edits
+//! that can be undone.
 #![tactic(auto)]
 
 mod block;

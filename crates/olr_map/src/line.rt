@@ -14,12 +14,12 @@ pub const GREATEST_LEN: u32 = 1_000_000;
 /// The greatest number of shape points of a line.
 pub const MOST_SHAPE_POINTS: usize = 1000;
 
-/// A place of a line between its two ends.
+/// A shape point: a coordinate of a line between its two ends.
 #[derive(Clone, Copy, Debug, PartialEq, Eq)]
 pub struct Shape {
-    /// The distance from the line's begin along the line, in decimetres.
+    /// The distance from the start of the line, along the line, in decimetres.
     pub at: u32,
-    /// Where it is.
+    /// Its coordinate.
     pub place: Coord,
 }
 
@@ -49,7 +49,7 @@ pub struct Line {
     pub fow: u8,
     /// The length, in decimetres.
     pub len: u32,
-    /// The places between the two ends, in order.
+    /// The shape points between the two ends, in order.
     pub shape: Vec<Shape>,
 }
 
@@ -65,8 +65,8 @@ impl Model for Line {
 }
 
 impl Line {
-    /// Whether both classes are at most 7, the length is from 1 to 1,000,000 dm, and at most 1,000 shape points stand
-    /// at distances that rise strictly and lie strictly between the two ends.
+    /// Whether both classes are at most 7, the length is 1 to 1,000,000 dm, and there are at most 1,000 shape points, whose
+    /// distances are strictly increasing and strictly between 0 and the length.
     pub fn is_good(&self) -> bool
         ensures good { result ≡ is_good self.now }
         ensures placed { OnTrue result (IsTrue (are_coords self.now.shape)) }
@@ -75,7 +75,7 @@ impl Line {
     }
 }
 
-/// Whether a line with these classes, this length in decimetres and this shape is good.
+/// Whether a line with these fields is good, see `Line::is_good`. `len` is in decimetres.
 pub fn has_good_fields(frc: u8, fow: u8, len: u32, shape: &[Shape]) -> bool
     ensures good { result
         ≡ is_good (record { from = 0; to = 0; frc = frc; fow = fow; len = len; shape = shape.now }) }
@@ -89,7 +89,7 @@ pub fn has_good_fields(frc: u8, fow: u8, len: u32, shape: &[Shape]) -> bool
         && is_rising(shape, len)
 }
 
-/// Whether the distances rise strictly, and lie strictly between 0 and `len`.
+/// Whether the distances are strictly increasing and strictly between 0 and `len`.
 fn is_rising(shape: &[Shape], len: u32) -> bool
     ensures rises { result ≡ rises_between 0 shape.now len }
     ensures placed { OnTrue result (IsTrue (are_coords shape.now)) }
@@ -99,7 +99,7 @@ fn is_rising(shape: &[Shape], len: u32) -> bool
         if point.at <= low || point.at >= len {
             return false;
         }
-        // For the proof alone: the place is in range, as every `Coord` is.
+        // Only for the proof: the coordinate is in range, as every `Coord` is.
         let _latitude = point.place.lat();
         low = point.at;
     }

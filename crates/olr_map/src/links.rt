@@ -9,25 +9,25 @@ use crate::ids::LineId;
 use crate::read::LineEnd;
 use std::alloc::{AllocError, Global};
 
-/// The numbers of lines, rising, and beside each the line's far end.
+/// The numbers of lines in ascending order, and the far end of each.
 #[derive(Drop, Debug)]
 pub enum Links {
-    /// As many as stand in the value itself.
+    /// At most four lines, in the value itself.
     Few(Few),
-    /// Where there are more, or have been.
+    /// A list that needs, or needed, capacity for more than four lines.
     Many(Box<Many>),
 }
 
-/// What is left of a list of lines when there are none: its memory.
+/// The memory of an empty list of lines.
 #[derive(Drop, Debug)]
 pub enum Spare {
-    /// None of its own.
+    /// No memory of its own.
     Few,
-    /// The vectors, empty.
+    /// The empty vectors.
     Many(Box<Many>),
 }
 
-/// The numbers of lines, and beside each the line's far end, in memory of their own.
+/// The numbers of lines, and the far end of each, in vectors.
 #[derive(Drop, Debug)]
 pub struct Many {
     pub lines: Vec<LineId>,
@@ -38,7 +38,7 @@ pub struct Many {
 impl Links {
     ghost use Rattle.olr_map.specs.Linked.{lines_on, ends_on, spare_links, lines_kept, places_kept, IsReset};
 
-    /// No lines. Takes no memory.
+    /// No lines. Does not allocate.
     pub fn new() -> Links
         ensures lines { lines_on result ≡ [] }
         ensures ends { ends_on result ≡ [] }
@@ -47,7 +47,7 @@ impl Links {
         Links::Few(Few::new())
     }
 
-    /// The list of no lines in this memory.
+    /// The empty list in this memory.
     pub fn in_spare(spare: Spare) -> Links
         ensures lines { lines_on result ≡ lines_kept spare }
         ensures room { spare_links result ≡ places_kept spare }
@@ -58,7 +58,7 @@ impl Links {
         }
     }
 
-    /// The memory of a list of no lines.
+    /// The memory of an empty list.
     pub fn into_spare(self) -> Spare
         requires { lines_on self ≡ [] }
         ensures lines { lines_kept result ≡ [] }
@@ -90,7 +90,7 @@ impl Links {
         }
     }
 
-    /// Makes room for one more line.
+    /// Reserves capacity for one more line.
     pub fn reserve(&mut self, alloc: Global) -> Result<(), AllocError>
         ensures lines { lines_on self.new ≡ lines_on self.old }
         ensures ends { ends_on self.new ≡ ends_on self.old }
@@ -113,7 +113,7 @@ impl Links {
         }
     }
 
-    /// Puts in a line that is not among them. There is room for it.
+    /// Inserts a line that is not in the list. Capacity for it is reserved.
     pub fn link(&mut self, id: LineId, end: LineEnd)
         requires rising { IsStrictlyIncreasing (lines_on self.old) }
         requires absent { IsFalse (has (lines_on self.old) id) }
@@ -130,7 +130,7 @@ impl Links {
         }
     }
 
-    /// Takes out a line that is among them. Its place stays free.
+    /// Removes a line that is in the list. Its capacity remains.
     pub fn unlink(&mut self, id: LineId)
         requires rising { IsStrictlyIncreasing (lines_on self.old) }
         requires there { IsTrue (has (lines_on self.old) id) }
@@ -147,7 +147,7 @@ impl Links {
         }
     }
 
-    /// Gives a line that is among them another far end.
+    /// Sets another far end for a line that is in the list.
     pub fn set_end(&mut self, id: LineId, end: LineEnd)
         requires rising { IsStrictlyIncreasing (lines_on self.old) }
         requires there { IsTrue (has (lines_on self.old) id) }
@@ -159,7 +159,7 @@ impl Links {
         }
     }
 
-    /// Puts a line in at this place among them. There is room for it.
+    /// Inserts a line at this position. Capacity for it is reserved.
     fn insert(&mut self, at: usize, id: LineId, end: LineEnd)
         requires within { at ≤ length (lines_on self.old) }
         requires room { 0 < spare_links self.old }
@@ -173,7 +173,7 @@ impl Links {
         }
     }
 
-    /// Takes the line at this place out.
+    /// Removes the line at this position.
     fn remove(&mut self, at: usize)
         requires { at < length (lines_on self.old) }
         ensures lines { lines_on self.new ≡ remove (lines_on self.old) at }
@@ -186,7 +186,7 @@ impl Links {
         }
     }
 
-    /// Gives the line at this place another far end.
+    /// Sets another far end for the line at this position.
     fn set_at(&mut self, at: usize, end: LineEnd)
         requires { at < length (lines_on self.old) }
         ensures lines { lines_on self.new ≡ lines_on self.old }
@@ -206,7 +206,7 @@ impl Many {
     ghost use Rattle.std.specs.Prelude.{IfOk, take};
     ghost use Rattle.olr_map.specs.Linked.{spare_in};
 
-    /// These lines, with room for as many again.
+    /// These lines, with capacity for as many again.
     fn with_room(alloc: Global, few: &Few) -> Result<Many, AllocError>
         ensures lines { IfOk result (λ m. m.lines.items ≡ take few.now.count few.now.lines) }
         ensures ends { IfOk result (λ m. m.ends.items ≡ take few.now.count few.now.ends) }
@@ -219,7 +219,7 @@ impl Many {
         Ok(Many { lines, ends })
     }
 
-    /// Puts a line in at this place among them. There is room for it.
+    /// Inserts a line at this position. Capacity for it is reserved.
     fn insert(&mut self, at: usize, id: LineId, end: LineEnd)
         requires within { at ≤ length self.old.lines.items }
         requires room { 0 < spare_in self.old }
@@ -235,7 +235,7 @@ impl Many {
         }
     }
 
-    /// Takes the line at this place out.
+    /// Removes the line at this position.
     fn remove(&mut self, at: usize)
         requires { at < length self.old.lines.items }
         ensures lines { self.new.lines.items ≡ remove self.old.lines.items at }

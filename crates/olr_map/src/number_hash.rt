@@ -1,17 +1,17 @@
-//! The hash of numbers of nodes and lines: neighbours share a place of the table, so that a map whose numbers rise is
-//! read with few misses, and other patterns of numbers are spread.
+//! The hash of node and line numbers. Neighbouring numbers share a position of the hash table, so that a map with
+//! consecutive numbers is read with few cache misses; other patterns of numbers are spread.
 ghost use Rattle.olr_map.specs.Hashing.{number_write, number_hash};
 
 use std::hash::Hasher;
 
-/// How many neighbours share a place.
+/// How many neighbours share a position.
 const NEIGHBOURS: u32 = 4;
-/// An odd number without pattern: 2^64 by the golden ratio.
+/// An odd number without pattern: 2^64 divided by the golden ratio.
 const SPREAD: u64 = 0x9e37_79b9_7f4a_7c15;
-/// Where the bits of a hash begin that tell apart what shares a place.
+/// The lowest of the bits of a hash that distinguish numbers at one position.
 const TAG_SHIFT: u32 = 24;
 
-/// Hashes a number by the block of neighbours that it lies in.
+/// Hashes a number by the block of neighbours that contains it.
 #[derive(Clone, Copy, Debug, Default)]
 pub struct NumberHasher {
     number: u32,

@@ -1,4 +1,4 @@
-//! Things by number, each in a slot of its own.
+//! Values by number, each in its own slot.
 ghost use Rattle.std.specs.Prelude.{◌≡◌, ◌==◌, ◌+◌, ◌≤◌, ◌<◌, ℕ, [], cond, Some, None, IsSome, OnOk};
 ghost use Rattle.std.specs.Option.{option_copied};
 ghost use Rattle.olr_map.specs.HavingSlots.{HaveSlots, HaveSlots-prop};
@@ -7,7 +7,7 @@ use crate::blocks::Blocks;
 use crate::slab::Slab;
 use std::alloc::{AllocError, Global};
 
-/// Things by number, one for each at most: the slots of the numbers, and the things in them.
+/// Values by number, at most one for each: the slots of the numbers, and the values in these slots.
 #[derive(Drop, Debug)]
 pub struct Numbered<V> {
     pub index: Blocks,
@@ -19,7 +19,7 @@ pub struct Numbered<V> {
 impl<V: Drop> Numbered<V> {
     ghost use Rattle.olr_map.specs.Numbering.{things_of, held, spare_numbers};
 
-    /// No things. Takes no memory.
+    /// No values. Does not allocate.
     pub fn new(alloc: Global) -> Numbered<V>
         ensures { things_of result ≡ [] }
     {
@@ -29,7 +29,7 @@ impl<V: Drop> Numbered<V> {
         }
     }
 
-    /// The thing with this number.
+    /// The value with this number.
     pub fn get(&self, number: u32) -> Option<&V>
         ensures { option_copied result ≡ held self.now number }
     {
@@ -39,7 +39,7 @@ impl<V: Drop> Numbered<V> {
         }
     }
 
-    /// Makes room for so many more things.
+    /// Reserves capacity for `additional` more values.
     pub fn reserve(&mut self, additional: usize) -> Result<(), AllocError>
         ensures same { (k : ℕ) → held self.new k ≡ held self.old k }
         ensures more { spare_numbers self.old ≤ spare_numbers self.new }
@@ -49,7 +49,7 @@ impl<V: Drop> Numbered<V> {
         self.slab.reserve(additional)
     }
 
-    /// Puts a thing in under a number that has none. There is room for it.
+    /// Inserts a value under a number that has none. Capacity for it is reserved.
     pub fn put(&mut self, number: u32, value: V)
         requires absent { held self.old number ≡ None }
         requires room { 0 < spare_numbers self.old }
@@ -60,7 +60,7 @@ impl<V: Drop> Numbered<V> {
         self.index.put(number, slot);
     }
 
-    /// Puts another thing in the place of the one with this number, and tells that.
+    /// Replaces the value with this number, and returns the previous one.
     pub fn replace(&mut self, number: u32, value: V) -> V
         requires { IsSome (held self.old number) }
         ensures was { held self.old number ≡ Some result }
@@ -73,7 +73,7 @@ impl<V: Drop> Numbered<V> {
         }
     }
 
-    /// Takes the thing with this number out.
+    /// Removes the value with this number, and returns it.
     pub fn take(&mut self, number: u32) -> V
         requires { IsSome (held self.old number) }
         ensures was { held self.old number ≡ Some result }

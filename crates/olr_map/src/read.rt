@@ -1,4 +1,4 @@
-//! What the layers above read of a map, however it is kept.
+//! The read interface of a map, independent of how the map is stored.
 ghost use Rattle.std.specs.Prelude.{◌≡◌, ◌+◌, ◌*◌, ◌<◌, ◌^◌, ℕ, IsTrue, SomeIff};
 ghost use Rattle.std.specs.Option.{option_copied};
 ghost use Rattle.std.specs.FinMap.{get};
@@ -14,79 +14,79 @@ use olr_coords::Coord;
 pub struct LineEnd {
     /// The node at the line's other end.
     pub node: NodeId,
-    /// Where that node has its place in the map, see `MapRead::place_of`.
+    /// The slot of that node in the map, see `MapRead::place_of`.
     pub place: u32,
     /// The line's length, in decimetres.
     pub len: u32,
 }
 
-/// A map that can be read. No call takes memory.
+/// A map that can be read. No call allocates.
 pub trait MapRead {
     /// The nodes and the lines.
     ghost map: { Self → Map };
 
-    /// Where each node of the map has its place.
+    /// The slot of each node of the map.
     ghost place_in: { Self → ℕ → ℕ };
 
-    /// How many places there are, those of no node included.
+    /// The number of slots, free ones included.
     ghost count: { Self → ℕ };
 
-    /// The place of a node. None where the map lacks it.
+    /// The coordinate of a node. None if the node is not on the map.
     fn node(&self, id: NodeId) -> Option<Coord>
         ensures { result ≡ get (map self.now).nodes id };
 
-    /// The record of a line, lent. None where the map lacks it.
+    /// The record of a line. None if the line is not on the map.
     fn line(&self, id: LineId) -> Option<&Line>
         ensures { option_copied result ≡ get (map self.now).lines id };
 
-    /// The numbers of the lines that leave a node, rising, lent. Empty for an absent node.
+    /// The numbers of the lines that leave a node, in ascending order. Empty for an absent node.
     fn out_lines(&self, id: NodeId) -> &[LineId]
         ensures { result.now ≡ lines_out (map self.now) id };
 
-    /// The numbers of the lines that enter a node, rising, lent. Empty for an absent node.
+    /// The numbers of the lines that enter a node, in ascending order. Empty for an absent node.
     fn in_lines(&self, id: NodeId) -> &[LineId]
         ensures { result.now ≡ lines_in (map self.now) id };
 
-    /// For each line of `out_lines`, in that order: the node where it ends, that node's place, and the line's length.
-    /// Lent.
+    /// For each line of `out_lines`, in that order: the node where it ends, that node's slot, and the line's length in
+    /// decimetres.
     fn out_ends(&self, id: NodeId) -> &[LineEnd]
         ensures { result.now ≡ ends_out (map self.now) (place_in self.now) id };
 
-    /// For each line of `in_lines`, in that order: the node where it begins, that node's place, and the line's length.
-    /// Lent.
+    /// For each line of `in_lines`, in that order: the node where it begins, that node's slot, and the line's length in
+    /// decimetres.
     fn in_ends(&self, id: NodeId) -> &[LineEnd]
         ensures { result.now ≡ ends_in (map self.now) (place_in self.now) id };
 
-    /// How many places there are: each node's place is below.
+    /// The number of slots. Each node's slot is less than it.
     fn place_count(&self) -> usize
         ensures { result ≡ count self.now };
 
-    /// The node's place in the map, from 0, by which a table beside the map can be indexed. An edit may change it.
-    /// None where the map lacks the node.
+    /// The node's slot in the map, from 0, by which a table beside the map can be indexed. An edit may change it. None if
+    /// the node is not on the map.
     fn place_of(&self, id: NodeId) -> Option<u32>
         ensures { SomeIff result (IsTrue (has_node (map self.now) id)) (place_in self.now id) };
 
-    /// `in_lines` of the node that has this place, without looking for its number.
+    /// `in_lines` of the node in this slot, without a lookup by its number.
     fn in_lines_at(&self, place: u32) -> &[LineId]
         requires { (v : ℕ) × IsTrue (has_node (map self.now) v) × (place_in self.now v ≡ place) }
         ensures { (v : ℕ) → IsTrue (has_node (map self.now) v) → place_in self.now v ≡ place
             → result.now ≡ lines_in (map self.now) v };
 
-    /// `out_ends` of the node that has this place, without looking for its number.
+    /// `out_ends` of the node in this slot, without a lookup by its number.
     fn out_ends_at(&self, place: u32) -> &[LineEnd]
         requires { (v : ℕ) × IsTrue (has_node (map self.now) v) × (place_in self.now v ≡ place) }
         ensures { (v : ℕ) → IsTrue (has_node (map self.now) v) → place_in self.now v ≡ place
             → result.now ≡ ends_out (map self.now) (place_in self.now) v };
 
-    /// `in_ends` of the node that has this place, without looking for its number.
+    /// `in_ends` of the node in this slot, without a lookup by its number.
     fn in_ends_at(&self, place: u32) -> &[LineEnd]
         requires { (v : ℕ) × IsTrue (has_node (map self.now) v) × (place_in self.now v ≡ place) }
         ensures { (v : ℕ) → IsTrue (has_node (map self.now) v) → place_in self.now v ≡ place
             → result.now ≡ ends_in (map self.now) (place_in self.now) v };
 
-    /// Every line is good, both its nodes are there, and every place is in range.
+    /// Every line is good, both its nodes are on the map, and every coordinate is in range.
     ghost sound: { (m : Self) → IsMap (map m) };
 
-    /// No two nodes have one place, and each place is below the count, which is at most 2^32.
+    /// No two nodes share a slot, and each slot is below the count, which is at most 2^32.
     ghost placed: { (m : Self) → ArePlaces (map m) (place_in m) (count m) };
 }

@@ -9,7 +9,7 @@ use crate::undo::{Undo, UndoLog};
 use olr_coords::Coord;
 use std::alloc::{AllocError, Global};
 
-/// A road map. Reading and editing take time that depends on neither the numbers of nodes and lines nor their order.
+/// A road map. The time of a read or an edit depends neither on the order of node and line numbers nor on gaps in them.
 #[derive(Drop, Debug)]
 pub struct RoadMap {
     tables: Tables,
@@ -83,7 +83,7 @@ impl RoadMap {
     ghost use Rattle.olr_map.specs.Judgements.{IsJudged};
     ghost use Rattle.olr_map.specs.RoadMaps.{map_of, slot_of, CanUndo, map_undone, CanUndoAll, map_before};
 
-    /// The map of no nodes and no lines. Takes no memory.
+    /// A map without nodes and lines. Does not allocate.
     pub fn new(alloc: Global) -> RoadMap
         ensures { map_of result ≡ empty_map }
     {
@@ -120,7 +120,7 @@ impl RoadMap {
         self.tables.make(edit, judged)
     }
 
-    /// Takes an edit back: the map is as it was before. Takes no memory.
+    /// Undoes an edit: the map is as it was before. Does not allocate.
     pub fn undo(&mut self, undo: Undo)
         requires { CanUndo self.old undo }
         ensures { map_of self.new ≡ map_undone self.old undo }
@@ -128,15 +128,15 @@ impl RoadMap {
         self.tables.undo(undo);
     }
 
-    /// Lets an edit stand: what it took out is let go. Takes no memory.
+    /// Makes an edit permanent, and frees what it removed. Does not allocate.
     pub fn keep(&mut self, undo: Undo)
         ensures { map_of self.new ≡ map_of self.old }
     {
         let Undo { change: _ } = undo;
     }
 
-    /// Makes an edit, and adds what takes it back to a log. The faults are those of `apply`; after one, map and log are
-    /// as they were.
+    /// Makes an edit, and appends its undo record to a log. The faults are those of `apply`; after a fault, map and log are
+    /// unchanged.
     pub fn apply_into(&mut self, edit: Edit, log: &mut UndoLog) -> Result<(), EditFault>
         requires { CanUndoAll self.old log.old }
         ensures refused { (f : MapFault) → (result ≡ Err (edit_fault_of f))
@@ -150,8 +150,8 @@ impl RoadMap {
         self.tables.apply_into(edit, log)
     }
 
-    /// Makes an edit that was judged on this map, and adds what takes it back to a log. After want of memory map and
-    /// log are as they were.
+    /// Makes an edit that `judge` accepted on this map, and appends its undo record to a log. If an allocation fails, map
+    /// and log are unchanged.
     pub fn make_into(
         &mut self,
         edit: Edit,
@@ -169,7 +169,7 @@ impl RoadMap {
         self.tables.make_into(edit, judged, log)
     }
 
-    /// Takes all edits of a log back, the last one first: the map is as it was before the first. Takes no memory.
+    /// Undoes all edits of a log, the last one first: the map is as it was before the first. Does not allocate.
     pub fn undo_all(&mut self, log: UndoLog)
         requires { CanUndoAll self.old log }
         ensures { map_of self.new ≡ map_before self.old log }
@@ -177,7 +177,7 @@ impl RoadMap {
         self.tables.undo_all(log);
     }
 
-    /// Lets all edits of a log stand. Takes no memory.
+    /// Makes all edits of a log permanent. Does not allocate.
     pub fn keep_all(&mut self, log: UndoLog)
         ensures { map_of self.new ≡ map_of self.old }
     {

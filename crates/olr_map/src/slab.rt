@@ -1,4 +1,4 @@
-//! Things in slots: each stands in a slot that stays its own until it is taken out.
+//! Values in slots. A value keeps its slot until it is removed.
 ghost use Rattle.std.specs.Prelude.{◌≡◌, ◌<◌, ◌≤◌, ◌+◌, [], length, Some, IsSome, OnOk};
 ghost use Rattle.std.specs.Vec.{vec_capacity};
 ghost use Rattle.olr_map.specs.Slotted.{IsSlotted, IsSlotted-prop};
@@ -6,10 +6,10 @@ ghost use Rattle.olr_map.specs.Slotted.{IsSlotted, IsSlotted-prop};
 use std::alloc::{AllocError, Global};
 use std::mem;
 
-/// How many slots there are at most, so that one more than a slot fits a `u32`.
+/// The greatest number of slots, so that slot + 1 fits in a `u32`.
 const MOST_SLOTS: usize = 0xffff_ffff;
 
-/// The things in their slots, and the slots that are free.
+/// The values by slot, and the free slots.
 #[derive(Drop, Debug)]
 pub struct Slab<V> {
     pub entries: Vec<Option<V>>,
@@ -21,7 +21,7 @@ impl<V: Drop> Slab<V> {
     ghost use Rattle.olr_map.specs.Slotted.{at, Comes, Goes, Turns};
     ghost use Rattle.olr_map.specs.Slabs.{slots_of, free_in, room_in, Fills};
 
-    /// No slots. Takes no memory.
+    /// No slots. Does not allocate.
     pub fn new(alloc: Global) -> Slab<V>
         ensures { slots_of result ≡ [] }
     {
@@ -31,21 +31,21 @@ impl<V: Drop> Slab<V> {
         }
     }
 
-    /// How many slots there are.
+    /// The number of slots.
     pub fn count(&self) -> usize
         ensures { result ≡ length (slots_of self.now) }
     {
         self.entries.len()
     }
 
-    /// How many slots are free.
+    /// The number of free slots.
     pub fn free_count(&self) -> usize
         ensures { result ≡ free_in self.now }
     {
         self.free.len()
     }
 
-    /// What stands in a slot.
+    /// The value in a slot.
     pub fn entry(&self, slot: u32) -> &V
         requires { IsSome (at (slots_of self.now) slot) }
         ensures { at (slots_of self.now) slot ≡ Some result.now }
@@ -56,7 +56,7 @@ impl<V: Drop> Slab<V> {
         }
     }
 
-    /// Makes room for so many more.
+    /// Reserves capacity for `additional` more values.
     pub fn reserve(&mut self, additional: usize) -> Result<(), AllocError>
         ensures same { slots_of self.new ≡ slots_of self.old }
         ensures free { free_in self.new ≡ free_in self.old }
@@ -76,7 +76,7 @@ impl<V: Drop> Slab<V> {
         self.entries.reserve(added)
     }
 
-    /// Puts one into a free slot, and tells which.
+    /// Stores a value in a free slot, and returns the slot.
     pub fn put(&mut self, entry: V) -> u32
         requires { 0 < room_in self.old }
         ensures comes { Comes (slots_of self.old) (slots_of self.new) result entry }
@@ -96,7 +96,7 @@ impl<V: Drop> Slab<V> {
         }
     }
 
-    /// Puts another in the place of what stands in a slot, and tells that.
+    /// Replaces the value in a slot, and returns the previous one.
     pub fn replace(&mut self, slot: u32, entry: V) -> V
         requires { IsSome (at (slots_of self.old) slot) }
         ensures turns { Turns (slots_of self.old) (slots_of self.new) slot result entry }
@@ -110,7 +110,7 @@ impl<V: Drop> Slab<V> {
         }
     }
 
-    /// Takes what stands in a slot out. The slot is free then.
+    /// Removes the value in a slot, and returns it. The slot is then free.
     pub fn take(&mut self, slot: u32) -> V
         requires { IsSome (at (slots_of self.old) slot) }
         ensures goes { Goes (slots_of self.old) (slots_of self.new) slot result }

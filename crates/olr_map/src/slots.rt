@@ -35,8 +35,8 @@ pub enum Side {
     In,
 }
 
-/// The nodes' heads in their slots, and beside each slot the lines that leave the node there and those that enter it,
-/// so that a search passes from lines to lines and reads nothing else.
+/// The nodes' heads by slot, and in two further columns the lines that leave each node and those that enter it, so that
+/// a search reads the lines of one side and nothing else.
 #[derive(Drop, Debug)]
 pub struct NodeSlots {
     pub heads: Slab<NodeHead>,
@@ -55,7 +55,7 @@ impl NodeSlots {
     ghost use Rattle.olr_map.specs.declared.links.Links.{Links as AllLinks};
     ghost use Rattle.olr_map.specs.declared.slots.NodeEntry.{NodeEntry as Entry};
 
-    /// No slots. Takes no memory.
+    /// No slots. Does not allocate.
     pub fn new(alloc: Global) -> NodeSlots
         ensures { node_slots result ≡ [] }
     {
@@ -66,14 +66,14 @@ impl NodeSlots {
         }
     }
 
-    /// How many slots there are.
+    /// The number of slots.
     pub fn count(&self) -> usize
         ensures { result ≡ length (node_slots self.now) }
     {
         self.heads.count()
     }
 
-    /// The place on the earth of the node in a slot.
+    /// The coordinate of the node in a slot.
     pub fn place(&self, slot: u32) -> Coord
         requires { IsSome (at (node_slots self.now) slot) }
         ensures { (e : Entry) → at (node_slots self.now) slot ≡ Some e → result ≡ e.place }
@@ -97,7 +97,7 @@ impl NodeSlots {
         &self.ins[slot as usize]
     }
 
-    /// Makes room for so many more.
+    /// Reserves capacity for `additional` more nodes.
     pub fn reserve(&mut self, additional: usize) -> Result<(), AllocError>
         ensures same { node_slots self.new ≡ node_slots self.old }
         ensures more { node_room self.old ≤ node_room self.new }
@@ -109,7 +109,7 @@ impl NodeSlots {
         self.heads.reserve(additional)
     }
 
-    /// Puts a node into a free slot, and tells which.
+    /// Stores a node in a free slot, and returns the slot.
     pub fn put(&mut self, entry: NodeEntry) -> u32
         requires { 0 < node_room self.old }
         ensures comes { Comes (node_slots self.old) (node_slots self.new) result entry }
@@ -127,7 +127,7 @@ impl NodeSlots {
         slot
     }
 
-    /// Takes the node in a slot out, with its lines. The slot is free then.
+    /// Removes the node in a slot, with its lines. The slot is then free.
     pub fn take(&mut self, slot: u32) -> NodeEntry
         requires { IsSome (at (node_slots self.old) slot) }
         ensures goes { Goes (node_slots self.old) (node_slots self.new) slot result }
@@ -144,7 +144,7 @@ impl NodeSlots {
         }
     }
 
-    /// Gives the node in a slot another place on the earth, and tells the one that it had.
+    /// Moves the node in a slot to another coordinate, and returns the previous one.
     pub fn move_node(&mut self, slot: u32, place: Coord) -> Coord
         requires { IsSome (at (node_slots self.old) slot) }
         ensures turns { (e : Entry) × (e.place ≡ result)
@@ -156,7 +156,7 @@ impl NodeSlots {
         self.heads.replace(slot, NodeHead { id, place }).place
     }
 
-    /// Makes room for one more line on one side of the node in a slot.
+    /// Reserves capacity for one more line on one side of the node in a slot.
     pub fn reserve_link(&mut self, side: Side, slot: u32) -> Result<(), AllocError>
         requires { IsSome (at (node_slots self.old) slot) }
         ensures turns { (e : Entry) × (l : AllLinks)
@@ -172,7 +172,7 @@ impl NodeSlots {
         }
     }
 
-    /// Puts a line in on one side of the node in a slot. There is room for it.
+    /// Inserts a line on one side of the node in a slot. Capacity for it is reserved.
     pub fn link(&mut self, side: Side, slot: u32, id: LineId, end: LineEnd)
         requires { (e : Entry) × (at (node_slots self.old) slot ≡ Some e)
             × IsStrictlyIncreasing (lines_on (links_at side e))
@@ -189,7 +189,7 @@ impl NodeSlots {
         }
     }
 
-    /// Takes a line out on one side of the node in a slot. Its place there stays free.
+    /// Removes a line on one side of the node in a slot. Its capacity remains.
     pub fn unlink(&mut self, side: Side, slot: u32, id: LineId)
         requires { (e : Entry) × (at (node_slots self.old) slot ≡ Some e)
             × IsStrictlyIncreasing (lines_on (links_at side e))
@@ -205,7 +205,7 @@ impl NodeSlots {
         }
     }
 
-    /// Gives a line on one side of the node in a slot another far end.
+    /// Sets another far end for a line on one side of the node in a slot.
     pub fn set_end(&mut self, side: Side, slot: u32, id: LineId, end: LineEnd)
         requires { (e : Entry) × (at (node_slots self.old) slot ≡ Some e)
             × IsStrictlyIncreasing (lines_on (links_at side e))
@@ -222,7 +222,7 @@ impl NodeSlots {
     }
 }
 
-/// Puts lines into a slot of a column, or behind the others, where there is room.
+/// Writes lines to a slot of a column, or appends them to the column. Capacity for that is reserved.
 fn put_links(column: &mut Vec<Links>, slot: u32, links: Links)
     requires within { slot ≤ length column.old.items }
     requires room { slot ≡ length column.old.items → vec_len column.old < vec_capacity column.old }

@@ -109,7 +109,7 @@ impl Tables {
     ghost use Rattle.olr_map.specs.declared.change.Change.TheVariants.{PutNode, MoveNode, TakeNode, PutLine, SetLine};
     ghost use Rattle.olr_map.specs.declared.change.Change.TheVariants.{TakeLine};
 
-    /// No nodes and no lines. Takes no memory.
+    /// No nodes and no lines. Does not allocate.
     pub fn new(alloc: Global) -> Tables
         ensures { tables_map result ≡ empty_map }
     {
@@ -143,7 +143,7 @@ impl Tables {
         }
     }
 
-    /// Makes room for one more number of a node, beside so many that others may want to put back.
+    /// Reserves capacity for one more node number, in addition to `owed` numbers that undo records may put back.
     pub fn reserve_nodes(&mut self, owed: usize) -> Result<(), AllocError>
         ensures map { tables_map self.new ≡ tables_map self.old }
         ensures more { IsRoomWithin (room_of self.old) (room_of self.new) }
@@ -158,7 +158,7 @@ impl Tables {
         }
     }
 
-    /// Makes room for one more line, beside so many that others may want to put back.
+    /// Reserves capacity for one more line, in addition to `owed` lines that undo records may put back.
     pub fn reserve_lines(&mut self, owed: usize) -> Result<(), AllocError>
         ensures map { tables_map self.new ≡ tables_map self.old }
         ensures more { IsRoomWithin (room_of self.old) (room_of self.new) }
@@ -173,7 +173,7 @@ impl Tables {
         }
     }
 
-    /// Makes room for one more node's entry.
+    /// Reserves capacity for one more node's entry.
     pub fn reserve_slot(&mut self) -> Result<(), AllocError>
         ensures map { tables_map self.new ≡ tables_map self.old }
         ensures more { IsRoomWithin (room_of self.old) (room_of self.new) }
@@ -185,7 +185,7 @@ impl Tables {
         self.nodes.reserve(1)
     }
 
-    /// Makes room for one more line on one side of the node in a slot.
+    /// Reserves capacity for one more line on one side of the node in a slot.
     pub fn reserve_link(&mut self, side: Side, slot: u32) -> Result<(), AllocError>
         requires { (v : ℕ) × (slot_by self.old.index v ≡ Some slot) }
         ensures map { tables_map self.new ≡ tables_map self.old }
@@ -198,7 +198,7 @@ impl Tables {
         self.nodes.reserve_link(side, slot)
     }
 
-    /// Puts a node without lines in, and the memory for its lines.
+    /// Inserts a node without lines, with the memory for its lines.
     pub fn put_node(&mut self, id: NodeId, place: Coord, outs: Spare, ins: Spare)
         requires can { CanMake (tables_map self.old) (room_of self.old) (PutNode id place outs ins) }
         requires numbers { HasNumbers self.old 1 0 }
@@ -215,7 +215,7 @@ impl Tables {
         self.index.put(id.number(), slot);
     }
 
-    /// Takes a node out, and tells what puts it back.
+    /// Removes a node, and returns the change that puts it back.
     pub fn take_node(&mut self, id: NodeId) -> Change
         requires { CanMake (tables_map self.old) (room_of self.old) (TakeNode id) }
         ensures made { IsChangeMade self.old self.new (TakeNode id) result }
@@ -240,7 +240,7 @@ impl Tables {
         }
     }
 
-    /// Gives the node in this slot another place on the earth, and tells the one that it had.
+    /// Moves the node in this slot to another coordinate, and returns the previous one.
     pub fn move_node(&mut self, id: NodeId, place: Coord, slot: u32) -> Coord
         requires can { CanMake (tables_map self.old) (room_of self.old) (MoveNode id place) }
         requires here { slot_by self.old.index id ≡ Some slot }
@@ -249,7 +249,7 @@ impl Tables {
         self.nodes.move_node(slot, place)
     }
 
-    /// Puts a line in, and its number into the lists of its ends, which are in these slots.
+    /// Inserts a line, and its number into the lists of its ends, which are in these slots.
     pub fn put_line(&mut self, id: LineId, line: Line, from: u32, to: u32)
         requires can { CanMake (tables_map self.old) (room_of self.old) (PutLine id line) }
         requires numbers { HasNumbers self.old 0 1 }
@@ -263,7 +263,7 @@ impl Tables {
         self.lines.put(id.number(), line);
     }
 
-    /// Takes a line out, and its number out of the lists of its ends, which are in these slots.
+    /// Removes a line, and its number from the lists of its ends, which are in these slots.
     pub fn take_line(&mut self, id: LineId, from: u32, to: u32) -> Line
         requires can { CanMake (tables_map self.old) (room_of self.old) (TakeLine id) }
         requires begin { slot_by self.old.index (start (tables_map self.old) id) ≡ Some from }
@@ -275,8 +275,7 @@ impl Tables {
         self.lines.take(id.number())
     }
 
-    /// Puts another line with the same ends, which are in these slots, in a line's place, and tells the one that stood
-    /// there.
+    /// Replaces a line by another one with the same ends, which are in these slots, and returns the previous line.
     pub fn set_line(&mut self, id: LineId, line: Line, from: u32, to: u32) -> Line
         requires can { CanMake (tables_map self.old) (room_of self.old) (SetLine id line) }
         requires begin { slot_by self.old.index (start (tables_map self.old) id) ≡ Some from }
@@ -290,7 +289,7 @@ impl Tables {
     }
 }
 
-/// Where a line between these slots begins, as seen from its end, and where it ends, as seen from its begin.
+/// The start of a line between these slots, as seen from its end, and its end, as seen from its start.
 fn far_ends(line: &Line, from: u32, to: u32) -> (LineEnd, LineEnd)
     ensures begins { result.0 ≡ record { node = line.now.from; place = from; len = line.now.len } }
     ensures ends { result.1 ≡ record { node = line.now.to; place = to; len = line.now.len } }

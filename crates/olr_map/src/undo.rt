@@ -1,18 +1,18 @@
-//! What takes an edit back, or a list of edits.
+//! Undo records: of one edit, and of a list of edits.
 ghost use Rattle.std.specs.Prelude.{◌≡◌, ◌≤◌, reverse, vec_len};
 ghost use Rattle.olr_map.specs.Changes.{all_node_puts, all_line_puts};
 
 use crate::change::Change;
 use std::alloc::{AllocError, Global};
 
-/// What takes one edit back. It must be spent, by `undo` or by `keep`.
+/// The undo record of one edit. It must be passed to `undo` or to `keep`.
 #[derive(Debug)]
 pub struct Undo {
     pub(crate) change: Change,
 }
 
-/// What takes back a list of edits, the last one first. What the edits took out of the map stands in the log, and
-/// nowhere else: a log may be dropped, which lets all that go and leaves the map as it is.
+/// The undo records of a list of edits, applied from the last one to the first. Only the log has what the edits removed
+/// from the map. If a log is dropped, this is freed, and the map stays as it is.
 #[derive(Drop, Debug)]
 pub struct UndoLog {
     pub(crate) changes: Vec<Change>,
@@ -30,7 +30,7 @@ impl UndoLog {
     ghost use Rattle.olr_map.specs.Changes.{node_puts, line_puts};
     ghost use Rattle.olr_map.specs.Undos.{log_changes};
 
-    /// A log of no edits. Takes no memory.
+    /// A log of no edits. Does not allocate.
     pub fn new(alloc: Global) -> UndoLog
         ensures { log_changes result ≡ [] }
     {
@@ -41,7 +41,7 @@ impl UndoLog {
         }
     }
 
-    /// Makes room for one more change.
+    /// Reserves capacity for one more change.
     pub(crate) fn reserve(&mut self) -> Result<(), AllocError>
         ensures same { log_changes self.new ≡ log_changes self.old }
         ensures nodes { self.new.nodes ≡ self.old.nodes }
@@ -51,7 +51,7 @@ impl UndoLog {
         self.changes.reserve(1)
     }
 
-    /// Adds what takes back one more edit. There is room for it.
+    /// Appends the change that undoes one more edit. Capacity for it is reserved.
     pub(crate) fn push(&mut self, change: Change)
         requires { vec_len self.old.changes < vec_capacity self.old.changes }
         ensures more { log_changes self.new ≡ change ∷ log_changes self.old }

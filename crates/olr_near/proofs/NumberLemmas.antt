@@ -29,7 +29,7 @@ use Rattle.olr_near.specs.Numbers.{SameBut, Moves, IsReopened, IsLowered, IsFoll
 use Rattle.olr_near.specs.declared.nearness.Nearness.{Nearness}
 use Rattle.olr_route.proofs.WayLemmas.{no_end}
 
--- ---- numbers that got no greater
+-- ---- bounds that did not increase
 
 pub within_itself : (L : ℕ → Option ℕ) (v d : ℕ) → L v ≡ Some d → Within L v d
 within_itself L v d at = record { number = d; at = at; low = omega arith }
@@ -73,9 +73,9 @@ moves_under_way M f g m under is u d at = elim (m.fresh u d at) [
   | inr w ↦ inr w
 ]
 
--- ---- one number
+-- ---- one bound
 
--- where the number d is put at v
+-- where the bound d is written at v
 module _ (L K : ℕ → Option ℕ) (v d : ℕ) (there : K v ≡ Some d) (others : (q : ℕ) → q ≢ v → K q ≡ L q) where
   pub put_better : ((e : ℕ) → L v ≡ Some e → d ≤ e) → Better L K
   put_better less q e at = elim (cases_eq q v) [
@@ -89,7 +89,7 @@ module _ (L K : ℕ → Option ℕ) (v d : ℕ) (there : K v ≡ Some d) (others
     | inr ne ↦ inl (sym (others q ne) ∙ at)
   ]
 
--- between f and g, where the node v of that number then waits
+-- between f and g, after which node v is queued with that bound
 pub put_moves : (f g : Nearness) (k v d : ℕ) → k ≡ v → Updates nat_eq f.numbers g.numbers k (Some d) →
     ((e : ℕ) → number_of f k ≡ Some e → d < e)
     → IsPermutation (record { 0 = (d, v) } ∷ heap_items f.waiting) (heap_items g.waiting) → g.known ≡ f.known →
@@ -110,7 +110,7 @@ put_moves f g k v d is updates less p known =
       known = known;
     }
 
--- the number there is greater, where there is one
+-- the bound there is greater, if there is one
 pub less_some : (o : Option ℕ) (had d : ℕ) → Some had ≡ o → d < had → (e : ℕ) → o ≡ Some e → d < e
 less_some o had d is lt e at =
     let both : ◌≡◌ {A = Option ℕ} (Some had) (Some e) = is ∙ at in
@@ -170,7 +170,7 @@ lowered_from f g v d l q e at = elim (cases_eq q v) [
 abbrev pub weight : ℕ → ℕ
 weight k = limit + 1 - k
 
--- the gain of all numbers, by the one that is put and the one before
+-- the gain of all bounds, by the one that is written and the one before
 gain_by : (a b d : ℕ) (old : Option ℕ) → b + unwrap_or (option_map weight old) 0 ≡ a + weight d → d ≤ limit →
     ((e : ℕ) → old ≡ Some e → d < e) → a + 1 ≤ b
 gain_by a b d None sum short less = omega arith
@@ -183,12 +183,12 @@ gain_put m n v d old was puts short less =
     gain_by (sum_by weight (values m)) (sum_by weight (values n)) d old
     (sum_by_puts_entry weight nat_eq m n v d old was puts) short (λ e is. less e (sym was ∙ is))
 
--- where it stood there already
+-- if it was there already
 pub gain_same : (m n : Numbers) (v d : ℕ) → Some d ≡ get nat_eq m v → PutsEntry nat_eq m n v d (Some d) →
     sum_by weight (values n) ≡ sum_by weight (values m)
 gain_same m n v d was puts = let sum = sum_by_puts_entry weight nat_eq m n v d (Some d) was puts in omega arith
 
--- no more numbers than nodes, and none counts for more than one above the limit
+-- there are no more bounds than nodes, and each counts at most the limit plus one
 pub gain_le : (m : Numbers) → ((v : ℕ) → IsSome (get nat_eq m v) → v < 2 ^ 32) → IsUnique nat_eq m →
     sum_by weight (values m) ≤ 2 ^ 32 * (limit + 1)
 gain_le m below unique =
@@ -202,9 +202,9 @@ gain_le m below unique =
     let less : length (values m) ≤ 2 ^ 32 = omega arith in
     le_trans each (mul-le-mul_right (limit + 1) less)
 
--- ---- what waits
+-- ---- the queue
 
--- what waits is taken out, between f and g, and its lines are followed, up to h; or its number is another one by now
+-- an entry is removed, between f and g, and its lines are followed, up to h; or the bound is another one by now
 module _ (M : Map) (f g : Nearness) (d v : ℕ) (same : g.numbers ≡ f.numbers) (known : g.known ≡ f.known)
     (others : (e q : ℕ) → IsWaiting f e q → IsWaiting g e q ⊎ ((e ≡ d) × (q ≡ v))) where
   numbers_same : number_of g ≡ number_of f
@@ -289,7 +289,7 @@ reopened_under_way M N T f g r same under is u d at =
 
 -- ---- the law
 
--- a walk within the limit leads from a number to a number
+-- a route within the limit leads from a node with a bound to a node with a bound
 number_along : (M : Map) (f : Nearness) → IsRight M f → IsTrue f.known → (u v d : ℕ) (xs : List ℕ) →
     number_of f u ≡ Some d → Walk M u v xs → d + dm_of M xs ≤ limit → IsSome (number_of f v)
 number_along M f right known u v d [] at w short =

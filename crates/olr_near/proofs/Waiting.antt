@@ -1,4 +1,4 @@
--- What waits before and after a push and a pop, and where the lines of a node stand.
+-- The queue before and after a push and a pop, and where the lines of a node are listed.
 use Rattle.std.proofs.Common.{◌≡◌, ℕ, ◌<◌, ◌⊎◌, List, [], ◌∷◌, IsTrue, length, get_or, refl, ap, inl, inr, arith}
 use Rattle.std.specs.declared.cmp.Reverse.{Reverse}
 use Rattle.std.specs.List.Sorted.{IsPermutation}
@@ -35,7 +35,7 @@ pushed_there xs ys x p = Contains-permutation (x ∷ xs) ys x p (0, omega arith,
 
 -- ---- the lines from a node
 
--- each line that leaves a node stands in its list
+-- each line that leaves a node is in its list
 pub line_there : (M : Map) (v x : ℕ) → IsTrue (has_line M x) → start M x ≡ v → (i : ℕ) × (i < length (lines_out M v))
     × (get_or (lines_out M v) i 0 ≡ x)
 line_there M v x h from = stands_at (lines_out M v) x ((exactly_out M v x).1 (_, (known_record M x h, from)))

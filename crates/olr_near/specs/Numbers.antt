@@ -52,7 +52,7 @@ ClosedAt M L u d =
 abbrev pub IsRight : Map → Nearness → Type 0
 IsRight M f = IsTrue f.known → (u d : ℕ) → number_of f u ≡ Some d → ClosedAt M (number_of f) u d
 
--- node v waits in the heap, at length d
+-- node v is in the heap, at length d
 abbrev pub Waits : List (Reverse (ℕ × ℕ)) → ℕ → ℕ → Type 0
 Waits xs d v = Contains xs (record { 0 = (d, v) })
 
@@ -65,9 +65,9 @@ IsUnderWay M f = IsTrue f.known → (u d : ℕ) → number_of f u ≡ Some d →
 abbrev pub SameBut : List ℕ → Map → Map → Type 0
 SameBut T M N = (v : ℕ) → IsFalse (has T v) → SameRound M N v
 
--- ---- how numbers change
+-- ---- how bounds change
 
--- by how much the numbers are below one more than the limit, all together
+-- by how much the bounds are below the limit plus one, in total
 abbrev pub gain : Nearness → ℕ
 gain f = sum_by (λ k. limit + 1 - k) (values f.numbers)
 
@@ -80,7 +80,7 @@ pub record Moves (f g : Nearness) : Type 0 where
   pub kept : (d v : ℕ) → IsWaiting f d v → IsWaiting g d v
   pub known : g.known ≡ f.known
 
--- each place that is taken by what waits is paid for
+-- each new entry of the queue is paid for by the gain
 abbrev pub IsPaid : Nearness → Nearness → Type 0
 IsPaid f g = 2 * gain f + waiting_len g ≤ 2 * gain g + waiting_len f
 

@@ -14,13 +14,13 @@ use std::hash::BuildHasherDefault;
 /// less what is left of the query's length at the node. If lines get longer or are removed, or queries are removed,
 /// numbers may be too small, and nodes that no query reaches may have one.
 ///
-/// After want of memory the numbers are unknown, until they are begun again by `clear`.
+/// If an allocation fails, the bounds are unknown until `clear`.
 #[derive(Drop)]
 pub struct Nearness {
     alloc: Global,
-    /// By a node's number.
+    /// By node number.
     numbers: HashMap<u32, u32, BuildHasherDefault<NumberHasher>>,
-    /// The nodes whose lines are to be followed, each with the number that it had when it came here.
+    /// The queue of nodes whose lines are to be followed, each with the bound that it had when it was queued.
     waiting: BinaryHeap<Reverse<(u32, NodeId)>>,
     known: bool,
     ghost small: { (v : ℕ) → IsSome (get nat_eq numbers v) → v < 2 ^ 32 },
@@ -34,7 +34,7 @@ impl Nearness {
     ghost use Rattle.olr_near.specs.Numbers.{number_of, numbers_len, IsSource, IsRight, IsUnderWay, SameBut, Within};
     ghost use Rattle.olr_near.specs.Numbers.{ClosedAt, Moves, IsPaid, IsReopened, IsLowered, IsFollowed, IsLed};
 
-    /// No sources, and no numbers. Takes no memory.
+    /// No sources and no bounds. Does not allocate.
     pub fn new(alloc: Global) -> Nearness
         ensures known { IsTrue result.known }
         ensures numbers { (v : ℕ) → number_of result v ≡ None }
@@ -47,14 +47,14 @@ impl Nearness {
         }
     }
 
-    /// Whether the numbers are known.
+    /// Whether the bounds are known.
     pub fn is_known(&self) -> bool
         ensures { result ≡ self.now.known }
     {
         self.known
     }
 
-    /// How many nodes have a number.
+    /// The number of nodes that have a bound.
     pub fn len(&self) -> usize
         ensures { result ≡ numbers_len self.now }
     {
@@ -80,7 +80,7 @@ impl Nearness {
         self.known = true;
     }
 
-    /// From now on the numbers are unknown, and what was kept for them is given back.
+    /// Makes the bounds unknown, and frees their memory.
     pub fn forget(&mut self)
         ensures { IsFalse self.new.known }
     {
@@ -125,7 +125,7 @@ impl Nearness {
         }
     }
 
-    /// Lets the lines from these nodes be followed again, as it has to be where a line was added or got shorter.
+    /// Queues these nodes, so that `settle` follows their lines again: required where a line was added or became shorter.
     pub fn reopen(&mut self, nodes: &[NodeId]) -> Result<(), AllocError>
         ensures sources { (s w : ℕ) → IsSource self.old s w → IsSource self.new s w }
         ensures under_way { (M N : Map) → SameBut nodes.now M N → IsUnderWay M self.old → IsUnderWay N self.new }
@@ -141,7 +141,7 @@ impl Nearness {
         }
     }
 
-    /// Follows the lines of all nodes that wait, until the numbers are right.
+    /// Follows the lines of all queued nodes, until the bounds are right.
     pub fn settle<M: MapRead>(&mut self, map: &M) -> Result<(), AllocError>
         ensures sources { (s w : ℕ) → IsSource self.old s w → IsSource self.new s w }
         ensures right { IsUnderWay (M.map map.now) self.old → IsRight (M.map map.now) self.new }
@@ -159,7 +159,7 @@ impl Nearness {
         }
     }
 
-    /// Gives a node a number in decimetres and lets it wait, unless it has a number that is no greater.
+    /// Lowers a node's bound to a value in decimetres and queues the node. No effect if its bound is no greater.
     fn lower(&mut self, node: NodeId, number: u32) -> Result<(), AllocError>
         requires { number ≤ limit }
         ensures moves { OnOk result (Moves self.old self.new) }
@@ -184,7 +184,7 @@ impl Nearness {
         Ok(())
     }
 
-    /// Lets those of the nodes wait that have a number.
+    /// Queues those of the nodes that have a bound.
     fn let_wait(&mut self, nodes: &[NodeId]) -> Result<(), AllocError>
         ensures { OnOk result (IsReopened nodes.now self.old self.new) }
     {
@@ -196,7 +196,7 @@ impl Nearness {
         Ok(())
     }
 
-    /// Whether the node has this number.
+    /// Whether the node has this bound.
     fn is_at(&self, node: NodeId, number: u32) -> bool
         ensures { IsTrue result ↔ (number_of self.now node ≡ Some number) }
     {
@@ -206,7 +206,7 @@ impl Nearness {
         }
     }
 
-    /// Follows the lines from a node with this number, within the limit.
+    /// Follows the lines from a node with this bound, within the limit.
     fn follow<M: MapRead>(&mut self, map: &M, node: NodeId, number: u32) -> Result<(), AllocError>
         ensures moves { OnOk result (Moves self.old self.new) }
         ensures paid { OnOk result (IsPaid self.old self.new) }
@@ -226,7 +226,7 @@ impl Nearness {
         Ok(())
     }
 
-    /// Follows the lines of all nodes that wait.
+    /// Follows the lines of all queued nodes.
     fn follow_all<M: MapRead>(&mut self, map: &M) -> Result<(), AllocError>
         ensures better { OnOk result ((v d : ℕ) → number_of self.old v ≡ Some d → Within (number_of self.new) v d) }
         ensures known { OnOk result (self.new.known ≡ self.old.known) }
@@ -239,7 +239,7 @@ impl Nearness {
             let (number, node) = nearest;
             if self.is_at(node, number) {
                 self.follow(map, node, number)?;
-                // For the proof alone: no node has two numbers.
+                // Only for the proof: no node has two bounds.
                 let _ = self.numbers.len();
             }
         }

@@ -1,4 +1,4 @@
--- What is asked of each path of a list is asked of the one at a place.
+-- What is searched for each path of a list is searched for the path at a position.
 use Rattle.std.proofs.Common.{◌≡◌, ℕ, List, [], slice_get, Contains, Option, Some, None, option_map, IfSome, Bool}
 use Rattle.std.proofs.Common.{IsTrue, IsFalse, true, false, min, sym, subst, arith}
 use Rattle.std.proofs.lemmas.Option.{slice_get_within, get_or_from_slice_get}
@@ -18,26 +18,26 @@ use Rattle.olr_paths.proofs.Beginning.{begins_there}
 use Rattle.olr_paths.specs.declared.touched.Touched.{Touched}
 use Rattle.olr_paths.specs.declared.searches.Searches.{Searches}
 
--- an element stands at a place
+-- the element at a position is in the list
 pub listed_at : (is : List Item) (k : ℕ) (i : Item) → slice_get is k ≡ Some i → Contains is i
 listed_at is k i at = (k, slice_get_within is k i at, get_or_from_slice_get is k i i at)
 
--- ---- no looks
+-- ---- no coverage queries
 
--- of what was made, told by what it was made of
+-- a property of the results, stated of what they are made from
 pub made_if : {A : Type 0} (f : A → Made) (P : Made → Type 0) (o : Option A) → IfSome (option_map f o) P →
     IfSome o (λ a. P (f a))
 made_if f P None h = h
 made_if f P (Some a) h = h
 
--- so no look is touched
+-- so no coverage query is affected
 pub lacks_untouched : (N : Map) (T : List ℕ) (m : Made) → m.looks ≡ [] → ¬ LookTouched N T m
 lacks_untouched N T m none h = let lt = (subst (λ (ls : List Look). Contains ls h.0) none h.1).1 in absurd (omega arith)
 
 -- ---- searches
 
 module _ (N : Map) (place : ℕ → ℕ) (t : Touched) where
-  -- what was asked rests on the search from the touched nodes alone
+  -- the claim depends only on the search from the touched nodes
   asked_made : (s r : Searches) (made : Option Made) → r.near ≡ s.near → r.far ≡ s.far →
       IfSome made (IsAsked N place t s) → IfSome made (IsAsked N place t r)
   asked_made s r None near far h = h
@@ -93,6 +93,6 @@ module _ (N : Map) (place : ℕ → ℕ) (t : Touched) where
   untouched_made None h = h
   untouched_made (Some m) h = lacks_untouched N (nodes_of t) m h
 
-  -- where no path has a look
+  -- if no path has a coverage query
   pub asked_lack : (s : Searches) (is : List Item) → s.far ≡ true → LackLooks is → AreAsked N place t s is
   asked_lack s is on lack i there = far_made s i.made on (untouched_made i.made (lack i there))

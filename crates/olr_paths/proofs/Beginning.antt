@@ -22,7 +22,7 @@ begins_there (x ∷ is) i v on h = elim (Contains-cases x i is on) [
   | inr t ↦ inr (begins_there is i v t h)
 ]
 
--- ---- where something was put
+-- ---- after results are stored
 
 begins_put : (is : List Item) (k : ℕ) (path : Path) (made : Option Made) (v : Look) → Begins (put is k path made) v →
     Begins is v ⊎ BeginsIn made v
@@ -48,7 +48,7 @@ begins_push [] e v (inr h) = absurd h
 begins_push (x ∷ es) e v (inl h) = inl (inl h)
 begins_push (x ∷ es) e v (inr h) = elim (begins_push es e v h) [ inl l ↦ inl (inr l) | inr r ↦ inr r ]
 
--- ---- where one path is added, set or dropped
+-- ---- after one path is added, set or dropped
 
 pub begins_add : (is : List Item) (j : Item) (v : Look) → Begins (is ++ j ∷ []) v → Begins is v ⊎ BeginsIn j.made v
 begins_add [] j v (inl h) = inr h

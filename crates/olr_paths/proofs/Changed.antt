@@ -1,6 +1,6 @@
--- A list under changes that take no path away: place by place, and with what was made put in place.
---     changed_by cs i      what becomes of one path.
---     Lies us vs      vs is us, where some paths are other ones that were not encoded yet
+-- A list under changes that remove no path: position by position, and with new results stored.
+--     changed_by cs i      one path under the changes.
+--     Lies us vs      vs is us, with some paths replaced by paths that are not encoded yet
 use Rattle.std.proofs.Common.{inl, inr, ◌≡◌, ◌⊎◌, ℕ, zero, suc, ◌+◌, Bool, true, false, cond, List, [], ◌∷◌, ◌++◌, map}
 use Rattle.std.proofs.Common.{take, length, slice_get, Option, Some, None, is_some, refl, sym, ap}
 use Rattle.std.proofs.Common.{◌∙◌, subst, arith}
@@ -49,7 +49,7 @@ changed_made None i = inr refl
 changed_made (Some None) i = inr refl
 changed_made (Some (Some p)) i = inl refl
 
--- ---- the list, place by place
+-- ---- the list, position by position
 
 pub all_changed : (cs : Changes) (is : List Item) → TakesNone cs → under_changes cs is ≡ map (changed_by cs) is
 all_changed cs [] h = refl
@@ -95,11 +95,11 @@ module _ (cs : Changes) (is ys : List Item) (keeps : TakesNone cs) where
   pub laid_behind : (k m : ℕ) → k ≡ length is + m → slice_get whole k ≡ slice_get ys m
   laid_behind k m e = ap (λ (js : List Item). slice_get js k) parts ∙ map_behind (changed_by cs) is ys k m e
 
-  -- what stands at a place was there and is unchanged, or is another path, or is new
+  -- the path at a position was there and is unchanged, or replaces another, or is new
   pub laid_from : (k : ℕ) (j : Item) → slice_get whole k ≡ Some j → Where (changed_by cs) is ys k j
   laid_from k j at = map_from (changed_by cs) is ys k j (sym (ap (λ (js : List Item). slice_get js k) parts) ∙ at)
 
--- ---- putting what was made on either list comes to the same
+-- ---- storing the new results in either list has the same outcome
 
 abbrev pub Lies : List Item → List Item → Type 0
 Lies [] vs = vs ≡ []
@@ -131,7 +131,7 @@ all_put_lies : (us vs : List Item) (ps : List Put) → Lies us vs → Lies (all_
 all_put_lies us vs [] h = h
 all_put_lies us vs (p ∷ ps) h = put_lies (all_put us ps) (all_put vs ps) p.place p.path p.made (all_put_lies us vs ps h)
 
--- where each is reported, none is another one any more
+-- if each path is reported, none is a replacement that is not encoded yet
 lies_same : (before us vs : List Item) (es : List Entry) → Lies us vs → Reported before vs es → us ≡ vs
 lies_same before [] vs es h told = sym h
 lies_same before (a ∷ us) [] es h told = absurd h
@@ -175,7 +175,7 @@ pub grown_differ : (cs : Changes) (is ys : List Item) → TakesNone cs →
     NamesDiffer (all_named (under_changes cs is ++ ys)) → NamesDiffer (all_named (is ++ ys))
 grown_differ cs is ys keeps d = lies_differ (is ++ ys) (under_changes cs is ++ ys) (laid_lies cs is ys keeps) d
 
--- ---- which names are changed
+-- ---- which names have changes
 
 pub change_push : (cs : Changes) (c : List ℕ × Option Path) (name : List ℕ) → change_at cs name ≡ None →
     same_name c.0 name ≡ false → change_at (cs ++ c ∷ []) name ≡ None
@@ -198,7 +198,7 @@ take_more_changes es k e at =
     ap changes_in (take_more_at es k e at)
     ∙ map-append (λ (x : String Global × Option (Rc Path Global)). (string_bytes x.0, path_in x.1)) (take k es) (e ∷ [])
 
--- where each is another path, none is taken away
+-- if each change is a replacement, no path is removed
 abbrev pub AreOthers : Entered → Type 0
 AreOthers [] = ⊤
 AreOthers (e ∷ es) = (is_some e.1 ≡ true) × AreOthers es
@@ -222,7 +222,7 @@ others_keep (e ∷ es) h name =
           others_keep es h.1 name
     ]
 
--- ---- the place of a name
+-- ---- the position of a name
 
 there_named : (is : List Item) (k : ℕ) (i : Item) (name : List ℕ) → slice_get is k ≡ Some i →
     same_name i.name name ≡ true → has_name is name ≡ true
@@ -239,7 +239,7 @@ there_named (x ∷ is) (suc k) i name at same =
     both_true true = refl
     both_true false = refl
 
--- the first of a name is the only one
+-- the first path of a name is the only one
 pub first_only : (es : Entries) (name : List ℕ) (q k : ℕ) (i : Item) → First name es q →
     NamesDiffer (all_named (items_of es)) → slice_get (items_of es) k ≡ Some i → same_name i.name name ≡ true → q ≡ k
 first_only [] name q k i h d at same = absurd h
@@ -267,7 +267,7 @@ not_there es name k i free at =
       | inr other ↦ other
     ]
 
--- ---- where nothing changes, none is taken away
+-- ---- if nothing changes, no path is removed
 
 pub none_keeps : (cs : Changes) (ys : List Item) → ((is : List Item) → under_changes cs is ++ ys ≡ is) → TakesNone cs
 none_keeps cs ys h name = kept (change_at cs name) (h (i ∷ [])) where

@@ -1,4 +1,4 @@
--- Positions that are found cover the paths that edits concern, and those between them stay.
+-- The positions that are found have all affected paths, and the paths between them are unchanged.
 use Rattle.std.proofs.Common.{inl, inr, ◌≡◌, ◌≢◌, ℕ, zero, suc, ◌+◌, ◌-◌, ◌<◌, ◌≤◌, ◌==◌, ◌||◌, ◌⊎◌, Bool, true, false}
 use Rattle.std.proofs.Common.{All, List, [], ◌∷◌, ◌++◌, take, length, get_or, slice_get, Option, Some, None, IsTrue}
 use Rattle.std.proofs.Common.{refl, sym, ap, ◌∙◌, subst, arith, min}
@@ -75,7 +75,7 @@ pushed_there xs x v is = has_push xs x v ∙ right (has xs v) (x == v) (eq-eqb x
   right true b h = refl
   right false b h = h
 
--- ---- positions of marks
+-- ---- positions of path ids
 
 pub record Put (marks of old now : List ℕ) : Type 0 where
   pub kept : Includes old now
@@ -100,7 +100,7 @@ ranged_more from to old now h =
       ];
     }
 
--- ---- positions of numbers
+-- ---- positions by numbers of nodes or lines
 
 pub record PutAll {A : Type 0} (number : A → ℕ) (marks : List ℕ) (index : Index) (xs : List A) (old now : List ℕ) : Type
     0 where
@@ -133,14 +133,14 @@ pub found_grown : {A : Type 0} (number : A → ℕ) (marks : List ℕ) (index : 
     Includes old now → All (λ x. Finds marks index (number x) old) xs → All (λ x. Finds marks index (number x) now) xs
 found_grown number marks index xs old now kept h = λ i d lt k low on. kept k (h i d lt k low on)
 
--- ---- going from one position to the next
+-- ---- from one candidate to the next
 
--- the positions below next are passed, as far as the candidates before place k
+-- the positions below next are done, as far as the candidates before index k
 pub record Passed (found : List ℕ) (long k next : ℕ) : Type 0 where
   pub below : (j : ℕ) → j < k → (get_or found j 0 < next) ⊎ (long ≤ get_or found j 0)
   pub within : next ≤ long
 
--- no candidate stands between
+-- there is no candidate between
 none_between : (found : List ℕ) (long k next position j : ℕ) → IsNonDecreasing found → Passed found long k next →
     position ≡ get_or found k 0 → k < length found → position ≤ long → next ≤ j → j < position → has found j ≡ false
 none_between found long k next position j up h is lt within above low =
@@ -174,7 +174,7 @@ none_after found long k next j end h above low =
 
 module _ (N : Map) (n : IsMap N) (T X : List ℕ) (C : List ChangedLine) (before is : List Item) (found : List ℕ)
     (follows : Follows before is) (covers : Covers N T X is found) (old : Counted) (r : Renewal) (now : Counted) where
-  -- paths that are no candidates stay
+  -- paths that are no candidates are unchanged
   gap : (d p : ℕ) → p + d ≤ length is → ((j : ℕ) → p ≤ j → j < p + d → has found j ≡ false) →
       SoFar N T X C before is p r old now → SoFar N T X C before is (p + d) r old now
   gap zero p le free h = subst (λ (q : ℕ). SoFar N T X C before is q r old now) (let e : p ≡ p + 0 = omega arith in e) h
@@ -213,17 +213,17 @@ module _ (N : Map) (n : IsMap N) (T X : List ℕ) (C : List ChangedLine) (before
       (gap (length is - next) next (omega arith) (λ j a b. none_after found (length is) k next j end h a (omega arith))
       so_far)
 
--- past the last path
+-- after the last path
 pub past_end : (js : List Item) (q : ℕ) → slice_get js q ≡ None → length js ≤ q
 past_end [] q at = omega arith
 past_end (j ∷ js) zero at = let never : ⊥ = cc (at) in absurd never
 past_end (j ∷ js) (suc q) at = let le = past_end js q at in omega arith
 
--- one candidate more
+-- with one candidate more
 pub passed_none : (found : List ℕ) (long : ℕ) → Passed found long 0 0
 passed_none found long = record { below = λ j lt. absurd (omega arith); within = omega arith }
 
--- whose position is past
+-- its position is done already, or past the last path
 pub passed_over : (found : List ℕ) (long k next position : ℕ) → Passed found long k next → position ≡ get_or found k 0 →
     (position < next) ⊎ (long ≤ position) → Passed found long (k + 1) next
 passed_over found long k next position h at out =
@@ -237,7 +237,7 @@ passed_over found long k next position h at out =
       within = h.within;
     }
 
--- which was gone to
+-- its position is the next
 pub passed_to : (found : List ℕ) (long k next position : ℕ) → Passed found long k next → position ≡ get_or found k 0 →
     next ≤ position → position < long → Passed found long (k + 1) (position + 1)
 passed_to found long k next position h at le within =
@@ -251,7 +251,7 @@ passed_to found long k next position h at le within =
       within = omega arith;
     }
 
--- ---- what is found covers what edits concern
+-- ---- the positions that are found have all paths that edits affect
 
 is_there : (o : Option (Rc Published Global)) → o ≢ None → (p : Rc Published Global) × (o ≡ Some p)
 is_there None h = absurd (h refl)
@@ -334,22 +334,22 @@ module _ (N : Map) (n : IsMap N) (place : ℕ → ℕ) (t : Touched) (s : Search
       subst (λ (o : Option Made). IfSome o (IsAsked N place t s)) made one in
       subst (λ (x : Item). ToStay N (nodes_of t) (lines_of t) x.made x.path) b.2 (stays_there k b.0 b.1 p.0 p.1 off a)
 
--- what is found may be put in another order
+-- the positions may be put in another order
 pub covers_order : (N : Map) (T X : List ℕ) (is : List Item) (xs ys : List ℕ) → IsPermutation xs ys →
     Covers N T X is xs → Covers N T X is ys
 covers_order N T X is xs ys same h k i at off = h k i at (list_any-IsPermutation (λ y. y == k) xs ys same ∙ off)
 
--- the same of equal lists
+-- the same for equal lists
 pub found_moved : {A : Type 0} (number : A → ℕ) (ms ns : List ℕ) (index : Index) (vs ws : List A) (found : List ℕ) →
     ms ≡ ns → vs ≡ ws → All (λ x. Finds ms index (number x) found) vs → All (λ x. Finds ns index (number x) found) ws
 found_moved number ms ns index vs ws found a b h =
     subst (λ (ys : List _). All (λ x. Finds ns index (number x) found) ys) b
     (subst (λ (xs : List ℕ). All (λ x. Finds xs index (number x) found) vs) a h)
 
--- ---- of a list under changes
+-- ---- for a list under changes
 
 module _ (cs : Changes) (is ys : List Item) (keeps : TakesNone cs) where
-  -- where those are found that are changed, and all behind, the others are as they were
+  -- if the replaced paths and all new ones are found, the others are unchanged
   pub covers_laid : (N : Map) (place : ℕ → ℕ) (t : Touched) (s : Searches) (found : List ℕ) →
       CoversAsked N place t s is found → FindsChanged cs is found →
       ((k : ℕ) → length is ≤ k → k < length is + length ys → IsTrue (has found k))
@@ -369,7 +369,7 @@ module _ (cs : Changes) (is ys : List Item) (keeps : TakesNone cs) where
             let never : ⊥ = cc (on, off) in absurd never
       ]
 
-  -- no path has a look, where none of either list has one
+  -- no path has a coverage query, if none of either list has one
   pub lack_laid : LackLooks is → LackLooks ys → LackLooks (under_changes cs is ++ ys)
   lack_laid first second j on =
       let at : slice_get (under_changes cs is ++ ys) on.0 ≡ Some j =
@@ -385,7 +385,7 @@ module _ (cs : Changes) (is ys : List Item) (keeps : TakesNone cs) where
       lacks_changed (Some None) i h = h
       lacks_changed (Some (Some p)) i h = tt
 
--- more positions are found
+-- with more positions
 pub covers_grown : (N : Map) (place : ℕ → ℕ) (t : Touched) (s : Searches) (is : List Item) (old now : List ℕ) →
     Includes old now → CoversAsked N place t s is old → CoversAsked N place t s is now
 covers_grown N place t s is old now kept h k i at off =
@@ -404,7 +404,7 @@ changed_grown cs is old now kept h k i at off =
       | inr not_yet ↦ not_yet
     ])
 
--- of one change more
+-- with one change more
 pub changed_more : (cs : Changes) (c : List ℕ × Option Path) (is : List Item) (old now : List ℕ) → Includes old now →
     FindsChanged cs is old →
     ((k : ℕ) (i : Item) → slice_get is k ≡ Some i → has now k ≡ false → same_name c.0 i.name ≡ false) →
@@ -412,7 +412,7 @@ pub changed_more : (cs : Changes) (c : List ℕ × Option Path) (is : List Item)
 changed_more cs c is old now kept h other k i at off =
     change_push cs c i.name (changed_grown cs is old now kept h k i at off) (other k i at off)
 
--- where the position of the name is put, the others have other names
+-- if the position of the name is added, the others have other names
 pub others_apart : (es : Entries) (name : List ℕ) (q : ℕ) (old : List ℕ) → First name es q →
     NamesDiffer (all_named (items_of es)) → (k : ℕ) (i : Item) → slice_get (items_of es) k ≡ Some i →
     has (old ++ q ∷ []) k ≡ false → same_name name i.name ≡ false

@@ -1,4 +1,4 @@
--- A list follows itself, since no name stands twice.
+-- A list follows itself, since no name occurs twice.
 use Rattle.std.proofs.Common.{inl, inr, ◌≡◌, Bool, false, List, [], ◌∷◌, Option, is_some, refl, ap, ◌∙◌}
 use Rattle.std.specs.Prelude.{option_map, if◌then◌else◌}
 use lib.Pointwise.{bytes_decides}
@@ -11,7 +11,7 @@ use Rattle.olr_paths.specs.Changes.{Follows}
 abbrev pub answer_made : Option Made → Option Answer
 answer_made o = option_map (λ m. m.answer) o
 
--- one path more in front, whose name is none of these
+-- with one path more in front, whose name none of these has
 follows_behind : (i : Item) (before js : List Item) → is_some (path_named (all_named js) i.name) ≡ false →
     Follows before js → Follows (i ∷ before) js
 follows_behind i before [] h f = tt

@@ -1,4 +1,4 @@
--- What was made on a map is right on the next, where no change can concern it.
+-- Results that are right on a map are right on the next one, if no change can affect them.
 use Rattle.std.proofs.Common.{inl, inr, ◌≡◌, ℕ, ◌≤◌, List, All, Contains, Some, IsTrue, true, false, subst, arith}
 use Rattle.std.proofs.Common.{get_or, min}
 use Rattle.std.proofs.lemmas.Bool.{cases_Bool}
@@ -29,7 +29,7 @@ module _ (M N : Map) (n : IsMap N) (T X : List ℕ) (C : List ChangedLine) (P : 
         looks = k.2;
       }
 
-  -- a detour begins with a walk to a touched node
+  -- a detour begins with a route to a touched node
   clear_far : ((c : ChangedLine) → Contains C c → IsTrue (has T c.from)) → LooksOf M P m.looks → ¬ LookTouched N T m →
       All (IsClear N C) m.looks
   clear_far starts looks far = λ k d lt detour.
@@ -59,9 +59,9 @@ module _ (M N : Map) (n : IsMap N) (T X : List ℕ) (C : List ChangedLine) (P : 
         clear_far starts made.looks (λ l. free (inr (inr l))),
       )
 
-  -- ---- which paths are concerned
+  -- ---- which paths are affected
 
-  -- no look is longer than the limit
+  -- no coverage query is longer than the limit
   near_wider : (L : Map) (s d e : ℕ) → d ≤ e → Near L T s d → Near L T s e
   near_wider L s d e le near =
       let short = near.within in

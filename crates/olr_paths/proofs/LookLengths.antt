@@ -1,4 +1,4 @@
--- A look is at most as long as the greatest limit.
+-- A coverage query is at most as long as the greatest limit.
 use Rattle.std.proofs.Common.{inl, inr, ◌≡◌, ℕ, ◌+◌, ◌<◌, ◌≤◌, List, [], ◌∷◌, ◌++◌, ◌⊎◌, length, Contains, Option, Some}
 use Rattle.std.proofs.Common.{None, MatchOption, ap, ◌∙◌, arith}
 use Rattle.olr_spec.specs.Map.{Map}

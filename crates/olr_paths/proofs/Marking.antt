@@ -1,4 +1,4 @@
--- A list of entries with the marks of its paths, as paths come, go and change places with others.
+-- A list of entries with the ids of its paths, as paths are added, removed and replaced.
 use Rattle.std.proofs.Common.{inl, inr, ◌≡◌, ◌≢◌, ℕ, zero, suc, ◌+◌, ◌<◌, Bool, true, false, not, cond, ◌&&◌, ◌==◌}
 use Rattle.std.proofs.Common.{List, [], ◌∷◌, ◌++◌, take, length, get_or, slice_get, Some, None, IsFalse, Contains}
 use Rattle.std.proofs.Common.{Result, Ok, Err, is_ok, ◌-◌, refl, sym, ap, ◌∙◌, subst, arith}
@@ -28,7 +28,7 @@ use Rattle.olr_commands.proofs.NameLemmas.{flipped}
 use Rattle.indexmap.specs.IndexMap.{insert_entry}
 use Rattle.olr_paths.proofs.Sets.{has_from}
 
--- ---- what a path has, as marks come and go
+-- ---- the index entries of a path, as others are added and removed
 
 pub grown : (f g : Finder) (mark : ℕ) (xs own : List ℕ) (looks : List Look) → Grows f g → IsNoted f mark xs own looks →
     IsNoted g mark xs own looks
@@ -46,9 +46,9 @@ spared f g mark m xs own looks ne spare h = (
   (λ k d lt. spare.2 (get_or xs k d) m ne ∙ h.2 k d lt),
 )
 
--- ---- marks that differ
+-- ---- path ids that differ
 
--- those of different places
+-- the ids at different positions
 pub apart : (xs : List ℕ) → IsStrictlyIncreasing xs → (i j : ℕ) → i < length xs → j < length xs → i ≢ j →
     get_or xs i 0 ≢ get_or xs j 0
 apart xs up i j a b ne same =
@@ -60,7 +60,7 @@ apart xs up i j a b ne same =
           let step = up j (omega arith) in let rest = rises xs up (j + 1) i (omega arith) a in absurd (omega arith)
     ]
 
--- one that was taken out is not among the rest
+-- an id that was removed is not among the rest
 pub not_left : (xs : List ℕ) (p k : ℕ) → IsStrictlyIncreasing xs → p < length xs → k < length (remove xs p) →
     get_or (remove xs p) k 0 ≢ get_or xs p 0
 not_left xs p k up at lt same =
@@ -71,7 +71,7 @@ not_left xs p k up at lt same =
     ap (λ (b : Bool). not b && has xs (get_or xs p 0)) own in
     let never : ⊥ = cc (gone, there, off) in absurd never
 
--- the one after the last
+-- the id after the last
 pub below_next : (xs : List ℕ) (last mark : ℕ) → IsStrictlyIncreasing xs → slice_get xs (length xs - 1) ≡ Some last →
     mark ≡ last + 1 → (k : ℕ) → k < length xs → get_or xs k 0 < mark
 below_next xs last mark up at is k lt =
@@ -79,7 +79,7 @@ below_next xs last mark up at is k lt =
     let e : get_or xs (length xs - 1) 0 ≡ last = get_or_from_slice_get xs (length xs - 1) last 0 at in
     omega arith
 
--- where a search finds a mark
+-- the position at which a search finds an id
 pub position_by : (xs : List ℕ) (x : ℕ) (r : Result ℕ ℕ) → IsStrictlyIncreasing xs →
     IsBinarySearchResult (λ y. nat_cmp y x) xs r → (k : ℕ) → k < length xs → get_or xs k 0 ≡ x → result_ok r ≡ Some k
 position_by xs x (Ok i) up h k lt is =
@@ -94,7 +94,7 @@ position_by xs x (Err i) up h k lt is =
     let on = has_at xs k x lt is in
     let never : ⊥ = cc (on, off) in absurd never
 
--- what a search does not find
+-- an id that a search does not find
 pub not_among : (xs : List ℕ) (x : ℕ) (r : Result ℕ ℕ) → IsStrictlyIncreasing xs →
     IsBinarySearchResult (λ y. nat_cmp y x) xs r → is_ok r ≡ false → ¬ Contains xs x
 not_among xs x (Ok i) up h off_at on = let never : ⊥ = cc (off_at) in absurd never
@@ -103,16 +103,16 @@ not_among xs x (Err i) up h off_at on =
     let there = has_from xs x on in
     let never : ⊥ = cc (there, off) in absurd never
 
--- ---- entries with marks
+-- ---- entries with path ids
 
--- under a finder that spares all their marks
+-- under a finder that leaves the entries of all these ids
 pub noted_spared : (es : Entries) (ms : List ℕ) (f g : Finder) (mark : ℕ) →
     ((k : ℕ) → k < length es → get_or ms k 0 ≢ mark) → Spares mark f g → AreNoted es ms f → AreNoted es ms g
 noted_spared es ms f g mark other spare h k e at p some =
     spared f g mark (get_or ms k 0) e.1.path.value.lines p.value.own p.value.looks.items
     (other k (slice_get_within es k e at)) spare (h k e at p some)
 
--- one more
+-- with one more
 pub noted_push : (es : Entries) (ms : List ℕ) (f : Finder) (key : String Global) (n : NamedPath) (m : ℕ) →
     length ms ≡ length es → AreNoted es ms f → NamedNoted f m n → AreNoted (es ++ (key, n) ∷ []) (ms ++ m ∷ []) f
 noted_push [] [] f key n m long h one zero e at p some =
@@ -125,7 +125,7 @@ noted_push (x ∷ es) (y ∷ ms) f key n m long h one zero e at p some = h zero 
 noted_push (x ∷ es) (y ∷ ms) f key n m long h one (suc k) e at p some =
     noted_push es ms f key n m (omega arith) (λ j. h (suc j)) one k e at p some
 
--- one taken out
+-- with one removed
 pub noted_removed : (es : Entries) (ms : List ℕ) (f : Finder) (q : ℕ) → length ms ≡ length es → AreNoted es ms f →
     AreNoted (remove es q) (remove ms q) f
 noted_removed [] ms f zero long h k e at p some = let never : ⊥ = cc (at) in absurd never
@@ -136,7 +136,7 @@ noted_removed (x ∷ es) (y ∷ ms) f (suc q) long h zero e at p some = h zero e
 noted_removed (x ∷ es) (y ∷ ms) f (suc q) long h (suc k) e at p some =
     noted_removed es ms f q (omega arith) (λ j. h (suc j)) k e at p some
 
--- another in the place of one
+-- with one replaced
 pub noted_set : (es : Entries) (ms : List ℕ) (f : Finder) (q : ℕ) (n : NamedPath) → AreNoted es ms f →
     NamedNoted f (get_or ms q 0) n → AreNoted (set_value_at es q n) ms f
 noted_set [] ms f q n h one k e at p some = let never : ⊥ = cc (at) in absurd never
@@ -154,7 +154,7 @@ kept_long [] q n = refl
 kept_long (y ∷ ys) zero n = refl
 kept_long (y ∷ ys) (suc q) n = ap suc (kept_long ys q n)
 
--- at one place the marks change, and what is there has them still
+-- at one position the index entries change, and the path there still has its own
 pub noted_but : (es : Entries) (ms : List ℕ) (f g : Finder) (q : ℕ) → IsStrictlyIncreasing ms → length ms ≡ length es →
     q < length ms → Spares (get_or ms q 0) f g
     → ((e : String Global × NamedPath) → slice_get es q ≡ Some e → NamedNoted f (get_or ms q 0) e.1 →
@@ -237,7 +237,7 @@ set_at (e ∷ es) name n (suc p) h =
     ap (λ (b : Bool). cond b ((e.0, n) ∷ es) (e ∷ set_value (asks name) es n)) h.0
     ∙ ap (λ (ys : Entries). e ∷ ys) (set_at es name n p h.1)
 
--- ---- a list without one of its paths
+-- ---- a list with one path removed
 
 module _ (es fs : Entries) (ms ns : List ℕ) (name : List ℕ) (q : ℕ) (mark : ℕ) (first : First name es q)
     (es_is : fs ≡ remove_entry (asks name) es) (ms_is : ns ≡ remove ms q) (long : length ms ≡ length es)
@@ -313,7 +313,7 @@ module _ (es fs : Entries) (ms ns : List ℕ) (key : String Global) (n : NamedPa
   all_more_unless held held2 is h off = let split =
       is off in subst (λ (ys : Entries). ArePublished ys) (sym es_is) (all_push es key n (h split.0) split.1)
 
--- ---- a list with another path in the place of one
+-- ---- a list with one path replaced
 
 module _ (es fs : Entries) (ms : List ℕ) (name : List ℕ) (n : NamedPath) (q : ℕ) (first : First name es q)
     (es_is : fs ≡ set_value (asks name) es n) (long : length ms ≡ length es) (up : IsStrictlyIncreasing ms)
@@ -366,13 +366,13 @@ module _ (es fs : Entries) (ms : List ℕ) (name : List ℕ) (n : NamedPath) (q 
   all_other held held2 is h off = let split =
       is off in subst (λ (ys : Entries). ArePublished ys) (sym other) (all_set es q n (h split.0) split.1)
 
--- the same list, with more room
+-- the same list, with more capacity
 pub moved_noted : (es fs : Entries) (ms ns : List ℕ) (f : Finder) → fs ≡ es → ns ≡ ms → AreNoted es ms f →
     AreNoted fs ns f
 moved_noted es fs ms ns f a b h =
     subst (λ (xs : List ℕ). AreNoted fs xs f) (sym b) (subst (λ (ys : Entries). AreNoted ys ms f) (sym a) h)
 
--- ---- a list without the last of its paths
+-- ---- a list with its last path removed
 
 cut_at : (es : Entries) (q k : ℕ) (e : String Global × NamedPath) → slice_get (take q es) k ≡ Some e →
     (slice_get es k ≡ Some e) × (k < q)

@@ -1,4 +1,4 @@
--- A map's entries as a list of named paths: look-ups, edits, and that no name stands twice.
+-- A map's entries as a list of named paths: lookups, edits, and that no name occurs twice.
 use Rattle.std.proofs.Common.{inl, inr, ◌≡◌, ℕ, Bool, true, false, not, cond, if◌then◌else◌, List, [], ◌∷◌}
 use Rattle.std.proofs.Common.{◌++◌, map, slice_get, Option, Some, None, is_some, refl, sym, ap}
 use Rattle.std.proofs.Common.{◌∙◌}
@@ -45,7 +45,7 @@ same_flip a b = elim (cases_Bool (same_name a b)) [
   | inr e ↦ e ∙ sym (flipped a b e)
 ]
 
--- ---- look-ups
+-- ---- lookups
 
 pub looked_up : (es : Entries) (name : List ℕ) →
     made_in (items_of es) name ≡ option_and_then made_of_named (lookup (asks name) es)
@@ -70,7 +70,7 @@ named_there (e ∷ es) name =
     ∙ ap (λ (b : Bool). is_some (cond b (Some e.1.path.value) (path_named (all_named (items_of es)) name)))
     (same_flip name (string_bytes e.0))
 
--- ---- no name stands twice
+-- ---- no name occurs twice
 
 others_named : (k : String Global) (es : Entries) → AllByRecursion (λ y. string_eq k y ≡ false) (keys_of es) →
     is_some (path_named (all_named (items_of es)) (string_bytes k)) ≡ false
@@ -87,7 +87,7 @@ names_differ (e ∷ es) h = (others_named e.0 es h.0, names_differ es h.1)
 
 -- ---- edits
 
--- whether some item has the name
+-- that no item has the name
 abbrev pub absent : List Item → List ℕ → Type 0
 absent is name = is_some (path_named (all_named is) name) ≡ false
 
@@ -117,7 +117,7 @@ sets_none (i ∷ is) name path made h =
     (set_item name path made) is) r.0
     ∙ ap (λ (js : List Item). i ∷ js) (sets_none is name path made r.1)
 
--- of a list whose first name is the one looked for, no other has it
+-- if the first path of a list has the name, no other path has it
 others_absent : (i : Item) (is : List Item) (name : List ℕ) → same_name i.name name ≡ true → absent is i.name →
     absent is name
 others_absent i is name e h =

@@ -1,4 +1,4 @@
--- What distances tell: of touched nodes that are near, and of detours.
+-- What distances say about touched nodes that are near, and about detours.
 use Rattle.std.proofs.Common.{◌≡◌, ℕ, zero, suc, ◌+◌, ◌<◌, ◌≤◌, true, List, [], ◌∷◌, map, IsTrue, ◌↔◌, Option}
 use Rattle.std.proofs.Common.{Some, None, refl, sym, ap, subst, arith, ⊎_elim}
 use Rattle.std.proofs.lemmas.Bool.{cases_lt}
@@ -14,9 +14,9 @@ use Rattle.olr_paths.specs.Searching.{starts, ends, AreFarther}
 use Rattle.olr_paths.specs.declared.touched.Touched.{Touched}
 use Rattle.olr_paths.proofs.Sets.{has_from, in_from, Contains-map, Contains-unmap}
 
--- ---- a least distance
+-- ---- a shortest distance
 
--- where no number is the distance, no way is as short
+-- if no number is the distance, no route is as short
 pub no_way : (M : Map) (direction : Direction) (from : List (ℕ × ℕ)) (v most : ℕ) →
     ((d : ℕ) → IsDistance M direction from v d → d ≤ most → ⊥) → (n e : ℕ) → e < n → e ≤ most →
     Leads M direction from v e → ⊥
@@ -30,7 +30,7 @@ no_way M direction from v most none (suc n) e lt le leads =
           (cases_lt k e);
     }) le
 
--- what an answer of a search says
+-- the meaning of a search's result
 abbrev pub Tells : Map → Direction → List (ℕ × ℕ) → ℕ → ℕ → Option ℕ → Type 0
 Tells M direction from v most r = (d : ℕ) → (r ≡ Some d) ↔ (IsDistance M direction from v d × (d ≤ most))
 
@@ -42,7 +42,7 @@ told_none M direction from v most r tells is e le leads =
 
 -- ---- near nodes
 
--- a walk ends at a node of the map, if it begins at one
+-- a route that begins at a node of the map ends at one
 pub walk_end : (M : Map) → IsMap M → (s v : ℕ) (xs : List ℕ) → Walk M s v xs → IsTrue (has_node M s) →
     IsTrue (has_node M v)
 walk_end M m s v [] w there = subst (λ (u : ℕ). IsTrue (has_node M u)) w there
@@ -89,7 +89,7 @@ module _ (N : Map) (n : IsMap N) (T : List ℕ) (node : ℕ) where
         omega arith),
   )
 
-  -- where the map lacks it
+  -- if the map does not have the node
   pub near_absent : (most : ℕ) → ¬ IsTrue (has_node N node) → IsTrue (has T node) ↔ Near N T node most
   near_absent most lacks = (
     (λ on. record { node = node; walk = []; touched = on; leads = refl; within = omega arith }),
@@ -157,7 +157,7 @@ module _ (N : Map) (n : IsMap N) (C : List ChangedLine) (s t d most far : ℕ) (
   clear_by (Some a) None before after h = no_end None after refl
   clear_by (Some a) (Some b) before after h = too_far a b (Some a) (Some b) before refl after refl h
 
--- ---- as they are noted
+-- ---- in the form in which they are recorded
 
 map_two : {A B C : Type 0} (f : A → B) (g : B → C) (h : A → C) (xs : List A) → ((x : A) → h x ≡ g (f x)) →
     map h xs ≡ map g (map f xs)

@@ -1,4 +1,4 @@
--- Marks that are given and taken one by one.
+-- Index entries that are added and removed one by one.
 use Rattle.std.proofs.Common.{◌≡◌, ◌==◌, ℕ, ◌+◌, ◌<◌, ◌≤◌, List, [], Bool, true, false, not, ◌||◌, ◌&&◌, All, Contains}
 use Rattle.std.proofs.Common.{take, length, get_or, IsTrue, refl, sym, subst, ◌∙◌, arith}
 use Rattle.std.proofs.lemmas.Bool.{or_left, eq-eqb, ne_eqb}
@@ -34,7 +34,7 @@ left_there true true false h g = refl
 left_there true false c h g = refl
 left_there false b c h g = g
 
--- after so many of the numbers
+-- after this many of the numbers
 pub record Noted {A : Type 0} (number : A → ℕ) (mark : ℕ) (old now : Index) (xs : List A) : Type 0 where
   pub noted : All (λ x. IsTrue (holds now (number x) mark)) xs
   pub grows : KeepsAll old now
@@ -62,7 +62,7 @@ module _ {A : Type 0} (number : A → ℕ) (mark : ℕ) (old : Index) where
             ∙ h.spares n m ne;
       }
 
-  -- after want of memory
+  -- after a failed allocation
   pub grows_failed : (now new : Index) (xs : List A) → Noted number mark old now xs →
       ((n m : ℕ) → holds new n m ≡ holds now n m) → KeepsAll old new
   grows_failed now new xs h same n m t = same n m ∙ h.grows n m t
@@ -75,7 +75,7 @@ module _ {A : Type 0} (number : A → ℕ) (mark : ℕ) (old : Index) where
       All (λ x. IsTrue (holds now (number x) mark)) xs
   noted_all now xs k end h = subst (λ ys. All (λ x. IsTrue (holds now (number x) mark)) ys) (take_all k xs end) h.noted
 
--- after some of them were taken; the numbers that are kept have the mark if they had it
+-- after some of them were removed; the retained numbers still have the path id
 pub record Forgot (Kept : ℕ → Type 0) (mark : ℕ) (old now : Index) : Type 0 where
   pub keeps : (n : ℕ) → Kept n → IsTrue (holds old n mark) → IsTrue (holds now n mark)
   pub spares : KeepsBut mark old now
@@ -93,7 +93,7 @@ module _ (Kept : ℕ → Type 0) (mark : ℕ) (old : Index) where
             ∙ h.spares n m ne;
       }
 
--- what is kept
+-- what is retained
 module _ {A : Type 0} (number : A → ℕ) (kept : List A) where
   abbrev pub KeptIn : ℕ → Type 0
   KeptIn n = (x : A) × Contains kept x × (number x ≡ n)

@@ -1,4 +1,4 @@
--- Lists of named paths under changes: which names they have, and what one more change makes of them.
+-- Lists of named paths under changes: which names they have, and the effect of one more change.
 use Rattle.std.proofs.Common.{inl, inr, ◌≡◌, ℕ, zero, suc, ◌+◌, Bool, true, false, not, cond, if◌then◌else◌, List, []}
 use Rattle.std.proofs.Common.{◌∷◌, ◌++◌, map, take, length, slice_get, Option, Some, None, is_some, refl, sym, ap, ◌∙◌}
 use Rattle.std.proofs.Common.{subst, append_assoc, Result, Ok, Err}
@@ -30,7 +30,7 @@ Entered = List (String Global × Option (Rc Path Global))
 abbrev pub has_name : List Item → List ℕ → Bool
 has_name is name = is_some (path_named (all_named is) name)
 
--- ---- what becomes of a name
+-- ---- the change of a name
 
 pub change_found : (es : Entered) (name : List ℕ) →
     change_at (changes_in es) name ≡ option_map path_in (lookup (asks name) es)
@@ -43,7 +43,7 @@ change_found (e ∷ es) name =
       | false ↦ change_found es name
     ]
 
--- an entry in the place of one of the same name
+-- an entry that replaces one of the same name
 put_here : (e : String Global × Option (Rc Path Global)) (k : String Global) (o : Option Path)
     (rest : Option (Option Path)) (name : List ℕ) → string_eq k e.0 ≡ true
     → cond (same_name (string_bytes e.0) name) (Some o) rest
@@ -59,7 +59,7 @@ put_here e k o rest name h =
     ]
     ∙ ap (λ (a : List ℕ). cond (same_name a name) (Some o) (cond (same_name q name) (Some (path_in e.1)) rest)) same
 
--- behind an entry of another name
+-- after an entry of another name
 put_later : (e : String Global × Option (Rc Path Global)) (k : String Global) (o : Option Path)
     (rest : Option (Option Path)) (name : List ℕ) → string_eq k e.0 ≡ false
     → cond (same_name (string_bytes e.0) name) (Some (path_in e.1))
@@ -81,7 +81,7 @@ put_later e k o rest name h =
           ∙ sym (ap (λ (b : Bool). cond key (Some o) (cond b (Some (path_in e.1)) rest)) g)
     ]
 
--- after one more
+-- after one more change
 pub change_put : (es : Entered) (k : String Global) (o : Option (Rc Path Global)) (name : List ℕ) →
     change_at (changes_in (insert_entry string_eq es k o)) name
     ≡ cond (same_name (string_bytes k) name) (Some (path_in o)) (change_at (changes_in es) name)
@@ -101,7 +101,7 @@ change_put (e ∷ es) k o name =
           ∙ put_later e k (path_in o) rest name h
     ]
 
--- of an entry that was looked up
+-- for an entry that was looked up
 pub found_at : (es : Entered) (name : List ℕ) (x y : Option (Rc Path Global)) → Some x ≡ lookup (asks name) es → x ≡ y →
     change_at (changes_in es) name ≡ Some (path_in y)
 found_at es name x y at same =
@@ -123,7 +123,7 @@ taken_from es name x r at h = taken_by x r h ∙ sym (ap drops (found_at es name
 
 -- ---- names
 
--- one in front, by whether it has the name
+-- with one path in front, by whether it has the name
 front_other : (i : Item) (L : List Item) (name : List ℕ) → same_name i.name name ≡ false →
     has_name (i ∷ L) name ≡ has_name L name
 front_other i L name h = ap (λ (b : Bool). is_some (cond b (Some i.path) (path_named (all_named L) name))) h
@@ -162,7 +162,7 @@ laid_has cs (i ∷ is) name =
           ∙ ap (λ (b : Bool). cond (drops (change_at cs name)) false b) (sym (front_other i is name h))
     ]
 
--- of two lists
+-- in two lists
 pub both_have : (xs ys : List Item) (name : List ℕ) →
     has_name (xs ++ ys) name ≡ cond (has_name ys name) true (has_name xs name)
 both_have [] ys name = elim (has_name ys name) as (λ b. b ≡ cond b true false) [ true ↦ refl | false ↦ refl ]
@@ -197,7 +197,7 @@ first_differ (x ∷ xs) ys d = (first_free xs ys x.name d.0, first_differ xs ys 
   first_free (u ∷ us) vs name h = let r =
       not_here u (us ++ vs) name h in front_other u us name r.0 ∙ first_free us vs name r.1
 
--- a name of the second is none of the first
+-- a name of the second list is not in the first
 pub first_absent : (xs ys : List Item) (name : List ℕ) → NamesDiffer (all_named (xs ++ ys)) → has_name ys name ≡ true →
     absent xs name
 first_absent [] ys name d there = refl
@@ -314,7 +314,7 @@ laid_drop cs ds name (i ∷ is) puts =
     ∙ sym (filter-append (λ (j : Item). not (same_name j.name name)) (under_change (change_at cs i.name) i)
     (under_changes cs is))
 
--- ---- a list under changes, and new ones behind
+-- ---- a list under changes, with new paths at the end
 
 module _ (name : List ℕ) (path : Path) (xs ys : List Item) where
   pub set_behind : NamesDiffer (all_named (xs ++ ys)) → has_name ys name ≡ true →
@@ -354,7 +354,7 @@ module _ (name : List ℕ) (xs ys : List Item) where
       ∙ ap (λ (js : List Item). others name xs ++ js) (sym (keeps_all ys name free))
       ∙ sym (filter-append (λ (j : Item). not (same_name j.name name)) xs ys)
 
--- a path that is there, and not among the new ones, is not taken away
+-- a path of the list that is not among the new ones is not removed
 pub not_dropped : (cs : Changes) (is ys : List Item) (name : List ℕ) →
     has_name (under_changes cs is ++ ys) name ≡ true → has_name ys name ≡ false → drops (change_at cs name) ≡ false
 not_dropped cs is ys name there free =
@@ -369,7 +369,7 @@ not_dropped cs is ys name there free =
       | inr h ↦ h
     ]
 
--- ---- taking the changed list up, path by path
+-- ---- copying the changed list, path by path
 
 pub laid_none : (is : List Item) → under_changes [] is ≡ is
 laid_none [] = refl
@@ -382,14 +382,14 @@ laid_append cs (i ∷ is) js =
     ap (λ (ks : List Item). under_change (change_at cs i.name) i ++ ks) (laid_append cs is js)
     ∙ sym (append_assoc (under_change (change_at cs i.name) i) (under_changes cs is) (under_changes cs js))
 
--- a list by what is before a place, there and behind
+-- a list in three parts: before a position, at it and after it
 parted : (is : List Item) (k : ℕ) (i : Item) → slice_get is k ≡ Some i → (rest : List Item)
     × (is ≡ take k is ++ i ∷ rest)
 parted [] k i at = let never : ⊥ = cc in absurd never
 parted (j ∷ is) zero i at = let same : j ≡ i = cc in (is, ap (λ (x : Item). x ∷ is) same)
 parted (j ∷ is) (suc k) i at = let p = parted is k i at in (p.0, ap (λ (xs : List Item). j ∷ xs) p.1)
 
--- the name of one is none of those before it
+-- no path before it has the name of this one
 before_absent : (xs zs : List Item) (j : Item) → NamesDiffer (all_named (xs ++ j ∷ zs)) → absent xs j.name
 before_absent xs zs j d =
     let own : same_name j.name j.name ≡ true = (bytes_decides j.name j.name).1 refl in
@@ -423,7 +423,7 @@ module _ (cs : Changes) (is to : List Item) (k : ℕ) (i : Item) (at : slice_get
       ∙ sym (append_assoc to (under_changes cs (take k is)) (j ∷ under_changes cs p.0)) in
       before_absent done (under_changes cs p.0) j (subst (λ (js : List Item). NamesDiffer (all_named js)) all d)
 
-  -- one more is put where none has its name
+  -- one more is added if none has its name
   pub put_free : (now : List Item) (n : NamedPath) (j : Item) → now ≡ done →
       under_change (change_at cs i.name) (item_of i.name n) ≡ j ∷ [] → item_of i.name n ≡ i →
       NamesDiffer (all_named (to ++ under_changes cs is)) → absent now i.name
@@ -433,7 +433,7 @@ module _ (cs : Changes) (is to : List Item) (k : ℕ) (i : Item) (at : slice_get
       ap (λ (js : List Item). has_name js i.name) so_far
       ∙ ap (λ (a : List ℕ). has_name done a) (sym (laid_name (change_at cs i.name) i j e)) ∙ laid_free j e d
 
--- ---- nothing, and two lists, one behind the other
+-- ---- no changes, and two lists, one after the other
 
 pub no_changes : (es : Entered) (added is : List Item) → es ≡ [] → added ≡ [] →
     under_changes (changes_in es) is ++ added ≡ is
@@ -445,7 +445,7 @@ behind_none es xs ys none =
     ap (λ (fs : Entered). xs ++ under_changes (changes_in fs) ys) none
     ∙ ap (λ (js : List Item). xs ++ js) (laid_none ys)
 
--- what a list begins with, with more behind
+-- the first part of a list that is longer
 pub take_first : (xs ys zs : List Item) → zs ≡ xs ++ ys → take (length xs) zs ≡ xs
 take_first xs ys zs same = ap (take (length xs)) same ∙ first xs ys where
   first : (us vs : List Item) → take (length us) (us ++ vs) ≡ us

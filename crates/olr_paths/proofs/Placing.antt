@@ -1,4 +1,4 @@
--- Putting what was made at its places.
+-- Storing results at their positions.
 use Rattle.std.proofs.Common.{◌≡◌, ℕ, zero, suc, List, [], ◌∷◌, ◌++◌, length, slice_get, Option, Some, None, refl, sym}
 use Rattle.std.proofs.Common.{ap, ◌∙◌}
 use Rattle.std.proofs.lemmas.List.{map-append}
@@ -11,28 +11,28 @@ use Rattle.olr_paths.specs.Renewing.{Put, put, all_put, puts_of}
 use Rattle.olr_paths.specs.declared.listing.NamedPath.{NamedPath}
 use Rattle.olr_paths.proofs.NamedEntries.{Entries, made_of_named, item_of, items_of}
 
--- at the end of a prefix
+-- after a prefix
 pub put_behind : (xs : List Item) (i : Item) (ys : List Item) (path : Path) (made : Option Made) →
     put (xs ++ i ∷ ys) (length xs) path made ≡ xs ++ record { name = i.name; path = path; made = made } ∷ ys
 put_behind [] i ys path made = refl
 put_behind (x ∷ xs) i ys path made = ap (λ zs. x ∷ zs) (put_behind xs i ys path made)
 
--- one more, behind the others, is put first
+-- the last of a list is stored first
 pub all_put-push : (is : List Item) (ps : List Put) (p : Put) →
     all_put is (ps ++ p ∷ []) ≡ all_put (put is p.place p.path p.made) ps
 all_put-push is [] p = refl
 all_put-push is (q ∷ ps) p = ap (λ js. put js q.place q.path q.made) (all_put-push is ps p)
 
--- ---- at the entries of a map
+-- ---- in the entries of a map
 
--- the written value stands in place of what it was
+-- the new value replaces the old one
 pub put_at : (es : Entries) (k : ℕ) (n : NamedPath) →
     items_of (set_value_at es k n) ≡ put (items_of es) k n.path.value (made_of_named n)
 put_at [] k n = refl
 put_at (e ∷ es) zero n = refl
 put_at (e ∷ es) (suc k) n = ap (λ (is : List Item). item_of e ∷ is) (put_at es k n)
 
--- where there is no entry, nothing is put
+-- if there is no entry, nothing is stored
 put_nowhere : (es : Entries) (k : ℕ) (path : Path) (made : Option Made) → None ≡ slice_get (values_of es) k →
     put (items_of es) k path made ≡ items_of es
 put_nowhere [] k path made at = refl
@@ -45,7 +45,7 @@ One = ℕ × NamedPath
 module _ (es : Entries) (k : ℕ) (n : NamedPath) (all rest : List One) (o : Option One)
     (last : all ≡ rest ++ option_to_list o) (is : o ≡ Some (k, n))
     (whole : List Item) (h : all_put (items_of es) (puts_of all) ≡ whole) where
-  -- the last of those that are left, put first
+  -- the last of the remaining ones, stored first
   taken : all_put (put (items_of es) k n.path.value (made_of_named n)) (puts_of rest) ≡ whole
   taken =
       let parts : puts_of all ≡ puts_of rest ++ record { place = k; path = n.path.value; made = made_of_named n } ∷ [] =

@@ -1,4 +1,4 @@
--- A count that is raised has not fallen.
+-- A count that was raised is not less than before.
 use Rattle.std.proofs.Common.{ℕ, zero, suc, ◌+◌, ◌-◌, ◌<◌, ◌≤◌, ◌^◌, min, arith}
 use Rattle.olr_refs.specs.Choice.{raised_count}
 

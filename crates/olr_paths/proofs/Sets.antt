@@ -1,4 +1,4 @@
--- Membership in lists: by a test, and by a place.
+-- Membership in lists: by a test, and by a position.
 use Rattle.std.proofs.Common.{◌≡◌, ℕ, true, List, [], ◌∷◌, map, eqb, get_or, Contains, IsTrue, ◌↔◌, sym, ◌∙◌, subst}
 use Rattle.std.proofs.Common.{arith, inl, inr}
 use Rattle.std.specs.List.{list_any}
@@ -31,7 +31,7 @@ Contains-unmap f (x ∷ xs) y h = elim (Contains-cases (f x) y (map f xs) h) [
   | inr c ↦ let r = Contains-unmap f xs y c in (r.0, Contains-later x r.0 xs r.1, r.2)
 ]
 
--- an element passes the test exactly where the test finds one
+-- the test is true of the list exactly if an element is in both
 pub shared : (ws xs : List ℕ) → IsTrue (list_any (λ x. has ws x) xs) ↔ ((x : ℕ) × IsTrue (has ws x) × IsTrue (has xs x))
 shared ws xs = (
   (λ on. let f = Any-from_list_any (λ x. has ws x) xs on in

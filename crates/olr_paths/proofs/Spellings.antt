@@ -1,4 +1,4 @@
--- The text that is kept beside an answer is the one that is published of it.
+-- The text that is stored with an answer is the one that is published.
 use Rattle.std.proofs.Common.{◌≡◌, ℕ, Bool, List, Bor, IsTrue, Option, Some, None, sym, ap, ◌∙◌, subst}
 use Rattle.std.specs.Prelude.{String, option_map, string_bytes}
 use Rattle.std.specs.Option.{option_eq}
@@ -38,7 +38,7 @@ same_texts q r s t p h = (
   (λ e. let same : q ≡ r = cc in (bytes_decides s t).1 (p.1 ∙ ap text_of same ∙ sym h.1)),
 )
 
--- a kept text decides the reference that it is the text of
+-- a stored text determines the reference that it encodes
 pub decided : (q r : Reference) (o p : Option (Bor (List ℕ))) → IsReference q → IsReference r
     → option_map (λ s. s.now) o ≡ result_ok (published_text (spec.Points q)) →
     option_map (λ s. s.now) p ≡ result_ok (published_text (spec.Points r))

@@ -1,4 +1,4 @@
--- What is to be put at positions, and is noted under their marks.
+-- Results to be stored at positions, with index entries for their path ids.
 use Rattle.std.proofs.Common.{◌≡◌, ℕ, zero, suc, ◌+◌, ◌<◌, List, [], ◌∷◌, ◌++◌, Contains, take, length, get_or}
 use Rattle.std.proofs.Common.{slice_get, Option, Some, None, false, Result, Ok, Err, IsTrue, refl, sym, ap, ◌∙◌, subst}
 use Rattle.std.proofs.Common.{arith}
@@ -41,7 +41,7 @@ pub at_last : (ms : List ℕ) (f : Finder) (rest : List One) (r : One) → AreNo
     StandsAt ms f r
 at_last ms f rest r h = All-contains (StandsAt ms f) (rest ++ r ∷ []) r h (Contains-push rest r)
 
--- under a finder with more
+-- under a finder with more entries
 pub named_grown : (f g : Finder) (mark : ℕ) (n : NamedPath) → Grows f g → NamedNoted f mark n → NamedNoted g mark n
 named_grown f g mark n more h p some = grown f g mark n.path.value.lines p.value.own p.value.looks.items more (h p some)
 
@@ -54,13 +54,13 @@ pub noted_grown : (es : Entries) (ms : List ℕ) (f g : Finder) → Grows f g �
 noted_grown es ms f g more h k e at p some =
     grown f g (get_or ms k 0) e.1.path.value.lines p.value.own p.value.looks.items more (h k e at p some)
 
--- of the first k, and one more
+-- of the first k, and of one more
 pub at_more : (ms : List ℕ) (f g : Finder) (fresh : List One) (k : ℕ) (d : One) → k < length fresh → Grows f g →
     AreNotedAt ms f (take k fresh) → StandsAt ms g (get_or fresh k d) → AreNotedAt ms g (take (k + 1) fresh)
 at_more ms f g fresh k d lt more h one =
     all_more (StandsAt ms g) fresh k d lt (at_grown ms f g (take k fresh) more h) one
 
--- where each path is reported, each was encoded
+-- if each path is reported, each was encoded
 pub all_encoded : (before : List Item) (es : Entries) (rs : List Entry) → Reported before (items_of es) rs →
     ArePublished es
 all_encoded before [] rs h k e at = let never : ⊥ = cc (at) in absurd never
@@ -73,7 +73,7 @@ all_encoded before (x ∷ es) rs h zero e at = λ none.
     let never : ⊥ = cc (lost, h.2) in absurd never
 all_encoded before (x ∷ es) rs h (suc k) e at = all_encoded before es h.1 h.3 k e at
 
--- ---- no path has a look, where no node is looked from
+-- ---- no path has a coverage query, if none begins at a node
 
 pub back : (es : Entries) (k : ℕ) (i : Item) → slice_get (items_of es) k ≡ Some i → (e : String Global × NamedPath)
     × (slice_get es k ≡ Some e) × (item_of e ≡ i)
@@ -105,7 +105,7 @@ lack_by es ms f noted empty i on =
     ap (λ (xs : List ℕ). has xs (get_or ms on.0 0)) (empty l.from) in
     cc (held, off))))
 
--- lists with the same paths are encoded alike
+-- lists with the same items are encoded alike
 pub all_same : (es fs : Entries) → items_of fs ≡ items_of es → ArePublished es → ArePublished fs
 all_same es fs same h k e at = λ none.
     let b = back es k (item_of e) (ap (λ (js : List Item). slice_get js k) (sym same) ∙ item_at fs k e at) in

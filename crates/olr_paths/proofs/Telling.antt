@@ -9,7 +9,7 @@ use Rattle.olr_paths.specs.Items.{Made, Item, made_of, made_in, answer_in}
 use Rattle.olr_paths.specs.declared.published.Published.{Published as Encoded}
 use Rattle.olr_paths.specs.Changes.{AreEncoded, Reported}
 
--- the entry of one, where it was encoded
+-- the entry of a path, if it was encoded
 abbrev pub told_of : List ℕ → Option Made → List Entry
 told_of name None = []
 told_of name (Some m) = entry name m.answer ∷ []
@@ -40,7 +40,7 @@ one_reported i is (Some m) e some rest = (
   inr ((λ h. cc), ap (λ (made : Option Made). told_of i.name made ++ all_told is) e),
 )
 
--- with none before, all are told
+-- with no earlier list, all are reported
 pub all_reported : (is : List Item) → AreEncoded is → Reported [] is (all_told is)
 all_reported [] a = refl
 all_reported (i ∷ is) a = one_reported i is i.made refl a.0 (all_reported is a.1)
@@ -54,7 +54,7 @@ told_more_at is k i m at made =
 
 -- ---- what was encoded
 
--- a name under which something is published has an answer
+-- a name with a stored result has an answer
 pub answered : (is : List Item) (name : List ℕ) (o : Option (Bor Encoded)) →
     option_map (λ p. made_of p.now) o ≡ made_in is name → is_some o ≡ true → (A : Answer) × (answer_in is name ≡ Some A)
 answered is name None e some = absurd cc

@@ -1,7 +1,7 @@
--- A list, as far as it was renewed. SoFar is the same with the work, along a list; follows_self gives the start where
--- the list itself is the one before.
---     Through Q N T X before is ps es n      the paths is are renewed where ps are put, es tells them, and n of them
---         are concerned, from each map that Q holds of
+-- A list, as far as it was renewed. SoFar is the same with the work, along a list; follows_self gives the start if
+-- the list is the same as before.
+--     Through Q N T X before is ps es n      the paths is are renewed when ps are stored, es reports them, and n of
+--         them are affected, from each map that satisfies Q
 use Rattle.std.proofs.Common.{◌≡◌, ◌≢◌, ℕ, map, zero, suc, take, ◌+◌, ◌<◌, ◌≤◌, ◌^◌, List}
 use Rattle.std.proofs.Common.{[], ◌∷◌, ◌++◌, length, slice_get, Option, None, Some, option_map, IfSome, ◌⊎◌, inl, inr}
 use Rattle.std.proofs.Common.{refl, sym, ap, subst, ◌∙◌, append_assoc, arith, IsTrue}
@@ -90,7 +90,7 @@ module _ (Q : Map → Type 0) (N : Map) (T X : List ℕ) (before : List Item) wh
   through_none =
       record { local = λ ys. refl; names = refl; remade = λ L q. refl; reported = refl; counted = λ L q. refl }
 
-  -- where j is at the end of what was put, and the rest stays
+  -- j is after what was stored, and the rest is unchanged
   pub grown : (is : List Item) (ps qs : List Put) (es fs : List Entry) (n k : ℕ) (i j : Item) (A : Answer) →
       Through Q N T X before is ps es n
       → ((ys : List Item) → all_put (is ++ i ∷ ys) qs ≡ all_put is ps ++ j ∷ ys) → named_of j ≡ named_of i →
@@ -123,7 +123,7 @@ follows_at before (x ∷ is) zero i h at = let e : x ≡ i =
     cc in subst (λ (j : Item). (j.made ≡ None) ⊎ (answer_in before j.name ≡ answer j)) e h.0
 follows_at before (x ∷ is) (suc k) i h at = follows_at before is k i h.1 at
 
--- ---- one path of the list before
+-- ---- one path of the earlier list
 
 made_at_place : (M : Map) (is : List Item) (k : ℕ) (i : Item) → AreEncodingsIfAny M is → slice_get is k ≡ Some i →
     IfSome i.made (IsEncodingOf M i.path)
@@ -138,7 +138,7 @@ path_at_place [] k i h at = let never : ⊥ = cc in absurd never
 path_at_place (x ∷ is) zero i h at = let e : x ≡ i = cc in subst (λ (j : Item). IsTrue (is_path j.path.lines)) e h.0
 path_at_place (x ∷ is) (suc k) i h at = path_at_place is k i h.1 at
 
--- the same item, once more
+-- the same item, built again
 again : (i : Item) (m : Made) → i.made ≡ Some m → i ≡ with_made i m
 again i m e = λ j. record { name = i.name; path = i.path; made = e j }
 
@@ -185,7 +185,7 @@ module _ (N : Map) (n : IsMap N) (T X : List ℕ) (C : List ChangedLine) (before
       (λ on. f.2 (touched_by L N n T X C i.path (is_a_path L q) m q.sound q.difference (is_made L q m f.1) i refl f.1
       on)))
 
-  -- an item by its parts
+  -- an item from its parts
   concerned : (L : Map) → Q L → (m : Made) → i.made ≡ Some m → Touches N T X m i.path → IsConcerned L T X i
   concerned L q m e t =
       subst (λ (j : Item). IsConcerned L T X j) (sym (again i m e))
@@ -226,7 +226,7 @@ module _ (N : Map) (n : IsMap N) (T X : List ℕ) (C : List ChangedLine) (before
       refl (λ L q. (m, made, refl)) refl told
       (λ L q. Count-more (IsConcerned L T X) (take place is) c i (h.counted L q) (to_encode L q f)))
 
--- ---- the paths before a place, with the work
+-- ---- the paths before a position, with the work
 
 pub record SoFar (N : Map) (T X : List ℕ) (C : List ChangedLine) (before is : List Item) (place : ℕ) (r : Renewal)
     (old now : Counted) : Type 0 where
@@ -259,7 +259,7 @@ so_far_none N T X C before is r work fresh entries =
       rises = rises_none work;
     }
 
--- of a list of no paths
+-- for a list without paths
 pub so_far_all : (N : Map) (T X : List ℕ) (C : List ChangedLine) (before is : List Item) (r : Renewal)
     (work : Counted) → length is ≡ 0 → r.fresh.items ≡ [] → r.entries.items ≡ [] →
     SoFar N T X C before is (length is) r work work
@@ -267,7 +267,7 @@ so_far_all N T X C before is r work none fresh entries =
     subst (λ (k : ℕ). SoFar N T X C before is k r work work) (sym none)
     (so_far_none N T X C before is r work fresh entries)
 
--- as far as the whole list
+-- for the whole list
 pub record Whole (N : Map) (T X : List ℕ) (C : List ChangedLine) (before is : List Item) (r : Renewal)
     (old now : Counted) : Type 0 where
   pub remade : (L : Map) → IsBefore L N T X C is → AreRemade N is (all_put is (made_at r))

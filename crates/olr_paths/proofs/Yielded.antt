@@ -1,4 +1,4 @@
--- A list whose paths were encoded, as its iterator has it left.
+-- A list whose paths were encoded, as what its iterator has left.
 use Rattle.std.proofs.Common.{◌≡◌, ◌≢◌, ◌&&◌, ◌∷◌, [], ℕ, true, List, map, Option, Some, None, is_some, refl, ap, ◌∙◌}
 use Rattle.std.specs.Prelude.{option_map, string_bytes}
 use Rattle.std.specs.List.{list_all}

@@ -1,9 +1,9 @@
--- Positions of paths that edits may concern.
+-- Positions of paths that edits may affect.
 --     Includes xs ys      the numbers of xs are among those of ys
---     Finds marks i v found      the positions whose marks the number v has are found.
---     AreFound      so of each number
---     Covers N T X is found      a path whose position isn't found is not concerned
---     CoversAsked N place t s is found      the same of those of which it was asked.
+--     Finds marks i v found      the positions of the path ids of the number v are found.
+--     AreFound      the same for each number
+--     Covers N T X is found      a path whose position isn't found is not affected
+--     CoversAsked N place t s is found      the same for the paths for which the search was made.
 --     FindsChanged cs is found      a path whose position isn't found is not changed
 use Rattle.std.specs.Prelude.{◌≡◌, ℕ, ◌<◌, List, All, Some, None, IfSome, false, length, get_or, slice_get, IsTrue}
 use Rattle.olr_spec.specs.Map.{Map, has}

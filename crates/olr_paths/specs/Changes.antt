@@ -1,13 +1,13 @@
 -- What a change of the map, or of one path, makes of a list of named paths.
---     Touches N T X m P      an own node of the path is touched, or one of its lines, or a node that a look sees. No
---         look is longer than the limit
---     IsBefore M N T X C is      what was made of the list is right on M, and edits led from M to N
---     IsConcerned M T X i      the path was not encoded yet, or its footprint on M holds a touched node, or one of its
+--     Touches N T X m P      a traversed node or a line of the path is touched, or a touched node is near to where a
+--         coverage query begins, within its length and the limit
+--     IsBefore M N T X C is      the results of the list are right on M, and edits led from M to N
+--     IsConcerned M T X i      the path was not encoded yet, or its footprint on M has a touched node, or one of its
 --         lines was touched
---     AreRemade N is js      each path has what is right on N
---     Reported before js es      an entry for each path whose answer is not the one that its name had before, in order
+--     AreRemade N is js      each path has results that are right on N
+--     Reported before js es      an entry for each path whose answer is not the earlier one of its name, in order
 --     AreEncoded is      each path was encoded
---     Follows before is      each path that was encoded has the answer that its name had before
+--     Follows before is      each path that was encoded has the earlier answer of its name
 use Rattle.std.specs.Prelude.{◌≡◌, ◌≢◌, ℕ, List, [], ◌∷◌, Contains, Option, Some, None, option_map, ◌⊎◌, IsTrue, ⊤}
 use Rattle.std.specs.Prelude.{min, if◌then◌else◌}
 use Rattle.std.specs.List.{AllByRecursion}
@@ -72,6 +72,6 @@ abbrev pub AreEncoded : List Item → Type 0
 AreEncoded [] = ⊤
 AreEncoded (i ∷ is) = (i.made ≢ None) × AreEncoded is
 
--- another path in the place of the one of that name
+-- the path of that name is replaced
 abbrev pub set_item : List ℕ → Path → Option Made → Item → Item
 set_item name path made i = if same_name i.name name then record { name = i.name; path = path; made = made } else i

@@ -1,11 +1,11 @@
--- Which marks a finder has, and that it has those of each path.
---     OwnNoted, FromNoted, LinesNoted      own nodes, the nodes from which looks look, and lines have a mark.
+-- Which path ids a finder has, and that it has the entries of each path.
+--     OwnNoted, FromNoted, LinesNoted      traversed nodes, the first nodes of queries, and lines have a path id.
 --     IsNoted      all three
---     KeepsAll i j      each number has the marks that it had.
---     KeepsBut mark i j      and the others, but for one mark
---     Grows f g, Spares f g mark      the same of a finder
---     AreNoted es marks f      each path that was encoded is noted under the mark at its place
---     AreNotedAt marks f fresh      what is to be put at positions is noted under their marks
+--     KeepsAll i j      each number still has its path ids.
+--     KeepsBut mark i j      each number has the same path ids, except for one id
+--     Grows f g, Spares f g mark      the same two for a finder
+--     AreNoted es marks f      each path that was encoded has index entries with the id at its position
+--     AreNotedAt marks f fresh      the results for positions have index entries with their path ids
 --     ArePublished es      each path was encoded
 use Rattle.std.specs.Prelude.{◌≡◌, ◌≢◌, ◌<◌, ℕ, List, All, Some, None, length, get_or, slice_get, IsTrue, IsFalse}
 use Rattle.std.specs.Prelude.{String, Bool}
@@ -41,7 +41,7 @@ Grows f g = KeepsAll f.own g.own × KeepsAll f.from g.from × KeepsAll f.lines g
 abbrev pub Spares : ℕ → Finder → Finder → Type 0
 Spares mark f g = KeepsBut mark f.own g.own × KeepsBut mark f.from g.from × KeepsBut mark f.lines g.lines
 
--- one path, where it was encoded
+-- the index entries of a path, if it was encoded
 abbrev pub NamedNoted : Finder → ℕ → NamedPath → Type 0
 NamedNoted f mark n =
     (p : Rc Published Global) → n.published ≡ Some p → IsNoted f mark n.path.value.lines p.value.own p.value.looks.items
@@ -50,7 +50,7 @@ abbrev pub AreNoted : List (String Global × NamedPath) → List ℕ → Finder 
 AreNoted es marks f =
     (k : ℕ) (e : String Global × NamedPath) → slice_get es k ≡ Some e → NamedNoted f (get_or marks k 0) e.1
 
--- what is to be put at positions is noted under their marks
+-- the results to be stored at positions have index entries with the ids of these
 abbrev pub AreNotedAt : List ℕ → Finder → List (ℕ × NamedPath) → Type 0
 AreNotedAt marks f fresh = All (λ r. r.0 < length marks → NamedNoted f (get_or marks r.0 0) r.1) fresh
 

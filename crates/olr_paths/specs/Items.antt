@@ -1,10 +1,10 @@
 -- A list of named paths, each with what is published of it.
---     Made      an answer with its own nodes and looks.
---     IsEncodingOf M P m      they are those of the path on the map
---     Item      a name, its path and, where it was encoded, what was made.
---     items l      those of a list
---     AreEncodings M is      each path was encoded, and rightly for the map.
---     AreEncodingsIfAny M is      each that was encoded
+--     Made      the results of a path: answer, traversed nodes and coverage queries.
+--     IsEncodingOf M P m      they are the results of the path on the map
+--     Item      a name, its path and, if it was encoded, its results.
+--     items l      the items of a list
+--     AreEncodings M is      each path was encoded, with results that are right on the map.
+--     AreEncodingsIfAny M is      the same for each path that was encoded
 use Rattle.std.specs.Prelude.{◌≡◌, ℕ, List, [], ◌∷◌, map, Contains, if◌then◌else◌, Option, Some, None, option_map}
 use Rattle.std.specs.Prelude.{IfSome, string_bytes, ◌↔◌, ⊤}
 use Rattle.olr_spec.specs.Map.{Map}
@@ -26,7 +26,7 @@ pub record Item : Type 0 where
   pub path : Path
   pub made : Option Made
 
--- ---- what Rust keeps, as these
+-- ---- Rust's values as these
 
 abbrev pub made_of : Encoded → Made
 made_of p = record { answer = answer_of p.answer; own = p.own; looks = p.looks.items }
@@ -55,7 +55,7 @@ abbrev pub AreEncodingsIfAny : Map → List Item → Type 0
 AreEncodingsIfAny M [] = ⊤
 AreEncodingsIfAny M (i ∷ is) = IfSome i.made (IsEncodingOf M i.path) × AreEncodingsIfAny M is
 
--- ---- the list as the register's definitions see it
+-- ---- the list in terms of the register's definitions
 
 abbrev pub named_of : Item → Named
 named_of i = record { name = i.name; path = i.path }
@@ -63,7 +63,7 @@ named_of i = record { name = i.name; path = i.path }
 abbrev pub all_named : List Item → List Named
 all_named is = map named_of is
 
--- what was made of the path of that name
+-- the results of the path of that name
 abbrev pub made_in : List Item → List ℕ → Option Made
 made_in [] name = None
 made_in (i ∷ is) name = if same_name i.name name then i.made else made_in is name

@@ -1,9 +1,9 @@
--- Changes that lie over a list of named paths.
---     Changes, change_at cs name      what becomes of paths by their names: another path, or none where it is taken
---         away
+-- Changes over a list of named paths.
+--     Changes, change_at cs name      changes of paths by their names: a replacement, or None if the path is
+--         removed
 --     under_changes cs is      the list with these changes.
---     under_overlay is o      with those of an overlay, and the new ones behind
---     TakesNone cs      no path is taken away
+--     under_overlay is o      the list with the changes of an overlay, and the new paths at the end
+--     TakesNone cs      no path is removed
 use Rattle.std.specs.Prelude.{◌≡◌, ℕ, Bool, true, false, cond, List, [], ◌∷◌, ◌++◌, map, Option, Some, None, option_map}
 use Rattle.std.specs.Prelude.{string_bytes}
 use Rattle.std.specs.Coded.{coded_ℕ, Coded-set}
@@ -23,7 +23,7 @@ abbrev pub change_at : Changes → List ℕ → Option (Option Path)
 change_at [] name = None
 change_at (c ∷ cs) name = cond (same_name c.0 name) (Some c.1) (change_at cs name)
 
--- whether it is known that the path is taken away
+-- whether it is known that the path is removed
 abbrev pub drops : Option (Option Path) → Bool
 drops (Some None) = true
 drops (Some (Some path)) = false
@@ -35,7 +35,7 @@ TakesNone cs = (name : List ℕ) → drops (change_at cs name) ≡ false
 pub TakesNone-prop : (cs : Changes) → IsProp (TakesNone cs)
 TakesNone-prop cs = hlevel (props, Coded-set coded_ℕ)
 
--- what becomes of one path, which is not encoded yet where it is another
+-- one path under its change; a replacement is not encoded yet
 abbrev pub under_change : Option (Option Path) → Item → List Item
 under_change None i = i ∷ []
 under_change (Some None) i = []

@@ -1,14 +1,14 @@
--- What was made anew of a list of named paths, and where it goes.
---     Put      a path with what was made of it, and its place.
---     puts_of es, made_at r      what was made.
---     all_put is ps      the list with these at their places
+-- Which results of a list of named paths were made again, and where they are stored.
+--     Put      a path with its results, and its position.
+--     puts_of es, made_at r      the results that were made.
+--     all_put is ps      the list with these at their positions
 --     item_of name e      an entry of the list under a name
---     items_before o l      the list that is given as the earlier one, or else l itself
---     Stays N T X C m P      no own node and no line of the path is touched, and each look is clear
---     IsFate, IsStep      what is to be done with a path, and what is done
---     Rises old new n, OneMore old new      no count falls, and of n encodings no more are spared;  of one
---     TellsIfOther before name A es fs      an entry behind the others where the answer is not the one that the name
---         had before
+--     items_before o l      the earlier list if there is one, otherwise l
+--     Stays N T X C m P      no traversed node and no line of the path is touched, and each coverage query is clear
+--     IsFate, IsStep      the action for a path, and its effect
+--     Rises old new n, OneMore old new      no count falls, and at most n encodings are spared;  the same for one
+--     TellsIfOther before name A es fs      an entry is appended if the answer is not the earlier one of the
+--         name
 use Rattle.std.specs.Prelude.{◌≡◌, ◌≢◌, ℕ, zero, suc, List, [], ◌∷◌, ◌++◌, map, All, ◌+◌, ◌<◌, ◌≤◌, ◌^◌, Option, Some}
 use Rattle.std.specs.Prelude.{None, option_map, unwrap_or, ◌⊎◌}
 use Rattle.std.specs.Borrow.{Bor}
@@ -37,13 +37,13 @@ pub record Put : Type 0 where
   pub path : Path
   pub made : Option Made
 
--- with that path and what was made of it for the item at that place, which keeps its name
+-- the item at that position has this path and these results, and keeps its name
 abbrev pub put : List Item → ℕ → Path → Option Made → List Item
 put [] k path made = []
 put (i ∷ is) zero path made = record { name = i.name; path = path; made = made } ∷ is
 put (i ∷ is) (suc k) path made = i ∷ put is k path made
 
--- with each at its place
+-- with each at its position
 abbrev pub all_put : List Item → List Put → List Item
 all_put is [] = is
 all_put is (p ∷ ps) = put (all_put is ps) p.place p.path p.made
@@ -87,7 +87,7 @@ IsFate N T X C made P Stay = ToStay N T X made P
 IsFate N T X C made P Keep = ToKeep N T X C made P
 IsFate N T X C made P Encode = ToEncode N T X made P
 
--- no count falls, and of so many encodings no more are spared
+-- no count falls, and at most this many encodings are spared
 pub record Rises (old new : Counted) (n : ℕ) : Type 0 where
   pub searches : old.work.searches ≤ new.work.searches
   pub settled : old.work.settled ≤ new.work.settled

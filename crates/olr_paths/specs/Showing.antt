@@ -1,6 +1,6 @@
--- A list under changes, as it is read in place.
+-- A list under changes, read in place.
 --     shown_items l      the list under its changes.
---     shown_item s      what is shown of one path
+--     shown_item s      one path as an item
 use Rattle.std.specs.Prelude.{List, option_map}
 use Rattle.olr_paths.specs.Items.{Item, items, made_of}
 use Rattle.olr_paths.specs.Laying.{under_overlay}

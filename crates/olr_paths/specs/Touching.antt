@@ -1,6 +1,6 @@
 -- What edits touched and changed, as lists.
 --     nodes_of t, lines_of t, changed_of t      the nodes, the lines and the changed lines
---     HasRoom t      room for what one more edit touches
+--     HasRoom t      capacity for what one more edit touches
 use Rattle.std.specs.Prelude.{ℕ, ◌+◌, ◌≤◌, List, map, vec_len, vec_capacity}
 use Rattle.olr_spec.specs.Detours.{ChangedLine}
 use Rattle.olr_paths.specs.declared.touched.ChangedLine.{ChangedLine as Noted}

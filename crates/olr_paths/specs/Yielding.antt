@@ -1,5 +1,5 @@
 -- What an iterator over a list has left.
---     left it      the names of the paths that are left, each with what was made of it
+--     left it      the names of the paths that are left, each with its results
 use Rattle.std.specs.Prelude.{ℕ, List, map, Option, option_map, string_bytes}
 use Rattle.olr_paths.specs.Items.{Made, made_of}
 use Rattle.olr_paths.specs.declared.iter.Iter.{Iter}

@@ -1,4 +1,4 @@
-//! What is searched, and which paths are found, before any is encoded anew.
+//! The searches of a renewal, and the paths that they find, before any path is encoded.
 ghost use Rattle.std.specs.Prelude.{IsTrue, IfOk, IfSome, OnOk};
 ghost use Rattle.olr_paths.specs.Showing.{shown_items};
 ghost use Rattle.olr_paths.specs.Touching.{nodes_of, lines_of};
@@ -17,15 +17,15 @@ use olr_map::MapRead;
 use olr_near::Nearness;
 use std::alloc::{AllocError, Global};
 
-/// Whether it is known that no path has a look: then no touched node can be near to one.
+/// Whether it is known that no path has a coverage query: then no touched node can be near to one.
 fn is_without_looks(laid: Laid<'_>) -> bool
     ensures { IsTrue result → LackLooks (shown_items laid.entry) }
 {
     laid.list.finder.from.is_empty() && laid.overlay.added.finder.from.is_empty()
 }
 
-/// How far the searches for detours have to go, in decimetres: the longest look of a path at these positions that is
-/// concerned and of which no own node and no line is touched. None where there is no such look.
+/// The limit of the searches for detours, in decimetres: the length of the longest coverage query of those affected paths at
+/// these positions of which no traversed node and no line is touched. None if there is no such query.
 fn longest<M: MapRead>(
     map: &M,
     laid: Laid<'_>,
@@ -55,8 +55,8 @@ fn longest<M: MapRead>(
     longest
 }
 
-/// What is known before paths are encoded: the positions of those that edits may concern, rising, and how far detours
-/// were asked, if they were.
+/// What is known before paths are encoded: the positions of the paths that edits may affect, in ascending order, and the
+/// limit of the searches for detours, if they were made.
 #[derive(Drop)]
 pub(crate) struct Asked {
     pub(crate) found: Vec<usize>,
@@ -85,8 +85,8 @@ fn search_touched<M: MapRead>(
     Ok(())
 }
 
-/// Searches from the lines that edits changed, where a path at these positions is left to decide by that. How far
-/// detours were asked, if they were.
+/// Searches from the changed lines, if a path at these positions depends on it. Returns the limit of the searches for
+/// detours, if they were made.
 fn ask_detours<M: MapRead>(
     alloc: Global,
     map: &M,
@@ -108,8 +108,8 @@ fn ask_detours<M: MapRead>(
     Ok(asked)
 }
 
-/// Searches from what edits touched, finds the paths that they may concern, and searches, where one of these is left to
-/// decide by that, from the lines that they changed.
+/// Searches from the touched nodes, finds the paths that the edits may affect, and searches from the changed lines if one of
+/// these paths depends on it.
 pub(crate) fn ask<M: MapRead>(
     alloc: Global,
     map: &M,

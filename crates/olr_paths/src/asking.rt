@@ -1,4 +1,4 @@
-//! Which paths edits of the map concern.
+//! Which paths the edits of the map affect.
 ghost use Rattle.std.specs.Prelude.{◌≡◌, ◌↔◌, ℕ, min, Contains, IsTrue, IfOk, OnOk};
 ghost use Rattle.std.specs.List.{list_any};
 ghost use Rattle.olr_spec.specs.Map.{has};
@@ -22,7 +22,7 @@ use olr_refs::Path;
 use olr_route::{Direction, GREATEST_LIMIT, Search};
 use std::alloc::{AllocError, Global};
 
-/// The touched nodes, as where a search begins.
+/// The touched nodes, as sources of a search.
 fn sources_of(alloc: Global, touched: &Touched) -> Result<Vec<(NodeId, u32)>, AllocError>
     ensures { IfOk result (λ v. v.items ≡ sources touched.now) }
 {
@@ -69,7 +69,7 @@ fn is_near<M: MapRead>(map: &M, touched: &Touched, near: &Search, node: NodeId, 
     }
 }
 
-/// Whether one of the own nodes was touched.
+/// Whether one of the traversed nodes was touched.
 pub(crate) fn is_own_touched(touched: &Touched, own: &Footprint) -> bool
     ensures { IsTrue result ↔ ((v : ℕ) × IsTrue (has (nodes_of touched.now) v) × Contains own.now v) }
 {
@@ -91,7 +91,7 @@ pub(crate) fn is_line_touched(touched: &Touched, lines: &[LineId]) -> bool
     is_any_touched(touched, lines)
 }
 
-/// Whether one of the looks sees a touched node.
+/// Whether a touched node is near to where one of the coverage queries begins.
 fn is_look_touched<M: MapRead>(
     map: &M,
     touched: &Touched,
@@ -112,7 +112,7 @@ fn is_look_touched<M: MapRead>(
     false
 }
 
-/// Whether edits concern a path, by what was made of it before them.
+/// Whether the edits affect a path, by its results from before them.
 pub(crate) fn is_touched<M: MapRead>(
     map: &M,
     touched: &Touched,

@@ -1,4 +1,4 @@
-//! Which paths edits may concern: found by what they touched, and not by going over all paths.
+//! Which paths the edits may affect: found by what they touched, without a pass over all paths.
 ghost use Rattle.std.specs.Prelude.{◌≡◌, ◌<◌, ◌≤◌, ℕ, Some, All, length, get_or, IsTrue, IsFalse, IfOk, OnOk};
 ghost use Rattle.std.specs.List.Sorted.{IsStrictlyIncreasing, IsNonDecreasing};
 ghost use Rattle.olr_spec.specs.Map.{has};
@@ -18,7 +18,7 @@ use olr_map::{LineId, MapRead, NodeId};
 use olr_route::Reached;
 use std::alloc::{AllocError, Global};
 
-/// The position of the path with a mark, by binary search.
+/// The position of the path with this id, by binary search.
 fn position_of(marks: &[u64], mark: u64) -> Option<usize>
     requires { IsStrictlyIncreasing marks.now }
     ensures { (k : ℕ) → k < length marks.now → get_or marks.now k 0 ≡ mark → result ≡ Some k }
@@ -26,7 +26,7 @@ fn position_of(marks: &[u64], mark: u64) -> Option<usize>
     marks.binary_search(&mark).ok()
 }
 
-/// Puts the positions of the paths with these marks behind others.
+/// Appends the positions of the paths with these ids.
 fn put_positions(marks: &[u64], of: &[u64], found: &mut Vec<usize>) -> Result<(), AllocError>
     requires { IsStrictlyIncreasing marks.now }
     ensures kept { OnOk result (Includes found.old.items found.new.items) }
@@ -41,7 +41,7 @@ fn put_positions(marks: &[u64], of: &[u64], found: &mut Vec<usize>) -> Result<()
     Ok(())
 }
 
-/// Puts the positions of the paths that have one of the nodes behind others.
+/// Appends the positions of the paths that have an index entry for one of the nodes.
 fn put_nodes(
     marks: &[u64],
     index: &Index,
@@ -58,7 +58,7 @@ fn put_nodes(
     Ok(())
 }
 
-/// Puts the positions of the paths that have one of the lines behind others.
+/// Appends the positions of the paths that have one of the lines.
 fn put_lines(
     marks: &[u64],
     index: &Index,
@@ -75,7 +75,7 @@ fn put_lines(
     Ok(())
 }
 
-/// Puts the positions of the paths that have one of the nodes that a search reached behind others.
+/// Appends the positions of the paths that have an index entry for one of the nodes that a search labelled.
 fn put_reached(
     marks: &[u64],
     index: &Index,
@@ -92,7 +92,7 @@ fn put_reached(
     Ok(())
 }
 
-/// Puts the positions from one to another, without that, behind others.
+/// Appends the positions from `from` up to, but not including, `to`.
 fn put_range(from: usize, to: usize, found: &mut Vec<usize>) -> Result<(), AllocError>
     ensures kept { OnOk result (Includes found.old.items found.new.items) }
     ensures put { OnOk result ((k : ℕ) → from ≤ k → k < to → IsTrue (has found.new.items k)) }
@@ -103,13 +103,13 @@ fn put_range(from: usize, to: usize, found: &mut Vec<usize>) -> Result<(), Alloc
     Ok(())
 }
 
-/// Puts the positions of the paths in whose place another comes behind others.
+/// Appends the positions of the paths that changes replace.
 fn put_changed(laid: Laid<'_>, found: &mut Vec<usize>) -> Result<(), AllocError>
     ensures kept { OnOk result (Includes found.old.items found.new.items) }
     ensures put { OnOk result
         (FindsChanged (overlay_changes laid.entry.overlay.now) (items laid.entry.list.now) found.new.items) }
 {
-    // For the proof alone: no name stands twice.
+    // For the proof alone: no name occurs twice.
     let _names = laid.list.len();
     for k in 0..laid.overlay.changes.len() {
         let Some((name, _)) = laid.overlay.changes.get_index(k) else {
@@ -123,8 +123,8 @@ fn put_changed(laid: Laid<'_>, found: &mut Vec<usize>) -> Result<(), AllocError>
     Ok(())
 }
 
-/// Puts the positions of the paths that edits may concern behind others: those that have a touched node or line, or
-/// look from a node that the search reached.
+/// Appends the positions of the paths that the edits may affect: those with a touched node or line, and those with a
+/// coverage query that begins at a node labelled by the search.
 fn put_touched<M: MapRead>(
     map: &M,
     list: &Listing,
@@ -147,8 +147,8 @@ fn put_touched<M: MapRead>(
     Ok(())
 }
 
-/// Puts the positions of the list's paths that edits may concern, or in whose place another comes, behind others. All
-/// positions, where a path may be there that was not encoded yet.
+/// Appends the positions of the list's paths that the edits may affect, or that changes replace; all positions if the list
+/// may have a path that is not encoded yet.
 fn put_listed<M: MapRead>(
     map: &M,
     laid: Laid<'_>,
@@ -171,8 +171,8 @@ fn put_listed<M: MapRead>(
     Ok(())
 }
 
-/// The positions, rising, of paths that edits may concern, or that changes give; a position may stand twice. All
-/// positions, where a path may be there that was not encoded yet.
+/// The positions, in ascending order, of the paths that the edits may affect, and of replaced and new paths; a position
+/// may be repeated. All positions if the list may have a path that is not encoded yet.
 pub(crate) fn candidates<M: MapRead>(
     alloc: Global,
     map: &M,

@@ -1,4 +1,4 @@
-//! Whether changed lines offer a detour as short as a look.
+//! Whether changed lines offer a detour that is as short as a coverage query.
 ghost use Rattle.std.specs.Prelude.{◌≡◌, ◌≤◌, IsTrue, IfOk, IfSome, OnOk};
 ghost use Rattle.olr_spec.specs.Looks.{IsClear};
 ghost use Rattle.olr_route.specs.Searches.{IsSearch, limit_of};
@@ -13,10 +13,10 @@ use olr_refs::Look;
 use olr_route::{Direction, GREATEST_LIMIT, Search};
 use std::alloc::{AllocError, Global};
 
-/// Of more changed lines no detours are asked: nearly every path is encoded anyway.
+/// With more changed lines than this, no detours are searched: nearly every path is encoded anyway.
 const MOST_CHANGED: usize = 8;
 
-/// Where changed lines begin, each with its length.
+/// The nodes where changed lines begin, each with the line's length.
 fn starts_of(alloc: Global, touched: &Touched) -> Result<Vec<(NodeId, u32)>, AllocError>
     ensures { IfOk result (λ v. v.items ≡ starts touched.now) }
 {
@@ -28,7 +28,7 @@ fn starts_of(alloc: Global, touched: &Touched) -> Result<Vec<(NodeId, u32)>, All
     Ok(starts)
 }
 
-/// Where changed lines end.
+/// The nodes where changed lines end.
 fn ends_of(alloc: Global, touched: &Touched) -> Result<Vec<(NodeId, u32)>, AllocError>
     ensures { IfOk result (λ v. v.items ≡ ends touched.now) }
 {
@@ -40,8 +40,8 @@ fn ends_of(alloc: Global, touched: &Touched) -> Result<Vec<(NodeId, u32)>, Alloc
     Ok(ends)
 }
 
-/// Searches within a limit in decimetres to where changed lines begin and from where they end, unless there are too
-/// many. The limit of the searches, if they were made.
+/// Searches, up to a limit in decimetres, for distances to the starts of changed lines and from their ends, unless there are
+/// too many changed lines. Returns the limit, if the searches were made.
 pub(crate) fn search_detours<M: MapRead>(
     alloc: Global,
     map: &M,
@@ -70,7 +70,7 @@ pub(crate) fn search_detours<M: MapRead>(
     Ok(Some(limit))
 }
 
-/// Begins a search, and settles it to a limit in decimetres.
+/// Starts a search, and settles it to a limit in decimetres.
 fn search_to<M: MapRead>(
     map: &M,
     direction: Direction,
@@ -87,7 +87,7 @@ fn search_to<M: MapRead>(
     Ok(())
 }
 
-/// Whether two distances together are more than a length, all in decimetres, or one of them is none.
+/// Whether the sum of two distances is more than a length, all in decimetres, or one of them is None.
 fn is_farther(before: Option<u32>, after: Option<u32>, within: u32) -> bool
     ensures { IsTrue result → AreFarther before after within }
 {
@@ -97,7 +97,7 @@ fn is_farther(before: Option<u32>, after: Option<u32>, within: u32) -> bool
     }
 }
 
-/// Whether it is known that no detour over the changed lines is as short as the look.
+/// Whether it is known that no detour over the changed lines is as short as the coverage query.
 fn is_clear<M: MapRead>(
     map: &M,
     touched: &Touched,
@@ -122,7 +122,7 @@ fn is_clear<M: MapRead>(
     is_farther(before, after, look.within)
 }
 
-/// Whether it is known that each look is clear.
+/// Whether it is known that each coverage query is clear.
 pub(crate) fn are_clear<M: MapRead>(
     map: &M,
     touched: &Touched,

@@ -12,7 +12,7 @@ use olr_refs::{Answer, Encoding, Path, encode};
 use olr_route::{Search, Work};
 use std::alloc::{AllocError, Global};
 
-/// The text of an answer, where it has one.
+/// The text of an answer, if it has one.
 fn text_of(alloc: Global, answer: &Answer) -> Result<Option<String>, AllocError>
     ensures { IfOk result (λ t. option_map string_bytes t ≡ result_ok (published_text (answer_of answer.now))) }
 {
@@ -25,7 +25,7 @@ fn text_of(alloc: Global, answer: &Answer) -> Result<Option<String>, AllocError>
     }
 }
 
-/// Encodes a path on a map. One encoding is counted; after want of memory the work may hold more than before.
+/// Encodes a path on a map, and counts one encoding. If an allocation fails, the work may be counted in part.
 pub fn publish<M: MapRead>(
     alloc: Global,
     map: &M,
@@ -39,7 +39,7 @@ pub fn publish<M: MapRead>(
     ensures searches { OnOk result (work.old.searches ≤ work.new.searches) }
     ensures settled { OnOk result (work.old.settled ≤ work.new.settled) }
 {
-    // For the proof alone: what was counted is in range.
+    // For the proof alone: the counts are in range.
     let _searches = work.searches;
     let _settled = work.settled;
     let Encoding { answer, own, looks } = encode(alloc, map, path, search, work)?;

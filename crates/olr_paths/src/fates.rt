@@ -1,4 +1,4 @@
-//! What is to be done with a path where the map has changed.
+//! Which action a renewal takes for a path.
 ghost use Rattle.std.specs.Prelude.{Some, IsTrue, IfSome};
 ghost use Rattle.olr_paths.specs.Items.{made_of};
 ghost use Rattle.olr_paths.specs.Showing.{shown_item};
@@ -15,18 +15,18 @@ use crate::touched::Touched;
 use olr_map::MapRead;
 use olr_refs::Path;
 
-/// What is to be done with a path.
+/// The action for a path.
 #[derive(Clone, Copy)]
 pub(crate) enum Fate {
-    /// It isn't concerned.
+    /// It isn't affected.
     Stay,
-    /// It is concerned, and its answer is kept.
+    /// It is affected, and its answer is retained.
     Keep,
-    /// It is encoded anew.
+    /// It is encoded again.
     Encode,
 }
 
-/// Whether it is known that a path which edits concern has the same answer as before them.
+/// Whether it is known that a path which the edits affect has the same answer as before.
 fn is_unchanged<M: MapRead>(
     map: &M,
     touched: &Touched,
@@ -48,7 +48,7 @@ fn is_unchanged<M: MapRead>(
         && are_clear(map, touched, searches, limit, &published.looks)
 }
 
-/// What is to be done with a path.
+/// The action for a path.
 pub(crate) fn decide<M: MapRead>(
     map: &M,
     touched: &Touched,

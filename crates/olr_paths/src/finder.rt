@@ -1,4 +1,4 @@
-//! Which paths have a node or a line: found by its number.
+//! Which paths have a node or a line, found by its number.
 ghost use Rattle.std.specs.Prelude.{◌≡◌, ℕ, Contains, IsTrue, OnOk};
 ghost use Rattle.std.specs.List.Sorted.{IsStrictlyIncreasing};
 ghost use Rattle.olr_spec.specs.Looks.{Look as LookRecord};
@@ -10,8 +10,8 @@ use olr_map::{LineId, NodeId};
 use olr_refs::Look;
 use std::alloc::{AllocError, Global};
 
-/// The marks of paths, by the numbers of their own nodes, of the nodes from which they look, and of their lines. It may
-/// have more than the paths have.
+/// The path ids by the numbers of traversed nodes, of nodes where coverage queries begin, and of lines. It may have more
+/// entries than the paths need.
 #[derive(Drop, Debug)]
 pub struct Finder {
     pub(crate) own: Index,
@@ -23,7 +23,7 @@ impl Finder {
     ghost use Rattle.std.specs.Prelude.{◌≡◌, OnOk};
     ghost use Rattle.olr_paths.specs.Finding.{IsNoted, Grows, Spares};
 
-    /// No marks. Takes no memory.
+    /// A finder without entries. Takes no memory.
     pub(crate) fn new(alloc: Global) -> Finder {
         Finder {
             own: Index::new(alloc),
@@ -32,8 +32,8 @@ impl Finder {
         }
     }
 
-    /// Gives the lines, the own nodes and the nodes from which a path looks its mark. After want of memory some have
-    /// it.
+    /// Adds the id of a path to its lines, its traversed nodes and the nodes where its coverage queries begin. If an allocation
+    /// fails, some of them have it.
     pub(crate) fn note(
         &mut self,
         mark: u64,
@@ -49,7 +49,8 @@ impl Finder {
         note_lines(&mut self.lines, mark, lines)
     }
 
-    /// Takes the mark from these lines, and from the own nodes and the nodes from which a path looked. Takes no memory.
+    /// Removes the id from these lines, from the traversed nodes and from the nodes where coverage queries began. Takes no
+    /// memory.
     pub(crate) fn forget(&mut self, mark: u64, lines: &[LineId], gone: &Published)
         ensures { Spares mark self.old self.new }
     {
@@ -58,7 +59,7 @@ impl Finder {
         forget_lines(&mut self.lines, mark, lines, &[]);
     }
 
-    /// The same, but for what a path has as it is kept.
+    /// The same, except for what the retained path has.
     pub(crate) fn forget_but(
         &mut self,
         mark: u64,
@@ -82,7 +83,7 @@ impl Finder {
     }
 }
 
-/// Gives nodes a mark. After want of memory some have it.
+/// Adds a path id to nodes. If an allocation fails, some have it.
 fn note_nodes(index: &mut Index, mark: u64, nodes: &[NodeId]) -> Result<(), AllocError>
     ensures noted { OnOk result (OwnNoted index.new mark nodes.now) }
     ensures grows { KeepsAll index.old index.new }
@@ -94,7 +95,7 @@ fn note_nodes(index: &mut Index, mark: u64, nodes: &[NodeId]) -> Result<(), Allo
     Ok(())
 }
 
-/// Gives lines a mark. After want of memory some have it.
+/// Adds a path id to lines. If an allocation fails, some have it.
 fn note_lines(index: &mut Index, mark: u64, lines: &[LineId]) -> Result<(), AllocError>
     ensures noted { OnOk result (OwnNoted index.new mark lines.now) }
     ensures grows { KeepsAll index.old index.new }
@@ -106,7 +107,7 @@ fn note_lines(index: &mut Index, mark: u64, lines: &[LineId]) -> Result<(), Allo
     Ok(())
 }
 
-/// Gives the nodes from which looks look a mark. After want of memory some have it.
+/// Adds a path id to the nodes where coverage queries begin. If an allocation fails, some have it.
 fn note_looks(index: &mut Index, mark: u64, looks: &[Look]) -> Result<(), AllocError>
     ensures noted { OnOk result (FromNoted index.new mark looks.now) }
     ensures grows { KeepsAll index.old index.new }
@@ -118,7 +119,7 @@ fn note_looks(index: &mut Index, mark: u64, looks: &[Look]) -> Result<(), AllocE
     Ok(())
 }
 
-/// Whether one of the looks looks from a node.
+/// Whether one of the coverage queries begins at a node.
 fn is_looked_from(looks: &[Look], node: NodeId) -> bool
     ensures { (l : LookRecord) → Contains looks.now l → l.from ≡ node → IsTrue result }
 {
@@ -130,7 +131,7 @@ fn is_looked_from(looks: &[Look], node: NodeId) -> bool
     false
 }
 
-/// Takes a mark from nodes, but for those that are kept. Takes no memory.
+/// Removes a path id from nodes, except from the retained ones. Takes no memory.
 fn forget_nodes(index: &mut Index, mark: u64, gone: &[NodeId], kept: &[NodeId])
     requires { IsStrictlyIncreasing kept.now }
     ensures keeps { OwnNoted index.old mark kept.now → OwnNoted index.new mark kept.now }
@@ -144,7 +145,7 @@ fn forget_nodes(index: &mut Index, mark: u64, gone: &[NodeId], kept: &[NodeId])
     }
 }
 
-/// Takes a mark from the nodes from which looks looked, but for those of looks that are kept. Takes no memory.
+/// Removes a path id from the nodes where coverage queries began, except from those of retained queries. Takes no memory.
 fn forget_looks(index: &mut Index, mark: u64, gone: &[Look], kept: &[Look])
     ensures keeps { FromNoted index.old mark kept.now → FromNoted index.new mark kept.now }
     ensures spares { KeepsBut mark index.old index.new }
@@ -157,7 +158,7 @@ fn forget_looks(index: &mut Index, mark: u64, gone: &[Look], kept: &[Look])
     }
 }
 
-/// Takes a mark from lines, but for those that are kept. Takes no memory.
+/// Removes a path id from lines, except from the retained ones. Takes no memory.
 fn forget_lines(index: &mut Index, mark: u64, gone: &[LineId], kept: &[LineId])
     ensures keeps { OwnNoted index.old mark kept.now → OwnNoted index.new mark kept.now }
     ensures spares { KeepsBut mark index.old index.new }

@@ -1,4 +1,4 @@
-//! Paths that are added or set one at a time, and encoded at once.
+//! Paths that are added or replaced one at a time, and encoded at once.
 ghost use Rattle.std.specs.Prelude.{◌≡◌, ◌≢◌, ◌+◌, ◌^◌, ◌<◌, ◌≤◌, ◌⊎◌, [], ◌∷◌, ◌++◌, ℕ, Contains, false, Some};
 ghost use Rattle.std.specs.Prelude.{map as list_map, is_some, string_bytes, option_map, IfOk, OnOk, OnErr};
 ghost use Rattle.olr_spec.specs.Encoding.{Answer};
@@ -23,7 +23,7 @@ use std::alloc::{AllocError, Global};
 use std::rc::Rc;
 
 impl Listing {
-    /// Encodes a path and puts it last. The reply names it. After want of memory list and work are as before.
+    /// Encodes a path and appends it. The reply names it. If an allocation fails, list and work are unchanged.
     pub fn add<M: MapRead>(
         &mut self,
         alloc: Global,
@@ -61,8 +61,8 @@ impl Listing {
         Ok(entries)
     }
 
-    /// Encodes another path under a name. It keeps its place, and the reply names it if its answer is another than
-    /// before. After want of memory list and work are as before.
+    /// Encodes another path for a name. It keeps its position, and the reply names it if its answer is another than before. If
+    /// an allocation fails, list and work are unchanged.
     pub fn set<M: MapRead>(
         &mut self,
         alloc: Global,

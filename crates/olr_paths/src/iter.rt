@@ -1,4 +1,4 @@
-//! The paths of a list one after another, each with what is published of it.
+//! The paths of a list, one after another, each with what is published of it.
 ghost use Rattle.std.specs.Prelude.{IsTrue, is_some};
 ghost use Rattle.std.specs.List.{list_all};
 
@@ -7,7 +7,7 @@ use crate::published::Published;
 use indexmap::map;
 use std::iter::FusedIterator;
 
-/// The names of paths with what is published of each, in order: those that are left.
+/// An iterator over the names of paths in order, each with what is published of it.
 #[derive(Drop)]
 pub struct Iter<'a> {
     pub(crate) entries: map::Iter<'a, String, NamedPath>,
@@ -53,7 +53,7 @@ impl Listing {
     ghost use Rattle.olr_paths.specs.Changes.{AreEncoded};
     ghost use Rattle.olr_paths.specs.Yielding.{left};
 
-    /// The paths in order, each of which was encoded, with what is published of it.
+    /// The paths in order, each with what is published of it. All of them were encoded.
     pub fn iter(&self) -> Iter<'_>
         requires encoded { AreEncoded (items self.now) }
         ensures { left result ≡ map (λ i. (i.name, i.made)) (items self.now) }

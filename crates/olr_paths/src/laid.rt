@@ -5,8 +5,8 @@ use crate::listing::Listing;
 use crate::overlay::Overlay;
 use crate::showing::{Shown, show, show_under};
 
-/// A list and changes that lie over it and take none of its paths away. A path has the position that it has in the
-/// list; the new ones stand behind.
+/// A list, and changes over it that remove none of its paths. A path has the same position as in the list; the new paths
+/// follow.
 #[derive(Clone, Copy)]
 pub(crate) struct Laid<'a> {
     pub(crate) list: &'a Listing,
@@ -18,7 +18,7 @@ impl<'a> Laid<'a> {
     ghost use Rattle.std.specs.Prelude.{◌≡◌, ◌+◌, ◌<◌, ◌^◌, slice_get, option_map, IsSome};
     ghost use Rattle.olr_paths.specs.Showing.{shown_items, shown_item};
 
-    /// The path at a position, from 0. None past the last.
+    /// The path at a position, counted from 0. None past the last.
     pub(crate) fn at(self, position: usize) -> Option<Shown<'a>>
         ensures shown { slice_get (shown_items self.entry) position ≡ option_map shown_item result }
         ensures small { IsSome result → position + 1 < 2 ^ 64 }

@@ -1,5 +1,5 @@
-//! Named paths, each with its answer, its published text and what its encoding looked at: encoded where they are new or
-//! a change of the map can have changed their answer, and told where it is another than before.
+//! Named paths, each with its answer, its string, its traversed nodes and its coverage queries. New paths and affected paths
+//! are encoded, and those with another answer than before are reported.
 #![tactic(auto)]
 
 mod asked;

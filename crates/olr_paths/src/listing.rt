@@ -13,7 +13,7 @@ use olr_refs::Path;
 use std::alloc::{AllocError, Global};
 use std::rc::Rc;
 
-/// A path and, where it was encoded, what is published of it.
+/// A path and, if it was encoded, what is published of it.
 #[derive(Drop, Debug)]
 pub struct NamedPath {
     pub(crate) path: Rc<Path>,
@@ -24,7 +24,7 @@ impl NamedPath {
     ghost use Rattle.std.specs.Prelude.{◌≡◌, IfOk, option_map};
     ghost use Rattle.olr_paths.specs.Items.{made_of};
 
-    /// The same, which shares the path and what is published of it with this one.
+    /// A second value that shares the path and what is published of it.
     pub(crate) fn share(&self) -> Result<NamedPath, AllocError>
         ensures path { IfOk result (λ n. n.path.value ≡ self.now.path.value) }
         ensures made { IfOk result (λ n. option_map (λ p. made_of p.value) n.published
@@ -41,15 +41,15 @@ impl NamedPath {
     }
 }
 
-/// Paths by name, in the order in which they came.
+/// Paths by name, in the order of their registration.
 #[derive(Drop, Debug)]
 pub struct Listing {
     pub(crate) paths: IndexMap<String, NamedPath>,
-    /// The marks of the paths, rising. A path keeps its mark when others are dropped.
+    /// The ids of the paths, in ascending order. A path keeps its id when others are dropped.
     pub(crate) marks: Vec<u64>,
-    /// Finds the marks of the paths that were encoded.
+    /// Finds the ids of the paths that were encoded.
     pub(crate) finder: Finder,
-    /// Whether a path may be there that was not encoded yet.
+    /// Whether there may be a path that is not encoded yet.
     pub(crate) held: bool,
     ghost long: { length marks.items ≡ length paths.entries },
     ghost rise: { IsStrictlyIncreasing marks.items },
@@ -64,7 +64,7 @@ impl Listing {
     ghost use Rattle.olr_paths.specs.Items.{items, made_of, all_named, made_in};
     ghost use Rattle.olr_paths.specs.Changes.{set_item};
 
-    /// The list of no paths. Takes no memory.
+    /// The list without paths. Takes no memory.
     pub fn new(alloc: Global) -> Listing
         ensures { items result ≡ [] }
     {
@@ -76,7 +76,7 @@ impl Listing {
         }
     }
 
-    /// How many paths there are. No name stands twice.
+    /// The number of paths. No name occurs twice.
     pub fn len(&self) -> usize
         ensures len { result ≡ length (items self.now) }
         ensures names { NamesDiffer (all_named (items self.now)) }
@@ -84,7 +84,7 @@ impl Listing {
         self.paths.len()
     }
 
-    /// The name of path k, from 0. None past the last.
+    /// The name of path k, counted from 0. None past the last.
     pub fn name_at(&self, k: usize) -> Option<&str>
         ensures { option_map (λ n. n.now) result ≡ slice_get (map (λ i. i.name) (items self.now)) k }
     {
@@ -92,14 +92,14 @@ impl Listing {
         Some(name.as_str())
     }
 
-    /// Whether some path has the name.
+    /// Whether a path has the name.
     pub fn has(&self, name: &str) -> bool
         ensures { result ≡ is_some (path_named (all_named (items self.now)) name.now) }
     {
         self.paths.contains_key(name)
     }
 
-    /// What is published of the path of that name. None where there is none, or it was not encoded.
+    /// What is published of the path of that name. None if there is none, or if it is not encoded yet.
     pub fn published_of(&self, name: &str) -> Option<&Published>
         ensures { option_map (λ p. made_of p.now) result ≡ made_in (items self.now) name.now }
     {
@@ -109,7 +109,7 @@ impl Listing {
         }
     }
 
-    /// The path of that name. None where there is none.
+    /// The path of that name. None if there is none.
     pub fn path(&self, name: &str) -> Option<&Path>
         ensures { option_map (λ p. p.now) result ≡ path_named (all_named (items self.now)) name.now }
     {
@@ -117,7 +117,7 @@ impl Listing {
         Some(&*named.path)
     }
 
-    /// Puts a path last, not encoded yet. After want of memory the list is as before.
+    /// Appends a path, not encoded yet. If an allocation fails, the list is unchanged.
     pub fn hold(&mut self, alloc: Global, name: String, path: Path) -> Result<(), AllocError>
         requires { is_some (path_named (all_named (items self.old)) (string_bytes name)) ≡ false }
         ensures ok { OnOk result (items self.new ≡ items self.old
@@ -131,8 +131,8 @@ impl Listing {
         self.put_last(name, named)
     }
 
-    /// Puts another path, not encoded yet, under a name. It keeps its place. After want of memory the list is as
-    /// before.
+    /// Replaces the path of a name by one that is not encoded yet. It keeps its position. If an allocation fails, the list is
+    /// unchanged.
     pub fn hold_other(&mut self, alloc: Global, name: &str, path: Path) -> Result<(), AllocError>
         requires { is_some (path_named (all_named (items self.old)) name.now) ≡ true }
         ensures ok { OnOk result (items self.new ≡ map (set_item name.now path None) (items self.old)) }
@@ -145,11 +145,11 @@ impl Listing {
         self.put_other(name, named)
     }
 
-    /// Takes the path of that name away; those after it close up. Takes no memory.
+    /// Removes the path of that name; the paths after it move up. Takes no memory.
     pub fn drop_path(&mut self, name: &str)
         ensures { items self.new ≡ filter (λ i. not (same_name i.name name.now)) (items self.old) }
     {
-        // For the proof alone: no name stands twice.
+        // For the proof alone: no name occurs twice.
         let _names = self.len();
         let Some(position) = self.paths.get_index_of(name) else {
             return;
@@ -163,7 +163,7 @@ impl Listing {
         }
     }
 
-    /// Puts a path last. After want of memory the list is as before.
+    /// Appends a path. If an allocation fails, the list is unchanged.
     pub(crate) fn put_last(&mut self, name: String, named: NamedPath) -> Result<(), AllocError>
         requires { is_some (path_named (all_named (items self.old)) (string_bytes name)) ≡ false }
         ensures ok { OnOk result (items self.new ≡ items self.old
@@ -188,7 +188,7 @@ impl Listing {
         Ok(())
     }
 
-    /// Takes the paths from a position on away, none of which was encoded. Takes no memory.
+    /// Removes the paths from a position on, none of which was encoded. Takes no memory.
     pub(crate) fn cut(&mut self, count: usize)
         ensures { items self.new ≡ take count (items self.old) }
     {
@@ -196,14 +196,14 @@ impl Listing {
         self.marks.truncate(count);
     }
 
-    /// Puts another path under a name, in its place. After want of memory the list is as before.
+    /// Replaces the path of a name. It keeps its position. If an allocation fails, the list is unchanged.
     pub(crate) fn put_other(&mut self, name: &str, named: NamedPath) -> Result<(), AllocError>
         ensures ok { OnOk result (items self.new
             ≡ map (set_item name.now named.path.value (option_map (λ p. made_of p.value) named.published))
             (items self.old)) }
         ensures err { OnErr result (items self.new ≡ items self.old) }
     {
-        // For the proof alone: no name stands twice.
+        // For the proof alone: no name occurs twice.
         let _names = self.len();
         let Some(position) = self.paths.get_index_of(name) else {
             return Ok(());
@@ -221,14 +221,14 @@ impl Listing {
     }
 }
 
-/// Whether a path may be there that was not encoded yet, where there is one more.
+/// Whether there may be a path that is not encoded yet, when this one is added.
 fn is_held(held: bool, named: &NamedPath) -> bool
     ensures { IsFalse result → IsFalse held × (named.now.published ≢ None) }
 {
     held || named.published.is_none()
 }
 
-/// The mark of one more path, which is more than those of the others.
+/// The id for one more path, greater than all others.
 fn next_mark(marks: &[u64]) -> Result<u64, AllocError>
     requires { IsStrictlyIncreasing marks.now }
     ensures { IfOk result (λ mark. (k : ℕ) → k < length marks.now → get_or marks.now k 0 < mark) }
@@ -242,8 +242,8 @@ fn next_mark(marks: &[u64]) -> Result<u64, AllocError>
     }
 }
 
-/// Gives what a path has its mark, if it was encoded. After want of memory it is taken again, but from what the path
-/// that is kept has.
+/// Adds the index entries of a path, if it was encoded. If an allocation fails, they are removed again, except for those of
+/// the retained path.
 fn note_named(
     finder: &mut Finder,
     mark: u64,
@@ -265,8 +265,8 @@ fn note_named(
     noted
 }
 
-/// Gives what a path has the mark of the one in whose place it comes, and takes it from what that one had. After want
-/// of memory that one has it still.
+/// Adds the index entries of a path that replaces another and has its id, and removes those of the replaced path. If an
+/// allocation fails, the entries of the replaced path remain.
 fn renote(
     finder: &mut Finder,
     mark: u64,
@@ -284,7 +284,7 @@ fn renote(
     Ok(())
 }
 
-/// Takes the mark from what a path had, but for what the path that is kept has, if it was encoded. Takes no memory.
+/// Removes the index entries of a path, except for those of the retained path, if it was encoded. Takes no memory.
 pub(crate) fn forget_named(
     finder: &mut Finder,
     mark: u64,

@@ -1,4 +1,4 @@
-//! Changes of a list of named paths that are held until they are taken up all at once.
+//! Changes of a list of named paths, held until all of them are made at once.
 ghost use Rattle.std.specs.Prelude.{◌≡◌, List, [], ◌∷◌, ◌++◌, map, take, length, false, is_some, IsFalse, IfOk, OnOk};
 ghost use Rattle.std.specs.Prelude.{OnErr};
 ghost use Rattle.std.specs.Option.{option_to_list};
@@ -14,17 +14,17 @@ use olr_refs::Path;
 use std::alloc::{AllocError, Global};
 use std::rc::Rc;
 
-/// Changes that lie over a list of named paths: another path in the place of one, one taken away, new ones behind all
-/// others. A name that is taken away and comes anew is among both.
+/// Changes over a list of named paths: replaced paths, removed paths, and new paths at the end. A name that is removed and
+/// added again is both in `changes` and in `added`.
 #[derive(Drop, Debug)]
 pub struct Overlay {
-    /// What becomes of paths of the list. None where the path is taken away.
+    /// The changes of the list's paths: a replacement, or None if the path is removed.
     pub(crate) changes: IndexMap<String, Option<Rc<Path>>>,
-    /// New ones, not encoded yet.
+    /// New paths, not encoded yet.
     pub(crate) added: Listing,
 }
 
-/// What becomes of a path of a list under changes, by its name. None where it is taken away.
+/// A path of a list under changes, by its name. None if it is removed.
 fn becomes(
     changes: &IndexMap<String, Option<Rc<Path>>>,
     name: &str,
@@ -45,7 +45,7 @@ fn becomes(
     }
 }
 
-/// Puts what becomes of a path last in a list. After want of memory that list is as before.
+/// Appends a path of a list, under the changes, to another list. If an allocation fails, that list is unchanged.
 fn put_one(
     alloc: Global,
     changes: &IndexMap<String, Option<Rc<Path>>>,
@@ -67,8 +67,8 @@ fn put_one(
     Ok(())
 }
 
-/// Puts a list under changes behind another. It shares paths and answers with it. After want of memory only some are
-/// put.
+/// Appends a list, under changes, to another. The lists share paths and answers. If an allocation fails, only some paths
+/// are appended.
 pub(crate) fn put_behind(
     alloc: Global,
     changes: &IndexMap<String, Option<Rc<Path>>>,
@@ -107,7 +107,7 @@ impl Overlay {
         }
     }
 
-    /// Whether some path is taken away.
+    /// Whether a path is removed.
     pub(crate) fn takes_some(&self) -> bool
         ensures { IsFalse result → TakesNone (overlay_changes self.now) }
     {
@@ -122,7 +122,7 @@ impl Overlay {
         false
     }
 
-    /// Whether the path of that name is taken away.
+    /// Whether the path of that name is removed.
     fn takes_away(&self, name: &str) -> bool
         ensures { result ≡ drops (change_at (overlay_changes self.now) name.now) }
     {
@@ -132,7 +132,7 @@ impl Overlay {
         }
     }
 
-    /// Whether some path has the name, of the list with these changes.
+    /// Whether a path of the list under these changes has the name.
     pub fn has(&self, list: &Listing, name: &str) -> bool
         ensures { result ≡ is_some (path_named (all_named (under_overlay (items list.now) self.now)) name.now) }
     {
@@ -145,7 +145,7 @@ impl Overlay {
         list.has(name)
     }
 
-    /// Puts a new path last. After want of memory all is as before.
+    /// Appends a new path. If an allocation fails, nothing changes.
     pub fn hold(&mut self, alloc: Global, name: String, path: Path) -> Result<(), AllocError>
         requires { (is : List Item)
             × (is_some (path_named (all_named (under_overlay is self.old)) (string_bytes name)) ≡ false) }
@@ -156,7 +156,7 @@ impl Overlay {
         self.added.hold(alloc, name, path)
     }
 
-    /// Puts another path under the name of one, in its place. After want of memory all is as before.
+    /// Replaces the path of a name. It keeps its position. If an allocation fails, nothing changes.
     pub fn hold_other(&mut self, alloc: Global, name: &str, path: Path) -> Result<(), AllocError>
         ensures ok { OnOk result ((is : List Item) → NamesDiffer (all_named (under_overlay is self.old))
             → is_some (path_named (all_named (under_overlay is self.old)) name.now) ≡ true
@@ -172,7 +172,7 @@ impl Overlay {
         Ok(())
     }
 
-    /// Takes the path of that name away; those after it close up. After want of memory all is as before.
+    /// Removes the path of that name; the paths after it move up. If an allocation fails, nothing changes.
     pub fn drop_path(&mut self, alloc: Global, name: &str) -> Result<(), AllocError>
         ensures ok { OnOk result ((is : List Item) → NamesDiffer (all_named (under_overlay is self.old))
             → under_overlay is self.new ≡ filter (λ i. not (same_name i.name name.now)) (under_overlay is self.old)) }
@@ -186,7 +186,7 @@ impl Overlay {
         Ok(())
     }
 
-    /// The list with these changes. It shares paths and answers with the list.
+    /// The list under these changes. It shares paths and answers with the list.
     pub fn laid_over(&self, alloc: Global, list: &Listing) -> Result<Listing, AllocError>
         requires { NamesDiffer (all_named (under_overlay (items list.now) self.now)) }
         ensures { IfOk result (λ l. items l ≡ under_overlay (items list.now) self.now) }

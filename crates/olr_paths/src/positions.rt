@@ -1,4 +1,4 @@
-//! What was made of paths is put at their positions.
+//! Storing results at the positions of their paths.
 ghost use Rattle.std.specs.Prelude.{◌≡◌, ◌+◌, ◌≤◌, ◌++◌, OnOk, OnErr, take, length, vec_len, vec_capacity};
 ghost use Rattle.olr_commands.specs.State.{NamesDiffer};
 ghost use Rattle.olr_paths.specs.Items.{items, all_named};
@@ -14,7 +14,7 @@ use std::alloc::{AllocError, Global};
 use std::mem;
 use std::rc::Rc;
 
-/// Puts each at its position, and what was there behind others, for which there is room. Takes no memory.
+/// Stores each result at its position, and appends the replaced ones to `before`, which has the capacity. Takes no memory.
 fn place(
     list: &mut Listing,
     mut fresh: Vec<(usize, NamedPath)>,
@@ -33,7 +33,7 @@ fn place(
     }
 }
 
-/// The lines of a path in whose place another comes: none, where they are those of the same path, which was encoded.
+/// The lines of a replaced path; none if it is the same path as the new one, and that was encoded.
 fn lines_gone<'a>(gone: &'a NamedPath, kept: &NamedPath) -> &'a [LineId] {
     if kept.published.is_some() && Rc::ptr_eq(&gone.path, &kept.path) {
         return &[];
@@ -41,8 +41,8 @@ fn lines_gone<'a>(gone: &'a NamedPath, kept: &NamedPath) -> &'a [LineId] {
     gone.path.lines()
 }
 
-/// Takes the marks of the positions from what was there, or was to come there, but for what is there now. Takes no
-/// memory.
+/// Removes the index entries of replaced or abandoned paths at these positions, except for those of the paths that are there
+/// now. Takes no memory.
 fn tidy(list: &mut Listing, gone: &[(usize, NamedPath)])
     ensures { items list.new ≡ items list.old }
 {
@@ -59,7 +59,7 @@ fn tidy(list: &mut Listing, gone: &[(usize, NamedPath)])
     }
 }
 
-/// Gives what was made of a path a mark. After want of memory some has it.
+/// Adds the index entries of a result under a path id. If an allocation fails, some are added.
 fn note_one(finder: &mut Finder, mark: u64, named: &NamedPath) -> Result<(), AllocError>
     ensures noted { OnOk result (NamedNoted finder.new mark named.now) }
     ensures grows { Grows finder.old finder.new }
@@ -70,7 +70,7 @@ fn note_one(finder: &mut Finder, mark: u64, named: &NamedPath) -> Result<(), All
     finder.note(mark, named.path.lines(), published)
 }
 
-/// Gives what was made the marks of the positions to which it goes. After want of memory some has them.
+/// Adds the index entries of results, under the ids of their positions. If an allocation fails, some are added.
 fn note_all(list: &mut Listing, fresh: &[(usize, NamedPath)]) -> Result<(), AllocError>
     ensures noted { OnOk result (AreNotedAt list.new.marks.items list.new.finder fresh.now) }
     ensures same { items list.new ≡ items list.old }
@@ -85,8 +85,8 @@ fn note_all(list: &mut Listing, fresh: &[(usize, NamedPath)]) -> Result<(), Allo
     Ok(())
 }
 
-/// Puts the new paths of changes last, not encoded yet, and gives what was made the marks of the positions to which it
-/// goes. After want of memory only some paths are put.
+/// Appends the new paths of changes, not encoded yet, and adds the index entries of results under the ids of their
+/// positions. If an allocation fails, only some paths are appended.
 fn make_room(
     alloc: Global,
     list: &mut Listing,
@@ -107,8 +107,8 @@ fn make_room(
     Ok(())
 }
 
-/// Puts the new paths of changes last, and each that was made at its position. After want of memory the list is as
-/// before.
+/// Appends the new paths of changes, and stores each result at its position. If an allocation fails, the list is
+/// unchanged.
 pub(crate) fn put_in(
     alloc: Global,
     list: &mut Listing,

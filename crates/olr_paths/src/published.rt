@@ -9,7 +9,7 @@ use olr_map::Footprint;
 use olr_refs::{Answer, Look};
 use std::alloc::{AllocError, Global};
 
-/// A path's answer, its text, its own nodes, and its looks.
+/// A path's answer, its text, its traversed nodes and its coverage queries.
 #[derive(Drop, Debug)]
 pub struct Published {
     pub(crate) answer: Answer,
@@ -32,7 +32,7 @@ impl Published {
         &self.answer
     }
 
-    /// The text of the reference. None where the path has none.
+    /// The text of the reference. None if the path is not encodable.
     pub fn text(&self) -> Option<&str>
         ensures { option_map (λ t. t.now) result ≡ result_ok (published_text (made_of self.now).answer) }
     {
@@ -42,21 +42,22 @@ impl Published {
         }
     }
 
-    /// The path's own nodes, rising: those of its extended path and of the tried chains.
+    /// The path's traversed nodes, in ascending order: those of its extended path and of the runs of degree-two nodes that were
+    /// tried.
     pub fn own(&self) -> &Footprint
         ensures { result.now ≡ (made_of self.now).own }
     {
         &self.own
     }
 
-    /// What the encoding looked at, in the order of the points that its looks begin at.
+    /// The coverage queries of the encoding, in the order of the LRPs at which they begin.
     pub fn looks(&self) -> &[Look]
         ensures { result.now ≡ (made_of self.now).looks }
     {
         self.looks.as_slice()
     }
 
-    /// Whether the other has the same answer, by their texts or their refusals.
+    /// Whether the other has the same answer, by their texts or their reasons.
     pub fn has_answer_of(&self, other: &Published) -> bool
         ensures { IsTrue result ↔ ((made_of self.now).answer ≡ (made_of other.now).answer) }
     {
@@ -71,7 +72,7 @@ impl Published {
         }
     }
 
-    /// What a reply says of it under a name: the text, or the refusal.
+    /// The entry of a reply under this name: the text, or the reason why there is none.
     pub fn entry(&self, alloc: Global, name: &str) -> Result<Entry, AllocError>
         ensures { IfOk result (λ e. entry_of e ≡ entry name.now (made_of self.now).answer) }
     {

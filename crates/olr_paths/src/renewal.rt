@@ -1,4 +1,4 @@
-//! Encoding anew what a change of the map can have changed.
+//! Encoding again the paths whose answer a change of the map may have changed.
 ghost use Rattle.std.specs.Prelude.{◌≡◌, ◌+◌, ◌<◌, ◌≤◌, ◌^◌, ◌↔◌, ℕ, Contains, Some, map as list_map, IsTrue, IfOk};
 ghost use Rattle.std.specs.Prelude.{IfSome, OnOk, OnErr};
 ghost use Rattle.olr_spec.specs.Map.{Map};
@@ -35,7 +35,7 @@ use std::alloc::{AllocError, Global};
 use std::mem;
 use std::rc::Rc;
 
-/// How much was encoded, and how many of the counted encodings kept an answer.
+/// The work of encodings, and how many of the counted encodings retained an answer.
 #[derive(Clone, Copy)]
 pub(crate) struct Counted {
     work: Work,
@@ -43,7 +43,7 @@ pub(crate) struct Counted {
 }
 
 impl Counted {
-    /// Counts an encoding whose answer is kept.
+    /// Counts an encoding whose answer is retained.
     fn keep(&mut self)
         ensures { OneMore self.old self.new }
     {
@@ -62,7 +62,7 @@ fn is_same_as_before(before: &Listing, name: &str, published: &Published) -> boo
     }
 }
 
-/// Puts the entry of a path behind others, if its answer is not the one that its name had in an earlier list.
+/// Appends the entry of a path, if its answer is not that of its name in an earlier list.
 pub(crate) fn tell(
     alloc: Global,
     before: &Listing,
@@ -80,8 +80,8 @@ pub(crate) fn tell(
     Ok(())
 }
 
-/// The paths that were encoded anew, each with its position in the list, and the entries of those whose answer is
-/// another than before.
+/// The paths that were encoded again, each with its position in the list, and the entries of those with another answer than
+/// before.
 #[derive(Drop)]
 pub(crate) struct Renewal {
     pub(crate) fresh: Vec<(usize, NamedPath)>,
@@ -89,8 +89,8 @@ pub(crate) struct Renewal {
 }
 
 impl Renewal {
-    /// Does what is to be done with the path at that position: it stays, it is counted, or it is encoded anew and told
-    /// if its answer is not the one that the name had before.
+    /// Takes the action for the path at that position: it is left as it is; or it is counted; or it is encoded again, and
+    /// reported if its answer is not the earlier one of its name.
     fn go_on<M: MapRead>(
         &mut self,
         alloc: Global,
@@ -124,7 +124,7 @@ impl Renewal {
     }
 }
 
-/// What renewing a list under changes on a map comes to, after the searches from what edits touched and changed.
+/// The renewal of a list under changes on a map, after the searches from what edits touched and changed.
 fn renewal_by<M: MapRead>(
     alloc: Global,
     map: &M,
@@ -182,7 +182,7 @@ fn renewal_by<M: MapRead>(
     Ok(renewal)
 }
 
-/// What renewing a list under changes on a map comes to, counted. After want of memory the counts are as before.
+/// The renewal of a list under changes on a map, with its work counted. If an allocation fails, the counts are unchanged.
 pub(crate) fn renewal_of<M: MapRead>(
     alloc: Global,
     map: &M,

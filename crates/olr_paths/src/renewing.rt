@@ -1,4 +1,4 @@
-//! Encoding anew what a change of the map can have changed, in place or over a list under changes.
+//! Encoding again the paths whose answer a change of the map may have changed, in place or in a list under changes.
 ghost use Rattle.std.specs.Prelude.{◌≡◌, ◌+◌, ◌<◌, ◌≤◌, ◌^◌, ◌⊎◌, ℕ, Contains, map as list_map, IsTrue, IfOk, OnOk};
 ghost use Rattle.std.specs.Prelude.{OnErr};
 ghost use Rattle.olr_spec.specs.Map.{Map};
@@ -64,7 +64,7 @@ impl Listing {
         ensures err_work { OnErr result (work.new ≡ work.old) }
         ensures err_kept { OnErr result (kept.new ≡ kept.old) }
     {
-        // For the proof alone: no name stands twice.
+        // For the proof alone: no name occurs twice.
         let _names = self.len();
         let none = Overlay::new(alloc);
         self.renew_laid(
@@ -72,9 +72,9 @@ impl Listing {
         )
     }
 
-    /// The same for the list under changes that take no path away: what they give is put in place, so that it costs
-    /// what they hold. Told are those whose answer is another than the one that their name had, in an earlier list if
-    /// one is given.
+    /// The same for the list under changes that remove no path. The replaced and new paths are stored in place, at a cost that
+    /// depends only on the changes. The reported paths are those whose answer is not the earlier one of their name, in
+    /// `before` if it is given.
     fn renew_laid<M: MapRead>(
         &mut self,
         alloc: Global,
@@ -139,10 +139,10 @@ impl Listing {
         Ok(entries)
     }
 
-    /// The same for the list under changes. Where they take no path away they are put in place, at the cost of what
-    /// they hold and of what is concerned; otherwise the list under them takes the list's place, at the cost of all
-    /// paths. Told are those whose answer is another than the one that their name had. After want of memory list and
-    /// counts are as before.
+    /// The same for the list under changes. If they remove no path, they are made in place, at the cost of the changes and of
+    /// the affected paths; otherwise the list is replaced by the list under changes, at the cost of all paths. The
+    /// reported paths are those whose answer is not the earlier one of their name. If an allocation fails, list and counts
+    /// are unchanged.
     pub fn renew_over<M: MapRead>(
         &mut self,
         alloc: Global,

@@ -1,4 +1,4 @@
-//! The searches that renewals of a list make.
+//! The searches of a list's renewals.
 ghost use Rattle.std.specs.Prelude.{◌≡◌};
 ghost use Rattle.olr_paths.specs.Beginning.{begun_in};
 
@@ -6,18 +6,18 @@ use olr_refs::Look;
 use olr_route::Search;
 use std::alloc::Global;
 
-/// Searches that are begun over and over, so that what they keep their labels in is made once.
+/// Searches that are restarted for each renewal, so that their tables are allocated once.
 #[derive(Drop)]
 pub struct Searches {
-    /// Against the lines from all touched nodes.
+    /// The reverse search from all touched nodes.
     pub(crate) near: Search,
-    /// Whether it was known without that search that no look is touched.
+    /// Whether it was known without that search that no coverage query is affected.
     pub(crate) far: bool,
-    /// Against the lines from where changed lines begin.
+    /// The reverse search from the starts of changed lines.
     pub(crate) before: Search,
-    /// Along the lines from where changed lines end.
+    /// The forward search from the ends of changed lines.
     pub(crate) after: Search,
-    /// For the looks of encodings.
+    /// The search of the encoder.
     pub(crate) look: Search,
     /// The coverage queries that the last renewal made.
     pub(crate) begun: Vec<Look>,
@@ -26,7 +26,7 @@ pub struct Searches {
 }
 
 impl Searches {
-    /// None begun. Takes no memory.
+    /// Searches that have not begun. Takes no memory.
     pub fn new(alloc: Global) -> Searches {
         Searches {
             near: Search::new(alloc),
@@ -46,17 +46,17 @@ impl Searches {
         self.begun.as_slice()
     }
 
-    /// How many nodes searches from touched nodes labelled that found no path, since this was last set back.
+    /// The number of nodes that searches from touched nodes labelled without finding a path, since the last reset.
     pub fn vain(&self) -> usize {
         self.vain
     }
 
-    /// Sets that back to 0.
+    /// Resets this number to 0.
     pub fn set_back(&mut self) {
         self.vain = 0;
     }
 
-    /// Counts what a renewal searched from touched nodes, if it found no path.
+    /// Counts the labels of a renewal's search from touched nodes, if it found no path.
     pub(crate) fn count(&mut self, found: bool) {
         if !found && !self.far {
             let labelled = self.near.reached_nodes().len();

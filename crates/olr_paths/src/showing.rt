@@ -1,4 +1,4 @@
-//! What is shown of a path of a list under changes.
+//! A path of a list under changes.
 ghost use Rattle.std.specs.Prelude.{◌≡◌, ◌∷◌, [], false};
 ghost use Rattle.olr_paths.specs.Renewing.{item_of};
 ghost use Rattle.olr_paths.specs.Laying.{changes_in, change_at, drops, under_change};
@@ -10,7 +10,7 @@ use indexmap::IndexMap;
 use olr_refs::Path;
 use std::rc::Rc;
 
-/// A path of a list under changes, and what is published of it, where it was encoded and is not another one.
+/// A path of a list under changes, and what is published of it, if it was encoded and is not replaced.
 #[derive(Clone, Copy)]
 pub(crate) struct Shown<'a> {
     pub(crate) name: &'a str,
@@ -18,7 +18,7 @@ pub(crate) struct Shown<'a> {
     pub(crate) published: Option<&'a Published>,
 }
 
-/// A path as the list has it.
+/// A path of the list itself.
 pub(crate) fn show<'a>(name: &'a str, named: &'a NamedPath) -> Shown<'a>
     ensures { shown_item result ≡ item_of name.now named.now }
 {
@@ -33,7 +33,7 @@ pub(crate) fn show<'a>(name: &'a str, named: &'a NamedPath) -> Shown<'a>
     }
 }
 
-/// A path of a list under changes that don't take it away.
+/// A path of a list under changes that don't remove it.
 pub(crate) fn show_under<'a>(
     changes: &'a IndexMap<String, Option<Rc<Path>>>,
     name: &'a str,

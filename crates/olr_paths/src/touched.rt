@@ -6,8 +6,8 @@ ghost use Rattle.olr_spec.specs.Map.{has};
 use olr_map::{LineId, NodeId};
 use std::alloc::{AllocError, Global};
 
-/// Where a changed line begins and ends, and the lesser of its lengths before and after, in decimetres: its length,
-/// where it was added or dropped.
+/// Where a changed line begins and ends, and its length in decimetres: the lesser of the lengths before and after, or the
+/// only one if the line was added or dropped.
 #[derive(Clone, Copy, Debug)]
 pub struct ChangedLine {
     /// Where it begins.
@@ -18,7 +18,7 @@ pub struct ChangedLine {
     pub len: u32,
 }
 
-/// The nodes and the lines that edits touched, each once, rising, and the lines that they changed.
+/// The nodes and the lines that edits touched, each once and in ascending order, and the lines that they changed.
 #[derive(Drop, Debug)]
 pub struct Touched {
     pub(crate) nodes: Vec<NodeId>,
@@ -47,7 +47,7 @@ impl Touched {
         }
     }
 
-    /// Nothing touched any more; the room is kept.
+    /// Clears all three lists, which keep their capacity.
     pub fn clear(&mut self)
         ensures nodes { nodes_of self.new ≡ [] }
         ensures lines { lines_of self.new ≡ [] }
@@ -58,7 +58,7 @@ impl Touched {
         self.changed.clear();
     }
 
-    /// Makes room for what one more edit touches.
+    /// Reserves capacity for what one more edit touches.
     pub fn reserve(&mut self) -> Result<(), AllocError>
         ensures nodes { nodes_of self.new ≡ nodes_of self.old }
         ensures lines { lines_of self.new ≡ lines_of self.old }
@@ -70,7 +70,7 @@ impl Touched {
         self.changed.reserve(1)
     }
 
-    /// Notes two nodes, which may be the same, a line, and how a line was changed. Takes no memory.
+    /// Adds two nodes, which may be the same, a line, and how a line was changed. Takes no memory.
     pub fn note(
         &mut self,
         nodes: (NodeId, NodeId),
@@ -94,7 +94,7 @@ impl Touched {
         }
     }
 
-    /// The touched nodes, each once, rising.
+    /// The touched nodes, each once, in ascending order.
     pub fn nodes(&self) -> &[NodeId]
         ensures { result.now ≡ nodes_of self.now }
     {
@@ -116,7 +116,7 @@ impl Touched {
     }
 }
 
-/// Puts a node among rising ones, unless it is there. Takes no memory.
+/// Inserts a node in ascending order, unless it is there. Takes no memory.
 fn put_node(nodes: &mut Vec<NodeId>, node: NodeId)
     requires rise { IsStrictlyIncreasing nodes.old.items }
     requires room { vec_len nodes.old + 1 ≤ vec_capacity nodes.old }
@@ -133,7 +133,7 @@ fn put_node(nodes: &mut Vec<NodeId>, node: NodeId)
     }
 }
 
-/// Puts a line among rising ones, unless it is there. Takes no memory.
+/// Inserts a line in ascending order, unless it is there. Takes no memory.
 fn put_line(lines: &mut Vec<LineId>, line: LineId)
     requires rise { IsStrictlyIncreasing lines.old.items }
     requires room { vec_len lines.old + 1 ≤ vec_capacity lines.old }

@@ -1,4 +1,4 @@
--- Fields: the bytes of one at its place, and as text.
+-- Fields: the bytes of a field by its position, and as text.
 use Rattle.std.proofs.Common.{◌≡◌, ℕ, zero, suc, ◌<◌, Bool, true, ◌&&◌, List, [], ◌∷◌, length, None, nat_le, refl}
 use Rattle.std.proofs.Common.{arith, rules}
 use Rattle.std.specs.Prelude.{IsAscii, IsUtf8, slice_index_or}

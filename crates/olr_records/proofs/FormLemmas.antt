@@ -1,4 +1,4 @@
--- Rows by the places of their fields.
+-- Records by the positions of their fields.
 use Rattle.std.proofs.Common.{◌≡◌, ◌≤◌, List, [], ◌∷◌, length, drop, Ok, refl, arith}
 use Rattle.olr_spec.specs.Map.{Add_line, Set_line}
 use Rattle.olr_records.specs.Records.{Field, ◌⊛◌, number, numbers, amount, name, place, node_fields, course, whole_line}

@@ -1,5 +1,5 @@
 -- Items of a record, read one after another.
---     onto x y      those of x, and then those of y
+--     onto x y      the items of x, followed by those of y
 use Rattle.std.proofs.Common.{◌≡◌, ℕ, suc, ◌+◌, ◌<◌, ◌≤◌, List, [], ◌∷◌, ◌++◌, length, drop, Ok, Err, refl, sym, ap}
 use Rattle.std.proofs.Common.{◌∙◌, append_assoc, drop-cons, arith}
 use Rattle.std.specs.Prelude.{Result, IfOk, IsOkAnd, slice_index_or}
@@ -26,7 +26,7 @@ onto-bad (Ok xs) = refl
 onto-bad (Err Bad_form) = refl
 onto-bad (Err Out_of_range) = refl
 
--- an item more
+-- with one item more
 onto_more : {A : Type 0} (x : Read (List A)) (p : Read A) (y : Read (List A))
     → onto (Ok (λ ts t. ts ++ t ∷ []) ⊛ x ⊛ p) y ≡ onto x (Ok (λ t ts. t ∷ ts) ⊛ p ⊛ y)
 onto_more (Ok xs) (Ok a) (Ok ys) = ap (λ zs. Ok zs) (append_assoc xs (a ∷ []) ys)
@@ -39,11 +39,11 @@ onto_more (Err f) (Err g) (Ok ys) = refl
 onto_more (Err Bad_form) (Err g) (Err h) = refl
 onto_more (Err Out_of_range) (Err g) (Err h) = refl
 
--- what has been read, and one item more
+-- the items read so far, and one more
 abbrev pub with : {A : Type 0} → Read (List A) → Read A → Read (List A)
 with x p = Ok (λ ts t. ts ++ t ∷ []) ⊛ x ⊛ p
 
--- the field at a place
+-- the field at a position
 abbrev pub at : List Field → ℕ → Field
 at fs k = slice_index_or fs k []
 
@@ -98,18 +98,18 @@ module _ (fs : List Field) (k : ℕ) where
   pub shape-end : (x w : Read (List ShapePoint)) → length fs ≤ k → onto x (shape (drop k fs)) ≡ w → x ≡ w
   shape-end x w past e = sym (onto-nothing x) ∙ ap (λ y. onto x (shape y)) (sym (drop_all k fs past)) ∙ e
 
-  -- one or two fields over
+  -- one or two fields are left over
   pub shape-over : (x w : Read (List ShapePoint)) → k < length fs → length fs < k + 3 → onto x (shape (drop k fs)) ≡ w →
       w ≡ Err Bad_form
   shape-over x w some few e = sym e ∙ ap (λ y. onto x y) (over some few) ∙ onto-bad x
 
--- ---- want of memory
+-- ---- out of memory
 
 okay : {B : Type 0} (P Q : B → Type 0) (x : Read B) → IfOk x Q → IsOkAnd x P → IsOkAnd x Q
 okay P Q (Ok b) h m = h
 okay P Q (Err f) h m = absurd m
 
--- it is told only of what takes memory
+-- it is returned only by what takes memory
 pub gathers-only : {A B : Type 0} (P Q : B → Type 0) (view : A → B) (x : Read B) (r : Result A ReadFault) → IfOk x Q →
     Gathers P view x r → Gathers Q view x r
 gathers-only P Q view x (Ok a) h g = g
@@ -123,7 +123,7 @@ one_more (Ok a) (Err f) = tt
 one_more (Err f) (Ok bs) = tt
 one_more (Err f) (Err g) = tt
 
--- fields in threes are some points
+-- fields in threes are at least one shape point
 pub some-points : (fs : List Field) → 0 < length fs → IfOk (shape fs) (λ ps. 0 < length ps)
 some-points [] some = absurd (omega arith)
 some-points (at ∷ []) some = tt

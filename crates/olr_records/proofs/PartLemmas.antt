@@ -1,4 +1,4 @@
--- Two parts of one record, where reading one of them or both may want memory.
+-- Two parts of one record, where reading one of them or both may take memory.
 use Rattle.std.proofs.Common.{◌≡◌, Ok, Err, Result, sym, ap, subst}
 use Rattle.std.specs.Prelude.{IsOkAnd}
 use Rattle.olr_records.specs.Records.{Read, ◌⊛◌}
@@ -22,7 +22,7 @@ first-part g v y (Err Syntax) h = ap (λ (q : Read _). Ok g ⊛ q) h
 first-part g v y (Err Range) h = ap (λ (q : Read _). Ok g ⊛ q) h
 first-part g v y (Err Memory) h = h
 
--- one part, made into something else
+-- one part, converted
 pub made-part : {A Y Z : Type 0} (P : Y → Type 0) (R : Z → Type 0) (g : Y → Z) (v : A → Y) (y : Read Y)
     (r : Result A ReadFault) → ((b : Y) → P b → R (g b))
     → Gathers P v y r → Gathers R (λ a. g (v a)) (Ok g ⊛ y) r
@@ -34,7 +34,7 @@ made-part P R g v (Err f) (Err Memory) makes h = h
 
 -- ---- two parts
 
--- neither of which takes memory
+-- neither takes memory
 pub parts : {A B Y Z : Type 0} (u : A → Y → Z) (v : B → Y) (x : Read (Y → Z)) (y : Read Y) (r : Result A ReadFault)
     (s : Result B ReadFault) (q : Result (A × B) ReadFault) → q ≡ both r s
     → Reads u x r → Reads v y s → Reads (λ p. u p.0 (v p.1)) (x ⊛ y) q
@@ -84,7 +84,7 @@ module _ {A B Y Z : Type 0} (P : (Y → Z) → Type 0) (Q : Y → Type 0) (R : Z
   told (Ok g) (Err f) (Err Memory) (Err Memory) first second h k = absurd k
   told (Err f) y (Err Memory) s first second h k = absurd h
 
-  -- what both tell
+  -- the results of both
   pub both-parts : (x : Read (Y → Z)) (y : Read Y) (r : Result A ReadFault) (s : Result B ReadFault)
       (q : Result (A × B) ReadFault) → q ≡ both r s
       → ((g : Y → Z) (b : Y) → P g → R (g b)) → ((a : A) (b : Y) → Q b → R (u a b))
@@ -93,7 +93,7 @@ module _ {A B Y Z : Type 0} (P : (Y → Z) → Type 0) (Q : Y → Type 0) (R : Z
       subst (λ (t : Result (A × B) ReadFault). Gathers R (λ p. u p.0 (v p.1)) (x ⊛ y) t) (sym is)
       (told x y r s first second h k)
 
--- and a fault that is handed on
+-- and a fault that is passed on
 handed : {A C B : Type 0} (P : B → Type 0) (view : A → B) (look : C → B) (x : Read B) (f : ReadFault) →
     Gathers P view x (Err f) → Gathers P look x (Err f)
 handed P view look x Syntax h = h

@@ -1,4 +1,4 @@
--- The places that are read are in range.
+-- The coordinates that are read are in range.
 use Rattle.std.proofs.Common.{◌≡◌, ℕ, ℤ, Bool, true, false, List, [], ◌∷◌, Option, Some, None, Ok, Err, IsTrue, refl}
 use Rattle.std.proofs.Common.{subst}
 use Rattle.std.specs.Prelude.{IfOk, if◌then◌else◌}
@@ -22,7 +22,7 @@ if_read : {A : Type 0} (P : A → Type 0) (b : Bool) (r q : Read A) → IfOk r P
 if_read P true r q h g = h
 if_read P false r q h g = g
 
--- of a function all of whose values pass
+-- a function all of whose values satisfy P
 given : {A B : Type 0} (P : B → Type 0) (g : Read (A → B)) (r : Read A) → IfOk g (λ f. (a : A) → P (f a)) →
     IfOk (g ⊛ r) P
 given P (Ok g) (Ok a) h = h a
@@ -30,7 +30,7 @@ given P (Ok g) (Err f) h = tt
 given P (Err f) (Ok a) h = tt
 given P (Err f) (Err k) h = tt
 
--- and of one whose values at what is read pass
+-- a function whose values satisfy P at what is read
 given_read : {A B : Type 0} (P : B → Type 0) (Q : A → Type 0) (g : Read (A → B)) (r : Read A) → IfOk r Q →
     IfOk g (λ f. (a : A) → Q a → P (f a)) → IfOk (g ⊛ r) P
 given_read P Q (Ok g) (Ok a) q h = h a q

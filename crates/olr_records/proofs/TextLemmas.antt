@@ -25,7 +25,7 @@ fields-line t w a b fs =
     ++ ((w ++ after_commas (a ∷ b ∷ fs)) ++ 10 ∷ []) = simp append_assoc refl in
     inside ∙ ap (λ (r : List ℕ). t ++ (r ++ 10 ∷ [])) (sym (joined w (a ∷ b ∷ fs)))
 
--- the lines of one item more
+-- the lines with those of one item more
 pub lines-more : {A : Type 0} (f : A → List ℕ) (t : List ℕ) (xs : List A) (k : ℕ) (d : A) → k < length xs
     → (t ++ concat (map f (take k xs))) ++ f (get_or xs k d) ≡ t ++ concat (map f (take (k + 1) xs))
 lines-more f t xs k d lt =

@@ -3,6 +3,6 @@ use Rattle.std.specs.Prelude.{◌≡◌, List, Ok}
 use Rattle.olr_commands.specs.State.{Command, HasPlaces}
 use Rattle.olr_records.specs.Records.{Field, read}
 
--- the places that are read are in range
+-- the coordinates that are read are in range
 abbrev pub PlacesRead : Type 0
 PlacesRead = (fields : List Field) (c : Command) → read fields ≡ Ok c → HasPlaces c

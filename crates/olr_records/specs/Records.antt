@@ -1,8 +1,8 @@
--- What command the fields of a record read as.
---     Read A      a value, or why there is none.
---     g ⊛ r      both read: where neither is, Syntax is told before Range
+-- Which command the fields of a record decode to.
+--     Read A      a value, or the fault.
+--     g ⊛ r      both values; if both fail, Syntax takes precedence over Range
 --     digits low high f, longitude f, latitude f, name f      a field as a number, a coordinate or a name
---     read fields      the command
+--     read fields      the command of the record
 --     HoldsList c, TakesMemory fields      the commands and the records whose reading takes memory
 use Rattle.std.specs.Prelude.{ℕ, ◌<◌, Bool, ◌&&◌, ◌||◌, List, [], ◌∷◌, length, nat_le, ◌==◌, ℤ, Option, Some, None}
 use Rattle.std.specs.Prelude.{Result, Ok, Err, IsOkAnd, codes, if◌then◌else◌, ⊤}
@@ -25,7 +25,7 @@ pub data ReadFault : Type 0 where
 abbrev pub Read : Type 0 → Type 0
 Read A = Result A ReadFault
 
--- of two faults the one that is told
+-- of two faults, the one that takes precedence
 abbrev pub worse : ReadFault → ReadFault → ReadFault
 worse Bad_form f = Bad_form
 worse Out_of_range f = f
@@ -42,7 +42,7 @@ value_or_fault b a = if b then Ok a else Err Out_of_range
 
 -- ---- fields
 
--- one or more digits, of a value from low to high
+-- one or more digits, with a value from low to high
 abbrev pub digits : ℕ → ℕ → Field → Read ℕ
 digits low high f =
     if are_digits f then value_or_fault (nat_le low (digits_value f) && nat_le (digits_value f) high) (digits_value f)
@@ -89,11 +89,11 @@ abbrev pub numbers : List Field → Read (List ℕ)
 numbers [] = Ok []
 numbers (f ∷ fs) = Ok (λ x xs. x ∷ xs) ⊛ number f ⊛ numbers fs
 
--- a distance and a place
+-- a shape point: a distance and a coordinate
 abbrev pub point : Field → Field → Field → Read ShapePoint
 point at lon lat = Ok (λ x p. record { at = x; place = p }) ⊛ digits 1 999999 at ⊛ place lon lat
 
--- fields in threes
+-- shape points, three fields each
 abbrev pub shape : List Field → Read (List ShapePoint)
 shape [] = Ok []
 shape (at ∷ []) = Err Bad_form
@@ -105,7 +105,7 @@ shape (at ∷ lon ∷ lat ∷ fs) = Ok (λ p ps. p ∷ ps) ⊛ point at lon lat 
 abbrev pub edit : Read Edit → Read Command
 edit e = Ok (λ x. Make (On_map x)) ⊛ e
 
--- a form of one field, and of none
+-- a form of one field, and a form of none
 abbrev pub one : {A B : Type 0} → (A → B) → (Field → Read A) → List Field → Read B
 one g read (f ∷ []) = Ok g ⊛ read f
 one g read _ = Err Bad_form
@@ -114,7 +114,7 @@ abbrev pub none : Command → List Field → Read Command
 none c [] = Ok c
 none c _ = Err Bad_form
 
--- a node and its place
+-- a node and its coordinate
 abbrev pub node_fields : List Field → Read (ℕ × Coord)
 node_fields (node ∷ lon ∷ lat ∷ []) = Ok (λ x p. (x, p)) ⊛ number node ⊛ place lon lat
 node_fields _ = Err Bad_form
@@ -125,7 +125,7 @@ node_record g fs = Ok (λ p. g p.0 p.1) ⊛ node_fields fs
 abbrev pub line_between : ℕ → ℕ → ℕ → ℕ → ℕ → List ShapePoint → Line
 line_between from to frc fow len shape = record { from = from; to = to; frc = frc; fow = fow; len = len; shape = shape }
 
--- what a line has beside its ends
+-- the attributes of a line, without its ends
 abbrev pub course : Field → Field → Field → List Field → Read (ℕ × ℕ × ℕ × List ShapePoint)
 course frc fow len fs = Ok (λ a b c d. (a, b, c, d)) ⊛ class frc ⊛ class fow ⊛ digits 1 1000000 len ⊛ shape fs
 
@@ -150,7 +150,7 @@ path_fields _ = Err Bad_form
 abbrev pub path_record : (List ℕ → Path → Change) → List Field → Read Command
 path_record g fs = Ok (λ p. Make (g p.0 p.1)) ⊛ path_fields fs
 
--- by the first field, how the fields after it read
+-- by the first field, how the fields after it are read
 abbrev pub forms : List (Field × (List Field → Read Command))
 forms =
     (codes "node", λ fs. edit (node_record Add_node fs))
@@ -184,7 +184,7 @@ read_fault Out_of_range = Range
 
 -- ---- memory
 
--- a command that holds a name, or some text or shape points
+-- a command that holds a name, a non-empty text or a shape point
 abbrev pub HoldsList : Command → Type 0
 HoldsList (Make (On_map (Add_line x l))) = 0 < length l.shape
 HoldsList (Make (On_map (Set_line x frc fow len shape))) = 0 < length shape
@@ -194,6 +194,6 @@ HoldsList (Show name) = ⊤
 HoldsList (Explain text) = 0 < length text
 HoldsList c = ⊥
 
--- reading takes memory only of a record that spells such a command
+-- reading a record takes memory only if it decodes to such a command
 abbrev pub TakesMemory : List Field → Type 0
 TakesMemory fields = IsOkAnd (read fields) HoldsList

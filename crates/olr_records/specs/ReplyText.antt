@@ -1,4 +1,4 @@
--- The bytes of replies and faults. Each line ends with a line feed, and its fields have commas between them.
+-- The bytes of replies and faults. Each line ends with a line feed, and its fields are separated by commas.
 --     reply_text r, fault_text f, outcome_text o
 use Rattle.std.specs.Prelude.{ℕ, List, [], ◌∷◌, ◌++◌, map, length, Option, Some, None, Result, Ok, Err, codes, decimal}
 use Rattle.std.specs.List.{join_with_byte, concat}
@@ -13,7 +13,7 @@ use Rattle.olr_commands.specs.State.{No_path, Bad_path, Not_a_reference, Memory,
 use Rattle.olr_commands.specs.State.{Batch_full}
 use Rattle.olr_commands.specs.Reply.{Entry, Reply, Paths, Fields, Held, Outcome}
 
--- each field after a comma
+-- a comma before each field
 abbrev pub after_commas : List (List ℕ) → List ℕ
 after_commas [] = []
 after_commas (f ∷ fs) = 44 ∷ (f ++ after_commas fs)
@@ -52,7 +52,7 @@ last_line p =
     reply_line (codes "last" ∷ signed_decimal p.dlon ∷ signed_decimal p.dlat ∷ decimal p.frc ∷ decimal p.fow ∷ decimal
     p.bearing ∷ [])
 
--- a byte, where there is an offset
+-- a line with the offset byte, if there is an offset
 abbrev pub offset_lines : List ℕ → Option ℕ → List (List ℕ)
 offset_lines word None = []
 offset_lines word (Some n) = reply_line (word ∷ decimal n ∷ []) ∷ []
@@ -64,7 +64,7 @@ reference_lines r =
 
 -- ---- replies
 
--- their number, and the lines
+-- the number of lines, and the lines
 abbrev pub accepted_text : List (List ℕ) → List ℕ
 accepted_text lines = reply_line (codes "ok" ∷ decimal (length lines) ∷ []) ++ concat lines
 

@@ -1,10 +1,10 @@
--- What is read of a record, as Rust's values say it.
---     Reads view x r      r is what x reads, seen by `view`; it takes no memory
---     Gathers Takes view x r      the same, but want of memory may come where x reads as something that takes memory
---     IsRead x r      the same of a command, which takes memory where it holds a list
---     worse_fault f g      of two faults the one that is told.
---     both r s      what two parts of a record read as
---     read_fault_of f      the fault that a record's own fault is told as
+-- What reading a record returns, in terms of Rust's values.
+--     Reads view x r      r is x, seen through `view`; it takes no memory
+--     Gathers Takes view x r      the same, but r may be out of memory if the value of x takes memory
+--     IsRead x r      the same for a command, which takes memory if it holds a list
+--     worse_fault f g      of two faults, the one that takes precedence.
+--     both r s      both parts of a record, or the fault that takes precedence
+--     read_fault_of f      the command's fault for a fault of the record
 use Rattle.std.specs.Prelude.{◌≡◌, Result, Ok, Err, IsOkAnd}
 use Rattle.olr_commands.specs.State as state
 use Rattle.olr_commands.specs.Words.{command_of}
@@ -26,7 +26,7 @@ Gathers Takes view x r = Reads view x r
 abbrev pub IsRead : Read state.Command → Result Command ReadFault → Type 0
 IsRead x r = Gathers HoldsList command_of x r
 
--- Syntax before Range, and want of memory after both
+-- Syntax takes precedence over Range, and both over out of memory
 abbrev pub worse_fault : ReadFault → ReadFault → ReadFault
 worse_fault Syntax g = Syntax
 worse_fault Range Syntax = Syntax

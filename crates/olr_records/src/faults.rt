@@ -1,4 +1,4 @@
-//! Why a record is no command, and the texts of faults.
+//! Why a record decodes to no command, and the texts of faults.
 ghost use Rattle.std.specs.Prelude.{◌≡◌};
 ghost use Rattle.olr_commands.specs.Words.{command_fault_of, map_fault_of, text_fault_of};
 ghost use Rattle.olr_records.specs.ReplyText as texts;
@@ -10,16 +10,16 @@ use olr_map::EditFault;
 use std::alloc::{AllocError, AllocFailed};
 use thiserror::Error;
 
-/// Why a record is no command.
+/// Why a record decodes to no command.
 #[derive(Clone, Copy, Debug, PartialEq, Eq, Error)]
 pub enum ReadFault {
     /// It has the form of no command.
     #[error("Syntax")]
     Syntax,
-    /// It has the form of a command, and a value out of bounds.
+    /// It has the form of a command, with a value out of range.
     #[error("Range")]
     Range,
-    /// There was no memory to read it.
+    /// Out of memory while reading it.
     #[error("Memory")]
     Memory,
 }
@@ -46,10 +46,10 @@ impl<T: Drop> From<AllocFailed<T>> for ReadFault {
     }
 }
 
-/// The line of want of memory, which has one number wherever it was told.
+/// The line of out of memory, which has one number wherever it was reported.
 const MEMORY: &str = "fault,13,Memory\n";
 
-/// The line of a refused command. It takes no memory, so that want of memory can be told too.
+/// The line of a rejected command. It takes no memory, so that out of memory can be reported too.
 pub fn fault_text(fault: CommandFault) -> &'static str
     ensures { result.now ≡ texts.fault_text (command_fault_of fault) }
 {
@@ -67,7 +67,7 @@ pub fn fault_text(fault: CommandFault) -> &'static str
     }
 }
 
-/// The line of an edit that the map refuses.
+/// The line of an edit that the map rejects.
 fn map_fault_text(fault: EditFault) -> &'static str
     ensures { result.now ≡ texts.fault_text (map_fault_of fault) }
 {
@@ -82,7 +82,7 @@ fn map_fault_text(fault: EditFault) -> &'static str
     }
 }
 
-/// The line of a text that is no reference, with the number of its cause.
+/// The line of a text that encodes no reference, with the number of its cause.
 fn text_fault_text(fault: TextFault) -> &'static str
     ensures { result.now ≡ texts.fault_text (text_fault_of fault) }
 {
@@ -96,7 +96,7 @@ fn text_fault_text(fault: TextFault) -> &'static str
     }
 }
 
-/// The line of a record that is no command. It takes no memory.
+/// The line of a record that decodes to no command. It takes no memory.
 pub fn read_fault_text(fault: ReadFault) -> &'static str
     ensures { result.now ≡ texts.fault_text (read_fault_of fault) }
 {

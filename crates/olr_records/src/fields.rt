@@ -1,4 +1,4 @@
-//! The fields of a record, each read by its form and then by its bounds.
+//! The fields of a record, each checked for its form and then for its range.
 ghost use Rattle.std.specs.Prelude.{◌≡◌, ◌≤◌, ◌^◌, [], IsTrue, IfOk, IfSome, is_some, length, min, slice_index_or};
 ghost use Rattle.std.specs.Prelude.{string_bytes, ⊤};
 ghost use Rattle.std.specs.Char.{is_ascii_digit};
@@ -18,20 +18,20 @@ use olr_coords::{Coord, CoordFault, read_degrees};
 use olr_map::{LineId, NodeId, Shape};
 use std::alloc::Global;
 
-/// The greatest functional road class, and the greatest form of way.
+/// The greatest functional road class (FRC), and the greatest form of way (FOW).
 const GREATEST_CLASS: u32 = 7;
 /// The greatest length of a line, in decimetres.
 const GREATEST_LENGTH: u32 = 1_000_000;
-/// The greatest distance of a shape point from the line's begin, in decimetres.
+/// The greatest distance of a shape point from the start of the line, in decimetres.
 const GREATEST_DISTANCE: u32 = 999_999;
-/// So many digits are a number of 64 bits, whichever they are.
+/// Any number with this many digits fits 64 bits.
 const MOST_DIGITS: usize = 19;
-/// More than any number of 32 bits, 2^32.
+/// 2^32, which is more than any number of 32 bits.
 const TOO_GREAT: u64 = 1 << 32;
-/// The most bytes of a name.
+/// The greatest length of a name, in bytes.
 const LONGEST_NAME: usize = 64;
 
-/// The field at place `k`, or no bytes past the last one.
+/// The field at index `k`, or no bytes past the last one.
 pub(crate) fn field(fields: &ByteRecord, k: usize) -> &[u8]
     ensures { result.now ≡ slice_index_or (fields_of fields.now) k [] }
 {
@@ -41,7 +41,7 @@ pub(crate) fn field(fields: &ByteRecord, k: usize) -> &[u8]
     }
 }
 
-/// The value of digits that 64 bits hold. None for another byte among them.
+/// The value of digits, which fits 64 bits. None if there is another byte among them.
 fn few_digits(field: &[u8]) -> Option<u64>
     requires { length field.now ≤ 19 }
     ensures form { is_some result ≡ list_all is_ascii_digit field.now }
@@ -57,7 +57,7 @@ fn few_digits(field: &[u8]) -> Option<u64>
     Some(value)
 }
 
-/// The value of any count of digits, or 2^32 in place of a greater one. None for another byte among them.
+/// The value of any number of digits, or 2^32 instead of a greater value. None if there is another byte among them.
 fn many_digits(field: &[u8]) -> Option<u64>
     ensures form { is_some result ≡ list_all is_ascii_digit field.now }
     ensures same { IfSome result (λ n. n ≡ min (digits_value field.now) (2 ^ 32)) }
@@ -72,7 +72,7 @@ fn many_digits(field: &[u8]) -> Option<u64>
     Some(value)
 }
 
-/// The value of one or more digits, or 2^32 in place of a greater one. None for no digits, and for another byte.
+/// The value of one or more digits, or 2^32 instead of a greater value. None if there are no digits, or another byte.
 fn value(field: &[u8]) -> Option<u64>
     ensures form { is_some result ≡ are_digits field.now }
     ensures same { IfSome result (λ n. n ≡ min (digits_value field.now) (2 ^ 32)) }
@@ -87,7 +87,7 @@ fn value(field: &[u8]) -> Option<u64>
     Some(TOO_GREAT.min(value))
 }
 
-/// One or more digits, of a value from `low` to `high`. Leading zeros are accepted.
+/// One or more digits with a value from `low` to `high`. Leading zeros are accepted.
 pub(crate) fn number(field: &[u8], low: u32, high: u32) -> Result<u32, ReadFault>
     ensures reads { Reads (λ n. n) (records.digits low high field.now) result }
     ensures within { IfOk result (λ n. (low ≤ n) × (n ≤ high)) }
@@ -135,7 +135,7 @@ pub(crate) fn length(field: &[u8]) -> Result<u32, ReadFault>
     number(field, 1, GREATEST_LENGTH)
 }
 
-/// A longitude or a latitude, in units, within 180 degrees either way.
+/// A longitude or a latitude in units, from -180 to 180 degrees.
 fn degrees(field: &[u8]) -> Result<i64, ReadFault>
     ensures { Reads (λ z. z) (records.coordinate is_degrees (text_of.degrees field.now)) result }
 {
@@ -146,7 +146,7 @@ fn degrees(field: &[u8]) -> Result<i64, ReadFault>
     }
 }
 
-/// A longitude, in units: that of some place on the equator.
+/// A longitude in units, in the range of longitudes.
 fn longitude(field: &[u8]) -> Result<i64, ReadFault>
     ensures reads { Reads (λ z. z) (records.longitude field.now) result }
     ensures within { IfOk result (λ z. IsTrue (is_longitude z)) }
@@ -159,7 +159,7 @@ fn longitude(field: &[u8]) -> Result<i64, ReadFault>
     }
 }
 
-/// A latitude, in units: that of some place on the meridian of 0.
+/// A latitude in units, in the range of latitudes.
 fn latitude(field: &[u8]) -> Result<i64, ReadFault>
     ensures reads { Reads (λ z. z) (records.latitude field.now) result }
     ensures within { IfOk result (λ z. IsTrue (is_latitude z)) }
@@ -172,7 +172,7 @@ fn latitude(field: &[u8]) -> Result<i64, ReadFault>
     }
 }
 
-/// A place, by its longitude and its latitude.
+/// A coordinate, by its longitude and its latitude.
 pub(crate) fn coord(lon: &[u8], lat: &[u8]) -> Result<Coord, ReadFault>
     ensures { Reads (λ c. c) (records.place lon.now lat.now) result }
 {
@@ -180,7 +180,7 @@ pub(crate) fn coord(lon: &[u8], lat: &[u8]) -> Result<Coord, ReadFault>
     Coord::new(lon, lat).ok_or(ReadFault::Range)
 }
 
-/// A place of a line's shape, by its distance from the line's begin, from 1 to 999,999 dm.
+/// A shape point of a line, with its distance from the start of the line, from 1 to 999,999 dm.
 pub(crate) fn shape_point(at: &[u8], lon: &[u8], lat: &[u8]) -> Result<Shape, ReadFault>
     ensures { Reads (λ p. p) (records.point at.now lon.now lat.now) result }
 {
@@ -208,14 +208,14 @@ fn is_name(field: &[u8]) -> bool
     !field.is_empty() && field.len() <= LONGEST_NAME && has_only_name_bytes(field)
 }
 
-/// Whether each byte may stand in a name.
+/// Whether each byte is allowed in a name.
 fn has_only_name_bytes(field: &[u8]) -> bool
     ensures { result ≡ list_all records.is_name_byte field.now }
 {
     field.iter().all(|byte| is_name_byte(*byte))
 }
 
-/// Whether a byte may stand in a name.
+/// Whether a byte is allowed in a name.
 fn is_name_byte(byte: u8) -> bool
     ensures { result ≡ records.is_name_byte byte }
 {

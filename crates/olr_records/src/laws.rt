@@ -1,7 +1,7 @@
 //! The law of records.
 ghost use Rattle.olr_records.specs.Laws;
 
-/// The places that records bring are in range.
+/// The coordinates in records are in range.
 pub fn laws_of_records()
     ensures places { Laws.PlacesRead }
 {}

@@ -12,7 +12,7 @@ use csv::ByteRecord;
 use olr_map::{Line, Shape};
 use std::alloc::Global;
 
-/// What a record tells of a line but its number and its ends.
+/// The attributes of a line in a record: all but its number and its ends.
 #[derive(Drop, Debug)]
 pub(crate) struct Course {
     /// The functional road class.
@@ -21,11 +21,11 @@ pub(crate) struct Course {
     pub fow: u8,
     /// The length, in decimetres.
     pub len: u32,
-    /// The places between the two ends, in order.
+    /// The shape points between the two ends, in order.
     pub shape: Vec<Shape>,
 }
 
-/// The ends of a line from the field at place 2 on, and its course after them.
+/// A line: its ends from the field at index 2 on, and its attributes after them.
 pub(crate) fn line(alloc: Global, fields: &ByteRecord) -> Result<Line, ReadFault>
     requires { 7 ≤ length (fields_of fields.now) }
     ensures { let f : ℕ → Field = λ k. slice_index_or (fields_of fields.now) k [] in
@@ -46,7 +46,7 @@ pub(crate) fn line(alloc: Global, fields: &ByteRecord) -> Result<Line, ReadFault
     })
 }
 
-/// The course of a line, from the field at place `k` on.
+/// The attributes of a line, from the field at index `k` on.
 pub(crate) fn course_at(alloc: Global, fields: &ByteRecord, k: usize) -> Result<Course, ReadFault>
     requires near { k ≤ 4 }
     requires within { k + 3 ≤ length (fields_of fields.now) }
@@ -66,7 +66,7 @@ pub(crate) fn course_at(alloc: Global, fields: &ByteRecord, k: usize) -> Result<
     })
 }
 
-/// The shape points from the field at place `start` on, three fields each.
+/// The shape points from the field at index `start` on, three fields each.
 fn shape(alloc: Global, fields: &ByteRecord, start: usize) -> Result<Vec<Shape>, ReadFault>
     requires { start ≤ length (fields_of fields.now) }
     ensures { Gathers (λ ps. 0 < length ps) (λ v. v.items)

@@ -1,4 +1,4 @@
-//! Parts of one record, read one by one and put together.
+//! Parts of one record, read one by one and combined.
 ghost use Rattle.std.specs.Prelude.{◌≡◌, ◌∷◌, ◌++◌, [], List, Ok, ⊤};
 ghost use Rattle.olr_records.specs.Records.{Read, ◌⊛◌};
 ghost use Rattle.olr_records.specs.Words.{Gathers, Reads, both, worse_fault};
@@ -6,7 +6,7 @@ ghost use Rattle.olr_records.specs.Words.{Gathers, Reads, both, worse_fault};
 use crate::faults::ReadFault;
 use std::alloc::Global;
 
-/// Of two faults of one record the one that is told: `Syntax` before `Range`, and want of memory after both.
+/// Of two faults of one record, the one that takes precedence: `Syntax` before `Range`, and out of memory after both.
 fn worse(first: ReadFault, second: ReadFault) -> ReadFault
     ensures { result ≡ worse_fault first second }
 {
@@ -31,14 +31,14 @@ pub(crate) fn both<A: Drop, B: Drop>(
     }
 }
 
-/// No items yet, with room for so many.
+/// No items yet, with capacity for `count` of them.
 pub(crate) fn room<T>(alloc: Global, count: usize) -> Result<Vec<T>, ReadFault>
     ensures { Gathers (λ _. ⊤) (λ v. v.items) (Ok []) result }
 {
     Ok(Vec::with_capacity(alloc, count)?)
 }
 
-/// One more item after those read so far.
+/// The items read so far, with one more.
 pub(crate) fn with_item<T: Drop>(
     items: Result<Vec<T>, ReadFault>,
     item: Result<T, ReadFault>,

@@ -14,18 +14,18 @@ use olr_commands::Command;
 use olr_map::LineId;
 use std::alloc::Global;
 
-/// What a record tells of a path.
+/// The fields of a path in a record.
 #[derive(Drop, Debug)]
 struct NamedPath {
     name: String,
-    /// The offset from the path's begin, in decimetres.
+    /// The positive offset, in decimetres.
     pos: u32,
-    /// The offset from its end, in decimetres.
+    /// The negative offset, in decimetres.
     neg: u32,
     lines: Vec<LineId>,
 }
 
-/// A name, two offsets and line numbers: all that stands behind the word.
+/// A name, two offsets and line numbers: all fields after the first.
 fn path(alloc: Global, fields: &ByteRecord) -> Result<NamedPath, ReadFault>
     ensures { Gathers (λ _. ⊤) (λ p. (string_bytes p.name, path_along p.lines.items p.pos p.neg))
         (records.path_fields (drop 1 (fields_of fields.now)))

@@ -1,4 +1,4 @@
-//! Commands, as records spell them.
+//! Commands, decoded from records.
 ghost use Rattle.std.specs.Prelude.{drop, Ok};
 ghost use Rattle.csv.specs.Records.{fields_of};
 ghost use Rattle.olr_commands.specs.State.{Explain, Commit};
@@ -14,9 +14,9 @@ use csv::ByteRecord;
 use olr_commands::Command;
 use std::alloc::Global;
 
-/// The command that a record spells. A record of no command's form is `Syntax`; one that has the form of a command and
-/// a value out of bounds is `Range`, wherever the two stand. `Memory` comes only of a record that spells a command with
-/// a name, some text or shape points.
+/// The command that a record decodes to. `Syntax`: the record has the form of no command. `Range`: it has the form of a
+/// command, and a value is out of range; `Syntax` takes precedence, whatever the order of the fields. `Memory`: only for a
+/// record that decodes to a command with a name, a non-empty text or shape points.
 pub fn read_command(alloc: Global, fields: &ByteRecord) -> Result<Command, ReadFault>
     ensures { IsRead (records.read (fields_of fields.now)) result }
 {
@@ -26,7 +26,7 @@ pub fn read_command(alloc: Global, fields: &ByteRecord) -> Result<Command, ReadF
     read_by(alloc, field(fields, 0), fields)
 }
 
-/// The command of a record that begins with this word. The words of most records are tried first.
+/// The command of a record whose first field is this word. The words of the most frequent records are tried first.
 fn read_by(alloc: Global, word: &[u8], fields: &ByteRecord) -> Result<Command, ReadFault>
     ensures { IsRead (records.read_by records.forms word.now (drop 1 (fields_of fields.now))) result }
 {
@@ -66,7 +66,7 @@ fn read_by(alloc: Global, word: &[u8], fields: &ByteRecord) -> Result<Command, R
     }
 }
 
-/// A command whose record is its word alone.
+/// A command whose record is one word.
 fn single_word(fields: &ByteRecord, command: Command) -> Result<Command, ReadFault>
     ensures { IsRead (records.none (command_of command) (drop 1 (fields_of fields.now))) result }
 {

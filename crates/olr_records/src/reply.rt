@@ -20,7 +20,7 @@ pub fn no_paths_text() -> &'static str
     "ok,0\n"
 }
 
-/// The lines of a reply to an accepted command. It fails where there is no memory for them.
+/// The lines of a reply to an accepted command. It fails if an allocation fails.
 pub fn reply_text(alloc: Global, reply: &Reply) -> Result<Vec<u8>, AllocError>
     ensures { IfOk result (λ text. text.items ≡ texts.reply_text (reply_of reply.now)) }
 {
@@ -29,7 +29,7 @@ pub fn reply_text(alloc: Global, reply: &Reply) -> Result<Vec<u8>, AllocError>
     Ok(text)
 }
 
-/// Puts the lines of a reply to an accepted command behind a text. It fails where there is no memory for them.
+/// Appends the lines of a reply to an accepted command to a text. It fails if an allocation fails.
 pub fn append_reply(text: &mut Vec<u8>, reply: &Reply) -> Result<(), AllocError>
     ensures { OnOk result (text.new.items ≡ text.old.items ++ texts.reply_text (reply_of reply.now)) }
 {
@@ -51,7 +51,7 @@ fn push_count(text: &mut Vec<u8>, word: &[u8], count: usize) -> Result<(), Alloc
     Ok(())
 }
 
-/// How many paths there are, and each with its string or its refusal.
+/// The number of paths, and each path with its string or the reason why it has none.
 fn push_paths(text: &mut Vec<u8>, entries: &[Entry]) -> Result<(), AllocError>
     ensures { OnOk result (text.new.items ≡ text.old.items
         ++ texts.accepted_text (map (λ e. texts.entry_line (entry_of e)) entries.now)) }
@@ -90,7 +90,7 @@ fn push_entry(text: &mut Vec<u8>, entry: &Entry) -> Result<(), AllocError>
     Ok(())
 }
 
-/// The number of a refusal, and what it names.
+/// The number of a reason, and what it names.
 fn push_refusal(text: &mut Vec<u8>, refusal: Refusal) -> Result<(), AllocError>
     ensures { OnOk result (text.new.items
         ≡ text.old.items ++ after_commas (texts.refusal_fields (refusal_of refusal))) }
@@ -112,7 +112,7 @@ fn push_refusal(text: &mut Vec<u8>, refusal: Refusal) -> Result<(), AllocError>
     }
 }
 
-/// How many lines the fields of a reference take, and the fields, point by point.
+/// The number of lines, and the fields of a reference, LRP by LRP.
 fn push_reference(text: &mut Vec<u8>, reference: &Reference) -> Result<(), AllocError>
     ensures { OnOk result (text.new.items
         ≡ text.old.items ++ texts.accepted_text (texts.reference_lines reference.now)) }
@@ -128,7 +128,7 @@ fn push_reference(text: &mut Vec<u8>, reference: &Reference) -> Result<(), Alloc
     Ok(())
 }
 
-/// How many lines an offset takes.
+/// The number of lines of an offset.
 fn offset_count(offset: Option<u8>) -> usize
     ensures lines { (word : List ℕ) → length (texts.offset_lines word offset) ≡ result }
     ensures one { result ≤ 1 }
@@ -139,7 +139,7 @@ fn offset_count(offset: Option<u8>) -> usize
     }
 }
 
-/// The lines of the points between the first and the last.
+/// The lines of the LRPs between the first and the last.
 fn push_points(text: &mut Vec<u8>, points: &[Middle]) -> Result<(), AllocError>
     ensures { OnOk result (text.new.items
         ≡ text.old.items ++ concat (map texts.middle_line points.now)) }
@@ -150,14 +150,14 @@ fn push_points(text: &mut Vec<u8>, points: &[Middle]) -> Result<(), AllocError>
     Ok(())
 }
 
-/// What is published of each point but the last, in the order of its line.
+/// The attributes of each LRP but the last, in the order of its line.
 fn attr_numbers(attrs: Attrs) -> [u8; 5]
     ensures { map decimal result ≡ texts.attr_fields attrs }
 {
     [attrs.frc, attrs.fow, attrs.lfrc, attrs.bearing, attrs.dnp]
 }
 
-/// The line of the first point.
+/// The line of the first LRP.
 fn push_first(text: &mut Vec<u8>, point: First) -> Result<(), AllocError>
     ensures { OnOk result (text.new.items ≡ text.old.items ++ texts.first_line point) }
 {
@@ -165,7 +165,7 @@ fn push_first(text: &mut Vec<u8>, point: First) -> Result<(), AllocError>
     push_point(text, b"first", point.lon, point.lat, &numbers)
 }
 
-/// The line of a point between the first and the last.
+/// The line of an LRP between the first and the last.
 fn push_middle(text: &mut Vec<u8>, point: Middle) -> Result<(), AllocError>
     ensures { OnOk result (text.new.items ≡ text.old.items ++ texts.middle_line point) }
 {
@@ -174,7 +174,7 @@ fn push_middle(text: &mut Vec<u8>, point: Middle) -> Result<(), AllocError>
     push_point(text, b"middle", lon, lat, &numbers)
 }
 
-/// The line of the last point.
+/// The line of the last LRP.
 fn push_last(text: &mut Vec<u8>, point: Last) -> Result<(), AllocError>
     ensures { OnOk result (text.new.items ≡ text.old.items ++ texts.last_line point) }
 {
@@ -183,7 +183,7 @@ fn push_last(text: &mut Vec<u8>, point: Last) -> Result<(), AllocError>
     push_point(text, b"last", lon, lat, &numbers)
 }
 
-/// The line of an offset, where there is one.
+/// The line of an offset, if there is one.
 fn push_offset(text: &mut Vec<u8>, word: &[u8], offset: Option<u8>) -> Result<(), AllocError>
     ensures { OnOk result (text.new.items
         ≡ text.old.items ++ concat (texts.offset_lines word.now offset)) }

@@ -14,7 +14,7 @@ ghost use Rattle.olr_records.specs.Records.{line_between, read, Bad_form, Out_of
 ghost use Rattle.olr_records.specs.ReplyText.{reply_text, fault_text};
 ghost use Rattle.olr_records.specs.Rows.{at, zero, text_of_lines};
 
-/// Records of one node.
+/// Records of a node.
 pub fn nodes()
     ensures node { read (codes "node" ∷ codes "1" ∷ codes "6.12683" ∷ codes "49.60852" ∷ [])
         ≡ Ok (Make (On_map (Add_node 1 (at (pos 2007639654400) (pos 16255719833600))))) }
@@ -42,7 +42,7 @@ pub fn nodes()
         ≡ Ok (Make (On_map (Move_node 5 (at (pos 2326528000000) (pos 16384000000000))))) }
 {}
 
-/// Records of one line.
+/// Records of a line.
 pub fn lines()
     ensures two_points { read
         (codes "line" ∷ codes "10" ∷ codes "1" ∷ codes "2" ∷ codes "3" ∷ codes "2" ∷ codes "5610" ∷ codes "200" ∷ codes
@@ -82,7 +82,7 @@ pub fn lines()
         ∷ codes "0" ∷ []) ≡ Err Bad_form }
 {}
 
-/// Records of one path, and of the rest.
+/// Records of a path, and the remaining records.
 pub fn paths()
     ensures path { read (codes "path" ∷ codes "a" ∷ codes "1500" ∷ codes "0" ∷ codes "10" ∷ codes "20" ∷ codes "30"
         ∷ []) ≡ Ok (Make (Add_path (codes "a") (record { lines = 10 ∷ 20 ∷ 30 ∷ []; pos = 1500; neg = 0 }))) }

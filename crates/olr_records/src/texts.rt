@@ -1,4 +1,4 @@
-//! Fields of a line, written one after another, or from the line's end back.
+//! Fields of a line, appended one after another, or written backwards from the line's end.
 ghost use Rattle.std.specs.Prelude.{◌≡◌, ◌≤◌, ◌+◌, ◌++◌, ◌∷◌, [], decimal, drop, length, map, OnOk};
 ghost use Rattle.std.specs.Fmt.{signed_decimal};
 ghost use Rattle.olr_records.specs.ReplyText.{after_commas, reply_line};
@@ -6,8 +6,8 @@ ghost use Rattle.olr_records.specs.ReplyText.{after_commas, reply_line};
 use itoa::{Buffer, Integer, write_digits};
 use std::alloc::AllocError;
 
-/// The bytes in which the end of a line is written: a point has two coordinates of at most 11 bytes, five numbers of at
-/// most 3, their commas, and a line feed.
+/// The size of the buffer for the end of a line: an LRP has two coordinates of at most 11 bytes, five numbers of at most 3,
+/// their commas, and a line feed.
 const ROOM: usize = 64;
 
 /// A comma and a field.
@@ -25,7 +25,7 @@ pub(crate) fn push_number<I: Integer>(text: &mut Vec<u8>, number: I) -> Result<(
     push_field(text, Buffer::new().format(number).as_bytes())
 }
 
-/// Writes a byte before what stands from `end` on, and returns where it stands.
+/// Writes a byte before index `end`, and returns its index.
 fn put_byte(line: &mut [u8], end: usize, byte: u8) -> usize
     requires within { end ≤ length line.old }
     requires room { 1 ≤ end }
@@ -37,8 +37,7 @@ fn put_byte(line: &mut [u8], end: usize, byte: u8) -> usize
     end - 1
 }
 
-/// Writes a number before what stands from `end` on, and returns where it starts. Most numbers of a point are one
-/// digit.
+/// Writes a number before index `end`, and returns the index where it starts. Most numbers of an LRP have one digit.
 fn put_byte_number(line: &mut [u8], end: usize, number: u8) -> usize
     requires within { end ≤ length line.old }
     requires room { 3 ≤ end }
@@ -52,7 +51,7 @@ fn put_byte_number(line: &mut [u8], end: usize, number: u8) -> usize
     write_digits(u64::from(number), line, end)
 }
 
-/// Writes a comma and a number before what stands from `end` on, and returns where they start.
+/// Writes a comma and a number before index `end`, and returns the index where they start.
 fn put_number(line: &mut [u8], end: usize, number: u8) -> usize
     requires within { end ≤ length line.old }
     requires room { 4 ≤ end }
@@ -65,7 +64,7 @@ fn put_number(line: &mut [u8], end: usize, number: u8) -> usize
     put_byte(line, start, b',')
 }
 
-/// Writes a comma and a coordinate before what stands from `end` on, and returns where they start.
+/// Writes a comma and a coordinate before index `end`, and returns the index where they start.
 fn put_coordinate(line: &mut [u8], end: usize, coordinate: i32) -> usize
     requires within { end ≤ length line.old }
     requires room { 12 ≤ end }
@@ -81,7 +80,7 @@ fn put_coordinate(line: &mut [u8], end: usize, coordinate: i32) -> usize
     put_byte(line, start, b',')
 }
 
-/// Writes a comma before each of these numbers, all before what stands from `end` on, and returns where they start.
+/// Writes these numbers before index `end`, each after a comma, and returns the index where they start.
 fn put_numbers(line: &mut [u8], end: usize, numbers: &[u8]) -> usize
     requires within { end ≤ length line.old }
     requires few { length numbers.now ≤ 5 }
@@ -101,7 +100,7 @@ fn put_numbers(line: &mut [u8], end: usize, numbers: &[u8]) -> usize
     start
 }
 
-/// The line of a point: a word, two coordinates and numbers.
+/// The line of an LRP: a word, two coordinates and numbers.
 pub(crate) fn push_point(
     text: &mut Vec<u8>,
     word: &[u8],

@@ -1,4 +1,4 @@
--- The mirror image: a chain that leads from a list of lines, grown by a line at a time.
+-- The mirror image: a run of degree-two nodes that leads from a list of lines, extended by one line at a time.
 use Rattle.std.proofs.Common.{◌⊎◌, inl, inr, ◌≡◌, ◌≢◌, ℕ, ◌+◌, ◌<◌, ◌≤◌, true, false, ◌==◌, List, [], ◌∷◌, ◌++◌, length}
 use Rattle.std.proofs.Common.{get_or, ◌-◌, suc, IsTrue, refl, sym, ap, ◌∙◌, subst, arith, append_assoc, append-nil}
 use Rattle.std.proofs.Common.{length-append}
@@ -14,7 +14,7 @@ use Rattle.olr_spec.proofs.ListLemmas.{has_last, has_cases}
 use Rattle.olr_spec.proofs.WalkLemmas.{dm_of-append}
 use Rattle.olr_refs.proofs.Before.{not_has_one}
 
--- ---- the line behind a line
+-- ---- the line after a line
 
 -- a line doesn't follow itself
 follows_another : (M : Map) (z x : ℕ) → start M x ≡ end M z → end M x ≢ start M z → z ≢ x
@@ -67,18 +67,18 @@ one_in_front M y z x j k p q =
     let same : y ∷ [] ≡ z ∷ [] =
     same_start_chain M (x ∷ []) (y ∷ []) (z ∷ []) p.known (preceded M y x j p, tt) (preceded M z x k q, tt) refl in cc
 
--- ---- a chain, grown
+-- ---- a run, extended
 
 pushed : (ls : List ℕ) (y : ℕ) (c : List ℕ) → (ls ++ y ∷ []) ++ c ≡ ls ++ y ∷ c
 pushed ls y c = append_assoc ls (y ∷ []) c
 
--- the last line of a chain may follow those before it
+-- the last line of a run may follow those before it
 EndChain-last : (M : Map) (ls c : List ℕ) (y : ℕ) → EndChain M ls (c ++ y ∷ []) → MayFollow M (ls ++ c) y
 EndChain-last M ls [] y p = subst (λ (zs : List ℕ). MayFollow M zs y) (sym (append-nil ls)) p.0
 EndChain-last M ls (x ∷ c) y p =
     subst (λ (zs : List ℕ). MayFollow M zs y) (pushed ls x c) (EndChain-last M (ls ++ x ∷ []) c y p.1)
 
--- a line of a chain stands behind a line of the list or the chain
+-- a line of a run comes after a line of the list or the run
 in_front : (M : Map) (ls c : List ℕ) (x : ℕ) → 0 < length ls → IsTrue (has_line M (last ls)) → EndChain M ls c →
     has c x ≡ true → (z : ℕ) × (has (ls ++ c) z ≡ true) × IsTrue (has_line M z) × MayFollow M (z ∷ []) x
 in_front M ls [] x some known p h = absurd cc
@@ -101,7 +101,7 @@ last_pushed : (ls c : List ℕ) (y : ℕ) → last (ls ++ (c ++ y ∷ [])) ≡ y
 last_pushed ls c y = ap last (sym (append_assoc ls c (y ∷ []))) ∙ last_push (ls ++ c) y
 
 module _ (M : Map) (ls : List ℕ) (some : 0 < length ls) (known : IsTrue (has_line M (last ls))) where
-  -- what follows a chain isn't among its lines
+  -- what follows a run is not among its lines
   fresh_behind : (c : List ℕ) (y x : ℕ) → EndChain M ls (c ++ y ∷ []) → MayFollow M (y ∷ []) x →
       has (c ++ y ∷ []) x ≡ false
   fresh_behind c y x p q =
@@ -131,7 +131,7 @@ module _ (M : Map) (ls : List ℕ) (some : 0 < length ls) (known : IsTrue (has_l
       EndChain-push M ls c x p
       (follows_all M (ls ++ c) x q (list_any-append (λ y. y == x) ls c ∙ or_from _ _ h (fresh_after c x p q)))
 
-  -- a chain that no line may grow, or none within the limit, is the longest
+  -- a run that no line extends, or none within the limit, is the longest
   pub stops_after : (c : List ℕ) → EndChain M ls c → dm_of M c ≤ limit →
       ((x : ℕ) → MayFollow M (last (ls ++ c) ∷ []) x → (has ls x ≡ true) ⊎ (limit < dm_of M c + dm M x)) →
       LongestEnd M ls c
@@ -156,7 +156,7 @@ module _ (M : Map) (ls : List ℕ) (some : 0 < length ls) (known : IsTrue (has_l
             | inr le ↦ let r = end_prefix M ls d c known q p le in omega (arith, ap (dm_of M) r.1, dm_of-append M d r.0)
           ]
 
--- a chain c, its last line, or that of the list, and its length
+-- a run c, its last line, or that of the list, and its length
 pub record GrowsAfter (M : Map) (ls c : List ℕ) (back len : ℕ) : Type 0 where
   pub chain : EndChain M ls c
   pub ends : back ≡ last (ls ++ c)
@@ -166,7 +166,7 @@ pub record GrowsAfter (M : Map) (ls c : List ℕ) (back len : ℕ) : Type 0 wher
 pub nothing_after : (M : Map) (ls : List ℕ) → GrowsAfter M ls [] (last ls) 0
 nothing_after M ls = record { chain = tt; ends = ap last (sym (append-nil ls)); long = refl; within = omega arith }
 
--- the last line of a list and a chain behind it is one of the map's
+-- the last line of a list and a run after it is a line of the map
 end_known : (M : Map) (ls c : List ℕ) → IsTrue (has_line M (last ls)) → EndChain M ls c →
     IsTrue (has_line M (last (ls ++ c)))
 end_known M ls [] known p = subst (λ (zs : List ℕ). IsTrue (has_line M (last zs))) (sym (append-nil ls)) known
@@ -199,7 +199,7 @@ module _ (M : Map) (ls : List ℕ) (some : 0 < length ls) (known : IsTrue (has_l
       (λ x p. subst (λ (n : ℕ). (has ls x ≡ true) ⊎ (limit < n + dm M x)) e
       (stops x (subst (λ (n : ℕ). MayFollow M (n ∷ []) x) (sym grows.ends) p)))
 
--- where no line follows the list, no chain does
+-- if no line follows the list, no run does
 pub none_after : (M : Map) (ls : List ℕ) → 0 < length ls → IsTrue (has_line M (last ls)) →
     ((x : ℕ) → ¬ MayFollow M (last ls ∷ []) x) → LongestEnd M ls []
 none_after M ls some known none =

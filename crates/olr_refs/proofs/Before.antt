@@ -1,5 +1,5 @@
--- A chain that leads to a list of lines, grown by a line at a time: the line before it is determined by its first line,
--- and can stand in the chain already only where it stands in the list.
+-- A run of degree-two nodes that leads to a list of lines, extended by one line at a time: the line before it is
+-- determined by its first line, and is in the run already only if it is in the list.
 use Rattle.std.proofs.Common.{false, ◌⊎◌, inl, inr, ◌≡◌, ◌≢◌, ℕ, ◌+◌, ◌<◌, ◌≤◌, true, ◌==◌, List, [], ◌∷◌, ◌++◌, length}
 use Rattle.std.proofs.Common.{get_or, IsTrue, refl, sym, ap, ◌∙◌, subst, arith, append_assoc, length-append}
 use Rattle.std.proofs.lemmas.Bool.{both_ways, cases_Bool, cases_lt, ne_eqb, or_from, or_right}
@@ -69,10 +69,10 @@ one_behind M x y z j k p q =
     let same : y ∷ [] ≡ z ∷ [] =
     same_end_chain M (x ∷ []) (y ∷ []) (z ∷ []) p.known (followed M x y j p, tt) (followed M x z k q, tt) refl in cc
 
--- ---- a chain, grown
+-- ---- a run, extended
 
 module _ (M : Map) (ls : List ℕ) (some : 0 < length ls) (known : IsTrue (has_line M (first ls))) where
-  -- a line of a chain stands before a line of the chain or the list
+  -- a line of a run comes before a line of the run or the list
   behind : (c : List ℕ) (x : ℕ) → StartChain M c ls → has c x ≡ true → (z : ℕ) × (has (c ++ ls) z ≡ true)
       × IsTrue (has_line M z) × MayPrecede M x (z ∷ [])
   behind [] x p h = absurd cc
@@ -87,7 +87,7 @@ module _ (M : Map) (ls : List ℕ) (some : 0 < length ls) (known : IsTrue (has_l
         | inr i ↦ let r = behind c x p.1 i in (r.0, has_there y (c ++ ls) r.0 r.1, r.2, r.3)
       ]
 
-  -- what precedes a chain isn't among its lines
+  -- what precedes a run is not among its lines
   fresh_before : (c : List ℕ) (x : ℕ) → StartChain M c ls → MayPrecede M x (first (c ++ ls) ∷ []) → has c x ≡ false
   fresh_before [] x p q = refl
   fresh_before (y ∷ c) x p q =
@@ -107,7 +107,7 @@ module _ (M : Map) (ls : List ℕ) (some : 0 < length ls) (known : IsTrue (has_l
   grown_before c x p q h =
       (precedes_all M x (c ++ ls) q (list_any-append (λ y. y == x) c ls ∙ or_from _ _ (fresh_before c x p q) h), p)
 
-  -- a chain that no line may grow, or none within the limit, is the longest
+  -- a run that no line extends, or none within the limit, is the longest
   pub stops_before : (c : List ℕ) → StartChain M c ls → dm_of M c ≤ limit →
       ((x : ℕ) → MayPrecede M x (first (c ++ ls) ∷ []) → (has ls x ≡ true) ⊎ (limit < dm_of M c + dm M x)) →
       LongestStart M c ls
@@ -134,7 +134,7 @@ module _ (M : Map) (ls : List ℕ) (some : 0 < length ls) (known : IsTrue (has_l
                 start_suffix M ls d c known q p le in omega (arith, ap (dm_of M) r.1, dm_of-append M r.0 d)
           ]
 
--- a chain c, its first line, or that of the list, and its length
+-- a run c, its first line, or that of the list, and its length
 pub record GrowsBefore (M : Map) (ls c : List ℕ) (front len : ℕ) : Type 0 where
   pub chain : StartChain M c ls
   pub begins : front ≡ first (c ++ ls)
@@ -170,7 +170,7 @@ module _ (M : Map) (ls : List ℕ) (some : 0 < length ls) (known : IsTrue (has_l
       (λ x p. subst (λ (n : ℕ). (has ls x ≡ true) ⊎ (limit < n + dm M x)) e
       (stops x (subst (λ (n : ℕ). MayPrecede M x (n ∷ [])) (sym grows.begins) p)))
 
--- where no line precedes the list, no chain does
+-- if no line precedes the list, no run does
 pub none_before : (M : Map) (ls : List ℕ) → 0 < length ls → IsTrue (has_line M (first ls)) →
     ((x : ℕ) → ¬ MayPrecede M x (first ls ∷ [])) → LongestStart M [] ls
 none_before M ls some known none =

@@ -1,4 +1,4 @@
--- The choice of the next point, from the last position that is covered and near enough back to the first.
+-- The choice of the next LRP, from the last position that is covered and within the limit back to the first.
 use Rattle.std.proofs.Common.{◌≡◌, ◌<◌, ◌≤◌, ◌-◌, ℕ, Bool, true, false, List, length, sym, subst, arith, inl, inr}
 use Rattle.std.proofs.Common.{Option, Some, None, MatchOption}
 use Rattle.std.proofs.lemmas.Bool.{cases_order}
@@ -12,7 +12,7 @@ use Rattle.olr_refs.specs.Along.{IsReach}
 abbrev pub fit : Map → List ℕ → ℕ → ℕ → Bool
 fit M ls i j = fit16 (place_at M (node_at M ls i)) (place_at M (node_at M ls j))
 
--- as it is read: the places and the answer
+-- as it is read: the coordinates and the result
 pub fit_read : (M : Map) (ls : List ℕ) (i j : ℕ) (p q : Coord) (b : Bool) → p ≡ place_at M (node_at M ls i) →
     q ≡ place_at M (node_at M ls j) → b ≡ fit16 p q → fit M ls i j ≡ b
 fit_read M ls i j p q b hp hq hb = simp (hp, hq) at (sym hb)
@@ -33,13 +33,13 @@ candidate_of M ls i r j a h k f = let u =
 abbrev Last : Map → List ℕ → ℕ → ℕ → Option ℕ → Type 0
 Last M ls i k last = MatchOption last ((j : ℕ) → k ≤ j → ¬ Candidate M ls i j) (λ m. Greatest (Candidate M ls i) m)
 
--- the positions from k on have been looked at, and the end among them isn't a candidate
+-- the positions from k on have been tested, and the end is not a candidate among them
 pub record Scanned (M : Map) (ls : List ℕ) (i r k : ℕ) (last : Option ℕ) : Type 0 where
   pub not_end : ¬ Candidate M ls i (length ls)
   pub no_valid : (j : ℕ) → k ≤ j → ¬ ValidCandidate M ls i j
   pub greatest : Last M ls i k last
 
--- one position more, which doesn't fit
+-- one more position, which does not fit
 not_fit : (M : Map) (ls : List ℕ) (i k j : ℕ) → fit M ls i (k - 1) ≡ false → j ≡ k - 1 → ¬ Candidate M ls i j
 not_fit M ls i k j f e c = let t : fit M ls i (k - 1) ≡ true = subst (λ (n : ℕ). fit M ls i n ≡ true) e c.fits in cc
 
@@ -66,7 +66,7 @@ scan_unfit M ls i r k last p s f =
       greatest = last_less M ls i k last p (λ j e. not_fit M ls i k j f e) s.greatest;
     }
 
--- one that fits, at a passing node
+-- one that fits, at a degree-two node
 last_more : (M : Map) (ls : List ℕ) (i k : ℕ) (last : Option ℕ) → 0 < k → Candidate M ls i (k - 1) →
     Last M ls i k last → Last M ls i (k - 1) (option_or last (Some (k - 1)))
 last_more M ls i k None p c l =
@@ -95,7 +95,7 @@ scan_passing M ls i r k last p after upto a s f through =
       greatest = last_more M ls i k last p (candidate_of M ls i r (k - 1) a after upto f) s.greatest;
     }
 
--- what is answered
+-- the result
 pub next_valid : (M : Map) (ls : List ℕ) (i r k : ℕ) (last : Option ℕ) → 0 < k → i < k - 1 → k - 1 ≤ r →
     IsReach M ls i r → Scanned M ls i r k last → fit M ls i (k - 1) ≡ true → passing M (node_at M ls (k - 1)) ≡ false
     → Next M ls i (k - 1)

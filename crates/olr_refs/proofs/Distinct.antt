@@ -1,4 +1,4 @@
--- A list names no number twice exactly where the same numbers, sorted, rise strictly.
+-- A list has no duplicates exactly if its numbers, sorted, are strictly increasing.
 use Rattle.std.proofs.Common.{◌≡◌, ◌≢◌, ℕ, ◌+◌, ◌<◌, true, false, not, List, [], ◌∷◌, length, get_or, eqb}
 use Rattle.std.proofs.Common.{IsPermutation, refl, ◌∙◌, inl, inr, arith}
 use Rattle.std.specs.List.{IsDistinct, AllByRecursion}
@@ -21,7 +21,7 @@ eqb_flips x y =
           ne_eqb x y (λ is. both_ways (eqb y x) e (eq-eqb y x (cc is))) ∙ cc
     ]
 
--- ---- the two ways to say it
+-- ---- two ways to state it
 
 differs_from_all : (x : ℕ) (xs : List ℕ) → has xs x ≡ false → AllByRecursion (λ y. eqb x y ≡ false) xs
 differs_from_all x [] h = tt
@@ -46,7 +46,7 @@ named_once (x ∷ xs) h =
 
 -- ---- after a sort
 
--- the first n numbers rise strictly
+-- the first n numbers are strictly increasing
 abbrev pub RisesBelow : List ℕ → ℕ → Type 0
 RisesBelow xs n = (k : ℕ) → k + 1 < n → get_or xs k 0 < get_or xs (k + 1) 0
 

@@ -1,4 +1,4 @@
--- The lines that enter a node, and those that leave it, as a loop over them reads them.
+-- The lines that enter a node, and those that leave it, as they are read by a loop.
 use Rattle.std.proofs.Common.{◌≡◌, ℕ, ◌<◌, ◌≤◌, true, List, length, take, get_or, IsTrue, MatchOption, false, Option}
 use Rattle.std.proofs.Common.{Some, None, is_some, unwrap_or, ap, ◌∙◌, subst}
 use Rattle.std.proofs.lemmas.List.{take_all}
@@ -21,7 +21,7 @@ left M v x h =
 pub Each-all : (P : ℕ → Type 0) (xs : List ℕ) (i : ℕ) → length xs ≤ i → Each P (take i xs) → Each P xs
 Each-all P xs i h below = subst (Each P) (take_all i xs h) below
 
--- a line that was read there is a line of the map
+-- a line that was read is a line of the map
 pub entered_read : (M : Map) (v : ℕ) (xs : List ℕ) (i x : ℕ) → xs ≡ lines_in M v → i < length xs → x ≡ get_or xs i x →
     IsTrue (has_line M x)
 entered_read M v xs i x all h is =
@@ -31,7 +31,7 @@ pub left_read : (M : Map) (v : ℕ) (xs : List ℕ) (i x : ℕ) → xs ≡ lines
     IsTrue (has_line M x)
 left_read M v xs i x all h is = (left M v x (subst (λ (zs : List ℕ). has zs x ≡ true) all (has_read xs i x h is))).0
 
--- what is said of None, where there is nothing
+-- the statement for None, if there is no value
 pub where_none : (o : Option ℕ) (P : Type 0) (Q : ℕ → Type 0) → is_some o ≡ false → MatchOption o P Q → P
 where_none None P Q e h = h
 where_none (Some x) P Q e h = absurd cc

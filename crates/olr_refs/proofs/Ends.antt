@@ -1,4 +1,4 @@
--- The ends of the lines of a list, put behind other nodes.
+-- The ends of the lines of a list, appended to other nodes.
 use Rattle.std.proofs.Common.{◌⊎◌, inl, inr, ◌↔◌, ◌≡◌, ◌==◌, ℕ, ◌+◌, ◌<◌, ◌≤◌, ◌||◌, List, [], ◌∷◌, ◌++◌, length, take}
 use Rattle.std.proofs.Common.{get_or, eqb, Contains, IsPermutation, sym, ◌∙◌, subst, arith}
 use Rattle.std.specs.List.{dedup}
@@ -82,7 +82,7 @@ module _ (M : Map) (ls : List ℕ) (i x : ℕ) (inside : i < length ls) (is : x 
 pub all_ends : (M : Map) (F ls ns : List ℕ) (i : ℕ) → length ls ≤ i → HasEnds M F (take i ls) ns → HasEnds M F ls ns
 all_ends M F ls ns i h ends = subst (λ (zs : List ℕ). HasEnds M F zs ns) (take_all i ls h) ends
 
--- ---- sorted, and none twice
+-- ---- sorted, without duplicates
 
 pub same_once : (ns sorted once : List ℕ) → IsPermutation ns sorted → once ≡ dedup eqb sorted → (v : ℕ) →
     Contains once v ↔ Contains ns v
@@ -93,7 +93,7 @@ same_once ns sorted once moved is v = (
       (Contains-dedup_nat sorted v (Contains-permutation ns sorted v moved h)),
 )
 
--- what three lists put there, one after the other
+-- what three lists append, one after the other
 pub three_lists : (M : Map) (ls b a xs ys zs : List ℕ) → HasEnds M [] ls xs → HasEnds M xs b ys → HasEnds M ys a zs →
     (v : ℕ) → Contains zs v ↔ (NodeOf M ls v ⊎ (NodeOf M b v ⊎ NodeOf M a v))
 three_lists M ls b a xs ys zs f g h v = (one_of, among)
@@ -113,7 +113,7 @@ three_lists M ls b a xs ys zs f g h v = (one_of, among)
     among (inr (inl n)) = (h v).1 (inl ((g v).1 (inr n)))
     among (inr (inr n)) = (h v).1 (inr n)
 
--- a set that grew by numbers grew by what these stand for
+-- the members of a set to which numbers were added, by what these are
 pub grown_by : (F G once : List ℕ) (Is : ℕ → Type 0) → ((v : ℕ) → Contains once v ↔ Is v) →
     ((v : ℕ) → Contains G v ↔ (Contains F v ⊎ Contains once v)) → (v : ℕ) → Contains G v ↔ (Contains F v ⊎ Is v)
 grown_by F G once Is is grew v = (

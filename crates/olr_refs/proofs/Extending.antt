@@ -1,4 +1,4 @@
--- The extended path, put together of the path and what is taken of the tried chains.
+-- The extended path, composed of the path and the parts of the tried runs.
 use Rattle.std.proofs.Common.{◌⊎◌, ◌↔◌, ◌≡◌, ℕ, ◌+◌, ◌<◌, ◌==◌, Bool, true, false, not, cond, List, [], ◌++◌, length}
 use Rattle.std.proofs.Common.{get_or, Contains, None, IsTrue, refl, ap, ◌∙◌, subst, arith, length-append}
 use Rattle.std.specs.List.{All}
@@ -27,7 +27,7 @@ pub All-from_each : (P : ℕ → Type 0) (xs : List ℕ) → Each P xs → All P
 All-from_each P xs h k d lt =
     h (get_or xs k d) (list_any_at (λ y. y == get_or xs k d) xs k d lt (eq-eqb (get_or xs k d) (get_or xs k d) refl))
 
--- ---- what is taken of a chain, by whether it leads to a valid node
+-- ---- the part of a run, by whether it leads to a valid node
 
 abbrev pub if_valid : Bool → List ℕ → List ℕ
 if_valid valid c = cond valid c []
@@ -50,7 +50,7 @@ module _ (M : Map) (P : Path) (good : IsTrue (is_path P.lines)) (unknown : first
   pub path_known : Each (Known M) P.lines
   path_known = all_known M P.lines unknown
 
-  -- the path with what is taken at its start
+  -- the path, extended at its start
   abbrev pub front : List ℕ
   front = if_valid before_valid b ++ P.lines
 
@@ -100,7 +100,7 @@ module _ (M : Map) (P : Path) (good : IsTrue (is_path P.lines)) (unknown : first
         ap (λ (zs : List ℕ). zs ++ if_valid after_valid a) front_is
         ∙ ap (λ (zs : List ℕ). from_start M P b ++ zs) back_is
 
-    -- what the code puts together is the extended path
+    -- what the code composes is the extended path
     pub extends : (E : Path) (F G : List ℕ) → E.lines ≡ whole → E.pos ≡ P.pos + cond before_valid (dm_of M b) 0 →
         E.neg ≡ P.neg + cond after_valid (dm_of M a) 0 →
         ((v : ℕ) → Contains G v ↔ (Contains F v ⊎ (NodeOf M E.lines v ⊎ (NodeOf M b v ⊎ NodeOf M a v)))) →

@@ -1,4 +1,4 @@
--- What is known of a path whose own lines give no refusal.
+-- What is known of a path for which none of reasons 1 to 3 holds.
 use Rattle.std.proofs.Common.{◌≡◌, ◌<◌, ◌≤◌, ◌-◌, ◌+◌, ◌==◌, ℕ, suc, Bool, true, false, not, List, [], ◌∷◌, length}
 use Rattle.std.proofs.Common.{drop, get_or, Some, None, refl, sym, ap, ◌∙◌, subst, arith, inl, inr}
 use Rattle.std.proofs.lemmas.Bool.{eqb-true, eq-eqb, cases_eq}
@@ -13,7 +13,7 @@ use Rattle.olr_spec.specs.Encoding.{first_unknown, first_break}
 use Rattle.olr_spec.proofs.ListLemmas.{Each, Each-head, Each-tail, has_index}
 use Rattle.olr_refs.proofs.Extending.{Known, all_known}
 
--- what was read at place k is in the map
+-- the line that was read at index k is on the map
 pub each_read : (M : Map) (ls : List ℕ) (k x : ℕ) → first_unknown M ls ≡ None → k < length ls → x ≡ get_or ls k x →
     IsTrue (has_line M x)
 each_read M ls k x e h r =
@@ -51,7 +51,7 @@ no_break_left M ls j h = elim (cases_eq (length ls) (j + 1)) [
   | inr ne ↦ ap (first_break M j) (drop_all j ls (omega arith))
 ]
 
--- the same as the loop has it
+-- no break at k, by the values that the loop reads
 pub no_break_at : (M : Map) (ls : List ℕ) (k a b : ℕ) (r : Bool) → 0 < k → k < length ls →
     a ≡ end M (slice_index ls (k - 1)) → b ≡ start M (slice_index ls k) → r ≡ not (a == b) → r ≡ false
     → first_break M (k - 1) (drop (k - 1) ls) ≡ first_break M k (drop k ls)

@@ -13,22 +13,22 @@ use Rattle.olr_spec.proofs.WalkLemmas.{dm_of-append, line_short}
 use Rattle.olr_spec.proofs.ListLemmas.{Each, Each-cons, Each-nil, has_index}
 use Rattle.olr_refs.specs.Along.{DistancesTo}
 
--- each line of a walk is in the map
+-- each line of a route is on the map
 pub walk_known : (M : Map) (s t : ℕ) (xs : List ℕ) → Walk M s t xs → Each (λ x. IsTrue (has_line M x)) xs
 walk_known M s t [] w = Each-nil _
 walk_known M s t (x ∷ xs) w = Each-cons (λ x. IsTrue (has_line M x)) x xs w.0 (walk_known M (end M x) t xs w.2)
 
--- line k is in the map
+-- line k is on the map
 pub known_at : (M : Map) (ls : List ℕ) (k : ℕ) → AreJoined M ls → k < length ls → IsTrue (has_line M (slice_index ls k))
 known_at M ls k w h = walk_known M _ _ ls w (slice_index ls k) (has_index ls k h)
 
--- the same of what was read there
+-- and so is the line that was read there
 pub known_read : (M : Map) (ls : List ℕ) (k x : ℕ) → AreJoined M ls → k < length ls → x ≡ get_or ls k x →
     IsTrue (has_line M x)
 known_read M ls k x w h e =
     subst (λ y. IsTrue (has_line M y)) (sym (e ∙ get_or_default ls k x 0 h)) (known_at M ls k w h)
 
--- and of what is read there with another default
+-- and the one that is read there with another default
 pub known_get : (M : Map) (ls : List ℕ) (k d : ℕ) → AreJoined M ls → k < length ls → IsTrue (has_line M (get_or ls k d))
 known_get M ls k d w h = known_read M ls k (get_or ls k d) w h (get_or_default ls k d (get_or ls k d) h)
 
@@ -39,7 +39,7 @@ last_index (x ∷ []) h = refl
 last_index (x ∷ y ∷ xs) h = let n : length (x ∷ y ∷ xs) - 1 ≡ suc (length (y ∷ xs) - 1) =
     omega arith in ap (slice_index (x ∷ y ∷ xs)) n ∙ last_index (y ∷ xs) (omega arith)
 
--- both ends of a line of the map are there
+-- both ends of a line of the map are on the map
 pub start_known : (M : Map) → IsMap M → (x n : ℕ) → IsTrue (has_line M x) → n ≡ start M x → IsTrue (has_node M n)
 start_known M m x n h e = subst (λ v. IsTrue (has_node M v)) (sym e) (m.starts x h)
 
@@ -70,7 +70,7 @@ no_distance M ls ds e =
           subst (λ (j : ℕ). slice_index ds j ≡ dm_of M (take j ls)) (sym z) (ap (λ (xs : List ℕ). slice_index xs 0) e);
     }
 
--- the length of one line more
+-- the length of one more line
 pub longer_by : (M : Map) (ls : List ℕ) (k x : ℕ) → k < length ls → x ≡ get_or ls k x →
     dm_of M (take (k + 1) ls) ≡ dm_of M (take k ls) + dm M x
 longer_by M ls k x h r =

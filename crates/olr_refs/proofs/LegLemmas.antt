@@ -19,7 +19,7 @@ use Rattle.olr_refs.specs.Fields.{lowest_class}
 use Rattle.olr_refs.proofs.Joined.{walk_known}
 use Rattle.olr_refs.proofs.Stretches.{dm_stretch}
 
--- each of them is in the map
+-- each of them is on the map
 pub joined_known : (M : Map) (ls : List ℕ) → AreJoined M ls → Each (λ x. IsTrue (has_line M x)) ls
 joined_known M ls w = walk_known M _ _ ls w
 
@@ -33,7 +33,7 @@ leg_at-legs M ls i h = get_or-map (leg M) ls i 0 no_leg h
 pub range_legs : (M : Map) (ls : List ℕ) (i j : ℕ) → slice_range (legs M ls) i j ≡ legs M (stretch ls i j)
 range_legs M ls i j = ap (take (j - i)) (drop-map (leg M) i ls) ∙ take-map (leg M) (j - i) (drop i ls)
 
--- the leg of line i, by its record and the places of its ends
+-- the leg of line i, by its record and the coordinates of its ends
 pub leg_read : (M : Map) (ls : List ℕ) (i : ℕ) (l : Line) (e : Ends) → i < length ls →
     l ≡ line_at M (slice_index ls i) → e.from ≡ place_at M l.from → e.to ≡ place_at M l.to
     → ends.leg_between l e ≡ leg_at (legs M ls) i

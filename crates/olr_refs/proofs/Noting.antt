@@ -1,4 +1,4 @@
--- What a choice of points looks at, and the counts that its searches raise.
+-- The coverage queries of a choice of LRPs, and the counts that its searches raise.
 use Rattle.std.proofs.Common.{◌≡◌, ◌<◌, ◌≤◌, ◌+◌, ◌*◌, ℕ, zero, suc, List, [], ◌∷◌, ◌++◌, length, Contains, refl, sym}
 use Rattle.std.proofs.Common.{ap, ◌∙◌, subst, arith, inl, inr, length-append}
 use Rattle.std.specs.Prelude.{IsTrue, ◌↔◌, nat_lt}
@@ -73,7 +73,7 @@ search_sees M place l s q h there begun far v =
     subst (λ (d : ℕ). Reaches M l.from (limit_of q) v ↔ Reaches M l.from d v) far ((λ r. r), (λ r. r)) in
     ((λ n. to.0 (from.0 (reach.0 n))), (λ r. reach.1 (from.1 (to.1 r))))
 
--- a look leads no farther than points may lie apart
+-- a coverage query reaches no farther than two LRPs may be apart
 pub look_short : (M : Map) (ls : List ℕ) (i k : ℕ) → IsLastTested M ls i k → dm_of M (stretch ls (i + 1) k) ≤ limit
 look_short M ls i k t =
     elim t.needed [
@@ -167,7 +167,7 @@ one_look M place l s n q before after h there begun far c encodings searches set
       );
     }
 
--- ---- looks
+-- ---- coverage queries
 
 zip_append : {X Y : Type 0} (R : X → Y → Type 0) (ws xs : List X) (bs ys : List Y) → AllZip R ws bs → AllZip R xs ys →
     AllZip R (ws ++ xs) (bs ++ ys)
@@ -195,7 +195,7 @@ looks_nowhere M ls i looks w h =
       counts = looked_none M w;
     }
 
--- and else there is one look
+-- and else there is one
 pub looks_once : (M : Map) (ls : List ℕ) (i : ℕ) (look : Look) (old new : List Look) (before after : Work) →
     i + 2 < length ls → IsLook M ls i look → new ≡ old ++ look ∷ []
     → Looked M (look ∷ []) before after → LookedAfter M ls i old new before after
@@ -208,9 +208,9 @@ looks_once M ls i look old new before after h is grown counts =
       counts = counts;
     }
 
--- ---- from point to point
+-- ---- from LRP to LRP
 
--- each of js is next after the one before it, from i on, and k is the last
+-- each of js is the next after the one before it, from i on, and k is the last
 abbrev pub Led : Map → List ℕ → ℕ → List ℕ → ℕ → Type 0
 Led M ls i [] k = i ≡ k
 Led M ls i (j ∷ js) k = Next M ls i j × Led M ls j js k
@@ -228,7 +228,7 @@ led_last : (M : Map) (ls : List ℕ) (i k : ℕ) (js : List ℕ) → Led M ls i 
 led_last M ls i k [] l = l
 led_last M ls i k (j ∷ js) l = led_last M ls j k js l.1
 
--- the points so far, up to the last, which has not been searched from; the looks, and the counts
+-- the LRPs so far, up to the last, from which no search was made yet; the coverage queries, and the counts
 pub record Gone (M : Map) (ls ps : List ℕ) (last : ℕ) (looks : List Look) (before work : Work) : Type 0 where
   pub done : List ℕ
   pub points : List ℕ
@@ -253,7 +253,7 @@ gone_none M ls ps looks w p l =
       counts = subst (λ (xs : List Look). Looked M xs w w) (sym l) (looked_none M w);
     }
 
--- the last point has been searched from too
+-- a search was made from the last LRP too
 each_more : (M : Map) (ls done : List ℕ) (k : ℕ) (old new : List Look) (work after : Work) →
     LooksFrom M ls (looking ls done) old → (a : LookedAfter M ls k old new work after) →
     LooksFrom M ls (looking ls (done ++ k ∷ [])) new
@@ -288,7 +288,7 @@ gone_more M ls ps qs last m old new before work after s a n e =
 
 -- ---- at the end
 
--- what was looked at and counted when the last point has been searched from too
+-- the coverage queries and the counts after a search was made from the last LRP too
 pub record Ended (M : Map) (ls points : List ℕ) (looks : List Look) (before after : Work) : Type 0 where
   pub each : LooksFrom M ls (looking ls (0 ∷ points)) looks
   pub counts : Looked M looks before after
@@ -304,7 +304,7 @@ ended M ls ps last old new before work after s a =
       counts = counts_more M ls last old new before work after s.counts a;
     }
 
--- nothing is searched from the end
+-- no search is made from the end
 pub ended_there : (M : Map) (ls ps : List ℕ) (last : ℕ) (looks : List Look) (before work : Work) →
     (s : Gone M ls ps last looks before work) → length ls ≤ last → Ended M ls s.points looks before work
 ended_there M ls ps last looks before work s h =

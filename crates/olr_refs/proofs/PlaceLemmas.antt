@@ -1,4 +1,4 @@
--- Places and the steps between them.
+-- Coordinates and the steps between them.
 use Rattle.std.proofs.Common.{◌≡◌, ◌∙◌, ap, ◌≤ℤ◌, ℤ, pos, negsuc, sym, subst, arith}
 use Rattle.std.proofs.lemmas.Bool.{and_parts, and_from}
 use Rattle.std.proofs.lemmas.Int.{ints, to_z-of_z}
@@ -11,7 +11,7 @@ use Rattle.olr_spec.specs.Points.{fit16}
 use Rattle.olr_spec.proofs.SectorLemmas.{le_yes, le_test}
 use Rattle.olr_coords.specs.Bounds.{is_degrees}
 
--- a latitude in range lies well within 180 degrees
+-- a latitude in range is well within 180 degrees
 latitude_degrees : (z : ℤ) → IsTrue (is_latitude z) → IsTrue (is_degrees z)
 latitude_degrees z h =
     let p = and_parts (int_le (negsuc 29491167231999) z) (int_le z (pos 29491167232000)) h in
@@ -20,14 +20,14 @@ latitude_degrees z h =
     and_from (int_le (negsuc 58982399999999) z) (int_le z (pos 58982400000000))
     (le_test (negsuc 58982399999999) z (omega (arith, ints))) (le_test z (pos 58982400000000) (omega (arith, ints)))
 
--- the same of the latitude of a place, as it is passed
+-- the latitude of a coordinate, as it is passed, is within 180 degrees
 pub latitude_passed : (p : Coord) (z : ℤ) → SFits w64 z → z ≡ p.lat → IsTrue (is_coord p) →
     IsTrue (is_degrees (to_z w64 (of_z w64 z)))
 latitude_passed p z f e h =
     subst (λ (y : ℤ). IsTrue (is_degrees y)) (sym (to_z-of_z w64 z f ∙ e))
     (latitude_degrees p.lat (and_parts (is_longitude p.lon) (is_latitude p.lat) h).1)
 
--- the second part of what fits
+-- the latitudes fit, which is the second part of the test
 pub latitudes_fit : (p q : Coord) (y z : ℤ) → SFits w64 y → SFits w64 z → y ≡ p.lat → z ≡ q.lat → IsTrue (fit16 p q) →
     IsTrue (fits16 (relative (to_z w64 (of_z w64 y)) (to_z w64 (of_z w64 z))))
 latitudes_fit p q y z f g e d h =
@@ -37,7 +37,7 @@ latitudes_fit p q y z f g e d h =
     subst (λ (x : ℤ). IsTrue (fits16 (relative x (to_z w64 (of_z w64 z))))) (sym first)
     (subst (λ (x : ℤ). IsTrue (fits16 (relative p.lat x))) (sym second) here)
 
--- what a call computes of a number that is passed, as it is stored
+-- what a call computes from a number that is passed, as it is stored
 pub stored : (w : Width) (f : ℤ → ℤ) (z x r : ℤ) → SFits w64 z → z ≡ x → SFits w r → r ≡ f (to_z w64 (of_z w64 z)) →
     to_z w (of_z w r) ≡ f x
 stored w f z x r h e g d = to_z-of_z w r g ∙ d ∙ ap f (to_z-of_z w64 z h ∙ e)

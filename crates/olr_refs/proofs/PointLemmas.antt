@@ -1,4 +1,4 @@
--- The points of a reference, as they are read.
+-- The LRPs of a reference, as they are read.
 use Rattle.std.proofs.Common.{◌≡◌, ◌<◌, ◌≤◌, ◌-◌, ◌+◌, ℕ, zero, suc, ℤ, Option, List, [], ◌∷◌, ◌++◌, length, take, refl}
 use Rattle.std.proofs.Common.{sym, ap, ◌∙◌, subst, arith}
 use Rattle.std.specs.List.{slice_index, AllByRecursion}
@@ -46,7 +46,7 @@ last_read gs h i frc fow bearing dlon dlat g is hx hy hr hf hb =
     let bearing_is : bearing ≡ bearing_back (leg_at gs (i - 1)) = hb ∙ ap bearing_back is in
     λ k. record { dlon = hx k; dlat = hy k; frc = frc_is k; fow = fow_is k; bearing = bearing_is k }
 
--- ---- one point more
+-- ---- one more LRP
 
 one_more : (gs : List Leg) (h i : ℕ) (js : List ℕ) (n : ℕ) → n < length js
     → middle_points gs h i (take (suc n) js) ≡ middle_points gs h i (take n js)
@@ -85,7 +85,7 @@ last_at : (h i : ℕ) (js : List ℕ) → (last_two h i js).1 ≡ slice_index (i
 last_at h i [] = refl
 last_at h i (j ∷ js) = last_at i j js
 
--- the parts of a reference, by the places of the points in their list
+-- the parts of a reference, by the indices of the LRPs in their list
 pub reference_parts : (gs : List Leg) (pos_left neg_left : ℕ) (ks : List ℕ) → 2 ≤ length ks
     → ◌≡◌ {A = Reference}
     (record {
@@ -113,7 +113,7 @@ reference_parts gs pos_left neg_left (p ∷ q ∷ ks) h =
       neg = offset neg_left (dm_between gs (before k) (end k));
     }
 
--- the same of parts that are read, the offsets by distances
+-- the reference whose parts are read, with the offsets by distances
 pub reference_read : (M : Map) (ls ks : List ℕ) (pos_left neg_left : ℕ) (first : First) (middle : List Middle)
     (last : Last) (pos neg : Option ℕ) → 2 ≤ length ks
     → first ≡ first_point (legs M ls) (slice_index ks 0) (slice_index ks 1) → middle ≡ middle_points_of (legs M ls) ks →
@@ -142,7 +142,7 @@ middle_fit M m ls [] w n l = tt
 middle_fit M m ls (h ∷ []) w n l = tt
 middle_fit M m ls (h ∷ i ∷ ks) w n l = middles_fit M m ls (joined_known M ls w) h i ks n l
 
--- where what is left of the offsets is less than the first stretch and less than the last
+-- if the remainders of the offsets are less than the first leg and less than the last
 pub kept_fit : (M : Map) → IsMap M → (ls ds ks : List ℕ) (pos_left neg_left : ℕ) → AreJoined M ls →
     AreDistances M ls ds → AreLinked M ls ks → 2 ≤ length ks
     → distance_at ds ks 0 + pos_left < distance_at ds ks 1 →

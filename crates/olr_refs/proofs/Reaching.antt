@@ -1,4 +1,4 @@
--- The positions that are covered, by one walk along the lines after a position.
+-- The positions that are covered, by one route along the lines after a position.
 use Rattle.std.proofs.Common.{◌≡◌, ◌<◌, ◌≤◌, ◌-◌, ◌+◌, ℕ, min, max, Bool, true, false, List, [], ◌∷◌, ◌++◌, length}
 use Rattle.std.proofs.Common.{take, drop, refl, sym, ap, ◌∙◌, subst, arith, inl, inr}
 use Rattle.std.proofs.lemmas.Bool.{cases_order}
@@ -18,7 +18,7 @@ use Rattle.olr_route.specs.declared.distances.Search.{Search}
 use Rattle.olr_route.specs.Searches.{IsSearch, limit_of}
 use Rattle.olr_refs.specs.Along.{IsFar, IsReach}
 
--- the lines after line i, up to line k, are the sole shortest walk
+-- the lines after line i, up to line k, are the unique shortest path
 abbrev pub SoleTo : Map → List ℕ → ℕ → ℕ → Type 0
 SoleTo M ls i k = Sole M (end M (slice_index ls i)) (start M (slice_index ls k)) (stretch ls (i + 1) k)
 
@@ -33,7 +33,7 @@ sole_start M m ls i w h =
     subst (λ (t : ℕ). Sole M s t []) (next_start M _ _ ls i w h) (empty_sole M m s) in
     subst (Sole M s (start M (slice_index ls (i + 1)))) (empty_stretch ls (i + 1)) there
 
--- one line more
+-- one more line
 sole_on : (M : Map) (ls : List ℕ) (i k : ℕ) → AreJoined M ls → i < k → k + 1 < length ls
     → Sole M (end M (slice_index ls i)) (end M (slice_index ls k)) (stretch ls (i + 1) k ++ slice_index ls k ∷ []) →
     SoleTo M ls i (k + 1)
@@ -54,7 +54,7 @@ sole_off M ls i k w h g r =
     subst (λ (t : ℕ). Sole M s t (stretch ls (i + 1) k ++ slice_index ls k ∷ [])) (sym (next_start M _ _ ls k w g))
     parts
 
--- a shorter walk along the same lines is sole too
+-- a shorter route along the same lines is a unique shortest path too
 sole_shorter : (M : Map) (ls : List ℕ) (i j k : ℕ) → AreJoined M ls → i < j → j ≤ k → k < length ls → SoleTo M ls i k →
     SoleTo M ls i j
 sole_shorter M ls i j k w h g f r =
@@ -69,18 +69,18 @@ sole_shorter M ls i j k w h g f r =
 
 -- ---- what is covered
 
--- a position is covered where the lines up to it, the last line left out, are the sole walk
+-- a position is covered if the lines up to it, without the last line, are the unique shortest path
 covered_by : (M : Map) (ls : List ℕ) (i j m : ℕ) → min j (length ls - 1) ≡ m → SoleTo M ls i m → Covered M ls i j
 covered_by M ls i j m e r = λ h. subst (SoleTo M ls i) (sym e) r
 
 sole_of : (M : Map) (ls : List ℕ) (i j m : ℕ) → min j (length ls - 1) ≡ m → i < m → Covered M ls i j → SoleTo M ls i m
 sole_of M ls i j m e h c = let lt : i < min j (length ls - 1) = omega arith in subst (SoleTo M ls i) e (c lt)
 
--- nothing lies between a position and the last line
+-- there is nothing between a position and the last line
 covered_last : (M : Map) (ls : List ℕ) (i j : ℕ) → length ls ≤ i + 1 → Covered M ls i j
 covered_last M ls i j h = λ lt. absurd (omega arith)
 
--- the lines after i are the sole walk as far as the limit allows
+-- the lines after i are the unique shortest path as far as the limit allows
 pub reach_far : (M : Map) (ls : List ℕ) (i far : ℕ) → AreJoined M ls → IsFar M ls i far →
     (i + 1 ≤ min far (length ls - 1) → SoleTo M ls i (min far (length ls - 1))) → IsReach M ls i far
 reach_far M ls i far w f r =
@@ -102,7 +102,7 @@ reach_far M ls i far w f r =
           (omega arith) (r (omega arith)))
     ]
 
--- they are it up to line k, and no longer with line k
+-- the lines after i are the unique shortest path up to line k, but not with line k
 pub reach_to : (M : Map) (ls : List ℕ) (i far k : ℕ) → AreJoined M ls → IsFar M ls i far
     → i < k → k < min far (length ls - 1) → SoleTo M ls i k → ¬ SoleTo M ls i (k + 1) → IsReach M ls i k
 reach_to M ls i far k w f h g r no_more =
@@ -130,13 +130,13 @@ reach_to M ls i far k w f h g r no_more =
       | inr (inr gt) ↦ absurd (not_near j a b c (omega arith))
     ]
 
--- ---- what is tested last
+-- ---- the last position that is tested
 
 tested_before : (M : Map) (ls : List ℕ) (i k : ℕ) → AreJoined M ls → i < k → k < length ls → SoleTo M ls i k → (m : ℕ) →
     i < m → m ≤ k → Covered M ls i m
 tested_before M ls i k w h g r m a b = covered_by M ls i m m (omega arith) (sole_shorter M ls i m k w a b g r)
 
--- no position is needed behind those that are near enough
+-- no position is needed after those that are within the limit
 needed_most : (M : Map) (ls : List ℕ) (i far : ℕ) → IsFar M ls i far → (m : ℕ) → Needed M ls i m →
     m ≤ min far (length ls - 1)
 needed_most M ls i far f m n =
@@ -150,7 +150,7 @@ needed_far : (M : Map) (ls : List ℕ) (i far k : ℕ) → IsFar M ls i far → 
     Needed M ls i k
 needed_far M ls i far k f h g = let from = f.from in (far, f.upto, f.near far h (omega arith), g)
 
--- none isn't covered
+-- every position is covered
 pub last_far : (M : Map) (ls : List ℕ) (i far k : ℕ) → AreJoined M ls → IsFar M ls i far → i + 1 < length ls →
     k ≡ max (min far (length ls - 1)) (i + 1) → SoleTo M ls i k → IsLastTested M ls i k
 last_far M ls i far k w f h e r =
@@ -166,7 +166,7 @@ last_far M ls i far k w f h e r =
       last = inr (λ m n. let most = needed_most M ls i far f m n in omega arith);
     }
 
--- line k doesn't prolong the sole walk
+-- line k does not extend the unique shortest path
 pub last_to : (M : Map) (ls : List ℕ) (i far k : ℕ) → AreJoined M ls → IsFar M ls i far
     → i < k → k < min far (length ls - 1) → SoleTo M ls i k → ¬ SoleTo M ls i (k + 1) → IsLastTested M ls i (k + 1)
 last_to M ls i far k w f h g r no_more =
@@ -181,7 +181,7 @@ last_to M ls i far k w f h g r no_more =
 
 -- ---- the search
 
--- what the search from the end of line i has told where it is settled to position k
+-- the state of the search from the end of line i when it is settled to position k
 pub record Tests (M : Map) (place : ℕ → ℕ) (ls : List ℕ) (i k : ℕ) (s : Search) : Type 0 where
   pub search : IsSearch M place Along ((end M (slice_index ls i), 0) ∷ []) s
   pub settled : limit_of s ≡ dm_of M (stretch ls (i + 1) k)
@@ -209,7 +209,7 @@ pub settled_on : (M : Map) (ls : List ℕ) (i k old to new : ℕ) → i < k → 
     → new ≡ dm_of M (stretch ls (i + 1) (k + 1))
 settled_on M ls i k old to new h g e f n = let longer = stretch_longer M ls (i + 1) k (omega arith) g in omega arith
 
--- what the test of line k says, as it is read
+-- the result of the test of line k, as it is read
 abbrev pub Extends : Map → (ℕ → ℕ) → Search → ℕ → Bool → Type 0
 Extends M place search line b =
     (s : ℕ) (walk : List ℕ) → IsSearch M place Along ((s, 0) ∷ []) search → Sole M s (start M line) walk →
@@ -242,7 +242,7 @@ not_sole_if M place ls i k line b s w h g e f search settled r t more =
     let is : b ≡ true =
     (extends_at M place ls i k line b s w h g e f search settled r).1 (sole_off M ls i k w h g more) in cc
 
--- where at most one line follows line i, nothing lies between
+-- if at most one line follows line i, there is nothing between
 pub reach_near_end : (M : Map) → IsMap M → (ls : List ℕ) (i far : ℕ) → AreJoined M ls → i < length ls →
     length ls ≤ i + 2 → IsFar M ls i far → IsReach M ls i far
 reach_near_end M m ls i far w h g f =

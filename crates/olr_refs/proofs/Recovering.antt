@@ -1,4 +1,4 @@
--- The reference of an answer is recovered.
+-- Decoders recover the reference of an answer.
 use Rattle.std.specs.Prelude.{IsTrue}
 use Rattle.olr_spec.specs.Map.{Map, IsMap}
 use Rattle.olr_spec.specs.Extension.{Path, is_path}

@@ -33,7 +33,7 @@ use Rattle.olr_refs.specs.Kept.{later}
 use Rattle.olr_refs.specs.Referring.{Joined, JoinsOf, SearchesOf}
 use Rattle.olr_spec.proofs.JoinedLemmas.{extended_joined}
 
--- ---- a path without a fault of its own
+-- ---- a path for which none of reasons 1 to 3 holds
 
 pub whole_joined : (M : Map) (P E : Path) (F G : List ℕ) → IsTrue (is_path P.lines) → path_fault M P ≡ None →
     Extends M P E F G → AreJoined M E.lines
@@ -48,7 +48,7 @@ whole_short M P E F G is none x =
 
 -- ---- the answer
 
--- the points lead to the end, and this is their reference
+-- the LRPs lead to the end, and this is their reference
 pub points_answer : (M : Map) (E : Path) (ls ps : List ℕ) (r : Reference) → ls ≡ E.lines →
     ForPoints M ls (λ js. (last_position 0 js ≡ length ls) × (ps ≡ 0 ∷ js))
     → r ≡ reference (legs M E.lines) E.pos E.neg (later ps) →
@@ -65,7 +65,7 @@ points_answer M E ls ps r e c a =
           (spec.Refused (spec.No_next_point (last_position 0 c.0)))) test),
     )
 
--- what holds of the extension and its points, whatever the tried chains
+-- what holds for the extension and its LRPs, whatever the tried runs
 pub of_path : (M : Map) (P E : Path) (F G : List ℕ) (Q : Path → List ℕ → Type 0) → Extends M P E F G →
     ForPoints M E.lines (Q E) → OfPath M P (λ e _ _ js. Q e js)
 of_path M P E F G Q x a =
@@ -84,7 +84,7 @@ encoding_of M P E F G A x a = of_path M P E F G (λ e js. A ≡ answer_by_points
 
 -- ---- the routes
 
--- the offsets leave some of the extended path
+-- the offsets are shorter than the extended path
 some_left : (M : Map) (P : Path) → path_fault M P ≡ None → (before after : List ℕ) →
     (extended_path M P before after).pos + (extended_path M P before after).neg
     < dm_of M (extended_path M P before after).lines
@@ -95,7 +95,7 @@ some_left M P none before after =
     let less = long_enough M P none in
     omega (arith, dm_of-append M fs a, dm_of-append M b P.lines)
 
--- so at least two points are kept
+-- so at least two LRPs remain
 pub joined : (M : Map) (P : Path) (r : Reference) → path_fault M P ≡ None → Encoding M P (spec.Points r) → Joined M P r
 joined M P r none p =
     let E = extended_path M P p.before p.after in
@@ -114,9 +114,9 @@ pub joins_of : (M : Map) (P : Path) (A : Answer) → path_fault M P ≡ None →
 joins_of M P (Refused f) none p = tt
 joins_of M P (Points r) none p = joined M P r none p
 
--- ---- the own nodes, and the looks
+-- ---- the traversed nodes, and the coverage queries
 
--- the own nodes are those that were noted
+-- the traversed nodes are those that were recorded
 one_own : (M : Map) → IsMap M → (P : Path) → IsTrue (is_path P.lines) → path_fault M P ≡ None → (b a : List ℕ) →
     Tried M P b a → (v : ℕ) → OwnOfExtended M P v → Own M (extended_path M P b a).lines b a v
 one_own M m P is none b a t v own =
@@ -189,7 +189,7 @@ if_both (Err e) P Q R f p q = tt
 
 -- ---- counts
 
--- there is a search for each look
+-- there is one search for each coverage query
 pub searches_looked : (M : Map) (P : Path) (looks : List Look) → LooksOf M P looks → SearchesOf M P (length looks)
 searches_looked M P looks o = by (path_fault M P) o
   where

@@ -1,4 +1,4 @@
--- Stretches of joined lines: they are walks, and one stretch goes on where another ends.
+-- Legs of joined lines: they are routes, and one leg begins where another ends.
 use Rattle.std.proofs.Common.{◌≡◌, ◌<◌, ◌≤◌, ◌-◌, ◌+◌, ℕ, List, ◌++◌, length, take, sym, ap, ◌∙◌, arith}
 use Rattle.std.specs.List.{slice_index}
 use Rattle.olr_spec.specs.Map.{Map}
@@ -19,7 +19,7 @@ dm_stretch M ls ds i j d h g =
     d.each j g ∙ ap (dm_of M) front ∙ dm_of-append M (take i ls) (stretch ls i j)
     ∙ ap (λ (n : ℕ). n + dm_of M (stretch ls i j)) (sym (d.each i (omega arith)))
 
--- a longer stretch is at least as long
+-- a leg with more lines is at least as long
 pub longer_stretch : (M : Map) (ls : List ℕ) (i j k : ℕ) → i ≤ j → j ≤ k →
     dm_of M (stretch ls i j) ≤ dm_of M (stretch ls i k)
 longer_stretch M ls i j k h g = let e =

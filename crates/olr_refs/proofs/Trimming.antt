@@ -1,4 +1,4 @@
--- Which points are kept, by the distances of all positions.
+-- Which LRPs remain, by the distances of all positions.
 use Rattle.std.proofs.Common.{inl, inr, ◌≡◌, ◌<◌, ◌≤◌, ◌-◌, ◌+◌, ℕ, zero, suc, Bool, true, false, cond, List, [], ◌∷◌}
 use Rattle.std.proofs.Common.{length, take, drop, refl, sym, ap, ◌∙◌, subst, arith, nat_le, length-take, length-drop}
 use Rattle.std.proofs.lemmas.Bool.{cases_lt, cases_order, le-leb, lt-leb, and_from}
@@ -17,7 +17,7 @@ use Rattle.olr_refs.specs.Kept.{later, AreAlong, ArePoints, AreLinked, AreTrimme
 use Rattle.olr_refs.specs.Kept.{IsFirstKept, IsLastKept}
 use Rattle.olr_refs.proofs.Stretches.{distances_rise}
 
--- ---- the points
+-- ---- the LRPs
 
 linked_at : (M : Map) (ls ps : List ℕ) → Linked M ls ps → AreLinked M ls ps
 linked_at M ls [] l k h = absurd (omega arith)
@@ -50,7 +50,7 @@ linked_end M ls ps l h =
     subst (λ (n : ℕ). Candidate M ls (slice_index ps (length ps - 1 - 1)) (slice_index ps n)) on
     (l (length ps - 1 - 1) (omega arith))
 
--- neighbours rise, so all do
+-- neighbours ascend, so all do
 pub linked_rise : (M : Map) (ls ps : List ℕ) → AreLinked M ls ps → (j n : ℕ) → suc (j + n) < length ps →
     slice_index ps j < slice_index ps (suc (j + n))
 linked_rise M ls ps l j zero h = let on : suc (j + 0) ≡ j + 1 =
@@ -85,7 +85,7 @@ pub points_some : (M : Map) (ls ps : List ℕ) → ArePoints M ls ps → 0 < len
 points_some M ls ps a = let long : length ps ≡ length (later ps) + 1 =
     ap length a.from_start ∙ omega arith in omega arith
 
--- ---- lists of which a middle part passes
+-- ---- lists of which a middle part passes a test
 
 none_pass : (p : ℕ → Bool) (xs : List ℕ) → ((k : ℕ) → k < length xs → p (slice_index xs k) ≡ false) → filter p xs ≡ []
 none_pass p [] h = refl
@@ -136,7 +136,7 @@ first_where_at p d (x ∷ xs) (suc a) h t f =
     ap (λ (b : Bool). cond b x (first_where p d xs)) (f 0 (omega arith))
     ∙ first_where_at p d xs a (omega arith) t (λ k lt. f (suc k) (omega arith))
 
--- points before a, from a to b, and behind b
+-- LRPs before a, from a to b, and after b
 outside_low : (a b k : ℕ) → k < a → between a b k ≡ false
 outside_low a b k h = grind (arith, nat_tests)
 
@@ -146,7 +146,7 @@ inside_both a b k h g = and_from (nat_le a k) (nat_le k b) (le-leb a k h) (le-le
 outside_high : (a b k : ℕ) → b < k → between a b k ≡ false
 outside_high a b k h = grind (arith, nat_tests)
 
--- ---- what is kept
+-- ---- the remaining LRPs
 
 module _ (M : Map) (ls ds ps : List ℕ) (d : AreDistances M ls ds) (p : ArePoints M ls ps) where
   linked : AreLinked M ls ps
@@ -246,7 +246,7 @@ module _ (M : Map) (ls ds ps : List ℕ) (d : AreDistances M ls ds) (p : ArePoin
       (λ k ge lt. let rise = linked_less M ls ps linked b k (omega arith) lt in
       outside_high A B (slice_index ps k) rise)
 
--- the points that are kept, and what is left of the offsets, give the reference
+-- the remaining LRPs, and the remainders of the offsets, give the reference
 pub record IsCut (M : Map) (ls ds ps : List ℕ) (positive negative : ℕ) (ks : List ℕ) (pos_left neg_left : ℕ) : Type
     0 where
   pub two : 2 ≤ length ks

@@ -14,7 +14,7 @@ pub record DistancesTo (M : Map) (ls : List ℕ) (n : ℕ) (ds : List ℕ) : Typ
 abbrev pub AreDistances : Map → List ℕ → List ℕ → Type 0
 AreDistances M ls ds = DistancesTo M ls (length ls) ds
 
--- k is the greatest position from i on that is within the limit of it
+-- k is the last position, from i on, whose distance from i is within the limit
 pub record IsFarthest (ds : List ℕ) (i k : ℕ) : Type 0 where
   pub from : i ≤ k
   pub upto : k < length ds

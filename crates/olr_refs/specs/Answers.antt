@@ -1,4 +1,4 @@
--- Answers and refusals as those of the specification.
+-- Answers, and the reasons why a path is not encodable, as those of the specification.
 use Rattle.olr_spec.specs.Encoding as spec
 use Rattle.olr_refs.specs.declared.answer.Answer.{Answer}
 use Rattle.olr_refs.specs.declared.answer.Answer.TheVariants.{Points, Refused}

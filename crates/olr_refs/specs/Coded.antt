@@ -1,4 +1,4 @@
--- How a path and a look are coded, for an `impl Model` whose value they are.
+-- How a path and a coverage query are coded, for an `impl Model` whose value they are.
 use Rattle.std.specs.Prelude.{ℕ, List}
 use Rattle.std.specs.Coded.{Coded, code_by, coded_ℕ, coded_list, coded×}
 use Rattle.std.proofs.Common.{refl}

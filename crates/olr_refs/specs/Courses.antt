@@ -1,4 +1,4 @@
--- What a course knows of its lines and distances can be known in one way alone, as the compiler asks of a fact that a
+-- What a value states about its lines and distances has at most one proof, as the compiler requires for a fact that a
 -- value carries.
 use Rattle.std.specs.Prelude.{ℕ, List, [], ◌∷◌}
 use Rattle.std.specs.Coded.{Coded-set, coded_ℕ, coded_bool}

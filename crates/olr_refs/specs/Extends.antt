@@ -1,6 +1,6 @@
--- What moving the ends of a path out to valid nodes answers, and what it notes.
+-- The result of extending the ends of a path to valid nodes, and the nodes that are recorded.
 --     Extends M P E F G      E is the extended path of P, and the set G has the nodes of F, those of E and those of
---         both tried chains
+--         both tried runs
 use Rattle.std.specs.Prelude.{◌≡◌, ℕ, ◌⊎◌, ◌↔◌, List, Contains}
 use Rattle.olr_spec.specs.Map.{Map}
 use Rattle.olr_spec.specs.Extension.{Path, Tried, extended_path}

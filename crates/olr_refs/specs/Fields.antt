@@ -1,6 +1,6 @@
 -- Parts of the fields of a reference.
---     lowest_class gs      the lowest class of some legs, so the greatest number
---     middle_points_of gs ps      the points of ps between the first and the last
+--     lowest_class gs      the lowest class of some legs, which is the greatest number
+--     middle_points_of gs ps      the LRPs of ps between the first and the last
 use Rattle.std.specs.Prelude.{ℕ, max, List, [], ◌∷◌, map, fold}
 use Rattle.olr_spec.specs.Bearings.{Leg}
 use Rattle.olr_spec.specs.Reference.{Middle, middle_points}

@@ -1,6 +1,6 @@
--- What receivers recover from the reference of an answer.
---     RecoveredOf M P A      where the answer has points, every receiver to which each point's own line is distinct
---         recovers the stretches between the points
+-- What decoders recover from the reference of an answer.
+--     RecoveredOf M P A      if the answer has location reference points (LRPs), every decoder for which each LRP's own
+--         line is distinct recovers the legs between them
 use Rattle.std.specs.Prelude.{ℕ, List, ◌↔◌, ⊤}
 use Rattle.olr_spec.specs.Map.{Map}
 use Rattle.olr_spec.specs.Extension.{Path}

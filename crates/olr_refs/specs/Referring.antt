@@ -1,6 +1,6 @@
--- What an encoding answers beside its answer: the routes that join, and the searches that it makes.
---     Joined M P r      r is the reference of at least two points, and the routes between them join to the extended path
---     JoinsOf M P A      where the answer has points, its reference is so
+-- What is known of an encoding beside its answer: the routes that join, and the searches that it makes.
+--     Joined M P r      r is the reference of at least two LRPs, and the routes between them join to the extended path
+--     JoinsOf M P A      if the answer has LRPs, this holds for its reference
 --     SearchesOf M P n      the path is encoded by n searches
 use Rattle.std.specs.Prelude.{◌≡◌, ◌≤◌, ℕ, ◌∷◌, length, MatchOption, ⊤}
 use Rattle.olr_spec.specs.Map.{Map}
@@ -13,7 +13,7 @@ use Rattle.olr_refs.specs.declared.answer.Answer.{Answer}
 use Rattle.olr_refs.specs.declared.answer.Answer.TheVariants.{Points, Refused}
 use Rattle.olr_refs.specs.Choice.{searches_of}
 
--- the points lead to the end of the extended path
+-- the LRPs lead to the end of the extended path
 abbrev pub Joined : Map → Path → Reference → Type 0
 Joined M P r =
     OfPath M P (λ E _ _ js. (r ≡ reference (legs M E.lines) E.pos E.neg js) × (last_position 0 js ≡ length E.lines)

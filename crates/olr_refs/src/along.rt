@@ -14,8 +14,8 @@ use olr_coords::Coord;
 use olr_map::{Line, LineId, MapRead, NodeId};
 use std::alloc::{AllocError, Global};
 
-/// Lines of a map, each of which ends where the next begins, with the distances of their positions: what an encoding
-/// goes along.
+/// Joined lines of a map, each of which ends where the next begins, with the distances of their positions: the lines
+/// along which a path is encoded.
 #[derive(Drop)]
 pub struct Course<'a, M: MapRead> {
     /// The map.
@@ -63,7 +63,7 @@ impl<M: MapRead> Course<'_, M> {
         end_of(self.map, self.lines[k])
     }
 
-    /// The place of position `k`.
+    /// The coordinate of position `k`.
     pub(crate) fn place(&self, k: usize) -> Coord
         requires some { 0 < length self.now.lines.now }
         requires within { k ≤ length self.now.lines.now }
@@ -74,7 +74,7 @@ impl<M: MapRead> Course<'_, M> {
         place_of(self.map, self.node(k))
     }
 
-    /// How far position `j` lies behind position `i`, in decimetres.
+    /// The distance from position `i` on to position `j`, in decimetres.
     pub(crate) fn between(&self, i: usize, j: usize) -> u128
         requires order { i ≤ j }
         requires within { j ≤ length self.now.lines.now }
@@ -85,7 +85,7 @@ impl<M: MapRead> Course<'_, M> {
     }
 }
 
-/// The record of a line that the map has.
+/// The record of a line of the map.
 pub fn line_of<M: MapRead>(map: &M, line: LineId) -> &Line
     requires { IsTrue (has_line (M.map map.now) line) }
     ensures { result.now ≡ line_at (M.map map.now) line }
@@ -93,7 +93,7 @@ pub fn line_of<M: MapRead>(map: &M, line: LineId) -> &Line
     map.line(line).unwrap()
 }
 
-/// The place of a node that the map has.
+/// The coordinate of a node of the map.
 pub fn place_of<M: MapRead>(map: &M, node: NodeId) -> Coord
     requires { IsTrue (has_node (M.map map.now) node) }
     ensures { result ≡ place_at (M.map map.now) node }
@@ -101,7 +101,7 @@ pub fn place_of<M: MapRead>(map: &M, node: NodeId) -> Coord
     map.node(node).unwrap()
 }
 
-/// The distance of each position from the start, in decimetres: 128 bits hold it for any list of lines.
+/// The distance of each position from the start, in decimetres. 128 bits suffice for any list of lines.
 pub fn distances<M: MapRead>(
     alloc: Global,
     map: &M,

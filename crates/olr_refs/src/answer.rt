@@ -1,18 +1,19 @@
-//! The answer of a path on a map: a reference, or why there is none.
+//! The answer of a path on a map: a reference, or the reason why the path is not encodable.
 
 use olr_binary::Reference;
 use olr_map::LineId;
 
-/// Why a path has no reference. The refusals are tried in this order.
+/// Why a path is not encodable. The reasons are tested in this order.
 #[derive(Clone, Copy, Debug, PartialEq, Eq)]
 pub enum Refusal {
-    /// A line of the path is not in the map; the first such.
+    /// Reason 1: a line of the path is not on the map; the first such line.
     UnknownLine(LineId),
-    /// This line of the path, counted from 0, does not end where the next one begins; the first such.
+    /// Reason 2: this line of the path, counted from 0, does not end where the next one begins; the first such line.
     Broken(usize),
-    /// The two offsets together are at least as long as the path.
+    /// Reason 3: the two offsets together are at least as long as the path.
     OffsetTooLong,
-    /// No point can follow the one at this position of the extended path, counted from 0.
+    /// Reason 4: there is no valid next location reference point (LRP) after the one at this position of the extended path,
+    /// counted from 0.
     NoNextPoint(usize),
 }
 
@@ -21,6 +22,6 @@ pub enum Refusal {
 pub enum Answer {
     /// Its reference.
     Points(Reference),
-    /// Why it has none.
+    /// Why it is not encodable.
     Refused(Refusal),
 }

@@ -1,4 +1,4 @@
-//! Chains of lines through passing nodes, which move the ends of a path out to valid nodes.
+//! Runs of degree-two nodes, by which the ends of a path are extended to valid nodes.
 ghost use Rattle.std.specs.Prelude.{◌≡◌, ◌<◌, ◌≤◌, ◌+◌, ◌⊎◌, ℕ, IsTrue, IsFalse, not, if◌then◌else◌, IfOk, IfSome};
 ghost use Rattle.std.specs.Prelude.{IfNone, MatchOption, length, [], ◌∷◌, ◌++◌};
 ghost use Rattle.olr_spec.specs.Map.{has_line, start, end, dm, has};
@@ -13,19 +13,19 @@ use olr_map::{LineId, MapRead};
 use olr_route::GREATEST_LIMIT;
 use std::alloc::{AllocError, Global};
 
-/// A chain of lines that leads through passing nodes to the first line of a list, or from its last one.
+/// A run of degree-two nodes: lines that lead through such nodes to the first line of a list, or from its last one.
 #[derive(Drop, Debug)]
 pub(crate) struct Chain {
     /// The lines, in the order of travel.
     pub(crate) lines: Vec<LineId>,
-    /// Their length together, in decimetres.
+    /// Their total length, in decimetres.
     pub(crate) len: u32,
-    /// Whether the node at the far end is valid; of an empty chain, the node at that end of the list.
+    /// Whether the node at the far end is valid; for an empty run, the node at that end of the list.
     pub(crate) valid: bool,
 }
 
 impl Chain {
-    /// What is taken of the chain, and the length of that: all of it where it leads to a valid node, and else nothing.
+    /// The part by which a path is extended, and its length: the whole run if it leads to a valid node, otherwise nothing.
     pub(crate) fn taken_part(&self) -> (&[LineId], u32)
         ensures lines { result.0.now ≡ (if self.now.valid then self.now.lines.items else []) }
         ensures len { result.1 ≡ (if self.now.valid then self.now.len else 0) }
@@ -38,8 +38,8 @@ impl Chain {
     }
 }
 
-/// The longest chain within the limit that leads to the first of these lines. The valid start of a list, the common
-/// case, takes no memory.
+/// The longest run of degree-two nodes within the limit that leads to the first of these lines. Does not allocate in the
+/// common case, a valid start of the list.
 pub(crate) fn chain_before<M: MapRead>(
     alloc: Global,
     map: &M,
@@ -64,8 +64,8 @@ pub(crate) fn chain_before<M: MapRead>(
     })
 }
 
-/// The longest chain within the limit that leads from the last of these lines. The valid end of a list, the common
-/// case, takes no memory.
+/// The longest run of degree-two nodes within the limit that leads from the last of these lines. Does not allocate in
+/// the common case, a valid end of the list.
 pub(crate) fn chain_after<M: MapRead>(
     alloc: Global,
     map: &M,
@@ -90,7 +90,7 @@ pub(crate) fn chain_after<M: MapRead>(
     })
 }
 
-/// The longest chain before these lines, line by line.
+/// The longest run before these lines, built line by line.
 fn grown_before<M: MapRead>(alloc: Global, map: &M, lines: &[LineId]) -> Result<Chain, AllocError>
     requires some { 0 < length lines.now }
     requires known { IsTrue (has_line (M.map map.now) (first lines.now)) }
@@ -117,7 +117,7 @@ fn grown_before<M: MapRead>(alloc: Global, map: &M, lines: &[LineId]) -> Result<
     })
 }
 
-/// The longest chain behind these lines, line by line.
+/// The longest run after these lines, built line by line.
 fn grown_after<M: MapRead>(alloc: Global, map: &M, lines: &[LineId]) -> Result<Chain, AllocError>
     requires some { 0 < length lines.now }
     requires known { IsTrue (has_line (M.map map.now) (last lines.now)) }
@@ -143,9 +143,9 @@ fn grown_after<M: MapRead>(alloc: Global, map: &M, lines: &[LineId]) -> Result<C
     })
 }
 
-/// The line that a chain of the length `len` grows by at its first line: the one before that, where the list that the
-/// chain leads to lacks it and the chain stays within its limit. No chain meets a line of its own before one of the
-/// list.
+/// The line that extends a run of the length `len` at its first line: the line before that one. None if it is in `used`,
+/// the list to which the run leads, or if the run would exceed its limit. A run never reaches one of its own lines before
+/// one of the list.
 fn step_before<M: MapRead>(map: &M, first: LineId, len: u32, used: &LineSet) -> Option<LineId>
     requires known { IsTrue (has_line (M.map map.now) first) }
     requires within { len ≤ limit }
@@ -162,9 +162,9 @@ fn step_before<M: MapRead>(map: &M, first: LineId, len: u32, used: &LineSet) -> 
     Some(before)
 }
 
-/// The line that a chain of the length `len` grows by at its last line: the one behind that, where the list that the
-/// chain leads from lacks it and the chain stays within its limit. No chain meets a line of its own before one of the
-/// list.
+/// The line that extends a run of the length `len` at its last line: the line after that one. None if it is in `used`,
+/// the list from which the run leads, or if the run would exceed its limit. A run never reaches one of its own lines
+/// before one of the list.
 fn step_after<M: MapRead>(map: &M, last: LineId, len: u32, used: &LineSet) -> Option<LineId>
     requires known { IsTrue (has_line (M.map map.now) last) }
     requires within { len ≤ limit }
@@ -181,8 +181,8 @@ fn step_after<M: MapRead>(map: &M, last: LineId, len: u32, used: &LineSet) -> Op
     Some(behind)
 }
 
-/// The one line that may stand before `next`: it enters the node where `next` begins, which is passing, and doesn't
-/// come from where `next` ends. None where that node is valid.
+/// The one line that may precede `next`: it enters the degree-two node where `next` begins, and does not begin where
+/// `next` ends. None if that node is valid.
 fn line_before<M: MapRead>(map: &M, next: LineId) -> Option<LineId>
     requires { IsTrue (has_line (M.map map.now) next) }
     ensures { MatchOption result ((x : ℕ) → ¬ MayPrecede (M.map map.now) x (next ∷ []))
@@ -199,8 +199,8 @@ fn line_before<M: MapRead>(map: &M, next: LineId) -> Option<LineId>
     None
 }
 
-/// The one line that may stand behind `last`: it leaves the node where `last` ends, which is passing, and doesn't go to
-/// where `last` begins. None where that node is valid.
+/// The one line that may follow `last`: it leaves the degree-two node where `last` ends, and does not end where `last`
+/// begins. None if that node is valid.
 fn line_after<M: MapRead>(map: &M, last: LineId) -> Option<LineId>
     requires { IsTrue (has_line (M.map map.now) last) }
     ensures { MatchOption result ((x : ℕ) → ¬ MayFollow (M.map map.now) (last ∷ []) x)

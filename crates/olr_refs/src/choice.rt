@@ -1,4 +1,4 @@
-//! The choice of the next point after a position.
+//! The choice of the next location reference point (LRP) after a position.
 ghost use Rattle.std.specs.Prelude.{◌≡◌, ℕ, ◌+◌, ◌<◌, ◌≤◌, ◌≢◌, ◌↔◌, IsTrue, MatchOption, length, slice_index};
 ghost use Rattle.olr_spec.specs.Map.{place_at};
 ghost use Rattle.olr_spec.specs.Coordinates.{fits16, relative};
@@ -13,7 +13,7 @@ use olr_coords::{Coord, rel16};
 use olr_map::MapRead;
 use olr_route::GREATEST_LIMIT;
 
-/// The farthest position from `i` on that is at most 150,000 dm from it.
+/// The last position, from `i` on, that is at most 150,000 dm from position `i`.
 fn farthest(distances: &[u128], i: usize) -> usize
     requires within { i < length distances.now }
     requires rising { (j k : ℕ) → j ≤ k → k < length distances.now →
@@ -28,7 +28,7 @@ fn farthest(distances: &[u128], i: usize) -> usize
     distances.len() - 1
 }
 
-/// The farthest position from `i` on that is at most 150,000 dm from it, along a course.
+/// The last position of a path, from `i` on, that is at most 150,000 dm from position `i`.
 pub fn farthest_from<M: MapRead>(course: &Course<M>, i: usize) -> usize
     requires { i < length course.now.lines.now }
     ensures { IsFar (M.map course.now.map.now) course.now.lines.now i result }
@@ -36,7 +36,7 @@ pub fn farthest_from<M: MapRead>(course: &Course<M>, i: usize) -> usize
     farthest(course.distances, i)
 }
 
-/// Whether the difference between two coordinates fits 16 bits.
+/// Whether the difference between two longitudes, or two latitudes, fits 16 bits.
 fn is_close(from: i64, to: i64) -> bool
     requires from { IsTrue (is_degrees from) }
     requires to { IsTrue (is_degrees to) }
@@ -45,15 +45,15 @@ fn is_close(from: i64, to: i64) -> bool
     rel16(from, to).is_some()
 }
 
-/// Whether both differences from one place to another fit 16 bits.
+/// Whether the differences of longitude and latitude from one coordinate to another fit 16 bits.
 fn is_fit(from: Coord, to: Coord) -> bool
     ensures { result ≡ fit16 from to }
 {
     is_close(from.lon(), to.lon()) && is_close(from.lat(), to.lat())
 }
 
-/// The position that follows `i` as a point, where the positions up to `reach` are covered and near enough: the end if
-/// it is one of them and fits; else the last at a valid node that fits; else the last that fits.
+/// The position of the next LRP after `i`, where the positions up to `reach` are covered and within the limit: the end if
+/// it is one of them and fits; else the last at a valid node that fits; else the last that fits. None if none fits.
 pub fn next_of<M: MapRead>(course: &Course<M>, i: usize, reach: usize) -> Option<usize>
     requires some { i < length course.now.lines.now }
     requires reach { IsReach (M.map course.now.map.now) course.now.lines.now i reach }

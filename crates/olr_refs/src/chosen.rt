@@ -15,21 +15,21 @@ use olr_map::{Footprint, MapRead};
 use olr_route::{Direction, Search, Work};
 use std::alloc::{AllocError, Global};
 
-/// The points of an extended path, or why there are none.
+/// The LRPs of an extended path, or why there are none.
 #[derive(Drop, Debug)]
 pub enum Choice {
-    /// The points, from position 0 to the end, by position.
+    /// The LRPs, from position 0 to the end, by position.
     Positions(Vec<usize>),
-    /// No point can follow the point at this position.
+    /// There is no valid next LRP after the one at this position.
     NoNext(usize),
 }
 
-/// The points of an extended path, and what was looked at to find them.
+/// The LRPs of an extended path, and the coverage queries by which they were found.
 #[derive(Drop, Debug)]
 pub struct Chosen {
-    /// The points, or why there are none.
+    /// The LRPs, or why there are none.
     pub choice: Choice,
-    /// One look from each point that two lines or more follow.
+    /// One coverage query from each LRP whose line is followed by two lines or more.
     pub looks: Vec<Look>,
 }
 

@@ -23,22 +23,22 @@ use olr_map::{Footprint, MapRead};
 use olr_route::{Search, Work};
 use std::alloc::{AllocError, Global};
 
-/// The answer of a path on a map, and what it looked at. Where an edit concerns none of that the answer stays.
+/// The answer of a path on a map, and what it depends on. An edit that affects none of that leaves the answer unchanged.
 #[derive(Drop, Debug)]
 pub struct Encoding {
     /// The answer.
     pub answer: Answer,
-    /// The path's own nodes: those of the extended path and of the tried chains. None where the path's own lines are
-    /// refused.
+    /// The traversed nodes: those of the extended path and of the tried runs of degree-two nodes. Empty if one of reasons 1
+    /// to 3 holds.
     pub own: Footprint,
-    /// The looks, in the order of the points that they begin at.
+    /// The coverage queries, in the order of the LRPs where they begin.
     pub looks: Vec<Look>,
 }
 
-/// The encoding of a path on a map, by searches that settle no more than it takes to find the points.
+/// The encoding of a path on a map, by searches that are settled no farther than it takes to find the LRPs.
 ///
-/// One encoding is counted, and one search for each look. After want of memory the work may hold more than before, and
-/// the search has to be begun again.
+/// Counts one encoding, and one search for each coverage query. If an allocation fails, the work may hold more than
+/// before, and the search must be begun again.
 pub fn encode<M: MapRead>(
     alloc: Global,
     map: &M,
@@ -102,7 +102,7 @@ pub fn encode_noting<M: MapRead>(
     }
 }
 
-/// The same for a path whose own lines give no refusal.
+/// The encoding of a path for which none of reasons 1 to 3 holds.
 fn encode_whole<M: MapRead>(
     alloc: Global,
     map: &M,
@@ -126,7 +126,7 @@ fn encode_whole<M: MapRead>(
     Ok(Encoding { answer, own, looks })
 }
 
-/// The answer of an extended path, by its points, and the looks.
+/// The answer of an extended path, by its LRPs, and the coverage queries.
 fn encode_along<M: MapRead>(
     alloc: Global,
     map: &M,
@@ -156,7 +156,7 @@ fn encode_along<M: MapRead>(
     Ok((answer, chosen.looks))
 }
 
-/// The answer by the points that were chosen, where the two offsets, in decimetres, leave some of the lines.
+/// The answer by the chosen LRPs. The two offsets, in decimetres, are together less than the length of the lines.
 fn answer_by<M: MapRead>(
     alloc: Global,
     course: &Course<M>,

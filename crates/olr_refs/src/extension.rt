@@ -1,4 +1,4 @@
-//! Paths with their ends moved out to valid nodes.
+//! Paths whose ends are extended to valid nodes.
 ghost use Rattle.std.specs.Prelude.{◌≡◌, ◌⊎◌, ◌↔◌, ℕ, IsTrue, IfOk, OnOk, OnErr, None, Contains};
 ghost use Rattle.std.specs.List.{All};
 ghost use Rattle.olr_spec.specs.Map.{has_line};
@@ -13,15 +13,15 @@ use olr_map::{Footprint, LineId, MapRead, NodeId};
 use std::alloc::{AllocError, Global};
 use std::marker::Model;
 
-/// A path whose ends were moved out to valid nodes where that could be: chains of lines before it and behind it, each
-/// through passing nodes alone, and offsets that are raised by the lengths of these chains.
+/// A path whose ends are extended to valid nodes where possible: with a run of degree-two nodes before it and one after
+/// it, and with offsets that are raised by the lengths of these runs.
 #[derive(Drop, Debug)]
 pub struct Extended {
     /// The lines, in the order of travel.
     pub lines: Vec<LineId>,
-    /// How much is cut off at the start, in decimetres.
+    /// The length that is cut off at the start, in decimetres.
     pub pos: u64,
-    /// How much is cut off at the end, in decimetres.
+    /// The length that is cut off at the end, in decimetres.
     pub neg: u64,
 }
 
@@ -36,10 +36,10 @@ impl Model for Extended {
     ghost view = { λ e. record { lines = e.lines.items; pos = e.pos; neg = e.neg } };
 }
 
-/// Moves the ends of a path out to valid nodes (White Paper, rules on valid nodes; the limits are the profile's). At
-/// each end the longest chain of at most 15,000 m through passing nodes is tried, and taken where it leads to a valid
-/// node; at the end, what was taken at the start counts as part of the path. Notes the nodes of the extended path and
-/// of both tried chains, and no other; after want of memory the footprint is as before.
+/// Extends the ends of a path to valid nodes (White Paper, rules on valid nodes; the limits are the profile's). At each
+/// end the longest run of degree-two nodes of at most 15,000 m is tried, and added if it leads to a valid node; at the
+/// end, the lines that were added at the start count as part of the path. Adds the nodes of the extended path and of both
+/// tried runs to the footprint, and no others. If an allocation fails, the footprint is unchanged.
 pub fn extend<M: MapRead>(
     alloc: Global,
     map: &M,
@@ -66,7 +66,7 @@ pub fn extend<M: MapRead>(
     })
 }
 
-/// Notes the ends of the lines of an extended path and of both tried chains.
+/// Adds the ends of the lines of an extended path and of both tried runs to the footprint.
 fn note_ends<M: MapRead>(
     alloc: Global,
     map: &M,
@@ -93,7 +93,7 @@ fn note_ends<M: MapRead>(
     footprint.note_all(&nodes)
 }
 
-/// Puts both ends of each of these lines behind the nodes.
+/// Appends both ends of each of these lines to the nodes.
 fn push_ends<M: MapRead>(
     map: &M,
     lines: &[LineId],

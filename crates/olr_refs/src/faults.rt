@@ -1,4 +1,4 @@
-//! The refusals that a path's own lines give.
+//! Reasons 1 to 3 why a path is not encodable, which its own lines and offsets decide.
 ghost use Rattle.std.specs.Prelude.{◌≡◌, ◌≤◌, IsTrue, None, length};
 ghost use Rattle.std.specs.Option.{option_map};
 ghost use Rattle.olr_spec.specs.Walks.{dm_of};
@@ -11,7 +11,7 @@ use crate::lines::{end_of, len_of, start_of, unknown_line};
 use crate::path::Path;
 use olr_map::{LineId, MapRead};
 
-/// The first of the refusals that the path's own lines give.
+/// The first of reasons 1 to 3 that holds for a path. None if none does.
 pub fn path_fault<M: MapRead>(map: &M, path: &Path) -> Option<Refusal>
     ensures fault { option_map refusal_of result ≡ path_fault (M.map map.now) path.now }
     ensures path { IsTrue (is_path path.now.lines) }
@@ -29,7 +29,7 @@ pub fn path_fault<M: MapRead>(map: &M, path: &Path) -> Option<Refusal>
     None
 }
 
-/// The first line that does not end where the next one begins, by its place.
+/// The index of the first line that does not end where the next one begins.
 fn first_break<M: MapRead>(map: &M, lines: &[LineId]) -> Option<usize>
     requires { first_unknown (M.map map.now) lines.now ≡ None }
     ensures { result ≡ first_break (M.map map.now) 0 lines.now }
@@ -42,7 +42,7 @@ fn first_break<M: MapRead>(map: &M, lines: &[LineId]) -> Option<usize>
     None
 }
 
-/// The length of a path's lines together, in decimetres: at most 10^10.
+/// The total length of a path's lines, in decimetres: at most 10^10.
 fn length_of<M: MapRead>(map: &M, lines: &[LineId]) -> u64
     requires known { first_unknown (M.map map.now) lines.now ≡ None }
     requires few { length lines.now ≤ 10000 }

@@ -1,5 +1,5 @@
-//! What is published of the points of an extended path, and of its offsets (White Paper, location reference points and
-//! their attributes).
+//! The fields of a reference: of the location reference points (LRPs) of an extended path, and of its offsets (White
+//! Paper, location reference points and their attributes).
 ghost use Rattle.std.specs.Prelude.{◌≡◌, ℕ, ◌+◌, ◌<◌, ◌≤◌, IsTrue, IfOk, length, slice_index};
 ghost use Rattle.olr_spec.specs.Coordinates.{fits16, relative};
 ghost use Rattle.olr_coords.specs.Bounds.{is_degrees};
@@ -18,12 +18,12 @@ use olr_coords::{Coord, abs24, rel16};
 use olr_map::{Line, LineId, MapRead};
 use std::alloc::{AllocError, Global};
 
-/// A step of the distance to the next point, in decimetres: 58.6 m.
+/// One step of the distance to the next point (DNP), in decimetres: 58.6 m.
 const DISTANCE_STEP: u128 = 586;
-/// So many parts of a stretch are told apart by an offset.
+/// The number of parts of a leg in which an offset is counted.
 const OFFSET_PARTS: u128 = 256;
 
-/// The places of the ends of a line.
+/// The coordinates of the ends of a line.
 fn ends_of<M: MapRead>(map: &M, line: &Line) -> Ends
     requires from { IsTrue (has_node (M.map map.now) line.now.from) }
     requires to { IsTrue (has_node (M.map map.now) line.now.to) }
@@ -36,7 +36,7 @@ fn ends_of<M: MapRead>(map: &M, line: &Line) -> Ends
     }
 }
 
-/// The difference between two coordinates, in relative steps, where it fits 16 bits.
+/// The difference between two longitudes, or two latitudes, in relative steps. It fits 16 bits.
 fn difference(from: i64, to: i64) -> i16
     requires from { IsTrue (is_degrees from) }
     requires to { IsTrue (is_degrees to) }
@@ -49,7 +49,7 @@ fn difference(from: i64, to: i64) -> i16
     difference
 }
 
-/// The differences of longitude and latitude from one place to another, in relative steps.
+/// The differences of longitude and latitude from one coordinate to another, in relative steps.
 fn differences(from: Coord, to: Coord) -> (i16, i16)
     requires { IsTrue (fit16 from to) }
     ensures lon { result.0 ≡ relative from.lon to.lon }
@@ -61,7 +61,7 @@ fn differences(from: Coord, to: Coord) -> (i16, i16)
     )
 }
 
-/// The lowest functional road class of some lines, so the greatest number.
+/// The lowest functional road class of some lines, which is the greatest number.
 fn lowest_class<M: MapRead>(map: &M, lines: &[LineId]) -> u8
     requires { (k : ℕ) → k < length lines.now → IsTrue (has_line (M.map map.now) (slice_index lines.now k)) }
     ensures { result ≡ lowest_class (legs (M.map map.now) lines.now) }
@@ -73,7 +73,7 @@ fn lowest_class<M: MapRead>(map: &M, lines: &[LineId]) -> u8
     lowest
 }
 
-/// The attributes of the point at position `i`, of which the one at position `j` is the next.
+/// The attributes of the LRP at position `i`, where the next one is at position `j`.
 fn attrs<M: MapRead>(course: &Course<M>, i: usize, j: usize) -> Attrs
     requires candidate { Candidate (M.map course.now.map.now) course.now.lines.now i j }
     ensures { result ≡ attrs (legs (M.map course.now.map.now) course.now.lines.now) i j }
@@ -88,7 +88,7 @@ fn attrs<M: MapRead>(course: &Course<M>, i: usize, j: usize) -> Attrs
     }
 }
 
-/// The first point, at position `i`, of which the one at position `j` is the next.
+/// The first LRP, at position `i`, where the next one is at position `j`.
 pub fn first_point<M: MapRead>(course: &Course<M>, i: usize, j: usize) -> First
     requires candidate { Candidate (M.map course.now.map.now) course.now.lines.now i j }
     ensures { result ≡ first_point (legs (M.map course.now.map.now) course.now.lines.now) i j }
@@ -101,7 +101,7 @@ pub fn first_point<M: MapRead>(course: &Course<M>, i: usize, j: usize) -> First
     }
 }
 
-/// The point at position `i`, between those at positions `h` and `j`.
+/// The LRP at position `i`, between those at positions `h` and `j`.
 fn middle_point<M: MapRead>(course: &Course<M>, h: usize, i: usize, j: usize) -> Middle
     requires candidate { Candidate (M.map course.now.map.now) course.now.lines.now h i }
     requires next { Candidate (M.map course.now.map.now) course.now.lines.now i j }
@@ -115,7 +115,7 @@ fn middle_point<M: MapRead>(course: &Course<M>, h: usize, i: usize, j: usize) ->
     }
 }
 
-/// The last point, at position `i`, after the one at position `h`.
+/// The last LRP, at position `i`, after the one at position `h`.
 pub fn last_point<M: MapRead>(course: &Course<M>, h: usize, i: usize) -> Last
     requires candidate { Candidate (M.map course.now.map.now) course.now.lines.now h i }
     ensures { result ≡ last_point (legs (M.map course.now.map.now) course.now.lines.now) h i }
@@ -131,7 +131,7 @@ pub fn last_point<M: MapRead>(course: &Course<M>, h: usize, i: usize) -> Last
     }
 }
 
-/// The points between the first and the last of `points`.
+/// The LRPs between the first and the last of `points`.
 pub fn middle_points<M: MapRead>(
     alloc: Global,
     course: &Course<M>,
@@ -150,8 +150,8 @@ pub fn middle_points<M: MapRead>(
     Ok(middle)
 }
 
-/// What is left of an offset, in 256ths of the stretch that it lies in, rounded down; both are in decimetres. None
-/// where nothing is left (White Paper, binary format; rounding: profile).
+/// The remainder of an offset, in 256ths of the leg on which it ends, rounded down; both are in decimetres. None if the
+/// remainder is 0 (White Paper, binary format; rounding: profile).
 pub fn offset(left: u128, stretch: u128) -> Option<u8>
     requires within { left < stretch }
     requires short { stretch ≤ limit }

@@ -32,9 +32,9 @@ fn with_seen(own: Footprint, seen: Option<Footprint>) -> Result<Footprint, Alloc
     }
 }
 
-/// The answer of a path on a map, and its footprint: the nodes on which the answer rests. On any sound map that has the
-/// same round these nodes, and the same lines of the path, the answer is the same. On this map every receiver to which
-/// each point's own line is distinct recovers the lines between the points.
+/// The answer of a path on a map, and its footprint: the nodes on which the answer depends. On any sound map that is the
+/// same around these nodes, and has the same lines of the path, the answer is the same. On this map every decoder for
+/// which each LRP's own line is distinct recovers the lines between the location reference points (LRPs).
 ///
 /// One encoding is counted, and one search for each look: the searches of the encoding find the footprint. After want
 /// of memory the work may hold more than before.

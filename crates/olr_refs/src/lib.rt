@@ -1,4 +1,4 @@
-//! The encoding of a path: its ends moved out to valid nodes, the points, what the offsets cut off, and the fields.
+//! The encoding of a path: extension of its ends to valid nodes, location reference points (LRPs), trim by the offsets, fields.
 #![tactic(auto)]
 
 mod along;

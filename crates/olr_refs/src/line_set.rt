@@ -1,4 +1,4 @@
-//! The lines of a list, for look-ups.
+//! The lines of a list, for lookups.
 ghost use Rattle.std.specs.Prelude.{◌≡◌, ℕ, IfOk};
 ghost use Rattle.olr_spec.specs.Map.{has};
 
@@ -33,7 +33,7 @@ impl LineSet {
         Ok(LineSet { sorted })
     }
 
-    /// Whether a line is among them, by binary search.
+    /// Whether a line is in the list, by binary search.
     pub(crate) fn has(&self, line: LineId) -> bool
         ensures { result ≡ has self.now line }
     {

@@ -1,11 +1,11 @@
-//! What a map says of a line.
+//! The ends and lengths of lines of a map.
 ghost use Rattle.std.specs.Prelude.{◌≡◌, IsTrue};
 ghost use Rattle.olr_spec.specs.Map.{has_line, start, end, dm};
 ghost use Rattle.olr_spec.specs.Encoding.{first_unknown};
 
 use olr_map::{LineId, MapRead, NodeId};
 
-/// The first of these lines that the map lacks. None where it has them all.
+/// The first of these lines that is not on the map. None if all are.
 pub fn unknown_line<M: MapRead>(map: &M, lines: &[LineId]) -> Option<LineId>
     ensures { result ≡ first_unknown (M.map map.now) lines.now }
 {

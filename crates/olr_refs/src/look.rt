@@ -1,17 +1,17 @@
-//! What an encoding looks at.
+//! Coverage queries.
 
 use olr_map::NodeId;
 use std::marker::Model;
 
-/// A search that an encoding made, to find how far the lines behind a point are the sole shortest walk.
+/// A coverage query: a search of an encoding, which finds how far the lines after an LRP are the unique shortest path.
 #[derive(Clone, Copy, Debug, PartialEq, Eq)]
 pub struct Look {
-    /// Where it began: the end of the point's line.
+    /// The node where it begins: the end of the line of the location reference point (LRP).
     pub from: NodeId,
     /// The node of the last position that it tested.
     pub to: NodeId,
-    /// How far apart these are along the path, in decimetres: at most 150,000. Where the position isn't covered a walk
-    /// may be shorter.
+    /// The distance between these along the path, in decimetres: at most 150,000. If the position is not covered, another
+    /// route may be shorter.
     pub within: u32,
 }
 

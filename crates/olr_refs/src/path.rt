@@ -1,4 +1,4 @@
-//! Paths: the lines that a location follows, and how much of them is cut off at each end.
+//! Paths: the lines of a line location, and the lengths that are cut off at each end.
 ghost use Rattle.std.specs.Prelude.{◌≡◌, ◌<◌, IsTrue, IsFalse, IfOk, OnOk, IsErrOf, not, length, ◌⊎◌};
 ghost use Rattle.olr_spec.specs.Extension.{is_path, none_twice};
 
@@ -10,13 +10,13 @@ use thiserror::Error;
 /// The greatest number of lines of a path (profile).
 pub const MOST_LINES: usize = 10_000;
 
-/// Why a list of lines is no path, or could not be made one.
+/// Why a list of lines is not a path, or could not be made one.
 #[derive(Clone, Copy, Debug, PartialEq, Eq, Error)]
 pub enum PathFault {
     /// The list is empty, has more than 10,000 lines or names a line twice.
     #[error("a path has 1 to 10,000 lines, none twice")]
     BadPath,
-    /// There was no memory for the test.
+    /// Out of memory: an allocation for the test failed.
     #[error("out of memory")]
     Memory,
 }
@@ -31,8 +31,8 @@ impl From<AllocError> for PathFault {
     }
 }
 
-/// From 1 to 10,000 lines, none twice, in the order in which a location follows them, and the two offsets: what is cut
-/// off of the first line and those after it, and of the last line and those before it.
+/// 1 to 10,000 lines, none twice, in the order of travel, and the two offsets: the length that is cut off at the start,
+/// from the first line on, and the length that is cut off at the end, from the last line back.
 #[derive(Drop, Debug)]
 pub struct Path {
     lines: Vec<LineId>,
@@ -55,9 +55,9 @@ impl Model for Path {
 }
 
 impl Path {
-    /// The path along these lines with these offsets, in decimetres. `BadPath` comes only where the list is empty, has
-    /// more than 10,000 lines or names a line twice, and there at worst `Memory` in its place. Where the length alone
-    /// decides no memory is taken.
+    /// The path along these lines with these offsets, in decimetres. Returns `BadPath` only if the list is empty, has more
+    /// than 10,000 lines or names a line twice, and `Memory` if an allocation fails first. The number of lines is tested
+    /// without allocation.
     pub fn new(alloc: Global, lines: Vec<LineId>, pos: u32, neg: u32) -> Result<Path, PathFault>
         ensures ok { IfOk result
             (λ p. p ≡ record {
@@ -84,14 +84,14 @@ impl Path {
         &self.lines
     }
 
-    /// How much is cut off at the start, in decimetres.
+    /// The length that is cut off at the start, in decimetres.
     pub fn pos(&self) -> u32
         ensures { result ≡ self.now.pos }
     {
         self.pos
     }
 
-    /// How much is cut off at the end, in decimetres.
+    /// The length that is cut off at the end, in decimetres.
     pub fn neg(&self) -> u32
         ensures { result ≡ self.now.neg }
     {
@@ -99,7 +99,7 @@ impl Path {
     }
 }
 
-/// Whether some line stands twice, by a sorted copy whose neighbours are compared.
+/// Whether some line is named twice, by comparing the neighbours in a sorted copy.
 fn names_twice(alloc: Global, lines: &[LineId]) -> Result<bool, AllocError>
     ensures { IfOk result (λ twice. none_twice lines.now ≡ not twice) }
 {

@@ -1,4 +1,4 @@
-//! How far the lines after a position are the sole shortest walk.
+//! How far the lines after a position are the unique shortest path.
 ghost use Rattle.std.specs.Prelude.{◌≡◌, ◌+◌, ◌<◌, ◌≤◌, ◌∷◌, [], IfOk, length, slice_index};
 ghost use Rattle.olr_spec.specs.Map.{end};
 ghost use Rattle.olr_spec.specs.Walks.{dm_of};
@@ -13,18 +13,18 @@ use olr_map::MapRead;
 use olr_route::Search;
 use std::alloc::AllocError;
 
-/// How far the lines after a position are the sole shortest walk, and how far that was tested.
+/// How far the lines after a position are the unique shortest path, and how far that was tested.
 #[derive(Clone, Copy)]
 pub struct Tested {
-    /// The last position that is covered and near enough.
+    /// The last position that is covered and within the limit.
     pub reach: usize,
     /// The last position that was tested.
     pub last: usize,
 }
 
-/// Tests the positions from `i` to `far` one after another, by a search that begins at the end of line `i` and is
-/// settled no farther than the position that is asked for, up to the first that isn't covered. Covered positions follow
-/// one another: the beginning of a sole walk is a sole walk.
+/// Tests the positions from `i` to `far` in order, up to the first that is not covered, by a search that begins at the end
+/// of line `i` and is settled no farther than the position that is tested. Covered positions are consecutive, because the
+/// first lines of a unique shortest path are a unique shortest path.
 pub fn covered_to<M: MapRead>(
     course: &Course<M>,
     i: usize,

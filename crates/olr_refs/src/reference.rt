@@ -13,8 +13,8 @@ use olr_binary::Reference;
 use olr_map::MapRead;
 use std::alloc::{AllocError, Global};
 
-/// The reference of the points that are kept, at least two, with what is left of the offsets, in decimetres: less than
-/// the first stretch and less than the last.
+/// The reference of the remaining LRPs, at least two, with the remainders of the offsets, in decimetres: less than the
+/// first leg and less than the last.
 fn reference_by<M: MapRead>(
     alloc: Global,
     course: &Course<M>,
@@ -42,8 +42,8 @@ fn reference_by<M: MapRead>(
     })
 }
 
-/// The reference of the lines of an extended path, by the distances of their positions, the points and the two offsets
-/// in decimetres, which together are shorter than the path.
+/// The reference of the lines of an extended path, by the distances of their positions, the location reference points
+/// (LRPs), and the two offsets in decimetres, which together are shorter than the path.
 pub fn reference_of<M: MapRead>(
     alloc: Global,
     course: &Course<M>,

@@ -1,9 +1,9 @@
-//! Which points are kept when the offsets cut whole stretches off the two ends of a path (White Paper, encoding steps,
-//! trimming; in this form: profile).
+//! Which location reference points (LRPs) remain when the offsets cut off whole legs at the two ends of a path (White
+//! Paper, encoding steps, trimming; in this form: profile).
 ghost use Rattle.std.specs.Prelude.{◌+◌, ◌<◌};
 ghost use Rattle.olr_refs.specs.Kept.{AreAlong, AreTrimmed, IsFirstKept, IsLastKept, whole_distance};
 
-/// The first point that is kept, by its index: the last that lies at most `pos` decimetres from the start.
+/// The index of the first remaining LRP: the last that is at most `pos` decimetres from the start.
 fn first_kept(distances: &[u128], points: &[usize], pos: u64) -> usize
     requires { AreAlong distances.now points.now }
     ensures { IsFirstKept distances.now points.now pos result }
@@ -15,7 +15,7 @@ fn first_kept(distances: &[u128], points: &[usize], pos: u64) -> usize
     first
 }
 
-/// The last point that is kept, by its index: the first that lies at most `neg` decimetres from the end.
+/// The index of the last remaining LRP: the first that is at most `neg` decimetres from the end.
 fn last_kept(distances: &[u128], points: &[usize], neg: u64) -> usize
     requires { AreAlong distances.now points.now }
     ensures { IsLastKept distances.now points.now neg result }
@@ -28,18 +28,18 @@ fn last_kept(distances: &[u128], points: &[usize], neg: u64) -> usize
     last
 }
 
-/// The points that are kept, and what is left of the offsets.
+/// The remaining LRPs, and the remainders of the offsets.
 #[derive(Clone, Copy)]
 pub struct Trimmed<'a> {
-    /// The points that are kept.
+    /// The remaining LRPs.
     pub points: &'a [usize],
-    /// What is left of the positive offset, in decimetres.
+    /// The remainder of the positive offset, in decimetres.
     pub pos: u128,
-    /// What is left of the negative offset, in decimetres.
+    /// The remainder of the negative offset, in decimetres.
     pub neg: u128,
 }
 
-/// Cuts the offsets, in decimetres, off the two ends of a path, of which they leave some.
+/// Cuts the offsets, in decimetres, off the two ends of a path. Together they are shorter than the path.
 pub fn trim<'a>(distances: &[u128], points: &'a [usize], pos: u64, neg: u64) -> Trimmed<'a>
     requires along { AreAlong distances.now points.now }
     requires long { pos + neg < whole_distance distances.now }

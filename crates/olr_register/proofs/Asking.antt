@@ -43,7 +43,7 @@ whole_published M (i ∷ is) name made =
       | false ↦ whole_published M is name made.1
     ]
 
--- the text that is kept is that of the answer
+-- the stored text is that of the answer
 pub text_published : (M : Map) (is : List Item) (name : List ℕ) (text : Option (List ℕ)) → AreEncodings M is
     → text ≡ option_and_then (λ (A : Answer). result_ok (published_text A)) (answer_in is name) →
     PublishedText (record { map = M; paths = all_named is }) name text
@@ -53,7 +53,7 @@ pub names_of_all : (is : List Item) → map (λ (p : Named). p.name) (all_named 
 names_of_all [] = refl
 names_of_all (i ∷ is) = ap (λ (ns : List (List ℕ)). i.name ∷ ns) (names_of_all is)
 
--- ---- of a register whose content this is
+-- ---- of a register with this content
 
 pub answer_is : (M : Map) (is : List Item) (c : Content) (name : List ℕ) (o : Option Answer) →
     record { map = M; paths = all_named is } ≡ c → AreEncodings M is
@@ -83,7 +83,7 @@ name_is M is c k e =
     ap (λ (ns : List (List ℕ)). slice_get ns k) (sym (names_of_all is)
     ∙ ap (λ (d : Content). map (λ (p : Named). p.name) d.paths) e)
 
--- ---- where every path was encoded
+-- ---- if every path was encoded
 
 pub some_answer_in : (M : Map) (is : List Item) (name : List ℕ) → AreEncodings M is →
     is_some (path_named (all_named is) name) ≡ true → (A : Answer) × (answer_in is name ≡ Some A)
@@ -131,7 +131,7 @@ all_published M is c xs e made there =
     subst (λ (d : Content). AllPublished d xs) e
     (subst (HaveEncodings M (all_named is)) (sym there) (with_encodings M is made))
 
--- ---- the footprint of a path, where no batch is open
+-- ---- the footprint of a path, with no batch open
 
 abbrev pub FootprintIn : Content → List ℕ → Option (List ℕ) → Type 0
 FootprintIn c name o =

@@ -1,4 +1,4 @@
--- Committing a batch, as the register's parts have it.
+-- Committing a batch, in terms of the register's parts.
 use Rattle.std.proofs.Common.{◌≡◌, ℕ, ◌+◌, ◌<◌, ◌≤◌, ◌^◌, true, false, not, List, map, length, Option, Some, None, Ok}
 use Rattle.std.proofs.Common.{Err, refl, sym, ap, ◌∙◌, subst}
 use Rattle.std.proofs.lemmas.Bool.{eq-eqb, ne_eqb}
@@ -34,7 +34,7 @@ use Rattle.olr_register.proofs.Outcomes.{answered_refused}
 use Rattle.olr_register.proofs.BatchStates.{state, in_batch}
 use Rattle.olr_register.proofs.BatchEnds.{answered_at}
 
--- ---- refused
+-- ---- rejected
 
 pub count_refused : (roads : RoadMap) (is : List Item) (o : Option Batch) (b : Batch) (w : Tally) (n : ℕ) → o ≡ Some b →
     (b.count ≡ n → ⊥)
@@ -48,7 +48,7 @@ count_refused roads is o b w n e other =
     (Ok (state (after (content_on (map_before roads b.log) is) xs) None)))
     (ne_eqb (length xs) n (λ h. other (i.count ∙ h)))))))
 
--- the step where the count is right
+-- the step with the right count
 right_count : (c : Content) (xs : List Change) (n : ℕ) → length xs ≡ n →
     step (state c (Some xs)) (Commit n) ≡ Ok (state (after c xs) None)
 right_count c xs n e = ap (λ t. when (not t) Count_differs (Ok (state (after c xs) None))) (eq-eqb (length xs) n e)
@@ -65,7 +65,7 @@ commit_lacks roads is ks o b w v n e count same same_work =
     (in_batch c (batch_of roads is b) (λ a. IsRefusal a (Commit n) Memory)
     (λ xs i. Lacks refl (ap may_want (right_count c xs n (sym i.count ∙ count))))))
 
--- the list is as it was
+-- the list is unchanged
 pub lacks_held : (roads : RoadMap) (is ks : List Item) (o : Option Batch) (b : Batch) → o ≡ Some b → ks ≡ is →
     IsRegister roads is o → IsRegister roads ks (Some b)
 lacks_held roads is ks o b e same reg =
@@ -78,7 +78,7 @@ pub commit_from : (roads : RoadMap) (is : List Item) (o : Option Batch) (b : Bat
     IsRegister roads is o → IsHeld roads is b
 commit_from roads is o b e reg = let was : IsRegister roads is (Some b) = subst (IsRegister roads is) e reg in was.held
 
--- what the renewal asks for
+-- what a renewal requires
 pub commit_before : (roads : RoadMap) (is : List Item) (o : Option Batch) (b : Batch) → o ≡ Some b →
     IsRegister roads is o
     → IsBefore (map_before roads b.log) (map_of roads) (nodes_of b.touched) (lines_of b.touched) (changed_of b.touched)
@@ -122,7 +122,7 @@ commit_held roads new is js o p b e g reg same remade names =
       held = tt;
     })
 
--- how many a commit counts
+-- how many encodings a commit counts
 commit_raises : (roads new : RoadMap) (is js : List Item) (b : Batch) (n many : ℕ) →
     all_named js ≡ all_named (under_overlay is b.overlay)
     → CountIs (IsConcerned (map_before roads b.log) (nodes_of b.touched) (lines_of b.touched))

@@ -1,4 +1,4 @@
--- Opening a batch, its two ends and the changes between, as the register's parts have them.
+-- Opening a batch, ending it, and the changes between, in terms of the register's parts.
 use Rattle.std.proofs.Common.{◌≡◌, ℕ, arith, true, false, List, [], ◌∷◌, map, Option, Some, None, is_some, Result, Ok}
 use Rattle.std.proofs.Common.{Err, refl, sym, ap, ◌∙◌, subst}
 use Rattle.std.specs.Prelude.{is_none}
@@ -36,14 +36,14 @@ use Rattle.olr_register.proofs.Outcomes.{answered_refused}
 use Rattle.olr_register.proofs.BatchStates.{state, register_of, in_batch, no_batch, begin_answered, abort_answered}
 use Rattle.olr_register.proofs.BatchSteps.{answered_given}
 
--- where the batch is known
+-- with the batch given by an equation
 pub answered_at : (old : RoadMap) (is : List Item) (o p : Option Batch) (w : Tally) (x : Command)
     (result : Result Reply CommandFault) (new : Registered)
     → o ≡ p → Answered (of_parts old is p w) x result new → Answered (of_parts old is o w) x result new
 answered_at old is o p w x result new e h =
     subst (λ (q : Option Batch). Answered (of_parts old is q w) x result new) (sym e) h
 
--- ---- none is open
+-- ---- no batch is open
 
 pub none_refused : (old : RoadMap) (is : List Item) (o p : Option Batch) (w : Tally) (x : Command) (f : CommandFault)
     → o ≡ None → p ≡ None → step (state (content_on (map_of old) is) None) x ≡ Err (command_fault_of f) →
@@ -67,7 +67,7 @@ abort_done old new is o p b w r e g empty same =
     (abort_answered c (content_on (map_of new) is) (batch_of old is b) w r empty
     (ap (λ (M : Map). content_on M is) same)))
 
--- the numbers too
+-- the distance bounds are still right
 pub abort_held : (old new : RoadMap) (is : List Item) (o p : Option Batch) (b : Batch) (near : Nearness) → o ≡ Some b
     → p ≡ None → map_of new ≡ map_before old b.log → IsKeptRight old is o near → IsKeptRight new is p near
 abort_held old new is o p b near e g same h =
@@ -81,7 +81,7 @@ abort_held old new is o p b near e g same h =
       numbered = subst (λ (M : Map). IsNumbered M is near) (sym same) was.numbered;
     })
 
--- ---- a change that is given
+-- ---- a change in an open batch
 
 pub given_answered : (old new : RoadMap) (is : List Item) (o p : Option Batch) (b d : Batch) (w : Tally) (x : Change)
     (r : Result Reply CommandFault) → o ≡ Some b → p ≡ Some d
@@ -121,7 +121,7 @@ open_refused old is (Some b) w e =
     (in_batch (content_on (map_before old b.log) is) (batch_of old is b) (λ s. IsRefusal s Begin Batch_open)
     (λ xs i. Told refl))
 
--- a batch that holds nothing
+-- a batch without changes
 pub record IsEmpty (b : Batch) : Type 0 where
   pub log : log_changes b.log ≡ []
   pub paths : (js : List Item) → under_overlay js b.overlay ≡ js

@@ -1,4 +1,4 @@
--- What a call answers, from what holds of each state in which the register stands, with a batch open or with none.
+-- What a call answers, from what is true of each state that the register represents, with a batch open or not.
 use Rattle.std.proofs.Common.{◌≡◌, List, [], Option, Some, None, Ok, refl, sym, subst}
 use Rattle.olr_commands.specs.State.{Content, Change, State, Begin, Abort, changes_made}
 use Rattle.olr_commands.specs.Reply as replies
@@ -17,7 +17,7 @@ state c o = record { content = c; batch = o }
 abbrev pub register_of : Content → Option Batch → Tally → Registered
 register_of c o w = record { kept = record { content = c; batch = o }; work = w.work; spared = w.spared }
 
--- ---- the states in which a register stands
+-- ---- the states that a register represents
 
 pub in_batch : (c : Content) (b : Batch) (P : State → Type 0) →
     ((xs : List Change) → IsBatchOf c b xs → P (state c (Some xs)))

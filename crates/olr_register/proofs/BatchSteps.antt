@@ -1,4 +1,4 @@
--- One more change in an open batch, as the definitions of commands see it.
+-- One more change in an open batch, in terms of the definitions of commands.
 use Rattle.std.proofs.Common.{◌≡◌, ℕ, suc, arith, Bool, true, false, not, List, [], ◌∷◌, ◌++◌, length, Some, Result, Ok}
 use Rattle.std.proofs.Common.{Err, refl, sym, ap, ◌∙◌, subst, append_assoc}
 use Rattle.std.specs.Prelude.{◌==◌, ◌&&◌, ◌||◌, nat_le, flat_map}
@@ -23,7 +23,7 @@ use Rattle.olr_register.proofs.Tallies.{Tally}
 use Rattle.olr_register.proofs.Outcomes.{answered_uncounted, answered_refused}
 use Rattle.olr_register.proofs.BatchStates.{state, register_of, in_batch}
 
--- ---- what is held, with one change more
+-- ---- the held changes, with one more
 
 nodes_push : (c : Content) (xs : List Change) (x : Change) →
     all_nodes c (xs ++ x ∷ []) ≡ all_nodes c xs ++ nodes_of_change (after c xs).map x

@@ -1,4 +1,4 @@
--- How many paths the changes concern, counted by what was made of them; none, where there are no changes.
+-- How many paths the changes affect, counted by the stored results; none if there are no changes.
 use Rattle.std.proofs.Common.{inl, inr, ◌≡◌, ℕ, true, List, [], ◌∷◌, map, Option, Some, None, refl, sym, ap, ◌∙◌, subst}
 use Rattle.std.specs.Prelude.{is_none}
 use Rattle.std.specs.List.{list_any, AllByRecursion}
@@ -40,7 +40,7 @@ module _ (c : Content) (changes : List Change) (ns xs : List ℕ)
   counted_changes (i ∷ is) n given (inr h) =
       inr ((λ k. h.0 (made_by_concerns i given.0 k)), counted_changes is n given.1 h.1)
 
--- ---- a count of none
+-- ---- a count of 0
 
 pub none_counted : {A : Type 0} (P : A → Type 0) → ((x : A) → ¬ P x) → (xs : List A) → CountIs P xs 0
 none_counted P none [] = refl

@@ -17,7 +17,7 @@ follows_add before (i ∷ is) name path f = (f.0, follows_add before is name pat
 abbrev FollowsAt : List Item → Item → Type 0
 FollowsAt before i = (i.made ≡ None) ⊎ (answer_in before i.name ≡ answer_made i.made)
 
--- the one of that name by what was made of it
+-- the path of that name is replaced, together with its results
 follows_put : (before is : List Item) (name : List ℕ) (path : Path) (made : Option Made) →
     ((i : Item) → same_name i.name name ≡ true → FollowsAt before (record { name = i.name; path = path; made = made }))
     → Follows before is → Follows before (map (set_item name path made) is)
@@ -36,7 +36,7 @@ pub follows_set : (before is : List Item) (name : List ℕ) (path : Path) → Fo
     Follows before (map (set_item name path None) is)
 follows_set before is name path f = follows_put before is name path None (λ i e. inl refl) f
 
--- set to a path of the same answer
+-- replaced by a path with the same answer
 pub follows_same : (before is : List Item) (name : List ℕ) (path : Path) (m : Made) →
     answer_in before name ≡ Some m.answer → Follows before is → Follows before (map (set_item name path (Some m)) is)
 follows_same before is name path m same f =
@@ -52,7 +52,7 @@ follows_drop before (i ∷ is) name f =
     Follows before (cond b (i ∷ filter (λ j. not (same_name j.name name)) is)
     (filter (λ j. not (same_name j.name name)) is))) [ true ↦ (f.0, rest) | false ↦ rest ]
 
--- where each was encoded, nothing is told
+-- if each path was encoded, nothing is reported
 pub follows_untold : (M : Map) (before js : List Item) → AreEncodings M js → Follows before js → Reported before js []
 follows_untold M before [] a f = refl
 follows_untold M before (j ∷ js) a f =

@@ -1,4 +1,4 @@
--- What an open batch makes of a change, as its parts have it.
+-- What an open batch makes of a change, in terms of its parts.
 use Rattle.std.proofs.Common.{inl, inr, ◌⊎◌, ◌≡◌, ℕ, ◌+◌, arith, Bool, true, false, not, List, [], ◌∷◌, ◌++◌, map}
 use Rattle.std.proofs.Common.{filter, None, Result, Ok, Err, refl, sym, ap, ◌∙◌, subst}
 use Rattle.std.specs.Prelude.{◌||◌, nat_le}
@@ -51,7 +51,7 @@ of_batch M is = content_from M (map kept.named_held (map held_of is))
 same_content : (M : Map) (is : List Item) → of_batch M is ≡ content_on M is
 same_content M is = ap (content_from M) (named_twice is)
 
--- ---- refused
+-- ---- rejected
 
 pub told_first : (b d : kept.Batch) (x : Change) (f : CommandFault) → nat_le full b.count ≡ false →
     with_change (content_of b) x ≡ Err (command_fault_of f) → d ≡ b → Given b x (Err f) d
@@ -121,7 +121,7 @@ given_held_path M is js ks n ns ys x r room e same no_nodes no_lines given told 
       unchanged = tt;
     }
 
--- ---- the changes of paths
+-- ---- changes of paths
 
 pub add_ok : (M : Map) (is : List Item) (name : List ℕ) (path : Path) → has_name is name ≡ false →
     is_path path.lines ≡ true
@@ -150,7 +150,7 @@ drop_ok M is name there =
     (Ok (content_from M (filter (λ p. not (same_name p.name name)) (all_named is))))) there
     ∙ ap (λ (ps : List Named). Ok (content_from M ps)) (sym (names_drop name is))
 
--- the name decides first
+-- the fault of the name takes precedence
 pub add_taken : (M : Map) (is : List Item) (name : List ℕ) (path : Path) → has_name is name ≡ true →
     with_change (content_on M is) (Add_path name path) ≡ Err Path_exists
 add_taken M is name path e =
@@ -170,7 +170,7 @@ drop_missing M is name e =
     ap (λ (t : Bool). when (not t) No_path
     (Ok (content_from M (filter (λ p. not (same_name p.name name)) (all_named is))))) e
 
--- then the path
+-- then that of the path
 pub add_path_only : (M : Map) (is : List Item) (name : List ℕ) (path : Path) → has_name is name ≡ false
     → with_change (content_on M is) (Add_path name path) ≡ when (not (is_path path.lines)) Bad_path
     (Ok (content_from M (all_named is ++ record { name = name; path = path } ∷ [])))
@@ -190,7 +190,7 @@ pub bad_path_last : (b : Bool) (c : Content) (g : Fault) → when b Bad_path (Ok
 bad_path_last true c g e = let same : Bad_path ≡ g = cc in ap is_told_first (sym same)
 bad_path_last false c g e = absurd cc
 
--- a path that is there is dropped, unless memory lacks
+-- a path with this name is dropped, unless out of memory
 never_refused : (c : Content) (g : Fault) → ◌≡◌ {A = Result Content Fault} (Ok c) (Err g) → is_told_first g ≡ false
 never_refused c g e = absurd cc
 
@@ -240,7 +240,7 @@ held_path roads before b l js x same room e placed made follows begins h =
       begins = λ v on. h.begins v (begins v (subst (λ (is : List Item). Begins is v) same on));
     }
 
--- ---- one path more, and another one
+-- ---- a new path, and a replaced one
 
 pub given_bad_path : (M : Map) (is : List Item) (n : ℕ) (ns ys : List ℕ) (x : Change) (to : Content) (lines : List ℕ)
     (f : CommandFault) → nat_le full n ≡ false

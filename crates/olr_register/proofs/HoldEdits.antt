@@ -1,4 +1,4 @@
--- What an open batch makes of an edit, as its parts have it.
+-- What an open batch makes of an edit, in terms of its parts.
 use Rattle.std.proofs.Common.{◌≡◌, ℕ, ◌+◌, arith, Bool, false, List, ◌++◌, Result, Ok, Err, sym, ap, ◌∙◌, subst}
 use Rattle.std.specs.Prelude.{◌||◌, nat_le}
 use Rattle.std.proofs.lemmas.Bool.{leb-false}
@@ -24,7 +24,7 @@ use Rattle.olr_register.specs.declared.batch.Batch.{Batch}
 use Rattle.olr_register.proofs.Noted.{noted_more}
 use Rattle.olr_register.proofs.HoldChanges.{batch_on, told_first, told_memory}
 
--- ---- refused
+-- ---- rejected
 
 pub edit_told : (b d : kept.Batch) (e : Edit) (f : CommandFault) (g : MapFault) → nat_le full b.count ≡ false →
     edited b.map e ≡ Err g → command_fault_of f ≡ Map_fault g → d ≡ b → Given b (On_map e) (Err f) d
@@ -41,7 +41,7 @@ pub edit_lacks : (b d : kept.Batch) (e : Edit) (f : CommandFault) (N : Map) → 
 edit_lacks b d e f N room ok lacks same =
     told_memory b d (On_map e) f room lacks (λ g h. no_first (content_of b) (edited b.map e) N g ok h) same
 
--- what a batch comes to where map and touched stayed
+-- the batch is the same if map and touched nodes and lines are
 pub same_batch : (old new : RoadMap) (before : List Item) (b : Batch) (log : UndoLog) (t : Touched) →
     map_of new ≡ map_of old → nodes_of t ≡ nodes_of b.touched → lines_of t ≡ lines_of b.touched
     → batch_of new before (record { log = log; overlay = b.overlay; count = b.count; touched = t })

@@ -1,4 +1,4 @@
--- The paths of an open batch as commands see them, and which of them it gave, after one more change.
+-- The paths of an open batch in terms of commands, and which of them it added or replaced, after one more change.
 use Rattle.std.proofs.Common.{◌≡◌, ℕ, Bool, true, false, cond, not, List, [], ◌∷◌, ◌++◌, map, filter, None, is_some}
 use Rattle.std.proofs.Common.{refl, sym, ap, ◌∙◌, subst}
 use Rattle.std.specs.Prelude.{◌||◌, is_none}
@@ -21,7 +21,7 @@ pub named_twice : (is : List Item) → map named_held (map held_of is) ≡ all_n
 named_twice [] = refl
 named_twice (i ∷ is) = ap (λ (ps : List Named). named_of i ∷ ps) (named_twice is)
 
--- ---- one name more
+-- ---- with one name more
 
 one_name : (q name : List ℕ) (names : List (List ℕ)) (b : Bool) → same_name q name ≡ b →
     list_any (same_name q) (names ++ name ∷ []) ≡ (list_any (same_name q) names || b)

@@ -1,4 +1,4 @@
--- One path more, another one or one less: the list as commands see it, and what was made of its paths.
+-- A list with a path added, replaced or dropped: in terms of commands, and the results of its paths.
 use Rattle.std.proofs.Common.{◌≡◌, ℕ, true, false, cond, not, List, [], ◌∷◌, ◌++◌, map, filter, Option, Some, None}
 use Rattle.std.proofs.Common.{refl, ap}
 use Rattle.std.specs.Prelude.{IfSome}
@@ -37,7 +37,7 @@ names_drop name (i ∷ is) =
       | false ↦ rest
     ]
 
--- ---- what was made
+-- ---- results
 
 pub made_add : (M : Map) (is : List Item) (name : List ℕ) (path : Path) (m : Made) → AreEncodings M is →
     IsEncodingOf M path m → AreEncodings M (is ++ record { name = name; path = path; made = Some m } ∷ [])
@@ -67,7 +67,7 @@ made_drop M (i ∷ is) name a =
     AreEncodings M (cond b (i ∷ filter (λ j. not (same_name j.name name)) is)
     (filter (λ j. not (same_name j.name name)) is))) [ true ↦ (a.0, rest) | false ↦ rest ]
 
--- ---- in a batch, where a path that is given is not encoded yet
+-- ---- in a batch, where a path that it added or replaced is not encoded yet
 
 pub any_add : (M : Map) (is : List Item) (name : List ℕ) (path : Path) → AreEncodingsIfAny M is →
     AreEncodingsIfAny M (is ++ record { name = name; path = path; made = None } ∷ [])

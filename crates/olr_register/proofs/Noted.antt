@@ -1,4 +1,4 @@
--- What is noted of edits: the maps before and after them differ in nothing else.
+-- What is recorded of edits: the maps before and after them have no other difference.
 use Rattle.std.proofs.Common.{inl, inr, ◌≡◌, ◌==◌, ℕ, false, true, List, [], ◌∷◌, ◌++◌, Ok, Contains, sym, ◌∙◌, subst}
 use Rattle.std.proofs.Common.{arith}
 use Rattle.std.specs.Prelude.{◌||◌}
@@ -39,12 +39,12 @@ starts_of M (Set_line x frc fow len shape) c k =
     starts_of_one (start M x ∷ end M x ∷ []) _ c (has_here (start M x) (end M x ∷ [])) k
 starts_of M (Drop_line x) c k = starts_of_one (start M x ∷ end M x ∷ []) _ c (has_here (start M x) (end M x ∷ [])) k
 
--- ---- no edit, and one more
+-- ---- no edit, and one edit more
 
 pub noted_none : (M : Map) → AreEditsNoted M M [] [] []
 noted_none M = record { difference = none_differs M; starts = λ c k. absurd (none_contained c k) }
 
--- what the lists hold is what counts
+-- a node or line outside the combined list is in neither part
 held_by : (ms ns us : List ℕ) (v : ℕ) → has ms v ≡ (has ns v || has us v) → has ms v ≡ false → has (ns ++ us) v ≡ false
 held_by ms ns us v e off = list_any-append (λ y. y == v) ns us ∙ sym e ∙ off
 
@@ -71,14 +71,14 @@ noted_more L M N e ns xs ms ys cs ds was ok nodes lines changes =
       ];
     })
 
--- one edit alone
+-- a single edit
 pub noted_edit : (M N : Map) (e : Edit) (ns xs : List ℕ) (cs : List ChangedLine) → edited M e ≡ Ok N
     → ((v : ℕ) → has ns v ≡ has (touched_nodes M e) v) → ((x : ℕ) → has xs x ≡ has (touched_lines e) x) →
     cs ≡ changes_of M e → AreEditsNoted M N ns xs cs
 noted_edit M N e ns xs cs ok nodes lines changes =
     noted_more M M N e [] [] ns xs [] cs (noted_none M) ok nodes lines changes
 
--- ---- what a renewal asks
+-- ---- what a renewal requires
 
 are_paths : (is : List Item) → ArePaths (all_named is) → AllByRecursion (λ i. is_path i.path.lines ≡ true) is
 are_paths [] p = tt

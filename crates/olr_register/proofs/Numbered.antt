@@ -1,4 +1,5 @@
--- The numbers of nodes that a register keeps: right on its map, with a source where each look of its list begins.
+-- The distance bounds that a register stores: right on its map, with a source where each coverage query of its list
+-- begins.
 use Rattle.std.proofs.Common.{inl, inr, ◌≡◌, ℕ, ◌⊎◌, false, List, [], ◌∷◌, ◌++◌, map, Contains, Option, Some, None}
 use Rattle.std.proofs.Common.{is_some, Ok, IsFalse, sym, ap, ◌∙◌, subst}
 use Rattle.olr_spec.specs.Map.{Map, Edit, edited, touched_nodes, has}
@@ -18,14 +19,14 @@ use Rattle.olr_paths.proofs.Beginning.{begins_add, begins_set}
 use Rattle.olr_register.specs.Holding.{map_kept, IsHeld, IsNumbered}
 use Rattle.olr_register.specs.declared.batch.Batch.{Batch}
 
--- ---- which map it is
+-- ---- on which map
 
 pub kept_closed : (roads : RoadMap) (b : Option Batch) → b ≡ None → map_kept roads b ≡ map_of roads
 kept_closed roads b none = ap (map_kept roads) none
 
--- ---- numbers that are kept
+-- ---- stored bounds
 
--- unknown ones say nothing
+-- unknown bounds say nothing
 pub numbered_unknown : (M : Map) (is : List Item) (near : Nearness) → IsFalse near.known → IsNumbered M is near
 numbered_unknown M is near off =
     record {
@@ -34,7 +35,7 @@ numbered_unknown M is near off =
           cc (on, off) in absurd never;
     }
 
--- where no node has one, and no look begins
+-- no node has a bound, and no coverage query begins at a node
 pub right_without : (M : Map) (near : Nearness) → ((v : ℕ) → number_of near v ≡ None) → IsRight M near
 right_without M near none known u d at = let no : ◌≡◌ {A = Option ℕ} None (Some d) = sym (none u) ∙ at in absurd cc
 
@@ -73,7 +74,7 @@ pub edit_same_but : (M N : Map) (e : Edit) (T : List ℕ) → edited M e ≡ Ok 
     ((v : ℕ) → has T v ≡ has (touched_nodes M e) v) → SameBut T M N
 edit_same_but M N e T ok nodes v off = (edit_differs M N e ok).nodes v (sym (nodes v) ∙ off)
 
--- the numbers f before, and g where edits of the nodes T, as the list ts, led from M to N
+-- the bounds f before, and g after edits of the nodes T, as the list ts, that lead from M to N
 module _ (M N : Map) (is : List Item) (T ts : List ℕ) (f g : Nearness) (same : ts ≡ T) (but : SameBut T M N)
     (h : IsNumbered M is f)
     (right : (L : Map) → SameBut ts L N → IsRight L f → IsRight N g)
@@ -94,7 +95,7 @@ commit_numbered roads is o b near e held h =
     numbered_fewer (map_before roads b.log) is (under_overlay is b.overlay) near held.begins
     (numbered_same (map_kept roads o) (map_before roads b.log) is near (sym (ap (map_kept roads) e)) h)
 
--- ---- with the looks that a renewal made
+-- ---- with the coverage queries of a renewal
 
 pub numbered_more : (N : Map) (is js : List Item) (g h : Nearness) (begun : List Look) → IsNumbered N is g →
     ((l : Look) → Begins js l → Begins is l ⊎ Contains begun l)
@@ -102,7 +103,7 @@ pub numbered_more : (N : Map) (is js : List Item) (g h : Nearness) (begun : List
 numbered_more N is js g h begun was begins numbers =
     numbers was.right (λ v b. elim (begins v b) [ inl old ↦ inl (was.sources v old) | inr new ↦ inr new ])
 
--- ---- a path that is held has no look yet
+-- ---- a held path has no coverage query yet
 
 pub begins_held : (is : List Item) (j : Item) → j.made ≡ None → (v : Look) → Begins (is ++ j ∷ []) v → Begins is v
 begins_held is j none v h =

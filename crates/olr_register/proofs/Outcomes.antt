@@ -1,4 +1,4 @@
--- What it takes to answer a command that raises no count, and one that leaves the register as it was.
+-- What it takes to answer a command that raises no count, and one that leaves the register unchanged.
 use Rattle.std.proofs.Common.{arith, ◌≡◌, ℕ, Bool, true, false, not, List, [], Option, Some, None, is_some, Ok, Err}
 use Rattle.std.proofs.Common.{length, refl, sym, ap, ◌∙◌, subst, add-zero}
 use Rattle.std.specs.Prelude.{◌==◌, ◌&&◌}
@@ -19,7 +19,7 @@ use Rattle.olr_register.specs.Registered.{Registered}
 use Rattle.olr_register.specs.Answering.{Answered}
 use Rattle.olr_register.proofs.Counting.{raises_none}
 
--- an accepted command that brings nothing raises no count
+-- an accepted command that applies no change raises no count
 pub answered_uncounted : (old : Registered) (k : Kept) (c : Command) (r : Reply) →
     ((s : State) → Stands old.kept s → changes_made s c ≡ [])
     → ((s : State) → Stands old.kept s → (t : State) × Stands k t × IsOutcome s c (Ok (reply_of r)) t) →
@@ -39,7 +39,7 @@ answered_same : (x : Registered) (c : Command) (r : Reply) →
     → Answered x c (Ok r) x
 answered_same x c r h none = answered_uncounted x x.kept c r (λ s stands. none s) (λ s stands. (s, stands, h s stands))
 
--- the register is as before
+-- the register is unchanged
 pub answered_refused : (old new : Registered) (c : Command) (f : CommandFault) → new ≡ old →
     ((s : State) → Stands old.kept s → IsRefusal s c (command_fault_of f)) → Answered old c (Err f) new
 answered_refused old new c f same h =
@@ -150,7 +150,7 @@ explain_refused x text f g is fault =
     (λ s stands. Told (explain_step s.content s.batch text ∙ ap (unless_fault s) fault
     ∙ ap (λ (h : state.Fault). Err h) (sym is)))
 
--- want of memory may come in place of a fault of the text
+-- out of memory may be reported instead of a fault of the text
 pub explain_lacks : (x : Registered) (text : List ℕ) (f : CommandFault) → command_fault_of f ≡ Memory →
     Answered x (state.Explain text) (Err f) x
 explain_lacks x text f is =

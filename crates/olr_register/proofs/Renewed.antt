@@ -1,4 +1,4 @@
--- A list that was renewed has what is right on the new map.
+-- After a renewal, the results of a list are right on the new map.
 use Rattle.std.proofs.Common.{◌≡◌, List, [], ◌∷◌, Option, Some, refl, sym, subst}
 use Rattle.std.specs.Prelude.{IfSome}
 use Rattle.olr_spec.specs.Map.{Map}

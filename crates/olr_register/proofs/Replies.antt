@@ -1,4 +1,4 @@
--- What is told of a list, against the answers of the paths on their maps.
+-- What is reported of a list, compared with the answers of the paths on their maps.
 use Rattle.std.proofs.Common.{inl, inr, ◌⊎◌, ◌≡◌, ℕ, true, false, cond, List, [], ◌∷◌, Option, Some, None, refl, sym}
 use Rattle.std.proofs.Common.{ap, ◌∙◌, subst, ◌↔◌}
 use Rattle.std.specs.Prelude.{option_map, if◌then◌else◌}
@@ -12,7 +12,7 @@ use Rattle.olr_commands.proofs.ReplyLemmas.{named_path}
 use Rattle.olr_paths.specs.Items.{Made, Item, IsEncodingOf, AreEncodings, all_named, made_in, answer_in}
 use Rattle.olr_paths.specs.Changes.{Reported}
 
--- a name has a path and what was made of it, or neither
+-- a name has a path and its results, or neither
 abbrev Found : Map → Option Path → Option Made → Type 0
 Found M p o = ((p ≡ None) × (o ≡ None)) ⊎ ((P : Path) × (m : Made) × (p ≡ Some P) × (o ≡ Some m) × IsEncodingOf M P m)
 
@@ -51,7 +51,7 @@ answer_held M is content a name A = by (path_and_made M is a name) where
         (f.0, f.2, subst (Encodes M f.0) same f.4.answer),
   )
 
--- the answer that is kept of a path is its own
+-- the stored answer of a path is its answer on the map
 kept_answer : (N : Map) (P : Path) (o : Option Made) (A : Answer) (m : Made) → o ≡ Some m → IsEncodingOf N P m →
     option_map (λ (n : Made). n.answer) o ≡ Some A → Encodes N P A
 kept_answer N P o A m is right e =

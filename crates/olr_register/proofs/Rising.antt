@@ -1,4 +1,4 @@
--- By how much changes outside of batches raise the count.
+-- By how much changes outside a batch raise the count.
 use Rattle.std.proofs.Common.{arith, append-nil, ◌≡◌, ℕ, ◌+◌, ◌<◌, ◌≤◌, ◌^◌, Bool, false, true, is_some, IsFalse, List}
 use Rattle.std.proofs.Common.{[], ◌∷◌, map, Option, Some, None, Ok, refl, sym, ap, ◌∙◌, subst}
 use Rattle.std.specs.Prelude.{is_none}
@@ -20,7 +20,7 @@ use Rattle.olr_register.specs.Sparing.{encodes, NoneFalls, SameCounts}
 use Rattle.olr_register.proofs.Counting.{counted_changes, none_counted}
 use Rattle.olr_register.proofs.Tallies.{Tallied}
 
--- ---- states in which a register stands that holds no batch
+-- ---- states of a register without a batch
 
 pub none_open : (c : Content) (b : Option (List Change)) → StandsIn c None b → b ≡ None
 none_open c None h = refl
@@ -31,7 +31,7 @@ one_state k s none h =
     let closed : s.batch ≡ None = none_open k.content s.batch (subst (λ b. StandsIn k.content b s.batch) none h.1) in
     λ i. record { content = sym h.0 i; batch = closed i }
 
--- a number by which each such step raises
+-- each such step raises the count by this number
 raised_by : (old new : Registered) (x : Change) (n : ℕ) → old.kept.batch ≡ None → new.kept.batch ≡ None
     → Raises (record { content = old.kept.content; batch = None }) (Make x)
     (record { content = new.kept.content; batch = None }) n
@@ -41,7 +41,7 @@ raised_by old new x n was later raises s t h k =
     let to = sym (one_state new.kept t later k) in
     coe 0 1 (i. Raises (from i) (Make x) (to i) n) raises
 
--- what is counted of it
+-- what the counts say of it
 pub record Rise (old new : Registered) (n : ℕ) : Type 0 where
   pub encodings : old.work.encodings + n < 2 ^ 64 → new.work.encodings ≡ old.work.encodings + n
   pub spared : new.spared ≤ old.spared + n
@@ -58,7 +58,7 @@ tallied_by old new x n was later raises rise falls same = record {
   same = same;
 }
 
--- outside of batches an edit and a path that is given encode
+-- outside a batch, an edit and a path that is added or set encode
 encodes_closed : (old new : Registered) (x : Change) → old.kept.batch ≡ None → encodes false (Make x) ≡ true →
     IsFalse (encodes (is_some old.kept.batch) (Make x)) → SameCounts old new
 encodes_closed old new x was e off =
@@ -67,12 +67,12 @@ encodes_closed old new x was e off =
 
 -- ---- edits
 
--- none was given
+-- no batch added or replaced any of the paths
 none_given : (M : Map) (is : List Item) → AreEncodings M is → AllByRecursion (λ h. h.given ≡ false) (map held_of is)
 none_given M [] a = tt
 none_given M (i ∷ is) a = (ap is_none a.0.1, none_given M is a.1)
 
--- the count of an edit is how many paths it concerns
+-- an edit is counted once for each path that it affects
 pub tallied_edit : (old new : Registered) (M : Map) (is : List Item) (e : Edit) (ns xs : List ℕ) (n : ℕ) →
     old.kept ≡ record { content = record { map = M; paths = all_named is }; batch = None }
     → new.kept.batch ≡ None → new.kept.content.paths ≡ all_named is → AreEncodings M is
@@ -98,7 +98,7 @@ made_state : (c d : Content) (x : Change) → with_change c x ≡ Ok d →
     step (record { content = c; batch = None }) (Make x) ≡ Ok (record { content = d; batch = None })
 made_state c d x e = ap at_once e
 
--- a path that is added, or set, raises by one
+-- a path that is added or set raises the count by one
 pub tallied_add : (old new : Registered) (name : List ℕ) (path : Path) → IsContent old.kept.content →
     old.kept.batch ≡ None → new.kept.batch ≡ None
     → with_change old.kept.content (Add_path name path) ≡ Ok new.kept.content
@@ -121,7 +121,7 @@ tallied_set old new name path content was later is rise falls =
     (made_state old.kept.content new.kept.content (Set_path name path) is))
     rise falls (encodes_closed old new (Set_path name path) was refl)
 
--- one that is dropped by none
+-- a dropped path raises it by none
 drop_concerns : (c : Content) (name : List ℕ) (p : Named) → ¬ Concerns c (Drop_path name ∷ []) p
 drop_concerns c name p (By_name h) = absurd cc
 drop_concerns c name p (By_node v h f) = absurd cc

@@ -18,7 +18,7 @@ pub map_same : {A : Type 0} (xs : List A) → map (λ y. y) xs ≡ xs
 map_same [] = refl
 map_same (x ∷ xs) = ap (λ ys. x ∷ ys) (map_same xs)
 
--- a register that stands where the commands lead with these answers
+-- a register in the state to which the commands lead with these answers
 abbrev pub HasRun : Registered → List Asked → List (Result Answered CommandFault) → Type 0
 HasRun x cs rs =
     (t : State) × Stands x.kept t × Whole SoundOutcome start_state (map command_of cs) (map outcome_of rs) t

@@ -37,7 +37,7 @@ use Rattle.olr_register.proofs.Rising.{tallied_edit}
 use Rattle.olr_register.proofs.Told.{RenewedAll, renewed_edit}
 use Rattle.olr_register.proofs.Singles.{accepted_now, told_now, lacks_now, closed_by, is_closed, told_by_map}
 
--- ---- what judging tells
+-- ---- the result of judging an edit
 
 pub refused_is : (r : Result Map MapFault) (f : EditFault) →
     MatchResult r (λ _. IsOk {T = Judged} (Err f))
@@ -50,7 +50,7 @@ pub taken_is : (r : Result Map MapFault) → IsOk r → (N : Map) × (r ≡ Ok N
 taken_is (Ok N) h = (N, refl)
 taken_is (Err g) h = absurd cc
 
--- ---- refused
+-- ---- rejected
 
 pub edit_refused : (roads : RoadMap) (is : List Item) (b : Option Batch) (w : Tally) (x : Registered) (e : Edit)
     (g : MapFault) (f : EditFault) → of_parts roads is b w ≡ x → x.kept.batch ≡ None
@@ -87,7 +87,7 @@ edit_lacks roads is b w x e N f view none taken takes says =
     (ap (λ (r : Result Map MapFault). may_want (at_once (with_map x.kept.content r)))
     (ap (λ (M : Map). edited M e) there ∙ taken)) says
 
--- ---- what is noted of an edit
+-- ---- what is recorded of an edit
 
 pub only_noted : (was now : List ℕ) (f : ℕ → Bool) → was ≡ [] → ((v : ℕ) → has now v ≡ (has was v || f v)) → (v : ℕ) →
     has now v ≡ f v
@@ -96,7 +96,7 @@ only_noted was now f none h v = h v ∙ ap (λ (vs : List ℕ). has vs v || f v)
 pub only_changes : (was now told : List ChangedLine) → was ≡ [] → now ≡ was ++ told → now ≡ told
 only_changes was now told none h = h ∙ ap (λ (cs : List ChangedLine). cs ++ told) none
 
--- of an edit that was judged, and no other
+-- of an edit that was judged, and of nothing else
 pub record IsNotedOf (M : Map) (e : Edit) (t : Touched) : Type 0 where
   pub nodes : (v : ℕ) → has (nodes_of t) v ≡ has (touched_nodes M e) v
   pub lines : (y : ℕ) → has (lines_of t) y ≡ has (touched_lines e) y
@@ -127,7 +127,7 @@ module _ (roads later : RoadMap) (is js : List Item) (b : Option Batch) (w : Tal
       (nodes : (v : ℕ) → has ns v ≡ has (touched_nodes (map_of roads) e) v)
       (lines : (y : ℕ) → has xs y ≡ has (touched_lines e) y)
       (changed_lines : cs ≡ changes_of (map_of roads) e) where
-    -- what the renewal asks for
+    -- what a renewal requires
     pub edit_before : (N : Map) → N ≡ map_of later → IsBefore (map_of roads) N ns xs cs is
     edit_before N same =
         subst (λ (M : Map). IsBefore (map_of roads) M ns xs cs is) (sym same)

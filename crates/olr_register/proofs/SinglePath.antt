@@ -1,4 +1,4 @@
--- A path that is added, set or dropped at once.
+-- A path that is added, replaced or dropped at once.
 use Rattle.std.proofs.Common.{inl, inr, ◌⊎◌, ◌≡◌, ◌≢◌, ℕ, ◌+◌, ◌<◌, ◌≤◌, ◌^◌, arith, Bool, true, false, not, List, []}
 use Rattle.std.proofs.Common.{◌∷◌, ◌++◌, map, Option, Some, None, is_some, Result, Ok, Err, IsTrue, refl, sym, ap, ◌∙◌}
 use Rattle.std.proofs.Common.{subst}
@@ -30,7 +30,7 @@ use Rattle.olr_register.proofs.Rising.{tallied_add, tallied_set, tallied_drop}
 use Rattle.olr_register.proofs.Told.{reported_add, reported_set, reported_drop}
 use Rattle.olr_register.proofs.Singles.{accepted_now, told_now, lacks_now, closed_by, is_closed}
 
--- want of memory, or lines that are no path
+-- out of memory, or lines that are no path
 abbrev pub IsPathFault : List ℕ → CommandFault → Type 0
 IsPathFault lines f = (f ≡ fault.Memory) ⊎ ((f ≡ fault.BadPath) × (is_path lines ≡ false))
 
@@ -44,7 +44,7 @@ when_holds b f r e = ap (λ (t : Bool). when t f r) e
 when_not : (b : Bool) (f : Fault) (r : Result Content Fault) → b ≡ false → when b f r ≡ r
 when_not b f r e = ap (λ (t : Bool). when t f r) e
 
--- ---- refused
+-- ---- rejected
 
 pub add_exists : (x : Registered) (name : List ℕ) (path : Path) (f : CommandFault) → x.kept.batch ≡ None →
     has_path x.kept.content name ≡ true → command_fault_of f ≡ Path_exists →
@@ -149,7 +149,7 @@ module _ (roads : RoadMap) (is : List Item) (b : Option Batch) (w : Tally) (x : 
       (reported_drop (map_of roads) is name was_right.content was_right.made)
       (tallied_drop (of_parts roads is None w) (of_parts roads list_without None w) name refl refl (refl, refl))))
 
-  -- ---- added and set
+  -- ---- added and replaced
 
   none_fall : (js : List Item) (w u : Tally) → w.work.searches ≤ u.work.searches → w.work.settled ≤ u.work.settled →
       u.spared ≡ w.spared → NoneFalls (of_parts roads is None w) (of_parts roads js None u)

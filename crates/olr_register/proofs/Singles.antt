@@ -25,7 +25,7 @@ use Rattle.olr_register.proofs.Tallies.{Tally, Tallied, of_parts}
 use Rattle.olr_register.proofs.Rising.{one_state}
 use Rattle.olr_register.proofs.Outcomes.{answered_refused}
 
--- ---- outcomes of a change where no batch is open
+-- ---- outcomes of a change with no batch open
 
 pub accepted_now : (old new : Registered) (x : Change) (q : Reply) (es : List told.Entry) → old.kept.batch ≡ None →
     new.kept.batch ≡ None → with_change old.kept.content x ≡ Ok new.kept.content
@@ -65,12 +65,12 @@ lacks_now old x f was takes may says =
     (λ s stands. subst (λ (u : State). IsRefusal u (Make x) (command_fault_of f))
     (sym (one_state old.kept s was stands)) (Lacks says (λ i. takes i && may i)))
 
--- a register that is as before
+-- a register that is unchanged
 pub as_before : (old new : Registered) (x : Change) (f : CommandFault) → new ≡ old → Answered old (Make x) (Err f) old →
     Answered old (Make x) (Err f) new
 as_before old new x f same h = subst (λ (y : Registered). Answered old (Make x) (Err f) y) (sym same) h
 
--- ---- a register with no batch, by its parts
+-- ---- a register without a batch, by its parts
 
 batch_none : (roads : RoadMap) (is : List Item) (b : Option Batch) → (kept_of roads is b).batch ≡ None → b ≡ None
 batch_none roads is None h = refl
@@ -100,7 +100,7 @@ pub is_closed : (roads : RoadMap) (is : List Item) (b : Option Batch) → b ≡ 
 is_closed roads is b none content at_once =
     subst (IsRegister roads is) (sym none) (record { content = content; made = at_once; held = tt })
 
--- where map and list are as before
+-- map and list are unchanged
 pub still_closed : (roads later : RoadMap) (is js : List Item) (b : Option Batch) → b ≡ None →
     map_of later ≡ map_of roads → js ≡ is → IsRegister roads is b → IsRegister later js b
 still_closed roads later is js b none same listed right =

@@ -1,4 +1,4 @@
--- The counts of a register together, and what an accepted command leaves of them.
+-- The counts of a register together, and how an accepted command changes them.
 use Rattle.std.proofs.Common.{ℕ, List, Option}
 use Rattle.std.specs.Prelude.{is_some, IsFalse}
 use Rattle.olr_map.specs.declared.road_map.RoadMap.{RoadMap}

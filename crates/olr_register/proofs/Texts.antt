@@ -1,4 +1,4 @@
--- What a text is the text of, or why it is none.
+-- Which reference a text encodes, or why it encodes none.
 use Rattle.std.proofs.Common.{◌≡◌, ℕ, List, Some, None, Ok, Err, refl, ap, ◌∙◌}
 use Rattle.std.specs.Prelude.{option_map}
 use Rattle.std.specs.Result.{result_ok}

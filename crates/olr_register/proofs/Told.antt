@@ -1,4 +1,4 @@
--- What is told of one path that is added, set or dropped, and of a list that was renewed.
+-- What is reported of one path that is added, replaced or dropped, and of a list that was renewed.
 use Rattle.std.proofs.Common.{inl, inr, ◌⊎◌, ◌≡◌, ◌≢◌, ℕ, Bool, true, false, cond, not, List, [], ◌∷◌, ◌++◌, map}
 use Rattle.std.proofs.Common.{filter, Option, Some, None, is_some, Ok, refl, sym, ap, ◌∙◌, subst}
 use Rattle.std.specs.Prelude.{option_map, if◌then◌else◌}
@@ -20,7 +20,7 @@ use Rattle.olr_register.proofs.Followed.{follows_same, follows_drop, follows_unt
 
 -- ---- added
 
--- of a name that is free nothing was made
+-- there are no results under an unused name
 not_made : (is : List Item) (name : List ℕ) → is_some (path_named (all_named is) name) ≡ false → made_in is name ≡ None
 not_made [] name h = refl
 not_made (i ∷ is) name h =
@@ -57,9 +57,9 @@ reported_add M is name path m es content a free right told =
     (subst (Reported is (is ++ j ∷ [])) (sym told)
     (told_last is is j m.answer [] refl new (follows_untold M is is a (follows_self is content.names))))
 
--- ---- set
+-- ---- replaced
 
--- where no path has the name, or one
+-- no path has the name, or one has it
 set_absent : (name : List ℕ) (path : Path) (made : Option Made) (is : List Item) →
     is_some (path_named (all_named is) name) ≡ false → map (set_item name path made) is ≡ is
 set_absent name path made [] h = refl
@@ -151,7 +151,7 @@ reported_drop M is name content a =
 
 -- ---- renewed
 
--- what a renewal leaves and tells, on the map after an edit or a batch
+-- what a renewal leaves and reports, on the map after an edit or a batch
 pub record RenewedAll (M N : Map) (before js : List Item) (es : List Entry) : Type 0 where
   pub made : AreEncodings N js
   pub content : IsContent (record { map = N; paths = all_named js })

@@ -1,6 +1,6 @@
 -- What a call of the register answers to a command.
---     Answered old c result new      an outcome of the command, counted where it is accepted, and nothing changed where
---         it is refused
+--     Answered old c result new      an outcome of the command: if it is accepted, its encodings are counted; if it
+--         is rejected, nothing changes
 use Rattle.std.specs.Prelude.{◌≡◌, is_some, Result, OnOk, OnErr, IsFalse}
 use Rattle.olr_commands.specs.State.{Command}
 use Rattle.olr_commands.specs.Words.{outcome_of}

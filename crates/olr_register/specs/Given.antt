@@ -1,8 +1,8 @@
--- What an open batch makes of a change that it is given.
+-- What an open batch makes of a change.
 --     path_by lines offsets      the path along these lines with these offsets
---     content_with b x      the content with the change after those that are held, or the first fault
+--     content_with b x      the content after the held changes and this one, or the first fault
 --     IsAdded old x new      the change is held too
---     Given old x result new      it is held, or refused and the batch is as it was
+--     Given old x result new      it is held, or it is rejected and the batch is unchanged
 use Rattle.std.specs.Prelude.{◌≡◌, ℕ, suc, ◌||◌, ◌++◌, List, Result, Ok, Err, OnOk, OnErr, nat_le, IsFalse}
 use Rattle.std.specs.Result.{IfOk, IfErr}
 use Rattle.std.specs.List.{list_any, AllByRecursion}
@@ -24,7 +24,7 @@ path_by lines offsets = path_along lines offsets.pos offsets.neg
 abbrev pub content_with : Batch → Change → Result Content Fault
 content_with b x = when (nat_le full b.count) Batch_full (with_change (content_of b) x)
 
--- each path is marked as given where it has one of the names
+-- `given` is true for the paths that have one of the names
 abbrev pub AreGiven : List (List ℕ) → List Held → Type 0
 AreGiven names hs = AllByRecursion (λ h. h.given ≡ list_any (same_name h.name) names) hs
 
@@ -35,7 +35,7 @@ pub record IsAdded (old : Batch) (x : Change) (new : Batch) : Type 0 where
   pub lines : (y : ℕ) → has new.lines y ≡ (has old.lines y || has (lines_of_change x) y)
   pub given : (names : List (List ℕ)) → AreGiven names old.paths → AreGiven (names ++ names_of_change x) new.paths
 
--- want of memory is told only where no fault is that comes before it
+-- out of memory is reported only if no fault takes precedence over it
 pub data MayTell (taking : Result Content Fault) (fault : Fault) : Type 0 where
   Told : taking ≡ Err fault → MayTell taking fault
   Lacks : fault ≡ Memory → ((first : Fault) → taking ≡ Err first → IsFalse (is_told_first first)) →

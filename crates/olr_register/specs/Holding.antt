@@ -19,7 +19,7 @@ use Rattle.olr_paths.specs.Touching.{nodes_of, lines_of, changed_of}
 use Rattle.olr_register.specs.Kept as kept
 use Rattle.olr_register.specs.declared.batch.Batch.{Batch}
 
--- ---- as the definitions of commands see it, over the register's list
+-- ---- in terms of the definitions of commands, over the register's list
 
 abbrev pub held_of : Item → kept.Held
 held_of i = record { name = i.name; path = i.path; given = is_none i.made }
@@ -34,7 +34,7 @@ batch_of roads is b =
       lines = lines_of b.touched;
     }
 
--- while a batch is open the map is the one that its log leads back to
+-- while a batch is open, this is the map to which its log leads back
 abbrev pub map_kept : RoadMap → Option Batch → Map
 map_kept roads None = map_of roads
 map_kept roads (Some b) = map_before roads b.log
@@ -50,9 +50,10 @@ kept_of roads is batch =
       batch = option_batch roads is batch;
     }
 
--- ---- what is true
+-- ---- invariants
 
--- what is noted of edits that lead from M to N: no other difference, and each changed line begins at a touched node
+-- what is recorded of edits that lead from M to N: there is no other difference, and each changed line begins at a
+-- touched node
 pub record AreEditsNoted (M N : Map) (T X : List ℕ) (C : List ChangedLine) : Type 0 where
   pub difference : Difference T X C M N
   pub starts : (c : ChangedLine) → Contains C c → IsTrue (has T c.from)

@@ -1,7 +1,7 @@
--- What a register holds of a state in memory: of an open batch not the changes, but what they come to.
---     Kept      a content and, where a batch is open, what it comes to
---     IsBatchOf c b xs      the batch comes of these changes, made one after another from the content c
---     Stands k s      the register stands in the state
+-- How a register represents a state in memory: of an open batch not the changes, but their result.
+--     Kept      a content and, if a batch is open, its result
+--     IsBatchOf c b xs      the batch is the result of these changes, made one after another from c
+--     Stands k s      the register represents the state
 use Rattle.std.specs.Prelude.{◌≡◌, ℕ, Bool, List, map, length, Option, Some, None}
 use Rattle.std.specs.List.{list_any, AllByRecursion}
 use Rattle.std.specs.Coded.{Coded, code_by, coded_ℕ, coded_bool, coded_list, coded_option, coded×}
@@ -13,13 +13,13 @@ use Rattle.olr_refs.specs.Coded.{coded_path}
 use Rattle.olr_commands.specs.State.{Named, Content, same_name, Change, after, State}
 use Rattle.olr_commands.specs.Counts.{all_nodes, all_lines, all_names}
 
--- a path of a batch's list, and whether the batch gave it
+-- a path of a batch's list, and whether the batch added or replaced it
 pub record Held : Type 0 where
   pub name : List ℕ
   pub path : Path
   pub given : Bool
 
--- the map and the paths that the batch comes to, how many changes it holds, and the nodes and lines that they touch
+-- the map and the paths after the batch's changes, the number of changes, and the nodes and lines that they touch
 pub record Batch : Type 0 where
   pub map : Map
   pub paths : List Held

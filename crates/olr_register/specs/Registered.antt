@@ -1,11 +1,11 @@
 -- A register as its callers see it, and what its calls promise of whole commands.
---     Registered      what is held of the state, and the counts: the work, and how many of the counted encodings were
---         spared
---     PublishedWhole c name made      what is published under a name, with its own nodes and looks
---     HaveEncodings M ps xs      the names of the paths, each with an encoding of it on the map, in order.
---     AllPublished c xs      so of all paths of a content
---     Applied old c o new      from each state in which it stood, the command leads with this outcome to one in which
---         it stands
+--     Registered      the state that it represents, and the counts: the work, and how many of the counted
+--         encodings were spared
+--     PublishedWhole c name made      what is published under a name, with traversed nodes and coverage queries
+--     HaveEncodings M ps xs      the names of the paths in order, each with an encoding of the path on the map.
+--     AllPublished c xs      the same for all paths of a content
+--     Applied old c o new      from each state that old represents, the command leads with this outcome to a state
+--         that new represents
 --     Counted old c new      by how much an accepted command raises the count of encodings
 use Rattle.std.specs.Prelude.{◌≡◌, ℕ, ◌+◌, ◌<◌, ◌^◌, List, Option, Some, None, [], ◌∷◌, MatchOption, IsSomeAnd}
 use Rattle.std.specs.Coded.{Coded, code_by, coded_ℕ, coded×}
@@ -33,7 +33,7 @@ coded_registered =
     code_by (Kept × (Work × ℕ)) (coded× coded_kept (coded× coded_work coded_ℕ)) (λ r. (r.kept, (r.work, r.spared)))
     (λ t. record { kept = t.0; work = t.1.0; spared = t.1.1 }) (λ _. refl)
 
--- nothing is held, and nothing was counted
+-- no paths, an empty map, and counts of 0
 abbrev pub nothing_registered : Registered
 nothing_registered =
     record {
@@ -60,7 +60,7 @@ AllPublished c xs = HaveEncodings c.map c.paths xs
 abbrev pub Applied : Registered → Command → Outcome → Registered → Type 0
 Applied old c o new = (s : State) → Stands old.kept s → (t : State) × Stands new.kept t × IsOutcome s c o t
 
--- the number is given: each of two registers that stand in states of such a step raises by it
+-- for each two states of such a step: the number of encodings by which it raises the count, unless 64 bits overflow
 abbrev pub Counted : Registered → Command → Registered → Type 0
 Counted old c new =
     (s t : State) → Stands old.kept s → Stands new.kept t → (n : ℕ) × Raises s c t n

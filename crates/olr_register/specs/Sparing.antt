@@ -1,9 +1,9 @@
--- How the counts of a register go on.
---     encodes open c      the command encodes: outside of batches an edit and a path that is new or another, of an open
+-- How the counts of a register change.
+--     encodes open c      the command encodes: outside a batch an edit and a path that is added or set, with an open
 --         batch its commit
---     SparesAtMost old c new      of the encodings that an accepted command counts: no more are spared
---     NoneFalls old new      no count is less than before
---     SameCounts old new      each is as before
+--     SparesAtMost old c new      no more encodings are spared than an accepted command counts
+--     NoneFalls old new      no count falls
+--     SameCounts old new      each count is unchanged
 use Rattle.std.specs.Prelude.{◌≡◌, ℕ, ◌+◌, ◌≤◌, Bool, true, false}
 use Rattle.olr_commands.specs.State.{State, On_map, Add_path, Set_path, Command, Make, Commit}
 use Rattle.olr_commands.specs.Counts.{Raises}

@@ -53,9 +53,9 @@ impl Register {
         }
     }
 
-    /// Carries a command out. In an open batch edits and path commands are held; elsewhere they are accepted at once,
-    /// and the reply tells the paths that are new or whose answer is another than before. After a fault map, paths,
-    /// answers, texts, counts and an open batch are as they were. `Memory` comes only where no fault is told before it.
+    /// Carries out a command. In an open batch, edits and path commands are held. Outside a batch they are accepted at once,
+    /// and the reply has the paths that are new or have another answer than before. After a fault, map, paths, answers, texts,
+    /// counts and an open batch are unchanged. `Memory` is returned only if no fault takes precedence over it.
     pub fn apply(&mut self, command: Command) -> Result<Reply, CommandFault>
         ensures outcome { Applied self.old (command_of command) (outcome_of result) self.new }
         ensures counted { OnOk result (Counted self.old (command_of command) self.new) }
@@ -67,21 +67,21 @@ impl Register {
             (IsFalse (encodes (is_some self.old.kept.batch) (command_of command)) → SameCounts self.old self.new) }
     {
         let result = self.answer_to(command);
-        // The content is sound, as that of every register.
+        // The content is sound, like that of every register.
         self.is_sound();
         result
     }
 
-    /// Does nothing: a caller learns that the content of every register is sound.
+    /// Does nothing. Its contract says that the content of every register is sound.
     pub fn is_sound(&self)
         ensures { IsContent self.now.kept.content }
     {
-        // For the proof alone: the content is sound, as that of every register is.
+        // For the proof alone: the content is sound, like that of every register.
         let _encodings = self.work.encodings;
     }
 }
 
-/// The register after these commands, one after another from the empty one, and what each of them answered.
+/// The register after these commands, one after another from the empty one, and the outcome of each.
 pub fn replay(
     alloc: Global,
     commands: Vec<Command>,

@@ -7,17 +7,17 @@ use olr_map::{Edit, LineId, RoadMap, UndoLog, judge};
 use olr_paths::{Listing, Overlay, Touched};
 use std::alloc::Global;
 
-/// The most changes that a batch holds.
+/// The greatest number of changes in a batch.
 const FULL: u32 = 100_000;
 
-/// What the held changes of an open batch come to.
+/// The result of the changes that an open batch holds.
 #[derive(Drop, Debug)]
 pub struct Batch {
-    /// Takes the map back to the one before the batch.
+    /// Restores the map from before the batch.
     pub(crate) log: UndoLog,
-    /// What it makes of the register's paths; those that it gave are not encoded yet.
+    /// The batch's changes over the register's paths; the paths that it added or replaced are not encoded yet.
     pub(crate) overlay: Overlay,
-    /// How many changes it holds.
+    /// The number of changes that it holds.
     pub(crate) count: u32,
     /// What its edits touched.
     pub(crate) touched: Touched,
@@ -35,14 +35,14 @@ impl Batch {
     ghost use Rattle.olr_register.specs.Holding.{IsHeld, batch_of};
     ghost use Rattle.olr_register.specs.Given.{Given, path_by};
 
-    /// Whether it holds as many changes as it may.
+    /// Whether it holds the greatest number of changes.
     fn is_full(&self) -> bool
         ensures { result ≡ nat_le full self.now.count }
     {
         self.count >= FULL
     }
 
-    /// Makes an edit of its map and holds it. After a fault map and batch are as they were.
+    /// Makes an edit of its map and holds it. After a fault, map and batch are unchanged.
     pub(crate) fn edit(&mut self, roads: &mut RoadMap, edit: Edit) -> Result<Reply, CommandFault>
         requires { CanUndoAll roads.old self.old.log }
         ensures given { (is : List Item)
@@ -72,7 +72,7 @@ impl Batch {
         }
     }
 
-    /// Holds a new path. After a fault the batch is as it was.
+    /// Holds a new path. After a fault the batch is unchanged.
     pub(crate) fn add_path(
         &mut self,
         alloc: Global,
@@ -104,7 +104,7 @@ impl Batch {
         }
     }
 
-    /// Holds another path under a name. After a fault the batch is as it was.
+    /// Holds another path for a name. After a fault the batch is unchanged.
     pub(crate) fn set_path(
         &mut self,
         alloc: Global,
@@ -136,7 +136,7 @@ impl Batch {
         }
     }
 
-    /// Holds that a path is taken away. After a fault the batch is as it was.
+    /// Holds the removal of a path. After a fault the batch is unchanged.
     pub(crate) fn drop_path(
         &mut self,
         alloc: Global,

@@ -1,4 +1,4 @@
-//! Batches: opening one, what is given to it, and its two ends.
+//! Batches: opening one, the changes that it holds, commit and abort.
 ghost use Rattle.std.specs.Prelude.{string_bytes, IsSome};
 ghost use Rattle.olr_map.specs.Edits.{edit_of};
 ghost use Rattle.olr_commands.specs.State.{Make, On_map, Add_path, Set_path, Drop_path, Begin, Commit, Abort};
@@ -31,7 +31,7 @@ impl Register {
         Ok(Reply::Paths(Vec::new(self.alloc)))
     }
 
-    /// Makes an edit of the open batch's map, and holds it. After a fault the register is as it was.
+    /// Makes an edit of the open batch's map and holds it. After a fault the register is unchanged.
     pub(crate) fn hold_edit(&mut self, edit: Edit) -> Result<Reply, CommandFault>
         requires { IsSome self.old.kept.batch }
         ensures { Answered self.old (Make (On_map (edit_of edit))) result self.new }
@@ -44,7 +44,7 @@ impl Register {
         result
     }
 
-    /// Holds a new path in the open batch. After a fault the register is as it was.
+    /// Holds a new path in the open batch. After a fault the register is unchanged.
     pub(crate) fn hold_add(
         &mut self,
         name: String,
@@ -63,7 +63,7 @@ impl Register {
         result
     }
 
-    /// Holds another path under a name in the open batch. After a fault the register is as it was.
+    /// Holds another path for a name in the open batch. After a fault the register is unchanged.
     pub(crate) fn hold_set(
         &mut self,
         name: &str,
@@ -81,7 +81,7 @@ impl Register {
         result
     }
 
-    /// Holds, in the open batch, that a path is taken away. After a fault the register is as it was.
+    /// Holds the removal of a path in the open batch. After a fault the register is unchanged.
     pub(crate) fn hold_drop(&mut self, name: &str) -> Result<Reply, CommandFault>
         requires { IsSome self.old.kept.batch }
         ensures { Answered self.old (Make (Drop_path name.now)) result self.new }
@@ -94,8 +94,8 @@ impl Register {
         result
     }
 
-    /// Accepts all held changes at once, if there are so many, and encodes the paths that they concern. After a fault
-    /// the batch is open as before.
+    /// Accepts all held changes at once, if their number is `count`, and encodes the affected paths. After a fault the batch is
+    /// still open, and unchanged.
     pub(crate) fn commit(&mut self, count: u32) -> Result<Reply, CommandFault>
         ensures { Answered self.old (Commit count) result self.new }
     {

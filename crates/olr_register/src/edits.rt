@@ -1,4 +1,4 @@
-//! Edits of the map that are made at once, outside of a batch.
+//! Edits of the map that are made at once, outside a batch.
 ghost use Rattle.std.specs.Prelude.{◌≡◌, ◌==◌, ◌||◌, ℕ, map as list_map, OnOk};
 ghost use Rattle.std.specs.Option.{option_to_list};
 ghost use Rattle.olr_spec.specs.Map.{has};
@@ -12,8 +12,8 @@ use olr_map::{Edit, Judged, judge};
 use olr_paths::{ChangedLine, Touched};
 use std::alloc::AllocError;
 
-/// The line that a judged edit changes: its ends, and the lesser of its lengths before and after. None where the edit
-/// is one of a node.
+/// The line that a judged edit changes: its ends, and the lesser of its lengths before and after. None if the edit is one of
+/// a node.
 pub(crate) fn line_changed(judged: &Judged) -> Option<ChangedLine>
     ensures { list_map change_of (option_to_list result) ≡ changes_told judged.now }
 {
@@ -27,7 +27,7 @@ pub(crate) fn line_changed(judged: &Judged) -> Option<ChangedLine>
     }
 }
 
-/// Notes what a judged edit touches, and nothing else.
+/// Records what a judged edit touches, and nothing else.
 fn note_alone(touched: &mut Touched, judged: &Judged) -> Result<(), AllocError>
     ensures nodes { OnOk result
         ((v : ℕ) → has (nodes_of touched.new) v ≡ ((judged.now.nodes.0 == v) || (judged.now.nodes.1 == v))) }
@@ -46,7 +46,7 @@ impl Register {
     ghost use Rattle.olr_commands.specs.State.{Make, On_map};
     ghost use Rattle.olr_register.specs.Answering.{Answered};
 
-    /// Makes an edit of the map where there are no paths: none is encoded, and the numbers of nodes begin anew.
+    /// Makes an edit of the map when there are no paths: no path is encoded, and the distance bounds are cleared.
     fn edit_bare(&mut self, edit: Edit) -> Result<Reply, CommandFault>
         requires closed { self.old.kept.batch ≡ None }
         requires bare { length self.old.kept.content.paths ≡ 0 }
@@ -64,8 +64,7 @@ impl Register {
         Ok(Reply::Paths(Vec::new(self.alloc)))
     }
 
-    /// Makes an edit of the map and encodes anew the paths that it concerns. The map's own faults are told before
-    /// `Memory`.
+    /// Makes an edit of the map and encodes the affected paths again. Faults of the map take precedence over `Memory`.
     pub(crate) fn edit_now(&mut self, edit: Edit) -> Result<Reply, CommandFault>
         requires { self.old.kept.batch ≡ None }
         ensures { Answered self.old (Make (On_map (edit_of edit))) result self.new }

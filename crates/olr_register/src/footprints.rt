@@ -1,4 +1,4 @@
-//! What a path's answer rests on: its own nodes and its looks, and its footprint.
+//! What a path's answer depends on: its traversed nodes, its coverage queries and its footprint.
 ghost use Rattle.std.specs.Prelude.{◌≡◌, ◌↔◌, ℕ, Contains, is_some, IsTrue, IsFalse, MatchOption, IsSomeAnd, Err, None};
 ghost use Rattle.std.specs.Prelude.{option_map};
 ghost use Rattle.std.specs.Result.{IfOk, IfErr};
@@ -16,17 +16,17 @@ use olr_route::Work;
 impl Register {
     ghost use Rattle.olr_register.specs.Registered.{PublishedWhole};
 
-    /// What is published of the path of that name, with the own nodes and the looks of its encoding on the map. None
-    /// where no path has it. An open batch is left out of account.
+    /// What is published of the path of that name, with the traversed nodes and the coverage queries of its encoding on the
+    /// map. None if no path has the name. An open batch is ignored.
     pub fn published_of(&self, name: &str) -> Option<&Published>
         ensures { PublishedWhole self.now.kept.content name.now (option_map (λ p. made_of p.now) result) }
     {
         self.paths.published_of(name)
     }
 
-    /// The footprint of the path of that name, searched for when it is asked: a change of the map that touches none of
-    /// these nodes and no line of the path leaves its answer. None where no path has the name. While a batch is open
-    /// the map is the batch's, and the fault is `BatchOpen`; else `Memory` is the only one.
+    /// The footprint of the path of that name, computed on each call: a change of the map that touches none of these nodes and
+    /// no line of the path leaves its answer unchanged. None if no path has the name. While a batch is open the map is that of
+    /// the batch, and the fault is `BatchOpen`; otherwise `Memory` is the only fault.
     pub fn footprint(&self, name: &str) -> Result<Option<Footprint>, CommandFault>
         ensures open { IsTrue (is_some self.now.kept.batch) → result ≡ Err CommandFault.BatchOpen }
         ensures memory { IfErr result (λ f. IsFalse (is_some self.now.kept.batch) → f ≡ CommandFault.Memory) }

@@ -14,7 +14,7 @@ use olr_paths::{Listing, Searches};
 use olr_refs::Look;
 use std::alloc::Global;
 
-/// So many nodes, at the least, searches label that find no path before the numbers are made anew.
+/// The bounds are rebuilt only after searches that found no path have labelled more nodes than this.
 const LEAST: usize = 65_536;
 
 /// Makes the numbers right on the map after edits that touched these nodes. If an allocation fails they are unknown.
@@ -42,7 +42,7 @@ fn add_near(near: &mut Nearness, roads: &RoadMap, looks: &[Look])
     let _ = near.settle(roads);
 }
 
-/// Makes the numbers anew, with a source where each look of the list begins. Where memory is wanting they are unknown.
+/// Rebuilds the bounds, with a source where each coverage query of the list begins. If an allocation fails, they are unknown.
 fn number_anew(alloc: Global, near: &mut Nearness, roads: &RoadMap, paths: &Listing)
     ensures { IsNumbered (map_of roads.now) (items paths.now) near.new }
 {
@@ -56,14 +56,14 @@ fn number_anew(alloc: Global, near: &mut Nearness, roads: &RoadMap, paths: &List
     }
 }
 
-/// Whether searches that found no path have labelled more nodes, in all, than it costs to make the numbers anew.
+/// Whether searches that found no path have labelled more nodes in all than it costs to rebuild the bounds.
 fn is_worn(near: &Nearness, paths: &Listing, searches: &Searches) -> bool {
     let cost = near.len().saturating_add(paths.len()).saturating_mul(4);
     searches.vain() > cost.saturating_add(LEAST)
 }
 
-/// Makes the numbers right after a renewal of the list: sources are added where the looks begin that it made. Where
-/// they are worn, they are made anew.
+/// Makes the bounds right after a renewal of the list: adds sources where its new coverage queries begin, or rebuilds the
+/// bounds if searches that found no path have cost more than that.
 pub(crate) fn renumber(
     alloc: Global,
     near: &mut Nearness,

@@ -1,4 +1,4 @@
-//! Paths that are added, set or dropped at once, outside of a batch.
+//! Paths that are added, replaced or dropped at once, outside a batch.
 ghost use Rattle.std.specs.Prelude.{◌≡◌, ◌⊎◌, IsTrue, IsFalse, OnOk};
 ghost use Rattle.std.specs.Result.{IfOk, IfErr};
 ghost use Rattle.olr_spec.specs.Extension.{is_path};
@@ -11,7 +11,7 @@ use olr_map::LineId;
 use olr_refs::{Path, PathFault};
 use std::alloc::Global;
 
-/// How far from the beginning and from the end of its lines a path begins and ends, in decimetres.
+/// The positive and the negative offset of a path, in decimetres.
 #[derive(Clone, Copy)]
 pub(crate) struct Offsets {
     pub pos: u32,
@@ -42,7 +42,7 @@ impl Register {
     ghost use Rattle.olr_register.specs.Given.{path_by};
     ghost use Rattle.olr_register.specs.Answering.{Answered};
 
-    /// Encodes a new path and puts it last. Told are `PathExists`, `BadPath`, `Memory`, in this order.
+    /// Encodes a new path and appends it. The faults are `PathExists`, `BadPath` and `Memory`, in this order of precedence.
     pub(crate) fn add_now(
         &mut self,
         name: String,
@@ -78,7 +78,7 @@ impl Register {
         Ok(Reply::Paths(entries))
     }
 
-    /// Encodes another path under a name. Told are `NoPath`, `BadPath`, `Memory`, in this order.
+    /// Encodes another path for a name. The faults are `NoPath`, `BadPath` and `Memory`, in this order of precedence.
     pub(crate) fn set_now(
         &mut self,
         name: &str,
@@ -113,7 +113,7 @@ impl Register {
         Ok(Reply::Paths(entries))
     }
 
-    /// Takes a path away; those after it close up. Takes no memory.
+    /// Removes a path; the paths after it move up. Takes no memory.
     pub(crate) fn drop_now(&mut self, name: &str) -> Result<Reply, CommandFault>
         requires { self.old.kept.batch ≡ None }
         ensures { Answered self.old (Make (Drop_path name.now)) result self.new }

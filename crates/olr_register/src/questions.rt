@@ -1,4 +1,4 @@
-//! Commands that ask, and change nothing.
+//! Commands that ask and change nothing.
 ghost use Rattle.std.specs.Prelude.{◌≡◌, [], ◌∷◌, IfOk};
 ghost use Rattle.olr_commands.specs.Words.{command_fault_of, text_fault_of};
 
@@ -14,7 +14,7 @@ fn one_entry(alloc: Global, entry: Entry) -> Result<Vec<Entry>, AllocError>
     Ok(vec![in alloc; entry]?)
 }
 
-/// The fault of a text that is no reference; for want of memory `Memory`.
+/// The fault of a text that encodes no reference, or `Memory` if the text was not decoded because an allocation failed.
 fn text_fault(fault: TextFault) -> CommandFault
     ensures { command_fault_of result ≡ text_fault_of fault }
 {
@@ -28,7 +28,7 @@ impl Register {
     ghost use Rattle.olr_commands.specs.State.{Show, Report, Explain};
     ghost use Rattle.olr_register.specs.Answering.{Answered};
 
-    /// What is published of one path. `NoPath` is told before `Memory`.
+    /// What is published of one path. `NoPath` takes precedence over `Memory`.
     pub fn show(&self, name: &str) -> Result<Reply, CommandFault>
         ensures { Answered self.now (Show name.now) result self.now }
     {
@@ -54,7 +54,8 @@ impl Register {
         }
     }
 
-    /// What the reference says whose text this is. Where it is none, why; for want of memory `Memory`.
+    /// The fields of the reference that this text encodes. If it encodes none, the fault says why; `Memory` if an allocation
+    /// fails.
     pub fn explain(&self, text: &[u8]) -> Result<Reply, CommandFault>
         ensures { Answered self.now (Explain text.now) result self.now }
     {

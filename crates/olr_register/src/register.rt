@@ -13,18 +13,18 @@ use std::marker::Model;
 #[derive(Drop)]
 pub struct Register {
     pub(crate) alloc: Global,
-    /// The map; while a batch is open, the batch's.
+    /// The map, or that of the open batch.
     pub(crate) roads: RoadMap,
     pub(crate) paths: Listing,
-    /// What renewals search with.
+    /// The searches of renewals, which keep their buffers.
     pub(crate) searches: Searches,
-    /// What an edit touches, in room that is kept.
+    /// What an edit touches, in a buffer that is reused.
     pub(crate) touched: Touched,
     pub(crate) work: Work,
     /// How many of the counted encodings were spared.
     pub(crate) kept: u64,
     pub(crate) batch: Option<Batch>,
-    /// By which it is known that no path is near to an edit. While a batch is open, on the map before it.
+    /// Distance bounds, which show that no coverage query begins near an edit. While a batch is open, on the map before it.
     pub(crate) near: Nearness,
 }
 
@@ -49,7 +49,7 @@ impl Register {
     ghost use Rattle.olr_paths.specs.Yielding.{left};
     ghost use Rattle.olr_register.specs.Registered.{AllPublished, nothing_registered};
 
-    /// The register of no map and no paths. Takes no memory.
+    /// The register of an empty map and no paths. Takes no memory.
     pub fn new(alloc: Global) -> Register
         ensures { result ≡ nothing_registered }
     {
@@ -70,7 +70,7 @@ impl Register {
         }
     }
 
-    /// What is published of the path of that name. None where no path has it. An open batch is left out of account.
+    /// What is published of the path of that name. None if no path has the name. An open batch is ignored.
     pub fn answer(&self, name: &str) -> Option<&Answer>
         ensures { Published self.now.kept.content name.now (option_map (λ a. answer_of a.now) result) }
     {
@@ -78,7 +78,7 @@ impl Register {
         Some(published.answer())
     }
 
-    /// The text of that path's reference. None where no path has the name, or it was refused.
+    /// The text of that path's reference. None if no path has the name, or if the path is not encodable.
     pub fn text(&self, name: &str) -> Option<&str>
         ensures { PublishedText self.now.kept.content name.now (option_map (λ t. t.now) result) }
     {
@@ -86,21 +86,21 @@ impl Register {
         shown.text()
     }
 
-    /// How many paths there are, those of an open batch left out.
+    /// The number of paths, without those of an open batch.
     pub fn len(&self) -> usize
         ensures { result ≡ length self.now.kept.content.paths }
     {
         self.paths.len()
     }
 
-    /// Whether there is no path, those of an open batch left out.
+    /// Whether there is no path; those of an open batch are ignored.
     pub fn is_empty(&self) -> bool
         ensures { IsTrue result ↔ (length self.now.kept.content.paths ≡ 0) }
     {
         self.len() == 0
     }
 
-    /// The name of path k, from 0. None past the last.
+    /// The name of path k, counted from 0. None past the last.
     pub fn name_at(&self, k: usize) -> Option<&str>
         ensures { option_map (λ n. n.now) result
             ≡ slice_get (map (λ p. p.name) self.now.kept.content.paths) k }
@@ -108,8 +108,7 @@ impl Register {
         self.paths.name_at(k)
     }
 
-    /// The names of all paths in the order of their registration, each with what is published of it. An open batch is
-    /// left out of account.
+    /// The names of all paths in the order of their registration, each with what is published of it. An open batch is ignored.
     pub fn iter(&self) -> Iter<'_>
         ensures { AllPublished self.now.kept.content (left result) }
     {
@@ -123,14 +122,14 @@ impl Register {
         self.batch.is_some()
     }
 
-    /// How much was done for accepted commands.
+    /// The work that was done for accepted commands.
     pub fn work(&self) -> Work
         ensures { result ≡ self.now.work }
     {
         self.work
     }
 
-    /// Of the counted encodings, how many kept their answer by the law, without a search for their points.
+    /// How many of the counted encodings were not made, because the answer was retained.
     pub fn spared_count(&self) -> u64
         ensures { result ≡ self.now.spared }
     {

@@ -1,4 +1,4 @@
--- How many nodes a search has settled.
+-- The number of nodes that a search has settled.
 use Rattle.std.proofs.Common.{◌≡◌, ◌==◌, ℕ, Bool, true, false, List, [], ◌∷◌, ◌↔◌, Contains, refl, sym, ap, ◌∙◌, subst}
 use Rattle.std.proofs.Common.{inl, inr, arith}
 use Rattle.std.specs.Prelude.{cond, nat_le, count_by}
@@ -23,7 +23,7 @@ head_too : (test : Reached → Bool) (b : Bool) (x : Reached) (xs : List Reached
 head_too test true x xs n c = Contains-later x.node n (numbers_of (filter test xs)) c
 head_too test false x xs n c = c
 
--- a node is among those that pass a test where it is in the list and passes
+-- a node is among those that pass a test if it is in the list and passes
 nodes_in : (test : Reached → Bool) (xs : List Reached) (r : Reached) → Contains xs r → test r ≡ true →
     Contains (numbers_of (filter test xs)) r.node
 nodes_in test [] r c e = let lt = c.1 in absurd (omega arith)
@@ -63,7 +63,7 @@ passes_more test true x xs v e rest c = elim (Contains-append_cases (x.node ∷ 
 ]
 passes_more test false x xs v e rest c = let k = rest c in (k.0, Contains-later x k.0 xs k.1, k.2, k.3)
 
--- and only there
+-- and only then
 nodes_out : (test : Reached → Bool) (xs : List Reached) (v : ℕ) → Contains (numbers_of (filter test xs)) v →
     Passes test xs v
 nodes_out test [] v c = let lt = c.1 in absurd (omega arith)

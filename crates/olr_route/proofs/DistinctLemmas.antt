@@ -1,4 +1,4 @@
--- Lists of labelled nodes in which no node stands twice, and what is found in them.
+-- Lists of labelled nodes without duplicates, and what is found in them.
 use Rattle.std.proofs.Common.{◌≡◌, ◌≢◌, ◌==◌, ℕ, ◌⊎◌, Bool, true, false, List, [], ◌∷◌, ◌++◌, Contains, sym, ap, ◌∙◌}
 use Rattle.std.proofs.Common.{inl, inr, arith}
 use Rattle.std.specs.List.{IsDistinct, AllByRecursion, filter}
@@ -18,7 +18,7 @@ differs_more : (k : ℕ) (xs : List Reached) (r : Reached) → AllByRecursion (�
 differs_more k [] r all e = (e, tt)
 differs_more k (x ∷ xs) r all e = (all.0, differs_more k xs r all.1 e)
 
--- one more node, that is not among them
+-- one more node, which is not among them
 pub distinct_more : (xs : List Reached) (r : Reached) → IsDistinct ◌==◌ (numbers_of xs) →
     ((x : Reached) → Contains xs x → x.node ≢ r.node) → IsDistinct ◌==◌ (numbers_of (xs ++ r ∷ []))
 unfolding IsDistinct
@@ -50,7 +50,7 @@ distinct_fewer test (x ∷ xs) d =
       | false ↦ distinct_fewer test xs d.1
     ]
 
--- a node of the list with some place, or none
+-- a node of the list with this slot, or none
 pub found_place : (xs : List Reached) (p : ℕ) → ((r : Reached) × Contains xs r × (r.place ≡ p))
     ⊎ ((r : Reached) → Contains xs r → r.place ≢ p)
 found_place [] p = inr (λ r c. let lt = c.1 in absurd (omega arith))

@@ -1,4 +1,4 @@
--- Whether a line prolongs a least walk, or a sole one, by the labels.
+-- Whether a line extends a shortest path, or a unique one, by the labels.
 use Rattle.std.proofs.Common.{◌≡◌, ℕ, ◌+◌, ◌≤◌, List, [], ◌∷◌, ◌++◌, Option, Some, None, inl, inr, sym, ap, ◌∙◌, subst}
 use Rattle.std.proofs.Common.{arith}
 use Rattle.std.specs.Option.{option_map}
@@ -25,13 +25,13 @@ label_of_dist : (k : Option Label) (d : ℕ) → option_map (λ k. k.0) k ≡ So
 label_of_dist None d e = cc
 label_of_dist (Some k) d e = let same : k.0 ≡ d = cc in (k.1, ap (λ (n : ℕ). Some (n, k.1)) same)
 
--- of two least walks with the same ends neither is longer
+-- a shortest path is no longer than a route with the same ends
 least_le : (M : Map) (s t : ℕ) (xs ys : List ℕ) → Least M s t xs → Walk M s t ys → dm_of M xs ≤ dm_of M ys
 least_le M s t xs ys l w =
     elim (cases_lt (dm_of M ys) (dm_of M xs)) [ inl lt ↦ absurd (l.first ys w (inl lt)) | inr le ↦ le ]
 
 module _ (M : Map) (m : IsMap M) (x : Labels) (a : AreLabels M x) where
-  -- the label where a walk within the limit leads is no longer than the walk
+  -- the label at the end of a route within the limit is no longer than the route
   dist_le : (v : ℕ) (ys : List ℕ) → Walk M x.source v ys → dm_of M ys ≤ x.limit → (d : ℕ) × (dist_at x v ≡ Some d)
       × (d ≤ dm_of M ys)
   dist_le v ys w short =
@@ -41,7 +41,7 @@ module _ (M : Map) (m : IsMap M) (x : Labels) (a : AreLabels M x) where
       let long = r.long in
       (k.0.0, ap (λ (o : Option Label). option_map (λ k. k.0) o) k.1, omega arith)
 
-  -- the label where a least walk within the limit leads
+  -- the label at the end of a shortest path within the limit
   label_of_least : (v : ℕ) (ys : List ℕ) → Least M x.source v ys → dm_of M ys ≤ x.limit →
       label_at x v ≡ Some (dm_of M ys, last_of ys)
   label_of_least v ys l short =
@@ -51,7 +51,7 @@ module _ (M : Map) (m : IsMap M) (x : Labels) (a : AreLabels M x) where
       k.1 ∙ ap (λ (z : Label). Some z) (ap (λ (n : ℕ). (n, k.0.1)) (sym r.long ∙ ap (dm_of M) same)
       ∙ ap (λ (o : Option ℕ). (dm_of M ys, o)) (sym r.ends ∙ ap last_of same))
 
-  -- a label's walk is within the limit
+  -- a label's route is within the limit
   label_short : (v d : ℕ) (o : Option ℕ) → label_at x v ≡ Some (d, o) → d ≤ x.limit
   label_short v d o at =
       let r = a.least v d o at in
@@ -61,7 +61,7 @@ module _ (M : Map) (m : IsMap M) (x : Labels) (a : AreLabels M x) where
       let short = w.2 in
       omega arith
 
-  -- where the label has the line, the least walk goes on by it
+  -- if the label has the line, the line extends the shortest path
   pub least_if_last : (y : ℕ) (walk : List ℕ) → LeastWithin M x (start M y) walk → last_at x (end M y) ≡ Some y →
       LeastWithin M x (end M y) (walk ++ y ∷ [])
   least_if_last y walk l e =
@@ -77,7 +77,7 @@ module _ (M : Map) (m : IsMap M) (x : Labels) (a : AreLabels M x) where
       let short = label_short (end M y) k.0 (Some y) k.1 in
       record { least = subst (λ (zs : List ℕ). Least M x.source (end M y) zs) lines r.least; within = omega arith }
 
-  -- and only there
+  -- and only then
   pub last_if_least : (y : ℕ) (walk : List ℕ) → LeastWithin M x (end M y) (walk ++ y ∷ []) →
       last_at x (end M y) ≡ Some y
   last_if_least y walk l =
@@ -123,7 +123,7 @@ module _ (M : Map) (m : IsMap M) (x : Labels) (a : AreLabels M x) where
         within = l.within;
       }
 
-  -- and only there
+  -- and only then
   pub alone_if_sole : (y : ℕ) (walk : List ℕ) → SoleWithin M x (end M y) (walk ++ y ∷ []) → Alone M x y
   alone_if_sole y walk f z e known to de d dz le =
       let least = sole_least M x.source (end M y) (walk ++ y ∷ []) f.sole in

@@ -1,4 +1,4 @@
--- What waits in the queue before and after a push and a pop.
+-- The entries of the queue before and after a push and a pop.
 use Rattle.std.proofs.Common.{◌≡◌, ℕ, ◌/◌, ◌%◌, ◌<◌, ◌≤◌, ◌^◌, ◌⊎◌, List, [], ◌∷◌, Contains, sym, ap, ◌∙◌, subst, inl}
 use Rattle.std.proofs.Common.{inr, arith, refl}
 use Rattle.std.specs.declared.cmp.Reverse.{Reverse}
@@ -15,7 +15,7 @@ use Rattle.olr_route.specs.Queues.{queue_key}
 abbrev pub Entry : Type 0
 Entry = Reverse ℕ
 
--- an entry tells the length and the place
+-- the length and the slot of an entry
 pub entry_dist : (d p : ℕ) → p < 2 ^ 32 → queue_key d p / 2 ^ 32 ≡ d
 entry_dist d p small = div-mul-add d (2 ^ 32) p small
 
@@ -46,7 +46,7 @@ low_from_greatest x (z ∷ zs) h y w = elim (Contains-append_cases (z ∷ []) zs
   | inr b ↦ low_from_greatest x zs h.1 y b
 ]
 
--- what is taken out has the least length
+-- the removed entry has the least length
 pub popped_least : (xs ys : List Entry) (x : Entry) (d p : ℕ) → p < 2 ^ 32 → IsPermutation xs (x ∷ ys) →
     IsUpperBound entry_cmp x ys → Contains xs (record { 0 = queue_key d p }) → x.0 / 2 ^ 32 ≤ d
 popped_least xs ys x d p small perm top w = elim (popped_others xs ys x d p small perm w) [

@@ -1,4 +1,4 @@
--- Marks that no line improves are the labels of the least walks.
+-- Marks that no line improves are the labels of the shortest paths.
 use Rattle.std.proofs.Common.{◌≡◌, ℕ, zero, suc, ◌+◌, ◌<◌, ◌≤◌, List, [], ◌∷◌, ◌++◌, reverse, length, Option, Some}
 use Rattle.std.proofs.Common.{None, IsTrue, inl, inr, refl, sym, ap, ◌∙◌, subst, arith, length-append}
 use Rattle.olr_spec.specs.Map.{Map, IsMap, has_line, start, end, dm}
@@ -15,7 +15,7 @@ pub not_after_le : (d e : ℕ) (o p : Option ℕ) → NotAfter d o e p → d ≤
 not_after_le d e o p (inl h) = omega arith
 not_after_le d e o p (inr h) = let k : d ≡ e = h.0 in omega arith
 
--- one line more
+-- one more line
 not_after_line : (e d : ℕ) (o p : Option ℕ) (f n : ℕ) (q : Option ℕ) (x : ℕ) → NotAfter e o d p →
     NotAfter f q (e + n) (Some x) → NotAfter f q (d + n) (Some x)
 not_after_line e d o p f n q x h (inl k) = let le = not_after_le e d o p h in inl (omega arith)
@@ -28,12 +28,12 @@ same_label k d e o p h g = let both : ◌≡◌ {A = Option Label} (Some (d, o))
     let pair : ◌≡◌ {A = Label} (d, o) (e, p) = cc in
     (ap (λ (z : Label). z.0) pair, ap (λ (z : Label). z.1) pair)
 
--- where the last line is at most some line, there is one
+-- if the last line is at most some line, there is one
 last_below : (o : Option ℕ) (x : ℕ) → NotGreater (Some x) o → (y : ℕ) × (o ≡ Some y) × (x ≤ y)
 last_below None x h = absurd h
 last_below (Some y) x h = (y, refl, h)
 
--- what a search shows of its marks
+-- what a search shows about its marks
 pub record Certified (M : Map) (s limit : ℕ) (L : ℕ → Option Label) : Type 0 where
   pub at_source : L s ≡ Some (0, None)
   pub within : (v d : ℕ) (o : Option ℕ) → L v ≡ Some (d, o) → d ≤ limit
@@ -62,7 +62,7 @@ module _ (M : Map) (m : IsMap M) (s limit : ℕ) (L : ℕ → Option Label) (c :
             (not_after_line k.dist (dm_of M front) k.last (last_of front) r.dist (dm M x) r.last x k.low r.low));
       }
 
-  -- each walk within the limit ends at a mark that is not after it
+  -- each route within the limit ends at a mark that is not after it
   capped_by : (n v : ℕ) (ys : List ℕ) → length ys ≤ n → Walk M s v ys → dm_of M ys ≤ limit →
       Capped L v (dm_of M ys) (last_of ys)
   capped_by zero v [] h w short = capped_empty v w
@@ -81,7 +81,7 @@ module _ (M : Map) (m : IsMap M) (s limit : ℕ) (L : ℕ → Option Label) (c :
   pub capped : (v : ℕ) (ys : List ℕ) → Walk M s v ys → dm_of M ys ≤ limit → Capped L v (dm_of M ys) (last_of ys)
   capped v ys w short = capped_by (length ys) v ys (omega arith) w short
 
-  -- a least walk goes on by the last line of a mark to a least walk
+  -- the last line of a mark extends a shortest path to a shortest path
   least_on : (v x e : ℕ) (ws : List ℕ) → L v ≡ Some (e + dm M x, Some x) → e + dm M x ≤ limit → IsTrue (has_line M x) →
       end M x ≡ v
       → Least M s (start M x) ws → dm_of M ws ≡ e → (ys : List ℕ) → Walk M s v ys → ¬ Before M ys (ws ++ x ∷ [])
@@ -168,7 +168,7 @@ module _ (M : Map) (m : IsMap M) (s limit : ℕ) (L : ℕ → Option Label) (c :
             (λ u b p lt there. least_below n u b p (omega arith) there)
       ]
 
--- it is what labels are
+-- such marks are labels
 pub labels_of_certified : (M : Map) → IsMap M → (x : Labels) → Certified M x.source x.limit (label_at x) → AreLabels M x
 labels_of_certified M m x c = record {
   reached = λ v. (

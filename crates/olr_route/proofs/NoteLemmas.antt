@@ -1,4 +1,4 @@
--- The table of labels and the list of the nodes that have one, as either changes.
+-- The table of labels and the list of the labelled nodes, as either changes.
 use Rattle.std.proofs.Common.{◌≡◌, ◌≢◌, ℕ, ◌<◌, ◌≤◌, List, [], ◌∷◌, ◌++◌, Contains, length, get_or, refl, sym, ap, ◌∙◌}
 use Rattle.std.proofs.Common.{subst, inl, inr, arith}
 use Rattle.std.proofs.lemmas.Bool.{cases_eq}
@@ -13,11 +13,11 @@ use Rattle.olr_route.specs.Notes.{label_in, AreAllReached, NotesOnce}
 pub first_one : {X : Type 0} → (x : X) → Contains (x ∷ []) x
 first_one x = (0, omega arith, refl)
 
--- what is read of the table, within its length n
+-- a label that is read from the table, of length n
 pub read_label : (table : List ℕ) (p n x : ℕ) → x ≡ get_or table p x → p < n → n ≡ length table → x ≡ label_in table p
 read_label table p n x is lt long = get_or_read_under table p n x NO_LABEL is lt long
 
--- a longer list notes what the shorter one does
+-- a longer list has the nodes of the shorter one
 pub noted_more : (table : List ℕ) (old new : List Reached) (label : ℕ) (r : Reached) → NotesOnce old new label r →
     AreAllReached table old → AreAllReached table new
 noted_more table old new label r (inl h) noted p none =
@@ -33,7 +33,7 @@ not_there table old new r label p (inr h) none is no_label =
     none r (subst (λ (xs : List Reached). Contains xs r) (sym h.0) (Contains-append_right old (r ∷ []) r (first_one r)))
     (sym is)
 
--- a label comes to the place of a node that is noted
+-- a label is written in the slot of a node of the list
 pub noted_put : (table : List ℕ) (old new : List Reached) (r : Reached) (d label : ℕ) → label ≡ label_in table r.place →
     NotesOnce old new label r → AreAllReached table old → AreAllReached (set table r.place d) new
 noted_put table old new r d label is_label once noted p none =
@@ -43,7 +43,7 @@ noted_put table old new r d label is_label once noted p none =
       | inl is ↦ absurd (not_there table old new r label p once none is (is_label ∙ ap (label_in table) (sym is) ∙ was))
     ]
 
--- one node less, whose label is taken away
+-- one node less, whose label is removed
 noted_without : (table : List ℕ) (front : List Reached) (r : Reached) (p : ℕ) → AreAllReached table (front ++ r ∷ []) →
     p ≢ r.place → ((x : Reached) → Contains front x → x.place ≢ p) → label_in table p ≡ NO_LABEL
 noted_without table front r p noted ne none = noted p (λ x c same. elim (Contains-append_cases front (r ∷ []) x c) [

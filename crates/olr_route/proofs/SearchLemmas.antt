@@ -1,4 +1,4 @@
--- How a search that can go on keeps what it says.
+-- The invariants of a search that can be continued.
 use Rattle.std.proofs.Common.{◌≡◌, ◌==◌, ℕ, zero, suc, ◌+◌, ◌<◌, ◌≤◌, ◌⊎◌, List, [], ◌∷◌, Contains, IsTrue, length}
 use Rattle.std.proofs.Common.{get_or, map, refl, sym, ap, ◌∙◌, subst, inl, inr, arith}
 use Rattle.std.specs.Prelude.{max, sum}
@@ -27,9 +27,9 @@ use Rattle.olr_route.proofs.DistinctLemmas.{distinct_more, distinct_none, found_
 use Rattle.olr_route.proofs.WayLemmas.{LastLine, way_ends, near_node, leads_node}
 use Rattle.olr_route.proofs.WayLemmas.WayEnds.{stays, goes_on}
 
--- ---- one label put
+-- ---- one label is lowered
 
--- a smaller label is written at p, and p waits
+-- a smaller label is written in slot p, and p is queued
 pub put_by : (f g : Found) (v p d label : ℕ) → g.table.items ≡ set f.table.items p d → p < length f.table.items →
     label ≡ label_of f p → d < label → NotesOnce f.reached.items g.reached.items label (record { node = v; place = p })
     → IsQueued g d p → ((e q : ℕ) → IsQueued f e q → IsQueued g e q) → found_len g ≡ found_len f →
@@ -96,7 +96,7 @@ moves_then f g h m n = record {
 }
 
 module _ (M : Map) (place : ℕ → ℕ) (direction : Direction) (from : List (ℕ × ℕ)) where
-  -- a label that a way has is put at its node
+  -- the length of a route is written as a label at its node
   module _ (f g : Found) (v p d : ℕ) (k : IsPut f g v p d) (there : IsTrue (has_node M v)) (at : place v ≡ p)
       (way : Leads M direction from v d) (l : IsLabelled M place direction from f) where
     put_leads : (w : ℕ) → IsTrue (has_node M w) → label_of g (place w) ≤ GREATEST_LIMIT →
@@ -185,14 +185,14 @@ module _ (M : Map) (place : ℕ → ℕ) (direction : Direction) (from : List (�
         subst (λ (xs : List Reached). IsDistinct ◌==◌ (map (λ (r : Reached). r.node) xs)) (sym e.reached) distinct_none;
   }
 
-  -- ---- the front
+  -- ---- the frontier
 
   pub closed_better : (f g : Found) (v d : ℕ) → ((p : ℕ) → label_of g p ≤ label_of f p) →
       ClosedAt M place direction f v d → ClosedAt M place direction g v d
   closed_better f g v d better closed x known near = let was = closed x known near in let le =
       better (place (far_end M direction x)) in omega arith
 
-  -- what does not depend on what waits
+  -- what does not depend on the queue
   pub labelled_same : (f g : Found) → ((p : ℕ) → label_of g p ≡ label_of f p) → found_len g ≡ found_len f →
       g.reached.items ≡ f.reached.items → IsLabelled M place direction from f → IsLabelled M place direction from g
   labelled_same f g same len reached l = record {
@@ -213,7 +213,7 @@ module _ (M : Map) (place : ℕ → ℕ) (direction : Direction) (from : List (�
   module _ (Closed : Found → ℕ → ℕ → Type 0) (better : (f g : Found) (v d : ℕ) → ((p : ℕ) → label_of g p ≤ label_of f p)
       → Closed f v d → Closed g v d) (f g : Found) (d p : ℕ) (same : (q : ℕ) → label_of g q ≡ label_of f q)
       (others : (e q : ℕ) → IsQueued f e q → IsQueued g e q ⊎ ((e ≡ d) × (q ≡ p))) where
-    -- it was not the label there any more
+    -- its label is another one by now
     pub front_skip : ¬ (label_of f p ≡ d) →
         ((v : ℕ) → IsTrue (has_node M v) → label_of f (place v) ≤ GREATEST_LIMIT →
         Closed f v (label_of f (place v)) ⊎ IsQueued f (label_of f (place v)) (place v))
@@ -230,7 +230,7 @@ module _ (M : Map) (place : ℕ → ℕ) (direction : Direction) (from : List (�
           ]
         ])
 
-    -- it was, and the lines from there are followed, up to h
+    -- its label is d, and the lines from there are followed, up to h
     pub front_more : (h : Found) → Moves g h →
         ((v : ℕ) → IsTrue (has_node M v) → place v ≡ p → Closed h v d)
         → ((v : ℕ) → IsTrue (has_node M v) → label_of f (place v) ≤ GREATEST_LIMIT →
@@ -252,7 +252,7 @@ module _ (M : Map) (place : ℕ → ℕ) (direction : Direction) (from : List (�
           ])
     ]
 
-  -- what is taken out of the queue is followed, or the label there is another one by now
+  -- the lines of a removed entry are followed, or the label there is another one by now
   pub record Popped (f g : Found) (d p : ℕ) : Type 0 where
     pub same : (q : ℕ) → label_of g q ≡ label_of f q
     pub len : found_len g ≡ found_len f
@@ -289,7 +289,7 @@ module _ (M : Map) (place : ℕ → ℕ) (direction : Direction) (from : List (�
         front = front_more (ClosedAt M place direction) closed_better f g d p k.same k.others h moves closed u.front;
       }
 
-  -- nothing is taken out
+  -- nothing is removed
   pub under_way_same : (f g : Found) → g.table.items ≡ f.table.items → found_len g ≡ found_len f →
       g.reached.items ≡ f.reached.items → ((e q : ℕ) → IsQueued f e q → IsQueued g e q) →
       IsUnderWay M place direction from f → IsUnderWay M place direction from g
@@ -311,7 +311,7 @@ module _ (M : Map) (place : ℕ → ℕ) (direction : Direction) (from : List (�
 
   module _ (f : Found) (limit : ℕ) (u : IsUnderWay M place direction from f) (small : limit ≤ GREATEST_LIMIT)
       (far : (d p : ℕ) → IsQueued f d p → limit < d) where
-    -- by one line more
+    -- by one more line
     settled_on : (s b v : ℕ) (lines : List ℕ) → b + dm_of M lines ≤ limit → (k : LastLine M direction s v lines) →
         label_of f (place (near_end M direction k.line)) ≤ b + dm_of M k.front →
         label_of f (place v) ≤ b + dm_of M lines
@@ -349,7 +349,7 @@ module _ (M : Map) (place : ℕ → ℕ) (direction : Direction) (from : List (�
         subst (λ (e : ℕ). label_of f (place v) ≤ e) long
         (settled_by (length l.lines) l.source l.begun v l.lines (omega arith) l.listed l.there l.way (omega arith))
 
-  -- the search s is settled on to a limit, up to the search t
+  -- the search s is continued to a limit, up to the search t
   pub settled_on_to : (s t : Search) (limit : ℕ) → IsSearch M place direction from s → t.direction ≡ s.direction →
       IsUnderWay M place direction from t.found → limit ≤ GREATEST_LIMIT →
       ((d p : ℕ) → IsQueued t.found d p → limit < d)
@@ -367,7 +367,7 @@ module _ (M : Map) (place : ℕ → ℕ) (direction : Direction) (from : List (�
         ];
       }
 
-  -- at first each way of no length stays where it begins
+  -- at first each route of length 0 stays where it begins
   pub settled_none : (f : Found) → IsUnderWay M place direction from f → (v d : ℕ) → IsTrue (has_node M v) → d ≤ 0 →
       Leads M direction from v d → label_of f (place v) ≤ d
   settled_none f u v d known le l = let long = l.long in elim (way_ends M direction l.source v l.lines l.way) [
@@ -407,7 +407,7 @@ module _ (M : Map) (place : ℕ → ℕ) (direction : Direction) (from : List (�
           ];
         }
 
-    -- what a way within the limit leads to is near
+    -- a node that a route within the limit reaches is near
     pub near_leads : (v d : ℕ) → d ≤ s.limit → Leads M direction from v d → LiesWithin M direction from s.limit v
     near_leads v d le l =
         let known = leads_node M h.under_way.labelled.sound direction from v d l in

@@ -1,4 +1,4 @@
--- Whether a line prolongs a sole walk, by distances alone.
+-- Whether a line extends a unique shortest path, by distances only.
 use Rattle.std.proofs.Common.{◌≡◌, ◌≢◌, ℕ, ◌+◌, ◌<◌, ◌≤◌, List, [], ◌∷◌, ◌++◌, IsTrue, sym, ap, ◌∙◌, subst, inl, inr}
 use Rattle.std.proofs.Common.{arith}
 use Rattle.std.proofs.lemmas.Bool.{cases_eq, cases_lt}
@@ -59,7 +59,7 @@ module _ (M : Map) (place : ℕ → ℕ) (s : ℕ) (q : Search) (h : IsSearch M 
 
   module _ (walk : List ℕ) (x : ℕ) (line : IsTrue (has_line M x)) (sole : Sole M s (start M x) walk)
       (short : dm_of M walk + dm M x ≤ q.limit) where
-    -- another walk to where x ends is longer
+    -- another route to the end of x is longer
     others_longer : label_of q.found (place (start M x)) + dm M x ≡ label_of q.found (place (end M x)) →
         IsAlone M place q.found x (end M x) (label_of q.found (place (end M x)))
         → (ys : List ℕ) → Walk M s (end M x) ys → ys ≢ walk ++ x ∷ [] → dm_of M walk + dm M x < dm_of M ys
@@ -123,7 +123,7 @@ module _ (M : Map) (place : ℕ → ℕ) (s : ℕ) (q : Search) (h : IsSearch M 
               absurd (omega arith)
         ]
 
-    -- the same by what the code reads of the line
+    -- the result, by what the code reads of the line
     module _ (from to len near length : ℕ) (is_from : from ≡ start M x) (is_to : to ≡ end M x) (is_len : len ≡ dm M x)
         (is_near : near ≡ label_of q.found (place from)) (is_length : length ≡ label_of q.found (place to)) where
       near_is : near ≡ label_of q.found (place (start M x))

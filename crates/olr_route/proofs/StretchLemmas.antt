@@ -1,4 +1,4 @@
--- The first lines of a walk, one more at a time.
+-- The first lines of a route, one more at a time.
 use Rattle.std.proofs.Common.{◌≡◌, ℕ, ◌+◌, ◌<◌, ◌≤◌, List, [], ◌∷◌, ◌++◌, take, drop, length, get_or, IsTrue, sym, ap}
 use Rattle.std.proofs.Common.{◌∙◌, subst, arith, append_assoc, add-one, drop-cons, suc}
 use Rattle.std.proofs.lemmas.List.{take_more, take-append-drop}
@@ -9,7 +9,7 @@ use Rattle.olr_spec.proofs.WalkLemmas.{empty_sole}
 use Rattle.olr_route.specs.Labels.{Labels, LeastWithin, SoleWithin}
 use Rattle.olr_route.proofs.WalkEnds.{walk_on, last_step}
 
--- line y is the one after the first i lines of a walk from s to t
+-- line y is the one after the first i lines of a route from s to t
 pub record IsNext (M : Map) (s t : ℕ) (lines : List ℕ) (i y : ℕ) : Type 0 where
   pub known : IsTrue (has_line M y)
   pub front : Walk M s (start M y) (take i lines)
@@ -59,7 +59,7 @@ module _ (M : Map) (x : Labels) (t : ℕ) (lines : List ℕ) (i y : ℕ) (n : Is
     within = prefix_short l.within;
   }
 
-  -- what holds of the first i + 1 lines, wherever they lead
+  -- what holds for the first i + 1 lines, wherever they lead
   pub held_more : (P : ℕ → List ℕ → Type 0) → P (end M y) (take i lines ++ y ∷ []) → (v : ℕ) →
       Walk M x.source v (take (i + 1) lines) → P v (take (i + 1) lines)
   held_more P here v w =

@@ -1,4 +1,4 @@
--- Distances with the last lines that they give are the labels of the least walks.
+-- Distances with their last lines are the labels of the shortest paths.
 use Rattle.std.proofs.Common.{◌≡◌, ℕ, ◌+◌, ◌<◌, ◌≤◌, ◌⊎◌, ◌↔◌, List, [], ◌∷◌, ◌++◌, length, get_or, Contains, Option}
 use Rattle.std.proofs.Common.{Some, None, IsTrue, refl, sym, ap, ◌∙◌, subst, inl, inr, arith}
 use Rattle.std.specs.List.Sorted.{IsStrictlyIncreasing}
@@ -23,7 +23,7 @@ use Rattle.olr_route.proofs.WalkEnds.{last_of-append, ends_of, dm_of-line, walk_
 use Rattle.olr_route.proofs.WalkEnds.Ends.{empty, ended}
 use Rattle.olr_route.proofs.WayLemmas.{leads_first}
 
--- an option has something in it, or nothing
+-- an option has a value, or none
 something : (o : Option ℕ) → (o ≡ None) ⊎ ((x : ℕ) × (o ≡ Some x))
 something None = inl refl
 something (Some x) = inr (x, refl)
@@ -33,7 +33,7 @@ module _ (M : Map) (place : ℕ → ℕ) (s : ℕ) (q : Search) (h : IsSearch M 
     (beside : length ls ≡ length ks)
     (near : (v : ℕ) → Contains ks v ↔ LiesWithin M Along ((s, 0) ∷ []) q.limit v)
     (told : (i : ℕ) → i < length ks → IsTold M place q.found (get_or ks i 0) (get_or ls i (0, None))) where
-  -- what a label says, and that it is near
+  -- what a label says, and that it is within the limit
   record Says (v d : ℕ) (o : Option ℕ) : Type 0 where
     known : IsTrue (has_node M v)
     dist : label_of q.found (place v) ≡ d
@@ -65,7 +65,7 @@ module _ (M : Map) (place : ℕ → ℕ) (s : ℕ) (q : Search) (h : IsSearch M 
         subst (λ (u : ℕ). IsTold M place q.found u (get_or ls c.0 (0, None))) is (told c.0 c.1),
       )
 
-  -- a shortest walk, and a line more
+  -- a shortest route, and one more line
   on_by : (u x : ℕ) → IsTrue (has_node M u) → IsTrue (has_line M x) → start M x ≡ u →
       label_of q.found (place u) + dm M x ≤ q.limit →
       label_of q.found (place (end M x)) ≤ label_of q.found (place u) + dm M x
@@ -96,7 +96,7 @@ module _ (M : Map) (place : ℕ → ℕ) (s : ℕ) (q : Search) (h : IsSearch M 
             absurd (omega arith)
       ]
 
-  -- a label without a last line is that of the empty walk
+  -- a label without a last line is that of the empty route
   found_none : (v d : ℕ) (o : Option ℕ) → Says v d o → o ≡ None → Found M s v d o
   found_none v d o t e =
       let m = h.under_way.labelled.sound in

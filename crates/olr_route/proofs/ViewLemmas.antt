@@ -1,4 +1,4 @@
--- Labels are a finite map, and are kept in two lists: the two answer alike.
+-- Labels are a finite map, and are stored in two lists: both have the same values.
 use Rattle.std.proofs.Common.{◌≡◌, ℕ, suc, ◌+◌, ◌<◌, ◌↔◌, Contains, List, [], ◌∷◌, length, get_or, Option, Some, None}
 use Rattle.std.proofs.Common.{Bool, false, cond, is_some, IsSome, refl, sym, ap, ◌∙◌, subst, arith, nat_cmp, eqb}
 use Rattle.std.specs.Cmp.{nat_cmp_total, unsigned_tied}
@@ -34,7 +34,7 @@ not_found : (k : ℕ) (es : List (ℕ × Label)) → AllByRecursion (λ y. eqb k
 not_found k [] h = refl
 not_found k (e ∷ es) h = ap (λ (b : Bool). cond b (Some e.1) (lookup (eqb k) es)) h.0 ∙ not_found k es h.1
 
--- as many labels as entries, where no key stands twice
+-- as many labels as entries, if no key is repeated
 len-view : (es : List (ℕ × Label)) → IsDistinct eqb (keys_of es) → len (from_entries {R = nat_cmp} es) ≡ length es
 len-view [] h = len-empty nat_cmp Label
 len-view (e ∷ es) h =
@@ -70,7 +70,7 @@ module _ (s limit : ℕ) (ks : List ℕ) (ls : List Label) (up : IsStrictlyIncre
       (ap (λ (p : ℕ × Label). p.0) pair ∙ is)
       ∙ ap (λ (p : ℕ × Label). Some p.1) pair
 
-  -- just the nodes of the list have one
+  -- exactly the nodes of the list have one
   pub has_label : (v : ℕ) → Contains ks v ↔ IsSome (label_at (listed_labels s limit ks ls) v)
   has_label v = (
     λ c. let lt =
@@ -84,7 +84,7 @@ module _ (s limit : ℕ) (ks : List ℕ) (ls : List Label) (up : IsStrictlyIncre
   pub none_there : (v : ℕ) → ¬ Contains ks v → label_at (listed_labels s limit ks ls) v ≡ None
   none_there v absent = none_of (label_at (listed_labels s limit ks ls) v) (λ h. absent ((has_label v).1 h))
 
-  -- a label stands beside its node
+  -- a label is at the position of its node
   pub node_of_label : (v : ℕ) (k : Label) → label_at (listed_labels s limit ks ls) v ≡ Some k →
       (i : ℕ) × (i < length ks) × (get_or ks i 0 ≡ v) × (get_or ls i (0, None) ≡ k)
   node_of_label v k at =

@@ -1,4 +1,4 @@
--- Walks taken apart at their last line.
+-- Routes, split at their last line.
 use Rattle.std.proofs.Common.{◌≡◌, ℕ, ◌+◌, List, [], ◌∷◌, ◌++◌, Option, Some, None, IsTrue, refl, sym, ap, ◌∙◌, subst}
 use Rattle.std.proofs.Common.{arith}
 use Rattle.olr_spec.specs.Map.{Map, has_line, start, end, dm}
@@ -16,7 +16,7 @@ same_last xs ys x y e =
     let both : ◌≡◌ {A = Option ℕ} (Some x) (Some y) = sym (last_of-append xs x) ∙ ap last_of e ∙ last_of-append ys y in
     cc
 
--- a list is empty, or ends with one
+-- a list is empty, or ends with an element
 pub data Ends (xs : List ℕ) : Type 0 where
   empty : xs ≡ [] → Ends xs
   ended : (front : List ℕ) (x : ℕ) → xs ≡ front ++ x ∷ [] → Ends xs
@@ -42,7 +42,7 @@ ended_by xs x e = elim (ends_of xs) [
 pub dm_of-line : (M : Map) (xs : List ℕ) (x : ℕ) → dm_of M (xs ++ x ∷ []) ≡ dm_of M xs + dm M x
 dm_of-line M xs x = omega (arith, dm_of-append M xs (x ∷ []))
 
--- a walk that goes on by a line, and back
+-- a route that is extended by a line, and back
 pub walk_on : (M : Map) (s x : ℕ) (xs : List ℕ) → Walk M s (start M x) xs → IsTrue (has_line M x) →
     Walk M s (end M x) (xs ++ x ∷ [])
 walk_on M s x xs w k = Walk-append M s (start M x) (end M x) xs (x ∷ []) w (k, refl, refl)
@@ -57,7 +57,7 @@ last_step M s t x xs w =
     let r = Walk-split M s t xs (x ∷ []) w in
     record { front = subst (λ (v : ℕ). Walk M s v xs) (sym r.2.1) r.1; known = r.2.0; to = r.2.2 }
 
--- what leads to the last line of a least walk is least
+-- a shortest path without its last line is a shortest path
 pub least_front : (M : Map) (s t x : ℕ) (xs : List ℕ) → Least M s t (xs ++ x ∷ []) → Least M s (start M x) xs
 least_front M s t x xs l =
     let r = last_step M s t x xs l.walk in

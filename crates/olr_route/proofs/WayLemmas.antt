@@ -1,4 +1,4 @@
--- Ways in one direction or the other, and the far ends of the lines at a node.
+-- Routes in one direction or the other, and the far ends of the lines at a node.
 use Rattle.std.proofs.Common.{◌≡◌, ℕ, ◌+◌, ◌<◌, List, [], ◌∷◌, ◌++◌, Contains, IsTrue, length, get_or, map, refl, sym}
 use Rattle.std.proofs.Common.{ap, ◌∙◌, subst, arith, length-append}
 use Rattle.std.proofs.lemmas.List.{get_or-map, length-map}
@@ -14,7 +14,7 @@ use Rattle.olr_route.proofs.ReadLemmas.{leaves, leaving, enters, entering}
 use Rattle.olr_route.proofs.WalkEnds.{ends_of, dm_of-line, walk_on, last_step}
 use Rattle.olr_route.proofs.WalkEnds.Ends.{empty, ended}
 
--- the line by which a way gets to its end
+-- the line by which a route reaches its end
 pub record LastLine (M : Map) (direction : Direction) (s v : ℕ) (lines : List ℕ) : Type 0 where
   pub line : ℕ
   pub front : List ℕ
@@ -60,7 +60,7 @@ pub far_node : (M : Map) → IsMap M → (direction : Direction) (x : ℕ) → I
 far_node M m Along x known = m.ends x known
 far_node M m Against x known = m.starts x known
 
--- a way begins by staying
+-- a route without lines stays where it begins
 pub leads_first : (M : Map) (direction : Direction) (from : List (ℕ × ℕ)) (s b : ℕ) → Contains from (s, b) →
     IsTrue (has_node M s) → Leads M direction from s b
 leads_first M Along from s b listed there =
@@ -68,7 +68,7 @@ leads_first M Along from s b listed there =
 leads_first M Against from s b listed there =
     record { source = s; begun = b; lines = []; listed = listed; there = there; way = refl; long = omega arith }
 
--- and goes on by a line
+-- and a line extends a route
 pub leads_on : (M : Map) (direction : Direction) (from : List (ℕ × ℕ)) (x d : ℕ) → IsTrue (has_line M x) →
     Leads M direction from (near_end M direction x) d → Leads M direction from (far_end M direction x) (d + dm M x)
 leads_on M Along from x d known l =
@@ -144,7 +144,7 @@ end_is M place Against v items i e is lt at =
     let own = enters M v i x (lines_in M v) refl k.0 (sym (get_or_default_zero (lines_in M v) i x k.0)) in
     end_by M place Against v x e (end_in M place x) own.0 own.1 k.1 refl refl refl
 
--- what stands for no far end
+-- the default for a far end
 abbrev pub no_end : LineEnd
 no_end = record { node = 0; place = 0; len = 0 }
 
@@ -182,7 +182,7 @@ has_end M place Against v x items is known near =
     let k = entering M v x (lines_in M v) refl known near in
     has_by M place Against (end_in M place) (lines_in M v) items k.0 x is k.1 k.2 refl refl refl
 
--- the i-th line that enters a node, and how its far end is told
+-- the i-th line that enters a node, and its far end
 pub record IsEntry (M : Map) (place : ℕ → ℕ) (to : ℕ) (lines : List ℕ) (i : ℕ) (e : LineEnd) : Type 0 where
   pub within : i < length lines
   pub known : IsTrue (has_line M (get_or lines i 0))

@@ -1,10 +1,10 @@
--- Distances from some nodes, each with a length to begin with, along the lines or against them.
---     Way M direction s v xs      the lines xs are a walk from s to v, or where the direction is against them, a walk
+-- Distances from some nodes, each with a start value, along the lines or against them.
+--     Way M direction s v xs      the lines xs are a route from s to v, or, if the direction is against them, a route
 --         from v to s
 --     near_end M direction x, far_end M direction x      where line x is entered in this direction, and where it leads
 --     ends_at M place direction v      the far ends of the lines that are entered at v
---     Leads M direction from v d      a way leads to v from a node of the map that is listed, of length d with what is
---         listed there
+--     Leads M direction from v d      a route in this direction leads to v from a listed node of the map; d is its
+--         length plus the start value that is listed with the node
 --     IsDistance M direction from v d      the least such d
 use Rattle.std.specs.Prelude.{◌≡◌, ℕ, ◌+◌, ◌≤◌, List, Contains, IsTrue}
 use Rattle.olr_spec.specs.Map.{Map, has_node, start, end}
@@ -30,7 +30,7 @@ abbrev pub ends_at : Map → (ℕ → ℕ) → Direction → ℕ → List LineEn
 ends_at M place Along v = ends_out M place v
 ends_at M place Against v = ends_in M place v
 
--- lengths in decimetres; what is listed is a node and the length that each way from it begins with
+-- lengths in decimetres; the list has nodes, each with its start value
 pub record Leads (M : Map) (direction : Direction) (from : List (ℕ × ℕ)) (v d : ℕ) : Type 0 where
   pub source : ℕ
   pub begun : ℕ

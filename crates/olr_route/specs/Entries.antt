@@ -1,5 +1,5 @@
 -- The order of the entries of a queue.
---     entry_cmp      the smaller entry is the greater one
+--     entry_cmp      reversed: the smaller number is the greater entry
 use Rattle.std.specs.Prelude.{ℕ}
 use Rattle.std.specs.Ordering.{nat_cmp}
 use Rattle.std.specs.declared.cmp.Ordering.{Ordering}

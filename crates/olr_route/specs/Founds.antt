@@ -1,12 +1,12 @@
--- What a search has found so far, and how it changes.
---     label_of f p      the label at place p, NO_LABEL where none stands.
---     found_len f      how many places the table has
---     IsQueued f d p      place p waits, at length d.
---     queued_len f      how many wait
---     IsEmpty f      no labels, and nothing waits
---     IsPut f g v p d      node v with place p was labelled d, unless the label there was no greater
---     Moves f g      no label got greater, and where one is new its place waits
---     to_do f      what is left to do: it gets less with each label that gets less and each place that is taken out
+-- The state of a search, and how it changes.
+--     label_of f p      the label in slot p; NO_LABEL if there is none
+--     found_len f      how many slots the table has
+--     IsQueued f d p      slot p is queued, at length d
+--     queued_len f      how many entries the queue has
+--     IsEmpty f      no labels, and nothing is queued
+--     IsPut f g v p d      the label of node v in slot p was lowered to d, unless it was no greater
+--     Moves f g      no label increased, and where one is new its slot is queued
+--     to_do f      what is left to do: it decreases with each label that is lowered and each entry that is removed
 use Rattle.std.specs.Prelude.{◌≡◌, ◌≢◌, ℕ, ◌+◌, ◌*◌, ◌≤◌, ◌<◌, ◌⊎◌, [], ◌∷◌, ◌++◌, min, sum, vec_len}
 use Rattle.olr_route.specs.Notes.{label_in}
 use Rattle.olr_route.specs.Queues.{Queued, queue_len}
@@ -34,7 +34,7 @@ pub record IsEmpty (f : Found) : Type 0 where
   pub reached : f.reached.items ≡ []
   pub queue : queued_len f ≡ 0
 
--- the node is noted where it had no label
+-- the node is recorded if it had no label
 abbrev pub NotedOnce : Found → Found → ℕ → ℕ → Type 0
 NotedOnce f g v p =
     ((g.reached.items ≡ f.reached.items) × (label_of g p ≤ GREATEST_LIMIT → label_of f p ≤ GREATEST_LIMIT))

@@ -1,9 +1,9 @@
--- The labels of a search: at each node that it reaches, the length and the last line of the least walk there.
+-- The labels of a search: for each node that it reaches, the length and the last line of the shortest path there.
 --     Labels      the source, the limit in decimetres, and the labels by node
---     dist_at, last_at      the parts of the label at a node.
+--     dist_at, last_at      the parts of the label at a node
 --     count_of x      how many labels there are
---     AreLabels M x      the labels stand at exactly the nodes that are reached, and are those of the least walks
---     LeastWithin, SoleWithin M x t xs      the least walk from the source to t, or the sole one, of at most the limit
+--     AreLabels M x      exactly the nodes that are reached have labels, and these are those of the shortest paths
+--     LeastWithin, SoleWithin M x t xs      xs is the (unique) shortest path from the source to t, within the limit
 use Rattle.std.specs.Prelude.{◌≡◌, ℕ, ◌≤◌, ◌↔◌, List, [], ◌∷◌, Option, Some, None, IsSome, option_and_then}
 use Rattle.std.specs.Option.{option_map}
 use Rattle.std.specs.Coded.{Coded, code_by, coded_ℕ, coded_option, coded×}
@@ -13,7 +13,7 @@ use Rattle.std.proofs.Common.{refl}
 use Rattle.olr_spec.specs.Map.{Map}
 use Rattle.olr_spec.specs.Walks.{Reaches, dm_of, Least, Sole}
 
--- a walk's length, and its last line, if it has lines
+-- a route's length, and its last line, if it has lines
 abbrev pub Label : Type 0
 Label = ℕ × Option ℕ
 
@@ -45,7 +45,7 @@ last_of [] = None
 last_of (x ∷ []) = Some x
 last_of (x ∷ y ∷ xs) = last_of (y ∷ xs)
 
--- the least walk from s to v has this length and this last line
+-- the shortest path from s to v has this length and this last line
 pub record IsLabel (M : Map) (s v dist : ℕ) (last : Option ℕ) : Type 0 where
   pub lines : List ℕ
   pub least : Least M s v lines

@@ -1,7 +1,7 @@
--- Labels as they are kept: rising nodes, and beside each its label.
---     listed_labels s limit nodes labels      the labels that these lists are
---     IsTight M place f v d x      line x ends at v, and from where it begins, by its label, it comes to length d
---     IsLastLine M place f v d o      the least such line. None where there is none
+-- Labels as they are stored: nodes in ascending order, and the label of each.
+--     listed_labels s limit nodes labels      the labels that these lists represent
+--     IsTight M place f v d x      line x ends at v, and the label at its start plus its length is d
+--     IsLastLine M place f v d o      the least such line; None if there is none
 --     IsTold M place f v label      the node's label in the table, and the last line at that length
 use Rattle.std.specs.Prelude.{◌≡◌, ℕ, ◌+◌, ◌≤◌, List, Option, Some, None, IsTrue}
 use Rattle.std.specs.FinMap.{from_entries}

@@ -1,8 +1,8 @@
--- A table of labels by place, and the list of the nodes that have one.
---     label_in table p      the label at place p, NO_LABEL where none stands
---     AreAllReached table reached      each label stands at the place of a node of the list
+-- A table of labels by slot, and the list of the labelled nodes.
+--     label_in table p      the label in slot p; NO_LABEL if there is none
+--     AreAllReached table reached      each label is in the slot of a node of the list
 --     numbers_of reached      the nodes' numbers
---     NotesOnce old new label r      r comes to the list where the label is none
+--     NotesOnce old new label r      r is appended to the list if the label is none
 use Rattle.std.specs.Prelude.{◌≡◌, ◌≢◌, ℕ, ◌<◌, ◌≤◌, ◌⊎◌, List, [], ◌∷◌, ◌++◌, Contains, map, slice_index_or}
 use Rattle.std.specs.Coded.{coded_ℕ, Coded-set}
 use Rattle.std.proofs.Props.{props}

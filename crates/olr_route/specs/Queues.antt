@@ -1,7 +1,7 @@
--- What waits in a queue.
---     queue_key d p      the number that stands for place p at length d: the nearer first, and of those as near the
---         smaller place
---     Queued q d p      the place p waits, at length d.
+-- The entries of a queue.
+--     queue_key d p      the number for slot p at length d: the nearer first, and of equally near ones the smaller
+--         slot
+--     Queued q d p      slot p is queued, at length d
 --     queue_len q      how many entries there are
 use Rattle.std.specs.Prelude.{ℕ, ◌+◌, ◌*◌, ◌<◌, ◌^◌, Contains}
 use Rattle.std.specs.BinaryHeap.{heap_items, heap_len}

@@ -1,16 +1,17 @@
--- A search that can go on.
---     limit_of s      the limit in decimetres that it has been settled to
+-- A search that can be continued.
+--     limit_of s      the limit in decimetres to which it is settled
 --     IsSearch M place direction from s      its labels within this limit are the distances within it, on the map M
---         with its nodes' places
+--         with its nodes' slots
 --     LiesWithin M direction from limit v      v has a distance of at most the limit
---     IsReached M direction from v      a way of at most the greatest limit leads to v
---     Counts M direction from limit n      so many nodes have one
+--     IsReached M direction from v      a route of at most the greatest limit leads to v
+--     Counts M direction from limit n      n nodes have a distance of at most the limit
 --     IsAlone M place f x v length      no line but x leads to v within the length
---     ClosedAt M place direction f v d      no line from v, where d, leads to a greater label
---     IsLabelled M place direction from f      each label is the length of a way, and the list has the nodes that have
---         one
---     IsUnderWay M place direction from f      and each label is closed or waits, those at which the search begins
---         among them
+--     ClosedAt M place direction f v d      each line from v, at the distance d, leads to a label of at most d plus its
+--         length
+--     IsLabelled M place direction from f      each label is the length of a route, and the list has the labelled
+--         nodes
+--     IsUnderWay M place direction from f      and each label is closed or queued, those where the search begins
+--         included
 use Rattle.std.specs.Prelude.{◌≡◌, ◌==◌, ℕ, ◌+◌, ◌<◌, ◌≤◌, ◌⊎◌, ◌↔◌, List, Contains, IsTrue, length, map}
 use Rattle.std.specs.List.{IsDistinct}
 use Rattle.olr_spec.specs.Map.{Map, IsMap, has_node, has_line, start, end, dm}
@@ -31,11 +32,11 @@ ClosedAt M place direction f v d =
     (x : ℕ) → IsTrue (has_line M x) → near_end M direction x ≡ v →
     label_of f (place (far_end M direction x)) ≤ d + dm M x
 
--- the table has a place for each node
+-- the table has the slot of each node
 abbrev pub CoversPlaces : Map → (ℕ → ℕ) → Found → Type 0
 CoversPlaces M place f = (v : ℕ) → IsTrue (has_node M v) → place v < found_len f
 
--- a node of the list stands at its place, with a label
+-- a node of the list is on the map, in its slot, with a label
 pub record IsLabelledAt (M : Map) (place : ℕ → ℕ) (f : Found) (r : Reached) : Type 0 where
   pub there : IsTrue (has_node M r.node)
   pub at : place r.node ≡ r.place
@@ -73,7 +74,7 @@ IsAlone M place f x v length =
 abbrev pub LiesWithin : Map → Direction → List (ℕ × ℕ) → ℕ → ℕ → Type 0
 LiesWithin M direction from limit v = (d : ℕ) × IsDistance M direction from v d × (d ≤ limit)
 
--- a way of at most the greatest limit leads to v
+-- a route of at most the greatest limit leads to v
 abbrev pub IsReached : Map → Direction → List (ℕ × ℕ) → ℕ → Type 0
 IsReached M direction from v = (d : ℕ) × Leads M direction from v d × (d ≤ GREATEST_LIMIT)
 

@@ -1,4 +1,4 @@
-//! A search that can go on: distances only, from one node or from many, along the lines or against them.
+//! A Dijkstra search that can be continued: distances only, from one node or from several, along the lines or against them.
 ghost use Rattle.std.specs.Prelude.{◌≡◌, ◌==◌, ◌≢◌, ◌↔◌, ◌≤◌, ◌+◌, ℕ, List, [], ◌∷◌, ◌++◌, Some, Contains, OnOk, IfOk};
 ghost use Rattle.std.specs.Prelude.{IsTrue, max};
 ghost use Rattle.std.specs.List.{IsDistinct};
@@ -30,11 +30,11 @@ pub enum Direction {
     Against,
 }
 
-/// Distances from some nodes, each with a length to begin with. One search may be begun over and over: what it keeps
-/// its labels in is made as long as the map needs once, and emptied of what was labelled.
+/// Shortest distances from some nodes, each with a start value. One search can be begun again any number of times: its
+/// table is allocated once, as long as the map needs, and only its labelled entries are reset.
 ///
-/// All calls between one `begin` and the next are given the same map. After an error the search is begun again before it
-/// is used again.
+/// All calls between one `begin` and the next must be given the same map. After an error the search must be begun again
+/// before it is used.
 #[derive(Drop)]
 pub struct Search {
     direction: Direction,
@@ -43,7 +43,7 @@ pub struct Search {
 }
 
 impl Search {
-    /// A search that has not begun. Takes no memory.
+    /// A search that has not begun. Does not allocate.
     pub fn new(alloc: Global) -> Search
         ensures { limit_of result ≡ 0 }
     {
@@ -54,8 +54,8 @@ impl Search {
         }
     }
 
-    /// Forgets the search before, and begins one at these nodes, each with a length in decimetres. Those that the map
-    /// lacks are passed over. Takes time that rises with what the search before labelled, besides these nodes.
+    /// Discards the previous search, and begins one at these nodes, each with a start value in decimetres. Nodes that are
+    /// not on the map are skipped. Takes time proportional to the number of these nodes and of the previous search's labels.
     pub fn begin<M: MapRead>(
         &mut self,
         map: &M,
@@ -76,8 +76,8 @@ impl Search {
         Ok(())
     }
 
-    /// Settles on, to a limit in decimetres: afterwards the labels are those of a search within this limit, or within a
-    /// greater one that it was settled to before.
+    /// Continues the search to a limit in decimetres. Its labels are then those of a search within this limit, or within a
+    /// greater one to which it was settled before.
     pub fn settle_to<M: MapRead>(&mut self, map: &M, limit: u32) -> Result<(), AllocError>
         requires small { limit ≤ GREATEST_LIMIT }
         requires begun { (direction : _) × (from : List (ℕ × ℕ))
@@ -141,7 +141,7 @@ impl Search {
         }
     }
 
-    /// The same at the node that has this place in the map.
+    /// The distance, as in `dist`, of the node in this slot of the map.
     pub fn dist_at(&self, place: u32) -> Option<u32>
         ensures { (M : Map) (place_in : ℕ → ℕ) (direction : _) (from : List (ℕ × ℕ)) (v d : ℕ)
             → IsSearch M place_in direction from self.now → IsTrue (has_node M v) → place_in v ≡ place
@@ -155,15 +155,15 @@ impl Search {
         }
     }
 
-    /// The limit that the search has been settled to since it began, in decimetres.
+    /// The limit to which the search has been settled since it began, in decimetres.
     pub fn limit(&self) -> u32
         ensures { result ≡ limit_of self.now }
     {
         self.limit
     }
 
-    /// The nodes that the search has labelled, each once, with their places: those within the limit that it has been
-    /// settled to, and some that lie farther, where that is less than `GREATEST_LIMIT`. In no particular order.
+    /// The nodes that the search has labelled, each once, with their slots: those within the limit to which it is settled,
+    /// and some beyond it, up to `GREATEST_LIMIT`. In no particular order.
     pub fn reached_nodes(&self) -> &[Reached]
         ensures near { (M : Map) (place_in : ℕ → ℕ) (direction : _) (from : List (ℕ × ℕ)) (v : ℕ)
             → IsSearch M place_in direction from self.now → LiesWithin M direction from (limit_of self.now) v
@@ -184,8 +184,8 @@ impl Search {
         self.found.reached_nodes()
     }
 
-    /// How many nodes the search has settled since it began: those within the limit that it has been settled to. Takes
-    /// time that rises with the number of the nodes that it has labelled.
+    /// The number of nodes that the search has settled since it began: those within the limit to which it is settled. Takes
+    /// time proportional to the number of nodes that it has labelled.
     pub fn settled_count(&self) -> usize
         ensures { (M : Map) (place_in : ℕ → ℕ) (direction : _) (from : List (ℕ × ℕ))
             → IsSearch M place_in direction from self.now → Counts M direction from (limit_of self.now) result }
@@ -193,7 +193,7 @@ impl Search {
         self.found.count_within(self.limit)
     }
 
-    /// The nodes within the limit that the search has been settled to, rising, each with its place.
+    /// The nodes within the limit to which the search is settled, in ascending order, each with its slot.
     pub(crate) fn reached_within(&self, alloc: Global) -> Result<Vec<Reached>, AllocError>
         ensures rising { IfOk result (λ within. (M : Map) (place_in : ℕ → ℕ) (direction : _) (from : List (ℕ × ℕ))
             → IsSearch M place_in direction from self.now → IsStrictlyIncreasing (numbers_of within.items)) }
@@ -211,7 +211,7 @@ impl Search {
         Ok(within)
     }
 
-    /// The nodes within the limit that the search has been settled to, rising.
+    /// The nodes within the limit to which the search is settled, in ascending order.
     pub fn nodes(&self, alloc: Global) -> Result<Vec<NodeId>, AllocError>
         ensures rising { IfOk result (λ nodes. (M : Map) (place_in : ℕ → ℕ) (direction : _) (from : List (ℕ × ℕ))
             → IsSearch M place_in direction from self.now → IsStrictlyIncreasing nodes.items) }
@@ -224,7 +224,7 @@ impl Search {
         Ok(nodes)
     }
 
-    /// The label of a node; `NO_LABEL` where none stands.
+    /// The label of a node; `NO_LABEL` if it has none.
     fn label<M: MapRead>(&self, map: &M, node: NodeId) -> u32
         requires { IsTrue (has_node (M.map map.now) node) }
         ensures { result ≡ label_of self.now.found (M.place_in map.now node) }
@@ -235,7 +235,7 @@ impl Search {
         }
     }
 
-    /// Whether a line, as seen from where it ends, is another one, and leads there within a length in decimetres.
+    /// Whether `other`, as seen from where it ends, is not `line`, and leads there within a length in decimetres.
     fn is_other(&self, line: LineId, other: LineId, end: &LineEnd, length: u32) -> bool
         ensures { IsTrue result ↔ ((other ≢ line) × (label_of self.now.found end.now.place + end.now.len ≤ length)) }
     {
@@ -256,9 +256,9 @@ impl Search {
         true
     }
 
-    /// Whether a line prolongs the sole walk to where it begins to the sole walk to where it ends. Nothing is said
-    /// where there is no sole walk to where it begins, or where the walks go beyond the limit that the search has been
-    /// settled to.
+    /// Whether a line extends the unique shortest path to its start to the unique shortest path to its end. Unspecified if
+    /// there is no unique shortest path to its start, or if the extended one is longer than the limit to which the search is
+    /// settled.
     pub fn extends_sole<M: MapRead>(&self, map: &M, line: LineId) -> bool
         ensures { (s : ℕ) (walk : List ℕ)
             → IsSearch (M.map map.now) (M.place_in map.now) Along ((s, 0) ∷ []) self.now
@@ -278,14 +278,14 @@ impl Search {
     }
 }
 
-/// Whether two lengths are a third one together.
+/// Whether two lengths add up to a third one.
 fn is_sum(first: u32, second: u32, whole: u32) -> bool
     ensures { IsTrue result ↔ (first + second ≡ whole) }
 {
     second <= whole && first == whole - second
 }
 
-/// A search from some nodes, each with a length to begin with, settled to a limit. All in decimetres.
+/// A search from some nodes, each with a start value, settled to a limit. All in decimetres.
 pub fn near<M: MapRead>(
     alloc: Global,
     map: &M,

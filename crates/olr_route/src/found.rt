@@ -1,4 +1,4 @@
-//! What a search has found so far: labels by place, the nodes that have one, and the places to go on from.
+//! The state of a search: labels by slot, the labelled nodes, and the queue of slots to continue from.
 ghost use Rattle.std.specs.Prelude.{◌≡◌, ◌<◌, OnErr, OnOk, IfOk};
 ghost use Rattle.olr_route.specs.Notes.{AreAllReached, AreAllReached-prop, NotesOnce, numbers_of};
 
@@ -7,19 +7,19 @@ use crate::routes::GREATEST_LIMIT;
 use olr_map::NodeId;
 use std::alloc::{AllocError, Global};
 
-/// What stands in the table for no label. Each label is below it.
+/// The entry of the table for no label. Each label is less than it.
 pub const NO_LABEL: u32 = 150_001;
 
-/// A node that a search has labelled, and its place in the map.
+/// A node that a search has labelled, and its slot in the map.
 #[derive(Clone, Copy, Debug, PartialEq, Eq)]
 pub struct Reached {
     /// The node's number.
     pub node: NodeId,
-    /// The node's place, see `MapRead::place_of`.
+    /// The node's slot, see `MapRead::place_of`.
     pub place: u32,
 }
 
-/// The labels by place, in decimetres, the nodes that have one, and the places to go on from.
+/// The labels by slot, in decimetres, the labelled nodes, and the queue of slots to continue from.
 #[derive(Drop)]
 pub struct Found {
     table: Vec<u32>,
@@ -28,7 +28,7 @@ pub struct Found {
     ghost noted: { AreAllReached table.items reached.items } by { AreAllReached-prop table.items reached.items },
 }
 
-/// Notes a node where it has no label yet.
+/// Records a node that has no label yet.
 fn note(reached: &mut Vec<Reached>, label: u32, node: NodeId, place: u32) -> Result<(), AllocError>
     ensures noted { OnOk result
         (NotesOnce reached.old.items reached.new.items label (record { node = node; place = place })) }
@@ -56,7 +56,7 @@ impl Found {
     ghost use Rattle.std.specs.List.{filter};
     ghost use Rattle.olr_route.specs.Founds.{label_of, found_len, queued_len, IsPut, IsEmpty, IsQueued};
 
-    /// No labels. Takes no memory.
+    /// No labels. Does not allocate.
     pub fn new(alloc: Global) -> Found
         ensures { IsEmpty result }
     {
@@ -67,7 +67,7 @@ impl Found {
         }
     }
 
-    /// The label at a place; `NO_LABEL` where none stands.
+    /// The label in a slot; `NO_LABEL` if there is none.
     pub fn label(&self, place: u32) -> u32
         ensures { result ≡ label_of self.now place }
     {
@@ -77,14 +77,14 @@ impl Found {
         }
     }
 
-    /// The nodes that have a label, each once.
+    /// The labelled nodes, each once.
     pub fn reached_nodes(&self) -> &[Reached]
         ensures { result.now ≡ self.now.reached.items }
     {
         &self.reached
     }
 
-    /// How many labels are at most `limit`. Takes time that rises with the number of the labels.
+    /// The number of labels that are at most `limit`. Takes time proportional to the number of labels.
     pub fn count_within(&self, limit: u32) -> usize
         ensures { result ≡ count_by (λ r. nat_le (label_of self.now r.place) limit) self.now.reached.items }
     {
@@ -94,7 +94,7 @@ impl Found {
             .count()
     }
 
-    /// The nodes whose labels are at most `limit`, each with its place, in no particular order.
+    /// The nodes whose labels are at most `limit`, each with its slot, in no particular order.
     pub fn reached_within(&self, alloc: Global, limit: u32) -> Result<Vec<Reached>, AllocError>
         ensures { IfOk result (λ within. within.items
             ≡ filter (λ r. nat_le (label_of self.now r.place) limit) self.now.reached.items) }
@@ -108,7 +108,7 @@ impl Found {
         Ok(within)
     }
 
-    /// Forgets all labels. Takes time that rises with their number.
+    /// Removes all labels. Takes time proportional to their number.
     pub fn clear(&mut self)
         ensures { IsEmpty self.new }
     {
@@ -121,7 +121,7 @@ impl Found {
         self.queue.clear();
     }
 
-    /// Makes the table long enough for so many places.
+    /// Makes the table long enough for `count` slots.
     pub fn make_room(&mut self, count: usize) -> Result<(), AllocError>
         ensures room { OnOk result (count ≤ found_len self.new) }
         ensures empty { IsEmpty self.old → IsEmpty self.new }
@@ -132,7 +132,7 @@ impl Found {
         Ok(())
     }
 
-    /// Labels a node with a length in decimetres, and lets its place wait, unless the label there is no greater.
+    /// Lowers a node's label to a length in decimetres and queues its slot. No effect if the label is no greater.
     pub fn put(&mut self, node: NodeId, place: u32, dist: u32) -> Result<(), AllocError>
         requires { place < found_len self.old }
         ensures { OnOk result (IsPut self.old self.new node place dist) }
@@ -146,7 +146,7 @@ impl Found {
         Ok(())
     }
 
-    /// Takes out the least length that waits with its place. None where nothing waits at a length of at most `limit`.
+    /// Removes the least queued length, and returns it with its slot. None if no queued length is at most `limit`.
     pub fn pop_within(&mut self, limit: u32) -> Option<(u32, u32)>
         ensures table { self.new.table.items ≡ self.old.table.items }
         ensures room { found_len self.new ≡ found_len self.old }

@@ -8,15 +8,15 @@ use olr_map::{Footprint, LineId, NodeId};
 use std::alloc::AllocError;
 use std::marker::Model;
 
-/// The labels of a search: at each node that a walk from the source within the limit reaches, the length and the last
-/// line of the least walk there.
+/// The labels of a search: for each node that a route from the source within the limit reaches, the length and the last
+/// line of the shortest path there.
 #[derive(Drop)]
 pub struct Labels {
     source: NodeId,
     limit: u32,
-    /// Rising.
+    /// In ascending order.
     nodes: Vec<NodeId>,
-    /// Beside each node its label.
+    /// The label of each node, in the order of `nodes`.
     labels: Vec<(u32, Option<LineId>)>,
 }
 
@@ -41,7 +41,7 @@ impl Labels {
     ghost use Rattle.olr_route.specs.Labels.{label_at, dist_at, last_at, count_of};
     ghost use Rattle.olr_route.specs.Listed.{listed_labels};
 
-    /// The labels of a search from `source` within `limit` decimetres, beside the nodes at which they stand.
+    /// The labels of a search from `source` within `limit` decimetres, and the nodes that have them.
     pub(crate) fn new(
         source: NodeId,
         limit: u32,
@@ -60,7 +60,7 @@ impl Labels {
         }
     }
 
-    /// The nodes that have a label, rising.
+    /// The labelled nodes in ascending order.
     pub(crate) fn nodes(&self) -> &[NodeId]
         ensures rising { IsStrictlyIncreasing result.now }
         ensures nodes { (v : ℕ) → (Contains result.now v) ↔ (IsSome (label_at self.now v)) }
@@ -69,7 +69,7 @@ impl Labels {
         &self.nodes
     }
 
-    /// The label of a node: the length of the least walk there, and its last line.
+    /// The label of a node: the length of the shortest path there, and its last line.
     fn label(&self, node: NodeId) -> Option<(u32, Option<LineId>)>
         ensures { result ≡ label_at self.now node }
     {
@@ -79,7 +79,7 @@ impl Labels {
         }
     }
 
-    /// The length of the least walk to a node, in decimetres. None where no walk within the limit reaches it.
+    /// The length of the shortest path to a node, in decimetres. None if no route within the limit reaches it.
     pub fn dist(&self, node: NodeId) -> Option<u32>
         ensures { result ≡ dist_at self.now node }
     {
@@ -87,7 +87,7 @@ impl Labels {
         Some(dist)
     }
 
-    /// The last line of the least walk to a node. None at the source, and where no walk within the limit reaches it.
+    /// The last line of the shortest path to a node. None at the source, and if no route within the limit reaches the node.
     pub fn last_line(&self, node: NodeId) -> Option<LineId>
         ensures { result ≡ last_at self.now node }
     {
@@ -96,7 +96,7 @@ impl Labels {
     }
 }
 
-/// Puts the labelled nodes into the footprint, and counts the search.
+/// Adds the labelled nodes to the footprint, and counts the search.
 pub(crate) fn note_labels(
     labels: &Labels,
     footprint: &mut Footprint,

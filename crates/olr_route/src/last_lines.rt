@@ -1,4 +1,4 @@
-//! The last lines of least walks, found by the distances of a search.
+//! The last lines of shortest paths, found by the distances of a search.
 ghost use Rattle.std.specs.Prelude.{◌≡◌, ◌↔◌, ◌+◌, ◌<◌, ℕ, None, Contains, IsTrue, IfOk, length, slice_index};
 ghost use Rattle.std.specs.Prelude.{slice_index_or};
 ghost use Rattle.olr_spec.specs.Map.{has_node};
@@ -11,14 +11,14 @@ use crate::found::{Found, Reached};
 use olr_map::{LineEnd, LineId, MapRead, NodeId};
 use std::alloc::{AllocError, Global};
 
-/// Whether a line, as seen from where it ends, comes to this length there, from where it begins by the label there.
+/// Whether a line, as seen from where it ends, reaches this length there: the label at its start plus its own length.
 fn is_at_length(found: &Found, end: &LineEnd, length: u32) -> bool
     ensures { IsTrue result ↔ (label_of found.now end.now.place + end.now.len ≡ length) }
 {
     end.len <= length && found.label(end.place) == length - end.len
 }
 
-/// The least of the lines that lead at this length to a node with this place. None where none does.
+/// The least number of a line that reaches the node in this slot with this length. None if there is no such line.
 fn last_line<M: MapRead>(
     map: &M,
     found: &Found,
@@ -40,7 +40,7 @@ fn last_line<M: MapRead>(
     None
 }
 
-/// The distance of a node by its label in the table, and the last line of the least walk there.
+/// The distance of a node by its label in the table, and the last line of the shortest path there.
 fn label_at<M: MapRead>(map: &M, found: &Found, reached: Reached) -> (u32, Option<LineId>)
     requires known { IsTrue (has_node (M.map map.now) reached.node) }
     requires at { M.place_in map.now reached.node ≡ reached.place }
@@ -53,7 +53,7 @@ fn label_at<M: MapRead>(map: &M, found: &Found, reached: Reached) -> (u32, Optio
     )
 }
 
-/// For each of these nodes with their places: its distance, and the last line of the least walk there.
+/// For each of these nodes with their slots: its distance, and the last line of the shortest path there.
 pub fn labels_at<M: MapRead>(
     alloc: Global,
     map: &M,

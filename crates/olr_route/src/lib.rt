@@ -1,9 +1,10 @@
-//! Least routes within a limit: a search from a node that labels what it reaches, and the tests, by these labels,
-//! whether a walk is the least or the sole one; and a search that can go on, from one node or from many, along the
-//! lines or against them, which tells distances alone. All of it reads the map through `MapRead` alone.
+//! Shortest paths within a limit: a Dijkstra search that labels the nodes that it reaches, and tests by these labels
+//! whether a route is the shortest path or the unique shortest path; and a search that can be continued, from one node or
+//! from several, along the lines or against them, which computes distances only. Maps are read through `MapRead`.
 //!
-//! The White Paper (version 1.5, revision 2) covers a location by shortest paths between its points. Which of equally
-//! long walks is the least, and that only a sole one joins two points, are choices of this project (profile).
+//! The White Paper (version 1.5, revision 2) covers a location by shortest paths between its location reference points
+//! (LRPs). Which of equally long routes is the shortest path, and that only a unique shortest path joins two LRPs, are
+//! choices of this project (profile).
 #![tactic(auto)]
 
 pub mod bounds;

@@ -1,4 +1,4 @@
-//! What the searches and the tests read of one line.
+//! What the searches and the tests read of a line.
 ghost use Rattle.std.specs.Prelude.{◌≡◌, ◌≤◌, ◌↔◌, IsSome, IfSome, IsTrue};
 ghost use Rattle.olr_spec.specs.Map.{has_line, start, end, dm};
 
@@ -30,7 +30,7 @@ pub fn start_of<M: MapRead>(map: &M, id: LineId) -> (NodeId, u32)
     (line.from, line.len)
 }
 
-/// Where a line begins and where it ends, and its length in decimetres. None where the map lacks it.
+/// Where a line begins and where it ends, and its length in decimetres. None if the line is not on the map.
 pub fn both_ends<M: MapRead>(map: &M, id: LineId) -> Option<(NodeId, NodeId, u32)>
     ensures there { IsSome result ↔ IsTrue (has_line (M.map map.now) id) }
     ensures start { IfSome result (λ x. x.0 ≡ start (M.map map.now) id) }

@@ -1,4 +1,4 @@
-//! The places that a search goes on from, the nearest first.
+//! The slots from which a search continues, the nearest first.
 ghost use Rattle.std.proofs.Props.{props};
 ghost use Rattle.std.specs.BinaryHeap.{IsHeap, heap_items};
 ghost use Rattle.olr_route.specs.Entries.{entry_cmp};
@@ -7,11 +7,11 @@ use std::alloc::{AllocError, Global};
 use std::cmp::Reverse;
 use std::collections::BinaryHeap;
 
-/// How many places there may be.
+/// How many slots there may be.
 const PLACES: u64 = 4_294_967_296;
 
-/// Lengths, and the places of the nodes that walks of these lengths lead to, each pair as one number. Its room is kept
-/// when it is emptied.
+/// Lengths, and the slots of the nodes that routes of these lengths reach, each pair as one number. Keeps its capacity
+/// when it is cleared.
 #[derive(Drop)]
 pub struct Queue {
     heap: BinaryHeap<Reverse<u64>>,
@@ -22,7 +22,7 @@ impl Queue {
     ghost use Rattle.std.specs.Prelude.{◌≡◌, ◌≤◌, ◌<◌, ◌+◌, ◌⊎◌, ℕ, OnOk, IfSome, IfNone};
     ghost use Rattle.olr_route.specs.Queues.{Queued, queue_len};
 
-    /// Nothing waits. Takes no memory.
+    /// The empty queue. Does not allocate.
     pub fn new(alloc: Global) -> Queue
         ensures { queue_len result ≡ 0 }
     {
@@ -31,14 +31,14 @@ impl Queue {
         }
     }
 
-    /// Lets nothing wait any more.
+    /// Removes all entries.
     pub fn clear(&mut self)
         ensures { queue_len self.new ≡ 0 }
     {
         self.heap.clear();
     }
 
-    /// Lets a place wait, at a length in decimetres.
+    /// Adds a slot, at a length in decimetres.
     pub fn push(&mut self, dist: u32, place: u32) -> Result<(), AllocError>
         ensures there { OnOk result (Queued self.new dist place) }
         ensures kept { OnOk result ((d p : ℕ) → Queued self.old d p → Queued self.new d p) }
@@ -49,7 +49,7 @@ impl Queue {
         Ok(())
     }
 
-    /// Takes out the least length with its place. None where nothing waits at a length of at most `limit`.
+    /// Removes the least length, and returns it with its slot. None if no length is at most `limit`.
     pub fn pop_within(&mut self, limit: u32) -> Option<(u32, u32)>
         ensures within { IfSome result (λ x. x.0 ≤ limit) }
         ensures least { IfSome result (λ x. (d p : ℕ) → Queued self.old d p → x.0 ≤ d) }

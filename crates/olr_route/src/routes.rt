@@ -1,4 +1,4 @@
-//! The search for least routes within a limit.
+//! The search for shortest paths within a limit.
 ghost use Rattle.std.specs.Prelude.{◌≡◌, ◌≤◌, ◌↔◌, ◌⊎◌, ℕ, Contains, IsSome, IsTrue, IfOk, length, OnOk};
 ghost use Rattle.olr_spec.specs.Map.{has_node};
 ghost use Rattle.olr_route.specs.Labels.{AreLabels, label_at, count_of};
@@ -12,14 +12,14 @@ use crate::work::Work;
 use olr_map::{Footprint, MapRead, NodeId};
 use std::alloc::{AllocError, Global};
 
-/// The greatest limit of a search, in decimetres: the farthest that two points may be apart.
+/// The greatest limit of a search, in decimetres: the greatest distance of two location reference points.
 pub const GREATEST_LIMIT: u32 = 150_000;
 
-/// Labels the nodes that a walk of at most `limit_dm` decimetres from the source reaches, each with the length and the
-/// last line of the least walk there. Of equally long walks that one is the least which has the smaller line number at
-/// the first difference, counted from the end (profile). The labelled nodes are put into the footprint; one search, and
-/// as many settled nodes as there are labels, are added to the work. After want of memory footprint and work may hold
-/// more than before.
+/// Labels the nodes that a route of at most `limit_dm` decimetres from the source reaches, each with the length and the
+/// last line of the shortest path there. Of equally long routes the shortest path is the one with the smaller line number
+/// at the first difference, counted from the end (profile). Adds the labelled nodes to the footprint, and to the work one
+/// search and as many settled nodes as there are labels. If an allocation fails, footprint and work may hold more than
+/// before.
 pub fn search<M: MapRead>(
     alloc: Global,
     map: &M,

@@ -1,4 +1,4 @@
-//! The steps of a search that can go on: it begins at a node, and the lines from a node are followed.
+//! The steps of a search that can be continued: the nodes where it begins, and the lines from a node.
 ghost use Rattle.std.specs.Prelude.{◌≡◌, ◌≤◌, ℕ, List, Contains, OnOk, IsTrue};
 ghost use Rattle.olr_spec.specs.Map.{has_node};
 ghost use Rattle.olr_route.specs.Distances.{Leads, ends_at};
@@ -13,7 +13,7 @@ use crate::routes::GREATEST_LIMIT;
 use olr_map::{LineEnd, MapRead, NodeId};
 use std::alloc::AllocError;
 
-/// Labels a node with a length in decimetres, unless the label there is no greater, or the map lacks the node.
+/// Lowers a node's label to a length in decimetres. No effect if the label is no greater, or the node is not on the map.
 pub fn start<M: MapRead>(
     map: &M,
     node: NodeId,
@@ -35,7 +35,7 @@ pub fn start<M: MapRead>(
     Ok(())
 }
 
-/// For each line that is entered in this direction at the node with this place: its far end, and its length.
+/// For each line that is entered in this direction at the node in this slot: its far end, and its length.
 fn ends_from<M: MapRead>(map: &M, direction: Direction, place: u32) -> &[LineEnd]
     requires { (v : ℕ) × IsTrue (has_node (M.map map.now) v) × (M.place_in map.now v ≡ place) }
     ensures { (v : ℕ) → IsTrue (has_node (M.map map.now) v) → M.place_in map.now v ≡ place
@@ -47,7 +47,7 @@ fn ends_from<M: MapRead>(map: &M, direction: Direction, place: u32) -> &[LineEnd
     }
 }
 
-/// Follows the lines from the node with this place, which is `dist` decimetres away: labels their far ends.
+/// Follows the lines from the node in this slot, at the distance `dist` in decimetres: labels their far ends.
 pub fn follow<M: MapRead>(
     map: &M,
     direction: Direction,

@@ -1,4 +1,4 @@
-//! Whether a walk is the least, or the sole, one to its end, by the labels of a search from its begin.
+//! Whether a route is the shortest path, or the unique shortest path, to its end, by the labels of a search from its start.
 ghost use Rattle.std.specs.Prelude.{◌≡◌, ◌↔◌, ◌≤◌, ◌+◌, ℕ, List, [], ◌∷◌, ◌++◌, Some, IsTrue};
 ghost use Rattle.olr_spec.specs.Map.{has_line, start, end};
 ghost use Rattle.olr_spec.specs.Walks.{Walk};
@@ -9,7 +9,7 @@ use crate::labels::Labels;
 use crate::lines::{end_of, start_of};
 use olr_map::{LineId, MapRead, NodeId};
 
-/// Whether the label where a line ends has this line as its last.
+/// Whether the label at the end of a line has this line as its last.
 fn is_last<M: MapRead>(map: &M, labels: &Labels, line: LineId) -> bool
     requires { IsTrue (has_line (M.map map.now) line) }
     ensures { IsTrue result ↔ (last_at labels.now (end (M.map map.now) line) ≡ Some line) }
@@ -18,7 +18,7 @@ fn is_last<M: MapRead>(map: &M, labels: &Labels, line: LineId) -> bool
     labels.last_line(to) == Some(line)
 }
 
-/// Whether a line of length `len` from a labelled node is no longer than `dist` in all.
+/// Whether a line of length `len` from a labelled node makes a route no longer than `dist`.
 fn is_within(labels: &Labels, from: NodeId, len: u32, dist: u32) -> bool
     ensures { IsTrue result ↔ ((d : ℕ) × (dist_at labels.now from ≡ Some d) × (d + len ≤ dist)) }
 {
@@ -28,7 +28,7 @@ fn is_within(labels: &Labels, from: NodeId, len: u32, dist: u32) -> bool
     }
 }
 
-/// Whether no other line leads to where this one ends within the length of the label there.
+/// Whether no other line leads to the end of this one within the length of the label there.
 fn is_alone<M: MapRead>(map: &M, labels: &Labels, line: LineId) -> bool
     requires { IsTrue (has_line (M.map map.now) line) }
     ensures { IsTrue result ↔ Alone (M.map map.now) labels.now line }
@@ -48,9 +48,8 @@ fn is_alone<M: MapRead>(map: &M, labels: &Labels, line: LineId) -> bool
     true
 }
 
-/// Whether a line prolongs the least walk to where it begins, within the limit of the labels, to the least walk to
-/// where it ends, still within the limit. Nothing is said where no walk within the limit leads to where the line
-/// begins.
+/// Whether a line extends the shortest path to its start to the shortest path to its end, both within the limit of the
+/// labels. Unspecified if no route within the limit leads to its start.
 pub fn extends_least<M: MapRead>(map: &M, labels: &Labels, line: LineId) -> bool
     requires labels { AreLabels (M.map map.now) labels.now }
     requires line { IsTrue (has_line (M.map map.now) line) }
@@ -60,8 +59,8 @@ pub fn extends_least<M: MapRead>(map: &M, labels: &Labels, line: LineId) -> bool
     is_last(map, labels, line)
 }
 
-/// Whether a line prolongs the sole walk to where it begins, within the limit of the labels, to the sole walk to where
-/// it ends, still within the limit. Nothing is said where the labels have no sole walk to where the line begins.
+/// Whether a line extends the unique shortest path to its start to the unique shortest path to its end, both within the
+/// limit of the labels. Unspecified if the labels have no unique shortest path to its start.
 pub fn extends_sole<M: MapRead>(map: &M, labels: &Labels, line: LineId) -> bool
     requires labels { AreLabels (M.map map.now) labels.now }
     requires line { IsTrue (has_line (M.map map.now) line) }
@@ -71,7 +70,7 @@ pub fn extends_sole<M: MapRead>(map: &M, labels: &Labels, line: LineId) -> bool
     is_last(map, labels, line) && is_alone(map, labels, line)
 }
 
-/// Whether a walk from the source of the labels is the least walk to its end, and within their limit.
+/// Whether a route from the source of the labels is the shortest path to its end, and within their limit.
 pub fn is_least<M: MapRead>(map: &M, labels: &Labels, lines: &[LineId]) -> bool
     requires labels { AreLabels (M.map map.now) labels.now }
     requires walk { (t : ℕ) × Walk (M.map map.now) labels.now.source t lines.now }
@@ -85,8 +84,8 @@ pub fn is_least<M: MapRead>(map: &M, labels: &Labels, lines: &[LineId]) -> bool
     true
 }
 
-/// Whether a walk from the source of the labels is the sole walk to its end, every other one being longer, and within
-/// their limit.
+/// Whether a route from the source of the labels is the unique shortest path to its end, each other route being longer,
+/// and within their limit.
 pub fn is_sole<M: MapRead>(map: &M, labels: &Labels, lines: &[LineId]) -> bool
     requires labels { AreLabels (M.map map.now) labels.now }
     requires walk { (t : ℕ) × Walk (M.map map.now) labels.now.source t lines.now }

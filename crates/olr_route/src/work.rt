@@ -1,12 +1,12 @@
-//! Counts of what was done.
+//! Counts of the work done.
 
-/// How much was encoded and searched. A count that reaches the greatest `u64` stays there.
+/// How much was encoded and searched. Each count saturates at the greatest `u64`.
 #[derive(Clone, Copy, Debug, Default, PartialEq, Eq)]
 pub struct Work {
     /// Paths that were encoded.
     pub encodings: u64,
     /// Searches that were made.
     pub searches: u64,
-    /// Nodes that these searches labelled, over all of them.
+    /// Nodes that these searches labelled, in total.
     pub settled: u64,
 }

@@ -1,4 +1,4 @@
--- The outcome of a record, by what was read of it.
+-- The outcome of a record, from what was read of it.
 use Rattle.std.proofs.Common.{◌≡◌, ℕ, List, Result, Ok, Err, inl, inr, refl, sym, ap, ◌∙◌, subst}
 use Rattle.olr_commands.specs.State as state
 use Rattle.olr_commands.specs.State.{State}
@@ -16,12 +16,12 @@ use Rattle.olr_run.specs.Runs.{IsAnswer, answer_text}
 use Rattle.std.specs.Prelude.{is_ok}
 use Rattle.std.specs.Borrow.{Bor}
 
--- of a record that reads as a command
+-- of a record that decodes to a command
 pub commanded : (s t : State) (fields : List Field) (c : Command) (o : Outcome) → IsRead (read fields) (Ok c) →
     IsOutcome s (command_of c) o t → RecordOutcome s fields o t
 commanded s t fields c o e h = inl (subst (λ (r : Read state.Command). CommandOutcome s r o t) (sym e) h)
 
--- and of one that can't be read
+-- and of a record with a fault of its own
 pub unread : (s : State) (fields : List Field) (f : ReadFault) → IsRead (read fields) (Err f) →
     RecordOutcome s fields (Err (read_fault_of f)) s
 unread s fields Syntax e =
@@ -30,7 +30,7 @@ unread s fields Range e =
     inl (subst (λ (r : Read state.Command). CommandOutcome s r (Err state.Range) s) (sym e) (refl, refl))
 unread s fields Memory e = inr (e, (refl, refl))
 
--- an outcome has the text of its answer, and accepts where that does
+-- an outcome has the text of its answer, and accepts if the answer does
 pub text_of_answer : (r : Result Reply (Bor (List ℕ))) (o : Outcome) → IsAnswer r o →
     (outcome_text o ≡ answer_text r) × (is_ok o ≡ is_ok r)
 text_of_answer (Ok reply) o h = (ap outcome_text h, ap is_ok h)

@@ -1,4 +1,4 @@
--- What one byte does to a record, and that a byte order mark is left out.
+-- The effect of one byte on a record, and that a byte order mark is skipped.
 use Rattle.std.proofs.Common.{◌≡◌, ◌≤◌, ◌<◌, ◌+◌, ◌-◌, ◌++◌, ℕ, List, [], ◌∷◌, Some, None, true, false, refl}
 use Rattle.std.proofs.Common.{length, take, drop, get_or, sym, ap, ◌∙◌, arith, append_assoc, append-nil}
 use Rattle.std.proofs.Common.{length-drop, get_or-drop, drop-cons, add-one}
@@ -15,12 +15,12 @@ use Rattle.olr_run.specs.InMemory.{csv_state, csv_action, csv_step}
 use Rattle.olr_run.specs.declared.in_memory.Action.{Action}
 use Rattle.olr_run.specs.declared.in_memory.State.{State as Here}
 
--- what a byte does, by the state and the action after it
+-- the effect of a byte, by the state and the action after it
 pub did : (r : Here × Action) (a : Action) (x : State × CsvAction) → csv_step r ≡ x → r.1 ≡ a →
     x ≡ (csv_state r.0, csv_action a)
 did r a x e h = sym e ∙ ap (λ (k : Action). (csv_state r.0, csv_action k)) h
 
--- what a byte does to a record
+-- the effect of a byte on a record
 pub of_copy : (s t : State) (f : List (List ℕ)) (p rest : List ℕ) (c : ℕ) → step default_config s c ≡ (t, act.Copy) →
     next_record default_config s f p (c ∷ rest) ≡ next_record default_config t f (p ++ c ∷ []) rest
 unfolding next_record
@@ -43,11 +43,11 @@ pub of_end_record : (s t : State) (f : List (List ℕ)) (p rest : List ℕ) (c :
 unfolding next_record
 of_end_record s t f p rest c e = rw e refl
 
--- the bytes from a place on, by the first of them
+-- the bytes from an index on, with the first of them
 at : (text : List ℕ) (i : ℕ) → i < length text → drop i text ≡ get_or text i 0 ∷ drop (i + 1) text
 at text i low = drop-cons text i 0 low ∙ ap (λ (k : ℕ). get_or text i 0 ∷ drop k text) (sym (add-one i))
 
--- a part of a text, one byte longer
+-- a part of a text, with one byte more
 longer : (text : List ℕ) (start i : ℕ) → start ≤ i → i < length text →
     take (i + 1 - start) (drop start text) ≡ take (i - start) (drop start text) ++ get_or text i 0 ∷ []
 longer text start i from low =
@@ -62,7 +62,7 @@ empty : (text : List ℕ) (i : ℕ) → take (i + 1 - (i + 1)) (drop (i + 1) tex
 empty text i =
     let zero : i + 1 - (i + 1) ≡ 0 = omega arith in ap (λ (n : ℕ). take n (drop (i + 1) text)) zero
 
--- what the loop of bytes does with the byte at a place, after which the field has these bytes and those from `start` on
+-- the loop over bytes at an index, after which the field has its earlier bytes and those from `start` on
 pub copied : (s t : State) (f : List (List ℕ)) (field text : List ℕ) (start i : ℕ) → start ≤ i → i < length text →
     step default_config s (get_or text i 0) ≡ (t, act.Copy) →
     next_record default_config s f (field ++ take (i - start) (drop start text)) (drop i text)

@@ -1,4 +1,4 @@
--- Runs over bytes in memory: as those of a reader of csv that has all of its bytes.
+-- Runs over bytes in memory are runs of a csv reader that has all of its bytes.
 use Rattle.std.proofs.Common.{◌≡◌, ◌∙◌, ℕ, Bool, List, [], ◌∷◌, Option, Some, None, true, false, refl, ap, inl}
 use Rattle.csv.specs.Reading.{ReadRecord, ReadsNext, default_config, source_of, pending_of, strip_bom}
 use Rattle.csv.specs.declared.reader.Reader.{Reader}
@@ -61,7 +61,7 @@ plain_of : (s : InMemory) → IsPlain (reader_of s)
 unfolding reader_of
 plain_of s = record { config = refl; trim = refl; flexible = refl; ready = inl refl }
 
--- ---- what happens
+-- ---- events
 
 happens_as : (a b : InMemory) (before later : Known) (e : Event) → BytesHappens a b before later e →
     CsvHappens all_known (reader_of a) (reader_of b) before later e

@@ -1,4 +1,4 @@
--- Runs over an input of known bytes, by the history of their session.
+-- Runs over an input of known bytes, from the history of their session.
 use Rattle.std.proofs.Common.{◌≡◌, ◌≢◌, ◌∙◌, ◌+◌, ◌<◌, ℕ, Bool, true, false, List, [], ◌∷◌, ◌++◌, length, map}
 use Rattle.std.proofs.Common.{option_map, None, Some, inl, inr, refl, sym, ap, subst, arith, length-append}
 use Rattle.std.proofs.lemmas.List.{append-nil, append_assoc, length-map}
@@ -65,7 +65,7 @@ last_of (o ∷ os) (x ∷ ws) w e =
 abbrev pub OfReader : {R W : Type 0} → (R → Known) → (W → Known) → Reader R × W → Event → Reader R × W → Type 0
 OfReader remaining contents a e b = CsvHappens remaining a.0 b.0 (contents a.1) (contents b.1) e
 
--- the later reader has read these records after those that the earlier one had read
+-- the later reader has read these records after those of the earlier reader
 abbrev Follows : {R : Type 0} → (R → Known) → Reader R → List (List Field) → Reader R → Type 0
 Follows remaining a rs b =
     (input : List ℕ) (records : List (List Field)) (left : List ℕ) → source_of remaining a ≡ Some left →
@@ -97,7 +97,7 @@ follows_join remaining a b c rs ms h k input records left source reached =
           (append_assoc records rs ms) q.2,
     )
 
--- after these exchanges comes what is left of the history
+-- the rest of the history follows these exchanges
 pub record Exchanged {R W : Type 0} (remaining : R → Known) (contents : W → Known) (a : Reader R × W)
     (rs : List (List Field)) (ws : List (List ℕ)) (es : List Event) (b : Reader R × W) : Type 0 where
   pub mid : Reader R × W
@@ -138,7 +138,7 @@ exchanged remaining contents a b (r ∷ rs) (w ∷ ws) es l plain h =
       rest = next.rest;
     }
 
--- what the reader of an input has before its first record
+-- the reader of an input before its first record
 pub record Starts {R : Type 0} (remaining : R → Known) (a : Reader R) (known : Known) : Type 0 where
   pub plain : IsPlain a
   pub state : reader_state a ≡ st.StartRecord
@@ -154,7 +154,7 @@ starts_with remaining r known config trim flexible names headers state source =
       source = source;
     }
 
--- these records are the first of the input
+-- these are the first records of the input
 first_of : {R : Type 0} (remaining : R → Known) (a b : Reader R) (input : List ℕ) (rs : List (List Field)) →
     Starts remaining a (Some input) → Follows remaining a rs b
     → (z : List ℕ) × (rest : List (List Field)) × (source_of remaining b ≡ Some z)
@@ -183,7 +183,7 @@ all_answered : (ws : List (List ℕ)) (os : List Outcome) (rs : List (List Field
     length ws ≡ length rs → length os ≡ length rs
 all_answered ws os rs e l = sym (length-map os outcome_text) ∙ ap length e ∙ l
 
--- the end of a run in which no record of the input is left
+-- the end of a run after the last record of the input
 ended_whole : {R W : Type 0} (remaining : R → Known) (contents : W → Known) (stop : Bool) (old new : Registered)
     (a b : Reader R × W) (input : List ℕ) (end : Status) (rs : List (List Field)) (ws : List (List ℕ))
     → IsContent old.kept.content → Starts remaining a.0 (Some input) → length ws ≡ length rs
@@ -263,7 +263,7 @@ not_writing fault.Memory h = λ e. cc
 not_writing fault.Write h = absurd h
 not_writing fault.TooMany h = absurd h
 
--- one record more was taken
+-- one more record was taken
 record TakenOne {R W : Type 0} (remaining : R → Known) (contents : W → Known) (a : Reader R × W)
     (rs : List (List Field)) (r : List Field) (ws : List (List ℕ)) (es : List Event) (b : Reader R × W) : Type 0 where
   mid : Reader R × W

@@ -1,4 +1,4 @@
--- Two runs on one register are one over the records of both.
+-- Two runs on one register are one run over the records of both.
 use Rattle.std.proofs.Common.{◌≡◌, ◌∙◌, ◌≢◌, ◌+◌, ℕ, Bool, true, false, List, [], ◌∷◌, ◌++◌, length, length-append}
 use Rattle.std.proofs.Common.{None, Some, inl, inr, refl, sym, ap, subst}
 use Rattle.std.specs.Prelude.{◌&&◌, ◌||◌, is_err, if◌then◌else◌}
@@ -25,7 +25,7 @@ use Rattle.olr_run.specs.declared.ends.Status.TheVariants as status
 use Rattle.olr_run.proofs.RunLemmas.{claims_of}
 use Rattle.olr_run.proofs.Running.{standing}
 
--- no bytes are no records
+-- no bytes have no records
 pub no_file : (stop : Bool) (old : Registered) (before : Known) →
     RanOn SoundOutcomes stop old (known_records (Some [])) before old before status.AllAccepted
 unfolding csv_on_literals
@@ -37,7 +37,7 @@ no_file stop old before s stands = (
   record { outcomes = []; each = refl; stops = tt; all = inl refl; wrote = refl; ended = refl },
 )
 
--- the claims hold of a run whose outcomes leave the content sound
+-- the claims are true of a run whose outcomes leave the content sound
 pub only_sound : (stop : Bool) (old : Registered) (records : Records) (before : Known) (new : Registered)
     (later : Known) (end : Status)
     → RanOn Claims stop old records before new later end → RanOn SoundOutcomes stop old records before new later end
@@ -72,7 +72,7 @@ only_sound_faulted stop old (Some rs) before new later e h =
 
 -- ---- outcomes of both
 
--- where stop is set and something was refused, it is the last
+-- if stop is set and a record was rejected, that record is the last
 both_false : (stop a b : Bool) → (stop && (a || b)) ≡ false → ((stop && a) ≡ false) × ((stop && b) ≡ false)
 both_false true true b e = absurd cc
 both_false true false b e = (refl, e)
@@ -85,7 +85,7 @@ stops_join stop (o ∷ os) qs n h k =
     let parts = both_false stop (is_err o) (any_refused os) n in
     (λ e. let never : true ≡ false = sym e ∙ parts.0 in absurd cc, stops_join stop os qs parts.1 h.1 k)
 
--- a run that was not stopped refused nothing where stop is set
+-- a run that was not stopped rejected nothing if stop is set
 goes_on : (stop : Bool) (p : Status) (os : List Outcome) → p ≢ status.Stopped →
     status_of p ≡ output.run_status stop os → (stop && any_refused os) ≡ false
 goes_on false p os n e = refl

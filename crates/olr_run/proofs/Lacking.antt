@@ -1,4 +1,4 @@
--- Where want of memory may be told.
+-- Where out of memory may be reported.
 use Rattle.std.proofs.Common.{◌≢◌, Bool, true, false, List, [], ◌∷◌, ◌++◌, Option, Some, None, Result, Ok, Err, inl}
 use Rattle.std.proofs.Common.{inr, ◌⊎◌, IsTrue, refl, subst}
 use Rattle.std.specs.Prelude.{IfErr, IsOkAnd, not, nat_le, ◌==◌, length}
@@ -13,7 +13,7 @@ use Rattle.olr_commands.specs.Reply.{may_lack, IsRefusal, Told, Lacks}
 use Rattle.olr_records.specs.Records.{Field, Bad_form, Out_of_range, Read, read, HoldsList}
 use Rattle.olr_run.specs.Output.{CommandOutcome, RecordOutcome}
 
--- ---- no fault of a command's own is want of memory
+-- ---- no fault of the command itself is out of memory
 
 HadMemory : {A : Type 0} → Result A Fault → Type 0
 HadMemory r = IfErr r (λ f. f ≢ Memory)

@@ -12,7 +12,7 @@ use Rattle.csv.specs.declared.parser.Action.TheVariants as act
 use Rattle.olr_records.specs.Records.{Field}
 use Rattle.olr_run.specs.Output.{records_of}
 
--- after a record no other has begun
+-- after a record, the next has not begun
 Rests : State × Action → Type 0
 Rests p = is_end p.1 ≡ true → ends_at_end p.0 ≡ false
 
@@ -60,7 +60,7 @@ step_rests st.InComment c =
 step_rests st.AfterCr c =
     if_rests _ (st.StartRecord, act.Skip) (start_record default_config c) (λ e. absurd cc) (start_record_rests c)
 
--- what is left is no longer, and after it no record has begun
+-- the rest is no longer than the text, and no record has begun after the one that was read
 read_leaves : (s : State) (fields : List Field) (field xs : List ℕ) (p : Read) →
     next_record default_config s fields field xs ≡ Some p
     → (length p.2 ≤ length xs) × (ends_at_end p.1 ≡ false)
@@ -91,7 +91,7 @@ read_leaves s fields field (c ∷ rest) p e =
           (let l = r.0 in omega arith, r.1)
     ] refl e
 
--- and shorter, where none had begun
+-- the rest is shorter if no record had begun
 read_shortens : (s : State) (xs : List ℕ) (p : Read) → ends_at_end s ≡ false →
     next_record default_config s [] [] xs ≡ Some p → length p.2 < length xs
 unfolding next_record
@@ -113,7 +113,7 @@ read_shortens s (c ∷ rest) p f e =
           let l = r.0 in omega arith
     ] e
 
--- with enough turns
+-- with enough steps
 from_reached : (n : ℕ) (s : State) (xs : List ℕ) (records : List (List Field)) (s2 : State) (ys : List ℕ) →
     length xs < n → ends_at_end s ≡ false
     → Reached default_config s xs records s2 ys → (m : ℕ) × (length ys < m)

@@ -32,7 +32,7 @@ outcomes_keep s t rs [] i p = subst IsState p i
 outcomes_keep s t [] (o ∷ os) i p = absurd p
 outcomes_keep s t (r ∷ rs) (o ∷ os) i p = outcomes_keep p.0 t rs os (record_keeps s p.0 r o i p.1) p.2
 
--- ---- what is claimed of a run
+-- ---- the claims about a run
 
 -- a record whose command has this outcome, or which has a fault of its own
 command_claims : (s t : State) (r : Read Command) (o : Outcome) → IsContent t.content → CommandOutcome s r o t
@@ -91,7 +91,7 @@ one_record s t u fields o q i n m (inl p) (inl g) = one_command s t u (read fiel
 one_record s t u fields o q i n m (inl p) (inr g) = absurd (not_memory q m g.1.0)
 one_record s t u fields o q i n m (inr p) g = absurd (not_memory o n p.1.0)
 
--- what is left to do after an outcome that doesn't end the run
+-- the remaining records after an outcome that does not end the run
 all_rest : (stop : Bool) (r : List Field) (rs : List (List Field)) (o : Outcome) (os : List Outcome) →
     (stop && is_err o) ≡ false → AreAnswered stop (r ∷ rs) (o ∷ os) → AreAnswered stop rs os
 all_rest stop r rs o os e (inl h) = inl (omega arith)

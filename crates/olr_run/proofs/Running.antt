@@ -36,7 +36,7 @@ none_later true true b e = absurd cc
 none_later true false b e = e
 none_later false a b e = refl
 
--- one more, where none so far ends the run
+-- one more, if none so far ends the run
 stops_more : (stop : Bool) (os : List Outcome) (o : Outcome) → (stop && any_refused os) ≡ false → StopsAtFault stop os →
     StopsAtFault stop (os ++ o ∷ [])
 stops_more stop [] o n h = (λ _. refl, tt)
@@ -68,7 +68,7 @@ pub record Answered (stop : Bool) (s : State) (records : List (List Field)) (tex
   pub goes_on : (stop && any_refused outcomes) ≡ false
   pub ended : status_of end ≡ run_status stop outcomes
 
--- from each state in which the register stood
+-- from each state that the register represented
 abbrev pub AnswersSoFar : Bool → Registered → List (List Field) → List (List ℕ) → Registered → Status → Type 0
 AnswersSoFar stop old records texts now end =
     (s : State) → Stands old.kept s → IsContent s.content → (t : State) × Stands now.kept t
@@ -111,7 +111,7 @@ so_far_none happens stop old before =
           );
     }
 
--- ---- one more
+-- ---- one record more
 
 length_more : {A B : Type 0} (xs : List A) (x : A) (ys : List B) (y : B) → length xs ≡ length ys →
     length (xs ++ x ∷ []) ≡ length (ys ++ y ∷ [])
@@ -127,7 +127,7 @@ more_texts : (texts : List (List ℕ)) (text : List ℕ) (os : List Outcome) (o 
     outcome_text o ≡ text → map outcome_text (os ++ o ∷ []) ≡ texts ++ text ∷ []
 more_texts texts text os o e f = map_more os o ∙ (λ i. e i ++ f i ∷ [])
 
--- one that was accepted
+-- an accepted one
 accepted_more : (stop : Bool) (s t u : State) (records : List (List Field)) (texts : List (List ℕ)) (r : List Field)
     (text : List ℕ) (o : Outcome) (end : Status) → Answered stop s records texts t end
     → SoundOutcome t r o u → outcome_text o ≡ text → is_ok o ≡ true →
@@ -152,7 +152,7 @@ some_refused : (os : List Outcome) (o : Outcome) → is_ok o ≡ false → any_r
 some_refused os o e =
     refused_more os o ∙ ap (λ (b : Bool). any_refused os || (b || false)) (is_refused o e) ∙ or-true (any_refused os)
 
--- one that was refused, where that doesn't stop the run
+-- a rejected one that does not stop the run
 refused_more_of : (s t u : State) (records : List (List Field)) (texts : List (List ℕ)) (r : List Field)
     (text : List ℕ) (o : Outcome) (end : Status) → Answered false s records texts t end
     → SoundOutcome t r o u → outcome_text o ≡ text → is_ok o ≡ false →
@@ -169,7 +169,7 @@ refused_more_of s t u records texts r text o end a h w e =
           ap (λ (b : Bool). if b then output.Some_refused else output.All_accepted) (sym (some_refused a.outcomes o e));
     }
 
--- the events of one more record
+-- the history with the events of one more record
 history_more : {S : Type 0} (happens : S → Event → S → Type 0) (before mid taken later : S) (rs : List (List Field))
     (texts : List (List ℕ)) (r : List Field) (text : List ℕ) → length texts ≡ length rs
     → History happens before (exchanges rs texts) mid → happens mid (Took r) taken → happens taken (Wrote text) later →
@@ -232,7 +232,7 @@ refused_so_far happens false old now new before mid taken later end fields n acc
 
 -- ---- ends
 
--- what a register stands in has its content
+-- the states that a register represents have its content
 pub standing : (old : Registered) (s : State) → IsContent old.kept.content → Stands old.kept s → IsContent s.content
 standing old s sound stands = subst IsContent stands.0 sound
 
@@ -253,7 +253,7 @@ answered_on stop And old now records texts end base h give s stands =
       give so.2.outcomes so.2.goes_on so.2.ended,
     )
 
--- with one more, whose answer may not be written whole
+-- with one record more, whose answer may not be written completely
 one_more_on : {S : Type 0} (happens : S → Event → S → Type 0) (stop : Bool) (And : List Outcome → Type 0)
     (old now new : Registered) (records : List (List Field)) (texts : List (List ℕ)) (end : Status) (fields : List Field)
     (taken later : S) (r : Result Bool RunFault) → IsContent old.kept.content
@@ -292,7 +292,7 @@ ran_whole happens stop old now before mid later end n base a none =
       answered = answered_on stop _ old now a.records a.texts end base a.answered (λ os going ends. ends);
     }
 
--- the first refusal stops the run
+-- the first rejected record stops the run
 pub ran_stopped : {S : Type 0} (happens : S → Event → S → Type 0) (stop : Bool) (old now new : Registered)
     (before mid taken later : S) (end : Status) (fields : List Field) (n : ℕ) (accepted : Bool)
     → IsContent old.kept.content → accepted ≡ false → stop ≡ true → SoFar happens stop old before now mid end n →
@@ -328,7 +328,7 @@ cut_in_taking happens stop old now before mid later end n e base a none =
     (later, none.0, refl))
     (answered_on stop _ old now a.records a.texts end base a.answered (λ os going ends. going))
 
--- one more than the most
+-- one record more than the greatest number
 pub cut_past : {S : Type 0} (happens : S → Event → S → Type 0) (stop : Bool) (old now : Registered)
     (before mid later : S) (end : Status) (n : ℕ) (fields : List Field) → IsContent old.kept.content
     → SoFar happens stop old before now mid end n → n ≡ most_records → happens mid (Took fields) later
@@ -339,7 +339,7 @@ cut_past happens stop old now before mid later end n fields base a most took =
     (later, took, refl))
     (answered_on stop _ old now a.records a.texts end base a.answered (λ os going ends. going))
 
--- the text of an answer was not made, or not written whole
+-- the text of an answer was not made, or not written completely
 pub cut_in_answer : {S : Type 0} (happens : S → Event → S → Type 0) (stop : Bool) (old now new : Registered)
     (before mid taken later : S) (end : Status) (n : ℕ) (fields : List Field) (e : RunFault)
     → IsContent old.kept.content → SoFar happens stop old before now mid end n → happens mid (Took fields) taken

@@ -7,7 +7,7 @@ use Rattle.csv.specs.declared.error.ErrorKind.TheVariants as kind
 use Rattle.olr_records.specs.Records.{Field}
 use Rattle.olr_run.specs.Sessions.{Known, Event, Took, Wrote, History, exchanges}
 
--- where records may have any number of fields, a fault stops the reader
+-- a reader that accepts any number of fields is stopped by each fault
 pub stopped : {R : Type 0} (remaining : R → Known) (old new : Reader R) (k : ErrorKind) → is_flexible old ≡ true →
     ExplainsRead remaining old new false k → stops_reader k ≡ true
 stopped remaining old new (kind.Io e) f h = refl

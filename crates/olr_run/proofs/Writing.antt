@@ -1,4 +1,4 @@
--- What is written so far.
+-- The bytes that are written so far.
 use Rattle.std.proofs.Common.{◌≡◌, ◌≢◌, ◌∙◌, ◌+◌, ◌-◌, ◌≤◌, ◌<◌, ℕ, List, [], ◌++◌, length, take, drop, None, Some, ap, sym}
 use Rattle.std.proofs.Common.{subst, arith, length-drop}
 use Rattle.std.proofs.lemmas.List.{append-nil, take-append-drop, take_all}
@@ -31,11 +31,11 @@ written_more before now later bytes n k w l h =
           ∙ sym (take-add n k bytes)) (Appends-trans before now later _ _ w.front h);
     }
 
--- a front of the bytes was written, and not all of them
+-- only the first bytes were written, not all of them
 abbrev pub Front : Known → Known → List ℕ → Type 0
 Front before later bytes = (front rest : List ℕ) × (bytes ≡ front ++ rest) × (rest ≢ []) × Appends before later front
 
--- a writer that took nothing more, or failed
+-- the writer took nothing more, or failed
 pub front_of : (before now later : Known) (bytes : List ℕ) (n : ℕ) → Written before now bytes n → n < length bytes →
     Keeps now later → Front before later bytes
 front_of before now later bytes n w more k = (

@@ -1,9 +1,9 @@
--- How the program ends: over the words of its command line, what opening the file gives, and the bytes of file and
+-- How the program ends, given its command-line arguments, the result of opening the file, and the bytes of file and
 -- input.
---     Explains kinds before later code      words with these kinds of fault are answered with help, the version or a
---         fault
---     Opens call remaining opener name opened      opening the file of that name gives known bytes, or fails
---     Ends words Opened input old before new later code      the register, what is written and the status at the end
+--     Explains kinds before later code      arguments with these kinds of fault are answered with help, the version or
+--         a fault
+--     Opens call remaining opener name opened      opening the file of that name returns known bytes, or fails
+--     Ends words Opened input old before new later code      the register, what is written and the exit status
 use Rattle.std.specs.Prelude.{◌≡◌, ℕ, Bool, true, false, List, [], Option, Some, None, option_map, MatchOption, Result}
 use Rattle.std.specs.Prelude.{Ok, Err, ◌⊎◌, IfSome}
 use Rattle.std.specs.Result.{result_ok}
@@ -26,9 +26,9 @@ use Rattle.olr_run.specs.declared.ends.RunFault.{RunFault}
 use Rattle.olr_run.specs.declared.ends.RunFault.TheVariants as fault
 use Rattle.olr_run.specs.declared.ends.Status.{Status}
 
--- ---- words that ask for no run
+-- ---- arguments that ask for no run
 
--- help and the version are asked for; the other kinds are mistakes
+-- help and the version are asked for; the other kinds are faults
 abbrev pub is_asked_for : ErrorKind → Bool
 is_asked_for kind.DisplayHelp = true
 is_asked_for kind.DisplayVersion = true
@@ -40,19 +40,19 @@ HasKind kinds asked = (k : ErrorKind) × IsAmong k kinds × (is_asked_for k ≡ 
 abbrev pub Adds : Known → Known → Type 0
 Adds before later = (text : List ℕ) × Appends before later text
 
--- a text was written: all of it, and exactly it where it is known; a front of it; or nothing, out of memory
+-- a text was written: all of it, and exactly this text if it is known; its first bytes; or nothing, out of memory
 abbrev pub Shows : Known → Known → Known → Result (Unit {0}) RunFault → Type 0
 Shows text before later (Ok done) = (t : List ℕ) × Appends before later t × IfSome text (λ x. t ≡ x)
 Shows text before later (Err fault.Write) = Adds before later
 Shows text before later (Err fault.Memory) = later ≡ before
 Shows text before later (Err e) = ⊥
 
--- help or the version was written, with status 0; or not all of it, with 3; or nothing, out of memory, with 4
+-- help or the version was written, with status 0; or only its first bytes, with 3; or nothing, out of memory, with 4
 abbrev pub IsShown : Known → Known → ℕ → Type 0
 IsShown before later code =
     (Adds before later × (code ≡ 0)) ⊎ (Adds before later × (code ≡ 3)) ⊎ ((later ≡ before) × (code ≡ 4))
 
--- by the fault of the arguments: status 4 out of memory, and 2 for a mistake
+-- by the fault of the arguments: status 4 out of memory, and 2 for a fault of clap
 abbrev pub ExplainsFault : OptionsFault → Known → Known → ℕ → Type 0
 ExplainsFault opts.Memory before later code = (later ≡ before) × (code ≡ 4)
 ExplainsFault (opts.Clap e) before later code =
@@ -67,17 +67,17 @@ pub data Explains (kinds : Kinds) (before later : Known) (code : ℕ) : Type 0 w
 
 -- ---- the command file
 
--- the bytes of the file where they are known, or None where it can't be opened
+-- the bytes of the file if they are known, or None if it can't be opened
 abbrev pub Opens : {O F E : Type 0} → Once O (Bor (List ℕ) × Unit {0}) (Result F E) → (F → Known) → O → List ℕ →
     Option Known → Type 0
 Opens {O} {F} {E} call remaining opener name opened =
     (r : Result F E) × FnOnceReturnsAt call opener name r × (option_map remaining (result_ok r) ≡ opened)
 
--- the bytes of the file that is asked for, or none where none is
+-- the bytes of the file that is asked for, or no bytes if none is
 abbrev pub IsFile : Option (List ℕ) → (List ℕ → Option Known → Type 0) → Known → Type 0
 IsFile asked Opened file = MatchOption asked (file ≡ Some []) (λ name. Opened name (Some file))
 
--- the file of that name, where one is asked for, was opened or not
+-- the result of opening the file that is asked for, if there is one
 abbrev pub OpensFile : {O F E : Type 0} → Once O (Bor (List ℕ) × Unit {0}) (Result F E) → O → Option (List ℕ) →
     Result (Option F) E → Type 0
 OpensFile call opener None (Ok None) = Unit {0}
@@ -87,7 +87,7 @@ OpensFile call opener _ _ = ⊥
 
 -- ---- the whole program
 
--- a run is made only of words without a fault, and of a file that was opened
+-- a run is made only if the arguments have no fault and the file was opened
 pub data Ends (words : List (List ℕ)) (Opened : List ℕ → Option Known → Type 0) (input : Known) (old : Registered)
     (before : Known) (new : Registered) (later : Known) (code : ℕ) : Type 0 where
   Explained : Explains (fault_of keep_app words) before later code → new ≡ old →

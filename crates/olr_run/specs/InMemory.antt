@@ -1,9 +1,9 @@
 -- Records of bytes in memory.
---     csv_state s, csv_step p      a state, and what a byte does, in csv's words
---     IsFirst text state fields end      the first record of a text, read on from a state, and the place and the state
+--     csv_state s, csv_step p      a state, and the effect of a byte, in terms of csv's contracts
+--     IsFirst text state fields end      the first record of a text, read from a state, and the index and the state
 --         after it
---     BytesHappens      the events of such records and a writer, where it tells of its bytes
---     TookFrom old new found fields      the next record was taken, or there is none, or memory ran out before
+--     BytesHappens      the events of such records and a writer whose bytes are known
+--     TookFrom old new found fields      the next record was taken, or there is none, or an allocation failed before
 use Rattle.std.specs.Prelude.{◌≡◌, ◌≤◌, ℕ, Bool, true, false, List, [], drop, length, Option, Some, None}
 use Rattle.std.specs.Io.KnownBytes.{Appends}
 use Rattle.csv.specs.Machine.{next_record}

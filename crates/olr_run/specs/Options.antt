@@ -1,7 +1,7 @@
--- What the words of the command line ask for.
+-- What the command-line arguments ask for.
 --     keep_app      the program's arguments, -m FILE and -s, beside the flags for help and the version
---     Options, options words      a file and whether to stop, by clap's matches of the words
---     IsOptionsFault kinds fault      clap's answer is of one of these kinds, or there was no memory
+--     Options, options words      a file and whether to stop, by clap's matches of the arguments
+--     IsOptionsFault kinds fault      clap's fault is of one of these kinds, or an allocation failed
 use Rattle.std.specs.Prelude.{ℕ, Bool, true, false, List, Option, Some, None, option_map, codes, ⊤}
 use Rattle.std.specs.Str.{bytes_eq}
 use Rattle.clap.specs.Kinds.{Kinds, IsAmong}
@@ -23,7 +23,7 @@ pub record Options : Type 0 where
   pub file : Option (List ℕ)
   pub stop : Bool
 
--- the text of a flag that is given
+-- the text of a flag that is set
 abbrev pub is_set : Option (List ℕ) → Bool
 is_set None = false
 is_set (Some text) = bytes_eq text (codes "true")

@@ -1,10 +1,10 @@
--- What a run writes of what it reads.
+-- What a run writes for what it reads.
 --     records_of input      the records of the bytes read
---     RecordOutcome s fields o t      what a record answers: by its command, by its own fault, or by want of memory to
---         read it
---     Outcomes s rs os t      the first records answer so, one after another, from s to t
---     command_spelled fields      the command that a record spells.
---     Claims s rs os t      what is claimed of such a run
+--     RecordOutcome s fields o t      the outcome of a record: that of its command, its own fault, or out of memory
+--         while reading it
+--     Outcomes s rs os t      the first records have these outcomes, one after another, from s to t
+--     command_spelled fields      the command that a record decodes to.
+--     Claims s rs os t      the claims about such a run
 --     Ran Each stop s rs t written status      a whole run.
 --     Faulted Each stop s rs t written e      a run that was cut off by this fault
 use Rattle.std.specs.Prelude.{◌≡◌, ◌≢◌, ◌^◌, ℕ, Bool, ◌&&◌, List, [], ◌∷◌, ◌++◌, length, flat_map, is_err, Option, Result}
@@ -20,7 +20,7 @@ use Rattle.olr_records.specs.ReplyText.{outcome_text}
 use Rattle.olr_run.specs.declared.ends.RunFault.{RunFault}
 use Rattle.olr_run.specs.declared.ends.RunFault.TheVariants as fault
 
--- with commas, quotes and line ends as csv has them by default, no header, and any number of fields
+-- with commas, quotes and line ends as is csv's default, no header, and any number of fields
 abbrev pub records_of : List ℕ → List (List Field)
 records_of input = records default_config (strip_bom input)
 
@@ -34,31 +34,31 @@ CommandOutcome s (Err fault) o t = (o ≡ Err (read_fault fault)) × (t ≡ s)
 abbrev pub OutOfMemory : State → Outcome → State → Type 0
 OutOfMemory s o t = (o ≡ Err Memory) × (t ≡ s)
 
--- reading a record may want memory where its command holds a list
+-- reading a record may run out of memory if its command holds a list
 abbrev pub RecordOutcome : State → List Field → Outcome → State → Type 0
 RecordOutcome s fields o t = CommandOutcome s (read fields) o t ⊎ (TakesMemory fields × OutOfMemory s o t)
 
--- ---- records in turn
+-- ---- records, one after another
 
 abbrev pub Outcomes : State → List (List Field) → List Outcome → State → Type 0
 Outcomes s rs os t = Run RecordOutcome s rs os t
 
--- after each of them the content is sound
+-- the content is sound after each of them
 abbrev pub SoundOutcome : State → List Field → Outcome → State → Type 0
 SoundOutcome s fields o t = RecordOutcome s fields o t × IsContent t.content
 
 abbrev pub SoundOutcomes : State → List (List Field) → List Outcome → State → Type 0
 SoundOutcomes s rs os t = Run SoundOutcome s rs os t
 
--- the command that a record spells
+-- the command that a record decodes to
 abbrev pub command_spelled : List Field → Option Command
 command_spelled fields = result_ok (read fields)
 
--- and the four claims hold of the commands that they spell
+-- and the four claims are true of the commands that they decode to
 abbrev pub Claims : State → List (List Field) → List Outcome → State → Type 0
 Claims s rs os t = Headline SoundOutcome command_spelled s rs os t
 
--- none after a fault where stop is set
+-- no outcome follows a fault if stop is set
 abbrev pub StopsAtFault : Bool → List Outcome → Type 0
 StopsAtFault stop [] = ⊤
 StopsAtFault stop (o ∷ os) = (IsTrue (stop && is_err o) → os ≡ []) × StopsAtFault stop os
@@ -66,7 +66,7 @@ StopsAtFault stop (o ∷ os) = (IsTrue (stop && is_err o) → os ≡ []) × Stop
 abbrev pub any_refused : List Outcome → Bool
 any_refused os = list_any is_err os
 
--- each record was answered, or stop ended it
+-- each record was answered, or a fault stopped the run
 abbrev pub AreAnswered : Bool → List (List Field) → List Outcome → Type 0
 AreAnswered stop rs os = (length os ≡ length rs) ⊎ IsTrue (stop && any_refused os)
 
@@ -79,7 +79,7 @@ pub data Status : Type 0 where
 abbrev pub run_status : Bool → List Outcome → Status
 run_status stop os = if any_refused os then (if stop then Stopped else Some_refused) else All_accepted
 
--- ---- runs, of whose records, outcomes and states Each says more
+-- ---- runs; Each is the relation of records, outcomes and states
 
 pub record Ran (Each : State → List (List Field) → List Outcome → State → Type 0) (stop : Bool) (s : State)
     (rs : List (List Field)) (t : State) (written : List ℕ) (end : Status) : Type 0 where
@@ -90,7 +90,7 @@ pub record Ran (Each : State → List (List Field) → List Outcome → State �
   pub wrote : written ≡ texts outcomes
   pub ended : end ≡ run_status stop outcomes
 
--- by a fault before another record was taken, out of memory for the last text, or while it was written
+-- by a fault before the next record was taken, by out of memory for the last text, or while that text was written
 pub data CutOff (stop : Bool) (os : List Outcome) (written : List ℕ) (e : RunFault) : Type 0 where
   Before_next : e ≢ fault.Write → IsFalse (stop && any_refused os) → written ≡ texts os → CutOff stop os written e
   No_text : e ≡ fault.Memory → (before : List Outcome) (last : Outcome) → os ≡ before ++ last ∷ [] →
@@ -113,10 +113,10 @@ greater Some_refused Some_refused = Some_refused
 greater Some_refused Stopped = Stopped
 greater Stopped end = Stopped
 
--- no outcome is want of memory
+-- no outcome is out of memory
 abbrev pub AllHadMemory : List Outcome → Type 0
 AllHadMemory os = IsFalse (list_any lacks_memory os)
 
--- the most records of a run
+-- the greatest number of records in a run
 abbrev pub most_records : ℕ
 most_records = 2 ^ 40

@@ -5,7 +5,7 @@ use Rattle.olr_spec.specs.Map.{empty_map}
 use Rattle.olr_commands.specs.State.{State}
 use Rattle.olr_records.specs.Rows.{zero, text_of_lines}
 
--- a run of five records, four of them refused
+-- a run of five records, four of them rejected
 abbrev pub input20 : List ℕ
 input20 =
     text_of_lines (codes "node,1,0,0" ∷ codes "node,1,0,0" ∷ codes "drop-node,2" ∷ codes "node,3,180,0"

@@ -1,12 +1,12 @@
--- Runs on a register, as Rust's values say them, in a session, and of what a reader and a writer tell of their bytes.
---     WritesAll before later bytes r      all of the bytes were written, or a front of them
---     CarriedOut old fields new r      what a record does to the register, and its answer
+-- Runs on a register in terms of Rust's values: in a session, and by the known bytes of a reader and a writer.
+--     WritesAll before later bytes r      all of the bytes were written, or only the first of them
+--     CarriedOut old fields new r      the effect of a record on the register, and its answer
 --     AnswersRecord      the same, and its text was written
 --     RanIn, CutIn      a run in a session: each record was taken and answered before the next
 --     known_records known      the records of known bytes
---     known_both      those of a file and then those of more input
+--     known_both      those of a file followed by those of the input
 --     RanOn, FaultedOn      a run over known records
---     exit_code r      the status of the program
+--     exit_code r      the exit status of the program
 use Rattle.std.specs.Prelude.{◌≡◌, ◌≢◌, ℕ, ◌<◌, Bool, ◌&&◌, List, [], ◌∷◌, ◌++◌, length, map, Option, Some, None}
 use Rattle.std.specs.Prelude.{option_map, Result, Ok, Err, IfSome, is_ok, IsFalse, ◌⊎◌, ⊤}
 use Rattle.std.specs.Io.KnownBytes.{Appends}
@@ -51,14 +51,14 @@ abbrev pub answer_text : Result Reply (Bor (List ℕ)) → List ℕ
 answer_text (Ok reply) = reply_text (reply_of reply)
 answer_text (Err line) = line.now
 
--- the text was written, or there was no memory for it, or not all of it was written
+-- the text was written, or an allocation failed, or only its first bytes were written
 abbrev pub WritesText : {S : Type 0} → (S → Event → S → Type 0) → S → List ℕ → S → Result Bool RunFault → Bool → Type 0
 WritesText happens before text later (Ok accepted) is = happens before (Wrote text) later × (accepted ≡ is)
 WritesText happens before text later (Err e) is =
     ((e ≡ fault.Memory) × (later ≡ before))
     ⊎ ((front rest : List ℕ) × (text ≡ front ++ rest) × (rest ≢ []) × happens before (Cut front) later × (e ≡ fault.Write))
 
--- a record's command is carried out, and its answer, which has this text and accepts it or not, is written
+-- a record's command is carried out, and its answer is written: it has this text, and accepts the command or not
 pub record AnswersRecord {S : Type 0} (happens : S → Event → S → Type 0) (old : Registered) (fields : List Field)
     (new : Registered) (before later : S) (r : Result Bool RunFault) : Type 0 where
   pub text : List ℕ
@@ -74,15 +74,15 @@ status_of status.AllAccepted = output.All_accepted
 status_of status.SomeRefused = output.Some_refused
 status_of status.Stopped = output.Stopped
 
--- from each state in which the register stood, these records have outcomes of these texts, and lead to a state in which
--- it stands
+-- from each state that the register represented, these records have outcomes of these texts, and lead to a state that
+-- it represents
 abbrev pub AnsweredOn : Bool → (List Outcome → Type 0) → Registered → List (List Field) → List (List ℕ) → Registered →
     Type 0
 AnsweredOn stop And old rs texts new =
     (s : State) → Stands old.kept s → (t : State) × Stands new.kept t × (os : List Outcome) × Claims s rs os t
     × (map outcome_text os ≡ texts) × StopsAtFault stop os × And os
 
--- nothing more is taken after the refusal that stops the run; else there is no further record
+-- no event follows the rejected record that stops the run; otherwise there is no further record
 abbrev pub last_events : Status → List Event
 last_events status.Stopped = []
 last_events _ = Ended ∷ []
@@ -96,8 +96,8 @@ pub record RanIn {S : Type 0} (happens : S → Event → S → Type 0) (stop : B
   pub history : History happens before (exchanges records texts ++ last_events end) later
   pub answered : AnsweredOn stop (λ os. status_of end ≡ run_status stop os) old records texts new
 
--- the same, up to a record that can't be taken, or one more than the most; or to one whose text was not made, for want of
--- memory, or not written whole
+-- the same, up to a record that can't be taken, or one more than the greatest number; or up to a record whose text was
+-- not made, out of memory, or not written completely
 pub data CutIn {S : Type 0} (happens : S → Event → S → Type 0) (stop : Bool) (old : Registered) (before : S)
     (new : Registered) (later : S) (e : RunFault) : Type 0 where
   In_taking : IsOfTaking e → (rs : List (List Field)) (texts : List (List ℕ)) → length texts ≡ length rs →
@@ -126,7 +126,7 @@ Records = Option (List (List Field))
 abbrev pub known_records : Known → Records
 known_records known = option_map records_of known
 
--- the bytes of a file, or none where there is no file
+-- the bytes of a file, or no bytes if there is no file
 abbrev pub known_file : {F : Type 0} → (F → Known) → Option F → Known
 known_file remaining file = option_map_or remaining file (Some [])
 
@@ -135,7 +135,7 @@ known_both None second = None
 known_both (Some rs) None = None
 known_both (Some rs) (Some qs) = Some (rs ++ qs)
 
--- from each state in which the register stood, a whole run leads to one in which it stands
+-- from each state that the register represented, a whole run leads to a state that it represents
 abbrev pub RanOn : (State → List (List Field) → List Outcome → State → Type 0) → Bool → Registered → Records → Known →
     Registered → Known → Status → Type 0
 RanOn Each stop old records before new later end =
@@ -143,7 +143,7 @@ RanOn Each stop old records before new later end =
     → (t : State) × Stands new.kept t × (written : List ℕ) × Appends before later written
     × Ran Each stop s rs t written (status_of end))
 
--- and one that was cut off by this fault does
+-- and so does a run that was cut off by this fault
 abbrev pub FaultedOn : (State → List (List Field) → List Outcome → State → Type 0) → Bool → Registered → Records →
     Known → Registered → Known → RunFault → Type 0
 FaultedOn Each stop old records before new later e =

@@ -1,10 +1,10 @@
--- Sessions: what happens at the two ends of a run, in order.
---     Event      a record was taken, or no further one was there, or none could be taken; a text was written, or only a
---         front of it
---     History happens a es b      these events, in this order, lead from a to b, where happens says it of one
+-- Sessions: the events at the two ends of a run, in order.
+--     Event      a record was taken, or there was none, or none could be taken; a text was written, or only its
+--         first bytes
+--     History happens a es b      these events, in this order, lead from a to b; happens is the relation of one event
 --     exchanges rs texts      each record was taken, and then its text was written
---     IsPlain r, ReadsOne remaining old new found fields      a reader of records by default, and one read of it
---     CsvHappens      the events of such a reader and a writer, where they tell of their bytes
+--     IsPlain r, ReadsOne remaining old new found fields      a reader with csv's defaults, and one read of it
+--     CsvHappens      the events of such a reader and a writer whose bytes are known
 use Rattle.std.specs.Prelude.{◌≡◌, ◌≢◌, ℕ, Bool, true, false, List, [], ◌∷◌, ◌++◌, Option, Result, Ok, Err, ⊤}
 use Rattle.std.specs.Io.KnownBytes.{Appends}
 use Rattle.csv.specs.Reading.{ReadRecord, Ready, default_config, reader_config, reader_trim, is_flexible, has_failed}
@@ -37,7 +37,7 @@ exchanges (r ∷ rs) (text ∷ texts) = Took r ∷ Wrote text ∷ exchanges rs t
 
 -- ---- calls
 
--- a fault of taking a record: the reader's own, or out of memory
+-- a fault of taking a record: that of the reader, or out of memory
 abbrev pub IsOfTaking : RunFault → Type 0
 IsOfTaking fault.Read = ⊤
 IsOfTaking fault.Memory = ⊤
@@ -48,7 +48,7 @@ TakesNext happens old new (Ok true) fields = happens old (Took fields) new
 TakesNext happens old new (Ok false) fields = happens old Ended new
 TakesNext happens old new (Err e) fields = happens old (Not_taken e) new × IsOfTaking e
 
--- all of the text was written, or not all of it
+-- all of the text was written, or only its first bytes
 abbrev pub Writes : {S : Type 0} → (S → Event → S → Type 0) → S → List ℕ → S → Result (Unit {0}) RunFault → Type 0
 Writes happens old text new (Ok done) = happens old (Wrote text) new
 Writes happens old text new (Err e) =
@@ -56,7 +56,7 @@ Writes happens old text new (Err e) =
 
 -- ---- records as csv reads them
 
--- a reader of records as csv has them by default, with no header, of any number of fields, and no field trimmed
+-- a csv reader with its defaults, no header, any number of fields, and no field trimmed
 pub record IsPlain {R : Type 0} (r : Reader R) : Type 0 where
   pub config : reader_config r ≡ default_config
   pub trim : reader_trim r ≡ trim.None
@@ -66,7 +66,7 @@ pub record IsPlain {R : Type 0} (r : Reader R) : Type 0 where
 abbrev pub ReadsOne : {R : Type 0} → (R → Known) → Reader R → Reader R → Bool → List Field → Type 0
 ReadsOne remaining old new found fields = IsPlain old → IsPlain new × ReadRecord remaining old new found fields
 
--- a record that can't be taken is the fault of the reader underneath, or of memory, after which there is none
+-- if no record can be taken, because the reader below or an allocation failed, then none can be taken afterwards
 abbrev pub CsvHappens : {R : Type 0} → (R → Known) → Reader R → Reader R → Known → Known → Event → Type 0
 CsvHappens remaining old new before later (Took fields) = ReadsOne remaining old new true fields × (later ≡ before)
 CsvHappens remaining old new before later Ended =

@@ -1,4 +1,4 @@
-//! What one record answers.
+//! The answer to one record.
 
 ghost use Rattle.std.specs.Prelude.{◌≡◌, [], true, IfOk, is_ok};
 ghost use Rattle.csv.specs.Records.{fields_of};
@@ -15,7 +15,7 @@ use olr_records::{append_reply, fault_text, no_paths_text, read_command, read_fa
 use olr_register::Register;
 use std::alloc::{AllocError, Global};
 
-/// Carries out what a record asks for: the reply, or the line of the fault.
+/// Carries out the command of a record. Returns the reply, or the line of the fault.
 fn carry_out(
     alloc: Global,
     register: &mut Register,
@@ -32,7 +32,7 @@ fn carry_out(
     }
 }
 
-/// Whether a reply names no path, as most do.
+/// Whether a reply names no path, as most replies do.
 fn names_no_path(reply: &Reply) -> bool
     ensures { result ≡ true → reply_of reply.now ≡ Paths [] }
 {
@@ -42,7 +42,7 @@ fn names_no_path(reply: &Reply) -> bool
     }
 }
 
-/// The lines of a reply. Where it names paths or tells more they are made in `text`, whose room is kept.
+/// The lines of a reply. Unless it names no path, they are written to `text`, whose buffer is reused.
 fn reply_lines<'a>(text: &'a mut Vec<u8>, reply: &Reply) -> Result<&'a [u8], AllocError>
     ensures { IfOk result (λ lines. lines.now ≡ reply_text (reply_of reply.now)) }
 {
@@ -54,7 +54,7 @@ fn reply_lines<'a>(text: &'a mut Vec<u8>, reply: &Reply) -> Result<&'a [u8], All
     Ok(text.as_slice())
 }
 
-/// Writes an answer; the text of a reply is made in `text`, whose room is kept. Whether it accepts the command.
+/// Writes an answer; the text of a reply is made in `text`, whose buffer is reused. Returns whether it accepts the command.
 fn write_answer<W, S: Session<W>>(
     answer: &Result<Reply, &'static str>,
     text: &mut Vec<u8>,
@@ -77,7 +77,7 @@ fn write_answer<W, S: Session<W>>(
     }
 }
 
-/// Carries out what a record asks for and writes the answer, whose text is made in `text`. Whether the command was
+/// Carries out the command of a record and writes the answer, whose text is made in `text`. Returns whether the command was
 /// accepted.
 pub fn tell<W, S: Session<W>>(
     alloc: Global,

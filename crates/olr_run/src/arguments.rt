@@ -1,23 +1,23 @@
-//! What the program is asked for on its command line.
+//! What the command-line arguments ask for.
 
 use thiserror::Error;
 
-/// What the words of a command line ask for.
+/// What the command-line arguments ask for.
 #[derive(Clone, Copy, Debug, PartialEq, Eq)]
 pub struct Options<'a> {
     /// The file whose commands come before those of standard input.
     pub file: Option<&'a str>,
-    /// Whether to stop at the first refused command.
+    /// Whether to stop at the first rejected command.
     pub stop: bool,
 }
 
-/// Why words give no options.
+/// Why arguments give no options.
 #[derive(Debug, Drop, Error)]
 pub enum OptionsFault {
-    /// Help or the version was asked for, or the words are wrong. The text for the user is this error's.
+    /// Help or the version was asked for, or an argument is invalid. The text for the user is that of this error.
     #[error(transparent)]
     Clap(clap::Error),
-    /// There was no memory.
+    /// Out of memory.
     #[error("no memory")]
     Memory,
 }

@@ -1,4 +1,4 @@
-//! A file's commands and then those of the input, on one register.
+//! The commands of a file and then those of the input, on one register.
 
 ghost use Rattle.std.specs.Prelude.{◌≡◌, ◌⊎◌, IfOk, IfErr};
 ghost use Rattle.olr_run.specs.Output.{greater, SoundOutcomes, Claims};
@@ -22,7 +22,7 @@ fn greater_of(first: Status, second: Status) -> Status
     }
 }
 
-/// The commands of a file, or none where there is no file.
+/// Runs the commands of a file, or none if there is no file.
 fn run_file<F: Read + Drop, W: Write>(
     alloc: Global,
     register: &mut Register,
@@ -43,9 +43,9 @@ fn run_file<F: Read + Drop, W: Write>(
     }
 }
 
-/// The commands of a file, where there is one, and then those of the input, on one register: a batch that the file
-/// leaves open stays open. Where the first run is stopped or fails, nothing is read of the input and the end is that
-/// run's; else it is the greater of the two. So it is one run over all of their records.
+/// Runs the commands of a file, if there is one, and then those of the input, on one register: a batch that the file leaves
+/// open stays open. If the first run is stopped or fails, nothing is read from the input, and the end is that of this run;
+/// otherwise it is the greater of the two statuses. So both are one run over all of their records.
 pub fn run_both<F: Read + Drop, R: Read + Drop, W: Write>(
     alloc: Global,
     register: &mut Register,

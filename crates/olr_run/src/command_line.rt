@@ -1,4 +1,4 @@
-//! The words of the command line, read by `clap`.
+//! The command-line arguments, read by `clap`.
 
 ghost use Rattle.std.specs.Prelude.{◌≡◌, [], map, true, IfOk, IfErr, MatchResult, option_map};
 ghost use Rattle.clap.specs.Faults.{fault_of};
@@ -12,18 +12,18 @@ use clap::{Arg, ArgAction, Command};
 use std::alloc::{AllocError, Global};
 use std::convert::AsStr;
 
-const ABOUT: &str = "Keeps published OpenLR strings right while the road map under them is edited.";
+const ABOUT: &str = "Keeps published OpenLR strings correct while the road map is edited.";
 
-/// The version, and the toolchain with which it was proved, as `rt version` tells it.
+/// The version, and the toolchain with which it was proved, as `rt version` prints it.
 const VERSION: &str = "1.1.0, proved with rattle-kit-13b logic dac8208d650f15bf";
 
 const AFTER_HELP: &str =
     "Records: node, move, drop-node, line, set-line, drop-line, path, repath, drop-path,
-show, report, explain, begin, commit, abort. docs/LIMITS.md: their fields, limits, refusals.
+show, report, explain, begin, commit, abort. docs/LIMITS.md: their fields, limits, faults.
 Replies: `ok,N` and N lines, `held,N` in a batch, `fault,NUMBER,WORD`.
 Example: olr-keep < examples/morning.csv
-Status: 0 all accepted, 1 some refused, 2 wrong words, 3 a file or a stream failed, 4 no memory.
-docs/RUNNING.md: maps from a database, a log to start again from, a queue, regions.";
+Status: 0 all accepted, 1 some rejected, 2 invalid arguments, 3 I/O failed, 4 out of memory.
+docs/RUNNING.md: maps from a database, a log for restarts, a queue, regions.";
 
 /// The program's arguments.
 fn command<'a>(alloc: Global) -> Result<Command<'a>, AllocError>
@@ -33,11 +33,11 @@ fn command<'a>(alloc: Global) -> Result<Command<'a>, AllocError>
         .short('m')
         .value_name("FILE")
         .action(ArgAction::Set)
-        .help("Takes the commands of FILE before those of standard input");
+        .help("Reads the records of FILE before those of standard input");
     let stop = Arg::new(alloc, "stop")
         .short('s')
         .action(ArgAction::SetTrue)
-        .help("Stops at the first refused command");
+        .help("Stops at the first rejected record");
     Command::new(alloc, "olr-keep")
         .version(VERSION)
         .about(ABOUT)
@@ -46,15 +46,15 @@ fn command<'a>(alloc: Global) -> Result<Command<'a>, AllocError>
         .arg(stop)
 }
 
-/// Whether the text of a flag, where it has one, says that the flag was given.
+/// Whether the text of a flag, if it has one, says that the flag is set.
 fn is_given(flag: Option<&str>) -> bool
     ensures { result ≡ is_set (option_map (λ text. text.now) flag.entry) }
 {
     flag.is_some_and(|text| text == "true")
 }
 
-/// Reads the words of a command line, the first of which is the program's own name. Words that the definition of the
-/// arguments takes are refused for want of memory alone.
+/// Reads the command-line arguments, the first of which is the program's own name. Arguments that the definition accepts are
+/// rejected only if an allocation fails.
 pub fn options<'a, S: AsStr>(alloc: Global, words: &'a [S]) -> Result<Options<'a>, OptionsFault>
     ensures ok { IfOk result (λ o. options_of o ≡ options (map S.text words.entry.now)) }
     ensures taken { takes keep_app (map S.text words.entry.now) ≡ true → IfErr result (λ e. e ≡ OptionsFault.Memory) }

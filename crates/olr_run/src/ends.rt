@@ -7,14 +7,14 @@ ghost use Rattle.olr_run.specs.Runs as runs;
 use std::alloc::AllocError;
 use thiserror::Error;
 
-/// How a run ended that came to its end.
+/// How a run ended that was not cut off.
 #[derive(Clone, Copy, Debug, PartialEq, Eq)]
 pub enum Status {
     /// Every command was accepted.
     AllAccepted,
-    /// Some command was refused.
+    /// Some command was rejected.
     SomeRefused,
-    /// It stopped at the first refused command, as it was asked to.
+    /// It stopped at the first rejected command, as requested.
     Stopped,
 }
 
@@ -24,10 +24,10 @@ pub enum RunFault {
     /// The reader failed.
     #[error("read fault")]
     Read,
-    /// The writer failed, or took nothing.
+    /// The writer failed, or wrote nothing.
     #[error("write fault")]
     Write,
-    /// There was no memory for the reader's buffer, a record or a reply's text.
+    /// Out of memory for the reader's buffer, a record or a reply's text.
     #[error("no memory")]
     Memory,
     /// There were more than 2^40 records.
@@ -43,8 +43,8 @@ impl From<AllocError> for RunFault {
     }
 }
 
-/// The status that runs give the program: 0 where every command was accepted, 1 where some command was refused, 3 where
-/// reading or writing failed or the records were too many, and 4 where there was no memory to go on.
+/// The exit status after a run: 0 if every command was accepted, 1 if some command was rejected, 3 if reading or writing
+/// failed or there were too many records, and 4 if an allocation failed.
 pub fn exit_code(ended: &Result<Status, RunFault>) -> u8
     ensures { result ≡ runs.exit_code ended.now }
 {

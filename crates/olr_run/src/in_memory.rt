@@ -1,4 +1,4 @@
-//! The records of bytes in memory, as csv has them by default.
+//! The records of bytes in memory, with csv's defaults.
 
 ghost use Rattle.std.specs.Prelude.{◌≡◌, ◌++◌, ◌∷◌, [], true, false, IfOk, OnOk, OnErr};
 ghost use Rattle.csv.specs.Machine.{step, ends_at_end};
@@ -31,7 +31,7 @@ pub enum State {
     AfterCr,
 }
 
-/// What a byte does.
+/// The effect of a byte.
 #[derive(Clone, Copy, PartialEq, Eq, Debug)]
 pub enum Action {
     /// Nothing.
@@ -56,7 +56,7 @@ fn in_field(byte: u8) -> (State, Action)
     }
 }
 
-/// The same before a field.
+/// The same, before a field.
 fn start_field(byte: u8) -> (State, Action)
     ensures { csv_step result ≡ step default_config (st.StartField) byte }
 {
@@ -66,7 +66,7 @@ fn start_field(byte: u8) -> (State, Action)
     in_field(byte)
 }
 
-/// The same before a record.
+/// The same, before a record.
 fn start_record(byte: u8) -> (State, Action)
     ensures { csv_step result ≡ step default_config (st.StartRecord) byte }
 {
@@ -98,7 +98,7 @@ fn ends_record(state: State) -> bool
     !matches!(state, State::StartRecord | State::AfterCr)
 }
 
-/// Ends a field, of the bytes in `field` and then these. `field` is left empty.
+/// Ends a field, which has the bytes of `field` and then these. `field` is empty afterwards.
 fn end_field(row: &mut ByteRecord, field: &mut Vec<u8>, bytes: &[u8]) -> Result<(), AllocError>
     ensures fields { OnOk result (fields_of row.new ≡ fields_of row.old
         ++ (partial_of row.old ++ field.old.items ++ bytes.now) ∷ []) }
@@ -114,8 +114,8 @@ fn end_field(row: &mut ByteRecord, field: &mut Vec<u8>, bytes: &[u8]) -> Result<
     Ok(())
 }
 
-/// Takes the first record of a text, which is read on from a state. The place and the state after it, or None where
-/// there is no record.
+/// Takes the first record of a text, read from a state. Returns the index and the state after it, or None if there is no
+/// record.
 fn first_record(
     text: &[u8],
     state: State,
@@ -161,7 +161,7 @@ fn is_mark(a: u8, b: u8, c: u8) -> bool
     a == 0xEF && b == 0xBB && c == 0xBF
 }
 
-/// The bytes of a text after its byte order mark, where it has one.
+/// The bytes of a text after its byte order mark, if it has one.
 fn without_mark(text: &[u8]) -> &[u8]
     ensures { result.now ≡ strip_bom text.now }
 {
@@ -174,7 +174,7 @@ fn without_mark(text: &[u8]) -> &[u8]
     text
 }
 
-/// The records of bytes in memory that are left.
+/// The records that are left of bytes in memory.
 #[derive(Drop)]
 pub struct InMemory<'a> {
     rest: &'a [u8],
@@ -198,7 +198,7 @@ impl<'a> InMemory<'a> {
         }
     }
 
-    /// Takes the next record. False where there is none, or where memory ran out before.
+    /// Takes the next record. Returns false if there is none, or if an allocation failed before.
     fn take_record(&mut self, row: &mut ByteRecord) -> Result<bool, AllocError>
         ensures took { IfOk result (λ found. TookFrom self.old self.new found (fields_of row.new)) }
         ensures failed { OnErr result (self.new.failed ≡ true) }

@@ -1,5 +1,5 @@
 //! Whole runs: the records of a file and then of an input, each answered before the next is taken, over any streams;
-//! the words of the command line; and the status with which it all ends.
+//! the command-line arguments; and the exit status.
 #![tactic(auto)]
 
 mod answers;

@@ -1,11 +1,11 @@
-//! Writing to the end.
+//! Writing all bytes.
 
 ghost use Rattle.olr_run.specs.Runs.{WritesAll};
 
 use crate::ends::RunFault;
 use std::io::Write;
 
-/// Writes all of the bytes, as often as the writer takes some. A writer that fails or takes nothing is `Write`.
+/// Writes all of the bytes, in as many calls as the writer needs. `Write` is the fault if the writer fails or writes nothing.
 pub fn write_all<W: Write>(output: &mut W, bytes: &[u8]) -> Result<(), RunFault>
     ensures { WritesAll (W.contents output.old) (W.contents output.new) bytes.now result }
 {

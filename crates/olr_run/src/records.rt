@@ -13,10 +13,10 @@ use olr_register::Register;
 use std::alloc::Global;
 use std::io::{Read, Write};
 
-/// The most records of one run, 2^40.
+/// The greatest number of records in one run, 2^40.
 const MOST_RECORDS: u64 = 1 << 40;
 
-/// Room for a record and for the text of its answer, kept from one record to the next.
+/// Buffers for a record and for the text of its answer, reused from record to record.
 #[derive(Drop)]
 pub struct Room {
     fields: ByteRecord,
@@ -24,7 +24,7 @@ pub struct Room {
 }
 
 impl Room {
-    /// No room yet. Takes no memory.
+    /// Empty buffers. Takes no memory.
     pub fn new(alloc: Global) -> Room {
         Room {
             fields: ByteRecord::new(alloc),
@@ -33,7 +33,7 @@ impl Room {
     }
 }
 
-/// `run_session`, with room that may have served runs before.
+/// `run_session`, with buffers that may have been used by earlier runs.
 fn run_within<W, S: Session<W>>(
     alloc: Global,
     register: &mut Register,
@@ -72,12 +72,12 @@ fn run_within<W, S: Session<W>>(
     Ok(status)
 }
 
-/// Takes the records of a session, and writes the text of each one's answer before it takes the next: the history of the
-/// session is a record, its text, a record, its text, to the end. Where `stop` is set it takes none after the first
-/// refused one. Where a record can't be taken, all that came before it have been answered. Of the commands that the
-/// records spell: each path's published answer is the one that encoding it from nothing gives on the map of the accepted
-/// ones, the routes of its reference join, each reply to a change names the paths whose answer changed, and a refused
-/// one changed nothing.
+/// Takes the records of a session, and writes the text of each answer before it takes the next record: the history of the
+/// session is a record, its text, a record, its text, to the end. If `stop` is set, it takes no record after the first
+/// rejected one. If a record can't be taken, all records before it have been answered. For the commands that the records
+/// decode to: each path's published answer is that of a full encoding from scratch on the map of the accepted commands; the
+/// routes of its reference join; each reply to a change names the paths whose answer changed; and a rejected command changed
+/// nothing.
 pub fn run_session<W, S: Session<W>>(
     alloc: Global,
     register: &mut Register,
@@ -94,10 +94,10 @@ pub fn run_session<W, S: Session<W>>(
     run_within(alloc, register, session, output, stop, &mut room)
 }
 
-/// Runs the records of the input, as `csv` reads them, in a session whose answers go to the output. After a fault the
-/// register stands after the records that were answered: after a fault of reading all of their texts are written, and
-/// none of them stops the run; out of memory for a text, or after a fault of writing, all but the last one's, or but a
-/// rest of it.
+/// Runs the records of the input, as `csv` reads them, in a session whose answers are written to the output. After a fault
+/// the register has the state after the answered records. After a fault of reading, all of their texts are written, and none
+/// of them stops the run. After a fault of writing, or out of memory for a text, the last text is missing, or only its first
+/// bytes are written.
 pub fn run<R: Read + Drop, W: Write>(
     alloc: Global,
     register: &mut Register,
@@ -119,7 +119,7 @@ pub fn run<R: Read + Drop, W: Write>(
     run_session(alloc, register, &mut reader, output, stop)
 }
 
-/// Runs the records of bytes in memory, with the same promises. `room` is used again by later runs.
+/// Runs the records of bytes in memory, with the same contract as `run`. `room` can be reused by later runs.
 pub fn run_bytes<W: Write>(
     alloc: Global,
     register: &mut Register,

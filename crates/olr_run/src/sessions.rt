@@ -1,4 +1,4 @@
-//! Sessions: the two ends of a run, where its records come from and where their answers are written.
+//! Sessions: the two ends of a run, the source of its records and the output of its answers.
 
 ghost use Rattle.std.specs.Prelude.{ℕ, List};
 ghost use Rattle.csv.specs.Records.{fields_of};
@@ -9,13 +9,13 @@ use crate::output::write_all;
 use csv::{ByteRecord, ErrorKind, Reader};
 use std::io::{Read, Write};
 
-/// Where the records of a run come from, and beside it the output to which their answers are written. Of what happens
-/// at the two, and in which order, a caller can say only what these calls do.
+/// The source of the records of a run, with the output of their answers. What happens at the two ends, and in which order,
+/// is known to a caller only from the contracts of these calls.
 pub trait Session<W> {
-    /// The event leads from the earlier value of both ends to the later one.
+    /// The relation of an event with the values of both ends before and after it.
     ghost happens: { Self × W → Event → Self × W → Type 0 };
 
-    /// Takes the next record, which is then in `fields`. False where there is none.
+    /// Takes the next record, which is then in `fields`. Returns false if there is none.
     fn take(&mut self, output: &mut W, fields: &mut ByteRecord) -> Result<bool, RunFault>
         ensures { TakesNext happens (self.old, output.old) (self.new, output.new) result (fields_of fields.new) };
 

@@ -19,15 +19,15 @@ use std::fmt::Display;
 use std::io;
 use std::io::{Read, Write};
 
-/// The status of a program whose words are wrong.
+/// The exit status for invalid arguments.
 pub const WRONG_WORDS: u8 = 2;
 
-/// The status of one whose command file can't be opened.
+/// The exit status if the command file can't be opened.
 const NO_FILE: u8 = 3;
 
-/// Reads the words, opens the command file if they name one, carries out its commands and then those of the input, and
-/// gives the program's status. Replies, and the help that was asked for, go to `output`; what went wrong goes to
-/// `errors`.
+/// Reads the arguments, opens the command file if they name one, carries out its commands and then those of the input, and
+/// returns the exit status. Replies, and help if it was asked for, are written to `output`; messages about faults are written
+/// to `errors`.
 pub fn program<
     S: AsStr,
     F: Read + Drop,
@@ -66,7 +66,7 @@ pub fn program<
     }
 }
 
-/// The command file, opened. None where no name is given.
+/// Opens the command file. None if there is no name.
 fn open_file<F: Drop, O: FnOnce(&str) -> io::Result<F>>(
     opener: O,
     name: Option<&str>,
@@ -83,7 +83,7 @@ fn open_file<F: Drop, O: FnOnce(&str) -> io::Result<F>>(
     }
 }
 
-/// Writes why the program can't go on, and gives its status.
+/// Writes why the program can't continue, and returns its exit status.
 pub fn tell_fault<E: Write>(fault: RunFault, errors: &mut E) -> u8
     ensures { result ≡ runs.exit_code (Err fault) }
 {
@@ -91,7 +91,7 @@ pub fn tell_fault<E: Write>(fault: RunFault, errors: &mut E) -> u8
     exit_code(&Err(fault))
 }
 
-/// Writes a text to show, as it is: the help or the version.
+/// Writes a text as it is: help or the version.
 fn show<D: Display, W: Write>(alloc: Global, shown: &D, output: &mut W) -> Result<(), RunFault>
     ensures { Shows (D.output shown.now) (W.contents output.old) (W.contents output.new) result }
 {
@@ -99,8 +99,8 @@ fn show<D: Display, W: Write>(alloc: Global, shown: &D, output: &mut W) -> Resul
     write_all(output, text.as_bytes())
 }
 
-/// Writes why the arguments gave no options, and gives the status: help and the version are no mistake. Status 4 comes
-/// only where `clap` had no memory, or there was none for the text.
+/// Writes why the arguments gave no options, and returns the exit status: help and the version are no fault. The status is 4
+/// only if an allocation failed, in `clap` or for the text.
 fn explain<W: Write, E: Write>(
     alloc: Global,
     fault: &OptionsFault,

@@ -1,4 +1,4 @@
--- What is the same on two maps that agree round a node.
+-- What is the same on two maps that agree around a node.
 use Rattle.std.proofs.Common.{inl, inr, ◌≡◌, ℕ, ◌+◌, Bool, true, cond, List, [], ◌∷◌, map, Option, Some, None, is_some}
 use Rattle.std.proofs.Common.{IsTrue, refl, sym, ap, ◌∙◌, ◌==◌, unwrap_or, ◌↔◌}
 use Rattle.std.proofs.lemmas.Bool.{eqb-true, ne_eqb, cases_eq}
@@ -60,9 +60,9 @@ same_dm_of M N (x ∷ xs) h =
 pub same_place : (M N : Map) (v : ℕ) → SameRound M N v → place_at M v ≡ place_at N v
 same_place M N v r = λ i. unwrap_or (r.place i) no_place
 
--- ---- passing
+-- ---- degree-two nodes
 
--- two options that have the same values at which f is v
+-- two options that have the same values for which f is v
 same_kept : (f : Line → ℕ) (v : ℕ) (o p : Option Line) →
     ((l : Line) → ((o ≡ Some l) × (f l ≡ v)) ↔ ((p ≡ Some l) × (f l ≡ v))) →
     keep_if (λ l. f l == v) o ≡ keep_if (λ l. f l == v) p

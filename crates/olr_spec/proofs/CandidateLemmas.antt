@@ -1,4 +1,4 @@
--- The own line of a location reference point is preferred to every other candidate.
+-- The path's own line at an LRP is preferred to every other candidate.
 use Rattle.std.proofs.Common.{inl, inr, ◌≡◌, ◌≢◌, ℕ, ◌+◌, ◌-◌, Bool, true, false, not, ◌||◌, List, [], ◌∷◌, map, ◌<◌}
 use Rattle.std.proofs.Common.{◌≤◌, ◌↔◌, IsTrue, IsFalse, refl, sym, ap, ◌∙◌, subst, arith, nat_lt, ◌==◌}
 use Rattle.std.proofs.lemmas.Bool.{cases_Bool, cases_eq, cases_lt, both_ways, and_parts, and_from, or_cases, eqb-true}
@@ -14,7 +14,7 @@ use Rattle.olr_spec.proofs.ListLemmas.{has_cases}
 use Rattle.olr_spec.proofs.MapLemmas.{has-lines_where, passes_at}
 use Rattle.olr_spec.proofs.AgreeLemmas.{known_record}
 
--- ---- what all candidates pass
+-- ---- a test that all candidates pass
 
 listed : (M : Map) (y : ℕ) → IsTrue (has_line M y) → has (lines_where M (λ _. true)) y ≡ true
 listed M y h =
@@ -34,9 +34,9 @@ pub passes : (M : Map) (f : ℕ × Leg → Bool) → IsTrue (list_all f (candida
     f (y, leg M y) ≡ true
 passes M f a y h = pass_each M f (lines_where M (λ _. true)) a y (listed M y h)
 
--- ---- the own line
+-- ---- the path's own line
 
--- line x is what the point t describes, the nearest candidate, and without a twin
+-- line x is the line that the LRP t describes, the nearest candidate, and without a twin
 pub record Own (R : Receiver) (M : Map) (t : Lrp) (x : ℕ) : Type 0 where
   pub known : IsTrue (has_line M x)
   pub frc : t.frc ≡ (line_at M x).frc
@@ -139,7 +139,7 @@ module _ (R : Receiver) (M : Map) (t : Lrp) (x : ℕ) (o : Own R M t x) where
   irreflexive : (a : Rating) → IsFalse (R.prefers a a)
   irreflexive a = elim (cases_Bool (R.prefers a a)) [ inl p ↦ R.strict a a p | inr p ↦ p ]
 
-  -- so a receiver takes it, and no other
+  -- so a receiver chooses it, and no other
   pub takes_own : (y : ℕ) → Takes R M t y ↔ (y ≡ x)
   takes_own y = (
     (λ k. elim (cases_eq y x) [
@@ -156,7 +156,7 @@ module _ (R : Receiver) (M : Map) (t : Lrp) (x : ℕ) (o : Own R M t x) where
     })),
   )
 
--- ---- there are receivers
+-- ---- receivers exist
 
 abbrev apart : ℕ → ℕ → ℕ
 apart a b = a - b + (b - a)
@@ -176,7 +176,7 @@ smaller a b w (inr (inr (inr h))) = let p = w.far in let q = w.frc in let r = w.
 one_way : (m n : ℕ) → nat_lt m n ≡ true → nat_lt n m ≡ false
 one_way m n h = le-ltb n m (let lt = ltb-true m n h in omega arith)
 
--- by the sum of the measure and the differences
+-- it prefers the smaller sum of the measure and the differences
 pub some_receiver : (far : Measure) → (R : Receiver) × (R.far ≡ far)
 some_receiver far = (
   record {

@@ -1,4 +1,4 @@
--- What edits change, one after another.
+-- What one edit changes, and what consecutive edits change.
 use Rattle.std.proofs.Common.{inl, inr, ◌≡◌, ◌≢◌, ℕ, Bool, false, true, ◌||◌, List, [], ◌∷◌, ◌++◌, min, ◌≤◌, Ok, Option}
 use Rattle.std.proofs.Common.{is_some, Contains, IsTrue, refl, sym, ap, ◌∙◌, subst, arith, ◌==◌, unwrap_or}
 use Rattle.std.proofs.lemmas.Bool.{cases_eq, both_ways, or_parts, ne_eqb}
@@ -15,7 +15,7 @@ use Rattle.olr_spec.proofs.ListLemmas.{Contains-here}
 
 -- ---- one edit
 
--- maps whose lines differ at y alone, which is told
+-- maps that differ only in line y, which C lists
 tells_one : (C : List ChangedLine) (M N : Map) (y : ℕ) → ((x : ℕ) → x ≢ y → SameLine M N x)
     → (IsTrue (has_line M y) → IsChangedLine C M y) → Tells C M N
 tells_one C M N y same told x h =
@@ -24,12 +24,12 @@ tells_one C M N y same told x h =
       | inr ne ↦ inl (same x ne)
     ]
 
--- the only one of the changed lines
+-- line y as the only changed line
 told_alone : (M : Map) (y : ℕ) (c : ChangedLine) → c.from ≡ start M y → c.to ≡ end M y → c.len ≤ dm M y
     → IsChangedLine (c ∷ []) M y
 told_alone M y c a b h = record { change = c; listed = Contains-here c []; from = a; to = b; len = h }
 
--- line y as it is set
+-- line y with the record that is set
 set_told : (M : Map) (y : ℕ) (l : Line) (c : ChangedLine) → c.from ≡ l.from → c.to ≡ l.to → c.len ≤ l.len
     → let N = record M { lines = insert M.lines y l } in Tells (c ∷ []) N M
 set_told M y l c a b h =
@@ -96,7 +96,7 @@ edit_differs M N e p =
         let apart : x ≢ y = λ is. both_ways (has (touched_lines e) x) off (ap (has (touched_lines e)) is ∙ on) in
         ap (λ (b : Bool). b || false) (ne_eqb x y apart)
 
--- ---- and none
+-- ---- no difference
 
 pub none_differs : (M : Map) → Difference [] [] [] M M
 none_differs M = record {
@@ -111,7 +111,7 @@ none_differs M = record {
   here = λ x h. inl refl;
 }
 
--- ---- one after another
+-- ---- consecutive changes
 
 pub more_told : (C D : List ChangedLine) (M : Map) (x : ℕ) → ((c : ChangedLine) → Contains C c → Contains D c)
     → IsChangedLine C M x → IsChangedLine D M x
@@ -133,7 +133,7 @@ told_back C L M x is t =
       len = subst (λ (d : ℕ). t.change.len ≤ d) (sym (same_dm L M x is)) t.len;
     }
 
--- E has the changed lines of both
+-- E has the changed lines of C and D
 tells_on : (C D E : List ChangedLine) (L M N : Map) → ((c : ChangedLine) → Contains C c → Contains E c)
     → ((c : ChangedLine) → Contains D c → Contains E c) → Tells C L M → Tells D M N → Tells E L N
 tells_on C D E L M N left right p q x h =

@@ -1,4 +1,4 @@
--- Each definition can be decided, so that each path has an answer.
+-- Each definition is decidable, so each path has an answer.
 use Rattle.std.proofs.Common.{◌⊎◌, inl, inr, ◌≡◌, ℕ, zero, suc, ◌+◌, ◌-◌, min, Bool, true, List, [], ◌∷◌, ◌++◌, length}
 use Rattle.std.proofs.Common.{◌<◌, ◌≤◌, Option, Some, None, is_some, IsTrue, IsFalse, refl, sym, ap, ◌∙◌, subst, arith}
 use Rattle.std.proofs.Common.{MatchOption, length-append, append_assoc, append-nil}
@@ -21,7 +21,7 @@ use Rattle.olr_spec.proofs.ChainLemmas.{StartChain-back, start_suffix, end_prefi
 use Rattle.olr_spec.proofs.AnswerLemmas.{sound_lines, all_first, all_last, path_nonempty}
 use Rattle.olr_spec.proofs.ChainMoves.{EndChain-push}
 
--- ---- facts that can be decided
+-- ---- decidable propositions
 
 pub dec_and : {A B : Type 0} → Dec A → Dec B → Dec (A × B)
 dec_and (yes a) (yes b) = yes (a, b)
@@ -47,7 +47,7 @@ dec_lt m n = elim (cases_lt m n) [ inl h ↦ yes h | inr h ↦ no (λ lt. absurd
 pub dec_le : (m n : ℕ) → Dec (m ≤ n)
 dec_le m n = elim (cases_lt n m) [ inl h ↦ no (λ le. absurd (omega arith)) | inr h ↦ yes h ]
 
--- of each number of a list
+-- for each number of a list
 dec_each : (Q : ℕ → Type 0) → ((x : ℕ) → Dec (Q x)) → (xs : List ℕ) → Dec (Each Q xs)
 dec_each Q d [] = yes (Each-nil Q)
 dec_each Q d (x ∷ xs) =
@@ -56,7 +56,7 @@ dec_each Q d (x ∷ xs) =
       | no f ↦ no (λ h. f (Each-head Q x xs h, Each-tail Q x xs h))
     ]
 
--- of each list of at most n of these numbers
+-- for each list of at most n of these numbers
 dec_lists : (ks : List ℕ) (n : ℕ) (Q : List ℕ → Type 0) → ((w : List ℕ) → Dec (Q w)) →
     Dec ((w : List ℕ) → Each (λ x. has ks x ≡ true) w → length w ≤ n → Q w)
 dec_lists ks zero Q d =
@@ -161,7 +161,7 @@ dec_Sole M m s t xs =
 pub dec_Route : (M : Map) → IsMap M → (s t : ℕ) (xs : List ℕ) → Dec (Route M s t xs)
 dec_Route M m s t xs = dec_Sole M m s t xs
 
--- ---- points
+-- ---- LRPs
 
 pub dec_Covered : (M : Map) → IsMap M → (ls : List ℕ) (i j : ℕ) → Dec (Covered M ls i j)
 dec_Covered M m ls i j =
@@ -229,7 +229,7 @@ some_follow M m ls (suc fuel) i h =
       | inr none ↦ ([], none)
     ]
 
--- ---- chains
+-- ---- runs of degree-two nodes
 
 dec_MayPrecede : (M : Map) (x : ℕ) (ls : List ℕ) → Dec (MayPrecede M x ls)
 dec_MayPrecede M x ls =
@@ -249,12 +249,12 @@ dec_MayFollow M ls x =
       | no f ↦ no (λ p. f ((p.known, p.joins), (p.through, (p.onward, p.fresh))))
     ]
 
--- the last element of a list with one
+-- the last element of a list that isn't empty
 pub last_of_list : (x : ℕ) (xs : List ℕ) → (front : List ℕ) × (y : ℕ) × (x ∷ xs ≡ front ++ y ∷ [])
 last_of_list x [] = ([], x, refl)
 last_of_list x (y ∷ xs) = let r = last_of_list y xs in (x ∷ r.0, r.1, ap (λ (zs : List ℕ). x ∷ zs) r.2)
 
--- where no line may precede c within the limit, no chain is longer
+-- if no line may precede c within the limit, no run is longer
 no_longer_start : (M : Map) (ls c d : List ℕ) → IsTrue (has_line M (first ls)) → StartChain M c ls →
     Each (λ x. ¬ (MayPrecede M x (c ++ ls) × (dm M x + dm_of M c ≤ limit))) (numbers M) → StartChain M d ls →
     dm_of M d ≤ limit → dm_of M d ≤ dm_of M c
@@ -304,7 +304,7 @@ no_longer_end M ls c d k p none q w =
         EndChain-at M ls c x back (subst (λ (zs : List ℕ). EndChain M ls zs) e q) in
         none x (has_number M x next.known) (next, omega (arith, ap (dm_of M) e, dm_of-append M c (x ∷ back)))
 
--- from a chain on, with room for fuel decimetres
+-- a longest run, from the run c on, if fewer than fuel decimetres are left
 some_start : (M : Map) → IsMap M → (ls : List ℕ) → IsTrue (has_line M (first ls)) → (fuel : ℕ) (c : List ℕ) →
     limit < dm_of M c + fuel → StartChain M c ls → dm_of M c ≤ limit → (d : List ℕ) × LongestStart M d ls
 some_start M m ls k zero c f p w = absurd (omega arith)

@@ -1,4 +1,4 @@
--- Where the points of an answer are decoded.
+-- The coordinates that the LRPs of an answer are decoded as.
 use Rattle.std.proofs.Common.{inl, inr, ◌≡◌, ℕ, zero, suc, ◌+◌, ◌*◌, ◌/◌, ℤ, pos, negsuc, neg_ℤ, ◌<ℤ◌, ◌*ℤ◌, ◌+ℤ◌, ◌-ℤ◌}
 use Rattle.std.proofs.Common.{true, false, List, [], ◌∷◌, ◌++◌, length, take, map, ◌<◌, ◌≤◌, Option, Some, None}
 use Rattle.std.proofs.Common.{is_some, IsTrue, cond, Bool, refl, sym, ap, ◌∙◌, subst, arith, nat_le, MatchOption}
@@ -52,7 +52,7 @@ plus_one n = omega (arith, ints)
 minus_one : (n : ℕ) → negsuc 0 *ℤ pos n ≡ neg_ℤ (pos n)
 minus_one n = omega (arith, ints)
 
--- a place and the 24-bit step that it is put into
+-- a coordinate and the 24-bit step that it is rounded to
 close24 : (z : ℤ) → Close 7031250 (from_abs24 (abs24 z)) z
 close24 (pos zero) = record { below = omega (arith, ints); above = omega (arith, ints) }
 close24 (pos (suc n)) =
@@ -62,20 +62,20 @@ close24 (negsuc n) =
     subst (λ (k : ℤ). Close 7031250 (from_abs24 k) (negsuc n)) (sym (minus_one ((suc n + 3515625) / 7031250)))
     (below24 n ((suc n + 3515625) / 7031250) refl)
 
--- a difference and its relative value: at most half a relative step
+-- a difference and its relative value are at most half a relative step apart
 close16 : (z : ℤ) → Close 1638401 (from_rel16 (nearest 1638400 3276800 z)) z
 close16 (pos zero) = record { below = omega (arith, ints); above = omega (arith, ints) }
 close16 (pos (suc n)) = record { below = omega (arith, ints); above = omega (arith, ints) }
 close16 (negsuc n) = record { below = omega (arith, ints); above = omega (arith, ints) }
 
--- ---- one after another
+-- ---- sums of relative values
 
 -- the relative values from h to the first of ks, from there to the second, and so on; f is a coordinate of each
 abbrev relatives : (ℕ → ℤ) → ℕ → List ℕ → List ℤ
 relatives f h [] = []
 relatives f h (i ∷ ks) = relative (f h) (f i) ∷ relatives f i ks
 
--- one relative value more
+-- one more relative value
 close_step : (n : ℕ) (a r x y : ℤ) → Close n a x → Close 1638401 r (y -ℤ x) → Close (n + 1638400) (a +ℤ r) y
 close_step n a r x y c d = let p = c.below in let q = c.above in let s = d.below in let t =
     d.above in record { below = omega (arith, ints); above = omega (arith, ints) }
@@ -151,7 +151,7 @@ near_of gs p q h i js k le =
       },
     )
 
--- ---- the points of an answer
+-- ---- the LRPs of an answer
 
 -- a list with two different numbers has two elements
 pub two_of : (ks : List ℕ) (a b : ℕ) → has ks a ≡ true → has ks b ≡ true → a < b → (h i : ℕ) × (js : List ℕ)
@@ -164,7 +164,7 @@ two_of (h ∷ []) a b p q lt =
     ]
 two_of (h ∷ i ∷ js) a b p q lt = (h, i, js, refl)
 
--- what is decoded of the points ks: one place for each, near its own
+-- what is decoded for the LRPs ks: one coordinate for each, near its own
 pub record Decodes (gs : List Leg) (ks : List ℕ) (r : Reference) : Type 0 where
   pub count : length r.middle + 2 ≡ length ks
   pub near : (k : ℕ) → k < length ks → (d : ℤ × ℤ) × (decoded r k ≡ Some d) × IsNear k d (position gs (slice_index ks k))
@@ -249,7 +249,7 @@ module _ (M : Map) (m : IsMap M) (P : Path) (is : IsTrue (is_path P.lines)) (non
       taken true d h = refl
       taken false d h = absurd cc
 
--- the same of an answer
+-- a path whose answer is a reference has no fault, and the reference is its encoding
 pub by_fault : (M : Map) (P : Path) (r : Reference) (o : Option Refusal) → path_fault M P ≡ o →
     MatchOption o (Encoding M P (Points r)) (λ f. Points r ≡ Refused f) → (path_fault M P ≡ None)
     × Encoding M P (Points r)

@@ -1,4 +1,4 @@
--- Walks are the same on two maps unless a changed line offers a detour.
+-- Routes are the same on two maps unless a changed line offers a detour.
 use Rattle.std.proofs.Common.{inl, inr, ◌⊎◌, ◌≡◌, ℕ, List, [], ◌∷◌, ◌≤◌, Contains, true, false, refl, sym, ◌∙◌, subst}
 use Rattle.std.proofs.Common.{arith}
 use Rattle.std.proofs.lemmas.Bool.{cases_lt}
@@ -9,7 +9,7 @@ use Rattle.olr_spec.proofs.ListLemmas.{Each, Each-nil, Each-cons}
 use Rattle.olr_spec.proofs.AgreeLemmas.{by_leaving, same_known, same_start, same_end, same_dm, same_dm_of}
 use Rattle.olr_spec.proofs.RouteMoves.{Walk-moves}
 
--- behind its last changed line a walk is one of both maps
+-- after its last changed line a route is one of both maps
 pub record Rest (M N : Map) (C : List ChangedLine) (t d : ℕ) : Type 0 where
   pub last : ChangedLine
   pub listed : Contains C last
@@ -44,13 +44,13 @@ rest_of M N C tells s t (x ∷ xs) w =
       ]
     ]
 
--- a detour of both maps, as long as the walk at most
+-- a detour of both maps, at most as long as the route
 pub record Parts (M N : Map) (C : List ChangedLine) (s t d : ℕ) : Type 0 where
   pub detour : Detour M C s t d
   pub before_same : Each (SameLine M N) detour.before
   pub after_same : Each (SameLine M N) detour.after
 
--- before its first changed line and behind its last one
+-- the parts before its first changed line and after its last one
 pub parts_of : (M N : Map) (C : List ChangedLine) → Tells C M N → (s t : ℕ) (xs : List ℕ) → Walk M s t xs
     → Each (SameLine M N) xs ⊎ Parts M N C s t (dm_of M xs)
 parts_of M N C tells s t [] w = inl (Each-nil (SameLine M N))
@@ -136,7 +136,7 @@ detour_there M N C s t d p =
       within = omega arith;
     }
 
--- a walk of M within d, where N has no detour
+-- a route of M within d, if N has no detour
 pub same_there : (M N : Map) (C : List ChangedLine) (s t d : ℕ) → Tells C M N → ¬ Detour N C s t d → (xs : List ℕ)
     → Walk M s t xs → dm_of M xs ≤ d → Each (SameLine M N) xs
 same_there M N C s t d tells clear xs w h =
@@ -145,7 +145,7 @@ same_there M N C s t d tells clear xs w h =
       | inr p ↦ absurd (clear (wider N C s t (dm_of M xs) d h (detour_there M N C s t (dm_of M xs) p)))
     ]
 
--- and one of N
+-- a route of N within d, if N has no detour
 pub same_here : (M N : Map) (C : List ChangedLine) (s t d : ℕ) → Tells C N M → ¬ Detour N C s t d → (xs : List ℕ)
     → Walk N s t xs → dm_of N xs ≤ d → Each (SameLine N M) xs
 same_here M N C s t d tells clear xs w h =
@@ -169,9 +169,9 @@ pub walks_here : (M N : Map) (C : List ChangedLine) (s t d : ℕ) → Tells C N 
     → Walk N s t xs × (dm_of N xs ≤ d) → Walk M s t xs × (dm_of M xs ≤ d)
 walks_here M N C s t d tells clear xs w = walk_by N M s t d xs (same_here M N C s t d tells clear xs w.0 w.1) w
 
--- ---- sole walks
+-- ---- unique shortest paths
 
--- where each walk of N that is as short is one of M too
+-- if each route of N that is as short is one of M too
 sole_by : (M N : Map) (s t : ℕ) (xs : List ℕ) → Walk N s t xs
     → ((ys : List ℕ) → Walk N s t ys → dm_of N ys ≤ dm_of N xs → Each (SameLine N M) ys) → dm_of M xs ≡ dm_of N xs
     → Sole M s t xs → Sole N s t xs

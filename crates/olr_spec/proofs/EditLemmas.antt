@@ -1,4 +1,4 @@
--- What an edit changes, and what it leaves.
+-- What an edit changes, and what it leaves unchanged.
 use Rattle.std.proofs.Common.{inl, inr, ◌≡◌, ◌≢◌, ℕ, Bool, true, false, cond, not, ◌&&◌, ◌||◌, List, [], ◌∷◌, Option}
 use Rattle.std.proofs.Common.{Some, None, is_some, Result, Ok, IsTrue, refl, sym, ap, ◌∙◌, subst, nat_cmp, ◌==◌}
 use Rattle.std.proofs.Common.{unwrap_or}
@@ -21,7 +21,7 @@ pub passed_test : {A F : Type 0} (b : Bool) (f : F) (r : Result A F) (x : A) →
 passed_test true f r x e = absurd cc
 passed_test false f r x e = (refl, e)
 
--- what an accepted edit found, and the map that it made
+-- the conditions of an accepted edit, and the map that it makes
 abbrev pub Made : Map → Edit → Map → Type 0
 Made M (Add_node v c) N = (has_node M v ≡ false) × (record M { nodes = insert M.nodes v c } ≡ N)
 Made M (Move_node v c) N = (has_node M v ≡ true) × (record M { nodes = insert M.nodes v c } ≡ N)
@@ -86,7 +86,7 @@ module _ {X : Type 0} where
 
 -- ---- locality
 
--- maps with the same lines, whose nodes differ at u alone
+-- maps with the same lines, whose nodes differ only at u
 nodes_agree : (M N : Map) (u : ℕ) (P : List ℕ) (F : ℕ → Type 0) → ((x : ℕ) → get M.lines x ≡ get N.lines x) →
     ((v : ℕ) → v ≢ u → get M.nodes v ≡ get N.nodes v) → ¬ F u → Agree M N P F
 nodes_agree M N u P F lines nodes far =
@@ -103,7 +103,7 @@ nodes_agree M N u P F lines nodes far =
     all [] = tt
     all (x ∷ xs) = (lines x, all xs)
 
--- maps with the same nodes, whose lines differ at y alone, with ends out of F
+-- maps with the same nodes, whose lines differ only at y, which has its ends outside of F
 lines_agree : (M N : Map) (y : ℕ) (P : List ℕ) (F : ℕ → Type 0) → ((v : ℕ) → get M.nodes v ≡ get N.nodes v) →
     ((x : ℕ) → x ≢ y → get M.lines x ≡ get N.lines x)
     → ((l : Line) → get M.lines y ≡ Some l → (¬ F l.from) × (¬ F l.to)) →
@@ -136,7 +136,7 @@ lines_agree M N y P F nodes lines here there out =
         let p = or_parts (x == y) (has xs y) h in
         (lines x (λ e. both_ways (x == y) p.0 (eq-eqb x y e)), all xs p.1)
 
--- a line with these ends, both out of F
+-- a line with these ends, both outside of F
 ends_out : (F : ℕ → Type 0) (s t : ℕ) (l : Line) → ¬ F s → ¬ F t → l.from ≡ s → l.to ≡ t → (¬ F l.from) × (¬ F l.to)
 ends_out F s t l a b e f = ((λ h. a (subst F e h)), (λ h. b (subst F f h)))
 
@@ -148,7 +148,7 @@ ends_of M x l e = let r =
 same_line : (o : Option Line) (k l : Line) → o ≡ Some k → o ≡ Some l → l ≡ k
 same_line o k l e f = cc
 
--- of the line that is set
+-- the line that is set
 set_out : (M : Map) (x : ℕ) (l : Line) (F : ℕ → Type 0) → ¬ F l.from → ¬ F l.to
     → (k : Line) → get (insert M.lines x l) x ≡ Some k → (¬ F k.from) × (¬ F k.to)
 set_out M x l F a b k h =
@@ -242,7 +242,7 @@ with_node M v c m h =
       shapes = m.shapes;
     }
 
--- no line of the list goes to v or from v
+-- no line of the list enters or leaves v
 unused : (v : ℕ) (es : List (ℕ × Line)) → list_any (λ e. e.1.to == v || e.1.from == v) es ≡ false → (x : ℕ) (l : Line) →
     find nat_cmp x es ≡ Some l → (l.to ≢ v) × (l.from ≢ v)
 unused v [] h x l e = absurd cc

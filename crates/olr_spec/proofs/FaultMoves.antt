@@ -1,4 +1,4 @@
--- A path has the same fault of its own on maps with the same lines of the path.
+-- On maps with the same lines of a path, the path has the same fault of its own.
 use Rattle.std.proofs.Common.{◌≡◌, ℕ, suc, ◌+◌, cond, not, List, [], ◌∷◌, Some, None, refl, ◌==◌, nat_le}
 use Rattle.std.specs.Option.{option_or, option_map}
 use Rattle.olr_spec.specs.Map.{Map, SameLine}

@@ -28,7 +28,7 @@ use Rattle.olr_spec.proofs.JoinLemmas.{Linked}
 use Rattle.olr_spec.proofs.KeptLemmas.{dm_along-legs, dm_along-append}
 use Rattle.olr_spec.proofs.SectorLemmas.{up_to_below, le_yes, le_test}
 
--- ---- which points are kept
+-- ---- which LRPs remain
 
 pub has_filter : (p : ℕ → Bool) (xs : List ℕ) (k : ℕ) → has (filter p xs) k ≡ true → (has xs k ≡ true) × (p k ≡ true)
 has_filter p [] k h = absurd cc
@@ -58,7 +58,7 @@ filter_has p (x ∷ xs) k h e =
       ]
     ] refl
 
--- each point lies at the first of them or beyond
+-- each LRP is the first of them or after it
 pub linked_above : (M : Map) (ls : List ℕ) (p : ℕ) (ks : List ℕ) → Linked M ls (p ∷ ks) → Each (λ k. p ≤ k) (p ∷ ks)
 linked_above M ls p [] l = Each-cons (λ k. p ≤ k) p [] (omega arith) (Each-nil (λ k. p ≤ k))
 linked_above M ls p (q ∷ ks) l =
@@ -121,7 +121,7 @@ at_least M ls test d q ks l h =
       | inr j ↦ let r = linked_above M ls q ks l (last_where test d (q ∷ ks)) j in omega arith
     ]
 
--- beyond the last that passes, none passes
+-- after the last that passes, none passes
 pub none_after : (M : Map) (ls : List ℕ) (test : ℕ → Bool) (d p : ℕ) (ks : List ℕ) → Linked M ls (p ∷ ks) → d ≤ p →
     (k : ℕ) → has (p ∷ ks) k ≡ true → last_where test d (p ∷ ks) < k → test k ≡ false
 none_after M ls test d p [] l h k i lt =
@@ -188,7 +188,7 @@ bearing_below o s =
     sector_below (pos 4 *ℤ (pos 8100000000 -ℤ m *ℤ m) *ℤ (s.lon -ℤ pos s.width *ℤ o.lon))
     ((pos 32400000000 +ℤ m *ℤ m) *ℤ (s.lat -ℤ pos s.width *ℤ o.lat))
 
--- a place in range, in 24-bit steps
+-- a coordinate in range, in 24-bit steps
 round_below : (n : ℕ) → n ≤ 58982400000000 → (n + 3515625) / 7031250 ≤ 8388608
 round_below n h = omega arith
 
@@ -219,7 +219,7 @@ latitude_fits z h =
     and_from (int_le (negsuc 8388607) (abs24 z)) (int_le (abs24 z) (pos 8388607))
     (le_test (negsuc 8388607) (abs24 z) q.0) (le_test (abs24 z) (pos 8388607) q.1)
 
--- ---- legs
+-- ---- lines with the coordinates of their ends
 
 record IsLeg (g : Leg) : Type 0 where
   frc : g.line.frc < 8
@@ -270,7 +270,7 @@ module _ (M : Map) (m : IsMap M) (ls : List ℕ) (known : Each (λ x. IsTrue (ha
       (position_good i) in
       (longitude_fits (position (legs M ls) i).lon p.0, latitude_fits (position (legs M ls) i).lat p.1)
 
-  -- ---- stretches of legs
+  -- ---- parts of the list of lines
 
   pub range_legs : (i j : ℕ) → slice_range (legs M ls) i j ≡ legs M (stretch ls i j)
   range_legs i j = ap (take (j - i)) (drop-map (leg M) i ls) ∙ take-map (leg M) (j - i) (drop i ls)
@@ -347,7 +347,7 @@ module _ (M : Map) (m : IsMap M) (ls : List ℕ) (known : Each (λ x. IsTrue (ha
       and_parts (fits16 (relative (position (legs M ls) i).lon (position (legs M ls) j).lon))
       (fits16 (relative (position (legs M ls) i).lat (position (legs M ls) j).lat)) here
 
-  -- ---- the points
+  -- ---- the LRPs
 
   pub middles_fit : (h i : ℕ) (js : List ℕ) → 0 < length ls → Linked M ls (h ∷ i ∷ js) →
       AllByRecursion IsMiddle (middle_points (legs M ls) h i js)
@@ -379,7 +379,7 @@ offset_fits left stretch h =
       | false ↦ (div-lt_iff_lt-mul (omega arith)).1 (omega arith)
     ]
 
--- from the start to j, by way of i
+-- the length from the start to j is that to i and that from i to j
 pub from_front-add : (gs : List Leg) (i j : ℕ) → i ≤ j → from_front gs j ≡ from_front gs i + dm_between gs i j
 from_front-add gs i j h =
     let on : j ≡ i + (j - i) = omega arith in

@@ -1,4 +1,4 @@
--- The reference of an answer has a spelling.
+-- The fields of an answer's reference fit, so it can be encoded as bytes.
 use Rattle.std.proofs.Common.{inl, inr, ◌≡◌, ℕ, ◌+◌, ◌-◌, Bool, true, false, cond, List, [], ◌∷◌, length, ◌<◌, ◌≤◌}
 use Rattle.std.proofs.Common.{Option, Some, None, IsTrue, refl, sym, ap, ◌∙◌, subst, arith, nat_le, ◌==◌, length-append}
 use Rattle.std.proofs.Common.{MatchOption}
@@ -75,7 +75,7 @@ module _ (M : Map) (m : IsMap M) (ls : List ℕ) (known : Each (λ x. IsTrue (ha
         neg = offset_fits (negative - to_back gs b) (dm_between gs two_last.0 two_last.1) (omega arith);
       }
 
--- the first and the last kept point are kept
+-- the first and the last LRP by the offsets are among those that remain
 pub kept_ends : (M : Map) (ls js : List ℕ) (positive negative : ℕ) → Follow M ls 0 js → last_position 0 js ≡ length ls →
     positive + negative < dm_of M ls
     → (has (kept_points (legs M ls) positive negative js) (first_kept (legs M ls) positive js) ≡ true)
@@ -129,7 +129,7 @@ reference_fits M m ls known n js positive negative f e less =
     (λ k h lt. let r = has_filter (between a b) (0 ∷ js) k h in
     leb-false (to_back gs k) negative (none_before M ls (λ i. nat_le (to_back gs i) negative) 0 0 js l k r.0 lt))
 
--- ---- of an answer
+-- ---- an answer
 
 pub long_enough : (M : Map) (P : Path) → path_fault M P ≡ None → P.pos + P.neg < dm_of M P.lines
 long_enough M P e =
@@ -142,7 +142,7 @@ long_enough M P e =
       | inr t ↦ t
     ])
 
--- the extended path of a path with an encoding: its lines are on the map, and the offsets leave some of it
+-- the extended path of a path with an encoding: its lines are on the map, and the offsets leave a part of it
 pub record Sound (M : Map) (E : Path) : Type 0 where
   pub known : Each (λ x. IsTrue (has_line M x)) E.lines
   pub size : 0 < length E.lines
@@ -167,7 +167,7 @@ extended_sound M P is none before after tried =
       long = omega (arith, dm_of-append M fs a, dm_of-append M b P.lines);
     }
 
--- an answer with a reference has points up to the end, and the reference is that of these points
+-- an answer with a reference has LRPs up to the end, and the reference is that of these LRPs
 pub answered : (M : Map) (E : Path) (js : List ℕ) (r : Reference) → Points r ≡ answer_by_points M E js →
     (last_position 0 js ≡ length E.lines) × (r ≡ reference (legs M E.lines) E.pos E.neg js)
 answered M E js r h =

@@ -1,4 +1,4 @@
--- The routes between the kept points join to the extended path.
+-- The routes between the remaining LRPs join to the extended path.
 use Rattle.std.proofs.Common.{◌⊎◌, inl, inr, ◌≡◌, ℕ, zero, suc, ◌+◌, ◌-◌, min, Bool, true, false, cond, ◌&&◌, List, []}
 use Rattle.std.proofs.Common.{◌∷◌, ◌++◌, length, take, drop, ◌<◌, ◌≤◌, refl, sym, ap, ◌∙◌, subst, arith, nat_le}
 use Rattle.std.proofs.Common.{length-drop}
@@ -22,7 +22,7 @@ prefix_of_route M s v t xs ys r w u = prefix_of_sole M s v t xs ys r w u
 pub route_walk : (M : Map) (s t : ℕ) (xs : List ℕ) → Route M s t xs → Walk M s t xs
 route_walk M s t xs r = r.walk
 
--- ---- stretches
+-- ---- parts of a list
 
 take_one : (n : ℕ) (x : ℕ) (xs : List ℕ) → 0 < n → take n (x ∷ xs) ≡ x ∷ take (n - 1) xs
 take_one zero x xs h = absurd (omega arith)
@@ -46,7 +46,7 @@ stretch_last ls p q h k =
 pub empty_stretch : (ls : List ℕ) (p q : ℕ) → q ≤ p → stretch ls p q ≡ []
 empty_stretch ls p q h = let e : q - p ≡ 0 = omega arith in ap (λ (n : ℕ). take n (drop p ls)) e
 
--- ---- one stretch
+-- ---- one leg
 
 pub joins_to : (M : Map) (ls : List ℕ) (p q : ℕ) → q < length ls → Candidate M ls p q → JoinsTo M ls p q
 joins_to M ls p q h c =
@@ -57,7 +57,7 @@ joins_to M ls p q h c =
     c.covered lt in
     (stretch ls (p + 1) q, stretch_first ls p q lt (omega arith), route)
 
--- up to the last line k of the stretch
+-- up to line k, the last of the leg
 joins_before : (M : Map) (ls : List ℕ) (p k : ℕ) → p < k → k < length ls →
     Route M (end M (slice_index ls p)) (start M (slice_index ls k)) (stretch ls (p + 1) k) → JoinsLast M ls p (k + 1)
 joins_before M ls p k h g r =
@@ -75,7 +75,7 @@ alone M ls p q e h =
     inl (stretch_first ls p q (omega arith) h
     ∙ ap (λ (zs : List ℕ). slice_index ls p ∷ zs) (empty_stretch ls (p + 1) q (omega arith)))
 
--- a route that ends with line k is the route to its start, and that line
+-- without its last line, a unique shortest path is the one to the start of this line
 without_last : (M : Map) (s t : ℕ) (xs : List ℕ) (x : ℕ) → Route M s t (xs ++ x ∷ []) → Route M s (start M x) xs
 without_last M s t xs x r =
     let parts = Walk-split M s t xs (x ∷ []) (route_walk M s t (xs ++ x ∷ []) r) in
@@ -112,9 +112,9 @@ joins_last M ls p q c =
           ]))
     ]
 
--- ---- all of them
+-- ---- all legs
 
--- each point is a candidate after the one before
+-- each LRP is a candidate after the one before
 abbrev pub Linked : Map → List ℕ → List ℕ → Type 0
 Linked M ls [] = ⊤
 Linked M ls (p ∷ []) = ⊤
@@ -136,7 +136,7 @@ linked_joins M ls (p ∷ q ∷ r ∷ ks) h =
 abbrev pub between : ℕ → ℕ → ℕ → Bool
 between a b i = nat_le a i && nat_le i b
 
--- nothing beyond b is kept
+-- no LRP after b remains
 none_beyond : (M : Map) (ls : List ℕ) (a b p : ℕ) (ks : List ℕ) → b < p → Linked M ls (p ∷ ks) →
     filter (between a b) (p ∷ ks) ≡ []
 none_beyond M ls a b p [] h l = let gone : between a b p ≡ false =

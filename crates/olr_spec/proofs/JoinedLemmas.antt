@@ -49,9 +49,9 @@ path_joined M P is e =
     joined_of M P.lines (path_nonempty P.lines is)
     (Each-from (λ x. IsTrue (has_line M x)) P.lines (sound_lines M P e)) break
 
--- ---- and its chains
+-- ---- its runs of degree-two nodes
 
--- joined lines, of which there is one
+-- joined lines, at least one
 record Course (M : Map) (ls : List ℕ) : Type 0 where
   some : 0 < length ls
   joined : AreJoined M ls
@@ -98,7 +98,7 @@ end_joined M ls (x ∷ c) s j =
     subst (Course M) (append_assoc ls (x ∷ []) c)
     (end_joined M (ls ++ x ∷ []) c s.1 (pushed M ls x s.0.known s.0.joins j))
 
--- what is taken of a chain
+-- the lines of a run that are added
 start_taken : (M : Map) (b : Bool) (c ls : List ℕ) → StartChain M c ls → Course M ls → Course M (cond b [] c ++ ls)
 start_taken M true c ls s j = j
 start_taken M false c ls s j = start_joined M c ls s j

@@ -1,4 +1,4 @@
--- Labels that no line improves are those of least walks.
+-- Labels that no line improves are those of shortest paths.
 use Rattle.std.proofs.Common.{◌⊎◌, inl, inr, ◌≡◌, ℕ, zero, suc, ◌+◌, List, [], ◌∷◌, ◌++◌, reverse, length, ◌<◌, ◌≤◌}
 use Rattle.std.proofs.Common.{Option, Some, IsTrue, sym, ap, ◌∙◌, subst, arith, length-append}
 use Rattle.std.proofs.lemmas.Bool.{cases_lt, cases_eq}
@@ -9,7 +9,7 @@ use Rattle.olr_spec.specs.Labels.{Settled}
 use Rattle.olr_spec.proofs.WalkLemmas.{dm_of-append, Walk-split, nothing_below_nil}
 use Rattle.olr_spec.proofs.DecideLemmas.{last_of_list}
 
--- the last lines decide first
+-- the last lines are compared first
 pub last_first : (xs ys : List ℕ) (x y : ℕ) → FirstSmaller (reverse (xs ++ x ∷ [])) (reverse (ys ++ y ∷ [])) → (x < y)
     ⊎ ((x ≡ y) × FirstSmaller (reverse xs) (reverse ys))
 last_first xs ys x y h =
@@ -18,7 +18,7 @@ last_first xs ys x y h =
 
 module _ (M : Map) (m : IsMap M) (s limit : ℕ) (dist : ℕ → Option ℕ) (trace : ℕ → List ℕ)
     (l : Settled M s limit dist trace) where
-  -- v has a label, and no walk before its own
+  -- v has a label, and the route ys doesn't precede that of the label
   abbrev Fine : ℕ → List ℕ → Type 0
   Fine v ys = (e : ℕ) × (dist v ≡ Some e) × (¬ Before M ys (trace v))
 
@@ -102,7 +102,7 @@ module _ (M : Map) (m : IsMap M) (s limit : ℕ) (dist : ℕ → Option ℕ) (tr
       plain : (a b : ℕ) → a + (b + 0) ≡ a + b
       plain a b = omega arith
 
-  -- a walk within the limit ends at a labelled node
+  -- a route within the limit ends at a labelled node
   pub labelled : (v : ℕ) (ys : List ℕ) → Walk M s v ys → dm_of M ys ≤ limit → (e : ℕ) × (dist v ≡ Some e)
   labelled v ys w h = let f = fine_by (length ys) v ys (omega arith) w h in (f.0, f.1)
 

@@ -1,5 +1,5 @@
--- Where the routes that a point's look tests are the same, as where it is clear of changes or two maps agree on what it
--- sees, the positions after the point are covered on both maps alike.
+-- If the routes that an LRP's coverage query tests are the same, since it is clear of changes or two maps agree on the
+-- nodes that it reaches, then the same positions after the LRP are covered on both maps.
 use Rattle.std.proofs.Common.{inl, inr, ◌≡◌, ℕ, ◌+◌, ◌-◌, min, List, ◌++◌, length, take, drop, ◌<◌, ◌≤◌, sym, ap, ◌∙◌}
 use Rattle.std.proofs.Common.{subst, arith, drop-drop, ◌↔◌}
 use Rattle.std.proofs.lemmas.Bool.{cases_lt}
@@ -27,7 +27,7 @@ stretch_parts ls p m k h g =
     ∙ ap (λ zs. take (m - p) (drop p ls) ++ take (k - m) zs) (drop-drop (m - p) p ls
     ∙ ap (λ (c : ℕ). drop c ls) at)
 
--- a detour to a node on the way goes on to the end of the way
+-- a detour to a node of a route leads on to the end of the route
 pub onward : (N : Map) (C : List ChangedLine) (s v t d : ℕ) (xs : List ℕ) → Detour N C s v d → Walk N v t xs
     → Detour N C s t (d + dm_of N xs)
 onward N C s v t d xs o w =
@@ -45,7 +45,7 @@ onward N C s v t d xs o w =
       within = omega arith;
     }
 
--- a position behind one that isn't covered isn't covered either
+-- a position after one that isn't covered isn't covered either
 pub covered_before : (M : Map) (ls : List ℕ) (s t : ℕ) → Walk M s t ls → (i k m : ℕ) → i < k → k ≤ m → m ≤ length ls
     → k < length ls → Covered M ls i m → Covered M ls i k
 covered_before M ls s t joined i k m a h g z c = λ inside.
@@ -65,7 +65,7 @@ covered_before M ls s t joined i k m a h g z c = λ inside.
     subst (λ (p : ℕ). Route M (end M (slice_index ls i)) (start M (slice_index ls p)) (stretch ls (i + 1) p))
     (sym is) front
 
--- what is covered near enough shows from the look
+-- a position that is near enough and after the last tested one isn't covered
 pub covered_known : (M : Map) (ls : List ℕ) (s t : ℕ) → Walk M s t ls → (i k : ℕ) → IsLastTested M ls i k → (j : ℕ)
     → i < j → j ≤ length ls → dm_of M (stretch ls i j) ≤ limit
     → k < min j (length ls - 1) → ¬ Covered M ls i j
@@ -78,7 +78,7 @@ covered_known M ls s t joined i k look j h g near beyond = λ c.
           absurd (omega arith)
     ]
 
--- the routes from line i as far as position k
+-- the routes from line i up to position k are the same
 abbrev pub RoutesStay : Map → Map → List ℕ → ℕ → ℕ → Type 0
 RoutesStay M N ls i k =
     (m : ℕ) → i < m → m ≤ k → Route M (end M (slice_index ls i)) (start M (slice_index ls m)) (stretch ls (i + 1) m)
@@ -107,13 +107,13 @@ module _ (M N : Map) (ls : List ℕ) (same : Each (SameLine M N) ls) (s t : ℕ)
   length_same : (p q : ℕ) → dm_of M (stretch ls p q) ≡ dm_of N (stretch ls p q)
   length_same p q = same_dm_of M N (stretch ls p q) (Each-range (SameLine M N) ls p q same)
 
-  -- so far it is to position k
+  -- the length to position m and on to position k
   parts_length : (m : ℕ) → i < m → m ≤ k → dm_of N (part m) + dm_of N (stretch ls m k) ≡ dm_of M (part k)
   parts_length m h g =
       sym (dm_of-append N (part m) (stretch ls m k)) ∙ ap (dm_of N) (sym (stretch_parts ls (i + 1) m k (omega arith) g))
       ∙ sym (length_same (i + 1) k)
 
-  -- with the ends as they are on the other map
+  -- with the ends that the lines have on the other map
   ends_there : (m : ℕ) → m ≤ k → Sole N from (at m) (part m)
       → Route N (end N (slice_index ls i)) (start N (slice_index ls m)) (part m)
   ends_there m g o =
@@ -134,7 +134,7 @@ module _ (M N : Map) (ls : List ℕ) (same : Each (SameLine M N) ls) (s t : ℕ)
       let d = length_same (i + 1) k in
       λ j. record { from = from_same j; to = e j; within = d j }
 
-  -- where no detour is as short, to a position before k neither
+  -- if no detour to position k is as short, none to a position before k is
   clear_at : (C : List ChangedLine) → IsClear N C (look_to M ls i k) → (m : ℕ) → i < m → m ≤ k
       → ¬ Detour N C from (at m) (dm_of N (part m))
   clear_at C clear m h g = λ o.
@@ -156,7 +156,7 @@ module _ (M N : Map) (ls : List ℕ) (same : Each (SameLine M N) ls) (s t : ℕ)
             (ends_here m g r)),
       )
 
-  -- where the maps agree on what the look sees
+  -- if the maps agree on the nodes that the coverage query reaches
   pub seen_routes : ((v : ℕ) → Reaches M from (dm_of M (part k)) v → SameRound M N v) → RoutesStay M N ls i k
   seen_routes round m h g =
       let e = length_same (i + 1) m in
@@ -179,7 +179,7 @@ module _ (M N : Map) (ls : List ℕ) (same : Each (SameLine M N) ls) (s t : ℕ)
   covered_here : (j : ℕ) → min j (length ls - 1) ≤ k → Covered N ls i j → Covered M ls i j
   covered_here j h c = λ inside. (routes (min j (length ls - 1)) inside h).1 (c inside)
 
-  -- and the look is one of the other map
+  -- the coverage query is one of the other map too
   pub look_stays : IsLastTested N ls i k
   look_stays =
       let a = look.after in
@@ -202,7 +202,7 @@ module _ (M N : Map) (ls : List ℕ) (same : Each (SameLine M N) ls) (s t : ℕ)
         ];
       }
 
-  -- a position that is near enough
+  -- positions that are near enough
   pub covered_stays : (j : ℕ) → i < j → j ≤ length ls → dm_of M (stretch ls i j) ≤ limit
       → Covered M ls i j ↔ Covered N ls i j
   covered_stays j h g near =

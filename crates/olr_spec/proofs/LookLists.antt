@@ -1,4 +1,4 @@
--- Lists of looks: each point that looks has its own.
+-- Lists of coverage queries: each LRP of the list has one.
 use Rattle.std.proofs.Common.{inl, inr, ◌≡◌, ℕ, ◌+◌, true, List, [], ◌∷◌, length, ◌<◌, Contains, sym, ap, ◌∙◌, subst}
 use Rattle.std.proofs.Common.{arith, nat_lt, ◌==◌, ◌&&◌, IsTrue}
 use Rattle.std.proofs.lemmas.Bool.{eqb-true, and_parts, and_from, lt-ltb, ltb-true}
@@ -41,7 +41,7 @@ module _ {X : Type 0} (R : ℕ → X → Type 0) where
         | inr on ↦ let r = zip_left is xs z.1 x on in (r.0, has_there j is r.0 r.1, r.2)
       ]
 
--- ---- the points that look
+-- ---- the LRPs with a coverage query
 
 has-looking : (ls is : List ℕ) (i : ℕ) → has (looking ls is) i ≡ (nat_lt (i + 2) (length ls) && has is i)
 has-looking ls is i = any-filter_same (λ y. y == i) (λ y. nat_lt (y + 2) (length ls)) (nat_lt (i + 2) (length ls))

@@ -1,4 +1,4 @@
--- Where other nodes are three times the bound of decoding away, the own node is the nearest.
+-- If other nodes are three times the bound of decoding away, the node of the LRP is the nearest.
 use Rattle.std.proofs.Common.{inl, inr, ◌≡◌, ℕ, ◌+◌, ◌*◌, ℤ, pos, negsuc, ◌-ℤ◌, ◌+ℤ◌, ◌<◌, ◌≤◌, true}
 use Rattle.std.proofs.Common.{sym, ◌∙◌, arith, nat_le}
 use Rattle.std.specs.Prelude.{nat_abs}
@@ -13,7 +13,7 @@ use Rattle.olr_spec.specs.Recovery.{lon_apart, lat_apart, IsWeighted, is_spaced}
 
 -- ---- products
 
--- what a product is bounded by on one axis
+-- the bound of the measure for the node of the LRP, from both axes
 own_side : (u scale a b B f : ℕ) → 0 < scale → u ≤ scale → a < B → b < B → f ≤ u * a + scale * b →
     f < scale * B + scale * B
 own_side u scale a b B f unit most ha hb h =
@@ -28,7 +28,7 @@ by_latitude scale e B f h g =
     let two = mul-add scale B B in
     omega arith
 
--- e is what is left of the distance D, less than B of which is lost
+-- e is the distance D minus at most B
 by_longitude : (n d scale u e D B f : ℕ) → 0 < d → 0 < scale → n * scale ≤ d * u → u ≤ scale → D ≤ e + B →
     3 * (d * B) ≤ n * D → u * e ≤ f → scale * B + scale * B ≤ f
 by_longitude n d scale u e D B f some unit least most h far g =
@@ -69,7 +69,7 @@ triangle p a b = by (p -ℤ b) (p -ℤ a) (a -ℤ b) (omega (arith, ints))
     by (negsuc x) (negsuc y) (pos z) e = omega (arith, ints)
     by (negsuc x) (negsuc y) (negsuc z) e = omega (arith, ints)
 
--- ---- the nearest
+-- ---- the nearest node
 
 pub nearer : (n d scale : ℕ) (far : Measure) → IsWeighted n d scale far → (k : ℕ) (p : ℤ × ℤ) (a b : Coord) →
     IsNear k p a → is_spaced n d k a b ≡ true → far p a < far p b
@@ -95,7 +95,7 @@ nearer n d scale far w k p a b near spaced =
     ] in
     omega arith
 
--- ---- there are such measures
+-- ---- such measures exist
 
 pub some_weighted : (n d : ℕ) → n ≤ d → 0 < d → IsWeighted n d d (λ p c. n * lon_apart p c + d * lat_apart p c)
 some_weighted n d h some =

@@ -1,4 +1,4 @@
--- What is cut off by an offset byte, and distances to the next point.
+-- The length that an offset byte cuts off, and distances to the next point.
 use Rattle.std.proofs.Common.{◌≡◌, ℕ, ◌+◌, ◌*◌, ◌/◌, true, false, cond}
 use Rattle.std.proofs.Common.{◌<◌, ◌≤◌, Some, None, refl, ap, ◌∙◌, arith, ◌==◌}
 use Rattle.std.proofs.Math.Nat.{mul-le-mul_left, mul-lt-mul_of_pos_left, mul_left_comm, mul-pos, mul-add}
@@ -7,7 +7,7 @@ use Rattle.std.proofs.lemmas.Bool.{eqb-true}
 use Rattle.olr_spec.specs.Reference.{offset}
 use Rattle.olr_spec.specs.Recovery.{IsCut, IsClose}
 
--- the byte of what is left of an offset
+-- the byte of what remains of an offset
 byte_close : (q s left c : ℕ) → 0 < q → 0 < s → IsCut q s (Some (256 * left / s)) c → IsClose q s left c
 byte_close q s left c hq hs k =
     let b = 256 * left / s in

@@ -1,4 +1,4 @@
--- What an option has or lacks, and that a result is one.
+-- Options with and without a value, and results that are Ok.
 use Rattle.std.proofs.Common.{◌≡◌, false, Option, Some, None, is_some, IsSome, Result, Ok, IsOk, refl, sym, ap, subst}
 
 pub some_of : {A : Type 0} (o : Option A) → IsSome o → (x : A) × (o ≡ Some x)
@@ -12,7 +12,7 @@ pub none_of : {A : Type 0} (o : Option A) → is_some o ≡ false → o ≡ None
 none_of None h = refl
 none_of (Some x) h = absurd cc
 
--- a value that is there is not missing
+-- an option with a value isn't None
 pub there_not : {A : Type 0} (o : Option A) → IsSome o → o ≡ None → ⊥
 there_not o h e = let f : is_some o ≡ false = ap (λ p. is_some p) e in cc
 

@@ -1,5 +1,5 @@
--- Points and answers are the same on two maps that agree round a path's own nodes and on what is covered from its
--- points.
+-- LRPs and answers are the same on two maps that agree around a path's traversed nodes and on the positions that are
+-- covered from its LRPs.
 use Rattle.std.proofs.Common.{inl, inr, ◌≡◌, ℕ, ◌+◌, ◌-◌, min, Bool, true, false, cond, List, [], ◌∷◌, ◌++◌, length}
 use Rattle.std.proofs.Common.{◌<◌, ◌≤◌, IsTrue, refl, sym, ap, ◌∙◌, subst, arith, ◌==◌, nat_lt, length-append, ◌↔◌}
 use Rattle.std.proofs.lemmas.Bool.{ltb-true, cond_both}
@@ -29,7 +29,7 @@ empty_route M N n s t s' t' xs e f g l =
     let there : Route N s' s' xs = subst (λ (zs : List ℕ). Route N s' s' zs) (sym e) (empty_sole N n s') in
     subst (λ (v : ℕ). Route N s' v xs) (sym f ∙ walk ∙ g) there
 
--- where nothing lies between, a position is covered on any map
+-- if no line is between, a position is covered on any map
 pub close_stays : (M N : Map) → IsMap M → IsMap N → (ls : List ℕ) → Each (SameLine M N) ls → (i j : ℕ) → i < j
     → j ≤ length ls → length ls ≤ i + 2 → Covered M ls i j ↔ Covered N ls i j
 close_stays M N m n ls same i j h g close =
@@ -54,7 +54,7 @@ pub Greatest-moves : (Q S : ℕ → Type 0) (j : ℕ) → ((k : ℕ) → Q k →
     → Greatest S j
 Greatest-moves Q S j f g h = record { holds = f j h.holds; others = λ k s. h.others k (g k s) }
 
--- the lines ls and the points js, where the maps agree round the lines' ends and on what is covered from the points
+-- the lines ls and the LRPs js, on maps that agree around the lines' ends and on what is covered from the LRPs
 module _ (M N : Map) (ls : List ℕ) (nonempty : 0 < length ls) (same : Each (SameLine M N) ls)
     (starts : Each (λ x. SameRound M N (start M x)) ls) (ends : Each (λ x. SameRound M N (end M x)) ls) (js : List ℕ)
     (covers : (i j : ℕ) → has js i ≡ true → i < j → j ≤ length ls → dm_of M (stretch ls i j) ≤ limit
@@ -141,7 +141,7 @@ module _ (M N : Map) (ls : List ℕ) (nonempty : 0 < length ls) (same : Each (Sa
     follow_moves j ks (Each-tail (λ k. has js k ≡ true) i (j ∷ ks) on) f.1,
   )
 
--- where the maps agree round the ends of the lines ls
+-- on maps that agree around the ends of the lines ls
 module _ (M N : Map) (ls : List ℕ) (same : Each (SameLine M N) ls) (starts : Each (λ x. SameRound M N (start M x)) ls)
     (ends : Each (λ x. SameRound M N (end M x)) ls) where
   leg_same : (x : ℕ) → has ls x ≡ true → leg M x ≡ leg N x
@@ -156,7 +156,7 @@ module _ (M N : Map) (ls : List ℕ) (same : Each (SameLine M N) ls) (starts : E
   pub legs_same : legs M ls ≡ legs N ls
   legs_same = map_same (leg M) (leg N) ls leg_same
 
--- ---- own nodes
+-- ---- traversed nodes
 
 pub NodeOf-moves : (M N : Map) (xs : List ℕ) (v : ℕ) → Each (SameLine M N) xs → NodeOf M xs v → NodeOf N xs v
 NodeOf-moves M N xs v h o =
@@ -169,7 +169,7 @@ Own-moves M N ls b a v h i j (inl o) = inl (NodeOf-moves M N ls v h o)
 Own-moves M N ls b a v h i j (inr (inl o)) = inr (inl (NodeOf-moves M N b v i o))
 Own-moves M N ls b a v h i j (inr (inr o)) = inr (inr (NodeOf-moves M N a v j o))
 
--- ---- the whole
+-- ---- the whole path
 
 module _ (M N : Map) (m : IsMap M) (n : IsMap N) (P : Path) (b a : List ℕ) (nonempty : 0 < length P.lines)
     (known : Each (λ x. IsTrue (has_line M x)) P.lines) (same : Each (SameLine M N) P.lines)

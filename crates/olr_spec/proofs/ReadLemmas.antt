@@ -1,4 +1,4 @@
--- Bytes have no fault exactly where some reference spells them.
+-- Bytes have no fault exactly if some reference encodes as them.
 use Rattle.std.proofs.Common.{inl, inr, ◌≡◌, ℕ, zero, suc, ◌+◌, ◌-◌, ◌*◌, ◌/◌, ◌%◌, ◌<◌, ◌≤◌, ℤ, pos, negsuc, ◌≤ℤ◌}
 use Rattle.std.proofs.Common.{Bool, true, false, cond, not, ◌||◌, List, [], ◌∷◌, ◌++◌, length, Option, Some, None}
 use Rattle.std.proofs.Common.{IfSome, IsTrue, refl, sym, ap, ◌∙◌, subst, arith, nat_lt, nat_le, ◌==◌, length-append}
@@ -29,7 +29,7 @@ bytes_before : (xs ys : List ℕ) → AreBytes (xs ++ ys) → AreBytes xs
 bytes_before [] ys h = tt
 bytes_before (x ∷ xs) ys h = (h.0, bytes_before xs ys h.1)
 
--- ---- fields read back
+-- ---- decoded fields
 
 -- a number below twice suc h, as the two's complement of a whole number
 signed_of : (h v : ℕ) → v < suc h + suc h → (z : ℤ) × (negsuc h ≤ℤ z) × (z ≤ℤ pos h) × (residue (suc h + suc h) z ≡ v)
@@ -92,9 +92,9 @@ read_middle a b c d e f g w lt =
       λ i. lon.2 i ++ lat.2 i ++ attrs.2 i,
     )
 
--- ---- places in the bytes
+-- ---- indices in the bytes
 
--- attribute bytes behind other bytes
+-- attribute bytes after other bytes
 attributes_behind : (xs ys : List ℕ) (i n : ℕ) → attribute1_bytes (xs ++ ys) (length xs + i) n ≡ attribute1_bytes ys i n
 attributes_behind xs ys i zero = refl
 attributes_behind xs ys i (suc n) =
@@ -107,9 +107,9 @@ attributes_behind xs ys i (suc n) =
 abbrev reserved : List ℕ → Bool
 reserved xs = list_any (λ a. nat_le 64 a) xs
 
--- ---- the points after the first, and the offsets
+-- ---- the LRPs after the first, and the offsets
 
--- the bytes t are those of some points, up to the end
+-- the bytes t are those of some LRPs after the first, up to the end
 record Points (t : List ℕ) : Type 0 where
   middle : List Middle
   last : Last
@@ -121,7 +121,7 @@ record Points (t : List ℕ) : Type 0 where
   is_negative : IfSome negative (λ n. n < 256)
   spelled : t ≡ flat_map middle_bytes middle ++ last_bytes last positive negative
 
--- the last point, whose flags are those of the offsets
+-- the last LRP, with the flags of the offsets
 last_with : (a b c d f g : ℕ) (positive negative : Option ℕ) → AreBytes (a ∷ b ∷ c ∷ d ∷ f ∷ g ∷ []) → f < 64 →
     64 * flag positive + 32 * flag negative + g % 32 ≡ g
     → IfSome positive (λ n. n < 256) → IfSome negative (λ n. n < 256) →
@@ -159,7 +159,7 @@ read_last a b c d f g (h ∷ k ∷ []) w lf lg e =
     last_with a b c d f g (Some h) (Some k) front lf (omega arith) offs.0 offs.1.0
 read_last a b c d f g (h ∷ k ∷ l ∷ rest) w lf lg e = absurd (omega arith)
 
--- m points before the last
+-- m LRPs before the last
 read_points : (m : ℕ) (t : List ℕ) → AreBytes t → 7 * m + 6 ≤ length t →
     bit 6 (slice_index t (7 * m + 5)) + bit 5 (slice_index t (7 * m + 5)) ≡ length t - (7 * m + 6)
     → slice_index t (7 * m + 5) < 128 → reserved (attribute1_bytes t 4 (suc m)) ≡ false → Points t
@@ -212,7 +212,7 @@ no_fault : (b : Bool) (f : V3Fault) (o : Option V3Fault) → cond b (Some f) o �
 no_fault true f o e = absurd cc
 no_fault false f o e = (refl, e)
 
--- what the tests of the four faults say where none comes
+-- what holds if none of the four tests reports a fault
 record Passes (b : List ℕ) : Type 0 where
   long : 16 ≤ length b
   few : extra b ≤ 2
@@ -287,7 +287,7 @@ read_bytes (s ∷ a ∷ b ∷ c ∷ d ∷ e ∷ f ∷ g ∷ k ∷ l ∷ t) w p =
 pub read_spelled : (b : List ℕ) → All (λ x. x < 256) b → v3_fault b ≡ None → (r : Reference) × Spells r b
 read_spelled b h e = read_bytes b (are_bytes b h) (passes b e)
 
--- ---- bytes that are spelled
+-- ---- bytes of a reference
 
 middles_length : (ps : List Middle) → length (flat_map middle_bytes ps) ≡ 7 * length ps
 middles_length [] = refl
@@ -297,7 +297,7 @@ flag_is : (o : Option ℕ) → length (offset_bytes o) ≡ flag o
 flag_is None = refl
 flag_is (Some n) = refl
 
--- none of the points' attribute bytes has a reserved bit
+-- none of the LRPs' attribute bytes has a reserved bit
 unreserved : (ps : List Middle) (l : Last) (positive negative : Option ℕ) → AllByRecursion IsMiddle ps → IsLast l
     → reserved (attribute1_bytes (flat_map middle_bytes ps ++ last_bytes l positive negative) 4 (suc (length ps)))
     ≡ false

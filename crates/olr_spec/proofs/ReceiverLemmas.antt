@@ -1,4 +1,4 @@
--- Every receiver recovers the stretches between the kept points.
+-- Every receiver recovers the legs between the remaining LRPs.
 use Rattle.std.proofs.Common.{◌≡◌, ℕ, suc, ◌+◌, ◌-◌, max, true, List, [], ◌∷◌, ◌++◌, length, take, drop, map, ◌<◌}
 use Rattle.std.proofs.Common.{ℤ, ◌≤◌, ◌↔◌, Some, None, IsTrue, refl, sym, ap, ◌∙◌, subst, arith, slice_get, take-add, drop-drop}
 use Rattle.std.specs.Bool.{⊤}
@@ -29,14 +29,14 @@ use Rattle.olr_spec.proofs.DecodedLemmas.{middle_count, two_of, by_fault}
 use Rattle.olr_spec.proofs.CandidateLemmas.{Own, takes_own}
 use Rattle.olr_spec.proofs.RecoverLemmas.{within_greatest, recovers_to, recovers_last, extended_once, once_apart}
 
--- ---- one point
+-- ---- one LRP
 
 -- line x is the nearest candidate, and without a twin
 record Stands (R : Receiver) (M : Map) (s : Side) (p : ℤ × ℤ) (x : ℕ) : Type 0 where
   nearest : IsTrue (is_nearest R.far s p (leg M x) (candidates M))
   alone : IsTrue (has_no_twin s x (leg M x) (candidates M))
 
--- the own lines of the points ks, from point k on
+-- the path's own lines at the LRPs ks, from LRP k on
 abbrev Owns : Receiver → Map → List ℕ → Reference → ℕ → List ℕ → Type 0
 Owns R M ls r k [] = ⊤
 Owns R M ls r k (h ∷ []) = Stands R M Incoming (decoded_place r (last_place r)) (slice_index ls (h - 1))
@@ -79,9 +79,9 @@ module _ (R : Receiver) (M : Map) (m : IsMap M) (ls : List ℕ) (known : Each (�
       (sym (range_legs M m ls known i j))
       (within_greatest M 0 (stretch ls i j))
 
-  -- ---- one point after another
+  -- ---- one LRP after another
 
-  -- the receiver that has taken the own line of point k recovers the stretches after it
+  -- the receiver that has chosen the path's own line at LRP k recovers the legs after it
   from_point : (r : Reference) (k h i : ℕ) (js : List ℕ) → Linked M ls (h ∷ i ∷ js) →
       r.last ≡ fields.last_point (legs M ls) (last_two h i js).0 (last_two h i js).1 → Owns R M ls r (suc k) (i ∷ js) →
       (ws : List (List ℕ))
@@ -132,7 +132,7 @@ module _ (R : Receiver) (M : Map) (m : IsMap M) (ls : List ℕ) (known : Each (�
         )),
       )
 
-  -- from the first point on
+  -- from the first LRP on
   recovers_kept : (p q h i : ℕ) (js : List ℕ) → Linked M ls (h ∷ i ∷ js) →
       Owns R M ls (reference_by_kept (legs M ls) p q h i js) 0 (h ∷ i ∷ js) → (ws : List (List ℕ))
       → Recovers R M (reference_by_kept (legs M ls) p q h i js) ws ↔ (ws ≡ stretches ls (h ∷ i ∷ js))
@@ -152,7 +152,7 @@ module _ (R : Receiver) (M : Map) (m : IsMap M) (ls : List ℕ) (known : Each (�
 
 -- ---- an answer
 
--- at least two points are kept, h, i and js, and the reference is that of these
+-- at least two LRPs remain, h, i and js, and the reference is that of these
 pub record Form (M : Map) (ls ks : List ℕ) (p q : ℕ) (r : Reference) : Type 0 where
   pub h : ℕ
   pub i : ℕ
@@ -162,7 +162,7 @@ pub record Form (M : Map) (ls ks : List ℕ) (p q : ℕ) (r : Reference) : Type 
   pub fields_are : r ≡ reference_by_kept (legs M ls) p q h i js
   pub size : last_place r + 1 ≡ length ks
 
--- a fact of a path's extension and points, whichever they are found to be
+-- a property of the path's extension and LRPs holds for those of the encoding, since they are unique
 module _ (M : Map) (m : IsMap M) (P : Path) (is : IsTrue (is_path P.lines)) (none : path_fault M P ≡ None)
     (r : Reference) (e : Encoding M P (Points r)) where
   pub same_path : (Q : Path → List ℕ → Type 0) → OfPath M P (λ E _ _ js. Q E js) →
@@ -175,7 +175,7 @@ module _ (M : Map) (m : IsMap M) (P : Path) (is : IsTrue (is_path P.lines)) (non
       subst (λ (E : Path). Q E e.points) back
       (subst (λ (js : List ℕ). Q (extended_path M P p.before p.after) js) (sym same.2) p.holds)
 
-  -- the extended path, its points, and those that are kept
+  -- the extended path, its LRPs, and those that remain
   abbrev pub Lines : List ℕ
   Lines = (extended_path M P e.before e.after).lines
 
@@ -204,7 +204,7 @@ module _ (M : Map) (m : IsMap M) (P : Path) (is : IsTrue (is_path P.lines)) (non
               (omega arith),
         )
 
-  -- what is left of the offsets
+  -- what remains of the offsets
   abbrev pub Front : ℕ
   Front =
       (extended_path M P e.before e.after).pos
@@ -274,7 +274,7 @@ recovered R M m P is r e d ws =
     let p = by_fault M P r (path_fault M P) refl e in
     recovered_of M m P is p.0 r p.1 R d ws
 
--- ---- the stretches together
+-- ---- the legs together
 
 stretch_through : (ls : List ℕ) (p q t : ℕ) → p ≤ q → q ≤ t → stretch ls p q ++ stretch ls q t ≡ stretch ls p t
 stretch_through ls p q t h k =

@@ -1,4 +1,4 @@
--- A shortest route over lines within LFRCNP is the stretch of the extended path.
+-- A shortest route over lines within the LFRCNP is the leg of the extended path.
 use Rattle.std.proofs.Common.{◌⊎◌, inl, inr, ◌≡◌, ◌≢◌, ℕ, zero, suc, ◌+◌, ◌-◌, max, Bool, true, false, not, List}
 use Rattle.std.proofs.Common.{[], ◌∷◌, ◌++◌, length, ◌<◌, ◌≤◌, ◌↔◌, IsTrue, map, refl, sym, ap, ◌∙◌, subst, arith}
 use Rattle.std.proofs.Common.{append_assoc, append-nil, cond}
@@ -51,7 +51,7 @@ within_greatest M a (x ∷ xs) =
     let r = greatest_from M (max a (line_at M x).frc) xs in
     (omega arith, within_greatest M (max a (line_at M x).frc) xs)
 
--- ---- the unique shortest route is one over fewer lines that hold it
+-- ---- a unique shortest path is the only shortest route over any lines that include it
 
 shortest_is : (M : Map) (c s t : ℕ) (xs : List ℕ) → Route M s t xs → Within M c xs → (ys : List ℕ) →
     Shortest M c s t ys → ys ≡ xs
@@ -87,7 +87,7 @@ recovers_to M ls c p q within j w =
       (λ e. (xs, e ∙ j.1, route_shortest M c s t xs j.2 all.1)),
     )
 
--- ---- the last stretch
+-- ---- the last leg
 
 not_one : (x : ℕ) (xs : List ℕ) (y z : ℕ) → x ∷ (xs ++ y ∷ []) ≡ z ∷ [] → ⊥
 not_one x [] y z e = cc

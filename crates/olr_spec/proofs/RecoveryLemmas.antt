@@ -1,4 +1,4 @@
--- The lengths of what is recovered, and the measures by which the own node is the nearest.
+-- The lengths of what is recovered, and the measures by which the node of an LRP is the nearest.
 use Rattle.std.proofs.Common.{inl, inr, ◌≡◌, ℕ, zero, suc, ◌+◌, ◌-◌, ℤ, true, Bool, ◌||◌, List, [], ◌∷◌, length}
 use Rattle.std.proofs.Common.{map, ◌<◌, ◌≤◌, Some, None, IsTrue, refl, sym, ap, ◌∙◌, subst, arith, pos, slice_get, nat_lt}
 use Rattle.std.proofs.Common.{◌==◌, Option, unwrap_or, cond}
@@ -31,7 +31,7 @@ use Rattle.olr_spec.proofs.OffsetLemmas.{offset_close}
 use Rattle.olr_spec.proofs.NearestLemmas.{nearer}
 use Rattle.olr_spec.proofs.ReceiverLemmas.{form, same_path, Lines, Kept, Front, Back}
 
--- ---- stretches
+-- ---- legs
 
 module _ (M : Map) (m : IsMap M) (ls : List ℕ) (known : Each (λ x. IsTrue (has_line M x)) ls) where
   some_length : (p q : ℕ) → p < q → p < length ls → 0 < dm_of M (stretch ls p q)
@@ -117,7 +117,7 @@ at_end M m ls known joined i some up =
           ∙ ap (λ (k : ℕ). end M (slice_index ls (k - 1))) whole
     ]
 
--- what other candidates' distance makes nearest
+-- a weaker test passes for all candidates too
 weaker : (f g : ℕ × Leg → Bool) → ((c : ℕ × Leg) → f c ≡ true → g c ≡ true) → (cs : List (ℕ × Leg)) →
     list_all f cs ≡ true → list_all g cs ≡ true
 weaker f g h [] a = refl
@@ -139,7 +139,7 @@ spaced_nearest n d scale far w k p s g near cs a =
           (nearer n d scale far w k p (coordinate_on s g) (coordinate_on s c.1) near f))
     ]) cs a
 
--- ---- of an answer
+-- ---- an answer
 
 module _ (M : Map) (m : IsMap M) (P : Path) (is : IsTrue (is_path P.lines)) (none : path_fault M P ≡ None)
     (r : Reference) (e : Encoding M P (Points r)) where
@@ -218,7 +218,7 @@ module _ (M : Map) (m : IsMap M) (P : Path) (is : IsTrue (is_path P.lines)) (non
       × (slice_index ks (k + 1) ≤ length (Lines M m P is none r e))) (sym f.kept)
       (linked_bounds M (Lines M m P is none r e) (f.h ∷ f.i ∷ f.js) f.linked k (omega arith))
 
-  -- point k is decoded near the node of its line x
+  -- LRP k is decoded near the node of its line x
   near_line : (s : Side) (k x : ℕ) → k ≤ last_place r → IsLineAt M P s k x →
       ((i : ℕ) → slice_index (Kept M m P is none r e) k ≡ i →
       place_at M (node_at M (Lines M m P is none r e) i)

@@ -1,4 +1,4 @@
--- Lists of numbers that rise strictly: a search in one, and what one more or one less makes of them.
+-- Lists of numbers in strictly ascending order: searching for a number, inserting one and removing one.
 use Rattle.std.proofs.Common.{◌≡◌, ◌≢◌, ◌==◌, ℕ, suc, ◌+◌, ◌-◌, ◌<◌, ◌≤◌, Bool, true, false, not, ◌&&◌, ◌||◌, ◌⊎◌, inl}
 use Rattle.std.proofs.Common.{inr, List, [], ◌∷◌, ◌++◌, Contains, Ok, Err, Result, is_ok, length, get_or, refl, sym, ap}
 use Rattle.std.proofs.Common.{◌∙◌, subst, arith, ⊎_elim, MatchResult, IsPermutation}
@@ -20,7 +20,7 @@ use Rattle.olr_spec.proofs.ListLemmas.{Contains-one}
 
 -- ---- where a search finds a number
 
--- where a number stands, or where it would
+-- the index of a number, or the index at which it would be inserted
 abbrev pub IsPlace : List ℕ → ℕ → Result ℕ ℕ → Type 0
 IsPlace xs x r =
     MatchResult r (λ i. (i < length xs) × (get_or xs i 0 ≡ x))
@@ -46,7 +46,7 @@ has_not [] x h = refl
 has_not (y ∷ ys) x h =
     ap (λ (b : Bool). b || has ys x) (ne_eqb y x (h 0 (omega arith))) ∙ has_not ys x (λ i lt. h (suc i) (omega arith))
 
--- where a number would stand, it does not
+-- a number that could be inserted isn't in the list
 pub place_not : (xs : List ℕ) (x i : ℕ) → IsPlace xs x (Err i) → has xs x ≡ false
 place_not xs x i p =
     has_not xs x (λ j lt e. elim (cases_lt j i) [
@@ -55,7 +55,7 @@ place_not xs x i p =
           p.2 j high lt in omega arith
     ])
 
--- a search finds what the list has
+-- a search finds a number exactly if the list has it
 pub place_has : (xs : List ℕ) (x : ℕ) (r : Result ℕ ℕ) → IsPlace xs x r → is_ok r ≡ has xs x
 place_has xs x (Ok i) h = sym (has_at xs i x h.0 h.1)
 place_has xs x (Err i) h = sym (place_not xs x i h)
@@ -81,7 +81,7 @@ pub there_found : (xs : List ℕ) (x : ℕ) (r : Result ℕ ℕ) → IsPlace xs 
 there_found xs x (Ok i) h c = refl
 there_found xs x (Err i) h c = absurd (not_among xs x i h c)
 
--- ---- one more
+-- ---- one number more
 
 pub insert_rises : (xs : List ℕ) (x i : ℕ) → IsStrictlyIncreasing xs → IsPlace xs x (Err i) →
     IsStrictlyIncreasing (insert xs i x)
@@ -118,7 +118,7 @@ insert_rises xs x i up h k lt =
     o)
     (cases_order k i)
 
--- one above all of them, at the end
+-- a number above all of them, at the end
 pub rises_push : (xs : List ℕ) (x : ℕ) → IsStrictlyIncreasing xs → ((k : ℕ) → k < length xs → get_or xs k 0 < x) →
     IsStrictlyIncreasing (xs ++ x ∷ [])
 rises_push xs x up below =
@@ -143,7 +143,7 @@ insert_keeps xs x i n (inl h) =
 insert_keeps xs x i n (inr e) =
     Contains-permutation (x ∷ xs) (insert xs i x) n (IsPermutation-insert xs i x) (0, omega arith, sym e)
 
--- ---- one less
+-- ---- one number less
 
 pub rises-remove : (xs : List ℕ) (i : ℕ) → IsStrictlyIncreasing xs → i < length xs → IsStrictlyIncreasing (remove xs i)
 rises-remove xs i up at k lt =
@@ -168,7 +168,7 @@ rises-remove xs i up at k lt =
     let step = up (k + 1) (omega arith) in omega arith)
     (cases_lt k i)
 
--- one that was taken out is gone
+-- a number that is removed is no longer in the list
 gone : (xs : List ℕ) (i x : ℕ) → IsStrictlyIncreasing xs → i < length xs → get_or xs i 0 ≡ x →
     has (remove xs i) x ≡ false
 gone xs i x up at is =
@@ -196,9 +196,9 @@ has-remove xs i x n up at is =
     without (x == n) (has xs n) (has (remove xs i) n) (λ e. ap (has (remove xs i)) (sym (eqb-true x n e))
     ∙ gone xs i x up at is) (list_any-IsPermutation (λ y. y == n) xs (x ∷ remove xs i) parted)
 
--- ---- as sets: by what a search answers
+-- ---- as sets: by the result of a search
 
--- one that isn't there, put where it belongs
+-- a number that isn't in the list, inserted at its index
 pub put_rises : (xs : List ℕ) (x i : ℕ) → IsStrictlyIncreasing xs → IsBinarySearchResult (λ y. nat_cmp y x) xs (Err i) →
     IsStrictlyIncreasing (insert xs i x)
 put_rises xs x i up h = insert_rises xs x i up (place_of xs x (Err i) up h)
@@ -211,7 +211,7 @@ either true c h = refl
 either false true h = h refl
 either false false h = refl
 
--- one that is there already
+-- a number that is in the list already
 pub stays_has : (xs : List ℕ) (x i v : ℕ) → IsStrictlyIncreasing xs →
     IsBinarySearchResult (λ y. nat_cmp y x) xs (Ok i) → has xs v ≡ (has xs v || (x == v))
 stays_has xs x i v up h =
@@ -227,7 +227,7 @@ both true true h = h refl
 both true false h = refl
 both false c h = refl
 
--- one that isn't there
+-- a number that isn't in the list
 pub lacks_has : (xs : List ℕ) (x i v : ℕ) → IsStrictlyIncreasing xs →
     IsBinarySearchResult (λ y. nat_cmp y x) xs (Err i) → has xs v ≡ (has xs v && not (x == v))
 lacks_has xs x i v up h =

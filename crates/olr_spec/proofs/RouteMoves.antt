@@ -1,4 +1,5 @@
--- Routes within a length are the same on two maps that agree round each node that a walk within it reaches.
+-- Unique shortest paths within a length are the same on two maps that agree around each node that a route within this
+-- length reaches.
 use Rattle.std.proofs.Common.{inl, inr, ◌≡◌, ℕ, ◌+◌, List, [], ◌∷◌, ◌++◌, ◌≤◌, refl, sym, ◌∙◌, subst, arith}
 use Rattle.std.proofs.lemmas.Bool.{cases_lt}
 use Rattle.olr_spec.specs.Map.{Map, end, dm, SameLine, SameRound}
@@ -20,7 +21,7 @@ Walk-moves M N s t (x ∷ xs) h w =
     (sym (same_known M N x e) ∙ w.0, sym (same_start M N x e) ∙ w.1, rest)
 
 module _ (M N : Map) (s limit : ℕ) (round : (v : ℕ) → Reaches M s limit v → SameRound M N v) where
-  -- a walk of the first map on from a node within reach
+  -- a route of the first map that continues from a node within reach
   onward : (v t : ℕ) (front xs : List ℕ) → Walk M s v front → Walk M v t xs → dm_of M front + dm_of M xs ≤ limit →
       Each (SameLine M N) xs
   onward v t front [] p w h = Each-nil (SameLine M N)
@@ -30,7 +31,7 @@ module _ (M N : Map) (s limit : ℕ) (round : (v : ℕ) → Reaches M s limit v 
       Each-cons (SameLine M N) x xs is
       (onward (end M x) t (front ++ x ∷ []) xs step w.2 (omega (arith, dm_of-append M front (x ∷ []))))
 
-  -- and a walk of the second map
+  -- a route of the second map that continues from a node within reach
   onward_other : (v t : ℕ) (front xs : List ℕ) → Walk M s v front → Walk N v t xs → dm_of M front + dm_of N xs ≤ limit →
       Each (SameLine M N) xs
   onward_other v t front [] p w h = Each-nil (SameLine M N)

@@ -1,4 +1,4 @@
--- Each direction lies in one sector.
+-- Each direction is in one sector.
 use Rattle.std.proofs.Common.{inl, inr, ◌≡◌, ℕ, zero, suc, ◌+◌, ◌-◌, ◌*◌, ◌/◌, ◌%◌, ◌<◌, ◌≤◌, ℤ, pos, ◌≤ℤ◌, ◌<ℤ◌, ◌*ℤ◌}
 use Rattle.std.proofs.Common.{◌-ℤ◌, neg_ℤ, Bool, true, false, cond, T, List, [], ◌∷◌, ◌++◌, Some, unwrap_or, IsTrue}
 use Rattle.std.proofs.Common.{◌==◌, refl, sym, ap, ◌∙◌, subst, arith}
@@ -56,15 +56,15 @@ up_to_below (suc n) =
 
 -- ---- quadrants
 
--- beyond boundary k
+-- greater than 0 if the direction is clockwise of boundary k
 abbrev side : ℤ → ℤ → ℕ → ℤ
 side e n k = beyond (boundary k) (vector e n)
 
--- from boundary k on, and before the next
+-- on boundary k or clockwise of it, and before the next
 abbrev At : ℕ → ℤ → ℤ → Type 0
 At k e n = (pos 0 ≤ℤ side e n k) × (side e n (suc k) <ℤ pos 0)
 
--- from north on to the east, and then a quarter to the right each time
+-- from north to before east, and then a quarter turn to the right each time
 abbrev InQuadrant : ℕ → ℤ → ℤ → Type 0
 InQuadrant zero e n = (pos 0 ≤ℤ e) × (pos 0 <ℤ n)
 InQuadrant (suc q) e n = InQuadrant q (neg_ℤ n) e
@@ -146,7 +146,7 @@ side_on e n q j lq lj =
     let on : suc q * 8 + j ≡ q * 8 + j + 8 = omega arith in
     ap (side e n) on ∙ side_turned (q * 8 + j) (omega arith) e n
 
--- a direction between two boundaries of a quarter lies in it
+-- a direction between two boundaries of a quarter is in this quarter
 abbrev FirstSits : ℕ → Type 0
 FirstSits j = (e n : ℤ) → At j e n → InQuadrant 0 e n
 
@@ -190,7 +190,7 @@ sits : (k : ℕ) → k < 32 → (e n : ℤ) → At k e n → InQuadrant (k / 8) 
 sits k lt e n h = let is : k ≡ k / 8 * 8 + k % 8 =
     omega arith in sits_in (k / 8) (k % 8) (omega arith) (omega arith) e n (subst (λ (m : ℕ). At m e n) is h)
 
--- in a quarter, what lies before a boundary lies before the next
+-- in a quarter, a direction before a boundary is before the next one too
 abbrev FirstFalls : ℕ → Type 0
 FirstFalls j = (e n : ℤ) → InQuadrant 0 e n → side e n j <ℤ pos 0 → side e n (suc j) <ℤ pos 0
 
@@ -231,7 +231,7 @@ falls k lt e n h f =
     subst (λ (m : ℕ). side e n m <ℤ pos 0) next
     (falls_in (k / 8) (k % 8) (omega arith) (omega arith) e n h (subst (λ (m : ℕ). side e n m <ℤ pos 0) is f))
 
--- the directions of a quarter lie from its first boundary on, and before the first of the next
+-- the directions of a quarter are on its first boundary or clockwise of it, and before the first of the next quarter
 turns : (q : ℕ) → q < 4 → (e n : ℤ) → InQuadrant q e n → (pos 0 ≤ℤ side e n (q * 8)) × (side e n (q * 8 + 8) <ℤ pos 0)
 turns zero lq e n h = (omega (arith, ints), omega (arith, ints))
 turns (suc q) lq e n h =
@@ -241,9 +241,9 @@ turns (suc q) lq e n h =
       subst (λ (z : ℤ). z <ℤ pos 0) (sym (side_on e n q 8 (omega arith) (omega arith))) r.1,
     )
 
--- ---- one sector
+-- ---- at most one sector
 
--- below 0 at a boundary, so below 0 at each later one of the quadrant
+-- below 0 at a boundary, so below 0 at each later boundary of the quadrant
 falls_on : (e n : ℤ) (j d : ℕ) → j + d < 32 → (j + d) / 8 ≡ j / 8 → InQuadrant (j / 8) e n → side e n j <ℤ pos 0 →
     side e n (j + d) <ℤ pos 0
 falls_on e n j zero lt same q h = subst (λ (k : ℕ). side e n k <ℤ pos 0) (let is : j ≡ j + zero = omega arith in is) h
@@ -254,7 +254,7 @@ falls_on e n j (suc d) lt same q h =
     let after = falls (j + d) (omega arith) e n (subst (λ (k : ℕ). InQuadrant k e n) (sym here) q) before in
     subst (λ (k : ℕ). side e n k <ℤ pos 0) (sym on) after
 
--- a direction lies in one quadrant
+-- a direction is in one quadrant
 one_quadrant : (e n : ℤ) (p q : ℕ) → p < q → q < 4 → InQuadrant p e n → InQuadrant q e n → ⊥
 one_quadrant e n p zero lt h a b = omega arith
 one_quadrant e n zero (suc zero) lt h a b = omega (arith, ints)
@@ -307,12 +307,12 @@ one_sector e n j k p q =
       ]
     ]
 
--- ---- some sector
+-- ---- at least one sector
 
 abbrev Crossing : ℤ → ℤ → ℕ → ℕ → Type 0
 Crossing e n a b = (k : ℕ) × (a ≤ k) × (k < b) × At k e n
 
--- from a boundary on, and before a later one
+-- on a boundary or clockwise of it, and before a later one
 crossing : (e n : ℤ) (a d : ℕ) → pos 0 ≤ℤ side e n a → side e n (a + d) <ℤ pos 0 → Crossing e n a (a + d)
 crossing e n a zero h g =
     absurd (clash (side e n a) h (subst (λ (k : ℕ). side e n k <ℤ pos 0) (let is : a + zero ≡ a = omega arith in is) g))
@@ -347,7 +347,7 @@ some_sector e n ne =
     (λ strict. in_quadrant e n 2 (omega arith) (omega (arith, ints), omega (arith, ints)))
     (λ no_south. absurd (ne (omega (arith, ints), omega (arith, ints)))))))
 
--- ---- the function
+-- ---- the computed sector
 
 find_some : (p : ℕ → Bool) (xs : List ℕ) (d : ℕ) (Q : ℕ → Type 0) → Each Q xs → (k : ℕ) → has xs k ≡ true → p k ≡ true →
     Q (unwrap_or (find p xs) d) × (p (unwrap_or (find p xs) d) ≡ true)

@@ -1,4 +1,5 @@
--- Where nothing that a path looked at has changed, its answer, own nodes, looks and footprint are the same.
+-- If nothing that a path depends on has changed, its answer, traversed nodes, coverage queries and footprint are the
+-- same.
 use Rattle.std.proofs.Common.{inl, inr, ◌≡◌, ℕ, ◌+◌, List, [], ◌∷◌, length, true, false, refl, ◌<◌, ◌≤◌, Option, None}
 use Rattle.std.proofs.Common.{Some, IsTrue, All, Contains, sym, ◌∙◌, subst, arith, MatchOption, ◌↔◌}
 use Rattle.std.proofs.lemmas.Bool.{cases_lt, cases_Bool, both_ways}
@@ -23,7 +24,7 @@ use Rattle.olr_spec.proofs.LookLists.{look_for, zip_moves}
 use Rattle.olr_spec.proofs.PointMoves.{close_stays, Own-moves, tried_moves, b_same, a_same, ls_same, extended_same}
 use Rattle.olr_spec.proofs.PointMoves.{follow_same, answer_same}
 
--- along any lines of both maps each of these looks has the same routes
+-- along any lines of both maps, each of these coverage queries has the same routes
 abbrev pub RoutesOf : Map → Map → List Look → Type 0
 RoutesOf M N looks =
     (ls : List ℕ) → Each (SameLine M N) ls → (s t : ℕ) → Walk M s t ls → (i k : ℕ) → IsLastTested M ls i k →
@@ -75,7 +76,7 @@ module _ (M N : Map) (m : IsMap M) (n : IsMap N) (P : Path) (is : IsTrue (is_pat
   follow_there = follow_same M N m n P o.before o.after nonempty known same o.tried
       (rounds o.before o.after o.tried) o.points covers o.follow
 
-  -- the same chains and points, with what is said of them there
+  -- the same runs and LRPs, with a property of them on the other map
   goes_over : {R : Path → List ℕ → List ℕ → List ℕ → Type 0} →
       R (extended_path N P o.before o.after) o.before o.after o.points → OfPath N P R
   goes_over h =
@@ -104,7 +105,7 @@ module _ (M N : Map) (m : IsMap M) (n : IsMap N) (P : Path) (is : IsTrue (is_pat
   answer_stays A p = subst (Encoding N P) (one_answer M m P is (answer_by_points M E o.points) A
       (by_fault (answer_by_points M E o.points) encoding_here) (by_fault A p)) encoding_there
 
-  -- the own nodes
+  -- the traversed nodes
   own_there : (v : ℕ) → OwnOfExtended M P v → OwnOfExtended N P v
   own_there v p =
       let r = rounds p.before p.after p.tried in
@@ -139,7 +140,7 @@ module _ (M N : Map) (m : IsMap M) (n : IsMap N) (P : Path) (is : IsTrue (is_pat
   pub own_stays : (v : ℕ) → OwnOfExtended M P v ↔ OwnOfExtended N P v
   own_stays v = (own_there v, own_here v)
 
-  -- the looks
+  -- the coverage queries
   one_look : (i : ℕ) (l : Look) → Contains looks l → IsLook M E.lines i l → IsLook N E.lines i l
   one_look i l on k =
       let s = start M (first E.lines) in
@@ -183,7 +184,7 @@ module _ (M N : Map) (m : IsMap M) (n : IsMap N) (P : Path) (is : IsTrue (is_pat
       (LooksOfExtended N P looks) (λ _. looks ≡ []))
       (fault_same M N P same) (by_case (path_fault M P) refl own o)
 
--- where each look is clear
+-- if each coverage query is clear
 pub kept : (M N : Map) → IsMap M → IsMap N → (C : List ChangedLine) → Tells C M N → Tells C N M → (P : Path)
     → IsTrue (is_path P.lines) → Each (SameLine M N) P.lines → (looks : List Look) → All (IsClear N C) looks
     → ((v : ℕ) → OwnOf M P v → SameRound M N v) → LooksOf M P looks
@@ -193,7 +194,7 @@ kept M N m n C there here P is same looks clear =
     clear_routes M N ls each s t joined i k last C there here
     (All-contains (IsClear N C) looks (look_to M ls i k) clear on))
 
--- the same, told by what is touched
+-- the same conclusion from what is touched
 pub untouched_kept : (M N : Map) → IsMap M → IsMap N → (T X : List ℕ) (C : List ChangedLine) → Difference T X C M N
     → (P : Path) → IsTrue (is_path P.lines)
     → ((x : ℕ) → has X x ≡ true → has P.lines x ≡ false) → ((v : ℕ) → has T v ≡ true → ¬ OwnOf M P v)

@@ -1,4 +1,4 @@
--- A path has exactly one list of looks, and they give its footprint.
+-- A path has exactly one list of coverage queries, and they determine its footprint.
 use Rattle.std.proofs.Common.{inl, inr, ◌≡◌, ℕ, zero, suc, ◌+◌, ◌-◌, min, true, false, List, [], ◌∷◌, length, ◌<◌, ◌≤◌}
 use Rattle.std.proofs.Common.{Option, None, Some, IsTrue, Contains, refl, sym, ap, ◌∙◌, subst, arith, MatchOption, ◌↔◌}
 use Rattle.std.proofs.Common.{◌⊎◌}
@@ -44,7 +44,7 @@ one_last_tested M ls i j k p q =
       | inr (inr gt) ↦ absurd (no_later M ls i k j q p gt)
     ]
 
--- from position i + 1 on, where f is the farthest that is near enough
+-- from position i + 1 on, where f is the farthest position that is near enough
 module _ (M : Map) (m : IsMap M) (ls : List ℕ) (i f : ℕ)
     (far : Greatest (λ j. (j ≤ length ls) × (dm_of M (stretch ls i j) ≤ limit)) f) where
   abbrev most : ℕ
@@ -95,7 +95,7 @@ some_last_tested M m ls i h =
       ))
     ]
 
--- ---- the looks
+-- ---- the coverage queries
 
 one_look : (M : Map) (ls : List ℕ) (i : ℕ) (k l : Look) → IsLook M ls i k → IsLook M ls i l → k ≡ l
 one_look M ls i k l p q = p.2 ∙ ap (look_to M ls i) (one_last_tested M ls i p.0 q.0 p.1 q.1) ∙ sym q.2
@@ -217,7 +217,7 @@ foot_looked M m P is looks o v = by (path_fault M P) refl o
     by None e p = (foot_there M m P is e looks p v, foot_here M m P is e looks p v)
     by (Some r) e p = ((λ f. absurd f), none p)
 
--- ---- what touched nodes concern
+-- ---- what touched nodes affect
 
 pub foot_concerned : (M N : Map) → IsMap M → (T : List ℕ) → ((v : ℕ) → has T v ≡ false → SameRound M N v) → (P : Path)
     → IsTrue (is_path P.lines) → (looks : List Look) → LooksOf M P looks

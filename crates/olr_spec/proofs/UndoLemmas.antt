@@ -1,4 +1,4 @@
--- One edit takes an accepted edit back, and the empty map is sound.
+-- One edit restores the map from before an accepted edit, and the empty map is sound.
 use Rattle.std.proofs.Common.{inl, inr, ◌≡◌, ℕ, Bool, true, false, cond, not, ◌&&◌, ◌||◌, List, [], ◌∷◌, map, Option}
 use Rattle.std.proofs.Common.{Some, None, is_some, Result, Ok, refl, sym, ap, ◌∙◌, subst, nat_cmp, ◌==◌, unwrap_or}
 use Rattle.std.proofs.lemmas.Bool.{cases_eq, cases_Bool, eqb-true, both_ways, and_from, or_cases}
@@ -42,7 +42,7 @@ module _ {X : Type 0} (m : FinMap nat_cmp X) (k : ℕ) where
 
 -- ---- tests
 
--- a test that doesn't hold lets the others decide
+-- if the condition of a test doesn't hold, the later tests decide
 pub unless_false : {A F : Type 0} (b : Bool) (f : F) (r : Result A F) → b ≡ false → unless b f r ≡ r
 unless_false b f r e = ap (λ (t : Bool). unless t f r) e
 
@@ -85,7 +85,7 @@ unused_where_absent M m v absent =
 
 -- ---- edits
 
--- what takes an accepted edit back
+-- the edit that restores the map from before an accepted edit
 abbrev pub back_of : Map → Edit → Edit
 back_of M (Add_node v c) = Drop_node v
 back_of M (Move_node v c) = Move_node v (place_at M v)
@@ -153,7 +153,7 @@ module _ (M : Map) (m : IsMap M) where
       ∙ ap (λ (lines : FinMap nat_cmp Line). Ok (with_lines lines))
       (put_back M.lines x l (some_is (get M.lines x) no_line there))
 
-  -- the line's old record, over one with the same ends
+  -- the line's old record replaces one with the same ends
   line_set_back : (x : ℕ) (k : Line) → has_line M x ≡ true → k.from ≡ start M x → k.to ≡ end M x
       → edited (with_lines (insert M.lines x k))
       (Set_line x (line_at M x).frc (line_at M x).fow (line_at M x).len (line_at M x).shape) ≡ Ok M

@@ -1,4 +1,4 @@
--- Lines that join are walks between the positions along them, and an extended path's lines join.
+-- Lines that join are routes between the positions along them, and an extended path's lines join.
 use Rattle.std.proofs.Common.{◌≡◌, ◌<◌, ◌≤◌, ◌-◌, ◌+◌, ℕ, zero, suc, List, [], ◌∷◌, length, take, drop, refl, sym, ap}
 use Rattle.std.proofs.Common.{◌∙◌, subst, arith, length-drop}
 use Rattle.std.proofs.lemmas.List.{get_or-drop}

@@ -1,7 +1,7 @@
 -- The binary physical format, version 3, of a line location (White Paper, binary format).
 --     IsReference r      the fields fit their bits
---     spelling r, Spells r b      the bytes of a reference
---     v3_fault b      the first fault of bytes that spell none
+--     spelling r, Spells r b      the bytes that a reference encodes as
+--     v3_fault b      the first fault of bytes that decode to no reference
 use Rattle.std.specs.Prelude.{◌≡◌, ℕ, zero, suc, ◌+◌, ◌-◌, ◌*◌, ◌/◌, ◌%◌, ◌^◌, ◌<◌, ℤ, pos, negsuc, Bool, not, ◌||◌}
 use Rattle.std.specs.Prelude.{List, [], ◌∷◌, ◌++◌, length, flat_map, nat_lt, nat_le, ◌==◌, slice_index, Option, Some}
 use Rattle.std.specs.Prelude.{None, IfSome, if◌then◌else◌, IsTrue}
@@ -10,9 +10,9 @@ use Rattle.std.specs.Int.{bytes_high_first}
 use Rattle.olr_spec.specs.Coordinates.{within, fits16}
 use Rattle.olr_spec.specs.Reference.{Attrs, First, Middle, Last, Reference}
 
--- ---- what has a spelling
+-- ---- what can be encoded
 
--- 3 bits of each class and form, 5 of a bearing, 8 of a distance
+-- 3 bits for each class and form of way, 5 for a bearing, 8 for a distance
 pub record AreAttrs (a : Attrs) : Type 0 where
   pub frc : a.frc < 8
   pub fow : a.fow < 8
@@ -24,13 +24,13 @@ pub record AreAttrs (a : Attrs) : Type 0 where
 abbrev pub fits24 : ℤ → Bool
 fits24 z = within (negsuc 8388607) (pos 8388607) z
 
--- 24 bits of each coordinate
+-- 24 bits for each coordinate
 pub record IsFirst (p : First) : Type 0 where
   pub lon : IsTrue (fits24 p.lon)
   pub lat : IsTrue (fits24 p.lat)
   pub attrs : AreAttrs p.attrs
 
--- 16 bits of each coordinate
+-- 16 bits for each coordinate
 pub record IsMiddle (p : Middle) : Type 0 where
   pub dlon : IsTrue (fits16 p.dlon)
   pub dlat : IsTrue (fits16 p.dlat)
@@ -43,7 +43,7 @@ pub record IsLast (p : Last) : Type 0 where
   pub fow : p.fow < 8
   pub bearing : p.bearing < 32
 
--- all fields, and 8 bits of each offset
+-- all fields, and 8 bits for each offset
 pub record IsReference (r : Reference) : Type 0 where
   pub first : IsFirst r.first
   pub middle : AllByRecursion IsMiddle r.middle
@@ -51,9 +51,9 @@ pub record IsReference (r : Reference) : Type 0 where
   pub pos : IfSome r.pos (λ n. n < 256)
   pub neg : IfSome r.neg (λ n. n < 256)
 
--- ---- spelling
+-- ---- encoding
 
--- z in two's complement, among m values, as 2^16
+-- z in two's complement modulo m, such as 2^16
 abbrev pub residue : ℕ → ℤ → ℕ
 residue m (pos n) = n
 residue m (negsuc n) = m - suc n
@@ -65,11 +65,11 @@ signed16 z = bytes_high_first 2 (residue 65536 z)
 abbrev pub signed24 : ℤ → List ℕ
 signed24 z = bytes_high_first 3 (residue 16777216 z)
 
--- attribute byte 1: two reserved bits that are 0, class, form
+-- attribute byte 1: two reserved bits that are 0, FRC, FOW
 abbrev pub attribute1 : ℕ → ℕ → ℕ
 attribute1 frc fow = 8 * frc + fow
 
--- attribute byte 2: lowest class to the next point, bearing
+-- attribute byte 2: LFRCNP, bearing
 abbrev pub attribute2 : ℕ → ℕ → ℕ
 attribute2 lfrc bearing = 32 * lfrc + bearing
 
@@ -82,7 +82,7 @@ first_bytes p = signed24 p.lon ++ signed24 p.lat ++ attr_bytes p.attrs
 abbrev pub middle_bytes : Middle → List ℕ
 middle_bytes p = signed16 p.dlon ++ signed16 p.dlat ++ attr_bytes p.attrs
 
--- 1 where there is an offset
+-- 1 if there is an offset
 abbrev pub flag : Option ℕ → ℕ
 flag None = 0
 flag (Some n) = 1
@@ -104,45 +104,45 @@ last_bytes p positive negative =
 abbrev pub status_byte : ℕ
 status_byte = 11
 
--- status, first point, points between, last point, and an offset byte for each flag that is set
+-- status byte, first LRP, LRPs between, last LRP, and an offset byte for each flag that is set
 abbrev pub spelling : Reference → List ℕ
 spelling r = status_byte ∷ first_bytes r.first ++ flat_map middle_bytes r.middle ++ last_bytes r.last r.pos r.neg
 
--- the bytes b are those of the reference r, whose fields fit
+-- the reference r, whose fields fit, encodes as the bytes b
 abbrev pub Spells : Reference → List ℕ → Type 0
 Spells r b = IsReference r × (b ≡ spelling r)
 
 -- ---- faults
 
--- a wrong number of bytes; another status byte; flags that ask for another number of offset bytes; a reserved bit that
--- is set (profile)
+-- a wrong number of bytes; another status byte; flags for another number of offset bytes; a reserved bit that is set
+-- (profile)
 pub data V3Fault : Type 0 where
   Length Status Flags Reserved : V3Fault
 
--- the bytes after the whole points: the offsets
+-- the number of bytes after the LRPs: those of the offsets
 abbrev pub extra : List ℕ → ℕ
 extra b = (length b - 16) % 7
 
--- bit k of a byte, from 0, the lowest
+-- bit k of a byte, where bit 0 is the lowest
 abbrev pub bit : ℕ → ℕ → ℕ
 bit k byte = byte / 2 ^ k % 2
 
--- attribute byte 4, which stands before the offsets
+-- attribute byte 4, which is the last byte before the offsets
 abbrev pub flags_of : List ℕ → ℕ
 flags_of b = slice_index b (length b - 1 - extra b)
 
--- attribute byte 1 of the first n points after the first one, from place i on
+-- attribute byte 1 of n consecutive LRPs, of which the first has it at index i
 abbrev pub attribute1_bytes : List ℕ → ℕ → ℕ → List ℕ
 attribute1_bytes b i zero = []
 attribute1_bytes b i (suc n) = slice_index b i ∷ attribute1_bytes b (i + 7) n
 
--- a bit that is always 0 is set
+-- a reserved bit is set
 abbrev pub has_reserved : List ℕ → Bool
 has_reserved b =
     list_any (λ a. nat_le 64 a) (slice_index b 7 ∷ attribute1_bytes b 14 ((length b - 16) / 7 + 1))
     || nat_le 128 (flags_of b)
 
--- told in this order (profile)
+-- the first fault in this order (profile)
 abbrev pub v3_fault : List ℕ → Option V3Fault
 v3_fault b =
     if nat_lt (length b) 16 || nat_lt 2 (extra b) then Some Length

@@ -1,5 +1,5 @@
--- How the mathematical records are stored as one value, which the compiler asks of each `impl Model` whose value they
--- are.
+-- How the mathematical records are stored as one value, which the compiler needs for each `impl Model` with such a
+-- value.
 --     coded_coord, coded_shape_point, coded_line, coded_map
 use Rattle.std.specs.Prelude.{ℕ, ℤ, List}
 use Rattle.std.specs.Coded.{Coded, code_by, coded_ℕ, coded_ℤ, coded_list, coded×}

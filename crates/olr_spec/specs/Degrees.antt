@@ -1,6 +1,6 @@
--- Degrees as text: an optional minus sign, 1 to 3 digits, and optionally a point with 1 to 7 digits (profile).
---     degrees text      the units that the text says, where it has that form
---     read_degrees text      the same, at most 180 degrees either way;  or what is wrong
+-- Degrees as text: an optional minus sign, 1 to 3 digits, and optionally a decimal point with 1 to 7 digits (profile).
+--     degrees text      the value of the text in units, if it has this form
+--     read_degrees text      this value, if it is at most 180 degrees either way; otherwise the fault
 use Rattle.std.specs.Prelude.{ℕ, ◌+◌, ◌-◌, ◌*◌, ◌^◌, ℤ, pos, neg_ℤ, Bool, not, ◌&&◌, List, [], ◌∷◌, length, drop, fold}
 use Rattle.std.specs.Prelude.{take_while, nat_le, ◌==◌, Option, Some, None, option_map, option_and_then, Result, Ok}
 use Rattle.std.specs.Prelude.{Err, if◌then◌else◌}
@@ -15,7 +15,7 @@ are_digits ds = nat_le 1 (length ds) && list_all is_ascii_digit ds
 abbrev pub digits_value : List ℕ → ℕ
 digits_value ds = fold (λ n d. 10 * n + (d - 48)) 0 ds
 
--- one 10^-7 degree
+-- 10^-7 degree, in units
 abbrev pub unit7 : ℕ
 unit7 = 32768
 
@@ -23,7 +23,7 @@ unit7 = 32768
 abbrev pub whole : List ℕ → Option ℕ
 whole ds = if are_digits ds && nat_le (length ds) 3 then Some (digits_value ds * 10 ^ 7) else None
 
--- what follows them: nothing, or a point with 1 to 7 digits
+-- what follows them: nothing, or a decimal point with 1 to 7 digits
 abbrev pub fraction : List ℕ → Option ℕ
 fraction [] = Some 0
 fraction (c ∷ ds) =
@@ -32,7 +32,7 @@ fraction (c ∷ ds) =
 abbrev pub before_point : List ℕ → List ℕ
 before_point text = take_while (λ c. not (c == 46)) text
 
--- without a sign, in units
+-- degrees without a sign, in units
 abbrev pub unsigned_degrees : List ℕ → Option ℕ
 unsigned_degrees text =
     option_and_then (λ n. option_map (λ m. (n + m) * unit7) (fraction (drop (length (before_point text)) text)))

@@ -1,12 +1,12 @@
--- What changes of a map can concern (profile). M and N are the map before and after, or the other way round.
---     ChangedLine, changes_of M e      where a changed line begins and ends, and at most its length; those of an edit
---         of M
---     Tells C M N      the changed lines C tell every line of M that is another on N
---     Difference T X C M N      the maps differ round the nodes T and in the lines X alone, and C tells the changed
+-- What changes of a map can affect (profile). M and N are the maps before and after, or after and before.
+--     ChangedLine, changes_of M e      the ends of a changed line, and a length that is at most its own; the changed
+--         lines of an edit of M
+--     Tells C M N      C lists every line of M that is different on N
+--     Difference T X C M N      the maps differ only around the nodes T and in the lines X, and C lists the changed
 --         lines
---     Detour M C s t d      a walk from s to a changed line, and one from a changed line to t, within d decimetres
---         together
---     Near M T s d      a walk of at most d decimetres from s to one of the nodes T
+--     Detour M C s t d      a route from s to a changed line, this line, and a route from a changed line to t, of at
+--         most d decimetres together
+--     Near M T s d      a route of at most d decimetres from s to one of the nodes T
 use Rattle.std.specs.Prelude.{◌≡◌, ℕ, ◌+◌, ◌≤◌, min, List, [], ◌∷◌, ◌⊎◌, Contains, IsTrue, IsFalse}
 use Rattle.olr_spec.specs.Map.{Map, Edit, Add_line, Set_line, Drop_line, has_line, start, end, dm, SameLine, SameRound}
 use Rattle.olr_spec.specs.Map.{has}
@@ -17,15 +17,14 @@ pub record ChangedLine : Type 0 where
   pub to : ℕ
   pub len : ℕ
 
--- of a line that is set the lesser of its lengths before and after; where nodes are moved, added or dropped, all walks
--- stay
+-- for a line that is set, the lesser of its lengths before and after; an edit of a node changes no route
 abbrev pub changes_of : Map → Edit → List ChangedLine
 changes_of M (Add_line x l) = record { from = l.from; to = l.to; len = l.len } ∷ []
 changes_of M (Set_line x frc fow len shape) = record { from = start M x; to = end M x; len = min (dm M x) len } ∷ []
 changes_of M (Drop_line x) = record { from = start M x; to = end M x; len = dm M x } ∷ []
 changes_of M _ = []
 
--- line x of M is one of them
+-- C lists line x of M
 pub record IsChangedLine (C : List ChangedLine) (M : Map) (x : ℕ) : Type 0 where
   pub change : ChangedLine
   pub listed : Contains C change
@@ -33,7 +32,7 @@ pub record IsChangedLine (C : List ChangedLine) (M : Map) (x : ℕ) : Type 0 whe
   pub to : change.to ≡ end M x
   pub len : change.len ≤ dm M x
 
--- more of them than needed do no harm
+-- C may list other lines as well
 abbrev pub Tells : List ChangedLine → Map → Map → Type 0
 Tells C M N = (x : ℕ) → IsTrue (has_line M x) → SameLine M N x ⊎ IsChangedLine C M x
 
@@ -43,7 +42,7 @@ pub record Difference (T X : List ℕ) (C : List ChangedLine) (M N : Map) : Type
   pub there : Tells C M N
   pub here : Tells C N M
 
--- the two changed lines may be the same; the way from the one to the other counts nothing
+-- the two changed lines may be the same; the distance from the one to the other isn't counted
 pub record Detour (M : Map) (C : List ChangedLine) (s t d : ℕ) : Type 0 where
   pub first : ChangedLine
   pub last : ChangedLine

@@ -1,8 +1,8 @@
--- The answer of a path on a map, from nothing: no earlier map or answer is in it.
---     Answer, Refusal      a reference, or why there is none
---     path_fault M P      the first of the refusals that the path's own lines give
+-- The answer of a path on a map. It depends on no earlier map or answer.
+--     Answer, Refusal      a reference, or the reason why the path is not encodable
+--     path_fault M P      the first of the reasons that the path's own lines give
 --     Encodes M P A      A is the answer
---     IsPoint M P k v      node v is point k of its reference
+--     IsPoint M P k v      node v is LRP k of its reference
 use Rattle.std.specs.Prelude.{◌≡◌, ℕ, suc, ◌+◌, List, [], ◌∷◌, length, find, nat_le, ◌==◌, not, slice_get, Option, Some}
 use Rattle.std.specs.Prelude.{None, option_map, MatchOption, if◌then◌else◌}
 use Rattle.std.specs.Option.{option_or}
@@ -12,8 +12,8 @@ use Rattle.olr_spec.specs.Extension.{Path}
 use Rattle.olr_spec.specs.Points.{node_at, last_position, OfPath}
 use Rattle.olr_spec.specs.Reference.{Reference, legs, kept_points, reference}
 
--- a line that isn't on the map; the place of a line that the next doesn't join; offsets as long as the path; a position
--- that no point may follow. In this order (profile)
+-- the reasons, in this order (profile): a line isn't on the map; line k of the path doesn't end where the next starts;
+-- the offsets are at least as long as the path; no position may be the next LRP after position k
 pub data Refusal : Type 0 where
   Unknown_line : (line : ℕ) → Refusal
   Broken : (k : ℕ) → Refusal
@@ -28,35 +28,35 @@ pub data Answer : Type 0 where
 abbrev pub first_unknown : Map → List ℕ → Option ℕ
 first_unknown M ls = find (λ x. not (has_line M x)) ls
 
--- the first place, counted from k, where a line doesn't end where the next begins
+-- the index, counted from k, of the first line that doesn't end where the next starts
 abbrev pub first_break : Map → ℕ → List ℕ → Option ℕ
 first_break M k [] = None
 first_break M k (x ∷ []) = None
 first_break M k (x ∷ y ∷ ls) = if end M x == start M y then first_break M (suc k) (y ∷ ls) else Some k
 
--- the offsets together stay below the path's length (White Paper, data format rules)
+-- the sum of the offsets must be less than the path's length (White Paper, data format rules)
 abbrev pub path_fault : Map → Path → Option Refusal
 path_fault M P =
     option_or (option_map Unknown_line (first_unknown M P.lines))
     (option_or (option_map Broken (first_break M 0 P.lines))
     (if nat_le (dm_of M P.lines) (P.pos + P.neg) then Some Offset_too_long else None))
 
--- of an extended path E, by the points after position 0: a reference where they lead to the end
+-- for an extended path E, by the LRPs after position 0: a reference if the last of them is the end
 abbrev pub answer_by_points : Map → Path → List ℕ → Answer
 answer_by_points M E js =
     if last_position 0 js == length E.lines
     then Points (reference (legs M E.lines) E.pos E.neg js)
     else Refused (No_next_point (last_position 0 js))
 
--- A is what its extension gives by its points
+-- A is the answer of the extended path, by its LRPs
 abbrev pub Encoding : Map → Path → Answer → Type 0
 Encoding M P A = OfPath M P (λ E _ _ js. A ≡ answer_by_points M E js)
 
--- a refusal of the path's own, or else what its points give (White Paper, encoding steps)
+-- a reason that the path's own lines give, or else the answer by its LRPs (White Paper, encoding steps)
 abbrev pub Encodes : Map → Path → Answer → Type 0
 Encodes M P A = MatchOption (path_fault M P) (Encoding M P A) (λ r. A ≡ Refused r)
 
--- node v is point k of the path's reference, counted from 0
+-- node v is LRP k of the path's reference, counted from 0
 abbrev pub IsPoint : Map → Path → ℕ → ℕ → Type 0
 IsPoint M P k v =
     OfPath M P (λ E _ _ js. option_map (node_at M E.lines) (slice_get (kept_points (legs M E.lines) E.pos E.neg js) k)

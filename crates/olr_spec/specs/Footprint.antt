@@ -1,5 +1,5 @@
--- The nodes on which an answer rests (profile).
---     Sees M l v      a walk of at most the look's length leads from where it begins to node v
+-- The nodes on which an answer depends (profile).
+--     Sees M l v      a route of at most the coverage query's length leads from where it begins to node v
 --     Foot M P v      node v belongs to the footprint of the path
 use Rattle.std.specs.Prelude.{ℕ, ◌+◌, ◌<◌, List, ◌∷◌, length, MatchOption, IsTrue}
 use Rattle.olr_spec.specs.Map.{Map, has}
@@ -9,17 +9,18 @@ use Rattle.olr_spec.specs.Points.{OfPath}
 use Rattle.olr_spec.specs.Encoding.{path_fault}
 use Rattle.olr_spec.specs.Looks.{NodeOf, Look, IsLook}
 
--- only so far does the search for the look have to go: the standard's 15,000 m bounds how far a position may be, and
--- not what decides whether it is covered
+-- the search for a coverage query is settled no farther than its length: the standard's 15,000 m limit how far along
+-- the path a position may be, and do not decide whether it is covered
 abbrev pub Sees : Map → Look → ℕ → Type 0
 Sees M l v = Reaches M l.from l.within v
 
--- seen by the look of one of the points is, where two lines or more follow it: for later points nothing is searched
+-- reached by the coverage query of an LRP whose line is followed by two or more lines; for later LRPs nothing is
+-- searched
 abbrev pub Searched : Map → List ℕ → List ℕ → ℕ → Type 0
 Searched M ls is v =
     (i : ℕ) × IsTrue (has is i) × (i + 2 < length ls) × ((l : Look) × IsLook M ls i l × Sees M l v)
 
--- on the extended path, on one of the tried chains, or seen from a point
+-- on the extended path, on one of the tried runs, or reached by a coverage query
 pub data Touched (M : Map) (ls b a js : List ℕ) (v : ℕ) : Type 0 where
   On_path : NodeOf M ls v → Touched M ls b a js v
   On_start_chain : NodeOf M b v → Touched M ls b a js v
@@ -29,6 +30,6 @@ pub data Touched (M : Map) (ls b a js : List ℕ) (v : ℕ) : Type 0 where
 abbrev pub FootOf : Map → Path → ℕ → Type 0
 FootOf M P v = OfPath M P (λ E b a js. Touched M E.lines b a js v)
 
--- empty where the path's own lines are refused
+-- empty if the path's own lines give a reason
 abbrev pub Foot : Map → Path → ℕ → Type 0
 Foot M P v = MatchOption (path_fault M P) (FootOf M P v) (λ _. ⊥)

@@ -1,27 +1,28 @@
--- The routes between the kept points join to the extended path, so that a decoder who follows them comes along it
+-- The routes between the remaining LRPs join to the extended path, so a decoder that follows them follows the path
 -- (White Paper, encoding steps).
---     JoinsTo M ls p q, JoinsLast M ls p q      the stretch between two neighbouring points is a line, a route, and for
---         the last two a line
---     Joins M ls ks      so at each two neighbours of ks
+--     JoinsTo M ls p q, JoinsLast M ls p q      the leg between two neighbouring LRPs is a line and a unique shortest
+--         path; the last leg is one line, or a line, a unique shortest path and a line
+--     Joins M ls ks      this holds for each two neighbours of ks
 use Rattle.std.specs.Prelude.{◌≡◌, ℕ, ◌-◌, List, [], ◌∷◌, ◌++◌, slice_index, ◌⊎◌, ⊤}
 use Rattle.olr_spec.specs.Map.{Map, start, end}
 use Rattle.olr_spec.specs.Walks.{Route}
 use Rattle.olr_spec.specs.Points.{stretch}
 
--- the stretch from p to q is line p, and the route from its end to the start of line q
+-- the leg from p to q is line p, and the unique shortest path from its end to the start of line q
 abbrev pub JoinsTo : Map → List ℕ → ℕ → ℕ → Type 0
 JoinsTo M ls p q =
     (r : List ℕ) × (stretch ls p q ≡ slice_index ls p ∷ r)
     × Route M (end M (slice_index ls p)) (start M (slice_index ls q)) r
 
--- the last two: line p alone, or line p, the route from its end to the start of the last line, and that line
+-- the last leg: line p alone, or line p, the unique shortest path from its end to the start of the last line, and that
+-- line
 abbrev pub JoinsLast : Map → List ℕ → ℕ → ℕ → Type 0
 JoinsLast M ls p q =
     (stretch ls p q ≡ slice_index ls p ∷ [])
     ⊎ ((r : List ℕ) × (stretch ls p q ≡ slice_index ls p ∷ (r ++ slice_index ls (q - 1) ∷ []))
     × Route M (end M (slice_index ls p)) (start M (slice_index ls (q - 1))) r)
 
--- at each two neighbours of the kept points
+-- for each two neighbours of the remaining LRPs
 abbrev pub Joins : Map → List ℕ → List ℕ → Type 0
 Joins M ls [] = ⊤
 Joins M ls (p ∷ []) = ⊤

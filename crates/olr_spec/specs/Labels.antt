@@ -1,12 +1,12 @@
--- What shows of a search that its labels are those of the least walks within a limit (profile).
---     Settled M s limit dist trace      from s, each label is that of a walk, and no line improves one
+-- When the labels of a search describe the shortest paths within a limit (profile).
+--     Settled M s limit dist trace      in a search from s, each label describes a route, and no line improves a label
 use Rattle.std.specs.Prelude.{◌≡◌, ◌≢◌, ℕ, ◌+◌, ◌<◌, ◌≤◌, List, [], ◌∷◌, ◌++◌, Option, Some, IsTrue, ◌⊎◌}
 use Rattle.olr_spec.specs.Map.{Map, has_line, start, end, dm}
 use Rattle.olr_spec.specs.Walks.{Walk, dm_of}
 
--- dist is the distance at the labelled nodes, and trace the walk to each by the last lines: one of that length within
--- the limit. Each line out of a labelled node that stays within the limit ends at a labelled node, which it makes
--- neither nearer nor, at the same distance, smaller in its last line
+-- dist is the distance at each labelled node, and trace the route to it by the last lines, of this length and within
+-- the limit. Each line from a labelled node that stays within the limit ends at a labelled node, whose label it does
+-- not improve: the distance there is less, or it is equal and the last line has no greater number
 pub record Settled (M : Map) (s limit : ℕ) (dist : ℕ → Option ℕ) (trace : ℕ → List ℕ) : Type 0 where
   pub source : dist s ≡ Some 0
   pub at_source : trace s ≡ []

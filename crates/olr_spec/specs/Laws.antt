@@ -1,14 +1,17 @@
 -- The laws: what follows from the definitions, in the order of their files. Each is proved for all maps, paths,
 -- references and bytes.
---     maps       lines in and out of a node rise and are exactly these; an accepted edit keeps a map sound
---     walks      there is one least and one sole walk, and the front of one is one
---     answers    a path has exactly one answer; its reference fits its bits; the routes between its points join to the
+--     maps       the lists of lines in and out of a node are in ascending order and complete; an accepted edit keeps a
+--         map sound
+--     walks      there is at most one shortest path and one unique shortest path, and their prefixes are such paths too
+--     answers    a path has exactly one answer; its reference fits its bits; the routes between its LRPs join to the
 --         path
---     bytes      a direction has one sector, a reference one spelling, bytes one reference or one fault
---     locality   an answer rests on its footprint alone
---     changes    what edits change, and which walks they can concern
---     receivers      what every receiver recovers from a reference, and where the nearest node is the own one
---     looks      a path looks at its own nodes and what lies near; where no change concerns that, its answer is kept
+--     bytes      a direction has one sector, a reference encodes as one sequence of bytes, and bytes have one reference
+--         or one fault
+--     locality   an answer depends on its footprint alone
+--     changes    what edits change, and which routes they can affect
+--     receivers      what every receiver recovers from a reference, and where the nearest node is that of the LRP
+--     looks      a path has one list of coverage queries; if changes affect neither these nor its traversed nodes, its
+--         answer is retained
 use Rattle.std.specs.Prelude.{◌≡◌, ℕ, ◌+◌, ◌*◌, ◌<◌, ◌≤◌, ℤ, pos, List, [], ◌++◌, length, map, Option, Some, None, is_some, All}
 use Rattle.std.specs.Prelude.{Contains, Ok, ◌↔◌, ◌⊎◌, IsTrue, IsFalse}
 use Rattle.std.specs.List.{AllByRecursion, AllZip, concat}
@@ -35,22 +38,22 @@ use Rattle.olr_spec.specs.Looks.{OwnOf, IsLastTested, Look, look_to, LooksOf, Is
 
 -- ---- maps
 
--- the lines that enter and leave a node rise by number
+-- the lists of the lines that enter and leave a node are in ascending order
 abbrev pub LinesRise : Type 0
 LinesRise = (M : Map) (v : ℕ) → IsStrictlyIncreasing (lines_in M v) × IsStrictlyIncreasing (lines_out M v)
 
--- and are exactly these
+-- and hold exactly these lines
 abbrev pub LinesIn : Type 0
 LinesIn = (M : Map) (v x : ℕ) → IsTrue (has (lines_in M v) x) ↔ ((l : Line) × Enters M v x l)
 
 abbrev pub LinesOut : Type 0
 LinesOut = (M : Map) (v x : ℕ) → IsTrue (has (lines_out M v) x) ↔ ((l : Line) × Leaves M v x l)
 
--- an accepted edit keeps a map sound, if each place that it brings is in range
+-- an accepted edit keeps a map sound, if each coordinate that it adds is in range
 abbrev pub EditsKeep : Type 0
 EditsKeep = (M N : Map) (e : Edit) → IsMap M → HasPlace e → edited M e ≡ Ok N → IsMap N
 
--- one edit takes an accepted edit back
+-- one edit restores the map from before an accepted edit
 abbrev pub EditsUndo : Type 0
 EditsUndo = (M N : Map) (e : Edit) → IsMap M → edited M e ≡ Ok N → (f : Edit) × (edited N f ≡ Ok M)
 
@@ -58,53 +61,53 @@ EditsUndo = (M N : Map) (e : Edit) → IsMap M → edited M e ≡ Ok N → (f : 
 abbrev pub EmptyIsSound : Type 0
 EmptyIsSound = IsMap empty_map
 
--- ---- walks
+-- ---- routes
 
--- of two different, equally long walks neither is a suffix of the other
+-- of two different, equally long routes neither is a suffix of the other
 abbrev pub NoLongerSuffix : Type 0
 NoLongerSuffix =
     (M : Map) → IsMap M → (s t : ℕ) (front xs : List ℕ) → Walk M s t (front ++ xs) →
     dm_of M (front ++ xs) ≡ dm_of M xs → front ≡ []
 
--- at most one walk is the least
+-- at most one route is the shortest path
 abbrev pub OneLeast : Type 0
 OneLeast = (M : Map) → IsMap M → (s t : ℕ) (xs ys : List ℕ) → Least M s t xs → Least M s t ys → xs ≡ ys
 
--- the front of the least walk is the least walk to its end
+-- a prefix of the shortest path is the shortest path to its own end
 abbrev pub PrefixOfLeast : Type 0
 PrefixOfLeast =
     (M : Map) (s v t : ℕ) (xs ys : List ℕ) → Least M s t (xs ++ ys) → Walk M s v xs → Walk M v t ys → Least M s v xs
 
--- from a node to itself the least walk is the empty one
+-- from a node to itself the shortest path is the empty route
 abbrev pub EmptyIsLeast : Type 0
 EmptyIsLeast = (M : Map) (s : ℕ) → Least M s s []
 
--- a sole walk is the least one
+-- a unique shortest path is the shortest path
 abbrev pub SoleIsLeast : Type 0
 SoleIsLeast = (M : Map) (s t : ℕ) (xs : List ℕ) → Sole M s t xs → Least M s t xs
 
--- at most one walk is sole
+-- at most one route is the unique shortest path
 abbrev pub OneSole : Type 0
 OneSole = (M : Map) (s t : ℕ) (xs ys : List ℕ) → Sole M s t xs → Sole M s t ys → xs ≡ ys
 
--- the front of a sole walk is the sole walk to its end
+-- a prefix of the unique shortest path is the unique shortest path to its own end
 abbrev pub PrefixOfSole : Type 0
 PrefixOfSole =
     (M : Map) (s v t : ℕ) (xs ys : List ℕ) → Sole M s t (xs ++ ys) → Walk M s v xs → Walk M v t ys → Sole M s v xs
 
--- from a node to itself the empty walk is sole
+-- from a node to itself the empty route is the unique shortest path
 abbrev pub EmptyIsSole : Type 0
 EmptyIsSole = (M : Map) → IsMap M → (s : ℕ) → Sole M s s []
 
 -- ---- labels
 
--- labels that no line improves trace least walks
+-- labels that no line improves describe shortest paths
 abbrev pub SettledIsLeast : Type 0
 SettledIsLeast =
     (M : Map) → IsMap M → (s limit : ℕ) (dist : ℕ → Option ℕ) (trace : ℕ → List ℕ) → Settled M s limit dist trace
     → (v d : ℕ) → dist v ≡ Some d → Least M s v (trace v)
 
--- and stand at each node that a walk within the limit reaches
+-- and there is one at each node that a route within the limit reaches
 abbrev pub SettledReaches : Type 0
 SettledReaches =
     (M : Map) → IsMap M → (s limit : ℕ) (dist : ℕ → Option ℕ) (trace : ℕ → List ℕ) → Settled M s limit dist trace
@@ -112,23 +115,23 @@ SettledReaches =
 
 -- ---- answers
 
--- at most one chain is the longest at the start of a list of lines
+-- at most one run is the longest at the start of a list of lines
 abbrev pub OneStartChain : Type 0
 OneStartChain =
     (M : Map) → IsMap M → (ls c d : List ℕ) → IsTrue (has_line M (first ls)) → LongestStart M c ls →
     LongestStart M d ls → c ≡ d
 
--- and one at its end
+-- at most one run is the longest at its end
 abbrev pub OneEndChain : Type 0
 OneEndChain =
     (M : Map) → IsMap M → (ls c d : List ℕ) → IsTrue (has_line M (last ls)) → LongestEnd M ls c → LongestEnd M ls d →
     c ≡ d
 
--- a point has at most one next point
+-- an LRP has at most one next LRP
 abbrev pub OneNext : Type 0
 OneNext = (M : Map) (ls : List ℕ) (i j k : ℕ) → Next M ls i j → Next M ls i k → j ≡ k
 
--- so there is at most one list of points
+-- so there is at most one list of LRPs
 abbrev pub OnePoints : Type 0
 OnePoints = (M : Map) (ls : List ℕ) (i : ℕ) (js ks : List ℕ) → Follow M ls i js → Follow M ls i ks → js ≡ ks
 
@@ -141,15 +144,15 @@ OneAnswer =
 abbrev pub SomeAnswer : Type 0
 SomeAnswer = (M : Map) → IsMap M → (P : Path) → IsTrue (is_path P.lines) → (A : Answer) × Encodes M P A
 
--- the reference of an answer fits its bits, so that bytes spell it
+-- the reference of an answer fits its bits, so that it can be encoded as bytes
 abbrev pub AnswerFits : Type 0
 AnswerFits =
     (M : Map) → IsMap M → (P : Path) → IsTrue (is_path P.lines) → (r : Reference) → Encodes M P (Points r) →
     IsReference r
 
--- ---- points
+-- ---- LRPs
 
--- where the offsets leave some of the path, at least two points are kept
+-- if the offsets leave a part of the path, at least two LRPs remain
 abbrev pub TwoKept : Type 0
 TwoKept =
     (M : Map) (ls js : List ℕ) (positive negative : ℕ) → Follow M ls 0 js → last_position 0 js ≡ length ls →
@@ -162,13 +165,13 @@ RoutesJoin =
     (M : Map) (ls js : List ℕ) (positive negative : ℕ) → Follow M ls 0 js → last_position 0 js ≡ length ls
     → Joins M ls (kept_points (legs M ls) positive negative js)
 
--- each point of an answer is decoded near its place on the map
+-- each LRP of an answer is decoded near its coordinate on the map
 abbrev pub DecodedNear : Type 0
 DecodedNear =
     (M : Map) → IsMap M → (P : Path) → IsTrue (is_path P.lines) → (r : Reference) → Encodes M P (Points r)
     → (k v : ℕ) → IsPoint M P k v → (p : ℤ × ℤ) × (decoded r k ≡ Some p) × IsNear k p (place_at M v)
 
--- and nothing else is decoded
+-- and nothing but these LRPs is decoded
 abbrev pub DecodedPoints : Type 0
 DecodedPoints =
     (M : Map) → IsMap M → (P : Path) → IsTrue (is_path P.lines) → (r : Reference) → Encodes M P (Points r)
@@ -176,22 +179,22 @@ DecodedPoints =
 
 -- ---- receivers
 
--- where each point's own line is distinct, every receiver recovers the stretches between the points, and nothing else
+-- if the path's own line is distinct at each LRP, every receiver recovers the legs between the LRPs, and nothing else
 abbrev pub Recovered : Type 0
 Recovered =
     (R : Receiver) (M : Map) → IsMap M → (P : Path) → IsTrue (is_path P.lines) → (r : Reference)
     → Encodes M P (Points r) → Distinct R.far M P r → (ws : List (List ℕ)) → Recovers R M r ws ↔ IsStretches M P ws
 
--- which together are the lines from the first kept point to the last
+-- together the legs are the lines from the first remaining LRP to the last
 abbrev pub StretchesJoin : Type 0
 StretchesJoin = (M : Map) (P : Path) (ws : List (List ℕ)) → IsStretches M P ws → IsKeptPart M P (concat ws)
 
--- each measure is one of a receiver
+-- each measure is that of some receiver
 abbrev pub SomeReceiver : Type 0
 SomeReceiver = (far : Measure) → (R : Receiver) × (R.far ≡ far)
 
--- what an offset byte cuts off, read as any value of its interval, differs from what is left of the offset by less than
--- a 256th of the first stretch, or of the last
+-- the length that an offset byte cuts off, decoded as any value of its interval, differs from what remains of the
+-- offset by less than a 256th of the first leg, or of the last
 abbrev pub Offsets : Type 0
 Offsets =
     (M : Map) → IsMap M → (P : Path) → IsTrue (is_path P.lines) → (r : Reference) → Encodes M P (Points r)
@@ -199,14 +202,14 @@ Offsets =
     → ((c : ℕ) → IsCut q (first (map (dm_of M) ws)) r.pos c → IsClose q (first (map (dm_of M) ws)) front c)
     × ((c : ℕ) → IsCut q (last (map (dm_of M) ws)) r.neg c → IsClose q (last (map (dm_of M) ws)) back c)
 
--- and the length of each stretch lies in the interval of its distance to the next point
+-- and the length of each leg is in the interval of its distance to the next point
 abbrev pub Distances : Type 0
 Distances =
     (M : Map) → IsMap M → (P : Path) → IsTrue (is_path P.lines) → (r : Reference) → Encodes M P (Points r)
     → (ws : List (List ℕ)) → IsStretches M P ws → AllZip (λ a w. IsStep a (dm_of M w)) (attributes r) ws
 
--- where the other nodes with candidates are at least three times the bound of DecodedNear away from the own node of a
--- point, that node is the nearest
+-- if the other nodes with candidates are at least three times the bound of DecodedNear away from the node of an LRP,
+-- that node is the nearest
 abbrev pub Nearest : Type 0
 Nearest =
     (M : Map) → IsMap M → (P : Path) → IsTrue (is_path P.lines) → (r : Reference) → Encodes M P (Points r)
@@ -225,41 +228,41 @@ SomeWeighted =
 
 -- ---- sectors and bytes
 
--- a direction lies in at most one sector
+-- a direction is in at most one sector
 abbrev pub OneSector : Type 0
 OneSector = (east north : ℤ) (j k : ℕ) → IsSector east north j → IsSector east north k → j ≡ k
 
--- each but (0, 0) lies in the one that is computed
+-- each direction but (0, 0) is in the sector that is computed
 abbrev pub SomeSector : Type 0
 SomeSector = (east north : ℤ) → ¬ ((east ≡ pos 0) × (north ≡ pos 0)) → IsSector east north (sector east north)
 
--- a reference has at most one spelling, and one where its fields fit their bits
+-- a reference encodes as at most one sequence of bytes, and as one if its fields fit their bits
 abbrev pub OneSpelling : Type 0
 OneSpelling = (r : Reference) (b c : List ℕ) → Spells r b → Spells r c → b ≡ c
 
--- no bytes spell two references
+-- no bytes decode to two references
 abbrev pub OneSpelled : Type 0
 OneSpelled = (r s : Reference) (b : List ℕ) → Spells r b → Spells s b → r ≡ s
 
--- and bytes have no fault exactly where they spell one
+-- and bytes have no fault exactly if some reference encodes as them
 abbrev pub NoFault : Type 0
 NoFault = (b : List ℕ) → All (λ byte. byte < 256) b → (v3_fault b ≡ None) ↔ ((r : Reference) × Spells r b)
 
 -- ---- locality
 
--- a map that agrees on the footprint and on the path's own lines gives the same answer
+-- on a map that agrees on the footprint and on the path's own lines the answer is the same
 abbrev pub LocalAnswer : Type 0
 LocalAnswer =
     (M N : Map) → IsMap M → IsMap N → (P : Path) → IsTrue (is_path P.lines) → Agree M N P.lines (Foot M P) →
     (A : Answer) → Encodes M P A → Encodes N P A
 
--- and the same footprint
+-- and the footprint is the same
 abbrev pub LocalFoot : Type 0
 LocalFoot =
     (M N : Map) → IsMap M → IsMap N → (P : Path) → IsTrue (is_path P.lines) → Agree M N P.lines (Foot M P) → (v : ℕ) →
     Foot M P v ↔ Foot N P v
 
--- an edit that touches no node of the footprint and no line of the path leaves an agreeing map
+-- after an edit that touches no node of the footprint and no line of the path, the maps agree
 abbrev pub EditsAreLocal : Type 0
 EditsAreLocal =
     (M N : Map) (e : Edit) (P : Path) → edited M e ≡ Ok N
@@ -274,23 +277,23 @@ abbrev pub EditsDiffer : Type 0
 EditsDiffer =
     (M N : Map) (e : Edit) → edited M e ≡ Ok N → Difference (touched_nodes M e) (touched_lines e) (changes_of M e) M N
 
--- there is none between a map and itself
+-- there is no difference between a map and itself
 abbrev pub NoDifference : Type 0
 NoDifference = (M : Map) → Difference [] [] [] M M
 
--- and of two changes, one after the other, each adds its own
+-- and the differences of two consecutive changes add up
 abbrev pub DifferencesAdd : Type 0
 DifferencesAdd =
     (L M N : Map) (T U X Y : List ℕ) (C D : List ChangedLine) → Difference T X C L M → Difference U Y D M N →
     Difference (T ++ U) (X ++ Y) (C ++ D) L N
 
--- where no detour is as short, walks are the same on both maps; the detour is asked on one of them alone
+-- if one of two maps has no detour within a length, the routes within this length are the same on both
 abbrev pub WalksStay : Type 0
 WalksStay =
     (M N : Map) (C : List ChangedLine) (s t d : ℕ) → Tells C M N → Tells C N M → ¬ Detour N C s t d
     → (xs : List ℕ) → ((Walk M s t xs × (dm_of M xs ≤ d)) ↔ (Walk N s t xs × (dm_of N xs ≤ d)))
 
--- so a walk of unchanged lines is the sole one on both or on neither
+-- so a route of the same length on both maps is the unique shortest path on both or on neither
 abbrev pub SolesStay : Type 0
 SolesStay =
     (M N : Map) (C : List ChangedLine) (s t d : ℕ) → Tells C M N → Tells C N M → ¬ Detour N C s t d
@@ -302,16 +305,16 @@ NearStays =
     (M N : Map) (T : List ℕ) → ((v : ℕ) → IsFalse (has T v) → SameRound M N v)
     → (s d : ℕ) → Near M T s d ↔ Near N T s d
 
--- ---- looks
+-- ---- coverage queries
 
--- from each point that two lines follow there is one last position that is tested
+-- from each position with two or more lines after it there is exactly one last position that is tested
 abbrev pub OneLastTested : Type 0
 OneLastTested = (M : Map) (ls : List ℕ) (i j k : ℕ) → IsLastTested M ls i j → IsLastTested M ls i k → j ≡ k
 
 abbrev pub SomeLastTested : Type 0
 SomeLastTested = (M : Map) → IsMap M → (ls : List ℕ) (i : ℕ) → i + 1 < length ls → (k : ℕ) × IsLastTested M ls i k
 
--- so a path has exactly one list of looks
+-- so a path has exactly one list of coverage queries
 abbrev pub OneLooks : Type 0
 OneLooks =
     (M : Map) → IsMap M → (P : Path) → IsTrue (is_path P.lines) → (ks ls : List Look) → LooksOf M P ks →
@@ -320,13 +323,14 @@ OneLooks =
 abbrev pub SomeLooks : Type 0
 SomeLooks = (M : Map) → IsMap M → (P : Path) → IsTrue (is_path P.lines) → (looks : List Look) × LooksOf M P looks
 
--- the footprint is the own nodes, and what the looks see
+-- the footprint is the traversed nodes, and the nodes that the coverage queries reach
 abbrev pub FootIsLooked : Type 0
 FootIsLooked =
     (M : Map) → IsMap M → (P : Path) → IsTrue (is_path P.lines) → (looks : List Look) → LooksOf M P looks
     → (v : ℕ) → Foot M P v ↔ (OwnOf M P v ⊎ ((l : Look) × Contains looks l × Sees M l v))
 
--- so a footprint holds a touched node exactly where an own node is touched, or a look sees one, on the changed map
+-- so a footprint has a touched node exactly if a traversed node is touched, or a coverage query reaches a touched node
+-- on the changed map
 abbrev pub FootConcerned : Type 0
 FootConcerned =
     (M N : Map) → IsMap M → (T : List ℕ) → ((v : ℕ) → IsFalse (has T v) → SameRound M N v)
@@ -334,8 +338,8 @@ FootConcerned =
     → ((v : ℕ) × IsTrue (has T v) × Foot M P v) ↔
     (((v : ℕ) × IsTrue (has T v) × OwnOf M P v) ⊎ ((l : Look) × Contains looks l × Near N T l.from l.within))
 
--- where the look from line i is clear, it is the same on both maps, and the positions that are near enough are covered
--- on both alike
+-- if the coverage query from line i is clear, it is the same on both maps, and of the positions that are near enough
+-- the same are covered on both
 abbrev pub LooksStay : Type 0
 LooksStay =
     (M N : Map) (C : List ChangedLine) → Tells C M N → Tells C N M
@@ -344,8 +348,8 @@ LooksStay =
     → IsLastTested N ls i k × (look_to M ls i k ≡ look_to N ls i k)
     × ((j : ℕ) → i < j → j ≤ length ls → dm_of M (stretch ls i j) ≤ limit → Covered M ls i j ↔ Covered N ls i j)
 
--- a path none of whose own nodes is touched, none of whose lines is another, and each of whose looks is clear, has the
--- same answer, own nodes and looks on both maps
+-- if no traversed node of a path is touched, none of its lines is different, and each of its coverage queries is clear,
+-- then its answer, traversed nodes and coverage queries are the same on both maps
 abbrev pub AnswersKept : Type 0
 AnswersKept =
     (M N : Map) → IsMap M → IsMap N → (C : List ChangedLine) → Tells C M N → Tells C N M
@@ -354,7 +358,7 @@ AnswersKept =
     → (looks : List Look) → LooksOf M P looks → All (IsClear N C) looks
     → ((A : Answer) → Encodes M P A → Encodes N P A) × ((v : ℕ) → OwnOf M P v ↔ OwnOf N P v) × LooksOf N P looks
 
--- the same, told by what the edits touch and change
+-- the same conclusion from what the edits touch and change
 abbrev pub UntouchedKept : Type 0
 UntouchedKept =
     (M N : Map) → IsMap M → IsMap N → (T X : List ℕ) (C : List ChangedLine) → Difference T X C M N

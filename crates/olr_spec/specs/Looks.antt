@@ -1,15 +1,16 @@
--- What an encoding of a path looks at (profile).
+-- The traversed nodes and the coverage queries of an encoding (profile).
 --     NodeOf M ls v      v is an end of one of the lines
---     Own M ls b a v      v lies on the extended path ls, or on one of the tried chains b and a.
---     OwnOf M P v      v is one of the own nodes of the path
---     Needed M ls i m      a position that is near enough to follow i as a point asks whether position m is covered
---     IsLastTested M ls i k      k is the last position that is tested: one after another from i + 1 on, while covered
---         and needed
---     Look, look_to M ls i k      a search for that: where it begins, the node of position k, and how far along the
---         path this is
+--     Own M ls b a v      v is on the extended path ls, or on one of the tried runs b and a
+--     OwnOf M P v      v is one of the traversed nodes of the path
+--     Needed M ls i m      whether a position that is near enough may be the next LRP after i depends on whether
+--         position m is covered
+--     IsLastTested M ls i k      k is the last position that is tested: positions are tested in order from i + 1 on, as
+--         long as they are covered and needed
+--     Look, look_to M ls i k      a coverage query: where it begins, the node of position k, and the distance along the
+--         path between
 --     IsClear M C l      no detour over the changed lines C is as short
---     LooksFrom M ls is looks, LooksOf M P looks      one for each of the points is, in their order; the looks of the
---         path
+--     LooksFrom M ls is looks, LooksOf M P looks      one coverage query for each LRP of the list is, in order; the
+--         coverage queries of the path
 use Rattle.std.specs.Prelude.{◌≡◌, ℕ, ◌+◌, ◌-◌, ◌<◌, ◌≤◌, min, List, [], ◌∷◌, length, filter, nat_lt, slice_index}
 use Rattle.std.specs.Prelude.{MatchOption, ◌⊎◌, IsTrue}
 use Rattle.std.specs.List.{AllZip}
@@ -20,7 +21,7 @@ use Rattle.olr_spec.specs.Points.{stretch, Covered, OfPath}
 use Rattle.olr_spec.specs.Encoding.{path_fault}
 use Rattle.olr_spec.specs.Detours.{ChangedLine, Detour}
 
--- ---- own nodes
+-- ---- traversed nodes
 
 abbrev pub NodeOf : Map → List ℕ → ℕ → Type 0
 NodeOf M ls v = (x : ℕ) × IsTrue (has ls x) × ((start M x ≡ v) ⊎ (end M x ≡ v))
@@ -34,17 +35,17 @@ pub record OwnOfExtended (M : Map) (P : Path) (v : ℕ) : Type 0 where
   pub tried : Tried M P before after
   pub own : Own M (extended_path M P before after).lines before after v
 
--- none where the path's own lines are refused
+-- none if the path's own lines give a reason
 abbrev pub OwnOf : Map → Path → ℕ → Type 0
 OwnOf M P v = MatchOption (path_fault M P) (OwnOfExtended M P v) (λ _. ⊥)
 
 -- ---- what is tested
 
--- position j is at most 15,000 m from i, and m lies before it or is it; of the end the last line is tested
+-- position j is at most 15,000 m from i, and m is before j or is j; if j is the end, the last line is tested
 abbrev pub Needed : Map → List ℕ → ℕ → ℕ → Type 0
 Needed M ls i m = (j : ℕ) × (j ≤ length ls) × (dm_of M (stretch ls i j) ≤ limit) × (m ≤ min j (length ls - 1))
 
--- position i + 1 is where the search begins. It is the last where no position behind it is needed, as when line i is
+-- position i + 1 is where the search begins. It is the last one if no position after it is needed, as when line i is
 -- longer than the limit
 pub record IsLastTested (M : Map) (ls : List ℕ) (i k : ℕ) : Type 0 where
   pub after : i < k
@@ -53,7 +54,7 @@ pub record IsLastTested (M : Map) (ls : List ℕ) (i k : ℕ) : Type 0 where
   pub needed : (k ≡ i + 1) ⊎ Needed M ls i k
   pub last : ¬ Covered M ls i k ⊎ ((m : ℕ) → Needed M ls i m → m ≤ k)
 
--- ---- looks
+-- ---- coverage queries
 
 -- two nodes, and a length in decimetres
 pub record Look : Type 0 where
@@ -61,8 +62,8 @@ pub record Look : Type 0 where
   pub to : ℕ
   pub within : ℕ
 
--- from the end of line i to the start of line k, as far as along the lines between. Where position k isn't covered,
--- within is still the length along the path, and not that of a shorter walk
+-- from the end of line i to the start of line k, with the length of the lines between. If position k isn't covered,
+-- this is still the length along the path, and not that of a shorter route
 abbrev pub look_to : Map → List ℕ → ℕ → ℕ → Look
 look_to M ls i k =
     record { from = end M (slice_index ls i); to = start M (slice_index ls k); within = dm_of M (stretch ls (i + 1) k) }
@@ -70,18 +71,18 @@ look_to M ls i k =
 abbrev pub IsLook : Map → List ℕ → ℕ → Look → Type 0
 IsLook M ls i l = (k : ℕ) × IsLastTested M ls i k × (l ≡ look_to M ls i k)
 
--- the points that two lines or more follow: for later ones nothing is searched
+-- the LRPs whose line is followed by two or more lines: for later ones nothing is searched
 abbrev pub looking : List ℕ → List ℕ → List ℕ
 looking ls is = filter (λ i. nat_lt (i + 2) (length ls)) is
 
--- the look of each point, in their order
+-- the coverage query of each LRP, in order
 abbrev pub LooksFrom : Map → List ℕ → List ℕ → List Look → Type 0
 LooksFrom M ls is looks = AllZip (IsLook M ls) is looks
 
 abbrev pub LooksOfExtended : Map → Path → List Look → Type 0
 LooksOfExtended M P looks = OfPath M P (λ E _ _ js. LooksFrom M E.lines (looking E.lines (0 ∷ js)) looks)
 
--- none where the path's own lines are refused
+-- none if the path's own lines give a reason
 abbrev pub LooksOf : Map → Path → List Look → Type 0
 LooksOf M P looks = MatchOption (path_fault M P) (LooksOfExtended M P looks) (λ _. looks ≡ [])
 

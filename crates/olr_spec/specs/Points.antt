@@ -1,10 +1,10 @@
--- The location reference points of an extended path, by position: position i below n is the start of line i, and
+-- The location reference points (LRPs) of an extended path, by position: position i below n is the start of line i, and
 -- position n the end of the last line (White Paper, encoding steps, intermediate points).
---     node_at M ls i, stretch ls i j      the node at position i;  the lines from position i to position j
---     Covered M ls i j      the route from line i to the last line of the stretch is the path's own
---     Candidate M ls i j, Next M ls i j      j may follow i as a point;  j follows i
---     Follow M ls i js      js are the points after i, up to the one that has no next
---     OfPath M P Q      Q of the extended path, its tried chains and its points
+--     node_at M ls i, stretch ls i j      the node at position i; the lines from position i to position j
+--     Covered M ls i j      position j is covered: the path reaches it from line i by the unique shortest path
+--     Candidate M ls i j, Next M ls i j      j may be the next LRP after i; j is the next LRP after i
+--     Follow M ls i js      js are the LRPs after i, up to the one that has no next
+--     OfPath M P Q      Q holds of the extended path, its tried runs and its LRPs
 use Rattle.std.specs.Prelude.{◌≡◌, ℕ, ◌+◌, ◌-◌, ◌<◌, ◌≤◌, min, Bool, ◌&&◌, List, [], ◌∷◌, length, nat_lt, slice_index}
 use Rattle.std.specs.Prelude.{slice_range, if◌then◌else◌, IsTrue, IsFalse}
 use Rattle.olr_spec.specs.Coordinates.{Coord, relative, fits16}
@@ -20,9 +20,9 @@ node_at M ls i = if nat_lt i (length ls) then start M (slice_index ls i) else en
 abbrev pub stretch {ℓ} : {A : Type ℓ} → List A → ℕ → ℕ → List A
 stretch ls i j = slice_range ls i j
 
--- from the end of line i to the start of line m, where m is j, or the last line where j is the end: the lines between
--- are the route. Nothing is asked from the last line to the end (White Paper, encoding steps, coverage by shortest
--- paths)
+-- from the end of line i to the start of line m, where m is j, or the last line if j is the end: the lines between are
+-- the unique shortest path. Nothing is required from the last line to the end (White Paper, encoding steps, coverage by
+-- shortest paths)
 abbrev pub Covered : Map → List ℕ → ℕ → ℕ → Type 0
 Covered M ls i j =
     let m = min j (length ls - 1) in
@@ -32,7 +32,7 @@ Covered M ls i j =
 abbrev pub fit16 : Coord → Coord → Bool
 fit16 p q = fits16 (relative p.lon q.lon) && fits16 (relative p.lat q.lat)
 
--- at most 15,000 m on (White Paper, data format rules)
+-- at most 15,000 m after i (White Paper, data format rules)
 pub record Candidate (M : Map) (ls : List ℕ) (i j : ℕ) : Type 0 where
   pub after : i < j
   pub upto : j ≤ length ls
@@ -44,23 +44,24 @@ pub record Candidate (M : Map) (ls : List ℕ) (i j : ℕ) : Type 0 where
 abbrev pub ValidCandidate : Map → List ℕ → ℕ → ℕ → Type 0
 ValidCandidate M ls i j = Candidate M ls i j × IsFalse (passing M (node_at M ls j))
 
--- j is the greatest number with P
+-- j is the greatest number for which P holds
 pub record Greatest (P : ℕ → Type 0) (j : ℕ) : Type 0 where
   pub holds : P j
   pub others : (k : ℕ) → P k → k ≤ j
 
--- the end where it is a candidate, else the greatest candidate at a valid node, else the greatest candidate (profile)
+-- the end if it is a candidate, else the greatest candidate at a valid node, else the greatest candidate (profile)
 pub data Next (M : Map) (ls : List ℕ) (i j : ℕ) : Type 0 where
   To_end : j ≡ length ls → Candidate M ls i (length ls) → Next M ls i j
   To_valid : ¬ Candidate M ls i (length ls) → Greatest (ValidCandidate M ls i) j → Next M ls i j
   To_passing : ¬ Candidate M ls i (length ls) → ((k : ℕ) → ¬ ValidCandidate M ls i k) → Greatest (Candidate M ls i) j →
       Next M ls i j
 
--- nothing may follow i
+-- no position may be the next LRP after i
 abbrev pub NoNext : Map → List ℕ → ℕ → Type 0
 NoNext M ls i = (j : ℕ) → ¬ Candidate M ls i j
 
--- js are the next of i, the next of that, and so on, up to a position without a next. The end, position n, is one
+-- js are the next LRP after i, the next after that, and so on, up to a position without a next; the end, position n,
+-- has none
 abbrev pub Follow : Map → List ℕ → ℕ → List ℕ → Type 0
 Follow M ls i [] = NoNext M ls i
 Follow M ls i (j ∷ js) = Next M ls i j × Follow M ls j js
@@ -70,8 +71,8 @@ abbrev pub last_position : ℕ → List ℕ → ℕ
 last_position i [] = i
 last_position i (j ∷ js) = last_position j js
 
--- Q of the extended path, of both tried chains, and of the points after position 0. Of a path without a fault of its
--- own there is exactly one of each
+-- Q holds of the extended path, of both tried runs, and of the LRPs after position 0. For a path without a fault of its
+-- own each of these is unique
 pub record OfPath (M : Map) (P : Path) (Q : Path → List ℕ → List ℕ → List ℕ → Type 0) : Type 0 where
   pub before : List ℕ
   pub after : List ℕ

@@ -1,13 +1,13 @@
 -- What a receiver recovers from a reference on a map (White Paper, decoding steps).
---     Side      at every location reference point but the last a candidate leaves its node, at the last it enters it.
+--     Side      the candidates of an LRP are lines that leave their node, at the last LRP lines that enter it
 --     node_on s g, coordinate_on s g, sector_on s g      the node of a candidate, its coordinate, and its bearing there
---     Lrp, lrp_at r k a, last_lrp r      a location reference point as it is decoded
+--     Lrp, lrp_at r k a, last_lrp r      an LRP as it is decoded
 --     Receiver      a measure, three differences and a monotone preference
---     Takes R M t x      line x may be taken for the location reference point t
---     Recovers R M r ws      ws are lines that may be recovered between each two neighbouring points
+--     Takes R M t x      the receiver may choose line x for the LRP t
+--     Recovers R M r ws      ws are the lines, leg by leg, that the receiver may recover
 --     candidates M      the lines of a map with the coordinates of their ends
---     is_nearest far s p g cs, has_no_twin s x g cs      a candidate is the nearest to p, and the one of its kind at its
---         node
+--     is_nearest far s p g cs, has_no_twin s x g cs      the node of a candidate is the nearest to p; no other
+--         candidate is a twin of it
 use Rattle.std.specs.Prelude.{◌≡◌, ◌≢◌, ℕ, suc, ◌+◌, ◌<◌, ◌≤◌, ℤ, pos, Bool, true, not, ◌&&◌, ◌||◌, List, [], ◌∷◌}
 use Rattle.std.specs.Prelude.{◌++◌, map, length, nat_lt, ◌==◌, unwrap_or, ◌⊎◌, IsTrue, IsFalse}
 use Rattle.std.specs.List.{list_all, AllByRecursion}
@@ -41,7 +41,7 @@ candidates M = map (λ x. (x, leg M x)) (lines_where M (λ _. true))
 
 -- ---- location reference points
 
--- the decoded coordinate, and class, form and bearing of the line
+-- the decoded coordinate, and FRC, FOW and bearing of the line
 pub record Lrp : Type 0 where
   pub side : Side
   pub place : ℤ × ℤ
@@ -49,11 +49,11 @@ pub record Lrp : Type 0 where
   pub fow : ℕ
   pub bearing : ℕ
 
--- of point k, which a reference has
+-- the decoded coordinate of LRP k, if the reference has it; otherwise (0, 0)
 abbrev pub decoded_place : Reference → ℕ → ℤ × ℤ
 decoded_place r k = unwrap_or (decoded r k) (pos 0, pos 0)
 
--- point k with its attributes
+-- LRP k with its attributes
 abbrev pub lrp_at : Reference → ℕ → Attrs → Lrp
 lrp_at r k a =
     record { side = Outgoing; place = decoded_place r k; frc = a.frc; fow = a.fow; bearing = a.bearing }
@@ -71,13 +71,13 @@ last_lrp r =
       bearing = r.last.bearing;
     }
 
--- the attributes of the points but the last
+-- the attributes of the LRPs but the last
 abbrev pub attributes : Reference → List Attrs
 attributes r = r.first.attrs ∷ map (λ m. m.attrs) r.middle
 
 -- ---- receivers
 
--- how far a candidate is from a location reference point
+-- how far a candidate is from an LRP, by coordinate, FRC, FOW and bearing
 pub record Rating : Type 0 where
   pub far : ℕ
   pub frc : ℕ
@@ -93,17 +93,17 @@ pub record NowhereWorse (a b : Rating) : Type 0 where
 abbrev pub SomewhereBetter : Rating → Rating → Type 0
 SomewhereBetter a b = (a.far < b.far) ⊎ ((a.frc < b.frc) ⊎ ((a.fow < b.fow) ⊎ (a.bearing < b.bearing)))
 
--- how far a node's coordinate is from a decoded one. On a finite map the values of any measure can be counted
+-- how far a node's coordinate is from a decoded one. On a finite map the values of any measure can be numbered in order
 abbrev pub Measure : Type 0
 Measure = ℤ × ℤ → Coord → ℕ
 
--- 0 exactly of two equal values
+-- 0 exactly for equal values
 pub record IsDifference (apart : ℕ → ℕ → ℕ) : Type 0 where
   pub same : (a : ℕ) → apart a a ≡ 0
   pub other : (a b : ℕ) → apart a b ≡ 0 → a ≡ b
 
--- any measure, any differences of class, form of way and bearing, and any preference by which a candidate that is
--- nowhere worse and somewhere better is preferred
+-- any measure, any differences of FRC, FOW and bearing, and any preference by which a candidate that is nowhere worse
+-- and somewhere better is preferred
 pub record Receiver : Type 0 where
   pub far : Measure
   pub frc_apart : ℕ → ℕ → ℕ
@@ -136,23 +136,24 @@ pub record Takes (R : Receiver) (M : Map) (t : Lrp) (x : ℕ) : Type 0 where
 abbrev pub Within : Map → ℕ → List ℕ → Type 0
 Within M c xs = AllByRecursion (λ x. (line_at M x).frc ≤ c) xs
 
--- a walk over such lines, and no other is shorter
+-- a route over such lines, and no other is shorter
 pub record Shortest (M : Map) (c s t : ℕ) (xs : List ℕ) : Type 0 where
   pub walk : Walk M s t xs
   pub within : Within M c xs
   pub first : (ys : List ℕ) → Walk M s t ys → Within M c ys → dm_of M xs ≤ dm_of M ys
 
--- from line x up to line y: x, and a shortest route from its end to the start of y. Both points' lines leave
+-- from line x up to line y, both of which leave their LRP: x, and a shortest route from its end to the start of y
 abbrev pub RecoversTo : Map → ℕ → ℕ → ℕ → List ℕ → Type 0
 RecoversTo M c x y w = (xs : List ℕ) × (w ≡ x ∷ xs) × Shortest M c (end M x) (start M y) xs
 
--- from line x to line y, which enters the last point: y is x, or y ends what is recovered and its class is within c too
+-- from line x to line y, which enters the last LRP: x alone if y is x; otherwise x, a shortest route and y, whose class
+-- number is at most c too
 pub data RecoversLast (M : Map) (c x y : ℕ) (w : List ℕ) : Type 0 where
   One_line : x ≡ y → w ≡ x ∷ [] → RecoversLast M c x y w
   More_lines : (xs : List ℕ) → x ≢ y → w ≡ x ∷ (xs ++ y ∷ []) → Shortest M c (end M x) (start M y) xs →
       (line_at M y).frc ≤ c → RecoversLast M c x y w
 
--- from point k on, for which line x is taken; the attributes are those of point k and of the points after it
+-- from LRP k on, for which line x is chosen; the attributes are those of LRP k and of the LRPs after it but the last
 abbrev pub RecoversFrom : Receiver → Map → Reference → ℕ → ℕ → List Attrs → List (List ℕ) → Type 0
 RecoversFrom R M r k x [] ws = ⊥
 RecoversFrom R M r k x (a ∷ []) ws =
@@ -161,19 +162,19 @@ RecoversFrom R M r k x (a ∷ b ∷ later) ws =
     (y : ℕ) × (w : List ℕ) × (rest : List (List ℕ)) × Takes R M (lrp_at r (suc k) b) y × RecoversTo M a.lfrc x y w
     × (ws ≡ w ∷ rest) × RecoversFrom R M r (suc k) y (b ∷ later) rest
 
--- a line is taken for each point, and neighbouring lines are joined by shortest routes over lines within LFRCNP
+-- a line is chosen for each LRP, and neighbouring lines are joined by shortest routes over lines within the LFRCNP
 abbrev pub Recovers : Receiver → Map → Reference → List (List ℕ) → Type 0
 Recovers R M r ws =
     (x : ℕ) × Takes R M (lrp_at r 0 r.first.attrs) x × RecoversFrom R M r 0 x (attributes r) ws
 
--- ---- where the own candidate stands out
+-- ---- where the path's own candidate is distinct
 
--- the node of each other candidate is farther from p, or is the same
+-- the node of each other candidate is farther from p, or is the same node
 abbrev pub is_nearest : Measure → Side → ℤ × ℤ → Leg → List (ℕ × Leg) → Bool
 is_nearest far s p g cs =
     list_all (λ c. node_on s c.1 == node_on s g || nat_lt (far p (coordinate_on s g)) (far p (coordinate_on s c.1))) cs
 
--- the same node, class, form and bearing
+-- the same node, FRC, FOW and bearing
 abbrev pub are_twins : Side → Leg → Leg → Bool
 are_twins s g h =
     node_on s g == node_on s h && g.line.frc == h.line.frc && g.line.fow == h.line.fow && sector_on s g == sector_on s h

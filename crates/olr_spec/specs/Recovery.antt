@@ -1,14 +1,16 @@
--- What a receiver is meant to recover of a path, and when it can.
---     IsLineAt M P s k x      line x of the extended path leaves point k of its reference, or enters it
---     Distinct far M P r      each point's own line is the nearest candidate by the measure far, and has no twin
---     stretches ls ks, IsStretches M P ws      the lines between each two neighbouring points
---     IsKeptPart M P ls      the lines from the first kept point to the last
---     IsLeft M P front back      what is left of the two offsets at these points, in decimetres
---     IsCut q s o c, IsClose q s a c      c is a value of an offset byte's interval over the length s;  c and a differ by
---         less than a 256th of it. c is in q-ths of a decimetre
---     IsStep a len      a length lies in the interval of a distance to the next point
+-- What a receiver should recover of a path, and when it can.
+--     IsLineAt M P s k x      line x of the extended path leaves LRP k of its reference, or enters it
+--     Distinct far M P r      the path's own line at each LRP is the nearest candidate by the measure far, and has no
+--         twin
+--     stretches ls ks, IsStretches M P ws      the legs: the lines between each two neighbouring LRPs
+--     IsKeptPart M P ls      the lines from the first remaining LRP to the last
+--     IsLeft M P front back      what remains of the two offsets at these LRPs, in decimetres
+--     IsCut q s o c, IsClose q s a c      c is a value in the interval of an offset byte over the length s; c and a
+--         differ by less than a 256th of it. c is in q-ths of a decimetre
+--     IsStep a len      a length is in the interval of a distance to the next point
 --     IsWeighted n d scale far      a measure between the axes' maximum and their sum, with cosines of at least n / d
---     are_spaced n d k s g cs      the other nodes are far enough from a candidate's to be distinct at point k
+--     are_spaced n d k s g cs      the other nodes are far enough from a candidate's node, so that it is the nearest at
+--         LRP k
 use Rattle.std.specs.Prelude.{◌≡◌, ℕ, ◌+◌, ◌-◌, ◌*◌, ◌<◌, ◌≤◌, ℤ, ◌-ℤ◌, nat_abs, Bool, ◌||◌, ◌==◌, nat_le, List, []}
 use Rattle.std.specs.Prelude.{◌∷◌, slice_index, slice_get, Option, Some, None, option_map, IsTrue}
 use Rattle.std.specs.List.{list_all}
@@ -23,7 +25,7 @@ use Rattle.olr_spec.specs.Decoded.{decoded_bound}
 use Rattle.olr_spec.specs.Receiver.{Side, Outgoing, Incoming, node_on, coordinate_on, Measure, candidates, decoded_place}
 use Rattle.olr_spec.specs.Receiver.{last_place, is_nearest, has_no_twin}
 
--- the line that leaves position i, or that enters it
+-- the line that leaves position i, or the line that enters it
 abbrev pub line_by : Side → List ℕ → ℕ → ℕ
 line_by Outgoing ls i = slice_index ls i
 line_by Incoming ls i = slice_index ls (i - 1)
@@ -33,12 +35,12 @@ IsLineAt M P s k x =
     OfPath M P (λ E _ _ js. option_map (line_by s E.lines)
     (slice_get (kept_points (legs M E.lines) E.pos E.neg js) k) ≡ Some x)
 
--- at point k, which is decoded as p
+-- at LRP k, which is decoded as p
 pub record DistinctAt (far : Measure) (M : Map) (P : Path) (s : Side) (k : ℕ) (p : ℤ × ℤ) : Type 0 where
   pub nearest : (x : ℕ) → IsLineAt M P s k x → IsTrue (is_nearest far s p (leg M x) (candidates M))
   pub alone : (x : ℕ) → IsLineAt M P s k x → IsTrue (has_no_twin s x (leg M x) (candidates M))
 
--- at each point of the reference r
+-- at each LRP of the reference r
 pub record Distinct (far : Measure) (M : Map) (P : Path) (r : Reference) : Type 0 where
   pub outgoing : (k : ℕ) → k < last_place r → DistinctAt far M P Outgoing k (decoded_place r k)
   pub incoming : DistinctAt far M P Incoming (last_place r) (decoded_place r (last_place r))
@@ -61,14 +63,14 @@ IsKeptPart M P ls =
 
 -- ---- lengths
 
--- the offset less what is cut off at its end
+-- the offset minus the length that is cut off at its end
 abbrev pub IsLeft : Map → Path → ℕ → ℕ → Type 0
 IsLeft M P front back =
     OfPath M P (λ E _ _ js.
     (front ≡ E.pos - from_front (legs M E.lines) (first_kept (legs M E.lines) E.pos js))
     × (back ≡ E.neg - to_back (legs M E.lines) (last_kept (legs M E.lines) E.neg js)))
 
--- byte b stands for b / 256 of the length and more, and less than (b + 1) / 256; without a byte nothing is cut off
+-- byte b means at least b / 256 of the length, and less than (b + 1) / 256; without a byte nothing is cut off
 abbrev pub IsCut : ℕ → ℕ → Option ℕ → ℕ → Type 0
 IsCut q s None c = c ≡ 0
 IsCut q s (Some b) c = (b * (q * s) ≤ 256 * c) × (256 * c < b * (q * s) + q * s)
@@ -85,7 +87,7 @@ pub record IsStep (a : Attrs) (len : ℕ) : Type 0 where
 
 -- ---- the nearest node
 
--- on each axis, in units
+-- the difference on each axis, in units
 abbrev pub lon_apart : ℤ × ℤ → Coord → ℕ
 lon_apart p c = nat_abs (p.0 -ℤ c.lon)
 
@@ -106,7 +108,7 @@ pub record IsWeighted (n d scale : ℕ) (far : Measure) : Type 0 where
   pub unit : 0 < scale
   pub all : (p : ℤ × ℤ) (c : Coord) → Weighted n d scale far p c
 
--- in latitude, or in longitude times n / d, at least three times the bound within which point k is decoded
+-- in latitude, or in longitude times n / d, at least three times the bound within which LRP k is decoded
 abbrev pub is_spaced : ℕ → ℕ → ℕ → Coord → Coord → Bool
 is_spaced n d k a b =
     nat_le (3 * decoded_bound k) (nat_abs (a.lat -ℤ b.lat))

@@ -1,9 +1,10 @@
--- Worked values, by hand: the legs, references and bytes that the worked rows speak of.
---     legs1, reference1, bytes1      the first worked path, of three lines; its reference with three points, and the
+-- The values of the worked rows, calculated by hand: lines with the coordinates of their ends, references and bytes.
+--     legs1, reference1, bytes1      the first worked path, of three lines; its reference with three LRPs, and the
 --         bytes of it
---     .._bytes      the bytes of the same path with other points or offsets
+--     .._bytes      the bytes of the same path with other LRPs or offsets
 --     straight_leg, slanted_leg lat      lines of the rows on bearings
---     morning_lines, twin_lines      all lines of the first worked path's map, and those of one where line 20 has a twin
+--     morning_lines, twin_lines      all lines of the first worked path's map, and those of one where line 20 has a
+--         twin
 --     axes_sum      a measure: the sum of both axes
 use Rattle.std.specs.Prelude.{ℕ, ◌+◌, List, [], ◌∷◌, pos, neg_ℤ, Some, None}
 use Rattle.olr_spec.specs.Coordinates.{Coord, coord}
@@ -12,7 +13,7 @@ use Rattle.olr_spec.specs.Reference.{Attrs, Reference}
 use Rattle.olr_spec.specs.Receiver.{Measure}
 use Rattle.olr_spec.specs.Recovery.{lon_apart, lat_apart}
 
--- a place north of the equator and east of Greenwich
+-- a coordinate north of the equator and east of Greenwich
 abbrev place : ℕ → ℕ → Coord
 place lon lat = coord (pos lon) (pos lat)
 
@@ -91,19 +92,19 @@ bytes1 =
     0x0b ∷ 0x04 ∷ 0x5b ∷ 0x5b ∷ 0x23 ∷ 0x46 ∷ 0xf5 ∷ 0x1a ∷ 0x6c ∷ 0x09 ∷ 0x00 ∷ 0x9b ∷ 0xfe ∷ 0x3b ∷ 0x1b ∷ 0xb4 ∷ 0x04
     ∷ 0xff ∷ 0xeb ∷ 0xff ∷ 0xa3 ∷ 0x2b ∷ 0x59 ∷ 0x44 ∷ []
 
--- with two points: a road that was as short is gone
+-- with two LRPs: after a road that was as short is removed
 abbrev pub side_road_dropped_bytes : List ℕ
 side_road_dropped_bytes =
     0x0b ∷ 0x04 ∷ 0x5b ∷ 0x5b ∷ 0x23 ∷ 0x46 ∷ 0xf5 ∷ 0x1a ∷ 0xac ∷ 0x0e ∷ 0x00 ∷ 0x86 ∷ 0xfd ∷ 0xde ∷ 0x2b ∷ 0x59 ∷ 0x2d
     ∷ []
 
--- with a positive offset past the first stretch
+-- with a positive offset longer than the first leg
 abbrev pub first_dropped_bytes : List ℕ
 first_dropped_bytes =
     0x0b ∷ 0x04 ∷ 0x5b ∷ 0xa3 ∷ 0x23 ∷ 0x46 ∷ 0x21 ∷ 0x1b ∷ 0xb4 ∷ 0x04 ∷ 0xff ∷ 0xeb ∷ 0xff ∷ 0xa3 ∷ 0x2b ∷ 0x59 ∷ 0x24
     ∷ []
 
--- with a negative offset back to the second point, so that nothing of it is left: the bytes of line 10 alone
+-- with a negative offset back to the second LRP, so that nothing of it remains: the bytes of line 10 alone
 abbrev pub last_dropped_bytes : List ℕ
 last_dropped_bytes =
     0x0b ∷ 0x04 ∷ 0x5b ∷ 0x5b ∷ 0x23 ∷ 0x46 ∷ 0xf5 ∷ 0x1a ∷ 0x6c ∷ 0x09 ∷ 0x00 ∷ 0x9b ∷ 0xfe ∷ 0x3b ∷ 0x1a ∷ 0x1c ∷ []
@@ -120,14 +121,14 @@ offset_bytes_of byte =
     0x0b ∷ 0x04 ∷ 0x5b ∷ 0x5b ∷ 0x23 ∷ 0x46 ∷ 0xf5 ∷ 0x1a ∷ 0x6c ∷ 0x09 ∷ 0x00 ∷ 0x9b ∷ 0xfe ∷ 0x3b ∷ 0x1a ∷ 0x5c ∷ byte
     ∷ []
 
--- ---- bytes that spell nothing
+-- ---- bytes that decode to no reference
 
 -- version 2 in the first byte
 abbrev pub version2_bytes : List ℕ
 version2_bytes =
     0x0a ∷ 0x04 ∷ 0x5b ∷ 0x5b ∷ 0x23 ∷ 0x46 ∷ 0xf5 ∷ 0x1a ∷ 0x6c ∷ 0x09 ∷ 0x00 ∷ 0x9b ∷ 0xfe ∷ 0x3b ∷ 0x1a ∷ 0x1c ∷ []
 
--- bit 7 of an attribute byte set
+-- bit 7 of an attribute byte is set
 abbrev pub reserved_bytes : List ℕ
 reserved_bytes =
     0x0b ∷ 0x04 ∷ 0x5b ∷ 0x5b ∷ 0x23 ∷ 0x46 ∷ 0xf5 ∷ 0x9a ∷ 0x6c ∷ 0x09 ∷ 0x00 ∷ 0x9b ∷ 0xfe ∷ 0x3b ∷ 0x1a ∷ 0x1c ∷ []

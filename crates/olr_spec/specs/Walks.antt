@@ -1,16 +1,16 @@
--- Walks on a map, their order, and the sole walk that no other is as short as.
---     Walk M s t xs      the lines xs lead from s to t, each beginning where the one before ends.
+-- Routes on a map, their order, the shortest path, and the unique shortest path.
+--     Walk M s t xs      the lines xs are a route from s to t: each starts where the one before ends
 --     dm_of M xs      their length
---     Reaches M s limit v      a walk of at most the limit leads from s to v
---     Before M xs ys      xs is shorter, or equally long with the smaller number at the first difference, counted from
---         the end
---     Least M s t xs      a walk from s to t that none is before.
---     Sole M s t xs      a walk such that every other is longer
---     Route M s t xs      the walk that joins two points of a reference
+--     Reaches M s limit v      a route of at most the limit leads from s to v
+--     Before M xs ys      xs precedes ys: it is shorter, or equally long with the smaller line number at the first
+--         difference, counted from the end
+--     Least M s t xs      the shortest path: a route from s to t that no other precedes
+--     Sole M s t xs      the unique shortest path: a route such that every other is longer
+--     Route M s t xs      the route between two location reference points (LRPs)
 use Rattle.std.specs.Prelude.{◌≡◌, ◌≢◌, ℕ, ◌+◌, ◌<◌, ◌≤◌, List, [], ◌∷◌, reverse, ◌⊎◌, IsTrue}
 use Rattle.olr_spec.specs.Map.{Map, has_line, start, end, dm}
 
--- a line may be walked more than once, and a U-turn is a walk
+-- a line may occur more than once, and a U-turn is allowed
 abbrev pub Walk : Map → ℕ → ℕ → List ℕ → Type 0
 Walk M s t [] = s ≡ t
 Walk M s t (x ∷ xs) = IsTrue (has_line M x) × (start M x ≡ s) × Walk M (end M x) t xs
@@ -29,20 +29,20 @@ FirstSmaller [] ys = ⊥
 FirstSmaller (x ∷ xs) [] = ⊥
 FirstSmaller (x ∷ xs) (y ∷ ys) = (x < y) ⊎ ((x ≡ y) × FirstSmaller xs ys)
 
--- of walks with the same ends (profile)
+-- for routes with the same ends (profile)
 abbrev pub Before : Map → List ℕ → List ℕ → Type 0
 Before M xs ys = (dm_of M xs < dm_of M ys) ⊎ ((dm_of M xs ≡ dm_of M ys) × FirstSmaller (reverse xs) (reverse ys))
 
--- what the labels of a search tell
+-- the route that the labels of a search describe
 pub record Least (M : Map) (s t : ℕ) (xs : List ℕ) : Type 0 where
   pub walk : Walk M s t xs
   pub first : (ys : List ℕ) → Walk M s t ys → ¬ Before M ys xs
 
--- where two walks are equally short none is sole, since a decoder may take either
+-- if two shortest routes are equally long none is unique, since a decoder may take either
 pub record Sole (M : Map) (s t : ℕ) (xs : List ℕ) : Type 0 where
   pub walk : Walk M s t xs
   pub others : (ys : List ℕ) → Walk M s t ys → ys ≢ xs → dm_of M xs < dm_of M ys
 
--- the shortest path between two points (White Paper, encoding steps); that no other walk is as short: profile
+-- the shortest path between two LRPs (White Paper, encoding steps); that it is unique: profile
 abbrev pub Route : Map → ℕ → ℕ → List ℕ → Type 0
 Route M s t xs = Sole M s t xs

@@ -1,14 +1,15 @@
 //! What the encoder's answers mean: the definitions in `specs/`, as mathematics, and their laws.
 //!
-//! A road map, a path, a reference and its bytes are values here: finite maps, lists and whole
-//! numbers. The other crates' contracts cite these definitions; nothing here is run. In reading
-//! order: `Coordinates`, `Degrees`, `Map`, `Walks`, `Labels`, `Extension`, `Points`, `Bearings`,
-//! `Reference`, `Encoding`, `Bytes`, `Decoded`, `Joins`, `Detours`, `Looks`, `Footprint`, `Receiver`,
-//! `Recovery`, and `Laws`, which says what follows from them. `Codes` tells the compiler how the values are stored,
-//! and `Rows` has the values of the worked rows.
+//! A road map, a path, a reference and its bytes are mathematical values here: finite maps, lists
+//! and whole numbers. The contracts of the other crates refer to these definitions; nothing here is
+//! executed. In reading order: `Coordinates`, `Degrees`, `Map`, `Walks`, `Labels`, `Extension`,
+//! `Points`, `Bearings`, `Reference`, `Encoding`, `Bytes`, `Decoded`, `Joins`, `Detours`, `Looks`,
+//! `Footprint`, `Receiver`, `Recovery`, and `Laws`, which says what follows from them. `Codes`
+//! defines how the values are stored, for the compiler, and `Rows` has the values of the worked
+//! rows.
 //!
-//! Each function below does nothing. Its contract is what is proved: first the laws, and then
-//! worked rows, which the definitions compute.
+//! Each function below is empty. Its contract is what is proved: first the laws, and then worked
+//! rows, which the definitions compute.
 #![tactic(auto)]
 
 ghost use Rattle.std.specs.Prelude.{◌≡◌, ℕ, true, false, pos, negsuc, neg_ℤ, [], ◌∷◌, ◌++◌, map, replicate, take};
@@ -32,8 +33,8 @@ ghost use Rattle.olr_spec.specs.Rows.{last_dropped_bytes, both_offsets_bytes, of
 ghost use Rattle.olr_spec.specs.Rows.{reserved_bytes, straight_leg, slanted_leg, leg20, leg30, morning_lines};
 ghost use Rattle.olr_spec.specs.Rows.{twin_lines, axes_sum};
 
-/// The lines that enter and leave a node rise by number and are exactly these; an accepted edit
-/// keeps a map sound, and one edit takes it back.
+/// The lists of the lines that enter and leave a node are in ascending order and hold exactly these
+/// lines; an accepted edit keeps a map sound, and one edit restores the map from before.
 pub fn laws_of_maps()
     ensures rise { Laws.LinesRise }
     ensures entering { Laws.LinesIn }
@@ -43,8 +44,8 @@ pub fn laws_of_maps()
     ensures empty { Laws.EmptyIsSound }
 {}
 
-/// There is one least and one sole walk from a node to another, a sole one is the least, and the
-/// front of one is one.
+/// From a node to another there is at most one shortest path and at most one unique shortest path,
+/// which is the shortest; their prefixes are such paths too.
 pub fn laws_of_walks()
     ensures suffixes { Laws.NoLongerSuffix }
     ensures one_least { Laws.OneLeast }
@@ -56,7 +57,7 @@ pub fn laws_of_walks()
     ensures empty_sole { Laws.EmptyIsSole }
 {}
 
-/// Labels that no line improves are those of the least walks within the limit.
+/// Labels that no line improves describe the shortest paths within the limit.
 pub fn laws_of_labels()
     ensures least { Laws.SettledIsLeast }
     ensures reaches { Laws.SettledReaches }
@@ -73,8 +74,8 @@ pub fn laws_of_answers()
     ensures fits { Laws.AnswerFits }
 {}
 
-/// At least two points are kept, the routes between them join to the path, and each is decoded
-/// near its place on the map.
+/// At least two location reference points (LRPs) remain after the offsets, the routes between them
+/// join to the path, and each is decoded near its coordinate on the map.
 pub fn laws_of_points()
     ensures two_kept { Laws.TwoKept }
     ensures routes_join { Laws.RoutesJoin }
@@ -82,9 +83,9 @@ pub fn laws_of_points()
     ensures decoded_points { Laws.DecodedPoints }
 {}
 
-/// Every receiver to which each point's own line is distinct recovers the stretches between the kept
-/// points, and cuts their ends off where the offsets say. A node is the nearest where the others are
-/// three times the bound of decoding away.
+/// If the path's own line is distinct at each LRP, every receiver recovers the legs between the
+/// remaining LRPs; offsets are exact within a 256th of a leg. A node is the nearest if the others are
+/// at least three times the bound of decoding away.
 pub fn laws_of_receivers()
     ensures recovered { Laws.Recovered }
     ensures stretches_join { Laws.StretchesJoin }
@@ -95,29 +96,30 @@ pub fn laws_of_receivers()
     ensures weighted { Laws.SomeWeighted }
 {}
 
-/// Each direction lies in exactly one sector.
+/// Each direction but (0, 0) is in exactly one sector.
 pub fn laws_of_sectors()
     ensures one { Laws.OneSector }
     ensures some { Laws.SomeSector }
 {}
 
-/// A reference has one spelling, no bytes spell two, and bytes have no fault exactly where they
-/// spell one.
+/// A reference encodes as one sequence of bytes, no bytes decode to two references, and bytes have
+/// no fault exactly if some reference encodes as them.
 pub fn laws_of_bytes()
     ensures one_spelling { Laws.OneSpelling }
     ensures one_spelled { Laws.OneSpelled }
     ensures no_fault { Laws.NoFault }
 {}
 
-/// An answer and its footprint rest on the footprint and on the path's own lines alone.
+/// An answer and its footprint depend only on the footprint and on the path's own lines.
 pub fn laws_of_footprints()
     ensures answer { Laws.LocalAnswer }
     ensures foot { Laws.LocalFoot }
     ensures edits { Laws.EditsAreLocal }
 {}
 
-/// An edit makes no other difference than what it touches and changes, and edits add theirs. Where no
-/// changed line offers a detour as short, walks are the same before and after.
+/// An edit makes no other difference than what it touches and changes, and the differences of
+/// consecutive edits add up. If no changed line offers a detour that is as short, routes are the
+/// same before and after.
 pub fn laws_of_changes()
     ensures edits { Laws.EditsDiffer }
     ensures none { Laws.NoDifference }
@@ -127,8 +129,8 @@ pub fn laws_of_changes()
     ensures near { Laws.NearStays }
 {}
 
-/// What a path looks at is one list, which gives its footprint; where edits concern none of it, the
-/// path keeps its answer.
+/// A path has exactly one list of coverage queries, and they determine its footprint; if edits
+/// affect neither these nor its traversed nodes, its answer is retained.
 pub fn laws_of_looks()
     ensures one_last_tested { Laws.OneLastTested }
     ensures some_last_tested { Laws.SomeLastTested }
@@ -141,7 +143,7 @@ pub fn laws_of_looks()
     ensures untouched { Laws.UntouchedKept }
 {}
 
-/// 24-bit steps, and back: halves go away from zero.
+/// 24-bit steps, and back: halves are rounded away from zero.
 pub fn rows_abs24()
     ensures below { abs24 (pos 3515624) ≡ pos 0 }
     ensures half { abs24 (pos 3515625) ≡ pos 1 }
@@ -156,7 +158,7 @@ pub fn rows_abs24()
     ensures back_least { from_abs24 (neg_ℤ (pos 8388608)) ≡ neg_ℤ (pos 58982396484375) }
 {}
 
-/// Relative steps: the ends of their 16 bits, and halves away from zero.
+/// Relative steps: the limits of 16 bits, and halves, which are rounded away from zero.
 pub fn rows_rel16()
     ensures greatest { rel16 (pos 0) (pos 107372511232) ≡ Some (pos 32767) }
     ensures above { rel16 (pos 0) (pos 107372544000) ≡ None }
@@ -186,7 +188,7 @@ pub fn rows_degrees()
     ensures two_points { read_degrees (codes "1.2.3") ≡ Err Degrees.Text }
 {}
 
-/// Passing nodes, by the other ends of the lines that enter node 9 and of those that leave it.
+/// Degree-two nodes, by the other ends of the lines that enter node 9 and of those that leave it.
 pub fn rows_passing()
     ensures one_way { passes_between 9 (1 ∷ []) (2 ∷ []) ≡ true }
     ensures both_ways { passes_between 9 (1 ∷ 2 ∷ []) (2 ∷ 1 ∷ []) ≡ true }
@@ -211,7 +213,8 @@ pub fn rows_sector()
     ensures west { sector (negsuc 0) (pos 0) ≡ 24 }
 {}
 
-/// Places on a line, and bearings. A place on a shape point ends its interval.
+/// Coordinates along a line, and bearings. At a shape point the interval is the one that ends
+/// there.
 pub fn rows_bearing()
     ensures place { scaled_place straight_leg 200 ≡ record { lon = pos 65536000000; lat = pos 0; width = 1000 } }
     ensures at_shape { (scaled_place leg10 200).width ≡ 200 }
@@ -224,20 +227,20 @@ pub fn rows_bearing()
     ensures south { thousandths (neg_ℤ (pos 327679999)) ≡ pos 0 }
 {}
 
-/// The points that look: those that two lines or more follow.
+/// The LRPs with a coverage query: those whose line is followed by two or more lines.
 pub fn rows_looking()
     ensures first_two { looking (11 ∷ 12 ∷ 13 ∷ 14 ∷ []) (0 ∷ 1 ∷ 2 ∷ 4 ∷ []) ≡ 0 ∷ 1 ∷ [] }
     ensures two_lines { looking (11 ∷ 12 ∷ []) (0 ∷ 1 ∷ 2 ∷ []) ≡ [] }
     ensures three_lines { looking (11 ∷ 12 ∷ 13 ∷ []) (0 ∷ 3 ∷ []) ≡ 0 ∷ [] }
 {}
 
-/// The lines that an edit changes: a line that is added with its length, and none where a node is.
+/// The lines that an edit changes: an added line with its length, and none for an added node.
 pub fn rows_changes()
     ensures line { changes_of empty_map (Add_line 7 leg10.line) ≡ record { from = 1; to = 2; len = 5610 } ∷ [] }
     ensures node { changes_of empty_map (Add_node 7 no_place) ≡ [] }
 {}
 
-/// The points that the offsets leave, in dm from the start and from the end.
+/// The LRPs that remain after the offsets, in dm from the start and from the end.
 pub fn rows_kept()
     ensures all { kept_points legs1 1500 740 (1 ∷ 3 ∷ []) ≡ 0 ∷ 1 ∷ 3 ∷ [] }
     ensures first_dropped { kept_points legs1 5610 0 (1 ∷ 3 ∷ []) ≡ 1 ∷ 3 ∷ [] }
@@ -246,7 +249,7 @@ pub fn rows_kept()
     ensures last_kept { kept_points legs1 0 2739 (1 ∷ 3 ∷ []) ≡ 0 ∷ 1 ∷ 3 ∷ [] }
 {}
 
-/// The fields and bytes of the first worked path, by its points and offsets.
+/// The fields and bytes of the first worked path, by its LRPs and offsets.
 pub fn rows_reference()
     ensures three_points { reference legs1 1500 0 (1 ∷ 3 ∷ []) ≡ reference1 }
     ensures spelled { spelling reference1 ≡ bytes1 }
@@ -259,7 +262,7 @@ pub fn rows_reference()
     ensures least_offset { spelling (reference (leg10 ∷ []) 1 0 (1 ∷ [])) ≡ offset_bytes_of 0 }
 {}
 
-/// Faults of bytes: of the first worked bytes cut short at every length, and of others.
+/// Faults of bytes: of the first worked bytes truncated at every length, and of others.
 pub fn rows_bytes()
     ensures accepted { v3_fault bytes1 ≡ None }
     ensures short { map (λ n. v3_fault (take n bytes1)) (up_to 16) ≡ replicate 16 (Some Length) }
@@ -276,7 +279,7 @@ pub fn rows_bytes()
     ensures zero_offset { v3_fault (offset_bytes_of 0) ≡ None }
 {}
 
-/// The decoded points of the first worked reference.
+/// The decoded LRPs of the first worked reference.
 pub fn rows_decoded()
     ensures first { decoded reference1 0 ≡ Some (pos 2007636328125, pos 16255719140625) }
     ensures second { decoded reference1 1 ≡ Some (pos 2008144232125, pos 16254234750225) }
@@ -284,9 +287,9 @@ pub fn rows_decoded()
     ensures past { decoded reference1 3 ≡ None }
 {}
 
-/// The own lines of the first worked path among all lines of its map: each is the nearest candidate
-/// and has no twin. Beside a second line 20 it isn't distinct. The cosine of 49.6 degrees is above
-/// 64/100.
+/// The lines at the LRPs of the first worked path, among all lines of its map: each is the nearest
+/// candidate and has no twin. With a second line 20 it has a twin and isn't distinct. The cosine of
+/// 49.6 degrees is greater than 64/100.
 pub fn rows_distinct()
     ensures first { is_nearest axes_sum Outgoing (decoded_place reference1 0) leg10 morning_lines ≡ true }
     ensures second { is_nearest axes_sum Outgoing (decoded_place reference1 1) leg20 morning_lines ≡ true }

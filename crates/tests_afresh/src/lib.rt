@@ -1,5 +1,5 @@
-//! Tests of the register beside a twin that encodes every path afresh after every command: answers, own nodes, looks
-//! and footprints are the same, and the count of encodings rises as defined.
+//! Tests of the register beside a twin that encodes every path from scratch after every command: answers, traversed nodes,
+//! coverage queries and footprints are the same, and the count of encodings rises as defined.
 #![tactic(auto)]
 
 #[cfg(test)]

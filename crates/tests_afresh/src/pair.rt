@@ -14,14 +14,14 @@ use std::alloc::Global;
 use std::process::Abort;
 use std::test::Fail;
 
-/// The nodes of the ring have the numbers from 1 to this one.
+/// The nodes of the ring are numbered from 1 to this number.
 const NODES: u32 = 12;
 
-/// Its lines have those from 1 to this one.
+/// Its lines are numbered from 1 to this number.
 const LINES: u32 = 26;
 
-/// A register, its twin, and a spare one, which is like the twin; while a batch is open the held commands change the
-/// spare.
+/// A register, its twin, and a spare twin, which is like the first one. While a batch is open, the held commands change the
+/// spare one.
 #[derive(Drop)]
 pub struct Pair {
     register: Register,
@@ -30,7 +30,7 @@ pub struct Pair {
     /// The records of all changes that were accepted.
     history: String,
     is_open: bool,
-    /// The records of those that the open batch holds, and their number.
+    /// The records of the changes that the open batch holds, and their number.
     pending: String,
     count: u32,
 }
@@ -54,7 +54,7 @@ fn replay(alloc: Global, twin: &mut Twin, records: &str) -> Result<(), Fail> {
     Ok(())
 }
 
-/// One more line.
+/// Appends a line.
 fn push_line(text: &mut String, line: &str) -> Result<(), Fail> {
     text.push_str(line)?;
     text.push_str("\n")?;
@@ -74,7 +74,7 @@ impl Pair {
         }
     }
 
-    /// Gives the command of a record to both, and compares: whether it is accepted, the count's rise, and all answers.
+    /// Applies the command of a record to both, and compares: whether it is accepted, the rise of the count, and all answers.
     pub fn step<R: Abort + AllocGlobal>(&mut self, rt: &R, record: &str) -> Result<(), Fail> {
         let alloc = rt.alloc();
         let before = self.register.work().encodings;
@@ -88,7 +88,7 @@ impl Pair {
         self.assert_alike(rt, record)
     }
 
-    /// Changes the twin. By how much the command raises the count, where it is accepted.
+    /// Changes the twin. Returns by how much the command raises the count, if it is accepted.
     fn expected_rise(&mut self, alloc: Global, record: &str) -> Result<Option<u64>, Fail> {
         match command(alloc, record)? {
             Command::Begin if self.is_open => Ok(None),
@@ -114,7 +114,7 @@ impl Pair {
         }
     }
 
-    /// A change that the open batch holds.
+    /// Holds a change in the open batch.
     fn hold(&mut self, alloc: Global, change: Command, record: &str) -> Result<Option<u64>, Fail> {
         if !self.spare.change(alloc, change)? {
             return Ok(None);
@@ -124,7 +124,7 @@ impl Pair {
         Ok(Some(0))
     }
 
-    /// A change at once.
+    /// Makes a change at once.
     fn make(&mut self, alloc: Global, change: Command, record: &str) -> Result<Option<u64>, Fail> {
         self.twin.forget();
         if !self.twin.change(alloc, change)? {
@@ -147,7 +147,7 @@ impl Pair {
         Ok(Some(rise))
     }
 
-    /// That the register has what encoding each path of the twin afresh gives.
+    /// Asserts that the register has the results of encoding each path of the twin from scratch.
     fn assert_alike<R: Abort + AllocGlobal>(&self, rt: &R, record: &str) -> Result<(), Fail> {
         let count = self.twin.paths.len();
         assert!(rt; self.register.len() == count, "after {record}");
@@ -158,7 +158,7 @@ impl Pair {
         Ok(())
     }
 
-    /// That it has that of path k.
+    /// Asserts this of path k.
     fn assert_path<R: Abort + AllocGlobal>(
         &self,
         rt: &R,
@@ -176,7 +176,7 @@ impl Pair {
         self.assert_footprint(rt, named, record)
     }
 
-    /// That it answers so of the path of that name.
+    /// Asserts that the path of that name has this answer.
     fn assert_answer<R: Abort + AllocGlobal>(
         &self,
         rt: &R,
@@ -200,7 +200,7 @@ impl Pair {
         Ok(())
     }
 
-    /// That it keeps these own nodes and looks of the path of that name.
+    /// Asserts that the path of that name has these traversed nodes and coverage queries.
     fn assert_looks(&self, rt: &impl Abort, name: &str, fresh: &Encoding, record: &str) {
         let Some(kept) = self.register.published_of(name) else {
             panic!(rt; "no path {name} after {record}");
@@ -211,7 +211,7 @@ impl Pair {
         assert!(rt; looks, "looks of {name} after {record}");
     }
 
-    /// That it finds the footprint of a path, unless a batch is open.
+    /// Asserts that it has the footprint of a path, unless a batch is open.
     fn assert_footprint<R: Abort + AllocGlobal>(
         &self,
         rt: &R,
@@ -232,12 +232,12 @@ impl Pair {
         Ok(())
     }
 
-    /// How often a path was encoded, and how many of these kept their answer.
+    /// How many encodings were counted, and how many of them retained their answer.
     pub fn encodings(&self) -> (u64, u64) {
         (self.register.work().encodings, self.register.spared_count())
     }
 
-    /// A ring of twelve nodes, some of its lines both ways, and some short cuts.
+    /// Makes a ring of twelve nodes, some of its lines in both directions, and some short cuts.
     pub fn ring<R: Abort + AllocGlobal>(&mut self, rt: &R) -> Result<(), Fail> {
         for node in 1..=NODES {
             let record = format!(in rt.alloc(); "node,{node},0.0{node},0.0{}", node % 3)?;
@@ -251,7 +251,7 @@ impl Pair {
         Ok(())
     }
 
-    /// Lines that follow one another from a node, at most six, as fields of a record.
+    /// At most six lines that join, from a node on, as fields of a record.
     fn walk(&self, alloc: Global, seed: u64) -> Result<String, Fail> {
         let mut fields = String::new(alloc);
         let mut row = seed;
@@ -290,7 +290,7 @@ impl Pair {
         self.step(rt, &record)
     }
 
-    /// One of many commands.
+    /// Makes one of many commands.
     pub fn step_by<R: Abort + AllocGlobal>(&mut self, rt: &R, seed: u64) -> Result<(), Fail> {
         let alloc = rt.alloc();
         let record = match kind(seed) {
@@ -326,7 +326,7 @@ impl Pair {
     }
 }
 
-/// Which of many commands a number stands for, from 0 to 19.
+/// The kind of command that a number selects, from 0 to 19.
 fn kind(seed: u64) -> u64 {
     (seed >> 56) % 20
 }
@@ -336,8 +336,8 @@ fn len(seed: u64) -> u64 {
     300 + (seed >> 34) % 2000 + 40_000 * ((seed >> 12) % 4)
 }
 
-/// A record that drops, adds or sets a line: three in four have their place in the ring, the others begin and end
-/// anywhere.
+/// A record that drops, adds or sets a line. Of the added lines, three in four join two nodes of the ring as `ends` says,
+/// the others any two nodes.
 fn line_record(alloc: Global, seed: u64) -> Result<String, Fail> {
     let line = number_in(seed >> 24, LINES);
     let len = len(seed);
@@ -374,7 +374,7 @@ fn number_in(seed: u64, greatest: u32) -> u32
     (seed % greatest as u64) as u32 + 1
 }
 
-/// Where a line of the ring begins and ends: those along it, those back, and the short cuts.
+/// Where a line of the ring begins and ends: those along it, those in the other direction, and the short cuts.
 fn ends(line: u32) -> (u32, u32) {
     match line {
         1..=12 => (line, line % 12 + 1),

@@ -1,11 +1,11 @@
-//! Talks of records, each command given to a register and to its twin.
+//! Sessions of records; each command is applied to a register and to its twin.
 
 use crate::pair::Pair;
 use made_maps::next;
 use std::process::Abort;
 use std::test::Fail;
 
-/// Three points: a path of three lines, and a side road that makes a point of its second node.
+/// A path of three lines with three LRPs: a side road causes the LRP at its second node.
 const THREE_POINTS: &str = "node,1,6.12683,49.60852
 node,2,6.12838,49.60399
 node,3,6.1279,49.6035
@@ -16,7 +16,7 @@ line,30,3,4,5,3,740,540,6.12792,49.60311
 line,99,2,3,4,3,1500
 ";
 
-/// What the tests of talks give after that: registration, a way off the path, and batches.
+/// The records that the tests of sessions apply after those: registration, a road off the path, and batches.
 const TALKS: &[&str] = &[
     "path,b,0,0,10
 path,a,1500,0,10,20,30
@@ -57,7 +57,7 @@ commit,0
 ",
 ];
 
-/// Records after the same ones, and how many encodings, and how many of these that kept their answer, are then counted.
+/// Records after the same ones, with the number of encodings counted after each, and how many of them retained their answer.
 const COUNTED: &[(&str, u64, u64)] = &[
     ("path,a,1500,0,10,20,30", 1, 0),
     ("node,5,7,50", 1, 0),
@@ -77,11 +77,11 @@ const COUNTED: &[(&str, u64, u64)] = &[
     ("node,8,6.13,49.604", 9, 0),
     ("line,60,2,8,4,3,1000", 11, 0),
     ("node,9,6.131,49.604", 11, 0),
-    // node 8 is within reach of the look from node 2, and on no way that is as short as line 20
+    // node 8 is near node 2, where the coverage query begins, and on no route that is as short as line 20
     ("line,70,8,9,4,3,500", 12, 1),
 ];
 
-/// Gives each record to the register and to its twin.
+/// Applies each record to the register and to its twin.
 fn all<R: Abort + AllocGlobal>(rt: &R, pair: &mut Pair, records: &str) -> Result<(), Fail> {
     for record in records.lines() {
         pair.step(rt, record)?;
@@ -89,16 +89,16 @@ fn all<R: Abort + AllocGlobal>(rt: &R, pair: &mut Pair, records: &str) -> Result
     Ok(())
 }
 
-/// Gives the records of three points, and then those of a talk, to a register and to its twin.
+/// Applies the records of three LRPs, and then those of a session, to a register and to its twin.
 fn one_talk<R: Abort + AllocGlobal>(rt: &R, pair: &mut Pair, talk: &str) -> Result<(), Fail> {
     all(rt, pair, THREE_POINTS)?;
     all(rt, pair, talk)
 }
 
-/// A register and its twin go here, and not in each function that has them, where that would be proved anew.
+/// Drops a register and its twin. Their drop is proved once here, and not again in each function that has them.
 fn let_go(_pair: Pair) {}
 
-/// The same of a fresh register and its twin.
+/// The same for a new register and its twin.
 fn fresh_talk<R: Abort + AllocGlobal>(rt: &R, talk: &str) -> Result<(), Fail> {
     let mut pair = Pair::new(rt.alloc());
     let done = one_talk(rt, &mut pair, talk);
@@ -106,7 +106,7 @@ fn fresh_talk<R: Abort + AllocGlobal>(rt: &R, talk: &str) -> Result<(), Fail> {
     done
 }
 
-/// Gives each record to a register and to its twin, and compares what is counted.
+/// Applies each record to a register and to its twin, and compares the counts.
 fn all_counted<R: Abort + AllocGlobal>(
     rt: &R,
     pair: &mut Pair,
@@ -120,7 +120,7 @@ fn all_counted<R: Abort + AllocGlobal>(
     Ok(())
 }
 
-/// The same of a fresh register and its twin, after the records of three points.
+/// The same for a new register and its twin, after the records of three LRPs.
 fn fresh_counted<R: Abort + AllocGlobal>(rt: &R, rows: &[(&str, u64, u64)]) -> Result<(), Fail> {
     let mut pair = Pair::new(rt.alloc());
     let done = all_counted(rt, &mut pair, rows);
@@ -128,7 +128,7 @@ fn fresh_counted<R: Abort + AllocGlobal>(rt: &R, rows: &[(&str, u64, u64)]) -> R
     done
 }
 
-/// Makes many commands on a ring. How many answers were kept.
+/// Makes many commands on a ring. Returns how many answers were retained.
 fn many<R: Abort + AllocGlobal>(rt: &R, pair: &mut Pair, first: u64) -> Result<u64, Fail> {
     pair.ring(rt)?;
     let mut seed = first;
@@ -140,7 +140,7 @@ fn many<R: Abort + AllocGlobal>(rt: &R, pair: &mut Pair, first: u64) -> Result<u
     Ok(kept)
 }
 
-/// The same of a fresh register and its twin.
+/// The same for a new register and its twin.
 fn fresh_many<R: Abort + AllocGlobal>(rt: &R, first: u64) -> Result<u64, Fail> {
     let mut pair = Pair::new(rt.alloc());
     let kept = many(rt, &mut pair, first);

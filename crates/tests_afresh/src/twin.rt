@@ -1,4 +1,4 @@
-//! A map and named paths that are changed by the same commands as a register, and encoded from nothing.
+//! A map and named paths that are changed by the same commands as a register, and encoded from scratch.
 
 use olr_commands::Command;
 use olr_map::{Edit, Footprint, LineId, NodeId, RoadMap, judge};
@@ -16,7 +16,7 @@ pub struct Named {
     pub neg: u32,
 }
 
-/// A map, named paths, and what the commands of a batch touched and gave.
+/// A map, named paths, and the nodes, lines and names that the commands of a batch touched.
 #[derive(Drop)]
 pub struct Twin {
     pub roads: RoadMap,
@@ -32,7 +32,7 @@ impl Named {
         Ok(Path::new(alloc, lines, self.pos, self.neg)?)
     }
 
-    /// The path's answer, own nodes and looks on a map.
+    /// The path's answer, traversed nodes and coverage queries on a map.
     pub fn encoding(&self, alloc: Global, roads: &RoadMap) -> Result<Encoding, Fail> {
         let path = self.path(alloc)?;
         let mut search = Search::new(alloc);
@@ -60,21 +60,21 @@ impl Twin {
         }
     }
 
-    /// Where the path of that name stands.
+    /// The position of the path of that name.
     fn place(&self, name: &str) -> Option<usize> {
         self.paths
             .iter()
             .position(|named| named.name.as_str() == name)
     }
 
-    /// Forgets what was touched and given so far.
+    /// Clears what was touched so far.
     pub fn forget(&mut self) {
         self.nodes.clear();
         self.lines.clear();
         self.given.clear();
     }
 
-    /// Makes a change. Whether it was taken.
+    /// Makes a change. Returns whether it was accepted.
     pub fn change(&mut self, alloc: Global, command: Command) -> Result<bool, Fail> {
         match command {
             Command::Edit(edit) => self.edit(edit),
@@ -110,7 +110,7 @@ impl Twin {
         }
     }
 
-    /// Puts a path in the place of the one of its name. Whether there is one.
+    /// Replaces the path of that name. Returns whether there is one.
     fn put(&mut self, named: Named) -> bool {
         let Some(place) = self.place(&named.name) else {
             return false;
@@ -124,7 +124,7 @@ impl Twin {
         }
     }
 
-    /// Takes the path of that name away. Whether there is one.
+    /// Removes the path of that name. Returns whether there is one.
     fn take(&mut self, name: &str) -> bool {
         match self.place(name) {
             Some(place) if place < self.paths.len() => {
@@ -151,7 +151,7 @@ impl Twin {
         Ok(true)
     }
 
-    /// How many of this twin's paths the changes since `forget` concern, which found the map `before`.
+    /// How many of this twin's paths are affected by the changes since `forget`, which began with the map `before`.
     pub fn concerned_count(&self, alloc: Global, before: &RoadMap) -> Result<u64, Fail> {
         let mut count = 0u64;
         for named in &self.paths {

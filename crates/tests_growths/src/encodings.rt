@@ -1,4 +1,4 @@
-//! A path of three points, encoded again where a growth was refused, and a search made again.
+//! A path with three LRPs, encoded again if an allocation failed, and a search made again.
 
 use made_maps::{WORKED, lines, map_of, node};
 use olr_binary::{Reference, to_text};
@@ -8,7 +8,7 @@ use olr_route::{Labels, Search, Work, search};
 use std::alloc::Global;
 use std::process::Abort;
 
-/// The path along the road of the worked map. None where a growth was refused.
+/// The path along the road of the worked map. None if an allocation failed.
 fn road_path(alloc: Global) -> Option<Path> {
     let lines = lines(alloc, &[10, 20, 30]).ok()?;
     Path::new(alloc, lines, 1500, 0).ok()
@@ -17,7 +17,7 @@ fn road_path(alloc: Global) -> Option<Path> {
 /// The string of the path.
 const TEXT: &str = "CwRbWyNG9RpsCQCb/jsbtAT/6/+jK1lE";
 
-/// The worked map, made anew where a growth was refused.
+/// The worked map, made again if an allocation failed.
 fn some_map(rt: &impl Abort, alloc: Global) -> RoadMap {
     match map_of(alloc, WORKED) {
         Ok(map) => map,
@@ -25,7 +25,7 @@ fn some_map(rt: &impl Abort, alloc: Global) -> RoadMap {
     }
 }
 
-/// The path along its road, made anew where a growth was refused.
+/// The path along its road, made again if an allocation failed.
 fn some_path(rt: &impl Abort, alloc: Global) -> Path {
     match road_path(alloc) {
         Some(path) => path,
@@ -33,7 +33,7 @@ fn some_path(rt: &impl Abort, alloc: Global) -> Path {
     }
 }
 
-/// The encoding of a path, begun again where a growth was refused.
+/// The encoding of a path, made again if an allocation failed.
 fn some_encoding(rt: &impl Abort, alloc: Global, map: &RoadMap, path: &Path) -> Encoding {
     let mut search = Search::new(alloc);
     let mut work = Work::default();
@@ -46,7 +46,7 @@ fn some_encoding(rt: &impl Abort, alloc: Global, map: &RoadMap, path: &Path) -> 
     }
 }
 
-/// The text of a reference, made again where a growth was refused.
+/// The text of a reference, made again if an allocation failed.
 fn some_text(rt: &impl Abort, alloc: Global, reference: &Reference) -> String {
     match to_text(alloc, reference) {
         Ok(text) => text,
@@ -54,7 +54,7 @@ fn some_text(rt: &impl Abort, alloc: Global, reference: &Reference) -> String {
     }
 }
 
-/// Asserts that all nodes of the map are own ones, and that it was looked at from node 2.
+/// Asserts that all nodes of the map are traversed nodes, and that the coverage query begins at node 2.
 fn assert_looks(rt: &impl Abort, encoding: &Encoding) {
     let nodes = [node(1), node(2), node(3), node(4)];
     assert!(rt; encoding.own.as_slice() == nodes.as_slice());
@@ -83,7 +83,7 @@ fn an_encoding_survives(rt: HostRuntime) {
     assert_right(&rt, rt.alloc(), &encoding.answer);
 }
 
-/// The labels of a search from node 1, begun again where a growth was refused.
+/// The labels of a search from node 1, made again if an allocation failed.
 fn some_labels(rt: &impl Abort, alloc: Global, map: &RoadMap, nodes: &mut Footprint) -> Labels {
     let source = node(1);
     assert!(rt; map.node(source).is_some());
@@ -105,7 +105,7 @@ fn assert_label(rt: &impl Abort, labels: &Labels, number: u32, dist: Option<u32>
     assert!(rt; found.unwrap_or(0) == last, "to {number}");
 }
 
-/// Asserts that nodes 1 to 3 are labelled, and the third by the side road.
+/// Asserts that nodes 1 to 3 are labelled, and that the shortest path to node 3 ends with the side road.
 fn assert_labels(rt: &impl Abort, labels: &Labels) {
     assert_label(rt, labels, 1, Some(0), 0);
     assert_label(rt, labels, 2, Some(5610), 10);

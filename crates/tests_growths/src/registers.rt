@@ -1,4 +1,4 @@
-//! A register and its twin, which is given each command once more.
+//! A register and its twin, to which each command is applied too.
 
 use csv::{ByteRecord, ReaderBuilder};
 use olr_commands::{Command, CommandFault, Reply};
@@ -9,8 +9,8 @@ use olr_register::Register;
 use std::alloc::{AllocError, Global};
 use std::process::Abort;
 
-/// Own line dropped and back; what explains the string; refused edits and paths; a road that leads away, whose end the
-/// string's search doesn't come to; a batch that is committed, one that cancels out and one that is aborted.
+/// A line of the path is dropped and added again; the string is explained; edits and paths are rejected; a road leads away,
+/// and its end is not reached by the string's search; one batch is committed, one cancels out and one is aborted.
 const SCRIPT: &str = "node,1,6.12683,49.60852
 node,2,6.12838,49.60399
 node,3,6.1279,49.6035
@@ -84,7 +84,7 @@ fn refusal(register: &Register, name: &str) -> Option<Refusal> {
     }
 }
 
-/// The nodes on which a path's answer rests, asked for again where a growth was refused. None while a batch is open.
+/// The nodes on which a path's answer depends, computed again if an allocation failed. None while a batch is open.
 fn footprint(rt: &impl Abort, register: &Register, name: &str) -> Option<Footprint> {
     match register.footprint(name) {
         Ok(found) => found,
@@ -95,7 +95,7 @@ fn footprint(rt: &impl Abort, register: &Register, name: &str) -> Option<Footpri
     }
 }
 
-/// That two registers publish the same of a path, which rests on the same nodes.
+/// Asserts that two registers publish the same of a path, with the same footprint.
 fn assert_same_path(rt: &impl Abort, one: &Register, other: &Register, name: &str) {
     assert!(rt; one.text(name) == other.text(name), "of {name}");
     assert!(rt; refusal(one, name) == refusal(other, name), "of {name}");
@@ -108,7 +108,7 @@ fn assert_same_path(rt: &impl Abort, one: &Register, other: &Register, name: &st
     }
 }
 
-/// That two registers have the same paths, counts and open batch.
+/// Asserts that two registers have the same paths, counts and open batch.
 fn assert_alike(rt: &impl Abort, one: &Register, other: &Register) {
     assert!(rt; one.len() == other.len());
     assert!(rt; one.is_open() == other.is_open());
@@ -121,7 +121,7 @@ fn assert_alike(rt: &impl Abort, one: &Register, other: &Register) {
     }
 }
 
-/// The text of a reply or of a fault, made again where a growth was refused.
+/// The text of a reply or of a fault, made again if an allocation failed.
 fn text_of(rt: &impl Abort, alloc: Global, outcome: &Result<Reply, CommandFault>) -> Vec<u8> {
     for _ in 0..2 {
         let text = match outcome {
@@ -135,7 +135,7 @@ fn text_of(rt: &impl Abort, alloc: Global, outcome: &Result<Reply, CommandFault>
     panic!(rt; "no memory the second time")
 }
 
-/// What a register answers to a record. None where a growth was refused.
+/// The answer of a register to a record. None if an allocation failed.
 fn answer_to(
     rt: &impl Abort,
     alloc: Global,
@@ -149,7 +149,7 @@ fn answer_to(
     }
 }
 
-/// What it answers, asked a second time where a growth was refused.
+/// The answer of a register to a record, which is applied again if an allocation failed.
 fn again(rt: &impl Abort, alloc: Global, register: &mut Register, record: &str) -> Vec<u8> {
     match answer_to(rt, alloc, register, record) {
         Some(text) => text,
@@ -157,7 +157,8 @@ fn again(rt: &impl Abort, alloc: Global, register: &mut Register, record: &str) 
     }
 }
 
-/// What a register answers to a record. Where a growth was refused it is as its twin, and is asked a second time.
+/// The answer of a register to a record. If an allocation failed, the register is like its twin, and the record is applied
+/// again.
 fn answer_at_last(
     rt: &impl Abort,
     alloc: Global,
@@ -174,7 +175,7 @@ fn answer_at_last(
     }
 }
 
-/// Gives a record to a register and to its twin, which answer the same.
+/// Applies a record to a register and to its twin, whose answers are the same.
 fn give(
     rt: &impl Abort,
     alloc: Global,
@@ -187,7 +188,7 @@ fn give(
     assert!(rt; text.as_slice() == other.as_slice(), "to {record}");
 }
 
-/// Gives all records to a register and to its twin, which are then alike.
+/// Applies all records to a register and to its twin, which are then alike.
 fn give_all(rt: &impl Abort, alloc: Global, register: &mut Register, twin: &mut Register) {
     for record in SCRIPT.lines() {
         give(rt, alloc, register, twin, record);
@@ -196,7 +197,7 @@ fn give_all(rt: &impl Abort, alloc: Global, register: &mut Register, twin: &mut 
     assert_alike(rt, register, twin);
 }
 
-/// A register goes here, where that is proved once.
+/// Drops a register. Its drop is proved once here.
 fn let_go(_register: Register) {}
 
 #[test]

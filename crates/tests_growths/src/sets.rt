@@ -1,11 +1,11 @@
-//! Sets of nodes and their twins, which are given each node once more.
+//! Sets of nodes and their twins, to which each node is added too.
 
 use made_maps::node;
 use olr_map::{Footprint, NodeId};
 use std::alloc::Global;
 use std::process::Abort;
 
-/// Notes a node, a second time where a growth was refused.
+/// Adds a node, again if an allocation failed.
 fn note(rt: &impl Abort, set: &mut Footprint, node: NodeId) {
     if set.note(node).is_err() {
         let again = set.note(node);
@@ -13,7 +13,7 @@ fn note(rt: &impl Abort, set: &mut Footprint, node: NodeId) {
     }
 }
 
-/// Notes the nodes of another set, a second time where a growth was refused.
+/// Adds the nodes of another set, again if an allocation failed.
 fn note_all(rt: &impl Abort, set: &mut Footprint, other: &Footprint) {
     if set.note_all(other.as_slice()).is_err() {
         let again = set.note_all(other.as_slice());
@@ -25,7 +25,7 @@ fn assert_same(rt: &impl Abort, one: &Footprint, other: &Footprint) {
     assert_eq!(rt; one.as_slice(), other.as_slice());
 }
 
-/// Every third of the numbers from this one on, ten of them.
+/// Ten numbers from this one on, each three greater than the one before.
 fn thirds(rt: &impl Abort, alloc: Global, first: u32) -> Footprint {
     let mut set = Footprint::new(alloc);
     for step in 0..10 {
@@ -40,7 +40,7 @@ fn a_set_survives(rt: HostRuntime) {
     let mut set = Footprint::new(alloc);
     let mut twin = Footprint::new(alloc);
     for step in 0..40 {
-        // in a row without order, and each node twice
+        // in no order, and each node twice
         let next = node(step * 7 % 20 + 1);
         if set.note(next).is_err() {
             assert_same(&rt, &set, &twin);

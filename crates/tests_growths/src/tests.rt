@@ -1,4 +1,4 @@
-//! A map and its twin, which is given each edit once more.
+//! A map and its twin, of which each edit is made too.
 ghost use Rattle.olr_map.specs.RoadMaps.{CanUndoAll};
 
 use made_maps::{Bend, difference, line, new_line, new_node, next, node, other_line, place};
@@ -6,7 +6,7 @@ use olr_map::{Edit, EditFault, RoadMap, UndoLog};
 use std::alloc::{AllocError, Global};
 use std::process::Abort;
 
-/// The bend of each line.
+/// The shape point of each line.
 const BENT: &[Bend] = &[(300, 7, 0)];
 
 /// One of many edits of six nodes and nine lines.
@@ -24,12 +24,12 @@ fn edit_by(alloc: Global, seed: u64) -> Result<Edit, AllocError> {
     }
 }
 
-/// That two maps answer alike at all numbers of these tests.
+/// Asserts that two maps are equal at all numbers of these tests.
 fn assert_alike(rt: &impl Abort, one: &RoadMap, other: &RoadMap) {
     assert_eq!(rt; difference(one, other, 9), None);
 }
 
-/// Makes an edit. False where a growth was refused.
+/// Makes an edit. False if an allocation failed.
 fn took(alloc: Global, map: &mut RoadMap, seed: u64) -> bool {
     let Ok(edit) = edit_by(alloc, seed) else {
         return false;
@@ -43,7 +43,7 @@ fn took(alloc: Global, map: &mut RoadMap, seed: u64) -> bool {
     }
 }
 
-/// Makes an edit and takes it back, or has it refused: the map is then as its twin.
+/// Makes an edit and undoes it, or has it rejected: the map is then like its twin.
 fn try_out(rt: &impl Abort, alloc: Global, map: &mut RoadMap, twin: &RoadMap, seed: u64) {
     if let Ok(edit) = edit_by(alloc, seed) {
         if let Ok(undo) = map.apply(edit) {
@@ -53,7 +53,7 @@ fn try_out(rt: &impl Abort, alloc: Global, map: &mut RoadMap, twin: &RoadMap, se
     assert_alike(rt, map, twin);
 }
 
-/// Makes an edit, a second time where a growth was refused.
+/// Makes an edit, again if an allocation failed.
 fn take(rt: &impl Abort, alloc: Global, map: &mut RoadMap, seed: u64) {
     if !took(alloc, map, seed) {
         let again = took(alloc, map, seed);
@@ -61,7 +61,7 @@ fn take(rt: &impl Abort, alloc: Global, map: &mut RoadMap, seed: u64) {
     }
 }
 
-/// Makes an edit of both maps. Where a growth of the first is refused, the two are still alike.
+/// Makes an edit of both maps. If an allocation of the first fails, the two are still alike.
 fn take_both(rt: &impl Abort, alloc: Global, map: &mut RoadMap, twin: &mut RoadMap, seed: u64) {
     if !took(alloc, map, seed) {
         assert_alike(rt, map, twin);
@@ -70,7 +70,7 @@ fn take_both(rt: &impl Abort, alloc: Global, map: &mut RoadMap, twin: &mut RoadM
     take(rt, alloc, twin, seed);
 }
 
-/// Makes an edit with a log. False where a growth was refused: the map is then still as its twin.
+/// Makes an edit with a log. False if an allocation failed: the map is then still like its twin.
 fn took_into(
     rt: &impl Abort,
     alloc: Global,

@@ -1,4 +1,4 @@
-//! Worked edits, with expected values by hand, and edits made in one call against edits judged first.
+//! Worked edits, with expected values by hand, and edits made in one call compared with edits judged first.
 
 ghost use Rattle.std.specs.Prelude.{IsTrue};
 ghost use Rattle.olr_map.specs.RoadMaps.{CanUndoAll};
@@ -16,19 +16,19 @@ use std::fmt::Debug;
 use std::process::Abort;
 use std::test::Fail;
 
-/// That two values are the same. One call is proved sooner than the branches of `assert_eq!` at each place.
+/// Asserts that two values are equal. One call is proved faster than the branches of `assert_eq!` at each use.
 fn same<T: PartialEq + Debug + Drop>(rt: &impl Abort, found: T, wanted: T, what: &str) {
     assert_eq!(rt; found, wanted, "{what}");
 }
 
-/// The same, told by what was asked for.
+/// `same`, with the tested expression as the message.
 macro_rules! same {
     ($rt:expr; $found:expr, $wanted:expr) => {
         same($rt, $found, $wanted, stringify!($found))
     };
 }
 
-/// The same of values at a node or a line with this number.
+/// `same` for values at a node or a line with this number.
 fn same_at<T: PartialEq + Debug + Drop>(
     rt: &impl Abort,
     found: T,
@@ -39,14 +39,14 @@ fn same_at<T: PartialEq + Debug + Drop>(
     assert_eq!(rt; found, wanted, "{what} {number}");
 }
 
-/// That something is so.
+/// Asserts that a condition is true.
 fn holds(rt: &impl Abort, is_so: bool, what: &str)
     ensures { IsTrue is_so }
 {
     assert!(rt; is_so, "{what}");
 }
 
-/// The same, told by what was asked.
+/// `holds`, with the tested expression as the message.
 macro_rules! holds {
     ($rt:expr; $is_so:expr) => {
         holds($rt, $is_so, stringify!($is_so))
@@ -58,12 +58,12 @@ fn new_line(rt: &impl Abort, alloc: Global, road: Road) -> Edit {
     made_maps::new_line(alloc, road).expect(rt, "memory")
 }
 
-/// The edit that gives a line another length and shape, class 4 and form 3.
+/// The edit that sets another length and shape, class 4 and form 3 for a line.
 fn other_line(rt: &impl Abort, alloc: Global, number: u32, len: u32, bends: &[Bend]) -> Edit {
     made_maps::other_line(alloc, number, len, bends).expect(rt, "memory")
 }
 
-/// Makes an edit, which the map must take, and lets it stand.
+/// Makes an edit, which the map must accept, and discards its undo record.
 fn take(rt: &impl Abort, map: &mut RoadMap, edit: Edit) {
     make(map, edit).expect(rt, "an edit that is taken");
 }
@@ -73,12 +73,12 @@ fn base(rt: &impl Abort, alloc: Global) -> RoadMap {
     map_of(alloc, WORKED).expect(rt, "the worked map")
 }
 
-/// That two maps answer alike at all numbers up to 100.
+/// Asserts that two maps are the same at all numbers up to 100.
 fn assert_alike<M: MapRead, N: MapRead>(rt: &impl Abort, one: &M, other: &N) {
     same(rt, difference(one, other, 100), None, "where they differ");
 }
 
-/// That the map refuses an edit with this fault, and is as before.
+/// Asserts that the map rejects an edit with this fault, and is then unchanged.
 fn assert_refused(rt: &impl Abort, alloc: Global, edit: Edit, wanted: EditFault) {
     let mut map = base(rt, alloc);
     match map.apply(edit) {
@@ -91,7 +91,7 @@ fn assert_refused(rt: &impl Abort, alloc: Global, edit: Edit, wanted: EditFault)
     assert_alike(rt, &map, &base(rt, alloc));
 }
 
-/// That these are the numbers of lines, in this order.
+/// Asserts that these are the numbers of lines, in this order.
 fn assert_numbers(rt: &impl Abort, lines: &[LineId], numbers: &[u32], what: &str) {
     same(rt, lines.len(), numbers.len(), what);
     for (line, number) in lines.iter().zip(numbers) {
@@ -99,20 +99,20 @@ fn assert_numbers(rt: &impl Abort, lines: &[LineId], numbers: &[u32], what: &str
     }
 }
 
-/// The lines that leave a node, and those that enter it.
+/// Asserts which lines leave a node, and which enter it.
 fn assert_lines(rt: &impl Abort, map: &RoadMap, number: u32, outs: &[u32], ins: &[u32]) {
     assert_numbers(rt, map.out_lines(node(number)), outs, "lines from a node");
     assert_numbers(rt, map.in_lines(node(number)), ins, "lines to a node");
 }
 
-/// That line 10 of the worked map is good, and what it is.
+/// Asserts that line 10 of the worked map is good, and what its fields are.
 fn assert_first(rt: &impl Abort, first: &Line) {
     same!(rt; (first.from.number(), first.to.number()), (1, 2));
     same!(rt; (first.len, first.shape.len()), (5610, 2));
     holds!(rt; first.is_good());
 }
 
-/// What the worked map says of line 10, and that there is no line 11.
+/// Asserts what the worked map has as line 10, and that it has no line 11.
 fn assert_has_first(rt: &impl Abort, map: &RoadMap) {
     match map.line(line(10)) {
         Some(first) => assert_first(rt, first),
@@ -329,7 +329,7 @@ fn ten_edits(rt: &impl Abort, alloc: Global) -> Result<Vec<Edit>, AllocError> {
     Ok(made)
 }
 
-/// Makes the ten edits, and has them all taken back.
+/// Makes the ten edits, and undoes all of them.
 fn assert_taken_back(rt: &impl Abort, map: &mut RoadMap, edits: Vec<Edit>, mut log: UndoLog)
     requires { CanUndoAll map.old log }
 {
@@ -354,7 +354,7 @@ fn a_log_takes_all_back(rt: HostRuntime) -> Result<(), Fail> {
     Ok(())
 }
 
-/// That a line of 700 dm has its other end at node 3.
+/// Asserts that a line of 700 dm has its other end at node 3.
 fn assert_at_third(rt: &impl Abort, map: &RoadMap, end: &LineEnd) {
     same!(rt; end.node, node(3));
     same!(rt; end.len, 700);
@@ -362,7 +362,7 @@ fn assert_at_third(rt: &impl Abort, map: &RoadMap, end: &LineEnd) {
     holds!(rt; (end.place as usize) < map.place_count());
 }
 
-/// That a node's far ends are told of its place too.
+/// Asserts that the reads of a node by its slot are those by its number.
 fn assert_ends_at(rt: &impl Abort, map: &RoadMap, id: NodeId) {
     if let Some(place) = map.place_of(id) {
         same!(rt; map.in_lines_at(place), map.in_lines(id));
@@ -400,7 +400,7 @@ fn a_log_lets_all_stand(rt: HostRuntime) -> Result<(), Fail> {
     Ok(())
 }
 
-/// What an edit that the map takes touches: nodes, and a line.
+/// What an edit touches that the map accepts: nodes, and a line.
 fn touched(map: &RoadMap, edit: &Edit) -> Result<((u32, u32), Option<u32>), EditFault> {
     let judged = judge(map, edit)?;
     let nodes = (judged.nodes.0.number(), judged.nodes.1.number());
@@ -420,7 +420,7 @@ fn tells_what_an_edit_touches(rt: HostRuntime) -> Result<(), Fail> {
     Ok(())
 }
 
-/// That an edit of line 20 was judged as it should be.
+/// Asserts that an edit of line 20 was judged correctly.
 fn assert_judged(rt: &impl Abort, map: &RoadMap, judged: &Judged, len: u32) {
     same!(rt; judged.nodes, (node(2), node(3)));
     same!(rt; Some(judged.places.0), map.place_of(node(2)));
@@ -439,7 +439,7 @@ fn judges_before_it_makes(rt: HostRuntime) -> Result<(), Fail> {
     let judged = judge(&map, &shorter)?;
     assert_judged(&rt, &map, &judged, 900);
     map.make_into(shorter, &judged, &mut log)?;
-    // The length before counts, which is the lesser one.
+    // The length before the edit counts, since it is the shorter one.
     let again = judge(&map, &longer)?;
     assert_judged(&rt, &map, &again, 900);
     map.undo_all(log);
@@ -501,7 +501,7 @@ fn edit_by(rt: &impl Abort, alloc: Global, seed: u64) -> Edit {
     }
 }
 
-/// The fault of an edit, if it has one. Else it is made, and taken back where it isn't to stand.
+/// The fault of an edit, if it has one. Otherwise the edit is made, and undone unless it `stands`.
 fn fault_of(map: &mut RoadMap, edit: Edit, stands: bool) -> Option<EditFault> {
     match map.apply(edit) {
         Ok(undo) => {
@@ -516,7 +516,7 @@ fn fault_of(map: &mut RoadMap, edit: Edit, stands: bool) -> Option<EditFault> {
     }
 }
 
-/// The same where the edit is judged first and then made.
+/// `fault_of`, where the edit is judged first and then made.
 fn judged_fault(map: &mut RoadMap, edit: Edit, stands: bool) -> Option<EditFault> {
     let judged = match judge(map, &edit) {
         Ok(judged) => judged,
@@ -535,7 +535,7 @@ fn judged_fault(map: &mut RoadMap, edit: Edit, stands: bool) -> Option<EditFault
     }
 }
 
-/// Four thousand edits without pattern, of which each second one is taken back.
+/// Four thousand pseudorandom edits, of which every second one is undone.
 #[test]
 fn judging_first_changes_nothing(rt: HostRuntime) {
     let alloc = rt.alloc();

@@ -5,12 +5,12 @@ use std::alloc::{AllocError, Global};
 use std::process::Abort;
 use std::test::Fail;
 
-/// The greatest latitude of a place, 89.9999 degrees, in units.
+/// The greatest latitude of a coordinate, 89.9999 degrees, in units.
 const GREATEST_LAT: i64 = 29_491_167_232_000;
 /// The greatest part of a direction, 10^31.
 const GREATEST_PART: i128 = 10_000_000_000_000_000_000_000_000_000_000;
 
-/// A place, in 10^-5 degree.
+/// A coordinate, in 10^-5 degree.
 fn at_degrees(rt: &impl Abort, lon: i32, lat: i32) -> Coord {
     at_units(rt, i64::from(lon) * 3_276_800, i64::from(lat) * 3_276_800)
 }
@@ -23,7 +23,7 @@ fn ends_of(from: Coord, to: Coord) -> Ends {
     Ends { from, to }
 }
 
-/// A shape point so far along its line, in 10^-5 degree.
+/// A shape point at `at` decimetres along its line, with longitude and latitude in 10^-5 degree.
 fn shape(rt: &impl Abort, at: u32, lon: i32, lat: i32) -> Shape {
     Shape {
         at,
@@ -180,8 +180,8 @@ fn bearings_at_latitude_60(rt: HostRuntime) -> Result<(), Fail> {
     Ok(())
 }
 
-/// The bearing looks past a shape point at 100 dm to the place at 200 dm, and to the line's end where that is nearer.
-/// The line goes north and then east: at 201 dm the place lies before the end, a little north of north-east.
+/// The bearing is measured to the coordinate at 200 dm, past a shape point at 100 dm, or to the line's end if that is
+/// nearer. The line leads north and then east: of 201 dm, the coordinate is before the end, a little north of north-east.
 #[test]
 fn bearing_out_of_200_dm(rt: HostRuntime) -> Result<(), Fail> {
     let ends = ends_of(at_degrees(&rt, 0, 0), at_degrees(&rt, 50, 50));
@@ -193,7 +193,7 @@ fn bearing_out_of_200_dm(rt: HostRuntime) -> Result<(), Fail> {
     Ok(())
 }
 
-/// The same backwards, on a line that goes east and then north.
+/// The bearing back, on a line that leads east and then north.
 #[test]
 fn bearing_back_of_200_dm(rt: HostRuntime) -> Result<(), Fail> {
     let ends = ends_of(at_degrees(&rt, 0, 0), at_degrees(&rt, 50, 50));
@@ -264,7 +264,7 @@ fn bearings_of_the_widest_lines(rt: HostRuntime) -> Result<(), Fail> {
     Ok(())
 }
 
-/// A line that ends where it began.
+/// A line that ends at the coordinate where it begins.
 #[test]
 fn bearing_of_no_direction(rt: HostRuntime) -> Result<(), Fail> {
     let line = line(&rt, rt.alloc(), 100, &[])?;
@@ -277,7 +277,7 @@ fn bearing_of_no_direction(rt: HostRuntime) -> Result<(), Fail> {
     Ok(())
 }
 
-/// The bearings out of two lines and the bearing back of a third, which join.
+/// The bearings out of two lines and the bearing back of a third, which are joined.
 #[test]
 fn bearings_of_three_points(rt: HostRuntime) -> Result<(), Fail> {
     let first = at_degrees(&rt, 612_683, 4_960_852);

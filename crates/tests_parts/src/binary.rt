@@ -8,7 +8,7 @@ use std::alloc::{AllocError, Global};
 use std::process::Abort;
 use std::test::Fail;
 
-/// The bytes of the reference of three points.
+/// The bytes of a reference with three location reference points (LRPs).
 const THREE_POINTS: [u8; 24] = [
     0x0b, 0x04, 0x5b, 0x5b, 0x23, 0x46, 0xf5, 0x1a, 0x6c, 0x09, 0x00, 0x9b, 0xfe, 0x3b, 0x1b, 0xb4,
     0x04, 0xff, 0xeb, 0xff, 0xa3, 0x2b, 0x59, 0x44,
@@ -48,7 +48,7 @@ const LAST: Last = Last {
     bearing: 25,
 };
 
-/// The reference of three points.
+/// The reference with three LRPs.
 fn three_points(alloc: Global) -> Result<Reference, AllocError> {
     Ok(Reference {
         first: FIRST,
@@ -59,7 +59,7 @@ fn three_points(alloc: Global) -> Result<Reference, AllocError> {
     })
 }
 
-/// Asserts that the reference is the one of three points.
+/// Asserts that the reference is the one with three LRPs.
 fn assert_three_points(rt: &impl Abort, reference: &Reference) {
     same!(rt; reference.first, FIRST);
     same!(rt; reference.middle.as_slice(), [MIDDLE].as_slice());
@@ -145,7 +145,7 @@ fn bytes_cut_short(rt: HostRuntime) {
     }
 }
 
-/// The fault of the three points with one bit changed.
+/// The fault of the bytes of the reference with three LRPs, with one bit changed.
 fn fault_with(alloc: Global, place: usize, bit: u8) -> Option<V3Fault>
     requires { place < 24 }
 {

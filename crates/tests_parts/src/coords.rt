@@ -5,7 +5,7 @@ use olr_coords::{
 use std::process::Abort;
 use std::test::Fail;
 
-/// A 10^-7 degree, in units.
+/// 10^-7 degree, in units.
 const FINEST: i64 = 32_768;
 
 #[test]

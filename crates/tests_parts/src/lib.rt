@@ -1,5 +1,5 @@
-//! Tests of what stands alone: coordinates and degrees, numbers with marks, places, sectors and bearings, and
-//! references as bytes and as text.
+//! Tests of small parts: coordinates and degrees, numbers with path ids, coordinates along a line, sectors and bearings,
+//! and references as bytes and as text.
 #![tactic(auto)]
 
 #[cfg(test)]
@@ -7,13 +7,13 @@ use std::fmt::Debug;
 #[cfg(test)]
 use std::process::Abort;
 
-/// That two values are the same. One call is proved sooner than the branches of `assert_eq!` at each place.
+/// Asserts that two values are equal. One call is proved faster than the branches of `assert_eq!` at each use.
 #[cfg(test)]
 fn same<T: PartialEq + Debug + Drop>(rt: &impl Abort, found: T, wanted: T, what: &str) {
     assert_eq!(rt; found, wanted, "{what}");
 }
 
-/// The same, told by what was asked for.
+/// `same`, with the tested expression as the message.
 #[cfg(test)]
 macro_rules! same {
     ($rt:expr; $found:expr, $wanted:expr) => {

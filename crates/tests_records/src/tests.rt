@@ -1,4 +1,4 @@
-//! Records and texts. The expected values were worked out by hand from the formats.
+//! Records and texts. The expected values were calculated by hand from the formats.
 
 use csv::ByteRecord;
 use olr_binary::{TextFault, V3Fault, from_text};
@@ -10,7 +10,7 @@ use std::alloc::Global;
 use std::process::Abort;
 use std::test::Fail;
 
-/// What a line of fields with commas between them reads as.
+/// The command that a line of comma-separated fields decodes to, or its fault.
 fn reading_of(alloc: Global, line: &str) -> Result<Result<Command, ReadFault>, Fail> {
     let mut row = ByteRecord::new(alloc);
     for field in line.split(',') {
@@ -19,7 +19,7 @@ fn reading_of(alloc: Global, line: &str) -> Result<Result<Command, ReadFault>, F
     Ok(read_command(alloc, &row))
 }
 
-/// Asserts what each line reads as, by its printed form.
+/// Asserts what each line decodes to, by its printed form.
 fn expect<R: Abort + AllocGlobal>(rt: &R, cases: &[(&str, &str)]) -> Result<(), Fail> {
     for (line, want) in cases {
         let command = reading_of(rt.alloc(), line)?;
@@ -174,7 +174,7 @@ fn text_entry(alloc: Global, name: &str, text: &str) -> Result<Entry, Fail> {
     })
 }
 
-/// A path's entry with a refusal.
+/// A path's entry with the reason why it has no string.
 fn refused_entry(alloc: Global, name: &str, refusal: Refusal) -> Result<Entry, Fail> {
     Ok(Entry {
         name: String::from_str(alloc, name)?,

@@ -1,4 +1,4 @@
-//! The points of extended paths, by position.
+//! The location reference points (LRPs) of extended paths, by position.
 ghost use Rattle.std.specs.Bool.{OnTrue};
 ghost use Rattle.olr_spec.specs.Extension.{AreJoined};
 
@@ -11,11 +11,11 @@ use std::alloc::{AllocError, Global};
 use std::process::Abort;
 use std::test::Fail;
 
-/// What an extended path is and what is chosen on it: its lines, its offsets in decimetres, the points' positions, and
-/// how many searches that took.
+/// What is expected of an extended path: its lines, its offsets in decimetres, the positions of the LRPs that are chosen
+/// on it, and how many searches that takes.
 type Expected = (&'static [u32], (u64, u64), &'static [usize], u64);
 
-/// Whether there are lines, all in the map, each of which ends where the next one begins.
+/// Whether there are lines, all on the map, each of which ends where the next one begins.
 fn are_joined<M: MapRead>(map: &M, lines: &[LineId]) -> bool
     ensures { OnTrue result (AreJoined (M.map map.now) lines.now) }
 {
@@ -39,7 +39,7 @@ fn numbers_of(alloc: Global, lines: &[LineId]) -> Result<Vec<u32>, AllocError> {
     Ok(numbers)
 }
 
-/// Asserts what is chosen on lines of a map.
+/// Asserts which LRPs are chosen on lines of a map, and by how many searches.
 fn expect_chosen(
     rt: &impl Abort,
     alloc: Global,
@@ -69,7 +69,7 @@ fn expect_chosen(
     Ok(())
 }
 
-/// Asserts the extended path of a path on a map, and its points.
+/// Asserts the extended path of a path on a map, and its LRPs.
 fn expect_points(
     rt: &impl Abort,
     alloc: Global,
@@ -88,7 +88,7 @@ fn expect_points(
     expect_chosen(rt, alloc, map, &extended.lines, positions, searches)
 }
 
-/// The same on the map of a plan.
+/// `expect_points` on the map of a plan.
 fn expect_points_on(
     rt: &impl Abort,
     alloc: Global,
@@ -100,10 +100,10 @@ fn expect_points_on(
     expect_points(rt, alloc, &map, plain, expected)
 }
 
-/// The nodes of a long line that leads to a passing node, and of a short line behind it.
+/// The nodes of a long line that leads to a degree-two node, and of a short line after it.
 const CHAIN_PLACES: &[Place] = &[(1, 0, 0), (2, 0, 10_000), (3, 0, 20_000)];
 
-/// A ring of three lines, whose nodes are all passing.
+/// A ring of three lines, which has degree-two nodes only.
 const RING: Plan = (
     &[(1, 0, 0), (2, 100, 0), (3, 0, 100)],
     &[
@@ -113,7 +113,7 @@ const RING: Plan = (
     ],
 );
 
-/// A chain just as long as may be put before, and one a decimetre longer.
+/// A run of degree-two nodes of the greatest length by which a path is extended, and one a decimetre longer.
 const CHAIN: Plan = (
     CHAIN_PLACES,
     &[
@@ -137,7 +137,7 @@ const CASES: &[(Plan, PlainPath, Expected)] = &[
     (BARE, (ROAD, 1500, 0), (ROAD, (1500, 0), &[0, 3], 1)),
     (PASSING, (&[20], 0, 0), (&[10, 20], (1000, 0), &[0, 2], 0)),
     (RING, (&[10], 0, 0), (&[10], (0, 0), &[0, 1], 0)),
-    // a valid node is taken, though a passing one is farther; without the side road there is none
+    // a valid node is chosen, though a degree-two node is farther; without the side road there is no valid one
     (LONG, (ROAD, 0, 0), (ROAD, (0, 0), &[0, 1, 3], 1)),
     (LONG_BARE, (ROAD, 0, 0), (ROAD, (0, 0), &[0, 2, 3], 1)),
     (

@@ -8,7 +8,7 @@ use std::test::Fail;
 /// The lines of a map, given by number, ends and length, and a path on it: its lines and its offsets in decimetres.
 type Given = (&'static [Plain], &'static [u32], u32, u32);
 
-/// What `extend` answers: the lines' numbers, the two offsets, and the nodes of the footprint.
+/// The expected result of `extend`: the lines' numbers, the two offsets, and the nodes of the footprint.
 type Expected = (&'static [u32], (u64, u64), &'static [u32]);
 
 /// The numbers of lines, and of the nodes of a footprint.
@@ -28,7 +28,7 @@ fn numbers_of(
     Ok((numbers, nodes))
 }
 
-/// Asserts what `extend` answers for a path on a map.
+/// Asserts the result of `extend` for a path on a map.
 fn expect_extended(
     rt: &impl Abort,
     alloc: Global,
@@ -47,7 +47,7 @@ fn expect_extended(
     Ok(())
 }
 
-/// A road over nodes 1 to 3, both ways, of which node 2 is passing; and with a side road there, which makes it valid.
+/// A road over nodes 1 to 3, both ways, where 2 is a degree-two node; and with a side road there, which makes it valid.
 const BOTH_WAYS: &[Plain] = &[
     (10, 1, 2, 1000),
     (11, 2, 1, 1000),
@@ -63,11 +63,11 @@ const WITH_SIDE: &[Plain] = &[
     (40, 2, 4, 1000),
 ];
 
-/// A ring of passing nodes.
+/// A ring of degree-two nodes.
 const RING: &[Plain] = &[(10, 1, 2, 1000), (20, 2, 3, 1000), (30, 3, 1, 1000)];
 
-/// A chain just as long as may be put before, one a decimetre longer, one that leads to a passing node, and one at the
-/// end.
+/// A run of degree-two nodes of the greatest length by which a path is extended, one a decimetre longer, one that leads
+/// to a degree-two node, and one at the end.
 const CHAIN: &[Plain] = &[(10, 1, 2, 150_000), (20, 2, 3, 1000)];
 
 const LONGER: &[Plain] = &[(10, 1, 2, 150_001), (20, 2, 3, 1000)];
@@ -82,15 +82,15 @@ const CASES: &[(Given, Expected)] = &[
     ((RING, &[10], 0, 0), (&[10], (0, 0), &[1, 2, 3])),
     ((RING, &[10, 20], 0, 0), (&[10, 20], (0, 0), &[1, 2, 3])),
     ((CHAIN, &[20], 0, 0), (&[10, 20], (150_000, 0), &[1, 2, 3])),
-    // one decimetre more: nothing is tried, and node 1, where line 10 begins, is not noted
+    // one decimetre more: nothing is tried, and node 1, where line 10 begins, is not recorded
     ((LONGER, &[20], 0, 0), (&[20], (0, 0), &[2, 3])),
-    // line 20 is tried at the start, and with line 10 the chain would pass its limit
+    // line 20 is tried at the start; with line 10 the run would exceed its limit
     ((TO_PASSING, &[30], 0, 0), (&[30], (0, 0), &[2, 3, 4])),
     (
         (AT_THE_END, &[10], 3, u32::MAX),
         (&[10, 20, 30], (3, 4_294_967_295 + 150_000), &[1, 2, 3, 4]),
     ),
-    // a turn in the path
+    // a U-turn in the path
     (
         (BOTH_WAYS, &[20, 21], 0, 0),
         (&[10, 20, 21, 11], (1000, 1000), &[1, 2, 3]),

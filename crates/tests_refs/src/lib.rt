@@ -1,5 +1,5 @@
-//! Tests of what encodings do with a path, on maps that are built by edits: the extension, and what is then chosen and
-//! looked at; each worked out by hand.
+//! Tests of the encoding of paths, on maps that are built by edits: the extension, and the location reference points (LRPs),
+//! traversed nodes and coverage queries; each worked out by hand.
 #![tactic(auto)]
 
 #[cfg(test)]

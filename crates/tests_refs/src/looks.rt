@@ -1,4 +1,4 @@
-//! What encodings look at: own nodes and looks, worked out by hand, and the footprints that they make up.
+//! Traversed nodes and coverage queries of encodings, worked out by hand, and the footprints that they make up.
 
 use crate::maps::{BARE, LONG, LONG_BARE, PASSING, PlainPath, path_of};
 use made_maps::{
@@ -12,14 +12,14 @@ use std::alloc::{AllocError, Global};
 use std::process::Abort;
 use std::test::Fail;
 
-/// A look: the node where it begins, that of the last position that it tested, and how far apart they are along the
+/// A coverage query: the node where it begins, that of the last position that it tested, and their distance along the
 /// path, in decimetres.
 type Seen = (u32, u32, u32);
 
-/// What is wanted of an encoding: its own nodes, and its looks.
+/// What is expected of an encoding: its traversed nodes, and its coverage queries.
 type Wanted = (&'static [u32], &'static [Seen]);
 
-/// The traversed nodes, and those that a route of at most the length of a coverage query reaches from its begin.
+/// The traversed nodes, and those that a route of at most the length of a coverage query reaches from its start.
 fn seen(alloc: Global, map: &RoadMap, encoding: &Encoding) -> Result<Footprint, Fail> {
     let mut nodes = Footprint::new(alloc);
     nodes.note_all(encoding.own.as_slice())?;
@@ -52,7 +52,7 @@ fn expect_footprint(
     Ok(())
 }
 
-/// The numbers of the own nodes of an encoding.
+/// The numbers of the traversed nodes of an encoding.
 fn own_of(alloc: Global, encoding: &Encoding) -> Result<Vec<u32>, AllocError> {
     let mut own = Vec::new(alloc);
     for node in encoding.own.as_slice() {
@@ -61,7 +61,7 @@ fn own_of(alloc: Global, encoding: &Encoding) -> Result<Vec<u32>, AllocError> {
     Ok(own)
 }
 
-/// What an encoding looked at.
+/// The coverage queries of an encoding.
 fn looks_of(alloc: Global, encoding: &Encoding) -> Result<Vec<Seen>, AllocError> {
     let mut looks = Vec::new(alloc);
     for look in &encoding.looks {
@@ -70,7 +70,7 @@ fn looks_of(alloc: Global, encoding: &Encoding) -> Result<Vec<Seen>, AllocError>
     Ok(looks)
 }
 
-/// Asserts what the encoding of a path looked at.
+/// Asserts the traversed nodes and the coverage queries of the encoding of a path.
 fn expect_seen(
     rt: &impl Abort,
     alloc: Global,
@@ -83,7 +83,7 @@ fn expect_seen(
     assert_eq!(rt; (own.as_slice(), looks.as_slice()), wanted, "of {plain:?}");
 }
 
-/// Asserts what a path on a map looks at, and that this makes up its footprint.
+/// Asserts the traversed nodes and coverage queries of a path on a map, and that they make up its footprint.
 fn expect_looks(
     rt: &impl Abort,
     alloc: Global,
@@ -102,7 +102,7 @@ fn expect_looks(
     expect_footprint(rt, alloc, map, &path, &encoding, work)
 }
 
-/// The same on the map of a plan.
+/// `expect_looks` on the map of a plan.
 fn expect_looks_on(
     rt: &impl Abort,
     alloc: Global,
@@ -123,7 +123,7 @@ const EQUAL: Plan = (
 /// The worked map without its second line.
 const BROKEN: Plan = (PLACES, &[FIRST, THIRD, SIDE]);
 
-/// The worked map without its side road, and a way round the second line by nodes 6 and 7.
+/// The worked map without its side road, with a detour around the second line by nodes 6 and 7.
 const DETOUR: Plan = (
     &[
         (1, 612_683, 4_960_852),
@@ -146,7 +146,7 @@ const DETOUR: Plan = (
 /// Nodes in a row.
 const ROW: &[Place] = &[(1, 0, 0), (2, 0, 10_000), (3, 0, 11_000), (4, 0, 12_000)];
 
-/// A line as long as two points may be apart, one a decimetre longer, and that one with two lines behind it.
+/// A line as long as two LRPs may be apart, one a decimetre longer, and that one with two lines after it.
 const LONGEST: Plan = (ROW, &[(10, 1, 2, 0, 1, 150_000, STRAIGHT)]);
 
 const TOO_LONG: Plan = (ROW, &[(10, 1, 2, 0, 1, 150_001, STRAIGHT)]);
@@ -160,7 +160,7 @@ const TOO_LONG_FIRST: Plan = (
     ],
 );
 
-/// A way round from node 2 to node 2.
+/// A loop from node 2 to node 2.
 const ROUND: Plan = (
     &[
         (1, 0, 0),
@@ -185,33 +185,33 @@ const ROAD: PlainPath = (&[10, 20, 30], 0, 0);
 const FOUR: &[u32] = &[1, 2, 3, 4];
 
 const CASES: &[(Plan, PlainPath, Wanted)] = &[
-    // From node 2, where line 10 ends, to node 3 it is 2000 dm along line 20, and not the 1500 of the side road. Only
-    // line 30 follows line 20, so nothing is looked at from there.
+    // From node 2, where line 10 ends, to node 3 the path has 2000 dm by line 20, and the side road has 1500 dm. Only
+    // line 30 follows line 20, so there is no coverage query from there.
     (WORKED, WHOLE, (FOUR, &[(2, 3, 2000)])),
-    // of two ways equally long none is taken
+    // of two equally long routes neither is the unique shortest path
     (EQUAL, WHOLE, (FOUR, &[(2, 3, 2000)])),
     // without the side road position 2 is covered, and it is the last that is tested
     (BARE, WHOLE, (FOUR, &[(2, 3, 2000)])),
-    // nodes 6 and 7 of the way round are none of the path's own
+    // nodes 6 and 7 of the detour are not traversed
     (DETOUR, ROAD, (FOUR, &[(2, 3, 2000)])),
-    // line 10 is put before, so node 1 is one of the path's own; two lines need no look
+    // line 10 is added at the start, so node 1 is a traversed node; two lines need no coverage query
     (PASSING, (&[20], 0, 0), (&[1, 2, 3], &[])),
-    // one decimetre more, and no point follows the start
+    // one decimetre more, and there is no next LRP after the start
     (LONGEST, (&[10], 0, 0), (&[1, 2], &[])),
     (TOO_LONG, (&[10], 0, 0), (&[1, 2], &[])),
-    // no position is near enough, so none is tested: the look ends where it begins
+    // no position is within the limit, so none is tested: the coverage query ends where it begins
     (TOO_LONG_FIRST, ROAD, (FOUR, &[(2, 2, 0)])),
-    // Position 2, 140,000 dm on, is covered, and it is the last before the end. Node 5 is on the side road.
+    // Position 2, at 140,000 dm, is covered, and it is the last before the end. Node 5 is on the side road.
     (LONG, ROAD, (FOUR, &[(2, 3, 40_000)])),
     (LONG_BARE, ROAD, (FOUR, &[(2, 3, 40_000)])),
-    // From node 2 the way round to node 2 fails: 5000 dm, and not the 0 of staying there. Node 2 is the next point, and
-    // from the end of line 20 all is covered as far as line 50: 3500 dm.
+    // From node 2 the loop to node 2 is not the shortest path: its length is 5000 dm, and that of staying there is 0. Node 2
+    // is the next LRP, and from the end of line 20 all is covered as far as line 50: 3500 dm.
     (
         ROUND,
         (&[10, 20, 30, 40, 50], 300, 250),
         (&[1, 2, 3, 4, 5], &[(2, 2, 5000), (3, 2, 3500)]),
     ),
-    // a line of the path is gone
+    // a line of the path is not on the map
     (BROKEN, WHOLE, (&[], &[])),
 ];
 
@@ -223,7 +223,7 @@ fn own_nodes_and_looks(rt: HostRuntime) -> Result<(), Fail> {
     Ok(())
 }
 
-/// Makes an edit of a grid, and lets it stand.
+/// Makes an edit of a grid, and discards its undo record.
 fn put(rt: &impl Abort, map: &mut RoadMap, edit: Edit) {
     let made = make(map, edit);
     assert!(rt; made.is_ok());
@@ -234,9 +234,8 @@ fn road(alloc: Global, number: u32, from: u32, to: u32) -> Edit {
     plain_line(alloc, (number, from, to, 40_000))
 }
 
-/// A grid of five by five nodes, row by row, with a line each way between neighbours, so long that no more than three
-/// follow one another within 150,000 dm. From node n lines 100 + n, 200 + n, 300 + n and 400 + n go east, west, north
-/// and south.
+/// A grid of five by five nodes, row by row, with a line each way between neighbours, so long that at most three in a
+/// row are within 150,000 dm. From node n lines 100 + n, 200 + n, 300 + n and 400 + n lead east, west, north and south.
 fn grid_map(rt: &impl Abort, alloc: Global) -> RoadMap {
     let mut map = RoadMap::new(alloc);
     for node in 0..25 {
@@ -261,14 +260,14 @@ fn grid_map(rt: &impl Abort, alloc: Global) -> RoadMap {
 }
 
 const ON_GRID: &[(PlainPath, Wanted)] = &[
-    // No way is as short as straight on. From node 11 three lines are near enough, so the look ends where the fourth
-    // begins. That is the next point, and no two lines follow it.
+    // No route is as short as straight on. From node 11 three lines are within the limit, so the coverage query ends where
+    // the fourth begins. That node is the next LRP, and only one line is after it.
     (
         (&[111, 112, 113, 114], 0, 0),
         (&[11, 12, 13, 14, 15], &[(12, 14, 80_000)]),
     ),
-    // From node 12 to node 18 round the corner there are two ways equally long, so node 13 is a point. From node 18,
-    // the end of line 313, it is straight on to node 23, where the last line begins.
+    // From node 12 to node 18 around the corner there are two equally long routes, so node 13 is an LRP. From node 18, the
+    // end of line 313, it is straight on to node 23, where the last line begins.
     (
         (&[111, 112, 313, 318, 123], 0, 0),
         (
@@ -276,16 +275,16 @@ const ON_GRID: &[(PlainPath, Wanted)] = &[
             &[(12, 18, 80_000), (18, 23, 40_000)],
         ),
     ),
-    // Nodes 1 and 5 are passing, so line 406 from node 6 is put before, and line 305 to node 10 behind. From node 1
-    // three lines are near enough for a look as far as node 3, which is the next point; from node 4 only line 104 is
-    // tested.
+    // Nodes 1 and 5 are degree-two nodes, so line 406 from node 6 is added at the start, and line 305 to node 10 at the end.
+    // From node 1 three lines are within the limit for a coverage query as far as node 3, which is the next LRP; from node 4
+    // only line 104 is tested.
     (
         (&[101, 102, 103, 104], 0, 0),
         (&[1, 2, 3, 4, 5, 6, 10], &[(1, 3, 80_000), (4, 5, 40_000)]),
     ),
 ];
 
-/// Asserts what paths on a map look at.
+/// Asserts the traversed nodes and coverage queries of paths on a map.
 fn expect_all(
     rt: &impl Abort,
     alloc: Global,

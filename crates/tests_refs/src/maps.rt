@@ -1,4 +1,4 @@
-//! Maps on which points and looks were worked out by hand, and paths on them.
+//! Maps on which location reference points (LRPs) and coverage queries were worked out by hand, and paths on them.
 
 use made_maps::{FIRST, PLACES, Place, Plan, SECOND, STRAIGHT, THIRD, lines};
 use olr_refs::Path;
@@ -11,7 +11,7 @@ pub type PlainPath = (&'static [u32], u32, u32);
 /// The worked map without its side road.
 pub const BARE: Plan = (PLACES, &[FIRST, SECOND, THIRD]);
 
-/// A road of two lines each way over a passing node, node 2.
+/// A road of two lines each way over a degree-two node, node 2.
 pub const PASSING: Plan = (
     &[(1, 0, 0), (2, 100, 0), (3, 200, 0)],
     &[
@@ -22,7 +22,7 @@ pub const PASSING: Plan = (
     ],
 );
 
-/// The nodes of a road that is longer than two points may be apart, and of a side road at node 2.
+/// The nodes of a road that is longer than two LRPs may be apart, and of a side road at node 2.
 pub const LONG_PLACES: &[Place] = &[
     (1, 0, 0),
     (2, 0, 9000),

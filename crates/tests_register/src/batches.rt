@@ -1,4 +1,4 @@
-//! Batches over a worked map, with texts and counts from outside.
+//! Batches over the worked map. The expected texts and counts do not come from the program.
 
 use crate::worked::{
     TEXT, WITH_TEXT, ends, expect_counts, expect_text, holds, refuses, road, tells, worked_edits,
@@ -50,7 +50,7 @@ fn a_batch_that_cancels_out(rt: HostRuntime) {
     ends(&rt, register, 2, 0);
 }
 
-/// Fills an open batch with moves of a node to its own place.
+/// Fills an open batch with edits that move a node to where it is.
 fn fill_up(rt: &impl Abort, register: &mut Register) {
     let same = place(612_817, 4_960_306);
     for number in 1..=100_000 {

@@ -1,4 +1,4 @@
-//! Commands over a worked map, with texts and counts from outside.
+//! Commands over the worked map. The expected texts and counts do not come from the program.
 
 use crate::worked::{
     TEXT, WITH_TEXT, add, edits, ends, expect_counts, expect_names, expect_text, names, refuses,
@@ -16,7 +16,7 @@ use std::test::Fail;
 /// The text of line 10 alone.
 const ALONE: &str = "CwRbWyNG9RpsCQCb/jsaHA==";
 
-/// That the worked path stands alone in the register, with its answer and text.
+/// Asserts that the register has only the worked path, with its answer and text.
 fn expect_worked(rt: &impl Abort, register: &Register) {
     expect_names(rt, register, &["a"]);
     expect_text(rt, register, "a", Some(TEXT));
@@ -58,7 +58,7 @@ fn a_node_is_moved_to_its_own_place(rt: HostRuntime) {
     ends(&rt, register, 2, 0);
 }
 
-/// Adds a line far from the worked path, which encodes nothing.
+/// Adds a line far from the worked path, so that nothing is encoded.
 fn add_far(rt: &impl Abort, alloc: Global, register: &mut Register) {
     edits(rt, register, new_node((5, 700_000, 5_000_000)));
     expect_counts(rt, register, 1, 0);

@@ -1,4 +1,4 @@
-//! Answers that are kept without a search for their points, and footprints.
+//! Answers that are retained without a search for their LRPs, and footprints.
 
 use crate::worked::{
     TEXT, add, edits, ends, expect_counts, expect_text, holds, tells, three_points,
@@ -11,12 +11,12 @@ use olr_route::Work;
 use std::alloc::Global;
 use std::process::Abort;
 
-/// Adds a road of two lines that leads from node 2 to nowhere.
+/// Adds a road of two lines from node 2 to a dead end.
 fn add_blind_road(rt: &impl Abort, alloc: Global, register: &mut Register) {
     edits(rt, register, new_node((6, 613_000, 4_960_400)));
     edits(rt, register, new_node((7, 613_100, 4_960_400)));
     edits(rt, register, plain_line(alloc, (60, 2, 6, 1000)));
-    // Line 60 begins at a node of the path, which is encoded for it.
+    // Line 60 begins at a node of the path, which is encoded again.
     expect_counts(rt, register, 2, 0);
     edits(rt, register, plain_line(alloc, (70, 6, 7, 500)));
 }
@@ -35,7 +35,7 @@ fn an_answer_is_kept(rt: HostRuntime) {
     ends(&rt, register, 3, 1);
 }
 
-/// That so many searches were made.
+/// Asserts the number of searches.
 fn expect_searches(rt: &impl Abort, register: &Register, searches: u64) {
     assert_eq!(rt; register.work().searches, searches);
 }
@@ -54,7 +54,7 @@ fn an_answer_is_kept_by_a_batch(rt: HostRuntime) {
     ends(&rt, register, 4, 2);
 }
 
-/// That the path's footprint has these nodes, and not node 5.
+/// Asserts that the path's footprint has these nodes, and not node 5.
 fn expect_footprint(rt: &impl Abort, register: &Register, numbers: &[u32]) {
     match register.footprint("a") {
         Ok(Some(footprint)) => {
@@ -81,7 +81,7 @@ fn a_footprint_is_searched_for(rt: HostRuntime) {
     ends(&rt, register, 3, 1);
 }
 
-/// That the register has done as much as this.
+/// Asserts the work of the register.
 fn expect_work(rt: &impl Abort, register: &Register, wanted: Work) {
     assert_eq!(rt; register.work(), wanted);
 }

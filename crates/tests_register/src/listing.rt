@@ -1,4 +1,4 @@
-//! What edits touched, and what a list of paths keeps of those that it had.
+//! What edits touched, and what a list of paths stores of earlier paths.
 ghost use Rattle.std.specs.Prelude.{◌≡◌, string_bytes};
 
 use made_maps::{Plain, STRAIGHT, line, lines, make, node, other_line, plain_map};
@@ -10,7 +10,7 @@ use olr_route::Work;
 use std::alloc::Global;
 use std::process::Abort;
 
-/// Notes two nodes, and perhaps a line.
+/// Records two nodes, and perhaps a line.
 fn note(rt: &impl Abort, touched: &mut Touched, from: u32, to: u32, number: Option<u32>) {
     let room = touched.reserve();
     assert!(rt; room.is_ok());
@@ -34,10 +34,10 @@ fn touched_nodes_and_lines(rt: HostRuntime) {
     }
 }
 
-/// Two roads apart: line 10 from node 1 to node 2, and line 30 from node 4 to node 5.
+/// Two roads that do not join: line 10 from node 1 to node 2, and line 30 from node 4 to node 5.
 const APART: &[Plain] = &[(10, 1, 2, 1000), (30, 4, 5, 1000)];
 
-/// Puts a path of one line last, not encoded yet.
+/// Appends a path of one line, not encoded yet.
 fn hold(rt: &impl Abort, alloc: Global, list: &mut Listing, name: &str, number: u32) {
     let lines = lines(alloc, &[number]).expect(rt, "memory");
     let path = Path::new(alloc, lines, 0, 0).expect(rt, "a path");
@@ -47,7 +47,7 @@ fn hold(rt: &impl Abort, alloc: Global, list: &mut Listing, name: &str, number: 
     assert!(rt; held.is_ok());
 }
 
-/// The list of the paths b and a on two roads, neither encoded yet.
+/// The list of the paths b and a on two roads, neither of them encoded yet.
 fn two_paths(rt: &impl Abort, alloc: Global) -> Listing {
     let mut list = Listing::new(alloc);
     hold(rt, alloc, &mut list, "b", 30);
@@ -55,7 +55,7 @@ fn two_paths(rt: &impl Abort, alloc: Global) -> Listing {
     list
 }
 
-/// Encodes what is new, and what a change of the line between two nodes can concern.
+/// Encodes the new paths, and those that a change of the line between two nodes may affect.
 fn renew(
     rt: &impl Abort,
     alloc: Global,
@@ -91,13 +91,13 @@ fn renew(
     assert!(rt; renewed.is_ok());
 }
 
-/// Makes an edit, and lets it stand.
+/// Makes an edit, and drops its undo record.
 fn edit(rt: &impl Abort, map: &mut RoadMap, edit: Edit) {
     let made = make(map, edit);
     assert!(rt; made.is_ok());
 }
 
-/// Renews a list on two roads: as it comes, with a longer line 30, and without line 10.
+/// Renews a list on two roads: as it is, with a longer line 30, and without line 10.
 fn renew_thrice(rt: &impl Abort, alloc: Global, list: &mut Listing) {
     let mut map = plain_map(alloc, 5, APART).expect(rt, "a map");
     renew(rt, alloc, list, &map, (10, 1, 2));
@@ -108,12 +108,12 @@ fn renew_thrice(rt: &impl Abort, alloc: Global, list: &mut Listing) {
     renew(rt, alloc, list, &map, (10, 1, 2));
 }
 
-/// All that a list keeps.
+/// The printed form of everything that a list stores.
 fn printed_list(rt: &impl Abort, alloc: Global, list: &Listing) -> String {
     format!(in alloc; "{list:?}").expect(rt, "memory")
 }
 
-/// That two lists keep the same.
+/// Asserts that two lists store the same.
 fn expect_alike(rt: &impl Abort, alloc: Global, list: &Listing, other: &Listing) {
     let (found, wanted) = (
         printed_list(rt, alloc, list),
@@ -130,7 +130,7 @@ fn without_b(rt: &impl Abort, alloc: Global) -> Listing {
     list
 }
 
-/// That the list of both paths keeps nothing of those that are dropped.
+/// Asserts that the list of both paths stores nothing of paths that are dropped.
 fn expect_nothing_left(rt: &impl Abort, alloc: Global, mut list: Listing) {
     let other = without_b(rt, alloc);
     list.drop_path("b");

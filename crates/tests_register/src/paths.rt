@@ -1,4 +1,4 @@
-//! Paths on small maps: encoded as they are given, renewed by edits, and changed by batches.
+//! Paths on small maps: encoded when they are added, renewed by edits, and changed by batches.
 
 use crate::worked::{
     add, change_path, drop_path, edits, ends, expect_counts, expect_names, expect_text, holds,
@@ -12,13 +12,13 @@ use olr_register::Register;
 use std::alloc::Global;
 use std::process::Abort;
 
-/// A road of two lines over nodes 1 to 3, each 100 m long.
+/// A road of two lines along nodes 1 to 3, each 100 m long.
 const ROAD: &[Plain] = &[(10, 1, 2, 1000), (20, 2, 3, 1000)];
 
-/// Two roads apart: line 10 from node 1 to node 2, and line 30 from node 4 to node 5.
+/// Two roads that do not join: line 10 from node 1 to node 2, and line 30 from node 4 to node 5.
 const APART: &[Plain] = &[(10, 1, 2, 1000), (30, 4, 5, 1000)];
 
-/// The register of the nodes 1 to 6, all at one place, and these lines.
+/// The register of the nodes 1 to 6, all with the same coordinate, and these lines.
 fn roads(rt: &impl Abort, alloc: Global, lines: &[Plain]) -> Register {
     let mut register = Register::new(alloc);
     for number in 1..=6 {
@@ -30,7 +30,7 @@ fn roads(rt: &impl Abort, alloc: Global, lines: &[Plain]) -> Register {
     register
 }
 
-/// Why a path has no text that names a line which the map has not.
+/// The reason why a path has no text: this line is not on the map.
 fn unknown(number: u32) -> Result<&'static str, Refusal> {
     Err(Refusal::UnknownLine(line(number)))
 }
@@ -42,7 +42,7 @@ fn paths_are_encoded_as_they_are_given(rt: HostRuntime) {
     tells(&rt, &mut register, gone, &[("gone", unknown(30))]);
     let way = add(&rt, rt.alloc(), "way", &[10, 20], 0);
     names(&rt, &mut register, way, &["way"]);
-    // to a path of the same answer, and to one of another
+    // replaced by a path of the same answer, and by one of another
     let same = change_path(&rt, rt.alloc(), "gone", &[10, 30]);
     tells(&rt, &mut register, same, &[]);
     let other = change_path(&rt, rt.alloc(), "gone", &[40]);
@@ -63,7 +63,7 @@ fn all_paths_are_told_in_order(rt: HostRuntime) {
     ends(&rt, register, 2, 0);
 }
 
-/// The text that is shown of a path.
+/// The text that `show` returns for a path.
 fn shown_text(rt: &impl Abort, alloc: Global, register: &mut Register, name: &str) -> String {
     let name = String::from_str(alloc, name).expect(rt, "memory");
     match register.apply(Command::Show(name)) {
@@ -75,7 +75,7 @@ fn shown_text(rt: &impl Abort, alloc: Global, register: &mut Register, name: &st
     }
 }
 
-/// That the text is that of a reference whose points have class 4 and form 3.
+/// Asserts that the text is that of a reference whose LRPs have class 4 and form 3.
 fn expect_plain(rt: &impl Abort, alloc: Global, register: &mut Register, text: &str) {
     let text = Vec::from_slice(alloc, text.as_bytes()).expect(rt, "memory");
     match register.apply(Command::Explain(text)) {
@@ -88,7 +88,7 @@ fn expect_plain(rt: &impl Abort, alloc: Global, register: &mut Register, text: &
     }
 }
 
-/// That this text is published of a path, whose answer it is.
+/// Asserts that this text is published of a path, and is that of its answer.
 fn expect_published(rt: &impl Abort, register: &Register, name: &str, text: &str) {
     let Some(published) = register.published_of(name) else {
         panic!(rt; "no path");
@@ -137,13 +137,13 @@ fn new_paths_of_a_batch(rt: HostRuntime) {
     ends(&rt, register, 2, 0);
 }
 
-/// That the open batch has a path of that name.
+/// Asserts that the open batch has a path of that name.
 fn expect_there(rt: &impl Abort, alloc: Global, register: &mut Register, name: &str) {
     let again = add(rt, alloc, name, &[10], 0);
     refuses(rt, register, again, CommandFault::PathExists);
 }
 
-/// Drops a path of the open batch, as its change of that number.
+/// Drops a path of the open batch, as the change of that number.
 fn expect_dropped(
     rt: &impl Abort,
     alloc: Global,
@@ -179,7 +179,7 @@ fn changes_of_a_batch_over_paths(rt: HostRuntime) {
     ends(&rt, register, 2, 0);
 }
 
-/// Gives the paths b and a on two roads by one batch.
+/// Adds the paths b and a on two roads, by one batch.
 fn give_both(rt: &impl Abort, alloc: Global, register: &mut Register) {
     tells(rt, register, Command::Begin, &[]);
     holds(rt, register, add(rt, alloc, "b", &[30], 0), 1);
@@ -199,10 +199,10 @@ fn paths_are_renewed(rt: HostRuntime) {
     let longer = other_line(rt.alloc(), 30, 9000, STRAIGHT).expect(&rt, "memory");
     names(&rt, &mut register, Command::Edit(longer), &["b"]);
     expect_counts(&rt, &register, 3, 0);
-    // a side road at a node of path a: its answer stays
+    // a side road at a node of path a: its answer is the same
     edits(&rt, &mut register, plain_line(rt.alloc(), (40, 6, 2, 1000)));
     expect_counts(&rt, &register, 4, 0);
-    // the line of path a is gone
+    // the line of path a is dropped
     let dropped = Command::Edit(Edit::DropLine(line(10)));
     tells(&rt, &mut register, dropped, &[("a", unknown(10))]);
     ends(&rt, register, 5, 0);

@@ -1,4 +1,4 @@
-//! The worked map in a register, with texts from outside, and what tests of commands share.
+//! The worked map in a register, with texts that do not come from the program, and functions that tests of commands share.
 
 use made_maps::{Road, WORKED, edits_of, lines, new_line};
 use olr_commands::{Command, CommandFault, Entry, Reply};
@@ -11,10 +11,10 @@ use std::process::Abort;
 /// The text of the worked path.
 pub(crate) const TEXT: &str = "CwRbWyNG9RpsCQCb/jsbtAT/6/+jK1lE";
 
-/// A path that is told: its name, and its text or why it has none.
+/// A path of a reply: its name, and its text or the reason why it has none.
 pub(crate) type Told<'a> = (&'a str, Result<&'a str, Refusal>);
 
-/// The worked path as it is told with its text.
+/// The worked path in a reply, with its text.
 pub(crate) const WITH_TEXT: Told<'static> = ("a", Ok(TEXT));
 
 /// The command that adds a path.
@@ -30,7 +30,7 @@ pub(crate) fn add(
     Command::AddPath(name, lines, pos, 0)
 }
 
-/// The command that gives a path other lines, without offsets.
+/// The command that replaces the lines of a path, without offsets.
 pub(crate) fn change_path(rt: &impl Abort, alloc: Global, name: &str, numbers: &[u32]) -> Command {
     let name = String::from_str(alloc, name).expect(rt, "memory");
     let lines = lines(alloc, numbers).expect(rt, "memory");
@@ -57,7 +57,7 @@ pub(crate) fn road(rt: &impl Abort, alloc: Global, road: Road) -> Command {
     Command::Edit(new_line(alloc, road).expect(rt, "memory"))
 }
 
-/// That an entry tells this path.
+/// Asserts that an entry is that of this path.
 fn expect_entry(rt: &impl Abort, entry: &Entry, told: &Told<'_>) {
     let (name, published) = told;
     assert_eq!(rt; entry.name.as_str(), *name);
@@ -68,7 +68,7 @@ fn expect_entry(rt: &impl Abort, entry: &Entry, told: &Told<'_>) {
     }
 }
 
-/// That these are the entries of exactly these paths, in this order.
+/// Asserts that the entries are those of exactly these paths, in this order.
 fn expect_entries(rt: &impl Abort, entries: &[Entry], told: &[Told<'_>]) {
     assert_eq!(rt; entries.len(), told.len());
     for k in 0..told.len() {
@@ -76,7 +76,7 @@ fn expect_entries(rt: &impl Abort, entries: &[Entry], told: &[Told<'_>]) {
     }
 }
 
-/// Applies a command, which has to be accepted and to tell exactly these paths, in this order.
+/// Applies a command, which must be accepted with a reply of exactly these paths, in this order.
 pub(crate) fn tells(rt: &impl Abort, register: &mut Register, command: Command, told: &[Told<'_>]) {
     match register.apply(command) {
         Ok(Reply::Paths(entries)) => expect_entries(rt, &entries, told),
@@ -84,12 +84,12 @@ pub(crate) fn tells(rt: &impl Abort, register: &mut Register, command: Command, 
     }
 }
 
-/// Applies an edit, which has to be accepted and to tell no path.
+/// Applies an edit, which must be accepted with a reply of no paths.
 pub(crate) fn edits(rt: &impl Abort, register: &mut Register, edit: Edit) {
     tells(rt, register, Command::Edit(edit), &[]);
 }
 
-/// That the entries are those of these names, in this order.
+/// Asserts that the entries have these names, in this order.
 fn expect_named(rt: &impl Abort, entries: &[Entry], names: &[&str]) {
     assert_eq!(rt; entries.len(), names.len());
     for k in 0..names.len() {
@@ -97,7 +97,7 @@ fn expect_named(rt: &impl Abort, entries: &[Entry], names: &[&str]) {
     }
 }
 
-/// Applies a command, which has to be accepted and to tell the paths of these names, with whatever answers.
+/// Applies a command, which must be accepted with a reply of the paths of these names, whatever their answers.
 pub(crate) fn names(rt: &impl Abort, register: &mut Register, command: Command, names: &[&str]) {
     match register.apply(command) {
         Ok(Reply::Paths(entries)) => expect_named(rt, &entries, names),
@@ -105,7 +105,7 @@ pub(crate) fn names(rt: &impl Abort, register: &mut Register, command: Command, 
     }
 }
 
-/// Gives a change to the open batch, which has to hold it as the one of that number.
+/// Applies a change to the open batch, which must hold it as the one of that number.
 pub(crate) fn holds(rt: &impl Abort, register: &mut Register, change: Command, number: u32) {
     assert!(rt; register.is_open());
     match register.apply(change) {
@@ -114,7 +114,7 @@ pub(crate) fn holds(rt: &impl Abort, register: &mut Register, change: Command, n
     }
 }
 
-/// Applies a command, which has to have this fault.
+/// Applies a command, which must be rejected with this fault.
 pub(crate) fn refuses(
     rt: &impl Abort,
     register: &mut Register,
@@ -124,12 +124,12 @@ pub(crate) fn refuses(
     assert_eq!(rt; register.apply(command).err(), Some(fault));
 }
 
-/// That this is the text published under a name.
+/// Asserts that this text is published under a name.
 pub(crate) fn expect_text(rt: &impl Abort, register: &Register, name: &str, text: Option<&str>) {
     assert_eq!(rt; register.text(name), text, "of {name}");
 }
 
-/// That these are the names of the paths, in this order.
+/// Asserts that the paths have these names, in this order.
 pub(crate) fn expect_names(rt: &impl Abort, register: &Register, names: &[&str]) {
     assert_eq!(rt; register.len(), names.len());
     for k in 0..names.len() {
@@ -139,7 +139,7 @@ pub(crate) fn expect_names(rt: &impl Abort, register: &Register, names: &[&str])
     expect_iterated(rt, register, names);
 }
 
-/// That the iterator gives these paths, each with the text that is published of it.
+/// Asserts that the iterator returns these paths, each with the text that is published of it.
 fn expect_iterated(rt: &impl Abort, register: &Register, names: &[&str]) {
     let mut paths = register.iter();
     assert_eq!(rt; paths.len(), names.len());
@@ -153,13 +153,13 @@ fn expect_iterated(rt: &impl Abort, register: &Register, names: &[&str]) {
     assert!(rt; paths.next().is_none());
 }
 
-/// That so many paths were encoded or kept their answer, and so many kept it.
+/// Asserts the number of encodings, and how many of them retained an answer.
 pub(crate) fn expect_counts(rt: &impl Abort, register: &Register, encodings: u64, kept: u64) {
     assert_eq!(rt; register.work().encodings, encodings);
     assert_eq!(rt; register.spared_count(), kept);
 }
 
-/// The same at the end of a test. The register goes here, and not in each test, where that would be proved anew.
+/// The same at the end of a test. The register is dropped here; that is proved once, and not again in each test.
 pub(crate) fn ends(rt: &impl Abort, register: Register, encodings: u64, kept: u64) {
     expect_counts(rt, &register, encodings, kept);
 }
@@ -173,7 +173,7 @@ fn base_map(rt: &impl Abort, alloc: Global) -> Register {
     register
 }
 
-/// The worked map and its path of three points.
+/// The worked map and its path with three LRPs.
 pub(crate) fn three_points(rt: &impl Abort, alloc: Global) -> Register {
     let mut register = base_map(rt, alloc);
     tells(rt, &mut register, worked_path(rt, alloc), &[WITH_TEXT]);

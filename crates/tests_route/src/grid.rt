@@ -38,7 +38,7 @@ fn ends(rt: &impl Abort, alloc: Global) -> Vec<(u32, u32)> {
     ends
 }
 
-/// The edits that make the grid. Line `n` is 700 dm long and the remainder of `n` by 5 more.
+/// The edits that make the grid. The length of line `n` is 700 dm plus the remainder of `n` divided by 5.
 fn edits(rt: &impl Abort, alloc: Global) -> Vec<Edit> {
     let mut edits = Vec::new(alloc);
     for row in 0..SIDE {

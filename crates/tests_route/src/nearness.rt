@@ -1,4 +1,4 @@
-//! Numbers on small maps, kept right through edits.
+//! Distance bounds on small maps, maintained under edits.
 
 use made_maps::{Plain, STRAIGHT, line, make, node, other_line, plain_line, plain_map};
 use olr_map::{Edit, RoadMap};
@@ -15,18 +15,18 @@ const ROAD: &[Plain] = &[
     (4, 4, 5, 50_000),
 ];
 
-/// The map of the road, and node 6 apart.
+/// The map of the road, with node 6 apart from it.
 fn road(rt: &impl Abort, alloc: Global) -> RoadMap {
     plain_map(alloc, 6, ROAD).expect(rt, "a map")
 }
 
-/// Makes an edit, and lets it stand.
+/// Makes an edit, and discards its undo record.
 fn edit(rt: &impl Abort, map: &mut RoadMap, edit: Edit) {
     let made = make(map, edit);
     assert!(rt; made.is_ok());
 }
 
-/// That of the nodes 1 to 6 those with a number are these.
+/// Asserts which of the nodes 1 to 6 have a bound.
 fn assert_near(rt: &impl Abort, nearness: &Nearness, nodes: &[u32]) {
     for number in 1..=6 {
         let alone = [node(number)];
@@ -35,7 +35,7 @@ fn assert_near(rt: &impl Abort, nearness: &Nearness, nodes: &[u32]) {
     }
 }
 
-/// Follows the lines from what has a number. Those with a number are then these.
+/// Follows the lines of all queued nodes, and asserts which nodes then have a bound.
 fn settle(rt: &impl Abort, nearness: &mut Nearness, map: &RoadMap, nodes: &[u32]) {
     let settled = nearness.settle(map);
     assert!(rt; settled.is_ok());
@@ -92,7 +92,7 @@ fn add_line(rt: &impl Abort, alloc: Global, map: &mut RoadMap, plain: Plain) {
     edit(rt, map, plain_line(alloc, plain));
 }
 
-/// Gives line 4 another length.
+/// Sets a shorter length for line 4.
 fn shorten(rt: &impl Abort, alloc: Global, map: &mut RoadMap) {
     let shorter = other_line(alloc, 4, 49_998, STRAIGHT).expect(rt, "memory");
     edit(rt, map, shorter);
@@ -103,14 +103,14 @@ fn lines_come_and_go(rt: HostRuntime) {
     let mut map = road(&rt, rt.alloc());
     let mut nearness = Nearness::new(rt.alloc());
     add(&rt, &mut nearness, &map, 2, &[2, 3, 4, 5]);
-    // From where no number stands nothing is followed.
+    // From a node without a bound no line is followed.
     add_line(&rt, rt.alloc(), &mut map, (10, 6, 1, 1));
     reopen(&rt, &mut nearness, &map, (6, 1), &[2, 3, 4, 5]);
     add_line(&rt, rt.alloc(), &mut map, (11, 5, 6, 1));
     reopen(&rt, &mut nearness, &map, (5, 6), &[2, 3, 4, 5]);
     shorten(&rt, rt.alloc(), &mut map);
     reopen(&rt, &mut nearness, &map, (4, 5), &[1, 2, 3, 4, 5, 6]);
-    // A line that is dropped leaves the numbers as they are.
+    // Removing a line leaves the bounds as they are.
     edit(&rt, &mut map, Edit::DropLine(line(2)));
     assert_near(&rt, &nearness, &[1, 2, 3, 4, 5, 6]);
     nearness.clear();

@@ -1,4 +1,4 @@
-//! Searches and walks on small maps.
+//! Searches and routes on small maps.
 ghost use Rattle.std.specs.Prelude.{◌≡◌, ◌≤◌, ℕ};
 ghost use Rattle.std.specs.Bool.{OnTrue};
 ghost use Rattle.olr_spec.specs.Walks.{Walk};
@@ -17,19 +17,19 @@ use std::fmt::Debug;
 use std::process::Abort;
 use std::test::Fail;
 
-/// That two values are the same. One call is proved sooner than the branches of `assert_eq!` at each place.
+/// Asserts that two values are equal. One call is proved faster than the branches of `assert_eq!` at each use.
 fn same<T: PartialEq + Debug + Drop>(rt: &impl Abort, found: T, wanted: T, what: &str) {
     assert_eq!(rt; found, wanted, "{what}");
 }
 
-/// The same, told by what was asked for.
+/// `same`, with the tested expression as the message.
 macro_rules! same {
     ($rt:expr; $found:expr, $wanted:expr) => {
         same($rt, $found, $wanted, stringify!($found))
     };
 }
 
-/// The map with the nodes from 1 to `nodes`, and lines given by number, begin, end and length.
+/// The map with the nodes from 1 to `nodes`, and lines given by number, start, end and length.
 fn map_with(rt: &impl Abort, alloc: Global, nodes: u32, lines: &[Plain]) -> RoadMap {
     plain_map(alloc, nodes, lines).expect(rt, "a map")
 }
@@ -39,7 +39,7 @@ fn base(rt: &impl Abort, alloc: Global) -> RoadMap {
     map_of(alloc, WORKED).expect(rt, "the worked map")
 }
 
-/// Two ways of equal length from node 1 to node 4, and a line on to node 5.
+/// Two routes of equal length from node 1 to node 4, and a line on to node 5.
 fn diamond(rt: &impl Abort, alloc: Global) -> RoadMap {
     map_with(
         rt,
@@ -76,7 +76,7 @@ fn labels_from<M: MapRead>(
     }
 }
 
-/// Whether the lines are in the map, the first begins at the source and each other where the one before ends.
+/// Whether the lines are on the map, the first begins at the source, and each other one where the one before ends.
 fn is_walk<M: MapRead>(map: &M, source: NodeId, lines: &[LineId]) -> bool
     ensures { OnTrue result ((t : ℕ) × Walk (M.map map.now) source t lines.now) }
 {
@@ -94,7 +94,7 @@ fn is_walk<M: MapRead>(map: &M, source: NodeId, lines: &[LineId]) -> bool
     true
 }
 
-/// Whether a walk is the least one, and whether it is the sole one, by a search from where it begins.
+/// Whether a route is the shortest path, and whether it is the unique one, by a search from its start.
 fn judgement<M: MapRead>(
     rt: &impl Abort,
     alloc: Global,
@@ -115,10 +115,10 @@ fn judgement<M: MapRead>(
     )
 }
 
-/// What is told of a node: the length of the least walk there, and the number of its last line.
+/// The label of a node: the length of the shortest path there, and the number of its last line.
 type Label = (Option<u32>, Option<u32>);
 
-/// What is told where no walk leads.
+/// The label of a node that no route reaches.
 const NONE: Label = (None, None);
 
 /// A node's label.
@@ -130,7 +130,7 @@ fn label(labels: &Labels, number: u32) -> Label {
     )
 }
 
-/// The labels of the nodes from 1 on.
+/// The labels of the nodes 1 to 4.
 fn labels_of(labels: &Labels) -> [Label; 4] {
     [
         label(labels, 1),
@@ -140,7 +140,7 @@ fn labels_of(labels: &Labels) -> [Label; 4] {
     ]
 }
 
-/// Those of a search from the node of that number. Labels go here, where that is proved once.
+/// The labels of the nodes 1 to 4 by a search from this node. Labels are dropped here, so that this is proved once.
 fn labels_within<M: MapRead>(
     rt: &impl Abort,
     alloc: Global,
@@ -161,7 +161,7 @@ const FROM_SECOND: [Label; 4] = [
     (Some(2240), Some(30)),
 ];
 
-/// A search of the worked map from node 2: its labels, its footprint and what it counts.
+/// Asserts the labels, the footprint and the counts of a search of the worked map from node 2.
 fn assert_searched(rt: &impl Abort, alloc: Global, map: &RoadMap) {
     let source = node(2);
     assert!(rt; map.node(source).is_some());
@@ -190,7 +190,7 @@ fn search_on_the_base_map(rt: HostRuntime) -> Result<(), Fail> {
     Ok(())
 }
 
-/// Whether each of these walks from a node is the least one, and whether it is the sole one.
+/// Asserts whether each of these routes from a node is the shortest path, and whether it is the unique one.
 fn assert_judged<M: MapRead>(
     rt: &impl Abort,
     alloc: Global,
@@ -286,7 +286,7 @@ fn counts_end_at_the_greatest_number(rt: HostRuntime) {
     same!(&rt; (work.encodings, work.searches, work.settled), (7, u64::MAX, 3));
 }
 
-/// What a search from nodes, given by number and length, tells at the nodes from 1 on.
+/// The distances of the nodes from 1 on, by a search from nodes given by number and start value.
 fn distances<M: MapRead>(
     rt: &impl Abort,
     alloc: Global,
@@ -384,7 +384,7 @@ fn distances_in_either_direction(rt: HostRuntime) {
     );
 }
 
-/// What a search tells at the nodes from 1 on, and how many it settled.
+/// The distances of the nodes 1 to 4, and how many nodes the search settled.
 fn distances_of(map: &RoadMap, search: &Search) -> ([Option<u32>; 4], usize) {
     let dists = [
         search.dist(map, node(1)),
@@ -395,7 +395,7 @@ fn distances_of(map: &RoadMap, search: &Search) -> ([Option<u32>; 4], usize) {
     (dists, search.settled_count())
 }
 
-/// Settles a search of the worked map from node 2 step by step.
+/// Settles a search of the worked map from node 2 in steps.
 fn settle_in_steps(rt: &impl Abort, map: &RoadMap, search: &mut Search) -> Result<(), Fail> {
     search.begin(map, Direction::Along, &[(node(2), 0)])?;
     same!(rt; distances_of(map, search), ([None, Some(0), None, None], 1));
@@ -409,7 +409,7 @@ fn settle_in_steps(rt: &impl Abort, map: &RoadMap, search: &mut Search) -> Resul
     Ok(())
 }
 
-/// That a search reached these nodes in this order, each with its distance.
+/// Asserts that a search reached these nodes in this order, each with its distance.
 fn assert_reached(rt: &impl Abort, map: &RoadMap, search: &Search, numbers: &[u32]) {
     for (at, number) in search.reached_nodes().iter().zip(numbers) {
         let reached = node(*number);
@@ -418,7 +418,7 @@ fn assert_reached(rt: &impl Abort, map: &RoadMap, search: &Search, numbers: &[u3
     }
 }
 
-/// The same search begun again on the diamond, against its lines from node 4.
+/// Begins the same search again on the diamond, against its lines from node 4.
 fn begin_anew(rt: &impl Abort, map: &RoadMap, search: &mut Search) -> Result<(), Fail> {
     search.begin(map, Direction::Against, &[(node(4), 0)])?;
     search.settle_to(map, 100)?;
@@ -435,7 +435,7 @@ fn search_step_by_step(rt: HostRuntime) -> Result<(), Fail> {
     begin_anew(&rt, &diamond(&rt, rt.alloc()), &mut search)
 }
 
-/// Whether a line prolongs a sole walk from node 1, for each of these.
+/// Asserts whether each of these lines extends a unique shortest path from node 1.
 fn assert_sole(
     rt: &impl Abort,
     alloc: Global,

@@ -1,5 +1,5 @@
-//! Tests of runs over records in memory, with readers and writers that fail. The expected replies were worked out from
-//! the formats.
+//! Tests of runs over records in memory, with readers and writers that fail. The expected replies were derived from the
+//! formats.
 #![tactic(auto)]
 
 #[cfg(test)]

@@ -10,7 +10,7 @@ const RECORDS: &str = "node,1,0,0\nnode,1,0,0\ndrop-node,2\nnode,3,180,0\nnode,x
 
 const REPLIES: &str = "ok,0\nfault,3,NodeExists\nfault,4,NoNode\nfault,2,Range\nfault,1,Syntax\n";
 
-/// A reader of some bytes at a call, which fails at one call.
+/// A reader that returns `step` bytes per call, and fails at one call.
 #[derive(Drop)]
 struct Slow {
     rest: &'static [u8],
@@ -47,12 +47,12 @@ fn whole(text: &'static str) -> Slow {
     Slow::new(text, 100, 100)
 }
 
-/// A reader that fails at once.
+/// A reader that fails at the first call.
 fn outage() -> Slow {
     Slow::new("node,1,0,0\n", 100, 0)
 }
 
-/// A writer that takes some bytes at a call, and at one call fails or takes nothing.
+/// A writer that takes `step` bytes per call, and at one call fails or takes nothing.
 #[derive(Drop)]
 struct Narrow {
     taken: Vec<u8>,
@@ -95,7 +95,7 @@ impl Write for Narrow {
     }
 }
 
-/// How many lines end in the first bytes of a text.
+/// The number of lines that end within the first bytes of a text.
 fn lines_within(text: &str, bytes: usize) -> usize {
     text.as_bytes()
         .iter()
@@ -118,10 +118,10 @@ fn first_lines(text: &str, count: usize) -> Option<&[u8]> {
     Some(text.as_bytes())
 }
 
-/// A register goes here, and not in each function that has one, where that would be proved anew.
+/// Drops a register. Its drop is proved once here, and not again in each function that has a register.
 fn let_go(_register: Register) {}
 
-/// Runs the records on a fresh register, and asserts how the run ends and what is written.
+/// Runs the records on a new register, and asserts how the run ends and what is written.
 fn expect<R: Abort + AllocGlobal>(
     rt: &R,
     records: &[u8],
@@ -141,7 +141,7 @@ fn expect<R: Abort + AllocGlobal>(
     let_go(register);
 }
 
-/// The same of records that are text, without stopping.
+/// The same for records that are text, without stopping.
 fn expect_replies<R: Abort + AllocGlobal>(rt: &R, records: &str, replies: &str, status: Status) {
     expect(rt, records.as_bytes(), false, replies, status);
 }
@@ -196,7 +196,7 @@ fn malformed_records(rt: HostRuntime) {
     }
 }
 
-/// How many bytes a reader gave before a call. The first byte is taken by itself, as it may begin a byte order mark.
+/// How many bytes a reader has returned before a call. The first byte is read alone, since a byte order mark may begin there.
 fn given_before(call: usize, step: usize) -> usize {
     if call == 0 {
         return 0;
@@ -206,7 +206,7 @@ fn given_before(call: usize, step: usize) -> usize {
         .saturating_add(1)
 }
 
-/// How many calls a run makes, the one that finds the end among them.
+/// The number of calls that a run makes, with the one that finds the end.
 fn calls_of(text: &str, step: usize) -> usize {
     for call in 0..1000 {
         if given_before(call, step) >= text.len() {
@@ -216,7 +216,7 @@ fn calls_of(text: &str, step: usize) -> usize {
     1000
 }
 
-/// A reader of so many bytes at a call, which fails at this one: the records that it gave before are answered.
+/// A reader of `step` bytes per call, which fails at this call: the records that it returned before are answered.
 fn expect_answered<R: Abort + AllocGlobal>(rt: &R, step: usize, fails_at: usize) {
     let mut register = Register::new(rt.alloc());
     let mut output = Vec::new(rt.alloc());
@@ -242,7 +242,7 @@ fn reader_that_fails(rt: HostRuntime) {
     }
 }
 
-/// A reader and a writer of so many bytes at a call, which fail at none that the run makes.
+/// A reader and a writer of `step` bytes per call, which fail at no call of the run.
 fn expect_unharmed<R: Abort + AllocGlobal>(rt: &R, step: usize) {
     let mut register = Register::new(rt.alloc());
     let mut output = Narrow::new(rt.alloc(), step, 1000, false);
@@ -253,12 +253,12 @@ fn expect_unharmed<R: Abort + AllocGlobal>(rt: &R, step: usize) {
     let_go(register);
 }
 
-/// Whether the bytes are as many of the text, from its front.
+/// Whether these are the first `count` bytes of the text.
 fn is_front(bytes: &[u8], text: &str, count: usize) -> bool {
     bytes.len() == count && text.as_bytes().starts_with(bytes)
 }
 
-/// A writer of one byte at a call, which fails at this one or takes nothing.
+/// A writer of one byte per call, which fails at this call or takes nothing.
 fn expect_cut<R: Abort + AllocGlobal>(rt: &R, fails_at: usize, takes_nothing: bool) {
     let mut register = Register::new(rt.alloc());
     let mut output = Narrow::new(rt.alloc(), 1, fails_at, takes_nothing);
@@ -279,7 +279,7 @@ fn writer_that_fails(rt: HostRuntime) {
     }
 }
 
-/// The first record was carried out, also where its reply could not be written.
+/// The first record was carried out, even if its reply could not be written.
 fn expect_first_applied<R: Abort + AllocGlobal>(rt: &R, register: &mut Register) {
     let mut output = Vec::new(rt.alloc());
     let again = "node,1,0,0\n".as_bytes();
@@ -288,7 +288,7 @@ fn expect_first_applied<R: Abort + AllocGlobal>(rt: &R, register: &mut Register)
     assert_eq!(rt; (output.as_slice(), ended), wanted);
 }
 
-/// Runs a file and then an input on a fresh register, and asserts how that ends and what is written.
+/// Runs a file and then an input on a new register, and asserts how the run ends and what is written.
 fn expect_both<R: Abort + AllocGlobal>(
     rt: &R,
     file: Option<Slow>,
@@ -353,7 +353,7 @@ fn statuses(rt: HostRuntime) {
     }
 }
 
-/// Runs the program on words and an input, where the file that they name has these records, or isn't there.
+/// Runs the program with arguments and an input; the file that they name has these records, or does not exist.
 fn expect_program<R: Abort + AllocGlobal>(
     rt: &R,
     words: &[&str],
@@ -408,7 +408,7 @@ fn whole_programs(rt: HostRuntime) {
     expect_program(&rt, named, Some(node), outage(), 3, "ok,0\n", unread);
 }
 
-/// Runs the program on words, with a writer that fails at once.
+/// Runs the program with arguments, and a writer that fails at the first call.
 fn expect_write_fault<R: Abort + AllocGlobal>(rt: &R, words: &[&str]) {
     let mut register = Register::new(rt.alloc());
     let mut output = Narrow::new(rt.alloc(), 100, 0, false);
@@ -435,22 +435,22 @@ fn write_fault_of_the_program(rt: HostRuntime) {
 
 #[test]
 fn help_and_usage(rt: HostRuntime) {
-    let help = "Keeps published OpenLR strings right while the road map under them is edited.
+    let help = "Keeps published OpenLR strings correct while the road map is edited.
 
 Usage: olr-keep [OPTIONS]
 
 Options:
-  -m <FILE>      Takes the commands of FILE before those of standard input
-  -s             Stops at the first refused command
+  -m <FILE>      Reads the records of FILE before those of standard input
+  -s             Stops at the first rejected record
   -h, --help     Print help
   -V, --version  Print version
 
 Records: node, move, drop-node, line, set-line, drop-line, path, repath, drop-path,
-show, report, explain, begin, commit, abort. docs/LIMITS.md: their fields, limits, refusals.
+show, report, explain, begin, commit, abort. docs/LIMITS.md: their fields, limits, faults.
 Replies: `ok,N` and N lines, `held,N` in a batch, `fault,NUMBER,WORD`.
 Example: olr-keep < examples/morning.csv
-Status: 0 all accepted, 1 some refused, 2 wrong words, 3 a file or a stream failed, 4 no memory.
-docs/RUNNING.md: maps from a database, a log to start again from, a queue, regions.
+Status: 0 all accepted, 1 some rejected, 2 invalid arguments, 3 I/O failed, 4 out of memory.
+docs/RUNNING.md: maps from a database, a log for restarts, a queue, regions.
 ";
     let usage = "error: unexpected argument '-x' found
 

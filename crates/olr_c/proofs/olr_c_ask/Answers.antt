@@ -1,4 +1,4 @@
--- The register that is asked is the one that the handle had, and the one that it has again.
+-- The call uses the register of the handle, and the handle has the register again afterwards.
 use Rattle.std.proofs.Common.{ap, Some, ◌∙◌}
 use Rattle.olr_c.specs.declared.keep.Keep.{Keep}
 use Rattle.olr_c.proofs.Asking.{asked_of}

@@ -25,7 +25,7 @@ part_is r f s o f' s' o' w w' is p q h g = cc
 sector_is : (k : ℕ) (a b x y : ℤ) → k ≡ sector a b → a ≡ x → b ≡ y → k ≡ sector x y
 sector_is k a b x y is p q = cc
 
--- a number that is far from the ends of 128 bits
+-- a number that is far from the limits of 128 bits
 held_is : (z b : ℤ) → IsWithin (10 ^ 31) z → z ≡ b → held w128 z ≡ b
 held_is z b h p = omega (arith, ints, h.0, h.1)
 

@@ -7,7 +7,7 @@ use Rattle.olr_bearing.proofs.Products.{same_product, square_within}
 use Rattle.olr_bearing.proofs.Scaling.{held, coord_within, thousandths_within}
 use Rattle.olr_bearing.proofs.bearings.cosine_at.Goals as goal
 
--- the code's square, of x that is the latitude in thousandths
+-- the code's square, where x is the latitude in thousandths
 record Square (m x : ℤ) : Type 0 where
   value : held w128 x *ℤ held w128 x ≡ m *ℤ m
   least : pos 0 ≤ℤ (m *ℤ m)

@@ -7,7 +7,7 @@ use Rattle.olr_bearing.proofs.Scaling.{held}
 use Rattle.olr_bearing.proofs.bearings.part.Goals as goal
 use Rattle.olr_bearing.proofs.bearings.part.Goals.{After-from-2}
 
--- the code's number a is b, and small
+-- the code's number a is b, and fits 128 bits
 record Settled (a b : ℤ) : Type 0 where
   fits : FitsSigned w128 a
   value : held w128 a ≡ b
@@ -20,7 +20,7 @@ settled a b is h = record {
   in_range = (omega (arith, ints, h.0, h.1), omega (arith, ints, h.0, h.1));
 }
 
--- the code's product of the width and the origin, from x and y that are these
+-- the code's product of the width and the origin, which are x and y
 record Shift (width : ℕ) (origin x y : ℤ) : Type 0 where
   value : held w128 x *ℤ held w128 y ≡ pos width *ℤ origin
   in_range : IsWithin (width * degree_units 180) (pos width *ℤ origin)

@@ -6,7 +6,7 @@ use Rattle.olr_bearing.proofs.places.along.Goals as goal
 use Rattle.olr_bearing.proofs.Products.{same_product, product_within}
 use Rattle.olr_bearing.proofs.Scaling.{held}
 
--- both products are far from the ends of 128 bits
+-- both products are far from the limits of 128 bits
 record Products (w f d t : ℤ) : Type 0 where
   first : IsWithin (2 ^ 96) (held w128 w *ℤ held w128 f)
   second : IsWithin (2 ^ 96) (held w128 d *ℤ held w128 (held w128 t -ℤ held w128 f))

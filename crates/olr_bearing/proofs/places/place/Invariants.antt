@@ -8,7 +8,8 @@ use Rattle.olr_bearing.proofs.places.place.Given as goal
 abbrev pub end_point : Leg → ShapePoint
 end_point g = record { at = g.line.len; place = g.finish }
 
--- the place at `at` lies past the shape point `from`, and is to be found among the points `rest` and the line's end
+-- the coordinate at `at` is at or after the shape point `from`, and is found among the shape points `rest` and the
+-- line's end
 pub record Reached (g : Leg) (at : ℕ) (from : ShapePoint) (rest : List ShapePoint) : Type 0 where
   pub behind : from.at ≤ at
   pub inside : from.at < g.line.len

@@ -5,7 +5,7 @@ use Rattle.olr_bearing.specs.Ranges.{IsWithin, degree_units}
 use Rattle.olr_bearing.proofs.Scaling.{held, along_within, coord_within}
 use Rattle.olr_bearing.proofs.places.place_between.Goals as goal
 
--- what `along` gives, from coordinates x and y that are f and t
+-- the result of `along`, for coordinates x and y that are f and t
 passed : (w d b : ℕ) (f t x y z : ℤ) → z ≡ pos w *ℤ held w64 x +ℤ pos d *ℤ (held w64 y -ℤ held w64 x) → held w64 x ≡ f →
     held w64 y ≡ t → d ≤ w → IsWithin b f → IsWithin b t → IsWithin (w * b) z
 passed w d b f t x y z is p q h g k =

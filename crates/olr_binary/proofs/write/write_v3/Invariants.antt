@@ -3,6 +3,6 @@ use Rattle.std.specs.List.{flat_map}
 use Rattle.olr_spec.specs.Bytes.{middle_bytes}
 use Rattle.olr_binary.proofs.write.write_v3.Given as goal
 
--- the points so far are written
+-- the LRPs so far are written
 abbrev pub invariant-loop-point : goal.invariant-loop-point
 invariant-loop-point l = l.bytes.items ≡ l.initial.bytes.items ++ flat_map middle_bytes (take l.point-index l.points)

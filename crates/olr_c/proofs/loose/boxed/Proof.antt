@@ -60,7 +60,7 @@ boxed_spec 𝓤 𝓛 𝓜 𝓡 wired X Z LX LZ gh d dd allocator glued =
     fsplit ! $ fpick ! (λ vss. fsplit ! $ feq_l ! (λ ev. fsplit ! $ feq_l ! (λ ep. fsplit ! $ handle_tells E.al ! v.alloc vss.1.0 (λ h ea fits.
     move ! (2 ∷ 0 ∷ []) $
     in_a_block ! v.at (λ p. box_owns (gh.dealloc_token v.alloc) R p v.value) (fst∗ 𝓤 (never 𝓤) (sem 𝓛 (gh.dealloc_token v.alloc (bare (layout X)) null_ptr))) (λ b o e.
-    -- [what is owned; the allocator's handle; two times nothing; the tokens; the `requires`]
+    -- [what is owned; the allocator's handle; nothing, twice; the tokens; the `requires`]
     move ! (2 ∷ 3 ∷ []) $ drop ! $ drop ! $
     let w : Val = pair (vptr b o) h in
     let good : T (has_ty (layout Z) h && true) × WT w = (and_tt (has_ty (layout Z) h) fits.0, (tt, (fits.1, tt))) in

@@ -3,6 +3,6 @@ use Rattle.std.specs.Prelude.{not, ◌==◌}
 use Rattle.std.specs.List.{list_all}
 use Rattle.olr_coords.proofs.degrees.point.Given as goal
 
--- no point yet
+-- no decimal point so far
 abbrev pub invariant-loop-i : goal.invariant-loop-i
 invariant-loop-i l = list_all (λ c. not (c == 46)) (take l.i l.text) ≡ true

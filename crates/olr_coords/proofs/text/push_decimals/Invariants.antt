@@ -2,7 +2,7 @@ use Rattle.std.proofs.Common.{◌≡◌, ◌<◌, ◌≤◌, ◌^◌, ◌++◌}
 use Rattle.olr_coords.specs.DegreesText.{decimals}
 use Rattle.olr_coords.proofs.text.push_decimals.Given as goal
 
--- what is left has so many digits to come
+-- the rest has at most as many digits as there are decimals left
 abbrev pub invariant-loop-rest : goal.invariant-loop-rest
 invariant-loop-rest l = record {
   few : l.places ≤ 7;

@@ -2,7 +2,7 @@ use Rattle.std.proofs.Common.{◌≡◌, drop, take, true}
 use Rattle.olr_spec.specs.Map.{rises_between, are_coords}
 use Rattle.olr_map.proofs.line.is_rising.Given as goal
 
--- what is left rises above the last distance exactly where the whole rises, and the places so far are in range
+-- the rest is ascending from the last distance on exactly if the whole is, and the coordinates so far are in range
 abbrev pub invariant-loop-point : goal.invariant-loop-point
 invariant-loop-point l =
     record {

@@ -4,7 +4,7 @@ use Rattle.olr_spec.specs.Detours.{Near}
 use Rattle.olr_paths.specs.Touching.{nodes_of}
 use Rattle.olr_paths.proofs.asking.is_look_touched.Given as goal
 
--- none of the looks so far sees a touched node
+-- none of the coverage queries so far is near a touched node
 abbrev pub invariant-loop-look : goal.invariant-loop-look
 invariant-loop-look g l =
     All (λ k. ¬ Near (g.M.MapRead.map l.map) (nodes_of l.touched) k.from (min k.within limit))

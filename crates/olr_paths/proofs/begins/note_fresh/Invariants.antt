@@ -4,6 +4,6 @@ use Rattle.olr_paths.specs.Beginning.{BeginsPut}
 use Rattle.olr_paths.specs.Renewing.{puts_of}
 use Rattle.olr_paths.proofs.begins.note_fresh.Given as goal
 
--- where the looks begin of what was made so far is there
+-- the nodes where the coverage queries of the results so far begin are in the list
 abbrev pub invariant-loop-named : goal.invariant-loop-named
 invariant-loop-named l = (v : Look) → BeginsPut (puts_of (take l.named-index l.fresh)) v → Contains l.begun.items v

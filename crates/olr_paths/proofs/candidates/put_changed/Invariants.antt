@@ -4,7 +4,7 @@ use Rattle.olr_paths.specs.Laying.{changes_in}
 use Rattle.olr_paths.specs.Candidates.{Includes, FindsChanged}
 use Rattle.olr_paths.proofs.candidates.put_changed.Given as goal
 
--- the positions of the changes so far are put
+-- the positions of the changes so far are added
 abbrev pub invariant-loop-k : goal.invariant-loop-k
 invariant-loop-k l =
     Includes l.initial.found.items l.found.items

@@ -3,7 +3,7 @@ use Rattle.olr_route.specs.declared.found.Reached.{Reached}
 use Rattle.olr_paths.proofs.Covering.{PutAll}
 use Rattle.olr_paths.proofs.candidates.put_reached.Given as goal
 
--- the positions of those so far are put
+-- the positions of the labelled nodes so far are added
 abbrev pub invariant-loop-one : goal.invariant-loop-one
 invariant-loop-one l =
     PutAll (λ (r : Reached). r.node) l.marks l.index (take l.one-index l.reached) l.initial.found.items l.found.items

@@ -2,6 +2,6 @@ use Rattle.std.proofs.Common.{ℕ}
 use Rattle.olr_paths.proofs.Noting.{Forgot, KeptIn}
 use Rattle.olr_paths.proofs.finder.forget_lines.Given as goal
 
--- those that are kept have the mark if they had it
+-- the retained lines still have the path id
 abbrev pub invariant-loop-line : goal.invariant-loop-line
 invariant-loop-line l = Forgot (KeptIn (λ (v : ℕ). v) l.kept) l.mark l.initial.index l.index

@@ -3,7 +3,7 @@ use Rattle.olr_paths.specs.Items.{items}
 use Rattle.olr_paths.specs.Finding.{AreNotedAt}
 use Rattle.olr_paths.proofs.positions.note_all.Given as goal
 
--- those so far are noted, and the list is as it was
+-- the results so far have index entries, and the list is unchanged
 abbrev pub invariant-loop-position : goal.invariant-loop-position
 invariant-loop-position l =
     AreNotedAt l.list.marks.items l.list.finder (take l.position-index l.fresh) × (items l.list ≡ items l.initial.list)

@@ -4,8 +4,8 @@ use Rattle.olr_paths.specs.Renewing.{all_put, puts_of}
 use Rattle.olr_paths.specs.Finding.{AreNotedAt}
 use Rattle.olr_paths.proofs.positions.place.Given as goal
 
--- those that are left, put on what is there, give what all of them give; they are noted, there is room, and the list
--- may hold paths not encoded yet
+-- storing the remaining results has the outcome of storing all of them; they have index entries, there is capacity, and
+-- the list may have paths that are not encoded yet
 abbrev pub invariant-loop-position : goal.invariant-loop-position
 invariant-loop-position l =
     (all_put (items l.list) (puts_of l.fresh.items) ≡ all_put (items l.initial.list) (puts_of l.initial.fresh.items))

@@ -2,6 +2,6 @@ use Rattle.std.proofs.Common.{◌≡◌}
 use Rattle.olr_paths.specs.Items.{items}
 use Rattle.olr_paths.proofs.positions.tidy.Given as goal
 
--- the paths are as they were
+-- the paths are unchanged
 abbrev pub invariant-loop-position : goal.invariant-loop-position
 invariant-loop-position l = items l.list ≡ items l.initial.list

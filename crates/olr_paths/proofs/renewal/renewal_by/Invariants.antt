@@ -6,7 +6,7 @@ use Rattle.olr_paths.proofs.Through.{SoFar}
 use Rattle.olr_paths.proofs.Covering.{Passed}
 use Rattle.olr_paths.proofs.renewal.renewal_by.Given as goal
 
--- the paths before the next position are renewed, told and counted, and the candidates so far are among them
+-- the paths before the next position are renewed, reported and counted, and the candidates so far are among them
 abbrev pub invariant-loop-candidate : goal.invariant-loop-candidate
 invariant-loop-candidate g l =
     SoFar (g.M.MapRead.map l.map) (nodes_of l.touched) (lines_of l.touched) (changed_of l.touched) (items l.before)

@@ -4,7 +4,7 @@ use Rattle.std.specs.Char.{is_ascii_digit}
 use Rattle.olr_spec.specs.Degrees.{digits_value}
 use Rattle.olr_records.proofs.fields.many_digits.Given as goal
 
--- the bytes so far are digits, of this value or of a greater one than 32 bits hold
+-- the bytes so far are digits, of this value, or of a value that does not fit 32 bits
 abbrev pub invariant-loop-byte : goal.invariant-loop-byte
 invariant-loop-byte l = record {
   digits : list_all is_ascii_digit (take l.byte-index l.field) ≡ true;

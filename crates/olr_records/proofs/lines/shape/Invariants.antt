@@ -7,7 +7,7 @@ use Rattle.olr_records.specs.Words.{Gathers}
 use Rattle.olr_records.proofs.LoopLemmas.{onto}
 use Rattle.olr_records.proofs.lines.shape.Given as goal
 
--- with the fields still to be read the points come to the whole
+-- the points so far, with those of the fields not read yet, are the whole shape
 abbrev pub invariant-loop-k : goal.invariant-loop-k
 invariant-loop-k l = record {
   within : l.k ≤ length (fields_of l.fields);

@@ -6,7 +6,7 @@ use Rattle.olr_records.specs.Words.{Gathers}
 use Rattle.olr_records.proofs.LoopLemmas.{onto}
 use Rattle.olr_records.proofs.paths.line_ids.Given as goal
 
--- with the fields still to be read the numbers come to the whole
+-- the numbers so far, with those of the fields not read yet, are all numbers
 abbrev pub invariant-loop-k : goal.invariant-loop-k
 invariant-loop-k l =
     (x : Read (List ℕ)) × Gathers (λ _. ⊤) (λ v. v.items) x l.ids

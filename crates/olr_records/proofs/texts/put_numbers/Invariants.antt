@@ -3,7 +3,7 @@ use Rattle.std.specs.Prelude.{decimal}
 use Rattle.olr_records.specs.ReplyText.{after_commas}
 use Rattle.olr_records.proofs.texts.put_numbers.Given as goal
 
--- the numbers from place k on are written
+-- the numbers from index k on are written
 abbrev pub invariant-loop-k : goal.invariant-loop-k
 invariant-loop-k l = record {
   within : l.k ≤ length l.numbers;

@@ -3,7 +3,7 @@ use Rattle.olr_spec.specs.Extension.{limit}
 use Rattle.olr_refs.proofs.Before.{GrowsBefore}
 use Rattle.olr_refs.proofs.chains.grown_before.Given as goal
 
--- the chain is kept from the list outwards
+-- the run is stored from the list outwards
 abbrev pub invariant-loop-line : goal.invariant-loop-line
 invariant-loop-line g l = GrowsBefore (g.M.MapRead.map l.map) l.lines (reverse l.chain.items) l.first l.len
 

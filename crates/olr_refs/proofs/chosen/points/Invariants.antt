@@ -11,6 +11,6 @@ invariant-loop-last g l =
       seen : Notes (SeenBy (g.M.MapRead.map l.course.map.now) l.looks.items) l.initial.seen l.seen;
     }
 
--- the positions that are left
+-- the remaining positions
 abbrev pub decreases-loop-last : goal.decreases-loop-last
 decreases-loop-last g l = length l.initial.course.lines.now - l.last

@@ -3,7 +3,7 @@ use Rattle.olr_spec.specs.Reference.{legs}
 use Rattle.olr_refs.specs.Fields.{middle_points_of}
 use Rattle.olr_refs.proofs.fields.middle_points.Given as goal
 
--- the points between the first and the one at index k
+-- the LRPs between the first and the one at index k
 abbrev pub invariant-loop-k : goal.invariant-loop-k
 invariant-loop-k g l =
     l.middle.items ≡ middle_points_of (legs (g.M.MapRead.map l.course.map.now) l.course.lines.now)

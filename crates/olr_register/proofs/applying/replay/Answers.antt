@@ -21,7 +21,7 @@ loop-command-preserved c = record {
   sound = c.apply-outcome.ensures.sound;
 }
 
--- where all commands lead
+-- the state to which all commands lead
 whole_run : (c : goal.After-drop-command-iterator-2) →
     HasRun c.loop-command.register c.args.commands.items c.loop-command.outcomes.items
 whole_run c =

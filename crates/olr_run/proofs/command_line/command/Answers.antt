@@ -1,4 +1,4 @@
--- The builder's calls make the definition of the arguments.
+-- The builder's calls make the arguments of the definition.
 use Rattle.std.proofs.Common.{rules, ◌≡◌, ◌∙◌, true, codes, ap, ap₂, Some}
 use Rattle.std.proofs.lemmas.Result.{IfOk-weaker}
 use Rattle.clap.specs.Simple.{App, app_of, app_of_fields, new_app, new_rule, on_top, with_rule}

@@ -1,4 +1,4 @@
--- By clap's rows of the words, which are those of the definition.
+-- By clap's rules for the arguments, which are those of the definition.
 use Rattle.std.proofs.Common.{◌≡◌, ◌∙◌, map, sym, ap, codes, false, true}
 use Rattle.std.proofs.lemmas.Bool.{false≢true}
 use Rattle.clap.specs.Faults.{fault_of, is_simple_and_free}

@@ -5,7 +5,7 @@ use Rattle.csv.specs.Records.{fields_of, partial_of}
 use Rattle.olr_run.specs.InMemory.{csv_state}
 use Rattle.olr_run.proofs.in_memory.first_record.Given as goal
 
--- the record is that of the fields so far, of the bytes of the next one so far, and of the bytes that are left
+-- the first record is the one that the fields so far, the bytes of the next field so far, and the remaining bytes make
 abbrev pub invariant-bytes : goal.invariant-bytes
 invariant-bytes l =
     (l.start ≤ l.i) × (partial_of l.row ≡ [])

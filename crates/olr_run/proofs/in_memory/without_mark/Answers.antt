@@ -1,4 +1,4 @@
--- What is left where a byte order mark is first.
+-- The bytes after a byte order mark, if there is one.
 use Rattle.std.proofs.Common.{◌∙◌, sym, arith}
 use Rattle.olr_run.proofs.CsvBytes.{no_mark_in_few, mark_goes, no_mark}
 use Rattle.olr_run.proofs.in_memory.without_mark.Goals as goal

@@ -1,4 +1,4 @@
--- A run over an input, by its session.
+-- A run over an input, from its session.
 use Rattle.std.proofs.Common.{◌∙◌, ap, true}
 use Rattle.csv.specs.Reading.{builder_config, builder_trim, builder_names_headers, builder_is_flexible, with_flexible}
 use Rattle.csv.specs.declared.reader.ReaderBuilder.{ReaderBuilder}

@@ -1,4 +1,4 @@
--- A run over bytes in memory, by its session.
+-- A run over bytes in memory, from its session.
 use Rattle.std.proofs.Common.{Some}
 use Rattle.std.proofs.lemmas.Result.{IfOk-weaker, IfErr-weaker}
 use Rattle.olr_run.proofs.InMemoryRuns.{all_known, reader_of, starts_in_memory, ran_in_as, cut_in_as}

@@ -1,4 +1,4 @@
--- Each end of a run, by the records so far.
+-- Each end of a run, from the records so far.
 use Rattle.std.proofs.Common.{arith}
 use Rattle.csv.specs.Records.{fields_of}
 use Rattle.olr_run.proofs.Running.{so_far_none, accepted_so_far, refused_so_far, ran_whole, ran_stopped}

@@ -1,4 +1,4 @@
--- Each end of the program, by what its parts tell.
+-- Each end of the program, from the contracts of its parts.
 use Rattle.std.proofs.Common.{refl, map, ap, ◌∙◌}
 use Rattle.olr_run.specs.Ends.{Explained}
 use Rattle.olr_run.specs.Options.{options_of}

@@ -1,6 +1,6 @@
 use Rattle.olr_map.specs.RoadMaps.{CanUndoAll}
 use Rattle.tests_map.proofs.tests.assert_taken_back.Given as goal
 
--- what the log knows can be taken back
+-- the edits of the log can be undone
 abbrev pub invariant-loop-edit : goal.invariant-loop-edit
 invariant-loop-edit g l = CanUndoAll l.map l.log

@@ -5,7 +5,7 @@ use Rattle.olr_map.specs.Undos.{CanMakeAll, made_all}
 use Rattle.olr_map.specs.Numbering.{spare_numbers}
 use Rattle.olr_map.proofs.tables.Tables.undo_all.Given as goal
 
--- what is left of the log can be taken back, and leads to the same map
+-- the rest of the log can be undone, and leads to the same map
 abbrev pub invariant-loop-change : goal.invariant-loop-change
 invariant-loop-change l =
     record {

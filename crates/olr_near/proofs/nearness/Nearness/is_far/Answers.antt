@@ -15,7 +15,7 @@ returns-clause-far c = λ yes M s w right source near.
     there_not (number_of c.args.self.now near.node) some
     (ap (number_of c.args.self.now) (sym k.2) ∙ c.loop-node.invariant k.0 (omega arith))
 
--- each of the nodes was asked
+-- each of the nodes was tested
 pub returns-clause-exact : goal.returns-clause-exact
 returns-clause-exact c = (
   λ yes. (

@@ -4,7 +4,7 @@ use Rattle.olr_near.specs.Numbers.{Numbers, number_of}
 use Rattle.olr_near.proofs.NumberLemmas.{put_moves, put_lowered, kept_lowered, gain_put, gain_same, less_some, less_none}
 use Rattle.olr_near.proofs.nearness.Nearness.lower.Goals as goal
 
--- ---- where the node has a number
+-- ---- where the node has a bound
 
 pub returns-then-had-number-clause-paid : goal.returns-then-had-number-clause-paid
 returns-then-had-number-clause-paid c =

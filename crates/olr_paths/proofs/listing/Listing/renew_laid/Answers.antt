@@ -18,7 +18,7 @@ use Rattle.olr_paths.proofs.Changed.{grown_differ, put_on_laid}
 use Rattle.olr_paths.proofs.Standing.{all_encoded}
 use Rattle.olr_paths.proofs.listing.Listing.renew_laid.Goals as goal
 
--- what was made, put on the list with the new ones behind
+-- the results, stored in the list with the new paths at its end
 module _ (before : List Item) (is : List Item) (o : Overlay) (r : Renewal) (new : List Item)
     (keeps : TakesNone (overlay_changes o))
     (told : Reported before (after_renewal r (under_overlay is o)) (map entry_of r.entries.items))

@@ -11,7 +11,7 @@ use Rattle.olr_paths.specs.Laying.{overlay_changes}
 use Rattle.olr_paths.proofs.Changed.{none_keeps}
 use Rattle.olr_paths.proofs.listing.Listing.renew_over.Goals as goal
 
--- where some path is taken away, of the list under the changes
+-- if a path is removed: for the list under the changes
 pub renew_laid-requires-2 : goal.renew_laid-requires-2
 renew_laid-requires-2 g c =
     let e = c.new-none.ensures (items c.in_ok-list.list) ∙ c.in_ok-list.ensures in

@@ -2,6 +2,6 @@ use Rattle.std.proofs.Common.{take}
 use Rattle.olr_paths.proofs.Changed.{AreOthers}
 use Rattle.olr_paths.proofs.overlay.Overlay.takes_some.Given as goal
 
--- the changes so far are other paths
+-- the changes so far are replacements
 abbrev pub invariant-loop-k : goal.invariant-loop-k
 invariant-loop-k l = AreOthers (take l.k l.self.changes.entries)

@@ -4,7 +4,7 @@ use Rattle.olr_route.specs.Notes.{numbers_of}
 use Rattle.olr_route.specs.Searches.{LiesWithin}
 use Rattle.olr_route.proofs.distances.Search.nodes.Goals as goal
 
--- the nodes of what is near
+-- the nodes of the entries within the limit
 same : (c : goal.After-drop-within-2) → numbers_of c.in_ok-within.within.items ≡ c.in_ok-nodes.nodes.items
 same c = ap numbers_of (sym c.deref.ensures.value) ∙ sym c.in_ok-nodes.ensures
 

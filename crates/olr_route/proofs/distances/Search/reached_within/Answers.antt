@@ -13,7 +13,7 @@ use Rattle.olr_route.specs.declared.found.Reached.{Reached}
 use Rattle.olr_route.proofs.CountLemmas.{near_apart, near_exactly, filtered_in}
 use Rattle.olr_route.proofs.distances.Search.reached_within.Goals as goal
 
--- what is near, before it is put in order
+-- the entries within the limit, before they are sorted
 abbrev near : goal.After-sort_unstable_by_key → List Reached
 near c =
     filter (λ r. nat_le (label_of c.args.self.now.found r.place) c.args.self.now.limit)
@@ -30,7 +30,7 @@ sorted c =
 numbers : (c : goal.After-sort_unstable_by_key) → IsPermutation (numbers_of (near c)) (numbers_of (after c))
 numbers c = IsPermutation-map (λ (r : Reached). r.node) (near c) (after c) (sorted c)
 
--- entries whose numbers don't fall, and their numbers
+-- entries whose numbers do not decrease, and their numbers
 numbers_rise : (rs : List Reached) → IsNonDecreasingBy (λ (r : Reached). r.node) rs → IsNonDecreasing (numbers_of rs)
 numbers_rise rs up i j d le lt =
     let long : length (numbers_of rs) ≡ length rs = length-map rs (λ (r : Reached). r.node) in
