@@ -60,7 +60,7 @@ fn street(alloc: Global) -> anyhow::Result<Vec<Edit>> {
 }
 
 /// Prints a path's name with its string, or with the reason why it has none.
-fn tell(rt: &impl Print, entry: &Entry) -> io::Result<()> {
+fn print_entry(rt: &impl Print, entry: &Entry) -> io::Result<()> {
     match &entry.published {
         Ok(text) => println!(rt; "{} {text}", entry.name),
         Err(refusal) => println!(rt; "{} {refusal:?}", entry.name),
@@ -68,10 +68,10 @@ fn tell(rt: &impl Print, entry: &Entry) -> io::Result<()> {
 }
 
 /// Prints the paths that a reply names.
-fn tell_all(rt: &impl Print, reply: &Reply) -> io::Result<()> {
+fn print_all(rt: &impl Print, reply: &Reply) -> io::Result<()> {
     if let Reply::Paths(entries) = reply {
         for entry in entries {
-            tell(rt, entry)?;
+            print_entry(rt, entry)?;
         }
     }
     Ok(())
@@ -80,7 +80,7 @@ fn tell_all(rt: &impl Print, reply: &Reply) -> io::Result<()> {
 /// Applies a command to a register, and prints the paths whose string it changed.
 fn apply(rt: &impl Print, register: &mut Register, command: Command) -> anyhow::Result<()> {
     let reply = register.apply(command)?;
-    tell_all(rt, &reply)?;
+    print_all(rt, &reply)?;
     Ok(())
 }
 
@@ -164,7 +164,7 @@ struct Survey<M> {
 impl<M: MapRead> MapRead for Survey<M> {
     ghost map = { λ s. M.map s.map };
 
-    ghost place_in = { λ s. M.place_in s.map };
+    ghost node_slot = { λ s. M.node_slot s.map };
 
     ghost count = { λ s. M.count s.map };
 
@@ -192,24 +192,24 @@ impl<M: MapRead> MapRead for Survey<M> {
         self.map.in_ends(id)
     }
 
-    fn place_count(&self) -> usize {
-        self.map.place_count()
+    fn slot_count(&self) -> usize {
+        self.map.slot_count()
     }
 
-    fn place_of(&self, id: NodeId) -> Option<u32> {
-        self.map.place_of(id)
+    fn slot_of(&self, id: NodeId) -> Option<u32> {
+        self.map.slot_of(id)
     }
 
-    fn in_lines_at(&self, place: u32) -> &[LineId] {
-        self.map.in_lines_at(place)
+    fn in_lines_at(&self, slot: u32) -> &[LineId] {
+        self.map.in_lines_at(slot)
     }
 
-    fn out_ends_at(&self, place: u32) -> &[LineEnd] {
-        self.map.out_ends_at(place)
+    fn out_ends_at(&self, slot: u32) -> &[LineEnd] {
+        self.map.out_ends_at(slot)
     }
 
-    fn in_ends_at(&self, place: u32) -> &[LineEnd] {
-        self.map.in_ends_at(place)
+    fn in_ends_at(&self, slot: u32) -> &[LineEnd] {
+        self.map.in_ends_at(slot)
     }
 
     ghost sound = { λ s. M.sound s.map };

@@ -45,8 +45,8 @@ fn are_ends_alike<M: MapRead, N: MapRead>(
 fn is_end_alike<M: MapRead, N: MapRead>(one: &M, other: &N, here: LineEnd, there: LineEnd) -> bool {
     here.node == there.node
         && here.len == there.len
-        && one.place_of(here.node) == Some(here.place)
-        && other.place_of(there.node) == Some(there.place)
+        && one.slot_of(here.node) == Some(here.slot)
+        && other.slot_of(there.node) == Some(there.slot)
 }
 
 /// Whether two maps have the same line under a number, or both have none.

@@ -1,7 +1,7 @@
 //! Coordinates along a line.
 ghost use Rattle.std.specs.Prelude.{◌≡◌, ◌<◌, ◌≤◌, IsTrue, pos, ◌+ℤ◌, ◌-ℤ◌, ◌*ℤ◌};
 ghost use Rattle.olr_spec.specs.Map.{is_good};
-ghost use Rattle.olr_spec.specs.Bearings.{scaled_place, scaled_between};
+ghost use Rattle.olr_spec.specs.Bearings.{scaled_coord, scaled_between};
 ghost use Rattle.olr_bearing.specs.Ranges.{IsInRange};
 ghost use Rattle.olr_bearing.specs.Legs.{leg_between};
 
@@ -47,7 +47,7 @@ impl Model for Scaled {
 pub fn place(line: &Line, ends: Ends, at: u32) -> Scaled
     requires good { IsTrue (is_good line.now) }
     requires on_line { at ≤ line.now.len }
-    ensures value { result ≡ scaled_place (leg_between line.now ends) at }
+    ensures value { result ≡ scaled_coord (leg_between line.now ends) at }
     ensures positive { 0 < result.width }
     ensures short { result.width ≤ line.now.len }
     ensures in_range { IsInRange result }

@@ -1,5 +1,5 @@
 pub mod LayoutLemmas
 pub mod PlaceLemmas
 pub mod PointLemmas
-pub mod SpelledLemmas
+pub mod EncodedLemmas
 pub mod TextLemmas

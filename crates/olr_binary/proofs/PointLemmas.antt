@@ -7,10 +7,10 @@ use Rattle.std.proofs.lemmas.List.Concat.{flat_map-append}
 use Rattle.std.proofs.lemmas.List.{drop_all}
 use Rattle.std.proofs.lemmas.Slice.{between_to_end}
 use Rattle.olr_spec.specs.Reference.{First, Middle, Reference}
-use Rattle.olr_spec.specs.Bytes.{signed16, signed24, attr_bytes, first_bytes, middle_bytes, last_bytes, spelling}
+use Rattle.olr_spec.specs.Bytes.{signed16, signed24, attr_bytes, first_bytes, middle_bytes, last_bytes, reference_bytes}
 use Rattle.olr_spec.specs.Bytes.{status_byte}
 use Rattle.olr_spec.proofs.BytesLemmas.{part}
-use Rattle.olr_spec.proofs.LookLemmas.{stretch_parts}
+use Rattle.olr_spec.proofs.QueryLemmas.{stretch_parts}
 
 pub part-drop : (i n : ℕ) (xs : List ℕ) → length xs ≡ i + n → part i n xs ≡ drop i xs
 part-drop i zero xs e = sym (drop_all i xs (omega arith))
@@ -47,11 +47,12 @@ head_of [] some = absurd (omega arith)
 head_of (x ∷ xs) some = refl
 
 -- the parts together are the bytes of the reference
-pub spelling-parts : (b : List ℕ) (m : ℕ) (r : Reference) → 10 + 7 * m ≤ length b → slice_index b 0 ≡ status_byte →
+pub reference_bytes-parts : (b : List ℕ) (m : ℕ) (r : Reference) → 10 + 7 * m ≤ length b →
+    slice_index b 0 ≡ status_byte →
     first_bytes r.first ≡ slice_range b 1 10
     → flat_map middle_bytes r.middle ≡ slice_range b 10 (10 + 7 * m) →
-    last_bytes r.last r.pos r.neg ≡ slice_range b (10 + 7 * m) (length b) → b ≡ spelling r
-spelling-parts b m r long state first middle last =
+    last_bytes r.last r.pos r.neg ≡ slice_range b (10 + 7 * m) (length b) → b ≡ reference_bytes r
+reference_bytes-parts b m r long state first middle last =
     let k = 10 + 7 * m in
     let head : slice_range b 0 1 ≡ status_byte ∷ [] = head_of b (omega arith) ∙ ap (λ (x : ℕ). x ∷ []) state in
     let to_ten = sym (stretch_parts b 0 1 10 (omega arith) (omega arith)) in

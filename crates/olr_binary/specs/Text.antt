@@ -4,10 +4,10 @@ use Rattle.std.specs.Prelude.{◌≡◌, ℕ, List}
 use Rattle.base64.specs.Engines.{standard}
 use Rattle.base64.specs.GeneralPurpose.{encode_of}
 use Rattle.olr_spec.specs.Reference.{Reference}
-use Rattle.olr_spec.specs.Bytes.{IsReference, spelling}
+use Rattle.olr_spec.specs.Bytes.{IsReference, reference_bytes}
 
 unfoldable pub text_of : Reference → List ℕ
-text_of r = encode_of standard (spelling r)
+text_of r = encode_of standard (reference_bytes r)
 
 abbrev pub IsTextOf : Reference → List ℕ → Type 0
 IsTextOf r text = IsReference r × (text ≡ text_of r)

@@ -55,7 +55,7 @@ pub(crate) fn attribute4(pos: Option<u8>, neg: Option<u8>, bearing: u8) -> u8
 
 /// The number of three bytes, high byte first.
 pub(crate) fn read_signed24(bytes: [u8; 3]) -> i32
-    ensures spelled { signed24 result ≡ bytes }
+    ensures encoded { signed24 result ≡ bytes }
     ensures fits { IsTrue (fits24 result) }
 {
     let [high, middle, low] = bytes;
@@ -69,7 +69,7 @@ pub(crate) fn read_signed24(bytes: [u8; 3]) -> i32
 
 /// The number of two bytes, high byte first.
 pub(crate) fn read_signed16(bytes: [u8; 2]) -> i16
-    ensures spelled { signed16 result ≡ bytes }
+    ensures encoded { signed16 result ≡ bytes }
     ensures fits { IsTrue (fits16 result) }
 {
     i16::from_be_bytes(bytes)
@@ -78,7 +78,7 @@ pub(crate) fn read_signed16(bytes: [u8; 2]) -> i16
 /// The FRC and the FOW of attribute byte 1.
 pub(crate) fn read_attribute1(byte: u8) -> (u8, u8)
     requires { byte < 64 }
-    ensures spelled { attribute1 result.0 result.1 ≡ byte }
+    ensures encoded { attribute1 result.0 result.1 ≡ byte }
     ensures frc { result.0 < 8 }
     ensures fow { result.1 < 8 }
 {
@@ -87,7 +87,7 @@ pub(crate) fn read_attribute1(byte: u8) -> (u8, u8)
 
 /// The LFRCNP and the bearing of attribute byte 2.
 pub(crate) fn read_attribute2(byte: u8) -> (u8, u8)
-    ensures spelled { attribute2 result.0 result.1 ≡ byte }
+    ensures encoded { attribute2 result.0 result.1 ≡ byte }
     ensures lfrc { result.0 < 8 }
     ensures bearing { result.1 < 32 }
 {

@@ -3,7 +3,8 @@ ghost use Rattle.std.specs.Prelude.{◌≡◌, ◌+◌, ◌*◌, ◌<◌, [], �
 ghost use Rattle.std.specs.Prelude.{IfSome, IfNone, IfOk, IfErr, OnOk};
 ghost use Rattle.std.specs.List.{AllByRecursion, flat_map};
 ghost use Rattle.olr_spec.specs.Reference.{Reference as Fields};
-ghost use Rattle.olr_spec.specs.Bytes.{AreAttrs, IsFirst, IsMiddle, IsLast, Spells, Length as Wrong_length, attr_bytes};
+ghost use Rattle.olr_spec.specs.Bytes.{AreAttrs, IsFirst, IsMiddle, IsLast, HasBytes, Length as Wrong_length};
+ghost use Rattle.olr_spec.specs.Bytes.{attr_bytes};
 ghost use Rattle.olr_spec.specs.Bytes.{bit, first_bytes, flag, has_reserved, last_bytes, middle_bytes, offset_bytes};
 ghost use Rattle.olr_spec.specs.Bytes.{v3_fault};
 ghost use Rattle.olr_binary.specs.Faults.{bytes_fault_of};
@@ -37,7 +38,7 @@ const ATTRIBUTE_4_END: u8 = 1 << 7;
 /// Attributes, from their three bytes.
 fn read_attrs(one: u8, two: u8, dnp: u8) -> Attrs
     requires { one < 64 }
-    ensures spelled { attr_bytes result ≡ one ∷ two ∷ dnp ∷ [] }
+    ensures encoded { attr_bytes result ≡ one ∷ two ∷ dnp ∷ [] }
     ensures fits { AreAttrs result }
 {
     let (frc, fow) = read_attribute1(one);
@@ -55,7 +56,7 @@ fn read_attrs(one: u8, two: u8, dnp: u8) -> Attrs
 fn read_first(bytes: &[u8]) -> First
     requires nine { length bytes.now ≡ 9 }
     requires reserved { slice_index bytes.now 6 < 64 }
-    ensures spelled { first_bytes result ≡ bytes.now }
+    ensures encoded { first_bytes result ≡ bytes.now }
     ensures fits { IsFirst result }
 {
     let &[
@@ -83,7 +84,7 @@ fn read_first(bytes: &[u8]) -> First
 fn read_middle(bytes: &[u8]) -> Middle
     requires seven { length bytes.now ≡ 7 }
     requires reserved { slice_index bytes.now 4 < 64 }
-    ensures spelled { middle_bytes result ≡ bytes.now }
+    ensures encoded { middle_bytes result ≡ bytes.now }
     ensures fits { IsMiddle result }
 {
     let &[lon_high, lon_low, lat_high, lat_low, one, two, dnp] = bytes else {
@@ -99,7 +100,7 @@ fn read_middle(bytes: &[u8]) -> Middle
 /// The offsets that attribute byte 4 flags, from their bytes.
 fn read_offsets(four: u8, bytes: &[u8]) -> (Option<u8>, Option<u8>)
     requires { length bytes.now ≡ bit 6 four + bit 5 four }
-    ensures spelled { offset_bytes result.0 ++ offset_bytes result.1 ≡ bytes.now }
+    ensures encoded { offset_bytes result.0 ++ offset_bytes result.1 ≡ bytes.now }
     ensures positive { flag result.0 ≡ bit 6 four }
     ensures negative { flag result.1 ≡ bit 5 four }
 {
@@ -118,7 +119,7 @@ fn read_last(bytes: &[u8]) -> (Last, Option<u8>, Option<u8>)
         length bytes.now ≡ 6 + (bit 6 four + bit 5 four) }
     requires reserved_1 { slice_index bytes.now 4 < 64 }
     requires reserved_4 { slice_index bytes.now 5 < 128 }
-    ensures spelled { last_bytes result.0 result.1 result.2 ≡ bytes.now }
+    ensures encoded { last_bytes result.0 result.1 result.2 ≡ bytes.now }
     ensures fits { IsLast result.0 }
 {
     let (point, offsets) = bytes.split_at(LAST);
@@ -197,7 +198,7 @@ fn check(bytes: &[u8]) -> Result<Layout, V3Fault>
 fn read_points(alloc: Global, bytes: &[u8], layout: Layout) -> Result<Vec<Middle>, AllocError>
     requires layout { IsLayout bytes.now layout.middle layout.offsets }
     requires sound { v3_fault bytes.now ≡ None }
-    ensures spelled { IfOk result (λ v.
+    ensures encoded { IfOk result (λ v.
         flat_map middle_bytes v.items ≡ slice_range bytes.now 10 (10 + 7 * layout.middle)) }
     ensures fits { IfOk result (λ v. AllByRecursion IsMiddle v.items) }
 {
@@ -213,10 +214,10 @@ fn read_points(alloc: Global, bytes: &[u8], layout: Layout) -> Result<Vec<Middle
 /// returned only for bytes without a fault. All bytes without a fault are accepted, including those with coordinates
 /// beyond the poles and with offset bytes of 0.
 pub fn read_v3(alloc: Global, bytes: &[u8]) -> Result<Reference, V3Fault>
-    ensures ok { IfOk result (λ r. Spells r bytes.now) }
+    ensures ok { IfOk result (λ r. HasBytes r bytes.now) }
     ensures fault { IfErr result (λ fault. v3_fault bytes.now ≡ bytes_fault_of fault) }
     ensures unspelled { IfErr result (λ fault.
-        IsSome (bytes_fault_of fault) → (r : Fields) → ¬ Spells r bytes.now) }
+        IsSome (bytes_fault_of fault) → (r : Fields) → ¬ HasBytes r bytes.now) }
 {
     let layout = check(bytes)?;
     let middle = read_points(alloc, bytes, layout).map_err(|_| V3Fault::Memory)?;

@@ -1,6 +1,6 @@
 //! Encoding in version 3.
 ghost use Rattle.std.specs.Prelude.{◌≡◌, ◌++◌, IfOk, OnOk};
-ghost use Rattle.olr_spec.specs.Bytes.{IsFirst, IsMiddle, IsLast, AreAttrs, Spells, attr_bytes, first_bytes};
+ghost use Rattle.olr_spec.specs.Bytes.{IsFirst, IsMiddle, IsLast, AreAttrs, HasBytes, attr_bytes, first_bytes};
 ghost use Rattle.olr_spec.specs.Bytes.{middle_bytes, last_bytes, offset_bytes};
 
 use crate::bits::{attribute1, attribute2, attribute4, signed16, signed24};
@@ -75,7 +75,7 @@ fn push_offset(bytes: &mut Vec<u8>, offset: Option<u8>) -> Result<(), AllocError
 /// The bytes that a reference encodes as in version 3, for any number of LRPs. Each reference has exactly one encoding.
 /// Fails if an allocation fails.
 pub fn write_v3(alloc: Global, reference: &Reference) -> Result<Vec<u8>, AllocError>
-    ensures { IfOk result (λ bytes. Spells reference.now bytes.items) }
+    ensures { IfOk result (λ bytes. HasBytes reference.now bytes.items) }
 {
     let points = reference.middle.as_slice();
     let mut bytes = Vec::with_capacity(alloc, TWO_POINTS + POINT * points.len())?;

@@ -21,8 +21,10 @@ code_of (Err fault) = 4
 
 abbrev pub Asked : Registered → List ℕ → Registered → List ℕ → ℕ → Type 0
 Asked old records new reply code =
-    (end : Result Status RunFault) × IfOk end (RanOn Claims false old (Some (records_of records)) (Some []) new (Some reply))
-    × IfErr end (FaultedOn Claims false old (Some (records_of records)) (Some []) new (Some reply)) × (code ≡ code_of end)
+    (end : Result Status RunFault) × IfOk end (RanOn Claims false old (Some (records_of records)) (Some []) new
+    (Some reply))
+    × IfErr end (FaultedOn Claims false old (Some (records_of records)) (Some []) new (Some reply))
+    × (code ≡ code_of end)
 
 abbrev pub AskedOf : Option Keep → List ℕ → Option Keep → ℕ → Type 0
 AskedOf None records new code = (code ≡ 2) × (new ≡ None)

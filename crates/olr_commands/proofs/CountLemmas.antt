@@ -11,7 +11,7 @@ use Rattle.olr_spec.specs.Extension.{Path, is_path}
 use Rattle.olr_commands.specs.State.{Named, Content, same_name, path_named, has_path, with_path, NamesDiffer, Fault}
 use Rattle.olr_commands.specs.State.{Path_exists, No_path, Bad_path, when, Change, Add_path, Set_path, with_change}
 use Rattle.olr_commands.specs.State.{at_once, State, Command, Make, step, changes_made, IsState}
-use Rattle.olr_commands.specs.Counts.{Concerns, By_name, By_node, By_line, CountIs, Raises, all_nodes, all_lines}
+use Rattle.olr_commands.specs.Counts.{Affects, By_name, By_node, By_line, CountIs, Raises, all_nodes, all_lines}
 use Rattle.olr_commands.specs.Counts.{all_names}
 use Rattle.olr_commands.proofs.NameLemmas.{same_is, not_named, set_name}
 use Rattle.olr_commands.proofs.StateLemmas.{when_ok, steps_keep}
@@ -36,18 +36,18 @@ no_count P none [] n p = p
 no_count P none (x ∷ xs) n p = elim p [ inl h ↦ absurd (none x h.0) | inr h ↦ no_count P none xs n h.1 ]
 
 -- no change affects no path
-pub unconcerned : (c : Content) (p : Named) → ¬ Concerns c [] p
+pub unconcerned : (c : Content) (p : Named) → ¬ Affects c [] p
 unconcerned c p (By_name h) = absurd cc
 unconcerned c p (By_node v h f) = absurd cc
 unconcerned c p (By_line x h f) = absurd cc
 
 pub no_rise : (s t : State) (c : Command) (n : ℕ) → changes_made s c ≡ [] → Raises s c t n → n ≡ 0
 no_rise s t c n none h =
-    no_count (Concerns s.content []) (unconcerned s.content) t.content.paths n
-    (subst (λ (xs : List Change). CountIs (Concerns s.content xs) t.content.paths n) none h)
+    no_count (Affects s.content []) (unconcerned s.content) t.content.paths n
+    (subst (λ (xs : List Change). CountIs (Affects s.content xs) t.content.paths n) none h)
 
 pub one_rise : (s t : State) (c : Command) (n m : ℕ) → Raises s c t n → Raises s c t m → n ≡ m
-one_rise s t c n m = one_count (Concerns s.content (changes_made s c)) t.content.paths n m
+one_rise s t c n m = one_count (Affects s.content (changes_made s c)) t.content.paths n m
 
 -- ---- one path
 
@@ -105,7 +105,7 @@ named_still name path (p ∷ ps) q h =
 
 -- a change of one name affects only the path of that name
 only_name : (c : Content) (x : Change) (name : List ℕ) → all_nodes c (x ∷ []) ≡ [] → all_lines (x ∷ []) ≡ [] →
-    all_names (x ∷ []) ≡ name ∷ [] → (p : Named) → Concerns c (x ∷ []) p → same_name p.name name ≡ true
+    all_names (x ∷ []) ≡ name ∷ [] → (p : Named) → Affects c (x ∷ []) p → same_name p.name name ≡ true
 only_name c x name a b d p (By_name h) =
     sym (or-false (same_name p.name name)) ∙ (subst (λ (ns : List (List ℕ)). list_any (same_name p.name) ns ≡ true) d h)
 only_name c x name a b d p (By_node v h f) =
@@ -114,7 +114,7 @@ only_name c x name a b d p (By_line y h f) =
     absurd (let no : has [] y ≡ true = subst (λ (ys : List ℕ). has ys y ≡ true) b h in cc)
 
 by_name : (c : Content) (x : Change) (name : List ℕ) → all_names (x ∷ []) ≡ name ∷ [] → (p : Named) →
-    same_name p.name name ≡ true → Concerns c (x ∷ []) p
+    same_name p.name name ≡ true → Affects c (x ∷ []) p
 by_name c x name d p h =
     By_name (subst (λ (ns : List (List ℕ)). list_any (same_name p.name) ns ≡ true) (sym d)
     (ap (λ (b : Bool). b || false) h))
@@ -126,8 +126,8 @@ one_path : (s t : State) (x : Change) (name : List ℕ) → s.batch ≡ None →
 one_path s t x name b d e f g h =
     let brings : changes_made s (Make x) ≡ x ∷ [] =
     ap (λ (o : Option (List Change)). changes_made (record { content = s.content; batch = o }) (Make x)) b in
-    subst (λ (xs : List Change). CountIs (Concerns s.content xs) t.content.paths 1) (sym brings)
-    (one_named (Concerns s.content (x ∷ [])) name (only_name s.content x name e f g) (by_name s.content x name g)
+    subst (λ (xs : List Change). CountIs (Affects s.content xs) t.content.paths 1) (sym brings)
+    (one_named (Affects s.content (x ∷ [])) name (only_name s.content x name e f g) (by_name s.content x name g)
     t.content.paths d h)
 
 paths_after : (s t : State) (x : Change) → s.batch ≡ None → step s (Make x) ≡ Ok t →

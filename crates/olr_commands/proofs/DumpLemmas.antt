@@ -1,6 +1,7 @@
 -- The changes that a content is written as build it from an empty one.
 use Rattle.std.proofs.Common.{inl, inr, ◌≡◌, ◌≢◌, ℕ, Bool, true, false, cond, not, ◌&&◌, T, List, [], ◌∷◌, ◌++◌, map}
-use Rattle.std.proofs.Common.{Option, Some, None, is_some, unwrap_or, Result, Ok, refl, sym, ap, ◌∙◌, subst, append_assoc}
+use Rattle.std.proofs.Common.{Option, Some, None, is_some, unwrap_or, Result, Ok, refl, sym, ap, ◌∙◌, subst}
+use Rattle.std.proofs.Common.{append_assoc}
 use Rattle.std.proofs.Common.{nat_cmp, Ordering, Less, Equal, Greater, is_lt, is_eq, IsTrue}
 use Rattle.std.proofs.lemmas.Bool.{eq-eqb, ne_eqb, cases_eq, both_ways}
 use Rattle.std.proofs.lemmas.List.{append-nil}
@@ -69,7 +70,8 @@ module _ {X : Type 0} where
       let rest = get_filled (insert m e.0 e.1) es q (T_second _ _ s) in
       elim (cases_eq q e.0) [
         | inl is ↦
-            let none : find nat_cmp q es ≡ None = ap (λ (j : ℕ). find nat_cmp j es) is ∙ missed e.0 es (T_first _ _ s) in
+            let none : find nat_cmp q es ≡ None = ap (λ (j : ℕ). find nat_cmp j es) is
+            ∙ missed e.0 es (T_first _ _ s) in
             let put : get (insert m e.0 e.1) q ≡ Some e.1 = ap (get (insert m e.0 e.1)) is ∙ got_same m e.0 e.1 in
             rest ∙ ap (λ (o : Option X). over o (get (insert m e.0 e.1) q)) none ∙ put
             ∙ sym (ap (λ (b : Bool). over (cond b (Some e.1) (find nat_cmp q es)) (get m q))
@@ -197,7 +199,8 @@ lead_paths M qs (p ∷ ps) a d n =
     ∙ ap (λ (b : Bool). when (not b) Bad_path (Ok to)) a.0 in
     let rest : Leads to (map path_change ps) end =
     lead_paths M (qs ++ p ∷ []) ps a.1 d.1 (still_new qs p ps d.0 n.1) in
-    let all : Leads c (map path_change (p ∷ ps)) end = leads_one c to end (path_change p) (map path_change ps) is rest in
+    let all : Leads c (map path_change (p ∷ ps)) end = leads_one c to end (path_change p) (map path_change ps) is rest
+    in
     subst (λ (rs : List Named). Leads c (map path_change (p ∷ ps)) (record { map = M; paths = rs }))
     (append_assoc qs (p ∷ []) ps) all
 

@@ -19,11 +19,11 @@ use Rattle.olr_commands.specs.State.{Named, Content, path_named, same_name, AreP
 use Rattle.olr_commands.specs.State.{TextFault, Fault, No_path, Batch_full, Count_differs, Change, with_change, next}
 use Rattle.olr_commands.specs.State.{after, Command, Make, Show, Report, Explain, Begin, Commit, Abort, State}
 use Rattle.olr_commands.specs.State.{start_state, full, at_once, into_batch, text_fault, unless_fault, step}
-use Rattle.olr_commands.specs.State.{changes_made, HasPlaces, IsState}
+use Rattle.olr_commands.specs.State.{changes_made, HasCoords, IsState}
 use Rattle.olr_commands.specs.Reply.{Entry, entry, Paths, HasAnswer, Published, ChangedOf, Differences, IsReply}
 use Rattle.olr_commands.specs.Reply.{Outcome, IsOutcome}
-use Rattle.olr_commands.specs.History.{Run, History, AllHavePlaces, next_state, brought_by, all_changes_made, OneOf}
-use Rattle.olr_commands.specs.History.{IsPublished, names, NamesChanged, tells, IsNamed, IsRefused, Headline}
+use Rattle.olr_commands.specs.History.{Run, History, AllHaveCoords, next_state, brought_by, all_changes_made, OneOf}
+use Rattle.olr_commands.specs.History.{IsPublished, names, NamesChanged, reports, IsNamed, IsRefused, Headline}
 use Rattle.olr_commands.proofs.NameLemmas.{same_is}
 use Rattle.olr_commands.proofs.StateLemmas.{when_ok, next_ok, after_append, steps_keep}
 use Rattle.olr_commands.proofs.ReplyLemmas.{named_path}
@@ -287,40 +287,41 @@ replies_name before later es i c name = (
 
 -- ---- what the entries report
 
-Tells : Map → List Named → Entry → Type 0
-Tells M ps e = (A : Answer) × (P : Path) × (path_named ps e.name ≡ Some P) × Encodes M P A × (e ≡ entry e.name A)
+Reports : Map → List Named → Entry → Type 0
+Reports M ps e = (A : Answer) × (P : Path) × (path_named ps e.name ≡ Some P) × Encodes M P A × (e ≡ entry e.name A)
 
-tell_later : (M : Map) (p : Named) (ps : List Named) → NamesDiffer (p ∷ ps) → (es : List Entry) →
-    AllByRecursion (Tells M ps) es → AllByRecursion (Tells M (p ∷ ps)) es
-unfolding Tells
-tell_later M p ps d [] h = tt
-tell_later M p ps d (e ∷ es) h = (
+report_later : (M : Map) (p : Named) (ps : List Named) → NamesDiffer (p ∷ ps) → (es : List Entry) →
+    AllByRecursion (Reports M ps) es → AllByRecursion (Reports M (p ∷ ps)) es
+unfolding Reports
+report_later M p ps d [] h = tt
+report_later M p ps d (e ∷ es) h = (
   (h.0.0, h.0.1, named_later p ps e.name (not_first p ps e.name h.0.1 d h.0.2) ∙ h.0.2, h.0.3, h.0.4),
-  tell_later M p ps d es h.1,
+  report_later M p ps d es h.1,
 )
 
-tell : (before : Content) (M : Map) (ps : List Named) (es : List Entry) → NamesDiffer ps → ChangedOf before M ps es →
-    AllByRecursion (Tells M ps) es
-unfolding Tells
-tell before M [] es d c = subst (AllByRecursion (Tells M [])) (sym c) tt
-tell before M (p ∷ ps) es d c =
-    let rest = tell_later M p ps d c.1 (tell before M ps c.1 d.1 c.3) in
+report_all : (before : Content) (M : Map) (ps : List Named) (es : List Entry) → NamesDiffer ps →
+    ChangedOf before M ps es →
+    AllByRecursion (Reports M ps) es
+unfolding Reports
+report_all before M [] es d c = subst (AllByRecursion (Reports M [])) (sym c) tt
+report_all before M (p ∷ ps) es d c =
+    let rest = report_later M p ps d c.1 (report_all before M ps c.1 d.1 c.3) in
     elim c.4 [
-      | inl g ↦ subst (AllByRecursion (Tells M (p ∷ ps))) (sym g.1) rest
-      | inr g ↦ subst (AllByRecursion (Tells M (p ∷ ps))) (sym g.1)
+      | inl g ↦ subst (AllByRecursion (Reports M (p ∷ ps))) (sym g.1) rest
+      | inr g ↦ subst (AllByRecursion (Reports M (p ∷ ps))) (sym g.1)
           ((c.0, p.path, named_first p ps p.name ((bytes_decides p.name p.name).1 refl), c.2, refl), rest)
     ]
 
-told : (c : Content) (es : List Entry) → AllByRecursion (Tells c.map c.paths) es →
+reported : (c : Content) (es : List Entry) → AllByRecursion (Reports c.map c.paths) es →
     AllByRecursion (λ e. (A : Answer) × HasAnswer c e.name A × (e ≡ entry e.name A)) es
-unfolding Tells
-told c [] h = tt
-told c (e ∷ es) h = ((h.0.0, (h.0.1, h.0.2, h.0.3), h.0.4), told c es h.1)
+unfolding Reports
+reported c [] h = tt
+reported c (e ∷ es) h = ((h.0.0, (h.0.1, h.0.2, h.0.3), h.0.4), reported c es h.1)
 
 pub names_changed : (before later : Content) (es : List Entry) → IsContent later → Differences before later es →
     NamesChanged before later es
 names_changed before later es i c =
-    (replies_name before later es i c, told later es (tell before later.map later.paths es i.names c))
+    (replies_name before later es i c, reported later es (report_all before later.map later.paths es i.names c))
 
 pub no_differences : (c : Content) (es : List Entry) → IsContent c → Differences c c es → es ≡ []
 no_differences c [] i d = refl
@@ -334,10 +335,10 @@ no_differences c (e ∷ es) i d =
 -- ---- the claims of a run
 
 -- what the reply to a command reports, if it names paths
-told_of : (s t : State) (c : Command) (es : List Entry) → tells s.batch c ≡ true → IsReply s c t (Paths es) →
+reported_of : (s t : State) (c : Command) (es : List Entry) → reports s.batch c ≡ true → IsReply s c t (Paths es) →
     Differences s.content t.content es
-told_of s t c es = by s.batch c where
-  by : (b : Option (List Change)) (c : Command) → tells b c ≡ true →
+reported_of s t c es = by s.batch c where
+  by : (b : Option (List Change)) (c : Command) → reports b c ≡ true →
       IsReply (record { content = s.content; batch = b }) c t (Paths es) → Differences s.content t.content es
   by None (Make x) e h = h
   by None (Show name) e h = absurd cc
@@ -355,9 +356,9 @@ told_of s t c es = by s.batch c where
   by (Some xs) Abort e h = absurd cc
 
 pub is_named : (s t : State) (c : Command) (o : Outcome) → IsContent t.content → IsOutcome s c o t → IsNamed s c o t
-is_named s t c o sound h tell es is =
+is_named s t c o sound h report_all es is =
     names_changed s.content t.content es sound
-    (told_of s t c es tell (subst (λ (p : Outcome). IsOutcome s c p t) is h).1)
+    (reported_of s t c es report_all (subst (λ (p : Outcome). IsOutcome s c p t) is h).1)
 
 pub is_refused : (s t : State) (c : Command) (o : Outcome) → IsOutcome s c o t → IsRefused s o t
 is_refused s t c o h fault is = (subst (λ (p : Outcome). IsOutcome s c p t) is h).1
@@ -384,7 +385,7 @@ headline_of P asked f s xs os t sound h =
 
 -- ---- the claims of commands
 
-pub outcome_keeps : (s t : State) (c : Command) (o : Outcome) → IsState s → HasPlaces c → IsOutcome s c o t → IsState t
+pub outcome_keeps : (s t : State) (c : Command) (o : Outcome) → IsState s → HasCoords c → IsOutcome s c o t → IsState t
 outcome_keeps s t c (Ok reply) i h p = steps_keep s t c i h p.0
 outcome_keeps s t c (Err fault) i h p = subst IsState (sym p.1) i
 
@@ -392,7 +393,7 @@ outcome_keeps s t c (Err fault) i h p = subst IsState (sym p.1) i
 abbrev pub SoundOutcome : State → Command → Outcome → State → Type 0
 SoundOutcome s c o t = IsOutcome s c o t × IsContent t.content
 
-history_keeps : (s t : State) (cs : List Command) (os : List Outcome) → IsState s → AllHavePlaces cs →
+history_keeps : (s t : State) (cs : List Command) (os : List Outcome) → IsState s → AllHaveCoords cs →
     Run IsOutcome s cs os t → IsState t × Run SoundOutcome s cs os t
 history_keeps s t cs [] i h p = (subst IsState p i, p)
 history_keeps s t [] (o ∷ os) i h p = absurd p
@@ -426,7 +427,7 @@ headline_of_outcomes s cs os t sound h =
     (headline_of SoundOutcome (λ c. Some c)
     (λ a c o b p. (outcome_leads a c o b p.0, is_named a b c o p.1 p.0, is_refused a b c o p.0)) s cs os t sound h)
 
-pub headline_of_histories : (cs : List Command) (os : List Outcome) (t : State) → AllHavePlaces cs →
+pub headline_of_histories : (cs : List Command) (os : List Outcome) (t : State) → AllHaveCoords cs →
     History start_state cs os t → IsState t × Headline IsOutcome (λ c. Some c) start_state cs os t
 headline_of_histories cs os t h run =
     let k = history_keeps start_state t cs os start_sound h run.1 in

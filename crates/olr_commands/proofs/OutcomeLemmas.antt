@@ -1,22 +1,22 @@
 -- Apart from out of memory, a command has one outcome.
 use Rattle.std.proofs.Common.{◌≡◌, Result, Ok, Err, IsFalse, sym, ap, ◌∙◌, subst}
 use Rattle.std.proofs.lemmas.Bool.{both_ways}
-use Rattle.olr_commands.specs.State.{Fault, State, Command, HasPlaces, step, IsState}
-use Rattle.olr_commands.specs.Reply.{Reply, IsReply, IsRefusal, Told, Lacks, Outcome, IsOutcome, lacks_memory}
+use Rattle.olr_commands.specs.State.{Fault, State, Command, HasCoords, step, IsState}
+use Rattle.olr_commands.specs.Reply.{Reply, IsReply, IsRefusal, ByState, Lacks, Outcome, IsOutcome, lacks_memory}
 use Rattle.olr_commands.proofs.StateLemmas.{steps_keep}
 use Rattle.olr_commands.proofs.ReplyLemmas.{one_reply}
 
 -- a fault other than out of memory is that of step
-pub told_by : (s : State) (c : Command) (fault : Fault) → IsFalse (lacks_memory (Err fault)) → IsRefusal s c fault →
+pub reported_by : (s : State) (c : Command) (fault : Fault) → IsFalse (lacks_memory (Err fault)) → IsRefusal s c fault →
     step s c ≡ Err fault
-told_by s c fault n (Told e) = e
-told_by s c fault n (Lacks is may) =
+reported_by s c fault n (ByState e) = e
+reported_by s c fault n (Lacks is may) =
     absurd (both_ways (lacks_memory (Err fault)) n (ap (λ (f : Fault). lacks_memory (Err f)) is))
 
 ok_or_err : (r : Result State Fault) (t : State) (f : Fault) → r ≡ Ok t → r ≡ Err f → ⊥
 ok_or_err r t f p q = absurd (let no : ◌≡◌ {A = Result State Fault} (Ok t) (Err f) = sym p ∙ q in cc)
 
-pub one_outcome : (s t u : State) (c : Command) (o q : Outcome) → IsState s → HasPlaces c → IsFalse (lacks_memory o) →
+pub one_outcome : (s t u : State) (c : Command) (o q : Outcome) → IsState s → HasCoords c → IsFalse (lacks_memory o) →
     IsFalse (lacks_memory q)
     → IsOutcome s c o t → IsOutcome s c q u → (o ≡ q) × (t ≡ u)
 one_outcome s t u c (Ok r) (Ok w) i h n m p g =
@@ -25,9 +25,9 @@ one_outcome s t u c (Ok r) (Ok w) i h n m p g =
     let one =
     one_reply s t c r w i (steps_keep s t c i h p.0) p.1 (subst (λ (x : State). IsReply s c x w) (sym same) g.1) in
     (ap (λ (x : Reply). Ok x) one, same)
-one_outcome s t u c (Ok r) (Err f) i h n m p g = absurd (ok_or_err (step s c) t f p.0 (told_by s c f m g.0))
-one_outcome s t u c (Err f) (Ok w) i h n m p g = absurd (ok_or_err (step s c) u f g.0 (told_by s c f n p.0))
+one_outcome s t u c (Ok r) (Err f) i h n m p g = absurd (ok_or_err (step s c) t f p.0 (reported_by s c f m g.0))
+one_outcome s t u c (Err f) (Ok w) i h n m p g = absurd (ok_or_err (step s c) u f g.0 (reported_by s c f n p.0))
 one_outcome s t u c (Err f) (Err k) i h n m p g =
-    let both : ◌≡◌ {A = Result State Fault} (Err f) (Err k) = sym (told_by s c f n p.0) ∙ told_by s c k m g.0 in
+    let both : ◌≡◌ {A = Result State Fault} (Err f) (Err k) = sym (reported_by s c f n p.0) ∙ reported_by s c k m g.0 in
     let same : f ≡ k = cc in
     (ap (λ (x : Fault). Err x) same, p.1 ∙ sym g.1)

@@ -6,7 +6,7 @@ use Rattle.olr_spec.specs.Extension.{Path, is_path}
 use Rattle.olr_spec.specs.Reference.{Reference}
 use Rattle.olr_spec.specs.Encoding.{Answer, Encodes}
 use Rattle.olr_spec.proofs.AnswerLemmas.{one_answer}
-use Rattle.olr_spec.proofs.BytesLemmas.{one_spelled}
+use Rattle.olr_spec.proofs.BytesLemmas.{one_decoding}
 use Rattle.olr_commands.specs.State.{Named, Content, same_name, path_named, ArePaths, IsContent, Change, State, Command}
 use Rattle.olr_commands.specs.State.{Make, Show, Report, Explain, Begin, Commit, Abort, IsState}
 use Rattle.olr_commands.specs.Reply.{Entry, entry, Reply, Paths, Fields, Held, HasAnswer, AllOf, ChangedOf, Differences}
@@ -83,7 +83,7 @@ one_explained : (text : List ℕ) (x y : Reference) → Explained text x → Exp
 one_explained text x y p q =
     let bytes_are : Some p.0 ≡ Some q.0 = sym p.1 ∙ q.1 in
     let bytes : p.0 ≡ q.0 = cc in
-    one_spelled x y p.2.0 q.2.0 (sym p.2.1 ∙ bytes ∙ q.2.1)
+    one_decoding x y p.2.0 q.2.0 (sym p.2.1 ∙ bytes ∙ q.2.1)
 
 one_difference : (s t : Content) → IsContent t → (r q : Reply) → IsPaths r (Differences s t) →
     IsPaths q (Differences s t) → r ≡ q

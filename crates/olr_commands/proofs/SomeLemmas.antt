@@ -9,12 +9,12 @@ use Rattle.olr_spec.specs.Extension.{Path, is_path}
 use Rattle.olr_spec.specs.Reference.{Reference}
 use Rattle.olr_spec.specs.Encoding.{Answer, Points, Refused, Refusal, Unknown_line, Broken, Offset_too_long}
 use Rattle.olr_spec.specs.Encoding.{No_next_point, Encodes}
-use Rattle.olr_spec.specs.Bytes.{IsReference, spelling}
+use Rattle.olr_spec.specs.Bytes.{IsReference, reference_bytes}
 use Rattle.olr_spec.proofs.DecideLemmas.{some_answer}
 use Rattle.olr_spec.proofs.FitLemmas.{encoded_fits}
-use Rattle.olr_spec.proofs.BytesLemmas.{one_spelled}
+use Rattle.olr_spec.proofs.BytesLemmas.{one_decoding}
 use Rattle.olr_commands.specs.State.{Named, Content, path_named, same_name, ArePaths, IsContent, has_path, No_path}
-use Rattle.olr_commands.specs.State.{Change, Command, Make, Show, Report, Explain, Begin, Commit, Abort, HasPlaces}
+use Rattle.olr_commands.specs.State.{Change, Command, Make, Show, Report, Explain, Begin, Commit, Abort, HasCoords}
 use Rattle.olr_commands.specs.State.{State, step, IsState}
 use Rattle.olr_commands.specs.Reply.{Entry, entry, Reply, Paths, Held, HasAnswer, AllOf, ChangedOf, Differences, Shown}
 use Rattle.olr_commands.specs.Reply.{IsChangeReply, IsReply}
@@ -69,9 +69,9 @@ Fits (Refused f) = ◌≡◌ {A = Refusal} f f
 answers_decide : (A B : Answer) → Fits A → Fits B → Is_or_not A B
 unfolding Is_or_not Fits
 answers_decide (Points r) (Points q) f g =
-    elim (lists_decide (spelling r) (spelling q)) [
-      | inl e ↦ inl (ap (λ (x : Reference). Points x) (one_spelled r q f g e))
-      | inr ne ↦ inr (λ e. let same : r ≡ q = cc in ne (ap spelling same))
+    elim (lists_decide (reference_bytes r) (reference_bytes q)) [
+      | inl e ↦ inl (ap (λ (x : Reference). Points x) (one_decoding r q f g e))
+      | inr ne ↦ inr (λ e. let same : r ≡ q = cc in ne (ap reference_bytes same))
     ]
 answers_decide (Refused x) (Refused y) f g =
     elim (refusals_decide x y) [ inl e ↦ inl (ap (λ (k : Refusal). Refused k) e) | inr ne ↦ inr (λ e. ne cc) ]
@@ -134,7 +134,7 @@ some_held : (b : Option (List Change)) (c d : Content) → IsContent c → IsCon
 some_held None c d i j = let es = some_difference c d i j in (Paths es.0, es.1)
 some_held (Some xs) c d i j = (Held (suc (length xs)), refl)
 
-pub some_reply : (s t : State) (c : Command) → IsState s → HasPlaces c → step s c ≡ Ok t →
+pub some_reply : (s t : State) (c : Command) → IsState s → HasCoords c → step s c ≡ Ok t →
     ((text : List ℕ) → c ≢ Explain text) → (reply : Reply) × IsReply s c t reply
 some_reply s t (Make x) i h is n =
     some_held s.batch s.content t.content i.content (steps_keep s t (Make x) i h is).content

@@ -11,7 +11,7 @@ use Rattle.olr_commands.specs.State.{No_path, Bad_path, Batch_full, Count_differ
 use Rattle.olr_commands.specs.State.{Set_path, Drop_path, with_map, with_change, next, after, Command, Make, Show}
 use Rattle.olr_commands.specs.State.{Report, Explain, Begin, Commit, Abort, State, full, at_once, into_batch}
 use Rattle.olr_commands.specs.State.{text_fault, unless_fault, step, IsContent, AllAccepted, IsBatch, IsState}
-use Rattle.olr_commands.specs.State.{HasPlaces}
+use Rattle.olr_commands.specs.State.{HasCoords}
 use Rattle.olr_spec.proofs.EditLemmas.{edits_keep}
 use Rattle.olr_commands.proofs.NameLemmas.{differ_push, differ_set, differ_filter, paths_push, paths_set, paths_filter}
 use Rattle.std.proofs.lemmas.List.{length_push}
@@ -30,7 +30,7 @@ map_keeps c d (Ok m) sound i e =
     subst IsContent is (record { map = sound m refl; paths = i.paths; names = i.names })
 map_keeps c d (Err f) sound i e = absurd cc
 
-pub changes_keep : (c d : Content) (x : Change) → IsContent c → HasPlaces (Make x) → with_change c x ≡ Ok d →
+pub changes_keep : (c d : Content) (x : Change) → IsContent c → HasCoords (Make x) → with_change c x ≡ Ok d →
     IsContent d
 changes_keep c d (On_map e) i h is = map_keeps c d (edited c.map e) (λ m ok. edits_keep c.map m e i.map h ok) i is
 changes_keep c d (Add_path name path) i h is =
@@ -90,7 +90,7 @@ few_more n h = let below = leb-false full n h in omega arith
 
 hold : (c : Content) (xs : List Change) (x : Change) (r : Result Content Fault) (t : State) →
     with_change (after c xs) x ≡ r → nat_le full (length xs) ≡ false
-    → IsContent c → HasPlaces (Make x) → IsBatch c xs → into_batch c (xs ++ x ∷ []) r ≡ Ok t → IsState t
+    → IsContent c → HasCoords (Make x) → IsBatch c xs → into_batch c (xs ++ x ∷ []) r ≡ Ok t → IsState t
 hold c xs x (Ok d) t is room i h b e =
     let to : State = record { content = c; batch = Some (xs ++ x ∷ []) } in
     let same : to ≡ t = cc in
@@ -109,7 +109,7 @@ hold c xs x (Err f) t is room i h b e = absurd cc
 -- ---- commands
 
 make : (c : Content) (x : Change) (r : Result Content Fault) (t : State) → with_change c x ≡ r → IsContent c →
-    HasPlaces (Make x) → at_once r ≡ Ok t → IsState t
+    HasCoords (Make x) → at_once r ≡ Ok t → IsState t
 make c x (Ok e) t is i h m =
     let to : State = record { content = e; batch = None } in
     let same : to ≡ t = cc in
@@ -120,10 +120,10 @@ explain : (s t : State) (o : Option TextFault) → IsState s → unless_fault s 
 explain s t None i e = let is : s ≡ t = cc in subst IsState is i
 explain s t (Some f) i e = absurd cc
 
-pub steps_keep : (s t : State) (c : Command) → IsState s → HasPlaces c → step s c ≡ Ok t → IsState t
+pub steps_keep : (s t : State) (c : Command) → IsState s → HasCoords c → step s c ≡ Ok t → IsState t
 steps_keep s t c i h is = steps s.content s.batch t c i.content i.batch h is where
   steps : (c : Content) (b : Option (List Change)) (t : State) (x : Command) → IsContent c → IfSome b (IsBatch c) →
-      HasPlaces x → step (record { content = c; batch = b }) x ≡ Ok t → IsState t
+      HasCoords x → step (record { content = c; batch = b }) x ≡ Ok t → IsState t
   steps c None t (Make x) i b h is = make c x (with_change c x) t refl i h is
   steps c (Some xs) t (Make x) i b h is =
       let p =

@@ -1,5 +1,5 @@
 -- By how much an accepted command raises the count of encodings.
---     Concerns c xs p      the changes xs, made from the content c, affect the named path p
+--     Affects c xs p      the changes xs, made from the content c, affect the named path p
 --     CountIs P ps n      P holds of n of the elements
 --     Raises s c t n      the accepted command, which leads from s to t, raises the count by n
 use Rattle.std.specs.Prelude.{◌≡◌, ℕ, suc, List, [], ◌∷◌, ◌++◌, flat_map, ◌⊎◌, IsTrue}
@@ -35,10 +35,10 @@ abbrev pub all_names : List Change → List (List ℕ)
 all_names xs = flat_map names_of_change xs
 
 -- a change names the path, or touches a node of its footprint on the map before all changes, or one of its lines
-pub data Concerns (c : Content) (xs : List Change) (p : Named) : Type 0 where
-  By_name : IsTrue (list_any (same_name p.name) (all_names xs)) → Concerns c xs p
-  By_node : (v : ℕ) → IsTrue (has (all_nodes c xs) v) → Foot c.map p.path v → Concerns c xs p
-  By_line : (x : ℕ) → IsTrue (has (all_lines xs) x) → IsTrue (has p.path.lines x) → Concerns c xs p
+pub data Affects (c : Content) (xs : List Change) (p : Named) : Type 0 where
+  By_name : IsTrue (list_any (same_name p.name) (all_names xs)) → Affects c xs p
+  By_node : (v : ℕ) → IsTrue (has (all_nodes c xs) v) → Foot c.map p.path v → Affects c xs p
+  By_line : (x : ℕ) → IsTrue (has (all_lines xs) x) → IsTrue (has p.path.lines x) → Affects c xs p
 
 abbrev pub CountIs : {A : Type 0} → (A → Type 0) → List A → ℕ → Type 0
 CountIs P [] n = n ≡ 0
@@ -46,4 +46,4 @@ CountIs P (x ∷ xs) n = (P x × ((m : ℕ) × CountIs P xs m × (n ≡ suc m)))
 
 -- the number of affected paths of the later list, each counted once
 abbrev pub Raises : State → Command → State → ℕ → Type 0
-Raises s c t n = CountIs (Concerns s.content (changes_made s c)) t.content.paths n
+Raises s c t n = CountIs (Affects s.content (changes_made s c)) t.content.paths n

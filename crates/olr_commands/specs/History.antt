@@ -17,7 +17,7 @@ use Rattle.olr_spec.specs.Reference.{Reference}
 use Rattle.olr_spec.specs.Encoding.{Answer, Points, Encodes}
 use Rattle.olr_refs.specs.Referring.{Joined}
 use Rattle.olr_commands.specs.State.{Content, path_named, same_name, Fault, Change, after, IsContent, State}
-use Rattle.olr_commands.specs.State.{start_state, Command, Make, Commit, HasPlaces, step, changes_made, IsState}
+use Rattle.olr_commands.specs.State.{start_state, Command, Make, Commit, HasCoords, step, changes_made, IsState}
 use Rattle.olr_commands.specs.Reply.{Entry, entry, Paths, HasAnswer, Published, Differences, Outcome, IsOutcome}
 
 -- ---- runs
@@ -34,8 +34,8 @@ Whole Step s xs os t = (length os ≡ length xs) × Run Step s xs os t
 abbrev pub History : State → List Command → List Outcome → State → Type 0
 History s cs os t = Whole IsOutcome s cs os t
 
-abbrev pub AllHavePlaces : List Command → Type 0
-AllHavePlaces cs = AllByRecursion HasPlaces cs
+abbrev pub AllHaveCoords : List Command → Type 0
+AllHaveCoords cs = AllByRecursion HasCoords cs
 
 -- ---- the changes that a run applies
 
@@ -90,13 +90,14 @@ NamesChanged before later es =
     × AllByRecursion (λ e. (A : Answer) × HasAnswer later e.name A × (e ≡ entry e.name A)) es
 
 -- the reply names paths: to a change outside a batch, and to a commit
-abbrev pub tells : Option (List Change) → Command → Bool
-tells None (Make x) = true
-tells (Some xs) (Commit count) = true
-tells _ _ = false
+abbrev pub reports : Option (List Change) → Command → Bool
+reports None (Make x) = true
+reports (Some xs) (Commit count) = true
+reports _ _ = false
 
 abbrev pub IsNamed : State → Command → Outcome → State → Type 0
-IsNamed s c o t = IsTrue (tells s.batch c) → (es : List Entry) → o ≡ Ok (Paths es) → NamesChanged s.content t.content es
+IsNamed s c o t = IsTrue (reports s.batch c) → (es : List Entry) → o ≡ Ok (Paths es) →
+    NamesChanged s.content t.content es
 
 -- ---- rejected commands change nothing
 
@@ -118,7 +119,7 @@ pub record Headline {A : Type 0} (Step : State → A → Outcome → State → T
 -- a run of commands from the start leaves the state sound, and all four claims are true of it
 abbrev pub HeadlineOfHistories : Type 0
 HeadlineOfHistories =
-    (cs : List Command) (os : List Outcome) (t : State) → AllHavePlaces cs → History start_state cs os t
+    (cs : List Command) (os : List Outcome) (t : State) → AllHaveCoords cs → History start_state cs os t
     → IsState t × Headline IsOutcome (λ c. Some c) start_state cs os t
 
 abbrev pub RoutesOfReferences : Type 0

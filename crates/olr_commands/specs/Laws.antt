@@ -2,12 +2,12 @@
 use Rattle.std.specs.Prelude.{◌≡◌, ◌≢◌, ℕ, List, [], None, Ok, IsFalse}
 use Rattle.olr_spec.specs.Extension.{Path}
 use Rattle.olr_commands.specs.State.{Content, Add_path, Set_path, Make, State, Command, Explain, Begin, Commit, Abort}
-use Rattle.olr_commands.specs.State.{HasPlaces, IsState, step, changes_made}
+use Rattle.olr_commands.specs.State.{HasCoords, IsState, step, changes_made}
 use Rattle.olr_commands.specs.Reply.{Reply, IsReply, Outcome, IsOutcome, lacks_memory}
 use Rattle.olr_commands.specs.Counts.{Raises}
 
 abbrev pub StepsKeep : Type 0
-StepsKeep = (s t : State) (c : Command) → IsState s → HasPlaces c → step s c ≡ Ok t → IsState t
+StepsKeep = (s t : State) (c : Command) → IsState s → HasCoords c → step s c ≡ Ok t → IsState t
 
 -- an accepted command has at most one reply
 abbrev pub OneReply : Type 0
@@ -31,14 +31,14 @@ NoRise = (s t : State) (c : Command) (n : ℕ) → changes_made s c ≡ [] → R
 -- apart from out of memory, a command has one outcome
 abbrev pub OneOutcome : Type 0
 OneOutcome =
-    (s t u : State) (c : Command) (o q : Outcome) → IsState s → HasPlaces c → IsFalse (lacks_memory o) →
+    (s t u : State) (c : Command) (o q : Outcome) → IsState s → HasCoords c → IsFalse (lacks_memory o) →
     IsFalse (lacks_memory q)
     → IsOutcome s c o t → IsOutcome s c q u → (o ≡ q) × (t ≡ u)
 
 -- an accepted command has a reply; for explain this follows from reading the bytes
 abbrev pub SomeReply : Type 0
 SomeReply =
-    (s t : State) (c : Command) → IsState s → HasPlaces c → step s c ≡ Ok t → ((text : List ℕ) → c ≢ Explain text) →
+    (s t : State) (c : Command) → IsState s → HasCoords c → step s c ≡ Ok t → ((text : List ℕ) → c ≢ Explain text) →
     (reply : Reply) × IsReply s c t reply
 
 -- outside a batch, adding or setting a path raises the count by one

@@ -12,7 +12,7 @@ use Rattle.olr_spec.specs.Map.{Map}
 use Rattle.olr_spec.specs.Extension.{Path}
 use Rattle.olr_spec.specs.Reference.{Reference}
 use Rattle.olr_spec.specs.Encoding.{Answer, Points, Refused, Refusal, Encodes}
-use Rattle.olr_spec.specs.Bytes.{Spells}
+use Rattle.olr_spec.specs.Bytes.{HasBytes}
 use Rattle.olr_map.specs.Edits.{allocates}
 use Rattle.olr_binary.specs.Text.{text_of}
 use Rattle.olr_commands.specs.State.{Named, Content, path_named, Fault, Syntax, Range, Map_fault, Path_exists, No_path}
@@ -76,7 +76,7 @@ Shown c name es = (A : Answer) × HasAnswer c name A × (es ≡ entry name A ∷
 
 -- the text is base64 of bytes that encode the reference
 abbrev pub Explained : List ℕ → Reference → Type 0
-Explained text r = (b : List ℕ) × (decoded_of standard text ≡ Some b) × Spells r b
+Explained text r = (b : List ℕ) × (decoded_of standard text ≡ Some b) × HasBytes r b
 
 abbrev pub IsPaths : Reply → (List Entry → Type 0) → Type 0
 IsPaths (Paths es) P = P es
@@ -103,23 +103,23 @@ IsReply s Abort t reply = reply ≡ Paths []
 -- ---- outcomes
 
 -- a fault that takes precedence over out of memory
-abbrev pub is_told_first : Fault → Bool
-is_told_first (Map_fault fault) = true
-is_told_first Path_exists = true
-is_told_first No_path = true
-is_told_first Batch_open = true
-is_told_first No_batch = true
-is_told_first Count_differs = true
-is_told_first Batch_full = true
-is_told_first Bad_path = false
-is_told_first (Not_a_reference fault) = false
-is_told_first Memory = false
-is_told_first Syntax = false
-is_told_first Range = false
+abbrev pub is_reported_first : Fault → Bool
+is_reported_first (Map_fault fault) = true
+is_reported_first Path_exists = true
+is_reported_first No_path = true
+is_reported_first Batch_open = true
+is_reported_first No_batch = true
+is_reported_first Count_differs = true
+is_reported_first Batch_full = true
+is_reported_first Bad_path = false
+is_reported_first (Not_a_reference fault) = false
+is_reported_first Memory = false
+is_reported_first Syntax = false
+is_reported_first Range = false
 
 abbrev pub may_want : Result State Fault → Bool
 may_want (Ok t) = true
-may_want (Err fault) = not (is_told_first fault)
+may_want (Err fault) = not (is_reported_first fault)
 
 -- opening and dropping a batch take no memory, nor does a path that is dropped outside of batches. Where there are no
 -- paths, a report takes none, nor, outside of batches, an edit for which the map does not allocate. Each other command
@@ -137,7 +137,7 @@ abbrev pub may_lack : State → Command → Bool
 may_lack s c = takes_memory c s.batch (length s.content.paths == 0) && may_want (step s c)
 
 pub data IsRefusal (s : State) (c : Command) (fault : Fault) : Type 0 where
-  Told : step s c ≡ Err fault → IsRefusal s c fault
+  ByState : step s c ≡ Err fault → IsRefusal s c fault
   Lacks : fault ≡ Memory → IsTrue (may_lack s c) → IsRefusal s c fault
 
 abbrev pub Outcome : Type 0

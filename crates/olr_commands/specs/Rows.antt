@@ -1,7 +1,7 @@
 -- Worked values.
 use Rattle.std.specs.Prelude.{List, [], ◌∷◌, codes, pos, neg_ℤ, Option, None, Some}
 use Rattle.std.specs.FinMap.{insert, empty}
-use Rattle.olr_spec.specs.Map.{empty_map, no_place}
+use Rattle.olr_spec.specs.Map.{empty_map, no_coord}
 use Rattle.olr_spec.specs.Reference.{Reference}
 use Rattle.olr_spec.specs.Rows.{reference1}
 use Rattle.olr_commands.specs.State.{no_content, after, State, Change, Add_path}
@@ -32,4 +32,4 @@ with_a batch = record { content = after no_content (path_a ∷ []); batch = batc
 -- node 1 is on the map, and there are no paths
 abbrev pub with_node : State
 with_node =
-    record { content = record no_content { map = record empty_map { nodes = insert empty 1 no_place } }; batch = None }
+    record { content = record no_content { map = record empty_map { nodes = insert empty 1 no_coord } }; batch = None }

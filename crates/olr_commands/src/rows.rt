@@ -4,7 +4,7 @@ ghost use Rattle.olr_spec.specs.Reference.{reference};
 ghost use Rattle.olr_spec.specs.Rows.{reference1, legs1};
 ghost use Rattle.olr_spec.specs.Bytes.{Length, Flags, Reserved};
 ghost use Rattle.olr_spec.specs.Bytes as bytes;
-ghost use Rattle.olr_spec.specs.Map.{Move_node, Drop_node, no_place};
+ghost use Rattle.olr_spec.specs.Map.{Move_node, Drop_node, no_coord};
 ghost use Rattle.olr_commands.specs.State.{On_map, Add_path, Not_a_reference, Not_v3, Not_base64, Path_exists, No_path};
 ghost use Rattle.olr_commands.specs.State.{Batch_open, No_batch, Count_differs, Drop_path, Make, Show, Report, Explain};
 ghost use Rattle.olr_commands.specs.State.{Begin, Commit, Abort, start_state, step};
@@ -76,7 +76,7 @@ pub fn memory()
     ensures dropped { may_lack start_state (Make (Drop_path (codes "a"))) ≡ false }
     ensures dropped_one { may_lack (with_a None) (Make (Drop_path (codes "a"))) ≡ false }
     ensures dropped_in_batch { may_lack (with_a (Some [])) (Make (Drop_path (codes "a"))) ≡ true }
-    ensures moved { may_lack with_node (Make (On_map (Move_node 1 no_place))) ≡ false }
-    ensures moved_beside_paths { takes_memory (Make (On_map (Move_node 1 no_place))) None false ≡ true }
+    ensures moved { may_lack with_node (Make (On_map (Move_node 1 no_coord))) ≡ false }
+    ensures moved_beside_paths { takes_memory (Make (On_map (Move_node 1 no_coord))) None false ≡ true }
     ensures node_dropped { takes_memory (Make (On_map (Drop_node 1))) None true ≡ true }
 {}

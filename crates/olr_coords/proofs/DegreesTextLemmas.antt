@@ -1,6 +1,7 @@
 -- The text of degrees is read as the same number of units.
 use Rattle.std.proofs.Common.{◌≡◌, ℕ, ◌+◌, ◌*◌, ◌-◌, ◌/◌, ◌%◌, ◌<◌, ◌≤◌, ◌^◌, true, false, Bool, ◌==◌, not, ◌&&◌}
-use Rattle.std.proofs.Common.{ℤ, pos, negsuc, List, [], ◌∷◌, ◌++◌, length, drop, fold, refl, ap, IsTrue, Some, None, Ok, Err}
+use Rattle.std.proofs.Common.{ℤ, pos, negsuc, List, [], ◌∷◌, ◌++◌, length, drop, fold, refl, ap, IsTrue, Some, None, Ok}
+use Rattle.std.proofs.Common.{Err}
 use Rattle.std.proofs.Common.{sym, subst, ◌∙◌, arith, rules, zero, suc, Option}
 use Rattle.std.specs.Prelude.{decimal, if◌then◌else◌, option_map, option_and_then, nat_abs, neg_ℤ, nat_le, IfSome}
 use Rattle.std.specs.List.{list_all}
@@ -24,7 +25,8 @@ use Rattle.olr_coords.proofs.DigitLemmas.{own, before-more, before-none}
 one-more : (a q p r n : ℕ) → p * q + r ≡ n → (10 * a + ((48 + q) - 48)) * p + r ≡ a * (10 * p) + n
 one-more a q p r n e =
     let same : (48 + q) - 48 ≡ q = omega arith in
-    let wide : (10 * a + q) * p ≡ 10 * (a * p) + q * p = add-mul (10 * a) q p ∙ ap (λ (m : ℕ). m + q * p) (mul_assoc 10 a p)
+    let wide : (10 * a + q) * p ≡ 10 * (a * p) + q * p = add-mul (10 * a) q p
+    ∙ ap (λ (m : ℕ). m + q * p) (mul_assoc 10 a p)
     in
     let far : a * (10 * p) ≡ 10 * (a * p) =
     sym (mul_assoc a 10 p) ∙ ap (λ (m : ℕ). m * p) (mul_comm a 10) ∙ mul_assoc 10 a p
@@ -81,7 +83,8 @@ pub decimals-digits : (k n : ℕ) → n < 10 ^ k → list_all is_ascii_digit (de
 unfolding decimals
 decimals-digits zero n h = refl
 decimals-digits (suc k) n h =
-    elim (n == 0) as (λ b. list_all is_ascii_digit (if b then [] else (48 + n / 10 ^ k) ∷ decimals k (n % 10 ^ k)) ≡ true) [
+    elim (n == 0) as (λ b. list_all is_ascii_digit (if b then [] else (48 + n / 10 ^ k) ∷ decimals k (n % 10 ^ k))
+    ≡ true) [
       | true ↦ refl
       | false ↦
           and_from (is_ascii_digit (48 + n / 10 ^ k)) (list_all is_ascii_digit (decimals k (n % 10 ^ k)))
@@ -133,7 +136,8 @@ whole-text n h =
     (length-decimal-le 3 n (omega arith) h small) (digits_value-decimal own n small)
 
 -- a text of digits before a tail without digits
-split-text : (ds tail : List ℕ) (w f : ℕ) → before_point (ds ++ tail) ≡ ds → whole ds ≡ Some w → fraction tail ≡ Some f →
+split-text : (ds tail : List ℕ) (w f : ℕ) → before_point (ds ++ tail) ≡ ds → whole ds ≡ Some w → fraction tail ≡ Some f
+    →
     unsigned_degrees (ds ++ tail) ≡ Some ((w + f) * unit7)
 split-text ds tail w f before e g = rw (before, drop-append_seam, e, g) refl
 

@@ -8,5 +8,5 @@ abbrev pub items_of : Option (Vec ℕ Global) → List ℕ
 items_of None = []
 items_of (Some v) = v.items
 
-abbrev pub marks_in : {S : Type 0} → HashMap ℕ (Vec ℕ Global) S → ℕ → List ℕ
-marks_in m n = items_of (get nat_eq m n)
+abbrev pub path_ids_in : {S : Type 0} → HashMap ℕ (Vec ℕ Global) S → ℕ → List ℕ
+path_ids_in m n = items_of (get nat_eq m n)

@@ -10,7 +10,7 @@ use Rattle.std.proofs.lemmas.Map.Keys.{IsDistinct-head, IsDistinct-tail}
 use Rattle.std.proofs.lemmas.Nat.{div-add-mod'}
 use Rattle.std.proofs.Math.Nat.{mod-lt}
 use Rattle.olr_map.specs.Blocked.{number_before, slot_at, slot_in, found_in, IsBlank, AreUsed, from, all_in}
-use Rattle.olr_map.specs.ByNumbers.{pairs_of, slot_by}
+use Rattle.olr_map.specs.SlotIndexes.{pairs_of, slot_by}
 use Rattle.olr_map.specs.declared.block.Block.{Block}
 use Rattle.olr_map.specs.declared.blocks.Blocks.{Blocks}
 use Rattle.olr_map.proofs.SlotLemmas.{none_above}
@@ -20,8 +20,8 @@ use Rattle.olr_map.proofs.SlotLemmas.{none_above}
 same_number : (n k : ℕ) → n / 4 ≡ k / 4 → n % 4 ≡ k % 4 → n ≡ k
 same_number n k e f = let a = div-add-mod' n 4 in let b = div-add-mod' k 4 in omega arith
 
-same_place : (n k : ℕ) → n / 4 ≡ k / 4 → (n % 4 == k % 4) ≡ (n == k)
-same_place n k e =
+same_coord : (n k : ℕ) → n / 4 ≡ k / 4 → (n % 4 == k % 4) ≡ (n == k)
+same_coord n k e =
     elim (cases_eq n k) [
       | inl is ↦ eq-eqb (n % 4) (k % 4) (ap (λ m. m % 4) is) ∙ sym (eq-eqb n k is)
       | inr ne ↦ ne_eqb (n % 4) (k % 4) (λ f. ne (same_number n k e f)) ∙ sym (ne_eqb n k ne)
@@ -40,7 +40,7 @@ module _ (old new : List (ℕ × Block)) (n : ℕ) (o : Option Block) (w : Optio
         | true ↦ λ e.
             let is : n / 4 ≡ k / 4 = eqb-true (n / 4) (k / 4) e in
             here (k % 4) ∙ ap (λ (t : Bool). cond t w (slot_in (lookup (λ p. n / 4 == p) old) (k % 4)))
-            (same_place n k is)
+            (same_coord n k is)
             ∙ ap (λ q. cond (n == k) w (slot_in (lookup (λ p. q == p) old) (k % 4))) is
         | false ↦ λ e.
             let ne : (n == k) ≡ false =
@@ -49,9 +49,9 @@ module _ (old new : List (ℕ × Block)) (n : ℕ) (o : Option Block) (w : Optio
       ] refl
 
 -- a block that is written and then removed
-pub gone_again : {A : Type 0} (t : Bool) (o p : Option A) → cond t None (cond t o p) ≡ cond t None p
-gone_again true o p = refl
-gone_again false o p = refl
+pub removed_again : {A : Type 0} (t : Bool) (o p : Option A) → cond t None (cond t o p) ≡ cond t None p
+removed_again true o p = refl
+removed_again false o p = refl
 
 -- ---- no block is blank
 
@@ -59,10 +59,10 @@ abbrev pub zeros : ℕ → List ℕ
 zeros zero = []
 zeros (suc n) = 0 ∷ zeros n
 
-zeros_tell : (n i : ℕ) → number_before (slice_index (zeros n) i) ≡ None
-zeros_tell zero i = refl
-zeros_tell (suc n) zero = refl
-zeros_tell (suc n) (suc i) = zeros_tell n i
+zeros_report : (n i : ℕ) → number_before (slice_index (zeros n) i) ≡ None
+zeros_report zero i = refl
+zeros_report (suc n) zero = refl
+zeros_report (suc n) (suc i) = zeros_report n i
 
 none_before : (n : ℕ) → number_before n ≡ None → n ≡ 0
 none_before zero e = refl
@@ -76,7 +76,7 @@ blank_zeros (x ∷ xs) h = let first = none_before x (h 0) in let rest = blank_z
 pub blank_test : (b : Block) (t : Bool) → t ≡ pointwise nat_eq b.slots (zeros 4) → (t ≡ true → IsBlank b)
     × (IsBlank b → t ≡ true)
 blank_test b true e =
-    (λ _ i. ap (λ xs. number_before (slice_index xs i)) (same_text b.slots (zeros 4) e) ∙ zeros_tell 4 i, λ _. refl)
+    (λ _ i. ap (λ xs. number_before (slice_index xs i)) (same_text b.slots (zeros 4) e) ∙ zeros_report 4 i, λ _. refl)
 blank_test b false e =
     (λ h. absurd cc, λ blank. absurd (other_text b.slots (zeros 4) e (blank_zeros b.slots blank ∙ ap zeros b.four)))
 
@@ -100,9 +100,9 @@ used_put old new key b now not u =
     }
 
 -- no block at a key
-pub used_gone : (old new : List (ℕ × Block)) (key : ℕ) →
+pub used_removed : (old new : List (ℕ × Block)) (key : ℕ) →
     ((q : ℕ) → lookup (λ p. q == p) new ≡ cond (key == q) None (lookup (λ p. q == p) old)) → AreUsed old → AreUsed new
-used_gone old new key now u =
+used_removed old new key now u =
     record {
       used = λ q d is.
           elim (key == q) as (λ t. cond t None (lookup (λ p. q == p) old) ≡ Some d → IsBlank d → ⊥) [

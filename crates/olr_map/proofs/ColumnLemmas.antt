@@ -4,7 +4,7 @@ use Rattle.std.proofs.Common.{Option, Some, None, is_some, length, get_or, set, 
 use Rattle.std.proofs.Common.{subst, inl, inr, arith}
 use Rattle.std.proofs.lemmas.Bool.{eq-eqb, lt-ltb, le-ltb}
 use Rattle.std.proofs.lemmas.List.{ext_get_or, length-set, length_push}
-use Rattle.olr_map.specs.Slotted.{at, Comes, Goes, Turns}
+use Rattle.olr_map.specs.Slotted.{at, IsInserted, IsRemoved, IsReplaced}
 use Rattle.olr_map.specs.Slabs.{slots_of, Fills}
 use Rattle.olr_map.specs.Columns.{with_lines, rows, node_slots}
 use Rattle.olr_map.specs.NodeLinks.{links_at, with_links}
@@ -15,9 +15,9 @@ use Rattle.olr_map.specs.declared.slots.NodeHead.{NodeHead}
 use Rattle.olr_map.specs.declared.slots.NodeSlots.{NodeSlots}
 use Rattle.olr_map.specs.declared.slots.Side.{Side}
 use Rattle.olr_map.specs.declared.slots.Side.TheVariants.{Out, In}
-use Rattle.olr_map.proofs.Numbering.{same_some}
-use Rattle.olr_map.proofs.SlotLemmas.{some_within, slots_set, slots_push, holds_within, few_slots, comes_free}
-use Rattle.olr_map.proofs.SlotLemmas.{comes_last, goes, turns}
+use Rattle.olr_map.proofs.SlotMapLemmas.{same_some}
+use Rattle.olr_map.proofs.SlotLemmas.{some_within, slots_set, slots_push, holds_within, few_slots, inserts_free}
+use Rattle.olr_map.proofs.SlotLemmas.{inserts_last, removes, turns}
 
 abbrev Heads : Type 0
 Heads = List (Option NodeHead)
@@ -28,22 +28,23 @@ Column = List Links
 -- ---- a list of slots by what changed in it
 
 module _ {X : Type 0} (old new : List (Option X)) (p : ℕ) where
-  turned_list : (e f : X) → Turns old new p e f → length new ≡ length old → new ≡ set old p (Some f)
+  turned_list : (e f : X) → IsReplaced old new p e f → length new ≡ length old → new ≡ set old p (Some f)
   turned_list e f t same =
       ext_get_or None new (set old p (Some f)) (same ∙ sym (length-set old p (Some f)))
       (λ q lt. t.now q ∙ sym (slots_set old p q (Some f) (holds_within old p e t.was)))
 
-  gone_list : (e : X) → Goes old new p e → length new ≡ length old → new ≡ set old p None
-  gone_list e g same =
+  removed_list : (e : X) → IsRemoved old new p e → length new ≡ length old → new ≡ set old p None
+  removed_list e g same =
       ext_get_or None new (set old p None) (same ∙ sym (length-set old p None))
       (λ q lt. g.now q ∙ sym (slots_set old p q None (holds_within old p e g.was)))
 
-  filled_list : (e : X) → Comes old new p e → p < length old → length new ≡ length old → new ≡ set old p (Some e)
+  filled_list : (e : X) → IsInserted old new p e → p < length old → length new ≡ length old → new ≡ set old p (Some e)
   filled_list e c lt same =
       ext_get_or None new (set old p (Some e)) (same ∙ sym (length-set old p (Some e)))
       (λ q _. c.now q ∙ sym (slots_set old p q (Some e) lt))
 
-  pushed_list : (e : X) → Comes old new p e → p ≡ length old → length new ≡ length old + 1 → new ≡ old ++ Some e ∷ []
+  pushed_list : (e : X) → IsInserted old new p e → p ≡ length old → length new ≡ length old + 1 →
+      new ≡ old ++ Some e ∷ []
   pushed_list e c is more =
       ext_get_or None new (old ++ Some e ∷ []) (more ∙ sym (length_push old (Some e))) (λ q _.
       c.now q ∙ ap (λ (n : ℕ). cond (n == q) (Some e) (at old q)) is ∙ sym (slots_push old q (Some e)))
@@ -183,7 +184,7 @@ module _ (s : NodeSlots) where
   pub few_nodes : length (node_slots s) ≤ 2 ^ 32
   few_nodes = let few = few_slots s.heads.slotted in let same = slot_count in omega arith
 
-  pub node_fits : (old : List (Option NodeEntry)) (p : ℕ) (e : NodeEntry) → Comes old (node_slots s) p e →
+  pub node_fits : (old : List (Option NodeEntry)) (p : ℕ) (e : NodeEntry) → IsInserted old (node_slots s) p e →
       p + 1 < 2 ^ 32
   node_fits old p e c =
       let few = s.heads.slotted.few in
@@ -213,45 +214,45 @@ module _ (s : NodeSlots) where
         ins_read (slots_of s.heads) s.outs.items s.ins.items p e w here r ∙ ap (λ (x : Side). links_at x e) (sym h)
 
     pub outs_turned : side ≡ Out → (l : Links) →
-        Turns (node_slots s) (rows (slots_of s.heads) (set s.outs.items p l) s.ins.items) p e (with_links side e l)
+        IsReplaced (node_slots s) (rows (slots_of s.heads) (set s.outs.items p l) s.ins.items) p e (with_links side e l)
     outs_turned h l =
-        subst (λ (x : Side). Turns (node_slots s) (rows (slots_of s.heads) (set s.outs.items p l) s.ins.items) p e
+        subst (λ (x : Side). IsReplaced (node_slots s) (rows (slots_of s.heads) (set s.outs.items p l) s.ins.items) p e
         (with_links x e l)) (sym h)
-        (subst (λ rs. Turns (node_slots s) rs p e (with_links Out e l))
+        (subst (λ rs. IsReplaced (node_slots s) rs p e (with_links Out e l))
         (sym (rows_set_outs (slots_of s.heads) s.outs.items s.ins.items p e l here))
         (turns (node_slots s) p e (with_links Out e l) here))
 
     pub ins_turned : side ≡ In → (l : Links) →
-        Turns (node_slots s) (rows (slots_of s.heads) s.outs.items (set s.ins.items p l)) p e (with_links side e l)
+        IsReplaced (node_slots s) (rows (slots_of s.heads) s.outs.items (set s.ins.items p l)) p e (with_links side e l)
     ins_turned h l =
-        subst (λ (x : Side). Turns (node_slots s) (rows (slots_of s.heads) s.outs.items (set s.ins.items p l)) p e
+        subst (λ (x : Side). IsReplaced (node_slots s) (rows (slots_of s.heads) s.outs.items (set s.ins.items p l)) p e
         (with_links x e l)) (sym h)
-        (subst (λ rs. Turns (node_slots s) rs p e (with_links In e l))
+        (subst (λ rs. IsReplaced (node_slots s) rs p e (with_links In e l))
         (sym (rows_set_ins (slots_of s.heads) s.outs.items s.ins.items p e l here))
         (turns (node_slots s) p e (with_links In e l) here))
 
   -- another head in a slot
   pub head_turned : (heads : List (Option NodeHead)) (p : ℕ) (e : NodeEntry) (f g : NodeHead) → at (node_slots s) p
-      ≡ Some e → Turns (slots_of s.heads) heads p f g → length heads ≡ length (slots_of s.heads)
-      → Turns (node_slots s) (rows heads s.outs.items s.ins.items) p e (headed g e)
+      ≡ Some e → IsReplaced (slots_of s.heads) heads p f g → length heads ≡ length (slots_of s.heads)
+      → IsReplaced (node_slots s) (rows heads s.outs.items s.ins.items) p e (headed g e)
   head_turned heads p e f g here t same =
-      subst (λ hs. Turns (node_slots s) (rows hs s.outs.items s.ins.items) p e (headed g e))
+      subst (λ hs. IsReplaced (node_slots s) (rows hs s.outs.items s.ins.items) p e (headed g e))
       (sym (turned_list (slots_of s.heads) heads p f g t same))
-      (subst (λ rs. Turns (node_slots s) rs p e (headed g e))
+      (subst (λ rs. IsReplaced (node_slots s) rs p e (headed g e))
       (sym (rows_set_head (slots_of s.heads) s.outs.items s.ins.items p e g here))
       (turns (node_slots s) p e (headed g e) here))
 
   -- a slot is free, with other lines in its columns
-  pub row_gone : (heads : List (Option NodeHead)) (p : ℕ) (e : NodeEntry) (f : NodeHead)
-      (o i : Links) → at (node_slots s) p ≡ Some e → Goes (slots_of s.heads) heads p f →
+  pub row_removed : (heads : List (Option NodeHead)) (p : ℕ) (e : NodeEntry) (f : NodeHead)
+      (o i : Links) → at (node_slots s) p ≡ Some e → IsRemoved (slots_of s.heads) heads p f →
       length heads ≡ length (slots_of s.heads)
-      → Goes (node_slots s) (rows heads (set s.outs.items p o) (set s.ins.items p i)) p e
-  row_gone heads p e f o i here g same =
-      subst (λ hs. Goes (node_slots s) (rows hs (set s.outs.items p o) (set s.ins.items p i)) p e)
-      (sym (gone_list (slots_of s.heads) heads p f g same))
-      (subst (λ rs. Goes (node_slots s) rs p e)
+      → IsRemoved (node_slots s) (rows heads (set s.outs.items p o) (set s.ins.items p i)) p e
+  row_removed heads p e f o i here g same =
+      subst (λ hs. IsRemoved (node_slots s) (rows hs (set s.outs.items p o) (set s.ins.items p i)) p e)
+      (sym (removed_list (slots_of s.heads) heads p f g same))
+      (subst (λ rs. IsRemoved (node_slots s) rs p e)
       (sym (rows_set (slots_of s.heads) s.outs.items s.ins.items p None o i s.outs_beside s.ins_beside))
-      (goes (node_slots s) p e here))
+      (removes (node_slots s) p e here))
 
   -- a node is added to all columns
   abbrev column_with : Column → ℕ → Links → Column
@@ -277,38 +278,41 @@ module _ (s : NodeSlots) where
       ap (λ (xs : Column). length xs) (put_behind ls p l (omega arith)) ∙ omega arith
 
   module _ (heads : Slab NodeHead) (p : ℕ) (h : NodeHead) (o i : Links)
-      (c : Comes (slots_of s.heads) (slots_of heads) p h) where
-    abbrev came : NodeEntry
-    came = record { id = h.id; place = h.place; outs = o; ins = i }
+      (c : IsInserted (slots_of s.heads) (slots_of heads) p h) where
+    abbrev inserted : NodeEntry
+    inserted = record { id = h.id; place = h.place; outs = o; ins = i }
 
-    pub row_comes : Fills s.heads heads p →
-        Comes (node_slots s) (rows (slots_of heads) (column_with s.outs.items p o) (column_with s.ins.items p i)) p came
-    row_comes (inl f) =
+    pub row_inserted : Fills s.heads heads p →
+        IsInserted (node_slots s) (rows (slots_of heads) (column_with s.outs.items p o) (column_with s.ins.items p i))
+        p inserted
+    row_inserted (inl f) =
         let a = s.outs_beside in
         let b = s.ins_beside in
         let size = slot_count in
         let lt = f.0 in
         let row = rows_set (slots_of s.heads) s.outs.items s.ins.items p (Some h) o i a b in
         let is : rows (slots_of heads) (column_with s.outs.items p o) (column_with s.ins.items p i)
-        ≡ set (node_slots s) p (Some came) =
+        ≡ set (node_slots s) p (Some inserted) =
         rw (
           filled_list (slots_of s.heads) (slots_of heads) p h c lt f.1,
           put_below s.outs.items p o (omega arith),
           put_below s.ins.items p i (omega arith),
         ) row in
-        subst (λ rs. Comes (node_slots s) rs p came) (sym is)
-        (comes_free (node_slots s) p came (omega arith) (no_row (slots_of s.heads) s.outs.items s.ins.items p c.was))
-    row_comes (inr f) =
+        subst (λ rs. IsInserted (node_slots s) rs p inserted) (sym is)
+        (inserts_free (node_slots s) p inserted (omega arith)
+        (no_row (slots_of s.heads) s.outs.items s.ins.items p c.was))
+    row_inserted (inr f) =
         let a = s.outs_beside in
         let b = s.ins_beside in
         let size = slot_count in
         let same = f.0 in
         let row = rows_push (slots_of s.heads) s.outs.items s.ins.items (Some h) o i a b in
         let is : rows (slots_of heads) (column_with s.outs.items p o) (column_with s.ins.items p i) ≡ node_slots s
-        ++ Some came ∷ [] =
+        ++ Some inserted ∷ [] =
         rw (
           pushed_list (slots_of s.heads) (slots_of heads) p h c same f.1,
           put_behind s.outs.items p o (omega arith),
           put_behind s.ins.items p i (omega arith),
         ) row in
-        subst (λ rs. Comes (node_slots s) rs p came) (sym is) (comes_last (node_slots s) p came (omega arith))
+        subst (λ rs. IsInserted (node_slots s) rs p inserted) (sym is)
+        (inserts_last (node_slots s) p inserted (omega arith))

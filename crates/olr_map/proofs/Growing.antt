@@ -8,12 +8,12 @@ use Rattle.std.proofs.lemmas.Bool.{eqb-true}
 use Rattle.std.specs.Ordering.{nat_cmp}
 use Rattle.olr_spec.specs.Coordinates.{Coord}
 use Rattle.olr_spec.specs.Map.{Map, IsMap, Line, has_node, has_line, line_at}
-use Rattle.olr_map.specs.ByNumbers.{pairs_of, slot_by}
-use Rattle.olr_map.specs.Slotted.{at, Turns}
+use Rattle.olr_map.specs.SlotIndexes.{pairs_of, slot_by}
+use Rattle.olr_map.specs.Slotted.{at, IsReplaced}
 use Rattle.olr_map.specs.Columns.{node_slots}
 use Rattle.olr_map.specs.NodeLinks.{links_at, with_links}
 use Rattle.olr_map.specs.Linked.{lines_on, ends_on, spare_links}
-use Rattle.olr_map.specs.Kept.{far, node_in, links_in, map_from, place_in, IsListed, IsIndexed, IsKept}
+use Rattle.olr_map.specs.Tables.{far, node_in, links_in, map_from, node_slot, IsListed, IsIndexed, AreTables}
 use Rattle.olr_map.specs.Changes.{tables_map}
 use Rattle.olr_map.specs.declared.blocks.Blocks.{Blocks}
 use Rattle.olr_map.specs.declared.links.Links.{Links}
@@ -23,15 +23,15 @@ use Rattle.olr_map.specs.declared.slots.Side.{Side}
 use Rattle.olr_map.specs.declared.slots.Side.TheVariants.{Out, In}
 use Rattle.olr_map.specs.declared.tables.Tables.{Tables}
 use Rattle.olr_map.proofs.ColumnLemmas.{few_nodes}
-use Rattle.olr_map.proofs.Looks.{same_answers}
+use Rattle.olr_map.proofs.Insertions.{same_answers}
 use Rattle.olr_map.proofs.Lookups.{all_get}
 use Rattle.olr_map.proofs.Blocking.{listed_found}
 use Rattle.olr_map.proofs.Indexing.{id_of, turned_node, turned_indexed}
 use Rattle.olr_map.proofs.Listing.{replaced}
-use Rattle.olr_map.specs.Numbering.{held, things_of, all_held}
+use Rattle.olr_map.specs.SlotMaps.{held, things_of, all_held}
 use Rattle.olr_map.specs.HavingSlots.{in_slot}
-use Rattle.olr_map.proofs.Numbering.{same_some, held_get}
-use Rattle.olr_map.specs.declared.numbered.Numbered.{Numbered}
+use Rattle.olr_map.proofs.SlotMapLemmas.{same_some, held_get}
+use Rattle.olr_map.specs.declared.slot_map.SlotMap.{SlotMap}
 use Rattle.olr_map.proofs.Reading.{place_of, got_node, got_line, kept_from, node_missing}
 
 -- ---- empty tables
@@ -49,14 +49,14 @@ empty_map_sound M no_node no_line =
       never true e h = absurd cc
       never false e h = absurd cc
 
-pub kept_none : (b : Blocks) (s : NodeSlots) (ls : Numbered Line) → pairs_of b ≡ [] → node_slots s ≡ [] →
-    things_of ls ≡ [] → IsKept b (node_slots s) (all_held ls)
+pub kept_none : (b : Blocks) (s : NodeSlots) (ls : SlotMap Line) → pairs_of b ≡ [] → node_slots s ≡ [] →
+    things_of ls ≡ [] → AreTables b (node_slots s) (all_held ls)
 kept_none b s ls no_nodes no_slots no_lines =
     let none : (v : ℕ) → slot_by b v ≡ None = λ v. sym (listed_found b v) ∙ ap (lookup (λ q. v == q)) no_nodes in
     let free : (p : ℕ) → at (node_slots s) p ≡ None = λ p. ap (λ es. at es p) no_slots in
     let indexed : IsIndexed b (node_slots s) =
     record {
-      stands = λ v p h. let x : ◌≡◌ {A = Option ℕ} None (Some p) = sym (none v) ∙ h in absurd (no_some p x);
+      filled = λ v p h. let x : ◌≡◌ {A = Option ℕ} None (Some p) = sym (none v) ∙ h in absurd (no_some p x);
       named = λ v p h. let x : ◌≡◌ {A = Option ℕ} None (Some v) =
           ap (option_map id_of) (sym (free p)) ∙ h in absurd (no_some v x);
     } in
@@ -75,7 +75,7 @@ module _ (t : Tables) (b' : Blocks) (same : (k : ℕ) → slot_by b' k ≡ slot_
   index_indexed : IsIndexed b' (node_slots t.nodes)
   index_indexed =
       record {
-        stands = λ v p h. t.kept.indexed.stands v p (sym (same v) ∙ h);
+        filled = λ v p h. t.kept.indexed.filled v p (sym (same v) ∙ h);
         named = λ v p h. same v
             ∙ t.kept.indexed.named v p h;
       }
@@ -88,22 +88,22 @@ module _ (t : Tables) (b' : Blocks) (same : (k : ℕ) → slot_by b' k ≡ slot_
       got_node b' (node_slots t.nodes) index_indexed (all_held t.lines) k ∙ ap (option_map place_of) (index_node k)
       ∙ sym (got_node t.index (node_slots t.nodes) t.kept.indexed (all_held t.lines) k)))
 
-  pub index_kept : IsKept b' (node_slots t.nodes) (all_held t.lines)
+  pub index_kept : AreTables b' (node_slots t.nodes) (all_held t.lines)
   index_kept =
       kept_from b' (node_slots t.nodes) (all_held t.lines) index_indexed (few_nodes t.nodes)
       (subst IsMap (sym index_map) t.kept.sound)
       (λ side v l h.
-      replaced side (tables_map t) (map_from b' (node_slots t.nodes) (all_held t.lines)).nodes (place_in t.index)
-      (place_in b') v l
+      replaced side (tables_map t) (map_from b' (node_slots t.nodes) (all_held t.lines)).nodes (node_slot t.index)
+      (node_slot b') v l
       (λ y there. ap (λ o. unwrap_or o 0) (sym (same (far side (line_at (tables_map t) y)))))
       (t.kept.listed side v l (ap (option_map (links_at side)) (sym (index_node v)) ∙ h)))
 
-module _ (t : Tables) (ls' : Numbered Line) (same : (k : ℕ) → held ls' k ≡ held t.lines k) where
+module _ (t : Tables) (ls' : SlotMap Line) (same : (k : ℕ) → held ls' k ≡ held t.lines k) where
   pub same_lines : all_held ls' ≡ all_held t.lines
   same_lines = same_answers _ _ (λ k. held_get ls' k ∙ same k ∙ sym (got_line t k))
 
-  pub lines_kept : IsKept t.index (node_slots t.nodes) (all_held ls')
-  lines_kept = subst (λ (F : FinMap nat_cmp Line). IsKept t.index (node_slots t.nodes) F) (sym same_lines) t.kept
+  pub lines_kept : AreTables t.index (node_slots t.nodes) (all_held ls')
+  lines_kept = subst (λ (F : FinMap nat_cmp Line). AreTables t.index (node_slots t.nodes) F) (sym same_lines) t.kept
 
   pub lines_map : map_from t.index (node_slots t.nodes) (all_held ls') ≡ tables_map t
   lines_map = ap (λ (F : FinMap nat_cmp Line). record (tables_map t) { lines = F }) same_lines
@@ -122,9 +122,9 @@ same_id : (side : Side) (e : NodeEntry) (l : Links) → (with_links side e l).id
 same_id Out e l = refl
 same_id In e l = refl
 
-same_place : (side : Side) (e : NodeEntry) (l : Links) → (with_links side e l).place ≡ e.place
-same_place Out e l = refl
-same_place In e l = refl
+same_coord : (side : Side) (e : NodeEntry) (l : Links) → (with_links side e l).place ≡ e.place
+same_coord Out e l = refl
+same_coord In e l = refl
 
 grown_at : (s side : Side) (e : NodeEntry) (l : Links) → Grown (links_at side e) l →
     Grown (links_at s e) (links_at s (with_links side e l))
@@ -134,7 +134,7 @@ grown_at In Out e l g = grown_same e.ins
 grown_at In In e l g = g
 
 module _ (t : Tables) (nodes' : NodeSlots) (side : Side) (p v : ℕ) (e : NodeEntry) (l : Links)
-    (u : Turns (node_slots t.nodes) (node_slots nodes') p e (with_links side e l))
+    (u : IsReplaced (node_slots t.nodes) (node_slots nodes') p e (with_links side e l))
     (here : slot_by t.index v ≡ Some p) (g : Grown (links_at side e) l) where
   abbrev f : NodeEntry
   f = with_links side e l
@@ -158,7 +158,7 @@ module _ (t : Tables) (nodes' : NodeSlots) (side : Side) (p v : ℕ) (e : NodeEn
       ∙ elim (v == k) as (λ c. (v == k) ≡ c →
       option_map place_of (cond c (Some f) (node_in t.index (node_slots t.nodes) k))
       ≡ option_map place_of (node_in t.index (node_slots t.nodes) k)) [
-        | true ↦ λ i. ap (λ q. Some q) (same_place side e l)
+        | true ↦ λ i. ap (λ q. Some q) (same_coord side e l)
             ∙ ap (option_map place_of) (sym was_here ∙ ap (node_in t.index (node_slots t.nodes)) (eqb-true v k i))
         | false ↦ λ i. refl
       ] refl
@@ -184,12 +184,12 @@ module _ (t : Tables) (nodes' : NodeSlots) (side : Side) (p v : ℕ) (e : NodeEn
         | false ↦ λ i j. (h, j, grown_same h)
       ] refl (ap (option_map (links_at s)) (sym (grown_node k)) ∙ is)
 
-  pub grown_kept : IsKept t.index (node_slots nodes') (all_held t.lines)
+  pub grown_kept : AreTables t.index (node_slots nodes') (all_held t.lines)
   grown_kept =
       kept_from t.index (node_slots nodes') (all_held t.lines) grown_indexed (few_nodes nodes')
       (subst IsMap (sym grown_map) t.kept.sound)
       (λ s k h is.
       let m = grown_links s k h is in
       let old = t.kept.listed s k m.0 m.1 in
-      subst (λ (K : Map). IsListed s K (place_in t.index) k h) (sym grown_map)
+      subst (λ (K : Map). IsListed s K (node_slot t.index) k h) (sym grown_map)
       (record { numbers = m.2.lines ∙ old.numbers; ends = m.2.ends ∙ old.ends }))

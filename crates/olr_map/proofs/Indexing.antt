@@ -3,13 +3,14 @@ use Rattle.std.proofs.Common.{◌≡◌, ◌==◌, ℕ, Bool, true, false, cond,
 use Rattle.std.proofs.Common.{is_some, eqb-true}
 use Rattle.std.specs.Option.{option_map}
 use Rattle.std.proofs.lemmas.Bool.{eq-eqb, ne_eqb}
-use Rattle.olr_map.specs.ByNumbers.{slot_by}
-use Rattle.olr_map.specs.Slotted.{at, Comes, Goes, Turns}
+use Rattle.olr_map.specs.SlotIndexes.{slot_by}
+use Rattle.olr_map.specs.Slotted.{at, IsInserted, IsRemoved, IsReplaced}
 use Rattle.olr_map.specs.HavingSlots.{HaveSlots}
-use Rattle.olr_map.specs.Kept.{node_in, IsIndexed}
+use Rattle.olr_map.specs.Tables.{node_in, IsIndexed}
 use Rattle.olr_map.specs.declared.blocks.Blocks.{Blocks}
 use Rattle.olr_map.specs.declared.slots.NodeEntry.{NodeEntry}
-use Rattle.olr_map.proofs.Numbering.{same_some, standing, turned_held, stays, arrives, came_held, remains, gone_held}
+use Rattle.olr_map.proofs.SlotMapLemmas.{same_some, filled_at, turned_held, stays, arrives, inserted_held, remains}
+use Rattle.olr_map.proofs.SlotMapLemmas.{removed_held}
 
 abbrev pub id_of : NodeEntry → ℕ
 id_of e = e.id
@@ -21,22 +22,22 @@ Slots = List (Option NodeEntry)
 module _ (b : Blocks) (es : Slots) (indexed : IsIndexed b es) where
   -- two nodes are not in one slot
   pub one_node : (v w p : ℕ) → slot_by b v ≡ Some p → slot_by b w ≡ Some p → v ≡ w
-  one_node v w p h k = same_some _ _ (sym (indexed.stands v p h) ∙ indexed.stands w p k)
+  one_node v w p h k = same_some _ _ (sym (indexed.filled v p h) ∙ indexed.filled w p k)
 
   mapped_some : (o : Option NodeEntry) (v : ℕ) → option_map id_of o ≡ Some v → is_some o ≡ true
   mapped_some None v h = absurd cc
   mapped_some (Some e) v h = refl
 
-  nodes_stand : HaveSlots b es
-  nodes_stand = record { stands = λ v p h. mapped_some (at es p) v (indexed.stands v p h); apart = one_node }
+  nodes_filled : HaveSlots b es
+  nodes_filled = record { filled = λ v p h. mapped_some (at es p) v (indexed.filled v p h); apart = one_node }
 
   -- the entry of a node that is found
   pub entry_of : (v p : ℕ) → slot_by b v ≡ Some p → (e : NodeEntry) × (at es p ≡ Some e)
-  entry_of = standing b es nodes_stand
+  entry_of = filled_at b es nodes_filled
 
   -- ---- another entry for a node
 
-  module _ (es' : Slots) (p v : ℕ) (e f : NodeEntry) (t : Turns es es' p e f) (here : slot_by b v ≡ Some p)
+  module _ (es' : Slots) (p v : ℕ) (e f : NodeEntry) (t : IsReplaced es es' p e f) (here : slot_by b v ≡ Some p)
       (same : f.id ≡ e.id) where
     ids : (q : ℕ) → option_map id_of (at es' q) ≡ option_map id_of (at es q)
     ids q =
@@ -49,31 +50,31 @@ module _ (b : Blocks) (es : Slots) (indexed : IsIndexed b es) where
 
     pub turned_indexed : IsIndexed b es'
     turned_indexed =
-        record { stands = λ w q h. ids q ∙ indexed.stands w q h; named = λ w q h. indexed.named w q (sym (ids q) ∙ h) }
+        record { filled = λ w q h. ids q ∙ indexed.filled w q h; named = λ w q h. indexed.named w q (sym (ids q) ∙ h) }
 
     pub turned_node : (k : ℕ) → node_in b es' k ≡ cond (v == k) (Some f) (node_in b es k)
-    turned_node = turned_held b es nodes_stand es' p v e f t here
+    turned_node = turned_held b es nodes_filled es' p v e f t here
 
   -- ---- a node is added
 
-  module _ (b' : Blocks) (es' : Slots) (p v : ℕ) (e : NodeEntry) (c : Comes es es' p e) (id : e.id ≡ v)
+  module _ (b' : Blocks) (es' : Slots) (p v : ℕ) (e : NodeEntry) (c : IsInserted es es' p e) (id : e.id ≡ v)
       (absent : slot_by b v ≡ None)
       (put : (k : ℕ) → slot_by b' k ≡ cond (v == k) (Some p) (slot_by b k)) where
-    pub came_node : (k : ℕ) → node_in b' es' k ≡ cond (v == k) (Some e) (node_in b es k)
-    came_node = came_held b es nodes_stand b' es' p v e c put
+    pub inserted_node : (k : ℕ) → node_in b' es' k ≡ cond (v == k) (Some e) (node_in b es k)
+    inserted_node = inserted_held b es nodes_filled b' es' p v e c put
 
-    pub came_indexed : IsIndexed b' es'
-    came_indexed =
+    pub inserted_indexed : IsIndexed b' es'
+    inserted_indexed =
         record {
-          stands = λ k q h.
+          filled = λ k q h.
               elim (v == k) as (λ t. (v == k) ≡ t → cond t (Some p) (slot_by b k) ≡ Some q →
               option_map id_of (at es' q) ≡ Some k) [
                 | true ↦ λ i g.
                     ap (λ n. option_map id_of (at es' n)) (sym (same_some _ _ g))
-                    ∙ ap (option_map id_of) (arrives b es nodes_stand b' es' p v e c put)
+                    ∙ ap (option_map id_of) (arrives b es nodes_filled b' es' p v e c put)
                     ∙ ap (λ n. Some n) (id ∙ eqb-true v k i)
-                | false ↦ λ i g. ap (option_map id_of) (stays b es nodes_stand b' es' p v e c put k q g)
-                    ∙ indexed.stands k q g
+                | false ↦ λ i g. ap (option_map id_of) (stays b es nodes_filled b' es' p v e c put k q g)
+                    ∙ indexed.filled k q g
               ] refl (sym (put k) ∙ h);
           named = λ k q h.
               elim (p == q) as (λ t. (p == q) ≡ t → option_map id_of (cond t (Some e) (at es q)) ≡ Some k →
@@ -92,20 +93,21 @@ module _ (b : Blocks) (es : Slots) (indexed : IsIndexed b es) where
 
   -- ---- a node is removed
 
-  module _ (b' : Blocks) (es' : Slots) (p v : ℕ) (e : NodeEntry) (g : Goes es es' p e) (here : slot_by b v ≡ Some p)
+  module _ (b' : Blocks) (es' : Slots) (p v : ℕ) (e : NodeEntry) (g : IsRemoved es es' p e)
+      (here : slot_by b v ≡ Some p)
       (taken : (k : ℕ) → slot_by b' k ≡ cond (v == k) None (slot_by b k)) where
-    pub gone_node : (k : ℕ) → node_in b' es' k ≡ cond (v == k) None (node_in b es k)
-    gone_node = gone_held b es nodes_stand b' es' p v e g here taken
+    pub removed_node : (k : ℕ) → node_in b' es' k ≡ cond (v == k) None (node_in b es k)
+    removed_node = removed_held b es nodes_filled b' es' p v e g here taken
 
-    pub gone_indexed : IsIndexed b' es'
-    gone_indexed =
+    pub removed_indexed : IsIndexed b' es'
+    removed_indexed =
         record {
-          stands = λ k q h.
+          filled = λ k q h.
               elim (v == k) as (λ t. (v == k) ≡ t → cond t None (slot_by b k) ≡ Some q →
               option_map id_of (at es' q) ≡ Some k) [
                 | true ↦ λ i j. absurd cc
-                | false ↦ λ i j. ap (option_map id_of) (remains b es nodes_stand b' es' p v e g here taken k q i j)
-                    ∙ indexed.stands k q j
+                | false ↦ λ i j. ap (option_map id_of) (remains b es nodes_filled b' es' p v e g here taken k q i j)
+                    ∙ indexed.filled k q j
               ] refl (sym (taken k) ∙ h);
           named = λ k q h.
               elim (p == q) as (λ t. (p == q) ≡ t → option_map id_of (cond t None (at es q)) ≡ Some k →

@@ -1,10 +1,10 @@
-pub mod Looks
+pub mod Insertions
 pub mod Lookups
 pub mod Numbers
 pub mod Matching
 pub mod SlotLemmas
 pub mod Blocking
-pub mod Numbering
+pub mod SlotMapLemmas
 pub mod ColumnLemmas
 pub mod Indexing
 pub mod Undoing

@@ -11,12 +11,13 @@ use Rattle.olr_spec.proofs.EditLemmas.{edits_keep, made_by}
 use Rattle.olr_spec.proofs.MapLemmas.{has-lines_where, passes_at}
 use Rattle.olr_spec.proofs.UndoLemmas.{takes_back}
 use Rattle.olr_spec.proofs.OptionLemmas.{none_of}
-use Rattle.olr_map.specs.ByNumbers.{slot_by}
-use Rattle.olr_map.specs.Slotted.{at, Turns}
+use Rattle.olr_map.specs.SlotIndexes.{slot_by}
+use Rattle.olr_map.specs.Slotted.{at, IsReplaced}
 use Rattle.olr_map.specs.Columns.{node_slots, node_room}
 use Rattle.olr_map.specs.NodeLinks.{links_at, with_links}
 use Rattle.olr_map.specs.Linked.{lines_on, spare_links, IsLinked, IsUnlinked, IsReset}
-use Rattle.olr_map.specs.Kept.{near, far, node_in, links_in, map_from, place_in, end_at, IsListed, IsIndexed, IsKept}
+use Rattle.olr_map.specs.Tables.{near, far, node_in, links_in, map_from, node_slot, end_at, IsListed, IsIndexed}
+use Rattle.olr_map.specs.Tables.{AreTables}
 use Rattle.olr_map.specs.Changes.{tables_map, room_of, spare_at, changed_at, CanMake, map_after, IsChangeMade}
 use Rattle.olr_map.specs.declared.blocks.Blocks.{Blocks}
 use Rattle.olr_map.specs.declared.links.Links.{Links}
@@ -26,19 +27,19 @@ use Rattle.olr_map.specs.declared.slots.NodeSlots.{NodeSlots}
 use Rattle.olr_map.specs.declared.slots.Side.{Side}
 use Rattle.olr_map.specs.declared.slots.Side.TheVariants.{Out, In}
 use Rattle.olr_map.specs.declared.tables.Tables.{Tables}
-use Rattle.olr_map.specs.declared.change.Change.TheVariants.{PutLine, SetLine, TakeLine}
+use Rattle.olr_map.specs.declared.change.TableChange.TheVariants.{PutLine, SetLine, TakeLine}
 use Rattle.olr_map.proofs.ColumnLemmas.{few_nodes}
-use Rattle.olr_map.proofs.Looks.{map_cond, map_or_cond, got_insert, got_remove, same_answers}
+use Rattle.olr_map.proofs.Insertions.{map_cond, map_or_cond, got_insert, got_remove, same_answers}
 use Rattle.olr_map.proofs.Indexing.{entry_of, turned_node, turned_indexed}
-use Rattle.olr_map.proofs.Listing.{rises_at, seen, put_here, put_other, take_here, take_other, set_here, set_other}
+use Rattle.olr_map.proofs.Listing.{ascends_at, seen, put_here, put_other, take_here, take_other, set_here, set_other}
 use Rattle.olr_map.proofs.Reading.{place_of, got_node, got_line, kept_from, place_is, line_found}
 use Rattle.olr_map.proofs.NodeChanges.{each_but}
 use Rattle.olr_map.proofs.Making.{made_ok, accepted_from, le_same, changed_back, changed_here}
 use Rattle.olr_map.proofs.Undoing
-use Rattle.olr_map.specs.Numbering.{held, all_held, spare_numbers}
+use Rattle.olr_map.specs.SlotMaps.{held, all_held, spare_numbers}
 use Rattle.olr_map.specs.HavingSlots.{in_slot}
-use Rattle.olr_map.proofs.Numbering.{held_get}
-use Rattle.olr_map.specs.declared.numbered.Numbered.{Numbered}
+use Rattle.olr_map.proofs.SlotMapLemmas.{held_get}
+use Rattle.olr_map.specs.declared.slot_map.SlotMap.{SlotMap}
 use Rattle.olr_map.proofs.Undoing.{record_of}
 
 -- ---- both ends of a line have other lists
@@ -74,7 +75,7 @@ module _ (t : Tables) (from p : ℕ) (here : slot_by t.index from ≡ Some p) wh
   first_links side e is = ap (option_map (links_at side)) (ap (in_slot (node_slots t.nodes)) here ∙ is)
 
   module _ (mid : NodeSlots) (e : NodeEntry) (l : Links)
-      (g : Turns (node_slots t.nodes) (node_slots mid) p e (with_links Out e l)) where
+      (g : IsReplaced (node_slots t.nodes) (node_slots mid) p e (with_links Out e l)) where
     mid_indexed : IsIndexed t.index (node_slots mid)
     mid_indexed =
         turned_indexed t.index (node_slots t.nodes) t.kept.indexed (node_slots mid) p from e (with_links Out e l) g here
@@ -101,7 +102,7 @@ module _ (t : Tables) (from p : ℕ) (here : slot_by t.index from ≡ Some p) wh
           ∙ ap (option_map (links_at In)) (ap (in_slot (node_slots mid)) there ∙ is)
 
       pub both_turned : (nodes' : NodeSlots) (f : NodeEntry) (m : Links) →
-          Turns (node_slots mid) (node_slots nodes') q f (with_links In f m) →
+          IsReplaced (node_slots mid) (node_slots nodes') q f (with_links In f m) →
           Relinked t nodes' from to e.outs l f.ins m
       both_turned nodes' f m h =
           let b : Blocks = t.index in
@@ -137,8 +138,9 @@ module _ (t : Tables) (from p : ℕ) (here : slot_by t.index from ≡ Some p) wh
 
 module _ (t : Tables) (side : Side) (v : ℕ) (o : Links)
     (was : links_in side t.index (node_slots t.nodes) v ≡ Some o) where
-  pub list_rises : IsStrictlyIncreasing (lines_on o)
-  list_rises = subst IsStrictlyIncreasing (sym (t.kept.listed side v o was).numbers) (rises_at side (tables_map t) v)
+  pub list_ascends : IsStrictlyIncreasing (lines_on o)
+  list_ascends = subst IsStrictlyIncreasing (sym (t.kept.listed side v o was).numbers)
+      (ascends_at side (tables_map t) v)
 
   pub list_lacks : (x : ℕ) → has_line (tables_map t) x ≡ false → has (lines_on o) x ≡ false
   list_lacks x absent =
@@ -164,10 +166,10 @@ pub record Standing (t : Tables) (x p q : ℕ) : Type 0 where
   pub here : slot_by t.index line.from ≡ Some p
   pub there : slot_by t.index line.to ≡ Some q
 
-pub standing_line : (t : Tables) (x p q : ℕ) → has_line (tables_map t) x ≡ true →
+pub line_there : (t : Tables) (x p q : ℕ) → has_line (tables_map t) x ≡ true →
     slot_by t.index (start (tables_map t) x) ≡ Some p → slot_by t.index (end (tables_map t) x) ≡ Some q →
     Standing t x p q
-standing_line t x p q known begin finish =
+line_there t x p q known begin finish =
     let l = line_found t x known in
     let is = record_of (tables_map t) x l.0 (got_line t x ∙ l.1) in
     record {
@@ -186,12 +188,12 @@ module _ (t : Tables) (x p q : ℕ) (s : Standing t x p q) where
       let was = first_links t s.line.from p s.here Out e.0 e.1 in (
         e.0,
         e.1,
-        list_rises t Out s.line.from e.0.outs was,
+        list_ascends t Out s.line.from e.0.outs was,
         list_has t Out s.line.from e.0.outs was x s.line (got_line t x ∙ s.is) refl,
       )
 
   module _ (mid : NodeSlots) (e : NodeEntry) (l : Links)
-      (g : Turns (node_slots t.nodes) (node_slots mid) p e (with_links Out e l)) where
+      (g : IsReplaced (node_slots t.nodes) (node_slots mid) p e (with_links Out e l)) where
     pub end_lists : (f : NodeEntry) × (at (node_slots mid) q ≡ Some f) × IsStrictlyIncreasing (lines_on f.ins)
         × (has (lines_on f.ins) x ≡ true)
     end_lists =
@@ -199,23 +201,23 @@ module _ (t : Tables) (x p q : ℕ) (s : Standing t x p q) where
         let was = second_links t s.line.from p s.here mid e l g s.line.to q s.there f.0 f.1 in (
           f.0,
           f.1,
-          list_rises t In s.line.to f.0.ins was,
+          list_ascends t In s.line.to f.0.ins was,
           list_has t In s.line.to f.0.ins was x s.line (got_line t x ∙ s.is) refl,
         )
 
     pub both_relinked : (nodes' : NodeSlots) (f : NodeEntry) (m : Links) →
-        Turns (node_slots mid) (node_slots nodes') q f (with_links In f m) →
+        IsReplaced (node_slots mid) (node_slots nodes') q f (with_links In f m) →
         Relinked t nodes' s.line.from s.line.to e.outs l f.ins m
     both_relinked nodes' f m h = both_turned t s.line.from p s.here mid e l g s.line.to q s.there nodes' f m h
 
 -- the far end that is in a list
 pub end_is : (side : Side) (b : Blocks) (N : Map) (x : ℕ) (l : Line) (q : ℕ) → get N.lines x ≡ Some l →
     slot_by b (far side l) ≡ Some q
-    → ◌≡◌ {A = LineEnd} (record { node = far side l; place = q; len = l.len }) (end_at side N (place_in b) x)
+    → ◌≡◌ {A = LineEnd} (record { node = far side l; slot = q; len = l.len }) (end_at side N (node_slot b) x)
 end_is side b N x l q is at' =
-    let same : ◌≡◌ {A = LineEnd} (record { node = far side l; place = q; len = l.len }) (seen side (place_in b) l) =
-    λ i. record { node = far side l; place = sym (place_is b (far side l) q at') i; len = l.len } in
-    same ∙ ap (seen side (place_in b)) (sym (record_of N x l is))
+    let same : ◌≡◌ {A = LineEnd} (record { node = far side l; slot = q; len = l.len }) (seen side (node_slot b) l) =
+    λ i. record { node = far side l; slot = sym (place_is b (far side l) q at') i; len = l.len } in
+    same ∙ ap (seen side (node_slot b)) (sym (record_of N x l is))
 
 start_is : (M : Map) (x : ℕ) (l : Line) → get M.lines x ≡ Some l → start M x ≡ l.from
 start_is M x l e = ap (λ (k : Line). k.from) (record_of M x l e)
@@ -228,7 +230,7 @@ changed_at_end : (f h : ℕ → ℕ) (k v n : ℕ) → k ≡ v → ((u : ℕ) �
     f u ≤ changed_at k (h k + n) h u
 changed_at_end f h k v n e le u = subst (λ (m : ℕ). f u ≤ changed_at m (h m + n) h u) (sym e) (le u)
 
-module _ (t : Tables) (nodes' : NodeSlots) (lines' : Numbered Line) (from to : ℕ) (o o' i i' : Links)
+module _ (t : Tables) (nodes' : NodeSlots) (lines' : SlotMap Line) (from to : ℕ) (o o' i i' : Links)
     (r : Relinked t nodes' from to o o' i i') where
   abbrev b : Blocks
   b = t.index
@@ -241,7 +243,7 @@ module _ (t : Tables) (nodes' : NodeSlots) (lines' : Numbered Line) (from to : �
       same_answers _ _ (λ k. got_node b (node_slots nodes') r.indexed (all_held lines') k ∙ r.nodes k
       ∙ sym (got_node b (node_slots t.nodes) t.kept.indexed (all_held t.lines) k))
 
-  module _ (kept' : IsKept b (node_slots nodes') (all_held lines')) where
+  module _ (kept' : AreTables b (node_slots nodes') (all_held lines')) where
     abbrev new : Tables
     new = record { index = b; nodes = nodes'; lines = lines'; kept = kept' }
 
@@ -263,11 +265,11 @@ number_free t x l can =
     (made_by (tables_map t) (map_after (tables_map t) (PutLine x l)) (Add_line x l)
     (made_ok (tables_map t) (PutLine x l) can.accepted)).0
 
-module _ (t : Tables) (nodes' : NodeSlots) (lines' : Numbered Line) (x : ℕ) (l : Line) (p q : ℕ) (o o' i i' : Links)
+module _ (t : Tables) (nodes' : NodeSlots) (lines' : SlotMap Line) (x : ℕ) (l : Line) (p q : ℕ) (o o' i i' : Links)
     (r : Relinked t nodes' l.from l.to o o' i i')
     (here : slot_by t.index l.from ≡ Some p) (there : slot_by t.index l.to ≡ Some q)
-    (ko : IsLinked o o' x (record { node = l.to; place = q; len = l.len }))
-    (ki : IsLinked i i' x (record { node = l.from; place = p; len = l.len }))
+    (ko : IsLinked o o' x (record { node = l.to; slot = q; len = l.len }))
+    (ki : IsLinked i i' x (record { node = l.from; slot = p; len = l.len }))
     (put : (k : ℕ) → held lines' k ≡ cond (x == k) (Some l) (held t.lines k))
     (can : CanMake (tables_map t) (room_of t) (PutLine x l)) where
   abbrev put_M : Map
@@ -293,30 +295,31 @@ module _ (t : Tables) (nodes' : NodeSlots) (lines' : Numbered Line) (x : ℕ) (l
   put_now = got_insert put_M.lines x l x ∙ ap (λ (c : Bool). cond c (Some l) (get put_M.lines x)) (eq-eqb x x refl)
 
   put_listed : (side : Side) (v : ℕ) (h : Links) → links_in side t.index (node_slots nodes') v ≡ Some h →
-      IsListed side put_N (place_in t.index) v h
+      IsListed side put_N (node_slot t.index) v h
   put_listed Out =
       each_but (links_in Out t.index (node_slots t.nodes)) (links_in Out t.index (node_slots nodes')) l.from o'
-      (IsListed Out put_M (place_in t.index)) (IsListed Out put_N (place_in t.index)) r.out_now
-      (put_here Out (place_in t.index) put_M x l put_says.0 o o' _ (end_is Out t.index put_N x l q put_now there)
+      (IsListed Out put_M (node_slot t.index)) (IsListed Out put_N (node_slot t.index)) r.out_now
+      (put_here Out (node_slot t.index) put_M x l put_says.0 o o' _ (end_is Out t.index put_N x l q put_now there)
       (t.kept.listed Out l.from o r.out_was) ko)
-      (λ k h ne old. put_other Out (place_in t.index) put_M x l put_says.0 k h ne old) (t.kept.listed Out)
+      (λ k h ne old. put_other Out (node_slot t.index) put_M x l put_says.0 k h ne old) (t.kept.listed Out)
   put_listed In =
       each_but (links_in In t.index (node_slots t.nodes)) (links_in In t.index (node_slots nodes')) l.to i'
-      (IsListed In put_M (place_in t.index)) (IsListed In put_N (place_in t.index)) r.in_now
-      (put_here In (place_in t.index) put_M x l put_says.0 i i' _ (end_is In t.index put_N x l p put_now here)
+      (IsListed In put_M (node_slot t.index)) (IsListed In put_N (node_slot t.index)) r.in_now
+      (put_here In (node_slot t.index) put_M x l put_says.0 i i' _ (end_is In t.index put_N x l p put_now here)
       (t.kept.listed In l.to i r.in_was) ki)
-      (λ k h ne old. put_other In (place_in t.index) put_M x l put_says.0 k h ne old) (t.kept.listed In)
+      (λ k h ne old. put_other In (node_slot t.index) put_M x l put_says.0 k h ne old) (t.kept.listed In)
 
-  pub put_line_kept : IsKept t.index (node_slots nodes') (all_held lines')
+  pub put_line_kept : AreTables t.index (node_slots nodes') (all_held lines')
   put_line_kept =
       kept_from t.index (node_slots nodes') (all_held lines') r.indexed (few_nodes nodes')
       (subst IsMap (sym put_map)
       (edits_keep put_M put_N (Add_line x l) t.kept.sound can.placed
       (made_ok put_M (PutLine x l) can.accepted ∙ ap (λ (m : Map). Ok m) (sym put_says.1))))
       (λ side. subst (λ (K : Map). (v : ℕ) (h : Links) → links_in side t.index (node_slots nodes') v ≡ Some h →
-      IsListed side K (place_in t.index) v h) (sym put_map) (put_listed side))
+      IsListed side K (node_slot t.index) v h) (sym put_map) (put_listed side))
 
-  module _ (kept' : IsKept t.index (node_slots nodes') (all_held lines')) (room : node_room nodes' ≡ node_room t.nodes)
+  module _ (kept' : AreTables t.index (node_slots nodes') (all_held lines'))
+      (room : node_room nodes' ≡ node_room t.nodes)
       (spare : spare_numbers t.lines ≤ spare_numbers lines' + 1) where
     abbrev put_new : Tables
     put_new = record { index = t.index; nodes = nodes'; lines = lines'; kept = kept' }
@@ -371,7 +374,7 @@ line_taken t x can =
     (made_by (tables_map t) (map_after (tables_map t) (TakeLine x)) (Drop_line x)
     (made_ok (tables_map t) (TakeLine x) can.accepted)).0
 
-module _ (t : Tables) (nodes' : NodeSlots) (lines' : Numbered Line) (x : ℕ) (l : Line) (o o' i i' : Links)
+module _ (t : Tables) (nodes' : NodeSlots) (lines' : SlotMap Line) (x : ℕ) (l : Line) (o o' i i' : Links)
     (r : Relinked t nodes' l.from l.to o o' i i')
     (ko : IsUnlinked o o' x) (ki : IsUnlinked i i' x) (was : held t.lines x ≡ Some l)
     (taken : (k : ℕ) → held lines' k ≡ cond (x == k) None (held t.lines k))
@@ -398,28 +401,29 @@ module _ (t : Tables) (nodes' : NodeSlots) (lines' : Numbered Line) (x : ℕ) (l
   take_map = λ j. record { nodes = same_nodes t nodes' lines' l.from l.to o o' i i' r j; lines = take_lines j }
 
   take_listed : (side : Side) (v : ℕ) (h : Links) → links_in side t.index (node_slots nodes') v ≡ Some h →
-      IsListed side take_N (place_in t.index) v h
+      IsListed side take_N (node_slot t.index) v h
   take_listed Out =
       each_but (links_in Out t.index (node_slots t.nodes)) (links_in Out t.index (node_slots nodes')) l.from o'
-      (IsListed Out take_M (place_in t.index)) (IsListed Out take_N (place_in t.index)) r.out_now
-      (take_here Out (place_in t.index) take_M x l take_was o o' (t.kept.listed Out l.from o r.out_was) ko)
-      (λ k h ne old. take_other Out (place_in t.index) take_M x l take_was k h ne old) (t.kept.listed Out)
+      (IsListed Out take_M (node_slot t.index)) (IsListed Out take_N (node_slot t.index)) r.out_now
+      (take_here Out (node_slot t.index) take_M x l take_was o o' (t.kept.listed Out l.from o r.out_was) ko)
+      (λ k h ne old. take_other Out (node_slot t.index) take_M x l take_was k h ne old) (t.kept.listed Out)
   take_listed In =
       each_but (links_in In t.index (node_slots t.nodes)) (links_in In t.index (node_slots nodes')) l.to i'
-      (IsListed In take_M (place_in t.index)) (IsListed In take_N (place_in t.index)) r.in_now
-      (take_here In (place_in t.index) take_M x l take_was i i' (t.kept.listed In l.to i r.in_was) ki)
-      (λ k h ne old. take_other In (place_in t.index) take_M x l take_was k h ne old) (t.kept.listed In)
+      (IsListed In take_M (node_slot t.index)) (IsListed In take_N (node_slot t.index)) r.in_now
+      (take_here In (node_slot t.index) take_M x l take_was i i' (t.kept.listed In l.to i r.in_was) ki)
+      (λ k h ne old. take_other In (node_slot t.index) take_M x l take_was k h ne old) (t.kept.listed In)
 
-  pub take_line_kept : IsKept t.index (node_slots nodes') (all_held lines')
+  pub take_line_kept : AreTables t.index (node_slots nodes') (all_held lines')
   take_line_kept =
       kept_from t.index (node_slots nodes') (all_held lines') r.indexed (few_nodes nodes')
       (subst IsMap (sym take_map)
       (edits_keep take_M take_N (Drop_line x) t.kept.sound tt
       (made_ok take_M (TakeLine x) can.accepted ∙ ap (λ (m : Map). Ok m) (sym take_says))))
       (λ side. subst (λ (K : Map). (v : ℕ) (h : Links) → links_in side t.index (node_slots nodes') v ≡ Some h →
-      IsListed side K (place_in t.index) v h) (sym take_map) (take_listed side))
+      IsListed side K (node_slot t.index) v h) (sym take_map) (take_listed side))
 
-  module _ (kept' : IsKept t.index (node_slots nodes') (all_held lines')) (room : node_room nodes' ≡ node_room t.nodes)
+  module _ (kept' : AreTables t.index (node_slots nodes') (all_held lines'))
+      (room : node_room nodes' ≡ node_room t.nodes)
       (spare : spare_numbers t.lines ≤ spare_numbers lines') where
     abbrev take_new : Tables
     take_new = record { index = t.index; nodes = nodes'; lines = lines'; kept = kept' }
@@ -482,11 +486,11 @@ line_set t x k can =
     (Undoing.set_line (tables_map t) (map_after (tables_map t) (SetLine x k)) x k can.whole.0 can.whole.1
     (made_ok (tables_map t) (SetLine x k) can.accepted)).0
 
-module _ (t : Tables) (nodes' : NodeSlots) (lines' : Numbered Line) (x : ℕ) (k l : Line) (p q : ℕ) (o o' i i' : Links)
+module _ (t : Tables) (nodes' : NodeSlots) (lines' : SlotMap Line) (x : ℕ) (k l : Line) (p q : ℕ) (o o' i i' : Links)
     (r : Relinked t nodes' l.from l.to o o' i i')
     (here : slot_by t.index k.from ≡ Some p) (there : slot_by t.index k.to ≡ Some q)
-    (ko : IsReset o o' x (record { node = k.to; place = q; len = k.len }))
-    (ki : IsReset i i' x (record { node = k.from; place = p; len = k.len }))
+    (ko : IsReset o o' x (record { node = k.to; slot = q; len = k.len }))
+    (ki : IsReset i i' x (record { node = k.from; slot = p; len = k.len }))
     (was : held t.lines x ≡ Some l) (put : (n : ℕ) → held lines' n ≡ cond (x == n) (Some k) (held t.lines n))
     (can : CanMake (tables_map t) (room_of t) (SetLine x k)) where
   abbrev set_M : Map
@@ -521,30 +525,31 @@ module _ (t : Tables) (nodes' : NodeSlots) (lines' : Numbered Line) (x : ℕ) (k
   set_now = got_insert set_M.lines x k x ∙ ap (λ (c : Bool). cond c (Some k) (get set_M.lines x)) (eq-eqb x x refl)
 
   set_listed : (side : Side) (v : ℕ) (h : Links) → links_in side t.index (node_slots nodes') v ≡ Some h →
-      IsListed side set_N (place_in t.index) v h
+      IsListed side set_N (node_slot t.index) v h
   set_listed Out =
       each_but (links_in Out t.index (node_slots t.nodes)) (links_in Out t.index (node_slots nodes')) l.from o'
-      (IsListed Out set_M (place_in t.index)) (IsListed Out set_N (place_in t.index)) r.out_now
-      (set_here Out (place_in t.index) set_M x l set_was k set_from o o' _
+      (IsListed Out set_M (node_slot t.index)) (IsListed Out set_N (node_slot t.index)) r.out_now
+      (set_here Out (node_slot t.index) set_M x l set_was k set_from o o' _
       (end_is Out t.index set_N x k q set_now there) (t.kept.listed Out l.from o r.out_was) ko)
-      (λ n h ne old. set_other Out (place_in t.index) set_M x l set_was k set_from n h ne old) (t.kept.listed Out)
+      (λ n h ne old. set_other Out (node_slot t.index) set_M x l set_was k set_from n h ne old) (t.kept.listed Out)
   set_listed In =
       each_but (links_in In t.index (node_slots t.nodes)) (links_in In t.index (node_slots nodes')) l.to i'
-      (IsListed In set_M (place_in t.index)) (IsListed In set_N (place_in t.index)) r.in_now
-      (set_here In (place_in t.index) set_M x l set_was k set_to i i' _ (end_is In t.index set_N x k p set_now here)
+      (IsListed In set_M (node_slot t.index)) (IsListed In set_N (node_slot t.index)) r.in_now
+      (set_here In (node_slot t.index) set_M x l set_was k set_to i i' _ (end_is In t.index set_N x k p set_now here)
       (t.kept.listed In l.to i r.in_was) ki)
-      (λ n h ne old. set_other In (place_in t.index) set_M x l set_was k set_to n h ne old) (t.kept.listed In)
+      (λ n h ne old. set_other In (node_slot t.index) set_M x l set_was k set_to n h ne old) (t.kept.listed In)
 
-  pub set_line_kept : IsKept t.index (node_slots nodes') (all_held lines')
+  pub set_line_kept : AreTables t.index (node_slots nodes') (all_held lines')
   set_line_kept =
       kept_from t.index (node_slots nodes') (all_held lines') r.indexed (few_nodes nodes')
       (subst IsMap (sym set_map)
       (edits_keep set_M set_N (Set_line x k.frc k.fow k.len k.shape) t.kept.sound can.placed
       (made_ok set_M (SetLine x k) can.accepted ∙ ap (λ (m : Map). Ok m) (sym set_says))))
       (λ side. subst (λ (K : Map). (v : ℕ) (h : Links) → links_in side t.index (node_slots nodes') v ≡ Some h →
-      IsListed side K (place_in t.index) v h) (sym set_map) (set_listed side))
+      IsListed side K (node_slot t.index) v h) (sym set_map) (set_listed side))
 
-  module _ (kept' : IsKept t.index (node_slots nodes') (all_held lines')) (room : node_room nodes' ≡ node_room t.nodes)
+  module _ (kept' : AreTables t.index (node_slots nodes') (all_held lines'))
+      (room : node_room nodes' ≡ node_room t.nodes)
       (spare : spare_numbers t.lines ≤ spare_numbers lines') where
     abbrev set_new : Tables
     set_new = record { index = t.index; nodes = nodes'; lines = lines'; kept = kept' }

@@ -7,10 +7,10 @@ use Rattle.std.specs.FinMap.{get}
 use Rattle.std.proofs.lemmas.Bool.{eqb-true, false_from_ne_true, or_parts}
 use Rattle.olr_spec.specs.Map.{Map, IsMap, Line, has_node, has_line, lines_where, lines_in, lines_out, in_use, has}
 use Rattle.olr_spec.proofs.MapLemmas.{has-lines_where, passes_at}
-use Rattle.olr_spec.proofs.OrderLemmas.{rise_in, rise_out}
+use Rattle.olr_spec.proofs.OrderLemmas.{ascend_in, ascend_out}
 use Rattle.olr_spec.proofs.OptionLemmas.{none_of}
-use Rattle.olr_map.proofs.Looks.{got_insert, got_remove}
-use Rattle.olr_map.proofs.Numbers.{same_rising}
+use Rattle.olr_map.proofs.Insertions.{got_insert, got_remove}
+use Rattle.olr_map.proofs.Numbers.{same_ascending}
 use Rattle.olr_map.proofs.Undoing.{none_passes, used_by, other_node, line_starts, line_ends}
 
 -- ---- which lines pass a test of one of their ends
@@ -99,22 +99,23 @@ or_false b e a c = ap (λ (t : Bool). t || c) (and_without a b e)
 
 -- ---- the lists of an absent node are empty
 
-rising_none : IsStrictlyIncreasing []
-rising_none k lt = absurd (omega arith)
+ascending_none : IsStrictlyIncreasing []
+ascending_none k lt = absurd (omega arith)
 
 none_listed : (M : Map) (test : Line → Bool) → IsStrictlyIncreasing (lines_where M test) →
     ((x : ℕ) (l : Line) → get M.lines x ≡ Some l → test l ≡ false) → [] ≡ lines_where M test
 none_listed M test up h =
-    same_rising [] (lines_where M test) rising_none up
+    same_ascending [] (lines_where M test) ascending_none up
     (λ n. sym (has-lines_where M test n ∙ none_passes test (get M.lines n) (h n)))
 
 pub absent_outs : (M : Map) (v : ℕ) → IsMap M → has_node M v ≡ false → [] ≡ lines_out M v
 absent_outs M v sound absent =
-    none_listed M (λ l. l.from == v) (rise_out M v) (λ x l e. other_node M l.from v (line_starts M sound x l e) absent)
+    none_listed M (λ l. l.from == v) (ascend_out M v) (λ x l e. other_node M l.from v (line_starts M sound x l e)
+    absent)
 
 pub absent_ins : (M : Map) (v : ℕ) → IsMap M → has_node M v ≡ false → [] ≡ lines_in M v
 absent_ins M v sound absent =
-    none_listed M (λ l. l.to == v) (rise_in M v) (λ x l e. other_node M l.to v (line_ends M sound x l e) absent)
+    none_listed M (λ l. l.to == v) (ascend_in M v) (λ x l e. other_node M l.to v (line_ends M sound x l e) absent)
 
 -- and so are those of a node that no line uses
 pub unused_fails : (M : Map) (v x : ℕ) (l : Line) → in_use M v ≡ false → get M.lines x ≡ Some l → ((l.to == v) ≡ false)
@@ -125,7 +126,8 @@ unused_fails M v x l free e =
     cc))
 
 pub unused_outs : (M : Map) (v : ℕ) → in_use M v ≡ false → lines_out M v ≡ []
-unused_outs M v free = sym (none_listed M (λ l. l.from == v) (rise_out M v) (λ x l e. (unused_fails M v x l free e).1))
+unused_outs M v free = sym (none_listed M (λ l. l.from == v) (ascend_out M v)
+    (λ x l e. (unused_fails M v x l free e).1))
 
 pub unused_ins : (M : Map) (v : ℕ) → in_use M v ≡ false → lines_in M v ≡ []
-unused_ins M v free = sym (none_listed M (λ l. l.to == v) (rise_in M v) (λ x l e. (unused_fails M v x l free e).0))
+unused_ins M v free = sym (none_listed M (λ l. l.to == v) (ascend_in M v) (λ x l e. (unused_fails M v x l free e).0))

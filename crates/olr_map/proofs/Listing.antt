@@ -12,17 +12,17 @@ use Rattle.std.proofs.lemmas.Map.Keys.{IsDistinct-head, IsDistinct-tail}
 use Rattle.olr_spec.specs.Coordinates.{Coord}
 use Rattle.olr_spec.specs.Map.{Map, Line, has_line, line_at, no_line, has}
 use Rattle.olr_spec.proofs.MapLemmas.{has-lines_where, passes_at}
-use Rattle.olr_spec.proofs.OrderLemmas.{rise_in, rise_out}
-use Rattle.olr_map.specs.Kept.{near, far, lines_at, end_at, IsListed}
+use Rattle.olr_spec.proofs.OrderLemmas.{ascend_in, ascend_out}
+use Rattle.olr_map.specs.Tables.{near, far, lines_at, end_at, IsListed}
 use Rattle.olr_map.specs.Linked.{lines_on, ends_on, IsLinked, IsUnlinked, IsReset}
 use Rattle.olr_map.specs.declared.links.Links.{Links}
 use Rattle.olr_map.specs.declared.read.LineEnd.{LineEnd}
 use Rattle.olr_map.specs.declared.slots.Side.{Side}
 use Rattle.olr_map.specs.declared.slots.Side.TheVariants.{Out, In}
-use Rattle.olr_map.proofs.Looks.{got_insert, got_remove}
-use Rattle.olr_spec.proofs.RisingLists.{has-insert, has-remove}
+use Rattle.olr_map.proofs.Insertions.{got_insert, got_remove}
+use Rattle.olr_spec.proofs.AscendingLists.{has-insert, has-remove}
 use Rattle.olr_spec.proofs.OptionLemmas.{none_of}
-use Rattle.olr_map.proofs.Numbers.{distinct_from_rising, same_rising}
+use Rattle.olr_map.proofs.Numbers.{distinct_from_ascending, same_ascending}
 use Rattle.olr_map.proofs.LineLists.{has_added, has_removed, has_set, not_listed, or_true, or_false}
 
 -- ---- lists
@@ -71,9 +71,9 @@ module _ {Y : Type 0} where
       let rest = map_set_at f g x zs i (IsDistinct-tail ◌==◌ z zs apart) (omega arith) is h in
       λ j. h z ne' j ∷ rest j
 
-pub rises_at : (side : Side) (M : Map) (v : ℕ) → IsStrictlyIncreasing (lines_at side M v)
-rises_at Out M v = rise_out M v
-rises_at In M v = rise_in M v
+pub ascends_at : (side : Side) (M : Map) (v : ℕ) → IsStrictlyIncreasing (lines_at side M v)
+ascends_at Out M v = ascend_out M v
+ascends_at In M v = ascend_in M v
 
 -- ---- one side of a node
 
@@ -83,7 +83,7 @@ module _ (side : Side) (P : ℕ → ℕ) where
 
   -- a line as seen from its end on this side
   abbrev pub seen : Line → LineEnd
-  seen l = record { node = far side l; place = P (far side l); len = l.len }
+  seen l = record { node = far side l; slot = P (far side l); len = l.len }
 
   -- a line that is in a list is on the map
   listed_there : (M : Map) (v y : ℕ) → has (lines_at side M v) y ≡ true → passes_at (test v) (get M.lines y) ≡ true
@@ -121,7 +121,7 @@ module _ (side : Side) (P : ℕ → ℕ) where
           IsListed side added P v k
       put_other v k ne h =
           let same : lines_at side M v ≡ lines_at side added v =
-          same_rising (lines_at side M v) (lines_at side added v) (rises_at side M v) (rises_at side added v)
+          same_ascending (lines_at side M v) (lines_at side added v) (ascends_at side M v) (ascends_at side added v)
           (λ n. sym (has_added M x l (test v) absent n ∙ or_false (near side l == v) ne (x == n) _)) in
           record {
             numbers = h.numbers ∙ same;
@@ -136,8 +136,8 @@ module _ (side : Side) (P : ℕ → ℕ) where
           let v : ℕ = near side l in
           let yes : (near side l == v) ≡ true = eq-eqb v v refl in
           let numbers : lines_on new ≡ lines_at side added v =
-          same_rising (lines_on new) (lines_at side added v) k.rises (rises_at side added v)
-          (λ n. ap (λ zs. has zs n) k.lines ∙ has-insert (lines_on old) k.place x n
+          same_ascending (lines_on new) (lines_at side added v) k.ascends (ascends_at side added v)
+          (λ n. ap (λ zs. has zs n) k.lines ∙ has-insert (lines_on old) k.index x n
           ∙ ap (λ zs. (x == n) || has zs n) h.numbers
           ∙ sym (has_added M x l (test v) absent n ∙ or_true (near side l == v) yes (x == n) _)) in
           let before : ends_on old ≡ map (end_at side added P) (lines_on old) =
@@ -146,9 +146,9 @@ module _ (side : Side) (P : ℕ → ℕ) where
           record {
             numbers = numbers;
             ends =
-                k.ends ∙ ap (λ zs. insert zs k.place e) before
-                ∙ ap (insert (map (end_at side added P) (lines_on old)) k.place) is
-                ∙ sym (map-inserted (end_at side added P) (lines_on old) k.place x k.within)
+                k.ends ∙ ap (λ zs. insert zs k.index e) before
+                ∙ ap (insert (map (end_at side added P) (lines_on old)) k.index) is
+                ∙ sym (map-inserted (end_at side added P) (lines_on old) k.index x k.within)
                 ∙ ap (map (end_at side added P)) (sym k.lines ∙ numbers);
           }
 
@@ -167,7 +167,7 @@ module _ (side : Side) (P : ℕ → ℕ) where
           IsListed side removed P v k
       take_other v k ne h =
           let same : lines_at side M v ≡ lines_at side removed v =
-          same_rising (lines_at side M v) (lines_at side removed v) (rises_at side M v) (rises_at side removed v)
+          same_ascending (lines_at side M v) (lines_at side removed v) (ascends_at side M v) (ascends_at side removed v)
           (λ n. sym (has_removed M x l (test v) n ∙ not_listed M x l (test v) was ne n)) in
           record {
             numbers = h.numbers ∙ same;
@@ -181,11 +181,11 @@ module _ (side : Side) (P : ℕ → ℕ) where
       take_here old new h k =
           let v : ℕ = near side l in
           let up : IsStrictlyIncreasing (lines_on old) =
-          subst IsStrictlyIncreasing (sym h.numbers) (rises_at side M v) in
-          let less : (n : ℕ) → has (remove (lines_on old) k.place) n ≡ (not (x == n) && has (lines_on old) n) =
-          λ n. has-remove (lines_on old) k.place x n up k.within k.is in
+          subst IsStrictlyIncreasing (sym h.numbers) (ascends_at side M v) in
+          let less : (n : ℕ) → has (remove (lines_on old) k.index) n ≡ (not (x == n) && has (lines_on old) n) =
+          λ n. has-remove (lines_on old) k.index x n up k.within k.is in
           let numbers : lines_on new ≡ lines_at side removed v =
-          same_rising (lines_on new) (lines_at side removed v) k.rises (rises_at side removed v)
+          same_ascending (lines_on new) (lines_at side removed v) k.ascends (ascends_at side removed v)
           (λ n. ap (λ zs. has zs n) k.lines ∙ less n ∙ ap (λ zs. not (x == n) && has zs n) h.numbers
           ∙ sym (has_removed M x l (test v) n)) in
           let before : ends_on old ≡ map (end_at side M P) (lines_on old) =
@@ -193,9 +193,9 @@ module _ (side : Side) (P : ℕ → ℕ) where
           record {
             numbers = numbers;
             ends =
-                k.ends ∙ ap (λ zs. remove zs k.place) before
-                ∙ sym (map-removed (end_at side M P) (lines_on old) k.place k.within)
-                ∙ map_on (end_at side M P) (end_at side removed P) (remove (lines_on old) k.place)
+                k.ends ∙ ap (λ zs. remove zs k.index) before
+                ∙ sym (map-removed (end_at side M P) (lines_on old) k.index k.within)
+                ∙ map_on (end_at side M P) (end_at side removed P) (remove (lines_on old) k.index)
                 (λ y t. removed_same y (not_x (x == y) (has (lines_on old) y) (sym (less y) ∙ t)))
                 ∙ ap (map (end_at side removed P)) (sym k.lines ∙ numbers);
           } where
@@ -216,7 +216,8 @@ module _ (side : Side) (P : ℕ → ℕ) where
 
         same_lines : (v : ℕ) → lines_at side M v ≡ lines_at side changed v
         same_lines v =
-            same_rising (lines_at side M v) (lines_at side changed v) (rises_at side M v) (rises_at side changed v)
+            same_ascending (lines_at side M v) (lines_at side changed v) (ascends_at side M v)
+            (ascends_at side changed v)
             (λ n. sym (has_set M x l (test v) k was (ap (λ n. n == v) same) n))
 
         pub set_other : (v : ℕ) (h : Links) → (near side l == v) ≡ false → IsListed side M P v h →
@@ -234,17 +235,17 @@ module _ (side : Side) (P : ℕ → ℕ) where
         set_here old new e is h r =
             let v : ℕ = near side l in
             let up : IsStrictlyIncreasing (lines_on old) =
-            subst IsStrictlyIncreasing (sym h.numbers) (rises_at side M v) in
+            subst IsStrictlyIncreasing (sym h.numbers) (ascends_at side M v) in
             let numbers : lines_on new ≡ lines_at side changed v = r.lines ∙ h.numbers ∙ same_lines v in
             let before : ends_on old ≡ map (end_at side M P) (lines_on old) =
             h.ends ∙ ap (map (end_at side M P)) (sym h.numbers) in
             record {
               numbers = numbers;
               ends =
-                  r.ends ∙ ap (λ zs. set zs r.place e) before
-                  ∙ ap (set (map (end_at side M P) (lines_on old)) r.place) is
-                  ∙ map_set_at (end_at side M P) (end_at side changed P) x (lines_on old) r.place
-                  (distinct_from_rising (lines_on old) up) r.within r.is changed_same
+                  r.ends ∙ ap (λ zs. set zs r.index e) before
+                  ∙ ap (set (map (end_at side M P) (lines_on old)) r.index) is
+                  ∙ map_set_at (end_at side M P) (end_at side changed P) x (lines_on old) r.index
+                  (distinct_from_ascending (lines_on old) up) r.within r.is changed_same
                   ∙ ap (map (end_at side changed P)) (sym r.lines ∙ numbers);
             }
 
@@ -258,5 +259,5 @@ replaced side M nodes P Q v l h k =
       numbers = k.numbers;
       ends =
           k.ends ∙ map_on (end_at side M P) (end_at side (record M { nodes = nodes }) Q) (lines_at side M v)
-          (λ y t i. record { node = far side (line_at M y); place = h y t i; len = (line_at M y).len });
+          (λ y t i. record { node = far side (line_at M y); slot = h y t i; len = (line_at M y).len });
     }

@@ -7,8 +7,9 @@ use Rattle.olr_spec.specs.Map.{Map, start, end, edited}
 use Rattle.olr_map.specs.Changes.{Room, IsRoomWithin, HasRoomFor, changed_at, room_after, change_edit, CanMake}
 use Rattle.olr_map.specs.Changes.{map_after, node_puts, line_puts, all_node_puts, all_line_puts}
 use Rattle.olr_map.specs.Undos.{CanMakeAll, made_all}
-use Rattle.olr_map.specs.declared.change.Change.{Change}
-use Rattle.olr_map.specs.declared.change.Change.TheVariants.{PutNode, MoveNode, TakeNode, PutLine, SetLine, TakeLine}
+use Rattle.olr_map.specs.declared.change.TableChange.{TableChange}
+use Rattle.olr_map.specs.declared.change.TableChange.TheVariants.{PutNode, MoveNode, TakeNode, PutLine, SetLine}
+use Rattle.olr_map.specs.declared.change.TableChange.TheVariants.{TakeLine}
 use Rattle.olr_map.proofs.Making.{made_ok}
 
 pub within_trans : (R S T : Room) → IsRoomWithin R S → IsRoomWithin S T → IsRoomWithin R T
@@ -37,7 +38,7 @@ room_fits R S (map.Add_line x l) w h =
 room_fits R S (map.Set_line x frc fow len shape) w h = tt
 room_fits R S (map.Drop_line x) w h = tt
 
-after_within : (M : Map) (R S : Room) (c : Change) → IsRoomWithin R S →
+after_within : (M : Map) (R S : Room) (c : TableChange) → IsRoomWithin R S →
     IsRoomWithin (room_after M R c) (room_after M S c)
 after_within M R S (PutNode v place o i) w =
     let n = w.nodes in
@@ -76,7 +77,7 @@ after_within M R S (TakeLine x) w =
           changed_within R.ins S.ins (end M x) _ _ w.ins (omega arith);
     }
 
-pub can_with_more : (M : Map) (R S : Room) (c : Change) → IsRoomWithin R S → CanMake M R c → CanMake M S c
+pub can_with_more : (M : Map) (R S : Room) (c : TableChange) → IsRoomWithin R S → CanMake M R c → CanMake M S c
 can_with_more M R S c w can =
     record {
       accepted = can.accepted;
@@ -86,7 +87,8 @@ can_with_more M R S c w can =
           can.whole;
     }
 
-pub all_with_more : (M : Map) (R S : Room) (cs : List Change) → IsRoomWithin R S → CanMakeAll M R cs → CanMakeAll M S cs
+pub all_with_more : (M : Map) (R S : Room) (cs : List TableChange) → IsRoomWithin R S → CanMakeAll M R cs →
+    CanMakeAll M S cs
 all_with_more M R S [] w can = tt
 all_with_more M R S (c ∷ cs) w can = (
   can_with_more M R S c w can.0,
@@ -95,14 +97,14 @@ all_with_more M R S (c ∷ cs) w can = (
 )
 
 -- and on an equal map
-pub all_on : (M N : Map) (R S : Room) (cs : List Change) → N ≡ M → IsRoomWithin R S → CanMakeAll M R cs →
+pub all_on : (M N : Map) (R S : Room) (cs : List TableChange) → N ≡ M → IsRoomWithin R S → CanMakeAll M R cs →
     CanMakeAll N S cs
 all_on M N R S cs same w can = subst (λ (K : Map). CanMakeAll K S cs) (sym same) (all_with_more M R S cs w can)
 
 -- ---- an edit that was made
 
 -- the change for an edit makes it
-pub done_by : (M K N : Map) (e : map.Edit) (c : Change) → change_edit c ≡ e → K ≡ M → IsOk (edited M e) →
+pub done_by : (M K N : Map) (e : map.Edit) (c : TableChange) → change_edit c ≡ e → K ≡ M → IsOk (edited M e) →
     N ≡ map_after K c → edited M e ≡ Ok N
 done_by M K N e c same mid accepted is =
     let here : IsOk (edited K (change_edit c)) =
@@ -113,39 +115,39 @@ done_by M K N e c same mid accepted is =
 
 -- ---- one more edit in a log
 
-pub last_first : (xs : List Change) (c : Change) → reverse (xs ++ c ∷ []) ≡ c ∷ reverse xs
+pub last_first : (xs : List TableChange) (c : TableChange) → reverse (xs ++ c ∷ []) ≡ c ∷ reverse xs
 last_first xs c = reverse-append xs (c ∷ [])
 
-pub one_more : (M N : Map) (R S : Room) (c : Change) (cs : List Change) → CanMakeAll M R cs → CanMake N S c →
+pub one_more : (M N : Map) (R S : Room) (c : TableChange) (cs : List TableChange) → CanMakeAll M R cs → CanMake N S c →
     map_after N c ≡ M → IsRoomWithin R (room_after N S c) → CanMakeAll N S (c ∷ cs)
 one_more M N R S c cs all can back within = (can, all_on M (map_after N c) R (room_after N S c) cs back within all)
 
 -- ---- the last edit of a log
 
-pub last_of : (xs ys : List Change) (c : Change) → xs ≡ ys ++ c ∷ [] → reverse xs ≡ c ∷ reverse ys
-last_of xs ys c e = ap (λ (zs : List Change). reverse zs) e ∙ last_first ys c
+pub last_of : (xs ys : List TableChange) (c : TableChange) → xs ≡ ys ++ c ∷ [] → reverse xs ≡ c ∷ reverse ys
+last_of xs ys c e = ap (λ (zs : List TableChange). reverse zs) e ∙ last_first ys c
 
 -- once it is undone, the others can be undone
-pub rest_can : (M N : Map) (R S : Room) (c : Change) (cs ds : List Change) → ds ≡ c ∷ cs → CanMakeAll M R ds →
+pub rest_can : (M N : Map) (R S : Room) (c : TableChange) (cs ds : List TableChange) → ds ≡ c ∷ cs → CanMakeAll M R ds →
     N ≡ map_after M c → IsRoomWithin (room_after M R c) S → CanMakeAll N S cs
 rest_can M N R S c cs ds is all same within =
     all_on (map_after M c) N (room_after M R c) S cs same within
-    (subst (λ (es : List Change). CanMakeAll M R es) is all).1
+    (subst (λ (es : List TableChange). CanMakeAll M R es) is all).1
 
-pub first_can : (M : Map) (R : Room) (c : Change) (cs ds : List Change) → ds ≡ c ∷ cs → CanMakeAll M R ds →
+pub first_can : (M : Map) (R : Room) (c : TableChange) (cs ds : List TableChange) → ds ≡ c ∷ cs → CanMakeAll M R ds →
     CanMake M R c
-first_can M R c cs ds is all = (subst (λ (es : List Change). CanMakeAll M R es) is all).0
+first_can M R c cs ds is all = (subst (λ (es : List TableChange). CanMakeAll M R es) is all).0
 
-pub rest_made : (M N : Map) (c : Change) (cs ds : List Change) → ds ≡ c ∷ cs → N ≡ map_after M c →
+pub rest_made : (M N : Map) (c : TableChange) (cs ds : List TableChange) → ds ≡ c ∷ cs → N ≡ map_after M c →
     made_all N cs ≡ made_all M ds
 rest_made M N c cs ds is same = ap (λ (K : Map). made_all K cs) same ∙ ap (made_all M) (sym is)
 
 -- ---- how many numbers the undo of a log may put back
 
-pub node_puts_last : (xs ys : List Change) (c : Change) → xs ≡ ys ++ c ∷ [] →
+pub node_puts_last : (xs ys : List TableChange) (c : TableChange) → xs ≡ ys ++ c ∷ [] →
     all_node_puts (reverse xs) ≡ node_puts c + all_node_puts (reverse ys)
 node_puts_last xs ys c e = ap (λ zs. all_node_puts zs) (last_of xs ys c e)
 
-pub line_puts_last : (xs ys : List Change) (c : Change) → xs ≡ ys ++ c ∷ [] →
+pub line_puts_last : (xs ys : List TableChange) (c : TableChange) → xs ≡ ys ++ c ∷ [] →
     all_line_puts (reverse xs) ≡ line_puts c + all_line_puts (reverse ys)
 line_puts_last xs ys c e = ap (λ zs. all_line_puts zs) (last_of xs ys c e)

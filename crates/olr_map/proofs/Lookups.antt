@@ -8,7 +8,7 @@ use Rattle.std.specs.FinMap as finmap
 use Rattle.std.specs.FinMap.{from_entries, get, get-from_entries}
 use Rattle.std.proofs.lemmas.Bool.{eq-eqb}
 use Rattle.std.proofs.lemmas.Map.Keys.{IsDistinct-head, IsDistinct-tail}
-use Rattle.olr_map.proofs.Looks.{eqb_flip}
+use Rattle.olr_map.proofs.Insertions.{eqb_flip}
 
 module _ {V : Type 0} where
   differs_at : (k : ℕ) (es : List (ℕ × V)) (i : ℕ) (d : ℕ × V) →

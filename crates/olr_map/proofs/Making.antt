@@ -5,22 +5,23 @@ use Rattle.std.proofs.lemmas.Bool.{eqb-true, eq-eqb}
 use Rattle.olr_spec.specs.Map.{Map, edited}
 use Rattle.olr_spec.proofs.OptionLemmas.{is_ok_of}
 use Rattle.olr_map.specs.Changes.{change_edit, changed_at, map_after}
-use Rattle.olr_map.specs.declared.change.Change.{Change}
+use Rattle.olr_map.specs.declared.change.TableChange.{TableChange}
 
 -- an accepted edit has a map as its result
 ok_is : {A F : Type 0} (r : Result A F) (d : A) → IsOk r → r ≡ Ok (result_unwrap_or r d)
 ok_is (Ok x) d h = refl
 ok_is (Err f) d h = absurd cc
 
-pub made_ok : (M : Map) (c : Change) → IsOk (edited M (change_edit c)) → edited M (change_edit c) ≡ Ok (map_after M c)
+pub made_ok : (M : Map) (c : TableChange) → IsOk (edited M (change_edit c)) →
+    edited M (change_edit c) ≡ Ok (map_after M c)
 made_ok M c h = ok_is (edited M (change_edit c)) M h
 
 -- and it has one on an equal map
-pub record Accepted (M N K : Map) (c : Change) : Type 0 where
+pub record Accepted (M N K : Map) (c : TableChange) : Type 0 where
   pub accepted : IsOk (edited K (change_edit c))
   pub before : map_after K c ≡ M
 
-pub accepted_from : (M N K : Map) (c : Change) → K ≡ N → edited N (change_edit c) ≡ Ok M → Accepted M N K c
+pub accepted_from : (M N K : Map) (c : TableChange) → K ≡ N → edited N (change_edit c) ≡ Ok M → Accepted M N K c
 accepted_from M N K c same ok =
     let here : edited K (change_edit c) ≡ Ok M = ap (λ (m : Map). edited m (change_edit c)) same ∙ ok in
     record { accepted = is_ok_of (edited K (change_edit c)) M here; before = ap (λ r. result_unwrap_or r K) here }

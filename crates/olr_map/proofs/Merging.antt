@@ -7,11 +7,11 @@ use Rattle.std.proofs.lemmas.Bool.{cases_lt}
 use Rattle.std.proofs.lemmas.List.{append-nil, append_assoc, drop_all, drop_more, get_or_default, get_or_push}
 use Rattle.std.proofs.lemmas.List.{length_push}
 use Rattle.std.proofs.lemmas.List.Elements.{Contains-append_left, Contains-get_or, Contains-push, Contains-push_cases}
-use Rattle.olr_spec.proofs.RisingLists.{rises_push}
+use Rattle.olr_spec.proofs.AscendingLists.{ascends_push}
 
 -- the first i numbers of one list and the first j of the other are merged, and the next ones are greater
 pub record Merging (left right : List ℕ) (i j : ℕ) (both : List ℕ) : Type 0 where
-  pub rising : IsStrictlyIncreasing both
+  pub ascending : IsStrictlyIncreasing both
   pub below_left : (k : ℕ) → k < length both → i < length left → get_or both k 0 < get_or left i 0
   pub below_right : (k : ℕ) → k < length both → j < length right → get_or both k 0 < get_or right j 0
   pub holds : (n : ℕ) → Contains both n → Contains left n ⊎ Contains right n
@@ -37,7 +37,7 @@ module _ (left right both : List ℕ) (i j i' j' x : ℕ) (m : Merging left righ
       → ((k : ℕ) → k < i' → (k < i) ⊎ (get_or left k 0 ≡ x)) → ((k : ℕ) → k < j' → (k < j) ⊎ (get_or right k 0 ≡ x)) →
       Merging left right i' j' (both ++ x ∷ [])
   merging_push below from next_left next_right more_left more_right = record {
-    rising = rises_push both x m.rising below;
+    ascending = ascends_push both x m.ascending below;
     below_left = λ k lt h. pushed_below both x (get_or left i' 0) below (next_left h) k lt;
     below_right = λ k lt h. pushed_below both x (get_or right j' 0) below (next_right h) k lt;
     holds =
@@ -116,12 +116,12 @@ right_end left right both (suc n) i j up_left up_right e past m =
     rw (more, ← append_assoc both (get_or right j 0 ∷ []) (drop (j + 1) right)) rest
 
 pub record IsMerged (left right both : List ℕ) : Type 0 where
-  pub rising : IsStrictlyIncreasing both
+  pub ascending : IsStrictlyIncreasing both
   pub holds : (n : ℕ) → (Contains both n) ↔ ((Contains left n) ⊎ (Contains right n))
 
 all_put : (left right both : List ℕ) → Merging left right (length left) (length right) both → IsMerged left right both
 all_put left right both m = record {
-  rising = m.rising;
+  ascending = m.ascending;
   holds = λ n. (
     m.holds n,
     λ c. ⊎_elim

@@ -9,8 +9,8 @@ use Rattle.std.proofs.lemmas.Map.Keys.{IsDistinct-from_apart, below_from_sorted,
 use Rattle.olr_spec.specs.Map.{has}
 use Rattle.olr_spec.proofs.ListLemmas.{has_here}
 
-pub distinct_from_rising : (xs : List ℕ) → IsStrictlyIncreasing xs → IsDistinct ◌==◌ xs
-distinct_from_rising xs up =
+pub distinct_from_ascending : (xs : List ℕ) → IsStrictlyIncreasing xs → IsDistinct ◌==◌ xs
+distinct_from_ascending xs up =
     IsDistinct-from_apart ◌==◌ xs
     (λ i j d lt h. ne_eqb _ _ (λ e. let low = below_from_sorted xs i j d (sorted_from_strictly_increasing xs up) lt h in
     omega arith))
@@ -65,7 +65,7 @@ same_sorted (x ∷ xs) (y ∷ ys) a b h =
     let tails : xs ≡ ys = same_sorted xs ys a.1 b.1 (λ n. tail_has x n xs ys a.0 above_y (same n)) in
     λ i. is i ∷ tails i
 
-pub same_rising : (xs ys : List ℕ) → IsStrictlyIncreasing xs → IsStrictlyIncreasing ys →
+pub same_ascending : (xs ys : List ℕ) → IsStrictlyIncreasing xs → IsStrictlyIncreasing ys →
     ((n : ℕ) → has xs n ≡ has ys n) → xs ≡ ys
-same_rising xs ys a b h =
+same_ascending xs ys a b h =
     same_sorted xs ys (sorted_from_strictly_increasing xs a) (sorted_from_strictly_increasing ys b) h

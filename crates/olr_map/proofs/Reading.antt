@@ -6,29 +6,29 @@ use Rattle.std.specs.Map.{lookup}
 use Rattle.std.specs.FinMap.{FinMap, get}
 use Rattle.std.specs.Ordering.{nat_cmp}
 use Rattle.olr_spec.specs.Coordinates.{Coord}
-use Rattle.olr_spec.specs.Map.{Map, Line, IsMap, has_node, has_line, lines_in, lines_out, no_place}
+use Rattle.olr_spec.specs.Map.{Map, Line, IsMap, has_node, has_line, lines_in, lines_out, no_coord}
 use Rattle.olr_spec.proofs.OptionLemmas.{none_of, some_of}
-use Rattle.olr_map.specs.ByNumbers.{pairs_of, slot_by}
+use Rattle.olr_map.specs.SlotIndexes.{pairs_of, slot_by}
 use Rattle.olr_map.specs.Slotted.{at}
 use Rattle.olr_map.specs.Columns.{node_slots}
 use Rattle.olr_map.specs.NodeLinks.{links_at}
-use Rattle.olr_map.specs.Kept.{node_in, links_in, coord_in, map_from, place_in, IsListed, IsIndexed, IsKept}
+use Rattle.olr_map.specs.Tables.{node_in, links_in, coord_in, map_from, node_slot, IsListed, IsIndexed, AreTables}
 use Rattle.olr_map.specs.Changes.{tables_map}
-use Rattle.olr_map.specs.Ends.{ArePlaces}
+use Rattle.olr_map.specs.Ends.{HaveSlotsApart}
 use Rattle.olr_map.specs.declared.blocks.Blocks.{Blocks}
 use Rattle.olr_map.specs.declared.links.Links.{Links}
 use Rattle.olr_map.specs.declared.slots.NodeEntry.{NodeEntry}
 use Rattle.olr_map.specs.declared.slots.Side.{Side}
 use Rattle.olr_map.specs.declared.tables.Tables.{Tables}
-use Rattle.olr_map.proofs.Looks.{map_cond}
+use Rattle.olr_map.proofs.Insertions.{map_cond}
 use Rattle.olr_map.proofs.Lookups.{all_get}
 use Rattle.olr_map.proofs.Blocking.{listed_found}
 use Rattle.olr_map.proofs.SlotLemmas.{holds_within}
 use Rattle.olr_map.proofs.Indexing.{id_of, entry_of, one_node}
 use Rattle.olr_map.proofs.LineLists.{absent_outs, absent_ins}
-use Rattle.olr_map.specs.Numbering.{held, all_held}
+use Rattle.olr_map.specs.SlotMaps.{held, all_held}
 use Rattle.olr_map.specs.HavingSlots.{in_slot}
-use Rattle.olr_map.proofs.Numbering.{held_get}
+use Rattle.olr_map.proofs.SlotMapLemmas.{held_get}
 use Rattle.olr_map.proofs.Undoing.{line_starts, line_ends}
 
 abbrev pub place_of : NodeEntry → Coord
@@ -55,7 +55,7 @@ module _ (b : Blocks) (es : List (Option NodeEntry)) (indexed : IsIndexed b es) 
       ∙ step (slot_by b v) refl where
         step : (o : Option ℕ) → slot_by b v ≡ o → option_map (coord_in es) o ≡ option_map place_of (in_slot es o)
         step None h = refl
-        step (Some p) h = let x = entry_of b es indexed v p h in or_there place_of no_place (at es p) x.0 x.1
+        step (Some p) h = let x = entry_of b es indexed v p h in or_there place_of no_coord (at es p) x.0 x.1
 
   some_mapped : (o : Option NodeEntry) → is_some (option_map place_of o) ≡ is_some o
   some_mapped None = refl
@@ -92,16 +92,16 @@ within es p v h = step (at es p) refl h where
   step None e g = absurd cc
   step (Some x) e g = holds_within es p x e
 
-pub place_is : (b : Blocks) (v p : ℕ) → slot_by b v ≡ Some p → place_in b v ≡ p
+pub place_is : (b : Blocks) (v p : ℕ) → slot_by b v ≡ Some p → node_slot b v ≡ p
 place_is b v p h = ap (λ o. unwrap_or o 0) h
 
 module _ (b : Blocks) (es : List (Option NodeEntry)) (F : FinMap nat_cmp Line) (indexed : IsIndexed b es)
     (few : length es ≤ 2 ^ 32) where
-  pub are_places : ArePlaces (map_from b es F) (place_in b) (length es)
-  are_places =
+  pub have_slots_apart : HaveSlotsApart (map_from b es F) (node_slot b) (length es)
+  have_slots_apart =
       record {
         below = λ v h. let s = slot_of b es indexed F v h in let lt =
-            within es s.0 v (indexed.stands v s.0 s.1) in let is = place_is b v s.0 s.1 in omega arith;
+            within es s.0 v (indexed.filled v s.0 s.1) in let is = place_is b v s.0 s.1 in omega arith;
         apart = λ v w h k e.
             let s = slot_of b es indexed F v h in
             let r = slot_of b es indexed F w k in
@@ -112,8 +112,8 @@ module _ (b : Blocks) (es : List (Option NodeEntry)) (F : FinMap nat_cmp Line) (
 
   pub kept_from : IsMap (map_from b es F) →
       ((side : Side) (v : ℕ) (l : Links) → links_in side b es v ≡ Some l →
-      IsListed side (map_from b es F) (place_in b) v l) → IsKept b es F
-  kept_from sound listed = record { sound = sound; indexed = indexed; placed = are_places; listed = listed }
+      IsListed side (map_from b es F) (node_slot b) v l) → AreTables b es F
+  kept_from sound listed = record { sound = sound; indexed = indexed; placed = have_slots_apart; listed = listed }
 
 -- ---- tables
 
@@ -156,20 +156,20 @@ module _ (t : Tables) where
   pub entry_at : (v p : ℕ) → slot_by b v ≡ Some p → (e : NodeEntry) × (at es p ≡ Some e)
   entry_at v p h = entry_of b es t.kept.indexed v p h
 
-  pub stands_in : (v p : ℕ) → slot_by b v ≡ Some p → is_some (at es p) ≡ true
-  stands_in v p h = ap (λ o. is_some o) (entry_at v p h).1
+  pub filled_in : (v p : ℕ) → slot_by b v ≡ Some p → is_some (at es p) ≡ true
+  filled_in v p h = ap (λ o. is_some o) (entry_at v p h).1
 
   pub listed_at : (side : Side) (v p : ℕ) (e : NodeEntry) → slot_by b v ≡ Some p → at es p ≡ Some e →
-      IsListed side M (place_in b) v (links_at side e)
+      IsListed side M (node_slot b) v (links_at side e)
   listed_at side v p e h is =
       t.kept.listed side v (links_at side e) (ap (λ o. option_map (links_at side) (in_slot es o)) h
       ∙ ap (option_map (links_at side)) is)
 
   -- the list in the slot is that of the node
   pub listed_as : (side : Side) (v p : ℕ) (l : Links) → slot_by b v ≡ Some p →
-      ((e : NodeEntry) → at es p ≡ Some e → l ≡ links_at side e) → IsListed side M (place_in b) v l
+      ((e : NodeEntry) → at es p ≡ Some e → l ≡ links_at side e) → IsListed side M (node_slot b) v l
   listed_as side v p l h is = let x =
-      entry_at v p h in subst (IsListed side M (place_in b) v) (sym (is x.0 x.1)) (listed_at side v p x.0 h x.1)
+      entry_at v p h in subst (IsListed side M (node_slot b) v) (sym (is x.0 x.1)) (listed_at side v p x.0 h x.1)
 
   -- the slot that a lookup found
   pub found_at : (v n : ℕ) (o : Option ℕ) → n ≡ v → o ≡ slot_by b n → slot_by b v ≡ o
@@ -181,12 +181,12 @@ module _ (t : Tables) where
   pub no_ins : (v : ℕ) → slot_by b v ≡ None → [] ≡ lines_in M v
   no_ins v h = absent_ins M v t.kept.sound (node_missing b es t.kept.indexed (all_held t.lines) v h)
 
-  -- the slot of a node, by `place_in`
-  pub slot_is : (v p : ℕ) → has_node M v ≡ true → place_in b v ≡ p → slot_by b v ≡ Some p
+  -- the slot of a node, by `node_slot`
+  pub slot_is : (v p : ℕ) → has_node M v ≡ true → node_slot b v ≡ p → slot_by b v ≡ Some p
   slot_is v p h e = let s =
       slot_of b es t.kept.indexed (all_held t.lines) v h in s.1 ∙ ap (λ n. Some n) (sym (place_is b v s.0 s.1) ∙ e)
 
-  pub place_found : (v : ℕ) (o : Option ℕ) → o ≡ slot_by b v → SomeIff o (IsTrue (has_node M v)) (place_in b v)
+  pub place_found : (v : ℕ) (o : Option ℕ) → o ≡ slot_by b v → SomeIff o (IsTrue (has_node M v)) (node_slot b v)
   place_found v None e = λ h. let s =
       slot_of b es t.kept.indexed (all_held t.lines) v h in let never : None ≡ Some s.0 =
       e ∙ s.1 in absurd (ne never) where

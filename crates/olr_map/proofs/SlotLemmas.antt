@@ -5,7 +5,7 @@ use Rattle.std.proofs.Common.{subst, inl, inr, arith}
 use Rattle.std.proofs.lemmas.Bool.{cases_eq, cases_order, eq-eqb, ne_eqb}
 use Rattle.std.proofs.lemmas.List.{get_or-set_same, get_or-set_other, get_or_default, length-set, length_push}
 use Rattle.olr_spec.proofs.OptionLemmas.{none_of}
-use Rattle.olr_map.specs.Slotted.{present, at, IsSlotted, Comes, Goes, Turns}
+use Rattle.olr_map.specs.Slotted.{present, at, IsSlotted, IsInserted, IsRemoved, IsReplaced}
 
 -- ---- one more at the end of a list
 
@@ -63,32 +63,32 @@ module _ {X : Type 0} where
         ]
       ]
 
-  pub turns : (es : List (Option X)) (p : ℕ) (e f : X) → at es p ≡ Some e → Turns es (set es p (Some f)) p e f
+  pub turns : (es : List (Option X)) (p : ℕ) (e f : X) → at es p ≡ Some e → IsReplaced es (set es p (Some f)) p e f
   turns es p e f h = record { was = h; now = λ q. slots_set es p q (Some f) (holds_within es p e h) }
 
-  pub goes : (es : List (Option X)) (p : ℕ) (e : X) → at es p ≡ Some e → Goes es (set es p None) p e
-  goes es p e h = record { was = h; now = λ q. slots_set es p q None (holds_within es p e h) }
+  pub removes : (es : List (Option X)) (p : ℕ) (e : X) → at es p ≡ Some e → IsRemoved es (set es p None) p e
+  removes es p e h = record { was = h; now = λ q. slots_set es p q None (holds_within es p e h) }
 
-  pub comes_free : (es : List (Option X)) (p : ℕ) (f : X) → p < length es → at es p ≡ None →
-      Comes es (set es p (Some f)) p f
-  comes_free es p f lt h = record { was = h; now = λ q. slots_set es p q (Some f) lt }
+  pub inserts_free : (es : List (Option X)) (p : ℕ) (f : X) → p < length es → at es p ≡ None →
+      IsInserted es (set es p (Some f)) p f
+  inserts_free es p f lt h = record { was = h; now = λ q. slots_set es p q (Some f) lt }
 
   beyond : (es : List (Option X)) → at es (length es) ≡ None
   beyond [] = refl
   beyond (x ∷ es) = beyond es
 
-  pub comes_last : (es : List (Option X)) (p : ℕ) (f : X) → p ≡ length es → Comes es (es ++ Some f ∷ []) p f
-  comes_last es p f is =
-      subst (λ (n : ℕ). Comes es (es ++ Some f ∷ []) n f) (sym is)
+  pub inserts_last : (es : List (Option X)) (p : ℕ) (f : X) → p ≡ length es → IsInserted es (es ++ Some f ∷ []) p f
+  inserts_last es p f is =
+      subst (λ (n : ℕ). IsInserted es (es ++ Some f ∷ []) n f) (sym is)
       (record { was = beyond es; now = λ q. slots_push es q (Some f) })
 
   -- slots are numbered by `u32`
   pub few_slots : {es : List (Option X)} {fs : List ℕ} {room : ℕ} → IsSlotted es fs room → length es ≤ 2 ^ 32
   few_slots s = let few = s.few in omega arith
 
-  pub came_fits : {es : List (Option X)} {fs : List ℕ} {room : ℕ} (old : List (Option X)) (p : ℕ) (e : X) →
-      IsSlotted es fs room → Comes old es p e → p + 1 < 2 ^ 32
-  came_fits {es} old p e s c =
+  pub inserted_fits : {es : List (Option X)} {fs : List ℕ} {room : ℕ} (old : List (Option X)) (p : ℕ) (e : X) →
+      IsSlotted es fs room → IsInserted old es p e → p + 1 < 2 ^ 32
+  inserted_fits {es} old p e s c =
       let few = s.few in
       let inside = holds_within es p e (c.now p ∙ ap (λ (b : Bool). cond b (Some e) (at old p)) (eq-eqb p p refl)) in
       omega arith
@@ -103,26 +103,27 @@ module _ {X : Type 0} where
   length-turned (None ∷ es) (suc p) e f h = length-turned es p e f h
   length-turned (Some x ∷ es) (suc p) e f h = let l = length-turned es p e f h in omega arith
 
-  length-gone : (es : List (Option X)) (p : ℕ) (e : X) → at es p ≡ Some e →
+  length-removed : (es : List (Option X)) (p : ℕ) (e : X) → at es p ≡ Some e →
       length (present (set es p None)) + 1 ≡ length (present es)
-  length-gone [] p e h = absurd cc
-  length-gone (None ∷ es) zero e h = absurd cc
-  length-gone (Some x ∷ es) zero e h = omega arith
-  length-gone (None ∷ es) (suc p) e h = length-gone es p e h
-  length-gone (Some x ∷ es) (suc p) e h = let l = length-gone es p e h in omega arith
+  length-removed [] p e h = absurd cc
+  length-removed (None ∷ es) zero e h = absurd cc
+  length-removed (Some x ∷ es) zero e h = omega arith
+  length-removed (None ∷ es) (suc p) e h = length-removed es p e h
+  length-removed (Some x ∷ es) (suc p) e h = let l = length-removed es p e h in omega arith
 
-  length-come : (es : List (Option X)) (p : ℕ) (f : X) → p < length es → at es p ≡ None →
+  length-insertion : (es : List (Option X)) (p : ℕ) (f : X) → p < length es → at es p ≡ None →
       length (present (set es p (Some f))) ≡ length (present es) + 1
-  length-come [] p f lt h = absurd (omega arith)
-  length-come (None ∷ es) zero f lt h = omega arith
-  length-come (Some x ∷ es) zero f lt h = absurd cc
-  length-come (None ∷ es) (suc p) f lt h = length-come es p f (omega arith) h
-  length-come (Some x ∷ es) (suc p) f lt h = let l = length-come es p f (omega arith) h in omega arith
+  length-insertion [] p f lt h = absurd (omega arith)
+  length-insertion (None ∷ es) zero f lt h = omega arith
+  length-insertion (Some x ∷ es) zero f lt h = absurd cc
+  length-insertion (None ∷ es) (suc p) f lt h = length-insertion es p f (omega arith) h
+  length-insertion (Some x ∷ es) (suc p) f lt h = let l = length-insertion es p f (omega arith) h in omega arith
 
-  length-come_last : (es : List (Option X)) (f : X) → length (present (es ++ Some f ∷ [])) ≡ length (present es) + 1
-  length-come_last [] f = refl
-  length-come_last (None ∷ es) f = length-come_last es f
-  length-come_last (Some x ∷ es) f = let l = length-come_last es f in omega arith
+  length-insertion_last : (es : List (Option X)) (f : X) → length (present (es ++ Some f ∷ []))
+      ≡ length (present es) + 1
+  length-insertion_last [] f = refl
+  length-insertion_last (None ∷ es) f = length-insertion_last es f
+  length-insertion_last (Some x ∷ es) f = let l = length-insertion_last es f in omega arith
 
   -- ---- the free slots
 
@@ -177,7 +178,7 @@ module _ {X : Type 0} where
         let same : (i : ℕ) → i < length gs → slice_index fs i ≡ slice_index gs i =
         λ i lt. ap (λ xs. slice_index xs i) is ∙ push_below gs p i lt in
         let size : length (set es p (Some f)) ≡ length es = length-set es p (Some f) in
-        let many = length-come es p f pop.0 pop.1 in
+        let many = length-insertion es p f pop.0 pop.1 in
         let counted = s.counted in
         let roomy = s.roomy in
         let few = s.few in
@@ -199,7 +200,7 @@ module _ {X : Type 0} where
 
     pub free_room : (p : ℕ) (e : X) → at es p ≡ Some e → length fs < room
     free_room p e h =
-        let many = length-gone es p e h in
+        let many = length-removed es p e h in
         let counted = s.counted in
         let roomy = s.roomy in
         omega arith
@@ -208,7 +209,7 @@ module _ {X : Type 0} where
         more ≡ room → length es + 1 ≤ room → length es + 1 < 2 ^ 32 → now ≡ es ++ Some f ∷ [] → IsSlotted now gs more
     push_none f gs more now none none' same le lt is =
         let size = length_push es (Some f) in
-        let many = length-come_last es f in
+        let many = length-insertion_last es f in
         let counted = s.counted in
         subst (λ (xs : List (Option X)). IsSlotted xs gs more) (sym is) (record {
           counted = omega arith;
@@ -225,7 +226,7 @@ module _ {X : Type 0} where
         let inside = holds_within es p e h in
         let size : length (set es p None) ≡ length es = length-set es p None in
         let long = length_push fs p in
-        let many = length-gone es p e h in
+        let many = length-removed es p e h in
         let counted = s.counted in
         let roomy = s.roomy in
         let few = s.few in

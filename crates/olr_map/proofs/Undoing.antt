@@ -7,7 +7,7 @@ use Rattle.std.specs.FinMap.{get, insert, entries, get-entries}
 use Rattle.std.specs.FinMap.Entries.{find}
 use Rattle.std.proofs.lemmas.Bool.{ne_eqb, or_left, or_right, false_from_ne_true}
 use Rattle.olr_spec.specs.Coordinates.{Coord}
-use Rattle.olr_spec.specs.Map.{Map, IsMap, Line, is_good, are_coords, has_node, has_line, line_at, no_line, no_place}
+use Rattle.olr_spec.specs.Map.{Map, IsMap, Line, is_good, are_coords, has_node, has_line, line_at, no_line, no_coord}
 use Rattle.olr_spec.specs.Map.{start, end, edited, Add_node, Move_node, Drop_node, Add_line, Set_line, Drop_line}
 use Rattle.olr_spec.proofs.EditLemmas.{made_by}
 use Rattle.olr_spec.proofs.MapLemmas.{has-lines_where, passes_at}
@@ -89,13 +89,13 @@ module _ (M N : Map) (sound : IsMap M) where
   pub undo_move_node : (v : ℕ) (c d : Coord) → get M.nodes v ≡ Some d → edited M (Move_node v c) ≡ Ok N →
       edited N (Move_node v d) ≡ Ok M
   undo_move_node v c d was e =
-      subst (λ (q : Coord). edited N (Move_node v q) ≡ Ok M) (ap (λ o. unwrap_or o no_place) was)
+      subst (λ (q : Coord). edited N (Move_node v q) ≡ Ok M) (ap (λ o. unwrap_or o no_coord) was)
       (takes_back M sound N (Move_node v c) e)
 
   pub undo_drop_node : (v : ℕ) (d : Coord) → get M.nodes v ≡ Some d → edited M (Drop_node v) ≡ Ok N →
       edited N (Add_node v d) ≡ Ok M
   undo_drop_node v d was e =
-      subst (λ (q : Coord). edited N (Add_node v q) ≡ Ok M) (ap (λ o. unwrap_or o no_place) was)
+      subst (λ (q : Coord). edited N (Add_node v q) ≡ Ok M) (ap (λ o. unwrap_or o no_coord) was)
       (takes_back M sound N (Drop_node v) e)
 
   pub undo_drop_line : (x : ℕ) (l : Line) → get M.lines x ≡ Some l → edited M (Drop_line x) ≡ Ok N →

@@ -12,7 +12,7 @@ use Rattle.olr_spec.proofs.UndoLemmas.{passed_line, unless_false}
 use Rattle.olr_map.specs.Edits.{edit_fault_of}
 use Rattle.olr_map.specs.Ends.{end_in, end_out}
 use Rattle.olr_map.specs.declared.edit.EditFault.{EditFault}
-use Rattle.olr_map.specs.declared.judging.Judged.{Judged}
+use Rattle.olr_map.specs.declared.judging.EditPlan.{EditPlan}
 use Rattle.olr_map.specs.declared.read.LineEnd.{LineEnd}
 use Rattle.olr_map.proofs.Undoing.{used_by, unused_by}
 
@@ -52,23 +52,23 @@ unused_if_empty M v out in' =
 -- ---- the outcome of removing a node
 
 -- when a node is not in use, by the ends of both lists
-pub unused_without_ends : (M : Map) (place : ℕ → ℕ) (v : ℕ) (outs ins : List LineEnd) →
-    outs ≡ map (end_out M place) (lines_out M v) → ins ≡ map (end_in M place) (lines_in M v)
+pub unused_without_ends : (M : Map) (slot : ℕ → ℕ) (v : ℕ) (outs ins : List LineEnd) →
+    outs ≡ map (end_out M slot) (lines_out M v) → ins ≡ map (end_in M slot) (lines_in M v)
     → length outs ≡ 0 → length ins ≡ 0 → in_use M v ≡ false
-unused_without_ends M place v outs ins outs_are ins_are a b =
-    let out = ap (λ zs. length zs) outs_are ∙ length-map (lines_out M v) (end_out M place) in
-    let in' = ap (λ zs. length zs) ins_are ∙ length-map (lines_in M v) (end_in M place) in
+unused_without_ends M slot v outs ins outs_are ins_are a b =
+    let out = ap (λ zs. length zs) outs_are ∙ length-map (lines_out M v) (end_out M slot) in
+    let in' = ap (λ zs. length zs) ins_are ∙ length-map (lines_in M v) (end_in M slot) in
     unused_if_empty M v (omega arith) (omega arith)
 
-pub used_by_out : (M : Map) (place : ℕ → ℕ) (v : ℕ) (outs : List LineEnd) →
-    outs ≡ map (end_out M place) (lines_out M v) → (length outs ≡ 0 → ⊥) → in_use M v ≡ true
-used_by_out M place v outs are ne = let e =
-    ap (λ zs. length zs) are ∙ length-map (lines_out M v) (end_out M place) in used_out M v (omega arith)
+pub used_by_out : (M : Map) (slot : ℕ → ℕ) (v : ℕ) (outs : List LineEnd) →
+    outs ≡ map (end_out M slot) (lines_out M v) → (length outs ≡ 0 → ⊥) → in_use M v ≡ true
+used_by_out M slot v outs are ne = let e =
+    ap (λ zs. length zs) are ∙ length-map (lines_out M v) (end_out M slot) in used_out M v (omega arith)
 
-pub used_by_in : (M : Map) (place : ℕ → ℕ) (v : ℕ) (ins : List LineEnd) → ins ≡ map (end_in M place) (lines_in M v) →
+pub used_by_in : (M : Map) (slot : ℕ → ℕ) (v : ℕ) (ins : List LineEnd) → ins ≡ map (end_in M slot) (lines_in M v) →
     (length ins ≡ 0 → ⊥) → in_use M v ≡ true
-used_by_in M place v ins are ne = let e =
-    ap (λ zs. length zs) are ∙ length-map (lines_in M v) (end_in M place) in used_in M v (omega arith)
+used_by_in M slot v ins are ne = let e =
+    ap (λ zs. length zs) are ∙ length-map (lines_in M v) (end_in M slot) in used_in M v (omega arith)
 
 pub drop_taken : (M : Map) (v : ℕ) → has_node M v ≡ true → in_use M v ≡ false →
     edited M (Drop_node v) ≡ Ok (record M { nodes = remove M.nodes v })
@@ -83,16 +83,16 @@ drop_refused M v there used =
     ∙ ap (λ (b : Bool). unless b Node_in_use (Ok (record M { nodes = remove M.nodes v }))) used
 
 -- the result for either outcome
-pub ok_at : (r : Result Map MapFault) (N : Map) (j : Judged) → r ≡ Ok N →
+pub ok_at : (r : Result Map MapFault) (N : Map) (j : EditPlan) → r ≡ Ok N →
     MatchResult r (λ _. IsOk {E = EditFault} (Ok j))
-    (λ f. ◌≡◌ {A = Result Judged EditFault} (Ok j) (Err (edit_fault_of f)))
+    (λ f. ◌≡◌ {A = Result EditPlan EditFault} (Ok j) (Err (edit_fault_of f)))
 ok_at r N j e =
     subst (λ (s : Result Map MapFault). MatchResult s (λ _. IsOk {E = EditFault} (Ok j))
-    (λ f. ◌≡◌ {A = Result Judged EditFault} (Ok j) (Err (edit_fault_of f)))) (sym e) refl
+    (λ f. ◌≡◌ {A = Result EditPlan EditFault} (Ok j) (Err (edit_fault_of f)))) (sym e) refl
 
 pub err_at : (r : Result Map MapFault) (f : MapFault) → r ≡ Err f
-    → MatchResult r (λ _. IsOk {T = Judged} (Err (edit_fault_of f)))
-    (λ g. ◌≡◌ {A = Result Judged EditFault} (Err (edit_fault_of f)) (Err (edit_fault_of g)))
+    → MatchResult r (λ _. IsOk {T = EditPlan} (Err (edit_fault_of f)))
+    (λ g. ◌≡◌ {A = Result EditPlan EditFault} (Err (edit_fault_of f)) (Err (edit_fault_of g)))
 err_at r f e =
-    subst (λ (s : Result Map MapFault). MatchResult s (λ _. IsOk {T = Judged} (Err (edit_fault_of f)))
-    (λ g. ◌≡◌ {A = Result Judged EditFault} (Err (edit_fault_of f)) (Err (edit_fault_of g)))) (sym e) refl
+    subst (λ (s : Result Map MapFault). MatchResult s (λ _. IsOk {T = EditPlan} (Err (edit_fault_of f)))
+    (λ g. ◌≡◌ {A = Result EditPlan EditFault} (Err (edit_fault_of f)) (Err (edit_fault_of g)))) (sym e) refl

@@ -8,19 +8,20 @@ use Rattle.std.specs.Prelude.{◌≡◌, ◌==◌, ℕ, ◌+◌, ◌-◌, ◌<�
 use Rattle.std.specs.Option.{option_map_or}
 use Rattle.std.specs.Result.{result_unwrap_or}
 use Rattle.olr_spec.specs.Map as map
-use Rattle.olr_spec.specs.Map.{Map, start, end, edited, HasPlace}
-use Rattle.olr_map.specs.ByNumbers.{spare_of}
-use Rattle.olr_map.specs.Numbering.{all_held, spare_numbers}
-use Rattle.olr_map.specs.Linked.{lines_kept, places_kept, spare_links}
+use Rattle.olr_spec.specs.Map.{Map, start, end, edited, HasCoord}
+use Rattle.olr_map.specs.SlotIndexes.{spare_of}
+use Rattle.olr_map.specs.SlotMaps.{all_held, spare_numbers}
+use Rattle.olr_map.specs.Linked.{lines_kept, spare_kept, spare_links}
 use Rattle.olr_map.specs.Columns.{node_slots, node_room}
-use Rattle.olr_map.specs.Kept.{map_from, links_in}
+use Rattle.olr_map.specs.Tables.{map_from, links_in}
 use Rattle.olr_map.specs.declared.slots.Side.{Side}
 use Rattle.olr_map.specs.declared.slots.Side.TheVariants.{Out, In}
 use Rattle.olr_map.specs.declared.tables.Tables.{Tables}
-use Rattle.olr_map.specs.declared.change.Change.{Change}
-use Rattle.olr_map.specs.declared.change.Change.TheVariants.{PutNode, MoveNode, TakeNode, PutLine, SetLine, TakeLine}
+use Rattle.olr_map.specs.declared.change.TableChange.{TableChange}
+use Rattle.olr_map.specs.declared.change.TableChange.TheVariants.{PutNode, MoveNode, TakeNode, PutLine, SetLine}
+use Rattle.olr_map.specs.declared.change.TableChange.TheVariants.{TakeLine}
 
-abbrev pub change_edit : Change → map.Edit
+abbrev pub change_edit : TableChange → map.Edit
 change_edit (PutNode id place outs ins) = map.Add_node id place
 change_edit (MoveNode id place) = map.Move_node id place
 change_edit (TakeNode id) = map.Drop_node id
@@ -44,19 +45,19 @@ abbrev pub room_of : Tables → Room
 room_of t = record { nodes = node_room t.nodes; outs = spare_at Out t; ins = spare_at In t }
 
 -- how many node numbers, and line numbers, a change inserts
-abbrev pub node_puts : Change → ℕ
+abbrev pub node_puts : TableChange → ℕ
 node_puts (PutNode id place outs ins) = 1
 node_puts _ = 0
 
-abbrev pub line_puts : Change → ℕ
+abbrev pub line_puts : TableChange → ℕ
 line_puts (PutLine id line) = 1
 line_puts _ = 0
 
-abbrev pub all_node_puts : List Change → ℕ
+abbrev pub all_node_puts : List TableChange → ℕ
 all_node_puts [] = 0
 all_node_puts (c ∷ cs) = node_puts c + all_node_puts cs
 
-abbrev pub all_line_puts : List Change → ℕ
+abbrev pub all_line_puts : List TableChange → ℕ
 all_line_puts [] = 0
 all_line_puts (c ∷ cs) = line_puts c + all_line_puts cs
 
@@ -92,13 +93,13 @@ HasRoomFor R _ = ⊤
 abbrev pub changed_at : ℕ → ℕ → (ℕ → ℕ) → ℕ → ℕ
 changed_at k n f v = if k == v then n else f v
 
-abbrev pub room_after : Map → Room → Change → Room
+abbrev pub room_after : Map → Room → TableChange → Room
 room_after M R (PutNode id place outs ins) =
     record {
       nodes = R.nodes - 1;
-      outs = changed_at id (places_kept outs) R.outs;
+      outs = changed_at id (spare_kept outs) R.outs;
       ins =
-          changed_at id (places_kept ins) R.ins;
+          changed_at id (spare_kept ins) R.ins;
     }
 room_after M R (MoveNode id place) = R
 room_after M R (TakeNode id) =
@@ -120,21 +121,21 @@ room_after M R (TakeLine id) =
     }
 
 -- a node that is added has no lines yet, and a line that is set keeps its ends
-abbrev pub IsWhole : Map → Change → Type 0
+abbrev pub IsWhole : Map → TableChange → Type 0
 IsWhole M (PutNode id place outs ins) = (lines_kept outs ≡ []) × (lines_kept ins ≡ [])
 IsWhole M (SetLine id line) = (line.from ≡ start M id) × (line.to ≡ end M id)
 IsWhole M _ = ⊤
 
-pub record CanMake (M : Map) (R : Room) (c : Change) : Type 0 where
+pub record CanMake (M : Map) (R : Room) (c : TableChange) : Type 0 where
   pub accepted : IsOk (edited M (change_edit c))
-  pub placed : HasPlace (change_edit c)
+  pub placed : HasCoord (change_edit c)
   pub fits : HasRoomFor R (change_edit c)
   pub whole : IsWhole M c
 
-abbrev pub map_after : Map → Change → Map
+abbrev pub map_after : Map → TableChange → Map
 map_after M c = result_unwrap_or (edited M (change_edit c)) M
 
-pub record IsChangeMade (old new : Tables) (c back : Change) : Type 0 where
+pub record IsChangeMade (old new : Tables) (c back : TableChange) : Type 0 where
   pub map : tables_map new ≡ map_after (tables_map old) c
   pub room : IsRoomWithin (room_after (tables_map old) (room_of old) c) (room_of new)
   pub can_back : CanMake (tables_map new) (room_of new) back

@@ -1,6 +1,6 @@
 -- Edits and their faults as those of the specification.
 --     edit_of e      the edit
---     edit_fault_of f      the answer where the map refuses with f;  want of memory is no fault of the map
+--     edit_fault_of f      the answer if the map rejects with f;  out of memory is not a fault of the map
 --     allocates e      the edit adds or removes a node or a line, for which the map allocates
 use Rattle.std.specs.Prelude.{Bool, true, false}
 use Rattle.olr_spec.specs.Map as map

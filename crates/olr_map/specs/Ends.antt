@@ -1,24 +1,24 @@
 -- The lines of a node with their far ends and lengths, and the slots of the nodes.
---     ends_out M place v, ends_in M place v      for each line that leaves v (enters v), in order: the node at its far
+--     ends_out M slot v, ends_in M slot v      for each line that leaves v (enters v), in order: the node at its far
 --         end, that node's slot, and its length
---     ArePlaces M place count      the nodes have distinct slots, each below the count
+--     HaveSlotsApart M slot count      the nodes have distinct slots, each below the count
 use Rattle.std.specs.Prelude.{◌≡◌, ℕ, ◌<◌, ◌≤◌, ◌^◌, List, map, IsTrue}
 use Rattle.olr_spec.specs.Map.{Map, has_node, start, end, dm, lines_in, lines_out}
 use Rattle.olr_map.specs.declared.read.LineEnd.{LineEnd}
 
 abbrev pub end_out : Map → (ℕ → ℕ) → ℕ → LineEnd
-end_out M place x = record { node = end M x; place = place (end M x); len = dm M x }
+end_out M slot x = record { node = end M x; slot = slot (end M x); len = dm M x }
 
 abbrev pub end_in : Map → (ℕ → ℕ) → ℕ → LineEnd
-end_in M place x = record { node = start M x; place = place (start M x); len = dm M x }
+end_in M slot x = record { node = start M x; slot = slot (start M x); len = dm M x }
 
 abbrev pub ends_out : Map → (ℕ → ℕ) → ℕ → List LineEnd
-ends_out M place v = map (end_out M place) (lines_out M v)
+ends_out M slot v = map (end_out M slot) (lines_out M v)
 
 abbrev pub ends_in : Map → (ℕ → ℕ) → ℕ → List LineEnd
-ends_in M place v = map (end_in M place) (lines_in M v)
+ends_in M slot v = map (end_in M slot) (lines_in M v)
 
-pub record ArePlaces (M : Map) (place : ℕ → ℕ) (count : ℕ) : Type 0 where
-  pub below : (v : ℕ) → IsTrue (has_node M v) → place v < count
-  pub apart : (v w : ℕ) → IsTrue (has_node M v) → IsTrue (has_node M w) → place v ≡ place w → v ≡ w
+pub record HaveSlotsApart (M : Map) (slot : ℕ → ℕ) (count : ℕ) : Type 0 where
+  pub below : (v : ℕ) → IsTrue (has_node M v) → slot v < count
+  pub apart : (v w : ℕ) → IsTrue (has_node M v) → IsTrue (has_node M w) → slot v ≡ slot w → v ≡ w
   pub few : count ≤ 2 ^ 32

@@ -4,7 +4,7 @@
 use Rattle.std.specs.Prelude.{◌≡◌, ℕ, List, Option, Some, None, IsSome}
 use Rattle.std.specs.Coded.{Coded-set, coded_ℕ}
 use Rattle.std.proofs.Props.{props}
-use Rattle.olr_map.specs.ByNumbers.{slot_by}
+use Rattle.olr_map.specs.SlotIndexes.{slot_by}
 use Rattle.olr_map.specs.Slotted.{at}
 use Rattle.olr_map.specs.declared.blocks.Blocks.{Blocks}
 
@@ -14,7 +14,7 @@ module _ {X : Type 0} where
   in_slot es (Some p) = at es p
 
   pub record HaveSlots (b : Blocks) (es : List (Option X)) : Type 0 where
-    pub stands : (v p : ℕ) → slot_by b v ≡ Some p → IsSome (at es p)
+    pub filled : (v p : ℕ) → slot_by b v ≡ Some p → IsSome (at es p)
     pub apart : (v w p : ℕ) → slot_by b v ≡ Some p → slot_by b w ≡ Some p → v ≡ w
 
   pub HaveSlots-prop : (b : Blocks) (es : List (Option X)) → IsProp (HaveSlots b es)

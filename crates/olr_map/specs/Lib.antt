@@ -1,6 +1,6 @@
 pub mod Hashing
 pub mod Blocked
-pub mod ByNumbers
+pub mod SlotIndexes
 pub mod HavingSlots
 pub mod Edits
 pub mod Ends
@@ -9,9 +9,9 @@ pub mod Slotted
 pub mod NodeLinks
 pub mod Slabs
 pub mod Columns
-pub mod Numbering
-pub mod Kept
-pub mod Judgements
+pub mod SlotMaps
+pub mod Tables
+pub mod EditPlans
 pub mod Changes
 pub mod Undos
 pub mod RoadMaps

@@ -5,7 +5,7 @@
 --     CanUndoAll m log, map_before m log      both, for all edits of a log
 use Rattle.std.specs.Prelude.{ℕ}
 use Rattle.olr_spec.specs.Map.{Map}
-use Rattle.olr_map.specs.Kept.{place_in}
+use Rattle.olr_map.specs.Tables.{node_slot}
 use Rattle.olr_map.specs.Changes.{tables_map}
 use Rattle.olr_map.specs.Undos.{CanUndoIn, undone_in, CanUndoAllIn, before_in, CanUndoIn-prop, CanUndoAllIn-prop}
 use Rattle.olr_map.specs.declared.road_map.RoadMap.{RoadMap}
@@ -16,7 +16,7 @@ abbrev pub map_of : RoadMap → Map
 map_of m = tables_map m.tables
 
 abbrev pub slot_of : RoadMap → ℕ → ℕ
-slot_of m = place_in m.tables.index
+slot_of m = node_slot m.tables.index
 
 abbrev pub CanUndo : RoadMap → Undo → Type 0
 CanUndo m u = CanUndoIn m.tables u

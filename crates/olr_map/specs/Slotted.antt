@@ -28,16 +28,16 @@ module _ {X : Type 0} where
   IsSlotted-prop es free room = hlevel (props, Coded-set coded_ℕ, le_prop)
 
   -- slot p, which was free, holds e; the other slots are unchanged
-  pub record Comes (old new : List (Option X)) (p : ℕ) (e : X) : Type 0 where
+  pub record IsInserted (old new : List (Option X)) (p : ℕ) (e : X) : Type 0 where
     pub was : at old p ≡ None
     pub now : (q : ℕ) → at new q ≡ cond (p == q) (Some e) (at old q)
 
   -- slot p, which held e, is free; the other slots are unchanged
-  pub record Goes (old new : List (Option X)) (p : ℕ) (e : X) : Type 0 where
+  pub record IsRemoved (old new : List (Option X)) (p : ℕ) (e : X) : Type 0 where
     pub was : at old p ≡ Some e
     pub now : (q : ℕ) → at new q ≡ cond (p == q) None (at old q)
 
   -- slot p, which held e, holds f; the other slots are unchanged
-  pub record Turns (old new : List (Option X)) (p : ℕ) (e f : X) : Type 0 where
+  pub record IsReplaced (old new : List (Option X)) (p : ℕ) (e f : X) : Type 0 where
     pub was : at old p ≡ Some e
     pub now : (q : ℕ) → at new q ≡ cond (p == q) (Some f) (at old q)

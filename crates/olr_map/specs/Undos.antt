@@ -9,24 +9,25 @@ use Rattle.std.specs.Prelude.{ℕ, List, [], ◌∷◌, reverse, ⊤}
 use Rattle.std.specs.Coded.{×_prop, Unit-prop, le_prop, coded_ℕ, coded_list, Coded-set}
 use Rattle.std.proofs.Props.{props}
 use Rattle.olr_spec.specs.Map as map
-use Rattle.olr_spec.specs.Map.{Map, HasPlace}
+use Rattle.olr_spec.specs.Map.{Map, HasCoord}
 use Rattle.olr_map.specs.Changes.{Room, CanMake, HasRoomFor, HasNumbers, IsWhole, change_edit, map_after, node_puts}
 use Rattle.olr_map.specs.Changes.{line_puts, room_after, room_of, tables_map}
-use Rattle.olr_map.specs.declared.change.Change.{Change}
-use Rattle.olr_map.specs.declared.change.Change.TheVariants.{PutNode, MoveNode, TakeNode, PutLine, SetLine, TakeLine}
+use Rattle.olr_map.specs.declared.change.TableChange.{TableChange}
+use Rattle.olr_map.specs.declared.change.TableChange.TheVariants.{PutNode, MoveNode, TakeNode, PutLine, SetLine}
+use Rattle.olr_map.specs.declared.change.TableChange.TheVariants.{TakeLine}
 use Rattle.olr_map.specs.declared.tables.Tables.{Tables}
 use Rattle.olr_map.specs.declared.undo.Undo.{Undo}
 use Rattle.olr_map.specs.declared.undo.UndoLog.{UndoLog}
 
-abbrev pub CanMakeAll : Map → Room → List Change → Type 0
+abbrev pub CanMakeAll : Map → Room → List TableChange → Type 0
 CanMakeAll M R [] = ⊤
 CanMakeAll M R (c ∷ cs) = CanMake M R c × CanMakeAll (map_after M c) (room_after M R c) cs
 
-abbrev pub made_all : Map → List Change → Map
+abbrev pub made_all : Map → List TableChange → Map
 made_all M [] = M
 made_all M (c ∷ cs) = made_all (map_after M c) cs
 
-abbrev pub log_changes : UndoLog → List Change
+abbrev pub log_changes : UndoLog → List TableChange
 log_changes log = reverse log.changes.items
 
 abbrev pub CanUndoIn : Tables → Undo → Type 0
@@ -42,13 +43,13 @@ abbrev pub before_in : Tables → UndoLog → Map
 before_in t log = made_all (tables_map t) (log_changes log)
 
 -- these statements have at most one proof
-HasPlace-prop : (e : map.Edit) → IsProp (HasPlace e)
-HasPlace-prop (map.Add_node v c) = hlevel props
-HasPlace-prop (map.Move_node v c) = hlevel props
-HasPlace-prop (map.Drop_node v) = hlevel props
-HasPlace-prop (map.Add_line x l) = hlevel props
-HasPlace-prop (map.Set_line x frc fow len shape) = hlevel props
-HasPlace-prop (map.Drop_line x) = hlevel props
+HasCoord-prop : (e : map.Edit) → IsProp (HasCoord e)
+HasCoord-prop (map.Add_node v c) = hlevel props
+HasCoord-prop (map.Move_node v c) = hlevel props
+HasCoord-prop (map.Drop_node v) = hlevel props
+HasCoord-prop (map.Add_line x l) = hlevel props
+HasCoord-prop (map.Set_line x frc fow len shape) = hlevel props
+HasCoord-prop (map.Drop_line x) = hlevel props
 
 HasRoom-prop : (R : Room) (e : map.Edit) → IsProp (HasRoomFor R e)
 HasRoom-prop R (map.Add_node v c) = hlevel (props, le_prop)
@@ -58,7 +59,7 @@ HasRoom-prop R (map.Add_line x l) = hlevel (props, le_prop)
 HasRoom-prop R (map.Set_line x frc fow len shape) = hlevel props
 HasRoom-prop R (map.Drop_line x) = hlevel props
 
-IsWhole-prop : (M : Map) (c : Change) → IsProp (IsWhole M c)
+IsWhole-prop : (M : Map) (c : TableChange) → IsProp (IsWhole M c)
 IsWhole-prop M (PutNode id place outs ins) = hlevel (props, Coded-set (coded_list coded_ℕ))
 IsWhole-prop M (MoveNode id place) = hlevel props
 IsWhole-prop M (TakeNode id) = hlevel props
@@ -66,10 +67,10 @@ IsWhole-prop M (PutLine id line) = hlevel props
 IsWhole-prop M (SetLine id line) = hlevel (props, Coded-set coded_ℕ)
 IsWhole-prop M (TakeLine id) = hlevel props
 
-pub CanMake-prop : (M : Map) (R : Room) (c : Change) → IsProp (CanMake M R c)
-CanMake-prop M R c = hlevel (props, HasPlace-prop (change_edit c), HasRoom-prop R (change_edit c), IsWhole-prop M c)
+pub CanMake-prop : (M : Map) (R : Room) (c : TableChange) → IsProp (CanMake M R c)
+CanMake-prop M R c = hlevel (props, HasCoord-prop (change_edit c), HasRoom-prop R (change_edit c), IsWhole-prop M c)
 
-pub CanMakeAll-prop : (M : Map) (R : Room) (cs : List Change) → IsProp (CanMakeAll M R cs)
+pub CanMakeAll-prop : (M : Map) (R : Room) (cs : List TableChange) → IsProp (CanMakeAll M R cs)
 CanMakeAll-prop M R [] = Unit-prop
 CanMakeAll-prop M R (c ∷ cs) = ×_prop (CanMake-prop M R c) (CanMakeAll-prop (map_after M c) (room_after M R c) cs)
 

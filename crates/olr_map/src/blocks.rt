@@ -19,7 +19,7 @@ pub struct Blocks {
 }
 
 impl Blocks {
-    ghost use Rattle.olr_map.specs.ByNumbers.{slot_by, spare_of};
+    ghost use Rattle.olr_map.specs.SlotIndexes.{slot_by, spare_of};
 
     /// No slots. Does not allocate.
     pub fn new(alloc: Global) -> Blocks

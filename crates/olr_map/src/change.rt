@@ -2,18 +2,18 @@
 
 use crate::ids::{LineId, NodeId};
 use crate::line::Line;
-use crate::links::Spare;
+use crate::links::EmptyLinks;
 use olr_coords::Coord;
 
 /// A change of the tables.
 #[derive(Drop, Debug)]
-pub enum Change {
+pub enum TableChange {
     /// Inserts a node without lines, with the memory for the lines that leave it and that enter it.
     PutNode {
         id: NodeId,
         place: Coord,
-        outs: Spare,
-        ins: Spare,
+        outs: EmptyLinks,
+        ins: EmptyLinks,
     },
     /// Moves a node to another coordinate.
     MoveNode(NodeId, Coord),

@@ -37,7 +37,7 @@ impl Footprint {
     /// The nodes in ascending order.
     pub fn as_slice(&self) -> &[NodeId]
         ensures same { result.now ≡ self.now }
-        ensures rising { IsStrictlyIncreasing self.now }
+        ensures ascending { IsStrictlyIncreasing self.now }
     {
         self.nodes.as_slice()
     }
@@ -62,15 +62,15 @@ impl Footprint {
     }
 
     /// Adds all these nodes by one merge into capacity that is allocated at once. If that fails, the set is unchanged.
-    pub fn note_all(&mut self, rising: &[NodeId]) -> Result<(), AllocError>
-        requires rising { IsStrictlyIncreasing rising.now }
+    pub fn note_all(&mut self, ascending: &[NodeId]) -> Result<(), AllocError>
+        requires ascending { IsStrictlyIncreasing ascending.now }
         ensures ok { OnOk result
-            ((n : ℕ) → (Contains self.new n) ↔ ((Contains self.old n) ⊎ (Contains rising.now n))) }
+            ((n : ℕ) → (Contains self.new n) ↔ ((Contains self.old n) ⊎ (Contains ascending.now n))) }
         ensures grows { OnOk result (length self.old ≤ length self.new) }
         ensures err { OnErr result (self.new ≡ self.old) }
     {
         let alloc = *self.nodes.allocator();
-        self.nodes = merge(alloc, &self.nodes, rising)?;
+        self.nodes = merge(alloc, &self.nodes, ascending)?;
         Ok(())
     }
 }
@@ -79,7 +79,7 @@ impl Footprint {
 fn merge(alloc: Global, left: &[NodeId], right: &[NodeId]) -> Result<Vec<NodeId>, AllocError>
     requires left { IsStrictlyIncreasing left.now }
     requires right { IsStrictlyIncreasing right.now }
-    ensures rising { IfOk result (λ v. IsStrictlyIncreasing v.items) }
+    ensures ascending { IfOk result (λ v. IsStrictlyIncreasing v.items) }
     ensures holds { IfOk result
         (λ v. (n : ℕ) → (Contains v.items n) ↔ ((Contains left.now n) ⊎ (Contains right.now n))) }
 {

@@ -1,11 +1,11 @@
 //! Edits of the tables of a map, and their undo records.
 
-use crate::change::Change;
+use crate::change::TableChange;
 use crate::edit::{Edit, EditFault};
 use crate::ids::NodeId;
-use crate::judging::{Judged, judge};
+use crate::judging::{EditPlan, judge};
 use crate::line::Line;
-use crate::links::Spare;
+use crate::links::EmptyLinks;
 use crate::slots::Side;
 use crate::tables::Tables;
 use crate::undo::{Undo, UndoLog};
@@ -14,10 +14,10 @@ use std::alloc::AllocError;
 impl Tables {
     ghost use Rattle.std.specs.Prelude.{◌≡◌, ◌↔◌, ◌+◌, ◌≤◌, IsOk, IfOk, OnOk, OnErr, Ok, Err, IsTrue};
     ghost use Rattle.olr_spec.specs.Map.{MapFault, edited};
-    ghost use Rattle.olr_map.specs.ByNumbers.{spare_of};
-    ghost use Rattle.olr_map.specs.Numbering.{spare_numbers};
-    ghost use Rattle.olr_map.specs.Kept.{place_in};
-    ghost use Rattle.olr_map.specs.Judgements.{IsJudged, AreEnds, AreSlots};
+    ghost use Rattle.olr_map.specs.SlotIndexes.{spare_of};
+    ghost use Rattle.olr_map.specs.SlotMaps.{spare_numbers};
+    ghost use Rattle.olr_map.specs.Tables.{node_slot};
+    ghost use Rattle.olr_map.specs.EditPlans.{IsEditPlan, AreEnds, AreSlots};
     ghost use Rattle.olr_map.specs.Edits.{edit_of, edit_fault_of, allocates};
     ghost use Rattle.olr_map.specs.Changes.{tables_map, room_of, change_edit, node_puts, line_puts, node_numbers};
     ghost use Rattle.olr_map.specs.Changes.{line_numbers, HasRoomFor, HasNumbers, IsWhole, IsRoomWithin, CanMake};
@@ -25,23 +25,23 @@ impl Tables {
     ghost use Rattle.olr_map.specs.Undos.{log_changes, CanUndoIn, undone_in, CanUndoAllIn, before_in};
 
     /// The slots of the nodes that a change touches and that exist before it.
-    fn slots_for(&self, change: &Change) -> (u32, u32)
+    fn slots_for(&self, change: &TableChange) -> (u32, u32)
         requires { IsOk (edited (tables_map self.now) (change_edit change.now)) }
         ensures { AreSlots self.now.index (tables_map self.now) result (change_edit change.now) }
     {
         match change {
-            Change::MoveNode(id, _) => {
+            TableChange::MoveNode(id, _) => {
                 let slot = self.slot(*id);
                 (slot, slot)
             }
-            Change::PutLine(_, line) => (self.slot(line.from), self.slot(line.to)),
-            Change::SetLine(id, _) | Change::TakeLine(id) => self.end_slots(*id),
-            Change::PutNode { .. } | Change::TakeNode(_) => (0, 0),
+            TableChange::PutLine(_, line) => (self.slot(line.from), self.slot(line.to)),
+            TableChange::SetLine(id, _) | TableChange::TakeLine(id) => self.end_slots(*id),
+            TableChange::PutNode { .. } | TableChange::TakeNode(_) => (0, 0),
         }
     }
 
     /// Makes a change at these slots, and returns the change that undoes it.
-    fn make_change(&mut self, change: Change, slots: (u32, u32)) -> Change
+    fn make_change(&mut self, change: TableChange, slots: (u32, u32)) -> TableChange
         requires can { CanMake (tables_map self.old) (room_of self.old) change }
         requires slots { AreSlots self.old.index (tables_map self.old) slots (change_edit change) }
         requires numbers { HasNumbers self.old (node_puts change) (line_puts change) }
@@ -50,32 +50,35 @@ impl Tables {
         ensures lines { line_puts change + line_puts result ≡ line_numbers (change_edit change) }
     {
         match change {
-            Change::PutNode {
+            TableChange::PutNode {
                 id,
                 place,
                 outs,
                 ins,
             } => {
                 self.put_node(id, place, outs, ins);
-                Change::TakeNode(id)
+                TableChange::TakeNode(id)
             }
-            Change::MoveNode(id, place) => {
-                Change::MoveNode(id, self.move_node(id, place, slots.0))
+            TableChange::MoveNode(id, place) => {
+                TableChange::MoveNode(id, self.move_node(id, place, slots.0))
             }
-            Change::TakeNode(id) => self.take_node(id),
-            Change::PutLine(id, line) => {
+            TableChange::TakeNode(id) => self.take_node(id),
+            TableChange::PutLine(id, line) => {
                 self.put_line(id, line, slots.0, slots.1);
-                Change::TakeLine(id)
+                TableChange::TakeLine(id)
             }
-            Change::SetLine(id, line) => {
-                Change::SetLine(id, self.set_line(id, line, slots.0, slots.1))
+            TableChange::SetLine(id, line) => {
+                TableChange::SetLine(id, self.set_line(id, line, slots.0, slots.1))
             }
-            Change::TakeLine(id) => Change::PutLine(id, self.take_line(id, slots.0, slots.1)),
+            TableChange::TakeLine(id) => TableChange::PutLine(
+                id,
+                self.take_line(id, slots.0, slots.1),
+            ),
         }
     }
 
     /// Makes a change that undoes an edit, and frees what the edit added.
-    fn take_back(&mut self, change: Change)
+    fn take_back(&mut self, change: TableChange)
         requires can { CanMake (tables_map self.old) (room_of self.old) change }
         requires numbers { HasNumbers self.old (node_puts change) (line_puts change) }
         ensures map { tables_map self.new ≡ map_after (tables_map self.old) change }
@@ -87,7 +90,8 @@ impl Tables {
         let _ = self.make_change(change, slots);
     }
 
-    /// Reserves capacity for what an edit adds at these slots and for its undo, in addition to the numbers of nodes and of
+    /// Reserves capacity for what an edit adds at these slots and for its undo, in addition to the numbers of nodes and
+    /// of
     /// lines that other undo records may put back.
     fn make_room(
         &mut self,
@@ -124,21 +128,21 @@ impl Tables {
     }
 
     /// The change for an edit of a node, or of a line between these nodes.
-    fn change_for(&self, edit: Edit, nodes: (NodeId, NodeId)) -> Change
+    fn change_for(&self, edit: Edit, nodes: (NodeId, NodeId)) -> TableChange
         requires { AreEnds (tables_map self.now) nodes (edit_of edit) }
         ensures same { change_edit result ≡ edit_of edit }
         ensures whole { IsWhole (tables_map self.now) result }
     {
         match edit {
-            Edit::AddNode(id, place) => Change::PutNode {
+            Edit::AddNode(id, place) => TableChange::PutNode {
                 id,
                 place,
-                outs: Spare::Few,
-                ins: Spare::Few,
+                outs: EmptyLinks::Inline,
+                ins: EmptyLinks::Inline,
             },
-            Edit::MoveNode(id, place) => Change::MoveNode(id, place),
-            Edit::DropNode(id) => Change::TakeNode(id),
-            Edit::AddLine(id, line) => Change::PutLine(id, line),
+            Edit::MoveNode(id, place) => TableChange::MoveNode(id, place),
+            Edit::DropNode(id) => TableChange::TakeNode(id),
+            Edit::AddLine(id, line) => TableChange::PutLine(id, line),
             Edit::SetLine {
                 id,
                 frc,
@@ -147,7 +151,7 @@ impl Tables {
                 shape,
             } => {
                 let (from, to) = nodes;
-                Change::SetLine(
+                TableChange::SetLine(
                     id,
                     Line {
                         from,
@@ -159,7 +163,7 @@ impl Tables {
                     },
                 )
             }
-            Edit::DropLine(id) => Change::TakeLine(id),
+            Edit::DropLine(id) => TableChange::TakeLine(id),
         }
     }
 
@@ -174,7 +178,7 @@ impl Tables {
         ensures lacks { result ≡ Err EditFault.Memory → IsTrue (allocates (edit_of edit)) }
     {
         match judge(self, &edit) {
-            Ok(judged) => match self.make(edit, &judged) {
+            Ok(plan) => match self.make(edit, &plan) {
                 Ok(undo) => Ok(undo),
                 Err(_) => Err(EditFault::Memory),
             },
@@ -183,18 +187,18 @@ impl Tables {
     }
 
     /// Makes an edit that `judge` accepted on this map, and returns its undo record.
-    pub fn make(&mut self, edit: Edit, judged: &Judged) -> Result<Undo, AllocError>
-        requires { IsJudged (tables_map self.old) (place_in self.old.index) (edit_of edit) judged.now }
+    pub fn make(&mut self, edit: Edit, plan: &EditPlan) -> Result<Undo, AllocError>
+        requires { IsEditPlan (tables_map self.old) (node_slot self.old.index) (edit_of edit) plan.now }
         ensures done { OnOk result (edited (tables_map self.old) (edit_of edit) ≡ Ok (tables_map self.new)) }
         ensures same { OnErr result (tables_map self.new ≡ tables_map self.old) }
         ensures can_undo { IfOk result (CanUndoIn self.new) }
         ensures before { IfOk result (λ undo. undone_in self.new undo ≡ tables_map self.old) }
         ensures lacks { OnErr result (IsTrue (allocates (edit_of edit))) }
     {
-        self.make_room(&edit, judged.places, 0, 0)?;
-        let change = self.change_for(edit, judged.nodes);
+        self.make_room(&edit, plan.slots, 0, 0)?;
+        let change = self.change_for(edit, plan.nodes);
         Ok(Undo {
-            change: self.make_change(change, judged.places),
+            change: self.make_change(change, plan.slots),
         })
     }
 
@@ -219,7 +223,7 @@ impl Tables {
         ensures before { before_in self.new log.new ≡ before_in self.old log.old }
     {
         match judge(self, &edit) {
-            Ok(judged) => match self.make_into(edit, &judged, log) {
+            Ok(plan) => match self.make_into(edit, &plan, log) {
                 Ok(()) => Ok(()),
                 Err(_) => Err(EditFault::Memory),
             },
@@ -231,10 +235,10 @@ impl Tables {
     pub fn make_into(
         &mut self,
         edit: Edit,
-        judged: &Judged,
+        plan: &EditPlan,
         log: &mut UndoLog,
     ) -> Result<(), AllocError>
-        requires judged { IsJudged (tables_map self.old) (place_in self.old.index) (edit_of edit) judged.now }
+        requires plan { IsEditPlan (tables_map self.old) (node_slot self.old.index) (edit_of edit) plan.now }
         requires log { CanUndoAllIn self.old log.old }
         ensures done { OnOk result (edited (tables_map self.old) (edit_of edit) ≡ Ok (tables_map self.new)) }
         ensures same { OnErr result (tables_map self.new ≡ tables_map self.old) }
@@ -243,9 +247,9 @@ impl Tables {
         ensures before { before_in self.new log.new ≡ before_in self.old log.old }
     {
         log.reserve()?;
-        self.make_room(&edit, judged.places, log.nodes, log.lines)?;
-        let change = self.change_for(edit, judged.nodes);
-        let back = self.make_change(change, judged.places);
+        self.make_room(&edit, plan.slots, log.nodes, log.lines)?;
+        let change = self.change_for(edit, plan.nodes);
+        let back = self.make_change(change, plan.slots);
         log.push(back);
         Ok(())
     }

@@ -3,7 +3,7 @@ ghost use Rattle.std.specs.Prelude.{◌≡◌, Some, Err, IsOk, IfOk, MatchResul
 ghost use Rattle.std.specs.FinMap.{get};
 ghost use Rattle.olr_spec.specs.Map.{edited, Add_node, Move_node, Drop_node, Add_line, Set_line, Drop_line};
 ghost use Rattle.olr_map.specs.Edits.{edit_of, edit_fault_of};
-ghost use Rattle.olr_map.specs.Judgements.{IsJudged};
+ghost use Rattle.olr_map.specs.EditPlans.{IsEditPlan};
 
 use crate::edit::{Edit, EditFault};
 use crate::ids::{LineId, NodeId};
@@ -13,11 +13,11 @@ use olr_coords::Coord;
 
 /// What an edit touches on a map that accepts it.
 #[derive(Clone, Copy, Debug, PartialEq, Eq)]
-pub struct Judged {
+pub struct EditPlan {
     /// The nodes: both ends of the line, or one node twice.
     pub nodes: (NodeId, NodeId),
-    /// Their slots in the map, see `MapRead::place_of`; 0 for a node that is added.
-    pub places: (u32, u32),
+    /// Their slots in the map, see `MapRead::slot_of`; 0 for a node that is added.
+    pub slots: (u32, u32),
     /// The line. None if only a node is touched.
     pub line: Option<LineId>,
     /// The lesser of the line's lengths before and after the edit, in decimetres. The line's length if it is added or
@@ -26,10 +26,10 @@ pub struct Judged {
 }
 
 /// The first fault of the edit on this map, or what the edit touches. Out of memory is not tested.
-pub fn judge<M: MapRead>(map: &M, edit: &Edit) -> Result<Judged, EditFault>
+pub fn judge<M: MapRead>(map: &M, edit: &Edit) -> Result<EditPlan, EditFault>
     ensures fault { MatchResult (edited (M.map map.now) (edit_of edit.now))
         (λ _. IsOk result) (λ f. result ≡ Err (edit_fault_of f)) }
-    ensures judged { IfOk result (IsJudged (M.map map.now) (M.place_in map.now) (edit_of edit.now)) }
+    ensures plan { IfOk result (IsEditPlan (M.map map.now) (M.node_slot map.now) (edit_of edit.now)) }
 {
     match edit {
         Edit::AddNode(id, place) => judge_node_added(map, *id, *place),
@@ -48,81 +48,81 @@ pub fn judge<M: MapRead>(map: &M, edit: &Edit) -> Result<Judged, EditFault>
 }
 
 /// A node can be added only if it is not on the map.
-fn judge_node_added<M: MapRead>(map: &M, id: NodeId, place: Coord) -> Result<Judged, EditFault>
+fn judge_node_added<M: MapRead>(map: &M, id: NodeId, place: Coord) -> Result<EditPlan, EditFault>
     ensures fault { MatchResult (edited (M.map map.now) (Add_node id place))
         (λ _. IsOk result) (λ f. result ≡ Err (edit_fault_of f)) }
-    ensures judged { IfOk result (IsJudged (M.map map.now) (M.place_in map.now) (Add_node id place)) }
+    ensures plan { IfOk result (IsEditPlan (M.map map.now) (M.node_slot map.now) (Add_node id place)) }
 {
-    if map.place_of(id).is_some() {
+    if map.slot_of(id).is_some() {
         return Err(EditFault::NodeExists);
     }
     // Only for the proof: the coordinate is in range, as every `Coord` is.
     let _latitude = place.lat();
-    Ok(Judged {
+    Ok(EditPlan {
         nodes: (id, id),
-        places: (0, 0),
+        slots: (0, 0),
         line: None,
         len: 0,
     })
 }
 
 /// A node can be moved only if it is on the map.
-fn judge_node_moved<M: MapRead>(map: &M, id: NodeId, place: Coord) -> Result<Judged, EditFault>
+fn judge_node_moved<M: MapRead>(map: &M, id: NodeId, place: Coord) -> Result<EditPlan, EditFault>
     ensures fault { MatchResult (edited (M.map map.now) (Move_node id place))
         (λ _. IsOk result) (λ f. result ≡ Err (edit_fault_of f)) }
-    ensures judged { IfOk result (IsJudged (M.map map.now) (M.place_in map.now) (Move_node id place)) }
+    ensures plan { IfOk result (IsEditPlan (M.map map.now) (M.node_slot map.now) (Move_node id place)) }
 {
-    let Some(at) = map.place_of(id) else {
+    let Some(at) = map.slot_of(id) else {
         return Err(EditFault::NoNode);
     };
     // Only for the proof: the coordinate is in range, as every `Coord` is.
     let _latitude = place.lat();
-    Ok(Judged {
+    Ok(EditPlan {
         nodes: (id, id),
-        places: (at, at),
+        slots: (at, at),
         line: None,
         len: 0,
     })
 }
 
 /// A node can be removed only if it is on the map and no line uses it.
-fn judge_node_dropped<M: MapRead>(map: &M, id: NodeId) -> Result<Judged, EditFault>
+fn judge_node_dropped<M: MapRead>(map: &M, id: NodeId) -> Result<EditPlan, EditFault>
     ensures fault { MatchResult (edited (M.map map.now) (Drop_node id))
         (λ _. IsOk result) (λ f. result ≡ Err (edit_fault_of f)) }
-    ensures judged { IfOk result (IsJudged (M.map map.now) (M.place_in map.now) (Drop_node id)) }
+    ensures plan { IfOk result (IsEditPlan (M.map map.now) (M.node_slot map.now) (Drop_node id)) }
 {
-    let Some(at) = map.place_of(id) else {
+    let Some(at) = map.slot_of(id) else {
         return Err(EditFault::NoNode);
     };
     if !map.out_ends_at(at).is_empty() || !map.in_ends_at(at).is_empty() {
         return Err(EditFault::NodeInUse);
     }
-    Ok(Judged {
+    Ok(EditPlan {
         nodes: (id, id),
-        places: (at, at),
+        slots: (at, at),
         line: None,
         len: 0,
     })
 }
 
 /// A line can be added only if it is not on the map, its ends are, and it is good.
-fn judge_line_added<M: MapRead>(map: &M, id: LineId, line: &Line) -> Result<Judged, EditFault>
+fn judge_line_added<M: MapRead>(map: &M, id: LineId, line: &Line) -> Result<EditPlan, EditFault>
     ensures fault { MatchResult (edited (M.map map.now) (Add_line id line.now))
         (λ _. IsOk result) (λ f. result ≡ Err (edit_fault_of f)) }
-    ensures judged { IfOk result (IsJudged (M.map map.now) (M.place_in map.now) (Add_line id line.now)) }
+    ensures plan { IfOk result (IsEditPlan (M.map map.now) (M.node_slot map.now) (Add_line id line.now)) }
 {
     if map.line(id).is_some() {
         return Err(EditFault::LineExists);
     }
-    let (Some(from), Some(to)) = (map.place_of(line.from), map.place_of(line.to)) else {
+    let (Some(from), Some(to)) = (map.slot_of(line.from), map.slot_of(line.to)) else {
         return Err(EditFault::NoNode);
     };
     if !line.is_good() {
         return Err(EditFault::BadShape);
     }
-    Ok(Judged {
+    Ok(EditPlan {
         nodes: (line.from, line.to),
-        places: (from, to),
+        slots: (from, to),
         line: Some(id),
         len: line.len,
     })
@@ -136,10 +136,10 @@ fn judge_line_set<M: MapRead>(
     fow: u8,
     len: u32,
     shape: &[Shape],
-) -> Result<Judged, EditFault>
+) -> Result<EditPlan, EditFault>
     ensures fault { MatchResult (edited (M.map map.now) (Set_line id frc fow len shape.now))
         (λ _. IsOk result) (λ f. result ≡ Err (edit_fault_of f)) }
-    ensures judged { IfOk result (IsJudged (M.map map.now) (M.place_in map.now) (Set_line id frc fow len shape.now)) }
+    ensures plan { IfOk result (IsEditPlan (M.map map.now) (M.node_slot map.now) (Set_line id frc fow len shape.now)) }
 {
     let Some(was) = map.line(id) else {
         return Err(EditFault::NoLine);
@@ -147,38 +147,38 @@ fn judge_line_set<M: MapRead>(
     if !has_good_fields(frc, fow, len, shape) {
         return Err(EditFault::BadShape);
     }
-    Ok(Judged {
+    Ok(EditPlan {
         nodes: (was.from, was.to),
-        places: end_places(map, id, was),
+        slots: slots_of_ends(map, id, was),
         line: Some(id),
         len: was.len.min(len),
     })
 }
 
 /// A line can be removed only if it is on the map.
-fn judge_line_dropped<M: MapRead>(map: &M, id: LineId) -> Result<Judged, EditFault>
+fn judge_line_dropped<M: MapRead>(map: &M, id: LineId) -> Result<EditPlan, EditFault>
     ensures fault { MatchResult (edited (M.map map.now) (Drop_line id))
         (λ _. IsOk result) (λ f. result ≡ Err (edit_fault_of f)) }
-    ensures judged { IfOk result (IsJudged (M.map map.now) (M.place_in map.now) (Drop_line id)) }
+    ensures plan { IfOk result (IsEditPlan (M.map map.now) (M.node_slot map.now) (Drop_line id)) }
 {
     let Some(was) = map.line(id) else {
         return Err(EditFault::NoLine);
     };
-    Ok(Judged {
+    Ok(EditPlan {
         nodes: (was.from, was.to),
-        places: end_places(map, id, was),
+        slots: slots_of_ends(map, id, was),
         line: Some(id),
         len: was.len,
     })
 }
 
 /// The slots of the nodes where a line of the map begins and ends.
-fn end_places<M: MapRead>(map: &M, id: LineId, line: &Line) -> (u32, u32)
+fn slots_of_ends<M: MapRead>(map: &M, id: LineId, line: &Line) -> (u32, u32)
     requires { get (M.map map.now).lines id ≡ Some line.now }
-    ensures begin { M.place_in map.now line.now.from ≡ result.0 }
-    ensures end { M.place_in map.now line.now.to ≡ result.1 }
+    ensures begin { M.node_slot map.now line.now.from ≡ result.0 }
+    ensures end { M.node_slot map.now line.now.to ≡ result.1 }
 {
-    match (map.place_of(line.from), map.place_of(line.to)) {
+    match (map.slot_of(line.from), map.slot_of(line.to)) {
         (Some(from), Some(to)) => (from, to),
         _ => unreachable!(),
     }

@@ -1,7 +1,7 @@
 //! Lines of the road map and their shapes.
 ghost use Rattle.std.specs.Prelude.{◌≡◌, IsTrue};
 ghost use Rattle.std.specs.Bool.{OnTrue};
-ghost use Rattle.olr_spec.specs.Map.{is_good, are_coords, rises_between};
+ghost use Rattle.olr_spec.specs.Map.{is_good, are_coords, ascends_between};
 
 use crate::ids::NodeId;
 use olr_coords::Coord;
@@ -61,12 +61,19 @@ impl Model for Line {
 
     ghost coded = { coded_line };
 
-    ghost view = { λ l. record { from = l.from; to = l.to; frc = l.frc; fow = l.fow; len = l.len; shape = l.shape.items } };
+    ghost view = { λ l. record {
+      from = l.from;
+      to = l.to;
+      frc = l.frc;
+      fow = l.fow;
+      len = l.len;
+      shape = l.shape.items;
+    } };
 }
 
 impl Line {
-    /// Whether both classes are at most 7, the length is 1 to 1,000,000 dm, and there are at most 1,000 shape points, whose
-    /// distances are strictly increasing and strictly between 0 and the length.
+    /// Whether both classes are at most 7, the length is 1 to 1,000,000 dm, and there are at most 1,000 shape points,
+    /// whose distances are strictly increasing and strictly between 0 and the length.
     pub fn is_good(&self) -> bool
         ensures good { result ≡ is_good self.now }
         ensures placed { OnTrue result (IsTrue (are_coords self.now.shape)) }
@@ -86,12 +93,12 @@ pub fn has_good_fields(frc: u8, fow: u8, len: u32, shape: &[Shape]) -> bool
         && len >= 1
         && len <= GREATEST_LEN
         && shape.len() <= MOST_SHAPE_POINTS
-        && is_rising(shape, len)
+        && is_ascending(shape, len)
 }
 
 /// Whether the distances are strictly increasing and strictly between 0 and `len`.
-fn is_rising(shape: &[Shape], len: u32) -> bool
-    ensures rises { result ≡ rises_between 0 shape.now len }
+fn is_ascending(shape: &[Shape], len: u32) -> bool
+    ensures ascends { result ≡ ascends_between 0 shape.now len }
     ensures placed { OnTrue result (IsTrue (are_coords shape.now)) }
 {
     let mut low = 0;

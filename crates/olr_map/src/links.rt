@@ -4,8 +4,8 @@ ghost use Rattle.std.specs.Prelude.{IsFalse};
 ghost use Rattle.std.specs.List.Sorted.{IsStrictlyIncreasing};
 ghost use Rattle.olr_spec.specs.Map.{has};
 
-use crate::few::{FEW, Few};
 use crate::ids::LineId;
+use crate::inline::{INLINE, Inline};
 use crate::read::LineEnd;
 use std::alloc::{AllocError, Global};
 
@@ -13,30 +13,30 @@ use std::alloc::{AllocError, Global};
 #[derive(Drop, Debug)]
 pub enum Links {
     /// At most four lines, in the value itself.
-    Few(Few),
+    Inline(Inline),
     /// A list that needs, or needed, capacity for more than four lines.
-    Many(Box<Many>),
+    Spilled(Box<Spilled>),
 }
 
 /// The memory of an empty list of lines.
 #[derive(Drop, Debug)]
-pub enum Spare {
+pub enum EmptyLinks {
     /// No memory of its own.
-    Few,
+    Inline,
     /// The empty vectors.
-    Many(Box<Many>),
+    Spilled(Box<Spilled>),
 }
 
 /// The numbers of lines, and the far end of each, in vectors.
 #[derive(Drop, Debug)]
-pub struct Many {
+pub struct Spilled {
     pub lines: Vec<LineId>,
     pub ends: Vec<LineEnd>,
     ghost beside: { length ends.items ≡ length lines.items },
 }
 
 impl Links {
-    ghost use Rattle.olr_map.specs.Linked.{lines_on, ends_on, spare_links, lines_kept, places_kept, IsReset};
+    ghost use Rattle.olr_map.specs.Linked.{lines_on, ends_on, spare_links, lines_kept, spare_kept, IsReset};
 
     /// No lines. Does not allocate.
     pub fn new() -> Links
@@ -44,29 +44,29 @@ impl Links {
         ensures ends { ends_on result ≡ [] }
         ensures room { spare_links result ≡ 4 }
     {
-        Links::Few(Few::new())
+        Links::Inline(Inline::new())
     }
 
     /// The empty list in this memory.
-    pub fn in_spare(spare: Spare) -> Links
+    pub fn in_empty(spare: EmptyLinks) -> Links
         ensures lines { lines_on result ≡ lines_kept spare }
-        ensures room { spare_links result ≡ places_kept spare }
+        ensures room { spare_links result ≡ spare_kept spare }
     {
         match spare {
-            Spare::Few => Links::new(),
-            Spare::Many(many) => Links::Many(many),
+            EmptyLinks::Inline => Links::new(),
+            EmptyLinks::Spilled(spilled) => Links::Spilled(spilled),
         }
     }
 
     /// The memory of an empty list.
-    pub fn into_spare(self) -> Spare
+    pub fn into_empty(self) -> EmptyLinks
         requires { lines_on self ≡ [] }
         ensures lines { lines_kept result ≡ [] }
-        ensures room { places_kept result ≡ spare_links self }
+        ensures room { spare_kept result ≡ spare_links self }
     {
         match self {
-            Links::Few(_) => Spare::Few,
-            Links::Many(many) => Spare::Many(many),
+            Links::Inline(_) => EmptyLinks::Inline,
+            Links::Spilled(spilled) => EmptyLinks::Spilled(spilled),
         }
     }
 
@@ -75,8 +75,8 @@ impl Links {
         ensures { result.now ≡ lines_on self.now }
     {
         match self {
-            Links::Few(few) => few.lines(),
-            Links::Many(many) => many.lines.as_slice(),
+            Links::Inline(inline) => inline.lines(),
+            Links::Spilled(spilled) => spilled.lines.as_slice(),
         }
     }
 
@@ -85,8 +85,8 @@ impl Links {
         ensures { result.now ≡ ends_on self.now }
     {
         match self {
-            Links::Few(few) => few.ends(),
-            Links::Many(many) => many.ends.as_slice(),
+            Links::Inline(inline) => inline.ends(),
+            Links::Spilled(spilled) => spilled.ends.as_slice(),
         }
     }
 
@@ -98,27 +98,27 @@ impl Links {
         ensures room { OnOk result (0 < spare_links self.new) }
     {
         match self {
-            Links::Few(few) => {
-                if few.lines().len() < FEW {
+            Links::Inline(inline) => {
+                if inline.lines().len() < INLINE {
                     return Ok(());
                 }
-                let many = Many::with_room(alloc, few)?;
-                *self = Links::Many(Box::new(alloc, many)?);
+                let spilled = Spilled::with_room(alloc, inline)?;
+                *self = Links::Spilled(Box::new(alloc, spilled)?);
                 Ok(())
             }
-            Links::Many(many) => {
-                many.lines.reserve(1)?;
-                many.ends.reserve(1)
+            Links::Spilled(spilled) => {
+                spilled.lines.reserve(1)?;
+                spilled.ends.reserve(1)
             }
         }
     }
 
     /// Inserts a line that is not in the list. Capacity for it is reserved.
     pub fn link(&mut self, id: LineId, end: LineEnd)
-        requires rising { IsStrictlyIncreasing (lines_on self.old) }
+        requires ascending { IsStrictlyIncreasing (lines_on self.old) }
         requires absent { IsFalse (has (lines_on self.old) id) }
         requires room { 0 < spare_links self.old }
-        ensures rising { IsStrictlyIncreasing (lines_on self.new) }
+        ensures ascending { IsStrictlyIncreasing (lines_on self.new) }
         ensures put { (i : ℕ) × (i ≤ length (lines_on self.old))
             × (lines_on self.new ≡ insert (lines_on self.old) i id)
             × (ends_on self.new ≡ insert (ends_on self.old) i end) }
@@ -132,9 +132,9 @@ impl Links {
 
     /// Removes a line that is in the list. Its capacity remains.
     pub fn unlink(&mut self, id: LineId)
-        requires rising { IsStrictlyIncreasing (lines_on self.old) }
+        requires ascending { IsStrictlyIncreasing (lines_on self.old) }
         requires there { IsTrue (has (lines_on self.old) id) }
-        ensures rising { IsStrictlyIncreasing (lines_on self.new) }
+        ensures ascending { IsStrictlyIncreasing (lines_on self.new) }
         ensures taken { (i : ℕ) × (i < length (lines_on self.old))
             × (slice_index (lines_on self.old) i ≡ id)
             × (lines_on self.new ≡ remove (lines_on self.old) i)
@@ -149,7 +149,7 @@ impl Links {
 
     /// Sets another far end for a line that is in the list.
     pub fn set_end(&mut self, id: LineId, end: LineEnd)
-        requires rising { IsStrictlyIncreasing (lines_on self.old) }
+        requires ascending { IsStrictlyIncreasing (lines_on self.old) }
         requires there { IsTrue (has (lines_on self.old) id) }
         ensures { IsReset self.old self.new id end }
     {
@@ -168,8 +168,8 @@ impl Links {
         ensures room { spare_links self.new + 1 ≡ spare_links self.old }
     {
         match self {
-            Links::Few(few) => few.insert(at, id, end),
-            Links::Many(many) => many.insert(at, id, end),
+            Links::Inline(inline) => inline.insert(at, id, end),
+            Links::Spilled(spilled) => spilled.insert(at, id, end),
         }
     }
 
@@ -181,8 +181,8 @@ impl Links {
         ensures room { spare_links self.new ≡ spare_links self.old + 1 }
     {
         match self {
-            Links::Few(few) => few.remove(at),
-            Links::Many(many) => many.remove(at),
+            Links::Inline(inline) => inline.remove(at),
+            Links::Spilled(spilled) => spilled.remove(at),
         }
     }
 
@@ -194,29 +194,29 @@ impl Links {
         ensures room { spare_links self.new ≡ spare_links self.old }
     {
         match self {
-            Links::Few(few) => few.set_end(at, end),
-            Links::Many(many) => {
-                many.ends[at] = end;
+            Links::Inline(inline) => inline.set_end(at, end),
+            Links::Spilled(spilled) => {
+                spilled.ends[at] = end;
             }
         }
     }
 }
 
-impl Many {
+impl Spilled {
     ghost use Rattle.std.specs.Prelude.{IfOk, take};
     ghost use Rattle.olr_map.specs.Linked.{spare_in};
 
     /// These lines, with capacity for as many again.
-    fn with_room(alloc: Global, few: &Few) -> Result<Many, AllocError>
-        ensures lines { IfOk result (λ m. m.lines.items ≡ take few.now.count few.now.lines) }
-        ensures ends { IfOk result (λ m. m.ends.items ≡ take few.now.count few.now.ends) }
+    fn with_room(alloc: Global, inline: &Inline) -> Result<Spilled, AllocError>
+        ensures lines { IfOk result (λ m. m.lines.items ≡ take inline.now.count inline.now.lines) }
+        ensures ends { IfOk result (λ m. m.ends.items ≡ take inline.now.count inline.now.ends) }
         ensures room { IfOk result (λ m. 0 < spare_in m) }
     {
-        let mut lines = Vec::with_capacity(alloc, 2 * FEW)?;
-        let mut ends = Vec::with_capacity(alloc, 2 * FEW)?;
-        lines.extend_from_slice(few.lines())?;
-        ends.extend_from_slice(few.ends())?;
-        Ok(Many { lines, ends })
+        let mut lines = Vec::with_capacity(alloc, 2 * INLINE)?;
+        let mut ends = Vec::with_capacity(alloc, 2 * INLINE)?;
+        lines.extend_from_slice(inline.lines())?;
+        ends.extend_from_slice(inline.ends())?;
+        Ok(Spilled { lines, ends })
     }
 
     /// Inserts a line at this position. Capacity for it is reserved.

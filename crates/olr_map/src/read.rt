@@ -3,7 +3,7 @@ ghost use Rattle.std.specs.Prelude.{◌≡◌, ◌+◌, ◌*◌, ◌<◌, ◌^�
 ghost use Rattle.std.specs.Option.{option_copied};
 ghost use Rattle.std.specs.FinMap.{get};
 ghost use Rattle.olr_spec.specs.Map.{Map, IsMap, has_node, lines_in, lines_out};
-ghost use Rattle.olr_map.specs.Ends.{ends_in, ends_out, ArePlaces};
+ghost use Rattle.olr_map.specs.Ends.{ends_in, ends_out, HaveSlotsApart};
 
 use crate::ids::{LineId, NodeId};
 use crate::line::Line;
@@ -14,8 +14,8 @@ use olr_coords::Coord;
 pub struct LineEnd {
     /// The node at the line's other end.
     pub node: NodeId,
-    /// The slot of that node in the map, see `MapRead::place_of`.
-    pub place: u32,
+    /// The slot of that node in the map, see `MapRead::slot_of`.
+    pub slot: u32,
     /// The line's length, in decimetres.
     pub len: u32,
 }
@@ -26,7 +26,7 @@ pub trait MapRead {
     ghost map: { Self → Map };
 
     /// The slot of each node of the map.
-    ghost place_in: { Self → ℕ → ℕ };
+    ghost node_slot: { Self → ℕ → ℕ };
 
     /// The number of slots, free ones included.
     ghost count: { Self → ℕ };
@@ -50,43 +50,44 @@ pub trait MapRead {
     /// For each line of `out_lines`, in that order: the node where it ends, that node's slot, and the line's length in
     /// decimetres.
     fn out_ends(&self, id: NodeId) -> &[LineEnd]
-        ensures { result.now ≡ ends_out (map self.now) (place_in self.now) id };
+        ensures { result.now ≡ ends_out (map self.now) (node_slot self.now) id };
 
     /// For each line of `in_lines`, in that order: the node where it begins, that node's slot, and the line's length in
     /// decimetres.
     fn in_ends(&self, id: NodeId) -> &[LineEnd]
-        ensures { result.now ≡ ends_in (map self.now) (place_in self.now) id };
+        ensures { result.now ≡ ends_in (map self.now) (node_slot self.now) id };
 
     /// The number of slots. Each node's slot is less than it.
-    fn place_count(&self) -> usize
+    fn slot_count(&self) -> usize
         ensures { result ≡ count self.now };
 
-    /// The node's slot in the map, from 0, by which a table beside the map can be indexed. An edit may change it. None if
+    /// The node's slot in the map, from 0, by which a table beside the map can be indexed. An edit may change it. None
+    /// if
     /// the node is not on the map.
-    fn place_of(&self, id: NodeId) -> Option<u32>
-        ensures { SomeIff result (IsTrue (has_node (map self.now) id)) (place_in self.now id) };
+    fn slot_of(&self, id: NodeId) -> Option<u32>
+        ensures { SomeIff result (IsTrue (has_node (map self.now) id)) (node_slot self.now id) };
 
     /// `in_lines` of the node in this slot, without a lookup by its number.
-    fn in_lines_at(&self, place: u32) -> &[LineId]
-        requires { (v : ℕ) × IsTrue (has_node (map self.now) v) × (place_in self.now v ≡ place) }
-        ensures { (v : ℕ) → IsTrue (has_node (map self.now) v) → place_in self.now v ≡ place
+    fn in_lines_at(&self, slot: u32) -> &[LineId]
+        requires { (v : ℕ) × IsTrue (has_node (map self.now) v) × (node_slot self.now v ≡ slot) }
+        ensures { (v : ℕ) → IsTrue (has_node (map self.now) v) → node_slot self.now v ≡ slot
             → result.now ≡ lines_in (map self.now) v };
 
     /// `out_ends` of the node in this slot, without a lookup by its number.
-    fn out_ends_at(&self, place: u32) -> &[LineEnd]
-        requires { (v : ℕ) × IsTrue (has_node (map self.now) v) × (place_in self.now v ≡ place) }
-        ensures { (v : ℕ) → IsTrue (has_node (map self.now) v) → place_in self.now v ≡ place
-            → result.now ≡ ends_out (map self.now) (place_in self.now) v };
+    fn out_ends_at(&self, slot: u32) -> &[LineEnd]
+        requires { (v : ℕ) × IsTrue (has_node (map self.now) v) × (node_slot self.now v ≡ slot) }
+        ensures { (v : ℕ) → IsTrue (has_node (map self.now) v) → node_slot self.now v ≡ slot
+            → result.now ≡ ends_out (map self.now) (node_slot self.now) v };
 
     /// `in_ends` of the node in this slot, without a lookup by its number.
-    fn in_ends_at(&self, place: u32) -> &[LineEnd]
-        requires { (v : ℕ) × IsTrue (has_node (map self.now) v) × (place_in self.now v ≡ place) }
-        ensures { (v : ℕ) → IsTrue (has_node (map self.now) v) → place_in self.now v ≡ place
-            → result.now ≡ ends_in (map self.now) (place_in self.now) v };
+    fn in_ends_at(&self, slot: u32) -> &[LineEnd]
+        requires { (v : ℕ) × IsTrue (has_node (map self.now) v) × (node_slot self.now v ≡ slot) }
+        ensures { (v : ℕ) → IsTrue (has_node (map self.now) v) → node_slot self.now v ≡ slot
+            → result.now ≡ ends_in (map self.now) (node_slot self.now) v };
 
     /// Every line is good, both its nodes are on the map, and every coordinate is in range.
     ghost sound: { (m : Self) → IsMap (map m) };
 
     /// No two nodes share a slot, and each slot is below the count, which is at most 2^32.
-    ghost placed: { (m : Self) → ArePlaces (map m) (place_in m) (count m) };
+    ghost placed: { (m : Self) → HaveSlotsApart (map m) (node_slot m) (count m) };
 }

@@ -1,7 +1,7 @@
 //! The road map: nodes and lines are found by hash.
 use crate::edit::{Edit, EditFault};
 use crate::ids::{LineId, NodeId};
-use crate::judging::Judged;
+use crate::judging::EditPlan;
 use crate::line::Line;
 use crate::read::{LineEnd, MapRead};
 use crate::tables::Tables;
@@ -22,7 +22,7 @@ impl MapRead for RoadMap {
 
     ghost map = { map_of };
 
-    ghost place_in = { slot_of };
+    ghost node_slot = { slot_of };
 
     ghost count = { λ m. length (node_slots m.tables.nodes) };
 
@@ -50,24 +50,24 @@ impl MapRead for RoadMap {
         self.tables.in_ends(id)
     }
 
-    fn place_count(&self) -> usize {
-        self.tables.place_count()
+    fn slot_count(&self) -> usize {
+        self.tables.slot_count()
     }
 
-    fn place_of(&self, id: NodeId) -> Option<u32> {
-        self.tables.place_of(id)
+    fn slot_of(&self, id: NodeId) -> Option<u32> {
+        self.tables.slot_of(id)
     }
 
-    fn in_lines_at(&self, place: u32) -> &[LineId] {
-        self.tables.in_lines_at(place)
+    fn in_lines_at(&self, slot: u32) -> &[LineId] {
+        self.tables.in_lines_at(slot)
     }
 
-    fn out_ends_at(&self, place: u32) -> &[LineEnd] {
-        self.tables.out_ends_at(place)
+    fn out_ends_at(&self, slot: u32) -> &[LineEnd] {
+        self.tables.out_ends_at(slot)
     }
 
-    fn in_ends_at(&self, place: u32) -> &[LineEnd] {
-        self.tables.in_ends_at(place)
+    fn in_ends_at(&self, slot: u32) -> &[LineEnd] {
+        self.tables.in_ends_at(slot)
     }
 
     ghost sound = { λ m. m.tables.kept.sound };
@@ -80,7 +80,7 @@ impl RoadMap {
     ghost use Rattle.olr_spec.specs.Map.{MapFault, empty_map, edited};
     ghost use Rattle.olr_map.specs.Edits.{edit_of, edit_fault_of, allocates};
     ghost use Rattle.olr_map.specs.Undos.{log_changes};
-    ghost use Rattle.olr_map.specs.Judgements.{IsJudged};
+    ghost use Rattle.olr_map.specs.EditPlans.{IsEditPlan};
     ghost use Rattle.olr_map.specs.RoadMaps.{map_of, slot_of, CanUndo, map_undone, CanUndoAll, map_before};
 
     /// A map without nodes and lines. Does not allocate.
@@ -109,15 +109,15 @@ impl RoadMap {
 
     /// Makes an edit that was judged on this map. An error leaves the map as it was, and is returned only for an edit
     /// that adds or removes a node or a line. What it returns must be spent by `undo` or by `keep`.
-    pub fn make(&mut self, edit: Edit, judged: &Judged) -> Result<Undo, AllocError>
-        requires { IsJudged (map_of self.old) (slot_of self.old) (edit_of edit) judged.now }
+    pub fn make(&mut self, edit: Edit, plan: &EditPlan) -> Result<Undo, AllocError>
+        requires { IsEditPlan (map_of self.old) (slot_of self.old) (edit_of edit) plan.now }
         ensures done { OnOk result (edited (map_of self.old) (edit_of edit) ≡ Ok (map_of self.new)) }
         ensures same { OnErr result (map_of self.new ≡ map_of self.old) }
         ensures can_undo { IfOk result (CanUndo self.new) }
         ensures before { IfOk result (λ undo. map_undone self.new undo ≡ map_of self.old) }
         ensures lacks { OnErr result (IsTrue (allocates (edit_of edit))) }
     {
-        self.tables.make(edit, judged)
+        self.tables.make(edit, plan)
     }
 
     /// Undoes an edit: the map is as it was before. Does not allocate.
@@ -135,7 +135,8 @@ impl RoadMap {
         let Undo { change: _ } = undo;
     }
 
-    /// Makes an edit, and appends its undo record to a log. The faults are those of `apply`; after a fault, map and log are
+    /// Makes an edit, and appends its undo record to a log. The faults are those of `apply`; after a fault, map and log
+    /// are
     /// unchanged.
     pub fn apply_into(&mut self, edit: Edit, log: &mut UndoLog) -> Result<(), EditFault>
         requires { CanUndoAll self.old log.old }
@@ -150,15 +151,16 @@ impl RoadMap {
         self.tables.apply_into(edit, log)
     }
 
-    /// Makes an edit that `judge` accepted on this map, and appends its undo record to a log. If an allocation fails, map
+    /// Makes an edit that `judge` accepted on this map, and appends its undo record to a log. If an allocation fails,
+    /// map
     /// and log are unchanged.
     pub fn make_into(
         &mut self,
         edit: Edit,
-        judged: &Judged,
+        plan: &EditPlan,
         log: &mut UndoLog,
     ) -> Result<(), AllocError>
-        requires judged { IsJudged (map_of self.old) (slot_of self.old) (edit_of edit) judged.now }
+        requires plan { IsEditPlan (map_of self.old) (slot_of self.old) (edit_of edit) plan.now }
         requires log { CanUndoAll self.old log.old }
         ensures done { OnOk result (edited (map_of self.old) (edit_of edit) ≡ Ok (map_of self.new)) }
         ensures same { OnErr result (map_of self.new ≡ map_of self.old) }
@@ -166,7 +168,7 @@ impl RoadMap {
         ensures can_undo { CanUndoAll self.new log.new }
         ensures before { map_before self.new log.new ≡ map_before self.old log.old }
     {
-        self.tables.make_into(edit, judged, log)
+        self.tables.make_into(edit, plan, log)
     }
 
     /// Undoes all edits of a log, the last one first: the map is as it was before the first. Does not allocate.

@@ -18,7 +18,7 @@ pub struct Slab<V> {
 }
 
 impl<V: Drop> Slab<V> {
-    ghost use Rattle.olr_map.specs.Slotted.{at, Comes, Goes, Turns};
+    ghost use Rattle.olr_map.specs.Slotted.{at, IsInserted, IsRemoved, IsReplaced};
     ghost use Rattle.olr_map.specs.Slabs.{slots_of, free_in, room_in, Fills};
 
     /// No slots. Does not allocate.
@@ -79,7 +79,7 @@ impl<V: Drop> Slab<V> {
     /// Stores a value in a free slot, and returns the slot.
     pub fn put(&mut self, entry: V) -> u32
         requires { 0 < room_in self.old }
-        ensures comes { Comes (slots_of self.old) (slots_of self.new) result entry }
+        ensures inserts { IsInserted (slots_of self.old) (slots_of self.new) result entry }
         ensures fills { Fills self.old self.new result }
         ensures room { room_in self.old ≤ room_in self.new + 1 }
     {
@@ -99,7 +99,7 @@ impl<V: Drop> Slab<V> {
     /// Replaces the value in a slot, and returns the previous one.
     pub fn replace(&mut self, slot: u32, entry: V) -> V
         requires { IsSome (at (slots_of self.old) slot) }
-        ensures turns { Turns (slots_of self.old) (slots_of self.new) slot result entry }
+        ensures turns { IsReplaced (slots_of self.old) (slots_of self.new) slot result entry }
         ensures count { length (slots_of self.new) ≡ length (slots_of self.old) }
         ensures free { free_in self.new ≡ free_in self.old }
         ensures room { room_in self.new ≡ room_in self.old }
@@ -113,7 +113,7 @@ impl<V: Drop> Slab<V> {
     /// Removes the value in a slot, and returns it. The slot is then free.
     pub fn take(&mut self, slot: u32) -> V
         requires { IsSome (at (slots_of self.old) slot) }
-        ensures goes { Goes (slots_of self.old) (slots_of self.new) slot result }
+        ensures removes { IsRemoved (slots_of self.old) (slots_of self.new) slot result }
         ensures count { length (slots_of self.new) ≡ length (slots_of self.old) }
         ensures free { free_in self.new ≡ free_in self.old + 1 }
         ensures room { room_in self.old + 1 ≤ room_in self.new }

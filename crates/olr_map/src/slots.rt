@@ -47,7 +47,7 @@ pub struct NodeSlots {
 }
 
 impl NodeSlots {
-    ghost use Rattle.olr_map.specs.Slotted.{at, Comes, Goes, Turns};
+    ghost use Rattle.olr_map.specs.Slotted.{at, IsInserted, IsRemoved, IsReplaced};
     ghost use Rattle.olr_map.specs.Columns.{node_slots, node_room};
     ghost use Rattle.olr_map.specs.NodeLinks.{links_at, with_links};
     ghost use Rattle.olr_map.specs.Linked.{lines_on, ends_on, spare_links, IsLinked, IsUnlinked, IsReset};
@@ -112,7 +112,7 @@ impl NodeSlots {
     /// Stores a node in a free slot, and returns the slot.
     pub fn put(&mut self, entry: NodeEntry) -> u32
         requires { 0 < node_room self.old }
-        ensures comes { Comes (node_slots self.old) (node_slots self.new) result entry }
+        ensures inserts { IsInserted (node_slots self.old) (node_slots self.new) result entry }
         ensures room { node_room self.old ≤ node_room self.new + 1 }
     {
         let NodeEntry {
@@ -130,7 +130,7 @@ impl NodeSlots {
     /// Removes the node in a slot, with its lines. The slot is then free.
     pub fn take(&mut self, slot: u32) -> NodeEntry
         requires { IsSome (at (node_slots self.old) slot) }
-        ensures goes { Goes (node_slots self.old) (node_slots self.new) slot result }
+        ensures removes { IsRemoved (node_slots self.old) (node_slots self.new) slot result }
         ensures room { node_room self.old + 1 ≤ node_room self.new }
     {
         let NodeHead { id, place } = self.heads.take(slot);
@@ -148,7 +148,7 @@ impl NodeSlots {
     pub fn move_node(&mut self, slot: u32, place: Coord) -> Coord
         requires { IsSome (at (node_slots self.old) slot) }
         ensures turns { (e : Entry) × (e.place ≡ result)
-            × Turns (node_slots self.old) (node_slots self.new) slot e
+            × IsReplaced (node_slots self.old) (node_slots self.new) slot e
             (record { id = e.id; place = place; outs = e.outs; ins = e.ins }) }
         ensures room { node_room self.new ≡ node_room self.old }
     {
@@ -160,7 +160,7 @@ impl NodeSlots {
     pub fn reserve_link(&mut self, side: Side, slot: u32) -> Result<(), AllocError>
         requires { IsSome (at (node_slots self.old) slot) }
         ensures turns { (e : Entry) × (l : AllLinks)
-            × Turns (node_slots self.old) (node_slots self.new) slot e (with_links side e l)
+            × IsReplaced (node_slots self.old) (node_slots self.new) slot e (with_links side e l)
             × (lines_on l ≡ lines_on (links_at side e)) × (ends_on l ≡ ends_on (links_at side e))
             × (spare_links (links_at side e) ≤ spare_links l) × OnOk result (0 < spare_links l) }
         ensures room { node_room self.new ≡ node_room self.old }
@@ -179,7 +179,7 @@ impl NodeSlots {
             × IsFalse (has (lines_on (links_at side e)) id)
             × (0 < spare_links (links_at side e)) }
         ensures turns { (e : Entry) × (l : AllLinks)
-            × Turns (node_slots self.old) (node_slots self.new) slot e (with_links side e l)
+            × IsReplaced (node_slots self.old) (node_slots self.new) slot e (with_links side e l)
             × IsLinked (links_at side e) l id end }
         ensures room { node_room self.new ≡ node_room self.old }
     {
@@ -195,7 +195,7 @@ impl NodeSlots {
             × IsStrictlyIncreasing (lines_on (links_at side e))
             × IsTrue (has (lines_on (links_at side e)) id) }
         ensures turns { (e : Entry) × (l : AllLinks)
-            × Turns (node_slots self.old) (node_slots self.new) slot e (with_links side e l)
+            × IsReplaced (node_slots self.old) (node_slots self.new) slot e (with_links side e l)
             × IsUnlinked (links_at side e) l id }
         ensures room { node_room self.new ≡ node_room self.old }
     {
@@ -211,7 +211,7 @@ impl NodeSlots {
             × IsStrictlyIncreasing (lines_on (links_at side e))
             × IsTrue (has (lines_on (links_at side e)) id) }
         ensures turns { (e : Entry) × (l : AllLinks)
-            × Turns (node_slots self.old) (node_slots self.new) slot e (with_links side e l)
+            × IsReplaced (node_slots self.old) (node_slots self.new) slot e (with_links side e l)
             × IsReset (links_at side e) l id end }
         ensures room { node_room self.new ≡ node_room self.old }
     {

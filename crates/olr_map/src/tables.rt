@@ -1,16 +1,16 @@
 //! The nodes and the lines of a map: slots by node number, the nodes' entries by slot, and the lines by number.
 ghost use Rattle.std.specs.Prelude.{◌≡◌};
-ghost use Rattle.olr_map.specs.Numbering.{all_held};
+ghost use Rattle.olr_map.specs.SlotMaps.{all_held};
 ghost use Rattle.olr_map.specs.Columns.{node_slots};
-ghost use Rattle.olr_map.specs.Kept.{IsKept, IsKept-prop};
+ghost use Rattle.olr_map.specs.Tables.{AreTables, AreTables-prop};
 
 use crate::blocks::Blocks;
-use crate::change::Change;
+use crate::change::TableChange;
 use crate::ids::{LineId, NodeId};
 use crate::line::Line;
-use crate::links::{Links, Spare};
-use crate::numbered::Numbered;
+use crate::links::{EmptyLinks, Links};
 use crate::read::{LineEnd, MapRead};
+use crate::slot_map::SlotMap;
 use crate::slots::{NodeEntry, NodeSlots, Side};
 use olr_coords::Coord;
 use std::alloc::{AllocError, Global};
@@ -20,18 +20,18 @@ use std::alloc::{AllocError, Global};
 pub struct Tables {
     pub index: Blocks,
     pub nodes: NodeSlots,
-    pub lines: Numbered<Line>,
-    pub ghost kept: { IsKept index (node_slots nodes) (all_held lines) } by { IsKept-prop index (node_slots nodes) (all_held lines) },
+    pub lines: SlotMap<Line>,
+    pub ghost kept: { AreTables index (node_slots nodes) (all_held lines) } by { AreTables-prop index (node_slots nodes) (all_held lines) },
 }
 
 impl MapRead for Tables {
     ghost use Rattle.std.specs.Prelude.{length};
     ghost use Rattle.olr_map.specs.Changes.{tables_map};
-    ghost use Rattle.olr_map.specs.Kept.{place_in as slot_in};
+    ghost use Rattle.olr_map.specs.Tables.{node_slot as slot_in};
 
     ghost map = { tables_map };
 
-    ghost place_in = { λ t. slot_in t.index };
+    ghost node_slot = { λ t. slot_in t.index };
 
     ghost count = { λ t. length (node_slots t.nodes) };
 
@@ -74,24 +74,24 @@ impl MapRead for Tables {
         }
     }
 
-    fn place_count(&self) -> usize {
+    fn slot_count(&self) -> usize {
         self.nodes.count()
     }
 
-    fn place_of(&self, id: NodeId) -> Option<u32> {
+    fn slot_of(&self, id: NodeId) -> Option<u32> {
         self.index.get(id.number())
     }
 
-    fn in_lines_at(&self, place: u32) -> &[LineId] {
-        self.nodes.ins(place).lines()
+    fn in_lines_at(&self, slot: u32) -> &[LineId] {
+        self.nodes.ins(slot).lines()
     }
 
-    fn out_ends_at(&self, place: u32) -> &[LineEnd] {
-        self.nodes.outs(place).ends()
+    fn out_ends_at(&self, slot: u32) -> &[LineEnd] {
+        self.nodes.outs(slot).ends()
     }
 
-    fn in_ends_at(&self, place: u32) -> &[LineEnd] {
-        self.nodes.ins(place).ends()
+    fn in_ends_at(&self, slot: u32) -> &[LineEnd] {
+        self.nodes.ins(slot).ends()
     }
 
     ghost sound = { λ t. t.kept.sound };
@@ -102,12 +102,13 @@ impl MapRead for Tables {
 impl Tables {
     ghost use Rattle.std.specs.Prelude.{◌+◌, ◌<◌, ◌≤◌, ℕ, OnOk, IsTrue, Some};
     ghost use Rattle.olr_spec.specs.Map.{empty_map, has_node, has_line, start, end};
-    ghost use Rattle.olr_map.specs.ByNumbers.{slot_by, spare_of};
-    ghost use Rattle.olr_map.specs.Numbering.{spare_numbers};
+    ghost use Rattle.olr_map.specs.SlotIndexes.{slot_by, spare_of};
+    ghost use Rattle.olr_map.specs.SlotMaps.{spare_numbers};
     ghost use Rattle.olr_map.specs.Changes.{tables_map, room_of, spare_at, node_puts, line_puts, IsRoomWithin};
     ghost use Rattle.olr_map.specs.Changes.{HasNumbers, CanMake, IsChangeMade};
-    ghost use Rattle.olr_map.specs.declared.change.Change.TheVariants.{PutNode, MoveNode, TakeNode, PutLine, SetLine};
-    ghost use Rattle.olr_map.specs.declared.change.Change.TheVariants.{TakeLine};
+    ghost use Rattle.olr_map.specs.declared.change.TableChange.TheVariants.{PutNode, MoveNode, TakeNode, PutLine};
+    ghost use Rattle.olr_map.specs.declared.change.TableChange.TheVariants.{SetLine};
+    ghost use Rattle.olr_map.specs.declared.change.TableChange.TheVariants.{TakeLine};
 
     /// No nodes and no lines. Does not allocate.
     pub fn new(alloc: Global) -> Tables
@@ -116,7 +117,7 @@ impl Tables {
         Tables {
             index: Blocks::new(alloc),
             nodes: NodeSlots::new(alloc),
-            lines: Numbered::new(alloc),
+            lines: SlotMap::new(alloc),
         }
     }
 
@@ -199,13 +200,13 @@ impl Tables {
     }
 
     /// Inserts a node without lines, with the memory for its lines.
-    pub fn put_node(&mut self, id: NodeId, place: Coord, outs: Spare, ins: Spare)
+    pub fn put_node(&mut self, id: NodeId, place: Coord, outs: EmptyLinks, ins: EmptyLinks)
         requires can { CanMake (tables_map self.old) (room_of self.old) (PutNode id place outs ins) }
         requires numbers { HasNumbers self.old 1 0 }
         ensures { IsChangeMade self.old self.new (PutNode id place outs ins) (TakeNode id) }
     {
-        let outs = Links::in_spare(outs);
-        let ins = Links::in_spare(ins);
+        let outs = Links::in_empty(outs);
+        let ins = Links::in_empty(ins);
         let slot = self.nodes.put(NodeEntry {
             id,
             place,
@@ -216,7 +217,7 @@ impl Tables {
     }
 
     /// Removes a node, and returns the change that puts it back.
-    pub fn take_node(&mut self, id: NodeId) -> Change
+    pub fn take_node(&mut self, id: NodeId) -> TableChange
         requires { CanMake (tables_map self.old) (room_of self.old) (TakeNode id) }
         ensures made { IsChangeMade self.old self.new (TakeNode id) result }
         ensures nodes { node_puts result ≡ 1 }
@@ -230,9 +231,9 @@ impl Tables {
             outs,
             ins,
         } = entry;
-        let outs = outs.into_spare();
-        let ins = ins.into_spare();
-        Change::PutNode {
+        let outs = outs.into_empty();
+        let ins = ins.into_empty();
+        TableChange::PutNode {
             id,
             place,
             outs,
@@ -291,17 +292,17 @@ impl Tables {
 
 /// The start of a line between these slots, as seen from its end, and its end, as seen from its start.
 fn far_ends(line: &Line, from: u32, to: u32) -> (LineEnd, LineEnd)
-    ensures begins { result.0 ≡ record { node = line.now.from; place = from; len = line.now.len } }
-    ensures ends { result.1 ≡ record { node = line.now.to; place = to; len = line.now.len } }
+    ensures begins { result.0 ≡ record { node = line.now.from; slot = from; len = line.now.len } }
+    ensures ends { result.1 ≡ record { node = line.now.to; slot = to; len = line.now.len } }
 {
     let begins = LineEnd {
         node: line.from,
-        place: from,
+        slot: from,
         len: line.len,
     };
     let ends = LineEnd {
         node: line.to,
-        place: to,
+        slot: to,
         len: line.len,
     };
     (begins, ends)

@@ -2,20 +2,20 @@
 ghost use Rattle.std.specs.Prelude.{◌≡◌, ◌≤◌, reverse, vec_len};
 ghost use Rattle.olr_map.specs.Changes.{all_node_puts, all_line_puts};
 
-use crate::change::Change;
+use crate::change::TableChange;
 use std::alloc::{AllocError, Global};
 
 /// The undo record of one edit. It must be passed to `undo` or to `keep`.
 #[derive(Debug)]
 pub struct Undo {
-    pub(crate) change: Change,
+    pub(crate) change: TableChange,
 }
 
 /// The undo records of a list of edits, applied from the last one to the first. Only the log has what the edits removed
 /// from the map. If a log is dropped, this is freed, and the map stays as it is.
 #[derive(Drop, Debug)]
 pub struct UndoLog {
-    pub(crate) changes: Vec<Change>,
+    pub(crate) changes: Vec<TableChange>,
     pub(crate) nodes: usize,
     pub(crate) lines: usize,
     ghost nodes_counted: { nodes ≡ all_node_puts (reverse changes.items) },
@@ -52,15 +52,15 @@ impl UndoLog {
     }
 
     /// Appends the change that undoes one more edit. Capacity for it is reserved.
-    pub(crate) fn push(&mut self, change: Change)
+    pub(crate) fn push(&mut self, change: TableChange)
         requires { vec_len self.old.changes < vec_capacity self.old.changes }
         ensures more { log_changes self.new ≡ change ∷ log_changes self.old }
         ensures nodes { self.new.nodes ≡ node_puts change + self.old.nodes }
         ensures lines { self.new.lines ≡ line_puts change + self.old.lines }
     {
         let (nodes, lines) = match &change {
-            Change::PutNode { .. } => (1, 0),
-            Change::PutLine(..) => (0, 1),
+            TableChange::PutNode { .. } => (1, 0),
+            TableChange::PutLine(..) => (0, 1),
             _ => (0, 0),
         };
         match self.changes.push(change) {

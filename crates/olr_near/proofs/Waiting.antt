@@ -5,10 +5,10 @@ use Rattle.std.specs.List.Sorted.{IsPermutation}
 use Rattle.std.proofs.lemmas.List.Sorted.{Contains-permutation}
 use Rattle.std.proofs.lemmas.List.Elements.{Contains-append_cases, Contains-append_right}
 use Rattle.olr_spec.specs.Map.{Map, has_line, start, lines_out}
-use Rattle.olr_spec.proofs.ListLemmas.{stands_at, Contains-one}
+use Rattle.olr_spec.proofs.ListLemmas.{at_index, Contains-one}
 use Rattle.olr_spec.proofs.OrderLemmas.{exactly_out}
 use Rattle.olr_spec.proofs.AgreeLemmas.{known_record}
-use Rattle.olr_near.specs.Numbers.{Waits}
+use Rattle.olr_near.specs.Bounds.{Waits}
 
 -- ---- the heap
 
@@ -38,4 +38,4 @@ pushed_there xs ys x p = Contains-permutation (x ∷ xs) ys x p (0, omega arith,
 -- each line that leaves a node is in its list
 pub line_there : (M : Map) (v x : ℕ) → IsTrue (has_line M x) → start M x ≡ v → (i : ℕ) × (i < length (lines_out M v))
     × (get_or (lines_out M v) i 0 ≡ x)
-line_there M v x h from = stands_at (lines_out M v) x ((exactly_out M v x).1 (_, (known_record M x h, from)))
+line_there M v x h from = at_index (lines_out M v) x ((exactly_out M v x).1 (_, (known_record M x h, from)))

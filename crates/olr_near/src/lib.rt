@@ -2,6 +2,6 @@
 //! on, and show without a search that none reaches the edit.
 #![tactic(auto)]
 
-pub mod nearness;
+pub mod distance_bounds;
 
-pub use nearness::Nearness;
+pub use distance_bounds::DistanceBounds;

@@ -4,18 +4,18 @@ use Rattle.olr_spec.specs.Map.{Map}
 use Rattle.olr_spec.specs.Extension.{limit}
 use Rattle.olr_route.specs.Bounds.{AreBounds, IsUnder}
 use Rattle.olr_route.specs.declared.distances.Direction.TheVariants.{Against}
-use Rattle.olr_near.specs.Numbers.{IsRight, IsSource, number_of}
-use Rattle.olr_near.specs.declared.nearness.Nearness.{Nearness}
+use Rattle.olr_near.specs.Bounds.{IsRight, IsSource, bound_of}
+use Rattle.olr_near.specs.declared.distance_bounds.DistanceBounds.{DistanceBounds}
 
 -- right numbers are bounds
-pub numbers_bound : (M : Map) (f : Nearness) → IsTrue f.known → IsRight M f → AreBounds M Against (number_of f)
-numbers_bound M f known right x b line at short =
+pub are_bounds : (M : Map) (f : DistanceBounds) → IsTrue f.known → IsRight M f → AreBounds M Against (bound_of f)
+are_bounds M f known right x b line at short =
     let k = right known _ b at x line refl short in
     (k.number, k.at, k.low)
 
 -- and no source is beyond them
-pub source_under : (f : Nearness) (v w d : ℕ) → IsTrue f.known → IsSource f v w → d ≤ min w limit →
-    IsUnder (number_of f) v d
+pub source_under : (f : DistanceBounds) (v w d : ℕ) → IsTrue f.known → IsSource f v w → d ≤ min w limit →
+    IsUnder (bound_of f) v d
 source_under f v w d known source le =
     let k = source known in
     let low = k.low in

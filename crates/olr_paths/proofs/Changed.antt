@@ -21,7 +21,7 @@ use Rattle.std.specs.declared.rc.Rc.{Rc}
 use Rattle.olr_commands.proofs.NameLemmas.{same_is}
 use Rattle.olr_paths.specs.Laying.{changes_in, path_in}
 use Rattle.olr_paths.proofs.NamedEntries.{Entries, item_of, items_of, asks, same_flip}
-use Rattle.olr_paths.proofs.Marking.{First}
+use Rattle.olr_paths.proofs.PathIdLemmas.{First}
 use Rattle.olr_paths.proofs.Overlaying.{Entered, has_name}
 
 -- ---- one path
@@ -89,15 +89,15 @@ module _ (cs : Changes) (is ys : List Item) (keeps : TakesNone cs) where
   pub parts : whole ≡ map (changed_by cs) is ++ ys
   parts = ap (λ (js : List Item). js ++ ys) (all_changed cs is keeps)
 
-  pub laid_at : (k : ℕ) (i : Item) → slice_get is k ≡ Some i → slice_get whole k ≡ Some (changed_by cs i)
-  laid_at k i at = ap (λ (js : List Item). slice_get js k) parts ∙ map_at (changed_by cs) is ys k i at
+  pub overlaid_at : (k : ℕ) (i : Item) → slice_get is k ≡ Some i → slice_get whole k ≡ Some (changed_by cs i)
+  overlaid_at k i at = ap (λ (js : List Item). slice_get js k) parts ∙ map_at (changed_by cs) is ys k i at
 
-  pub laid_behind : (k m : ℕ) → k ≡ length is + m → slice_get whole k ≡ slice_get ys m
-  laid_behind k m e = ap (λ (js : List Item). slice_get js k) parts ∙ map_behind (changed_by cs) is ys k m e
+  pub overlaid_behind : (k m : ℕ) → k ≡ length is + m → slice_get whole k ≡ slice_get ys m
+  overlaid_behind k m e = ap (λ (js : List Item). slice_get js k) parts ∙ map_behind (changed_by cs) is ys k m e
 
   -- the path at a position was there and is unchanged, or replaces another, or is new
-  pub laid_from : (k : ℕ) (j : Item) → slice_get whole k ≡ Some j → Where (changed_by cs) is ys k j
-  laid_from k j at = map_from (changed_by cs) is ys k j (sym (ap (λ (js : List Item). slice_get js k) parts) ∙ at)
+  pub overlaid_from : (k : ℕ) (j : Item) → slice_get whole k ≡ Some j → Where (changed_by cs) is ys k j
+  overlaid_from k j at = map_from (changed_by cs) is ys k j (sym (ap (λ (js : List Item). slice_get js k) parts) ∙ at)
 
 -- ---- storing the new results in either list has the same outcome
 
@@ -115,8 +115,8 @@ map_lies cs [] ys = lies_itself ys
 map_lies cs (i ∷ is) ys =
     (changed_name (change_at cs i.name) i, changed_made (change_at cs i.name) i, map_lies cs is ys)
 
-pub laid_lies : (cs : Changes) (is ys : List Item) → TakesNone cs → Lies (is ++ ys) (under_changes cs is ++ ys)
-laid_lies cs is ys keeps =
+pub overlaid_lies : (cs : Changes) (is ys : List Item) → TakesNone cs → Lies (is ++ ys) (under_changes cs is ++ ys)
+overlaid_lies cs is ys keeps =
     subst (λ (js : List Item). Lies (is ++ ys) js) (sym (parts cs is ys keeps)) (map_lies cs is ys)
 
 put_lies : (us vs : List Item) (k : ℕ) (path : Path) (made : Option Made) → Lies us vs →
@@ -129,25 +129,27 @@ put_lies (a ∷ us) (b ∷ vs) (suc k) path made h = (h.0, h.1, put_lies us vs k
 
 all_put_lies : (us vs : List Item) (ps : List Put) → Lies us vs → Lies (all_put us ps) (all_put vs ps)
 all_put_lies us vs [] h = h
-all_put_lies us vs (p ∷ ps) h = put_lies (all_put us ps) (all_put vs ps) p.place p.path p.made (all_put_lies us vs ps h)
+all_put_lies us vs (p ∷ ps) h = put_lies (all_put us ps) (all_put vs ps) p.position p.path p.made
+    (all_put_lies us vs ps h)
 
 -- if each path is reported, none is a replacement that is not encoded yet
 lies_same : (before us vs : List Item) (es : List Entry) → Lies us vs → Reported before vs es → us ≡ vs
-lies_same before [] vs es h told = sym h
-lies_same before (a ∷ us) [] es h told = absurd h
-lies_same before (a ∷ us) (b ∷ vs) es h told = elim h.1 [
+lies_same before [] vs es h returned = sym h
+lies_same before (a ∷ us) [] es h returned = absurd h
+lies_same before (a ∷ us) (b ∷ vs) es h returned = elim h.1 [
   | inl none ↦
-      let gone : option_map (λ (m : Made). m.answer) b.made ≡ None = ap (option_map (λ (m : Made). m.answer)) none in
-      let never : ⊥ = cc (gone, told.2) in absurd never
-  | inr same ↦ (λ i. same i ∷ lies_same before us vs told.1 h.2 told.3 i)
+      let replaced : option_map (λ (m : Made). m.answer) b.made
+      ≡ None = ap (option_map (λ (m : Made). m.answer)) none in
+      let never : ⊥ = cc (replaced, returned.2) in absurd never
+  | inr same ↦ (λ i. same i ∷ lies_same before us vs returned.1 h.2 returned.3 i)
 ]
 
-pub put_on_laid : (cs : Changes) (before is ys : List Item) (ps : List Put) (es : List Entry) → TakesNone cs →
+pub put_on_overlaid : (cs : Changes) (before is ys : List Item) (ps : List Put) (es : List Entry) → TakesNone cs →
     Reported before (all_put (under_changes cs is ++ ys) ps) es →
     all_put (is ++ ys) ps ≡ all_put (under_changes cs is ++ ys) ps
-put_on_laid cs before is ys ps es keeps told =
+put_on_overlaid cs before is ys ps es keeps returned =
     lies_same before (all_put (is ++ ys) ps) (all_put (under_changes cs is ++ ys) ps) es
-    (all_put_lies (is ++ ys) (under_changes cs is ++ ys) ps (laid_lies cs is ys keeps)) told
+    (all_put_lies (is ++ ys) (under_changes cs is ++ ys) ps (overlaid_lies cs is ys keeps)) returned
 
 -- ---- names
 
@@ -173,7 +175,7 @@ lies_differ (a ∷ us) (b ∷ vs) h d =
 
 pub grown_differ : (cs : Changes) (is ys : List Item) → TakesNone cs →
     NamesDiffer (all_named (under_changes cs is ++ ys)) → NamesDiffer (all_named (is ++ ys))
-grown_differ cs is ys keeps d = lies_differ (is ++ ys) (under_changes cs is ++ ys) (laid_lies cs is ys keeps) d
+grown_differ cs is ys keeps d = lies_differ (is ++ ys) (under_changes cs is ++ ys) (overlaid_lies cs is ys keeps) d
 
 -- ---- which names have changes
 
@@ -245,9 +247,9 @@ pub first_only : (es : Entries) (name : List ℕ) (q k : ℕ) (i : Item) → Fir
 first_only [] name q k i h d at same = absurd h
 first_only (e ∷ es) name zero zero i h d at same = refl
 first_only (e ∷ es) name zero (suc k) i h d at same =
-    let own : same_name (string_bytes e.0) name ≡ true = same_flip (string_bytes e.0) name ∙ h in
+    let traversed : same_name (string_bytes e.0) name ≡ true = same_flip (string_bytes e.0) name ∙ h in
     let here : same_name i.name (string_bytes e.0) ≡ true =
-    ap (same_name i.name) (same_is (string_bytes e.0) name own) ∙ same in
+    ap (same_name i.name) (same_is (string_bytes e.0) name traversed) ∙ same in
     let on : has_name (items_of es) (string_bytes e.0) ≡ true =
     there_named (items_of es) k i (string_bytes e.0) at here in
     let never : true ≡ false = sym on ∙ d.0 in absurd cc

@@ -9,9 +9,9 @@ use Rattle.std.proofs.Math.Bool.{or-false}
 use Rattle.std.proofs.lemmas.List.Elements.{All-contains}
 use Rattle.std.proofs.lemmas.Option.{slice_get_within}
 use Rattle.olr_spec.specs.Map.{Map, IsMap, has}
-use Rattle.olr_spec.proofs.ListLemmas.{stands_at}
+use Rattle.olr_spec.proofs.ListLemmas.{at_index}
 use Rattle.olr_spec.specs.Detours.{ChangedLine}
-use Rattle.olr_index.specs.Marks.{holds, marks_of}
+use Rattle.olr_index.specs.PathIds.{holds, path_ids_of}
 use Rattle.olr_index.specs.declared.Index.{Index}
 use Rattle.olr_paths.specs.Items.{Item}
 use Rattle.olr_paths.specs.Changes.{Follows}
@@ -25,37 +25,37 @@ use Rattle.std.specs.declared.alloc.Global.{Global}
 use Rattle.std.specs.declared.rc.Rc.{Rc}
 use Rattle.std.proofs.lemmas.List.Sorted.{list_any-IsPermutation}
 use Rattle.olr_spec.specs.Map.{has_node}
-use Rattle.olr_spec.specs.Walks.{dm_of}
-use Rattle.olr_spec.specs.Looks.{Look}
+use Rattle.olr_spec.specs.Routes.{dm_of}
+use Rattle.olr_spec.specs.Queries.{CoverageQuery}
 use Rattle.olr_spec.specs.Extension.{limit}
 use Rattle.olr_route.specs.Bounds.{AreLengths, label_at}
 use Rattle.olr_route.specs.declared.distances.Direction.TheVariants.{Against}
 use Rattle.olr_paths.specs.Items.{Made, made_of}
-use Rattle.olr_paths.specs.Changes.{OwnTouched, LineTouched, LookTouched}
+use Rattle.olr_paths.specs.Changes.{TraversedTouched, LineTouched, QueryTouched}
 use Rattle.olr_paths.specs.Touching.{nodes_of, lines_of}
-use Rattle.olr_paths.specs.Searching.{sources, IsAsked, AreAsked, LacksLooks, LackLooks}
+use Rattle.olr_paths.specs.Searching.{sources, IsAsked, AreAsked, LacksQueries, LackQueries}
 use Rattle.olr_paths.specs.Candidates.{AreFound}
 use Rattle.olr_paths.specs.Finding.{AreNoted, ArePublished}
-use Rattle.olr_paths.specs.declared.touched.Touched.{Touched}
+use Rattle.olr_paths.specs.declared.change_set.ChangeSet.{ChangeSet}
 use Rattle.olr_paths.specs.declared.searches.Searches.{Searches}
 use Rattle.olr_paths.specs.declared.finder.Finder.{Finder}
 use Rattle.olr_paths.specs.declared.published.Published.{Published}
-use Rattle.olr_paths.specs.declared.listing.NamedPath.{NamedPath}
+use Rattle.olr_paths.specs.declared.path_list.NamedPath.{NamedPath}
 use Rattle.olr_paths.proofs.NamedEntries.{Entries, item_of, items_of}
 use Rattle.olr_paths.proofs.Sets.{in_from}
-use Rattle.olr_paths.proofs.Nearness.{near_absent, leads_from}
+use Rattle.olr_paths.proofs.Distances.{near_absent, leads_from}
 use Rattle.olr_paths.proofs.AskedLemmas.{listed_at}
-use Rattle.olr_paths.proofs.Standing.{back}
+use Rattle.olr_paths.proofs.NotedPositions.{back}
 use Rattle.olr_paths.proofs.Alls.{all_more}
-use Rattle.olr_paths.proofs.Through.{SoFar, so_far_step}
+use Rattle.olr_paths.proofs.RenewedPrefix.{SoFar, so_far_step}
 use Rattle.std.proofs.lemmas.Option.{slice_get_read}
 use Rattle.olr_spec.specs.Extension.{Path}
 use Rattle.olr_paths.specs.Laying.{Changes, TakesNone, change_at, under_changes}
-use Rattle.olr_paths.proofs.Changed.{changed, laid_from, change_push, first_only}
+use Rattle.olr_paths.proofs.Changed.{changed, overlaid_from, change_push, first_only}
 use Rattle.olr_commands.specs.State.{NamesDiffer, same_name}
 use Rattle.olr_paths.specs.Items.{all_named}
 use Rattle.olr_paths.proofs.NamedEntries.{same_flip}
-use Rattle.olr_paths.proofs.Marking.{First}
+use Rattle.olr_paths.proofs.PathIdLemmas.{First}
 
 -- ---- lists of numbers
 
@@ -77,9 +77,9 @@ pushed_there xs x v is = has_push xs x v ∙ right (has xs v) (x == v) (eq-eqb x
 
 -- ---- positions of path ids
 
-pub record Put (marks of old now : List ℕ) : Type 0 where
+pub record Put (path_ids of old now : List ℕ) : Type 0 where
   pub kept : Includes old now
-  pub put : (k : ℕ) → k < length marks → IsTrue (has of (get_or marks k 0)) → IsTrue (has now k)
+  pub put : (k : ℕ) → k < length path_ids → IsTrue (has of (get_or path_ids k 0)) → IsTrue (has now k)
 
 -- ---- positions of a range
 
@@ -102,36 +102,39 @@ ranged_more from to old now h =
 
 -- ---- positions by numbers of nodes or lines
 
-pub record PutAll {A : Type 0} (number : A → ℕ) (marks : List ℕ) (index : Index) (xs : List A) (old now : List ℕ) : Type
+pub record PutAll {A : Type 0} (number : A → ℕ) (path_ids : List ℕ) (index : Index) (xs : List A) (old now : List ℕ) :
+    Type
     0 where
   pub kept : Includes old now
-  pub put : All (λ x. Finds marks index (number x) now) xs
+  pub put : All (λ x. Finds path_ids index (number x) now) xs
 
-module _ {A : Type 0} (number : A → ℕ) (marks : List ℕ) (index : Index) (old : List ℕ) where
-  pub put_all_none : PutAll number marks index [] old old
+module _ {A : Type 0} (number : A → ℕ) (path_ids : List ℕ) (index : Index) (old : List ℕ) where
+  pub put_all_none : PutAll number path_ids index [] old old
   put_all_none = record { kept = λ k on. on; put = λ k d lt. absurd (omega arith) }
 
   pub put_all_more : (xs : List A) (k : ℕ) (d : A) (v : ℕ) (of now new : List ℕ) → k < length xs →
-      v ≡ number (get_or xs k d) → of ≡ marks_of index v → PutAll number marks index (take k xs) old now
-      → Includes now new → ((j : ℕ) → j < length marks → IsTrue (has of (get_or marks j 0)) → IsTrue (has new j)) →
-      PutAll number marks index (take (k + 1) xs) old new
-  put_all_more xs k d v of now new lt is marked h kept put =
-      let P : A → Type 0 = λ x. Finds marks index (number x) new in
-      let one : Finds marks index v new =
-      λ j low on. put j low (ap (λ (ms : List ℕ). has ms (get_or marks j 0)) marked ∙ on) in
+      v ≡ number (get_or xs k d) → of ≡ path_ids_of index v → PutAll number path_ids index (take k xs) old now
+      → Includes now new → ((j : ℕ) → j < length path_ids → IsTrue (has of (get_or path_ids j 0)) → IsTrue (has new j))
+      →
+      PutAll number path_ids index (take (k + 1) xs) old new
+  put_all_more xs k d v of now new lt is path_id_put h kept put =
+      let P : A → Type 0 = λ x. Finds path_ids index (number x) new in
+      let one : Finds path_ids index v new =
+      λ j low on. put j low (ap (λ (ms : List ℕ). has ms (get_or path_ids j 0)) path_id_put ∙ on) in
       record {
         kept = λ j on. kept j (h.kept j on);
         put = all_more P xs k d lt (λ i e low j below on. kept j (h.put i e low j below on))
-            (subst (λ (u : ℕ). Finds marks index u new) is one);
+            (subst (λ (u : ℕ). Finds path_ids index u new) is one);
       }
 
   pub put_all_end : (xs : List A) (k : ℕ) (now : List ℕ) → length xs ≤ k →
-      PutAll number marks index (take k xs) old now → All (λ x. Finds marks index (number x) now) xs
-  put_all_end xs k now end h = subst (λ ys. All (λ x. Finds marks index (number x) now) ys) (take_all k xs end) h.put
+      PutAll number path_ids index (take k xs) old now → All (λ x. Finds path_ids index (number x) now) xs
+  put_all_end xs k now end h = subst (λ ys. All (λ x. Finds path_ids index (number x) now) ys) (take_all k xs end) h.put
 
-pub found_grown : {A : Type 0} (number : A → ℕ) (marks : List ℕ) (index : Index) (xs : List A) (old now : List ℕ) →
-    Includes old now → All (λ x. Finds marks index (number x) old) xs → All (λ x. Finds marks index (number x) now) xs
-found_grown number marks index xs old now kept h = λ i d lt k low on. kept k (h i d lt k low on)
+pub found_grown : {A : Type 0} (number : A → ℕ) (path_ids : List ℕ) (index : Index) (xs : List A) (old now : List ℕ) →
+    Includes old now → All (λ x. Finds path_ids index (number x) old) xs →
+    All (λ x. Finds path_ids index (number x) now) xs
+found_grown number path_ids index xs old now kept h = λ i d lt k low on. kept k (h i d lt k low on)
 
 -- ---- from one candidate to the next
 
@@ -147,7 +150,7 @@ none_between found long k next position j up h is lt within above low =
     elim (cases_Bool (has found j)) [
       | inr e ↦ e
       | inl on ↦
-          let r = stands_at found j on in
+          let r = at_index found j on in
           absurd (elim (cases_lt r.0 k) [
             | inl before ↦ elim (h.below r.0 before) [
               | inl small ↦ let e = r.2 in omega arith
@@ -164,7 +167,7 @@ none_after found long k next j end h above low =
     elim (cases_Bool (has found j)) [
       | inr e ↦ e
       | inl on ↦
-          let r = stands_at found j on in
+          let r = at_index found j on in
           absurd (elim (h.below r.0 (omega (arith, r.1, end))) [
             | inl small ↦ let e = r.2 in omega arith
             | inr big ↦
@@ -257,24 +260,26 @@ is_there : (o : Option (Rc Published Global)) → o ≢ None → (p : Rc Publish
 is_there None h = absurd (h refl)
 is_there (Some p) h = (p, refl)
 
-module _ (N : Map) (n : IsMap N) (place : ℕ → ℕ) (t : Touched) (s : Searches) (es : Entries) (ms : List ℕ) (f : Finder)
+module _ (N : Map) (n : IsMap N) (slot : ℕ → ℕ) (t : ChangeSet) (s : Searches) (es : Entries) (ms : List ℕ) (f : Finder)
     (noted : AreNoted es ms f) (all : ArePublished es) (long : length ms ≡ length es) (found : List ℕ)
-    (own : AreFound ms f.own (nodes_of t) found) (from : AreFound ms f.from (nodes_of t) found)
+    (traversed : AreFound ms f.traversed (nodes_of t) found) (from : AreFound ms f.by_query_origin (nodes_of t) found)
     (lines : AreFound ms f.lines (lines_of t) found)
-    (reached : s.far ≡ false → AreLengths N place Against (sources t) s.near → (v : ℕ) → IsTrue (has_node N v) →
-    label_at s.near (place v) ≤ limit → Finds ms f.from v found) where
+    (reached : s.far ≡ false → AreLengths N slot Against (sources t) s.near → (v : ℕ) → IsTrue (has_node N v) →
+    label_at s.near (slot v) ≤ limit → Finds ms f.by_query_origin v found) where
   module _ (k : ℕ) (e : String Global × NamedPath) (at : slice_get es k ≡ Some e) (p : Rc Published Global)
       (some : e.1.published ≡ Some p) (off : has found k ≡ false) where
     lower : k < length ms
     lower = let lt = slice_get_within es k e at in omega arith
 
-    never_own : OwnTouched (nodes_of t) (made_of p.value) → ⊥
-    never_own h =
+    never_traversed : TraversedTouched (nodes_of t) (made_of p.value) → ⊥
+    never_traversed h =
         let held =
-        All-contains (λ (v : ℕ). IsTrue (holds f.own v (get_or ms k 0))) p.value.own h.0 ((noted k e at p some).0)
+        All-contains (λ (v : ℕ). IsTrue (holds f.traversed v (get_or ms k 0))) p.value.traversed h.0
+        ((noted k e at p some).0)
         h.2 in
         let on =
-        All-contains (λ (v : ℕ). Finds ms f.own v found) (nodes_of t) h.0 own (in_from (nodes_of t) h.0 h.1) k lower
+        All-contains (λ (v : ℕ). Finds ms f.traversed v found) (nodes_of t) h.0 traversed
+        (in_from (nodes_of t) h.0 h.1) k lower
         held in
         cc (on, off)
 
@@ -288,12 +293,13 @@ module _ (N : Map) (n : IsMap N) (place : ℕ → ℕ) (t : Touched) (s : Search
         held in
         cc (on, off)
 
-    never_look : IsAsked N place t s (made_of p.value) → LookTouched N (nodes_of t) (made_of p.value) → ⊥
-    never_look a h =
+    never_query : IsAsked N slot t s (made_of p.value) → QueryTouched N (nodes_of t) (made_of p.value) → ⊥
+    never_query a h =
         let v : ℕ = h.0.from in
         let near = h.2 in
-        let held : IsTrue (holds f.from v (get_or ms k 0)) =
-        All-contains (λ (l : Look). IsTrue (holds f.from l.from (get_or ms k 0))) p.value.looks.items h.0
+        let held : IsTrue (holds f.by_query_origin v (get_or ms k 0)) =
+        All-contains (λ (l : CoverageQuery). IsTrue (holds f.by_query_origin l.from (get_or ms k 0)))
+        p.value.queries.items h.0
         ((noted k e at p some).1) h.1 in
         elim (cases_Bool s.far) [
           | inl far ↦ a.far far h
@@ -301,8 +307,8 @@ module _ (N : Map) (n : IsMap N) (place : ℕ → ℕ) (t : Touched) (s : Search
             | inl there ↦
                 let short = near.within in
                 let way =
-                leads_from N n (nodes_of t) v near.node near.walk near.touched near.leads there in
-                let low = a.told close h.0 h.1 (dm_of N near.walk) short there way in
+                leads_from N n (nodes_of t) v near.node near.route near.touched near.leads there in
+                let low = a.returned close h.0 h.1 (dm_of N near.route) short there way in
                 let on = reached close (a.lengths close) v there (omega arith) k lower held in
                 let never : ⊥ = cc (on, off) in never
             | inr lacks ↦
@@ -310,28 +316,33 @@ module _ (N : Map) (n : IsMap N) (place : ℕ → ℕ) (t : Touched) (s : Search
                 (near_absent N n (nodes_of t) v (min h.0.within limit)
                 (λ there. let never : ⊥ = cc (there, lacks) in never)).1 near in
                 let on =
-                All-contains (λ (u : ℕ). Finds ms f.from u found) (nodes_of t) v from (in_from (nodes_of t) v touched) k
+                All-contains (λ (u : ℕ). Finds ms f.by_query_origin u found) (nodes_of t) v from
+                (in_from (nodes_of t) v touched) k
                 lower held in
                 let never : ⊥ = cc (on, off) in never
           ]
         ]
 
-    stays_there : IsAsked N place t s (made_of p.value) →
+    stays_there : IsAsked N slot t s (made_of p.value) →
         ToStay N (nodes_of t) (lines_of t) (item_of e).made e.1.path.value
     stays_there a = (
       made_of p.value,
       ap (option_map (λ (q : Rc Published Global). made_of q.value)) some,
-      (λ h. elim h [ inl o ↦ never_own o | inr rest ↦ elim rest [ inl x ↦ never_line x | inr l ↦ never_look a l ] ]),
+      (λ h. elim h [
+        | inl o ↦ never_traversed o
+        | inr rest ↦ elim rest
+            [ inl x ↦ never_line x | inr l ↦ never_query a l ]
+      ]),
     )
 
-  pub covers_by : CoversAsked N place t s (items_of es) found
+  pub covers_by : CoversAsked N slot t s (items_of es) found
   covers_by k i at off one =
       let b = back es k i at in
       let p = is_there b.0.1.published (all k b.0 b.1) in
       let made : i.made ≡ Some (made_of p.0.value) =
       ap (λ (x : Item). x.made) (sym b.2) ∙ ap (option_map (λ (q : Rc Published Global). made_of q.value)) p.1 in
-      let a : IsAsked N place t s (made_of p.0.value) =
-      subst (λ (o : Option Made). IfSome o (IsAsked N place t s)) made one in
+      let a : IsAsked N slot t s (made_of p.0.value) =
+      subst (λ (o : Option Made). IfSome o (IsAsked N slot t s)) made one in
       subst (λ (x : Item). ToStay N (nodes_of t) (lines_of t) x.made x.path) b.2 (stays_there k b.0 b.1 p.0 p.1 off a)
 
 -- the positions may be put in another order
@@ -350,17 +361,17 @@ found_moved number ms ns index vs ws found a b h =
 
 module _ (cs : Changes) (is ys : List Item) (keeps : TakesNone cs) where
   -- if the replaced paths and all new ones are found, the others are unchanged
-  pub covers_laid : (N : Map) (place : ℕ → ℕ) (t : Touched) (s : Searches) (found : List ℕ) →
-      CoversAsked N place t s is found → FindsChanged cs is found →
+  pub covers_overlaid : (N : Map) (slot : ℕ → ℕ) (t : ChangeSet) (s : Searches) (found : List ℕ) →
+      CoversAsked N slot t s is found → FindsChanged cs is found →
       ((k : ℕ) → length is ≤ k → k < length is + length ys → IsTrue (has found k))
-      → AreAsked N place t s (under_changes cs is ++ ys) →
+      → AreAsked N slot t s (under_changes cs is ++ ys) →
       Covers N (nodes_of t) (lines_of t) (under_changes cs is ++ ys) found
-  covers_laid N place t s found covers given behind asked k j at off =
-      elim (laid_from cs is ys keeps k j at) [
+  covers_overlaid N slot t s found covers given behind asked k j at off =
+      elim (overlaid_from cs is ys keeps k j at) [
         | inl a ↦
             let same : j ≡ a.0 = a.2 ∙ ap (λ (c : Option (Option Path)). changed c a.0) (given k a.0 a.1 off) in
-            let one : IfSome a.0.made (IsAsked N place t s) =
-            subst (λ (i : Item). IfSome i.made (IsAsked N place t s)) same
+            let one : IfSome a.0.made (IsAsked N slot t s) =
+            subst (λ (i : Item). IfSome i.made (IsAsked N slot t s)) same
             (asked j (listed_at (under_changes cs is ++ ys) k j at)) in
             subst (λ (i : Item). ToStay N (nodes_of t) (lines_of t) i.made i.path) (sym same) (covers k a.0 a.1 off one)
         | inr b ↦
@@ -370,25 +381,25 @@ module _ (cs : Changes) (is ys : List Item) (keeps : TakesNone cs) where
       ]
 
   -- no path has a coverage query, if none of either list has one
-  pub lack_laid : LackLooks is → LackLooks ys → LackLooks (under_changes cs is ++ ys)
-  lack_laid first second j on =
+  pub lack_overlaid : LackQueries is → LackQueries ys → LackQueries (under_changes cs is ++ ys)
+  lack_overlaid first second j on =
       let at : slice_get (under_changes cs is ++ ys) on.0 ≡ Some j =
       slice_get_read (under_changes cs is ++ ys) (length (under_changes cs is ++ ys)) on.0 j refl on.1 (sym on.2) in
-      elim (laid_from cs is ys keeps on.0 j at) [
-        | inl a ↦ subst (λ (i : Item). LacksLooks i.made) (sym a.2)
+      elim (overlaid_from cs is ys keeps on.0 j at) [
+        | inl a ↦ subst (λ (i : Item). LacksQueries i.made) (sym a.2)
             (lacks_changed (change_at cs a.0.name) a.0 (first a.0 (listed_at is on.0 a.0 a.1)))
         | inr b ↦ second j (listed_at ys b.0 j b.2)
       ]
     where
-      lacks_changed : (c : Option (Option Path)) (i : Item) → LacksLooks i.made → LacksLooks (changed c i).made
+      lacks_changed : (c : Option (Option Path)) (i : Item) → LacksQueries i.made → LacksQueries (changed c i).made
       lacks_changed None i h = h
       lacks_changed (Some None) i h = h
       lacks_changed (Some (Some p)) i h = tt
 
 -- with more positions
-pub covers_grown : (N : Map) (place : ℕ → ℕ) (t : Touched) (s : Searches) (is : List Item) (old now : List ℕ) →
-    Includes old now → CoversAsked N place t s is old → CoversAsked N place t s is now
-covers_grown N place t s is old now kept h k i at off =
+pub covers_grown : (N : Map) (slot : ℕ → ℕ) (t : ChangeSet) (s : Searches) (is : List Item) (old now : List ℕ) →
+    Includes old now → CoversAsked N slot t s is old → CoversAsked N slot t s is now
+covers_grown N slot t s is old now kept h k i at off =
     h k i at (elim (cases_Bool (has old k)) [
       | inl on ↦ let there = kept k on in let never : ⊥ = cc (there, off) in
           absurd never

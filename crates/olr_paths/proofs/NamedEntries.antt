@@ -17,7 +17,7 @@ use Rattle.olr_commands.specs.State.{same_name, path_named, NamesDiffer}
 use Rattle.olr_commands.proofs.NameLemmas.{same_is, flipped}
 use Rattle.olr_paths.specs.Items.{Made, Item, made_of, all_named, made_in}
 use Rattle.olr_paths.specs.Changes.{set_item}
-use Rattle.olr_paths.specs.declared.listing.NamedPath.{NamedPath}
+use Rattle.olr_paths.specs.declared.path_list.NamedPath.{NamedPath}
 use lib.Pointwise.{bytes_decides}
 
 abbrev pub Entries : Type 0

@@ -18,7 +18,7 @@ use Rattle.olr_commands.proofs.NameLemmas.{same_is}
 use Rattle.olr_paths.specs.Items.{Item, all_named}
 use Rattle.olr_paths.specs.Changes.{set_item}
 use Rattle.olr_paths.specs.Renewing.{item_of}
-use Rattle.olr_paths.specs.declared.listing.NamedPath.{NamedPath}
+use Rattle.olr_paths.specs.declared.path_list.NamedPath.{NamedPath}
 use Rattle.olr_paths.specs.Laying.{Changes, change_at, drops, under_change, under_changes, path_in, changes_in}
 use Rattle.olr_spec.proofs.ListLemmas.{take_more_at}
 use Rattle.olr_paths.proofs.NamedEntries.{asks, same_flip, absent, not_here, keeps_all, sets_none}
@@ -143,22 +143,22 @@ one_here None i L name h f = front_here i L name h
 one_here (Some None) i L name h f = f refl
 one_here (Some (Some p)) i L name h f = front_here (record { name = i.name; path = p; made = None }) L name h
 
-pub laid_has : (cs : Changes) (is : List Item) (name : List ℕ) →
+pub overlaid_has : (cs : Changes) (is : List Item) (name : List ℕ) →
     has_name (under_changes cs is) name ≡ cond (drops (change_at cs name)) false (has_name is name)
-laid_has cs [] name =
+overlaid_has cs [] name =
     elim (drops (change_at cs name)) as (λ b. false ≡ cond b false false) [ true ↦ refl | false ↦ refl ]
-laid_has cs (i ∷ is) name =
+overlaid_has cs (i ∷ is) name =
     let c = change_at cs i.name in
     let L = under_changes cs is in
     elim (cases_Bool (same_name i.name name)) [
       | inl h ↦
           let same : c ≡ change_at cs name = ap (change_at cs) (same_is i.name name h) in
-          one_here c i L name h (λ on. laid_has cs is name
+          one_here c i L name h (λ on. overlaid_has cs is name
           ∙ ap (λ (b : Bool). cond b false (has_name is name)) (ap drops (sym same) ∙ on))
           ∙ ap (λ (d : Option (Option Path)). cond (drops d) false true) same
           ∙ ap (λ (b : Bool). cond (drops (change_at cs name)) false b) (sym (front_here i is name h))
       | inr h ↦
-          one_other c i L name h ∙ laid_has cs is name
+          one_other c i L name h ∙ overlaid_has cs is name
           ∙ ap (λ (b : Bool). cond (drops (change_at cs name)) false b) (sym (front_other i is name h))
     ]
 
@@ -183,7 +183,7 @@ pub has_by : (cs : Changes) (is ys : List Item) (name : List ℕ) (a d b : Bool)
 has_by cs is ys name a d b is_a is_d is_b =
     (λ i. cond (is_a i) true (cond (is_d i) false (is_b i)))
     ∙ sym (both_have (under_changes cs is) ys name
-    ∙ ap (λ (t : Bool). cond (has_name ys name) true t) (laid_has cs is name))
+    ∙ ap (λ (t : Bool). cond (has_name ys name) true t) (overlaid_has cs is name))
 
 pub second_absent : (xs ys : List Item) (name : List ℕ) → absent (xs ++ ys) name → absent ys name
 second_absent [] ys name h = h
@@ -204,9 +204,9 @@ first_absent [] ys name d there = refl
 first_absent (x ∷ xs) ys name d there =
     elim (cases_Bool (same_name x.name name)) [
       | inl h ↦
-          let gone : has_name ys name ≡ false =
+          let replaced : has_name ys name ≡ false =
           ap (has_name ys) (sym (same_is x.name name h)) ∙ second_absent xs ys x.name d.0 in
-          let never : true ≡ false = sym there ∙ gone in
+          let never : true ≡ false = sym there ∙ replaced in
           absurd cc
       | inr h ↦ front_other x xs name h ∙ first_absent xs ys name d.1 there
     ]
@@ -254,10 +254,10 @@ put_one_other : (cs ds : Changes) (name q : List ℕ) (o : Option Path) → Puts
 put_one_other cs ds name q o puts h =
     puts q ∙ ap (λ (b : Bool). cond b (Some o) (change_at cs q)) (same_flip name q ∙ h)
 
-pub laid_set : (cs ds : Changes) (name : List ℕ) (path : Path) (is : List Item) → Puts cs name (Some path) ds →
+pub overlaid_set : (cs ds : Changes) (name : List ℕ) (path : Path) (is : List Item) → Puts cs name (Some path) ds →
     drops (change_at cs name) ≡ false → under_changes ds is ≡ map (set_item name path None) (under_changes cs is)
-laid_set cs ds name path [] puts stays = refl
-laid_set cs ds name path (i ∷ is) puts stays =
+overlaid_set cs ds name path [] puts stays = refl
+overlaid_set cs ds name path (i ∷ is) puts stays =
     let one : under_change (change_at ds i.name) i ≡ map (set_item name path None)
     (under_change (change_at cs i.name) i) =
     elim (cases_Bool (same_name i.name name)) [
@@ -271,7 +271,7 @@ laid_set cs ds name path (i ∷ is) puts stays =
     ] in
     ap (λ (js : List Item). js ++ under_changes ds is) one
     ∙ ap (λ (js : List Item). map (set_item name path None) (under_change (change_at cs i.name) i) ++ js)
-    (laid_set cs ds name path is puts stays)
+    (overlaid_set cs ds name path is puts stays)
     ∙ sym (map-append (set_item name path None) (under_change (change_at cs i.name) i) (under_changes cs is))
 
 -- the items of other names
@@ -296,10 +296,10 @@ one_dropped_other name None i h = drop_front_other name i h
 one_dropped_other name (Some None) i h = refl
 one_dropped_other name (Some (Some p)) i h = drop_front_other name (record { name = i.name; path = p; made = None }) h
 
-pub laid_drop : (cs ds : Changes) (name : List ℕ) (is : List Item) → Puts cs name None ds →
+pub overlaid_drop : (cs ds : Changes) (name : List ℕ) (is : List Item) → Puts cs name None ds →
     under_changes ds is ≡ others name (under_changes cs is)
-laid_drop cs ds name [] puts = refl
-laid_drop cs ds name (i ∷ is) puts =
+overlaid_drop cs ds name [] puts = refl
+overlaid_drop cs ds name (i ∷ is) puts =
     let one : under_change (change_at ds i.name) i ≡ others name (under_change (change_at cs i.name) i) =
     elim (cases_Bool (same_name i.name name)) [
       | inl h ↦
@@ -310,7 +310,8 @@ laid_drop cs ds name (i ∷ is) puts =
           ∙ sym (one_dropped_other name (change_at cs i.name) i h)
     ] in
     ap (λ (js : List Item). js ++ under_changes ds is) one
-    ∙ ap (λ (js : List Item). others name (under_change (change_at cs i.name) i) ++ js) (laid_drop cs ds name is puts)
+    ∙ ap (λ (js : List Item). others name (under_change (change_at cs i.name) i) ++ js)
+    (overlaid_drop cs ds name is puts)
     ∙ sym (filter-append (λ (j : Item). not (same_name j.name name)) (under_change (change_at cs i.name) i)
     (under_changes cs is))
 
@@ -364,22 +365,22 @@ not_dropped cs is ys name there free =
     elim (cases_Bool (drops (change_at cs name))) [
       | inl h ↦
           let never : true ≡ false =
-          sym on ∙ laid_has cs is name ∙ ap (λ (b : Bool). cond b false (has_name is name)) h in
+          sym on ∙ overlaid_has cs is name ∙ ap (λ (b : Bool). cond b false (has_name is name)) h in
           absurd cc
       | inr h ↦ h
     ]
 
 -- ---- copying the changed list, path by path
 
-pub laid_none : (is : List Item) → under_changes [] is ≡ is
-laid_none [] = refl
-laid_none (i ∷ is) = ap (λ (js : List Item). i ∷ js) (laid_none is)
+pub overlaid_none : (is : List Item) → under_changes [] is ≡ is
+overlaid_none [] = refl
+overlaid_none (i ∷ is) = ap (λ (js : List Item). i ∷ js) (overlaid_none is)
 
-laid_append : (cs : Changes) (is js : List Item) →
+overlaid_append : (cs : Changes) (is js : List Item) →
     under_changes cs (is ++ js) ≡ under_changes cs is ++ under_changes cs js
-laid_append cs [] js = refl
-laid_append cs (i ∷ is) js =
-    ap (λ (ks : List Item). under_change (change_at cs i.name) i ++ ks) (laid_append cs is js)
+overlaid_append cs [] js = refl
+overlaid_append cs (i ∷ is) js =
+    ap (λ (ks : List Item). under_change (change_at cs i.name) i ++ ks) (overlaid_append cs is js)
     ∙ sym (append_assoc (under_change (change_at cs i.name) i) (under_changes cs is) (under_changes cs js))
 
 -- a list in three parts: before a position, at it and after it
@@ -392,33 +393,33 @@ parted (j ∷ is) (suc k) i at = let p = parted is k i at in (p.0, ap (λ (xs : 
 -- no path before it has the name of this one
 before_absent : (xs zs : List Item) (j : Item) → NamesDiffer (all_named (xs ++ j ∷ zs)) → absent xs j.name
 before_absent xs zs j d =
-    let own : same_name j.name j.name ≡ true = (bytes_decides j.name j.name).1 refl in
-    first_absent xs (j ∷ zs) j.name d (front_here j zs j.name own)
+    let traversed : same_name j.name j.name ≡ true = (bytes_decides j.name j.name).1 refl in
+    first_absent xs (j ∷ zs) j.name d (front_here j zs j.name traversed)
 
-laid_name : (c : Option (Option Path)) (i j : Item) → under_change c i ≡ j ∷ [] → j.name ≡ i.name
-laid_name None i j e = let same : i ≡ j = cc in ap (λ (x : Item). x.name) (sym same)
-laid_name (Some None) i j e = absurd cc
-laid_name (Some (Some p)) i j e = let same : record { name = i.name; path = p; made = None } ≡ j =
+overlaid_name : (c : Option (Option Path)) (i j : Item) → under_change c i ≡ j ∷ [] → j.name ≡ i.name
+overlaid_name None i j e = let same : i ≡ j = cc in ap (λ (x : Item). x.name) (sym same)
+overlaid_name (Some None) i j e = absurd cc
+overlaid_name (Some (Some p)) i j e = let same : record { name = i.name; path = p; made = None } ≡ j =
     cc in ap (λ (x : Item). x.name) (sym same)
 
 module _ (cs : Changes) (is to : List Item) (k : ℕ) (i : Item) (at : slice_get is k ≡ Some i) where
   abbrev done : List Item
   done = to ++ under_changes cs (take k is)
 
-  pub laid_more : to ++ under_changes cs (take (k + 1) is) ≡ done ++ under_change (change_at cs i.name) i
-  laid_more =
+  pub overlaid_more : to ++ under_changes cs (take (k + 1) is) ≡ done ++ under_change (change_at cs i.name) i
+  overlaid_more =
       ap (λ (js : List Item). to ++ under_changes cs js) (take_more_at is k i at)
-      ∙ ap (λ (js : List Item). to ++ js) (laid_append cs (take k is) (i ∷ [])
+      ∙ ap (λ (js : List Item). to ++ js) (overlaid_append cs (take k is) (i ∷ [])
       ∙ ap (λ (js : List Item). under_changes cs (take k is) ++ js) (append-nil (under_change (change_at cs i.name) i)))
       ∙ sym (append_assoc to (under_changes cs (take k is)) (under_change (change_at cs i.name) i))
 
-  laid_free : (j : Item) → under_change (change_at cs i.name) i ≡ j ∷ [] →
+  overlaid_free : (j : Item) → under_change (change_at cs i.name) i ≡ j ∷ [] →
       NamesDiffer (all_named (to ++ under_changes cs is)) → absent done j.name
-  laid_free j e d =
+  overlaid_free j e d =
       let p = parted is k i at in
       let all : to ++ under_changes cs is ≡ done ++ j ∷ under_changes cs p.0 =
       ap (λ (js : List Item). to ++ under_changes cs js) p.1
-      ∙ ap (λ (js : List Item). to ++ js) (laid_append cs (take k is) (i ∷ p.0)
+      ∙ ap (λ (js : List Item). to ++ js) (overlaid_append cs (take k is) (i ∷ p.0)
       ∙ ap (λ (js : List Item). under_changes cs (take k is) ++ (js ++ under_changes cs p.0)) e)
       ∙ sym (append_assoc to (under_changes cs (take k is)) (j ∷ under_changes cs p.0)) in
       before_absent done (under_changes cs p.0) j (subst (λ (js : List Item). NamesDiffer (all_named js)) all d)
@@ -431,19 +432,19 @@ module _ (cs : Changes) (is to : List Item) (k : ℕ) (i : Item) (at : slice_get
       let e : under_change (change_at cs i.name) i ≡ j ∷ [] =
       ap (under_change (change_at cs i.name)) (sym same) ∙ one in
       ap (λ (js : List Item). has_name js i.name) so_far
-      ∙ ap (λ (a : List ℕ). has_name done a) (sym (laid_name (change_at cs i.name) i j e)) ∙ laid_free j e d
+      ∙ ap (λ (a : List ℕ). has_name done a) (sym (overlaid_name (change_at cs i.name) i j e)) ∙ overlaid_free j e d
 
 -- ---- no changes, and two lists, one after the other
 
 pub no_changes : (es : Entered) (added is : List Item) → es ≡ [] → added ≡ [] →
     under_changes (changes_in es) is ++ added ≡ is
 no_changes es added is none empty =
-    (λ i. under_changes (changes_in (none i)) is ++ empty i) ∙ append-nil (under_changes [] is) ∙ laid_none is
+    (λ i. under_changes (changes_in (none i)) is ++ empty i) ∙ append-nil (under_changes [] is) ∙ overlaid_none is
 
 pub behind_none : (es : Entered) (xs ys : List Item) → es ≡ [] → xs ++ under_changes (changes_in es) ys ≡ xs ++ ys
 behind_none es xs ys none =
     ap (λ (fs : Entered). xs ++ under_changes (changes_in fs) ys) none
-    ∙ ap (λ (js : List Item). xs ++ js) (laid_none ys)
+    ∙ ap (λ (js : List Item). xs ++ js) (overlaid_none ys)
 
 -- the first part of a list that is longer
 pub take_first : (xs ys zs : List Item) → zs ≡ xs ++ ys → take (length xs) zs ≡ xs

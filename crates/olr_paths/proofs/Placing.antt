@@ -8,7 +8,7 @@ use Rattle.indexmap.specs.Layout.{set_value_at}
 use Rattle.olr_spec.specs.Extension.{Path}
 use Rattle.olr_paths.specs.Items.{Made, Item}
 use Rattle.olr_paths.specs.Renewing.{Put, put, all_put, puts_of}
-use Rattle.olr_paths.specs.declared.listing.NamedPath.{NamedPath}
+use Rattle.olr_paths.specs.declared.path_list.NamedPath.{NamedPath}
 use Rattle.olr_paths.proofs.NamedEntries.{Entries, made_of_named, item_of, items_of}
 
 -- after a prefix
@@ -19,9 +19,9 @@ put_behind (x ∷ xs) i ys path made = ap (λ zs. x ∷ zs) (put_behind xs i ys 
 
 -- the last of a list is stored first
 pub all_put-push : (is : List Item) (ps : List Put) (p : Put) →
-    all_put is (ps ++ p ∷ []) ≡ all_put (put is p.place p.path p.made) ps
+    all_put is (ps ++ p ∷ []) ≡ all_put (put is p.position p.path p.made) ps
 all_put-push is [] p = refl
-all_put-push is (q ∷ ps) p = ap (λ js. put js q.place q.path q.made) (all_put-push is ps p)
+all_put-push is (q ∷ ps) p = ap (λ js. put js q.position q.path q.made) (all_put-push is ps p)
 
 -- ---- in the entries of a map
 
@@ -48,12 +48,14 @@ module _ (es : Entries) (k : ℕ) (n : NamedPath) (all rest : List One) (o : Opt
   -- the last of the remaining ones, stored first
   taken : all_put (put (items_of es) k n.path.value (made_of_named n)) (puts_of rest) ≡ whole
   taken =
-      let parts : puts_of all ≡ puts_of rest ++ record { place = k; path = n.path.value; made = made_of_named n } ∷ [] =
+      let parts : puts_of all ≡ puts_of rest ++ record { position = k; path = n.path.value; made = made_of_named n } ∷
+      [] =
       ap puts_of last ∙ ap (λ (q : Option One). puts_of (rest ++ option_to_list q)) is
-      ∙ map-append (λ (e : One). record { place = e.0; path = e.1.path.value; made = made_of_named e.1 }) rest
+      ∙ map-append (λ (e : One). record { position = e.0; path = e.1.path.value; made = made_of_named e.1 }) rest
       ((k, n) ∷ []) in
       sym (all_put-push (items_of es) (puts_of rest)
-      (record { place = k; path = n.path.value; made = made_of_named n })) ∙ ap (all_put (items_of es)) (sym parts) ∙ h
+      (record { position = k; path = n.path.value; made = made_of_named n })) ∙ ap (all_put (items_of es)) (sym parts)
+      ∙ h
 
   pub placed : all_put (items_of (set_value_at es k n)) (puts_of rest) ≡ whole
   placed = ap (λ (js : List Item). all_put js (puts_of rest)) (put_at es k n) ∙ taken

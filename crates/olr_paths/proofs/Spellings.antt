@@ -17,16 +17,16 @@ use Rattle.olr_refs.specs.declared.answer.Answer.{Answer}
 use Rattle.olr_refs.specs.declared.answer.Answer.TheVariants.{Points, Refused}
 use Rattle.olr_refs.specs.declared.answer.Refusal.{Refusal}
 
-pub spelled_points : (answer : Answer) (r : Reference) (text : Option (String Global)) (t : String Global) →
+pub encoded_points : (answer : Answer) (r : Reference) (text : Option (String Global)) (t : String Global) →
     answer ≡ Points r → text ≡ Some t → IsTextOf r (string_bytes t) →
     option_map string_bytes text ≡ result_ok (published_text (answer_of answer))
-spelled_points answer r text t is kept h =
+encoded_points answer r text t is kept h =
     ap (option_map string_bytes) kept ∙ ap Some h.1
     ∙ sym (ap (λ (a : Answer). result_ok (published_text (answer_of a))) is)
 
-pub spelled_refused : (answer : Answer) (f : Refusal) (text : Option (String Global)) → answer ≡ Refused f →
+pub encoded_refused : (answer : Answer) (f : Refusal) (text : Option (String Global)) → answer ≡ Refused f →
     text ≡ None → option_map string_bytes text ≡ result_ok (published_text (answer_of answer))
-spelled_refused answer f text is kept =
+encoded_refused answer f text is kept =
     ap (option_map string_bytes) kept ∙ sym (ap (λ (a : Answer). result_ok (published_text (answer_of a))) is)
 
 -- ---- two texts

@@ -1,37 +1,38 @@
 -- Positions of paths that edits may affect.
 --     Includes xs ys      the numbers of xs are among those of ys
---     Finds marks i v found      the positions of the path ids of the number v are found.
+--     Finds path_ids i v found      the positions of the path ids of the number v are found.
 --     AreFound      the same for each number
 --     Covers N T X is found      a path whose position isn't found is not affected
---     CoversAsked N place t s is found      the same for the paths for which the search was made.
+--     CoversAsked N slot t s is found      the same for the paths for which the search was made.
 --     FindsChanged cs is found      a path whose position isn't found is not changed
 use Rattle.std.specs.Prelude.{◌≡◌, ℕ, ◌<◌, List, All, Some, None, IfSome, false, length, get_or, slice_get, IsTrue}
 use Rattle.olr_spec.specs.Map.{Map, has}
-use Rattle.olr_index.specs.Marks.{holds}
+use Rattle.olr_index.specs.PathIds.{holds}
 use Rattle.olr_index.specs.declared.Index.{Index}
 use Rattle.olr_paths.specs.Items.{Item}
 use Rattle.olr_paths.specs.Renewing.{ToStay}
 use Rattle.olr_paths.specs.Laying.{Changes, change_at}
 use Rattle.olr_paths.specs.Touching.{nodes_of, lines_of}
 use Rattle.olr_paths.specs.Searching.{IsAsked}
-use Rattle.olr_paths.specs.declared.touched.Touched.{Touched}
+use Rattle.olr_paths.specs.declared.change_set.ChangeSet.{ChangeSet}
 use Rattle.olr_paths.specs.declared.searches.Searches.{Searches}
 
 abbrev pub Includes : List ℕ → List ℕ → Type 0
 Includes xs ys = (k : ℕ) → IsTrue (has xs k) → IsTrue (has ys k)
 
 abbrev pub Finds : List ℕ → Index → ℕ → List ℕ → Type 0
-Finds marks i v found = (k : ℕ) → k < length marks → IsTrue (holds i v (get_or marks k 0)) → IsTrue (has found k)
+Finds path_ids i v found = (k : ℕ) → k < length path_ids → IsTrue (holds i v (get_or path_ids k 0)) →
+    IsTrue (has found k)
 
 abbrev pub AreFound : List ℕ → Index → List ℕ → List ℕ → Type 0
-AreFound marks i vs found = All (λ v. Finds marks i v found) vs
+AreFound path_ids i vs found = All (λ v. Finds path_ids i v found) vs
 
 abbrev pub Covers : Map → List ℕ → List ℕ → List Item → List ℕ → Type 0
 Covers N T X is found = (k : ℕ) (i : Item) → slice_get is k ≡ Some i → has found k ≡ false → ToStay N T X i.made i.path
 
-abbrev pub CoversAsked : Map → (ℕ → ℕ) → Touched → Searches → List Item → List ℕ → Type 0
-CoversAsked N place t s is found =
-    (k : ℕ) (i : Item) → slice_get is k ≡ Some i → has found k ≡ false → IfSome i.made (IsAsked N place t s)
+abbrev pub CoversAsked : Map → (ℕ → ℕ) → ChangeSet → Searches → List Item → List ℕ → Type 0
+CoversAsked N slot t s is found =
+    (k : ℕ) (i : Item) → slice_get is k ≡ Some i → has found k ≡ false → IfSome i.made (IsAsked N slot t s)
     → ToStay N (nodes_of t) (lines_of t) i.made i.path
 
 abbrev pub FindsChanged : Changes → List Item → List ℕ → Type 0

@@ -2,7 +2,7 @@
 --     Touches N T X m P      a traversed node or a line of the path is touched, or a touched node is near to where a
 --         coverage query begins, within its length and the limit
 --     IsBefore M N T X C is      the results of the list are right on M, and edits led from M to N
---     IsConcerned M T X i      the path was not encoded yet, or its footprint on M has a touched node, or one of its
+--     IsAffected M T X i      the path was not encoded yet, or its footprint on M has a touched node, or one of its
 --         lines was touched
 --     AreRemade N is js      each path has results that are right on N
 --     Reported before js es      an entry for each path whose answer is not the earlier one of its name, in order
@@ -16,7 +16,7 @@ use Rattle.olr_spec.specs.Extension.{Path, is_path, limit}
 use Rattle.olr_spec.specs.Encoding.{Answer}
 use Rattle.olr_spec.specs.Footprint.{Foot}
 use Rattle.olr_spec.specs.Detours.{ChangedLine, Difference, Near}
-use Rattle.olr_spec.specs.Looks.{Look}
+use Rattle.olr_spec.specs.Queries.{CoverageQuery}
 use Rattle.olr_commands.specs.State.{same_name}
 use Rattle.olr_commands.specs.Reply.{Entry, entry}
 use Rattle.olr_paths.specs.Items.{Made, Item, IsEncodingOf, AreEncodingsIfAny, answer_in}
@@ -24,17 +24,17 @@ use Rattle.olr_paths.specs.Items.{Made, Item, IsEncodingOf, AreEncodingsIfAny, a
 abbrev pub with_made : Item → Made → Item
 with_made i m = record i { made = Some m }
 
-abbrev pub OwnTouched : List ℕ → Made → Type 0
-OwnTouched T m = (v : ℕ) × IsTrue (has T v) × Contains m.own v
+abbrev pub TraversedTouched : List ℕ → Made → Type 0
+TraversedTouched T m = (v : ℕ) × IsTrue (has T v) × Contains m.traversed v
 
 abbrev pub LineTouched : List ℕ → Path → Type 0
 LineTouched X P = (x : ℕ) × IsTrue (has X x) × IsTrue (has P.lines x)
 
-abbrev pub LookTouched : Map → List ℕ → Made → Type 0
-LookTouched N T m = (l : Look) × Contains m.looks l × Near N T l.from (min l.within limit)
+abbrev pub QueryTouched : Map → List ℕ → Made → Type 0
+QueryTouched N T m = (l : CoverageQuery) × Contains m.queries l × Near N T l.from (min l.within limit)
 
 abbrev pub Touches : Map → List ℕ → List ℕ → Made → Path → Type 0
-Touches N T X m P = OwnTouched T m ⊎ (LineTouched X P ⊎ LookTouched N T m)
+Touches N T X m P = TraversedTouched T m ⊎ (LineTouched X P ⊎ QueryTouched N T m)
 
 pub record IsBefore (M N : Map) (T X : List ℕ) (C : List ChangedLine) (is : List Item) : Type 0 where
   pub sound : IsMap M
@@ -43,10 +43,10 @@ pub record IsBefore (M N : Map) (T X : List ℕ) (C : List ChangedLine) (is : Li
   pub paths : AllByRecursion (λ i. IsTrue (is_path i.path.lines)) is
   pub made : AreEncodingsIfAny M is
 
-pub data IsConcerned (M : Map) (T X : List ℕ) (i : Item) : Type 0 where
-  By_name : i.made ≡ None → IsConcerned M T X i
-  By_node : (v : ℕ) → IsTrue (has T v) → Foot M i.path v → IsConcerned M T X i
-  By_line : (x : ℕ) → IsTrue (has X x) → IsTrue (has i.path.lines x) → IsConcerned M T X i
+pub data IsAffected (M : Map) (T X : List ℕ) (i : Item) : Type 0 where
+  By_name : i.made ≡ None → IsAffected M T X i
+  By_node : (v : ℕ) → IsTrue (has T v) → Foot M i.path v → IsAffected M T X i
+  By_line : (x : ℕ) → IsTrue (has X x) → IsTrue (has i.path.lines x) → IsAffected M T X i
 
 abbrev pub IsRemade : Map → Item → Item → Type 0
 IsRemade N i j = (m : Made) × IsEncodingOf N i.path m × (j ≡ with_made i m)

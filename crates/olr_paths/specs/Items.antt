@@ -10,16 +10,16 @@ use Rattle.std.specs.Prelude.{IfSome, string_bytes, ◌↔◌, ⊤}
 use Rattle.olr_spec.specs.Map.{Map}
 use Rattle.olr_spec.specs.Extension.{Path}
 use Rattle.olr_spec.specs.Encoding.{Answer, Encodes}
-use Rattle.olr_spec.specs.Looks.{Look, OwnOf, LooksOf}
+use Rattle.olr_spec.specs.Queries.{CoverageQuery, TraversedOf, QueriesOf}
 use Rattle.olr_refs.specs.Answers.{answer_of}
 use Rattle.olr_commands.specs.State.{Named, same_name}
 use Rattle.olr_paths.specs.declared.published.Published.{Published as Encoded}
-use Rattle.olr_paths.specs.declared.listing.Listing.{Listing}
+use Rattle.olr_paths.specs.declared.path_list.PathList.{PathList}
 
 pub record Made : Type 0 where
   pub answer : Answer
-  pub own : List ℕ
-  pub looks : List Look
+  pub traversed : List ℕ
+  pub queries : List CoverageQuery
 
 pub record Item : Type 0 where
   pub name : List ℕ
@@ -29,9 +29,9 @@ pub record Item : Type 0 where
 -- ---- Rust's values as these
 
 abbrev pub made_of : Encoded → Made
-made_of p = record { answer = answer_of p.answer; own = p.own; looks = p.looks.items }
+made_of p = record { answer = answer_of p.answer; traversed = p.traversed; queries = p.queries.items }
 
-abbrev pub items : Listing → List Item
+abbrev pub items : PathList → List Item
 items l =
     map (λ e. record {
       name = string_bytes e.0;
@@ -44,8 +44,8 @@ items l =
 
 pub record IsEncodingOf (M : Map) (P : Path) (m : Made) : Type 0 where
   pub answer : Encodes M P m.answer
-  pub own : (v : ℕ) → Contains m.own v ↔ OwnOf M P v
-  pub looks : LooksOf M P m.looks
+  pub traversed : (v : ℕ) → Contains m.traversed v ↔ TraversedOf M P v
+  pub queries : QueriesOf M P m.queries
 
 abbrev pub AreEncodings : Map → List Item → Type 0
 AreEncodings M [] = ⊤

@@ -7,5 +7,5 @@ pub mod Renewing
 pub mod Candidates
 pub mod Laying
 pub mod Showing
-pub mod Beginning
+pub mod Origins
 pub mod Yielding

@@ -5,9 +5,9 @@
 --     item_of name e      an entry of the list under a name
 --     items_before o l      the earlier list if there is one, otherwise l
 --     Stays N T X C m P      no traversed node and no line of the path is touched, and each coverage query is clear
---     IsFate, IsStep      the action for a path, and its effect
+--     IsActionFor, IsStep      the action for a path, and its effect
 --     Rises old new n, OneMore old new      no count falls, and at most n encodings are spared;  the same for one
---     TellsIfOther before name A es fs      an entry is appended if the answer is not the earlier one of the
+--     ReportsIfOther before name A es fs      an entry is appended if the answer is not the earlier one of the
 --         name
 use Rattle.std.specs.Prelude.{◌≡◌, ◌≢◌, ℕ, zero, suc, List, [], ◌∷◌, ◌++◌, map, All, ◌+◌, ◌<◌, ◌≤◌, ◌^◌, Option, Some}
 use Rattle.std.specs.Prelude.{None, option_map, unwrap_or, ◌⊎◌}
@@ -15,25 +15,25 @@ use Rattle.std.specs.Borrow.{Bor}
 use Rattle.olr_spec.specs.Map.{Map}
 use Rattle.olr_spec.specs.Detours.{ChangedLine}
 use Rattle.olr_spec.specs.Extension.{Path}
-use Rattle.olr_spec.specs.Looks.{IsClear}
+use Rattle.olr_spec.specs.Queries.{IsClear}
 use Rattle.olr_commands.specs.Words.{entry_of}
 use Rattle.olr_spec.specs.Encoding.{Answer}
 use Rattle.olr_commands.specs.Reply.{Entry, entry}
 use Rattle.olr_paths.specs.Items.{Made, Item, IsEncodingOf, made_of, items, answer_in}
-use Rattle.olr_paths.specs.Changes.{OwnTouched, LineTouched, Touches}
-use Rattle.olr_paths.specs.declared.listing.NamedPath.{NamedPath}
-use Rattle.olr_paths.specs.declared.listing.Listing.{Listing}
+use Rattle.olr_paths.specs.Changes.{TraversedTouched, LineTouched, Touches}
+use Rattle.olr_paths.specs.declared.path_list.NamedPath.{NamedPath}
+use Rattle.olr_paths.specs.declared.path_list.PathList.{PathList}
 use Rattle.olr_paths.specs.declared.renewal.Renewal.{Renewal}
 use Rattle.olr_paths.specs.declared.renewal.Counted.{Counted}
-use Rattle.olr_paths.specs.declared.fates.Fate.{Fate}
-use Rattle.olr_paths.specs.declared.fates.Fate.TheVariants.{Stay, Keep, Encode}
+use Rattle.olr_paths.specs.declared.actions.Action.{Action}
+use Rattle.olr_paths.specs.declared.actions.Action.TheVariants.{Stay, Keep, Encode}
 
 -- an entry of the list under a name
 abbrev pub item_of : List ℕ → NamedPath → Item
 item_of name e = record { name = name; path = e.path.value; made = option_map (λ p. made_of p.value) e.published }
 
 pub record Put : Type 0 where
-  pub place : ℕ
+  pub position : ℕ
   pub path : Path
   pub made : Option Made
 
@@ -46,11 +46,12 @@ put (i ∷ is) (suc k) path made = i ∷ put is k path made
 -- with each at its position
 abbrev pub all_put : List Item → List Put → List Item
 all_put is [] = is
-all_put is (p ∷ ps) = put (all_put is ps) p.place p.path p.made
+all_put is (p ∷ ps) = put (all_put is ps) p.position p.path p.made
 
 abbrev pub puts_of : List (ℕ × NamedPath) → List Put
 puts_of es =
-    map (λ e. record { place = e.0; path = e.1.path.value; made = option_map (λ p. made_of p.value) e.1.published }) es
+    map (λ e. record { position = e.0; path = e.1.path.value; made = option_map (λ p. made_of p.value) e.1.published })
+    es
 
 abbrev pub made_at : Renewal → List Put
 made_at r = puts_of r.fresh.items
@@ -61,17 +62,17 @@ entries_of r = map entry_of r.entries.items
 abbrev pub after_renewal : Renewal → List Item → List Item
 after_renewal r is = all_put is (made_at r)
 
-abbrev pub items_before : Option (Bor Listing) → Listing → List Item
+abbrev pub items_before : Option (Bor PathList) → PathList → List Item
 items_before o l = unwrap_or (option_map (λ b. items b.now) o) (items l)
 
-abbrev pub TellsIfOther : List Item → List ℕ → Answer → List Entry → List Entry → Type 0
-TellsIfOther before name A es fs =
+abbrev pub ReportsIfOther : List Item → List ℕ → Answer → List Entry → List Entry → Type 0
+ReportsIfOther before name A es fs =
     ((answer_in before name ≡ Some A) × (fs ≡ es)) ⊎ ((answer_in before name ≢ Some A) × (fs ≡ es ++ entry name A ∷ []))
 
 -- ---- one path
 
 abbrev pub Stays : Map → List ℕ → List ℕ → List ChangedLine → Made → Path → Type 0
-Stays N T X C m P = (¬ OwnTouched T m) × (¬ LineTouched X P) × All (IsClear N C) m.looks
+Stays N T X C m P = (¬ TraversedTouched T m) × (¬ LineTouched X P) × All (IsClear N C) m.queries
 
 abbrev pub ToStay : Map → List ℕ → List ℕ → Option Made → Path → Type 0
 ToStay N T X made P = (m : Made) × (made ≡ Some m) × ¬ Touches N T X m P
@@ -82,10 +83,10 @@ ToKeep N T X C made P = (m : Made) × (made ≡ Some m) × Touches N T X m P × 
 abbrev pub ToEncode : Map → List ℕ → List ℕ → Option Made → Path → Type 0
 ToEncode N T X made P = (made ≡ None) ⊎ ((m : Made) × (made ≡ Some m) × Touches N T X m P)
 
-abbrev pub IsFate : Map → List ℕ → List ℕ → List ChangedLine → Option Made → Path → Fate → Type 0
-IsFate N T X C made P Stay = ToStay N T X made P
-IsFate N T X C made P Keep = ToKeep N T X C made P
-IsFate N T X C made P Encode = ToEncode N T X made P
+abbrev pub IsActionFor : Map → List ℕ → List ℕ → List ChangedLine → Option Made → Path → Action → Type 0
+IsActionFor N T X C made P Stay = ToStay N T X made P
+IsActionFor N T X C made P Keep = ToKeep N T X C made P
+IsActionFor N T X C made P Encode = ToEncode N T X made P
 
 -- no count falls, and at most this many encodings are spared
 pub record Rises (old new : Counted) (n : ℕ) : Type 0 where
@@ -97,13 +98,13 @@ pub record Rises (old new : Counted) (n : ℕ) : Type 0 where
 -- the count rises by one
 pub record OneMore (old new : Counted) : Type 0 where
   pub encodings : old.work.encodings + 1 < 2 ^ 64 → new.work.encodings ≡ old.work.encodings + 1
-  pub rises : Rises old new 1
+  pub ascends : Rises old new 1
 
 pub data IsStep (N : Map) (T X : List ℕ) (C : List ChangedLine) (before : List Item) (i : Item) (k : ℕ) (r s : Renewal)
     (c d : Counted) : Type 0 where
   Left : ToStay N T X i.made i.path → s ≡ r → d ≡ c → IsStep N T X C before i k r s c d
-  Kept : ToKeep N T X C i.made i.path → s ≡ r → OneMore c d → IsStep N T X C before i k r s c d
-  Anew : ToEncode N T X i.made i.path → (m : Made) → IsEncodingOf N i.path m →
-      made_at s ≡ made_at r ++ record { place = k; path = i.path; made = Some m } ∷ [] →
-      TellsIfOther before i.name m.answer (entries_of r) (entries_of s)
+  Retained : ToKeep N T X C i.made i.path → s ≡ r → OneMore c d → IsStep N T X C before i k r s c d
+  EncodedAgain : ToEncode N T X i.made i.path → (m : Made) → IsEncodingOf N i.path m →
+      made_at s ≡ made_at r ++ record { position = k; path = i.path; made = Some m } ∷ [] →
+      ReportsIfOther before i.name m.answer (entries_of r) (entries_of s)
       → OneMore c d → IsStep N T X C before i k r s c d

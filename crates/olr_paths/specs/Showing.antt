@@ -4,11 +4,11 @@
 use Rattle.std.specs.Prelude.{List, option_map}
 use Rattle.olr_paths.specs.Items.{Item, items, made_of}
 use Rattle.olr_paths.specs.Laying.{under_overlay}
-use Rattle.olr_paths.specs.declared.laid.Laid.{Laid}
-use Rattle.olr_paths.specs.declared.showing.Shown.{Shown}
+use Rattle.olr_paths.specs.declared.overlaid_list.OverlaidList.{OverlaidList}
+use Rattle.olr_paths.specs.declared.showing.PathView.{PathView}
 
-abbrev pub shown_items : Laid → List Item
+abbrev pub shown_items : OverlaidList → List Item
 shown_items l = under_overlay (items l.list.now) l.overlay.now
 
-abbrev pub shown_item : Shown → Item
+abbrev pub shown_item : PathView → Item
 shown_item s = record { name = s.name.now; path = s.path.now.value; made = option_map (λ p. made_of p.now) s.published }

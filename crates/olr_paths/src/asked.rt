@@ -2,60 +2,62 @@
 ghost use Rattle.std.specs.Prelude.{IsTrue, IfOk, IfSome, OnOk};
 ghost use Rattle.olr_paths.specs.Showing.{shown_items};
 ghost use Rattle.olr_paths.specs.Touching.{nodes_of, lines_of};
-ghost use Rattle.olr_paths.specs.Searching.{AreDetours, AreAsked, LackLooks};
+ghost use Rattle.olr_paths.specs.Searching.{AreDetours, AreAsked, LackQueries};
 ghost use Rattle.olr_paths.specs.Candidates.{Covers};
 ghost use Rattle.std.specs.List.Sorted.{IsNonDecreasing};
-ghost use Rattle.olr_paths.specs.Beginning.{AreNumbered};
+ghost use Rattle.olr_paths.specs.Origins.{AreBoundsOf};
 
-use crate::asking::{is_line_touched, is_own_touched, is_touched, search_near};
+use crate::asking::{is_line_touched, is_touched, is_traversed_touched, search_near};
 use crate::candidates::candidates;
+use crate::change_set::ChangeSet;
 use crate::detours::search_detours;
-use crate::laid::Laid;
+use crate::overlaid_list::OverlaidList;
 use crate::searches::Searches;
-use crate::touched::Touched;
 use olr_map::MapRead;
-use olr_near::Nearness;
+use olr_near::DistanceBounds;
 use std::alloc::{AllocError, Global};
 
 /// Whether it is known that no path has a coverage query: then no touched node can be near to one.
-fn is_without_looks(laid: Laid<'_>) -> bool
-    ensures { IsTrue result → LackLooks (shown_items laid.entry) }
+fn is_without_queries(overlaid: OverlaidList<'_>) -> bool
+    ensures { IsTrue result → LackQueries (shown_items overlaid.entry) }
 {
-    laid.list.finder.from.is_empty() && laid.overlay.added.finder.from.is_empty()
+    overlaid.list.finder.by_query_origin.is_empty()
+        && overlaid.overlay.added.finder.by_query_origin.is_empty()
 }
 
-/// The limit of the searches for detours, in decimetres: the length of the longest coverage query of those affected paths at
-/// these positions of which no traversed node and no line is touched. None if there is no such query.
+/// The limit of the searches for detours, in decimetres: the length of the longest coverage query of those affected
+/// paths at these positions of which no traversed node and no line is touched. None if there is no such query.
 fn longest<M: MapRead>(
     map: &M,
-    laid: Laid<'_>,
+    overlaid: OverlaidList<'_>,
     found: &[usize],
-    touched: &Touched,
+    touched: &ChangeSet,
     searches: &Searches,
 ) -> Option<u32>
-    requires { AreAsked (M.map map.now) (M.place_in map.now) touched.now searches.now (shown_items laid) }
+    requires { AreAsked (M.map map.now) (M.node_slot map.now) touched.now searches.now (shown_items overlaid) }
 {
     let mut longest = None;
     for position in found {
-        let Some(shown) = laid.at(*position) else {
+        let Some(shown) = overlaid.at(*position) else {
             continue;
         };
         let Some(published) = shown.published else {
             continue;
         };
         if is_touched(map, touched, searches, shown.path, published)
-            && !is_own_touched(touched, &published.own)
+            && !is_traversed_touched(touched, &published.traversed)
             && !is_line_touched(touched, shown.path.lines())
         {
-            for look in &published.looks {
-                longest = longest.max(Some(look.within));
+            for query in &published.queries {
+                longest = longest.max(Some(query.within));
             }
         }
     }
     longest
 }
 
-/// What is known before paths are encoded: the positions of the paths that edits may affect, in ascending order, and the
+/// What is known before paths are encoded: the positions of the paths that edits may affect, in ascending order, and
+/// the
 /// limit of the searches for detours, if they were made.
 #[derive(Drop)]
 pub(crate) struct Asked {
@@ -68,20 +70,20 @@ pub(crate) struct Asked {
 fn search_touched<M: MapRead>(
     alloc: Global,
     map: &M,
-    laid: Laid<'_>,
-    touched: &Touched,
-    numbers: &Nearness,
+    overlaid: OverlaidList<'_>,
+    touched: &ChangeSet,
+    bounds: &DistanceBounds,
     searches: &mut Searches,
 ) -> Result<(), AllocError>
-    requires { AreNumbered (M.map map.now) numbers.now (shown_items laid) }
+    requires { AreBoundsOf (M.map map.now) bounds.now (shown_items overlaid) }
     ensures { OnOk result
-        (AreAsked (M.map map.now) (M.place_in map.now) touched.now searches.new (shown_items laid.entry)) }
+        (AreAsked (M.map map.now) (M.node_slot map.now) touched.now searches.new (shown_items overlaid.entry)) }
 {
-    searches.far = numbers.is_far(touched.nodes()) || is_without_looks(laid);
+    searches.far = bounds.is_far(touched.nodes()) || is_without_queries(overlaid);
     if searches.far {
         return Ok(());
     }
-    search_near(alloc, map, touched, numbers, &mut searches.near)?;
+    search_near(alloc, map, touched, bounds, &mut searches.near)?;
     Ok(())
 }
 
@@ -90,46 +92,47 @@ fn search_touched<M: MapRead>(
 fn ask_detours<M: MapRead>(
     alloc: Global,
     map: &M,
-    laid: Laid<'_>,
+    overlaid: OverlaidList<'_>,
     found: &[usize],
-    touched: &Touched,
+    touched: &ChangeSet,
     searches: &mut Searches,
 ) -> Result<Option<u32>, AllocError>
-    requires { AreAsked (M.map map.now) (M.place_in map.now) touched.now searches.old (shown_items laid) }
+    requires { AreAsked (M.map map.now) (M.node_slot map.now) touched.now searches.old (shown_items overlaid) }
     ensures asked { OnOk result
-        (AreAsked (M.map map.now) (M.place_in map.now) touched.now searches.new (shown_items laid.entry)) }
+        (AreAsked (M.map map.now) (M.node_slot map.now) touched.now searches.new (shown_items overlaid.entry)) }
     ensures detours { IfOk result
-        (λ asked. IfSome asked (AreDetours (M.map map.now) (M.place_in map.now) touched.now searches.new)) }
+        (λ asked. IfSome asked (AreDetours (M.map map.now) (M.node_slot map.now) touched.now searches.new)) }
 {
-    let Some(limit) = longest(map, laid, found, touched, searches) else {
+    let Some(limit) = longest(map, overlaid, found, touched, searches) else {
         return Ok(None);
     };
     let asked = search_detours(alloc, map, touched, limit, searches)?;
     Ok(asked)
 }
 
-/// Searches from the touched nodes, finds the paths that the edits may affect, and searches from the changed lines if one of
+/// Searches from the touched nodes, finds the paths that the edits may affect, and searches from the changed lines if
+/// one of
 /// these paths depends on it.
 pub(crate) fn ask<M: MapRead>(
     alloc: Global,
     map: &M,
-    laid: Laid<'_>,
-    touched: &Touched,
-    numbers: &Nearness,
+    overlaid: OverlaidList<'_>,
+    touched: &ChangeSet,
+    bounds: &DistanceBounds,
     searches: &mut Searches,
 ) -> Result<Asked, AllocError>
-    requires { AreNumbered (M.map map.now) numbers.now (shown_items laid) }
+    requires { AreBoundsOf (M.map map.now) bounds.now (shown_items overlaid) }
     ensures asked { OnOk result
-        (AreAsked (M.map map.now) (M.place_in map.now) touched.now searches.new (shown_items laid.entry)) }
-    ensures rising { IfOk result (λ a. IsNonDecreasing a.found.items) }
+        (AreAsked (M.map map.now) (M.node_slot map.now) touched.now searches.new (shown_items overlaid.entry)) }
+    ensures ascending { IfOk result (λ a. IsNonDecreasing a.found.items) }
     ensures covers { IfOk result
-        (λ a. Covers (M.map map.now) (nodes_of touched.now) (lines_of touched.now) (shown_items laid.entry)
+        (λ a. Covers (M.map map.now) (nodes_of touched.now) (lines_of touched.now) (shown_items overlaid.entry)
         a.found.items) }
     ensures detours { IfOk result
-        (λ a. IfSome a.detours (AreDetours (M.map map.now) (M.place_in map.now) touched.now searches.new)) }
+        (λ a. IfSome a.detours (AreDetours (M.map map.now) (M.node_slot map.now) touched.now searches.new)) }
 {
-    search_touched(alloc, map, laid, touched, numbers, searches)?;
-    let found = candidates(alloc, map, laid, touched, searches)?;
-    let detours = ask_detours(alloc, map, laid, &found, touched, searches)?;
+    search_touched(alloc, map, overlaid, touched, bounds, searches)?;
+    let found = candidates(alloc, map, overlaid, touched, searches)?;
+    let detours = ask_detours(alloc, map, overlaid, &found, touched, searches)?;
     Ok(Asked { found, detours })
 }

@@ -4,26 +4,26 @@ ghost use Rattle.std.specs.List.{list_any};
 ghost use Rattle.olr_spec.specs.Map.{has};
 ghost use Rattle.olr_spec.specs.Extension.{limit};
 ghost use Rattle.olr_spec.specs.Detours.{Near};
-ghost use Rattle.olr_spec.specs.Looks.{Look};
+ghost use Rattle.olr_spec.specs.Queries.{CoverageQuery};
 ghost use Rattle.olr_route.specs.Bounds.{AreLengths};
-ghost use Rattle.olr_near.specs.Numbers.{IsRight, IsSource};
+ghost use Rattle.olr_near.specs.Bounds.{IsRight, IsSource};
 ghost use Rattle.olr_route.specs.declared.distances.Direction.TheVariants.{Against};
 ghost use Rattle.olr_paths.specs.Items.{made_of};
 ghost use Rattle.olr_paths.specs.Touching.{nodes_of, lines_of};
-ghost use Rattle.olr_paths.specs.Searching.{sources, IsTold, IsAsked};
-ghost use Rattle.olr_paths.specs.Changes.{Touches, LookTouched};
+ghost use Rattle.olr_paths.specs.Searching.{sources, IsExactAt, IsAsked};
+ghost use Rattle.olr_paths.specs.Changes.{Touches, QueryTouched};
 
+use crate::change_set::ChangeSet;
 use crate::published::Published;
 use crate::searches::Searches;
-use crate::touched::Touched;
 use olr_map::{Footprint, LineId, MapRead, NodeId};
-use olr_near::Nearness;
+use olr_near::DistanceBounds;
 use olr_refs::Path;
-use olr_route::{Direction, GREATEST_LIMIT, Search};
+use olr_route::{Dijkstra, Direction, GREATEST_LIMIT};
 use std::alloc::{AllocError, Global};
 
 /// The touched nodes, as sources of a search.
-fn sources_of(alloc: Global, touched: &Touched) -> Result<Vec<(NodeId, u32)>, AllocError>
+fn sources_of(alloc: Global, touched: &ChangeSet) -> Result<Vec<(NodeId, u32)>, AllocError>
     ensures { IfOk result (λ v. v.items ≡ sources touched.now) }
 {
     let nodes = touched.nodes.as_slice();
@@ -38,19 +38,19 @@ fn sources_of(alloc: Global, touched: &Touched) -> Result<Vec<(NodeId, u32)>, Al
 pub(crate) fn search_near<M: MapRead>(
     alloc: Global,
     map: &M,
-    touched: &Touched,
-    numbers: &Nearness,
-    near: &mut Search,
+    touched: &ChangeSet,
+    bounds: &DistanceBounds,
+    near: &mut Dijkstra,
 ) -> Result<(), AllocError>
     ensures lengths { OnOk result
-        (AreLengths (M.map map.now) (M.place_in map.now) Against (sources touched.now) near.new) }
-    ensures told { OnOk result (IsRight (M.map map.now) numbers.now → (v w : ℕ) → IsSource numbers.now v w
-        → IsTold (M.map map.now) (M.place_in map.now) touched.now near.new v (min w limit)) }
+        (AreLengths (M.map map.now) (M.node_slot map.now) Against (sources touched.now) near.new) }
+    ensures returned { OnOk result (IsRight (M.map map.now) bounds.now → (v w : ℕ) → IsSource bounds.now v w
+        → IsExactAt (M.map map.now) (M.node_slot map.now) touched.now near.new v (min w limit)) }
 {
     let sources = sources_of(alloc, touched)?;
     near.begin(map, Direction::Against, &sources)?;
-    if numbers.is_known() {
-        near.settle_under(map, numbers.bounds())?;
+    if bounds.is_known() {
+        near.settle_under(map, bounds.bounds())?;
         return Ok(());
     }
     near.settle_to(map, GREATEST_LIMIT)?;
@@ -58,54 +58,60 @@ pub(crate) fn search_near<M: MapRead>(
 }
 
 /// Whether a touched node can be reached from a node within a length in decimetres and the greatest limit.
-fn is_near<M: MapRead>(map: &M, touched: &Touched, near: &Search, node: NodeId, within: u32) -> bool
-    requires lengths { AreLengths (M.map map.now) (M.place_in map.now) Against (sources touched.now) near.now }
-    requires told { IsTold (M.map map.now) (M.place_in map.now) touched.now near.now node (min within limit) }
+fn is_near<M: MapRead>(
+    map: &M,
+    touched: &ChangeSet,
+    near: &Dijkstra,
+    node: NodeId,
+    within: u32,
+) -> bool
+    requires lengths { AreLengths (M.map map.now) (M.node_slot map.now) Against (sources touched.now) near.now }
+    requires returned { IsExactAt (M.map map.now) (M.node_slot map.now) touched.now near.now node (min within limit) }
     ensures { IsTrue result ↔ Near (M.map map.now) (nodes_of touched.now) node (min within limit) }
 {
-    match map.place_of(node) {
-        Some(place) => near.is_within(place, within.min(GREATEST_LIMIT)),
+    match map.slot_of(node) {
+        Some(slot) => near.is_within(slot, within.min(GREATEST_LIMIT)),
         None => touched.has_node(node),
     }
 }
 
 /// Whether one of the traversed nodes was touched.
-pub(crate) fn is_own_touched(touched: &Touched, own: &Footprint) -> bool
-    ensures { IsTrue result ↔ ((v : ℕ) × IsTrue (has (nodes_of touched.now) v) × Contains own.now v) }
+pub(crate) fn is_traversed_touched(touched: &ChangeSet, traversed: &Footprint) -> bool
+    ensures { IsTrue result ↔ ((v : ℕ) × IsTrue (has (nodes_of touched.now) v) × Contains traversed.now v) }
 {
-    let nodes = own.as_slice();
+    let nodes = traversed.as_slice();
     nodes.iter().any(|node| touched.has_node(*node))
 }
 
 /// Whether one of the lines was touched, by a test of each.
-fn is_any_touched(touched: &Touched, lines: &[LineId]) -> bool
+fn is_any_touched(touched: &ChangeSet, lines: &[LineId]) -> bool
     ensures { result ≡ list_any (λ x. has (lines_of touched.now) x) lines.now }
 {
     lines.iter().any(|line| touched.has_line(*line))
 }
 
 /// Whether one of the lines was touched.
-pub(crate) fn is_line_touched(touched: &Touched, lines: &[LineId]) -> bool
+pub(crate) fn is_line_touched(touched: &ChangeSet, lines: &[LineId]) -> bool
     ensures { IsTrue result ↔ ((x : ℕ) × IsTrue (has (lines_of touched.now) x) × IsTrue (has lines.now x)) }
 {
     is_any_touched(touched, lines)
 }
 
 /// Whether a touched node is near to where one of the coverage queries begins.
-fn is_look_touched<M: MapRead>(
+fn is_query_touched<M: MapRead>(
     map: &M,
-    touched: &Touched,
-    near: &Search,
+    touched: &ChangeSet,
+    near: &Dijkstra,
     published: &Published,
 ) -> bool
-    requires lengths { AreLengths (M.map map.now) (M.place_in map.now) Against (sources touched.now) near.now }
-    requires told { (l : Look) → Contains (made_of published.now).looks l
-        → IsTold (M.map map.now) (M.place_in map.now) touched.now near.now l.from (min l.within limit) }
-    ensures { IsTrue result ↔ LookTouched (M.map map.now) (nodes_of touched.now) (made_of published.now) }
+    requires lengths { AreLengths (M.map map.now) (M.node_slot map.now) Against (sources touched.now) near.now }
+    requires returned { (l : CoverageQuery) → Contains (made_of published.now).queries l
+        → IsExactAt (M.map map.now) (M.node_slot map.now) touched.now near.now l.from (min l.within limit) }
+    ensures { IsTrue result ↔ QueryTouched (M.map map.now) (nodes_of touched.now) (made_of published.now) }
 {
-    let looks = published.looks.as_slice();
-    for look in looks {
-        if is_near(map, touched, near, look.from, look.within) {
+    let queries = published.queries.as_slice();
+    for query in queries {
+        if is_near(map, touched, near, query.from, query.within) {
             return true;
         }
     }
@@ -115,16 +121,16 @@ fn is_look_touched<M: MapRead>(
 /// Whether the edits affect a path, by its results from before them.
 pub(crate) fn is_touched<M: MapRead>(
     map: &M,
-    touched: &Touched,
+    touched: &ChangeSet,
     searches: &Searches,
     path: &Path,
     published: &Published,
 ) -> bool
-    requires { IsAsked (M.map map.now) (M.place_in map.now) touched.now searches.now (made_of published.now) }
+    requires { IsAsked (M.map map.now) (M.node_slot map.now) touched.now searches.now (made_of published.now) }
     ensures { IsTrue result
         ↔ Touches (M.map map.now) (nodes_of touched.now) (lines_of touched.now) (made_of published.now) path.now }
 {
-    is_own_touched(touched, &published.own)
+    is_traversed_touched(touched, &published.traversed)
         || is_line_touched(touched, path.lines())
-        || (!searches.far && is_look_touched(map, touched, &searches.near, published))
+        || (!searches.far && is_query_touched(map, touched, &searches.near, published))
 }

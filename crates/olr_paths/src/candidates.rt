@@ -9,32 +9,32 @@ ghost use Rattle.olr_paths.specs.Laying.{overlay_changes};
 ghost use Rattle.olr_paths.specs.Showing.{shown_items};
 ghost use Rattle.olr_paths.specs.Candidates.{Includes, Finds, AreFound, Covers, CoversAsked, FindsChanged};
 
-use crate::laid::Laid;
-use crate::listing::Listing;
+use crate::change_set::ChangeSet;
+use crate::overlaid_list::OverlaidList;
+use crate::path_list::PathList;
 use crate::searches::Searches;
-use crate::touched::Touched;
 use olr_index::Index;
 use olr_map::{LineId, MapRead, NodeId};
 use olr_route::Reached;
 use std::alloc::{AllocError, Global};
 
 /// The position of the path with this id, by binary search.
-fn position_of(marks: &[u64], mark: u64) -> Option<usize>
-    requires { IsStrictlyIncreasing marks.now }
-    ensures { (k : ℕ) → k < length marks.now → get_or marks.now k 0 ≡ mark → result ≡ Some k }
+fn position_of(path_ids: &[u64], path_id: u64) -> Option<usize>
+    requires { IsStrictlyIncreasing path_ids.now }
+    ensures { (k : ℕ) → k < length path_ids.now → get_or path_ids.now k 0 ≡ path_id → result ≡ Some k }
 {
-    marks.binary_search(&mark).ok()
+    path_ids.binary_search(&path_id).ok()
 }
 
 /// Appends the positions of the paths with these ids.
-fn put_positions(marks: &[u64], of: &[u64], found: &mut Vec<usize>) -> Result<(), AllocError>
-    requires { IsStrictlyIncreasing marks.now }
+fn put_positions(path_ids: &[u64], of: &[u64], found: &mut Vec<usize>) -> Result<(), AllocError>
+    requires { IsStrictlyIncreasing path_ids.now }
     ensures kept { OnOk result (Includes found.old.items found.new.items) }
-    ensures put { OnOk result ((k : ℕ) → k < length marks.now → IsTrue (has of.now (get_or marks.now k 0))
+    ensures put { OnOk result ((k : ℕ) → k < length path_ids.now → IsTrue (has of.now (get_or path_ids.now k 0))
         → IsTrue (has found.new.items k)) }
 {
-    for mark in of {
-        if let Some(position) = position_of(marks, *mark) {
+    for path_id in of {
+        if let Some(position) = position_of(path_ids, *path_id) {
             found.push(position)?;
         }
     }
@@ -43,51 +43,51 @@ fn put_positions(marks: &[u64], of: &[u64], found: &mut Vec<usize>) -> Result<()
 
 /// Appends the positions of the paths that have an index entry for one of the nodes.
 fn put_nodes(
-    marks: &[u64],
+    path_ids: &[u64],
     index: &Index,
     nodes: &[NodeId],
     found: &mut Vec<usize>,
 ) -> Result<(), AllocError>
-    requires { IsStrictlyIncreasing marks.now }
+    requires { IsStrictlyIncreasing path_ids.now }
     ensures kept { OnOk result (Includes found.old.items found.new.items) }
-    ensures put { OnOk result (AreFound marks.now index.now nodes.now found.new.items) }
+    ensures put { OnOk result (AreFound path_ids.now index.now nodes.now found.new.items) }
 {
     for node in nodes {
-        put_positions(marks, index.of(u64::from(node.number())), found)?;
+        put_positions(path_ids, index.of(u64::from(node.number())), found)?;
     }
     Ok(())
 }
 
 /// Appends the positions of the paths that have one of the lines.
 fn put_lines(
-    marks: &[u64],
+    path_ids: &[u64],
     index: &Index,
     lines: &[LineId],
     found: &mut Vec<usize>,
 ) -> Result<(), AllocError>
-    requires { IsStrictlyIncreasing marks.now }
+    requires { IsStrictlyIncreasing path_ids.now }
     ensures kept { OnOk result (Includes found.old.items found.new.items) }
-    ensures put { OnOk result (AreFound marks.now index.now lines.now found.new.items) }
+    ensures put { OnOk result (AreFound path_ids.now index.now lines.now found.new.items) }
 {
     for line in lines {
-        put_positions(marks, index.of(u64::from(line.number())), found)?;
+        put_positions(path_ids, index.of(u64::from(line.number())), found)?;
     }
     Ok(())
 }
 
 /// Appends the positions of the paths that have an index entry for one of the nodes that a search labelled.
 fn put_reached(
-    marks: &[u64],
+    path_ids: &[u64],
     index: &Index,
     reached: &[Reached],
     found: &mut Vec<usize>,
 ) -> Result<(), AllocError>
-    requires { IsStrictlyIncreasing marks.now }
+    requires { IsStrictlyIncreasing path_ids.now }
     ensures kept { OnOk result (Includes found.old.items found.new.items) }
-    ensures put { OnOk result (All (λ r. Finds marks.now index.now r.node found.new.items) reached.now) }
+    ensures put { OnOk result (All (λ r. Finds path_ids.now index.now r.node found.new.items) reached.now) }
 {
     for one in reached {
-        put_positions(marks, index.of(u64::from(one.node.number())), found)?;
+        put_positions(path_ids, index.of(u64::from(one.node.number())), found)?;
     }
     Ok(())
 }
@@ -104,18 +104,18 @@ fn put_range(from: usize, to: usize, found: &mut Vec<usize>) -> Result<(), Alloc
 }
 
 /// Appends the positions of the paths that changes replace.
-fn put_changed(laid: Laid<'_>, found: &mut Vec<usize>) -> Result<(), AllocError>
+fn put_changed(overlaid: OverlaidList<'_>, found: &mut Vec<usize>) -> Result<(), AllocError>
     ensures kept { OnOk result (Includes found.old.items found.new.items) }
     ensures put { OnOk result
-        (FindsChanged (overlay_changes laid.entry.overlay.now) (items laid.entry.list.now) found.new.items) }
+        (FindsChanged (overlay_changes overlaid.entry.overlay.now) (items overlaid.entry.list.now) found.new.items) }
 {
     // For the proof alone: no name occurs twice.
-    let _names = laid.list.len();
-    for k in 0..laid.overlay.changes.len() {
-        let Some((name, _)) = laid.overlay.changes.get_index(k) else {
+    let _names = overlaid.list.len();
+    for k in 0..overlaid.overlay.changes.len() {
+        let Some((name, _)) = overlaid.overlay.changes.get_index(k) else {
             unreachable!()
         };
-        let Some(position) = laid.list.paths.get_index_of(name.as_str()) else {
+        let Some(position) = overlaid.list.paths.get_index_of(name.as_str()) else {
             continue;
         };
         found.push(position)?;
@@ -127,47 +127,58 @@ fn put_changed(laid: Laid<'_>, found: &mut Vec<usize>) -> Result<(), AllocError>
 /// coverage query that begins at a node labelled by the search.
 fn put_touched<M: MapRead>(
     map: &M,
-    list: &Listing,
-    touched: &Touched,
+    list: &PathList,
+    touched: &ChangeSet,
     searches: &Searches,
     found: &mut Vec<usize>,
 ) -> Result<(), AllocError>
     requires encoded { IsFalse list.now.held }
     ensures { OnOk result
-        (CoversAsked (M.map map.now) (M.place_in map.now) touched.now searches.now (items list.now) found.new.items) }
+        (CoversAsked (M.map map.now) (M.node_slot map.now) touched.now searches.now (items list.now) found.new.items) }
 {
-    put_nodes(&list.marks, &list.finder.own, &touched.nodes, found)?;
-    put_nodes(&list.marks, &list.finder.from, &touched.nodes, found)?;
-    put_lines(&list.marks, &list.finder.lines, &touched.lines, found)?;
+    put_nodes(
+        &list.path_ids,
+        &list.finder.traversed,
+        &touched.nodes,
+        found,
+    )?;
+    put_nodes(
+        &list.path_ids,
+        &list.finder.by_query_origin,
+        &touched.nodes,
+        found,
+    )?;
+    put_lines(&list.path_ids, &list.finder.lines, &touched.lines, found)?;
     if searches.far {
         return Ok(());
     }
-    let reached = searches.near.reached_nodes();
-    put_reached(&list.marks, &list.finder.from, reached, found)?;
+    let reached = searches.near.labelled_nodes();
+    put_reached(&list.path_ids, &list.finder.by_query_origin, reached, found)?;
     Ok(())
 }
 
-/// Appends the positions of the list's paths that the edits may affect, or that changes replace; all positions if the list
+/// Appends the positions of the list's paths that the edits may affect, or that changes replace; all positions if the
+/// list
 /// may have a path that is not encoded yet.
 fn put_listed<M: MapRead>(
     map: &M,
-    laid: Laid<'_>,
-    touched: &Touched,
+    overlaid: OverlaidList<'_>,
+    touched: &ChangeSet,
     searches: &Searches,
     found: &mut Vec<usize>,
 ) -> Result<(), AllocError>
     ensures changed { OnOk result
-        (FindsChanged (overlay_changes laid.entry.overlay.now) (items laid.entry.list.now) found.new.items) }
+        (FindsChanged (overlay_changes overlaid.entry.overlay.now) (items overlaid.entry.list.now) found.new.items) }
     ensures asked { OnOk result
-        (CoversAsked (M.map map.now) (M.place_in map.now) touched.now searches.now (items laid.entry.list.now)
+        (CoversAsked (M.map map.now) (M.node_slot map.now) touched.now searches.now (items overlaid.entry.list.now)
         found.new.items) }
 {
-    if laid.list.held {
-        put_range(0, laid.list.paths.len(), found)?;
+    if overlaid.list.held {
+        put_range(0, overlaid.list.paths.len(), found)?;
         return Ok(());
     }
-    put_touched(map, laid.list, touched, searches, found)?;
-    put_changed(laid, found)?;
+    put_touched(map, overlaid.list, touched, searches, found)?;
+    put_changed(overlaid, found)?;
     Ok(())
 }
 
@@ -176,20 +187,24 @@ fn put_listed<M: MapRead>(
 pub(crate) fn candidates<M: MapRead>(
     alloc: Global,
     map: &M,
-    laid: Laid<'_>,
-    touched: &Touched,
+    overlaid: OverlaidList<'_>,
+    touched: &ChangeSet,
     searches: &Searches,
 ) -> Result<Vec<usize>, AllocError>
-    requires { AreAsked (M.map map.now) (M.place_in map.now) touched.now searches.now (shown_items laid) }
-    ensures rising { IfOk result (λ found. IsNonDecreasing found.items) }
+    requires { AreAsked (M.map map.now) (M.node_slot map.now) touched.now searches.now (shown_items overlaid) }
+    ensures ascending { IfOk result (λ found. IsNonDecreasing found.items) }
     ensures covers { IfOk result
-        (λ found. Covers (M.map map.now) (nodes_of touched.now) (lines_of touched.now) (shown_items laid.entry)
+        (λ found. Covers (M.map map.now) (nodes_of touched.now) (lines_of touched.now) (shown_items overlaid.entry)
         found.items) }
 {
-    let count = laid.list.paths.len();
+    let count = overlaid.list.paths.len();
     let mut found = Vec::new(alloc);
-    put_listed(map, laid, touched, searches, &mut found)?;
-    put_range(count, count + laid.overlay.added.paths.len(), &mut found)?;
+    put_listed(map, overlaid, touched, searches, &mut found)?;
+    put_range(
+        count,
+        count + overlaid.overlay.added.paths.len(),
+        &mut found,
+    )?;
     found.sort_unstable();
     Ok(found)
 }

@@ -1,23 +1,23 @@
 //! Whether changed lines offer a detour that is as short as a coverage query.
 ghost use Rattle.std.specs.Prelude.{◌≡◌, ◌≤◌, IsTrue, IfOk, IfSome, OnOk};
-ghost use Rattle.olr_spec.specs.Looks.{IsClear};
+ghost use Rattle.olr_spec.specs.Queries.{IsClear};
 ghost use Rattle.olr_route.specs.Searches.{IsSearch, limit_of};
 ghost use Rattle.olr_paths.specs.Touching.{changed_of};
 ghost use Rattle.olr_paths.specs.Searching.{AreDetours, AreFarther, starts, ends};
 ghost use Rattle.std.specs.Prelude.{All};
 
+use crate::change_set::ChangeSet;
 use crate::searches::Searches;
-use crate::touched::Touched;
 use olr_map::{MapRead, NodeId};
-use olr_refs::Look;
-use olr_route::{Direction, GREATEST_LIMIT, Search};
+use olr_refs::CoverageQuery;
+use olr_route::{Dijkstra, Direction, GREATEST_LIMIT};
 use std::alloc::{AllocError, Global};
 
 /// With more changed lines than this, no detours are searched: nearly every path is encoded anyway.
 const MOST_CHANGED: usize = 8;
 
 /// The nodes where changed lines begin, each with the line's length.
-fn starts_of(alloc: Global, touched: &Touched) -> Result<Vec<(NodeId, u32)>, AllocError>
+fn starts_of(alloc: Global, touched: &ChangeSet) -> Result<Vec<(NodeId, u32)>, AllocError>
     ensures { IfOk result (λ v. v.items ≡ starts touched.now) }
 {
     let changed = touched.changed.as_slice();
@@ -29,7 +29,7 @@ fn starts_of(alloc: Global, touched: &Touched) -> Result<Vec<(NodeId, u32)>, All
 }
 
 /// The nodes where changed lines end.
-fn ends_of(alloc: Global, touched: &Touched) -> Result<Vec<(NodeId, u32)>, AllocError>
+fn ends_of(alloc: Global, touched: &ChangeSet) -> Result<Vec<(NodeId, u32)>, AllocError>
     ensures { IfOk result (λ v. v.items ≡ ends touched.now) }
 {
     let changed = touched.changed.as_slice();
@@ -40,17 +40,17 @@ fn ends_of(alloc: Global, touched: &Touched) -> Result<Vec<(NodeId, u32)>, Alloc
     Ok(ends)
 }
 
-/// Searches, up to a limit in decimetres, for distances to the starts of changed lines and from their ends, unless there are
-/// too many changed lines. Returns the limit, if the searches were made.
+/// Searches, up to a limit in decimetres, for distances to the starts of changed lines and from their ends, unless
+/// there are too many changed lines. Returns the limit, if the searches were made.
 pub(crate) fn search_detours<M: MapRead>(
     alloc: Global,
     map: &M,
-    touched: &Touched,
+    touched: &ChangeSet,
     limit: u32,
     searches: &mut Searches,
 ) -> Result<Option<u32>, AllocError>
     ensures asked { IfOk result
-        (λ asked. IfSome asked (AreDetours (M.map map.now) (M.place_in map.now) touched.now searches.new)) }
+        (λ asked. IfSome asked (AreDetours (M.map map.now) (M.node_slot map.now) touched.now searches.new)) }
     ensures near { searches.new.near ≡ searches.old.near }
     ensures far { searches.new.far ≡ searches.old.far }
 {
@@ -76,10 +76,10 @@ fn search_to<M: MapRead>(
     direction: Direction,
     from: &[(NodeId, u32)],
     limit: u32,
-    search: &mut Search,
+    search: &mut Dijkstra,
 ) -> Result<(), AllocError>
     requires { limit ≤ GREATEST_LIMIT }
-    ensures search { OnOk result (IsSearch (M.map map.now) (M.place_in map.now) direction from.now search.new) }
+    ensures search { OnOk result (IsSearch (M.map map.now) (M.node_slot map.now) direction from.now search.new) }
     ensures limit { OnOk result (limit_of search.new ≡ limit) }
 {
     search.begin(map, direction, from)?;
@@ -100,41 +100,41 @@ fn is_farther(before: Option<u32>, after: Option<u32>, within: u32) -> bool
 /// Whether it is known that no detour over the changed lines is as short as the coverage query.
 fn is_clear<M: MapRead>(
     map: &M,
-    touched: &Touched,
+    touched: &ChangeSet,
     searches: &Searches,
     limit: u32,
-    look: &Look,
+    query: &CoverageQuery,
 ) -> bool
-    requires { AreDetours (M.map map.now) (M.place_in map.now) touched.now searches.now limit }
-    ensures { IsTrue result → IsClear (M.map map.now) (changed_of touched.now) look.now }
+    requires { AreDetours (M.map map.now) (M.node_slot map.now) touched.now searches.now limit }
+    ensures { IsTrue result → IsClear (M.map map.now) (changed_of touched.now) query.now }
 {
-    if look.within > limit {
+    if query.within > limit {
         return false;
     }
-    let Some(from) = map.place_of(look.from) else {
+    let Some(from) = map.slot_of(query.from) else {
         return false;
     };
-    let Some(to) = map.place_of(look.to) else {
+    let Some(to) = map.slot_of(query.to) else {
         return false;
     };
     let before = searches.before.dist_at(from);
     let after = searches.after.dist_at(to);
-    is_farther(before, after, look.within)
+    is_farther(before, after, query.within)
 }
 
 /// Whether it is known that each coverage query is clear.
 pub(crate) fn are_clear<M: MapRead>(
     map: &M,
-    touched: &Touched,
+    touched: &ChangeSet,
     searches: &Searches,
     limit: u32,
-    looks: &[Look],
+    queries: &[CoverageQuery],
 ) -> bool
-    requires { AreDetours (M.map map.now) (M.place_in map.now) touched.now searches.now limit }
-    ensures { IsTrue result → All (IsClear (M.map map.now) (changed_of touched.now)) looks.now }
+    requires { AreDetours (M.map map.now) (M.node_slot map.now) touched.now searches.now limit }
+    ensures { IsTrue result → All (IsClear (M.map map.now) (changed_of touched.now)) queries.now }
 {
-    for look in looks {
-        if !is_clear(map, touched, searches, limit, look) {
+    for query in queries {
+        if !is_clear(map, touched, searches, limit, query) {
             return false;
         }
     }

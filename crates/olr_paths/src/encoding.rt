@@ -9,7 +9,7 @@ use crate::published::Published;
 use olr_binary::text::to_text;
 use olr_map::MapRead;
 use olr_refs::{Answer, Encoding, Path, encode};
-use olr_route::{Search, Work};
+use olr_route::{Dijkstra, Work};
 use std::alloc::{AllocError, Global};
 
 /// The text of an answer, if it has one.
@@ -30,7 +30,7 @@ pub fn publish<M: MapRead>(
     alloc: Global,
     map: &M,
     path: &Path,
-    search: &mut Search,
+    search: &mut Dijkstra,
     work: &mut Work,
 ) -> Result<Published, AllocError>
     ensures made { IfOk result (λ p. IsEncodingOf (M.map map.now) path.now (made_of p)) }
@@ -42,12 +42,16 @@ pub fn publish<M: MapRead>(
     // For the proof alone: the counts are in range.
     let _searches = work.searches;
     let _settled = work.settled;
-    let Encoding { answer, own, looks } = encode(alloc, map, path, search, work)?;
+    let Encoding {
+        answer,
+        traversed,
+        queries,
+    } = encode(alloc, map, path, search, work)?;
     let text = text_of(alloc, &answer)?;
     Ok(Published {
         answer,
         text,
-        own,
-        looks,
+        traversed,
+        queries,
     })
 }

@@ -3,11 +3,11 @@ ghost use Rattle.std.specs.Prelude.{◌≡◌, IfOk};
 ghost use Rattle.olr_commands.specs.Reply.{entry};
 ghost use Rattle.olr_commands.specs.Words.{entry_of};
 
-use crate::listing::Listing;
+use crate::path_list::PathList;
 use olr_commands::Entry;
 use std::alloc::{AllocError, Global};
 
-impl Listing {
+impl PathList {
     ghost use Rattle.std.specs.Prelude.{◌≡◌, ◌≢◌, [], Some, map, length, IfOk, OnErr};
     ghost use Rattle.olr_spec.specs.Encoding.{Answer};
     ghost use Rattle.olr_paths.specs.Items.{items, answer_in};

@@ -1,21 +1,22 @@
 //! Which paths have a node or a line, found by its number.
 ghost use Rattle.std.specs.Prelude.{◌≡◌, ℕ, Contains, IsTrue, OnOk};
 ghost use Rattle.std.specs.List.Sorted.{IsStrictlyIncreasing};
-ghost use Rattle.olr_spec.specs.Looks.{Look as LookRecord};
-ghost use Rattle.olr_paths.specs.Finding.{OwnNoted, FromNoted, KeepsAll, KeepsBut};
+ghost use Rattle.olr_spec.specs.Queries.{CoverageQuery as QueryRecord};
+ghost use Rattle.olr_paths.specs.Finding.{TraversedNoted, FromNoted, KeepsAll, KeepsBut};
 
 use crate::published::Published;
 use olr_index::Index;
 use olr_map::{LineId, NodeId};
-use olr_refs::Look;
+use olr_refs::CoverageQuery;
 use std::alloc::{AllocError, Global};
 
-/// The path ids by the numbers of traversed nodes, of nodes where coverage queries begin, and of lines. It may have more
+/// The path ids by the numbers of traversed nodes, of nodes where coverage queries begin, and of lines. It may have
+/// more
 /// entries than the paths need.
 #[derive(Drop, Debug)]
 pub struct Finder {
-    pub(crate) own: Index,
-    pub(crate) from: Index,
+    pub(crate) traversed: Index,
+    pub(crate) by_query_origin: Index,
     pub(crate) lines: Index,
 }
 
@@ -26,105 +27,122 @@ impl Finder {
     /// A finder without entries. Takes no memory.
     pub(crate) fn new(alloc: Global) -> Finder {
         Finder {
-            own: Index::new(alloc),
-            from: Index::new(alloc),
+            traversed: Index::new(alloc),
+            by_query_origin: Index::new(alloc),
             lines: Index::new(alloc),
         }
     }
 
-    /// Adds the id of a path to its lines, its traversed nodes and the nodes where its coverage queries begin. If an allocation
+    /// Adds the id of a path to its lines, its traversed nodes and the nodes where its coverage queries begin. If an
+    /// allocation
     /// fails, some of them have it.
     pub(crate) fn note(
         &mut self,
-        mark: u64,
+        path_id: u64,
         lines: &[LineId],
         published: &Published,
     ) -> Result<(), AllocError>
-        ensures noted { OnOk result (IsNoted self.new mark lines.now published.now.own published.now.looks.items) }
+        ensures noted { OnOk result (IsNoted self.new path_id lines.now published.now.traversed
+            published.now.queries.items) }
         ensures grows { Grows self.old self.new }
-        ensures spares { Spares mark self.old self.new }
+        ensures spares { Spares path_id self.old self.new }
     {
-        note_nodes(&mut self.own, mark, published.own.as_slice())?;
-        note_looks(&mut self.from, mark, &published.looks)?;
-        note_lines(&mut self.lines, mark, lines)
+        note_nodes(&mut self.traversed, path_id, published.traversed.as_slice())?;
+        note_queries(&mut self.by_query_origin, path_id, &published.queries)?;
+        note_lines(&mut self.lines, path_id, lines)
     }
 
-    /// Removes the id from these lines, from the traversed nodes and from the nodes where coverage queries began. Takes no
+    /// Removes the id from these lines, from the traversed nodes and from the nodes where coverage queries began. Takes
+    /// no
     /// memory.
-    pub(crate) fn forget(&mut self, mark: u64, lines: &[LineId], gone: &Published)
-        ensures { Spares mark self.old self.new }
+    pub(crate) fn forget(&mut self, path_id: u64, lines: &[LineId], replaced: &Published)
+        ensures { Spares path_id self.old self.new }
     {
-        forget_nodes(&mut self.own, mark, gone.own.as_slice(), &[]);
-        forget_looks(&mut self.from, mark, &gone.looks, &[]);
-        forget_lines(&mut self.lines, mark, lines, &[]);
+        forget_nodes(
+            &mut self.traversed,
+            path_id,
+            replaced.traversed.as_slice(),
+            &[],
+        );
+        forget_queries(&mut self.by_query_origin, path_id, &replaced.queries, &[]);
+        forget_lines(&mut self.lines, path_id, lines, &[]);
     }
 
     /// The same, except for what the retained path has.
     pub(crate) fn forget_but(
         &mut self,
-        mark: u64,
+        path_id: u64,
         lines: &[LineId],
-        gone: &Published,
+        replaced: &Published,
         kept_lines: &[LineId],
         kept: &Published,
     )
-        ensures keeps { IsNoted self.old mark kept_lines.now kept.now.own kept.now.looks.items
-            → IsNoted self.new mark kept_lines.now kept.now.own kept.now.looks.items }
-        ensures spares { Spares mark self.old self.new }
+        ensures keeps { IsNoted self.old path_id kept_lines.now kept.now.traversed kept.now.queries.items
+            → IsNoted self.new path_id kept_lines.now kept.now.traversed kept.now.queries.items }
+        ensures spares { Spares path_id self.old self.new }
     {
         forget_nodes(
-            &mut self.own,
-            mark,
-            gone.own.as_slice(),
-            kept.own.as_slice(),
+            &mut self.traversed,
+            path_id,
+            replaced.traversed.as_slice(),
+            kept.traversed.as_slice(),
         );
-        forget_looks(&mut self.from, mark, &gone.looks, &kept.looks);
-        forget_lines(&mut self.lines, mark, lines, kept_lines);
+        forget_queries(
+            &mut self.by_query_origin,
+            path_id,
+            &replaced.queries,
+            &kept.queries,
+        );
+        forget_lines(&mut self.lines, path_id, lines, kept_lines);
     }
 }
 
 /// Adds a path id to nodes. If an allocation fails, some have it.
-fn note_nodes(index: &mut Index, mark: u64, nodes: &[NodeId]) -> Result<(), AllocError>
-    ensures noted { OnOk result (OwnNoted index.new mark nodes.now) }
+fn note_nodes(index: &mut Index, path_id: u64, nodes: &[NodeId]) -> Result<(), AllocError>
+    ensures noted { OnOk result (TraversedNoted index.new path_id nodes.now) }
     ensures grows { KeepsAll index.old index.new }
-    ensures spares { KeepsBut mark index.old index.new }
+    ensures spares { KeepsBut path_id index.old index.new }
 {
     for node in nodes {
-        index.add(u64::from(node.number()), mark)?;
+        index.add(u64::from(node.number()), path_id)?;
     }
     Ok(())
 }
 
 /// Adds a path id to lines. If an allocation fails, some have it.
-fn note_lines(index: &mut Index, mark: u64, lines: &[LineId]) -> Result<(), AllocError>
-    ensures noted { OnOk result (OwnNoted index.new mark lines.now) }
+fn note_lines(index: &mut Index, path_id: u64, lines: &[LineId]) -> Result<(), AllocError>
+    ensures noted { OnOk result (TraversedNoted index.new path_id lines.now) }
     ensures grows { KeepsAll index.old index.new }
-    ensures spares { KeepsBut mark index.old index.new }
+    ensures spares { KeepsBut path_id index.old index.new }
 {
     for line in lines {
-        index.add(u64::from(line.number()), mark)?;
+        index.add(u64::from(line.number()), path_id)?;
     }
     Ok(())
 }
 
 /// Adds a path id to the nodes where coverage queries begin. If an allocation fails, some have it.
-fn note_looks(index: &mut Index, mark: u64, looks: &[Look]) -> Result<(), AllocError>
-    ensures noted { OnOk result (FromNoted index.new mark looks.now) }
+fn note_queries(
+    index: &mut Index,
+    path_id: u64,
+    queries: &[CoverageQuery],
+) -> Result<(), AllocError>
+    ensures noted { OnOk result (FromNoted index.new path_id queries.now) }
     ensures grows { KeepsAll index.old index.new }
-    ensures spares { KeepsBut mark index.old index.new }
+    ensures spares { KeepsBut path_id index.old index.new }
 {
-    for look in looks {
-        index.add(u64::from(look.from.number()), mark)?;
+    for query in queries {
+        index.add(u64::from(query.from.number()), path_id)?;
     }
     Ok(())
 }
 
 /// Whether one of the coverage queries begins at a node.
-fn is_looked_from(looks: &[Look], node: NodeId) -> bool
-    ensures { (l : LookRecord) → Contains looks.now l → l.from ≡ node → IsTrue result }
+fn is_queried_from(queries: &[CoverageQuery], node: NodeId) -> bool
+    ensures { (l : QueryRecord) → Contains queries.now l → l.from ≡ node → IsTrue result }
 {
-    for look in looks {
-        if look.from == node {
+    for query in queries {
+        if query.from == node {
             return true;
         }
     }
@@ -132,40 +150,46 @@ fn is_looked_from(looks: &[Look], node: NodeId) -> bool
 }
 
 /// Removes a path id from nodes, except from the retained ones. Takes no memory.
-fn forget_nodes(index: &mut Index, mark: u64, gone: &[NodeId], kept: &[NodeId])
+fn forget_nodes(index: &mut Index, path_id: u64, replaced: &[NodeId], kept: &[NodeId])
     requires { IsStrictlyIncreasing kept.now }
-    ensures keeps { OwnNoted index.old mark kept.now → OwnNoted index.new mark kept.now }
-    ensures spares { KeepsBut mark index.old index.new }
+    ensures keeps { TraversedNoted index.old path_id kept.now → TraversedNoted index.new path_id kept.now }
+    ensures spares { KeepsBut path_id index.old index.new }
 {
-    for node in gone {
+    for node in replaced {
         if kept.binary_search(node).is_ok() {
             continue;
         }
-        index.remove(u64::from(node.number()), mark);
+        index.remove(u64::from(node.number()), path_id);
     }
 }
 
-/// Removes a path id from the nodes where coverage queries began, except from those of retained queries. Takes no memory.
-fn forget_looks(index: &mut Index, mark: u64, gone: &[Look], kept: &[Look])
-    ensures keeps { FromNoted index.old mark kept.now → FromNoted index.new mark kept.now }
-    ensures spares { KeepsBut mark index.old index.new }
+/// Removes a path id from the nodes where coverage queries began, except from those of retained queries. Takes no
+/// memory.
+fn forget_queries(
+    index: &mut Index,
+    path_id: u64,
+    replaced: &[CoverageQuery],
+    kept: &[CoverageQuery],
+)
+    ensures keeps { FromNoted index.old path_id kept.now → FromNoted index.new path_id kept.now }
+    ensures spares { KeepsBut path_id index.old index.new }
 {
-    for look in gone {
-        if is_looked_from(kept, look.from) {
+    for query in replaced {
+        if is_queried_from(kept, query.from) {
             continue;
         }
-        index.remove(u64::from(look.from.number()), mark);
+        index.remove(u64::from(query.from.number()), path_id);
     }
 }
 
 /// Removes a path id from lines, except from the retained ones. Takes no memory.
-fn forget_lines(index: &mut Index, mark: u64, gone: &[LineId], kept: &[LineId])
-    ensures keeps { OwnNoted index.old mark kept.now → OwnNoted index.new mark kept.now }
-    ensures spares { KeepsBut mark index.old index.new }
+fn forget_lines(index: &mut Index, path_id: u64, replaced: &[LineId], kept: &[LineId])
+    ensures keeps { TraversedNoted index.old path_id kept.now → TraversedNoted index.new path_id kept.now }
+    ensures spares { KeepsBut path_id index.old index.new }
 {
-    for line in gone {
+    for line in replaced {
         if !kept.contains(line) {
-            index.remove(u64::from(line.number()), mark);
+            index.remove(u64::from(line.number()), path_id);
         }
     }
 }

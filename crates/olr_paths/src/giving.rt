@@ -5,15 +5,15 @@ ghost use Rattle.olr_spec.specs.Encoding.{Answer};
 ghost use Rattle.olr_commands.specs.State.{path_named};
 ghost use Rattle.olr_commands.specs.Reply.{entry};
 ghost use Rattle.olr_commands.specs.Words.{entry_of};
-ghost use Rattle.olr_spec.specs.Looks.{Look as LookRecord};
+ghost use Rattle.olr_spec.specs.Queries.{CoverageQuery as QueryRecord};
 ghost use Rattle.olr_paths.specs.Items.{Made, IsEncodingOf, items, made_of, all_named, answer_in};
 ghost use Rattle.olr_paths.specs.Changes.{set_item};
-ghost use Rattle.olr_paths.specs.Beginning.{Begins, begun_in};
+ghost use Rattle.olr_paths.specs.Origins.{Begins, new_origins_in};
 
-use crate::begins::note_looks;
+use crate::begins::note_queries;
 use crate::encoding::publish;
-use crate::listing::{Listing, NamedPath};
-use crate::renewal::tell;
+use crate::path_list::{NamedPath, PathList};
+use crate::renewal::push_if_changed;
 use crate::searches::Searches;
 use olr_commands::Entry;
 use olr_map::MapRead;
@@ -22,7 +22,7 @@ use olr_route::Work;
 use std::alloc::{AllocError, Global};
 use std::rc::Rc;
 
-impl Listing {
+impl PathList {
     /// Encodes a path and appends it. The reply names it. If an allocation fails, list and work are unchanged.
     pub fn add<M: MapRead>(
         &mut self,
@@ -41,15 +41,15 @@ impl Listing {
             (work.old.encodings + 1 < 2 ^ 64 → work.new.encodings ≡ work.old.encodings + 1) }
         ensures searches { OnOk result (work.old.searches ≤ work.new.searches) }
         ensures settled { OnOk result (work.old.settled ≤ work.new.settled) }
-        ensures begun { OnOk result ((v : LookRecord) → Begins (items self.new) v
-            → Begins (items self.old) v ⊎ Contains (begun_in searches.new) v) }
+        ensures new_origins { OnOk result ((v : QueryRecord) → Begins (items self.new) v
+            → Begins (items self.old) v ⊎ Contains (new_origins_in searches.new) v) }
         ensures err { OnErr result (items self.new ≡ items self.old) }
         ensures err_work { OnErr result (work.new ≡ work.old) }
     {
         let mut tried = *work;
-        let published = publish(alloc, map, &path, &mut searches.look, &mut tried)?;
-        searches.begun.clear();
-        note_looks(&published.looks, &mut searches.begun)?;
+        let published = publish(alloc, map, &path, &mut searches.query, &mut tried)?;
+        searches.new_origins.clear();
+        note_queries(&published.queries, &mut searches.new_origins)?;
         let mut entries = Vec::with_capacity(alloc, 1)?;
         entries.push(published.entry(alloc, name.as_str())?)?;
         let named = NamedPath {
@@ -61,7 +61,8 @@ impl Listing {
         Ok(entries)
     }
 
-    /// Encodes another path for a name. It keeps its position, and the reply names it if its answer is another than before. If
+    /// Encodes another path for a name. It keeps its position, and the reply names it if its answer is another than
+    /// before. If
     /// an allocation fails, list and work are unchanged.
     pub fn set<M: MapRead>(
         &mut self,
@@ -82,17 +83,17 @@ impl Listing {
             (work.old.encodings + 1 < 2 ^ 64 → work.new.encodings ≡ work.old.encodings + 1) }
         ensures searches { OnOk result (work.old.searches ≤ work.new.searches) }
         ensures settled { OnOk result (work.old.settled ≤ work.new.settled) }
-        ensures begun { OnOk result ((v : LookRecord) → Begins (items self.new) v
-            → Begins (items self.old) v ⊎ Contains (begun_in searches.new) v) }
+        ensures new_origins { OnOk result ((v : QueryRecord) → Begins (items self.new) v
+            → Begins (items self.old) v ⊎ Contains (new_origins_in searches.new) v) }
         ensures err { OnErr result (items self.new ≡ items self.old) }
         ensures err_work { OnErr result (work.new ≡ work.old) }
     {
         let mut tried = *work;
-        let published = publish(alloc, map, &path, &mut searches.look, &mut tried)?;
-        searches.begun.clear();
-        note_looks(&published.looks, &mut searches.begun)?;
+        let published = publish(alloc, map, &path, &mut searches.query, &mut tried)?;
+        searches.new_origins.clear();
+        note_queries(&published.queries, &mut searches.new_origins)?;
         let mut entries = Vec::new(alloc);
-        tell(alloc, self, name, &published, &mut entries)?;
+        push_if_changed(alloc, self, name, &published, &mut entries)?;
         let named = NamedPath {
             path: Rc::new(alloc, path)?,
             published: Some(Rc::new(alloc, published)?),

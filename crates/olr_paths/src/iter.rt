@@ -2,7 +2,7 @@
 ghost use Rattle.std.specs.Prelude.{IsTrue, is_some};
 ghost use Rattle.std.specs.List.{list_all};
 
-use crate::listing::{Listing, NamedPath};
+use crate::path_list::{NamedPath, PathList};
 use crate::published::Published;
 use indexmap::map;
 use std::iter::FusedIterator;
@@ -47,7 +47,7 @@ impl<'a> ExactSizeIterator for Iter<'a> {
 
 impl<'a> FusedIterator for Iter<'a> {}
 
-impl Listing {
+impl PathList {
     ghost use Rattle.std.specs.Prelude.{◌≡◌, map};
     ghost use Rattle.olr_paths.specs.Items.{items};
     ghost use Rattle.olr_paths.specs.Changes.{AreEncoded};

@@ -8,20 +8,21 @@ ghost use Rattle.olr_paths.specs.Renewing.{item_of};
 ghost use Rattle.olr_paths.specs.Laying.{TakesNone, changes_in, overlay_changes, change_at, drops, under_change};
 ghost use Rattle.olr_paths.specs.Laying.{under_changes, under_overlay};
 
-use crate::listing::{Listing, NamedPath};
+use crate::path_list::{NamedPath, PathList};
 use indexmap::IndexMap;
 use olr_refs::Path;
 use std::alloc::{AllocError, Global};
 use std::rc::Rc;
 
-/// Changes over a list of named paths: replaced paths, removed paths, and new paths at the end. A name that is removed and
+/// Changes over a list of named paths: replaced paths, removed paths, and new paths at the end. A name that is removed
+/// and
 /// added again is both in `changes` and in `added`.
 #[derive(Drop, Debug)]
 pub struct Overlay {
     /// The changes of the list's paths: a replacement, or None if the path is removed.
     pub(crate) changes: IndexMap<String, Option<Rc<Path>>>,
     /// New paths, not encoded yet.
-    pub(crate) added: Listing,
+    pub(crate) added: PathList,
 }
 
 /// A path of a list under changes, by its name. None if it is removed.
@@ -51,7 +52,7 @@ fn put_one(
     changes: &IndexMap<String, Option<Rc<Path>>>,
     name: &str,
     named: &NamedPath,
-    to: &mut Listing,
+    to: &mut PathList,
 ) -> Result<(), AllocError>
     requires { (j : Item) → under_change (change_at (changes_in changes.now.entries) name.now)
         (item_of name.now named.now) ≡ j ∷ []
@@ -67,13 +68,14 @@ fn put_one(
     Ok(())
 }
 
-/// Appends a list, under changes, to another. The lists share paths and answers. If an allocation fails, only some paths
+/// Appends a list, under changes, to another. The lists share paths and answers. If an allocation fails, only some
+/// paths
 /// are appended.
 pub(crate) fn put_behind(
     alloc: Global,
     changes: &IndexMap<String, Option<Rc<Path>>>,
-    list: &Listing,
-    to: &mut Listing,
+    list: &PathList,
+    to: &mut PathList,
 ) -> Result<(), AllocError>
     requires { NamesDiffer (all_named (items to.old
         ++ under_changes (changes_in changes.now.entries) (items list.now))) }
@@ -103,7 +105,7 @@ impl Overlay {
     {
         Overlay {
             changes: IndexMap::new(alloc),
-            added: Listing::new(alloc),
+            added: PathList::new(alloc),
         }
     }
 
@@ -133,7 +135,7 @@ impl Overlay {
     }
 
     /// Whether a path of the list under these changes has the name.
-    pub fn has(&self, list: &Listing, name: &str) -> bool
+    pub fn has(&self, list: &PathList, name: &str) -> bool
         ensures { result ≡ is_some (path_named (all_named (under_overlay (items list.now) self.now)) name.now) }
     {
         if self.added.has(name) {
@@ -187,14 +189,14 @@ impl Overlay {
     }
 
     /// The list under these changes. It shares paths and answers with the list.
-    pub fn laid_over(&self, alloc: Global, list: &Listing) -> Result<Listing, AllocError>
+    pub fn overlaid_copy(&self, alloc: Global, list: &PathList) -> Result<PathList, AllocError>
         requires { NamesDiffer (all_named (under_overlay (items list.now) self.now)) }
         ensures { IfOk result (λ l. items l ≡ under_overlay (items list.now) self.now) }
     {
-        let mut laid = Listing::new(alloc);
-        put_behind(alloc, &self.changes, list, &mut laid)?;
+        let mut overlaid = PathList::new(alloc);
+        put_behind(alloc, &self.changes, list, &mut overlaid)?;
         let none = IndexMap::new(alloc);
-        put_behind(alloc, &none, &self.added, &mut laid)?;
-        Ok(laid)
+        put_behind(alloc, &none, &self.added, &mut overlaid)?;
+        Ok(overlaid)
     }
 }

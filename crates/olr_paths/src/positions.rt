@@ -6,22 +6,23 @@ ghost use Rattle.olr_paths.specs.Finding.{AreNotedAt, NamedNoted, Grows};
 ghost use Rattle.olr_paths.specs.Renewing.{all_put, puts_of};
 
 use crate::finder::Finder;
-use crate::listing::{Listing, NamedPath, forget_named};
 use crate::overlay::{Overlay, put_behind};
+use crate::path_list::{NamedPath, PathList, forget_named};
 use indexmap::IndexMap;
 use olr_map::LineId;
 use std::alloc::{AllocError, Global};
 use std::mem;
 use std::rc::Rc;
 
-/// Stores each result at its position, and appends the replaced ones to `before`, which has the capacity. Takes no memory.
+/// Stores each result at its position, and appends the replaced ones to `before`, which has the capacity. Takes no
+/// memory.
 fn place(
-    list: &mut Listing,
+    list: &mut PathList,
     mut fresh: Vec<(usize, NamedPath)>,
     before: &mut Vec<(usize, NamedPath)>,
 )
     requires room { vec_len before.old + vec_len fresh ≤ vec_capacity before.old }
-    requires noted { AreNotedAt list.old.marks.items list.old.finder fresh.items }
+    requires noted { AreNotedAt list.old.path_ids.items list.old.finder fresh.items }
     ensures { items list.new ≡ all_put (items list.old) (puts_of fresh.items) }
 {
     list.held = true;
@@ -34,53 +35,54 @@ fn place(
 }
 
 /// The lines of a replaced path; none if it is the same path as the new one, and that was encoded.
-fn lines_gone<'a>(gone: &'a NamedPath, kept: &NamedPath) -> &'a [LineId] {
-    if kept.published.is_some() && Rc::ptr_eq(&gone.path, &kept.path) {
+fn lines_removed<'a>(replaced: &'a NamedPath, kept: &NamedPath) -> &'a [LineId] {
+    if kept.published.is_some() && Rc::ptr_eq(&replaced.path, &kept.path) {
         return &[];
     }
-    gone.path.lines()
+    replaced.path.lines()
 }
 
-/// Removes the index entries of replaced or abandoned paths at these positions, except for those of the paths that are there
+/// Removes the index entries of replaced or abandoned paths at these positions, except for those of the paths that are
+/// there
 /// now. Takes no memory.
-fn tidy(list: &mut Listing, gone: &[(usize, NamedPath)])
+fn tidy(list: &mut PathList, replaced: &[(usize, NamedPath)])
     ensures { items list.new ≡ items list.old }
 {
-    for (position, named) in gone {
+    for (position, named) in replaced {
         let Some((_, kept)) = list.paths.get_index(*position) else {
             continue;
         };
         let Some(published) = &named.published else {
             continue;
         };
-        let mark = list.marks[*position];
-        let lines = lines_gone(named, kept);
-        forget_named(&mut list.finder, mark, lines, published, Some(kept));
+        let path_id = list.path_ids[*position];
+        let lines = lines_removed(named, kept);
+        forget_named(&mut list.finder, path_id, lines, published, Some(kept));
     }
 }
 
 /// Adds the index entries of a result under a path id. If an allocation fails, some are added.
-fn note_one(finder: &mut Finder, mark: u64, named: &NamedPath) -> Result<(), AllocError>
-    ensures noted { OnOk result (NamedNoted finder.new mark named.now) }
+fn note_one(finder: &mut Finder, path_id: u64, named: &NamedPath) -> Result<(), AllocError>
+    ensures noted { OnOk result (NamedNoted finder.new path_id named.now) }
     ensures grows { Grows finder.old finder.new }
 {
     let Some(published) = &named.published else {
         return Ok(());
     };
-    finder.note(mark, named.path.lines(), published)
+    finder.note(path_id, named.path.lines(), published)
 }
 
 /// Adds the index entries of results, under the ids of their positions. If an allocation fails, some are added.
-fn note_all(list: &mut Listing, fresh: &[(usize, NamedPath)]) -> Result<(), AllocError>
-    ensures noted { OnOk result (AreNotedAt list.new.marks.items list.new.finder fresh.now) }
+fn note_all(list: &mut PathList, fresh: &[(usize, NamedPath)]) -> Result<(), AllocError>
+    ensures noted { OnOk result (AreNotedAt list.new.path_ids.items list.new.finder fresh.now) }
     ensures same { items list.new ≡ items list.old }
 {
     for (position, named) in fresh {
-        if *position >= list.marks.len() {
+        if *position >= list.path_ids.len() {
             continue;
         }
-        let mark = list.marks[*position];
-        note_one(&mut list.finder, mark, named)?;
+        let path_id = list.path_ids[*position];
+        note_one(&mut list.finder, path_id, named)?;
     }
     Ok(())
 }
@@ -89,13 +91,13 @@ fn note_all(list: &mut Listing, fresh: &[(usize, NamedPath)]) -> Result<(), Allo
 /// positions. If an allocation fails, only some paths are appended.
 fn make_room(
     alloc: Global,
-    list: &mut Listing,
+    list: &mut PathList,
     overlay: &Overlay,
     fresh: &[(usize, NamedPath)],
 ) -> Result<(), AllocError>
     requires { NamesDiffer (all_named (items list.old ++ items overlay.now.added)) }
     ensures put { OnOk result (items list.new ≡ items list.old ++ items overlay.now.added) }
-    ensures noted { OnOk result (AreNotedAt list.new.marks.items list.new.finder fresh.now) }
+    ensures noted { OnOk result (AreNotedAt list.new.path_ids.items list.new.finder fresh.now) }
     ensures before { take (length (items list.old)) (items list.new) ≡ items list.old }
 {
     put_behind(alloc, &IndexMap::new(alloc), &overlay.added, list)?;
@@ -111,7 +113,7 @@ fn make_room(
 /// unchanged.
 pub(crate) fn put_in(
     alloc: Global,
-    list: &mut Listing,
+    list: &mut PathList,
     overlay: &Overlay,
     fresh: Vec<(usize, NamedPath)>,
 ) -> Result<(), AllocError>

@@ -6,7 +6,7 @@ ghost use Rattle.olr_commands.specs.Reply.{published_text};
 
 use olr_commands::Entry;
 use olr_map::Footprint;
-use olr_refs::{Answer, Look};
+use olr_refs::{Answer, CoverageQuery};
 use std::alloc::{AllocError, Global};
 
 /// A path's answer, its text, its traversed nodes and its coverage queries.
@@ -14,9 +14,9 @@ use std::alloc::{AllocError, Global};
 pub struct Published {
     pub(crate) answer: Answer,
     pub(crate) text: Option<String>,
-    pub(crate) own: Footprint,
-    pub(crate) looks: Vec<Look>,
-    ghost spelled: { option_map string_bytes text ≡ result_ok (published_text (answer_of answer)) },
+    pub(crate) traversed: Footprint,
+    pub(crate) queries: Vec<CoverageQuery>,
+    ghost encoded: { option_map string_bytes text ≡ result_ok (published_text (answer_of answer)) },
 }
 
 impl Published {
@@ -42,19 +42,20 @@ impl Published {
         }
     }
 
-    /// The path's traversed nodes, in ascending order: those of its extended path and of the runs of degree-two nodes that were
+    /// The path's traversed nodes, in ascending order: those of its extended path and of the runs of degree-two nodes
+    /// that were
     /// tried.
-    pub fn own(&self) -> &Footprint
-        ensures { result.now ≡ (made_of self.now).own }
+    pub fn traversed(&self) -> &Footprint
+        ensures { result.now ≡ (made_of self.now).traversed }
     {
-        &self.own
+        &self.traversed
     }
 
     /// The coverage queries of the encoding, in the order of the LRPs at which they begin.
-    pub fn looks(&self) -> &[Look]
-        ensures { result.now ≡ (made_of self.now).looks }
+    pub fn queries(&self) -> &[CoverageQuery]
+        ensures { result.now ≡ (made_of self.now).queries }
     {
-        self.looks.as_slice()
+        self.queries.as_slice()
     }
 
     /// Whether the other has the same answer, by their texts or their reasons.

@@ -5,44 +5,43 @@ ghost use Rattle.olr_spec.specs.Map.{Map};
 ghost use Rattle.olr_commands.specs.Counts.{CountIs};
 ghost use Rattle.olr_commands.specs.State.{NamesDiffer};
 ghost use Rattle.olr_commands.specs.Words.{entry_of};
-ghost use Rattle.olr_spec.specs.Looks.{Look as LookRecord};
+ghost use Rattle.olr_spec.specs.Queries.{CoverageQuery as QueryRecord};
 ghost use Rattle.olr_paths.specs.Items.{items, all_named};
-ghost use Rattle.olr_paths.specs.Changes.{IsBefore, IsConcerned, AreRemade, Reported, Follows};
+ghost use Rattle.olr_paths.specs.Changes.{IsBefore, IsAffected, AreRemade, Reported, Follows};
 ghost use Rattle.olr_paths.specs.Laying.{TakesNone, overlay_changes, under_overlay};
 ghost use Rattle.olr_paths.specs.Touching.{nodes_of, lines_of, changed_of};
-ghost use Rattle.olr_paths.specs.Beginning.{Begins, AreNumbered, begun_in};
+ghost use Rattle.olr_paths.specs.Origins.{Begins, AreBoundsOf, new_origins_in};
 ghost use Rattle.olr_paths.specs.Renewing.{items_before};
 
-use crate::laid::Laid;
-use crate::listing::Listing;
+use crate::change_set::ChangeSet;
+use crate::overlaid_list::OverlaidList;
 use crate::overlay::Overlay;
+use crate::path_list::PathList;
 use crate::positions::put_in;
 use crate::renewal::{Renewal, renewal_of};
 use crate::searches::Searches;
-use crate::touched::Touched;
 use olr_commands::Entry;
 use olr_map::MapRead;
-use olr_near::Nearness;
+use olr_near::DistanceBounds;
 use olr_route::Work;
 use std::alloc::{AllocError, Global};
 
-impl Listing {
-    /// Encodes on a map the paths that are new and those whose answer changes of it can have changed, and tells those
-    /// whose answer is another than before. Each path that is concerned is counted as an encoding; `kept` counts those
-    /// of them that kept their answer. The numbers are distance bounds that are right on the map, for all coverage
-    /// queries of the list: they cut the search from touched nodes. If an allocation fails, list and counts are as
-    /// before.
+impl PathList {
+    /// Encodes on a map the paths that are new and those whose answer changes of it can have changed, and returns those
+    /// whose answer changed. Each affected path is counted as an encoding; `spared` counts those of them that retained
+    /// their answer. The bounds are distance bounds that are right on the map, for all coverage queries of the list:
+    /// they cut the search from touched nodes. If an allocation fails, list and counts are as before.
     pub fn renew<M: MapRead>(
         &mut self,
         alloc: Global,
         map: &M,
-        touched: &Touched,
-        numbers: &Nearness,
+        touched: &ChangeSet,
+        bounds: &DistanceBounds,
         searches: &mut Searches,
         work: &mut Work,
         kept: &mut u64,
     ) -> Result<Vec<Entry>, AllocError>
-        requires { AreNumbered (M.map map.now) numbers.now (items self.old) }
+        requires { AreBoundsOf (M.map map.now) bounds.now (items self.old) }
         ensures renewed { OnOk result ((L : Map)
             → IsBefore L (M.map map.now) (nodes_of touched.now) (lines_of touched.now) (changed_of touched.now)
             (items self.old)
@@ -52,14 +51,14 @@ impl Listing {
         ensures counted { OnOk result ((L : Map)
             → IsBefore L (M.map map.now) (nodes_of touched.now) (lines_of touched.now) (changed_of touched.now)
             (items self.old)
-            → (n : ℕ) × CountIs (IsConcerned L (nodes_of touched.now) (lines_of touched.now)) (items self.old) n
+            → (n : ℕ) × CountIs (IsAffected L (nodes_of touched.now) (lines_of touched.now)) (items self.old) n
             × (work.old.encodings + n < 2 ^ 64 → work.new.encodings ≡ work.old.encodings + n)
             × (kept.new ≤ kept.old + n)) }
         ensures searches { OnOk result (work.old.searches ≤ work.new.searches) }
         ensures settled { OnOk result (work.old.settled ≤ work.new.settled) }
         ensures kept { OnOk result (kept.old ≤ kept.new) }
-        ensures begun { OnOk result ((v : LookRecord) → Begins (items self.new) v
-            → Begins (items self.old) v ⊎ Contains (begun_in searches.new) v) }
+        ensures new_origins { OnOk result ((v : QueryRecord) → Begins (items self.new) v
+            → Begins (items self.old) v ⊎ Contains (new_origins_in searches.new) v) }
         ensures err { OnErr result (items self.new ≡ items self.old) }
         ensures err_work { OnErr result (work.new ≡ work.old) }
         ensures err_kept { OnErr result (kept.new ≡ kept.old) }
@@ -67,22 +66,22 @@ impl Listing {
         // For the proof alone: no name occurs twice.
         let _names = self.len();
         let none = Overlay::new(alloc);
-        self.renew_laid(
-            alloc, map, None, &none, touched, numbers, searches, work, kept,
+        self.renew_overlaid(
+            alloc, map, None, &none, touched, bounds, searches, work, kept,
         )
     }
 
-    /// The same for the list under changes that remove no path. The replaced and new paths are stored in place, at a cost that
-    /// depends only on the changes. The reported paths are those whose answer is not the earlier one of their name, in
-    /// `before` if it is given.
-    fn renew_laid<M: MapRead>(
+    /// The same for the list under changes that remove no path. The replaced and new paths are stored in place, at a
+    /// cost that depends only on the changes. The reported paths are those whose answer is not the earlier one of their
+    /// name, in `before` if it is given.
+    fn renew_overlaid<M: MapRead>(
         &mut self,
         alloc: Global,
         map: &M,
-        before: Option<&Listing>,
+        before: Option<&PathList>,
         overlay: &Overlay,
-        touched: &Touched,
-        numbers: &Nearness,
+        touched: &ChangeSet,
+        bounds: &DistanceBounds,
         searches: &mut Searches,
         work: &mut Work,
         kept: &mut u64,
@@ -90,7 +89,7 @@ impl Listing {
         requires keeps { TakesNone (overlay_changes overlay.now) }
         requires names { NamesDiffer (all_named (under_overlay (items self.old) overlay.now)) }
         requires follows { Follows (items_before before self.old) (under_overlay (items self.old) overlay.now) }
-        requires numbers { AreNumbered (M.map map.now) numbers.now (under_overlay (items self.old) overlay.now) }
+        requires bounds { AreBoundsOf (M.map map.now) bounds.now (under_overlay (items self.old) overlay.now) }
         ensures renewed { OnOk result
             ((L : Map) → IsBefore L (M.map map.now) (nodes_of touched.now) (lines_of touched.now)
             (changed_of touched.now) (under_overlay (items self.old) overlay.now)
@@ -102,32 +101,32 @@ impl Listing {
         ensures counted { OnOk result
             ((L : Map) → IsBefore L (M.map map.now) (nodes_of touched.now) (lines_of touched.now)
             (changed_of touched.now) (under_overlay (items self.old) overlay.now) → (n : ℕ)
-            × CountIs (IsConcerned L (nodes_of touched.now) (lines_of touched.now))
+            × CountIs (IsAffected L (nodes_of touched.now) (lines_of touched.now))
             (under_overlay (items self.old) overlay.now) n
             × (work.old.encodings + n < 2 ^ 64 → work.new.encodings ≡ work.old.encodings + n)
             × (kept.new ≤ kept.old + n)) }
         ensures searches { OnOk result (work.old.searches ≤ work.new.searches) }
         ensures settled { OnOk result (work.old.settled ≤ work.new.settled) }
         ensures kept { OnOk result (kept.old ≤ kept.new) }
-        ensures begun { OnOk result ((v : LookRecord) → Begins (items self.new) v
-            → Begins (under_overlay (items self.old) overlay.now) v ⊎ Contains (begun_in searches.new) v) }
+        ensures new_origins { OnOk result ((v : QueryRecord) → Begins (items self.new) v
+            → Begins (under_overlay (items self.old) overlay.now) v ⊎ Contains (new_origins_in searches.new) v) }
         ensures err { OnErr result (items self.new ≡ items self.old) }
         ensures err_work { OnErr result (work.new ≡ work.old) }
         ensures err_kept { OnErr result (kept.new ≡ kept.old) }
     {
         let mut tried = *work;
         let mut spared = *kept;
-        let laid = Laid {
+        let overlaid = OverlaidList {
             list: self,
             overlay,
         };
         let Renewal { fresh, entries } = renewal_of(
             alloc,
             map,
-            laid,
+            overlaid,
             before.unwrap_or(self),
             touched,
-            numbers,
+            bounds,
             searches,
             &mut tried,
             &mut spared,
@@ -139,24 +138,24 @@ impl Listing {
         Ok(entries)
     }
 
-    /// The same for the list under changes. If they remove no path, they are made in place, at the cost of the changes and of
-    /// the affected paths; otherwise the list is replaced by the list under changes, at the cost of all paths. The
-    /// reported paths are those whose answer is not the earlier one of their name. If an allocation fails, list and counts
-    /// are unchanged.
+    /// The same for the list under changes. If they remove no path, they are made in place, at the cost of the changes
+    /// and of the affected paths; otherwise the list is replaced by the list under changes, at the cost of all paths.
+    /// The reported paths are those whose answer is not the earlier one of their name. If an allocation fails, list and
+    /// counts are unchanged.
     pub fn renew_over<M: MapRead>(
         &mut self,
         alloc: Global,
         map: &M,
         overlay: &Overlay,
-        touched: &Touched,
-        numbers: &Nearness,
+        touched: &ChangeSet,
+        bounds: &DistanceBounds,
         searches: &mut Searches,
         work: &mut Work,
         kept: &mut u64,
     ) -> Result<Vec<Entry>, AllocError>
         requires names { NamesDiffer (all_named (under_overlay (items self.old) overlay.now)) }
         requires follows { Follows (items self.old) (under_overlay (items self.old) overlay.now) }
-        requires numbers { AreNumbered (M.map map.now) numbers.now (under_overlay (items self.old) overlay.now) }
+        requires bounds { AreBoundsOf (M.map map.now) bounds.now (under_overlay (items self.old) overlay.now) }
         ensures renewed { OnOk result
             ((L : Map) → IsBefore L (M.map map.now) (nodes_of touched.now) (lines_of touched.now)
             (changed_of touched.now) (under_overlay (items self.old) overlay.now)
@@ -167,29 +166,29 @@ impl Listing {
         ensures counted { OnOk result
             ((L : Map) → IsBefore L (M.map map.now) (nodes_of touched.now) (lines_of touched.now)
             (changed_of touched.now) (under_overlay (items self.old) overlay.now) → (n : ℕ)
-            × CountIs (IsConcerned L (nodes_of touched.now) (lines_of touched.now))
+            × CountIs (IsAffected L (nodes_of touched.now) (lines_of touched.now))
             (under_overlay (items self.old) overlay.now) n
             × (work.old.encodings + n < 2 ^ 64 → work.new.encodings ≡ work.old.encodings + n)
             × (kept.new ≤ kept.old + n)) }
         ensures searches { OnOk result (work.old.searches ≤ work.new.searches) }
         ensures settled { OnOk result (work.old.settled ≤ work.new.settled) }
         ensures kept { OnOk result (kept.old ≤ kept.new) }
-        ensures begun { OnOk result ((v : LookRecord) → Begins (items self.new) v
-            → Begins (under_overlay (items self.old) overlay.now) v ⊎ Contains (begun_in searches.new) v) }
+        ensures new_origins { OnOk result ((v : QueryRecord) → Begins (items self.new) v
+            → Begins (under_overlay (items self.old) overlay.now) v ⊎ Contains (new_origins_in searches.new) v) }
         ensures err { OnErr result (items self.new ≡ items self.old) }
         ensures err_work { OnErr result (work.new ≡ work.old) }
         ensures err_kept { OnErr result (kept.new ≡ kept.old) }
     {
         if !overlay.takes_some() {
-            return self.renew_laid(
-                alloc, map, None, overlay, touched, numbers, searches, work, kept,
+            return self.renew_overlaid(
+                alloc, map, None, overlay, touched, bounds, searches, work, kept,
             );
         }
-        let mut list = overlay.laid_over(alloc, self)?;
+        let mut list = overlay.overlaid_copy(alloc, self)?;
         let none = Overlay::new(alloc);
         let before = Some(&*self);
-        let entries = list.renew_laid(
-            alloc, map, before, &none, touched, numbers, searches, work, kept,
+        let entries = list.renew_overlaid(
+            alloc, map, before, &none, touched, bounds, searches, work, kept,
         )?;
         *self = list;
         Ok(entries)

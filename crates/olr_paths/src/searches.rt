@@ -1,66 +1,66 @@
 //! The searches of a list's renewals.
 ghost use Rattle.std.specs.Prelude.{◌≡◌};
-ghost use Rattle.olr_paths.specs.Beginning.{begun_in};
+ghost use Rattle.olr_paths.specs.Origins.{new_origins_in};
 
-use olr_refs::Look;
-use olr_route::Search;
+use olr_refs::CoverageQuery;
+use olr_route::Dijkstra;
 use std::alloc::Global;
 
 /// Searches that are restarted for each renewal, so that their tables are allocated once.
 #[derive(Drop)]
 pub struct Searches {
     /// The reverse search from all touched nodes.
-    pub(crate) near: Search,
+    pub(crate) near: Dijkstra,
     /// Whether it was known without that search that no coverage query is affected.
     pub(crate) far: bool,
     /// The reverse search from the starts of changed lines.
-    pub(crate) before: Search,
+    pub(crate) before: Dijkstra,
     /// The forward search from the ends of changed lines.
-    pub(crate) after: Search,
+    pub(crate) after: Dijkstra,
     /// The search of the encoder.
-    pub(crate) look: Search,
+    pub(crate) query: Dijkstra,
     /// The coverage queries that the last renewal made.
-    pub(crate) begun: Vec<Look>,
+    pub(crate) new_origins: Vec<CoverageQuery>,
     /// How many nodes were labelled by searches that found no path.
-    pub(crate) vain: usize,
+    pub(crate) wasted_labels: usize,
 }
 
 impl Searches {
     /// Searches that have not begun. Takes no memory.
     pub fn new(alloc: Global) -> Searches {
         Searches {
-            near: Search::new(alloc),
+            near: Dijkstra::new(alloc),
             far: false,
-            before: Search::new(alloc),
-            after: Search::new(alloc),
-            look: Search::new(alloc),
-            begun: Vec::new(alloc),
-            vain: 0,
+            before: Dijkstra::new(alloc),
+            after: Dijkstra::new(alloc),
+            query: Dijkstra::new(alloc),
+            new_origins: Vec::new(alloc),
+            wasted_labels: 0,
         }
     }
 
     /// The coverage queries of what the last renewal encoded.
-    pub fn begun(&self) -> &[Look]
-        ensures { result.now ≡ begun_in self.now }
+    pub fn new_origins(&self) -> &[CoverageQuery]
+        ensures { result.now ≡ new_origins_in self.now }
     {
-        self.begun.as_slice()
+        self.new_origins.as_slice()
     }
 
     /// The number of nodes that searches from touched nodes labelled without finding a path, since the last reset.
-    pub fn vain(&self) -> usize {
-        self.vain
+    pub fn wasted_labels(&self) -> usize {
+        self.wasted_labels
     }
 
     /// Resets this number to 0.
     pub fn set_back(&mut self) {
-        self.vain = 0;
+        self.wasted_labels = 0;
     }
 
     /// Counts the labels of a renewal's search from touched nodes, if it found no path.
     pub(crate) fn count(&mut self, found: bool) {
         if !found && !self.far {
-            let labelled = self.near.reached_nodes().len();
-            self.vain = self.vain.saturating_add(labelled);
+            let labelled = self.near.labelled_nodes().len();
+            self.wasted_labels = self.wasted_labels.saturating_add(labelled);
         }
     }
 }

@@ -4,7 +4,7 @@ ghost use Rattle.olr_paths.specs.Renewing.{item_of};
 ghost use Rattle.olr_paths.specs.Laying.{changes_in, change_at, drops, under_change};
 ghost use Rattle.olr_paths.specs.Showing.{shown_item};
 
-use crate::listing::NamedPath;
+use crate::path_list::NamedPath;
 use crate::published::Published;
 use indexmap::IndexMap;
 use olr_refs::Path;
@@ -12,21 +12,21 @@ use std::rc::Rc;
 
 /// A path of a list under changes, and what is published of it, if it was encoded and is not replaced.
 #[derive(Clone, Copy)]
-pub(crate) struct Shown<'a> {
+pub(crate) struct PathView<'a> {
     pub(crate) name: &'a str,
     pub(crate) path: &'a Rc<Path>,
     pub(crate) published: Option<&'a Published>,
 }
 
 /// A path of the list itself.
-pub(crate) fn show<'a>(name: &'a str, named: &'a NamedPath) -> Shown<'a>
+pub(crate) fn show<'a>(name: &'a str, named: &'a NamedPath) -> PathView<'a>
     ensures { shown_item result ≡ item_of name.now named.now }
 {
     let published = match &named.published {
         Some(published) => Some(&**published),
         None => None,
     };
-    Shown {
+    PathView {
         name,
         path: &named.path,
         published,
@@ -38,7 +38,7 @@ pub(crate) fn show_under<'a>(
     changes: &'a IndexMap<String, Option<Rc<Path>>>,
     name: &'a str,
     named: &'a NamedPath,
-) -> Shown<'a>
+) -> PathView<'a>
     requires { drops (change_at (changes_in changes.now.entries) name.now) ≡ false }
     ensures { under_change (change_at (changes_in changes.now.entries) name.now) (item_of name.now named.now)
         ≡ shown_item result ∷ [] }
@@ -47,7 +47,7 @@ pub(crate) fn show_under<'a>(
         return show(name, named);
     };
     match change {
-        Some(path) => Shown {
+        Some(path) => PathView {
             name,
             path,
             published: None,

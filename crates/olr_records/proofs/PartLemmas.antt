@@ -57,32 +57,32 @@ parts {A} {B} u v x y r s q is h k =
       by (Err Memory) s h k = absurd h
 
 module _ {A B Y Z : Type 0} (P : (Y → Z) → Type 0) (Q : Y → Type 0) (R : Z → Type 0) (u : A → Y → Z) (v : B → Y) where
-  told : (x : Read (Y → Z)) (y : Read Y) (r : Result A ReadFault) (s : Result B ReadFault) →
+  reported : (x : Read (Y → Z)) (y : Read Y) (r : Result A ReadFault) (s : Result B ReadFault) →
       ((g : Y → Z) (b : Y) → P g → R (g b)) → ((a : A) (b : Y) → Q b → R (u a b))
       → Gathers P u x r → Gathers Q v y s → Gathers R (λ p. u p.0 (v p.1)) (x ⊛ y) (both r s)
-  told x y (Ok a) (Ok b) first second h k = (λ i. h i ⊛ k i)
-  told x y (Ok a) (Err Syntax) first second h k = (λ i. h i ⊛ k i)
-  told x y (Ok a) (Err Range) first second h k = (λ i. h i ⊛ k i)
-  told x (Ok b) (Ok a) (Err Memory) first second h k =
+  reported x y (Ok a) (Ok b) first second h k = (λ i. h i ⊛ k i)
+  reported x y (Ok a) (Err Syntax) first second h k = (λ i. h i ⊛ k i)
+  reported x y (Ok a) (Err Range) first second h k = (λ i. h i ⊛ k i)
+  reported x (Ok b) (Ok a) (Err Memory) first second h k =
       subst (λ (q : Read (Y → Z)). IsOkAnd (q ⊛ Ok b) R) (sym h) (second a b k)
-  told x (Err f) (Ok a) (Err Memory) first second h k = absurd k
-  told x y (Err Syntax) (Ok b) first second h k = (λ i. h i ⊛ k i)
-  told x y (Err Syntax) (Err Syntax) first second h k = (λ i. h i ⊛ k i)
-  told x y (Err Syntax) (Err Range) first second h k = (λ i. h i ⊛ k i)
-  told x (Ok b) (Err Syntax) (Err Memory) first second h k = ap (λ (q : Read (Y → Z)). q ⊛ Ok b) h
-  told x (Err f) (Err Syntax) (Err Memory) first second h k = absurd k
-  told x y (Err Range) (Ok b) first second h k = (λ i. h i ⊛ k i)
-  told x y (Err Range) (Err Syntax) first second h k = (λ i. h i ⊛ k i)
-  told x y (Err Range) (Err Range) first second h k = (λ i. h i ⊛ k i)
-  told x (Ok b) (Err Range) (Err Memory) first second h k = ap (λ (q : Read (Y → Z)). q ⊛ Ok b) h
-  told x (Err f) (Err Range) (Err Memory) first second h k = absurd k
-  told (Ok g) y (Err Memory) (Ok b) first second h k =
+  reported x (Err f) (Ok a) (Err Memory) first second h k = absurd k
+  reported x y (Err Syntax) (Ok b) first second h k = (λ i. h i ⊛ k i)
+  reported x y (Err Syntax) (Err Syntax) first second h k = (λ i. h i ⊛ k i)
+  reported x y (Err Syntax) (Err Range) first second h k = (λ i. h i ⊛ k i)
+  reported x (Ok b) (Err Syntax) (Err Memory) first second h k = ap (λ (q : Read (Y → Z)). q ⊛ Ok b) h
+  reported x (Err f) (Err Syntax) (Err Memory) first second h k = absurd k
+  reported x y (Err Range) (Ok b) first second h k = (λ i. h i ⊛ k i)
+  reported x y (Err Range) (Err Syntax) first second h k = (λ i. h i ⊛ k i)
+  reported x y (Err Range) (Err Range) first second h k = (λ i. h i ⊛ k i)
+  reported x (Ok b) (Err Range) (Err Memory) first second h k = ap (λ (q : Read (Y → Z)). q ⊛ Ok b) h
+  reported x (Err f) (Err Range) (Err Memory) first second h k = absurd k
+  reported (Ok g) y (Err Memory) (Ok b) first second h k =
       subst (λ (q : Read Y). IsOkAnd (Ok g ⊛ q) R) (sym k) (first g (v b) h)
-  told (Ok g) y (Err Memory) (Err Syntax) first second h k = ap (λ (q : Read Y). Ok g ⊛ q) k
-  told (Ok g) y (Err Memory) (Err Range) first second h k = ap (λ (q : Read Y). Ok g ⊛ q) k
-  told (Ok g) (Ok b) (Err Memory) (Err Memory) first second h k = first g b h
-  told (Ok g) (Err f) (Err Memory) (Err Memory) first second h k = absurd k
-  told (Err f) y (Err Memory) s first second h k = absurd h
+  reported (Ok g) y (Err Memory) (Err Syntax) first second h k = ap (λ (q : Read Y). Ok g ⊛ q) k
+  reported (Ok g) y (Err Memory) (Err Range) first second h k = ap (λ (q : Read Y). Ok g ⊛ q) k
+  reported (Ok g) (Ok b) (Err Memory) (Err Memory) first second h k = first g b h
+  reported (Ok g) (Err f) (Err Memory) (Err Memory) first second h k = absurd k
+  reported (Err f) y (Err Memory) s first second h k = absurd h
 
   -- the results of both
   pub both-parts : (x : Read (Y → Z)) (y : Read Y) (r : Result A ReadFault) (s : Result B ReadFault)
@@ -91,18 +91,18 @@ module _ {A B Y Z : Type 0} (P : (Y → Z) → Type 0) (Q : Y → Type 0) (R : Z
       → Gathers P u x r → Gathers Q v y s → Gathers R (λ p. u p.0 (v p.1)) (x ⊛ y) q
   both-parts x y r s q is first second h k =
       subst (λ (t : Result (A × B) ReadFault). Gathers R (λ p. u p.0 (v p.1)) (x ⊛ y) t) (sym is)
-      (told x y r s first second h k)
+      (reported x y r s first second h k)
 
 -- and a fault that is passed on
-handed : {A C B : Type 0} (P : B → Type 0) (view : A → B) (look : C → B) (x : Read B) (f : ReadFault) →
-    Gathers P view x (Err f) → Gathers P look x (Err f)
-handed P view look x Syntax h = h
-handed P view look x Range h = h
-handed P view look x Memory h = h
+handed : {A C B : Type 0} (P : B → Type 0) (view : A → B) (query : C → B) (x : Read B) (f : ReadFault) →
+    Gathers P view x (Err f) → Gathers P query x (Err f)
+handed P view query x Syntax h = h
+handed P view query x Range h = h
+handed P view query x Memory h = h
 
-pub handed-on : {A C B : Type 0} (P : B → Type 0) (view : A → B) (look : C → B) (x : Read B) (r : Result A ReadFault)
+pub handed-on : {A C B : Type 0} (P : B → Type 0) (view : A → B) (query : C → B) (x : Read B) (r : Result A ReadFault)
     (q : Result C ReadFault) (f : ReadFault)
-    → r ≡ Err f → q ≡ Err f → Gathers P view x r → Gathers P look x q
-handed-on P view look x r q f is that h =
-    subst (λ (t : Result _ ReadFault). Gathers P look x t) (sym that)
-    (handed P view look x f (subst (λ (t : Result _ ReadFault). Gathers P view x t) is h))
+    → r ≡ Err f → q ≡ Err f → Gathers P view x r → Gathers P query x q
+handed-on P view query x r q f is that h =
+    subst (λ (t : Result _ ReadFault). Gathers P query x t) (sym that)
+    (handed P view query x f (subst (λ (t : Result _ ReadFault). Gathers P view x t) is h))

@@ -126,19 +126,20 @@ abbrev pub line_between : ℕ → ℕ → ℕ → ℕ → ℕ → List ShapePoin
 line_between from to frc fow len shape = record { from = from; to = to; frc = frc; fow = fow; len = len; shape = shape }
 
 -- the attributes of a line, without its ends
-abbrev pub course : Field → Field → Field → List Field → Read (ℕ × ℕ × ℕ × List ShapePoint)
-course frc fow len fs = Ok (λ a b c d. (a, b, c, d)) ⊛ class frc ⊛ class fow ⊛ digits 1 1000000 len ⊛ shape fs
+abbrev pub attributes : Field → Field → Field → List Field → Read (ℕ × ℕ × ℕ × List ShapePoint)
+attributes frc fow len fs = Ok (λ a b c d. (a, b, c, d)) ⊛ class frc ⊛ class fow ⊛ digits 1 1000000 len ⊛ shape fs
 
 abbrev pub whole_line : Field → Field → Read (ℕ × ℕ × ℕ × List ShapePoint) → Read Line
 whole_line from to rest = Ok (λ a b c. line_between a b c.0 c.1 c.2 c.3) ⊛ number from ⊛ number to ⊛ rest
 
 abbrev pub line_record : List Field → Read Edit
 line_record (x ∷ from ∷ to ∷ frc ∷ fow ∷ len ∷ fs) =
-    Ok (λ x l. Add_line x l) ⊛ number x ⊛ whole_line from to (course frc fow len fs)
+    Ok (λ x l. Add_line x l) ⊛ number x ⊛ whole_line from to (attributes frc fow len fs)
 line_record _ = Err Bad_form
 
 abbrev pub set_line_record : List Field → Read Edit
-set_line_record (x ∷ frc ∷ fow ∷ len ∷ fs) = Ok (λ x c. Set_line x c.0 c.1 c.2 c.3) ⊛ number x ⊛ course frc fow len fs
+set_line_record (x ∷ frc ∷ fow ∷ len ∷ fs) = Ok (λ x c. Set_line x c.0 c.1 c.2 c.3) ⊛ number x ⊛ attributes frc fow len
+    fs
 set_line_record _ = Err Bad_form
 
 -- a name, two offsets and the lines

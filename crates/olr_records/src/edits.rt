@@ -7,7 +7,7 @@ ghost use Rattle.olr_records.specs.Words.{IsRead, Reads};
 
 use crate::faults::ReadFault;
 use crate::fields::{coord, field, line_id, node_id};
-use crate::lines::{course_at, line};
+use crate::lines::{attributes_at, line};
 use crate::parts::both;
 use csv::ByteRecord;
 use olr_commands::Command;
@@ -76,13 +76,13 @@ pub(crate) fn set_line(alloc: Global, fields: &ByteRecord) -> Result<Command, Re
     if fields.len() < 5 {
         return Err(ReadFault::Syntax);
     }
-    let (id, course) = both(line_id(field(fields, 1)), course_at(alloc, fields, 2))?;
+    let (id, attributes) = both(line_id(field(fields, 1)), attributes_at(alloc, fields, 2))?;
     Ok(Command::Edit(Edit::SetLine {
         id,
-        frc: course.frc,
-        fow: course.fow,
-        len: course.len,
-        shape: course.shape,
+        frc: attributes.frc,
+        fow: attributes.fow,
+        len: attributes.len,
+        shape: attributes.shape,
     }))
 }
 

@@ -14,7 +14,7 @@ use std::alloc::Global;
 
 /// The attributes of a line in a record: all but its number and its ends.
 #[derive(Drop, Debug)]
-pub(crate) struct Course {
+pub(crate) struct LineAttributes {
     /// The functional road class.
     pub frc: u8,
     /// The form of way.
@@ -31,34 +31,38 @@ pub(crate) fn line(alloc: Global, fields: &ByteRecord) -> Result<Line, ReadFault
     ensures { let f : ℕ → Field = λ k. slice_index_or (fields_of fields.now) k [] in
         Gathers (λ l. 0 < length l.shape) (λ l. l)
         (records.whole_line (f 2) (f 3)
-        (records.course (f 4) (f 5) (f 6) (drop 7 (fields_of fields.now))))
+        (records.attributes (f 4) (f 5) (f 6) (drop 7 (fields_of fields.now))))
         result }
 {
     let ends = both(node_id(field(fields, 2)), node_id(field(fields, 3)));
-    let ((from, to), course) = both(ends, course_at(alloc, fields, 4))?;
+    let ((from, to), attributes) = both(ends, attributes_at(alloc, fields, 4))?;
     Ok(Line {
         from,
         to,
-        frc: course.frc,
-        fow: course.fow,
-        len: course.len,
-        shape: course.shape,
+        frc: attributes.frc,
+        fow: attributes.fow,
+        len: attributes.len,
+        shape: attributes.shape,
     })
 }
 
 /// The attributes of a line, from the field at index `k` on.
-pub(crate) fn course_at(alloc: Global, fields: &ByteRecord, k: usize) -> Result<Course, ReadFault>
+pub(crate) fn attributes_at(
+    alloc: Global,
+    fields: &ByteRecord,
+    k: usize,
+) -> Result<LineAttributes, ReadFault>
     requires near { k ≤ 4 }
     requires within { k + 3 ≤ length (fields_of fields.now) }
     ensures { let f : ℕ → Field = λ n. slice_index_or (fields_of fields.now) n [] in
         Gathers (λ p. 0 < length p.3) (λ c. (c.frc, c.fow, c.len, c.shape.items))
-        (records.course (f k) (f (k + 1)) (f (k + 2)) (drop (k + 3) (fields_of fields.now)))
+        (records.attributes (f k) (f (k + 1)) (f (k + 2)) (drop (k + 3) (fields_of fields.now)))
         result }
 {
     let classes = both(class(field(fields, k)), class(field(fields, k + 1)));
     let measured = both(classes, length(field(fields, k + 2)));
     let (((frc, fow), len), shape) = both(measured, shape(alloc, fields, k + 3))?;
-    Ok(Course {
+    Ok(LineAttributes {
         frc,
         fow,
         len,

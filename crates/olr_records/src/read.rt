@@ -15,8 +15,8 @@ use olr_commands::Command;
 use std::alloc::Global;
 
 /// The command that a record decodes to. `Syntax`: the record has the form of no command. `Range`: it has the form of a
-/// command, and a value is out of range; `Syntax` takes precedence, whatever the order of the fields. `Memory`: only for a
-/// record that decodes to a command with a name, a non-empty text or shape points.
+/// command, and a value is out of range; `Syntax` takes precedence, whatever the order of the fields. `Memory`: only
+/// for a record that decodes to a command with a name, a non-empty text or shape points.
 pub fn read_command(alloc: Global, fields: &ByteRecord) -> Result<Command, ReadFault>
     ensures { IsRead (records.read (fields_of fields.now)) result }
 {

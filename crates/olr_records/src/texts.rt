@@ -6,7 +6,8 @@ ghost use Rattle.olr_records.specs.ReplyText.{after_commas, reply_line};
 use itoa::{Buffer, Integer, write_digits};
 use std::alloc::AllocError;
 
-/// The size of the buffer for the end of a line: an LRP has two coordinates of at most 11 bytes, five numbers of at most 3,
+/// The size of the buffer for the end of a line: an LRP has two coordinates of at most 11 bytes, five numbers of at
+/// most 3,
 /// their commas, and a line feed.
 const ROOM: usize = 64;
 

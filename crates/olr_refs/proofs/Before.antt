@@ -5,12 +5,12 @@ use Rattle.std.proofs.Common.{get_or, IsTrue, refl, sym, ap, ◌∙◌, subst, a
 use Rattle.std.proofs.lemmas.Bool.{both_ways, cases_Bool, cases_lt, ne_eqb, or_from, or_right}
 use Rattle.std.proofs.lemmas.List.Folds.{list_any-append}
 use Rattle.olr_spec.specs.Map.{Map, has_line, start, end, dm, has}
-use Rattle.olr_spec.specs.Walks.{dm_of}
-use Rattle.olr_spec.specs.Extension.{first, passing, limit, MayPrecede, MayFollow, StartChain, LongestStart}
-use Rattle.olr_spec.proofs.ChainLemmas.{same_start_chain, same_end_chain, StartChain-back, start_suffix, first_known}
+use Rattle.olr_spec.specs.Routes.{dm_of}
+use Rattle.olr_spec.specs.Extension.{first, passing, limit, MayPrecede, MayFollow, StartRun, LongestStart}
+use Rattle.olr_spec.proofs.RunLemmas.{same_start_run, same_end_run, StartRun-back, start_suffix, first_known}
 use Rattle.olr_spec.proofs.DecideLemmas.{last_of_list}
 use Rattle.olr_spec.proofs.ListLemmas.{has_first, has_there, has_cases}
-use Rattle.olr_spec.proofs.WalkLemmas.{dm_of-append}
+use Rattle.olr_spec.proofs.RouteLemmas.{dm_of-append}
 
 -- ---- the line before a line
 
@@ -61,19 +61,19 @@ followed M x z k p =
 pub one_before : (M : Map) (x y z : ℕ) → IsTrue (has_line M z) → MayPrecede M x (z ∷ []) → MayPrecede M y (z ∷ []) →
     x ≡ y
 one_before M x y z k p q =
-    let same : x ∷ [] ≡ y ∷ [] = same_start_chain M (z ∷ []) (x ∷ []) (y ∷ []) k (p, tt) (q, tt) refl in cc
+    let same : x ∷ [] ≡ y ∷ [] = same_start_run M (z ∷ []) (x ∷ []) (y ∷ []) k (p, tt) (q, tt) refl in cc
 
 one_behind : (M : Map) (x y z : ℕ) → IsTrue (has_line M y) → IsTrue (has_line M z) → MayPrecede M x (y ∷ []) →
     MayPrecede M x (z ∷ []) → y ≡ z
 one_behind M x y z j k p q =
     let same : y ∷ [] ≡ z ∷ [] =
-    same_end_chain M (x ∷ []) (y ∷ []) (z ∷ []) p.known (followed M x y j p, tt) (followed M x z k q, tt) refl in cc
+    same_end_run M (x ∷ []) (y ∷ []) (z ∷ []) p.known (followed M x y j p, tt) (followed M x z k q, tt) refl in cc
 
 -- ---- a run, extended
 
 module _ (M : Map) (ls : List ℕ) (some : 0 < length ls) (known : IsTrue (has_line M (first ls))) where
   -- a line of a run comes before a line of the run or the list
-  behind : (c : List ℕ) (x : ℕ) → StartChain M c ls → has c x ≡ true → (z : ℕ) × (has (c ++ ls) z ≡ true)
+  behind : (c : List ℕ) (x : ℕ) → StartRun M c ls → has c x ≡ true → (z : ℕ) × (has (c ++ ls) z ≡ true)
       × IsTrue (has_line M z) × MayPrecede M x (z ∷ [])
   behind [] x p h = absurd cc
   behind (y ∷ c) x p h =
@@ -88,7 +88,7 @@ module _ (M : Map) (ls : List ℕ) (some : 0 < length ls) (known : IsTrue (has_l
       ]
 
   -- what precedes a run is not among its lines
-  fresh_before : (c : List ℕ) (x : ℕ) → StartChain M c ls → MayPrecede M x (first (c ++ ls) ∷ []) → has c x ≡ false
+  fresh_before : (c : List ℕ) (x : ℕ) → StartRun M c ls → MayPrecede M x (first (c ++ ls) ∷ []) → has c x ≡ false
   fresh_before [] x p q = refl
   fresh_before (y ∷ c) x p q =
       elim (cases_Bool (has (y ∷ c) x)) [
@@ -102,31 +102,31 @@ module _ (M : Map) (ls : List ℕ) (some : 0 < length ls) (known : IsTrue (has_l
         | inr none ↦ none
       ]
 
-  pub grown_before : (c : List ℕ) (x : ℕ) → StartChain M c ls → MayPrecede M x (first (c ++ ls) ∷ []) →
-      has ls x ≡ false → StartChain M (x ∷ c) ls
+  pub grown_before : (c : List ℕ) (x : ℕ) → StartRun M c ls → MayPrecede M x (first (c ++ ls) ∷ []) →
+      has ls x ≡ false → StartRun M (x ∷ c) ls
   grown_before c x p q h =
       (precedes_all M x (c ++ ls) q (list_any-append (λ y. y == x) c ls ∙ or_from _ _ (fresh_before c x p q) h), p)
 
   -- a run that no line extends, or none within the limit, is the longest
-  pub stops_before : (c : List ℕ) → StartChain M c ls → dm_of M c ≤ limit →
+  pub stops_before : (c : List ℕ) → StartRun M c ls → dm_of M c ≤ limit →
       ((x : ℕ) → MayPrecede M x (first (c ++ ls) ∷ []) → (has ls x ≡ true) ⊎ (limit < dm_of M c + dm M x)) →
       LongestStart M c ls
-  stops_before c p w stops = record { chain = p; within = w; longest = λ d q v. no_longer d q v }
+  stops_before c p w stops = record { run = p; within = w; longest = λ d q v. no_longer d q v }
     where
-      beyond : (d front : List ℕ) → d ≡ front ++ c → length c < length d → StartChain M d ls → dm_of M d ≤ limit → ⊥
+      beyond : (d front : List ℕ) → d ≡ front ++ c → length c < length d → StartRun M d ls → dm_of M d ≤ limit → ⊥
       beyond d [] e more q v = omega (arith, ap (λ (zs : List ℕ). length zs) e)
       beyond d (x ∷ front) e more q v =
           let s = last_of_list x front in
           let y = s.1 in
           let parts : d ≡ s.0 ++ (y ∷ c) = e ∙ ap (λ (zs : List ℕ). zs ++ c) s.2 ∙ append_assoc s.0 (y ∷ []) c in
-          let chain : StartChain M (y ∷ c) ls =
-          StartChain-back M ls s.0 (y ∷ c) (subst (λ (zs : List ℕ). StartChain M zs ls) parts q) in
-          elim (stops y (precedes_alone M y (c ++ ls) chain.0)) [
-            | inl h ↦ both_ways (has (c ++ ls) y) chain.0.fresh (list_any-append (λ z. z == y) c ls ∙ or_right _ _ h)
+          let run : StartRun M (y ∷ c) ls =
+          StartRun-back M ls s.0 (y ∷ c) (subst (λ (zs : List ℕ). StartRun M zs ls) parts q) in
+          elim (stops y (precedes_alone M y (c ++ ls) run.0)) [
+            | inl h ↦ both_ways (has (c ++ ls) y) run.0.fresh (list_any-append (λ z. z == y) c ls ∙ or_right _ _ h)
             | inr far ↦ omega (arith, ap (dm_of M) parts, dm_of-append M s.0 (y ∷ c))
           ]
 
-      no_longer : (d : List ℕ) → StartChain M d ls → dm_of M d ≤ limit → dm_of M d ≤ dm_of M c
+      no_longer : (d : List ℕ) → StartRun M d ls → dm_of M d ≤ limit → dm_of M d ≤ dm_of M c
       no_longer d q v =
           elim (cases_lt (length c) (length d)) [
             | inl more ↦ let r = start_suffix M ls c d known p q (omega arith) in absurd (beyond d r.0 r.1 more q v)
@@ -136,25 +136,25 @@ module _ (M : Map) (ls : List ℕ) (some : 0 < length ls) (known : IsTrue (has_l
 
 -- a run c, its first line, or that of the list, and its length
 pub record GrowsBefore (M : Map) (ls c : List ℕ) (front len : ℕ) : Type 0 where
-  pub chain : StartChain M c ls
+  pub run : StartRun M c ls
   pub begins : front ≡ first (c ++ ls)
   pub long : len ≡ dm_of M c
   pub within : len ≤ limit
 
 pub nothing_before : (M : Map) (ls : List ℕ) → GrowsBefore M ls [] (first ls) 0
-nothing_before M ls = record { chain = tt; begins = refl; long = refl; within = omega arith }
+nothing_before M ls = record { run = tt; begins = refl; long = refl; within = omega arith }
 
 module _ (M : Map) (ls : List ℕ) (some : 0 < length ls) (known : IsTrue (has_line M (first ls))) (c : List ℕ)
     (front len : ℕ) (grows : GrowsBefore M ls c front len) where
   pub front_known : IsTrue (has_line M front)
-  front_known = subst (λ (n : ℕ). IsTrue (has_line M n)) (sym grows.begins) (first_known M c ls grows.chain known)
+  front_known = subst (λ (n : ℕ). IsTrue (has_line M n)) (sym grows.begins) (first_known M c ls grows.run known)
 
   pub grows_before : (x : ℕ) → MayPrecede M x (front ∷ []) → has ls x ≡ false → len + dm M x ≤ limit →
       GrowsBefore M ls (x ∷ c) x (len + dm M x)
   grows_before x p fresh near =
       record {
-        chain =
-            grown_before M ls some known c x grows.chain (subst (λ (n : ℕ). MayPrecede M x (n ∷ [])) grows.begins p)
+        run =
+            grown_before M ls some known c x grows.run (subst (λ (n : ℕ). MayPrecede M x (n ∷ [])) grows.begins p)
             fresh;
         begins = refl;
         long = let e = grows.long in omega arith;
@@ -166,7 +166,7 @@ module _ (M : Map) (ls : List ℕ) (some : 0 < length ls) (known : IsTrue (has_l
   longest_before stops =
       let e = grows.long in
       let w = grows.within in
-      stops_before M ls some known c grows.chain (omega arith)
+      stops_before M ls some known c grows.run (omega arith)
       (λ x p. subst (λ (n : ℕ). (has ls x ≡ true) ⊎ (limit < n + dm M x)) e
       (stops x (subst (λ (n : ℕ). MayPrecede M x (n ∷ [])) (sym grows.begins) p)))
 

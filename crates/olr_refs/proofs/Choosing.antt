@@ -4,17 +4,17 @@ use Rattle.std.proofs.Common.{Option, Some, None, MatchOption}
 use Rattle.std.proofs.lemmas.Bool.{cases_order}
 use Rattle.std.specs.Option.{option_or}
 use Rattle.olr_spec.specs.Coordinates.{Coord}
-use Rattle.olr_spec.specs.Map.{Map, place_at}
+use Rattle.olr_spec.specs.Map.{Map, coord_at}
 use Rattle.olr_spec.specs.Extension.{passing}
 use Rattle.olr_spec.specs.Points.{node_at, fit16, Candidate, ValidCandidate, Greatest, Next, To_valid}
 use Rattle.olr_refs.specs.Along.{IsReach}
 
 abbrev pub fit : Map → List ℕ → ℕ → ℕ → Bool
-fit M ls i j = fit16 (place_at M (node_at M ls i)) (place_at M (node_at M ls j))
+fit M ls i j = fit16 (coord_at M (node_at M ls i)) (coord_at M (node_at M ls j))
 
 -- as it is read: the coordinates and the result
-pub fit_read : (M : Map) (ls : List ℕ) (i j : ℕ) (p q : Coord) (b : Bool) → p ≡ place_at M (node_at M ls i) →
-    q ≡ place_at M (node_at M ls j) → b ≡ fit16 p q → fit M ls i j ≡ b
+pub fit_read : (M : Map) (ls : List ℕ) (i j : ℕ) (p q : Coord) (b : Bool) → p ≡ coord_at M (node_at M ls i) →
+    q ≡ coord_at M (node_at M ls j) → b ≡ fit16 p q → fit M ls i j ≡ b
 fit_read M ls i j p q b hp hq hb = simp (hp, hq) at (sym hb)
 
 candidate_of : (M : Map) (ls : List ℕ) (i r j : ℕ) → IsReach M ls i r → i < j → j ≤ r → fit M ls i j ≡ true →

@@ -47,12 +47,12 @@ named_once (x ∷ xs) h =
 -- ---- after a sort
 
 -- the first n numbers are strictly increasing
-abbrev pub RisesBelow : List ℕ → ℕ → Type 0
-RisesBelow xs n = (k : ℕ) → k + 1 < n → get_or xs k 0 < get_or xs (k + 1) 0
+abbrev pub AscendsBelow : List ℕ → ℕ → Type 0
+AscendsBelow xs n = (k : ℕ) → k + 1 < n → get_or xs k 0 < get_or xs (k + 1) 0
 
 module _ (xs sorted : List ℕ) (moved : IsPermutation xs sorted) where
-  pub rising_once : RisesBelow sorted (length sorted) → none_twice xs ≡ true
-  rising_once up =
+  pub ascending_once : AscendsBelow sorted (length sorted) → none_twice xs ≡ true
+  ascending_once up =
       let apart = AllPairs-from_increasing sorted up in
       named_once xs (IsDistinct-IsPermutation eqb eqb_flips sorted xs (IsPermutation-sym xs sorted moved)
       (IsDistinct-from_apart eqb sorted
@@ -73,9 +73,9 @@ module _ (xs sorted : List ℕ) (moved : IsPermutation xs sorted) where
       ]
 
 -- one more neighbour in a sorted list, which is another number
-pub rises_more : (sorted : List ℕ) → IsSorted nat_cmp sorted → (i j : ℕ) → i + 1 ≡ j → j < length sorted →
-    eqb (get_or sorted i 0) (get_or sorted j 0) ≡ false → RisesBelow sorted j → RisesBelow sorted (j + 1)
-rises_more sorted up i j next h ne below k lt =
+pub ascends_more : (sorted : List ℕ) → IsSorted nat_cmp sorted → (i j : ℕ) → i + 1 ≡ j → j < length sorted →
+    eqb (get_or sorted i 0) (get_or sorted j 0) ≡ false → AscendsBelow sorted j → AscendsBelow sorted (j + 1)
+ascends_more sorted up i j next h ne below k lt =
     elim (cases_order k i) [
       | inl is ↦
           let le = IsNonDecreasingBy-from_sort (λ x. x) sorted up i j 0 (omega arith) h in

@@ -9,7 +9,7 @@ use Rattle.std.proofs.lemmas.List.Folds.{list_any_more}
 use Rattle.std.proofs.lemmas.List.Kept.{Contains-dedup_nat, Contains-from_dedup}
 use Rattle.std.proofs.lemmas.List.Sorted.{IsPermutation-sym, Contains-permutation}
 use Rattle.olr_spec.specs.Map.{Map, start, end, has}
-use Rattle.olr_spec.specs.Looks.{NodeOf}
+use Rattle.olr_spec.specs.Queries.{NodeOf}
 
 -- one of the ends of line x
 abbrev pub EndOf : Map → ℕ → ℕ → Type 0

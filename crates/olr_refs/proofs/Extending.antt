@@ -5,14 +5,14 @@ use Rattle.std.specs.List.{All}
 use Rattle.std.proofs.lemmas.Bool.{eq-eqb}
 use Rattle.std.proofs.lemmas.List.Folds.{list_any_at}
 use Rattle.olr_spec.specs.Map.{Map, has_line, start, end}
-use Rattle.olr_spec.specs.Walks.{dm_of}
+use Rattle.olr_spec.specs.Routes.{dm_of}
 use Rattle.olr_spec.specs.Encoding.{first_unknown}
 use Rattle.olr_spec.specs.Extension.{Path, is_path, first, last, passing, LongestStart, LongestEnd, taken_start}
 use Rattle.olr_spec.specs.Extension.{taken_end, from_start, Tried}
-use Rattle.olr_spec.specs.Looks.{NodeOf}
+use Rattle.olr_spec.specs.Queries.{NodeOf}
 use Rattle.olr_refs.specs.Extends.{Extends}
 use Rattle.olr_spec.proofs.AnswerLemmas.{no_unknown, path_nonempty}
-use Rattle.olr_spec.proofs.ChainMoves.{StartChain-known, EndChain-known}
+use Rattle.olr_spec.proofs.RunMoves.{StartRun-known, EndRun-known}
 use Rattle.olr_spec.proofs.ListLemmas.{Each, Each-from, Each-nil, Each-append, has_last}
 
 -- ---- lines of the map
@@ -61,7 +61,7 @@ module _ (M : Map) (P : Path) (good : IsTrue (is_path P.lines)) (unknown : first
   front_is = ap (λ (zs : List ℕ). zs ++ P.lines) start_is
 
   pub before_known : Each (Known M) b
-  before_known = StartChain-known M b P.lines longest.chain
+  before_known = StartRun-known M b P.lines longest.run
 
   pub front_known : Each (Known M) front
   front_known =
@@ -80,7 +80,7 @@ module _ (M : Map) (P : Path) (good : IsTrue (is_path P.lines)) (unknown : first
     whole = front ++ if_valid after_valid a
 
     pub after_known : Each (Known M) a
-    after_known = EndChain-known M front a longest_after.chain
+    after_known = EndRun-known M front a longest_after.run
 
     pub whole_known : Each (Known M) whole
     whole_known =

@@ -7,7 +7,7 @@ use Rattle.std.proofs.lemmas.List.{get_or_default, drop_more, drop_all}
 use Rattle.std.specs.Prelude.{IsTrue, if◌then◌else◌}
 use Rattle.std.specs.List.{slice_index}
 use Rattle.olr_spec.specs.Map.{Map, has_line, start, end}
-use Rattle.olr_spec.specs.Walks.{Walk}
+use Rattle.olr_spec.specs.Routes.{IsRoute}
 use Rattle.olr_spec.specs.Extension.{last, AreJoined}
 use Rattle.olr_spec.specs.Encoding.{first_unknown, first_break}
 use Rattle.olr_spec.proofs.ListLemmas.{Each, Each-head, Each-tail, has_index}
@@ -75,30 +75,30 @@ break_at M ls k a b r p h ea eb er t =
 
 -- ---- joined lines
 
-walk_on : (M : Map) (k x y : ℕ) (ls : List ℕ) (b : Bool) → Each (Known M) (x ∷ y ∷ ls) →
+route_on : (M : Map) (k x y : ℕ) (ls : List ℕ) (b : Bool) → Each (Known M) (x ∷ y ∷ ls) →
     first_break M k (x ∷ y ∷ ls) ≡ None → (end M x == start M y) ≡ b
-    → (first_break M (suc k) (y ∷ ls) ≡ None → Walk M (start M y) (end M (last (y ∷ ls))) (y ∷ ls)) →
-    Walk M (start M x) (end M (last (x ∷ y ∷ ls))) (x ∷ y ∷ ls)
-walk_on M k x y ls true a e t rest =
+    → (first_break M (suc k) (y ∷ ls) ≡ None → IsRoute M (start M y) (end M (last (y ∷ ls))) (y ∷ ls)) →
+    IsRoute M (start M x) (end M (last (x ∷ y ∷ ls))) (x ∷ y ∷ ls)
+route_on M k x y ls true a e t rest =
     let on : first_break M (suc k) (y ∷ ls) ≡ None =
     sym (ap (λ (b : Bool). if b then first_break M (suc k) (y ∷ ls) else Some k) t) ∙ e in (
       Each-head (Known M) x (y ∷ ls) a,
       refl,
-      subst (λ (v : ℕ). Walk M v (end M (last (y ∷ ls))) (y ∷ ls))
+      subst (λ (v : ℕ). IsRoute M v (end M (last (y ∷ ls))) (y ∷ ls))
           (sym (eqb-true _ _ t)) (rest on),
     )
-walk_on M k x y ls false a e t rest =
+route_on M k x y ls false a e t rest =
     let off : Some k ≡ None =
     sym (ap (λ (b : Bool). if b then first_break M (suc k) (y ∷ ls) else Some k) t) ∙ e in absurd (cc)
 
-walk_of : (M : Map) (k x : ℕ) (ls : List ℕ) → Each (Known M) (x ∷ ls) → first_break M k (x ∷ ls) ≡ None →
-    Walk M (start M x) (end M (last (x ∷ ls))) (x ∷ ls)
-walk_of M k x [] a e = (Each-head (Known M) x [] a, refl, refl)
-walk_of M k x (y ∷ ls) a e =
-    walk_on M k x y ls (end M x == start M y) a e refl
-    (λ on. walk_of M (suc k) y ls (Each-tail (Known M) x (y ∷ ls) a) on)
+route_of : (M : Map) (k x : ℕ) (ls : List ℕ) → Each (Known M) (x ∷ ls) → first_break M k (x ∷ ls) ≡ None →
+    IsRoute M (start M x) (end M (last (x ∷ ls))) (x ∷ ls)
+route_of M k x [] a e = (Each-head (Known M) x [] a, refl, refl)
+route_of M k x (y ∷ ls) a e =
+    route_on M k x y ls (end M x == start M y) a e refl
+    (λ on. route_of M (suc k) y ls (Each-tail (Known M) x (y ∷ ls) a) on)
 
 pub joined_of : (M : Map) (ls : List ℕ) → 0 < length ls → first_unknown M ls ≡ None → first_break M 0 ls ≡ None →
     AreJoined M ls
 joined_of M [] h u e = absurd (omega arith)
-joined_of M (x ∷ ls) h u e = walk_of M 0 x ls (all_known M (x ∷ ls) u) e
+joined_of M (x ∷ ls) h u e = route_of M 0 x ls (all_known M (x ∷ ls) u) e

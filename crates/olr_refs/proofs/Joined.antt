@@ -7,20 +7,20 @@ use Rattle.std.proofs.Math.Seq.{get_or-append_seam}
 use Rattle.std.specs.List.{slice_index}
 use Rattle.std.specs.Prelude.{IsTrue}
 use Rattle.olr_spec.specs.Map.{Map, IsMap, has_line, has_node, start, end, dm}
-use Rattle.olr_spec.specs.Walks.{Walk, dm_of}
+use Rattle.olr_spec.specs.Routes.{IsRoute, dm_of}
 use Rattle.olr_spec.specs.Extension.{last, AreJoined}
-use Rattle.olr_spec.proofs.WalkLemmas.{dm_of-append, line_short}
+use Rattle.olr_spec.proofs.RouteLemmas.{dm_of-append, line_short}
 use Rattle.olr_spec.proofs.ListLemmas.{Each, Each-cons, Each-nil, has_index}
 use Rattle.olr_refs.specs.Along.{DistancesTo}
 
 -- each line of a route is on the map
-pub walk_known : (M : Map) (s t : ℕ) (xs : List ℕ) → Walk M s t xs → Each (λ x. IsTrue (has_line M x)) xs
-walk_known M s t [] w = Each-nil _
-walk_known M s t (x ∷ xs) w = Each-cons (λ x. IsTrue (has_line M x)) x xs w.0 (walk_known M (end M x) t xs w.2)
+pub route_known : (M : Map) (s t : ℕ) (xs : List ℕ) → IsRoute M s t xs → Each (λ x. IsTrue (has_line M x)) xs
+route_known M s t [] w = Each-nil _
+route_known M s t (x ∷ xs) w = Each-cons (λ x. IsTrue (has_line M x)) x xs w.0 (route_known M (end M x) t xs w.2)
 
 -- line k is on the map
 pub known_at : (M : Map) (ls : List ℕ) (k : ℕ) → AreJoined M ls → k < length ls → IsTrue (has_line M (slice_index ls k))
-known_at M ls k w h = walk_known M _ _ ls w (slice_index ls k) (has_index ls k h)
+known_at M ls k w h = route_known M _ _ ls w (slice_index ls k) (has_index ls k h)
 
 -- and so is the line that was read there
 pub known_read : (M : Map) (ls : List ℕ) (k x : ℕ) → AreJoined M ls → k < length ls → x ≡ get_or ls k x →
@@ -49,13 +49,13 @@ end_known M m x n h e = subst (λ v. IsTrue (has_node M v)) (sym e) (m.ends x h)
 -- ---- sums of lengths
 
 -- k lines are at most k times 10^6 dm long
-pub walk_short : (M : Map) → IsMap M → (s t : ℕ) (xs : List ℕ) (k : ℕ) → Walk M s t xs →
+pub route_short : (M : Map) → IsMap M → (s t : ℕ) (xs : List ℕ) (k : ℕ) → IsRoute M s t xs →
     dm_of M (take k xs) ≤ 1000000 * k
-walk_short M m s t [] zero w = omega arith
-walk_short M m s t [] (suc k) w = omega arith
-walk_short M m s t (x ∷ xs) zero w = omega arith
-walk_short M m s t (x ∷ xs) (suc k) w = let here = line_short M m x w.0 in let rest =
-    walk_short M m (end M x) t xs k w.2 in omega arith
+route_short M m s t [] zero w = omega arith
+route_short M m s t [] (suc k) w = omega arith
+route_short M m s t (x ∷ xs) zero w = omega arith
+route_short M m s t (x ∷ xs) (suc k) w = let here = line_short M m x w.0 in let rest =
+    route_short M m (end M x) t xs k w.2 in omega arith
 
 pub sum_fits : (a b k : ℕ) → a ≤ 1000000 * k → k < 2 ^ 64 → b < 2 ^ 32 → a + b < 2 ^ 128
 sum_fits a b k h i j = omega arith

@@ -3,8 +3,8 @@ use Rattle.std.proofs.Common.{◌≡◌, ◌<◌, ◌≤◌, ◌-◌, ◌/◌, �
 use Rattle.std.proofs.lemmas.List.{get_or-map, drop-map, take-map}
 use Rattle.std.specs.List.{slice_index, slice_range}
 use Rattle.std.specs.Prelude.{IsTrue}
-use Rattle.olr_spec.specs.Map.{Map, IsMap, Line, is_good, has_line, has_node, line_at, place_at, start, end}
-use Rattle.olr_spec.specs.Walks.{dm_of}
+use Rattle.olr_spec.specs.Map.{Map, IsMap, Line, is_good, has_line, has_node, line_at, coord_at, start, end}
+use Rattle.olr_spec.specs.Routes.{dm_of}
 use Rattle.olr_spec.specs.Points.{node_at, stretch}
 use Rattle.olr_spec.specs.Bearings.{Leg, bearing_out}
 use Rattle.olr_spec.specs.Reference.{Attrs, attrs, leg, legs, leg_at, no_leg, position, dm_along, dm_between}
@@ -16,15 +16,15 @@ use Rattle.olr_bearing.specs.Legs as ends
 use Rattle.olr_bearing.specs.declared.places.Ends.{Ends}
 use Rattle.olr_refs.specs.Along.{AreDistances}
 use Rattle.olr_refs.specs.Fields.{lowest_class}
-use Rattle.olr_refs.proofs.Joined.{walk_known}
+use Rattle.olr_refs.proofs.Joined.{route_known}
 use Rattle.olr_refs.proofs.Stretches.{dm_stretch}
 
 -- each of them is on the map
 pub joined_known : (M : Map) (ls : List ℕ) → AreJoined M ls → Each (λ x. IsTrue (has_line M x)) ls
-joined_known M ls w = walk_known M _ _ ls w
+joined_known M ls w = route_known M _ _ ls w
 
 pub position_at : (M : Map) → IsMap M → (ls : List ℕ) (i : ℕ) → AreJoined M ls → 0 < length ls →
-    position (legs M ls) i ≡ place_at M (node_at M ls i)
+    position (legs M ls) i ≡ coord_at M (node_at M ls i)
 position_at M m ls i w n = position_is M m ls (joined_known M ls w) i n
 
 pub leg_at-legs : (M : Map) (ls : List ℕ) (i : ℕ) → i < length ls → leg_at (legs M ls) i ≡ leg M (slice_index ls i)
@@ -35,11 +35,11 @@ range_legs M ls i j = ap (take (j - i)) (drop-map (leg M) i ls) ∙ take-map (le
 
 -- the leg of line i, by its record and the coordinates of its ends
 pub leg_read : (M : Map) (ls : List ℕ) (i : ℕ) (l : Line) (e : Ends) → i < length ls →
-    l ≡ line_at M (slice_index ls i) → e.from ≡ place_at M l.from → e.to ≡ place_at M l.to
+    l ≡ line_at M (slice_index ls i) → e.from ≡ coord_at M l.from → e.to ≡ coord_at M l.to
     → ends.leg_between l e ≡ leg_at (legs M ls) i
 leg_read M ls i l e h is from to =
-    let begin : e.from ≡ place_at M (start M (slice_index ls i)) = from ∙ ap (λ (r : Line). place_at M r.from) is in
-    let finish : e.to ≡ place_at M (end M (slice_index ls i)) = to ∙ ap (λ (r : Line). place_at M r.to) is in
+    let begin : e.from ≡ coord_at M (start M (slice_index ls i)) = from ∙ ap (λ (r : Line). coord_at M r.from) is in
+    let finish : e.to ≡ coord_at M (end M (slice_index ls i)) = to ∙ ap (λ (r : Line). coord_at M r.to) is in
     let same : ends.leg_between l e ≡ leg M (slice_index ls i) =
     λ k. record { line = is k; begin = begin k; finish = finish k } in
     same ∙ sym (leg_at-legs M ls i h)

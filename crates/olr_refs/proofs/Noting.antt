@@ -10,27 +10,27 @@ use Rattle.std.proofs.lemmas.List.Elements.{filter-append, Contains-append_right
 use Rattle.std.proofs.lemmas.Map.Made.{length-le_from_is_member}
 use Rattle.std.proofs.lemmas.Map.Views.{Contains-from_any, list_any-from_Contains}
 use Rattle.olr_spec.specs.Map.{Map, has_node}
-use Rattle.olr_spec.specs.Walks.{Walk, dm_of, Reaches}
+use Rattle.olr_spec.specs.Routes.{IsRoute, dm_of, Reaches}
 use Rattle.olr_spec.specs.Extension.{limit}
 use Rattle.olr_spec.specs.Points.{Next, Follow, NoNext, last_position, stretch}
 use Rattle.olr_spec.specs.Footprint.{Sees}
-use Rattle.olr_spec.specs.Looks.{Look, IsLastTested, IsLook, LooksFrom, looking}
+use Rattle.olr_spec.specs.Queries.{CoverageQuery, IsLastTested, IsQuery, QueriesFrom, querying}
 use Rattle.olr_spec.proofs.ListLemmas.{Contains-here, Contains-cases}
 use Rattle.olr_spec.proofs.AnswerLemmas.{Next-candidate}
 use Rattle.olr_route.specs.declared.work.Work.{Work}
 use Rattle.olr_route.specs.declared.distances.Direction.TheVariants.{Along}
 use Rattle.olr_route.specs.Counts.{saturated_count}
-use Rattle.olr_route.specs.declared.distances.Search.{Search}
+use Rattle.olr_route.specs.declared.distances.Dijkstra.{Dijkstra}
 use Rattle.olr_route.specs.Searches.{IsSearch, LiesWithin, Counts, limit_of}
 use Rattle.olr_route.proofs.SearchLemmas.{near_leads}
-use Rattle.olr_refs.specs.Choice.{CountOf, Looked, LookedAfter, SeenBy, SettledBy, raised_count}
+use Rattle.olr_refs.specs.Choice.{CountOf, Queried, QueriedAfter, SeenBy, SettledBy, raised_count}
 use Rattle.olr_refs.proofs.Stretches.{later_stretch, longer_stretch}
 use Rattle.olr_refs.proofs.Reaching.{empty_stretch}
 use Rattle.std.proofs.lemmas.List.{append-nil}
 
 -- ---- what a search settles
 
--- what a search labels within a length is reached by a walk of at most the length
+-- what a search labels within a length is reached by a route of at most the length
 near_reach : (M : Map) (s v far : ℕ) → LiesWithin M Along ((s, 0) ∷ []) far v → Reaches M s far v
 near_reach M s v far n =
     let l = n.1.leads in
@@ -40,12 +40,12 @@ near_reach M s v far n =
           let begun : 0 ≡ l.begun = ap (λ (p : ℕ × ℕ). p.1) e in
           let long = l.long in
           let within = n.2 in
-          (l.lines, subst (λ (u : ℕ). Walk M u v l.lines) (sym from) l.way, omega arith)
+          (l.lines, subst (λ (u : ℕ). IsRoute M u v l.lines) (sym from) l.way, omega arith)
       | inr none ↦ let never : none.0 < 0 = none.1 in absurd (omega arith)
     ]
 
--- and where the search is settled so far, exactly what such a walk reaches
-near_reached : (M : Map) (place : ℕ → ℕ) (s : ℕ) (q : Search) → IsSearch M place Along ((s, 0) ∷ []) q →
+-- and where the search is settled so far, exactly what such a route reaches
+near_reached : (M : Map) (place : ℕ → ℕ) (s : ℕ) (q : Dijkstra) → IsSearch M place Along ((s, 0) ∷ []) q →
     IsTrue (has_node M s) → (v : ℕ) → LiesWithin M Along ((s, 0) ∷ []) (limit_of q) v ↔ Reaches M s (limit_of q) v
 near_reached M place s q h there v = (
   near_reach M s v (limit_of q),
@@ -61,8 +61,9 @@ near_reached M place s q h there v = (
       },
 )
 
--- a search for a look settles what the look sees
-pub search_sees : (M : Map) (place : ℕ → ℕ) (l : Look) (s : ℕ) (q : Search) → IsSearch M place Along ((s, 0) ∷ []) q →
+-- a search for a query settles what the query reaches
+pub search_sees : (M : Map) (place : ℕ → ℕ) (l : CoverageQuery) (s : ℕ) (q : Dijkstra) →
+    IsSearch M place Along ((s, 0) ∷ []) q →
     IsTrue (has_node M s) → s ≡ l.from → limit_of q ≡ l.within → (v : ℕ) →
     LiesWithin M Along ((s, 0) ∷ []) (limit_of q) v ↔ Sees M l v
 search_sees M place l s q h there begun far v =
@@ -74,8 +75,8 @@ search_sees M place l s q h there begun far v =
     ((λ n. to.0 (from.0 (reach.0 n))), (λ r. reach.1 (from.1 (to.1 r))))
 
 -- a coverage query reaches no farther than two LRPs may be apart
-pub look_short : (M : Map) (ls : List ℕ) (i k : ℕ) → IsLastTested M ls i k → dm_of M (stretch ls (i + 1) k) ≤ limit
-look_short M ls i k t =
+pub query_short : (M : Map) (ls : List ℕ) (i k : ℕ) → IsLastTested M ls i k → dm_of M (stretch ls (i + 1) k) ≤ limit
+query_short M ls i k t =
     elim t.needed [
       | inl e ↦ subst (λ (n : ℕ). dm_of M (stretch ls (i + 1) n) ≤ limit) (sym e) (none_short (i + 1))
       | inr n ↦
@@ -97,7 +98,7 @@ raised_more count n zero = ap (raised_count count) (omega arith)
 raised_more count n (suc m) = let e : suc (n + m) ≡ n + suc m =
     omega arith in ap (λ (k : ℕ). saturated_count (k + 1)) (raised_more count n m) ∙ ap (raised_count count) e
 
-settled_append : (M : Map) (ks ls : List Look) (a b c : ℕ) → SettledBy M ks a b → SettledBy M ls b c →
+settled_append : (M : Map) (ks ls : List CoverageQuery) (a b c : ℕ) → SettledBy M ks a b → SettledBy M ls b c →
     SettledBy M (ks ++ ls) a c
 settled_append M [] ls a b c p q = subst (λ (k : ℕ). SettledBy M ls k c) p q
 settled_append M (k ∷ ks) ls a b c p q = (p.0, p.1, settled_append M ks ls (saturated_count (a + p.0)) b c p.2 q)
@@ -116,9 +117,9 @@ settled_few near n all c each =
 most_more : (a b c n m t : ℕ) → b ≤ a + n → n ≤ t → c ≤ b + m * t → c ≤ a + suc m * t
 most_more a b c n m t f h g = let parts : suc m * t ≡ m * t + t = omega arith in omega arith
 
--- no look sees more than all nodes that any of them sees
-pub settled_most : (M : Map) (looks : List Look) (a c : ℕ) → SettledBy M looks a c → (all : List ℕ) →
-    ((v : ℕ) → SeenBy M looks v → Contains all v) → c ≤ a + length looks * length all
+-- no query reaches more than all nodes that any of them reaches
+pub settled_most : (M : Map) (queries : List CoverageQuery) (a c : ℕ) → SettledBy M queries a c → (all : List ℕ) →
+    ((v : ℕ) → SeenBy M queries v → Contains all v) → c ≤ a + length queries * length all
 settled_most M [] a c s all h = omega arith
 settled_most M (l ∷ ls) a c s all h =
     most_more a (saturated_count (a + s.0)) c s.0 (length ls) (length all) (omega arith)
@@ -126,34 +127,34 @@ settled_most M (l ∷ ls) a c s all h =
     (settled_most M ls (saturated_count (a + s.0)) c s.2 all
     (λ v r. h v (r.0, Contains-append_right (l ∷ []) ls r.0 r.1, r.2)))
 
-pub settled_none : (M : Map) (looks : List Look) (a : ℕ) → looks ≡ [] → SettledBy M looks a a
-settled_none M looks a e = subst (λ (ls : List Look). SettledBy M ls a a) (sym e) refl
+pub settled_none : (M : Map) (queries : List CoverageQuery) (a : ℕ) → queries ≡ [] → SettledBy M queries a a
+settled_none M queries a e = subst (λ (ls : List CoverageQuery). SettledBy M ls a a) (sym e) refl
 
-pub looked_none : (M : Map) (w : Work) → Looked M [] w w
-looked_none M w = record { encodings = refl; searches = refl; rises = omega arith; settled = refl }
+pub queried_none : (M : Map) (w : Work) → Queried M [] w w
+queried_none M w = record { encodings = refl; searches = refl; ascends = omega arith; settled = refl }
 
-pub looked_more : (M : Map) (ks ls : List Look) (a b c : Work) → Looked M ks a b → Looked M ls b c →
-    Looked M (ks ++ ls) a c
-looked_more M ks ls a b c f g =
+pub queried_more : (M : Map) (ks ls : List CoverageQuery) (a b c : Work) → Queried M ks a b → Queried M ls b c →
+    Queried M (ks ++ ls) a c
+queried_more M ks ls a b c f g =
     record {
       encodings = g.encodings ∙ f.encodings;
       searches = g.searches ∙ ap (λ (k : ℕ). raised_count k (length ls)) f.searches
           ∙ raised_more a.searches (length ks) (length ls) ∙ ap (raised_count a.searches) (sym (length-append ks ls));
-      rises = let x = f.rises in let y = g.rises in omega arith;
+      ascends = let x = f.ascends in let y = g.ascends in omega arith;
       settled = settled_append M ks ls a.settled b.settled c.settled f.settled g.settled;
     }
 
--- one search for a look
-pub one_look : (M : Map) (place : ℕ → ℕ) (l : Look) (s n : ℕ) (q : Search) (before after : Work) →
+-- one search for a query
+pub one_query : (M : Map) (place : ℕ → ℕ) (l : CoverageQuery) (s n : ℕ) (q : Dijkstra) (before after : Work) →
     IsSearch M place Along ((s, 0) ∷ []) q → IsTrue (has_node M s) → s ≡ l.from → limit_of q ≡ l.within
     → Counts M Along ((s, 0) ∷ []) (limit_of q) n
     → after.encodings ≡ before.encodings → after.searches ≡ saturated_count (before.searches + 1) →
-    after.settled ≡ saturated_count (before.settled + n) → Looked M (l ∷ []) before after
-one_look M place l s n q before after h there begun far c encodings searches settled =
+    after.settled ≡ saturated_count (before.settled + n) → Queried M (l ∷ []) before after
+one_query M place l s n q before after h there begun far c encodings searches settled =
     record {
       encodings = encodings;
       searches = searches;
-      rises = omega arith;
+      ascends = omega arith;
       settled = (
         n,
         record {
@@ -183,27 +184,28 @@ zip_length R [] (y ∷ ys) z = absurd z
 zip_length R (x ∷ xs) [] z = absurd z
 zip_length R (x ∷ xs) (y ∷ ys) z = let rest = zip_length R xs ys z.1 in omega arith
 
--- where at most one line follows line i nothing is looked at
-pub looks_nowhere : (M : Map) (ls : List ℕ) (i : ℕ) (looks : List Look) (w : Work) → length ls ≤ i + 2 →
-    LookedAfter M ls i looks looks w w
-looks_nowhere M ls i looks w h =
-    let none : [] ≡ looking ls (i ∷ []) = grind (arith, nat_tests) in
+-- where at most one line follows line i nothing is searched
+pub queries_nowhere : (M : Map) (ls : List ℕ) (i : ℕ) (queries : List CoverageQuery) (w : Work) → length ls ≤ i + 2 →
+    QueriedAfter M ls i queries queries w w
+queries_nowhere M ls i queries w h =
+    let none : [] ≡ querying ls (i ∷ []) = grind (arith, nat_tests) in
     record {
       added = [];
-      each = subst (λ (is : List ℕ). LooksFrom M ls is []) none tt;
-      grown = sym (append-nil looks);
-      counts = looked_none M w;
+      each = subst (λ (is : List ℕ). QueriesFrom M ls is []) none tt;
+      grown = sym (append-nil queries);
+      counts = queried_none M w;
     }
 
 -- and else there is one
-pub looks_once : (M : Map) (ls : List ℕ) (i : ℕ) (look : Look) (old new : List Look) (before after : Work) →
-    i + 2 < length ls → IsLook M ls i look → new ≡ old ++ look ∷ []
-    → Looked M (look ∷ []) before after → LookedAfter M ls i old new before after
-looks_once M ls i look old new before after h is grown counts =
-    let one : i ∷ [] ≡ looking ls (i ∷ []) = grind (arith, nat_tests) in
+pub queries_once : (M : Map) (ls : List ℕ) (i : ℕ) (query : CoverageQuery) (old new : List CoverageQuery)
+    (before after : Work) →
+    i + 2 < length ls → IsQuery M ls i query → new ≡ old ++ query ∷ []
+    → Queried M (query ∷ []) before after → QueriedAfter M ls i old new before after
+queries_once M ls i query old new before after h is grown counts =
+    let one : i ∷ [] ≡ querying ls (i ∷ []) = grind (arith, nat_tests) in
     record {
-      added = look ∷ [];
-      each = subst (λ (is : List ℕ). LooksFrom M ls is (look ∷ [])) one (is, tt);
+      added = query ∷ [];
+      each = subst (λ (is : List ℕ). QueriesFrom M ls is (query ∷ [])) one (is, tt);
       grown = grown;
       counts = counts;
     }
@@ -229,19 +231,19 @@ led_last M ls i k [] l = l
 led_last M ls i k (j ∷ js) l = led_last M ls j k js l.1
 
 -- the LRPs so far, up to the last, from which no search was made yet; the coverage queries, and the counts
-pub record Gone (M : Map) (ls ps : List ℕ) (last : ℕ) (looks : List Look) (before work : Work) : Type 0 where
+pub record Gone (M : Map) (ls ps : List ℕ) (last : ℕ) (queries : List CoverageQuery) (before work : Work) : Type 0 where
   pub done : List ℕ
   pub points : List ℕ
   pub positions : ps ≡ done ++ last ∷ []
   pub first : done ++ last ∷ [] ≡ 0 ∷ points
   pub led : Led M ls 0 points last
   pub within : last ≤ length ls
-  pub each : LooksFrom M ls (looking ls done) looks
-  pub counts : Looked M looks before work
+  pub each : QueriesFrom M ls (querying ls done) queries
+  pub counts : Queried M queries before work
 
-pub gone_none : (M : Map) (ls ps : List ℕ) (looks : List Look) (w : Work) → ps ≡ 0 ∷ [] → looks ≡ [] →
-    Gone M ls ps 0 looks w w
-gone_none M ls ps looks w p l =
+pub gone_none : (M : Map) (ls ps : List ℕ) (queries : List CoverageQuery) (w : Work) → ps ≡ 0 ∷ [] → queries ≡ [] →
+    Gone M ls ps 0 queries w w
+gone_none M ls ps queries w p l =
     record {
       done = [];
       points = [];
@@ -249,31 +251,31 @@ gone_none M ls ps looks w p l =
       first = refl;
       led = refl;
       within = omega arith;
-      each = subst (λ (xs : List Look). LooksFrom M ls [] xs) (sym l) tt;
-      counts = subst (λ (xs : List Look). Looked M xs w w) (sym l) (looked_none M w);
+      each = subst (λ (xs : List CoverageQuery). QueriesFrom M ls [] xs) (sym l) tt;
+      counts = subst (λ (xs : List CoverageQuery). Queried M xs w w) (sym l) (queried_none M w);
     }
 
 -- a search was made from the last LRP too
-each_more : (M : Map) (ls done : List ℕ) (k : ℕ) (old new : List Look) (work after : Work) →
-    LooksFrom M ls (looking ls done) old → (a : LookedAfter M ls k old new work after) →
-    LooksFrom M ls (looking ls (done ++ k ∷ [])) new
+each_more : (M : Map) (ls done : List ℕ) (k : ℕ) (old new : List CoverageQuery) (work after : Work) →
+    QueriesFrom M ls (querying ls done) old → (a : QueriedAfter M ls k old new work after) →
+    QueriesFrom M ls (querying ls (done ++ k ∷ [])) new
 each_more M ls done k old new work after e a =
-    let both : LooksFrom M ls (looking ls done ++ looking ls (k ∷ [])) (old ++ a.added) =
-    zip_append (IsLook M ls) (looking ls done) (looking ls (k ∷ [])) old a.added e a.each in
-    let there : LooksFrom M ls (looking ls (done ++ k ∷ [])) (old ++ a.added) =
-    subst (λ (is : List ℕ). LooksFrom M ls is (old ++ a.added))
+    let both : QueriesFrom M ls (querying ls done ++ querying ls (k ∷ [])) (old ++ a.added) =
+    zip_append (IsQuery M ls) (querying ls done) (querying ls (k ∷ [])) old a.added e a.each in
+    let there : QueriesFrom M ls (querying ls (done ++ k ∷ [])) (old ++ a.added) =
+    subst (λ (is : List ℕ). QueriesFrom M ls is (old ++ a.added))
     (sym (filter-append (λ i. nat_lt (i + 2) (length ls)) done (k ∷ []))) both in
-    subst (LooksFrom M ls (looking ls (done ++ k ∷ []))) (sym a.grown) there
+    subst (QueriesFrom M ls (querying ls (done ++ k ∷ []))) (sym a.grown) there
 
-counts_more : (M : Map) (ls : List ℕ) (k : ℕ) (old new : List Look) (before work after : Work) →
-    Looked M old before work → (a : LookedAfter M ls k old new work after) → Looked M new before after
+counts_more : (M : Map) (ls : List ℕ) (k : ℕ) (old new : List CoverageQuery) (before work after : Work) →
+    Queried M old before work → (a : QueriedAfter M ls k old new work after) → Queried M new before after
 counts_more M ls k old new before work after c a =
-    subst (λ (ks : List Look). Looked M ks before after) (sym a.grown)
-    (looked_more M old a.added before work after c a.counts)
+    subst (λ (ks : List CoverageQuery). Queried M ks before after) (sym a.grown)
+    (queried_more M old a.added before work after c a.counts)
 
-pub gone_more : (M : Map) (ls ps qs : List ℕ) (last m : ℕ) (old new : List Look) (before work after : Work) →
+pub gone_more : (M : Map) (ls ps qs : List ℕ) (last m : ℕ) (old new : List CoverageQuery) (before work after : Work) →
     Gone M ls ps last old before work
-    → LookedAfter M ls last old new work after → Next M ls last m → qs ≡ ps ++ m ∷ [] → Gone M ls qs m new before after
+    → QueriedAfter M ls last old new work after → Next M ls last m → qs ≡ ps ++ m ∷ [] → Gone M ls qs m new before after
 gone_more M ls ps qs last m old new before work after s a n e =
     record {
       done = s.done ++ last ∷ [];
@@ -289,26 +291,26 @@ gone_more M ls ps qs last m old new before work after s a n e =
 -- ---- at the end
 
 -- the coverage queries and the counts after a search was made from the last LRP too
-pub record Ended (M : Map) (ls points : List ℕ) (looks : List Look) (before after : Work) : Type 0 where
-  pub each : LooksFrom M ls (looking ls (0 ∷ points)) looks
-  pub counts : Looked M looks before after
+pub record Ended (M : Map) (ls points : List ℕ) (queries : List CoverageQuery) (before after : Work) : Type 0 where
+  pub each : QueriesFrom M ls (querying ls (0 ∷ points)) queries
+  pub counts : Queried M queries before after
 
-pub ended : (M : Map) (ls ps : List ℕ) (last : ℕ) (old new : List Look) (before work after : Work) →
+pub ended : (M : Map) (ls ps : List ℕ) (last : ℕ) (old new : List CoverageQuery) (before work after : Work) →
     (s : Gone M ls ps last old before work)
-    → LookedAfter M ls last old new work after → Ended M ls s.points new before after
+    → QueriedAfter M ls last old new work after → Ended M ls s.points new before after
 ended M ls ps last old new before work after s a =
     record {
       each =
-          subst (λ (is : List ℕ). LooksFrom M ls (looking ls is) new) s.first
+          subst (λ (is : List ℕ). QueriesFrom M ls (querying ls is) new) s.first
           (each_more M ls s.done last old new work after s.each a);
       counts = counts_more M ls last old new before work after s.counts a;
     }
 
 -- no search is made from the end
-pub ended_there : (M : Map) (ls ps : List ℕ) (last : ℕ) (looks : List Look) (before work : Work) →
-    (s : Gone M ls ps last looks before work) → length ls ≤ last → Ended M ls s.points looks before work
-ended_there M ls ps last looks before work s h =
-    ended M ls ps last looks looks before work work s (looks_nowhere M ls last looks work (omega arith))
+pub ended_there : (M : Map) (ls ps : List ℕ) (last : ℕ) (queries : List CoverageQuery) (before work : Work) →
+    (s : Gone M ls ps last queries before work) → length ls ≤ last → Ended M ls s.points queries before work
+ended_there M ls ps last queries before work s h =
+    ended M ls ps last queries queries before work work s (queries_nowhere M ls last queries work (omega arith))
 
 -- no position follows the end
 no_next_end : (M : Map) (ls : List ℕ) (k : ℕ) → length ls ≤ k → NoNext M ls k

@@ -16,7 +16,7 @@ use Rattle.olr_spec.proofs.FieldLemmas.{first_fits, attrs_fit, middles_fit, last
 use Rattle.olr_spec.specs.Extension.{AreJoined}
 use Rattle.olr_refs.specs.Along.{AreDistances}
 use Rattle.olr_refs.specs.Fields.{middle_points_of}
-use Rattle.olr_refs.specs.Kept.{AreLinked, distance_at}
+use Rattle.olr_refs.specs.KeptPoints.{AreLinked, distance_at}
 use Rattle.olr_refs.proofs.LegLemmas.{joined_known, position_at, between_is}
 use Rattle.olr_refs.proofs.Trimming.{linked_again, linked_end}
 

@@ -5,76 +5,84 @@ use Rattle.std.proofs.lemmas.Bool.{cases_order}
 use Rattle.std.specs.Prelude.{IsTrue, ◌↔◌}
 use Rattle.std.specs.List.{slice_index}
 use Rattle.olr_spec.specs.Map.{Map, IsMap, start, end, dm}
-use Rattle.olr_spec.specs.Walks.{Walk, Sole, dm_of}
+use Rattle.olr_spec.specs.Routes.{IsRoute, UniqueShortest, dm_of}
 use Rattle.olr_spec.specs.Extension.{limit, AreJoined}
 use Rattle.olr_spec.specs.Points.{stretch, Covered}
-use Rattle.olr_spec.specs.Looks.{Needed, IsLastTested}
-use Rattle.olr_spec.proofs.WalkLemmas.{empty_sole, prefix_of_sole, dm_of-append}
+use Rattle.olr_spec.specs.Queries.{Needed, IsLastTested}
+use Rattle.olr_spec.proofs.RouteLemmas.{empty_unique, prefix_of_unique, dm_of-append}
 use Rattle.olr_spec.proofs.JoinLemmas.{stretch_last}
-use Rattle.olr_spec.proofs.LookLemmas.{stretch_parts}
+use Rattle.olr_spec.proofs.QueryLemmas.{stretch_parts}
 use Rattle.olr_spec.proofs.WayLemmas.{next_start, way_between}
 use Rattle.olr_route.specs.declared.distances.Direction.TheVariants.{Along}
-use Rattle.olr_route.specs.declared.distances.Search.{Search}
+use Rattle.olr_route.specs.declared.distances.Dijkstra.{Dijkstra}
 use Rattle.olr_route.specs.Searches.{IsSearch, limit_of}
 use Rattle.olr_refs.specs.Along.{IsFar, IsReach}
 
 -- the lines after line i, up to line k, are the unique shortest path
-abbrev pub SoleTo : Map → List ℕ → ℕ → ℕ → Type 0
-SoleTo M ls i k = Sole M (end M (slice_index ls i)) (start M (slice_index ls k)) (stretch ls (i + 1) k)
+abbrev pub UniqueTo : Map → List ℕ → ℕ → ℕ → Type 0
+UniqueTo M ls i k = UniqueShortest M (end M (slice_index ls i)) (start M (slice_index ls k)) (stretch ls (i + 1) k)
 
 pub empty_stretch : (ls : List ℕ) (p : ℕ) → [] ≡ stretch ls p p
 empty_stretch ls p = let e : 0 ≡ p - p = omega arith in ap (λ (n : ℕ). take n (drop p ls)) e
 
-pub sole_start : (M : Map) → IsMap M → (ls : List ℕ) (i : ℕ) → AreJoined M ls → i + 1 < length ls →
-    SoleTo M ls i (i + 1)
-sole_start M m ls i w h =
+pub unique_start : (M : Map) → IsMap M → (ls : List ℕ) (i : ℕ) → AreJoined M ls → i + 1 < length ls →
+    UniqueTo M ls i (i + 1)
+unique_start M m ls i w h =
     let s = end M (slice_index ls i) in
-    let there : Sole M s (start M (slice_index ls (i + 1))) [] =
-    subst (λ (t : ℕ). Sole M s t []) (next_start M _ _ ls i w h) (empty_sole M m s) in
-    subst (Sole M s (start M (slice_index ls (i + 1)))) (empty_stretch ls (i + 1)) there
+    let there : UniqueShortest M s (start M (slice_index ls (i + 1))) [] =
+    subst (λ (t : ℕ). UniqueShortest M s t []) (next_start M _ _ ls i w h) (empty_unique M m s) in
+    subst (UniqueShortest M s (start M (slice_index ls (i + 1)))) (empty_stretch ls (i + 1)) there
 
 -- one more line
-sole_on : (M : Map) (ls : List ℕ) (i k : ℕ) → AreJoined M ls → i < k → k + 1 < length ls
-    → Sole M (end M (slice_index ls i)) (end M (slice_index ls k)) (stretch ls (i + 1) k ++ slice_index ls k ∷ []) →
-    SoleTo M ls i (k + 1)
-sole_on M ls i k w h g r =
+unique_on : (M : Map) (ls : List ℕ) (i k : ℕ) → AreJoined M ls → i < k → k + 1 < length ls
+    → UniqueShortest M (end M (slice_index ls i)) (end M (slice_index ls k))
+    (stretch ls (i + 1) k ++ slice_index ls k ∷ []) →
+    UniqueTo M ls i (k + 1)
+unique_on M ls i k w h g r =
     let s = end M (slice_index ls i) in
-    let there : Sole M s (start M (slice_index ls (k + 1))) (stretch ls (i + 1) k ++ slice_index ls k ∷ []) =
-    subst (λ (t : ℕ). Sole M s t (stretch ls (i + 1) k ++ slice_index ls k ∷ [])) (next_start M _ _ ls k w g) r in
-    subst (Sole M s (start M (slice_index ls (k + 1)))) (sym (stretch_last ls (i + 1) k (omega arith) (omega arith)))
+    let there : UniqueShortest M s (start M (slice_index ls (k + 1))) (stretch ls (i + 1) k ++ slice_index ls k ∷ []) =
+    subst (λ (t : ℕ). UniqueShortest M s t (stretch ls (i + 1) k ++ slice_index ls k ∷ [])) (next_start M _ _ ls k w g)
+    r in
+    subst (UniqueShortest M s (start M (slice_index ls (k + 1))))
+    (sym (stretch_last ls (i + 1) k (omega arith) (omega arith)))
     there
 
-sole_off : (M : Map) (ls : List ℕ) (i k : ℕ) → AreJoined M ls → i < k → k + 1 < length ls
-    → SoleTo M ls i (k + 1) → Sole M (end M (slice_index ls i)) (end M (slice_index ls k))
+unique_off : (M : Map) (ls : List ℕ) (i k : ℕ) → AreJoined M ls → i < k → k + 1 < length ls
+    → UniqueTo M ls i (k + 1) → UniqueShortest M (end M (slice_index ls i)) (end M (slice_index ls k))
     (stretch ls (i + 1) k ++ slice_index ls k ∷ [])
-sole_off M ls i k w h g r =
+unique_off M ls i k w h g r =
     let s = end M (slice_index ls i) in
-    let parts : Sole M s (start M (slice_index ls (k + 1))) (stretch ls (i + 1) k ++ slice_index ls k ∷ []) =
-    subst (Sole M s (start M (slice_index ls (k + 1)))) (stretch_last ls (i + 1) k (omega arith) (omega arith)) r in
-    subst (λ (t : ℕ). Sole M s t (stretch ls (i + 1) k ++ slice_index ls k ∷ [])) (sym (next_start M _ _ ls k w g))
+    let parts : UniqueShortest M s (start M (slice_index ls (k + 1))) (stretch ls (i + 1) k ++ slice_index ls k ∷ []) =
+    subst (UniqueShortest M s (start M (slice_index ls (k + 1))))
+    (stretch_last ls (i + 1) k (omega arith) (omega arith)) r in
+    subst (λ (t : ℕ). UniqueShortest M s t (stretch ls (i + 1) k ++ slice_index ls k ∷ []))
+    (sym (next_start M _ _ ls k w g))
     parts
 
 -- a shorter route along the same lines is a unique shortest path too
-sole_shorter : (M : Map) (ls : List ℕ) (i j k : ℕ) → AreJoined M ls → i < j → j ≤ k → k < length ls → SoleTo M ls i k →
-    SoleTo M ls i j
-sole_shorter M ls i j k w h g f r =
+unique_shorter : (M : Map) (ls : List ℕ) (i j k : ℕ) → AreJoined M ls → i < j → j ≤ k → k < length ls →
+    UniqueTo M ls i k →
+    UniqueTo M ls i j
+unique_shorter M ls i j k w h g f r =
     let s = end M (slice_index ls i) in
-    let whole : Sole M s (start M (slice_index ls k)) (stretch ls (i + 1) j ++ stretch ls j k) =
-    subst (Sole M s (start M (slice_index ls k))) (stretch_parts ls (i + 1) j k (omega arith) g) r in
+    let whole : UniqueShortest M s (start M (slice_index ls k)) (stretch ls (i + 1) j ++ stretch ls j k) =
+    subst (UniqueShortest M s (start M (slice_index ls k))) (stretch_parts ls (i + 1) j k (omega arith) g) r in
     let first =
-    subst (λ (v : ℕ). Walk M v (start M (slice_index ls j)) (stretch ls (i + 1) j))
+    subst (λ (v : ℕ). IsRoute M v (start M (slice_index ls j)) (stretch ls (i + 1) j))
     (sym (next_start M _ _ ls i w (omega arith))) (way_between M _ _ ls (i + 1) j w (omega arith) (omega arith)) in
-    prefix_of_sole M s (start M (slice_index ls j)) (start M (slice_index ls k)) (stretch ls (i + 1) j) (stretch ls j k)
+    prefix_of_unique M s (start M (slice_index ls j)) (start M (slice_index ls k)) (stretch ls (i + 1) j)
+    (stretch ls j k)
     whole first (way_between M _ _ ls j k w g f)
 
 -- ---- what is covered
 
 -- a position is covered if the lines up to it, without the last line, are the unique shortest path
-covered_by : (M : Map) (ls : List ℕ) (i j m : ℕ) → min j (length ls - 1) ≡ m → SoleTo M ls i m → Covered M ls i j
-covered_by M ls i j m e r = λ h. subst (SoleTo M ls i) (sym e) r
+covered_by : (M : Map) (ls : List ℕ) (i j m : ℕ) → min j (length ls - 1) ≡ m → UniqueTo M ls i m → Covered M ls i j
+covered_by M ls i j m e r = λ h. subst (UniqueTo M ls i) (sym e) r
 
-sole_of : (M : Map) (ls : List ℕ) (i j m : ℕ) → min j (length ls - 1) ≡ m → i < m → Covered M ls i j → SoleTo M ls i m
-sole_of M ls i j m e h c = let lt : i < min j (length ls - 1) = omega arith in subst (SoleTo M ls i) e (c lt)
+unique_of : (M : Map) (ls : List ℕ) (i j m : ℕ) → min j (length ls - 1) ≡ m → i < m → Covered M ls i j →
+    UniqueTo M ls i m
+unique_of M ls i j m e h c = let lt : i < min j (length ls - 1) = omega arith in subst (UniqueTo M ls i) e (c lt)
 
 -- there is nothing between a position and the last line
 covered_last : (M : Map) (ls : List ℕ) (i j : ℕ) → length ls ≤ i + 1 → Covered M ls i j
@@ -82,7 +90,7 @@ covered_last M ls i j h = λ lt. absurd (omega arith)
 
 -- the lines after i are the unique shortest path as far as the limit allows
 pub reach_far : (M : Map) (ls : List ℕ) (i far : ℕ) → AreJoined M ls → IsFar M ls i far →
-    (i + 1 ≤ min far (length ls - 1) → SoleTo M ls i (min far (length ls - 1))) → IsReach M ls i far
+    (i + 1 ≤ min far (length ls - 1) → UniqueTo M ls i (min far (length ls - 1))) → IsReach M ls i far
 reach_far M ls i far w f r =
     record {
       from = f.from;
@@ -98,13 +106,13 @@ reach_far M ls i far w f r =
       | inr (inr gt) ↦
           let u = f.upto in
           covered_by M ls i j (min j (length ls - 1)) refl
-          (sole_shorter M ls i (min j (length ls - 1)) (min far (length ls - 1)) w (omega arith) (omega arith)
+          (unique_shorter M ls i (min j (length ls - 1)) (min far (length ls - 1)) w (omega arith) (omega arith)
           (omega arith) (r (omega arith)))
     ]
 
 -- the lines after i are the unique shortest path up to line k, but not with line k
 pub reach_to : (M : Map) (ls : List ℕ) (i far k : ℕ) → AreJoined M ls → IsFar M ls i far
-    → i < k → k < min far (length ls - 1) → SoleTo M ls i k → ¬ SoleTo M ls i (k + 1) → IsReach M ls i k
+    → i < k → k < min far (length ls - 1) → UniqueTo M ls i k → ¬ UniqueTo M ls i (k + 1) → IsReach M ls i k
 reach_to M ls i far k w f h g r no_more =
     let u = f.upto in
     record {
@@ -115,13 +123,15 @@ reach_to M ls i far k w f h g r no_more =
     }
   where
     within : (j : ℕ) → i < j → j ≤ k → Covered M ls i j
-    within j a b = let u = f.upto in covered_by M ls i j j (omega arith) (sole_shorter M ls i j k w a b (omega arith) r)
+    within j a b = let u = f.upto in covered_by M ls i j j (omega arith)
+        (unique_shorter M ls i j k w a b (omega arith) r)
 
     not_near : (j : ℕ) → k < j → j ≤ length ls → Covered M ls i j → j ≤ far → ⊥
     not_near j a b c n =
         let u = f.upto in
-        let m : SoleTo M ls i (min j (length ls - 1)) = sole_of M ls i j (min j (length ls - 1)) refl (omega arith) c in
-        no_more (sole_shorter M ls i (k + 1) (min j (length ls - 1)) w (omega arith) (omega arith) (omega arith) m)
+        let m : UniqueTo M ls i (min j (length ls - 1)) = unique_of M ls i j (min j (length ls - 1)) refl (omega arith)
+        c in
+        no_more (unique_shorter M ls i (k + 1) (min j (length ls - 1)) w (omega arith) (omega arith) (omega arith) m)
 
     beyond : (j : ℕ) → k < j → j ≤ length ls → Covered M ls i j → limit < dm_of M (stretch ls i j)
     beyond j a b c = elim (cases_order far j) [
@@ -132,9 +142,10 @@ reach_to M ls i far k w f h g r no_more =
 
 -- ---- the last position that is tested
 
-tested_before : (M : Map) (ls : List ℕ) (i k : ℕ) → AreJoined M ls → i < k → k < length ls → SoleTo M ls i k → (m : ℕ) →
+tested_before : (M : Map) (ls : List ℕ) (i k : ℕ) → AreJoined M ls → i < k → k < length ls → UniqueTo M ls i k →
+    (m : ℕ) →
     i < m → m ≤ k → Covered M ls i m
-tested_before M ls i k w h g r m a b = covered_by M ls i m m (omega arith) (sole_shorter M ls i m k w a b g r)
+tested_before M ls i k w h g r m a b = covered_by M ls i m m (omega arith) (unique_shorter M ls i m k w a b g r)
 
 -- no position is needed after those that are within the limit
 needed_most : (M : Map) (ls : List ℕ) (i far : ℕ) → IsFar M ls i far → (m : ℕ) → Needed M ls i m →
@@ -152,7 +163,7 @@ needed_far M ls i far k f h g = let from = f.from in (far, f.upto, f.near far h 
 
 -- every position is covered
 pub last_far : (M : Map) (ls : List ℕ) (i far k : ℕ) → AreJoined M ls → IsFar M ls i far → i + 1 < length ls →
-    k ≡ max (min far (length ls - 1)) (i + 1) → SoleTo M ls i k → IsLastTested M ls i k
+    k ≡ max (min far (length ls - 1)) (i + 1) → UniqueTo M ls i k → IsLastTested M ls i k
 last_far M ls i far k w f h e r =
     record {
       after = omega arith;
@@ -168,7 +179,7 @@ last_far M ls i far k w f h e r =
 
 -- line k does not extend the unique shortest path
 pub last_to : (M : Map) (ls : List ℕ) (i far k : ℕ) → AreJoined M ls → IsFar M ls i far
-    → i < k → k < min far (length ls - 1) → SoleTo M ls i k → ¬ SoleTo M ls i (k + 1) → IsLastTested M ls i (k + 1)
+    → i < k → k < min far (length ls - 1) → UniqueTo M ls i k → ¬ UniqueTo M ls i (k + 1) → IsLastTested M ls i (k + 1)
 last_to M ls i far k w f h g r no_more =
     let u = f.upto in
     record {
@@ -176,26 +187,26 @@ last_to M ls i far k w f h g r no_more =
       inside = omega arith;
       before = λ m a b. tested_before M ls i k w h (omega arith) r m a (omega arith);
       needed = inr (needed_far M ls i far (k + 1) f (omega arith) (omega arith));
-      last = inl (λ c. no_more (sole_of M ls i (k + 1) (k + 1) (omega arith) (omega arith) c));
+      last = inl (λ c. no_more (unique_of M ls i (k + 1) (k + 1) (omega arith) (omega arith) c));
     }
 
 -- ---- the search
 
 -- the state of the search from the end of line i when it is settled to position k
-pub record Tests (M : Map) (place : ℕ → ℕ) (ls : List ℕ) (i k : ℕ) (s : Search) : Type 0 where
-  pub search : IsSearch M place Along ((end M (slice_index ls i), 0) ∷ []) s
+pub record Tests (M : Map) (slot : ℕ → ℕ) (ls : List ℕ) (i k : ℕ) (s : Dijkstra) : Type 0 where
+  pub search : IsSearch M slot Along ((end M (slice_index ls i), 0) ∷ []) s
   pub settled : limit_of s ≡ dm_of M (stretch ls (i + 1) k)
-  pub sole : SoleTo M ls i k
+  pub unique : UniqueTo M ls i k
 
-pub tests_start : (M : Map) → IsMap M → (place : ℕ → ℕ) (ls : List ℕ) (i : ℕ) (s : Search) → AreJoined M ls →
+pub tests_start : (M : Map) → IsMap M → (slot : ℕ → ℕ) (ls : List ℕ) (i : ℕ) (s : Dijkstra) → AreJoined M ls →
     i + 1 < length ls
-    → IsSearch M place Along ((end M (slice_index ls i), 0) ∷ []) s → limit_of s ≡ 0 → Tests M place ls i (i + 1) s
-tests_start M m place ls i s w h search at_source =
+    → IsSearch M slot Along ((end M (slice_index ls i), 0) ∷ []) s → limit_of s ≡ 0 → Tests M slot ls i (i + 1) s
+tests_start M m slot ls i s w h search at_source =
     record {
       search = search;
       settled = at_source ∙ ap (dm_of M) (empty_stretch ls (i + 1));
-      sole =
-          sole_start M m ls i w h;
+      unique =
+          unique_start M m ls i w h;
     }
 
 pub stretch_longer : (M : Map) (ls : List ℕ) (p k : ℕ) → p ≤ k → k < length ls →
@@ -210,37 +221,38 @@ pub settled_on : (M : Map) (ls : List ℕ) (i k old to new : ℕ) → i < k → 
 settled_on M ls i k old to new h g e f n = let longer = stretch_longer M ls (i + 1) k (omega arith) g in omega arith
 
 -- the result of the test of line k, as it is read
-abbrev pub Extends : Map → (ℕ → ℕ) → Search → ℕ → Bool → Type 0
-Extends M place search line b =
-    (s : ℕ) (walk : List ℕ) → IsSearch M place Along ((s, 0) ∷ []) search → Sole M s (start M line) walk →
-    dm_of M walk + dm M line ≤ limit_of search
-    → (IsTrue b ↔ Sole M s (end M line) (walk ++ line ∷ []))
+abbrev pub Extends : Map → (ℕ → ℕ) → Dijkstra → ℕ → Bool → Type 0
+Extends M slot search line b =
+    (s : ℕ) (route : List ℕ) → IsSearch M slot Along ((s, 0) ∷ []) search → UniqueShortest M s (start M line) route →
+    dm_of M route + dm M line ≤ limit_of search
+    → (IsTrue b ↔ UniqueShortest M s (end M line) (route ++ line ∷ []))
 
-extends_at : (M : Map) (place : ℕ → ℕ) (ls : List ℕ) (i k line : ℕ) (b : Bool) (s : Search) → AreJoined M ls → i < k →
-    k + 1 < length ls → line ≡ slice_index ls k → Extends M place s line b
-    → IsSearch M place Along ((end M (slice_index ls i), 0) ∷ []) s →
-    limit_of s ≡ dm_of M (stretch ls (i + 1) (k + 1)) → SoleTo M ls i k
-    → (IsTrue b ↔ Sole M (end M (slice_index ls i)) (end M (slice_index ls k))
+extends_at : (M : Map) (slot : ℕ → ℕ) (ls : List ℕ) (i k line : ℕ) (b : Bool) (s : Dijkstra) → AreJoined M ls → i < k →
+    k + 1 < length ls → line ≡ slice_index ls k → Extends M slot s line b
+    → IsSearch M slot Along ((end M (slice_index ls i), 0) ∷ []) s →
+    limit_of s ≡ dm_of M (stretch ls (i + 1) (k + 1)) → UniqueTo M ls i k
+    → (IsTrue b ↔ UniqueShortest M (end M (slice_index ls i)) (end M (slice_index ls k))
     (stretch ls (i + 1) k ++ slice_index ls k ∷ []))
-extends_at M place ls i k line b s w h g e f search settled r =
-    let f' : Extends M place s (slice_index ls k) b = subst (λ (y : ℕ). Extends M place s y b) e f in
+extends_at M slot ls i k line b s w h g e f search settled r =
+    let f' : Extends M slot s (slice_index ls k) b = subst (λ (y : ℕ). Extends M slot s y b) e f in
     let longer = stretch_longer M ls (i + 1) k (omega arith) (omega arith) in
     f' (end M (slice_index ls i)) (stretch ls (i + 1) k) search r (omega arith)
 
-pub sole_if : (M : Map) (place : ℕ → ℕ) (ls : List ℕ) (i k line : ℕ) (b : Bool) (s : Search) → AreJoined M ls → i < k →
-    k + 1 < length ls → line ≡ slice_index ls k → Extends M place s line b
-    → IsSearch M place Along ((end M (slice_index ls i), 0) ∷ []) s →
-    limit_of s ≡ dm_of M (stretch ls (i + 1) (k + 1)) → SoleTo M ls i k → b ≡ true → SoleTo M ls i (k + 1)
-sole_if M place ls i k line b s w h g e f search settled r t =
-    sole_on M ls i k w h g ((extends_at M place ls i k line b s w h g e f search settled r).0 t)
+pub unique_if : (M : Map) (slot : ℕ → ℕ) (ls : List ℕ) (i k line : ℕ) (b : Bool) (s : Dijkstra) → AreJoined M ls →
+    i < k →
+    k + 1 < length ls → line ≡ slice_index ls k → Extends M slot s line b
+    → IsSearch M slot Along ((end M (slice_index ls i), 0) ∷ []) s →
+    limit_of s ≡ dm_of M (stretch ls (i + 1) (k + 1)) → UniqueTo M ls i k → b ≡ true → UniqueTo M ls i (k + 1)
+unique_if M slot ls i k line b s w h g e f search settled r t =
+    unique_on M ls i k w h g ((extends_at M slot ls i k line b s w h g e f search settled r).0 t)
 
-pub not_sole_if : (M : Map) (place : ℕ → ℕ) (ls : List ℕ) (i k line : ℕ) (b : Bool) (s : Search) → AreJoined M ls →
-    i < k → k + 1 < length ls → line ≡ slice_index ls k → Extends M place s line b
-    → IsSearch M place Along ((end M (slice_index ls i), 0) ∷ []) s →
-    limit_of s ≡ dm_of M (stretch ls (i + 1) (k + 1)) → SoleTo M ls i k → b ≡ false → ¬ SoleTo M ls i (k + 1)
-not_sole_if M place ls i k line b s w h g e f search settled r t more =
+pub not_unique_if : (M : Map) (slot : ℕ → ℕ) (ls : List ℕ) (i k line : ℕ) (b : Bool) (s : Dijkstra) → AreJoined M ls →
+    i < k → k + 1 < length ls → line ≡ slice_index ls k → Extends M slot s line b
+    → IsSearch M slot Along ((end M (slice_index ls i), 0) ∷ []) s →
+    limit_of s ≡ dm_of M (stretch ls (i + 1) (k + 1)) → UniqueTo M ls i k → b ≡ false → ¬ UniqueTo M ls i (k + 1)
+not_unique_if M slot ls i k line b s w h g e f search settled r t more =
     let is : b ≡ true =
-    (extends_at M place ls i k line b s w h g e f search settled r).1 (sole_off M ls i k w h g more) in cc
+    (extends_at M slot ls i k line b s w h g e f search settled r).1 (unique_off M ls i k w h g more) in cc
 
 -- if at most one line follows line i, there is nothing between
 pub reach_near_end : (M : Map) → IsMap M → (ls : List ℕ) (i far : ℕ) → AreJoined M ls → i < length ls →
@@ -258,11 +270,15 @@ reach_near_end M m ls i far w h g f =
     covered j a b = λ lt.
         let u = f.upto in
         let is : i + 1 ≡ min j (length ls - 1) = omega arith in
-        let here : Sole M (end M (slice_index ls i)) (end M (slice_index ls i)) [] =
-        empty_sole M m (end M (slice_index ls i)) in
-        let next : Sole M (end M (slice_index ls i)) (start M (slice_index ls (i + 1))) [] =
-        subst (λ (t : ℕ). Sole M (end M (slice_index ls i)) t []) (next_start M _ _ ls i w (omega arith)) here in
-        let there : Sole M (end M (slice_index ls i)) (start M (slice_index ls (i + 1))) (stretch ls (i + 1) (i + 1)) =
-        subst (Sole M (end M (slice_index ls i)) (start M (slice_index ls (i + 1)))) (empty_stretch ls (i + 1)) next in
-        subst (λ (n : ℕ). Sole M (end M (slice_index ls i)) (start M (slice_index ls n)) (stretch ls (i + 1) n)) is
+        let here : UniqueShortest M (end M (slice_index ls i)) (end M (slice_index ls i)) [] =
+        empty_unique M m (end M (slice_index ls i)) in
+        let next : UniqueShortest M (end M (slice_index ls i)) (start M (slice_index ls (i + 1))) [] =
+        subst (λ (t : ℕ). UniqueShortest M (end M (slice_index ls i)) t []) (next_start M _ _ ls i w (omega arith))
+        here in
+        let there : UniqueShortest M (end M (slice_index ls i)) (start M (slice_index ls (i + 1)))
+        (stretch ls (i + 1) (i + 1)) =
+        subst (UniqueShortest M (end M (slice_index ls i)) (start M (slice_index ls (i + 1))))
+        (empty_stretch ls (i + 1)) next in
+        subst (λ (n : ℕ). UniqueShortest M (end M (slice_index ls i)) (start M (slice_index ls n))
+        (stretch ls (i + 1) n)) is
         there

@@ -1,10 +1,11 @@
--- The encoding of a path, put together of its extension, its points, its looks and its reference.
-use Rattle.std.proofs.Common.{◌≡◌, ◌<◌, ◌≤◌, ◌+◌, ◌*◌, ◌==◌, ◌↔◌, ℕ, Bool, true, cond, List, [], ◌∷◌, length, Option, Some, None}
+-- The encoding of a path, by its extension, its LRPs, its coverage queries and its reference.
+use Rattle.std.proofs.Common.{◌≡◌, ◌<◌, ◌≤◌, ◌+◌, ◌*◌, ◌==◌, ◌↔◌, ℕ, Bool, true, cond, List, [], ◌∷◌, length, Option}
+use Rattle.std.proofs.Common.{Some, None}
 use Rattle.std.proofs.Common.{MatchOption, Contains, sym, ap, ◌∙◌, subst, arith, inl, inr}
 use Rattle.std.proofs.lemmas.Bool.{eq-eqb}
 use Rattle.std.specs.Prelude.{IsTrue, nat_lt, Result, Ok, Err, IfOk}
 use Rattle.olr_spec.specs.Map.{Map, IsMap, Agree, has_line}
-use Rattle.olr_spec.specs.Walks.{dm_of}
+use Rattle.olr_spec.specs.Routes.{dm_of}
 use Rattle.olr_spec.specs.Extension.{Path, Tried, is_path, extended_path, from_start, taken_start, taken_end}
 use Rattle.olr_spec.specs.Extension.{AreJoined}
 use Rattle.olr_spec.specs.Points.{Follow, last_position, OfPath}
@@ -12,16 +13,17 @@ use Rattle.olr_spec.specs.Reference.{Reference, legs, reference, first_kept, las
 use Rattle.olr_spec.specs.Encoding as spec
 use Rattle.olr_spec.specs.Encoding.{first_unknown, first_break, path_fault, answer_by_points, Encoding, Encodes}
 use Rattle.olr_spec.specs.Footprint.{Foot}
-use Rattle.olr_spec.specs.Looks.{Look, IsLook, Own, OwnOfExtended, LooksFrom, LooksOf, LooksOfExtended, looking}
+use Rattle.olr_spec.specs.Queries.{CoverageQuery, IsQuery, Traversed, TraversedOfExtended, QueriesFrom, QueriesOf}
+use Rattle.olr_spec.specs.Queries.{QueriesOfExtended, querying}
 use Rattle.olr_spec.proofs.AnswerLemmas.{path_nonempty, sound_lines, all_first, all_last, path_also}
-use Rattle.olr_spec.proofs.ChainLemmas.{one_tried}
+use Rattle.olr_spec.proofs.RunLemmas.{one_tried}
 use Rattle.olr_spec.proofs.DecodedLemmas.{two_of}
 use Rattle.olr_spec.proofs.FitLemmas.{long_enough, kept_ends, extended_sound, answered}
 use Rattle.olr_spec.proofs.JoinLemmas.{routes_join}
 use Rattle.olr_spec.proofs.KeptLemmas.{two_kept}
 use Rattle.olr_spec.proofs.LocalLemmas.{local_answer}
-use Rattle.olr_spec.proofs.TestedLemmas.{foot_looked}
-use Rattle.olr_spec.proofs.WalkLemmas.{dm_of-append}
+use Rattle.olr_spec.proofs.TestedLemmas.{foot_queried}
+use Rattle.olr_spec.proofs.RouteLemmas.{dm_of-append}
 use Rattle.olr_refs.specs.declared.answer.Answer.{Answer}
 use Rattle.olr_refs.specs.declared.answer.Answer.TheVariants.{Points, Refused}
 use Rattle.olr_refs.specs.Answers as answers
@@ -29,7 +31,7 @@ use Rattle.olr_refs.specs.Choice.{ForPoints, SettledBy, searches_of}
 use Rattle.olr_refs.proofs.Noting.{settled_most, zip_length}
 use Rattle.std.proofs.lemmas.List.Sums.{length-filter}
 use Rattle.olr_refs.specs.Extends.{Extends}
-use Rattle.olr_refs.specs.Kept.{later}
+use Rattle.olr_refs.specs.KeptPoints.{later}
 use Rattle.olr_refs.specs.Referring.{Joined, JoinsOf, SearchesOf}
 use Rattle.olr_spec.proofs.JoinedLemmas.{extended_joined}
 
@@ -117,62 +119,69 @@ joins_of M P (Points r) none p = joined M P r none p
 -- ---- the traversed nodes, and the coverage queries
 
 -- the traversed nodes are those that were recorded
-one_own : (M : Map) → IsMap M → (P : Path) → IsTrue (is_path P.lines) → path_fault M P ≡ None → (b a : List ℕ) →
-    Tried M P b a → (v : ℕ) → OwnOfExtended M P v → Own M (extended_path M P b a).lines b a v
-one_own M m P is none b a t v own =
+one_traversed : (M : Map) → IsMap M → (P : Path) → IsTrue (is_path P.lines) → path_fault M P ≡ None → (b a : List ℕ) →
+    Tried M P b a → (v : ℕ) → TraversedOfExtended M P v → Traversed M (extended_path M P b a).lines b a v
+one_traversed M m P is none b a t v traversed =
     let n = path_nonempty P.lines is in
     let Known : ℕ → Type 0 = λ x. IsTrue (has_line M x) in
     let known = sound_lines M P none in
-    let chains =
-    one_tried M m P n (all_first Known P.lines n known) (all_last Known P.lines n known) own.before own.after b a
-    own.tried t in
-    let first : Own M (extended_path M P b own.after).lines b own.after v =
-    subst (λ (c : List ℕ). Own M (extended_path M P c own.after).lines c own.after v) chains.0 own.own in
-    subst (λ (c : List ℕ). Own M (extended_path M P b c).lines b c v) chains.1 first
+    let runs =
+    one_tried M m P n (all_first Known P.lines n known) (all_last Known P.lines n known) traversed.before
+    traversed.after b a
+    traversed.tried t in
+    let first : Traversed M (extended_path M P b traversed.after).lines b traversed.after v =
+    subst (λ (c : List ℕ). Traversed M (extended_path M P c traversed.after).lines c traversed.after v) runs.0
+    traversed.traversed in
+    subst (λ (c : List ℕ). Traversed M (extended_path M P b c).lines b c v) runs.1 first
 
-pub own_of : (M : Map) → IsMap M → (P E : Path) (F G : List ℕ) → IsTrue (is_path P.lines) → path_fault M P ≡ None →
-    F ≡ [] → Extends M P E F G → (v : ℕ) → Contains G v ↔ OwnOfExtended M P v
-own_of M m P E F G is none empty x v = (forth, back)
+pub traversed_of : (M : Map) → IsMap M → (P E : Path) (F G : List ℕ) → IsTrue (is_path P.lines) → path_fault M P ≡ None
+    →
+    F ≡ [] → Extends M P E F G → (v : ℕ) → Contains G v ↔ TraversedOfExtended M P v
+traversed_of M m P E F G is none empty x v = (forth, back)
   where
     none_before : Contains F v → ⊥
     none_before c = let c' : Contains [] v = subst (λ (f : List ℕ). Contains f v) empty c in let never : c'.0 < 0 =
         c'.1 in omega arith
 
-    forth : Contains G v → OwnOfExtended M P v
+    forth : Contains G v → TraversedOfExtended M P v
     forth c = elim ((x.noted v).0 c) [
       | inl f ↦ absurd (none_before f)
       | inr n ↦ record {
         before = x.before;
         after = x.after;
         tried = x.tried;
-        own =
-            subst (λ (e : Path). Own M e.lines x.before x.after v) x.path n;
+        traversed =
+            subst (λ (e : Path). Traversed M e.lines x.before x.after v) x.path n;
       }
     ]
 
-    back : OwnOfExtended M P v → Contains G v
-    back own =
-        (x.noted v).1 (inr (subst (λ (e : Path). Own M e.lines x.before x.after v) (sym x.path)
-        (one_own M m P is none x.before x.after x.tried v own)))
+    back : TraversedOfExtended M P v → Contains G v
+    back traversed =
+        (x.noted v).1 (inr (subst (λ (e : Path). Traversed M e.lines x.before x.after v) (sym x.path)
+        (one_traversed M m P is none x.before x.after x.tried v traversed)))
 
-pub looks_of : (M : Map) (P E : Path) (F G : List ℕ) (looks : List Look) → Extends M P E F G →
-    ForPoints M E.lines (λ js. LooksFrom M E.lines (looking E.lines (0 ∷ js)) looks) → LooksOfExtended M P looks
-looks_of M P E F G looks x a = of_path M P E F G (λ e js. LooksFrom M e.lines (looking e.lines (0 ∷ js)) looks) x a
+pub queries_of : (M : Map) (P E : Path) (F G : List ℕ) (queries : List CoverageQuery) → Extends M P E F G →
+    ForPoints M E.lines (λ js. QueriesFrom M E.lines (querying E.lines (0 ∷ js)) queries) →
+    QueriesOfExtended M P queries
+queries_of M P E F G queries x a = of_path M P E F G (λ e js. QueriesFrom M e.lines (querying e.lines (0 ∷ js))
+    queries) x a
 
 -- ---- by the path's fault
 
--- the looks of a path without a fault of its own
-pub looks_whole : (M : Map) (P : Path) (looks : List Look) → path_fault M P ≡ None → LooksOfExtended M P looks →
-    LooksOf M P looks
-looks_whole M P looks none l =
-    subst (λ (o : Option spec.Refusal). MatchOption o (LooksOfExtended M P looks) (λ _. looks ≡ [])) (sym none) l
+-- the queries of a path without a fault
+pub queries_whole : (M : Map) (P : Path) (queries : List CoverageQuery) → path_fault M P ≡ None →
+    QueriesOfExtended M P queries →
+    QueriesOf M P queries
+queries_whole M P queries none l =
+    subst (λ (o : Option spec.Refusal). MatchOption o (QueriesOfExtended M P queries) (λ _. queries ≡ [])) (sym none) l
 
--- the footprint holds what the looks see
-pub settled_foot : (M : Map) → IsMap M → (P : Path) → IsTrue (is_path P.lines) → (looks : List Look) → LooksOf M P looks
-    → (a c : ℕ) → SettledBy M looks a c → (all : List ℕ) → ((v : ℕ) → Foot M P v → Contains all v) →
-    c ≤ a + length looks * length all
-settled_foot M m P is looks o a c s all h =
-    settled_most M looks a c s all (λ v r. h v ((foot_looked M m P is looks o v).1 (inr r)))
+-- the footprint holds what the queries reach
+pub settled_foot : (M : Map) → IsMap M → (P : Path) → IsTrue (is_path P.lines) → (queries : List CoverageQuery) →
+    QueriesOf M P queries
+    → (a c : ℕ) → SettledBy M queries a c → (all : List ℕ) → ((v : ℕ) → Foot M P v → Contains all v) →
+    c ≤ a + length queries * length all
+settled_foot M m P is queries o a c s all h =
+    settled_most M queries a c s all (λ v r. h v ((foot_queried M m P is queries o v).1 (inr r)))
 
 pub local_by : (M : Map) → IsMap M → (P : Path) → IsTrue (is_path P.lines) → (A : spec.Answer) (H : List ℕ) →
     Encodes M P A → ((v : ℕ) → (Contains H v) ↔ Foot M P v)
@@ -190,13 +199,14 @@ if_both (Err e) P Q R f p q = tt
 -- ---- counts
 
 -- there is one search for each coverage query
-pub searches_looked : (M : Map) (P : Path) (looks : List Look) → LooksOf M P looks → SearchesOf M P (length looks)
-searches_looked M P looks o = by (path_fault M P) o
+pub searches_queried : (M : Map) (P : Path) (queries : List CoverageQuery) → QueriesOf M P queries →
+    SearchesOf M P (length queries)
+searches_queried M P queries o = by (path_fault M P) o
   where
-    by : (f : Option spec.Refusal) → MatchOption f (LooksOfExtended M P looks) (λ _. looks ≡ []) →
-        MatchOption f (OfPath M P (λ E _ _ js. length looks ≡ searches_of E.lines (0 ∷ js))) (λ _. length looks ≡ 0)
+    by : (f : Option spec.Refusal) → MatchOption f (QueriesOfExtended M P queries) (λ _. queries ≡ []) →
+        MatchOption f (OfPath M P (λ E _ _ js. length queries ≡ searches_of E.lines (0 ∷ js))) (λ _. length queries ≡ 0)
     by None l =
         let ls = (extended_path M P l.before l.after).lines in
-        path_also l (sym (zip_length (IsLook M ls) (looking ls (0 ∷ l.points)) looks l.holds)
+        path_also l (sym (zip_length (IsQuery M ls) (querying ls (0 ∷ l.points)) queries l.holds)
         ∙ length-filter (λ i. nat_lt (i + 2) (length ls)) (0 ∷ l.points))
     by (Some f) e = ap length e

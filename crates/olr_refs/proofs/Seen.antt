@@ -7,12 +7,12 @@ use Rattle.std.proofs.lemmas.List.Elements.{Contains-append_left, Contains-appen
 use Rattle.olr_spec.specs.Map.{Map, IsMap, has_node}
 use Rattle.olr_spec.specs.Extension.{Path, is_path}
 use Rattle.olr_spec.specs.Footprint.{Sees, Foot}
-use Rattle.olr_spec.specs.Looks.{Look, OwnOf, LooksOf}
-use Rattle.olr_spec.proofs.TestedLemmas.{foot_looked}
+use Rattle.olr_spec.specs.Queries.{CoverageQuery, TraversedOf, QueriesOf}
+use Rattle.olr_spec.proofs.TestedLemmas.{foot_queried}
 use Rattle.olr_spec.proofs.ListLemmas.{Contains-here, Contains-cases}
 use Rattle.olr_route.specs.Searches.{IsSearch, LiesWithin, limit_of}
 use Rattle.olr_route.specs.declared.distances.Direction.TheVariants.{Along}
-use Rattle.olr_route.specs.declared.distances.Search.{Search}
+use Rattle.olr_route.specs.declared.distances.Dijkstra.{Dijkstra}
 use Rattle.olr_refs.specs.Choice.{SeenBy, Notes, NotedAfter}
 use Rattle.olr_refs.proofs.Noting.{search_sees}
 
@@ -74,27 +74,27 @@ nodes_noted P a f g nodes e n p =
     subst (λ (b : Option (List ℕ)). Notes P b (Some g)) (sym e)
     (notes_same (Contains nodes) P (Some f) (Some g) p n)
 
--- what the search for a look notes
-pub look_noted : (M : Map) (place : ℕ → ℕ) (l : Look) (s : ℕ) (q : Search) (a b : Option (List ℕ)) →
+-- what the search for a query notes
+pub query_noted : (M : Map) (place : ℕ → ℕ) (l : CoverageQuery) (s : ℕ) (q : Dijkstra) (a b : Option (List ℕ)) →
     IsSearch M place Along ((s, 0) ∷ []) q → IsTrue (has_node M s) → s ≡ l.from → limit_of q ≡ l.within
     → Notes (LiesWithin M Along ((s, 0) ∷ []) (limit_of q)) a b → Notes (Sees M l) a b
-look_noted M place l s q a b h there begun far n = notes_same _ _ a b (search_sees M place l s q h there begun far) n
+query_noted M place l s q a b h there begun far n = notes_same _ _ a b (search_sees M place l s q h there begun far) n
 
--- ---- what the looks see
+-- ---- what the queries reach
 
 seen_none : (M : Map) (v : ℕ) → SeenBy M [] v → ⊥
 seen_none M v s = let h = s.1.1 in absurd (omega arith)
 
-seen_one : (M : Map) (l : Look) (v : ℕ) → Sees M l v ↔ SeenBy M (l ∷ []) v
+seen_one : (M : Map) (l : CoverageQuery) (v : ℕ) → Sees M l v ↔ SeenBy M (l ∷ []) v
 seen_one M l v = (λ s. (l, Contains-here l [], s), forth)
   where
     forth : SeenBy M (l ∷ []) v → Sees M l v
     forth w = elim (Contains-cases l w.0 [] w.1) [
-      | inl e ↦ subst (λ (k : Look). Sees M k v) (sym e) w.2
+      | inl e ↦ subst (λ (k : CoverageQuery). Sees M k v) (sym e) w.2
       | inr none ↦ let never : none.0 < 0 = none.1 in absurd (omega arith)
     ]
 
-seen_append : (M : Map) (ks ls : List Look) (v : ℕ) → SeenBy M (ks ++ ls) v ↔ (SeenBy M ks v ⊎ SeenBy M ls v)
+seen_append : (M : Map) (ks ls : List CoverageQuery) (v : ℕ) → SeenBy M (ks ++ ls) v ↔ (SeenBy M ks v ⊎ SeenBy M ls v)
 seen_append M ks ls v = (forth, back)
   where
     forth : SeenBy M (ks ++ ls) v → SeenBy M ks v ⊎ SeenBy M ls v
@@ -107,48 +107,53 @@ seen_append M ks ls v = (forth, back)
     back (inl w) = (w.0, Contains-append_left ks ls w.0 w.1, w.2)
     back (inr w) = (w.0, Contains-append_right ks ls w.0 w.1, w.2)
 
-pub noted_none : (M : Map) (looks : List Look) (a : Option (List ℕ)) → looks ≡ [] → Notes (SeenBy M looks) a a
-noted_none M looks a e =
-    subst (λ (ks : List Look). Notes (SeenBy M ks) a a) (sym e) (notes_none (SeenBy M []) a (seen_none M))
+pub noted_none : (M : Map) (queries : List CoverageQuery) (a : Option (List ℕ)) → queries ≡ [] →
+    Notes (SeenBy M queries) a a
+noted_none M queries a e =
+    subst (λ (ks : List CoverageQuery). Notes (SeenBy M ks) a a) (sym e) (notes_none (SeenBy M []) a (seen_none M))
 
--- no look more
-pub noted_nowhere : (M : Map) (looks : List Look) (a : Option (List ℕ)) → NotedAfter M looks looks a a
-noted_nowhere M looks a = ([], sym (append-nil looks), noted_none M [] a refl)
+-- no further query
+pub noted_nowhere : (M : Map) (queries : List CoverageQuery) (a : Option (List ℕ)) → NotedAfter M queries queries a a
+noted_nowhere M queries a = ([], sym (append-nil queries), noted_none M [] a refl)
 
 -- and one more
-pub noted_once : (M : Map) (l : Look) (old new : List Look) (a b : Option (List ℕ)) → new ≡ old ++ l ∷ [] →
+pub noted_once : (M : Map) (l : CoverageQuery) (old new : List CoverageQuery) (a b : Option (List ℕ)) →
+    new ≡ old ++ l ∷ [] →
     Notes (Sees M l) a b → NotedAfter M old new a b
 noted_once M l old new a b e n = (l ∷ [], e, notes_same _ _ a b (seen_one M l) n)
 
-pub noted_more : (M : Map) (old new : List Look) (a b c : Option (List ℕ)) → Notes (SeenBy M old) a b →
+pub noted_more : (M : Map) (old new : List CoverageQuery) (a b c : Option (List ℕ)) → Notes (SeenBy M old) a b →
     NotedAfter M old new b c → Notes (SeenBy M new) a c
 noted_more M old new a b c n m =
-    subst (λ (ks : List Look). Notes (SeenBy M ks) a c) (sym m.1)
+    subst (λ (ks : List CoverageQuery). Notes (SeenBy M ks) a c) (sym m.1)
     (notes_more (SeenBy M old) (SeenBy M m.0) _ a b c (seen_append M old m.0) n m.2)
 
 -- ---- the footprint
 
--- the nodes that were seen are put to the own nodes
-pub seen_added : (own new : List ℕ) (seen : Option (List ℕ)) (nodes : List ℕ) → seen ≡ Some nodes
-    → ((v : ℕ) → Contains new v ↔ (Contains own v ⊎ Contains nodes v)) → (v : ℕ) →
-    Contains new v ↔ (Contains own v ⊎ MatchOption seen ⊥ (λ s. Contains s v))
-seen_added own new seen nodes e f v =
-    subst (λ (o : Option (List ℕ)). Contains new v ↔ (Contains own v ⊎ MatchOption o ⊥ (λ s. Contains s v))) (sym e)
+-- the nodes that were seen are added to the traversed nodes
+pub seen_added : (traversed new : List ℕ) (seen : Option (List ℕ)) (nodes : List ℕ) → seen ≡ Some nodes
+    → ((v : ℕ) → Contains new v ↔ (Contains traversed v ⊎ Contains nodes v)) → (v : ℕ) →
+    Contains new v ↔ (Contains traversed v ⊎ MatchOption seen ⊥ (λ s. Contains s v))
+seen_added traversed new seen nodes e f v =
+    subst (λ (o : Option (List ℕ)). Contains new v ↔ (Contains traversed v ⊎ MatchOption o ⊥ (λ s. Contains s v)))
+    (sym e)
     (f v)
 
--- of a path's own nodes and what its looks see
-pub noted_foot : (M : Map) → IsMap M → (P : Path) → IsTrue (is_path P.lines) → (looks : List Look) → LooksOf M P looks →
-    (own begun : List ℕ) (seen : Option (List ℕ)) (foot : List ℕ) → ((v : ℕ) → Contains own v ↔ OwnOf M P v)
-    → begun ≡ [] → Notes (SeenBy M looks) (Some begun) seen
-    → ((v : ℕ) → Contains foot v ↔ (Contains own v ⊎ MatchOption seen ⊥ (λ s. Contains s v))) → (v : ℕ) →
+-- of a path's traversed nodes and what its queries reach
+pub noted_foot : (M : Map) → IsMap M → (P : Path) → IsTrue (is_path P.lines) → (queries : List CoverageQuery) →
+    QueriesOf M P queries →
+    (traversed begun : List ℕ) (seen : Option (List ℕ)) (foot : List ℕ) →
+    ((v : ℕ) → Contains traversed v ↔ TraversedOf M P v)
+    → begun ≡ [] → Notes (SeenBy M queries) (Some begun) seen
+    → ((v : ℕ) → Contains foot v ↔ (Contains traversed v ⊎ MatchOption seen ⊥ (λ s. Contains s v))) → (v : ℕ) →
     Contains foot v ↔ Foot M P v
-noted_foot M m P is looks l own begun None foot o e n f v = absurd n
-noted_foot M m P is looks l own begun (Some seen) foot o e n f v = (forth, back)
+noted_foot M m P is queries l traversed begun None foot o e n f v = absurd n
+noted_foot M m P is queries l traversed begun (Some seen) foot o e n f v = (forth, back)
   where
-    law : Foot M P v ↔ (OwnOf M P v ⊎ SeenBy M looks v)
-    law = foot_looked M m P is looks l v
+    law : Foot M P v ↔ (TraversedOf M P v ⊎ SeenBy M queries v)
+    law = foot_queried M m P is queries l v
 
-    none : Contains begun v ⊎ SeenBy M looks v → SeenBy M looks v
+    none : Contains begun v ⊎ SeenBy M queries v → SeenBy M queries v
     none (inl c) = let never : c.0 < length begun = c.1 in absurd (omega (arith, ap (λ (vs : List ℕ). length vs) e))
     none (inr s) = s
 

@@ -4,7 +4,7 @@ use Rattle.std.specs.List.Sorted.{IsNonDecreasing, IsBinarySearchResult}
 use Rattle.std.specs.Ordering.{nat_cmp}
 use Rattle.std.proofs.lemmas.List.Sorted.{searched, list_any-IsPermutation}
 use Rattle.olr_spec.specs.Map.{has}
-use Rattle.olr_spec.proofs.RisingLists.{place_has}
+use Rattle.olr_spec.proofs.AscendingLists.{place_has}
 
 pub found : (xs : List ℕ) (x : ℕ) (r : Result ℕ ℕ) → IsNonDecreasing xs → IsBinarySearchResult (λ y. nat_cmp y x) xs r →
     is_ok r ≡ has xs x

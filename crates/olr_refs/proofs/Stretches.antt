@@ -2,11 +2,11 @@
 use Rattle.std.proofs.Common.{◌≡◌, ◌<◌, ◌≤◌, ◌-◌, ◌+◌, ℕ, List, ◌++◌, length, take, sym, ap, ◌∙◌, arith}
 use Rattle.std.specs.List.{slice_index}
 use Rattle.olr_spec.specs.Map.{Map}
-use Rattle.olr_spec.specs.Walks.{dm_of}
+use Rattle.olr_spec.specs.Routes.{dm_of}
 use Rattle.olr_spec.specs.Points.{stretch}
-use Rattle.olr_spec.proofs.WalkLemmas.{dm_of-append}
-use Rattle.olr_spec.proofs.LookLemmas.{stretch_parts}
-use Rattle.olr_refs.specs.Along.{AreDistances, IsFarthest, IsFar}
+use Rattle.olr_spec.proofs.RouteLemmas.{dm_of-append}
+use Rattle.olr_spec.proofs.QueryLemmas.{stretch_parts}
+use Rattle.olr_refs.specs.Along.{AreDistances, IsLastWithinLimit, IsFar}
 use Rattle.std.proofs.Math.Seq.{take-add}
 
 -- ---- lengths
@@ -34,7 +34,7 @@ pub distances_rise : (M : Map) (ls ds : List ℕ) → AreDistances M ls ds → (
     slice_index ds j ≤ slice_index ds k
 distances_rise M ls ds d j k h g = let l = d.long in let e = dm_stretch M ls ds j k d h (omega arith) in omega arith
 
-pub far_of : (M : Map) (ls ds : List ℕ) (i k : ℕ) → AreDistances M ls ds → IsFarthest ds i k → IsFar M ls i k
+pub far_of : (M : Map) (ls ds : List ℕ) (i k : ℕ) → AreDistances M ls ds → IsLastWithinLimit ds i k → IsFar M ls i k
 far_of M ls ds i k d f =
     let l = d.long in
     record {

@@ -6,15 +6,15 @@ use Rattle.std.proofs.lemmas.Bool.Decides.{nat_tests}
 use Rattle.std.proofs.lemmas.List.{take-map, take_all, get_or-take, get_or-drop}
 use Rattle.std.specs.List.{slice_index, slice_range, filter}
 use Rattle.olr_spec.specs.Map.{Map}
-use Rattle.olr_spec.specs.Walks.{dm_of}
+use Rattle.olr_spec.specs.Routes.{dm_of}
 use Rattle.olr_spec.specs.Points.{Candidate, last_position}
 use Rattle.olr_spec.specs.Reference.{leg, legs, dm_along, from_front, to_back, last_where, first_where, first_kept}
 use Rattle.olr_spec.specs.Reference.{last_kept, kept_points, reference, reference_by}
 use Rattle.olr_spec.proofs.JoinLemmas.{Linked, follow_linked, between}
 use Rattle.olr_spec.proofs.KeptLemmas.{dm_along-legs, whole}
 use Rattle.olr_refs.specs.Along.{AreDistances}
-use Rattle.olr_refs.specs.Kept.{later, AreAlong, ArePoints, AreLinked, AreTrimmed, distance_at, whole_distance}
-use Rattle.olr_refs.specs.Kept.{IsFirstKept, IsLastKept}
+use Rattle.olr_refs.specs.KeptPoints.{later, AreAlong, ArePoints, AreLinked, AreTrimmed, distance_at, whole_distance}
+use Rattle.olr_refs.specs.KeptPoints.{IsFirstKept, IsLastKept}
 use Rattle.olr_refs.proofs.Stretches.{distances_rise}
 
 -- ---- the LRPs
@@ -51,12 +51,12 @@ linked_end M ls ps l h =
     (l (length ps - 1 - 1) (omega arith))
 
 -- neighbours ascend, so all do
-pub linked_rise : (M : Map) (ls ps : List ℕ) → AreLinked M ls ps → (j n : ℕ) → suc (j + n) < length ps →
+pub linked_ascend : (M : Map) (ls ps : List ℕ) → AreLinked M ls ps → (j n : ℕ) → suc (j + n) < length ps →
     slice_index ps j < slice_index ps (suc (j + n))
-linked_rise M ls ps l j zero h = let on : suc (j + 0) ≡ j + 1 =
+linked_ascend M ls ps l j zero h = let on : suc (j + 0) ≡ j + 1 =
     omega arith in subst (λ (k : ℕ). slice_index ps j < slice_index ps k) (sym on) (l j (omega arith)).after
-linked_rise M ls ps l j (suc n) h =
-    let front = linked_rise M ls ps l j n (omega arith) in
+linked_ascend M ls ps l j (suc n) h =
+    let front = linked_ascend M ls ps l j n (omega arith) in
     let on : suc (j + n) + 1 ≡ suc (j + suc n) = omega arith in
     let step = (l (suc (j + n)) (omega arith)).after in
     let here : slice_index ps (suc (j + n)) < slice_index ps (suc (j + suc n)) =
@@ -67,7 +67,7 @@ pub linked_less : (M : Map) (ls ps : List ℕ) → AreLinked M ls ps → (j k : 
     slice_index ps j < slice_index ps k
 linked_less M ls ps l j k h g =
     let on : suc (j + (k - suc j)) ≡ k = omega arith in
-    subst (λ (n : ℕ). slice_index ps j < slice_index ps n) on (linked_rise M ls ps l j (k - suc j) (omega arith))
+    subst (λ (n : ℕ). slice_index ps j < slice_index ps n) on (linked_ascend M ls ps l j (k - suc j) (omega arith))
 
 last_index : (i : ℕ) (js : List ℕ) → slice_index (i ∷ js) (length js) ≡ last_position i js
 last_index i [] = refl
@@ -157,12 +157,12 @@ module _ (M : Map) (ls ds ps : List ℕ) (d : AreDistances M ls ds) (p : ArePoin
       let end = points_end M ls ps p in
       elim (cases_order k (length ps - 1)) [
         | inl e ↦ let same = ap (slice_index ps) e in omega arith
-        | inr (inl lt) ↦ let rise = linked_less M ls ps linked k (length ps - 1) lt (omega arith) in omega arith
+        | inr (inl lt) ↦ let ascend = linked_less M ls ps linked k (length ps - 1) lt (omega arith) in omega arith
         | inr (inr gt) ↦ absurd (omega arith)
       ]
 
-  rise : (j k : ℕ) → j ≤ k → k < length ps → distance_at ds ps j ≤ distance_at ds ps k
-  rise j k h g =
+  ascend : (j k : ℕ) → j ≤ k → k < length ps → distance_at ds ps j ≤ distance_at ds ps k
+  ascend j k h g =
       elim (cases_order j k) [
         | inl e ↦ let same = ap (distance_at ds ps) e in omega arith
         | inr (inl lt) ↦
@@ -183,7 +183,7 @@ module _ (M : Map) (ls ds ps : List ℕ) (d : AreDistances M ls ds) (p : ArePoin
         start = ap (λ (qs : List ℕ). distance_at ds qs 0) p.from_start ∙ d.each 0 (omega arith);
         end = ap (slice_index ds) (points_end M ls ps p) ∙ sym last_distance;
         within = λ k h. let u = upto k h in let long = d.long in omega arith;
-        rise = rise;
+        ascend = ascend;
       }
 
   pub whole_is : whole_distance ds ≡ dm_of M ls
@@ -207,7 +207,7 @@ module _ (M : Map) (ls ds ps : List ℕ) (d : AreDistances M ls ds) (p : ArePoin
       let after : (k : ℕ) → a < k → k < length ps → test (slice_index ps k) ≡ false = λ k gt lt.
       let next = f.next (omega arith) in
       let there = front (slice_index ps k) (upto k lt) in
-      let order = rise (a + 1) k (omega arith) lt in
+      let order = ascend (a + 1) k (omega arith) lt in
       lt-leb (from_front (legs M ls) (slice_index ps k)) positive (omega arith) in
       sym (ap (last_where test 0) (sym p.from_start) ∙ last_where_at test 0 ps a f.within passes after)
 
@@ -223,7 +223,7 @@ module _ (M : Map) (ls ds ps : List ℕ) (d : AreDistances M ls ds) (p : ArePoin
       let within = l.within in
       let next = l.before (omega arith) in
       let there = back (slice_index ps k) (upto k (omega arith)) in
-      let order = rise k (b - 1) (omega arith) (omega arith) in
+      let order = ascend k (b - 1) (omega arith) (omega arith) in
       lt-leb (to_back (legs M ls) (slice_index ps k)) negative (omega arith) in
       sym (ap (first_where test 0) (sym p.from_start) ∙ first_where_at test 0 ps b l.within passes before)
 
@@ -231,7 +231,7 @@ module _ (M : Map) (ls ds ps : List ℕ) (d : AreDistances M ls ds) (p : ArePoin
   not_above j k h g =
       elim (cases_order j k) [
         | inl e ↦ let same = ap (slice_index ps) e in omega arith
-        | inr (inl lt) ↦ let rise = linked_less M ls ps linked j k lt g in omega arith
+        | inr (inl lt) ↦ let ascend = linked_less M ls ps linked j k lt g in omega arith
         | inr (inr gt) ↦ absurd (omega arith)
       ]
 
@@ -241,10 +241,11 @@ module _ (M : Map) (ls ds ps : List ℕ) (d : AreDistances M ls ds) (p : ArePoin
       let A = slice_index ps a in
       let B = slice_index ps b in
       range_passes (between A B) ps a (b + 1 - a) (omega arith)
-      (λ k lt. let rise = linked_less M ls ps linked k a lt (omega arith) in outside_low A B (slice_index ps k) rise)
+      (λ k lt. let ascend = linked_less M ls ps linked k a lt (omega arith) in outside_low A B (slice_index ps k)
+      ascend)
       (λ k ge lt. inside_both A B (slice_index ps k) (not_above a k ge (omega arith)) (not_above k b (omega arith) g))
-      (λ k ge lt. let rise = linked_less M ls ps linked b k (omega arith) lt in
-      outside_high A B (slice_index ps k) rise)
+      (λ k ge lt. let ascend = linked_less M ls ps linked b k (omega arith) lt in
+      outside_high A B (slice_index ps k) ascend)
 
 -- the remaining LRPs, and the remainders of the offsets, give the reference
 pub record IsCut (M : Map) (ls ds ps : List ℕ) (positive negative : ℕ) (ks : List ℕ) (pos_left neg_left : ℕ) : Type
@@ -273,7 +274,7 @@ trimmed M ls ds ps positive negative ks pos_left neg_left d p r less =
     let two : a < b =
     elim (cases_lt a b) [
       | inl lt ↦ lt
-      | inr ge ↦ let order = rise M ls ds ps d p b a ge f.within in
+      | inr ge ↦ let order = ascend M ls ds ps d p b a ge f.within in
           absurd (omega arith)
     ] in
     let first = first_is M ls ds ps d p positive a f in

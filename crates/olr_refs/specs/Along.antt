@@ -2,7 +2,7 @@
 --     AreDistances M ls ds      ds are the distances of all positions from the start, in decimetres
 use Rattle.std.specs.Prelude.{◌≡◌, ℕ, ◌+◌, ◌<◌, ◌≤◌, List, length, take, slice_index}
 use Rattle.olr_spec.specs.Map.{Map}
-use Rattle.olr_spec.specs.Walks.{dm_of}
+use Rattle.olr_spec.specs.Routes.{dm_of}
 use Rattle.olr_spec.specs.Extension.{limit}
 use Rattle.olr_spec.specs.Points.{stretch, Covered}
 
@@ -15,7 +15,7 @@ abbrev pub AreDistances : Map → List ℕ → List ℕ → Type 0
 AreDistances M ls ds = DistancesTo M ls (length ls) ds
 
 -- k is the last position, from i on, whose distance from i is within the limit
-pub record IsFarthest (ds : List ℕ) (i k : ℕ) : Type 0 where
+pub record IsLastWithinLimit (ds : List ℕ) (i k : ℕ) : Type 0 where
   pub from : i ≤ k
   pub upto : k < length ds
   pub near : slice_index ds k ≤ slice_index ds i + limit

@@ -1,23 +1,24 @@
--- What a choice of points says, what it looks at, and what it costs.
+-- What a choice of LRPs says, what it searches, and what it costs.
 --     ForPoints M ls P      P of the points after position 0, of which there is exactly one list
 --     IsChoice ls js c      the choice is 0 and js where they lead to the end, and else the position that has no next
 --         point
 --     searches_of ls is      how many of the points is are searched from: those that two lines or more follow
 --     CountOf near n      so many nodes are `near`
---     SettledBy M looks old new      a count is raised for each of the looks, by the number of nodes that the look sees
---     Looked M looks old new      one search more for each of the looks, which settles the nodes that the look sees
---     LookedAfter M ls i old new before after      where two lines or more follow line i there is one look more, and
+--     SettledBy M queries old new      a count is raised for each of the queries, by the number of nodes that the query
+--         sees
+--     Queried M queries old new      one search more for each of the queries, which settles the nodes that it reaches
+--     QueriedAfter M ls i old new before after      where two lines or more follow line i there is one query more, and
 --         its search is counted
---     SeenBy M looks v      one of the looks sees node v
+--     SeenBy M queries v      one of the queries reaches node v
 --     Notes near old new      where nodes are noted, those that are `near` are noted besides
---     NotedAfter M old new before after      the looks that were added are noted: the nodes that they see
+--     NotedAfter M old new before after      the queries that were added are noted: the nodes that they reach
 use Rattle.std.specs.Prelude.{◌≡◌, ◌≢◌, ◌==◌, ℕ, zero, suc, ◌+◌, ◌≤◌, List, [], ◌∷◌, ◌++◌, length, count_by, nat_lt}
 use Rattle.std.specs.Prelude.{Contains, Option, Some, None, ◌↔◌, ◌⊎◌, ⊤}
 use Rattle.std.specs.List.{IsDistinct}
 use Rattle.olr_spec.specs.Map.{Map}
 use Rattle.olr_spec.specs.Points.{Follow, last_position}
 use Rattle.olr_spec.specs.Footprint.{Sees}
-use Rattle.olr_spec.specs.Looks.{Look, LooksFrom, looking}
+use Rattle.olr_spec.specs.Queries.{CoverageQuery, QueriesFrom, querying}
 use Rattle.olr_route.specs.declared.work.Work.{Work}
 use Rattle.olr_route.specs.Counts.{saturated_count}
 use Rattle.olr_refs.specs.declared.chosen.Choice.{Choice}
@@ -44,24 +45,25 @@ pub record CountOf (near : ℕ → Type 0) (n : ℕ) : Type 0 where
   pub exactly : (v : ℕ) → Contains nodes v ↔ near v
   pub many : length nodes ≡ n
 
-abbrev pub SettledBy : Map → List Look → ℕ → ℕ → Type 0
+abbrev pub SettledBy : Map → List CoverageQuery → ℕ → ℕ → Type 0
 SettledBy M [] old new = new ≡ old
 SettledBy M (l ∷ ls) old new = (n : ℕ) × CountOf (Sees M l) n × SettledBy M ls (saturated_count (old + n)) new
 
-pub record Looked (M : Map) (looks : List Look) (old new : Work) : Type 0 where
+pub record Queried (M : Map) (queries : List CoverageQuery) (old new : Work) : Type 0 where
   pub encodings : new.encodings ≡ old.encodings
-  pub searches : new.searches ≡ raised_count old.searches (length looks)
-  pub rises : saturated_count old.settled ≤ new.settled
-  pub settled : SettledBy M looks old.settled new.settled
+  pub searches : new.searches ≡ raised_count old.searches (length queries)
+  pub ascends : saturated_count old.settled ≤ new.settled
+  pub settled : SettledBy M queries old.settled new.settled
 
-pub record LookedAfter (M : Map) (ls : List ℕ) (i : ℕ) (old new : List Look) (before after : Work) : Type 0 where
-  pub added : List Look
-  pub each : LooksFrom M ls (looking ls (i ∷ [])) added
-  pub grown : new ≡ old ++ added
-  pub counts : Looked M added before after
+pub record QueriedAfter (M : Map) (ls : List ℕ) (i : ℕ) (old new : List CoverageQuery) (before after : Work) : Type 0
+  where
+    pub added : List CoverageQuery
+    pub each : QueriesFrom M ls (querying ls (i ∷ [])) added
+    pub grown : new ≡ old ++ added
+    pub counts : Queried M added before after
 
-abbrev pub SeenBy : Map → List Look → ℕ → Type 0
-SeenBy M looks v = (l : Look) × Contains looks l × Sees M l v
+abbrev pub SeenBy : Map → List CoverageQuery → ℕ → Type 0
+SeenBy M queries v = (l : CoverageQuery) × Contains queries l × Sees M l v
 
 -- where none are noted, none are afterwards
 abbrev pub Notes : (ℕ → Type 0) → Option (List ℕ) → Option (List ℕ) → Type 0
@@ -70,5 +72,6 @@ Notes near None (Some new) = ⊥
 Notes near (Some old) None = ⊥
 Notes near (Some old) (Some new) = (v : ℕ) → Contains new v ↔ (Contains old v ⊎ near v)
 
-abbrev pub NotedAfter : Map → List Look → List Look → Option (List ℕ) → Option (List ℕ) → Type 0
-NotedAfter M old new before after = (added : List Look) × (new ≡ old ++ added) × Notes (SeenBy M added) before after
+abbrev pub NotedAfter : Map → List CoverageQuery → List CoverageQuery → Option (List ℕ) → Option (List ℕ) → Type 0
+NotedAfter M old new before after = (added : List CoverageQuery) × (new ≡ old ++ added)
+    × Notes (SeenBy M added) before after

@@ -4,7 +4,7 @@
 use Rattle.std.specs.Prelude.{◌≡◌, ℕ, ◌⊎◌, ◌↔◌, List, Contains}
 use Rattle.olr_spec.specs.Map.{Map}
 use Rattle.olr_spec.specs.Extension.{Path, Tried, extended_path}
-use Rattle.olr_spec.specs.Looks.{NodeOf}
+use Rattle.olr_spec.specs.Queries.{NodeOf}
 
 pub record Extends (M : Map) (P E : Path) (F G : List ℕ) : Type 0 where
   pub before : List ℕ

@@ -2,9 +2,9 @@ pub mod Along
 pub mod Answers
 pub mod Choice
 pub mod Coded
-pub mod Courses
+pub mod ResolvedPaths
 pub mod Extends
 pub mod Fields
-pub mod Kept
+pub mod KeptPoints
 pub mod Recovered
 pub mod Referring

@@ -1,13 +1,13 @@
 //! Positions along the lines of a path: position `k` below the number of lines is the start of line `k`, and the last
 //! position is the end of the last line.
 ghost use Rattle.std.specs.Prelude.{◌≡◌, ◌<◌, ◌≤◌, IsTrue, IfOk, length, slice_index};
-ghost use Rattle.olr_spec.specs.Map.{has_line, has_node, end, is_good, line_at, place_at};
-ghost use Rattle.olr_spec.specs.Walks.{dm_of};
+ghost use Rattle.olr_spec.specs.Map.{has_line, has_node, end, is_good, line_at, coord_at};
+ghost use Rattle.olr_spec.specs.Routes.{dm_of};
 ghost use Rattle.olr_spec.specs.Points.{node_at, stretch};
 ghost use Rattle.olr_spec.specs.Reference.{legs, dm_between, position};
 ghost use Rattle.olr_refs.specs.Along.{AreDistances};
 ghost use Rattle.olr_spec.specs.Extension.{AreJoined};
-ghost use Rattle.olr_refs.specs.Courses.{AreJoined-prop, AreDistances-prop};
+ghost use Rattle.olr_refs.specs.ResolvedPaths.{AreJoined-prop, AreDistances-prop};
 
 use crate::lines::{end_of, len_of, start_of};
 use olr_coords::Coord;
@@ -17,7 +17,7 @@ use std::alloc::{AllocError, Global};
 /// Joined lines of a map, each of which ends where the next begins, with the distances of their positions: the lines
 /// along which a path is encoded.
 #[derive(Drop)]
-pub struct Course<'a, M: MapRead> {
+pub struct ResolvedPath<'a, M: MapRead> {
     /// The map.
     pub map: &'a M,
     /// The lines, in the order of travel.
@@ -28,7 +28,7 @@ pub struct Course<'a, M: MapRead> {
     ghost measured: { AreDistances (M.map map.now) lines.now distances.now } by { AreDistances-prop (M.map map.now) lines.now distances.now },
 }
 
-impl<M: MapRead> Course<'_, M> {
+impl<M: MapRead> ResolvedPath<'_, M> {
     /// The record of line `k`.
     pub(crate) fn line(&self, k: usize) -> &Line
         requires { k < length self.now.lines.now }
@@ -67,11 +67,11 @@ impl<M: MapRead> Course<'_, M> {
     pub(crate) fn place(&self, k: usize) -> Coord
         requires some { 0 < length self.now.lines.now }
         requires within { k ≤ length self.now.lines.now }
-        ensures at { result ≡ place_at (M.map self.now.map.now)
+        ensures at { result ≡ coord_at (M.map self.now.map.now)
             (node_at (M.map self.now.map.now) self.now.lines.now k) }
         ensures position { result ≡ position (legs (M.map self.now.map.now) self.now.lines.now) k }
     {
-        place_of(self.map, self.node(k))
+        coord_of(self.map, self.node(k))
     }
 
     /// The distance from position `i` on to position `j`, in decimetres.
@@ -94,9 +94,9 @@ pub fn line_of<M: MapRead>(map: &M, line: LineId) -> &Line
 }
 
 /// The coordinate of a node of the map.
-pub fn place_of<M: MapRead>(map: &M, node: NodeId) -> Coord
+pub fn coord_of<M: MapRead>(map: &M, node: NodeId) -> Coord
     requires { IsTrue (has_node (M.map map.now) node) }
-    ensures { result ≡ place_at (M.map map.now) node }
+    ensures { result ≡ coord_at (M.map map.now) node }
 {
     map.node(node).unwrap()
 }

@@ -1,24 +1,24 @@
 //! The choice of the next location reference point (LRP) after a position.
 ghost use Rattle.std.specs.Prelude.{◌≡◌, ℕ, ◌+◌, ◌<◌, ◌≤◌, ◌≢◌, ◌↔◌, IsTrue, MatchOption, length, slice_index};
-ghost use Rattle.olr_spec.specs.Map.{place_at};
+ghost use Rattle.olr_spec.specs.Map.{coord_at};
 ghost use Rattle.olr_spec.specs.Coordinates.{fits16, relative};
 ghost use Rattle.olr_coords.specs.Bounds.{is_degrees};
 ghost use Rattle.olr_spec.specs.Points.{fit16, Next, NoNext};
 ghost use Rattle.olr_spec.specs.Extension.{limit};
-ghost use Rattle.olr_refs.specs.Along.{IsFar, IsFarthest, IsReach};
+ghost use Rattle.olr_refs.specs.Along.{IsFar, IsLastWithinLimit, IsReach};
 
-use crate::along::Course;
+use crate::along::ResolvedPath;
 use crate::nodes::passing;
 use olr_coords::{Coord, rel16};
 use olr_map::MapRead;
 use olr_route::GREATEST_LIMIT;
 
 /// The last position, from `i` on, that is at most 150,000 dm from position `i`.
-fn farthest(distances: &[u128], i: usize) -> usize
+fn last_within(distances: &[u128], i: usize) -> usize
     requires within { i < length distances.now }
-    requires rising { (j k : ℕ) → j ≤ k → k < length distances.now →
+    requires ascending { (j k : ℕ) → j ≤ k → k < length distances.now →
         slice_index distances.now j ≤ slice_index distances.now k }
-    ensures { IsFarthest distances.now i result }
+    ensures { IsLastWithinLimit distances.now i result }
 {
     for k in i + 1..distances.len() {
         if distances[k] - distances[i] > u128::from(GREATEST_LIMIT) {
@@ -29,11 +29,11 @@ fn farthest(distances: &[u128], i: usize) -> usize
 }
 
 /// The last position of a path, from `i` on, that is at most 150,000 dm from position `i`.
-pub fn farthest_from<M: MapRead>(course: &Course<M>, i: usize) -> usize
-    requires { i < length course.now.lines.now }
-    ensures { IsFar (M.map course.now.map.now) course.now.lines.now i result }
+pub fn last_within_limit<M: MapRead>(resolved: &ResolvedPath<M>, i: usize) -> usize
+    requires { i < length resolved.now.lines.now }
+    ensures { IsFar (M.map resolved.now.map.now) resolved.now.lines.now i result }
 {
-    farthest(course.distances, i)
+    last_within(resolved.distances, i)
 }
 
 /// Whether the difference between two longitudes, or two latitudes, fits 16 bits.
@@ -52,22 +52,22 @@ fn is_fit(from: Coord, to: Coord) -> bool
     is_close(from.lon(), to.lon()) && is_close(from.lat(), to.lat())
 }
 
-/// The position of the next LRP after `i`, where the positions up to `reach` are covered and within the limit: the end if
-/// it is one of them and fits; else the last at a valid node that fits; else the last that fits. None if none fits.
-pub fn next_of<M: MapRead>(course: &Course<M>, i: usize, reach: usize) -> Option<usize>
-    requires some { i < length course.now.lines.now }
-    requires reach { IsReach (M.map course.now.map.now) course.now.lines.now i reach }
-    ensures { MatchOption result (NoNext (M.map course.now.map.now) course.now.lines.now i)
-        (Next (M.map course.now.map.now) course.now.lines.now i) }
+/// The position of the next LRP after `i`, where the positions up to `reach` are covered and within the limit: the end
+/// if it is one of them and fits; else the last at a valid node that fits; else the last that fits. None if none fits.
+pub fn next_of<M: MapRead>(resolved: &ResolvedPath<M>, i: usize, reach: usize) -> Option<usize>
+    requires some { i < length resolved.now.lines.now }
+    requires reach { IsReach (M.map resolved.now.map.now) resolved.now.lines.now i reach }
+    ensures { MatchOption result (NoNext (M.map resolved.now.map.now) resolved.now.lines.now i)
+        (Next (M.map resolved.now.map.now) resolved.now.lines.now i) }
 {
-    let here = course.place(i);
-    if reach == course.lines.len() && is_fit(here, course.place(reach)) {
+    let here = resolved.place(i);
+    if reach == resolved.lines.len() && is_fit(here, resolved.place(reach)) {
         return Some(reach);
     }
     let mut last = None;
     for k in (i + 1..reach + 1).rev() {
-        if is_fit(here, course.place(k)) {
-            if !passing(course.map, course.node(k)) {
+        if is_fit(here, resolved.place(k)) {
+            if !passing(resolved.map, resolved.node(k)) {
                 return Some(k);
             }
             last = last.or(Some(k));

@@ -4,35 +4,38 @@ ghost use Rattle.std.specs.Prelude.{Contains, length};
 ghost use Rattle.olr_spec.specs.Extension.{is_path, AreJoined};
 ghost use Rattle.olr_spec.specs.Encoding.{path_fault, Encoding as EncodingRecord, Encodes};
 ghost use Rattle.olr_spec.specs.Footprint.{Foot};
-ghost use Rattle.olr_spec.specs.Looks.{LooksFrom, LooksOf, LooksOfExtended, OwnOf, OwnOfExtended, looking};
+ghost use Rattle.olr_spec.specs.Queries.{QueriesFrom, QueriesOf, QueriesOfExtended, TraversedOf, TraversedOfExtended};
+ghost use Rattle.olr_spec.specs.Queries.{querying};
 ghost use Rattle.olr_refs.specs.Answers.{answer_of};
 ghost use Rattle.olr_spec.specs.Encoding.{answer_by_points as answer_along};
-ghost use Rattle.olr_spec.specs.Walks.{dm_of};
-ghost use Rattle.olr_refs.specs.Choice.{ForPoints, IsChoice, Looked, Notes, SeenBy, SettledBy, raised_count};
+ghost use Rattle.olr_spec.specs.Routes.{dm_of};
+ghost use Rattle.olr_refs.specs.Choice.{ForPoints, IsChoice, Queried, Notes, SeenBy, SettledBy, raised_count};
 ghost use Rattle.olr_refs.specs.Referring.{JoinsOf};
 
-use crate::along::{Course, distances};
+use crate::along::{ResolvedPath, distances};
 use crate::answer::{Answer, Refusal};
 use crate::chosen::{Choice, points};
+use crate::coverage_query::CoverageQuery;
 use crate::extension::{Extended, extend};
 use crate::faults::path_fault;
-use crate::look::Look;
 use crate::path::Path;
 use crate::reference::reference_of;
 use olr_map::{Footprint, MapRead};
-use olr_route::{Search, Work};
+use olr_route::{Dijkstra, Work};
 use std::alloc::{AllocError, Global};
 
-/// The answer of a path on a map, and what it depends on. An edit that affects none of that leaves the answer unchanged.
+/// The answer of a path on a map, and what it depends on. An edit that affects none of that leaves the answer
+/// unchanged.
 #[derive(Drop, Debug)]
 pub struct Encoding {
     /// The answer.
     pub answer: Answer,
-    /// The traversed nodes: those of the extended path and of the tried runs of degree-two nodes. Empty if one of reasons 1
+    /// The traversed nodes: those of the extended path and of the tried runs of degree-two nodes. Empty if one of
+    /// reasons 1
     /// to 3 holds.
-    pub own: Footprint,
+    pub traversed: Footprint,
     /// The coverage queries, in the order of the LRPs where they begin.
-    pub looks: Vec<Look>,
+    pub queries: Vec<CoverageQuery>,
 }
 
 /// The encoding of a path on a map, by searches that are settled no farther than it takes to find the LRPs.
@@ -43,22 +46,22 @@ pub fn encode<M: MapRead>(
     alloc: Global,
     map: &M,
     path: &Path,
-    search: &mut Search,
+    search: &mut Dijkstra,
     work: &mut Work,
 ) -> Result<Encoding, AllocError>
     ensures answer { IfOk result (λ e. Encodes (M.map map.now) path.now (answer_of e.answer)) }
     ensures joins { IfOk result (λ e. JoinsOf (M.map map.now) path.now e.answer) }
-    ensures own { IfOk result (λ e. (v : ℕ) → Contains e.own v ↔ OwnOf (M.map map.now) path.now v) }
-    ensures looks { IfOk result (λ e. LooksOf (M.map map.now) path.now e.looks.items) }
+    ensures traversed { IfOk result (λ e. (v : ℕ) → Contains e.traversed v ↔ TraversedOf (M.map map.now) path.now v) }
+    ensures queries { IfOk result (λ e. QueriesOf (M.map map.now) path.now e.queries.items) }
     ensures path { IsTrue (is_path path.now.lines) }
     ensures encodings { OnOk result
         (work.old.encodings + 1 < 2 ^ 64 → work.new.encodings ≡ work.old.encodings + 1) }
-    ensures searches { IfOk result (λ e. work.new.searches ≡ raised_count work.old.searches (length e.looks.items)) }
+    ensures searches { IfOk result (λ e. work.new.searches ≡ raised_count work.old.searches (length e.queries.items)) }
     ensures settled_rises { OnOk result (work.old.settled < 2 ^ 64 → work.old.settled ≤ work.new.settled) }
     ensures settled { IfOk result (λ e. (all : List ℕ) → ((v : ℕ) → Foot (M.map map.now) path.now v → Contains all v)
-        → work.new.settled ≤ work.old.settled + length e.looks.items * length all) }
+        → work.new.settled ≤ work.old.settled + length e.queries.items * length all) }
     ensures settled_exactly { IfOk result
-        (λ e. SettledBy (M.map map.now) e.looks.items work.old.settled work.new.settled) }
+        (λ e. SettledBy (M.map map.now) e.queries.items work.old.settled work.new.settled) }
 {
     let mut seen = None;
     encode_noting(alloc, map, path, search, &mut seen, work)
@@ -67,36 +70,36 @@ pub fn encode<M: MapRead>(
 /// The encoding of a path on a map, as `encode` makes it. The nodes that its searches settle are added to those that
 /// were seen, where these are noted; `None` notes nothing.
 ///
-/// After want of memory what was seen may be more than before.
+/// If it is out of memory, what was seen may be more than before.
 pub fn encode_noting<M: MapRead>(
     alloc: Global,
     map: &M,
     path: &Path,
-    search: &mut Search,
+    search: &mut Dijkstra,
     seen: &mut Option<Footprint>,
     work: &mut Work,
 ) -> Result<Encoding, AllocError>
     ensures answer { IfOk result (λ e. Encodes (M.map map.now) path.now (answer_of e.answer)) }
     ensures joins { IfOk result (λ e. JoinsOf (M.map map.now) path.now e.answer) }
-    ensures own { IfOk result (λ e. (v : ℕ) → Contains e.own v ↔ OwnOf (M.map map.now) path.now v) }
-    ensures looks { IfOk result (λ e. LooksOf (M.map map.now) path.now e.looks.items) }
+    ensures traversed { IfOk result (λ e. (v : ℕ) → Contains e.traversed v ↔ TraversedOf (M.map map.now) path.now v) }
+    ensures queries { IfOk result (λ e. QueriesOf (M.map map.now) path.now e.queries.items) }
     ensures path { IsTrue (is_path path.now.lines) }
     ensures encodings { OnOk result
         (work.old.encodings + 1 < 2 ^ 64 → work.new.encodings ≡ work.old.encodings + 1) }
-    ensures searches { IfOk result (λ e. work.new.searches ≡ raised_count work.old.searches (length e.looks.items)) }
+    ensures searches { IfOk result (λ e. work.new.searches ≡ raised_count work.old.searches (length e.queries.items)) }
     ensures settled_rises { OnOk result (work.old.settled < 2 ^ 64 → work.old.settled ≤ work.new.settled) }
     ensures settled { IfOk result (λ e. (all : List ℕ) → ((v : ℕ) → Foot (M.map map.now) path.now v → Contains all v)
-        → work.new.settled ≤ work.old.settled + length e.looks.items * length all) }
+        → work.new.settled ≤ work.old.settled + length e.queries.items * length all) }
     ensures settled_exactly { IfOk result
-        (λ e. SettledBy (M.map map.now) e.looks.items work.old.settled work.new.settled) }
-    ensures seen { IfOk result (λ e. Notes (SeenBy (M.map map.now) e.looks.items) seen.old seen.new) }
+        (λ e. SettledBy (M.map map.now) e.queries.items work.old.settled work.new.settled) }
+    ensures seen { IfOk result (λ e. Notes (SeenBy (M.map map.now) e.queries.items) seen.old seen.new) }
 {
     work.encodings = work.encodings.saturating_add(1);
     match path_fault(map, path) {
         Some(refusal) => Ok(Encoding {
             answer: Answer::Refused(refusal),
-            own: Footprint::new(alloc),
-            looks: Vec::new(alloc),
+            traversed: Footprint::new(alloc),
+            queries: Vec::new(alloc),
         }),
         None => encode_whole(alloc, map, path, search, seen, work),
     }
@@ -107,7 +110,7 @@ fn encode_whole<M: MapRead>(
     alloc: Global,
     map: &M,
     path: &Path,
-    search: &mut Search,
+    search: &mut Dijkstra,
     seen: &mut Option<Footprint>,
     work: &mut Work,
 ) -> Result<Encoding, AllocError>
@@ -115,15 +118,20 @@ fn encode_whole<M: MapRead>(
     requires sound { path_fault (M.map map.now) path.now ≡ None }
     ensures answer { IfOk result (λ e. EncodingRecord (M.map map.now) path.now (answer_of e.answer)) }
     ensures joins { IfOk result (λ e. JoinsOf (M.map map.now) path.now e.answer) }
-    ensures own { IfOk result (λ e. (v : ℕ) → Contains e.own v ↔ OwnOfExtended (M.map map.now) path.now v) }
-    ensures looks { IfOk result (λ e. LooksOfExtended (M.map map.now) path.now e.looks.items) }
-    ensures seen { IfOk result (λ e. Notes (SeenBy (M.map map.now) e.looks.items) seen.old seen.new) }
-    ensures work { IfOk result (λ e. Looked (M.map map.now) e.looks.items work.old work.new) }
+    ensures traversed { IfOk result (λ e. (v : ℕ) → Contains e.traversed v
+        ↔ TraversedOfExtended (M.map map.now) path.now v) }
+    ensures queries { IfOk result (λ e. QueriesOfExtended (M.map map.now) path.now e.queries.items) }
+    ensures seen { IfOk result (λ e. Notes (SeenBy (M.map map.now) e.queries.items) seen.old seen.new) }
+    ensures work { IfOk result (λ e. Queried (M.map map.now) e.queries.items work.old work.new) }
 {
-    let mut own = Footprint::new(alloc);
-    let extended = extend(alloc, map, path, &mut own)?;
-    let (answer, looks) = encode_along(alloc, map, &extended, search, seen, work)?;
-    Ok(Encoding { answer, own, looks })
+    let mut traversed = Footprint::new(alloc);
+    let extended = extend(alloc, map, path, &mut traversed)?;
+    let (answer, queries) = encode_along(alloc, map, &extended, search, seen, work)?;
+    Ok(Encoding {
+        answer,
+        traversed,
+        queries,
+    })
 }
 
 /// The answer of an extended path, by its LRPs, and the coverage queries.
@@ -131,50 +139,51 @@ fn encode_along<M: MapRead>(
     alloc: Global,
     map: &M,
     extended: &Extended,
-    search: &mut Search,
+    search: &mut Dijkstra,
     seen: &mut Option<Footprint>,
     work: &mut Work,
-) -> Result<(Answer, Vec<Look>), AllocError>
+) -> Result<(Answer, Vec<CoverageQuery>), AllocError>
     requires joined { AreJoined (M.map map.now) extended.now.lines }
     requires short { extended.now.pos + extended.now.neg < dm_of (M.map map.now) extended.now.lines }
     ensures answer { IfOk result (λ r. ForPoints (M.map map.now) extended.now.lines
         (λ js. answer_of r.0 ≡ answer_along (M.map map.now) extended.now js)) }
-    ensures looks { IfOk result (λ r. ForPoints (M.map map.now) extended.now.lines
-        (λ js. LooksFrom (M.map map.now) extended.now.lines (looking extended.now.lines (0 ∷ js)) r.1.items)) }
+    ensures queries { IfOk result (λ r. ForPoints (M.map map.now) extended.now.lines
+        (λ js. QueriesFrom (M.map map.now) extended.now.lines (querying extended.now.lines (0 ∷ js)) r.1.items)) }
     ensures seen { IfOk result (λ r. Notes (SeenBy (M.map map.now) r.1.items) seen.old seen.new) }
-    ensures work { IfOk result (λ r. Looked (M.map map.now) r.1.items work.old work.new) }
+    ensures work { IfOk result (λ r. Queried (M.map map.now) r.1.items work.old work.new) }
 {
     let lines = extended.lines.as_slice();
     let distances = distances(alloc, map, lines)?;
-    let course = Course {
+    let resolved = ResolvedPath {
         map,
         lines,
         distances: &distances,
     };
-    let chosen = points(alloc, &course, search, seen, work)?;
-    let answer = answer_by(alloc, &course, chosen.choice, extended.pos, extended.neg)?;
-    Ok((answer, chosen.looks))
+    let chosen = points(alloc, &resolved, search, seen, work)?;
+    let answer = answer_by(alloc, &resolved, chosen.choice, extended.pos, extended.neg)?;
+    Ok((answer, chosen.queries))
 }
 
 /// The answer by the chosen LRPs. The two offsets, in decimetres, are together less than the length of the lines.
 fn answer_by<M: MapRead>(
     alloc: Global,
-    course: &Course<M>,
+    resolved: &ResolvedPath<M>,
     choice: Choice,
     pos: u64,
     neg: u64,
 ) -> Result<Answer, AllocError>
-    requires choice { ForPoints (M.map course.now.map.now) course.now.lines.now
-        (λ js. IsChoice course.now.lines.now js choice) }
-    requires short { pos + neg < dm_of (M.map course.now.map.now) course.now.lines.now }
-    ensures { IfOk result (λ answer. ForPoints (M.map course.now.map.now) course.now.lines.now
+    requires choice { ForPoints (M.map resolved.now.map.now) resolved.now.lines.now
+        (λ js. IsChoice resolved.now.lines.now js choice) }
+    requires short { pos + neg < dm_of (M.map resolved.now.map.now) resolved.now.lines.now }
+    ensures { IfOk result (λ answer. ForPoints (M.map resolved.now.map.now) resolved.now.lines.now
         (λ js. answer_of answer
-        ≡ answer_along (M.map course.now.map.now) (record { lines = course.now.lines.now; pos = pos; neg = neg }) js)) }
+        ≡ answer_along (M.map resolved.now.map.now) (record { lines = resolved.now.lines.now; pos = pos; neg = neg })
+        js)) }
 {
     match choice {
         Choice::NoNext(k) => Ok(Answer::Refused(Refusal::NoNextPoint(k))),
         Choice::Positions(points) => {
-            let reference = reference_of(alloc, course, &points, pos, neg)?;
+            let reference = reference_of(alloc, resolved, &points, pos, neg)?;
             Ok(Answer::Points(reference))
         }
     }

@@ -3,10 +3,10 @@ ghost use Rattle.std.specs.Prelude.{◌≡◌, ◌⊎◌, ◌↔◌, ℕ, IsTrue
 ghost use Rattle.std.specs.List.{All};
 ghost use Rattle.olr_spec.specs.Map.{has_line};
 ghost use Rattle.olr_spec.specs.Encoding.{first_unknown};
-ghost use Rattle.olr_spec.specs.Looks.{NodeOf};
+ghost use Rattle.olr_spec.specs.Queries.{NodeOf};
 ghost use Rattle.olr_refs.specs.Extends.{Extends};
 
-use crate::chains::{chain_after, chain_before};
+use crate::degree_two_runs::{run_after, run_before};
 use crate::lines::ends_of;
 use crate::path::Path;
 use olr_map::{Footprint, LineId, MapRead, NodeId};
@@ -38,8 +38,8 @@ impl Model for Extended {
 
 /// Extends the ends of a path to valid nodes (White Paper, rules on valid nodes; the limits are the profile's). At each
 /// end the longest run of degree-two nodes of at most 15,000 m is tried, and added if it leads to a valid node; at the
-/// end, the lines that were added at the start count as part of the path. Adds the nodes of the extended path and of both
-/// tried runs to the footprint, and no others. If an allocation fails, the footprint is unchanged.
+/// end, the lines that were added at the start count as part of the path. Adds the nodes of the extended path and of
+/// both tried runs to the footprint, and no others. If an allocation fails, the footprint is unchanged.
 pub fn extend<M: MapRead>(
     alloc: Global,
     map: &M,
@@ -51,11 +51,11 @@ pub fn extend<M: MapRead>(
         (λ extended. Extends (M.map map.now) path.now extended footprint.old footprint.new) }
     ensures err { OnErr result (footprint.new ≡ footprint.old) }
 {
-    let before = chain_before(alloc, map, path.lines())?;
+    let before = run_before(alloc, map, path.lines())?;
     let (front, front_len) = before.taken_part();
     let mut lines = Vec::from_slice(alloc, front)?;
     lines.extend_from_slice(path.lines())?;
-    let after = chain_after(alloc, map, &lines)?;
+    let after = run_after(alloc, map, &lines)?;
     let (back, back_len) = after.taken_part();
     lines.extend_from_slice(back)?;
     note_ends(alloc, map, &lines, &before.lines, &after.lines, footprint)?;

@@ -1,7 +1,7 @@
 //! Reasons 1 to 3 why a path is not encodable, which its own lines and offsets decide.
 ghost use Rattle.std.specs.Prelude.{◌≡◌, ◌≤◌, IsTrue, None, length};
 ghost use Rattle.std.specs.Option.{option_map};
-ghost use Rattle.olr_spec.specs.Walks.{dm_of};
+ghost use Rattle.olr_spec.specs.Routes.{dm_of};
 ghost use Rattle.olr_spec.specs.Extension.{is_path};
 ghost use Rattle.olr_spec.specs.Encoding.{first_unknown, first_break, path_fault};
 ghost use Rattle.olr_refs.specs.Answers.{refusal_of};

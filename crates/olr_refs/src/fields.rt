@@ -3,15 +3,15 @@
 ghost use Rattle.std.specs.Prelude.{◌≡◌, ℕ, ◌+◌, ◌<◌, ◌≤◌, IsTrue, IfOk, length, slice_index};
 ghost use Rattle.olr_spec.specs.Coordinates.{fits16, relative};
 ghost use Rattle.olr_coords.specs.Bounds.{is_degrees};
-ghost use Rattle.olr_spec.specs.Map.{has_line, has_node, is_good, line_at, place_at};
+ghost use Rattle.olr_spec.specs.Map.{has_line, has_node, is_good, line_at, coord_at};
 ghost use Rattle.olr_spec.specs.Points.{fit16, Candidate};
 ghost use Rattle.olr_spec.specs.Extension.{limit, AreJoined};
 ghost use Rattle.olr_spec.specs.Reference.{attrs, first_point, last_point, legs, middle_point, offset, position};
 ghost use Rattle.olr_refs.specs.Along.{AreDistances};
 ghost use Rattle.olr_refs.specs.Fields.{lowest_class, middle_points_of};
-ghost use Rattle.olr_refs.specs.Kept.{AreLinked};
+ghost use Rattle.olr_refs.specs.KeptPoints.{AreLinked};
 
-use crate::along::{Course, line_of, place_of};
+use crate::along::{ResolvedPath, coord_of, line_of};
 use olr_bearing::{Ends, bearing_back, bearing_out};
 use olr_binary::{Attrs, First, Last, Middle};
 use olr_coords::{Coord, abs24, rel16};
@@ -27,12 +27,12 @@ const OFFSET_PARTS: u128 = 256;
 fn ends_of<M: MapRead>(map: &M, line: &Line) -> Ends
     requires from { IsTrue (has_node (M.map map.now) line.now.from) }
     requires to { IsTrue (has_node (M.map map.now) line.now.to) }
-    ensures from { result.from ≡ place_at (M.map map.now) line.now.from }
-    ensures to { result.to ≡ place_at (M.map map.now) line.now.to }
+    ensures from { result.from ≡ coord_at (M.map map.now) line.now.from }
+    ensures to { result.to ≡ coord_at (M.map map.now) line.now.to }
 {
     Ends {
-        from: place_of(map, line.from),
-        to: place_of(map, line.to),
+        from: coord_of(map, line.from),
+        to: coord_of(map, line.to),
     }
 }
 
@@ -74,77 +74,77 @@ fn lowest_class<M: MapRead>(map: &M, lines: &[LineId]) -> u8
 }
 
 /// The attributes of the LRP at position `i`, where the next one is at position `j`.
-fn attrs<M: MapRead>(course: &Course<M>, i: usize, j: usize) -> Attrs
-    requires candidate { Candidate (M.map course.now.map.now) course.now.lines.now i j }
-    ensures { result ≡ attrs (legs (M.map course.now.map.now) course.now.lines.now) i j }
+fn attrs<M: MapRead>(resolved: &ResolvedPath<M>, i: usize, j: usize) -> Attrs
+    requires candidate { Candidate (M.map resolved.now.map.now) resolved.now.lines.now i j }
+    ensures { result ≡ attrs (legs (M.map resolved.now.map.now) resolved.now.lines.now) i j }
 {
-    let line = course.line(i);
+    let line = resolved.line(i);
     Attrs {
         frc: line.frc,
         fow: line.fow,
-        lfrc: lowest_class(course.map, &course.lines[i..j]),
-        bearing: bearing_out(line, ends_of(course.map, line)),
-        dnp: (course.between(i, j) / DISTANCE_STEP) as u8,
+        lfrc: lowest_class(resolved.map, &resolved.lines[i..j]),
+        bearing: bearing_out(line, ends_of(resolved.map, line)),
+        dnp: (resolved.between(i, j) / DISTANCE_STEP) as u8,
     }
 }
 
 /// The first LRP, at position `i`, where the next one is at position `j`.
-pub fn first_point<M: MapRead>(course: &Course<M>, i: usize, j: usize) -> First
-    requires candidate { Candidate (M.map course.now.map.now) course.now.lines.now i j }
-    ensures { result ≡ first_point (legs (M.map course.now.map.now) course.now.lines.now) i j }
+pub fn first_point<M: MapRead>(resolved: &ResolvedPath<M>, i: usize, j: usize) -> First
+    requires candidate { Candidate (M.map resolved.now.map.now) resolved.now.lines.now i j }
+    ensures { result ≡ first_point (legs (M.map resolved.now.map.now) resolved.now.lines.now) i j }
 {
-    let place = course.place(i);
+    let place = resolved.place(i);
     First {
         lon: abs24(place.lon()),
         lat: abs24(place.lat()),
-        attrs: attrs(course, i, j),
+        attrs: attrs(resolved, i, j),
     }
 }
 
 /// The LRP at position `i`, between those at positions `h` and `j`.
-fn middle_point<M: MapRead>(course: &Course<M>, h: usize, i: usize, j: usize) -> Middle
-    requires candidate { Candidate (M.map course.now.map.now) course.now.lines.now h i }
-    requires next { Candidate (M.map course.now.map.now) course.now.lines.now i j }
-    ensures { result ≡ middle_point (legs (M.map course.now.map.now) course.now.lines.now) h i j }
+fn middle_point<M: MapRead>(resolved: &ResolvedPath<M>, h: usize, i: usize, j: usize) -> Middle
+    requires candidate { Candidate (M.map resolved.now.map.now) resolved.now.lines.now h i }
+    requires next { Candidate (M.map resolved.now.map.now) resolved.now.lines.now i j }
+    ensures { result ≡ middle_point (legs (M.map resolved.now.map.now) resolved.now.lines.now) h i j }
 {
-    let (dlon, dlat) = differences(course.place(h), course.place(i));
+    let (dlon, dlat) = differences(resolved.place(h), resolved.place(i));
     Middle {
         dlon,
         dlat,
-        attrs: attrs(course, i, j),
+        attrs: attrs(resolved, i, j),
     }
 }
 
 /// The last LRP, at position `i`, after the one at position `h`.
-pub fn last_point<M: MapRead>(course: &Course<M>, h: usize, i: usize) -> Last
-    requires candidate { Candidate (M.map course.now.map.now) course.now.lines.now h i }
-    ensures { result ≡ last_point (legs (M.map course.now.map.now) course.now.lines.now) h i }
+pub fn last_point<M: MapRead>(resolved: &ResolvedPath<M>, h: usize, i: usize) -> Last
+    requires candidate { Candidate (M.map resolved.now.map.now) resolved.now.lines.now h i }
+    ensures { result ≡ last_point (legs (M.map resolved.now.map.now) resolved.now.lines.now) h i }
 {
-    let (dlon, dlat) = differences(course.place(h), course.place(i));
-    let line = course.line(i - 1);
+    let (dlon, dlat) = differences(resolved.place(h), resolved.place(i));
+    let line = resolved.line(i - 1);
     Last {
         dlon,
         dlat,
         frc: line.frc,
         fow: line.fow,
-        bearing: bearing_back(line, ends_of(course.map, line)),
+        bearing: bearing_back(line, ends_of(resolved.map, line)),
     }
 }
 
 /// The LRPs between the first and the last of `points`.
 pub fn middle_points<M: MapRead>(
     alloc: Global,
-    course: &Course<M>,
+    resolved: &ResolvedPath<M>,
     points: &[usize],
 ) -> Result<Vec<Middle>, AllocError>
-    requires linked { AreLinked (M.map course.now.map.now) course.now.lines.now points.now }
+    requires linked { AreLinked (M.map resolved.now.map.now) resolved.now.lines.now points.now }
     requires two { 2 ≤ length points.now }
     ensures { IfOk result (λ middle. middle.items ≡ middle_points_of
-        (legs (M.map course.now.map.now) course.now.lines.now) points.now) }
+        (legs (M.map resolved.now.map.now) resolved.now.lines.now) points.now) }
 {
     let mut middle = Vec::with_capacity(alloc, points.len() - 2)?;
     for k in 1..points.len() - 1 {
-        let point = middle_point(course, points[k - 1], points[k], points[k + 1]);
+        let point = middle_point(resolved, points[k - 1], points[k], points[k + 1]);
         middle.push(point)?;
     }
     Ok(middle)

@@ -4,7 +4,7 @@ ghost use Rattle.std.specs.Prelude.{List, Contains, length};
 ghost use Rattle.olr_spec.specs.Map.{Map, IsMap, Agree};
 ghost use Rattle.olr_spec.specs.Encoding.{Encodes};
 ghost use Rattle.olr_spec.specs.Footprint.{Foot};
-ghost use Rattle.olr_spec.specs.Looks.{Look as LookRecord, LooksOf};
+ghost use Rattle.olr_spec.specs.Queries.{CoverageQuery as QueryRecord, QueriesOf};
 ghost use Rattle.olr_refs.specs.Answers.{answer_of};
 ghost use Rattle.olr_refs.specs.Choice.{SettledBy, raised_count};
 ghost use Rattle.olr_refs.specs.Recovered.{RecoveredOf};
@@ -14,29 +14,29 @@ use crate::answer::Answer;
 use crate::encoding::encode_noting;
 use crate::path::Path;
 use olr_map::{Footprint, MapRead};
-use olr_route::{Search, Work};
+use olr_route::{Dijkstra, Work};
 use std::alloc::{AllocError, Global};
 
-/// A path's own nodes, and those that were seen.
-fn with_seen(own: Footprint, seen: Option<Footprint>) -> Result<Footprint, AllocError>
+/// A path's traversed nodes, and those that were seen.
+fn with_seen(traversed: Footprint, seen: Option<Footprint>) -> Result<Footprint, AllocError>
     ensures { IfOk result
-        (λ f. (v : ℕ) → Contains f v ↔ (Contains own v ⊎ MatchOption seen ⊥ (λ s. Contains s v))) }
+        (λ f. (v : ℕ) → Contains f v ↔ (Contains traversed v ⊎ MatchOption seen ⊥ (λ s. Contains s v))) }
 {
     match seen {
-        None => Ok(own),
+        None => Ok(traversed),
         Some(seen) => {
-            let mut footprint = own;
+            let mut footprint = traversed;
             footprint.note_all(seen.as_slice())?;
             Ok(footprint)
         }
     }
 }
 
-/// The answer of a path on a map, and its footprint: the nodes on which the answer depends. On any sound map that is the
-/// same around these nodes, and has the same lines of the path, the answer is the same. On this map every decoder for
-/// which each LRP's own line is distinct recovers the lines between the location reference points (LRPs).
+/// The answer of a path on a map, and its footprint: the nodes on which the answer depends. On any sound map that is
+/// the same around these nodes, and has the same lines of the path, the answer is the same. On this map every decoder
+/// for which each LRP's own line is distinct recovers the lines between the location reference points (LRPs).
 ///
-/// One encoding is counted, and one search for each look: the searches of the encoding find the footprint. After want
+/// One encoding is counted, and one search for each query: the searches of the encoding find the footprint. After want
 /// of memory the work may hold more than before.
 pub fn refer<M: MapRead>(
     alloc: Global,
@@ -57,12 +57,13 @@ pub fn refer<M: MapRead>(
     ensures settled_rises { OnOk result (work.old.settled < 2 ^ 64 → work.old.settled ≤ work.new.settled) }
     ensures settled { IfOk result (λ r. (n : ℕ) × SearchesOf (M.map map.now) path.now n
         × (work.new.settled ≤ work.old.settled + n * length r.1)) }
-    ensures settled_exactly { IfOk result (λ _. (looks : List LookRecord) × LooksOf (M.map map.now) path.now looks
-        × SettledBy (M.map map.now) looks work.old.settled work.new.settled) }
+    ensures settled_exactly { IfOk result (λ _. (queries : List QueryRecord)
+        × QueriesOf (M.map map.now) path.now queries
+        × SettledBy (M.map map.now) queries work.old.settled work.new.settled) }
 {
-    let mut search = Search::new(alloc);
+    let mut search = Dijkstra::new(alloc);
     let mut seen = Some(Footprint::new(alloc));
     let encoding = encode_noting(alloc, map, path, &mut search, &mut seen, work)?;
-    let footprint = with_seen(encoding.own, seen)?;
+    let footprint = with_seen(encoding.traversed, seen)?;
     Ok((encoding.answer, footprint))
 }

@@ -1,11 +1,13 @@
-//! The encoding of a path: extension of its ends to valid nodes, location reference points (LRPs), trim by the offsets, fields.
+//! The encoding of a path: extension of its ends to valid nodes, location reference points (LRPs), trim by the offsets,
+//! fields.
 #![tactic(auto)]
 
 mod along;
 pub mod answer;
-mod chains;
 mod choice;
 mod chosen;
+mod coverage_query;
+mod degree_two_runs;
 mod encoding;
 mod extension;
 mod faults;
@@ -13,20 +15,19 @@ mod fields;
 mod footprints;
 mod line_set;
 mod lines;
-mod look;
 mod nodes;
 mod path;
 mod reach;
 mod reference;
 mod trim;
 
-pub use along::{Course, distances};
+pub use along::{ResolvedPath, distances};
 pub use answer::{Answer, Refusal};
 pub use chosen::{Choice, Chosen, points};
+pub use coverage_query::CoverageQuery;
 pub use encoding::{Encoding, encode};
 pub use extension::{Extended, extend};
 pub use footprints::refer;
 pub use lines::unknown_line;
-pub use look::Look;
 pub use nodes::passing;
 pub use path::{Path, PathFault};

@@ -5,9 +5,9 @@ ghost use Rattle.olr_spec.specs.Extension.{passing, apart};
 use crate::lines::{end_of, start_of};
 use olr_map::{MapRead, NodeId};
 
-/// Whether a node is a degree-two node: its lines have exactly two other ends, which differ from each other and from the
-/// node, and lead either from one of them to the other, or once from each and once to each. Every other node is valid
-/// (White Paper, rules on valid nodes; the exact test is the profile's). False for an absent node.
+/// Whether a node is a degree-two node: its lines have exactly two other ends, which differ from each other and from
+/// the node, and lead either from one of them to the other, or once from each and once to each. Every other node is
+/// valid (White Paper, rules on valid nodes; the exact test is the profile's). False for an absent node.
 pub fn passing<M: MapRead>(map: &M, node: NodeId) -> bool
     ensures { result ≡ passing (M.map map.now) node }
 {

@@ -55,9 +55,9 @@ impl Model for Path {
 }
 
 impl Path {
-    /// The path along these lines with these offsets, in decimetres. Returns `BadPath` only if the list is empty, has more
-    /// than 10,000 lines or names a line twice, and `Memory` if an allocation fails first. The number of lines is tested
-    /// without allocation.
+    /// The path along these lines with these offsets, in decimetres. Returns `BadPath` only if the list is empty, has
+    /// more than 10,000 lines or names a line twice, and `Memory` if an allocation fails first. The number of lines is
+    /// tested without allocation.
     pub fn new(alloc: Global, lines: Vec<LineId>, pos: u32, neg: u32) -> Result<Path, PathFault>
         ensures ok { IfOk result
             (λ p. p ≡ record {

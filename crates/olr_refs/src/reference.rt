@@ -1,12 +1,12 @@
 //! The reference of an extended path.
 ghost use Rattle.std.specs.Prelude.{◌≡◌, ◌+◌, ◌-◌, ◌<◌, ◌≤◌, IfOk, length};
-ghost use Rattle.olr_spec.specs.Walks.{dm_of};
+ghost use Rattle.olr_spec.specs.Routes.{dm_of};
 ghost use Rattle.olr_spec.specs.Reference.{legs, reference, reference_by};
 ghost use Rattle.olr_refs.specs.Along.{AreDistances};
 ghost use Rattle.olr_spec.specs.Extension.{AreJoined};
-ghost use Rattle.olr_refs.specs.Kept.{later, AreLinked, ArePoints, distance_at};
+ghost use Rattle.olr_refs.specs.KeptPoints.{later, AreLinked, ArePoints, distance_at};
 
-use crate::along::Course;
+use crate::along::ResolvedPath;
 use crate::fields::{first_point, last_point, middle_points, offset};
 use crate::trim::trim;
 use olr_binary::Reference;
@@ -17,28 +17,28 @@ use std::alloc::{AllocError, Global};
 /// first leg and less than the last.
 fn reference_by<M: MapRead>(
     alloc: Global,
-    course: &Course<M>,
+    resolved: &ResolvedPath<M>,
     kept: &[usize],
     pos_left: u128,
     neg_left: u128,
 ) -> Result<Reference, AllocError>
-    requires linked { AreLinked (M.map course.now.map.now) course.now.lines.now kept.now }
+    requires linked { AreLinked (M.map resolved.now.map.now) resolved.now.lines.now kept.now }
     requires two { 2 ≤ length kept.now }
-    requires pos { distance_at course.now.distances.now kept.now 0
-        + pos_left < distance_at course.now.distances.now kept.now 1 }
-    requires neg { distance_at course.now.distances.now kept.now (length kept.now - 2)
-        + neg_left < distance_at course.now.distances.now kept.now (length kept.now - 1) }
-    ensures { IfOk result (λ r. r ≡ reference_by (legs (M.map course.now.map.now) course.now.lines.now) pos_left
+    requires pos { distance_at resolved.now.distances.now kept.now 0
+        + pos_left < distance_at resolved.now.distances.now kept.now 1 }
+    requires neg { distance_at resolved.now.distances.now kept.now (length kept.now - 2)
+        + neg_left < distance_at resolved.now.distances.now kept.now (length kept.now - 1) }
+    ensures { IfOk result (λ r. r ≡ reference_by (legs (M.map resolved.now.map.now) resolved.now.lines.now) pos_left
         neg_left kept.now) }
 {
     let last = kept.len() - 1;
-    let middle = middle_points(alloc, course, kept)?;
+    let middle = middle_points(alloc, resolved, kept)?;
     Ok(Reference {
-        first: first_point(course, kept[0], kept[1]),
+        first: first_point(resolved, kept[0], kept[1]),
         middle,
-        last: last_point(course, kept[last - 1], kept[last]),
-        pos: offset(pos_left, course.between(kept[0], kept[1])),
-        neg: offset(neg_left, course.between(kept[last - 1], kept[last])),
+        last: last_point(resolved, kept[last - 1], kept[last]),
+        pos: offset(pos_left, resolved.between(kept[0], kept[1])),
+        neg: offset(neg_left, resolved.between(kept[last - 1], kept[last])),
     })
 }
 
@@ -46,16 +46,16 @@ fn reference_by<M: MapRead>(
 /// (LRPs), and the two offsets in decimetres, which together are shorter than the path.
 pub fn reference_of<M: MapRead>(
     alloc: Global,
-    course: &Course<M>,
+    resolved: &ResolvedPath<M>,
     points: &[usize],
     pos: u64,
     neg: u64,
 ) -> Result<Reference, AllocError>
-    requires points { ArePoints (M.map course.now.map.now) course.now.lines.now points.now }
-    requires long { pos + neg < dm_of (M.map course.now.map.now) course.now.lines.now }
-    ensures { IfOk result (λ r. r ≡ reference (legs (M.map course.now.map.now) course.now.lines.now) pos neg
+    requires points { ArePoints (M.map resolved.now.map.now) resolved.now.lines.now points.now }
+    requires long { pos + neg < dm_of (M.map resolved.now.map.now) resolved.now.lines.now }
+    ensures { IfOk result (λ r. r ≡ reference (legs (M.map resolved.now.map.now) resolved.now.lines.now) pos neg
         (later points.now)) }
 {
-    let trimmed = trim(course.distances, points, pos, neg);
-    reference_by(alloc, course, trimmed.points, trimmed.pos, trimmed.neg)
+    let trimmed = trim(resolved.distances, points, pos, neg);
+    reference_by(alloc, resolved, trimmed.points, trimmed.pos, trimmed.neg)
 }

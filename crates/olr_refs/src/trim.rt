@@ -1,7 +1,7 @@
 //! Which location reference points (LRPs) remain when the offsets cut off whole legs at the two ends of a path (White
 //! Paper, encoding steps, trimming; in this form: profile).
 ghost use Rattle.std.specs.Prelude.{◌+◌, ◌<◌};
-ghost use Rattle.olr_refs.specs.Kept.{AreAlong, AreTrimmed, IsFirstKept, IsLastKept, whole_distance};
+ghost use Rattle.olr_refs.specs.KeptPoints.{AreAlong, AreTrimmed, IsFirstKept, IsLastKept, whole_distance};
 
 /// The index of the first remaining LRP: the last that is at most `pos` decimetres from the start.
 fn first_kept(distances: &[u128], points: &[usize], pos: u64) -> usize

@@ -109,12 +109,13 @@ all_encoded M (i ∷ is) made = (
 pub shown_entry : (M : Map) (is : List Item) (c : Content) (name : List ℕ) (A : Answer) (es : List Entry) →
     record { map = M; paths = all_named is } ≡ c → IsContent (record { map = M; paths = all_named is })
     → AreEncodings M is → answer_in is name ≡ Some A → es ≡ entry name A ∷ [] → Shown c name es
-shown_entry M is c name A es e sound made there told =
-    subst (λ (d : Content). Shown d name es) e (A, (answer_held M is sound made name A).1 there, told)
+shown_entry M is c name A es e sound made there returned =
+    subst (λ (d : Content). Shown d name es) e (A, (answer_held M is sound made name A).1 there, returned)
 
-pub all_told : (M : Map) (is : List Item) (c : Content) (es : List Entry) →
+pub entries_by_item : (M : Map) (is : List Item) (c : Content) (es : List Entry) →
     record { map = M; paths = all_named is } ≡ c → AreEncodings M is → Reported [] is es → AllOf c.map c.paths es
-all_told M is c es e made told = subst (λ (d : Content). AllOf d.map d.paths es) e (reported_all M is es made told)
+entries_by_item M is c es e made returned = subst (λ (d : Content). AllOf d.map d.paths es) e
+    (reported_all M is es made returned)
 
 with_encodings : (M : Map) (is : List Item) → AreEncodings M is →
     HaveEncodings M (all_named is) (map {B = List ℕ × Option Made} (λ (i : Item). (i.name, i.made)) is)

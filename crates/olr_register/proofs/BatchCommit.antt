@@ -8,17 +8,17 @@ use Rattle.olr_map.specs.declared.road_map.RoadMap.{RoadMap}
 use Rattle.olr_commands.specs.State.{Named, Content, Memory, Count_differs, when, Change, State, Commit, after, step}
 use Rattle.olr_commands.specs.State.{changes_made, IsContent}
 use Rattle.olr_commands.specs.Reply as replies
-use Rattle.olr_commands.specs.Reply.{IsRefusal, Told, Lacks, IsOutcome, may_want}
-use Rattle.olr_commands.specs.Counts.{Concerns, CountIs, Raises}
+use Rattle.olr_commands.specs.Reply.{IsRefusal, ByState, Lacks, IsOutcome, may_want}
+use Rattle.olr_commands.specs.Counts.{Affects, CountIs, Raises}
 use Rattle.olr_commands.specs.Words.{entry_of, reply_of}
 use Rattle.olr_commands.specs.declared.reply.Entry.{Entry}
 use Rattle.olr_commands.specs.declared.reply.Reply.{Reply}
 use Rattle.olr_commands.specs.declared.fault.CommandFault.TheVariants as rust
 use Rattle.olr_paths.specs.Items.{Item, AreEncodings, all_named}
 use Rattle.olr_paths.specs.Laying.{under_overlay}
-use Rattle.olr_paths.specs.Changes.{IsBefore, IsConcerned, AreRemade, Reported}
+use Rattle.olr_paths.specs.Changes.{IsBefore, IsAffected, AreRemade, Reported}
 use Rattle.olr_paths.specs.Touching.{nodes_of, lines_of, changed_of}
-use Rattle.olr_register.specs.Kept.{IsBatchOf, Stands}
+use Rattle.olr_register.specs.RegisterState.{IsBatchOf, Represents}
 use Rattle.olr_register.specs.Registered.{Registered}
 use Rattle.olr_register.specs.Holding.{batch_of, IsHeld, IsRegister}
 use Rattle.olr_register.specs.Answering.{Answered}
@@ -26,7 +26,7 @@ use Rattle.olr_register.specs.declared.batch.Batch.{Batch}
 use Rattle.olr_register.proofs.Tallies.{Tally, of_parts}
 use Rattle.olr_register.proofs.Noted.{is_before}
 use Rattle.olr_register.proofs.Renewed.{remade_made}
-use Rattle.olr_register.proofs.Replies.{changes_told}
+use Rattle.olr_register.proofs.Replies.{planned_changes}
 use Rattle.olr_register.proofs.Counting.{counted_changes}
 use Rattle.olr_register.proofs.HoldLists.{named_twice}
 use Rattle.olr_register.proofs.HoldChanges.{content_from, content_on}
@@ -44,7 +44,7 @@ count_refused roads is o b w n e other =
     answered_at roads is o (Some b) w (Commit n) (Err rust.CountDiffers) s e
     (answered_refused s s (Commit n) rust.CountDiffers refl
     (in_batch (content_on (map_before roads b.log) is) (batch_of roads is b) (λ a. IsRefusal a (Commit n) Count_differs)
-    (λ xs i. Told (ap (λ t. when (not t) Count_differs
+    (λ xs i. ByState (ap (λ t. when (not t) Count_differs
     (Ok (state (after (content_on (map_before roads b.log) is) xs) None)))
     (ne_eqb (length xs) n (λ h. other (i.count ∙ h)))))))
 
@@ -125,26 +125,26 @@ commit_held roads new is js o p b e g reg same remade names =
 -- how many encodings a commit counts
 commit_raises : (roads new : RoadMap) (is js : List Item) (b : Batch) (n many : ℕ) →
     all_named js ≡ all_named (under_overlay is b.overlay)
-    → CountIs (IsConcerned (map_before roads b.log) (nodes_of b.touched) (lines_of b.touched))
+    → CountIs (IsAffected (map_before roads b.log) (nodes_of b.touched) (lines_of b.touched))
     (under_overlay is b.overlay) many
-    → (s t : State) → Stands
+    → (s t : State) → Represents
     (record { content = content_on (map_before roads b.log) is; batch = Some (batch_of roads is b) }) s →
-    Stands (record { content = content_on (map_of new) js; batch = None }) t
+    Represents (record { content = content_on (map_of new) js; batch = None }) t
     → Raises s (Commit n) t many
 commit_raises roads new is js b n many names count s t h g =
     let c : Content = content_on (map_before roads b.log) is in
     in_batch c (batch_of roads is b)
-    (λ a. CountIs (Concerns a.content (changes_made a (Commit n))) t.content.paths many)
+    (λ a. CountIs (Affects a.content (changes_made a (Commit n))) t.content.paths many)
     (λ xs i.
-    subst (λ (ps : List Named). CountIs (Concerns c xs) ps many) (sym names ∙ ap (λ (d : Content). d.paths) g.0)
+    subst (λ (ps : List Named). CountIs (Affects c xs) ps many) (sym names ∙ ap (λ (d : Content). d.paths) g.0)
     (counted_changes c xs (nodes_of b.touched) (lines_of b.touched) i.nodes i.lines (under_overlay is b.overlay) many
     i.given count)) s h
 
 module _ (roads new : RoadMap) (is js : List Item) (b : Batch) (w v : Tally) (n many : ℕ) (r : Reply) (es : List Entry)
-    (told : reply_of r ≡ replies.Paths (map entry_of es)) (right : b.count ≡ n)
+    (returned : reply_of r ≡ replies.Paths (map entry_of es)) (right : b.count ≡ n)
     (same : map_of new ≡ map_of roads) (remade : AreRemade (map_of roads) (under_overlay is b.overlay) js)
     (names : all_named js ≡ all_named (under_overlay is b.overlay)) (reported : Reported is js (map entry_of es))
-    (count : CountIs (IsConcerned (map_before roads b.log) (nodes_of b.touched) (lines_of b.touched))
+    (count : CountIs (IsAffected (map_before roads b.log) (nodes_of b.touched) (lines_of b.touched))
     (under_overlay is b.overlay) many)
     (encodings : w.work.encodings + many < 2 ^ 64 → v.work.encodings ≡ w.work.encodings + many)
     (spared : v.spared ≤ w.spared + many)
@@ -157,7 +157,7 @@ module _ (roads new : RoadMap) (is js : List Item) (b : Batch) (w v : Tally) (n 
       let to : Content = content_on (map_of new) js in
       record {
         outcome =
-            in_batch c (batch_of roads is b) (λ s. (t : State) × Stands (record { content = to; batch = None }) t
+            in_batch c (batch_of roads is b) (λ s. (t : State) × Represents (record { content = to; batch = None }) t
             × IsOutcome s (Commit n) (Ok (reply_of r)) t)
             (λ xs i. (
               state to None,
@@ -166,8 +166,8 @@ module _ (roads new : RoadMap) (is js : List Item) (b : Batch) (w v : Tally) (n 
                 right_count c xs n (sym i.count ∙ right)
                     ∙ ap (λ (d : Content). Ok (state d None)) (content_after c roads new b is js xs i same names),
                 subst (λ (q : replies.Reply). replies.IsReply (state c (Some xs)) (Commit n) (state to None) q)
-                    (sym told)
-                    (changes_told (map_before roads b.log) (map_of new) is js (map entry_of es) reg.content reg.made
+                    (sym returned)
+                    (planned_changes (map_before roads b.log) (map_of new) is js (map entry_of es) reg.content reg.made
                     (made_after roads new is js b same remade) reported),
               ),
             ));

@@ -9,22 +9,22 @@ use Rattle.olr_map.specs.RoadMaps.{map_of, map_before}
 use Rattle.olr_map.specs.declared.road_map.RoadMap.{RoadMap}
 use Rattle.olr_commands.specs.State.{Named, Batch_open, Change, Command, Make, Begin, Abort, step, IsContent}
 use Rattle.olr_commands.specs.Reply as replies
-use Rattle.olr_commands.specs.Reply.{IsRefusal, Told}
+use Rattle.olr_commands.specs.Reply.{IsRefusal, ByState}
 use Rattle.olr_commands.specs.Words.{command_fault_of, reply_of}
 use Rattle.olr_commands.specs.declared.reply.Reply.{Reply}
 use Rattle.olr_commands.specs.declared.fault.CommandFault.{CommandFault}
 use Rattle.olr_commands.specs.declared.fault.CommandFault.TheVariants as rust
 use Rattle.olr_paths.specs.Items.{Made, Item, AreEncodings, AreEncodingsIfAny}
-use Rattle.olr_paths.specs.Beginning.{Begins}
+use Rattle.olr_paths.specs.Origins.{Begins}
 use Rattle.olr_paths.specs.Laying.{under_overlay}
 use Rattle.olr_paths.specs.Changes.{Follows}
 use Rattle.olr_paths.specs.Touching.{nodes_of, lines_of, changed_of}
-use Rattle.olr_register.specs.Kept.{named_held, IsBatchOf}
+use Rattle.olr_register.specs.RegisterState.{named_held, IsBatchOf}
 use Rattle.olr_register.specs.Registered.{Registered}
-use Rattle.olr_near.specs.declared.nearness.Nearness.{Nearness}
-use Rattle.olr_register.specs.Holding.{AreEditsNoted, held_of, batch_of, IsHeld, IsRegister, IsNumbered, IsKeptRight}
+use Rattle.olr_near.specs.declared.distance_bounds.DistanceBounds.{DistanceBounds}
+use Rattle.olr_register.specs.Holding.{AreEditsNoted, held_of, batch_of, IsHeld, IsRegister, HasBounds, IsKeptRight}
 use Rattle.olr_register.specs.Answering.{Answered}
-use Rattle.olr_register.specs.Given.{AreGiven, Given}
+use Rattle.olr_register.specs.HoldsChange.{AreGiven, HoldsChange}
 use Rattle.olr_register.specs.declared.batch.Batch.{Batch}
 use Rattle.olr_register.proofs.Tallies.{Tally, of_parts}
 use Rattle.olr_register.proofs.Noted.{noted_none}
@@ -48,12 +48,12 @@ answered_at old is o p w x result new e h =
 pub none_refused : (old : RoadMap) (is : List Item) (o p : Option Batch) (w : Tally) (x : Command) (f : CommandFault)
     → o ≡ None → p ≡ None → step (state (content_on (map_of old) is) None) x ≡ Err (command_fault_of f) →
     Answered (of_parts old is o w) x (Err f) (of_parts old is p w)
-none_refused old is o p w x f e g told =
+none_refused old is o p w x f e g returned =
     let c = content_on (map_of old) is in
     answered_at old is o None w x (Err f) (of_parts old is p w) e
     (answered_refused (of_parts old is None w) (of_parts old is p w) x f
     (ap (λ (q : Option Batch). of_parts old is q w) g)
-    (no_batch c (λ s. IsRefusal s x (command_fault_of f)) (Told told)))
+    (no_batch c (λ s. IsRefusal s x (command_fault_of f)) (ByState returned)))
 
 -- ---- abort
 
@@ -68,7 +68,8 @@ abort_done old new is o p b w r e g empty same =
     (ap (λ (M : Map). content_on M is) same)))
 
 -- the distance bounds are still right
-pub abort_held : (old new : RoadMap) (is : List Item) (o p : Option Batch) (b : Batch) (near : Nearness) → o ≡ Some b
+pub abort_held : (old new : RoadMap) (is : List Item) (o p : Option Batch) (b : Batch) (near : DistanceBounds) →
+    o ≡ Some b
     → p ≡ None → map_of new ≡ map_before old b.log → IsKeptRight old is o near → IsKeptRight new is p near
 abort_held old new is o p b near e g same h =
     let was : IsKeptRight old is (Some b) near = subst (λ (q : Option Batch). IsKeptRight old is q near) e h in
@@ -78,14 +79,14 @@ abort_held old new is o p b near e g same h =
         made = subst (λ (M : Map). AreEncodings M is) (sym same) was.register.made;
         held = tt;
       };
-      numbered = subst (λ (M : Map). IsNumbered M is near) (sym same) was.numbered;
+      bounded = subst (λ (M : Map). HasBounds M is near) (sym same) was.bounded;
     })
 
 -- ---- a change in an open batch
 
 pub given_answered : (old new : RoadMap) (is : List Item) (o p : Option Batch) (b d : Batch) (w : Tally) (x : Change)
     (r : Result Reply CommandFault) → o ≡ Some b → p ≡ Some d
-    → map_before new d.log ≡ map_before old b.log → Given (batch_of old is b) x r (batch_of new is d) →
+    → map_before new d.log ≡ map_before old b.log → HoldsChange (batch_of old is b) x r (batch_of new is d) →
     Answered (of_parts old is o w) (Make x) r (of_parts new is p w)
 given_answered old new is o p b d w x r e g same given =
     answered_at old is o (Some b) w (Make x) r (of_parts new is p w) e
@@ -119,7 +120,7 @@ open_refused old is (Some b) w e =
     let s = of_parts old is (Some b) w in
     answered_refused s s Begin rust.BatchOpen refl
     (in_batch (content_on (map_before old b.log) is) (batch_of old is b) (λ s. IsRefusal s Begin Batch_open)
-    (λ xs i. Told refl))
+    (λ xs i. ByState refl))
 
 -- a batch without changes
 pub record IsEmpty (b : Batch) : Type 0 where

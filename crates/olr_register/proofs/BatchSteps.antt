@@ -9,16 +9,16 @@ use Rattle.olr_commands.specs.State.{Content, Fault, Batch_full, full, when, Cha
 use Rattle.olr_commands.specs.State.{Drop_path, with_change, next, after, State, Make, into_batch, step, changes_made}
 use Rattle.olr_commands.specs.Reply as replies
 use Rattle.olr_commands.specs.Reply.{IsRefusal, IsOutcome, IsChangeReply, takes_memory, may_want, may_lack}
-use Rattle.olr_commands.specs.Reply.{is_told_first}
+use Rattle.olr_commands.specs.Reply.{is_reported_first}
 use Rattle.olr_commands.specs.Counts.{nodes_of_change, lines_of_change, names_of_change, all_nodes, all_lines}
 use Rattle.olr_commands.specs.Counts.{all_names}
 use Rattle.olr_commands.specs.Words.{command_fault_of, reply_of}
 use Rattle.olr_commands.specs.declared.reply.Reply.{Reply}
 use Rattle.olr_commands.specs.declared.fault.CommandFault.{CommandFault}
 use Rattle.olr_commands.proofs.StateLemmas.{when_ok, next_ok, after_push}
-use Rattle.olr_register.specs.Kept.{Batch, IsBatchOf, Stands, content_of}
+use Rattle.olr_register.specs.RegisterState.{Batch, IsBatchOf, Represents, content_of}
 use Rattle.olr_register.specs.Answering.{Answered}
-use Rattle.olr_register.specs.Given.{content_with, AreGiven, IsAdded, MayTell, Told, Lacks, Given}
+use Rattle.olr_register.specs.HoldsChange.{content_with, AreGiven, IsAdded, MayReport, ByContent, Lacks, HoldsChange}
 use Rattle.olr_register.proofs.Tallies.{Tally}
 use Rattle.olr_register.proofs.Outcomes.{answered_uncounted, answered_refused}
 use Rattle.olr_register.proofs.BatchStates.{state, register_of, in_batch}
@@ -87,7 +87,7 @@ held_answered : (c : Content) (b d : Batch) (w : Tally) (x : Change) (r : Reply)
 held_answered c b d w x r a e =
     answered_uncounted (register_of c (Some b) w) (record { content = c; batch = Some d }) (Make x) r
     (in_batch c b (λ s. changes_made s (Make x) ≡ []) (λ xs i. refl))
-    (in_batch c b (λ s. (t : State) × Stands (record { content = c; batch = Some d }) t
+    (in_batch c b (λ s. (t : State) × Represents (record { content = c; batch = Some d }) t
     × IsOutcome s (Make x) (Ok (reply_of r)) t)
     (λ xs i.
     let is : d.count ≡ suc (length xs) = a.count ∙ ap suc i.count in (
@@ -97,7 +97,7 @@ held_answered c b d w x r a e =
     )))
 
 may_by : (c : Content) (ys : List Change) (r : Result Content Fault) →
-    ((g : Fault) → r ≡ Err g → is_told_first g ≡ false) → may_want (into_batch c ys r) ≡ true
+    ((g : Fault) → r ≡ Err g → is_reported_first g ≡ false) → may_want (into_batch c ys r) ≡ true
 may_by c ys (Ok d) first = refl
 may_by c ys (Err g) first = ap not (first g refl)
 
@@ -108,15 +108,15 @@ held_takes (Add_path name path) xs bare = refl
 held_takes (Set_path name path) xs bare = refl
 held_takes (Drop_path name) xs bare = refl
 
-is_refusal : (c : Content) (b : Batch) (x : Change) (f : Fault) → MayTell (content_with b x) f → (xs : List Change) →
+is_refusal : (c : Content) (b : Batch) (x : Change) (f : Fault) → MayReport (content_with b x) f → (xs : List Change) →
     IsBatchOf c b xs → IsRefusal (state c (Some xs)) (Make x) f
-is_refusal c b x f (Told e) xs i = replies.Told (step_given c b xs x i ∙ ap (into_batch c (xs ++ x ∷ [])) e)
+is_refusal c b x f (ByContent e) xs i = replies.ByState (step_given c b xs x i ∙ ap (into_batch c (xs ++ x ∷ [])) e)
 is_refusal c b x f (Lacks e first) xs i =
     let may = ap may_want (step_given c b xs x i) ∙ may_by c (xs ++ x ∷ []) (content_with b x) first in
     replies.Lacks e (λ j. held_takes x xs (length c.paths == 0) j && may j)
 
 pub answered_given : (c : Content) (b d : Batch) (w : Tally) (x : Change) (r : Result Reply CommandFault) →
-    Given b x r d → Answered (register_of c (Some b) w) (Make x) r (register_of c (Some d) w)
+    HoldsChange b x r d → Answered (register_of c (Some b) w) (Make x) r (register_of c (Some d) w)
 answered_given c b d w x (Ok r) g = held_answered c b d w x r g.added g.reply
 answered_given c b d w x (Err f) g =
     answered_refused (register_of c (Some b) w) (register_of c (Some d) w) (Make x) f

@@ -10,9 +10,9 @@ use Rattle.olr_map.specs.RoadMaps.{map_of, map_before}
 use Rattle.olr_map.specs.declared.road_map.RoadMap.{RoadMap}
 use Rattle.olr_commands.specs.State.{Named, Content, same_name, with_path, Fault, Memory, Batch_full}
 use Rattle.olr_commands.specs.State.{Path_exists, No_path, Bad_path, full, when, Change, Add_path, Set_path, Drop_path}
-use Rattle.olr_commands.specs.State.{with_change, Make, HasPlaces, IsContent}
+use Rattle.olr_commands.specs.State.{with_change, Make, HasCoords, IsContent}
 use Rattle.olr_commands.specs.Reply as replies
-use Rattle.olr_commands.specs.Reply.{is_told_first}
+use Rattle.olr_commands.specs.Reply.{is_reported_first}
 use Rattle.olr_commands.specs.Counts.{nodes_of_change, lines_of_change, names_of_change}
 use Rattle.olr_commands.specs.Words.{command_fault_of, reply_of}
 use Rattle.olr_commands.specs.declared.reply.Reply.{Reply}
@@ -21,20 +21,20 @@ use Rattle.olr_commands.specs.declared.fault.CommandFault.TheVariants as rust
 use Rattle.olr_commands.proofs.StateLemmas.{changes_keep}
 use Rattle.olr_paths.specs.Items.{Item, AreEncodingsIfAny, all_named}
 use Rattle.olr_paths.specs.Changes.{Follows, set_item}
-use Rattle.olr_spec.specs.Looks.{Look}
-use Rattle.olr_paths.specs.Beginning.{Begins}
+use Rattle.olr_spec.specs.Queries.{CoverageQuery}
+use Rattle.olr_paths.specs.Origins.{Begins}
 use Rattle.olr_paths.specs.Laying.{under_overlay}
 use Rattle.olr_paths.specs.declared.overlay.Overlay.{Overlay}
 use Rattle.olr_paths.proofs.Overlaying.{has_name}
-use Rattle.olr_register.specs.Kept as kept
-use Rattle.olr_register.specs.Kept.{content_of}
+use Rattle.olr_register.specs.RegisterState as kept
+use Rattle.olr_register.specs.RegisterState.{content_of}
 use Rattle.olr_register.specs.Holding.{held_of, IsHeld}
-use Rattle.olr_register.specs.Given.{AreGiven, Told, Lacks, Given}
+use Rattle.olr_register.specs.HoldsChange.{AreGiven, ByContent, Lacks, HoldsChange}
 use Rattle.olr_register.specs.declared.batch.Batch.{Batch}
 use Rattle.olr_register.proofs.Listed.{names_add, names_set, names_drop, any_add, any_set}
 use Rattle.olr_register.proofs.Followed.{follows_add, follows_set}
 use Rattle.olr_register.proofs.HoldLists.{named_twice, given_add, given_set}
-use Rattle.olr_register.proofs.Numbered.{begins_held, begins_other}
+use Rattle.olr_register.proofs.Bounded.{begins_held, begins_other}
 
 abbrev pub content_from : Map → List Named → Content
 content_from M ps = record { map = M; paths = ps }
@@ -53,20 +53,21 @@ same_content M is = ap (content_from M) (named_twice is)
 
 -- ---- rejected
 
-pub told_first : (b d : kept.Batch) (x : Change) (f : CommandFault) → nat_le full b.count ≡ false →
-    with_change (content_of b) x ≡ Err (command_fault_of f) → d ≡ b → Given b x (Err f) d
-told_first b d x f room e same =
+pub reported_first : (b d : kept.Batch) (x : Change) (f : CommandFault) → nat_le full b.count ≡ false →
+    with_change (content_of b) x ≡ Err (command_fault_of f) → d ≡ b → HoldsChange b x (Err f) d
+reported_first b d x f room e same =
     record {
       added = tt;
       reply = tt;
-      refused = Told (ap (λ (t : Bool). when t Batch_full (with_change (content_of b) x)) room ∙ e);
+      refused = ByContent (ap (λ (t : Bool). when t Batch_full (with_change (content_of b) x)) room ∙ e);
       unchanged = same;
     }
 
-pub told_memory : (b d : kept.Batch) (x : Change) (f : CommandFault) → nat_le full b.count ≡ false →
-    command_fault_of f ≡ Memory → ((g : Fault) → with_change (content_of b) x ≡ Err g → is_told_first g ≡ false) → d ≡ b
-    → Given b x (Err f) d
-told_memory b d x f room e first same =
+pub reported_memory : (b d : kept.Batch) (x : Change) (f : CommandFault) → nat_le full b.count ≡ false →
+    command_fault_of f ≡ Memory → ((g : Fault) → with_change (content_of b) x ≡ Err g → is_reported_first g ≡ false) →
+    d ≡ b
+    → HoldsChange b x (Err f) d
+reported_memory b d x f room e first same =
     record {
       added = tt;
       reply = tt;
@@ -75,21 +76,22 @@ told_memory b d x f room e first same =
       unchanged = same;
     }
 
-pub given_told : (M : Map) (is js : List Item) (n : ℕ) (ns ys : List ℕ) (x : Change) (f : CommandFault) →
+pub given_reported : (M : Map) (is js : List Item) (n : ℕ) (ns ys : List ℕ) (x : Change) (f : CommandFault) →
     nat_le full n ≡ false → with_change (content_on M is) x ≡ Err (command_fault_of f) → js ≡ is
-    → Given (batch_on M is n ns ys) x (Err f) (batch_on M js n ns ys)
-given_told M is js n ns ys x f room e same =
-    told_first (batch_on M is n ns ys) (batch_on M js n ns ys) x f room
+    → HoldsChange (batch_on M is n ns ys) x (Err f) (batch_on M js n ns ys)
+given_reported M is js n ns ys x f room e same =
+    reported_first (batch_on M is n ns ys) (batch_on M js n ns ys) x f room
     (ap (λ (c : Content). with_change c x) (same_content M is) ∙ e)
     (ap (λ (ks : List Item). batch_on M ks n ns ys) same)
 
 pub given_lacks : (M : Map) (is js : List Item) (n : ℕ) (ns ys : List ℕ) (x : Change) (f : CommandFault) →
     nat_le full n ≡ false
-    → command_fault_of f ≡ Memory → ((g : Fault) → with_change (content_on M is) x ≡ Err g → is_told_first g ≡ false) →
+    → command_fault_of f ≡ Memory → ((g : Fault) → with_change (content_on M is) x ≡ Err g →
+    is_reported_first g ≡ false) →
     js ≡ is
-    → Given (batch_on M is n ns ys) x (Err f) (batch_on M js n ns ys)
+    → HoldsChange (batch_on M is n ns ys) x (Err f) (batch_on M js n ns ys)
 given_lacks M is js n ns ys x f room e first same =
-    told_memory (batch_on M is n ns ys) (batch_on M js n ns ys) x f room e
+    reported_memory (batch_on M is n ns ys) (batch_on M js n ns ys) x f room e
     (λ g h. first g (sym (ap (λ (c : Content). with_change c x) (same_content M is)) ∙ h))
     (ap (λ (ks : List Item). batch_on M ks n ns ys) same)
 
@@ -100,8 +102,8 @@ pub given_held_path : (M : Map) (is js ks : List Item) (n : ℕ) (ns ys : List �
     → nodes_of_change M x ≡ [] → lines_of_change x ≡ [] →
     ((names : List (List ℕ)) → AreGiven names (map held_of is) →
     AreGiven (names ++ names_of_change x) (map held_of js)) → reply_of r ≡ replies.Held (n + 1)
-    → Given (batch_on M is n ns ys) x (Ok r) (batch_on M ks (n + 1) ns ys)
-given_held_path M is js ks n ns ys x r room e same no_nodes no_lines given told =
+    → HoldsChange (batch_on M is n ns ys) x (Ok r) (batch_on M ks (n + 1) ns ys)
+given_held_path M is js ks n ns ys x r room e same no_nodes no_lines given returned =
     record {
       added = record {
         content =
@@ -116,7 +118,7 @@ given_held_path M is js ks n ns ys x r room e same no_nodes no_lines given told 
             λ names g. subst (λ (is : List Item). AreGiven (names ++ names_of_change x) (map held_of is)) (sym same)
             (given names g);
       };
-      reply = told;
+      reply = returned;
       refused = tt;
       unchanged = tt;
     }
@@ -186,17 +188,17 @@ set_path_only M is name path e =
     ap (λ (t : Bool). when (not t) No_path
     (when (not (is_path path.lines)) Bad_path (Ok (content_from M (map (with_path name path) (all_named is)))))) e
 
-pub bad_path_last : (b : Bool) (c : Content) (g : Fault) → when b Bad_path (Ok c) ≡ Err g → is_told_first g ≡ false
-bad_path_last true c g e = let same : Bad_path ≡ g = cc in ap is_told_first (sym same)
+pub bad_path_last : (b : Bool) (c : Content) (g : Fault) → when b Bad_path (Ok c) ≡ Err g → is_reported_first g ≡ false
+bad_path_last true c g e = let same : Bad_path ≡ g = cc in ap is_reported_first (sym same)
 bad_path_last false c g e = absurd cc
 
 -- a path with this name is dropped, unless out of memory
-never_refused : (c : Content) (g : Fault) → ◌≡◌ {A = Result Content Fault} (Ok c) (Err g) → is_told_first g ≡ false
+never_refused : (c : Content) (g : Fault) → ◌≡◌ {A = Result Content Fault} (Ok c) (Err g) → is_reported_first g ≡ false
 never_refused c g e = absurd cc
 
 pub given_not_dropped : (M : Map) (is js : List Item) (n : ℕ) (ns ys name : List ℕ) → nat_le full n ≡ false →
     has_name is name ≡ true → js ≡ is
-    → Given (batch_on M is n ns ys) (Drop_path name) (Err rust.Memory) (batch_on M js n ns ys)
+    → HoldsChange (batch_on M is n ns ys) (Drop_path name) (Err rust.Memory) (batch_on M js n ns ys)
 given_not_dropped M is js n ns ys name room there same =
     given_lacks M is js n ns ys (Drop_path name) rust.Memory room refl
     (λ g h. never_refused (content_on M (filter (λ i. not (same_name i.name name)) is)) g
@@ -221,9 +223,9 @@ held_same roads before b l same h =
 pub held_path : (roads : RoadMap) (before : List Item) (b : Batch) (l : Overlay) (js : List Item) (x : Change) →
     under_overlay before l ≡ js → nat_le full b.count ≡ false
     → with_change (content_on (map_of roads) (under_overlay before b.overlay)) x ≡ Ok (content_on (map_of roads) js) →
-    HasPlaces (Make x)
+    HasCoords (Make x)
     → AreEncodingsIfAny (map_before roads b.log) js → Follows before js →
-    ((v : Look) → Begins js v → Begins (under_overlay before b.overlay) v) → IsHeld roads before b
+    ((v : CoverageQuery) → Begins js v → Begins (under_overlay before b.overlay) v) → IsHeld roads before b
     → IsHeld roads before (record { log = b.log; overlay = l; count = b.count + 1; touched = b.touched })
 held_path roads before b l js x same room e placed made follows begins h =
     let few = leb-false full b.count room in
@@ -246,18 +248,18 @@ pub given_bad_path : (M : Map) (is : List Item) (n : ℕ) (ns ys : List ℕ) (x 
     (f : CommandFault) → nat_le full n ≡ false
     → with_change (content_on M is) x ≡ when (not (is_path lines)) Bad_path (Ok to) → (f ≡ rust.Memory)
     ⊎ ((f ≡ rust.BadPath) × (is_path lines ≡ false))
-    → Given (batch_on M is n ns ys) x (Err f) (batch_on M is n ns ys)
+    → HoldsChange (batch_on M is n ns ys) x (Err f) (batch_on M is n ns ys)
 given_bad_path M is n ns ys x to lines f room path (inl e) =
     given_lacks M is is n ns ys x f room (ap command_fault_of e)
     (λ g h. bad_path_last (not (is_path lines)) to g (sym path ∙ h)) refl
 given_bad_path M is n ns ys x to lines f room path (inr (e, bad)) =
-    given_told M is is n ns ys x f room (path ∙ ap (λ (t : Bool). when (not t) Bad_path (Ok to)) bad
+    given_reported M is is n ns ys x f room (path ∙ ap (λ (t : Bool). when (not t) Bad_path (Ok to)) bad
     ∙ ap (λ (g : CommandFault). Err (command_fault_of g)) (sym e)) refl
 
 pub given_no_room : (M : Map) (is js : List Item) (n : ℕ) (ns ys : List ℕ) (x : Change) (to : Content)
     (lines : List ℕ) → nat_le full n ≡ false
     → with_change (content_on M is) x ≡ when (not (is_path lines)) Bad_path (Ok to) → js ≡ is →
-    Given (batch_on M is n ns ys) x (Err rust.Memory) (batch_on M js n ns ys)
+    HoldsChange (batch_on M is n ns ys) x (Err rust.Memory) (batch_on M js n ns ys)
 given_no_room M is js n ns ys x to lines room path same =
     given_lacks M is js n ns ys x rust.Memory room refl (λ g h. bad_path_last (not (is_path lines)) to g (sym path ∙ h))
     same
@@ -268,11 +270,11 @@ one_added is name path = is ++ record { name = name; path = path; made = None } 
 pub given_added : (M : Map) (is ks : List Item) (n : ℕ) (ns ys name : List ℕ) (path p : Path) (r : Reply) →
     nat_le full n ≡ false → has_name is name ≡ false → is_path path.lines ≡ true → p ≡ path
     → ks ≡ one_added is name p → reply_of r ≡ replies.Held (n + 1) →
-    Given (batch_on M is n ns ys) (Add_path name path) (Ok r) (batch_on M ks (n + 1) ns ys)
-given_added M is ks n ns ys name path p r room free good same_path same told =
+    HoldsChange (batch_on M is n ns ys) (Add_path name path) (Ok r) (batch_on M ks (n + 1) ns ys)
+given_added M is ks n ns ys name path p r room free good same_path same returned =
     given_held_path M is (one_added is name path) ks n ns ys (Add_path name path) r room
     (add_ok M is name path free good) (same ∙ ap (one_added is name) same_path) refl refl
-    (λ names g. given_add name path names is free g) told
+    (λ names g. given_add name path names is free g) returned
 
 pub held_added : (roads : RoadMap) (before : List Item) (b : Batch) (l : Overlay) (name : List ℕ) (path p : Path) →
     nat_le full b.count ≡ false → has_name (under_overlay before b.overlay) name ≡ false
@@ -293,11 +295,11 @@ one_set is name path = map (set_item name path None) is
 pub given_other : (M : Map) (is ks : List Item) (n : ℕ) (ns ys name : List ℕ) (path p : Path) (r : Reply) →
     nat_le full n ≡ false → has_name is name ≡ true → is_path path.lines ≡ true → p ≡ path
     → ks ≡ one_set is name p → reply_of r ≡ replies.Held (n + 1) →
-    Given (batch_on M is n ns ys) (Set_path name path) (Ok r) (batch_on M ks (n + 1) ns ys)
-given_other M is ks n ns ys name path p r room there good same_path same told =
+    HoldsChange (batch_on M is n ns ys) (Set_path name path) (Ok r) (batch_on M ks (n + 1) ns ys)
+given_other M is ks n ns ys name path p r room there good same_path same returned =
     given_held_path M is (one_set is name path) ks n ns ys (Set_path name path) r room
     (set_ok M is name path there good) (same ∙ ap (one_set is name) same_path) refl refl
-    (λ names g. given_set name path names is g) told
+    (λ names g. given_set name path names is g) returned
 
 pub held_other : (roads : RoadMap) (before : List Item) (b : Batch) (l : Overlay) (name : List ℕ) (path p : Path) →
     nat_le full b.count ≡ false → has_name (under_overlay before b.overlay) name ≡ true

@@ -2,47 +2,48 @@
 use Rattle.std.proofs.Common.{◌≡◌, ℕ, ◌+◌, arith, Bool, false, List, ◌++◌, Result, Ok, Err, sym, ap, ◌∙◌, subst}
 use Rattle.std.specs.Prelude.{◌||◌, nat_le}
 use Rattle.std.proofs.lemmas.Bool.{leb-false}
-use Rattle.olr_spec.specs.Map.{Map, IsMap, Edit, MapFault, edited, touched_nodes, touched_lines, has, HasPlace}
+use Rattle.olr_spec.specs.Map.{Map, IsMap, Edit, MapFault, edited, touched_nodes, touched_lines, has, HasCoord}
 use Rattle.olr_spec.specs.Detours.{ChangedLine, changes_of}
 use Rattle.olr_spec.proofs.EditLemmas.{edits_keep}
 use Rattle.olr_map.specs.RoadMaps.{map_of, map_before, CanUndoAll}
 use Rattle.olr_map.specs.declared.road_map.RoadMap.{RoadMap}
 use Rattle.olr_map.specs.declared.undo.UndoLog.{UndoLog}
 use Rattle.olr_commands.specs.State.{Content, Fault, Map_fault, Memory, full, On_map, with_map, with_change}
-use Rattle.olr_commands.specs.Reply.{is_told_first}
+use Rattle.olr_commands.specs.Reply.{is_reported_first}
 use Rattle.olr_commands.specs.Words.{command_fault_of}
 use Rattle.olr_commands.specs.declared.fault.CommandFault.{CommandFault}
 use Rattle.olr_paths.specs.Items.{Item, AreEncodingsIfAny}
 use Rattle.olr_paths.specs.Laying.{under_overlay}
 use Rattle.olr_paths.specs.Touching.{nodes_of, lines_of, changed_of}
-use Rattle.olr_paths.specs.declared.touched.Touched.{Touched}
-use Rattle.olr_register.specs.Kept as kept
-use Rattle.olr_register.specs.Kept.{content_of}
+use Rattle.olr_paths.specs.declared.change_set.ChangeSet.{ChangeSet}
+use Rattle.olr_register.specs.RegisterState as kept
+use Rattle.olr_register.specs.RegisterState.{content_of}
 use Rattle.olr_register.specs.Holding.{AreEditsNoted, batch_of, IsHeld}
-use Rattle.olr_register.specs.Given.{Given}
+use Rattle.olr_register.specs.HoldsChange.{HoldsChange}
 use Rattle.olr_register.specs.declared.batch.Batch.{Batch}
 use Rattle.olr_register.proofs.Noted.{noted_more}
-use Rattle.olr_register.proofs.HoldChanges.{batch_on, told_first, told_memory}
+use Rattle.olr_register.proofs.HoldChanges.{batch_on, reported_first, reported_memory}
 
 -- ---- rejected
 
-pub edit_told : (b d : kept.Batch) (e : Edit) (f : CommandFault) (g : MapFault) → nat_le full b.count ≡ false →
-    edited b.map e ≡ Err g → command_fault_of f ≡ Map_fault g → d ≡ b → Given b (On_map e) (Err f) d
-edit_told b d e f g room is same_is same =
-    told_first b d (On_map e) f room (ap (with_map (content_of b)) is ∙ ap (λ (k : Fault). Err k) (sym same_is)) same
+pub edit_accounted : (b d : kept.Batch) (e : Edit) (f : CommandFault) (g : MapFault) → nat_le full b.count ≡ false →
+    edited b.map e ≡ Err g → command_fault_of f ≡ Map_fault g → d ≡ b → HoldsChange b (On_map e) (Err f) d
+edit_accounted b d e f g room is same_is same =
+    reported_first b d (On_map e) f room (ap (with_map (content_of b)) is ∙ ap (λ (k : Fault). Err k) (sym same_is))
+    same
 
 no_first : (c : Content) (r : Result Map MapFault) (N : Map) (g : Fault) → r ≡ Ok N → with_map c r ≡ Err g →
-    is_told_first g ≡ false
+    is_reported_first g ≡ false
 no_first c (Ok M) N g ok h = absurd cc
 no_first c (Err f) N g ok h = absurd cc
 
 pub edit_lacks : (b d : kept.Batch) (e : Edit) (f : CommandFault) (N : Map) → nat_le full b.count ≡ false →
-    edited b.map e ≡ Ok N → command_fault_of f ≡ Memory → d ≡ b → Given b (On_map e) (Err f) d
+    edited b.map e ≡ Ok N → command_fault_of f ≡ Memory → d ≡ b → HoldsChange b (On_map e) (Err f) d
 edit_lacks b d e f N room ok lacks same =
-    told_memory b d (On_map e) f room lacks (λ g h. no_first (content_of b) (edited b.map e) N g ok h) same
+    reported_memory b d (On_map e) f room lacks (λ g h. no_first (content_of b) (edited b.map e) N g ok h) same
 
 -- the batch is the same if map and touched nodes and lines are
-pub same_batch : (old new : RoadMap) (before : List Item) (b : Batch) (log : UndoLog) (t : Touched) →
+pub same_batch : (old new : RoadMap) (before : List Item) (b : Batch) (log : UndoLog) (t : ChangeSet) →
     map_of new ≡ map_of old → nodes_of t ≡ nodes_of b.touched → lines_of t ≡ lines_of b.touched
     → batch_of new before (record { log = log; overlay = b.overlay; count = b.count; touched = t })
     ≡ batch_of old before b
@@ -54,14 +55,15 @@ same_batch old new before b log t same nodes lines =
 pub has_either : (x r b p t : Bool) → x ≡ (r || p) → r ≡ b → t ≡ p → x ≡ (b || t)
 has_either x r b p t e f g = e ∙ ap (λ (y : Bool). y || p) f ∙ ap (λ (y : Bool). b || y) (sym g)
 
-pub changes_more : (was kept now told : List ChangedLine) → kept ≡ was → now ≡ kept ++ told → {all : List ChangedLine} →
-    told ≡ all → now ≡ was ++ all
-changes_more was kept now told still h same = h ∙ (λ i. still i ++ same i)
+pub changes_more : (was kept now returned : List ChangedLine) → kept ≡ was → now ≡ kept ++ returned →
+    {all : List ChangedLine} →
+    returned ≡ all → now ≡ was ++ all
+changes_more was kept now returned still h same = h ∙ (λ i. still i ++ same i)
 
 -- ---- what is true of the batch
 
-pub held_edit : (old new : RoadMap) (before : List Item) (b : Batch) (log : UndoLog) (t : Touched) (e : Edit) →
-    nat_le full b.count ≡ false → HasPlace e → CanUndoAll new log → edited (map_of old) e ≡ Ok (map_of new)
+pub held_edit : (old new : RoadMap) (before : List Item) (b : Batch) (log : UndoLog) (t : ChangeSet) (e : Edit) →
+    nat_le full b.count ≡ false → HasCoord e → CanUndoAll new log → edited (map_of old) e ≡ Ok (map_of new)
     → map_before new log ≡ map_before old b.log
     → ((v : ℕ) → has (nodes_of t) v ≡ (has (nodes_of b.touched) v || has (touched_nodes (map_of old) e) v)) →
     ((y : ℕ) → has (lines_of t) y ≡ (has (lines_of b.touched) y || has (touched_lines e) y))

@@ -13,9 +13,9 @@ use Rattle.olr_commands.specs.State.{Named, same_name, path_named}
 use Rattle.olr_commands.proofs.NameLemmas.{not_named}
 use Rattle.olr_paths.specs.Items.{Item, named_of, all_named}
 use Rattle.olr_paths.specs.Changes.{set_item}
-use Rattle.olr_register.specs.Kept.{Held, named_held}
+use Rattle.olr_register.specs.RegisterState.{Held, named_held}
 use Rattle.olr_register.specs.Holding.{held_of}
-use Rattle.olr_register.specs.Given.{AreGiven}
+use Rattle.olr_register.specs.HoldsChange.{AreGiven}
 
 pub named_twice : (is : List Item) → map named_held (map held_of is) ≡ all_named is
 named_twice [] = refl

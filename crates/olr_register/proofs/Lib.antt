@@ -4,7 +4,7 @@ pub mod BatchEnds
 pub mod BatchStates
 pub mod BatchSteps
 pub mod Noted
-pub mod Numbered
+pub mod Bounded
 pub mod Counting
 pub mod Followed
 pub mod HoldChanges
@@ -14,11 +14,11 @@ pub mod Listed
 pub mod Outcomes
 pub mod Renewed
 pub mod Replies
-pub mod Rising
+pub mod Counts
 pub mod Runs
 pub mod SingleEdit
 pub mod SinglePath
 pub mod Singles
 pub mod Texts
 pub mod Tallies
-pub mod Told
+pub mod Reported

@@ -52,24 +52,24 @@ answer_held M is content a name A = by (path_and_made M is a name) where
   )
 
 -- the stored answer of a path is its answer on the map
-kept_answer : (N : Map) (P : Path) (o : Option Made) (A : Answer) (m : Made) → o ≡ Some m → IsEncodingOf N P m →
+retained_answer : (N : Map) (P : Path) (o : Option Made) (A : Answer) (m : Made) → o ≡ Some m → IsEncodingOf N P m →
     option_map (λ (n : Made). n.answer) o ≡ Some A → Encodes N P A
-kept_answer N P o A m is right e =
+retained_answer N P o A m is right e =
     let answer_is : Some m.answer ≡ Some A = ap (option_map (λ (n : Made). n.answer)) (sym is) ∙ e in
     let same : m.answer ≡ A = cc in
     subst (Encodes N P) same right.answer
 
-pub changes_told : (M N : Map) (before js : List Item) (es : List Entry) →
+pub planned_changes : (M N : Map) (before js : List Item) (es : List Entry) →
     IsContent (record { map = M; paths = all_named before }) → AreEncodings M before → AreEncodings N js →
     Reported before js es
     → Differences (record { map = M; paths = all_named before }) (record { map = N; paths = all_named js }) es
-changes_told M N before [] es content was a r = r
-changes_told M N before (j ∷ js) es content was a r =
+planned_changes M N before [] es content was a r = r
+planned_changes M N before (j ∷ js) es content was a r =
     let held = answer_held M before content was j.name r.0 in (
       r.0,
       r.1,
-      kept_answer N j.path j.made r.0 a.0.0 a.0.1 a.0.2 r.2,
-      changes_told M N before js r.1 content was a.1 r.3,
+      retained_answer N j.path j.made r.0 a.0.0 a.0.1 a.0.2 r.2,
+      planned_changes M N before js r.1 content was a.1 r.3,
       elim r.4 [ inl h ↦ inl (held.1 h.0, h.1) | inr h ↦ inr ((λ had. h.0 (held.0 had)), h.1) ],
     )
 
@@ -79,7 +79,7 @@ reported_all M [] es a r = r
 reported_all M (j ∷ js) es a r = (
   r.0,
   r.1,
-  kept_answer M j.path j.made r.0 a.0.0 a.0.1 a.0.2 r.2,
+  retained_answer M j.path j.made r.0 a.0.0 a.0.1 a.0.2 r.2,
   reported_all M js r.1 a.1 r.3,
   elim r.4 [ inl h ↦ absurd (let no : ◌≡◌ {A = Option Answer} None (Some r.0) = h.0 in cc) | inr h ↦ h.1 ],
 )

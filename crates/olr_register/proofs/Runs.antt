@@ -7,7 +7,7 @@ use Rattle.olr_commands.specs.Words.{command_of, outcome_of}
 use Rattle.olr_commands.specs.declared.command.Command.{Command as Asked}
 use Rattle.olr_commands.specs.declared.reply.Reply.{Reply as Answered}
 use Rattle.olr_commands.specs.declared.fault.CommandFault.{CommandFault}
-use Rattle.olr_register.specs.Kept.{Stands}
+use Rattle.olr_register.specs.RegisterState.{Represents}
 use Rattle.olr_register.specs.Registered.{Registered, Applied, nothing_registered}
 
 map_push : {A B : Type 0} (f : A → B) (xs : List A) (x : A) → map f (xs ++ x ∷ []) ≡ map f xs ++ f x ∷ []
@@ -21,7 +21,7 @@ map_same (x ∷ xs) = ap (λ ys. x ∷ ys) (map_same xs)
 -- a register in the state to which the commands lead with these answers
 abbrev pub HasRun : Registered → List Asked → List (Result Answered CommandFault) → Type 0
 HasRun x cs rs =
-    (t : State) × Stands x.kept t × Whole SoundOutcome start_state (map command_of cs) (map outcome_of rs) t
+    (t : State) × Represents x.kept t × Whole SoundOutcome start_state (map command_of cs) (map outcome_of rs) t
 
 pub run_starts : (x : Registered) (rs : List (Result Answered CommandFault)) → x ≡ nothing_registered → rs ≡ [] →
     HasRun x [] rs
@@ -32,11 +32,11 @@ run_starts x rs new none =
 pub sound_at_start : (x : Registered) → x ≡ nothing_registered → IsContent x.kept.content
 sound_at_start x new = subst (λ (y : Registered). IsContent y.kept.content) (sym new) start_sound.content
 
-pub run_goes_on : (x y : Registered) (cs : List Asked) (c : Asked) (rs ss : List (Result Answered CommandFault))
+pub run_continues : (x y : Registered) (cs : List Asked) (c : Asked) (rs ss : List (Result Answered CommandFault))
     (r : Result Answered CommandFault) → HasRun x cs rs → Applied x (command_of c) (outcome_of r) y →
     IsContent y.kept.content
     → ss ≡ rs ++ r ∷ [] → HasRun y (cs ++ c ∷ []) ss
-run_goes_on x y cs c rs ss r run applied sound more =
+run_continues x y cs c rs ss r run applied sound more =
     let next = applied run.0 run.1 in
     let right : IsContent next.0.content = subst IsContent next.1.0 sound in
     let all =

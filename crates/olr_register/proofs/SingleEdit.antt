@@ -3,18 +3,18 @@ use Rattle.std.proofs.Common.{◌≡◌, ℕ, suc, ◌+◌, ◌<◌, ◌≤◌, 
 use Rattle.std.proofs.Common.{length, Option, None, Result, Ok, Err, IsOk, refl, sym, ap, ◌∙◌, subst, arith, add-zero}
 use Rattle.std.specs.Prelude.{MatchResult, ◌==◌, ◌||◌}
 use Rattle.std.specs.Option.{option_to_list}
-use Rattle.olr_spec.specs.Map.{Map, Edit, MapFault, edited, touched_nodes, touched_lines, has, HasPlace}
+use Rattle.olr_spec.specs.Map.{Map, Edit, MapFault, edited, touched_nodes, touched_lines, has, HasCoord}
 use Rattle.olr_spec.specs.Detours.{ChangedLine, changes_of}
 use Rattle.olr_map.specs.Edits as edits
-use Rattle.olr_map.specs.Judgements.{IsJudged, changes_told}
+use Rattle.olr_map.specs.EditPlans.{IsEditPlan, planned_changes}
 use Rattle.olr_map.specs.declared.edit.EditFault.{EditFault}
-use Rattle.olr_map.specs.declared.judging.Judged.{Judged}
+use Rattle.olr_map.specs.declared.judging.EditPlan.{EditPlan}
 use Rattle.olr_map.specs.RoadMaps.{map_of}
 use Rattle.olr_map.specs.declared.road_map.RoadMap.{RoadMap}
 use Rattle.olr_commands.specs.State as state
 use Rattle.olr_commands.specs.State.{Named, Content, IsContent, Fault, Map_fault, On_map, with_map, with_change}
 use Rattle.olr_commands.specs.State.{at_once, Make}
-use Rattle.olr_commands.specs.Reply as told
+use Rattle.olr_commands.specs.Reply as returned
 use Rattle.olr_commands.specs.Reply.{takes_memory, may_want}
 use Rattle.olr_commands.specs.Counts.{CountIs}
 use Rattle.olr_commands.specs.Words.{reply_of, command_fault_of, map_fault_of}
@@ -22,9 +22,9 @@ use Rattle.olr_commands.specs.declared.reply.Reply.{Reply}
 use Rattle.olr_commands.specs.declared.fault.CommandFault.{CommandFault}
 use Rattle.olr_commands.specs.declared.fault.CommandFault.TheVariants as fault
 use Rattle.olr_paths.specs.Items.{Item, all_named}
-use Rattle.olr_paths.specs.Changes.{IsBefore, IsConcerned, AreRemade, Reported}
+use Rattle.olr_paths.specs.Changes.{IsBefore, IsAffected, AreRemade, Reported}
 use Rattle.olr_paths.specs.Touching.{nodes_of, lines_of, changed_of}
-use Rattle.olr_paths.specs.declared.touched.Touched.{Touched}
+use Rattle.olr_paths.specs.declared.change_set.ChangeSet.{ChangeSet}
 use Rattle.olr_register.specs.Registered.{Registered}
 use Rattle.olr_register.specs.Holding.{IsRegister}
 use Rattle.olr_register.specs.Answering.{Answered}
@@ -33,15 +33,15 @@ use Rattle.olr_register.specs.declared.batch.Batch.{Batch}
 use Rattle.olr_register.proofs.Tallies.{Tally, of_parts}
 use Rattle.olr_register.proofs.Noted.{noted_edit, is_before}
 use Rattle.olr_register.proofs.Renewed.{made_if_any}
-use Rattle.olr_register.proofs.Rising.{tallied_edit}
-use Rattle.olr_register.proofs.Told.{RenewedAll, renewed_edit}
-use Rattle.olr_register.proofs.Singles.{accepted_now, told_now, lacks_now, closed_by, is_closed, told_by_map}
+use Rattle.olr_register.proofs.Counts.{tallied_edit}
+use Rattle.olr_register.proofs.Reported.{RenewedAll, renewed_edit}
+use Rattle.olr_register.proofs.Singles.{accepted_now, reported_now, lacks_now, closed_by, is_closed, reported_by_map}
 
 -- ---- the result of judging an edit
 
 pub refused_is : (r : Result Map MapFault) (f : EditFault) →
-    MatchResult r (λ _. IsOk {T = Judged} (Err f))
-    (λ g. ◌≡◌ {A = Result Judged EditFault} (Err f) (Err (edits.edit_fault_of g))) → (g : MapFault) × (r ≡ Err g)
+    MatchResult r (λ _. IsOk {T = EditPlan} (Err f))
+    (λ g. ◌≡◌ {A = Result EditPlan EditFault} (Err f) (Err (edits.edit_fault_of g))) → (g : MapFault) × (r ≡ Err g)
     × (f ≡ edits.edit_fault_of g)
 refused_is (Ok N) f h = absurd cc
 refused_is (Err g) f h = (g, refl, cc)
@@ -60,9 +60,9 @@ edit_refused roads is b w x e g f view none refused is_that =
     let there : x.kept.content.map ≡ map_of roads =
     ap (λ (y : Registered). y.kept.content.map) (sym view)
     ∙ ap (λ (o : Option Batch). (of_parts roads is o w).kept.content.map) closed in
-    told_now x (On_map e) (Map_fault g) (fault.Map f) none
+    reported_now x (On_map e) (Map_fault g) (fault.Map f) none
     (ap (with_map x.kept.content) (ap (λ (M : Map). edited M e) there ∙ refused))
-    (ap map_fault_of is_that ∙ told_by_map g)
+    (ap map_fault_of is_that ∙ reported_by_map g)
 
 -- where the map allocates, or there is a path
 pub wants_for_map : (bare : Bool) (e : Edit) → edits.allocates e ≡ true →
@@ -93,29 +93,30 @@ pub only_noted : (was now : List ℕ) (f : ℕ → Bool) → was ≡ [] → ((v 
     has now v ≡ f v
 only_noted was now f none h v = h v ∙ ap (λ (vs : List ℕ). has vs v || f v) none
 
-pub only_changes : (was now told : List ChangedLine) → was ≡ [] → now ≡ was ++ told → now ≡ told
-only_changes was now told none h = h ∙ ap (λ (cs : List ChangedLine). cs ++ told) none
+pub only_changes : (was now returned : List ChangedLine) → was ≡ [] → now ≡ was ++ returned → now ≡ returned
+only_changes was now returned none h = h ∙ ap (λ (cs : List ChangedLine). cs ++ returned) none
 
 -- of an edit that was judged, and of nothing else
-pub record IsNotedOf (M : Map) (e : Edit) (t : Touched) : Type 0 where
+pub record IsNotedOf (M : Map) (e : Edit) (t : ChangeSet) : Type 0 where
   pub nodes : (v : ℕ) → has (nodes_of t) v ≡ has (touched_nodes M e) v
   pub lines : (y : ℕ) → has (lines_of t) y ≡ has (touched_lines e) y
   pub changed : changed_of t ≡ changes_of M e
 
-pub noted_judged : (M : Map) (place : ℕ → ℕ) (e : Edit) (j : Judged) (t : Touched) → IsJudged M place e j →
+pub noted_plan : (M : Map) (place : ℕ → ℕ) (e : Edit) (j : EditPlan) (t : ChangeSet) → IsEditPlan M place e j →
     ((v : ℕ) → has (nodes_of t) v ≡ ((j.nodes.0 == v) || (j.nodes.1 == v)))
-    → ((y : ℕ) → has (lines_of t) y ≡ has (option_to_list j.line) y) → changed_of t ≡ changes_told j → IsNotedOf M e t
-noted_judged M place e j t judged nodes lines with_change = record {
-  nodes = λ v. nodes v ∙ sym (judged.nodes v);
-  lines = λ y. lines y ∙ ap (λ (ys : List ℕ). has ys y) judged.lines;
-  changed = with_change ∙ judged.changes;
+    → ((y : ℕ) → has (lines_of t) y ≡ has (option_to_list j.line) y) → changed_of t ≡ planned_changes j →
+    IsNotedOf M e t
+noted_plan M place e j t plan nodes lines with_change = record {
+  nodes = λ v. nodes v ∙ sym (plan.nodes v);
+  lines = λ y. lines y ∙ ap (λ (ys : List ℕ). has ys y) plan.lines;
+  changed = with_change ∙ plan.changes;
 }
 
 -- ---- accepted
 
 module _ (roads later : RoadMap) (is js : List Item) (b : Option Batch) (w : Tally) (x : Registered) (e : Edit)
-    (es : List told.Entry)
-    (view : of_parts roads is b w ≡ x) (none : x.kept.batch ≡ None) (right : IsRegister roads is b) (place : HasPlace e)
+    (es : List returned.Entry)
+    (view : of_parts roads is b w ≡ x) (none : x.kept.batch ≡ None) (right : IsRegister roads is b) (place : HasCoord e)
     (taken : edited (map_of roads) e ≡ Ok (map_of later)) where
   was_closed : b ≡ None
   was_closed = closed_by roads is b w x view none
@@ -146,8 +147,8 @@ module _ (roads later : RoadMap) (is js : List Item) (b : Option Batch) (w : Tal
       pub edit_keeps : IsRegister later js b
       edit_keeps = is_closed later js b was_closed all_renewed.content all_renewed.made
 
-      module _ (u : Tally) (q : Reply) (n : ℕ) (says : reply_of q ≡ told.Paths es)
-          (count : CountIs (IsConcerned (map_of roads) ns xs) is n)
+      module _ (u : Tally) (q : Reply) (n : ℕ) (says : reply_of q ≡ returned.Paths es)
+          (count : CountIs (IsAffected (map_of roads) ns xs) is n)
           (encodings : w.work.encodings + n < 2 ^ 64 → u.work.encodings ≡ w.work.encodings + n)
           (spared : u.spared ≤ w.spared + n)
           (falls : NoneFalls (of_parts roads is None w) (of_parts later js None u)) where
@@ -177,7 +178,7 @@ no_items roads (i ∷ is) b w x view none = let no : suc (length (all_named is))
     ap (λ (y : Registered). length y.kept.content.paths) view ∙ none in absurd cc
 
 module _ (roads later : RoadMap) (is : List Item) (b : Option Batch) (w : Tally) (x : Registered) (e : Edit)
-    (view : of_parts roads is b w ≡ x) (none : x.kept.batch ≡ None) (right : IsRegister roads is b) (place : HasPlace e)
+    (view : of_parts roads is b w ≡ x) (none : x.kept.batch ≡ None) (right : IsRegister roads is b) (place : HasCoord e)
     (taken : edited (map_of roads) e ≡ Ok (map_of later)) (bare : is ≡ []) where
   none_remade : AreRemade (map_of later) is is
   none_remade = subst (λ (js : List Item). AreRemade (map_of later) js js) (sym bare) refl
@@ -185,9 +186,9 @@ module _ (roads later : RoadMap) (is : List Item) (b : Option Batch) (w : Tally)
   none_reported : Reported is is []
   none_reported = subst (λ (js : List Item). Reported js js []) (sym bare) refl
 
-  none_concerned : CountIs (IsConcerned (map_of roads) (touched_nodes (map_of roads) e) (touched_lines e)) is 0
-  none_concerned =
-      subst (λ (js : List Item). CountIs (IsConcerned (map_of roads) (touched_nodes (map_of roads) e) (touched_lines e))
+  none_affected : CountIs (IsAffected (map_of roads) (touched_nodes (map_of roads) e) (touched_lines e)) is 0
+  none_affected =
+      subst (λ (js : List Item). CountIs (IsAffected (map_of roads) (touched_nodes (map_of roads) e) (touched_lines e))
       js 0) (sym bare) refl
 
   pub bare_keeps : IsRegister later is b
@@ -195,9 +196,10 @@ module _ (roads later : RoadMap) (is : List Item) (b : Option Batch) (w : Tally)
       edit_keeps roads later is is b w x e [] view none right place taken (touched_nodes (map_of roads) e)
       (touched_lines e) (changes_of (map_of roads) e) (λ v. refl) (λ y. refl) refl none_remade refl none_reported
 
-  pub bare_done : (q : Reply) → reply_of q ≡ told.Paths [] → Answered x (Make (On_map e)) (Ok q) (of_parts later is b w)
+  pub bare_done : (q : Reply) → reply_of q ≡ returned.Paths [] →
+      Answered x (Make (On_map e)) (Ok q) (of_parts later is b w)
   bare_done q says =
       edit_done roads later is is b w x e [] view none right place taken (touched_nodes (map_of roads) e)
       (touched_lines e) (changes_of (map_of roads) e) (λ v. refl) (λ y. refl) refl none_remade refl none_reported
-      w q 0 says none_concerned (λ few. sym (add-zero _)) (omega arith)
+      w q 0 says none_affected (λ few. sym (add-zero _)) (omega arith)
       (record { searches = omega arith; settled = omega arith; spared = omega arith })

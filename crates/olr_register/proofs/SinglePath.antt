@@ -10,7 +10,7 @@ use Rattle.olr_commands.specs.State as state
 use Rattle.olr_commands.specs.State.{Named, Content, IsContent, same_name, path_named, has_path, with_path, Fault}
 use Rattle.olr_commands.specs.State.{Path_exists, No_path, Bad_path, when, Add_path, Set_path, Drop_path, with_change}
 use Rattle.olr_commands.specs.State.{at_once, Make}
-use Rattle.olr_commands.specs.Reply as told
+use Rattle.olr_commands.specs.Reply as returned
 use Rattle.olr_commands.specs.Reply.{entry, may_want}
 use Rattle.olr_commands.specs.Words.{reply_of, command_fault_of}
 use Rattle.olr_commands.specs.declared.reply.Reply.{Reply}
@@ -26,9 +26,9 @@ use Rattle.olr_register.specs.Sparing.{NoneFalls}
 use Rattle.olr_register.specs.declared.batch.Batch.{Batch}
 use Rattle.olr_register.proofs.Tallies.{Tally, of_parts}
 use Rattle.olr_register.proofs.Listed.{names_add, names_set, names_drop, made_add, made_set, made_drop}
-use Rattle.olr_register.proofs.Rising.{tallied_add, tallied_set, tallied_drop}
-use Rattle.olr_register.proofs.Told.{reported_add, reported_set, reported_drop}
-use Rattle.olr_register.proofs.Singles.{accepted_now, told_now, lacks_now, closed_by, is_closed}
+use Rattle.olr_register.proofs.Counts.{tallied_add, tallied_set, tallied_drop}
+use Rattle.olr_register.proofs.Reported.{reported_add, reported_set, reported_drop}
+use Rattle.olr_register.proofs.Singles.{accepted_now, reported_now, lacks_now, closed_by, is_closed}
 
 -- out of memory, or lines that are no path
 abbrev pub IsPathFault : List ℕ → CommandFault → Type 0
@@ -50,13 +50,14 @@ pub add_exists : (x : Registered) (name : List ℕ) (path : Path) (f : CommandFa
     has_path x.kept.content name ≡ true → command_fault_of f ≡ Path_exists →
     Answered x (Make (Add_path name path)) (Err f) x
 add_exists x name path f none taken says =
-    told_now x (Add_path name path) Path_exists f none (when_holds (has_path x.kept.content name) Path_exists _ taken)
+    reported_now x (Add_path name path) Path_exists f none (when_holds (has_path x.kept.content name) Path_exists _
+    taken)
     says
 
 pub add_refused : (x : Registered) (name : List ℕ) (path : Path) (f : CommandFault) → x.kept.batch ≡ None →
     has_path x.kept.content name ≡ false → IsPathFault path.lines f → Answered x (Make (Add_path name path)) (Err f) x
 add_refused x name path f none free (inr h) =
-    told_now x (Add_path name path) Bad_path f none (when_not (has_path x.kept.content name) Path_exists _ free
+    reported_now x (Add_path name path) Bad_path f none (when_not (has_path x.kept.content name) Path_exists _ free
     ∙ when_holds (not (is_path path.lines)) Bad_path _ (ap not h.1)) (ap command_fault_of h.0)
 add_refused x name path f none free (inl h) =
     lacks_now x (Add_path name path) f none refl
@@ -68,13 +69,13 @@ pub set_unknown : (x : Registered) (name : List ℕ) (path : Path) (f : CommandF
     has_path x.kept.content name ≡ false → command_fault_of f ≡ No_path →
     Answered x (Make (Set_path name path)) (Err f) x
 set_unknown x name path f none free says =
-    told_now x (Set_path name path) No_path f none
+    reported_now x (Set_path name path) No_path f none
     (when_holds (not (has_path x.kept.content name)) No_path _ (ap not free)) says
 
 pub set_refused : (x : Registered) (name : List ℕ) (path : Path) (f : CommandFault) → x.kept.batch ≡ None →
     has_path x.kept.content name ≡ true → IsPathFault path.lines f → Answered x (Make (Set_path name path)) (Err f) x
 set_refused x name path f none taken (inr h) =
-    told_now x (Set_path name path) Bad_path f none
+    reported_now x (Set_path name path) Bad_path f none
     (when_not (not (has_path x.kept.content name)) No_path _ (ap not taken)
     ∙ when_holds (not (is_path path.lines)) Bad_path _ (ap not h.1)) (ap command_fault_of h.0)
 set_refused x name path f none taken (inl h) =
@@ -86,7 +87,8 @@ set_refused x name path f none taken (inl h) =
 pub drop_unknown : (x : Registered) (name : List ℕ) (f : CommandFault) → x.kept.batch ≡ None →
     has_path x.kept.content name ≡ false → command_fault_of f ≡ No_path → Answered x (Make (Drop_path name)) (Err f) x
 drop_unknown x name f none free says =
-    told_now x (Drop_path name) No_path f none (when_holds (not (has_path x.kept.content name)) No_path _ (ap not free))
+    reported_now x (Drop_path name) No_path f none (when_holds (not (has_path x.kept.content name)) No_path _
+    (ap not free))
     says
 
 -- ---- accepted
@@ -116,7 +118,7 @@ module _ (roads : RoadMap) (is : List Item) (b : Option Batch) (w : Tally) (x : 
   before = record { map = map_of roads; paths = all_named is }
 
   keeps : (c : state.Change) (js : List Item) →
-      with_change before c ≡ Ok (record { map = map_of roads; paths = all_named js }) → state.HasPlaces (Make c) →
+      with_change before c ≡ Ok (record { map = map_of roads; paths = all_named js }) → state.HasCoords (Make c) →
       AreEncodings (map_of roads) js → IsRegister roads js b
   keeps c js is_that places at_once =
       is_closed roads js b was_closed
@@ -140,7 +142,7 @@ module _ (roads : RoadMap) (is : List Item) (b : Option Batch) (w : Tally) (x : 
       (keeps (Drop_path name) list_without (is_dropped taken) tt (made_drop (map_of roads) is name was_right.made))
 
   pub drop_done : (js : List Item) (q : Reply) → has_path x.kept.content name ≡ true → js ≡ list_without →
-      reply_of q ≡ told.Paths [] → Answered x (Make (Drop_path name)) (Ok q) (of_parts roads js b w)
+      reply_of q ≡ returned.Paths [] → Answered x (Make (Drop_path name)) (Ok q) (of_parts roads js b w)
   drop_done js q taken same says =
       subst (λ (ks : List Item). Answered x (Make (Drop_path name)) (Ok q) (of_parts roads ks b w)) (sym same)
       (reach roads is list_without b w w x (Make (Drop_path name)) q view was_closed
@@ -177,8 +179,8 @@ module _ (roads : RoadMap) (is : List Item) (b : Option Batch) (w : Tally) (x : 
         (keeps (Add_path name path) list_added (is_added free) tt
         (made_add (map_of roads) is name path m was_right.made encoded))
 
-    pub add_done : (target : Path) (js : List Item) (u : Tally) (q : Reply) (es : List told.Entry) → path ≡ target →
-        has_path x.kept.content name ≡ false → js ≡ list_added → reply_of q ≡ told.Paths es →
+    pub add_done : (target : Path) (js : List Item) (u : Tally) (q : Reply) (es : List returned.Entry) → path ≡ target →
+        has_path x.kept.content name ≡ false → js ≡ list_added → reply_of q ≡ returned.Paths es →
         es ≡ entry name m.answer ∷ []
         → (w.work.encodings + 1 < 2 ^ 64 → u.work.encodings ≡ w.work.encodings + 1)
         → w.work.searches ≤ u.work.searches → w.work.settled ≤ u.work.settled → u.spared ≡ w.spared →
@@ -212,8 +214,8 @@ module _ (roads : RoadMap) (is : List Item) (b : Option Batch) (w : Tally) (x : 
         (keeps (Set_path name path) list_set (is_set taken) tt
         (made_set (map_of roads) is name path m was_right.made encoded))
 
-    pub set_done : (target : Path) (js : List Item) (u : Tally) (q : Reply) (es : List told.Entry) → path ≡ target →
-        has_path x.kept.content name ≡ true → js ≡ list_set → reply_of q ≡ told.Paths es
+    pub set_done : (target : Path) (js : List Item) (u : Tally) (q : Reply) (es : List returned.Entry) → path ≡ target →
+        has_path x.kept.content name ≡ true → js ≡ list_set → reply_of q ≡ returned.Paths es
         → ((answer_in is name ≡ Some m.answer) × (es ≡ []))
         ⊎ ((answer_in is name ≢ Some m.answer) × (es ≡ entry name m.answer ∷ []))
         → (w.work.encodings + 1 < 2 ^ 64 → u.work.encodings ≡ w.work.encodings + 1)

@@ -10,36 +10,36 @@ use Rattle.olr_spec.specs.Map as map_faults
 use Rattle.olr_commands.specs.State as state
 use Rattle.olr_commands.specs.State.{Content, IsContent, path_named, has_path, Fault, Map_fault, Change, On_map}
 use Rattle.olr_commands.specs.State.{with_map, with_change, at_once, Make, State, step}
-use Rattle.olr_commands.specs.Reply as told
-use Rattle.olr_commands.specs.Reply.{Differences, IsReply, IsOutcome, IsRefusal, Told, Lacks, takes_memory, may_want}
+use Rattle.olr_commands.specs.Reply as returned
+use Rattle.olr_commands.specs.Reply.{Differences, IsReply, IsOutcome, IsRefusal, ByState, Lacks, takes_memory, may_want}
 use Rattle.olr_commands.specs.Words.{reply_of, command_fault_of, map_fault_of}
 use Rattle.olr_commands.specs.declared.reply.Reply.{Reply}
 use Rattle.olr_commands.specs.declared.fault.CommandFault.{CommandFault}
 use Rattle.olr_paths.specs.Items.{Item, AreEncodings, all_named}
-use Rattle.olr_register.specs.Kept.{StandsIn}
+use Rattle.olr_register.specs.RegisterState.{RepresentsBatch}
 use Rattle.olr_register.specs.Registered.{Registered}
 use Rattle.olr_register.specs.Holding.{kept_of, IsRegister}
 use Rattle.olr_register.specs.Answering.{Answered}
 use Rattle.olr_register.specs.declared.batch.Batch.{Batch}
 use Rattle.olr_register.proofs.Tallies.{Tally, Tallied, of_parts}
-use Rattle.olr_register.proofs.Rising.{one_state}
+use Rattle.olr_register.proofs.Counts.{one_state}
 use Rattle.olr_register.proofs.Outcomes.{answered_refused}
 
 -- ---- outcomes of a change with no batch open
 
-pub accepted_now : (old new : Registered) (x : Change) (q : Reply) (es : List told.Entry) → old.kept.batch ≡ None →
+pub accepted_now : (old new : Registered) (x : Change) (q : Reply) (es : List returned.Entry) → old.kept.batch ≡ None →
     new.kept.batch ≡ None → with_change old.kept.content x ≡ Ok new.kept.content
-    → reply_of q ≡ told.Paths es → Differences old.kept.content new.kept.content es → Tallied old (Make x) new →
+    → reply_of q ≡ returned.Paths es → Differences old.kept.content new.kept.content es → Tallied old (Make x) new →
     Answered old (Make x) (Ok q) new
 accepted_now old new x q es was later is says differences tallied = record {
-  outcome = λ s stands.
+  outcome = λ s represents.
       let before : State = record { content = old.kept.content; batch = None } in
       let after : State = record { content = new.kept.content; batch = None } in
       let there : IsOutcome before (Make x) (Ok (reply_of q)) after =
-      (ap at_once is, subst (λ (r : told.Reply). IsReply before (Make x) after r) (sym says) differences) in (
+      (ap at_once is, subst (λ (r : returned.Reply). IsReply before (Make x) after r) (sym says) differences) in (
         after,
-        (refl, subst (λ b. StandsIn new.kept.content b None) (sym later) tt),
-        subst (λ (u : State). IsOutcome u (Make x) (Ok (reply_of q)) after) (sym (one_state old.kept s was stands))
+        (refl, subst (λ b. RepresentsBatch new.kept.content b None) (sym later) tt),
+        subst (λ (u : State). IsOutcome u (Make x) (Ok (reply_of q)) after) (sym (one_state old.kept s was represents))
             there,
       );
   counted = tallied.counted;
@@ -49,12 +49,12 @@ accepted_now old new x q es was later is says differences tallied = record {
   unchanged = tt;
 }
 
-pub told_now : (old : Registered) (x : Change) (g : Fault) (f : CommandFault) → old.kept.batch ≡ None →
+pub reported_now : (old : Registered) (x : Change) (g : Fault) (f : CommandFault) → old.kept.batch ≡ None →
     with_change old.kept.content x ≡ Err g → command_fault_of f ≡ g → Answered old (Make x) (Err f) old
-told_now old x g f was is says =
-    answered_refused old old (Make x) f refl (λ s stands.
-    subst (λ (u : State). IsRefusal u (Make x) (command_fault_of f)) (sym (one_state old.kept s was stands))
-    (Told (ap at_once is ∙ ap (λ (h : Fault). Err h) (sym says))))
+reported_now old x g f was is says =
+    answered_refused old old (Make x) f refl (λ s represents.
+    subst (λ (u : State). IsRefusal u (Make x) (command_fault_of f)) (sym (one_state old.kept s was represents))
+    (ByState (ap at_once is ∙ ap (λ (h : Fault). Err h) (sym says))))
 
 pub lacks_now : (old : Registered) (x : Change) (f : CommandFault) → old.kept.batch ≡ None →
     takes_memory (Make x) None (length old.kept.content.paths == 0) ≡ true →
@@ -62,8 +62,8 @@ pub lacks_now : (old : Registered) (x : Change) (f : CommandFault) → old.kept.
     command_fault_of f ≡ state.Memory → Answered old (Make x) (Err f) old
 lacks_now old x f was takes may says =
     answered_refused old old (Make x) f refl
-    (λ s stands. subst (λ (u : State). IsRefusal u (Make x) (command_fault_of f))
-    (sym (one_state old.kept s was stands)) (Lacks says (λ i. takes i && may i)))
+    (λ s represents. subst (λ (u : State). IsRefusal u (Make x) (command_fault_of f))
+    (sym (one_state old.kept s was represents)) (Lacks says (λ i. takes i && may i)))
 
 -- a register that is unchanged
 pub as_before : (old new : Registered) (x : Change) (f : CommandFault) → new ≡ old → Answered old (Make x) (Err f) old →
@@ -111,13 +111,13 @@ still_closed roads later is js b none same listed right =
 
 -- ---- faults of the map
 
-pub told_by_map : (g : MapFault) → map_fault_of (edits.edit_fault_of g) ≡ Map_fault g
-told_by_map map_faults.Node_exists = refl
-told_by_map map_faults.No_node = refl
-told_by_map map_faults.Line_exists = refl
-told_by_map map_faults.No_line = refl
-told_by_map map_faults.Node_in_use = refl
-told_by_map map_faults.Bad_shape = refl
+pub reported_by_map : (g : MapFault) → map_fault_of (edits.edit_fault_of g) ≡ Map_fault g
+reported_by_map map_faults.Node_exists = refl
+reported_by_map map_faults.No_node = refl
+reported_by_map map_faults.Line_exists = refl
+reported_by_map map_faults.No_line = refl
+reported_by_map map_faults.Node_in_use = refl
+reported_by_map map_faults.Bad_shape = refl
 
 -- ---- whether a path has a name
 

@@ -8,17 +8,17 @@ use Rattle.base64.specs.declared.decode.DecodeError.{DecodeError}
 use Rattle.base64.proofs.EngineFacts.{decode_of-encode_of}
 use Rattle.olr_spec.specs.Reference.{Reference}
 use Rattle.olr_spec.specs.Bytes as spec
-use Rattle.olr_spec.specs.Bytes.{spelling, v3_fault}
-use Rattle.olr_spec.proofs.ReadLemmas.{spelled_passes}
+use Rattle.olr_spec.specs.Bytes.{reference_bytes, v3_fault}
+use Rattle.olr_spec.proofs.ReadLemmas.{encoded_passes}
 use Rattle.olr_binary.specs.declared.faults.V3Fault.TheVariants.{Length, Status, Flags, Reserved, Memory}
 use Rattle.olr_binary.specs.declared.faults.TextFault.{TextFault}
 use Rattle.olr_binary.specs.declared.faults.TextFault.TheVariants.{Bytes, NotBase64}
 use Rattle.olr_binary.specs.Faults.{IsFaultOf}
 use Rattle.olr_binary.specs.Text.{IsTextOf, text_of}
-use Rattle.olr_binary.proofs.SpelledLemmas.{spelling-bytes}
+use Rattle.olr_binary.proofs.EncodedLemmas.{reference_bytes-bytes}
 use Rattle.olr_commands.specs.State as state
 use Rattle.olr_commands.specs.State.{text_fault, bytes_fault}
-use Rattle.olr_commands.specs.Reply as told
+use Rattle.olr_commands.specs.Reply as returned
 use Rattle.olr_commands.specs.Reply.{Explained}
 use Rattle.olr_commands.specs.Words.{reply_of, command_fault_of, text_fault_of}
 use Rattle.olr_commands.specs.declared.reply.Reply.{Reply}
@@ -35,19 +35,19 @@ decoded_none : (text : List ℕ) (d : DecodeError) → decode_of standard text �
 unfolding decoded_of
 decoded_none text d e = ap result_ok e
 
-decoded_text : (r : Reference) (text : List ℕ) → IsTextOf r text → decoded_of standard text ≡ Some (spelling r)
+decoded_text : (r : Reference) (text : List ℕ) → IsTextOf r text → decoded_of standard text ≡ Some (reference_bytes r)
 unfolding text_of
 decoded_text r text is =
-    decoded_ok text (spelling r) (ap (decode_of standard) is.1
-    ∙ decode_of-encode_of standard (spelling r) refl (spelling-bytes r is.0))
+    decoded_ok text (reference_bytes r) (ap (decode_of standard) is.1
+    ∙ decode_of-encode_of standard (reference_bytes r) refl (reference_bytes-bytes r is.0))
 
-pub explain_text : (x : Registered) (text : List ℕ) (r : Reply) (q : Reference) → reply_of r ≡ told.Fields q →
+pub explain_text : (x : Registered) (text : List ℕ) (r : Reply) (q : Reference) → reply_of r ≡ returned.Fields q →
     IsTextOf q text → Answered x (state.Explain text) (Ok r) x
 explain_text x text r q is of =
     let bytes = decoded_text q text of in
     let sound : text_fault text ≡ None =
-    ap bytes_fault bytes ∙ ap (option_map (λ (f : spec.V3Fault). state.Not_v3 f)) (spelled_passes q of.0) in
-    explain_answered x text r q is sound (spelling q, bytes, (of.0, refl))
+    ap bytes_fault bytes ∙ ap (option_map (λ (f : spec.V3Fault). state.Not_v3 f)) (encoded_passes q of.0) in
+    explain_answered x text r q is sound (reference_bytes q, bytes, (of.0, refl))
 
 bytes_refused : (x : Registered) (text b : List ℕ) (g : spec.V3Fault) (f : CommandFault) →
     decode_of standard text ≡ Ok b → v3_fault b ≡ Some g → command_fault_of f ≡ state.Not_a_reference (state.Not_v3 g)

@@ -1,22 +1,22 @@
 -- What a register keeps, and what is true of it.
 --     AreEditsNoted M N T X C      what is noted of edits that lead from M to N
 --     IsHeld, IsRegister      what is true of an open batch, and of map, list and batch
---     IsNumbered M is near      the numbers are right on the map, and they are those of all looks of the list.
+--     HasBounds M is near      the bounds are right on the map, and they are those of all coverage queries of the list.
 --     IsKeptRight      what is true of the whole
 use Rattle.std.specs.Prelude.{ℕ, ◌≤◌, List, map, Contains, Option, Some, None, is_none, IfSome, IsTrue}
 use Rattle.olr_spec.specs.Map.{Map, has}
 use Rattle.olr_spec.specs.Detours.{ChangedLine, Difference}
-use Rattle.olr_spec.specs.Looks.{Look}
+use Rattle.olr_spec.specs.Queries.{CoverageQuery}
 use Rattle.olr_map.specs.RoadMaps.{map_of, CanUndoAll, map_before}
 use Rattle.olr_map.specs.declared.road_map.RoadMap.{RoadMap}
-use Rattle.olr_near.specs.declared.nearness.Nearness.{Nearness}
+use Rattle.olr_near.specs.declared.distance_bounds.DistanceBounds.{DistanceBounds}
 use Rattle.olr_commands.specs.State.{IsContent, full}
 use Rattle.olr_paths.specs.Items.{Item, AreEncodings, AreEncodingsIfAny, all_named}
 use Rattle.olr_paths.specs.Changes.{Follows}
-use Rattle.olr_paths.specs.Beginning.{Begins, AreNumbered}
+use Rattle.olr_paths.specs.Origins.{Begins, AreBoundsOf}
 use Rattle.olr_paths.specs.Laying.{under_overlay}
 use Rattle.olr_paths.specs.Touching.{nodes_of, lines_of, changed_of}
-use Rattle.olr_register.specs.Kept as kept
+use Rattle.olr_register.specs.RegisterState as kept
 use Rattle.olr_register.specs.declared.batch.Batch.{Batch}
 
 -- ---- in terms of the definitions of commands, over the register's list
@@ -43,7 +43,7 @@ abbrev pub option_batch : RoadMap → List Item → Option Batch → Option kept
 option_batch roads is None = None
 option_batch roads is (Some b) = Some (batch_of roads is b)
 
-abbrev pub kept_of : RoadMap → List Item → Option Batch → kept.Kept
+abbrev pub kept_of : RoadMap → List Item → Option Batch → kept.RegisterState
 kept_of roads is batch =
     record {
       content = record { map = map_kept roads batch; paths = all_named is };
@@ -66,16 +66,16 @@ pub record IsHeld (roads : RoadMap) (before : List Item) (b : Batch) : Type 0 wh
       (changed_of b.touched)
   pub made : AreEncodingsIfAny (map_before roads b.log) (under_overlay before b.overlay)
   pub follows : Follows before (under_overlay before b.overlay)
-  pub begins : (l : Look) → Begins (under_overlay before b.overlay) l → Begins before l
+  pub begins : (l : CoverageQuery) → Begins (under_overlay before b.overlay) l → Begins before l
 
 pub record IsRegister (roads : RoadMap) (is : List Item) (batch : Option Batch) : Type 0 where
   pub content : IsContent (record { map = map_kept roads batch; paths = all_named is })
   pub made : AreEncodings (map_kept roads batch) is
   pub held : IfSome batch (IsHeld roads is)
 
-abbrev pub IsNumbered : Map → List Item → Nearness → Type 0
-IsNumbered M is near = AreNumbered M near is
+abbrev pub HasBounds : Map → List Item → DistanceBounds → Type 0
+HasBounds M is near = AreBoundsOf M near is
 
-pub record IsKeptRight (roads : RoadMap) (is : List Item) (batch : Option Batch) (near : Nearness) : Type 0 where
+pub record IsKeptRight (roads : RoadMap) (is : List Item) (batch : Option Batch) (near : DistanceBounds) : Type 0 where
   pub register : IsRegister roads is batch
-  pub numbered : IsNumbered (map_kept roads batch) is near
+  pub bounded : HasBounds (map_kept roads batch) is near

@@ -1,6 +1,6 @@
-pub mod Kept
+pub mod RegisterState
 pub mod Registered
 pub mod Holding
 pub mod Answering
-pub mod Given
+pub mod HoldsChange
 pub mod Sparing

@@ -16,10 +16,10 @@ use Rattle.olr_commands.specs.State.{State, Content, Named, no_content, path_nam
 use Rattle.olr_commands.specs.Reply.{Outcome, IsOutcome}
 use Rattle.olr_commands.specs.Counts.{Raises}
 use Rattle.olr_paths.specs.Items.{Made, IsEncodingOf}
-use Rattle.olr_register.specs.Kept.{Kept, Stands, coded_kept}
+use Rattle.olr_register.specs.RegisterState.{RegisterState, Represents, coded_kept}
 
 pub record Registered : Type 0 where
-  pub kept : Kept
+  pub kept : RegisterState
   pub work : Work
   pub spared : ℕ
 
@@ -30,7 +30,8 @@ coded_work =
 
 abbrev pub coded_registered : Coded Registered
 coded_registered =
-    code_by (Kept × (Work × ℕ)) (coded× coded_kept (coded× coded_work coded_ℕ)) (λ r. (r.kept, (r.work, r.spared)))
+    code_by (RegisterState × (Work × ℕ)) (coded× coded_kept (coded× coded_work coded_ℕ))
+    (λ r. (r.kept, (r.work, r.spared)))
     (λ t. record { kept = t.0; work = t.1.0; spared = t.1.1 }) (λ _. refl)
 
 -- no paths, an empty map, and counts of 0
@@ -58,10 +59,10 @@ abbrev pub AllPublished : Content → List (List ℕ × Option Made) → Type 0
 AllPublished c xs = HaveEncodings c.map c.paths xs
 
 abbrev pub Applied : Registered → Command → Outcome → Registered → Type 0
-Applied old c o new = (s : State) → Stands old.kept s → (t : State) × Stands new.kept t × IsOutcome s c o t
+Applied old c o new = (s : State) → Represents old.kept s → (t : State) × Represents new.kept t × IsOutcome s c o t
 
 -- for each two states of such a step: the number of encodings by which it raises the count, unless 64 bits overflow
 abbrev pub Counted : Registered → Command → Registered → Type 0
 Counted old c new =
-    (s t : State) → Stands old.kept s → Stands new.kept t → (n : ℕ) × Raises s c t n
+    (s t : State) → Represents old.kept s → Represents new.kept t → (n : ℕ) × Raises s c t n
     × (old.work.encodings + n < 2 ^ 64 → new.work.encodings ≡ old.work.encodings + n)

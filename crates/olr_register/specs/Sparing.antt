@@ -7,7 +7,7 @@
 use Rattle.std.specs.Prelude.{◌≡◌, ℕ, ◌+◌, ◌≤◌, Bool, true, false}
 use Rattle.olr_commands.specs.State.{State, On_map, Add_path, Set_path, Command, Make, Commit}
 use Rattle.olr_commands.specs.Counts.{Raises}
-use Rattle.olr_register.specs.Kept.{Stands}
+use Rattle.olr_register.specs.RegisterState.{Represents}
 use Rattle.olr_register.specs.Registered.{Registered}
 
 abbrev pub encodes : Bool → Command → Bool
@@ -20,7 +20,8 @@ encodes _ _ = false
 -- by at most as many as the command counts
 abbrev pub SparesAtMost : Registered → Command → Registered → Type 0
 SparesAtMost old c new =
-    (s t : State) → Stands old.kept s → Stands new.kept t → (n : ℕ) × Raises s c t n × (new.spared ≤ old.spared + n)
+    (s t : State) → Represents old.kept s → Represents new.kept t → (n : ℕ) × Raises s c t n
+    × (new.spared ≤ old.spared + n)
 
 pub record NoneFalls (old new : Registered) : Type 0 where
   pub searches : old.work.searches ≤ new.work.searches

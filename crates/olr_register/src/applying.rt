@@ -4,7 +4,7 @@ ghost use Rattle.olr_commands.specs.State.{State, start_state};
 ghost use Rattle.olr_commands.specs.Reply.{IsOutcome};
 ghost use Rattle.olr_commands.specs.History.{History, Headline};
 ghost use Rattle.olr_commands.specs.Words.{command_of, outcome_of};
-ghost use Rattle.olr_register.specs.Kept.{Stands};
+ghost use Rattle.olr_register.specs.RegisterState.{Represents};
 
 use crate::paths::Offsets;
 use crate::register::Register;
@@ -53,9 +53,10 @@ impl Register {
         }
     }
 
-    /// Carries out a command. In an open batch, edits and path commands are held. Outside a batch they are accepted at once,
-    /// and the reply has the paths that are new or have another answer than before. After a fault, map, paths, answers, texts,
-    /// counts and an open batch are unchanged. `Memory` is returned only if no fault takes precedence over it.
+    /// Carries out a command. In an open batch, edits and path commands are held. Outside a batch they are accepted at
+    /// once, and the reply has the paths that are new or have another answer than before. After a fault, map, paths,
+    /// answers, texts, counts and an open batch are unchanged. `Memory` is returned only if no fault takes precedence
+    /// over it.
     pub fn apply(&mut self, command: Command) -> Result<Reply, CommandFault>
         ensures outcome { Applied self.old (command_of command) (outcome_of result) self.new }
         ensures counted { OnOk result (Counted self.old (command_of command) self.new) }
@@ -86,9 +87,9 @@ pub fn replay(
     alloc: Global,
     commands: Vec<Command>,
 ) -> Result<(Register, Vec<Result<Reply, CommandFault>>), AllocError>
-    ensures history { IfOk result (λ r. (t : State) × Stands r.0.kept t
+    ensures history { IfOk result (λ r. (t : State) × Represents r.0.kept t
         × History start_state (map command_of commands.items) (map outcome_of r.1.items) t) }
-    ensures headline { IfOk result (λ r. (t : State) × Stands r.0.kept t
+    ensures headline { IfOk result (λ r. (t : State) × Represents r.0.kept t
         × Headline IsOutcome (λ c. Some c) start_state (map command_of commands.items) (map outcome_of r.1.items) t) }
 {
     let mut register = Register::new(alloc);

@@ -4,7 +4,7 @@ use crate::edits::line_changed;
 use crate::paths::{Offsets, path_of};
 use olr_commands::{CommandFault, Reply};
 use olr_map::{Edit, LineId, RoadMap, UndoLog, judge};
-use olr_paths::{Listing, Overlay, Touched};
+use olr_paths::{ChangeSet, Overlay, PathList};
 use std::alloc::Global;
 
 /// The greatest number of changes in a batch.
@@ -20,7 +20,7 @@ pub struct Batch {
     /// The number of changes that it holds.
     pub(crate) count: u32,
     /// What its edits touched.
-    pub(crate) touched: Touched,
+    pub(crate) touched: ChangeSet,
 }
 
 impl Batch {
@@ -33,7 +33,7 @@ impl Batch {
     ghost use Rattle.olr_paths.specs.Items.{Item, items, all_named};
     ghost use Rattle.olr_paths.specs.Laying.{under_overlay};
     ghost use Rattle.olr_register.specs.Holding.{IsHeld, batch_of};
-    ghost use Rattle.olr_register.specs.Given.{Given, path_by};
+    ghost use Rattle.olr_register.specs.HoldsChange.{HoldsChange, path_by};
 
     /// Whether it holds the greatest number of changes.
     fn is_full(&self) -> bool
@@ -46,7 +46,8 @@ impl Batch {
     pub(crate) fn edit(&mut self, roads: &mut RoadMap, edit: Edit) -> Result<Reply, CommandFault>
         requires { CanUndoAll roads.old self.old.log }
         ensures given { (is : List Item)
-            → Given (batch_of roads.old is self.old) (On_map (edit_of edit)) result (batch_of roads.new is self.new) }
+            → HoldsChange (batch_of roads.old is self.old) (On_map (edit_of edit)) result
+            (batch_of roads.new is self.new) }
         ensures held { (before : List Item) → IsMap (map_before roads.old self.old.log)
             → IsHeld roads.old before self.old → IsHeld roads.new before self.new }
         ensures before { map_before roads.new self.new.log ≡ map_before roads.old self.old.log }
@@ -54,17 +55,17 @@ impl Batch {
         if self.is_full() {
             return Err(CommandFault::BatchFull);
         }
-        let judged = match judge(roads, &edit) {
-            Ok(judged) => judged,
+        let plan = match judge(roads, &edit) {
+            Ok(plan) => plan,
             Err(fault) => return Err(CommandFault::Map(fault)),
         };
         if self.touched.reserve().is_err() {
             return Err(CommandFault::Memory);
         }
-        match roads.make_into(edit, &judged, &mut self.log) {
+        match roads.make_into(edit, &plan, &mut self.log) {
             Ok(()) => {
                 self.touched
-                    .note(judged.nodes, judged.line, line_changed(&judged));
+                    .note(plan.nodes, plan.line, line_changed(&plan));
                 self.count += 1;
                 Ok(Reply::Held(self.count))
             }
@@ -76,12 +77,12 @@ impl Batch {
     pub(crate) fn add_path(
         &mut self,
         alloc: Global,
-        list: &Listing,
+        list: &PathList,
         name: String,
         lines: Vec<LineId>,
         offsets: Offsets,
     ) -> Result<Reply, CommandFault>
-        ensures given { (roads : Roads) → Given (batch_of roads (items list.now) self.old)
+        ensures given { (roads : Roads) → HoldsChange (batch_of roads (items list.now) self.old)
             (Add_path (string_bytes name) (path_by lines.items offsets)) result
             (batch_of roads (items list.now) self.new) }
         ensures held { (roads : Roads) → IsHeld roads (items list.now) self.old →
@@ -108,13 +109,13 @@ impl Batch {
     pub(crate) fn set_path(
         &mut self,
         alloc: Global,
-        list: &Listing,
+        list: &PathList,
         name: &str,
         lines: Vec<LineId>,
         offsets: Offsets,
     ) -> Result<Reply, CommandFault>
         requires { NamesDiffer (all_named (under_overlay (items list.now) self.old.overlay)) }
-        ensures given { (roads : Roads) → Given (batch_of roads (items list.now) self.old)
+        ensures given { (roads : Roads) → HoldsChange (batch_of roads (items list.now) self.old)
             (Set_path name.now (path_by lines.items offsets)) result (batch_of roads (items list.now) self.new) }
         ensures held { (roads : Roads) → IsHeld roads (items list.now) self.old →
             IsHeld roads (items list.now) self.new }
@@ -140,11 +141,12 @@ impl Batch {
     pub(crate) fn drop_path(
         &mut self,
         alloc: Global,
-        list: &Listing,
+        list: &PathList,
         name: &str,
     ) -> Result<Reply, CommandFault>
         requires { NamesDiffer (all_named (under_overlay (items list.now) self.old.overlay)) }
-        ensures given { (roads : Roads) → Given (batch_of roads (items list.now) self.old) (Drop_path name.now) result
+        ensures given { (roads : Roads) → HoldsChange (batch_of roads (items list.now) self.old) (Drop_path name.now)
+            result
             (batch_of roads (items list.now) self.new) }
         ensures held { (roads : Roads) → IsHeld roads (items list.now) self.old →
             IsHeld roads (items list.now) self.new }

@@ -2,15 +2,15 @@
 ghost use Rattle.std.specs.Prelude.{string_bytes, IsSome};
 ghost use Rattle.olr_map.specs.Edits.{edit_of};
 ghost use Rattle.olr_commands.specs.State.{Make, On_map, Add_path, Set_path, Drop_path, Begin, Commit, Abort};
-ghost use Rattle.olr_register.specs.Given.{path_by};
+ghost use Rattle.olr_register.specs.HoldsChange.{path_by};
 
 use crate::batch::Batch;
-use crate::nearing::{ask_near, renumber};
+use crate::nearing::{ask_near, rebuild_bounds};
 use crate::paths::Offsets;
 use crate::register::Register;
 use olr_commands::{CommandFault, Reply};
 use olr_map::{Edit, LineId, UndoLog};
-use olr_paths::{Overlay, Touched};
+use olr_paths::{ChangeSet, Overlay};
 
 impl Register {
     ghost use Rattle.olr_register.specs.Answering.{Answered};
@@ -26,7 +26,7 @@ impl Register {
             log: UndoLog::new(self.alloc),
             overlay: Overlay::new(self.alloc),
             count: 0,
-            touched: Touched::new(self.alloc),
+            touched: ChangeSet::new(self.alloc),
         });
         Ok(Reply::Paths(Vec::new(self.alloc)))
     }
@@ -94,7 +94,8 @@ impl Register {
         result
     }
 
-    /// Accepts all held changes at once, if their number is `count`, and encodes the affected paths. After a fault the batch is
+    /// Accepts all held changes at once, if their number is `count`, and encodes the affected paths. After a fault the
+    /// batch is
     /// still open, and unchanged.
     pub(crate) fn commit(&mut self, count: u32) -> Result<Reply, CommandFault>
         ensures { Answered self.old (Commit count) result self.new }
@@ -115,7 +116,7 @@ impl Register {
             &self.near,
             &mut self.searches,
             &mut self.work,
-            &mut self.kept,
+            &mut self.spared,
         )
         else {
             self.near.forget();
@@ -124,7 +125,7 @@ impl Register {
         };
         let Batch { log, .. } = batch;
         self.roads.keep_all(log);
-        renumber(
+        rebuild_bounds(
             self.alloc,
             &mut self.near,
             &self.roads,

@@ -2,41 +2,42 @@
 ghost use Rattle.std.specs.Prelude.{◌≡◌, ◌==◌, ◌||◌, ℕ, map as list_map, OnOk};
 ghost use Rattle.std.specs.Option.{option_to_list};
 ghost use Rattle.olr_spec.specs.Map.{has};
-ghost use Rattle.olr_map.specs.Judgements.{changes_told};
+ghost use Rattle.olr_map.specs.EditPlans.{planned_changes};
 ghost use Rattle.olr_paths.specs.Touching.{nodes_of, lines_of, change_of, changed_of};
 
-use crate::nearing::{ask_near, renumber};
+use crate::nearing::{ask_near, rebuild_bounds};
 use crate::register::Register;
 use olr_commands::{CommandFault, Reply};
-use olr_map::{Edit, Judged, judge};
-use olr_paths::{ChangedLine, Touched};
+use olr_map::{Edit, EditPlan, judge};
+use olr_paths::{ChangeSet, ChangedLine};
 use std::alloc::AllocError;
 
-/// The line that a judged edit changes: its ends, and the lesser of its lengths before and after. None if the edit is one of
+/// The line that a judged edit changes: its ends, and the lesser of its lengths before and after. None if the edit is
+/// one of
 /// a node.
-pub(crate) fn line_changed(judged: &Judged) -> Option<ChangedLine>
-    ensures { list_map change_of (option_to_list result) ≡ changes_told judged.now }
+pub(crate) fn line_changed(plan: &EditPlan) -> Option<ChangedLine>
+    ensures { list_map change_of (option_to_list result) ≡ planned_changes plan.now }
 {
-    match judged.line {
+    match plan.line {
         Some(_) => Some(ChangedLine {
-            from: judged.nodes.0,
-            to: judged.nodes.1,
-            len: judged.len,
+            from: plan.nodes.0,
+            to: plan.nodes.1,
+            len: plan.len,
         }),
         None => None,
     }
 }
 
 /// Records what a judged edit touches, and nothing else.
-fn note_alone(touched: &mut Touched, judged: &Judged) -> Result<(), AllocError>
+fn note_alone(touched: &mut ChangeSet, plan: &EditPlan) -> Result<(), AllocError>
     ensures nodes { OnOk result
-        ((v : ℕ) → has (nodes_of touched.new) v ≡ ((judged.now.nodes.0 == v) || (judged.now.nodes.1 == v))) }
-    ensures lines { OnOk result ((x : ℕ) → has (lines_of touched.new) x ≡ has (option_to_list judged.now.line) x) }
-    ensures changed { OnOk result (changed_of touched.new ≡ changes_told judged.now) }
+        ((v : ℕ) → has (nodes_of touched.new) v ≡ ((plan.now.nodes.0 == v) || (plan.now.nodes.1 == v))) }
+    ensures lines { OnOk result ((x : ℕ) → has (lines_of touched.new) x ≡ has (option_to_list plan.now.line) x) }
+    ensures changed { OnOk result (changed_of touched.new ≡ planned_changes plan.now) }
 {
     touched.clear();
     touched.reserve()?;
-    touched.note(judged.nodes, judged.line, line_changed(judged));
+    touched.note(plan.nodes, plan.line, line_changed(plan));
     Ok(())
 }
 
@@ -52,11 +53,11 @@ impl Register {
         requires bare { length self.old.kept.content.paths ≡ 0 }
         ensures { Answered self.old (Make (On_map (edit_of edit))) result self.new }
     {
-        let judged = match judge(&self.roads, &edit) {
-            Ok(judged) => judged,
+        let plan = match judge(&self.roads, &edit) {
+            Ok(plan) => plan,
             Err(fault) => return Err(CommandFault::Map(fault)),
         };
-        let Ok(undo) = self.roads.make(edit, &judged) else {
+        let Ok(undo) = self.roads.make(edit, &plan) else {
             return Err(CommandFault::Memory);
         };
         self.roads.keep(undo);
@@ -72,14 +73,14 @@ impl Register {
         if self.len() == 0 {
             return self.edit_bare(edit);
         }
-        let judged = match judge(&self.roads, &edit) {
-            Ok(judged) => judged,
+        let plan = match judge(&self.roads, &edit) {
+            Ok(plan) => plan,
             Err(fault) => return Err(CommandFault::Map(fault)),
         };
-        let Ok(()) = note_alone(&mut self.touched, &judged) else {
+        let Ok(()) = note_alone(&mut self.touched, &plan) else {
             return Err(CommandFault::Memory);
         };
-        let Ok(undo) = self.roads.make(edit, &judged) else {
+        let Ok(undo) = self.roads.make(edit, &plan) else {
             return Err(CommandFault::Memory);
         };
         ask_near(&mut self.near, &self.roads, self.touched.nodes());
@@ -90,7 +91,7 @@ impl Register {
             &self.near,
             &mut self.searches,
             &mut self.work,
-            &mut self.kept,
+            &mut self.spared,
         )
         else {
             self.roads.undo(undo);
@@ -98,7 +99,7 @@ impl Register {
             return Err(CommandFault::Memory);
         };
         self.roads.keep(undo);
-        renumber(
+        rebuild_bounds(
             self.alloc,
             &mut self.near,
             &self.roads,

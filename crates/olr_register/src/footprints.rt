@@ -16,7 +16,8 @@ use olr_route::Work;
 impl Register {
     ghost use Rattle.olr_register.specs.Registered.{PublishedWhole};
 
-    /// What is published of the path of that name, with the traversed nodes and the coverage queries of its encoding on the
+    /// What is published of the path of that name, with the traversed nodes and the coverage queries of its encoding on
+    /// the
     /// map. None if no path has the name. An open batch is ignored.
     pub fn published_of(&self, name: &str) -> Option<&Published>
         ensures { PublishedWhole self.now.kept.content name.now (option_map (λ p. made_of p.now) result) }
@@ -24,9 +25,9 @@ impl Register {
         self.paths.published_of(name)
     }
 
-    /// The footprint of the path of that name, computed on each call: a change of the map that touches none of these nodes and
-    /// no line of the path leaves its answer unchanged. None if no path has the name. While a batch is open the map is that of
-    /// the batch, and the fault is `BatchOpen`; otherwise `Memory` is the only fault.
+    /// The footprint of the path of that name, computed on each call: a change of the map that touches none of these
+    /// nodes and no line of the path leaves its answer unchanged. None if no path has the name. While a batch is open
+    /// the map is that of the batch, and the fault is `BatchOpen`; otherwise `Memory` is the only fault.
     pub fn footprint(&self, name: &str) -> Result<Option<Footprint>, CommandFault>
         ensures open { IsTrue (is_some self.now.kept.batch) → result ≡ Err CommandFault.BatchOpen }
         ensures memory { IfErr result (λ f. IsFalse (is_some self.now.kept.batch) → f ≡ CommandFault.Memory) }

@@ -2,9 +2,9 @@
 ghost use Rattle.std.specs.Prelude.{◌≡◌, ◌⊎◌, IsTrue, IsFalse, OnOk};
 ghost use Rattle.std.specs.Result.{IfOk, IfErr};
 ghost use Rattle.olr_spec.specs.Extension.{is_path};
-ghost use Rattle.olr_register.specs.Given.{path_by};
+ghost use Rattle.olr_register.specs.HoldsChange.{path_by};
 
-use crate::nearing::renumber;
+use crate::nearing::rebuild_bounds;
 use crate::register::Register;
 use olr_commands::{CommandFault, Reply};
 use olr_map::LineId;
@@ -39,10 +39,11 @@ pub(crate) fn path_of(
 impl Register {
     ghost use Rattle.std.specs.Prelude.{◌≡◌, None, string_bytes};
     ghost use Rattle.olr_commands.specs.State.{Make, Add_path, Set_path, Drop_path};
-    ghost use Rattle.olr_register.specs.Given.{path_by};
+    ghost use Rattle.olr_register.specs.HoldsChange.{path_by};
     ghost use Rattle.olr_register.specs.Answering.{Answered};
 
-    /// Encodes a new path and appends it. The faults are `PathExists`, `BadPath` and `Memory`, in this order of precedence.
+    /// Encodes a new path and appends it. The faults are `PathExists`, `BadPath` and `Memory`, in this order of
+    /// precedence.
     pub(crate) fn add_now(
         &mut self,
         name: String,
@@ -68,7 +69,7 @@ impl Register {
         else {
             return Err(CommandFault::Memory);
         };
-        renumber(
+        rebuild_bounds(
             self.alloc,
             &mut self.near,
             &self.roads,
@@ -103,7 +104,7 @@ impl Register {
         else {
             return Err(CommandFault::Memory);
         };
-        renumber(
+        rebuild_bounds(
             self.alloc,
             &mut self.near,
             &self.roads,

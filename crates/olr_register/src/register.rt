@@ -2,8 +2,8 @@
 
 use crate::batch::Batch;
 use olr_map::RoadMap;
-use olr_near::Nearness;
-use olr_paths::{Iter, Listing, Searches, Touched};
+use olr_near::DistanceBounds;
+use olr_paths::{ChangeSet, Iter, PathList, Searches};
 use olr_refs::Answer;
 use olr_route::Work;
 use std::alloc::Global;
@@ -15,17 +15,18 @@ pub struct Register {
     pub(crate) alloc: Global,
     /// The map, or that of the open batch.
     pub(crate) roads: RoadMap,
-    pub(crate) paths: Listing,
+    pub(crate) paths: PathList,
     /// The searches of renewals, which keep their buffers.
     pub(crate) searches: Searches,
     /// What an edit touches, in a buffer that is reused.
-    pub(crate) touched: Touched,
+    pub(crate) touched: ChangeSet,
     pub(crate) work: Work,
     /// How many of the counted encodings were spared.
-    pub(crate) kept: u64,
+    pub(crate) spared: u64,
     pub(crate) batch: Option<Batch>,
-    /// Distance bounds, which show that no coverage query begins near an edit. While a batch is open, on the map before it.
-    pub(crate) near: Nearness,
+    /// Distance bounds, which show that no coverage query begins near an edit. While a batch is open, on the map before
+    /// it.
+    pub(crate) near: DistanceBounds,
 }
 
 impl Model for Register {
@@ -37,7 +38,7 @@ impl Model for Register {
 
     ghost coded = { coded_registered };
 
-    ghost view = { λ r. record { kept = kept_of r.roads (items r.paths) r.batch; work = r.work; spared = r.kept } };
+    ghost view = { λ r. record { kept = kept_of r.roads (items r.paths) r.batch; work = r.work; spared = r.spared } };
 
     ghost invariant = { λ r. IsKeptRight r.roads (items r.paths) r.batch r.near };
 }
@@ -56,17 +57,17 @@ impl Register {
         Register {
             alloc,
             roads: RoadMap::new(alloc),
-            paths: Listing::new(alloc),
+            paths: PathList::new(alloc),
             searches: Searches::new(alloc),
-            touched: Touched::new(alloc),
+            touched: ChangeSet::new(alloc),
             work: Work {
                 encodings: 0,
                 searches: 0,
                 settled: 0,
             },
-            kept: 0,
+            spared: 0,
             batch: None,
-            near: Nearness::new(alloc),
+            near: DistanceBounds::new(alloc),
         }
     }
 
@@ -108,7 +109,8 @@ impl Register {
         self.paths.name_at(k)
     }
 
-    /// The names of all paths in the order of their registration, each with what is published of it. An open batch is ignored.
+    /// The names of all paths in the order of their registration, each with what is published of it. An open batch is
+    /// ignored.
     pub fn iter(&self) -> Iter<'_>
         ensures { AllPublished self.now.kept.content (left result) }
     {
@@ -133,6 +135,6 @@ impl Register {
     pub fn spared_count(&self) -> u64
         ensures { result ≡ self.now.spared }
     {
-        self.kept
+        self.spared
     }
 }

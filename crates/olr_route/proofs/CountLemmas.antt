@@ -9,12 +9,12 @@ use Rattle.std.proofs.lemmas.List.Sums.{length-filter}
 use Rattle.std.proofs.lemmas.List.Elements.{Contains-append_cases}
 use Rattle.olr_spec.specs.Map.{Map}
 use Rattle.olr_spec.proofs.ListLemmas.{Contains-one, Contains-here, Contains-later}
-use Rattle.olr_route.specs.Founds.{label_of}
+use Rattle.olr_route.specs.Frontiers.{label_of}
 use Rattle.olr_route.specs.Notes.{numbers_of}
 use Rattle.olr_route.specs.Searches.{IsSearch, LiesWithin, Counts}
-use Rattle.olr_route.specs.declared.found.Reached.{Reached}
+use Rattle.olr_route.specs.declared.frontier.Reached.{Reached}
 use Rattle.olr_route.specs.declared.distances.Direction.{Direction}
-use Rattle.olr_route.specs.declared.distances.Search.{Search}
+use Rattle.olr_route.specs.declared.distances.Dijkstra.{Dijkstra}
 use Rattle.olr_route.proofs.DistinctLemmas.{distinct_fewer}
 use Rattle.olr_route.proofs.SearchLemmas.{near_listed, listed_near, label_is, distance_node}
 
@@ -69,39 +69,41 @@ nodes_out : (test : Reached → Bool) (xs : List Reached) (v : ℕ) → Contains
 nodes_out test [] v c = let lt = c.1 in absurd (omega arith)
 nodes_out test (x ∷ xs) v c = passes_more test (test x) x xs v refl (λ k. nodes_out test xs v k) c
 
-module _ (M : Map) (place : ℕ → ℕ) (direction : Direction) (from : List (ℕ × ℕ)) (s : Search)
-    (h : IsSearch M place direction from s) where
+module _ (M : Map) (slot : ℕ → ℕ) (direction : Direction) (from : List (ℕ × ℕ)) (s : Dijkstra)
+    (h : IsSearch M slot direction from s) where
   -- the nodes whose labels are within the limit
   abbrev pub near_nodes : List ℕ
-  near_nodes = numbers_of (filter (λ r. nat_le (label_of s.found r.place) s.limit) s.found.reached.items)
+  near_nodes = numbers_of (filter (λ r. nat_le (label_of s.frontier r.slot) s.limit) s.frontier.reached.items)
 
   pub near_apart : IsDistinct ◌==◌ near_nodes
   near_apart =
-      distinct_fewer (λ r. nat_le (label_of s.found r.place) s.limit) s.found.reached.items h.under_way.labelled.apart
+      distinct_fewer (λ r. nat_le (label_of s.frontier r.slot) s.limit) s.frontier.reached.items
+      h.under_way.labelled.apart
 
   pub near_exactly : (v : ℕ) → Contains near_nodes v ↔ LiesWithin M direction from s.limit v
   near_exactly v = (
     λ c.
-        let k = nodes_out (λ r. nat_le (label_of s.found r.place) s.limit) s.found.reached.items v c in
+        let k = nodes_out (λ r. nat_le (label_of s.frontier r.slot) s.limit) s.frontier.reached.items v c in
         subst (LiesWithin M direction from s.limit) k.3
-        (listed_near M place direction from s h k.0 k.1 (grind (arith, nat_tests, k.2))),
+        (listed_near M slot direction from s h k.0 k.1 (grind (arith, nat_tests, k.2))),
     λ near.
-        let known = distance_node M place direction from s h v near.0 near.1 in
-        let label = label_is M place direction from s h v near.0 known near.1 near.2 in
+        let known = distance_node M slot direction from s h v near.0 near.1 in
+        let label = label_is M slot direction from s h v near.0 known near.1 near.2 in
         let le = near.2 in
-        nodes_in (λ r. nat_le (label_of s.found r.place) s.limit) s.found.reached.items
-        (record { node = v; place = place v }) (near_listed M place direction from s h v near)
+        nodes_in (λ r. nat_le (label_of s.frontier r.slot) s.limit) s.frontier.reached.items
+        (record { node = v; slot = slot v }) (near_listed M slot direction from s h v near)
         (grind (arith, nat_tests)),
   )
 
-  pub counted : (n : ℕ) → n ≡ count_by (λ r. nat_le (label_of s.found r.place) s.limit) s.found.reached.items →
+  pub counted : (n : ℕ) → n ≡ count_by (λ r. nat_le (label_of s.frontier r.slot) s.limit) s.frontier.reached.items →
       Counts M direction from s.limit n
   counted n is = record {
     nodes = near_nodes;
     apart = near_apart;
     exactly = near_exactly;
     many =
-        length-map (filter (λ r. nat_le (label_of s.found r.place) s.limit) s.found.reached.items)
+        length-map (filter (λ r. nat_le (label_of s.frontier r.slot) s.limit) s.frontier.reached.items)
         (λ (r : Reached). r.node)
-        ∙ length-filter (λ (r : Reached). nat_le (label_of s.found r.place) s.limit) s.found.reached.items ∙ sym is;
+        ∙ length-filter (λ (r : Reached). nat_le (label_of s.frontier r.slot) s.limit) s.frontier.reached.items
+        ∙ sym is;
   }

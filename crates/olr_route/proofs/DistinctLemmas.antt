@@ -7,7 +7,7 @@ use Rattle.std.proofs.lemmas.Bool.{cases_eq, ne_eqb}
 use Rattle.std.proofs.lemmas.List.Elements.{Contains-append_cases}
 use Rattle.olr_spec.proofs.ListLemmas.{Contains-one, Contains-here, Contains-later}
 use Rattle.olr_route.specs.Notes.{numbers_of}
-use Rattle.olr_route.specs.declared.found.Reached.{Reached}
+use Rattle.olr_route.specs.declared.frontier.Reached.{Reached}
 
 pub distinct_none : IsDistinct ◌==◌ (numbers_of [])
 unfolding IsDistinct
@@ -51,15 +51,15 @@ distinct_fewer test (x ∷ xs) d =
     ]
 
 -- a node of the list with this slot, or none
-pub found_place : (xs : List Reached) (p : ℕ) → ((r : Reached) × Contains xs r × (r.place ≡ p))
-    ⊎ ((r : Reached) → Contains xs r → r.place ≢ p)
-found_place [] p = inr (λ r c. let lt = c.1 in absurd (omega arith))
-found_place (x ∷ xs) p = elim (cases_eq x.place p) [
+pub found_slot : (xs : List Reached) (p : ℕ) → ((r : Reached) × Contains xs r × (r.slot ≡ p))
+    ⊎ ((r : Reached) → Contains xs r → r.slot ≢ p)
+found_slot [] p = inr (λ r c. let lt = c.1 in absurd (omega arith))
+found_slot (x ∷ xs) p = elim (cases_eq x.slot p) [
   | inl is ↦ inl (x, Contains-here x xs, is)
-  | inr ne ↦ elim (found_place xs p) [
+  | inr ne ↦ elim (found_slot xs p) [
     | inl k ↦ inl (k.0, Contains-later x k.0 xs k.1, k.2)
     | inr none ↦ inr (λ r c. elim (Contains-append_cases (x ∷ []) xs r c) [
-      | inl h ↦ λ e. ne (ap (λ (y : Reached). y.place) (sym (Contains-one x r h)) ∙ e)
+      | inl h ↦ λ e. ne (ap (λ (y : Reached). y.slot) (sym (Contains-one x r h)) ∙ e)
       | inr h ↦ none r h
     ])
   ]

@@ -5,15 +5,15 @@ use Rattle.std.specs.Option.{option_map}
 use Rattle.std.specs.Prelude.{option_and_then}
 use Rattle.std.proofs.lemmas.Bool.{cases_eq, cases_lt}
 use Rattle.olr_spec.specs.Map.{Map, IsMap, start, end, dm}
-use Rattle.olr_spec.specs.Walks.{Walk, dm_of, Least}
-use Rattle.olr_spec.proofs.WalkLemmas.{positive, one_least, sole_least}
+use Rattle.olr_spec.specs.Routes.{IsRoute, dm_of, Least}
+use Rattle.olr_spec.proofs.RouteLemmas.{positive, one_least, unique_least}
 use Rattle.olr_spec.proofs.OptionLemmas.{some_of, is_some_of}
 use Rattle.olr_route.specs.Labels.{Label, Labels, label_at, dist_at, last_at, last_of, AreLabels, LeastWithin}
-use Rattle.olr_route.specs.Labels.{SoleWithin}
-use Rattle.olr_route.specs.Ends.{Alone}
-use Rattle.olr_route.proofs.WalkEnds.{last_of-append, ends_of, ended_by, dm_of-line, walk_on, last_step, least_front}
-use Rattle.olr_route.proofs.WalkEnds.{same_last}
-use Rattle.olr_route.proofs.WalkEnds.Ends.{empty, ended}
+use Rattle.olr_route.specs.Labels.{UniqueWithin}
+use Rattle.olr_route.specs.Ends.{OnlyPredecessor}
+use Rattle.olr_route.proofs.RouteEnds.{last_of-append, ends_of, ended_by, dm_of-line, route_on, last_step, least_front}
+use Rattle.olr_route.proofs.RouteEnds.{same_last}
+use Rattle.olr_route.proofs.RouteEnds.Ends.{empty, ended}
 
 -- a label by its last line
 label_of_last : (k : Option Label) (x : ℕ) → option_and_then (λ k. k.1) k ≡ Some x → (d : ℕ) × (k ≡ Some (d, Some x))
@@ -26,13 +26,13 @@ label_of_dist None d e = cc
 label_of_dist (Some k) d e = let same : k.0 ≡ d = cc in (k.1, ap (λ (n : ℕ). Some (n, k.1)) same)
 
 -- a shortest path is no longer than a route with the same ends
-least_le : (M : Map) (s t : ℕ) (xs ys : List ℕ) → Least M s t xs → Walk M s t ys → dm_of M xs ≤ dm_of M ys
+least_le : (M : Map) (s t : ℕ) (xs ys : List ℕ) → Least M s t xs → IsRoute M s t ys → dm_of M xs ≤ dm_of M ys
 least_le M s t xs ys l w =
     elim (cases_lt (dm_of M ys) (dm_of M xs)) [ inl lt ↦ absurd (l.first ys w (inl lt)) | inr le ↦ le ]
 
 module _ (M : Map) (m : IsMap M) (x : Labels) (a : AreLabels M x) where
   -- the label at the end of a route within the limit is no longer than the route
-  dist_le : (v : ℕ) (ys : List ℕ) → Walk M x.source v ys → dm_of M ys ≤ x.limit → (d : ℕ) × (dist_at x v ≡ Some d)
+  dist_le : (v : ℕ) (ys : List ℕ) → IsRoute M x.source v ys → dm_of M ys ≤ x.limit → (d : ℕ) × (dist_at x v ≡ Some d)
       × (d ≤ dm_of M ys)
   dist_le v ys w short =
       let k = some_of (label_at x v) ((a.reached v).1 (ys, w, short)) in
@@ -45,7 +45,7 @@ module _ (M : Map) (m : IsMap M) (x : Labels) (a : AreLabels M x) where
   label_of_least : (v : ℕ) (ys : List ℕ) → Least M x.source v ys → dm_of M ys ≤ x.limit →
       label_at x v ≡ Some (dm_of M ys, last_of ys)
   label_of_least v ys l short =
-      let k = some_of (label_at x v) ((a.reached v).1 (ys, l.walk, short)) in
+      let k = some_of (label_at x v) ((a.reached v).1 (ys, l.route, short)) in
       let r = a.least v k.0.0 k.0.1 k.1 in
       let same : r.lines ≡ ys = one_least M m x.source v r.lines ys r.least l in
       k.1 ∙ ap (λ (z : Label). Some z) (ap (λ (n : ℕ). (n, k.0.1)) (sym r.long ∙ ap (dm_of M) same)
@@ -62,60 +62,63 @@ module _ (M : Map) (m : IsMap M) (x : Labels) (a : AreLabels M x) where
       omega arith
 
   -- if the label has the line, the line extends the shortest path
-  pub least_if_last : (y : ℕ) (walk : List ℕ) → LeastWithin M x (start M y) walk → last_at x (end M y) ≡ Some y →
-      LeastWithin M x (end M y) (walk ++ y ∷ [])
-  least_if_last y walk l e =
+  pub least_if_last : (y : ℕ) (route : List ℕ) → LeastWithin M x (start M y) route → last_at x (end M y) ≡ Some y →
+      LeastWithin M x (end M y) (route ++ y ∷ [])
+  least_if_last y route l e =
       let k = label_of_last (label_at x (end M y)) y e in
       let r = a.least (end M y) k.0 (Some y) k.1 in
       let p = ended_by r.lines y r.ends in
       let whole : Least M x.source (end M y) (p.0 ++ y ∷ []) =
       subst (λ (zs : List ℕ). Least M x.source (end M y) zs) p.1 r.least in
-      let front : p.0 ≡ walk =
-      one_least M m x.source (start M y) p.0 walk (least_front M x.source (end M y) y p.0 whole) l.least in
-      let lines : r.lines ≡ walk ++ y ∷ [] = p.1 ∙ ap (λ (zs : List ℕ). zs ++ y ∷ []) front in
-      let long : dm_of M (walk ++ y ∷ []) ≡ k.0 = ap (dm_of M) (sym lines) ∙ r.long in
+      let front : p.0 ≡ route =
+      one_least M m x.source (start M y) p.0 route (least_front M x.source (end M y) y p.0 whole) l.least in
+      let lines : r.lines ≡ route ++ y ∷ [] = p.1 ∙ ap (λ (zs : List ℕ). zs ++ y ∷ []) front in
+      let long : dm_of M (route ++ y ∷ []) ≡ k.0 = ap (dm_of M) (sym lines) ∙ r.long in
       let short = label_short (end M y) k.0 (Some y) k.1 in
       record { least = subst (λ (zs : List ℕ). Least M x.source (end M y) zs) lines r.least; within = omega arith }
 
   -- and only then
-  pub last_if_least : (y : ℕ) (walk : List ℕ) → LeastWithin M x (end M y) (walk ++ y ∷ []) →
+  pub last_if_least : (y : ℕ) (route : List ℕ) → LeastWithin M x (end M y) (route ++ y ∷ []) →
       last_at x (end M y) ≡ Some y
-  last_if_least y walk l =
+  last_if_least y route l =
       ap (λ (o : Option Label). option_and_then (λ k. k.1) o)
-      (label_of_least (end M y) (walk ++ y ∷ []) l.least l.within) ∙ last_of-append walk y
+      (label_of_least (end M y) (route ++ y ∷ []) l.least l.within) ∙ last_of-append route y
 
-  pub sole_if_alone : (y : ℕ) (walk : List ℕ) → SoleWithin M x (start M y) walk → last_at x (end M y) ≡ Some y →
-      Alone M x y → SoleWithin M x (end M y) (walk ++ y ∷ [])
-  sole_if_alone y walk f e alone =
+  pub unique_if_only : (y : ℕ) (route : List ℕ) → UniqueWithin M x (start M y) route → last_at x (end M y) ≡ Some y →
+      OnlyPredecessor M x y → UniqueWithin M x (end M y) (route ++ y ∷ [])
+  unique_if_only y route f e alone =
       let l =
-      least_if_last y walk (record { least = sole_least M x.source (start M y) walk f.sole; within = f.within }) e in
-      let own = last_step M x.source (end M y) y walk l.least.walk in
-      let long = dm_of-line M walk y in
+      least_if_last y route (record { least = unique_least M x.source (start M y) route f.unique; within = f.within })
+      e in
+      let own = last_step M x.source (end M y) y route l.least.route in
+      let long = dm_of-line M route y in
       let some = positive M m y own.known in
       let short = l.within in
-      let label : dist_at x (end M y) ≡ Some (dm_of M (walk ++ y ∷ [])) =
-      ap (λ (o : Option Label). option_map (λ k. k.0) o) (label_of_least (end M y) (walk ++ y ∷ []) l.least l.within) in
+      let label : dist_at x (end M y) ≡ Some (dm_of M (route ++ y ∷ [])) =
+      ap (λ (o : Option Label). option_map (λ k. k.0) o) (label_of_least (end M y) (route ++ y ∷ []) l.least l.within)
+      in
       record {
-        sole = record {
-          walk = l.least.walk;
+        unique = record {
+          route = l.least.route;
           others = λ ys w ne. elim (ends_of ys) [
             | empty none ↦ let nothing : dm_of M ys ≡ 0 =
                 ap (dm_of M) none in absurd (l.least.first ys w (inl (omega arith)))
             | ended front z is ↦
                 let step =
-                last_step M x.source (end M y) z front (subst (λ (zs : List ℕ). Walk M x.source (end M y) zs) is w) in
+                last_step M x.source (end M y) z front (subst (λ (zs : List ℕ). IsRoute M x.source (end M y) zs) is w)
+                in
                 let parts : dm_of M ys ≡ dm_of M front + dm M z = ap (dm_of M) is ∙ dm_of-line M front z in
-                elim (cases_lt (dm_of M (walk ++ y ∷ [])) (dm_of M ys)) [
+                elim (cases_lt (dm_of M (route ++ y ∷ [])) (dm_of M ys)) [
                   | inl far ↦ far
                   | inr near ↦
                       let d = dist_le (start M z) front step.front (omega arith) in
                       let le = d.2 in
                       let same : z ≡ y =
-                      alone z (dm_of M (walk ++ y ∷ [])) step.known step.to label d.0 d.1 (omega arith) in
+                      alone z (dm_of M (route ++ y ∷ [])) step.known step.to label d.0 d.1 (omega arith) in
                       let each : dm M z ≡ dm M y = ap (dm M) same in
                       let less =
-                      f.sole.others front (subst (λ (n : ℕ). Walk M x.source (start M n) front) same step.front)
-                      (λ q. ne (is ∙ ap (λ (zs : List ℕ). zs ++ z ∷ []) q ∙ ap (λ (n : ℕ). walk ++ n ∷ []) same)) in
+                      f.unique.others front (subst (λ (n : ℕ). IsRoute M x.source (start M n) front) same step.front)
+                      (λ q. ne (is ∙ ap (λ (zs : List ℕ). zs ++ z ∷ []) q ∙ ap (λ (n : ℕ). route ++ n ∷ []) same)) in
                       omega arith
                 ]
           ];
@@ -124,31 +127,32 @@ module _ (M : Map) (m : IsMap M) (x : Labels) (a : AreLabels M x) where
       }
 
   -- and only then
-  pub alone_if_sole : (y : ℕ) (walk : List ℕ) → SoleWithin M x (end M y) (walk ++ y ∷ []) → Alone M x y
-  alone_if_sole y walk f z e known to de d dz le =
-      let least = sole_least M x.source (end M y) (walk ++ y ∷ []) f.sole in
+  pub only_if_unique : (y : ℕ) (route : List ℕ) → UniqueWithin M x (end M y) (route ++ y ∷ []) → OnlyPredecessor M x y
+  only_if_unique y route f z e known to de d dz le =
+      let least = unique_least M x.source (end M y) (route ++ y ∷ []) f.unique in
       let o = label_of_dist (label_at x (start M z)) d dz in
       let r = a.least (start M z) d o.0 o.1 in
-      let label : dist_at x (end M y) ≡ Some (dm_of M (walk ++ y ∷ [])) =
-      ap (λ (k : Option Label). option_map (λ k. k.0) k) (label_of_least (end M y) (walk ++ y ∷ []) least f.within) in
-      let both : ◌≡◌ {A = Option ℕ} (Some (dm_of M (walk ++ y ∷ []))) (Some e) = sym label ∙ de in
-      let total : dm_of M (walk ++ y ∷ []) ≡ e = cc in
+      let label : dist_at x (end M y) ≡ Some (dm_of M (route ++ y ∷ [])) =
+      ap (λ (k : Option Label). option_map (λ k. k.0) k) (label_of_least (end M y) (route ++ y ∷ []) least f.within) in
+      let both : ◌≡◌ {A = Option ℕ} (Some (dm_of M (route ++ y ∷ []))) (Some e) = sym label ∙ de in
+      let total : dm_of M (route ++ y ∷ []) ≡ e = cc in
       let parts = dm_of-line M r.lines z in
       let long = r.long in
       elim (cases_eq z y) [
         | inl same ↦ same
         | inr ne ↦
             let far =
-            f.sole.others (r.lines ++ z ∷ [])
-            (subst (λ (v : ℕ). Walk M x.source v (r.lines ++ z ∷ [])) to
-            (walk_on M x.source z r.lines r.least.walk known)) (λ q. ne (same_last r.lines walk z y q)) in
+            f.unique.others (r.lines ++ z ∷ [])
+            (subst (λ (v : ℕ). IsRoute M x.source v (r.lines ++ z ∷ [])) to
+            (route_on M x.source z r.lines r.least.route known)) (λ q. ne (same_last r.lines route z y q)) in
             absurd (omega arith)
       ]
 
-  pub last_if_sole : (y : ℕ) (walk : List ℕ) → SoleWithin M x (end M y) (walk ++ y ∷ []) → last_at x (end M y) ≡ Some y
-  last_if_sole y walk f =
-      last_if_least y walk (record {
-        least = sole_least M x.source (end M y) (walk ++ y ∷ []) f.sole;
+  pub last_if_unique : (y : ℕ) (route : List ℕ) → UniqueWithin M x (end M y) (route ++ y ∷ []) →
+      last_at x (end M y) ≡ Some y
+  last_if_unique y route f =
+      last_if_least y route (record {
+        least = unique_least M x.source (end M y) (route ++ y ∷ []) f.unique;
         within =
             f.within;
       })

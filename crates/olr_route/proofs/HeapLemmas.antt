@@ -19,8 +19,8 @@ Entry = Reverse ℕ
 pub entry_dist : (d p : ℕ) → p < 2 ^ 32 → queue_key d p / 2 ^ 32 ≡ d
 entry_dist d p small = div-mul-add d (2 ^ 32) p small
 
-pub entry_place : (d p : ℕ) → p < 2 ^ 32 → queue_key d p % 2 ^ 32 ≡ p
-entry_place d p small = mod-mul-add d (2 ^ 32) p small
+pub entry_slot : (d p : ℕ) → p < 2 ^ 32 → queue_key d p % 2 ^ 32 ≡ p
+entry_slot d p small = mod-mul-add d (2 ^ 32) p small
 
 pub popped_others : (xs ys : List Entry) (x : Entry) (d p : ℕ) → p < 2 ^ 32 → IsPermutation xs (x ∷ ys) →
     Contains xs (record { 0 = queue_key d p }) → Contains ys (record { 0 = queue_key d p })
@@ -32,7 +32,7 @@ popped_others xs ys x d p small perm w =
           let e = Contains-one x (record { 0 = queue_key d p }) h in
           inr (
             sym (entry_dist d p small) ∙ ap (λ (y : Entry). y.0 / 2 ^ 32) e,
-            sym (entry_place d p small)
+            sym (entry_slot d p small)
                 ∙ ap (λ (y : Entry). y.0 % 2 ^ 32) e,
           )
       | inr h ↦ inl h

@@ -1,15 +1,15 @@
--- Marks that no line improves are the labels of the shortest paths.
+-- Labels that no line improves are those of the shortest paths.
 use Rattle.std.proofs.Common.{◌≡◌, ℕ, zero, suc, ◌+◌, ◌<◌, ◌≤◌, List, [], ◌∷◌, ◌++◌, reverse, length, Option, Some}
 use Rattle.std.proofs.Common.{None, IsTrue, inl, inr, refl, sym, ap, ◌∙◌, subst, arith, length-append}
 use Rattle.olr_spec.specs.Map.{Map, IsMap, has_line, start, end, dm}
-use Rattle.olr_spec.specs.Walks.{Walk, dm_of, FirstSmaller, Before, Least}
-use Rattle.olr_spec.proofs.WalkLemmas.{positive, empty_least}
+use Rattle.olr_spec.specs.Routes.{IsRoute, dm_of, FirstSmaller, PrecedesInTieOrder, Least}
+use Rattle.olr_spec.proofs.RouteLemmas.{positive, empty_least}
 use Rattle.olr_spec.proofs.LabelLemmas.{last_first}
 use Rattle.olr_spec.proofs.OptionLemmas.{some_of, is_some_of}
 use Rattle.olr_route.specs.Labels.{Label, Labels, label_at, last_of, IsLabel, AreLabels}
 use Rattle.olr_route.specs.Relaxed.{NotGreater, NotAfter, Capped, IsClosed, Found}
-use Rattle.olr_route.proofs.WalkEnds.{last_of-append, ends_of, dm_of-line, walk_on, LastStep, last_step}
-use Rattle.olr_route.proofs.WalkEnds.Ends.{empty, ended}
+use Rattle.olr_route.proofs.RouteEnds.{last_of-append, ends_of, dm_of-line, route_on, LastStep, last_step}
+use Rattle.olr_route.proofs.RouteEnds.Ends.{empty, ended}
 
 pub not_after_le : (d e : ℕ) (o p : Option ℕ) → NotAfter d o e p → d ≤ e
 not_after_le d e o p (inl h) = omega arith
@@ -33,7 +33,7 @@ last_below : (o : Option ℕ) (x : ℕ) → NotGreater (Some x) o → (y : ℕ) 
 last_below None x h = absurd h
 last_below (Some y) x h = (y, refl, h)
 
--- what a search shows about its marks
+-- what a search shows about its labels
 pub record Certified (M : Map) (s limit : ℕ) (L : ℕ → Option Label) : Type 0 where
   pub at_source : L s ≡ Some (0, None)
   pub within : (v d : ℕ) (o : Option ℕ) → L v ≡ Some (d, o) → d ≤ limit
@@ -62,15 +62,15 @@ module _ (M : Map) (m : IsMap M) (s limit : ℕ) (L : ℕ → Option Label) (c :
             (not_after_line k.dist (dm_of M front) k.last (last_of front) r.dist (dm M x) r.last x k.low r.low));
       }
 
-  -- each route within the limit ends at a mark that is not after it
-  capped_by : (n v : ℕ) (ys : List ℕ) → length ys ≤ n → Walk M s v ys → dm_of M ys ≤ limit →
+  -- each route within the limit ends at a label that is not after it
+  capped_by : (n v : ℕ) (ys : List ℕ) → length ys ≤ n → IsRoute M s v ys → dm_of M ys ≤ limit →
       Capped L v (dm_of M ys) (last_of ys)
   capped_by zero v [] h w short = capped_empty v w
   capped_by zero v (y ∷ ys) h w short = absurd (omega arith)
   capped_by (suc n) v ys h w short = elim (ends_of ys) [
-    | empty e ↦ rw e (capped_empty v (subst (λ (zs : List ℕ). Walk M s v zs) e w))
+    | empty e ↦ rw e (capped_empty v (subst (λ (zs : List ℕ). IsRoute M s v zs) e w))
     | ended front x e ↦
-        let step = last_step M s v x front (subst (λ (zs : List ℕ). Walk M s v zs) e w) in
+        let step = last_step M s v x front (subst (λ (zs : List ℕ). IsRoute M s v zs) e w) in
         let size : length ys ≡ length (front ++ x ∷ []) = ap (λ (zs : List ℕ). length zs) e in
         let near : dm_of M (front ++ x ∷ []) ≤ limit = subst (λ (zs : List ℕ). dm_of M zs ≤ limit) e short in
         let parts = dm_of-line M front x in
@@ -78,13 +78,14 @@ module _ (M : Map) (m : IsMap M) (s limit : ℕ) (L : ℕ → Option Label) (c :
         (capped_by n (start M x) front (omega (arith, length-append front (x ∷ []))) step.front (omega arith)))
   ]
 
-  pub capped : (v : ℕ) (ys : List ℕ) → Walk M s v ys → dm_of M ys ≤ limit → Capped L v (dm_of M ys) (last_of ys)
+  pub capped : (v : ℕ) (ys : List ℕ) → IsRoute M s v ys → dm_of M ys ≤ limit → Capped L v (dm_of M ys) (last_of ys)
   capped v ys w short = capped_by (length ys) v ys (omega arith) w short
 
-  -- the last line of a mark extends a shortest path to a shortest path
+  -- the last line of a label extends a shortest path to a shortest path
   least_on : (v x e : ℕ) (ws : List ℕ) → L v ≡ Some (e + dm M x, Some x) → e + dm M x ≤ limit → IsTrue (has_line M x) →
       end M x ≡ v
-      → Least M s (start M x) ws → dm_of M ws ≡ e → (ys : List ℕ) → Walk M s v ys → ¬ Before M ys (ws ++ x ∷ [])
+      → Least M s (start M x) ws → dm_of M ws ≡ e → (ys : List ℕ) → IsRoute M s v ys →
+      ¬ PrecedesInTieOrder M ys (ws ++ x ∷ [])
   least_on v x e ws at short k to l long ys w b =
       let total = dm_of-line M ws x in
       let near : dm_of M ys ≤ e + dm M x = elim b [ inl lt ↦ omega arith | inr p ↦ let even = p.0 in omega arith ] in
@@ -105,25 +106,25 @@ module _ (M : Map) (m : IsMap M) (s limit : ℕ) (L : ℕ → Option Label) (c :
                     sym (last_of-append front z) ∙ ap last_of (sym is) ∙ y.1 in
                     let last : z ≡ y.0 = cc in
                     let low : x ≤ y.0 = y.2 in
-                    let step = last_step M s v z front (subst (λ (zs : List ℕ). Walk M s v zs) is w) in
+                    let step = last_step M s v z front (subst (λ (zs : List ℕ). IsRoute M s v zs) is w) in
                     let parts : dm_of M ys ≡ dm_of M front + dm M z = ap (dm_of M) is ∙ dm_of-line M front z in
                     elim (last_first front ws z x
                     (subst (λ (zs : List ℕ). FirstSmaller (reverse zs) (reverse (ws ++ x ∷ []))) is q.1)) [
                       | inl lt ↦ absurd (omega arith)
                       | inr r ↦
                           let each : dm M z ≡ dm M x = ap (dm M) r.0 in
-                          l.first front (subst (λ (n : ℕ). Walk M s (start M n) front) r.0 step.front)
+                          l.first front (subst (λ (n : ℕ). IsRoute M s (start M n) front) r.0 step.front)
                           (inr (omega arith, r.1))
                     ]
               ]
             ]
       ]
 
-  least_empty : (v d : ℕ) (o : Option ℕ) (ks : List ℕ) → Walk M s v ks → dm_of M ks ≡ d → last_of ks ≡ o → ks ≡ [] →
+  least_empty : (v d : ℕ) (o : Option ℕ) (ks : List ℕ) → IsRoute M s v ks → dm_of M ks ≡ d → last_of ks ≡ o → ks ≡ [] →
       IsLabel M s v d o
   least_empty v d o ks w long last e = record {
     lines = [];
-    least = subst (λ (u : ℕ). Least M s u []) (subst (λ (zs : List ℕ). Walk M s v zs) e w) (empty_least M s);
+    least = subst (λ (u : ℕ). Least M s u []) (subst (λ (zs : List ℕ). IsRoute M s v zs) e w) (empty_least M s);
     long = ap (dm_of M) (sym e) ∙ long;
     ends = ap last_of (sym e) ∙ last;
   }
@@ -147,9 +148,9 @@ module _ (M : Map) (m : IsMap M) (s limit : ℕ) (L : ℕ → Option Label) (c :
       record {
         lines = rest.lines ++ x ∷ [];
         least = record {
-          walk =
-              subst (λ (u : ℕ). Walk M s u (rest.lines ++ x ∷ [])) step.to
-              (walk_on M s x rest.lines rest.least.walk step.known);
+          route =
+              subst (λ (u : ℕ). IsRoute M s u (rest.lines ++ x ∷ [])) step.to
+              (route_on M s x rest.lines rest.least.route step.known);
           first = least_on v x k.dist rest.lines label (omega arith) step.known step.to rest.least rest.long;
         };
         long = dm_of-line M rest.lines x ∙ ap (λ (n : ℕ). n + dm M x) rest.long ∙ sym tight;
@@ -161,21 +162,21 @@ module _ (M : Map) (m : IsMap M) (s limit : ℕ) (L : ℕ → Option Label) (c :
   least_below (suc n) v d o h at =
       let f = c.found v d o at in
       elim (ends_of f.lines) [
-        | empty e ↦ least_empty v d o f.lines f.walk f.long f.ends e
+        | empty e ↦ least_empty v d o f.lines f.route f.long f.ends e
         | ended front x e ↦
-            least_ended v d o at front x (last_step M s v x front (subst (λ (zs : List ℕ). Walk M s v zs) e f.walk))
+            least_ended v d o at front x (last_step M s v x front (subst (λ (zs : List ℕ). IsRoute M s v zs) e f.route))
             (sym f.long ∙ ap (dm_of M) e ∙ dm_of-line M front x) (sym f.ends ∙ ap last_of e ∙ last_of-append front x)
             (λ u b p lt there. least_below n u b p (omega arith) there)
       ]
 
--- such marks are labels
+-- such labels are those of a search
 pub labels_of_certified : (M : Map) → IsMap M → (x : Labels) → Certified M x.source x.limit (label_at x) → AreLabels M x
 labels_of_certified M m x c = record {
   reached = λ v. (
     λ h.
         let k = some_of (label_at x v) h in
         let f = c.found v k.0.0 k.0.1 k.1 in
-        (f.lines, f.walk, subst (λ (n : ℕ). n ≤ x.limit) (sym f.long) (c.within v k.0.0 k.0.1 k.1)),
+        (f.lines, f.route, subst (λ (n : ℕ). n ≤ x.limit) (sym f.long) (c.within v k.0.0 k.0.1 k.1)),
     λ r. let k =
         capped M m x.source x.limit (label_at x) c v r.0 r.1 r.2 in is_some_of (label_at x v) (k.dist, k.last) k.at,
   );

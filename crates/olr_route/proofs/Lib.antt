@@ -1,4 +1,4 @@
-mod WalkEnds
+mod RouteEnds
 mod LabelLemmas
 mod ExtendLemmas
 mod ViewLemmas
@@ -12,5 +12,5 @@ pub mod WayLemmas
 pub mod SearchLemmas
 pub mod CutLemmas
 mod CountLemmas
-mod SoleLemmas
-mod ToldLemmas
+mod UniqueLemmas
+mod ReportedLemmas

@@ -3,7 +3,7 @@ use Rattle.std.proofs.Common.{◌≡◌, ℕ, ◌<◌, List, Option, true, is_so
 use Rattle.std.specs.Prelude.{unwrap_or}
 use Rattle.std.specs.FinMap.{get}
 use Rattle.olr_spec.specs.Map.{Map, Line, no_line, has_line, start, end, lines_in, lines_out, has}
-use Rattle.olr_spec.proofs.ListLemmas.{stands_at, has_read}
+use Rattle.olr_spec.proofs.ListLemmas.{at_index, has_read}
 use Rattle.olr_spec.proofs.OrderLemmas.{exactly_in, exactly_out}
 use Rattle.olr_spec.proofs.OptionLemmas.{some_of}
 
@@ -19,7 +19,7 @@ pub leaving : (M : Map) (v x : ℕ) (xs : List ℕ) → xs ≡ lines_out M v →
     × (i < length xs) × (get_or xs i 0 ≡ x)
 leaving M v x xs e h from =
     let l = some_of (get M.lines x) h in
-    stands_at xs x (subst (λ (zs : List ℕ). has zs x ≡ true) (sym e)
+    at_index xs x (subst (λ (zs : List ℕ). has zs x ≡ true) (sym e)
     ((exactly_out M v x).1 (l.0, (l.1, sym (ap (λ (o : Option Line). (unwrap_or o no_line).from) l.1) ∙ from))))
 
 -- likewise for the lines that enter the node
@@ -33,5 +33,5 @@ pub entering : (M : Map) (v x : ℕ) (xs : List ℕ) → xs ≡ lines_in M v →
     × (i < length xs) × (get_or xs i 0 ≡ x)
 entering M v x xs e h to =
     let l = some_of (get M.lines x) h in
-    stands_at xs x (subst (λ (zs : List ℕ). has zs x ≡ true) (sym e)
+    at_index xs x (subst (λ (zs : List ℕ). has zs x ≡ true) (sym e)
     ((exactly_in M v x).1 (l.0, (l.1, sym (ap (λ (o : Option Line). (unwrap_or o no_line).to) l.1) ∙ to))))

@@ -3,39 +3,40 @@ use Rattle.std.proofs.Common.{◌≡◌, ℕ, ◌+◌, ◌<◌, ◌≤◌, List,
 use Rattle.std.proofs.Common.{◌∙◌, subst, arith, append_assoc, add-one, drop-cons, suc}
 use Rattle.std.proofs.lemmas.List.{take_more, take-append-drop}
 use Rattle.olr_spec.specs.Map.{Map, IsMap, has_line, start, end}
-use Rattle.olr_spec.specs.Walks.{Walk, dm_of, Least, Sole}
-use Rattle.olr_spec.proofs.WalkLemmas.{dm_of-append, Walk-split, prefix_of_least, prefix_of_sole, empty_least}
-use Rattle.olr_spec.proofs.WalkLemmas.{empty_sole}
-use Rattle.olr_route.specs.Labels.{Labels, LeastWithin, SoleWithin}
-use Rattle.olr_route.proofs.WalkEnds.{walk_on, last_step}
+use Rattle.olr_spec.specs.Routes.{IsRoute, dm_of, Least, UniqueShortest}
+use Rattle.olr_spec.proofs.RouteLemmas.{dm_of-append, IsRoute-split, prefix_of_least, prefix_of_unique, empty_least}
+use Rattle.olr_spec.proofs.RouteLemmas.{empty_unique}
+use Rattle.olr_route.specs.Labels.{Labels, LeastWithin, UniqueWithin}
+use Rattle.olr_route.proofs.RouteEnds.{route_on, last_step}
 
 -- line y is the one after the first i lines of a route from s to t
 pub record IsNext (M : Map) (s t : ℕ) (lines : List ℕ) (i y : ℕ) : Type 0 where
   pub known : IsTrue (has_line M y)
-  pub front : Walk M s (start M y) (take i lines)
-  pub rest : Walk M (end M y) t (drop (i + 1) lines)
+  pub front : IsRoute M s (start M y) (take i lines)
+  pub rest : IsRoute M (end M y) t (drop (i + 1) lines)
   pub more : take (i + 1) lines ≡ take i lines ++ y ∷ []
   pub parts : lines ≡ (take i lines ++ y ∷ []) ++ drop (i + 1) lines
 
-pub next_of : (M : Map) (s t : ℕ) (lines : List ℕ) → Walk M s t lines → (i y : ℕ) → i < length lines →
+pub next_of : (M : Map) (s t : ℕ) (lines : List ℕ) → IsRoute M s t lines → (i y : ℕ) → i < length lines →
     y ≡ get_or lines i y → IsNext M s t lines i y
 next_of M s t lines w i y lt is =
     let here : drop i lines ≡ y ∷ drop (i + 1) lines =
     rw add-one (drop-cons lines i y lt ∙ ap (λ (z : ℕ). z ∷ drop (suc i) lines) (sym is)) in
     let whole : lines ≡ take i lines ++ (y ∷ drop (i + 1) lines) =
     sym (take-append-drop i lines) ∙ ap (λ (zs : List ℕ). take i lines ++ zs) here in
-    let r = Walk-split M s t (take i lines) (y ∷ drop (i + 1) lines) (subst (λ (zs : List ℕ). Walk M s t zs) whole w) in
+    let r = IsRoute-split M s t (take i lines) (y ∷ drop (i + 1) lines)
+    (subst (λ (zs : List ℕ). IsRoute M s t zs) whole w) in
     record {
       known = r.2.0;
-      front = subst (λ (v : ℕ). Walk M s v (take i lines)) (sym r.2.1) r.1;
+      front = subst (λ (v : ℕ). IsRoute M s v (take i lines)) (sym r.2.1) r.1;
       rest = r.2.2;
       more = take_more lines i y lt ∙ ap (λ (z : ℕ). take i lines ++ z ∷ []) (sym is);
       parts = whole ∙ sym (append_assoc (take i lines) (y ∷ []) (drop (i + 1) lines));
     }
 
 module _ (M : Map) (x : Labels) (t : ℕ) (lines : List ℕ) (i y : ℕ) (n : IsNext M x.source t lines i y) where
-  prefix_walk : Walk M x.source (end M y) (take i lines ++ y ∷ [])
-  prefix_walk = walk_on M x.source y (take i lines) n.front n.known
+  prefix_route : IsRoute M x.source (end M y) (take i lines ++ y ∷ [])
+  prefix_route = route_on M x.source y (take i lines) n.front n.known
 
   prefix_short : dm_of M lines ≤ x.limit → dm_of M (take i lines ++ y ∷ []) ≤ x.limit
   prefix_short h =
@@ -47,29 +48,33 @@ module _ (M : Map) (x : Labels) (t : ℕ) (lines : List ℕ) (i y : ℕ) (n : Is
   least_prefix l = record {
     least =
         prefix_of_least M x.source (end M y) t (take i lines ++ y ∷ []) (drop (i + 1) lines)
-        (subst (λ (zs : List ℕ). Least M x.source t zs) n.parts l.least) prefix_walk n.rest;
+        (subst (λ (zs : List ℕ). Least M x.source t zs) n.parts l.least) prefix_route n.rest;
     within = prefix_short l.within;
   }
 
-  pub sole_prefix : SoleWithin M x t lines → SoleWithin M x (end M y) (take i lines ++ y ∷ [])
-  sole_prefix l = record {
-    sole =
-        prefix_of_sole M x.source (end M y) t (take i lines ++ y ∷ []) (drop (i + 1) lines)
-        (subst (λ (zs : List ℕ). Sole M x.source t zs) n.parts l.sole) prefix_walk n.rest;
+  pub unique_prefix : UniqueWithin M x t lines → UniqueWithin M x (end M y) (take i lines ++ y ∷ [])
+  unique_prefix l = record {
+    unique =
+        prefix_of_unique M x.source (end M y) t (take i lines ++ y ∷ []) (drop (i + 1) lines)
+        (subst (λ (zs : List ℕ). UniqueShortest M x.source t zs) n.parts l.unique) prefix_route n.rest;
     within = prefix_short l.within;
   }
 
   -- what holds for the first i + 1 lines, wherever they lead
   pub held_more : (P : ℕ → List ℕ → Type 0) → P (end M y) (take i lines ++ y ∷ []) → (v : ℕ) →
-      Walk M x.source v (take (i + 1) lines) → P v (take (i + 1) lines)
+      IsRoute M x.source v (take (i + 1) lines) → P v (take (i + 1) lines)
   held_more P here v w =
-      let step = last_step M x.source v y (take i lines) (subst (λ (zs : List ℕ). Walk M x.source v zs) n.more w) in
+      let step = last_step M x.source v y (take i lines) (subst (λ (zs : List ℕ). IsRoute M x.source v zs) n.more w) in
       subst (λ (zs : List ℕ). P v zs) (sym n.more) (subst (λ (u : ℕ). P u (take i lines ++ y ∷ [])) step.to here)
 
-pub least_none : (M : Map) (x : Labels) (v : ℕ) → Walk M x.source v [] → LeastWithin M x v []
+pub least_none : (M : Map) (x : Labels) (v : ℕ) → IsRoute M x.source v [] → LeastWithin M x v []
 least_none M x v w =
     record { least = subst (λ (u : ℕ). Least M x.source u []) w (empty_least M x.source); within = omega arith }
 
-pub sole_none : (M : Map) → IsMap M → (x : Labels) (v : ℕ) → Walk M x.source v [] → SoleWithin M x v []
-sole_none M m x v w =
-    record { sole = subst (λ (u : ℕ). Sole M x.source u []) w (empty_sole M m x.source); within = omega arith }
+pub unique_none : (M : Map) → IsMap M → (x : Labels) (v : ℕ) → IsRoute M x.source v [] → UniqueWithin M x v []
+unique_none M m x v w =
+    record {
+      unique = subst (λ (u : ℕ). UniqueShortest M x.source u []) w (empty_unique M m x.source);
+      within = omega
+          arith;
+    }

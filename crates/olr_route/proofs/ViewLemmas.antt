@@ -15,7 +15,7 @@ use Rattle.std.proofs.lemmas.Map.Views.{Contains-keys_from_lookup}
 use Rattle.std.proofs.lemmas.Slice.Zip.{get_or-zip, length-zip}
 use Rattle.olr_spec.proofs.OptionLemmas.{is_some_of}
 use Rattle.olr_map.proofs.Lookups.{lookup_at}
-use Rattle.olr_map.proofs.Numbers.{distinct_from_rising}
+use Rattle.olr_map.proofs.Numbers.{distinct_from_ascending}
 use Rattle.olr_route.specs.Labels.{Label, label_at, count_of}
 use Rattle.olr_route.specs.Listed.{listed_labels}
 
@@ -66,7 +66,7 @@ module _ (s limit : ℕ) (ks : List ℕ) (ls : List Label) (up : IsStrictlyIncre
       let long = length-zip ks ls in
       get-view (zip ks ls) v
       ∙ lookup_at (zip ks ls) v i (0, (0, None))
-      (subst (λ (xs : List ℕ). IsDistinct eqb xs) (sym keys) (distinct_from_rising ks up)) (omega arith)
+      (subst (λ (xs : List ℕ). IsDistinct eqb xs) (sym keys) (distinct_from_ascending ks up)) (omega arith)
       (ap (λ (p : ℕ × Label). p.0) pair ∙ is)
       ∙ ap (λ (p : ℕ × Label). Some p.1) pair
 
@@ -98,5 +98,5 @@ module _ (s limit : ℕ) (ks : List ℕ) (ls : List Label) (up : IsStrictlyIncre
   count_of-listed =
       let long = length-zip ks ls in
       let count =
-      len-view (zip ks ls) (subst (λ (xs : List ℕ). IsDistinct eqb xs) (sym keys) (distinct_from_rising ks up)) in
+      len-view (zip ks ls) (subst (λ (xs : List ℕ). IsDistinct eqb xs) (sym keys) (distinct_from_ascending ks up)) in
       omega arith

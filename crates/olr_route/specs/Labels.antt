@@ -3,7 +3,7 @@
 --     dist_at, last_at      the parts of the label at a node
 --     count_of x      how many labels there are
 --     AreLabels M x      exactly the nodes that are reached have labels, and these are those of the shortest paths
---     LeastWithin, SoleWithin M x t xs      xs is the (unique) shortest path from the source to t, within the limit
+--     LeastWithin, UniqueWithin M x t xs      xs is the (unique) shortest path from the source to t, within the limit
 use Rattle.std.specs.Prelude.{◌≡◌, ℕ, ◌≤◌, ◌↔◌, List, [], ◌∷◌, Option, Some, None, IsSome, option_and_then}
 use Rattle.std.specs.Option.{option_map}
 use Rattle.std.specs.Coded.{Coded, code_by, coded_ℕ, coded_option, coded×}
@@ -11,7 +11,7 @@ use Rattle.std.specs.Ordering.{nat_cmp}
 use Rattle.std.specs.FinMap.{FinMap, get, len, code}
 use Rattle.std.proofs.Common.{refl}
 use Rattle.olr_spec.specs.Map.{Map}
-use Rattle.olr_spec.specs.Walks.{Reaches, dm_of, Least, Sole}
+use Rattle.olr_spec.specs.Routes.{Reaches, dm_of, Least, UniqueShortest}
 
 -- a route's length, and its last line, if it has lines
 abbrev pub Label : Type 0
@@ -60,6 +60,6 @@ pub record LeastWithin (M : Map) (x : Labels) (t : ℕ) (xs : List ℕ) : Type 0
   pub least : Least M x.source t xs
   pub within : dm_of M xs ≤ x.limit
 
-pub record SoleWithin (M : Map) (x : Labels) (t : ℕ) (xs : List ℕ) : Type 0 where
-  pub sole : Sole M x.source t xs
+pub record UniqueWithin (M : Map) (x : Labels) (t : ℕ) (xs : List ℕ) : Type 0 where
+  pub unique : UniqueShortest M x.source t xs
   pub within : dm_of M xs ≤ x.limit

@@ -5,7 +5,7 @@ pub mod Ends
 pub mod Entries
 pub mod Queues
 pub mod Notes
-pub mod Founds
+pub mod Frontiers
 pub mod Listed
 pub mod Distances
 pub mod Searches

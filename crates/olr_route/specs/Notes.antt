@@ -1,5 +1,5 @@
 -- A table of labels by slot, and the list of the labelled nodes.
---     label_in table p      the label in slot p; NO_LABEL if there is none
+--     label_in table p      the label in slot p; UNREACHED if there is none
 --     AreAllReached table reached      each label is in the slot of a node of the list
 --     numbers_of reached      the nodes' numbers
 --     NotesOnce old new label r      r is appended to the list if the label is none
@@ -7,17 +7,17 @@ use Rattle.std.specs.Prelude.{◌≡◌, ◌≢◌, ℕ, ◌<◌, ◌≤◌, ◌
 use Rattle.std.specs.Coded.{coded_ℕ, Coded-set}
 use Rattle.std.proofs.Props.{props}
 use Rattle.olr_route.specs.declared.routes.TheConstants.{GREATEST_LIMIT}
-use Rattle.olr_route.specs.declared.found.TheConstants.{NO_LABEL}
-use Rattle.olr_route.specs.declared.found.Reached.{Reached}
+use Rattle.olr_route.specs.declared.frontier.TheConstants.{UNREACHED}
+use Rattle.olr_route.specs.declared.frontier.Reached.{Reached}
 
 abbrev pub label_in : List ℕ → ℕ → ℕ
-label_in table p = slice_index_or table p NO_LABEL
+label_in table p = slice_index_or table p UNREACHED
 
 abbrev pub numbers_of : List Reached → List ℕ
 numbers_of xs = map (λ (r : Reached). r.node) xs
 
 abbrev pub AreAllReached : List ℕ → List Reached → Type 0
-AreAllReached table reached = (p : ℕ) → ((r : Reached) → Contains reached r → r.place ≢ p) → label_in table p ≡ NO_LABEL
+AreAllReached table reached = (p : ℕ) → ((r : Reached) → Contains reached r → r.slot ≢ p) → label_in table p ≡ UNREACHED
 
 pub AreAllReached-prop : (table : List ℕ) (reached : List Reached) → IsProp (AreAllReached table reached)
 AreAllReached-prop table reached = hlevel (props, Coded-set coded_ℕ)

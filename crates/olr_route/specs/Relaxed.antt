@@ -7,7 +7,7 @@
 --     Found M s v d o      a route of length d with last line o leads from s to v
 use Rattle.std.specs.Prelude.{◌≡◌, ℕ, ◌+◌, ◌<◌, ◌≤◌, ◌⊎◌, Option, Some, None, IsTrue, List}
 use Rattle.olr_spec.specs.Map.{Map, has_line, start, end, dm}
-use Rattle.olr_spec.specs.Walks.{Walk, dm_of}
+use Rattle.olr_spec.specs.Routes.{IsRoute, dm_of}
 use Rattle.olr_route.specs.Labels.{Label, last_of}
 
 -- no line at all comes before each line
@@ -34,6 +34,6 @@ IsClosed M limit L = (u d : ℕ) (o : Option ℕ) → L u ≡ Some (d, o) → Cl
 
 pub record Found (M : Map) (s v d : ℕ) (o : Option ℕ) : Type 0 where
   pub lines : List ℕ
-  pub walk : Walk M s v lines
+  pub route : IsRoute M s v lines
   pub long : dm_of M lines ≡ d
   pub ends : last_of lines ≡ o

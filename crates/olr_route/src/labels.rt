@@ -48,7 +48,7 @@ impl Labels {
         nodes: Vec<NodeId>,
         labels: Vec<(u32, Option<LineId>)>,
     ) -> Labels
-        requires rising { IsStrictlyIncreasing nodes.items }
+        requires ascending { IsStrictlyIncreasing nodes.items }
         requires beside { length labels.items ≡ length nodes.items }
         ensures { result ≡ listed_labels source limit nodes.items labels.items }
     {
@@ -62,7 +62,7 @@ impl Labels {
 
     /// The labelled nodes in ascending order.
     pub(crate) fn nodes(&self) -> &[NodeId]
-        ensures rising { IsStrictlyIncreasing result.now }
+        ensures ascending { IsStrictlyIncreasing result.now }
         ensures nodes { (v : ℕ) → (Contains result.now v) ↔ (IsSome (label_at self.now v)) }
         ensures count { length result.now ≡ count_of self.now }
     {
@@ -87,7 +87,8 @@ impl Labels {
         Some(dist)
     }
 
-    /// The last line of the shortest path to a node. None at the source, and if no route within the limit reaches the node.
+    /// The last line of the shortest path to a node. None at the source, and if no route within the limit reaches the
+    /// node.
     pub fn last_line(&self, node: NodeId) -> Option<LineId>
         ensures { result ≡ last_at self.now node }
     {

@@ -2,38 +2,38 @@
 ghost use Rattle.std.specs.Prelude.{◌≡◌, ◌↔◌, ◌+◌, ◌<◌, ℕ, None, Contains, IsTrue, IfOk, length, slice_index};
 ghost use Rattle.std.specs.Prelude.{slice_index_or};
 ghost use Rattle.olr_spec.specs.Map.{has_node};
-ghost use Rattle.olr_route.specs.Founds.{label_of};
-ghost use Rattle.olr_route.specs.Listed.{IsLastLine, IsTold};
+ghost use Rattle.olr_route.specs.Frontiers.{label_of};
+ghost use Rattle.olr_route.specs.Listed.{IsLastLine, IsReturned};
 ghost use Rattle.olr_route.specs.Notes.{numbers_of};
-ghost use Rattle.olr_route.specs.declared.found.Reached.{Reached as ReachedRecord};
+ghost use Rattle.olr_route.specs.declared.frontier.Reached.{Reached as ReachedRecord};
 
-use crate::found::{Found, Reached};
+use crate::frontier::{Frontier, Reached};
 use olr_map::{LineEnd, LineId, MapRead, NodeId};
 use std::alloc::{AllocError, Global};
 
 /// Whether a line, as seen from where it ends, reaches this length there: the label at its start plus its own length.
-fn is_at_length(found: &Found, end: &LineEnd, length: u32) -> bool
-    ensures { IsTrue result ↔ (label_of found.now end.now.place + end.now.len ≡ length) }
+fn is_at_length(frontier: &Frontier, end: &LineEnd, length: u32) -> bool
+    ensures { IsTrue result ↔ (label_of frontier.now end.now.slot + end.now.len ≡ length) }
 {
-    end.len <= length && found.label(end.place) == length - end.len
+    end.len <= length && frontier.label(end.slot) == length - end.len
 }
 
 /// The least number of a line that reaches the node in this slot with this length. None if there is no such line.
 fn last_line<M: MapRead>(
     map: &M,
-    found: &Found,
+    frontier: &Frontier,
     node: NodeId,
-    place: u32,
+    slot: u32,
     length: u32,
 ) -> Option<LineId>
     requires known { IsTrue (has_node (M.map map.now) node) }
-    requires at { M.place_in map.now node ≡ place }
-    ensures { IsLastLine (M.map map.now) (M.place_in map.now) found.now node length result }
+    requires at { M.node_slot map.now node ≡ slot }
+    ensures { IsLastLine (M.map map.now) (M.node_slot map.now) frontier.now node length result }
 {
-    let lines = map.in_lines_at(place);
-    let ends = map.in_ends_at(place);
+    let lines = map.in_lines_at(slot);
+    let ends = map.in_ends_at(slot);
     for (index, end) in ends.iter().enumerate() {
-        if is_at_length(found, end, length) {
+        if is_at_length(frontier, end, length) {
             return Some(lines[index]);
         }
     }
@@ -41,15 +41,15 @@ fn last_line<M: MapRead>(
 }
 
 /// The distance of a node by its label in the table, and the last line of the shortest path there.
-fn label_at<M: MapRead>(map: &M, found: &Found, reached: Reached) -> (u32, Option<LineId>)
+fn label_at<M: MapRead>(map: &M, frontier: &Frontier, reached: Reached) -> (u32, Option<LineId>)
     requires known { IsTrue (has_node (M.map map.now) reached.node) }
-    requires at { M.place_in map.now reached.node ≡ reached.place }
-    ensures { IsTold (M.map map.now) (M.place_in map.now) found.now reached.node result }
+    requires at { M.node_slot map.now reached.node ≡ reached.slot }
+    ensures { IsReturned (M.map map.now) (M.node_slot map.now) frontier.now reached.node result }
 {
-    let length = found.label(reached.place);
+    let length = frontier.label(reached.slot);
     (
         length,
-        last_line(map, found, reached.node, reached.place, length),
+        last_line(map, frontier, reached.node, reached.slot, length),
     )
 }
 
@@ -57,19 +57,19 @@ fn label_at<M: MapRead>(map: &M, found: &Found, reached: Reached) -> (u32, Optio
 pub fn labels_at<M: MapRead>(
     alloc: Global,
     map: &M,
-    found: &Found,
+    frontier: &Frontier,
     reached: &[Reached],
 ) -> Result<Vec<(u32, Option<LineId>)>, AllocError>
     requires { (r : ReachedRecord) → Contains reached.now r
-        → IsTrue (has_node (M.map map.now) r.node) × (M.place_in map.now r.node ≡ r.place) }
+        → IsTrue (has_node (M.map map.now) r.node) × (M.node_slot map.now r.node ≡ r.slot) }
     ensures beside { IfOk result (λ labels. length labels.items ≡ length reached.now) }
     ensures each { IfOk result (λ labels. (i : ℕ) → i < length reached.now
-        → IsTold (M.map map.now) (M.place_in map.now) found.now (slice_index (numbers_of reached.now) i)
+        → IsReturned (M.map map.now) (M.node_slot map.now) frontier.now (slice_index (numbers_of reached.now) i)
         (slice_index_or labels.items i (0, None))) }
 {
     let mut labels = Vec::with_capacity(alloc, reached.len())?;
     for entry in reached {
-        labels.push(label_at(map, found, *entry))?;
+        labels.push(label_at(map, frontier, *entry))?;
     }
     Ok(labels)
 }

@@ -8,7 +8,7 @@ use std::cmp::Reverse;
 use std::collections::BinaryHeap;
 
 /// How many slots there may be.
-const PLACES: u64 = 4_294_967_296;
+const SLOTS: u64 = 4_294_967_296;
 
 /// Lengths, and the slots of the nodes that routes of these lengths reach, each pair as one number. Keeps its capacity
 /// when it is cleared.
@@ -39,12 +39,12 @@ impl Queue {
     }
 
     /// Adds a slot, at a length in decimetres.
-    pub fn push(&mut self, dist: u32, place: u32) -> Result<(), AllocError>
-        ensures there { OnOk result (Queued self.new dist place) }
+    pub fn push(&mut self, dist: u32, slot: u32) -> Result<(), AllocError>
+        ensures there { OnOk result (Queued self.new dist slot) }
         ensures kept { OnOk result ((d p : ℕ) → Queued self.old d p → Queued self.new d p) }
         ensures len { OnOk result (queue_len self.new ≡ queue_len self.old + 1) }
     {
-        let entry = u64::from(dist) * PLACES + u64::from(place);
+        let entry = u64::from(dist) * SLOTS + u64::from(slot);
         self.heap.push(Reverse(entry))?;
         Ok(())
     }
@@ -60,10 +60,10 @@ impl Queue {
         ensures same { IfNone result (self.new ≡ self.old) }
     {
         let Reverse(next) = *self.heap.peek()?;
-        if next / PLACES > u64::from(limit) {
+        if next / SLOTS > u64::from(limit) {
             return None;
         }
         let Reverse(nearest) = self.heap.pop()?;
-        Some(((nearest / PLACES) as u32, (nearest % PLACES) as u32))
+        Some(((nearest / SLOTS) as u32, (nearest % SLOTS) as u32))
     }
 }

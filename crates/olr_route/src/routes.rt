@@ -4,8 +4,8 @@ ghost use Rattle.olr_spec.specs.Map.{has_node};
 ghost use Rattle.olr_route.specs.Labels.{AreLabels, label_at, count_of};
 ghost use Rattle.olr_route.specs.Counts.{after_search};
 
-use crate::distances::{Direction, near};
-use crate::found::nodes_of;
+use crate::distances::{Direction, settled_search};
+use crate::frontier::nodes_of;
 use crate::labels::{Labels, note_labels};
 use crate::last_lines::labels_at;
 use crate::work::Work;
@@ -16,10 +16,10 @@ use std::alloc::{AllocError, Global};
 pub const GREATEST_LIMIT: u32 = 150_000;
 
 /// Labels the nodes that a route of at most `limit_dm` decimetres from the source reaches, each with the length and the
-/// last line of the shortest path there. Of equally long routes the shortest path is the one with the smaller line number
-/// at the first difference, counted from the end (profile). Adds the labelled nodes to the footprint, and to the work one
-/// search and as many settled nodes as there are labels. If an allocation fails, footprint and work may hold more than
-/// before.
+/// last line of the shortest path there. Of equally long routes the shortest path is the one with the smaller line
+/// number at the first difference, counted from the end (profile). Adds the labelled nodes to the footprint, and to the
+/// work one search and as many settled nodes as there are labels. If an allocation fails, footprint and work may hold
+/// more than before.
 pub fn search<M: MapRead>(
     alloc: Global,
     map: &M,
@@ -38,9 +38,9 @@ pub fn search<M: MapRead>(
     ensures few { IfOk result (λ labels. count_of labels ≤ length footprint.new) }
     ensures grows { OnOk result (length footprint.old ≤ length footprint.new) }
 {
-    let settled = near(alloc, map, Direction::Along, &[(source, 0)], limit_dm)?;
+    let settled = settled_search(alloc, map, Direction::Along, &[(source, 0)], limit_dm)?;
     let reached = settled.reached_within(alloc)?;
-    let labels = labels_at(alloc, map, &settled.found, &reached)?;
+    let labels = labels_at(alloc, map, &settled.frontier, &reached)?;
     let nodes = nodes_of(alloc, &reached)?;
     let labels = Labels::new(source, limit_dm, nodes, labels);
     note_labels(&labels, footprint, work)?;

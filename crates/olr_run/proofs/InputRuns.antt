@@ -29,7 +29,7 @@ use Rattle.olr_run.specs.declared.ends.RunFault.{RunFault}
 use Rattle.olr_run.specs.declared.ends.RunFault.TheVariants as fault
 use Rattle.olr_run.proofs.RecordLemmas.{first_records}
 use Rattle.olr_run.proofs.RunLemmas.{claims_of}
-use Rattle.olr_run.proofs.Running.{standing}
+use Rattle.olr_run.proofs.Running.{represented}
 use Rattle.olr_run.proofs.Joining.{stopped_is}
 
 -- ---- texts
@@ -46,7 +46,8 @@ joined_texts (o ∷ os) = ap (λ (xs : List ℕ). outcome_text o ++ xs) (joined_
 joined_more : (ws : List (List ℕ)) (front : List ℕ) → joined (ws ++ front ∷ []) ≡ joined ws ++ front
 unfolding joined
 joined_more [] front = append-nil front
-joined_more (w ∷ ws) front = ap (λ (xs : List ℕ). w ++ xs) (joined_more ws front) ∙ sym (append_assoc w (joined ws) front)
+joined_more (w ∷ ws) front = ap (λ (xs : List ℕ). w ++ xs) (joined_more ws front)
+    ∙ sym (append_assoc w (joined ws) front)
 
 -- the outcome of the last text
 last_of : (os : List Outcome) (ws : List (List ℕ)) (w : List ℕ) → map outcome_text os ≡ ws ++ w ∷ [] →
@@ -93,7 +94,8 @@ follows_join remaining a b c rs ms h k input records left source reached =
     let q = k input (records ++ rs) p.0 p.1 p.2 in (
       q.0,
       q.1,
-      subst (λ (xs : List (List Field)). Reached default_config st.StartRecord (strip_bom input) xs (reader_state c) q.0)
+      subst (λ (xs : List (List Field)). Reached default_config st.StartRecord (strip_bom input) xs (reader_state c)
+          q.0)
           (append_assoc records rs ms) q.2,
     )
 
@@ -128,7 +130,8 @@ exchanged remaining contents a b (r ∷ rs) (w ∷ ws) es l plain h =
     let read : Follows remaining a.0 (r ∷ []) h.2.0.0 =
     subst (Follows remaining a.0 (r ∷ [])) (sym same) (follows_one remaining a.0 h.0.0 r plain one.1) in
     let next =
-    exchanged remaining contents h.2.0 b rs ws es (omega arith) (subst (λ (x : Reader _). IsPlain x) (sym same) one.0) h.2.2
+    exchanged remaining contents h.2.0 b rs ws es (omega arith) (subst (λ (x : Reader _). IsPlain x) (sym same) one.0)
+    h.2.2
     in
     record {
       mid = next.mid;
@@ -190,16 +193,17 @@ ended_whole : {R W : Type 0} (remaining : R → Known) (contents : W → Known) 
     → Exchanged remaining contents a rs ws (Ended ∷ []) b
     → AnsweredOn stop (λ os. status_of end ≡ output.run_status stop os) old rs ws new
     → RanOn Claims stop old (Some (records_of input)) (contents a.1) new (contents b.1) end
-ended_whole remaining contents stop old new a b input end rs ws base starts l x answered s stands =
+ended_whole remaining contents stop old new a b input end rs ws base starts l x answered s represents =
     let f = first_of remaining a.0 x.mid.0 input rs starts x.read in
-    let h = answered s stands in
-    let sound = standing old s base stands in
+    let h = answered s represents in
+    let sound = represented old s base represents in
     let none =
     rows-end remaining x.mid.0 x.rest.0.0 x.rest.1.0.0 default_config f.0 x.plain.config f.2
     ((x.rest.1.0.1 x.plain).1) in
     let rows_are : records_of input ≡ rs =
     f.3 ∙ ap (λ (ms : List (List Field)). rs ++ ms) (f.4 none) ∙ append-nil rs in
-    let later : contents b.1 ≡ contents x.mid.1 = ap (λ (p : Reader _ × _). contents p.1) (sym x.rest.2) ∙ x.rest.1.1 in (
+    let later : contents b.1 ≡ contents x.mid.1 = ap (λ (p : Reader _ × _). contents p.1) (sym x.rest.2)
+    ∙ x.rest.1.1 in (
       h.0,
       h.1,
       texts h.2,
@@ -220,10 +224,10 @@ ended_stopped : {R W : Type 0} (remaining : R → Known) (contents : W → Known
     → Starts remaining a.0 (Some input) → Exchanged remaining contents a rs ws [] b
     → AnsweredOn stop (λ os. output.Stopped ≡ output.run_status stop os) old rs ws new
     → RanOn Claims stop old (Some (records_of input)) (contents a.1) new (contents b.1) ended.Stopped
-ended_stopped remaining contents stop old new a b input rs ws base starts x answered s stands =
+ended_stopped remaining contents stop old new a b input rs ws base starts x answered s represents =
     let f = first_of remaining a.0 x.mid.0 input rs starts x.read in
-    let h = answered s stands in
-    let sound = standing old s base stands in
+    let h = answered s represents in
+    let sound = represented old s base represents in
     let later : contents b.1 ≡ contents x.mid.1 = ap (λ (p : Reader _ × _). contents p.1) (sym x.rest) in (
       h.0,
       h.1,
@@ -291,12 +295,13 @@ pub cut_on : {R W : Type 0} (remaining : R → Known) (contents : W → Known) (
     → FaultedOn Claims stop old (known_records known) (contents a.1) new (contents b.1) e
 cut_on remaining contents stop old new a b None e base starts h = tt
 cut_on remaining contents stop old new a b (Some input) e base starts (In_taking of rs ws l history answered) =
-    λ s stands.
+    λ s represents.
     let x = exchanged remaining contents a b rs ws (Not_taken e ∷ []) l starts.plain history in
     let f = first_of remaining a.0 x.mid.0 input rs starts x.read in
-    let h = answered s stands in
-    let sound = standing old s base stands in
-    let later : contents b.1 ≡ contents x.mid.1 = ap (λ (p : Reader _ × _). contents p.1) (sym x.rest.2) ∙ x.rest.1.1 in (
+    let h = answered s represents in
+    let sound = represented old s base represents in
+    let later : contents b.1 ≡ contents x.mid.1 = ap (λ (p : Reader _ × _). contents p.1) (sym x.rest.2)
+    ∙ x.rest.1.1 in (
       h.0,
       h.1,
       texts h.2,
@@ -311,12 +316,13 @@ cut_on remaining contents stop old new a b (Some input) e base starts (In_taking
     )
 cut_on remaining contents stop old new a b (Some input) e base starts (Past_the_most is rs ws l most r history answered)
     =
-    λ s stands.
+    λ s represents.
     let x = exchanged remaining contents a b rs ws (Took r ∷ []) l starts.plain history in
     let f = first_of remaining a.0 x.mid.0 input rs starts x.read in
-    let h = answered s stands in
-    let sound = standing old s base stands in
-    let later : contents b.1 ≡ contents x.mid.1 = ap (λ (p : Reader _ × _). contents p.1) (sym x.rest.2) ∙ x.rest.1.1 in (
+    let h = answered s represents in
+    let sound = represented old s base represents in
+    let later : contents b.1 ≡ contents x.mid.1 = ap (λ (p : Reader _ × _). contents p.1) (sym x.rest.2)
+    ∙ x.rest.1.1 in (
       h.0,
       h.1,
       texts h.2,
@@ -330,13 +336,13 @@ cut_on remaining contents stop old new a b (Some input) e base starts (Past_the_
       },
     )
 cut_on remaining contents stop old new a b (Some input) e base starts (No_text is rs ws l r w history answered) =
-    λ s stands.
+    λ s represents.
     let x =
     taken_one remaining contents a b rs r ws [] (exchanged remaining contents a b rs ws (Took r ∷ []) l starts.plain
     history) in
     let f = first_of remaining a.0 x.mid.0 input (rs ++ r ∷ []) starts x.read in
-    let h = answered s stands in
-    let sound = standing old s base stands in
+    let h = answered s represents in
+    let sound = represented old s base represents in
     let o = last_of h.2 ws w h.4 in
     let later : contents b.1 ≡ contents x.mid.1 = ap (λ (p : Reader _ × _). contents p.1) (sym x.rest) in (
       h.0,
@@ -353,13 +359,13 @@ cut_on remaining contents stop old new a b (Some input) e base starts (No_text i
     )
 cut_on remaining contents stop old new a b (Some input) e base starts (In_text is rs ws l r front rest some history
     answered) =
-    λ s stands.
+    λ s represents.
     let x =
     taken_one remaining contents a b rs r ws (Cut front ∷ []) (exchanged remaining contents a b rs ws
     (Took r ∷ Cut front ∷ []) l starts.plain history) in
     let f = first_of remaining a.0 x.mid.0 input (rs ++ r ∷ []) starts x.read in
-    let h = answered s stands in
-    let sound = standing old s base stands in
+    let h = answered s represents in
+    let sound = represented old s base represents in
     let o = last_of h.2 ws (front ++ rest) h.4 in
     let later : contents b.1 ≡ contents x.rest.0.1 = ap (λ (p : Reader _ × _). contents p.1) (sym x.rest.2) in (
       h.0,

@@ -23,15 +23,15 @@ use Rattle.olr_run.specs.declared.ends.RunFault.{RunFault}
 use Rattle.olr_run.specs.declared.ends.Status.{Status}
 use Rattle.olr_run.specs.declared.ends.Status.TheVariants as status
 use Rattle.olr_run.proofs.RunLemmas.{claims_of}
-use Rattle.olr_run.proofs.Running.{standing}
+use Rattle.olr_run.proofs.Running.{represented}
 
 -- no bytes have no records
 pub no_file : (stop : Bool) (old : Registered) (before : Known) →
     RanOn SoundOutcomes stop old (known_records (Some [])) before old before status.AllAccepted
 unfolding csv_on_literals
-no_file stop old before s stands = (
+no_file stop old before s represents = (
   s,
-  stands,
+  represents,
   [],
   Appends-nil before,
   record { outcomes = []; each = refl; stops = tt; all = inl refl; wrote = refl; ended = refl },
@@ -43,8 +43,8 @@ pub only_sound : (stop : Bool) (old : Registered) (records : Records) (before : 
     → RanOn Claims stop old records before new later end → RanOn SoundOutcomes stop old records before new later end
 only_sound stop old None before new later end h = tt
 only_sound stop old (Some rs) before new later end h =
-    λ s stands.
-    let r = h s stands in
+    λ s represents.
+    let r = h s represents in
     let ran = r.4 in (
       r.0,
       r.1,
@@ -65,8 +65,8 @@ pub only_sound_faulted : (stop : Bool) (old : Registered) (records : Records) (b
     → FaultedOn Claims stop old records before new later e → FaultedOn SoundOutcomes stop old records before new later e
 only_sound_faulted stop old None before new later e h = tt
 only_sound_faulted stop old (Some rs) before new later e h =
-    λ s stands.
-    let r = h s stands in
+    λ s represents.
+    let r = h s represents in
     let cut = r.4 in
     (r.0, r.1, r.2, r.3, record { outcomes = cut.outcomes; each = cut.each.run; stops = cut.stops; wrote = cut.wrote })
 
@@ -86,10 +86,10 @@ stops_join stop (o ∷ os) qs n h k =
     (λ e. let never : true ≡ false = sym e ∙ parts.0 in absurd cc, stops_join stop os qs parts.1 h.1 k)
 
 -- a run that was not stopped rejected nothing if stop is set
-goes_on : (stop : Bool) (p : Status) (os : List Outcome) → p ≢ status.Stopped →
+continues : (stop : Bool) (p : Status) (os : List Outcome) → p ≢ status.Stopped →
     status_of p ≡ output.run_status stop os → (stop && any_refused os) ≡ false
-goes_on false p os n e = refl
-goes_on true p os n e = by p (any_refused os) n e where
+continues false p os n e = refl
+continues true p os n e = by p (any_refused os) n e where
   by : (p : Status) (b : Bool) → p ≢ status.Stopped →
       status_of p ≡ (if b then output.Stopped else output.All_accepted) → b ≡ false
   by p false n e = refl
@@ -173,8 +173,8 @@ pub both_stopped : (stop : Bool) (old mid : Registered) (first second : Records)
 both_stopped stop old mid None second before later p base h e = tt
 both_stopped stop old mid (Some rs) None before later p base h e = tt
 both_stopped stop old mid (Some rs) (Some ms) before later p base h e =
-    λ s stands.
-    let r = h s stands in
+    λ s represents.
+    let r = h s represents in
     let ran = r.4 in
     let stopped : output.Stopped ≡ output.run_status stop ran.outcomes = ap status_of (sym e) ∙ ran.ended in (
       r.0,
@@ -184,7 +184,7 @@ both_stopped stop old mid (Some rs) (Some ms) before later p base h e =
       record {
         outcomes = ran.outcomes;
         each =
-            claims_of s (rs ++ ms) ran.outcomes r.0 (standing old s base stands)
+            claims_of s (rs ++ ms) ran.outcomes r.0 (represented old s base represents)
             (run_longer SoundOutcome s r.0 rs ms ran.outcomes ran.each);
         stops = ran.stops;
         all = inr (stopped_is stop (any_refused ran.outcomes) stopped);
@@ -201,12 +201,12 @@ pub both_ran : (stop : Bool) (old mid new : Registered) (first second : Records)
 both_ran stop old mid new None second before now later p q end base h n k e = tt
 both_ran stop old mid new (Some rs) None before now later p q end base h n k e = tt
 both_ran stop old mid new (Some rs) (Some ms) before now later p q end base h n k e =
-    λ s stands.
-    let a = h s stands in
+    λ s represents.
+    let a = h s represents in
     let b = k a.0 a.1 in
     let one = a.4 in
     let two = b.4 in
-    let on = goes_on stop p one.outcomes n one.ended in
+    let on = continues stop p one.outcomes n one.ended in
     let size = all_whole stop rs one.outcomes on one.all in
     let ended : status_of end ≡ output.run_status stop (one.outcomes ++ two.outcomes) =
     e ∙ ap (λ (x : output.Status). greater x (status_of q)) one.ended
@@ -217,7 +217,7 @@ both_ran stop old mid new (Some rs) (Some ms) before now later p q end base h n 
       Appends-trans before now later _ _ a.3 b.3,
       record {
         outcomes = one.outcomes ++ two.outcomes;
-        each = claims_of s (rs ++ ms) (one.outcomes ++ two.outcomes) b.0 (standing old s base stands)
+        each = claims_of s (rs ++ ms) (one.outcomes ++ two.outcomes) b.0 (represented old s base represents)
             (run_join SoundOutcome s a.0 b.0 rs ms one.outcomes two.outcomes size one.each two.each.run);
         stops = stops_join stop one.outcomes two.outcomes on one.stops two.stops;
         all = all_join stop rs ms one.outcomes two.outcomes size two.all;
@@ -232,8 +232,8 @@ pub both_faulted_first : (stop : Bool) (old mid : Registered) (first second : Re
 both_faulted_first stop old mid None second before later e base h = tt
 both_faulted_first stop old mid (Some rs) None before later e base h = tt
 both_faulted_first stop old mid (Some rs) (Some ms) before later e base h =
-    λ s stands.
-    let r = h s stands in
+    λ s represents.
+    let r = h s represents in
     let cut = r.4 in (
       r.0,
       r.1,
@@ -242,7 +242,7 @@ both_faulted_first stop old mid (Some rs) (Some ms) before later e base h =
       record {
         outcomes = cut.outcomes;
         each =
-            claims_of s (rs ++ ms) cut.outcomes r.0 (standing old s base stands)
+            claims_of s (rs ++ ms) cut.outcomes r.0 (represented old s base represents)
             (run_longer SoundOutcome s r.0 rs ms cut.outcomes cut.each);
         stops = cut.stops;
         wrote = cut.wrote;
@@ -256,12 +256,12 @@ pub both_faulted_second : (stop : Bool) (old mid new : Registered) (first second
 both_faulted_second stop old mid new None second before now later p e base h n k = tt
 both_faulted_second stop old mid new (Some rs) None before now later p e base h n k = tt
 both_faulted_second stop old mid new (Some rs) (Some ms) before now later p e base h n k =
-    λ s stands.
-    let a = h s stands in
+    λ s represents.
+    let a = h s represents in
     let b = k a.0 a.1 in
     let one = a.4 in
     let cut = b.4 in
-    let on = goes_on stop p one.outcomes n one.ended in
+    let on = continues stop p one.outcomes n one.ended in
     let size = all_whole stop rs one.outcomes on one.all in (
       b.0,
       b.1,
@@ -269,7 +269,7 @@ both_faulted_second stop old mid new (Some rs) (Some ms) before now later p e ba
       Appends-trans before now later _ _ a.3 b.3,
       record {
         outcomes = one.outcomes ++ cut.outcomes;
-        each = claims_of s (rs ++ ms) (one.outcomes ++ cut.outcomes) b.0 (standing old s base stands)
+        each = claims_of s (rs ++ ms) (one.outcomes ++ cut.outcomes) b.0 (represented old s base represents)
             (run_join SoundOutcome s a.0 b.0 rs ms one.outcomes cut.outcomes size one.each cut.each.run);
         stops = stops_join stop one.outcomes cut.outcomes on one.stops cut.stops;
         wrote =

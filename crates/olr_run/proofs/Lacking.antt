@@ -9,7 +9,7 @@ use Rattle.olr_commands.specs.State.{TextFault, Content, State, Change, On_map, 
 use Rattle.olr_commands.specs.State.{Make, Show, Report, Explain, Begin, Commit, Abort, full, has_path, when}
 use Rattle.olr_commands.specs.State.{with_change, with_map, at_once, into_batch, after, text_fault, unless_fault}
 use Rattle.olr_commands.specs.State.{step_in}
-use Rattle.olr_commands.specs.Reply.{may_lack, IsRefusal, Told, Lacks}
+use Rattle.olr_commands.specs.Reply.{may_lack, IsRefusal, ByState, Lacks}
 use Rattle.olr_records.specs.Records.{Field, Bad_form, Out_of_range, Read, read, HoldsList}
 use Rattle.olr_run.specs.Output.{CommandOutcome, RecordOutcome}
 
@@ -78,7 +78,7 @@ step_had c (Some xs) Abort = tt
 
 refused : (s : State) (c : Command) → IsRefusal s c Memory → IsTrue (may_lack s c)
 unfolding HadMemory
-refused s c (Told e) = absurd (subst HadMemory e (step_had s.content s.batch c) refl)
+refused s c (ByState e) = absurd (subst HadMemory e (step_had s.content s.batch c) refl)
 refused s c (Lacks is may) = may
 
 of_command : (s t : State) (r : Read Command) → CommandOutcome s r (Err Memory) t →

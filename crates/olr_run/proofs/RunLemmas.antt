@@ -5,25 +5,25 @@ use Rattle.std.specs.Prelude.{◌&&◌, ◌||◌, is_err, IfSome}
 use Rattle.std.specs.Result.{result_ok}
 use Rattle.std.specs.List.{list_any}
 use Rattle.std.proofs.lemmas.Bool.{cases_Bool, both_ways, or_parts}
-use Rattle.olr_commands.specs.State.{IsContent, Fault, Memory, State, Command, HasPlaces, IsState}
+use Rattle.olr_commands.specs.State.{IsContent, Fault, Memory, State, Command, HasCoords, IsState}
 use Rattle.olr_commands.specs.Reply.{Outcome, lacks_memory}
 use Rattle.olr_commands.specs.History.{IsNamed, IsRefused}
 use Rattle.olr_commands.proofs.HistoryLemmas.{Leads, outcome_leads, outcome_keeps, is_named, is_refused, headline_of}
 use Rattle.olr_commands.proofs.OutcomeLemmas.{one_outcome}
 use Rattle.olr_records.specs.Records.{Field, Read, read}
 use Rattle.olr_run.specs.Output.{CommandOutcome, OutOfMemory, RecordOutcome, Outcomes, SoundOutcome, SoundOutcomes}
-use Rattle.olr_run.specs.Output.{command_spelled, Claims, StopsAtFault, any_refused, AreAnswered, texts, run_status}
+use Rattle.olr_run.specs.Output.{decoded_command, Claims, StopsAtFault, any_refused, AreAnswered, texts, run_status}
 use Rattle.olr_run.specs.Output.{Status}
 use Rattle.olr_run.specs.Output.{Ran, AllHadMemory}
-use Rattle.olr_records.proofs.ReadLemmas.{places_read}
+use Rattle.olr_records.proofs.ReadLemmas.{coords_read}
 
-command_keeps : (s t : State) (r : Read Command) (o : Outcome) → ((c : Command) → r ≡ Ok c → HasPlaces c) → IsState s →
+command_keeps : (s t : State) (r : Read Command) (o : Outcome) → ((c : Command) → r ≡ Ok c → HasCoords c) → IsState s →
     CommandOutcome s r o t → IsState t
 command_keeps s t (Ok c) o h i p = outcome_keeps s t c o i (h c refl) p
 command_keeps s t (Err f) o h i p = subst IsState (sym p.1) i
 
 record_keeps : (s t : State) (fields : List Field) (o : Outcome) → IsState s → RecordOutcome s fields o t → IsState t
-record_keeps s t fields o i (inl p) = command_keeps s t (read fields) o (places_read fields) i p
+record_keeps s t fields o i (inl p) = command_keeps s t (read fields) o (coords_read fields) i p
 record_keeps s t fields o i (inr p) = subst IsState (sym p.1.1) i
 
 pub outcomes_keep : (s t : State) (rs : List (List Field)) (os : List Outcome) → IsState s → Outcomes s rs os t →
@@ -47,7 +47,7 @@ leads_nowhere s t (Some c) f e = e
 
 names_nothing : (s t : State) (asked : Option Command) (f : Fault) → IfSome asked (λ c. IsNamed s c (Err f) t)
 names_nothing s t None f = tt
-names_nothing s t (Some c) f = λ tells es is. absurd cc
+names_nothing s t (Some c) f = λ reports es is. absurd cc
 
 lacking_claims : (s t : State) (asked : Option Command) (o : Outcome) → OutOfMemory s o t
     → Leads s asked o t × IfSome asked (λ c. IsNamed s c o t) × IsRefused s o t
@@ -56,11 +56,11 @@ lacking_claims s t asked o h =
     (leads_nowhere s t asked Memory h.1, names_nothing s t asked Memory, λ fault is. h.1)
 
 record_claims : (s : State) (fields : List Field) (o : Outcome) (t : State) → SoundOutcome s fields o t
-    → Leads s (command_spelled fields) o t × IfSome (command_spelled fields) (λ c. IsNamed s c o t) × IsRefused s o t
+    → Leads s (decoded_command fields) o t × IfSome (decoded_command fields) (λ c. IsNamed s c o t) × IsRefused s o t
 record_claims s fields o t h =
     elim h.0 [
       | inl p ↦ command_claims s t (read fields) o h.1 p
-      | inr p ↦ lacking_claims s t (command_spelled fields) o p.1
+      | inr p ↦ lacking_claims s t (decoded_command fields) o p.1
     ]
 
 pub sound_after : (s t : State) (rs : List (List Field)) (os : List Outcome) → IsContent s.content →
@@ -71,11 +71,11 @@ sound_after s t (r ∷ rs) (o ∷ os) i p = sound_after p.0 t rs os p.1.1 p.2
 
 pub claims_of : (s : State) (rs : List (List Field)) (os : List Outcome) (t : State) → IsContent s.content →
     SoundOutcomes s rs os t → Claims s rs os t
-claims_of s rs os t i h = headline_of SoundOutcome command_spelled record_claims s rs os t (sound_after s t rs os i h) h
+claims_of s rs os t i h = headline_of SoundOutcome decoded_command record_claims s rs os t (sound_after s t rs os i h) h
 
 -- ---- one run
 
-one_command : (s t u : State) (r : Read Command) (o q : Outcome) → ((c : Command) → r ≡ Ok c → HasPlaces c) →
+one_command : (s t u : State) (r : Read Command) (o q : Outcome) → ((c : Command) → r ≡ Ok c → HasCoords c) →
     IsState s → IsFalse (lacks_memory o) → IsFalse (lacks_memory q)
     → CommandOutcome s r o t → CommandOutcome s r q u → (o ≡ q) × (t ≡ u)
 one_command s t u (Ok c) o q h i n m p g = one_outcome s t u c o q i (h c refl) n m p g
@@ -87,7 +87,7 @@ not_memory o n e = both_ways (lacks_memory o) n (ap lacks_memory e)
 one_record : (s t u : State) (fields : List Field) (o q : Outcome) → IsState s → IsFalse (lacks_memory o) →
     IsFalse (lacks_memory q)
     → RecordOutcome s fields o t → RecordOutcome s fields q u → (o ≡ q) × (t ≡ u)
-one_record s t u fields o q i n m (inl p) (inl g) = one_command s t u (read fields) o q (places_read fields) i n m p g
+one_record s t u fields o q i n m (inl p) (inl g) = one_command s t u (read fields) o q (coords_read fields) i n m p g
 one_record s t u fields o q i n m (inl p) (inr g) = absurd (not_memory q m g.1.0)
 one_record s t u fields o q i n m (inr p) g = absurd (not_memory o n p.1.0)
 

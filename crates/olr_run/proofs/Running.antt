@@ -9,12 +9,13 @@ use Rattle.olr_commands.specs.State.{IsContent, State}
 use Rattle.olr_commands.proofs.HistoryLemmas.{run_more}
 use Rattle.olr_records.specs.Records.{Field}
 use Rattle.olr_records.specs.ReplyText.{outcome_text}
-use Rattle.olr_register.specs.Kept.{Stands}
+use Rattle.olr_register.specs.RegisterState.{Represents}
 use Rattle.olr_register.specs.Registered.{Registered}
 use Rattle.olr_run.specs.Output.{SoundOutcome, SoundOutcomes, StopsAtFault, any_refused, run_status, most_records}
 use Rattle.olr_run.specs.Output as output
 use Rattle.olr_run.specs.Sessions.{Event, Took, Ended, Not_taken, Wrote, Cut, History, exchanges, IsOfTaking}
-use Rattle.olr_run.specs.Runs.{status_of, AnswersRecord, AnsweredOn, last_events, RanIn, CutIn, In_taking, Past_the_most}
+use Rattle.olr_run.specs.Runs.{status_of, AnswersRecord, AnsweredOn, last_events, RanIn, CutIn, In_taking}
+use Rattle.olr_run.specs.Runs.{Past_the_most}
 use Rattle.olr_run.specs.Runs.{No_text, In_text}
 use Rattle.olr_run.specs.declared.ends.Status.{Status}
 use Rattle.olr_run.specs.declared.ends.Status.TheVariants as ended
@@ -65,13 +66,13 @@ pub record Answered (stop : Bool) (s : State) (records : List (List Field)) (tex
   pub stops : StopsAtFault stop outcomes
   pub all : length outcomes ≡ length records
   pub texts_are : map outcome_text outcomes ≡ texts
-  pub goes_on : (stop && any_refused outcomes) ≡ false
+  pub continues : (stop && any_refused outcomes) ≡ false
   pub ended : status_of end ≡ run_status stop outcomes
 
 -- from each state that the register represented
 abbrev pub AnswersSoFar : Bool → Registered → List (List Field) → List (List ℕ) → Registered → Status → Type 0
 AnswersSoFar stop old records texts now end =
-    (s : State) → Stands old.kept s → IsContent s.content → (t : State) × Stands now.kept t
+    (s : State) → Represents old.kept s → IsContent s.content → (t : State) × Represents now.kept t
     × Answered stop s records texts t end
 
 pub record SoFar {S : Type 0} (happens : S → Event → S → Type 0) (stop : Bool) (old : Registered) (before : S)
@@ -96,16 +97,16 @@ so_far_none happens stop old before =
       history = refl;
       last = refl;
       answered =
-          λ s stands sound. (
+          λ s represents sound. (
             s,
-            stands,
+            represents,
             record {
               outcomes = [];
               each = refl;
               stops = tt;
               all = refl;
               texts_are = refl;
-              goes_on = and-false stop;
+              continues = and-false stop;
               ended = refl;
             },
           );
@@ -139,10 +140,10 @@ accepted_more stop s t u records texts r text o end a h w e =
     record {
       outcomes = a.outcomes ++ o ∷ [];
       each = run_more SoundOutcome s t u records r a.outcomes o a.all a.each h;
-      stops = stops_more stop a.outcomes o a.goes_on a.stops;
+      stops = stops_more stop a.outcomes o a.continues a.stops;
       all = length_more a.outcomes o records r a.all;
       texts_are = more_texts texts text a.outcomes o a.texts_are w;
-      goes_on = ap (λ (b : Bool). stop && b) refused ∙ a.goes_on;
+      continues = ap (λ (b : Bool). stop && b) refused ∙ a.continues;
       ended =
           a.ended ∙ ap (λ (b : Bool). if b then (if stop then output.Stopped else output.Some_refused) else
           output.All_accepted) (sym refused);
@@ -164,7 +165,7 @@ refused_more_of s t u records texts r text o end a h w e =
       stops = stops_more false a.outcomes o refl a.stops;
       all = length_more a.outcomes o records r a.all;
       texts_are = more_texts texts text a.outcomes o a.texts_are w;
-      goes_on = refl;
+      continues = refl;
       ended =
           ap (λ (b : Bool). if b then output.Some_refused else output.All_accepted) (sym (some_refused a.outcomes o e));
     }
@@ -184,23 +185,23 @@ pub accepted_so_far : {S : Type 0} (happens : S → Event → S → Type 0) (sto
     → accepted ≡ true → SoFar happens stop old before now mid end n → happens mid (Took fields) taken →
     AnswersRecord happens now fields new taken later (Ok accepted)
     → SoFar happens stop old before new later end (n + 1)
-accepted_so_far happens stop old now new before mid taken later end fields n accepted e a took told =
+accepted_so_far happens stop old now new before mid taken later end fields n accepted e a took reported =
     record {
       records = a.records ++ fields ∷ [];
-      texts = a.texts ++ told.text ∷ [];
+      texts = a.texts ++ reported.text ∷ [];
       count = length-append a.records (fields ∷ []) ∙ ap (λ (k : ℕ). k + 1) a.count;
-      each = length_more a.texts told.text a.records fields a.each;
+      each = length_more a.texts reported.text a.records fields a.each;
       history =
-          history_more happens before mid taken later a.records a.texts fields told.text a.each a.history took
-          told.writes.0;
+          history_more happens before mid taken later a.records a.texts fields reported.text a.each a.history took
+          reported.writes.0;
       last = a.last;
-      answered = λ s stands sound.
-          let so = a.answered s stands sound in
-          let t = told.outcome so.0 so.1 (sound_after s so.0 a.records so.2.outcomes sound so.2.each) in (
+      answered = λ s represents sound.
+          let so = a.answered s represents sound in
+          let t = reported.outcome so.0 so.1 (sound_after s so.0 a.records so.2.outcomes sound so.2.each) in (
             t.0,
             t.2,
-            accepted_more stop s so.0 t.0 a.records a.texts fields told.text t.1 end so.2 t.3 t.4
-                (t.5 ∙ sym told.writes.1 ∙ e),
+            accepted_more stop s so.0 t.0 a.records a.texts fields reported.text t.1 end so.2 t.3 t.4
+                (t.5 ∙ sym reported.writes.1 ∙ e),
           );
     }
 
@@ -209,69 +210,71 @@ pub refused_so_far : {S : Type 0} (happens : S → Event → S → Type 0) (stop
     → accepted ≡ false → stop ≡ false → SoFar happens stop old before now mid end n → happens mid (Took fields) taken →
     AnswersRecord happens now fields new taken later (Ok accepted)
     → SoFar happens stop old before new later ended.SomeRefused (n + 1)
-refused_so_far happens true old now new before mid taken later end fields n accepted e going a took told = absurd cc
-refused_so_far happens false old now new before mid taken later end fields n accepted e going a took told =
+refused_so_far happens true old now new before mid taken later end fields n accepted e going a took reported = absurd cc
+refused_so_far happens false old now new before mid taken later end fields n accepted e going a took reported =
     record {
       records = a.records ++ fields ∷ [];
-      texts = a.texts ++ told.text ∷ [];
+      texts = a.texts ++ reported.text ∷ [];
       count = length-append a.records (fields ∷ []) ∙ ap (λ (k : ℕ). k + 1) a.count;
-      each = length_more a.texts told.text a.records fields a.each;
+      each = length_more a.texts reported.text a.records fields a.each;
       history =
-          history_more happens before mid taken later a.records a.texts fields told.text a.each a.history took
-          told.writes.0;
+          history_more happens before mid taken later a.records a.texts fields reported.text a.each a.history took
+          reported.writes.0;
       last = refl;
-      answered = λ s stands sound.
-          let so = a.answered s stands sound in
-          let t = told.outcome so.0 so.1 (sound_after s so.0 a.records so.2.outcomes sound so.2.each) in (
+      answered = λ s represents sound.
+          let so = a.answered s represents sound in
+          let t = reported.outcome so.0 so.1 (sound_after s so.0 a.records so.2.outcomes sound so.2.each) in (
             t.0,
             t.2,
-            refused_more_of s so.0 t.0 a.records a.texts fields told.text t.1 end so.2 t.3 t.4
-                (t.5 ∙ sym told.writes.1 ∙ e),
+            refused_more_of s so.0 t.0 a.records a.texts fields reported.text t.1 end so.2 t.3 t.4
+                (t.5 ∙ sym reported.writes.1 ∙ e),
           );
     }
 
 -- ---- ends
 
 -- the states that a register represents have its content
-pub standing : (old : Registered) (s : State) → IsContent old.kept.content → Stands old.kept s → IsContent s.content
-standing old s sound stands = subst IsContent stands.0 sound
+pub represented : (old : Registered) (s : State) → IsContent old.kept.content → Represents old.kept s →
+    IsContent s.content
+represented old s sound represents = subst IsContent represents.0 sound
 
 answered_on : (stop : Bool) (And : List Outcome → Type 0) (old now : Registered) (records : List (List Field))
     (texts : List (List ℕ)) (end : Status) → IsContent old.kept.content
     → AnswersSoFar stop old records texts now end
     → ((os : List Outcome) → (stop && any_refused os) ≡ false → status_of end ≡ run_status stop os → And os)
     → AnsweredOn stop And old records texts now
-answered_on stop And old now records texts end base h give s stands =
-    let sound = standing old s base stands in
-    let so = h s stands sound in (
+answered_on stop And old now records texts end base h give s represents =
+    let sound = represented old s base represents in
+    let so = h s represents sound in (
       so.0,
       so.1,
       so.2.outcomes,
       claims_of s records so.2.outcomes so.0 sound so.2.each,
       so.2.texts_are,
       so.2.stops,
-      give so.2.outcomes so.2.goes_on so.2.ended,
+      give so.2.outcomes so.2.continues so.2.ended,
     )
 
 -- with one record more, whose answer may not be written completely
 one_more_on : {S : Type 0} (happens : S → Event → S → Type 0) (stop : Bool) (And : List Outcome → Type 0)
-    (old now new : Registered) (records : List (List Field)) (texts : List (List ℕ)) (end : Status) (fields : List Field)
+    (old now new : Registered) (records : List (List Field)) (texts : List (List ℕ)) (end : Status)
+    (fields : List Field)
     (taken later : S) (r : Result Bool RunFault) → IsContent old.kept.content
-    → AnswersSoFar stop old records texts now end → (told : AnswersRecord happens now fields new taken later r)
-    → ((os : List Outcome) (o : Outcome) → is_ok o ≡ told.accepts → And (os ++ o ∷ []))
-    → AnsweredOn stop And old (records ++ fields ∷ []) (texts ++ told.text ∷ []) new
-one_more_on happens stop And old now new records texts end fields taken later r base h told give s stands =
-    let sound = standing old s base stands in
-    let so = h s stands sound in
-    let t = told.outcome so.0 so.1 (sound_after s so.0 records so.2.outcomes sound so.2.each) in
+    → AnswersSoFar stop old records texts now end → (reported : AnswersRecord happens now fields new taken later r)
+    → ((os : List Outcome) (o : Outcome) → is_ok o ≡ reported.accepts → And (os ++ o ∷ []))
+    → AnsweredOn stop And old (records ++ fields ∷ []) (texts ++ reported.text ∷ []) new
+one_more_on happens stop And old now new records texts end fields taken later r base h reported give s represents =
+    let sound = represented old s base represents in
+    let so = h s represents sound in
+    let t = reported.outcome so.0 so.1 (sound_after s so.0 records so.2.outcomes sound so.2.each) in
     let os = so.2.outcomes ++ t.1 ∷ [] in (
       t.0,
       t.2,
       os,
       claims_of s (records ++ fields ∷ []) os t.0 sound
           (run_more SoundOutcome s so.0 t.0 records fields so.2.outcomes t.1 so.2.all so.2.each t.3),
-      more_texts texts told.text so.2.outcomes t.1 so.2.texts_are t.4,
-      stops_more stop so.2.outcomes t.1 so.2.goes_on so.2.stops,
+      more_texts texts reported.text so.2.outcomes t.1 so.2.texts_are t.4,
+      stops_more stop so.2.outcomes t.1 so.2.continues so.2.stops,
       give so.2.outcomes t.1 t.5,
     )
 
@@ -298,23 +301,24 @@ pub ran_stopped : {S : Type 0} (happens : S → Event → S → Type 0) (stop : 
     → IsContent old.kept.content → accepted ≡ false → stop ≡ true → SoFar happens stop old before now mid end n →
     happens mid (Took fields) taken → AnswersRecord happens now fields new taken later (Ok accepted)
     → RanIn happens stop old before new later ended.Stopped
-ran_stopped happens false old now new before mid taken later end fields n accepted base e stops a took told = absurd cc
-ran_stopped happens true old now new before mid taken later end fields n accepted base e stops a took told =
+ran_stopped happens false old now new before mid taken later end fields n accepted base e stops a took reported =
+    absurd cc
+ran_stopped happens true old now new before mid taken later end fields n accepted base e stops a took reported =
     record {
       records = a.records ++ fields ∷ [];
-      texts = a.texts ++ told.text ∷ [];
-      each = length_more a.texts told.text a.records fields a.each;
+      texts = a.texts ++ reported.text ∷ [];
+      each = length_more a.texts reported.text a.records fields a.each;
       history =
           subst (λ (es : List Event). History happens before es later)
-          (sym (append-nil (exchanges (a.records ++ fields ∷ []) (a.texts ++ told.text ∷ []))))
-          (history_more happens before mid taken later a.records a.texts fields told.text a.each a.history took
-          told.writes.0);
+          (sym (append-nil (exchanges (a.records ++ fields ∷ []) (a.texts ++ reported.text ∷ []))))
+          (history_more happens before mid taken later a.records a.texts fields reported.text a.each a.history took
+          reported.writes.0);
       answered =
           one_more_on happens true _ old now new a.records a.texts end fields taken later (Ok accepted) base a.answered
-          told
+          reported
           (λ os o is.
           ap (λ (b : Bool). if b then output.Stopped else output.All_accepted)
-          (sym (some_refused os o (is ∙ sym told.writes.1 ∙ e))));
+          (sym (some_refused os o (is ∙ sym reported.writes.1 ∙ e))));
     }
 
 -- no further record can be taken
@@ -344,22 +348,23 @@ pub cut_in_answer : {S : Type 0} (happens : S → Event → S → Type 0) (stop 
     (before mid taken later : S) (end : Status) (n : ℕ) (fields : List Field) (e : RunFault)
     → IsContent old.kept.content → SoFar happens stop old before now mid end n → happens mid (Took fields) taken
     → AnswersRecord happens now fields new taken later (Err e) → CutIn happens stop old before new later e
-cut_in_answer happens stop old now new before mid taken later end n fields e base a took told = elim told.writes [
-  | inl none ↦
-      No_text none.0 a.records a.texts a.each fields told.text
-      (history_join happens before mid later (exchanges a.records a.texts) (Took fields ∷ []) a.history
-      (taken, took, sym none.1))
-      (one_more_on happens stop _ old now new a.records a.texts end fields taken later (Err e) base a.answered told
-      (λ os o is. tt))
-  | inr cut ↦
-      In_text cut.5 a.records a.texts a.each fields cut.0 cut.1 cut.3
-      (history_join happens before mid later (exchanges a.records a.texts) (Took fields ∷ Cut cut.0 ∷ []) a.history
-      (taken, took, (later, cut.4, refl)))
-      (subst (λ (text : List ℕ). AnsweredOn stop (λ os. ⊤) old (a.records ++ fields ∷ []) (a.texts ++ text ∷ []) new)
-      cut.2
-      (one_more_on happens stop _ old now new a.records a.texts end fields taken later (Err e) base a.answered told
-      (λ os o is. tt)))
-]
+cut_in_answer happens stop old now new before mid taken later end n fields e base a took reported = elim
+    reported.writes [
+      | inl none ↦
+          No_text none.0 a.records a.texts a.each fields reported.text
+          (history_join happens before mid later (exchanges a.records a.texts) (Took fields ∷ []) a.history
+          (taken, took, sym none.1))
+          (one_more_on happens stop _ old now new a.records a.texts end fields taken later (Err e) base a.answered reported
+          (λ os o is. tt))
+      | inr cut ↦
+          In_text cut.5 a.records a.texts a.each fields cut.0 cut.1 cut.3
+          (history_join happens before mid later (exchanges a.records a.texts) (Took fields ∷ Cut cut.0 ∷ []) a.history
+          (taken, took, (later, cut.4, refl)))
+          (subst (λ (text : List ℕ). AnsweredOn stop (λ os. ⊤) old (a.records ++ fields ∷ []) (a.texts ++ text ∷ []) new)
+          cut.2
+          (one_more_on happens stop _ old now new a.records a.texts end fields taken later (Err e) base a.answered reported
+          (λ os o is. tt)))
+    ]
 
 -- a fault that `?` passes on
 pub passed_on : {T : Type 0} (r : Result T RunFault) (e : RunFault) (P : RunFault → Type 0) → IsErrAnd r (λ x. x ≡ e) →

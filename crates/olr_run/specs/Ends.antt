@@ -3,7 +3,7 @@
 --     Explains kinds before later code      arguments with these kinds of fault are answered with help, the version or
 --         a fault
 --     Opens call remaining opener name opened      opening the file of that name returns known bytes, or fails
---     Ends words Opened input old before new later code      the register, what is written and the exit status
+--     Ends arguments Opened input old before new later code      the register, what is written and the exit status
 use Rattle.std.specs.Prelude.{◌≡◌, ℕ, Bool, true, false, List, [], Option, Some, None, option_map, MatchOption, Result}
 use Rattle.std.specs.Prelude.{Ok, Err, ◌⊎◌, IfSome}
 use Rattle.std.specs.Result.{result_ok}
@@ -62,7 +62,7 @@ ExplainsFault (opts.Clap e) before later code =
 pub data Explains (kinds : Kinds) (before later : Known) (code : ℕ) : Type 0 where
   Shown : HasKind kinds true → Adds before later → code ≡ 0 → Explains kinds before later code
   Not_shown : HasKind kinds true → Adds before later → code ≡ 3 → Explains kinds before later code
-  Wrong_words : HasKind kinds false → later ≡ before → code ≡ 2 → Explains kinds before later code
+  Wrong_arguments : HasKind kinds false → later ≡ before → code ≡ 2 → Explains kinds before later code
   No_memory : later ≡ before → code ≡ 4 → Explains kinds before later code
 
 -- ---- the command file
@@ -88,17 +88,22 @@ OpensFile call opener _ _ = ⊥
 -- ---- the whole program
 
 -- a run is made only if the arguments have no fault and the file was opened
-pub data Ends (words : List (List ℕ)) (Opened : List ℕ → Option Known → Type 0) (input : Known) (old : Registered)
+pub data Ends (arguments : List (List ℕ)) (Opened : List ℕ → Option Known → Type 0) (input : Known) (old : Registered)
     (before : Known) (new : Registered) (later : Known) (code : ℕ) : Type 0 where
-  Explained : Explains (fault_of keep_app words) before later code → new ≡ old →
-      Ends words Opened input old before new later code
-  Not_opened : fault_of keep_app words ≡ [] → (name : List ℕ) → (options words).file ≡ Some name → Opened name None →
+  Explained : Explains (fault_of keep_app arguments) before later code → new ≡ old →
+      Ends arguments Opened input old before new later code
+  Not_opened : fault_of keep_app arguments ≡ [] → (name : List ℕ) → (options arguments).file ≡ Some name →
+      Opened name None →
       later ≡ before → new ≡ old → code ≡ 3
-      → Ends words Opened input old before new later code
-  Ran : fault_of keep_app words ≡ [] → (file : Known) → IsFile (options words).file Opened file → (end : Status) →
-      RanOn Claims (options words).stop old (known_both (known_records file) (known_records input)) before new later end
-      → code ≡ exit_code (Ok end) → Ends words Opened input old before new later code
-  Cut_off : fault_of keep_app words ≡ [] → (file : Known) → IsFile (options words).file Opened file → (e : RunFault) →
-      FaultedOn Claims (options words).stop old (known_both (known_records file) (known_records input)) before new later
+      → Ends arguments Opened input old before new later code
+  Ran : fault_of keep_app arguments ≡ [] → (file : Known) → IsFile (options arguments).file Opened file →
+      (end : Status) →
+      RanOn Claims (options arguments).stop old (known_both (known_records file) (known_records input)) before new
+      later end
+      → code ≡ exit_code (Ok end) → Ends arguments Opened input old before new later code
+  Cut_off : fault_of keep_app arguments ≡ [] → (file : Known) → IsFile (options arguments).file Opened file →
+      (e : RunFault) →
+      FaultedOn Claims (options arguments).stop old (known_both (known_records file) (known_records input)) before new
+      later
       e → (e ≡ fault.TooMany → HasTooMany file ⊎ HasTooMany input) → code ≡ exit_code (Err e) →
-      Ends words Opened input old before new later code
+      Ends arguments Opened input old before new later code

@@ -1,6 +1,6 @@
 -- What the command-line arguments ask for.
 --     keep_app      the program's arguments, -m FILE and -s, beside the flags for help and the version
---     Options, options words      a file and whether to stop, by clap's matches of the arguments
+--     Options, options arguments      a file and whether to stop, by clap's matches of the arguments
 --     IsOptionsFault kinds fault      clap's fault is of one of these kinds, or an allocation failed
 use Rattle.std.specs.Prelude.{ℕ, Bool, true, false, List, Option, Some, None, option_map, codes, ⊤}
 use Rattle.std.specs.Str.{bytes_eq}
@@ -29,11 +29,11 @@ is_set None = false
 is_set (Some text) = bytes_eq text (codes "true")
 
 abbrev pub options : List (List ℕ) → Options
-options words =
+options arguments =
     record {
-      file = first_of (codes "file") (matches_of keep_app words);
+      file = first_of (codes "file") (matches_of keep_app arguments);
       stop =
-          is_set (first_of (codes "stop") (matches_of keep_app words));
+          is_set (first_of (codes "stop") (matches_of keep_app arguments));
     }
 
 abbrev pub options_of : Arguments → Options

@@ -3,11 +3,12 @@
 --     RecordOutcome s fields o t      the outcome of a record: that of its command, its own fault, or out of memory
 --         while reading it
 --     Outcomes s rs os t      the first records have these outcomes, one after another, from s to t
---     command_spelled fields      the command that a record decodes to.
+--     decoded_command fields      the command that a record decodes to.
 --     Claims s rs os t      the claims about such a run
 --     Ran Each stop s rs t written status      a whole run.
 --     Faulted Each stop s rs t written e      a run that was cut off by this fault
-use Rattle.std.specs.Prelude.{◌≡◌, ◌≢◌, ◌^◌, ℕ, Bool, ◌&&◌, List, [], ◌∷◌, ◌++◌, length, flat_map, is_err, Option, Result}
+use Rattle.std.specs.Prelude.{◌≡◌, ◌≢◌, ◌^◌, ℕ, Bool, ◌&&◌, List, [], ◌∷◌, ◌++◌, length, flat_map, is_err, Option}
+use Rattle.std.specs.Prelude.{Result}
 use Rattle.std.specs.Prelude.{Ok, Err, ◌⊎◌, IsTrue, IsFalse, if◌then◌else◌, ⊤}
 use Rattle.std.specs.Result.{result_ok}
 use Rattle.std.specs.List.{list_any}
@@ -51,12 +52,12 @@ abbrev pub SoundOutcomes : State → List (List Field) → List Outcome → Stat
 SoundOutcomes s rs os t = Run SoundOutcome s rs os t
 
 -- the command that a record decodes to
-abbrev pub command_spelled : List Field → Option Command
-command_spelled fields = result_ok (read fields)
+abbrev pub decoded_command : List Field → Option Command
+decoded_command fields = result_ok (read fields)
 
 -- and the four claims are true of the commands that they decode to
 abbrev pub Claims : State → List (List Field) → List Outcome → State → Type 0
-Claims s rs os t = Headline SoundOutcome command_spelled s rs os t
+Claims s rs os t = Headline SoundOutcome decoded_command s rs os t
 
 -- no outcome follows a fault if stop is set
 abbrev pub StopsAtFault : Bool → List Outcome → Type 0

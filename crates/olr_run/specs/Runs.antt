@@ -18,7 +18,7 @@ use Rattle.olr_commands.specs.Words.{reply_of}
 use Rattle.olr_commands.specs.declared.reply.Reply.{Reply}
 use Rattle.olr_records.specs.Records.{Field}
 use Rattle.olr_records.specs.ReplyText.{outcome_text, reply_text, fault_text}
-use Rattle.olr_register.specs.Kept.{Stands}
+use Rattle.olr_register.specs.RegisterState.{Represents}
 use Rattle.olr_register.specs.Registered.{Registered}
 use Rattle.olr_run.specs.Output as output
 use Rattle.olr_run.specs.Output.{SoundOutcome, Claims, StopsAtFault, any_refused, run_status, Ran, Faulted, records_of}
@@ -43,7 +43,7 @@ IsAnswer (Err line) o = (fault : Fault) × (o ≡ Err fault) × (line.now ≡ fa
 
 abbrev pub CarriedOut : Registered → List Field → Registered → Result Reply (Bor (List ℕ)) → Type 0
 CarriedOut old fields new r =
-    (s : State) → Stands old.kept s → IsContent s.content → (t : State) × (o : Outcome) × Stands new.kept t
+    (s : State) → Represents old.kept s → IsContent s.content → (t : State) × (o : Outcome) × Represents new.kept t
     × SoundOutcome s fields o t × IsAnswer r o
 
 -- the text of an answer
@@ -56,7 +56,8 @@ abbrev pub WritesText : {S : Type 0} → (S → Event → S → Type 0) → S �
 WritesText happens before text later (Ok accepted) is = happens before (Wrote text) later × (accepted ≡ is)
 WritesText happens before text later (Err e) is =
     ((e ≡ fault.Memory) × (later ≡ before))
-    ⊎ ((front rest : List ℕ) × (text ≡ front ++ rest) × (rest ≢ []) × happens before (Cut front) later × (e ≡ fault.Write))
+    ⊎ ((front rest : List ℕ) × (text ≡ front ++ rest) × (rest ≢ []) × happens before (Cut front) later
+    × (e ≡ fault.Write))
 
 -- a record's command is carried out, and its answer is written: it has this text, and accepts the command or not
 pub record AnswersRecord {S : Type 0} (happens : S → Event → S → Type 0) (old : Registered) (fields : List Field)
@@ -64,7 +65,8 @@ pub record AnswersRecord {S : Type 0} (happens : S → Event → S → Type 0) (
   pub text : List ℕ
   pub accepts : Bool
   pub writes : WritesText happens before text later r accepts
-  pub outcome : (s : State) → Stands old.kept s → IsContent s.content → (t : State) × (o : Outcome) × Stands new.kept t
+  pub outcome : (s : State) → Represents old.kept s → IsContent s.content → (t : State) × (o : Outcome)
+      × Represents new.kept t
       × SoundOutcome s fields o t × (outcome_text o ≡ text) × (is_ok o ≡ accepts)
 
 -- ---- runs in a session
@@ -79,7 +81,7 @@ status_of status.Stopped = output.Stopped
 abbrev pub AnsweredOn : Bool → (List Outcome → Type 0) → Registered → List (List Field) → List (List ℕ) → Registered →
     Type 0
 AnsweredOn stop And old rs texts new =
-    (s : State) → Stands old.kept s → (t : State) × Stands new.kept t × (os : List Outcome) × Claims s rs os t
+    (s : State) → Represents old.kept s → (t : State) × Represents new.kept t × (os : List Outcome) × Claims s rs os t
     × (map outcome_text os ≡ texts) × StopsAtFault stop os × And os
 
 -- no event follows the rejected record that stops the run; otherwise there is no further record
@@ -139,16 +141,16 @@ known_both (Some rs) (Some qs) = Some (rs ++ qs)
 abbrev pub RanOn : (State → List (List Field) → List Outcome → State → Type 0) → Bool → Registered → Records → Known →
     Registered → Known → Status → Type 0
 RanOn Each stop old records before new later end =
-    IfSome records (λ rs. (s : State) → Stands old.kept s
-    → (t : State) × Stands new.kept t × (written : List ℕ) × Appends before later written
+    IfSome records (λ rs. (s : State) → Represents old.kept s
+    → (t : State) × Represents new.kept t × (written : List ℕ) × Appends before later written
     × Ran Each stop s rs t written (status_of end))
 
 -- and so does a run that was cut off by this fault
 abbrev pub FaultedOn : (State → List (List Field) → List Outcome → State → Type 0) → Bool → Registered → Records →
     Known → Registered → Known → RunFault → Type 0
 FaultedOn Each stop old records before new later e =
-    IfSome records (λ rs. (s : State) → Stands old.kept s
-    → (t : State) × Stands new.kept t × (written : List ℕ) × Appends before later written
+    IfSome records (λ rs. (s : State) → Represents old.kept s
+    → (t : State) × Represents new.kept t × (written : List ℕ) × Appends before later written
     × Faulted Each stop s rs t written e)
 
 abbrev pub HasTooMany : Known → Type 0

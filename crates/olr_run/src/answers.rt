@@ -54,7 +54,8 @@ fn reply_lines<'a>(text: &'a mut Vec<u8>, reply: &Reply) -> Result<&'a [u8], All
     Ok(text.as_slice())
 }
 
-/// Writes an answer; the text of a reply is made in `text`, whose buffer is reused. Returns whether it accepts the command.
+/// Writes an answer; the text of a reply is made in `text`, whose buffer is reused. Returns whether it accepts the
+/// command.
 fn write_answer<W, S: Session<W>>(
     answer: &Result<Reply, &'static str>,
     text: &mut Vec<u8>,
@@ -77,9 +78,10 @@ fn write_answer<W, S: Session<W>>(
     }
 }
 
-/// Carries out the command of a record and writes the answer, whose text is made in `text`. Returns whether the command was
+/// Carries out the command of a record and writes the answer, whose text is made in `text`. Returns whether the command
+/// was
 /// accepted.
-pub fn tell<W, S: Session<W>>(
+pub fn write_outcome<W, S: Session<W>>(
     alloc: Global,
     register: &mut Register,
     fields: &ByteRecord,

@@ -43,9 +43,9 @@ fn run_file<F: Read + Drop, W: Write>(
     }
 }
 
-/// Runs the commands of a file, if there is one, and then those of the input, on one register: a batch that the file leaves
-/// open stays open. If the first run is stopped or fails, nothing is read from the input, and the end is that of this run;
-/// otherwise it is the greater of the two statuses. So both are one run over all of their records.
+/// Runs the commands of a file, if there is one, and then those of the input, on one register: a batch that the file
+/// leaves open stays open. If the first run is stopped or fails, nothing is read from the input, and the end is that of
+/// this run; otherwise it is the greater of the two statuses. So both are one run over all of their records.
 pub fn run_both<F: Read + Drop, R: Read + Drop, W: Write>(
     alloc: Global,
     register: &mut Register,

@@ -53,18 +53,20 @@ fn is_given(flag: Option<&str>) -> bool
     flag.is_some_and(|text| text == "true")
 }
 
-/// Reads the command-line arguments, the first of which is the program's own name. Arguments that the definition accepts are
+/// Reads the command-line arguments, the first of which is the program's own name. Arguments that the definition
+/// accepts are
 /// rejected only if an allocation fails.
-pub fn options<'a, S: AsStr>(alloc: Global, words: &'a [S]) -> Result<Options<'a>, OptionsFault>
-    ensures ok { IfOk result (λ o. options_of o ≡ options (map S.text words.entry.now)) }
-    ensures taken { takes keep_app (map S.text words.entry.now) ≡ true → IfErr result (λ e. e ≡ OptionsFault.Memory) }
-    ensures kinds { MatchResult result (λ _. fault_of keep_app (map S.text words.entry.now) ≡ [])
-        (IsOptionsFault (fault_of keep_app (map S.text words.entry.now))) }
+pub fn options<'a, S: AsStr>(alloc: Global, arguments: &'a [S]) -> Result<Options<'a>, OptionsFault>
+    ensures ok { IfOk result (λ o. options_of o ≡ options (map S.text arguments.entry.now)) }
+    ensures taken { takes keep_app (map S.text arguments.entry.now) ≡ true →
+        IfErr result (λ e. e ≡ OptionsFault.Memory) }
+    ensures kinds { MatchResult result (λ _. fault_of keep_app (map S.text arguments.entry.now) ≡ [])
+        (IsOptionsFault (fault_of keep_app (map S.text arguments.entry.now))) }
 {
     let Ok(command) = command(alloc) else {
         return Err(OptionsFault::Memory);
     };
-    match command.try_get_matches_from(words) {
+    match command.try_get_matches_from(arguments) {
         Ok(matches) => Ok(Options {
             file: matches.get_str("file"),
             stop: is_given(matches.get_str("stop")),

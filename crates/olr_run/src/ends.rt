@@ -43,8 +43,8 @@ impl From<AllocError> for RunFault {
     }
 }
 
-/// The exit status after a run: 0 if every command was accepted, 1 if some command was rejected, 3 if reading or writing
-/// failed or there were too many records, and 4 if an allocation failed.
+/// The exit status after a run: 0 if every command was accepted, 1 if some command was rejected, 3 if reading or
+/// writing failed or there were too many records, and 4 if an allocation failed.
 pub fn exit_code(ended: &Result<Status, RunFault>) -> u8
     ensures { result ≡ runs.exit_code ended.now }
 {

@@ -114,7 +114,8 @@ fn end_field(row: &mut ByteRecord, field: &mut Vec<u8>, bytes: &[u8]) -> Result<
     Ok(())
 }
 
-/// Takes the first record of a text, read from a state. Returns the index and the state after it, or None if there is no
+/// Takes the first record of a text, read from a state. Returns the index and the state after it, or None if there is
+/// no
 /// record.
 fn first_record(
     text: &[u8],

@@ -5,7 +5,8 @@ ghost use Rattle.olr_run.specs.Runs.{WritesAll};
 use crate::ends::RunFault;
 use std::io::Write;
 
-/// Writes all of the bytes, in as many calls as the writer needs. `Write` is the fault if the writer fails or writes nothing.
+/// Writes all of the bytes, in as many calls as the writer needs. `Write` is the fault if the writer fails or writes
+/// nothing.
 pub fn write_all<W: Write>(output: &mut W, bytes: &[u8]) -> Result<(), RunFault>
     ensures { WritesAll (W.contents output.old) (W.contents output.new) bytes.now result }
 {

@@ -4,7 +4,7 @@ ghost use Rattle.std.specs.Prelude.{◌≡◌, Some, IfOk, IfErr};
 ghost use Rattle.olr_run.specs.Output.{Claims, records_of};
 ghost use Rattle.olr_run.specs.Runs.{known_records, RanIn, CutIn, RanOn, FaultedOn, HasTooMany};
 
-use crate::answers::tell;
+use crate::answers::write_outcome;
 use crate::ends::{RunFault, Status};
 use crate::in_memory::InMemory;
 use crate::sessions::Session;
@@ -55,7 +55,7 @@ fn run_within<W, S: Session<W>>(
             return Err(RunFault::TooMany);
         }
         answered += 1;
-        if !tell(
+        if !write_outcome(
             alloc,
             register,
             &room.fields,
@@ -72,12 +72,12 @@ fn run_within<W, S: Session<W>>(
     Ok(status)
 }
 
-/// Takes the records of a session, and writes the text of each answer before it takes the next record: the history of the
-/// session is a record, its text, a record, its text, to the end. If `stop` is set, it takes no record after the first
-/// rejected one. If a record can't be taken, all records before it have been answered. For the commands that the records
-/// decode to: each path's published answer is that of a full encoding from scratch on the map of the accepted commands; the
-/// routes of its reference join; each reply to a change names the paths whose answer changed; and a rejected command changed
-/// nothing.
+/// Takes the records of a session, and writes the text of each answer before it takes the next record: the history of
+/// the session is a record, its text, a record, its text, to the end. If `stop` is set, it takes no record after the
+/// first rejected one. If a record can't be taken, all records before it have been answered. For the commands that the
+/// records decode to: each path's published answer is that of a full encoding from scratch on the map of the accepted
+/// commands; the routes of its reference join; each reply to a change names the paths whose answer changed; and a
+/// rejected command changed nothing.
 pub fn run_session<W, S: Session<W>>(
     alloc: Global,
     register: &mut Register,
@@ -94,10 +94,10 @@ pub fn run_session<W, S: Session<W>>(
     run_within(alloc, register, session, output, stop, &mut room)
 }
 
-/// Runs the records of the input, as `csv` reads them, in a session whose answers are written to the output. After a fault
-/// the register has the state after the answered records. After a fault of reading, all of their texts are written, and none
-/// of them stops the run. After a fault of writing, or out of memory for a text, the last text is missing, or only its first
-/// bytes are written.
+/// Runs the records of the input, as `csv` reads them, in a session whose answers are written to the output. After a
+/// fault the register has the state after the answered records. After a fault of reading, all of their texts are
+/// written, and none of them stops the run. After a fault of writing, or out of memory for a text, the last text is
+/// missing, or only its first bytes are written.
 pub fn run<R: Read + Drop, W: Write>(
     alloc: Global,
     register: &mut Register,

@@ -20,14 +20,14 @@ use std::io;
 use std::io::{Read, Write};
 
 /// The exit status for invalid arguments.
-pub const WRONG_WORDS: u8 = 2;
+pub const WRONG_ARGUMENTS: u8 = 2;
 
 /// The exit status if the command file can't be opened.
 const NO_FILE: u8 = 3;
 
-/// Reads the arguments, opens the command file if they name one, carries out its commands and then those of the input, and
-/// returns the exit status. Replies, and help if it was asked for, are written to `output`; messages about faults are written
-/// to `errors`.
+/// Reads the arguments, opens the command file if they name one, carries out its commands and then those of the input,
+/// and returns the exit status. Replies, and help if it was asked for, are written to `output`; messages about faults
+/// are written to `errors`.
 pub fn program<
     S: AsStr,
     F: Read + Drop,
@@ -38,7 +38,7 @@ pub fn program<
 >(
     alloc: Global,
     register: &mut Register,
-    words: &[S],
+    arguments: &[S],
     opener: O,
     input: R,
     output: &mut W,
@@ -46,12 +46,12 @@ pub fn program<
 ) -> u8
     requires { O.IsAlwaysCallable opener }
     ensures bounded { result ≤ 4 }
-    ensures refused { fault_of keep_app (map S.text words.now) ≢ [] → register.new ≡ register.old }
-    ensures ends { Ends (map S.text words.now) (Opens O.FnOnce F.remaining opener) (R.remaining input)
+    ensures refused { fault_of keep_app (map S.text arguments.now) ≢ [] → register.new ≡ register.old }
+    ensures ends { Ends (map S.text arguments.now) (Opens O.FnOnce F.remaining opener) (R.remaining input)
         register.old (W.contents output.old) register.new (W.contents output.new) result }
     ensures quiet { result ≤ 1 → errors.new ≡ errors.old }
 {
-    let options = match options(alloc, words) {
+    let options = match options(alloc, arguments) {
         Ok(options) => options,
         Err(fault) => return explain(alloc, &fault, output, errors),
     };
@@ -62,7 +62,7 @@ pub fn program<
     let ended = run_both(alloc, register, file, input, output, options.stop);
     match ended {
         Ok(_) => exit_code(&ended),
-        Err(fault) => tell_fault(fault, errors),
+        Err(fault) => report_fault(fault, errors),
     }
 }
 
@@ -84,7 +84,7 @@ fn open_file<F: Drop, O: FnOnce(&str) -> io::Result<F>>(
 }
 
 /// Writes why the program can't continue, and returns its exit status.
-pub fn tell_fault<E: Write>(fault: RunFault, errors: &mut E) -> u8
+pub fn report_fault<E: Write>(fault: RunFault, errors: &mut E) -> u8
     ensures { result ≡ runs.exit_code (Err fault) }
 {
     let _ = writeln!(errors, "olr-keep: {fault}");
@@ -99,7 +99,8 @@ fn show<D: Display, W: Write>(alloc: Global, shown: &D, output: &mut W) -> Resul
     write_all(output, text.as_bytes())
 }
 
-/// Writes why the arguments gave no options, and returns the exit status: help and the version are no fault. The status is 4
+/// Writes why the arguments gave no options, and returns the exit status: help and the version are no fault. The status
+/// is 4
 /// only if an allocation failed, in `clap` or for the text.
 fn explain<W: Write, E: Write>(
     alloc: Global,
@@ -114,14 +115,14 @@ fn explain<W: Write, E: Write>(
     ensures quiet { result ≤ 1 → errors.new ≡ errors.old }
 {
     match fault {
-        OptionsFault::Memory => tell_fault(RunFault::Memory, errors),
+        OptionsFault::Memory => report_fault(RunFault::Memory, errors),
         OptionsFault::Clap(error) if error.use_stderr() => {
             let _ = write!(errors, "{error}");
-            WRONG_WORDS
+            WRONG_ARGUMENTS
         }
         OptionsFault::Clap(error) => match show(alloc, error, output) {
             Ok(()) => 0,
-            Err(fault) => tell_fault(fault, errors),
+            Err(fault) => report_fault(fault, errors),
         },
     }
 }

@@ -3,9 +3,9 @@ use Rattle.std.proofs.Common.{inl, inr, ◌≡◌, ℕ, ◌+◌, Bool, true, con
 use Rattle.std.proofs.Common.{IsTrue, refl, sym, ap, ◌∙◌, ◌==◌, unwrap_or, ◌↔◌}
 use Rattle.std.proofs.lemmas.Bool.{eqb-true, ne_eqb, cases_eq}
 use Rattle.std.specs.FinMap.{get}
-use Rattle.olr_spec.specs.Map.{Map, Line, has_line, line_at, no_line, lines_in, lines_out, start, end, dm, place_at}
-use Rattle.olr_spec.specs.Map.{no_place, SameLine, SameRound}
-use Rattle.olr_spec.specs.Walks.{dm_of}
+use Rattle.olr_spec.specs.Map.{Map, Line, has_line, line_at, no_line, lines_in, lines_out, start, end, dm, coord_at}
+use Rattle.olr_spec.specs.Map.{no_coord, SameLine, SameRound}
+use Rattle.olr_spec.specs.Routes.{dm_of}
 use Rattle.olr_spec.specs.Extension.{passing, passes_between}
 use Rattle.olr_spec.proofs.MapLemmas.{has-lines_where, passes_at, keep_if, same_selected}
 use Rattle.olr_spec.proofs.ListLemmas.{Each, Each-head, Each-tail, map_same}
@@ -57,8 +57,8 @@ same_dm_of M N (x ∷ xs) h =
     let rest = same_dm_of M N xs (Each-tail (SameLine M N) x xs h) in
     λ i. is i + rest i
 
-pub same_place : (M N : Map) (v : ℕ) → SameRound M N v → place_at M v ≡ place_at N v
-same_place M N v r = λ i. unwrap_or (r.place i) no_place
+pub same_coord : (M N : Map) (v : ℕ) → SameRound M N v → coord_at M v ≡ coord_at N v
+same_coord M N v r = λ i. unwrap_or (r.place i) no_coord
 
 -- ---- degree-two nodes
 

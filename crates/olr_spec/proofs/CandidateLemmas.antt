@@ -4,11 +4,13 @@ use Rattle.std.proofs.Common.{◌≤◌, ◌↔◌, IsTrue, IsFalse, refl, sym, 
 use Rattle.std.proofs.lemmas.Bool.{cases_Bool, cases_eq, cases_lt, both_ways, and_parts, and_from, or_cases, eqb-true}
 use Rattle.std.proofs.lemmas.Bool.{eq-eqb, ltb-true, lt-ltb, le-ltb}
 use Rattle.std.specs.List.{list_all}
-use Rattle.olr_spec.specs.Map.{Map, has_line, line_at, place_at, lines_where, has}
+use Rattle.olr_spec.specs.Map.{Map, has_line, line_at, coord_at, lines_where, has}
 use Rattle.olr_spec.specs.Bearings.{Leg}
 use Rattle.olr_spec.specs.Reference.{leg}
-use Rattle.olr_spec.specs.Receiver.{Side, Outgoing, Incoming, node_on, coordinate_on, sector_on, candidates, Lrp, Rating}
-use Rattle.olr_spec.specs.Receiver.{Measure, NowhereWorse, SomewhereBetter, IsDifference, Receiver, rating, Takes, is_nearest}
+use Rattle.olr_spec.specs.Receiver.{Side, Outgoing, Incoming, node_on, coordinate_on, sector_on, candidates, Lrp}
+use Rattle.olr_spec.specs.Receiver.{Rating}
+use Rattle.olr_spec.specs.Receiver.{Measure, NowhereWorse, SomewhereBetter, IsDifference, Receiver, rating, Takes}
+use Rattle.olr_spec.specs.Receiver.{is_nearest}
 use Rattle.olr_spec.specs.Receiver.{are_twins, has_no_twin}
 use Rattle.olr_spec.proofs.ListLemmas.{has_cases}
 use Rattle.olr_spec.proofs.MapLemmas.{has-lines_where, passes_at}
@@ -47,8 +49,8 @@ pub record Own (R : Receiver) (M : Map) (t : Lrp) (x : ℕ) : Type 0 where
 
 same_coordinate : (M : Map) (s : Side) (x y : ℕ) → node_on s (leg M x) ≡ node_on s (leg M y) →
     coordinate_on s (leg M x) ≡ coordinate_on s (leg M y)
-same_coordinate M Outgoing x y e = ap (place_at M) e
-same_coordinate M Incoming x y e = ap (place_at M) e
+same_coordinate M Outgoing x y e = ap (coord_at M) e
+same_coordinate M Incoming x y e = ap (coord_at M) e
 
 none_apart : (d : ℕ → ℕ → ℕ) → IsDifference d → (a b : ℕ) → a ≡ b → d a b ≡ 0
 none_apart d h a b e = subst (λ (c : ℕ). d a c ≡ 0) e (h.same a)
@@ -100,7 +102,8 @@ module _ (R : Receiver) (M : Map) (t : Lrp) (x : ℕ) (o : Own R M t x) where
                 inr (inr (inr (omega arith)))
             | inl h ↦
                 absurd (both_ways (are_twins t.side (leg M x) (leg M y)) off
-                (and_from _ _ (and_from _ _ (and_from _ _ (eq-eqb _ _ e) (eq-eqb _ _ f)) (eq-eqb _ _ g)) (eq-eqb _ _ h)))
+                (and_from _ _ (and_from _ _ (and_from _ _ (eq-eqb _ _ e) (eq-eqb _ _ f)) (eq-eqb _ _ g))
+                (eq-eqb _ _ h)))
           ]
         ]
       ]

@@ -8,7 +8,7 @@ use Rattle.std.specs.FinMap.{get, insert, remove}
 use Rattle.olr_spec.specs.Map.{Map, Line, has_line, line_at, no_line, start, end, dm, Edit, Add_node, Move_node}
 use Rattle.olr_spec.specs.Map.{Drop_node, Add_line, Set_line, Drop_line, edited, touched_nodes, touched_lines, SameLine}
 use Rattle.olr_spec.specs.Map.{SameRound, has}
-use Rattle.olr_spec.specs.Detours.{ChangedLine, changes_of, IsChangedLine, Tells, Difference}
+use Rattle.olr_spec.specs.Detours.{ChangedLine, changes_of, IsChangedLine, AccountsFor, Difference}
 use Rattle.olr_spec.proofs.AgreeLemmas.{same_known, same_start, same_end, same_dm}
 use Rattle.olr_spec.proofs.EditLemmas.{made_by, got_other, got_same, left_other, left_same, edits_are_local}
 use Rattle.olr_spec.proofs.ListLemmas.{Contains-here}
@@ -16,79 +16,81 @@ use Rattle.olr_spec.proofs.ListLemmas.{Contains-here}
 -- ---- one edit
 
 -- maps that differ only in line y, which C lists
-tells_one : (C : List ChangedLine) (M N : Map) (y : ℕ) → ((x : ℕ) → x ≢ y → SameLine M N x)
-    → (IsTrue (has_line M y) → IsChangedLine C M y) → Tells C M N
-tells_one C M N y same told x h =
+accounts_one : (C : List ChangedLine) (M N : Map) (y : ℕ) → ((x : ℕ) → x ≢ y → SameLine M N x)
+    → (IsTrue (has_line M y) → IsChangedLine C M y) → AccountsFor C M N
+accounts_one C M N y same accounted x h =
     elim (cases_eq x y) [
-      | inl e ↦ inr (subst (IsChangedLine C M) (sym e) (told (ap (has_line M) (sym e) ∙ h)))
+      | inl e ↦ inr (subst (IsChangedLine C M) (sym e) (accounted (ap (has_line M) (sym e) ∙ h)))
       | inr ne ↦ inl (same x ne)
     ]
 
 -- line y as the only changed line
-told_alone : (M : Map) (y : ℕ) (c : ChangedLine) → c.from ≡ start M y → c.to ≡ end M y → c.len ≤ dm M y
+accounted_alone : (M : Map) (y : ℕ) (c : ChangedLine) → c.from ≡ start M y → c.to ≡ end M y → c.len ≤ dm M y
     → IsChangedLine (c ∷ []) M y
-told_alone M y c a b h = record { change = c; listed = Contains-here c []; from = a; to = b; len = h }
+accounted_alone M y c a b h = record { change = c; listed = Contains-here c []; from = a; to = b; len = h }
 
 -- line y with the record that is set
-set_told : (M : Map) (y : ℕ) (l : Line) (c : ChangedLine) → c.from ≡ l.from → c.to ≡ l.to → c.len ≤ l.len
-    → let N = record M { lines = insert M.lines y l } in Tells (c ∷ []) N M
-set_told M y l c a b h =
+set_accounted : (M : Map) (y : ℕ) (l : Line) (c : ChangedLine) → c.from ≡ l.from → c.to ≡ l.to → c.len ≤ l.len
+    → let N = record M { lines = insert M.lines y l } in AccountsFor (c ∷ []) N M
+set_accounted M y l c a b h =
     let N = record M { lines = insert M.lines y l } in
     let set : line_at N y ≡ l = ap (λ (o : Option Line). unwrap_or o no_line) (got_same M.lines y l) in
     let from : c.from ≡ start N y = a ∙ sym (ap (λ (k : Line). k.from) set) in
     let to : c.to ≡ end N y = b ∙ sym (ap (λ (k : Line). k.to) set) in
     let short : c.len ≤ dm N y = subst (λ (k : Line). c.len ≤ k.len) (sym set) h in
-    tells_one (c ∷ []) N M y (λ x ne. got_other M.lines y l x ne) (λ known. told_alone N y c from to short)
+    accounts_one (c ∷ []) N M y (λ x ne. got_other M.lines y l x ne) (λ known. accounted_alone N y c from to short)
 
-abbrev BothTell : List ChangedLine → Map → Map → Type 0
-BothTell C M N = Tells C M N × Tells C N M
+abbrev BothAccount : List ChangedLine → Map → Map → Type 0
+BothAccount C M N = AccountsFor C M N × AccountsFor C N M
 
-nodes_told : (M N : Map) → ((x : ℕ) → SameLine M N x) → BothTell [] M N
-nodes_told M N same = ((λ x h. inl (same x)), (λ x h. inl (sym (same x))))
+nodes_accounted : (M N : Map) → ((x : ℕ) → SameLine M N x) → BothAccount [] M N
+nodes_accounted M N same = ((λ x h. inl (same x)), (λ x h. inl (sym (same x))))
 
-edit_told : (M N : Map) (e : Edit) → edited M e ≡ Ok N → BothTell (changes_of M e) M N
-edit_told M N (Add_node v c) e = nodes_told M N (λ x. ap (λ (K : Map). get K.lines x) (made_by M N (Add_node v c) e).1)
-edit_told M N (Move_node v c) e =
-    nodes_told M N (λ x. ap (λ (K : Map). get K.lines x) (made_by M N (Move_node v c) e).1)
-edit_told M N (Drop_node v) e = nodes_told M N (λ x. ap (λ (K : Map). get K.lines x) (made_by M N (Drop_node v) e).2)
-edit_told M N (Add_line x l) e =
+edit_accounted : (M N : Map) (e : Edit) → edited M e ≡ Ok N → BothAccount (changes_of M e) M N
+edit_accounted M N (Add_node v c) e = nodes_accounted M N (λ x. ap (λ (K : Map). get K.lines x)
+    (made_by M N (Add_node v c) e).1)
+edit_accounted M N (Move_node v c) e =
+    nodes_accounted M N (λ x. ap (λ (K : Map). get K.lines x) (made_by M N (Move_node v c) e).1)
+edit_accounted M N (Drop_node v) e = nodes_accounted M N (λ x. ap (λ (K : Map). get K.lines x)
+    (made_by M N (Drop_node v) e).2)
+edit_accounted M N (Add_line x l) e =
     let to = record M { lines = insert M.lines x l } in
     let p = made_by M N (Add_line x l) e in
     let c : ChangedLine = record { from = l.from; to = l.to; len = l.len } in
-    let there : Tells (c ∷ []) M to =
-    tells_one (c ∷ []) M to x (λ y ne. sym (got_other M.lines x l y ne))
+    let there : AccountsFor (c ∷ []) M to =
+    accounts_one (c ∷ []) M to x (λ y ne. sym (got_other M.lines x l y ne))
     (λ known. absurd (both_ways (has_line M x) p.0 known)) in
-    subst (BothTell (c ∷ []) M) p.4 (there, set_told M x l c refl refl (omega arith))
-edit_told M N (Set_line x frc fow len shape) e =
+    subst (BothAccount (c ∷ []) M) p.4 (there, set_accounted M x l c refl refl (omega arith))
+edit_accounted M N (Set_line x frc fow len shape) e =
     let l : Line = record { from = start M x; to = end M x; frc = frc; fow = fow; len = len; shape = shape } in
     let to = record M { lines = insert M.lines x l } in
     let c : ChangedLine = record { from = start M x; to = end M x; len = min (dm M x) len } in
-    let there : Tells (c ∷ []) M to =
-    tells_one (c ∷ []) M to x (λ y ne. sym (got_other M.lines x l y ne))
-    (λ known. told_alone M x c refl refl (omega arith)) in
-    subst (BothTell (c ∷ []) M) (made_by M N (Set_line x frc fow len shape) e).2
-    (there, set_told M x l c refl refl (omega arith))
-edit_told M N (Drop_line x) e =
+    let there : AccountsFor (c ∷ []) M to =
+    accounts_one (c ∷ []) M to x (λ y ne. sym (got_other M.lines x l y ne))
+    (λ known. accounted_alone M x c refl refl (omega arith)) in
+    subst (BothAccount (c ∷ []) M) (made_by M N (Set_line x frc fow len shape) e).2
+    (there, set_accounted M x l c refl refl (omega arith))
+edit_accounted M N (Drop_line x) e =
     let to = record M { lines = remove M.lines x } in
     let c : ChangedLine = record { from = start M x; to = end M x; len = dm M x } in
     let gone : has_line to x ≡ false = ap (λ (o : Option Line). is_some o) (left_same M.lines x) in
-    let there : Tells (c ∷ []) M to =
-    tells_one (c ∷ []) M to x (λ y ne. sym (left_other M.lines x y ne))
-    (λ known. told_alone M x c refl refl (omega arith)) in
-    let here : Tells (c ∷ []) to M =
-    tells_one (c ∷ []) to M x (left_other M.lines x) (λ known. absurd (both_ways (has_line to x) gone known)) in
-    subst (BothTell (c ∷ []) M) (made_by M N (Drop_line x) e).1 (there, here)
+    let there : AccountsFor (c ∷ []) M to =
+    accounts_one (c ∷ []) M to x (λ y ne. sym (left_other M.lines x y ne))
+    (λ known. accounted_alone M x c refl refl (omega arith)) in
+    let here : AccountsFor (c ∷ []) to M =
+    accounts_one (c ∷ []) to M x (left_other M.lines x) (λ known. absurd (both_ways (has_line to x) gone known)) in
+    subst (BothAccount (c ∷ []) M) (made_by M N (Drop_line x) e).1 (there, here)
 
 pub edit_differs : (M N : Map) (e : Edit) → edited M e ≡ Ok N
     → Difference (touched_nodes M e) (touched_lines e) (changes_of M e) M N
 edit_differs M N e p =
-    let told = edit_told M N e p in
+    let accounted = edit_accounted M N e p in
     record {
       nodes = λ v off. (edits_are_local M N e [] (λ u. has (touched_nodes M e) u ≡ false) p
           (λ u on off. both_ways (has (touched_nodes M e) u) off on) (λ x on. refl)).nodes v off;
       lines = λ x off. (edits_are_local M N e (x ∷ []) (λ u. ⊥) p (λ u on f. f) (λ y on. other x y off on)).lines.0;
-      there = told.0;
-      here = told.1;
+      there = accounted.0;
+      here = accounted.1;
     }
   where
     other : (x y : ℕ) → has (touched_lines e) x ≡ false → has (touched_lines e) y ≡ true → has (x ∷ []) y ≡ false
@@ -113,9 +115,9 @@ none_differs M = record {
 
 -- ---- consecutive changes
 
-pub more_told : (C D : List ChangedLine) (M : Map) (x : ℕ) → ((c : ChangedLine) → Contains C c → Contains D c)
+pub more_accounted : (C D : List ChangedLine) (M : Map) (x : ℕ) → ((c : ChangedLine) → Contains C c → Contains D c)
     → IsChangedLine C M x → IsChangedLine D M x
-more_told C D M x more t = record {
+more_accounted C D M x more t = record {
   change = t.change;
   listed = more t.change t.listed;
   from = t.from;
@@ -123,8 +125,8 @@ more_told C D M x more t = record {
   len = t.len;
 }
 
-told_back : (C : List ChangedLine) (L M : Map) (x : ℕ) → SameLine L M x → IsChangedLine C M x → IsChangedLine C L x
-told_back C L M x is t =
+accounted_back : (C : List ChangedLine) (L M : Map) (x : ℕ) → SameLine L M x → IsChangedLine C M x → IsChangedLine C L x
+accounted_back C L M x is t =
     record {
       change = t.change;
       listed = t.listed;
@@ -134,14 +136,14 @@ told_back C L M x is t =
     }
 
 -- E has the changed lines of C and D
-tells_on : (C D E : List ChangedLine) (L M N : Map) → ((c : ChangedLine) → Contains C c → Contains E c)
-    → ((c : ChangedLine) → Contains D c → Contains E c) → Tells C L M → Tells D M N → Tells E L N
-tells_on C D E L M N left right p q x h =
+accounts_on : (C D E : List ChangedLine) (L M N : Map) → ((c : ChangedLine) → Contains C c → Contains E c)
+    → ((c : ChangedLine) → Contains D c → Contains E c) → AccountsFor C L M → AccountsFor D M N → AccountsFor E L N
+accounts_on C D E L M N left right p q x h =
     elim (p x h) [
-      | inr t ↦ inr (more_told C E L x left t)
+      | inr t ↦ inr (more_accounted C E L x left t)
       | inl is ↦ elim (q x (sym (same_known L M x is) ∙ h)) [
         | inl on ↦ inl (is ∙ on)
-        | inr t ↦ inr (told_back E L M x is (more_told D E M x right t))
+        | inr t ↦ inr (accounted_back E L M x is (more_accounted D E M x right t))
       ]
     ]
 
@@ -167,6 +169,6 @@ differences_add L M N T U X Y C D p q =
     record {
       nodes = λ v off. let o = not_either T U v off in round_on L M N v (p.nodes v o.0) (q.nodes v o.1);
       lines = λ x off. let o = not_either X Y x off in p.lines x o.0 ∙ q.lines x o.1;
-      there = tells_on C D (C ++ D) L M N left right p.there q.there;
-      here = tells_on D C (C ++ D) N M L right left q.here p.here;
+      there = accounts_on C D (C ++ D) L M N left right p.there q.there;
+      here = accounts_on D C (C ++ D) N M L right left q.here p.here;
     }

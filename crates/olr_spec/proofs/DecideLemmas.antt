@@ -7,19 +7,19 @@ use Rattle.std.specs.List.{slice_index}
 use Rattle.std.specs.Prelude.{nat_eq, ◌≢◌}
 use lib.Pointwise.{pointwise, bytes_decides}
 use Rattle.std.specs.FinMap.{get}
-use Rattle.olr_spec.specs.Map.{Map, IsMap, Line, has_line, start, end, dm, place_at, lines_where, has}
-use Rattle.olr_spec.specs.Walks.{Walk, dm_of, Sole, Route}
-use Rattle.olr_spec.specs.Extension.{Path, is_path, first, last, passing, MayPrecede, MayFollow, StartChain, EndChain}
+use Rattle.olr_spec.specs.Map.{Map, IsMap, Line, has_line, start, end, dm, coord_at, lines_where, has}
+use Rattle.olr_spec.specs.Routes.{IsRoute, dm_of, UniqueShortest, LrpRoute}
+use Rattle.olr_spec.specs.Extension.{Path, is_path, first, last, passing, MayPrecede, MayFollow, StartRun, EndRun}
 use Rattle.olr_spec.specs.Extension.{LongestStart, LongestEnd, Tried, from_start, taken_start, extended_path, limit}
 use Rattle.olr_spec.specs.Points.{node_at, stretch, Covered, fit16, Candidate, ValidCandidate, Greatest, Next, To_end}
 use Rattle.olr_spec.specs.Points.{To_valid, To_passing, NoNext, Follow}
 use Rattle.olr_spec.specs.Encoding.{Answer, Refused, Refusal, path_fault, answer_by_points, Encoding, Encodes}
-use Rattle.olr_spec.proofs.WalkLemmas.{positive, dm_of-append}
+use Rattle.olr_spec.proofs.RouteLemmas.{positive, dm_of-append}
 use Rattle.olr_spec.proofs.MapLemmas.{has-lines_where, passes_at}
 use Rattle.olr_spec.proofs.ListLemmas.{Each, Each-nil, Each-cons, Each-head, Each-tail}
-use Rattle.olr_spec.proofs.ChainLemmas.{StartChain-back, start_suffix, end_prefix, last_known}
+use Rattle.olr_spec.proofs.RunLemmas.{StartRun-back, start_suffix, end_prefix, last_known}
 use Rattle.olr_spec.proofs.AnswerLemmas.{sound_lines, all_first, all_last, path_nonempty}
-use Rattle.olr_spec.proofs.ChainMoves.{EndChain-push}
+use Rattle.olr_spec.proofs.RunMoves.{EndRun-push}
 
 -- ---- decidable propositions
 
@@ -96,10 +96,10 @@ some_of Q d (x ∷ xs) =
 
 -- ---- routes
 
-dec_Walk : (M : Map) (s t : ℕ) (xs : List ℕ) → Dec (Walk M s t xs)
-dec_Walk M s t [] = dec_eq s t
-dec_Walk M s t (x ∷ xs) =
-    elim (dec_and (dec_and (dec_true (has_line M x)) (dec_eq (start M x) s)) (dec_Walk M (end M x) t xs)) [
+dec_IsRoute : (M : Map) (s t : ℕ) (xs : List ℕ) → Dec (IsRoute M s t xs)
+dec_IsRoute M s t [] = dec_eq s t
+dec_IsRoute M s t (x ∷ xs) =
+    elim (dec_and (dec_and (dec_true (has_line M x)) (dec_eq (start M x) s)) (dec_IsRoute M (end M x) t xs)) [
       | yes p ↦ yes (p.0.0, p.0.1, p.1)
       | no f ↦ no (λ w. f ((w.0, w.1), w.2))
     ]
@@ -115,14 +115,15 @@ some_passes (Some l) h = refl
 has_number : (M : Map) (x : ℕ) → IsTrue (has_line M x) → has (numbers M) x ≡ true
 has_number M x h = has-lines_where M (λ l. true) x ∙ some_passes (get M.lines x) h
 
-walk_numbers : (M : Map) (s t : ℕ) (xs : List ℕ) → Walk M s t xs → Each (λ x. has (numbers M) x ≡ true) xs
-walk_numbers M s t [] w = Each-nil (λ x. has (numbers M) x ≡ true)
-walk_numbers M s t (x ∷ xs) w =
-    Each-cons (λ y. has (numbers M) y ≡ true) x xs (has_number M x w.0) (walk_numbers M (end M x) t xs w.2)
+route_numbers : (M : Map) (s t : ℕ) (xs : List ℕ) → IsRoute M s t xs → Each (λ x. has (numbers M) x ≡ true) xs
+route_numbers M s t [] w = Each-nil (λ x. has (numbers M) x ≡ true)
+route_numbers M s t (x ∷ xs) w =
+    Each-cons (λ y. has (numbers M) y ≡ true) x xs (has_number M x w.0) (route_numbers M (end M x) t xs w.2)
 
-walk_length : (M : Map) → IsMap M → (s t : ℕ) (xs : List ℕ) → Walk M s t xs → length xs ≤ dm_of M xs
-walk_length M m s t [] w = omega arith
-walk_length M m s t (x ∷ xs) w = let p = positive M m x w.0 in let r = walk_length M m (end M x) t xs w.2 in omega arith
+route_length : (M : Map) → IsMap M → (s t : ℕ) (xs : List ℕ) → IsRoute M s t xs → length xs ≤ dm_of M xs
+route_length M m s t [] w = omega arith
+route_length M m s t (x ∷ xs) w = let p = positive M m x w.0 in let r = route_length M m (end M x) t xs w.2 in omega
+    arith
 
 dec_same : (xs ys : List ℕ) → Dec (xs ≡ ys)
 dec_same xs ys =
@@ -132,34 +133,38 @@ dec_same xs ys =
           no (λ is. both_ways (pointwise nat_eq xs ys) e ((bytes_decides xs ys).1 is))
     ]
 
-pub one_sole : (M : Map) (s t : ℕ) (xs ys : List ℕ) → Sole M s t xs → Sole M s t ys → xs ≡ ys
-one_sole M s t xs ys p q =
+pub one_unique : (M : Map) (s t : ℕ) (xs ys : List ℕ) → UniqueShortest M s t xs → UniqueShortest M s t ys → xs ≡ ys
+one_unique M s t xs ys p q =
     elim (dec_same xs ys) [
       | yes e ↦ e
-      | no ne ↦ let h = p.others ys q.walk (λ e. ne (sym e)) in let k = q.others xs p.walk ne in absurd (omega arith)
+      | no ne ↦ let h = p.others ys q.route (λ e. ne (sym e)) in let k = q.others xs p.route ne in absurd (omega arith)
     ]
 
-pub dec_Sole : (M : Map) → IsMap M → (s t : ℕ) (xs : List ℕ) → Dec (Sole M s t xs)
-dec_Sole M m s t xs =
-    let Clear : List ℕ → Type 0 = λ w. ¬ (Walk M s t w × ((w ≢ xs) × (dm_of M w ≤ dm_of M xs))) in
-    elim (dec_and (dec_Walk M s t xs)
+pub dec_Unique : (M : Map) → IsMap M → (s t : ℕ) (xs : List ℕ) → Dec (UniqueShortest M s t xs)
+dec_Unique M m s t xs =
+    let Clear : List ℕ → Type 0 = λ w. ¬ (IsRoute M s t w × ((w ≢ xs) × (dm_of M w ≤ dm_of M xs))) in
+    elim (dec_and (dec_IsRoute M s t xs)
     (dec_lists (numbers M) (dm_of M xs) Clear
-    (λ w. dec_not (dec_and (dec_Walk M s t w)
+    (λ w. dec_not (dec_and (dec_IsRoute M s t w)
     (dec_and (dec_not (dec_same w xs)) (dec_le (dm_of M w) (dm_of M xs))))))) [
       | yes p ↦
           yes (record {
-            walk = p.0;
+            route = p.0;
             others = λ ys w ne. elim (cases_lt (dm_of M xs) (dm_of M ys)) [
               | inl lt ↦ lt
               | inr le ↦ let short =
-                  walk_length M m s t ys w in absurd (p.1 ys (walk_numbers M s t ys w) (omega arith) (w, (ne, le)))
+                  route_length M m s t ys w in absurd (p.1 ys (route_numbers M s t ys w) (omega arith) (w, (ne, le)))
             ];
           })
-      | no f ↦ no (λ o. f (o.walk, λ w e h p. let far = o.others w p.0 p.1.0 in let le = p.1.1 in absurd (omega arith)))
+      | no f ↦ no (λ o. f (
+        o.route,
+        λ w e h p. let far = o.others w p.0 p.1.0 in let le = p.1.1 in absurd
+            (omega arith),
+      ))
     ]
 
-pub dec_Route : (M : Map) → IsMap M → (s t : ℕ) (xs : List ℕ) → Dec (Route M s t xs)
-dec_Route M m s t xs = dec_Sole M m s t xs
+pub dec_LrpRoute : (M : Map) → IsMap M → (s t : ℕ) (xs : List ℕ) → Dec (LrpRoute M s t xs)
+dec_LrpRoute M m s t xs = dec_Unique M m s t xs
 
 -- ---- LRPs
 
@@ -167,7 +172,7 @@ pub dec_Covered : (M : Map) → IsMap M → (ls : List ℕ) (i j : ℕ) → Dec 
 dec_Covered M m ls i j =
     let k = min j (length ls - 1) in
     elim (dec_lt i k) [
-      | yes h ↦ elim (dec_Route M m (end M (slice_index ls i)) (start M (slice_index ls k)) (stretch ls (i + 1) k)) [
+      | yes h ↦ elim (dec_LrpRoute M m (end M (slice_index ls i)) (start M (slice_index ls k)) (stretch ls (i + 1) k)) [
         | yes r ↦ yes (λ _. r)
         | no f ↦ no (λ c. f (c h))
       ]
@@ -179,7 +184,7 @@ dec_Candidate M m ls i j =
     elim (dec_and (dec_and (dec_lt i j) (dec_le j (length ls)))
     (dec_and (dec_Covered M m ls i j)
     (dec_and (dec_le (dm_of M (stretch ls i j)) limit)
-    (dec_true (fit16 (place_at M (node_at M ls i)) (place_at M (node_at M ls j))))))) [
+    (dec_true (fit16 (coord_at M (node_at M ls i)) (coord_at M (node_at M ls j))))))) [
       | yes p ↦ yes (record { after = p.0.0; upto = p.0.1; covered = p.1.0; near = p.1.1.0; fits = p.1.1.1 })
       | no f ↦ no (λ c. f ((c.after, c.upto), (c.covered, (c.near, c.fits))))
     ]
@@ -255,8 +260,8 @@ last_of_list x [] = ([], x, refl)
 last_of_list x (y ∷ xs) = let r = last_of_list y xs in (x ∷ r.0, r.1, ap (λ (zs : List ℕ). x ∷ zs) r.2)
 
 -- if no line may precede c within the limit, no run is longer
-no_longer_start : (M : Map) (ls c d : List ℕ) → IsTrue (has_line M (first ls)) → StartChain M c ls →
-    Each (λ x. ¬ (MayPrecede M x (c ++ ls) × (dm M x + dm_of M c ≤ limit))) (numbers M) → StartChain M d ls →
+no_longer_start : (M : Map) (ls c d : List ℕ) → IsTrue (has_line M (first ls)) → StartRun M c ls →
+    Each (λ x. ¬ (MayPrecede M x (c ++ ls) × (dm M x + dm_of M c ≤ limit))) (numbers M) → StartRun M d ls →
     dm_of M d ≤ limit → dm_of M d ≤ dm_of M c
 no_longer_start M ls c d k p none q w =
     elim (cases_lt (length c) (length d)) [
@@ -274,18 +279,18 @@ no_longer_start M ls c d k p none q w =
         let s = last_of_list x front in
         let y = s.1 in
         let parts : d ≡ s.0 ++ (y ∷ c) = e ∙ ap (λ (zs : List ℕ). zs ++ c) s.2 ∙ append_assoc s.0 (y ∷ []) c in
-        let chain : StartChain M (y ∷ c) ls =
-        StartChain-back M ls s.0 (y ∷ c) (subst (λ (zs : List ℕ). StartChain M zs ls) parts q) in
-        none y (has_number M y chain.0.known) (chain.0, omega (arith, ap (dm_of M) parts, dm_of-append M s.0 (y ∷ c)))
+        let run : StartRun M (y ∷ c) ls =
+        StartRun-back M ls s.0 (y ∷ c) (subst (λ (zs : List ℕ). StartRun M zs ls) parts q) in
+        none y (has_number M y run.0.known) (run.0, omega (arith, ap (dm_of M) parts, dm_of-append M s.0 (y ∷ c)))
 
-EndChain-at : (M : Map) (ls c : List ℕ) (x : ℕ) (back : List ℕ) → EndChain M ls (c ++ x ∷ back) →
+EndRun-at : (M : Map) (ls c : List ℕ) (x : ℕ) (back : List ℕ) → EndRun M ls (c ++ x ∷ back) →
     MayFollow M (ls ++ c) x
-EndChain-at M ls [] x back p = subst (λ (zs : List ℕ). MayFollow M zs x) (sym (append-nil ls)) p.0
-EndChain-at M ls (y ∷ c) x back p =
-    subst (λ (zs : List ℕ). MayFollow M zs x) (append_assoc ls (y ∷ []) c) (EndChain-at M (ls ++ y ∷ []) c x back p.1)
+EndRun-at M ls [] x back p = subst (λ (zs : List ℕ). MayFollow M zs x) (sym (append-nil ls)) p.0
+EndRun-at M ls (y ∷ c) x back p =
+    subst (λ (zs : List ℕ). MayFollow M zs x) (append_assoc ls (y ∷ []) c) (EndRun-at M (ls ++ y ∷ []) c x back p.1)
 
-no_longer_end : (M : Map) (ls c d : List ℕ) → IsTrue (has_line M (last ls)) → EndChain M ls c →
-    Each (λ x. ¬ (MayFollow M (ls ++ c) x × (dm M x + dm_of M c ≤ limit))) (numbers M) → EndChain M ls d →
+no_longer_end : (M : Map) (ls c d : List ℕ) → IsTrue (has_line M (last ls)) → EndRun M ls c →
+    Each (λ x. ¬ (MayFollow M (ls ++ c) x × (dm M x + dm_of M c ≤ limit))) (numbers M) → EndRun M ls d →
     dm_of M d ≤ limit → dm_of M d ≤ dm_of M c
 no_longer_end M ls c d k p none q w =
     elim (cases_lt (length c) (length d)) [
@@ -301,23 +306,23 @@ no_longer_end M ls c d k p none q w =
     beyond [] e more = omega (arith, ap (λ (zs : List ℕ). length zs) e, length-append c [])
     beyond (x ∷ back) e more =
         let next : MayFollow M (ls ++ c) x =
-        EndChain-at M ls c x back (subst (λ (zs : List ℕ). EndChain M ls zs) e q) in
+        EndRun-at M ls c x back (subst (λ (zs : List ℕ). EndRun M ls zs) e q) in
         none x (has_number M x next.known) (next, omega (arith, ap (dm_of M) e, dm_of-append M c (x ∷ back)))
 
 -- a longest run, from the run c on, if fewer than fuel decimetres are left
 some_start : (M : Map) → IsMap M → (ls : List ℕ) → IsTrue (has_line M (first ls)) → (fuel : ℕ) (c : List ℕ) →
-    limit < dm_of M c + fuel → StartChain M c ls → dm_of M c ≤ limit → (d : List ℕ) × LongestStart M d ls
+    limit < dm_of M c + fuel → StartRun M c ls → dm_of M c ≤ limit → (d : List ℕ) × LongestStart M d ls
 some_start M m ls k zero c f p w = absurd (omega arith)
 some_start M m ls k (suc fuel) c f p w =
     elim (some_of (λ x. MayPrecede M x (c ++ ls) × (dm M x + dm_of M c ≤ limit))
     (λ x. dec_and (dec_MayPrecede M x (c ++ ls)) (dec_le (dm M x + dm_of M c) limit)) (numbers M)) [
       | inl s ↦ let grows =
           positive M m s.0 s.1.0.known in some_start M m ls k fuel (s.0 ∷ c) (omega arith) (s.1.0, p) s.1.1
-      | inr none ↦ (c, record { chain = p; within = w; longest = λ d q v. no_longer_start M ls c d k p none q v })
+      | inr none ↦ (c, record { run = p; within = w; longest = λ d q v. no_longer_start M ls c d k p none q v })
     ]
 
 some_end : (M : Map) → IsMap M → (ls : List ℕ) → IsTrue (has_line M (last ls)) → (fuel : ℕ) (c : List ℕ) →
-    limit < dm_of M c + fuel → EndChain M ls c → dm_of M c ≤ limit → (d : List ℕ) × LongestEnd M ls d
+    limit < dm_of M c + fuel → EndRun M ls c → dm_of M c ≤ limit → (d : List ℕ) × LongestEnd M ls d
 some_end M m ls k zero c f p w = absurd (omega arith)
 some_end M m ls k (suc fuel) c f p w =
     elim (some_of (λ x. MayFollow M (ls ++ c) x × (dm M x + dm_of M c ≤ limit))
@@ -326,8 +331,8 @@ some_end M m ls k (suc fuel) c f p w =
           let grows = positive M m s.0 s.1.0.known in
           let room = s.1.1 in
           some_end M m ls k fuel (c ++ s.0 ∷ []) (omega (arith, dm_of-append M c (s.0 ∷ [])))
-          (EndChain-push M ls c s.0 p s.1.0) (omega (arith, dm_of-append M c (s.0 ∷ [])))
-      | inr none ↦ (c, record { chain = p; within = w; longest = λ d q v. no_longer_end M ls c d k p none q v })
+          (EndRun-push M ls c s.0 p s.1.0) (omega (arith, dm_of-append M c (s.0 ∷ [])))
+      | inr none ↦ (c, record { run = p; within = w; longest = λ d q v. no_longer_end M ls c d k p none q v })
     ]
 
 some_tried : (M : Map) → IsMap M → (P : Path) → 0 < length P.lines → IsTrue (has_line M (first P.lines)) →

@@ -8,7 +8,7 @@ use Rattle.std.proofs.lemmas.Int.{ints}
 use lib.IntN.{+ℤ_assoc}
 use Rattle.std.specs.List.{slice_index}
 use Rattle.olr_spec.specs.Coordinates.{abs24, from_abs24, nearest, relative, from_rel16}
-use Rattle.olr_spec.specs.Map.{Map, IsMap, has_line, place_at, has}
+use Rattle.olr_spec.specs.Map.{Map, IsMap, has_line, coord_at, has}
 use Rattle.olr_spec.specs.Extension.{Path, is_path, extended_path}
 use Rattle.olr_spec.specs.Points.{node_at, Follow}
 use Rattle.olr_spec.specs.Bearings.{Leg}
@@ -19,7 +19,7 @@ use Rattle.olr_spec.specs.Encoding.{Points, Refused, Refusal, path_fault, Encodi
 use Rattle.olr_spec.specs.Decoded.{lon_steps, lat_steps, steps_sum, decoded, decoded_bound, IsNear}
 use Rattle.olr_spec.proofs.ListLemmas.{has_cases}
 use Rattle.olr_spec.proofs.AnswerLemmas.{sound_lines, all_first, all_last, path_nonempty, one_follow, path_also}
-use Rattle.olr_spec.proofs.ChainLemmas.{one_tried}
+use Rattle.olr_spec.proofs.RunLemmas.{one_tried}
 use Rattle.olr_spec.proofs.KeptLemmas.{two_kept}
 use Rattle.olr_spec.proofs.FieldLemmas.{position_is}
 use Rattle.olr_spec.proofs.FitLemmas.{kept_ends, extended_sound, answered}
@@ -167,7 +167,8 @@ two_of (h ∷ i ∷ js) a b p q lt = (h, i, js, refl)
 -- what is decoded for the LRPs ks: one coordinate for each, near its own
 pub record Decodes (gs : List Leg) (ks : List ℕ) (r : Reference) : Type 0 where
   pub count : length r.middle + 2 ≡ length ks
-  pub near : (k : ℕ) → k < length ks → (d : ℤ × ℤ) × (decoded r k ≡ Some d) × IsNear k d (position gs (slice_index ks k))
+  pub near : (k : ℕ) → k < length ks → (d : ℤ × ℤ) × (decoded r k ≡ Some d)
+      × IsNear k d (position gs (slice_index ks k))
 
 decodes : (gs : List Leg) (p q : ℕ) (ks : List ℕ) → (h i : ℕ) × (js : List ℕ) × (ks ≡ h ∷ i ∷ js) →
     Decodes gs ks (reference_by gs p q ks)
@@ -208,16 +209,16 @@ index_got (x ∷ ks) (suc k) lt = index_got ks k (omega arith)
 
 module _ (M : Map) (m : IsMap M) (P : Path) (is : IsTrue (is_path P.lines)) (none : path_fault M P ≡ None)
     (r : Reference) (e : Encoding M P (Points r)) where
-  near_point : (k v : ℕ) → IsPoint M P k v → (d : ℤ × ℤ) × (decoded r k ≡ Some d) × IsNear k d (place_at M v)
+  near_point : (k v : ℕ) → IsPoint M P k v → (d : ℤ × ℤ) × (decoded r k ≡ Some d) × IsNear k d (coord_at M v)
   near_point k v p =
       let Known : ℕ → Type 0 = λ x. IsTrue (has_line M x) in
       let n = path_nonempty P.lines is in
       let known = sound_lines M P none in
       let E = extended_path M P e.before e.after in
-      let chains =
+      let runs =
       one_tried M m P n (all_first Known P.lines n known) (all_last Known P.lines n known) e.before e.after p.before
       p.after e.tried p.tried in
-      let same : E ≡ extended_path M P p.before p.after = λ i. extended_path M P (chains.0 i) (chains.1 i) in
+      let same : E ≡ extended_path M P p.before p.after = λ i. extended_path M P (runs.0 i) (runs.1 i) in
       let points : e.points ≡ p.points =
       one_follow M E.lines 0 e.points p.points e.follow
       (subst (λ (E : Path). Follow M E.lines 0 p.points) (sym same) p.follow) in
@@ -229,9 +230,9 @@ module _ (M : Map) (m : IsMap M) (P : Path) (is : IsTrue (is_path P.lines)) (non
       let near = (answer_decodes M P is none r e).near k at.0 in
       let s = extended_sound M P is none e.before e.after e.tried in
       let place : position (legs M E.lines) (slice_index (kept_points (legs M E.lines) E.pos E.neg e.points) k)
-      ≡ place_at M v =
+      ≡ coord_at M v =
       position_is M m E.lines s.known (slice_index (kept_points (legs M E.lines) E.pos E.neg e.points) k) s.size
-      ∙ ap (place_at M) at.1 in
+      ∙ ap (coord_at M) at.1 in
       (near.0, near.1, subst (IsNear k near.0) place near.2)
 
   point_at : (k : ℕ) → is_some (decoded r k) ≡ true → (v : ℕ) × IsPoint M P k v
@@ -258,7 +259,7 @@ by_fault M P r (Some g) f e = absurd cc
 
 pub decoded_near : (M : Map) → IsMap M → (P : Path) → IsTrue (is_path P.lines) → (r : Reference) →
     Encodes M P (Points r) → (k v : ℕ) → IsPoint M P k v → (d : ℤ × ℤ) × (decoded r k ≡ Some d)
-    × IsNear k d (place_at M v)
+    × IsNear k d (coord_at M v)
 decoded_near M m P is r e = let p = by_fault M P r (path_fault M P) refl e in near_point M m P is p.0 r p.1
 
 pub decoded_points : (M : Map) → IsMap M → (P : Path) → IsTrue (is_path P.lines) → (r : Reference) →

@@ -3,11 +3,11 @@ use Rattle.std.proofs.Common.{inl, inr, ◌⊎◌, ◌≡◌, ℕ, List, [], ◌
 use Rattle.std.proofs.Common.{arith}
 use Rattle.std.proofs.lemmas.Bool.{cases_lt}
 use Rattle.olr_spec.specs.Map.{Map, end, dm, SameLine, SameRound, has}
-use Rattle.olr_spec.specs.Walks.{Walk, dm_of, Sole}
-use Rattle.olr_spec.specs.Detours.{ChangedLine, Tells, Detour, Near}
+use Rattle.olr_spec.specs.Routes.{IsRoute, dm_of, UniqueShortest}
+use Rattle.olr_spec.specs.Detours.{ChangedLine, AccountsFor, Detour, Near}
 use Rattle.olr_spec.proofs.ListLemmas.{Each, Each-nil, Each-cons}
 use Rattle.olr_spec.proofs.AgreeLemmas.{by_leaving, same_known, same_start, same_end, same_dm, same_dm_of}
-use Rattle.olr_spec.proofs.RouteMoves.{Walk-moves}
+use Rattle.olr_spec.proofs.RouteMoves.{IsRoute-moves}
 
 -- after its last changed line a route is one of both maps
 pub record Rest (M N : Map) (C : List ChangedLine) (t d : ℕ) : Type 0 where
@@ -15,14 +15,14 @@ pub record Rest (M N : Map) (C : List ChangedLine) (t d : ℕ) : Type 0 where
   pub listed : Contains C last
   pub after : List ℕ
   pub same : Each (SameLine M N) after
-  pub returns : Walk M last.to t after
+  pub returns : IsRoute M last.to t after
   pub within : dm_of M after ≤ d
 
-pub rest_of : (M N : Map) (C : List ChangedLine) → Tells C M N → (s t : ℕ) (xs : List ℕ) → Walk M s t xs
+pub rest_of : (M N : Map) (C : List ChangedLine) → AccountsFor C M N → (s t : ℕ) (xs : List ℕ) → IsRoute M s t xs
     → Each (SameLine M N) xs ⊎ Rest M N C t (dm_of M xs)
-rest_of M N C tells s t [] w = inl (Each-nil (SameLine M N))
-rest_of M N C tells s t (x ∷ xs) w =
-    elim (rest_of M N C tells (end M x) t xs w.2) [
+rest_of M N C accounts s t [] w = inl (Each-nil (SameLine M N))
+rest_of M N C accounts s t (x ∷ xs) w =
+    elim (rest_of M N C accounts (end M x) t xs w.2) [
       | inr r ↦ let h = r.within in inr record {
         last = r.last;
         listed = r.listed;
@@ -31,14 +31,14 @@ rest_of M N C tells s t (x ∷ xs) w =
         returns = r.returns;
         within = omega arith;
       }
-      | inl each ↦ elim (tells x w.0) [
+      | inl each ↦ elim (accounts x w.0) [
         | inl is ↦ inl (Each-cons (SameLine M N) x xs is each)
         | inr c ↦ inr record {
           last = c.change;
           listed = c.listed;
           after = xs;
           same = each;
-          returns = subst (λ (v : ℕ). Walk M v t xs) (sym c.to) w.2;
+          returns = subst (λ (v : ℕ). IsRoute M v t xs) (sym c.to) w.2;
           within = omega arith;
         }
       ]
@@ -51,12 +51,12 @@ pub record Parts (M N : Map) (C : List ChangedLine) (s t d : ℕ) : Type 0 where
   pub after_same : Each (SameLine M N) detour.after
 
 -- the parts before its first changed line and after its last one
-pub parts_of : (M N : Map) (C : List ChangedLine) → Tells C M N → (s t : ℕ) (xs : List ℕ) → Walk M s t xs
+pub parts_of : (M N : Map) (C : List ChangedLine) → AccountsFor C M N → (s t : ℕ) (xs : List ℕ) → IsRoute M s t xs
     → Each (SameLine M N) xs ⊎ Parts M N C s t (dm_of M xs)
-parts_of M N C tells s t [] w = inl (Each-nil (SameLine M N))
-parts_of M N C tells s t (x ∷ xs) w =
-    elim (tells x w.0) [
-      | inl is ↦ elim (parts_of M N C tells (end M x) t xs w.2) [
+parts_of M N C accounts s t [] w = inl (Each-nil (SameLine M N))
+parts_of M N C accounts s t (x ∷ xs) w =
+    elim (accounts x w.0) [
+      | inl is ↦ elim (parts_of M N C accounts (end M x) t xs w.2) [
         | inl each ↦ inl (Each-cons (SameLine M N) x xs is each)
         | inr p ↦ let o = p.detour in let h = o.within in inr record {
           detour = record {
@@ -76,13 +76,13 @@ parts_of M N C tells s t (x ∷ xs) w =
       ]
       | inr c ↦
           let short : c.change.len ≤ dm M x = c.len in
-          let rest : Rest M N C t (dm_of M xs) = elim (rest_of M N C tells (end M x) t xs w.2) [
+          let rest : Rest M N C t (dm_of M xs) = elim (rest_of M N C accounts (end M x) t xs w.2) [
             | inl each ↦ record {
               last = c.change;
               listed = c.listed;
               after = xs;
               same = each;
-              returns = subst (λ (v : ℕ). Walk M v t xs) (sym c.to) w.2;
+              returns = subst (λ (v : ℕ). IsRoute M v t xs) (sym c.to) w.2;
               within = omega arith;
             }
             | inr r ↦ r
@@ -131,100 +131,105 @@ detour_there M N C s t d p =
       last_listed = o.last_listed;
       before = o.before;
       after = o.after;
-      leads = Walk-moves M N s o.first.from o.before p.before_same o.leads;
-      returns = Walk-moves M N o.last.to t o.after p.after_same o.returns;
+      leads = IsRoute-moves M N s o.first.from o.before p.before_same o.leads;
+      returns = IsRoute-moves M N o.last.to t o.after p.after_same o.returns;
       within = omega arith;
     }
 
 -- a route of M within d, if N has no detour
-pub same_there : (M N : Map) (C : List ChangedLine) (s t d : ℕ) → Tells C M N → ¬ Detour N C s t d → (xs : List ℕ)
-    → Walk M s t xs → dm_of M xs ≤ d → Each (SameLine M N) xs
-same_there M N C s t d tells clear xs w h =
-    elim (parts_of M N C tells s t xs w) [
+pub same_there : (M N : Map) (C : List ChangedLine) (s t d : ℕ) → AccountsFor C M N → ¬ Detour N C s t d → (xs : List ℕ)
+    → IsRoute M s t xs → dm_of M xs ≤ d → Each (SameLine M N) xs
+same_there M N C s t d accounts clear xs w h =
+    elim (parts_of M N C accounts s t xs w) [
       | inl each ↦ each
       | inr p ↦ absurd (clear (wider N C s t (dm_of M xs) d h (detour_there M N C s t (dm_of M xs) p)))
     ]
 
 -- a route of N within d, if N has no detour
-pub same_here : (M N : Map) (C : List ChangedLine) (s t d : ℕ) → Tells C N M → ¬ Detour N C s t d → (xs : List ℕ)
-    → Walk N s t xs → dm_of N xs ≤ d → Each (SameLine N M) xs
-same_here M N C s t d tells clear xs w h =
-    elim (parts_of N M C tells s t xs w) [
+pub same_here : (M N : Map) (C : List ChangedLine) (s t d : ℕ) → AccountsFor C N M → ¬ Detour N C s t d → (xs : List ℕ)
+    → IsRoute N s t xs → dm_of N xs ≤ d → Each (SameLine N M) xs
+same_here M N C s t d accounts clear xs w h =
+    elim (parts_of N M C accounts s t xs w) [
       | inl each ↦ each
       | inr p ↦ absurd (clear (wider N C s t (dm_of N xs) d h p.detour))
     ]
 
-walk_by : (M N : Map) (s t d : ℕ) (xs : List ℕ) → Each (SameLine M N) xs → Walk M s t xs × (dm_of M xs ≤ d)
-    → Walk N s t xs × (dm_of N xs ≤ d)
-walk_by M N s t d xs each w =
+route_by : (M N : Map) (s t d : ℕ) (xs : List ℕ) → Each (SameLine M N) xs → IsRoute M s t xs × (dm_of M xs ≤ d)
+    → IsRoute N s t xs × (dm_of N xs ≤ d)
+route_by M N s t d xs each w =
     let e = same_dm_of M N xs each in
     let h : dm_of M xs ≤ d = w.1 in
-    (Walk-moves M N s t xs each w.0, omega arith)
+    (IsRoute-moves M N s t xs each w.0, omega arith)
 
-pub walks_there : (M N : Map) (C : List ChangedLine) (s t d : ℕ) → Tells C M N → ¬ Detour N C s t d → (xs : List ℕ)
-    → Walk M s t xs × (dm_of M xs ≤ d) → Walk N s t xs × (dm_of N xs ≤ d)
-walks_there M N C s t d tells clear xs w = walk_by M N s t d xs (same_there M N C s t d tells clear xs w.0 w.1) w
+pub routes_there : (M N : Map) (C : List ChangedLine) (s t d : ℕ) → AccountsFor C M N → ¬ Detour N C s t d →
+    (xs : List ℕ)
+    → IsRoute M s t xs × (dm_of M xs ≤ d) → IsRoute N s t xs × (dm_of N xs ≤ d)
+routes_there M N C s t d accounts clear xs w = route_by M N s t d xs (same_there M N C s t d accounts clear xs w.0 w.1)
+    w
 
-pub walks_here : (M N : Map) (C : List ChangedLine) (s t d : ℕ) → Tells C N M → ¬ Detour N C s t d → (xs : List ℕ)
-    → Walk N s t xs × (dm_of N xs ≤ d) → Walk M s t xs × (dm_of M xs ≤ d)
-walks_here M N C s t d tells clear xs w = walk_by N M s t d xs (same_here M N C s t d tells clear xs w.0 w.1) w
+pub routes_here : (M N : Map) (C : List ChangedLine) (s t d : ℕ) → AccountsFor C N M → ¬ Detour N C s t d →
+    (xs : List ℕ)
+    → IsRoute N s t xs × (dm_of N xs ≤ d) → IsRoute M s t xs × (dm_of M xs ≤ d)
+routes_here M N C s t d accounts clear xs w = route_by N M s t d xs (same_here M N C s t d accounts clear xs w.0 w.1) w
 
 -- ---- unique shortest paths
 
 -- if each route of N that is as short is one of M too
-sole_by : (M N : Map) (s t : ℕ) (xs : List ℕ) → Walk N s t xs
-    → ((ys : List ℕ) → Walk N s t ys → dm_of N ys ≤ dm_of N xs → Each (SameLine N M) ys) → dm_of M xs ≡ dm_of N xs
-    → Sole M s t xs → Sole N s t xs
-sole_by M N s t xs walk same e sole = record {
-  walk = walk;
+unique_by : (M N : Map) (s t : ℕ) (xs : List ℕ) → IsRoute N s t xs
+    → ((ys : List ℕ) → IsRoute N s t ys → dm_of N ys ≤ dm_of N xs → Each (SameLine N M) ys) → dm_of M xs ≡ dm_of N xs
+    → UniqueShortest M s t xs → UniqueShortest N s t xs
+unique_by M N s t xs route same e unique = record {
+  route = route;
   others = λ ys w other. elim (cases_lt (dm_of N xs) (dm_of N ys)) [
     | inl longer ↦ longer
     | inr short ↦
         let each = same ys w short in
         let f = same_dm_of N M ys each in
-        let long = sole.others ys (Walk-moves N M s t ys each w) other in
+        let long = unique.others ys (IsRoute-moves N M s t ys each w) other in
         absurd (omega arith)
   ];
 }
 
-pub sole_there : (M N : Map) (C : List ChangedLine) (s t d : ℕ) → Tells C M N → Tells C N M → ¬ Detour N C s t d
-    → (xs : List ℕ) → dm_of M xs ≡ dm_of N xs → dm_of M xs ≤ d → Sole M s t xs → Sole N s t xs
-sole_there M N C s t d there here clear xs e h sole =
-    sole_by M N s t xs (walks_there M N C s t d there clear xs (sole.walk, h)).0
-    (λ ys w short. same_here M N C s t d here clear ys w (omega arith)) e sole
+pub unique_there : (M N : Map) (C : List ChangedLine) (s t d : ℕ) → AccountsFor C M N → AccountsFor C N M →
+    ¬ Detour N C s t d
+    → (xs : List ℕ) → dm_of M xs ≡ dm_of N xs → dm_of M xs ≤ d → UniqueShortest M s t xs → UniqueShortest N s t xs
+unique_there M N C s t d there here clear xs e h unique =
+    unique_by M N s t xs (routes_there M N C s t d there clear xs (unique.route, h)).0
+    (λ ys w short. same_here M N C s t d here clear ys w (omega arith)) e unique
 
-pub sole_here : (M N : Map) (C : List ChangedLine) (s t d : ℕ) → Tells C M N → Tells C N M → ¬ Detour N C s t d
-    → (xs : List ℕ) → dm_of M xs ≡ dm_of N xs → dm_of M xs ≤ d → Sole N s t xs → Sole M s t xs
-sole_here M N C s t d there here clear xs e h sole =
-    sole_by N M s t xs (walks_here M N C s t d here clear xs (sole.walk, omega arith)).0
-    (λ ys w short. same_there M N C s t d there clear ys w (omega arith)) (sym e) sole
+pub unique_here : (M N : Map) (C : List ChangedLine) (s t d : ℕ) → AccountsFor C M N → AccountsFor C N M →
+    ¬ Detour N C s t d
+    → (xs : List ℕ) → dm_of M xs ≡ dm_of N xs → dm_of M xs ≤ d → UniqueShortest N s t xs → UniqueShortest M s t xs
+unique_here M N C s t d there here clear xs e h unique =
+    unique_by N M s t xs (routes_here M N C s t d here clear xs (unique.route, omega arith)).0
+    (λ ys w short. same_there M N C s t d there clear ys w (omega arith)) (sym e) unique
 
 -- ---- near
 
 pub near_moves : (M N : Map) (T : List ℕ) → ((v : ℕ) → has T v ≡ false → SameRound M N v) → (s w : ℕ) (xs : List ℕ)
-    → has T w ≡ true → Walk M s w xs → Near N T s (dm_of M xs)
-near_moves M N T round s w [] on walk = record {
+    → has T w ≡ true → IsRoute M s w xs → Near N T s (dm_of M xs)
+near_moves M N T round s w [] on route = record {
   node = s;
-  walk = [];
-  touched = subst (λ (v : ℕ). has T v ≡ true) (sym walk) on;
+  route = [];
+  touched = subst (λ (v : ℕ). has T v ≡ true) (sym route) on;
   leads = refl;
   within = omega arith;
 }
-near_moves M N T round s w (x ∷ xs) on walk =
+near_moves M N T round s w (x ∷ xs) on route =
     elim (has T s) as (λ b. has T s ≡ b → Near N T s (dm_of M (x ∷ xs))) [
-      | true ↦ λ e. record { node = s; walk = []; touched = e; leads = refl; within = omega arith }
+      | true ↦ λ e. record { node = s; route = []; touched = e; leads = refl; within = omega arith }
       | false ↦ λ e.
-          let is : SameLine M N x = by_leaving M N s x (round s e) walk.0 walk.1 in
-          let n = near_moves M N T round (end M x) w xs on walk.2 in
-          let rest : Walk N (end N x) n.node n.walk =
-          subst (λ (v : ℕ). Walk N v n.node n.walk) (same_end M N x is) n.leads in
+          let is : SameLine M N x = by_leaving M N s x (round s e) route.0 route.1 in
+          let n = near_moves M N T round (end M x) w xs on route.2 in
+          let rest : IsRoute N (end N x) n.node n.route =
+          subst (λ (v : ℕ). IsRoute N v n.node n.route) (same_end M N x is) n.leads in
           let long : dm M x ≡ dm N x = same_dm M N x is in
           let h = n.within in
           record {
             node = n.node;
-            walk = x ∷ n.walk;
+            route = x ∷ n.route;
             touched = n.touched;
-            leads = (sym (same_known M N x is) ∙ walk.0, sym (same_start M N x is) ∙ walk.1, rest);
+            leads = (sym (same_known M N x is) ∙ route.0, sym (same_start M N x is) ∙ route.1, rest);
             within = omega arith;
           }
     ] refl
@@ -232,7 +237,7 @@ near_moves M N T round s w (x ∷ xs) on walk =
 pub near_there : (M N : Map) (T : List ℕ) → ((v : ℕ) → has T v ≡ false → SameRound M N v) → (s d : ℕ) → Near M T s d
     → Near N T s d
 near_there M N T round s d m =
-    let n = near_moves M N T round s m.node m.walk m.touched m.leads in
+    let n = near_moves M N T round s m.node m.route m.touched m.leads in
     let h = m.within in
     let k = n.within in
-    record { node = n.node; walk = n.walk; touched = n.touched; leads = n.leads; within = omega arith }
+    record { node = n.node; route = n.route; touched = n.touched; leads = n.leads; within = omega arith }

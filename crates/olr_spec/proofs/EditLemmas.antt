@@ -10,9 +10,9 @@ use Rattle.std.specs.FinMap.{FinMap, get, insert, remove, entries, get-insert, g
 use Rattle.std.specs.FinMap.Entries.{find}
 use Rattle.olr_spec.specs.Coordinates.{Coord, is_coord}
 use Rattle.olr_spec.specs.Map.{MapFault, Map, IsMap, Line, is_good, are_coords, has_node, has_line, line_at, no_line}
-use Rattle.olr_spec.specs.Map.{no_place, start, end, Edit, Add_node, Move_node, Drop_node, Add_line, Set_line}
+use Rattle.olr_spec.specs.Map.{no_coord, start, end, Edit, Add_node, Move_node, Drop_node, Add_line, Set_line}
 use Rattle.olr_spec.specs.Map.{Drop_line, Node_exists, No_node, Line_exists, No_line, Node_in_use, Bad_shape, edited}
-use Rattle.olr_spec.specs.Map.{unless, in_use, touched_nodes, touched_lines, SameLine, Agree, has, HasPlace}
+use Rattle.olr_spec.specs.Map.{unless, in_use, touched_nodes, touched_lines, SameLine, Agree, has, HasCoord}
 use Rattle.olr_spec.proofs.ListLemmas.{has_here, has_there}
 use Rattle.olr_spec.proofs.AgreeLemmas.{known_record}
 
@@ -238,7 +238,7 @@ with_node M v c m h =
       good = m.good;
       starts = λ x k. still_there M.nodes v c (start M x) (m.starts x k);
       ends = λ x k. still_there M.nodes v c (end M x) (m.ends x k);
-      places = λ u k. inserted (λ p. IsTrue (is_coord p)) no_place M.nodes v c u h (m.places u) k;
+      places = λ u k. inserted (λ p. IsTrue (is_coord p)) no_coord M.nodes v c u h (m.places u) k;
       shapes = m.shapes;
     }
 
@@ -273,7 +273,7 @@ without_node M v m h =
           (left_other M.nodes v (end M x)
           (unused v (entries M.lines) h x (line_at M x) (sym (get-entries M.lines x) ∙ known_record M x k)).0)
           ∙ m.ends x k;
-      places = λ u k. removed (λ p. IsTrue (is_coord p)) no_place M.nodes v u (λ i _. m.places u i) k;
+      places = λ u k. removed (λ p. IsTrue (is_coord p)) no_coord M.nodes v u (λ i _. m.places u i) k;
       shapes = m.shapes;
     }
 
@@ -298,7 +298,7 @@ without_line M x m =
       shapes = λ y k. removed (λ j. IsTrue (are_coords j.shape)) no_line M.lines x y (λ h _. m.shapes y h) k;
     }
 
-pub edits_keep : (M N : Map) (e : Edit) → IsMap M → HasPlace e → edited M e ≡ Ok N → IsMap N
+pub edits_keep : (M N : Map) (e : Edit) → IsMap M → HasCoord e → edited M e ≡ Ok N → IsMap N
 edits_keep M N (Add_node v c) m h e = subst IsMap (made_by M N (Add_node v c) e).1 (with_node M v c m h)
 edits_keep M N (Move_node v c) m h e = subst IsMap (made_by M N (Move_node v c) e).1 (with_node M v c m h)
 edits_keep M N (Drop_node v) m h e =

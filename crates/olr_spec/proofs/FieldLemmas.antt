@@ -10,11 +10,11 @@ use Rattle.std.proofs.lemmas.List.{length-map, get_or-map, get_or_past, take-map
 use Rattle.std.specs.Int.RustNames.{int_le}
 use Rattle.std.specs.List.{filter, fold, find, slice_index, slice_range, AllByRecursion}
 use Rattle.olr_spec.specs.Coordinates.{Coord, is_coord, is_longitude, is_latitude, abs24, relative, fits16}
-use Rattle.olr_spec.specs.Map.{Map, IsMap, Line, is_good, has_line, line_at, place_at, start, end, has}
-use Rattle.olr_spec.specs.Walks.{dm_of}
+use Rattle.olr_spec.specs.Map.{Map, IsMap, Line, is_good, has_line, line_at, coord_at, start, end, has}
+use Rattle.olr_spec.specs.Routes.{dm_of}
 use Rattle.olr_spec.specs.Extension.{last}
 use Rattle.olr_spec.specs.Points.{node_at, stretch, Candidate, fit16}
-use Rattle.olr_spec.specs.Bearings.{Leg, Scaled, scaled_place, bearing, thousandths, sector, up_to, vector, boundary}
+use Rattle.olr_spec.specs.Bearings.{Leg, Scaled, scaled_coord, bearing, thousandths, sector, up_to, vector, boundary}
 use Rattle.olr_spec.specs.Bearings.{lies_between}
 use Rattle.olr_spec.specs.Reference.{Attrs, First, Middle, Last, Reference, leg, legs, no_leg, leg_at, position}
 use Rattle.olr_spec.specs.Reference.{dm_along, dm_between, from_front, to_back, last_where, first_where, first_kept}
@@ -299,7 +299,7 @@ module _ (M : Map) (m : IsMap M) (ls : List ℕ) (known : Each (λ x. IsTrue (ha
             (greatest_below 0 (stretch ls i j) (Each-range (λ x. IsTrue (has_line M x)) ls i j known) (omega arith));
         bearing =
             bearing_below (leg_at (legs M ls) i).begin
-            (scaled_place (leg_at (legs M ls) i) (min 200 (leg_at (legs M ls) i).line.len));
+            (scaled_coord (leg_at (legs M ls) i) (min 200 (leg_at (legs M ls) i).line.len));
         dnp = omega arith;
       }
 
@@ -314,7 +314,7 @@ module _ (M : Map) (m : IsMap M) (ls : List ℕ) (known : Each (λ x. IsTrue (ha
       let on : suc (length xs) - 1 ≡ length xs = omega arith in
       r ∙ ap (slice_index (y ∷ xs)) on ∙ sym (ap (slice_index (x ∷ y ∷ xs)) is)
 
-  pub position_is : (i : ℕ) → 0 < length ls → position (legs M ls) i ≡ place_at M (node_at M ls i)
+  pub position_is : (i : ℕ) → 0 < length ls → position (legs M ls) i ≡ coord_at M (node_at M ls i)
   position_is i n =
       let e = length-map ls (leg M) in
       elim (cases_lt i (length ls)) [
@@ -324,7 +324,7 @@ module _ (M : Map) (m : IsMap M) (ls : List ℕ) (known : Each (λ x. IsTrue (ha
             ap (λ (b : Bool). cond b (leg_at (legs M ls) i).begin (leg_at (legs M ls) (length (legs M ls) - 1)).finish)
             t
             ∙ ap (λ (g : Leg). g.begin) (get_or-map (leg M) ls i 0 no_leg lt)
-            ∙ sym (ap (λ (b : Bool). place_at M (cond b (start M (slice_index ls i)) (end M (last ls)))) u)
+            ∙ sym (ap (λ (b : Bool). coord_at M (cond b (start M (slice_index ls i)) (end M (last ls)))) u)
         | inr ge ↦
             let t : nat_lt i (length (legs M ls)) ≡ false = le-ltb i (length (legs M ls)) (omega arith) in
             let u : nat_lt i (length ls) ≡ false = le-ltb i (length ls) ge in
@@ -333,8 +333,8 @@ module _ (M : Map) (m : IsMap M) (ls : List ℕ) (known : Each (λ x. IsTrue (ha
             t
             ∙ ap (λ (k : ℕ). (leg_at (legs M ls) k).finish) same
             ∙ ap (λ (g : Leg). g.finish) (get_or-map (leg M) ls (length ls - 1) 0 no_leg (omega arith))
-            ∙ ap (λ (x : ℕ). place_at M (end M x)) (sym (last_index ls n))
-            ∙ sym (ap (λ (b : Bool). place_at M (cond b (start M (slice_index ls i)) (end M (last ls)))) u)
+            ∙ ap (λ (x : ℕ). coord_at M (end M x)) (sym (last_index ls n))
+            ∙ sym (ap (λ (b : Bool). coord_at M (cond b (start M (slice_index ls i)) (end M (last ls)))) u)
       ]
 
   relative_fits : (i j : ℕ) → 0 < length ls → Candidate M ls i j →
@@ -367,7 +367,7 @@ module _ (M : Map) (m : IsMap M) (ls : List ℕ) (known : Each (λ x. IsTrue (ha
         fow = g.fow;
         bearing =
             bearing_below (leg_at (legs M ls) (i - 1)).finish
-            (scaled_place (leg_at (legs M ls) (i - 1)) ((leg_at (legs M ls) (i - 1)).line.len - 200));
+            (scaled_coord (leg_at (legs M ls) (i - 1)) ((leg_at (legs M ls) (i - 1)).line.len - 200));
       }
 
 -- ---- offsets

@@ -7,7 +7,7 @@ use Rattle.std.proofs.lemmas.Bool.Decides.{nat_tests}
 use Rattle.std.proofs.lemmas.List.{length-map}
 use Rattle.std.specs.Option.{option_map}
 use Rattle.olr_spec.specs.Map.{Map, IsMap, has_line, has}
-use Rattle.olr_spec.specs.Walks.{dm_of}
+use Rattle.olr_spec.specs.Routes.{dm_of}
 use Rattle.olr_spec.specs.Extension.{Path, Tried, is_path, extended_path, from_start, taken_start, taken_end}
 use Rattle.olr_spec.specs.Points.{Follow, last_position}
 use Rattle.olr_spec.specs.Reference.{Reference, leg, legs, dm_between, from_front, to_back, first_kept, last_kept}
@@ -15,10 +15,10 @@ use Rattle.olr_spec.specs.Reference.{kept_points, last_two, reference_by, refere
 use Rattle.olr_spec.specs.Encoding.{Points, Refused, Refusal, Unknown_line, Broken, Offset_too_long, No_next_point}
 use Rattle.olr_spec.specs.Encoding.{first_unknown, first_break, path_fault, answer_by_points, Encoding, Encodes}
 use Rattle.olr_spec.specs.Bytes.{IsReference}
-use Rattle.olr_spec.proofs.WalkLemmas.{dm_of-append}
+use Rattle.olr_spec.proofs.RouteLemmas.{dm_of-append}
 use Rattle.olr_spec.proofs.ListLemmas.{Each, Each-append, Each-from, has_here, has_there, has_cases}
 use Rattle.olr_spec.proofs.AnswerLemmas.{sound_lines, path_nonempty, or_None}
-use Rattle.olr_spec.proofs.ChainMoves.{StartChain-known, EndChain-known}
+use Rattle.olr_spec.proofs.RunMoves.{StartRun-known, EndRun-known}
 use Rattle.olr_spec.proofs.PointMoves.{Each-cond}
 use Rattle.olr_spec.proofs.JoinLemmas.{Linked, follow_linked, kept_linked, between}
 use Rattle.olr_spec.proofs.KeptLemmas.{whole, front_within, back_within, two_kept, has_last_point, nothing_left}
@@ -158,11 +158,11 @@ extended_sound M P is none before after tried =
     let fs = from_start M P before in
     let a = taken_end M fs after in
     let fs_known : Each Known fs =
-    Each-append Known b P.lines (Each-cond Known _ before (StartChain-known M before P.lines tried.before.chain))
+    Each-append Known b P.lines (Each-cond Known _ before (StartRun-known M before P.lines tried.before.run))
     known in
     let less = long_enough M P none in
     record {
-      known = Each-append Known fs a fs_known (Each-cond Known _ after (EndChain-known M fs after tried.after.chain));
+      known = Each-append Known fs a fs_known (Each-cond Known _ after (EndRun-known M fs after tried.after.run));
       size = omega (arith, length-append fs a, length-append b P.lines);
       long = omega (arith, dm_of-append M fs a, dm_of-append M b P.lines);
     }

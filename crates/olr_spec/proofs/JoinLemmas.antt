@@ -8,19 +8,20 @@ use Rattle.std.proofs.lemmas.List.{drop_more, take_more, get_or-drop}
 use Rattle.std.specs.List.{slice_index, filter}
 use Rattle.std.specs.Bool.{⊤}
 use Rattle.olr_spec.specs.Map.{Map, start, end}
-use Rattle.olr_spec.specs.Walks.{Walk, Route}
+use Rattle.olr_spec.specs.Routes.{IsRoute, LrpRoute}
 use Rattle.olr_spec.specs.Points.{stretch, Candidate, Follow, last_position}
 use Rattle.olr_spec.specs.Reference.{legs, kept_points, first_kept, last_kept}
 use Rattle.olr_spec.specs.Joins.{JoinsTo, JoinsLast, Joins}
-use Rattle.olr_spec.proofs.WalkLemmas.{Walk-split, prefix_of_sole}
+use Rattle.olr_spec.proofs.RouteLemmas.{IsRoute-split, prefix_of_unique}
 use Rattle.olr_spec.proofs.AnswerLemmas.{Next-candidate}
 
-pub prefix_of_route : (M : Map) (s v t : ℕ) (xs ys : List ℕ) → Route M s t (xs ++ ys) → Walk M s v xs → Walk M v t ys →
-    Route M s v xs
-prefix_of_route M s v t xs ys r w u = prefix_of_sole M s v t xs ys r w u
+pub prefix_of_route : (M : Map) (s v t : ℕ) (xs ys : List ℕ) → LrpRoute M s t (xs ++ ys) → IsRoute M s v xs →
+    IsRoute M v t ys →
+    LrpRoute M s v xs
+prefix_of_route M s v t xs ys r w u = prefix_of_unique M s v t xs ys r w u
 
-pub route_walk : (M : Map) (s t : ℕ) (xs : List ℕ) → Route M s t xs → Walk M s t xs
-route_walk M s t xs r = r.walk
+pub lrp_route_is_route : (M : Map) (s t : ℕ) (xs : List ℕ) → LrpRoute M s t xs → IsRoute M s t xs
+lrp_route_is_route M s t xs r = r.route
 
 -- ---- parts of a list
 
@@ -52,14 +53,15 @@ pub joins_to : (M : Map) (ls : List ℕ) (p q : ℕ) → q < length ls → Candi
 joins_to M ls p q h c =
     let lt = c.after in
     let is : min q (length ls - 1) ≡ q = omega arith in
-    let route : Route M (end M (slice_index ls p)) (start M (slice_index ls q)) (stretch ls (p + 1) q) =
-    subst (λ (m : ℕ). p < m → Route M (end M (slice_index ls p)) (start M (slice_index ls m)) (stretch ls (p + 1) m)) is
+    let route : LrpRoute M (end M (slice_index ls p)) (start M (slice_index ls q)) (stretch ls (p + 1) q) =
+    subst (λ (m : ℕ). p < m → LrpRoute M (end M (slice_index ls p)) (start M (slice_index ls m))
+    (stretch ls (p + 1) m)) is
     c.covered lt in
     (stretch ls (p + 1) q, stretch_first ls p q lt (omega arith), route)
 
 -- up to line k, the last of the leg
 joins_before : (M : Map) (ls : List ℕ) (p k : ℕ) → p < k → k < length ls →
-    Route M (end M (slice_index ls p)) (start M (slice_index ls k)) (stretch ls (p + 1) k) → JoinsLast M ls p (k + 1)
+    LrpRoute M (end M (slice_index ls p)) (start M (slice_index ls k)) (stretch ls (p + 1) k) → JoinsLast M ls p (k + 1)
 joins_before M ls p k h g r =
     let last : k + 1 - 1 ≡ k = omega arith in
     let parts : stretch ls p (k + 1) ≡ slice_index ls p ∷ (stretch ls (p + 1) k ++ slice_index ls k ∷ []) =
@@ -67,7 +69,7 @@ joins_before M ls p k h g r =
     ∙ ap (λ (zs : List ℕ). slice_index ls p ∷ zs) (stretch_last ls (p + 1) k (omega arith) g) in
     subst (λ (n : ℕ). (stretch ls p (k + 1) ≡ slice_index ls p ∷ [])
     ⊎ ((s : List ℕ) × (stretch ls p (k + 1) ≡ slice_index ls p ∷ (s ++ slice_index ls n ∷ []))
-    × Route M (end M (slice_index ls p)) (start M (slice_index ls n)) s))
+    × LrpRoute M (end M (slice_index ls p)) (start M (slice_index ls n)) s))
     (sym last) (inr (stretch ls (p + 1) k, parts, r))
 
 alone : (M : Map) (ls : List ℕ) (p q : ℕ) → q ≡ p + 1 → p < length ls → JoinsLast M ls p q
@@ -76,11 +78,11 @@ alone M ls p q e h =
     ∙ ap (λ (zs : List ℕ). slice_index ls p ∷ zs) (empty_stretch ls (p + 1) q (omega arith)))
 
 -- without its last line, a unique shortest path is the one to the start of this line
-without_last : (M : Map) (s t : ℕ) (xs : List ℕ) (x : ℕ) → Route M s t (xs ++ x ∷ []) → Route M s (start M x) xs
+without_last : (M : Map) (s t : ℕ) (xs : List ℕ) (x : ℕ) → LrpRoute M s t (xs ++ x ∷ []) → LrpRoute M s (start M x) xs
 without_last M s t xs x r =
-    let parts = Walk-split M s t xs (x ∷ []) (route_walk M s t (xs ++ x ∷ []) r) in
-    let walk : Walk M s (start M x) xs = subst (λ (v : ℕ). Walk M s v xs) (sym parts.2.1) parts.1 in
-    prefix_of_route M s (start M x) t xs (x ∷ []) r walk (parts.2.0, refl, parts.2.2)
+    let parts = IsRoute-split M s t xs (x ∷ []) (lrp_route_is_route M s t (xs ++ x ∷ []) r) in
+    let route : IsRoute M s (start M x) xs = subst (λ (v : ℕ). IsRoute M s v xs) (sym parts.2.1) parts.1 in
+    prefix_of_route M s (start M x) t xs (x ∷ []) r route (parts.2.0, refl, parts.2.2)
 
 pub joins_last : (M : Map) (ls : List ℕ) (p q : ℕ) → Candidate M ls p q → JoinsLast M ls p q
 joins_last M ls p q c =
@@ -96,18 +98,18 @@ joins_last M ls p q c =
             | inl whole ↦
                 let m : min q (length ls - 1) ≡ k = omega arith in
                 subst (λ (n : ℕ). p < n →
-                Route M (end M (slice_index ls p)) (start M (slice_index ls n)) (stretch ls (p + 1) n)) m c.covered
+                LrpRoute M (end M (slice_index ls p)) (start M (slice_index ls n)) (stretch ls (p + 1) n)) m c.covered
                 (omega arith)
             | inr within ↦
                 let m : min q (length ls - 1) ≡ k + 1 = omega arith in
-                let route : Route M (end M (slice_index ls p)) (start M (slice_index ls (k + 1)))
+                let route : LrpRoute M (end M (slice_index ls p)) (start M (slice_index ls (k + 1)))
                 (stretch ls (p + 1) (k + 1)) =
                 subst (λ (n : ℕ). p < n →
-                Route M (end M (slice_index ls p)) (start M (slice_index ls n)) (stretch ls (p + 1) n)) m c.covered
+                LrpRoute M (end M (slice_index ls p)) (start M (slice_index ls n)) (stretch ls (p + 1) n)) m c.covered
                 (omega arith) in
                 without_last M (end M (slice_index ls p)) (start M (slice_index ls (k + 1))) (stretch ls (p + 1) k)
                 (slice_index ls k)
-                (subst (Route M (end M (slice_index ls p)) (start M (slice_index ls (k + 1))))
+                (subst (LrpRoute M (end M (slice_index ls p)) (start M (slice_index ls (k + 1))))
                 (stretch_last ls (p + 1) k (omega arith) (omega arith)) route)
           ]))
     ]

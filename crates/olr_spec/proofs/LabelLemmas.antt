@@ -4,9 +4,9 @@ use Rattle.std.proofs.Common.{Option, Some, IsTrue, sym, ap, ◌∙◌, subst, a
 use Rattle.std.proofs.lemmas.Bool.{cases_lt, cases_eq}
 use Rattle.std.proofs.lemmas.List.{reverse-append}
 use Rattle.olr_spec.specs.Map.{Map, IsMap, has_line, start, end, dm}
-use Rattle.olr_spec.specs.Walks.{Walk, dm_of, FirstSmaller, Before, Least}
+use Rattle.olr_spec.specs.Routes.{IsRoute, dm_of, FirstSmaller, PrecedesInTieOrder, Least}
 use Rattle.olr_spec.specs.Labels.{Settled}
-use Rattle.olr_spec.proofs.WalkLemmas.{dm_of-append, Walk-split, nothing_below_nil}
+use Rattle.olr_spec.proofs.RouteLemmas.{dm_of-append, IsRoute-split, nothing_below_nil}
 use Rattle.olr_spec.proofs.DecideLemmas.{last_of_list}
 
 -- the last lines are compared first
@@ -20,7 +20,7 @@ module _ (M : Map) (m : IsMap M) (s limit : ℕ) (dist : ℕ → Option ℕ) (tr
     (l : Settled M s limit dist trace) where
   -- v has a label, and the route ys doesn't precede that of the label
   abbrev Fine : ℕ → List ℕ → Type 0
-  Fine v ys = (e : ℕ) × (dist v ≡ Some e) × (¬ Before M ys (trace v))
+  Fine v ys = (e : ℕ) × (dist v ≡ Some e) × (¬ PrecedesInTieOrder M ys (trace v))
 
   joined : (y v x : ℕ) → end M y ≡ v → trace v ≡ trace (start M x) ++ x ∷ [] →
       trace (end M y) ≡ trace (start M x) ++ x ∷ []
@@ -36,7 +36,7 @@ module _ (M : Map) (m : IsMap M) (s limit : ℕ) (dist : ℕ → Option ℕ) (tr
   step : (front : List ℕ) (y u v : ℕ) → IsTrue (has_line M y) → start M y ≡ u → end M y ≡ v →
       dm_of M front + dm M y ≤ limit → Fine u front → Fine v (front ++ y ∷ [])
   step front y u v k from to short fine =
-      let w = l.walks u fine.0 fine.1 in
+      let w = l.routes u fine.0 fine.1 in
       let near : fine.0 ≤ dm_of M front =
       elim (cases_lt (dm_of M front) fine.0) [
         | inl lt ↦ let e = w.1 in absurd (fine.2 (inl (omega arith)))
@@ -45,9 +45,9 @@ module _ (M : Map) (m : IsMap M) (s limit : ℕ) (dist : ℕ → Option ℕ) (tr
       ] in
       let c = l.closed u fine.0 y fine.1 k from (omega arith) in
       let label : dist v ≡ Some c.0 = subst (λ (n : ℕ). dist n ≡ Some c.0) to c.1 in
-      let own = l.walks v c.0 label in
+      let traversed = l.routes v c.0 label in
       let long = dm_of-append M front (y ∷ []) in
-      let total : dm_of M (trace v) ≡ c.0 = own.1 in (
+      let total : dm_of M (trace v) ≡ c.0 = traversed.1 in (
         c.0,
         label,
         λ b. elim b [
@@ -81,18 +81,18 @@ module _ (M : Map) (m : IsMap M) (s limit : ℕ) (dist : ℕ → Option ℕ) (tr
         ],
       )
 
-  fine_by : (n : ℕ) (v : ℕ) (ys : List ℕ) → length ys ≤ n → Walk M s v ys → dm_of M ys ≤ limit → Fine v ys
+  fine_by : (n : ℕ) (v : ℕ) (ys : List ℕ) → length ys ≤ n → IsRoute M s v ys → dm_of M ys ≤ limit → Fine v ys
   fine_by n v [] h w short = (0, ap dist (sym w) ∙ l.source, λ b. nothing (ap trace (sym w) ∙ l.at_source) b)
     where
-      nothing : trace v ≡ [] → ¬ Before M [] (trace v)
+      nothing : trace v ≡ [] → ¬ PrecedesInTieOrder M [] (trace v)
       nothing e (inl lt) = absurd (omega (arith, ap (dm_of M) e))
       nothing e (inr p) = p.1
   fine_by zero v (y ∷ ys) h w short = absurd (omega arith)
   fine_by (suc n) v (y ∷ ys) h w short =
       let r = last_of_list y ys in
       let x = r.1 in
-      let walk : Walk M s v (r.0 ++ x ∷ []) = subst (λ (zs : List ℕ). Walk M s v zs) r.2 w in
-      let parts = Walk-split M s v r.0 (x ∷ []) walk in
+      let route : IsRoute M s v (r.0 ++ x ∷ []) = subst (λ (zs : List ℕ). IsRoute M s v zs) r.2 w in
+      let parts = IsRoute-split M s v r.0 (x ∷ []) route in
       let long : dm_of M (y ∷ ys) ≡ dm_of M r.0 + dm M x =
       ap (dm_of M) r.2 ∙ dm_of-append M r.0 (x ∷ []) ∙ plain (dm_of M r.0) (dm M x) in
       let size = ap (λ (zs : List ℕ). length zs) r.2 in
@@ -103,16 +103,16 @@ module _ (M : Map) (m : IsMap M) (s limit : ℕ) (dist : ℕ → Option ℕ) (tr
       plain a b = omega arith
 
   -- a route within the limit ends at a labelled node
-  pub labelled : (v : ℕ) (ys : List ℕ) → Walk M s v ys → dm_of M ys ≤ limit → (e : ℕ) × (dist v ≡ Some e)
+  pub labelled : (v : ℕ) (ys : List ℕ) → IsRoute M s v ys → dm_of M ys ≤ limit → (e : ℕ) × (dist v ≡ Some e)
   labelled v ys w h = let f = fine_by (length ys) v ys (omega arith) w h in (f.0, f.1)
 
   pub traced_least : (v d : ℕ) → dist v ≡ Some d → Least M s v (trace v)
   traced_least v d e =
-      let own = l.walks v d e in
-      let total : dm_of M (trace v) ≡ d = own.1 in
-      let h : d ≤ limit = own.2 in
+      let traversed = l.routes v d e in
+      let total : dm_of M (trace v) ≡ d = traversed.1 in
+      let h : d ≤ limit = traversed.2 in
       record {
-        walk = own.0;
+        route = traversed.0;
         first = λ ys w b. elim (cases_lt limit (dm_of M ys)) [
           | inl far ↦ elim b [ inl lt ↦ absurd (omega arith) | inr p ↦ let even = p.0 in absurd (omega arith) ]
           | inr near ↦ (fine_by (length ys) v ys (omega arith) w near).2 b

@@ -2,7 +2,8 @@
 use Rattle.std.proofs.Common.{inl, inr, ◌≡◌, ℕ, ◌+◌, ◌*◌, ℤ, pos, negsuc, ◌-ℤ◌, ◌+ℤ◌, ◌<◌, ◌≤◌, true}
 use Rattle.std.proofs.Common.{sym, ◌∙◌, arith, nat_le}
 use Rattle.std.specs.Prelude.{nat_abs}
-use Rattle.std.proofs.Math.Nat.{mul-le-mul_left, mul-le-mul_right, mul-lt-mul_of_pos_left, le_of_mul-le-mul_left, mul-add}
+use Rattle.std.proofs.Math.Nat.{mul-le-mul_left, mul-le-mul_right, mul-lt-mul_of_pos_left, le_of_mul-le-mul_left}
+use Rattle.std.proofs.Math.Nat.{mul-add}
 use Rattle.std.proofs.Math.Nat.{mul_left_comm, mul_assoc, mul_comm}
 use Rattle.std.proofs.lemmas.Bool.{or_cases, leb-true}
 use Rattle.std.proofs.lemmas.Int.{ints}
@@ -77,7 +78,7 @@ nearer n d scale far w k p a b near spaced =
     let B = decoded_bound k in
     let here = w.all p a in
     let there = w.all p b in
-    let own : far p a < scale * B + scale * B =
+    let traversed : far p a < scale * B + scale * B =
     own_side here.u scale (lon_apart p a) (lat_apart p a) B (far p a) w.unit here.most near.lon near.lat here.by_both in
     let other : scale * B + scale * B ≤ far p b =
     elim (or_cases (nat_le (3 * B) (nat_abs (a.lat -ℤ b.lat)))
@@ -90,7 +91,8 @@ nearer n d scale far w k p a b near spaced =
       | inr h ↦
           let t = triangle p.0 a.lon b.lon in
           let lost = near.lon in
-          by_longitude n d scale there.u (lon_apart p b) (nat_abs (a.lon -ℤ b.lon)) B (far p b) w.some w.unit there.least
+          by_longitude n d scale there.u (lon_apart p b) (nat_abs (a.lon -ℤ b.lon)) B (far p b) w.some w.unit
+          there.least
           there.most (omega arith) (leb-true (3 * (d * B)) (n * nat_abs (a.lon -ℤ b.lon)) h) there.by_lon
     ] in
     omega arith

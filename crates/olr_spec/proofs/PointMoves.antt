@@ -4,9 +4,9 @@ use Rattle.std.proofs.Common.{inl, inr, ◌≡◌, ℕ, ◌+◌, ◌-◌, min, B
 use Rattle.std.proofs.Common.{◌<◌, ◌≤◌, IsTrue, refl, sym, ap, ◌∙◌, subst, arith, ◌==◌, nat_lt, length-append, ◌↔◌}
 use Rattle.std.proofs.lemmas.Bool.{ltb-true, cond_both}
 use Rattle.std.specs.List.{slice_index}
-use Rattle.olr_spec.specs.Map.{Map, IsMap, has_line, start, end, place_at, SameLine, SameRound, has}
-use Rattle.olr_spec.specs.Walks.{Walk, dm_of, Route}
-use Rattle.olr_spec.proofs.WalkLemmas.{empty_sole}
+use Rattle.olr_spec.specs.Map.{Map, IsMap, has_line, start, end, coord_at, SameLine, SameRound, has}
+use Rattle.olr_spec.specs.Routes.{IsRoute, dm_of, LrpRoute}
+use Rattle.olr_spec.proofs.RouteLemmas.{empty_unique}
 use Rattle.olr_spec.proofs.JoinLemmas.{empty_stretch}
 use Rattle.olr_spec.specs.Extension.{Path, passing, first, last, Tried, taken_start, taken_end, from_start}
 use Rattle.olr_spec.specs.Extension.{extended_path, limit, LongestStart, LongestEnd}
@@ -14,20 +14,20 @@ use Rattle.olr_spec.specs.Points.{node_at, stretch, Covered, fit16, Candidate, V
 use Rattle.olr_spec.specs.Points.{To_valid, To_passing, Follow, last_position}
 use Rattle.olr_spec.specs.Reference.{leg, legs, reference}
 use Rattle.olr_spec.specs.Encoding.{Points, Refused, No_next_point, answer_by_points}
-use Rattle.olr_spec.specs.Looks.{NodeOf, Own}
+use Rattle.olr_spec.specs.Queries.{NodeOf, Traversed}
 use Rattle.olr_spec.proofs.ListLemmas.{Each, Each-nil, Each-head, Each-tail, Each-left, Each-right, Each-append}
 use Rattle.olr_spec.proofs.ListLemmas.{Each-range, has_last, has_index, map_same}
-use Rattle.olr_spec.proofs.AgreeLemmas.{same_record, same_start, same_end, same_dm_of, same_place, same_passing}
-use Rattle.olr_spec.proofs.ChainMoves.{StartChain-known, first_of_both, last_of_both, start_same, longest_start_moves}
-use Rattle.olr_spec.proofs.ChainMoves.{end_same, longest_end_moves}
+use Rattle.olr_spec.proofs.AgreeLemmas.{same_record, same_start, same_end, same_dm_of, same_coord, same_passing}
+use Rattle.olr_spec.proofs.RunMoves.{StartRun-known, first_of_both, last_of_both, start_same, longest_start_moves}
+use Rattle.olr_spec.proofs.RunMoves.{end_same, longest_end_moves}
 
 -- the empty route, on any map
-pub empty_route : (M N : Map) → IsMap N → (s t s' t' : ℕ) (xs : List ℕ) → xs ≡ [] → s ≡ s' → t ≡ t' → Route M s t xs
-    → Route N s' t' xs
+pub empty_route : (M N : Map) → IsMap N → (s t s' t' : ℕ) (xs : List ℕ) → xs ≡ [] → s ≡ s' → t ≡ t' → LrpRoute M s t xs
+    → LrpRoute N s' t' xs
 empty_route M N n s t s' t' xs e f g l =
-    let walk : s ≡ t = subst (λ (zs : List ℕ). Walk M s t zs) e l.walk in
-    let there : Route N s' s' xs = subst (λ (zs : List ℕ). Route N s' s' zs) (sym e) (empty_sole N n s') in
-    subst (λ (v : ℕ). Route N s' v xs) (sym f ∙ walk ∙ g) there
+    let route : s ≡ t = subst (λ (zs : List ℕ). IsRoute M s t zs) e l.route in
+    let there : LrpRoute N s' s' xs = subst (λ (zs : List ℕ). LrpRoute N s' s' zs) (sym e) (empty_unique N n s') in
+    subst (λ (v : ℕ). LrpRoute N s' v xs) (sym f ∙ route ∙ g) there
 
 -- if no line is between, a position is covered on any map
 pub close_stays : (M N : Map) → IsMap M → IsMap N → (ls : List ℕ) → Each (SameLine M N) ls → (i j : ℕ) → i < j
@@ -77,8 +77,8 @@ module _ (M N : Map) (ls : List ℕ) (nonempty : 0 < length ls) (same : Each (Sa
         | false ↦ λ e. same_end M N (last ls) (same (last ls) (has_last ls nonempty))
       ] refl
 
-  place_same : (i : ℕ) → place_at M (node_at M ls i) ≡ place_at N (node_at N ls i)
-  place_same i = same_place M N (node_at M ls i) (node_round i) ∙ ap (place_at N) (same_node i)
+  place_same : (i : ℕ) → coord_at M (node_at M ls i) ≡ coord_at N (node_at N ls i)
+  place_same i = same_coord M N (node_at M ls i) (node_round i) ∙ ap (coord_at N) (same_node i)
 
   valid_same : (i : ℕ) → passing M (node_at M ls i) ≡ passing N (node_at N ls i)
   valid_same i = same_passing M N (node_at M ls i) (node_round i) ∙ ap (passing N) (same_node i)
@@ -86,8 +86,8 @@ module _ (M N : Map) (ls : List ℕ) (nonempty : 0 < length ls) (same : Each (Sa
   stretch_same : (i j : ℕ) → dm_of M (stretch ls i j) ≡ dm_of N (stretch ls i j)
   stretch_same i j = same_dm_of M N (stretch ls i j) (Each-range (SameLine M N) ls i j same)
 
-  fits_same : (i j : ℕ) → fit16 (place_at M (node_at M ls i)) (place_at M (node_at M ls j)) ≡ fit16
-      (place_at N (node_at N ls i)) (place_at N (node_at N ls j))
+  fits_same : (i j : ℕ) → fit16 (coord_at M (node_at M ls i)) (coord_at M (node_at M ls j)) ≡ fit16
+      (coord_at N (node_at N ls i)) (coord_at N (node_at N ls j))
   fits_same i j = λ k. fit16 (place_same i k) (place_same j k)
 
   covered_moves : (i j : ℕ) → has js i ≡ true → i < j → j ≤ length ls → dm_of M (stretch ls i j) ≤ limit
@@ -147,10 +147,10 @@ module _ (M N : Map) (ls : List ℕ) (same : Each (SameLine M N) ls) (starts : E
   leg_same : (x : ℕ) → has ls x ≡ true → leg M x ≡ leg N x
   leg_same x h =
       let is = same_record M N x (same x h) in
-      let from : place_at M (start M x) ≡ place_at N (start N x) = same_place M N (start M x) (starts x h)
-      ∙ ap (place_at N) (same_start M N x (same x h)) in
-      let to : place_at M (end M x) ≡ place_at N (end N x) = same_place M N (end M x) (ends x h)
-      ∙ ap (place_at N) (same_end M N x (same x h)) in
+      let from : coord_at M (start M x) ≡ coord_at N (start N x) = same_coord M N (start M x) (starts x h)
+      ∙ ap (coord_at N) (same_start M N x (same x h)) in
+      let to : coord_at M (end M x) ≡ coord_at N (end N x) = same_coord M N (end M x) (ends x h)
+      ∙ ap (coord_at N) (same_end M N x (same x h)) in
       λ i. record { line = is i; begin = from i; finish = to i }
 
   pub legs_same : legs M ls ≡ legs N ls
@@ -163,17 +163,17 @@ NodeOf-moves M N xs v h o =
     let is = h o.0 o.1 in
     (o.0, o.1, elim o.2 [ inl e ↦ inl (sym (same_start M N o.0 is) ∙ e) | inr e ↦ inr (sym (same_end M N o.0 is) ∙ e) ])
 
-pub Own-moves : (M N : Map) (ls b a : List ℕ) (v : ℕ) → Each (SameLine M N) ls → Each (SameLine M N) b
-    → Each (SameLine M N) a → Own M ls b a v → Own N ls b a v
-Own-moves M N ls b a v h i j (inl o) = inl (NodeOf-moves M N ls v h o)
-Own-moves M N ls b a v h i j (inr (inl o)) = inr (inl (NodeOf-moves M N b v i o))
-Own-moves M N ls b a v h i j (inr (inr o)) = inr (inr (NodeOf-moves M N a v j o))
+pub Traversed-moves : (M N : Map) (ls b a : List ℕ) (v : ℕ) → Each (SameLine M N) ls → Each (SameLine M N) b
+    → Each (SameLine M N) a → Traversed M ls b a v → Traversed N ls b a v
+Traversed-moves M N ls b a v h i j (inl o) = inl (NodeOf-moves M N ls v h o)
+Traversed-moves M N ls b a v h i j (inr (inl o)) = inr (inl (NodeOf-moves M N b v i o))
+Traversed-moves M N ls b a v h i j (inr (inr o)) = inr (inr (NodeOf-moves M N a v j o))
 
 -- ---- the whole path
 
 module _ (M N : Map) (m : IsMap M) (n : IsMap N) (P : Path) (b a : List ℕ) (nonempty : 0 < length P.lines)
     (known : Each (λ x. IsTrue (has_line M x)) P.lines) (same : Each (SameLine M N) P.lines)
-    (tried : Tried M P b a) (round : (v : ℕ) → Own M (extended_path M P b a).lines b a v → SameRound M N v) where
+    (tried : Tried M P b a) (round : (v : ℕ) → Traversed M (extended_path M P b a).lines b a v → SameRound M N v) where
   abbrev front : List ℕ
   front = taken_start M b P.lines
 
@@ -231,7 +231,7 @@ module _ (M N : Map) (m : IsMap M) (n : IsMap N) (P : Path) (b a : List ℕ) (no
 
   fs_known : Each (λ x. IsTrue (has_line M x)) (from_start M P b)
   fs_known = Each-append (λ x. IsTrue (has_line M x)) front P.lines
-      (Each-cond (λ x. IsTrue (has_line M x)) _ b (StartChain-known M b P.lines tried.before.chain)) known
+      (Each-cond (λ x. IsTrue (has_line M x)) _ b (StartRun-known M b P.lines tried.before.run)) known
 
   fs_nonempty : 0 < length (from_start M P b)
   fs_nonempty = omega (arith, length-append front P.lines)

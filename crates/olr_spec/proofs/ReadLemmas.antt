@@ -13,7 +13,8 @@ use Rattle.olr_spec.specs.Coordinates.{within, fits16}
 use Rattle.olr_spec.specs.Reference.{Attrs, First, Middle, Last, Reference}
 use Rattle.olr_spec.specs.Bytes.{AreAttrs, IsFirst, IsMiddle, IsLast, IsReference, fits24, residue, signed16, signed24}
 use Rattle.olr_spec.specs.Bytes.{attribute1, attribute4, attr_bytes, first_bytes, middle_bytes, last_bytes, flag}
-use Rattle.olr_spec.specs.Bytes.{offset_bytes, status_byte, spelling, Spells, V3Fault, Length, Status, Flags, Reserved}
+use Rattle.olr_spec.specs.Bytes.{offset_bytes, status_byte, reference_bytes, HasBytes, V3Fault, Length, Status, Flags}
+use Rattle.olr_spec.specs.Bytes.{Reserved}
 use Rattle.olr_spec.specs.Bytes.{extra, bit, flags_of, attribute1_bytes, has_reserved, v3_fault}
 use Rattle.olr_spec.proofs.SectorLemmas.{le_test}
 use Rattle.olr_spec.proofs.BytesLemmas.{flag_below}
@@ -119,7 +120,7 @@ record Points (t : List ℕ) : Type 0 where
   is_last : IsLast last
   is_positive : IfSome positive (λ n. n < 256)
   is_negative : IfSome negative (λ n. n < 256)
-  spelled : t ≡ flat_map middle_bytes middle ++ last_bytes last positive negative
+  encoded : t ≡ flat_map middle_bytes middle ++ last_bytes last positive negative
 
 -- the last LRP, with the flags of the offsets
 last_with : (a b c d f g : ℕ) (positive negative : Option ℕ) → AreBytes (a ∷ b ∷ c ∷ d ∷ f ∷ g ∷ []) → f < 64 →
@@ -140,7 +141,7 @@ last_with a b c d f g positive negative w lt e p n =
       is_last = record { dlon = lon.1; dlat = lat.1; frc = omega arith; fow = omega arith; bearing = omega arith };
       is_positive = p;
       is_negative = n;
-      spelled = sym (λ i. lon.2 i ++ lat.2 i ++ first i ∷ e i ∷ (offset_bytes positive ++ offset_bytes negative));
+      encoded = sym (λ i. lon.2 i ++ lat.2 i ++ first i ∷ e i ∷ (offset_bytes positive ++ offset_bytes negative));
     }
 
 read_last : (a b c d f g : ℕ) (rest : List ℕ) → AreBytes (a ∷ b ∷ c ∷ d ∷ f ∷ g ∷ rest) → f < 64 → g < 128 →
@@ -203,7 +204,7 @@ read_points (suc m) (a ∷ b ∷ c ∷ d ∷ e ∷ f ∷ g ∷ t) w long flags t
       is_last = rest.is_last;
       is_positive = rest.is_positive;
       is_negative = rest.is_negative;
-      spelled = λ i. sym p.2 i ++ rest.spelled i;
+      encoded = λ i. sym p.2 i ++ rest.encoded i;
     }
 
 -- ---- bytes without a fault
@@ -241,7 +242,7 @@ passes b e =
     }
 
 -- the first ten bytes, and the others
-read_bytes : (b : List ℕ) → AreBytes b → Passes b → (r : Reference) × Spells r b
+read_bytes : (b : List ℕ) → AreBytes b → Passes b → (r : Reference) × HasBytes r b
 read_bytes [] w p = let h = p.long in absurd (omega arith)
 read_bytes (s ∷ []) w p = let h = p.long in absurd (omega arith)
 read_bytes (s ∷ a ∷ []) w p = let h = p.long in absurd (omega arith)
@@ -280,12 +281,12 @@ read_bytes (s ∷ a ∷ b ∷ c ∷ d ∷ e ∷ f ∷ g ∷ k ∷ l ∷ t) w p =
           neg =
               rest.is_negative;
         },
-        λ i. p.status i ∷ sym first.2 i ++ rest.spelled i,
+        λ i. p.status i ∷ sym first.2 i ++ rest.encoded i,
       ),
     )
 
-pub read_spelled : (b : List ℕ) → All (λ x. x < 256) b → v3_fault b ≡ None → (r : Reference) × Spells r b
-read_spelled b h e = read_bytes b (are_bytes b h) (passes b e)
+pub read_encoded : (b : List ℕ) → All (λ x. x < 256) b → v3_fault b ≡ None → (r : Reference) × HasBytes r b
+read_encoded b h e = read_bytes b (are_bytes b h) (passes b e)
 
 -- ---- bytes of a reference
 
@@ -314,9 +315,9 @@ unreserved (p ∷ ps) l positive negative h k =
     ∙ unreserved ps l positive negative h.1 k in
     λ i. low i || others i
 
-pub spelled_passes : (r : Reference) → IsReference r → v3_fault (spelling r) ≡ None
-spelled_passes r h =
-    let b = spelling r in
+pub encoded_passes : (r : Reference) → IsReference r → v3_fault (reference_bytes r) ≡ None
+encoded_passes r h =
+    let b = reference_bytes r in
     let cut : List ℕ = status_byte ∷ first_bytes r.first in
     let middles = flat_map middle_bytes r.middle in
     let ends = last_bytes r.last r.pos r.neg in
@@ -350,5 +351,6 @@ spelled_passes r h =
     (cond (not true) (Some Status)
     (cond (not (flagged i)) (Some Flags) (cond ((low i || clear i) || top i) (Some Reserved) None)))
 
-pub no_fault_where_spelled : (b : List ℕ) → All (λ x. x < 256) b → (v3_fault b ≡ None) ↔ ((r : Reference) × Spells r b)
-no_fault_where_spelled b h = (read_spelled b h, λ p. ap v3_fault p.1.1 ∙ spelled_passes p.0 p.1.0)
+pub no_fault_where_encoded : (b : List ℕ) → All (λ x. x < 256) b → (v3_fault b ≡ None)
+    ↔ ((r : Reference) × HasBytes r b)
+no_fault_where_encoded b h = (read_encoded b h, λ p. ap v3_fault p.1.1 ∙ encoded_passes p.0 p.1.0)

@@ -1,6 +1,7 @@
 -- Every receiver recovers the legs between the remaining LRPs.
 use Rattle.std.proofs.Common.{◌≡◌, ℕ, suc, ◌+◌, ◌-◌, max, true, List, [], ◌∷◌, ◌++◌, length, take, drop, map, ◌<◌}
-use Rattle.std.proofs.Common.{ℤ, ◌≤◌, ◌↔◌, Some, None, IsTrue, refl, sym, ap, ◌∙◌, subst, arith, slice_get, take-add, drop-drop}
+use Rattle.std.proofs.Common.{ℤ, ◌≤◌, ◌↔◌, Some, None, IsTrue, refl, sym, ap, ◌∙◌, subst, arith, slice_get, take-add}
+use Rattle.std.proofs.Common.{drop-drop}
 use Rattle.std.specs.Bool.{⊤}
 use Rattle.std.specs.Option.{option_map}
 use Rattle.std.specs.List.{slice_index, concat, fold}
@@ -14,12 +15,12 @@ use Rattle.olr_spec.specs.Reference.{from_front, to_back}
 use Rattle.olr_spec.specs.Reference.{Middle, middle_points, last_two, reference_by_kept, reference_by, reference}
 use Rattle.olr_spec.specs.Reference as fields
 use Rattle.olr_spec.specs.Encoding.{Points, path_fault, Encoding, Encodes}
-use Rattle.olr_spec.specs.Receiver.{Side, Outgoing, Incoming, lrp_at, last_place, last_lrp, decoded_place, attributes}
+use Rattle.olr_spec.specs.Receiver.{Side, Outgoing, Incoming, lrp_at, last_number, last_lrp, decoded_coord, attributes}
 use Rattle.olr_spec.specs.Receiver.{Receiver, Within, RecoversTo, RecoversLast, RecoversFrom, Recovers, candidates}
 use Rattle.olr_spec.specs.Receiver.{is_nearest, has_no_twin}
 use Rattle.olr_spec.specs.Recovery.{line_by, IsLineAt, Distinct, stretches, IsStretches, IsKeptPart}
 use Rattle.olr_spec.proofs.ListLemmas.{Each, has_index, has_last}
-use Rattle.olr_spec.proofs.AnswerLemmas.{path_also, one_course}
+use Rattle.olr_spec.proofs.AnswerLemmas.{path_also, one_extension}
 use Rattle.olr_spec.proofs.JoinLemmas.{Linked, follow_linked, kept_linked, joins_to, joins_last}
 use Rattle.olr_spec.proofs.JoinLemmas.{empty_stretch}
 use Rattle.olr_spec.proofs.KeptLemmas.{two_kept}
@@ -39,8 +40,9 @@ record Stands (R : Receiver) (M : Map) (s : Side) (p : ℤ × ℤ) (x : ℕ) : T
 -- the path's own lines at the LRPs ks, from LRP k on
 abbrev Owns : Receiver → Map → List ℕ → Reference → ℕ → List ℕ → Type 0
 Owns R M ls r k [] = ⊤
-Owns R M ls r k (h ∷ []) = Stands R M Incoming (decoded_place r (last_place r)) (slice_index ls (h - 1))
-Owns R M ls r k (h ∷ i ∷ js) = Stands R M Outgoing (decoded_place r k) (slice_index ls h) × Owns R M ls r (suc k) (i ∷ js)
+Owns R M ls r k (h ∷ []) = Stands R M Incoming (decoded_coord r (last_number r)) (slice_index ls (h - 1))
+Owns R M ls r k (h ∷ i ∷ js) = Stands R M Outgoing (decoded_coord r k) (slice_index ls h)
+    × Owns R M ls r (suc k) (i ∷ js)
 
 module _ (R : Receiver) (M : Map) (m : IsMap M) (ls : List ℕ) (known : Each (λ x. IsTrue (has_line M x)) ls)
     (once : none_twice ls ≡ true) where
@@ -48,7 +50,7 @@ module _ (R : Receiver) (M : Map) (m : IsMap M) (ls : List ℕ) (known : Each (�
   leg_is i lt = get_or-map (leg M) ls i 0 no_leg lt
 
   own_out : (r : Reference) (k i j : ℕ) → i < length ls →
-      Stands R M Outgoing (decoded_place r k) (slice_index ls i) →
+      Stands R M Outgoing (decoded_coord r k) (slice_index ls i) →
       Own R M (lrp_at r k (attrs (legs M ls) i j)) (slice_index ls i)
   own_out r k i j lt s =
       record {
@@ -61,7 +63,7 @@ module _ (R : Receiver) (M : Map) (m : IsMap M) (ls : List ℕ) (known : Each (�
       }
 
   own_in : (r : Reference) (h i : ℕ) → i - 1 < length ls → r.last ≡ fields.last_point (legs M ls) h i →
-      Stands R M Incoming (decoded_place r (last_place r)) (slice_index ls (i - 1)) →
+      Stands R M Incoming (decoded_coord r (last_number r)) (slice_index ls (i - 1)) →
       Own R M (last_lrp r) (slice_index ls (i - 1))
   own_in r h i lt is s =
       record {
@@ -160,7 +162,7 @@ pub record Form (M : Map) (ls ks : List ℕ) (p q : ℕ) (r : Reference) : Type 
   pub kept : ks ≡ h ∷ i ∷ js
   pub linked : Linked M ls (h ∷ i ∷ js)
   pub fields_are : r ≡ reference_by_kept (legs M ls) p q h i js
-  pub size : last_place r + 1 ≡ length ks
+  pub size : last_number r + 1 ≡ length ks
 
 -- a property of the path's extension and LRPs holds for those of the encoding, since they are unique
 module _ (M : Map) (m : IsMap M) (P : Path) (is : IsTrue (is_path P.lines)) (none : path_fault M P ≡ None)
@@ -169,7 +171,8 @@ module _ (M : Map) (m : IsMap M) (P : Path) (is : IsTrue (is_path P.lines)) (non
       Q (extended_path M P e.before e.after) e.points
   same_path Q p =
       let same =
-      one_course M m P is none e.before e.after e.points p.before p.after p.points e.tried e.follow p.tried p.follow in
+      one_extension M m P is none e.before e.after e.points p.before p.after p.points e.tried e.follow p.tried p.follow
+      in
       let back : extended_path M P p.before p.after ≡ extended_path M P e.before e.after =
       sym (λ k. extended_path M P (same.0 k) (same.1 k)) in
       subst (λ (E : Path). Q E e.points) back
@@ -181,18 +184,19 @@ module _ (M : Map) (m : IsMap M) (P : Path) (is : IsTrue (is_path P.lines)) (non
 
   abbrev pub Kept : List ℕ
   Kept =
-      kept_points (legs M Lines) (extended_path M P e.before e.after).pos (extended_path M P e.before e.after).neg e.points
+      kept_points (legs M Lines) (extended_path M P e.before e.after).pos (extended_path M P e.before e.after).neg
+      e.points
 
   line_at_point : (s : Side) (k p : ℕ) → slice_get Kept k ≡ Some p → IsLineAt M P s k (line_by s Lines p)
   line_at_point s k p at = path_also e (ap (option_map (line_by s Lines)) at)
 
   module _ (R : Receiver) (d : Distinct R.far M P r) where
     owns_from : (k : ℕ) (ks : List ℕ) → ((n : ℕ) → slice_get Kept (k + n) ≡ slice_get ks n) →
-        k + length ks ≡ last_place r + 1 → Owns R M Lines r k ks
+        k + length ks ≡ last_number r + 1 → Owns R M Lines r k ks
     owns_from k [] at size = tt
     owns_from k (h ∷ []) at size =
-        let on : k + 0 ≡ last_place r = omega arith in
-        let here = line_at_point Incoming (last_place r) h (ap (slice_get Kept) (sym on) ∙ at 0) in
+        let on : k + 0 ≡ last_number r = omega arith in
+        let here = line_at_point Incoming (last_number r) h (ap (slice_get Kept) (sym on) ∙ at 0) in
         record { nearest = d.incoming.nearest _ here; alone = d.incoming.alone _ here }
     owns_from k (h ∷ i ∷ js) at size =
         let on : k + 0 ≡ k = omega arith in
@@ -231,7 +235,7 @@ module _ (M : Map) (m : IsMap M) (P : Path) (is : IsTrue (is_path P.lines)) (non
       let fields_are : r ≡ reference_by_kept gs p q t.0 t.1 t.2 = ans.1 ∙ ap (reference_by gs p q) t.3 in
       let count = middle_count gs t.0 t.1 t.2 in
       let length_is = ap (λ (ks : List ℕ). length ks) t.3 in
-      let place_is = ap (λ (v : Reference). last_place v + 1) fields_are in
+      let place_is = ap (λ (v : Reference). last_number v + 1) fields_are in
       record {
         h = t.0;
         i = t.1;

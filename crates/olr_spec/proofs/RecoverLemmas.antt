@@ -5,8 +5,8 @@ use Rattle.std.proofs.Common.{append_assoc, append-nil, cond}
 use Rattle.std.proofs.lemmas.Bool.{cases_eq, both_ways, and_parts, and_from, not_from_false}
 use Rattle.std.specs.List.{slice_index, fold}
 use Rattle.olr_spec.specs.Map.{Map, line_at, start, end, has}
-use Rattle.olr_spec.specs.Walks.{dm_of, Route}
-use Rattle.olr_spec.specs.Extension.{Path, is_path, none_twice, StartChain, EndChain, Tried, extended_path, from_start}
+use Rattle.olr_spec.specs.Routes.{dm_of, LrpRoute}
+use Rattle.olr_spec.specs.Extension.{Path, is_path, none_twice, StartRun, EndRun, Tried, extended_path, from_start}
 use Rattle.olr_spec.specs.Points.{stretch}
 use Rattle.olr_spec.specs.Bearings.{Leg}
 use Rattle.olr_spec.specs.Reference.{legs}
@@ -53,21 +53,21 @@ within_greatest M a (x ∷ xs) =
 
 -- ---- a unique shortest path is the only shortest route over any lines that include it
 
-shortest_is : (M : Map) (c s t : ℕ) (xs : List ℕ) → Route M s t xs → Within M c xs → (ys : List ℕ) →
+shortest_is : (M : Map) (c s t : ℕ) (xs : List ℕ) → LrpRoute M s t xs → Within M c xs → (ys : List ℕ) →
     Shortest M c s t ys → ys ≡ xs
 shortest_is M c s t xs r w ys h =
     elim (list_cases ys xs) [
       | inl e ↦ e
       | inr n ↦
-          let more = r.others ys h.walk n in
-          let less = h.first xs r.walk w in
+          let more = r.others ys h.route n in
+          let less = h.first xs r.route w in
           absurd (omega arith)
     ]
 
-route_shortest : (M : Map) (c s t : ℕ) (xs : List ℕ) → Route M s t xs → Within M c xs → Shortest M c s t xs
+route_shortest : (M : Map) (c s t : ℕ) (xs : List ℕ) → LrpRoute M s t xs → Within M c xs → Shortest M c s t xs
 route_shortest M c s t xs r w =
     record {
-      walk = r.walk;
+      route = r.route;
       within = w;
       first = λ ys v k. elim (list_cases ys xs) [
         | inl e ↦ let same = ap (dm_of M) e in omega arith
@@ -106,7 +106,7 @@ one_line M ls c p q e is w =
     forth same (More_lines xs n g h k) = absurd (n same)
 
 more_lines : (M : Map) (c x y : ℕ) (all r : List ℕ) → x ≢ y → Within M c all → all ≡ x ∷ (r ++ y ∷ []) →
-    Route M (end M x) (start M y) r → (w : List ℕ) → RecoversLast M c x y w ↔ (w ≡ all)
+    LrpRoute M (end M x) (start M y) r → (w : List ℕ) → RecoversLast M c x y w ↔ (w ≡ all)
 more_lines M c x y all r n within is route w =
     let parts : Within M c (x ∷ (r ++ y ∷ [])) = subst (Within M c) is within in
     let front = within_left M c r (y ∷ []) parts.1 in
@@ -181,22 +181,22 @@ pushed_once (y ∷ ls) x o h =
     let later : has ls x ≡ false = is_false _ (λ t. both_ways _ h (has_there y ls x t)) in
     and_from _ _ (not_from_false _ fresh) (pushed_once ls x parts.1 later)
 
-start_once : (M : Map) (c ls : List ℕ) → StartChain M c ls → none_twice ls ≡ true → none_twice (c ++ ls) ≡ true
+start_once : (M : Map) (c ls : List ℕ) → StartRun M c ls → none_twice ls ≡ true → none_twice (c ++ ls) ≡ true
 start_once M [] ls s o = o
 start_once M (x ∷ c) ls s o = and_from _ _ (not_from_false _ s.0.fresh) (start_once M c ls s.1 o)
 
-end_once : (M : Map) (ls c : List ℕ) → EndChain M ls c → none_twice ls ≡ true → none_twice (ls ++ c) ≡ true
+end_once : (M : Map) (ls c : List ℕ) → EndRun M ls c → none_twice ls ≡ true → none_twice (ls ++ c) ≡ true
 end_once M ls [] s o = subst (λ (xs : List ℕ). none_twice xs ≡ true) (sym (append-nil ls)) o
 end_once M ls (x ∷ c) s o =
     subst (λ (xs : List ℕ). none_twice xs ≡ true) (append_assoc ls (x ∷ []) c)
     (end_once M (ls ++ x ∷ []) c s.1 (pushed_once ls x o s.0.fresh))
 
-start_taken : (M : Map) (b : Bool) (c ls : List ℕ) → StartChain M c ls → none_twice ls ≡ true →
+start_taken : (M : Map) (b : Bool) (c ls : List ℕ) → StartRun M c ls → none_twice ls ≡ true →
     none_twice (cond b [] c ++ ls) ≡ true
 start_taken M true c ls s o = o
 start_taken M false c ls s o = start_once M c ls s o
 
-end_taken : (M : Map) (b : Bool) (ls c : List ℕ) → EndChain M ls c → none_twice ls ≡ true →
+end_taken : (M : Map) (b : Bool) (ls c : List ℕ) → EndRun M ls c → none_twice ls ≡ true →
     none_twice (ls ++ cond b [] c) ≡ true
 end_taken M true ls c s o = subst (λ (xs : List ℕ). none_twice xs ≡ true) (sym (append-nil ls)) o
 end_taken M false ls c s o = end_once M ls c s o
@@ -205,7 +205,7 @@ pub extended_once : (M : Map) (P : Path) (b a : List ℕ) → IsTrue (is_path P.
     none_twice (extended_path M P b a).lines ≡ true
 extended_once M P b a is t =
     let path = and_parts _ (none_twice P.lines) is in
-    end_taken M _ (from_start M P b) a t.after.chain (start_taken M _ b P.lines t.before.chain path.1)
+    end_taken M _ (from_start M P b) a t.after.run (start_taken M _ b P.lines t.before.run path.1)
 
 pub once_apart : (ls : List ℕ) (i j : ℕ) → none_twice ls ≡ true → i < j → j < length ls →
     slice_index ls i ≢ slice_index ls j

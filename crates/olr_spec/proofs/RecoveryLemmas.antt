@@ -1,12 +1,13 @@
 -- The lengths of what is recovered, and the measures by which the node of an LRP is the nearest.
 use Rattle.std.proofs.Common.{inl, inr, ◌≡◌, ℕ, zero, suc, ◌+◌, ◌-◌, ℤ, true, Bool, ◌||◌, List, [], ◌∷◌, length}
-use Rattle.std.proofs.Common.{map, ◌<◌, ◌≤◌, Some, None, IsTrue, refl, sym, ap, ◌∙◌, subst, arith, pos, slice_get, nat_lt}
+use Rattle.std.proofs.Common.{map, ◌<◌, ◌≤◌, Some, None, IsTrue, refl, sym, ap, ◌∙◌, subst, arith, pos, slice_get}
+use Rattle.std.proofs.Common.{nat_lt}
 use Rattle.std.proofs.Common.{◌==◌, Option, unwrap_or, cond}
 use Rattle.std.specs.Option.{option_map}
 use Rattle.std.specs.List.{slice_index, list_all, AllZip}
 use Rattle.std.proofs.lemmas.Bool.{cases_lt, or_cases, or_left, or_right, lt-ltb, le-ltb, and_parts, and_from}
-use Rattle.olr_spec.specs.Map.{Map, IsMap, has_line, place_at, start, end}
-use Rattle.olr_spec.specs.Walks.{dm_of}
+use Rattle.olr_spec.specs.Map.{Map, IsMap, has_line, coord_at, start, end}
+use Rattle.olr_spec.specs.Routes.{dm_of}
 use Rattle.olr_spec.specs.Extension.{Path, is_path, first, last, AreJoined}
 use Rattle.olr_spec.specs.Points.{node_at, stretch}
 use Rattle.olr_spec.specs.Bearings.{Leg}
@@ -15,12 +16,13 @@ use Rattle.olr_spec.specs.Reference.{last_kept, kept_points, middle_points, last
 use Rattle.olr_spec.specs.Reference as fields
 use Rattle.olr_spec.specs.Encoding.{Points, path_fault, Encoding, Encodes}
 use Rattle.olr_spec.specs.Decoded.{IsNear}
-use Rattle.olr_spec.specs.Receiver.{Side, Outgoing, Incoming, node_on, coordinate_on, candidates, Measure, last_place}
-use Rattle.olr_spec.specs.Receiver.{decoded_place, attributes, is_nearest}
-use Rattle.olr_spec.specs.Recovery.{line_by, IsLineAt, stretches, IsStretches, IsLeft, IsCut, IsClose, IsStep, IsWeighted}
+use Rattle.olr_spec.specs.Receiver.{Side, Outgoing, Incoming, node_on, coordinate_on, candidates, Measure, last_number}
+use Rattle.olr_spec.specs.Receiver.{decoded_coord, attributes, is_nearest}
+use Rattle.olr_spec.specs.Recovery.{line_by, IsLineAt, stretches, IsStretches, IsLeft, IsCut, IsClose, IsStep}
+use Rattle.olr_spec.specs.Recovery.{IsWeighted}
 use Rattle.olr_spec.specs.Recovery.{is_spaced, are_spaced}
 use Rattle.olr_spec.proofs.ListLemmas.{Each, has_index}
-use Rattle.olr_spec.proofs.WalkLemmas.{positive}
+use Rattle.olr_spec.proofs.RouteLemmas.{positive}
 use Rattle.olr_spec.proofs.WayLemmas.{next_start}
 use Rattle.olr_spec.proofs.JoinLemmas.{Linked, stretch_first}
 use Rattle.olr_spec.proofs.JoinedLemmas.{extended_joined}
@@ -132,7 +134,8 @@ spaced_nearest n d scale far w k p s g near cs a =
     weaker
     (λ c. node_on s c.1 == node_on s g || is_spaced n d k (coordinate_on s g) (coordinate_on s c.1))
     (λ c. node_on s c.1 == node_on s g || nat_lt (far p (coordinate_on s g)) (far p (coordinate_on s c.1)))
-    (λ c h. elim (or_cases (node_on s c.1 == node_on s g) (is_spaced n d k (coordinate_on s g) (coordinate_on s c.1)) h) [
+    (λ c h. elim (or_cases (node_on s c.1 == node_on s g) (is_spaced n d k (coordinate_on s g) (coordinate_on s c.1))
+    h) [
       | inl e ↦ or_left _ _ e
       | inr f ↦ or_right _ _
           (lt-ltb (far p (coordinate_on s g)) (far p (coordinate_on s c.1))
@@ -204,10 +207,10 @@ module _ (M : Map) (m : IsMap M) (P : Path) (is : IsTrue (is_path P.lines)) (non
 
   -- ---- the nearest node
 
-  place_below : (k : ℕ) → k ≤ last_place r → k < length (Kept M m P is none r e)
+  place_below : (k : ℕ) → k ≤ last_number r → k < length (Kept M m P is none r e)
   place_below k h = let size = (form M m P is none r e).size in omega arith
 
-  bounds : (k : ℕ) → k < last_place r →
+  bounds : (k : ℕ) → k < last_number r →
       (slice_index (Kept M m P is none r e) k < slice_index (Kept M m P is none r e) (k + 1))
       × (slice_index (Kept M m P is none r e) (k + 1) ≤ length (Lines M m P is none r e))
   bounds k h =
@@ -219,20 +222,21 @@ module _ (M : Map) (m : IsMap M) (P : Path) (is : IsTrue (is_path P.lines)) (non
       (linked_bounds M (Lines M m P is none r e) (f.h ∷ f.i ∷ f.js) f.linked k (omega arith))
 
   -- LRP k is decoded near the node of its line x
-  near_line : (s : Side) (k x : ℕ) → k ≤ last_place r → IsLineAt M P s k x →
+  near_line : (s : Side) (k x : ℕ) → k ≤ last_number r → IsLineAt M P s k x →
       ((i : ℕ) → slice_index (Kept M m P is none r e) k ≡ i →
-      place_at M (node_at M (Lines M m P is none r e) i)
+      coord_at M (node_at M (Lines M m P is none r e) i)
       ≡ coordinate_on s (leg M (line_by s (Lines M m P is none r e) i))) →
-      IsNear k (decoded_place r k) (coordinate_on s (leg M x))
+      IsNear k (decoded_coord r k) (coordinate_on s (leg M x))
   near_line s k x h at on =
       let ls = Lines M m P is none r e in
       let ks = Kept M m P is none r e in
       let there =
       same_path M m P is none r e
-      (λ E js. option_map (line_by s E.lines) (slice_get (kept_points (legs M E.lines) E.pos E.neg js) k) ≡ Some x) at in
+      (λ E js. option_map (line_by s E.lines) (slice_get (kept_points (legs M E.lines) E.pos E.neg js) k) ≡ Some x) at
+      in
       let got = got_index (line_by s ls) ks k x there in
       let near = (answer_decodes M P is none r e).near k (place_below k h) in
-      let decoded_is : decoded_place r k ≡ near.0 =
+      let decoded_is : decoded_coord r k ≡ near.0 =
       ap (λ (o : Option (ℤ × ℤ)). unwrap_or o (pos 0, pos 0)) near.1 in
       let some = (extended_sound M P is none e.before e.after e.tried).size in
       let place_is : position (legs M ls) (slice_index ks k) ≡ coordinate_on s (leg M x) =
@@ -241,26 +245,26 @@ module _ (M : Map) (m : IsMap M) (P : Path) (is : IsTrue (is_path P.lines)) (non
       subst (λ (z : ℤ × ℤ). IsNear k z (coordinate_on s (leg M x))) (sym decoded_is)
       (subst (IsNear k near.0) place_is near.2)
 
-  near_out : (k x : ℕ) → k < last_place r → IsLineAt M P Outgoing k x →
-      IsNear k (decoded_place r k) (leg M x).begin
+  near_out : (k x : ℕ) → k < last_number r → IsLineAt M P Outgoing k x →
+      IsNear k (decoded_coord r k) (leg M x).begin
   near_out k x h at =
       let ls = Lines M m P is none r e in
       let b = bounds k h in
       let lt = b.0 in
       let up = b.1 in
       near_line Outgoing k x (omega arith) at
-      (λ i is_i. ap (place_at M) (at_start M ls i (omega (arith, is_i))))
+      (λ i is_i. ap (coord_at M) (at_start M ls i (omega (arith, is_i))))
 
-  near_in : (x : ℕ) → IsLineAt M P Incoming (last_place r) x →
-      IsNear (last_place r) (decoded_place r (last_place r)) (leg M x).finish
+  near_in : (x : ℕ) → IsLineAt M P Incoming (last_number r) x →
+      IsNear (last_number r) (decoded_coord r (last_number r)) (leg M x).finish
   near_in x at =
       let ls = Lines M m P is none r e in
-      let on : length r.middle + 1 ≡ last_place r = refl in
+      let on : length r.middle + 1 ≡ last_number r = refl in
       let b = bounds (length r.middle) (omega arith) in
       let lt = b.0 in
       let up = b.1 in
-      near_line Incoming (last_place r) x (omega arith) at
-      (λ i is_i. ap (place_at M)
+      near_line Incoming (last_number r) x (omega arith) at
+      (λ i is_i. ap (coord_at M)
       (at_end M m ls known_lines (extended_joined M P is none e.before e.after e.tried) i (omega (arith, is_i))
       (omega (arith, is_i))))
 
@@ -282,18 +286,18 @@ steps_close M m P is r e ws s =
 
 pub nearest_own : (M : Map) → IsMap M → (P : Path) → IsTrue (is_path P.lines) → (r : Reference) →
     Encodes M P (Points r) → (n d scale : ℕ) (far : Measure) → IsWeighted n d scale far →
-    ((k x : ℕ) → k < last_place r → IsLineAt M P Outgoing k x →
+    ((k x : ℕ) → k < last_number r → IsLineAt M P Outgoing k x →
     IsTrue (are_spaced n d k Outgoing (leg M x) (candidates M)) →
-    IsTrue (is_nearest far Outgoing (decoded_place r k) (leg M x) (candidates M)))
-    × ((x : ℕ) → IsLineAt M P Incoming (last_place r) x →
-    IsTrue (are_spaced n d (last_place r) Incoming (leg M x) (candidates M)) →
-    IsTrue (is_nearest far Incoming (decoded_place r (last_place r)) (leg M x) (candidates M)))
+    IsTrue (is_nearest far Outgoing (decoded_coord r k) (leg M x) (candidates M)))
+    × ((x : ℕ) → IsLineAt M P Incoming (last_number r) x →
+    IsTrue (are_spaced n d (last_number r) Incoming (leg M x) (candidates M)) →
+    IsTrue (is_nearest far Incoming (decoded_coord r (last_number r)) (leg M x) (candidates M)))
 nearest_own M m P is r e n d scale far w =
     let p = by_fault M P r (path_fault M P) refl e in (
       (λ k x h at a.
-          spaced_nearest n d scale far w k (decoded_place r k) Outgoing (leg M x) (near_out M m P is p.0 r p.1 k x h at)
+          spaced_nearest n d scale far w k (decoded_coord r k) Outgoing (leg M x) (near_out M m P is p.0 r p.1 k x h at)
           (candidates M) a),
       (λ x at a.
-          spaced_nearest n d scale far w (last_place r) (decoded_place r (last_place r)) Incoming (leg M x)
+          spaced_nearest n d scale far w (last_number r) (decoded_coord r (last_number r)) Incoming (leg M x)
           (near_in M m P is p.0 r p.1 x at) (candidates M) a),
     )

@@ -6,33 +6,37 @@ use Rattle.std.proofs.lemmas.Bool.{cases_lt, cases_Bool, both_ways}
 use Rattle.std.proofs.lemmas.List.Elements.{All-contains}
 use Rattle.std.specs.List.{AllZip}
 use Rattle.olr_spec.specs.Map.{Map, IsMap, has_line, start, end, SameLine, SameRound, has}
-use Rattle.olr_spec.specs.Walks.{Walk, dm_of}
+use Rattle.olr_spec.specs.Routes.{IsRoute, dm_of}
 use Rattle.olr_spec.specs.Extension.{Path, is_path, first, last, Tried, extended_path, limit}
 use Rattle.olr_spec.specs.Points.{stretch, Covered, Follow, OfPath}
 use Rattle.olr_spec.specs.Encoding.{Answer, Refused, Refusal, path_fault, answer_by_points, Encoding, Encodes}
-use Rattle.olr_spec.specs.Detours.{ChangedLine, Tells, Difference}
-use Rattle.olr_spec.specs.Looks.{Own, OwnOfExtended, OwnOf, IsLastTested, Look, look_to, IsLook, IsClear, looking}
-use Rattle.olr_spec.specs.Looks.{LooksOfExtended, LooksOf}
+use Rattle.olr_spec.specs.Detours.{ChangedLine, AccountsFor, Difference}
+use Rattle.olr_spec.specs.Queries.{Traversed, TraversedOfExtended, TraversedOf, IsLastTested, CoverageQuery, query_to}
+use Rattle.olr_spec.specs.Queries.{IsQuery, IsClear, querying}
+use Rattle.olr_spec.specs.Queries.{QueriesOfExtended, QueriesOf}
 use Rattle.olr_spec.proofs.ListLemmas.{Each, Each-from, has_first, has_last}
 use Rattle.olr_spec.proofs.AnswerLemmas.{sound_lines, path_nonempty, one_answer, path_also}
-use Rattle.olr_spec.proofs.ChainLemmas.{one_tried}
+use Rattle.olr_spec.proofs.RunLemmas.{one_tried}
 use Rattle.olr_spec.proofs.RouteMoves.{turned_lines}
 use Rattle.olr_spec.proofs.FaultMoves.{fault_same}
 use Rattle.olr_spec.proofs.JoinedLemmas.{extended_joined}
-use Rattle.olr_spec.proofs.LookLemmas.{RoutesStay, to_same, clear_routes, look_stays, covered_stays}
-use Rattle.olr_spec.proofs.LookLists.{look_for, zip_moves}
-use Rattle.olr_spec.proofs.PointMoves.{close_stays, Own-moves, tried_moves, b_same, a_same, ls_same, extended_same}
+use Rattle.olr_spec.proofs.QueryLemmas.{RoutesStay, to_same, clear_routes, query_stays, covered_stays}
+use Rattle.olr_spec.proofs.QueryLists.{query_for, zip_moves}
+use Rattle.olr_spec.proofs.PointMoves.{close_stays, Traversed-moves, tried_moves, b_same, a_same, ls_same}
+use Rattle.olr_spec.proofs.PointMoves.{extended_same}
 use Rattle.olr_spec.proofs.PointMoves.{follow_same, answer_same}
 
 -- along any lines of both maps, each of these coverage queries has the same routes
-abbrev pub RoutesOf : Map → Map → List Look → Type 0
-RoutesOf M N looks =
-    (ls : List ℕ) → Each (SameLine M N) ls → (s t : ℕ) → Walk M s t ls → (i k : ℕ) → IsLastTested M ls i k →
-    Contains looks (look_to M ls i k) → RoutesStay M N ls i k
+abbrev pub RoutesOf : Map → Map → List CoverageQuery → Type 0
+RoutesOf M N queries =
+    (ls : List ℕ) → Each (SameLine M N) ls → (s t : ℕ) → IsRoute M s t ls → (i k : ℕ) → IsLastTested M ls i k →
+    Contains queries (query_to M ls i k) → RoutesStay M N ls i k
 
 module _ (M N : Map) (m : IsMap M) (n : IsMap N) (P : Path) (is : IsTrue (is_path P.lines))
-    (sound : path_fault M P ≡ None) (same : Each (SameLine M N) P.lines) (own : (v : ℕ) → OwnOfExtended M P v
-    → SameRound M N v) (looks : List Look) (o : LooksOfExtended M P looks) (routes : RoutesOf M N looks) where
+    (sound : path_fault M P ≡ None) (same : Each (SameLine M N) P.lines)
+    (traversed : (v : ℕ) → TraversedOfExtended M P v
+    → SameRound M N v) (queries : List CoverageQuery) (o : QueriesOfExtended M P queries)
+    (routes : RoutesOf M N queries) where
   abbrev E : Path
   E = extended_path M P o.before o.after
 
@@ -42,16 +46,16 @@ module _ (M N : Map) (m : IsMap M) (n : IsMap N) (P : Path) (is : IsTrue (is_pat
   nonempty : 0 < length P.lines
   nonempty = path_nonempty P.lines is
 
-  rounds : (b a : List ℕ) → Tried M P b a → (v : ℕ) → Own M (extended_path M P b a).lines b a v → SameRound M N v
-  rounds b a tried v h = own v (record { before = b; after = a; tried = tried; own = h })
+  rounds : (b a : List ℕ) → Tried M P b a → (v : ℕ) → Traversed M (extended_path M P b a).lines b a v → SameRound M N v
+  rounds b a tried v h = traversed v (record { before = b; after = a; tried = tried; traversed = h })
 
   all_same : Each (SameLine M N) E.lines
   all_same = ls_same M N m n P o.before o.after nonempty known same o.tried (rounds o.before o.after o.tried)
 
-  joined : Walk M (start M (first E.lines)) (end M (last E.lines)) E.lines
+  joined : IsRoute M (start M (first E.lines)) (end M (last E.lines)) E.lines
   joined = extended_joined M P is sound o.before o.after o.tried
 
-  stay : (i k : ℕ) → IsLastTested M E.lines i k → Contains looks (look_to M E.lines i k) → RoutesStay M N E.lines i k
+  stay : (i k : ℕ) → IsLastTested M E.lines i k → Contains queries (query_to M E.lines i k) → RoutesStay M N E.lines i k
   stay = routes E.lines all_same (start M (first E.lines)) (end M (last E.lines)) joined
 
   covers : (i j : ℕ) → has (0 ∷ o.points) i ≡ true → i < j → j ≤ length E.lines → dm_of M (stretch E.lines i j) ≤ limit
@@ -59,10 +63,10 @@ module _ (M N : Map) (m : IsMap M) (n : IsMap N) (P : Path) (is : IsTrue (is_pat
   covers i j on h g near =
       elim (cases_lt (i + 2) (length E.lines)) [
         | inl far ↦
-            let l = look_for M E.lines (0 ∷ o.points) looks o.holds i on far in
+            let l = query_for M E.lines (0 ∷ o.points) queries o.holds i on far in
             let k = l.2 in
             covered_stays M N E.lines all_same (start M (first E.lines)) (end M (last E.lines)) joined i k.0 k.1
-            (stay i k.0 k.1 (subst (Contains looks) k.2 l.1)) j h g near
+            (stay i k.0 k.1 (subst (Contains queries) k.2 l.1)) j h g near
         | inr close ↦ close_stays M N m n E.lines all_same i j h g (omega arith)
       ]
 
@@ -106,107 +110,113 @@ module _ (M N : Map) (m : IsMap M) (n : IsMap N) (P : Path) (is : IsTrue (is_pat
       (by_fault (answer_by_points M E o.points) encoding_here) (by_fault A p)) encoding_there
 
   -- the traversed nodes
-  own_there : (v : ℕ) → OwnOfExtended M P v → OwnOfExtended N P v
-  own_there v p =
+  traversed_there : (v : ℕ) → TraversedOfExtended M P v → TraversedOfExtended N P v
+  traversed_there v p =
       let r = rounds p.before p.after p.tried in
       let lines = ls_same M N m n P p.before p.after nonempty known same p.tried r in
       let path = extended_same M N m n P p.before p.after nonempty known same p.tried r in
-      let moved = Own-moves M N (extended_path M P p.before p.after).lines p.before p.after v lines
+      let moved = Traversed-moves M N (extended_path M P p.before p.after).lines p.before p.after v lines
       (b_same M N m n P p.before p.after nonempty known same p.tried r)
-      (a_same M N m n P p.before p.after nonempty known same p.tried r) p.own in
+      (a_same M N m n P p.before p.after nonempty known same p.tried r) p.traversed in
       record {
         before = p.before;
         after = p.after;
         tried = tried_moves M N m n P p.before p.after nonempty known same p.tried r;
-        own = subst (λ (F : Path). Own N F.lines p.before p.after v) path moved;
+        traversed = subst (λ (F : Path). Traversed N F.lines p.before p.after v) path moved;
       }
 
-  own_here : (v : ℕ) → OwnOfExtended N P v → OwnOfExtended M P v
-  own_here v p =
+  traversed_here : (v : ℕ) → TraversedOfExtended N P v → TraversedOfExtended M P v
+  traversed_here v p =
       let r = rounds o.before o.after o.tried in
       let e : path_fault N P ≡ None = sym (fault_same M N P same) ∙ sound in
       let k = Each-from (λ x. IsTrue (has_line N x)) P.lines (sound_lines N P e) in
-      let chains = one_tried N n P nonempty (k (first P.lines) (has_first P.lines nonempty))
+      let runs = one_tried N n P nonempty (k (first P.lines) (has_first P.lines nonempty))
       (k (last P.lines) (has_last P.lines nonempty)) p.before p.after o.before o.after p.tried tried_there in
-      let there : Own N (extended_path N P o.before o.after).lines o.before o.after v =
-      coe 0 1 (i. Own N (extended_path N P (chains.0 i) (chains.1 i)).lines (chains.0 i) (chains.1 i) v) p.own in
-      let on : Own N E.lines o.before o.after v =
-      subst (λ (F : Path). Own N F.lines o.before o.after v) (sym path_there) there in
-      let back = Own-moves N M E.lines o.before o.after v (turned_lines M N E.lines all_same)
+      let there : Traversed N (extended_path N P o.before o.after).lines o.before o.after v =
+      coe 0 1 (i. Traversed N (extended_path N P (runs.0 i) (runs.1 i)).lines (runs.0 i) (runs.1 i) v) p.traversed in
+      let on : Traversed N E.lines o.before o.after v =
+      subst (λ (F : Path). Traversed N F.lines o.before o.after v) (sym path_there) there in
+      let back = Traversed-moves N M E.lines o.before o.after v (turned_lines M N E.lines all_same)
       (turned_lines M N o.before (b_same M N m n P o.before o.after nonempty known same o.tried r))
       (turned_lines M N o.after (a_same M N m n P o.before o.after nonempty known same o.tried r)) on in
-      record { before = o.before; after = o.after; tried = o.tried; own = back }
+      record { before = o.before; after = o.after; tried = o.tried; traversed = back }
 
-  pub own_stays : (v : ℕ) → OwnOfExtended M P v ↔ OwnOfExtended N P v
-  own_stays v = (own_there v, own_here v)
+  pub traversed_stays : (v : ℕ) → TraversedOfExtended M P v ↔ TraversedOfExtended N P v
+  traversed_stays v = (traversed_there v, traversed_here v)
 
   -- the coverage queries
-  one_look : (i : ℕ) (l : Look) → Contains looks l → IsLook M E.lines i l → IsLook N E.lines i l
-  one_look i l on k =
+  one_query : (i : ℕ) (l : CoverageQuery) → Contains queries l → IsQuery M E.lines i l → IsQuery N E.lines i l
+  one_query i l on k =
       let s = start M (first E.lines) in
       let t = end M (last E.lines) in (
         k.0,
-        look_stays M N E.lines all_same s t joined i k.0 k.1 (stay i k.0 k.1 (subst (Contains looks) k.2 on)),
+        query_stays M N E.lines all_same s t joined i k.0 k.1 (stay i k.0 k.1 (subst (Contains queries) k.2 on)),
         k.2 ∙ to_same M N E.lines all_same s t joined i k.0 k.1,
       )
 
-  pub looks_stay : LooksOfExtended N P looks
-  looks_stay =
-      let each : AllZip (IsLook N E.lines) (looking E.lines (0 ∷ o.points)) looks =
-      zip_moves (IsLook M E.lines) (IsLook N E.lines) (looking E.lines (0 ∷ o.points)) looks
-      one_look o.holds in
-      goes_over (subst (λ (F : Path). AllZip (IsLook N F.lines) (looking F.lines (0 ∷ o.points)) looks) path_there each)
+  pub queries_stay : QueriesOfExtended N P queries
+  queries_stay =
+      let each : AllZip (IsQuery N E.lines) (querying E.lines (0 ∷ o.points)) queries =
+      zip_moves (IsQuery M E.lines) (IsQuery N E.lines) (querying E.lines (0 ∷ o.points)) queries
+      one_query o.holds in
+      goes_over (subst (λ (F : Path). AllZip (IsQuery N F.lines) (querying F.lines (0 ∷ o.points)) queries) path_there
+      each)
 
 -- ---- whether or not the path has a fault
 
 module _ (M N : Map) (m : IsMap M) (n : IsMap N) (P : Path) (is : IsTrue (is_path P.lines))
-    (same : Each (SameLine M N) P.lines) (looks : List Look) (routes : RoutesOf M N looks) where
+    (same : Each (SameLine M N) P.lines) (queries : List CoverageQuery) (routes : RoutesOf M N queries) where
   by_case : (f : Option Refusal) → path_fault M P ≡ f
-      → ((v : ℕ) → MatchOption f (OwnOfExtended M P v) (λ _. ⊥) → SameRound M N v)
-      → MatchOption f (LooksOfExtended M P looks) (λ _. looks ≡ [])
+      → ((v : ℕ) → MatchOption f (TraversedOfExtended M P v) (λ _. ⊥) → SameRound M N v)
+      → MatchOption f (QueriesOfExtended M P queries) (λ _. queries ≡ [])
       → ((A : Answer) → MatchOption f (Encoding M P A) (λ r. A ≡ Refused r)
       → MatchOption f (Encoding N P A) (λ r. A ≡ Refused r))
-      × ((v : ℕ) → MatchOption f (OwnOfExtended M P v) (λ _. ⊥) ↔ MatchOption f (OwnOfExtended N P v) (λ _. ⊥))
-      × MatchOption f (LooksOfExtended N P looks) (λ _. looks ≡ [])
-  by_case None e own o = (
-    answer_stays M N m n P is e same own looks o routes,
-    own_stays M N m n P is e same own looks o routes,
-    looks_stay M N m n P is e same own looks o routes,
+      × ((v : ℕ) → MatchOption f (TraversedOfExtended M P v) (λ _. ⊥)
+      ↔ MatchOption f (TraversedOfExtended N P v) (λ _. ⊥))
+      × MatchOption f (QueriesOfExtended N P queries) (λ _. queries ≡ [])
+  by_case None e traversed o = (
+    answer_stays M N m n P is e same traversed queries o routes,
+    traversed_stays M N m n P is e same traversed queries o routes,
+    queries_stay M N m n P is e same traversed queries o routes,
   )
-  by_case (Some r) e own o = ((λ A p. p), (λ v. ((λ h. h), (λ h. h))), o)
+  by_case (Some r) e traversed o = ((λ A p. p), (λ v. ((λ h. h), (λ h. h))), o)
 
-  pub looked_kept : ((v : ℕ) → OwnOf M P v → SameRound M N v) → LooksOf M P looks
-      → ((A : Answer) → Encodes M P A → Encodes N P A) × ((v : ℕ) → OwnOf M P v ↔ OwnOf N P v) × LooksOf N P looks
-  looked_kept own o =
+  pub queried_kept : ((v : ℕ) → TraversedOf M P v → SameRound M N v) → QueriesOf M P queries
+      → ((A : Answer) → Encodes M P A → Encodes N P A) × ((v : ℕ) → TraversedOf M P v ↔ TraversedOf N P v)
+      × QueriesOf N P queries
+  queried_kept traversed o =
       subst (λ (f : Option Refusal). ((A : Answer) → Encodes M P A
       → MatchOption f (Encoding N P A) (λ r. A ≡ Refused r))
-      × ((v : ℕ) → OwnOf M P v ↔ MatchOption f (OwnOfExtended N P v) (λ _. ⊥)) × MatchOption f
-      (LooksOfExtended N P looks) (λ _. looks ≡ []))
-      (fault_same M N P same) (by_case (path_fault M P) refl own o)
+      × ((v : ℕ) → TraversedOf M P v ↔ MatchOption f (TraversedOfExtended N P v) (λ _. ⊥)) × MatchOption f
+      (QueriesOfExtended N P queries) (λ _. queries ≡ []))
+      (fault_same M N P same) (by_case (path_fault M P) refl traversed o)
 
 -- if each coverage query is clear
-pub kept : (M N : Map) → IsMap M → IsMap N → (C : List ChangedLine) → Tells C M N → Tells C N M → (P : Path)
-    → IsTrue (is_path P.lines) → Each (SameLine M N) P.lines → (looks : List Look) → All (IsClear N C) looks
-    → ((v : ℕ) → OwnOf M P v → SameRound M N v) → LooksOf M P looks
-    → ((A : Answer) → Encodes M P A → Encodes N P A) × ((v : ℕ) → OwnOf M P v ↔ OwnOf N P v) × LooksOf N P looks
-kept M N m n C there here P is same looks clear =
-    looked_kept M N m n P is same looks (λ ls each s t joined i k last on.
+pub kept : (M N : Map) → IsMap M → IsMap N → (C : List ChangedLine) → AccountsFor C M N → AccountsFor C N M → (P : Path)
+    → IsTrue (is_path P.lines) → Each (SameLine M N) P.lines → (queries : List CoverageQuery) →
+    All (IsClear N C) queries
+    → ((v : ℕ) → TraversedOf M P v → SameRound M N v) → QueriesOf M P queries
+    → ((A : Answer) → Encodes M P A → Encodes N P A) × ((v : ℕ) → TraversedOf M P v ↔ TraversedOf N P v)
+    × QueriesOf N P queries
+kept M N m n C there here P is same queries clear =
+    queried_kept M N m n P is same queries (λ ls each s t joined i k last on.
     clear_routes M N ls each s t joined i k last C there here
-    (All-contains (IsClear N C) looks (look_to M ls i k) clear on))
+    (All-contains (IsClear N C) queries (query_to M ls i k) clear on))
 
 -- the same conclusion from what is touched
-pub untouched_kept : (M N : Map) → IsMap M → IsMap N → (T X : List ℕ) (C : List ChangedLine) → Difference T X C M N
+pub untouched_retained : (M N : Map) → IsMap M → IsMap N → (T X : List ℕ) (C : List ChangedLine) → Difference T X C M N
     → (P : Path) → IsTrue (is_path P.lines)
-    → ((x : ℕ) → has X x ≡ true → has P.lines x ≡ false) → ((v : ℕ) → has T v ≡ true → ¬ OwnOf M P v)
-    → (looks : List Look) → LooksOf M P looks → All (IsClear N C) looks
-    → ((A : Answer) → Encodes M P A → Encodes N P A) × ((v : ℕ) → OwnOf M P v ↔ OwnOf N P v) × LooksOf N P looks
-untouched_kept M N m n T X C d P is lines nodes looks o clear =
+    → ((x : ℕ) → has X x ≡ true → has P.lines x ≡ false) → ((v : ℕ) → has T v ≡ true → ¬ TraversedOf M P v)
+    → (queries : List CoverageQuery) → QueriesOf M P queries → All (IsClear N C) queries
+    → ((A : Answer) → Encodes M P A → Encodes N P A) × ((v : ℕ) → TraversedOf M P v ↔ TraversedOf N P v)
+    × QueriesOf N P queries
+untouched_retained M N m n T X C d P is lines nodes queries o clear =
     let same : Each (SameLine M N) P.lines = λ x on.
     elim (cases_Bool (has X x)) [
       | inl e ↦ absurd
           (both_ways (has P.lines x) (lines x e) on)
       | inr off ↦ d.lines x off
     ] in
-    let own : (v : ℕ) → OwnOf M P v → SameRound M N v =
+    let traversed : (v : ℕ) → TraversedOf M P v → SameRound M N v =
     λ v on. elim (cases_Bool (has T v)) [ inl e ↦ absurd (nodes v e on) | inr off ↦ d.nodes v off ] in
-    kept M N m n C d.there d.here P is same looks clear own o
+    kept M N m n C d.there d.here P is same queries clear traversed o

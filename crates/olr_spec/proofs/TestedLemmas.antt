@@ -5,22 +5,23 @@ use Rattle.std.proofs.Common.{◌⊎◌}
 use Rattle.std.proofs.lemmas.Bool.{cases_lt, cases_eq, cases_order}
 use Rattle.std.specs.List.{AllZip}
 use Rattle.olr_spec.specs.Map.{Map, IsMap, SameRound, has}
-use Rattle.olr_spec.specs.Walks.{dm_of}
+use Rattle.olr_spec.specs.Routes.{dm_of}
 use Rattle.olr_spec.specs.Extension.{Path, is_path, extended_path, limit}
 use Rattle.olr_spec.specs.Points.{stretch, Covered, Greatest}
 use Rattle.olr_spec.specs.Encoding.{Refusal, path_fault}
-use Rattle.olr_spec.specs.Footprint.{Sees, Searched, Touched, On_path, On_start_chain, On_end_chain, Within_reach}
+use Rattle.olr_spec.specs.Footprint.{Sees, Searched, Touched, On_path, On_start_run, On_end_run, Within_reach}
 use Rattle.olr_spec.specs.Footprint.{FootOf, Foot}
 use Rattle.olr_spec.specs.Detours.{Near}
-use Rattle.olr_spec.specs.Looks.{Own, OwnOfExtended, OwnOf, Needed, IsLastTested, Look, look_to, IsLook, looking}
-use Rattle.olr_spec.specs.Looks.{LooksOfExtended, LooksOf}
-use Rattle.olr_spec.proofs.AnswerLemmas.{one_course, path_also}
+use Rattle.olr_spec.specs.Queries.{Traversed, TraversedOfExtended, TraversedOf, Needed, IsLastTested, CoverageQuery}
+use Rattle.olr_spec.specs.Queries.{query_to, IsQuery, querying}
+use Rattle.olr_spec.specs.Queries.{QueriesOfExtended, QueriesOf}
+use Rattle.olr_spec.proofs.AnswerLemmas.{one_extension, path_also}
 use Rattle.olr_spec.proofs.DecideLemmas.{dec_and, dec_le, dec_Covered, greatest_or_none, some_follow, some_encoding}
 use Rattle.olr_spec.proofs.ListLemmas.{has_here, has_there}
 use Rattle.olr_spec.proofs.AgreeLemmas.{turned_round}
 use Rattle.olr_spec.proofs.DetourLemmas.{near_there}
 use Rattle.olr_spec.proofs.JoinLemmas.{empty_stretch}
-use Rattle.olr_spec.proofs.LookLists.{look_for, look_from, looks_here}
+use Rattle.olr_spec.proofs.QueryLists.{query_for, query_from, queries_here}
 
 -- ---- the last position that is tested
 
@@ -97,10 +98,11 @@ some_last_tested M m ls i h =
 
 -- ---- the coverage queries
 
-one_look : (M : Map) (ls : List ℕ) (i : ℕ) (k l : Look) → IsLook M ls i k → IsLook M ls i l → k ≡ l
-one_look M ls i k l p q = p.2 ∙ ap (look_to M ls i) (one_last_tested M ls i p.0 q.0 p.1 q.1) ∙ sym q.2
+one_query : (M : Map) (ls : List ℕ) (i : ℕ) (k l : CoverageQuery) → IsQuery M ls i k → IsQuery M ls i l → k ≡ l
+one_query M ls i k l p q = p.2 ∙ ap (query_to M ls i) (one_last_tested M ls i p.0 q.0 p.1 q.1) ∙ sym q.2
 
-one_zip : (M : Map) (ls is : List ℕ) (ks hs : List Look) → AllZip (IsLook M ls) is ks → AllZip (IsLook M ls) is hs
+one_zip : (M : Map) (ls is : List ℕ) (ks hs : List CoverageQuery) → AllZip (IsQuery M ls) is ks →
+    AllZip (IsQuery M ls) is hs
     → ks ≡ hs
 one_zip M ls [] [] [] p q = refl
 one_zip M ls [] [] (h ∷ hs) p q = absurd q
@@ -108,133 +110,147 @@ one_zip M ls [] (k ∷ ks) hs p q = absurd p
 one_zip M ls (i ∷ is) [] hs p q = absurd p
 one_zip M ls (i ∷ is) (k ∷ ks) [] p q = absurd q
 one_zip M ls (i ∷ is) (k ∷ ks) (h ∷ hs) p q =
-    let e : k ≡ h = one_look M ls i k h p.0 q.0 in
+    let e : k ≡ h = one_query M ls i k h p.0 q.0 in
     let r : ks ≡ hs = one_zip M ls is ks hs p.1 q.1 in
     λ j. e j ∷ r j
 
 some_zip : (M : Map) → IsMap M → (ls is : List ℕ) → ((i : ℕ) → has is i ≡ true → i + 2 < length ls)
-    → (looks : List Look) × AllZip (IsLook M ls) is looks
+    → (queries : List CoverageQuery) × AllZip (IsQuery M ls) is queries
 some_zip M m ls [] h = ([], tt)
 some_zip M m ls (i ∷ is) h =
     let far = h i (has_here i is) in
     let k = some_last_tested M m ls i (omega arith) in
     let rest = some_zip M m ls is (λ j on. h j (has_there i is j on)) in
-    (look_to M ls i k.0 ∷ rest.0, ((k.0, k.1, refl), rest.1))
+    (query_to M ls i k.0 ∷ rest.0, ((k.0, k.1, refl), rest.1))
 
 module _ (M : Map) (m : IsMap M) (P : Path) (is : IsTrue (is_path P.lines)) (sound : path_fault M P ≡ None) where
-  one_list : (ks ls : List Look) → LooksOfExtended M P ks → LooksOfExtended M P ls → ks ≡ ls
+  one_list : (ks ls : List CoverageQuery) → QueriesOfExtended M P ks → QueriesOfExtended M P ls → ks ≡ ls
   one_list ks ls p q =
-      let same = one_course M m P is sound q.before q.after q.points p.before p.after p.points q.tried q.follow p.tried
+      let same = one_extension M m P is sound q.before q.after q.points p.before p.after p.points q.tried q.follow
+      p.tried
       p.follow in
-      let each : AllZip (IsLook M (extended_path M P p.before p.after).lines)
-      (looking (extended_path M P p.before p.after).lines (0 ∷ p.points)) ls =
-      coe 0 1 (i. AllZip (IsLook M (extended_path M P (same.0 i) (same.1 i)).lines)
-      (looking (extended_path M P (same.0 i) (same.1 i)).lines (0 ∷ same.2 i)) ls) q.holds in
+      let each : AllZip (IsQuery M (extended_path M P p.before p.after).lines)
+      (querying (extended_path M P p.before p.after).lines (0 ∷ p.points)) ls =
+      coe 0 1 (i. AllZip (IsQuery M (extended_path M P (same.0 i) (same.1 i)).lines)
+      (querying (extended_path M P (same.0 i) (same.1 i)).lines (0 ∷ same.2 i)) ls) q.holds in
       one_zip M (extended_path M P p.before p.after).lines
-      (looking (extended_path M P p.before p.after).lines (0 ∷ p.points)) ks ls p.holds each
+      (querying (extended_path M P p.before p.after).lines (0 ∷ p.points)) ks ls p.holds each
 
-  some_list : (looks : List Look) × LooksOfExtended M P looks
+  some_list : (queries : List CoverageQuery) × QueriesOfExtended M P queries
   some_list =
       let a = some_encoding M m P is sound in
       let p = a.1 in
       let ls = (extended_path M P p.before p.after).lines in
-      let z = some_zip M m ls (looking ls (0 ∷ p.points)) (λ i on. (looks_here ls (0 ∷ p.points) i on).1) in (
+      let z = some_zip M m ls (querying ls (0 ∷ p.points)) (λ i on. (queries_here ls (0 ∷ p.points) i on).1) in (
         z.0,
         path_also p z.1,
       )
 
   -- the footprint
-  foot_there : (looks : List Look) → LooksOfExtended M P looks → (v : ℕ) → FootOf M P v
-      → OwnOfExtended M P v ⊎ ((l : Look) × Contains looks l × Sees M l v)
-  foot_there looks o v f = by f.holds
+  foot_there : (queries : List CoverageQuery) → QueriesOfExtended M P queries → (v : ℕ) → FootOf M P v
+      → TraversedOfExtended M P v ⊎ ((l : CoverageQuery) × Contains queries l × Sees M l v)
+  foot_there queries o v f = by f.holds
     where
-      own : Own M (extended_path M P f.before f.after).lines f.before f.after v → OwnOfExtended M P v
-      own h = record { before = f.before; after = f.after; tried = f.tried; own = h }
+      traversed : Traversed M (extended_path M P f.before f.after).lines f.before f.after v → TraversedOfExtended M P v
+      traversed h = record { before = f.before; after = f.after; tried = f.tried; traversed = h }
 
       by : Touched M (extended_path M P f.before f.after).lines f.before f.after f.points v
-          → OwnOfExtended M P v ⊎ ((l : Look) × Contains looks l × Sees M l v)
-      by (On_path n) = inl (own (inl n))
-      by (On_start_chain n) = inl (own (inr (inl n)))
-      by (On_end_chain n) = inl (own (inr (inr n)))
+          → TraversedOfExtended M P v ⊎ ((l : CoverageQuery) × Contains queries l × Sees M l v)
+      by (On_path n) = inl (traversed (inl n))
+      by (On_start_run n) = inl (traversed (inr (inl n)))
+      by (On_end_run n) = inl (traversed (inr (inr n)))
       by (Within_reach s) =
-          let same = one_course M m P is sound f.before f.after f.points o.before o.after o.points f.tried f.follow
+          let same = one_extension M m P is sound f.before f.after f.points o.before o.after o.points f.tried f.follow
           o.tried o.follow in
           let ls = (extended_path M P o.before o.after).lines in
           let t : Searched M ls (0 ∷ o.points) v =
           coe 0 1 (i. Searched M (extended_path M P (same.0 i) (same.1 i)).lines (0 ∷ same.2 i) v) s in
-          let l = look_for M ls (0 ∷ o.points) looks o.holds t.0 t.1 t.2 in
-          let one : t.3.0 ≡ l.0 = one_look M ls t.0 t.3.0 l.0 t.3.1 l.2 in
-          inr (l.0, l.1, subst (λ (k : Look). Sees M k v) one t.3.2)
+          let l = query_for M ls (0 ∷ o.points) queries o.holds t.0 t.1 t.2 in
+          let one : t.3.0 ≡ l.0 = one_query M ls t.0 t.3.0 l.0 t.3.1 l.2 in
+          inr (l.0, l.1, subst (λ (k : CoverageQuery). Sees M k v) one t.3.2)
 
-  foot_here : (looks : List Look) → LooksOfExtended M P looks → (v : ℕ)
-      → OwnOfExtended M P v ⊎ ((l : Look) × Contains looks l × Sees M l v) → FootOf M P v
-  foot_here looks o v (inl p) =
+  foot_here : (queries : List CoverageQuery) → QueriesOfExtended M P queries → (v : ℕ)
+      → TraversedOfExtended M P v ⊎ ((l : CoverageQuery) × Contains queries l × Sees M l v) → FootOf M P v
+  foot_here queries o v (inl p) =
       let ls = (extended_path M P p.before p.after).lines in
       let js = some_follow M m ls (length ls) 0 (omega arith) in
-      record { before = p.before; after = p.after; points = js.0; tried = p.tried; follow = js.1; holds = by p.own }
+      record {
+        before = p.before;
+        after = p.after;
+        points = js.0;
+        tried = p.tried;
+        follow = js.1;
+        holds = by
+            p.traversed;
+      }
     where
-      by : {js : List ℕ} → Own M (extended_path M P p.before p.after).lines p.before p.after v
+      by : {js : List ℕ} → Traversed M (extended_path M P p.before p.after).lines p.before p.after v
           → Touched M (extended_path M P p.before p.after).lines p.before p.after js v
       by (inl n) = On_path n
-      by (inr (inl n)) = On_start_chain n
-      by (inr (inr n)) = On_end_chain n
-  foot_here looks o v (inr r) =
+      by (inr (inl n)) = On_start_run n
+      by (inr (inr n)) = On_end_run n
+  foot_here queries o v (inr r) =
       let ls = (extended_path M P o.before o.after).lines in
-      let i = look_from M ls (0 ∷ o.points) looks o.holds r.0 r.1 in
+      let i = query_from M ls (0 ∷ o.points) queries o.holds r.0 r.1 in
       path_also o (Within_reach (i.0, i.1, i.2, (r.0, i.3, r.2)))
 
 -- ---- whether or not the path has a fault
 
-pub one_looks : (M : Map) → IsMap M → (P : Path) → IsTrue (is_path P.lines) → (ks ls : List Look) → LooksOf M P ks
-    → LooksOf M P ls → ks ≡ ls
-one_looks M m P is ks ls = by (path_fault M P) refl
+pub one_queries : (M : Map) → IsMap M → (P : Path) → IsTrue (is_path P.lines) → (ks ls : List CoverageQuery) →
+    QueriesOf M P ks
+    → QueriesOf M P ls → ks ≡ ls
+one_queries M m P is ks ls = by (path_fault M P) refl
   where
-    by : (o : Option Refusal) → path_fault M P ≡ o → MatchOption o (LooksOfExtended M P ks) (λ _. ks ≡ [])
-        → MatchOption o (LooksOfExtended M P ls) (λ _. ls ≡ []) → ks ≡ ls
+    by : (o : Option Refusal) → path_fault M P ≡ o → MatchOption o (QueriesOfExtended M P ks) (λ _. ks ≡ [])
+        → MatchOption o (QueriesOfExtended M P ls) (λ _. ls ≡ []) → ks ≡ ls
     by None e p q = one_list M m P is e ks ls p q
     by (Some r) e p q = p ∙ sym q
 
-pub some_looks : (M : Map) → IsMap M → (P : Path) → IsTrue (is_path P.lines) → (looks : List Look) × LooksOf M P looks
-some_looks M m P is = by (path_fault M P) refl
+pub some_queries : (M : Map) → IsMap M → (P : Path) → IsTrue (is_path P.lines) → (queries : List CoverageQuery)
+    × QueriesOf M P queries
+some_queries M m P is = by (path_fault M P) refl
   where
     by : (o : Option Refusal) → path_fault M P ≡ o
-        → (looks : List Look) × MatchOption o (LooksOfExtended M P looks) (λ _. looks ≡ [])
+        → (queries : List CoverageQuery) × MatchOption o (QueriesOfExtended M P queries) (λ _. queries ≡ [])
     by None e = some_list M m P is e
     by (Some r) e = ([], refl)
 
-pub foot_looked : (M : Map) → IsMap M → (P : Path) → IsTrue (is_path P.lines) → (looks : List Look) → LooksOf M P looks
-    → (v : ℕ) → Foot M P v ↔ (OwnOf M P v ⊎ ((l : Look) × Contains looks l × Sees M l v))
-foot_looked M m P is looks o v = by (path_fault M P) refl o
+pub foot_queried : (M : Map) → IsMap M → (P : Path) → IsTrue (is_path P.lines) → (queries : List CoverageQuery) →
+    QueriesOf M P queries
+    → (v : ℕ) → Foot M P v ↔ (TraversedOf M P v ⊎ ((l : CoverageQuery) × Contains queries l × Sees M l v))
+foot_queried M m P is queries o v = by (path_fault M P) refl o
   where
-    none : looks ≡ [] → ⊥ ⊎ ((l : Look) × Contains looks l × Sees M l v) → ⊥
+    none : queries ≡ [] → ⊥ ⊎ ((l : CoverageQuery) × Contains queries l × Sees M l v) → ⊥
     none e (inl f) = f
-    none e (inr r) = let c = (r.2.0) in let h : r.1.0 < length looks = r.1.1 in
-        omega (arith, ap (λ (ks : List Look). length ks) e)
+    none e (inr r) = let c = (r.2.0) in let h : r.1.0 < length queries = r.1.1 in
+        omega (arith, ap (λ (ks : List CoverageQuery). length ks) e)
 
-    by : (o : Option Refusal) → path_fault M P ≡ o → MatchOption o (LooksOfExtended M P looks) (λ _. looks ≡ [])
+    by : (o : Option Refusal) → path_fault M P ≡ o → MatchOption o (QueriesOfExtended M P queries) (λ _. queries ≡ [])
         → MatchOption o (FootOf M P v) (λ _. ⊥) ↔
-        (MatchOption o (OwnOfExtended M P v) (λ _. ⊥) ⊎ ((l : Look) × Contains looks l × Sees M l v))
-    by None e p = (foot_there M m P is e looks p v, foot_here M m P is e looks p v)
+        (MatchOption o (TraversedOfExtended M P v) (λ _. ⊥) ⊎ ((l : CoverageQuery) × Contains queries l × Sees M l v))
+    by None e p = (foot_there M m P is e queries p v, foot_here M m P is e queries p v)
     by (Some r) e p = ((λ f. absurd f), none p)
 
 -- ---- what touched nodes affect
 
-pub foot_concerned : (M N : Map) → IsMap M → (T : List ℕ) → ((v : ℕ) → has T v ≡ false → SameRound M N v) → (P : Path)
-    → IsTrue (is_path P.lines) → (looks : List Look) → LooksOf M P looks
+pub foot_affected : (M N : Map) → IsMap M → (T : List ℕ) → ((v : ℕ) → has T v ≡ false → SameRound M N v) → (P : Path)
+    → IsTrue (is_path P.lines) → (queries : List CoverageQuery) → QueriesOf M P queries
     → ((v : ℕ) × IsTrue (has T v) × Foot M P v) ↔
-    (((v : ℕ) × IsTrue (has T v) × OwnOf M P v) ⊎ ((l : Look) × Contains looks l × Near N T l.from l.within))
-foot_concerned M N m T round P is looks o = (there, here)
+    (((v : ℕ) × IsTrue (has T v) × TraversedOf M P v) ⊎ ((l : CoverageQuery) × Contains queries l
+    × Near N T l.from l.within))
+foot_affected M N m T round P is queries o = (there, here)
   where
     there : (v : ℕ) × IsTrue (has T v) × Foot M P v
-        → ((v : ℕ) × IsTrue (has T v) × OwnOf M P v) ⊎ ((l : Look) × Contains looks l × Near N T l.from l.within)
-    there f = elim ((foot_looked M m P is looks o f.0).0 f.2) [
-      | inl own ↦ inl (f.0, f.1, own)
+        → ((v : ℕ) × IsTrue (has T v) × TraversedOf M P v) ⊎ ((l : CoverageQuery) × Contains queries l
+        × Near N T l.from l.within)
+    there f = elim ((foot_queried M m P is queries o f.0).0 f.2) [
+      | inl traversed ↦ inl (f.0, f.1, traversed)
       | inr r ↦ inr (
         r.0,
         r.1,
         near_there M N T round r.0.from r.0.within (record {
           node = f.0;
-          walk = r.2.0;
+          route = r.2.0;
           touched = f.1;
           leads = r.2.1;
           within = r.2.2;
@@ -242,9 +258,10 @@ foot_concerned M N m T round P is looks o = (there, here)
       )
     ]
 
-    here : ((v : ℕ) × IsTrue (has T v) × OwnOf M P v) ⊎ ((l : Look) × Contains looks l × Near N T l.from l.within)
+    here : ((v : ℕ) × IsTrue (has T v) × TraversedOf M P v) ⊎
+        ((l : CoverageQuery) × Contains queries l × Near N T l.from l.within)
         → (v : ℕ) × IsTrue (has T v) × Foot M P v
-    here (inl own) = (own.0, own.1, (foot_looked M m P is looks o own.0).1 (inl own.2))
+    here (inl traversed) = (traversed.0, traversed.1, (foot_queried M m P is queries o traversed.0).1 (inl traversed.2))
     here (inr r) =
         let n = near_there N M T (λ v e. turned_round M N v (round v e)) r.0.from r.0.within r.2 in
-        (n.node, n.touched, (foot_looked M m P is looks o n.node).1 (inr (r.0, r.1, (n.walk, n.leads, n.within))))
+        (n.node, n.touched, (foot_queried M m P is queries o n.node).1 (inr (r.0, r.1, (n.route, n.leads, n.within))))

@@ -6,7 +6,7 @@ use Rattle.std.specs.List.{list_any, filter}
 use Rattle.std.specs.Cmp.{nat_cmp_total}
 use Rattle.std.specs.FinMap.{FinMap, get, insert, remove, entries, get-empty, same_map, nat_cmp-IsAntisymmetric}
 use Rattle.olr_spec.specs.Coordinates.{Coord}
-use Rattle.olr_spec.specs.Map.{Map, empty_map, IsMap, Line, is_good, has_node, has_line, line_at, place_at, no_line}
+use Rattle.olr_spec.specs.Map.{Map, empty_map, IsMap, Line, is_good, has_node, has_line, line_at, coord_at, no_line}
 use Rattle.olr_spec.specs.Map.{start, end, Edit, Add_node, Move_node, Drop_node, Add_line, Set_line, Drop_line}
 use Rattle.olr_spec.specs.Map.{MapFault, Node_exists, No_node, Line_exists, No_line, Node_in_use, Bad_shape, edited}
 use Rattle.olr_spec.specs.Map.{unless, in_use, has}
@@ -88,8 +88,8 @@ unused_where_absent M m v absent =
 -- the edit that restores the map from before an accepted edit
 abbrev pub back_of : Map → Edit → Edit
 back_of M (Add_node v c) = Drop_node v
-back_of M (Move_node v c) = Move_node v (place_at M v)
-back_of M (Drop_node v) = Add_node v (place_at M v)
+back_of M (Move_node v c) = Move_node v (coord_at M v)
+back_of M (Drop_node v) = Add_node v (coord_at M v)
 back_of M (Add_line x l) = Drop_line x
 back_of M (Set_line x frc fow len shape) = let l = line_at M x in Set_line x l.frc l.fow l.len l.shape
 back_of M (Drop_line x) = Add_line x (line_at M x)
@@ -114,21 +114,21 @@ module _ (M : Map) (m : IsMap M) where
       (drop_added M.nodes v c (none_of (get M.nodes v) absent))
 
   move_back : (v : ℕ) (c : Coord) → has_node M v ≡ true →
-      edited (with_nodes (insert M.nodes v c)) (Move_node v (place_at M v)) ≡ Ok M
+      edited (with_nodes (insert M.nodes v c)) (Move_node v (coord_at M v)) ≡ Ok M
   move_back v c there =
       let N = with_nodes (insert M.nodes v c) in
-      unless_false (not (has_node N v)) No_node (Ok (record N { nodes = insert N.nodes v (place_at M v) }))
+      unless_false (not (has_node N v)) No_node (Ok (record N { nodes = insert N.nodes v (coord_at M v) }))
       (not_false (has_node N v) (ap (λ (o : Option Coord). is_some o) (got_same M.nodes v c)))
       ∙ ap (λ (nodes : FinMap nat_cmp Coord). Ok (with_nodes nodes))
-      (set_back M.nodes v (place_at M v) c (some_is (get M.nodes v) _ there))
+      (set_back M.nodes v (coord_at M v) c (some_is (get M.nodes v) _ there))
 
-  add_back : (v : ℕ) → has_node M v ≡ true → edited (with_nodes (remove M.nodes v)) (Add_node v (place_at M v)) ≡ Ok M
+  add_back : (v : ℕ) → has_node M v ≡ true → edited (with_nodes (remove M.nodes v)) (Add_node v (coord_at M v)) ≡ Ok M
   add_back v there =
       let N = with_nodes (remove M.nodes v) in
-      unless_false (has_node N v) Node_exists (Ok (record N { nodes = insert N.nodes v (place_at M v) }))
+      unless_false (has_node N v) Node_exists (Ok (record N { nodes = insert N.nodes v (coord_at M v) }))
       (ap (λ (o : Option Coord). is_some o) (left_same M.nodes v))
       ∙ ap (λ (nodes : FinMap nat_cmp Coord). Ok (with_nodes nodes))
-      (put_back M.nodes v (place_at M v) (some_is (get M.nodes v) _ there))
+      (put_back M.nodes v (coord_at M v) (some_is (get M.nodes v) _ there))
 
   drop_new_line : (x : ℕ) (l : Line) → has_line M x ≡ false →
       edited (with_lines (insert M.lines x l)) (Drop_line x) ≡ Ok M

@@ -4,33 +4,33 @@ use Rattle.std.proofs.Common.{◌∙◌, subst, arith, length-drop}
 use Rattle.std.proofs.lemmas.List.{get_or-drop}
 use Rattle.std.specs.List.{slice_index}
 use Rattle.olr_spec.specs.Map.{Map, start, end}
-use Rattle.olr_spec.specs.Walks.{Walk}
+use Rattle.olr_spec.specs.Routes.{IsRoute}
 use Rattle.olr_spec.specs.Points.{stretch}
 
 -- from line p on
-pub way_from : (M : Map) (s t : ℕ) (ls : List ℕ) (p : ℕ) → Walk M s t ls → p < length ls
-    → Walk M (start M (slice_index ls p)) t (drop p ls)
+pub way_from : (M : Map) (s t : ℕ) (ls : List ℕ) (p : ℕ) → IsRoute M s t ls → p < length ls
+    → IsRoute M (start M (slice_index ls p)) t (drop p ls)
 way_from M s t [] p w h = absurd (omega arith)
 way_from M s t (x ∷ ls) zero w h = (w.0, refl, w.2)
 way_from M s t (x ∷ ls) (suc p) w h = way_from M (end M x) t ls p w.2 (omega arith)
 
 -- up to line n
-pub way_to : (M : Map) (s t : ℕ) (ls : List ℕ) (n : ℕ) → Walk M s t ls → n < length ls
-    → Walk M s (start M (slice_index ls n)) (take n ls)
+pub way_to : (M : Map) (s t : ℕ) (ls : List ℕ) (n : ℕ) → IsRoute M s t ls → n < length ls
+    → IsRoute M s (start M (slice_index ls n)) (take n ls)
 way_to M s t [] n w h = absurd (omega arith)
 way_to M s t (x ∷ ls) zero w h = sym w.1
 way_to M s t (x ∷ ls) (suc n) w h = (w.0, w.1, way_to M (end M x) t ls n w.2 (omega arith))
 
-pub way_between : (M : Map) (s t : ℕ) (ls : List ℕ) (p q : ℕ) → Walk M s t ls → p ≤ q → q < length ls
-    → Walk M (start M (slice_index ls p)) (start M (slice_index ls q)) (stretch ls p q)
+pub way_between : (M : Map) (s t : ℕ) (ls : List ℕ) (p q : ℕ) → IsRoute M s t ls → p ≤ q → q < length ls
+    → IsRoute M (start M (slice_index ls p)) (start M (slice_index ls q)) (stretch ls p q)
 way_between M s t ls p q w h g =
     let there : slice_index (drop p ls) (q - p) ≡ slice_index ls q = get_or-drop p ls (q - p) 0
     ∙ ap (slice_index ls) (omega arith) in
     let way = way_to M (start M (slice_index ls p)) t (drop p ls) (q - p) (way_from M s t ls p w (omega arith))
     (omega (arith, length-drop p ls)) in
-    subst (λ (x : ℕ). Walk M (start M (slice_index ls p)) (start M x) (stretch ls p q)) there way
+    subst (λ (x : ℕ). IsRoute M (start M (slice_index ls p)) (start M x) (stretch ls p q)) there way
 
-pub next_start : (M : Map) (s t : ℕ) (ls : List ℕ) (p : ℕ) → Walk M s t ls → p + 1 < length ls
+pub next_start : (M : Map) (s t : ℕ) (ls : List ℕ) (p : ℕ) → IsRoute M s t ls → p + 1 < length ls
     → end M (slice_index ls p) ≡ start M (slice_index ls (p + 1))
 next_start M s t [] p w h = absurd (omega arith)
 next_start M s t (x ∷ []) p w h = absurd (omega arith)

@@ -1,6 +1,6 @@
 -- Coordinates along a line, directions, and the 32 sectors of bearings (White Paper, bearing attribute).
 --     Leg      a line with the coordinates of its two ends
---     scaled_place g t      the coordinate t dm along the line, times the width of its interval between shape points
+--     scaled_coord g t      the coordinate t dm along the line, times the width of its interval between shape points
 --     bearing_out g, bearing_back g      the sector of the direction from the line's start to the coordinate 200 dm
 --         along it, or from its end to the coordinate 200 dm before it
 --     IsSector east north k, sector east north      the direction is between the two boundary vectors of sector k; the
@@ -100,8 +100,8 @@ scaled_on p [] t = record { lon = p.place.lon; lat = p.place.lat; width = 1 }
 scaled_on p (q ∷ qs) t = if nat_le t q.at then scaled_between p q t else scaled_on q qs t
 
 -- the intervals lead from the start through the shape points to the end; the line is straight between them
-abbrev pub scaled_place : Leg → ℕ → Scaled
-scaled_place g t =
+abbrev pub scaled_coord : Leg → ℕ → Scaled
+scaled_coord g t =
     scaled_on (record { at = 0; place = g.begin }) (g.line.shape ++ record { at = g.line.len; place = g.finish } ∷ []) t
 
 -- ---- bearings
@@ -121,8 +121,8 @@ bearing o s =
 
 -- 20 m along the line, or to its end if it is shorter (White Paper, bearing attribute)
 abbrev pub bearing_out : Leg → ℕ
-bearing_out g = bearing g.begin (scaled_place g (min 200 g.line.len))
+bearing_out g = bearing g.begin (scaled_coord g (min 200 g.line.len))
 
 -- 20 m back from its end, or to its start if it is shorter
 abbrev pub bearing_back : Leg → ℕ
-bearing_back g = bearing g.finish (scaled_place g (g.line.len - 200))
+bearing_back g = bearing g.finish (scaled_coord g (g.line.len - 200))

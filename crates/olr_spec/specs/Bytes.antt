@@ -1,6 +1,6 @@
 -- The binary physical format, version 3, of a line location (White Paper, binary format).
 --     IsReference r      the fields fit their bits
---     spelling r, Spells r b      the bytes that a reference encodes as
+--     reference_bytes r, HasBytes r b      the bytes that a reference encodes as
 --     v3_fault b      the first fault of bytes that decode to no reference
 use Rattle.std.specs.Prelude.{◌≡◌, ℕ, zero, suc, ◌+◌, ◌-◌, ◌*◌, ◌/◌, ◌%◌, ◌^◌, ◌<◌, ℤ, pos, negsuc, Bool, not, ◌||◌}
 use Rattle.std.specs.Prelude.{List, [], ◌∷◌, ◌++◌, length, flat_map, nat_lt, nat_le, ◌==◌, slice_index, Option, Some}
@@ -105,12 +105,12 @@ abbrev pub status_byte : ℕ
 status_byte = 11
 
 -- status byte, first LRP, LRPs between, last LRP, and an offset byte for each flag that is set
-abbrev pub spelling : Reference → List ℕ
-spelling r = status_byte ∷ first_bytes r.first ++ flat_map middle_bytes r.middle ++ last_bytes r.last r.pos r.neg
+abbrev pub reference_bytes : Reference → List ℕ
+reference_bytes r = status_byte ∷ first_bytes r.first ++ flat_map middle_bytes r.middle ++ last_bytes r.last r.pos r.neg
 
 -- the reference r, whose fields fit, encodes as the bytes b
-abbrev pub Spells : Reference → List ℕ → Type 0
-Spells r b = IsReference r × (b ≡ spelling r)
+abbrev pub HasBytes : Reference → List ℕ → Type 0
+HasBytes r b = IsReference r × (b ≡ reference_bytes r)
 
 -- ---- faults
 

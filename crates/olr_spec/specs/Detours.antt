@@ -1,7 +1,7 @@
 -- What changes of a map can affect (profile). M and N are the maps before and after, or after and before.
 --     ChangedLine, changes_of M e      the ends of a changed line, and a length that is at most its own; the changed
 --         lines of an edit of M
---     Tells C M N      C lists every line of M that is different on N
+--     AccountsFor C M N      C lists every line of M that is different on N
 --     Difference T X C M N      the maps differ only around the nodes T and in the lines X, and C lists the changed
 --         lines
 --     Detour M C s t d      a route from s to a changed line, this line, and a route from a changed line to t, of at
@@ -10,7 +10,7 @@
 use Rattle.std.specs.Prelude.{◌≡◌, ℕ, ◌+◌, ◌≤◌, min, List, [], ◌∷◌, ◌⊎◌, Contains, IsTrue, IsFalse}
 use Rattle.olr_spec.specs.Map.{Map, Edit, Add_line, Set_line, Drop_line, has_line, start, end, dm, SameLine, SameRound}
 use Rattle.olr_spec.specs.Map.{has}
-use Rattle.olr_spec.specs.Walks.{Walk, dm_of}
+use Rattle.olr_spec.specs.Routes.{IsRoute, dm_of}
 
 pub record ChangedLine : Type 0 where
   pub from : ℕ
@@ -33,14 +33,14 @@ pub record IsChangedLine (C : List ChangedLine) (M : Map) (x : ℕ) : Type 0 whe
   pub len : change.len ≤ dm M x
 
 -- C may list other lines as well
-abbrev pub Tells : List ChangedLine → Map → Map → Type 0
-Tells C M N = (x : ℕ) → IsTrue (has_line M x) → SameLine M N x ⊎ IsChangedLine C M x
+abbrev pub AccountsFor : List ChangedLine → Map → Map → Type 0
+AccountsFor C M N = (x : ℕ) → IsTrue (has_line M x) → SameLine M N x ⊎ IsChangedLine C M x
 
 pub record Difference (T X : List ℕ) (C : List ChangedLine) (M N : Map) : Type 0 where
   pub nodes : (v : ℕ) → IsFalse (has T v) → SameRound M N v
   pub lines : (x : ℕ) → IsFalse (has X x) → SameLine M N x
-  pub there : Tells C M N
-  pub here : Tells C N M
+  pub there : AccountsFor C M N
+  pub here : AccountsFor C N M
 
 -- the two changed lines may be the same; the distance from the one to the other isn't counted
 pub record Detour (M : Map) (C : List ChangedLine) (s t d : ℕ) : Type 0 where
@@ -50,13 +50,13 @@ pub record Detour (M : Map) (C : List ChangedLine) (s t d : ℕ) : Type 0 where
   pub last_listed : Contains C last
   pub before : List ℕ
   pub after : List ℕ
-  pub leads : Walk M s first.from before
-  pub returns : Walk M last.to t after
+  pub leads : IsRoute M s first.from before
+  pub returns : IsRoute M last.to t after
   pub within : dm_of M before + first.len + dm_of M after ≤ d
 
 pub record Near (M : Map) (T : List ℕ) (s d : ℕ) : Type 0 where
   pub node : ℕ
-  pub walk : List ℕ
+  pub route : List ℕ
   pub touched : IsTrue (has T node)
-  pub leads : Walk M s node walk
-  pub within : dm_of M walk ≤ d
+  pub leads : IsRoute M s node route
+  pub within : dm_of M route ≤ d

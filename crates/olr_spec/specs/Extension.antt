@@ -2,7 +2,7 @@
 --     Path, is_path ls      lines with two offsets in decimetres; from 1 to 10,000 lines, none twice
 --     passing M v      v is a degree-two node: it has exactly two neighbours, and its lines only connect them. Every
 --         other node is valid
---     StartChain M c ls, EndChain M ls c      c is a run of degree-two nodes: its lines lead to the lines ls, or on
+--     StartRun M c ls, EndRun M ls c      c is a run of degree-two nodes: its lines lead to the lines ls, or on
 --         from them, through such nodes
 --     LongestStart M c ls, LongestEnd M ls c      c is the longest such run within the limit
 --     Tried M P b a      b and a are the longest runs at the start of the path and at its end
@@ -11,7 +11,7 @@
 use Rattle.std.specs.Prelude.{◌≡◌, ◌≢◌, ℕ, ◌+◌, ◌≤◌, Bool, true, false, not, ◌&&◌, ◌||◌, List, [], ◌∷◌, ◌++◌, map}
 use Rattle.std.specs.Prelude.{length, nat_le, ◌==◌, if◌then◌else◌, ⊤, IsTrue, IsFalse}
 use Rattle.olr_spec.specs.Map.{Map, has_line, start, end, lines_in, lines_out, has}
-use Rattle.olr_spec.specs.Walks.{Walk, dm_of}
+use Rattle.olr_spec.specs.Routes.{IsRoute, dm_of}
 
 -- a line location: the positive offset is cut off at its start, the negative one at its end (White Paper, offsets)
 pub record Path : Type 0 where
@@ -59,7 +59,7 @@ last (x ∷ y ∷ xs) = last (y ∷ xs)
 
 -- the lines are on the map, and each ends where the next starts
 abbrev pub AreJoined : Map → List ℕ → Type 0
-AreJoined M ls = Walk M (start M (first ls)) (end M (last ls)) ls
+AreJoined M ls = IsRoute M (start M (first ls)) (end M (last ls)) ls
 
 -- line x may precede the lines ls: it ends at their first node, which is a degree-two node, it doesn't start where the
 -- first of them ends, and it isn't one of them
@@ -79,14 +79,14 @@ pub record MayFollow (M : Map) (ls : List ℕ) (x : ℕ) : Type 0 where
   pub fresh : IsFalse (has ls x)
 
 -- each line of c may precede the lines after it in c and ls
-abbrev pub StartChain : Map → List ℕ → List ℕ → Type 0
-StartChain M [] ls = ⊤
-StartChain M (x ∷ c) ls = MayPrecede M x (c ++ ls) × StartChain M c ls
+abbrev pub StartRun : Map → List ℕ → List ℕ → Type 0
+StartRun M [] ls = ⊤
+StartRun M (x ∷ c) ls = MayPrecede M x (c ++ ls) × StartRun M c ls
 
 -- each line of c may follow ls and the lines before it in c
-abbrev pub EndChain : Map → List ℕ → List ℕ → Type 0
-EndChain M ls [] = ⊤
-EndChain M ls (x ∷ c) = MayFollow M ls x × EndChain M (ls ++ x ∷ []) c
+abbrev pub EndRun : Map → List ℕ → List ℕ → Type 0
+EndRun M ls [] = ⊤
+EndRun M ls (x ∷ c) = MayFollow M ls x × EndRun M (ls ++ x ∷ []) c
 
 -- 15,000 m in decimetres: the greatest distance from one LRP to the next (White Paper, data format rules), and the
 -- greatest length of a run (profile)
@@ -95,15 +95,15 @@ limit = 150000
 
 -- of two such runs one is a suffix of the other, so the longest is unique
 pub record LongestStart (M : Map) (c ls : List ℕ) : Type 0 where
-  pub chain : StartChain M c ls
+  pub run : StartRun M c ls
   pub within : dm_of M c ≤ limit
-  pub longest : (d : List ℕ) → StartChain M d ls → dm_of M d ≤ limit → dm_of M d ≤ dm_of M c
+  pub longest : (d : List ℕ) → StartRun M d ls → dm_of M d ≤ limit → dm_of M d ≤ dm_of M c
 
 -- of two such runs one is a prefix of the other
 pub record LongestEnd (M : Map) (ls c : List ℕ) : Type 0 where
-  pub chain : EndChain M ls c
+  pub run : EndRun M ls c
   pub within : dm_of M c ≤ limit
-  pub longest : (d : List ℕ) → EndChain M ls d → dm_of M d ≤ limit → dm_of M d ≤ dm_of M c
+  pub longest : (d : List ℕ) → EndRun M ls d → dm_of M d ≤ limit → dm_of M d ≤ dm_of M c
 
 -- a tried run is added if it leads to a valid node; otherwise nothing is added (White Paper, encoding steps; both
 -- limits: profile)

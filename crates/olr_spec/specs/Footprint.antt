@@ -3,28 +3,28 @@
 --     Foot M P v      node v belongs to the footprint of the path
 use Rattle.std.specs.Prelude.{ℕ, ◌+◌, ◌<◌, List, ◌∷◌, length, MatchOption, IsTrue}
 use Rattle.olr_spec.specs.Map.{Map, has}
-use Rattle.olr_spec.specs.Walks.{Reaches}
+use Rattle.olr_spec.specs.Routes.{Reaches}
 use Rattle.olr_spec.specs.Extension.{Path}
 use Rattle.olr_spec.specs.Points.{OfPath}
 use Rattle.olr_spec.specs.Encoding.{path_fault}
-use Rattle.olr_spec.specs.Looks.{NodeOf, Look, IsLook}
+use Rattle.olr_spec.specs.Queries.{NodeOf, CoverageQuery, IsQuery}
 
 -- the search for a coverage query is settled no farther than its length: the standard's 15,000 m limit how far along
 -- the path a position may be, and do not decide whether it is covered
-abbrev pub Sees : Map → Look → ℕ → Type 0
+abbrev pub Sees : Map → CoverageQuery → ℕ → Type 0
 Sees M l v = Reaches M l.from l.within v
 
 -- reached by the coverage query of an LRP whose line is followed by two or more lines; for later LRPs nothing is
 -- searched
 abbrev pub Searched : Map → List ℕ → List ℕ → ℕ → Type 0
 Searched M ls is v =
-    (i : ℕ) × IsTrue (has is i) × (i + 2 < length ls) × ((l : Look) × IsLook M ls i l × Sees M l v)
+    (i : ℕ) × IsTrue (has is i) × (i + 2 < length ls) × ((l : CoverageQuery) × IsQuery M ls i l × Sees M l v)
 
 -- on the extended path, on one of the tried runs, or reached by a coverage query
 pub data Touched (M : Map) (ls b a js : List ℕ) (v : ℕ) : Type 0 where
   On_path : NodeOf M ls v → Touched M ls b a js v
-  On_start_chain : NodeOf M b v → Touched M ls b a js v
-  On_end_chain : NodeOf M a v → Touched M ls b a js v
+  On_start_run : NodeOf M b v → Touched M ls b a js v
+  On_end_run : NodeOf M a v → Touched M ls b a js v
   Within_reach : Searched M ls (0 ∷ js) v → Touched M ls b a js v
 
 abbrev pub FootOf : Map → Path → ℕ → Type 0

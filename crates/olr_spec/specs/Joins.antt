@@ -5,14 +5,14 @@
 --     Joins M ls ks      this holds for each two neighbours of ks
 use Rattle.std.specs.Prelude.{◌≡◌, ℕ, ◌-◌, List, [], ◌∷◌, ◌++◌, slice_index, ◌⊎◌, ⊤}
 use Rattle.olr_spec.specs.Map.{Map, start, end}
-use Rattle.olr_spec.specs.Walks.{Route}
+use Rattle.olr_spec.specs.Routes.{LrpRoute}
 use Rattle.olr_spec.specs.Points.{stretch}
 
 -- the leg from p to q is line p, and the unique shortest path from its end to the start of line q
 abbrev pub JoinsTo : Map → List ℕ → ℕ → ℕ → Type 0
 JoinsTo M ls p q =
     (r : List ℕ) × (stretch ls p q ≡ slice_index ls p ∷ r)
-    × Route M (end M (slice_index ls p)) (start M (slice_index ls q)) r
+    × LrpRoute M (end M (slice_index ls p)) (start M (slice_index ls q)) r
 
 -- the last leg: line p alone, or line p, the unique shortest path from its end to the start of the last line, and that
 -- line
@@ -20,7 +20,7 @@ abbrev pub JoinsLast : Map → List ℕ → ℕ → ℕ → Type 0
 JoinsLast M ls p q =
     (stretch ls p q ≡ slice_index ls p ∷ [])
     ⊎ ((r : List ℕ) × (stretch ls p q ≡ slice_index ls p ∷ (r ++ slice_index ls (q - 1) ∷ []))
-    × Route M (end M (slice_index ls p)) (start M (slice_index ls (q - 1))) r)
+    × LrpRoute M (end M (slice_index ls p)) (start M (slice_index ls (q - 1))) r)
 
 -- for each two neighbours of the remaining LRPs
 abbrev pub Joins : Map → List ℕ → List ℕ → Type 0

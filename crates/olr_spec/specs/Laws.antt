@@ -2,7 +2,8 @@
 -- references and bytes.
 --     maps       the lists of lines in and out of a node are in ascending order and complete; an accepted edit keeps a
 --         map sound
---     walks      there is at most one shortest path and one unique shortest path, and their prefixes are such paths too
+--     routes      there is at most one shortest path and one unique shortest path, and their prefixes are such paths
+--         too
 --     answers    a path has exactly one answer; its reference fits its bits; the routes between its LRPs join to the
 --         path
 --     bytes      a direction has one sector, a reference encodes as one sequence of bytes, and bytes have one reference
@@ -10,37 +11,39 @@
 --     locality   an answer depends on its footprint alone
 --     changes    what edits change, and which routes they can affect
 --     receivers      what every receiver recovers from a reference, and where the nearest node is that of the LRP
---     looks      a path has one list of coverage queries; if changes affect neither these nor its traversed nodes, its
+--     queries      a path has one list of coverage queries; if changes affect neither these nor its traversed nodes,
+--         its
 --         answer is retained
-use Rattle.std.specs.Prelude.{◌≡◌, ℕ, ◌+◌, ◌*◌, ◌<◌, ◌≤◌, ℤ, pos, List, [], ◌++◌, length, map, Option, Some, None, is_some, All}
+use Rattle.std.specs.Prelude.{◌≡◌, ℕ, ◌+◌, ◌*◌, ◌<◌, ◌≤◌, ℤ, pos, List, [], ◌++◌, length, map, Option, Some, None}
+use Rattle.std.specs.Prelude.{is_some, All}
 use Rattle.std.specs.Prelude.{Contains, Ok, ◌↔◌, ◌⊎◌, IsTrue, IsFalse}
 use Rattle.std.specs.List.{AllByRecursion, AllZip, concat}
 use Rattle.std.specs.List.Sorted.{IsStrictlyIncreasing}
-use Rattle.olr_spec.specs.Map.{Map, empty_map, IsMap, Line, has_line, place_at, lines_in, lines_out, Edit, edited}
-use Rattle.olr_spec.specs.Map.{touched_nodes, touched_lines, Enters, Leaves, Agree, SameLine, SameRound, has, HasPlace}
-use Rattle.olr_spec.specs.Walks.{Walk, dm_of, Least, Sole}
+use Rattle.olr_spec.specs.Map.{Map, empty_map, IsMap, Line, has_line, coord_at, lines_in, lines_out, Edit, edited}
+use Rattle.olr_spec.specs.Map.{touched_nodes, touched_lines, Enters, Leaves, Agree, SameLine, SameRound, has, HasCoord}
+use Rattle.olr_spec.specs.Routes.{IsRoute, dm_of, Least, UniqueShortest}
 use Rattle.olr_spec.specs.Labels.{Settled}
 use Rattle.olr_spec.specs.Extension.{Path, is_path, first, last, LongestStart, LongestEnd, limit}
 use Rattle.olr_spec.specs.Points.{stretch, Covered, Next, Follow, last_position}
 use Rattle.olr_spec.specs.Bearings.{IsSector, sector}
 use Rattle.olr_spec.specs.Reference.{Reference, leg, legs, first_kept, last_kept, kept_points}
 use Rattle.olr_spec.specs.Encoding.{Answer, Points, Encodes, IsPoint}
-use Rattle.olr_spec.specs.Bytes.{IsReference, Spells, v3_fault}
+use Rattle.olr_spec.specs.Bytes.{IsReference, HasBytes, v3_fault}
 use Rattle.olr_spec.specs.Decoded.{decoded, IsNear}
 use Rattle.olr_spec.specs.Joins.{Joins}
 use Rattle.olr_spec.specs.Receiver.{Outgoing, Incoming, Measure, Receiver, Recovers, attributes, candidates}
-use Rattle.olr_spec.specs.Receiver.{last_place, decoded_place, is_nearest}
+use Rattle.olr_spec.specs.Receiver.{last_number, decoded_coord, is_nearest}
 use Rattle.olr_spec.specs.Recovery.{Distinct, IsLineAt, IsStretches, IsKeptPart, IsLeft, IsCut, IsClose, IsStep}
 use Rattle.olr_spec.specs.Recovery.{IsWeighted, are_spaced, lon_apart, lat_apart}
 use Rattle.olr_spec.specs.Footprint.{Sees, Foot}
-use Rattle.olr_spec.specs.Detours.{ChangedLine, changes_of, Tells, Difference, Detour, Near}
-use Rattle.olr_spec.specs.Looks.{OwnOf, IsLastTested, Look, look_to, LooksOf, IsClear}
+use Rattle.olr_spec.specs.Detours.{ChangedLine, changes_of, AccountsFor, Difference, Detour, Near}
+use Rattle.olr_spec.specs.Queries.{TraversedOf, IsLastTested, CoverageQuery, query_to, QueriesOf, IsClear}
 
 -- ---- maps
 
 -- the lists of the lines that enter and leave a node are in ascending order
-abbrev pub LinesRise : Type 0
-LinesRise = (M : Map) (v : ℕ) → IsStrictlyIncreasing (lines_in M v) × IsStrictlyIncreasing (lines_out M v)
+abbrev pub LinesAscend : Type 0
+LinesAscend = (M : Map) (v : ℕ) → IsStrictlyIncreasing (lines_in M v) × IsStrictlyIncreasing (lines_out M v)
 
 -- and hold exactly these lines
 abbrev pub LinesIn : Type 0
@@ -51,7 +54,7 @@ LinesOut = (M : Map) (v x : ℕ) → IsTrue (has (lines_out M v) x) ↔ ((l : Li
 
 -- an accepted edit keeps a map sound, if each coordinate that it adds is in range
 abbrev pub EditsKeep : Type 0
-EditsKeep = (M N : Map) (e : Edit) → IsMap M → HasPlace e → edited M e ≡ Ok N → IsMap N
+EditsKeep = (M N : Map) (e : Edit) → IsMap M → HasCoord e → edited M e ≡ Ok N → IsMap N
 
 -- one edit restores the map from before an accepted edit
 abbrev pub EditsUndo : Type 0
@@ -66,7 +69,7 @@ EmptyIsSound = IsMap empty_map
 -- of two different, equally long routes neither is a suffix of the other
 abbrev pub NoLongerSuffix : Type 0
 NoLongerSuffix =
-    (M : Map) → IsMap M → (s t : ℕ) (front xs : List ℕ) → Walk M s t (front ++ xs) →
+    (M : Map) → IsMap M → (s t : ℕ) (front xs : List ℕ) → IsRoute M s t (front ++ xs) →
     dm_of M (front ++ xs) ≡ dm_of M xs → front ≡ []
 
 -- at most one route is the shortest path
@@ -76,28 +79,30 @@ OneLeast = (M : Map) → IsMap M → (s t : ℕ) (xs ys : List ℕ) → Least M 
 -- a prefix of the shortest path is the shortest path to its own end
 abbrev pub PrefixOfLeast : Type 0
 PrefixOfLeast =
-    (M : Map) (s v t : ℕ) (xs ys : List ℕ) → Least M s t (xs ++ ys) → Walk M s v xs → Walk M v t ys → Least M s v xs
+    (M : Map) (s v t : ℕ) (xs ys : List ℕ) → Least M s t (xs ++ ys) → IsRoute M s v xs → IsRoute M v t ys →
+    Least M s v xs
 
 -- from a node to itself the shortest path is the empty route
 abbrev pub EmptyIsLeast : Type 0
 EmptyIsLeast = (M : Map) (s : ℕ) → Least M s s []
 
 -- a unique shortest path is the shortest path
-abbrev pub SoleIsLeast : Type 0
-SoleIsLeast = (M : Map) (s t : ℕ) (xs : List ℕ) → Sole M s t xs → Least M s t xs
+abbrev pub UniqueIsLeast : Type 0
+UniqueIsLeast = (M : Map) (s t : ℕ) (xs : List ℕ) → UniqueShortest M s t xs → Least M s t xs
 
 -- at most one route is the unique shortest path
-abbrev pub OneSole : Type 0
-OneSole = (M : Map) (s t : ℕ) (xs ys : List ℕ) → Sole M s t xs → Sole M s t ys → xs ≡ ys
+abbrev pub OneUnique : Type 0
+OneUnique = (M : Map) (s t : ℕ) (xs ys : List ℕ) → UniqueShortest M s t xs → UniqueShortest M s t ys → xs ≡ ys
 
 -- a prefix of the unique shortest path is the unique shortest path to its own end
-abbrev pub PrefixOfSole : Type 0
-PrefixOfSole =
-    (M : Map) (s v t : ℕ) (xs ys : List ℕ) → Sole M s t (xs ++ ys) → Walk M s v xs → Walk M v t ys → Sole M s v xs
+abbrev pub PrefixOfUnique : Type 0
+PrefixOfUnique =
+    (M : Map) (s v t : ℕ) (xs ys : List ℕ) → UniqueShortest M s t (xs ++ ys) → IsRoute M s v xs → IsRoute M v t ys →
+    UniqueShortest M s v xs
 
 -- from a node to itself the empty route is the unique shortest path
-abbrev pub EmptyIsSole : Type 0
-EmptyIsSole = (M : Map) → IsMap M → (s : ℕ) → Sole M s s []
+abbrev pub EmptyIsUnique : Type 0
+EmptyIsUnique = (M : Map) → IsMap M → (s : ℕ) → UniqueShortest M s s []
 
 -- ---- labels
 
@@ -111,19 +116,19 @@ SettledIsLeast =
 abbrev pub SettledReaches : Type 0
 SettledReaches =
     (M : Map) → IsMap M → (s limit : ℕ) (dist : ℕ → Option ℕ) (trace : ℕ → List ℕ) → Settled M s limit dist trace
-    → (v : ℕ) (ys : List ℕ) → Walk M s v ys → dm_of M ys ≤ limit → (d : ℕ) × (dist v ≡ Some d)
+    → (v : ℕ) (ys : List ℕ) → IsRoute M s v ys → dm_of M ys ≤ limit → (d : ℕ) × (dist v ≡ Some d)
 
 -- ---- answers
 
 -- at most one run is the longest at the start of a list of lines
-abbrev pub OneStartChain : Type 0
-OneStartChain =
+abbrev pub OneStartRun : Type 0
+OneStartRun =
     (M : Map) → IsMap M → (ls c d : List ℕ) → IsTrue (has_line M (first ls)) → LongestStart M c ls →
     LongestStart M d ls → c ≡ d
 
 -- at most one run is the longest at its end
-abbrev pub OneEndChain : Type 0
-OneEndChain =
+abbrev pub OneEndRun : Type 0
+OneEndRun =
     (M : Map) → IsMap M → (ls c d : List ℕ) → IsTrue (has_line M (last ls)) → LongestEnd M ls c → LongestEnd M ls d →
     c ≡ d
 
@@ -169,7 +174,7 @@ RoutesJoin =
 abbrev pub DecodedNear : Type 0
 DecodedNear =
     (M : Map) → IsMap M → (P : Path) → IsTrue (is_path P.lines) → (r : Reference) → Encodes M P (Points r)
-    → (k v : ℕ) → IsPoint M P k v → (p : ℤ × ℤ) × (decoded r k ≡ Some p) × IsNear k p (place_at M v)
+    → (k v : ℕ) → IsPoint M P k v → (p : ℤ × ℤ) × (decoded r k ≡ Some p) × IsNear k p (coord_at M v)
 
 -- and nothing but these LRPs is decoded
 abbrev pub DecodedPoints : Type 0
@@ -214,12 +219,12 @@ abbrev pub Nearest : Type 0
 Nearest =
     (M : Map) → IsMap M → (P : Path) → IsTrue (is_path P.lines) → (r : Reference) → Encodes M P (Points r)
     → (n d scale : ℕ) (far : Measure) → IsWeighted n d scale far
-    → ((k x : ℕ) → k < last_place r → IsLineAt M P Outgoing k x →
+    → ((k x : ℕ) → k < last_number r → IsLineAt M P Outgoing k x →
     IsTrue (are_spaced n d k Outgoing (leg M x) (candidates M)) →
-    IsTrue (is_nearest far Outgoing (decoded_place r k) (leg M x) (candidates M)))
-    × ((x : ℕ) → IsLineAt M P Incoming (last_place r) x →
-    IsTrue (are_spaced n d (last_place r) Incoming (leg M x) (candidates M)) →
-    IsTrue (is_nearest far Incoming (decoded_place r (last_place r)) (leg M x) (candidates M)))
+    IsTrue (is_nearest far Outgoing (decoded_coord r k) (leg M x) (candidates M)))
+    × ((x : ℕ) → IsLineAt M P Incoming (last_number r) x →
+    IsTrue (are_spaced n d (last_number r) Incoming (leg M x) (candidates M)) →
+    IsTrue (is_nearest far Incoming (decoded_coord r (last_number r)) (leg M x) (candidates M)))
 
 -- the weighted sum of both axes is such a measure
 abbrev pub SomeWeighted : Type 0
@@ -237,16 +242,16 @@ abbrev pub SomeSector : Type 0
 SomeSector = (east north : ℤ) → ¬ ((east ≡ pos 0) × (north ≡ pos 0)) → IsSector east north (sector east north)
 
 -- a reference encodes as at most one sequence of bytes, and as one if its fields fit their bits
-abbrev pub OneSpelling : Type 0
-OneSpelling = (r : Reference) (b c : List ℕ) → Spells r b → Spells r c → b ≡ c
+abbrev pub OneByteForm : Type 0
+OneByteForm = (r : Reference) (b c : List ℕ) → HasBytes r b → HasBytes r c → b ≡ c
 
 -- no bytes decode to two references
-abbrev pub OneSpelled : Type 0
-OneSpelled = (r s : Reference) (b : List ℕ) → Spells r b → Spells s b → r ≡ s
+abbrev pub OneDecoding : Type 0
+OneDecoding = (r s : Reference) (b : List ℕ) → HasBytes r b → HasBytes s b → r ≡ s
 
 -- and bytes have no fault exactly if some reference encodes as them
 abbrev pub NoFault : Type 0
-NoFault = (b : List ℕ) → All (λ byte. byte < 256) b → (v3_fault b ≡ None) ↔ ((r : Reference) × Spells r b)
+NoFault = (b : List ℕ) → All (λ byte. byte < 256) b → (v3_fault b ≡ None) ↔ ((r : Reference) × HasBytes r b)
 
 -- ---- locality
 
@@ -288,16 +293,16 @@ DifferencesAdd =
     Difference (T ++ U) (X ++ Y) (C ++ D) L N
 
 -- if one of two maps has no detour within a length, the routes within this length are the same on both
-abbrev pub WalksStay : Type 0
-WalksStay =
-    (M N : Map) (C : List ChangedLine) (s t d : ℕ) → Tells C M N → Tells C N M → ¬ Detour N C s t d
-    → (xs : List ℕ) → ((Walk M s t xs × (dm_of M xs ≤ d)) ↔ (Walk N s t xs × (dm_of N xs ≤ d)))
+abbrev pub AllRoutesStay : Type 0
+AllRoutesStay =
+    (M N : Map) (C : List ChangedLine) (s t d : ℕ) → AccountsFor C M N → AccountsFor C N M → ¬ Detour N C s t d
+    → (xs : List ℕ) → ((IsRoute M s t xs × (dm_of M xs ≤ d)) ↔ (IsRoute N s t xs × (dm_of N xs ≤ d)))
 
 -- so a route of the same length on both maps is the unique shortest path on both or on neither
 abbrev pub SolesStay : Type 0
 SolesStay =
-    (M N : Map) (C : List ChangedLine) (s t d : ℕ) → Tells C M N → Tells C N M → ¬ Detour N C s t d
-    → (xs : List ℕ) → dm_of M xs ≡ dm_of N xs → dm_of M xs ≤ d → Sole M s t xs ↔ Sole N s t xs
+    (M N : Map) (C : List ChangedLine) (s t d : ℕ) → AccountsFor C M N → AccountsFor C N M → ¬ Detour N C s t d
+    → (xs : List ℕ) → dm_of M xs ≡ dm_of N xs → dm_of M xs ≤ d → UniqueShortest M s t xs ↔ UniqueShortest N s t xs
 
 -- a touched node is near on both maps or on neither
 abbrev pub NearStays : Type 0
@@ -315,54 +320,59 @@ abbrev pub SomeLastTested : Type 0
 SomeLastTested = (M : Map) → IsMap M → (ls : List ℕ) (i : ℕ) → i + 1 < length ls → (k : ℕ) × IsLastTested M ls i k
 
 -- so a path has exactly one list of coverage queries
-abbrev pub OneLooks : Type 0
-OneLooks =
-    (M : Map) → IsMap M → (P : Path) → IsTrue (is_path P.lines) → (ks ls : List Look) → LooksOf M P ks →
-    LooksOf M P ls → ks ≡ ls
+abbrev pub OneQueries : Type 0
+OneQueries =
+    (M : Map) → IsMap M → (P : Path) → IsTrue (is_path P.lines) → (ks ls : List CoverageQuery) → QueriesOf M P ks →
+    QueriesOf M P ls → ks ≡ ls
 
-abbrev pub SomeLooks : Type 0
-SomeLooks = (M : Map) → IsMap M → (P : Path) → IsTrue (is_path P.lines) → (looks : List Look) × LooksOf M P looks
+abbrev pub SomeQueries : Type 0
+SomeQueries = (M : Map) → IsMap M → (P : Path) → IsTrue (is_path P.lines) → (queries : List CoverageQuery)
+    × QueriesOf M P queries
 
 -- the footprint is the traversed nodes, and the nodes that the coverage queries reach
-abbrev pub FootIsLooked : Type 0
-FootIsLooked =
-    (M : Map) → IsMap M → (P : Path) → IsTrue (is_path P.lines) → (looks : List Look) → LooksOf M P looks
-    → (v : ℕ) → Foot M P v ↔ (OwnOf M P v ⊎ ((l : Look) × Contains looks l × Sees M l v))
+abbrev pub FootIsQueried : Type 0
+FootIsQueried =
+    (M : Map) → IsMap M → (P : Path) → IsTrue (is_path P.lines) → (queries : List CoverageQuery) → QueriesOf M P queries
+    → (v : ℕ) → Foot M P v ↔ (TraversedOf M P v ⊎ ((l : CoverageQuery) × Contains queries l × Sees M l v))
 
 -- so a footprint has a touched node exactly if a traversed node is touched, or a coverage query reaches a touched node
 -- on the changed map
-abbrev pub FootConcerned : Type 0
-FootConcerned =
+abbrev pub FootAffected : Type 0
+FootAffected =
     (M N : Map) → IsMap M → (T : List ℕ) → ((v : ℕ) → IsFalse (has T v) → SameRound M N v)
-    → (P : Path) → IsTrue (is_path P.lines) → (looks : List Look) → LooksOf M P looks
+    → (P : Path) → IsTrue (is_path P.lines) → (queries : List CoverageQuery) → QueriesOf M P queries
     → ((v : ℕ) × IsTrue (has T v) × Foot M P v) ↔
-    (((v : ℕ) × IsTrue (has T v) × OwnOf M P v) ⊎ ((l : Look) × Contains looks l × Near N T l.from l.within))
+    (((v : ℕ) × IsTrue (has T v) × TraversedOf M P v) ⊎ ((l : CoverageQuery) × Contains queries l
+    × Near N T l.from l.within))
 
 -- if the coverage query from line i is clear, it is the same on both maps, and of the positions that are near enough
 -- the same are covered on both
-abbrev pub LooksStay : Type 0
-LooksStay =
-    (M N : Map) (C : List ChangedLine) → Tells C M N → Tells C N M
-    → (ls : List ℕ) → AllByRecursion (SameLine M N) ls → (s t : ℕ) → Walk M s t ls → (i k : ℕ) → IsLastTested M ls i k →
-    IsClear N C (look_to M ls i k)
-    → IsLastTested N ls i k × (look_to M ls i k ≡ look_to N ls i k)
+abbrev pub QueriesStay : Type 0
+QueriesStay =
+    (M N : Map) (C : List ChangedLine) → AccountsFor C M N → AccountsFor C N M
+    → (ls : List ℕ) → AllByRecursion (SameLine M N) ls → (s t : ℕ) → IsRoute M s t ls → (i k : ℕ) →
+    IsLastTested M ls i k →
+    IsClear N C (query_to M ls i k)
+    → IsLastTested N ls i k × (query_to M ls i k ≡ query_to N ls i k)
     × ((j : ℕ) → i < j → j ≤ length ls → dm_of M (stretch ls i j) ≤ limit → Covered M ls i j ↔ Covered N ls i j)
 
 -- if no traversed node of a path is touched, none of its lines is different, and each of its coverage queries is clear,
 -- then its answer, traversed nodes and coverage queries are the same on both maps
-abbrev pub AnswersKept : Type 0
-AnswersKept =
-    (M N : Map) → IsMap M → IsMap N → (C : List ChangedLine) → Tells C M N → Tells C N M
+abbrev pub AnswersRetained : Type 0
+AnswersRetained =
+    (M N : Map) → IsMap M → IsMap N → (C : List ChangedLine) → AccountsFor C M N → AccountsFor C N M
     → (P : Path) → IsTrue (is_path P.lines) → AllByRecursion (SameLine M N) P.lines →
-    ((v : ℕ) → OwnOf M P v → SameRound M N v)
-    → (looks : List Look) → LooksOf M P looks → All (IsClear N C) looks
-    → ((A : Answer) → Encodes M P A → Encodes N P A) × ((v : ℕ) → OwnOf M P v ↔ OwnOf N P v) × LooksOf N P looks
+    ((v : ℕ) → TraversedOf M P v → SameRound M N v)
+    → (queries : List CoverageQuery) → QueriesOf M P queries → All (IsClear N C) queries
+    → ((A : Answer) → Encodes M P A → Encodes N P A) × ((v : ℕ) → TraversedOf M P v ↔ TraversedOf N P v)
+    × QueriesOf N P queries
 
 -- the same conclusion from what the edits touch and change
-abbrev pub UntouchedKept : Type 0
-UntouchedKept =
+abbrev pub UntouchedRetained : Type 0
+UntouchedRetained =
     (M N : Map) → IsMap M → IsMap N → (T X : List ℕ) (C : List ChangedLine) → Difference T X C M N
     → (P : Path) → IsTrue (is_path P.lines) → ((x : ℕ) → IsTrue (has X x) → IsFalse (has P.lines x)) →
-    ((v : ℕ) → IsTrue (has T v) → ¬ OwnOf M P v)
-    → (looks : List Look) → LooksOf M P looks → All (IsClear N C) looks
-    → ((A : Answer) → Encodes M P A → Encodes N P A) × ((v : ℕ) → OwnOf M P v ↔ OwnOf N P v) × LooksOf N P looks
+    ((v : ℕ) → IsTrue (has T v) → ¬ TraversedOf M P v)
+    → (queries : List CoverageQuery) → QueriesOf M P queries → All (IsClear N C) queries
+    → ((A : Answer) → Encodes M P A → Encodes N P A) × ((v : ℕ) → TraversedOf M P v ↔ TraversedOf N P v)
+    × QueriesOf N P queries

@@ -1,7 +1,7 @@
 pub mod Coordinates
 pub mod Degrees
 pub mod Map
-pub mod Walks
+pub mod Routes
 pub mod Labels
 pub mod Extension
 pub mod Points
@@ -12,7 +12,7 @@ pub mod Bytes
 pub mod Decoded
 pub mod Joins
 pub mod Detours
-pub mod Looks
+pub mod Queries
 pub mod Footprint
 pub mod Receiver
 pub mod Recovery

@@ -7,7 +7,7 @@
 --     lines_in M v, lines_out M v      the lines that enter and leave v, in ascending order
 --     Edit, edited M e      an edit; the map after it, or the first fault
 --     touched_nodes M e, touched_lines e      the nodes and lines that it touches
---     HasPlace e      each coordinate that the edit adds is in range
+--     HasCoord e      each coordinate that the edit adds is in range
 --     has xs x      whether x is one of xs
 --     Agree M N P F      the maps are the same around the nodes of F and in the lines of the list P
 use Rattle.std.specs.Prelude.{◌≡◌, ℕ, pos, Bool, true, not, cond, ◌&&◌, ◌||◌, List, [], ◌∷◌, length, map, filter, Some}
@@ -45,16 +45,16 @@ abbrev pub empty_map : Map
 empty_map = record { nodes = empty; lines = empty }
 
 -- the distances increase strictly, and are strictly between low and high
-abbrev pub rises_between : ℕ → List ShapePoint → ℕ → Bool
-rises_between low [] high = true
-rises_between low (s ∷ ss) high = nat_lt low s.at && nat_lt s.at high && rises_between s.at ss high
+abbrev pub ascends_between : ℕ → List ShapePoint → ℕ → Bool
+ascends_between low [] high = true
+ascends_between low (s ∷ ss) high = nat_lt low s.at && nat_lt s.at high && ascends_between s.at ss high
 
 -- a line may end at its start node, and several lines may join the same two nodes; at most 100 km and 1,000 shape
 -- points (profile)
 abbrev pub is_good : Line → Bool
 is_good l =
     nat_le l.frc 7 && nat_le l.fow 7 && nat_le 1 l.len && nat_le l.len 1000000 && nat_le (length l.shape) 1000
-    && rises_between 0 l.shape l.len
+    && ascends_between 0 l.shape l.len
 
 -- each shape point has a coordinate in range
 abbrev pub are_coords : List ShapePoint → Bool
@@ -70,14 +70,14 @@ has_line M x = is_some (get M.lines x)
 abbrev pub no_line : Line
 no_line = record { from = 0; to = 0; frc = 0; fow = 0; len = 0; shape = [] }
 
-abbrev pub no_place : Coord
-no_place = record { lon = pos 0; lat = pos 0 }
+abbrev pub no_coord : Coord
+no_coord = record { lon = pos 0; lat = pos 0 }
 
 abbrev pub line_at : Map → ℕ → Line
 line_at M x = unwrap_or (get M.lines x) no_line
 
-abbrev pub place_at : Map → ℕ → Coord
-place_at M v = unwrap_or (get M.nodes v) no_place
+abbrev pub coord_at : Map → ℕ → Coord
+coord_at M v = unwrap_or (get M.nodes v) no_coord
 
 -- the start node of line x, its end node, and its length
 abbrev pub start : Map → ℕ → ℕ
@@ -94,7 +94,7 @@ pub record IsMap (M : Map) : Type 0 where
   pub good : (x : ℕ) → IsTrue (has_line M x) → IsTrue (is_good (line_at M x))
   pub starts : (x : ℕ) → IsTrue (has_line M x) → IsTrue (has_node M (start M x))
   pub ends : (x : ℕ) → IsTrue (has_line M x) → IsTrue (has_node M (end M x))
-  pub places : (v : ℕ) → IsTrue (has_node M v) → IsTrue (is_coord (place_at M v))
+  pub places : (v : ℕ) → IsTrue (has_node M v) → IsTrue (is_coord (coord_at M v))
   pub shapes : (x : ℕ) → IsTrue (has_line M x) → IsTrue (are_coords (line_at M x).shape)
 
 -- the numbers of the lines that pass the test, in ascending order
@@ -120,12 +120,12 @@ pub data Edit : Type 0 where
   Drop_line : (number : ℕ) → Edit
 
 -- each coordinate that an edit adds is in range
-abbrev pub HasPlace : Edit → Type 0
-HasPlace (Add_node v c) = IsTrue (is_coord c)
-HasPlace (Move_node v c) = IsTrue (is_coord c)
-HasPlace (Add_line x l) = IsTrue (are_coords l.shape)
-HasPlace (Set_line x frc fow len shape) = IsTrue (are_coords shape)
-HasPlace _ = ⊤
+abbrev pub HasCoord : Edit → Type 0
+HasCoord (Add_node v c) = IsTrue (is_coord c)
+HasCoord (Move_node v c) = IsTrue (is_coord c)
+HasCoord (Add_line x l) = IsTrue (are_coords l.shape)
+HasCoord (Set_line x frc fow len shape) = IsTrue (are_coords shape)
+HasCoord _ = ⊤
 
 pub data MapFault : Type 0 where
   Node_exists No_node Line_exists No_line Node_in_use Bad_shape : MapFault

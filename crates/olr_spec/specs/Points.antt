@@ -8,8 +8,8 @@
 use Rattle.std.specs.Prelude.{◌≡◌, ℕ, ◌+◌, ◌-◌, ◌<◌, ◌≤◌, min, Bool, ◌&&◌, List, [], ◌∷◌, length, nat_lt, slice_index}
 use Rattle.std.specs.Prelude.{slice_range, if◌then◌else◌, IsTrue, IsFalse}
 use Rattle.olr_spec.specs.Coordinates.{Coord, relative, fits16}
-use Rattle.olr_spec.specs.Map.{Map, start, end, place_at}
-use Rattle.olr_spec.specs.Walks.{dm_of, Route}
+use Rattle.olr_spec.specs.Map.{Map, start, end, coord_at}
+use Rattle.olr_spec.specs.Routes.{dm_of, LrpRoute}
 use Rattle.olr_spec.specs.Extension.{Path, Tried, extended_path, passing, last, limit}
 
 -- the node at position i
@@ -26,7 +26,7 @@ stretch ls i j = slice_range ls i j
 abbrev pub Covered : Map → List ℕ → ℕ → ℕ → Type 0
 Covered M ls i j =
     let m = min j (length ls - 1) in
-    i < m → Route M (end M (slice_index ls i)) (start M (slice_index ls m)) (stretch ls (i + 1) m)
+    i < m → LrpRoute M (end M (slice_index ls i)) (start M (slice_index ls m)) (stretch ls (i + 1) m)
 
 -- the relative coordinates from p to q fit 16 bits each (White Paper, binary format)
 abbrev pub fit16 : Coord → Coord → Bool
@@ -38,7 +38,7 @@ pub record Candidate (M : Map) (ls : List ℕ) (i j : ℕ) : Type 0 where
   pub upto : j ≤ length ls
   pub covered : Covered M ls i j
   pub near : dm_of M (stretch ls i j) ≤ limit
-  pub fits : IsTrue (fit16 (place_at M (node_at M ls i)) (place_at M (node_at M ls j)))
+  pub fits : IsTrue (fit16 (coord_at M (node_at M ls i)) (coord_at M (node_at M ls j)))
 
 -- a candidate at a valid node
 abbrev pub ValidCandidate : Map → List ℕ → ℕ → ℕ → Type 0

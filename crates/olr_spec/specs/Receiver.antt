@@ -13,7 +13,7 @@ use Rattle.std.specs.Prelude.{◌++◌, map, length, nat_lt, ◌==◌, unwrap_or
 use Rattle.std.specs.List.{list_all, AllByRecursion}
 use Rattle.olr_spec.specs.Coordinates.{Coord}
 use Rattle.olr_spec.specs.Map.{Map, has_line, line_at, lines_where, start, end}
-use Rattle.olr_spec.specs.Walks.{Walk, dm_of}
+use Rattle.olr_spec.specs.Routes.{IsRoute, dm_of}
 use Rattle.olr_spec.specs.Bearings.{Leg, bearing_out, bearing_back}
 use Rattle.olr_spec.specs.Reference.{Attrs, Reference, leg}
 use Rattle.olr_spec.specs.Decoded.{decoded}
@@ -50,22 +50,22 @@ pub record Lrp : Type 0 where
   pub bearing : ℕ
 
 -- the decoded coordinate of LRP k, if the reference has it; otherwise (0, 0)
-abbrev pub decoded_place : Reference → ℕ → ℤ × ℤ
-decoded_place r k = unwrap_or (decoded r k) (pos 0, pos 0)
+abbrev pub decoded_coord : Reference → ℕ → ℤ × ℤ
+decoded_coord r k = unwrap_or (decoded r k) (pos 0, pos 0)
 
 -- LRP k with its attributes
 abbrev pub lrp_at : Reference → ℕ → Attrs → Lrp
 lrp_at r k a =
-    record { side = Outgoing; place = decoded_place r k; frc = a.frc; fow = a.fow; bearing = a.bearing }
+    record { side = Outgoing; place = decoded_coord r k; frc = a.frc; fow = a.fow; bearing = a.bearing }
 
-abbrev pub last_place : Reference → ℕ
-last_place r = length r.middle + 1
+abbrev pub last_number : Reference → ℕ
+last_number r = length r.middle + 1
 
 abbrev pub last_lrp : Reference → Lrp
 last_lrp r =
     record {
       side = Incoming;
-      place = decoded_place r (last_place r);
+      place = decoded_coord r (last_number r);
       frc = r.last.frc;
       fow = r.last.fow;
       bearing = r.last.bearing;
@@ -138,9 +138,9 @@ Within M c xs = AllByRecursion (λ x. (line_at M x).frc ≤ c) xs
 
 -- a route over such lines, and no other is shorter
 pub record Shortest (M : Map) (c s t : ℕ) (xs : List ℕ) : Type 0 where
-  pub walk : Walk M s t xs
+  pub route : IsRoute M s t xs
   pub within : Within M c xs
-  pub first : (ys : List ℕ) → Walk M s t ys → Within M c ys → dm_of M xs ≤ dm_of M ys
+  pub first : (ys : List ℕ) → IsRoute M s t ys → Within M c ys → dm_of M xs ≤ dm_of M ys
 
 -- from line x up to line y, both of which leave their LRP: x, and a shortest route from its end to the start of y
 abbrev pub RecoversTo : Map → ℕ → ℕ → ℕ → List ℕ → Type 0

@@ -22,8 +22,9 @@ use Rattle.olr_spec.specs.Bearings.{Leg}
 use Rattle.olr_spec.specs.Reference.{Attrs, Reference, leg, legs, from_front, to_back, first_kept, last_kept}
 use Rattle.olr_spec.specs.Reference.{kept_points}
 use Rattle.olr_spec.specs.Decoded.{decoded_bound}
-use Rattle.olr_spec.specs.Receiver.{Side, Outgoing, Incoming, node_on, coordinate_on, Measure, candidates, decoded_place}
-use Rattle.olr_spec.specs.Receiver.{last_place, is_nearest, has_no_twin}
+use Rattle.olr_spec.specs.Receiver.{Side, Outgoing, Incoming, node_on, coordinate_on, Measure, candidates}
+use Rattle.olr_spec.specs.Receiver.{decoded_coord}
+use Rattle.olr_spec.specs.Receiver.{last_number, is_nearest, has_no_twin}
 
 -- the line that leaves position i, or the line that enters it
 abbrev pub line_by : Side → List ℕ → ℕ → ℕ
@@ -42,8 +43,8 @@ pub record DistinctAt (far : Measure) (M : Map) (P : Path) (s : Side) (k : ℕ) 
 
 -- at each LRP of the reference r
 pub record Distinct (far : Measure) (M : Map) (P : Path) (r : Reference) : Type 0 where
-  pub outgoing : (k : ℕ) → k < last_place r → DistinctAt far M P Outgoing k (decoded_place r k)
-  pub incoming : DistinctAt far M P Incoming (last_place r) (decoded_place r (last_place r))
+  pub outgoing : (k : ℕ) → k < last_number r → DistinctAt far M P Outgoing k (decoded_coord r k)
+  pub incoming : DistinctAt far M P Incoming (last_number r) (decoded_coord r (last_number r))
 
 -- ---- what is recovered
 

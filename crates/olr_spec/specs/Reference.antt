@@ -10,7 +10,7 @@ use Rattle.std.specs.Prelude.{ℕ, ◌+◌, ◌-◌, ◌*◌, ◌/◌, max, ℤ,
 use Rattle.std.specs.Prelude.{fold, nat_lt, nat_le, ◌==◌, slice_index_or, slice_range, Option, Some, None}
 use Rattle.std.specs.Prelude.{if◌then◌else◌}
 use Rattle.olr_spec.specs.Coordinates.{Coord, abs24, relative}
-use Rattle.olr_spec.specs.Map.{Map, line_at, place_at, no_line, no_place}
+use Rattle.olr_spec.specs.Map.{Map, line_at, coord_at, no_line, no_coord}
 use Rattle.olr_spec.specs.Bearings.{Leg, bearing_out, bearing_back}
 
 -- for each LRP but the last: FRC and FOW of the line that leaves it, the lowest FRC to the next point (LFRCNP, the
@@ -54,14 +54,14 @@ pub record Reference : Type 0 where
 
 -- line x with the coordinates of its ends
 abbrev pub leg : Map → ℕ → Leg
-leg M x = record { line = line_at M x; begin = place_at M (line_at M x).from; finish = place_at M (line_at M x).to }
+leg M x = record { line = line_at M x; begin = coord_at M (line_at M x).from; finish = coord_at M (line_at M x).to }
 
 abbrev pub legs : Map → List ℕ → List Leg
 legs M ls = map (leg M) ls
 
 -- the default for a line that isn't in the list
 abbrev pub no_leg : Leg
-no_leg = record { line = no_line; begin = no_place; finish = no_place }
+no_leg = record { line = no_line; begin = no_coord; finish = no_coord }
 
 abbrev pub leg_at : List Leg → ℕ → Leg
 leg_at gs i = slice_index_or gs i no_leg

@@ -2,8 +2,8 @@
 //!
 //! A road map, a path, a reference and its bytes are mathematical values here: finite maps, lists
 //! and whole numbers. The contracts of the other crates refer to these definitions; nothing here is
-//! executed. In reading order: `Coordinates`, `Degrees`, `Map`, `Walks`, `Labels`, `Extension`,
-//! `Points`, `Bearings`, `Reference`, `Encoding`, `Bytes`, `Decoded`, `Joins`, `Detours`, `Looks`,
+//! executed. In reading order: `Coordinates`, `Degrees`, `Map`, `Routes`, `Labels`, `Extension`,
+//! `Points`, `Bearings`, `Reference`, `Encoding`, `Bytes`, `Decoded`, `Joins`, `Detours`, `Queries`,
 //! `Footprint`, `Receiver`, `Recovery`, and `Laws`, which says what follows from them. `Codes`
 //! defines how the values are stored, for the compiler, and `Rows` has the values of the worked
 //! rows.
@@ -17,16 +17,16 @@ ghost use Rattle.std.specs.Prelude.{codes, Some, None, Ok, Err};
 ghost use Rattle.olr_spec.specs.Coordinates.{coord, abs24, from_abs24, rel16};
 ghost use Rattle.olr_spec.specs.Degrees;
 ghost use Rattle.olr_spec.specs.Degrees.{read_degrees};
-ghost use Rattle.olr_spec.specs.Map.{empty_map, no_place, Add_node, Add_line};
+ghost use Rattle.olr_spec.specs.Map.{empty_map, no_coord, Add_node, Add_line};
 ghost use Rattle.olr_spec.specs.Extension.{passes_between};
-ghost use Rattle.olr_spec.specs.Bearings.{sector, up_to, thousandths, scaled_place, bearing_out, bearing_back};
+ghost use Rattle.olr_spec.specs.Bearings.{sector, up_to, thousandths, scaled_coord, bearing_out, bearing_back};
 ghost use Rattle.olr_spec.specs.Reference.{kept_points, reference};
-ghost use Rattle.olr_spec.specs.Bytes.{spelling, v3_fault, Length, Status, Flags, Reserved};
+ghost use Rattle.olr_spec.specs.Bytes.{reference_bytes, v3_fault, Length, Status, Flags, Reserved};
 ghost use Rattle.olr_spec.specs.Decoded.{decoded};
-ghost use Rattle.olr_spec.specs.Receiver.{Outgoing, Incoming, decoded_place, is_nearest, has_no_twin};
+ghost use Rattle.olr_spec.specs.Receiver.{Outgoing, Incoming, decoded_coord, is_nearest, has_no_twin};
 ghost use Rattle.olr_spec.specs.Recovery.{are_spaced};
 ghost use Rattle.olr_spec.specs.Detours.{changes_of};
-ghost use Rattle.olr_spec.specs.Looks.{looking};
+ghost use Rattle.olr_spec.specs.Queries.{querying};
 ghost use Rattle.olr_spec.specs.Laws;
 ghost use Rattle.olr_spec.specs.Rows.{legs1, leg10, reference1, bytes1, side_road_dropped_bytes, first_dropped_bytes};
 ghost use Rattle.olr_spec.specs.Rows.{last_dropped_bytes, both_offsets_bytes, offset_bytes_of, version2_bytes};
@@ -36,7 +36,7 @@ ghost use Rattle.olr_spec.specs.Rows.{twin_lines, axes_sum};
 /// The lists of the lines that enter and leave a node are in ascending order and hold exactly these
 /// lines; an accepted edit keeps a map sound, and one edit restores the map from before.
 pub fn laws_of_maps()
-    ensures rise { Laws.LinesRise }
+    ensures ascend { Laws.LinesAscend }
     ensures entering { Laws.LinesIn }
     ensures leaving { Laws.LinesOut }
     ensures kept { Laws.EditsKeep }
@@ -46,15 +46,15 @@ pub fn laws_of_maps()
 
 /// From a node to another there is at most one shortest path and at most one unique shortest path,
 /// which is the shortest; their prefixes are such paths too.
-pub fn laws_of_walks()
+pub fn laws_of_routes()
     ensures suffixes { Laws.NoLongerSuffix }
     ensures one_least { Laws.OneLeast }
     ensures prefix_of_least { Laws.PrefixOfLeast }
     ensures empty_least { Laws.EmptyIsLeast }
-    ensures sole_is_least { Laws.SoleIsLeast }
-    ensures one_sole { Laws.OneSole }
-    ensures prefix_of_sole { Laws.PrefixOfSole }
-    ensures empty_sole { Laws.EmptyIsSole }
+    ensures unique_is_least { Laws.UniqueIsLeast }
+    ensures one_unique { Laws.OneUnique }
+    ensures prefix_of_unique { Laws.PrefixOfUnique }
+    ensures empty_unique { Laws.EmptyIsUnique }
 {}
 
 /// Labels that no line improves describe the shortest paths within the limit.
@@ -65,8 +65,8 @@ pub fn laws_of_labels()
 
 /// A path has exactly one answer on a map, and the reference of an answer fits its bits.
 pub fn laws_of_answers()
-    ensures one_start_chain { Laws.OneStartChain }
-    ensures one_end_chain { Laws.OneEndChain }
+    ensures one_start_run { Laws.OneStartRun }
+    ensures one_end_run { Laws.OneEndRun }
     ensures one_next { Laws.OneNext }
     ensures one_points { Laws.OnePoints }
     ensures one_answer { Laws.OneAnswer }
@@ -105,8 +105,8 @@ pub fn laws_of_sectors()
 /// A reference encodes as one sequence of bytes, no bytes decode to two references, and bytes have
 /// no fault exactly if some reference encodes as them.
 pub fn laws_of_bytes()
-    ensures one_spelling { Laws.OneSpelling }
-    ensures one_spelled { Laws.OneSpelled }
+    ensures one_byte_form { Laws.OneByteForm }
+    ensures one_decoding { Laws.OneDecoding }
     ensures no_fault { Laws.NoFault }
 {}
 
@@ -124,23 +124,23 @@ pub fn laws_of_changes()
     ensures edits { Laws.EditsDiffer }
     ensures none { Laws.NoDifference }
     ensures more { Laws.DifferencesAdd }
-    ensures walks { Laws.WalksStay }
+    ensures routes { Laws.AllRoutesStay }
     ensures soles { Laws.SolesStay }
     ensures near { Laws.NearStays }
 {}
 
 /// A path has exactly one list of coverage queries, and they determine its footprint; if edits
 /// affect neither these nor its traversed nodes, its answer is retained.
-pub fn laws_of_looks()
+pub fn laws_of_queries()
     ensures one_last_tested { Laws.OneLastTested }
     ensures some_last_tested { Laws.SomeLastTested }
-    ensures one { Laws.OneLooks }
-    ensures some { Laws.SomeLooks }
-    ensures foot { Laws.FootIsLooked }
-    ensures concerned { Laws.FootConcerned }
-    ensures looks { Laws.LooksStay }
-    ensures kept { Laws.AnswersKept }
-    ensures untouched { Laws.UntouchedKept }
+    ensures one { Laws.OneQueries }
+    ensures some { Laws.SomeQueries }
+    ensures foot { Laws.FootIsQueried }
+    ensures affected { Laws.FootAffected }
+    ensures queries { Laws.QueriesStay }
+    ensures kept { Laws.AnswersRetained }
+    ensures untouched { Laws.UntouchedRetained }
 {}
 
 /// 24-bit steps, and back: halves are rounded away from zero.
@@ -216,9 +216,9 @@ pub fn rows_sector()
 /// Coordinates along a line, and bearings. At a shape point the interval is the one that ends
 /// there.
 pub fn rows_bearing()
-    ensures place { scaled_place straight_leg 200 ≡ record { lon = pos 65536000000; lat = pos 0; width = 1000 } }
-    ensures at_shape { (scaled_place leg10 200).width ≡ 200 }
-    ensures past_shape { (scaled_place leg10 201).width ≡ 5210 }
+    ensures place { scaled_coord straight_leg 200 ≡ record { lon = pos 65536000000; lat = pos 0; width = 1000 } }
+    ensures at_shape { (scaled_coord leg10 200).width ≡ 200 }
+    ensures past_shape { (scaled_coord leg10 201).width ≡ 5210 }
     ensures out { bearing_out straight_leg ≡ 8 }
     ensures back { bearing_back straight_leg ≡ 24 }
     ensures slanted_out { bearing_out (slanted_leg 19660963840000) ≡ 4 }
@@ -228,16 +228,16 @@ pub fn rows_bearing()
 {}
 
 /// The LRPs with a coverage query: those whose line is followed by two or more lines.
-pub fn rows_looking()
-    ensures first_two { looking (11 ∷ 12 ∷ 13 ∷ 14 ∷ []) (0 ∷ 1 ∷ 2 ∷ 4 ∷ []) ≡ 0 ∷ 1 ∷ [] }
-    ensures two_lines { looking (11 ∷ 12 ∷ []) (0 ∷ 1 ∷ 2 ∷ []) ≡ [] }
-    ensures three_lines { looking (11 ∷ 12 ∷ 13 ∷ []) (0 ∷ 3 ∷ []) ≡ 0 ∷ [] }
+pub fn rows_querying()
+    ensures first_two { querying (11 ∷ 12 ∷ 13 ∷ 14 ∷ []) (0 ∷ 1 ∷ 2 ∷ 4 ∷ []) ≡ 0 ∷ 1 ∷ [] }
+    ensures two_lines { querying (11 ∷ 12 ∷ []) (0 ∷ 1 ∷ 2 ∷ []) ≡ [] }
+    ensures three_lines { querying (11 ∷ 12 ∷ 13 ∷ []) (0 ∷ 3 ∷ []) ≡ 0 ∷ [] }
 {}
 
 /// The lines that an edit changes: an added line with its length, and none for an added node.
 pub fn rows_changes()
     ensures line { changes_of empty_map (Add_line 7 leg10.line) ≡ record { from = 1; to = 2; len = 5610 } ∷ [] }
-    ensures node { changes_of empty_map (Add_node 7 no_place) ≡ [] }
+    ensures node { changes_of empty_map (Add_node 7 no_coord) ≡ [] }
 {}
 
 /// The LRPs that remain after the offsets, in dm from the start and from the end.
@@ -252,14 +252,14 @@ pub fn rows_kept()
 /// The fields and bytes of the first worked path, by its LRPs and offsets.
 pub fn rows_reference()
     ensures three_points { reference legs1 1500 0 (1 ∷ 3 ∷ []) ≡ reference1 }
-    ensures spelled { spelling reference1 ≡ bytes1 }
-    ensures side_road_dropped { spelling (reference legs1 1500 0 (3 ∷ [])) ≡ side_road_dropped_bytes }
-    ensures first_dropped { spelling (reference legs1 6000 0 (1 ∷ 3 ∷ [])) ≡ first_dropped_bytes }
-    ensures last_dropped { spelling (reference legs1 0 2740 (1 ∷ 3 ∷ [])) ≡ last_dropped_bytes }
-    ensures both_offsets { spelling (reference legs1 1500 740 (1 ∷ 3 ∷ [])) ≡ both_offsets_bytes }
-    ensures one_line { spelling (reference (leg10 ∷ []) 0 0 (1 ∷ [])) ≡ last_dropped_bytes }
-    ensures greatest_offset { spelling (reference (leg10 ∷ []) 5609 0 (1 ∷ [])) ≡ offset_bytes_of 255 }
-    ensures least_offset { spelling (reference (leg10 ∷ []) 1 0 (1 ∷ [])) ≡ offset_bytes_of 0 }
+    ensures encoded { reference_bytes reference1 ≡ bytes1 }
+    ensures side_road_dropped { reference_bytes (reference legs1 1500 0 (3 ∷ [])) ≡ side_road_dropped_bytes }
+    ensures first_dropped { reference_bytes (reference legs1 6000 0 (1 ∷ 3 ∷ [])) ≡ first_dropped_bytes }
+    ensures last_dropped { reference_bytes (reference legs1 0 2740 (1 ∷ 3 ∷ [])) ≡ last_dropped_bytes }
+    ensures both_offsets { reference_bytes (reference legs1 1500 740 (1 ∷ 3 ∷ [])) ≡ both_offsets_bytes }
+    ensures one_line { reference_bytes (reference (leg10 ∷ []) 0 0 (1 ∷ [])) ≡ last_dropped_bytes }
+    ensures greatest_offset { reference_bytes (reference (leg10 ∷ []) 5609 0 (1 ∷ [])) ≡ offset_bytes_of 255 }
+    ensures least_offset { reference_bytes (reference (leg10 ∷ []) 1 0 (1 ∷ [])) ≡ offset_bytes_of 0 }
 {}
 
 /// Faults of bytes: of the first worked bytes truncated at every length, and of others.
@@ -291,16 +291,16 @@ pub fn rows_decoded()
 /// candidate and has no twin. With a second line 20 it has a twin and isn't distinct. The cosine of
 /// 49.6 degrees is greater than 64/100.
 pub fn rows_distinct()
-    ensures first { is_nearest axes_sum Outgoing (decoded_place reference1 0) leg10 morning_lines ≡ true }
-    ensures second { is_nearest axes_sum Outgoing (decoded_place reference1 1) leg20 morning_lines ≡ true }
-    ensures third { is_nearest axes_sum Incoming (decoded_place reference1 2) leg30 morning_lines ≡ true }
+    ensures first { is_nearest axes_sum Outgoing (decoded_coord reference1 0) leg10 morning_lines ≡ true }
+    ensures second { is_nearest axes_sum Outgoing (decoded_coord reference1 1) leg20 morning_lines ≡ true }
+    ensures third { is_nearest axes_sum Incoming (decoded_coord reference1 2) leg30 morning_lines ≡ true }
     ensures first_alone { has_no_twin Outgoing 10 leg10 morning_lines ≡ true }
     ensures second_alone { has_no_twin Outgoing 20 leg20 morning_lines ≡ true }
     ensures third_alone { has_no_twin Incoming 30 leg30 morning_lines ≡ true }
-    ensures beside_its_twin { is_nearest axes_sum Outgoing (decoded_place reference1 1) leg20 twin_lines ≡ true }
+    ensures beside_its_twin { is_nearest axes_sum Outgoing (decoded_coord reference1 1) leg20 twin_lines ≡ true }
     ensures not_alone { has_no_twin Outgoing 20 leg20 twin_lines ≡ false }
     ensures first_spaced { are_spaced 64 100 0 Outgoing leg10 morning_lines ≡ true }
     ensures second_spaced { are_spaced 64 100 1 Outgoing leg20 morning_lines ≡ true }
     ensures third_spaced { are_spaced 64 100 2 Incoming leg30 morning_lines ≡ true }
-    ensures node_by_far { is_nearest axes_sum Outgoing (decoded_place reference1 0) leg20 morning_lines ≡ false }
+    ensures node_by_far { is_nearest axes_sum Outgoing (decoded_coord reference1 0) leg20 morning_lines ≡ false }
 {}

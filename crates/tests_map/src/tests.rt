@@ -8,7 +8,7 @@ use made_maps::{
     shape,
 };
 use olr_map::{
-    Edit, EditFault, Footprint, Judged, Line, LineEnd, LineId, MapRead, NodeId, RoadMap, UndoLog,
+    Edit, EditFault, EditPlan, Footprint, Line, LineEnd, LineId, MapRead, NodeId, RoadMap, UndoLog,
     judge,
 };
 use std::alloc::{AllocError, Global};
@@ -249,7 +249,7 @@ fn lines_at_their_limits(rt: HostRuntime) -> Result<(), Fail> {
 }
 
 #[test]
-fn edits_come_and_go(rt: HostRuntime) -> Result<(), Fail> {
+fn edits_are_made_and_undone(rt: HostRuntime) -> Result<(), Fail> {
     let alloc = rt.alloc();
     let mut map = base(&rt, alloc);
     take(&rt, &mut map, Edit::DropLine(line(10)));
@@ -358,21 +358,21 @@ fn a_log_takes_all_back(rt: HostRuntime) -> Result<(), Fail> {
 fn assert_at_third(rt: &impl Abort, map: &RoadMap, end: &LineEnd) {
     same!(rt; end.node, node(3));
     same!(rt; end.len, 700);
-    same!(rt; map.place_of(node(3)), Some(end.place));
-    holds!(rt; (end.place as usize) < map.place_count());
+    same!(rt; map.slot_of(node(3)), Some(end.slot));
+    holds!(rt; (end.slot as usize) < map.slot_count());
 }
 
 /// Asserts that the reads of a node by its slot are those by its number.
 fn assert_ends_at(rt: &impl Abort, map: &RoadMap, id: NodeId) {
-    if let Some(place) = map.place_of(id) {
-        same!(rt; map.in_lines_at(place), map.in_lines(id));
-        same!(rt; map.in_ends_at(place), map.in_ends(id));
-        same!(rt; map.out_ends_at(place), map.out_ends(id));
+    if let Some(slot) = map.slot_of(id) {
+        same!(rt; map.in_lines_at(slot), map.in_lines(id));
+        same!(rt; map.in_ends_at(slot), map.in_ends(id));
+        same!(rt; map.out_ends_at(slot), map.out_ends(id));
     }
 }
 
 #[test]
-fn far_ends_stand_beside_lines(rt: HostRuntime) {
+fn far_ends_are_beside_lines(rt: HostRuntime) {
     let mut map = base(&rt, rt.alloc());
     let back = new_line(&rt, rt.alloc(), (7, 3, 2, 3, 2, 700, STRAIGHT));
     take(&rt, &mut map, back);
@@ -382,12 +382,12 @@ fn far_ends_stand_beside_lines(rt: HostRuntime) {
         None => panic!(&rt; "line 7 enters node 2"),
     }
     assert_ends_at(&rt, &map, node(2));
-    same!(&rt; map.place_of(node(77)), None);
+    same!(&rt; map.slot_of(node(77)), None);
     holds!(&rt; map.out_ends(node(77)).is_empty());
 }
 
 #[test]
-fn a_log_lets_all_stand(rt: HostRuntime) -> Result<(), Fail> {
+fn a_log_keeps_all(rt: HostRuntime) -> Result<(), Fail> {
     let mut map = RoadMap::new(rt.alloc());
     let mut log = UndoLog::new(rt.alloc());
     map.apply_into(new_node((1, 7, 7)), &mut log)?;
@@ -402,9 +402,9 @@ fn a_log_lets_all_stand(rt: HostRuntime) -> Result<(), Fail> {
 
 /// What an edit touches that the map accepts: nodes, and a line.
 fn touched(map: &RoadMap, edit: &Edit) -> Result<((u32, u32), Option<u32>), EditFault> {
-    let judged = judge(map, edit)?;
-    let nodes = (judged.nodes.0.number(), judged.nodes.1.number());
-    Ok((nodes, judged.line.map(|line| line.number())))
+    let plan = judge(map, edit)?;
+    let nodes = (plan.nodes.0.number(), plan.nodes.1.number());
+    Ok((nodes, plan.line.map(|line| line.number())))
 }
 
 #[test]
@@ -421,12 +421,12 @@ fn tells_what_an_edit_touches(rt: HostRuntime) -> Result<(), Fail> {
 }
 
 /// Asserts that an edit of line 20 was judged correctly.
-fn assert_judged(rt: &impl Abort, map: &RoadMap, judged: &Judged, len: u32) {
-    same!(rt; judged.nodes, (node(2), node(3)));
-    same!(rt; Some(judged.places.0), map.place_of(node(2)));
-    same!(rt; Some(judged.places.1), map.place_of(node(3)));
-    same!(rt; judged.line, Some(line(20)));
-    same!(rt; judged.len, len);
+fn assert_plan(rt: &impl Abort, map: &RoadMap, plan: &EditPlan, len: u32) {
+    same!(rt; plan.nodes, (node(2), node(3)));
+    same!(rt; Some(plan.slots.0), map.slot_of(node(2)));
+    same!(rt; Some(plan.slots.1), map.slot_of(node(3)));
+    same!(rt; plan.line, Some(line(20)));
+    same!(rt; plan.len, len);
 }
 
 #[test]
@@ -436,12 +436,12 @@ fn judges_before_it_makes(rt: HostRuntime) -> Result<(), Fail> {
     let longer = other_line(&rt, alloc, 20, 5000, STRAIGHT);
     let mut map = base(&rt, alloc);
     let mut log = UndoLog::new(alloc);
-    let judged = judge(&map, &shorter)?;
-    assert_judged(&rt, &map, &judged, 900);
-    map.make_into(shorter, &judged, &mut log)?;
+    let plan = judge(&map, &shorter)?;
+    assert_plan(&rt, &map, &plan, 900);
+    map.make_into(shorter, &plan, &mut log)?;
     // The length before the edit counts, since it is the shorter one.
     let again = judge(&map, &longer)?;
-    assert_judged(&rt, &map, &again, 900);
+    assert_plan(&rt, &map, &again, 900);
     map.undo_all(log);
     assert_alike(&rt, &map, &base(&rt, alloc));
     Ok(())
@@ -517,12 +517,12 @@ fn fault_of(map: &mut RoadMap, edit: Edit, stands: bool) -> Option<EditFault> {
 }
 
 /// `fault_of`, where the edit is judged first and then made.
-fn judged_fault(map: &mut RoadMap, edit: Edit, stands: bool) -> Option<EditFault> {
-    let judged = match judge(map, &edit) {
-        Ok(judged) => judged,
+fn fault_of_plan(map: &mut RoadMap, edit: Edit, stands: bool) -> Option<EditFault> {
+    let plan = match judge(map, &edit) {
+        Ok(plan) => plan,
         Err(fault) => return Some(fault),
     };
-    match map.make(edit, &judged) {
+    match map.make(edit, &plan) {
         Ok(undo) => {
             if stands {
                 map.keep(undo);
@@ -548,7 +548,7 @@ fn judging_first_changes_nothing(rt: HostRuntime) {
             .wrapping_add(1_442_695_040_888_963_407);
         let stands = step % 2 == 1;
         let first = fault_of(&mut map, edit_by(&rt, alloc, seed), stands);
-        let second = judged_fault(&mut other, edit_by(&rt, alloc, seed), stands);
+        let second = fault_of_plan(&mut other, edit_by(&rt, alloc, seed), stands);
         same_at(&rt, first, second, "step", step);
         assert_alike(&rt, &map, &other);
     }

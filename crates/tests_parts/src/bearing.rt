@@ -47,7 +47,7 @@ fn line(rt: &impl Abort, alloc: Global, len: u32, points: &[Shape]) -> Result<Li
     })
 }
 
-fn place_at(rt: &impl Abort, line: &Line, ends: &Ends, at: u32) -> Scaled {
+fn coord_at(rt: &impl Abort, line: &Line, ends: &Ends, at: u32) -> Scaled {
     assert!(rt; line.is_good() && at <= line.len);
     place(line, *ends, at)
 }
@@ -159,9 +159,9 @@ fn places_and_bearings(rt: HostRuntime) -> Result<(), Fail> {
         lat: 0,
         width: 1000,
     };
-    same!(&rt; place_at(&rt, &line, &ends, 200), at_200);
-    same!(&rt; place_at(&rt, &line, &ends, 0).lon, 0);
-    same!(&rt; place_at(&rt, &line, &ends, 1000).lon, 327_680_000_000);
+    same!(&rt; coord_at(&rt, &line, &ends, 200), at_200);
+    same!(&rt; coord_at(&rt, &line, &ends, 0).lon, 0);
+    same!(&rt; coord_at(&rt, &line, &ends, 1000).lon, 327_680_000_000);
     same!(&rt; out_of(&rt, &line, &ends), 8);
     same!(&rt; back_of(&rt, &line, &ends), 24);
     Ok(())
@@ -181,7 +181,8 @@ fn bearings_at_latitude_60(rt: HostRuntime) -> Result<(), Fail> {
 }
 
 /// The bearing is measured to the coordinate at 200 dm, past a shape point at 100 dm, or to the line's end if that is
-/// nearer. The line leads north and then east: of 201 dm, the coordinate is before the end, a little north of north-east.
+/// nearer. The line leads north and then east: of 201 dm, the coordinate is before the end, a little north of
+/// north-east.
 #[test]
 fn bearing_out_of_200_dm(rt: HostRuntime) -> Result<(), Fail> {
     let ends = ends_of(at_degrees(&rt, 0, 0), at_degrees(&rt, 50, 50));
@@ -221,8 +222,8 @@ fn shape_point_at_200_dm(rt: HostRuntime) -> Result<(), Fail> {
         lat: -97_976_320_000,
         width: 300,
     };
-    same!(&rt; place_at(&rt, &line, &ends, 200), at_200);
-    same!(&rt; place_at(&rt, &line, &ends, 201), at_201);
+    same!(&rt; coord_at(&rt, &line, &ends, 200), at_200);
+    same!(&rt; coord_at(&rt, &line, &ends, 201), at_201);
     same!(&rt; out_of(&rt, &line, &ends), 16);
     Ok(())
 }

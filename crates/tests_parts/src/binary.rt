@@ -69,7 +69,7 @@ fn assert_three_points(rt: &impl Abort, reference: &Reference) {
 }
 
 #[test]
-fn three_points_are_spelled(rt: HostRuntime) -> Result<(), Fail> {
+fn three_points_are_encoded(rt: HostRuntime) -> Result<(), Fail> {
     let reference = three_points(rt.alloc())?;
     let bytes = write_v3(rt.alloc(), &reference)?;
     same!(&rt; bytes.as_slice(), THREE_POINTS.as_slice());
@@ -155,7 +155,7 @@ fn fault_with(alloc: Global, place: usize, bit: u8) -> Option<V3Fault>
 }
 
 #[test]
-fn single_bits_are_told(rt: HostRuntime) {
+fn single_bits_are_reported(rt: HostRuntime) {
     for bit in [1, 2, 4, 8, 16, 32, 64, 128] {
         same!(&rt; fault_with(rt.alloc(), 0, bit), Some(V3Fault::Status));
     }

@@ -102,7 +102,7 @@ fn halves_of_24_bit_steps(rt: HostRuntime) {
 }
 
 #[test]
-fn steps_of_24_bits_stand_for_their_middle(rt: HostRuntime) {
+fn steps_of_24_bits_decode_to_their_middle(rt: HostRuntime) {
     same!(&rt; from_abs24(0), 0);
     same!(&rt; from_abs24(1), 3_515_625);
     same!(&rt; from_abs24(-1), -3_515_625);

@@ -2,7 +2,7 @@ use olr_index::Index;
 use std::test::Fail;
 
 #[test]
-fn marks_come_and_go(rt: HostRuntime) -> Result<(), Fail> {
+fn path_ids_are_added_and_removed(rt: HostRuntime) -> Result<(), Fail> {
     let mut index = Index::new(rt.alloc());
     assert_eq!(rt; index.of(7).len(), 0);
     assert!(rt; index.is_empty());

@@ -231,7 +231,7 @@ fn replies_of_batches(rt: HostRuntime) -> Result<(), Fail> {
 }
 
 #[test]
-fn replies_stand_behind_one_another(rt: HostRuntime) -> Result<(), Fail> {
+fn replies_are_appended(rt: HostRuntime) -> Result<(), Fail> {
     let mut text = Vec::new(rt.alloc());
     append_reply(&mut text, &Reply::Held(7))?;
     append_reply(&mut text, &Reply::Paths(Vec::new(rt.alloc())))?;

@@ -6,12 +6,13 @@ use crate::maps::{BARE, LONG, LONG_BARE, PASSING, PlainPath, path_of};
 use made_maps::{Place, Plan, STRAIGHT, WORKED, end_of, map_of, start_of};
 use olr_map::{Footprint, LineId, MapRead, RoadMap};
 use olr_refs::{Choice, distances, extend, points, unknown_line};
-use olr_route::{Search, Work};
+use olr_route::{Dijkstra, Work};
 use std::alloc::{AllocError, Global};
 use std::process::Abort;
 use std::test::Fail;
 
-/// What is expected of an extended path: its lines, its offsets in decimetres, the positions of the LRPs that are chosen
+/// What is expected of an extended path: its lines, its offsets in decimetres, the positions of the LRPs that are
+/// chosen
 /// on it, and how many searches that takes.
 type Expected = (&'static [u32], (u64, u64), &'static [usize], u64);
 
@@ -50,21 +51,21 @@ fn expect_chosen(
 ) -> Result<(), Fail> {
     assert!(rt; are_joined(map, lines));
     let distances = distances(alloc, map, lines)?;
-    let along = olr_refs::Course {
+    let along = olr_refs::ResolvedPath {
         map,
         lines,
         distances: &distances,
     };
-    let mut search = Search::new(alloc);
+    let mut search = Dijkstra::new(alloc);
     let mut work = Work::default();
     let mut seen = None;
     let chosen = points(alloc, &along, &mut search, &mut seen, &mut work)?;
-    let olr_refs::Chosen { choice, looks } = chosen;
+    let olr_refs::Chosen { choice, queries } = chosen;
     match choice {
         Choice::Positions(found) => assert_eq!(rt; found.as_slice(), positions, "the points"),
         Choice::NoNext(k) => panic!(rt; "no point after position {k}"),
     }
-    let counted = (looks.len() as u64, work.encodings, work.searches);
+    let counted = (queries.len() as u64, work.encodings, work.searches);
     assert_eq!(rt; counted, (searches, 0, searches), "of {positions:?}");
     Ok(())
 }
@@ -101,7 +102,7 @@ fn expect_points_on(
 }
 
 /// The nodes of a long line that leads to a degree-two node, and of a short line after it.
-const CHAIN_PLACES: &[Place] = &[(1, 0, 0), (2, 0, 10_000), (3, 0, 20_000)];
+const RUN_PLACES: &[Place] = &[(1, 0, 0), (2, 0, 10_000), (3, 0, 20_000)];
 
 /// A ring of three lines, which has degree-two nodes only.
 const RING: Plan = (
@@ -114,16 +115,16 @@ const RING: Plan = (
 );
 
 /// A run of degree-two nodes of the greatest length by which a path is extended, and one a decimetre longer.
-const CHAIN: Plan = (
-    CHAIN_PLACES,
+const RUN: Plan = (
+    RUN_PLACES,
     &[
         (10, 1, 2, 0, 1, 150_000, STRAIGHT),
         (20, 2, 3, 0, 1, 1000, STRAIGHT),
     ],
 );
 
-const LONGER_CHAIN: Plan = (
-    CHAIN_PLACES,
+const LONGER_RUN: Plan = (
+    RUN_PLACES,
     &[
         (10, 1, 2, 0, 1, 150_001, STRAIGHT),
         (20, 2, 3, 0, 1, 1000, STRAIGHT),
@@ -140,12 +141,8 @@ const CASES: &[(Plan, PlainPath, Expected)] = &[
     // a valid node is chosen, though a degree-two node is farther; without the side road there is no valid one
     (LONG, (ROAD, 0, 0), (ROAD, (0, 0), &[0, 1, 3], 1)),
     (LONG_BARE, (ROAD, 0, 0), (ROAD, (0, 0), &[0, 2, 3], 1)),
-    (
-        CHAIN,
-        (&[20], 0, 0),
-        (&[10, 20], (150_000, 0), &[0, 1, 2], 0),
-    ),
-    (LONGER_CHAIN, (&[20], 0, 0), (&[20], (0, 0), &[0, 1], 0)),
+    (RUN, (&[20], 0, 0), (&[10, 20], (150_000, 0), &[0, 1, 2], 0)),
+    (LONGER_RUN, (&[20], 0, 0), (&[20], (0, 0), &[0, 1], 0)),
 ];
 
 #[test]

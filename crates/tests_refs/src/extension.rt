@@ -68,7 +68,7 @@ const RING: &[Plain] = &[(10, 1, 2, 1000), (20, 2, 3, 1000), (30, 3, 1, 1000)];
 
 /// A run of degree-two nodes of the greatest length by which a path is extended, one a decimetre longer, one that leads
 /// to a degree-two node, and one at the end.
-const CHAIN: &[Plain] = &[(10, 1, 2, 150_000), (20, 2, 3, 1000)];
+const RUN: &[Plain] = &[(10, 1, 2, 150_000), (20, 2, 3, 1000)];
 
 const LONGER: &[Plain] = &[(10, 1, 2, 150_001), (20, 2, 3, 1000)];
 
@@ -81,7 +81,7 @@ const CASES: &[(Given, Expected)] = &[
     ((WITH_SIDE, &[20], 5, 6), (&[20], (5, 6), &[2, 3])),
     ((RING, &[10], 0, 0), (&[10], (0, 0), &[1, 2, 3])),
     ((RING, &[10, 20], 0, 0), (&[10, 20], (0, 0), &[1, 2, 3])),
-    ((CHAIN, &[20], 0, 0), (&[10, 20], (150_000, 0), &[1, 2, 3])),
+    ((RUN, &[20], 0, 0), (&[10, 20], (150_000, 0), &[1, 2, 3])),
     // one decimetre more: nothing is tried, and node 1, where line 10 begins, is not recorded
     ((LONGER, &[20], 0, 0), (&[20], (0, 0), &[2, 3])),
     // line 20 is tried at the start; with line 10 the run would exceed its limit

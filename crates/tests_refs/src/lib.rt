@@ -1,5 +1,5 @@
-//! Tests of the encoding of paths, on maps that are built by edits: the extension, and the location reference points (LRPs),
-//! traversed nodes and coverage queries; each worked out by hand.
+//! Tests of the encoding of paths, on maps that are built by edits: the extension, and the location reference points
+//! (LRPs), traversed nodes and coverage queries; each worked out by hand.
 #![tactic(auto)]
 
 #[cfg(test)]
@@ -7,6 +7,6 @@ mod choices;
 #[cfg(test)]
 mod extension;
 #[cfg(test)]
-mod looks;
-#[cfg(test)]
 mod maps;
+#[cfg(test)]
+mod queries;

@@ -1,8 +1,8 @@
 //! Batches over the worked map. The expected texts and counts do not come from the program.
 
 use crate::worked::{
-    TEXT, WITH_TEXT, ends, expect_counts, expect_text, holds, refuses, road, tells, worked_edits,
-    worked_path,
+    TEXT, WITH_TEXT, ends, expect_counts, expect_reported, expect_text, holds, refuses, road,
+    worked_edits, worked_path,
 };
 use made_maps::{SIDE, line, node, place};
 use olr_commands::{Command, CommandFault};
@@ -13,7 +13,7 @@ use std::process::Abort;
 
 /// Makes the worked map and path by one batch.
 fn fill(rt: &impl Abort, register: &mut Register, edits: Vec<Edit>, path: Command) {
-    tells(rt, register, Command::Begin, &[]);
+    expect_reported(rt, register, Command::Begin, &[]);
     let mut count = 0u32;
     for edit in edits {
         count = count.saturating_add(1);
@@ -22,7 +22,7 @@ fn fill(rt: &impl Abort, register: &mut Register, edits: Vec<Edit>, path: Comman
     holds(rt, register, path, 9);
     assert!(rt; register.is_open());
     expect_text(rt, register, "a", None);
-    tells(rt, register, Command::Commit(9), &[WITH_TEXT]);
+    expect_reported(rt, register, Command::Commit(9), &[WITH_TEXT]);
     expect_text(rt, register, "a", Some(TEXT));
     expect_counts(rt, register, 1, 0);
 }
@@ -42,11 +42,11 @@ fn worked_register(rt: &impl Abort, alloc: Global) -> Register {
 #[test]
 fn a_batch_that_cancels_out(rt: HostRuntime) {
     let mut register = worked_register(&rt, rt.alloc());
-    tells(&rt, &mut register, Command::Begin, &[]);
+    expect_reported(&rt, &mut register, Command::Begin, &[]);
     let dropped = Command::Edit(Edit::DropLine(line(99)));
     holds(&rt, &mut register, dropped, 1);
     holds(&rt, &mut register, road(&rt, rt.alloc(), SIDE), 2);
-    tells(&rt, &mut register, Command::Commit(2), &[]);
+    expect_reported(&rt, &mut register, Command::Commit(2), &[]);
     ends(&rt, register, 2, 0);
 }
 
@@ -62,10 +62,10 @@ fn fill_up(rt: &impl Abort, register: &mut Register) {
 #[test]
 fn a_full_batch(rt: HostRuntime) {
     let mut register = worked_register(&rt, rt.alloc());
-    tells(&rt, &mut register, Command::Begin, &[]);
+    expect_reported(&rt, &mut register, Command::Begin, &[]);
     fill_up(&rt, &mut register);
     let more = Command::Edit(Edit::DropNode(node(9)));
     refuses(&rt, &mut register, more, CommandFault::BatchFull);
-    tells(&rt, &mut register, Command::Commit(100_000), &[]);
+    expect_reported(&rt, &mut register, Command::Commit(100_000), &[]);
     ends(&rt, register, 2, 0);
 }

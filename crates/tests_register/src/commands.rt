@@ -1,8 +1,8 @@
 //! Commands over the worked map. The expected texts and counts do not come from the program.
 
 use crate::worked::{
-    TEXT, WITH_TEXT, add, edits, ends, expect_counts, expect_names, expect_text, names, refuses,
-    road, tells, three_points,
+    TEXT, WITH_TEXT, add, edits, ends, expect_counts, expect_names, expect_reported, expect_text,
+    names, refuses, road, three_points,
 };
 use made_maps::{FIRST, SECOND, STRAIGHT, line, new_node, node, other_line, place, plain_line};
 use olr_commands::{Command, CommandFault, Reply};
@@ -30,7 +30,7 @@ fn expect_worked(rt: &impl Abort, register: &Register) {
 fn three_points_are_published(rt: HostRuntime) {
     let mut register = three_points(&rt, rt.alloc());
     expect_worked(&rt, &register);
-    tells(&rt, &mut register, Command::Report, &[WITH_TEXT]);
+    expect_reported(&rt, &mut register, Command::Report, &[WITH_TEXT]);
     let absent = String::from_str(rt.alloc(), "b").expect(&rt, "memory");
     let show = Command::Show(absent);
     refuses(&rt, &mut register, show, CommandFault::NoPath);
@@ -38,20 +38,20 @@ fn three_points_are_published(rt: HostRuntime) {
 }
 
 #[test]
-fn an_own_line_is_dropped_and_comes_back(rt: HostRuntime) {
+fn a_line_of_the_path_is_dropped_and_added_again(rt: HostRuntime) {
     let mut register = three_points(&rt, rt.alloc());
     let dropped = Command::Edit(Edit::DropLine(line(20)));
     let unknown = ("a", Err(Refusal::UnknownLine(line(20))));
-    tells(&rt, &mut register, dropped, &[unknown]);
+    expect_reported(&rt, &mut register, dropped, &[unknown]);
     expect_text(&rt, &register, "a", None);
     expect_counts(&rt, &register, 2, 0);
     let back = road(&rt, rt.alloc(), SECOND);
-    tells(&rt, &mut register, back, &[WITH_TEXT]);
+    expect_reported(&rt, &mut register, back, &[WITH_TEXT]);
     ends(&rt, register, 3, 0);
 }
 
 #[test]
-fn a_node_is_moved_to_its_own_place(rt: HostRuntime) {
+fn a_node_is_moved_to_its_own_coord(rt: HostRuntime) {
     let mut register = three_points(&rt, rt.alloc());
     let moved = Edit::MoveNode(node(4), place(612_817, 4_960_306));
     edits(&rt, &mut register, moved);

@@ -1,7 +1,7 @@
 //! Answers that are retained without a search for their LRPs, and footprints.
 
 use crate::worked::{
-    TEXT, add, edits, ends, expect_counts, expect_text, holds, tells, three_points,
+    TEXT, add, edits, ends, expect_counts, expect_reported, expect_text, holds, three_points,
 };
 use made_maps::{line, new_node, node, plain_line};
 use olr_commands::{Command, CommandFault};
@@ -29,7 +29,7 @@ fn with_blind_road(rt: &impl Abort, alloc: Global) -> Register {
 }
 
 #[test]
-fn an_answer_is_kept(rt: HostRuntime) {
+fn an_answer_is_retained(rt: HostRuntime) {
     let register = with_blind_road(&rt, rt.alloc());
     expect_text(&rt, &register, "a", Some(TEXT));
     ends(&rt, register, 3, 1);
@@ -41,14 +41,14 @@ fn expect_searches(rt: &impl Abort, register: &Register, searches: u64) {
 }
 
 #[test]
-fn an_answer_is_kept_by_a_batch(rt: HostRuntime) {
+fn an_answer_is_retained_by_a_batch(rt: HostRuntime) {
     let mut register = with_blind_road(&rt, rt.alloc());
     let before = register.work();
-    tells(&rt, &mut register, Command::Begin, &[]);
+    expect_reported(&rt, &mut register, Command::Begin, &[]);
     let dropped = Command::Edit(Edit::DropLine(line(70)));
     holds(&rt, &mut register, dropped, 1);
     expect_counts(&rt, &register, 3, 1);
-    tells(&rt, &mut register, Command::Commit(1), &[]);
+    expect_reported(&rt, &mut register, Command::Commit(1), &[]);
     expect_searches(&rt, &register, before.searches);
     expect_text(&rt, &register, "a", Some(TEXT));
     ends(&rt, register, 4, 2);
@@ -73,10 +73,10 @@ fn a_footprint_is_searched_for(rt: HostRuntime) {
     edits(&rt, &mut register, new_node((5, 700_000, 5_000_000)));
     expect_footprint(&rt, &register, &[1, 2, 3, 4, 6, 7]);
     assert!(rt; matches!(register.footprint("b"), Ok(None)));
-    tells(&rt, &mut register, Command::Begin, &[]);
+    expect_reported(&rt, &mut register, Command::Begin, &[]);
     let refused = register.footprint("a");
     assert_eq!(rt; refused.err(), Some(CommandFault::BatchOpen));
-    tells(&rt, &mut register, Command::Abort, &[]);
+    expect_reported(&rt, &mut register, Command::Abort, &[]);
     assert!(rt; matches!(register.footprint("a"), Ok(Some(_))));
     ends(&rt, register, 3, 1);
 }
@@ -91,10 +91,10 @@ fn commands_that_encode_nothing_leave_the_counts(rt: HostRuntime) {
     let mut register = with_blind_road(&rt, rt.alloc());
     let before = register.work();
     assert!(rt; register.apply(Command::Report).is_ok());
-    tells(&rt, &mut register, Command::Begin, &[]);
+    expect_reported(&rt, &mut register, Command::Begin, &[]);
     let path = add(&rt, rt.alloc(), "b", &[10], 0);
     assert!(rt; register.apply(path).is_ok());
-    tells(&rt, &mut register, Command::Abort, &[]);
+    expect_reported(&rt, &mut register, Command::Abort, &[]);
     expect_work(&rt, &register, before);
     ends(&rt, register, 3, 1);
 }

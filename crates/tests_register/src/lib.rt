@@ -1,4 +1,5 @@
-//! Tests of the register: commands, batches, faults and counts, on the worked map and on small ones; and of what a list of
+//! Tests of the register: commands, batches, faults and counts, on the worked map and on small ones; and of what a list
+//! of
 //! paths stores.
 #![tactic(auto)]
 
@@ -9,7 +10,7 @@ mod commands;
 #[cfg(test)]
 mod kept;
 #[cfg(test)]
-mod listing;
+mod path_list;
 #[cfg(test)]
 mod paths;
 #[cfg(test)]

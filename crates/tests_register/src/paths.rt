@@ -1,8 +1,8 @@
 //! Paths on small maps: encoded when they are added, renewed by edits, and changed by batches.
 
 use crate::worked::{
-    add, change_path, drop_path, edits, ends, expect_counts, expect_names, expect_text, holds,
-    names, refuses, tells,
+    add, change_path, drop_path, edits, ends, expect_counts, expect_names, expect_reported,
+    expect_text, holds, names, refuses,
 };
 use made_maps::{Plain, STRAIGHT, line, new_node, other_line, plain_line};
 use olr_commands::{Command, CommandFault, Reply};
@@ -39,27 +39,27 @@ fn unknown(number: u32) -> Result<&'static str, Refusal> {
 fn paths_are_encoded_as_they_are_given(rt: HostRuntime) {
     let mut register = roads(&rt, rt.alloc(), ROAD);
     let gone = add(&rt, rt.alloc(), "gone", &[30], 0);
-    tells(&rt, &mut register, gone, &[("gone", unknown(30))]);
+    expect_reported(&rt, &mut register, gone, &[("gone", unknown(30))]);
     let way = add(&rt, rt.alloc(), "way", &[10, 20], 0);
     names(&rt, &mut register, way, &["way"]);
     // replaced by a path of the same answer, and by one of another
     let same = change_path(&rt, rt.alloc(), "gone", &[10, 30]);
-    tells(&rt, &mut register, same, &[]);
+    expect_reported(&rt, &mut register, same, &[]);
     let other = change_path(&rt, rt.alloc(), "gone", &[40]);
-    tells(&rt, &mut register, other, &[("gone", unknown(40))]);
+    expect_reported(&rt, &mut register, other, &[("gone", unknown(40))]);
     expect_names(&rt, &register, &["gone", "way"]);
     ends(&rt, register, 4, 0);
 }
 
 #[test]
-fn all_paths_are_told_in_order(rt: HostRuntime) {
+fn all_paths_are_reported_in_order(rt: HostRuntime) {
     let mut register = roads(&rt, rt.alloc(), ROAD);
     let first = add(&rt, rt.alloc(), "b", &[30], 0);
     names(&rt, &mut register, first, &["b"]);
     let second = add(&rt, rt.alloc(), "a", &[40], 0);
     names(&rt, &mut register, second, &["a"]);
-    let told = [("b", unknown(30)), ("a", unknown(40))];
-    tells(&rt, &mut register, Command::Report, &told);
+    let expected = [("b", unknown(30)), ("a", unknown(40))];
+    expect_reported(&rt, &mut register, Command::Report, &expected);
     ends(&rt, register, 2, 0);
 }
 
@@ -112,7 +112,7 @@ fn one_path_is_shown(rt: HostRuntime) {
 #[test]
 fn new_paths_of_a_batch(rt: HostRuntime) {
     let mut register = roads(&rt, rt.alloc(), ROAD);
-    tells(&rt, &mut register, Command::Begin, &[]);
+    expect_reported(&rt, &mut register, Command::Begin, &[]);
     let mut held = 0u32;
     for name in ["b", "a", "c"] {
         held = held.saturating_add(1);
@@ -163,7 +163,7 @@ fn changes_of_a_batch_over_paths(rt: HostRuntime) {
         let added = add(&rt, rt.alloc(), name, &[10], 0);
         names(&rt, &mut register, added, &[name]);
     }
-    tells(&rt, &mut register, Command::Begin, &[]);
+    expect_reported(&rt, &mut register, Command::Begin, &[]);
     expect_there(&rt, rt.alloc(), &mut register, "a");
     let other = change_path(&rt, rt.alloc(), "a", &[20]);
     holds(&rt, &mut register, other, 1);
@@ -175,13 +175,13 @@ fn changes_of_a_batch_over_paths(rt: HostRuntime) {
     expect_dropped(&rt, rt.alloc(), &mut register, "a", 4);
     expect_there(&rt, rt.alloc(), &mut register, "b");
     expect_names(&rt, &register, &["a", "b"]);
-    tells(&rt, &mut register, Command::Abort, &[]);
+    expect_reported(&rt, &mut register, Command::Abort, &[]);
     ends(&rt, register, 2, 0);
 }
 
 /// Adds the paths b and a on two roads, by one batch.
 fn give_both(rt: &impl Abort, alloc: Global, register: &mut Register) {
-    tells(rt, register, Command::Begin, &[]);
+    expect_reported(rt, register, Command::Begin, &[]);
     holds(rt, register, add(rt, alloc, "b", &[30], 0), 1);
     holds(rt, register, add(rt, alloc, "a", &[10], 0), 2);
     names(rt, register, Command::Commit(2), &["b", "a"]);
@@ -192,8 +192,8 @@ fn give_both(rt: &impl Abort, alloc: Global, register: &mut Register) {
 fn paths_are_renewed(rt: HostRuntime) {
     let mut register = roads(&rt, rt.alloc(), APART);
     give_both(&rt, rt.alloc(), &mut register);
-    tells(&rt, &mut register, Command::Begin, &[]);
-    tells(&rt, &mut register, Command::Commit(0), &[]);
+    expect_reported(&rt, &mut register, Command::Begin, &[]);
+    expect_reported(&rt, &mut register, Command::Commit(0), &[]);
     expect_counts(&rt, &register, 2, 0);
     // the line of path b is longer
     let longer = other_line(rt.alloc(), 30, 9000, STRAIGHT).expect(&rt, "memory");
@@ -204,7 +204,7 @@ fn paths_are_renewed(rt: HostRuntime) {
     expect_counts(&rt, &register, 4, 0);
     // the line of path a is dropped
     let dropped = Command::Edit(Edit::DropLine(line(10)));
-    tells(&rt, &mut register, dropped, &[("a", unknown(10))]);
+    expect_reported(&rt, &mut register, dropped, &[("a", unknown(10))]);
     ends(&rt, register, 5, 0);
 }
 
@@ -213,7 +213,7 @@ fn one_more_path_by_a_batch(rt: HostRuntime) {
     let mut register = roads(&rt, rt.alloc(), APART);
     let first = add(&rt, rt.alloc(), "a", &[10], 0);
     names(&rt, &mut register, first, &["a"]);
-    tells(&rt, &mut register, Command::Begin, &[]);
+    expect_reported(&rt, &mut register, Command::Begin, &[]);
     let second = add(&rt, rt.alloc(), "b", &[30], 0);
     holds(&rt, &mut register, second, 1);
     names(&rt, &mut register, Command::Commit(1), &["b"]);

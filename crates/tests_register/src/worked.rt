@@ -1,4 +1,5 @@
-//! The worked map in a register, with texts that do not come from the program, and functions that tests of commands share.
+//! The worked map in a register, with texts that do not come from the program, and functions that tests of commands
+//! share.
 
 use made_maps::{Road, WORKED, edits_of, lines, new_line};
 use olr_commands::{Command, CommandFault, Entry, Reply};
@@ -12,10 +13,10 @@ use std::process::Abort;
 pub(crate) const TEXT: &str = "CwRbWyNG9RpsCQCb/jsbtAT/6/+jK1lE";
 
 /// A path of a reply: its name, and its text or the reason why it has none.
-pub(crate) type Told<'a> = (&'a str, Result<&'a str, Refusal>);
+pub(crate) type Expected<'a> = (&'a str, Result<&'a str, Refusal>);
 
 /// The worked path in a reply, with its text.
-pub(crate) const WITH_TEXT: Told<'static> = ("a", Ok(TEXT));
+pub(crate) const WITH_TEXT: Expected<'static> = ("a", Ok(TEXT));
 
 /// The command that adds a path.
 pub(crate) fn add(
@@ -58,8 +59,8 @@ pub(crate) fn road(rt: &impl Abort, alloc: Global, road: Road) -> Command {
 }
 
 /// Asserts that an entry is that of this path.
-fn expect_entry(rt: &impl Abort, entry: &Entry, told: &Told<'_>) {
-    let (name, published) = told;
+fn expect_entry(rt: &impl Abort, entry: &Entry, expected: &Expected<'_>) {
+    let (name, published) = expected;
     assert_eq!(rt; entry.name.as_str(), *name);
     match (&entry.published, published) {
         (Ok(text), Ok(wanted)) => assert_eq!(rt; text.as_str(), *wanted),
@@ -69,24 +70,29 @@ fn expect_entry(rt: &impl Abort, entry: &Entry, told: &Told<'_>) {
 }
 
 /// Asserts that the entries are those of exactly these paths, in this order.
-fn expect_entries(rt: &impl Abort, entries: &[Entry], told: &[Told<'_>]) {
-    assert_eq!(rt; entries.len(), told.len());
-    for k in 0..told.len() {
-        expect_entry(rt, &entries[k], &told[k]);
+fn expect_entries(rt: &impl Abort, entries: &[Entry], expected: &[Expected<'_>]) {
+    assert_eq!(rt; entries.len(), expected.len());
+    for k in 0..expected.len() {
+        expect_entry(rt, &entries[k], &expected[k]);
     }
 }
 
 /// Applies a command, which must be accepted with a reply of exactly these paths, in this order.
-pub(crate) fn tells(rt: &impl Abort, register: &mut Register, command: Command, told: &[Told<'_>]) {
+pub(crate) fn expect_reported(
+    rt: &impl Abort,
+    register: &mut Register,
+    command: Command,
+    expected: &[Expected<'_>],
+) {
     match register.apply(command) {
-        Ok(Reply::Paths(entries)) => expect_entries(rt, &entries, told),
+        Ok(Reply::Paths(entries)) => expect_entries(rt, &entries, expected),
         _ => panic!(rt; "not accepted"),
     }
 }
 
 /// Applies an edit, which must be accepted with a reply of no paths.
 pub(crate) fn edits(rt: &impl Abort, register: &mut Register, edit: Edit) {
-    tells(rt, register, Command::Edit(edit), &[]);
+    expect_reported(rt, register, Command::Edit(edit), &[]);
 }
 
 /// Asserts that the entries have these names, in this order.
@@ -176,6 +182,6 @@ fn base_map(rt: &impl Abort, alloc: Global) -> Register {
 /// The worked map and its path with three LRPs.
 pub(crate) fn three_points(rt: &impl Abort, alloc: Global) -> Register {
     let mut register = base_map(rt, alloc);
-    tells(rt, &mut register, worked_path(rt, alloc), &[WITH_TEXT]);
+    expect_reported(rt, &mut register, worked_path(rt, alloc), &[WITH_TEXT]);
     register
 }

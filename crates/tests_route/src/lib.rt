@@ -1,9 +1,9 @@
-//! Tests of searches, walks and distances, of a search on a grid of 400 nodes, and of numbers at nodes.
+//! Tests of searches, routes and distances, of labels on a grid of 400 nodes, and of distance bounds.
 #![tactic(auto)]
 
 #[cfg(test)]
-mod grid;
+mod distance_bounds;
 #[cfg(test)]
-mod nearness;
+mod grid;
 #[cfg(test)]
 mod searches;

@@ -1,7 +1,7 @@
 //! Searches and routes on small maps.
 ghost use Rattle.std.specs.Prelude.{◌≡◌, ◌≤◌, ℕ};
 ghost use Rattle.std.specs.Bool.{OnTrue};
-ghost use Rattle.olr_spec.specs.Walks.{Walk};
+ghost use Rattle.olr_spec.specs.Routes.{IsRoute};
 ghost use Rattle.olr_route.specs.Labels.{AreLabels};
 
 use made_maps::{
@@ -9,8 +9,8 @@ use made_maps::{
 };
 use olr_map::{Footprint, LineId, MapRead, NodeId, RoadMap};
 use olr_route::{
-    Direction, GREATEST_LIMIT, Labels, Search, Work, extends_least, extends_sole, is_least,
-    is_sole, near, search,
+    Dijkstra, Direction, GREATEST_LIMIT, Labels, Work, extends_least, extends_unique_shortest,
+    is_least, is_unique_shortest, search, settled_search,
 };
 use std::alloc::Global;
 use std::fmt::Debug;
@@ -77,8 +77,8 @@ fn labels_from<M: MapRead>(
 }
 
 /// Whether the lines are on the map, the first begins at the source, and each other one where the one before ends.
-fn is_walk<M: MapRead>(map: &M, source: NodeId, lines: &[LineId]) -> bool
-    ensures { OnTrue result ((t : ℕ) × Walk (M.map map.now) source t lines.now) }
+fn is_route<M: MapRead>(map: &M, source: NodeId, lines: &[LineId]) -> bool
+    ensures { OnTrue result ((t : ℕ) × IsRoute (M.map map.now) source t lines.now) }
 {
     let mut at = source;
     for id in lines {
@@ -108,10 +108,10 @@ fn judgement<M: MapRead>(
         let pushed = lines.push(line(*number));
         assert!(rt; pushed.is_ok());
     }
-    assert!(rt; is_walk(map, source, &lines));
+    assert!(rt; is_route(map, source, &lines));
     (
         is_least(map, &labels, &lines),
-        is_sole(map, &labels, &lines),
+        is_unique_shortest(map, &labels, &lines),
     )
 }
 
@@ -191,29 +191,29 @@ fn search_on_the_base_map(rt: HostRuntime) -> Result<(), Fail> {
 }
 
 /// Asserts whether each of these routes from a node is the shortest path, and whether it is the unique one.
-fn assert_judged<M: MapRead>(
+fn assert_plan<M: MapRead>(
     rt: &impl Abort,
     alloc: Global,
     map: &M,
     source: u32,
-    walks: &[(&[u32], (bool, bool))],
+    routes: &[(&[u32], (bool, bool))],
 ) {
-    for (lines, wanted) in walks {
+    for (lines, wanted) in routes {
         let found = judgement(rt, alloc, map, node(source), lines);
         assert_eq!(rt; found, *wanted, "the walk {lines:?}");
     }
 }
 
 #[test]
-fn least_and_sole_walks(rt: HostRuntime) {
+fn least_and_unique_routes(rt: HostRuntime) {
     let map = base(&rt, rt.alloc());
-    let walks = [
+    let routes = [
         (&[][..], (true, true)),
         (&[99], (true, true)),
         (&[99, 30], (true, true)),
         (&[20], (false, false)),
     ];
-    assert_judged(&rt, rt.alloc(), &map, 2, &walks);
+    assert_plan(&rt, rt.alloc(), &map, 2, &routes);
 
     let map = diamond(&rt, rt.alloc());
     let by_seventh = [
@@ -223,28 +223,28 @@ fn least_and_sole_walks(rt: HostRuntime) {
         (Some(200), Some(7)),
     ];
     same!(&rt; labels_within(&rt, rt.alloc(), &map, 1, GREATEST_LIMIT), by_seventh);
-    let walks = [
+    let routes = [
         (&[][..], (true, true)),
         (&[6], (true, true)),
         (&[6, 7], (true, false)),
         (&[5, 8], (false, false)),
         (&[6, 7, 9], (true, false)),
     ];
-    assert_judged(&rt, rt.alloc(), &map, 1, &walks);
+    assert_plan(&rt, rt.alloc(), &map, 1, &routes);
 }
 
 #[test]
-fn lines_that_prolong_walks(rt: HostRuntime) {
+fn lines_that_prolong_routes(rt: HostRuntime) {
     let map = diamond(&rt, rt.alloc());
     let labels = labels_from(&rt, rt.alloc(), &map, node(1), GREATEST_LIMIT);
-    for (number, least, sole) in [(6, true, true), (7, true, false), (8, false, false)] {
+    for (number, least, unique) in [(6, true, true), (7, true, false), (8, false, false)] {
         let line = line(number);
         assert!(rt; map.line(line).is_some());
         let found = (
             extends_least(&map, &labels, line),
-            extends_sole(&map, &labels, line),
+            extends_unique_shortest(&map, &labels, line),
         );
-        same!(&rt; found, (least, sole));
+        same!(&rt; found, (least, unique));
     }
 }
 
@@ -260,12 +260,12 @@ fn loops_and_parallel_lines(rt: HostRuntime) {
     let second = (Some(100), Some(2));
     same!(&rt; labels_within(&rt, rt.alloc(), &map, 1, GREATEST_LIMIT), [start, second, NONE, NONE]);
     same!(&rt; labels_within(&rt, rt.alloc(), &map, 1, 0), [start, NONE, NONE, NONE]);
-    let walks = [
+    let routes = [
         (&[1][..], (false, false)),
         (&[2], (true, false)),
         (&[3], (false, false)),
     ];
-    assert_judged(&rt, rt.alloc(), &map, 1, &walks);
+    assert_plan(&rt, rt.alloc(), &map, 1, &routes);
 }
 
 #[test]
@@ -303,7 +303,7 @@ fn distances<M: MapRead>(
         let pushed = begins.push((node(number), length));
         assert!(rt; pushed.is_ok());
     }
-    match near(alloc, map, direction, &begins, limit) {
+    match settled_search(alloc, map, direction, &begins, limit) {
         Ok(search) => [
             search.dist(map, node(1)),
             search.dist(map, node(2)),
@@ -385,7 +385,7 @@ fn distances_in_either_direction(rt: HostRuntime) {
 }
 
 /// The distances of the nodes 1 to 4, and how many nodes the search settled.
-fn distances_of(map: &RoadMap, search: &Search) -> ([Option<u32>; 4], usize) {
+fn distances_of(map: &RoadMap, search: &Dijkstra) -> ([Option<u32>; 4], usize) {
     let dists = [
         search.dist(map, node(1)),
         search.dist(map, node(2)),
@@ -396,7 +396,7 @@ fn distances_of(map: &RoadMap, search: &Search) -> ([Option<u32>; 4], usize) {
 }
 
 /// Settles a search of the worked map from node 2 in steps.
-fn settle_in_steps(rt: &impl Abort, map: &RoadMap, search: &mut Search) -> Result<(), Fail> {
+fn settle_in_steps(rt: &impl Abort, map: &RoadMap, search: &mut Dijkstra) -> Result<(), Fail> {
     search.begin(map, Direction::Along, &[(node(2), 0)])?;
     same!(rt; distances_of(map, search), ([None, Some(0), None, None], 1));
     search.settle_to(map, 1500)?;
@@ -410,16 +410,16 @@ fn settle_in_steps(rt: &impl Abort, map: &RoadMap, search: &mut Search) -> Resul
 }
 
 /// Asserts that a search reached these nodes in this order, each with its distance.
-fn assert_reached(rt: &impl Abort, map: &RoadMap, search: &Search, numbers: &[u32]) {
-    for (at, number) in search.reached_nodes().iter().zip(numbers) {
+fn assert_reached(rt: &impl Abort, map: &RoadMap, search: &Dijkstra, numbers: &[u32]) {
+    for (at, number) in search.labelled_nodes().iter().zip(numbers) {
         let reached = node(*number);
         same!(rt; at.node, reached);
-        same!(rt; search.dist_at(at.place), search.dist(map, reached));
+        same!(rt; search.dist_at(at.slot), search.dist(map, reached));
     }
 }
 
 /// Begins the same search again on the diamond, against its lines from node 4.
-fn begin_anew(rt: &impl Abort, map: &RoadMap, search: &mut Search) -> Result<(), Fail> {
+fn begin_again(rt: &impl Abort, map: &RoadMap, search: &mut Dijkstra) -> Result<(), Fail> {
     search.begin(map, Direction::Against, &[(node(4), 0)])?;
     search.settle_to(map, 100)?;
     same!(rt; distances_of(map, search), ([None, Some(100), Some(100), Some(0)], 3));
@@ -429,32 +429,32 @@ fn begin_anew(rt: &impl Abort, map: &RoadMap, search: &mut Search) -> Result<(),
 #[test]
 fn search_step_by_step(rt: HostRuntime) -> Result<(), Fail> {
     let map = base(&rt, rt.alloc());
-    let mut search = Search::new(rt.alloc());
+    let mut search = Dijkstra::new(rt.alloc());
     settle_in_steps(&rt, &map, &mut search)?;
     assert_reached(&rt, &map, &search, &[2, 3, 4]);
-    begin_anew(&rt, &diamond(&rt, rt.alloc()), &mut search)
+    begin_again(&rt, &diamond(&rt, rt.alloc()), &mut search)
 }
 
 /// Asserts whether each of these lines extends a unique shortest path from node 1.
-fn assert_sole(
+fn assert_unique(
     rt: &impl Abort,
     alloc: Global,
     map: &RoadMap,
     lines: &[(u32, bool)],
 ) -> Result<(), Fail> {
     let from = [(node(1), 0)];
-    let search = near(alloc, map, Direction::Along, &from, GREATEST_LIMIT)?;
-    for (number, sole) in lines {
-        same!(rt; search.extends_sole(map, line(*number)), *sole);
+    let search = settled_search(alloc, map, Direction::Along, &from, GREATEST_LIMIT)?;
+    for (number, unique) in lines {
+        same!(rt; search.extends_unique_shortest(map, line(*number)), *unique);
     }
     Ok(())
 }
 
 #[test]
-fn sole_walks_by_distances(rt: HostRuntime) -> Result<(), Fail> {
+fn unique_routes_by_distances(rt: HostRuntime) -> Result<(), Fail> {
     let map = diamond(&rt, rt.alloc());
     let lines = [(5, true), (6, true), (7, false), (8, false), (10, false)];
-    assert_sole(&rt, rt.alloc(), &map, &lines)?;
+    assert_unique(&rt, rt.alloc(), &map, &lines)?;
 
     let map = map_with(
         &rt,
@@ -469,5 +469,5 @@ fn sole_walks_by_distances(rt: HostRuntime) -> Result<(), Fail> {
         ],
     );
     let lines = [(1, false), (2, false), (3, false), (4, true), (5, false)];
-    assert_sole(&rt, rt.alloc(), &map, &lines)
+    assert_unique(&rt, rt.alloc(), &map, &lines)
 }

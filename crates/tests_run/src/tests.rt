@@ -196,7 +196,8 @@ fn malformed_records(rt: HostRuntime) {
     }
 }
 
-/// How many bytes a reader has returned before a call. The first byte is read alone, since a byte order mark may begin there.
+/// How many bytes a reader has returned before a call. The first byte is read alone, since a byte order mark may begin
+/// there.
 fn given_before(call: usize, step: usize) -> usize {
     if call == 0 {
         return 0;
@@ -356,12 +357,12 @@ fn statuses(rt: HostRuntime) {
 /// Runs the program with arguments and an input; the file that they name has these records, or does not exist.
 fn expect_program<R: Abort + AllocGlobal>(
     rt: &R,
-    words: &[&str],
+    arguments: &[&str],
     file: Option<&'static str>,
     input: Slow,
     status: u8,
     replies: &str,
-    told: &str,
+    expected: &str,
 ) {
     let mut register = Register::new(rt.alloc());
     let mut output = Vec::new(rt.alloc());
@@ -370,7 +371,7 @@ fn expect_program<R: Abort + AllocGlobal>(
     let ended = program(
         rt.alloc(),
         &mut register,
-        words,
+        arguments,
         |_: &str| match records {
             Some(records) => Ok(records),
             None => Err(io::Error::from(io::ErrorKind::NotFound)),
@@ -380,8 +381,8 @@ fn expect_program<R: Abort + AllocGlobal>(
         &mut errors,
     );
     let found = (ended, output.as_slice(), errors.as_slice());
-    let wanted = (status, replies.as_bytes(), told.as_bytes());
-    assert_eq!(rt; found, wanted, "of {words:?}");
+    let wanted = (status, replies.as_bytes(), expected.as_bytes());
+    assert_eq!(rt; found, wanted, "of {arguments:?}");
     let_go(register);
 }
 
@@ -409,21 +410,21 @@ fn whole_programs(rt: HostRuntime) {
 }
 
 /// Runs the program with arguments, and a writer that fails at the first call.
-fn expect_write_fault<R: Abort + AllocGlobal>(rt: &R, words: &[&str]) {
+fn expect_write_fault<R: Abort + AllocGlobal>(rt: &R, arguments: &[&str]) {
     let mut register = Register::new(rt.alloc());
     let mut output = Narrow::new(rt.alloc(), 100, 0, false);
     let mut errors = Vec::new(rt.alloc());
     let ended = program(
         rt.alloc(),
         &mut register,
-        words,
+        arguments,
         |_: &str| Ok("".as_bytes()),
         RECORDS.as_bytes(),
         &mut output,
         &mut errors,
     );
     let wanted = (3, b"olr-keep: write fault\n".as_slice());
-    assert_eq!(rt; (ended, errors.as_slice()), wanted, "of {words:?}");
+    assert_eq!(rt; (ended, errors.as_slice()), wanted, "of {arguments:?}");
     let_go(register);
 }
 

@@ -1,6 +1,6 @@
 use Rattle.olr_spec.proofs.AgreeLemmas.{turned_round}
 use Rattle.olr_spec.proofs.ChangeLemmas.{edit_differs, none_differs, differences_add}
-use Rattle.olr_spec.proofs.DetourLemmas.{walks_there, walks_here, sole_there, sole_here, near_there}
+use Rattle.olr_spec.proofs.DetourLemmas.{routes_there, routes_here, unique_there, unique_here, near_there}
 use Rattle.olr_spec.proofs.laws_of_changes.Goals as goal
 
 pub returns-clause-edits : goal.returns-clause-edits
@@ -12,14 +12,14 @@ returns-clause-none c = none_differs
 pub returns-clause-more : goal.returns-clause-more
 returns-clause-more c = differences_add
 
-pub returns-clause-walks : goal.returns-clause-walks
-returns-clause-walks c =
-    λ M N C s t d there here clear xs. (walks_there M N C s t d there clear xs, walks_here M N C s t d here clear xs)
+pub returns-clause-routes : goal.returns-clause-routes
+returns-clause-routes c =
+    λ M N C s t d there here clear xs. (routes_there M N C s t d there clear xs, routes_here M N C s t d here clear xs)
 
 pub returns-clause-soles : goal.returns-clause-soles
 returns-clause-soles c =
     λ M N C s t d there here clear xs e h.
-    (sole_there M N C s t d there here clear xs e h, sole_here M N C s t d there here clear xs e h)
+    (unique_there M N C s t d there here clear xs e h, unique_here M N C s t d there here clear xs e h)
 
 pub returns-clause-near : goal.returns-clause-near
 returns-clause-near c =

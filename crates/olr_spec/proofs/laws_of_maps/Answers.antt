@@ -1,10 +1,10 @@
-use Rattle.olr_spec.proofs.OrderLemmas.{rise_in, rise_out, exactly_in, exactly_out}
+use Rattle.olr_spec.proofs.OrderLemmas.{ascend_in, ascend_out, exactly_in, exactly_out}
 use Rattle.olr_spec.proofs.EditLemmas.{edits_keep}
 use Rattle.olr_spec.proofs.UndoLemmas.{edits_undo, empty_sound}
 use Rattle.olr_spec.proofs.laws_of_maps.Goals as goal
 
-pub returns-clause-rise : goal.returns-clause-rise
-returns-clause-rise c = λ M v. (rise_in M v, rise_out M v)
+pub returns-clause-ascend : goal.returns-clause-ascend
+returns-clause-ascend c = λ M v. (ascend_in M v, ascend_out M v)
 
 pub returns-clause-entering : goal.returns-clause-entering
 returns-clause-entering c = exactly_in

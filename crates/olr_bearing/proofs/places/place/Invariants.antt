@@ -1,6 +1,6 @@
 use Rattle.std.proofs.Common.{◌≡◌, ℕ, ◌<◌, ◌≤◌, List, [], ◌∷◌, ◌++◌, IsTrue, drop}
-use Rattle.olr_spec.specs.Map.{ShapePoint, rises_between}
-use Rattle.olr_spec.specs.Bearings.{Leg, scaled_on, scaled_place}
+use Rattle.olr_spec.specs.Map.{ShapePoint, ascends_between}
+use Rattle.olr_spec.specs.Bearings.{Leg, scaled_on, scaled_coord}
 use Rattle.olr_bearing.specs.Legs.{leg_between}
 use Rattle.olr_bearing.proofs.places.place.Given as goal
 
@@ -13,8 +13,8 @@ end_point g = record { at = g.line.len; place = g.finish }
 pub record Reached (g : Leg) (at : ℕ) (from : ShapePoint) (rest : List ShapePoint) : Type 0 where
   pub behind : from.at ≤ at
   pub inside : from.at < g.line.len
-  pub rises : IsTrue (rises_between from.at rest g.line.len)
-  pub found : scaled_on from (rest ++ end_point g ∷ []) at ≡ scaled_place g at
+  pub ascends : IsTrue (ascends_between from.at rest g.line.len)
+  pub found : scaled_on from (rest ++ end_point g ∷ []) at ≡ scaled_coord g at
 
 abbrev pub invariant-loop-to : goal.invariant-loop-to
 invariant-loop-to l = Reached (leg_between l.line l.ends) l.at l.from (drop l.to-index l.to-items)

@@ -3,8 +3,8 @@ use Rattle.std.proofs.lemmas.Int.{to_z-of_z}
 use Rattle.olr_binary.proofs.PointLemmas.{first_bytes-parts}
 use Rattle.olr_binary.proofs.read.read_first.Goals as goal
 
-pub returns-clause-spelled : goal.returns-clause-spelled
-returns-clause-spelled c =
+pub returns-clause-encoded : goal.returns-clause-encoded
+returns-clause-encoded c =
     let lon_fits : FitsSigned w32 c.read_signed24.result = record { sfits = c.read_signed24.type_inv } in
     let lat_fits : FitsSigned w32 c.read_signed24-2.result = record { sfits = c.read_signed24-2.type_inv } in
     simp to_z-of_z
@@ -14,4 +14,4 @@ returns-clause-spelled c =
       attrs =
           c.read_attrs.result;
     } c.args.bytes.now c.requires.nine
-    c.read_signed24.ensures.spelled c.read_signed24-2.ensures.spelled c.read_attrs.ensures.spelled)
+    c.read_signed24.ensures.encoded c.read_signed24-2.ensures.encoded c.read_attrs.ensures.encoded)

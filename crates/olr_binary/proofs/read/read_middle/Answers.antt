@@ -3,8 +3,8 @@ use Rattle.std.proofs.lemmas.Int.{to_z-of_z}
 use Rattle.olr_binary.proofs.PointLemmas.{middle_bytes-parts}
 use Rattle.olr_binary.proofs.read.read_middle.Goals as goal
 
-pub returns-clause-spelled : goal.returns-clause-spelled
-returns-clause-spelled c =
+pub returns-clause-encoded : goal.returns-clause-encoded
+returns-clause-encoded c =
     let lon_fits : FitsSigned w16 c.read_signed16.result = record { sfits = c.read_signed16.type_inv } in
     let lat_fits : FitsSigned w16 c.read_signed16-2.result = record { sfits = c.read_signed16-2.type_inv } in
     simp to_z-of_z
@@ -14,4 +14,4 @@ returns-clause-spelled c =
       attrs =
           c.read_attrs.result;
     } c.args.bytes.now c.requires.seven
-    c.read_signed16.ensures.spelled c.read_signed16-2.ensures.spelled c.read_attrs.ensures.spelled)
+    c.read_signed16.ensures.encoded c.read_signed16-2.ensures.encoded c.read_attrs.ensures.encoded)

@@ -23,9 +23,9 @@ loop-i-preserved c =
     let b : List ℕ = c.args.bytes.now in
     let i = c.loop-i.i in
     rw c.in_ok-push.ensures.items record {
-      spelled =
-          flat_map-push b i c.loop-i.points.items c.read_middle.result c.loop-i.invariant.spelled
-          c.read_middle.ensures.spelled;
+      encoded =
+          flat_map-push b i c.loop-i.points.items c.read_middle.result c.loop-i.invariant.encoded
+          c.read_middle.ensures.encoded;
       fits =
           AllByRecursion-push IsMiddle c.loop-i.points.items c.read_middle.result c.loop-i.invariant.fits
           c.read_middle.ensures.fits;

@@ -7,15 +7,15 @@ use Rattle.olr_spec.specs.Bytes.{IsReference, middle_bytes, status_byte, v3_faul
 use Rattle.olr_binary.specs.Codes.{reference_from}
 use Rattle.olr_binary.specs.Faults.{bytes_fault_of}
 use Rattle.olr_binary.proofs.LayoutLemmas.{low_attribute1, status-is}
-use Rattle.olr_binary.proofs.PointLemmas.{spelling-parts}
-use Rattle.olr_binary.proofs.SpelledLemmas.{unspelled}
+use Rattle.olr_binary.proofs.PointLemmas.{reference_bytes-parts}
+use Rattle.olr_binary.proofs.EncodedLemmas.{unspelled}
 use Rattle.olr_binary.proofs.read.read_v3.Goals as goal
 
 pub returns-in_err-layout-clause-unspelled : goal.returns-in_err-layout-clause-unspelled
 returns-in_err-layout-clause-unspelled c =
     let b : List ℕ = c.args.bytes.now in
-    let told : IfErr c.from_residual.result (λ fault. v3_fault b ≡ bytes_fault_of fault) = search rules in
-    unspelled b c.from_residual.result told
+    let reported : IfErr c.from_residual.result (λ fault. v3_fault b ≡ bytes_fault_of fault) = search rules in
+    unspelled b c.from_residual.result reported
 
 pub read_last-last-requires-clause-reserved_1 : goal.read_last-last-requires-clause-reserved_1
 read_last-last-requires-clause-reserved_1 c =
@@ -45,6 +45,6 @@ returns-clause-ok c =
     let state : slice_index b 0 ≡ status_byte =
     status-is b m c.in_ok-layout.layout.offsets c.in_ok-layout.ensures.ok c.in_ok-layout.ensures.sound in (
       fit,
-      spelling-parts b m r (omega arith) state c.read_first-first.ensures.spelled middle
-          c.read_last-last.ensures.spelled,
+      reference_bytes-parts b m r (omega arith) state c.read_first-first.ensures.encoded middle
+          c.read_last-last.ensures.encoded,
     )

@@ -76,7 +76,7 @@ apart_spec 𝓤 𝓛 𝓜 𝓡 wired X Z LX LZ gh d dx dd allocator glue glued =
     let w' : Val = pair (vptr b' o') h' in
     let good' : T (has_ty (layout Z) h' && true) × WT w' = (and_tt (has_ty (layout Z) h') fits'.0, (tt, (fits'.1, tt))) in
     let made : (loose.the_row R P gh).Denot = record { at = block_ptr b' o'; alloc = v.alloc; value = v.value } in
-    let Told : Type 0 = made.value ≡ v.value in
+    let Says : Type 0 = made.value ≡ v.value in
     lands_as ! (ap only (eu ∙ (λ j. vstruct (of_list ((ep ∙ ap (λ (p : Ptr). ptr_val p ∷ []) e') j ++ (eh j ++ []))) ∷ []))) refl good' $
     sets ! (of_opd ! (get_in ! (fld ! refl (stop !)) (sub ! 0 refl (whole !)))) refl (tt, tt) $
     sets ! (of_opd ! (get_in ! (fld ! refl (stop !)) (sub ! 1 refl (whole !)))) refl fits' $
@@ -87,5 +87,5 @@ apart_spec 𝓤 𝓛 𝓜 𝓡 wired X Z LX LZ gh d dx dd allocator glue glued =
     nothing ! $ move ! (2 ∷ 0 ∷ []) $ fjoin ! $
     feq_i ! (List Val) (vptr b' o' ∷ []) (vptr b' o' ∷ []) refl $ fjoin ! $ feq_i ! (List Val) (w' ∷ []) (w' ∷ []) refl $ fjoin ! $
     fpack ! (Valss (RawPtr ∷ P ∷ [])) (within (shape (loose.the_type R P gh)) (block_ptr b' o', (v.alloc, tt)) (w' ∷ [])) (vptr b' o' ∷ [], (h' ∷ [], tt)) $ fjoin ! $
-    use0 𝓛 (raw (fact 𝓤 Told)) (fact_i 𝓤 Told (emp 𝓤) refl) $ nothing ! $ nothing ! $ fjoin ! $ move ! (3 ∷ 0 ∷ 2 ∷ 1 ∷ []) $
+    use0 𝓛 (raw (fact 𝓤 Says)) (fact_i 𝓤 Says (emp 𝓤) refl) $ nothing ! $ nothing ! $ fjoin ! $ move ! (3 ∷ 0 ∷ 2 ∷ 1 ∷ []) $
     by ! (leaves 𝓛 En hs c z w' made ((tt, (tt, tt)), tt) (tt, tt))))))))))))))

@@ -1,4 +1,5 @@
-use Rattle.std.proofs.Common.{◌≡◌, List, ℕ, [], ◌∷◌, ◌++◌, ◌+◌, ◌-◌, ◌/◌, ◌%◌, ◌^◌, ap, ◌∙◌, sym, arith, append_assoc, refl}
+use Rattle.std.proofs.Common.{◌≡◌, List, ℕ, [], ◌∷◌, ◌++◌, ◌+◌, ◌-◌, ◌/◌, ◌%◌, ◌^◌, ap, ◌∙◌, sym, arith, append_assoc}
+use Rattle.std.proofs.Common.{refl}
 use Rattle.std.proofs.lemmas.List.{append-nil}
 use Rattle.olr_coords.specs.DegreesText.{decimals}
 use Rattle.olr_coords.proofs.DegreesTextLemmas.{IsStep, step, decimals-end}
@@ -6,7 +7,8 @@ use Rattle.olr_coords.proofs.text.push_decimals.Goals as goal
 
 pub overflow_sub-places : goal.overflow_sub-places
 overflow_sub-places c =
-    (step c.loop-rest.places c.loop-rest.rest c.loop-rest.invariant.few c.loop-rest.invariant.left c.loop-rest-test.true).places
+    (step c.loop-rest.places c.loop-rest.rest c.loop-rest.invariant.few c.loop-rest.invariant.left
+    c.loop-rest-test.true).places
 
 pub pow-scale-requires : goal.pow-scale-requires
 pow-scale-requires c =
@@ -65,5 +67,6 @@ loop-rest-preserved c =
 pub returns : goal.returns
 returns c =
     sym (append-nil c.loop-rest.text.items)
-    ∙ ap (λ (ds : List ℕ). c.loop-rest.text.items ++ ds) (sym (decimals-end c.loop-rest.places c.loop-rest.rest (omega arith)))
+    ∙ ap (λ (ds : List ℕ). c.loop-rest.text.items ++ ds) (sym
+    (decimals-end c.loop-rest.places c.loop-rest.rest (omega arith)))
     ∙ c.loop-rest.invariant.written

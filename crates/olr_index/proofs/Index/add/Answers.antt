@@ -6,4 +6,4 @@ use Rattle.olr_index.proofs.Index.add.Goals as goal
 pub put-requires : goal.put-requires
 put-requires c =
     subst (λ (xs : List ℕ). IsStrictlyIncreasing xs) (sym (ap items_of c.in-Some.ensures.value))
-    (c.args.self.now.rise c.args.number)
+    (c.args.self.now.ascend c.args.number)

@@ -3,7 +3,7 @@ use Rattle.std.specs.List.Sorted.{IsStrictlyIncreasing}
 use Rattle.olr_index.specs.Listed.{items_of}
 use Rattle.olr_index.proofs.Index.of.Goals as goal
 
-pub returns-in-Some-clause-rising : goal.returns-in-Some-clause-rising
-returns-in-Some-clause-rising c =
+pub returns-in-Some-clause-ascending : goal.returns-in-Some-clause-ascending
+returns-in-Some-clause-ascending c =
     subst (λ (xs : List ℕ). IsStrictlyIncreasing xs)
-    (sym (c.as_slice.ensures.value ∙ ap items_of c.in-Some.ensures.value)) (c.args.self.now.rise c.args.number)
+    (sym (c.as_slice.ensures.value ∙ ap items_of c.in-Some.ensures.value)) (c.args.self.now.ascend c.args.number)

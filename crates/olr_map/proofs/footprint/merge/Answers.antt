@@ -65,8 +65,8 @@ both c = rw (c.in_ok-extend_from_slice-2.ensures.items, c.in_ok-extend_from_slic
     (merged_all c.args.left.now c.args.right.now c.loop-i.both.items c.loop-i.i c.loop-i.j c.requires.left
     c.requires.right c.loop-i.invariant.left_in c.loop-i.invariant.right_in (past c) c.loop-i.invariant.merging)
 
-pub returns-clause-rising : goal.returns-clause-rising
-returns-clause-rising c = (both c).rising
+pub returns-clause-ascending : goal.returns-clause-ascending
+returns-clause-ascending c = (both c).ascending
 
 pub returns-clause-holds : goal.returns-clause-holds
 returns-clause-holds c = (both c).holds

@@ -14,19 +14,19 @@ returns-clause-fault g c =
     let there : has_node M v ≡ true = c.in-Some.ensures.0 in
     let at = sym c.in-Some.ensures.1 in
     let free =
-    unused_without_ends M (g.M.MapRead.place_in c.args.map.now) v _ _ (c.out_ends_at.ensures v there at)
+    unused_without_ends M (g.M.MapRead.node_slot c.args.map.now) v _ _ (c.out_ends_at.ensures v there at)
     (c.in_ends_at.ensures v there at)
     (eqb-true _ 0 (sym c.if-not-is_empty.ensures)) (eqb-true _ 0 (sym c.if-not-is_empty-2.ensures)) in
     ok_at _ _ _ (drop_taken M v there free)
 
-pub returns-clause-judged : goal.returns-clause-judged
-returns-clause-judged g c =
+pub returns-clause-plan : goal.returns-clause-plan
+returns-clause-plan g c =
     let M = g.M.MapRead.map c.args.map.now in
     let v = c.args.id in
     let there : has_node M v ≡ true = c.in-Some.ensures.0 in
     let at = sym c.in-Some.ensures.1 in
     let free =
-    unused_without_ends M (g.M.MapRead.place_in c.args.map.now) v _ _ (c.out_ends_at.ensures v there at)
+    unused_without_ends M (g.M.MapRead.node_slot c.args.map.now) v _ _ (c.out_ends_at.ensures v there at)
     (c.in_ends_at.ensures v there at)
     (eqb-true _ 0 (sym c.if-not-is_empty.ensures)) (eqb-true _ 0 (sym c.if-not-is_empty-2.ensures)) in
     record {
@@ -48,11 +48,11 @@ returns-then-not-is_empty-clause-fault g c =
     let v = c.args.id in
     let there : has_node M v ≡ true = c.in-Some.ensures.0 in
     let at = sym c.in-Some.ensures.1 in
-    let place = g.M.MapRead.place_in c.args.map.now in
+    let slot = g.M.MapRead.node_slot c.args.map.now in
     let used : in_use M v ≡ true = elim c.then-not-is_empty.branch [
       | then-not-is_empty-via-then-not-is_empty w ↦
-          used_by_out M place v _ (c.out_ends_at.ensures v there at) (eqb-false _ 0 (sym w.if-not-is_empty.ensures))
+          used_by_out M slot v _ (c.out_ends_at.ensures v there at) (eqb-false _ 0 (sym w.if-not-is_empty.ensures))
       | then-not-is_empty-via-else-not-is_empty+then-not-is_empty-2 w ↦
-          used_by_in M place v _ (w.in_ends_at.ensures v there at) (eqb-false _ 0 (sym w.if-not-is_empty-2.ensures))
+          used_by_in M slot v _ (w.in_ends_at.ensures v there at) (eqb-false _ 0 (sym w.if-not-is_empty-2.ensures))
     ] in
     err_at _ Node_in_use (drop_refused M v there used)

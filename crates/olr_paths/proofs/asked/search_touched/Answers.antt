@@ -10,21 +10,21 @@ use Rattle.olr_paths.proofs.asked.search_touched.Goals.{then-is_far, else-is_far
 pub returns-then-searches : goal.returns-then-searches
 returns-then-searches g c =
     let N = g.M.MapRead.map c.args.map.now in
-    let place = g.M.MapRead.place_in c.args.map.now in
-    let is = shown_items c.args.laid in
+    let slot = g.M.MapRead.node_slot c.args.map.now in
+    let is = shown_items c.args.overlaid in
     let s : Searches = record c.args.searches.now { far = c.if-is_far.searches } in
     elim c.if-is_far.branch [
-      | then-is_far w ↦ asked_far N place c.args.touched.now s is c.if-searches.true
+      | then-is_far w ↦ asked_far N slot c.args.touched.now s is c.if-searches.true
           (λ l b. subst (λ (T : List ℕ). ¬ Near N T l.from (min l.within limit)) c.nodes.ensures
           (c.is_far.ensures.far w.if-is_far.true N l.from l.within c.requires.right (c.requires.sources l b)))
-      | else-is_far w ↦ asked_lack N place c.args.touched.now s is c.if-searches.true
-          (w.is_without_looks-searches.ensures (sym w.searches-is ∙ c.if-searches.true))
+      | else-is_far w ↦ asked_lack N slot c.args.touched.now s is c.if-searches.true
+          (w.is_without_queries-searches.ensures (sym w.searches-is ∙ c.if-searches.true))
     ]
 
 pub returns : goal.returns
 returns g c =
     let s : Searches = record c.args.searches.now { near = c.search_near.new.near; far = c.if-is_far.searches } in
     let e = c.in_ok-search_near.ensures in
-    asked_searched (g.M.MapRead.map c.args.map.now) (g.M.MapRead.place_in c.args.map.now) c.args.touched.now s
-    (shown_items c.args.laid) c.if-searches.false e.lengths
-    (λ l b. e.told c.requires.right l.from l.within (c.requires.sources l b))
+    asked_searched (g.M.MapRead.map c.args.map.now) (g.M.MapRead.node_slot c.args.map.now) c.args.touched.now s
+    (shown_items c.args.overlaid) c.if-searches.false e.lengths
+    (λ l b. e.returned c.requires.right l.from l.within (c.requires.sources l b))

@@ -3,20 +3,20 @@ use Rattle.olr_spec.specs.Extension.{limit}
 use Rattle.olr_spec.specs.Detours.{Near}
 use Rattle.olr_route.specs.Bounds.{label_at}
 use Rattle.olr_paths.specs.Touching.{nodes_of}
-use Rattle.olr_paths.proofs.Nearness.{near_by, near_absent}
+use Rattle.olr_paths.proofs.Distances.{near_by, near_absent}
 use Rattle.olr_paths.proofs.asking.is_near.Goals as goal
 
 pub returns-in-Some : goal.returns-in-Some
 returns-in-Some g c =
     let N = g.M.MapRead.map c.args.map.now in
-    let place = g.M.MapRead.place_in c.args.map.now in
+    let slot = g.M.MapRead.node_slot c.args.map.now in
     let there = c.in-Some.ensures.0 in
     let most = min c.args.within limit in
-    let label = label_at c.args.near.now (place c.args.node) in
+    let label = label_at c.args.near.now (slot c.args.node) in
     let known =
     near_by N (g.met.M.MapRead.sound c.args.map.now) (nodes_of c.args.touched.now) c.args.node label most there
     (λ le. c.requires.lengths.leads c.args.node there (omega arith))
-    (λ d le way. c.requires.told d le there way) in
+    (λ d le way. c.requires.returned d le there way) in
     let at = c.is_within.ensures in
     let same = ap (label_at c.args.near.now) c.in-Some.ensures.1 in
     let least = c.min.ensures in

@@ -3,47 +3,48 @@ use Rattle.olr_route.specs.Bounds.{AreLengths, AreBounds, IsUnder, bound_in}
 use Rattle.olr_route.specs.Searches.{IsSearch}
 use Rattle.olr_route.specs.declared.distances.Direction.TheVariants.{Against}
 use Rattle.olr_route.specs.Distances.{Leads}
-use Rattle.olr_near.specs.Numbers.{Numbers}
-use Rattle.olr_paths.proofs.Bounding.{numbers_bound, source_under}
+use Rattle.olr_near.specs.Bounds.{Numbers}
+use Rattle.olr_paths.proofs.Bounding.{are_bounds, source_under}
 use Rattle.olr_paths.proofs.asking.search_near.Goals as goal
 
 -- as far as the numbers let it
 pub returns-then-is_known-clause-lengths : goal.returns-then-is_known-clause-lengths
 returns-then-is_known-clause-lengths g c =
     let from = c.deref.result.now in
-    subst (λ (xs : List (ℕ × ℕ)). AreLengths (g.M.MapRead.map c.args.map.now) (g.M.MapRead.place_in c.args.map.now)
+    subst (λ (xs : List (ℕ × ℕ)). AreLengths (g.M.MapRead.map c.args.map.now) (g.M.MapRead.node_slot c.args.map.now)
     Against xs c.settle_under.new.self) (c.deref.ensures.value ∙ c.in_ok-sources.ensures)
     (c.in_ok-settle_under.ensures.labelled Against from c.in_ok-begin.ensures.search)
 
-pub returns-then-is_known-clause-told : goal.returns-then-is_known-clause-told
-returns-then-is_known-clause-told g c = λ right v w source d le there way.
+pub returns-then-is_known-clause-returned : goal.returns-then-is_known-clause-returned
+returns-then-is_known-clause-returned g c = λ right v w source d le there way.
     let N = g.M.MapRead.map c.args.map.now in
-    let f = c.args.numbers.now in
+    let f = c.args.bounds.now in
     let from = c.deref.result.now in
     let known : IsTrue f.known = sym c.is_known.ensures ∙ c.if-is_known.true in
     let bounds : AreBounds N Against (bound_in c.bounds.result.now) =
-    subst (λ (ns : Numbers). AreBounds N Against (bound_in ns)) (sym c.bounds.ensures) (numbers_bound N f known right) in
+    subst (λ (ns : Numbers). AreBounds N Against (bound_in ns)) (sym c.bounds.ensures) (are_bounds N f known right)
+    in
     let under : IsUnder (bound_in c.bounds.result.now) v d =
     subst (λ (ns : Numbers). IsUnder (bound_in ns) v d) (sym c.bounds.ensures)
     (source_under f v w d known source le) in
     c.in_ok-settle_under.ensures.settled Against from c.in_ok-begin.ensures.search bounds v d under there
     (subst (λ (xs : List (ℕ × ℕ)). Leads N Against xs v d) (sym (c.deref.ensures.value ∙ c.in_ok-sources.ensures)) way)
 
--- as far as a look can go
+-- as far as a query can reach
 pub returns-clause-lengths : goal.returns-clause-lengths
 returns-clause-lengths g c =
     let from = c.deref.result.now in
     let h =
-    subst (λ (xs : List (ℕ × ℕ)). IsSearch (g.M.MapRead.map c.args.map.now) (g.M.MapRead.place_in c.args.map.now)
+    subst (λ (xs : List (ℕ × ℕ)). IsSearch (g.M.MapRead.map c.args.map.now) (g.M.MapRead.node_slot c.args.map.now)
     Against xs c.settle_to.new.self) (c.deref.ensures.value ∙ c.in_ok-sources.ensures)
     (c.in_ok-settle_to.ensures.search Against from c.in_ok-begin.ensures.search) in
     h.under_way.labelled
 
-pub returns-clause-told : goal.returns-clause-told
-returns-clause-told g c = λ right v w source d le there way.
+pub returns-clause-returned : goal.returns-clause-returned
+returns-clause-returned g c = λ right v w source d le there way.
     let from = c.deref.result.now in
     let h =
-    subst (λ (xs : List (ℕ × ℕ)). IsSearch (g.M.MapRead.map c.args.map.now) (g.M.MapRead.place_in c.args.map.now)
+    subst (λ (xs : List (ℕ × ℕ)). IsSearch (g.M.MapRead.map c.args.map.now) (g.M.MapRead.node_slot c.args.map.now)
     Against xs c.settle_to.new.self) (c.deref.ensures.value ∙ c.in_ok-sources.ensures)
     (c.in_ok-settle_to.ensures.search Against from c.in_ok-begin.ensures.search) in
     let far = c.in_ok-settle_to.ensures.limit in

@@ -1,9 +1,9 @@
 use Rattle.std.proofs.Common.{◌≡◌, ℕ, List, [], ◌∷◌, ◌++◌, ◌+◌, inl, inr, take, sym, ap, ◌∙◌, subst, arith}
 use Rattle.std.proofs.lemmas.List.{take_all, take_more}
-use Rattle.olr_paths.specs.Beginning.{BeginsPut}
+use Rattle.olr_paths.specs.Origins.{BeginsPut}
 use Rattle.olr_paths.specs.Renewing.{puts_of}
-use Rattle.olr_paths.specs.declared.listing.NamedPath.{NamedPath}
-use Rattle.olr_paths.proofs.Beginning.{begins_push}
+use Rattle.olr_paths.specs.declared.path_list.NamedPath.{NamedPath}
+use Rattle.olr_paths.proofs.OriginLemmas.{begins_push}
 use Rattle.olr_paths.proofs.begins.note_fresh.Goals as goal
 
 abbrev Fresh : Type 0

@@ -1,9 +1,10 @@
 use Rattle.std.proofs.Common.{Contains, take}
-use Rattle.olr_spec.specs.Looks.{Look}
-use Rattle.olr_paths.specs.Beginning.{BeginsPut}
+use Rattle.olr_spec.specs.Queries.{CoverageQuery}
+use Rattle.olr_paths.specs.Origins.{BeginsPut}
 use Rattle.olr_paths.specs.Renewing.{puts_of}
 use Rattle.olr_paths.proofs.begins.note_fresh.Given as goal
 
 -- the nodes where the coverage queries of the results so far begin are in the list
 abbrev pub invariant-loop-named : goal.invariant-loop-named
-invariant-loop-named l = (v : Look) → BeginsPut (puts_of (take l.named-index l.fresh)) v → Contains l.begun.items v
+invariant-loop-named l = (v : CoverageQuery) → BeginsPut (puts_of (take l.named-index l.fresh)) v →
+    Contains l.new_origins.items v

@@ -6,20 +6,20 @@ use Rattle.olr_paths.specs.Laying.{overlay_changes}
 use Rattle.olr_paths.specs.Showing.{shown_items}
 use Rattle.olr_paths.specs.Touching.{nodes_of, lines_of}
 use Rattle.olr_paths.proofs.NamedEntries.{item_of}
-use Rattle.olr_paths.proofs.Covering.{covers_order, covers_laid, covers_grown, changed_grown}
+use Rattle.olr_paths.proofs.Covering.{covers_order, covers_overlaid, covers_grown, changed_grown}
 use Rattle.olr_paths.proofs.candidates.candidates.Goals as goal
 
-pub returns-clause-rising : goal.returns-clause-rising
-returns-clause-rising g c =
+pub returns-clause-ascending : goal.returns-clause-ascending
+returns-clause-ascending g c =
     IsNonDecreasingBy-from_sort (λ (n : ℕ). n) c.sort_unstable.new.self.items c.sort_unstable.ensures.sorted
 
 pub returns-clause-covers : goal.returns-clause-covers
 returns-clause-covers g c =
     let N = g.M.MapRead.map c.args.map.now in
-    let place = g.M.MapRead.place_in c.args.map.now in
+    let slot = g.M.MapRead.node_slot c.args.map.now in
     let t = c.args.touched.now in
     let s = c.args.searches.now in
-    let l = c.args.laid in
+    let l = c.args.overlaid in
     let cs = overlay_changes l.overlay.now in
     let is = items l.list.now in
     let ys = items l.overlay.now.added in
@@ -32,7 +32,7 @@ returns-clause-covers g c =
     c.len.ensures.len ∙ sym (length-map l.overlay.now.added.paths.entries item_of) in
     covers_order N (nodes_of t) (lines_of t) (shown_items l) two c.sort_unstable.new.self.items
     c.sort_unstable.ensures.permutation
-    (covers_laid cs is ys l.keeps N place t s two
-    (covers_grown N place t s is one two kept c.in_ok-put_listed.ensures.asked)
+    (covers_overlaid cs is ys l.keeps N slot t s two
+    (covers_grown N slot t s is one two kept c.in_ok-put_listed.ensures.asked)
     (changed_grown cs is one two kept c.in_ok-put_listed.ensures.changed)
     (λ k low high. c.in_ok-put_range.ensures.put k (omega arith) (omega arith)) c.requires)

@@ -10,7 +10,7 @@ use Rattle.olr_paths.specs.Items.{items}
 use Rattle.olr_paths.specs.Laying.{Changes, changes_in, path_in}
 use Rattle.olr_paths.specs.Candidates.{Includes, FindsChanged}
 use Rattle.olr_paths.proofs.NamedEntries.{named_there, same_flip}
-use Rattle.olr_paths.proofs.Marking.{First, first_at}
+use Rattle.olr_paths.proofs.PathIdLemmas.{First, first_at}
 use Rattle.olr_paths.proofs.Overlaying.{Entered}
 use Rattle.olr_paths.proofs.Changed.{take_more_changes, not_there}
 use Rattle.olr_paths.proofs.Covering.{pushed_kept, changed_more, others_apart}
@@ -21,16 +21,17 @@ loop-k-init c = ((λ k on. on), (λ k i at off. refl))
 
 pub loop-k-preserved-in_default-get_index_of : goal.loop-k-preserved-in_default-get_index_of
 loop-k-preserved-in_default-get_index_of c =
-    let es = c.args.laid.list.now.paths.entries in
-    let cs : Entered = c.args.laid.overlay.now.changes.entries in
+    let es = c.args.overlaid.list.now.paths.entries in
+    let cs : Entered = c.args.overlaid.overlay.now.changes.entries in
     let at = c.loop-k.k in
     let e : String Global × Option (Rc Path Global) = (c.in-Some.name.now, c.in-Some.field-0-1.now) in
     let name = c.as_str.result.now in
     let now = c.loop-k.found.items in
     let more = take_more_changes cs at e (sym c.in-Some.ensures.entry) in (
       c.loop-k.invariant.0,
-      subst (λ (ds : Changes). FindsChanged ds (items c.args.laid.list.now) now) (sym more)
-          (changed_more (changes_in (take at cs)) (string_bytes e.0, path_in e.1) (items c.args.laid.list.now) now now
+      subst (λ (ds : Changes). FindsChanged ds (items c.args.overlaid.list.now) now) (sym more)
+          (changed_more (changes_in (take at cs)) (string_bytes e.0, path_in e.1) (items c.args.overlaid.list.now) now
+          now
           (λ k on. on) c.loop-k.invariant.1
           (λ k i there off. same_flip (string_bytes e.0) i.name
           ∙ subst (λ (n : List ℕ). same_name i.name n ≡ false) c.as_str.ensures.value
@@ -39,8 +40,8 @@ loop-k-preserved-in_default-get_index_of c =
 
 pub loop-k-preserved : goal.loop-k-preserved
 loop-k-preserved c =
-    let es = c.args.laid.list.now.paths.entries in
-    let cs : Entered = c.args.laid.overlay.now.changes.entries in
+    let es = c.args.overlaid.list.now.paths.entries in
+    let cs : Entered = c.args.overlaid.overlay.now.changes.entries in
     let at = c.loop-k.k in
     let e : String Global × Option (Rc Path Global) = (c.in-Some.name.now, c.in-Some.field-0-1.now) in
     let name = c.as_str.result.now in
@@ -53,8 +54,9 @@ loop-k-preserved c =
     first_at es name q c.in-Some-get_index_of.ensures.within (sym c.in-Some-get_index_of.ensures.index) in
     let more = take_more_changes cs at e (sym c.in-Some.ensures.entry) in (
       (λ k on. kept k (c.loop-k.invariant.0 k on)),
-      subst (λ (ds : Changes). FindsChanged ds (items c.args.laid.list.now) now) (sym more)
-          (changed_more (changes_in (take at cs)) (string_bytes e.0, path_in e.1) (items c.args.laid.list.now) old now
+      subst (λ (ds : Changes). FindsChanged ds (items c.args.overlaid.list.now) now) (sym more)
+          (changed_more (changes_in (take at cs)) (string_bytes e.0, path_in e.1) (items c.args.overlaid.list.now) old
+          now
           kept c.loop-k.invariant.1
           (λ k i there off. subst (λ (n : List ℕ). same_name n i.name ≡ false) c.as_str.ensures.value
           (others_apart es name q old first c.len-names.ensures.names k i there
@@ -66,6 +68,6 @@ returns-clause-kept c = c.loop-k.invariant.0
 
 pub returns-clause-put : goal.returns-clause-put
 returns-clause-put c =
-    let cs : Entered = c.args.laid.overlay.now.changes.entries in
-    subst (λ (ds : Entered). FindsChanged (changes_in ds) (items c.args.laid.list.now) c.loop-k.found.items)
+    let cs : Entered = c.args.overlaid.overlay.now.changes.entries in
+    subst (λ (ds : Entered). FindsChanged (changes_in ds) (items c.args.overlaid.list.now) c.loop-k.found.items)
     (take_all c.loop-k.k cs (omega (arith, c.loop-k-test.false, c.len-k-end.ensures.len))) c.loop-k.invariant.1

@@ -8,4 +8,5 @@ use Rattle.olr_paths.proofs.candidates.put_changed.Given as goal
 abbrev pub invariant-loop-k : goal.invariant-loop-k
 invariant-loop-k l =
     Includes l.initial.found.items l.found.items
-    × FindsChanged (changes_in (take l.k l.laid.overlay.now.changes.entries)) (items l.laid.list.now) l.found.items
+    × FindsChanged (changes_in (take l.k l.overlaid.overlay.now.changes.entries)) (items l.overlaid.list.now)
+    l.found.items

@@ -7,19 +7,19 @@ use Rattle.olr_paths.proofs.NamedEntries.{item_of}
 use Rattle.olr_paths.proofs.Covering.{covers_grown}
 use Rattle.olr_paths.proofs.candidates.put_listed.Goals as goal
 
-pub returns-then-laid-clause-changed : goal.returns-then-laid-clause-changed
-returns-then-laid-clause-changed g c = λ k i at off.
-    let long : c.len.result ≡ length (items c.args.laid.list.now) =
-    c.len.ensures.len ∙ sym (length-map c.args.laid.list.now.paths.entries item_of) in
-    let lt = slice_get_within (items c.args.laid.list.now) k i at in
+pub returns-then-overlaid-clause-changed : goal.returns-then-overlaid-clause-changed
+returns-then-overlaid-clause-changed g c = λ k i at off.
+    let long : c.len.result ≡ length (items c.args.overlaid.list.now) =
+    c.len.ensures.len ∙ sym (length-map c.args.overlaid.list.now.paths.entries item_of) in
+    let lt = slice_get_within (items c.args.overlaid.list.now) k i at in
     let on : has c.put_range.new.found.items k ≡ true = c.in_ok-put_range.ensures.put k (omega arith) (omega arith) in
     let never : true ≡ false = sym on ∙ off in absurd cc
 
-pub returns-then-laid-clause-asked : goal.returns-then-laid-clause-asked
-returns-then-laid-clause-asked g c = λ k i at off asked.
-    let long : c.len.result ≡ length (items c.args.laid.list.now) =
-    c.len.ensures.len ∙ sym (length-map c.args.laid.list.now.paths.entries item_of) in
-    let lt = slice_get_within (items c.args.laid.list.now) k i at in
+pub returns-then-overlaid-clause-asked : goal.returns-then-overlaid-clause-asked
+returns-then-overlaid-clause-asked g c = λ k i at off asked.
+    let long : c.len.result ≡ length (items c.args.overlaid.list.now) =
+    c.len.ensures.len ∙ sym (length-map c.args.overlaid.list.now.paths.entries item_of) in
+    let lt = slice_get_within (items c.args.overlaid.list.now) k i at in
     let on : has c.put_range.new.found.items k ≡ true = c.in_ok-put_range.ensures.put k (omega arith) (omega arith) in
     let never : true ≡ false = sym on ∙ off in absurd cc
 
@@ -28,6 +28,6 @@ returns-clause-changed g c = c.in_ok-put_changed.ensures.put
 
 pub returns-clause-asked : goal.returns-clause-asked
 returns-clause-asked g c =
-    covers_grown (g.M.MapRead.map c.args.map.now) (g.M.MapRead.place_in c.args.map.now) c.args.touched.now
-    c.args.searches.now (items c.args.laid.list.now) c.put_touched.new.found.items c.put_changed.new.found.items
+    covers_grown (g.M.MapRead.map c.args.map.now) (g.M.MapRead.node_slot c.args.map.now) c.args.touched.now
+    c.args.searches.now (items c.args.overlaid.list.now) c.put_touched.new.found.items c.put_changed.new.found.items
     c.in_ok-put_changed.ensures.kept c.in_ok-put_touched.ensures

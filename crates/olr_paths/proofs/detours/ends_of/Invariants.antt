@@ -1,5 +1,5 @@
 use Rattle.std.proofs.Common.{◌≡◌, ℕ, take, map}
-use Rattle.olr_paths.specs.declared.touched.ChangedLine.{ChangedLine}
+use Rattle.olr_paths.specs.declared.change_set.ChangedLine.{ChangedLine}
 use Rattle.olr_paths.proofs.detours.ends_of.Given as goal
 
 abbrev pub invariant-loop-line : goal.invariant-loop-line

@@ -3,7 +3,7 @@ use Rattle.olr_paths.specs.Items.{Item, items}
 use Rattle.olr_paths.specs.Renewing as renewing
 use Rattle.olr_paths.specs.Laying.{under_change, change_at, changes_in}
 use Rattle.olr_paths.proofs.NamedEntries.{item_of, item_at, absent}
-use Rattle.olr_paths.proofs.Overlaying.{put_free, laid_more, take_first}
+use Rattle.olr_paths.proofs.Overlaying.{put_free, overlaid_more, take_first}
 use Rattle.olr_paths.proofs.overlay.put_behind.Goals as goal
 
 pub put_one-requires : goal.put_one-requires
@@ -32,7 +32,7 @@ loop-k-preserved c =
     ∙ ap (λ (q : List ℕ). items c.loop-k.to ++ under_change (change_at cs q) (renewing.item_of q named))
     c.as_str.ensures.value
     ∙ ap (λ (js : List Item). js ++ under_change (change_at cs i.name) i) c.loop-k.invariant
-    ∙ sym (laid_more cs is (items c.args.to.now) c.loop-k.k i at)
+    ∙ sym (overlaid_more cs is (items c.args.to.now) c.loop-k.k i at)
 
 pub returns-in_err-put_one-clause-before : goal.returns-in_err-put_one-clause-before
 returns-in_err-put_one-clause-before c =

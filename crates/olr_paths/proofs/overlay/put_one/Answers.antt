@@ -4,7 +4,7 @@ use Rattle.std.specs.Option.{option_to_list}
 use Rattle.olr_paths.specs.Items.{Item, items}
 use Rattle.olr_paths.specs.Renewing.{item_of}
 use Rattle.olr_paths.specs.Laying.{under_change, change_at, changes_in}
-use Rattle.olr_paths.specs.declared.listing.NamedPath.{NamedPath}
+use Rattle.olr_paths.specs.declared.path_list.NamedPath.{NamedPath}
 use Rattle.olr_paths.proofs.Overlaying.{has_name}
 use Rattle.olr_paths.proofs.overlay.put_one.Goals as goal
 

@@ -1,7 +1,7 @@
 use Rattle.std.proofs.Common.{◌≡◌, ◌∙◌, get_or, subst, arith}
 use Rattle.std.proofs.lemmas.List.{get_or_default, take_all}
 use Rattle.olr_paths.specs.Finding.{AreNotedAt, NamedNoted, Grows}
-use Rattle.olr_paths.proofs.Standing.{One, StandsAt, noted_grown, at_more}
+use Rattle.olr_paths.proofs.NotedPositions.{One, NotedAt, noted_grown, at_more}
 use Rattle.olr_paths.proofs.positions.note_all.Goals as goal
 
 pub invariant_of-list : goal.invariant_of-list
@@ -9,9 +9,9 @@ invariant_of-list c =
     let l = c.loop-position.list in
     record {
       long = l.long;
-      rise = l.rise;
+      ascend = l.ascend;
       noted =
-          noted_grown l.paths.entries l.marks.items l.finder c.note_one.new.finder c.note_one.ensures.grows l.noted;
+          noted_grown l.paths.entries l.path_ids.items l.finder c.note_one.new.finder c.note_one.ensures.grows l.noted;
       encoded = l.encoded;
     }
 
@@ -19,33 +19,33 @@ pub loop-position-preserved-then-position-len : goal.loop-position-preserved-the
 loop-position-preserved-then-position-len c =
     let l = c.loop-position.list in
     let r : One = c.loop-position-item.result in
-    let one : StandsAt l.marks.items l.finder r =
+    let one : NotedAt l.path_ids.items l.finder r =
     λ low. absurd (omega (arith, low, c.if-position-len.true, c.len.ensures)) in
     let stay : Grows l.finder l.finder = ((λ n m t. t), (λ n m t. t), (λ n m t. t)) in (
-      at_more l.marks.items l.finder l.finder c.args.fresh.now c.loop-position.position-index r
+      at_more l.path_ids.items l.finder l.finder c.args.fresh.now c.loop-position.position-index r
           c.loop-position-test.true stay c.loop-position.invariant.0
-          (subst (λ (x : One). StandsAt l.marks.items l.finder x) c.loop-position-item.is one),
+          (subst (λ (x : One). NotedAt l.path_ids.items l.finder x) c.loop-position-item.is one),
       c.loop-position.invariant.1,
     )
 
 pub loop-position-preserved : goal.loop-position-preserved
 loop-position-preserved c =
     let l = c.loop-position.list in
-    let ms = l.marks.items in
+    let ms = l.path_ids.items in
     let g = c.note_one.new.finder in
     let r : One = c.loop-position-item.result in
-    let one : StandsAt ms g r = λ low.
-    let is : c.index-mark.result.now ≡ get_or ms r.0 0 =
-    c.index-mark.ensures ∙ get_or_default ms r.0 c.index-mark.result.now 0 low in
+    let one : NotedAt ms g r = λ low.
+    let is : c.index-path_id.result.now ≡ get_or ms r.0 0 =
+    c.index-path_id.ensures ∙ get_or_default ms r.0 c.index-path_id.result.now 0 low in
     subst (λ (m : _). NamedNoted g m r.1) is c.in_ok-note_one.ensures.noted in (
       at_more ms l.finder g c.args.fresh.now c.loop-position.position-index r c.loop-position-test.true
           c.note_one.ensures.grows c.loop-position.invariant.0
-          (subst (λ (y : One). StandsAt ms g y) c.loop-position-item.is one),
+          (subst (λ (y : One). NotedAt ms g y) c.loop-position-item.is one),
       c.loop-position.invariant.1,
     )
 
 pub returns-clause-noted : goal.returns-clause-noted
 returns-clause-noted c =
     let l = c.loop-position.list in
-    subst (λ (rs : _). AreNotedAt l.marks.items l.finder rs)
+    subst (λ (rs : _). AreNotedAt l.path_ids.items l.finder rs)
     (take_all c.loop-position.position-index c.args.fresh.now c.loop-position-test.false) c.loop-position.invariant.0

@@ -6,9 +6,9 @@ use Rattle.indexmap.specs.Layout.{set_value_at}
 use Rattle.olr_paths.specs.Finding.{NamedNoted, AreNoted, AreNotedAt}
 use Rattle.olr_paths.specs.Renewing.{all_put, puts_of}
 use Rattle.olr_paths.proofs.NamedEntries.{items_of}
-use Rattle.olr_paths.specs.declared.listing.NamedPath.{NamedPath}
-use Rattle.olr_paths.proofs.Marking.{kept_long, noted_set}
-use Rattle.olr_paths.proofs.Standing.{One, at_front, at_last, value_within}
+use Rattle.olr_paths.specs.declared.path_list.NamedPath.{NamedPath}
+use Rattle.olr_paths.proofs.PathIdLemmas.{kept_long, noted_set}
+use Rattle.olr_paths.proofs.NotedPositions.{One, at_front, at_last, value_within}
 use Rattle.olr_paths.proofs.Placing.{placed, passed_by}
 use Rattle.olr_paths.proofs.positions.place.Goals as goal
 
@@ -16,7 +16,7 @@ pub invariant_of-list-in-Some-get_index_mut : goal.invariant_of-list-in-Some-get
 invariant_of-list-in-Some-get_index_mut c =
     let l = c.loop-position.list in
     let es = l.paths.entries in
-    let ms = l.marks.items in
+    let ms = l.path_ids.items in
     let q = c.in-Some.position in
     let n : NamedPath = c.in-Some.named in
     let rest : List One = c.pop.new.self.items in
@@ -31,7 +31,7 @@ invariant_of-list-in-Some-get_index_mut c =
     let after : c.replace-earlier.new.dest ≡ n = c.replace-earlier.ensures.after in
     record {
       long = l.long ∙ sym (kept_long es q c.replace-earlier.new.dest);
-      rise = l.rise;
+      ascend = l.ascend;
       noted =
           subst (λ (m : NamedPath). AreNoted (set_value_at es q m) ms l.finder) (sym after)
           (noted_set es ms l.finder q n l.noted one);
@@ -42,7 +42,7 @@ pub loop-position-preserved-in-Some-get_index_mut : goal.loop-position-preserved
 loop-position-preserved-in-Some-get_index_mut c =
     let l = c.loop-position.list in
     let es = l.paths.entries in
-    let ms = l.marks.items in
+    let ms = l.path_ids.items in
     let q = c.in-Some.position in
     let n : NamedPath = c.in-Some.named in
     let rest : List One = c.pop.new.self.items in
@@ -69,7 +69,7 @@ pub loop-position-preserved : goal.loop-position-preserved
 loop-position-preserved c =
     let l = c.loop-position.list in
     let es = l.paths.entries in
-    let ms = l.marks.items in
+    let ms = l.path_ids.items in
     let q = c.in-Some.position in
     let n : NamedPath = c.in-Some.named in
     let rest : List One = c.pop.new.self.items in
@@ -88,7 +88,7 @@ pub loop-position-preserved-in_default-get_index_mut : goal.loop-position-preser
 loop-position-preserved-in_default-get_index_mut c =
     let l = c.loop-position.list in
     let es = l.paths.entries in
-    let ms = l.marks.items in
+    let ms = l.path_ids.items in
     let q = c.in-Some.position in
     let n : NamedPath = c.in-Some.named in
     let rest : List One = c.pop.new.self.items in

@@ -9,7 +9,7 @@ use Rattle.olr_paths.proofs.positions.place.Given as goal
 abbrev pub invariant-loop-position : goal.invariant-loop-position
 invariant-loop-position l =
     (all_put (items l.list) (puts_of l.fresh.items) ≡ all_put (items l.initial.list) (puts_of l.initial.fresh.items))
-    × AreNotedAt l.list.marks.items l.list.finder l.fresh.items
+    × AreNotedAt l.list.path_ids.items l.list.finder l.fresh.items
     × (vec_len l.before + vec_len l.fresh ≤ vec_capacity l.before)
     × (l.list.held ≡ true)
 

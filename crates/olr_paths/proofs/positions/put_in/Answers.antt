@@ -3,7 +3,7 @@ use Rattle.std.proofs.lemmas.List.{length-map}
 use Rattle.olr_paths.specs.Items.{Item, items}
 use Rattle.olr_paths.specs.Renewing.{all_put, puts_of}
 use Rattle.olr_paths.proofs.NamedEntries.{item_of}
-use Rattle.olr_paths.proofs.Standing.{all_same, unless_err, where_err}
+use Rattle.olr_paths.proofs.NotedPositions.{all_same, unless_err, where_err}
 use Rattle.olr_paths.proofs.positions.put_in.Goals as goal
 
 pub returns-clause-ok : goal.returns-clause-ok
@@ -25,7 +25,7 @@ invariant_of-list c =
     let l = c.cut.new.self in
     record {
       long = l.long;
-      rise = l.rise;
+      ascend = l.ascend;
       noted = l.noted;
       encoded =
           λ off. all_same c.args.list.now.paths.entries l.paths.entries

@@ -6,25 +6,25 @@ use Rattle.olr_paths.specs.Touching.{nodes_of, lines_of, changed_of}
 use Rattle.olr_paths.specs.Renewing.{IsStep}
 use Rattle.olr_paths.specs.Showing.{shown_items, shown_item}
 use Rattle.olr_paths.proofs.AskedLemmas.{listed_at, made_if}
-use Rattle.olr_paths.proofs.Through.{SoFar, Whole, so_far_none, so_far_step, whole}
+use Rattle.olr_paths.proofs.RenewedPrefix.{SoFar, Whole, so_far_none, so_far_step, whole}
 use Rattle.olr_paths.proofs.Covering.{passed_none, passed_over, passed_to, to_candidate, to_end, past_end}
 use Rattle.olr_paths.proofs.renewal.renewal_by.Goals as goal
 
-pub decide-fate-requires-clause-asked : goal.decide-fate-requires-clause-asked
-decide-fate-requires-clause-asked g c =
+pub decide-action-requires-clause-asked : goal.decide-action-requires-clause-asked
+decide-action-requires-clause-asked g c =
     let N = g.M.MapRead.map c.args.map.now in
-    let place = g.M.MapRead.place_in c.args.map.now in
+    let slot = g.M.MapRead.node_slot c.args.map.now in
     let shown = c.in-Some.shown in
-    made_if (λ p. made_of p.now) (IsAsked N place c.args.touched.now c.args.searches.now) shown.published
+    made_if (λ p. made_of p.now) (IsAsked N slot c.args.touched.now c.args.searches.now) shown.published
     (c.requires.asked (shown_item shown)
-    (listed_at (shown_items c.args.laid) _ (shown_item shown) c.in-Some.ensures.shown))
+    (listed_at (shown_items c.args.overlaid) _ (shown_item shown) c.in-Some.ensures.shown))
 
 pub loop-candidate-init : goal.loop-candidate-init
 loop-candidate-init g c = (
   so_far_none (g.M.MapRead.map c.args.map.now) (nodes_of c.args.touched.now) (lines_of c.args.touched.now)
-      (changed_of c.args.touched.now) (items c.args.before.now) (shown_items c.args.laid) _ c.args.counted.now
+      (changed_of c.args.touched.now) (items c.args.before.now) (shown_items c.args.overlaid) _ c.args.counted.now
       c.new.ensures.items c.new-2.ensures.items,
-  passed_none c.args.asked.now.found.items (length (shown_items c.args.laid)),
+  passed_none c.args.asked.now.found.items (length (shown_items c.args.overlaid)),
 )
 
 pub loop-candidate-preserved-then-position-next : goal.loop-candidate-preserved-then-position-next
@@ -35,7 +35,7 @@ loop-candidate-preserved-then-position-next g c =
     let position : ℕ = get_or c.deref-candidate-items.result.now k 0 in
     let is_there : position ≡ get_or found k 0 = ap (λ (xs : List ℕ). get_or xs k 0) same in (
       c.loop-candidate.invariant.0,
-      passed_over found (length (shown_items c.args.laid)) k c.loop-candidate.next position
+      passed_over found (length (shown_items c.args.overlaid)) k c.loop-candidate.next position
           c.loop-candidate.invariant.1 is_there (inl c.if-position-next.true),
     )
 
@@ -47,9 +47,9 @@ loop-candidate-preserved-in_default g c =
     let position : ℕ = get_or c.deref-candidate-items.result.now k 0 in
     let is_there : position ≡ get_or found k 0 = ap (λ (xs : List ℕ). get_or xs k 0) same in (
       c.loop-candidate.invariant.0,
-      passed_over found (length (shown_items c.args.laid)) k c.loop-candidate.next position
+      passed_over found (length (shown_items c.args.overlaid)) k c.loop-candidate.next position
           c.loop-candidate.invariant.1 is_there
-          (inr (past_end (shown_items c.args.laid) position c.in_default.ensures.shown)),
+          (inr (past_end (shown_items c.args.overlaid) position c.in_default.ensures.shown)),
     )
 
 pub loop-candidate-preserved : goal.loop-candidate-preserved
@@ -59,7 +59,7 @@ loop-candidate-preserved g c =
     let X = lines_of c.args.touched.now in
     let C = changed_of c.args.touched.now in
     let before = items c.args.before.now in
-    let is = shown_items c.args.laid in
+    let is = shown_items c.args.overlaid in
     let found = c.args.asked.now.found.items in
     let same : c.deref-candidate-items.result.now ≡ found = c.deref-candidate-items.ensures.value in
     let k = c.loop-candidate.candidate-index in
@@ -74,26 +74,26 @@ loop-candidate-preserved g c =
     let sound = g.met.M.MapRead.sound c.args.map.now in
     let so_far : SoFar N T X C before is position c.loop-candidate.renewal c.args.counted.now c.loop-candidate.counted =
     to_candidate N sound T X C before is found c.requires.follows c.requires.covers c.args.counted.now
-    c.loop-candidate.renewal c.loop-candidate.counted k next position c.requires.rising c.loop-candidate.invariant.1
+    c.loop-candidate.renewal c.loop-candidate.counted k next position c.requires.ascending c.loop-candidate.invariant.1
     is_there lt within le c.loop-candidate.invariant.0 in
-    let step : IsStep N T X C before i position c.loop-candidate.renewal c.go_on.new.self c.loop-candidate.counted
-    c.go_on.new.counted = c.in_ok-go_on.ensures T X C c.decide-fate.ensures in (
+    let step : IsStep N T X C before i position c.loop-candidate.renewal c.advance.new.self c.loop-candidate.counted
+    c.advance.new.counted = c.in_ok-advance.ensures T X C c.decide-action.ensures in (
       so_far_step N sound T X C before is position i c.requires.follows at c.args.counted.now c.loop-candidate.renewal
-          c.go_on.new.self c.loop-candidate.counted c.go_on.new.counted so_far step,
+          c.advance.new.self c.loop-candidate.counted c.advance.new.counted so_far step,
       passed_to found (length is) k next position c.loop-candidate.invariant.1 is_there le within,
     )
 
 end : (g : _) (c : goal.After-loop-candidate g) →
     SoFar (g.M.MapRead.map c.args.map.now) (nodes_of c.args.touched.now) (lines_of c.args.touched.now)
-    (changed_of c.args.touched.now) (items c.args.before.now) (shown_items c.args.laid)
-    (length (shown_items c.args.laid)) c.loop-candidate.renewal c.args.counted.now c.loop-candidate.counted
+    (changed_of c.args.touched.now) (items c.args.before.now) (shown_items c.args.overlaid)
+    (length (shown_items c.args.overlaid)) c.loop-candidate.renewal c.args.counted.now c.loop-candidate.counted
 end g c =
     let N = g.M.MapRead.map c.args.map.now in
     let T = nodes_of c.args.touched.now in
     let X = lines_of c.args.touched.now in
     let C = changed_of c.args.touched.now in
     let before = items c.args.before.now in
-    let is = shown_items c.args.laid in
+    let is = shown_items c.args.overlaid in
     let found = c.args.asked.now.found.items in
     let past : length found ≤ c.loop-candidate.candidate-index =
     subst (λ (xs : List ℕ). length xs ≤ c.loop-candidate.candidate-index) c.deref-candidate-items.ensures.value
@@ -104,7 +104,7 @@ end g c =
 
 done : (g : _) (c : goal.After-loop-candidate g) →
     Whole (g.M.MapRead.map c.args.map.now) (nodes_of c.args.touched.now) (lines_of c.args.touched.now)
-    (changed_of c.args.touched.now) (items c.args.before.now) (shown_items c.args.laid) c.loop-candidate.renewal
+    (changed_of c.args.touched.now) (items c.args.before.now) (shown_items c.args.overlaid) c.loop-candidate.renewal
     c.args.counted.now c.loop-candidate.counted
 done g c =
     let N = g.M.MapRead.map c.args.map.now in
@@ -112,7 +112,7 @@ done g c =
     let X = lines_of c.args.touched.now in
     let C = changed_of c.args.touched.now in
     let before = items c.args.before.now in
-    let is = shown_items c.args.laid in
+    let is = shown_items c.args.overlaid in
     whole N T X C before is c.loop-candidate.renewal c.args.counted.now c.loop-candidate.counted (end g c)
 
 pub returns-clause-renewed : goal.returns-clause-renewed
@@ -128,10 +128,10 @@ pub returns-clause-counted : goal.returns-clause-counted
 returns-clause-counted g c = (done g c).counted
 
 pub returns-clause-searches : goal.returns-clause-searches
-returns-clause-searches g c = c.loop-candidate.invariant.0.rises.searches
+returns-clause-searches g c = c.loop-candidate.invariant.0.ascends.searches
 
 pub returns-clause-settled : goal.returns-clause-settled
-returns-clause-settled g c = c.loop-candidate.invariant.0.rises.settled
+returns-clause-settled g c = c.loop-candidate.invariant.0.ascends.settled
 
 pub returns-clause-kept : goal.returns-clause-kept
-returns-clause-kept g c = c.loop-candidate.invariant.0.rises.kept
+returns-clause-kept g c = c.loop-candidate.invariant.0.ascends.kept

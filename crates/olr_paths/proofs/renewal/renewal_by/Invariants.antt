@@ -2,7 +2,7 @@ use Rattle.std.proofs.Common.{length}
 use Rattle.olr_paths.specs.Items.{items}
 use Rattle.olr_paths.specs.Showing.{shown_items}
 use Rattle.olr_paths.specs.Touching.{nodes_of, lines_of, changed_of}
-use Rattle.olr_paths.proofs.Through.{SoFar}
+use Rattle.olr_paths.proofs.RenewedPrefix.{SoFar}
 use Rattle.olr_paths.proofs.Covering.{Passed}
 use Rattle.olr_paths.proofs.renewal.renewal_by.Given as goal
 
@@ -10,5 +10,5 @@ use Rattle.olr_paths.proofs.renewal.renewal_by.Given as goal
 abbrev pub invariant-loop-candidate : goal.invariant-loop-candidate
 invariant-loop-candidate g l =
     SoFar (g.M.MapRead.map l.map) (nodes_of l.touched) (lines_of l.touched) (changed_of l.touched) (items l.before)
-    (shown_items l.laid) l.next l.renewal l.initial.counted l.counted
-    × Passed l.asked.found.items (length (shown_items l.laid)) l.candidate-index l.next
+    (shown_items l.overlaid) l.next l.renewal l.initial.counted l.counted
+    × Passed l.asked.found.items (length (shown_items l.overlaid)) l.candidate-index l.next

@@ -3,21 +3,22 @@ use Rattle.std.specs.Prelude.{option_map}
 use Rattle.olr_paths.specs.Items.{Item, items}
 use Rattle.olr_paths.specs.Showing.{shown_items, shown_item}
 use Rattle.olr_paths.specs.Touching.{nodes_of, lines_of, changed_of}
-use Rattle.olr_paths.specs.Beginning.{BeginsPut}
+use Rattle.olr_paths.specs.Origins.{BeginsPut}
 use Rattle.olr_paths.specs.Renewing.{puts_of}
-use Rattle.olr_paths.specs.declared.listing.NamedPath.{NamedPath}
+use Rattle.olr_paths.specs.declared.path_list.NamedPath.{NamedPath}
 use Rattle.olr_paths.specs.declared.renewal.Renewal.{Renewal}
 use Rattle.olr_paths.specs.declared.renewal.Counted.{Counted}
 use Rattle.olr_spec.proofs.OptionLemmas.{none_of}
 use Rattle.olr_paths.proofs.Covering.{past_end}
 use Rattle.olr_paths.proofs.AskedLemmas.{asked_again}
-use Rattle.olr_paths.proofs.Through.{whole, so_far_all}
+use Rattle.olr_paths.proofs.RenewedPrefix.{whole, so_far_all}
 use Rattle.olr_paths.proofs.renewal.renewal_of.Goals as goal
 
 pub renewal_by-requires-clause-asked : goal.renewal_by-requires-clause-asked
 renewal_by-requires-clause-asked g c =
-    asked_again (g.M.MapRead.map c.args.map.now) (g.M.MapRead.place_in c.args.map.now) c.args.touched.now
-    c.ask.new.searches (record c.ask.new.searches { look = c.replace-look.new.dest }) (shown_items c.args.laid) refl
+    asked_again (g.M.MapRead.map c.args.map.now) (g.M.MapRead.node_slot c.args.map.now) c.args.touched.now
+    c.ask.new.searches (record c.ask.new.searches { query = c.replace-query.new.dest }) (shown_items c.args.overlaid)
+    refl
     refl c.in_ok-asked.ensures.asked
 
 pub returns-then-is_none : goal.returns-then-is_none
@@ -27,7 +28,7 @@ returns-then-is_none g c =
     let X = lines_of c.args.touched.now in
     let C = changed_of c.args.touched.now in
     let before = items c.args.before.now in
-    let is : List Item = shown_items c.args.laid in
+    let is : List Item = shown_items c.args.overlaid in
     let yes : c.is_none.result ≡ true = cc in
     let none : length is ≡ 0 = let le =
     past_end is 0 (c.at.ensures.shown
@@ -45,7 +46,8 @@ returns-then-is_none g c =
       searches = omega arith;
       settled = omega arith;
       kept = omega arith;
-      begun = λ v b. absurd (subst (λ (es : List (ℕ × NamedPath)). BeginsPut (puts_of es) v) c.new.ensures.items b);
+      new_origins = λ v b. absurd (subst (λ (es : List (ℕ × NamedPath)). BeginsPut (puts_of es) v) c.new.ensures.items
+          b);
       err_work = tt;
       err_kept = tt;
     }

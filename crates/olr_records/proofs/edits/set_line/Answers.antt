@@ -2,9 +2,9 @@ use Rattle.std.proofs.Common.{rules, arith, ◌≡◌, ℕ, ◌<◌, List, drop,
 use Rattle.csv.specs.Records.{fields_of}
 use Rattle.olr_spec.specs.Map.{ShapePoint, Edit, Set_line}
 use Rattle.olr_commands.specs.State.{Make, On_map}
-use Rattle.olr_records.specs.Records.{Field, Read, ◌⊛◌, number, course, HoldsList}
+use Rattle.olr_records.specs.Records.{Field, Read, ◌⊛◌, number, attributes, HoldsList}
 use Rattle.olr_records.specs.Words.{Reads}
-use Rattle.olr_records.specs.declared.lines.Course.{Course}
+use Rattle.olr_records.specs.declared.lines.LineAttributes.{LineAttributes}
 use Rattle.olr_records.proofs.LoopLemmas.{at}
 use Rattle.olr_records.proofs.PartLemmas.{no-memory, first-part, made-part, both-parts, handed-on}
 use Rattle.olr_records.proofs.FormLemmas.{set-line-record}
@@ -14,18 +14,19 @@ pub returns-in_err-id : goal.returns-in_err-id
 returns-in_err-id c =
     let fs = fields_of c.args.fields.now in
     let front : Read (ℕ × ℕ × ℕ × List ShapePoint → Edit) = Ok (λ x c. Set_line x c.0 c.1 c.2 c.3) ⊛ number (at fs 1) in
-    let rest = course (at fs 2) (at fs 3) (at fs 4) (drop 5 fs) in
+    let rest = attributes (at fs 2) (at fs 3) (at fs 4) (drop 5 fs) in
     let id = subst (λ (f : Field). Reads (λ n. n) (number f) c.line_id.result) c.field.ensures c.line_id.ensures in
-    let told : c.from_residual.result ≡ Err c.in_err-id.field-0.0 = search rules in
+    let reported : c.from_residual.result ≡ Err c.in_err-id.field-0.0 = search rules in
     let both =
     both-parts (λ _. ⊥) (λ p. 0 < length p.3) (λ e. HoldsList (Make (On_map e))) _
-    (λ (k : Course). (k.frc, k.fow, k.len, k.shape.items)) front rest c.line_id.result c.course_at.result c.both.result
+    (λ (k : LineAttributes). (k.frc, k.fow, k.len, k.shape.items)) front rest c.line_id.result c.attributes_at.result
+    c.both.result
     c.both.ensures
     (λ g b never. absurd never) (λ a b some. some)
     (no-memory (λ _. ⊥) _ front c.line_id.result (first-part _ (λ n. n) (number (at fs 1)) c.line_id.result id))
-    c.course_at.ensures in
+    c.attributes_at.ensures in
     rw (set-line-record fs (omega arith))
     (handed-on HoldsList _ _ (Ok (λ e. Make (On_map e)) ⊛ (front ⊛ rest)) c.both.result c.from_residual.result
-    c.in_err-id.field-0.0 c.in_err-id.was told
+    c.in_err-id.field-0.0 c.in_err-id.was reported
     (made-part (λ e. HoldsList (Make (On_map e))) HoldsList (λ e. Make (On_map e)) _ (front ⊛ rest) c.both.result
     (λ e h. h) both))

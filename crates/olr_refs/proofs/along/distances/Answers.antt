@@ -1,8 +1,8 @@
 use Rattle.std.proofs.Common.{◌≡◌, ◌+◌, ℕ, ap, ◌∙◌, refl, sym, take, arith, rules, subst, ◌≤◌, ◌*◌, length}
 use Rattle.olr_spec.specs.Map.{dm}
 use Rattle.olr_refs.specs.Along.{DistancesTo}
-use Rattle.olr_spec.specs.Walks.{dm_of}
-use Rattle.olr_refs.proofs.Joined.{known_read, walk_short, sum_fits, no_distance, longer_by, one_more}
+use Rattle.olr_spec.specs.Routes.{dm_of}
+use Rattle.olr_refs.proofs.Joined.{known_read, route_short, sum_fits, no_distance, longer_by, one_more}
 use Rattle.olr_refs.proofs.along.distances.Goals as goal
 
 pub len_of-requires : goal.len_of-requires
@@ -14,7 +14,7 @@ overflow_add-along g c =
     let M = g.M.MapRead.map c.args.map.now in
     let along : c.loop-line.along ≤ 1000000 * c.loop-line.line-index =
     subst (λ (n : ℕ). n ≤ 1000000 * c.loop-line.line-index) (sym c.loop-line.invariant.1)
-    (walk_short M (g.met.M.MapRead.sound c.args.map.now) _ _ c.args.lines.now c.loop-line.line-index
+    (route_short M (g.met.M.MapRead.sound c.args.map.now) _ _ c.args.lines.now c.loop-line.line-index
     c.requires.joined) in
     record { fits = sum_fits _ _ c.loop-line.line-index along (omega arith) (omega arith) }
 

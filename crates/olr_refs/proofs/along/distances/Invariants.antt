@@ -1,5 +1,5 @@
 use Rattle.std.proofs.Common.{◌≡◌, take}
-use Rattle.olr_spec.specs.Walks.{dm_of}
+use Rattle.olr_spec.specs.Routes.{dm_of}
 use Rattle.olr_refs.specs.Along.{DistancesTo}
 use Rattle.olr_refs.proofs.along.distances.Given as goal
 

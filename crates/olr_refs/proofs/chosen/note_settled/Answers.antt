@@ -9,8 +9,8 @@ pub note_all-requires : goal.note_all-requires
 note_all-requires c =
     let r = c.requires in
     record {
-      rising = subst (λ (vs : List ℕ). IsStrictlyIncreasing vs) (sym c.deref.ensures.value)
-          (c.in_ok-nodes.ensures.rising r.0 r.1 r.2 r.3 r.4);
+      ascending = subst (λ (vs : List ℕ). IsStrictlyIncreasing vs) (sym c.deref.ensures.value)
+          (c.in_ok-nodes.ensures.ascending r.0 r.1 r.2 r.3 r.4);
     }
 
 pub returns-in_ok-note_all : goal.returns-in_ok-note_all

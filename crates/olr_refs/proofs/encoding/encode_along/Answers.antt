@@ -1,7 +1,7 @@
 use Rattle.std.proofs.Common.{◌≡◌, ◌∷◌, ℕ, List, ap, ◌∙◌, subst}
 use Rattle.olr_spec.specs.Extension.{Path}
 use Rattle.olr_spec.specs.Encoding.{answer_by_points}
-use Rattle.olr_spec.specs.Looks.{LooksFrom, looking}
+use Rattle.olr_spec.specs.Queries.{QueriesFrom, querying}
 use Rattle.olr_refs.specs.Answers as answers
 use Rattle.olr_refs.specs.Choice.{ForPoints}
 use Rattle.olr_refs.proofs.encoding.encode_along.Goals as goal
@@ -16,10 +16,11 @@ returns-clause-answer g c =
     subst (λ (E : Path). ForPoints M E.lines (λ js. answers.answer_of c.in_ok-answer.answer ≡ answer_by_points M E js))
     (lines ∙ c.extended.view_is) c.in_ok-answer.ensures
 
-pub returns-clause-looks : goal.returns-clause-looks
-returns-clause-looks g c =
+pub returns-clause-queries : goal.returns-clause-queries
+returns-clause-queries g c =
     let M = g.M.MapRead.map c.args.map.now in
     let lines : c.as_slice-lines.result.now ≡ c.args.extended.now.lines =
     c.as_slice-lines.ensures.value ∙ ap (λ (p : Path). p.lines) c.extended.view_is in
     subst (λ (ls : List ℕ). ForPoints M ls
-    (λ js. LooksFrom M ls (looking ls (0 ∷ js)) c.in_ok-chosen.chosen.looks.items)) lines c.in_ok-chosen.ensures.looks
+    (λ js. QueriesFrom M ls (querying ls (0 ∷ js)) c.in_ok-chosen.chosen.queries.items)) lines
+    c.in_ok-chosen.ensures.queries

@@ -1,4 +1,4 @@
-use Rattle.olr_refs.proofs.Referring.{whole_joined, whole_short, encoding_of, joins_of, own_of, looks_of}
+use Rattle.olr_refs.proofs.Referring.{whole_joined, whole_short, encoding_of, joins_of, traversed_of, queries_of}
 use Rattle.olr_refs.proofs.encoding.encode_whole.Goals as goal
 
 pub encode_along-requires-clause-joined : goal.encode_along-requires-clause-joined
@@ -23,12 +23,12 @@ returns-clause-joins g c =
     (encoding_of M c.args.path.now c.in_ok-extended.extended _ _ _ c.in_ok-extended.ensures.ok
     c.in_ok-answer.ensures.answer)
 
-pub returns-clause-own : goal.returns-clause-own
-returns-clause-own g c =
-    own_of (g.M.MapRead.map c.args.map.now) (g.met.M.MapRead.sound c.args.map.now) c.args.path.now
-    c.in_ok-extended.extended _ _ c.requires.path c.requires.sound c.new-own.ensures c.in_ok-extended.ensures.ok
+pub returns-clause-traversed : goal.returns-clause-traversed
+returns-clause-traversed g c =
+    traversed_of (g.M.MapRead.map c.args.map.now) (g.met.M.MapRead.sound c.args.map.now) c.args.path.now
+    c.in_ok-extended.extended _ _ c.requires.path c.requires.sound c.new-traversed.ensures c.in_ok-extended.ensures.ok
 
-pub returns-clause-looks : goal.returns-clause-looks
-returns-clause-looks g c =
-    looks_of (g.M.MapRead.map c.args.map.now) c.args.path.now c.in_ok-extended.extended _ _ _
-    c.in_ok-extended.ensures.ok c.in_ok-answer.ensures.looks
+pub returns-clause-queries : goal.returns-clause-queries
+returns-clause-queries g c =
+    queries_of (g.M.MapRead.map c.args.map.now) c.args.path.now c.in_ok-extended.extended _ _ _
+    c.in_ok-extended.ensures.ok c.in_ok-answer.ensures.queries

@@ -1,11 +1,11 @@
 use Rattle.std.proofs.Common.{◌≡◌, ◌+◌, cond, ℕ, List, refl}
-use Rattle.olr_spec.specs.Walks.{dm_of}
+use Rattle.olr_spec.specs.Routes.{dm_of}
 use Rattle.olr_refs.proofs.Extending.{Known, All-from_each, front_last, before_known, after_known, whole, whole_known}
 use Rattle.olr_refs.proofs.Extending.{extends}
 use Rattle.olr_refs.proofs.extension.extend.Goals as goal
 
-pub chain_after-requires-clause-known : goal.chain_after-requires-clause-known
-chain_after-requires-clause-known g c =
+pub run_after-requires-clause-known : goal.run_after-requires-clause-known
+run_after-requires-clause-known g c =
     let M = g.M.MapRead.map c.args.map.now in
     let P = c.args.path.now in
     let b : List ℕ = c.in_ok-before.before.lines.items in

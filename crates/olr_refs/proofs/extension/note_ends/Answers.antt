@@ -2,14 +2,14 @@ use Rattle.std.proofs.Common.{◌⊎◌, ℕ, List}
 use Rattle.std.proofs.lemmas.List.Filters.{dedup_is}
 use Rattle.std.proofs.lemmas.Map.Keys.{IsStrictlyIncreasing-dedup}
 use Rattle.std.proofs.lemmas.Result.{on_ok_weaker}
-use Rattle.olr_spec.specs.Looks.{NodeOf}
+use Rattle.olr_spec.specs.Queries.{NodeOf}
 use Rattle.olr_refs.proofs.Ends.{same_once, three_lists, grown_by}
 use Rattle.olr_refs.proofs.extension.note_ends.Goals as goal
 
 pub note_all-requires : goal.note_all-requires
 note_all-requires g c =
     record {
-      rising = rw (c.deref.ensures.value, dedup_is _ _ _ c.dedup.ensures.filtered)
+      ascending = rw (c.deref.ensures.value, dedup_is _ _ _ c.dedup.ensures.filtered)
           (IsStrictlyIncreasing-dedup c.sort_unstable.new.self.items c.sort_unstable.ensures.sorted);
     }
 

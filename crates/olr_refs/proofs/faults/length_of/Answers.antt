@@ -1,6 +1,6 @@
 use Rattle.std.proofs.Common.{◌≡◌, ◌+◌, ℕ, ap, ◌∙◌, sym, arith, rules}
 use Rattle.olr_spec.specs.Map.{dm}
-use Rattle.olr_spec.proofs.WalkLemmas.{line_short}
+use Rattle.olr_spec.proofs.RouteLemmas.{line_short}
 use Rattle.olr_refs.proofs.Joined.{longer_by}
 use Rattle.olr_refs.proofs.Faulting.{each_read}
 use Rattle.olr_refs.proofs.faults.length_of.Goals as goal

@@ -7,9 +7,9 @@ use Rattle.olr_refs.proofs.fields.attrs.Goals as goal
 
 pub lowest_class-requires : goal.lowest_class-requires
 lowest_class-requires g c = λ k h.
-    let M = g.M.MapRead.map c.args.course.now.map.now in
-    Each-range (λ x. IsTrue (has_line M x)) c.args.course.now.lines.now c.args.i c.args.j
-    (joined_known M c.args.course.now.lines.now c.args.course.now.joined) _ (has_index _ k h)
+    let M = g.M.MapRead.map c.args.resolved.now.map.now in
+    Each-range (λ x. IsTrue (has_line M x)) c.args.resolved.now.lines.now c.args.i c.args.j
+    (joined_known M c.args.resolved.now.lines.now c.args.resolved.now.joined) _ (has_index _ k h)
 
 pub overflow_cast-result : goal.overflow_cast-result
 overflow_cast-result g c =
@@ -19,10 +19,10 @@ overflow_cast-result g c =
 
 pub returns : goal.returns
 returns g c =
-    let M = g.M.MapRead.map c.args.course.now.map.now in
+    let M = g.M.MapRead.map c.args.resolved.now.map.now in
     let after = c.requires.candidate.after in
     let read =
-    leg_read M c.args.course.now.lines.now c.args.i _ c.ends_of.result (omega arith) c.line-line.ensures.value
+    leg_read M c.args.resolved.now.lines.now c.args.i _ c.ends_of.result (omega arith) c.line-line.ensures.value
     c.ends_of.ensures.from c.ends_of.ensures.to in
-    attrs_read M c.args.course.now.lines.now c.args.i c.args.j _ _ _ _ _ _ c.ends_of.result read (search rules)
+    attrs_read M c.args.resolved.now.lines.now c.args.i c.args.j _ _ _ _ _ _ c.ends_of.result read (search rules)
     (search rules) c.lowest_class.ensures (search rules) c.between.ensures.legs

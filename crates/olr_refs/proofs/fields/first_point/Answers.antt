@@ -8,7 +8,7 @@ use Rattle.olr_refs.proofs.fields.first_point.Goals as goal
 
 pub returns : goal.returns
 returns g c =
-    let gs = legs (g.M.MapRead.map c.args.course.now.map.now) c.args.course.now.lines.now in
+    let gs = legs (g.M.MapRead.map c.args.resolved.now.map.now) c.args.resolved.now.lines.now in
     first_read gs c.args.i c.args.j _ _ _
     (stored w32 abs24 _ _ _ (search rules) (c.lon.ensures.value
     ∙ ap (λ (p : Coord). p.lon) c.place-place.ensures.position) (search rules) c.abs24.ensures)

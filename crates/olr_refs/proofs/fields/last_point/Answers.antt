@@ -11,19 +11,20 @@ use Rattle.olr_refs.proofs.fields.last_point.Goals as goal
 
 pub differences-dlon-requires : goal.differences-dlon-requires
 differences-dlon-requires g c =
-    let M = g.M.MapRead.map c.args.course.now.map.now in
+    let M = g.M.MapRead.map c.args.resolved.now.map.now in
     (λ k. fit16 (c.place.ensures.position k) (c.place-2.ensures.position k))
-    ∙ neighbours_fit M (g.met.M.MapRead.sound c.args.course.now.map.now) c.args.course.now.lines.now c.args.h c.args.i
-    c.args.course.now.joined c.requires.candidate
+    ∙ neighbours_fit M (g.met.M.MapRead.sound c.args.resolved.now.map.now) c.args.resolved.now.lines.now c.args.h
+    c.args.i
+    c.args.resolved.now.joined c.requires.candidate
 
 pub returns : goal.returns
 returns g c =
-    let M = g.M.MapRead.map c.args.course.now.map.now in
-    let gs = legs M c.args.course.now.lines.now in
+    let M = g.M.MapRead.map c.args.resolved.now.map.now in
+    let gs = legs M c.args.resolved.now.lines.now in
     let after = c.requires.candidate.after in
     let upto = c.requires.candidate.upto in
     let read =
-    leg_read M c.args.course.now.lines.now (c.args.i - 1) _ c.ends_of.result (omega arith) c.line-line.ensures.value
+    leg_read M c.args.resolved.now.lines.now (c.args.i - 1) _ c.ends_of.result (omega arith) c.line-line.ensures.value
     c.ends_of.ensures.from c.ends_of.ensures.to in
     let lon_fits : SFits w16 c.differences-dlon.result.0 = search rules in
     let lat_fits : SFits w16 c.differences-dlon.result.1 = search rules in

@@ -6,7 +6,7 @@ use Rattle.olr_refs.proofs.fields.middle_points.Goals as goal
 
 pub loop-k-preserved : goal.loop-k-preserved
 loop-k-preserved g c =
-    let gs = legs (g.M.MapRead.map c.args.course.now.map.now) c.args.course.now.lines.now in
+    let gs = legs (g.M.MapRead.map c.args.resolved.now.map.now) c.args.resolved.now.lines.now in
     let two = c.requires.two in
     let k = c.loop-k.k in
     let from = c.loop-k.auto.k in

@@ -1,6 +1,6 @@
 use Rattle.olr_refs.specs.Answers.{answer_of}
 use Rattle.olr_refs.proofs.Recovering.{recovered_of}
-use Rattle.olr_refs.proofs.Referring.{local_by, searches_looked}
+use Rattle.olr_refs.proofs.Referring.{local_by, searches_queried}
 use Rattle.olr_refs.proofs.Seen.{noted_foot}
 use Rattle.olr_refs.proofs.footprints.refer.Goals as goal
 
@@ -12,9 +12,9 @@ returns-clause-recovered g c =
 pub returns-clause-footprint : goal.returns-clause-footprint
 returns-clause-footprint g c =
     noted_foot (g.M.MapRead.map c.args.map.now) (g.met.M.MapRead.sound c.args.map.now) c.args.path.now
-    c.encode_noting.ensures.path c.in_ok-encoding.encoding.looks.items c.in_ok-encoding.ensures.looks
-    c.in_ok-encoding.encoding.own c.new.result c.encode_noting.new.seen c.in_ok-footprint.footprint
-    c.in_ok-encoding.ensures.own c.new.ensures c.in_ok-encoding.ensures.seen c.in_ok-footprint.ensures
+    c.encode_noting.ensures.path c.in_ok-encoding.encoding.queries.items c.in_ok-encoding.ensures.queries
+    c.in_ok-encoding.encoding.traversed c.new.result c.encode_noting.new.seen c.in_ok-footprint.footprint
+    c.in_ok-encoding.ensures.traversed c.new.ensures c.in_ok-encoding.ensures.seen c.in_ok-footprint.ensures
 
 pub returns-clause-local : goal.returns-clause-local
 returns-clause-local g c =
@@ -25,18 +25,18 @@ returns-clause-local g c =
 pub returns-clause-searches : goal.returns-clause-searches
 returns-clause-searches g c = (
   _,
-  searches_looked (g.M.MapRead.map c.args.map.now) c.args.path.now c.in_ok-encoding.encoding.looks.items
-      c.in_ok-encoding.ensures.looks,
+  searches_queried (g.M.MapRead.map c.args.map.now) c.args.path.now c.in_ok-encoding.encoding.queries.items
+      c.in_ok-encoding.ensures.queries,
   c.in_ok-encoding.ensures.searches,
 )
 
 pub returns-clause-settled : goal.returns-clause-settled
 returns-clause-settled g c = (
   _,
-  searches_looked (g.M.MapRead.map c.args.map.now) c.args.path.now c.in_ok-encoding.encoding.looks.items
-      c.in_ok-encoding.ensures.looks,
+  searches_queried (g.M.MapRead.map c.args.map.now) c.args.path.now c.in_ok-encoding.encoding.queries.items
+      c.in_ok-encoding.ensures.queries,
   c.in_ok-encoding.ensures.settled c.in_ok-footprint.footprint (λ v. (returns-clause-footprint g c v).1),
 )
 
 pub returns-clause-settled_exactly : goal.returns-clause-settled_exactly
-returns-clause-settled_exactly g c = (_, c.in_ok-encoding.ensures.looks, c.in_ok-encoding.ensures.settled_exactly)
+returns-clause-settled_exactly g c = (_, c.in_ok-encoding.ensures.queries, c.in_ok-encoding.ensures.settled_exactly)

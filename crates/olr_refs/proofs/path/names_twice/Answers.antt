@@ -1,7 +1,7 @@
 use Rattle.std.proofs.Common.{◌≡◌, ℕ, ◌-◌, List, get_or, eqb, false, sym, ◌∙◌, arith}
 use Rattle.std.proofs.lemmas.Bool.{eqb-true}
 use Rattle.std.proofs.lemmas.List.{get_or_read}
-use Rattle.olr_refs.proofs.Distinct.{rising_once, equal_twice, rises_more}
+use Rattle.olr_refs.proofs.Distinct.{ascending_once, equal_twice, ascends_more}
 use Rattle.olr_refs.proofs.path.names_twice.Goals as goal
 
 pub returns-then-eq : goal.returns-then-eq
@@ -26,10 +26,10 @@ loop-i-preserved c =
     get_or_read xs i c.index-in-loop-i.result.now (omega arith) c.index-in-loop-i.ensures 0 in
     let differ : eqb (get_or xs (i - 1) 0) (get_or xs i 0) ≡ false =
     rw (← left, ← right) (sym c.eq.ensures ∙ c.if-eq.false) in
-    rises_more xs c.sort_unstable.ensures.sorted (i - 1) i (omega arith) (omega arith) differ c.loop-i.invariant
+    ascends_more xs c.sort_unstable.ensures.sorted (i - 1) i (omega arith) (omega arith) differ c.loop-i.invariant
 
 pub returns : goal.returns
 returns c =
     let xs : List ℕ = c.sort_unstable.new.self.items in
-    rising_once c.args.lines.now xs (rw c.in_ok-sorted.ensures.items at c.sort_unstable.ensures.permutation)
+    ascending_once c.args.lines.now xs (rw c.in_ok-sorted.ensures.items at c.sort_unstable.ensures.permutation)
     (λ k h. c.loop-i.invariant k (omega arith))

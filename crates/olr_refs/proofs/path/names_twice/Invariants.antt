@@ -1,6 +1,6 @@
-use Rattle.olr_refs.proofs.Distinct.{RisesBelow}
+use Rattle.olr_refs.proofs.Distinct.{AscendsBelow}
 use Rattle.olr_refs.proofs.path.names_twice.Given as goal
 
 -- the numbers compared so far are strictly increasing
 abbrev pub invariant-loop-i : goal.invariant-loop-i
-invariant-loop-i l = RisesBelow l.sorted.items l.i
+invariant-loop-i l = AscendsBelow l.sorted.items l.i

@@ -4,7 +4,7 @@ use Rattle.std.proofs.lemmas.Iterator.Consumers.{YieldsList-end}
 use Rattle.olr_commands.specs.State.{IsContent, start_state}
 use Rattle.olr_commands.specs.Reply.{IsOutcome}
 use Rattle.olr_commands.proofs.HistoryLemmas.{SoundOutcome, run_each, headline_of_outcomes}
-use Rattle.olr_register.proofs.Runs.{HasRun, map_same, run_starts, sound_at_start, run_goes_on}
+use Rattle.olr_register.proofs.Runs.{HasRun, map_same, run_starts, sound_at_start, run_continues}
 use Rattle.olr_register.proofs.applying.replay.Goals as goal
 
 pub loop-command-init : goal.loop-command-init
@@ -15,7 +15,7 @@ loop-command-init c = record {
 
 pub loop-command-preserved : goal.loop-command-preserved
 loop-command-preserved c = record {
-  run = run_goes_on c.loop-command.register c.apply-outcome.new.self c.loop-command.yielded c.in-Some.command
+  run = run_continues c.loop-command.register c.apply-outcome.new.self c.loop-command.yielded c.in-Some.command
       c.loop-command.outcomes.items _ c.apply-outcome.result c.loop-command.invariant.run
       c.apply-outcome.ensures.outcome c.apply-outcome.ensures.sound c.in_ok-push.ensures.items;
   sound = c.apply-outcome.ensures.sound;

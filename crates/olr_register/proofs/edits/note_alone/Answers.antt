@@ -6,13 +6,13 @@ use Rattle.olr_register.proofs.edits.note_alone.Goals as goal
 
 pub returns-clause-nodes : goal.returns-clause-nodes
 returns-clause-nodes c =
-    let at = c.args.judged.now.nodes in
+    let at = c.args.plan.now.nodes in
     only_noted _ _ (λ v. (at.0 == v) || (at.1 == v)) (c.reserve.ensures.nodes ∙ c.clear.ensures.nodes)
     c.note.ensures.nodes
 
 pub returns-clause-lines : goal.returns-clause-lines
 returns-clause-lines c =
-    only_noted _ _ (λ x. has (option_to_list c.args.judged.now.line) x)
+    only_noted _ _ (λ x. has (option_to_list c.args.plan.now.line) x)
     (c.reserve.ensures.lines ∙ c.clear.ensures.lines) c.note.ensures.lines
 
 pub returns-clause-changed : goal.returns-clause-changed

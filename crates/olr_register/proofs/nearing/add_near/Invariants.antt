@@ -1,12 +1,12 @@
 use Rattle.std.proofs.Common.{ℕ, All, take}
 use Rattle.olr_map.specs.RoadMaps.{map_of}
-use Rattle.olr_near.specs.Numbers.{IsUnderWay, IsSource}
+use Rattle.olr_near.specs.Bounds.{IsUnderWay, IsSource}
 use Rattle.olr_register.proofs.nearing.add_near.Given as goal
 
 -- no source is lost, and those so far are among them
-abbrev pub invariant-loop-look : goal.invariant-loop-look
-invariant-loop-look l = record {
+abbrev pub invariant-loop-query : goal.invariant-loop-query
+invariant-loop-query l = record {
   under_way : IsUnderWay (map_of l.roads) l.initial.near → IsUnderWay (map_of l.roads) l.near;
   before : (s w : ℕ) → IsSource l.initial.near s w → IsSource l.near s w;
-  added : All (λ k. IsSource l.near k.from k.within) (take l.look-index l.looks);
+  added : All (λ k. IsSource l.near k.from k.within) (take l.query-index l.queries);
 }

@@ -1,5 +1,5 @@
 use Rattle.std.proofs.Common.{◌⊎◌, Contains, inl, inr, arith}
-use Rattle.olr_map.proofs.Sizes.{rising_within}
+use Rattle.olr_map.proofs.Sizes.{ascending_within}
 use Rattle.olr_route.proofs.labels.note_labels.Goals as goal
 
 pub returns-clause-footprint : goal.returns-clause-footprint
@@ -19,7 +19,7 @@ returns-clause-footprint c = λ v. (
 pub returns-clause-few : goal.returns-clause-few
 returns-clause-few c =
     let few =
-    rising_within c.nodes-nodes.result.now c.note_all.new.self c.nodes-nodes.ensures.rising
+    ascending_within c.nodes-nodes.result.now c.note_all.new.self c.nodes-nodes.ensures.ascending
     (λ v h. (c.in_ok-note_all.ensures.ok v).1 (inr h)) in
     let count = c.nodes-nodes.ensures.count in
     omega arith

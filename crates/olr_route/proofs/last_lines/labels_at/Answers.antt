@@ -3,15 +3,15 @@ use Rattle.std.proofs.Common.{inl, inr, arith}
 use Rattle.std.proofs.lemmas.Bool.{cases_lt}
 use Rattle.std.proofs.lemmas.List.{get_or-map, get_or_push, get_or_append_left}
 use Rattle.olr_route.specs.Labels.{Label}
-use Rattle.olr_route.specs.Listed.{IsTold}
+use Rattle.olr_route.specs.Listed.{IsReturned}
 use Rattle.olr_route.specs.Notes.{numbers_of}
-use Rattle.olr_route.specs.declared.found.Reached.{Reached}
+use Rattle.olr_route.specs.declared.frontier.Reached.{Reached}
 use Rattle.olr_route.proofs.last_lines.labels_at.Goals as goal
 
 pub loop-entry-preserved : goal.loop-entry-preserved
 loop-entry-preserved g c =
     let M = g.M.MapRead.map c.args.map.now in
-    let place = g.M.MapRead.place_in c.args.map.now in
+    let slot = g.M.MapRead.node_slot c.args.map.now in
     let inv = c.loop-entry.invariant in
     let nodes = numbers_of c.args.reached.now in
     let label : Label = c.label_at.result in
@@ -26,7 +26,7 @@ loop-entry-preserved g c =
             let same : get_or c.push.new.self.items i (0, None) ≡ get_or c.loop-entry.labels.items i (0, None) =
             ap (λ (zs : List Label). get_or zs i (0, None)) items
             ∙ get_or_append_left c.loop-entry.labels.items (label ∷ []) (0, None) i (omega arith) in
-            subst (IsTold M place c.args.found.now (get_or nodes i 0)) (sym same) (inv.each i low)
+            subst (IsReturned M slot c.args.frontier.now (get_or nodes i 0)) (sym same) (inv.each i low)
         | inr high ↦
             let is : i ≡ c.loop-entry.entry-index = omega arith in
             let rs = c.args.reached.now in
@@ -37,7 +37,7 @@ loop-entry-preserved g c =
             let there : get_or c.push.new.self.items i (0, None) ≡ label =
             ap (λ (zs : List Label). get_or zs i (0, None)) items
             ∙ get_or_push c.loop-entry.labels.items label (0, None) i (omega arith) in
-            subst (IsTold M place c.args.found.now (get_or nodes i 0)) (sym there)
-            (subst (λ (v : ℕ). IsTold M place c.args.found.now v label) node c.label_at.ensures)
+            subst (IsReturned M slot c.args.frontier.now (get_or nodes i 0)) (sym there)
+            (subst (λ (v : ℕ). IsReturned M slot c.args.frontier.now v label) node c.label_at.ensures)
       ];
     }

@@ -3,9 +3,9 @@ use Rattle.std.specs.List.Sorted.{IsStrictlyIncreasing}
 use Rattle.std.proofs.lemmas.Bool.{cases_lt}
 use Rattle.std.proofs.lemmas.Grind.{get_or_default_zero}
 use Rattle.olr_spec.specs.Map.{start, dm}
-use Rattle.olr_spec.proofs.OrderLemmas.{rise_in}
-use Rattle.olr_spec.proofs.RisingLists.{rises}
-use Rattle.olr_route.specs.Founds.{label_of}
+use Rattle.olr_spec.proofs.OrderLemmas.{ascend_in}
+use Rattle.olr_spec.proofs.AscendingLists.{ascends}
+use Rattle.olr_route.specs.Frontiers.{label_of}
 use Rattle.olr_route.specs.Listed.{IsTight}
 use Rattle.olr_route.proofs.ReadLemmas.{entering}
 use Rattle.olr_route.proofs.WayLemmas.{entry_is, as_many}
@@ -14,27 +14,27 @@ use Rattle.olr_route.proofs.last_lines.last_line.Goals as goal
 pub returns-then-is_at_length : goal.returns-then-is_at_length
 returns-then-is_at_length g c =
     let M = g.M.MapRead.map c.args.map.now in
-    let place = g.M.MapRead.place_in c.args.map.now in
+    let slot = g.M.MapRead.node_slot c.args.map.now in
     let lines = c.in_lines_at-lines.result.now in
     let e =
-    entry_is M place c.args.node lines c.in_ends_at-ends.result.now
+    entry_is M slot c.args.node lines c.in_ends_at-ends.result.now
     (c.in_lines_at-lines.ensures c.args.node c.requires.known c.requires.at)
     (c.in_ends_at-ends.ensures c.args.node c.requires.known c.requires.at) c.loop-index.index c.index-ends-index.result
     c.loop-index-test.true c.index-ends-index.is in
     let x = c.index-lines-index.result in
     let is : x ≡ get_or lines c.loop-index.index 0 =
     c.index-lines-index.is ∙ get_or_default_zero lines c.loop-index.index x e.within in
-    let at : label_of c.args.found.now c.index-ends-index.result.place
-    ≡ label_of c.args.found.now (place (start M (get_or lines c.loop-index.index 0))) =
-    ap (label_of c.args.found.now) e.there in
+    let at : label_of c.args.frontier.now c.index-ends-index.result.slot
+    ≡ label_of c.args.frontier.now (slot (start M (get_or lines c.loop-index.index 0))) =
+    ap (label_of c.args.frontier.now) e.there in
     let len = e.len in
     let sum = c.is_at_length.ensures.0 c.if-is_at_length.true in
-    let tight : IsTight M place c.args.found.now c.args.node c.args.length (get_or lines c.loop-index.index 0) =
+    let tight : IsTight M slot c.args.frontier.now c.args.node c.args.length (get_or lines c.loop-index.index 0) =
     record { known = e.known; to = e.leads; long = omega arith } in
     record {
       tight = λ y same.
           let one : x ≡ y = cc in
-          subst (IsTight M place c.args.found.now c.args.node c.args.length) (sym is ∙ one) tight;
+          subst (IsTight M slot c.args.frontier.now c.args.node c.args.length) (sym is ∙ one) tight;
       least = λ y z same t.
           let one : x ≡ y = cc in
           let k =
@@ -42,11 +42,12 @@ returns-then-is_at_length g c =
           t.known t.to in
           elim (cases_lt k.0 c.loop-index.index) [
             | inl low ↦ absurd (c.loop-index.invariant k.0 low
-                (subst (IsTight M place c.args.found.now c.args.node c.args.length) (sym k.2) t))
+                (subst (IsTight M slot c.args.frontier.now c.args.node c.args.length) (sym k.2) t))
             | inr high ↦
                 let le =
-                rises lines (subst (λ (zs : List ℕ). IsStrictlyIncreasing zs)
-                (sym (c.in_lines_at-lines.ensures c.args.node c.requires.known c.requires.at)) (rise_in M c.args.node))
+                ascends lines (subst (λ (zs : List ℕ). IsStrictlyIncreasing zs)
+                (sym (c.in_lines_at-lines.ensures c.args.node c.requires.known c.requires.at))
+                (ascend_in M c.args.node))
                 c.loop-index.index k.0 high k.1 in
                 let there = k.2 in
                 omega arith
@@ -57,21 +58,21 @@ returns-then-is_at_length g c =
 pub loop-index-preserved : goal.loop-index-preserved
 loop-index-preserved g c = λ j lt t.
     let M = g.M.MapRead.map c.args.map.now in
-    let place = g.M.MapRead.place_in c.args.map.now in
+    let slot = g.M.MapRead.node_slot c.args.map.now in
     let lines = c.in_lines_at-lines.result.now in
     elim (cases_lt j c.loop-index.index) [
       | inl low ↦ c.loop-index.invariant j low t
       | inr high ↦
           let same : j ≡ c.loop-index.index = omega arith in
           let e =
-          entry_is M place c.args.node lines c.in_ends_at-ends.result.now
+          entry_is M slot c.args.node lines c.in_ends_at-ends.result.now
           (c.in_lines_at-lines.ensures c.args.node c.requires.known c.requires.at)
           (c.in_ends_at-ends.ensures c.args.node c.requires.known c.requires.at) c.loop-index.index
           c.index-ends-index.result c.loop-index-test.true c.index-ends-index.is in
-          let at : label_of c.args.found.now c.index-ends-index.result.place
-          ≡ label_of c.args.found.now (place (start M (get_or lines j 0))) =
-          ap (label_of c.args.found.now) e.there
-          ∙ ap (λ (n : ℕ). label_of c.args.found.now (place (start M (get_or lines n 0)))) (sym same) in
+          let at : label_of c.args.frontier.now c.index-ends-index.result.slot
+          ≡ label_of c.args.frontier.now (slot (start M (get_or lines j 0))) =
+          ap (label_of c.args.frontier.now) e.there
+          ∙ ap (λ (n : ℕ). label_of c.args.frontier.now (slot (start M (get_or lines n 0)))) (sym same) in
           let len : c.index-ends-index.result.len ≡ dm M (get_or lines j 0) =
           e.len ∙ ap (λ (n : ℕ). dm M (get_or lines n 0)) (sym same) in
           let long = t.long in
@@ -82,10 +83,10 @@ loop-index-preserved g c = λ j lt t.
 pub returns : goal.returns
 returns g c =
     let M = g.M.MapRead.map c.args.map.now in
-    let place = g.M.MapRead.place_in c.args.map.now in
+    let slot = g.M.MapRead.node_slot c.args.map.now in
     let lines = c.in_lines_at-lines.result.now in
     let many =
-    as_many M place c.args.node lines c.in_ends_at-ends.result.now
+    as_many M slot c.args.node lines c.in_ends_at-ends.result.now
     (c.in_lines_at-lines.ensures c.args.node c.requires.known c.requires.at)
     (c.in_ends_at-ends.ensures c.args.node c.requires.known c.requires.at) in
     let past = c.loop-index-test.false in
@@ -98,5 +99,5 @@ returns g c =
           t.known t.to in
           let lt = k.1 in
           c.loop-index.invariant k.0 (omega arith)
-          (subst (IsTight M place c.args.found.now c.args.node c.args.length) (sym k.2) t);
+          (subst (IsTight M slot c.args.frontier.now c.args.node c.args.length) (sym k.2) t);
     }

@@ -2,20 +2,20 @@ use Rattle.std.proofs.Common.{◌≡◌, ◌≤◌, ◌<◌, ◌+◌, ℕ, List,
 use Rattle.olr_spec.specs.Map.{has_node}
 use Rattle.olr_route.specs.Distances.{Leads}
 use Rattle.olr_route.specs.Bounds.{IsUnder, bound_in}
-use Rattle.olr_route.specs.Founds.{Moves, label_of}
+use Rattle.olr_route.specs.Frontiers.{Moves, label_of}
 use Rattle.olr_route.specs.Searches.{IsLabelled}
 use Rattle.olr_route.proofs.WayLemmas.{no_end}
 use Rattle.olr_route.proofs.steps.follow_under.Given as goal
 
 abbrev pub invariant-loop-end : goal.invariant-loop-end
 invariant-loop-end g l = record {
-  moves : Moves l.initial.found l.found;
+  moves : Moves l.initial.frontier l.frontier;
   labelled : (v : ℕ) (from : List (ℕ × ℕ)) → IsTrue (has_node (g.M.MapRead.map l.fn.map) v) →
-      g.M.MapRead.place_in l.fn.map v ≡ l.fn.place → Leads (g.M.MapRead.map l.fn.map) l.fn.direction from v l.dist
-      → IsLabelled (g.M.MapRead.map l.fn.map) (g.M.MapRead.place_in l.fn.map) l.fn.direction from l.initial.found →
-      IsLabelled (g.M.MapRead.map l.fn.map) (g.M.MapRead.place_in l.fn.map) l.fn.direction from l.found;
+      g.M.MapRead.node_slot l.fn.map v ≡ l.fn.slot → Leads (g.M.MapRead.map l.fn.map) l.fn.direction from v l.dist
+      → IsLabelled (g.M.MapRead.map l.fn.map) (g.M.MapRead.node_slot l.fn.map) l.fn.direction from l.initial.frontier →
+      IsLabelled (g.M.MapRead.map l.fn.map) (g.M.MapRead.node_slot l.fn.map) l.fn.direction from l.frontier;
   followed : (j : ℕ) → j < l.end-index
       → IsUnder (bound_in l.fn.bounds) (get_or l.end-items j no_end).node (l.dist + (get_or l.end-items j no_end).len)
-      → label_of l.found (get_or l.end-items j no_end).place ≤ l.dist
+      → label_of l.frontier (get_or l.end-items j no_end).slot ≤ l.dist
       + (get_or l.end-items j no_end).len;
 }

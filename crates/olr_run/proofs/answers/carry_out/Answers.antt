@@ -7,8 +7,8 @@ use Rattle.olr_run.proofs.Answering.{commanded, unread}
 use Rattle.olr_run.proofs.answers.carry_out.Goals as goal
 
 pub returns-in-Ok-apply : goal.returns-in-Ok-apply
-returns-in-Ok-apply c s stands sound =
-    let h = c.in-Ok-apply.ensures.outcome s stands in
+returns-in-Ok-apply c s represents sound =
+    let h = c.in-Ok-apply.ensures.outcome s represents in
     let o = Ok (reply_of c.in-Ok-apply.reply) in (
       h.0,
       o,
@@ -21,8 +21,8 @@ returns-in-Ok-apply c s stands sound =
     )
 
 pub returns-in-Err-apply : goal.returns-in-Err-apply
-returns-in-Err-apply c s stands sound =
-    let h = c.in-Err-apply.ensures.outcome s stands in
+returns-in-Err-apply c s represents sound =
+    let h = c.in-Err-apply.ensures.outcome s represents in
     let o = Err (command_fault_of c.in-Err-apply.fault) in (
       h.0,
       o,
@@ -35,11 +35,11 @@ returns-in-Err-apply c s stands sound =
     )
 
 pub returns-in-Err : goal.returns-in-Err
-returns-in-Err c s stands sound =
+returns-in-Err c s represents sound =
     let fault = read_fault_of c.in-Err.fault in (
       s,
       Err fault,
-      stands,
+      represents,
       (unread s (fields_of c.args.fields.now) c.in-Err.fault c.in-Err.ensures, sound),
       (fault, refl, c.read_fault_text.ensures),
     )

@@ -13,12 +13,12 @@ use Rattle.olr_run.proofs.command_line.options.Goals as goal
 
 pub returns-in-Ok-try_get_matches_from-clause-ok : goal.returns-in-Ok-try_get_matches_from-clause-ok
 returns-in-Ok-try_get_matches_from-clause-ok g c =
-    let words = map g.S.AsStr.text c.args.words.now in
+    let arguments = map g.S.AsStr.text c.args.arguments.now in
     let found = found_of c.in-Ok-try_get_matches_from.matches in
     let app_is : app_of c.in-Ok.command ≡ keep_app = c.in-Ok.ensures in
-    let rows_are : rows_of found ≡ matches_of keep_app words =
+    let rows_are : rows_of found ≡ matches_of keep_app arguments =
     (c.in-Ok-try_get_matches_from.ensures.matches (ap is_simple app_is)).0
-    ∙ ap (λ (a : App). matches_of a words) app_is in
+    ∙ ap (λ (a : App). matches_of a arguments) app_is in
     let first : (id : Text) → _ = λ id. first_value-rows found id ∙ ap (first_of id) rows_are in
     let file_is = c.get_str.ensures ∙ first (codes "file") in
     let stop_is =
@@ -27,15 +27,15 @@ returns-in-Ok-try_get_matches_from-clause-ok g c =
 
 pub returns-in-Ok-try_get_matches_from-clause-kinds : goal.returns-in-Ok-try_get_matches_from-clause-kinds
 returns-in-Ok-try_get_matches_from-clause-kinds g c =
-    let words = map g.S.AsStr.text c.args.words.now in
-    ap (λ (a : App). fault_of a words) (sym c.in-Ok.ensures)
+    let arguments = map g.S.AsStr.text c.args.arguments.now in
+    ap (λ (a : App). fault_of a arguments) (sym c.in-Ok.ensures)
     ∙ c.in-Ok-try_get_matches_from.ensures.kinds (ap is_simple_and_free c.in-Ok.ensures)
 
 pub returns-in-Err-2-clause-taken : goal.returns-in-Err-2-clause-taken
 returns-in-Err-2-clause-taken g c =
-    let words = map g.S.AsStr.text c.args.words.now in
+    let arguments = map g.S.AsStr.text c.args.arguments.now in
     λ t.
-    let memory = c.in-Err.ensures.passes (ap (λ (a : App). takes a words) c.in-Ok.ensures ∙ t) in
+    let memory = c.in-Err.ensures.passes (ap (λ (a : App). takes a arguments) c.in-Ok.ensures ∙ t) in
     let is : c.kind.result ≡ OutOfMemory = c.kind.ensures ∙ memory in
     let other = rw is at c.if-eq.ensures in
     let never : false ≡ true = other in

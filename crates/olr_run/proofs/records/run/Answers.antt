@@ -18,7 +18,8 @@ returns-clause-ran g c =
     IfOk-weaker c.run_session.result _ _
     (λ end h. ran_on g.R.Read.remaining g.W.Write.contents c.args.stop c.args.register.now
     c.run_session.new.register (c.from_reader-reader.result, c.args.output.now)
-    (c.run_session.new.session, c.run_session.new.output) (g.R.Read.remaining c.args.input) end c.is_sound.ensures starts h) c.run_session.ensures.ran
+    (c.run_session.new.session, c.run_session.new.output) (g.R.Read.remaining c.args.input) end c.is_sound.ensures
+    starts h) c.run_session.ensures.ran
 
 pub returns-clause-faulted : goal.returns-clause-faulted
 returns-clause-faulted g c =
@@ -32,7 +33,8 @@ returns-clause-faulted g c =
     IfErr-weaker c.run_session.result _ _
     (λ e h. cut_on g.R.Read.remaining g.W.Write.contents c.args.stop c.args.register.now
     c.run_session.new.register (c.from_reader-reader.result, c.args.output.now)
-    (c.run_session.new.session, c.run_session.new.output) (g.R.Read.remaining c.args.input) e c.is_sound.ensures starts h) c.run_session.ensures.cut
+    (c.run_session.new.session, c.run_session.new.output) (g.R.Read.remaining c.args.input) e c.is_sound.ensures starts
+    h) c.run_session.ensures.cut
 
 pub returns-clause-too_many : goal.returns-clause-too_many
 returns-clause-too_many g c =
@@ -46,4 +48,5 @@ returns-clause-too_many g c =
     IfErr-weaker c.run_session.result _ _
     (λ e h is. too_many g.R.Read.remaining g.W.Write.contents c.args.stop c.args.register.now
     c.run_session.new.register (c.from_reader-reader.result, c.args.output.now)
-    (c.run_session.new.session, c.run_session.new.output) (g.R.Read.remaining c.args.input) e starts h is) c.run_session.ensures.cut
+    (c.run_session.new.session, c.run_session.new.output) (g.R.Read.remaining c.args.input) e starts h is)
+    c.run_session.ensures.cut

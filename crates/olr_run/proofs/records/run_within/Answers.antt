@@ -24,30 +24,31 @@ returns-then-answered-eq-MOST_RECORDS-clause-cut g c =
     cut_past g.S.Session.happens _ _ _ _ _ _ _ _ (fields_of c.take.new.fields) c.is_sound.ensures
     c.records.invariant.1 c.if-answered-eq-MOST_RECORDS.true (rw c.if-branch.true at c.in_ok-take.ensures)
 
-pub returns-in_err-tell-clause-cut : goal.returns-in_err-tell-clause-cut
-returns-in_err-tell-clause-cut g c =
-    passed_on c.from_residual-in_err-tell.result c.in_err-tell.field-0.0 _ c.from_residual-in_err-tell.ensures.1
+pub returns-in_err-write_outcome-clause-cut : goal.returns-in_err-write_outcome-clause-cut
+returns-in_err-write_outcome-clause-cut g c =
+    passed_on c.from_residual-in_err-write_outcome.result c.in_err-write_outcome.field-0.0 _
+    c.from_residual-in_err-write_outcome.ensures.1
     (cut_in_answer g.S.Session.happens _ _ _ _ _ _ _ _ _ _ (fields_of c.take.new.fields) _ c.is_sound.ensures
-    c.records.invariant.1 (rw c.if-branch.true at c.in_ok-take.ensures) c.in_err-tell.ensures)
+    c.records.invariant.1 (rw c.if-branch.true at c.in_ok-take.ensures) c.in_err-write_outcome.ensures)
 
 pub returns-then-stop-clause-ran : goal.returns-then-stop-clause-ran
 returns-then-stop-clause-ran g c =
-    ran_stopped g.S.Session.happens _ _ _ _ _ _ _ _ _ (fields_of c.take.new.fields) _ c.in_ok-tell.field-0
+    ran_stopped g.S.Session.happens _ _ _ _ _ _ _ _ _ (fields_of c.take.new.fields) _ c.in_ok-write_outcome.field-0
     c.is_sound.ensures c.if-not-branch.true c.if-stop.true c.records.invariant.1
-    (rw c.if-branch.true at c.in_ok-take.ensures) c.in_ok-tell.ensures
+    (rw c.if-branch.true at c.in_ok-take.ensures) c.in_ok-write_outcome.ensures
 
 pub records-preserved-then-not-branch : goal.records-preserved-then-not-branch
 records-preserved-then-not-branch g c = (
   (let few = c.records.invariant.0 in omega arith),
-  refused_so_far g.S.Session.happens _ _ _ _ _ _ _ _ _ (fields_of c.take.new.fields) _ c.in_ok-tell.field-0
+  refused_so_far g.S.Session.happens _ _ _ _ _ _ _ _ _ (fields_of c.take.new.fields) _ c.in_ok-write_outcome.field-0
       c.if-not-branch.true c.if-stop.false c.records.invariant.1 (rw c.if-branch.true at c.in_ok-take.ensures)
-      c.in_ok-tell.ensures,
+      c.in_ok-write_outcome.ensures,
 )
 
 pub records-preserved : goal.records-preserved
 records-preserved g c = (
   (let few = c.records.invariant.0 in omega arith),
-  accepted_so_far g.S.Session.happens _ _ _ _ _ _ _ _ _ (fields_of c.take.new.fields) _ c.in_ok-tell.field-0
+  accepted_so_far g.S.Session.happens _ _ _ _ _ _ _ _ _ (fields_of c.take.new.fields) _ c.in_ok-write_outcome.field-0
       c.if-not-branch.false c.records.invariant.1 (rw c.if-branch.true at c.in_ok-take.ensures)
-      c.in_ok-tell.ensures,
+      c.in_ok-write_outcome.ensures,
 )

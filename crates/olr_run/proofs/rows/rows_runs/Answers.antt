@@ -9,7 +9,7 @@ use Rattle.olr_spec.specs.Coordinates.{Coord}
 use Rattle.olr_spec.specs.Map.{empty_map, unless, Node_exists, No_node, Node_in_use, Add_node, Drop_node, in_use}
 use Rattle.olr_commands.specs.State.{no_content, start_state, Syntax, Range, Map_fault, On_map, Make, with_map, at_once}
 use Rattle.olr_commands.specs.State.{step}
-use Rattle.olr_commands.specs.Reply.{Paths, Told}
+use Rattle.olr_commands.specs.Reply.{Paths, ByState}
 use Rattle.olr_run.specs.Output.{Before_next, In_last}
 use Rattle.olr_records.specs.Rows.{zero}
 use Rattle.olr_run.specs.Rows.{state20}
@@ -47,8 +47,8 @@ returns-clause-all c =
         inl (add_first, refl),
         (
           state20,
-          inl (Told add_again, refl),
-          (state20, inl (Told drop_none, refl), (state20, inl (refl, refl), (state20, inl (refl, refl), refl))),
+          inl (ByState add_again, refl),
+          (state20, inl (ByState drop_none, refl), (state20, inl (refl, refl), (state20, inl (refl, refl), refl))),
         ),
       );
       stops = (λ e. absurd cc, (λ e. absurd cc, (λ e. absurd cc, (λ e. absurd cc, (λ e. refl, tt)))));
@@ -62,7 +62,7 @@ unfolding csv_on_literals digits
 returns-clause-stopped c =
     record {
       outcomes = Ok (Paths []) ∷ Err (Map_fault Node_exists) ∷ [];
-      each = (state20, inl (add_first, refl), (state20, inl (Told add_again, refl), refl));
+      each = (state20, inl (add_first, refl), (state20, inl (ByState add_again, refl), refl));
       stops = (λ e. absurd cc, (λ e. refl, tt));
       all = inr refl;
       wrote = refl;
@@ -78,7 +78,7 @@ unfolding csv_on_literals digits
 returns-clause-cut c =
     record {
       outcomes = Ok (Paths []) ∷ Err (Map_fault Node_exists) ∷ [];
-      each = (state20, inl (add_first, refl), (state20, inl (Told add_again, refl), refl));
+      each = (state20, inl (add_first, refl), (state20, inl (ByState add_again, refl), refl));
       stops = (λ e. absurd cc, (λ e. refl, tt));
       wrote =
           In_last refl (Ok (Paths []) ∷ []) (Err (Map_fault Node_exists)) (codes "fau")

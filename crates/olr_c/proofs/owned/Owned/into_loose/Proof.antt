@@ -60,7 +60,7 @@ into_loose_spec 𝓤 𝓛 𝓜 𝓡 wired =
     let w : Val = pair (vptr b o) h in
     let good : T (has_ty (layout owned.the_row) w) × WT w = (and_tt _ fits.0, (tt, (fits.1, tt))) in
     let r : (loose.the_row kept.the_row heap.the_row ghosts).Denot = record { at = block_ptr b o; alloc = v.alloc; value = x } in
-    let Told : Type 0 = v.keep ≡ Some r.value in
+    let Says : Type 0 = v.keep ≡ Some r.value in
     let word = ev ∙ (λ j. vstruct (of_list ((ep ∙ ap (λ (p : Ptr). ptr_val p ∷ []) e) j ++ (ea j ++ []))) ∷ []) in
     regoal ! (λ (us : List Val). prop (WpFn 𝓤 H 𝓣.C 𝓣.Λ fn us Post)) (λ i. word i ++ []) refl $
     enter ! 𝓣.C 𝓣.Λ fn (w ∷ []) Post $ alloc_all ! (λ l. pass_all ! refl (good, tt) $
@@ -71,5 +71,5 @@ into_loose_spec 𝓤 𝓛 𝓜 𝓡 wired =
     nothing ! $ move ! (2 ∷ 0 ∷ []) $ fjoin ! $
     feq_i ! (List Val) (vptr b o ∷ []) (vptr b o ∷ []) refl $ fjoin ! $ feq_i ! (List Val) (w ∷ []) (w ∷ []) refl $ fjoin ! $
     fpack ! (Valss (RawPtr ∷ heap.the_row ∷ [])) (within (shape (loose.the_type kept.the_row heap.the_row ghosts)) (block_ptr b o, (v.alloc, tt)) (w ∷ [])) (vptr b o ∷ [], (h ∷ [], tt)) $ fjoin ! $
-    use0 𝓛 (raw (fact 𝓤 Told)) (fact_i 𝓤 Told (emp 𝓤) is) $ nothing ! $ nothing ! $ fjoin ! $ nothing ! $ move ! (0 ∷ 1 ∷ 3 ∷ 2 ∷ []) $
+    use0 𝓛 (raw (fact 𝓤 Says)) (fact_i 𝓤 Says (emp 𝓤) is) $ nothing ! $ nothing ! $ fjoin ! $ nothing ! $ move ! (0 ∷ 1 ∷ 3 ∷ 2 ∷ []) $
     by ! (leaves 𝓛 f.ended hs c z w r (tt, tt) (tt, tt))))))))))

@@ -44,7 +44,7 @@ none_spec 𝓤 𝓛 𝓜 𝓡 wired =
     let w : Val = pair (vint w64 0) h in
     let good : T (has_ty (layout owned.the_row) w) × WT w = (and_tt _ fits.0, (record { fits = lit< tt }, (fits.1, tt))) in
     let r : owned.the_row.Denot = record { at = null_ptr; alloc = v; keep = None } in
-    let Told : Type 0 = r.keep ≡ None in
+    let Says : Type 0 = r.keep ≡ None in
     regoal ! (λ (us : List Val). prop (WpFn 𝓤 H 𝓣.C 𝓣.Λ fn us Post)) (λ i. ea i ++ []) refl $
     enter ! 𝓣.C 𝓣.Λ fn (h ∷ []) Post $ alloc_all ! (λ l. pass_all ! refl (fits, tt) $
     sets ! (agg ! (and_then ! (lit ! tt) (and_then ! (get ! refl) (no_more !)))) refl good $
@@ -52,5 +52,5 @@ none_spec 𝓤 𝓛 𝓜 𝓡 wired =
     nothing ! $ nothing ! $ move ! (2 ∷ 0 ∷ []) $ fjoin ! $
     feq_i ! (List Val) (ptr_val null_ptr ∷ []) (ptr_val null_ptr ∷ []) refl $ fjoin ! $ feq_i ! (List Val) (w ∷ []) (w ∷ []) refl $ fjoin ! $
     fpack ! (Valss (shape owned.the_type).fields) (within (shape owned.the_type) (to owned.the_type r) (w ∷ [])) (ptr_val null_ptr ∷ [], (h ∷ [], tt)) $ fjoin ! $
-    use0 𝓛 (raw (fact 𝓤 Told)) (fact_i 𝓤 Told (emp 𝓤) refl) $ nothing ! $ nothing ! $ fjoin ! $ nothing ! $ move ! (0 ∷ 1 ∷ 3 ∷ 2 ∷ []) $
+    use0 𝓛 (raw (fact 𝓤 Says)) (fact_i 𝓤 Says (emp 𝓤) refl) $ nothing ! $ nothing ! $ fjoin ! $ nothing ! $ move ! (0 ∷ 1 ∷ 3 ∷ 2 ∷ []) $
     by ! (leaves 𝓛 f.ended hs c z w r (tt, tt) (tt, tt)))))

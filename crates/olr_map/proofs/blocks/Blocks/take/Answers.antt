@@ -1,7 +1,7 @@
 use Rattle.std.proofs.Common.{◌≡◌, ◌==◌, ◌/◌, ◌%◌, true, Some, None, cond, is_some, sym, ap, ◌∙◌}
 use Rattle.std.specs.Map.{lookup}
 use Rattle.olr_map.specs.Blocked.{slot_in}
-use Rattle.olr_map.proofs.Blocking.{block_changed, gone_again, used_put, used_gone}
+use Rattle.olr_map.proofs.Blocking.{block_changed, removed_again, used_put, used_removed}
 use Rattle.olr_map.proofs.blocks.Blocks.take.Goals as goal
 
 pub invariant_of-self : goal.invariant_of-self
@@ -11,11 +11,11 @@ invariant_of-self c =
     let w = c.get_mut.follows.holds c.take-slot.new.self in
     record {
       apart = c.remove.ensures.unique;
-      used = used_gone bs.blocks.entries _ (n / 4)
+      used = used_removed bs.blocks.entries _ (n / 4)
           (λ q.
           c.remove.ensures.updates.0 q
           ∙ ap (cond (n / 4 == q) None) ((w.3 (ap (λ o. is_some o) (sym c.in-Some.ensures.value))).0 q)
-          ∙ gone_again (n / 4 == q) (Some c.take-slot.new.self) (lookup (λ p. q == p) bs.blocks.entries)) bs.used;
+          ∙ removed_again (n / 4 == q) (Some c.take-slot.new.self) (lookup (λ p. q == p) bs.blocks.entries)) bs.used;
     }
 
 pub invariant_of-self-else-is_empty : goal.invariant_of-self-else-is_empty
@@ -39,7 +39,7 @@ returns-then-is_empty-clause-taken c =
     block_changed bs c.remove.new.self.entries n None None
     (λ q.
     c.remove.ensures.updates.0 q ∙ ap (cond (n / 4 == q) None) ((w.3 (ap (λ o. is_some o) (sym here))).0 q)
-    ∙ gone_again (n / 4 == q) (Some c.take-slot.new.self) (lookup (λ p. q == p) bs))
+    ∙ removed_again (n / 4 == q) (Some c.take-slot.new.self) (lookup (λ p. q == p) bs))
     (λ i. sym (c.is_empty.ensures.0 c.if-is_empty.true i) ∙ c.take-slot.ensures.taken i
     ∙ ap (λ o. cond (n % 4 == i) None (slot_in o i)) here)
 

@@ -1,19 +1,19 @@
 use Rattle.std.proofs.Common.{◌≡◌, true, false, Ok}
 use Rattle.olr_spec.specs.Map.{has}
 use Rattle.olr_map.specs.Linked.{lines_on}
-use Rattle.olr_spec.proofs.RisingLists.{found_has, put_rises}
+use Rattle.olr_spec.proofs.AscendingLists.{found_has, put_ascends}
 use Rattle.olr_map.proofs.links.Links.link.Goals as goal
 
 pub unreachable-requires : goal.unreachable-requires
 unreachable-requires c =
     let xs = lines_on c.args.self.now in
     let found : true ≡ has xs c.args.id =
-    found_has xs c.args.id (Ok c.in-Ok.field-0) c.requires.rising (rw c.lines.ensures at c.in-Ok.ensures.position) in
+    found_has xs c.args.id (Ok c.in-Ok.field-0) c.requires.ascending (rw c.lines.ensures at c.in-Ok.ensures.position) in
     let was : has xs c.args.id ≡ false = c.requires.absent in
     cc
 
-pub returns-clause-rising : goal.returns-clause-rising
-returns-clause-rising c =
+pub returns-clause-ascending : goal.returns-clause-ascending
+returns-clause-ascending c =
     let xs = lines_on c.args.self.now in
     rw c.insert.ensures.lines
-    (put_rises xs c.args.id c.in-Err.at c.requires.rising (rw c.lines.ensures at c.in-Err.ensures.position))
+    (put_ascends xs c.args.id c.in-Err.at c.requires.ascending (rw c.lines.ensures at c.in-Err.ensures.position))

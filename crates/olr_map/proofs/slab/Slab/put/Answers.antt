@@ -2,7 +2,7 @@ use Rattle.std.proofs.Common.{◌≡◌, ◌<◌, Some, sym, set, subst, length,
 use Rattle.std.specs.Vec.{vec_capacity}
 use Rattle.olr_map.specs.Slotted.{IsSlotted}
 use Rattle.olr_map.specs.Slabs.{room_in}
-use Rattle.olr_map.proofs.SlotLemmas.{popped, put_slotted, push_none, comes_free, comes_last}
+use Rattle.olr_map.proofs.SlotLemmas.{popped, put_slotted, push_none, inserts_free, inserts_last}
 use Rattle.olr_map.proofs.slab.Slab.put.Goals as goal
 
 pub invariant_of-self : goal.invariant_of-self
@@ -17,12 +17,12 @@ invariant_of-self g c =
           c.in-Some.ensures.items);
     }
 
-pub returns-in-Some-clause-comes : goal.returns-in-Some-clause-comes
-returns-in-Some-clause-comes g c =
+pub returns-in-Some-clause-inserts : goal.returns-in-Some-clause-inserts
+returns-in-Some-clause-inserts g c =
     let s = c.args.self.now in
     let pop =
     popped s.entries.items s.free.items _ s.slotted c.pop.new.self.items c.in-Some.slot c.in-Some.ensures.items in
-    comes_free s.entries.items c.in-Some.slot c.args.entry pop.0 pop.1
+    inserts_free s.entries.items c.in-Some.slot c.args.entry pop.0 pop.1
 
 pub invariant_of-self-in-None : goal.invariant_of-self-in-None
 invariant_of-self-in-None g c =
@@ -43,9 +43,9 @@ invariant_of-self-in-None g c =
           c.push_reserved.ensures.items;
     }
 
-pub returns-in-None-clause-comes : goal.returns-in-None-clause-comes
-returns-in-None-clause-comes g c =
+pub returns-in-None-clause-inserts : goal.returns-in-None-clause-inserts
+returns-in-None-clause-inserts g c =
     let s = c.args.self.now in
     let len = s.entries.ok.0 in
     let is = c.len-slot.ensures in
-    rw c.push_reserved.ensures.items (comes_last s.entries.items c.len-slot.result c.args.entry (omega arith))
+    rw c.push_reserved.ensures.items (inserts_last s.entries.items c.len-slot.result c.args.entry (omega arith))

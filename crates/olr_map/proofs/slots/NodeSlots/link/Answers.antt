@@ -14,7 +14,7 @@ link-requires c =
     let is =
     outs_are c.args.self.now c.args.side c.args.slot r.0 r.1 c.in-Out.is c.index_mut.result.now
     c.index_mut.ensures.value in
-    record { rising = rw is r.2; absent = rw is r.3; room = rw is r.4 }
+    record { ascending = rw is r.2; absent = rw is r.3; room = rw is r.4 }
 
 pub index_mut-requires-in-In : goal.index_mut-requires-in-In
 index_mut-requires-in-In c = inside_ins c.args.self.now c.args.slot (is_some_of _ _ c.requires.1)
@@ -25,7 +25,7 @@ link-requires-in-In c =
     let is =
     ins_are c.args.self.now c.args.side c.args.slot r.0 r.1 c.in-In.is c.index_mut-in-In.result.now
     c.index_mut-in-In.ensures.value in
-    record { rising = rw is r.2; absent = rw is r.3; room = rw is r.4 }
+    record { ascending = rw is r.2; absent = rw is r.3; room = rw is r.4 }
 
 pub returns-in-Out-clause-turns : goal.returns-in-Out-clause-turns
 returns-in-Out-clause-turns c =
@@ -39,12 +39,12 @@ returns-in-Out-clause-turns c =
       outs_turned s c.args.side c.args.slot r.0 r.1 c.in-Out.is l,
       subst (λ (o : Links). IsLinked o l c.args.id c.args.end) is
           (record {
-            place = c.link.ensures.put.0;
+            index = c.link.ensures.put.0;
             within = c.link.ensures.put.1;
             lines = c.link.ensures.put.2;
             ends =
                 c.link.ensures.put.3;
-            rises = c.link.ensures.rising;
+            ascends = c.link.ensures.ascending;
             room = c.link.ensures.room;
           }),
     )
@@ -62,12 +62,12 @@ returns-in-In-clause-turns c =
       ins_turned s c.args.side c.args.slot r.0 r.1 c.in-In.is l,
       subst (λ (o : Links). IsLinked o l c.args.id c.args.end) is
           (record {
-            place = c.link-in-In.ensures.put.0;
+            index = c.link-in-In.ensures.put.0;
             within = c.link-in-In.ensures.put.1;
             lines =
                 c.link-in-In.ensures.put.2;
             ends = c.link-in-In.ensures.put.3;
-            rises = c.link-in-In.ensures.rising;
+            ascends = c.link-in-In.ensures.ascending;
             room = c.link-in-In.ensures.room;
           }),
     )

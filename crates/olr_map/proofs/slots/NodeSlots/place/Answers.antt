@@ -1,7 +1,7 @@
 use Rattle.std.proofs.Common.{sym, ap, ◌∙◌}
 use Rattle.olr_map.specs.Slabs.{slots_of}
 use Rattle.olr_map.specs.declared.slots.NodeHead.{NodeHead}
-use Rattle.olr_map.proofs.Numbering.{same_some}
+use Rattle.olr_map.proofs.SlotMapLemmas.{same_some}
 use Rattle.olr_map.proofs.ColumnLemmas.{head_there, head_read}
 use Rattle.olr_map.proofs.slots.NodeSlots.place.Goals as goal
 

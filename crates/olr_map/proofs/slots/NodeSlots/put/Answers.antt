@@ -1,5 +1,5 @@
 use Rattle.std.proofs.Common.{ap, length, ◌∙◌}
-use Rattle.olr_map.proofs.ColumnLemmas.{Column, row_comes, stays_beside}
+use Rattle.olr_map.proofs.ColumnLemmas.{Column, row_inserted, stays_beside}
 use Rattle.olr_map.proofs.slots.NodeSlots.put.Goals as goal
 
 pub invariant_of-self : goal.invariant_of-self
@@ -17,9 +17,10 @@ invariant_of-self c =
           ∙ stays_beside s heads s.ins.items p c.args.entry.ins s.ins_beside fills;
     }
 
-pub returns-clause-comes : goal.returns-clause-comes
-returns-clause-comes c =
+pub returns-clause-inserts : goal.returns-clause-inserts
+returns-clause-inserts c =
     let s = c.args.self.now in
     rw (c.put_links.ensures.items, c.put_links-2.ensures.items)
-    (row_comes s c.put-slot.new.self c.put-slot.result _ c.args.entry.outs c.args.entry.ins c.put-slot.ensures.comes
+    (row_inserted s c.put-slot.new.self c.put-slot.result _ c.args.entry.outs c.args.entry.ins
+    c.put-slot.ensures.inserts
     c.put-slot.ensures.fills)

@@ -14,7 +14,7 @@ set_end-requires c =
     let is =
     outs_are c.args.self.now c.args.side c.args.slot r.0 r.1 c.in-Out.is c.index_mut.result.now
     c.index_mut.ensures.value in
-    record { rising = rw is r.2; there = rw is r.3 }
+    record { ascending = rw is r.2; there = rw is r.3 }
 
 pub index_mut-requires-in-In : goal.index_mut-requires-in-In
 index_mut-requires-in-In c = inside_ins c.args.self.now c.args.slot (is_some_of _ _ c.requires.1)
@@ -25,7 +25,7 @@ set_end-requires-in-In c =
     let is =
     ins_are c.args.self.now c.args.side c.args.slot r.0 r.1 c.in-In.is c.index_mut-in-In.result.now
     c.index_mut-in-In.ensures.value in
-    record { rising = rw is r.2; there = rw is r.3 }
+    record { ascending = rw is r.2; there = rw is r.3 }
 
 pub returns-in-Out-clause-turns : goal.returns-in-Out-clause-turns
 returns-in-Out-clause-turns c =

@@ -2,7 +2,7 @@ use Rattle.std.proofs.Common.{subst, get_or, sym, ◌≡◌}
 use Rattle.olr_spec.proofs.OptionLemmas.{some_of}
 use Rattle.olr_map.specs.Slabs.{slots_of}
 use Rattle.olr_map.specs.declared.links.Links.{Links}
-use Rattle.olr_map.proofs.ColumnLemmas.{head_there, entry_read, row_gone}
+use Rattle.olr_map.proofs.ColumnLemmas.{head_there, entry_read, row_removed}
 use Rattle.olr_map.proofs.slots.NodeSlots.take.Goals as goal
 
 pub take-id-requires : goal.take-id-requires
@@ -10,8 +10,8 @@ take-id-requires c =
     let s = c.args.self.now in
     head_there (slots_of s.heads) s.outs.items s.ins.items c.args.slot c.requires
 
-pub returns-clause-goes : goal.returns-clause-goes
-returns-clause-goes c =
+pub returns-clause-removes : goal.returns-clause-removes
+returns-clause-removes c =
     let s = c.args.self.now in
     let p = c.args.slot in
     let e = some_of _ c.requires in
@@ -22,6 +22,6 @@ returns-clause-goes c =
     subst (λ (w : Links). w ≡ get_or s.ins.items p w) (sym c.replace-ins.ensures.value) c.index_mut-2.ensures.value in
     let is =
     entry_read (slots_of s.heads) s.outs.items s.ins.items p e.0 c.take-id.result c.replace-outs.result
-    c.replace-ins.result e.1 taken.goes.was o i in
-    rw (← is) (row_gone s (slots_of c.take-id.new.self) p e.0 c.take-id.result c.replace-outs.new.dest
-    c.replace-ins.new.dest e.1 taken.goes taken.count)
+    c.replace-ins.result e.1 taken.removes.was o i in
+    rw (← is) (row_removed s (slots_of c.take-id.new.self) p e.0 c.take-id.result c.replace-outs.new.dest
+    c.replace-ins.new.dest e.1 taken.removes taken.count)

@@ -14,7 +14,7 @@ unlink-requires c =
     let is =
     outs_are c.args.self.now c.args.side c.args.slot r.0 r.1 c.in-Out.is c.index_mut.result.now
     c.index_mut.ensures.value in
-    record { rising = rw is r.2; there = rw is r.3 }
+    record { ascending = rw is r.2; there = rw is r.3 }
 
 pub index_mut-requires-in-In : goal.index_mut-requires-in-In
 index_mut-requires-in-In c = inside_ins c.args.self.now c.args.slot (is_some_of _ _ c.requires.1)
@@ -25,7 +25,7 @@ unlink-requires-in-In c =
     let is =
     ins_are c.args.self.now c.args.side c.args.slot r.0 r.1 c.in-In.is c.index_mut-in-In.result.now
     c.index_mut-in-In.ensures.value in
-    record { rising = rw is r.2; there = rw is r.3 }
+    record { ascending = rw is r.2; there = rw is r.3 }
 
 pub returns-in-Out-clause-turns : goal.returns-in-Out-clause-turns
 returns-in-Out-clause-turns c =
@@ -39,12 +39,12 @@ returns-in-Out-clause-turns c =
       outs_turned s c.args.side c.args.slot r.0 r.1 c.in-Out.is l,
       subst (λ (o : Links). IsUnlinked o l c.args.id) is
           (record {
-            place = c.unlink.ensures.taken.0;
+            index = c.unlink.ensures.taken.0;
             within = c.unlink.ensures.taken.1;
             is = c.unlink.ensures.taken.2;
             lines = c.unlink.ensures.taken.3;
             ends = c.unlink.ensures.taken.4;
-            rises = c.unlink.ensures.rising;
+            ascends = c.unlink.ensures.ascending;
             room = c.unlink.ensures.room;
           }),
     )
@@ -62,13 +62,13 @@ returns-in-In-clause-turns c =
       ins_turned s c.args.side c.args.slot r.0 r.1 c.in-In.is l,
       subst (λ (o : Links). IsUnlinked o l c.args.id) is
           (record {
-            place = c.unlink-in-In.ensures.taken.0;
+            index = c.unlink-in-In.ensures.taken.0;
             within = c.unlink-in-In.ensures.taken.1;
             is =
                 c.unlink-in-In.ensures.taken.2;
             lines = c.unlink-in-In.ensures.taken.3;
             ends = c.unlink-in-In.ensures.taken.4;
-            rises = c.unlink-in-In.ensures.rising;
+            ascends = c.unlink-in-In.ensures.ascending;
             room = c.unlink-in-In.ensures.room;
           }),
     )

@@ -1,10 +1,10 @@
 use Rattle.std.proofs.Common.{◌≡◌, true, false, subst, sym, ap, ◌∙◌}
 use Rattle.olr_spec.specs.Map.{Line, has_node, has_line}
-use Rattle.olr_map.specs.ByNumbers.{slot_by}
+use Rattle.olr_map.specs.SlotIndexes.{slot_by}
 use Rattle.olr_map.specs.Changes.{tables_map}
 use Rattle.olr_map.proofs.Undoing.{record_of}
 use Rattle.olr_map.proofs.Reading.{got_line, start_found, no_line_there}
-use Rattle.olr_map.specs.Numbering.{held}
+use Rattle.olr_map.specs.SlotMaps.{held}
 use Rattle.olr_map.proofs.tables.Tables.end_slots.Goals as goal
 
 pub slot-requires : goal.slot-requires

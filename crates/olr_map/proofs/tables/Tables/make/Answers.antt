@@ -1,11 +1,11 @@
 use Rattle.olr_map.specs.Edits.{edit_of}
 use Rattle.olr_map.specs.Changes.{tables_map}
 use Rattle.olr_map.proofs.Log.{done_by}
-use Rattle.olr_map.proofs.Verdicts.{judged_slots}
+use Rattle.olr_map.proofs.Verdicts.{plan_slots}
 use Rattle.olr_map.proofs.tables.Tables.make.Goals as goal
 
 pub make_room-requires-clause-slots : goal.make_room-requires-clause-slots
-make_room-requires-clause-slots c = judged_slots c.args.self.now (edit_of c.args.edit) c.args.judged.now c.requires
+make_room-requires-clause-slots c = plan_slots c.args.self.now (edit_of c.args.edit) c.args.plan.now c.requires
 
 pub returns-clause-done : goal.returns-clause-done
 returns-clause-done c =

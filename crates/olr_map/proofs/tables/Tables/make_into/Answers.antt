@@ -1,23 +1,23 @@
 use Rattle.std.proofs.Common.{◌≡◌, ◌+◌, ◌≤◌, ◌∷◌, List, ◌∙◌, ap, sym, subst, arith}
-use Rattle.olr_map.specs.ByNumbers.{spare_of}
+use Rattle.olr_map.specs.SlotIndexes.{spare_of}
 use Rattle.olr_map.specs.Edits.{edit_of}
 use Rattle.olr_map.specs.Changes.{tables_map, room_of, node_numbers, line_numbers, node_puts, line_puts}
 use Rattle.olr_map.specs.Undos.{CanMakeAll, log_changes}
-use Rattle.olr_map.specs.declared.change.Change.{Change}
+use Rattle.olr_map.specs.declared.change.TableChange.{TableChange}
 use Rattle.olr_map.proofs.Log.{done_by, one_more, all_on, within_trans}
-use Rattle.olr_map.proofs.Verdicts.{judged_slots}
-use Rattle.olr_map.specs.Numbering.{spare_numbers}
+use Rattle.olr_map.proofs.Verdicts.{plan_slots}
+use Rattle.olr_map.specs.SlotMaps.{spare_numbers}
 use Rattle.olr_map.proofs.tables.Tables.make_into.Goals as goal
 
 pub make_room-requires-clause-slots : goal.make_room-requires-clause-slots
 make_room-requires-clause-slots c =
-    judged_slots c.args.self.now (edit_of c.args.edit) c.args.judged.now c.requires.judged
+    plan_slots c.args.self.now (edit_of c.args.edit) c.args.plan.now c.requires.plan
 
 pub returns-clause-done : goal.returns-clause-done
 returns-clause-done c =
     done_by (tables_map c.args.self.now) (tables_map c.make_room.new.self) _ (edit_of c.args.edit)
     c.change_for-change.result c.change_for-change.ensures.same c.make_room.ensures.same
-    c.requires.judged.accepted c.make_change-back.ensures.made.map
+    c.requires.plan.accepted c.make_change-back.ensures.made.map
 
 pub returns-clause-can_undo : goal.returns-clause-can_undo
 returns-clause-can_undo c =
@@ -26,9 +26,9 @@ returns-clause-can_undo c =
     let new = c.make_change-back.new.self in
     let back = c.make_change-back.result in
     let made = c.make_change-back.ensures.made in
-    let order = c.push.ensures.more ∙ ap (λ (cs : List Change). back ∷ cs) c.reserve.ensures.same in
+    let order = c.push.ensures.more ∙ ap (λ (cs : List TableChange). back ∷ cs) c.reserve.ensures.same in
     let all =
-    subst (λ (cs : List Change). CanMakeAll (tables_map new) (room_of new) cs) (sym order)
+    subst (λ (cs : List TableChange). CanMakeAll (tables_map new) (room_of new) cs) (sym order)
     (one_more (tables_map old) (tables_map new) (room_of old) (room_of new) back (log_changes c.args.log.now)
     c.requires.log.0 made.can_back
     (made.before ∙ c.make_room.ensures.same)
@@ -53,7 +53,7 @@ pub returns-in_err-make_room-clause-can_undo : goal.returns-in_err-make_room-cla
 returns-in_err-make_room-clause-can_undo c =
     let old = c.args.self.now in
     let mid = c.make_room.new.self in (
-      subst (λ (cs : List Change). CanMakeAll (tables_map mid) (room_of mid) cs) (sym c.reserve.ensures.same)
+      subst (λ (cs : List TableChange). CanMakeAll (tables_map mid) (room_of mid) cs) (sym c.reserve.ensures.same)
           (all_on (tables_map old) (tables_map mid) (room_of old) (room_of mid) (log_changes c.args.log.now)
           c.make_room.ensures.same c.make_room.ensures.more c.requires.log.0),
       c.make_room.ensures.kept,

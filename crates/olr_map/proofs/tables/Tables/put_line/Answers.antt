@@ -1,12 +1,12 @@
 use Rattle.std.proofs.Common.{◌≡◌, ◌==◌, ℕ, ◌<◌, cond, Some, subst, ap, ◌∙◌, arith}
-use Rattle.olr_map.specs.ByNumbers.{slot_by}
+use Rattle.olr_map.specs.SlotIndexes.{slot_by}
 use Rattle.olr_map.specs.Changes.{spare_at}
 use Rattle.olr_map.specs.Linked.{spare_links, IsLinked}
 use Rattle.olr_map.specs.declared.slots.Side.TheVariants.{Out, In}
-use Rattle.olr_map.proofs.LineChanges.{first_entry, first_links, second_entry, second_links, both_turned, list_rises}
+use Rattle.olr_map.proofs.LineChanges.{first_entry, first_links, second_entry, second_links, both_turned, list_ascends}
 use Rattle.olr_map.proofs.LineChanges.{list_lacks, list_spare, number_free, put_line_kept, put_line_made}
 use Rattle.olr_map.proofs.Reading.{line_missing}
-use Rattle.olr_map.specs.Numbering.{held}
+use Rattle.olr_map.specs.SlotMaps.{held}
 use Rattle.olr_map.proofs.tables.Tables.put_line.Goals as goal
 
 pub link-requires : goal.link-requires
@@ -21,7 +21,7 @@ link-requires c =
     let room : 0 < spare_links e.0.outs = omega arith in (
       e.0,
       e.1,
-      list_rises t Out l.from e.0.outs was,
+      list_ascends t Out l.from e.0.outs was,
       list_lacks t Out l.from e.0.outs was c.args.id (number_free t c.args.id l c.requires.can),
       room,
     )
@@ -40,7 +40,7 @@ link-requires-2 c =
     let room : 0 < spare_links f.0.ins = omega arith in (
       f.0,
       f.1,
-      list_rises t In l.to f.0.ins was,
+      list_ascends t In l.to f.0.ins was,
       list_lacks t In l.to f.0.ins was c.args.id (number_free t c.args.id l c.requires.can),
       room,
     )

@@ -1,5 +1,5 @@
 use Rattle.std.proofs.Common.{◌≡◌, ◌==◌, ℕ, cond, Some, subst}
-use Rattle.olr_map.specs.ByNumbers.{slot_by}
+use Rattle.olr_map.specs.SlotIndexes.{slot_by}
 use Rattle.olr_map.specs.Columns.{node_slots}
 use Rattle.olr_map.proofs.ColumnLemmas.{node_fits}
 use Rattle.olr_map.proofs.NodeChanges.{put_node_kept, put_node_made}
@@ -7,7 +7,7 @@ use Rattle.olr_map.proofs.tables.Tables.put_node.Goals as goal
 
 pub put-requires-clause-fits : goal.put-requires-clause-fits
 put-requires-clause-fits c =
-    node_fits c.put-slot.new.self (node_slots c.args.self.now.nodes) c.put-slot.result _ c.put-slot.ensures.comes
+    node_fits c.put-slot.new.self (node_slots c.args.self.now.nodes) c.put-slot.result _ c.put-slot.ensures.inserts
 
 pub invariant_of-self : goal.invariant_of-self
 invariant_of-self c =
@@ -19,10 +19,10 @@ invariant_of-self c =
     record {
       kept =
           put_node_kept t b' c.put-slot.new.self c.put-slot.result c.args.id c.args.place c.args.outs c.args.ins
-          c.in_spare-outs.result c.in_spare-ins.result
-          (record { lines = c.in_spare-outs.ensures.lines; room = c.in_spare-outs.ensures.room })
-          (record { lines = c.in_spare-ins.ensures.lines; room = c.in_spare-ins.ensures.room })
-          c.put-slot.ensures.comes put c.requires.can;
+          c.in_empty-outs.result c.in_empty-ins.result
+          (record { lines = c.in_empty-outs.ensures.lines; room = c.in_empty-outs.ensures.room })
+          (record { lines = c.in_empty-ins.ensures.lines; room = c.in_empty-ins.ensures.room })
+          c.put-slot.ensures.inserts put c.requires.can;
     }
 
 pub returns : goal.returns
@@ -33,7 +33,7 @@ returns c =
     subst (λ (n : ℕ). (k : ℕ) → slot_by b' k ≡ cond (n == k) (Some c.put-slot.result) (slot_by t.index k))
     c.number.ensures.same c.put.ensures.put in
     put_node_made t b' c.put-slot.new.self c.put-slot.result c.args.id c.args.place c.args.outs c.args.ins
-    c.in_spare-outs.result c.in_spare-ins.result
-    (record { lines = c.in_spare-outs.ensures.lines; room = c.in_spare-outs.ensures.room })
-    (record { lines = c.in_spare-ins.ensures.lines; room = c.in_spare-ins.ensures.room })
-    c.put-slot.ensures.comes put c.requires.can _ c.put-slot.ensures.room c.put.ensures.spare
+    c.in_empty-outs.result c.in_empty-ins.result
+    (record { lines = c.in_empty-outs.ensures.lines; room = c.in_empty-outs.ensures.room })
+    (record { lines = c.in_empty-ins.ensures.lines; room = c.in_empty-ins.ensures.room })
+    c.put-slot.ensures.inserts put c.requires.can _ c.put-slot.ensures.room c.put.ensures.spare

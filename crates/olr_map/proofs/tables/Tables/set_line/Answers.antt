@@ -1,18 +1,18 @@
 use Rattle.std.proofs.Common.{◌≡◌, ◌==◌, ℕ, cond, Some, is_some, subst, sym, ap, ◌∙◌}
-use Rattle.olr_map.specs.ByNumbers.{slot_by}
+use Rattle.olr_map.specs.SlotIndexes.{slot_by}
 use Rattle.olr_map.specs.Linked.{IsReset}
-use Rattle.olr_map.proofs.Numbering.{same_some}
+use Rattle.olr_map.proofs.SlotMapLemmas.{same_some}
 use Rattle.olr_map.proofs.Reading.{line_found}
-use Rattle.olr_map.proofs.LineChanges.{standing_line, begin_lists, end_lists, both_relinked, line_set, set_line_kept}
+use Rattle.olr_map.proofs.LineChanges.{line_there, begin_lists, end_lists, both_relinked, line_set, set_line_kept}
 use Rattle.olr_map.proofs.LineChanges.{set_line_made}
-use Rattle.olr_map.specs.Numbering.{held}
+use Rattle.olr_map.specs.SlotMaps.{held}
 use Rattle.olr_map.proofs.tables.Tables.set_line.Goals as goal
 
 pub set_end-requires : goal.set_end-requires
 set_end-requires c =
     let t = c.args.self.now in
     let x = c.args.id in
-    begin_lists t _ _ _ (standing_line t x c.args.from c.args.to (line_set t x c.args.line c.requires.can)
+    begin_lists t _ _ _ (line_there t x c.args.from c.args.to (line_set t x c.args.line c.requires.can)
     c.requires.begin c.requires.end)
 
 pub set_end-requires-2 : goal.set_end-requires-2
@@ -20,7 +20,7 @@ set_end-requires-2 c =
     let t = c.args.self.now in
     let x = c.args.id in
     let w = c.set_end.ensures.turns in
-    end_lists t _ _ _ (standing_line t x c.args.from c.args.to (line_set t x c.args.line c.requires.can)
+    end_lists t _ _ _ (line_there t x c.args.from c.args.to (line_set t x c.args.line c.requires.can)
     c.requires.begin c.requires.end)
     c.set_end.new.self w.0 w.1 w.2
 
@@ -35,7 +35,7 @@ invariant_of-self c =
     let t = c.args.self.now in
     let x = c.args.id in
     let s =
-    standing_line t x c.args.from c.args.to (line_set t x c.args.line c.requires.can) c.requires.begin c.requires.end in
+    line_there t x c.args.from c.args.to (line_set t x c.args.line c.requires.can) c.requires.begin c.requires.end in
     let w = c.set_end.ensures.turns in
     let u = c.set_end-2.ensures.turns in
     let r = both_relinked t _ _ _ s c.set_end.new.self w.0 w.1 w.2 c.set_end-2.new.self u.0 u.1 u.2 in
@@ -56,7 +56,7 @@ returns c =
     let t = c.args.self.now in
     let x = c.args.id in
     let s =
-    standing_line t x c.args.from c.args.to (line_set t x c.args.line c.requires.can) c.requires.begin c.requires.end in
+    line_there t x c.args.from c.args.to (line_set t x c.args.line c.requires.can) c.requires.begin c.requires.end in
     let w = c.set_end.ensures.turns in
     let u = c.set_end-2.ensures.turns in
     let r = both_relinked t _ _ _ s c.set_end.new.self w.0 w.1 w.2 c.set_end-2.new.self u.0 u.1 u.2 in

@@ -1,10 +1,10 @@
 use Rattle.std.proofs.Common.{◌≡◌, true, false, sym, ap, ◌∙◌}
 use Rattle.olr_spec.specs.Map.{has_node}
-use Rattle.olr_map.specs.ByNumbers.{slot_by}
+use Rattle.olr_map.specs.SlotIndexes.{slot_by}
 use Rattle.olr_map.specs.Columns.{node_slots}
 use Rattle.olr_map.specs.Changes.{tables_map}
 use Rattle.olr_map.proofs.Reading.{node_missing}
-use Rattle.olr_map.specs.Numbering.{all_held}
+use Rattle.olr_map.specs.SlotMaps.{all_held}
 use Rattle.olr_map.proofs.tables.Tables.slot.Goals as goal
 
 pub unreachable-requires : goal.unreachable-requires

@@ -1,8 +1,8 @@
 use Rattle.std.proofs.Common.{◌≡◌, ◌≤◌, reverse, vec_len}
-use Rattle.olr_map.specs.ByNumbers.{spare_of}
+use Rattle.olr_map.specs.SlotIndexes.{spare_of}
 use Rattle.olr_map.specs.Changes.{tables_map, room_of, all_node_puts, all_line_puts}
 use Rattle.olr_map.specs.Undos.{CanMakeAll, made_all}
-use Rattle.olr_map.specs.Numbering.{spare_numbers}
+use Rattle.olr_map.specs.SlotMaps.{spare_numbers}
 use Rattle.olr_map.proofs.tables.Tables.undo_all.Given as goal
 
 -- the rest of the log can be undone, and leads to the same map

@@ -1,14 +1,14 @@
 use Rattle.std.proofs.Common.{◌∙◌, ap, map}
 use Rattle.olr_map.specs.Ends.{end_in}
 use Rattle.olr_map.specs.Changes.{tables_map}
-use Rattle.olr_map.specs.Kept.{place_in}
+use Rattle.olr_map.specs.Tables.{node_slot}
 use Rattle.olr_map.specs.declared.slots.Side.TheVariants.{In}
-use Rattle.olr_map.proofs.Reading.{no_ins, stands_in, listed_as, found_at}
+use Rattle.olr_map.proofs.Reading.{no_ins, filled_in, listed_as, found_at}
 use Rattle.olr_map.proofs.tables.TablesMapRead.in_ends.Goals as goal
 
 pub ins-requires : goal.ins-requires
 ins-requires c = let t =
-    c.args.self.now in stands_in t c.args.id c.in-Some.slot
+    c.args.self.now in filled_in t c.args.id c.in-Some.slot
     (found_at t c.args.id _ _ c.number.ensures.same c.in-Some.ensures)
 
 pub returns-in-Some : goal.returns-in-Some
@@ -19,5 +19,5 @@ returns-in-Some c =
 
 pub returns-in-None : goal.returns-in-None
 returns-in-None c = let t =
-    c.args.self.now in ap (map (end_in (tables_map t) (place_in t.index)))
+    c.args.self.now in ap (map (end_in (tables_map t) (node_slot t.index)))
     (no_ins t c.args.id (found_at t c.args.id _ _ c.number.ensures.same c.in-None.ensures))

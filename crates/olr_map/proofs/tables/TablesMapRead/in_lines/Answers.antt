@@ -1,11 +1,11 @@
 use Rattle.std.proofs.Common.{◌∙◌}
 use Rattle.olr_map.specs.declared.slots.Side.TheVariants.{In}
-use Rattle.olr_map.proofs.Reading.{no_ins, stands_in, listed_as, found_at}
+use Rattle.olr_map.proofs.Reading.{no_ins, filled_in, listed_as, found_at}
 use Rattle.olr_map.proofs.tables.TablesMapRead.in_lines.Goals as goal
 
 pub ins-requires : goal.ins-requires
 ins-requires c = let t =
-    c.args.self.now in stands_in t c.args.id c.in-Some.slot
+    c.args.self.now in filled_in t c.args.id c.in-Some.slot
     (found_at t c.args.id _ _ c.number.ensures.same c.in-Some.ensures)
 
 pub returns-in-Some : goal.returns-in-Some

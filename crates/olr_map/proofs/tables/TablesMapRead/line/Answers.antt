@@ -1,6 +1,6 @@
 use Rattle.std.proofs.Common.{sym, ap, ◌∙◌}
 use Rattle.olr_map.proofs.Reading.{got_line}
-use Rattle.olr_map.specs.Numbering.{held}
+use Rattle.olr_map.specs.SlotMaps.{held}
 use Rattle.olr_map.proofs.tables.TablesMapRead.line.Goals as goal
 
 pub returns : goal.returns

@@ -1,10 +1,10 @@
 use Rattle.std.proofs.Common.{Some, sym, ap, ◌∙◌}
-use Rattle.olr_map.proofs.Reading.{node_read, none_read, stands_in, entry_at, found_at}
+use Rattle.olr_map.proofs.Reading.{node_read, none_read, filled_in, entry_at, found_at}
 use Rattle.olr_map.proofs.tables.TablesMapRead.node.Goals as goal
 
 pub place-requires : goal.place-requires
 place-requires c = let t =
-    c.args.self.now in stands_in t c.args.id c.in-Some.slot
+    c.args.self.now in filled_in t c.args.id c.in-Some.slot
     (found_at t c.args.id _ _ c.number.ensures.same c.in-Some.ensures)
 
 pub returns-in-Some : goal.returns-in-Some

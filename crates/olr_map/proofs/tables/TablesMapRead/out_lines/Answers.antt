@@ -1,11 +1,11 @@
 use Rattle.std.proofs.Common.{◌∙◌}
 use Rattle.olr_map.specs.declared.slots.Side.TheVariants.{Out}
-use Rattle.olr_map.proofs.Reading.{no_outs, stands_in, listed_as, found_at}
+use Rattle.olr_map.proofs.Reading.{no_outs, filled_in, listed_as, found_at}
 use Rattle.olr_map.proofs.tables.TablesMapRead.out_lines.Goals as goal
 
 pub outs-requires : goal.outs-requires
 outs-requires c = let t =
-    c.args.self.now in stands_in t c.args.id c.in-Some.slot
+    c.args.self.now in filled_in t c.args.id c.in-Some.slot
     (found_at t c.args.id _ _ c.number.ensures.same c.in-Some.ensures)
 
 pub returns-in-Some : goal.returns-in-Some

@@ -1,7 +1,7 @@
 use Rattle.std.proofs.Common.{◌≡◌, ◌∷◌, List, ℕ, Option, String, Global, Some, map, sym, ap, ◌∙◌}
 use Rattle.std.specs.Prelude.{option_map, string_bytes}
 use Rattle.olr_paths.specs.Items.{Made, made_of}
-use Rattle.olr_paths.specs.declared.listing.NamedPath.{NamedPath}
+use Rattle.olr_paths.specs.declared.path_list.NamedPath.{NamedPath}
 use Rattle.olr_paths.proofs.iter.IterIterator.next.Goals as goal
 
 pub returns-clause-steps : goal.returns-clause-steps

@@ -1,7 +1,7 @@
 use Rattle.std.proofs.Common.{◌++◌, ◌∙◌, List, None, refl, ap, sym}
 use Rattle.olr_paths.specs.Items.{Item, items}
 use Rattle.olr_paths.specs.Laying.{changes_in, overlay_changes, under_changes}
-use Rattle.olr_paths.proofs.Overlaying.{drop_behind, drop_before, laid_drop, puts_one}
+use Rattle.olr_paths.proofs.Overlaying.{drop_behind, drop_before, overlaid_drop, puts_one}
 use Rattle.olr_paths.proofs.overlay.Overlay.drop_path.Goals as goal
 
 pub returns-then-has-clause-ok : goal.returns-then-has-clause-ok
@@ -21,4 +21,4 @@ returns-clause-ok c =
     puts_one s.changes.entries c.insert.new.self.entries c.in_ok-from_str.field-0 None name None
     c.in_ok-insert.ensures.entries c.in_ok-from_str.ensures.ok refl in
     drop_before name (under_changes (overlay_changes s) is) (items s.added) (under_changes ds is)
-    (laid_drop (overlay_changes s) ds name is puts) (sym c.if-has.ensures)
+    (overlaid_drop (overlay_changes s) ds name is puts) (sym c.if-has.ensures)

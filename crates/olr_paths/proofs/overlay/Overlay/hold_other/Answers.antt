@@ -1,7 +1,7 @@
 use Rattle.std.proofs.Common.{◌≡◌, Some, false, ap, sym}
 use Rattle.olr_paths.specs.Items.{items}
 use Rattle.olr_paths.specs.Laying.{changes_in, overlay_changes, under_changes}
-use Rattle.olr_paths.proofs.Overlaying.{has_name, set_if_ok, set_before, laid_set, not_dropped, puts_one}
+use Rattle.olr_paths.proofs.Overlaying.{has_name, set_if_ok, set_before, overlaid_set, not_dropped, puts_one}
 use Rattle.olr_paths.proofs.overlay.Overlay.hold_other.Goals as goal
 
 pub returns-then-has-clause-ok : goal.returns-then-has-clause-ok
@@ -24,4 +24,4 @@ returns-clause-ok c =
     (Some path) c.in_ok-insert.ensures.entries c.in_ok-from_str.ensures.ok
     (ap (λ p. Some p) c.in_ok-other.ensures.ok) in
     set_before name path (under_changes (overlay_changes s) is) ys (under_changes ds is)
-    (laid_set (overlay_changes s) ds name path is puts (not_dropped (overlay_changes s) is ys name there free)) free
+    (overlaid_set (overlay_changes s) ds name path is puts (not_dropped (overlay_changes s) is ys name there free)) free

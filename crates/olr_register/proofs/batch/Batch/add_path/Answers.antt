@@ -6,8 +6,8 @@ use Rattle.olr_paths.specs.Items.{items}
 use Rattle.olr_paths.specs.Laying.{under_overlay}
 use Rattle.olr_paths.specs.Touching.{nodes_of, lines_of}
 use Rattle.olr_paths.proofs.Overlaying.{has_name}
-use Rattle.olr_register.specs.Given.{path_by}
-use Rattle.olr_register.proofs.HoldChanges.{held_same, given_told, given_bad_path, given_no_room, add_taken}
+use Rattle.olr_register.specs.HoldsChange.{path_by}
+use Rattle.olr_register.proofs.HoldChanges.{held_same, given_reported, given_bad_path, given_no_room, add_taken}
 use Rattle.olr_register.proofs.HoldChanges.{add_path_only, given_added, held_added}
 use Rattle.olr_register.proofs.batch.Batch.add_path.Goals as goal
 
@@ -18,7 +18,7 @@ returns-then-has-clause-given c =
     let before = items c.args.list.now in
     let named : has_name (under_overlay before b.overlay) (string_bytes c.args.name) ≡ true =
     ap (λ q. has_name (under_overlay before b.overlay) q) (sym c.deref.ensures) ∙ sym c.if-has.ensures in
-    given_told (map_of roads) (under_overlay before b.overlay) (under_overlay before b.overlay) b.count
+    given_reported (map_of roads) (under_overlay before b.overlay) (under_overlay before b.overlay) b.count
     (nodes_of b.touched) (lines_of b.touched)
     (Add_path (string_bytes c.args.name) (path_by c.args.lines.items c.args.offsets)) _
     (sym c.if-is_full.ensures)

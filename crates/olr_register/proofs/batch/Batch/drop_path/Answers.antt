@@ -4,11 +4,11 @@ use Rattle.olr_map.specs.RoadMaps.{map_of, map_before}
 use Rattle.olr_paths.specs.Items.{items}
 use Rattle.olr_paths.specs.Laying.{under_overlay}
 use Rattle.olr_paths.specs.Touching.{nodes_of, lines_of}
-use Rattle.olr_paths.proofs.Beginning.{begins_drop}
+use Rattle.olr_paths.proofs.OriginLemmas.{begins_drop}
 use Rattle.olr_register.proofs.Listed.{any_drop}
 use Rattle.olr_register.proofs.Followed.{follows_drop}
 use Rattle.olr_register.proofs.HoldLists.{given_drop}
-use Rattle.olr_register.proofs.HoldChanges.{given_told, given_not_dropped, given_held_path, drop_ok, drop_missing}
+use Rattle.olr_register.proofs.HoldChanges.{given_reported, given_not_dropped, given_held_path, drop_ok, drop_missing}
 use Rattle.olr_register.proofs.HoldChanges.{held_path, held_same}
 use Rattle.olr_register.proofs.batch.Batch.drop_path.Goals as goal
 
@@ -17,7 +17,7 @@ returns-then-not-has-clause-given c =
     λ roads.
     let b = c.args.self.now in
     let is = under_overlay (items c.args.list.now) b.overlay in
-    given_told (map_of roads) is is b.count (nodes_of b.touched) (lines_of b.touched) (Drop_path c.args.name.now) _
+    given_reported (map_of roads) is is b.count (nodes_of b.touched) (lines_of b.touched) (Drop_path c.args.name.now) _
     (sym c.if-is_full.ensures)
     (drop_missing (map_of roads) is c.args.name.now (sym c.if-not-has.ensures)) refl
 

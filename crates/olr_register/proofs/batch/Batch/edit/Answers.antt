@@ -2,9 +2,9 @@ use Rattle.std.proofs.Common.{ℕ, List, refl, sym, ap, ◌∙◌}
 use Rattle.olr_spec.specs.Map.{has}
 use Rattle.olr_map.specs.Edits.{edit_of}
 use Rattle.olr_register.specs.Holding.{batch_of}
-use Rattle.olr_register.proofs.HoldEdits.{edit_told, edit_lacks, held_edit, has_either, changes_more, same_batch}
+use Rattle.olr_register.proofs.HoldEdits.{edit_accounted, edit_lacks, held_edit, has_either, changes_more, same_batch}
 use Rattle.olr_commands.specs.Words.{map_fault_of}
-use Rattle.olr_register.proofs.Singles.{told_by_map}
+use Rattle.olr_register.proofs.Singles.{reported_by_map}
 use Rattle.olr_register.proofs.SingleEdit.{refused_is, taken_is}
 use Rattle.olr_register.proofs.batch.Batch.edit.Goals as goal
 
@@ -12,15 +12,16 @@ pub returns-in-Err-clause-given : goal.returns-in-Err-clause-given
 returns-in-Err-clause-given c =
     λ is.
     let b = c.args.self.now in
-    let told = refused_is _ c.in-Err.fault c.in-Err.ensures.fault in
-    edit_told (batch_of c.args.roads.now is b) _ (edit_of c.args.edit) _ told.0 (sym c.if-is_full.ensures) told.1
-    (ap map_fault_of told.2 ∙ told_by_map told.0) refl
+    let returned = refused_is _ c.in-Err.fault c.in-Err.ensures.fault in
+    edit_accounted (batch_of c.args.roads.now is b) _ (edit_of c.args.edit) _ returned.0 (sym c.if-is_full.ensures)
+    returned.1
+    (ap map_fault_of returned.2 ∙ reported_by_map returned.0) refl
 
 pub returns-then-is_err-clause-given : goal.returns-then-is_err-clause-given
 returns-then-is_err-clause-given c =
     λ is.
     let b = c.args.self.now in
-    let ok = taken_is _ c.in-Ok.ensures.judged.accepted in
+    let ok = taken_is _ c.in-Ok.ensures.plan.accepted in
     edit_lacks (batch_of c.args.roads.now is b) _ (edit_of c.args.edit) _ ok.0 (sym c.if-is_full.ensures) ok.1 refl
     (same_batch c.args.roads.now c.args.roads.now is b b.log c.reserve.new.self refl c.reserve.ensures.nodes
     c.reserve.ensures.lines)
@@ -29,7 +30,7 @@ pub returns-in-Ok-make_into-clause-held : goal.returns-in-Ok-make_into-clause-he
 returns-in-Ok-make_into-clause-held c =
     λ before first h.
     let b = c.args.self.now in
-    let j = c.in-Ok.ensures.judged in
+    let j = c.in-Ok.ensures.plan in
     held_edit c.args.roads.now c.make_into.new.self before b c.make_into.new.log c.note.new.self (edit_of c.args.edit)
     (sym c.if-is_full.ensures) j.placed
     c.make_into.ensures.can_undo c.in-Ok-make_into.ensures.done c.make_into.ensures.before
@@ -43,7 +44,7 @@ pub returns-in-Err-make_into-clause-given : goal.returns-in-Err-make_into-clause
 returns-in-Err-make_into-clause-given c =
     λ is.
     let b = c.args.self.now in
-    let ok = taken_is _ c.in-Ok.ensures.judged.accepted in
+    let ok = taken_is _ c.in-Ok.ensures.plan.accepted in
     edit_lacks (batch_of c.args.roads.now is b) _ (edit_of c.args.edit) _ ok.0 (sym c.if-is_full.ensures) ok.1 refl
     (same_batch c.args.roads.now c.make_into.new.self is b c.make_into.new.log c.reserve.new.self
     c.in-Err-make_into.ensures.same c.reserve.ensures.nodes c.reserve.ensures.lines)

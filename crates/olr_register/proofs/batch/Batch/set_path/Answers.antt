@@ -6,8 +6,8 @@ use Rattle.olr_paths.specs.Items.{items}
 use Rattle.olr_paths.specs.Laying.{under_overlay}
 use Rattle.olr_paths.specs.Touching.{nodes_of, lines_of}
 use Rattle.olr_paths.proofs.Overlaying.{has_name}
-use Rattle.olr_register.specs.Given.{path_by}
-use Rattle.olr_register.proofs.HoldChanges.{held_same, given_told, given_bad_path, given_no_room, set_missing}
+use Rattle.olr_register.specs.HoldsChange.{path_by}
+use Rattle.olr_register.proofs.HoldChanges.{held_same, given_reported, given_bad_path, given_no_room, set_missing}
 use Rattle.olr_register.proofs.HoldChanges.{set_path_only, given_other, held_other}
 use Rattle.olr_register.proofs.batch.Batch.set_path.Goals as goal
 
@@ -17,7 +17,7 @@ returns-then-not-has-clause-given c =
     let b = c.args.self.now in
     let before = items c.args.list.now in
     let named : has_name (under_overlay before b.overlay) c.args.name.now ≡ false = sym c.if-not-has.ensures in
-    given_told (map_of roads) (under_overlay before b.overlay) (under_overlay before b.overlay) b.count
+    given_reported (map_of roads) (under_overlay before b.overlay) (under_overlay before b.overlay) b.count
     (nodes_of b.touched) (lines_of b.touched)
     (Set_path c.args.name.now (path_by c.args.lines.items c.args.offsets)) _ (sym c.if-is_full.ensures)
     (set_missing (map_of roads) (under_overlay before b.overlay) c.args.name.now

@@ -6,7 +6,7 @@ use Rattle.olr_paths.specs.Items.{items}
 use Rattle.olr_register.specs.Holding.{map_kept}
 use Rattle.olr_register.proofs.Singles.{as_before, closed_by, has_in, same_parts}
 use Rattle.olr_register.proofs.SinglePath.{add_exists, add_refused, add_keeps, add_done}
-use Rattle.olr_register.proofs.Numbered.{kept_closed, numbered_same, numbered_more}
+use Rattle.olr_register.proofs.Bounded.{kept_closed, bounded_same, bounded_more}
 use Rattle.olr_register.proofs.Tallies.{tally}
 use Rattle.olr_register.proofs.register.Register.add_now.Goals as goal
 
@@ -15,7 +15,7 @@ returns-then-has c =
     let r = c.self.inside in
     let x = c.args.self.now in
     add_exists x _ _ _ c.requires
-    (has_in r.roads (items r.paths) r.batch (tally r.work r.kept) x _ _ _ c.self.view_is c.deref.ensures
+    (has_in r.roads (items r.paths) r.batch (tally r.work r.spared) x _ _ _ c.self.view_is c.deref.ensures
     c.if-has.ensures) refl
 
 pub returns-in_err-path : goal.returns-in_err-path
@@ -24,19 +24,19 @@ returns-in_err-path c =
     let x = c.args.self.now in
     let p = err_from_is_err_and c.from_residual.result c.from_residual.ensures.1 in
     rw (p.1, p.2) (add_refused x _ _ _ c.requires
-    (has_in r.roads (items r.paths) r.batch (tally r.work r.kept) x _ _ _ c.self.view_is c.deref.ensures
+    (has_in r.roads (items r.paths) r.batch (tally r.work r.spared) x _ _ _ c.self.view_is c.deref.ensures
     c.if-has.ensures) c.in_err-path.ensures.fault)
 
 pub returns-in_default : goal.returns-in_default
 returns-in_default c =
     let r = c.self.inside in
     let x = c.args.self.now in
-    let none = closed_by r.roads (items r.paths) r.batch (tally r.work r.kept) x c.self.view_is c.requires in
-    as_before x _ _ _ (same_parts r.roads r.roads (items r.paths) _ r.batch (tally r.work r.kept)
-    (tally c.add.new.work r.kept) none refl c.in_default.ensures.err
-    (ap (λ u. tally u r.kept) c.in_default.ensures.err_work) ∙ c.self.view_is)
+    let none = closed_by r.roads (items r.paths) r.batch (tally r.work r.spared) x c.self.view_is c.requires in
+    as_before x _ _ _ (same_parts r.roads r.roads (items r.paths) _ r.batch (tally r.work r.spared)
+    (tally c.add.new.work r.spared) none refl c.in_default.ensures.err
+    (ap (λ u. tally u r.spared) c.in_default.ensures.err_work) ∙ c.self.view_is)
     (add_refused x _ _ _ c.requires
-    (has_in r.roads (items r.paths) r.batch (tally r.work r.kept) x _ _ _ c.self.view_is c.deref.ensures
+    (has_in r.roads (items r.paths) r.batch (tally r.work r.spared) x _ _ _ c.self.view_is c.deref.ensures
     c.if-has.ensures) (inl refl))
 
 pub invariant_of-self-2 : goal.invariant_of-self-2
@@ -47,18 +47,18 @@ invariant_of-self-2 c =
     let new = c.in-Ok.ensures.added in
     let good : IsTrue (is_path path.lines) =
     subst (λ (p : Path). IsTrue (is_path p.lines)) (sym c.in_ok-path.ensures.ok) c.in_ok-path.ensures.good in
-    let none = closed_by r.roads (items r.paths) r.batch (tally r.work r.kept) x c.self.view_is c.requires in
+    let none = closed_by r.roads (items r.paths) r.batch (tally r.work r.spared) x c.self.view_is c.requires in
     let kept = kept_closed r.roads r.batch none in
     record {
       register =
-          add_keeps r.roads (items r.paths) r.batch (tally r.work r.kept) x _ c.self.view_is c.requires
+          add_keeps r.roads (items r.paths) r.batch (tally r.work r.spared) x _ c.self.view_is c.requires
           c.self.invariant.register path new.0 good new.1 _
-          (has_in r.roads (items r.paths) r.batch (tally r.work r.kept) x _ _ _ c.self.view_is c.deref.ensures
+          (has_in r.roads (items r.paths) r.batch (tally r.work r.spared) x _ _ _ c.self.view_is c.deref.ensures
           c.if-has.ensures) new.2;
-      numbered = numbered_same (map_of r.roads) (map_kept r.roads r.batch) _ _ kept
-          (numbered_more (map_of r.roads) (items r.paths) _ r.near _ _
-          (numbered_same (map_kept r.roads r.batch) (map_of r.roads) (items r.paths) r.near (sym kept)
-          c.self.invariant.numbered) c.in-Ok.ensures.begun c.renumber.ensures);
+      bounded = bounded_same (map_of r.roads) (map_kept r.roads r.batch) _ _ kept
+          (bounded_more (map_of r.roads) (items r.paths) _ r.near _ _
+          (bounded_same (map_kept r.roads r.batch) (map_of r.roads) (items r.paths) r.near (sym kept)
+          c.self.invariant.bounded) c.in-Ok.ensures.new_origins c.rebuild_bounds.ensures);
     }
 
 pub returns : goal.returns
@@ -69,7 +69,7 @@ returns c =
     let new = c.in-Ok.ensures.added in
     let good : IsTrue (is_path path.lines) =
     subst (λ (p : Path). IsTrue (is_path p.lines)) (sym c.in_ok-path.ensures.ok) c.in_ok-path.ensures.good in
-    add_done r.roads (items r.paths) r.batch (tally r.work r.kept) x _ c.self.view_is c.requires
-    c.self.invariant.register path new.0 good new.1 _ _ (tally c.add.new.work r.kept) _ _ c.in_ok-path.ensures.ok
-    (has_in r.roads (items r.paths) r.batch (tally r.work r.kept) x _ _ _ c.self.view_is c.deref.ensures
+    add_done r.roads (items r.paths) r.batch (tally r.work r.spared) x _ c.self.view_is c.requires
+    c.self.invariant.register path new.0 good new.1 _ _ (tally c.add.new.work r.spared) _ _ c.in_ok-path.ensures.ok
+    (has_in r.roads (items r.paths) r.batch (tally r.work r.spared) x _ _ _ c.self.view_is c.deref.ensures
     c.if-has.ensures) new.2 refl new.3 c.in-Ok.ensures.counted c.in-Ok.ensures.searches c.in-Ok.ensures.settled refl

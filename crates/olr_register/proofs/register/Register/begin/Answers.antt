@@ -3,14 +3,14 @@ use Rattle.olr_commands.specs.Reply as replies
 use Rattle.olr_commands.specs.Words.{entry_of}
 use Rattle.olr_paths.specs.Items.{items}
 use Rattle.olr_register.proofs.BatchEnds.{open_refused, IsEmpty, begun_held, begin_done}
-use Rattle.olr_register.proofs.Numbered.{numbered_begun}
+use Rattle.olr_register.proofs.Bounded.{bounded_begun}
 use Rattle.olr_register.proofs.Tallies.{tally}
 use Rattle.olr_register.proofs.register.Register.begin.Goals as goal
 
 pub returns-then-is_some : goal.returns-then-is_some
 returns-then-is_some c =
     let s = c.self.inside in
-    rw (← c.self.view_is) (open_refused s.roads (items s.paths) s.batch (tally s.work s.kept)
+    rw (← c.self.view_is) (open_refused s.roads (items s.paths) s.batch (tally s.work s.spared)
     (sym c.if-is_some.ensures))
 
 pub invariant_of-self : goal.invariant_of-self
@@ -28,10 +28,10 @@ invariant_of-self c =
     } in
     record {
       register = begun_held s.roads (items s.paths) s.batch _ (sym c.if-is_some.ensures) c.self.invariant.register e;
-      numbered =
-          numbered_begun s.roads (items s.paths) s.batch
+      bounded =
+          bounded_begun s.roads (items s.paths) s.batch
           (record { log = c.new.result; overlay = c.new-2.result; count = 0; touched = c.new-3.result }) s.near
-          (sym c.if-is_some.ensures) e.log c.self.invariant.numbered;
+          (sym c.if-is_some.ensures) e.log c.self.invariant.bounded;
     }
 
 pub returns : goal.returns
@@ -48,5 +48,5 @@ returns c =
       changed = c.new-3.ensures.changed;
     } in
     rw (← c.self.view_is)
-    (begin_done s.roads (items s.paths) s.batch _ (tally s.work s.kept) _ (sym c.if-is_some.ensures)
+    (begin_done s.roads (items s.paths) s.batch _ (tally s.work s.spared) _ (sym c.if-is_some.ensures)
     c.self.invariant.register e (ap (λ es. replies.Paths (map entry_of es)) c.new-4.ensures.items))

@@ -8,15 +8,15 @@ use Rattle.olr_register.specs.Holding.{map_kept, IsKeptRight}
 use Rattle.olr_register.proofs.BatchEnds.{none_refused}
 use Rattle.olr_register.proofs.BatchCommit.{count_refused, commit_lacks, lacks_held, commit_from, commit_before}
 use Rattle.olr_register.proofs.BatchCommit.{commit_held, commit_done}
-use Rattle.olr_register.proofs.Numbered.{kept_closed, numbered_unknown, numbered_same, numbered_asked}
-use Rattle.olr_register.proofs.Numbered.{numbered_more, commit_numbered}
+use Rattle.olr_register.proofs.Bounded.{kept_closed, bounded_unknown, bounded_same, bounded_asked}
+use Rattle.olr_register.proofs.Bounded.{bounded_more, commit_bounded}
 use Rattle.olr_register.proofs.Tallies.{tally}
 use Rattle.olr_register.proofs.register.Register.commit.Goals as goal
 
 pub returns-in_default : goal.returns-in_default
 returns-in_default c =
     let s = c.self.inside in
-    rw (← c.self.view_is) (none_refused s.roads (items s.paths) s.batch c.take.new.self (tally s.work s.kept)
+    rw (← c.self.view_is) (none_refused s.roads (items s.paths) s.batch c.take.new.self (tally s.work s.spared)
     (Commit c.args.count) _ (sym c.take.ensures.value ∙ c.in_default.is) c.take.ensures.after refl)
 
 pub invariant_of-self-then-batch-count : goal.invariant_of-self-then-batch-count
@@ -27,7 +27,7 @@ invariant_of-self-then-batch-count c =
 pub returns-then-batch-count : goal.returns-then-batch-count
 returns-then-batch-count c =
     let s = c.self.inside in
-    rw (← c.self.view_is) (count_refused s.roads (items s.paths) s.batch c.in-Some.batch (tally s.work s.kept)
+    rw (← c.self.view_is) (count_refused s.roads (items s.paths) s.batch c.in-Some.batch (tally s.work s.spared)
     c.args.count (sym c.in-Some.ensures.value) c.if-batch-count.true)
 
 pub returns : goal.returns
@@ -38,7 +38,7 @@ returns c =
     let before = commit_before s.roads (items s.paths) s.batch b e c.self.invariant.register in
     let count = c.in-Ok.ensures.counted _ before in
     rw (← c.self.view_is)
-    (commit_done s.roads c.keep_all.new.self (items s.paths) (items c.renew_over.new.self) b (tally s.work s.kept)
+    (commit_done s.roads c.keep_all.new.self (items s.paths) (items c.renew_over.new.self) b (tally s.work s.spared)
     (tally c.renew_over.new.work c.renew_over.new.kept) c.args.count count.0 _ c.in-Ok.entries.items
     refl c.if-batch-count.false c.keep_all.ensures (c.in-Ok.ensures.renewed _ before) c.in-Ok.ensures.named
     c.in-Ok.ensures.reported count.1 count.2 count.3
@@ -54,12 +54,12 @@ invariant_of-self-2 c =
     let held =
     commit_from s.roads (items s.paths) s.batch c.in-Some.batch (sym c.in-Some.ensures.value)
     c.self.invariant.register in
-    let laid = under_overlay (items s.paths) c.in-Some.batch.overlay in
+    let overlaid = under_overlay (items s.paths) c.in-Some.batch.overlay in
     let was =
-    commit_numbered s.roads (items s.paths) s.batch c.in-Some.batch s.near (sym c.in-Some.ensures.value) held
-    c.self.invariant.numbered in
+    commit_bounded s.roads (items s.paths) s.batch c.in-Some.batch s.near (sym c.in-Some.ensures.value) held
+    c.self.invariant.bounded in
     let now =
-    numbered_asked (map_before s.roads c.in-Some.batch.log) (map_of s.roads) laid (nodes_of c.in-Some.batch.touched)
+    bounded_asked (map_before s.roads c.in-Some.batch.log) (map_of s.roads) overlaid (nodes_of c.in-Some.batch.touched)
     c.nodes.result.now s.near c.ask_near.new.near c.nodes.ensures held.noted.difference.nodes was
     c.ask_near.ensures.right c.ask_near.ensures.sources in
     record {
@@ -67,12 +67,12 @@ invariant_of-self-2 c =
           commit_held s.roads c.keep_all.new.self (items s.paths) (items c.renew_over.new.self) s.batch c.take.new.self
           c.in-Some.batch (sym c.in-Some.ensures.value) c.take.ensures.after c.self.invariant.register
           c.keep_all.ensures (c.in-Ok.ensures.renewed _ before) c.in-Ok.ensures.named;
-      numbered =
-          numbered_same (map_of c.keep_all.new.self) (map_kept c.keep_all.new.self c.take.new.self) _ _
+      bounded =
+          bounded_same (map_of c.keep_all.new.self) (map_kept c.keep_all.new.self c.take.new.self) _ _
           (kept_closed c.keep_all.new.self c.take.new.self c.take.ensures.after)
-          (numbered_more (map_of c.keep_all.new.self) laid _ c.ask_near.new.near _ _
-          (numbered_same (map_of s.roads) (map_of c.keep_all.new.self) laid _ c.keep_all.ensures now)
-          c.in-Ok.ensures.begun c.renumber.ensures);
+          (bounded_more (map_of c.keep_all.new.self) overlaid _ c.ask_near.new.near _ _
+          (bounded_same (map_of s.roads) (map_of c.keep_all.new.self) overlaid _ c.keep_all.ensures now)
+          c.in-Ok.ensures.new_origins c.rebuild_bounds.ensures);
     }
 
 pub returns-in_default-renew_over : goal.returns-in_default-renew_over
@@ -80,7 +80,7 @@ returns-in_default-renew_over c =
     let s = c.self.inside in
     let e = c.in_default-renew_over.ensures in
     rw (← c.self.view_is)
-    (commit_lacks s.roads (items s.paths) (items c.renew_over.new.self) s.batch c.in-Some.batch (tally s.work s.kept)
+    (commit_lacks s.roads (items s.paths) (items c.renew_over.new.self) s.batch c.in-Some.batch (tally s.work s.spared)
     (tally c.renew_over.new.work c.renew_over.new.kept) c.args.count (sym c.in-Some.ensures.value)
     c.if-batch-count.false
     e.err (λ i. tally (e.err_work i) (e.err_kept i)))
@@ -92,13 +92,13 @@ renew_over-requires c =
     commit_from s.roads (items s.paths) s.batch c.in-Some.batch (sym c.in-Some.ensures.value)
     c.self.invariant.register in
     let was =
-    commit_numbered s.roads (items s.paths) s.batch c.in-Some.batch s.near (sym c.in-Some.ensures.value) held
-    c.self.invariant.numbered in
+    commit_bounded s.roads (items s.paths) s.batch c.in-Some.batch s.near (sym c.in-Some.ensures.value) held
+    c.self.invariant.bounded in
     record {
       names = held.sound.names;
       follows = held.follows;
-      numbers =
-          numbered_asked (map_before s.roads c.in-Some.batch.log) (map_of s.roads)
+      bounds =
+          bounded_asked (map_before s.roads c.in-Some.batch.log) (map_of s.roads)
           (under_overlay (items s.paths) c.in-Some.batch.overlay) (nodes_of c.in-Some.batch.touched) c.nodes.result.now
           s.near c.ask_near.new.near c.nodes.ensures
           held.noted.difference.nodes was c.ask_near.ensures.right c.ask_near.ensures.sources;
@@ -111,5 +111,5 @@ invariant_of-self-in_default-renew_over c =
       register =
           lacks_held s.roads (items s.paths) (items c.renew_over.new.self) s.batch c.in-Some.batch
           (sym c.in-Some.ensures.value) c.in_default-renew_over.ensures.err c.self.invariant.register;
-      numbered = numbered_unknown _ _ c.forget.new.self c.forget.ensures;
+      bounded = bounded_unknown _ _ c.forget.new.self c.forget.ensures;
     }

@@ -3,9 +3,9 @@ use Rattle.std.specs.Prelude.{string_bytes}
 use Rattle.olr_commands.specs.State.{Add_path}
 use Rattle.olr_map.specs.RoadMaps.{map_before}
 use Rattle.olr_paths.specs.Items.{items}
-use Rattle.olr_register.specs.Given.{path_by}
+use Rattle.olr_register.specs.HoldsChange.{path_by}
 use Rattle.olr_register.proofs.BatchEnds.{given_answered, given_held}
-use Rattle.olr_register.proofs.Numbered.{numbered_held}
+use Rattle.olr_register.proofs.Bounded.{bounded_held}
 use Rattle.olr_register.proofs.Tallies.{tally}
 use Rattle.olr_register.proofs.register.Register.hold_add.Goals as goal
 
@@ -18,10 +18,10 @@ invariant_of-self c =
           (sym c.in-Some.ensures.value) c.self.invariant.register
           (ap (map_before s.roads) c.add_path-result.ensures.log)
           (c.add_path-result.ensures.held s.roads);
-      numbered =
-          numbered_held s.roads s.roads (items s.paths) s.batch c.in-Some.batch c.add_path-result.new.self s.near
+      bounded =
+          bounded_held s.roads s.roads (items s.paths) s.batch c.in-Some.batch c.add_path-result.new.self s.near
           (sym c.in-Some.ensures.value) (ap (map_before s.roads) c.add_path-result.ensures.log)
-          c.self.invariant.numbered;
+          c.self.invariant.bounded;
     }
 
 pub returns : goal.returns
@@ -29,6 +29,6 @@ returns c =
     let s = c.self.inside in
     rw (← c.self.view_is)
     (given_answered s.roads s.roads (items s.paths) s.batch _ c.in-Some.batch c.add_path-result.new.self
-    (tally s.work s.kept) (Add_path (string_bytes c.args.name) (path_by c.args.lines.items c.args.offsets)) _
+    (tally s.work s.spared) (Add_path (string_bytes c.args.name) (path_by c.args.lines.items c.args.offsets)) _
     (sym c.in-Some.ensures.value) refl
     (ap (map_before s.roads) c.add_path-result.ensures.log) (c.add_path-result.ensures.given s.roads))

@@ -3,7 +3,7 @@ use Rattle.std.specs.Prelude.{◌==◌}
 use Rattle.olr_paths.specs.Items.{items}
 use Rattle.olr_register.specs.Registered.{Registered}
 use Rattle.olr_register.specs.Holding.{map_kept}
-use Rattle.olr_register.proofs.Asking.{all_encoded, all_told, some_named}
+use Rattle.olr_register.proofs.Asking.{all_encoded, entries_by_item, some_named}
 use Rattle.olr_register.proofs.Outcomes.{report_answered, report_lacks}
 use Rattle.olr_register.proofs.register.Register.report.Goals as goal
 
@@ -18,7 +18,7 @@ pub returns-in-Ok : goal.returns-in-Ok
 returns-in-Ok c =
     let r = c.self.inside in
     report_answered c.args.self.now _ _ refl
-    (all_told (map_kept r.roads r.batch) (items r.paths) c.args.self.now.kept.content _
+    (entries_by_item (map_kept r.roads r.batch) (items r.paths) c.args.self.now.kept.content _
     (ap (λ (x : Registered). x.kept.content) c.self.view_is) c.self.invariant.register.made c.in-Ok.ensures.reported)
 
 pub returns-in-Err : goal.returns-in-Err

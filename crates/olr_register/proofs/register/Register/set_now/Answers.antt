@@ -7,7 +7,7 @@ use Rattle.olr_register.specs.Holding.{map_kept}
 use Rattle.olr_register.proofs.Asking.{some_answer_in}
 use Rattle.olr_register.proofs.Singles.{as_before, closed_by, has_in, same_parts}
 use Rattle.olr_register.proofs.SinglePath.{set_unknown, set_refused, set_keeps, set_done}
-use Rattle.olr_register.proofs.Numbered.{kept_closed, numbered_same, numbered_more}
+use Rattle.olr_register.proofs.Bounded.{kept_closed, bounded_same, bounded_more}
 use Rattle.olr_register.proofs.Tallies.{tally}
 use Rattle.olr_register.proofs.register.Register.set_now.Goals as goal
 
@@ -16,7 +16,7 @@ returns-then-not-has c =
     let r = c.self.inside in
     let x = c.args.self.now in
     set_unknown x _ _ _ c.requires
-    (has_in r.roads (items r.paths) r.batch (tally r.work r.kept) x _ _ _ c.self.view_is refl c.if-not-has.ensures) refl
+    (has_in r.roads (items r.paths) r.batch (tally r.work r.spared) x _ _ _ c.self.view_is refl c.if-not-has.ensures) refl
 
 pub returns-in_err-path : goal.returns-in_err-path
 returns-in_err-path c =
@@ -24,7 +24,7 @@ returns-in_err-path c =
     let x = c.args.self.now in
     let p = err_from_is_err_and c.from_residual.result c.from_residual.ensures.1 in
     rw (p.1, p.2) (set_refused x _ _ _ c.requires
-    (has_in r.roads (items r.paths) r.batch (tally r.work r.kept) x _ _ _ c.self.view_is refl c.if-not-has.ensures)
+    (has_in r.roads (items r.paths) r.batch (tally r.work r.spared) x _ _ _ c.self.view_is refl c.if-not-has.ensures)
     c.in_err-path.ensures.fault)
 
 pub set-requires : goal.set-requires
@@ -36,12 +36,12 @@ pub returns-in_default : goal.returns-in_default
 returns-in_default c =
     let r = c.self.inside in
     let x = c.args.self.now in
-    let none = closed_by r.roads (items r.paths) r.batch (tally r.work r.kept) x c.self.view_is c.requires in
-    as_before x _ _ _ (same_parts r.roads r.roads (items r.paths) _ r.batch (tally r.work r.kept)
-    (tally c.set.new.work r.kept) none refl c.in_default.ensures.err
-    (ap (λ u. tally u r.kept) c.in_default.ensures.err_work) ∙ c.self.view_is)
+    let none = closed_by r.roads (items r.paths) r.batch (tally r.work r.spared) x c.self.view_is c.requires in
+    as_before x _ _ _ (same_parts r.roads r.roads (items r.paths) _ r.batch (tally r.work r.spared)
+    (tally c.set.new.work r.spared) none refl c.in_default.ensures.err
+    (ap (λ u. tally u r.spared) c.in_default.ensures.err_work) ∙ c.self.view_is)
     (set_refused x _ _ _ c.requires
-    (has_in r.roads (items r.paths) r.batch (tally r.work r.kept) x _ _ _ c.self.view_is refl c.if-not-has.ensures)
+    (has_in r.roads (items r.paths) r.batch (tally r.work r.spared) x _ _ _ c.self.view_is refl c.if-not-has.ensures)
     (inl refl))
 
 pub invariant_of-self-2 : goal.invariant_of-self-2
@@ -52,18 +52,18 @@ invariant_of-self-2 c =
     let new = c.in-Ok.ensures.set in
     let good : IsTrue (is_path path.lines) =
     subst (λ (p : Path). IsTrue (is_path p.lines)) (sym c.in_ok-path.ensures.ok) c.in_ok-path.ensures.good in
-    let none = closed_by r.roads (items r.paths) r.batch (tally r.work r.kept) x c.self.view_is c.requires in
+    let none = closed_by r.roads (items r.paths) r.batch (tally r.work r.spared) x c.self.view_is c.requires in
     let kept = kept_closed r.roads r.batch none in
     record {
       register =
-          set_keeps r.roads (items r.paths) r.batch (tally r.work r.kept) x _ c.self.view_is c.requires
+          set_keeps r.roads (items r.paths) r.batch (tally r.work r.spared) x _ c.self.view_is c.requires
           c.self.invariant.register path new.0 good new.1 _
-          (has_in r.roads (items r.paths) r.batch (tally r.work r.kept) x _ _ _ c.self.view_is refl
+          (has_in r.roads (items r.paths) r.batch (tally r.work r.spared) x _ _ _ c.self.view_is refl
           c.if-not-has.ensures) new.2;
-      numbered = numbered_same (map_of r.roads) (map_kept r.roads r.batch) _ _ kept
-          (numbered_more (map_of r.roads) (items r.paths) _ r.near _ _
-          (numbered_same (map_kept r.roads r.batch) (map_of r.roads) (items r.paths) r.near (sym kept)
-          c.self.invariant.numbered) c.in-Ok.ensures.begun c.renumber.ensures);
+      bounded = bounded_same (map_of r.roads) (map_kept r.roads r.batch) _ _ kept
+          (bounded_more (map_of r.roads) (items r.paths) _ r.near _ _
+          (bounded_same (map_kept r.roads r.batch) (map_of r.roads) (items r.paths) r.near (sym kept)
+          c.self.invariant.bounded) c.in-Ok.ensures.new_origins c.rebuild_bounds.ensures);
     }
 
 pub returns : goal.returns
@@ -74,7 +74,7 @@ returns c =
     let new = c.in-Ok.ensures.set in
     let good : IsTrue (is_path path.lines) =
     subst (λ (p : Path). IsTrue (is_path p.lines)) (sym c.in_ok-path.ensures.ok) c.in_ok-path.ensures.good in
-    set_done r.roads (items r.paths) r.batch (tally r.work r.kept) x _ c.self.view_is c.requires
-    c.self.invariant.register path new.0 good new.1 _ _ (tally c.set.new.work r.kept) _ _ c.in_ok-path.ensures.ok
-    (has_in r.roads (items r.paths) r.batch (tally r.work r.kept) x _ _ _ c.self.view_is refl c.if-not-has.ensures)
+    set_done r.roads (items r.paths) r.batch (tally r.work r.spared) x _ c.self.view_is c.requires
+    c.self.invariant.register path new.0 good new.1 _ _ (tally c.set.new.work r.spared) _ _ c.in_ok-path.ensures.ok
+    (has_in r.roads (items r.paths) r.batch (tally r.work r.spared) x _ _ _ c.self.view_is refl c.if-not-has.ensures)
     new.2 refl new.3 c.in-Ok.ensures.counted c.in-Ok.ensures.searches c.in-Ok.ensures.settled refl

@@ -33,12 +33,12 @@ returns-in_default c =
 pub returns-in-Ok-one_entry : goal.returns-in-Ok-one_entry
 returns-in-Ok-one_entry c =
     let r = c.self.inside in
-    let told = c.in-Ok.ensures in
+    let returned = c.in-Ok.ensures in
     show_answered c.args.self.now c.args.name.now _ _ refl
-    (shown_entry (map_kept r.roads r.batch) (items r.paths) c.args.self.now.kept.content c.args.name.now told.0 _
+    (shown_entry (map_kept r.roads r.batch) (items r.paths) c.args.self.now.kept.content c.args.name.now returned.0 _
     (ap (λ (x : Registered). x.kept.content) c.self.view_is)
-    c.self.invariant.register.content c.self.invariant.register.made told.1
-    (ap (λ (es : List Entry). map entry_of es) c.in-Ok-one_entry.ensures ∙ ap (λ e. e ∷ []) told.2))
+    c.self.invariant.register.content c.self.invariant.register.made returned.1
+    (ap (λ (es : List Entry). map entry_of es) c.in-Ok-one_entry.ensures ∙ ap (λ e. e ∷ []) returned.2))
 
 pub returns-in-Err : goal.returns-in-Err
 returns-in-Err c =

@@ -1,6 +1,6 @@
 use Rattle.std.proofs.Common.{◌≡◌, Some, None, Ok, Err, get_or, sym, ap, ◌∙◌, arith}
 use Rattle.std.proofs.lemmas.List.{get_or_default}
-use Rattle.olr_spec.proofs.RisingLists.{place_of, there_found}
+use Rattle.olr_spec.proofs.AscendingLists.{place_of, there_found}
 use Rattle.olr_route.specs.Labels.{Label, Labels, label_at}
 use Rattle.olr_route.proofs.ViewLemmas.{label_of_node, none_there}
 use Rattle.olr_route.proofs.labels.Labels.label.Goals as goal
@@ -8,24 +8,24 @@ use Rattle.olr_route.proofs.labels.Labels.label.Goals as goal
 pub returns-in-Ok : goal.returns-in-Ok
 returns-in-Ok c =
     let own = c.self.inside in
-    let place =
+    let slot =
     place_of own.nodes.items c.args.node (Ok c.in-Ok.at) c.self.invariant.0
     (rw c.deref.ensures.value at c.in-Ok.ensures.position) in
     let here : c.index.result.now ≡ get_or own.labels.items c.in-Ok.at (0, None) =
     c.index.ensures ∙ get_or_default own.labels.items c.in-Ok.at c.index.result.now (0, None)
-    (let lt = place.0 in let long = c.self.invariant.1 in omega arith) in
+    (let lt = slot.0 in let long = c.self.invariant.1 in omega arith) in
     let label =
     label_of_node own.source own.limit own.nodes.items own.labels.items c.self.invariant.0 c.self.invariant.1
-    c.args.node c.in-Ok.at place.0 place.1 in
+    c.args.node c.in-Ok.at slot.0 slot.1 in
     ap (λ (k : Label). Some k) here ∙ sym label ∙ ap (λ (x : Labels). label_at x c.args.node) c.self.view_is
 
 pub returns-in-Err : goal.returns-in-Err
 returns-in-Err c =
     let own = c.self.inside in
-    let place =
+    let slot =
     place_of own.nodes.items c.args.node (Err c.in-Err.field-0) c.self.invariant.0
     (rw c.deref.ensures.value at c.in-Err.ensures.position) in
     let label =
     none_there own.source own.limit own.nodes.items own.labels.items c.self.invariant.0 c.self.invariant.1 c.args.node
-    (λ h. let found = there_found own.nodes.items c.args.node (Err c.in-Err.field-0) place h in cc) in
+    (λ h. let frontier = there_found own.nodes.items c.args.node (Err c.in-Err.field-0) slot h in cc) in
     sym label ∙ ap (λ (x : Labels). label_at x c.args.node) c.self.view_is

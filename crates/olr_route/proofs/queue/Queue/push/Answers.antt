@@ -7,9 +7,9 @@ use Rattle.olr_route.proofs.queue.Queue.push.Goals as goal
 pub returns-clause-there : goal.returns-clause-there
 returns-clause-there c =
     let dist = c.from.ensures in
-    let place = c.from-2.ensures in
-    let small = c.ranges.place.fits in
-    let is : c.from.result * 4294967296 + c.from-2.result ≡ queue_key c.args.dist c.args.place = omega arith in
+    let slot = c.from-2.ensures in
+    let small = c.ranges.slot.fits in
+    let is : c.from.result * 4294967296 + c.from-2.result ≡ queue_key c.args.dist c.args.slot = omega arith in
     let pushed : Entry = record { 0 = c.from.result * 4294967296 + c.from-2.result } in
     record {
       small = omega arith;

@@ -1,0 +1,23 @@
+use Rattle.olr_map.specs.Slabs.{slots_of}
+use Rattle.olr_map.proofs.SlotLemmas.{inserted_fits}
+use Rattle.olr_map.proofs.SlotMapLemmas.{inserted_held, inserted_slots}
+use Rattle.olr_map.proofs.slot_map.SlotMap.put.Goals as goal
+
+pub put-requires-clause-fits : goal.put-requires-clause-fits
+put-requires-clause-fits g c =
+    inserted_fits (slots_of c.args.self.now.slab) c.put-slot.result _ c.put-slot.new.self.slotted
+    c.put-slot.ensures.inserts
+
+pub invariant_of-self : goal.invariant_of-self
+invariant_of-self g c =
+    let n = c.args.self.now in
+    record {
+      kept = inserted_slots n.index (slots_of n.slab) n.kept c.put.new.self (slots_of c.put-slot.new.self)
+          c.put-slot.result c.args.number c.args.value c.put-slot.ensures.inserts c.put.ensures.put;
+    }
+
+pub returns-clause-put : goal.returns-clause-put
+returns-clause-put g c =
+    let n = c.args.self.now in
+    inserted_held n.index (slots_of n.slab) n.kept c.put.new.self (slots_of c.put-slot.new.self) c.put-slot.result
+    c.args.number c.args.value c.put-slot.ensures.inserts c.put.ensures.put

@@ -1,0 +1,125 @@
+//! Up to four lines of a node, each with its far end, in the value itself.
+ghost use Rattle.std.specs.Prelude.{◌≡◌, ◌+◌, ◌-◌, ◌<◌, ◌≤◌, List, [], ◌∷◌, ◌++◌, length, take, insert, remove, set};
+ghost use Rattle.std.specs.Prelude.{slice_range};
+ghost use Rattle.std.specs.List.{remove_range};
+
+use crate::ids::LineId;
+use crate::read::LineEnd;
+
+/// How many lines fit in the value.
+pub const INLINE: usize = 4;
+
+/// The numbers of up to four lines, and the far end of each.
+#[derive(Drop, Debug)]
+pub struct Inline {
+    pub count: u32,
+    pub ends: [LineEnd; INLINE],
+    pub lines: [LineId; INLINE],
+    ghost within: { count ≤ 4 },
+    ghost ends_len: { length ends ≡ 4 },
+    ghost lines_len: { length lines ≡ 4 },
+}
+
+impl Inline {
+    /// No lines.
+    pub fn new() -> Inline
+        ensures { result.count ≡ 0 }
+    {
+        Inline {
+            count: 0,
+            ends: [LineEnd::default(); INLINE],
+            lines: [LineId::default(); INLINE],
+        }
+    }
+
+    /// The lines.
+    pub fn lines(&self) -> &[LineId]
+        ensures { result.now ≡ take self.now.count self.now.lines }
+    {
+        &self.lines[..self.count as usize]
+    }
+
+    /// Their far ends.
+    pub fn ends(&self) -> &[LineEnd]
+        ensures { result.now ≡ take self.now.count self.now.ends }
+    {
+        &self.ends[..self.count as usize]
+    }
+
+    /// Inserts a line at this position. There are fewer than four lines.
+    pub fn insert(&mut self, at: usize, id: LineId, end: LineEnd)
+        requires within { at ≤ self.old.count }
+        requires room { self.old.count < 4 }
+        ensures count { self.new.count ≡ self.old.count + 1 }
+        ensures lines { take self.new.count self.new.lines ≡ insert (take self.old.count self.old.lines) at id }
+        ensures ends { take self.new.count self.new.ends ≡ insert (take self.old.count self.old.ends) at end }
+    {
+        let count = self.count as usize;
+        put_in(&mut self.lines, count, at, id);
+        put_in(&mut self.ends, count, at, end);
+        self.count += 1;
+    }
+
+    /// Removes the line at this position.
+    pub fn remove(&mut self, at: usize)
+        requires { at < self.old.count }
+        ensures count { self.new.count + 1 ≡ self.old.count }
+        ensures lines { take self.new.count self.new.lines ≡ remove (take self.old.count self.old.lines) at }
+        ensures ends { take self.new.count self.new.ends ≡ remove (take self.old.count self.old.ends) at }
+    {
+        let count = self.count as usize;
+        take_out(&mut self.lines, count, at);
+        take_out(&mut self.ends, count, at);
+        self.count -= 1;
+    }
+
+    /// Sets another far end for the line at this position.
+    pub fn set_end(&mut self, at: usize, end: LineEnd)
+        requires { at < self.old.count }
+        ensures count { self.new.count ≡ self.old.count }
+        ensures lines { self.new.lines ≡ self.old.lines }
+        ensures ends { take self.new.count self.new.ends ≡ set (take self.old.count self.old.ends) at end }
+    {
+        self.ends[at] = end;
+    }
+}
+
+/// Inserts a value at a position among the first `count` values. The slice is longer than `count`.
+fn put_in<T: Copy>(values: &mut [T], count: usize, at: usize, value: T)
+    requires within { at ≤ count }
+    requires room { count < length values.old }
+    ensures len { length values.new ≡ length values.old }
+    ensures put { take (count + 1) values.new ≡ insert (take count values.old) at value }
+{
+    values[count] = value;
+    last_to(&mut values[..count + 1], at);
+}
+
+/// Removes the value at a position among the first `count` values.
+fn take_out<T>(values: &mut [T], count: usize, at: usize)
+    requires within { at < count }
+    requires few { count ≤ length values.old }
+    ensures len { length values.new ≡ length values.old }
+    ensures taken { take (count - 1) values.new ≡ remove (take count values.old) at }
+{
+    move_to_end(&mut values[..count], at, at + 1);
+}
+
+/// Moves the last value to a position, and the values from that position on one further.
+fn last_to<T>(values: &mut [T], at: usize)
+    requires { at < length values.old }
+    ensures len { length values.new ≡ length values.old }
+    ensures put { (front : List T) (last : T) → values.old ≡ front ++ last ∷ [] → values.new ≡ insert front at last }
+{
+    values[at..].rotate_right(1);
+}
+
+/// Moves the values from `start` up to `end` to the end of the slice.
+fn move_to_end<T>(values: &mut [T], start: usize, end: usize)
+    requires start_le_end { start ≤ end }
+    requires in_bounds { end ≤ length values.old }
+    ensures len { length values.new ≡ length values.old }
+    ensures moved { values.new ≡ remove_range values.old start end ++ slice_range values.old start end }
+{
+    values[start..].rotate_left(end - start);
+}

@@ -1,0 +1,327 @@
+-- How bounds change, and what follows from them if no line leads on.
+use Rattle.std.proofs.Common.{◌≡◌, ◌≢◌, nat_eq, ◌*◌, ◌^◌, get_or, length, ℕ, ◌+◌, ◌-◌, ◌<◌, ◌≤◌, ◌⊎◌, List, [], ◌∷◌}
+use Rattle.std.proofs.Common.{◌++◌}
+use Rattle.std.proofs.Common.{Option, Some, None, IsSome, IsTrue, Bool, refl, sym, ap, ◌∙◌, subst, inl, inr, arith}
+use Rattle.std.proofs.Common.{le_trans}
+use Rattle.std.proofs.lemmas.Bool.{cases_Bool, cases_eq, cases_lt, eqb-true, ne_eqb}
+use Rattle.std.specs.Prelude.{sum_by, unwrap_or, min}
+use Rattle.std.specs.Option.{option_map}
+use Rattle.std.specs.Cmp.{nat_eq_equiv}
+use Rattle.std.specs.HashMap.{IsUnique, PutsEntry, Updates, get, keys, values}
+use Rattle.std.specs.BinaryHeap.{heap_items}
+use Rattle.std.specs.List.Sorted.{IsPermutation}
+use Rattle.std.proofs.Math.Nat.{mul-le-mul_right}
+use Rattle.std.proofs.lemmas.List.{get_or-map, length-map}
+use Rattle.std.proofs.lemmas.List.Sums.{sum_by-le}
+use Rattle.std.proofs.lemmas.Map.Entries.{sum_by_puts_entry, length-values_of}
+use Rattle.std.proofs.lemmas.Map.Steps.{length-le_from_distinct_below}
+use Rattle.std.proofs.lemmas.Map.Views.{Contains-from_any, IsSome-lookup_from_Contains}
+use Rattle.olr_spec.specs.Map.{Map, has_line, start, end, dm, lines_out, SameLine, SameRound, has}
+use Rattle.olr_spec.specs.Routes.{IsRoute, dm_of}
+use Rattle.olr_spec.specs.Extension.{limit}
+use Rattle.olr_spec.specs.Detours.{Near}
+use Rattle.olr_spec.proofs.RouteLemmas.{IsRoute-append, dm_of-append}
+use Rattle.olr_spec.proofs.AgreeLemmas.{turned_round, by_leaving, same_known, same_start, same_end, same_dm}
+use Rattle.olr_map.specs.Ends.{end_out, ends_out}
+use Rattle.olr_map.specs.declared.read.LineEnd.{LineEnd}
+use Rattle.olr_near.proofs.Waiting.{line_there, pushed_kept, pushed_there}
+use Rattle.olr_near.specs.Bounds.{Numbers, bound_of, IsSource, Within, ClosedAt, IsRight, IsWaiting, IsUnderWay}
+use Rattle.olr_near.specs.Bounds.{SameBut, Moves, IsReopened, IsLowered, IsFollowed, IsLed, lesser}
+use Rattle.olr_near.specs.declared.distance_bounds.DistanceBounds.{DistanceBounds}
+use Rattle.olr_route.proofs.WayLemmas.{no_end}
+
+-- ---- bounds that did not increase
+
+pub within_itself : (L : ℕ → Option ℕ) (v d : ℕ) → L v ≡ Some d → Within L v d
+within_itself L v d at = record { number = d; at = at; low = omega arith }
+
+abbrev pub Better : (ℕ → Option ℕ) → (ℕ → Option ℕ) → Type 0
+Better L K = (v d : ℕ) → L v ≡ Some d → Within K v d
+
+pub within_better : (L K : ℕ → Option ℕ) → Better L K → (v d : ℕ) → Within L v d → Within K v d
+within_better L K better v d w =
+    let k = better v w.number w.at in
+    let low = k.low in
+    let was = w.low in
+    record { number = k.number; at = k.at; low = omega arith }
+
+pub closed_better : (M : Map) (L K : ℕ → Option ℕ) → Better L K → (u d : ℕ) → ClosedAt M L u d → ClosedAt M K u d
+closed_better M L K better u d closed x known from short =
+    within_better L K better (end M x) (d + dm M x) (closed x known from short)
+
+pub source_better : (f g : DistanceBounds) → g.known ≡ f.known → Better (bound_of f) (bound_of g) → (s w : ℕ) →
+    IsSource f s w → IsSource g s w
+source_better f g known better s w source is =
+    within_better (bound_of f) (bound_of g) better s (limit - w) (source (subst (λ (b : Bool). IsTrue b) known is))
+
+pub moves_then : (f g h : DistanceBounds) → Moves f g → Moves g h → Moves f h
+moves_then f g h m n = record {
+  better = λ v d at. within_better (bound_of g) (bound_of h) n.better v d (m.better v d at);
+  fresh = λ v d at. elim (n.fresh v d at) [
+    | inl was ↦ elim (m.fresh v d was) [ inl first ↦ inl first | inr w ↦ inr (n.kept d v w) ]
+    | inr w ↦ inr w
+  ];
+  kept = λ d v w. n.kept d v (m.kept d v w);
+  known = n.known ∙ m.known;
+}
+
+pub moves_under_way : (M : Map) (f g : DistanceBounds) → Moves f g → IsUnderWay M f → IsUnderWay M g
+moves_under_way M f g m under is u d at = elim (m.fresh u d at) [
+  | inl was ↦ elim (under (subst (λ (b : Bool). IsTrue b) m.known is) u d was) [
+    | inl closed ↦ inl (closed_better M (bound_of f) (bound_of g) m.better u d closed)
+    | inr w ↦ inr (m.kept d u w)
+  ]
+  | inr w ↦ inr w
+]
+
+-- ---- one bound
+
+-- where the bound d is written at v
+module _ (L K : ℕ → Option ℕ) (v d : ℕ) (there : K v ≡ Some d) (others : (q : ℕ) → q ≢ v → K q ≡ L q) where
+  pub put_better : ((e : ℕ) → L v ≡ Some e → d ≤ e) → Better L K
+  put_better less q e at = elim (cases_eq q v) [
+    | inl is ↦ record { number = d; at = ap K is ∙ there; low = less e (ap L (sym is) ∙ at) }
+    | inr ne ↦ within_itself K q e (others q ne ∙ at)
+  ]
+
+  pub put_fresh : (q e : ℕ) → K q ≡ Some e → (L q ≡ Some e) ⊎ ((e ≡ d) × (q ≡ v))
+  put_fresh q e at = elim (cases_eq q v) [
+    | inl is ↦ let both : ◌≡◌ {A = Option ℕ} (Some d) (Some e) = sym there ∙ ap K (sym is) ∙ at in inr (cc, is)
+    | inr ne ↦ inl (sym (others q ne) ∙ at)
+  ]
+
+-- between f and g, after which node v is queued with that bound
+pub put_moves : (f g : DistanceBounds) (k v d : ℕ) → k ≡ v → Updates nat_eq f.bounds g.bounds k (Some d) →
+    ((e : ℕ) → bound_of f k ≡ Some e → d < e)
+    → IsPermutation (record { 0 = (d, v) } ∷ heap_items f.waiting) (heap_items g.waiting) → g.known ≡ f.known →
+    Moves f g
+put_moves f g k v d is updates less p known =
+    let L = bound_of f in
+    let K = bound_of g in
+    let there : K v ≡ Some d = ap K (sym is) ∙ updates.1 in
+    let others : (q : ℕ) → q ≢ v → K q ≡ L q = λ q ne. updates.2 q (ne_eqb k q (λ e. ne (sym e ∙ is))) in
+    record {
+      better = put_better L K v d there others (λ e at. let lt = less e (ap L is ∙ at) in omega arith);
+      fresh = λ q e at. elim (put_fresh L K v d there others q e at) [
+        | inl was ↦ inl was
+        | inr h ↦ inr (subst (λ (n : ℕ). IsWaiting g n q) (sym h.0)
+            (subst (λ (u : ℕ). IsWaiting g d u) (sym h.1) (pushed_there _ _ _ p)))
+      ];
+      kept = λ e q w. pushed_kept _ _ _ e q p w;
+      known = known;
+    }
+
+-- the bound there is greater, if there is one
+pub less_some : (o : Option ℕ) (had d : ℕ) → Some had ≡ o → d < had → (e : ℕ) → o ≡ Some e → d < e
+less_some o had d is lt e at =
+    let both : ◌≡◌ {A = Option ℕ} (Some had) (Some e) = is ∙ at in
+    let same : had ≡ e = cc in
+    omega arith
+
+pub less_none : (o : Option ℕ) (d : ℕ) → None ≡ o → (e : ℕ) → o ≡ Some e → d < e
+less_none o d is e at = let never : ◌≡◌ {A = Option ℕ} None (Some e) = is ∙ at in absurd cc
+
+-- it is there already, and no greater
+pub kept_lowered : (f g : DistanceBounds) (k v d e : ℕ) → k ≡ v → Updates nat_eq f.bounds g.bounds k (Some e) →
+    Some e ≡ bound_of f k → e ≤ d → IsLowered f g v d
+kept_lowered f g k v d e is updates was le =
+    let same : e ≡ min e d = omega arith in
+    let had : Some e ≡ bound_of f v = was ∙ ap (bound_of f) is in
+    record {
+      at =
+          ap (bound_of g) (sym is) ∙ updates.1 ∙ ap (λ (n : ℕ). Some n) same
+          ∙ ap (λ (o : Option ℕ). Some (lesser o d)) had;
+      others = λ q ne. updates.2 q (ne_eqb k q (λ i. ne (sym i ∙ is)));
+    }
+
+lesser_put : (o : Option ℕ) (d : ℕ) → ((e : ℕ) → o ≡ Some e → d < e) → d ≡ lesser o d
+lesser_put None d less = refl
+lesser_put (Some e) d less = let lt = less e refl in omega arith
+
+pub put_lowered : (f g : DistanceBounds) (k v d : ℕ) → k ≡ v → Updates nat_eq f.bounds g.bounds k (Some d) →
+    ((e : ℕ) → bound_of f k ≡ Some e → d < e) → IsLowered f g v d
+put_lowered f g k v d is updates less = record {
+  at =
+      ap (bound_of g) (sym is) ∙ updates.1 ∙ ap (λ (n : ℕ). Some n) (lesser_put (bound_of f k) d less)
+      ∙ ap (λ (q : ℕ). Some (lesser (bound_of f q) d)) is;
+  others = λ q ne. updates.2 q (ne_eqb k q (λ i. ne (sym i ∙ is)));
+}
+
+lesser_one : (o : Option ℕ) (d e : ℕ) → ◌≡◌ {A = Option ℕ} (Some (lesser o d)) (Some e) → (o ≡ Some e) ⊎ (e ≡ d)
+lesser_one None d e at = let is : d ≡ e = cc in inr (sym is)
+lesser_one (Some k) d e at =
+    let is : min k d ≡ e = cc in
+    elim (cases_lt k d) [
+      | inl lt ↦ let same : k ≡ e = omega arith in inl (ap (λ (n : ℕ). Some n) same)
+      | inr le ↦ inr (omega arith)
+    ]
+
+-- each number is one of before, or the new one
+pub lowered_from : (f g : DistanceBounds) (v d : ℕ) → IsLowered f g v d → (q e : ℕ) → bound_of g q ≡ Some e →
+    (bound_of f q ≡ Some e) ⊎ ((e ≡ d) × (q ≡ v))
+lowered_from f g v d l q e at = elim (cases_eq q v) [
+  | inr ne ↦ inl (sym (l.others q ne) ∙ at)
+  | inl is ↦ elim (lesser_one (bound_of f v) d e (sym l.at ∙ ap (bound_of g) (sym is) ∙ at)) [
+    | inl was ↦ inl (ap (bound_of f) is ∙ was)
+    | inr new ↦ inr (new, is)
+  ]
+]
+
+-- what it counts
+abbrev pub weight : ℕ → ℕ
+weight k = limit + 1 - k
+
+-- the gain of all bounds, by the one that is written and the one before
+gain_by : (a b d : ℕ) (old : Option ℕ) → b + unwrap_or (option_map weight old) 0 ≡ a + weight d → d ≤ limit →
+    ((e : ℕ) → old ≡ Some e → d < e) → a + 1 ≤ b
+gain_by a b d None sum short less = omega arith
+gain_by a b d (Some e) sum short less = let lt = less e refl in omega arith
+
+pub gain_put : (m n : Numbers) (v d : ℕ) (old : Option ℕ) → old ≡ get nat_eq m v → PutsEntry nat_eq m n v d old →
+    d ≤ limit → ((e : ℕ) → get nat_eq m v ≡ Some e → d < e)
+    → sum_by weight (values m) + 1 ≤ sum_by weight (values n)
+gain_put m n v d old was puts short less =
+    gain_by (sum_by weight (values m)) (sum_by weight (values n)) d old
+    (sum_by_puts_entry weight nat_eq m n v d old was puts) short (λ e is. less e (sym was ∙ is))
+
+-- if it was there already
+pub gain_same : (m n : Numbers) (v d : ℕ) → Some d ≡ get nat_eq m v → PutsEntry nat_eq m n v d (Some d) →
+    sum_by weight (values n) ≡ sum_by weight (values m)
+gain_same m n v d was puts = let sum = sum_by_puts_entry weight nat_eq m n v d (Some d) was puts in omega arith
+
+-- there are no more bounds than nodes, and each counts at most the limit plus one
+pub gain_le : (m : Numbers) → ((v : ℕ) → IsSome (get nat_eq m v) → v < 2 ^ 32) → IsUnique nat_eq m →
+    sum_by weight (values m) ≤ 2 ^ 32 * (limit + 1)
+gain_le m below unique =
+    let each = sum_by-le weight (limit + 1) (values m) (λ i k lt. omega arith) in
+    let few =
+    length-le_from_distinct_below (keys m) (2 ^ 32) unique
+    (λ q h. below q (IsSome-lookup_from_Contains nat_eq_equiv q m.entries
+    (Contains-from_any (λ x y e. eqb-true x y e) q (keys m) h))) in
+    let same : length (values m) ≡ length (keys m) =
+    length-values_of m.entries ∙ sym (length-map m.entries (λ (e : ℕ × ℕ). e.0)) in
+    let less : length (values m) ≤ 2 ^ 32 = omega arith in
+    le_trans each (mul-le-mul_right (limit + 1) less)
+
+-- ---- the queue
+
+-- an entry is removed, between f and g, and its lines are followed, up to h; or the bound is another one by now
+module _ (M : Map) (f g : DistanceBounds) (d v : ℕ) (same : g.bounds ≡ f.bounds) (known : g.known ≡ f.known)
+    (others : (e q : ℕ) → IsWaiting f e q → IsWaiting g e q ⊎ ((e ≡ d) × (q ≡ v))) where
+  bounds_same : bound_of g ≡ bound_of f
+  bounds_same = ap (λ (m : Numbers). λ (q : ℕ). get nat_eq m q) same
+
+  pub popped_skip : ¬ (bound_of f v ≡ Some d) → IsUnderWay M f → IsUnderWay M g
+  popped_skip other under is u e at =
+      let was : bound_of f u ≡ Some e = ap (λ (L : ℕ → Option ℕ). L u) (sym bounds_same) ∙ at in
+      elim (under (subst (λ (b : Bool). IsTrue b) known is) u e was) [
+        | inl closed ↦ inl (subst (λ (L : ℕ → Option ℕ). ClosedAt M L u e) (sym bounds_same) closed)
+        | inr w ↦ elim (others e u w) [
+          | inl still ↦ inr still
+          | inr k ↦ absurd (other (subst (λ (n : ℕ). bound_of f v ≡ Some n) k.0
+              (subst (λ (q : ℕ). bound_of f q ≡ Some e) k.1 was)))
+        ]
+      ]
+
+  pub popped_more : (h : DistanceBounds) → Moves g h → ClosedAt M (bound_of h) v d → IsUnderWay M f → IsUnderWay M h
+  popped_more h m closed_here under is u e at = elim (m.fresh u e at) [
+    | inr w ↦ inr w
+    | inl kept ↦
+        let was : bound_of f u ≡ Some e = ap (λ (L : ℕ → Option ℕ). L u) (sym bounds_same) ∙ kept in
+        elim (under (subst (λ (b : Bool). IsTrue b) (m.known ∙ known) is) u e was) [
+          | inl closed ↦ inl (closed_better M (bound_of g) (bound_of h) m.better u e
+              (subst (λ (L : ℕ → Option ℕ). ClosedAt M L u e) (sym bounds_same) closed))
+          | inr w ↦ elim (others e u w) [
+            | inl still ↦ inr (m.kept e u still)
+            | inr k ↦ inl (subst (λ (q : ℕ). ClosedAt M (bound_of h) q e) (sym k.1)
+                (subst (ClosedAt M (bound_of h) v) (sym k.0) closed_here))
+          ]
+        ]
+  ]
+
+-- ---- where numbers come from
+
+pub led_itself : (M : Map) (L : ℕ → Option ℕ) (v d : ℕ) → L v ≡ Some d → IsLed M L v d
+led_itself M L v d at = record { from = v; number = d; at = at; route = []; leads = refl; long = omega arith }
+
+pub led_on : (M : Map) (L : ℕ → Option ℕ) (u n v d : ℕ) → IsLed M L u n → IsFollowed M u n v d → IsLed M L v d
+led_on M L u n v d k f =
+    let before = k.long in
+    let more = f.long in
+    let both = dm_of-append M k.route (f.line ∷ []) in
+    record {
+      from = k.from;
+      number = k.number;
+      at = k.at;
+      route = k.route ++ f.line ∷ [];
+      leads = IsRoute-append M k.from u v k.route (f.line ∷ []) k.leads (f.known, f.near, f.far);
+      long = omega arith;
+    }
+
+-- ---- lines that are followed again
+
+pub closed_same : (M N : Map) (L : ℕ → Option ℕ) (u d : ℕ) → SameRound M N u → ClosedAt M L u d → ClosedAt N L u d
+closed_same M N L u d same closed x known from short =
+    let is : SameLine N M x = by_leaving N M u x (turned_round M N u same) known from in
+    let long = same_dm N M x is in
+    subst (λ (v : ℕ). Within L v (d + dm N x)) (sym (same_end N M x is))
+    (subst (λ (n : ℕ). Within L (end M x) (d + n)) (sym long)
+    (closed x (subst (λ (b : Bool). IsTrue b) (same_known N M x is) known) (sym (same_start N M x is) ∙ from)
+    (omega arith)))
+
+pub reopened_sources : (T : List ℕ) (f g : DistanceBounds) → IsReopened T f g → (s w : ℕ) → IsSource f s w →
+    IsSource g s w
+reopened_sources T f g r s w source is =
+    let k = source (subst (λ (b : Bool). IsTrue b) r.known is) in
+    record { number = k.number; at = ap (λ (m : Numbers). get nat_eq m s) r.same ∙ k.at; low = k.low }
+
+pub reopened_under_way : (M N : Map) (T : List ℕ) (f g : DistanceBounds) → IsReopened T f g → SameBut T M N →
+    IsUnderWay M f →
+    IsUnderWay N g
+reopened_under_way M N T f g r same under is u d at =
+    let bounds : bound_of g ≡ bound_of f = ap (λ (m : Numbers). λ (v : ℕ). get nat_eq m v) r.same in
+    let was : bound_of f u ≡ Some d = ap (λ (L : ℕ → Option ℕ). L u) (sym bounds) ∙ at in
+    elim (cases_Bool (has T u)) [
+      | inl on ↦ inr (r.waits u d on was)
+      | inr off ↦ elim (under (subst (λ (b : Bool). IsTrue b) r.known is) u d was) [
+        | inl closed ↦ inl (subst (λ (L : ℕ → Option ℕ). ClosedAt N L u d) (sym bounds)
+            (closed_same M N (bound_of f) u d (same u off) closed))
+        | inr w ↦ inr (r.kept d u w)
+      ]
+    ]
+
+-- ---- the law
+
+-- a route within the limit leads from a node with a bound to a node with a bound
+number_along : (M : Map) (f : DistanceBounds) → IsRight M f → IsTrue f.known → (u v d : ℕ) (xs : List ℕ) →
+    bound_of f u ≡ Some d → IsRoute M u v xs → d + dm_of M xs ≤ limit → IsSome (bound_of f v)
+number_along M f right known u v d [] at w short =
+    subst (λ (o : Option ℕ). IsSome o) (sym (ap (bound_of f) (sym w) ∙ at)) refl
+number_along M f right known u v d (x ∷ xs) at w short =
+    let k = right known u d at x w.0 w.1 (omega arith) in
+    let low = k.low in
+    number_along M f right known (end M x) v k.number xs k.at w.2 (omega arith)
+
+pub near_bounded : (M : Map) (f : DistanceBounds) (s w : ℕ) (T : List ℕ) → IsTrue f.known → IsRight M f →
+    IsSource f s w →
+    (near : Near M T s (min w limit)) → IsSome (bound_of f near.node)
+near_bounded M f s w T known right source near =
+    let k = source known in
+    number_along M f right known s near.node k.number near.route k.at near.leads
+    (let short = near.within in let low = k.low in omega arith)
+
+-- ---- the lines from a node
+
+-- each line that leaves a node has its far end in the list
+pub end_there : (M : Map) (slot : ℕ → ℕ) (v x : ℕ) (items : List LineEnd) → items ≡ ends_out M slot v →
+    IsTrue (has_line M x) → start M x ≡ v
+    → (k : ℕ) × (k < length items) × ((get_or items k no_end).node ≡ end M x) × ((get_or items k no_end).len ≡ dm M x)
+end_there M slot v x items is known from =
+    let k = line_there M v x known from in
+    let long : length items ≡ length (lines_out M v) =
+    ap (λ (zs : List LineEnd). length zs) is ∙ length-map (lines_out M v) (end_out M slot) in
+    let lt = k.1 in
+    let here : get_or items k.0 no_end ≡ end_out M slot x =
+    ap (λ (zs : List LineEnd). get_or zs k.0 no_end) is ∙ get_or-map (end_out M slot) (lines_out M v) k.0 0 no_end k.1
+    ∙ ap (end_out M slot) k.2 in
+    (k.0, omega arith, ap (λ (e : LineEnd). e.node) here, ap (λ (e : LineEnd). e.len) here)

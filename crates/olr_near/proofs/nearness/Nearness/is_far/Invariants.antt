@@ -1,7 +1,0 @@
-use Rattle.std.proofs.Common.{◌≡◌, ◌<◌, ℕ, None, get_or}
-use Rattle.olr_near.specs.Numbers.{number_of}
-use Rattle.olr_near.proofs.nearness.Nearness.is_far.Given as goal
-
--- none of the nodes so far has a bound
-abbrev pub invariant-loop-node : goal.invariant-loop-node
-invariant-loop-node l = (j : ℕ) → j < l.node-index → number_of l.self (get_or l.nodes j 0) ≡ None

@@ -1,9 +1,0 @@
-use Rattle.olr_near.proofs.NumberLemmas.{reopened_sources, reopened_under_way}
-use Rattle.olr_near.proofs.nearness.Nearness.reopen.Goals as goal
-
-pub returns-in-Ok-clause-sources : goal.returns-in-Ok-clause-sources
-returns-in-Ok-clause-sources c = reopened_sources c.args.nodes.now c.args.self.now c.let_wait.new.self c.in-Ok.ensures
-
-pub returns-in-Ok-clause-under_way : goal.returns-in-Ok-clause-under_way
-returns-in-Ok-clause-under_way c =
-    λ M N. reopened_under_way M N c.args.nodes.now c.args.self.now c.let_wait.new.self c.in-Ok.ensures

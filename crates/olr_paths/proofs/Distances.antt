@@ -1,0 +1,174 @@
+-- What distances say about touched nodes that are near, and about detours.
+use Rattle.std.proofs.Common.{◌≡◌, ℕ, zero, suc, ◌+◌, ◌<◌, ◌≤◌, true, List, [], ◌∷◌, map, IsTrue, ◌↔◌, Option}
+use Rattle.std.proofs.Common.{Some, None, refl, sym, ap, subst, arith, ⊎_elim}
+use Rattle.std.proofs.lemmas.Bool.{cases_lt}
+use Rattle.olr_spec.specs.Map.{Map, IsMap, has_node, end, has}
+use Rattle.olr_spec.specs.Routes.{IsRoute, dm_of}
+use Rattle.olr_spec.specs.Detours.{ChangedLine, Detour, Near}
+use Rattle.olr_spec.proofs.RouteLemmas.{route_start}
+use Rattle.olr_route.specs.Distances.{Leads, IsDistance}
+use Rattle.olr_route.specs.declared.distances.Direction.{Direction}
+use Rattle.olr_route.specs.declared.distances.Direction.TheVariants.{Along, Against}
+use Rattle.olr_paths.specs.Touching.{change_of, changed_of}
+use Rattle.olr_paths.specs.Searching.{starts, ends, AreFarther}
+use Rattle.olr_paths.specs.declared.change_set.ChangeSet.{ChangeSet}
+use Rattle.olr_paths.proofs.Sets.{has_from, in_from, Contains-map, Contains-unmap}
+
+-- ---- a shortest distance
+
+-- if no number is the distance, no route is as short
+pub no_way : (M : Map) (direction : Direction) (from : List (ℕ × ℕ)) (v most : ℕ) →
+    ((d : ℕ) → IsDistance M direction from v d → d ≤ most → ⊥) → (n e : ℕ) → e < n → e ≤ most →
+    Leads M direction from v e → ⊥
+no_way M direction from v most none zero e lt le leads = absurd (omega arith)
+no_way M direction from v most none (suc n) e lt le leads =
+    none e (record {
+      leads = leads;
+      least =
+          λ k other. ⊎_elim (λ (low : k < e).
+          absurd (no_way M direction from v most none n k (omega arith) (omega arith) other)) (λ (high : e ≤ k). high)
+          (cases_lt k e);
+    }) le
+
+-- the meaning of a search's result
+abbrev pub ReturnsDistance : Map → Direction → List (ℕ × ℕ) → ℕ → ℕ → Option ℕ → Type 0
+ReturnsDistance M direction from v most r = (d : ℕ) → (r ≡ Some d) ↔ (IsDistance M direction from v d × (d ≤ most))
+
+pub reported_none : (M : Map) (direction : Direction) (from : List (ℕ × ℕ)) (v most : ℕ) (r : Option ℕ) →
+    ReturnsDistance M direction from v most r → r ≡ None → (e : ℕ) → e ≤ most → Leads M direction from v e → ⊥
+reported_none M direction from v most r reports is e le leads =
+    no_way M direction from v most (λ d h near. let some = (reports d).1 (h, near) in let never : ⊥ = cc in never)
+    (suc e)
+    e (omega arith) le leads
+
+-- ---- near nodes
+
+-- a route that begins at a node of the map ends at one
+pub route_end : (M : Map) → IsMap M → (s v : ℕ) (xs : List ℕ) → IsRoute M s v xs → IsTrue (has_node M s) →
+    IsTrue (has_node M v)
+route_end M m s v [] w there = subst (λ (u : ℕ). IsTrue (has_node M u)) w there
+route_end M m s v (x ∷ xs) w there = route_end M m (end M x) v xs w.2 (m.ends x w.0)
+
+abbrev pub all_sources : List ℕ → List (ℕ × ℕ)
+all_sources T = map {A = ℕ} {B = ℕ × ℕ} (λ v. (v, 0)) T
+
+module _ (N : Map) (n : IsMap N) (T : List ℕ) (node : ℕ) where
+  pub leads_from : (v : ℕ) (xs : List ℕ) → IsTrue (has T v) → IsRoute N node v xs → IsTrue (has_node N node) →
+      Leads N Against (all_sources T) node (dm_of N xs)
+  leads_from v xs touched leads there = record {
+    source = v;
+    begun = 0;
+    lines = xs;
+    listed = Contains-map (λ u. (u, 0)) T v (in_from T v touched);
+    there = route_end N n node v xs leads there;
+    way = leads;
+    long = omega arith;
+  }
+
+  -- where the map has the node, whose label is the length of a way
+  pub near_by : (label most : ℕ) → IsTrue (has_node N node) →
+      (label ≤ most → Leads N Against (all_sources T) node label) →
+      ((d : ℕ) → d ≤ most → Leads N Against (all_sources T) node d → label ≤ d) → (label ≤ most) ↔ Near N T node most
+  near_by label most there way returned = (
+    (λ le.
+        let leads = way le in
+        let source = Contains-unmap (λ v. (v, 0)) T (leads.source, leads.begun) leads.listed in
+        let same : source.0 ≡ leads.source = ap (λ (p : ℕ × ℕ). p.0) source.2 in
+        let begun : 0 ≡ leads.begun = ap (λ (p : ℕ × ℕ). p.1) source.2 in
+        let long = leads.long in
+        record {
+          node = leads.source;
+          route = leads.lines;
+          touched = subst (λ (v : ℕ). has T v ≡ true) same (has_from T source.0 source.1);
+          leads = leads.way;
+          within = omega arith;
+        }),
+    (λ near.
+        let short = near.within in
+        let low =
+        returned (dm_of N near.route) short (leads_from near.node near.route near.touched near.leads there) in
+        omega arith),
+  )
+
+  -- if the map does not have the node
+  pub near_absent : (most : ℕ) → ¬ IsTrue (has_node N node) → IsTrue (has T node) ↔ Near N T node most
+  near_absent most lacks = (
+    (λ on. record { node = node; route = []; touched = on; leads = refl; within = omega arith }),
+    (λ near. by near.node near.route near.touched near.leads),
+  )
+    where
+      by : (v : ℕ) (xs : List ℕ) → IsTrue (has T v) → IsRoute N node v xs → IsTrue (has T node)
+      by v [] on w = subst (λ (u : ℕ). IsTrue (has T u)) (sym w) on
+      by v (x ∷ xs) on w = absurd (lacks (subst (λ (u : ℕ). IsTrue (has_node N u)) w.1 (n.starts x w.0)))
+
+-- ---- detours
+
+abbrev pub all_starts : List ChangedLine → List (ℕ × ℕ)
+all_starts C = map {A = ChangedLine} {B = ℕ × ℕ} (λ c. (c.from, c.len)) C
+
+abbrev pub all_ends : List ChangedLine → List (ℕ × ℕ)
+all_ends C = map {A = ChangedLine} {B = ℕ × ℕ} (λ c. (c.to, 0)) C
+
+module _ (N : Map) (n : IsMap N) (C : List ChangedLine) (s t d most far : ℕ) (from_there : IsTrue (has_node N s))
+    (to_there : IsTrue (has_node N t)) (le : d ≤ most) (le_far : d ≤ far) where
+  leads_to : (h : Detour N C s t d) → Leads N Against (all_starts C) s (h.first.len + dm_of N h.before)
+  leads_to h =
+      record {
+        source = h.first.from;
+        begun = h.first.len;
+        lines = h.before;
+        listed = Contains-map (λ c. (c.from, c.len)) C h.first h.first_listed;
+        there = route_end N n s h.first.from h.before h.leads from_there;
+        way = h.leads;
+        long = refl;
+      }
+
+  leads_back : (h : Detour N C s t d) → Leads N Along (all_ends C) t (dm_of N h.after)
+  leads_back h =
+      record {
+        source = h.last.to;
+        begun = 0;
+        lines = h.after;
+        listed = Contains-map (λ c. (c.to, 0)) C h.last h.last_listed;
+        there = route_start N n h.last.to t h.after h.returns to_there;
+        way = h.returns;
+        long = omega arith;
+      }
+
+  pub no_start : (r : Option ℕ) → ReturnsDistance N Against (all_starts C) s most r → r ≡ None → ¬ Detour N C s t d
+  no_start r reports is h =
+      reported_none N Against (all_starts C) s most r reports is (h.first.len + dm_of N h.before)
+      (let w = h.within in omega arith) (leads_to h)
+
+  pub no_end : (r : Option ℕ) → ReturnsDistance N Along (all_ends C) t far r → r ≡ None → ¬ Detour N C s t d
+  no_end r reports is h =
+      reported_none N Along (all_ends C) t far r reports is (dm_of N h.after) (let w = h.within in omega arith)
+      (leads_back h)
+
+  pub too_far : (a b : ℕ) (q r : Option ℕ) → ReturnsDistance N Against (all_starts C) s most q → q ≡ Some a →
+      ReturnsDistance N Along (all_ends C) t far r → r ≡ Some b → d < a + b → ¬ Detour N C s t d
+  too_far a b q r before is_a after is_b far_off h =
+      let first = ((before a).0 is_a).0.least (h.first.len + dm_of N h.before) (leads_to h) in
+      let second = ((after b).0 is_b).0.least (dm_of N h.after) (leads_back h) in
+      let w = h.within in
+      omega arith
+
+  pub clear_by : (q r : Option ℕ) → ReturnsDistance N Against (all_starts C) s most q →
+      ReturnsDistance N Along (all_ends C) t far r →
+      AreFarther q r d → ¬ Detour N C s t d
+  clear_by None r before after h = no_start None before refl
+  clear_by (Some a) None before after h = no_end None after refl
+  clear_by (Some a) (Some b) before after h = too_far a b (Some a) (Some b) before refl after refl h
+
+-- ---- in the form in which they are recorded
+
+map_two : {A B C : Type 0} (f : A → B) (g : B → C) (h : A → C) (xs : List A) → ((x : A) → h x ≡ g (f x)) →
+    map h xs ≡ map g (map f xs)
+map_two f g h [] same = refl
+map_two f g h (x ∷ xs) same = λ i. same x i ∷ map_two f g h xs same i
+
+pub starts_are : (t : ChangeSet) → starts t ≡ all_starts (changed_of t)
+starts_are t = map_two change_of (λ c. (c.from, c.len)) (λ c. (c.from, c.len)) t.changed.items (λ c. refl)
+
+pub ends_are : (t : ChangeSet) → ends t ≡ all_ends (changed_of t)
+ends_are t = map_two change_of (λ c. (c.to, 0)) (λ c. (c.to, 0)) t.changed.items (λ c. refl)

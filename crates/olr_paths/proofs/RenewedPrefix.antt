@@ -1,0 +1,334 @@
+-- A list, as far as it was renewed. SoFar is the same with the work, along a list; follows_self gives the start if
+-- the list is the same as before.
+--     Through Q N T X before is ps es n      the paths is are renewed when ps are stored, es reports them, and n of
+--         them are affected, from each map that satisfies Q
+use Rattle.std.proofs.Common.{◌≡◌, ◌≢◌, ℕ, map, zero, suc, take, ◌+◌, ◌<◌, ◌≤◌, ◌^◌, List}
+use Rattle.std.proofs.Common.{[], ◌∷◌, ◌++◌, length, slice_get, Option, None, Some, option_map, IfSome, ◌⊎◌, inl, inr}
+use Rattle.std.proofs.Common.{refl, sym, ap, subst, ◌∙◌, append_assoc, arith, IsTrue}
+use Rattle.std.specs.List.{AllByRecursion}
+use Rattle.std.proofs.lemmas.List.{length-take-le, map-append, take_all}
+use Rattle.std.proofs.lemmas.Option.{slice_get_within}
+use Rattle.olr_spec.specs.Map.{Map, IsMap}
+use Rattle.olr_spec.specs.Extension.{is_path}
+use Rattle.olr_spec.specs.Encoding.{Answer}
+use Rattle.olr_spec.specs.Detours.{ChangedLine}
+use Rattle.olr_commands.specs.State.{Named}
+use Rattle.olr_commands.specs.Counts.{CountIs}
+use Rattle.olr_commands.specs.Words.{entry_of}
+use Rattle.olr_commands.specs.Reply.{Entry, entry}
+use Rattle.olr_paths.specs.Items.{Made, Item, IsEncodingOf, AreEncodingsIfAny, named_of, all_named, answer_in}
+use Rattle.olr_paths.specs.Changes.{with_made, IsBefore, IsAffected, By_name, Touches, IsRemade, AreRemade, Reported}
+use Rattle.olr_paths.specs.Changes.{Follows}
+use Rattle.olr_paths.specs.Renewing.{Put, all_put, made_at, puts_of, entries_of, ReportsIfOther, ToStay, ToKeep}
+use Rattle.olr_paths.specs.Renewing.{ToEncode}
+use Rattle.olr_paths.specs.Renewing.{IsStep, Left, Retained, EncodedAgain, Rises}
+use Rattle.olr_paths.specs.declared.renewal.Renewal.{Renewal}
+use Rattle.olr_paths.specs.declared.renewal.Counted.{Counted}
+use Rattle.olr_spec.proofs.ListLemmas.{take_more_at}
+use Rattle.olr_paths.proofs.Placing.{put_behind, all_put-push}
+use Rattle.olr_paths.proofs.KeptLemmas.{stays_unless, stays_clear, affected_by, touched_by}
+
+AreRemade-push : (N : Map) (is js : List Item) (i j : Item) → AreRemade N is js → IsRemade N i j →
+    AreRemade N (is ++ i ∷ []) (js ++ j ∷ [])
+AreRemade-push N [] [] i j h one = (one, refl)
+AreRemade-push N [] (k ∷ js) i j h one = let never : ⊥ = cc in absurd never
+AreRemade-push N (x ∷ is) [] i j h one = absurd h
+AreRemade-push N (x ∷ is) (k ∷ js) i j h one = (h.0, AreRemade-push N is js i j h.1 one)
+
+Count-more : {A : Type 0} (P : A → Type 0) (xs : List A) (n : ℕ) (x : A) → CountIs P xs n → P x →
+    CountIs P (xs ++ x ∷ []) (n + 1)
+Count-more P [] n x h p = inl (p, (0, refl, ap (λ (k : ℕ). k + 1) h))
+Count-more P (y ∷ ys) n x (inl h) p =
+    inl (h.0, (h.1.0 + 1, Count-more P ys h.1.0 x h.1.1 p, let e = h.1.2 in omega arith))
+Count-more P (y ∷ ys) n x (inr h) p = inr (h.0, Count-more P ys n x h.1 p)
+
+Count-same : {A : Type 0} (P : A → Type 0) (xs : List A) (n : ℕ) (x : A) → CountIs P xs n → ¬ P x →
+    CountIs P (xs ++ x ∷ []) n
+Count-same P [] n x h p = inr (p, h)
+Count-same P (y ∷ ys) n x (inl h) p = inl (h.0, (h.1.0, Count-same P ys h.1.0 x h.1.1 p, h.1.2))
+Count-same P (y ∷ ys) n x (inr h) p = inr (h.0, Count-same P ys n x h.1 p)
+
+-- the answer of an item
+abbrev pub answer : Item → Option Answer
+answer i = option_map (λ m. m.answer) i.made
+
+Reported-same : (before js : List Item) (es : List Entry) (j : Item) (A : Answer) → Reported before js es →
+    answer j ≡ Some A → answer_in before j.name ≡ Some A → Reported before (js ++ j ∷ []) es
+Reported-same before [] es j A h is had = (A, [], is, refl, inl (had, h))
+Reported-same before (k ∷ js) es j A h is had = (h.0, h.1, h.2, Reported-same before js h.1 j A h.3 is had, h.4)
+
+Reported-returned : (before js : List Item) (es : List Entry) (j : Item) (A : Answer) → Reported before js es →
+    answer j ≡ Some A → answer_in before j.name ≢ Some A → Reported before (js ++ j ∷ []) (es ++ entry j.name A ∷ [])
+Reported-returned before [] es j A h is had =
+    (A, [], is, refl, inr (had, ap (λ (fs : List Entry). fs ++ entry j.name A ∷ []) h))
+Reported-returned before (k ∷ js) es j A h is had =
+    let more = λ (fs : List Entry). fs ++ entry j.name A ∷ [] in (
+      h.0,
+      more h.1,
+      h.2,
+      Reported-returned before js h.1 j A h.3 is had,
+      elim h.4 [ inl e ↦ inl (e.0, ap more e.1) | inr e ↦ inr (e.0, ap more e.1) ],
+    )
+
+Reported-push : (before js : List Item) (es fs : List Entry) (j : Item) (A : Answer) → Reported before js es →
+    answer j ≡ Some A → ReportsIfOther before j.name A es fs → Reported before (js ++ j ∷ []) fs
+Reported-push before js es fs j A h is returned =
+    elim returned [
+      | inl t ↦ subst (Reported before (js ++ j ∷ [])) (sym t.1) (Reported-same before js es j A h is t.0)
+      | inr t ↦ subst (Reported before (js ++ j ∷ [])) (sym t.1) (Reported-returned before js es j A h is t.0)
+    ]
+
+pub record Through (Q : Map → Type 0) (N : Map) (T X : List ℕ) (before is : List Item) (ps : List Put) (es : List Entry)
+    (n : ℕ) : Type 0 where
+  pub local : (ys : List Item) → all_put (is ++ ys) ps ≡ all_put is ps ++ ys
+  pub names : all_named (all_put is ps) ≡ all_named is
+  pub remade : (L : Map) → Q L → AreRemade N is (all_put is ps)
+  pub reported : Reported before (all_put is ps) es
+  pub counted : (L : Map) → Q L → CountIs (IsAffected L T X) is n
+
+module _ (Q : Map → Type 0) (N : Map) (T X : List ℕ) (before : List Item) where
+  pub through_none : Through Q N T X before [] [] [] 0
+  through_none =
+      record { local = λ ys. refl; names = refl; remade = λ L q. refl; reported = refl; counted = λ L q. refl }
+
+  -- j is after what was stored, and the rest is unchanged
+  pub grown : (is : List Item) (ps qs : List Put) (es fs : List Entry) (n k : ℕ) (i j : Item) (A : Answer) →
+      Through Q N T X before is ps es n
+      → ((ys : List Item) → all_put (is ++ i ∷ ys) qs ≡ all_put is ps ++ j ∷ ys) → named_of j ≡ named_of i →
+      ((L : Map) → Q L → IsRemade N i j) → answer j ≡ Some A → ReportsIfOther before j.name A es fs
+      → ((L : Map) → Q L → CountIs (IsAffected L T X) (is ++ i ∷ []) k)
+      → Through Q N T X before (is ++ i ∷ []) qs fs k
+  grown is ps qs es fs n k i j A h puts same one is_A returned counted =
+      let end = puts [] in
+      record {
+        local =
+            λ ys. ap (λ (zs : List Item). all_put zs qs) (append_assoc is (i ∷ []) ys) ∙ puts ys
+            ∙ sym (append_assoc (all_put is ps) (j ∷ []) ys) ∙ ap (λ (zs : List Item). zs ++ ys) (sym end);
+        names =
+            ap all_named end ∙ map-append named_of (all_put is ps) (j ∷ [])
+            ∙ ap (λ (xs : List Named). xs ++ named_of j ∷ []) h.names ∙ ap (λ (x : Named). all_named is ++ x ∷ []) same
+            ∙ sym (map-append named_of is (i ∷ []));
+        remade =
+            λ L q. subst (λ (js : List Item). AreRemade N (is ++ i ∷ []) js) (sym end)
+            (AreRemade-push N is (all_put is ps) i j (h.remade L q) (one L q));
+        reported =
+            subst (λ (js : List Item). Reported before js fs) (sym end)
+            (Reported-push before (all_put is ps) es fs j A h.reported is_A returned);
+        counted = counted;
+      }
+
+pub follows_at : (before is : List Item) (k : ℕ) (i : Item) → Follows before is → slice_get is k ≡ Some i →
+    (i.made ≡ None) ⊎ (answer_in before i.name ≡ answer i)
+follows_at before [] k i h at = let never : ⊥ = cc in absurd never
+follows_at before (x ∷ is) zero i h at = let e : x ≡ i =
+    cc in subst (λ (j : Item). (j.made ≡ None) ⊎ (answer_in before j.name ≡ answer j)) e h.0
+follows_at before (x ∷ is) (suc k) i h at = follows_at before is k i h.1 at
+
+-- ---- one path of the earlier list
+
+made_at_position : (M : Map) (is : List Item) (k : ℕ) (i : Item) → AreEncodingsIfAny M is → slice_get is k ≡ Some i →
+    IfSome i.made (IsEncodingOf M i.path)
+made_at_position M [] k i h at = let never : ⊥ = cc in absurd never
+made_at_position M (x ∷ is) zero i h at = let e : x ≡ i =
+    cc in subst (λ (j : Item). IfSome j.made (IsEncodingOf M j.path)) e h.0
+made_at_position M (x ∷ is) (suc k) i h at = made_at_position M is k i h.1 at
+
+path_at_position : (is : List Item) (k : ℕ) (i : Item) → AllByRecursion (λ j. IsTrue (is_path j.path.lines)) is →
+    slice_get is k ≡ Some i → IsTrue (is_path i.path.lines)
+path_at_position [] k i h at = let never : ⊥ = cc in absurd never
+path_at_position (x ∷ is) zero i h at = let e : x ≡ i = cc in subst (λ (j : Item). IsTrue (is_path j.path.lines)) e h.0
+path_at_position (x ∷ is) (suc k) i h at = path_at_position is k i h.1 at
+
+-- the same item, built again
+again : (i : Item) (m : Made) → i.made ≡ Some m → i ≡ with_made i m
+again i m e = λ j. record { name = i.name; path = i.path; made = e j }
+
+module _ (N : Map) (n : IsMap N) (T X : List ℕ) (C : List ChangedLine) (before is : List Item) (position : ℕ) (i : Item)
+    (follows : Follows before is) (at : slice_get is position ≡ Some i) where
+  abbrev Q : Map → Type 0
+  Q L = IsBefore L N T X C is
+
+  more : take (position + 1) is ≡ take position is ++ i ∷ []
+  more = take_more_at is position i at
+
+  long : length (take position is) ≡ position
+  long = length-take-le position is (omega (arith, slice_get_within is position i at))
+
+  is_made : (L : Map) → Q L → (m : Made) → i.made ≡ Some m → IsEncodingOf L i.path m
+  is_made L q m e =
+      subst (λ (o : Option Made). IfSome o (IsEncodingOf L i.path)) e (made_at_position L is position i q.made at)
+
+  is_a_path : (L : Map) → Q L → IsTrue (is_path i.path.lines)
+  is_a_path L q = path_at_position is position i q.paths at
+
+  answered : (m : Made) → i.made ≡ Some m → answer_in before i.name ≡ Some m.answer
+  answered m e =
+      let is_A : answer i ≡ Some m.answer = ap (option_map (λ (k : Made). k.answer)) e in
+      elim (follows_at before is position i follows at) [
+        | inl none ↦ let never : ⊥ = cc in absurd never
+        | inr same ↦ same
+            ∙ is_A
+      ]
+
+  through_left : (ps : List Put) (es : List Entry) (c : ℕ) → Through Q N T X before (take position is) ps es c →
+      ToStay N T X i.made i.path → Through Q N T X before (take position is ++ i ∷ []) ps es c
+  through_left ps es c h f =
+      let m = f.0 in
+      grown Q N T X before (take position is) ps ps es es c c i i m.answer h (λ ys. h.local (i ∷ ys)) refl
+      (λ L q. (
+        m,
+        stays_unless L N n T X C i.path (is_a_path L q) m q.sound q.difference q.starts (is_made L q m f.1)
+            f.2,
+        again i m f.1,
+      ))
+      (ap (option_map (λ (k : Made). k.answer)) f.1) (inl (answered m f.1, refl))
+      (λ L q. Count-same (IsAffected L T X) (take position is) c i (h.counted L q)
+      (λ on. f.2 (touched_by L N n T X C i.path (is_a_path L q) m q.sound q.difference (is_made L q m f.1) i refl f.1
+      on)))
+
+  -- an item from its parts
+  affected : (L : Map) → Q L → (m : Made) → i.made ≡ Some m → Touches N T X m i.path → IsAffected L T X i
+  affected L q m e t =
+      subst (λ (j : Item). IsAffected L T X j) (sym (again i m e))
+      (affected_by L N n T X C i.path (is_a_path L q) m q.sound q.difference (is_made L q m e) i.name t)
+
+  through_retained : (ps : List Put) (es : List Entry) (c : ℕ) → Through Q N T X before (take position is) ps es c →
+      ToKeep N T X C i.made i.path → Through Q N T X before (take position is ++ i ∷ []) ps es (c + 1)
+  through_retained ps es c h f =
+      let m = f.0 in
+      grown Q N T X before (take position is) ps ps es es c (c + 1) i i m.answer h (λ ys. h.local (i ∷ ys)) refl
+      (λ L q. (
+        m,
+        stays_clear L N n T X C i.path (is_a_path L q) m q.sound q.difference (is_made L q m f.1) f.3,
+        again i m f.1,
+      ))
+      (ap (option_map (λ (k : Made). k.answer)) f.1) (inl (answered m f.1, refl))
+      (λ L q. Count-more (IsAffected L T X) (take position is) c i (h.counted L q) (affected L q m f.1 f.2))
+
+  to_encode : (L : Map) → Q L → ToEncode N T X i.made i.path → IsAffected L T X i
+  to_encode L q (inl none) = By_name none
+  to_encode L q (inr f) = affected L q f.0 f.1 f.2
+
+  through_encoded : (ps : List Put) (es fs : List Entry) (c : ℕ) (m : Made) →
+      Through Q N T X before (take position is) ps es c → ToEncode N T X i.made i.path → IsEncodingOf N i.path m →
+      ReportsIfOther before i.name m.answer es fs
+      → Through Q N T X before (take position is ++ i ∷ [])
+      (ps ++ record { position = position; path = i.path; made = Some m } ∷ []) fs (c + 1)
+  through_encoded ps es fs c m h f made returned =
+      subst (λ (k : ℕ). Through Q N T X before (take position is ++ i ∷ [])
+      (ps ++ record { position = k; path = i.path; made = Some m } ∷ []) fs (c + 1)) long
+      (grown Q N T X before (take position is) ps
+      (ps ++ record { position = length (take position is); path = i.path; made = Some m } ∷ []) es fs c (c + 1) i
+      (with_made i m) m.answer h
+      (λ ys. all_put-push (take position is ++ i ∷ ys) ps
+      (record { position = length (take position is); path = i.path; made = Some m })
+      ∙ ap (λ (zs : List Item). all_put zs ps) (put_behind (take position is) i ys i.path (Some m))
+      ∙ h.local (with_made i m ∷ ys))
+      refl (λ L q. (m, made, refl)) refl returned
+      (λ L q. Count-more (IsAffected L T X) (take position is) c i (h.counted L q) (to_encode L q f)))
+
+-- ---- the paths before a position, with the work
+
+pub record SoFar (N : Map) (T X : List ℕ) (C : List ChangedLine) (before is : List Item) (position : ℕ) (r : Renewal)
+    (old now : Counted) : Type 0 where
+  pub many : ℕ
+  pub through : Through (λ L. IsBefore L N T X C is) N T X before (take position is) (made_at r) (entries_of r) many
+  pub raised : old.work.encodings + many < 2 ^ 64 → now.work.encodings ≡ old.work.encodings + many
+  pub ascends : Rises old now many
+
+ascends_none : (work : Counted) → Rises work work 0
+ascends_none work = record { searches = omega arith; settled = omega arith; kept = omega arith; spared = omega arith }
+
+ascends_more : (old now later : Counted) (n : ℕ) → Rises old now n → Rises now later 1 → Rises old later (n + 1)
+ascends_more old now later n r s =
+    let a = r.searches in let b = s.searches in let c = r.settled in let d = s.settled in
+    let e = r.kept in let f = s.kept in let g = r.spared in let h = s.spared in
+    record { searches = omega arith; settled = omega arith; kept = omega arith; spared = omega arith }
+
+pub so_far_none : (N : Map) (T X : List ℕ) (C : List ChangedLine) (before is : List Item) (r : Renewal)
+    (work : Counted) → r.fresh.items ≡ [] → r.entries.items ≡ [] → SoFar N T X C before is 0 r work work
+so_far_none N T X C before is r work fresh entries =
+    let Q : Map → Type 0 = λ L. IsBefore L N T X C is in
+    let made : [] ≡ made_at r = sym (ap puts_of fresh) in
+    let returned : [] ≡ entries_of r = sym (ap (map entry_of) entries) in
+    record {
+      many = 0;
+      through =
+          subst (λ (es : List Entry). Through Q N T X before [] (made_at r) es 0) returned
+          (subst (λ (ps : List Put). Through Q N T X before [] ps [] 0) made (through_none Q N T X before));
+      raised = λ few. omega arith;
+      ascends = ascends_none work;
+    }
+
+-- for a list without paths
+pub so_far_all : (N : Map) (T X : List ℕ) (C : List ChangedLine) (before is : List Item) (r : Renewal)
+    (work : Counted) → length is ≡ 0 → r.fresh.items ≡ [] → r.entries.items ≡ [] →
+    SoFar N T X C before is (length is) r work work
+so_far_all N T X C before is r work none fresh entries =
+    subst (λ (k : ℕ). SoFar N T X C before is k r work work) (sym none)
+    (so_far_none N T X C before is r work fresh entries)
+
+-- for the whole list
+pub record Whole (N : Map) (T X : List ℕ) (C : List ChangedLine) (before is : List Item) (r : Renewal)
+    (old now : Counted) : Type 0 where
+  pub remade : (L : Map) → IsBefore L N T X C is → AreRemade N is (all_put is (made_at r))
+  pub names : all_named (all_put is (made_at r)) ≡ all_named is
+  pub reported : Reported before (all_put is (made_at r)) (entries_of r)
+  pub counted : (L : Map) → IsBefore L N T X C is → (n : ℕ) × CountIs (IsAffected L T X) is n
+      × (old.work.encodings + n < 2 ^ 64 → now.work.encodings ≡ old.work.encodings + n) × (now.kept ≤ old.kept + n)
+
+pub whole : (N : Map) (T X : List ℕ) (C : List ChangedLine) (before is : List Item) (r : Renewal) (old now : Counted) →
+    SoFar N T X C before is (length is) r old now → Whole N T X C before is r old now
+whole N T X C before is r old now h =
+    let all : take (length is) is ≡ is = take_all (length is) is (omega arith) in
+    let t : Through (λ L. IsBefore L N T X C is) N T X before is (made_at r) (entries_of r) h.many =
+    subst (λ (js : List Item). Through (λ L. IsBefore L N T X C is) N T X before js (made_at r) (entries_of r) h.many)
+    all h.through in
+    record {
+      remade = t.remade;
+      names = t.names;
+      reported = t.reported;
+      counted = λ L q. (h.many, t.counted L q, h.raised, h.ascends.spared);
+    }
+
+module _ (N : Map) (n : IsMap N) (T X : List ℕ) (C : List ChangedLine) (before is : List Item) (position : ℕ) (i : Item)
+    (follows : Follows before is) (at : slice_get is position ≡ Some i) (old : Counted) where
+  pub so_far_step : (r s : Renewal) (now later : Counted) → SoFar N T X C before is position r old now →
+      IsStep N T X C before i position r s now later → SoFar N T X C before is (position + 1) s old later
+  so_far_step r s now later h (Left f same still) =
+      subst (λ (q : Renewal). SoFar N T X C before is (position + 1) q old later) (sym same)
+      (subst (λ (d : Counted). SoFar N T X C before is (position + 1) r old d) (sym still)
+      (record {
+        many = h.many;
+        through =
+            subst (λ (js : List Item). Through (λ L. IsBefore L N T X C is) N T X before js (made_at r) (entries_of r)
+            h.many) (sym (take_more_at is position i at))
+            (through_left N n T X C before is position i follows at (made_at r) (entries_of r) h.many h.through f);
+        raised = h.raised;
+        ascends = h.ascends;
+      }))
+  so_far_step r s now later h (Retained f same one) =
+      subst (λ (q : Renewal). SoFar N T X C before is (position + 1) q old later) (sym same)
+      (record {
+        many = h.many + 1;
+        through =
+            subst (λ (js : List Item). Through (λ L. IsBefore L N T X C is) N T X before js (made_at r) (entries_of r)
+            (h.many + 1)) (sym (take_more_at is position i at))
+            (through_retained N n T X C before is position i follows at (made_at r) (entries_of r) h.many h.through f);
+        raised = λ few. let e = h.raised (omega arith) in let u = one.encodings (omega arith) in omega arith;
+        ascends = ascends_more old now later h.many h.ascends one.ascends;
+      })
+  so_far_step r s now later h (EncodedAgain f m made puts returned one) =
+      record {
+        many = h.many + 1;
+        through =
+            subst (λ (js : List Item). Through (λ L. IsBefore L N T X C is) N T X before js (made_at s) (entries_of s)
+            (h.many + 1)) (sym (take_more_at is position i at))
+            (subst (λ (ps : List Put). Through (λ L. IsBefore L N T X C is) N T X before (take position is ++ i ∷ []) ps
+            (entries_of s) (h.many + 1)) (sym puts)
+            (through_encoded N n T X C before is position i follows at (made_at r) (entries_of r) (entries_of s) h.many
+            m
+            h.through f made returned));
+        raised = λ few. let e = h.raised (omega arith) in let u = one.encodings (omega arith) in omega arith;
+        ascends = ascends_more old now later h.many h.ascends one.ascends;
+      }

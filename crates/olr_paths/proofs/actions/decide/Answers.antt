@@ -1,0 +1,49 @@
+use Rattle.std.proofs.Common.{◌≡◌, true, false, IsTrue, ◌↔◌, inr, ap, subst}
+use Rattle.std.specs.Prelude.{option_map}
+use Rattle.olr_spec.specs.Extension.{Path}
+use Rattle.olr_paths.specs.Items.{made_of}
+use Rattle.olr_paths.specs.Changes.{Touches}
+use Rattle.olr_paths.specs.Touching.{nodes_of, lines_of, changed_of}
+use Rattle.olr_paths.specs.Renewing.{Stays}
+use Rattle.olr_paths.proofs.actions.decide.Goals as goal
+
+pub returns-then-not-is_touched : goal.returns-then-not-is_touched
+returns-then-not-is_touched g c =
+    let N = g.M.MapRead.map c.args.map.now in
+    let T = nodes_of c.args.touched.now in
+    let X = lines_of c.args.touched.now in
+    let off : c.is_touched.result ≡ false = cc in
+    let iff : IsTrue c.is_touched.result ↔ Touches N T X (made_of c.in-Some.published.now) c.args.shown.path.now.value =
+    subst (λ (P : Path). IsTrue c.is_touched.result ↔ Touches N T X (made_of c.in-Some.published.now) P) c.deref.ensures
+    c.is_touched.ensures in (
+      made_of c.in-Some.published.now,
+      ap (option_map (λ p. made_of p.now)) c.in-Some.is,
+      (λ t. let on : c.is_touched.result ≡ true = iff.1 t in cc),
+    )
+
+pub returns : goal.returns
+returns g c =
+    let N = g.M.MapRead.map c.args.map.now in
+    let T = nodes_of c.args.touched.now in
+    let X = lines_of c.args.touched.now in
+    let on : c.is_touched.result ≡ true = cc in
+    let iff : IsTrue c.is_touched.result ↔ Touches N T X (made_of c.in-Some.published.now) c.args.shown.path.now.value =
+    subst (λ (P : Path). IsTrue c.is_touched.result ↔ Touches N T X (made_of c.in-Some.published.now) P) c.deref.ensures
+    c.is_touched.ensures in
+    inr (made_of c.in-Some.published.now, ap (option_map (λ p. made_of p.now)) c.in-Some.is, iff.0 on)
+
+pub returns-then-is_unchanged : goal.returns-then-is_unchanged
+returns-then-is_unchanged g c =
+    let N = g.M.MapRead.map c.args.map.now in
+    let T = nodes_of c.args.touched.now in
+    let X = lines_of c.args.touched.now in
+    let C = changed_of c.args.touched.now in
+    let on : c.is_touched.result ≡ true = cc in
+    let iff : IsTrue c.is_touched.result ↔ Touches N T X (made_of c.in-Some.published.now) c.args.shown.path.now.value =
+    subst (λ (P : Path). IsTrue c.is_touched.result ↔ Touches N T X (made_of c.in-Some.published.now) P) c.deref.ensures
+    c.is_touched.ensures in
+    let returned : c.is_unchanged.result ≡ true = cc in
+    let kept : Stays N T X C (made_of c.in-Some.published.now) c.args.shown.path.now.value =
+    subst (λ (P : Path). Stays N T X C (made_of c.in-Some.published.now) P) c.deref-2.ensures
+    (c.is_unchanged.ensures returned) in
+    (made_of c.in-Some.published.now, ap (option_map (λ p. made_of p.now)) c.in-Some.is, iff.0 on, kept)

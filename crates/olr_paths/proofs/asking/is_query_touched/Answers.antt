@@ -1,0 +1,79 @@
+use Rattle.std.proofs.Common.{◌≡◌, List, All, Contains, length, get_or, ◌<◌, true, false, refl, sym, subst, ◌∙◌}
+use Rattle.std.proofs.Common.{arith, min}
+use Rattle.std.proofs.lemmas.List.{take_all}
+use Rattle.std.proofs.lemmas.List.Elements.{All-contains, Contains-get_or}
+use Rattle.olr_spec.specs.Extension.{limit}
+use Rattle.olr_spec.specs.Detours.{Near}
+use Rattle.olr_spec.specs.Queries.{CoverageQuery}
+use Rattle.olr_paths.specs.Searching.{IsExactAt}
+use Rattle.olr_paths.specs.Touching.{nodes_of}
+use Rattle.olr_paths.proofs.Alls.{all_more}
+use Rattle.olr_paths.proofs.asking.is_query_touched.Goals as goal
+
+pub is_near-requires-clause-returned : goal.is_near-requires-clause-returned
+is_near-requires-clause-returned g c =
+    let N = g.M.MapRead.map c.args.map.now in
+    let slot = g.M.MapRead.node_slot c.args.map.now in
+    let t = c.args.touched.now in
+    let item : CoverageQuery = c.query-item.result in
+    let xs : List CoverageQuery = c.args.published.now.queries.items in
+    let lt : c.loop-query.query-index < length xs =
+    subst (λ (ys : List CoverageQuery). c.loop-query.query-index < length ys) c.as_slice-queries.ensures.value
+    c.loop-query-test.true in
+    let is : item ≡ get_or xs c.loop-query.query-index item =
+    subst (λ (ys : List CoverageQuery). item ≡ get_or ys c.loop-query.query-index item) c.as_slice-queries.ensures.value
+    c.query-item.is in
+    let on : Contains xs item =
+    subst (λ (l : CoverageQuery). Contains xs l) (sym is) (Contains-get_or xs c.loop-query.query-index item lt) in
+    subst (λ (l : CoverageQuery). IsExactAt N slot t c.args.near.now l.from (min l.within limit)) (sym c.query.view_is)
+    (c.requires.returned item on)
+
+pub returns-then-is_near : goal.returns-then-is_near
+returns-then-is_near g c =
+    let N = g.M.MapRead.map c.args.map.now in
+    let T = nodes_of c.args.touched.now in
+    let item : CoverageQuery = c.query-item.result in
+    let yes : c.is_near.result ≡ true = cc in
+    let xs : List CoverageQuery = c.args.published.now.queries.items in
+    let lt : c.loop-query.query-index < length xs =
+    subst (λ (ys : List CoverageQuery). c.loop-query.query-index < length ys) c.as_slice-queries.ensures.value
+    c.loop-query-test.true in
+    let is : item ≡ get_or xs c.loop-query.query-index item =
+    subst (λ (ys : List CoverageQuery). item ≡ get_or ys c.loop-query.query-index item) c.as_slice-queries.ensures.value
+    c.query-item.is in
+    let on : Contains xs item =
+    subst (λ (l : CoverageQuery). Contains xs l) (sym is) (Contains-get_or xs c.loop-query.query-index item lt) in (
+      (λ t. (
+        item,
+        on,
+        subst (λ (l : CoverageQuery). Near N T l.from (min l.within limit)) c.query.view_is
+            (c.is_near.ensures.0 yes),
+      )),
+      (λ h. refl),
+    )
+
+pub loop-query-preserved : goal.loop-query-preserved
+loop-query-preserved g c =
+    let P : CoverageQuery → Type 0 =
+    λ k. ¬ Near (g.M.MapRead.map c.args.map.now) (nodes_of c.args.touched.now) k.from (min k.within limit) in
+    let off : c.is_near.result ≡ false = cc in
+    let item : CoverageQuery = c.query-item.result in
+    let no : P item = λ near.
+    let on : c.is_near.result ≡ true =
+    c.is_near.ensures.1
+    (subst (λ (l : CoverageQuery). Near (g.M.MapRead.map c.args.map.now) (nodes_of c.args.touched.now) l.from
+    (min l.within limit)) (sym c.query.view_is) near) in cc in
+    all_more P c.as_slice-queries.result.now c.loop-query.query-index item c.loop-query-test.true c.loop-query.invariant
+    (subst (λ (l : CoverageQuery). P l) c.query-item.is no)
+
+pub returns : goal.returns
+returns g c =
+    let P : CoverageQuery → Type 0 =
+    λ k. ¬ Near (g.M.MapRead.map c.args.map.now) (nodes_of c.args.touched.now) k.from (min k.within limit) in
+    let all : All P c.args.published.now.queries.items =
+    subst (λ (ls : List CoverageQuery). All P ls)
+    (take_all c.loop-query.query-index c.as_slice-queries.result.now (omega (arith, c.loop-query-test.false))
+    ∙ c.as_slice-queries.ensures.value) c.loop-query.invariant in (
+      (λ no. absurd cc),
+      (λ h. absurd (All-contains P c.args.published.now.queries.items h.0 all h.1 h.2)),
+    )

@@ -1,8 +1,0 @@
-use Rattle.std.proofs.Common.{◌≡◌, take, map}
-use Rattle.olr_commands.specs.Words.{entry_of}
-use Rattle.olr_paths.specs.Items.{items}
-use Rattle.olr_paths.proofs.Telling.{all_told}
-use Rattle.olr_paths.proofs.listing.Listing.entries.Given as goal
-
-abbrev pub invariant-loop-k : goal.invariant-loop-k
-invariant-loop-k l = map entry_of l.entries.items ≡ all_told (take l.k (items l.self))

@@ -1,6 +1,0 @@
-use Rattle.std.proofs.Common.{◌∙◌}
-use Rattle.olr_paths.proofs.NamedEntries.{named_there}
-use Rattle.olr_paths.proofs.listing.Listing.has.Goals as goal
-
-pub returns : goal.returns
-returns c = c.contains_key.ensures ∙ named_there c.args.self.now.paths.entries c.args.name.now

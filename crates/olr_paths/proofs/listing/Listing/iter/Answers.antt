@@ -1,9 +1,0 @@
-use Rattle.olr_paths.proofs.Yielded.{all_some, all_left}
-use Rattle.olr_paths.proofs.listing.Listing.iter.Goals as goal
-
-pub invariant_of-result : goal.invariant_of-result
-invariant_of-result c =
-    rw c.iter.ensures.rest (record { encoded = all_some c.args.self.now.paths.entries c.requires.encoded })
-
-pub returns : goal.returns
-returns c = rw c.iter.ensures.rest (all_left c.args.self.now.paths.entries)

@@ -1,0 +1,69 @@
+use Rattle.std.proofs.Common.{◌≡◌, ◌-◌, ◌≤◌, ◌∷◌, [], ◌∙◌, ℕ, List, Some, refl, String, Global, length, slice_get, ap}
+use Rattle.std.proofs.Common.{sym, subst, arith}
+use Rattle.std.proofs.lemmas.List.{length-map}
+use Rattle.std.proofs.lemmas.Option.{slice_get-map}
+use Rattle.std.specs.Prelude.{option_map}
+use Rattle.olr_paths.specs.Items.{Item, items}
+use Rattle.olr_paths.specs.Renewing.{item_of as under}
+use Rattle.olr_paths.specs.Laying.{overlay_changes, change_at, under_change}
+use Rattle.olr_paths.specs.Showing.{shown_items, shown_item}
+use Rattle.olr_paths.specs.declared.overlaid_list.OverlaidList.{OverlaidList}
+use Rattle.olr_paths.specs.declared.path_list.NamedPath.{NamedPath}
+use Rattle.olr_paths.proofs.NamedEntries.{item_of, item_at}
+use Rattle.olr_paths.proofs.Changed.{changed_by, one_changed, overlaid_at, overlaid_behind}
+use Rattle.olr_paths.proofs.overlaid_list.OverlaidList.at.Goals as goal
+
+pub returns-then-position-count-clause-shown : goal.returns-then-position-count-clause-shown
+returns-then-position-count-clause-shown c =
+    let l = c.args.self in
+    let cs = overlay_changes l.overlay.now in
+    let e : String Global × NamedPath = (c.in_ok-name.name.now, c.in_ok-name.named.now) in
+    let i : Item = item_of e in
+    let at = item_at l.list.now.paths.entries c.args.position e (sym c.in_ok-name.ensures.entry) in
+    let shown : under_change (change_at cs i.name) i ≡ shown_item c.show_under.result ∷ [] =
+    subst (λ (n : List ℕ). under_change (change_at cs n) (under n c.in_ok-name.named.now)
+    ≡ shown_item c.show_under.result ∷ []) c.as_str.ensures.value c.show_under.ensures in
+    let one = one_changed (change_at cs i.name) i (l.keeps i.name) in
+    let same : changed_by cs i ≡ shown_item c.show_under.result = cc (one, shown) in
+    overlaid_at cs (items l.list.now) (items l.overlay.now.added) l.keeps c.args.position i at
+    ∙ ap (λ (j : Item). Some j)
+    same
+
+behind : (l : OverlaidList) (k n : ℕ) → n ≡ length l.list.now.paths.entries → n ≤ k →
+    slice_get (shown_items l) k ≡ slice_get (items l.overlay.now.added) (k - n)
+behind l k n long le =
+    let all : length (items l.list.now) ≡ n = length-map l.list.now.paths.entries item_of ∙ sym long in
+    overlaid_behind (overlay_changes l.overlay.now) (items l.list.now) (items l.overlay.now.added) l.keeps k (k - n)
+    (omega arith)
+
+pub returns-in_err-name-2-clause-shown : goal.returns-in_err-name-2-clause-shown
+returns-in_err-name-2-clause-shown c =
+    let l = c.args.self in
+    let q = c.args.position - c.len-count.result in
+    behind l c.args.position c.len-count.result c.len-count.ensures.len c.if-position-count.false
+    ∙ slice_get-map item_of l.overlay.now.added.paths.entries q
+    ∙ ap (option_map item_of) (sym c.in_err-name-2.ensures.entry)
+    ∙ ap (option_map shown_item) (sym c.from_residual-in_err-name-2.ensures)
+
+pub returns-clause-shown : goal.returns-clause-shown
+returns-clause-shown c =
+    let l = c.args.self in
+    let e : String Global × NamedPath = (c.in_ok-name-2.name.now, c.in_ok-name-2.named.now) in
+    let at =
+    item_at l.overlay.now.added.paths.entries (c.args.position - c.len-count.result) e
+    (sym c.in_ok-name-2.ensures.entry) in
+    behind l c.args.position c.len-count.result c.len-count.ensures.len c.if-position-count.false
+    ∙ at ∙ ap (λ (n : List ℕ). Some (under n c.in_ok-name-2.named.now)) (sym c.as_str-2.ensures.value)
+    ∙ ap (λ (j : Item). Some j) (sym c.show.ensures)
+
+pub returns-clause-small : goal.returns-clause-small
+returns-clause-small c = λ some.
+    let within = c.in_ok-name-2.ensures.found.0 refl in
+    omega (
+      arith,
+      within,
+      c.len-few.ensures.len,
+      c.len-few.ensures.small,
+      c.len-count.ensures.small,
+      c.if-position-count.false,
+    )

@@ -1,0 +1,66 @@
+use Rattle.std.proofs.Common.{◌≡◌, inl, inr, List, [], ◌∷◌, ◌++◌, Contains, Some, Result, Ok, Err, map}
+use Rattle.std.proofs.Common.{refl, sym, ap, ◌∙◌, subst}
+use Rattle.std.specs.Prelude.{string_bytes, OnErr}
+use Rattle.olr_spec.specs.Queries.{CoverageQuery}
+use Rattle.olr_commands.specs.Reply.{Entry, entry}
+use Rattle.olr_commands.specs.Words.{entry_of}
+use Rattle.olr_paths.specs.Items.{Made, Item, items, made_of}
+use Rattle.olr_paths.specs.Origins.{Begins}
+use Rattle.olr_paths.proofs.OriginLemmas.{begins_add}
+use Rattle.olr_paths.proofs.path_list.PathList.add.Goals as goal
+
+so_on_err : {T E A : Type 0} (r : Result T E) → A → OnErr r A
+so_on_err (Ok _) a = tt
+so_on_err (Err _) a = a
+
+pub returns-clause-added : goal.returns-clause-added
+returns-clause-added g c =
+    let m : Made = made_of c.in_ok-published.published in
+    let one = c.in_ok-entry.field-0 in
+    let is = items c.args.self.now in
+    let name = string_bytes c.args.name in
+    let returned : entry_of one ≡ entry name m.answer =
+    c.in_ok-entry.ensures ∙ ap (λ n. entry n m.answer) c.as_str.ensures.value in (
+      m,
+      c.in_ok-published.ensures.made,
+      c.in_ok-put_last.ensures.ok
+          ∙ (λ i. is ++ record {
+            name = name;
+            path = c.in_ok-new.ensures.ok i;
+            made =
+                Some (made_of (c.in_ok-new-2.ensures.ok i));
+          } ∷ []),
+      ap (map entry_of) (c.in_ok-push.ensures.items ∙ ap (λ es. es ++ one ∷ []) c.in_ok-entries.ensures.items)
+          ∙ ap (λ (e : Entry). e ∷ []) returned,
+    )
+
+pub returns-clause-counted : goal.returns-clause-counted
+returns-clause-counted g c = c.in_ok-published.ensures.counted
+
+pub returns-clause-searches : goal.returns-clause-searches
+returns-clause-searches g c = c.in_ok-published.ensures.searches
+
+pub returns-clause-settled : goal.returns-clause-settled
+returns-clause-settled g c = c.in_ok-published.ensures.settled
+
+pub returns-in_err-put_last-clause-err_work : goal.returns-in_err-put_last-clause-err_work
+returns-in_err-put_last-clause-err_work g c = so_on_err c.from_residual-in_err-put_last.result refl
+
+pub returns-clause-new_origins : goal.returns-clause-new_origins
+returns-clause-new_origins g c = λ v h.
+    let m : Made = made_of c.in_ok-published.published in
+    let is = items c.args.self.now in
+    let j : Item = record { name = string_bytes c.args.name; path = c.args.path; made = Some m } in
+    let now : items c.put_last.new.self ≡ is ++ j ∷ [] =
+    c.in_ok-put_last.ensures.ok
+    ∙ (λ i. is ++ record {
+      name = string_bytes c.args.name;
+      path = c.in_ok-new.ensures.ok i;
+      made =
+          Some (made_of (c.in_ok-new-2.ensures.ok i));
+    } ∷ []) in
+    elim (begins_add is j v (subst (λ (js : List Item). Begins js v) now h)) [
+      | inl a ↦ inl a
+      | inr b ↦ inr (c.in_ok-note_queries.ensures.queries v
+          (subst (λ (ls : List CoverageQuery). Contains ls v) (sym c.deref.ensures.value) b))
+    ]

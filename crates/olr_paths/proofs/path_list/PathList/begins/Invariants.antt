@@ -1,0 +1,10 @@
+use Rattle.std.proofs.Common.{Contains, take}
+use Rattle.olr_spec.specs.Queries.{CoverageQuery}
+use Rattle.olr_paths.specs.Items.{items}
+use Rattle.olr_paths.specs.Origins.{Begins}
+use Rattle.olr_paths.proofs.path_list.PathList.begins.Given as goal
+
+-- the nodes where the coverage queries of the paths so far begin are in the list
+abbrev pub invariant-loop-position : goal.invariant-loop-position
+invariant-loop-position l = (v : CoverageQuery) → Begins (take l.position (items l.self)) v →
+    Contains l.new_origins.items v

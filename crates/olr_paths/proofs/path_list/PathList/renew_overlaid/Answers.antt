@@ -1,0 +1,98 @@
+use Rattle.std.proofs.Common.{Bor, ◌≡◌, ◌++◌, ◌∙◌, List, Option, Some, None, map, inl, inr, refl, ap, sym, subst}
+use Rattle.std.proofs.Common.{unwrap_or}
+use Rattle.std.specs.Prelude.{option_map}
+use Rattle.olr_spec.specs.Map.{Map}
+use Rattle.olr_commands.specs.Reply.{Entry}
+use Rattle.olr_commands.specs.Words.{entry_of}
+use Rattle.olr_paths.specs.Items.{Item, items, all_named}
+use Rattle.olr_paths.specs.Origins.{Begins}
+use Rattle.olr_paths.specs.Changes.{Reported, IsBefore, AreRemade}
+use Rattle.olr_paths.specs.Touching.{nodes_of, lines_of, changed_of}
+use Rattle.olr_paths.specs.Laying.{TakesNone, overlay_changes, under_overlay}
+use Rattle.olr_paths.specs.Renewing.{all_put, puts_of, after_renewal}
+use Rattle.olr_paths.specs.declared.path_list.PathList.{PathList}
+use Rattle.olr_paths.specs.declared.overlay.Overlay.{Overlay}
+use Rattle.olr_paths.specs.declared.renewal.Renewal.{Renewal}
+use Rattle.olr_paths.proofs.OriginLemmas.{begins_all_put}
+use Rattle.olr_paths.proofs.Changed.{grown_differ, put_on_overlaid}
+use Rattle.olr_paths.proofs.NotedPositions.{all_encoded}
+use Rattle.olr_paths.proofs.path_list.PathList.renew_overlaid.Goals as goal
+
+-- the results, stored in the list with the new paths at its end
+module _ (before : List Item) (is : List Item) (o : Overlay) (r : Renewal) (new : List Item)
+    (keeps : TakesNone (overlay_changes o))
+    (returned : Reported before (after_renewal r (under_overlay is o)) (map entry_of r.entries.items))
+    (put : new ≡ all_put (is ++ items o.added) (puts_of r.fresh.items)) where
+  renewed : new ≡ after_renewal r (under_overlay is o)
+  renewed =
+      put ∙ put_on_overlaid (overlay_changes o) before is (items o.added) (puts_of r.fresh.items)
+      (map entry_of r.entries.items)
+      keeps returned
+
+before_is : (o : Option (Bor PathList)) (b : Bor PathList) →
+    items (unwrap_or o b).now ≡ unwrap_or (option_map (λ (x : Bor PathList). items x.now) o) (items b.now)
+before_is None b = refl
+before_is (Some x) b = refl
+
+pub returns-clause-new_origins : goal.returns-clause-new_origins
+returns-clause-new_origins g c = λ v h.
+    let same =
+    renewed (items c.unwrap_or.result.now) (items c.args.self.now) c.args.overlay.now c.in_ok-fresh.field-0
+    (items c.put_in.new.list) c.requires.keeps c.in_ok-fresh.ensures.reported c.in_ok-put_in.ensures.ok in
+    elim (begins_all_put (under_overlay (items c.args.self.now) c.args.overlay.now)
+    (puts_of c.in_ok-fresh.field-0.fresh.items) v (subst (λ (is : List Item). Begins is v) same h)) [
+      | inl a ↦ inl a
+      | inr b ↦ inr (c.in_ok-fresh.ensures.new_origins v b)
+    ]
+
+pub returns-clause-renewed : goal.returns-clause-renewed
+returns-clause-renewed g c =
+    let same =
+    renewed (items c.unwrap_or.result.now) (items c.args.self.now) c.args.overlay.now c.in_ok-fresh.field-0
+    (items c.put_in.new.list) c.requires.keeps c.in_ok-fresh.ensures.reported c.in_ok-put_in.ensures.ok in
+    let N = g.M.MapRead.map c.args.map.now in
+    let t = c.args.touched.now in
+    let overlaid = under_overlay (items c.args.self.now) c.args.overlay.now in
+    subst (λ (js : List Item). (L : Map) → IsBefore L N (nodes_of t) (lines_of t) (changed_of t) overlaid →
+    AreRemade N overlaid js) (sym same) c.in_ok-fresh.ensures.renewed
+
+pub returns-clause-named : goal.returns-clause-named
+returns-clause-named g c =
+    let same =
+    renewed (items c.unwrap_or.result.now) (items c.args.self.now) c.args.overlay.now c.in_ok-fresh.field-0
+    (items c.put_in.new.list) c.requires.keeps c.in_ok-fresh.ensures.reported c.in_ok-put_in.ensures.ok in
+    ap all_named same ∙ c.in_ok-fresh.ensures.named
+
+pub returns-clause-reported : goal.returns-clause-reported
+returns-clause-reported g c =
+    let same =
+    renewed (items c.unwrap_or.result.now) (items c.args.self.now) c.args.overlay.now c.in_ok-fresh.field-0
+    (items c.put_in.new.list) c.requires.keeps c.in_ok-fresh.ensures.reported c.in_ok-put_in.ensures.ok in
+    let es : List Entry = map entry_of c.in_ok-fresh.field-0.entries.items in
+    let returned : Reported (items c.unwrap_or.result.now) (items c.put_in.new.list) es =
+    subst (λ (js : List Item). Reported (items c.unwrap_or.result.now) js es) (sym same)
+    c.in_ok-fresh.ensures.reported in
+    subst (λ (before : List Item). Reported before (items c.put_in.new.list) es)
+    (ap (λ (b : Bor PathList). items b.now) c.unwrap_or.ensures ∙ before_is c.args.before _) returned
+
+pub put_in-requires : goal.put_in-requires
+put_in-requires g c =
+    grown_differ (overlay_changes c.args.overlay.now) (items c.args.self.now) (items c.args.overlay.now.added)
+    c.requires.keeps c.requires.names
+
+pub invariant_of-self : goal.invariant_of-self
+invariant_of-self g c =
+    let l = c.put_in.new.list in
+    let before = items c.unwrap_or.result.now in
+    let es : List Entry = map entry_of c.in_ok-fresh.field-0.entries.items in
+    let same =
+    renewed before (items c.args.self.now) c.args.overlay.now c.in_ok-fresh.field-0 (items l) c.requires.keeps
+    c.in_ok-fresh.ensures.reported c.in_ok-put_in.ensures.ok in
+    record {
+      long = l.long;
+      ascend = l.ascend;
+      noted = l.noted;
+      encoded =
+          λ _. all_encoded before l.paths.entries es
+          (subst (λ (is : List Item). Reported before is es) (sym same) c.in_ok-fresh.ensures.reported);
+    }

@@ -1,0 +1,49 @@
+use Rattle.std.proofs.Common.{◌≡◌, inl, inr, List, [], ◌∷◌, ◌++◌, Contains, Some, sym, ap, ◌∙◌, subst}
+use Rattle.std.specs.Prelude.{map}
+use Rattle.olr_spec.specs.Queries.{CoverageQuery}
+use Rattle.olr_commands.specs.Reply.{Entry, entry}
+use Rattle.olr_commands.specs.Words.{entry_of}
+use Rattle.olr_paths.specs.Items.{Made, Item, items, made_of}
+use Rattle.olr_paths.specs.Changes.{set_item}
+use Rattle.olr_paths.specs.Origins.{Begins}
+use Rattle.olr_paths.proofs.OriginLemmas.{begins_set}
+use Rattle.olr_paths.proofs.path_list.PathList.set.Goals as goal
+
+pub returns-clause-set : goal.returns-clause-set
+returns-clause-set g c =
+    let m : Made = made_of c.in_ok-published.published in
+    let name = c.args.name.now in
+    let none : map entry_of c.new-entries.result.items ≡ [] = ap (map entry_of) c.new-entries.ensures.items in (
+      m,
+      c.in_ok-published.ensures.made,
+      c.in_ok-put_other.ensures.ok
+          ∙ (λ i. map (set_item name (c.in_ok-new.ensures.ok i) (Some (made_of (c.in_ok-new-2.ensures.ok i))))
+          (items c.args.self.now)),
+      elim c.in_ok-push_if_changed.ensures [
+        | inl t ↦ inl (t.0, t.1 ∙ none)
+        | inr t ↦ inr (t.0, t.1 ∙ ap (λ (es : List Entry). es ++ entry name m.answer ∷ []) none)
+      ],
+    )
+
+pub returns-clause-counted : goal.returns-clause-counted
+returns-clause-counted g c = c.in_ok-published.ensures.counted
+
+pub returns-clause-searches : goal.returns-clause-searches
+returns-clause-searches g c = c.in_ok-published.ensures.searches
+
+pub returns-clause-settled : goal.returns-clause-settled
+returns-clause-settled g c = c.in_ok-published.ensures.settled
+
+pub returns-clause-new_origins : goal.returns-clause-new_origins
+returns-clause-new_origins g c = λ v h.
+    let m : Made = made_of c.in_ok-published.published in
+    let name = c.args.name.now in
+    let is = items c.args.self.now in
+    let now : items c.put_other.new.self ≡ map (set_item name c.args.path (Some m)) is =
+    c.in_ok-put_other.ensures.ok
+    ∙ (λ i. map (set_item name (c.in_ok-new.ensures.ok i) (Some (made_of (c.in_ok-new-2.ensures.ok i)))) is) in
+    elim (begins_set name c.args.path (Some m) is v (subst (λ (js : List Item). Begins js v) now h)) [
+      | inl a ↦ inl a
+      | inr b ↦ inr (c.in_ok-note_queries.ensures.queries v
+          (subst (λ (ls : List CoverageQuery). Contains ls v) (sym c.deref.ensures.value) b))
+    ]

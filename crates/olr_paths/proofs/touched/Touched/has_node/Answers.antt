@@ -1,9 +1,0 @@
-use Rattle.std.proofs.Common.{◌∙◌}
-use Rattle.olr_spec.proofs.RisingLists.{found_has}
-use Rattle.olr_paths.proofs.touched.Touched.has_node.Goals as goal
-
-pub returns : goal.returns
-returns c =
-    c.is_ok.ensures.value
-    ∙ found_has c.args.self.now.nodes.items c.args.node c.binary_search.result c.args.self.now.nodes_rise
-    (rw c.deref.ensures.value at c.binary_search.ensures.position)

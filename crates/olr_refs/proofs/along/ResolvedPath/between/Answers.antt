@@ -1,0 +1,21 @@
+use Rattle.std.proofs.Common.{arith}
+use Rattle.olr_refs.proofs.Stretches.{dm_stretch}
+use Rattle.olr_refs.proofs.LegLemmas.{between_is}
+use Rattle.olr_refs.proofs.along.ResolvedPath.between.Goals as goal
+
+pub overflow_sub-result : goal.overflow_sub-result
+overflow_sub-result g c =
+    let sum =
+    dm_stretch (g.M.MapRead.map c.args.self.now.map.now) c.args.self.now.lines.now c.args.self.now.distances.now
+    c.args.i c.args.j c.args.self.now.measured c.requires.order c.requires.within in omega arith
+
+pub returns-clause-value : goal.returns-clause-value
+returns-clause-value g c =
+    let sum =
+    dm_stretch (g.M.MapRead.map c.args.self.now.map.now) c.args.self.now.lines.now c.args.self.now.distances.now
+    c.args.i c.args.j c.args.self.now.measured c.requires.order c.requires.within in omega arith
+
+pub returns-clause-legs : goal.returns-clause-legs
+returns-clause-legs g c =
+    between_is (g.M.MapRead.map c.args.self.now.map.now) c.args.self.now.lines.now c.args.self.now.distances.now
+    c.args.i c.args.j c.args.self.now.measured c.requires.order c.requires.within

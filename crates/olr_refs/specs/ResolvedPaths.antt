@@ -1,0 +1,27 @@
+-- What a value states about its lines and distances has at most one proof, as the compiler requires for a fact that a
+-- value carries.
+use Rattle.std.specs.Prelude.{ℕ, List, [], ◌∷◌}
+use Rattle.std.specs.Coded.{Coded-set, coded_ℕ, coded_bool}
+use Rattle.olr_spec.specs.Map.{Map, start, end}
+use Rattle.olr_spec.specs.Routes.{IsRoute}
+use Rattle.olr_spec.specs.Extension.{first, last, AreJoined}
+use Rattle.olr_refs.specs.Along.{AreDistances}
+
+pub IsRoute-prop : (M : Map) (s t : ℕ) (xs : List ℕ) → IsProp (IsRoute M s t xs)
+IsRoute-prop M s t [] = Coded-set coded_ℕ s t
+IsRoute-prop M s t (x ∷ xs) =
+    λ p q i. (
+      Coded-set coded_bool _ _ p.0 q.0 i,
+      Coded-set coded_ℕ _ _ p.1 q.1 i,
+      IsRoute-prop M (end M x) t xs p.2
+          q.2 i,
+    )
+
+pub AreJoined-prop : (M : Map) (ls : List ℕ) → IsProp (AreJoined M ls)
+AreJoined-prop M ls = IsRoute-prop M (start M (first ls)) (end M (last ls)) ls
+
+pub AreDistances-prop : (M : Map) (ls ds : List ℕ) → IsProp (AreDistances M ls ds)
+AreDistances-prop M ls ds = λ d e i. record {
+  long = Coded-set coded_ℕ _ _ d.long e.long i;
+  each = λ k h. Coded-set coded_ℕ _ _ (d.each k h) (e.each k h) i;
+}

@@ -1,0 +1,180 @@
+-- What is reported of one path that is added, replaced or dropped, and of a list that was renewed.
+use Rattle.std.proofs.Common.{inl, inr, ◌⊎◌, ◌≡◌, ◌≢◌, ℕ, Bool, true, false, cond, not, List, [], ◌∷◌, ◌++◌, map}
+use Rattle.std.proofs.Common.{filter, Option, Some, None, is_some, Ok, refl, sym, ap, ◌∙◌, subst}
+use Rattle.std.specs.Prelude.{option_map, if◌then◌else◌}
+use Rattle.std.proofs.lemmas.Bool.{cases_Bool}
+use Rattle.olr_spec.specs.Map.{Map, Edit, edited, HasCoord}
+use Rattle.olr_spec.specs.Extension.{Path}
+use Rattle.olr_spec.proofs.EditLemmas.{edits_keep}
+use Rattle.olr_spec.specs.Encoding.{Answer}
+use Rattle.olr_commands.specs.State.{Named, same_name, path_named, NamesDiffer, IsContent}
+use Rattle.olr_commands.specs.Reply.{Entry, entry, Differences}
+use Rattle.olr_commands.proofs.NameLemmas.{not_named, same_is}
+use Rattle.olr_paths.specs.Items.{Made, Item, IsEncodingOf, AreEncodings, named_of, all_named, made_in, answer_in}
+use Rattle.olr_paths.specs.Changes.{AreRemade, Reported, Follows, set_item}
+use Rattle.olr_register.proofs.Renewed.{remade_made}
+use Rattle.olr_register.proofs.Replies.{planned_changes}
+use Rattle.olr_register.proofs.Listed.{made_add, made_set, made_drop}
+use Rattle.olr_paths.proofs.Following.{follows_self}
+use Rattle.olr_register.proofs.Followed.{follows_same, follows_drop, follows_untold}
+
+-- ---- added
+
+-- there are no results under an unused name
+not_made : (is : List Item) (name : List ℕ) → is_some (path_named (all_named is) name) ≡ false → made_in is name ≡ None
+not_made [] name h = refl
+not_made (i ∷ is) name h =
+    let p = not_named (named_of i) (all_named is) name h in
+    ap (λ (b : Bool). if b then i.made else made_in is name) p.0 ∙ not_made is name p.1
+
+reported_last : (before js : List Item) (j : Item) (A : Answer) (es : List Entry) →
+    option_map (λ m. m.answer) j.made ≡ Some A → answer_in before j.name ≢ Some A → Reported before js es →
+    Reported before (js ++ j ∷ []) (es ++ entry j.name A ∷ [])
+reported_last before [] j A es made new r =
+    (A, [], made, refl, inr (new, ap (λ (fs : List Entry). fs ++ entry j.name A ∷ []) r))
+reported_last before (k ∷ js) j A es made new r = (
+  r.0,
+  r.1 ++ entry j.name A ∷ [],
+  r.2,
+  reported_last before js j A r.1 made new r.3,
+  elim r.4 [
+    | inl h ↦ inl (h.0, ap (λ (fs : List Entry). fs ++ entry j.name A ∷ []) h.1)
+    | inr h ↦ inr (h.0, ap (λ (fs : List Entry). fs ++ entry j.name A ∷ []) h.1)
+  ],
+)
+
+pub reported_add : (M : Map) (is : List Item) (name : List ℕ) (path : Path) (m : Made) (es : List Entry) →
+    IsContent (record { map = M; paths = all_named is }) → AreEncodings M is
+    → is_some (path_named (all_named is) name) ≡ false → IsEncodingOf M path m → es ≡ entry name m.answer ∷ []
+    → Differences (record { map = M; paths = all_named is })
+    (record { map = M; paths = all_named (is ++ record { name = name; path = path; made = Some m } ∷ []) }) es
+reported_add M is name path m es content a free right returned =
+    let j : Item = record { name = name; path = path; made = Some m } in
+    let was : answer_in is name ≡ None = ap (option_map (λ (n : Made). n.answer)) (not_made is name free) in
+    let new : answer_in is name ≢ Some m.answer = λ e. let no : ◌≡◌ {A = Option Answer} None (Some m.answer) =
+    sym was ∙ e in absurd cc in
+    planned_changes M M is (is ++ j ∷ []) es content a (made_add M is name path m a right)
+    (subst (Reported is (is ++ j ∷ [])) (sym returned)
+    (reported_last is is j m.answer [] refl new (follows_untold M is is a (follows_self is content.names))))
+
+-- ---- replaced
+
+-- no path has the name, or one has it
+set_absent : (name : List ℕ) (path : Path) (made : Option Made) (is : List Item) →
+    is_some (path_named (all_named is) name) ≡ false → map (set_item name path made) is ≡ is
+set_absent name path made [] h = refl
+set_absent name path made (i ∷ is) h =
+    let p = not_named (named_of i) (all_named is) name h in
+    let one : set_item name path made i ≡ i =
+    ap (λ (b : Bool). if b then record { name = i.name; path = path; made = made } else i) p.0 in
+    let rest = set_absent name path made is p.1 in
+    λ k. one k ∷ rest k
+
+reported_if_set : (M : Map) (before : List Item) (name : List ℕ) (path : Path) (m : Made) →
+    answer_in before name ≢ Some m.answer
+    → (js : List Item) → NamesDiffer (all_named js) → is_some (path_named (all_named js) name) ≡ true →
+    AreEncodings M js → Follows before js →
+    Reported before (map (set_item name path (Some m)) js) (entry name m.answer ∷ [])
+reported_if_set M before name path m new [] d h a f = absurd cc
+reported_if_set M before name path m new (j ∷ js) d h a f =
+    elim (cases_Bool (same_name j.name name)) [
+      | inl e ↦
+          let is : j.name ≡ name = same_is j.name name e in
+          let here : record { name = j.name; path = path; made = Some m } ≡ set_item name path (Some m) j =
+          ap (λ (b : Bool). if b then record { name = j.name; path = path; made = Some m } else j) (sym e) in
+          let free : is_some (path_named (all_named js) name) ≡ false =
+          ap (λ (n : List ℕ). is_some (path_named (all_named js) n)) (sym is) ∙ d.0 in
+          let rest : Reported before (map (set_item name path (Some m)) js) [] =
+          subst (λ (ks : List Item). Reported before ks []) (sym (set_absent name path (Some m) js free))
+          (follows_untold M before js a.1 f.1) in
+          subst (λ (k : Item). Reported before (k ∷ map (set_item name path (Some m)) js) (entry name m.answer ∷ []))
+          here (
+            m.answer,
+            [],
+            refl,
+            rest,
+            inr (
+              (λ had. new (ap (answer_in before) (sym is) ∙ had)),
+              ap (λ (n : List ℕ). entry n m.answer ∷ []) (sym is),
+            ),
+          )
+      | inr e ↦
+          let here : j ≡ set_item name path (Some m) j =
+          ap (λ (b : Bool). if b then record { name = j.name; path = path; made = Some m } else j) (sym e) in
+          let there : is_some (path_named (all_named js) name) ≡ true =
+          ap (λ (b : Bool). is_some (cond b (Some j.path) (path_named (all_named js) name))) (sym e) ∙ h in
+          let rest = reported_if_set M before name path m new js d.1 there a.1 f.1 in
+          let untold = follows_untold M before (j ∷ []) (a.0, tt) (f.0, tt) in
+          subst (λ (k : Item). Reported before (k ∷ map (set_item name path (Some m)) js) (entry name m.answer ∷ []))
+          here (
+            untold.0,
+            entry name m.answer ∷ [],
+            untold.2,
+            rest,
+            elim untold.4 [
+              | inl u ↦ inl (u.0, refl)
+              | inr u ↦
+                  absurd (let no : ◌≡◌ {A = List Entry} [] (entry j.name untold.0 ∷ untold.1) = u.1 in cc)
+            ],
+          )
+    ]
+
+pub reported_set : (M : Map) (is : List Item) (name : List ℕ) (path : Path) (m : Made) (es : List Entry) →
+    IsContent (record { map = M; paths = all_named is }) → AreEncodings M is
+    → is_some (path_named (all_named is) name) ≡ true → IsEncodingOf M path m
+    → ((answer_in is name ≡ Some m.answer) × (es ≡ []))
+    ⊎ ((answer_in is name ≢ Some m.answer) × (es ≡ entry name m.answer ∷ []))
+    → Differences (record { map = M; paths = all_named is })
+    (record { map = M; paths = all_named (map (set_item name path (Some m)) is) }) es
+reported_set M is name path m es content a taken right returned =
+    let made = made_set M is name path m a right in
+    let self = follows_self is content.names in
+    planned_changes M M is (map (set_item name path (Some m)) is) es content a made
+    (elim returned [
+      | inl h ↦ subst (Reported is (map (set_item name path (Some m)) is)) (sym h.1)
+          (follows_untold M is (map (set_item name path (Some m)) is) made (follows_same is is name path m h.0 self))
+      | inr h ↦ subst (Reported is (map (set_item name path (Some m)) is)) (sym h.1)
+          (reported_if_set M is name path m h.0 is content.names taken a self)
+    ])
+
+-- ---- dropped
+
+pub reported_drop : (M : Map) (is : List Item) (name : List ℕ) → IsContent (record { map = M; paths = all_named is }) →
+    AreEncodings M is
+    → Differences (record { map = M; paths = all_named is })
+    (record { map = M; paths = all_named (filter (λ i. not (same_name i.name name)) is) }) []
+reported_drop M is name content a =
+    let left = made_drop M is name a in
+    planned_changes M M is (filter (λ i. not (same_name i.name name)) is) [] content a left
+    (follows_untold M is (filter (λ i. not (same_name i.name name)) is) left
+    (follows_drop is is name (follows_self is content.names)))
+
+-- ---- renewed
+
+-- what a renewal leaves and reports, on the map after an edit or a batch
+pub record RenewedAll (M N : Map) (before js : List Item) (es : List Entry) : Type 0 where
+  pub made : AreEncodings N js
+  pub content : IsContent (record { map = N; paths = all_named js })
+  pub differences : Differences (record { map = M; paths = all_named before })
+      (record { map = N; paths = all_named js }) es
+
+pub renewed_all : (M N : Map) (before is js : List Item) (es : List Entry) →
+    IsContent (record { map = M; paths = all_named before }) → IsContent (record { map = N; paths = all_named is })
+    → AreEncodings M before → AreRemade N is js → all_named js ≡ all_named is → Reported before js es →
+    RenewedAll M N before js es
+renewed_all M N before is js es content later was remade names reported =
+    let made = remade_made N is js remade in
+    record {
+      made = made;
+      content = subst (λ (ps : List Named). IsContent (record { map = N; paths = ps })) (sym names) later;
+      differences = planned_changes M N before js es content was made reported;
+    }
+
+-- of one edit
+pub renewed_edit : (M N : Map) (e : Edit) (is js : List Item) (es : List Entry) →
+    IsContent (record { map = M; paths = all_named is }) → HasCoord e → edited M e ≡ Ok N → AreEncodings M is
+    → AreRemade N is js → all_named js ≡ all_named is → Reported is js es → RenewedAll M N is js es
+renewed_edit M N e is js es content place ok was remade names reported =
+    let later : IsContent (record { map = N; paths = all_named is }) =
+    record { map = edits_keep M N e content.map place ok; paths = content.paths; names = content.names } in
+    renewed_all M N is is js es content later was remade names reported

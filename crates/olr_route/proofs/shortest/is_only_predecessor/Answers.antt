@@ -1,0 +1,75 @@
+use Rattle.std.proofs.Common.{◌≡◌, ◌<◌, ◌≤◌, ℕ, Some, Option, length, get_or, refl, sym, subst, ap, ◌∙◌, arith, ⊎_elim}
+use Rattle.std.proofs.lemmas.Bool.{cases_lt}
+use Rattle.std.proofs.lemmas.Grind.{get_or_default_zero}
+use Rattle.olr_route.specs.Labels.{dist_at}
+use Rattle.olr_route.specs.Ends.{FartherThan}
+use Rattle.olr_route.proofs.EqualLemmas.{differ, agree}
+use Rattle.olr_route.proofs.ReadLemmas.{enters, entering}
+use Rattle.olr_route.proofs.shortest.is_only_predecessor.Goals as goal
+use Rattle.olr_route.proofs.shortest.is_only_predecessor.Goals.{then-ne+else-is_within, else-ne}
+
+pub start_of-from-requires : goal.start_of-from-requires
+start_of-from-requires g c =
+    (enters (g.M.MapRead.map c.args.map.now) c.end_of-to.result.0 c.loop-other.other-index c.other-item.result
+    c.in_lines-other-items.result.now c.in_lines-other-items.ensures c.loop-other-test.true c.other-item.is).0
+
+pub returns-then-is_within : goal.returns-then-is_within
+returns-then-is_within g c =
+    let M = g.M.MapRead.map c.args.map.now in
+    let x = c.other-item.result in
+    let r =
+    enters M c.end_of-to.result.0 c.loop-other.other-index x c.in_lines-other-items.result.now
+    c.in_lines-other-items.ensures c.loop-other-test.true c.other-item.is in
+    let near = c.is_within.ensures.0 c.if-is_within.true in
+    let le = near.2 in
+    let long = c.start_of-from.ensures.length in (
+      λ h. let never : ⊥ = cc in absurd never,
+      λ alone.
+          let same : x ≡ c.args.line =
+          alone x c.in-Some.dist r.0 (r.1 ∙ c.end_of-to.ensures.end)
+          (ap (dist_at c.args.labels.now) (sym c.end_of-to.ensures.end) ∙ sym c.in-Some.ensures)
+          near.0 (ap (dist_at c.args.labels.now) (sym c.start_of-from.ensures.start) ∙ near.1) (omega arith) in
+          absurd (differ x c.args.line c.if-ne.ensures same),
+    )
+
+pub loop-other-preserved : goal.loop-other-preserved
+loop-other-preserved g c =
+    let M = g.M.MapRead.map c.args.map.now in
+    let x = c.other-item.result in
+    let items = c.in_lines-other-items.result.now in
+    let is : x ≡ get_or items c.loop-other.other-index 0 =
+    c.other-item.is ∙ get_or_default_zero items c.loop-other.other-index x c.loop-other-test.true in
+    let P : ℕ → Type 0 = λ k. FartherThan M c.args.labels.now c.args.line c.in-Some.dist k in
+    let here : P x = elim c.if-ne.branch [
+      | then-ne+else-is_within w ↦ λ d at le.
+          let long = w.start_of-from.ensures.length in
+          let yes =
+          w.is_within.ensures.1 (d, ap (dist_at c.args.labels.now) w.start_of-from.ensures.start ∙ at, omega arith) in
+          let never : ⊥ = cc (yes, w.if-is_within.false) in absurd never
+      | else-ne w ↦ λ d at le. agree x c.args.line w.if-ne.ensures
+    ] in
+    λ j lt. ⊎_elim
+    (λ (low : j < c.loop-other.other-index). c.loop-other.invariant j low)
+    (λ (high : c.loop-other.other-index ≤ j).
+    let same : j ≡ c.loop-other.other-index = omega arith in
+    subst P (is ∙ ap (λ (n : ℕ). get_or items n 0) (sym same)) here)
+    (cases_lt j c.loop-other.other-index)
+
+pub returns : goal.returns
+returns g c =
+    let M = g.M.MapRead.map c.args.map.now in
+    let items = c.in_lines-other-items.result.now in
+    let past : length items ≤ c.loop-other.other-index = c.loop-other-test.false in (
+      λ h y dist known to at.
+          let there =
+          entering M c.end_of-to.result.0 y items c.in_lines-other-items.ensures known
+          (to ∙ sym c.end_of-to.ensures.end) in
+          let lt = there.1 in
+          let both : ◌≡◌ {A = Option ℕ} (Some c.in-Some.dist) (Some dist) =
+          c.in-Some.ensures ∙ ap (dist_at c.args.labels.now) c.end_of-to.ensures.end ∙ at in
+          let same : c.in-Some.dist ≡ dist = cc in
+          subst (λ (n : ℕ). FartherThan M c.args.labels.now c.args.line n y) same
+          (subst (λ (k : ℕ). FartherThan M c.args.labels.now c.args.line c.in-Some.dist k) there.2
+          (c.loop-other.invariant there.0 (omega arith))),
+      λ h. refl,
+    )

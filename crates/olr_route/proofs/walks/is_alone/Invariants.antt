@@ -1,7 +1,0 @@
-use Rattle.std.proofs.Common.{◌<◌, ℕ, get_or}
-use Rattle.olr_route.specs.Ends.{FartherThan}
-use Rattle.olr_route.proofs.walks.is_alone.Given as goal
-
-abbrev pub invariant-loop-other : goal.invariant-loop-other
-invariant-loop-other g l =
-    (j : ℕ) → j < l.other-index → FartherThan (g.M.MapRead.map l.map) l.labels l.line l.dist (get_or l.other-items j 0)

@@ -1,9 +1,0 @@
-use Rattle.std.proofs.Common.{ℕ, take}
-use Rattle.olr_spec.specs.Walks.{Walk}
-use Rattle.olr_route.specs.Labels.{SoleWithin}
-use Rattle.olr_route.proofs.walks.is_sole.Given as goal
-
-abbrev pub invariant-loop-line : goal.invariant-loop-line
-invariant-loop-line g l =
-    (v : ℕ) → Walk (g.M.MapRead.map l.map) l.labels.source v (take l.line-index l.lines) →
-    SoleWithin (g.M.MapRead.map l.map) l.labels v (take l.line-index l.lines)

@@ -1,0 +1,15 @@
+use Rattle.std.specs.Prelude.{is_ok}
+use Rattle.olr_run.specs.Runs.{answer_text}
+use Rattle.olr_run.proofs.Answering.{text_of_answer}
+use Rattle.olr_run.proofs.answers.write_outcome.Goals as goal
+
+pub returns : goal.returns
+returns g c =
+    record {
+      text = answer_text c.carry_out-answer.result;
+      accepts = is_ok c.carry_out-answer.result;
+      writes = c.write_answer.ensures;
+      outcome = λ s represents sound.
+          let h = c.carry_out-answer.ensures s represents sound in
+          let is = text_of_answer c.carry_out-answer.result h.1 h.4 in (h.0, h.1, h.2, h.3, is.0, is.1);
+    }

@@ -1,0 +1,181 @@
+-- Routes, and the shortest path.
+use Rattle.std.proofs.Common.{◌≡◌, ◌≢◌, ℕ, ◌+◌, ◌<◌, ◌≤◌, List, [], ◌∷◌, ◌++◌, reverse, inl, inr, refl, sym, ap, ◌∙◌}
+use Rattle.std.proofs.Common.{subst, arith, IsTrue}
+use Rattle.std.proofs.lemmas.Bool.{cases_order, and_parts}
+use Rattle.std.proofs.lemmas.Bool.Decides.{nat_tests}
+use Rattle.std.proofs.lemmas.List.{reverse-append, reverse-reverse, append_cancel_right}
+use Rattle.olr_spec.specs.Map.{Map, IsMap, Line, is_good, has_node, has_line, end, dm, line_at}
+use Rattle.olr_spec.specs.Routes.{IsRoute, dm_of, FirstSmaller, PrecedesInTieOrder, Least, UniqueShortest}
+
+good_length : (l : Line) → IsTrue (is_good l) → 0 < l.len
+good_length l h = grind (arith, nat_tests, and_parts)
+
+pub positive : (M : Map) → IsMap M → (x : ℕ) → IsTrue (has_line M x) → 0 < dm M x
+positive M m x h = good_length (line_at M x) (m.good x h)
+
+-- ---- joined routes
+
+-- a good line is at most 10^6 dm long
+good_short : (l : Line) → IsTrue (is_good l) → l.len ≤ 1000000
+good_short l h = grind (arith, nat_tests, and_parts)
+
+pub line_short : (M : Map) → IsMap M → (x : ℕ) → IsTrue (has_line M x) → dm M x ≤ 1000000
+line_short M m x h = good_short (line_at M x) (m.good x h)
+
+pub dm_of-append : (M : Map) (xs ys : List ℕ) → dm_of M (xs ++ ys) ≡ dm_of M xs + dm_of M ys
+dm_of-append M [] ys = omega arith
+dm_of-append M (x ∷ xs) ys = omega (arith, dm_of-append M xs ys)
+
+pub IsRoute-append : (M : Map) (s v t : ℕ) (xs ys : List ℕ) → IsRoute M s v xs → IsRoute M v t ys →
+    IsRoute M s t (xs ++ ys)
+IsRoute-append M s v t [] ys w u = subst (λ (n : ℕ). IsRoute M n t ys) (sym w) u
+IsRoute-append M s v t (x ∷ xs) ys w u = (w.0, w.1, IsRoute-append M (end M x) v t xs ys w.2 u)
+
+-- a route to a node of the map starts at a node of the map
+pub route_start : (M : Map) → IsMap M → (s v : ℕ) (xs : List ℕ) → IsRoute M s v xs → IsTrue (has_node M v) →
+    IsTrue (has_node M s)
+route_start M m s v [] w there = subst (λ (u : ℕ). IsTrue (has_node M u)) (sym w) there
+route_start M m s v (x ∷ xs) w there = subst (λ (u : ℕ). IsTrue (has_node M u)) w.1 (m.starts x w.0)
+
+pub IsRoute-split : (M : Map) (s t : ℕ) (xs ys : List ℕ) → IsRoute M s t (xs ++ ys) → (v : ℕ) × IsRoute M s v xs
+    × IsRoute M v t ys
+IsRoute-split M s t [] ys w = (s, refl, w)
+IsRoute-split M s t (x ∷ xs) ys w = let r = IsRoute-split M (end M x) t xs ys w.2 in (r.0, (w.0, w.1, r.1), r.2)
+
+pub longer : (M : Map) → IsMap M → (s t : ℕ) (front xs : List ℕ) → IsRoute M s t (front ++ xs) →
+    dm_of M (front ++ xs) ≡ dm_of M xs → front ≡ []
+longer M m s t [] xs w e = refl
+longer M m s t (x ∷ front) xs w e = let p = positive M m x w.0 in absurd (omega (arith, dm_of-append M front xs))
+
+-- ---- the first difference
+
+-- how two lists compare
+data Compared (xs ys : List ℕ) : Type 0 where
+  below : FirstSmaller xs ys → Compared xs ys
+  above : FirstSmaller ys xs → Compared xs ys
+  shorter : (rest : List ℕ) → ys ≡ xs ++ rest → Compared xs ys
+  as_long : (rest : List ℕ) → xs ≡ ys ++ rest → Compared xs ys
+
+cons_compared : (x : ℕ) (xs ys : List ℕ) → Compared xs ys → Compared (x ∷ xs) (x ∷ ys)
+cons_compared x xs ys (below h) = below (inr (refl, h))
+cons_compared x xs ys (above h) = above (inr (refl, h))
+cons_compared x xs ys (shorter rest e) = shorter rest (ap (λ (zs : List ℕ). x ∷ zs) e)
+cons_compared x xs ys (as_long rest e) = as_long rest (ap (λ (zs : List ℕ). x ∷ zs) e)
+
+compare_lists : (xs ys : List ℕ) → Compared xs ys
+compare_lists [] ys = shorter ys refl
+compare_lists (x ∷ xs) [] = as_long (x ∷ xs) refl
+compare_lists (x ∷ xs) (y ∷ ys) =
+    let rest = compare_lists xs ys in
+    elim (cases_order x y) [
+      | inl e ↦ subst (λ (z : ℕ). Compared (x ∷ xs) (z ∷ ys)) e (cons_compared x xs ys rest)
+      | inr o ↦ elim o [ inl h ↦ below (inl h) | inr h ↦ above (inl h) ]
+    ]
+
+not_self : (xs : List ℕ) → ¬ FirstSmaller xs xs
+not_self [] h = h
+not_self (x ∷ xs) (inl h) = absurd (omega arith)
+not_self (x ∷ xs) (inr h) = not_self xs h.1
+
+with_front : (zs xs ys : List ℕ) → FirstSmaller xs ys → FirstSmaller (zs ++ xs) (zs ++ ys)
+with_front [] xs ys h = h
+with_front (z ∷ zs) xs ys h = inr (refl, with_front zs xs ys h)
+
+pub nothing_below_nil : (xs : List ℕ) → ¬ FirstSmaller xs []
+nothing_below_nil [] h = h
+nothing_below_nil (x ∷ xs) h = h
+
+-- ---- the shortest path
+
+pub not_before_itself : (M : Map) (xs : List ℕ) → ¬ PrecedesInTieOrder M xs xs
+not_before_itself M xs (inl h) = absurd (omega arith)
+not_before_itself M xs (inr h) = not_self (reverse xs) h.1
+
+-- of two equally long routes one precedes the other, or they are the same
+equally_long : (M : Map) → IsMap M → (s t : ℕ) (xs ys : List ℕ) → IsRoute M s t xs → IsRoute M s t ys →
+    dm_of M xs ≡ dm_of M ys → ¬ PrecedesInTieOrder M xs ys → ¬ PrecedesInTieOrder M ys xs →
+    Compared (reverse xs) (reverse ys) → xs ≡ ys
+equally_long M m s t xs ys w u e a b (below h) = absurd (a (inr (e, h)))
+equally_long M m s t xs ys w u e a b (above h) = absurd (b (inr (sym e, h)))
+equally_long M m s t xs ys w u e a b (shorter rest is) =
+    let split : ys ≡ reverse rest ++ xs =
+    sym (reverse-reverse ys) ∙ ap (λ (zs : List ℕ). reverse zs) is ∙ reverse-append (reverse xs) rest
+    ∙ ap (λ (zs : List ℕ). reverse rest ++ zs) (reverse-reverse xs) in
+    let none =
+    longer M m s t (reverse rest) xs (subst (λ (zs : List ℕ). IsRoute M s t zs) split u)
+    (ap (dm_of M) (sym split) ∙ sym e) in
+    sym (split ∙ ap (λ (zs : List ℕ). zs ++ xs) none)
+equally_long M m s t xs ys w u e a b (as_long rest is) =
+    let split : xs ≡ reverse rest ++ ys =
+    sym (reverse-reverse xs) ∙ ap (λ (zs : List ℕ). reverse zs) is ∙ reverse-append (reverse ys) rest
+    ∙ ap (λ (zs : List ℕ). reverse rest ++ zs) (reverse-reverse ys) in
+    let none =
+    longer M m s t (reverse rest) ys (subst (λ (zs : List ℕ). IsRoute M s t zs) split w) (ap (dm_of M) (sym split) ∙ e)
+    in
+    split ∙ ap (λ (zs : List ℕ). zs ++ ys) none
+
+pub one_least : (M : Map) → IsMap M → (s t : ℕ) (xs ys : List ℕ) → Least M s t xs → Least M s t ys → xs ≡ ys
+one_least M m s t xs ys l k =
+    elim (cases_order (dm_of M xs) (dm_of M ys)) [
+      | inl e ↦ equally_long M m s t xs ys l.route k.route e (k.first xs l.route) (l.first ys k.route)
+          (compare_lists (reverse xs) (reverse ys))
+      | inr o ↦ elim o [ inl h ↦ absurd (k.first xs l.route (inl h)) | inr h ↦ absurd (l.first ys k.route (inl h)) ]
+    ]
+
+PrecedesInTieOrder-append : (M : Map) (xs ys zs : List ℕ) → PrecedesInTieOrder M xs ys →
+    PrecedesInTieOrder M (xs ++ zs) (ys ++ zs)
+PrecedesInTieOrder-append M xs ys zs (inl h) = inl (omega (arith, dm_of-append M xs zs, dm_of-append M ys zs))
+PrecedesInTieOrder-append M xs ys zs (inr h) =
+    let e = h.0 in
+    inr (
+      omega (arith, dm_of-append M xs zs, dm_of-append M ys zs),
+      rw (reverse-append xs zs, reverse-append ys zs) (with_front (reverse zs) (reverse xs) (reverse ys) h.1),
+    )
+
+pub prefix_of_least : (M : Map) (s v t : ℕ) (xs ys : List ℕ) → Least M s t (xs ++ ys) → IsRoute M s v xs →
+    IsRoute M v t ys →
+    Least M s v xs
+prefix_of_least M s v t xs ys l w u =
+    record {
+      route = w;
+      first = λ zs z b. l.first (zs ++ ys) (IsRoute-append M s v t zs ys z u)
+          (PrecedesInTieOrder-append M zs xs ys b);
+    }
+
+pub empty_least : (M : Map) (s : ℕ) → Least M s s []
+empty_least M s =
+    record {
+      route = refl;
+      first =
+          λ ys w b. elim b [ inl h ↦ absurd (omega arith) | inr h ↦ nothing_below_nil (reverse ys) h.1 ];
+    }
+
+-- ---- the unique shortest path
+
+pub empty_unique : (M : Map) → IsMap M → (s : ℕ) → UniqueShortest M s s []
+empty_unique M m s = record { route = refl; others = λ ys w ne. nonempty ys w ne }
+  where
+    nonempty : (ys : List ℕ) → IsRoute M s s ys → ys ≢ [] → 0 < dm_of M ys
+    nonempty [] w ne = absurd (ne refl)
+    nonempty (y ∷ ys) w ne = let p = positive M m y w.0 in omega arith
+
+pub unique_least : (M : Map) (s t : ℕ) (xs : List ℕ) → UniqueShortest M s t xs → Least M s t xs
+unique_least M s t xs o =
+    record {
+      route = o.route;
+      first = λ ys w b.
+          let h = o.others ys w (λ e. not_before_itself M xs (subst (λ (zs : List ℕ). PrecedesInTieOrder M zs xs) e b))
+          in
+          elim b [ inl k ↦ absurd (omega arith) | inr k ↦ let e = k.0 in absurd (omega arith) ];
+    }
+
+pub prefix_of_unique : (M : Map) (s v t : ℕ) (xs ys : List ℕ) → UniqueShortest M s t (xs ++ ys) → IsRoute M s v xs →
+    IsRoute M v t ys →
+    UniqueShortest M s v xs
+prefix_of_unique M s v t xs ys o w u =
+    record {
+      route = w;
+      others = λ zs z ne.
+          let h = o.others (zs ++ ys) (IsRoute-append M s v t zs ys z u) (λ e. ne (append_cancel_right zs xs ys e)) in
+          omega (arith, dm_of-append M zs ys, dm_of-append M xs ys);
+    }

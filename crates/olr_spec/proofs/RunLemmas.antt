@@ -1,0 +1,228 @@
+-- From a degree-two node only one line leads on, so a run of such nodes is determined by its length.
+use Rattle.std.proofs.Common.{◌⊎◌, inl, inr, ◌≡◌, ◌≢◌, ℕ, ◌-◌, Bool, true, ◌&&◌, ◌||◌, List, [], ◌∷◌, ◌++◌, map, length}
+use Rattle.std.proofs.Common.{take, drop, ◌<◌, ◌≤◌, Option, Some, None, is_some, IsTrue, refl, sym, ap, ◌∙◌, subst}
+use Rattle.std.proofs.Common.{arith, ◌==◌, unwrap_or, length-drop, length-take, take-append-drop, append-nil}
+use Rattle.std.proofs.lemmas.Bool.{eq-eqb, cases_lt, and_parts}
+use Rattle.std.proofs.lemmas.Bool.Decides.{nat_tests}
+use Rattle.std.specs.FinMap.{get}
+use Rattle.olr_spec.specs.Map.{Map, IsMap, Line, has_line, no_line, lines_in, lines_out, start, end, has}
+use Rattle.olr_spec.specs.Routes.{dm_of}
+use Rattle.olr_spec.specs.Extension.{passing, passes_between, apart, first, last, MayPrecede, MayFollow, StartRun}
+use Rattle.olr_spec.specs.Extension.{EndRun, LongestStart, LongestEnd, Tried, Path, from_start, taken_start, limit}
+use Rattle.olr_spec.proofs.RouteLemmas.{positive, dm_of-append}
+use Rattle.olr_spec.proofs.MapLemmas.{has-lines_where, passes_at}
+
+-- ---- degree-two nodes
+
+one_of_two : (a b x : ℕ) → has (a ∷ b ∷ []) x ≡ true → (x ≡ a) ⊎ (x ≡ b)
+one_of_two a b x h = grind (arith, nat_tests)
+
+same_pair : (u w p q : ℕ) → ((p == u && q == w) || (p == w && q == u)) ≡ true → ((p ≡ u) × (q ≡ w))
+    ⊎ ((p ≡ w) × (q ≡ u))
+same_pair u w p q h = grind (arith, nat_tests)
+
+-- of the lines that enter, only one doesn't come from the far end of a given line that leaves
+one_way_in : (v : ℕ) (f g : ℕ → ℕ) (ins outs : List ℕ) (x y z : ℕ) → passes_between v (map f ins) (map g outs) ≡ true →
+    has ins x ≡ true → has ins y ≡ true → has outs z ≡ true → f x ≢ g z → f y ≢ g z → x ≡ y
+one_way_in v f g (a ∷ []) (p ∷ []) x y z h hx hy hz nx ny = grind (arith, nat_tests)
+one_way_in v f g (a ∷ b ∷ []) (p ∷ q ∷ []) x y z h hx hy hz nx ny =
+    let ends =
+    same_pair (f a) (f b) (g p) (g q)
+    (and_parts (apart v (f a) (f b)) ((g p == f a && g q == f b) || (g p == f b && g q == f a)) h).1 in
+    let cx = one_of_two a b x hx in
+    let cy = one_of_two a b y hy in
+    let cz = one_of_two p q z hz in
+    grind arith
+one_way_in v f g _ _ x y z h hx hy hz nx ny = absurd cc
+
+one_way_out : (v : ℕ) (f g : ℕ → ℕ) (ins outs : List ℕ) (x y z : ℕ) → passes_between v (map f ins) (map g outs) ≡ true →
+    has outs x ≡ true → has outs y ≡ true → has ins z ≡ true → g x ≢ f z → g y ≢ f z → x ≡ y
+one_way_out v f g (a ∷ []) (p ∷ []) x y z h hx hy hz nx ny = grind (arith, nat_tests)
+one_way_out v f g (a ∷ b ∷ []) (p ∷ q ∷ []) x y z h hx hy hz nx ny =
+    let ends =
+    same_pair (f a) (f b) (g p) (g q)
+    (and_parts (apart v (f a) (f b)) ((g p == f a && g q == f b) || (g p == f b && g q == f a)) h).1 in
+    let cx = one_of_two p q x hx in
+    let cy = one_of_two p q y hy in
+    let cz = one_of_two a b z hz in
+    grind arith
+one_way_out v f g _ _ x y z h hx hy hz nx ny = absurd cc
+
+-- a line of the map passes a test that its record passes
+known_passes : (test : Line → Bool) (o : Option Line) → is_some o ≡ true → test (unwrap_or o no_line) ≡ true →
+    passes_at test o ≡ true
+known_passes test None h t = absurd cc
+known_passes test (Some l) h t = t
+
+pub entering : (M : Map) (v x : ℕ) → IsTrue (has_line M x) → end M x ≡ v → has (lines_in M v) x ≡ true
+entering M v x h e =
+    has-lines_where M (λ l. l.to == v) x ∙ known_passes (λ l. l.to == v) (get M.lines x) h (eq-eqb (end M x) v e)
+
+pub leaving : (M : Map) (v x : ℕ) → IsTrue (has_line M x) → start M x ≡ v → has (lines_out M v) x ≡ true
+leaving M v x h e =
+    has-lines_where M (λ l. l.from == v) x ∙ known_passes (λ l. l.from == v) (get M.lines x) h (eq-eqb (start M x) v e)
+
+-- ---- runs with the same number of lines
+
+one_precedes : (M : Map) (ls : List ℕ) (x y : ℕ) → IsTrue (has_line M (first ls)) → MayPrecede M x ls →
+    MayPrecede M y ls → x ≡ y
+one_precedes M ls x y k p q =
+    let v = start M (first ls) in
+    one_way_in v (start M) (end M) (lines_in M v) (lines_out M v) x y (first ls)
+    (subst (λ (n : ℕ). passing M n ≡ true) p.joins p.through)
+    (entering M v x p.known p.joins) (entering M v y q.known q.joins) (leaving M v (first ls) k refl) p.onward q.onward
+
+one_follows : (M : Map) (ls : List ℕ) (x y : ℕ) → IsTrue (has_line M (last ls)) → MayFollow M ls x → MayFollow M ls y →
+    x ≡ y
+one_follows M ls x y k p q =
+    let v = end M (last ls) in
+    one_way_out v (start M) (end M) (lines_in M v) (lines_out M v) x y (last ls)
+    (subst (λ (n : ℕ). passing M n ≡ true) p.joins p.through)
+    (leaving M v x p.known p.joins) (leaving M v y q.known q.joins) (entering M v (last ls) k refl) p.onward q.onward
+
+pub last_push : (ls : List ℕ) (x : ℕ) → last (ls ++ x ∷ []) ≡ x
+last_push [] x = refl
+last_push (y ∷ []) x = refl
+last_push (y ∷ z ∷ ls) x = last_push (z ∷ ls) x
+
+pub first_known : (M : Map) (c ls : List ℕ) → StartRun M c ls → IsTrue (has_line M (first ls)) →
+    IsTrue (has_line M (first (c ++ ls)))
+first_known M [] ls h k = k
+first_known M (x ∷ c) ls h k = h.0.known
+
+pub same_start_run : (M : Map) (ls c d : List ℕ) → IsTrue (has_line M (first ls)) → StartRun M c ls →
+    StartRun M d ls → length c ≡ length d → c ≡ d
+same_start_run M ls [] [] k p q e = refl
+same_start_run M ls [] (y ∷ d) k p q e = absurd (omega arith)
+same_start_run M ls (x ∷ c) [] k p q e = absurd (omega arith)
+same_start_run M ls (x ∷ c) (y ∷ d) k p q e =
+    let rest : c ≡ d = same_start_run M ls c d k p.1 q.1 (omega arith) in
+    let is : x ≡ y =
+    one_precedes M (c ++ ls) x y (first_known M c ls p.1 k) p.0
+    (subst (λ (zs : List ℕ). MayPrecede M y (zs ++ ls)) (sym rest) q.0) in
+    λ i. is i ∷ rest i
+
+pub same_end_run : (M : Map) (ls c d : List ℕ) → IsTrue (has_line M (last ls)) → EndRun M ls c → EndRun M ls d →
+    length c ≡ length d → c ≡ d
+same_end_run M ls [] [] k p q e = refl
+same_end_run M ls [] (y ∷ d) k p q e = absurd (omega arith)
+same_end_run M ls (x ∷ c) [] k p q e = absurd (omega arith)
+same_end_run M ls (x ∷ c) (y ∷ d) k p q e =
+    let is : x ≡ y = one_follows M ls x y k p.0 q.0 in
+    let known : IsTrue (has_line M (last (ls ++ x ∷ []))) =
+    subst (λ (n : ℕ). IsTrue (has_line M n)) (sym (last_push ls x)) p.0.known in
+    let rest : c ≡ d =
+    same_end_run M (ls ++ x ∷ []) c d known p.1 (subst (λ (n : ℕ). EndRun M (ls ++ n ∷ []) d) (sym is) q.1)
+    (omega arith) in
+    λ i. is i ∷ rest i
+
+-- ---- parts of runs
+
+pub StartRun-back : (M : Map) (ls front c : List ℕ) → StartRun M (front ++ c) ls → StartRun M c ls
+StartRun-back M ls [] c h = h
+StartRun-back M ls (x ∷ front) c h = StartRun-back M ls front c h.1
+
+pub EndRun-front : (M : Map) (ls c back : List ℕ) → EndRun M ls (c ++ back) → EndRun M ls c
+EndRun-front M ls [] back h = tt
+EndRun-front M ls (x ∷ c) back h = (h.0, EndRun-front M (ls ++ x ∷ []) c back h.1)
+
+EndRun-back : (M : Map) (ls c : List ℕ) (x : ℕ) (back : List ℕ) → EndRun M ls (c ++ x ∷ back) →
+    IsTrue (has_line M x)
+EndRun-back M ls [] x back h = h.0.known
+EndRun-back M ls (y ∷ c) x back h = EndRun-back M (ls ++ y ∷ []) c x back h.1
+
+-- the last n elements of a list
+back_of : (n : ℕ) (d : List ℕ) → n ≤ length d → length (drop (length d - n) d) ≡ n
+back_of n d h = omega (arith, length-drop (length d - n) d)
+
+-- of two runs one is a suffix of the other
+pub start_suffix : (M : Map) (ls c d : List ℕ) → IsTrue (has_line M (first ls)) → StartRun M c ls →
+    StartRun M d ls → length c ≤ length d → (front : List ℕ) × (d ≡ front ++ c)
+start_suffix M ls c d k p q h =
+    let n = length d - length c in
+    let parts : take n d ++ drop n d ≡ d = take-append-drop n d in
+    let back : StartRun M (drop n d) ls =
+    StartRun-back M ls (take n d) (drop n d) (subst (λ (zs : List ℕ). StartRun M zs ls) (sym parts) q) in
+    let same : c ≡ drop n d = same_start_run M ls c (drop n d) k p back (sym (back_of (length c) d h)) in
+    (take n d, sym parts ∙ ap (λ (zs : List ℕ). take n d ++ zs) (sym same))
+
+pub end_prefix : (M : Map) (ls c d : List ℕ) → IsTrue (has_line M (last ls)) → EndRun M ls c → EndRun M ls d →
+    length c ≤ length d → (back : List ℕ) × (d ≡ c ++ back)
+end_prefix M ls c d k p q h =
+    let n = length c in
+    let parts : take n d ++ drop n d ≡ d = take-append-drop n d in
+    let front : EndRun M ls (take n d) =
+    EndRun-front M ls (take n d) (drop n d) (subst (λ (zs : List ℕ). EndRun M ls zs) (sym parts) q) in
+    let same : c ≡ take n d = same_end_run M ls c (take n d) k p front (omega (arith, length-take n d)) in
+    (drop n d, sym parts ∙ ap (λ (zs : List ℕ). zs ++ drop n d) (sym same))
+
+-- ---- the longest run
+
+start_no_longer : (M : Map) → IsMap M → (ls front c d : List ℕ) → d ≡ front ++ c → StartRun M d ls →
+    dm_of M d ≤ dm_of M c → c ≡ d
+start_no_longer M m ls [] c d e q h = sym e
+start_no_longer M m ls (x ∷ front) c d e q h =
+    let run : StartRun M (x ∷ (front ++ c)) ls = subst (λ (zs : List ℕ). StartRun M zs ls) e q in
+    let p = positive M m x run.0.known in
+    absurd (omega (arith, ap (dm_of M) e, dm_of-append M front c))
+
+end_no_longer : (M : Map) → IsMap M → (ls c back d : List ℕ) → d ≡ c ++ back → EndRun M ls d → dm_of M d ≤ dm_of M c →
+    c ≡ d
+end_no_longer M m ls c [] d e q h = sym (e ∙ append-nil c)
+end_no_longer M m ls c (x ∷ back) d e q h =
+    let p = positive M m x (EndRun-back M ls c x back (subst (λ (zs : List ℕ). EndRun M ls zs) e q)) in
+    absurd (omega (arith, ap (dm_of M) e, dm_of-append M c (x ∷ back)))
+
+pub longest_start : (M : Map) → IsMap M → (ls c d : List ℕ) → IsTrue (has_line M (first ls)) → LongestStart M c ls →
+    StartRun M d ls → dm_of M d ≤ limit → (front : List ℕ) × (c ≡ front ++ d)
+longest_start M m ls c d k p q w =
+    elim (cases_lt (length c) (length d)) [
+      | inl h ↦
+          let r = start_suffix M ls c d k p.run q (omega arith) in
+          let e : c ≡ d = start_no_longer M m ls r.0 c d r.1 q (p.longest d q w) in
+          absurd (omega (arith, ap (λ (zs : List ℕ). length zs) e))
+      | inr h ↦ start_suffix M ls d c k q p.run h
+    ]
+
+pub longest_end : (M : Map) → IsMap M → (ls c d : List ℕ) → IsTrue (has_line M (last ls)) → LongestEnd M ls c →
+    EndRun M ls d → dm_of M d ≤ limit → (back : List ℕ) × (c ≡ d ++ back)
+longest_end M m ls c d k p q w =
+    elim (cases_lt (length c) (length d)) [
+      | inl h ↦
+          let r = end_prefix M ls c d k p.run q (omega arith) in
+          let e : c ≡ d = end_no_longer M m ls c r.0 d r.1 q (p.longest d q w) in
+          absurd (omega (arith, ap (λ (zs : List ℕ). length zs) e))
+      | inr h ↦ end_prefix M ls d c k q p.run h
+    ]
+
+pub one_start : (M : Map) → IsMap M → (ls c d : List ℕ) → IsTrue (has_line M (first ls)) → LongestStart M c ls →
+    LongestStart M d ls → c ≡ d
+one_start M m ls c d k p q =
+    let r = longest_start M m ls c d k p q.run q.within in
+    sym (start_no_longer M m ls r.0 d c r.1 p.run (q.longest c p.run p.within))
+
+pub one_end : (M : Map) → IsMap M → (ls c d : List ℕ) → IsTrue (has_line M (last ls)) → LongestEnd M ls c →
+    LongestEnd M ls d → c ≡ d
+one_end M m ls c d k p q =
+    let r = longest_end M m ls c d k p q.run q.within in
+    sym (end_no_longer M m ls d r.0 c r.1 p.run (q.longest c p.run p.within))
+
+-- ---- the path with its extended start
+
+last_back : (xs : List ℕ) (y : ℕ) (ys : List ℕ) → last (xs ++ y ∷ ys) ≡ last (y ∷ ys)
+last_back [] y ys = refl
+last_back (x ∷ []) y ys = refl
+last_back (x ∷ z ∷ xs) y ys = last_back (z ∷ xs) y ys
+
+pub last_known : (M : Map) (xs ls : List ℕ) → 0 < length ls → IsTrue (has_line M (last ls)) →
+    IsTrue (has_line M (last (xs ++ ls)))
+last_known M xs [] h k = absurd (omega arith)
+last_known M xs (y ∷ ys) h k = subst (λ (n : ℕ). IsTrue (has_line M n)) (sym (last_back xs y ys)) k
+
+pub one_tried : (M : Map) → IsMap M → (P : Path) → 0 < length P.lines → IsTrue (has_line M (first P.lines)) →
+    IsTrue (has_line M (last P.lines)) → (b a c d : List ℕ) → Tried M P b a → Tried M P c d → (b ≡ c) × (a ≡ d)
+one_tried M m P nonempty f l b a c d p q =
+    let e : b ≡ c = one_start M m P.lines b c f p.before q.before in
+    let after : LongestEnd M (from_start M P b) d =
+    subst (λ (zs : List ℕ). LongestEnd M (from_start M P zs) d) (sym e) q.after in
+    (e, one_end M m (from_start M P b) a d (last_known M (taken_start M b P.lines) P.lines nonempty l) p.after after)

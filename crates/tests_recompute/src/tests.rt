@@ -1,0 +1,173 @@
+//! Sessions of records; each command is applied to a register and to its twin.
+
+use crate::pair::Pair;
+use made_maps::next;
+use std::process::Abort;
+use std::test::Fail;
+
+/// A path of three lines with three LRPs: a side road causes the LRP at its second node.
+const THREE_POINTS: &str = "node,1,6.12683,49.60852
+node,2,6.12838,49.60399
+node,3,6.1279,49.6035
+node,4,6.12817,49.60306
+line,10,1,2,3,2,5610,200,6.12701,49.60838,5410,6.1282,49.60413
+line,20,2,3,3,3,2000,200,6.1282,49.60389
+line,30,3,4,5,3,740,540,6.12792,49.60311
+line,99,2,3,4,3,1500
+";
+
+/// The records that the tests of sessions apply after those: registration, a road off the path, and batches.
+const SESSIONS: &[&str] = &[
+    "path,b,0,0,10
+path,a,1500,0,10,20,30
+repath,b,0,0,10
+drop-line,99
+drop-path,b
+report
+repath,b,0,0,10
+",
+    "drop-line,99
+node,6,6.129,49.604
+node,7,6.129,49.6035
+line,60,2,6,4,3,700
+line,61,6,7,4,3,1000
+line,62,7,3,4,3,700
+path,a,1500,0,10,20,30
+set-line,61,4,3,100
+set-line,61,4,3,600
+",
+    "path,a,1500,0,10,20,30
+path,b,0,0,10
+begin
+drop-line,99
+drop-line,99
+drop-path,b
+path,b,0,0,10,20
+repath,a,0,0,20,30
+begin
+commit,9
+commit,4
+abort
+begin
+line,99,2,3,4,3,1500
+path,c,0,0,30
+abort
+begin
+commit,0
+",
+];
+
+/// Records after the same ones, with the number of encodings counted after each, and how many of them retained their
+/// answer.
+const COUNTED: &[(&str, u64, u64)] = &[
+    ("path,a,1500,0,10,20,30", 1, 0),
+    ("node,5,7,50", 1, 0),
+    ("node,6,7.001,50", 1, 0),
+    ("line,50,5,6,4,3,1000", 1, 0),
+    ("path,e,0,0,50", 2, 0),
+    ("set-line,50,4,3,2000", 3, 0),
+    ("drop-line,99", 4, 0),
+    ("drop-line,20", 5, 0),
+    ("line,20,2,3,3,3,2000,200,6.1282,49.60389", 6, 0),
+    ("move,4,6.12817,49.60306", 7, 0),
+    ("begin", 7, 0),
+    ("drop-line,30", 7, 0),
+    ("line,30,3,4,5,3,740,540,6.12792,49.60311", 7, 0),
+    ("path,b,0,0,10", 7, 0),
+    ("commit,3", 9, 0),
+    ("node,8,6.13,49.604", 9, 0),
+    ("line,60,2,8,4,3,1000", 11, 0),
+    ("node,9,6.131,49.604", 11, 0),
+    // node 8 is near node 2, where the coverage query begins, and on no route that is as short as line 20
+    ("line,70,8,9,4,3,500", 12, 1),
+];
+
+/// Applies each record to the register and to its twin.
+fn all<R: Abort + AllocGlobal>(rt: &R, pair: &mut Pair, records: &str) -> Result<(), Fail> {
+    for record in records.lines() {
+        pair.step(rt, record)?;
+    }
+    Ok(())
+}
+
+/// Applies the records of three LRPs, and then those of a session, to a register and to its twin.
+fn one_session<R: Abort + AllocGlobal>(rt: &R, pair: &mut Pair, session: &str) -> Result<(), Fail> {
+    all(rt, pair, THREE_POINTS)?;
+    all(rt, pair, session)
+}
+
+/// Drops a register and its twin. Their drop is proved once here, and not again in each function that has them.
+fn let_go(_pair: Pair) {}
+
+/// The same for a new register and its twin.
+fn fresh_session<R: Abort + AllocGlobal>(rt: &R, session: &str) -> Result<(), Fail> {
+    let mut pair = Pair::new(rt.alloc());
+    let done = one_session(rt, &mut pair, session);
+    let_go(pair);
+    done
+}
+
+/// Applies each record to a register and to its twin, and compares the counts.
+fn all_counted<R: Abort + AllocGlobal>(
+    rt: &R,
+    pair: &mut Pair,
+    rows: &[(&str, u64, u64)],
+) -> Result<(), Fail> {
+    all(rt, pair, THREE_POINTS)?;
+    for (record, encodings, kept) in rows {
+        pair.step(rt, record)?;
+        assert!(rt; pair.encodings() == (*encodings, *kept), "after {record}");
+    }
+    Ok(())
+}
+
+/// The same for a new register and its twin, after the records of three LRPs.
+fn fresh_counted<R: Abort + AllocGlobal>(rt: &R, rows: &[(&str, u64, u64)]) -> Result<(), Fail> {
+    let mut pair = Pair::new(rt.alloc());
+    let done = all_counted(rt, &mut pair, rows);
+    let_go(pair);
+    done
+}
+
+/// Makes many commands on a ring. Returns how many answers were retained.
+fn many<R: Abort + AllocGlobal>(rt: &R, pair: &mut Pair, first: u64) -> Result<u64, Fail> {
+    pair.ring(rt)?;
+    let mut seed = first;
+    for _ in 0..200 {
+        seed = next(seed);
+        pair.step_by(rt, seed)?;
+    }
+    let (_, kept) = pair.encodings();
+    Ok(kept)
+}
+
+/// The same for a new register and its twin.
+fn fresh_many<R: Abort + AllocGlobal>(rt: &R, first: u64) -> Result<u64, Fail> {
+    let mut pair = Pair::new(rt.alloc());
+    let kept = many(rt, &mut pair, first);
+    let_go(pair);
+    kept
+}
+
+#[test]
+fn talks(rt: HostRuntime) -> Result<(), Fail> {
+    for session in SESSIONS {
+        fresh_session(&rt, session)?;
+    }
+    Ok(())
+}
+
+#[test]
+fn counts(rt: HostRuntime) -> Result<(), Fail> {
+    fresh_counted(&rt, COUNTED)
+}
+
+#[test]
+fn without_pattern(rt: HostRuntime) -> Result<(), Fail> {
+    let mut kept = 0u64;
+    for first in [2026, 7, 1900, 54] {
+        kept = kept.saturating_add(fresh_many(&rt, first)?);
+    }
+    assert!(rt; kept > 0, "no answer was kept");
+    Ok(())
+}

@@ -1,0 +1,149 @@
+//! What edits touched, and what a list of paths stores of earlier paths.
+ghost use Rattle.std.specs.Prelude.{◌≡◌, string_bytes};
+
+use made_maps::{Plain, STRAIGHT, line, lines, make, node, other_line, plain_map};
+use olr_map::{Edit, RoadMap};
+use olr_near::DistanceBounds;
+use olr_paths::{ChangeSet, ChangedLine, PathList, Searches};
+use olr_refs::Path;
+use olr_route::Work;
+use std::alloc::Global;
+use std::process::Abort;
+
+/// Records two nodes, and perhaps a line.
+fn note(rt: &impl Abort, touched: &mut ChangeSet, from: u32, to: u32, number: Option<u32>) {
+    let room = touched.reserve();
+    assert!(rt; room.is_ok());
+    touched.note((node(from), node(to)), number.map(line), None);
+}
+
+#[test]
+fn touched_nodes_and_lines(rt: HostRuntime) {
+    let mut touched = ChangeSet::new(rt.alloc());
+    note(&rt, &mut touched, 7, 3, Some(20));
+    note(&rt, &mut touched, 3, 3, Some(10));
+    note(&rt, &mut touched, 5, 7, Some(20));
+    note(&rt, &mut touched, 9, 9, None);
+    for number in 1..=10 {
+        let noted = number % 2 == 1 && number > 1;
+        assert!(rt; touched.has_node(node(number)) == noted, "node {number}");
+    }
+    for number in [5, 10, 15, 20, 25] {
+        let noted = number == 10 || number == 20;
+        assert!(rt; touched.has_line(line(number)) == noted, "line {number}");
+    }
+}
+
+/// Two roads that do not join: line 10 from node 1 to node 2, and line 30 from node 4 to node 5.
+const APART: &[Plain] = &[(10, 1, 2, 1000), (30, 4, 5, 1000)];
+
+/// Appends a path of one line, not encoded yet.
+fn hold(rt: &impl Abort, alloc: Global, list: &mut PathList, name: &str, number: u32) {
+    let lines = lines(alloc, &[number]).expect(rt, "memory");
+    let path = Path::new(alloc, lines, 0, 0).expect(rt, "a path");
+    assert!(rt; !list.has(name));
+    let name = String::from_str(alloc, name).expect(rt, "memory");
+    let held = list.hold(alloc, name, path);
+    assert!(rt; held.is_ok());
+}
+
+/// The list of the paths b and a on two roads, neither of them encoded yet.
+fn two_paths(rt: &impl Abort, alloc: Global) -> PathList {
+    let mut list = PathList::new(alloc);
+    hold(rt, alloc, &mut list, "b", 30);
+    hold(rt, alloc, &mut list, "a", 10);
+    list
+}
+
+/// Encodes the new paths, and those that a change of the line between two nodes may affect.
+#[tactic(auto, using(olr_register::proofs::Bounded::bounded_unknown))]
+fn renew(
+    rt: &impl Abort,
+    alloc: Global,
+    list: &mut PathList,
+    map: &RoadMap,
+    changed: (u32, u32, u32),
+) {
+    let (number, from, to) = changed;
+    let (from, to) = (node(from), node(to));
+    let mut touched = ChangeSet::new(alloc);
+    let room = touched.reserve();
+    assert!(rt; room.is_ok());
+    let change = ChangedLine {
+        from,
+        to,
+        len: 1000,
+    };
+    touched.note((from, to), Some(line(number)), Some(change));
+    // Unknown bounds cut nothing.
+    let mut bounds = DistanceBounds::new(alloc);
+    bounds.forget();
+    let mut searches = Searches::new(alloc);
+    let (mut work, mut kept) = (Work::default(), 0);
+    let renewed = list.renew(
+        alloc,
+        map,
+        &touched,
+        &bounds,
+        &mut searches,
+        &mut work,
+        &mut kept,
+    );
+    assert!(rt; renewed.is_ok());
+}
+
+/// Makes an edit, and drops its undo record.
+fn edit(rt: &impl Abort, map: &mut RoadMap, edit: Edit) {
+    let made = make(map, edit);
+    assert!(rt; made.is_ok());
+}
+
+/// Renews a list on two roads: as it is, with a longer line 30, and without line 10.
+fn renew_thrice(rt: &impl Abort, alloc: Global, list: &mut PathList) {
+    let mut map = plain_map(alloc, 5, APART).expect(rt, "a map");
+    renew(rt, alloc, list, &map, (10, 1, 2));
+    let longer = other_line(alloc, 30, 9000, STRAIGHT).expect(rt, "memory");
+    edit(rt, &mut map, longer);
+    renew(rt, alloc, list, &map, (30, 4, 5));
+    edit(rt, &mut map, Edit::DropLine(line(10)));
+    renew(rt, alloc, list, &map, (10, 1, 2));
+}
+
+/// The printed form of everything that a list stores.
+fn printed_list(rt: &impl Abort, alloc: Global, list: &PathList) -> String {
+    format!(in alloc; "{list:?}").expect(rt, "memory")
+}
+
+/// Asserts that two lists store the same.
+fn expect_alike(rt: &impl Abort, alloc: Global, list: &PathList, other: &PathList) {
+    let (found, wanted) = (
+        printed_list(rt, alloc, list),
+        printed_list(rt, alloc, other),
+    );
+    assert_eq!(rt; found.as_str(), wanted.as_str());
+}
+
+/// The list of both paths of which b was dropped before it was encoded.
+fn without_b(rt: &impl Abort, alloc: Global) -> PathList {
+    let mut list = two_paths(rt, alloc);
+    list.drop_path("b");
+    renew_thrice(rt, alloc, &mut list);
+    list
+}
+
+/// Asserts that the list of both paths stores nothing of paths that are dropped.
+fn expect_nothing_left(rt: &impl Abort, alloc: Global, mut list: PathList) {
+    let other = without_b(rt, alloc);
+    list.drop_path("b");
+    expect_alike(rt, alloc, &list, &other);
+    list.drop_path("a");
+    let none = PathList::new(alloc);
+    expect_alike(rt, alloc, &list, &none);
+}
+
+#[test]
+fn dropped_paths_leave_nothing(rt: HostRuntime) {
+    let mut list = two_paths(&rt, rt.alloc());
+    renew_thrice(&rt, rt.alloc(), &mut list);
+    expect_nothing_left(&rt, rt.alloc(), list);
+}
