@@ -15,7 +15,7 @@ use std::convert::AsStr;
 const ABOUT: &str = "Keeps published OpenLR strings correct while the road map is edited.";
 
 /// The version, and the toolchain with which it was proved, as `rt version` prints it.
-const VERSION: &str = "1.1.0, proved with rattle-kit-13b logic dac8208d650f15bf";
+const VERSION: &str = "1.1.0, proved with rattle-kit-13f logic dac8208d650f15bf";
 
 const AFTER_HELP: &str =
     "Records: node, move, drop-node, line, set-line, drop-line, path, repath, drop-path,
