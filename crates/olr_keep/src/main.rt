@@ -3,8 +3,7 @@
 //! Commands are read as CSV records from a file and from standard input. Replies are written to standard output.
 #![tactic(auto)]
 
-use olr_register::Register;
-use olr_run::{RunFault, WRONG_ARGUMENTS, program, report_fault};
+use olr_run::{RunFault, WRONG_ARGUMENTS, report_fault, run_program};
 use std::process::ExitCode;
 use std::{env, fs, io};
 
@@ -23,19 +22,22 @@ fn without_arguments(rt: &HostRuntime, error: &io::Error) -> u8 {
     WRONG_ARGUMENTS
 }
 
-fn main(rt: HostRuntime) -> ExitCode {
-    let arguments = match arguments(&rt) {
-        Ok(arguments) => arguments,
-        Err(error) => return ExitCode::from(without_arguments(&rt, &error)),
-    };
-    let mut register = Register::new(rt.alloc());
-    ExitCode::from(program(
+/// Carries out the commands of the file that the arguments name, and then those of standard input.
+fn run(rt: &HostRuntime, arguments: &[String]) -> u8 {
+    run_program(
         rt.alloc(),
-        &mut register,
-        arguments.as_slice(),
-        |name: &str| fs::open(&rt, name),
+        arguments,
+        |name: &str| fs::open(rt, name),
         rt.reader(),
-        &mut io::writer(&rt),
+        &mut io::writer(rt),
         &mut rt.stderr(),
-    ))
+    )
+}
+
+fn main(rt: HostRuntime) -> ExitCode {
+    let status = match arguments(&rt) {
+        Ok(arguments) => run(&rt, arguments.as_slice()),
+        Err(error) => without_arguments(&rt, &error),
+    };
+    ExitCode::from(status)
 }

@@ -19,4 +19,4 @@ pub use both::run_both;
 pub use ends::{RunFault, Status, exit_code};
 pub use records::{Room, run, run_bytes, run_session};
 pub use sessions::Session;
-pub use streams::{WRONG_ARGUMENTS, program, report_fault};
+pub use streams::{WRONG_ARGUMENTS, program, report_fault, run_program};

@@ -3,6 +3,7 @@
 ghost use Rattle.std.specs.Prelude.{◌≡◌, ◌≢◌, ◌≤◌, [], map, option_map};
 ghost use Rattle.clap.specs.Faults.{fault_of};
 ghost use Rattle.clap.specs.Kinds.{Kinds};
+ghost use Rattle.olr_register.specs.Registered.{Registered, nothing_registered};
 ghost use Rattle.olr_run.specs.Options.{keep_app, IsOptionsFault};
 ghost use Rattle.olr_run.specs.Ends.{Ends, Explains, ExplainsFault, Opens, OpensFile, Shows};
 ghost use Rattle.olr_run.specs.Runs as runs;
@@ -64,6 +65,36 @@ pub fn program<
         Ok(_) => exit_code(&ended),
         Err(fault) => report_fault(fault, errors),
     }
+}
+
+/// Runs the program on a register that begins empty, and returns the exit status.
+pub fn run_program<
+    S: AsStr,
+    F: Read + Drop,
+    O: FnOnce(&str) -> io::Result<F>,
+    R: Read + Drop,
+    W: Write,
+    E: Write,
+>(alloc: Global, arguments: &[S], opener: O, input: R, output: &mut W, errors: &mut E) -> u8
+    requires { O.IsAlwaysCallable opener }
+    ensures bounded { result ≤ 4 }
+    ensures ends { (new : Registered)
+        × Ends (map S.text arguments.now) (Opens O.FnOnce F.remaining opener) (R.remaining input)
+        nothing_registered (W.contents output.old) new (W.contents output.new) result }
+    ensures quiet { result ≤ 1 → errors.new ≡ errors.old }
+{
+    let mut register = Register::new(alloc);
+    let status = program(
+        alloc,
+        &mut register,
+        arguments,
+        opener,
+        input,
+        output,
+        errors,
+    );
+    drop(register);
+    status
 }
 
 /// Opens the command file. None if there is no name.
