@@ -5,11 +5,13 @@
         print(name, path.lines, state.published[name])
 
 The program itself carries the records out, so a record counts exactly if it is accepted. Coordinates are whole numbers of
-10^-7 degree, lengths and offsets decimetres, as in records.
+10^-7 degree, lengths and offsets decimetres, as in records. A file may be the reply to `dump`: its first line, `ok,N`, is no
+record, and N lines have to follow it.
 """
 import csv
 import io
 import os
+import re
 import shutil
 import subprocess
 import tempfile
@@ -18,7 +20,9 @@ from typing import NamedTuple
 from replies import read_reply
 
 UNITS = 10_000_000
+HEAD = re.compile(rb"ok,(\d{1,18})\r?\n")
 TOP = os.path.dirname(os.path.dirname(os.path.realpath(__file__)))
+QUESTIONS = ("show", "report", "explain", "dump")
 BESIDE = [os.path.join(TOP, name) for name in ("crates/olr_keep/out/olr_keep", "../../bin/olr-keep")]
 
 
@@ -60,7 +64,7 @@ class State:
             held, self.held = self.held, None
             for it in held if word == "commit" else ():
                 self.change(*it)
-        elif self.held is not None and word not in ("show", "report", "explain"):
+        elif self.held is not None and word not in QUESTIONS:
             self.held.append(fields)
         else:
             self.change(*fields)
@@ -110,13 +114,28 @@ def program_name():
     return found
 
 
+def copy_records(name, file, whole):
+    """Copies the records of a file: of the reply to `dump` the lines after the first, which counts them."""
+    first = file.readline()
+    if head := HEAD.fullmatch(first):
+        count = 0
+        for line in file:
+            count += line.endswith(b"\n")
+            whole.write(line)
+        if count != int(head[1]):
+            raise RecordsError(f"{name} begins with {head[0].decode().strip()}, and {count} whole lines follow")
+        return
+    whole.write(first)
+    shutil.copyfileobj(file, whole)
+
+
 def joined(files):
     """One temporary file with the text of all files, each ended by a line end."""
     whole = tempfile.NamedTemporaryFile()
     for name in files:
         try:
             with open(name, "rb") as file:
-                shutil.copyfileobj(file, whole)
+                copy_records(name, file, whole)
         except OSError as error:
             raise RecordsError(f"{name}: {error.strerror}") from None
         whole.write(b"\n")
@@ -155,7 +174,7 @@ def follow(state, fields, reply):
     state.accept(fields)
     if fields[0] == "drop-path" and reply.word == "ok":
         state.published.pop(fields[1], None)
-    if fields[0] != "explain":
+    if fields[0] not in ("explain", "dump"):
         for name, *answer in (entry.split(",") for entry in reply.lines):
             state.published[name] = answer
     if fields[0] == "commit":

@@ -63,6 +63,7 @@ WHAT_TO_DO = {
     15: "no batch is open: begin was rejected or not sent",
     16: "the batch holds another number of changes and stays open: see which one was rejected, then abort or commit",
     17: "the batch is full: commit it, and begin another one",
+    18: "the map or a path has no record",
 }
 CAUSES = {1: "its length is wrong", 2: "its status byte is wrong", 3: "its offset flags are wrong"}
 CAUSES |= {4: "a reserved bit is set", 6: "it is not base64"}

@@ -21,7 +21,7 @@ except ImportError:
 
 PLAIN = re.compile(r"[ !#-~]+")
 OF_A_PATH = ("path", "repath", "drop-path", "show")
-REPORTS = ("report", "explain")
+REPORTS = ("report", "explain", "dump")
 END = 2**31
 MANY = 20
 
