@@ -123,7 +123,8 @@ def copy_records(name, file, whole):
             count += line.endswith(b"\n")
             whole.write(line)
         if count != int(head[1]):
-            raise RecordsError(f"{name} begins with {head[0].decode().strip()}, and {count} whole lines follow")
+            begins = f"it begins with {head[0].decode().strip()}, and {count} whole lines follow"
+            raise RecordsError(f"{name} is not the whole reply to one dump: {begins}")
         return
     whole.write(first)
     shutil.copyfileobj(file, whole)
