@@ -7,7 +7,7 @@ use std::mem;
 pub const BLOCK_LEN: u32 = 4;
 
 /// The slots of neighbouring numbers, each stored as slot + 1, or as 0 for a number without a slot.
-#[derive(Clone, Copy, Debug)]
+#[derive(Clone, Copy)]
 pub struct Block {
     pub slots: [u32; BLOCK_LEN as usize],
     ghost four: { length slots ≡ 4 },

@@ -11,7 +11,7 @@ use std::collections::HashMap;
 use std::hash::BuildHasherDefault;
 
 /// Blocks by number: number `n` is in block `n / 4`. A block is removed with its last slot.
-#[derive(Drop, Debug)]
+#[derive(Drop)]
 pub struct Blocks {
     pub blocks: HashMap<u32, Block, BuildHasherDefault<NumberHasher>>,
     ghost apart: { IsDistinct ◌==◌ (keys_of blocks.entries) } by { IsDistinct-prop ◌==◌ (keys_of blocks.entries) },

@@ -6,7 +6,7 @@ use crate::links::EmptyLinks;
 use olr_coords::Coord;
 
 /// A change of the tables.
-#[derive(Drop, Debug)]
+#[derive(Drop)]
 pub enum TableChange {
     /// Inserts a node without lines, with the memory for the lines that leave it and that enter it.
     PutNode {

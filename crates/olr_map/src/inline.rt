@@ -10,7 +10,7 @@ use crate::read::LineEnd;
 pub const INLINE: usize = 4;
 
 /// The numbers of up to four lines, and the far end of each.
-#[derive(Drop, Debug)]
+#[derive(Drop)]
 pub struct Inline {
     pub count: u32,
     pub ends: [LineEnd; INLINE],

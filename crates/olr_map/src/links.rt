@@ -10,7 +10,7 @@ use crate::read::LineEnd;
 use std::alloc::{AllocError, Global};
 
 /// The numbers of lines in ascending order, and the far end of each.
-#[derive(Drop, Debug)]
+#[derive(Drop)]
 pub enum Links {
     /// At most four lines, in the value itself.
     Inline(Inline),
@@ -19,7 +19,7 @@ pub enum Links {
 }
 
 /// The memory of an empty list of lines.
-#[derive(Drop, Debug)]
+#[derive(Drop)]
 pub enum EmptyLinks {
     /// No memory of its own.
     Inline,
@@ -28,7 +28,7 @@ pub enum EmptyLinks {
 }
 
 /// The numbers of lines, and the far end of each, in vectors.
-#[derive(Drop, Debug)]
+#[derive(Drop)]
 pub struct Spilled {
     pub lines: Vec<LineId>,
     pub ends: Vec<LineEnd>,

@@ -12,7 +12,7 @@ const SPREAD: u64 = 0x9e37_79b9_7f4a_7c15;
 const TAG_SHIFT: u32 = 24;
 
 /// Hashes a number by the block of neighbours that contains it.
-#[derive(Clone, Copy, Debug, Default)]
+#[derive(Clone, Copy, Default)]
 pub struct NumberHasher {
     number: u32,
 }

@@ -10,7 +10,7 @@ use olr_coords::Coord;
 use std::alloc::{AllocError, Global};
 
 /// A road map. The time of a read or an edit depends neither on the order of node and line numbers nor on gaps in them.
-#[derive(Drop, Debug)]
+#[derive(Drop)]
 pub struct RoadMap {
     tables: Tables,
 }

@@ -10,7 +10,7 @@ use std::mem;
 const MOST_SLOTS: usize = 0xffff_ffff;
 
 /// The values by slot, and the free slots.
-#[derive(Drop, Debug)]
+#[derive(Drop)]
 pub struct Slab<V> {
     pub entries: Vec<Option<V>>,
     pub free: Vec<u32>,

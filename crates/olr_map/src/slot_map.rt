@@ -8,7 +8,7 @@ use crate::slab::Slab;
 use std::alloc::{AllocError, Global};
 
 /// Values by number, at most one for each: the slots of the numbers, and the values in these slots.
-#[derive(Drop, Debug)]
+#[derive(Drop)]
 pub struct SlotMap<V> {
     pub index: Blocks,
     pub slab: Slab<V>,

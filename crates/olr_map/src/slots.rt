@@ -13,7 +13,7 @@ use std::alloc::{AllocError, Global};
 use std::mem;
 
 /// A node, with the lines that leave it and those that enter it.
-#[derive(Drop, Debug)]
+#[derive(Drop)]
 pub struct NodeEntry {
     pub outs: Links,
     pub ins: Links,
@@ -22,14 +22,14 @@ pub struct NodeEntry {
 }
 
 /// A node without its lines.
-#[derive(Clone, Copy, Debug)]
+#[derive(Clone, Copy)]
 pub struct NodeHead {
     pub id: NodeId,
     pub place: Coord,
 }
 
 /// Which of a node's lines: those that leave it, or those that enter it.
-#[derive(Clone, Copy, Debug, PartialEq, Eq)]
+#[derive(Clone, Copy, PartialEq, Eq)]
 pub enum Side {
     Out,
     In,
@@ -37,7 +37,7 @@ pub enum Side {
 
 /// The nodes' heads by slot, and in two further columns the lines that leave each node and those that enter it, so that
 /// a search reads the lines of one side and nothing else.
-#[derive(Drop, Debug)]
+#[derive(Drop)]
 pub struct NodeSlots {
     pub heads: Slab<NodeHead>,
     pub outs: Vec<Links>,

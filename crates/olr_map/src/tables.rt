@@ -16,7 +16,7 @@ use olr_coords::Coord;
 use std::alloc::{AllocError, Global};
 
 /// The slots of the nodes by number, their entries, and the lines by number.
-#[derive(Drop, Debug)]
+#[derive(Drop)]
 pub struct Tables {
     pub index: Blocks,
     pub nodes: NodeSlots,

@@ -6,14 +6,13 @@ use crate::change::TableChange;
 use std::alloc::{AllocError, Global};
 
 /// The undo record of one edit. It must be passed to `undo` or to `keep`.
-#[derive(Debug)]
 pub struct Undo {
     pub(crate) change: TableChange,
 }
 
 /// The undo records of a list of edits, applied from the last one to the first. Only the log has what the edits removed
 /// from the map. If a log is dropped, this is freed, and the map stays as it is.
-#[derive(Drop, Debug)]
+#[derive(Drop)]
 pub struct UndoLog {
     pub(crate) changes: Vec<TableChange>,
     pub(crate) nodes: usize,

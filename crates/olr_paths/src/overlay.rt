@@ -17,7 +17,7 @@ use std::rc::Rc;
 /// Changes over a list of named paths: replaced paths, removed paths, and new paths at the end. A name that is removed
 /// and
 /// added again is both in `changes` and in `added`.
-#[derive(Drop, Debug)]
+#[derive(Drop)]
 pub struct Overlay {
     /// The changes of the list's paths: a replacement, or None if the path is removed.
     pub(crate) changes: IndexMap<String, Option<Rc<Path>>>,

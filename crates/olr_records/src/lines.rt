@@ -13,7 +13,7 @@ use olr_map::{Line, Shape};
 use std::alloc::Global;
 
 /// The attributes of a line in a record: all but its number and its ends.
-#[derive(Drop, Debug)]
+#[derive(Drop)]
 pub(crate) struct LineAttributes {
     /// The functional road class.
     pub frc: u8,

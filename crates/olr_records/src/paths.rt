@@ -15,7 +15,7 @@ use olr_map::LineId;
 use std::alloc::Global;
 
 /// The fields of a path in a record.
-#[derive(Drop, Debug)]
+#[derive(Drop)]
 struct NamedPath {
     name: String,
     /// The positive offset, in decimetres.

@@ -14,7 +14,7 @@ use olr_route::GREATEST_LIMIT;
 use std::alloc::{AllocError, Global};
 
 /// A run of degree-two nodes: lines that lead through such nodes to the first line of a list, or from its last one.
-#[derive(Drop, Debug)]
+#[derive(Drop)]
 pub(crate) struct DegreeTwoRun {
     /// The lines, in the order of travel.
     pub(crate) lines: Vec<LineId>,

@@ -7,7 +7,7 @@ use std::alloc::{AllocError, Global};
 use std::marker::Model;
 
 /// The lines of a list, sorted.
-#[derive(Drop, Debug)]
+#[derive(Drop)]
 pub(crate) struct LineSet {
     sorted: Vec<LineId>,
 }

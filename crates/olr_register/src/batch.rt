@@ -11,7 +11,7 @@ use std::alloc::Global;
 const FULL: u32 = 100_000;
 
 /// The result of the changes that an open batch holds.
-#[derive(Drop, Debug)]
+#[derive(Drop)]
 pub struct Batch {
     /// Restores the map from before the batch.
     pub(crate) log: UndoLog,
