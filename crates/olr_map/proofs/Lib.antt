@@ -20,3 +20,4 @@ pub mod Merging
 pub mod Using
 pub mod Sizes
 pub mod Log
+pub mod SlotsStay

@@ -1,0 +1,22 @@
+-- The slots of an edit's nodes stay where no node's slot changes.
+use Rattle.std.proofs.Common.{◌≡◌, ℕ, ap, ◌∙◌}
+use Rattle.olr_spec.specs.Map as maps
+use Rattle.olr_spec.specs.Map.{Map, start, end}
+use Rattle.olr_map.specs.SlotIndexes.{slot_by}
+use Rattle.olr_map.specs.EditPlans.{AreSlots}
+use Rattle.olr_map.specs.declared.blocks.Blocks.{Blocks}
+
+pub slots_stay : (b b' : Blocks) (M M' : Map) (at : ℕ × ℕ) (e : maps.Edit) →
+    ((v : ℕ) → slot_by b' v ≡ slot_by b v) → M' ≡ M → AreSlots b M at e → AreSlots b' M' at e
+slots_stay b b' M M' at (maps.Add_node v c) same is h = h
+slots_stay b b' M M' at (maps.Move_node v c) same is h = same v ∙ h
+slots_stay b b' M M' at (maps.Drop_node v) same is h = h
+slots_stay b b' M M' at (maps.Add_line x l) same is h = (same l.from ∙ h.0, same l.to ∙ h.1)
+slots_stay b b' M M' at (maps.Set_line x frc fow len shape) same is h = (
+  ap (λ N. slot_by b' (start N x)) is ∙ same (start M x) ∙ h.0,
+  ap (λ N. slot_by b' (end N x)) is ∙ same (end M x) ∙ h.1,
+)
+slots_stay b b' M M' at (maps.Drop_line x) same is h = (
+  ap (λ N. slot_by b' (start N x)) is ∙ same (start M x) ∙ h.0,
+  ap (λ N. slot_by b' (end N x)) is ∙ same (end M x) ∙ h.1,
+)
