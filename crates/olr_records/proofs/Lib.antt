@@ -4,3 +4,4 @@ pub mod PartLemmas
 pub mod FormLemmas
 pub mod TextLemmas
 pub mod ReadLemmas
+pub mod WrittenLemmas

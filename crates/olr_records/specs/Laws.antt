@@ -1,8 +1,13 @@
 -- The laws of the definitions.
-use Rattle.std.specs.Prelude.{◌≡◌, List, Ok}
-use Rattle.olr_commands.specs.State.{Command, HasCoords}
+use Rattle.std.specs.Prelude.{◌≡◌, List, Ok, IsTrue}
+use Rattle.olr_commands.specs.State.{Change, Command, Make, HasCoords}
 use Rattle.olr_records.specs.Records.{Field, read}
+use Rattle.olr_records.specs.RecordText.{record_fields, has_record}
 
 -- the coordinates that are read are in range
 abbrev pub CoordsRead : Type 0
 CoordsRead = (fields : List Field) (c : Command) → read fields ≡ Ok c → HasCoords c
+
+-- the record of a change is read as this change
+abbrev pub RecordsRead : Type 0
+RecordsRead = (x : Change) → IsTrue (has_record x) → read (record_fields x) ≡ Ok (Make x)

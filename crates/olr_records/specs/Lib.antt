@@ -1,5 +1,6 @@
 pub mod Laws
 pub mod Records
+pub mod RecordText
 pub mod ReplyText
 pub mod Rows
 pub mod Words

@@ -1,7 +1,8 @@
 //! The law of records.
 ghost use Rattle.olr_records.specs.Laws;
 
-/// The coordinates in records are in range.
+/// The coordinates in records are in range. The record of a change is read as this change.
 pub fn laws_of_records()
     ensures places { Laws.CoordsRead }
+    ensures written { Laws.RecordsRead }
 {}
