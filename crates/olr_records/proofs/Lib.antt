@@ -5,3 +5,4 @@ pub mod FormLemmas
 pub mod TextLemmas
 pub mod ReadLemmas
 pub mod WrittenLemmas
+pub mod RecordLines

@@ -13,7 +13,7 @@ use Rattle.olr_records.specs.ReplyText.{after_commas, reply_line, entry_line, ac
 use Rattle.olr_records.specs.ReplyText.{last_line}
 use Rattle.olr_records.specs.ReplyText.{offset_lines, reference_lines}
 
-joined : (f : List ℕ) (fs : List (List ℕ)) → join_with_byte 44 (f ∷ fs) ≡ f ++ after_commas fs
+pub joined : (f : List ℕ) (fs : List (List ℕ)) → join_with_byte 44 (f ∷ fs) ≡ f ++ after_commas fs
 joined f [] = sym (append-nil f)
 joined f (g ∷ gs) = ap (λ (r : List ℕ). f ++ 44 ∷ r) (joined g gs)
 

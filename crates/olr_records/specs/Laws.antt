@@ -1,8 +1,10 @@
 -- The laws of the definitions.
-use Rattle.std.specs.Prelude.{◌≡◌, List, Ok, IsTrue}
+use Rattle.std.specs.Prelude.{◌≡◌, List, map, Ok, IsTrue}
+use Rattle.std.specs.List.{concat, AllByRecursion}
+use Rattle.csv.specs.Reading.{records, default_config, strip_bom}
 use Rattle.olr_commands.specs.State.{Change, Command, Make, HasCoords}
 use Rattle.olr_records.specs.Records.{Field, read}
-use Rattle.olr_records.specs.RecordText.{record_fields, has_record}
+use Rattle.olr_records.specs.RecordText.{record_fields, record_line, has_record}
 
 -- the coordinates that are read are in range
 abbrev pub CoordsRead : Type 0
@@ -11,3 +13,9 @@ CoordsRead = (fields : List Field) (c : Command) → read fields ≡ Ok c → Ha
 -- the record of a change is read as this change
 abbrev pub RecordsRead : Type 0
 RecordsRead = (x : Change) → IsTrue (has_record x) → read (record_fields x) ≡ Ok (Make x)
+
+-- csv splits the lines of such records into their fields
+abbrev pub LinesSplit : Type 0
+LinesSplit =
+    (xs : List Change) → AllByRecursion (λ x. IsTrue (has_record x)) xs →
+    records default_config (strip_bom (concat (map record_line xs))) ≡ map record_fields xs

@@ -1,5 +1,6 @@
 use Rattle.olr_records.proofs.ReadLemmas.{coords_read}
 use Rattle.olr_records.proofs.WrittenLemmas.{record_back}
+use Rattle.olr_records.proofs.RecordLines.{records_split}
 use Rattle.olr_records.proofs.laws.laws_of_records.Goals as goal
 
 pub returns-clause-places : goal.returns-clause-places
@@ -7,3 +8,6 @@ returns-clause-places c = coords_read
 
 pub returns-clause-written : goal.returns-clause-written
 returns-clause-written c = record_back
+
+pub returns-clause-split : goal.returns-clause-split
+returns-clause-split c = records_split
