@@ -1,42 +1,49 @@
--- The coordinates that are read are in range.
+-- A change that is read has a record, and its coordinates are in range.
 use Rattle.std.proofs.Common.{◌≡◌, ℕ, ℤ, Bool, true, false, List, [], ◌∷◌, Option, Some, None, Ok, Err, IsTrue, refl}
-use Rattle.std.proofs.Common.{subst}
-use Rattle.std.specs.Prelude.{IfOk, if◌then◌else◌}
-use Rattle.std.specs.List.{AllByRecursion}
-use Rattle.std.proofs.lemmas.Bool.{and_from}
+use Rattle.std.proofs.Common.{subst, nat_le, ◌&&◌, ◌==◌, ◌%◌, pos, negsuc, arith}
+use Rattle.std.specs.Prelude.{IfOk, IfSome, if◌then◌else◌, nat_abs, ⊤}
+use Rattle.std.specs.List.{AllByRecursion, list_all}
+use Rattle.std.proofs.lemmas.Bool.{and_from, and_parts, eq-eqb}
+use Rattle.std.proofs.lemmas.Bool.Decides.{nat_tests}
+use Rattle.std.proofs.lemmas.Int.{ints}
 use Rattle.olr_spec.specs.Coordinates.{Coord, is_coord, is_longitude, is_latitude}
-use Rattle.olr_spec.specs.Degrees.{degrees}
+use Rattle.olr_spec.specs.Degrees.{degrees, unit7, are_digits, digits_value}
 use Rattle.olr_spec.specs.Map.{ShapePoint, Line, are_coords, Edit, Add_node, Move_node, Drop_node, Add_line, Set_line}
 use Rattle.olr_spec.specs.Map.{Drop_line, HasCoord}
 use Rattle.olr_spec.specs.Extension.{Path}
-use Rattle.olr_commands.specs.State.{same_name, Change, Add_path, Set_path, Drop_path, Command, Make, Show, Report}
-use Rattle.olr_commands.specs.State.{Explain, Begin, Commit, Abort, HasCoords}
-use Rattle.olr_records.specs.Records.{Field, Read, ◌⊛◌, value_or_fault, digits, number, amount, class, coordinate}
-use Rattle.olr_records.specs.Records.{longitude, latitude, place, name, point, shape, node_fields, edit, one, none}
-use Rattle.olr_records.specs.Records.{node_record}
-use Rattle.olr_records.specs.Records.{line_between, attributes, whole_line, line_record, set_line_record, path_fields}
-use Rattle.olr_records.specs.Records.{path_record}
-use Rattle.olr_records.specs.Records.{forms, read_by, read}
+use Rattle.olr_coords.specs.Bounds.{is_degrees}
+use Rattle.olr_coords.specs.DegreesText.{has_degrees_text}
+use Rattle.olr_coords.proofs.DegreesTextLemmas.{degrees-whole}
+use Rattle.olr_commands.specs.State.{same_name, Change, On_map, Add_path, Set_path, Drop_path, Command, Make, Show}
+use Rattle.olr_commands.specs.State.{Report, Explain, Begin, Commit, Abort, HasCoords}
+use Rattle.olr_records.specs.Records.{Field, Read, ◌⊛◌, value_or_fault, digits, max32, number, amount, class}
+use Rattle.olr_records.specs.Records.{coordinate, Bad_form, longitude, latitude, place, is_name, name, numbers, point}
+use Rattle.olr_records.specs.Records.{shape, node_fields, edit, one, none, node_record, line_between, attributes}
+use Rattle.olr_records.specs.Records.{whole_line, line_record, set_line_record, path_fields, path_record, forms}
+use Rattle.olr_records.specs.Records.{read_by, read}
+use Rattle.olr_records.specs.RecordText.{is_number, is_amount, is_place, is_point, are_attributes, is_named_path}
+use Rattle.olr_records.specs.RecordText.{has_record}
 
 if_read : {A : Type 0} (P : A → Type 0) (b : Bool) (r q : Read A) → IfOk r P → IfOk q P → IfOk (if b then r else q) P
 if_read P true r q h g = h
 if_read P false r q h g = g
 
--- a function all of whose values satisfy P
-given : {A B : Type 0} (P : B → Type 0) (g : Read (A → B)) (r : Read A) → IfOk g (λ f. (a : A) → P (f a)) →
-    IfOk (g ⊛ r) P
-given P (Ok g) (Ok a) h = h a
-given P (Ok g) (Err f) h = tt
-given P (Err f) (Ok a) h = tt
-given P (Err f) (Err k) h = tt
-
 -- a function whose values satisfy P at what is read
-given_read : {A B : Type 0} (P : B → Type 0) (Q : A → Type 0) (g : Read (A → B)) (r : Read A) → IfOk r Q →
-    IfOk g (λ f. (a : A) → Q a → P (f a)) → IfOk (g ⊛ r) P
-given_read P Q (Ok g) (Ok a) q h = h a q
-given_read P Q (Ok g) (Err f) q h = tt
-given_read P Q (Err f) (Ok a) q h = tt
-given_read P Q (Err f) (Err k) q h = tt
+abbrev Takes : {A B : Type 0} → (A → Type 0) → (B → Type 0) → (A → B) → Type 0
+Takes {A} Q P f = (a : A) → Q a → P (f a)
+
+given : {A B : Type 0} (P : B → Type 0) (Q : A → Type 0) (g : Read (A → B)) (r : Read A) → IfOk r Q →
+    IfOk g (Takes Q P) → IfOk (g ⊛ r) P
+given P Q (Ok g) (Ok a) q h = h a q
+given P Q (Ok g) (Err f) q h = tt
+given P Q (Err f) (Ok a) q h = tt
+given P Q (Err f) (Err k) q h = tt
+
+weaker : {A : Type 0} (P Q : A → Type 0) (r : Read A) → ((a : A) → P a → Q a) → IfOk r P → IfOk r Q
+weaker P Q (Ok a) w h = w a h
+weaker P Q (Err f) w h = tt
+
+-- ---- fields
 
 bounded_passes : {A : Type 0} (test : A → Bool) (a : A) → IfOk (value_or_fault (test a) a) (λ x. IsTrue (test x))
 bounded_passes {A} test a =
@@ -44,170 +51,290 @@ bounded_passes {A} test a =
     [ true ↦ λ e. e | false ↦ λ e. tt ]
     refl
 
-coordinate_passes : (test : ℤ → Bool) (o : Option ℤ) → IfOk (coordinate test o) (λ z. IsTrue (test z))
-coordinate_passes test None = tt
-coordinate_passes test (Some z) = bounded_passes test z
+digits_pass : (low high : ℕ) (f : Field) → IfOk (digits low high f) (λ n. IsTrue (nat_le low n && nat_le n high))
+digits_pass low high f =
+    if_read (λ n. IsTrue (nat_le low n && nat_le n high)) (are_digits f)
+    (value_or_fault (nat_le low (digits_value f) && nat_le (digits_value f) high) (digits_value f)) (Err Bad_form)
+    (bounded_passes (λ n. nat_le low n && nat_le n high) (digits_value f)) tt
 
-coord_passes : (lon lat : Field) → IfOk (place lon lat) (λ c. IsTrue (is_coord c))
-coord_passes lon lat =
-    given_read (λ c. IsTrue (is_coord c)) (λ z. IsTrue (is_latitude z))
-    (Ok (λ x y. record { lon = x; lat = y }) ⊛ longitude lon) (latitude lat)
-    (coordinate_passes is_latitude (degrees lat))
-    (given_read (λ f. (z : ℤ) → IsTrue (is_latitude z) → IsTrue (is_coord (f z))) (λ z. IsTrue (is_longitude z))
-    (Ok (λ x y. record { lon = x; lat = y })) (longitude lon)
-    (coordinate_passes is_longitude (degrees lon))
-    (λ x h y g. and_from (is_longitude x) (is_latitude y) h g))
+at_most_pass : (low high : ℕ) (f : Field) → IfOk (digits low high f) (λ n. IsTrue (nat_le n high))
+at_most_pass low high f =
+    weaker _ (λ n. IsTrue (nat_le n high)) (digits low high f) (λ n h. (and_parts (nat_le low n) (nat_le n high) h).1)
+    (digits_pass low high f)
 
-CoordPasses : ℕ × Coord → Type 0
-CoordPasses p = IsTrue (is_coord p.1)
+-- a coordinate in range, with a text of degrees
+abbrev Written : (ℤ → Bool) → ℤ → Type 0
+Written test z = IsTrue (test z) × IsTrue (has_degrees_text z)
 
-node_fields_pass : (fs : List Field) → IfOk (node_fields fs) CoordPasses
-unfolding CoordPasses
-node_fields_pass (node ∷ lon ∷ lat ∷ []) =
-    given_read CoordPasses (λ c. IsTrue (is_coord c)) (Ok (λ x p. (x, p)) ⊛ number node) (place lon lat)
-    (coord_passes lon lat)
-    (given (λ f. (c : Coord) → IsTrue (is_coord c) → CoordPasses (f c)) (Ok (λ x p. (x, p))) (number node) (λ n c h. h))
-node_fields_pass [] = tt
-node_fields_pass (node ∷ []) = tt
-node_fields_pass (node ∷ lon ∷ []) = tt
-node_fields_pass (node ∷ lon ∷ lat ∷ x ∷ fs) = tt
+found_passes : (test : ℤ → Bool) → ((z : ℤ) → IsTrue (test z) → IsTrue (is_degrees z)) → (o : Option ℤ) →
+    IfSome o (λ z. nat_abs z % unit7 ≡ 0) → IfOk (coordinate test o) (Written test)
+found_passes test wide None whole = tt
+found_passes test wide (Some z) whole =
+    weaker _ (Written test) (value_or_fault (test z) z) (λ y h. h)
+    (elim (test z) as (λ b. test z ≡ b → IfOk (value_or_fault b z) (Written test)) [
+      | true ↦ λ e. (e, and_from (is_degrees z) (nat_abs z % unit7 == 0) (wide z e) (eq-eqb (nat_abs z % unit7) 0 whole))
+      | false ↦ λ e. tt
+    ] refl)
 
-node_coords : (g : ℕ → Coord → Edit) → ((n : ℕ) (c : Coord) → IsTrue (is_coord c) → HasCoord (g n c)) →
-    (fs : List Field) → IfOk (node_record g fs) HasCoord
-unfolding CoordPasses
-node_coords g h fs =
-    given_read HasCoord CoordPasses (Ok (λ p. g p.0 p.1)) (node_fields fs) (node_fields_pass fs) (λ p i. h p.0 p.1 i)
+longitude_wide : (z : ℤ) → IsTrue (is_longitude z) → IsTrue (is_degrees z)
+longitude_wide (pos n) h = grind (arith, nat_tests)
+longitude_wide (negsuc n) h = grind (arith, nat_tests)
 
-point_passes : (at lon lat : Field) → IfOk (point at lon lat) (λ p. IsTrue (is_coord p.place))
+latitude_wide : (z : ℤ) → IsTrue (is_latitude z) → IsTrue (is_degrees z)
+latitude_wide (pos n) h = grind (arith, nat_tests)
+latitude_wide (negsuc n) h = grind (arith, nat_tests)
+
+longitude_passes : (f : Field) → IfOk (longitude f) (Written is_longitude)
+longitude_passes f = found_passes is_longitude longitude_wide (degrees f) (degrees-whole f)
+
+latitude_passes : (f : Field) → IfOk (latitude f) (Written is_latitude)
+latitude_passes f = found_passes is_latitude latitude_wide (degrees f) (degrees-whole f)
+
+abbrev Place : Coord → Type 0
+Place p = IsTrue (is_place p)
+
+place_passes : (lon lat : Field) → IfOk (place lon lat) Place
+place_passes lon lat =
+    given Place (Written is_latitude) (Ok (λ x y. record { lon = x; lat = y }) ⊛ longitude lon) (latitude lat)
+    (latitude_passes lat)
+    (given (Takes (Written is_latitude) Place) (Written is_longitude) (Ok (λ x y. record { lon = x; lat = y }))
+    (longitude lon) (longitude_passes lon)
+    (λ x h y g. and_from _ (has_degrees_text y) (and_from _ (has_degrees_text x)
+    (and_from (is_longitude x) (is_latitude y) h.0 g.0) h.1) g.1))
+
+name_passes : (f : Field) → IfOk (name f) (λ n. IsTrue (is_name n))
+name_passes f =
+    elim (is_name f) as (λ b. is_name f ≡ b → IfOk (if b then Ok f else Err Bad_form) (λ n. IsTrue (is_name n)))
+    [ true ↦ λ e. e | false ↦ λ e. tt ]
+    refl
+
+abbrev Number : ℕ → Type 0
+Number n = IsTrue (is_number n)
+
+abbrev Numbers : List ℕ → Type 0
+Numbers xs = IsTrue (list_all is_number xs)
+
+number_passes : (f : Field) → IfOk (number f) Number
+number_passes f = digits_pass 1 max32 f
+
+numbers_pass : (fs : List Field) → IfOk (numbers fs) Numbers
+numbers_pass [] = refl
+numbers_pass (f ∷ fs) =
+    given Numbers Numbers (Ok (λ x xs. x ∷ xs) ⊛ number f) (numbers fs) (numbers_pass fs)
+    (given (Takes Numbers Numbers) Number (Ok (λ x xs. x ∷ xs)) (number f) (number_passes f)
+    (λ x h xs g. and_from (is_number x) (list_all is_number xs) h g))
+
+-- ---- parts of records
+
+abbrev Node : ℕ × Coord → Type 0
+Node p = IsTrue (is_number p.0 && is_place p.1)
+
+node_passes : (fs : List Field) → IfOk (node_fields fs) Node
+node_passes (node ∷ lon ∷ lat ∷ []) =
+    given Node Place (Ok (λ x p. (x, p)) ⊛ number node) (place lon lat) (place_passes lon lat)
+    (given (Takes Place Node) Number (Ok (λ x p. (x, p))) (number node) (number_passes node)
+    (λ x h p g. and_from (is_number x) (is_place p) h g))
+node_passes [] = tt
+node_passes (node ∷ []) = tt
+node_passes (node ∷ lon ∷ []) = tt
+node_passes (node ∷ lon ∷ lat ∷ x ∷ fs) = tt
+
+abbrev Point : ShapePoint → Type 0
+Point s = IsTrue (is_point s)
+
+abbrev Shape : List ShapePoint → Type 0
+Shape ss = IsTrue (list_all is_point ss)
+
+abbrev On : ℕ → Type 0
+On n = IsTrue (nat_le 1 n && nat_le n 999999)
+
+point_passes : (at lon lat : Field) → IfOk (point at lon lat) Point
 point_passes at lon lat =
-    given_read (λ p. IsTrue (is_coord p.place)) (λ c. IsTrue (is_coord c))
-    (Ok (λ x c. record { at = x; place = c }) ⊛ digits 1 999999 at) (place lon lat) (coord_passes lon lat)
-    (given (λ f. (c : Coord) → IsTrue (is_coord c) → IsTrue (is_coord (f c).place))
-    (Ok (λ x c. record { at = x; place = c })) (digits 1 999999 at) (λ x c h. h))
+    given Point Place (Ok (λ x p. record { at = x; place = p }) ⊛ digits 1 999999 at) (place lon lat)
+    (place_passes lon lat)
+    (given (Takes Place Point) On (Ok (λ x p. record { at = x; place = p })) (digits 1 999999 at)
+    (digits_pass 1 999999 at) (λ x h p g. and_from (nat_le 1 x && nat_le x 999999) (is_place p) h g))
 
-shape_passes : (fs : List Field) → IfOk (shape fs) (λ ps. IsTrue (are_coords ps))
+shape_passes : (fs : List Field) → IfOk (shape fs) Shape
 shape_passes [] = refl
 shape_passes (at ∷ []) = tt
 shape_passes (at ∷ lon ∷ []) = tt
 shape_passes (at ∷ lon ∷ lat ∷ fs) =
-    given_read (λ ps. IsTrue (are_coords ps)) (λ ps. IsTrue (are_coords ps)) (Ok (λ p ps. p ∷ ps) ⊛ point at lon lat)
-    (shape fs) (shape_passes fs)
-    (given_read (λ g. (ps : List ShapePoint) → IsTrue (are_coords ps) → IsTrue (are_coords (g ps)))
-    (λ p. IsTrue (is_coord p.place)) (Ok (λ p ps. p ∷ ps)) (point at lon lat)
-    (point_passes at lon lat)
-    (λ p h ps g. and_from (is_coord p.place) (are_coords ps) h g))
+    given Shape Shape (Ok (λ p ps. p ∷ ps) ⊛ point at lon lat) (shape fs) (shape_passes fs)
+    (given (Takes Shape Shape) Point (Ok (λ p ps. p ∷ ps)) (point at lon lat) (point_passes at lon lat)
+    (λ p h ps g. and_from (is_point p) (list_all is_point ps) h g))
 
-ShapePasses : ℕ × ℕ × ℕ × List ShapePoint → Type 0
-ShapePasses c = IsTrue (are_coords c.3)
+abbrev Class : ℕ → Type 0
+Class n = IsTrue (nat_le n 7)
 
-attributes_pass : (frc fow len : Field) (fs : List Field) → IfOk (attributes frc fow len fs) ShapePasses
-unfolding ShapePasses
+abbrev Long : ℕ → Type 0
+Long n = IsTrue (nat_le 1 n && nat_le n 1000000)
+
+abbrev Attributes : ℕ × ℕ × ℕ × List ShapePoint → Type 0
+Attributes c = IsTrue (are_attributes c.0 c.1 c.2 c.3)
+
+attributes_pass : (frc fow len : Field) (fs : List Field) → IfOk (attributes frc fow len fs) Attributes
 attributes_pass frc fow len fs =
-    given_read ShapePasses (λ ps. IsTrue (are_coords ps))
-    (Ok (λ a b c d. (a, b, c, d)) ⊛ class frc ⊛ class fow ⊛ digits 1 1000000 len) (shape fs) (shape_passes fs)
-    (given (λ g. (ps : List ShapePoint) → IsTrue (are_coords ps) → ShapePasses (g ps))
-    (Ok (λ a b c d. (a, b, c, d)) ⊛ class frc ⊛ class fow) (digits 1 1000000 len)
-    (given (λ g. (n : ℕ) (ps : List ShapePoint) → IsTrue (are_coords ps) → ShapePasses (g n ps))
-    (Ok (λ a b c d. (a, b, c, d)) ⊛ class frc) (class fow)
-    (given (λ g. (m n : ℕ) (ps : List ShapePoint) → IsTrue (are_coords ps) → ShapePasses (g m n ps))
-    (Ok (λ a b c d. (a, b, c, d))) (class frc) (λ k m n ps h. h))))
+    given Attributes Shape (Ok (λ a b c d. (a, b, c, d)) ⊛ class frc ⊛ class fow ⊛ digits 1 1000000 len) (shape fs)
+    (shape_passes fs)
+    (given (Takes Shape Attributes) Long (Ok (λ a b c d. (a, b, c, d)) ⊛ class frc ⊛ class fow)
+    (digits 1 1000000 len) (digits_pass 1 1000000 len)
+    (given (Takes Long (Takes Shape Attributes)) Class (Ok (λ a b c d. (a, b, c, d)) ⊛ class frc) (class fow)
+    (at_most_pass 0 7 fow)
+    (given (Takes Class (Takes Long (Takes Shape Attributes))) Class (Ok (λ a b c d. (a, b, c, d))) (class frc)
+    (at_most_pass 0 7 frc)
+    (λ a h b g c l d s.
+    let p = and_parts (nat_le 1 c) (nat_le c 1000000) l in
+    and_from _ (list_all is_point d) (and_from _ (nat_le c 1000000) (and_from _ (nat_le 1 c)
+    (and_from (nat_le a 7) (nat_le b 7) h g) p.0) p.1) s))))
+
+abbrev Ends : Line → Type 0
+Ends l = IsTrue (is_number l.from && is_number l.to) × IsTrue (are_attributes l.frc l.fow l.len l.shape)
 
 line_passes : (from to frc fow len : Field) (fs : List Field) →
-    IfOk (whole_line from to (attributes frc fow len fs)) (λ l. IsTrue (are_coords l.shape))
-unfolding ShapePasses
+    IfOk (whole_line from to (attributes frc fow len fs)) Ends
 line_passes from to frc fow len fs =
-    given_read (λ l. IsTrue (are_coords l.shape)) ShapePasses
-    (Ok (λ a b c. line_between a b c.0 c.1 c.2 c.3) ⊛ number from ⊛ number to) (attributes frc fow len fs)
+    given Ends Attributes (Ok (λ a b c. line_between a b c.0 c.1 c.2 c.3) ⊛ number from ⊛ number to)
+    (attributes frc fow len fs) (attributes_pass frc fow len fs)
+    (given (Takes Attributes Ends) Number (Ok (λ a b c. line_between a b c.0 c.1 c.2 c.3) ⊛ number from) (number to)
+    (number_passes to)
+    (given (Takes Number (Takes Attributes Ends)) Number (Ok (λ a b c. line_between a b c.0 c.1 c.2 c.3))
+    (number from) (number_passes from) (λ a h b g c d. (and_from (is_number a) (is_number b) h g, d))))
+
+-- ---- records
+
+-- an edit that has a record
+abbrev OfEdit : Edit → Type 0
+OfEdit e = IsTrue (has_record (On_map e))
+
+-- a change that has a record, or another command
+abbrev Recorded : Command → Type 0
+Recorded (Make x) = IsTrue (has_record x)
+Recorded c = ⊤
+
+node_record_passes : (g : ℕ → Coord → Edit) → ((n : ℕ) (c : Coord) → Node (n, c) → OfEdit (g n c)) →
+    (fs : List Field) → IfOk (node_record g fs) OfEdit
+node_record_passes g h fs =
+    given OfEdit Node (Ok (λ p. g p.0 p.1)) (node_fields fs) (node_passes fs) (λ p i. h p.0 p.1 i)
+
+line_record_passes : (fs : List Field) → IfOk (line_record fs) OfEdit
+line_record_passes (x ∷ from ∷ to ∷ frc ∷ fow ∷ len ∷ fs) =
+    given OfEdit Ends (Ok (λ x l. Add_line x l) ⊛ number x) (whole_line from to (attributes frc fow len fs))
+    (line_passes from to frc fow len fs)
+    (given (Takes Ends OfEdit) Number (Ok (λ x l. Add_line x l)) (number x) (number_passes x)
+    (λ x h l g.
+    let p = and_parts (is_number l.from) (is_number l.to) g.0 in
+    and_from _ (are_attributes l.frc l.fow l.len l.shape) (and_from _ (is_number l.to)
+    (and_from (is_number x) (is_number l.from) h p.0) p.1) g.1))
+line_record_passes [] = tt
+line_record_passes (a ∷ []) = tt
+line_record_passes (a ∷ b ∷ []) = tt
+line_record_passes (a ∷ b ∷ c ∷ []) = tt
+line_record_passes (a ∷ b ∷ c ∷ d ∷ []) = tt
+line_record_passes (a ∷ b ∷ c ∷ d ∷ e ∷ []) = tt
+
+set_line_record_passes : (fs : List Field) → IfOk (set_line_record fs) OfEdit
+set_line_record_passes (x ∷ frc ∷ fow ∷ len ∷ fs) =
+    given OfEdit Attributes (Ok (λ x c. Set_line x c.0 c.1 c.2 c.3) ⊛ number x) (attributes frc fow len fs)
     (attributes_pass frc fow len fs)
-    (given (λ g. (c : ℕ × ℕ × ℕ × List ShapePoint) → ShapePasses c → IsTrue (are_coords (g c).shape))
-    (Ok (λ a b c. line_between a b c.0 c.1 c.2 c.3) ⊛ number from) (number to)
-    (given (λ g. (b : ℕ) (c : ℕ × ℕ × ℕ × List ShapePoint) → ShapePasses c → IsTrue (are_coords (g b c).shape))
-    (Ok (λ a b c. line_between a b c.0 c.1 c.2 c.3)) (number from) (λ a b c h. h)))
+    (given (Takes Attributes OfEdit) Number (Ok (λ x c. Set_line x c.0 c.1 c.2 c.3)) (number x) (number_passes x)
+    (λ x h c g. and_from (is_number x) (are_attributes c.0 c.1 c.2 c.3) h g))
+set_line_record_passes [] = tt
+set_line_record_passes (a ∷ []) = tt
+set_line_record_passes (a ∷ b ∷ []) = tt
+set_line_record_passes (a ∷ b ∷ c ∷ []) = tt
 
-line_coords : (fs : List Field) → IfOk (line_record fs) HasCoord
-line_coords (x ∷ from ∷ to ∷ frc ∷ fow ∷ len ∷ fs) =
-    given_read HasCoord (λ l. IsTrue (are_coords l.shape)) (Ok (λ x l. Add_line x l) ⊛ number x)
-    (whole_line from to (attributes frc fow len fs)) (line_passes from to frc fow len fs)
-    (given (λ g. (l : Line) → IsTrue (are_coords l.shape) → HasCoord (g l)) (Ok (λ x l. Add_line x l)) (number x)
-    (λ x l h. h))
-line_coords [] = tt
-line_coords (a ∷ []) = tt
-line_coords (a ∷ b ∷ []) = tt
-line_coords (a ∷ b ∷ c ∷ []) = tt
-line_coords (a ∷ b ∷ c ∷ d ∷ []) = tt
-line_coords (a ∷ b ∷ c ∷ d ∷ e ∷ []) = tt
+edit_passes : (r : Read Edit) → IfOk r OfEdit → IfOk (edit r) Recorded
+edit_passes (Ok e) h = h
+edit_passes (Err f) h = tt
 
-set_line_coords : (fs : List Field) → IfOk (set_line_record fs) HasCoord
-unfolding ShapePasses
-set_line_coords (x ∷ frc ∷ fow ∷ len ∷ fs) =
-    given_read HasCoord ShapePasses (Ok (λ x c. Set_line x c.0 c.1 c.2 c.3) ⊛ number x) (attributes frc fow len fs)
-    (attributes_pass frc fow len fs)
-    (given (λ g. (c : ℕ × ℕ × ℕ × List ShapePoint) → ShapePasses c → HasCoord (g c))
-    (Ok (λ x c. Set_line x c.0 c.1 c.2 c.3)) (number x) (λ x c h. h))
-set_line_coords [] = tt
-set_line_coords (a ∷ []) = tt
-set_line_coords (a ∷ b ∷ []) = tt
-set_line_coords (a ∷ b ∷ c ∷ []) = tt
+one_passes : {A B : Type 0} (P : B → Type 0) (Q : A → Type 0) (g : A → B) (r : Field → Read A) (fs : List Field) →
+    ((f : Field) → IfOk (r f) Q) → ((a : A) → Q a → P (g a)) → IfOk (one g r fs) P
+one_passes P Q g r [] q h = tt
+one_passes P Q g r (f ∷ []) q h = given P Q (Ok g) (r f) (q f) h
+one_passes P Q g r (f ∷ k ∷ fs) q h = tt
 
-edit_coords : (r : Read Edit) → IfOk r HasCoord → IfOk (edit r) HasCoords
-edit_coords (Ok e) h = h
-edit_coords (Err f) h = tt
+none_passes : (c : Command) (fs : List Field) → Recorded c → IfOk (none c fs) Recorded
+none_passes c [] h = h
+none_passes c (f ∷ fs) h = tt
 
-one_coords : {A B : Type 0} (P : B → Type 0) (g : A → B) (r : Field → Read A) (fs : List Field) → ((a : A) → P (g a)) →
-    IfOk (one g r fs) P
-one_coords P g r [] h = tt
-one_coords P g r (f ∷ []) h = given P (Ok g) (r f) h
-one_coords P g r (f ∷ k ∷ fs) h = tt
+abbrev NamedPath : List ℕ × Path → Type 0
+NamedPath p = IsTrue (is_named_path p.0 p.1)
 
-none_coords : (c : Command) (fs : List Field) → HasCoords c → IfOk (none c fs) HasCoords
-none_coords c [] h = h
-none_coords c (f ∷ fs) h = tt
+abbrev Name : List ℕ → Type 0
+Name n = IsTrue (is_name n)
 
-path_coords : (g : List ℕ → Path → Change) → ((n : List ℕ) (p : Path) → HasCoords (Make (g n p))) → (fs : List Field) →
-    IfOk (path_record g fs) HasCoords
-path_coords g h fs = given HasCoords (Ok (λ p. Make (g p.0 p.1))) (path_fields fs) (λ p. h p.0 p.1)
+abbrev Amount : ℕ → Type 0
+Amount n = IsTrue (is_amount n)
+
+path_fields_pass : (fs : List Field) → IfOk (path_fields fs) NamedPath
+path_fields_pass (n ∷ first ∷ last ∷ fs) =
+    given NamedPath Numbers
+    (Ok (λ n p q ls. (n, record { lines = ls; pos = p; neg = q })) ⊛ name n ⊛ amount first ⊛ amount last) (numbers fs)
+    (numbers_pass fs)
+    (given (Takes Numbers NamedPath) Amount
+    (Ok (λ n p q ls. (n, record { lines = ls; pos = p; neg = q })) ⊛ name n ⊛ amount first) (amount last)
+    (at_most_pass 0 max32 last)
+    (given (Takes Amount (Takes Numbers NamedPath)) Amount
+    (Ok (λ n p q ls. (n, record { lines = ls; pos = p; neg = q })) ⊛ name n) (amount first)
+    (at_most_pass 0 max32 first)
+    (given (Takes Amount (Takes Amount (Takes Numbers NamedPath))) Name
+    (Ok (λ n p q ls. (n, record { lines = ls; pos = p; neg = q }))) (name n) (name_passes n)
+    (λ n a p b q c ls d. and_from _ (list_all is_number ls) (and_from _ (is_amount q)
+    (and_from (is_name n) (is_amount p) a b) c) d))))
+path_fields_pass [] = tt
+path_fields_pass (n ∷ []) = tt
+path_fields_pass (n ∷ first ∷ []) = tt
+
+path_record_passes : (g : List ℕ → Path → Change) →
+    ((n : List ℕ) (p : Path) → NamedPath (n, p) → IsTrue (has_record (g n p))) → (fs : List Field) →
+    IfOk (path_record g fs) Recorded
+path_record_passes g h fs =
+    given Recorded NamedPath (Ok (λ p. Make (g p.0 p.1))) (path_fields fs) (path_fields_pass fs) (λ p. h p.0 p.1)
 
 Passes : (List Field → Read Command) → Type 0
-Passes form = (fs : List Field) → IfOk (form fs) HasCoords
+Passes form = (fs : List Field) → IfOk (form fs) Recorded
 
 by_passes : (rs : List (Field × (List Field → Read Command))) → AllByRecursion (λ r. Passes r.1) rs →
-    (word : Field) (fs : List Field) → IfOk (read_by rs word fs) HasCoords
+    (word : Field) (fs : List Field) → IfOk (read_by rs word fs) Recorded
 unfolding Passes
 by_passes [] h word fs = tt
 by_passes (r ∷ rs) h word fs =
-    if_read HasCoords (same_name word r.0) (r.1 fs) (read_by rs word fs) (h.0 fs) (by_passes rs h.1 word fs)
+    if_read Recorded (same_name word r.0) (r.1 fs) (read_by rs word fs) (h.0 fs) (by_passes rs h.1 word fs)
 
 forms_pass : AllByRecursion (λ r. Passes r.1) forms
 unfolding Passes
 forms_pass = (
-  λ fs. edit_coords (node_record Add_node fs) (node_coords Add_node (λ n c h. h) fs),
+  λ fs. edit_passes (node_record Add_node fs) (node_record_passes Add_node (λ n c h. h) fs),
   (
-    λ fs. edit_coords (node_record Move_node fs) (node_coords Move_node (λ n c h. h) fs),
+    λ fs. edit_passes (node_record Move_node fs) (node_record_passes Move_node (λ n c h. h) fs),
     (
-      λ fs. edit_coords (one Drop_node number fs) (one_coords HasCoord Drop_node number fs (λ n. tt)),
+      λ fs. edit_passes (one Drop_node number fs) (one_passes OfEdit Number Drop_node number fs number_passes (λ n h. h)),
       (
-        λ fs. edit_coords (line_record fs) (line_coords fs),
+        λ fs. edit_passes (line_record fs) (line_record_passes fs),
         (
-          λ fs. edit_coords (set_line_record fs) (set_line_coords fs),
+          λ fs. edit_passes (set_line_record fs) (set_line_record_passes fs),
           (
-            λ fs. edit_coords (one Drop_line number fs) (one_coords HasCoord Drop_line number fs (λ n. tt)),
+            λ fs.
+                edit_passes (one Drop_line number fs)
+                (one_passes OfEdit Number Drop_line number fs number_passes (λ n h. h)),
             (
-              λ fs. path_coords Add_path (λ n p. tt) fs,
+              λ fs. path_record_passes Add_path (λ n p h. h) fs,
               (
-                λ fs. path_coords Set_path (λ n p. tt) fs,
+                λ fs. path_record_passes Set_path (λ n p h. h) fs,
                 (
-                  λ fs. one_coords HasCoords (λ n. Make (Drop_path n)) name fs (λ n. tt),
+                  λ fs. one_passes Recorded Name (λ n. Make (Drop_path n)) name fs name_passes (λ n h. h),
                   (
-                    λ fs. one_coords HasCoords Show name fs (λ n. tt),
+                    λ fs. one_passes Recorded Name Show name fs name_passes (λ n h. tt),
                     (
-                      λ fs. none_coords Report fs tt,
+                      λ fs. none_passes Report fs tt,
                       (
-                        λ fs. one_coords HasCoords Explain (λ f. Ok f) fs (λ n. tt),
+                        λ fs. one_passes Recorded (λ f. ⊤) Explain (λ f. Ok f) fs (λ f. tt) (λ f h. tt),
                         (
-                          λ fs. none_coords Begin fs tt,
+                          λ fs. none_passes Begin fs tt,
                           (
-                            λ fs. one_coords HasCoords Commit amount fs (λ n. tt),
-                            (λ fs. none_coords Abort fs tt, tt),
+                            λ fs. one_passes Recorded Amount Commit amount fs (at_most_pass 0 max32) (λ n h. tt),
+                            (λ fs. none_passes Abort fs tt, tt),
                           ),
                         ),
                       ),
@@ -223,6 +350,52 @@ forms_pass = (
   ),
 )
 
+recorded : (fields : List Field) → IfOk (read fields) Recorded
+recorded [] = tt
+recorded (word ∷ fs) = by_passes forms forms_pass word fs
+
+pub has_record_read : (fields : List Field) (x : Change) → read fields ≡ Ok (Make x) → IsTrue (has_record x)
+has_record_read fields x e = subst (λ (r : Read Command). IfOk r Recorded) e (recorded fields)
+
+-- ---- its coordinates are in range
+
+place_coord : (p : Coord) → IsTrue (is_place p) → IsTrue (is_coord p)
+place_coord p h =
+    let texts = and_parts _ (has_degrees_text p.lat) h in
+    (and_parts (is_coord p) (has_degrees_text p.lon) texts.0).0
+
+shape_coords : (ss : List ShapePoint) → IsTrue (list_all is_point ss) → IsTrue (are_coords ss)
+shape_coords [] h = refl
+shape_coords (s ∷ ss) h =
+    let p = and_parts (is_point s) (list_all is_point ss) h in
+    let q = and_parts _ (is_place s.place) p.0 in
+    and_from (is_coord s.place) (are_coords ss) (place_coord s.place q.1) (shape_coords ss p.1)
+
+attributes_coords : (frc fow len : ℕ) (ss : List ShapePoint) → IsTrue (are_attributes frc fow len ss) →
+    IsTrue (are_coords ss)
+attributes_coords frc fow len ss h = shape_coords ss (and_parts _ (list_all is_point ss) h).1
+
+edit_coords : (e : Edit) → OfEdit e → HasCoord e
+edit_coords (Add_node v p) h = place_coord p (and_parts (is_number v) (is_place p) h).1
+edit_coords (Move_node v p) h = place_coord p (and_parts (is_number v) (is_place p) h).1
+edit_coords (Drop_node v) h = tt
+edit_coords (Add_line x l) h =
+    attributes_coords l.frc l.fow l.len l.shape (and_parts _ (are_attributes l.frc l.fow l.len l.shape) h).1
+edit_coords (Set_line x frc fow len ss) h =
+    attributes_coords frc fow len ss (and_parts (is_number x) (are_attributes frc fow len ss) h).1
+edit_coords (Drop_line x) h = tt
+
+coords : (c : Command) → Recorded c → HasCoords c
+coords (Make (On_map e)) h = edit_coords e h
+coords (Make (Add_path n p)) h = tt
+coords (Make (Set_path n p)) h = tt
+coords (Make (Drop_path n)) h = tt
+coords (Show n) h = tt
+coords Report h = tt
+coords (Explain text) h = tt
+coords Begin h = tt
+coords (Commit n) h = tt
+coords Abort h = tt
+
 pub coords_read : (fields : List Field) (c : Command) → read fields ≡ Ok c → HasCoords c
-coords_read [] c e = absurd cc
-coords_read (word ∷ fs) c e = subst (λ (r : Read Command). IfOk r HasCoords) e (by_passes forms forms_pass word fs)
+coords_read fields c e = coords c (subst (λ (r : Read Command). IfOk r Recorded) e (recorded fields))

@@ -19,3 +19,7 @@ abbrev pub LinesSplit : Type 0
 LinesSplit =
     (xs : List Change) → AllByRecursion (λ x. IsTrue (has_record x)) xs →
     records default_config (strip_bom (concat (map record_line xs))) ≡ map record_fields xs
+
+-- and a change that is read has a record
+abbrev pub ReadRecorded : Type 0
+ReadRecorded = (fields : List Field) (x : Change) → read fields ≡ Ok (Make x) → IsTrue (has_record x)

@@ -6,5 +6,6 @@ ghost use Rattle.olr_records.specs.Laws;
 pub fn laws_of_records()
     ensures places { Laws.CoordsRead }
     ensures written { Laws.RecordsRead }
+    ensures recorded { Laws.ReadRecorded }
     ensures split { Laws.LinesSplit }
 {}

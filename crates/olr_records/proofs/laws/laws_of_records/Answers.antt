@@ -1,4 +1,4 @@
-use Rattle.olr_records.proofs.ReadLemmas.{coords_read}
+use Rattle.olr_records.proofs.ReadLemmas.{coords_read, has_record_read}
 use Rattle.olr_records.proofs.WrittenLemmas.{record_back}
 use Rattle.olr_records.proofs.RecordLines.{records_split}
 use Rattle.olr_records.proofs.laws.laws_of_records.Goals as goal
@@ -11,3 +11,6 @@ returns-clause-written c = record_back
 
 pub returns-clause-split : goal.returns-clause-split
 returns-clause-split c = records_split
+
+pub returns-clause-recorded : goal.returns-clause-recorded
+returns-clause-recorded c = has_record_read
