@@ -6,3 +6,4 @@ pub mod TextLemmas
 pub mod ReadLemmas
 pub mod WrittenLemmas
 pub mod RecordLines
+pub mod RecordedLemmas

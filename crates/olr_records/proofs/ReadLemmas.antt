@@ -22,7 +22,7 @@ use Rattle.olr_records.specs.Records.{shape, node_fields, edit, one, none, node_
 use Rattle.olr_records.specs.Records.{whole_line, line_record, set_line_record, path_fields, path_record, forms}
 use Rattle.olr_records.specs.Records.{read_by, read}
 use Rattle.olr_records.specs.RecordText.{is_number, is_amount, is_place, is_point, are_attributes, is_named_path}
-use Rattle.olr_records.specs.RecordText.{has_record}
+use Rattle.olr_records.specs.RecordText.{has_record, Recorded}
 
 if_read : {A : Type 0} (P : A → Type 0) (b : Bool) (r q : Read A) → IfOk r P → IfOk q P → IfOk (if b then r else q) P
 if_read P true r q h g = h
@@ -207,11 +207,6 @@ line_passes from to frc fow len fs =
 abbrev OfEdit : Edit → Type 0
 OfEdit e = IsTrue (has_record (On_map e))
 
--- a change that has a record, or another command
-abbrev Recorded : Command → Type 0
-Recorded (Make x) = IsTrue (has_record x)
-Recorded c = ⊤
-
 node_record_passes : (g : ℕ → Coord → Edit) → ((n : ℕ) (c : Coord) → Node (n, c) → OfEdit (g n c)) →
     (fs : List Field) → IfOk (node_record g fs) OfEdit
 node_record_passes g h fs =
@@ -354,8 +349,8 @@ recorded : (fields : List Field) → IfOk (read fields) Recorded
 recorded [] = tt
 recorded (word ∷ fs) = by_passes forms forms_pass word fs
 
-pub has_record_read : (fields : List Field) (x : Change) → read fields ≡ Ok (Make x) → IsTrue (has_record x)
-has_record_read fields x e = subst (λ (r : Read Command). IfOk r Recorded) e (recorded fields)
+pub read_recorded : (fields : List Field) (c : Command) → read fields ≡ Ok c → Recorded c
+read_recorded fields c e = subst (λ (r : Read Command). IfOk r Recorded) e (recorded fields)
 
 -- ---- its coordinates are in range
 
@@ -398,4 +393,4 @@ coords (Commit n) h = tt
 coords Abort h = tt
 
 pub coords_read : (fields : List Field) (c : Command) → read fields ≡ Ok c → HasCoords c
-coords_read fields c e = coords c (subst (λ (r : Read Command). IfOk r Recorded) e (recorded fields))
+coords_read fields c e = coords c (read_recorded fields c e)

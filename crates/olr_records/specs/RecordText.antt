@@ -2,13 +2,14 @@
 --     record_fields x      its fields
 --     record_line x      its text, with a line feed
 --     has_record x      its numbers, its coordinates and its name are those that a record can spell
-use Rattle.std.specs.Prelude.{ℕ, Bool, true, ◌&&◌, List, [], ◌∷◌, ◌++◌, length, map, nat_le, codes, decimal}
-use Rattle.std.specs.List.{join_with_byte, list_all}
+use Rattle.std.specs.Prelude.{ℕ, Bool, true, ◌&&◌, List, [], ◌∷◌, ◌++◌, length, map, nat_le, codes, decimal, IsTrue, IfSome, ⊤}
+use Rattle.std.specs.List.{join_with_byte, list_all, AllByRecursion}
 use Rattle.olr_spec.specs.Coordinates.{Coord, is_coord}
 use Rattle.olr_spec.specs.Map.{ShapePoint, Add_node, Move_node, Drop_node, Add_line, Set_line, Drop_line}
 use Rattle.olr_spec.specs.Extension.{Path}
 use Rattle.olr_coords.specs.DegreesText.{degrees_text, has_degrees_text}
-use Rattle.olr_commands.specs.State.{Change, On_map, Add_path, Set_path, Drop_path}
+use Rattle.olr_commands.specs.State.{Change, On_map, Add_path, Set_path, Drop_path, Content, State, after, Command, Make}
+use Rattle.olr_commands.specs.Dump.{dump_changes}
 use Rattle.olr_records.specs.Records.{Field, is_name, max32}
 
 abbrev pub place_fields : Coord → List Field
@@ -70,3 +71,18 @@ has_record (On_map (Drop_line x)) = is_number x
 has_record (Add_path name p) = is_named_path name p
 has_record (Set_path name p) = is_named_path name p
 has_record (Drop_path name) = is_name name
+
+-- ---- contents
+
+-- each change that the content is written as has a record
+abbrev pub IsRecorded : Content → Type 0
+IsRecorded c = AllByRecursion (λ x. IsTrue (has_record x)) (dump_changes c)
+
+-- so has each change of the content that a batch leads to
+abbrev pub StaysRecorded : State → Type 0
+StaysRecorded s = IsRecorded s.content × IfSome s.batch (λ xs. IsRecorded (after s.content xs))
+
+-- a change that has a record, or another command
+abbrev pub Recorded : Command → Type 0
+Recorded (Make x) = IsTrue (has_record x)
+Recorded c = ⊤

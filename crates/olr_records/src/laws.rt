@@ -7,5 +7,6 @@ pub fn laws_of_records()
     ensures places { Laws.CoordsRead }
     ensures written { Laws.RecordsRead }
     ensures recorded { Laws.ReadRecorded }
+    ensures stays { Laws.StepsRecorded }
     ensures split { Laws.LinesSplit }
 {}

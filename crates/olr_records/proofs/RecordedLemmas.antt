@@ -1,0 +1,305 @@
+-- Commands whose changes have records lead to contents that have records.
+use Rattle.std.proofs.Common.{inl, inr, ◌≡◌, ◌≢◌, ℕ, Bool, true, false, cond, not, ◌&&◌, T, List, [], ◌∷◌, ◌++◌, map}
+use Rattle.std.proofs.Common.{filter, length, Option, Some, None, is_some, unwrap_or, Result, Ok, Err, IsTrue, refl, sym}
+use Rattle.std.proofs.Common.{ap, ◌∙◌, subst, nat_cmp}
+use Rattle.std.specs.Prelude.{nat_le, ◌==◌, IfSome, ⊤}
+use Rattle.std.proofs.Common.{Ordering, Less, Equal, Greater, is_lt, is_eq}
+use Rattle.std.specs.List.{list_all, AllByRecursion}
+use Rattle.std.specs.FinMap.{FinMap, get, insert, remove, entries, entries_sorted, get-entries}
+use Rattle.std.specs.FinMap.Entries.{find, below_all, is_sorted}
+use Rattle.std.specs.Cmp.{unsigned_tied}
+use Rattle.std.proofs.lemmas.Bool.{and_parts, and_from, cases_eq, eq-eqb, ne_eqb, both_ways}
+use Rattle.olr_spec.specs.Coordinates.{Coord}
+use Rattle.olr_spec.specs.Map.{Map, MapFault, Line, no_line, has_line, start, end, Edit, edited, Add_node, Move_node}
+use Rattle.olr_spec.specs.Map.{Drop_node, Add_line, Set_line, Drop_line, ShapePoint}
+use Rattle.olr_spec.specs.Extension.{Path, is_path}
+use Rattle.olr_spec.proofs.EditLemmas.{Made, made_by, got_same, got_other, left_same, left_other}
+use Rattle.olr_spec.proofs.MapLemmas.{T_first, T_second}
+use Rattle.olr_commands.specs.State.{Named, Content, has_path, same_name, with_path, TextFault, Fault, Path_exists}
+use Rattle.olr_commands.specs.State.{No_path, Bad_path, Batch_full, Count_differs, when, Change, On_map, Add_path}
+use Rattle.olr_commands.specs.State.{Set_path, Drop_path, with_map, with_change, next, after, Command, Make, Show}
+use Rattle.olr_commands.specs.State.{Report, Explain, Begin, Commit, Abort, State, full, at_once, into_batch}
+use Rattle.olr_commands.specs.State.{text_fault, unless_fault, step}
+use Rattle.olr_commands.specs.Dump.{node_change, line_change, path_change, dump_changes}
+use Rattle.olr_commands.proofs.StateLemmas.{when_ok, next_ok, after_push}
+use Rattle.olr_records.specs.Records.{is_name}
+use Rattle.olr_records.specs.RecordText.{is_number, is_amount, are_attributes, is_named_path, has_record, IsRecorded}
+use Rattle.olr_records.specs.RecordText.{Recorded, StaysRecorded}
+
+-- ---- lists
+
+module _ {X : Type 0} (P : X → Type 0) where
+  split_all : (xs ys : List X) → AllByRecursion P (xs ++ ys) → AllByRecursion P xs × AllByRecursion P ys
+  split_all [] ys h = (tt, h)
+  split_all (x ∷ xs) ys h = let r = split_all xs ys h.1 in ((h.0, r.0), r.1)
+
+  join_all : (xs ys : List X) → AllByRecursion P xs → AllByRecursion P ys → AllByRecursion P (xs ++ ys)
+  join_all [] ys h g = g
+  join_all (x ∷ xs) ys h g = (h.0, join_all xs ys h.1 g)
+
+  left_all : (test : X → Bool) (xs : List X) → AllByRecursion P xs → AllByRecursion P (filter test xs)
+  left_all test [] h = tt
+  left_all test (x ∷ xs) h =
+      elim (test x) as (λ b. AllByRecursion P (cond b (x ∷ filter test xs) (filter test xs))) [
+        | true ↦ (h.0, left_all test xs h.1)
+        | false ↦ left_all test xs h.1
+      ]
+
+module _ {X Y : Type 0} (f : X → Y) (P : Y → Type 0) where
+  of_mapped : (xs : List X) → AllByRecursion P (map f xs) → AllByRecursion (λ x. P (f x)) xs
+  of_mapped [] h = tt
+  of_mapped (x ∷ xs) h = (h.0, of_mapped xs h.1)
+
+  to_mapped : (xs : List X) → AllByRecursion (λ x. P (f x)) xs → AllByRecursion P (map f xs)
+  to_mapped [] h = tt
+  to_mapped (x ∷ xs) h = (h.0, to_mapped xs h.1)
+
+-- ---- numbers with their values
+
+lt_not_eq : (o : Ordering) → T (is_lt o) → is_eq o ≡ false
+lt_not_eq Less h = refl
+lt_not_eq Equal h = absurd h
+lt_not_eq Greater h = absurd h
+
+some_not_none : {X : Type 0} (o : Option X) (x : X) → o ≡ Some x → o ≡ None → ⊥
+some_not_none o x is none =
+    both_ways (is_some o) (ap (λ (p : Option _). is_some p) none) (ap (λ (p : Option _). is_some p) is)
+
+module _ {X : Type 0} where
+  -- a number below all of them equals none of them
+  missed : (k : ℕ) (es : List (ℕ × X)) → T (below_all nat_cmp k es) → find nat_cmp k es ≡ None
+  missed k [] h = refl
+  missed k (e ∷ es) h =
+      ap (λ (b : Bool). cond b (Some e.1) (find nat_cmp k es)) (lt_not_eq (nat_cmp k e.0) (T_first _ _ h))
+      ∙ missed k es (T_second _ _ h)
+
+  -- what is true of each number with its value is true of all entries
+  of_entries : (P : ℕ × X → Type 0) (es : List (ℕ × X)) → T (is_sorted nat_cmp es) →
+      ((e : ℕ × X) → find nat_cmp e.0 es ≡ Some e.1 → P e) → AllByRecursion P es
+  of_entries P [] s h = tt
+  of_entries P (e ∷ es) s h = (
+    h e (ap (λ (b : Bool). cond b (Some e.1) (find nat_cmp e.0 es)) (unsigned_tied e.0 e.0 ∙ eq-eqb e.0 e.0 refl)),
+    of_entries P es (T_second _ _ s) (λ f is.
+        let ne : f.0 ≢ e.0 = λ same.
+        some_not_none (find nat_cmp f.0 es) f.1 is
+        (ap (λ (j : ℕ). find nat_cmp j es) same ∙ missed e.0 es (T_first _ _ s)) in
+        h f (ap (λ (b : Bool). cond b (Some e.1) (find nat_cmp f.0 es)) (unsigned_tied f.0 e.0 ∙ ne_eqb f.0 e.0 ne)
+        ∙ is)),
+  )
+
+module _ {X : Type 0} (P : ℕ × X → Type 0) where
+  found : (k : ℕ) (v : X) (es : List (ℕ × X)) → AllByRecursion P es → find nat_cmp k es ≡ Some v → P (k, v)
+  found k v [] h is = absurd cc
+  found k v (e ∷ es) h is =
+      elim (cases_eq k e.0) [
+        | inl same ↦
+            let here : ◌≡◌ {A = Option X} (Some e.1) (Some v) =
+            sym (ap (λ (b : Bool). cond b (Some e.1) (find nat_cmp k es)) (unsigned_tied k e.0 ∙ eq-eqb k e.0 same))
+            ∙ is in
+            let value : e.1 ≡ v = cc in
+            subst P (λ i. (sym same i, value i)) h.0
+        | inr ne ↦
+            found k v es h.1
+            (sym (ap (λ (b : Bool). cond b (Some e.1) (find nat_cmp k es)) (unsigned_tied k e.0 ∙ ne_eqb k e.0 ne))
+            ∙ is)
+      ]
+
+  all_at : (m : FinMap nat_cmp X) → AllByRecursion P (entries m) → (k : ℕ) (v : X) → get m k ≡ Some v → P (k, v)
+  all_at m h k v is = found k v (entries m) h (sym (get-entries m k) ∙ is)
+
+  all_entries : (m : FinMap nat_cmp X) → ((k : ℕ) (v : X) → get m k ≡ Some v → P (k, v)) →
+      AllByRecursion P (entries m)
+  all_entries m h = of_entries P (entries m) (entries_sorted m) (λ e is. h e.0 e.1 (get-entries m e.0 ∙ is))
+
+  inserted : (m : FinMap nat_cmp X) (k : ℕ) (v : X) → AllByRecursion P (entries m) → P (k, v) →
+      AllByRecursion P (entries (insert m k v))
+  inserted m k v h p =
+      all_entries (insert m k v) (λ q w is. elim (cases_eq q k) [
+        | inl same ↦
+            let here : ◌≡◌ {A = Option X} (Some v) (Some w) =
+            sym (ap (get (insert m k v)) same ∙ got_same m k v) ∙ is in
+            let value : v ≡ w = cc in
+            subst P (λ i. (sym same i, value i)) p
+        | inr ne ↦ all_at m h q w (sym (got_other m k v q ne) ∙ is)
+      ])
+
+  removed : (m : FinMap nat_cmp X) (k : ℕ) → AllByRecursion P (entries m) → AllByRecursion P (entries (remove m k))
+  removed m k h =
+      all_entries (remove m k) (λ q w is. elim (cases_eq q k) [
+        | inl same ↦
+            absurd (let no : ◌≡◌ {A = Option X} None (Some w) =
+            sym (ap (get (remove m k)) same ∙ left_same m k) ∙ is in cc)
+        | inr ne ↦ all_at m h q w (sym (left_other m k q ne) ∙ is)
+      ])
+
+-- ---- contents
+
+abbrev Has : Change → Type 0
+Has x = IsTrue (has_record x)
+
+abbrev HasNode : ℕ × Coord → Type 0
+HasNode e = Has (node_change e)
+
+abbrev HasLine : ℕ × Line → Type 0
+HasLine e = Has (line_change e)
+
+abbrev HasPath : Named → Type 0
+HasPath p = Has (path_change p)
+
+record MapRecorded (M : Map) : Type 0 where
+  nodes : AllByRecursion HasNode (entries M.nodes)
+  lines : AllByRecursion HasLine (entries M.lines)
+
+parts_of : (c : Content) → IsRecorded c → MapRecorded c.map × AllByRecursion HasPath c.paths
+parts_of c h =
+    let a = split_all Has (map node_change (entries c.map.nodes)) _ h in
+    let b = split_all Has (map line_change (entries c.map.lines)) (map path_change c.paths) a.1 in (
+      record {
+        nodes = of_mapped node_change Has (entries c.map.nodes) a.0;
+        lines = of_mapped line_change Has (entries c.map.lines) b.0;
+      },
+      of_mapped path_change Has c.paths b.1,
+    )
+
+of_parts : (c : Content) → MapRecorded c.map → AllByRecursion HasPath c.paths → IsRecorded c
+of_parts c m h =
+    join_all Has (map node_change (entries c.map.nodes)) _
+    (to_mapped node_change Has (entries c.map.nodes) m.nodes)
+    (join_all Has (map line_change (entries c.map.lines)) (map path_change c.paths)
+    (to_mapped line_change Has (entries c.map.lines) m.lines) (to_mapped path_change Has c.paths h))
+
+-- the ends of a line that is on the map
+ends_are : (M : Map) (x : ℕ) (o : Option Line) → MapRecorded M → get M.lines x ≡ o → is_some o ≡ true →
+    IsTrue (is_number (unwrap_or o no_line).from) × IsTrue (is_number (unwrap_or o no_line).to)
+ends_are M x None m is h = absurd cc
+ends_are M x (Some l) m is h =
+    let p = all_at HasLine M.lines m.lines x l is in
+    let a = and_parts _ (are_attributes l.frc l.fow l.len l.shape) p in
+    let b = and_parts _ (is_number l.to) a.0 in
+    ((and_parts (is_number x) (is_number l.from) b.0).1, b.1)
+
+map_stays : (M N : Map) (e : Edit) → MapRecorded M → Has (On_map e) → Made M e N → MapRecorded N
+map_stays M N (Add_node v c) m h made =
+    subst MapRecorded made.1 (record { nodes = inserted HasNode M.nodes v c m.nodes h; lines = m.lines })
+map_stays M N (Move_node v c) m h made =
+    subst MapRecorded made.1 (record { nodes = inserted HasNode M.nodes v c m.nodes h; lines = m.lines })
+map_stays M N (Drop_node v) m h made =
+    subst MapRecorded made.2 (record { nodes = removed HasNode M.nodes v m.nodes; lines = m.lines })
+map_stays M N (Add_line x l) m h made =
+    subst MapRecorded made.4 (record { nodes = m.nodes; lines = inserted HasLine M.lines x l m.lines h })
+map_stays M N (Set_line x frc fow len ss) m h made =
+    let l : Line = record { from = start M x; to = end M x; frc = frc; fow = fow; len = len; shape = ss } in
+    let ends = ends_are M x (get M.lines x) m refl made.0 in
+    let p = and_parts (is_number x) (are_attributes frc fow len ss) h in
+    let has : HasLine (x, l) =
+    and_from _ (are_attributes frc fow len ss) (and_from _ (is_number (end M x))
+    (and_from (is_number x) (is_number (start M x)) p.0 ends.0) ends.1) p.1 in
+    subst MapRecorded made.2 (record { nodes = m.nodes; lines = inserted HasLine M.lines x l m.lines has })
+map_stays M N (Drop_line x) m h made =
+    subst MapRecorded made.1 (record { nodes = m.nodes; lines = removed HasLine M.lines x m.lines })
+
+edit_stays : (c d : Content) (e : Edit) (r : Result Map MapFault) → edited c.map e ≡ r → IsRecorded c →
+    Has (On_map e) → with_map c r ≡ Ok d → IsRecorded d
+edit_stays c d e (Ok m) is i h to =
+    let p = parts_of c i in
+    let same : record c { map = m } ≡ d = cc in
+    subst IsRecorded same
+    (of_parts (record c { map = m }) (map_stays c.map m e p.0 h (made_by c.map m e is)) p.1)
+edit_stays c d e (Err f) is i h to = absurd cc
+
+-- the path of a name is set
+set_stays : (name : List ℕ) (path : Path) (ps : List Named) → Has (Set_path name path) → AllByRecursion HasPath ps →
+    AllByRecursion HasPath (map (with_path name path) ps)
+set_stays name path [] h g = tt
+set_stays name path (p ∷ ps) h g =
+    let a = and_parts _ (list_all is_number path.lines) h in
+    let b = and_parts _ (is_amount path.neg) a.0 in
+    let c = and_parts (is_name name) (is_amount path.pos) b.0 in
+    let d = and_parts _ (list_all is_number p.path.lines) g.0 in
+    let e = and_parts _ (is_amount p.path.neg) d.0 in
+    let f = and_parts (is_name p.name) (is_amount p.path.pos) e.0 in
+    let new : Named = record { name = p.name; path = path } in
+    let has : HasPath new =
+    and_from _ (list_all is_number path.lines) (and_from _ (is_amount path.neg)
+    (and_from (is_name p.name) (is_amount path.pos) f.0 c.1) b.1) a.1 in (
+      elim (same_name p.name name) as (λ x. HasPath (cond x new p)) [ true ↦ has | false ↦ g.0 ],
+      set_stays name path ps h g.1,
+    )
+
+change_stays : (c d : Content) (x : Change) → IsRecorded c → Has x → with_change c x ≡ Ok d → IsRecorded d
+change_stays c d (On_map e) i h is = edit_stays c d e (edited c.map e) refl i h is
+change_stays c d (Add_path name path) i h is =
+    let n : Named = record { name = name; path = path } in
+    let to : Content = record c { paths = c.paths ++ n ∷ [] } in
+    let p = when_ok (has_path c name) Path_exists (when (not (is_path path.lines)) Bad_path (Ok to)) d is in
+    let q = when_ok (not (is_path path.lines)) Bad_path (Ok to) d p.1 in
+    let same : to ≡ d = cc in
+    let parts = parts_of c i in
+    subst IsRecorded same (of_parts to parts.0 (join_all HasPath c.paths (n ∷ []) parts.1 (h, tt)))
+change_stays c d (Set_path name path) i h is =
+    let to : Content = record c { paths = map (with_path name path) c.paths } in
+    let p = when_ok (not (has_path c name)) No_path (when (not (is_path path.lines)) Bad_path (Ok to)) d is in
+    let q = when_ok (not (is_path path.lines)) Bad_path (Ok to) d p.1 in
+    let same : to ≡ d = cc in
+    let parts = parts_of c i in
+    subst IsRecorded same (of_parts to parts.0 (set_stays name path c.paths h parts.1))
+change_stays c d (Drop_path name) i h is =
+    let test : Named → Bool = λ p. not (same_name p.name name) in
+    let to : Content = record c { paths = filter test c.paths } in
+    let p = when_ok (not (has_path c name)) No_path (Ok to) d is in
+    let same : to ≡ d = cc in
+    let parts = parts_of c i in
+    subst IsRecorded same (of_parts to parts.0 (left_all HasPath test c.paths parts.1))
+
+-- ---- commands
+
+make_stays : (c : Content) (x : Change) (r : Result Content Fault) (t : State) → with_change c x ≡ r → IsRecorded c →
+    Has x → at_once r ≡ Ok t → StaysRecorded t
+make_stays c x (Ok d) t is i h to =
+    let same : record { content = d; batch = None } ≡ t = cc in
+    subst StaysRecorded same (change_stays c d x i h is, tt)
+make_stays c x (Err f) t is i h to = absurd cc
+
+hold_stays : (c : Content) (xs : List Change) (x : Change) (r : Result Content Fault) (t : State) →
+    with_change (after c xs) x ≡ r → IsRecorded c → IsRecorded (after c xs) → Has x →
+    into_batch c (xs ++ x ∷ []) r ≡ Ok t → StaysRecorded t
+hold_stays c xs x (Ok d) t is i k h to =
+    let same : record { content = c; batch = Some (xs ++ x ∷ []) } ≡ t = cc in
+    let there : after c (xs ++ x ∷ []) ≡ d = after_push c xs x ∙ next_ok (after c xs) d x is in
+    subst StaysRecorded same (i, subst IsRecorded (sym there) (change_stays (after c xs) d x k h is))
+hold_stays c xs x (Err f) t is i k h to = absurd cc
+
+text_stays : (s t : State) (o : Option TextFault) → StaysRecorded s → unless_fault s o ≡ Ok t → StaysRecorded t
+text_stays s t None i is = let same : s ≡ t = cc in subst StaysRecorded same i
+text_stays s t (Some f) i is = absurd cc
+
+pub step_stays : (s t : State) (c : Command) → StaysRecorded s → Recorded c → step s c ≡ Ok t → StaysRecorded t
+step_stays s t c i h is = by_batch s.content s.batch t c i.0 i.1 h is where
+  by_batch : (c : Content) (b : Option (List Change)) (t : State) (x : Command) → IsRecorded c →
+      IfSome b (λ xs. IsRecorded (after c xs)) → Recorded x → step (record { content = c; batch = b }) x ≡ Ok t →
+      StaysRecorded t
+  by_batch c None t (Make x) i k h is = make_stays c x (with_change c x) t refl i h is
+  by_batch c (Some xs) t (Make x) i k h is =
+      let p =
+      when_ok (nat_le full (length xs)) Batch_full (into_batch c (xs ++ x ∷ []) (with_change (after c xs) x)) t is in
+      hold_stays c xs x (with_change (after c xs) x) t refl i k h p.1
+  by_batch c b t (Show name) i k h is =
+      let p = when_ok (not (has_path c name)) No_path (Ok (record { content = c; batch = b })) t is in
+      let same : record { content = c; batch = b } ≡ t = cc in
+      subst StaysRecorded same (i, k)
+  by_batch c b t Report i k h is =
+      let same : record { content = c; batch = b } ≡ t = cc in subst StaysRecorded same (i, k)
+  by_batch c b t (Explain text) i k h is =
+      text_stays (record { content = c; batch = b }) t (text_fault text) (i, k) is
+  by_batch c None t Begin i k h is =
+      let same : record { content = c; batch = Some [] } ≡ t = cc in subst StaysRecorded same (i, i)
+  by_batch c (Some xs) t Begin i k h is = absurd cc
+  by_batch c None t (Commit count) i k h is = absurd cc
+  by_batch c (Some xs) t (Commit count) i k h is =
+      let to : State = record { content = after c xs; batch = None } in
+      let p = when_ok (not (length xs == count)) Count_differs (Ok to) t is in
+      let same : to ≡ t = cc in
+      subst StaysRecorded same (k, tt)
+  by_batch c None t Abort i k h is = absurd cc
+  by_batch c (Some xs) t Abort i k h is =
+      let same : record { content = c; batch = None } ≡ t = cc in subst StaysRecorded same (i, tt)
