@@ -2,9 +2,9 @@
 use Rattle.std.proofs.Common.{inl, inr, ◌≡◌, ℕ, Bool, true, false, cond, not, List, [], ◌∷◌, ◌++◌, length, Option, Some}
 use Rattle.std.proofs.Common.{None, is_some, Result, Ok, Err, refl, sym, ap, ◌∙◌, subst, arith}
 use Rattle.std.specs.Prelude.{nat_le, ◌==◌, ◌||◌, ◌↔◌, MatchOption, IsSomeAnd, IfSome}
-use Rattle.std.specs.List.{list_any, AllByRecursion}
+use Rattle.std.specs.List.{list_any, AllByRecursion, concat}
 use Rattle.std.specs.Result.{result_unwrap_or}
-use Rattle.std.proofs.lemmas.Bool.{cases_Bool, both_ways}
+use Rattle.std.proofs.lemmas.Bool.{cases_Bool, both_ways, not-false}
 use lib.Pointwise.{bytes_decides}
 use Rattle.olr_spec.specs.Map.{Map, IsMap}
 use Rattle.olr_spec.specs.Extension.{Path}
@@ -19,14 +19,17 @@ use Rattle.olr_commands.specs.State.{Named, Content, path_named, same_name, AreP
 use Rattle.olr_commands.specs.State.{TextFault, Fault, No_path, Batch_full, Count_differs, Change, with_change, next}
 use Rattle.olr_commands.specs.State.{after, Command, Make, Show, Report, Explain, Begin, Commit, Abort, State}
 use Rattle.olr_commands.specs.State.{start_state, full, at_once, into_batch, text_fault, unless_fault, step}
-use Rattle.olr_commands.specs.State.{changes_made, HasCoords, IsState}
+use Rattle.olr_commands.specs.State.{changes_made, HasCoords, IsState, is_recordable, Not_a_record, Dump}
+use Rattle.olr_commands.specs.Dump.{dump_lines}
 use Rattle.olr_commands.specs.Reply.{Entry, entry, Paths, HasAnswer, Published, ChangedOf, Differences, IsReply}
-use Rattle.olr_commands.specs.Reply.{Outcome, IsOutcome}
+use Rattle.olr_commands.specs.Reply.{Outcome, IsOutcome, Dumped}
 use Rattle.olr_commands.specs.History.{Run, History, AllHaveCoords, next_state, brought_by, all_changes_made, OneOf}
 use Rattle.olr_commands.specs.History.{IsPublished, names, NamesChanged, reports, IsNamed, IsRefused, Headline}
+use Rattle.olr_commands.specs.History.{IsDump, IsDumped}
 use Rattle.olr_commands.proofs.NameLemmas.{same_is}
 use Rattle.olr_commands.proofs.StateLemmas.{when_ok, next_ok, after_append, steps_keep}
 use Rattle.olr_commands.proofs.ReplyLemmas.{named_path}
+use Rattle.olr_commands.proofs.DumpLemmas.{dumps_run}
 
 -- ---- the content
 
@@ -67,6 +70,9 @@ brings s t c is = by_batch s.content s.batch t c is where
       ok_is _ t (when_ok (not (has_path c name)) No_path (Ok (record { content = c; batch = Some xs })) t is).1
   by_batch c None t Report is = ok_is _ t is
   by_batch c (Some xs) t Report is = ok_is _ t is
+  by_batch c None t Dump is =
+      ok_is _ t (when_ok (not (is_recordable c)) Not_a_record (Ok (record { content = c; batch = None })) t is).1
+  by_batch c (Some xs) t Dump is = absurd cc
   by_batch c None t (Explain text) is = unless_is (record { content = c; batch = None }) t (text_fault text) is
   by_batch c (Some xs) t (Explain text) is = unless_is (record { content = c; batch = Some xs }) t (text_fault text) is
   by_batch c None t Begin is = ok_is _ t is
@@ -343,6 +349,7 @@ reported_of s t c es = by s.batch c where
   by None (Make x) e h = h
   by None (Show name) e h = absurd cc
   by None Report e h = absurd cc
+  by None Dump e h = absurd cc
   by None (Explain text) e h = absurd cc
   by None Begin e h = absurd cc
   by None (Commit count) e h = absurd cc
@@ -350,6 +357,7 @@ reported_of s t c es = by s.batch c where
   by (Some xs) (Make x) e h = absurd cc
   by (Some xs) (Show name) e h = absurd cc
   by (Some xs) Report e h = absurd cc
+  by (Some xs) Dump e h = absurd cc
   by (Some xs) (Explain text) e h = absurd cc
   by (Some xs) Begin e h = absurd cc
   by (Some xs) (Commit count) e h = h
@@ -360,27 +368,89 @@ is_named s t c o sound h report_all es is =
     names_changed s.content t.content es sound
     (reported_of s t c es report_all (subst (λ (p : Outcome). IsOutcome s c p t) is h).1)
 
+-- the reply with the records of a content is to a dump
+dumped_of : (s t : State) (c : Command) (count : ℕ) (text : List ℕ) → IsContent s.content → step s c ≡ Ok t →
+    IsReply s c t (Dumped count text) → IsDump s count text × (t ≡ s)
+dumped_of s t c count text i = by s.batch c where
+  by : (b : Option (List Change)) (c : Command) → step (record { content = s.content; batch = b }) c ≡ Ok t →
+      IsReply (record { content = s.content; batch = b }) c t (Dumped count text)
+      → IsDump (record { content = s.content; batch = b }) count text × (t ≡ record { content = s.content; batch = b })
+  by None (Make x) is h = absurd h
+  by (Some xs) (Make x) is h = absurd cc
+  by b (Show name) is h = absurd h
+  by b Report is h = absurd h
+  by None Dump is h =
+      let here : State = record { content = s.content; batch = None } in
+      let p = when_ok (not (is_recordable s.content)) Not_a_record (Ok here) t is in
+      let same : here ≡ t = cc in
+      let lines : count ≡ length (dump_lines s.content) = cc in
+      let bytes : text ≡ concat (dump_lines s.content) = cc in (
+        record {
+          recordable = not-false (is_recordable s.content) p.0;
+          lines = lines;
+          bytes = bytes;
+          builds = dumps_run s.content i;
+        },
+        sym same,
+      )
+  by (Some xs) Dump is h = absurd cc
+  by b (Explain text) is h = absurd h
+  by b Begin is h = absurd cc
+  by b (Commit count) is h = absurd h
+  by b Abort is h = absurd cc
+
+pub is_dumped : (s t : State) (c : Command) (o : Outcome) → IsContent s.content → IsOutcome s c o t → IsDumped s o t
+is_dumped s t c o i h count text is =
+    let p = subst (λ (p : Outcome). IsOutcome s c p t) is h in dumped_of s t c count text i p.0 p.1
+
 pub is_refused : (s t : State) (c : Command) (o : Outcome) → IsOutcome s c o t → IsRefused s o t
 is_refused s t c o h fault is = (subst (λ (p : Outcome). IsOutcome s c p t) is h).1
 
--- runs whose steps lead on, name what changed, and change nothing when rejected
+-- what each step of a run gives for the claims
+pub record Claimed (s : State) (asked : Option Command) (o : Outcome) (t : State) : Type 0 where
+  pub leads : Leads s asked o t
+  pub named : IfSome asked (λ c. IsNamed s c o t)
+  pub refused : IsRefused s o t
+  pub sound : IsContent t.content
+  pub dumped : IsContent s.content → IsDumped s o t
+
+sound_after : {A : Type 0} (P : State → A → Outcome → State → Type 0) →
+    ((s : State) (x : A) (o : Outcome) (t : State) → P s x o t → IsContent t.content)
+    → (s : State) (xs : List A) (os : List Outcome) (t : State) → IsContent s.content → Run P s xs os t →
+    IsContent t.content
+sound_after P f s xs [] t i h = subst (λ (a : State). IsContent a.content) h i
+sound_after P f s [] (o ∷ os) t i h = absurd h
+sound_after P f s (x ∷ xs) (o ∷ os) t i h = sound_after P f h.0 xs os t (f s x o h.0 h.1) h.2
+
+dumped_each : {A : Type 0} (P : State → A → Outcome → State → Type 0) (asked : A → Option Command) →
+    ((s : State) (x : A) (o : Outcome) (t : State) → P s x o t → Claimed s (asked x) o t)
+    → (s : State) (xs : List A) (os : List Outcome) (t : State) → IsContent s.content → Run P s xs os t →
+    Run (λ a x o b. P a x o b × IsDumped a o b) s xs os t
+dumped_each P asked f s xs [] t i h = h
+dumped_each P asked f s [] (o ∷ os) t i h = absurd h
+dumped_each P asked f s (x ∷ xs) (o ∷ os) t i h =
+    let c = f s x o h.0 h.1 in
+    (h.0, (h.1, c.dumped i), dumped_each P asked f h.0 xs os t c.sound h.2)
+
+-- runs whose steps give what the claims need, from a sound content
 pub headline_of : {A : Type 0} (P : State → A → Outcome → State → Type 0) (asked : A → Option Command)
-    → ((s : State) (x : A) (o : Outcome) (t : State) → P s x o t → Leads s (asked x) o t
-    × IfSome (asked x) (λ c. IsNamed s c o t) × IsRefused s o t)
-    → (s : State) (xs : List A) (os : List Outcome) (t : State) → IsContent t.content → Run P s xs os t →
+    → ((s : State) (x : A) (o : Outcome) (t : State) → P s x o t → Claimed s (asked x) o t)
+    → (s : State) (xs : List A) (os : List Outcome) (t : State) → IsContent s.content → Run P s xs os t →
     Headline P asked s xs os t
 headline_of P asked f s xs os t sound h =
     record {
       run = h;
       published =
-          is_published s.content t.content _ sound
+          is_published s.content t.content _ (sound_after P (λ a x o b p. (f a x o b p).sound) s xs os t sound h)
           (content_after asked s t xs os
-          (run_each P (λ a x o b. Leads a (asked x) o b) (λ a x o b p. (f a x o b p).0) s xs os t h));
+          (run_each P (λ a x o b. Leads a (asked x) o b) (λ a x o b p. (f a x o b p).leads) s xs os t h));
       joined = routes_of t.content;
       named =
           run_each P (λ a x o b. P a x o b × IfSome (asked x) (λ c. IsNamed a c o b))
-          (λ a x o b p. (p, (f a x o b p).1)) s xs os t h;
-      refused = run_each P (λ a x o b. P a x o b × IsRefused a o b) (λ a x o b p. (p, (f a x o b p).2)) s xs os t h;
+          (λ a x o b p. (p, (f a x o b p).named)) s xs os t h;
+      refused =
+          run_each P (λ a x o b. P a x o b × IsRefused a o b) (λ a x o b p. (p, (f a x o b p).refused)) s xs os t h;
+      dumped = dumped_each P asked f s xs os t sound h;
     }
 
 -- ---- the claims of commands
@@ -418,17 +488,26 @@ only_outcomes P Q asked s xs os t f h =
       refused =
           run_each (λ a x o b. P a x o b × IsRefused a o b) (λ a x o b. Q a x o b × IsRefused a o b)
           (λ a x o b p. (f a x o b p.0, p.1)) s xs os t h.refused;
+      dumped =
+          run_each (λ a x o b. P a x o b × IsDumped a o b) (λ a x o b. Q a x o b × IsDumped a o b)
+          (λ a x o b p. (f a x o b p.0, p.1)) s xs os t h.dumped;
     }
 
-pub headline_of_outcomes : (s : State) (cs : List Command) (os : List Outcome) (t : State) → IsContent t.content →
+pub headline_of_outcomes : (s : State) (cs : List Command) (os : List Outcome) (t : State) → IsContent s.content →
     Run SoundOutcome s cs os t → Headline IsOutcome (λ c. Some c) s cs os t
 headline_of_outcomes s cs os t sound h =
     only_outcomes SoundOutcome IsOutcome (λ c. Some c) s cs os t (λ a c o b p. p.0)
     (headline_of SoundOutcome (λ c. Some c)
-    (λ a c o b p. (outcome_leads a c o b p.0, is_named a b c o p.1 p.0, is_refused a b c o p.0)) s cs os t sound h)
+    (λ a c o b p. record {
+      leads = outcome_leads a c o b p.0;
+      named = is_named a b c o p.1 p.0;
+      refused = is_refused a b c o p.0;
+      sound = p.1;
+      dumped = λ i. is_dumped a b c o i p.0;
+    }) s cs os t sound h)
 
 pub headline_of_histories : (cs : List Command) (os : List Outcome) (t : State) → AllHaveCoords cs →
     History start_state cs os t → IsState t × Headline IsOutcome (λ c. Some c) start_state cs os t
 headline_of_histories cs os t h run =
     let k = history_keeps start_state t cs os start_sound h run.1 in
-    (k.0, headline_of_outcomes start_state cs os t k.0.content k.1)
+    (k.0, headline_of_outcomes start_state cs os t start_sound.content k.1)

@@ -1,3 +1,4 @@
+pub mod RecordLemmas
 pub mod NameLemmas
 pub mod StateLemmas
 pub mod ReplyLemmas

@@ -9,6 +9,8 @@ use Rattle.olr_spec.proofs.AnswerLemmas.{one_answer}
 use Rattle.olr_spec.proofs.BytesLemmas.{one_decoding}
 use Rattle.olr_commands.specs.State.{Named, Content, same_name, path_named, ArePaths, IsContent, Change, State, Command}
 use Rattle.olr_commands.specs.State.{Make, Show, Report, Explain, Begin, Commit, Abort, IsState}
+use Rattle.olr_commands.specs.State.{Dump}
+use Rattle.olr_commands.specs.Reply.{Dumped}
 use Rattle.olr_commands.specs.Reply.{Entry, entry, Reply, Paths, Fields, Held, HasAnswer, AllOf, ChangedOf, Differences}
 use Rattle.olr_commands.specs.Reply.{Shown, Explained, IsPaths, IsFields, IsChangeReply, IsReply}
 
@@ -53,16 +55,20 @@ one_paths : (T : List Entry → Type 0) → ((es fs : List Entry) → T es → T
 one_paths T one (Paths es) (Paths fs) p g = ap (λ (xs : List Entry). Paths xs) (one es fs p g)
 one_paths T one (Paths es) (Fields y) p g = absurd g
 one_paths T one (Paths es) (Held n) p g = absurd g
+one_paths T one (Paths es) (Dumped n t) p g = absurd g
 one_paths T one (Fields x) q p g = absurd p
 one_paths T one (Held n) q p g = absurd p
+one_paths T one (Dumped n t) q p g = absurd p
 
 one_fields : (T : Reference → Type 0) → ((x y : Reference) → T x → T y → x ≡ y) → (r q : Reply) → IsFields r T →
     IsFields q T → r ≡ q
 one_fields T one (Fields x) (Fields y) p g = ap (λ (z : Reference). Fields z) (one x y p g)
 one_fields T one (Fields x) (Paths fs) p g = absurd g
 one_fields T one (Fields x) (Held n) p g = absurd g
+one_fields T one (Fields x) (Dumped n t) p g = absurd g
 one_fields T one (Paths es) q p g = absurd p
 one_fields T one (Held n) q p g = absurd p
+one_fields T one (Dumped n t) q p g = absurd p
 
 -- the path of a name has one answer
 pub one_has : (c : Content) → IsContent c → (name : List ℕ) (A B : Answer) → HasAnswer c name A → HasAnswer c name B →
@@ -102,6 +108,7 @@ one_reply s t (Show name) r q i j p g = one_paths (Shown s.content name) (one_sh
 one_reply s t Report r q i j p g =
     one_paths (AllOf s.content.map s.content.paths)
     (λ es fs. one_all s.content.map i.content.map s.content.paths es fs i.content.paths) r q p g
+one_reply s t Dump r q i j p g = p ∙ sym g
 one_reply s t (Explain text) r q i j p g = one_fields (Explained text) (one_explained text) r q p g
 one_reply s t Begin r q i j p g = p ∙ sym g
 one_reply s t (Commit count) r q i j p g = one_difference s.content t.content j.content r q p g

@@ -2,6 +2,7 @@
 use Rattle.std.proofs.Common.{inl, inr, ◌⊎◌, ◌≡◌, ◌≢◌, ℕ, suc, true, false, not, List, [], ◌∷◌, length, Option, Some}
 use Rattle.std.proofs.Common.{None, is_some, Ok, IsTrue, refl, sym, ap, ◌∙◌, subst}
 use Rattle.std.specs.Prelude.{◌==◌}
+use Rattle.std.specs.List.{concat}
 use Rattle.std.proofs.lemmas.Bool.{cases_Bool, both_ways, eqb-true, eqb-false}
 use lib.Pointwise.{bytes_decides}
 use Rattle.olr_spec.specs.Map.{Map, IsMap}
@@ -15,7 +16,9 @@ use Rattle.olr_spec.proofs.FitLemmas.{encoded_fits}
 use Rattle.olr_spec.proofs.BytesLemmas.{one_decoding}
 use Rattle.olr_commands.specs.State.{Named, Content, path_named, same_name, ArePaths, IsContent, has_path, No_path}
 use Rattle.olr_commands.specs.State.{Change, Command, Make, Show, Report, Explain, Begin, Commit, Abort, HasCoords}
-use Rattle.olr_commands.specs.State.{State, step, IsState}
+use Rattle.olr_commands.specs.State.{State, step, IsState, Dump}
+use Rattle.olr_commands.specs.Dump.{dump_lines}
+use Rattle.olr_commands.specs.Reply.{Dumped}
 use Rattle.olr_commands.specs.Reply.{Entry, entry, Reply, Paths, Held, HasAnswer, AllOf, ChangedOf, Differences, Shown}
 use Rattle.olr_commands.specs.Reply.{IsChangeReply, IsReply}
 use Rattle.olr_commands.proofs.StateLemmas.{when_ok, steps_keep}
@@ -143,6 +146,8 @@ some_reply s t (Show name) i h is n = let es =
     (Paths es.0, es.1)
 some_reply s t Report i h is n = let es =
     some_all s.content.map i.content.map s.content.paths i.content.paths in (Paths es.0, es.1)
+some_reply s t Dump i h is n =
+    (Dumped (length (dump_lines s.content)) (concat (dump_lines s.content)), refl)
 some_reply s t (Explain text) i h is n = absurd (n text refl)
 some_reply s t Begin i h is n = (Paths [], refl)
 some_reply s t (Commit count) i h is n = let es =

@@ -11,7 +11,7 @@ use Rattle.olr_commands.specs.State.{No_path, Bad_path, Batch_full, Count_differ
 use Rattle.olr_commands.specs.State.{Set_path, Drop_path, with_map, with_change, next, after, Command, Make, Show}
 use Rattle.olr_commands.specs.State.{Report, Explain, Begin, Commit, Abort, State, full, at_once, into_batch}
 use Rattle.olr_commands.specs.State.{text_fault, unless_fault, step, IsContent, AllAccepted, IsBatch, IsState}
-use Rattle.olr_commands.specs.State.{HasCoords}
+use Rattle.olr_commands.specs.State.{HasCoords, is_recordable, Not_a_record, Dump}
 use Rattle.olr_spec.proofs.EditLemmas.{edits_keep}
 use Rattle.olr_commands.proofs.NameLemmas.{differ_push, differ_set, differ_filter, paths_push, paths_set, paths_filter}
 use Rattle.std.proofs.lemmas.List.{length_push}
@@ -135,6 +135,12 @@ steps_keep s t c i h is = steps s.content s.batch t c i.content i.batch h is whe
       subst IsState same (record { content = i; batch = k })
   steps c b t Report i k h is = let same : record { content = c; batch = b } ≡ t =
       cc in subst IsState same (record { content = i; batch = k })
+  steps c None t Dump i k h is =
+      let p =
+      when_ok (not (is_recordable c)) Not_a_record (Ok (record { content = c; batch = None })) t is in
+      let same : record { content = c; batch = None } ≡ t = cc in
+      subst IsState same (record { content = i; batch = k })
+  steps c (Some xs) t Dump i k h is = absurd cc
   steps c b t (Explain text) i k h is =
       explain (record { content = c; batch = b }) t (text_fault text) (record { content = i; batch = k }) is
   steps c None t Begin i k h is =

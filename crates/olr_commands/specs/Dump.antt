@@ -1,6 +1,7 @@
 -- A content written as changes that build it from an empty one.
 --     dump_changes c      an added node for each node, an added line for each line, both in ascending order,
 --         and an added path for each path, in order
+--     dump_lines c      the records of these changes
 --     Leads c xs d      the changes are accepted one after another and lead from c to d
 --     steps s cs      the state after commands, or the first fault
 use Rattle.std.specs.Prelude.{◌≡◌, ℕ, List, [], ◌∷◌, ◌++◌, map, None, Result, Ok, Err}
@@ -9,6 +10,7 @@ use Rattle.olr_spec.specs.Map.{Line, Add_node, Add_line}
 use Rattle.olr_spec.specs.Coordinates.{Coord}
 use Rattle.olr_commands.specs.State.{Named, Content, no_content, Fault, Change, On_map, Add_path, after, Command, Make}
 use Rattle.olr_commands.specs.State.{State, start_state, step, IsContent, AllAccepted}
+use Rattle.olr_commands.specs.RecordText.{record_line}
 
 abbrev pub node_change : ℕ × Coord → Change
 node_change e = On_map (Add_node e.0 e.1)
@@ -23,6 +25,9 @@ path_change p = Add_path p.name p.path
 abbrev pub dump_changes : Content → List Change
 dump_changes c =
     map node_change (entries c.map.nodes) ++ (map line_change (entries c.map.lines) ++ map path_change c.paths)
+
+abbrev pub dump_lines : Content → List (List ℕ)
+dump_lines c = map record_line (dump_changes c)
 
 abbrev pub Leads : Content → List Change → Content → Type 0
 Leads c xs d = AllAccepted c xs × (after c xs ≡ d)

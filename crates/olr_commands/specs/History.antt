@@ -5,12 +5,12 @@
 --     History s cs os t      a whole run of commands
 --     all_changes_made asked s xs os      the changes that the accepted commands apply, where each of xs asks for a
 --         command or for none
---     IsPublished, IsJoined, IsNamed, IsRefused      the four claims.
+--     IsPublished, IsJoined, IsNamed, IsRefused, IsDumped      the five claims.
 --     Headline      all of them, of one run
-use Rattle.std.specs.Prelude.{◌≡◌, ℕ, Bool, true, false, List, [], ◌∷◌, ◌++◌, length, Option, Some, None, IfSome, Ok}
+use Rattle.std.specs.Prelude.{◌≡◌, ℕ, Bool, true, false, List, [], ◌∷◌, ◌++◌, map, length, Option, Some, None, IfSome, Ok}
 use Rattle.std.specs.Prelude.{Err, IsTrue, ◌↔◌}
 use Rattle.std.specs.Result.{result_unwrap_or}
-use Rattle.std.specs.List.{list_any, AllByRecursion}
+use Rattle.std.specs.List.{list_any, AllByRecursion, concat}
 use Rattle.olr_spec.specs.Map.{Map}
 use Rattle.olr_spec.specs.Extension.{Path}
 use Rattle.olr_spec.specs.Reference.{Reference}
@@ -18,6 +18,9 @@ use Rattle.olr_spec.specs.Encoding.{Answer, Points, Encodes}
 use Rattle.olr_refs.specs.Referring.{Joined}
 use Rattle.olr_commands.specs.State.{Content, path_named, same_name, Fault, Change, after, IsContent, State}
 use Rattle.olr_commands.specs.State.{start_state, Command, Make, Commit, HasCoords, step, changes_made, IsState}
+use Rattle.olr_commands.specs.State.{is_recordable}
+use Rattle.olr_commands.specs.Dump.{dump_changes, dump_lines, steps}
+use Rattle.olr_commands.specs.Reply.{Dumped}
 use Rattle.olr_commands.specs.Reply.{Entry, entry, Paths, HasAnswer, Published, Differences, Outcome, IsOutcome}
 
 -- ---- runs
@@ -104,7 +107,19 @@ IsNamed s c o t = IsTrue (reports s.batch c) → (es : List Entry) → o ≡ Ok 
 abbrev pub IsRefused : State → Outcome → State → Type 0
 IsRefused s o t = (fault : Fault) → o ≡ Err fault → t ≡ s
 
--- ---- the four claims, of one run
+-- ---- dumps
+
+-- the text has the records of changes that, carried out as commands one after another, lead from the start to this state
+pub record IsDump (s : State) (count : ℕ) (text : List ℕ) : Type 0 where
+  pub recordable : IsTrue (is_recordable s.content)
+  pub lines : count ≡ length (dump_lines s.content)
+  pub bytes : text ≡ concat (dump_lines s.content)
+  pub builds : steps start_state (map (λ x. Make x) (dump_changes s.content)) ≡ Ok s
+
+abbrev pub IsDumped : State → Outcome → State → Type 0
+IsDumped s o t = (count : ℕ) (text : List ℕ) → o ≡ Ok (Dumped count text) → IsDump s count text × (t ≡ s)
+
+-- ---- the five claims, of one run
 
 pub record Headline {A : Type 0} (Step : State → A → Outcome → State → Type 0) (asked : A → Option Command) (s : State)
     (xs : List A) (os : List Outcome) (t : State) : Type 0 where
@@ -113,10 +128,11 @@ pub record Headline {A : Type 0} (Step : State → A → Outcome → State → T
   pub joined : IsJoined t.content
   pub named : Run (λ a x o b. Step a x o b × IfSome (asked x) (λ c. IsNamed a c o b)) s xs os t
   pub refused : Run (λ a x o b. Step a x o b × IsRefused a o b) s xs os t
+  pub dumped : Run (λ a x o b. Step a x o b × IsDumped a o b) s xs os t
 
 -- ---- the laws behind them
 
--- a run of commands from the start leaves the state sound, and all four claims are true of it
+-- a run of commands from the start leaves the state sound, and all five claims are true of it
 abbrev pub HeadlineOfHistories : Type 0
 HeadlineOfHistories =
     (cs : List Command) (os : List Outcome) (t : State) → AllHaveCoords cs → History start_state cs os t
@@ -133,6 +149,10 @@ RepliesName =
 -- there are no differences between a content and itself
 abbrev pub NoDifferences : Type 0
 NoDifferences = (c : Content) (es : List Entry) → IsContent c → Differences c c es → es ≡ []
+
+-- a dump has the records that lead to the state in which it was asked for
+abbrev pub DumpsBuild : Type 0
+DumpsBuild = (s t : State) (c : Command) (o : Outcome) → IsContent s.content → IsOutcome s c o t → IsDumped s o t
 
 abbrev pub RefusedChangeNothing : Type 0
 RefusedChangeNothing = (s t : State) (c : Command) (o : Outcome) → IsOutcome s c o t → IsRefused s o t

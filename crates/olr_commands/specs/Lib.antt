@@ -1,8 +1,10 @@
+pub mod Recordable
 pub mod State
+pub mod RecordText
+pub mod Dump
 pub mod Reply
 pub mod Counts
 pub mod History
-pub mod Dump
 pub mod Laws
 pub mod Rows
 pub mod Words

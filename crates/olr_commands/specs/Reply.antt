@@ -6,6 +6,7 @@
 use Rattle.std.specs.Prelude.{◌≡◌, ◌==◌, ℕ, suc, Bool, true, false, not, ◌&&◌, ◌||◌, List, [], ◌∷◌, length, Option}
 use Rattle.std.specs.Prelude.{Some, None, option_and_then, IsSomeAnd, MatchOption, Result, Ok, Err, ◌⊎◌, IsTrue}
 use Rattle.std.specs.Result.{result_ok}
+use Rattle.std.specs.List.{concat}
 use Rattle.base64.specs.Engines.{standard}
 use Rattle.base64.specs.GeneralPurpose.{decoded_of}
 use Rattle.olr_spec.specs.Map.{Map}
@@ -17,8 +18,10 @@ use Rattle.olr_map.specs.Edits.{allocates}
 use Rattle.olr_binary.specs.Text.{text_of}
 use Rattle.olr_commands.specs.State.{Named, Content, path_named, Fault, Syntax, Range, Map_fault, Path_exists, No_path}
 use Rattle.olr_commands.specs.State.{Bad_path, Not_a_reference, Memory, Batch_open, No_batch, Count_differs, Batch_full}
+use Rattle.olr_commands.specs.State.{Not_a_record, Dump}
 use Rattle.olr_commands.specs.State.{Change, On_map, Drop_path, State, Command, Make, Show, Report, Explain, Begin}
 use Rattle.olr_commands.specs.State.{Commit, Abort, step}
+use Rattle.olr_commands.specs.Dump.{dump_lines}
 
 -- a path's string, or the reason why it has none
 pub record Entry : Type 0 where
@@ -29,6 +32,7 @@ pub data Reply : Type 0 where
   Paths : (entries : List Entry) → Reply
   Fields : (reference : Reference) → Reply
   Held : (count : ℕ) → Reply
+  Dumped : (count : ℕ) (text : List ℕ) → Reply
 
 abbrev pub published_text : Answer → Result (List ℕ) Refusal
 published_text (Points r) = Ok (text_of r)
@@ -95,6 +99,8 @@ abbrev pub IsReply : State → Command → State → Reply → Type 0
 IsReply s (Make x) t reply = IsChangeReply s.batch s.content t.content reply
 IsReply s (Show name) t reply = IsPaths reply (Shown s.content name)
 IsReply s Report t reply = IsPaths reply (AllOf s.content.map s.content.paths)
+IsReply s Dump t reply =
+    reply ≡ Dumped (length (dump_lines s.content)) (concat (dump_lines s.content))
 IsReply s (Explain text) t reply = IsFields reply (Explained text)
 IsReply s Begin t reply = reply ≡ Paths []
 IsReply s (Commit count) t reply = IsPaths reply (Differences s.content t.content)
@@ -111,6 +117,7 @@ is_reported_first Batch_open = true
 is_reported_first No_batch = true
 is_reported_first Count_differs = true
 is_reported_first Batch_full = true
+is_reported_first Not_a_record = true
 is_reported_first Bad_path = false
 is_reported_first (Not_a_reference fault) = false
 is_reported_first Memory = false

@@ -34,6 +34,7 @@ command_of (command.SetPath name lines p n) =
 command_of (command.DropPath name) = state.Make (state.Drop_path (string_bytes name))
 command_of (command.Show name) = state.Show (string_bytes name)
 command_of command.Report = state.Report
+command_of command.Dump = state.Dump
 command_of (command.Explain text) = state.Explain text.items
 command_of command.Begin = state.Begin
 command_of (command.Commit count) = state.Commit count
@@ -46,6 +47,7 @@ abbrev pub reply_of : Reply → reply.Reply
 reply_of (answered.Paths entries) = reply.Paths (map entry_of entries.items)
 reply_of (answered.Fields r) = reply.Fields r
 reply_of (answered.Held count) = reply.Held count
+reply_of (answered.Dump d) = reply.Dumped d.count d.text.items
 
 -- out of memory is one fault, wherever it was reported
 abbrev pub map_fault_of : EditFault → state.Fault
@@ -76,6 +78,7 @@ command_fault_of fault.BatchOpen = state.Batch_open
 command_fault_of fault.NoBatch = state.No_batch
 command_fault_of fault.CountDiffers = state.Count_differs
 command_fault_of fault.BatchFull = state.Batch_full
+command_fault_of fault.NotARecord = state.Not_a_record
 
 abbrev pub outcome_of : Result Reply CommandFault → reply.Outcome
 outcome_of result = result_map_both reply_of command_fault_of result

@@ -17,6 +17,8 @@ pub enum Command {
     Show(String),
     /// Asks for the answer of every path.
     Report,
+    /// Asks for the records that build the register from an empty one.
+    Dump,
     /// Asks for the fields of a reference, given as base64 text.
     Explain(Vec<u8>),
     /// Opens a batch, which holds the commands that follow.

@@ -37,4 +37,8 @@ pub enum CommandFault {
     /// The batch holds 100,000 commands already.
     #[error("BatchFull")]
     BatchFull,
+    /// The register has something that no record can write: a coordinate that is not a whole number of 10^-7 degrees, or
+    /// a name that is not 1 to 64 letters, digits, `-`, `_` and `.`. A register that only records filled has none.
+    #[error("NotARecord")]
+    NotARecord,
 }

@@ -27,6 +27,7 @@ pub fn claims()
     ensures named { History.RepliesName }
     ensures no_differences { History.NoDifferences }
     ensures refused { History.RefusedChangeNothing }
+    ensures dumped { History.DumpsBuild }
 {}
 
 /// The changes that a content is written as build it from an empty one.

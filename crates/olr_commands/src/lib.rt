@@ -5,9 +5,15 @@
 pub mod command;
 pub mod fault;
 pub mod laws;
+pub mod record_text;
+pub mod recordable;
 pub mod reply;
 pub mod rows;
 
 pub use command::Command;
 pub use fault::CommandFault;
-pub use reply::{Entry, Reply};
+pub use record_text::{
+    push_field, push_line_record, push_node_record, push_number, push_path_record,
+};
+pub use recordable::{is_name, is_recordable_coord, is_recordable_line};
+pub use reply::{Dump, Entry, Reply};

@@ -12,6 +12,15 @@ pub struct Entry {
     pub published: Result<String, Refusal>,
 }
 
+/// The records of a register: its nodes and its lines in ascending order of their numbers, and its paths in their order.
+#[derive(Drop, Debug)]
+pub struct Dump {
+    /// The number of records.
+    pub count: usize,
+    /// The records, one on each line.
+    pub text: Vec<u8>,
+}
+
 /// The reply to an accepted command.
 #[derive(Drop, Debug)]
 pub enum Reply {
@@ -21,4 +30,6 @@ pub enum Reply {
     Fields(Reference),
     /// The number of changes in the open batch, this one included.
     Held(u32),
+    /// The records that build the register from an empty one.
+    Dump(Dump),
 }

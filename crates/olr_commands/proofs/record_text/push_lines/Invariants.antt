@@ -1,0 +1,8 @@
+use Rattle.std.proofs.Common.{◌≡◌, ◌++◌, map, take}
+use Rattle.std.specs.Prelude.{decimal}
+use Rattle.olr_commands.specs.RecordText.{after_commas}
+use Rattle.olr_commands.proofs.record_text.push_lines.Given as goal
+
+abbrev pub invariant-loop-line : goal.invariant-loop-line
+invariant-loop-line l =
+    l.text.items ≡ l.initial.text.items ++ after_commas (map decimal (take l.line-index l.lines))
