@@ -7,7 +7,8 @@ use Rattle.std.proofs.lemmas.Bool.{and_parts}
 use Rattle.std.proofs.lemmas.Bool.Decides.{nat_tests}
 use Rattle.std.proofs.lemmas.Str.{IsUtf8-from_ascii}
 use Rattle.csv.specs.Records.{field_at}
-use Rattle.olr_records.specs.Records.{Field, is_name, is_name_byte}
+use Rattle.olr_commands.specs.Recordable.{is_name, is_name_byte}
+use Rattle.olr_records.specs.Records.{Field}
 
 -- past the last field there are no bytes
 pub field-past : (fs : List Field) (k : ℕ) → None ≡ field_at fs k → slice_index_or fs k [] ≡ []

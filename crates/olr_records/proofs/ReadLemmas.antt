@@ -15,14 +15,15 @@ use Rattle.olr_coords.specs.Bounds.{is_degrees}
 use Rattle.olr_coords.specs.DegreesText.{has_degrees_text}
 use Rattle.olr_coords.proofs.DegreesTextLemmas.{degrees-whole}
 use Rattle.olr_commands.specs.State.{same_name, Change, On_map, Add_path, Set_path, Drop_path, Command, Make, Show}
-use Rattle.olr_commands.specs.State.{Report, Explain, Begin, Commit, Abort, HasCoords}
+use Rattle.olr_commands.specs.Recordable.{is_name, is_recordable_coord}
+use Rattle.olr_commands.specs.State.{Report, Dump, Explain, Begin, Commit, Abort, HasCoords}
 use Rattle.olr_records.specs.Records.{Field, Read, ◌⊛◌, value_or_fault, digits, max32, number, amount, class}
-use Rattle.olr_records.specs.Records.{coordinate, Bad_form, longitude, latitude, place, is_name, name, numbers, point}
+use Rattle.olr_records.specs.Records.{coordinate, Bad_form, longitude, latitude, place, name, numbers, point}
 use Rattle.olr_records.specs.Records.{shape, node_fields, edit, one, none, node_record, line_between, attributes}
 use Rattle.olr_records.specs.Records.{whole_line, line_record, set_line_record, path_fields, path_record, forms}
 use Rattle.olr_records.specs.Records.{read_by, read}
-use Rattle.olr_records.specs.RecordText.{is_number, is_amount, is_place, is_point, are_attributes, is_named_path}
-use Rattle.olr_records.specs.RecordText.{has_record, Recorded}
+use Rattle.olr_records.specs.Recorded.{is_number, is_amount, is_place, is_point, are_attributes, is_named_path}
+use Rattle.olr_records.specs.Recorded.{has_record, Recorded}
 
 if_read : {A : Type 0} (P : A → Type 0) (b : Bool) (r q : Read A) → IfOk r P → IfOk q P → IfOk (if b then r else q) P
 if_read P true r q h g = h
@@ -99,8 +100,8 @@ place_passes lon lat =
     (latitude_passes lat)
     (given (Takes (Written is_latitude) Place) (Written is_longitude) (Ok (λ x y. record { lon = x; lat = y }))
     (longitude lon) (longitude_passes lon)
-    (λ x h y g. and_from _ (has_degrees_text y) (and_from _ (has_degrees_text x)
-    (and_from (is_longitude x) (is_latitude y) h.0 g.0) h.1) g.1))
+    (λ x h y g. and_from (is_longitude x && is_latitude y) (has_degrees_text x && has_degrees_text y)
+    (and_from (is_longitude x) (is_latitude y) h.0 g.0) (and_from (has_degrees_text x) (has_degrees_text y) h.1 g.1)))
 
 name_passes : (f : Field) → IfOk (name f) (λ n. IsTrue (is_name n))
 name_passes f =
@@ -324,12 +325,15 @@ forms_pass = (
                     (
                       λ fs. none_passes Report fs tt,
                       (
-                        λ fs. one_passes Recorded (λ f. ⊤) Explain (λ f. Ok f) fs (λ f. tt) (λ f h. tt),
+                        λ fs. none_passes Dump fs tt,
                         (
-                          λ fs. none_passes Begin fs tt,
+                          λ fs. one_passes Recorded (λ f. ⊤) Explain (λ f. Ok f) fs (λ f. tt) (λ f h. tt),
                           (
-                            λ fs. one_passes Recorded Amount Commit amount fs (at_most_pass 0 max32) (λ n h. tt),
-                            (λ fs. none_passes Abort fs tt, tt),
+                            λ fs. none_passes Begin fs tt,
+                            (
+                              λ fs. one_passes Recorded Amount Commit amount fs (at_most_pass 0 max32) (λ n h. tt),
+                              (λ fs. none_passes Abort fs tt, tt),
+                            ),
                           ),
                         ),
                       ),
@@ -355,9 +359,7 @@ read_recorded fields c e = subst (λ (r : Read Command). IfOk r Recorded) e (rec
 -- ---- its coordinates are in range
 
 place_coord : (p : Coord) → IsTrue (is_place p) → IsTrue (is_coord p)
-place_coord p h =
-    let texts = and_parts _ (has_degrees_text p.lat) h in
-    (and_parts (is_coord p) (has_degrees_text p.lon) texts.0).0
+place_coord p h = (and_parts (is_coord p) (is_recordable_coord p) h).0
 
 shape_coords : (ss : List ShapePoint) → IsTrue (list_all is_point ss) → IsTrue (are_coords ss)
 shape_coords [] h = refl
@@ -387,6 +389,7 @@ coords (Make (Set_path n p)) h = tt
 coords (Make (Drop_path n)) h = tt
 coords (Show n) h = tt
 coords Report h = tt
+coords Dump h = tt
 coords (Explain text) h = tt
 coords Begin h = tt
 coords (Commit n) h = tt

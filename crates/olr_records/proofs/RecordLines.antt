@@ -26,11 +26,12 @@ use Rattle.olr_coords.specs.DegreesText.{decimals, after_point, steps_text, degr
 use Rattle.olr_coords.proofs.DegreesTextLemmas.{decimals-digits}
 use Rattle.olr_coords.proofs.DigitLemmas.{own}
 use Rattle.olr_commands.specs.State.{Change, On_map, Add_path, Set_path, Drop_path}
-use Rattle.olr_records.specs.Records.{Field, max32, is_name_byte, is_name}
-use Rattle.olr_records.specs.ReplyText.{after_commas}
-use Rattle.olr_records.specs.RecordText.{place_fields, shape_fields, path_fields_of, record_fields, record_line}
-use Rattle.olr_records.specs.RecordText.{is_number, is_amount, is_place, is_point, are_attributes, is_named_path}
-use Rattle.olr_records.specs.RecordText.{has_record}
+use Rattle.olr_commands.specs.Recordable.{is_name_byte, is_name, is_recordable_coord}
+use Rattle.olr_commands.specs.RecordText.{after_commas, fields_of_coord, fields_of_shape, fields_of_path}
+use Rattle.olr_commands.specs.RecordText.{fields_of_change, record_line}
+use Rattle.olr_records.specs.Records.{Field, max32}
+use Rattle.olr_records.specs.Recorded.{is_number, is_amount, is_place, is_point, are_attributes, is_named_path}
+use Rattle.olr_records.specs.Recorded.{has_record, HaveRecords}
 use Rattle.olr_records.proofs.TextLemmas.{joined}
 
 -- ---- the bytes of fields
@@ -85,13 +86,13 @@ degrees_plain (negsuc n) h =
     let most : suc n ≤ 58982400000000 = grind (arith, nat_tests) in
     steps_plain (suc n / unit7) (omega arith)
 
-place_plain : (p : Coord) → IsTrue (is_place p) → AllPlain (place_fields p)
+place_plain : (p : Coord) → IsTrue (is_place p) → AllPlain (fields_of_coord p)
 place_plain p h =
-    let texts = and_parts _ (has_degrees_text p.lat) h in
-    let first = and_parts (is_coord p) (has_degrees_text p.lon) texts.0 in
-    (degrees_plain p.lon first.1, (degrees_plain p.lat texts.1, tt))
+    let both = and_parts (is_coord p) (is_recordable_coord p) h in
+    let texts = and_parts (has_degrees_text p.lon) (has_degrees_text p.lat) both.1 in
+    (degrees_plain p.lon texts.0, (degrees_plain p.lat texts.1, tt))
 
-shape_plain : (ss : List ShapePoint) → IsTrue (list_all is_point ss) → AllPlain (shape_fields ss)
+shape_plain : (ss : List ShapePoint) → IsTrue (list_all is_point ss) → AllPlain (fields_of_shape ss)
 shape_plain [] h = tt
 shape_plain (s ∷ ss) h =
     let p = and_parts (is_point s) (list_all is_point ss) h in
@@ -110,7 +111,7 @@ name_plain : (f : Field) → IsTrue (is_name f) → Plain f
 name_plain f h = (and_parts (nat_le 1 (length f) && nat_le (length f) 64) (list_all is_name_byte f) h).1
 
 attributes_plain : (frc fow len : ℕ) (ss : List ShapePoint) → IsTrue (are_attributes frc fow len ss) →
-    AllPlain (decimal frc ∷ decimal fow ∷ decimal len ∷ shape_fields ss)
+    AllPlain (decimal frc ∷ decimal fow ∷ decimal len ∷ fields_of_shape ss)
 attributes_plain frc fow len ss h =
     let a = and_parts _ (list_all is_point ss) h in
     let b = and_parts _ (nat_le len 1000000) a.0 in
@@ -123,7 +124,7 @@ attributes_plain frc fow len ss h =
       ),
     )
 
-path_plain : (n : List ℕ) (p : Path) → IsTrue (is_named_path n p) → AllPlain (path_fields_of n p)
+path_plain : (n : List ℕ) (p : Path) → IsTrue (is_named_path n p) → AllPlain (fields_of_path n p)
 path_plain n p h =
     let a = and_parts _ (list_all is_number p.lines) h in
     let b = and_parts _ (is_amount p.neg) a.0 in
@@ -135,7 +136,7 @@ path_plain n p h =
       ),
     )
 
-record_plain : (x : Change) → IsTrue (has_record x) → AllPlain (record_fields x)
+record_plain : (x : Change) → IsTrue (has_record x) → AllPlain (fields_of_change x)
 record_plain (On_map (Add_node v p)) h =
     let a = and_parts (is_number v) (is_place p) h in (refl, (number_plain v a.0, place_plain p a.1))
 record_plain (On_map (Move_node v p)) h =
@@ -196,7 +197,7 @@ row_is (f ∷ g ∷ fs) two h =
     let b = fields_are (g ∷ fs) h.1 in
     (λ i. (a i ++ b i) ++ 10 ∷ []) ∙ ap (λ (t : List ℕ). t ++ 10 ∷ []) (sym (joined f (g ∷ fs)))
 
-two_fields : (x : Change) → 2 ≤ length (record_fields x)
+two_fields : (x : Change) → 2 ≤ length (fields_of_change x)
 two_fields (On_map (Add_node v p)) = omega arith
 two_fields (On_map (Move_node v p)) = omega arith
 two_fields (On_map (Drop_node v)) = omega arith
@@ -215,32 +216,29 @@ read_as_fields (f ∷ fs) two = refl
 
 read_as : (x : Change) (rest : List ℕ) → IsTrue (has_record x) →
     next_record default_config st.StartRecord [] [] (record_line x ++ rest)
-    ≡ Some (record_fields x, st.StartRecord, rest)
+    ≡ Some (fields_of_change x, st.StartRecord, rest)
 read_as x rest h =
     let two = two_fields x in
     ap (λ (t : List ℕ). next_record default_config st.StartRecord [] [] (t ++ rest))
-    (sym (row_is (record_fields x) two (record_plain x h)))
-    ∙ read-write (record_fields x) rest
-    ∙ ap (λ (fs : List Field). Some (fs, st.StartRecord, rest)) (read_as_fields (record_fields x) two)
+    (sym (row_is (fields_of_change x) two (record_plain x h)))
+    ∙ read-write (fields_of_change x) rest
+    ∙ ap (λ (fs : List Field). Some (fs, st.StartRecord, rest)) (read_as_fields (fields_of_change x) two)
 
-abbrev Recorded : List Change → Type 0
-Recorded xs = AllByRecursion (λ x. IsTrue (has_record x)) xs
-
-all_read : (n : ℕ) (xs : List Change) → length xs < n → Recorded xs →
-    records_from default_config n st.StartRecord (concat (map record_line xs)) ≡ map record_fields xs
+all_read : (n : ℕ) (xs : List Change) → length xs < n → HaveRecords xs →
+    records_from default_config n st.StartRecord (concat (map record_line xs)) ≡ map fields_of_change xs
 unfolding records_from next_record
 all_read zero xs l h = absurd (omega arith)
 all_read (suc n) [] l h = refl
 all_read (suc n) (x ∷ xs) l h =
     ap (records_next (records_from default_config n)) (read_as x (concat (map record_line xs)) h.0)
-    ∙ ap (λ (rs : List (List Field)). record_fields x ∷ rs) (all_read n xs (omega arith) h.1)
+    ∙ ap (λ (rs : List (List Field)). fields_of_change x ∷ rs) (all_read n xs (omega arith) h.1)
 
 -- the text has at least a byte for each record
 longer : (xs : List Change) → length xs ≤ length (concat (map record_line xs))
 longer [] = omega arith
 longer (x ∷ xs) =
     let l = longer xs in
-    let f = join_with_byte 44 (record_fields x) in
+    let f = join_with_byte 44 (fields_of_change x) in
     omega (
       arith,
       length-append (f ++ 10 ∷ []) (concat (map record_line xs)),
@@ -261,8 +259,8 @@ no_mark (Add_path n p ∷ xs) = refl
 no_mark (Set_path n p ∷ xs) = refl
 no_mark (Drop_path n ∷ xs) = refl
 
-pub records_split : (xs : List Change) → Recorded xs →
-    records default_config (strip_bom (concat (map record_line xs))) ≡ map record_fields xs
+pub records_split : (xs : List Change) → HaveRecords xs →
+    records default_config (strip_bom (concat (map record_line xs))) ≡ map fields_of_change xs
 records_split xs h =
     let l = longer xs in
     ap (records default_config) (no_mark xs)

@@ -5,11 +5,11 @@ use Rattle.std.proofs.Common.{ap, ◌∙◌, subst, nat_cmp}
 use Rattle.std.specs.Prelude.{nat_le, ◌==◌, IfSome, ⊤}
 use Rattle.std.proofs.Common.{Ordering, Less, Equal, Greater, is_lt, is_eq}
 use Rattle.std.specs.List.{list_all, AllByRecursion}
-use Rattle.std.specs.FinMap.{FinMap, get, insert, remove, entries, entries_sorted, get-entries}
+use Rattle.std.specs.FinMap.{FinMap, get, insert, remove, empty, entries, entries_sorted, get-entries, get-empty}
 use Rattle.std.specs.FinMap.Entries.{find, below_all, is_sorted}
 use Rattle.std.specs.Cmp.{unsigned_tied}
 use Rattle.std.proofs.lemmas.Bool.{and_parts, and_from, cases_eq, eq-eqb, ne_eqb, both_ways}
-use Rattle.olr_spec.specs.Coordinates.{Coord}
+use Rattle.olr_spec.specs.Coordinates.{Coord, is_coord}
 use Rattle.olr_spec.specs.Map.{Map, MapFault, Line, no_line, has_line, start, end, Edit, edited, Add_node, Move_node}
 use Rattle.olr_spec.specs.Map.{Drop_node, Add_line, Set_line, Drop_line, ShapePoint}
 use Rattle.olr_spec.specs.Extension.{Path, is_path}
@@ -18,13 +18,13 @@ use Rattle.olr_spec.proofs.MapLemmas.{T_first, T_second}
 use Rattle.olr_commands.specs.State.{Named, Content, has_path, same_name, with_path, TextFault, Fault, Path_exists}
 use Rattle.olr_commands.specs.State.{No_path, Bad_path, Batch_full, Count_differs, when, Change, On_map, Add_path}
 use Rattle.olr_commands.specs.State.{Set_path, Drop_path, with_map, with_change, next, after, Command, Make, Show}
-use Rattle.olr_commands.specs.State.{Report, Explain, Begin, Commit, Abort, State, full, at_once, into_batch}
+use Rattle.olr_commands.specs.Recordable.{is_name, is_recordable_coord, is_recordable_shape, is_recordable_map}
+use Rattle.olr_commands.specs.State.{Not_a_record, no_content, is_recordable, start_state, Report, Dump, Explain, Begin, Commit, Abort, State, full, at_once, into_batch}
 use Rattle.olr_commands.specs.State.{text_fault, unless_fault, step}
 use Rattle.olr_commands.specs.Dump.{node_change, line_change, path_change, dump_changes}
 use Rattle.olr_commands.proofs.StateLemmas.{when_ok, next_ok, after_push}
-use Rattle.olr_records.specs.Records.{is_name}
-use Rattle.olr_records.specs.RecordText.{is_number, is_amount, are_attributes, is_named_path, has_record, IsRecorded}
-use Rattle.olr_records.specs.RecordText.{Recorded, StaysRecorded}
+use Rattle.olr_records.specs.Recorded.{is_number, is_amount, is_place, is_point, are_attributes, is_named_path}
+use Rattle.olr_records.specs.Recorded.{has_record, Recorded, IsRecorded, StaysRecorded}
 
 -- ---- lists
 
@@ -289,6 +289,11 @@ step_stays s t c i h is = by_batch s.content s.batch t c i.0 i.1 h is where
       subst StaysRecorded same (i, k)
   by_batch c b t Report i k h is =
       let same : record { content = c; batch = b } ≡ t = cc in subst StaysRecorded same (i, k)
+  by_batch c None t Dump i k h is =
+      let p = when_ok (not (is_recordable c)) Not_a_record (Ok (record { content = c; batch = None })) t is in
+      let same : record { content = c; batch = None } ≡ t = cc in
+      subst StaysRecorded same (i, k)
+  by_batch c (Some xs) t Dump i k h is = absurd cc
   by_batch c b t (Explain text) i k h is =
       text_stays (record { content = c; batch = b }) t (text_fault text) (i, k) is
   by_batch c None t Begin i k h is =
@@ -303,3 +308,55 @@ step_stays s t c i h is = by_batch s.content s.batch t c i.0 i.1 h is where
   by_batch c None t Abort i k h is = absurd cc
   by_batch c (Some xs) t Abort i k h is =
       let same : record { content = c; batch = None } ≡ t = cc in subst StaysRecorded same (i, tt)
+
+-- ---- the empty register
+
+none_of_empty : {X : Type 0} (P : ℕ × X → Type 0) → AllByRecursion P (entries {R = nat_cmp} empty)
+none_of_empty {X} P =
+    all_entries P empty (λ k v is. absurd (let no : ◌≡◌ {A = Option X} None (Some v) =
+    sym (get-empty nat_cmp k) ∙ is in cc))
+
+pub start_recorded : StaysRecorded start_state
+start_recorded = (
+  of_parts no_content (record { nodes = none_of_empty HasNode; lines = none_of_empty HasLine }) tt,
+  tt,
+)
+
+-- ---- dumps
+
+passes : {X : Type 0} (P : X → Type 0) (test : X → Bool) (xs : List X) → ((x : X) → P x → IsTrue (test x)) →
+    AllByRecursion P xs → IsTrue (list_all test xs)
+passes P test [] f h = refl
+passes P test (x ∷ xs) f h = and_from (test x) (list_all test xs) (f x h.0) (passes P test xs f h.1)
+
+place_dumps : (p : Coord) → IsTrue (is_place p) → IsTrue (is_recordable_coord p)
+place_dumps p h = (and_parts (is_coord p) (is_recordable_coord p) h).1
+
+shape_dumps : (ss : List ShapePoint) → IsTrue (list_all is_point ss) → IsTrue (is_recordable_shape ss)
+shape_dumps [] h = refl
+shape_dumps (s ∷ ss) h =
+    let p = and_parts (is_point s) (list_all is_point ss) h in
+    let q = and_parts _ (is_place s.place) p.0 in
+    and_from (is_recordable_coord s.place) (is_recordable_shape ss) (place_dumps s.place q.1) (shape_dumps ss p.1)
+
+line_dumps : (e : ℕ × Line) → HasLine e → IsTrue (is_recordable_shape e.1.shape)
+line_dumps e h =
+    let a = and_parts _ (are_attributes e.1.frc e.1.fow e.1.len e.1.shape) h in
+    shape_dumps e.1.shape (and_parts _ (list_all is_point e.1.shape) a.1).1
+
+name_dumps : (p : Named) → HasPath p → IsTrue (is_name p.name)
+name_dumps p h =
+    let a = and_parts _ (list_all is_number p.path.lines) h in
+    let b = and_parts _ (is_amount p.path.neg) a.0 in
+    (and_parts (is_name p.name) (is_amount p.path.pos) b.0).0
+
+pub recorded_dumps : (c : Content) → IsRecorded c → IsTrue (is_recordable c)
+recorded_dumps c h =
+    let p = parts_of c h in
+    and_from (is_recordable_map c.map) (list_all (λ q. is_name q.name) c.paths)
+    (and_from (list_all (λ e. is_recordable_coord e.1) (entries c.map.nodes))
+    (list_all (λ e. is_recordable_shape e.1.shape) (entries c.map.lines))
+    (passes HasNode (λ e. is_recordable_coord e.1) (entries c.map.nodes)
+    (λ e g. place_dumps e.1 (and_parts (is_number e.0) (is_place e.1) g).1) p.0.nodes)
+    (passes HasLine (λ e. is_recordable_shape e.1.shape) (entries c.map.lines) line_dumps p.0.lines))
+    (passes HasPath (λ q. is_name q.name) c.paths name_dumps p.1)

@@ -9,7 +9,8 @@ use Rattle.std.proofs.lemmas.List.Folds.{concat-append}
 use Rattle.olr_spec.specs.Reference.{Reference}
 use Rattle.olr_commands.specs.Words.{entry_of}
 use Rattle.olr_commands.specs.declared.reply.Entry.{Entry}
-use Rattle.olr_records.specs.ReplyText.{after_commas, reply_line, entry_line, accepted_text, first_line, middle_line}
+use Rattle.olr_commands.specs.RecordText.{after_commas}
+use Rattle.olr_records.specs.ReplyText.{reply_line, entry_line, accepted_text, first_line, middle_line}
 use Rattle.olr_records.specs.ReplyText.{last_line}
 use Rattle.olr_records.specs.ReplyText.{offset_lines, reference_lines}
 

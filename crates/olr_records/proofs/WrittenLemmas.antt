@@ -6,7 +6,7 @@ use Rattle.std.specs.List.{list_all}
 use Rattle.std.specs.Char.{is_ascii_digit}
 use Rattle.std.proofs.lemmas.Bool.{and_parts, and_from, le-leb, leb-true}
 use Rattle.std.proofs.lemmas.Fmt.{digits_decimal, digits_value-decimal, decimal_nonempty}
-use Rattle.olr_spec.specs.Coordinates.{Coord, is_longitude, is_latitude}
+use Rattle.olr_spec.specs.Coordinates.{Coord, is_coord, is_longitude, is_latitude}
 use Rattle.olr_spec.specs.Degrees.{are_digits, digits_value, degrees}
 use Rattle.olr_spec.specs.Map.{ShapePoint, Line, Edit, Add_node, Move_node, Drop_node, Add_line, Set_line, Drop_line}
 use Rattle.olr_spec.specs.Extension.{Path}
@@ -14,12 +14,14 @@ use Rattle.olr_coords.specs.DegreesText.{degrees_text, has_degrees_text}
 use Rattle.olr_coords.proofs.DegreesTextLemmas.{degrees-read}
 use Rattle.olr_coords.proofs.DigitLemmas.{own}
 use Rattle.olr_commands.specs.State.{Change, On_map, Add_path, Set_path, Drop_path, Make}
+use Rattle.olr_commands.specs.Recordable.{is_name, is_recordable_coord}
+use Rattle.olr_commands.specs.RecordText.{fields_of_coord, fields_of_shape, fields_of_path, fields_of_change}
 use Rattle.olr_records.specs.Records.{Field, Read, Bad_form, value_or_fault, digits, max32, number, amount, class}
-use Rattle.olr_records.specs.Records.{coordinate, longitude, latitude, place, is_name, name, numbers, point, shape}
+use Rattle.olr_records.specs.Records.{coordinate, longitude, latitude, place, name, numbers, point, shape}
 use Rattle.olr_records.specs.Records.{◌⊛◌, edit, node_fields, node_record, line_between, attributes, whole_line, read}
 use Rattle.olr_records.specs.Records.{path_fields}
-use Rattle.olr_records.specs.RecordText.{place_fields, shape_fields, path_fields_of, record_fields, is_number}
-use Rattle.olr_records.specs.RecordText.{is_amount, is_place, is_point, are_attributes, is_named_path, has_record}
+use Rattle.olr_records.specs.Recorded.{is_number, is_amount, is_place, is_point, are_attributes, is_named_path}
+use Rattle.olr_records.specs.Recorded.{has_record}
 
 -- ---- fields
 
@@ -52,10 +54,10 @@ coordinate_back test z h t = (λ i. coordinate test (degrees-read z h i)) ∙ (�
 
 place_back : (p : Coord) → IsTrue (is_place p) → place (degrees_text p.lon) (degrees_text p.lat) ≡ Ok p
 place_back p h =
-    let texts = and_parts _ (has_degrees_text p.lat) h in
-    let first = and_parts _ (has_degrees_text p.lon) texts.0 in
-    let ranges = and_parts (is_longitude p.lon) (is_latitude p.lat) first.0 in
-    let lon = coordinate_back is_longitude p.lon first.1 ranges.0 in
+    let both = and_parts (is_coord p) (is_recordable_coord p) h in
+    let ranges = and_parts (is_longitude p.lon) (is_latitude p.lat) both.0 in
+    let texts = and_parts (has_degrees_text p.lon) (has_degrees_text p.lat) both.1 in
+    let lon = coordinate_back is_longitude p.lon texts.0 ranges.0 in
     let lat = coordinate_back is_latitude p.lat texts.1 ranges.1 in
     λ i. Ok (λ x y. record { lon = x; lat = y }) ⊛ lon i ⊛ lat i
 
@@ -68,7 +70,7 @@ point_back s h =
     let there = place_back s.place p.1 in
     λ i. Ok (λ x c. record { at = x; place = c }) ⊛ far i ⊛ there i
 
-shape_back : (ss : List ShapePoint) → IsTrue (list_all is_point ss) → shape (shape_fields ss) ≡ Ok ss
+shape_back : (ss : List ShapePoint) → IsTrue (list_all is_point ss) → shape (fields_of_shape ss) ≡ Ok ss
 shape_back [] h = refl
 shape_back (s ∷ ss) h =
     let p = and_parts (is_point s) (list_all is_point ss) h in
@@ -90,7 +92,7 @@ name_back f h = λ i. if h i then Ok f else Err Bad_form
 -- ---- parts of records
 
 node_back : (g : ℕ → Coord → Edit) (v : ℕ) (p : Coord) → IsTrue (is_number v && is_place p) →
-    edit (node_record g (decimal v ∷ place_fields p)) ≡ Ok (Make (On_map (g v p)))
+    edit (node_record g (decimal v ∷ fields_of_coord p)) ≡ Ok (Make (On_map (g v p)))
 node_back g v p h =
     let parts = and_parts (is_number v) (is_place p) h in
     let first = number_back v parts.0 in
@@ -98,7 +100,7 @@ node_back g v p h =
     λ i. edit (Ok (λ (q : ℕ × Coord). g q.0 q.1) ⊛ (Ok (λ x p. (x, p)) ⊛ first i ⊛ rest i))
 
 attributes_back : (frc fow len : ℕ) (ss : List ShapePoint) → IsTrue (are_attributes frc fow len ss) →
-    attributes (decimal frc) (decimal fow) (decimal len) (shape_fields ss) ≡ Ok (frc, fow, len, ss)
+    attributes (decimal frc) (decimal fow) (decimal len) (fields_of_shape ss) ≡ Ok (frc, fow, len, ss)
 attributes_back frc fow len ss h =
     let a = and_parts _ (list_all is_point ss) h in
     let b = and_parts _ (nat_le len 1000000) a.0 in
@@ -111,7 +113,7 @@ attributes_back frc fow len ss h =
     λ i. Ok (λ a b c d. (a, b, c, d)) ⊛ first i ⊛ second i ⊛ third i ⊛ rest i
 
 path_back : (g : List ℕ → Path → Change) (n : List ℕ) (p : Path) → IsTrue (is_named_path n p) →
-    (Ok (λ (q : List ℕ × Path). Make (g q.0 q.1)) ⊛ path_fields (path_fields_of n p)) ≡ Ok (Make (g n p))
+    (Ok (λ (q : List ℕ × Path). Make (g q.0 q.1)) ⊛ path_fields (fields_of_path n p)) ≡ Ok (Make (g n p))
 path_back g n p h =
     let a = and_parts _ (list_all is_number p.lines) h in
     let b = and_parts _ (is_amount p.neg) a.0 in
@@ -125,7 +127,7 @@ path_back g n p h =
 
 -- ---- records
 
-pub record_back : (x : Change) → IsTrue (has_record x) → read (record_fields x) ≡ Ok (Make x)
+pub record_back : (x : Change) → IsTrue (has_record x) → read (fields_of_change x) ≡ Ok (Make x)
 record_back (On_map (Add_node v p)) h = node_back Add_node v p h
 record_back (On_map (Move_node v p)) h = node_back Move_node v p h
 record_back (On_map (Drop_node v)) h =

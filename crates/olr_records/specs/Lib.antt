@@ -1,6 +1,6 @@
 pub mod Laws
 pub mod Records
-pub mod RecordText
+pub mod Recorded
 pub mod ReplyText
 pub mod Rows
 pub mod Words

@@ -4,16 +4,15 @@
 --     digits low high f, longitude f, latitude f, name f      a field as a number, a coordinate or a name
 --     read fields      the command of the record
 --     HoldsList c, TakesMemory fields      the commands and the records whose reading takes memory
-use Rattle.std.specs.Prelude.{ℕ, ◌<◌, Bool, ◌&&◌, ◌||◌, List, [], ◌∷◌, length, nat_le, ◌==◌, ℤ, Option, Some, None}
+use Rattle.std.specs.Prelude.{ℕ, ◌<◌, Bool, ◌&&◌, List, [], ◌∷◌, length, nat_le, ℤ, Option, Some, None}
 use Rattle.std.specs.Prelude.{Result, Ok, Err, IsOkAnd, codes, if◌then◌else◌, ⊤}
-use Rattle.std.specs.List.{list_all}
-use Rattle.std.specs.Char.{is_ascii_alphanumeric}
 use Rattle.olr_spec.specs.Coordinates.{Coord, is_longitude, is_latitude}
 use Rattle.olr_spec.specs.Degrees.{are_digits, digits_value, degrees}
 use Rattle.olr_spec.specs.Map.{ShapePoint, Line, Edit, Add_node, Move_node, Drop_node, Add_line, Set_line, Drop_line}
 use Rattle.olr_spec.specs.Extension.{Path}
+use Rattle.olr_commands.specs.Recordable.{is_name}
 use Rattle.olr_commands.specs.State.{same_name, Fault, Syntax, Range, Change, On_map, Add_path, Set_path, Drop_path}
-use Rattle.olr_commands.specs.State.{Command, Make, Show, Report, Explain, Begin, Commit, Abort}
+use Rattle.olr_commands.specs.State.{Command, Make, Show, Report, Dump, Explain, Begin, Commit, Abort}
 
 -- the fields of a record, or one field, by their bytes
 abbrev pub Field : Type 0
@@ -73,14 +72,6 @@ latitude f = coordinate is_latitude (degrees f)
 
 abbrev pub place : Field → Field → Read Coord
 place lon lat = Ok (λ x y. record { lon = x; lat = y }) ⊛ longitude lon ⊛ latitude lat
-
--- a letter, a digit, `-`, `_` or `.`
-abbrev pub is_name_byte : ℕ → Bool
-is_name_byte c = is_ascii_alphanumeric c || (c == 45) || (c == 95) || (c == 46)
-
--- 1 to 64 such bytes
-abbrev pub is_name : Field → Bool
-is_name f = nat_le 1 (length f) && nat_le (length f) 64 && list_all is_name_byte f
 
 abbrev pub name : Field → Read (List ℕ)
 name f = if is_name f then Ok f else Err Bad_form
@@ -165,6 +156,7 @@ forms =
     ∷ (codes "drop-path", λ fs. one (λ n. Make (Drop_path n)) name fs)
     ∷ (codes "show", λ fs. one Show name fs)
     ∷ (codes "report", λ fs. none Report fs)
+    ∷ (codes "dump", λ fs. none Dump fs)
     ∷ (codes "explain", λ fs. one Explain (λ f. Ok f) fs)
     ∷ (codes "begin", λ fs. none Begin fs)
     ∷ (codes "commit", λ fs. one Commit amount fs)

@@ -1,7 +1,7 @@
 -- The bytes of replies and faults. Each line ends with a line feed, and its fields are separated by commas.
 --     reply_text r, fault_text f, outcome_text o
 use Rattle.std.specs.Prelude.{ℕ, List, [], ◌∷◌, ◌++◌, map, length, Option, Some, None, Result, Ok, Err, codes, decimal}
-use Rattle.std.specs.List.{join_with_byte, concat}
+use Rattle.std.specs.List.{concat}
 use Rattle.std.specs.Fmt.{signed_decimal}
 use Rattle.olr_spec.specs.Map.{MapFault, Node_exists, No_node, Line_exists, No_line, Node_in_use, Bad_shape}
 use Rattle.olr_spec.specs.Reference.{Attrs, First, Middle, Last, Reference}
@@ -10,16 +10,12 @@ use Rattle.olr_spec.specs.Bytes.{V3Fault, Length, Flags, Reserved}
 use Rattle.olr_spec.specs.Bytes as b
 use Rattle.olr_commands.specs.State.{TextFault, Not_base64, Not_v3, Fault, Syntax, Range, Map_fault, Path_exists}
 use Rattle.olr_commands.specs.State.{No_path, Bad_path, Not_a_reference, Memory, Batch_open, No_batch, Count_differs}
-use Rattle.olr_commands.specs.State.{Batch_full}
-use Rattle.olr_commands.specs.Reply.{Entry, Reply, Paths, Fields, Held, Outcome}
-
--- a comma before each field
-abbrev pub after_commas : List (List ℕ) → List ℕ
-after_commas [] = []
-after_commas (f ∷ fs) = 44 ∷ (f ++ after_commas fs)
+use Rattle.olr_commands.specs.State.{Batch_full, Not_a_record}
+use Rattle.olr_commands.specs.RecordText.{fields_line}
+use Rattle.olr_commands.specs.Reply.{Entry, Reply, Paths, Fields, Held, Dumped, Outcome}
 
 abbrev pub reply_line : List (List ℕ) → List ℕ
-reply_line fields = join_with_byte 44 fields ++ 10 ∷ []
+reply_line fields = fields_line fields
 
 -- ---- entries
 
@@ -64,13 +60,17 @@ reference_lines r =
 
 -- ---- replies
 
+abbrev pub count_line : ℕ → List ℕ
+count_line n = reply_line (codes "ok" ∷ decimal n ∷ [])
+
 -- the number of lines, and the lines
 abbrev pub accepted_text : List (List ℕ) → List ℕ
-accepted_text lines = reply_line (codes "ok" ∷ decimal (length lines) ∷ []) ++ concat lines
+accepted_text lines = count_line (length lines) ++ concat lines
 
 abbrev pub reply_text : Reply → List ℕ
 reply_text (Paths es) = accepted_text (map entry_line es)
 reply_text (Fields r) = accepted_text (reference_lines r)
+reply_text (Dumped n text) = count_line n ++ text
 reply_text (Held n) = reply_line (codes "held" ∷ decimal n ∷ [])
 
 -- ---- faults
@@ -106,6 +106,7 @@ fault_text Batch_open = fault_line 14 (codes "BatchOpen") []
 fault_text No_batch = fault_line 15 (codes "NoBatch") []
 fault_text Count_differs = fault_line 16 (codes "CountDiffers") []
 fault_text Batch_full = fault_line 17 (codes "BatchFull") []
+fault_text Not_a_record = fault_line 18 (codes "NotARecord") []
 
 abbrev pub outcome_text : Outcome → List ℕ
 outcome_text (Ok reply) = reply_text reply

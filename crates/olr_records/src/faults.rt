@@ -64,6 +64,7 @@ pub fn fault_text(fault: CommandFault) -> &'static str
         CommandFault::NoBatch => "fault,15,NoBatch\n",
         CommandFault::CountDiffers => "fault,16,CountDiffers\n",
         CommandFault::BatchFull => "fault,17,BatchFull\n",
+        CommandFault::NotARecord => "fault,18,NotARecord\n",
     }
 }
 

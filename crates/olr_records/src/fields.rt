@@ -14,6 +14,7 @@ ghost use Rattle.olr_records.specs.Words.{Gathers, Reads};
 use crate::faults::ReadFault;
 use crate::parts::both;
 use csv::ByteRecord;
+use olr_commands::is_name;
 use olr_coords::{Coord, CoordFault, read_degrees};
 use olr_map::{LineId, NodeId, Shape};
 use std::alloc::Global;
@@ -28,8 +29,6 @@ const GREATEST_DISTANCE: u32 = 999_999;
 const MOST_DIGITS: usize = 19;
 /// 2^32, which is more than any number of 32 bits.
 const TOO_GREAT: u64 = 1 << 32;
-/// The greatest length of a name, in bytes.
-const LONGEST_NAME: usize = 64;
 
 /// The field at index `k`, or no bytes past the last one.
 pub(crate) fn field(fields: &ByteRecord, k: usize) -> &[u8]
@@ -199,25 +198,4 @@ pub(crate) fn name(alloc: Global, field: &[u8]) -> Result<String, ReadFault>
         Ok(text) => Ok(String::from_str(alloc, text)?),
         Err(_) => Err(ReadFault::Syntax),
     }
-}
-
-/// Whether a field has the form of a name.
-fn is_name(field: &[u8]) -> bool
-    ensures { result ≡ records.is_name field.now }
-{
-    !field.is_empty() && field.len() <= LONGEST_NAME && has_only_name_bytes(field)
-}
-
-/// Whether each byte is allowed in a name.
-fn has_only_name_bytes(field: &[u8]) -> bool
-    ensures { result ≡ list_all records.is_name_byte field.now }
-{
-    field.iter().all(|byte| is_name_byte(*byte))
-}
-
-/// Whether a byte is allowed in a name.
-fn is_name_byte(byte: u8) -> bool
-    ensures { result ≡ records.is_name_byte byte }
-{
-    byte.is_ascii_alphanumeric() || byte == b'-' || byte == b'_' || byte == b'.'
 }

@@ -61,6 +61,8 @@ fn read_by(alloc: Global, word: &[u8], fields: &ByteRecord) -> Result<Command, R
         single_word(fields, Command::Abort)
     } else if is(b"report") {
         single_word(fields, Command::Report)
+    } else if is(b"dump") {
+        single_word(fields, Command::Dump)
     } else {
         Err(ReadFault::Syntax)
     }

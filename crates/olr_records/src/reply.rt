@@ -2,14 +2,14 @@
 ghost use Rattle.std.specs.Prelude.{◌≡◌, ◌≤◌, ◌++◌, ◌∷◌, [], ℕ, List, decimal, length, map, IfOk, OnOk};
 ghost use Rattle.std.specs.List.{concat};
 ghost use Rattle.olr_refs.specs.Answers.{refusal_of};
-ghost use Rattle.olr_commands.specs.Reply.{Paths};
+ghost use Rattle.olr_commands.specs.RecordText.{after_commas};
+ghost use Rattle.olr_commands.specs.Reply.{Paths, Dumped};
 ghost use Rattle.olr_commands.specs.Words.{reply_of, entry_of};
 ghost use Rattle.olr_records.specs.ReplyText as texts;
-ghost use Rattle.olr_records.specs.ReplyText.{after_commas};
 
-use crate::texts::{push_field, push_number, push_point};
+use crate::texts::push_point;
 use olr_binary::{Attrs, First, Last, Middle, Reference};
-use olr_commands::{Entry, Reply};
+use olr_commands::{Dump, Entry, Reply, push_field, push_number};
 use olr_refs::Refusal;
 use std::alloc::{AllocError, Global};
 
@@ -37,6 +37,7 @@ pub fn append_reply(text: &mut Vec<u8>, reply: &Reply) -> Result<(), AllocError>
         Reply::Paths(entries) => push_paths(text, entries),
         Reply::Fields(reference) => push_reference(text, reference),
         Reply::Held(count) => push_count(text, b"held", *count as usize),
+        Reply::Dump(dump) => push_dump(text, dump),
     }
 }
 
@@ -126,6 +127,15 @@ fn push_reference(text: &mut Vec<u8>, reference: &Reference) -> Result<(), Alloc
     push_offset(text, b"positive", reference.pos)?;
     push_offset(text, b"negative", reference.neg)?;
     Ok(())
+}
+
+/// The number of records, and the records as they are.
+fn push_dump(text: &mut Vec<u8>, dump: &Dump) -> Result<(), AllocError>
+    ensures { OnOk result (text.new.items
+        ≡ text.old.items ++ texts.reply_text (Dumped dump.now.count dump.now.text.items)) }
+{
+    push_count(text, b"ok", dump.count)?;
+    text.extend_from_slice(&dump.text)
 }
 
 /// The number of lines of an offset.

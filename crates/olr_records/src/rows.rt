@@ -1,18 +1,20 @@
 //! Worked rows of the definitions.
-ghost use Rattle.std.specs.Prelude.{◌≡◌, ℕ, pos, neg_ℤ, [], ◌∷◌, codes, Some, None, Ok, Err};
+ghost use Rattle.std.specs.Prelude.{◌≡◌, ℕ, pos, neg_ℤ, [], ◌∷◌, map, codes, Some, None, Ok, Err};
+ghost use Rattle.std.specs.List.{concat};
 ghost use Rattle.olr_spec.specs.Map.{Add_node, Move_node, Drop_node, Add_line, Set_line, Drop_line, Node_exists};
 ghost use Rattle.olr_spec.specs.Map.{No_node, Line_exists, No_line, Node_in_use, Bad_shape};
 ghost use Rattle.olr_spec.specs.Encoding as encoding;
 ghost use Rattle.olr_spec.specs.Bytes as bytes;
 ghost use Rattle.olr_spec.specs.Rows.{reference1};
-ghost use Rattle.olr_commands.specs.State.{On_map, Add_path, Set_path, Drop_path, Make, Show, Report, Explain, Begin};
-ghost use Rattle.olr_commands.specs.State.{Commit, Abort};
+ghost use Rattle.olr_commands.specs.State.{On_map, Add_path, Set_path, Drop_path, Make, Show, Report, Dump, Explain};
+ghost use Rattle.olr_commands.specs.State.{Begin, Commit, Abort};
+ghost use Rattle.olr_commands.specs.RecordText.{record_line};
 ghost use Rattle.olr_commands.specs.State as state;
 ghost use Rattle.olr_commands.specs.Reply as reply;
 ghost use Rattle.olr_commands.specs.Rows.{reference2};
 ghost use Rattle.olr_records.specs.Records.{line_between, read, Bad_form, Out_of_range};
 ghost use Rattle.olr_records.specs.ReplyText.{reply_text, fault_text};
-ghost use Rattle.olr_records.specs.Rows.{at, zero, text_of_lines};
+ghost use Rattle.olr_records.specs.Rows.{at, zero, text_of_lines, changes1};
 
 /// Records of a node.
 pub fn nodes()
@@ -105,6 +107,8 @@ pub fn paths()
     ensures of_65 { read (codes "show" ∷ codes "aaaaaaaaaaaaaaaaaaaaaaaaaaaaaaaaaaaaaaaaaaaaaaaaaaaaaaaaaaaaaaaaa" ∷ [])
         ≡ Err Bad_form }
     ensures report { read (codes "report" ∷ []) ≡ Ok Report }
+    ensures dump { read (codes "dump" ∷ []) ≡ Ok Dump }
+    ensures dump_more { read (codes "dump" ∷ codes "a" ∷ []) ≡ Err Bad_form }
     ensures report_more { read (codes "report" ∷ [] ∷ []) ≡ Err Bad_form }
     ensures explain { read (codes "explain" ∷ codes "*" ∷ []) ≡ Ok (Explain (codes "*")) }
     ensures explain_nothing { read (codes "explain" ∷ [] ∷ []) ≡ Ok (Explain []) }
@@ -138,6 +142,10 @@ pub fn replies()
         "last,-21,-93,5,3,25" ∷ codes "positive,68" ∷ []) }
     ensures two_fields { reply_text (reply.Fields reference2)
         ≡ text_of_lines (codes "ok,2" ∷ codes "first,285531,2311925,3,2,3,12,9" ∷ codes "last,155,-453,3,2,28" ∷ []) }
+    ensures no_records { reply_text (reply.Dumped 0 []) ≡ text_of_lines (codes "ok,0" ∷ []) }
+    ensures records { reply_text (reply.Dumped 4 (concat (map record_line changes1)))
+        ≡ text_of_lines (codes "ok,4" ∷ codes "node,1,6.12683,-0.0000001" ∷ codes "node,2,0,-180" ∷ codes
+        "line,10,1,2,3,2,5610,200,6.12701,49.60838" ∷ codes "path,a,1500,0,10" ∷ []) }
     ensures held { reply_text (reply.Held 100000) ≡ text_of_lines (codes "held,100000" ∷ []) }
 {}
 
@@ -159,6 +167,7 @@ pub fn faults()
     ensures no_batch { fault_text state.No_batch ≡ text_of_lines (codes "fault,15,NoBatch" ∷ []) }
     ensures count_differs { fault_text state.Count_differs ≡ text_of_lines (codes "fault,16,CountDiffers" ∷ []) }
     ensures batch_full { fault_text state.Batch_full ≡ text_of_lines (codes "fault,17,BatchFull" ∷ []) }
+    ensures not_a_record { fault_text state.Not_a_record ≡ text_of_lines (codes "fault,18,NotARecord" ∷ []) }
     ensures cause_1 { fault_text (state.Not_a_reference (state.Not_v3 bytes.Length))
         ≡ text_of_lines (codes "fault,12,NotAReference,1" ∷ []) }
     ensures cause_2 { fault_text (state.Not_a_reference (state.Not_v3 bytes.Status))

@@ -1,30 +1,16 @@
-//! Fields of a line, appended one after another, or written backwards from the line's end.
+//! The line of an LRP, written backwards from its end.
 ghost use Rattle.std.specs.Prelude.{◌≡◌, ◌≤◌, ◌+◌, ◌++◌, ◌∷◌, [], decimal, drop, length, map, OnOk};
 ghost use Rattle.std.specs.Fmt.{signed_decimal};
-ghost use Rattle.olr_records.specs.ReplyText.{after_commas, reply_line};
+ghost use Rattle.olr_commands.specs.RecordText.{after_commas};
+ghost use Rattle.olr_records.specs.ReplyText.{reply_line};
 
-use itoa::{Buffer, Integer, write_digits};
+use itoa::write_digits;
 use std::alloc::AllocError;
 
 /// The size of the buffer for the end of a line: an LRP has two coordinates of at most 11 bytes, five numbers of at
 /// most 3,
 /// their commas, and a line feed.
 const ROOM: usize = 64;
-
-/// A comma and a field.
-pub(crate) fn push_field(text: &mut Vec<u8>, field: &[u8]) -> Result<(), AllocError>
-    ensures { OnOk result (text.new.items ≡ text.old.items ++ 44 ∷ field.now) }
-{
-    text.push(b',')?;
-    text.extend_from_slice(field)
-}
-
-/// A comma and a number in plain decimal.
-pub(crate) fn push_number<I: Integer>(text: &mut Vec<u8>, number: I) -> Result<(), AllocError>
-    ensures { OnOk result (text.new.items ≡ text.old.items ++ 44 ∷ I.text number) }
-{
-    push_field(text, Buffer::new().format(number).as_bytes())
-}
 
 /// Writes a byte before index `end`, and returns its index.
 fn put_byte(line: &mut [u8], end: usize, byte: u8) -> usize

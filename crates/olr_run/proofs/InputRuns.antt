@@ -175,7 +175,7 @@ longer : (s t : State) (rs rest all : List (List Field)) (os : List Outcome) →
     Claims s rs os t → Claims s all os t
 longer s t rs rest all os sound e h =
     claims_of s all os t sound
-    (subst (λ (xs : List (List Field)). SoundOutcomes s xs os t) (sym e) (run_longer SoundOutcome s t rs rest os h.run))
+    (subst (λ (xs : List (List Field)). SoundOutcomes s xs os t) (sym e) (run_longer SoundOutcome s t rs rest os h.headline.run))
 
 written_is : (before later : Known) (ws : List (List ℕ)) (os : List Outcome) → map outcome_text os ≡ ws →
     Appends before later (joined ws) → Appends before later (texts os)

@@ -52,7 +52,7 @@ only_sound stop old (Some rs) before new later end h =
       r.3,
       record {
         outcomes = ran.outcomes;
-        each = ran.each.run;
+        each = ran.each.headline.run;
         stops = ran.stops;
         all = ran.all;
         wrote = ran.wrote;
@@ -68,7 +68,7 @@ only_sound_faulted stop old (Some rs) before new later e h =
     λ s represents.
     let r = h s represents in
     let cut = r.4 in
-    (r.0, r.1, r.2, r.3, record { outcomes = cut.outcomes; each = cut.each.run; stops = cut.stops; wrote = cut.wrote })
+    (r.0, r.1, r.2, r.3, record { outcomes = cut.outcomes; each = cut.each.headline.run; stops = cut.stops; wrote = cut.wrote })
 
 -- ---- outcomes of both
 
@@ -218,7 +218,7 @@ both_ran stop old mid new (Some rs) (Some ms) before now later p q end base h n 
       record {
         outcomes = one.outcomes ++ two.outcomes;
         each = claims_of s (rs ++ ms) (one.outcomes ++ two.outcomes) b.0 (represented old s base represents)
-            (run_join SoundOutcome s a.0 b.0 rs ms one.outcomes two.outcomes size one.each two.each.run);
+            (run_join SoundOutcome s a.0 b.0 rs ms one.outcomes two.outcomes size one.each two.each.headline.run);
         stops = stops_join stop one.outcomes two.outcomes on one.stops two.stops;
         all = all_join stop rs ms one.outcomes two.outcomes size two.all;
         wrote = (λ i. one.wrote i ++ two.wrote i) ∙ sym (texts_join one.outcomes two.outcomes);
@@ -270,7 +270,7 @@ both_faulted_second stop old mid new (Some rs) (Some ms) before now later p e ba
       record {
         outcomes = one.outcomes ++ cut.outcomes;
         each = claims_of s (rs ++ ms) (one.outcomes ++ cut.outcomes) b.0 (represented old s base represents)
-            (run_join SoundOutcome s a.0 b.0 rs ms one.outcomes cut.outcomes size one.each cut.each.run);
+            (run_join SoundOutcome s a.0 b.0 rs ms one.outcomes cut.outcomes size one.each cut.each.headline.run);
         stops = stops_join stop one.outcomes cut.outcomes on one.stops cut.stops;
         wrote =
             subst (λ (x : List ℕ). CutOff stop (one.outcomes ++ cut.outcomes) (x ++ b.2) e) (sym one.wrote)

@@ -10,3 +10,4 @@ pub mod CsvBytes
 pub mod InMemoryRuns
 pub mod Ending
 pub mod Lacking
+pub mod Dumping

@@ -7,8 +7,9 @@ use Rattle.std.specs.List.{list_any}
 use Rattle.std.proofs.lemmas.Bool.{cases_Bool, both_ways, or_parts}
 use Rattle.olr_commands.specs.State.{IsContent, Fault, Memory, State, Command, HasCoords, IsState}
 use Rattle.olr_commands.specs.Reply.{Outcome, lacks_memory}
-use Rattle.olr_commands.specs.History.{IsNamed, IsRefused}
-use Rattle.olr_commands.proofs.HistoryLemmas.{Leads, outcome_leads, outcome_keeps, is_named, is_refused, headline_of}
+use Rattle.olr_commands.specs.History.{IsNamed}
+use Rattle.olr_commands.proofs.HistoryLemmas.{Leads, outcome_leads, outcome_keeps, is_named, is_refused, is_dumped}
+use Rattle.olr_commands.proofs.HistoryLemmas.{Claimed, headline_of}
 use Rattle.olr_commands.proofs.OutcomeLemmas.{one_outcome}
 use Rattle.olr_records.specs.Records.{Field, Read, read}
 use Rattle.olr_run.specs.Output.{CommandOutcome, OutOfMemory, RecordOutcome, Outcomes, SoundOutcome, SoundOutcomes}
@@ -16,6 +17,7 @@ use Rattle.olr_run.specs.Output.{decoded_command, Claims, StopsAtFault, any_refu
 use Rattle.olr_run.specs.Output.{Status}
 use Rattle.olr_run.specs.Output.{Ran, AllHadMemory}
 use Rattle.olr_records.proofs.ReadLemmas.{coords_read}
+use Rattle.olr_run.proofs.Dumping.{dumps_of}
 
 command_keeps : (s t : State) (r : Read Command) (o : Outcome) → ((c : Command) → r ≡ Ok c → HasCoords c) → IsState s →
     CommandOutcome s r o t → IsState t
@@ -35,11 +37,25 @@ outcomes_keep s t (r ∷ rs) (o ∷ os) i p = outcomes_keep p.0 t rs os (record_
 -- ---- the claims about a run
 
 -- a record whose command has this outcome, or which has a fault of its own
-command_claims : (s t : State) (r : Read Command) (o : Outcome) → IsContent t.content → CommandOutcome s r o t
-    → Leads s (result_ok r) o t × IfSome (result_ok r) (λ c. IsNamed s c o t) × IsRefused s o t
-command_claims s t (Ok c) o sound h = (outcome_leads s c o t h, is_named s t c o sound h, is_refused s t c o h)
+command_claims : (s t : State) (r : Read Command) (o : Outcome) → IsContent t.content → CommandOutcome s r o t →
+    Claimed s (result_ok r) o t
+command_claims s t (Ok c) o sound h =
+    record {
+      leads = outcome_leads s c o t h;
+      named = is_named s t c o sound h;
+      refused = is_refused s t c o h;
+      sound = sound;
+      dumped = λ i. is_dumped s t c o i h;
+    }
 command_claims s t (Err f) (Ok reply) sound h = absurd (let no = h.0 in cc)
-command_claims s t (Err f) (Err g) sound h = (h.1, tt, λ fault is. h.1)
+command_claims s t (Err f) (Err g) sound h =
+    record {
+      leads = h.1;
+      named = tt;
+      refused = λ fault is. h.1;
+      sound = sound;
+      dumped = λ i count text is. absurd cc;
+    }
 
 leads_nowhere : (s t : State) (asked : Option Command) (f : Fault) → t ≡ s → Leads s asked (Err f) t
 leads_nowhere s t None f e = e
@@ -49,18 +65,23 @@ names_nothing : (s t : State) (asked : Option Command) (f : Fault) → IfSome as
 names_nothing s t None f = tt
 names_nothing s t (Some c) f = λ reports es is. absurd cc
 
-lacking_claims : (s t : State) (asked : Option Command) (o : Outcome) → OutOfMemory s o t
-    → Leads s asked o t × IfSome asked (λ c. IsNamed s c o t) × IsRefused s o t
-lacking_claims s t asked o h =
-    subst (λ (p : Outcome). Leads s asked p t × IfSome asked (λ c. IsNamed s c p t) × IsRefused s p t) (sym h.0)
-    (leads_nowhere s t asked Memory h.1, names_nothing s t asked Memory, λ fault is. h.1)
+lacking_claims : (s t : State) (asked : Option Command) (o : Outcome) → IsContent t.content → OutOfMemory s o t →
+    Claimed s asked o t
+lacking_claims s t asked o sound h =
+    subst (λ (p : Outcome). Claimed s asked p t) (sym h.0) (record {
+      leads = leads_nowhere s t asked Memory h.1;
+      named = names_nothing s t asked Memory;
+      refused = λ fault is. h.1;
+      sound = sound;
+      dumped = λ i count text is. absurd cc;
+    })
 
-record_claims : (s : State) (fields : List Field) (o : Outcome) (t : State) → SoundOutcome s fields o t
-    → Leads s (decoded_command fields) o t × IfSome (decoded_command fields) (λ c. IsNamed s c o t) × IsRefused s o t
+record_claims : (s : State) (fields : List Field) (o : Outcome) (t : State) → SoundOutcome s fields o t →
+    Claimed s (decoded_command fields) o t
 record_claims s fields o t h =
     elim h.0 [
       | inl p ↦ command_claims s t (read fields) o h.1 p
-      | inr p ↦ lacking_claims s t (decoded_command fields) o p.1
+      | inr p ↦ lacking_claims s t (decoded_command fields) o h.1 p.1
     ]
 
 pub sound_after : (s t : State) (rs : List (List Field)) (os : List Outcome) → IsContent s.content →
@@ -71,7 +92,11 @@ sound_after s t (r ∷ rs) (o ∷ os) i p = sound_after p.0 t rs os p.1.1 p.2
 
 pub claims_of : (s : State) (rs : List (List Field)) (os : List Outcome) (t : State) → IsContent s.content →
     SoundOutcomes s rs os t → Claims s rs os t
-claims_of s rs os t i h = headline_of SoundOutcome decoded_command record_claims s rs os t (sound_after s t rs os i h) h
+claims_of s rs os t i h =
+    record {
+      headline = headline_of SoundOutcome decoded_command record_claims s rs os t i h;
+      dumps = λ stays. dumps_of s rs os t i stays h;
+    }
 
 -- ---- one run
 

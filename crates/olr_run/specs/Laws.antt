@@ -4,10 +4,10 @@ use Rattle.csv.specs.Machine.{next_record}
 use Rattle.csv.specs.Reading.{Reached, default_config, strip_bom}
 use Rattle.csv.specs.declared.parser.State.{State as CsvState}
 use Rattle.csv.specs.declared.parser.State.TheVariants as st
-use Rattle.olr_commands.specs.State.{Memory, State, IsState}
+use Rattle.olr_commands.specs.State.{Memory, Content, State, start_state, IsState}
 use Rattle.olr_commands.specs.Reply.{Outcome, may_lack}
 use Rattle.olr_records.specs.Records.{Field, read, HoldsList}
-use Rattle.olr_run.specs.Output.{RecordOutcome, Status, Outcomes, Ran, AllHadMemory, records_of}
+use Rattle.olr_run.specs.Output.{RecordOutcome, Status, All_accepted, Outcomes, Ran, AllHadMemory, records_of, Builds}
 
 -- outcomes keep the register's state sound
 abbrev pub OutcomesKeep : Type 0
@@ -34,3 +34,11 @@ abbrev pub MemoryLacks : Type 0
 MemoryLacks =
     (s t : State) (fields : List Field) → RecordOutcome s fields (Err Memory) t →
     IsOkAnd (read fields) (λ c. HoldsList c ⊎ IsTrue (may_lack s c))
+
+-- apart from out of memory, a run from the empty register over the text of a dump accepts each record, and leads to the
+-- content that was dumped
+abbrev pub DumpsReload : Type 0
+DumpsReload =
+    (text : List ℕ) (n : ℕ) (c : Content) (stop : Bool) (t : State) (w : List ℕ) (end : Status) → Builds text n c →
+    (p : Ran Outcomes stop start_state (records_of text) t w end) → AllHadMemory p.outcomes →
+    (end ≡ All_accepted) × (t ≡ record { content = c; batch = None })

@@ -4,20 +4,25 @@
 --         while reading it
 --     Outcomes s rs os t      the first records have these outcomes, one after another, from s to t
 --     decoded_command fields      the command that a record decodes to.
+--     Builds text n c      the text has n lines, the records of commands that are accepted one after another, from the
+--         empty register, and lead to this content
+--     Dumps s rs os t      the dumps of a run are such texts
 --     Claims s rs os t      the claims about such a run
 --     Ran Each stop s rs t written status      a whole run.
 --     Faulted Each stop s rs t written e      a run that was cut off by this fault
-use Rattle.std.specs.Prelude.{◌≡◌, ◌≢◌, ◌^◌, ℕ, Bool, ◌&&◌, List, [], ◌∷◌, ◌++◌, length, flat_map, is_err, Option}
-use Rattle.std.specs.Prelude.{Result}
-use Rattle.std.specs.Prelude.{Ok, Err, ◌⊎◌, IsTrue, IsFalse, if◌then◌else◌, ⊤}
+use Rattle.std.specs.Prelude.{◌≡◌, ◌≢◌, ◌^◌, ℕ, Bool, ◌&&◌, List, [], ◌∷◌, ◌++◌, map, length, flat_map, is_err, Option}
+use Rattle.std.specs.Prelude.{None, Result, Ok, Err, ◌⊎◌, IsTrue, IsFalse, if◌then◌else◌, ⊤}
 use Rattle.std.specs.Result.{result_ok}
-use Rattle.std.specs.List.{list_any}
+use Rattle.std.specs.List.{list_any, concat}
 use Rattle.csv.specs.Reading.{records, default_config, strip_bom}
-use Rattle.olr_commands.specs.State.{Memory, IsContent, State, Command}
+use Rattle.olr_commands.specs.State.{Memory, Not_a_record, Dump, Content, IsContent, State, start_state, Command}
+use Rattle.olr_commands.specs.RecordText.{fields_line}
+use Rattle.olr_commands.specs.Dump.{steps}
 use Rattle.olr_commands.specs.Reply.{Outcome, IsOutcome, lacks_memory}
 use Rattle.olr_commands.specs.History.{Run, Headline}
 use Rattle.olr_records.specs.Records.{Field, ReadFault, read, read_fault, TakesMemory}
-use Rattle.olr_records.specs.ReplyText.{outcome_text}
+use Rattle.olr_records.specs.Recorded.{StaysRecorded}
+use Rattle.olr_records.specs.ReplyText.{count_line, reply_text, outcome_text}
 use Rattle.olr_run.specs.declared.ends.RunFault.{RunFault}
 use Rattle.olr_run.specs.declared.ends.RunFault.TheVariants as fault
 
@@ -55,9 +60,36 @@ SoundOutcomes s rs os t = Run SoundOutcome s rs os t
 abbrev pub decoded_command : List Field → Option Command
 decoded_command fields = result_ok (read fields)
 
--- and the four claims are true of the commands that they decode to
-abbrev pub Claims : State → List (List Field) → List Outcome → State → Type 0
-Claims s rs os t = Headline SoundOutcome decoded_command s rs os t
+-- ---- dumps
+
+-- each record is one line
+pub record Builds (text : List ℕ) (n : ℕ) (c : Content) : Type 0 where
+  pub lines : text ≡ concat (map fields_line (records_of text))
+  pub count : n ≡ length (records_of text)
+  pub commands : List Command
+  pub decoded : map read (records_of text) ≡ map (λ x. Ok x) commands
+  pub leads : steps start_state commands ≡ Ok (record { content = c; batch = None })
+
+-- the reply to an accepted dump is the number of lines, and the lines that build the content; and no command has the
+-- fault that records can't write the content
+abbrev pub IsDumpOf : State → List Field → Outcome → Type 0
+IsDumpOf s fields (Ok reply) =
+    read fields ≡ Ok Dump → (n : ℕ) × (text : List ℕ) × (reply_text reply ≡ count_line n ++ text)
+    × Builds text n s.content
+IsDumpOf s fields (Err fault) = fault ≢ Not_a_record
+
+-- after these outcomes, too, records can write the content
+pub record Dumps (s : State) (rs : List (List Field)) (os : List Outcome) (t : State) : Type 0 where
+  pub each : Run (λ a fields o b. SoundOutcome a fields o b × IsDumpOf a fields o) s rs os t
+  pub stays : StaysRecorded t
+
+-- ---- the claims about a run
+
+-- the claims of the commands that the records decode to, and of dumps, if records can write the content at the start: so
+-- it is for the empty register
+pub record Claims (s : State) (rs : List (List Field)) (os : List Outcome) (t : State) : Type 0 where
+  pub headline : Headline SoundOutcome decoded_command s rs os t
+  pub dumps : StaysRecorded s → Dumps s rs os t
 
 -- no outcome follows a fault if stop is set
 abbrev pub StopsAtFault : Bool → List Outcome → Type 0

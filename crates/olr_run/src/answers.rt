@@ -38,7 +38,7 @@ fn names_no_path(reply: &Reply) -> bool
 {
     match reply {
         Reply::Paths(entries) => entries.is_empty(),
-        Reply::Fields(_) | Reply::Held(_) => false,
+        Reply::Fields(_) | Reply::Held(_) | Reply::Dump(_) => false,
     }
 }
 

@@ -2,7 +2,7 @@
 
 use csv::ByteRecord;
 use olr_binary::{TextFault, V3Fault, from_text};
-use olr_commands::{Command, CommandFault, Entry, Reply};
+use olr_commands::{Command, CommandFault, Dump, Entry, Reply};
 use olr_map::{EditFault, LineId};
 use olr_records::{ReadFault, append_reply, fault_text, read_command, read_fault_text, reply_text};
 use olr_refs::Refusal;
@@ -66,6 +66,7 @@ fn reads_each_record(rt: HostRuntime) -> Result<(), Fail> {
             ("drop-path,b", "Ok(DropPath(\"b\"))"),
             ("show,a", "Ok(Show(\"a\"))"),
             ("report", "Ok(Report)"),
+            ("dump", "Ok(Dump)"),
             ("explain,*", "Ok(Explain([42]))"),
             ("explain,", "Ok(Explain([]))"),
             ("begin", "Ok(Begin)"),
@@ -84,6 +85,7 @@ fn refuses_malformed_records(rt: HostRuntime) -> Result<(), Fail> {
             ("nodes,1,0,0", "Err(Syntax)"),
             ("Report", "Err(Syntax)"),
             ("report,", "Err(Syntax)"),
+            ("dump,a", "Err(Syntax)"),
             ("node,1,0", "Err(Syntax)"),
             ("node,1,0,0,0", "Err(Syntax)"),
             (
@@ -231,6 +233,17 @@ fn replies_of_batches(rt: HostRuntime) -> Result<(), Fail> {
 }
 
 #[test]
+fn replies_of_dumps(rt: HostRuntime) -> Result<(), Fail> {
+    let mut text = Vec::new(rt.alloc());
+    text.extend_from_slice(b"node,1,6.1,-0.0000001\npath,a,0,20,10\n")?;
+    expect_reply(
+        &rt,
+        &Reply::Dump(Dump { count: 2, text }),
+        "ok,2\nnode,1,6.1,-0.0000001\npath,a,0,20,10\n",
+    )
+}
+
+#[test]
 fn replies_are_appended(rt: HostRuntime) -> Result<(), Fail> {
     let mut text = Vec::new(rt.alloc());
     append_reply(&mut text, &Reply::Held(7))?;
@@ -282,6 +295,7 @@ fn texts_of_faults(rt: HostRuntime) {
         (CommandFault::NoBatch, "fault,15,NoBatch\n"),
         (CommandFault::CountDiffers, "fault,16,CountDiffers\n"),
         (CommandFault::BatchFull, "fault,17,BatchFull\n"),
+        (CommandFault::NotARecord, "fault,18,NotARecord\n"),
     ] {
         assert_eq!(rt; fault_text(fault), want);
     }

@@ -166,6 +166,16 @@ fn published_string(rt: HostRuntime) {
 }
 
 #[test]
+fn dumped_records(rt: HostRuntime) {
+    expect_replies(
+        &rt,
+        "node,2,6.10,-0.0\nnode,1,6,49\nline,7,2,1,3,3,90000\npath,a,0,0,9\ndump\nbegin\ndump\n",
+        "ok,0\nok,0\nok,0\nok,1\na,refused,1,9\nok,4\nnode,1,6,49\nnode,2,6.1,0\nline,7,2,1,3,3,90000\npath,a,0,0,9\nok,0\nfault,14,BatchOpen\n",
+        Status::SomeRefused,
+    );
+}
+
+#[test]
 fn forms_of_records(rt: HostRuntime) {
     let accepted: [&[u8]; 6] = [
         b"\"node\",1,0,0\n",

@@ -30,6 +30,10 @@ pub returns-in-CountDiffers : goal.returns-in-CountDiffers
 unfolding digits
 returns-in-CountDiffers c = search rules
 
+pub returns-in-NotARecord : goal.returns-in-NotARecord
+unfolding digits
+returns-in-NotARecord c = search rules
+
 pub returns-in-BatchFull : goal.returns-in-BatchFull
 unfolding digits
 returns-in-BatchFull c = search rules

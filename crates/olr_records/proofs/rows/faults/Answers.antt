@@ -21,6 +21,7 @@ returns c = record {
   no_batch = refl;
   count_differs = refl;
   batch_full = refl;
+  not_a_record = refl;
   cause_1 = refl;
   cause_2 = refl;
   cause_3 = refl;

@@ -3,7 +3,7 @@ use Rattle.std.proofs.Common.{◌∙◌}
 use Rattle.std.specs.Prelude.{decimal}
 use Rattle.std.specs.Fmt.{signed_decimal}
 use Rattle.std.proofs.lemmas.List.{take_all, length-drop}
-use Rattle.olr_records.specs.ReplyText.{after_commas}
+use Rattle.olr_commands.specs.RecordText.{after_commas}
 use Rattle.olr_records.proofs.TextLemmas.{fields-line}
 use Rattle.olr_records.proofs.texts.push_point.Goals as goal
 

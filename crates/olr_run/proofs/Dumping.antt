@@ -1,0 +1,178 @@
+-- Dumps in runs of records.
+use Rattle.std.proofs.Common.{inl, inr, ◌≡◌, ◌≢◌, ℕ, Bool, true, false, List, [], ◌∷◌, ◌++◌, map, length, None, Result}
+use Rattle.std.proofs.Common.{Ok, Err, IsTrue, refl, sym, ap, ◌∙◌, subst, arith}
+use Rattle.std.specs.Prelude.{◌||◌, IfErr, IsFalse, is_err, if◌then◌else◌}
+use Rattle.std.specs.List.{list_any, concat}
+use Rattle.std.proofs.lemmas.Bool.{both_ways, or_parts}
+use Rattle.std.proofs.lemmas.List.{length-map}
+use Rattle.olr_commands.specs.State.{Content, IsContent, Fault, Memory, Not_a_record, Change, Command, Make, Dump, State}
+use Rattle.olr_commands.specs.State.{is_recordable, start_state, step}
+use Rattle.olr_commands.specs.RecordText.{fields_line, fields_of_change, record_line}
+use Rattle.olr_commands.specs.Dump.{dump_changes, dump_lines, steps_then, steps}
+use Rattle.olr_commands.specs.Reply.{Reply, IsReply, Outcome, IsRefusal, ByState, Lacks}
+use Rattle.olr_commands.specs.Reply.{lacks_memory}
+use Rattle.olr_commands.specs.History.{Run}
+use Rattle.olr_commands.proofs.DumpLemmas.{dumps_run}
+use Rattle.olr_records.specs.Records.{Field, ReadFault, Bad_form, Out_of_range, Read, read}
+use Rattle.olr_records.specs.Recorded.{HaveRecords, Recorded, IsRecorded, StaysRecorded}
+use Rattle.olr_records.specs.ReplyText.{count_line, reply_text}
+use Rattle.olr_records.proofs.ReadLemmas.{read_recorded}
+use Rattle.olr_records.proofs.RecordLines.{records_split}
+use Rattle.olr_records.proofs.RecordedLemmas.{step_stays, recorded_dumps}
+use Rattle.olr_records.proofs.WrittenLemmas.{record_back}
+use Rattle.olr_run.specs.Output.{records_of, CommandOutcome, RecordOutcome, SoundOutcome, SoundOutcomes, Builds}
+use Rattle.olr_run.specs.Output.{IsDumpOf, Dumps, Outcomes, AllHadMemory, any_refused, AreAnswered, Ran, Status}
+use Rattle.olr_run.specs.Output.{All_accepted, Some_refused, Stopped}
+use Rattle.olr_run.proofs.Lacking.{IsOwn, step_own}
+
+-- ---- the text
+
+all_back : (xs : List Change) → HaveRecords xs →
+    map read (map fields_of_change xs) ≡ map (λ c. Ok c) (map (λ x. Make x) xs)
+all_back [] h = refl
+all_back (x ∷ xs) h =
+    let first = record_back x h.0 in let rest = all_back xs h.1 in λ i. first i ∷ rest i
+
+all_lines : (xs : List Change) → map record_line xs ≡ map fields_line (map fields_of_change xs)
+all_lines [] = refl
+all_lines (x ∷ xs) = ap (λ (ls : List (List ℕ)). record_line x ∷ ls) (all_lines xs)
+
+builds : (c : Content) → IsContent c → IsRecorded c → Builds (concat (dump_lines c)) (length (dump_lines c)) c
+builds c sound h =
+    let xs = dump_changes c in
+    let split : records_of (concat (map record_line xs)) ≡ map fields_of_change xs = records_split xs h in
+    record {
+      lines =
+          ap concat (all_lines xs)
+          ∙ sym (ap (λ (rs : List (List Field)). concat (map fields_line rs)) split);
+      count =
+          length-map xs record_line ∙ sym (length-map xs fields_of_change)
+          ∙ sym (ap (λ (rs : List (List Field)). length rs) split);
+      commands = map (λ x. Make x) xs;
+      decoded = ap (λ (rs : List (List Field)). map read rs) split ∙ all_back xs h;
+      leads = dumps_run c sound;
+    }
+
+-- ---- one record
+
+-- the reply to an accepted dump
+of_reply : (s t : State) (c : Command) (reply : Reply) → IsContent s.content → IsRecorded s.content →
+    IsReply s c t reply → c ≡ Dump →
+    (n : ℕ) × (text : List ℕ) × (reply_text reply ≡ count_line n ++ text) × Builds text n s.content
+of_reply s t c reply sound h is same =
+    let answer = subst (λ (x : Command). IsReply s x t reply) same is in
+    (length (dump_lines s.content), concat (dump_lines s.content), ap reply_text answer, builds s.content sound h)
+
+not_by_state : (b : Bool) (f : Fault) → b ≡ true → IsOwn b f → f ≢ Not_a_record
+not_by_state b f is h e =
+    both_ways b (subst (IsOwn b) e h) is
+
+not_refused : (s : State) (c : Command) (f : Fault) → IsTrue (is_recordable s.content) → IsRefusal s c f →
+    f ≢ Not_a_record
+not_refused s c f can (ByState e) =
+    not_by_state (is_recordable s.content) f can
+    (subst (λ (r : Result State Fault). IfErr r (IsOwn (is_recordable s.content))) e
+    (step_own s.content s.batch c))
+not_refused s c f can (Lacks is may) = λ e. let no : Memory ≡ Not_a_record = sym is ∙ e in cc
+
+command_dumps : (s t : State) (r : Read Command) (fields : List Field) (o : Outcome) → read fields ≡ r →
+    IsContent s.content → StaysRecorded s → CommandOutcome s r o t → IsDumpOf s fields o × StaysRecorded t
+command_dumps s t (Ok c) fields (Ok reply) is sound h p = (
+  (λ dump.
+      let same : c ≡ Dump = let both : ◌≡◌ {A = Read Command} (Ok c) (Ok Dump) = sym is ∙ dump in cc in
+      of_reply s t c reply sound h.0 p.1 same),
+  step_stays s t c h (read_recorded fields c is) p.0,
+)
+command_dumps s t (Ok c) fields (Err fault) is sound h p =
+    (not_refused s c fault (recorded_dumps s.content h.0) p.0, subst StaysRecorded (sym p.1) h)
+command_dumps s t (Err f) fields (Ok reply) is sound h p = absurd (let no = p.0 in cc)
+command_dumps s t (Err Bad_form) fields (Err fault) is sound h p =
+    ((λ e. let no = p.0 in cc), subst StaysRecorded (sym p.1) h)
+command_dumps s t (Err Out_of_range) fields (Err fault) is sound h p =
+    ((λ e. let no = p.0 in cc), subst StaysRecorded (sym p.1) h)
+
+lacking_dumps : (s : State) (fields : List Field) (o : Outcome) → o ≡ Err Memory → IsDumpOf s fields o
+lacking_dumps s fields (Ok reply) is = absurd cc
+lacking_dumps s fields (Err fault) is = λ e. cc
+
+record_dumps : (s : State) (fields : List Field) (o : Outcome) (t : State) → IsContent s.content → StaysRecorded s →
+    RecordOutcome s fields o t → IsDumpOf s fields o × StaysRecorded t
+record_dumps s fields o t sound h (inl p) = command_dumps s t (read fields) fields o refl sound h p
+record_dumps s fields o t sound h (inr p) =
+    (lacking_dumps s fields o p.1.0, subst StaysRecorded (sym p.1.1) h)
+
+-- ---- runs
+
+pub dumps_of : (s : State) (rs : List (List Field)) (os : List Outcome) (t : State) → IsContent s.content →
+    StaysRecorded s → SoundOutcomes s rs os t → Dumps s rs os t
+dumps_of s rs [] t sound h run = record { each = run; stays = subst StaysRecorded run h }
+dumps_of s [] (o ∷ os) t sound h run = absurd run
+dumps_of s (r ∷ rs) (o ∷ os) t sound h run =
+    let first = record_dumps s r o run.0 sound h run.1.0 in
+    let rest = dumps_of run.0 rs os t run.1.1 first.1 run.2 in
+    record { each = (run.0, (run.1, first.0), rest.each); stays = rest.stays }
+
+-- ---- a run over the text of a dump
+
+then_ok : (r : Result State Fault) (f : State → Result State Fault) (u : State) → steps_then r f ≡ Ok u →
+    (v : State) × (r ≡ Ok v) × (f v ≡ Ok u)
+then_ok (Ok v) f u is = (v, refl, is)
+then_ok (Err fault) f u is = absurd cc
+
+refused_not : (s v : State) (c : Command) (f : Fault) → step s c ≡ Ok v → IsFalse (lacks_memory (Err f)) →
+    IsRefusal s c f → ⊥
+refused_not s v c f is had (ByState e) = let no : ◌≡◌ {A = Result State Fault} (Ok v) (Err f) = sym is ∙ e in cc
+refused_not s v c f is had (Lacks memory may) =
+    both_ways (lacks_memory (Err f)) had (ap (λ (g : Fault). lacks_memory (Err g)) memory)
+
+command_goes : (s t v : State) (r : Read Command) (c : Command) (o : Outcome) → r ≡ Ok c → step s c ≡ Ok v →
+    IsFalse (lacks_memory o) → CommandOutcome s r o t → (is_err o ≡ false) × (t ≡ v)
+command_goes s t v (Ok d) c (Ok reply) e is had p =
+    let same : d ≡ c = cc in
+    let there : ◌≡◌ {A = Result State Fault} (Ok t) (Ok v) =
+    sym p.0 ∙ ap (step s) same ∙ is in
+    (refl, (let to : t ≡ v = cc in to))
+command_goes s t v (Ok d) c (Err f) e is had p =
+    let same : d ≡ c = cc in
+    absurd (refused_not s v d f (ap (step s) same ∙ is) had p.0)
+command_goes s t v (Err g) c o e is had p = absurd cc
+
+record_goes : (s t v : State) (fields : List Field) (c : Command) (o : Outcome) → read fields ≡ Ok c →
+    step s c ≡ Ok v → IsFalse (lacks_memory o) → RecordOutcome s fields o t → (is_err o ≡ false) × (t ≡ v)
+record_goes s t v fields c o e is had (inl p) = command_goes s t v (read fields) c o e is had p
+record_goes s t v fields c o e is had (inr p) =
+    absurd (both_ways (lacks_memory o) had (ap lacks_memory p.1.0))
+
+all_go : (s u t : State) (cs : List Command) (rs : List (List Field)) (os : List Outcome) →
+    map read rs ≡ map (λ c. Ok c) cs → steps s cs ≡ Ok u → AllHadMemory os → Outcomes s rs os t →
+    IsFalse (any_refused os) × (length os ≡ length rs → t ≡ u)
+all_go s u t [] [] [] e is had run = (refl, λ l. (let same : s ≡ u = cc in sym run ∙ same))
+all_go s u t (c ∷ cs) [] [] e is had run = absurd cc
+all_go s u t cs (r ∷ rs) [] e is had run = (refl, λ l. absurd (omega arith))
+all_go s u t cs [] (o ∷ os) e is had run = absurd run
+all_go s u t [] (r ∷ rs) (o ∷ os) e is had run = absurd cc
+all_go s u t (c ∷ cs) (r ∷ rs) (o ∷ os) e is had run =
+    let first : read r ≡ Ok c = cc in
+    let others : map read rs ≡ map (λ c. Ok c) cs = cc in
+    let p = then_ok (step s c) (λ v. steps v cs) u is in
+    let memory = or_parts (lacks_memory o) (list_any lacks_memory os) had in
+    let one = record_goes s run.0 p.0 r c o first p.1 memory.0 run.1 in
+    let rest =
+    all_go p.0 u t cs rs os others p.2 memory.1 (subst (λ (a : State). Outcomes a rs os t) one.1 run.2) in
+    ((λ i. one.0 i || rest.0 i), λ l. rest.1 (omega arith))
+
+-- a run over all records ends with the state that they lead to
+ended : (stop : Bool) (rs : List (List Field)) (os : List Outcome) → IsFalse (any_refused os) →
+    AreAnswered stop rs os → length os ≡ length rs
+ended stop rs os none (inl l) = l
+ended true rs os none (inr h) = absurd (both_ways (any_refused os) none h)
+ended false rs os none (inr h) = absurd cc
+
+pub dumps_reload : (text : List ℕ) (n : ℕ) (c : Content) (stop : Bool) (t : State) (w : List ℕ) (end : Status) →
+    Builds text n c → (p : Ran Outcomes stop start_state (records_of text) t w end) → AllHadMemory p.outcomes →
+    (end ≡ All_accepted) × (t ≡ record { content = c; batch = None })
+dumps_reload text n c stop t w end b p had =
+    let all = all_go start_state _ t b.commands (records_of text) p.outcomes b.decoded b.leads had p.each in (
+      p.ended ∙ ap (λ (x : Bool). if x then (if stop then Stopped else Some_refused) else All_accepted) all.0,
+      all.1 (ended stop (records_of text) p.outcomes all.0 p.all),
+    )
