@@ -106,7 +106,7 @@ module _ {X : Type 0} where
   )
 
   -- what is true of each number with its value is true of all entries
-  of_entries : (P : ℕ × X → Type 0) (es : List (ℕ × X)) → T (is_sorted nat_cmp es) →
+  pub of_entries : (P : ℕ × X → Type 0) (es : List (ℕ × X)) → T (is_sorted nat_cmp es) →
       ((e : ℕ × X) → find nat_cmp e.0 es ≡ Some e.1 → P e) → AllByRecursion P es
   of_entries P [] s h = tt
   of_entries P (e ∷ es) s h = (

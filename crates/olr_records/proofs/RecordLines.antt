@@ -32,7 +32,7 @@ use Rattle.olr_commands.specs.RecordText.{fields_of_change, record_line}
 use Rattle.olr_records.specs.Records.{Field, max32}
 use Rattle.olr_records.specs.Recorded.{is_number, is_amount, is_place, is_point, are_attributes, is_named_path}
 use Rattle.olr_records.specs.Recorded.{has_record, HaveRecords}
-use Rattle.olr_records.proofs.TextLemmas.{joined}
+use Rattle.olr_commands.proofs.RecordLemmas.{joined}
 
 -- ---- the bytes of fields
 

@@ -22,6 +22,7 @@ use Rattle.olr_commands.specs.Recordable.{is_name, is_recordable_coord, is_recor
 use Rattle.olr_commands.specs.State.{Not_a_record, no_content, is_recordable, start_state, Report, Dump, Explain, Begin, Commit, Abort, State, full, at_once, into_batch}
 use Rattle.olr_commands.specs.State.{text_fault, unless_fault, step}
 use Rattle.olr_commands.specs.Dump.{node_change, line_change, path_change, dump_changes}
+use Rattle.olr_commands.proofs.DumpLemmas.{of_entries}
 use Rattle.olr_commands.proofs.StateLemmas.{when_ok, next_ok, after_push}
 use Rattle.olr_records.specs.Recorded.{is_number, is_amount, is_place, is_point, are_attributes, is_named_path}
 use Rattle.olr_records.specs.Recorded.{has_record, Recorded, IsRecorded, StaysRecorded}
@@ -55,37 +56,6 @@ module _ {X Y : Type 0} (f : X → Y) (P : Y → Type 0) where
   to_mapped (x ∷ xs) h = (h.0, to_mapped xs h.1)
 
 -- ---- numbers with their values
-
-lt_not_eq : (o : Ordering) → T (is_lt o) → is_eq o ≡ false
-lt_not_eq Less h = refl
-lt_not_eq Equal h = absurd h
-lt_not_eq Greater h = absurd h
-
-some_not_none : {X : Type 0} (o : Option X) (x : X) → o ≡ Some x → o ≡ None → ⊥
-some_not_none o x is none =
-    both_ways (is_some o) (ap (λ (p : Option _). is_some p) none) (ap (λ (p : Option _). is_some p) is)
-
-module _ {X : Type 0} where
-  -- a number below all of them equals none of them
-  missed : (k : ℕ) (es : List (ℕ × X)) → T (below_all nat_cmp k es) → find nat_cmp k es ≡ None
-  missed k [] h = refl
-  missed k (e ∷ es) h =
-      ap (λ (b : Bool). cond b (Some e.1) (find nat_cmp k es)) (lt_not_eq (nat_cmp k e.0) (T_first _ _ h))
-      ∙ missed k es (T_second _ _ h)
-
-  -- what is true of each number with its value is true of all entries
-  of_entries : (P : ℕ × X → Type 0) (es : List (ℕ × X)) → T (is_sorted nat_cmp es) →
-      ((e : ℕ × X) → find nat_cmp e.0 es ≡ Some e.1 → P e) → AllByRecursion P es
-  of_entries P [] s h = tt
-  of_entries P (e ∷ es) s h = (
-    h e (ap (λ (b : Bool). cond b (Some e.1) (find nat_cmp e.0 es)) (unsigned_tied e.0 e.0 ∙ eq-eqb e.0 e.0 refl)),
-    of_entries P es (T_second _ _ s) (λ f is.
-        let ne : f.0 ≢ e.0 = λ same.
-        some_not_none (find nat_cmp f.0 es) f.1 is
-        (ap (λ (j : ℕ). find nat_cmp j es) same ∙ missed e.0 es (T_first _ _ s)) in
-        h f (ap (λ (b : Bool). cond b (Some e.1) (find nat_cmp f.0 es)) (unsigned_tied f.0 e.0 ∙ ne_eqb f.0 e.0 ne)
-        ∙ is)),
-  )
 
 module _ {X : Type 0} (P : ℕ × X → Type 0) where
   found : (k : ℕ) (v : X) (es : List (ℕ × X)) → AllByRecursion P es → find nat_cmp k es ≡ Some v → P (k, v)

@@ -10,13 +10,10 @@ use Rattle.olr_spec.specs.Reference.{Reference}
 use Rattle.olr_commands.specs.Words.{entry_of}
 use Rattle.olr_commands.specs.declared.reply.Entry.{Entry}
 use Rattle.olr_commands.specs.RecordText.{after_commas}
+use Rattle.olr_commands.proofs.RecordLemmas.{joined}
 use Rattle.olr_records.specs.ReplyText.{reply_line, entry_line, accepted_text, first_line, middle_line}
 use Rattle.olr_records.specs.ReplyText.{last_line}
 use Rattle.olr_records.specs.ReplyText.{offset_lines, reference_lines}
-
-pub joined : (f : List ℕ) (fs : List (List ℕ)) → join_with_byte 44 (f ∷ fs) ≡ f ++ after_commas fs
-joined f [] = sym (append-nil f)
-joined f (g ∷ gs) = ap (λ (r : List ℕ). f ++ 44 ∷ r) (joined g gs)
 
 -- a line of a word, two fields and more
 pub fields-line : (t w a b : List ℕ) (fs : List (List ℕ))
