@@ -11,6 +11,7 @@ pub mod Undoing
 pub mod LineLists
 pub mod Listing
 pub mod Reading
+pub mod AllIds
 pub mod Making
 pub mod Verdicts
 pub mod NodeChanges

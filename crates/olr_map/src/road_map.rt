@@ -76,8 +76,10 @@ impl MapRead for RoadMap {
 }
 
 impl RoadMap {
-    ghost use Rattle.std.specs.Prelude.{◌≡◌, ◌↔◌, IfOk, OnOk, OnErr, Ok, Err, IsTrue};
-    ghost use Rattle.olr_spec.specs.Map.{MapFault, empty_map, edited};
+    ghost use Rattle.std.specs.Prelude.{◌≡◌, ◌↔◌, IfOk, OnOk, OnErr, Ok, Err, IsTrue, ℕ, Some};
+    ghost use Rattle.std.specs.Prelude.{map as list_map};
+    ghost use Rattle.std.specs.FinMap.{entries};
+    ghost use Rattle.olr_spec.specs.Map.{MapFault, empty_map, edited, has_node};
     ghost use Rattle.olr_map.specs.Edits.{edit_of, edit_fault_of, allocates};
     ghost use Rattle.olr_map.specs.Undos.{log_changes};
     ghost use Rattle.olr_map.specs.EditPlans.{IsEditPlan};
@@ -90,6 +92,28 @@ impl RoadMap {
         RoadMap {
             tables: Tables::new(alloc),
         }
+    }
+
+    /// The number of the node in a slot, see `MapRead::slot_of`. None if the slot is free, or if there is no such slot.
+    pub fn id_at(&self, slot: usize) -> Option<NodeId>
+        ensures { (v : ℕ) → (result ≡ Some v)
+            ↔ (IsTrue (has_node (map_of self.now) v) × (slot_of self.now v ≡ slot)) }
+    {
+        self.tables.id_at(slot)
+    }
+
+    /// The numbers of the nodes, in ascending order. An error means that an allocation failed.
+    pub fn node_ids(&self, alloc: Global) -> Result<Vec<NodeId>, AllocError>
+        ensures { IfOk result (λ ids. ids.items ≡ list_map (λ e. e.0) (entries (map_of self.now).nodes)) }
+    {
+        self.tables.node_ids(alloc)
+    }
+
+    /// The numbers of the lines, in ascending order. An error means that an allocation failed.
+    pub fn line_ids(&self, alloc: Global) -> Result<Vec<LineId>, AllocError>
+        ensures { IfOk result (λ ids. ids.items ≡ list_map (λ e. e.0) (entries (map_of self.now).lines)) }
+    {
+        self.tables.line_ids(alloc)
     }
 
     /// Makes an edit. Any fault leaves the map as it was. `Memory` has the last place among the faults, and is

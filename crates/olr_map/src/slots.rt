@@ -1,6 +1,7 @@
 //! The nodes in their slots, in columns: their heads, the lines that leave them, and those that enter them.
 ghost use Rattle.std.specs.Prelude.{◌≡◌, ◌+◌, ◌<◌, ◌≤◌, ◌++◌, ◌∷◌, [], length, set, vec_len, cond, nat_lt, Some};
-ghost use Rattle.std.specs.Prelude.{IsSome, OnOk, IsTrue, IsFalse};
+ghost use Rattle.std.specs.Prelude.{IsSome, IfOk, OnOk, IsTrue, IsFalse, map, option_map};
+ghost use Rattle.olr_map.specs.Slotted.{present, at};
 ghost use Rattle.std.specs.List.Sorted.{IsStrictlyIncreasing};
 ghost use Rattle.std.specs.Vec.{vec_capacity};
 
@@ -28,6 +29,40 @@ pub struct NodeHead {
     pub place: Coord,
 }
 
+/// The numbers of the nodes in these slots, in the order of the slots.
+fn ids_of(alloc: Global, heads: &[Option<NodeHead>]) -> Result<Vec<NodeId>, AllocError>
+    ensures { IfOk result (λ ids. ids.items ≡ map (λ h. h.id) (present heads.now)) }
+{
+    let mut ids = Vec::new(alloc);
+    for head in heads {
+        push_id(&mut ids, head)?;
+    }
+    Ok(ids)
+}
+
+/// Appends the number of the node in a slot, if it is not free.
+fn push_id(ids: &mut Vec<NodeId>, head: &Option<NodeHead>) -> Result<(), AllocError>
+    ensures { OnOk result (ids.new.items ≡ ids.old.items ++ map (λ h. h.id) (present (head.now ∷ []))) }
+{
+    if let Some(head) = head {
+        ids.push(head.id)?;
+    }
+    Ok(())
+}
+
+/// The number of the node in a slot. None if the slot is free, or if there is no such slot.
+fn id_in(heads: &[Option<NodeHead>], slot: usize) -> Option<NodeId>
+    ensures { result ≡ option_map (λ h. h.id) (at heads.now slot) }
+{
+    if slot >= heads.len() {
+        return None;
+    }
+    match &heads[slot] {
+        Some(head) => Some(head.id),
+        None => None,
+    }
+}
+
 /// Which of a node's lines: those that leave it, or those that enter it.
 #[derive(Clone, Copy, PartialEq, Eq)]
 pub enum Side {
@@ -47,7 +82,7 @@ pub struct NodeSlots {
 }
 
 impl NodeSlots {
-    ghost use Rattle.olr_map.specs.Slotted.{at, IsInserted, IsRemoved, IsReplaced};
+    ghost use Rattle.olr_map.specs.Slotted.{IsInserted, IsRemoved, IsReplaced};
     ghost use Rattle.olr_map.specs.Columns.{node_slots, node_room};
     ghost use Rattle.olr_map.specs.NodeLinks.{links_at, with_links};
     ghost use Rattle.olr_map.specs.Linked.{lines_on, ends_on, spare_links, IsLinked, IsUnlinked, IsReset};
@@ -71,6 +106,20 @@ impl NodeSlots {
         ensures { result ≡ length (node_slots self.now) }
     {
         self.heads.count()
+    }
+
+    /// The numbers of all nodes, in the order of their slots.
+    pub fn ids(&self, alloc: Global) -> Result<Vec<NodeId>, AllocError>
+        ensures { IfOk result (λ ids. ids.items ≡ map (λ e. e.id) (present (node_slots self.now))) }
+    {
+        ids_of(alloc, &self.heads.entries)
+    }
+
+    /// The number of the node in a slot. None if the slot is free, or if there is no such slot.
+    pub fn id_at(&self, slot: usize) -> Option<NodeId>
+        ensures { result ≡ option_map (λ e. e.id) (at (node_slots self.now) slot) }
+    {
+        id_in(&self.heads.entries, slot)
     }
 
     /// The coordinate of the node in a slot.

@@ -100,8 +100,11 @@ impl MapRead for Tables {
 }
 
 impl Tables {
-    ghost use Rattle.std.specs.Prelude.{◌+◌, ◌<◌, ◌≤◌, ℕ, OnOk, IsTrue, Some};
-    ghost use Rattle.olr_spec.specs.Map.{empty_map, has_node, has_line, start, end};
+    ghost use Rattle.std.specs.Prelude.{◌+◌, ◌<◌, ◌≤◌, ℕ, IfOk, OnOk, IsTrue, Some, flat_map, ◌↔◌};
+    ghost use Rattle.olr_map.specs.Tables.{node_slot};
+    ghost use Rattle.std.specs.Prelude.{map as list_map};
+    ghost use Rattle.std.specs.FinMap.{entries};
+    ghost use Rattle.olr_spec.specs.Map.{empty_map, has_node, has_line, start, end, lines_out};
     ghost use Rattle.olr_map.specs.SlotIndexes.{slot_by, spare_of};
     ghost use Rattle.olr_map.specs.SlotMaps.{spare_numbers};
     ghost use Rattle.olr_map.specs.Changes.{tables_map, room_of, spare_at, node_puts, line_puts, IsRoomWithin};
@@ -119,6 +122,44 @@ impl Tables {
             nodes: NodeSlots::new(alloc),
             lines: SlotMap::new(alloc),
         }
+    }
+
+    /// The number of the node in a slot. None if the slot is free, or if there is no such slot.
+    pub fn id_at(&self, slot: usize) -> Option<NodeId>
+        ensures { (v : ℕ) → (result ≡ Some v)
+            ↔ (IsTrue (has_node (tables_map self.now) v) × (node_slot self.now.index v ≡ slot)) }
+    {
+        self.nodes.id_at(slot)
+    }
+
+    /// The numbers of the nodes, in ascending order.
+    pub fn node_ids(&self, alloc: Global) -> Result<Vec<NodeId>, AllocError>
+        ensures { IfOk result (λ ids. ids.items ≡ list_map (λ e. e.0) (entries (tables_map self.now).nodes)) }
+    {
+        let mut ids = self.nodes.ids(alloc)?;
+        ids.sort_unstable();
+        Ok(ids)
+    }
+
+    /// The numbers of the lines, in ascending order.
+    pub fn line_ids(&self, alloc: Global) -> Result<Vec<LineId>, AllocError>
+        ensures { IfOk result (λ ids. ids.items ≡ list_map (λ e. e.0) (entries (tables_map self.now).lines)) }
+    {
+        let nodes = self.nodes.ids(alloc)?;
+        let mut ids = self.lines_from(alloc, &nodes)?;
+        ids.sort_unstable();
+        Ok(ids)
+    }
+
+    /// The numbers of the lines that leave these nodes, node by node.
+    fn lines_from(&self, alloc: Global, nodes: &[NodeId]) -> Result<Vec<LineId>, AllocError>
+        ensures { IfOk result (λ ids. ids.items ≡ flat_map (lines_out (tables_map self.now)) nodes.now) }
+    {
+        let mut ids = Vec::new(alloc);
+        for node in nodes {
+            ids.extend_from_slice(self.out_lines(*node))?;
+        }
+        Ok(ids)
     }
 
     /// The slot of a node of the map.

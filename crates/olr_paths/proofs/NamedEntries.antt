@@ -15,7 +15,7 @@ use Rattle.std.proofs.lemmas.Bool.{cases_Bool}
 use Rattle.olr_spec.specs.Extension.{Path}
 use Rattle.olr_commands.specs.State.{same_name, path_named, NamesDiffer}
 use Rattle.olr_commands.proofs.NameLemmas.{same_is, flipped}
-use Rattle.olr_paths.specs.Items.{Made, Item, made_of, all_named, made_in}
+use Rattle.olr_paths.specs.Items.{Made, Item, made_of, named_of, all_named, made_in}
 use Rattle.olr_paths.specs.Changes.{set_item}
 use Rattle.olr_paths.specs.declared.path_list.NamedPath.{NamedPath}
 use lib.Pointwise.{bytes_decides}
@@ -175,6 +175,12 @@ pub named_at : (es : Entries) (k : ℕ) (e : String Global × NamedPath) → sli
 named_at es k e h =
     slice_get-map (λ i. i.name) (items_of es) k ∙ ap (option_map (λ (i : Item). i.name)) (slice_get-map item_of es k)
     ∙ ap (λ (o : Option (String Global × NamedPath)). option_map (λ (i : Item). i.name) (option_map item_of o)) h
+
+pub path_at : (es : Entries) (k : ℕ) (e : String Global × NamedPath) → slice_get es k ≡ Some e →
+    slice_get (all_named (items_of es)) k ≡ Some (record { name = string_bytes e.0; path = e.1.path.value })
+path_at es k e h =
+    slice_get-map named_of (items_of es) k ∙ ap (option_map named_of) (slice_get-map item_of es k)
+    ∙ ap (λ (o : Option (String Global × NamedPath)). option_map named_of (option_map item_of o)) h
 
 pub published_absent : (es : Entries) (name : List ℕ) → lookup (asks name) es ≡ None → made_in (items_of es) name ≡ None
 published_absent es name h = looked_up es name ∙ ap (option_and_then made_of_named) h

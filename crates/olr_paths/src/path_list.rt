@@ -92,6 +92,15 @@ impl PathList {
         Some(name.as_str())
     }
 
+    /// The name of path k, counted from 0, and the path. None past the last.
+    pub fn path_at(&self, k: usize) -> Option<(&str, &Path)>
+        ensures { option_map (λ p. record { name = p.0.now; path = p.1.now }) result
+            ≡ slice_get (all_named (items self.now)) k }
+    {
+        let (name, named) = self.paths.get_index(k)?;
+        Some((name.as_str(), &*named.path))
+    }
+
     /// Whether a path has the name.
     pub fn has(&self, name: &str) -> bool
         ensures { result ≡ is_some (path_named (all_named (items self.now)) name.now) }

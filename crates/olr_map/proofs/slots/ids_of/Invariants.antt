@@ -1,0 +1,6 @@
+use Rattle.std.proofs.Common.{◌≡◌, map, take}
+use Rattle.olr_map.specs.Slotted.{present}
+use Rattle.olr_map.proofs.slots.ids_of.Given as goal
+
+abbrev pub invariant-loop-head : goal.invariant-loop-head
+invariant-loop-head l = l.ids.items ≡ map (λ h. h.id) (present (take l.head-index l.heads))
