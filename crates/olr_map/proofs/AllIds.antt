@@ -63,10 +63,10 @@ distinct_append [] ys a b apart = b
 distinct_append (x ∷ xs) ys a b apart =
     IsDistinct-cons ◌==◌ x (xs ++ ys)
     (none_equal x (xs ++ ys) (λ y i is.
-        elim (both xs ys y i) [
-          | inl left ↦ not_among x xs (IsDistinct-head ◌==◌ x xs a) (subst (λ (n : ℕ). has xs n ≡ true) (sym is) left)
-          | inr right ↦ apart x (has_here x xs) (subst (λ (n : ℕ). has ys n ≡ true) (sym is) right)
-        ]))
+    elim (both xs ys y i) [
+      | inl left ↦ not_among x xs (IsDistinct-head ◌==◌ x xs a) (subst (λ (n : ℕ). has xs n ≡ true) (sym is) left)
+      | inr right ↦ apart x (has_here x xs) (subst (λ (n : ℕ). has ys n ≡ true) (sym is) right)
+    ]))
     (distinct_append xs ys (IsDistinct-tail ◌==◌ x xs a) b (λ y i j. apart y (has_there x xs y i) j)) where
       both : (xs ys : List ℕ) (y : ℕ) → has (xs ++ ys) y ≡ true → (has xs y ≡ true) ⊎ (has ys y ≡ true)
       both [] ys y h = inr h

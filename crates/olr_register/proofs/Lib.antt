@@ -1,4 +1,6 @@
 pub mod Asking
+pub mod DumpTexts
+pub mod DumpOutcomes
 pub mod BatchCommit
 pub mod BatchEnds
 pub mod BatchStates

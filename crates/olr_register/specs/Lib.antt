@@ -4,3 +4,4 @@ pub mod Holding
 pub mod Answering
 pub mod HoldsChange
 pub mod Sparing
+pub mod Dumping

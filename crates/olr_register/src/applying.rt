@@ -46,6 +46,7 @@ impl Register {
             Command::DropPath(name) => self.drop_now(&name),
             Command::Show(name) => self.show(&name),
             Command::Report => self.report(),
+            Command::Dump => self.dump(),
             Command::Explain(text) => self.explain(&text),
             Command::Begin => self.begin(),
             Command::Commit(count) => self.commit(count),

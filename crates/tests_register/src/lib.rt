@@ -8,6 +8,8 @@ mod batches;
 #[cfg(test)]
 mod commands;
 #[cfg(test)]
+mod dumps;
+#[cfg(test)]
 mod kept;
 #[cfg(test)]
 mod path_list;

@@ -3,7 +3,7 @@ use Rattle.std.proofs.lemmas.Iterator.Adapters.{YieldsList-from_vec}
 use Rattle.std.proofs.lemmas.Iterator.Consumers.{YieldsList-end}
 use Rattle.olr_commands.specs.State.{IsContent, start_state}
 use Rattle.olr_commands.specs.Reply.{IsOutcome}
-use Rattle.olr_commands.proofs.HistoryLemmas.{SoundOutcome, run_each, headline_of_outcomes}
+use Rattle.olr_commands.proofs.HistoryLemmas.{SoundOutcome, run_each, headline_of_outcomes, start_sound}
 use Rattle.olr_register.proofs.Runs.{HasRun, map_same, run_starts, sound_at_start, run_continues}
 use Rattle.olr_register.proofs.applying.replay.Goals as goal
 
@@ -46,6 +46,5 @@ returns-clause-headline c =
     let run = whole_run c in (
       run.0,
       run.1,
-      headline_of_outcomes start_state _ _ run.0 (subst IsContent run.1.0 c.loop-command.invariant.sound)
-          run.2.1,
+      headline_of_outcomes start_state _ _ run.0 start_sound.content run.2.1,
     )

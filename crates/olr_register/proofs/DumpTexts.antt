@@ -1,0 +1,215 @@
+-- Dumps: which maps records can encode, and the records of nodes, lines and paths.
+use Rattle.std.proofs.Common.{inl, inr, ◌≡◌, ◌&&◌, ℕ, zero, suc, ◌+◌, ◌<◌, Bool, true, false, cond, not, T, List, [], ◌∷◌}
+use Rattle.std.proofs.Common.{◌++◌, map, length, take, get_or, slice_get, Option, Some, None, is_some, is_none, unwrap_or, Ok, Err}
+use Rattle.std.proofs.Common.{nat_cmp, IsTrue, refl, sym, ap, ◌∙◌, subst, append_assoc, arith}
+use Rattle.std.specs.List.{list_all, concat, flat_map, AllByRecursion}
+use Rattle.std.specs.Ordering.{eq_by_cmp}
+use Rattle.std.specs.FinMap.{FinMap, get, entries, entries_sorted, get-entries}
+use Rattle.std.specs.FinMap.Entries.{find, is_sorted}
+use Rattle.std.proofs.lemmas.Bool.{cases_Bool, both_ways, and_parts, and_from}
+use Rattle.std.proofs.lemmas.List.{append-nil, length-append, length-map, map-append, take_more, get_or-map}
+use Rattle.std.proofs.lemmas.List.Folds.{concat-append, list_all_at, list_all_more}
+use Rattle.std.proofs.lemmas.Option.{slice_get-get_or}
+use Rattle.std.proofs.lemmas.Grind.{flat_map-append}
+use Rattle.olr_spec.specs.Coordinates.{Coord}
+use Rattle.olr_spec.specs.Map.{Map, IsMap, Line, has, has_node, has_line, line_at, coord_at, no_line, no_coord, lines_out}
+use Rattle.olr_spec.specs.Map.{start}
+use Rattle.olr_spec.proofs.ListLemmas.{has_cases, take_more_at}
+use Rattle.olr_spec.proofs.OrderLemmas.{exactly_out}
+use Rattle.olr_commands.specs.Recordable.{is_recordable_coord, is_recordable_shape, is_recordable_map}
+use Rattle.olr_commands.specs.RecordText.{record_line}
+use Rattle.olr_commands.specs.State.{Named, Content, Change}
+use Rattle.olr_commands.specs.Dump.{node_change, line_change, path_change, dump_changes, dump_lines}
+use Rattle.olr_commands.proofs.DumpLemmas.{of_entries}
+use Rattle.olr_register.specs.Dumping.{is_recordable_line_at, is_recordable_node_at}
+
+-- ---- a test of all values of a finite map
+
+abbrev Tested : {X : Type 0} → (X → Bool) → List (ℕ × X) → Type 0
+Tested q es = list_all (λ e. q e.1) es ≡ true
+
+module _ {X : Type 0} (q : X → Bool) where
+  found_passes : (es : List (ℕ × X)) (k : ℕ) (x : X) → Tested q es → find nat_cmp k es ≡ Some x → q x ≡ true
+  found_passes [] k x a h = absurd cc
+  found_passes (e ∷ es) k x a h =
+      let both = and_parts (q e.1) (list_all (λ e. q e.1) es) a in
+      elim (eq_by_cmp nat_cmp k e.0) as (λ t. cond t (Some e.1) (find nat_cmp k es) ≡ Some x → q x ≡ true) [
+        | true ↦ λ g. let same : e.1 ≡ x = cc in subst (λ (y : X). q y ≡ true) same both.0
+        | false ↦ λ g. found_passes es k x both.1 g
+      ] h
+
+  all_from : (es : List (ℕ × X)) → AllByRecursion (λ e. q e.1 ≡ true) es → Tested q es
+  all_from [] a = refl
+  all_from (e ∷ es) a = and_from (q e.1) (list_all (λ e. q e.1) es) a.0 (all_from es a.1)
+
+  pub value_passes : (m : FinMap nat_cmp X) (k : ℕ) (x : X) → Tested q (entries m) → get m k ≡ Some x → q x ≡ true
+  value_passes m k x a h = found_passes (entries m) k x a (sym (get-entries m k) ∙ h)
+
+  all_values : (m : FinMap nat_cmp X) → ((k : ℕ) (x : X) → get m k ≡ Some x → q x ≡ true) → Tested q (entries m)
+  all_values m h =
+      all_from (entries m)
+      (of_entries (λ e. q e.1 ≡ true) (entries m) (entries_sorted m) (λ e is. h e.0 e.1 (get-entries m e.0 ∙ is)))
+
+all_true : (p : ℕ → Bool) (xs : List ℕ) → ((x : ℕ) → p x ≡ true) → list_all p xs ≡ true
+all_true p [] h = refl
+all_true p (x ∷ xs) h = and_from (p x) (list_all p xs) (h x) (all_true p xs h)
+
+one_of_all : (p : ℕ → Bool) (xs : List ℕ) (x : ℕ) → list_all p xs ≡ true → has xs x ≡ true → p x ≡ true
+one_of_all p [] x a h = absurd cc
+one_of_all p (y ∷ ys) x a h =
+    let both = and_parts (p y) (list_all p ys) a in
+    elim (has_cases y ys x h) [
+      | inl is ↦ subst (λ (n : ℕ). p n ≡ true) is both.0
+      | inr later ↦ one_of_all p ys x both.1 later
+    ]
+
+-- ---- a test of each element, by its index
+
+pub one_fails : {A : Type 0} (q : A → Bool) (xs : List A) (k : ℕ) (d : A) → k < length xs →
+    ((x : A) → slice_get xs k ≡ Some x → false ≡ q x) → list_all q xs ≡ false
+one_fails q xs k d lt h = list_all_at q xs k d lt (sym (h (get_or xs k d) (slice_get-get_or xs k d lt)))
+
+pub one_more : {A : Type 0} (q : A → Bool) (xs : List A) (k : ℕ) (d : A) → k < length xs →
+    ((x : A) → slice_get xs k ≡ Some x → true ≡ q x) → list_all q (take k xs) ≡ true →
+    list_all q (take (k + 1) xs) ≡ true
+one_more q xs k d lt h before =
+    list_all_more q xs k d lt
+    ∙ and_from (list_all q (take k xs)) (q (get_or xs k d)) before
+    (sym (h (get_or xs k d) (slice_get-get_or xs k d lt)))
+
+-- ---- a map, node by node
+
+module _ (M : Map) where
+  line_by_map : is_recordable_map M ≡ true → (x : ℕ) → is_recordable_line_at M x ≡ true
+  line_by_map a x = by (get M.lines x) refl where
+    by : (o : Option Line) → get M.lines x ≡ o → is_recordable_shape (unwrap_or o no_line).shape ≡ true
+    by None e = refl
+    by (Some l) e =
+        value_passes (λ (k : Line). is_recordable_shape k.shape) M.lines x l
+        (and_parts (list_all (λ e. is_recordable_coord e.1) (entries M.nodes))
+        (list_all (λ e. is_recordable_shape e.1.shape) (entries M.lines)) a).1 e
+
+  coord_by_map : is_recordable_map M ≡ true → (v : ℕ) → is_recordable_coord (coord_at M v) ≡ true
+  coord_by_map a v = by (get M.nodes v) refl where
+    by : (o : Option Coord) → get M.nodes v ≡ o → is_recordable_coord (unwrap_or o no_coord) ≡ true
+    by None e = refl
+    by (Some c) e =
+        value_passes is_recordable_coord M.nodes v c
+        (and_parts (list_all (λ e. is_recordable_coord e.1) (entries M.nodes))
+        (list_all (λ e. is_recordable_shape e.1.shape) (entries M.lines)) a).0 e
+
+  -- a node that records can't encode, or a line that leaves it
+  pub not_by_node : (v : ℕ) → is_recordable_node_at M v ≡ false → is_recordable_map M ≡ false
+  not_by_node v other =
+      elim (cases_Bool (is_recordable_map M)) [
+        | inl all ↦
+            absurd (both_ways (is_recordable_node_at M v) other
+            (and_from (is_recordable_coord (coord_at M v)) (list_all (is_recordable_line_at M) (lines_out M v))
+            (coord_by_map all v) (all_true (is_recordable_line_at M) (lines_out M v) (line_by_map all))))
+        | inr none ↦ none
+      ]
+
+  -- each node of a sound map
+  pub by_nodes : IsMap M → ((v : ℕ) → has_node M v ≡ true → is_recordable_node_at M v ≡ true) →
+      is_recordable_map M ≡ true
+  by_nodes m h =
+      and_from (list_all (λ e. is_recordable_coord e.1) (entries M.nodes))
+      (list_all (λ e. is_recordable_shape e.1.shape) (entries M.lines))
+      (all_values is_recordable_coord M.nodes (λ v c is.
+      subst (λ (o : Option Coord). is_recordable_coord (unwrap_or o no_coord) ≡ true) is
+      (parts v (ap (λ (o : Option Coord). is_some o) is)).0))
+      (all_values (λ (l : Line). is_recordable_shape l.shape) M.lines (λ x l is.
+      let there : has_line M x ≡ true = ap (λ (o : Option Line). is_some o) is in
+      let from : start M x ≡ l.from = ap (λ (o : Option Line). (unwrap_or o no_line).from) is in
+      let node : has_node M l.from ≡ true = subst (λ (n : ℕ). has_node M n ≡ true) from (m.starts x there) in
+      subst (λ (o : Option Line). is_recordable_shape (unwrap_or o no_line).shape ≡ true) is
+      (one_of_all (is_recordable_line_at M) (lines_out M l.from) x (parts l.from node).1
+      ((exactly_out M l.from x).1 (l, (is, refl)))))) where
+        parts : (v : ℕ) → has_node M v ≡ true → (is_recordable_coord (coord_at M v) ≡ true)
+            × (list_all (is_recordable_line_at M) (lines_out M v) ≡ true)
+        parts v there =
+            and_parts (is_recordable_coord (coord_at M v)) (list_all (is_recordable_line_at M) (lines_out M v))
+            (h v there)
+
+-- ---- records
+
+-- the text with the record of one more
+pub records-more : {A : Type 0} (f : A → List ℕ) (t : List ℕ) (xs : List A) (k : ℕ) (d : A) → k < length xs
+    → (t ++ flat_map f (take k xs)) ++ f (get_or xs k d) ≡ t ++ flat_map f (take (k + 1) xs)
+records-more f t xs k d lt =
+    rw (take_more xs k d lt, flat_map-append f (take k xs) (get_or xs k d ∷ []), append-nil (f (get_or xs k d)))
+    (append_assoc t (flat_map f (take k xs)) (f (get_or xs k d)))
+
+-- the same by the element at the index
+pub records-at : {A : Type 0} (f : A → List ℕ) (t : List ℕ) (xs : List A) (k : ℕ) (x : A) → slice_get xs k ≡ Some x
+    → (t ++ flat_map f (take k xs)) ++ f x ≡ t ++ flat_map f (take (k + 1) xs)
+records-at f t xs k x is =
+    rw (take_more_at xs k x is, flat_map-append f (take k xs) (x ∷ []), append-nil (f x))
+    (append_assoc t (flat_map f (take k xs)) (f x))
+
+each_at : {A : Type 0} (P : A → Type 0) (xs : List A) (k : ℕ) (d : A) → AllByRecursion P xs → k < length xs →
+    P (get_or xs k d)
+each_at P [] k d a lt = absurd (omega arith)
+each_at P (x ∷ xs) zero d a lt = a.0
+each_at P (x ∷ xs) (suc k) d a lt = each_at P xs k d a.1 (omega arith)
+
+-- the entry of the number at an index
+pub key_at : {X : Type 0} (m : FinMap nat_cmp X) (d : ℕ × X) (ids : List ℕ) (k i : ℕ) → ids ≡ map (λ e. e.0) (entries m) →
+    k < length ids → i ≡ get_or ids k i
+    → (k < length (entries m)) × (i ≡ (get_or (entries m) k d).0) × (get m i ≡ Some (get_or (entries m) k d).1)
+key_at m d ids k i is lt at =
+    let size : length ids ≡ length (entries m) = ap (λ (ns : List ℕ). length ns) is ∙ length-map (entries m) (λ e. e.0) in
+    let few : k < length (entries m) = omega arith in
+    let key : i ≡ (get_or (entries m) k d).0 =
+    at ∙ ap (λ (ns : List ℕ). get_or ns k i) is ∙ get_or-map (λ e. e.0) (entries m) k d i few in
+    let value : get m (get_or (entries m) k d).0 ≡ Some (get_or (entries m) k d).1 =
+    each_at (λ e. get m e.0 ≡ Some e.1) (entries m) k d
+    (of_entries (λ e. get m e.0 ≡ Some e.1) (entries m) (entries_sorted m) (λ e there. get-entries m e.0 ∙ there)) few in
+    (few, key, ap (get m) key ∙ value)
+
+texts_of : {A : Type 0} (g : A → Change) (xs : List A) → concat (map record_line (map g xs)) ≡ flat_map (λ x. record_line (g x)) xs
+texts_of g [] = refl
+texts_of g (x ∷ xs) = ap (λ (r : List ℕ). record_line (g x) ++ r) (texts_of g xs)
+
+-- the records of nodes, lines and paths, after a text
+pub dump_text : (c : Content) (t : List ℕ) →
+    ((t ++ flat_map (λ e. record_line (node_change e)) (entries c.map.nodes))
+    ++ flat_map (λ e. record_line (line_change e)) (entries c.map.lines))
+    ++ flat_map (λ p. record_line (path_change p)) c.paths ≡ t ++ concat (dump_lines c)
+dump_text c t =
+    let N : List Change = map node_change (entries c.map.nodes) in
+    let L : List Change = map line_change (entries c.map.lines) in
+    let P : List Change = map path_change c.paths in
+    let apart : concat (dump_lines c)
+    ≡ concat (map record_line N) ++ (concat (map record_line L) ++ concat (map record_line P)) =
+    ap (λ (ls : List (List ℕ)). concat ls) (map-append record_line N (L ++ P)
+    ∙ ap (λ (ls : List (List ℕ)). map record_line N ++ ls) (map-append record_line L P))
+    ∙ concat-append (map record_line N) (map record_line L ++ map record_line P)
+    ∙ ap (λ (r : List ℕ). concat (map record_line N) ++ r) (concat-append (map record_line L) (map record_line P)) in
+    let same : concat (map record_line N) ++ (concat (map record_line L) ++ concat (map record_line P))
+    ≡ flat_map (λ e. record_line (node_change e)) (entries c.map.nodes)
+    ++ (flat_map (λ e. record_line (line_change e)) (entries c.map.lines)
+    ++ flat_map (λ p. record_line (path_change p)) c.paths) =
+    λ i. texts_of node_change (entries c.map.nodes) i
+    ++ (texts_of line_change (entries c.map.lines) i ++ texts_of path_change c.paths i) in
+    append_assoc (t ++ flat_map (λ e. record_line (node_change e)) (entries c.map.nodes))
+    (flat_map (λ e. record_line (line_change e)) (entries c.map.lines))
+    (flat_map (λ p. record_line (path_change p)) c.paths)
+    ∙ append_assoc t (flat_map (λ e. record_line (node_change e)) (entries c.map.nodes))
+    (flat_map (λ e. record_line (line_change e)) (entries c.map.lines)
+    ++ flat_map (λ p. record_line (path_change p)) c.paths)
+    ∙ ap (λ (r : List ℕ). t ++ r) (sym (apart ∙ same))
+
+pub dump_count : (c : Content) →
+    length (dump_lines c) ≡ length (entries c.map.nodes) + length (entries c.map.lines) + length c.paths
+dump_count c =
+    omega (
+      arith,
+      length-map (dump_changes c) record_line,
+      length-append (map node_change (entries c.map.nodes))
+          (map line_change (entries c.map.lines) ++ map path_change c.paths),
+      length-append (map line_change (entries c.map.lines)) (map path_change c.paths),
+      length-map (entries c.map.nodes) node_change,
+      length-map (entries c.map.lines) line_change,
+      length-map c.paths path_change,
+    )

@@ -1,0 +1,8 @@
+use Rattle.std.proofs.Common.{◌≡◌, true, take}
+use Rattle.std.specs.List.{list_all}
+use Rattle.olr_map.specs.RoadMaps.{map_of}
+use Rattle.olr_register.specs.Dumping.{is_recordable_line_at}
+use Rattle.olr_register.proofs.dumps.are_recordable_lines.Given as goal
+
+abbrev pub invariant-loop-id : goal.invariant-loop-id
+invariant-loop-id l = list_all (is_recordable_line_at (map_of l.fn.roads)) (take l.id-index l.ids) ≡ true

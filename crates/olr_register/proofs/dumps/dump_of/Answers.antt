@@ -1,0 +1,21 @@
+use Rattle.std.proofs.Common.{◌≡◌, List, ℕ, [], ◌++◌, length, map, ap, sym, ◌∙◌, arith}
+use Rattle.std.specs.List.{flat_map}
+use Rattle.std.specs.FinMap.{entries}
+use Rattle.std.proofs.lemmas.List.{length-map}
+use Rattle.olr_map.specs.RoadMaps.{map_of}
+use Rattle.olr_commands.specs.State.{Content}
+use Rattle.olr_commands.specs.RecordText.{record_line}
+use Rattle.olr_commands.specs.Dump.{node_change, line_change, path_change}
+use Rattle.olr_paths.specs.Items.{items, all_named}
+use Rattle.olr_register.proofs.DumpTexts.{dump_text, dump_count}
+use Rattle.olr_register.proofs.dumps.dump_of.Goals as goal
+
+pub returns-clause-text : goal.returns-clause-text
+returns-clause-text c =
+    let M = map_of c.args.roads.now in
+    let content : Content = record { map = M; paths = all_named (items c.args.paths.now) } in
+    c.in_ok-push_paths.ensures
+    ∙ ap (λ (t : List ℕ). t ++ flat_map (λ p. record_line (path_change p)) content.paths) (c.in_ok-push_lines.ensures
+    ∙ ap (λ (t : List ℕ). t ++ flat_map (λ e. record_line (line_change e)) (entries M.lines)) (c.in_ok-push_nodes.ensures
+    ∙ ap (λ (t : List ℕ). t ++ flat_map (λ e. record_line (node_change e)) (entries M.nodes)) c.new-text.ensures.items))
+    ∙ dump_text content []

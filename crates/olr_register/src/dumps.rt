@@ -1,0 +1,196 @@
+//! Dumps: the records that build the register from an empty one.
+ghost use Rattle.std.specs.Prelude.{◌≡◌, ◌++◌, ℕ, map, flat_map, length, true, false, IsTrue, IsFalse, IfOk, OnOk};
+ghost use Rattle.std.specs.List.{list_all, concat};
+ghost use Rattle.std.specs.FinMap.{entries};
+ghost use Rattle.std.specs.Prelude.{slice_get, Some};
+ghost use Rattle.olr_spec.specs.Map.{has_node, coord_at};
+ghost use Rattle.olr_map.specs.RoadMaps.{map_of, slot_of};
+ghost use Rattle.olr_commands.specs.State.{Named, is_recordable};
+ghost use Rattle.olr_commands.specs.Recordable as recordable;
+ghost use Rattle.olr_commands.specs.RecordText.{record_line};
+ghost use Rattle.olr_commands.specs.Dump.{node_change, line_change, path_change, dump_lines};
+ghost use Rattle.olr_paths.specs.Items.{items, all_named};
+ghost use Rattle.olr_register.specs.Dumping as numbered;
+
+use crate::register::Register;
+use olr_commands::{
+    CommandFault, Dump, Reply, is_name, is_recordable_coord, is_recordable_line, push_line_record,
+    push_node_record, push_path_record,
+};
+use olr_map::{LineId, MapRead, NodeId, RoadMap};
+use olr_paths::PathList;
+use std::alloc::{AllocError, Global};
+
+/// Whether a record can have this line.
+fn is_recordable_line_at(roads: &RoadMap, id: LineId) -> bool
+    ensures { result ≡ numbered.is_recordable_line_at (map_of roads.now) id }
+{
+    match roads.line(id) {
+        Some(line) => is_recordable_line(line),
+        None => true,
+    }
+}
+
+/// Whether records can have each of these lines.
+fn are_recordable_lines(roads: &RoadMap, ids: &[LineId]) -> bool
+    ensures { result ≡ list_all (numbered.is_recordable_line_at (map_of roads.now)) ids.now }
+{
+    for id in ids {
+        if !is_recordable_line_at(roads, *id) {
+            return false;
+        }
+    }
+    true
+}
+
+/// Whether a record can have this node.
+fn is_recordable_place(roads: &RoadMap, id: NodeId) -> bool
+    ensures { result ≡ recordable.is_recordable_coord (coord_at (map_of roads.now) id) }
+{
+    match roads.node(id) {
+        Some(coord) => is_recordable_coord(coord),
+        None => true,
+    }
+}
+
+/// Whether records can have the node in a slot, and the lines that leave it.
+fn is_recordable_slot(roads: &RoadMap, slot: usize) -> bool
+    ensures all { (v : ℕ) → IsTrue (has_node (map_of roads.now) v) → slot_of roads.now v ≡ slot →
+        result ≡ numbered.is_recordable_node_at (map_of roads.now) v }
+    ensures one { IsFalse result → (v : ℕ) × IsFalse (numbered.is_recordable_node_at (map_of roads.now) v) }
+{
+    let Some(id) = roads.id_at(slot) else {
+        return true;
+    };
+    is_recordable_place(roads, id) && are_recordable_lines(roads, roads.out_lines(id))
+}
+
+/// Whether records can have each node and each line of the map.
+fn is_recordable_map(roads: &RoadMap) -> bool
+    ensures { result ≡ recordable.is_recordable_map (map_of roads.now) }
+{
+    for slot in 0..roads.slot_count() {
+        if !is_recordable_slot(roads, slot) {
+            return false;
+        }
+    }
+    true
+}
+
+/// Whether records can have the name of path k.
+fn is_recordable_name(paths: &PathList, k: usize) -> bool
+    ensures { (p : Named) → slice_get (all_named (items paths.now)) k ≡ Some p → result ≡ recordable.is_name p.name }
+{
+    let Some((name, _)) = paths.path_at(k) else {
+        return true;
+    };
+    is_name(name.as_bytes())
+}
+
+/// Whether records can have the name of each path.
+fn are_recordable_names(paths: &PathList) -> bool
+    ensures { result ≡ list_all (λ p. recordable.is_name p.name) (all_named (items paths.now)) }
+{
+    for k in 0..paths.len() {
+        if !is_recordable_name(paths, k) {
+            return false;
+        }
+    }
+    true
+}
+
+/// Whether records can have the whole map and each name.
+fn is_recordable(roads: &RoadMap, paths: &PathList) -> bool
+    ensures { result ≡ is_recordable (record { map = map_of roads.now; paths = all_named (items paths.now) }) }
+{
+    is_recordable_map(roads) && are_recordable_names(paths)
+}
+
+/// Appends the records of all nodes, which have these numbers.
+fn push_nodes(text: &mut Vec<u8>, roads: &RoadMap, ids: &[NodeId]) -> Result<(), AllocError>
+    requires ids { ids.now ≡ map (λ e. e.0) (entries (map_of roads.now).nodes) }
+    requires recordable { IsTrue (recordable.is_recordable_map (map_of roads.now)) }
+    ensures { OnOk result (text.new.items ≡ text.old.items
+        ++ flat_map (λ e. record_line (node_change e)) (entries (map_of roads.now).nodes)) }
+{
+    for id in ids {
+        let Some(coord) = roads.node(*id) else {
+            unreachable!()
+        };
+        push_node_record(text, *id, coord)?;
+    }
+    Ok(())
+}
+
+/// Appends the records of all lines, which have these numbers.
+fn push_lines(text: &mut Vec<u8>, roads: &RoadMap, ids: &[LineId]) -> Result<(), AllocError>
+    requires ids { ids.now ≡ map (λ e. e.0) (entries (map_of roads.now).lines) }
+    requires recordable { IsTrue (recordable.is_recordable_map (map_of roads.now)) }
+    ensures { OnOk result (text.new.items ≡ text.old.items
+        ++ flat_map (λ e. record_line (line_change e)) (entries (map_of roads.now).lines)) }
+{
+    for id in ids {
+        let Some(line) = roads.line(*id) else {
+            unreachable!()
+        };
+        push_line_record(text, *id, line)?;
+    }
+    Ok(())
+}
+
+/// Appends the records of all paths, in their order.
+fn push_paths(text: &mut Vec<u8>, paths: &PathList) -> Result<(), AllocError>
+    ensures { OnOk result (text.new.items ≡ text.old.items
+        ++ flat_map (λ p. record_line (path_change p)) (all_named (items paths.now))) }
+{
+    for k in 0..paths.len() {
+        let Some((name, path)) = paths.path_at(k) else {
+            unreachable!()
+        };
+        push_path_record(text, name.as_bytes(), path)?;
+    }
+    Ok(())
+}
+
+/// The records of a map and of paths.
+fn dump_of(alloc: Global, roads: &RoadMap, paths: &PathList) -> Result<Dump, AllocError>
+    requires recordable { IsTrue (recordable.is_recordable_map (map_of roads.now)) }
+    ensures count { IfOk result (λ d. d.count
+        ≡ length (dump_lines (record { map = map_of roads.now; paths = all_named (items paths.now) }))) }
+    ensures text { IfOk result (λ d. d.text.items
+        ≡ concat (dump_lines (record { map = map_of roads.now; paths = all_named (items paths.now) }))) }
+{
+    let mut text = Vec::new(alloc);
+    let nodes = roads.node_ids(alloc)?;
+    push_nodes(&mut text, roads, &nodes)?;
+    let lines = roads.line_ids(alloc)?;
+    push_lines(&mut text, roads, &lines)?;
+    push_paths(&mut text, paths)?;
+    Ok(Dump {
+        count: nodes.len() + lines.len() + paths.len(),
+        text,
+    })
+}
+
+impl Register {
+    ghost use Rattle.olr_commands.specs.State.{Dump as Asked};
+    ghost use Rattle.olr_register.specs.Answering.{Answered};
+
+    /// The records that build the register from an empty one: its nodes and its lines, each in ascending order of their
+    /// numbers, and its paths in their order. The faults are `BatchOpen`, `NotARecord` and `Memory`, in this order of
+    /// precedence.
+    pub fn dump(&self) -> Result<Reply, CommandFault>
+        ensures { Answered self.now Asked result self.now }
+    {
+        if self.batch.is_some() {
+            return Err(CommandFault::BatchOpen);
+        }
+        if !is_recordable(&self.roads, &self.paths) {
+            return Err(CommandFault::NotARecord);
+        }
+        match dump_of(self.alloc, &self.roads, &self.paths) {
+            Ok(dump) => Ok(Reply::Dump(dump)),
+            Err(_) => Err(CommandFault::Memory),
+        }
+    }
+}
