@@ -1,6 +1,6 @@
 -- Counts.
-use Rattle.std.proofs.Common.{inl, inr, ◌≡◌, ℕ, suc, Bool, true, false, cond, not, List, [], ◌∷◌, ◌++◌, map, Option}
-use Rattle.std.proofs.Common.{Some, None, is_some, Result, Ok, Err, refl, sym, ap, ◌∙◌, subst}
+use Rattle.std.proofs.Common.{inl, inr, ◌≡◌, ℕ, suc, ◌≤◌, Bool, true, false, cond, not, List, [], ◌∷◌, ◌++◌, map}
+use Rattle.std.proofs.Common.{Option, Some, None, is_some, Result, Ok, Err, refl, sym, ap, ◌∙◌, subst, arith}
 use Rattle.std.specs.Prelude.{◌||◌}
 use Rattle.std.specs.List.{list_any}
 use Rattle.std.proofs.lemmas.Bool.{cases_Bool, both_ways, not-false}
@@ -12,7 +12,7 @@ use Rattle.olr_commands.specs.State.{Named, Content, same_name, path_named, has_
 use Rattle.olr_commands.specs.State.{Path_exists, No_path, Bad_path, when, Change, Add_path, Set_path, with_change}
 use Rattle.olr_commands.specs.State.{at_once, State, Command, Make, step, changes_made, IsState}
 use Rattle.olr_commands.specs.Counts.{Affects, By_name, By_node, By_line, CountIs, Raises, all_nodes, all_lines}
-use Rattle.olr_commands.specs.Counts.{all_names}
+use Rattle.olr_commands.specs.Counts.{all_names, Retains, Spares}
 use Rattle.olr_commands.proofs.NameLemmas.{same_is, not_named, set_name}
 use Rattle.olr_commands.proofs.StateLemmas.{when_ok, steps_keep}
 
@@ -34,6 +34,27 @@ one_count P (x ∷ xs) n m p q =
 pub no_count : {A : Type 0} (P : A → Type 0) → ((x : A) → ¬ P x) → (xs : List A) (n : ℕ) → CountIs P xs n → n ≡ 0
 no_count P none [] n p = p
 no_count P none (x ∷ xs) n p = elim p [ inl h ↦ absurd (none x h.0) | inr h ↦ no_count P none xs n h.1 ]
+
+-- a claim that another one follows from holds of no more elements
+pub count_within : {A : Type 0} (P Q : A → Type 0) → ((x : A) → P x → Q x) → (xs : List A) (n m : ℕ) → CountIs P xs n →
+    CountIs Q xs m → n ≤ m
+count_within P Q implies [] n m p q = omega (arith, p, q)
+count_within P Q implies (x ∷ xs) n m (inl h) (inl g) =
+    let le = count_within P Q implies xs h.1.0 g.1.0 h.1.1 g.1.1 in
+    omega (arith, le, h.1.2, g.1.2)
+count_within P Q implies (x ∷ xs) n m (inl h) (inr g) = absurd (g.0 (implies x h.0))
+count_within P Q implies (x ∷ xs) n m (inr h) (inl g) =
+    let le = count_within P Q implies xs n g.1.0 h.1 g.1.1 in
+    omega (arith, le, g.1.2)
+count_within P Q implies (x ∷ xs) n m (inr h) (inr g) = count_within P Q implies xs n m h.1 g.1
+
+pub one_spare : (s t : State) (c : Command) (n m : ℕ) → Spares s c t n → Spares s c t m → n ≡ m
+one_spare s t c n m = one_count (Retains s.content t.content (changes_made s c)) t.content.paths n m
+
+pub spares_few : (s t : State) (c : Command) (n m : ℕ) → Spares s c t n → Raises s c t m → n ≤ m
+spares_few s t c n m =
+    count_within (Retains s.content t.content (changes_made s c)) (Affects s.content (changes_made s c))
+    (λ p h. h.affected) t.content.paths n m
 
 -- no change affects no path
 pub unconcerned : (c : Content) (p : Named) → ¬ Affects c [] p
@@ -104,7 +125,7 @@ named_still name path (p ∷ ps) q h =
     ] h
 
 -- a change of one name affects only the path of that name
-only_name : (c : Content) (x : Change) (name : List ℕ) → all_nodes c (x ∷ []) ≡ [] → all_lines (x ∷ []) ≡ [] →
+pub only_name : (c : Content) (x : Change) (name : List ℕ) → all_nodes c (x ∷ []) ≡ [] → all_lines (x ∷ []) ≡ [] →
     all_names (x ∷ []) ≡ name ∷ [] → (p : Named) → Affects c (x ∷ []) p → same_name p.name name ≡ true
 only_name c x name a b d p (By_name h) =
     sym (or-false (same_name p.name name)) ∙ (subst (λ (ns : List (List ℕ)). list_any (same_name p.name) ns ≡ true) d h)
@@ -113,7 +134,7 @@ only_name c x name a b d p (By_node v h f) =
 only_name c x name a b d p (By_line y h f) =
     absurd (let no : has [] y ≡ true = subst (λ (ys : List ℕ). has ys y ≡ true) b h in cc)
 
-by_name : (c : Content) (x : Change) (name : List ℕ) → all_names (x ∷ []) ≡ name ∷ [] → (p : Named) →
+pub by_name : (c : Content) (x : Change) (name : List ℕ) → all_names (x ∷ []) ≡ name ∷ [] → (p : Named) →
     same_name p.name name ≡ true → Affects c (x ∷ []) p
 by_name c x name d p h =
     By_name (subst (λ (ns : List (List ℕ)). list_any (same_name p.name) ns ≡ true) (sym d)
@@ -130,10 +151,16 @@ one_path s t x name b d e f g h =
     (one_named (Affects s.content (x ∷ [])) name (only_name s.content x name e f g) (by_name s.content x name g)
     t.content.paths d h)
 
-paths_after : (s t : State) (x : Change) → s.batch ≡ None → step s (Make x) ≡ Ok t →
+pub paths_after : (s t : State) (x : Change) → s.batch ≡ None → step s (Make x) ≡ Ok t →
     at_once (with_change s.content x) ≡ Ok t
 paths_after s t x b is =
     ap (λ (o : Option (List Change)). step (record { content = s.content; batch = o }) (Make x)) (sym b) ∙ is
+
+pub ok_made : (t : State) (r : Result Content Fault) → at_once r ≡ Ok t → r ≡ Ok t.content
+ok_made t (Ok d) e =
+    let same : record { content = d; batch = None } ≡ t = cc in
+    ap (λ (u : State). Ok u.content) same
+ok_made t (Err f) e = absurd cc
 
 pub paths_raise : (s t : State) (name : List ℕ) (path : Path) → IsState s → s.batch ≡ None
     → (step s (Make (Add_path name path)) ≡ Ok t → Raises s (Make (Add_path name path)) t 1)
@@ -149,19 +176,13 @@ paths_raise s t name path i b = (
       (replaced (paths_after s t (Set_path name path) b is)),
 )
   where
-    ok_made : (r : Result Content Fault) → at_once r ≡ Ok t → r ≡ Ok t.content
-    ok_made (Ok d) e =
-        let same : record { content = d; batch = None } ≡ t = cc in
-        ap (λ (u : State). Ok u.content) same
-    ok_made (Err f) e = absurd cc
-
     added : at_once (with_change s.content (Add_path name path)) ≡ Ok t →
         is_some (path_named t.content.paths name) ≡ true
     added e =
         let to = record s.content { paths = s.content.paths ++ record { name = name; path = path } ∷ [] } in
         let p =
         when_ok (has_path s.content name) Path_exists (when (not (is_path path.lines)) Bad_path (Ok to)) t.content
-        (ok_made (with_change s.content (Add_path name path)) e) in
+        (ok_made t (with_change s.content (Add_path name path)) e) in
         let q = when_ok (not (is_path path.lines)) Bad_path (Ok to) t.content p.1 in
         let same : to ≡ t.content = cc in
         subst (λ (d : Content). is_some (path_named d.paths name) ≡ true) same
@@ -173,7 +194,7 @@ paths_raise s t name path i b = (
         let to = record s.content { paths = map (with_path name path) s.content.paths } in
         let p =
         when_ok (not (has_path s.content name)) No_path (when (not (is_path path.lines)) Bad_path (Ok to)) t.content
-        (ok_made (with_change s.content (Set_path name path)) e) in
+        (ok_made t (with_change s.content (Set_path name path)) e) in
         let q = when_ok (not (is_path path.lines)) Bad_path (Ok to) t.content p.1 in
         let same : to ≡ t.content = cc in
         subst (λ (d : Content). is_some (path_named d.paths name) ≡ true) same

@@ -7,3 +7,4 @@ pub mod HistoryLemmas
 pub mod OutcomeLemmas
 pub mod SomeLemmas
 pub mod DumpLemmas
+pub mod SearchLemmas

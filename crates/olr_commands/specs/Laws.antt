@@ -1,10 +1,10 @@
 -- The laws of the definitions.
-use Rattle.std.specs.Prelude.{◌≡◌, ◌≢◌, ℕ, List, [], None, Ok, IsFalse}
+use Rattle.std.specs.Prelude.{◌≡◌, ◌≢◌, ℕ, ◌≤◌, List, [], None, Ok, IsFalse}
 use Rattle.olr_spec.specs.Extension.{Path}
 use Rattle.olr_commands.specs.State.{Content, Add_path, Set_path, Make, State, Command, Explain, Begin, Commit, Abort}
 use Rattle.olr_commands.specs.State.{HasCoords, IsState, step, changes_made}
 use Rattle.olr_commands.specs.Reply.{Reply, IsReply, Outcome, IsOutcome, lacks_memory}
-use Rattle.olr_commands.specs.Counts.{Raises}
+use Rattle.olr_commands.specs.Counts.{Raises, Spares}
 
 abbrev pub StepsKeep : Type 0
 StepsKeep = (s t : State) (c : Command) → IsState s → HasCoords c → step s c ≡ Ok t → IsState t
@@ -47,3 +47,10 @@ PathsRaiseOne =
     (s t : State) (name : List ℕ) (path : Path) → IsState s → s.batch ≡ None
     → (step s (Make (Add_path name path)) ≡ Ok t → Raises s (Make (Add_path name path)) t 1)
     × (step s (Make (Set_path name path)) ≡ Ok t → Raises s (Make (Set_path name path)) t 1)
+
+-- the number of retained answers is determined, and at most the number of encodings that are counted
+abbrev pub OneSpare : Type 0
+OneSpare = (s t : State) (c : Command) (n m : ℕ) → Spares s c t n → Spares s c t m → n ≡ m
+
+abbrev pub SparesFew : Type 0
+SparesFew = (s t : State) (c : Command) (n m : ℕ) → Spares s c t n → Raises s c t m → n ≤ m

@@ -13,11 +13,13 @@ pub fn laws_of_states()
     ensures some_reply { Laws.SomeReply }
 {}
 
-/// The rise of the count of encodings is determined.
+/// The rises of the counts of encodings and of retained answers are determined.
 pub fn laws_of_counts()
     ensures one { Laws.OneRise }
     ensures none { Laws.NoRise }
     ensures paths { Laws.PathsRaiseOne }
+    ensures one_spare { Laws.OneSpare }
+    ensures few { Laws.SparesFew }
 {}
 
 /// The claims about whole runs of commands.

@@ -1,5 +1,5 @@
 -- What distances say about touched nodes that are near, and about detours.
-use Rattle.std.proofs.Common.{◌≡◌, ℕ, zero, suc, ◌+◌, ◌<◌, ◌≤◌, true, List, [], ◌∷◌, map, IsTrue, ◌↔◌, Option}
+use Rattle.std.proofs.Common.{inl, inr, ◌≡◌, ℕ, zero, suc, ◌+◌, ◌<◌, ◌≤◌, true, List, [], ◌∷◌, map, IsTrue, ◌↔◌, Option}
 use Rattle.std.proofs.Common.{Some, None, refl, sym, ap, subst, arith, ⊎_elim}
 use Rattle.std.proofs.lemmas.Bool.{cases_lt}
 use Rattle.olr_spec.specs.Map.{Map, IsMap, has_node, end, has}
@@ -152,6 +152,39 @@ module _ (N : Map) (n : IsMap N) (C : List ChangedLine) (s t d most far : ℕ) (
       let second = ((after b).0 is_b).0.least (dm_of N h.after) (leads_back h) in
       let w = h.within in
       omega arith
+
+  -- two distances that are short enough make a detour
+  detour_by : (a b : ℕ) → Leads N Against (all_starts C) s a → Leads N Along (all_ends C) t b → a + b ≤ d →
+      Detour N C s t d
+  detour_by a b to back short =
+      let f = Contains-unmap (λ (c : ChangedLine). (c.from, c.len)) C (to.source, to.begun) to.listed in
+      let l = Contains-unmap (λ (c : ChangedLine). (c.to, 0)) C (back.source, back.begun) back.listed in
+      let from_is : f.0.from ≡ to.source = ap (λ (p : ℕ × ℕ). p.0) f.2 in
+      let len_is : f.0.len ≡ to.begun = ap (λ (p : ℕ × ℕ). p.1) f.2 in
+      let to_is : l.0.to ≡ back.source = ap (λ (p : ℕ × ℕ). p.0) l.2 in
+      let long : to.begun + dm_of N to.lines ≡ a = to.long in
+      let wide : back.begun + dm_of N back.lines ≡ b = back.long in
+      record {
+        first = f.0;
+        last = l.0;
+        first_listed = f.1;
+        last_listed = l.1;
+        before = to.lines;
+        after = back.lines;
+        leads = subst (λ (v : ℕ). IsRoute N s v to.lines) (sym from_is) to.way;
+        returns = subst (λ (v : ℕ). IsRoute N v t back.lines) (sym to_is) back.way;
+        within = omega arith;
+      }
+
+  pub clear_only : (q r : Option ℕ) → ReturnsDistance N Against (all_starts C) s most q →
+      ReturnsDistance N Along (all_ends C) t far r → ¬ Detour N C s t d → AreFarther q r d
+  clear_only None r before after none = tt
+  clear_only (Some a) None before after none = tt
+  clear_only (Some a) (Some b) before after none =
+      elim (cases_lt d (a + b)) [
+        | inl lt ↦ lt
+        | inr le ↦ absurd (none (detour_by a b ((before a).0 refl).0.leads ((after b).0 refl).0.leads le))
+      ]
 
   pub clear_by : (q r : Option ℕ) → ReturnsDistance N Against (all_starts C) s most q →
       ReturnsDistance N Along (all_ends C) t far r →

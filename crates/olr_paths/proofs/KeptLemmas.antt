@@ -1,7 +1,7 @@
 -- Results that are right on a map are right on the next one, if no change can affect them.
 use Rattle.std.proofs.Common.{inl, inr, ◌≡◌, ℕ, ◌≤◌, List, All, Contains, Some, IsTrue, true, false, subst, arith}
 use Rattle.std.proofs.Common.{get_or, min}
-use Rattle.std.proofs.lemmas.Bool.{cases_Bool}
+use Rattle.std.proofs.lemmas.Bool.{cases_Bool, both_ways}
 use Rattle.std.proofs.lemmas.List.Elements.{Contains-get_or}
 use Rattle.olr_spec.specs.Map.{Map, IsMap, has}
 use Rattle.olr_spec.specs.Extension.{Path, is_path, limit}
@@ -9,21 +9,25 @@ use Rattle.olr_spec.specs.Footprint.{Foot}
 use Rattle.olr_spec.specs.Detours.{ChangedLine, Difference, Near}
 use Rattle.olr_spec.specs.Queries.{CoverageQuery, IsClear, QueriesOf, TraversedOf}
 use Rattle.olr_spec.proofs.StayLemmas.{untouched_retained}
-use Rattle.olr_spec.proofs.TestedLemmas.{foot_affected}
+use Rattle.olr_spec.proofs.TestedLemmas.{foot_affected, one_queries}
+use Rattle.olr_commands.specs.Counts.{IsUnchanged}
 use Rattle.olr_paths.specs.Items.{Made, Item, IsEncodingOf}
-use Rattle.olr_paths.specs.Changes.{IsAffected, By_name, By_node, By_line, Touches, QueryTouched}
+use Rattle.olr_paths.specs.Changes.{IsAffected, By_name, By_node, By_line, TraversedTouched, LineTouched, Touches}
+use Rattle.olr_paths.specs.Changes.{QueryTouched, IsKnownClear}
 use Rattle.olr_paths.specs.Renewing.{Stays}
 use Rattle.olr_paths.proofs.QueryLengths.{within_limit}
+use Rattle.olr_paths.proofs.QueryEnds.{on_map}
 
 module _ (M N : Map) (n : IsMap N) (T X : List ℕ) (C : List ChangedLine) (P : Path) (is : IsTrue (is_path P.lines))
     (m : Made) where
-  pub stays_clear : IsMap M → Difference T X C M N → IsEncodingOf M P m → Stays N T X C m P → IsEncodingOf N P m
-  stays_clear sound difference made stays =
+  pub stays_clear : IsMap M → Difference T X C M N → IsEncodingOf M P m → ¬ TraversedTouched T m → ¬ LineTouched X P →
+      All (IsClear N C) m.queries → IsEncodingOf N P m
+  stays_clear sound difference made nodes_free lines_free clear =
       let lines : (x : ℕ) → has X x ≡ true → has P.lines x ≡ false =
-      λ x on. elim (cases_Bool (has P.lines x)) [ inl e ↦ absurd (stays.1 (x, on, e)) | inr e ↦ e ] in
-      let traversed : (v : ℕ) → has T v ≡ true → ¬ TraversedOf M P v = λ v on o. stays.0
+      λ x on. elim (cases_Bool (has P.lines x)) [ inl e ↦ absurd (lines_free (x, on, e)) | inr e ↦ e ] in
+      let traversed : (v : ℕ) → has T v ≡ true → ¬ TraversedOf M P v = λ v on o. nodes_free
       (v, on, (made.traversed v).1 o) in
-      let k = untouched_retained M N sound n T X C difference P is lines traversed m.queries made.queries stays.2 in
+      let k = untouched_retained M N sound n T X C difference P is lines traversed m.queries made.queries clear in
       record {
         answer = k.0 m.answer made.answer;
         traversed = λ v. ((λ o. (k.1 v).0 ((made.traversed v).0 o)), (λ o. (made.traversed v).1 ((k.1 v).1 o)));
@@ -55,11 +59,41 @@ module _ (M N : Map) (n : IsMap N) (T X : List ℕ) (C : List ChangedLine) (P : 
   pub stays_unless : IsMap M → Difference T X C M N → ((c : ChangedLine) → Contains C c → IsTrue (has T c.from)) →
       IsEncodingOf M P m → ¬ Touches N T X m P → IsEncodingOf N P m
   stays_unless sound difference starts made free =
-      stays_clear sound difference made (
-        (λ o. free (inl o)),
-        (λ x. free (inr (inl x))),
-        clear_far starts made.queries (λ l. free (inr (inr l))),
-      )
+      stays_clear sound difference made (λ o. free (inl o)) (λ x. free (inr (inl x)))
+      (clear_far starts made.queries (λ l. free (inr (inr l))))
+
+  -- ---- which answers are retained
+
+  clear_of : All (IsKnownClear N C) m.queries → All (IsClear N C) m.queries
+  clear_of all = λ k d lt. (all k d lt).1
+
+  pub stays_retained : IsMap M → Difference T X C M N → IsEncodingOf M P m → Stays N T X C m P → IsEncodingOf N P m
+  stays_retained sound difference made stays =
+      stays_clear sound difference made stays.traversed stays.lines (clear_of stays.clear)
+
+  pub unchanged_by : IsMap M → IsEncodingOf M P m → Stays N T X C m P → IsUnchanged M N T X C P
+  unchanged_by sound made stays = record {
+    few = stays.few;
+    traversed = λ v on o. stays.traversed (v, on, (made.traversed v).1 o);
+    lines =
+        λ x on. elim (cases_Bool (has P.lines x)) [ inl e ↦ absurd (stays.lines (x, on, e)) | inr e ↦ e ];
+    clear =
+        λ queries q. subst (λ (ls : List CoverageQuery). All (IsClear N C) ls)
+        (one_queries M sound P is m.queries queries made.queries q) (clear_of stays.clear);
+  }
+
+  pub stays_by : IsMap M → Difference T X C M N → IsEncodingOf M P m → IsUnchanged M N T X C P → Stays N T X C m P
+  stays_by sound difference made u = record {
+    few = u.few;
+    traversed = λ o. u.traversed o.0 o.1 ((made.traversed o.0).0 o.2);
+    lines = λ x. both_ways (has P.lines x.0) (u.lines x.0 x.1) x.2;
+    clear =
+        λ k d lt. (
+          on_map M N sound T difference.nodes P is m.queries made.queries u.traversed (get_or m.queries k d)
+              (Contains-get_or m.queries k d lt),
+          u.clear m.queries made.queries k d lt,
+        );
+  }
 
   -- ---- which paths are affected
 

@@ -20,3 +20,4 @@ pub mod Following
 pub mod RenewedPrefix
 pub mod Covering
 pub mod Yielded
+pub mod QueryEnds

@@ -1,32 +1,36 @@
 -- A list, as far as it was renewed. SoFar is the same with the work, along a list; follows_self gives the start if
 -- the list is the same as before.
---     Through Q N T X before is ps es n      the paths is are renewed when ps are stored, es reports them, and n of
---         them are affected, from each map that satisfies Q
+--     Through Q N T X C before is ps es t      the paths is are renewed when ps are stored, es reports them, and t are
+--         their totals, from each map that satisfies Q
 use Rattle.std.proofs.Common.{◌≡◌, ◌≢◌, ℕ, map, zero, suc, take, ◌+◌, ◌<◌, ◌≤◌, ◌^◌, List}
 use Rattle.std.proofs.Common.{[], ◌∷◌, ◌++◌, length, slice_get, Option, None, Some, option_map, IfSome, ◌⊎◌, inl, inr}
-use Rattle.std.proofs.Common.{refl, sym, ap, subst, ◌∙◌, append_assoc, arith, IsTrue}
+use Rattle.std.proofs.Common.{refl, sym, ap, subst, ◌∙◌, append-nil, append_assoc, arith, IsTrue}
 use Rattle.std.specs.List.{AllByRecursion}
-use Rattle.std.proofs.lemmas.List.{length-take-le, map-append, take_all}
+use Rattle.std.proofs.lemmas.List.{length-append, length-take-le, map-append, take_all}
 use Rattle.std.proofs.lemmas.Option.{slice_get_within}
 use Rattle.olr_spec.specs.Map.{Map, IsMap}
 use Rattle.olr_spec.specs.Extension.{is_path}
 use Rattle.olr_spec.specs.Encoding.{Answer}
 use Rattle.olr_spec.specs.Detours.{ChangedLine}
 use Rattle.olr_commands.specs.State.{Named}
-use Rattle.olr_commands.specs.Counts.{CountIs}
+use Rattle.olr_spec.specs.Queries.{CoverageQuery}
+use Rattle.olr_route.specs.Counts.{saturated_count}
+use Rattle.olr_route.specs.declared.work.Work.{Work}
+use Rattle.olr_refs.specs.Choice.{SettledBy, raised_count}
+use Rattle.olr_commands.specs.Counts.{CountIs, RisesBy, SearchedFor, Collects}
 use Rattle.olr_commands.specs.Words.{entry_of}
 use Rattle.olr_commands.specs.Reply.{Entry, entry}
 use Rattle.olr_paths.specs.Items.{Made, Item, IsEncodingOf, AreEncodingsIfAny, named_of, all_named, answer_in}
 use Rattle.olr_paths.specs.Changes.{with_made, IsBefore, IsAffected, By_name, Touches, IsRemade, AreRemade, Reported}
-use Rattle.olr_paths.specs.Changes.{Follows}
+use Rattle.olr_paths.specs.Changes.{Follows, IsSpared, IsEncodedAgain, Totals, AreTotals, AreSearched, AreCounted}
 use Rattle.olr_paths.specs.Renewing.{Put, all_put, made_at, puts_of, entries_of, ReportsIfOther, ToStay, ToKeep}
 use Rattle.olr_paths.specs.Renewing.{ToEncode}
-use Rattle.olr_paths.specs.Renewing.{IsStep, Left, Retained, EncodedAgain, Rises}
+use Rattle.olr_paths.specs.Renewing.{IsStep, Left, Retained, EncodedAgain, Rises, OneSpared, OneEncoded}
 use Rattle.olr_paths.specs.declared.renewal.Renewal.{Renewal}
 use Rattle.olr_paths.specs.declared.renewal.Counted.{Counted}
 use Rattle.olr_spec.proofs.ListLemmas.{take_more_at}
 use Rattle.olr_paths.proofs.Placing.{put_behind, all_put-push}
-use Rattle.olr_paths.proofs.KeptLemmas.{stays_unless, stays_clear, affected_by, touched_by}
+use Rattle.olr_paths.proofs.KeptLemmas.{stays_unless, stays_retained, unchanged_by, stays_by, affected_by, touched_by}
 
 AreRemade-push : (N : Map) (is js : List Item) (i j : Item) → AreRemade N is js → IsRemade N i j →
     AreRemade N (is ++ i ∷ []) (js ++ j ∷ [])
@@ -47,6 +51,126 @@ Count-same : {A : Type 0} (P : A → Type 0) (xs : List A) (n : ℕ) (x : A) →
 Count-same P [] n x h p = inr (p, h)
 Count-same P (y ∷ ys) n x (inl h) p = inl (h.0, (h.1.0, Count-same P ys h.1.0 x h.1.1 p, h.1.2))
 Count-same P (y ∷ ys) n x (inr h) p = inr (h.0, Count-same P ys n x h.1 p)
+
+Collects-more : {A : Type 0} (E : A → Type 0) (Q : A → List CoverageQuery → Type 0) (xs : List A)
+    (queries own : List CoverageQuery) (x : A) → Collects E Q xs queries → E x → Q x own →
+    Collects E Q (xs ++ x ∷ []) (queries ++ own)
+Collects-more E Q [] queries own x h e q =
+    inl (e, (own, [], q, refl, ap (λ (ks : List CoverageQuery). ks ++ own) h ∙ sym (append-nil own)))
+Collects-more E Q (y ∷ ys) queries own x (inl h) e q =
+    inl (
+      h.0,
+      (
+        h.1.0,
+        h.1.1 ++ own,
+        h.1.2,
+        Collects-more E Q ys h.1.1 own x h.1.3 e q,
+        ap (λ (ks : List CoverageQuery). ks ++ own) h.1.4 ∙ append_assoc h.1.0 h.1.1 own,
+      ),
+    )
+Collects-more E Q (y ∷ ys) queries own x (inr h) e q = inr (h.0, Collects-more E Q ys queries own x h.1 e q)
+
+Collects-same : {A : Type 0} (E : A → Type 0) (Q : A → List CoverageQuery → Type 0) (xs : List A)
+    (queries : List CoverageQuery) (x : A) → Collects E Q xs queries → ¬ E x → Collects E Q (xs ++ x ∷ []) queries
+Collects-same E Q [] queries x h none = inr (none, h)
+Collects-same E Q (y ∷ ys) queries x (inl h) none =
+    inl (h.0, (h.1.0, h.1.1, h.1.2, Collects-same E Q ys h.1.1 x h.1.3 none, h.1.4))
+Collects-same E Q (y ∷ ys) queries x (inr h) none = inr (h.0, Collects-same E Q ys queries x h.1 none)
+
+-- ---- totals, with one path more
+
+abbrev no_totals : Totals
+no_totals = record { affected = 0; spared = 0; queries = [] }
+
+abbrev with_spared : Totals → Totals
+with_spared t = record { affected = t.affected + 1; spared = t.spared + 1; queries = t.queries }
+
+abbrev with_encoded : Totals → List CoverageQuery → Totals
+with_encoded t own = record { affected = t.affected + 1; spared = t.spared; queries = t.queries ++ own }
+
+module _ (L N : Map) (T X : List ℕ) (C : List ChangedLine) (is : List Item) (t : Totals)
+    (h : AreTotals L N T X C is t) (i : Item) where
+  totals_same : ¬ IsAffected L T X i → AreTotals L N T X C (is ++ i ∷ []) t
+  totals_same free =
+      record {
+        affected = Count-same (IsAffected L T X) is t.affected i h.affected free;
+        spared = Count-same (IsSpared L N T X C) is t.spared i h.spared (λ o. free o.affected);
+        queries =
+            Collects-same (IsEncodedAgain L N T X C) (λ j. SearchedFor N j.path) is t.queries i h.queries
+            (λ o. free o.0);
+      }
+
+  totals_spared : IsSpared L N T X C i → AreTotals L N T X C (is ++ i ∷ []) (with_spared t)
+  totals_spared on =
+      record {
+        affected = Count-more (IsAffected L T X) is t.affected i h.affected on.affected;
+        spared = Count-more (IsSpared L N T X C) is t.spared i h.spared on;
+        queries =
+            Collects-same (IsEncodedAgain L N T X C) (λ j. SearchedFor N j.path) is t.queries i h.queries
+            (λ o. o.1 on);
+      }
+
+  totals_encoded : (own : List CoverageQuery) → IsEncodedAgain L N T X C i → SearchedFor N i.path own →
+      AreTotals L N T X C (is ++ i ∷ []) (with_encoded t own)
+  totals_encoded own on made =
+      record {
+        affected = Count-more (IsAffected L T X) is t.affected i h.affected on.0;
+        spared = Count-same (IsSpared L N T X C) is t.spared i h.spared on.1;
+        queries =
+            Collects-more (IsEncodedAgain L N T X C) (λ j. SearchedFor N j.path) is t.queries own i h.queries on made;
+      }
+
+-- ---- counts, with one path more
+
+settled_both : (N : Map) (xs ys : List CoverageQuery) (a b c : ℕ) → SettledBy N xs a b → SettledBy N ys b c →
+    SettledBy N (xs ++ ys) a c
+settled_both N [] ys a b c h k = subst (λ (n : ℕ). SettledBy N ys n c) h k
+settled_both N (x ∷ xs) ys a b c h k = (h.0, h.1, settled_both N xs ys (saturated_count (a + h.0)) b c h.2 k)
+
+raised_both : (c n m : ℕ) → raised_count (raised_count c n) m ≡ raised_count c (n + m)
+raised_both c n zero = ap (raised_count c) (let e : n ≡ n + 0 = omega arith in e)
+raised_both c n (suc m) =
+    ap (λ (k : ℕ). saturated_count (k + 1)) (raised_both c n m)
+    ∙ ap (raised_count c) (let e : suc (n + m) ≡ n + suc m = omega arith in e)
+
+searched_both : (N : Map) (xs ys : List CoverageQuery) (a b c : Work) → AreSearched N xs a b → AreSearched N ys b c →
+    AreSearched N (xs ++ ys) a c
+searched_both N xs ys a b c h k =
+    record {
+      searches =
+          k.searches ∙ ap (λ (n : ℕ). raised_count n (length ys)) h.searches
+          ∙ raised_both a.searches (length xs) (length ys)
+          ∙ ap (raised_count a.searches) (sym (length-append xs ys));
+      settled = settled_both N xs ys a.settled b.settled c.settled h.settled k.settled;
+    }
+
+module _ (N : Map) (t : Totals) (old now later : Counted)
+    (h : AreCounted N t old.work now.work old.kept now.kept) where
+  counted_spared : OneSpared now later → AreCounted N (with_spared t) old.work later.work old.kept later.kept
+  counted_spared one =
+      record {
+        encodings = λ few. let e = h.encodings (omega arith) in let u = one.encodings (omega arith) in omega arith;
+        spared =
+            (
+              (λ few. let e = h.spared.0 (omega arith) in let u = one.spared.0 (omega arith) in omega arith),
+              (let e = h.spared.1 in let u = one.spared.1 in omega arith),
+            );
+        searched =
+            record {
+              searches = one.searches ∙ h.searched.searches;
+              settled =
+                  subst (λ (n : ℕ). SettledBy N t.queries old.work.settled n) (sym one.settled) h.searched.settled;
+            };
+      }
+
+  counted_encoded : (own : List CoverageQuery) → OneEncoded N own now later →
+      AreCounted N (with_encoded t own) old.work later.work old.kept later.kept
+  counted_encoded own one =
+      record {
+        encodings = λ few. let e = h.encodings (omega arith) in let u = one.encodings (omega arith) in omega arith;
+        spared = subst (RisesBy old.kept t.spared) (sym one.spared) h.spared;
+        searched = searched_both N t.queries own old.work now.work later.work h.searched one.searched;
+      }
 
 -- the answer of an item
 abbrev pub answer : Item → Option Answer
@@ -78,27 +202,33 @@ Reported-push before js es fs j A h is returned =
       | inr t ↦ subst (Reported before (js ++ j ∷ [])) (sym t.1) (Reported-returned before js es j A h is t.0)
     ]
 
-pub record Through (Q : Map → Type 0) (N : Map) (T X : List ℕ) (before is : List Item) (ps : List Put) (es : List Entry)
-    (n : ℕ) : Type 0 where
+pub record Through (Q : Map → Type 0) (N : Map) (T X : List ℕ) (C : List ChangedLine) (before is : List Item)
+    (ps : List Put) (es : List Entry) (t : Totals) : Type 0 where
   pub local : (ys : List Item) → all_put (is ++ ys) ps ≡ all_put is ps ++ ys
   pub names : all_named (all_put is ps) ≡ all_named is
   pub remade : (L : Map) → Q L → AreRemade N is (all_put is ps)
   pub reported : Reported before (all_put is ps) es
-  pub counted : (L : Map) → Q L → CountIs (IsAffected L T X) is n
+  pub totals : (L : Map) → Q L → AreTotals L N T X C is t
 
-module _ (Q : Map → Type 0) (N : Map) (T X : List ℕ) (before : List Item) where
-  pub through_none : Through Q N T X before [] [] [] 0
+module _ (Q : Map → Type 0) (N : Map) (T X : List ℕ) (C : List ChangedLine) (before : List Item) where
+  pub through_none : Through Q N T X C before [] [] [] no_totals
   through_none =
-      record { local = λ ys. refl; names = refl; remade = λ L q. refl; reported = refl; counted = λ L q. refl }
+      record {
+        local = λ ys. refl;
+        names = refl;
+        remade = λ L q. refl;
+        reported = refl;
+        totals = λ L q. record { affected = refl; spared = refl; queries = refl };
+      }
 
   -- j is after what was stored, and the rest is unchanged
-  pub grown : (is : List Item) (ps qs : List Put) (es fs : List Entry) (n k : ℕ) (i j : Item) (A : Answer) →
-      Through Q N T X before is ps es n
+  pub grown : (is : List Item) (ps qs : List Put) (es fs : List Entry) (t u : Totals) (i j : Item) (A : Answer) →
+      Through Q N T X C before is ps es t
       → ((ys : List Item) → all_put (is ++ i ∷ ys) qs ≡ all_put is ps ++ j ∷ ys) → named_of j ≡ named_of i →
       ((L : Map) → Q L → IsRemade N i j) → answer j ≡ Some A → ReportsIfOther before j.name A es fs
-      → ((L : Map) → Q L → CountIs (IsAffected L T X) (is ++ i ∷ []) k)
-      → Through Q N T X before (is ++ i ∷ []) qs fs k
-  grown is ps qs es fs n k i j A h puts same one is_A returned counted =
+      → ((L : Map) → Q L → AreTotals L N T X C (is ++ i ∷ []) u)
+      → Through Q N T X C before (is ++ i ∷ []) qs fs u
+  grown is ps qs es fs t u i j A h puts same one is_A returned totals =
       let end = puts [] in
       record {
         local =
@@ -114,7 +244,7 @@ module _ (Q : Map → Type 0) (N : Map) (T X : List ℕ) (before : List Item) wh
         reported =
             subst (λ (js : List Item). Reported before js fs) (sym end)
             (Reported-push before (all_put is ps) es fs j A h.reported is_A returned);
-        counted = counted;
+        totals = totals;
       }
 
 pub follows_at : (before is : List Item) (k : ℕ) (i : Item) → Follows before is → slice_get is k ≡ Some i →
@@ -170,11 +300,11 @@ module _ (N : Map) (n : IsMap N) (T X : List ℕ) (C : List ChangedLine) (before
             ∙ is_A
       ]
 
-  through_left : (ps : List Put) (es : List Entry) (c : ℕ) → Through Q N T X before (take position is) ps es c →
-      ToStay N T X i.made i.path → Through Q N T X before (take position is ++ i ∷ []) ps es c
-  through_left ps es c h f =
+  through_left : (ps : List Put) (es : List Entry) (t : Totals) → Through Q N T X C before (take position is) ps es t →
+      ToStay N T X i.made i.path → Through Q N T X C before (take position is ++ i ∷ []) ps es t
+  through_left ps es t h f =
       let m = f.0 in
-      grown Q N T X before (take position is) ps ps es es c c i i m.answer h (λ ys. h.local (i ∷ ys)) refl
+      grown Q N T X C before (take position is) ps ps es es t t i i m.answer h (λ ys. h.local (i ∷ ys)) refl
       (λ L q. (
         m,
         stays_unless L N n T X C i.path (is_a_path L q) m q.sound q.difference q.starts (is_made L q m f.1)
@@ -182,7 +312,7 @@ module _ (N : Map) (n : IsMap N) (T X : List ℕ) (C : List ChangedLine) (before
         again i m f.1,
       ))
       (ap (option_map (λ (k : Made). k.answer)) f.1) (inl (answered m f.1, refl))
-      (λ L q. Count-same (IsAffected L T X) (take position is) c i (h.counted L q)
+      (λ L q. totals_same L N T X C (take position is) t (h.totals L q) i
       (λ on. f.2 (touched_by L N n T X C i.path (is_a_path L q) m q.sound q.difference (is_made L q m f.1) i refl f.1
       on)))
 
@@ -192,58 +322,74 @@ module _ (N : Map) (n : IsMap N) (T X : List ℕ) (C : List ChangedLine) (before
       subst (λ (j : Item). IsAffected L T X j) (sym (again i m e))
       (affected_by L N n T X C i.path (is_a_path L q) m q.sound q.difference (is_made L q m e) i.name t)
 
-  through_retained : (ps : List Put) (es : List Entry) (c : ℕ) → Through Q N T X before (take position is) ps es c →
-      ToKeep N T X C i.made i.path → Through Q N T X before (take position is ++ i ∷ []) ps es (c + 1)
-  through_retained ps es c h f =
+  spared : (L : Map) → Q L → ToKeep N T X C i.made i.path → IsSpared L N T X C i
+  spared L q f =
       let m = f.0 in
-      grown Q N T X before (take position is) ps ps es es c (c + 1) i i m.answer h (λ ys. h.local (i ∷ ys)) refl
+      record {
+        made = λ none. let never : ⊥ = cc (none, f.1) in never;
+        affected = affected L q m f.1 f.2;
+        unchanged = unchanged_by L N n T X C i.path (is_a_path L q) m q.sound (is_made L q m f.1) f.3;
+      }
+
+  through_retained : (ps : List Put) (es : List Entry) (t : Totals) →
+      Through Q N T X C before (take position is) ps es t → ToKeep N T X C i.made i.path →
+      Through Q N T X C before (take position is ++ i ∷ []) ps es (with_spared t)
+  through_retained ps es t h f =
+      let m = f.0 in
+      grown Q N T X C before (take position is) ps ps es es t (with_spared t) i i m.answer h
+      (λ ys. h.local (i ∷ ys)) refl
       (λ L q. (
         m,
-        stays_clear L N n T X C i.path (is_a_path L q) m q.sound q.difference (is_made L q m f.1) f.3,
+        stays_retained L N n T X C i.path (is_a_path L q) m q.sound q.difference (is_made L q m f.1) f.3,
         again i m f.1,
       ))
       (ap (option_map (λ (k : Made). k.answer)) f.1) (inl (answered m f.1, refl))
-      (λ L q. Count-more (IsAffected L T X) (take position is) c i (h.counted L q) (affected L q m f.1 f.2))
+      (λ L q. totals_spared L N T X C (take position is) t (h.totals L q) i (spared L q f))
 
-  to_encode : (L : Map) → Q L → ToEncode N T X i.made i.path → IsAffected L T X i
-  to_encode L q (inl none) = By_name none
-  to_encode L q (inr f) = affected L q f.0 f.1 f.2
+  to_encode : (L : Map) → Q L → ToEncode N T X C i.made i.path → IsEncodedAgain L N T X C i
+  to_encode L q (inl none) = (By_name none, λ o. o.made none)
+  to_encode L q (inr f) =
+      (
+        affected L q f.0 f.1 f.2,
+        (λ o. f.3 (stays_by L N n T X C i.path (is_a_path L q) f.0 q.sound q.difference (is_made L q f.0 f.1)
+        o.unchanged)),
+      )
 
-  through_encoded : (ps : List Put) (es fs : List Entry) (c : ℕ) (m : Made) →
-      Through Q N T X before (take position is) ps es c → ToEncode N T X i.made i.path → IsEncodingOf N i.path m →
-      ReportsIfOther before i.name m.answer es fs
-      → Through Q N T X before (take position is ++ i ∷ [])
-      (ps ++ record { position = position; path = i.path; made = Some m } ∷ []) fs (c + 1)
-  through_encoded ps es fs c m h f made returned =
-      subst (λ (k : ℕ). Through Q N T X before (take position is ++ i ∷ [])
-      (ps ++ record { position = k; path = i.path; made = Some m } ∷ []) fs (c + 1)) long
-      (grown Q N T X before (take position is) ps
-      (ps ++ record { position = length (take position is); path = i.path; made = Some m } ∷ []) es fs c (c + 1) i
-      (with_made i m) m.answer h
+  through_encoded : (ps : List Put) (es fs : List Entry) (t : Totals) (m : Made) →
+      Through Q N T X C before (take position is) ps es t → ToEncode N T X C i.made i.path →
+      IsEncodingOf N i.path m → ReportsIfOther before i.name m.answer es fs
+      → Through Q N T X C before (take position is ++ i ∷ [])
+      (ps ++ record { position = position; path = i.path; made = Some m } ∷ []) fs (with_encoded t m.queries)
+  through_encoded ps es fs t m h f made returned =
+      subst (λ (k : ℕ). Through Q N T X C before (take position is ++ i ∷ [])
+      (ps ++ record { position = k; path = i.path; made = Some m } ∷ []) fs (with_encoded t m.queries)) long
+      (grown Q N T X C before (take position is) ps
+      (ps ++ record { position = length (take position is); path = i.path; made = Some m } ∷ []) es fs t
+      (with_encoded t m.queries) i (with_made i m) m.answer h
       (λ ys. all_put-push (take position is ++ i ∷ ys) ps
       (record { position = length (take position is); path = i.path; made = Some m })
       ∙ ap (λ (zs : List Item). all_put zs ps) (put_behind (take position is) i ys i.path (Some m))
       ∙ h.local (with_made i m ∷ ys))
       refl (λ L q. (m, made, refl)) refl returned
-      (λ L q. Count-more (IsAffected L T X) (take position is) c i (h.counted L q) (to_encode L q f)))
+      (λ L q. totals_encoded L N T X C (take position is) t (h.totals L q) i m.queries (to_encode L q f) made.queries))
 
 -- ---- the paths before a position, with the work
 
 pub record SoFar (N : Map) (T X : List ℕ) (C : List ChangedLine) (before is : List Item) (position : ℕ) (r : Renewal)
     (old now : Counted) : Type 0 where
-  pub many : ℕ
-  pub through : Through (λ L. IsBefore L N T X C is) N T X before (take position is) (made_at r) (entries_of r) many
-  pub raised : old.work.encodings + many < 2 ^ 64 → now.work.encodings ≡ old.work.encodings + many
-  pub ascends : Rises old now many
+  pub many : Totals
+  pub through : Through (λ L. IsBefore L N T X C is) N T X C before (take position is) (made_at r) (entries_of r) many
+  pub raised : AreCounted N many old.work now.work old.kept now.kept
+  pub ascends : Rises old now
 
-ascends_none : (work : Counted) → Rises work work 0
-ascends_none work = record { searches = omega arith; settled = omega arith; kept = omega arith; spared = omega arith }
+ascends_none : (work : Counted) → Rises work work
+ascends_none work = record { searches = omega arith; settled = omega arith; kept = omega arith }
 
-ascends_more : (old now later : Counted) (n : ℕ) → Rises old now n → Rises now later 1 → Rises old later (n + 1)
-ascends_more old now later n r s =
+ascends_more : (old now later : Counted) → Rises old now → Rises now later → Rises old later
+ascends_more old now later r s =
     let a = r.searches in let b = s.searches in let c = r.settled in let d = s.settled in
-    let e = r.kept in let f = s.kept in let g = r.spared in let h = s.spared in
-    record { searches = omega arith; settled = omega arith; kept = omega arith; spared = omega arith }
+    let e = r.kept in let f = s.kept in
+    record { searches = omega arith; settled = omega arith; kept = omega arith }
 
 pub so_far_none : (N : Map) (T X : List ℕ) (C : List ChangedLine) (before is : List Item) (r : Renewal)
     (work : Counted) → r.fresh.items ≡ [] → r.entries.items ≡ [] → SoFar N T X C before is 0 r work work
@@ -252,11 +398,16 @@ so_far_none N T X C before is r work fresh entries =
     let made : [] ≡ made_at r = sym (ap puts_of fresh) in
     let returned : [] ≡ entries_of r = sym (ap (map entry_of) entries) in
     record {
-      many = 0;
+      many = no_totals;
       through =
-          subst (λ (es : List Entry). Through Q N T X before [] (made_at r) es 0) returned
-          (subst (λ (ps : List Put). Through Q N T X before [] ps [] 0) made (through_none Q N T X before));
-      raised = λ few. omega arith;
+          subst (λ (es : List Entry). Through Q N T X C before [] (made_at r) es no_totals) returned
+          (subst (λ (ps : List Put). Through Q N T X C before [] ps [] no_totals) made (through_none Q N T X C before));
+      raised =
+          record {
+            encodings = λ few. omega arith;
+            spared = ((λ few. omega arith), omega arith);
+            searched = record { searches = refl; settled = refl };
+          };
       ascends = ascends_none work;
     }
 
@@ -274,21 +425,21 @@ pub record Whole (N : Map) (T X : List ℕ) (C : List ChangedLine) (before is : 
   pub remade : (L : Map) → IsBefore L N T X C is → AreRemade N is (all_put is (made_at r))
   pub names : all_named (all_put is (made_at r)) ≡ all_named is
   pub reported : Reported before (all_put is (made_at r)) (entries_of r)
-  pub counted : (L : Map) → IsBefore L N T X C is → (n : ℕ) × CountIs (IsAffected L T X) is n
-      × (old.work.encodings + n < 2 ^ 64 → now.work.encodings ≡ old.work.encodings + n) × (now.kept ≤ old.kept + n)
+  pub counted : (L : Map) → IsBefore L N T X C is → (t : Totals) × AreTotals L N T X C is t
+      × AreCounted N t old.work now.work old.kept now.kept
 
 pub whole : (N : Map) (T X : List ℕ) (C : List ChangedLine) (before is : List Item) (r : Renewal) (old now : Counted) →
     SoFar N T X C before is (length is) r old now → Whole N T X C before is r old now
 whole N T X C before is r old now h =
     let all : take (length is) is ≡ is = take_all (length is) is (omega arith) in
-    let t : Through (λ L. IsBefore L N T X C is) N T X before is (made_at r) (entries_of r) h.many =
-    subst (λ (js : List Item). Through (λ L. IsBefore L N T X C is) N T X before js (made_at r) (entries_of r) h.many)
+    let t : Through (λ L. IsBefore L N T X C is) N T X C before is (made_at r) (entries_of r) h.many =
+    subst (λ (js : List Item). Through (λ L. IsBefore L N T X C is) N T X C before js (made_at r) (entries_of r) h.many)
     all h.through in
     record {
       remade = t.remade;
       names = t.names;
       reported = t.reported;
-      counted = λ L q. (h.many, t.counted L q, h.raised, h.ascends.spared);
+      counted = λ L q. (h.many, t.totals L q, h.raised);
     }
 
 module _ (N : Map) (n : IsMap N) (T X : List ℕ) (C : List ChangedLine) (before is : List Item) (position : ℕ) (i : Item)
@@ -301,7 +452,7 @@ module _ (N : Map) (n : IsMap N) (T X : List ℕ) (C : List ChangedLine) (before
       (record {
         many = h.many;
         through =
-            subst (λ (js : List Item). Through (λ L. IsBefore L N T X C is) N T X before js (made_at r) (entries_of r)
+            subst (λ (js : List Item). Through (λ L. IsBefore L N T X C is) N T X C before js (made_at r) (entries_of r)
             h.many) (sym (take_more_at is position i at))
             (through_left N n T X C before is position i follows at (made_at r) (entries_of r) h.many h.through f);
         raised = h.raised;
@@ -310,25 +461,25 @@ module _ (N : Map) (n : IsMap N) (T X : List ℕ) (C : List ChangedLine) (before
   so_far_step r s now later h (Retained f same one) =
       subst (λ (q : Renewal). SoFar N T X C before is (position + 1) q old later) (sym same)
       (record {
-        many = h.many + 1;
+        many = with_spared h.many;
         through =
-            subst (λ (js : List Item). Through (λ L. IsBefore L N T X C is) N T X before js (made_at r) (entries_of r)
-            (h.many + 1)) (sym (take_more_at is position i at))
+            subst (λ (js : List Item). Through (λ L. IsBefore L N T X C is) N T X C before js (made_at r) (entries_of r)
+            (with_spared h.many)) (sym (take_more_at is position i at))
             (through_retained N n T X C before is position i follows at (made_at r) (entries_of r) h.many h.through f);
-        raised = λ few. let e = h.raised (omega arith) in let u = one.encodings (omega arith) in omega arith;
-        ascends = ascends_more old now later h.many h.ascends one.ascends;
+        raised = counted_spared N h.many old now later h.raised one;
+        ascends = ascends_more old now later h.ascends one.ascends;
       })
   so_far_step r s now later h (EncodedAgain f m made puts returned one) =
       record {
-        many = h.many + 1;
+        many = with_encoded h.many m.queries;
         through =
-            subst (λ (js : List Item). Through (λ L. IsBefore L N T X C is) N T X before js (made_at s) (entries_of s)
-            (h.many + 1)) (sym (take_more_at is position i at))
-            (subst (λ (ps : List Put). Through (λ L. IsBefore L N T X C is) N T X before (take position is ++ i ∷ []) ps
-            (entries_of s) (h.many + 1)) (sym puts)
+            subst (λ (js : List Item). Through (λ L. IsBefore L N T X C is) N T X C before js (made_at s) (entries_of s)
+            (with_encoded h.many m.queries)) (sym (take_more_at is position i at))
+            (subst (λ (ps : List Put). Through (λ L. IsBefore L N T X C is) N T X C before (take position is ++ i ∷ [])
+            ps (entries_of s) (with_encoded h.many m.queries)) (sym puts)
             (through_encoded N n T X C before is position i follows at (made_at r) (entries_of r) (entries_of s) h.many
             m
             h.through f made returned));
-        raised = λ few. let e = h.raised (omega arith) in let u = one.encodings (omega arith) in omega arith;
-        ascends = ascends_more old now later h.many h.ascends one.ascends;
+        raised = counted_encoded N h.many old now later h.raised m.queries one;
+        ascends = ascends_more old now later h.ascends one.ascends;
       }

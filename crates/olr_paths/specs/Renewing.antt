@@ -4,23 +4,26 @@
 --     all_put is ps      the list with these at their positions
 --     item_of name e      an entry of the list under a name
 --     items_before o l      the earlier list if there is one, otherwise l
---     Stays N T X C m P      no traversed node and no line of the path is touched, and each coverage query is clear
+--     Stays N T X C m P      not too many lines have changed, no traversed node and no line of the path is touched, and
+--         each coverage query is clear
 --     IsActionFor, IsStep      the action for a path, and its effect
---     Rises old new n, OneMore old new      no count falls, and at most n encodings are spared;  the same for one
+--     Rises old new      no count falls
+--     OneSpared old new, OneEncoded N queries old new      the counts after an answer is retained;  after an encoding
 --     ReportsIfOther before name A es fs      an entry is appended if the answer is not the earlier one of the
 --         name
 use Rattle.std.specs.Prelude.{◌≡◌, ◌≢◌, ℕ, zero, suc, List, [], ◌∷◌, ◌++◌, map, All, ◌+◌, ◌<◌, ◌≤◌, ◌^◌, Option, Some}
-use Rattle.std.specs.Prelude.{None, option_map, unwrap_or, ◌⊎◌}
+use Rattle.std.specs.Prelude.{None, option_map, unwrap_or, ◌⊎◌, length}
 use Rattle.std.specs.Borrow.{Bor}
 use Rattle.olr_spec.specs.Map.{Map}
 use Rattle.olr_spec.specs.Detours.{ChangedLine}
 use Rattle.olr_spec.specs.Extension.{Path}
-use Rattle.olr_spec.specs.Queries.{IsClear}
+use Rattle.olr_spec.specs.Queries.{CoverageQuery}
+use Rattle.olr_commands.specs.Counts.{most_changed, RisesBy}
 use Rattle.olr_commands.specs.Words.{entry_of}
 use Rattle.olr_spec.specs.Encoding.{Answer}
 use Rattle.olr_commands.specs.Reply.{Entry, entry}
 use Rattle.olr_paths.specs.Items.{Made, Item, IsEncodingOf, made_of, items, answer_in}
-use Rattle.olr_paths.specs.Changes.{TraversedTouched, LineTouched, Touches}
+use Rattle.olr_paths.specs.Changes.{TraversedTouched, LineTouched, Touches, IsKnownClear, AreSearched}
 use Rattle.olr_paths.specs.declared.path_list.NamedPath.{NamedPath}
 use Rattle.olr_paths.specs.declared.path_list.PathList.{PathList}
 use Rattle.olr_paths.specs.declared.renewal.Renewal.{Renewal}
@@ -71,8 +74,11 @@ ReportsIfOther before name A es fs =
 
 -- ---- one path
 
-abbrev pub Stays : Map → List ℕ → List ℕ → List ChangedLine → Made → Path → Type 0
-Stays N T X C m P = (¬ TraversedTouched T m) × (¬ LineTouched X P) × All (IsClear N C) m.queries
+pub record Stays (N : Map) (T X : List ℕ) (C : List ChangedLine) (m : Made) (P : Path) : Type 0 where
+  pub few : length C ≤ most_changed
+  pub traversed : ¬ TraversedTouched T m
+  pub lines : ¬ LineTouched X P
+  pub clear : All (IsKnownClear N C) m.queries
 
 abbrev pub ToStay : Map → List ℕ → List ℕ → Option Made → Path → Type 0
 ToStay N T X made P = (m : Made) × (made ≡ Some m) × ¬ Touches N T X m P
@@ -80,31 +86,41 @@ ToStay N T X made P = (m : Made) × (made ≡ Some m) × ¬ Touches N T X m P
 abbrev pub ToKeep : Map → List ℕ → List ℕ → List ChangedLine → Option Made → Path → Type 0
 ToKeep N T X C made P = (m : Made) × (made ≡ Some m) × Touches N T X m P × Stays N T X C m P
 
-abbrev pub ToEncode : Map → List ℕ → List ℕ → Option Made → Path → Type 0
-ToEncode N T X made P = (made ≡ None) ⊎ ((m : Made) × (made ≡ Some m) × Touches N T X m P)
+abbrev pub ToEncode : Map → List ℕ → List ℕ → List ChangedLine → Option Made → Path → Type 0
+ToEncode N T X C made P =
+    (made ≡ None) ⊎ ((m : Made) × (made ≡ Some m) × Touches N T X m P × ¬ Stays N T X C m P)
 
 abbrev pub IsActionFor : Map → List ℕ → List ℕ → List ChangedLine → Option Made → Path → Action → Type 0
 IsActionFor N T X C made P Stay = ToStay N T X made P
 IsActionFor N T X C made P Keep = ToKeep N T X C made P
-IsActionFor N T X C made P Encode = ToEncode N T X made P
+IsActionFor N T X C made P Encode = ToEncode N T X C made P
 
--- no count falls, and at most this many encodings are spared
-pub record Rises (old new : Counted) (n : ℕ) : Type 0 where
+-- no count falls
+pub record Rises (old new : Counted) : Type 0 where
   pub searches : old.work.searches ≤ new.work.searches
   pub settled : old.work.settled ≤ new.work.settled
   pub kept : old.kept ≤ new.kept
-  pub spared : new.kept ≤ old.kept + n
 
--- the count rises by one
-pub record OneMore (old new : Counted) : Type 0 where
+-- an affected path is counted, whose answer is retained
+pub record OneSpared (old new : Counted) : Type 0 where
   pub encodings : old.work.encodings + 1 < 2 ^ 64 → new.work.encodings ≡ old.work.encodings + 1
-  pub ascends : Rises old new 1
+  pub spared : RisesBy old.kept 1 new.kept
+  pub searches : new.work.searches ≡ old.work.searches
+  pub settled : new.work.settled ≡ old.work.settled
+  pub ascends : Rises old new
+
+-- a path is counted, which is encoded
+pub record OneEncoded (N : Map) (queries : List CoverageQuery) (old new : Counted) : Type 0 where
+  pub encodings : old.work.encodings + 1 < 2 ^ 64 → new.work.encodings ≡ old.work.encodings + 1
+  pub spared : new.kept ≡ old.kept
+  pub searched : AreSearched N queries old.work new.work
+  pub ascends : Rises old new
 
 pub data IsStep (N : Map) (T X : List ℕ) (C : List ChangedLine) (before : List Item) (i : Item) (k : ℕ) (r s : Renewal)
     (c d : Counted) : Type 0 where
   Left : ToStay N T X i.made i.path → s ≡ r → d ≡ c → IsStep N T X C before i k r s c d
-  Retained : ToKeep N T X C i.made i.path → s ≡ r → OneMore c d → IsStep N T X C before i k r s c d
-  EncodedAgain : ToEncode N T X i.made i.path → (m : Made) → IsEncodingOf N i.path m →
+  Retained : ToKeep N T X C i.made i.path → s ≡ r → OneSpared c d → IsStep N T X C before i k r s c d
+  EncodedAgain : ToEncode N T X C i.made i.path → (m : Made) → IsEncodingOf N i.path m →
       made_at s ≡ made_at r ++ record { position = k; path = i.path; made = Some m } ∷ [] →
       ReportsIfOther before i.name m.answer (entries_of r) (entries_of s)
-      → OneMore c d → IsStep N T X C before i k r s c d
+      → OneEncoded N m.queries c d → IsStep N T X C before i k r s c d

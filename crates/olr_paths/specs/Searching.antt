@@ -4,9 +4,13 @@
 --     AreAsked      the same of each path that was encoded
 --     LacksQueries made, LackQueries is      nothing was made, or it has no query;  so of each path
 --     AreDetours N slot t s far      the distances to where changed lines begin and from where they end, within a
---         limit
+--         limit; there are not too many of them
+--     IsWithin far l, IsFarAs C most far      the limit of these searches reaches as far as the query, or as the length
+--         `most`; without a limit there are too many changed lines
+--     ReachesQueries C far m      as far as each query
+--     IsReached N T X C far m P, AreReached      the same if the decision for the path depends on it;  so for each path
 --     AreFarther p q d      two distances together are more than d, or one is none
-use Rattle.std.specs.Prelude.{◌≡◌, ℕ, ◌+◌, ◌<◌, ◌≤◌, min, List, [], map, Contains, Option, Some, None, IfSome}
+use Rattle.std.specs.Prelude.{◌≡◌, ℕ, ◌+◌, ◌<◌, ◌≤◌, min, List, [], map, length, Contains, Option, Some, None, IfSome}
 use Rattle.std.specs.Prelude.{IsTrue, IsFalse, ⊤}
 use Rattle.olr_spec.specs.Map.{Map, has_node}
 use Rattle.olr_spec.specs.Queries.{CoverageQuery}
@@ -15,10 +19,12 @@ use Rattle.olr_route.specs.Distances.{Leads}
 use Rattle.olr_route.specs.Searches.{IsSearch, limit_of}
 use Rattle.olr_route.specs.declared.distances.Dijkstra.{Dijkstra}
 use Rattle.olr_route.specs.declared.distances.Direction.TheVariants.{Along, Against}
-use Rattle.olr_spec.specs.Extension.{limit}
+use Rattle.olr_spec.specs.Extension.{Path, limit}
+use Rattle.olr_spec.specs.Detours.{ChangedLine}
+use Rattle.olr_commands.specs.Counts.{most_changed}
 use Rattle.olr_paths.specs.Items.{Made, Item}
-use Rattle.olr_paths.specs.Changes.{QueryTouched}
-use Rattle.olr_paths.specs.Touching.{nodes_of}
+use Rattle.olr_paths.specs.Changes.{QueryTouched, TraversedTouched, LineTouched, Touches}
+use Rattle.olr_paths.specs.Touching.{nodes_of, changed_of}
 use Rattle.olr_paths.specs.declared.change_set.ChangeSet.{ChangeSet}
 use Rattle.olr_paths.specs.declared.searches.Searches.{Searches}
 
@@ -55,6 +61,36 @@ pub record AreDetours (N : Map) (slot : ℕ → ℕ) (t : ChangeSet) (s : Search
   pub after : IsSearch N slot Along (ends t) s.after
   pub before_limit : limit_of s.before ≡ far
   pub after_limit : limit_of s.after ≡ far
+  pub most : far ≤ limit
+  pub few : length (changed_of t) ≤ most_changed
+
+abbrev pub IsWithin : ℕ → CoverageQuery → Type 0
+IsWithin far l = l.within ≤ limit → l.within ≤ far
+
+abbrev pub IsFarAs : List ChangedLine → ℕ → Option ℕ → Type 0
+IsFarAs C most None = most_changed < length C
+IsFarAs C most (Some far) = far ≡ min most limit
+
+abbrev pub ReachesQueries : List ChangedLine → Option ℕ → Made → Type 0
+ReachesQueries C None m = most_changed < length C
+ReachesQueries C (Some far) m = (l : CoverageQuery) → Contains m.queries l → IsWithin far l
+
+-- the decision depends on it if the path is affected, though none of its traversed nodes and lines is touched
+abbrev pub IsReached : Map → List ℕ → List ℕ → List ChangedLine → Option ℕ → Path → Made → Type 0
+IsReached N T X C far P m =
+    Touches N T X m P → ¬ TraversedTouched T m → ¬ LineTouched X P → ReachesQueries C far m
+
+abbrev pub AreReached : Map → List ℕ → List ℕ → List ChangedLine → Option ℕ → List Item → Type 0
+AreReached N T X C far is = (i : Item) → Contains is i → IfSome i.made (IsReached N T X C far i.path)
+
+-- the length is no less than that of each query of the path, if its decision depends on detours
+abbrev pub IsLongest : Map → List ℕ → List ℕ → Option ℕ → Path → Made → Type 0
+IsLongest N T X most P m =
+    Touches N T X m P → ¬ TraversedTouched T m → ¬ LineTouched X P →
+    (long : ℕ) × (most ≡ Some long) × ((l : CoverageQuery) → Contains m.queries l → l.within ≤ long)
+
+abbrev pub IsNoLess : Option ℕ → Option ℕ → Type 0
+IsNoLess a b = (n : ℕ) → a ≡ Some n → (m : ℕ) × (b ≡ Some m) × (n ≤ m)
 
 abbrev pub AreFarther : Option ℕ → Option ℕ → ℕ → Type 0
 AreFarther (Some a) (Some b) d = d < a + b

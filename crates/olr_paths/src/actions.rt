@@ -1,9 +1,10 @@
 //! Which action a renewal takes for a path.
-ghost use Rattle.std.specs.Prelude.{Some, IsTrue, IfSome};
+ghost use Rattle.std.specs.Prelude.{◌↔◌, Some, IsTrue, IfSome};
 ghost use Rattle.olr_paths.specs.Items.{made_of};
 ghost use Rattle.olr_paths.specs.Showing.{shown_item};
 ghost use Rattle.olr_paths.specs.Touching.{nodes_of, lines_of, changed_of};
-ghost use Rattle.olr_paths.specs.Searching.{AreDetours, IsAsked};
+ghost use Rattle.olr_paths.specs.Searching.{AreDetours, IsAsked, IsReached, ReachesQueries};
+ghost use Rattle.olr_paths.specs.Changes.{TraversedTouched, LineTouched};
 ghost use Rattle.olr_paths.specs.Renewing.{Stays, IsActionFor};
 
 use crate::asking::{is_line_touched, is_touched, is_traversed_touched};
@@ -26,7 +27,7 @@ pub(crate) enum Action {
     Encode,
 }
 
-/// Whether it is known that a path which the edits affect has the same answer as before.
+/// Whether a path which the edits affect retains its answer.
 fn is_unchanged<M: MapRead>(
     map: &M,
     touched: &ChangeSet,
@@ -35,17 +36,24 @@ fn is_unchanged<M: MapRead>(
     path: &Path,
     published: &Published,
 ) -> bool
-    requires { IfSome asked (AreDetours (M.map map.now) (M.node_slot map.now) touched.now searches.now) }
-    ensures { IsTrue result → Stays (M.map map.now) (nodes_of touched.now) (lines_of touched.now)
+    requires detours { IfSome asked (AreDetours (M.map map.now) (M.node_slot map.now) touched.now searches.now) }
+    requires reached { ¬ TraversedTouched (nodes_of touched.now) (made_of published.now)
+        → ¬ LineTouched (lines_of touched.now) path.now
+        → ReachesQueries (changed_of touched.now) asked (made_of published.now) }
+    ensures { IsTrue result ↔ Stays (M.map map.now) (nodes_of touched.now) (lines_of touched.now)
         (changed_of touched.now)
         (made_of published.now) path.now }
 {
-    let Some(limit) = asked else {
+    if is_traversed_touched(touched, &published.traversed) {
         return false;
-    };
-    !is_traversed_touched(touched, &published.traversed)
-        && !is_line_touched(touched, path.lines())
-        && are_clear(map, touched, searches, limit, &published.queries)
+    }
+    if is_line_touched(touched, path.lines()) {
+        return false;
+    }
+    match asked {
+        Some(limit) => are_clear(map, touched, searches, limit, &published.queries),
+        None => false,
+    }
 }
 
 /// The action for a path.
@@ -59,6 +67,8 @@ pub(crate) fn decide<M: MapRead>(
     requires asked { IfSome shown.published
         (λ p. IsAsked (M.map map.now) (M.node_slot map.now) touched.now searches.now (made_of p.now)) }
     requires detours { IfSome asked (AreDetours (M.map map.now) (M.node_slot map.now) touched.now searches.now) }
+    requires reached { IfSome (shown_item shown).made (IsReached (M.map map.now) (nodes_of touched.now)
+        (lines_of touched.now) (changed_of touched.now) asked (shown_item shown).path) }
     ensures { IsActionFor (M.map map.now) (nodes_of touched.now) (lines_of touched.now) (changed_of touched.now)
         (shown_item shown.entry).made (shown_item shown.entry).path result }
 {

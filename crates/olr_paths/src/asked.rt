@@ -1,8 +1,11 @@
 //! The searches of a renewal, and the paths that they find, before any path is encoded.
-ghost use Rattle.std.specs.Prelude.{IsTrue, IfOk, IfSome, OnOk};
+ghost use Rattle.std.specs.Prelude.{◌≡◌, ◌≤◌, Contains, Some, slice_get, IsTrue, IfOk, IfSome, OnOk};
+ghost use Rattle.olr_spec.specs.Queries.{CoverageQuery as QueryRecord};
+ghost use Rattle.olr_paths.specs.Items.{Item, made_of};
 ghost use Rattle.olr_paths.specs.Showing.{shown_items};
-ghost use Rattle.olr_paths.specs.Touching.{nodes_of, lines_of};
-ghost use Rattle.olr_paths.specs.Searching.{AreDetours, AreAsked, LackQueries};
+ghost use Rattle.olr_paths.specs.Touching.{nodes_of, lines_of, changed_of};
+ghost use Rattle.olr_paths.specs.Searching.{AreDetours, AreAsked, LackQueries, IsAsked, IsLongest, IsNoLess, AreReached};
+ghost use Rattle.olr_paths.specs.Candidates.{AreLongest};
 ghost use Rattle.olr_paths.specs.Candidates.{Covers};
 ghost use Rattle.std.specs.List.Sorted.{IsNonDecreasing};
 ghost use Rattle.olr_paths.specs.Origins.{AreBoundsOf};
@@ -12,9 +15,11 @@ use crate::candidates::candidates;
 use crate::change_set::ChangeSet;
 use crate::detours::search_detours;
 use crate::overlaid_list::OverlaidList;
+use crate::published::Published;
 use crate::searches::Searches;
 use olr_map::MapRead;
 use olr_near::DistanceBounds;
+use olr_refs::{CoverageQuery, Path};
 use std::alloc::{AllocError, Global};
 
 /// Whether it is known that no path has a coverage query: then no touched node can be near to one.
@@ -25,8 +30,77 @@ fn is_without_queries(overlaid: OverlaidList<'_>) -> bool
         && overlaid.overlay.added.finder.by_query_origin.is_empty()
 }
 
-/// The limit of the searches for detours, in decimetres: the length of the longest coverage query of those affected
-/// paths at these positions of which no traversed node and no line is touched. None if there is no such query.
+/// The length of the longest of some coverage queries, in decimetres.
+fn longest_of(queries: &[CoverageQuery]) -> u32
+    ensures { (l : QueryRecord) → Contains queries.now l → l.within ≤ result }
+{
+    let mut longest = 0;
+    for query in queries {
+        if query.within > longest {
+            longest = query.within;
+        }
+    }
+    longest
+}
+
+/// The length of the path's longest coverage query, if it is affected though none of its traversed nodes and lines is
+/// touched.
+fn longest_asked<M: MapRead>(
+    map: &M,
+    touched: &ChangeSet,
+    searches: &Searches,
+    path: &Path,
+    published: &Published,
+) -> Option<u32>
+    requires { IsAsked (M.map map.now) (M.node_slot map.now) touched.now searches.now (made_of published.now) }
+    ensures { IsLongest (M.map map.now) (nodes_of touched.now) (lines_of touched.now) result path.now
+        (made_of published.now) }
+{
+    if !is_touched(map, touched, searches, path, published) {
+        return None;
+    }
+    if is_traversed_touched(touched, &published.traversed) {
+        return None;
+    }
+    if is_line_touched(touched, path.lines()) {
+        return None;
+    }
+    Some(longest_of(&published.queries))
+}
+
+/// The greater of two lengths, either of which may be missing.
+fn greater(a: Option<u32>, b: Option<u32>) -> Option<u32>
+    ensures first { IsNoLess a result }
+    ensures second { IsNoLess b result }
+{
+    let Some(x) = a else {
+        return b;
+    };
+    let Some(y) = b else {
+        return a;
+    };
+    if x < y { Some(y) } else { Some(x) }
+}
+
+/// The same for the path at a position. None past the last.
+fn longest_at<M: MapRead>(
+    map: &M,
+    overlaid: OverlaidList<'_>,
+    position: usize,
+    touched: &ChangeSet,
+    searches: &Searches,
+) -> Option<u32>
+    requires { AreAsked (M.map map.now) (M.node_slot map.now) touched.now searches.now (shown_items overlaid) }
+    ensures { (i : Item) → slice_get (shown_items overlaid.entry) position ≡ Some i
+        → IfSome i.made (IsLongest (M.map map.now) (nodes_of touched.now) (lines_of touched.now) result i.path) }
+{
+    let shown = overlaid.at(position)?;
+    let published = shown.published?;
+    longest_asked(map, touched, searches, shown.path, published)
+}
+
+/// How far detours have to be searched, in decimetres: the length of the longest coverage query of those affected paths
+/// at these positions of which no traversed node and no line is touched. None if there is no such path.
 fn longest<M: MapRead>(
     map: &M,
     overlaid: OverlaidList<'_>,
@@ -35,23 +109,15 @@ fn longest<M: MapRead>(
     searches: &Searches,
 ) -> Option<u32>
     requires { AreAsked (M.map map.now) (M.node_slot map.now) touched.now searches.now (shown_items overlaid) }
+    ensures { AreLongest (M.map map.now) (nodes_of touched.now) (lines_of touched.now) (shown_items overlaid.entry)
+        result found.now }
 {
     let mut longest = None;
     for position in found {
-        let Some(shown) = overlaid.at(*position) else {
-            continue;
-        };
-        let Some(published) = shown.published else {
-            continue;
-        };
-        if is_touched(map, touched, searches, shown.path, published)
-            && !is_traversed_touched(touched, &published.traversed)
-            && !is_line_touched(touched, shown.path.lines())
-        {
-            for query in &published.queries {
-                longest = longest.max(Some(query.within));
-            }
-        }
+        longest = greater(
+            longest,
+            longest_at(map, overlaid, *position, touched, searches),
+        );
     }
     longest
 }
@@ -97,11 +163,15 @@ fn ask_detours<M: MapRead>(
     touched: &ChangeSet,
     searches: &mut Searches,
 ) -> Result<Option<u32>, AllocError>
-    requires { AreAsked (M.map map.now) (M.node_slot map.now) touched.now searches.old (shown_items overlaid) }
+    requires asked { AreAsked (M.map map.now) (M.node_slot map.now) touched.now searches.old (shown_items overlaid) }
+    requires covers { Covers (M.map map.now) (nodes_of touched.now) (lines_of touched.now) (shown_items overlaid)
+        found.now }
     ensures asked { OnOk result
         (AreAsked (M.map map.now) (M.node_slot map.now) touched.now searches.new (shown_items overlaid.entry)) }
     ensures detours { IfOk result
         (λ asked. IfSome asked (AreDetours (M.map map.now) (M.node_slot map.now) touched.now searches.new)) }
+    ensures reached { IfOk result (λ asked. AreReached (M.map map.now) (nodes_of touched.now) (lines_of touched.now)
+        (changed_of touched.now) asked (shown_items overlaid.entry)) }
 {
     let Some(limit) = longest(map, overlaid, found, touched, searches) else {
         return Ok(None);
@@ -130,6 +200,8 @@ pub(crate) fn ask<M: MapRead>(
         a.found.items) }
     ensures detours { IfOk result
         (λ a. IfSome a.detours (AreDetours (M.map map.now) (M.node_slot map.now) touched.now searches.new)) }
+    ensures reached { IfOk result (λ a. AreReached (M.map map.now) (nodes_of touched.now) (lines_of touched.now)
+        (changed_of touched.now) a.detours (shown_items overlaid.entry)) }
 {
     search_touched(alloc, map, overlaid, touched, bounds, searches)?;
     let found = candidates(alloc, map, overlaid, touched, searches)?;

@@ -1,9 +1,10 @@
 //! Whether changed lines offer a detour that is as short as a coverage query.
-ghost use Rattle.std.specs.Prelude.{◌≡◌, ◌≤◌, IsTrue, IfOk, IfSome, OnOk};
-ghost use Rattle.olr_spec.specs.Queries.{IsClear};
+ghost use Rattle.std.specs.Prelude.{◌≡◌, ◌≤◌, ◌↔◌, Contains, IsTrue, IfOk, IfSome, OnOk};
+ghost use Rattle.olr_spec.specs.Queries.{CoverageQuery as QueryRecord};
 ghost use Rattle.olr_route.specs.Searches.{IsSearch, limit_of};
 ghost use Rattle.olr_paths.specs.Touching.{changed_of};
-ghost use Rattle.olr_paths.specs.Searching.{AreDetours, AreFarther, starts, ends};
+ghost use Rattle.olr_paths.specs.Searching.{AreDetours, AreFarther, IsFarAs, IsWithin, starts, ends};
+ghost use Rattle.olr_paths.specs.Changes.{IsKnownClear};
 ghost use Rattle.std.specs.Prelude.{All};
 
 use crate::change_set::ChangeSet;
@@ -40,23 +41,25 @@ fn ends_of(alloc: Global, touched: &ChangeSet) -> Result<Vec<(NodeId, u32)>, All
     Ok(ends)
 }
 
-/// Searches, up to a limit in decimetres, for distances to the starts of changed lines and from their ends, unless
-/// there are too many changed lines. Returns the limit, if the searches were made.
+/// Searches, up to a length in decimetres or the greatest limit, for distances to the starts of changed lines and from
+/// their ends, unless there are too many changed lines. Returns the limit, if the searches were made.
 pub(crate) fn search_detours<M: MapRead>(
     alloc: Global,
     map: &M,
     touched: &ChangeSet,
-    limit: u32,
+    most: u32,
     searches: &mut Searches,
 ) -> Result<Option<u32>, AllocError>
     ensures asked { IfOk result
         (λ asked. IfSome asked (AreDetours (M.map map.now) (M.node_slot map.now) touched.now searches.new)) }
+    ensures limit { IfOk result (λ asked. IsFarAs (changed_of touched.now) most asked) }
     ensures near { searches.new.near ≡ searches.old.near }
     ensures far { searches.new.far ≡ searches.old.far }
 {
-    if touched.changed.len() > MOST_CHANGED || limit > GREATEST_LIMIT {
+    if touched.changed.len() > MOST_CHANGED {
         return Ok(None);
     }
+    let limit = most.min(GREATEST_LIMIT);
     let starts = starts_of(alloc, touched)?;
     let ends = ends_of(alloc, touched)?;
     search_to(
@@ -89,7 +92,7 @@ fn search_to<M: MapRead>(
 
 /// Whether the sum of two distances is more than a length, all in decimetres, or one of them is None.
 fn is_farther(before: Option<u32>, after: Option<u32>, within: u32) -> bool
-    ensures { IsTrue result → AreFarther before after within }
+    ensures { IsTrue result ↔ AreFarther before after within }
 {
     match (before, after) {
         (Some(before), Some(after)) => { u64::from(before) + u64::from(after) > u64::from(within) }
@@ -97,7 +100,8 @@ fn is_farther(before: Option<u32>, after: Option<u32>, within: u32) -> bool
     }
 }
 
-/// Whether it is known that no detour over the changed lines is as short as the coverage query.
+/// Whether the coverage query is on the map, within the greatest limit, and no detour over the changed lines is as
+/// short.
 fn is_clear<M: MapRead>(
     map: &M,
     touched: &ChangeSet,
@@ -105,8 +109,9 @@ fn is_clear<M: MapRead>(
     limit: u32,
     query: &CoverageQuery,
 ) -> bool
-    requires { AreDetours (M.map map.now) (M.node_slot map.now) touched.now searches.now limit }
-    ensures { IsTrue result → IsClear (M.map map.now) (changed_of touched.now) query.now }
+    requires detours { AreDetours (M.map map.now) (M.node_slot map.now) touched.now searches.now limit }
+    requires within { IsWithin limit query.now }
+    ensures { IsTrue result ↔ IsKnownClear (M.map map.now) (changed_of touched.now) query.now }
 {
     if query.within > limit {
         return false;
@@ -122,7 +127,7 @@ fn is_clear<M: MapRead>(
     is_farther(before, after, query.within)
 }
 
-/// Whether it is known that each coverage query is clear.
+/// Whether each coverage query is on the map, within the greatest limit, and clear.
 pub(crate) fn are_clear<M: MapRead>(
     map: &M,
     touched: &ChangeSet,
@@ -130,8 +135,9 @@ pub(crate) fn are_clear<M: MapRead>(
     limit: u32,
     queries: &[CoverageQuery],
 ) -> bool
-    requires { AreDetours (M.map map.now) (M.node_slot map.now) touched.now searches.now limit }
-    ensures { IsTrue result → All (IsClear (M.map map.now) (changed_of touched.now)) queries.now }
+    requires detours { AreDetours (M.map map.now) (M.node_slot map.now) touched.now searches.now limit }
+    requires within { (l : QueryRecord) → Contains queries.now l → IsWithin limit l }
+    ensures { IsTrue result ↔ All (IsKnownClear (M.map map.now) (changed_of touched.now)) queries.now }
 {
     for query in queries {
         if !is_clear(map, touched, searches, limit, query) {

@@ -4,6 +4,7 @@ ghost use Rattle.std.specs.Result.{result_ok};
 ghost use Rattle.olr_refs.specs.Answers.{answer_of};
 ghost use Rattle.olr_commands.specs.Reply.{published_text};
 ghost use Rattle.olr_paths.specs.Items.{IsEncodingOf, made_of};
+ghost use Rattle.olr_paths.specs.Changes.{AreSearched};
 
 use crate::published::Published;
 use olr_binary::text::to_text;
@@ -36,6 +37,7 @@ pub fn publish<M: MapRead>(
     ensures made { IfOk result (λ p. IsEncodingOf (M.map map.now) path.now (made_of p)) }
     ensures counted { OnOk result
         (work.old.encodings + 1 < 2 ^ 64 → work.new.encodings ≡ work.old.encodings + 1) }
+    ensures searched { IfOk result (λ p. AreSearched (M.map map.now) (made_of p).queries work.old work.new) }
     ensures searches { OnOk result (work.old.searches ≤ work.new.searches) }
     ensures settled { OnOk result (work.old.settled ≤ work.new.settled) }
 {

@@ -1,13 +1,14 @@
 //! Paths that are added or replaced one at a time, and encoded at once.
-ghost use Rattle.std.specs.Prelude.{◌≡◌, ◌≢◌, ◌+◌, ◌^◌, ◌<◌, ◌≤◌, ◌⊎◌, [], ◌∷◌, ◌++◌, ℕ, Contains, false, Some};
-ghost use Rattle.std.specs.Prelude.{map as list_map, is_some, string_bytes, option_map, IfOk, OnOk, OnErr};
+ghost use Rattle.std.specs.Prelude.{◌≡◌, ◌≢◌, ◌+◌, ◌^◌, ◌<◌, ◌≤◌, ◌⊎◌, [], ◌∷◌, ◌++◌, ℕ, List, Contains, false};
+ghost use Rattle.std.specs.Prelude.{map as list_map, Some, is_some, string_bytes, option_map, IfOk, OnOk, OnErr};
 ghost use Rattle.olr_spec.specs.Encoding.{Answer};
 ghost use Rattle.olr_commands.specs.State.{path_named};
+ghost use Rattle.olr_commands.specs.Counts.{SearchedFor};
 ghost use Rattle.olr_commands.specs.Reply.{entry};
 ghost use Rattle.olr_commands.specs.Words.{entry_of};
 ghost use Rattle.olr_spec.specs.Queries.{CoverageQuery as QueryRecord};
 ghost use Rattle.olr_paths.specs.Items.{Made, IsEncodingOf, items, made_of, all_named, answer_in};
-ghost use Rattle.olr_paths.specs.Changes.{set_item};
+ghost use Rattle.olr_paths.specs.Changes.{AreSearched, set_item};
 ghost use Rattle.olr_paths.specs.Origins.{Begins, new_origins_in};
 
 use crate::begins::note_queries;
@@ -39,6 +40,8 @@ impl PathList {
             × (list_map entry_of es.items ≡ entry (string_bytes name) m.answer ∷ [])) }
         ensures counted { OnOk result
             (work.old.encodings + 1 < 2 ^ 64 → work.new.encodings ≡ work.old.encodings + 1) }
+        ensures searched { OnOk result ((queries : List QueryRecord) × SearchedFor (M.map map.now) path queries
+            × AreSearched (M.map map.now) queries work.old work.new) }
         ensures searches { OnOk result (work.old.searches ≤ work.new.searches) }
         ensures settled { OnOk result (work.old.settled ≤ work.new.settled) }
         ensures new_origins { OnOk result ((v : QueryRecord) → Begins (items self.new) v
@@ -81,6 +84,8 @@ impl PathList {
             × (list_map entry_of es.items ≡ entry name.now m.answer ∷ [])))) }
         ensures counted { OnOk result
             (work.old.encodings + 1 < 2 ^ 64 → work.new.encodings ≡ work.old.encodings + 1) }
+        ensures searched { OnOk result ((queries : List QueryRecord) × SearchedFor (M.map map.now) path queries
+            × AreSearched (M.map map.now) queries work.old work.new) }
         ensures searches { OnOk result (work.old.searches ≤ work.new.searches) }
         ensures settled { OnOk result (work.old.settled ≤ work.new.settled) }
         ensures new_origins { OnOk result ((v : QueryRecord) → Begins (items self.new) v

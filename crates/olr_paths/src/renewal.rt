@@ -1,21 +1,20 @@
 //! Encoding again the paths whose answer a change of the map may have changed.
-ghost use Rattle.std.specs.Prelude.{◌≡◌, ◌+◌, ◌<◌, ◌≤◌, ◌^◌, ◌↔◌, ℕ, Contains, Some, map as list_map, IsTrue, IfOk};
+ghost use Rattle.std.specs.Prelude.{◌≡◌, ◌≤◌, ◌↔◌, ℕ, Contains, Some, map as list_map, IsTrue, IfOk};
 ghost use Rattle.std.specs.Prelude.{IfSome, OnOk, OnErr};
 ghost use Rattle.olr_spec.specs.Map.{Map};
-ghost use Rattle.olr_commands.specs.Counts.{CountIs};
 ghost use Rattle.olr_commands.specs.Words.{entry_of};
 ghost use Rattle.std.specs.Prelude.{List};
 ghost use Rattle.olr_spec.specs.Detours.{ChangedLine};
 ghost use Rattle.olr_spec.specs.Queries.{CoverageQuery as QueryRecord};
 ghost use Rattle.olr_paths.specs.Items.{made_of, items, answer_in, all_named};
-ghost use Rattle.olr_paths.specs.Changes.{IsBefore, IsAffected, AreRemade, Reported, Follows};
+ghost use Rattle.olr_paths.specs.Changes.{IsBefore, Totals, AreTotals, AreCounted, AreRemade, Reported, Follows};
 ghost use Rattle.olr_paths.specs.Showing.{shown_items, shown_item};
 ghost use Rattle.olr_paths.specs.Touching.{nodes_of, lines_of, changed_of};
-ghost use Rattle.olr_paths.specs.Searching.{AreDetours, AreAsked};
+ghost use Rattle.olr_paths.specs.Searching.{AreDetours, AreAsked, AreReached};
 ghost use Rattle.olr_paths.specs.Candidates.{Covers};
 ghost use Rattle.std.specs.List.Sorted.{IsNonDecreasing};
 ghost use Rattle.olr_paths.specs.Origins.{BeginsPut, AreBoundsOf, new_origins_in};
-ghost use Rattle.olr_paths.specs.Renewing.{made_at, after_renewal, ReportsIfOther, IsActionFor, IsStep, OneMore};
+ghost use Rattle.olr_paths.specs.Renewing.{made_at, after_renewal, ReportsIfOther, IsActionFor, IsStep, OneSpared};
 
 use crate::actions::{Action, decide};
 use crate::asked::{Asked, ask};
@@ -45,7 +44,7 @@ pub(crate) struct Counted {
 impl Counted {
     /// Counts an encoding whose answer is retained.
     fn keep(&mut self)
-        ensures { OneMore self.old self.new }
+        ensures { OneSpared self.old self.new }
     {
         self.work.encodings = self.work.encodings.saturating_add(1);
         self.kept = self.kept.saturating_add(1);
@@ -144,6 +143,8 @@ fn renewal_by<M: MapRead>(
         asked.now.found.items }
     requires detours { IfSome asked.now.detours
         (AreDetours (M.map map.now) (M.node_slot map.now) touched.now searches.now) }
+    requires reached { AreReached (M.map map.now) (nodes_of touched.now) (lines_of touched.now)
+        (changed_of touched.now) asked.now.detours (shown_items overlaid) }
     requires follows { Follows (items before.now) (shown_items overlaid) }
     ensures renewed { IfOk result (λ r. (L : Map)
         → IsBefore L (M.map map.now) (nodes_of touched.now) (lines_of touched.now) (changed_of touched.now)
@@ -157,9 +158,9 @@ fn renewal_by<M: MapRead>(
     ensures counted { OnOk result ((L : Map)
         → IsBefore L (M.map map.now) (nodes_of touched.now) (lines_of touched.now) (changed_of touched.now)
         (shown_items overlaid.entry)
-        → (n : ℕ) × CountIs (IsAffected L (nodes_of touched.now) (lines_of touched.now)) (shown_items overlaid.entry) n
-        × (counted.old.work.encodings + n < 2 ^ 64 → counted.new.work.encodings ≡ counted.old.work.encodings + n)
-        × (counted.new.kept ≤ counted.old.kept + n)) }
+        → (t : Totals) × AreTotals L (M.map map.now) (nodes_of touched.now) (lines_of touched.now)
+        (changed_of touched.now) (shown_items overlaid.entry) t
+        × AreCounted (M.map map.now) t counted.old.work counted.new.work counted.old.kept counted.new.kept) }
     ensures searches { OnOk result (counted.old.work.searches ≤ counted.new.work.searches) }
     ensures settled { OnOk result (counted.old.work.settled ≤ counted.new.work.settled) }
     ensures kept { OnOk result (counted.old.kept ≤ counted.new.kept) }
@@ -211,9 +212,9 @@ pub(crate) fn renewal_of<M: MapRead>(
     ensures counted { OnOk result ((L : Map)
         → IsBefore L (M.map map.now) (nodes_of touched.now) (lines_of touched.now) (changed_of touched.now)
         (shown_items overlaid.entry)
-        → (n : ℕ) × CountIs (IsAffected L (nodes_of touched.now) (lines_of touched.now)) (shown_items overlaid.entry) n
-        × (work.old.encodings + n < 2 ^ 64 → work.new.encodings ≡ work.old.encodings + n)
-        × (kept.new ≤ kept.old + n)) }
+        → (t : Totals) × AreTotals L (M.map map.now) (nodes_of touched.now) (lines_of touched.now)
+        (changed_of touched.now) (shown_items overlaid.entry) t
+        × AreCounted (M.map map.now) t work.old work.new kept.old kept.new) }
     ensures searches { OnOk result (work.old.searches ≤ work.new.searches) }
     ensures settled { OnOk result (work.old.settled ≤ work.new.settled) }
     ensures kept { OnOk result (kept.old ≤ kept.new) }

@@ -1,13 +1,12 @@
 //! Encoding again the paths whose answer a change of the map may have changed, in place or in a list under changes.
-ghost use Rattle.std.specs.Prelude.{◌≡◌, ◌+◌, ◌<◌, ◌≤◌, ◌^◌, ◌⊎◌, ℕ, Contains, map as list_map, IsTrue, IfOk, OnOk};
+ghost use Rattle.std.specs.Prelude.{◌≡◌, ◌≤◌, ◌⊎◌, Contains, map as list_map, IfOk, OnOk};
 ghost use Rattle.std.specs.Prelude.{OnErr};
 ghost use Rattle.olr_spec.specs.Map.{Map};
-ghost use Rattle.olr_commands.specs.Counts.{CountIs};
 ghost use Rattle.olr_commands.specs.State.{NamesDiffer};
 ghost use Rattle.olr_commands.specs.Words.{entry_of};
 ghost use Rattle.olr_spec.specs.Queries.{CoverageQuery as QueryRecord};
 ghost use Rattle.olr_paths.specs.Items.{items, all_named};
-ghost use Rattle.olr_paths.specs.Changes.{IsBefore, IsAffected, AreRemade, Reported, Follows};
+ghost use Rattle.olr_paths.specs.Changes.{IsBefore, Totals, AreTotals, AreCounted, AreRemade, Reported, Follows};
 ghost use Rattle.olr_paths.specs.Laying.{TakesNone, overlay_changes, under_overlay};
 ghost use Rattle.olr_paths.specs.Touching.{nodes_of, lines_of, changed_of};
 ghost use Rattle.olr_paths.specs.Origins.{Begins, AreBoundsOf, new_origins_in};
@@ -29,7 +28,7 @@ use std::alloc::{AllocError, Global};
 impl PathList {
     /// Encodes on a map the paths that are new and those whose answer changes of it can have changed, and returns those
     /// whose answer changed. Each affected path is counted as an encoding; `spared` counts those of them that retained
-    /// their answer. The bounds are distance bounds that are right on the map, for all coverage queries of the list:
+    /// their answer, and `searches` the coverage queries of the others. The bounds are distance bounds that are right on the map, for all coverage queries of the list:
     /// they cut the search from touched nodes. If an allocation fails, list and counts are as before.
     pub fn renew<M: MapRead>(
         &mut self,
@@ -51,9 +50,9 @@ impl PathList {
         ensures counted { OnOk result ((L : Map)
             → IsBefore L (M.map map.now) (nodes_of touched.now) (lines_of touched.now) (changed_of touched.now)
             (items self.old)
-            → (n : ℕ) × CountIs (IsAffected L (nodes_of touched.now) (lines_of touched.now)) (items self.old) n
-            × (work.old.encodings + n < 2 ^ 64 → work.new.encodings ≡ work.old.encodings + n)
-            × (kept.new ≤ kept.old + n)) }
+            → (t : Totals) × AreTotals L (M.map map.now) (nodes_of touched.now) (lines_of touched.now)
+            (changed_of touched.now) (items self.old) t
+            × AreCounted (M.map map.now) t work.old work.new kept.old kept.new) }
         ensures searches { OnOk result (work.old.searches ≤ work.new.searches) }
         ensures settled { OnOk result (work.old.settled ≤ work.new.settled) }
         ensures kept { OnOk result (kept.old ≤ kept.new) }
@@ -100,11 +99,10 @@ impl PathList {
             (list_map entry_of es.items)) }
         ensures counted { OnOk result
             ((L : Map) → IsBefore L (M.map map.now) (nodes_of touched.now) (lines_of touched.now)
-            (changed_of touched.now) (under_overlay (items self.old) overlay.now) → (n : ℕ)
-            × CountIs (IsAffected L (nodes_of touched.now) (lines_of touched.now))
-            (under_overlay (items self.old) overlay.now) n
-            × (work.old.encodings + n < 2 ^ 64 → work.new.encodings ≡ work.old.encodings + n)
-            × (kept.new ≤ kept.old + n)) }
+            (changed_of touched.now) (under_overlay (items self.old) overlay.now) → (t : Totals)
+            × AreTotals L (M.map map.now) (nodes_of touched.now) (lines_of touched.now) (changed_of touched.now)
+            (under_overlay (items self.old) overlay.now) t
+            × AreCounted (M.map map.now) t work.old work.new kept.old kept.new) }
         ensures searches { OnOk result (work.old.searches ≤ work.new.searches) }
         ensures settled { OnOk result (work.old.settled ≤ work.new.settled) }
         ensures kept { OnOk result (kept.old ≤ kept.new) }
@@ -165,11 +163,10 @@ impl PathList {
         ensures reported { IfOk result (λ es. Reported (items self.old) (items self.new) (list_map entry_of es.items)) }
         ensures counted { OnOk result
             ((L : Map) → IsBefore L (M.map map.now) (nodes_of touched.now) (lines_of touched.now)
-            (changed_of touched.now) (under_overlay (items self.old) overlay.now) → (n : ℕ)
-            × CountIs (IsAffected L (nodes_of touched.now) (lines_of touched.now))
-            (under_overlay (items self.old) overlay.now) n
-            × (work.old.encodings + n < 2 ^ 64 → work.new.encodings ≡ work.old.encodings + n)
-            × (kept.new ≤ kept.old + n)) }
+            (changed_of touched.now) (under_overlay (items self.old) overlay.now) → (t : Totals)
+            × AreTotals L (M.map map.now) (nodes_of touched.now) (lines_of touched.now) (changed_of touched.now)
+            (under_overlay (items self.old) overlay.now) t
+            × AreCounted (M.map map.now) t work.old work.new kept.old kept.new) }
         ensures searches { OnOk result (work.old.searches ≤ work.new.searches) }
         ensures settled { OnOk result (work.old.settled ≤ work.new.settled) }
         ensures kept { OnOk result (kept.old ≤ kept.new) }

@@ -1,22 +1,21 @@
-use Rattle.std.proofs.Common.{Option, Bor, subst}
-use Rattle.std.specs.Prelude.{IfSome}
-use Rattle.olr_paths.specs.Items.{made_of}
-use Rattle.olr_paths.specs.Searching.{IsAsked}
-use Rattle.olr_paths.specs.Showing.{shown_items, shown_item}
-use Rattle.olr_paths.specs.declared.published.Published.{Published}
-use Rattle.olr_paths.proofs.AskedLemmas.{listed_at, made_if}
+use Rattle.std.proofs.Common.{ℕ, List, refl, subst, arith}
+use Rattle.std.proofs.lemmas.List.{take_all}
+use Rattle.olr_paths.specs.Showing.{shown_items}
+use Rattle.olr_paths.specs.Touching.{nodes_of, lines_of}
+use Rattle.olr_paths.specs.Candidates.{AreLongest}
+use Rattle.olr_paths.proofs.AskedLemmas.{longest_more}
 use Rattle.olr_paths.proofs.asked.longest.Goals as goal
 
-pub is_touched-requires : goal.is_touched-requires
-is_touched-requires g c =
-    let N = g.M.MapRead.map c.args.map.now in
-    let slot = g.M.MapRead.node_slot c.args.map.now in
-    let t = c.args.touched.now in
-    let s = c.args.searches.now in
-    let shown = c.in-Some.shown in
-    let asked : IfSome shown.published (λ p. IsAsked N slot t s (made_of p.now)) =
-    made_if (λ p. made_of p.now) (IsAsked N slot t s) shown.published
-    (c.requires (shown_item shown)
-    (listed_at (shown_items c.args.overlaid) _ (shown_item shown) c.in-Some.ensures.shown)) in
-    subst (λ (o : Option (Bor Published)). IfSome o (λ p. IsAsked N slot t s (made_of p.now))) c.in-Some-published.is
-    asked
+pub loop-position-preserved : goal.loop-position-preserved
+loop-position-preserved g c =
+    longest_more (g.M.MapRead.map c.args.map.now) (nodes_of c.args.touched.now) (lines_of c.args.touched.now)
+    (shown_items c.args.overlaid) c.loop-position.longest c.longest_at.result c.greater-longest.result c.args.found.now
+    c.loop-position.position-index _ c.loop-position-test.true refl c.loop-position.invariant c.longest_at.ensures
+    c.greater-longest.ensures.first c.greater-longest.ensures.second
+
+pub returns : goal.returns
+returns g c =
+    subst (AreLongest (g.M.MapRead.map c.args.map.now) (nodes_of c.args.touched.now) (lines_of c.args.touched.now)
+    (shown_items c.args.overlaid) c.loop-position.longest)
+    (take_all c.loop-position.position-index c.args.found.now (omega (arith, c.loop-position-test.false)))
+    c.loop-position.invariant

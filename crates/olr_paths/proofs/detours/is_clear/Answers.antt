@@ -5,7 +5,8 @@ use Rattle.olr_paths.specs.Touching.{changed_of}
 use Rattle.olr_spec.specs.Map.{has_node}
 use Rattle.olr_spec.specs.Queries.{CoverageQuery}
 use Rattle.olr_paths.specs.Searching.{starts, ends, AreFarther}
-use Rattle.olr_paths.proofs.Distances.{ReturnsDistance, all_starts, all_ends, clear_by, starts_are, ends_are}
+use Rattle.olr_paths.proofs.Distances.{ReturnsDistance, all_starts, all_ends, clear_by, clear_only, starts_are}
+use Rattle.olr_paths.proofs.Distances.{ends_are}
 use Rattle.olr_paths.proofs.detours.is_clear.Goals as goal
 
 pub returns : goal.returns
@@ -31,15 +32,28 @@ returns g c =
     let before : ReturnsDistance N Against (all_starts C) l.from (limit_of s.before) c.dist_at-before.result =
     subst (λ (xs : List (ℕ × ℕ)). ReturnsDistance N Against xs l.from (limit_of s.before) c.dist_at-before.result)
     (starts_are t)
-    (λ d. c.dist_at-before.ensures N slot Against (starts t) l.from d c.requires.before from_there from_at) in
+    (λ d. c.dist_at-before.ensures N slot Against (starts t) l.from d c.requires.detours.before from_there from_at) in
     let after : ReturnsDistance N Along (all_ends C) l.to (limit_of s.after) c.dist_at-after.result =
     subst (λ (xs : List (ℕ × ℕ)). ReturnsDistance N Along xs l.to (limit_of s.after) c.dist_at-after.result)
     (ends_are t)
-    (λ d. c.dist_at-after.ensures N slot Along (ends t) l.to d c.requires.after to_there to_at) in
+    (λ d. c.dist_at-after.ensures N slot Along (ends t) l.to d c.requires.detours.after to_there to_at) in
     let below : raw.within ≤ c.args.limit = c.if-query-limit.false in
-    let first : l.within ≤ limit_of s.before = omega (arith, below, within_is, c.requires.before_limit) in
-    let second : l.within ≤ limit_of s.after = omega (arith, below, within_is, c.requires.after_limit) in
-    λ yes. clear_by N (g.met.M.MapRead.sound c.args.map.now) C l.from l.to l.within (limit_of s.before)
-    (limit_of s.after) from_there to_there first second c.dist_at-before.result c.dist_at-after.result before after
-    (subst (λ (d : ℕ). AreFarther c.dist_at-before.result c.dist_at-after.result d) within_is
-    (c.is_farther.ensures yes))
+    let first : l.within ≤ limit_of s.before = omega (arith, below, within_is, c.requires.detours.before_limit) in
+    let second : l.within ≤ limit_of s.after = omega (arith, below, within_is, c.requires.detours.after_limit) in
+    let sound = g.met.M.MapRead.sound c.args.map.now in (
+      (λ yes. (
+        record {
+          from = from_there;
+          to = to_there;
+          within = omega (arith, below, within_is, c.requires.detours.most);
+        },
+        clear_by N sound C l.from l.to l.within (limit_of s.before) (limit_of s.after) from_there to_there first second
+            c.dist_at-before.result c.dist_at-after.result before after
+            (subst (λ (d : ℕ). AreFarther c.dist_at-before.result c.dist_at-after.result d) within_is
+            (c.is_farther.ensures.0 yes)),
+      )),
+      (λ k. c.is_farther.ensures.1 (subst (λ (d : ℕ). AreFarther c.dist_at-before.result c.dist_at-after.result d)
+      (sym within_is)
+      (clear_only N sound C l.from l.to l.within (limit_of s.before) (limit_of s.after) from_there to_there first second
+      c.dist_at-before.result c.dist_at-after.result before after k.1))),
+    )

@@ -9,3 +9,7 @@ returns-clause-searches g c =
 
 pub returns-clause-settled : goal.returns-clause-settled
 returns-clause-settled g c = c.in_ok-answer.ensures.settled_rises (omega arith)
+
+pub returns-clause-searched : goal.returns-clause-searched
+returns-clause-searched g c =
+    record { searches = c.in_ok-answer.ensures.searches; settled = c.in_ok-answer.ensures.settled_exactly }

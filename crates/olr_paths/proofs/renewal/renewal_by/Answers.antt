@@ -19,6 +19,11 @@ decide-action-requires-clause-asked g c =
     (c.requires.asked (shown_item shown)
     (listed_at (shown_items c.args.overlaid) _ (shown_item shown) c.in-Some.ensures.shown))
 
+pub decide-action-requires-clause-reached : goal.decide-action-requires-clause-reached
+decide-action-requires-clause-reached g c =
+    c.requires.reached (shown_item c.in-Some.shown)
+    (listed_at (shown_items c.args.overlaid) _ (shown_item c.in-Some.shown) c.in-Some.ensures.shown)
+
 pub loop-candidate-init : goal.loop-candidate-init
 loop-candidate-init g c = (
   so_far_none (g.M.MapRead.map c.args.map.now) (nodes_of c.args.touched.now) (lines_of c.args.touched.now)

@@ -40,6 +40,13 @@ returns-clause-counted g c = c.in_ok-published.ensures.counted
 pub returns-clause-searches : goal.returns-clause-searches
 returns-clause-searches g c = c.in_ok-published.ensures.searches
 
+pub returns-clause-searched : goal.returns-clause-searched
+returns-clause-searched g c = (
+  (made_of c.in_ok-published.published).queries,
+  c.in_ok-published.ensures.made.queries,
+  c.in_ok-published.ensures.searched,
+)
+
 pub returns-clause-settled : goal.returns-clause-settled
 returns-clause-settled g c = c.in_ok-published.ensures.settled
 

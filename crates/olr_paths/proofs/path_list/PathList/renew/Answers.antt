@@ -1,11 +1,10 @@
-use Rattle.std.proofs.Common.{◌≡◌, ◌+◌, ◌<◌, ◌≤◌, ◌^◌, ◌⊎◌, ℕ, List, Contains, sym, subst}
+use Rattle.std.proofs.Common.{◌≡◌, ◌⊎◌, List, Contains, sym, subst}
 use Rattle.std.specs.Prelude.{OnOk}
 use Rattle.olr_spec.specs.Map.{Map}
-use Rattle.olr_commands.specs.Counts.{CountIs}
 use Rattle.olr_commands.specs.State.{NamesDiffer}
 use Rattle.olr_spec.specs.Queries.{CoverageQuery}
 use Rattle.olr_paths.specs.Items.{Item, items, all_named}
-use Rattle.olr_paths.specs.Changes.{IsBefore, IsAffected, AreRemade, Follows}
+use Rattle.olr_paths.specs.Changes.{IsBefore, Totals, AreTotals, AreCounted, AreRemade, Follows}
 use Rattle.olr_paths.specs.Origins.{Begins, AreBoundsOf, new_origins_in}
 use Rattle.olr_paths.specs.Touching.{nodes_of, lines_of, changed_of}
 use Rattle.olr_paths.proofs.Following.{follows_self}
@@ -46,10 +45,9 @@ returns-clause-counted g c =
     let old = c.args.work.now in
     let new = c.renew_overlaid.new.work in
     subst (λ (is : List Item). OnOk c.renew_overlaid.result
-    ((L : Map) → IsBefore L N (nodes_of t) (lines_of t) (changed_of t) is → (n : ℕ)
-    × CountIs (IsAffected L (nodes_of t) (lines_of t)) is n
-    × (old.encodings + n < 2 ^ 64 → new.encodings ≡ old.encodings + n)
-    × (c.renew_overlaid.new.kept ≤ c.args.kept.now + n)))
+    ((L : Map) → IsBefore L N (nodes_of t) (lines_of t) (changed_of t) is → (u : Totals)
+    × AreTotals L N (nodes_of t) (lines_of t) (changed_of t) is u
+    × AreCounted N u old new c.args.kept.now c.renew_overlaid.new.kept))
     (c.new-none.ensures (items c.args.self.now)) c.renew_overlaid.ensures.counted
 
 pub returns-clause-new_origins : goal.returns-clause-new_origins

@@ -1,4 +1,4 @@
-use Rattle.std.proofs.Common.{arith, ◌≡◌, ◌∷◌, [], ◌++◌, ℕ, Some, ap, ◌∙◌, subst}
+use Rattle.std.proofs.Common.{refl, arith, ◌≡◌, ◌∷◌, [], ◌++◌, ℕ, Some, ap, ◌∙◌, subst}
 use Rattle.std.proofs.lemmas.List.{map-append}
 use Rattle.std.specs.Prelude.{option_map}
 use Rattle.olr_spec.specs.Extension.{Path}
@@ -42,12 +42,13 @@ returns-in_ok-push-in-Encode g c = λ T X C f.
     c.in_ok-push_if_changed-in-Encode.ensures
     (record {
       encodings = c.in_ok-published-in-Encode.ensures.counted;
+      spared = refl;
+      searched = c.in_ok-published-in-Encode.ensures.searched;
       ascends =
           record {
             searches = c.in_ok-published-in-Encode.ensures.searches;
             settled =
                 c.in_ok-published-in-Encode.ensures.settled;
             kept = omega arith;
-            spared = omega arith;
           };
     })

@@ -1,0 +1,72 @@
+-- The ends of a coverage query are traversed nodes: if none of these is touched, they are on the next map too.
+use Rattle.std.proofs.Common.{inl, inr, ◌≡◌, ◌+◌, ◌<◌, ℕ, true, false, List, [], ◌∷◌, length, Contains, Option, Some, None}
+use Rattle.std.proofs.Common.{MatchOption, IsTrue, refl, sym, ap, ◌∙◌, subst, is_some, arith}
+use Rattle.std.specs.List.{slice_index}
+use Rattle.std.proofs.lemmas.Bool.{cases_Bool}
+use Rattle.olr_spec.specs.Map.{Map, IsMap, has_node, has_line, start, end, has, SameRound}
+use Rattle.olr_spec.specs.Coordinates.{Coord}
+use Rattle.olr_spec.specs.Routes.{IsRoute}
+use Rattle.olr_spec.specs.Extension.{Path, is_path, first, last, extended_path}
+use Rattle.olr_spec.specs.Encoding.{Refusal, path_fault}
+use Rattle.olr_spec.specs.Queries.{TraversedOfExtended, TraversedOf, CoverageQuery, QueriesOfExtended, QueriesOf}
+use Rattle.olr_spec.proofs.ListLemmas.{Each-cons, has_index}
+use Rattle.olr_spec.proofs.JoinedLemmas.{extended_joined}
+use Rattle.olr_spec.proofs.QueryLists.{query_from}
+use Rattle.olr_paths.specs.Changes.{IsOnMap}
+use Rattle.olr_paths.proofs.QueryLengths.{within_limit}
+
+route_lines : (M : Map) (s v : ℕ) (xs : List ℕ) → IsRoute M s v xs → (x : ℕ) → has xs x ≡ true → IsTrue (has_line M x)
+route_lines M s v [] w = λ x on. let never : ⊥ = cc (on) in absurd never
+route_lines M s v (y ∷ ys) w =
+    Each-cons (λ x. IsTrue (has_line M x)) y ys w.0 (route_lines M (end M y) v ys w.2)
+
+module _ (M N : Map) (m : IsMap M) (T : List ℕ) (rounds : (v : ℕ) → has T v ≡ false → SameRound M N v) (P : Path)
+    (is : IsTrue (is_path P.lines)) where
+  ends_on_map : (queries : List CoverageQuery) → path_fault M P ≡ None → QueriesOfExtended M P queries →
+      ((v : ℕ) → has T v ≡ true → ¬ TraversedOfExtended M P v) → (l : CoverageQuery) → Contains queries l →
+      IsTrue (has_node N l.from) × IsTrue (has_node N l.to)
+  ends_on_map queries e o free l on =
+      let ls = (extended_path M P o.before o.after).lines in
+      let r = query_from M ls (0 ∷ o.points) queries o.holds l on in
+      let i : ℕ = r.0 in
+      let k : ℕ = r.3.0 in
+      let tested = r.3.1 in
+      let is_l = r.3.2 in
+      let inside : i + 2 < length ls = r.2 in
+      let x : ℕ = slice_index ls i in
+      let y : ℕ = slice_index ls k in
+      let joined : IsRoute M (start M (first ls)) (end M (last ls)) ls =
+      extended_joined M P is e o.before o.after o.tried in
+      let x_in : has ls x ≡ true = has_index ls i (omega arith) in
+      let y_in : has ls y ≡ true = has_index ls k tested.inside in
+      let x_there = route_lines M (start M (first ls)) (end M (last ls)) ls joined x x_in in
+      let y_there = route_lines M (start M (first ls)) (end M (last ls)) ls joined y y_in in (
+        subst (λ (v : ℕ). IsTrue (has_node N v)) (sym (ap (λ (q : CoverageQuery). q.from) is_l))
+            (stays (end M x)
+            (record { before = o.before; after = o.after; tried = o.tried; traversed = inl (x, x_in, inr refl) })
+            (m.ends x x_there)),
+        subst (λ (v : ℕ). IsTrue (has_node N v)) (sym (ap (λ (q : CoverageQuery). q.to) is_l))
+            (stays (start M y)
+            (record { before = o.before; after = o.after; tried = o.tried; traversed = inl (y, y_in, inl refl) })
+            (m.starts y y_there)),
+      )
+    where
+      stays : (v : ℕ) → TraversedOfExtended M P v → IsTrue (has_node M v) → IsTrue (has_node N v)
+      stays v t there =
+          elim (cases_Bool (has T v)) [
+            | inl touched ↦ absurd (free v touched t)
+            | inr off ↦ sym (ap (λ (c : Option Coord). is_some c) (rounds v off).place) ∙ there
+          ]
+
+  pub on_map : (queries : List CoverageQuery) → QueriesOf M P queries → ((v : ℕ) → has T v ≡ true →
+      ¬ TraversedOf M P v) → (l : CoverageQuery) → Contains queries l → IsOnMap N l
+  on_map queries o free l on =
+      let both = by (path_fault M P) refl o free in
+      record { from = both.0; to = both.1; within = within_limit M P queries o l on }
+    where
+      by : (f : Option Refusal) → path_fault M P ≡ f → MatchOption f (QueriesOfExtended M P queries) (λ _. queries ≡ [])
+          → ((v : ℕ) → has T v ≡ true → ¬ MatchOption f (TraversedOfExtended M P v) (λ _. ⊥))
+          → IsTrue (has_node N l.from) × IsTrue (has_node N l.to)
+      by None e h none = ends_on_map queries e h none l on
+      by (Some r) e h none = absurd (let long : length queries ≡ 0 = ap (λ (ks : List CoverageQuery). length ks) h in
+          let lt = on.1 in omega arith)
