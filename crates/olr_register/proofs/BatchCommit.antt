@@ -9,14 +9,15 @@ use Rattle.olr_commands.specs.State.{Named, Content, Memory, Count_differs, when
 use Rattle.olr_commands.specs.State.{changes_made, IsContent}
 use Rattle.olr_commands.specs.Reply as replies
 use Rattle.olr_commands.specs.Reply.{IsRefusal, ByState, Lacks, IsOutcome, may_want}
-use Rattle.olr_commands.specs.Counts.{Affects, CountIs, Raises}
+use Rattle.olr_commands.specs.Counts.{Affects, CountIs, Raises, Retains, EncodesAgain, Spares, SearchedFor, Collects}
+use Rattle.olr_commands.specs.Counts.{Searches}
 use Rattle.olr_commands.specs.Words.{entry_of, reply_of}
 use Rattle.olr_commands.specs.declared.reply.Entry.{Entry}
 use Rattle.olr_commands.specs.declared.reply.Reply.{Reply}
 use Rattle.olr_commands.specs.declared.fault.CommandFault.TheVariants as rust
 use Rattle.olr_paths.specs.Items.{Item, AreEncodings, all_named}
 use Rattle.olr_paths.specs.Laying.{under_overlay}
-use Rattle.olr_paths.specs.Changes.{IsBefore, IsAffected, AreRemade, Reported}
+use Rattle.olr_paths.specs.Changes.{IsBefore, Totals, AreTotals, AreSearched, AreCounted, AreRemade, Reported}
 use Rattle.olr_paths.specs.Touching.{nodes_of, lines_of, changed_of}
 use Rattle.olr_register.specs.RegisterState.{IsBatchOf, Represents}
 use Rattle.olr_register.specs.Registered.{Registered}
@@ -27,7 +28,7 @@ use Rattle.olr_register.proofs.Tallies.{Tally, of_parts}
 use Rattle.olr_register.proofs.Noted.{is_before}
 use Rattle.olr_register.proofs.Renewed.{remade_made}
 use Rattle.olr_register.proofs.Replies.{planned_changes}
-use Rattle.olr_register.proofs.Counting.{counted_changes}
+use Rattle.olr_register.proofs.Counting.{counted_changes, spared_changes, searched_changes}
 use Rattle.olr_register.proofs.HoldLists.{named_twice}
 use Rattle.olr_register.proofs.HoldChanges.{content_from, content_on}
 use Rattle.olr_register.proofs.Outcomes.{answered_refused}
@@ -122,32 +123,68 @@ commit_held roads new is js o p b e g reg same remade names =
       held = tt;
     })
 
--- how many encodings a commit counts
-commit_raises : (roads new : RoadMap) (is js : List Item) (b : Batch) (n many : ℕ) →
-    all_named js ≡ all_named (under_overlay is b.overlay)
-    → CountIs (IsAffected (map_before roads b.log) (nodes_of b.touched) (lines_of b.touched))
-    (under_overlay is b.overlay) many
-    → (s t : State) → Represents
-    (record { content = content_on (map_before roads b.log) is; batch = Some (batch_of roads is b) }) s →
-    Represents (record { content = content_on (map_of new) js; batch = None }) t
-    → Raises s (Commit n) t many
-commit_raises roads new is js b n many names count s t h g =
-    let c : Content = content_on (map_before roads b.log) is in
-    in_batch c (batch_of roads is b)
-    (λ a. CountIs (Affects a.content (changes_made a (Commit n))) t.content.paths many)
-    (λ xs i.
-    subst (λ (ps : List Named). CountIs (Affects c xs) ps many) (sym names ∙ ap (λ (d : Content). d.paths) g.0)
-    (counted_changes c xs (nodes_of b.touched) (lines_of b.touched) i.nodes i.lines (under_overlay is b.overlay) many
-    i.given count)) s h
+-- by how much a commit raises the counts
+module _ (roads new : RoadMap) (is js : List Item) (b : Batch) (n : ℕ) (u : Totals)
+    (same : map_of new ≡ map_of roads) (names : all_named js ≡ all_named (under_overlay is b.overlay))
+    (totals : AreTotals (map_before roads b.log) (map_of roads) (nodes_of b.touched) (lines_of b.touched)
+    (changed_of b.touched) (under_overlay is b.overlay) u) where
+  abbrev c : Content
+  c = content_on (map_before roads b.log) is
 
-module _ (roads new : RoadMap) (is js : List Item) (b : Batch) (w v : Tally) (n many : ℕ) (r : Reply) (es : List Entry)
+  abbrev d : Content
+  d = content_on (map_of new) js
+
+  abbrev HeldBy : State → Type 0
+  HeldBy s = Represents (record { content = c; batch = Some (batch_of roads is b) }) s
+
+  abbrev LeadsTo : State → Type 0
+  LeadsTo t = Represents (record { content = d; batch = None }) t
+
+  totals_new : AreTotals c.map d.map (nodes_of b.touched) (lines_of b.touched) (changed_of b.touched)
+      (under_overlay is b.overlay) u
+  totals_new =
+      subst (λ (M : Map). AreTotals (map_before roads b.log) M (nodes_of b.touched) (lines_of b.touched)
+      (changed_of b.touched) (under_overlay is b.overlay) u) (sym same) totals
+
+  pub commit_raises : (s t : State) → HeldBy s → LeadsTo t → Raises s (Commit n) t u.affected
+  commit_raises s t h g =
+      in_batch c (batch_of roads is b)
+      (λ a. CountIs (Affects a.content (changes_made a (Commit n))) t.content.paths u.affected)
+      (λ xs i.
+      subst (λ (ps : List Named). CountIs (Affects c xs) ps u.affected) (sym names ∙ ap (λ (e : Content). e.paths) g.0)
+      (counted_changes c d xs (nodes_of b.touched) (lines_of b.touched) (changed_of b.touched) i.nodes i.lines i.changed
+      (under_overlay is b.overlay) u totals_new i.given)) s h
+
+  pub commit_spares : (s t : State) → HeldBy s → LeadsTo t → Spares s (Commit n) t u.spared
+  commit_spares s t h g =
+      in_batch c (batch_of roads is b)
+      (λ a. CountIs (Retains a.content t.content (changes_made a (Commit n))) t.content.paths u.spared)
+      (λ xs i.
+      subst (λ (e : Content). CountIs (Retains c e xs) e.paths u.spared) g.0
+      (subst (λ (ps : List Named). CountIs (Retains c d xs) ps u.spared) (sym names)
+      (spared_changes c d xs (nodes_of b.touched) (lines_of b.touched) (changed_of b.touched) i.nodes i.lines i.changed
+      (under_overlay is b.overlay) u totals_new i.given))) s h
+
+  pub commit_searches : (s t : State) → HeldBy s → LeadsTo t → Searches s (Commit n) t u.queries
+  commit_searches s t h g =
+      in_batch c (batch_of roads is b)
+      (λ a. Collects (EncodesAgain a.content t.content (changes_made a (Commit n)))
+      (λ p. SearchedFor t.content.map p.path) t.content.paths u.queries)
+      (λ xs i.
+      subst (λ (e : Content). Collects (EncodesAgain c e xs) (λ p. SearchedFor e.map p.path) e.paths u.queries) g.0
+      (subst (λ (ps : List Named). Collects (EncodesAgain c d xs) (λ p. SearchedFor d.map p.path) ps u.queries)
+      (sym names)
+      (searched_changes c d xs (nodes_of b.touched) (lines_of b.touched) (changed_of b.touched) i.nodes i.lines
+      i.changed
+      (under_overlay is b.overlay) u totals_new i.given))) s h
+
+module _ (roads new : RoadMap) (is js : List Item) (b : Batch) (w v : Tally) (n : ℕ) (u : Totals) (r : Reply) (es : List Entry)
     (returned : reply_of r ≡ replies.Paths (map entry_of es)) (right : b.count ≡ n)
     (same : map_of new ≡ map_of roads) (remade : AreRemade (map_of roads) (under_overlay is b.overlay) js)
     (names : all_named js ≡ all_named (under_overlay is b.overlay)) (reported : Reported is js (map entry_of es))
-    (count : CountIs (IsAffected (map_before roads b.log) (nodes_of b.touched) (lines_of b.touched))
-    (under_overlay is b.overlay) many)
-    (encodings : w.work.encodings + many < 2 ^ 64 → v.work.encodings ≡ w.work.encodings + many)
-    (spared : v.spared ≤ w.spared + many)
+    (totals : AreTotals (map_before roads b.log) (map_of roads) (nodes_of b.touched) (lines_of b.touched)
+    (changed_of b.touched) (under_overlay is b.overlay) u)
+    (counts : AreCounted (map_of roads) u w.work v.work w.spared v.spared)
     (searches : w.work.searches ≤ v.work.searches) (settled : w.work.settled ≤ v.work.settled)
     (rises : w.spared ≤ v.spared) where
   commit_answered : IsRegister roads is (Some b) →
@@ -171,8 +208,16 @@ module _ (roads new : RoadMap) (is js : List Item) (b : Batch) (w v : Tally) (n 
                     (made_after roads new is js b same remade) reported),
               ),
             ));
-        counted = λ s t h g. (many, commit_raises roads new is js b n many names count s t h g, encodings);
-        spares = λ s t h g. (many, commit_raises roads new is js b n many names count s t h g, spared);
+        counted =
+            λ s t h g. (u.affected, commit_raises roads new is js b n u same names totals s t h g, counts.encodings);
+        spares = λ s t h g. (u.spared, commit_spares roads new is js b n u same names totals s t h g, counts.spared);
+        searches =
+            λ s t h g. (
+              u.queries,
+              commit_searches roads new is js b n u same names totals s t h g,
+              subst (λ (e : Content). AreSearched e.map u.queries w.work v.work) g.0
+                  (subst (λ (M : Map). AreSearched M u.queries w.work v.work) (sym same) counts.searched),
+            );
         rises = record { searches = searches; settled = settled; spared = rises };
         same = λ off. let no : true ≡ false = off in absurd cc;
         unchanged = tt;

@@ -145,6 +145,7 @@ empty_batch roads is b a e =
       count = e.count;
       nodes = λ v. ap (λ (vs : List ℕ). has vs v) e.nodes;
       lines = λ y. ap (λ (ys : List ℕ). has ys y) e.lines;
+      changed = e.changed;
       given =
           subst (λ (ks : List Item). AreGiven [] (map held_of ks)) (sym (e.paths is))
           (given_at_first (map_of roads) is a);

@@ -5,12 +5,13 @@ use Rattle.std.specs.Prelude.{◌==◌, ◌&&◌, ◌||◌, nat_le, flat_map}
 use Rattle.std.proofs.lemmas.List.{append-nil, length_push}
 use Rattle.std.proofs.lemmas.List.Folds.{list_any-append}
 use Rattle.olr_spec.specs.Map.{has}
+use Rattle.olr_spec.specs.Detours.{ChangedLine}
 use Rattle.olr_commands.specs.State.{Content, Fault, Batch_full, full, when, Change, On_map, Add_path, Set_path}
 use Rattle.olr_commands.specs.State.{Drop_path, with_change, next, after, State, Make, into_batch, step, changes_made}
 use Rattle.olr_commands.specs.Reply as replies
 use Rattle.olr_commands.specs.Reply.{IsRefusal, IsOutcome, IsChangeReply, takes_memory, may_want, may_lack}
 use Rattle.olr_commands.specs.Reply.{is_reported_first}
-use Rattle.olr_commands.specs.Counts.{nodes_of_change, lines_of_change, names_of_change, all_nodes, all_lines}
+use Rattle.olr_commands.specs.Counts.{nodes_of_change, lines_of_change, changed_by, names_of_change, all_nodes, all_lines, all_changed}
 use Rattle.olr_commands.specs.Counts.{all_names}
 use Rattle.olr_commands.specs.Words.{command_fault_of, reply_of}
 use Rattle.olr_commands.specs.declared.reply.Reply.{Reply}
@@ -24,6 +25,13 @@ use Rattle.olr_register.proofs.Outcomes.{answered_uncounted, answered_refused}
 use Rattle.olr_register.proofs.BatchStates.{state, register_of, in_batch}
 
 -- ---- the held changes, with one more
+
+changed_push : (c : Content) (xs : List Change) (x : Change) →
+    all_changed c (xs ++ x ∷ []) ≡ all_changed c xs ++ changed_by (after c xs).map x
+changed_push c [] x = append-nil (changed_by c.map x)
+changed_push c (y ∷ xs) x =
+    ap (λ (cs : List ChangedLine). changed_by c.map y ++ cs) (changed_push (next c y) xs x)
+    ∙ sym (append_assoc (changed_by c.map y) (all_changed (next c y) xs) (changed_by (after (next c y) xs).map x))
 
 nodes_push : (c : Content) (xs : List Change) (x : Change) →
     all_nodes c (xs ++ x ∷ []) ≡ all_nodes c xs ++ nodes_of_change (after c xs).map x
@@ -75,6 +83,9 @@ one_more c b d xs x i a =
           a.lines y ∙ ap (λ (t : Bool). t || has (lines_of_change x) y) (i.lines y)
           ∙ sym (list_any-append (λ (z : ℕ). z == y) (all_lines xs) (lines_of_change x))
           ∙ ap (λ (ys : List ℕ). has ys y) (sym (flat_push lines_of_change xs x));
+      changed =
+          a.changed ∙ ap (λ (cs : List ChangedLine). cs ++ changed_by b.map x) i.changed
+          ∙ ap (λ (e : Content). all_changed c xs ++ changed_by e.map x) i.content ∙ sym (changed_push c xs x);
       given =
           subst (λ (names : List (List ℕ)). AreGiven names d.paths) (sym (flat_push names_of_change xs x))
           (a.given (all_names xs) i.given);

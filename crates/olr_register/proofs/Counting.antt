@@ -1,16 +1,26 @@
 -- How many paths the changes affect, counted by the stored results; none if there are no changes.
-use Rattle.std.proofs.Common.{inl, inr, ◌≡◌, ℕ, true, List, [], ◌∷◌, map, Option, Some, None, refl, sym, ap, ◌∙◌, subst}
+use Rattle.std.proofs.Common.{inl, inr, ◌≡◌, ℕ, ◌≤◌, true, false, List, [], ◌∷◌, map, length, All, Option, Some, None}
+use Rattle.std.proofs.Common.{refl, sym, ap, ◌∙◌, subst, arith}
 use Rattle.std.specs.Prelude.{is_none}
 use Rattle.std.specs.List.{list_any, AllByRecursion}
-use Rattle.olr_spec.specs.Map.{has}
-use Rattle.olr_commands.specs.State.{Content, same_name, Change, State, Command, changes_made}
+use Rattle.std.proofs.lemmas.Bool.{both_ways}
+use Rattle.olr_spec.specs.Map.{Map, has}
+use Rattle.olr_spec.specs.Extension.{Path}
+use Rattle.olr_spec.specs.Detours.{ChangedLine}
+use Rattle.olr_spec.specs.Queries.{CoverageQuery, IsClear}
+use Rattle.olr_commands.specs.State.{Named, Content, same_name, Change, State, Command, changes_made}
 use Rattle.olr_commands.specs.Counts.{Affects, By_name, By_node, By_line, CountIs, Raises, all_nodes, all_lines}
-use Rattle.olr_commands.specs.Counts.{all_names}
+use Rattle.olr_commands.specs.Counts.{all_changed, all_names, most_changed, IsUnchanged, Retains, EncodesAgain, Spares}
+use Rattle.olr_commands.specs.Counts.{RisesBy, SearchedFor, Collects, Searches}
 use Rattle.olr_paths.specs.Items.{Made, Item, named_of, all_named}
-use Rattle.olr_paths.specs.Changes.{IsAffected}
+use Rattle.olr_paths.specs.Changes.{IsAffected, IsSpared, IsEncodedAgain, Totals, AreTotals}
 use Rattle.olr_paths.specs.Changes as made
 use Rattle.olr_register.specs.Holding.{held_of}
 use Rattle.olr_commands.proofs.CountLemmas.{unconcerned}
+
+some_made : (o : Option Made) → (o ≡ None → ⊥) → is_none o ≡ false
+some_made None h = absurd (h refl)
+some_made (Some m) h = refl
 
 none_made : (o : Option Made) → is_none o ≡ true → o ≡ None
 none_made None e = refl
@@ -31,22 +41,125 @@ module _ (c : Content) (changes : List Change) (ns xs : List ℕ)
   made_by_affects i given (By_node v h f) = made.By_node v (same_nodes v ∙ h) f
   made_by_affects i given (By_line x h f) = made.By_line x (same_lines x ∙ h) f
 
-  pub counted_changes : (is : List Item) (n : ℕ) →
-      AllByRecursion (λ h. h.given ≡ list_any (same_name h.name) (all_names changes)) (map held_of is)
-      → CountIs (IsAffected c.map ns xs) is n → CountIs (Affects c changes) (all_named is) n
-  counted_changes [] n given count = count
-  counted_changes (i ∷ is) n given (inl h) =
-      inl (affects_by_made i given.0 h.0, (h.1.0, counted_changes is h.1.0 given.1 h.1.1, h.1.2))
-  counted_changes (i ∷ is) n given (inr h) =
-      inr ((λ k. h.0 (made_by_affects i given.0 k)), counted_changes is n given.1 h.1)
+-- ---- the items of a list, and the paths of a content
+
+abbrev Given : List (List ℕ) → Item → Type 0
+Given names i = is_none i.made ≡ list_any (same_name i.name) names
+
+module _ (names : List (List ℕ)) (P : Item → Type 0) (Q : Named → Type 0)
+    (to : (i : Item) → Given names i → P i → Q (named_of i))
+    (back : (i : Item) → Given names i → Q (named_of i) → P i) where
+  count_named : (is : List Item) (n : ℕ) →
+      AllByRecursion (λ h. h.given ≡ list_any (same_name h.name) names) (map held_of is) → CountIs P is n →
+      CountIs Q (all_named is) n
+  count_named [] n given count = count
+  count_named (i ∷ is) n given (inl h) =
+      inl (to i given.0 h.0, (h.1.0, count_named is h.1.0 given.1 h.1.1, h.1.2))
+  count_named (i ∷ is) n given (inr h) = inr ((λ k. h.0 (back i given.0 k)), count_named is n given.1 h.1)
+
+  collect_named : (N : Map) (is : List Item) (queries : List CoverageQuery) →
+      AllByRecursion (λ h. h.given ≡ list_any (same_name h.name) names) (map held_of is)
+      → Collects P (λ i. SearchedFor N i.path) is queries →
+      Collects Q (λ p. SearchedFor N p.path) (all_named is) queries
+  collect_named N [] queries given h = h
+  collect_named N (i ∷ is) queries given (inl h) =
+      inl (to i given.0 h.0, (h.1.0, h.1.1, h.1.2, collect_named N is h.1.1 given.1 h.1.3, h.1.4))
+  collect_named N (i ∷ is) queries given (inr h) =
+      inr ((λ k. h.0 (back i given.0 k)), collect_named N is queries given.1 h.1)
+
+module _ (M N : Map) (T X U Y : List ℕ) (C D : List ChangedLine) (P : Path) where
+  unchanged_moves : ((v : ℕ) → has T v ≡ has U v) → ((x : ℕ) → has X x ≡ has Y x) → C ≡ D →
+      IsUnchanged M N T X C P → IsUnchanged M N U Y D P
+  unchanged_moves nodes lines same u = record {
+    few = subst (λ (cs : List ChangedLine). length cs ≤ most_changed) same u.few;
+    traversed = λ v on. u.traversed v (nodes v ∙ on);
+    lines = λ x on. u.lines x (lines x ∙ on);
+    clear =
+        λ queries q. subst (λ (cs : List ChangedLine). All (IsClear N cs) queries) same (u.clear queries q);
+  }
+
+module _ (c d : Content) (changes : List Change) (ns xs : List ℕ) (cs : List ChangedLine)
+    (same_nodes : (v : ℕ) → has ns v ≡ has (all_nodes c changes) v)
+    (same_lines : (x : ℕ) → has xs x ≡ has (all_lines changes) x) (same_changed : cs ≡ all_changed c changes) where
+  affects_to : (i : Item) → Given (all_names changes) i → IsAffected c.map ns xs i → Affects c changes (named_of i)
+  affects_to = affects_by_made c changes ns xs same_nodes same_lines
+
+  affects_back : (i : Item) → Given (all_names changes) i → Affects c changes (named_of i) → IsAffected c.map ns xs i
+  affects_back = made_by_affects c changes ns xs same_nodes same_lines
+
+  retains_to : (i : Item) → Given (all_names changes) i → IsSpared c.map d.map ns xs cs i →
+      Retains c d changes (named_of i)
+  retains_to i given h = record {
+    affected = affects_to i given h.affected;
+    unnamed = sym given ∙ some_made i.made h.made;
+    unchanged =
+        unchanged_moves c.map d.map ns xs (all_nodes c changes) (all_lines changes) cs (all_changed c changes) i.path
+        same_nodes same_lines same_changed h.unchanged;
+  }
+
+  retains_back : (i : Item) → Given (all_names changes) i → Retains c d changes (named_of i) →
+      IsSpared c.map d.map ns xs cs i
+  retains_back i given h = record {
+    made = λ e. let on : is_none i.made ≡ true = ap (λ (o : Option Made). is_none o) e in
+        both_ways (is_none i.made) (given ∙ h.unnamed) on;
+    affected = affects_back i given h.affected;
+    unchanged =
+        unchanged_moves c.map d.map (all_nodes c changes) (all_lines changes) ns xs (all_changed c changes) cs i.path
+        (λ v. sym (same_nodes v)) (λ x. sym (same_lines x)) (sym same_changed) h.unchanged;
+  }
+
+  encodes_to : (i : Item) → Given (all_names changes) i → IsEncodedAgain c.map d.map ns xs cs i →
+      EncodesAgain c d changes (named_of i)
+  encodes_to i given h = (affects_to i given h.0, λ k. h.1 (retains_back i given k))
+
+  encodes_back : (i : Item) → Given (all_names changes) i → EncodesAgain c d changes (named_of i) →
+      IsEncodedAgain c.map d.map ns xs cs i
+  encodes_back i given h = (affects_back i given h.0, λ k. h.1 (retains_to i given k))
+
+  module _ (is : List Item) (t : Totals) (totals : AreTotals c.map d.map ns xs cs is t)
+      (given : AllByRecursion (λ h. h.given ≡ list_any (same_name h.name) (all_names changes)) (map held_of is)) where
+    pub counted_changes : CountIs (Affects c changes) (all_named is) t.affected
+    counted_changes =
+        count_named (all_names changes) (IsAffected c.map ns xs) (Affects c changes) affects_to affects_back is
+        t.affected given totals.affected
+
+    pub spared_changes : CountIs (Retains c d changes) (all_named is) t.spared
+    spared_changes =
+        count_named (all_names changes) (IsSpared c.map d.map ns xs cs) (Retains c d changes) retains_to retains_back is
+        t.spared given totals.spared
+
+    pub searched_changes : Collects (EncodesAgain c d changes) (λ p. SearchedFor d.map p.path) (all_named is) t.queries
+    searched_changes =
+        collect_named (all_names changes) (IsEncodedAgain c.map d.map ns xs cs) (EncodesAgain c d changes) encodes_to
+        encodes_back d.map is t.queries given totals.queries
 
 -- ---- a count of 0
+
+pub rises_none : (n : ℕ) → RisesBy n 0 n
+rises_none n = ((λ few. omega arith), omega arith)
 
 pub none_counted : {A : Type 0} (P : A → Type 0) → ((x : A) → ¬ P x) → (xs : List A) → CountIs P xs 0
 none_counted P none [] = refl
 none_counted P none (x ∷ xs) = inr (none x, none_counted P none xs)
 
+pub none_collected : (E : Named → Type 0) (Q : Named → List CoverageQuery → Type 0) → ((p : Named) → ¬ E p) →
+    (ps : List Named) → Collects E Q ps []
+none_collected E Q none [] = refl
+none_collected E Q none (p ∷ ps) = inr (none p, none_collected E Q none ps)
+
 pub raises_none : (s t : State) (x : Command) → changes_made s x ≡ [] → Raises s x t 0
 raises_none s t x e =
     subst (λ (ys : List Change). CountIs (Affects s.content ys) t.content.paths 0) (sym e)
     (none_counted (Affects s.content []) (unconcerned s.content) t.content.paths)
+
+pub spares_none : (s t : State) (x : Command) → changes_made s x ≡ [] → Spares s x t 0
+spares_none s t x e =
+    subst (λ (ys : List Change). CountIs (Retains s.content t.content ys) t.content.paths 0) (sym e)
+    (none_counted (Retains s.content t.content []) (λ p h. unconcerned s.content p h.affected) t.content.paths)
+
+pub searches_none : (s t : State) (x : Command) → changes_made s x ≡ [] → Searches s x t []
+searches_none s t x e =
+    subst (λ (ys : List Change). Collects (EncodesAgain s.content t.content ys)
+    (λ p. SearchedFor t.content.map p.path) t.content.paths []) (sym e)
+    (none_collected (EncodesAgain s.content t.content []) (λ p. SearchedFor t.content.map p.path)
+    (λ p h. unconcerned s.content p h.0) t.content.paths)

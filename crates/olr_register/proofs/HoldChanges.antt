@@ -1,11 +1,12 @@
 -- What an open batch makes of a change, in terms of its parts.
 use Rattle.std.proofs.Common.{inl, inr, ◌⊎◌, ◌≡◌, ℕ, ◌+◌, arith, Bool, true, false, not, List, [], ◌∷◌, ◌++◌, map}
-use Rattle.std.proofs.Common.{filter, None, Result, Ok, Err, refl, sym, ap, ◌∙◌, subst}
+use Rattle.std.proofs.Common.{append-nil, filter, None, Result, Ok, Err, refl, sym, ap, ◌∙◌, subst}
 use Rattle.std.specs.Prelude.{◌||◌, nat_le}
 use Rattle.std.proofs.Math.Bool.{or-false}
 use Rattle.std.proofs.lemmas.Bool.{leb-false}
 use Rattle.olr_spec.specs.Map.{Map, has}
 use Rattle.olr_spec.specs.Extension.{Path, is_path}
+use Rattle.olr_spec.specs.Detours.{ChangedLine}
 use Rattle.olr_map.specs.RoadMaps.{map_of, map_before}
 use Rattle.olr_map.specs.declared.road_map.RoadMap.{RoadMap}
 use Rattle.olr_commands.specs.State.{Named, Content, same_name, with_path, Fault, Memory, Batch_full}
@@ -13,7 +14,7 @@ use Rattle.olr_commands.specs.State.{Path_exists, No_path, Bad_path, full, when,
 use Rattle.olr_commands.specs.State.{with_change, Make, HasCoords, IsContent}
 use Rattle.olr_commands.specs.Reply as replies
 use Rattle.olr_commands.specs.Reply.{is_reported_first}
-use Rattle.olr_commands.specs.Counts.{nodes_of_change, lines_of_change, names_of_change}
+use Rattle.olr_commands.specs.Counts.{nodes_of_change, lines_of_change, changed_by, names_of_change}
 use Rattle.olr_commands.specs.Words.{command_fault_of, reply_of}
 use Rattle.olr_commands.specs.declared.reply.Reply.{Reply}
 use Rattle.olr_commands.specs.declared.fault.CommandFault.{CommandFault}
@@ -42,8 +43,9 @@ content_from M ps = record { map = M; paths = ps }
 abbrev pub content_on : Map → List Item → Content
 content_on M is = content_from M (all_named is)
 
-abbrev pub batch_on : Map → List Item → ℕ → List ℕ → List ℕ → kept.Batch
-batch_on M is n ns ys = record { map = M; paths = map held_of is; count = n; nodes = ns; lines = ys }
+abbrev pub batch_on : Map → List Item → ℕ → List ℕ → List ℕ → List ChangedLine → kept.Batch
+batch_on M is n ns ys cs =
+    record { map = M; paths = map held_of is; count = n; nodes = ns; lines = ys; changed = cs }
 
 abbrev of_batch : Map → List Item → Content
 of_batch M is = content_from M (map kept.named_held (map held_of is))
@@ -76,34 +78,34 @@ reported_memory b d x f room e first same =
       unchanged = same;
     }
 
-pub given_reported : (M : Map) (is js : List Item) (n : ℕ) (ns ys : List ℕ) (x : Change) (f : CommandFault) →
+pub given_reported : (M : Map) (is js : List Item) (n : ℕ) (ns ys : List ℕ) (cs : List ChangedLine) (x : Change) (f : CommandFault) →
     nat_le full n ≡ false → with_change (content_on M is) x ≡ Err (command_fault_of f) → js ≡ is
-    → HoldsChange (batch_on M is n ns ys) x (Err f) (batch_on M js n ns ys)
-given_reported M is js n ns ys x f room e same =
-    reported_first (batch_on M is n ns ys) (batch_on M js n ns ys) x f room
+    → HoldsChange (batch_on M is n ns ys cs) x (Err f) (batch_on M js n ns ys cs)
+given_reported M is js n ns ys cs x f room e same =
+    reported_first (batch_on M is n ns ys cs) (batch_on M js n ns ys cs) x f room
     (ap (λ (c : Content). with_change c x) (same_content M is) ∙ e)
-    (ap (λ (ks : List Item). batch_on M ks n ns ys) same)
+    (ap (λ (ks : List Item). batch_on M ks n ns ys cs) same)
 
-pub given_lacks : (M : Map) (is js : List Item) (n : ℕ) (ns ys : List ℕ) (x : Change) (f : CommandFault) →
+pub given_lacks : (M : Map) (is js : List Item) (n : ℕ) (ns ys : List ℕ) (cs : List ChangedLine) (x : Change) (f : CommandFault) →
     nat_le full n ≡ false
     → command_fault_of f ≡ Memory → ((g : Fault) → with_change (content_on M is) x ≡ Err g →
     is_reported_first g ≡ false) →
     js ≡ is
-    → HoldsChange (batch_on M is n ns ys) x (Err f) (batch_on M js n ns ys)
-given_lacks M is js n ns ys x f room e first same =
-    reported_memory (batch_on M is n ns ys) (batch_on M js n ns ys) x f room e
+    → HoldsChange (batch_on M is n ns ys cs) x (Err f) (batch_on M js n ns ys cs)
+given_lacks M is js n ns ys cs x f room e first same =
+    reported_memory (batch_on M is n ns ys cs) (batch_on M js n ns ys cs) x f room e
     (λ g h. first g (sym (ap (λ (c : Content). with_change c x) (same_content M is)) ∙ h))
-    (ap (λ (ks : List Item). batch_on M ks n ns ys) same)
+    (ap (λ (ks : List Item). batch_on M ks n ns ys cs) same)
 
 -- ---- held
 
-pub given_held_path : (M : Map) (is js ks : List Item) (n : ℕ) (ns ys : List ℕ) (x : Change) (r : Reply) →
+pub given_held_path : (M : Map) (is js ks : List Item) (n : ℕ) (ns ys : List ℕ) (cs : List ChangedLine) (x : Change) (r : Reply) →
     nat_le full n ≡ false → with_change (content_on M is) x ≡ Ok (content_on M js) → ks ≡ js
-    → nodes_of_change M x ≡ [] → lines_of_change x ≡ [] →
+    → nodes_of_change M x ≡ [] → lines_of_change x ≡ [] → changed_by M x ≡ [] →
     ((names : List (List ℕ)) → AreGiven names (map held_of is) →
     AreGiven (names ++ names_of_change x) (map held_of js)) → reply_of r ≡ replies.Held (n + 1)
-    → HoldsChange (batch_on M is n ns ys) x (Ok r) (batch_on M ks (n + 1) ns ys)
-given_held_path M is js ks n ns ys x r room e same no_nodes no_lines given returned =
+    → HoldsChange (batch_on M is n ns ys cs) x (Ok r) (batch_on M ks (n + 1) ns ys cs)
+given_held_path M is js ks n ns ys cs x r room e same no_nodes no_lines no_changed given returned =
     record {
       added = record {
         content =
@@ -114,6 +116,7 @@ given_held_path M is js ks n ns ys x r room e same no_nodes no_lines given retur
         count = omega arith;
         nodes = λ v. sym (ap (λ (vs : List ℕ). has ns v || has vs v) no_nodes ∙ or-false (has ns v));
         lines = λ y. sym (ap (λ (zs : List ℕ). has ys y || has zs y) no_lines ∙ or-false (has ys y));
+        changed = sym (ap (λ (ds : List ChangedLine). cs ++ ds) no_changed ∙ append-nil cs);
         given =
             λ names g. subst (λ (is : List Item). AreGiven (names ++ names_of_change x) (map held_of is)) (sym same)
             (given names g);
@@ -196,11 +199,11 @@ bad_path_last false c g e = absurd cc
 never_refused : (c : Content) (g : Fault) → ◌≡◌ {A = Result Content Fault} (Ok c) (Err g) → is_reported_first g ≡ false
 never_refused c g e = absurd cc
 
-pub given_not_dropped : (M : Map) (is js : List Item) (n : ℕ) (ns ys name : List ℕ) → nat_le full n ≡ false →
+pub given_not_dropped : (M : Map) (is js : List Item) (n : ℕ) (ns ys : List ℕ) (cs : List ChangedLine) (name : List ℕ) → nat_le full n ≡ false →
     has_name is name ≡ true → js ≡ is
-    → HoldsChange (batch_on M is n ns ys) (Drop_path name) (Err rust.Memory) (batch_on M js n ns ys)
-given_not_dropped M is js n ns ys name room there same =
-    given_lacks M is js n ns ys (Drop_path name) rust.Memory room refl
+    → HoldsChange (batch_on M is n ns ys cs) (Drop_path name) (Err rust.Memory) (batch_on M js n ns ys cs)
+given_not_dropped M is js n ns ys cs name room there same =
+    given_lacks M is js n ns ys cs (Drop_path name) rust.Memory room refl
     (λ g h. never_refused (content_on M (filter (λ i. not (same_name i.name name)) is)) g
     (sym (drop_ok M is name there) ∙ h)) same
 
@@ -244,36 +247,36 @@ held_path roads before b l js x same room e placed made follows begins h =
 
 -- ---- a new path, and a replaced one
 
-pub given_bad_path : (M : Map) (is : List Item) (n : ℕ) (ns ys : List ℕ) (x : Change) (to : Content) (lines : List ℕ)
+pub given_bad_path : (M : Map) (is : List Item) (n : ℕ) (ns ys : List ℕ) (cs : List ChangedLine) (x : Change) (to : Content) (lines : List ℕ)
     (f : CommandFault) → nat_le full n ≡ false
     → with_change (content_on M is) x ≡ when (not (is_path lines)) Bad_path (Ok to) → (f ≡ rust.Memory)
     ⊎ ((f ≡ rust.BadPath) × (is_path lines ≡ false))
-    → HoldsChange (batch_on M is n ns ys) x (Err f) (batch_on M is n ns ys)
-given_bad_path M is n ns ys x to lines f room path (inl e) =
-    given_lacks M is is n ns ys x f room (ap command_fault_of e)
+    → HoldsChange (batch_on M is n ns ys cs) x (Err f) (batch_on M is n ns ys cs)
+given_bad_path M is n ns ys cs x to lines f room path (inl e) =
+    given_lacks M is is n ns ys cs x f room (ap command_fault_of e)
     (λ g h. bad_path_last (not (is_path lines)) to g (sym path ∙ h)) refl
-given_bad_path M is n ns ys x to lines f room path (inr (e, bad)) =
-    given_reported M is is n ns ys x f room (path ∙ ap (λ (t : Bool). when (not t) Bad_path (Ok to)) bad
+given_bad_path M is n ns ys cs x to lines f room path (inr (e, bad)) =
+    given_reported M is is n ns ys cs x f room (path ∙ ap (λ (t : Bool). when (not t) Bad_path (Ok to)) bad
     ∙ ap (λ (g : CommandFault). Err (command_fault_of g)) (sym e)) refl
 
-pub given_no_room : (M : Map) (is js : List Item) (n : ℕ) (ns ys : List ℕ) (x : Change) (to : Content)
+pub given_no_room : (M : Map) (is js : List Item) (n : ℕ) (ns ys : List ℕ) (cs : List ChangedLine) (x : Change) (to : Content)
     (lines : List ℕ) → nat_le full n ≡ false
     → with_change (content_on M is) x ≡ when (not (is_path lines)) Bad_path (Ok to) → js ≡ is →
-    HoldsChange (batch_on M is n ns ys) x (Err rust.Memory) (batch_on M js n ns ys)
-given_no_room M is js n ns ys x to lines room path same =
-    given_lacks M is js n ns ys x rust.Memory room refl (λ g h. bad_path_last (not (is_path lines)) to g (sym path ∙ h))
+    HoldsChange (batch_on M is n ns ys cs) x (Err rust.Memory) (batch_on M js n ns ys cs)
+given_no_room M is js n ns ys cs x to lines room path same =
+    given_lacks M is js n ns ys cs x rust.Memory room refl (λ g h. bad_path_last (not (is_path lines)) to g (sym path ∙ h))
     same
 
 abbrev pub one_added : List Item → List ℕ → Path → List Item
 one_added is name path = is ++ record { name = name; path = path; made = None } ∷ []
 
-pub given_added : (M : Map) (is ks : List Item) (n : ℕ) (ns ys name : List ℕ) (path p : Path) (r : Reply) →
+pub given_added : (M : Map) (is ks : List Item) (n : ℕ) (ns ys : List ℕ) (cs : List ChangedLine) (name : List ℕ) (path p : Path) (r : Reply) →
     nat_le full n ≡ false → has_name is name ≡ false → is_path path.lines ≡ true → p ≡ path
     → ks ≡ one_added is name p → reply_of r ≡ replies.Held (n + 1) →
-    HoldsChange (batch_on M is n ns ys) (Add_path name path) (Ok r) (batch_on M ks (n + 1) ns ys)
-given_added M is ks n ns ys name path p r room free good same_path same returned =
-    given_held_path M is (one_added is name path) ks n ns ys (Add_path name path) r room
-    (add_ok M is name path free good) (same ∙ ap (one_added is name) same_path) refl refl
+    HoldsChange (batch_on M is n ns ys cs) (Add_path name path) (Ok r) (batch_on M ks (n + 1) ns ys cs)
+given_added M is ks n ns ys cs name path p r room free good same_path same returned =
+    given_held_path M is (one_added is name path) ks n ns ys cs (Add_path name path) r room
+    (add_ok M is name path free good) (same ∙ ap (one_added is name) same_path) refl refl refl
     (λ names g. given_add name path names is free g) returned
 
 pub held_added : (roads : RoadMap) (before : List Item) (b : Batch) (l : Overlay) (name : List ℕ) (path p : Path) →
@@ -292,13 +295,13 @@ held_added roads before b l name path p room free good same_path same h =
 abbrev pub one_set : List Item → List ℕ → Path → List Item
 one_set is name path = map (set_item name path None) is
 
-pub given_other : (M : Map) (is ks : List Item) (n : ℕ) (ns ys name : List ℕ) (path p : Path) (r : Reply) →
+pub given_other : (M : Map) (is ks : List Item) (n : ℕ) (ns ys : List ℕ) (cs : List ChangedLine) (name : List ℕ) (path p : Path) (r : Reply) →
     nat_le full n ≡ false → has_name is name ≡ true → is_path path.lines ≡ true → p ≡ path
     → ks ≡ one_set is name p → reply_of r ≡ replies.Held (n + 1) →
-    HoldsChange (batch_on M is n ns ys) (Set_path name path) (Ok r) (batch_on M ks (n + 1) ns ys)
-given_other M is ks n ns ys name path p r room there good same_path same returned =
-    given_held_path M is (one_set is name path) ks n ns ys (Set_path name path) r room
-    (set_ok M is name path there good) (same ∙ ap (one_set is name) same_path) refl refl
+    HoldsChange (batch_on M is n ns ys cs) (Set_path name path) (Ok r) (batch_on M ks (n + 1) ns ys cs)
+given_other M is ks n ns ys cs name path p r room there good same_path same returned =
+    given_held_path M is (one_set is name path) ks n ns ys cs (Set_path name path) r room
+    (set_ok M is name path there good) (same ∙ ap (one_set is name) same_path) refl refl refl
     (λ names g. given_set name path names is g) returned
 
 pub held_other : (roads : RoadMap) (before : List Item) (b : Batch) (l : Overlay) (name : List ℕ) (path p : Path) →

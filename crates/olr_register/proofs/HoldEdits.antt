@@ -42,13 +42,14 @@ pub edit_lacks : (b d : kept.Batch) (e : Edit) (f : CommandFault) (N : Map) → 
 edit_lacks b d e f N room ok lacks same =
     reported_memory b d (On_map e) f room lacks (λ g h. no_first (content_of b) (edited b.map e) N g ok h) same
 
--- the batch is the same if map and touched nodes and lines are
+-- the batch is the same if the map, the touched nodes and lines and the changed lines are
 pub same_batch : (old new : RoadMap) (before : List Item) (b : Batch) (log : UndoLog) (t : ChangeSet) →
-    map_of new ≡ map_of old → nodes_of t ≡ nodes_of b.touched → lines_of t ≡ lines_of b.touched
+    map_of new ≡ map_of old → nodes_of t ≡ nodes_of b.touched → lines_of t ≡ lines_of b.touched →
+    changed_of t ≡ changed_of b.touched
     → batch_of new before (record { log = log; overlay = b.overlay; count = b.count; touched = t })
     ≡ batch_of old before b
-same_batch old new before b log t same nodes lines =
-    λ i. batch_on (same i) (under_overlay before b.overlay) b.count (nodes i) (lines i)
+same_batch old new before b log t same nodes lines changed =
+    λ i. batch_on (same i) (under_overlay before b.overlay) b.count (nodes i) (lines i) (changed i)
 
 -- ---- held
 

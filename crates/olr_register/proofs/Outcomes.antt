@@ -17,7 +17,7 @@ use Rattle.olr_commands.specs.declared.fault.CommandFault.{CommandFault}
 use Rattle.olr_register.specs.RegisterState.{RegisterState, Represents}
 use Rattle.olr_register.specs.Registered.{Registered}
 use Rattle.olr_register.specs.Answering.{Answered}
-use Rattle.olr_register.proofs.Counting.{raises_none}
+use Rattle.olr_register.proofs.Counting.{raises_none, spares_none, searches_none, rises_none}
 
 -- an accepted command that applies no change raises no count
 pub answered_uncounted : (old : Registered) (k : RegisterState) (c : Command) (r : Reply) →
@@ -27,7 +27,10 @@ pub answered_uncounted : (old : Registered) (k : RegisterState) (c : Command) (r
 answered_uncounted old k c r none outcome = record {
   outcome = outcome;
   counted = λ s t represents later. (0, raises_none s t c (none s represents), λ few. sym (add-zero _));
-  spares = λ s t represents later. (0, raises_none s t c (none s represents), omega arith);
+  spares = λ s t represents later. (0, spares_none s t c (none s represents), rises_none old.spared);
+  searches =
+      λ s t represents later.
+      ([], searches_none s t c (none s represents), record { searches = refl; settled = refl });
   rises = record { searches = omega arith; settled = omega arith; spared = omega arith };
   same = λ e. (refl, refl);
   unchanged = tt;
@@ -49,6 +52,7 @@ answered_refused old new c f same h =
       outcome = λ s represents. (s, represents, (h s represents, refl));
       counted = tt;
       spares = tt;
+      searches = tt;
       rises = tt;
       same = tt;
       unchanged = refl;

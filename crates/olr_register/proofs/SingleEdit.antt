@@ -16,13 +16,12 @@ use Rattle.olr_commands.specs.State.{Named, Content, IsContent, Fault, Map_fault
 use Rattle.olr_commands.specs.State.{at_once, Make}
 use Rattle.olr_commands.specs.Reply as returned
 use Rattle.olr_commands.specs.Reply.{takes_memory, may_want}
-use Rattle.olr_commands.specs.Counts.{CountIs}
 use Rattle.olr_commands.specs.Words.{reply_of, command_fault_of, map_fault_of}
 use Rattle.olr_commands.specs.declared.reply.Reply.{Reply}
 use Rattle.olr_commands.specs.declared.fault.CommandFault.{CommandFault}
 use Rattle.olr_commands.specs.declared.fault.CommandFault.TheVariants as fault
 use Rattle.olr_paths.specs.Items.{Item, all_named}
-use Rattle.olr_paths.specs.Changes.{IsBefore, IsAffected, AreRemade, Reported}
+use Rattle.olr_paths.specs.Changes.{IsBefore, Totals, AreTotals, AreCounted, AreRemade, Reported}
 use Rattle.olr_paths.specs.Touching.{nodes_of, lines_of, changed_of}
 use Rattle.olr_paths.specs.declared.change_set.ChangeSet.{ChangeSet}
 use Rattle.olr_register.specs.Registered.{Registered}
@@ -147,10 +146,9 @@ module _ (roads later : RoadMap) (is js : List Item) (b : Option Batch) (w : Tal
       pub edit_keeps : IsRegister later js b
       edit_keeps = is_closed later js b was_closed all_renewed.content all_renewed.made
 
-      module _ (u : Tally) (q : Reply) (n : ℕ) (says : reply_of q ≡ returned.Paths es)
-          (count : CountIs (IsAffected (map_of roads) ns xs) is n)
-          (encodings : w.work.encodings + n < 2 ^ 64 → u.work.encodings ≡ w.work.encodings + n)
-          (spared : u.spared ≤ w.spared + n)
+      module _ (u : Tally) (q : Reply) (t : Totals) (says : reply_of q ≡ returned.Paths es)
+          (totals : AreTotals (map_of roads) (map_of later) ns xs cs is t)
+          (counts : AreCounted (map_of later) t w.work u.work w.spared u.spared)
           (falls : NoneFalls (of_parts roads is None w) (of_parts later js None u)) where
         edit_answered : Answered (of_parts roads is None w) (Make (On_map e)) (Ok q) (of_parts later js None u)
         edit_answered =
@@ -160,8 +158,9 @@ module _ (roads later : RoadMap) (is js : List Item) (b : Option Batch) (w : Tal
             ∙ ap (λ (ps : List Named). Ok (record { map = map_of later; paths = ps })) (sym names) in
             accepted_now (of_parts roads is None w) (of_parts later js None u) (On_map e) q es refl refl there says
             all_renewed.differences
-            (tallied_edit (of_parts roads is None w) (of_parts later js None u) (map_of roads) is e ns xs n refl refl
-            names was_right.made nodes lines count (record { encodings = encodings; spared = spared }) falls)
+            (tallied_edit (of_parts roads is None w) (of_parts later js None u) (map_of roads) (map_of later) is e ns xs
+            cs t refl refl (λ i. record { map = map_of later; paths = names i }) was_right.made nodes lines
+            changed_lines totals counts falls)
 
         pub edit_done : Answered x (Make (On_map e)) (Ok q) (of_parts later js b u)
         edit_done =
@@ -186,10 +185,12 @@ module _ (roads later : RoadMap) (is : List Item) (b : Option Batch) (w : Tally)
   none_reported : Reported is is []
   none_reported = subst (λ (js : List Item). Reported js js []) (sym bare) refl
 
-  none_affected : CountIs (IsAffected (map_of roads) (touched_nodes (map_of roads) e) (touched_lines e)) is 0
+  none_affected : AreTotals (map_of roads) (map_of later) (touched_nodes (map_of roads) e) (touched_lines e)
+      (changes_of (map_of roads) e) is (record { affected = 0; spared = 0; queries = [] })
   none_affected =
-      subst (λ (js : List Item). CountIs (IsAffected (map_of roads) (touched_nodes (map_of roads) e) (touched_lines e))
-      js 0) (sym bare) refl
+      subst (λ (js : List Item). AreTotals (map_of roads) (map_of later) (touched_nodes (map_of roads) e)
+      (touched_lines e) (changes_of (map_of roads) e) js (record { affected = 0; spared = 0; queries = [] })) (sym bare)
+      (record { affected = refl; spared = refl; queries = refl })
 
   pub bare_keeps : IsRegister later is b
   bare_keeps =
@@ -201,5 +202,10 @@ module _ (roads later : RoadMap) (is : List Item) (b : Option Batch) (w : Tally)
   bare_done q says =
       edit_done roads later is is b w x e [] view none right place taken (touched_nodes (map_of roads) e)
       (touched_lines e) (changes_of (map_of roads) e) (λ v. refl) (λ y. refl) refl none_remade refl none_reported
-      w q 0 says none_affected (λ few. sym (add-zero _)) (omega arith)
+      w q (record { affected = 0; spared = 0; queries = [] }) says none_affected
+      (record {
+        encodings = λ few. sym (add-zero _);
+        spared = ((λ few. omega arith), omega arith);
+        searched = record { searches = refl; settled = refl };
+      })
       (record { searches = omega arith; settled = omega arith; spared = omega arith })

@@ -4,6 +4,7 @@ use Rattle.std.proofs.Common.{◌∷◌, ◌++◌, map, Option, Some, None, is_s
 use Rattle.std.proofs.Common.{subst}
 use Rattle.std.specs.List.{filter}
 use Rattle.olr_spec.specs.Extension.{Path, is_path}
+use Rattle.olr_spec.specs.Queries.{CoverageQuery}
 use Rattle.olr_map.specs.RoadMaps.{map_of}
 use Rattle.olr_map.specs.declared.road_map.RoadMap.{RoadMap}
 use Rattle.olr_commands.specs.State as state
@@ -16,9 +17,10 @@ use Rattle.olr_commands.specs.Words.{reply_of, command_fault_of}
 use Rattle.olr_commands.specs.declared.reply.Reply.{Reply}
 use Rattle.olr_commands.specs.declared.fault.CommandFault.{CommandFault}
 use Rattle.olr_commands.specs.declared.fault.CommandFault.TheVariants as fault
+use Rattle.olr_commands.specs.Counts.{SearchedFor}
 use Rattle.olr_commands.proofs.StateLemmas.{changes_keep}
 use Rattle.olr_paths.specs.Items.{Made, Item, IsEncodingOf, AreEncodings, all_named, answer_in}
-use Rattle.olr_paths.specs.Changes.{set_item}
+use Rattle.olr_paths.specs.Changes.{AreSearched, set_item}
 use Rattle.olr_register.specs.Registered.{Registered}
 use Rattle.olr_register.specs.Holding.{IsRegister}
 use Rattle.olr_register.specs.Answering.{Answered}
@@ -157,9 +159,6 @@ module _ (roads : RoadMap) (is : List Item) (b : Option Batch) (w : Tally) (x : 
       u.spared ≡ w.spared → NoneFalls (of_parts roads is None w) (of_parts roads js None u)
   none_fall js w u searches settled kept = record { searches = searches; settled = settled; spared = omega arith }
 
-  spared_one : (w u : Tally) → u.spared ≡ w.spared → u.spared ≤ w.spared + 1
-  spared_one w u kept = omega arith
-
   module _ (path : Path) (m : Made) (good : IsTrue (is_path path.lines))
       (encoded : IsEncodingOf (map_of roads) path m) where
     abbrev list_added : List Item
@@ -183,9 +182,10 @@ module _ (roads : RoadMap) (is : List Item) (b : Option Batch) (w : Tally) (x : 
         has_path x.kept.content name ≡ false → js ≡ list_added → reply_of q ≡ returned.Paths es →
         es ≡ entry name m.answer ∷ []
         → (w.work.encodings + 1 < 2 ^ 64 → u.work.encodings ≡ w.work.encodings + 1)
-        → w.work.searches ≤ u.work.searches → w.work.settled ≤ u.work.settled → u.spared ≡ w.spared →
-        Answered x (Make (Add_path name target)) (Ok q) (of_parts roads js b u)
-    add_done target js u q es along free same says listed counts searches settled kept =
+        → w.work.searches ≤ u.work.searches → w.work.settled ≤ u.work.settled → u.spared ≡ w.spared
+        → (queries : List CoverageQuery) → SearchedFor (map_of roads) path queries →
+        AreSearched (map_of roads) queries w.work u.work → Answered x (Make (Add_path name target)) (Ok q) (of_parts roads js b u)
+    add_done target js u q es along free same says listed counts searches settled kept queries made searched =
         subst (λ (p : Path). Answered x (Make (Add_path name p)) (Ok q) (of_parts roads js b u)) along
         (subst (λ (ks : List Item). Answered x (Make (Add_path name path)) (Ok q) (of_parts roads ks b u)) (sym same)
         (reach roads is list_added b w u x (Make (Add_path name path)) q view was_closed
@@ -193,8 +193,8 @@ module _ (roads : RoadMap) (is : List Item) (b : Option Batch) (w : Tally) (x : 
         (is_added free) says
         (reported_add (map_of roads) is name path m es was_right.content was_right.made (named_in false free) encoded
         listed)
-        (tallied_add (of_parts roads is None w) (of_parts roads list_added None u) name path was_right.content refl refl
-        (is_added free) (record { encodings = counts; spared = spared_one w u kept })
+        (tallied_add (of_parts roads is None w) (of_parts roads list_added None u) name path queries was_right.content
+        refl refl (is_added free) made searched counts kept
         (none_fall list_added w u searches settled kept)))))
 
     abbrev list_set : List Item
@@ -219,9 +219,10 @@ module _ (roads : RoadMap) (is : List Item) (b : Option Batch) (w : Tally) (x : 
         → ((answer_in is name ≡ Some m.answer) × (es ≡ []))
         ⊎ ((answer_in is name ≢ Some m.answer) × (es ≡ entry name m.answer ∷ []))
         → (w.work.encodings + 1 < 2 ^ 64 → u.work.encodings ≡ w.work.encodings + 1)
-        → w.work.searches ≤ u.work.searches → w.work.settled ≤ u.work.settled → u.spared ≡ w.spared →
-        Answered x (Make (Set_path name target)) (Ok q) (of_parts roads js b u)
-    set_done target js u q es along taken same says listed counts searches settled kept =
+        → w.work.searches ≤ u.work.searches → w.work.settled ≤ u.work.settled → u.spared ≡ w.spared
+        → (queries : List CoverageQuery) → SearchedFor (map_of roads) path queries →
+        AreSearched (map_of roads) queries w.work u.work → Answered x (Make (Set_path name target)) (Ok q) (of_parts roads js b u)
+    set_done target js u q es along taken same says listed counts searches settled kept queries made searched =
         subst (λ (p : Path). Answered x (Make (Set_path name p)) (Ok q) (of_parts roads js b u)) along
         (subst (λ (ks : List Item). Answered x (Make (Set_path name path)) (Ok q) (of_parts roads ks b u)) (sym same)
         (reach roads is list_set b w u x (Make (Set_path name path)) q view was_closed
@@ -229,6 +230,6 @@ module _ (roads : RoadMap) (is : List Item) (b : Option Batch) (w : Tally) (x : 
         (is_set taken) says
         (reported_set (map_of roads) is name path m es was_right.content was_right.made (named_in true taken) encoded
         listed)
-        (tallied_set (of_parts roads is None w) (of_parts roads list_set None u) name path was_right.content refl refl
-        (is_set taken) (record { encodings = counts; spared = spared_one w u kept })
+        (tallied_set (of_parts roads is None w) (of_parts roads list_set None u) name path queries was_right.content
+        refl refl (is_set taken) made searched counts kept
         (none_fall list_set w u searches settled kept)))))

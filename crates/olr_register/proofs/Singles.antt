@@ -44,6 +44,7 @@ accepted_now old new x q es was later is says differences tallied = record {
       );
   counted = tallied.counted;
   spares = tallied.spares;
+  searches = tallied.searches;
   rises = tallied.rises;
   same = tallied.same;
   unchanged = tt;

@@ -7,7 +7,7 @@ use Rattle.olr_commands.specs.State.{Command}
 use Rattle.olr_register.specs.Registered.{Registered, Counted}
 use Rattle.olr_paths.specs.Items.{Item}
 use Rattle.olr_register.specs.Holding.{kept_of}
-use Rattle.olr_register.specs.Sparing.{encodes, SparesAtMost, NoneFalls, SameCounts}
+use Rattle.olr_register.specs.Sparing.{encodes, SparesCounted, SearchesCounted, NoneFalls, SameCounts}
 use Rattle.olr_register.specs.declared.batch.Batch.{Batch}
 
 pub record Tally : Type 0 where
@@ -19,7 +19,8 @@ tally w n = record { work = w; spared = n }
 
 pub record Tallied (old : Registered) (c : Command) (new : Registered) : Type 0 where
   pub counted : Counted old c new
-  pub spares : SparesAtMost old c new
+  pub spares : SparesCounted old c new
+  pub searches : SearchesCounted old c new
   pub rises : NoneFalls old new
   pub same : IsFalse (encodes (is_some old.kept.batch) c) → SameCounts old new
 

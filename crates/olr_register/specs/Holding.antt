@@ -32,6 +32,7 @@ batch_of roads is b =
       count = b.count;
       nodes = nodes_of b.touched;
       lines = lines_of b.touched;
+      changed = changed_of b.touched;
     }
 
 -- while a batch is open, this is the map to which its log leads back

@@ -10,7 +10,7 @@ use Rattle.olr_spec.specs.Map.{has}
 use Rattle.olr_commands.specs.State.{Content, Fault, Memory, Batch_full, full, when, Change, with_change, same_name}
 use Rattle.olr_commands.specs.Reply.{is_reported_first}
 use Rattle.olr_commands.specs.Reply as replies
-use Rattle.olr_commands.specs.Counts.{nodes_of_change, lines_of_change, names_of_change}
+use Rattle.olr_commands.specs.Counts.{nodes_of_change, lines_of_change, changed_by, names_of_change}
 use Rattle.olr_spec.specs.Extension.{Path}
 use Rattle.olr_commands.specs.Words.{command_fault_of, reply_of, path_along}
 use Rattle.olr_commands.specs.declared.reply.Reply.{Reply}
@@ -33,6 +33,7 @@ pub record IsAdded (old : Batch) (x : Change) (new : Batch) : Type 0 where
   pub count : new.count ≡ suc old.count
   pub nodes : (v : ℕ) → has new.nodes v ≡ (has old.nodes v || has (nodes_of_change old.map x) v)
   pub lines : (y : ℕ) → has new.lines y ≡ (has old.lines y || has (lines_of_change x) y)
+  pub changed : new.changed ≡ old.changed ++ changed_by old.map x
   pub given : (names : List (List ℕ)) → AreGiven names old.paths → AreGiven (names ++ names_of_change x) new.paths
 
 -- out of memory is reported only if no fault takes precedence over it

@@ -1,12 +1,15 @@
 -- How the counts of a register change.
 --     encodes open c      the command encodes: outside a batch an edit and a path that is added or set, with an open
 --         batch its commit
---     SparesAtMost old c new      no more encodings are spared than an accepted command counts
+--     SparesCounted old c new      by how much an accepted command raises the count of retained answers
+--     SearchesCounted old c new      for which coverage queries it searches, and how many nodes these searches settle
 --     NoneFalls old new      no count falls
 --     SameCounts old new      each count is unchanged
-use Rattle.std.specs.Prelude.{◌≡◌, ℕ, ◌+◌, ◌≤◌, Bool, true, false}
+use Rattle.std.specs.Prelude.{◌≡◌, ℕ, ◌≤◌, List, Bool, true, false}
+use Rattle.olr_spec.specs.Queries.{CoverageQuery}
 use Rattle.olr_commands.specs.State.{State, On_map, Add_path, Set_path, Command, Make, Commit}
-use Rattle.olr_commands.specs.Counts.{Raises}
+use Rattle.olr_commands.specs.Counts.{Spares, RisesBy, Searches}
+use Rattle.olr_paths.specs.Changes.{AreSearched}
 use Rattle.olr_register.specs.RegisterState.{Represents}
 use Rattle.olr_register.specs.Registered.{Registered}
 
@@ -17,11 +20,15 @@ encodes false (Make (Set_path name path)) = true
 encodes true (Commit count) = true
 encodes _ _ = false
 
--- by at most as many as the command counts
-abbrev pub SparesAtMost : Registered → Command → Registered → Type 0
-SparesAtMost old c new =
-    (s t : State) → Represents old.kept s → Represents new.kept t → (n : ℕ) × Raises s c t n
-    × (new.spared ≤ old.spared + n)
+abbrev pub SparesCounted : Registered → Command → Registered → Type 0
+SparesCounted old c new =
+    (s t : State) → Represents old.kept s → Represents new.kept t → (n : ℕ) × Spares s c t n
+    × RisesBy old.spared n new.spared
+
+abbrev pub SearchesCounted : Registered → Command → Registered → Type 0
+SearchesCounted old c new =
+    (s t : State) → Represents old.kept s → Represents new.kept t → (queries : List CoverageQuery)
+    × Searches s c t queries × AreSearched t.content.map queries old.work new.work
 
 pub record NoneFalls (old new : Registered) : Type 0 where
   pub searches : old.work.searches ≤ new.work.searches

@@ -16,7 +16,7 @@ impl Register {
     ghost use Rattle.olr_commands.specs.State.{IsContent};
     ghost use Rattle.olr_register.specs.Registered.{Applied, Counted};
     ghost use Rattle.olr_register.specs.Answering.{Answered};
-    ghost use Rattle.olr_register.specs.Sparing.{encodes, SparesAtMost, NoneFalls, SameCounts};
+    ghost use Rattle.olr_register.specs.Sparing.{encodes, SparesCounted, SearchesCounted, NoneFalls, SameCounts};
 
     /// The answer to a command.
     fn answer_to(&mut self, command: Command) -> Result<Reply, CommandFault>
@@ -63,7 +63,8 @@ impl Register {
         ensures counted { OnOk result (Counted self.old (command_of command) self.new) }
         ensures unchanged { OnErr result (self.new ≡ self.old) }
         ensures sound { IsContent self.new.kept.content }
-        ensures spares { OnOk result (SparesAtMost self.old (command_of command) self.new) }
+        ensures spares { OnOk result (SparesCounted self.old (command_of command) self.new) }
+        ensures searches { OnOk result (SearchesCounted self.old (command_of command) self.new) }
         ensures rises { OnOk result (NoneFalls self.old self.new) }
         ensures same { OnOk result
             (IsFalse (encodes (is_some self.old.kept.batch) (command_of command)) → SameCounts self.old self.new) }

@@ -4,7 +4,7 @@ use Rattle.olr_map.specs.RoadMaps.{map_of}
 use Rattle.olr_commands.specs.State.{Add_path}
 use Rattle.olr_paths.specs.Items.{items}
 use Rattle.olr_paths.specs.Laying.{under_overlay}
-use Rattle.olr_paths.specs.Touching.{nodes_of, lines_of}
+use Rattle.olr_paths.specs.Touching.{nodes_of, lines_of, changed_of}
 use Rattle.olr_paths.proofs.Overlaying.{has_name}
 use Rattle.olr_register.specs.HoldsChange.{path_by}
 use Rattle.olr_register.proofs.HoldChanges.{held_same, given_reported, given_bad_path, given_no_room, add_taken}
@@ -19,7 +19,7 @@ returns-then-has-clause-given c =
     let named : has_name (under_overlay before b.overlay) (string_bytes c.args.name) ≡ true =
     ap (λ q. has_name (under_overlay before b.overlay) q) (sym c.deref.ensures) ∙ sym c.if-has.ensures in
     given_reported (map_of roads) (under_overlay before b.overlay) (under_overlay before b.overlay) b.count
-    (nodes_of b.touched) (lines_of b.touched)
+    (nodes_of b.touched) (lines_of b.touched) (changed_of b.touched)
     (Add_path (string_bytes c.args.name) (path_by c.args.lines.items c.args.offsets)) _
     (sym c.if-is_full.ensures)
     (add_taken (map_of roads) (under_overlay before b.overlay) (string_bytes c.args.name)
@@ -34,7 +34,7 @@ returns-in_err-path-clause-given c =
     ap (λ q. has_name (under_overlay before b.overlay) q) (sym c.deref.ensures) ∙ sym c.if-has.ensures in
     let p = err_from_is_err_and c.from_residual.result c.from_residual.ensures.1 in
     rw (p.1, p.2)
-    (given_bad_path (map_of roads) (under_overlay before b.overlay) b.count (nodes_of b.touched) (lines_of b.touched)
+    (given_bad_path (map_of roads) (under_overlay before b.overlay) b.count (nodes_of b.touched) (lines_of b.touched) (changed_of b.touched)
     (Add_path (string_bytes c.args.name) (path_by c.args.lines.items c.args.offsets)) _ c.args.lines.items _
     (sym c.if-is_full.ensures)
     (add_path_only (map_of roads) (under_overlay before b.overlay) (string_bytes c.args.name)
@@ -48,7 +48,7 @@ returns-in-Ok-clause-given c =
     let named : has_name (under_overlay before b.overlay) (string_bytes c.args.name) ≡ false =
     ap (λ q. has_name (under_overlay before b.overlay) q) (sym c.deref.ensures) ∙ sym c.if-has.ensures in
     given_added (map_of roads) (under_overlay before b.overlay) (under_overlay before c.hold.new.self) b.count
-    (nodes_of b.touched) (lines_of b.touched) (string_bytes c.args.name)
+    (nodes_of b.touched) (lines_of b.touched) (changed_of b.touched) (string_bytes c.args.name)
     (path_by c.args.lines.items c.args.offsets) c.in_ok-path.path _ (sym c.if-is_full.ensures) named
     c.in_ok-path.ensures.good c.in_ok-path.ensures.ok (c.in-Ok.ensures.ok before) refl
 
@@ -71,7 +71,7 @@ returns-in-Err-clause-given c =
     let named : has_name (under_overlay before b.overlay) (string_bytes c.args.name) ≡ false =
     ap (λ q. has_name (under_overlay before b.overlay) q) (sym c.deref.ensures) ∙ sym c.if-has.ensures in
     given_no_room (map_of roads) (under_overlay before b.overlay) (under_overlay before c.hold.new.self) b.count
-    (nodes_of b.touched) (lines_of b.touched)
+    (nodes_of b.touched) (lines_of b.touched) (changed_of b.touched)
     (Add_path (string_bytes c.args.name) (path_by c.args.lines.items c.args.offsets)) _ c.args.lines.items
     (sym c.if-is_full.ensures)
     (add_path_only (map_of roads) (under_overlay before b.overlay) (string_bytes c.args.name)

@@ -3,7 +3,7 @@ use Rattle.olr_commands.specs.State.{same_name, Drop_path}
 use Rattle.olr_map.specs.RoadMaps.{map_of, map_before}
 use Rattle.olr_paths.specs.Items.{items}
 use Rattle.olr_paths.specs.Laying.{under_overlay}
-use Rattle.olr_paths.specs.Touching.{nodes_of, lines_of}
+use Rattle.olr_paths.specs.Touching.{nodes_of, lines_of, changed_of}
 use Rattle.olr_paths.proofs.OriginLemmas.{begins_drop}
 use Rattle.olr_register.proofs.Listed.{any_drop}
 use Rattle.olr_register.proofs.Followed.{follows_drop}
@@ -17,7 +17,7 @@ returns-then-not-has-clause-given c =
     λ roads.
     let b = c.args.self.now in
     let is = under_overlay (items c.args.list.now) b.overlay in
-    given_reported (map_of roads) is is b.count (nodes_of b.touched) (lines_of b.touched) (Drop_path c.args.name.now) _
+    given_reported (map_of roads) is is b.count (nodes_of b.touched) (lines_of b.touched) (changed_of b.touched) (Drop_path c.args.name.now) _
     (sym c.if-is_full.ensures)
     (drop_missing (map_of roads) is c.args.name.now (sym c.if-not-has.ensures)) refl
 
@@ -27,9 +27,9 @@ returns-in-Ok-clause-given c =
     let b = c.args.self.now in
     let is = under_overlay (items c.args.list.now) b.overlay in
     given_held_path (map_of roads) is _ (under_overlay (items c.args.list.now) c.drop_path.new.self) b.count
-    (nodes_of b.touched) (lines_of b.touched) (Drop_path c.args.name.now) _ (sym c.if-is_full.ensures)
+    (nodes_of b.touched) (lines_of b.touched) (changed_of b.touched) (Drop_path c.args.name.now) _ (sym c.if-is_full.ensures)
     (drop_ok (map_of roads) is c.args.name.now (sym c.if-not-has.ensures))
-    (c.in-Ok.ensures.ok (items c.args.list.now) c.requires) refl refl (λ names g. given_drop c.args.name.now names is g)
+    (c.in-Ok.ensures.ok (items c.args.list.now) c.requires) refl refl refl (λ names g. given_drop c.args.name.now names is g)
     refl
 
 pub returns-in-Ok-clause-held : goal.returns-in-Ok-clause-held
@@ -50,7 +50,7 @@ returns-in-Err-clause-given c =
     let b = c.args.self.now in
     let before = items c.args.list.now in
     given_not_dropped (map_of roads) (under_overlay before b.overlay) (under_overlay before c.drop_path.new.self)
-    b.count (nodes_of b.touched) (lines_of b.touched) c.args.name.now (sym c.if-is_full.ensures)
+    b.count (nodes_of b.touched) (lines_of b.touched) (changed_of b.touched) c.args.name.now (sym c.if-is_full.ensures)
     (sym c.if-not-has.ensures) (c.in-Err.ensures.err before)
 
 pub returns-in-Err-clause-held : goal.returns-in-Err-clause-held

@@ -24,7 +24,7 @@ returns-then-is_err-clause-given c =
     let ok = taken_is _ c.in-Ok.ensures.plan.accepted in
     edit_lacks (batch_of c.args.roads.now is b) _ (edit_of c.args.edit) _ ok.0 (sym c.if-is_full.ensures) ok.1 refl
     (same_batch c.args.roads.now c.args.roads.now is b b.log c.reserve.new.self refl c.reserve.ensures.nodes
-    c.reserve.ensures.lines)
+    c.reserve.ensures.lines c.reserve.ensures.changed)
 
 pub returns-in-Ok-make_into-clause-held : goal.returns-in-Ok-make_into-clause-held
 returns-in-Ok-make_into-clause-held c =
@@ -47,4 +47,4 @@ returns-in-Err-make_into-clause-given c =
     let ok = taken_is _ c.in-Ok.ensures.plan.accepted in
     edit_lacks (batch_of c.args.roads.now is b) _ (edit_of c.args.edit) _ ok.0 (sym c.if-is_full.ensures) ok.1 refl
     (same_batch c.args.roads.now c.make_into.new.self is b c.make_into.new.log c.reserve.new.self
-    c.in-Err-make_into.ensures.same c.reserve.ensures.nodes c.reserve.ensures.lines)
+    c.in-Err-make_into.ensures.same c.reserve.ensures.nodes c.reserve.ensures.lines c.reserve.ensures.changed)

@@ -4,7 +4,7 @@ use Rattle.olr_map.specs.RoadMaps.{map_of}
 use Rattle.olr_commands.specs.State.{Set_path}
 use Rattle.olr_paths.specs.Items.{items}
 use Rattle.olr_paths.specs.Laying.{under_overlay}
-use Rattle.olr_paths.specs.Touching.{nodes_of, lines_of}
+use Rattle.olr_paths.specs.Touching.{nodes_of, lines_of, changed_of}
 use Rattle.olr_paths.proofs.Overlaying.{has_name}
 use Rattle.olr_register.specs.HoldsChange.{path_by}
 use Rattle.olr_register.proofs.HoldChanges.{held_same, given_reported, given_bad_path, given_no_room, set_missing}
@@ -18,7 +18,7 @@ returns-then-not-has-clause-given c =
     let before = items c.args.list.now in
     let named : has_name (under_overlay before b.overlay) c.args.name.now ≡ false = sym c.if-not-has.ensures in
     given_reported (map_of roads) (under_overlay before b.overlay) (under_overlay before b.overlay) b.count
-    (nodes_of b.touched) (lines_of b.touched)
+    (nodes_of b.touched) (lines_of b.touched) (changed_of b.touched)
     (Set_path c.args.name.now (path_by c.args.lines.items c.args.offsets)) _ (sym c.if-is_full.ensures)
     (set_missing (map_of roads) (under_overlay before b.overlay) c.args.name.now
     (path_by c.args.lines.items c.args.offsets) named) refl
@@ -31,7 +31,7 @@ returns-in_err-path-clause-given c =
     let named : has_name (under_overlay before b.overlay) c.args.name.now ≡ true = sym c.if-not-has.ensures in
     let p = err_from_is_err_and c.from_residual.result c.from_residual.ensures.1 in
     rw (p.1, p.2)
-    (given_bad_path (map_of roads) (under_overlay before b.overlay) b.count (nodes_of b.touched) (lines_of b.touched)
+    (given_bad_path (map_of roads) (under_overlay before b.overlay) b.count (nodes_of b.touched) (lines_of b.touched) (changed_of b.touched)
     (Set_path c.args.name.now (path_by c.args.lines.items c.args.offsets)) _ c.args.lines.items _
     (sym c.if-is_full.ensures)
     (set_path_only (map_of roads) (under_overlay before b.overlay) c.args.name.now
@@ -44,7 +44,7 @@ returns-in-Ok-clause-given c =
     let before = items c.args.list.now in
     let named : has_name (under_overlay before b.overlay) c.args.name.now ≡ true = sym c.if-not-has.ensures in
     given_other (map_of roads) (under_overlay before b.overlay) (under_overlay before c.hold_other.new.self) b.count
-    (nodes_of b.touched) (lines_of b.touched) c.args.name.now (path_by c.args.lines.items c.args.offsets)
+    (nodes_of b.touched) (lines_of b.touched) (changed_of b.touched) c.args.name.now (path_by c.args.lines.items c.args.offsets)
     c.in_ok-path.path _ (sym c.if-is_full.ensures) named
     c.in_ok-path.ensures.good c.in_ok-path.ensures.ok (c.in-Ok.ensures.ok before c.requires named) refl
 
@@ -65,7 +65,7 @@ returns-in-Err-clause-given c =
     let before = items c.args.list.now in
     let named : has_name (under_overlay before b.overlay) c.args.name.now ≡ true = sym c.if-not-has.ensures in
     given_no_room (map_of roads) (under_overlay before b.overlay) (under_overlay before c.hold_other.new.self) b.count
-    (nodes_of b.touched) (lines_of b.touched)
+    (nodes_of b.touched) (lines_of b.touched) (changed_of b.touched)
     (Set_path c.args.name.now (path_by c.args.lines.items c.args.offsets)) _ c.args.lines.items
     (sym c.if-is_full.ensures)
     (set_path_only (map_of roads) (under_overlay before b.overlay) c.args.name.now

@@ -15,6 +15,9 @@ returns-clause-sound c = c.is_sound.ensures
 pub returns-clause-spares : goal.returns-clause-spares
 returns-clause-spares c = c.answer_to-result.ensures.spares
 
+pub returns-clause-searches : goal.returns-clause-searches
+returns-clause-searches c = c.answer_to-result.ensures.searches
+
 pub returns-clause-rises : goal.returns-clause-rises
 returns-clause-rises c = c.answer_to-result.ensures.rises
 

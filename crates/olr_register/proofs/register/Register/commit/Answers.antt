@@ -41,7 +41,7 @@ returns c =
     (commit_done s.roads c.keep_all.new.self (items s.paths) (items c.renew_over.new.self) b (tally s.work s.spared)
     (tally c.renew_over.new.work c.renew_over.new.kept) c.args.count count.0 _ c.in-Ok.entries.items
     refl c.if-batch-count.false c.keep_all.ensures (c.in-Ok.ensures.renewed _ before) c.in-Ok.ensures.named
-    c.in-Ok.ensures.reported count.1 count.2 count.3
+    c.in-Ok.ensures.reported count.1 count.2
     c.in-Ok.ensures.searches c.in-Ok.ensures.settled c.in-Ok.ensures.kept s.batch c.take.new.self e c.take.ensures.after
     c.self.invariant.register)
 

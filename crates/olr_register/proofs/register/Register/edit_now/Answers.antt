@@ -6,7 +6,7 @@ use Rattle.olr_map.specs.Edits.{edit_of}
 use Rattle.olr_map.specs.RoadMaps.{map_of}
 use Rattle.olr_commands.specs.Words.{entry_of}
 use Rattle.olr_paths.specs.Items.{items}
-use Rattle.olr_paths.specs.Changes.{AreRemade}
+use Rattle.olr_paths.specs.Changes.{Totals, AreTotals, AreCounted, AreRemade}
 use Rattle.olr_paths.specs.Touching.{nodes_of, lines_of, changed_of}
 use Rattle.olr_register.specs.Holding.{map_kept}
 use Rattle.olr_register.proofs.Singles.{as_before, closed_by, still_closed, same_parts}
@@ -147,13 +147,16 @@ returns c =
     c.self.invariant.register
     c.in-Ok.ensures.plan.placed ok (nodes_of t) (lines_of t) (changed_of t) noted.nodes noted.lines noted.changed
     (map_of c.make.new.self) (sym c.keep.ensures) in
-    let count = c.in-Ok-renew.ensures.counted _ before in
+    let count =
+    subst (λ (M : Map). (u : Totals) × AreTotals (map_of r.roads) M (nodes_of t) (lines_of t) (changed_of t)
+    (items r.paths) u × AreCounted M u r.work c.renew.new.work r.spared c.renew.new.kept) (sym c.keep.ensures)
+    (c.in-Ok-renew.ensures.counted (map_of r.roads) before) in
     edit_done r.roads c.keep.new.self (items r.paths) (items c.renew.new.self) r.batch (tally r.work r.spared)
     c.args.self.now e _ c.self.view_is c.requires c.self.invariant.register c.in-Ok.ensures.plan.placed ok
     (nodes_of t) (lines_of t) (changed_of t) noted.nodes noted.lines noted.changed
     (subst (λ (M : Map). AreRemade M (items r.paths) (items c.renew.new.self)) (sym c.keep.ensures)
     (c.in-Ok-renew.ensures.renewed _ before)) c.in-Ok-renew.ensures.named c.in-Ok-renew.ensures.reported
-    (tally c.renew.new.work c.renew.new.kept) _ count.0 refl count.1 count.2 count.3
+    (tally c.renew.new.work c.renew.new.kept) _ count.0 refl count.1 count.2
     (record {
       searches = c.in-Ok-renew.ensures.searches;
       settled = c.in-Ok-renew.ensures.settled;
