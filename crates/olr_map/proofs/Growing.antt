@@ -1,7 +1,7 @@
 -- Empty tables, and tables with more capacity.
 use Rattle.std.proofs.Common.{◌≡◌, ◌==◌, ℕ, ◌≤◌, Bool, true, false, cond, [], Option, Some, None, is_some, unwrap_or}
 use Rattle.std.proofs.Common.{refl, sym, ap, ◌∙◌, subst, arith}
-use Rattle.std.specs.Option.{option_map}
+use Rattle.std.specs.Option.{option_map, option_map_or}
 use Rattle.std.specs.FinMap.{FinMap}
 use Rattle.std.specs.Map.{lookup}
 use Rattle.std.proofs.lemmas.Bool.{eqb-true}
@@ -10,11 +10,11 @@ use Rattle.olr_spec.specs.Coordinates.{Coord}
 use Rattle.olr_spec.specs.Map.{Map, IsMap, Line, has_node, has_line, line_at}
 use Rattle.olr_map.specs.SlotIndexes.{pairs_of, slot_by}
 use Rattle.olr_map.specs.Slotted.{at, IsReplaced}
-use Rattle.olr_map.specs.Columns.{node_slots}
+use Rattle.olr_map.specs.Columns.{node_slots, node_room}
 use Rattle.olr_map.specs.NodeLinks.{links_at, with_links}
 use Rattle.olr_map.specs.Linked.{lines_on, ends_on, spare_links}
 use Rattle.olr_map.specs.Tables.{far, node_in, links_in, map_from, node_slot, IsListed, IsIndexed, AreTables}
-use Rattle.olr_map.specs.Changes.{tables_map}
+use Rattle.olr_map.specs.Changes.{tables_map, room_of, spare_at, IsRoomWithin}
 use Rattle.olr_map.specs.declared.blocks.Blocks.{Blocks}
 use Rattle.olr_map.specs.declared.links.Links.{Links}
 use Rattle.olr_map.specs.declared.slots.NodeEntry.{NodeEntry}
@@ -97,6 +97,25 @@ module _ (t : Tables) (b' : Blocks) (same : (k : ℕ) → slot_by b' k ≡ slot_
       (node_slot b') v l
       (λ y there. ap (λ o. unwrap_or o 0) (sym (same (far side (line_at (tables_map t) y)))))
       (t.kept.listed side v l (ap (option_map (links_at side)) (sym (index_node v)) ∙ h)))
+
+  spare_stays : (side : Side) (v : ℕ) →
+      option_map_or (λ l. spare_links l) (links_in side b' (node_slots t.nodes) v) 0 ≡ spare_at side t v
+  spare_stays side v = ap (λ o. option_map_or (λ l. spare_links l) (option_map (links_at side) o) 0) (index_node v)
+
+  pub index_room : IsRoomWithin (room_of t)
+      (record {
+        nodes = node_room t.nodes;
+        outs = λ v. option_map_or (λ l. spare_links l) (links_in Out b' (node_slots t.nodes) v) 0;
+        ins = λ v. option_map_or (λ l. spare_links l) (links_in In b' (node_slots t.nodes) v) 0;
+      })
+  index_room =
+      record {
+        nodes = no_less (node_room t.nodes) (node_room t.nodes) refl;
+        outs = λ v. no_less _ _ (spare_stays Out v);
+        ins = λ v. no_less _ _ (spare_stays In v);
+      } where
+        no_less : (a b : ℕ) → a ≡ b → b ≤ a
+        no_less a b e = search arith
 
 module _ (t : Tables) (ls' : SlotMap Line) (same : (k : ℕ) → held ls' k ≡ held t.lines k) where
   pub same_lines : all_held ls' ≡ all_held t.lines
