@@ -5,7 +5,6 @@ use Rattle.std.specs.Prelude.{IfOk, IfSome, if◌then◌else◌, nat_abs, ⊤}
 use Rattle.std.specs.List.{AllByRecursion, list_all}
 use Rattle.std.proofs.lemmas.Bool.{and_from, and_parts, eq-eqb}
 use Rattle.std.proofs.lemmas.Bool.Decides.{nat_tests}
-use Rattle.std.proofs.lemmas.Int.{ints}
 use Rattle.olr_spec.specs.Coordinates.{Coord, is_coord, is_longitude, is_latitude}
 use Rattle.olr_spec.specs.Degrees.{degrees, unit7, are_digits, digits_value}
 use Rattle.olr_spec.specs.Map.{ShapePoint, Line, are_coords, Edit, Add_node, Move_node, Drop_node, Add_line, Set_line}
@@ -81,15 +80,17 @@ longitude_wide : (z : ℤ) → IsTrue (is_longitude z) → IsTrue (is_degrees z)
 longitude_wide (pos n) h = grind (arith, nat_tests)
 longitude_wide (negsuc n) h = grind (arith, nat_tests)
 
-latitude_wide : (z : ℤ) → IsTrue (is_latitude z) → IsTrue (is_degrees z)
-latitude_wide (pos n) h = grind (arith, nat_tests)
-latitude_wide (negsuc n) h = grind (arith, nat_tests)
+-- the range of latitudes is within that of longitudes
+latitude_within : (z : ℤ) → IsTrue (is_latitude z) → IsTrue (is_longitude z)
+latitude_within (pos n) h = grind (arith, nat_tests)
+latitude_within (negsuc n) h = grind (arith, nat_tests)
 
 longitude_passes : (f : Field) → IfOk (longitude f) (Written is_longitude)
 longitude_passes f = found_passes is_longitude longitude_wide (degrees f) (degrees-whole f)
 
 latitude_passes : (f : Field) → IfOk (latitude f) (Written is_latitude)
-latitude_passes f = found_passes is_latitude latitude_wide (degrees f) (degrees-whole f)
+latitude_passes f =
+    found_passes is_latitude (λ z h. longitude_wide z (latitude_within z h)) (degrees f) (degrees-whole f)
 
 abbrev Place : Coord → Type 0
 Place p = IsTrue (is_place p)

@@ -1,30 +1,28 @@
 -- Commands whose changes have records lead to contents that have records.
-use Rattle.std.proofs.Common.{inl, inr, ◌≡◌, ◌≢◌, ℕ, Bool, true, false, cond, not, ◌&&◌, T, List, [], ◌∷◌, ◌++◌, map}
+use Rattle.std.proofs.Common.{inl, inr, ◌≡◌, ℕ, Bool, true, false, cond, not, List, [], ◌∷◌, ◌++◌, map}
 use Rattle.std.proofs.Common.{filter, length, Option, Some, None, is_some, unwrap_or, Result, Ok, Err, IsTrue, refl, sym}
 use Rattle.std.proofs.Common.{ap, ◌∙◌, subst, nat_cmp}
-use Rattle.std.specs.Prelude.{nat_le, ◌==◌, IfSome, ⊤}
-use Rattle.std.proofs.Common.{Ordering, Less, Equal, Greater, is_lt, is_eq}
+use Rattle.std.specs.Prelude.{nat_le, ◌==◌, IfSome}
 use Rattle.std.specs.List.{list_all, AllByRecursion}
 use Rattle.std.specs.FinMap.{FinMap, get, insert, remove, empty, entries, entries_sorted, get-entries, get-empty}
-use Rattle.std.specs.FinMap.Entries.{find, below_all, is_sorted}
+use Rattle.std.specs.FinMap.Entries.{find}
 use Rattle.std.specs.Cmp.{unsigned_tied}
-use Rattle.std.proofs.lemmas.Bool.{and_parts, and_from, cases_eq, eq-eqb, ne_eqb, both_ways}
+use Rattle.std.proofs.lemmas.Bool.{and_parts, and_from, cases_eq, eq-eqb, ne_eqb}
 use Rattle.olr_spec.specs.Coordinates.{Coord, is_coord}
-use Rattle.olr_spec.specs.Map.{Map, MapFault, Line, no_line, has_line, start, end, Edit, edited, Add_node, Move_node}
+use Rattle.olr_spec.specs.Map.{Map, MapFault, Line, no_line, start, end, Edit, edited, Add_node, Move_node}
 use Rattle.olr_spec.specs.Map.{Drop_node, Add_line, Set_line, Drop_line, ShapePoint}
 use Rattle.olr_spec.specs.Extension.{Path, is_path}
 use Rattle.olr_spec.proofs.EditLemmas.{Made, made_by, got_same, got_other, left_same, left_other}
-use Rattle.olr_spec.proofs.MapLemmas.{T_first, T_second}
 use Rattle.olr_commands.specs.State.{Named, Content, has_path, same_name, with_path, TextFault, Fault, Path_exists}
 use Rattle.olr_commands.specs.State.{No_path, Bad_path, Batch_full, Count_differs, when, Change, On_map, Add_path}
-use Rattle.olr_commands.specs.State.{Set_path, Drop_path, with_map, with_change, next, after, Command, Make, Show}
+use Rattle.olr_commands.specs.State.{Set_path, Drop_path, with_map, with_change, after, Command, Make, Show}
 use Rattle.olr_commands.specs.Recordable.{is_name, is_recordable_coord, is_recordable_shape, is_recordable_map}
 use Rattle.olr_commands.specs.State.{Not_a_record, no_content, is_recordable, start_state, Report, Dump, Explain, Begin, Commit, Abort, State, full, at_once, into_batch}
 use Rattle.olr_commands.specs.State.{text_fault, unless_fault, step}
-use Rattle.olr_commands.specs.Dump.{node_change, line_change, path_change, dump_changes}
+use Rattle.olr_commands.specs.Dump.{node_change, line_change, path_change}
 use Rattle.olr_commands.proofs.DumpLemmas.{of_entries}
 use Rattle.olr_commands.proofs.StateLemmas.{when_ok, next_ok, after_push}
-use Rattle.olr_records.specs.Recorded.{is_number, is_amount, is_place, is_point, are_attributes, is_named_path}
+use Rattle.olr_records.specs.Recorded.{is_number, is_amount, is_place, is_point, are_attributes}
 use Rattle.olr_records.specs.Recorded.{has_record, Recorded, IsRecorded, StaysRecorded}
 
 -- ---- lists

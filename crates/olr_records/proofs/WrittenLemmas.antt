@@ -1,6 +1,6 @@
 -- The record of a change is read as this change.
-use Rattle.std.proofs.Common.{◌≡◌, ℕ, ◌<◌, ◌≤◌, ◌^◌, ℤ, Bool, true, false, ◌&&◌, List, [], ◌∷◌, length, map, Some, Ok}
-use Rattle.std.proofs.Common.{nat_le, IsTrue, refl, ap, ◌∙◌, arith}
+use Rattle.std.proofs.Common.{◌≡◌, ℕ, ◌<◌, ◌≤◌, ◌^◌, ℤ, Bool, true, ◌&&◌, List, [], ◌∷◌, length, map, Ok}
+use Rattle.std.proofs.Common.{nat_le, IsTrue, refl, ◌∙◌, arith}
 use Rattle.std.specs.Prelude.{decimal, if◌then◌else◌, Err}
 use Rattle.std.specs.List.{list_all}
 use Rattle.std.specs.Char.{is_ascii_digit}
@@ -8,7 +8,7 @@ use Rattle.std.proofs.lemmas.Bool.{and_parts, and_from, le-leb, leb-true}
 use Rattle.std.proofs.lemmas.Fmt.{digits_decimal, digits_value-decimal, decimal_nonempty}
 use Rattle.olr_spec.specs.Coordinates.{Coord, is_coord, is_longitude, is_latitude}
 use Rattle.olr_spec.specs.Degrees.{are_digits, digits_value, degrees}
-use Rattle.olr_spec.specs.Map.{ShapePoint, Line, Edit, Add_node, Move_node, Drop_node, Add_line, Set_line, Drop_line}
+use Rattle.olr_spec.specs.Map.{ShapePoint, Edit, Add_node, Move_node, Drop_node, Add_line, Set_line, Drop_line}
 use Rattle.olr_spec.specs.Extension.{Path}
 use Rattle.olr_coords.specs.DegreesText.{degrees_text, has_degrees_text}
 use Rattle.olr_coords.proofs.DegreesTextLemmas.{degrees-read}
@@ -16,9 +16,9 @@ use Rattle.olr_coords.proofs.DigitLemmas.{own}
 use Rattle.olr_commands.specs.State.{Change, On_map, Add_path, Set_path, Drop_path, Make}
 use Rattle.olr_commands.specs.Recordable.{is_name, is_recordable_coord}
 use Rattle.olr_commands.specs.RecordText.{fields_of_coord, fields_of_shape, fields_of_path, fields_of_change}
-use Rattle.olr_records.specs.Records.{Field, Read, Bad_form, value_or_fault, digits, max32, number, amount, class}
-use Rattle.olr_records.specs.Records.{coordinate, longitude, latitude, place, name, numbers, point, shape}
-use Rattle.olr_records.specs.Records.{◌⊛◌, edit, node_fields, node_record, line_between, attributes, whole_line, read}
+use Rattle.olr_records.specs.Records.{Field, Bad_form, value_or_fault, digits, max32, number, amount, class}
+use Rattle.olr_records.specs.Records.{coordinate, place, name, numbers, point, shape}
+use Rattle.olr_records.specs.Records.{◌⊛◌, edit, node_record, line_between, attributes, read}
 use Rattle.olr_records.specs.Records.{path_fields}
 use Rattle.olr_records.specs.Recorded.{is_number, is_amount, is_place, is_point, are_attributes, is_named_path}
 use Rattle.olr_records.specs.Recorded.{has_record}
