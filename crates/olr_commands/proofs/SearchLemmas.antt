@@ -10,10 +10,10 @@ use Rattle.olr_spec.specs.Queries.{CoverageQuery}
 use Rattle.olr_commands.specs.State.{Named, Content, same_name, path_named, has_path, with_path, NamesDiffer}
 use Rattle.olr_commands.specs.State.{Path_exists, No_path, Bad_path, when, Change, Add_path, Set_path, with_change}
 use Rattle.olr_commands.specs.State.{State, Make, step, changes_made, IsState}
-use Rattle.olr_commands.specs.Counts.{Affects, CountIs, all_nodes, all_lines, all_names, Retains, EncodesAgain, Spares}
+use Rattle.olr_commands.specs.Counts.{CountIs, all_nodes, all_lines, all_names, Retains, EncodesAgain, Spares}
 use Rattle.olr_commands.specs.Counts.{SearchedFor, Collects, Searches}
 use Rattle.olr_commands.proofs.NameLemmas.{same_is, not_named, set_name}
-use Rattle.olr_commands.proofs.StateLemmas.{when_ok, steps_keep}
+use Rattle.olr_commands.proofs.StateLemmas.{when_ok}
 use Rattle.olr_commands.proofs.CountLemmas.{only_name, by_name, paths_after, ok_made}
 
 -- ---- what is collected from one path of a list without repeats

@@ -28,18 +28,12 @@ use Rattle.olr_map.specs.declared.blocks.Blocks.{Blocks}
 use Rattle.olr_map.specs.declared.links.Links.{Links}
 use Rattle.olr_map.specs.declared.slots.NodeEntry.{NodeEntry}
 use Rattle.olr_map.specs.declared.slots.NodeHead.{NodeHead}
+use Rattle.olr_map.proofs.Insertions.{eqb_flip}
 use Rattle.olr_map.proofs.Numbers.{distinct_from_ascending, same_ascending}
 use Rattle.olr_map.proofs.SlotMapLemmas.{same_some}
 use Rattle.olr_map.proofs.Reading.{node_there, node_missing}
 
 -- ---- lists of numbers
-
-equal_flips : (x y : ℕ) → (x == y) ≡ (y == x)
-equal_flips x y =
-    elim (cases_eq x y) [
-      | inl is ↦ eq-eqb x y is ∙ sym (eq-eqb y x (sym is))
-      | inr ne ↦ ne_eqb x y ne ∙ sym (ne_eqb y x (λ is. ne (sym is)))
-    ]
 
 -- a number that differs from each of a list
 none_equal : (x : ℕ) (ys : List ℕ) → ((y : ℕ) → has ys y ≡ true → x ≢ y) → AllByRecursion (λ (y : ℕ). (x == y) ≡ false) ys
@@ -78,22 +72,21 @@ distinct_append (x ∷ xs) ys a b apart =
 
 -- ---- the numbers of a finite map
 
-less : (o : Ordering) → T (is_lt o) → o ≡ Less
-less Less h = refl
-less Equal h = absurd h
-less Greater h = absurd h
-
 module _ {X : Type 0} where
   has_key : (m : FinMap nat_cmp X) (k : ℕ) → has (map (λ e. e.0) (entries m)) k ≡ is_some (get m k)
   has_key m k =
-      let same : (y : ℕ) → (y == k) ≡ eq_by_cmp nat_cmp k y = λ y. equal_flips y k ∙ sym (unsigned_tied k y) in
+      let same : (y : ℕ) → (y == k) ≡ eq_by_cmp nat_cmp k y = λ y. eqb_flip y k ∙ sym (unsigned_tied k y) in
       (λ i. list_any (λ y. same y i) (map (λ e. e.0) (entries m)))
       ∙ sym (is_some-find nat_cmp k (entries m)) ∙ ap (λ (o : Option X). is_some o) (sym (get-entries m k))
 
   keys_below : (k : ℕ) (es : List (ℕ × X)) → T (below_all nat_cmp k es) →
       AllByRecursion (λ y. nat_cmp k y ≡ Less) (map (λ e. e.0) es)
   keys_below k [] h = tt
-  keys_below k (e ∷ es) h = (less (nat_cmp k e.0) (T_first _ _ h), keys_below k es (T_second _ _ h))
+  keys_below k (e ∷ es) h = (less (nat_cmp k e.0) (T_first _ _ h), keys_below k es (T_second _ _ h)) where
+    less : (o : Ordering) → T (is_lt o) → o ≡ Less
+    less Less h = refl
+    less Equal h = absurd h
+    less Greater h = absurd h
 
   keys_in_order : (es : List (ℕ × X)) → T (is_sorted nat_cmp es) → IsStrictlySortedBy nat_cmp (map (λ e. e.0) es)
   unfolding IsStrictlySortedBy
@@ -106,7 +99,7 @@ module _ {X : Type 0} where
   sorted_keys m xs ys moved up once members =
       same_ascending ys (map (λ e. e.0) (entries m))
       (IsStrictlyIncreasing-from_distinct ys (IsNonDecreasingBy-from_sort (λ n. n) ys up)
-      (IsDistinct-IsPermutation ◌==◌ equal_flips xs ys moved once))
+      (IsDistinct-IsPermutation ◌==◌ eqb_flip xs ys moved once))
       (IsStrictlyIncreasing-from_sorted _ (keys_in_order (entries m) (entries_sorted m)))
       (λ k. sym (list_any-IsPermutation (λ y. y == k) xs ys moved) ∙ members k ∙ sym (has_key m k))
 

@@ -109,10 +109,6 @@ module _ (N : Map) (slot : ℕ → ℕ) (t : ChangeSet) where
 
 -- ---- how far detours are searched
 
-longest_if : (N : Map) (T X : List ℕ) (most : Option ℕ) (P : Path) (made : Option Made) → made ≡ None →
-    IfSome made (IsLongest N T X most P)
-longest_if N T X most P made none = subst (λ (o : Option Made). IfSome o (IsLongest N T X most P)) (sym none) tt
-
 pub longest_made : (N : Map) (T X : List ℕ) (most : Option ℕ) (P : Path) (made : Option Made) (m : Made) →
     made ≡ Some m → IsLongest N T X most P m → IfSome made (IsLongest N T X most P)
 longest_made N T X most P made m is h = subst (λ (o : Option Made). IfSome o (IsLongest N T X most P)) (sym is) h
@@ -125,10 +121,6 @@ longer N T X a b P (Some m) le h = λ touched nodes lines.
     let was = h touched nodes lines in
     let now = le was.0 was.1 in
     (now.0, now.1, λ l on. let low = was.2 l on in let up = now.2 in omega arith)
-
-pub longest_none : (N : Map) (T X : List ℕ) (is : List Item) (most : Option ℕ) (found : List ℕ) →
-    AreLongest N T X is most (take 0 found)
-longest_none N T X is most found k i at on = let never : ⊥ = cc (on) in absurd never
 
 -- with one position more
 pub longest_more : (N : Map) (T X : List ℕ) (is : List Item) (a here b : Option ℕ) (found : List ℕ) (k position : ℕ) →

@@ -2,7 +2,7 @@
 -- the list is the same as before.
 --     Through Q N T X C before is ps es t      the paths is are renewed when ps are stored, es reports them, and t are
 --         their totals, from each map that satisfies Q
-use Rattle.std.proofs.Common.{◌≡◌, ◌≢◌, ℕ, map, zero, suc, take, ◌+◌, ◌<◌, ◌≤◌, ◌^◌, List}
+use Rattle.std.proofs.Common.{◌≡◌, ◌≢◌, ℕ, map, zero, suc, take, ◌+◌, List}
 use Rattle.std.proofs.Common.{[], ◌∷◌, ◌++◌, length, slice_get, Option, None, Some, option_map, IfSome, ◌⊎◌, inl, inr}
 use Rattle.std.proofs.Common.{refl, sym, ap, subst, ◌∙◌, append-nil, append_assoc, arith, IsTrue}
 use Rattle.std.specs.List.{AllByRecursion}
@@ -14,7 +14,6 @@ use Rattle.olr_spec.specs.Encoding.{Answer}
 use Rattle.olr_spec.specs.Detours.{ChangedLine}
 use Rattle.olr_commands.specs.State.{Named}
 use Rattle.olr_spec.specs.Queries.{CoverageQuery}
-use Rattle.olr_route.specs.Counts.{saturated_count}
 use Rattle.olr_route.specs.declared.work.Work.{Work}
 use Rattle.olr_refs.specs.Choice.{SettledBy, raised_count}
 use Rattle.olr_commands.specs.Counts.{CountIs, RisesBy, SearchedFor, Collects}
@@ -29,6 +28,7 @@ use Rattle.olr_paths.specs.Renewing.{IsStep, Left, Retained, EncodedAgain, Rises
 use Rattle.olr_paths.specs.declared.renewal.Renewal.{Renewal}
 use Rattle.olr_paths.specs.declared.renewal.Counted.{Counted}
 use Rattle.olr_spec.proofs.ListLemmas.{take_more_at}
+use Rattle.olr_refs.proofs.Noting.{raised_more, settled_append}
 use Rattle.olr_paths.proofs.Placing.{put_behind, all_put-push}
 use Rattle.olr_paths.proofs.KeptLemmas.{stays_unless, stays_retained, unchanged_by, stays_by, affected_by, touched_by}
 
@@ -122,26 +122,15 @@ module _ (L N : Map) (T X : List ℕ) (C : List ChangedLine) (is : List Item) (t
 
 -- ---- counts, with one path more
 
-settled_both : (N : Map) (xs ys : List CoverageQuery) (a b c : ℕ) → SettledBy N xs a b → SettledBy N ys b c →
-    SettledBy N (xs ++ ys) a c
-settled_both N [] ys a b c h k = subst (λ (n : ℕ). SettledBy N ys n c) h k
-settled_both N (x ∷ xs) ys a b c h k = (h.0, h.1, settled_both N xs ys (saturated_count (a + h.0)) b c h.2 k)
-
-raised_both : (c n m : ℕ) → raised_count (raised_count c n) m ≡ raised_count c (n + m)
-raised_both c n zero = ap (raised_count c) (let e : n ≡ n + 0 = omega arith in e)
-raised_both c n (suc m) =
-    ap (λ (k : ℕ). saturated_count (k + 1)) (raised_both c n m)
-    ∙ ap (raised_count c) (let e : suc (n + m) ≡ n + suc m = omega arith in e)
-
 searched_both : (N : Map) (xs ys : List CoverageQuery) (a b c : Work) → AreSearched N xs a b → AreSearched N ys b c →
     AreSearched N (xs ++ ys) a c
 searched_both N xs ys a b c h k =
     record {
       searches =
           k.searches ∙ ap (λ (n : ℕ). raised_count n (length ys)) h.searches
-          ∙ raised_both a.searches (length xs) (length ys)
+          ∙ raised_more a.searches (length xs) (length ys)
           ∙ ap (raised_count a.searches) (sym (length-append xs ys));
-      settled = settled_both N xs ys a.settled b.settled c.settled h.settled k.settled;
+      settled = settled_append N xs ys a.settled b.settled c.settled h.settled k.settled;
     }
 
 module _ (N : Map) (t : Totals) (old now later : Counted)
@@ -150,11 +139,10 @@ module _ (N : Map) (t : Totals) (old now later : Counted)
   counted_spared one =
       record {
         encodings = λ few. let e = h.encodings (omega arith) in let u = one.encodings (omega arith) in omega arith;
-        spared =
-            (
-              (λ few. let e = h.spared.0 (omega arith) in let u = one.spared.0 (omega arith) in omega arith),
-              (let e = h.spared.1 in let u = one.spared.1 in omega arith),
-            );
+        spared = (
+          (λ few. let e = h.spared.0 (omega arith) in let u = one.spared.0 (omega arith) in omega arith),
+          (let e = h.spared.1 in let u = one.spared.1 in omega arith),
+        );
         searched =
             record {
               searches = one.searches ∙ h.searched.searches;
@@ -348,12 +336,11 @@ module _ (N : Map) (n : IsMap N) (T X : List ℕ) (C : List ChangedLine) (before
 
   to_encode : (L : Map) → Q L → ToEncode N T X C i.made i.path → IsEncodedAgain L N T X C i
   to_encode L q (inl none) = (By_name none, λ o. o.made none)
-  to_encode L q (inr f) =
-      (
-        affected L q f.0 f.1 f.2,
-        (λ o. f.3 (stays_by L N n T X C i.path (is_a_path L q) f.0 q.sound q.difference (is_made L q f.0 f.1)
+  to_encode L q (inr f) = (
+    affected L q f.0 f.1 f.2,
+    (λ o. f.3 (stays_by L N n T X C i.path (is_a_path L q) f.0 q.sound q.difference (is_made L q f.0 f.1)
         o.unchanged)),
-      )
+  )
 
   through_encoded : (ps : List Put) (es fs : List Entry) (t : Totals) (m : Made) →
       Through Q N T X C before (take position is) ps es t → ToEncode N T X C i.made i.path →

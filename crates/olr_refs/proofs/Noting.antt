@@ -93,12 +93,12 @@ query_short M ls i k t =
 
 -- ---- counts
 
-raised_more : (count n m : ℕ) → raised_count (raised_count count n) m ≡ raised_count count (n + m)
+pub raised_more : (count n m : ℕ) → raised_count (raised_count count n) m ≡ raised_count count (n + m)
 raised_more count n zero = ap (raised_count count) (omega arith)
 raised_more count n (suc m) = let e : suc (n + m) ≡ n + suc m =
     omega arith in ap (λ (k : ℕ). saturated_count (k + 1)) (raised_more count n m) ∙ ap (raised_count count) e
 
-settled_append : (M : Map) (ks ls : List CoverageQuery) (a b c : ℕ) → SettledBy M ks a b → SettledBy M ls b c →
+pub settled_append : (M : Map) (ks ls : List CoverageQuery) (a b c : ℕ) → SettledBy M ks a b → SettledBy M ls b c →
     SettledBy M (ks ++ ls) a c
 settled_append M [] ls a b c p q = subst (λ (k : ℕ). SettledBy M ls k c) p q
 settled_append M (k ∷ ks) ls a b c p q = (p.0, p.1, settled_append M ks ls (saturated_count (a + p.0)) b c p.2 q)

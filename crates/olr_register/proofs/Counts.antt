@@ -1,5 +1,5 @@
 -- By how much changes outside a batch raise the count.
-use Rattle.std.proofs.Common.{arith, append-nil, ◌≡◌, ℕ, ◌+◌, ◌<◌, ◌≤◌, ◌^◌, Bool, false, true, is_some, IsFalse, List}
+use Rattle.std.proofs.Common.{arith, append-nil, ◌≡◌, ℕ, ◌+◌, ◌<◌, ◌^◌, Bool, false, true, is_some, IsFalse, List}
 use Rattle.std.proofs.Common.{[], ◌∷◌, ◌++◌, map, Option, Some, None, Ok, refl, sym, ap, ◌∙◌, subst}
 use Rattle.std.specs.Prelude.{is_none}
 use Rattle.std.proofs.lemmas.Bool.{both_ways}
@@ -165,25 +165,25 @@ module _ (old new : Registered) (x : Change) (name : List ℕ) (path : Path) (qu
   module _ (nodes : all_nodes old.kept.content (x ∷ []) ≡ []) (lines : all_lines (x ∷ []) ≡ [])
       (names : all_names (x ∷ []) ≡ name ∷ []) (there : path_named new.kept.content.paths name ≡ Some path)
       (raises : Raises (closed_state old) (Make x) (closed_state new) 1) (encoding : encodes false (Make x) ≡ true)
-      where
-    tallied_path : Tallied old (Make x) new
-    tallied_path =
-        tallied_by old new x was later
-        (record {
-          affected = 1;
-          raises = raises;
-          encodings = encodings;
-          retained = 0;
-          spares = path_spares (closed_state old) (closed_state new) x name path state_before refl nodes lines names;
-          spared = ((λ few. omega arith), omega arith);
-          queries = queries;
-          searches =
-              searches_one (closed_state old) (closed_state new) x name path state_before refl nodes lines names queries
-              (steps_keep (closed_state old) (closed_state new) (Make x) state_before placed stepped).content.names
-              there made;
-          searched = searched;
-        })
-        falls (encodes_closed old new x was encoding)
+    where
+      tallied_path : Tallied old (Make x) new
+      tallied_path =
+          tallied_by old new x was later
+          (record {
+            affected = 1;
+            raises = raises;
+            encodings = encodings;
+            retained = 0;
+            spares = path_spares (closed_state old) (closed_state new) x name path state_before refl nodes lines names;
+            spared = ((λ few. omega arith), omega arith);
+            queries = queries;
+            searches =
+                searches_one (closed_state old) (closed_state new) x name path state_before refl nodes lines names queries
+                (steps_keep (closed_state old) (closed_state new) (Make x) state_before placed stepped).content.names
+                there made;
+            searched = searched;
+          })
+          falls (encodes_closed old new x was encoding)
 
 pub tallied_add : (old new : Registered) (name : List ℕ) (path : Path) (queries : List CoverageQuery) →
     IsContent old.kept.content → old.kept.batch ≡ None → new.kept.batch ≡ None

@@ -7,7 +7,7 @@ use Rattle.std.specs.Ordering.{eq_by_cmp}
 use Rattle.std.specs.FinMap.{FinMap, get, entries, entries_sorted, get-entries}
 use Rattle.std.specs.FinMap.Entries.{find, is_sorted}
 use Rattle.std.proofs.lemmas.Bool.{cases_Bool, both_ways, and_parts, and_from}
-use Rattle.std.proofs.lemmas.List.{append-nil, length-append, length-map, map-append, take_more, get_or-map}
+use Rattle.std.proofs.lemmas.List.{append-nil, length-map, map-append, take_more, get_or-map}
 use Rattle.std.proofs.lemmas.List.Folds.{concat-append, list_all_at, list_all_more}
 use Rattle.std.proofs.lemmas.Option.{slice_get-get_or}
 use Rattle.std.proofs.lemmas.Grind.{flat_map-append}
@@ -19,7 +19,7 @@ use Rattle.olr_spec.proofs.OrderLemmas.{exactly_out}
 use Rattle.olr_commands.specs.Recordable.{is_recordable_coord, is_recordable_shape, is_recordable_map}
 use Rattle.olr_commands.specs.RecordText.{record_line}
 use Rattle.olr_commands.specs.State.{Named, Content, Change}
-use Rattle.olr_commands.specs.Dump.{node_change, line_change, path_change, dump_changes, dump_lines}
+use Rattle.olr_commands.specs.Dump.{node_change, line_change, path_change, dump_lines}
 use Rattle.olr_commands.proofs.DumpLemmas.{of_entries}
 use Rattle.olr_register.specs.Dumping.{is_recordable_line_at, is_recordable_node_at}
 
@@ -199,17 +199,3 @@ dump_text c t =
     (flat_map (λ e. record_line (line_change e)) (entries c.map.lines)
     ++ flat_map (λ p. record_line (path_change p)) c.paths)
     ∙ ap (λ (r : List ℕ). t ++ r) (sym (apart ∙ same))
-
-pub dump_count : (c : Content) →
-    length (dump_lines c) ≡ length (entries c.map.nodes) + length (entries c.map.lines) + length c.paths
-dump_count c =
-    omega (
-      arith,
-      length-map (dump_changes c) record_line,
-      length-append (map node_change (entries c.map.nodes))
-          (map line_change (entries c.map.lines) ++ map path_change c.paths),
-      length-append (map line_change (entries c.map.lines)) (map path_change c.paths),
-      length-map (entries c.map.nodes) node_change,
-      length-map (entries c.map.lines) line_change,
-      length-map c.paths path_change,
-    )

@@ -1,4 +1,4 @@
-use Rattle.std.proofs.Common.{ℕ, List, refl, subst, arith}
+use Rattle.std.proofs.Common.{refl, subst, arith}
 use Rattle.std.proofs.lemmas.List.{take_all}
 use Rattle.olr_paths.specs.Showing.{shown_items}
 use Rattle.olr_paths.specs.Touching.{nodes_of, lines_of}

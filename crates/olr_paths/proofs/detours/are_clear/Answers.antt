@@ -1,10 +1,9 @@
-use Rattle.std.proofs.Common.{◌≡◌, ℕ, ◌<◌, List, All, Contains, true, refl, length, get_or, sym, subst, arith}
+use Rattle.std.proofs.Common.{◌≡◌, List, All, Contains, true, refl, sym, subst, arith}
 use Rattle.std.proofs.lemmas.List.{take_all}
 use Rattle.std.proofs.lemmas.List.Elements.{Contains-get_or}
 use Rattle.olr_spec.specs.Queries.{CoverageQuery}
 use Rattle.olr_paths.specs.Touching.{changed_of}
 use Rattle.olr_paths.specs.Changes.{IsKnownClear}
-use Rattle.olr_paths.specs.Searching.{IsWithin}
 use Rattle.olr_paths.proofs.Alls.{all_more}
 use Rattle.olr_paths.proofs.detours.are_clear.Goals as goal
 
@@ -36,9 +35,9 @@ returns-then-not-is_clear g c =
 pub returns : goal.returns
 returns g c = (
   (λ yes.
-  subst (λ (ls : List CoverageQuery). All (IsKnownClear (g.M.MapRead.map c.args.map.now)
-  (changed_of c.args.touched.now)) ls)
-  (take_all c.loop-query.query-index c.args.queries.now (omega (arith, c.loop-query-test.false)))
-  c.loop-query.invariant),
+      subst (λ (ls : List CoverageQuery). All (IsKnownClear (g.M.MapRead.map c.args.map.now)
+      (changed_of c.args.touched.now)) ls)
+      (take_all c.loop-query.query-index c.args.queries.now (omega (arith, c.loop-query-test.false)))
+      c.loop-query.invariant),
   (λ all. refl),
 )

@@ -53,7 +53,7 @@ returns g c =
             (c.is_farther.ensures.0 yes)),
       )),
       (λ k. c.is_farther.ensures.1 (subst (λ (d : ℕ). AreFarther c.dist_at-before.result c.dist_at-after.result d)
-      (sym within_is)
-      (clear_only N sound C l.from l.to l.within (limit_of s.before) (limit_of s.after) from_there to_there first second
-      c.dist_at-before.result c.dist_at-after.result before after k.1))),
+          (sym within_is)
+          (clear_only N sound C l.from l.to l.within (limit_of s.before) (limit_of s.after) from_there to_there first second
+          c.dist_at-before.result c.dist_at-after.result before after k.1))),
     )

@@ -1,13 +1,12 @@
-use Rattle.std.proofs.Common.{◌≡◌, List, ℕ, [], ◌++◌, length, map, ap, sym, ◌∙◌, arith}
+use Rattle.std.proofs.Common.{List, ℕ, [], ◌++◌, ap, ◌∙◌}
 use Rattle.std.specs.List.{flat_map}
 use Rattle.std.specs.FinMap.{entries}
-use Rattle.std.proofs.lemmas.List.{length-map}
 use Rattle.olr_map.specs.RoadMaps.{map_of}
 use Rattle.olr_commands.specs.State.{Content}
 use Rattle.olr_commands.specs.RecordText.{record_line}
 use Rattle.olr_commands.specs.Dump.{node_change, line_change, path_change}
 use Rattle.olr_paths.specs.Items.{items, all_named}
-use Rattle.olr_register.proofs.DumpTexts.{dump_text, dump_count}
+use Rattle.olr_register.proofs.DumpTexts.{dump_text}
 use Rattle.olr_register.proofs.dumps.dump_of.Goals as goal
 
 pub returns-clause-text : goal.returns-clause-text

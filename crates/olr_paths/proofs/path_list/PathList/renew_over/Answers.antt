@@ -1,4 +1,4 @@
-use Rattle.std.proofs.Common.{◌≡◌, ◌⊎◌, List, Contains, ap, sym, subst, ◌∙◌}
+use Rattle.std.proofs.Common.{◌⊎◌, List, Contains, ap, sym, subst, ◌∙◌}
 use Rattle.olr_spec.specs.Map.{Map}
 use Rattle.olr_commands.specs.State.{NamesDiffer}
 use Rattle.olr_spec.specs.Queries.{CoverageQuery}
