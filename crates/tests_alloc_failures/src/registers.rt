@@ -23,6 +23,7 @@ path,a,1500,0,10,20,30
 drop-line,20
 line,20,2,3,3,3,2000,200,6.1282,49.60389
 explain,CwRbWyNG9RpsCQCb/jsbtAT/6/+jK1lE
+dump
 node,6,6.13,49.604
 node,7,6.131,49.604
 line,60,2,6,4,3,1000
