@@ -4,6 +4,7 @@ use Rattle.olr_spec.proofs.QueryLemmas.{to_same, clear_routes, query_stays, cove
 use Rattle.olr_spec.proofs.StayLemmas.{kept, untouched_retained}
 use Rattle.olr_spec.proofs.TestedLemmas.{one_last_tested, some_last_tested, one_queries, some_queries, foot_queried}
 use Rattle.olr_spec.proofs.TestedLemmas.{foot_affected}
+use Rattle.olr_spec.proofs.KnownLemmas.{known_stays, one_known, known_holds, one_searched, all_searched}
 use Rattle.olr_spec.proofs.laws_of_queries.Goals as goal
 
 pub returns-clause-one_last_tested : goal.returns-clause-one_last_tested
@@ -32,6 +33,21 @@ returns-clause-queries c = λ M N C there here ls same s t joined i k query clea
       to_same M N ls each s t joined i k query,
       covered_stays M N ls each s t joined i k query routes,
     )
+
+pub returns-clause-known : goal.returns-clause-known
+returns-clause-known c = known_stays
+
+pub returns-clause-one_known : goal.returns-clause-one_known
+returns-clause-one_known c = one_known
+
+pub returns-clause-known_holds : goal.returns-clause-known_holds
+returns-clause-known_holds c = known_holds
+
+pub returns-clause-one_searched : goal.returns-clause-one_searched
+returns-clause-one_searched c = one_searched
+
+pub returns-clause-all_searched : goal.returns-clause-all_searched
+returns-clause-all_searched c = all_searched
 
 pub returns-clause-kept : goal.returns-clause-kept
 returns-clause-kept c =
