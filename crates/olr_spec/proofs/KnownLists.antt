@@ -2,10 +2,12 @@
 use Rattle.std.proofs.Common.{inl, inr, ◌≡◌, ℕ, zero, suc, ◌+◌, ◌-◌, List, [], ◌∷◌, ◌++◌, map, length, ◌<◌, ◌≤◌, All, refl, sym}
 use Rattle.std.proofs.Common.{ap, ◌∙◌, subst, arith, nat_lt, filter, true, false, Bool, cond}
 use Rattle.std.proofs.lemmas.List.Elements.{All-nil, All-cons}
-use Rattle.std.specs.Prelude.{⊤}
+use Rattle.std.specs.Prelude.{⊤, ◌↔◌}
 use Rattle.std.specs.List.Sorted.{IsStrictlyIncreasing}
 use Rattle.std.specs.List.{slice_index}
+use Rattle.olr_spec.specs.Map.{has}
 use Rattle.olr_spec.specs.Queries.{FoundFor}
+use Rattle.olr_spec.proofs.ListLemmas.{has_here, has_there}
 
 module _ {X : Type 0} (R : ℕ → X → Type 0) where
   pub found_here : (i : ℕ) (is : List ℕ) (x : X) (xs : List X) → R i x → FoundFor R is xs → FoundFor R (i ∷ is) (x ∷ xs)
@@ -38,11 +40,13 @@ module _ {X : Type 0} (R : ℕ → X → Type 0) where
   found_each P h (i ∷ is) xs (inr f) =
       subst (All P) (sym f.2) (All-cons P f.0 f.1 (h i f.0 f.3) (found_each P h is f.1 f.4))
 
-pub found_moves : {X : Type 0} (R S : ℕ → X → Type 0) → ((i : ℕ) (x : X) → R i x → S i x) →
-    ((i : ℕ) (x : X) → S i x → R i x) → (is : List ℕ) (xs : List X) → FoundFor R is xs → FoundFor S is xs
-found_moves R S f g [] xs h = h
-found_moves R S f g (i ∷ is) xs (inl h) = inl ((λ x s. h.0 x (g i x s)), found_moves R S f g is xs h.1)
-found_moves R S f g (i ∷ is) xs (inr h) = inr (h.0, h.1, h.2, f i h.0 h.3, found_moves R S f g is h.1 h.4)
+pub found_moves : {X : Type 0} (R S : ℕ → X → Type 0) (is : List ℕ) →
+    ((i : ℕ) → has is i ≡ true → (x : X) → R i x ↔ S i x) → (xs : List X) → FoundFor R is xs → FoundFor S is xs
+found_moves R S [] f xs h = h
+found_moves R S (i ∷ is) f xs (inl h) =
+    inl ((λ x s. h.0 x ((f i (has_here i is) x).1 s)), found_moves R S is (λ j on. f j (has_there i is j on)) xs h.1)
+found_moves R S (i ∷ is) f xs (inr h) =
+    inr (h.0, h.1, h.2, (f i (has_here i is) h.0).0 h.3, found_moves R S is (λ j on. f j (has_there i is j on)) h.1 h.4)
 
 -- ---- ascending positions
 

@@ -213,7 +213,7 @@ module _ (M N : Map) (m : IsMap M) (n : IsMap N) (P : Path) (b a : List ℕ) (no
   before_moves : LongestStart N b P.lines
   before_moves = longest_start_moves M N m P.lines b nonempty known same path_starts b_starts b_ends tried.before
 
-  front_same : taken_start M b P.lines ≡ taken_start N b P.lines
+  pub front_same : taken_start M b P.lines ≡ taken_start N b P.lines
   front_same =
       let z = first (b ++ P.lines) in
       let there : SameRound M N (start M z) = first_of_both

@@ -173,10 +173,10 @@ module _ (M N : Map) (ls : List ℕ) (same : Each (SameLine M N) ls) (s t : ℕ)
   alike : (p q : ℕ) → dm_of M (stretch ls p q) ≡ dm_of N (stretch ls p q)
   alike p q = same_dm_of M N (stretch ls p q) (Each-range (SameLine M N) ls p q same)
 
-  covered_there : (j : ℕ) → min j (length ls - 1) ≤ k → Covered M ls i j → Covered N ls i j
+  pub covered_there : (j : ℕ) → min j (length ls - 1) ≤ k → Covered M ls i j → Covered N ls i j
   covered_there j h c = λ inside. (routes (min j (length ls - 1)) inside h).0 (c inside)
 
-  covered_here : (j : ℕ) → min j (length ls - 1) ≤ k → Covered N ls i j → Covered M ls i j
+  pub covered_here : (j : ℕ) → min j (length ls - 1) ≤ k → Covered N ls i j → Covered M ls i j
   covered_here j h c = λ inside. (routes (min j (length ls - 1)) inside h).1 (c inside)
 
   -- the coverage query is one of the other map too

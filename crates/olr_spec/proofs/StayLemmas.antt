@@ -7,22 +7,26 @@ use Rattle.std.proofs.lemmas.List.Elements.{All-contains}
 use Rattle.std.specs.List.{AllZip}
 use Rattle.olr_spec.specs.Map.{Map, IsMap, has_line, start, end, SameLine, SameRound, has}
 use Rattle.olr_spec.specs.Routes.{IsRoute, dm_of}
-use Rattle.olr_spec.specs.Extension.{Path, is_path, first, last, Tried, extended_path, limit}
+use Rattle.olr_spec.specs.Extension.{Path, is_path, first, last, Tried, extended_path, taken_start, limit}
 use Rattle.olr_spec.specs.Points.{stretch, Covered, Follow, OfPath}
 use Rattle.olr_spec.specs.Encoding.{Answer, Refused, Refusal, path_fault, answer_by_points, Encoding, Encodes}
 use Rattle.olr_spec.specs.Detours.{ChangedLine, AccountsFor, Difference}
 use Rattle.olr_spec.specs.Queries.{Traversed, TraversedOfExtended, TraversedOf, IsLastTested, CoverageQuery, query_to}
 use Rattle.olr_spec.specs.Queries.{IsQuery, IsClear, querying}
-use Rattle.olr_spec.specs.Queries.{QueriesOfExtended, QueriesOf}
+use Rattle.olr_spec.specs.Queries.{QueriesOfExtended, QueriesOf, KnownQuery, IsKnownAt, FoundFor, KnownOfExtended}
+use Rattle.olr_spec.specs.Queries.{KnownOf}
 use Rattle.olr_spec.proofs.ListLemmas.{Each, Each-from, has_first, has_last}
-use Rattle.olr_spec.proofs.AnswerLemmas.{sound_lines, path_nonempty, one_answer, path_also}
+use Rattle.olr_spec.proofs.AnswerLemmas.{sound_lines, path_nonempty, one_answer, one_extension, path_also}
 use Rattle.olr_spec.proofs.RunLemmas.{one_tried}
 use Rattle.olr_spec.proofs.RouteMoves.{turned_lines}
 use Rattle.olr_spec.proofs.FaultMoves.{fault_same}
 use Rattle.olr_spec.proofs.JoinedLemmas.{extended_joined}
-use Rattle.olr_spec.proofs.QueryLemmas.{RoutesStay, to_same, clear_routes, query_stays, covered_stays}
-use Rattle.olr_spec.proofs.QueryLists.{query_for, zip_moves}
-use Rattle.olr_spec.proofs.PointMoves.{close_stays, Traversed-moves, tried_moves, b_same, a_same, ls_same}
+use Rattle.olr_spec.proofs.QueryLemmas.{RoutesStay, to_same, clear_routes, query_stays, covered_stays, covered_there}
+use Rattle.olr_spec.proofs.QueryLemmas.{covered_here}
+use Rattle.olr_spec.proofs.QueryLists.{query_for, queries_here, zip_moves}
+use Rattle.olr_spec.proofs.TestedLemmas.{one_last_tested}
+use Rattle.olr_spec.proofs.KnownLists.{found_moves}
+use Rattle.olr_spec.proofs.PointMoves.{close_stays, Traversed-moves, tried_moves, b_same, a_same, ls_same, front_same}
 use Rattle.olr_spec.proofs.PointMoves.{extended_same}
 use Rattle.olr_spec.proofs.PointMoves.{follow_same, answer_same}
 
@@ -31,6 +35,53 @@ abbrev pub RoutesOf : Map → Map → List CoverageQuery → Type 0
 RoutesOf M N queries =
     (ls : List ℕ) → Each (SameLine M N) ls → (s t : ℕ) → IsRoute M s t ls → (i k : ℕ) → IsLastTested M ls i k →
     Contains queries (query_to M ls i k) → RoutesStay M N ls i k
+
+-- of two maps on which the routes from line i to position k are the same
+module _ (M N : Map) (ls : List ℕ) (same : Each (SameLine M N) ls) (s t : ℕ) (joined : IsRoute M s t ls)
+    (lead own i k : ℕ) (query : IsLastTested M ls i k) (routes : RoutesStay M N ls i k) (e : KnownQuery) where
+  covers_last : Covered M ls i k ↔ Covered N ls i k
+  covers_last = (
+    covered_there M N ls same s t joined i k query routes k (omega arith),
+    covered_here M N ls same s t joined i k query routes k (omega arith),
+  )
+
+  there : k ≡ lead + e.last → IsKnownAt M ls lead own i e → IsKnownAt N ls lead own i e
+  there is a =
+      let tested = query_stays M N ls same s t joined i k query routes in
+      let to : query_to M ls i (lead + e.last) ≡ query_to N ls i (lead + e.last) =
+      subst (λ (p : ℕ). query_to M ls i p ≡ query_to N ls i p) is (to_same M N ls same s t joined i k query) in
+      let covers : Covered M ls i (lead + e.last) ↔ Covered N ls i (lead + e.last) =
+      subst (λ (p : ℕ). Covered M ls i p ↔ Covered N ls i p) is covers_last in
+      record {
+        begins = a.begins;
+        order = a.order;
+        upto = a.upto;
+        tested = subst (IsLastTested N ls i) is tested;
+        query = a.query ∙ to;
+        covered = ((λ c. covers.0 (a.covered.0 c)), (λ c. a.covered.1 (covers.1 c)));
+      }
+
+  here : k ≡ lead + e.last → IsKnownAt N ls lead own i e → IsKnownAt M ls lead own i e
+  here is a =
+      let to : query_to M ls i (lead + e.last) ≡ query_to N ls i (lead + e.last) =
+      subst (λ (p : ℕ). query_to M ls i p ≡ query_to N ls i p) is (to_same M N ls same s t joined i k query) in
+      let covers : Covered M ls i (lead + e.last) ↔ Covered N ls i (lead + e.last) =
+      subst (λ (p : ℕ). Covered M ls i p ↔ Covered N ls i p) is covers_last in
+      record {
+        begins = a.begins;
+        order = a.order;
+        upto = a.upto;
+        tested = subst (IsLastTested M ls i) is query;
+        query = a.query ∙ sym to;
+        covered = ((λ c. covers.1 (a.covered.0 c)), (λ c. a.covered.1 (covers.0 c)));
+      }
+
+  known_as : IsKnownAt M ls lead own i e ↔ IsKnownAt N ls lead own i e
+  known_as = (
+    (λ a. there (one_last_tested M ls i k (lead + e.last) query a.tested) a),
+    (λ a. here (one_last_tested N ls i k (lead + e.last) (query_stays M N ls same s t joined i k query routes) a.tested)
+        a),
+  )
 
 module _ (M N : Map) (m : IsMap M) (n : IsMap N) (P : Path) (is : IsTrue (is_path P.lines))
     (sound : path_fault M P ≡ None) (same : Each (SameLine M N) P.lines)
@@ -162,6 +213,41 @@ module _ (M N : Map) (m : IsMap M) (n : IsMap N) (P : Path) (is : IsTrue (is_pat
       goes_over (subst (λ (F : Path). AllZip (IsQuery N F.lines) (querying F.lines (0 ∷ o.points)) queries) path_there
       each)
 
+  -- the coverage queries along the path's own lines
+  known_query : (lead own i : ℕ) → has (querying E.lines (0 ∷ o.points)) i ≡ true → (e : KnownQuery)
+      → IsKnownAt M E.lines lead own i e ↔ IsKnownAt N E.lines lead own i e
+  known_query lead own i on e =
+      let s = start M (first E.lines) in
+      let t = end M (last E.lines) in
+      let at = queries_here E.lines (0 ∷ o.points) i on in
+      let l = query_for M E.lines (0 ∷ o.points) queries o.holds i at.0 at.1 in
+      let k = l.2.0 in
+      let routes_of = stay i k l.2.1 (subst (Contains queries) l.2.2 l.1) in
+      let here = known_as M N E.lines all_same s t joined lead own i k l.2.1 routes_of e in
+      here
+
+  pub known_stay : (ks : List KnownQuery) → KnownOfExtended M P ks → KnownOfExtended N P ks
+  known_stay ks p =
+      let runs = one_extension M m P is sound p.before p.after p.points o.before o.after o.points p.tried p.follow
+      o.tried o.follow in
+      let Holds : List ℕ → List ℕ → List ℕ → Type 0 =
+      λ b a js. FoundFor (IsKnownAt M (extended_path M P b a).lines (length (taken_start M b P.lines)) (length P.lines))
+      (querying (extended_path M P b a).lines (0 ∷ js)) ks in
+      let here : Holds o.before o.after o.points = coe 0 1 (i. Holds (runs.0 i) (runs.1 i) (runs.2 i)) p.holds in
+      let lead = length (taken_start M o.before P.lines) in
+      let own = length P.lines in
+      let moved : FoundFor (IsKnownAt N E.lines lead own) (querying E.lines (0 ∷ o.points)) ks =
+      found_moves (IsKnownAt M E.lines lead own) (IsKnownAt N E.lines lead own) (querying E.lines (0 ∷ o.points))
+      (known_query lead own) ks here in
+      let leads = front_same M N m n P o.before o.after nonempty known same o.tried
+      (rounds o.before o.after o.tried) in
+      let led : FoundFor (IsKnownAt N E.lines (length (taken_start N o.before P.lines)) own)
+      (querying E.lines (0 ∷ o.points)) ks =
+      subst (λ (b : List ℕ). FoundFor (IsKnownAt N E.lines (length b) own) (querying E.lines (0 ∷ o.points)) ks) leads
+      moved in
+      goes_over (subst (λ (F : Path). FoundFor (IsKnownAt N F.lines (length (taken_start N o.before P.lines)) own)
+      (querying F.lines (0 ∷ o.points)) ks) path_there led)
+
 -- ---- whether or not the path has a fault
 
 module _ (M N : Map) (m : IsMap M) (n : IsMap N) (P : Path) (is : IsTrue (is_path P.lines))
@@ -190,6 +276,25 @@ module _ (M N : Map) (m : IsMap M) (n : IsMap N) (P : Path) (is : IsTrue (is_pat
       × ((v : ℕ) → TraversedOf M P v ↔ MatchOption f (TraversedOfExtended N P v) (λ _. ⊥)) × MatchOption f
       (QueriesOfExtended N P queries) (λ _. queries ≡ []))
       (fault_same M N P same) (by_case (path_fault M P) refl traversed o)
+
+-- the coverage queries along the path's own lines too
+pub known_kept : (M N : Map) → IsMap M → IsMap N → (C : List ChangedLine) → AccountsFor C M N → AccountsFor C N M →
+    (P : Path) → IsTrue (is_path P.lines) → Each (SameLine M N) P.lines → (queries : List CoverageQuery) →
+    All (IsClear N C) queries → ((v : ℕ) → TraversedOf M P v → SameRound M N v) → QueriesOf M P queries →
+    (ks : List KnownQuery) → KnownOf M P ks → KnownOf N P ks
+known_kept M N m n C accounts back P is same queries clear traversed o ks known =
+    subst (λ (f : Option Refusal). MatchOption f (KnownOfExtended N P ks) (λ _. ks ≡ [])) (fault_same M N P same)
+    (by (path_fault M P) refl traversed o known)
+  where
+    by : (f : Option Refusal) → path_fault M P ≡ f
+        → ((v : ℕ) → MatchOption f (TraversedOfExtended M P v) (λ _. ⊥) → SameRound M N v)
+        → MatchOption f (QueriesOfExtended M P queries) (λ _. queries ≡ [])
+        → MatchOption f (KnownOfExtended M P ks) (λ _. ks ≡ []) → MatchOption f (KnownOfExtended N P ks) (λ _. ks ≡ [])
+    by None e traversed o known =
+        known_stay M N m n P is e same traversed queries o (λ ls each s t joined i k last on.
+        clear_routes M N ls each s t joined i k last C accounts back
+        (All-contains (IsClear N C) queries (query_to M ls i k) clear on)) ks known
+    by (Some r) e traversed o known = known
 
 -- if each coverage query is clear
 pub kept : (M N : Map) → IsMap M → IsMap N → (C : List ChangedLine) → AccountsFor C M N → AccountsFor C N M → (P : Path)

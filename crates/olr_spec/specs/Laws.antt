@@ -397,7 +397,16 @@ AnswersRetained =
     → ((A : Answer) → Encodes M P A → Encodes N P A) × ((v : ℕ) → TraversedOf M P v ↔ TraversedOf N P v)
     × QueriesOf N P queries
 
--- the same conclusion from what the edits touch and change
+-- and so are its coverage queries along its own lines
+abbrev pub KnownRetained : Type 0
+KnownRetained =
+    (M N : Map) → IsMap M → IsMap N → (C : List ChangedLine) → AccountsFor C M N → AccountsFor C N M
+    → (P : Path) → IsTrue (is_path P.lines) → AllByRecursion (SameLine M N) P.lines →
+    ((v : ℕ) → TraversedOf M P v → SameRound M N v)
+    → (queries : List CoverageQuery) → QueriesOf M P queries → All (IsClear N C) queries
+    → (ks : List KnownQuery) → KnownOf M P ks → KnownOf N P ks
+
+-- the same conclusion as of AnswersRetained, from what the edits touch and change
 abbrev pub UntouchedRetained : Type 0
 UntouchedRetained =
     (M N : Map) → IsMap M → IsMap N → (T X : List ℕ) (C : List ChangedLine) → Difference T X C M N

@@ -146,6 +146,7 @@ pub fn laws_of_queries()
     ensures all_searched { Laws.AllSearched }
     ensures kept { Laws.AnswersRetained }
     ensures untouched { Laws.UntouchedRetained }
+    ensures known_kept { Laws.KnownRetained }
 {}
 
 /// 24-bit steps, and back: halves are rounded away from zero.

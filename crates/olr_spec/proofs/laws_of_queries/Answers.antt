@@ -1,7 +1,7 @@
 use Rattle.olr_spec.specs.Map.{SameLine}
 use Rattle.olr_spec.proofs.ListLemmas.{Each-from}
 use Rattle.olr_spec.proofs.QueryLemmas.{to_same, clear_routes, query_stays, covered_stays}
-use Rattle.olr_spec.proofs.StayLemmas.{kept, untouched_retained}
+use Rattle.olr_spec.proofs.StayLemmas.{kept, known_kept, untouched_retained}
 use Rattle.olr_spec.proofs.TestedLemmas.{one_last_tested, some_last_tested, one_queries, some_queries, foot_queried}
 use Rattle.olr_spec.proofs.TestedLemmas.{foot_affected}
 use Rattle.olr_spec.proofs.KnownLemmas.{known_stays, one_known, known_holds, one_searched, all_searched}
@@ -56,3 +56,8 @@ returns-clause-kept c =
 
 pub returns-clause-untouched : goal.returns-clause-untouched
 returns-clause-untouched c = untouched_retained
+
+pub returns-clause-known_kept : goal.returns-clause-known_kept
+returns-clause-known_kept c =
+    λ M N m n C there here P is same traversed queries o clear.
+    known_kept M N m n C there here P is (Each-from (SameLine M N) P.lines same) queries clear traversed o
