@@ -8,3 +8,4 @@ pub mod Fields
 pub mod KeptPoints
 pub mod Recovered
 pub mod Referring
+pub mod Reuse

@@ -23,17 +23,22 @@ pub struct Extended {
     pub pos: u64,
     /// The length that is cut off at the end, in decimetres.
     pub neg: u64,
+    /// How many of the lines precede the path's own.
+    pub lead: usize,
 }
 
 impl Model for Extended {
-    ghost use Rattle.olr_spec.specs.Extension.{Path as Record};
-    ghost use Rattle.olr_refs.specs.Coded.{coded_path};
+    ghost use Rattle.olr_refs.specs.Extends.{ExtendedPath};
+    ghost use Rattle.olr_refs.specs.Coded.{coded_extended};
 
-    ghost Value = { Record };
+    ghost Value = { ExtendedPath };
 
-    ghost coded = { coded_path };
+    ghost coded = { coded_extended };
 
-    ghost view = { λ e. record { lines = e.lines.items; pos = e.pos; neg = e.neg } };
+    ghost view = { λ e. record {
+      path = record { lines = e.lines.items; pos = e.pos; neg = e.neg };
+      lead = e.lead;
+    } };
 }
 
 /// Extends the ends of a path to valid nodes (White Paper, rules on valid nodes; the limits are the profile's). At each
@@ -48,7 +53,7 @@ pub fn extend<M: MapRead>(
 ) -> Result<Extended, AllocError>
     requires { first_unknown (M.map map.now) path.now.lines ≡ None }
     ensures ok { IfOk result
-        (λ extended. Extends (M.map map.now) path.now extended footprint.old footprint.new) }
+        (λ extended. Extends (M.map map.now) path.now extended.path extended.lead footprint.old footprint.new) }
     ensures err { OnErr result (footprint.new ≡ footprint.old) }
 {
     let before = run_before(alloc, map, path.lines())?;
@@ -63,6 +68,7 @@ pub fn extend<M: MapRead>(
         lines,
         pos: u64::from(path.pos()) + u64::from(front_len),
         neg: u64::from(path.neg()) + u64::from(back_len),
+        lead: front.len(),
     })
 }
 

@@ -16,7 +16,7 @@ use Rattle.olr_spec.specs.Extension.{AreJoined}
 use Rattle.olr_spec.specs.Points.{stretch, Covered, Follow}
 use Rattle.olr_spec.specs.Encoding.{Refusal, path_fault}
 use Rattle.olr_spec.specs.Detours.{ChangedLine, AccountsFor, Detour}
-use Rattle.olr_spec.specs.Queries.{IsLastTested, CoverageQuery, query_to, IsQuery, IsClear, KnownQuery, IsKnown}
+use Rattle.olr_spec.specs.Queries.{IsLastTested, CoverageQuery, query_to, IsQuery, IsClear, KnownQuery, IsKnown, AreKnown}
 use Rattle.olr_spec.specs.Queries.{IsKnownAt, FoundFor, OfQuerying, KnownOfExtended, KnownOf, IsReused, IsSearched}
 use Rattle.olr_spec.specs.Queries.{SearchedOfExtended, SearchedOf, QueriesOf, QueriesOfExtended, querying}
 use Rattle.olr_spec.proofs.ListLemmas.{Each, Each-head, Each-left, Each-right, has_index}
@@ -342,26 +342,28 @@ known_at : (M : Map) (b own a : List ℕ) → AreJoined M ((b ++ own) ++ a) → 
 known_at M b own a joined i e k =
     is_known M b own a joined i e k.begins k.order k.upto k.tested.inside k.tested k.query k.covered
 
+pub none_known : (M : Map) (ls : List ℕ) → AreKnown M ls []
+none_known M ls = record { right = All-nil (IsKnown M ls); ascend = λ j h. absurd (omega arith) }
+
 pub known_holds : (M : Map) (P : Path) → IsTrue (is_path P.lines) → (ks : List KnownQuery) → KnownOf M P ks →
-    All (IsKnown M P.lines) ks × IsStrictlyIncreasing (map (λ e. e.first) ks)
+    AreKnown M P.lines ks
 known_holds M P is ks = by (path_fault M P) refl
   where
     by : (o : Option Refusal) → path_fault M P ≡ o → MatchOption o (KnownOfExtended M P ks) (λ _. ks ≡ []) →
-        All (IsKnown M P.lines) ks × IsStrictlyIncreasing (map (λ e. e.first) ks)
+        AreKnown M P.lines ks
     by None e p =
         let b = taken_start M p.before P.lines in
         let a = taken_end M (from_start M P p.before) p.after in
         let ls = (b ++ P.lines) ++ a in
         let At = IsKnownAt M ls (length b) (length P.lines) in
-        let joined = extended_joined M P is e p.before p.after p.tried in (
-          found_each At (IsKnown M P.lines) (known_at M b P.lines a joined) (querying ls (0 ∷ p.points)) ks p.holds,
-          found_increasing At (λ e. e.first) (length b) (λ i x k. k.begins) (querying ls (0 ∷ p.points)) ks
-              (querying_ascend M ls p.points p.follow) p.holds,
-        )
-    by (Some r) e p = (
-      subst (All (IsKnown M P.lines)) (sym p) (All-nil (IsKnown M P.lines)),
-      subst (λ (xs : List KnownQuery). IsStrictlyIncreasing (map (λ e. e.first) xs)) (sym p) (λ j h. absurd (omega arith)),
-    )
+        let joined = extended_joined M P is e p.before p.after p.tried in
+        record {
+          right = found_each At (IsKnown M P.lines) (known_at M b P.lines a joined) (querying ls (0 ∷ p.points)) ks
+              p.holds;
+          ascend = found_increasing At (λ e. e.first) (length b) (λ i x k. k.begins) (querying ls (0 ∷ p.points)) ks
+              (querying_ascend M ls p.points p.follow) p.holds;
+        }
+    by (Some r) e p = subst (AreKnown M P.lines) (sym p) (none_known M P.lines)
 
 -- ---- where nothing is given, everything is searched
 

@@ -38,7 +38,7 @@ use Rattle.olr_spec.specs.Recovery.{IsWeighted, are_spaced, lon_apart, lat_apart
 use Rattle.olr_spec.specs.Footprint.{Sees, Foot}
 use Rattle.olr_spec.specs.Detours.{ChangedLine, changes_of, AccountsFor, Difference, Detour, Near}
 use Rattle.olr_spec.specs.Queries.{TraversedOf, IsLastTested, CoverageQuery, query_to, QueriesOf, IsClear}
-use Rattle.olr_spec.specs.Queries.{KnownQuery, IsKnown, KnownOf, SearchedOf}
+use Rattle.olr_spec.specs.Queries.{KnownQuery, IsKnown, AreKnown, KnownOf, SearchedOf}
 
 -- ---- maps
 
@@ -372,8 +372,7 @@ OneKnown =
 
 abbrev pub KnownHolds : Type 0
 KnownHolds =
-    (M : Map) (P : Path) → IsTrue (is_path P.lines) → (ks : List KnownQuery) → KnownOf M P ks →
-    All (IsKnown M P.lines) ks × IsStrictlyIncreasing (map (λ e. e.first) ks)
+    (M : Map) (P : Path) → IsTrue (is_path P.lines) → (ks : List KnownQuery) → KnownOf M P ks → AreKnown M P.lines ks
 
 -- by given coverage queries there is at most one list of others, and where none are given these are all
 abbrev pub OneSearched : Type 0

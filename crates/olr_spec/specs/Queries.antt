@@ -11,6 +11,7 @@
 --         path between
 --     KnownQuery, IsKnown M ls e      a coverage query along a path's own lines ls, by its positions in them; that it
 --         is right
+--     AreKnown M ls ks      each of these is, and each begins at a later line than the one before it
 --     IsKnownAt M E.lines lead own i e      e is the coverage query of the LRP i of an extended path, whose lines are
 --         lead lines, own lines and others
 --     FoundFor R is xs      each i of the list is has one x with R i x, or none; xs are these, in order
@@ -21,9 +22,10 @@
 --     QueriesFrom M ls is queries, QueriesOf M P queries      one coverage query for each LRP of the list is, in order;
 --         the
 --         coverage queries of the path
-use Rattle.std.specs.Prelude.{◌≡◌, ℕ, ◌+◌, ◌-◌, ◌<◌, ◌≤◌, min, Bool, List, [], ◌∷◌, length, filter, nat_lt, slice_index}
+use Rattle.std.specs.Prelude.{◌≡◌, ℕ, ◌+◌, ◌-◌, ◌<◌, ◌≤◌, min, Bool, List, [], ◌∷◌, length, map, filter, nat_lt, slice_index}
 use Rattle.std.specs.Prelude.{MatchOption, Contains, ◌⊎◌, ◌↔◌, IsTrue}
-use Rattle.std.specs.List.{AllZip}
+use Rattle.std.specs.List.{All, AllZip}
+use Rattle.std.specs.List.Sorted.{IsStrictlyIncreasing}
 use Rattle.olr_spec.specs.Map.{Map, start, end, has}
 use Rattle.olr_spec.specs.Routes.{IsRoute, dm_of, LrpRoute}
 use Rattle.olr_spec.specs.Extension.{Path, Tried, extended_path, taken_start, limit}
@@ -115,6 +117,11 @@ pub record IsKnown (M : Map) (ls : List ℕ) (e : KnownQuery) : Type 0 where
   pub before : (m : ℕ) → e.first ≤ m → m < e.last →
       LrpRoute M e.query.from (start M (slice_index ls m)) (stretch ls e.first m)
   pub covered : IsTrue e.covered ↔ LrpRoute M e.query.from e.query.to (stretch ls e.first e.last)
+
+-- in ascending order of the lines where they begin
+pub record AreKnown (M : Map) (ls : List ℕ) (ks : List KnownQuery) : Type 0 where
+  pub right : All (IsKnown M ls) ks
+  pub ascend : IsStrictlyIncreasing (map (λ e. e.first) ks)
 
 -- of the extended path ls, line lead is the path's first line, and the path has so many lines of its own
 pub record IsKnownAt (M : Map) (ls : List ℕ) (lead own i : ℕ) (e : KnownQuery) : Type 0 where
