@@ -48,6 +48,7 @@ pub fn publish<M: MapRead>(
         answer,
         traversed,
         queries,
+        known: _known,
     } = encode(alloc, map, path, search, work)?;
     let text = text_of(alloc, &answer)?;
     Ok(Published {

@@ -101,11 +101,11 @@ module _ (M : Map) (P : Path) (good : IsTrue (is_path P.lines)) (unknown : first
         ∙ ap (λ (zs : List ℕ). from_start M P b ++ zs) back_is
 
     -- what the code composes is the extended path
-    pub extends : (E : Path) (F G : List ℕ) → E.lines ≡ whole → E.pos ≡ P.pos + cond before_valid (dm_of M b) 0 →
+    pub extends : (E : Path) (lead : ℕ) (F G : List ℕ) → lead ≡ length (if_valid before_valid b) → E.lines ≡ whole → E.pos ≡ P.pos + cond before_valid (dm_of M b) 0 →
         E.neg ≡ P.neg + cond after_valid (dm_of M a) 0 →
         ((v : ℕ) → Contains G v ↔ (Contains F v ⊎ (NodeOf M E.lines v ⊎ (NodeOf M b v ⊎ NodeOf M a v)))) →
-        Extends M P E F G
-    extends E F G lines pos neg noted =
+        Extends M P E lead F G
+    extends E lead F G leads lines pos neg noted =
         let lines_are : E.lines ≡ from_start M P b ++ taken_end M (from_start M P b) a = lines ∙ whole_is in
         let pos_is : E.pos ≡ P.pos + dm_of M (taken_start M b P.lines) =
         pos ∙ ap (λ n. P.pos + n) (len_taken M before_valid b ∙ ap (dm_of M) start_is) in
@@ -116,5 +116,6 @@ module _ (M : Map) (P : Path) (good : IsTrue (is_path P.lines)) (unknown : first
           after = a;
           tried = tried;
           path = λ i. record { lines = lines_are i; pos = pos_is i; neg = neg_is i };
+          leads = leads ∙ ap length start_is;
           noted = noted;
         }

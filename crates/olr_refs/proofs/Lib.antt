@@ -13,6 +13,8 @@ pub mod PlaceLemmas
 pub mod PointLemmas
 pub mod Reaching
 pub mod Recovering
+pub mod Reusing
+pub mod Asking
 pub mod Referring
 pub mod Seen
 pub mod Sets

@@ -6,13 +6,14 @@ ghost use Rattle.olr_spec.specs.Queries.{IsLastTested, query_to};
 ghost use Rattle.olr_route.specs.Searches.{IsSearch, LiesWithin, limit_of};
 ghost use Rattle.olr_refs.specs.Along.{IsFar, IsReach};
 ghost use Rattle.olr_refs.specs.Choice.{ForPoints, IsChoice, Queried, Notes};
-ghost use Rattle.olr_refs.specs.Reuse.{Reuses, Asks, to_list};
+ghost use Rattle.std.specs.Option.{option_to_list};
+ghost use Rattle.olr_refs.specs.Reuse.{Reuses, Asks, AsksAfter};
 
 use crate::along::ResolvedPath;
 use crate::choice::{last_within_limit, next_of};
 use crate::coverage_query::{CoverageQuery, KnownQuery};
 use crate::reach::{Tested, covered_to};
-use crate::reuse::{Reuse, known_after, own_query};
+use crate::reuse::{Reuse, known_after, own_query, query_of, reach_by};
 use olr_map::{Footprint, MapRead};
 use olr_route::{Dijkstra, Direction, Work};
 use std::alloc::{AllocError, Global};
@@ -115,14 +116,20 @@ fn query_after<M: MapRead>(
         reuse.now.known.now }
     ensures reach { IfOk result (λ r. IsReach (M.map resolved.now.map.now) resolved.now.lines.now i r.0) }
     ensures asks { IfOk result (λ r. Asks (M.map resolved.now.map.now) resolved.now.lines.now reuse.now.lead
-        reuse.now.own reuse.now.known.now (i ∷ []) (r.1 ∷ []) (to_list r.2) work.old work.new seen.old seen.new) }
+        reuse.now.own reuse.now.known.now (i ∷ []) (r.1 ∷ []) (option_to_list r.2) work.old work.new seen.old seen.new) }
 {
     let far = last_within_limit(resolved, i);
-    if let Some((reach, known)) = known_after(resolved, reuse, i, far) {
-        return Ok((reach, known.query, Some(known)));
+    match known_after(resolved, reuse, i, far) {
+        Some(known) => {
+            let reach = reach_by(&known, reuse.lead, far);
+            Ok((reach, query_of(&known), Some(known)))
+        }
+        None => {
+            let (tested, query) = search_after(alloc, resolved, i, far, search, seen, work)?;
+            let own = own_query(resolved, reuse, i, query, tested);
+            Ok((tested.reach, query, own))
+        }
     }
-    let (tested, query) = search_after(alloc, resolved, i, far, search, seen, work)?;
-    Ok((tested.reach, query, own_query(resolved, reuse, i, query, tested)))
 }
 
 /// How far the positions after `i` are covered and near enough. The query for that, where two lines or more follow line
@@ -141,10 +148,9 @@ fn reach_of<M: MapRead>(
     requires reuse { Reuses (M.map resolved.now.map.now) resolved.now.lines.now reuse.now.lead reuse.now.own
         reuse.now.known.now }
     ensures reach { IfOk result (IsReach (M.map resolved.now.map.now) resolved.now.lines.now i) }
-    ensures asks { IfOk result (λ _. (added : _) × (own : _) × (queries.new.all.items ≡ queries.old.all.items ++ added)
-        × (queries.new.own.items ≡ queries.old.own.items ++ own)
-        × Asks (M.map resolved.now.map.now) resolved.now.lines.now reuse.now.lead reuse.now.own reuse.now.known.now
-        (i ∷ []) added own work.old work.new seen.old seen.new) }
+    ensures asks { IfOk result (λ _. AsksAfter (M.map resolved.now.map.now) resolved.now.lines.now reuse.now.lead
+        reuse.now.own reuse.now.known.now i queries.old.all.items queries.new.all.items queries.old.own.items
+        queries.new.own.items work.old work.new seen.old seen.new) }
 {
     if resolved.lines.len() - i <= 2 {
         return Ok(last_within_limit(resolved, i));
@@ -188,7 +194,16 @@ pub fn points<M: MapRead>(
     positions.push(0)?;
     let mut last = 0;
     while last < resolved.lines.len() {
-        let reach = reach_of(alloc, resolved, reuse, last, &mut queries, search, seen, work)?;
+        let reach = reach_of(
+            alloc,
+            resolved,
+            reuse,
+            last,
+            &mut queries,
+            search,
+            seen,
+            work,
+        )?;
         match next_of(resolved, last, reach) {
             Some(next) => {
                 positions.push(next)?;

@@ -63,7 +63,7 @@ pub fn refer<M: MapRead>(
 {
     let mut search = Dijkstra::new(alloc);
     let mut seen = Some(Footprint::new(alloc));
-    let encoding = encode_noting(alloc, map, path, &mut search, &mut seen, work)?;
+    let encoding = encode_noting(alloc, map, path, &[], &mut search, &mut seen, work)?;
     let footprint = with_seen(encoding.traversed, seen)?;
     Ok((encoding.answer, footprint))
 }

@@ -3,7 +3,7 @@ ghost use Rattle.std.specs.Prelude.{◌≡◌, ◌+◌, ◌-◌, ◌^◌, ◌<�
 ghost use Rattle.std.specs.Prelude.{Contains, length};
 ghost use Rattle.olr_spec.specs.Queries.{IsKnownAt, IsLastTested, IsReused, query_to, KnownQuery as Query};
 ghost use Rattle.olr_refs.specs.Along.{IsFar, IsReach};
-ghost use Rattle.olr_refs.specs.Reuse.{Reuses};
+ghost use Rattle.olr_refs.specs.Reuse.{Reuses, known_reach};
 
 use crate::along::ResolvedPath;
 use crate::coverage_query::{CoverageQuery, KnownQuery};
@@ -39,37 +39,65 @@ fn ends_here(known: &KnownQuery, lead: usize, far: usize, lines: usize) -> bool
     }
 }
 
-/// The known coverage query after `i`, where one is known, and how far the positions after `i` are covered and near
-/// enough; positions up to `far` are near enough.
+/// The known coverage query after `i`, where one is known; positions up to `far` are near enough.
 pub fn known_after<M: MapRead>(
     resolved: &ResolvedPath<M>,
     reuse: &Reuse,
     i: usize,
     far: usize,
-) -> Option<(usize, KnownQuery)>
+) -> Option<KnownQuery>
     requires some { i + 1 < length resolved.now.lines.now }
     requires reuse { Reuses (M.map resolved.now.map.now) resolved.now.lines.now reuse.now.lead reuse.now.own
         reuse.now.known.now }
     requires far { IsFar (M.map resolved.now.map.now) resolved.now.lines.now i far }
     ensures none { IsNone result → ¬ IsReused (M.map resolved.now.map.now) resolved.now.lines.now reuse.now.lead
         reuse.now.own reuse.now.known.now i }
-    ensures reach { IfSome result (λ r. IsReach (M.map resolved.now.map.now) resolved.now.lines.now i r.0) }
-    ensures known { IfSome result (λ r. IsKnownAt (M.map resolved.now.map.now) resolved.now.lines.now reuse.now.lead
-        reuse.now.own i r.1) }
-    ensures given { IfSome result (λ r. Contains reuse.now.known.now r.1) }
+    ensures known { IfSome result (IsKnownAt (M.map resolved.now.map.now) resolved.now.lines.now reuse.now.lead
+        reuse.now.own i) }
+    ensures reach { IfSome result (λ e. IsReach (M.map resolved.now.map.now) resolved.now.lines.now i
+        (known_reach reuse.now.lead far e)) }
+    ensures given { IfSome result (Contains reuse.now.known.now) }
 {
     let first = (i + 1).checked_sub(reuse.lead)?;
-    let k = reuse.known.binary_search_by_key(&first, |known| known.first as usize).ok()?;
+    let k = reuse
+        .known
+        .binary_search_by_key(&first, |known| known.first as usize)
+        .ok()?;
     let known = reuse.known[k];
     if !ends_here(&known, reuse.lead, far, resolved.lines.len()) {
         return None;
     }
-    let reach = if known.covered {
+    Some(known)
+}
+
+/// How far the positions are covered and near enough, by a known query; positions up to `far` are near enough.
+pub fn reach_by(known: &KnownQuery, lead: usize, far: usize) -> usize
+    requires some { 0 < known.now.last }
+    requires small { lead + known.now.last < 2 ^ 64 }
+    ensures { result ≡ known_reach lead far known.now }
+{
+    if known.covered {
         far
     } else {
-        reuse.lead + known.last as usize - 1
-    };
-    Some((reach, known))
+        lead + known.last as usize - 1
+    }
+}
+
+/// Whether the lines from the end of line `i` to position `last` are some of the path's own.
+fn is_own(reuse: &Reuse, i: usize, last: usize) -> bool
+    requires small { reuse.now.lead + reuse.now.own < 2 ^ 64 }
+    requires inside { i + 1 < 2 ^ 64 }
+    ensures { IsTrue result ↔ ((reuse.now.lead ≤ i + 1) × (i + 1 < last)
+        × (last ≤ reuse.now.lead + reuse.now.own)) }
+{
+    reuse.lead <= i + 1 && i + 1 < last && last <= reuse.lead + reuse.own
+}
+
+/// The coverage query itself.
+pub fn query_of(known: &KnownQuery) -> CoverageQuery
+    ensures { result ≡ known.now.query }
+{
+    known.query
 }
 
 /// A coverage query after `i` as one along the path's own lines, where it is.
@@ -81,6 +109,7 @@ pub fn own_query<M: MapRead>(
     tested: Tested,
 ) -> Option<KnownQuery>
     requires few { reuse.now.own ≤ 10000 }
+    requires inside { reuse.now.lead + reuse.now.own ≤ length resolved.now.lines.now }
     requires reach { IsReach (M.map resolved.now.map.now) resolved.now.lines.now i tested.reach }
     requires last { IsLastTested (M.map resolved.now.map.now) resolved.now.lines.now i tested.last }
     requires query { query ≡ query_to (M.map resolved.now.map.now) resolved.now.lines.now i tested.last }
@@ -88,10 +117,7 @@ pub fn own_query<M: MapRead>(
         ((e : Query) → ¬ IsKnownAt (M.map resolved.now.map.now) resolved.now.lines.now reuse.now.lead reuse.now.own i e)
         (IsKnownAt (M.map resolved.now.map.now) resolved.now.lines.now reuse.now.lead reuse.now.own i) }
 {
-    let is_own = reuse.lead <= i + 1
-        && i + 1 < tested.last
-        && tested.last <= reuse.lead + reuse.own;
-    if !is_own {
+    if !is_own(reuse, i, tested.last) {
         return None;
     }
     Some(KnownQuery {

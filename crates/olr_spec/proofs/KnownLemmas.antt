@@ -1,25 +1,23 @@
 -- Coverage queries along a path's own lines: what they say without the extension, and that they are the same on another
 -- map where they are clear.
-use Rattle.std.proofs.Common.{inl, inr, ◌≡◌, ℕ, ◌+◌, ◌-◌, min, List, [], ◌∷◌, ◌++◌, length, take, drop, map, ◌<◌, ◌≤◌, sym}
-use Rattle.std.proofs.Common.{ap, ◌∙◌, subst, arith, refl, ◌↔◌, Bool, true, false, IsTrue, Contains, All, Option, None}
+use Rattle.std.proofs.Common.{inr, ◌≡◌, ℕ, ◌+◌, ◌-◌, min, List, [], ◌∷◌, ◌++◌, length, take, drop, ◌<◌, ◌≤◌, sym}
+use Rattle.std.proofs.Common.{ap, ◌∙◌, subst, arith, refl, ◌↔◌, Bool, true, false, IsTrue, Option, None}
 use Rattle.std.proofs.Common.{Some, MatchOption, nat_lt}
-use Rattle.std.proofs.lemmas.Bool.{cases_Bool}
 use Rattle.std.proofs.lemmas.List.{drop-append-le, take-append-le, append_assoc, get_or_append_left, get_or-append-add}
 use Rattle.std.proofs.lemmas.List.{length-drop}
 use Rattle.std.proofs.Math.Seq.{drop-append-add}
 use Rattle.std.specs.List.{slice_index, AllZip}
-use Rattle.std.specs.List.Sorted.{IsStrictlyIncreasing}
 use Rattle.olr_spec.specs.Map.{Map, IsMap, start, end, SameLine}
 use Rattle.olr_spec.specs.Routes.{IsRoute, dm_of, UniqueShortest, LrpRoute}
-use Rattle.olr_spec.specs.Extension.{Path, is_path, first, last, Tried, extended_path, from_start, taken_start, taken_end}
+use Rattle.olr_spec.specs.Extension.{Path, is_path, extended_path, from_start, taken_start, taken_end}
 use Rattle.olr_spec.specs.Extension.{AreJoined}
 use Rattle.olr_spec.specs.Points.{stretch, Covered, Follow}
 use Rattle.olr_spec.specs.Encoding.{Refusal, path_fault}
 use Rattle.olr_spec.specs.Detours.{ChangedLine, AccountsFor, Detour}
 use Rattle.olr_spec.specs.Queries.{IsLastTested, CoverageQuery, query_to, IsQuery, IsClear, KnownQuery, IsKnown, AreKnown}
-use Rattle.olr_spec.specs.Queries.{IsKnownAt, FoundFor, OfQuerying, KnownOfExtended, KnownOf, IsReused, IsSearched}
+use Rattle.olr_spec.specs.Queries.{IsKnownAt, FoundFor, OfQuerying, KnownOfExtended, KnownOf, IsSearched}
 use Rattle.olr_spec.specs.Queries.{SearchedOfExtended, SearchedOf, QueriesOf, QueriesOfExtended, querying}
-use Rattle.olr_spec.proofs.ListLemmas.{Each, Each-head, Each-left, Each-right, has_index}
+use Rattle.olr_spec.proofs.ListLemmas.{Each, Each-head, Each-left, Each-right}
 use Rattle.olr_spec.proofs.RouteLemmas.{dm_of-append, IsRoute-split}
 use Rattle.olr_spec.proofs.AgreeLemmas.{same_start, same_dm_of}
 use Rattle.olr_spec.proofs.RouteMoves.{IsRoute-moves}
@@ -29,7 +27,7 @@ use Rattle.olr_spec.proofs.JoinedLemmas.{extended_joined}
 use Rattle.olr_spec.proofs.AnswerLemmas.{one_extension, path_also}
 use Rattle.olr_spec.proofs.WayLemmas.{way_between, next_start}
 use Rattle.olr_spec.proofs.QueryLemmas.{stretch_parts, onward}
-use Rattle.olr_spec.proofs.TestedLemmas.{one_last_tested}
+use Rattle.olr_spec.proofs.TestedLemmas.{one_last_tested, one_query}
 use Rattle.olr_spec.proofs.KnownLists.{one_found, found_each, found_increasing, Ascend, ascend_filter}
 use Rattle.std.proofs.Common.{length-append}
 use Rattle.std.proofs.lemmas.List.Elements.{All-nil}
@@ -308,9 +306,6 @@ one_known_at M ls lead own i d e p q =
     same_bool false true f g = g refl
     same_bool false false f g = refl
 
-one_asked : (M : Map) (ls : List ℕ) (i : ℕ) (k l : CoverageQuery) → IsQuery M ls i k → IsQuery M ls i l → k ≡ l
-one_asked M ls i k l p q = p.2 ∙ ap (query_to M ls i) (one_last_tested M ls i p.0 q.0 p.1 q.1) ∙ sym q.2
-
 -- ---- whether or not the path has a fault
 
 pub one_known : (M : Map) → IsMap M → (P : Path) → IsTrue (is_path P.lines) → (ks ls : List KnownQuery) →
@@ -332,7 +327,7 @@ one_searched M m P is given ks ls = by (path_fault M P) refl
         MatchOption o (SearchedOfExtended M P given ls) (λ _. ls ≡ []) → ks ≡ ls
     by None e p q =
         one_list M m P is e (λ E lead. IsSearched M E lead (length P.lines) given)
-        (λ E lead i k l f g. one_asked M E i k l f.0 g.0) ks ls p q
+        (λ E lead i k l f g. one_query M E i k l f.0 g.0) ks ls p q
     by (Some r) e p q = p ∙ sym q
 
 -- ---- the coverage queries along a path's own lines are right, and they ascend

@@ -1,6 +1,6 @@
 -- Lists of what some positions have: for each position there is one element or none.
-use Rattle.std.proofs.Common.{inl, inr, ◌≡◌, ℕ, zero, suc, ◌+◌, ◌-◌, List, [], ◌∷◌, ◌++◌, map, length, ◌<◌, ◌≤◌, All, refl, sym}
-use Rattle.std.proofs.Common.{ap, ◌∙◌, subst, arith, nat_lt, filter, true, false, Bool, cond}
+use Rattle.std.proofs.Common.{inl, inr, ◌≡◌, ℕ, zero, suc, ◌+◌, ◌-◌, List, [], ◌∷◌, ◌++◌, map, ◌<◌, ◌≤◌, All, refl, sym}
+use Rattle.std.proofs.Common.{ap, ◌∙◌, subst, arith, filter, true, false, Bool, cond}
 use Rattle.std.proofs.lemmas.List.Elements.{All-nil, All-cons}
 use Rattle.std.specs.Prelude.{⊤, ◌↔◌}
 use Rattle.std.specs.List.Sorted.{IsStrictlyIncreasing}

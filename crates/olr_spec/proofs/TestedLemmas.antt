@@ -98,7 +98,7 @@ some_last_tested M m ls i h =
 
 -- ---- the coverage queries
 
-one_query : (M : Map) (ls : List ℕ) (i : ℕ) (k l : CoverageQuery) → IsQuery M ls i k → IsQuery M ls i l → k ≡ l
+pub one_query : (M : Map) (ls : List ℕ) (i : ℕ) (k l : CoverageQuery) → IsQuery M ls i k → IsQuery M ls i l → k ≡ l
 one_query M ls i k l p q = p.2 ∙ ap (query_to M ls i) (one_last_tested M ls i p.0 q.0 p.1 q.1) ∙ sym q.2
 
 one_zip : (M : Map) (ls is : List ℕ) (ks hs : List CoverageQuery) → AllZip (IsQuery M ls) is ks →

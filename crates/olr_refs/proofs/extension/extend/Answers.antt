@@ -1,4 +1,4 @@
-use Rattle.std.proofs.Common.{◌≡◌, ◌+◌, cond, ℕ, List, refl}
+use Rattle.std.proofs.Common.{◌≡◌, ◌+◌, cond, ℕ, List, length, ap, refl}
 use Rattle.olr_spec.specs.Routes.{dm_of}
 use Rattle.olr_refs.proofs.Extending.{Known, All-from_each, front_last, before_known, after_known, whole, whole_known}
 use Rattle.olr_refs.proofs.Extending.{extends}
@@ -135,8 +135,10 @@ returns-clause-ok g c =
     let neg : c.from-3.result + c.from-4.result ≡ P.neg + cond c.in_ok-after.after.valid (dm_of M a) 0 =
     rw (c.from-3.ensures, c.neg.ensures, c.from-4.ensures, c.taken_part-back_len.ensures.len, c.in_ok-after.ensures.len)
     refl in
+    let leads =
+    ap (λ (xs : List ℕ). length xs) c.taken_part-front_len.ensures.lines in
     let noted =
     rw (c.deref-2.ensures.value, c.deref-3.ensures.value, c.deref-4.ensures.value) at c.in_ok-note_ends.ensures.ok in
     extends M P c.lines.ensures.path c.requires b c.in_ok-before.before.valid before_longest before_valid a
-    c.in_ok-after.after.valid after_longest after_valid _ c.args.footprint.now c.note_ends.new.footprint lines pos neg
+    c.in_ok-after.after.valid after_longest after_valid _ _ c.args.footprint.now c.note_ends.new.footprint leads lines pos neg
     noted
