@@ -5,7 +5,7 @@ ghost use Rattle.olr_spec.specs.Extension.{AreJoined};
 use crate::maps::{BARE, LONG, LONG_BARE, PASSING, PlainPath, path_of};
 use made_maps::{Place, Plan, STRAIGHT, WORKED, end_of, map_of, start_of};
 use olr_map::{Footprint, LineId, MapRead, RoadMap};
-use olr_refs::{Choice, distances, extend, points, unknown_line};
+use olr_refs::{Choice, Reuse, distances, extend, points, unknown_line};
 use olr_route::{Dijkstra, Work};
 use std::alloc::{AllocError, Global};
 use std::process::Abort;
@@ -59,13 +59,18 @@ fn expect_chosen(
     let mut search = Dijkstra::new(alloc);
     let mut work = Work::default();
     let mut seen = None;
-    let chosen = points(alloc, &along, &mut search, &mut seen, &mut work)?;
+    let nothing = Reuse {
+        known: &[],
+        lead: 0,
+        own: 0,
+    };
+    let chosen = points(alloc, &along, &nothing, &mut search, &mut seen, &mut work)?;
     let olr_refs::Chosen { choice, queries } = chosen;
     match choice {
         Choice::Positions(found) => assert_eq!(rt; found.as_slice(), positions, "the points"),
         Choice::NoNext(k) => panic!(rt; "no point after position {k}"),
     }
-    let counted = (queries.len() as u64, work.encodings, work.searches);
+    let counted = (queries.all.len() as u64, work.encodings, work.searches);
     assert_eq!(rt; counted, (searches, 0, searches), "of {positions:?}");
     Ok(())
 }
