@@ -27,7 +27,7 @@ use Rattle.olr_spec.specs.Queries.{CoverageQuery, IsClear}
 use Rattle.olr_route.specs.declared.work.Work.{Work}
 use Rattle.olr_refs.specs.Choice.{SettledBy, raised_count}
 use Rattle.olr_commands.specs.State.{same_name}
-use Rattle.olr_commands.specs.Counts.{IsUnchanged, CountIs, RisesBy, SearchedFor, Collects}
+use Rattle.olr_commands.specs.Counts.{IsUnchanged, CountIs, RisesBy, SearchedFor, SearchedAgain, Collects, IsOnMap}
 use Rattle.olr_commands.specs.Reply.{Entry, entry}
 use Rattle.olr_paths.specs.Items.{Made, Item, IsEncodingOf, AreEncodingsIfAny, answer_in}
 
@@ -66,6 +66,11 @@ pub record IsSpared (M N : Map) (T X : List ℕ) (C : List ChangedLine) (i : Ite
 abbrev pub IsEncodedAgain : Map → Map → List ℕ → List ℕ → List ChangedLine → Item → Type 0
 IsEncodedAgain M N T X C i = IsAffected M T X i × ¬ IsSpared M N T X C i
 
+-- a path that was not encoded yet is encoded from scratch
+abbrev pub SearchesItem : Map → Map → List ChangedLine → Item → List CoverageQuery → Type 0
+SearchesItem M N C i queries =
+    MatchOption i.made (SearchedFor N i.path queries) (λ _. SearchedAgain M N C i.path queries)
+
 pub record Totals : Type 0 where
   pub affected : ℕ
   pub spared : ℕ
@@ -74,7 +79,7 @@ pub record Totals : Type 0 where
 pub record AreTotals (M N : Map) (T X : List ℕ) (C : List ChangedLine) (is : List Item) (t : Totals) : Type 0 where
   pub affected : CountIs (IsAffected M T X) is t.affected
   pub spared : CountIs (IsSpared M N T X C) is t.spared
-  pub queries : Collects (IsEncodedAgain M N T X C) (λ i. SearchedFor N i.path) is t.queries
+  pub queries : Collects (IsEncodedAgain M N T X C) (SearchesItem M N C) is t.queries
 
 -- one search each, and the nodes that it settles
 pub record AreSearched (N : Map) (queries : List CoverageQuery) (old new : Work) : Type 0 where
@@ -85,11 +90,6 @@ pub record AreCounted (N : Map) (t : Totals) (old new : Work) (before after : �
   pub encodings : old.encodings + t.affected < 2 ^ 64 → new.encodings ≡ old.encodings + t.affected
   pub spared : RisesBy before t.spared after
   pub searched : AreSearched N t.queries old new
-
-pub record IsOnMap (N : Map) (l : CoverageQuery) : Type 0 where
-  pub from : IsTrue (has_node N l.from)
-  pub to : IsTrue (has_node N l.to)
-  pub within : l.within ≤ limit
 
 abbrev pub IsKnownClear : Map → List ChangedLine → CoverageQuery → Type 0
 IsKnownClear N C l = IsOnMap N l × IsClear N C l

@@ -17,8 +17,8 @@ use Rattle.std.specs.Borrow.{Bor}
 use Rattle.olr_spec.specs.Map.{Map}
 use Rattle.olr_spec.specs.Detours.{ChangedLine}
 use Rattle.olr_spec.specs.Extension.{Path}
-use Rattle.olr_spec.specs.Queries.{CoverageQuery}
-use Rattle.olr_commands.specs.Counts.{most_changed, RisesBy}
+use Rattle.olr_spec.specs.Queries.{CoverageQuery, KnownQuery, SearchedOf}
+use Rattle.olr_commands.specs.Counts.{most_changed, RisesBy, Picks, IsAgainClear}
 use Rattle.olr_commands.specs.Words.{entry_of}
 use Rattle.olr_spec.specs.Encoding.{Answer}
 use Rattle.olr_commands.specs.Reply.{Entry, entry}
@@ -95,6 +95,11 @@ IsActionFor N T X C made P Stay = ToStay N T X made P
 IsActionFor N T X C made P Keep = ToKeep N T X C made P
 IsActionFor N T X C made P Encode = ToEncode N T X C made P
 
+-- the coverage queries that are not searched again
+abbrev pub Gives : Map → List ChangedLine → Option Made → List KnownQuery → Type 0
+Gives N C None given = given ≡ []
+Gives N C (Some m) given = Picks (λ e. IsAgainClear N C e.query) m.known given
+
 -- no count falls
 pub record Rises (old new : Counted) : Type 0 where
   pub searches : old.work.searches ≤ new.work.searches
@@ -123,4 +128,5 @@ pub data IsStep (N : Map) (T X : List ℕ) (C : List ChangedLine) (before : List
   EncodedAgain : ToEncode N T X C i.made i.path → (m : Made) → IsEncodingOf N i.path m →
       made_at s ≡ made_at r ++ record { position = k; path = i.path; made = Some m } ∷ [] →
       ReportsIfOther before i.name m.answer (entries_of r) (entries_of s)
-      → OneEncoded N m.queries c d → IsStep N T X C before i k r s c d
+      → (given : List KnownQuery) (queries : List CoverageQuery) → Gives N C i.made given
+      → SearchedOf N i.path given queries → OneEncoded N queries c d → IsStep N T X C before i k r s c d

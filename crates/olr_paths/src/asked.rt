@@ -10,7 +10,7 @@ ghost use Rattle.olr_paths.specs.Candidates.{Covers};
 ghost use Rattle.std.specs.List.Sorted.{IsNonDecreasing};
 ghost use Rattle.olr_paths.specs.Origins.{AreBoundsOf};
 
-use crate::asking::{is_line_touched, is_touched, is_traversed_touched, search_near};
+use crate::asking::{is_touched, search_near};
 use crate::candidates::candidates;
 use crate::change_set::ChangeSet;
 use crate::detours::search_detours;
@@ -57,12 +57,6 @@ fn longest_asked<M: MapRead>(
         (made_of published.now) }
 {
     if !is_touched(map, touched, searches, path, published) {
-        return None;
-    }
-    if is_traversed_touched(touched, &published.traversed) {
-        return None;
-    }
-    if is_line_touched(touched, path.lines()) {
         return None;
     }
     Some(longest_of(&published.queries))

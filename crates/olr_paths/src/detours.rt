@@ -10,7 +10,7 @@ ghost use Rattle.std.specs.Prelude.{All};
 use crate::change_set::ChangeSet;
 use crate::searches::Searches;
 use olr_map::{MapRead, NodeId};
-use olr_refs::CoverageQuery;
+use olr_refs::{CoverageQuery, KnownQuery};
 use olr_route::{Dijkstra, Direction, GREATEST_LIMIT};
 use std::alloc::{AllocError, Global};
 
@@ -145,4 +145,31 @@ pub(crate) fn are_clear<M: MapRead>(
         }
     }
     true
+}
+
+/// Those of the coverage queries along a path's own lines that are clear of the changed lines; none without the searches
+/// for detours.
+pub(crate) fn clear_known<M: MapRead>(
+    alloc: Global,
+    map: &M,
+    touched: &ChangeSet,
+    searches: &Searches,
+    asked: Option<u32>,
+    known: &[KnownQuery],
+) -> Result<Vec<KnownQuery>, AllocError>
+    requires detours { IfSome asked (AreDetours (M.map map.now) (M.node_slot map.now) touched.now searches.now) }
+    requires reached { ReachesKnown (changed_of touched.now) asked known.now }
+    ensures { IfOk result
+        (λ clear. Picks (λ e. IsAgainClear (M.map map.now) (changed_of touched.now) e.query) known.now clear.items) }
+{
+    let mut clear = Vec::new(alloc);
+    let Some(limit) = asked else {
+        return Ok(clear);
+    };
+    for one in known {
+        if is_clear(map, touched, searches, limit, &one.query) {
+            clear.push(*one)?;
+        }
+    }
+    Ok(clear)
 }

@@ -1,6 +1,8 @@
 //! Encoding a path for the list.
 ghost use Rattle.std.specs.Prelude.{◌≡◌, ◌+◌, ◌<◌, ◌≤◌, ◌^◌, IfOk, OnOk, option_map, string_bytes};
 ghost use Rattle.std.specs.Result.{result_ok};
+ghost use Rattle.std.specs.Prelude.{List};
+ghost use Rattle.olr_spec.specs.Queries.{CoverageQuery as QueryRecord, AreKnown, SearchedOf};
 ghost use Rattle.olr_refs.specs.Answers.{answer_of};
 ghost use Rattle.olr_commands.specs.Reply.{published_text};
 ghost use Rattle.olr_paths.specs.Items.{IsEncodingOf, made_of};
@@ -9,7 +11,7 @@ ghost use Rattle.olr_paths.specs.Changes.{AreSearched};
 use crate::published::Published;
 use olr_binary::text::to_text;
 use olr_map::MapRead;
-use olr_refs::{Answer, Encoding, Path, encode};
+use olr_refs::{Answer, Encoding, KnownQuery, Path, encode_again};
 use olr_route::{Dijkstra, Work};
 use std::alloc::{AllocError, Global};
 
@@ -26,18 +28,23 @@ fn text_of(alloc: Global, answer: &Answer) -> Result<Option<String>, AllocError>
     }
 }
 
-/// Encodes a path on a map, and counts one encoding. If an allocation fails, the work may be counted in part.
+/// Encodes a path on a map, and counts one encoding. The known coverage queries, which are right on the map, are not
+/// searched again. If an allocation fails, the work may be counted in part.
 pub fn publish<M: MapRead>(
     alloc: Global,
     map: &M,
     path: &Path,
+    known: &[KnownQuery],
     search: &mut Dijkstra,
     work: &mut Work,
 ) -> Result<Published, AllocError>
+    requires known { AreKnown (M.map map.now) path.now.lines known.now }
     ensures made { IfOk result (λ p. IsEncodingOf (M.map map.now) path.now (made_of p)) }
     ensures counted { OnOk result
         (work.old.encodings + 1 < 2 ^ 64 → work.new.encodings ≡ work.old.encodings + 1) }
-    ensures searched { IfOk result (λ p. AreSearched (M.map map.now) (made_of p).queries work.old work.new) }
+    ensures searched { OnOk result ((queries : List QueryRecord)
+        × SearchedOf (M.map map.now) path.now known.now queries
+        × AreSearched (M.map map.now) queries work.old work.new) }
     ensures searches { OnOk result (work.old.searches ≤ work.new.searches) }
     ensures settled { OnOk result (work.old.settled ≤ work.new.settled) }
 {
@@ -48,13 +55,14 @@ pub fn publish<M: MapRead>(
         answer,
         traversed,
         queries,
-        known: _known,
-    } = encode(alloc, map, path, search, work)?;
+        known,
+    } = encode_again(alloc, map, path, known, search, work)?;
     let text = text_of(alloc, &answer)?;
     Ok(Published {
         answer,
         text,
         traversed,
         queries,
+        known,
     })
 }

@@ -50,7 +50,7 @@ impl PathList {
         ensures err_work { OnErr result (work.new ≡ work.old) }
     {
         let mut tried = *work;
-        let published = publish(alloc, map, &path, &mut searches.query, &mut tried)?;
+        let published = publish(alloc, map, &path, &[], &mut searches.query, &mut tried)?;
         searches.new_origins.clear();
         note_queries(&published.queries, &mut searches.new_origins)?;
         let mut entries = Vec::with_capacity(alloc, 1)?;
@@ -94,7 +94,7 @@ impl PathList {
         ensures err_work { OnErr result (work.new ≡ work.old) }
     {
         let mut tried = *work;
-        let published = publish(alloc, map, &path, &mut searches.query, &mut tried)?;
+        let published = publish(alloc, map, &path, &[], &mut searches.query, &mut tried)?;
         searches.new_origins.clear();
         note_queries(&published.queries, &mut searches.new_origins)?;
         let mut entries = Vec::new(alloc);

@@ -20,6 +20,7 @@ use crate::actions::{Action, decide};
 use crate::asked::{Asked, ask};
 use crate::begins::note_fresh;
 use crate::change_set::ChangeSet;
+use crate::detours::clear_known;
 use crate::encoding::publish;
 use crate::overlaid_list::OverlaidList;
 use crate::path_list::{NamedPath, PathList};
@@ -29,6 +30,7 @@ use crate::showing::PathView;
 use olr_commands::Entry;
 use olr_map::MapRead;
 use olr_near::DistanceBounds;
+use olr_refs::KnownQuery;
 use olr_route::{Dijkstra, Work};
 use std::alloc::{AllocError, Global};
 use std::mem;
@@ -100,6 +102,7 @@ impl Renewal {
         action: Action,
         position: usize,
         shown: PathView<'_>,
+        known: &[KnownQuery],
         query: &mut Dijkstra,
         counted: &mut Counted,
     ) -> Result<(), AllocError>
@@ -112,7 +115,7 @@ impl Renewal {
             Action::Stay => (),
             Action::Keep => counted.keep(),
             Action::Encode => {
-                let published = publish(alloc, map, shown.path, query, &mut counted.work)?;
+                let published = publish(alloc, map, shown.path, known, query, &mut counted.work)?;
                 push_if_changed(alloc, before, shown.name, &published, &mut self.entries)?;
                 let named = NamedPath {
                     path: shown.path.clone()?,
@@ -122,6 +125,27 @@ impl Renewal {
             }
         }
         Ok(())
+    }
+}
+
+/// The coverage queries that are not searched again if the path is encoded again: those along its own lines that are
+/// clear of the changed lines.
+fn known_for<M: MapRead>(
+    alloc: Global,
+    map: &M,
+    touched: &ChangeSet,
+    searches: &Searches,
+    asked: Option<u32>,
+    action: Action,
+    shown: PathView<'_>,
+) -> Result<Vec<KnownQuery>, AllocError>
+    requires detours { IfSome asked (AreDetours (M.map map.now) (M.node_slot map.now) touched.now searches.now) }
+{
+    match (action, shown.published) {
+        (Action::Encode, Some(published)) => {
+            clear_known(alloc, map, touched, searches, asked, &published.known)
+        }
+        _ => Ok(Vec::new(alloc)),
     }
 }
 
@@ -179,7 +203,8 @@ fn renewal_by<M: MapRead>(
             continue;
         }
         let action = decide(map, touched, searches, asked.detours, shown);
-        renewal.advance(alloc, map, before, action, position, shown, query, counted)?;
+        let known = known_for(alloc, map, touched, searches, asked.detours, action, shown)?;
+        renewal.advance(alloc, map, before, action, position, shown, &known, query, counted)?;
         next = position + 1;
     }
     Ok(renewal)
