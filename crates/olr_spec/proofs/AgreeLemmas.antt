@@ -1,10 +1,10 @@
 -- What is the same on two maps that agree around a node.
-use Rattle.std.proofs.Common.{inl, inr, ◌≡◌, ℕ, ◌+◌, Bool, true, cond, List, [], ◌∷◌, map, Option, Some, None, is_some}
-use Rattle.std.proofs.Common.{IsTrue, refl, sym, ap, ◌∙◌, ◌==◌, unwrap_or, ◌↔◌}
+use Rattle.std.proofs.Common.{inl, inr, ◌≡◌, ℕ, ◌+◌, Bool, true, cond, List, [], ◌∷◌, map, Option, Some, None, is_some, IsTrue}
+use Rattle.std.proofs.Common.{refl, sym, ap, ◌∙◌, ◌==◌, unwrap_or, ◌↔◌}
 use Rattle.std.proofs.lemmas.Bool.{eqb-true, ne_eqb, cases_eq}
 use Rattle.std.specs.FinMap.{get}
-use Rattle.olr_spec.specs.Map.{Map, Line, has_line, line_at, no_line, lines_in, lines_out, start, end, dm, coord_at}
-use Rattle.olr_spec.specs.Map.{no_coord, SameLine, SameRound}
+use Rattle.olr_spec.specs.Map.{Map, Line, has_line, line_at, no_line, lines_in, lines_out, start, end, dm, coord_at, no_coord}
+use Rattle.olr_spec.specs.Map.{SameLine, SameRound}
 use Rattle.olr_spec.specs.Routes.{dm_of}
 use Rattle.olr_spec.specs.Extension.{passing, passes_between}
 use Rattle.olr_spec.proofs.MapLemmas.{has-lines_where, passes_at, keep_if, same_selected}
@@ -53,9 +53,7 @@ same_dm M N x e = ap (λ (l : Line). l.len) (same_record M N x e)
 pub same_dm_of : (M N : Map) (xs : List ℕ) → Each (SameLine M N) xs → dm_of M xs ≡ dm_of N xs
 same_dm_of M N [] h = refl
 same_dm_of M N (x ∷ xs) h =
-    let is = same_dm M N x (Each-head (SameLine M N) x xs h) in
-    let rest = same_dm_of M N xs (Each-tail (SameLine M N) x xs h) in
-    λ i. is i + rest i
+    λ i. same_dm M N x (Each-head (SameLine M N) x xs h) i + same_dm_of M N xs (Each-tail (SameLine M N) x xs h) i
 
 pub same_coord : (M N : Map) (v : ℕ) → SameRound M N v → coord_at M v ≡ coord_at N v
 same_coord M N v r = λ i. unwrap_or (r.place i) no_coord
@@ -115,10 +113,8 @@ leaves_same M N v r x h =
 
 pub same_passing : (M N : Map) (v : ℕ) → SameRound M N v → passing M v ≡ passing N v
 same_passing M N v r =
-    let ins : map (start M) (lines_in M v) ≡ map (start N) (lines_in N v) =
-    map_same (start M) (start N) (lines_in M v) (λ x h. same_start M N x (enters_same M N v r x h))
+    let ins = map_same (start M) (start N) (lines_in M v) (λ x h. same_start M N x (enters_same M N v r x h))
     ∙ ap (λ (xs : List ℕ). map (start N) xs) (same_lines_in M N v r) in
-    let outs : map (end M) (lines_out M v) ≡ map (end N) (lines_out N v) =
-    map_same (end M) (end N) (lines_out M v) (λ x h. same_end M N x (leaves_same M N v r x h))
+    let outs = map_same (end M) (end N) (lines_out M v) (λ x h. same_end M N x (leaves_same M N v r x h))
     ∙ ap (λ (xs : List ℕ). map (end N) xs) (same_lines_out M N v r) in
     λ i. passes_between v (ins i) (outs i)

@@ -1,22 +1,25 @@
 -- Lists of numbers in strictly ascending order: searching for a number, inserting one and removing one.
-use Rattle.std.proofs.Common.{◌≡◌, ◌≢◌, ◌==◌, ℕ, suc, ◌+◌, ◌-◌, ◌<◌, ◌≤◌, Bool, true, false, not, ◌&&◌, ◌||◌, ◌⊎◌, inl}
-use Rattle.std.proofs.Common.{inr, List, [], ◌∷◌, ◌++◌, Contains, Ok, Err, Result, is_ok, length, get_or, refl, sym, ap}
-use Rattle.std.proofs.Common.{◌∙◌, subst, arith, ⊎_elim, MatchResult, IsPermutation}
-use Rattle.std.specs.List.{insert, remove}
+use Rattle.std.proofs.Common.{◌≡◌, ◌≢◌, ◌==◌, ℕ, suc, ◌+◌, ◌<◌, ◌≤◌, Bool, true, false, not, ◌&&◌, ◌||◌, ◌⊎◌, inl, inr, List}
+use Rattle.std.proofs.Common.{[], ◌∷◌, ◌++◌, Contains, Ok, Err, Result, is_ok, length, get_or, refl, sym, ap, ◌∙◌, arith}
+use Rattle.std.proofs.Common.{⊎_elim, MatchResult, IsPermutation}
+use Rattle.std.specs.List.{IsDistinct, insert, remove}
+use Rattle.std.specs.Cmp.{nat_cmp_total, unsigned_tied}
+use Rattle.std.proofs.lemmas.Cmp.{eq_by_cmp_equiv}
+use Rattle.std.proofs.lemmas.Bool.{both_ways, cases_lt, eq-eqb, ne_eqb, eqb-true}
+use Rattle.std.proofs.lemmas.List.Sorted.{IsNonDecreasingBy-insert, searched, list_any-IsPermutation, IsPermutation-insert}
+use Rattle.std.proofs.lemmas.List.Sorted.{IsPermutation-remove, IsPermutation-sym, Contains-permutation}
+use Rattle.std.proofs.lemmas.Map.Keys.{IsStrictlyIncreasing-from_distinct, non_decreasing_from_sorted, IsDistinct-from_sorted}
+use Rattle.std.proofs.lemmas.Map.Keys.{IsDistinct-IsPermutation, IsDistinct-cons, sorted_from_strictly_increasing}
 use Rattle.std.specs.List.Sorted.{IsStrictlyIncreasing, IsBinarySearchResult}
 use Rattle.std.specs.Ordering.{nat_cmp}
 use Rattle.std.proofs.Math.Bool.{or_comm, and_comm}
-use Rattle.std.proofs.lemmas.Bool.{cases_lt, cases_order, eq-eqb, ne_eqb, eqb-true}
 use Rattle.std.proofs.lemmas.List.{get_or_default}
-use Rattle.std.proofs.lemmas.List.Edits.{get_or-insert_at, get_or-insert_below, get_or-insert_above, length-insert}
 use Rattle.std.proofs.lemmas.List.Edits.{insert_end, length-remove, get_or-remove_below, get_or-remove_above}
 use Rattle.std.proofs.lemmas.List.Elements.{Contains-append_cases, Contains-append_right}
 use Rattle.std.proofs.lemmas.List.Folds.{list_any_at}
-use Rattle.std.proofs.lemmas.List.Sorted.{searched, list_any-IsPermutation, IsPermutation-insert, IsPermutation-remove}
-use Rattle.std.proofs.lemmas.List.Sorted.{IsPermutation-sym, Contains-permutation}
-use Rattle.std.proofs.lemmas.Map.Keys.{below_from_sorted, sorted_from_strictly_increasing}
+use lib.Dec.{eqb}
 use Rattle.olr_spec.specs.Map.{has}
-use Rattle.olr_spec.proofs.ListLemmas.{Contains-one}
+use Rattle.olr_spec.proofs.ListLemmas.{Each-to, Contains-one}
 
 -- ---- where a search finds a number
 
@@ -27,13 +30,8 @@ IsSearchResult xs x r =
     (λ i. (i ≤ length xs) × ((k : ℕ) → k < i → get_or xs k 0 < x)
     × ((k : ℕ) → i ≤ k → k < length xs → x < get_or xs k 0))
 
-pub ascends : (xs : List ℕ) → IsStrictlyIncreasing xs → (i j : ℕ) → i ≤ j → j < length xs →
-    get_or xs i 0 ≤ get_or xs j 0
-ascends xs up i j le h =
-    elim (cases_lt i j) [
-      | inl lt ↦ let low = below_from_sorted xs i j 0 (sorted_from_strictly_increasing xs up) lt h in omega arith
-      | inr ge ↦ let e : i ≡ j = omega arith in let same = ap (λ k. get_or xs k 0) e in omega arith
-    ]
+pub ascends : (xs : List ℕ) → IsStrictlyIncreasing xs → (i j : ℕ) → i ≤ j → j < length xs → get_or xs i 0 ≤ get_or xs j 0
+ascends xs up i j = non_decreasing_from_sorted xs (sorted_from_strictly_increasing xs up) i j 0
 
 pub place_of : (xs : List ℕ) (x : ℕ) (r : Result ℕ ℕ) → IsStrictlyIncreasing xs →
     IsBinarySearchResult (λ y. nat_cmp y x) xs r → IsSearchResult xs x r
@@ -49,12 +47,7 @@ has_not (y ∷ ys) x h =
 
 -- a number that could be inserted isn't in the list
 pub place_not : (xs : List ℕ) (x i : ℕ) → IsSearchResult xs x (Err i) → has xs x ≡ false
-place_not xs x i p =
-    has_not xs x (λ j lt e. elim (cases_lt j i) [
-      | inl low ↦ let h = p.1 j low in omega arith
-      | inr high ↦ let h =
-          p.2 j high lt in omega arith
-    ])
+place_not xs x i p = grind (arith, has_not, cases_lt)
 
 -- a search finds a number exactly if the list has it
 pub place_has : (xs : List ℕ) (x : ℕ) (r : Result ℕ ℕ) → IsSearchResult xs x r → is_ok r ≡ has xs x
@@ -70,13 +63,7 @@ found_there xs x (Ok i) h e = (i, h.0, get_or_default xs i x 0 h.0 ∙ h.1)
 found_there xs x (Err i) h e = cc
 
 not_among : (xs : List ℕ) (x i : ℕ) → IsSearchResult xs x (Err i) → Contains xs x → ⊥
-not_among xs x i h c =
-    let place : c.0 < length xs = c.1 in
-    let is : get_or xs c.0 0 ≡ x = get_or_default xs c.0 0 x c.1 ∙ c.2 in
-    ⊎_elim
-    (λ (lt : c.0 < i). let low = h.1 c.0 lt in omega arith)
-    (λ (ge : i ≤ c.0). let high = h.2 c.0 ge c.1 in omega arith)
-    (cases_lt c.0 i)
+not_among xs x i h c = grind (arith, get_or_default, ⊎_elim, cases_lt)
 
 pub there_found : (xs : List ℕ) (x : ℕ) (r : Result ℕ ℕ) → IsSearchResult xs x r → Contains xs x → is_ok r ≡ true
 there_found xs x (Ok i) h c = refl
@@ -86,44 +73,23 @@ there_found xs x (Err i) h c = absurd (not_among xs x i h c)
 
 pub insert_ascends : (xs : List ℕ) (x i : ℕ) → IsStrictlyIncreasing xs → IsSearchResult xs x (Err i) →
     IsStrictlyIncreasing (insert xs i x)
-insert_ascends xs x i up h k lt =
-    let long : length (insert xs i x) ≡ length xs + 1 = length-insert xs i x h.0 in
-    let le : i ≤ length xs = h.0 in
-    ⊎_elim
-    (λ (e : k ≡ i).
-    let first : get_or (insert xs i x) k 0 ≡ x =
-    ap (λ j. get_or (insert xs i x) j 0) e ∙ get_or-insert_at xs i x 0 le in
-    let second : get_or (insert xs i x) (k + 1) 0 ≡ get_or xs k 0 = get_or-insert_above xs i x 0 k (omega arith) le in
-    let high = h.2 k (omega arith) (omega arith) in omega arith)
-    (λ (o : (k < i) ⊎ (i < k)). ⊎_elim
-    (λ (low : k < i).
-    let first : get_or (insert xs i x) k 0 ≡ get_or xs k 0 = get_or-insert_below xs i x 0 k low le in
-    ⊎_elim
-    (λ (low2 : k + 1 < i).
-    let second : get_or (insert xs i x) (k + 1) 0 ≡ get_or xs (k + 1) 0 =
-    get_or-insert_below xs i x 0 (k + 1) low2 le in
-    let step = up k (omega arith) in omega arith)
-    (λ (at : i ≤ k + 1).
-    let e : k + 1 ≡ i = omega arith in
-    let second : get_or (insert xs i x) (k + 1) 0 ≡ x =
-    ap (λ j. get_or (insert xs i x) j 0) e ∙ get_or-insert_at xs i x 0 le in
-    let below = h.1 k low in omega arith)
-    (cases_lt (k + 1) i))
-    (λ (high : i < k).
-    let back : k ≡ k - 1 + 1 = omega arith in
-    let first : get_or (insert xs i x) k 0 ≡ get_or xs (k - 1) 0 =
-    ap (λ j. get_or (insert xs i x) j 0) back ∙ get_or-insert_above xs i x 0 (k - 1) (omega arith) le in
-    let second : get_or (insert xs i x) (k + 1) 0 ≡ get_or xs k 0 = get_or-insert_above xs i x 0 k (omega arith) le in
-    let step = up (k - 1) (omega arith) in
-    let same : get_or xs (k - 1 + 1) 0 ≡ get_or xs k 0 = ap (λ j. get_or xs j 0) (sym back) in omega arith)
-    o)
-    (cases_order k i)
+insert_ascends xs x i up h =
+    let sorted = sorted_from_strictly_increasing xs up in
+    let flips = λ (a b : ℕ). sym (unsigned_tied a b) ∙ (eq_by_cmp_equiv nat_cmp_total).symm a b ∙ unsigned_tied b a in
+    let apart = Each-to (λ y. (x == y) ≡ false) xs (λ y on. ne_eqb x y (λ e. both_ways (has xs y)
+    (coe 0 1 (j. has xs (e j) ≡ false) (place_not xs x i h)) on)) in
+    let distinct = coe 0 1 (j. IsDistinct (λ a b. unsigned_tied a b j) xs) (IsDistinct-from_sorted nat_cmp xs sorted) in
+    IsStrictlyIncreasing-from_distinct (insert xs i x)
+    (IsNonDecreasingBy-insert (λ n. n) xs i x (non_decreasing_from_sorted xs sorted) h.0
+    (λ k d lt. omega (arith, h.0, h.1 k lt, get_or_default xs k d 0 (omega (arith, h.0))))
+    (λ k d ge lt. omega (arith, h.2 k ge lt, get_or_default xs k d 0 lt)))
+    (IsDistinct-IsPermutation eqb flips (x ∷ xs) (insert xs i x) (IsPermutation-insert xs i x)
+    (IsDistinct-cons eqb x xs apart distinct))
 
 -- a number above all of them, at the end
 pub ascends_push : (xs : List ℕ) (x : ℕ) → IsStrictlyIncreasing xs → ((k : ℕ) → k < length xs → get_or xs k 0 < x) →
     IsStrictlyIncreasing (xs ++ x ∷ [])
-ascends_push xs x up below =
-    subst (λ (ys : List ℕ). IsStrictlyIncreasing ys) (insert_end xs x)
+ascends_push xs x up below = coe 0 1 (i. IsStrictlyIncreasing (insert_end xs x i))
     (insert_ascends xs x (length xs) up (omega arith, below, λ k ge lt. absurd (omega arith)))
 
 pub has-insert : (xs : List ℕ) (i x n : ℕ) → has (insert xs i x) n ≡ ((x == n) || has xs n)
@@ -146,44 +112,22 @@ insert_keeps xs x i n (inr e) =
 
 -- ---- one number less
 
-pub ascends-remove : (xs : List ℕ) (i : ℕ) → IsStrictlyIncreasing xs → i < length xs →
-    IsStrictlyIncreasing (remove xs i)
-ascends-remove xs i up at k lt =
-    let long : length (remove xs i) + 1 ≡ length xs = length-remove xs i at in
-    ⊎_elim
-    (λ (low : k < i).
-    let first : get_or (remove xs i) k 0 ≡ get_or xs k 0 = get_or-remove_below xs i 0 k low at in
-    ⊎_elim
-    (λ (below : k + 1 < i).
-    let second : get_or (remove xs i) (k + 1) 0 ≡ get_or xs (k + 1) 0 = get_or-remove_below xs i 0 (k + 1) below at in
-    let step = up k (omega arith) in omega arith)
-    (λ (above : i ≤ k + 1).
-    let second : get_or (remove xs i) (k + 1) 0 ≡ get_or xs (k + 1 + 1) 0 =
-    get_or-remove_above xs i 0 (k + 1) above at in
-    let step = up k (omega arith) in
-    let next = up (k + 1) (omega arith) in omega arith)
-    (cases_lt (k + 1) i))
-    (λ (high : i ≤ k).
-    let first : get_or (remove xs i) k 0 ≡ get_or xs (k + 1) 0 = get_or-remove_above xs i 0 k high at in
-    let second : get_or (remove xs i) (k + 1) 0 ≡ get_or xs (k + 1 + 1) 0 =
-    get_or-remove_above xs i 0 (k + 1) (omega arith) at in
-    let step = up (k + 1) (omega arith) in omega arith)
-    (cases_lt k i)
+pub ascends-remove : (xs : List ℕ) (i : ℕ) → IsStrictlyIncreasing xs → i < length xs → IsStrictlyIncreasing (remove xs i)
+ascends-remove xs i up at k lt = grind (arith, length-remove, ⊎_elim, get_or-remove_below, get_or-remove_above, cases_lt)
 
 -- a number that is removed is no longer in the list
-gone : (xs : List ℕ) (i x : ℕ) → IsStrictlyIncreasing xs → i < length xs → get_or xs i 0 ≡ x →
-    has (remove xs i) x ≡ false
+gone : (xs : List ℕ) (i x : ℕ) → IsStrictlyIncreasing xs → i < length xs → get_or xs i 0 ≡ x → has (remove xs i) x ≡ false
 gone xs i x up at is =
     let long : length (remove xs i) + 1 ≡ length xs = length-remove xs i at in
     has_not (remove xs i) x (λ k lt e. ⊎_elim
     (λ (low : k < i).
     let here : get_or (remove xs i) k 0 ≡ get_or xs k 0 = get_or-remove_below xs i 0 k low at in
     let next = ascends xs up (k + 1) i (omega arith) at in
-    let step = up k (omega arith) in omega arith)
+    omega (arith, up k (omega arith)))
     (λ (high : i ≤ k).
     let here : get_or (remove xs i) k 0 ≡ get_or xs (k + 1) 0 = get_or-remove_above xs i 0 k high at in
     let next = ascends xs up i k high (omega arith) in
-    let step = up k (omega arith) in omega arith)
+    omega (arith, up k (omega arith)))
     (cases_lt k i))
 
 without : (b c d : Bool) → (b ≡ true → d ≡ false) → c ≡ (b || d) → d ≡ (not b && c)
@@ -201,8 +145,7 @@ has-remove xs i x n up at is =
 -- ---- as sets: by the result of a search
 
 -- a number that isn't in the list, inserted at its index
-pub put_ascends : (xs : List ℕ) (x i : ℕ) → IsStrictlyIncreasing xs →
-    IsBinarySearchResult (λ y. nat_cmp y x) xs (Err i) →
+pub put_ascends : (xs : List ℕ) (x i : ℕ) → IsStrictlyIncreasing xs → IsBinarySearchResult (λ y. nat_cmp y x) xs (Err i) →
     IsStrictlyIncreasing (insert xs i x)
 put_ascends xs x i up h = insert_ascends xs x i up (place_of xs x (Err i) up h)
 

@@ -1,17 +1,25 @@
--- The path's own line at an LRP is preferred to every other candidate.
-use Rattle.std.proofs.Common.{inl, inr, ◌≡◌, ◌≢◌, ℕ, ◌+◌, ◌-◌, Bool, true, false, not, ◌||◌, List, [], ◌∷◌, map, ◌<◌}
-use Rattle.std.proofs.Common.{◌≤◌, ◌↔◌, IsTrue, IsFalse, refl, sym, ap, ◌∙◌, subst, arith, nat_lt, ◌==◌}
-use Rattle.std.proofs.lemmas.Bool.{cases_Bool, cases_eq, cases_lt, both_ways, and_parts, and_from, or_cases, eqb-true}
-use Rattle.std.proofs.lemmas.Bool.{eq-eqb, ltb-true, lt-ltb, le-ltb}
+-- The path's own line at an LRP is preferred to every other candidate: its node is the nearest if other nodes are three
+-- times the bound of decoding away. And the length that an offset byte cuts off.
+use Rattle.std.proofs.Common.{inl, inr, ◌≡◌, ◌≢◌, ℕ, ◌+◌, ◌-◌, Bool, true, false, not, ◌||◌, List, [], ◌∷◌, map, ◌<◌, ◌≤◌, ◌↔◌}
+use Rattle.std.proofs.Common.{IsTrue, IsFalse, refl, sym, ap, ◌∙◌, subst, arith, nat_lt, ◌==◌, ◌*◌, ℤ, pos, negsuc, ◌-ℤ◌, ◌+ℤ◌}
+use Rattle.std.proofs.Common.{nat_le, ◌/◌, cond, Some, None}
+use Rattle.std.proofs.lemmas.Bool.{cases_Bool, cases_eq, cases_lt, both_ways, and_parts, and_from, or_cases, eqb-true, eq-eqb}
+use Rattle.std.proofs.lemmas.Bool.{ltb-true, lt-ltb, le-ltb, leb-true}
 use Rattle.std.specs.List.{list_all}
+use Rattle.std.specs.Prelude.{nat_abs}
+use Rattle.std.proofs.Math.Nat.{mul-le-mul_left, mul-le-mul_right, mul-lt-mul_of_pos_left, le_of_mul-le-mul_left, mul-add}
+use Rattle.std.proofs.Math.Nat.{mul_left_comm, mul_assoc, mul_comm, mul-pos, div-mul-le_self, lt-div-mul-add}
+use Rattle.std.proofs.lemmas.Int.{ints}
 use Rattle.olr_spec.specs.Map.{Map, has_line, line_at, coord_at, lines_where, has}
 use Rattle.olr_spec.specs.Bearings.{Leg}
-use Rattle.olr_spec.specs.Reference.{leg}
-use Rattle.olr_spec.specs.Receiver.{Side, Outgoing, Incoming, node_on, coordinate_on, sector_on, candidates, Lrp}
-use Rattle.olr_spec.specs.Receiver.{Rating}
-use Rattle.olr_spec.specs.Receiver.{Measure, NowhereWorse, SomewhereBetter, IsDifference, Receiver, rating, Takes}
-use Rattle.olr_spec.specs.Receiver.{is_nearest}
-use Rattle.olr_spec.specs.Receiver.{are_twins, has_no_twin}
+use Rattle.olr_spec.specs.Reference.{leg, offset}
+use Rattle.olr_spec.specs.Receiver.{Side, Outgoing, Incoming, node_on, coordinate_on, sector_on, candidates, Lrp, Rating}
+use Rattle.olr_spec.specs.Receiver.{NowhereWorse, SomewhereBetter, IsDifference, Receiver, rating, Takes, is_nearest, are_twins}
+use Rattle.olr_spec.specs.Receiver.{has_no_twin, Measure}
+use Rattle.olr_spec.specs.Laws.{SomeReceiver, SomeWeighted}
+use Rattle.olr_spec.specs.Coordinates.{Coord}
+use Rattle.olr_spec.specs.Decoded.{decoded_bound, IsNear}
+use Rattle.olr_spec.specs.Recovery.{lon_apart, lat_apart, IsWeighted, is_spaced, IsCut, IsClose}
 use Rattle.olr_spec.proofs.ListLemmas.{has_cases}
 use Rattle.olr_spec.proofs.MapLemmas.{has-lines_where, passes_at}
 use Rattle.olr_spec.proofs.AgreeLemmas.{known_record}
@@ -56,11 +64,7 @@ none_apart : (d : ℕ → ℕ → ℕ) → IsDifference d → (a b : ℕ) → a 
 none_apart d h a b e = subst (λ (c : ℕ). d a c ≡ 0) e (h.same a)
 
 some_apart : (d : ℕ → ℕ → ℕ) → IsDifference d → (a b c : ℕ) → a ≡ b → b ≢ c → 0 < d a c
-some_apart d h a b c e n =
-    elim (cases_lt 0 (d a c)) [
-      | inl lt ↦ lt
-      | inr ge ↦ absurd (n (sym e ∙ h.other a c (omega arith)))
-    ]
+some_apart d h a b c e n = grind (arith, cases_lt)
 
 module _ (R : Receiver) (M : Map) (t : Lrp) (x : ℕ) (o : Own R M t x) where
   frc_is : R.frc_apart t.frc (line_at M x).frc ≡ 0
@@ -82,62 +86,14 @@ module _ (R : Receiver) (M : Map) (t : Lrp) (x : ℕ) (o : Own R M t x) where
 
   another_kind : (y : ℕ) → node_on t.side (leg M x) ≡ node_on t.side (leg M y) →
       are_twins t.side (leg M x) (leg M y) ≡ false → SomewhereBetter (rating R t (leg M x)) (rating R t (leg M y))
-  another_kind y e off =
-      let a = frc_is in
-      let b = fow_is in
-      let c = bearing_is in
-      elim (cases_eq (line_at M x).frc (line_at M y).frc) [
-        | inr n ↦
-            let p = some_apart R.frc_apart R.frcs t.frc (line_at M x).frc (line_at M y).frc o.frc n in
-            inr (inl (omega arith))
-        | inl f ↦ elim (cases_eq (line_at M x).fow (line_at M y).fow) [
-          | inr n ↦
-              let p = some_apart R.fow_apart R.fows t.fow (line_at M x).fow (line_at M y).fow o.fow n in
-              inr (inr (inl (omega arith)))
-          | inl g ↦ elim (cases_eq (sector_on t.side (leg M x)) (sector_on t.side (leg M y))) [
-            | inr n ↦
-                let p =
-                some_apart R.bearing_apart R.bearings t.bearing (sector_on t.side (leg M x))
-                (sector_on t.side (leg M y)) o.bearing n in
-                inr (inr (inr (omega arith)))
-            | inl h ↦
-                absurd (both_ways (are_twins t.side (leg M x) (leg M y)) off
-                (and_from _ _ (and_from _ _ (and_from _ _ (eq-eqb _ _ e) (eq-eqb _ _ f)) (eq-eqb _ _ g))
-                (eq-eqb _ _ h)))
-          ]
-        ]
-      ]
+  another_kind y e off = grind (arith, frc_is, fow_is, bearing_is, cases_eq, some_apart, both_ways, and_from, eq-eqb)
 
   not_same : (y : ℕ) → y ≢ x → (y == x) || not (are_twins t.side (leg M x) (leg M y)) ≡ true →
       are_twins t.side (leg M x) (leg M y) ≡ false
-  not_same y n h =
-      elim (or_cases (y == x) (not (are_twins t.side (leg M x) (leg M y))) h) [
-        | inl e ↦ absurd (n (eqb-true y x e))
-        | inr f ↦ elim (are_twins t.side (leg M x) (leg M y)) as (λ b. not b ≡ true → b ≡ false) [
-          | true ↦ λ e. sym e
-          | false ↦ λ e. refl
-        ] f
-      ]
+  not_same y n h = grind (arith, or_cases, eqb-true)
 
-  preferred : (y : ℕ) → IsTrue (has_line M y) → y ≢ x →
-      IsTrue (R.prefers (rating R t (leg M x)) (rating R t (leg M y)))
-  preferred y h n =
-      let near =
-      passes M (λ c. node_on t.side c.1 == node_on t.side (leg M x)
-      || nat_lt (R.far t.place (coordinate_on t.side (leg M x))) (R.far t.place (coordinate_on t.side c.1))) o.nearest y
-      h in
-      let other =
-      not_same y n (passes M (λ c. c.0 == x || not (are_twins t.side (leg M x) c.1)) o.alone y h) in
-      elim (or_cases (node_on t.side (leg M y) == node_on t.side (leg M x)) _ near) [
-        | inl e ↦
-            let same = sym (eqb-true (node_on t.side (leg M y)) (node_on t.side (leg M x)) e) in
-            let far = ap (R.far t.place) (same_coordinate M t.side x y same) in
-            R.monotone (rating R t (leg M x)) (rating R t (leg M y)) (nowhere_worse y (omega arith))
-            (another_kind y same other)
-        | inr l ↦
-            let lt : (rating R t (leg M x)).far < (rating R t (leg M y)).far = ltb-true _ _ l in
-            R.monotone (rating R t (leg M x)) (rating R t (leg M y)) (nowhere_worse y (omega arith)) (inl lt)
-      ]
+  preferred : (y : ℕ) → IsTrue (has_line M y) → y ≢ x → IsTrue (R.prefers (rating R t (leg M x)) (rating R t (leg M y)))
+  preferred y h n = grind (arith, passes, not_same, or_cases, eqb-true, nowhere_worse, same_coordinate, another_kind, ltb-true)
 
   irreflexive : (a : Rating) → IsFalse (R.prefers a a)
   irreflexive a = elim (cases_Bool (R.prefers a a)) [ inl p ↦ R.strict a a p | inr p ↦ p ]
@@ -171,16 +127,16 @@ abbrev total : Rating → ℕ
 total a = a.far + a.frc + a.fow + a.bearing
 
 smaller : (a b : Rating) → NowhereWorse a b → SomewhereBetter a b → total a < total b
-smaller a b w (inl h) = let p = w.frc in let q = w.fow in let r = w.bearing in omega arith
-smaller a b w (inr (inl h)) = let p = w.far in let q = w.fow in let r = w.bearing in omega arith
-smaller a b w (inr (inr (inl h))) = let p = w.far in let q = w.frc in let r = w.bearing in omega arith
-smaller a b w (inr (inr (inr h))) = let p = w.far in let q = w.frc in let r = w.fow in omega arith
+smaller a b w (inl h) = omega arith
+smaller a b w (inr (inl h)) = omega arith
+smaller a b w (inr (inr (inl h))) = omega arith
+smaller a b w (inr (inr (inr h))) = omega arith
 
 one_way : (m n : ℕ) → nat_lt m n ≡ true → nat_lt n m ≡ false
-one_way m n h = le-ltb n m (let lt = ltb-true m n h in omega arith)
+one_way m n h = le-ltb n m (omega (arith, ltb-true m n h))
 
 -- it prefers the smaller sum of the measure and the differences
-pub some_receiver : (far : Measure) → (R : Receiver) × (R.far ≡ far)
+pub some_receiver : SomeReceiver
 some_receiver far = (
   record {
     far = far;
@@ -196,3 +152,114 @@ some_receiver far = (
   },
   refl,
 )
+
+-- ---- products
+
+-- the bound of the measure for the node of the LRP, from both axes
+own_side : (u scale a b B f : ℕ) → 0 < scale → u ≤ scale → a < B → b < B → f ≤ u * a + scale * b → f < scale * B + scale * B
+own_side u scale a b B f unit most ha hb h =
+    omega (arith, mul-le-mul_right a most, mul-lt-mul_of_pos_left ha unit, mul-lt-mul_of_pos_left hb unit)
+
+by_latitude : (scale e B f : ℕ) → B + B ≤ e → scale * e ≤ f → scale * B + scale * B ≤ f
+by_latitude scale e B f h g =
+    omega (arith, mul-le-mul_left scale h, mul-add scale B B)
+
+-- e is the distance D minus at most B
+by_longitude : (n d scale u e D B f : ℕ) → 0 < d → 0 < scale → n * scale ≤ d * u → u ≤ scale → D ≤ e + B →
+    3 * (d * B) ≤ n * D → u * e ≤ f → scale * B + scale * B ≤ f
+by_longitude n d scale u e D B f some unit least most h far g =
+    let few : n ≤ d = le_of_mul-le-mul_left
+    (let goal : scale * n ≤ scale * d = omega (arith, mul-le-mul_left d most, mul_comm n scale, mul_comm d scale) in
+    goal) unit in
+    let split : n * D ≤ n * e + n * B = let one : n * D ≤ n * (e + B) = mul-le-mul_left n h in
+    let two = mul-add n e B in
+    omega arith in
+    let lost : n * B ≤ d * B = mul-le-mul_right B few in
+    let kept : d * B + d * B ≤ n * e = omega arith in
+    let scaled : scale * (d * B + d * B) ≤ scale * (n * e) = mul-le-mul_left scale kept in
+    let sum = mul-add scale (d * B) (d * B) in
+    let turn = mul_left_comm scale d B in
+    let moved : scale * (n * e) ≡ n * scale * e =
+    mul_left_comm scale n e ∙ sym (mul_assoc n scale e) in
+    let cosine : n * scale * e ≤ d * u * e = mul-le-mul_right e least in
+    let last = mul_assoc d u e in
+    let both = mul-add d (scale * B) (scale * B) in
+    let all : d * (scale * B + scale * B) ≤ d * (u * e) = omega arith in
+    omega (arith, le_of_mul-le-mul_left all some)
+
+-- ---- distances on an axis
+
+triangle : (p a b : ℤ) → nat_abs (a -ℤ b) ≤ nat_abs (p -ℤ b) + nat_abs (p -ℤ a)
+triangle p a b = by (p -ℤ b) (p -ℤ a) (a -ℤ b) (omega (arith, ints))
+  where
+    by : (x y z : ℤ) → x ≡ y +ℤ z → nat_abs z ≤ nat_abs x + nat_abs y
+    by (pos x) (pos y) (pos z) e = omega (arith, ints)
+    by (pos x) (pos y) (negsuc z) e = omega (arith, ints)
+    by (pos x) (negsuc y) (pos z) e = omega (arith, ints)
+    by (pos x) (negsuc y) (negsuc z) e = omega (arith, ints)
+    by (negsuc x) (pos y) (pos z) e = omega (arith, ints)
+    by (negsuc x) (pos y) (negsuc z) e = omega (arith, ints)
+    by (negsuc x) (negsuc y) (pos z) e = omega (arith, ints)
+    by (negsuc x) (negsuc y) (negsuc z) e = omega (arith, ints)
+
+-- ---- the nearest node
+
+pub nearer : (n d scale : ℕ) (far : Measure) → IsWeighted n d scale far → (k : ℕ) (p : ℤ × ℤ) (a b : Coord) →
+    IsNear k p a → is_spaced n d k a b ≡ true → far p a < far p b
+nearer n d scale far w k p a b near spaced =
+    let B = decoded_bound k in
+    let here = w.all p a in
+    let there = w.all p b in
+    let traversed : far p a < scale * B + scale * B =
+    own_side here.u scale (lon_apart p a) (lat_apart p a) B (far p a) w.unit here.most near.lon near.lat here.by_both in
+    let other : scale * B + scale * B ≤ far p b =
+    elim (or_cases (nat_le (3 * B) (nat_abs (a.lat -ℤ b.lat)))
+    (nat_le (3 * (d * B)) (n * nat_abs (a.lon -ℤ b.lon))) spaced) [
+      | inl h ↦
+          by_latitude scale (lat_apart p b) B (far p b)
+          (omega (arith, triangle p.1 a.lat b.lat, leb-true (3 * B) (nat_abs (a.lat -ℤ b.lat)) h)) there.by_lat
+      | inr h ↦
+          by_longitude n d scale there.u (lon_apart p b) (nat_abs (a.lon -ℤ b.lon)) B (far p b) w.some w.unit
+          there.least
+          there.most (omega (arith, triangle p.0 a.lon b.lon)) (leb-true (3 * (d * B)) (n * nat_abs (a.lon -ℤ b.lon)) h)
+          there.by_lon
+    ] in
+    omega arith
+
+-- ---- such measures exist
+
+pub some_weighted : SomeWeighted
+some_weighted n d h some =
+    record {
+      some = some;
+      unit = some;
+      all = λ p c. record {
+        u = n;
+        least = omega (arith, mul_comm n d);
+        most = h;
+        by_lon = omega arith;
+        by_lat = omega arith;
+        by_both = omega arith;
+      };
+    }
+
+-- the byte of what remains of an offset
+byte_close : (q s left c : ℕ) → 0 < q → 0 < s → IsCut q s (Some (256 * left / s)) c → IsClose q s left c
+byte_close q s left c hq hs k =
+    let b = 256 * left / s in
+    let low_q : q * (b * s) ≤ q * (256 * left) = mul-le-mul_left q (div-mul-le_self (256 * left) s) in
+    let high_q : q * (256 * left) < q * (b * s + s) = mul-lt-mul_of_pos_left (lt-div-mul-add hs) hq in
+    let turned = mul_left_comm q b s in
+    let turned_left = mul_left_comm q 256 left in
+    let sum = mul-add q (b * s) s in
+    record { below = omega arith; above = omega arith }
+
+pub offset_close : (q s left c : ℕ) → 0 < q → 0 < s → IsCut q s (offset left s) c → IsClose q s left c
+offset_close q s left c hq hs =
+    elim (left == 0) as (λ b. (left == 0) ≡ b → IsCut q s (cond b None (Some (256 * left / s))) c → IsClose q s left c) [
+      | true ↦ λ e k.
+          let nothing : q * left ≡ 0 = ap (λ (n : ℕ). q * n) (eqb-true left 0 e) ∙ omega arith in
+          let some : 0 < q * s = mul-pos hq hs in
+          record { below = omega arith; above = omega arith }
+      | false ↦ λ e k. byte_close q s left c hq hs k
+    ] refl

@@ -1,14 +1,14 @@
 -- What one edit changes, and what consecutive edits change.
-use Rattle.std.proofs.Common.{inl, inr, ◌≡◌, ◌≢◌, ℕ, Bool, false, true, ◌||◌, List, [], ◌∷◌, ◌++◌, min, ◌≤◌, Ok, Option}
-use Rattle.std.proofs.Common.{is_some, Contains, IsTrue, refl, sym, ap, ◌∙◌, subst, arith, ◌==◌, unwrap_or}
+use Rattle.std.proofs.Common.{inl, ◌≡◌, ◌≢◌, ℕ, false, true, List, [], ◌∷◌, ◌++◌, min, ◌≤◌, Ok, Option, is_some, Contains}
+use Rattle.std.proofs.Common.{IsTrue, refl, sym, ap, ◌∙◌, subst, arith, ◌==◌, unwrap_or}
 use Rattle.std.proofs.lemmas.Bool.{cases_eq, both_ways, or_parts, ne_eqb}
 use Rattle.std.proofs.lemmas.List.Elements.{Contains-append_left, Contains-append_right}
 use Rattle.std.proofs.lemmas.List.Folds.{list_any-append}
 use Rattle.std.specs.FinMap.{get, insert, remove}
-use Rattle.olr_spec.specs.Map.{Map, Line, has_line, line_at, no_line, start, end, dm, Edit, Add_node, Move_node}
-use Rattle.olr_spec.specs.Map.{Drop_node, Add_line, Set_line, Drop_line, edited, touched_nodes, touched_lines, SameLine}
-use Rattle.olr_spec.specs.Map.{SameRound, has}
-use Rattle.olr_spec.specs.Detours.{ChangedLine, changes_of, IsChangedLine, AccountsFor, Difference}
+use Rattle.olr_spec.specs.Map.{Map, Line, has_line, line_at, no_line, start, end, dm, Edit, Add_node, Move_node, Drop_node}
+use Rattle.olr_spec.specs.Map.{Add_line, Set_line, Drop_line, edited, touched_nodes, touched_lines, SameLine, SameRound, has}
+use Rattle.olr_spec.specs.Detours.{ChangedLine, changes_of, IsChangedLine, AccountsFor}
+use Rattle.olr_spec.specs.Laws.{EditsDiffer, NoDifference, DifferencesAdd}
 use Rattle.olr_spec.proofs.AgreeLemmas.{same_known, same_start, same_end, same_dm}
 use Rattle.olr_spec.proofs.EditLemmas.{made_by, got_other, got_same, left_other, left_same, edits_are_local}
 use Rattle.olr_spec.proofs.ListLemmas.{Contains-here}
@@ -18,11 +18,7 @@ use Rattle.olr_spec.proofs.ListLemmas.{Contains-here}
 -- maps that differ only in line y, which C lists
 accounts_one : (C : List ChangedLine) (M N : Map) (y : ℕ) → ((x : ℕ) → x ≢ y → SameLine M N x)
     → (IsTrue (has_line M y) → IsChangedLine C M y) → AccountsFor C M N
-accounts_one C M N y same accounted x h =
-    elim (cases_eq x y) [
-      | inl e ↦ inr (subst (IsChangedLine C M) (sym e) (accounted (ap (has_line M) (sym e) ∙ h)))
-      | inr ne ↦ inl (same x ne)
-    ]
+accounts_one C M N y same accounted x h = grind (arith, cases_eq)
 
 -- line y as the only changed line
 accounted_alone : (M : Map) (y : ℕ) (c : ChangedLine) → c.from ≡ start M y → c.to ≡ end M y → c.len ≤ dm M y
@@ -51,22 +47,19 @@ edit_accounted M N (Add_node v c) e = nodes_accounted M N (λ x. ap (λ (K : Map
     (made_by M N (Add_node v c) e).1)
 edit_accounted M N (Move_node v c) e =
     nodes_accounted M N (λ x. ap (λ (K : Map). get K.lines x) (made_by M N (Move_node v c) e).1)
-edit_accounted M N (Drop_node v) e = nodes_accounted M N (λ x. ap (λ (K : Map). get K.lines x)
-    (made_by M N (Drop_node v) e).2)
+edit_accounted M N (Drop_node v) e = nodes_accounted M N (λ x. ap (λ (K : Map). get K.lines x) (made_by M N (Drop_node v) e).2)
 edit_accounted M N (Add_line x l) e =
     let to = record M { lines = insert M.lines x l } in
     let p = made_by M N (Add_line x l) e in
     let c : ChangedLine = record { from = l.from; to = l.to; len = l.len } in
-    let there : AccountsFor (c ∷ []) M to =
-    accounts_one (c ∷ []) M to x (λ y ne. sym (got_other M.lines x l y ne))
+    let there : AccountsFor (c ∷ []) M to = accounts_one (c ∷ []) M to x (λ y ne. sym (got_other M.lines x l y ne))
     (λ known. absurd (both_ways (has_line M x) p.0 known)) in
     subst (BothAccount (c ∷ []) M) p.4 (there, set_accounted M x l c refl refl (omega arith))
 edit_accounted M N (Set_line x frc fow len shape) e =
     let l : Line = record { from = start M x; to = end M x; frc = frc; fow = fow; len = len; shape = shape } in
     let to = record M { lines = insert M.lines x l } in
     let c : ChangedLine = record { from = start M x; to = end M x; len = min (dm M x) len } in
-    let there : AccountsFor (c ∷ []) M to =
-    accounts_one (c ∷ []) M to x (λ y ne. sym (got_other M.lines x l y ne))
+    let there : AccountsFor (c ∷ []) M to = accounts_one (c ∷ []) M to x (λ y ne. sym (got_other M.lines x l y ne))
     (λ known. accounted_alone M x c refl refl (omega arith)) in
     subst (BothAccount (c ∷ []) M) (made_by M N (Set_line x frc fow len shape) e).2
     (there, set_accounted M x l c refl refl (omega arith))
@@ -74,15 +67,12 @@ edit_accounted M N (Drop_line x) e =
     let to = record M { lines = remove M.lines x } in
     let c : ChangedLine = record { from = start M x; to = end M x; len = dm M x } in
     let gone : has_line to x ≡ false = ap (λ (o : Option Line). is_some o) (left_same M.lines x) in
-    let there : AccountsFor (c ∷ []) M to =
-    accounts_one (c ∷ []) M to x (λ y ne. sym (left_other M.lines x y ne))
+    let there : AccountsFor (c ∷ []) M to = accounts_one (c ∷ []) M to x (λ y ne. sym (left_other M.lines x y ne))
     (λ known. accounted_alone M x c refl refl (omega arith)) in
-    let here : AccountsFor (c ∷ []) to M =
-    accounts_one (c ∷ []) to M x (left_other M.lines x) (λ known. absurd (both_ways (has_line to x) gone known)) in
+    let here = accounts_one (c ∷ []) to M x (left_other M.lines x) (λ known. absurd (both_ways (has_line to x) gone known)) in
     subst (BothAccount (c ∷ []) M) (made_by M N (Drop_line x) e).1 (there, here)
 
-pub edit_differs : (M N : Map) (e : Edit) → edited M e ≡ Ok N
-    → Difference (touched_nodes M e) (touched_lines e) (changes_of M e) M N
+pub edit_differs : EditsDiffer
 edit_differs M N e p =
     let accounted = edit_accounted M N e p in
     record {
@@ -94,13 +84,11 @@ edit_differs M N e p =
     }
   where
     other : (x y : ℕ) → has (touched_lines e) x ≡ false → has (touched_lines e) y ≡ true → has (x ∷ []) y ≡ false
-    other x y off on =
-        let apart : x ≢ y = λ is. both_ways (has (touched_lines e) x) off (ap (has (touched_lines e)) is ∙ on) in
-        ap (λ (b : Bool). b || false) (ne_eqb x y apart)
+    other x y off on = grind (arith, both_ways, ne_eqb)
 
 -- ---- no difference
 
-pub none_differs : (M : Map) → Difference [] [] [] M M
+pub none_differs : NoDifference
 none_differs M = record {
   nodes = λ v off. record {
     place = refl;
@@ -115,37 +103,21 @@ none_differs M = record {
 
 -- ---- consecutive changes
 
-pub more_accounted : (C D : List ChangedLine) (M : Map) (x : ℕ) → ((c : ChangedLine) → Contains C c → Contains D c)
-    → IsChangedLine C M x → IsChangedLine D M x
-more_accounted C D M x more t = record {
-  change = t.change;
-  listed = more t.change t.listed;
-  from = t.from;
-  to = t.to;
-  len = t.len;
-}
-
-accounted_back : (C : List ChangedLine) (L M : Map) (x : ℕ) → SameLine L M x → IsChangedLine C M x → IsChangedLine C L x
-accounted_back C L M x is t =
+accounted_as : (C D : List ChangedLine) (L M : Map) (x : ℕ) → SameLine L M x →
+    ((c : ChangedLine) → Contains C c → Contains D c) → IsChangedLine C M x → IsChangedLine D L x
+accounted_as C D L M x is more t =
     record {
       change = t.change;
-      listed = t.listed;
+      listed = more t.change t.listed;
       from = t.from ∙ sym (same_start L M x is);
       to = t.to ∙ sym (same_end L M x is);
-      len = subst (λ (d : ℕ). t.change.len ≤ d) (sym (same_dm L M x is)) t.len;
+      len = coe 1 0 (i. t.change.len ≤ same_dm L M x is i) t.len;
     }
 
 -- E has the changed lines of C and D
 accounts_on : (C D E : List ChangedLine) (L M N : Map) → ((c : ChangedLine) → Contains C c → Contains E c)
     → ((c : ChangedLine) → Contains D c → Contains E c) → AccountsFor C L M → AccountsFor D M N → AccountsFor E L N
-accounts_on C D E L M N left right p q x h =
-    elim (p x h) [
-      | inr t ↦ inr (more_accounted C E L x left t)
-      | inl is ↦ elim (q x (sym (same_known L M x is) ∙ h)) [
-        | inl on ↦ inl (is ∙ on)
-        | inr t ↦ inr (accounted_back E L M x is (more_accounted D E M x right t))
-      ]
-    ]
+accounts_on C D E L M N left right p q x h = grind (arith, accounted_as, same_known)
 
 round_on : (L M N : Map) (v : ℕ) → SameRound L M v → SameRound M N v → SameRound L N v
 round_on L M N v r s =
@@ -161,8 +133,7 @@ round_on L M N v r s =
 not_either : (xs ys : List ℕ) (v : ℕ) → has (xs ++ ys) v ≡ false → (has xs v ≡ false) × (has ys v ≡ false)
 not_either xs ys v h = or_parts (has xs v) (has ys v) (sym (list_any-append (λ y. y == v) xs ys) ∙ h)
 
-pub differences_add : (L M N : Map) (T U X Y : List ℕ) (C D : List ChangedLine) → Difference T X C L M
-    → Difference U Y D M N → Difference (T ++ U) (X ++ Y) (C ++ D) L N
+pub differences_add : DifferencesAdd
 differences_add L M N T U X Y C D p q =
     let left : (c : ChangedLine) → Contains C c → Contains (C ++ D) c = λ c. Contains-append_left C D c in
     let right : (c : ChangedLine) → Contains D c → Contains (C ++ D) c = λ c. Contains-append_right C D c in

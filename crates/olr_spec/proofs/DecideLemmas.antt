@@ -1,22 +1,22 @@
 -- Each definition is decidable, so each path has an answer.
-use Rattle.std.proofs.Common.{◌⊎◌, inl, inr, ◌≡◌, ℕ, zero, suc, ◌+◌, ◌-◌, min, Bool, true, List, [], ◌∷◌, ◌++◌, length}
-use Rattle.std.proofs.Common.{◌<◌, ◌≤◌, Option, Some, None, is_some, IsTrue, IsFalse, refl, sym, ap, ◌∙◌, subst, arith}
-use Rattle.std.proofs.Common.{MatchOption, length-append, append_assoc, append-nil}
+use Rattle.std.proofs.Common.{◌⊎◌, inl, inr, ◌≡◌, ℕ, zero, suc, ◌+◌, Bool, true, List, [], ◌∷◌, ◌++◌, length, ◌<◌, ◌≤◌, Option}
+use Rattle.std.proofs.Common.{Some, None, is_some, IsTrue, IsFalse, refl, sym, ap, ◌∙◌, subst, arith, MatchOption}
+use Rattle.std.proofs.Common.{length-append, append_assoc, append-nil}
 use Rattle.std.proofs.lemmas.Bool.{cases_lt, cases_eq, cases_Bool, both_ways}
-use Rattle.std.specs.List.{slice_index}
 use Rattle.std.specs.Prelude.{nat_eq, ◌≢◌}
-use lib.Pointwise.{pointwise, bytes_decides}
 use Rattle.std.specs.FinMap.{get}
+use lib.Pointwise.{pointwise, bytes_decides}
 use Rattle.olr_spec.specs.Map.{Map, IsMap, Line, has_line, start, end, dm, coord_at, lines_where, has}
-use Rattle.olr_spec.specs.Routes.{IsRoute, dm_of, UniqueShortest, LrpRoute}
-use Rattle.olr_spec.specs.Extension.{Path, is_path, first, last, passing, MayPrecede, MayFollow, StartRun, EndRun}
-use Rattle.olr_spec.specs.Extension.{LongestStart, LongestEnd, Tried, from_start, taken_start, extended_path, limit}
-use Rattle.olr_spec.specs.Points.{node_at, stretch, Covered, fit16, Candidate, ValidCandidate, Greatest, Next, To_end}
-use Rattle.olr_spec.specs.Points.{To_valid, To_passing, NoNext, Follow}
-use Rattle.olr_spec.specs.Encoding.{Answer, Refused, Refusal, path_fault, answer_by_points, Encoding, Encodes}
+use Rattle.olr_spec.specs.Routes.{IsRoute, dm_of, UniqueShortest}
+use Rattle.olr_spec.specs.Extension.{Path, is_path, first, last, passing, MayPrecede, MayFollow, StartRun, EndRun, LongestStart}
+use Rattle.olr_spec.specs.Extension.{LongestEnd, Tried, from_start, taken_start, extended_path, limit}
+use Rattle.olr_spec.specs.Points.{node_at, stretch, Covered, fit16, Candidate, ValidCandidate, Greatest, Next, To_end, To_valid}
+use Rattle.olr_spec.specs.Points.{To_passing, NoNext, Follow}
+use Rattle.olr_spec.specs.Encoding.{Answer, Refused, Refusal, path_fault, answer_by_points, Encoding}
+use Rattle.olr_spec.specs.Laws.{OneUnique, SomeAnswer}
 use Rattle.olr_spec.proofs.RouteLemmas.{positive, dm_of-append}
 use Rattle.olr_spec.proofs.MapLemmas.{has-lines_where, passes_at}
-use Rattle.olr_spec.proofs.ListLemmas.{Each, Each-nil, Each-cons, Each-head, Each-tail}
+use Rattle.olr_spec.proofs.ListLemmas.{Each, Each-nil, Each-cons, Each-head, Each-tail, Known}
 use Rattle.olr_spec.proofs.RunLemmas.{StartRun-back, start_suffix, end_prefix, last_known}
 use Rattle.olr_spec.proofs.AnswerLemmas.{sound_lines, all_first, all_last, path_nonempty}
 use Rattle.olr_spec.proofs.RunMoves.{EndRun-push}
@@ -27,6 +27,10 @@ pub dec_and : {A B : Type 0} → Dec A → Dec B → Dec (A × B)
 dec_and (yes a) (yes b) = yes (a, b)
 dec_and (yes a) (no b) = no (λ p. b p.1)
 dec_and (no a) d = no (λ p. a p.0)
+
+dec_as : {A B : Type 0} → (A → B) → (B → A) → Dec A → Dec B
+dec_as f g (yes a) = yes (f a)
+dec_as f g (no n) = no (λ b. n (g b))
 
 dec_not : {A : Type 0} → Dec A → Dec (¬ A)
 dec_not (yes a) = no (λ f. f a)
@@ -51,33 +55,25 @@ dec_le m n = elim (cases_lt n m) [ inl h ↦ no (λ le. absurd (omega arith)) | 
 dec_each : (Q : ℕ → Type 0) → ((x : ℕ) → Dec (Q x)) → (xs : List ℕ) → Dec (Each Q xs)
 dec_each Q d [] = yes (Each-nil Q)
 dec_each Q d (x ∷ xs) =
-    elim (dec_and (d x) (dec_each Q d xs)) [
-      | yes p ↦ yes (Each-cons Q x xs p.0 p.1)
-      | no f ↦ no (λ h. f (Each-head Q x xs h, Each-tail Q x xs h))
-    ]
+    dec_as (λ p. Each-cons Q x xs p.0 p.1) (λ h. (Each-head Q x xs h, Each-tail Q x xs h)) (dec_and (d x) (dec_each Q d xs))
 
 -- for each list of at most n of these numbers
 dec_lists : (ks : List ℕ) (n : ℕ) (Q : List ℕ → Type 0) → ((w : List ℕ) → Dec (Q w)) →
     Dec ((w : List ℕ) → Each (λ x. has ks x ≡ true) w → length w ≤ n → Q w)
 dec_lists ks zero Q d =
-    elim (d []) [
-      | yes p ↦ yes (only p)
-      | no f ↦ no (λ h. f (h [] (Each-nil (λ x. has ks x ≡ true)) (omega arith)))
-    ]
+    dec_as only (λ h. h [] (Each-nil (λ x. has ks x ≡ true)) (omega arith)) (d [])
   where
     only : Q [] → (w : List ℕ) → Each (λ x. has ks x ≡ true) w → length w ≤ zero → Q w
     only p [] e h = p
     only p (x ∷ w) e h = absurd (omega arith)
 dec_lists ks (suc n) Q d =
     let Rest : ℕ → Type 0 = λ k. (w : List ℕ) → Each (λ x. has ks x ≡ true) w → length w ≤ n → Q (k ∷ w) in
-    elim (dec_and (d []) (dec_each Rest (λ k. dec_lists ks n (λ w. Q (k ∷ w)) (λ w. d (k ∷ w))) ks)) [
-      | yes p ↦ yes (both p.0 p.1)
-      | no f ↦ no (λ h. f (
-        h [] (Each-nil (λ x. has ks x ≡ true)) (omega arith),
-        λ k i w e l.
-            h (k ∷ w) (Each-cons (λ x. has ks x ≡ true) k w i e) (omega arith),
-      ))
-    ]
+    dec_as (λ p. both p.0 p.1)
+    (λ h. (
+      h [] (Each-nil (λ x. has ks x ≡ true)) (omega arith),
+      λ k i w e l. h (k ∷ w) (Each-cons (λ x. has ks x ≡ true) k w i e) (omega arith),
+    ))
+    (dec_and (d []) (dec_each Rest (λ k. dec_lists ks n (λ w. Q (k ∷ w)) (λ w. d (k ∷ w))) ks))
   where
     both : Q [] → Each (λ k. (w : List ℕ) → Each (λ x. has ks x ≡ true) w → length w ≤ n → Q (k ∷ w)) ks →
         (w : List ℕ) → Each (λ x. has ks x ≡ true) w → length w ≤ suc n → Q w
@@ -99,10 +95,8 @@ some_of Q d (x ∷ xs) =
 dec_IsRoute : (M : Map) (s t : ℕ) (xs : List ℕ) → Dec (IsRoute M s t xs)
 dec_IsRoute M s t [] = dec_eq s t
 dec_IsRoute M s t (x ∷ xs) =
-    elim (dec_and (dec_and (dec_true (has_line M x)) (dec_eq (start M x) s)) (dec_IsRoute M (end M x) t xs)) [
-      | yes p ↦ yes (p.0.0, p.0.1, p.1)
-      | no f ↦ no (λ w. f ((w.0, w.1), w.2))
-    ]
+    dec_as (λ p. (p.0.0, p.0.1, p.1)) (λ w. ((w.0, w.1), w.2))
+    (dec_and (dec_and (dec_true (has_line M x)) (dec_eq (start M x) s)) (dec_IsRoute M (end M x) t xs))
 
 -- the numbers of all lines
 abbrev numbers : Map → List ℕ
@@ -122,84 +116,58 @@ route_numbers M s t (x ∷ xs) w =
 
 route_length : (M : Map) → IsMap M → (s t : ℕ) (xs : List ℕ) → IsRoute M s t xs → length xs ≤ dm_of M xs
 route_length M m s t [] w = omega arith
-route_length M m s t (x ∷ xs) w = let p = positive M m x w.0 in let r = route_length M m (end M x) t xs w.2 in omega
-    arith
+route_length M m s t (x ∷ xs) w = omega (arith, positive M m x w.0, route_length M m (end M x) t xs w.2)
 
-dec_same : (xs ys : List ℕ) → Dec (xs ≡ ys)
-dec_same xs ys =
-    elim (cases_Bool (pointwise nat_eq xs ys)) [
-      | inl e ↦ yes ((bytes_decides xs ys).0 e)
-      | inr e ↦
-          no (λ is. both_ways (pointwise nat_eq xs ys) e ((bytes_decides xs ys).1 is))
-    ]
+pub dec_same : (xs ys : List ℕ) → Dec (xs ≡ ys)
+dec_same xs ys = dec_as (bytes_decides xs ys).0 (bytes_decides xs ys).1 (dec_true (pointwise nat_eq xs ys))
 
-pub one_unique : (M : Map) (s t : ℕ) (xs ys : List ℕ) → UniqueShortest M s t xs → UniqueShortest M s t ys → xs ≡ ys
+pub one_unique : OneUnique
 one_unique M s t xs ys p q =
     elim (dec_same xs ys) [
       | yes e ↦ e
-      | no ne ↦ let h = p.others ys q.route (λ e. ne (sym e)) in let k = q.others xs p.route ne in absurd (omega arith)
+      | no ne ↦ let h = p.others ys q.route (λ e. ne (sym e)) in absurd (omega (arith, q.others xs p.route ne))
     ]
 
 pub dec_Unique : (M : Map) → IsMap M → (s t : ℕ) (xs : List ℕ) → Dec (UniqueShortest M s t xs)
 dec_Unique M m s t xs =
     let Clear : List ℕ → Type 0 = λ w. ¬ (IsRoute M s t w × ((w ≢ xs) × (dm_of M w ≤ dm_of M xs))) in
-    elim (dec_and (dec_IsRoute M s t xs)
-    (dec_lists (numbers M) (dm_of M xs) Clear
+    dec_as (λ p. record {
+      route = p.0;
+      others = λ ys w ne. elim (cases_lt (dm_of M xs) (dm_of M ys)) [
+        | inl lt ↦ lt
+        | inr le ↦ absurd (p.1 ys (route_numbers M s t ys w) (omega (arith, route_length M m s t ys w)) (w, (ne, le)))
+      ];
+    })
+    (λ o. (o.route, λ w e h p. absurd (omega (arith, o.others w p.0 p.1.0))))
+    (dec_and (dec_IsRoute M s t xs) (dec_lists (numbers M) (dm_of M xs) Clear
     (λ w. dec_not (dec_and (dec_IsRoute M s t w)
-    (dec_and (dec_not (dec_same w xs)) (dec_le (dm_of M w) (dm_of M xs))))))) [
-      | yes p ↦
-          yes (record {
-            route = p.0;
-            others = λ ys w ne. elim (cases_lt (dm_of M xs) (dm_of M ys)) [
-              | inl lt ↦ lt
-              | inr le ↦ let short =
-                  route_length M m s t ys w in absurd (p.1 ys (route_numbers M s t ys w) (omega arith) (w, (ne, le)))
-            ];
-          })
-      | no f ↦ no (λ o. f (
-        o.route,
-        λ w e h p. let far = o.others w p.0 p.1.0 in let le = p.1.1 in absurd
-            (omega arith),
-      ))
-    ]
-
-pub dec_LrpRoute : (M : Map) → IsMap M → (s t : ℕ) (xs : List ℕ) → Dec (LrpRoute M s t xs)
-dec_LrpRoute M m s t xs = dec_Unique M m s t xs
+    (dec_and (dec_not (dec_same w xs)) (dec_le (dm_of M w) (dm_of M xs)))))))
 
 -- ---- LRPs
 
 pub dec_Covered : (M : Map) → IsMap M → (ls : List ℕ) (i j : ℕ) → Dec (Covered M ls i j)
-dec_Covered M m ls i j =
-    let k = min j (length ls - 1) in
-    elim (dec_lt i k) [
-      | yes h ↦ elim (dec_LrpRoute M m (end M (slice_index ls i)) (start M (slice_index ls k)) (stretch ls (i + 1) k)) [
-        | yes r ↦ yes (λ _. r)
-        | no f ↦ no (λ c. f (c h))
-      ]
-      | no f ↦ yes (λ h. absurd (f h))
-    ]
+dec_Covered M m ls i j = grind (arith, dec_lt, dec_as, dec_Unique)
 
 dec_Candidate : (M : Map) → IsMap M → (ls : List ℕ) (i j : ℕ) → Dec (Candidate M ls i j)
 dec_Candidate M m ls i j =
-    elim (dec_and (dec_and (dec_lt i j) (dec_le j (length ls)))
+    dec_as (λ p. record { after = p.0.0; upto = p.0.1; covered = p.1.0; near = p.1.1.0; fits = p.1.1.1 })
+    (λ c. ((c.after, c.upto), (c.covered, (c.near, c.fits))))
+    (dec_and (dec_and (dec_lt i j) (dec_le j (length ls)))
     (dec_and (dec_Covered M m ls i j)
     (dec_and (dec_le (dm_of M (stretch ls i j)) limit)
-    (dec_true (fit16 (coord_at M (node_at M ls i)) (coord_at M (node_at M ls j))))))) [
-      | yes p ↦ yes (record { after = p.0.0; upto = p.0.1; covered = p.1.0; near = p.1.1.0; fits = p.1.1.1 })
-      | no f ↦ no (λ c. f ((c.after, c.upto), (c.covered, (c.near, c.fits))))
-    ]
+    (dec_true (fit16 (coord_at M (node_at M ls i)) (coord_at M (node_at M ls j)))))))
 
 dec_Valid : (M : Map) → IsMap M → (ls : List ℕ) (i j : ℕ) → Dec (ValidCandidate M ls i j)
 dec_Valid M m ls i j = dec_and (dec_Candidate M m ls i j) (dec_false (passing M (node_at M ls j)))
 
 pub greatest_or_none : (Q : ℕ → Type 0) → ((k : ℕ) → Dec (Q k)) → (n : ℕ) → ((k : ℕ) → Q k → k < n) →
     ((j : ℕ) × Greatest Q j) ⊎ ((k : ℕ) → ¬ Q k)
-greatest_or_none Q d zero h = inr (λ k q. let lt = h k q in absurd (omega arith))
+greatest_or_none Q d zero h = inr (λ k q. absurd (omega (arith, h k q)))
 greatest_or_none Q d (suc n) h =
     elim (d n) [
-      | yes q ↦ inl (n, record { holds = q; others = λ k p. let lt = h k p in omega arith })
+      | yes q ↦ inl (n, record { holds = q; others = λ k p. omega (arith, h k p) })
       | no f ↦ greatest_or_none Q d n
-          (λ k q. elim (cases_eq k n) [ inl e ↦ absurd (f (subst Q e q)) | inr ne ↦ let lt = h k q in omega arith ])
+          (λ k q. elim (cases_eq k n) [ inl e ↦ absurd (f (subst Q e q)) | inr ne ↦ omega (arith, h k q) ])
     ]
 
 pub next_or_none : (M : Map) → IsMap M → (ls : List ℕ) (i : ℕ) → ((j : ℕ) × Next M ls i j) ⊎ NoNext M ls i
@@ -207,10 +175,10 @@ next_or_none M m ls i =
     elim (dec_Candidate M m ls i (length ls)) [
       | yes c ↦ inl (length ls, To_end refl c)
       | no f ↦ elim (greatest_or_none (ValidCandidate M ls i) (dec_Valid M m ls i) (suc (length ls))
-          (λ k c. let h = c.0.upto in omega arith)) [
+          (λ k c. omega arith)) [
             | inl g ↦ inl (g.0, To_valid f g.1)
             | inr none ↦ elim (greatest_or_none (Candidate M ls i) (dec_Candidate M m ls i) (suc (length ls))
-                (λ k c. let h = c.upto in omega arith)) [
+                (λ k c. omega arith)) [
                   | inl g ↦ inl (g.0, To_passing f none g.1)
                   | inr h ↦ inr h
                 ]
@@ -218,18 +186,16 @@ next_or_none M m ls i =
     ]
 
 next_after : (M : Map) (ls : List ℕ) (i j : ℕ) → Next M ls i j → (i < j) × (j ≤ length ls)
-next_after M ls i j (To_end e c) = let h = c.after in (omega arith, omega arith)
+next_after M ls i j (To_end e c) = (omega arith, omega arith)
 next_after M ls i j (To_valid f g) = (g.holds.0.after, g.holds.0.upto)
 next_after M ls i j (To_passing f h g) = (g.holds.after, g.holds.upto)
 
-pub some_follow : (M : Map) → IsMap M → (ls : List ℕ) (fuel i : ℕ) → length ls ≤ i + fuel → (js : List ℕ)
-    × Follow M ls i js
-some_follow M m ls zero i h = ([], λ j c. let a = c.after in let b = c.upto in absurd (omega arith))
+pub some_follow : (M : Map) → IsMap M → (ls : List ℕ) (fuel i : ℕ) → length ls ≤ i + fuel → (js : List ℕ) × Follow M ls i js
+some_follow M m ls zero i h = ([], λ j c. absurd (omega arith))
 some_follow M m ls (suc fuel) i h =
     elim (next_or_none M m ls i) [
       | inl n ↦
-          let a = next_after M ls i n.0 n.1 in
-          let r = some_follow M m ls fuel n.0 (omega arith) in
+          let r = some_follow M m ls fuel n.0 (omega (arith, next_after M ls i n.0 n.1)) in
           (n.0 ∷ r.0, (n.1, r.1))
       | inr none ↦ ([], none)
     ]
@@ -238,21 +204,19 @@ some_follow M m ls (suc fuel) i h =
 
 dec_MayPrecede : (M : Map) (x : ℕ) (ls : List ℕ) → Dec (MayPrecede M x ls)
 dec_MayPrecede M x ls =
-    elim (dec_and (dec_and (dec_true (has_line M x)) (dec_eq (end M x) (start M (first ls))))
+    dec_as (λ p. record { known = p.0.0; joins = p.0.1; through = p.1.0; onward = p.1.1.0; fresh = p.1.1.1 })
+    (λ p. ((p.known, p.joins), (p.through, (p.onward, p.fresh))))
+    (dec_and (dec_and (dec_true (has_line M x)) (dec_eq (end M x) (start M (first ls))))
     (dec_and (dec_true (passing M (end M x)))
-    (dec_and (dec_not (dec_eq (start M x) (end M (first ls)))) (dec_false (has ls x))))) [
-      | yes p ↦ yes (record { known = p.0.0; joins = p.0.1; through = p.1.0; onward = p.1.1.0; fresh = p.1.1.1 })
-      | no f ↦ no (λ p. f ((p.known, p.joins), (p.through, (p.onward, p.fresh))))
-    ]
+    (dec_and (dec_not (dec_eq (start M x) (end M (first ls)))) (dec_false (has ls x)))))
 
 dec_MayFollow : (M : Map) (ls : List ℕ) (x : ℕ) → Dec (MayFollow M ls x)
 dec_MayFollow M ls x =
-    elim (dec_and (dec_and (dec_true (has_line M x)) (dec_eq (start M x) (end M (last ls))))
+    dec_as (λ p. record { known = p.0.0; joins = p.0.1; through = p.1.0; onward = p.1.1.0; fresh = p.1.1.1 })
+    (λ p. ((p.known, p.joins), (p.through, (p.onward, p.fresh))))
+    (dec_and (dec_and (dec_true (has_line M x)) (dec_eq (start M x) (end M (last ls))))
     (dec_and (dec_true (passing M (start M x)))
-    (dec_and (dec_not (dec_eq (end M x) (start M (last ls)))) (dec_false (has ls x))))) [
-      | yes p ↦ yes (record { known = p.0.0; joins = p.0.1; through = p.1.0; onward = p.1.1.0; fresh = p.1.1.1 })
-      | no f ↦ no (λ p. f ((p.known, p.joins), (p.through, (p.onward, p.fresh))))
-    ]
+    (dec_and (dec_not (dec_eq (end M x) (start M (last ls)))) (dec_false (has ls x)))))
 
 -- the last element of a list that isn't empty
 pub last_of_list : (x : ℕ) (xs : List ℕ) → (front : List ℕ) × (y : ℕ) × (x ∷ xs ≡ front ++ y ∷ [])
@@ -279,15 +243,13 @@ no_longer_start M ls c d k p none q w =
         let s = last_of_list x front in
         let y = s.1 in
         let parts : d ≡ s.0 ++ (y ∷ c) = e ∙ ap (λ (zs : List ℕ). zs ++ c) s.2 ∙ append_assoc s.0 (y ∷ []) c in
-        let run : StartRun M (y ∷ c) ls =
-        StartRun-back M ls s.0 (y ∷ c) (subst (λ (zs : List ℕ). StartRun M zs ls) parts q) in
+        let run : StartRun M (y ∷ c) ls = StartRun-back M ls s.0 (y ∷ c) (coe 0 1 (i. StartRun M (parts i) ls) q) in
         none y (has_number M y run.0.known) (run.0, omega (arith, ap (dm_of M) parts, dm_of-append M s.0 (y ∷ c)))
 
-EndRun-at : (M : Map) (ls c : List ℕ) (x : ℕ) (back : List ℕ) → EndRun M ls (c ++ x ∷ back) →
-    MayFollow M (ls ++ c) x
-EndRun-at M ls [] x back p = subst (λ (zs : List ℕ). MayFollow M zs x) (sym (append-nil ls)) p.0
+EndRun-at : (M : Map) (ls c : List ℕ) (x : ℕ) (back : List ℕ) → EndRun M ls (c ++ x ∷ back) → MayFollow M (ls ++ c) x
+EndRun-at M ls [] x back p = coe 1 0 (i. MayFollow M (append-nil ls i) x) p.0
 EndRun-at M ls (y ∷ c) x back p =
-    subst (λ (zs : List ℕ). MayFollow M zs x) (append_assoc ls (y ∷ []) c) (EndRun-at M (ls ++ y ∷ []) c x back p.1)
+    coe 0 1 (i. MayFollow M (append_assoc ls (y ∷ []) c i) x) (EndRun-at M (ls ++ y ∷ []) c x back p.1)
 
 no_longer_end : (M : Map) (ls c d : List ℕ) → IsTrue (has_line M (last ls)) → EndRun M ls c →
     Each (λ x. ¬ (MayFollow M (ls ++ c) x × (dm M x + dm_of M c ≤ limit))) (numbers M) → EndRun M ls d →
@@ -305,8 +267,7 @@ no_longer_end M ls c d k p none q w =
     beyond : (back : List ℕ) → d ≡ c ++ back → length c < length d → ⊥
     beyond [] e more = omega (arith, ap (λ (zs : List ℕ). length zs) e, length-append c [])
     beyond (x ∷ back) e more =
-        let next : MayFollow M (ls ++ c) x =
-        EndRun-at M ls c x back (subst (λ (zs : List ℕ). EndRun M ls zs) e q) in
+        let next : MayFollow M (ls ++ c) x = EndRun-at M ls c x back (coe 0 1 (i. EndRun M ls (e i)) q) in
         none x (has_number M x next.known) (next, omega (arith, ap (dm_of M) e, dm_of-append M c (x ∷ back)))
 
 -- a longest run, from the run c on, if fewer than fuel decimetres are left
@@ -316,8 +277,7 @@ some_start M m ls k zero c f p w = absurd (omega arith)
 some_start M m ls k (suc fuel) c f p w =
     elim (some_of (λ x. MayPrecede M x (c ++ ls) × (dm M x + dm_of M c ≤ limit))
     (λ x. dec_and (dec_MayPrecede M x (c ++ ls)) (dec_le (dm M x + dm_of M c) limit)) (numbers M)) [
-      | inl s ↦ let grows =
-          positive M m s.0 s.1.0.known in some_start M m ls k fuel (s.0 ∷ c) (omega arith) (s.1.0, p) s.1.1
+      | inl s ↦ some_start M m ls k fuel (s.0 ∷ c) (omega (arith, positive M m s.0 s.1.0.known)) (s.1.0, p) s.1.1
       | inr none ↦ (c, record { run = p; within = w; longest = λ d q v. no_longer_start M ls c d k p none q v })
     ]
 
@@ -329,7 +289,6 @@ some_end M m ls k (suc fuel) c f p w =
     (λ x. dec_and (dec_MayFollow M (ls ++ c) x) (dec_le (dm M x + dm_of M c) limit)) (numbers M)) [
       | inl s ↦
           let grows = positive M m s.0 s.1.0.known in
-          let room = s.1.1 in
           some_end M m ls k fuel (c ++ s.0 ∷ []) (omega (arith, dm_of-append M c (s.0 ∷ [])))
           (EndRun-push M ls c s.0 p s.1.0) (omega (arith, dm_of-append M c (s.0 ∷ [])))
       | inr none ↦ (c, record { run = p; within = w; longest = λ d q v. no_longer_end M ls c d k p none q v })
@@ -355,8 +314,7 @@ pub some_encoding : (M : Map) → IsMap M → (P : Path) → IsTrue (is_path P.l
 some_encoding M m P is e =
     let n = path_nonempty P.lines is in
     let known = sound_lines M P e in
-    let Known : ℕ → Type 0 = λ x. IsTrue (has_line M x) in
-    let t = some_tried M m P n (all_first Known P.lines n known) (all_last Known P.lines n known) in
+    let t = some_tried M m P n (all_first (Known M) P.lines n known) (all_last (Known M) P.lines n known) in
     let E = extended_path M P t.0 t.1 in
     let js = some_follow M m E.lines (length E.lines) 0 (omega arith) in
     (answer_by_points M E js.0, encoding_of M P t.0 t.1 js.0 t.2 js.1)
@@ -366,5 +324,5 @@ some_by : (M : Map) → IsMap M → (P : Path) → IsTrue (is_path P.lines) → 
 some_by M m P is None e = some_encoding M m P is e
 some_by M m P is (Some r) e = (Refused r, refl)
 
-pub some_answer : (M : Map) → IsMap M → (P : Path) → IsTrue (is_path P.lines) → (A : Answer) × Encodes M P A
+pub some_answer : SomeAnswer
 some_answer M m P is = some_by M m P is (path_fault M P) refl

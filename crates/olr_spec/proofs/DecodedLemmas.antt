@@ -1,28 +1,30 @@
 -- The coordinates that the LRPs of an answer are decoded as.
-use Rattle.std.proofs.Common.{inl, inr, ◌≡◌, ℕ, zero, suc, ◌+◌, ◌*◌, ◌/◌, ℤ, pos, negsuc, neg_ℤ, ◌<ℤ◌, ◌*ℤ◌, ◌+ℤ◌, ◌-ℤ◌}
-use Rattle.std.proofs.Common.{true, false, List, [], ◌∷◌, ◌++◌, length, take, map, ◌<◌, ◌≤◌, Option, Some, None}
-use Rattle.std.proofs.Common.{is_some, IsTrue, cond, Bool, refl, sym, ap, ◌∙◌, subst, arith, nat_le, MatchOption}
+use Rattle.std.proofs.Common.{inl, inr, ◌≡◌, ℕ, zero, suc, ◌+◌, ◌*◌, ◌/◌, ℤ, pos, negsuc, neg_ℤ, ◌<ℤ◌, ◌*ℤ◌, ◌+ℤ◌, ◌-ℤ◌, true}
+use Rattle.std.proofs.Common.{false, List, [], ◌∷◌, ◌++◌, length, take, map, ◌<◌, ◌≤◌, Some, None, is_some, IsTrue, cond, Bool}
+use Rattle.std.proofs.Common.{refl, sym, ap, ◌∙◌, subst, arith, nat_le}
 use Rattle.std.specs.Prelude.{nat_abs, slice_get, option_map}
 use Rattle.std.proofs.lemmas.Bool.{le-leb, leb-true}
 use Rattle.std.proofs.lemmas.Int.{ints}
-use lib.IntN.{+ℤ_assoc}
 use Rattle.std.specs.List.{slice_index}
+use lib.IntN.{+ℤ_assoc}
 use Rattle.olr_spec.specs.Coordinates.{abs24, from_abs24, nearest, relative, from_rel16}
-use Rattle.olr_spec.specs.Map.{Map, IsMap, has_line, coord_at, has}
+use Rattle.olr_spec.specs.Map.{Map, IsMap, coord_at, has}
 use Rattle.olr_spec.specs.Extension.{Path, is_path, extended_path}
-use Rattle.olr_spec.specs.Points.{node_at, Follow}
+use Rattle.olr_spec.specs.Points.{node_at}
 use Rattle.olr_spec.specs.Bearings.{Leg}
 use Rattle.olr_spec.specs.Reference.{Middle, Reference, legs, position, first_kept, last_kept, kept_points, last_two}
-use Rattle.olr_spec.specs.Reference.{middle_points, reference_by_kept, reference_by, reference}
-use Rattle.olr_spec.specs.Reference as fields
-use Rattle.olr_spec.specs.Encoding.{Points, Refused, Refusal, path_fault, Encoding, Encodes, IsPoint}
+use Rattle.olr_spec.specs.Reference.{middle_points, reference_by_kept, reference_by}
+use Rattle.olr_spec.specs.Encoding.{Points, path_fault, Encoding, IsPoint}
 use Rattle.olr_spec.specs.Decoded.{lon_steps, lat_steps, steps_sum, decoded, decoded_bound, IsNear}
+use Rattle.olr_spec.specs.Laws.{DecodedNear, DecodedPoints}
+use Rattle.olr_spec.specs.Reference as fields
+use Rattle.olr_spec.specs.Reference as fields
+use Rattle.olr_spec.specs.Reference as fields
 use Rattle.olr_spec.proofs.ListLemmas.{has_cases}
-use Rattle.olr_spec.proofs.AnswerLemmas.{sound_lines, all_first, all_last, path_nonempty, one_follow, path_also}
-use Rattle.olr_spec.proofs.RunLemmas.{one_tried}
+use Rattle.olr_spec.proofs.AnswerLemmas.{path_also, path_at}
 use Rattle.olr_spec.proofs.KeptLemmas.{two_kept}
 use Rattle.olr_spec.proofs.FieldLemmas.{position_is}
-use Rattle.olr_spec.proofs.FitLemmas.{kept_ends, extended_sound, answered}
+use Rattle.olr_spec.proofs.FitLemmas.{kept_ends, extended_sound, answered, by_fault}
 
 -- ---- one rounding
 
@@ -32,7 +34,7 @@ record Close (n : ℕ) (a b : ℤ) : Type 0 where
   above : b <ℤ (a +ℤ pos n)
 
 close_abs : (n : ℕ) (a b : ℤ) → Close n a b → nat_abs (a -ℤ b) < n
-close_abs n a b c = let p = c.below in let q = c.above in size (a -ℤ b) (omega (arith, ints)) (omega (arith, ints))
+close_abs n a b c = size (a -ℤ b) (omega (arith, ints)) (omega (arith, ints))
   where
     size : (z : ℤ) → z <ℤ pos n → neg_ℤ (pos n) <ℤ z → nat_abs z < n
     size (pos m) h k = omega (arith, ints)
@@ -55,11 +57,9 @@ minus_one n = omega (arith, ints)
 -- a coordinate and the 24-bit step that it is rounded to
 close24 : (z : ℤ) → Close 7031250 (from_abs24 (abs24 z)) z
 close24 (pos zero) = record { below = omega (arith, ints); above = omega (arith, ints) }
-close24 (pos (suc n)) =
-    subst (λ (k : ℤ). Close 7031250 (from_abs24 k) (pos (suc n))) (sym (plus_one ((suc n + 3515625) / 7031250)))
+close24 (pos (suc n)) = coe 1 0 (i. Close 7031250 (from_abs24 (plus_one ((suc n + 3515625) / 7031250) i)) (pos (suc n)))
     (above24 (suc n) ((suc n + 3515625) / 7031250) refl)
-close24 (negsuc n) =
-    subst (λ (k : ℤ). Close 7031250 (from_abs24 k) (negsuc n)) (sym (minus_one ((suc n + 3515625) / 7031250)))
+close24 (negsuc n) = coe 1 0 (i. Close 7031250 (from_abs24 (minus_one ((suc n + 3515625) / 7031250) i)) (negsuc n))
     (below24 n ((suc n + 3515625) / 7031250) refl)
 
 -- a difference and its relative value are at most half a relative step apart
@@ -77,8 +77,7 @@ relatives f h (i ∷ ks) = relative (f h) (f i) ∷ relatives f i ks
 
 -- one more relative value
 close_step : (n : ℕ) (a r x y : ℤ) → Close n a x → Close 1638401 r (y -ℤ x) → Close (n + 1638400) (a +ℤ r) y
-close_step n a r x y c d = let p = c.below in let q = c.above in let s = d.below in let t =
-    d.above in record { below = omega (arith, ints); above = omega (arith, ints) }
+close_step n a r x y c d = record { below = omega (arith, ints); above = omega (arith, ints) }
 
 close_same : (n m : ℕ) (a b y : ℤ) → n ≡ m → a ≡ b → Close n a y → Close m b y
 close_same n m a b y e f c = subst (λ (k : ℕ). Close k b y) e (subst (λ (z : ℤ). Close n z y) f c)
@@ -98,16 +97,14 @@ close_on f n h (suc k) (i ∷ ks) a c le =
 
 -- ---- the fields of a reference
 
-lon_relatives : (gs : List Leg) (h i : ℕ) (js : List ℕ) →
-    map (λ (m : Middle). m.dlon) (middle_points gs h i js)
+lon_relatives : (gs : List Leg) (h i : ℕ) (js : List ℕ) → map (λ (m : Middle). m.dlon) (middle_points gs h i js)
     ++ (fields.last_point gs (last_two h i js).0 (last_two h i js).1).dlon ∷ []
     ≡ relatives (λ k. (position gs k).lon) h (i ∷ js)
 lon_relatives gs h i [] = refl
 lon_relatives gs h i (j ∷ js) =
     ap (λ (zs : List ℤ). relative (position gs h).lon (position gs i).lon ∷ zs) (lon_relatives gs i j js)
 
-lat_relatives : (gs : List Leg) (h i : ℕ) (js : List ℕ) →
-    map (λ (m : Middle). m.dlat) (middle_points gs h i js)
+lat_relatives : (gs : List Leg) (h i : ℕ) (js : List ℕ) → map (λ (m : Middle). m.dlat) (middle_points gs h i js)
     ++ (fields.last_point gs (last_two h i js).0 (last_two h i js).1).dlat ∷ []
     ≡ relatives (λ k. (position gs k).lat) h (i ∷ js)
 lat_relatives gs h i [] = refl
@@ -122,40 +119,32 @@ near_of : (gs : List Leg) (p q h i : ℕ) (js : List ℕ) (k : ℕ) → k ≤ le
     × (decoded (reference_by_kept gs p q h i js) k ≡ Some d) × IsNear k d (position gs (slice_index (h ∷ i ∷ js) k))
 near_of gs p q h i js k le =
     let r = reference_by_kept gs p q h i js in
-    let lon =
-    close_on (λ n. (position gs n).lon) 7031250 h k (i ∷ js) (from_abs24 r.first.lon) (close24 (position gs h).lon)
+    let lon = close_on (λ n. (position gs n).lon) 7031250 h k (i ∷ js) (from_abs24 r.first.lon) (close24 (position gs h).lon)
     le in
-    let lat =
-    close_on (λ n. (position gs n).lat) 7031250 h k (i ∷ js) (from_abs24 r.first.lat) (close24 (position gs h).lat)
-    le in
-    let lons = lon_relatives gs h i js in
-    let lats = lat_relatives gs h i js in
-    let there : nat_le k (length r.middle + 1) ≡ true =
-    le-leb k (length r.middle + 1) (let n = middle_count gs h i js in omega arith) in (
+    let lat = close_on (λ n. (position gs n).lat) 7031250 h k (i ∷ js) (from_abs24 r.first.lat) (close24 (position gs h).lat)
+    le in (
       (
         from_abs24 r.first.lon +ℤ steps_sum (take k (lon_steps r)),
         from_abs24 r.first.lat +ℤ steps_sum (take k (lat_steps r)),
       ),
-      ap (λ (b : Bool). cond b
-          (Some (
-            from_abs24 r.first.lon +ℤ steps_sum (take k (lon_steps r)),
-            from_abs24 r.first.lat +ℤ steps_sum (take k (lat_steps r)),
-          )) None) there,
+      ap (λ (b : Bool). cond b (Some (
+        from_abs24 r.first.lon +ℤ steps_sum (take k (lon_steps r)),
+        from_abs24 r.first.lat +ℤ steps_sum (take k (lat_steps r)),
+      )) None) (le-leb k (length r.middle + 1) (omega (arith, middle_count gs h i js))),
       record {
         lon = close_abs (decoded_bound k) _ _
-            (subst (λ (zs : List ℤ). Close (decoded_bound k) (from_abs24 r.first.lon +ℤ steps_sum (take k zs))
-            (position gs (slice_index (h ∷ i ∷ js) k)).lon) (sym lons) lon);
+            (coe 1 0 (j. Close (decoded_bound k) (from_abs24 r.first.lon +ℤ steps_sum (take k (lon_relatives gs h i js j)))
+            (position gs (slice_index (h ∷ i ∷ js) k)).lon) lon);
         lat = close_abs (decoded_bound k) _ _
-            (subst (λ (zs : List ℤ). Close (decoded_bound k) (from_abs24 r.first.lat +ℤ steps_sum (take k zs))
-            (position gs (slice_index (h ∷ i ∷ js) k)).lat) (sym lats) lat);
+            (coe 1 0 (j. Close (decoded_bound k) (from_abs24 r.first.lat +ℤ steps_sum (take k (lat_relatives gs h i js j)))
+            (position gs (slice_index (h ∷ i ∷ js) k)).lat) lat);
       },
     )
 
 -- ---- the LRPs of an answer
 
 -- a list with two different numbers has two elements
-pub two_of : (ks : List ℕ) (a b : ℕ) → has ks a ≡ true → has ks b ≡ true → a < b → (h i : ℕ) × (js : List ℕ)
-    × (ks ≡ h ∷ i ∷ js)
+pub two_of : (ks : List ℕ) (a b : ℕ) → has ks a ≡ true → has ks b ≡ true → a < b → (h i : ℕ) × (js : List ℕ) × (ks ≡ h ∷ i ∷ js)
 two_of [] a b p q lt = absurd cc
 two_of (h ∷ []) a b p q lt =
     elim (has_cases h [] a p) [
@@ -167,20 +156,17 @@ two_of (h ∷ i ∷ js) a b p q lt = (h, i, js, refl)
 -- what is decoded for the LRPs ks: one coordinate for each, near its own
 pub record Decodes (gs : List Leg) (ks : List ℕ) (r : Reference) : Type 0 where
   pub count : length r.middle + 2 ≡ length ks
-  pub near : (k : ℕ) → k < length ks → (d : ℤ × ℤ) × (decoded r k ≡ Some d)
-      × IsNear k d (position gs (slice_index ks k))
+  pub near : (k : ℕ) → k < length ks → (d : ℤ × ℤ) × (decoded r k ≡ Some d) × IsNear k d (position gs (slice_index ks k))
 
 decodes : (gs : List Leg) (p q : ℕ) (ks : List ℕ) → (h i : ℕ) × (js : List ℕ) × (ks ≡ h ∷ i ∷ js) →
     Decodes gs ks (reference_by gs p q ks)
-decodes gs p q ks t =
-    subst (λ (zs : List ℕ). Decodes gs zs (reference_by gs p q zs)) (sym t.3) (record {
-      count = let n = middle_count gs t.0 t.1 t.2 in omega arith;
-      near = λ k lt. near_of gs p q t.0 t.1 t.2 k (omega arith);
-    })
+decodes gs p q ks t = coe 1 0 (i. Decodes gs (t.3 i) (reference_by gs p q (t.3 i))) (record {
+  count = omega (arith, middle_count gs t.0 t.1 t.2);
+  near = λ k lt. near_of gs p q t.0 t.1 t.2 k (omega arith);
+})
 
 pub answer_decodes : (M : Map) → (P : Path) → IsTrue (is_path P.lines) → path_fault M P ≡ None → (r : Reference) →
-    (e : Encoding M P (Points r))
-    → Decodes (legs M (extended_path M P e.before e.after).lines)
+    (e : Encoding M P (Points r)) → Decodes (legs M (extended_path M P e.before e.after).lines)
     (kept_points (legs M (extended_path M P e.before e.after).lines) (extended_path M P e.before e.after).pos
     (extended_path M P e.before e.after).neg e.points) r
 answer_decodes M P is none r e =
@@ -189,12 +175,9 @@ answer_decodes M P is none r e =
     let s = extended_sound M P is none e.before e.after e.tried in
     let a = answered M E e.points r e.holds in
     let ends = kept_ends M E.lines e.points E.pos E.neg e.follow a.0 s.long in
-    let two = two_kept M E.lines e.points E.pos E.neg e.follow a.0 s.long in
-    subst (Decodes gs (kept_points gs E.pos E.neg e.points)) (sym a.1)
-    (decodes gs _ _ (kept_points gs E.pos E.neg e.points)
-    (two_of (kept_points gs E.pos E.neg e.points) (first_kept gs E.pos e.points) (last_kept gs E.neg e.points) ends.0
-    ends.1
-    two))
+    subst (Decodes gs (kept_points gs E.pos E.neg e.points)) (sym a.1) (decodes gs _ _ (kept_points gs E.pos E.neg e.points)
+    (two_of (kept_points gs E.pos E.neg e.points) (first_kept gs E.pos e.points) (last_kept gs E.neg e.points) ends.0 ends.1
+    (two_kept M E.lines e.points E.pos E.neg e.follow a.0 s.long)))
 
 pub got_index : (f : ℕ → ℕ) (ks : List ℕ) (k v : ℕ) → option_map f (slice_get ks k) ≡ Some v → (k < length ks)
     × (f (slice_index ks k) ≡ v)
@@ -211,57 +194,30 @@ module _ (M : Map) (m : IsMap M) (P : Path) (is : IsTrue (is_path P.lines)) (non
     (r : Reference) (e : Encoding M P (Points r)) where
   near_point : (k v : ℕ) → IsPoint M P k v → (d : ℤ × ℤ) × (decoded r k ≡ Some d) × IsNear k d (coord_at M v)
   near_point k v p =
-      let Known : ℕ → Type 0 = λ x. IsTrue (has_line M x) in
-      let n = path_nonempty P.lines is in
-      let known = sound_lines M P none in
       let E = extended_path M P e.before e.after in
-      let runs =
-      one_tried M m P n (all_first Known P.lines n known) (all_last Known P.lines n known) e.before e.after p.before
-      p.after e.tried p.tried in
-      let same : E ≡ extended_path M P p.before p.after = λ i. extended_path M P (runs.0 i) (runs.1 i) in
-      let points : e.points ≡ p.points =
-      one_follow M E.lines 0 e.points p.points e.follow
-      (subst (λ (E : Path). Follow M E.lines 0 p.points) (sym same) p.follow) in
-      let there : option_map (node_at M E.lines) (slice_get (kept_points (legs M E.lines) E.pos E.neg e.points) k)
-      ≡ Some v =
-      (λ i. option_map (node_at M (same i).lines)
-      (slice_get (kept_points (legs M (same i).lines) (same i).pos (same i).neg (points i)) k)) ∙ p.holds in
-      let at = got_index (node_at M E.lines) (kept_points (legs M E.lines) E.pos E.neg e.points) k v there in
+      let ks = kept_points (legs M E.lines) E.pos E.neg e.points in
+      let at = got_index (node_at M E.lines) ks k v (path_at m is none e p) in
       let near = (answer_decodes M P is none r e).near k at.0 in
       let s = extended_sound M P is none e.before e.after e.tried in
-      let place : position (legs M E.lines) (slice_index (kept_points (legs M E.lines) E.pos E.neg e.points) k)
-      ≡ coord_at M v =
-      position_is M m E.lines s.known (slice_index (kept_points (legs M E.lines) E.pos E.neg e.points) k) s.size
-      ∙ ap (coord_at M) at.1 in
+      let place = position_is M m E.lines s.known (slice_index ks k) s.size ∙ ap (coord_at M) at.1 in
       (near.0, near.1, subst (IsNear k near.0) place near.2)
 
   point_at : (k : ℕ) → is_some (decoded r k) ≡ true → (v : ℕ) × IsPoint M P k v
   point_at k h =
       let E = extended_path M P e.before e.after in
       let ks = kept_points (legs M E.lines) E.pos E.neg e.points in
-      let count = (answer_decodes M P is none r e).count in
-      let low : k ≤ length r.middle + 1 =
-      leb-true k (length r.middle + 1) (taken (nat_le k (length r.middle + 1)) _ h) in (
+      let count = (answer_decodes M P is none r e).count in (
         node_at M E.lines (slice_index ks k),
-        path_also e (ap (option_map (node_at M E.lines)) (index_got ks k (omega arith))),
+        path_also e (ap (option_map (node_at M E.lines))
+            (index_got ks k (omega (arith, leb-true k (length r.middle + 1) (taken (nat_le k (length r.middle + 1)) _ h))))),
       )
     where
       taken : (b : Bool) (d : ℤ × ℤ) → is_some (cond b (Some d) None) ≡ true → b ≡ true
       taken true d h = refl
       taken false d h = absurd cc
 
--- a path whose answer is a reference has no fault, and the reference is its encoding
-pub by_fault : (M : Map) (P : Path) (r : Reference) (o : Option Refusal) → path_fault M P ≡ o →
-    MatchOption o (Encoding M P (Points r)) (λ f. Points r ≡ Refused f) → (path_fault M P ≡ None)
-    × Encoding M P (Points r)
-by_fault M P r None f e = (f, e)
-by_fault M P r (Some g) f e = absurd cc
-
-pub decoded_near : (M : Map) → IsMap M → (P : Path) → IsTrue (is_path P.lines) → (r : Reference) →
-    Encodes M P (Points r) → (k v : ℕ) → IsPoint M P k v → (d : ℤ × ℤ) × (decoded r k ≡ Some d)
-    × IsNear k d (coord_at M v)
+pub decoded_near : DecodedNear
 decoded_near M m P is r e = let p = by_fault M P r (path_fault M P) refl e in near_point M m P is p.0 r p.1
 
-pub decoded_points : (M : Map) → IsMap M → (P : Path) → IsTrue (is_path P.lines) → (r : Reference) →
-    Encodes M P (Points r) → (k : ℕ) → IsTrue (is_some (decoded r k)) → (v : ℕ) × IsPoint M P k v
+pub decoded_points : DecodedPoints
 decoded_points M m P is r e = let p = by_fault M P r (path_fault M P) refl e in point_at M m P is p.0 r p.1

@@ -1,23 +1,22 @@
 -- What an edit changes, and what it leaves unchanged.
-use Rattle.std.proofs.Common.{inl, inr, ◌≡◌, ◌≢◌, ℕ, Bool, true, false, cond, not, ◌&&◌, ◌||◌, List, [], ◌∷◌, Option}
-use Rattle.std.proofs.Common.{Some, None, is_some, Result, Ok, IsTrue, refl, sym, ap, ◌∙◌, subst, nat_cmp, ◌==◌}
-use Rattle.std.proofs.Common.{unwrap_or}
+use Rattle.std.proofs.Common.{◌⊎◌, ◌↔◌, inl, inr, ◌≡◌, ◌≢◌, ℕ, Bool, true, false, cond, not, ◌&&◌, ◌||◌, List, [], ◌∷◌, Option}
+use Rattle.std.proofs.Common.{Some, None, is_some, Result, Ok, IsTrue, refl, sym, ap, ◌∙◌, subst, nat_cmp, ◌==◌, unwrap_or}
 use Rattle.std.proofs.lemmas.Bool.{cases_eq, eq-eqb, ne_eqb, both_ways, and_parts, or_parts, not-false}
-use Rattle.std.specs.List.{list_any, AllByRecursion}
+use Rattle.std.specs.List.{list_any}
 use Rattle.std.specs.Ordering.{eq_by_cmp}
 use Rattle.std.specs.Cmp.{nat_cmp_total, unsigned_tied}
 use Rattle.std.specs.FinMap.{FinMap, get, insert, remove, entries, get-insert, get-remove, get-entries}
 use Rattle.std.specs.FinMap.Entries.{find}
 use Rattle.olr_spec.specs.Coordinates.{Coord, is_coord}
-use Rattle.olr_spec.specs.Map.{MapFault, Map, IsMap, Line, is_good, are_coords, has_node, has_line, line_at, no_line}
-use Rattle.olr_spec.specs.Map.{no_coord, start, end, Edit, Add_node, Move_node, Drop_node, Add_line, Set_line}
-use Rattle.olr_spec.specs.Map.{Drop_line, Node_exists, No_node, Line_exists, No_line, Node_in_use, Bad_shape, edited}
-use Rattle.olr_spec.specs.Map.{unless, in_use, touched_nodes, touched_lines, SameLine, Agree, has, HasCoord}
-use Rattle.olr_spec.proofs.ListLemmas.{has_here, has_there}
+use Rattle.olr_spec.specs.Map.{MapFault, Map, IsMap, Line, is_good, are_coords, has_node, has_line, line_at, no_line, no_coord}
+use Rattle.olr_spec.specs.Map.{start, end, Edit, Add_node, Move_node, Drop_node, Add_line, Set_line, Drop_line, Node_exists}
+use Rattle.olr_spec.specs.Map.{No_node, Line_exists, No_line, Node_in_use, Bad_shape, edited, unless, in_use, touched_nodes}
+use Rattle.olr_spec.specs.Map.{touched_lines, SameLine, Agree, has}
+use Rattle.olr_spec.specs.Laws.{EditsKeep}
+use Rattle.olr_spec.proofs.ListLemmas.{Each, Each-to, has_here, has_there}
 use Rattle.olr_spec.proofs.AgreeLemmas.{known_record}
 
-pub passed_test : {A F : Type 0} (b : Bool) (f : F) (r : Result A F) (x : A) → unless b f r ≡ Ok x → (b ≡ false)
-    × (r ≡ Ok x)
+pub passed_test : {A F : Type 0} (b : Bool) (f : F) (r : Result A F) (x : A) → unless b f r ≡ Ok x → (b ≡ false) × (r ≡ Ok x)
 passed_test true f r x e = absurd cc
 passed_test false f r x e = (refl, e)
 
@@ -86,58 +85,54 @@ module _ {X : Type 0} where
 
 -- ---- locality
 
--- maps with the same lines, whose nodes differ only at u
-nodes_agree : (M N : Map) (u : ℕ) (P : List ℕ) (F : ℕ → Type 0) → ((x : ℕ) → get M.lines x ≡ get N.lines x) →
-    ((v : ℕ) → v ≢ u → get M.nodes v ≡ get N.nodes v) → ¬ F u → Agree M N P F
-nodes_agree M N u P F lines nodes far =
-    record {
-      nodes = λ v f. record {
-        place = nodes v (λ e. far (subst F e f));
-        entering = λ x l. ((λ p. (sym (lines x) ∙ p.0, p.1)), (λ p. (lines x ∙ p.0, p.1)));
-        leaving = λ x l. ((λ p. (sym (lines x) ∙ p.0, p.1)), (λ p. (lines x ∙ p.0, p.1)));
-      };
-      lines = all P;
-    }
-  where
-    all : (xs : List ℕ) → AllByRecursion (SameLine M N) xs
-    all [] = tt
-    all (x ∷ xs) = (lines x, all xs)
+-- with its ends outside of F
+abbrev Out : (ℕ → Type 0) → Line → Type 0
+Out F l = (¬ F l.from) × (¬ F l.to)
 
--- maps with the same nodes, whose lines differ only at y, which has its ends outside of F
-lines_agree : (M N : Map) (y : ℕ) (P : List ℕ) (F : ℕ → Type 0) → ((v : ℕ) → get M.nodes v ≡ get N.nodes v) →
-    ((x : ℕ) → x ≢ y → get M.lines x ≡ get N.lines x)
-    → ((l : Line) → get M.lines y ≡ Some l → (¬ F l.from) × (¬ F l.to)) →
-    ((l : Line) → get N.lines y ≡ Some l → (¬ F l.from) × (¬ F l.to)) → has P y ≡ false → Agree M N P F
-lines_agree M N y P F nodes lines here there out =
+-- maps whose lines are the same but for some with their ends outside of F
+agree_by : (M N : Map) (P : List ℕ) (F : ℕ → Type 0) → ((v : ℕ) → F v → get M.nodes v ≡ get N.nodes v) →
+    ((x : ℕ) → SameLine M N x ⊎ ((l : Line) → (get M.lines x ≡ Some l) ⊎ (get N.lines x ≡ Some l) → Out F l)) →
+    Each (SameLine M N) P → Agree M N P F
+agree_by M N P F nodes lines path =
     record {
       nodes = λ v f. record {
-        place = nodes v;
-        entering = λ x l. elim (cases_eq x y) [
-          | inl e ↦ (
-            (λ p. absurd ((here l (ap (get M.lines) (sym e) ∙ p.0)).1 (subst F (sym p.1) f))),
-            (λ p. absurd ((there l (ap (get N.lines) (sym e) ∙ p.0)).1 (subst F (sym p.1) f))),
-          )
-          | inr ne ↦ ((λ p. (sym (lines x ne) ∙ p.0, p.1)), (λ p. (lines x ne ∙ p.0, p.1)))
-        ];
-        leaving = λ x l. elim (cases_eq x y) [
-          | inl e ↦ (
-            (λ p. absurd ((here l (ap (get M.lines) (sym e) ∙ p.0)).0 (subst F (sym p.1) f))),
-            (λ p. absurd ((there l (ap (get N.lines) (sym e) ∙ p.0)).0 (subst F (sym p.1) f))),
-          )
-          | inr ne ↦ ((λ p. (sym (lines x ne) ∙ p.0, p.1)), (λ p. (lines x ne ∙ p.0, p.1)))
-        ];
+        place = nodes v f;
+        entering = λ x l. by x l (l.to ≡ v) (λ o e. o.1 (subst F (sym e) f));
+        leaving = λ x l. by x l (l.from ≡ v) (λ o e. o.0 (subst F (sym e) f));
       };
-      lines = all P out;
+      lines = Each-to (SameLine M N) P path;
     }
   where
-    all : (xs : List ℕ) → has xs y ≡ false → AllByRecursion (SameLine M N) xs
-    all [] h = tt
-    all (x ∷ xs) h =
-        let p = or_parts (x == y) (has xs y) h in
-        (lines x (λ e. both_ways (x == y) p.0 (eq-eqb x y e)), all xs p.1)
+    by : (x : ℕ) (l : Line) (Q : Type 0) → (Out F l → Q → ⊥) → ((get M.lines x ≡ Some l) × Q) ↔ ((get N.lines x ≡ Some l) × Q)
+    by x l Q out_of =
+        elim (lines x) [
+          | inl e ↦ ((λ p. (sym e ∙ p.0, p.1)), (λ p. (e ∙ p.0, p.1)))
+          | inr out ↦ ((λ p. absurd (out_of (out l (inl p.0)) p.1)), (λ p. absurd (out_of (out l (inr p.0)) p.1)))
+        ]
+
+-- maps that differ only at node u
+node_agrees : (M : Map) (u : ℕ) (nodes : FinMap nat_cmp Coord) (P : List ℕ) (F : ℕ → Type 0) →
+    ((v : ℕ) → v ≢ u → get nodes v ≡ get M.nodes v) → ¬ F u → Agree M (record M { nodes = nodes }) P F
+node_agrees M u nodes P F other far =
+    agree_by M (record M { nodes = nodes }) P F (λ v f. sym (other v (λ e. far (subst F e f)))) (λ x. inl refl) (λ x on. refl)
+
+-- maps that differ only in line y, which has its ends outside of F
+line_agrees : (M : Map) (y : ℕ) (lines : FinMap nat_cmp Line) (P : List ℕ) (F : ℕ → Type 0) →
+    ((x : ℕ) → x ≢ y → get lines x ≡ get M.lines x) → ((l : Line) → get M.lines y ≡ Some l → Out F l) →
+    ((l : Line) → get lines y ≡ Some l → Out F l) → has P y ≡ false → Agree M (record M { lines = lines }) P F
+line_agrees M y lines P F other here there off =
+    agree_by M (record M { lines = lines }) P F (λ v f. refl)
+    (λ x. elim (cases_eq x y) [
+      | inl e ↦ inr (λ l. coe 1 0 (i. (get M.lines (e i) ≡ Some l) ⊎ (get lines (e i) ≡ Some l) → Out F l) (λ h. elim h [
+        | inl m ↦ here l m
+        | inr n ↦ there l n
+      ]))
+      | inr ne ↦ inl (sym (other x ne))
+    ])
+    (λ x on. sym (other x (λ e. both_ways (has P y) off (coe 0 1 (i. has P (e i) ≡ true) on))))
 
 -- a line with these ends, both outside of F
-ends_out : (F : ℕ → Type 0) (s t : ℕ) (l : Line) → ¬ F s → ¬ F t → l.from ≡ s → l.to ≡ t → (¬ F l.from) × (¬ F l.to)
+ends_out : (F : ℕ → Type 0) (s t : ℕ) (l : Line) → ¬ F s → ¬ F t → l.from ≡ s → l.to ≡ t → Out F l
 ends_out F s t l a b e f = ((λ h. a (subst F e h)), (λ h. b (subst F f h)))
 
 ends_of : (M : Map) (x : ℕ) (l : Line) → get M.lines x ≡ Some l → (l.from ≡ start M x) × (l.to ≡ end M x)
@@ -145,57 +140,44 @@ ends_of M x l e = let r =
     ap (λ (o : Option Line). unwrap_or o no_line) e in
     (sym (ap (λ (k : Line). k.from) r), sym (ap (λ (k : Line). k.to) r))
 
-same_line : (o : Option Line) (k l : Line) → o ≡ Some k → o ≡ Some l → l ≡ k
-same_line o k l e f = cc
-
 -- the line that is set
-set_out : (M : Map) (x : ℕ) (l : Line) (F : ℕ → Type 0) → ¬ F l.from → ¬ F l.to
-    → (k : Line) → get (insert M.lines x l) x ≡ Some k → (¬ F k.from) × (¬ F k.to)
-set_out M x l F a b k h =
-    let same = same_line (get (insert M.lines x l) x) l k (got_same M.lines x l) h in
-    ends_out F l.from l.to k a b (ap (λ (j : Line). j.from) same) (ap (λ (j : Line). j.to) same)
+set_out : (M : Map) (x : ℕ) (l : Line) (F : ℕ → Type 0) → Out F l → (k : Line) → get (insert M.lines x l) x ≡ Some k → Out F k
+set_out M x l F out k h = let same : l ≡ k = cc (got_same M.lines x l) in subst (Out F) same out
 
 pub edits_are_local : (M N : Map) (e : Edit) (P : List ℕ) (F : ℕ → Type 0) → edited M e ≡ Ok N →
     ((v : ℕ) → has (touched_nodes M e) v ≡ true → ¬ F v) →
     ((x : ℕ) → has (touched_lines e) x ≡ true → has P x ≡ false) → Agree M N P F
 edits_are_local M N (Add_node v c) P F e nodes lines =
-    let to = record M { nodes = insert M.nodes v c } in
-    subst (λ (K : Map). Agree M K P F) (made_by M N (Add_node v c) e).1
-    (nodes_agree M to v P F (λ x. refl) (λ u ne. sym (got_other M.nodes v c u ne)) (nodes v (has_here v [])))
+    coe 0 1 (i. Agree M ((made_by M N (Add_node v c) e).1 i) P F)
+    (node_agrees M v (insert M.nodes v c) P F (got_other M.nodes v c) (nodes v (has_here v [])))
 edits_are_local M N (Move_node v c) P F e nodes lines =
-    let to = record M { nodes = insert M.nodes v c } in
-    subst (λ (K : Map). Agree M K P F) (made_by M N (Move_node v c) e).1
-    (nodes_agree M to v P F (λ x. refl) (λ u ne. sym (got_other M.nodes v c u ne)) (nodes v (has_here v [])))
+    coe 0 1 (i. Agree M ((made_by M N (Move_node v c) e).1 i) P F)
+    (node_agrees M v (insert M.nodes v c) P F (got_other M.nodes v c) (nodes v (has_here v [])))
 edits_are_local M N (Drop_node v) P F e nodes lines =
-    let to = record M { nodes = remove M.nodes v } in
-    subst (λ (K : Map). Agree M K P F) (made_by M N (Drop_node v) e).2
-    (nodes_agree M to v P F (λ x. refl) (λ u ne. sym (left_other M.nodes v u ne)) (nodes v (has_here v [])))
+    coe 0 1 (i. Agree M ((made_by M N (Drop_node v) e).2 i) P F)
+    (node_agrees M v (remove M.nodes v) P F (left_other M.nodes v) (nodes v (has_here v [])))
 edits_are_local M N (Add_line x l) P F e nodes lines =
-    let to = record M { lines = insert M.lines x l } in
     let p = made_by M N (Add_line x l) e in
-    let out_from = nodes l.from (has_here l.from (l.to ∷ [])) in
-    let out_to = nodes l.to (has_there l.from (l.to ∷ []) l.to (has_here l.to [])) in
-    subst (λ (K : Map). Agree M K P F) p.4
-    (lines_agree M to x P F (λ v. refl) (λ y ne. sym (got_other M.lines x l y ne))
-    (λ k h. absurd (both_ways (has_line M x) p.0 (ap (λ (o : Option Line). is_some o) h)))
-    (λ k h. set_out M x l F out_from out_to k h) (lines x (has_here x [])))
+    let out : Out F l =
+    (nodes l.from (has_here l.from (l.to ∷ [])), nodes l.to (has_there l.from (l.to ∷ []) l.to (has_here l.to []))) in
+    coe 0 1 (i. Agree M (p.4 i) P F) (line_agrees M x (insert M.lines x l) P F (got_other M.lines x l)
+    (λ k h. absurd (both_ways (has_line M x) p.0 (ap (λ (o : Option Line). is_some o) h))) (set_out M x l F out)
+    (lines x (has_here x [])))
 edits_are_local M N (Set_line x frc fow len shape) P F e nodes lines =
     let l : Line = record { from = start M x; to = end M x; frc = frc; fow = fow; len = len; shape = shape } in
-    let to = record M { lines = insert M.lines x l } in
-    let out_from = nodes (start M x) (has_here (start M x) (end M x ∷ [])) in
-    let out_to = nodes (end M x) (has_there (start M x) (end M x ∷ []) (end M x) (has_here (end M x) [])) in
-    subst (λ (K : Map). Agree M K P F) (made_by M N (Set_line x frc fow len shape) e).2
-    (lines_agree M to x P F (λ v. refl) (λ y ne. sym (got_other M.lines x l y ne))
-    (λ k h. let ends = ends_of M x k h in ends_out F (start M x) (end M x) k out_from out_to ends.0 ends.1)
-    (λ k h. set_out M x l F out_from out_to k h) (lines x (has_here x [])))
+    let a = nodes (start M x) (has_here (start M x) (end M x ∷ [])) in
+    let b = nodes (end M x) (has_there (start M x) (end M x ∷ []) (end M x) (has_here (end M x) [])) in
+    coe 0 1 (i. Agree M ((made_by M N (Set_line x frc fow len shape) e).2 i) P F)
+    (line_agrees M x (insert M.lines x l) P F (got_other M.lines x l)
+    (λ k h. let ends = ends_of M x k h in ends_out F (start M x) (end M x) k a b ends.0 ends.1)
+    (set_out M x l F (a, b)) (lines x (has_here x [])))
 edits_are_local M N (Drop_line x) P F e nodes lines =
-    let to = record M { lines = remove M.lines x } in
-    let out_from = nodes (start M x) (has_here (start M x) (end M x ∷ [])) in
-    let out_to = nodes (end M x) (has_there (start M x) (end M x ∷ []) (end M x) (has_here (end M x) [])) in
-    subst (λ (K : Map). Agree M K P F) (made_by M N (Drop_line x) e).1
-    (lines_agree M to x P F (λ v. refl) (λ y ne. sym (left_other M.lines x y ne))
-    (λ k h. let ends = ends_of M x k h in ends_out F (start M x) (end M x) k out_from out_to ends.0 ends.1)
-    (λ k h. absurd (let none = left_same M.lines x in cc)) (lines x (has_here x [])))
+    let a = nodes (start M x) (has_here (start M x) (end M x ∷ [])) in
+    let b = nodes (end M x) (has_there (start M x) (end M x ∷ []) (end M x) (has_here (end M x) [])) in
+    coe 0 1 (i. Agree M ((made_by M N (Drop_line x) e).1 i) P F)
+    (line_agrees M x (remove M.lines x) P F (left_other M.lines x)
+    (λ k h. let ends = ends_of M x k h in ends_out F (start M x) (end M x) k a b ends.0 ends.1)
+    (λ k h. absurd (cc (left_same M.lines x))) (lines x (has_here x [])))
 
 -- ---- sound maps
 
@@ -205,11 +187,10 @@ module _ {X : Type 0} (Q : X → Type 0) (d : X) where
       Q (unwrap_or (get (insert m k v) q) d)
   inserted m k v q new old h =
       elim (cases_eq q k) [
-        | inl e ↦ subst (λ (o : Option X). Q (unwrap_or o d)) (sym (ap (get (insert m k v)) e ∙ got_same m k v)) new
+        | inl e ↦ coe 1 0 (i. Q (unwrap_or ((ap (get (insert m k v)) e ∙ got_same m k v) i) d)) new
         | inr ne ↦
             let same = got_other m k v q ne in
-            subst (λ (o : Option X). Q (unwrap_or o d)) (sym same)
-            (old (sym (ap (λ (o : Option X). is_some o) same) ∙ h))
+            coe 1 0 (i. Q (unwrap_or (same i) d)) (old (sym (ap (λ (o : Option X). is_some o) same) ∙ h))
       ]
 
   removed : (m : FinMap nat_cmp X) (k q : ℕ) → (is_some (get m q) ≡ true → q ≢ k → Q (unwrap_or (get m q) d)) →
@@ -219,8 +200,7 @@ module _ {X : Type 0} (Q : X → Type 0) (d : X) where
         | inl e ↦ absurd (let none = ap (λ (o : Option X). is_some o) (ap (get (remove m k)) e ∙ left_same m k) in cc)
         | inr ne ↦
             let same = left_other m k q ne in
-            subst (λ (o : Option X). Q (unwrap_or o d)) (sym same)
-            (old (sym (ap (λ (o : Option X). is_some o) same) ∙ h) ne)
+            coe 1 0 (i. Q (unwrap_or (same i) d)) (old (sym (ap (λ (o : Option X). is_some o) same) ∙ h) ne)
       ]
 
 still_there : {X : Type 0} (m : FinMap nat_cmp X) (k : ℕ) (v : X) (q : ℕ) → is_some (get m q) ≡ true →
@@ -231,8 +211,7 @@ still_there {X} m k v q h =
       | inr ne ↦ ap (λ (o : Option X). is_some o) (got_other m k v q ne) ∙ h
     ]
 
-with_node : (M : Map) (v : ℕ) (c : Coord) → IsMap M → IsTrue (is_coord c) →
-    IsMap (record M { nodes = insert M.nodes v c })
+with_node : (M : Map) (v : ℕ) (c : Coord) → IsMap M → IsTrue (is_coord c) → IsMap (record M { nodes = insert M.nodes v c })
 with_node M v c m h =
     record {
       good = m.good;
@@ -298,7 +277,7 @@ without_line M x m =
       shapes = λ y k. removed (λ j. IsTrue (are_coords j.shape)) no_line M.lines x y (λ h _. m.shapes y h) k;
     }
 
-pub edits_keep : (M N : Map) (e : Edit) → IsMap M → HasCoord e → edited M e ≡ Ok N → IsMap N
+pub edits_keep : EditsKeep
 edits_keep M N (Add_node v c) m h e = subst IsMap (made_by M N (Add_node v c) e).1 (with_node M v c m h)
 edits_keep M N (Move_node v c) m h e = subst IsMap (made_by M N (Move_node v c) e).1 (with_node M v c m h)
 edits_keep M N (Drop_node v) m h e =

@@ -1,40 +1,35 @@
 -- The fields of an answer's reference fit, so it can be encoded as bytes.
-use Rattle.std.proofs.Common.{inl, inr, ◌≡◌, ℕ, ◌+◌, ◌-◌, Bool, true, false, cond, List, [], ◌∷◌, length, ◌<◌, ◌≤◌}
-use Rattle.std.proofs.Common.{Option, Some, None, IsTrue, refl, sym, ap, ◌∙◌, subst, arith, nat_le, ◌==◌, length-append}
-use Rattle.std.proofs.Common.{MatchOption}
-use Rattle.std.proofs.lemmas.Bool.{cases_Bool, eqb-true, leb-true, leb-false, le-leb, and_parts, and_from}
+use Rattle.std.proofs.Common.{inl, inr, ◌≡◌, ℕ, ◌+◌, ◌-◌, true, List, [], ◌∷◌, length, ◌<◌, ◌≤◌, Option, Some, None, IsTrue}
+use Rattle.std.proofs.Common.{refl, sym, ap, ◌∙◌, subst, arith, nat_le, ◌==◌, length-append, MatchOption}
+use Rattle.std.proofs.lemmas.Bool.{cases_Bool, eqb-true, leb-false, cond_both}
 use Rattle.std.proofs.lemmas.Bool.Decides.{nat_tests}
 use Rattle.std.proofs.lemmas.List.{length-map}
-use Rattle.std.specs.Option.{option_map}
-use Rattle.olr_spec.specs.Map.{Map, IsMap, has_line, has}
+use Rattle.olr_spec.specs.Map.{Map, IsMap, has}
 use Rattle.olr_spec.specs.Routes.{dm_of}
 use Rattle.olr_spec.specs.Extension.{Path, Tried, is_path, extended_path, from_start, taken_start, taken_end}
 use Rattle.olr_spec.specs.Points.{Follow, last_position}
-use Rattle.olr_spec.specs.Reference.{Reference, leg, legs, dm_between, from_front, to_back, first_kept, last_kept}
-use Rattle.olr_spec.specs.Reference.{kept_points, last_two, reference_by, reference}
-use Rattle.olr_spec.specs.Encoding.{Points, Refused, Refusal, Unknown_line, Broken, Offset_too_long, No_next_point}
-use Rattle.olr_spec.specs.Encoding.{first_unknown, first_break, path_fault, answer_by_points, Encoding, Encodes}
+use Rattle.olr_spec.specs.Reference.{Reference, leg, legs, dm_between, from_front, to_back, first_kept, last_kept, kept_points}
+use Rattle.olr_spec.specs.Reference.{last_two, reference_by, reference}
+use Rattle.olr_spec.specs.Encoding.{Points, Refused, Refusal, No_next_point, path_fault, answer_by_points, Encoding}
 use Rattle.olr_spec.specs.Bytes.{IsReference}
+use Rattle.olr_spec.specs.Laws.{AnswerFits}
 use Rattle.olr_spec.proofs.RouteLemmas.{dm_of-append}
-use Rattle.olr_spec.proofs.ListLemmas.{Each, Each-append, Each-from, has_here, has_there, has_cases}
+use Rattle.olr_spec.proofs.ListLemmas.{Each, Each-append, Each-from, has_here, has_there, has_cases, has_filter, filter_has}
+use Rattle.olr_spec.proofs.ListLemmas.{Known}
 use Rattle.olr_spec.proofs.AnswerLemmas.{sound_lines, path_nonempty, or_None}
 use Rattle.olr_spec.proofs.RunMoves.{StartRun-known, EndRun-known}
 use Rattle.olr_spec.proofs.PointMoves.{Each-cond}
-use Rattle.olr_spec.proofs.JoinLemmas.{Linked, follow_linked, kept_linked, between}
-use Rattle.olr_spec.proofs.KeptLemmas.{whole, front_within, back_within, two_kept, has_last_point, nothing_left}
-use Rattle.olr_spec.proofs.FieldLemmas.{has_filter, filter_has, linked_above, linked_last, has_last_two}
-use Rattle.olr_spec.proofs.FieldLemmas.{last_two_linked, has_last_where, has_first_where, none_after, none_before}
-use Rattle.olr_spec.proofs.FieldLemmas.{attrs_fit, first_fits, middles_fit, last_fits, offset_fits, from_front-add}
+use Rattle.olr_spec.proofs.JoinLemmas.{Linked, follow_linked, kept_linked, between, between_is}
+use Rattle.olr_spec.proofs.KeptLemmas.{whole, front_within, back_within, two_kept}
+use Rattle.olr_spec.proofs.FieldLemmas.{linked_above, linked_last, has_last_two, last_two_linked, has_last_where, none_after}
+use Rattle.olr_spec.proofs.FieldLemmas.{none_before, attrs_fit, first_fits, middles_fit, last_fits, offset_fits, from_front-add}
 
-module _ (M : Map) (m : IsMap M) (ls : List ℕ) (known : Each (λ x. IsTrue (has_line M x)) ls) (n : 0 < length ls)
+module _ (M : Map) (m : IsMap M) (ls : List ℕ) (known : Each (Known M) ls) (n : 0 < length ls)
     (positive negative a b : ℕ) (two : a < b)
     (front : from_front (legs M ls) a ≤ positive) (back : to_back (legs M ls) b ≤ negative) where
-  by_kept : (ks : List ℕ) → Linked M ls ks → has ks a ≡ true → has ks b ≡ true → Each (λ k. a ≤ k) ks →
-      Each (λ k. k ≤ b) ks
-      → Each (λ k. a < k → positive < from_front (legs M ls) k) ks →
-      Each (λ k. k < b → negative < to_back (legs M ls) k) ks
-      → IsReference (reference_by (legs M ls) (positive - from_front (legs M ls) a) (negative - to_back (legs M ls) b)
-      ks)
+  by_kept : (ks : List ℕ) → Linked M ls ks → has ks a ≡ true → has ks b ≡ true → Each (λ k. a ≤ k) ks → Each (λ k. k ≤ b) ks
+      → Each (λ k. a < k → positive < from_front (legs M ls) k) ks → Each (λ k. k < b → negative < to_back (legs M ls) k) ks
+      → IsReference (reference_by (legs M ls) (positive - from_front (legs M ls) a) (negative - to_back (legs M ls) b) ks)
   by_kept [] l ha hb above below after before = absurd cc
   by_kept (h ∷ []) l ha hb above below after before =
       let p = linked_above M ls h [] tt a ha in
@@ -47,7 +42,6 @@ module _ (M : Map) (m : IsMap M) (ls : List ℕ) (known : Each (λ x. IsTrue (ha
       only h a b p q lt = grind (arith, nat_tests)
   by_kept (h ∷ i ∷ ks) l ha hb above below after before =
       let gs = legs M ls in
-      let lt = l.0.after in
       let low = linked_above M ls h (i ∷ ks) l a ha in
       let high = above h (has_here h (i ∷ ks)) in
       let first : h ≡ a = omega arith in
@@ -61,7 +55,6 @@ module _ (M : Map) (m : IsMap M) (ls : List ℕ) (known : Each (λ x. IsTrue (ha
       let limit_b = below two_last.1 hx.1 in
       let last : two_last.1 ≡ b = omega arith in
       let last_back = ap (to_back gs) last in
-      let step = c.after in
       let far_back = before two_last.0 hx.0 (omega arith) in
       let sum_back = from_front-add gs two_last.0 two_last.1 (omega arith) in
       let all_x = whole gs two_last.0 in
@@ -84,31 +77,19 @@ kept_ends M ls js positive negative f e less =
     let gs = legs M ls in
     let a = first_kept gs positive js in
     let b = last_kept gs negative js in
-    let end : last_position 0 js ≡ length gs = e ∙ sym (length-map ls (leg M)) in
     let two = two_kept M ls js positive negative f e less in
-    let ends : nat_le (to_back gs (last_position 0 js)) negative ≡ true =
-    le-leb (to_back gs (last_position 0 js)) negative (let none = nothing_left gs (last_position 0 js) end in
-    omega arith) in
-    let on_a : has (0 ∷ js) a ≡ true = has_any a (has_last_where (λ i. nat_le (from_front gs i) positive) 0 (0 ∷ js)) in
-    let on_b : has (0 ∷ js) b ≡ true =
-    has_first_where (λ i. nat_le (to_back gs i) negative) 0 (0 ∷ js) (last_position 0 js) (has_last_point 0 js) ends in
-    let in_a : between a b a ≡ true =
-    and_from (nat_le a a) (nat_le a b) (le-leb a a (omega arith)) (le-leb a b (omega arith)) in
-    let in_b : between a b b ≡ true =
-    and_from (nat_le a b) (nat_le b b) (le-leb a b (omega arith)) (le-leb b b (omega arith)) in
-    (filter_has (between a b) (0 ∷ js) a on_a in_a, filter_has (between a b) (0 ∷ js) b on_b in_b)
-  where
-    has_any : (k : ℕ) → has (0 ∷ 0 ∷ js) k ≡ true → has (0 ∷ js) k ≡ true
-    has_any k h =
-        elim (has_cases 0 (0 ∷ js) k h) [
-          | inl e ↦ subst (λ (y : ℕ). has (0 ∷ js) y ≡ true) e (has_here 0 js)
-          | inr j ↦
-              j
-        ]
+    let on_a : has (0 ∷ js) a ≡ true =
+    elim (has_cases 0 (0 ∷ js) a (has_last_where (λ i. nat_le (from_front gs i) positive) 0 (0 ∷ js))) [
+      | inl is ↦ coe 0 1 (i. has (0 ∷ js) (is i) ≡ true) (has_here 0 js)
+      | inr j ↦ j
+    ] in
+    let on_b = (back_within gs negative js (e ∙ sym (length-map ls (leg M)))).0 in (
+      filter_has (between a b) (0 ∷ js) a on_a ((between_is a b a).1 (omega arith, omega arith)),
+      filter_has (between a b) (0 ∷ js) b on_b ((between_is a b b).1 (omega arith, omega arith)),
+    )
 
-pub reference_fits : (M : Map) → IsMap M → (ls : List ℕ) → Each (λ x. IsTrue (has_line M x)) ls → 0 < length ls →
-    (js : List ℕ) (positive negative : ℕ) → Follow M ls 0 js → last_position 0 js ≡ length ls →
-    positive + negative < dm_of M ls
+pub reference_fits : (M : Map) → IsMap M → (ls : List ℕ) → Each (Known M) ls → 0 < length ls →
+    (js : List ℕ) (positive negative : ℕ) → Follow M ls 0 js → last_position 0 js ≡ length ls → positive + negative < dm_of M ls
     → IsReference (reference (legs M ls) positive negative js)
 reference_fits M m ls known n js positive negative f e less =
     let gs = legs M ls in
@@ -117,52 +98,39 @@ reference_fits M m ls known n js positive negative f e less =
     let l = follow_linked M ls 0 js f in
     let two = two_kept M ls js positive negative f e less in
     let ends = kept_ends M ls js positive negative f e less in
-    let front = front_within gs positive js in
-    let back = back_within gs negative js (e ∙ sym (length-map ls (leg M))) in
-    by_kept M m ls known n positive negative a b two front back (kept_points gs positive negative js)
-    (kept_linked M ls a b (0 ∷ js) l) ends.0 ends.1
-    (λ k h. let r = has_filter (between a b) (0 ∷ js) k h in leb-true a k (and_parts (nat_le a k) (nat_le k b) r.1).0)
-    (λ k h. let r = has_filter (between a b) (0 ∷ js) k h in leb-true k b (and_parts (nat_le a k) (nat_le k b) r.1).1)
-    (λ k h lt. let r = has_filter (between a b) (0 ∷ js) k h in
-    leb-false (from_front gs k) positive
-    (none_after M ls (λ i. nat_le (from_front gs i) positive) 0 0 js l (omega arith) k r.0 lt))
-    (λ k h lt. let r = has_filter (between a b) (0 ∷ js) k h in
-    leb-false (to_back gs k) negative (none_before M ls (λ i. nat_le (to_back gs i) negative) 0 0 js l k r.0 lt))
+    let back = (back_within gs negative js (e ∙ sym (length-map ls (leg M)))).1 in
+    let kept = has_filter (between a b) (0 ∷ js) in
+    by_kept M m ls known n positive negative a b two (front_within gs positive js) back (kept_points gs positive negative js)
+    (kept_linked M ls a b (0 ∷ js) l) ends.0 ends.1 (λ k h. ((between_is a b k).0 (kept k h).1).0)
+    (λ k h. ((between_is a b k).0 (kept k h).1).1) (λ k h lt. leb-false (from_front gs k) positive
+    (none_after M ls (λ i. nat_le (from_front gs i) positive) 0 0 js l (omega arith) k (kept k h).0 lt))
+    (λ k h lt. leb-false (to_back gs k) negative
+    (none_before M ls (λ i. nat_le (to_back gs i) negative) 0 0 js l k (kept k h).0 lt))
 
 -- ---- an answer
 
 pub long_enough : (M : Map) (P : Path) → path_fault M P ≡ None → P.pos + P.neg < dm_of M P.lines
-long_enough M P e =
-    let third =
-    (or_None (option_map Broken (first_break M 0 P.lines)) _
-    (or_None (option_map Unknown_line (first_unknown M P.lines)) _ e).1).1 in
-    leb-false (dm_of M P.lines) (P.pos + P.neg) (elim (cases_Bool (nat_le (dm_of M P.lines) (P.pos + P.neg))) [
-      | inl t ↦ absurd (let some : cond true (Some Offset_too_long) None ≡ None =
-          ap (λ (b : Bool). cond b (Some Offset_too_long) None) (sym t) ∙ third in cc)
-      | inr t ↦ t
-    ])
+long_enough M P e = grind (arith, or_None, leb-false, cases_Bool)
 
 -- the extended path of a path with an encoding: its lines are on the map, and the offsets leave a part of it
 pub record Sound (M : Map) (E : Path) : Type 0 where
-  pub known : Each (λ x. IsTrue (has_line M x)) E.lines
+  pub known : Each (Known M) E.lines
   pub size : 0 < length E.lines
   pub long : E.pos + E.neg < dm_of M E.lines
 
 pub extended_sound : (M : Map) (P : Path) → IsTrue (is_path P.lines) → path_fault M P ≡ None → (before after : List ℕ) →
     Tried M P before after → Sound M (extended_path M P before after)
 extended_sound M P is none before after tried =
-    let Known : ℕ → Type 0 = λ x. IsTrue (has_line M x) in
     let n = path_nonempty P.lines is in
-    let known = Each-from Known P.lines (sound_lines M P none) in
+    let known = Each-from (Known M) P.lines (sound_lines M P none) in
     let b = taken_start M before P.lines in
     let fs = from_start M P before in
     let a = taken_end M fs after in
-    let fs_known : Each Known fs =
-    Each-append Known b P.lines (Each-cond Known _ before (StartRun-known M before P.lines tried.before.run))
-    known in
+    let fs_known : Each (Known M) fs =
+    Each-append (Known M) b P.lines (Each-cond (Known M) _ before (StartRun-known M before P.lines tried.before.run)) known in
     let less = long_enough M P none in
     record {
-      known = Each-append Known fs a fs_known (Each-cond Known _ after (EndRun-known M fs after tried.after.run));
+      known = Each-append (Known M) fs a fs_known (Each-cond (Known M) _ after (EndRun-known M fs after tried.after.run));
       size = omega (arith, length-append fs a, length-append b P.lines);
       long = omega (arith, dm_of-append M fs a, dm_of-append M b P.lines);
     }
@@ -171,13 +139,10 @@ extended_sound M P is none before after tried =
 pub answered : (M : Map) (E : Path) (js : List ℕ) (r : Reference) → Points r ≡ answer_by_points M E js →
     (last_position 0 js ≡ length E.lines) × (r ≡ reference (legs M E.lines) E.pos E.neg js)
 answered M E js r h =
-    elim (last_position 0 js == length E.lines) as (λ t. (last_position 0 js == length E.lines) ≡ t →
-    Points r ≡ cond t (Points (reference (legs M E.lines) E.pos E.neg js))
-    (Refused (No_next_point (last_position 0 js))) → (last_position 0 js ≡ length E.lines)
-    × (r ≡ reference (legs M E.lines) E.pos E.neg js)) [
-      | true ↦ λ t e. (eqb-true (last_position 0 js) (length E.lines) t, cc)
-      | false ↦ λ t e. absurd cc
-    ] refl h
+    cond_both (last_position 0 js == length E.lines) (Points (reference (legs M E.lines) E.pos E.neg js))
+    (Refused (No_next_point (last_position 0 js)))
+    (λ A. Points r ≡ A → (last_position 0 js ≡ length E.lines) × (r ≡ reference (legs M E.lines) E.pos E.neg js))
+    (λ t e. (eqb-true (last_position 0 js) (length E.lines) t, cc)) (λ t e. absurd cc) h
 
 answer_fits : (M : Map) → IsMap M → (P : Path) → IsTrue (is_path P.lines) → path_fault M P ≡ None → (r : Reference) →
     Encoding M P (Points r) → IsReference r
@@ -187,11 +152,11 @@ answer_fits M m P is none r p =
     let a = answered M E p.points r p.holds in
     subst IsReference (sym a.1) (reference_fits M m E.lines s.known s.size p.points E.pos E.neg p.follow a.0 s.long)
 
-fits_by : (M : Map) → IsMap M → (P : Path) → IsTrue (is_path P.lines) → (o : Option Refusal) → path_fault M P ≡ o →
-    (r : Reference) → MatchOption o (Encoding M P (Points r)) (λ f. Points r ≡ Refused f) → IsReference r
-fits_by M m P is None e r p = answer_fits M m P is e r p
-fits_by M m P is (Some f) e r p = absurd cc
+-- a path whose answer is a reference has no fault, and the reference is its encoding
+pub by_fault : (M : Map) (P : Path) (r : Reference) (o : Option Refusal) → path_fault M P ≡ o →
+    MatchOption o (Encoding M P (Points r)) (λ f. Points r ≡ Refused f) → (path_fault M P ≡ None) × Encoding M P (Points r)
+by_fault M P r None f e = (f, e)
+by_fault M P r (Some g) f e = absurd cc
 
-pub encoded_fits : (M : Map) → IsMap M → (P : Path) → IsTrue (is_path P.lines) → (r : Reference) →
-    Encodes M P (Points r) → IsReference r
-encoded_fits M m P is r p = fits_by M m P is (path_fault M P) refl r p
+pub encoded_fits : AnswerFits
+encoded_fits M m P is r p = let e = by_fault M P r (path_fault M P) refl p in answer_fits M m P is e.0 r e.1

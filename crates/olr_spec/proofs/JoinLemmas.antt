@@ -1,22 +1,21 @@
 -- The routes between the remaining LRPs join to the extended path.
-use Rattle.std.proofs.Common.{◌⊎◌, inl, inr, ◌≡◌, ℕ, zero, suc, ◌+◌, ◌-◌, min, Bool, true, false, cond, ◌&&◌, List, []}
-use Rattle.std.proofs.Common.{◌∷◌, ◌++◌, length, take, drop, ◌<◌, ◌≤◌, refl, sym, ap, ◌∙◌, subst, arith, nat_le}
-use Rattle.std.proofs.Common.{length-drop}
-use Rattle.std.proofs.lemmas.Bool.{cases_eq}
+use Rattle.std.proofs.Common.{◌⊎◌, inl, inr, ◌≡◌, ℕ, zero, suc, ◌+◌, ◌-◌, min, Bool, true, false, cond, ◌&&◌, List, [], ◌∷◌}
+use Rattle.std.proofs.Common.{◌++◌, length, take, drop, ◌<◌, ◌≤◌, refl, sym, ap, ◌∙◌, subst, arith, nat_le, length-drop, ◌↔◌}
+use Rattle.std.proofs.lemmas.Bool.{cases_eq, and_parts, and_from, leb-true, le-leb, cond_both}
 use Rattle.std.proofs.lemmas.Bool.Decides.{nat_tests}
 use Rattle.std.proofs.lemmas.List.{drop_more, take_more, get_or-drop}
 use Rattle.std.specs.List.{slice_index, filter}
 use Rattle.std.specs.Bool.{⊤}
 use Rattle.olr_spec.specs.Map.{Map, start, end}
 use Rattle.olr_spec.specs.Routes.{IsRoute, LrpRoute}
-use Rattle.olr_spec.specs.Points.{stretch, Candidate, Follow, last_position}
+use Rattle.olr_spec.specs.Points.{stretch, Covered, Candidate, Follow}
 use Rattle.olr_spec.specs.Reference.{legs, kept_points, first_kept, last_kept}
 use Rattle.olr_spec.specs.Joins.{JoinsTo, JoinsLast, Joins}
+use Rattle.olr_spec.specs.Laws.{RoutesJoin}
 use Rattle.olr_spec.proofs.RouteLemmas.{IsRoute-split, prefix_of_unique}
 use Rattle.olr_spec.proofs.AnswerLemmas.{Next-candidate}
 
-pub prefix_of_route : (M : Map) (s v t : ℕ) (xs ys : List ℕ) → LrpRoute M s t (xs ++ ys) → IsRoute M s v xs →
-    IsRoute M v t ys →
+pub prefix_of_route : (M : Map) (s v t : ℕ) (xs ys : List ℕ) → LrpRoute M s t (xs ++ ys) → IsRoute M s v xs → IsRoute M v t ys →
     LrpRoute M s v xs
 prefix_of_route M s v t xs ys r w u = prefix_of_unique M s v t xs ys r w u
 
@@ -29,11 +28,8 @@ take_one : (n : ℕ) (x : ℕ) (xs : List ℕ) → 0 < n → take n (x ∷ xs) �
 take_one zero x xs h = absurd (omega arith)
 take_one (suc n) x xs h = ap (λ (k : ℕ). x ∷ take k xs) (omega arith)
 
-pub stretch_first : (ls : List ℕ) (p q : ℕ) → p < q → p < length ls →
-    stretch ls p q ≡ slice_index ls p ∷ stretch ls (p + 1) q
-stretch_first ls p q h k =
-    ap (take (q - p)) (drop_more ls p 0 k) ∙ take_one (q - p) (slice_index ls p) (drop (p + 1) ls) (omega arith)
-    ∙ ap (λ (n : ℕ). slice_index ls p ∷ take n (drop (p + 1) ls)) (omega arith)
+pub stretch_first : (ls : List ℕ) (p q : ℕ) → p < q → p < length ls → stretch ls p q ≡ slice_index ls p ∷ stretch ls (p + 1) q
+stretch_first ls p q h k = grind (arith, drop_more, take_one)
 
 pub stretch_last : (ls : List ℕ) (p q : ℕ) → p ≤ q → q < length ls →
     stretch ls p (q + 1) ≡ stretch ls p q ++ slice_index ls q ∷ []
@@ -49,33 +45,28 @@ empty_stretch ls p q h = let e : q - p ≡ 0 = omega arith in ap (λ (n : ℕ). 
 
 -- ---- one leg
 
+-- the lines between line p and line k are the unique shortest path
+abbrev pub RouteTo : Map → List ℕ → ℕ → ℕ → Type 0
+RouteTo M ls p k = LrpRoute M (end M (slice_index ls p)) (start M (slice_index ls k)) (stretch ls (p + 1) k)
+
+pub covered_to : (M : Map) (ls : List ℕ) (p q k : ℕ) → min q (length ls - 1) ≡ k → p < k → Covered M ls p q → RouteTo M ls p k
+covered_to M ls p q k is lt c = coe 0 1 (i. p < is i → RouteTo M ls p (is i)) c lt
+
 pub joins_to : (M : Map) (ls : List ℕ) (p q : ℕ) → q < length ls → Candidate M ls p q → JoinsTo M ls p q
-joins_to M ls p q h c =
-    let lt = c.after in
-    let is : min q (length ls - 1) ≡ q = omega arith in
-    let route : LrpRoute M (end M (slice_index ls p)) (start M (slice_index ls q)) (stretch ls (p + 1) q) =
-    subst (λ (m : ℕ). p < m → LrpRoute M (end M (slice_index ls p)) (start M (slice_index ls m))
-    (stretch ls (p + 1) m)) is
-    c.covered lt in
-    (stretch ls (p + 1) q, stretch_first ls p q lt (omega arith), route)
+joins_to M ls p q h c = grind (arith, stretch_first, covered_to)
 
 -- up to line k, the last of the leg
-joins_before : (M : Map) (ls : List ℕ) (p k : ℕ) → p < k → k < length ls →
-    LrpRoute M (end M (slice_index ls p)) (start M (slice_index ls k)) (stretch ls (p + 1) k) → JoinsLast M ls p (k + 1)
+joins_before : (M : Map) (ls : List ℕ) (p k : ℕ) → p < k → k < length ls → RouteTo M ls p k → JoinsLast M ls p (k + 1)
 joins_before M ls p k h g r =
     let last : k + 1 - 1 ≡ k = omega arith in
-    let parts : stretch ls p (k + 1) ≡ slice_index ls p ∷ (stretch ls (p + 1) k ++ slice_index ls k ∷ []) =
-    stretch_first ls p (k + 1) (omega arith) (omega arith)
+    let parts = stretch_first ls p (k + 1) (omega arith) (omega arith)
     ∙ ap (λ (zs : List ℕ). slice_index ls p ∷ zs) (stretch_last ls (p + 1) k (omega arith) g) in
-    subst (λ (n : ℕ). (stretch ls p (k + 1) ≡ slice_index ls p ∷ [])
-    ⊎ ((s : List ℕ) × (stretch ls p (k + 1) ≡ slice_index ls p ∷ (s ++ slice_index ls n ∷ []))
-    × LrpRoute M (end M (slice_index ls p)) (start M (slice_index ls n)) s))
-    (sym last) (inr (stretch ls (p + 1) k, parts, r))
+    coe 1 0 (i. (stretch ls p (k + 1) ≡ slice_index ls p ∷ [])
+    ⊎ ((s : List ℕ) × (stretch ls p (k + 1) ≡ slice_index ls p ∷ (s ++ slice_index ls (last i) ∷ []))
+    × LrpRoute M (end M (slice_index ls p)) (start M (slice_index ls (last i))) s)) (inr (stretch ls (p + 1) k, parts, r))
 
 alone : (M : Map) (ls : List ℕ) (p q : ℕ) → q ≡ p + 1 → p < length ls → JoinsLast M ls p q
-alone M ls p q e h =
-    inl (stretch_first ls p q (omega arith) h
-    ∙ ap (λ (zs : List ℕ). slice_index ls p ∷ zs) (empty_stretch ls (p + 1) q (omega arith)))
+alone M ls p q e h = grind (arith, stretch_first, empty_stretch)
 
 -- without its last line, a unique shortest path is the one to the start of this line
 without_last : (M : Map) (s t : ℕ) (xs : List ℕ) (x : ℕ) → LrpRoute M s t (xs ++ x ∷ []) → LrpRoute M s (start M x) xs
@@ -86,31 +77,17 @@ without_last M s t xs x r =
 
 pub joins_last : (M : Map) (ls : List ℕ) (p q : ℕ) → Candidate M ls p q → JoinsLast M ls p q
 joins_last M ls p q c =
-    let lt = c.after in
-    let up = c.upto in
     elim (cases_eq q (p + 1)) [
       | inl e ↦ alone M ls p q e (omega arith)
       | inr ne ↦
           let k = q - 1 in
           let on : k + 1 ≡ q = omega arith in
-          subst (JoinsLast M ls p) on
-          (joins_before M ls p k (omega arith) (omega arith) (elim (cases_eq q (length ls)) [
-            | inl whole ↦
-                let m : min q (length ls - 1) ≡ k = omega arith in
-                subst (λ (n : ℕ). p < n →
-                LrpRoute M (end M (slice_index ls p)) (start M (slice_index ls n)) (stretch ls (p + 1) n)) m c.covered
-                (omega arith)
-            | inr within ↦
-                let m : min q (length ls - 1) ≡ k + 1 = omega arith in
-                let route : LrpRoute M (end M (slice_index ls p)) (start M (slice_index ls (k + 1)))
-                (stretch ls (p + 1) (k + 1)) =
-                subst (λ (n : ℕ). p < n →
-                LrpRoute M (end M (slice_index ls p)) (start M (slice_index ls n)) (stretch ls (p + 1) n)) m c.covered
-                (omega arith) in
-                without_last M (end M (slice_index ls p)) (start M (slice_index ls (k + 1))) (stretch ls (p + 1) k)
-                (slice_index ls k)
-                (subst (LrpRoute M (end M (slice_index ls p)) (start M (slice_index ls (k + 1))))
-                (stretch_last ls (p + 1) k (omega arith) (omega arith)) route)
+          subst (JoinsLast M ls p) on (joins_before M ls p k (omega arith) (omega arith) (elim (cases_eq q (length ls)) [
+            | inl whole ↦ covered_to M ls p q k (omega arith) (omega arith) c.covered
+            | inr within ↦ without_last M (end M (slice_index ls p)) (start M (slice_index ls (k + 1))) (stretch ls (p + 1) k)
+                (slice_index ls k) (coe 0 1 (i. LrpRoute M (end M (slice_index ls p)) (start M (slice_index ls (k + 1)))
+                (stretch_last ls (p + 1) k (omega arith) (omega arith) i))
+                (covered_to M ls p q (k + 1) (omega arith) (omega arith) c.covered))
           ]))
     ]
 
@@ -131,12 +108,16 @@ linked_joins M ls [] h = tt
 linked_joins M ls (p ∷ []) h = tt
 linked_joins M ls (p ∷ q ∷ []) h = joins_last M ls p q h.0
 linked_joins M ls (p ∷ q ∷ r ∷ ks) h =
-    let lt = h.1.0.after in
-    let up = h.1.0.upto in
     (joins_to M ls p q (omega arith) h.0, linked_joins M ls (q ∷ r ∷ ks) h.1)
 
 abbrev pub between : ℕ → ℕ → ℕ → Bool
 between a b i = nat_le a i && nat_le i b
+
+pub between_is : (a b i : ℕ) → (between a b i ≡ true) ↔ ((a ≤ i) × (i ≤ b))
+between_is a b i = (
+  (λ h. let p = and_parts (nat_le a i) (nat_le i b) h in (leb-true a i p.0, leb-true i b p.1)),
+  (λ p. and_from (nat_le a i) (nat_le i b) (le-leb a i p.0) (le-leb i b p.1)),
+)
 
 -- no LRP after b remains
 none_beyond : (M : Map) (ls : List ℕ) (a b p : ℕ) (ks : List ℕ) → b < p → Linked M ls (p ∷ ks) →
@@ -144,40 +125,28 @@ none_beyond : (M : Map) (ls : List ℕ) (a b p : ℕ) (ks : List ℕ) → b < p 
 none_beyond M ls a b p [] h l = let gone : between a b p ≡ false =
     grind (arith, nat_tests) in ap (λ (t : Bool). cond t (p ∷ []) []) gone
 none_beyond M ls a b p (q ∷ ks) h l =
-    let lt = l.0.after in
     let rest = none_beyond M ls a b q ks (omega arith) l.1 in
     let gone : between a b p ≡ false = grind (arith, nat_tests) in
     ap (λ (t : Bool). cond t (p ∷ filter (between a b) (q ∷ ks)) (filter (between a b) (q ∷ ks))) gone ∙ rest
 
-pub kept_linked : (M : Map) (ls : List ℕ) (a b : ℕ) (ks : List ℕ) → Linked M ls ks →
-    Linked M ls (filter (between a b) ks)
+pub kept_linked : (M : Map) (ls : List ℕ) (a b : ℕ) (ks : List ℕ) → Linked M ls ks → Linked M ls (filter (between a b) ks)
 kept_linked M ls a b [] l = tt
 kept_linked M ls a b (p ∷ []) l =
     elim (between a b p) as (λ t. Linked M ls (cond t (p ∷ []) [])) [ true ↦ tt | false ↦ tt ]
 kept_linked M ls a b (p ∷ q ∷ ks) l =
     let rest = kept_linked M ls a b (q ∷ ks) l.1 in
-    elim (between a b p) as (λ t. between a b p ≡ t →
-    Linked M ls (cond t (p ∷ filter (between a b) (q ∷ ks)) (filter (between a b) (q ∷ ks)))) [
-      | true ↦ λ e. elim (between a b q) as (λ t. between a b q ≡ t →
-          Linked M ls (cond t (q ∷ filter (between a b) ks) (filter (between a b) ks)) →
-          Linked M ls (p ∷ cond t (q ∷ filter (between a b) ks) (filter (between a b) ks))) [
-            | true ↦ λ f r. (l.0, r)
-            | false ↦ λ f r. subst (λ (zs : List ℕ). Linked M ls (p ∷ zs)) (sym (after p q ks l e f)) tt
-          ] refl rest
-      | false ↦ λ e. rest
-    ] refl
+    let later : List ℕ = filter (between a b) ks in
+    cond_both (between a b p) (p ∷ filter (between a b) (q ∷ ks)) (filter (between a b) (q ∷ ks)) (Linked M ls)
+    (λ e. cond_both (between a b q) (q ∷ later) later (λ zs. Linked M ls zs → Linked M ls (p ∷ zs)) (λ f r. (l.0, r))
+    (λ f r. coe 1 0 (i. Linked M ls (p ∷ after p q ks l e f i)) tt) rest) (λ e. rest)
   where
     after : (p q : ℕ) (ks : List ℕ) → Linked M ls (p ∷ q ∷ ks) → between a b p ≡ true → between a b q ≡ false →
         filter (between a b) ks ≡ []
     after p q [] l e f = refl
     after p q (r ∷ ks) l e f =
-        let lt = l.0.after in
-        let more = l.1.0.after in
-        let high : b < q = grind (arith, nat_tests) in
-        none_beyond M ls a b r ks (omega arith) l.1.1
+        let high : b < q = grind (arith, nat_tests) in none_beyond M ls a b r ks (omega arith) l.1.1
 
-pub routes_join : (M : Map) (ls js : List ℕ) (positive negative : ℕ) → Follow M ls 0 js →
-    last_position 0 js ≡ length ls → Joins M ls (kept_points (legs M ls) positive negative js)
+pub routes_join : RoutesJoin
 routes_join M ls js positive negative f e =
     linked_joins M ls (kept_points (legs M ls) positive negative js)
     (kept_linked M ls (first_kept (legs M ls) positive js) (last_kept (legs M ls) negative js) (0 ∷ js)

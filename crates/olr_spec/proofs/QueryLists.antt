@@ -1,12 +1,11 @@
 -- Lists of coverage queries: each LRP of the list has one.
-use Rattle.std.proofs.Common.{inl, inr, ◌≡◌, ℕ, ◌+◌, true, List, [], ◌∷◌, length, ◌<◌, Contains, sym, ap, ◌∙◌, subst}
-use Rattle.std.proofs.Common.{arith, nat_lt, ◌==◌, ◌&&◌, IsTrue}
-use Rattle.std.proofs.lemmas.Bool.{eqb-true, and_parts, and_from, lt-ltb, ltb-true}
-use Rattle.std.proofs.lemmas.Map.Views.{any-filter_same}
+use Rattle.std.proofs.Common.{inl, inr, ◌≡◌, ℕ, ◌+◌, true, List, [], ◌∷◌, length, ◌<◌, Contains, subst, arith, nat_lt, IsTrue}
+use Rattle.std.proofs.lemmas.Bool.{lt-ltb, ltb-true}
 use Rattle.std.specs.List.{AllZip}
 use Rattle.olr_spec.specs.Map.{Map, has}
 use Rattle.olr_spec.specs.Queries.{CoverageQuery, IsQuery, querying}
-use Rattle.olr_spec.proofs.ListLemmas.{has_here, has_there, has_cases, Contains-here, Contains-later, Contains-cases}
+use Rattle.olr_spec.proofs.ListLemmas.{has_filter, filter_has, has_here, has_there, has_cases, Contains-here, Contains-later}
+use Rattle.olr_spec.proofs.ListLemmas.{Contains-cases}
 
 module _ {X : Type 0} (R S : ℕ → X → Type 0) where
   pub zip_moves : (is : List ℕ) (xs : List X) → ((i : ℕ) (x : X) → Contains xs x → R i x → S i x) → AllZip R is xs
@@ -20,19 +19,17 @@ module _ {X : Type 0} (R S : ℕ → X → Type 0) where
   )
 
 module _ {X : Type 0} (R : ℕ → X → Type 0) where
-  pub zip_right : (is : List ℕ) (xs : List X) → AllZip R is xs → (i : ℕ) → has is i ≡ true
-      → (x : X) × Contains xs x × R i x
+  pub zip_right : (is : List ℕ) (xs : List X) → AllZip R is xs → (i : ℕ) → has is i ≡ true → (x : X) × Contains xs x × R i x
   zip_right [] xs z i h = absurd cc
   zip_right (j ∷ is) [] z i h = absurd z
   zip_right (j ∷ is) (x ∷ xs) z i h =
       elim (has_cases j is i h) [
-        | inl e ↦ (x, Contains-here x xs, subst (λ (k : ℕ). R k x) e z.0)
+        | inl e ↦ (x, Contains-here x xs, coe 0 1 (i. R (e i) x) z.0)
         | inr on ↦ let r = zip_right is xs z.1 i on in (r.0, Contains-later x r.0 xs r.1, r.2)
       ]
 
-  pub zip_left : (is : List ℕ) (xs : List X) → AllZip R is xs → (x : X) → Contains xs x
-      → (i : ℕ) × IsTrue (has is i) × R i x
-  zip_left [] [] z x c = let h = c.1 in absurd (omega arith)
+  pub zip_left : (is : List ℕ) (xs : List X) → AllZip R is xs → (x : X) → Contains xs x → (i : ℕ) × IsTrue (has is i) × R i x
+  zip_left [] [] z x c = absurd (omega arith)
   zip_left [] (y ∷ xs) z x c = absurd z
   zip_left (j ∷ is) [] z x c = absurd z
   zip_left (j ∷ is) (y ∷ xs) z x c =
@@ -43,17 +40,12 @@ module _ {X : Type 0} (R : ℕ → X → Type 0) where
 
 -- ---- the LRPs with a coverage query
 
-has-querying : (ls is : List ℕ) (i : ℕ) → has (querying ls is) i ≡ (nat_lt (i + 2) (length ls) && has is i)
-has-querying ls is i = any-filter_same (λ y. y == i) (λ y. nat_lt (y + 2) (length ls)) (nat_lt (i + 2) (length ls))
-    (λ k e. ap (λ (y : ℕ). nat_lt (y + 2) (length ls)) (eqb-true k i e)) is
-
 pub queries_there : (ls is : List ℕ) (i : ℕ) → has is i ≡ true → i + 2 < length ls → has (querying ls is) i ≡ true
-queries_there ls is i h g = has-querying ls is i
-    ∙ and_from (nat_lt (i + 2) (length ls)) (has is i) (lt-ltb (i + 2) (length ls) g) h
+queries_there ls is i h g = filter_has (λ y. nat_lt (y + 2) (length ls)) is i h (lt-ltb (i + 2) (length ls) g)
 
 pub queries_here : (ls is : List ℕ) (i : ℕ) → has (querying ls is) i ≡ true → IsTrue (has is i) × (i + 2 < length ls)
-queries_here ls is i h = let p = and_parts (nat_lt (i + 2) (length ls)) (has is i) (sym (has-querying ls is i) ∙ h) in
-    (p.1, ltb-true (i + 2) (length ls) p.0)
+queries_here ls is i h =
+    let p = has_filter (λ y. nat_lt (y + 2) (length ls)) is i h in (p.0, ltb-true (i + 2) (length ls) p.1)
 
 pub query_for : (M : Map) (ls is : List ℕ) (queries : List CoverageQuery) →
     AllZip (IsQuery M ls) (querying ls is) queries → (i : ℕ)
@@ -61,8 +53,7 @@ pub query_for : (M : Map) (ls is : List ℕ) (queries : List CoverageQuery) →
 query_for M ls is queries z i h g = zip_right (IsQuery M ls) (querying ls is) queries z i (queries_there ls is i h g)
 
 pub query_from : (M : Map) (ls is : List ℕ) (queries : List CoverageQuery) →
-    AllZip (IsQuery M ls) (querying ls is) queries → (l : CoverageQuery)
-    → Contains queries l
+    AllZip (IsQuery M ls) (querying ls is) queries → (l : CoverageQuery) → Contains queries l
     → (i : ℕ) × IsTrue (has is i) × (i + 2 < length ls) × IsQuery M ls i l
 query_from M ls is queries z l c =
     let r = zip_left (IsQuery M ls) (querying ls is) queries z l c in

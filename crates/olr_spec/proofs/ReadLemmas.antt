@@ -1,8 +1,7 @@
 -- Bytes have no fault exactly if some reference encodes as them.
-use Rattle.std.proofs.Common.{inl, inr, ◌≡◌, ℕ, zero, suc, ◌+◌, ◌-◌, ◌*◌, ◌/◌, ◌%◌, ◌<◌, ◌≤◌, ℤ, pos, negsuc, ◌≤ℤ◌}
-use Rattle.std.proofs.Common.{Bool, true, false, cond, not, ◌||◌, List, [], ◌∷◌, ◌++◌, length, Option, Some, None}
-use Rattle.std.proofs.Common.{IfSome, IsTrue, refl, sym, ap, ◌∙◌, subst, arith, nat_lt, nat_le, ◌==◌, length-append}
-use Rattle.std.proofs.Common.{◌↔◌}
+use Rattle.std.proofs.Common.{inl, inr, ◌≡◌, ℕ, zero, suc, ◌+◌, ◌-◌, ◌*◌, ◌/◌, ◌%◌, ◌<◌, ◌≤◌, ℤ, pos, negsuc, ◌≤ℤ◌, Bool, true}
+use Rattle.std.proofs.Common.{false, cond, not, ◌||◌, List, [], ◌∷◌, ◌++◌, length, Option, Some, None, IfSome, IsTrue, refl}
+use Rattle.std.proofs.Common.{sym, ap, ◌∙◌, arith, nat_lt, nat_le, ◌==◌, length-append}
 use Rattle.std.proofs.lemmas.Bool.{cases_lt, and_from, or_parts, eqb-true, eq-eqb, leb-false, le-ltb, lt-leb, ltb-false}
 use Rattle.std.proofs.lemmas.Bool.{not-false}
 use Rattle.std.proofs.lemmas.Int.{ints}
@@ -12,10 +11,10 @@ use Rattle.std.specs.List.{All, AllByRecursion, flat_map, list_any, slice_index}
 use Rattle.olr_spec.specs.Coordinates.{within, fits16}
 use Rattle.olr_spec.specs.Reference.{Attrs, First, Middle, Last, Reference}
 use Rattle.olr_spec.specs.Bytes.{AreAttrs, IsFirst, IsMiddle, IsLast, IsReference, fits24, residue, signed16, signed24}
-use Rattle.olr_spec.specs.Bytes.{attribute1, attribute4, attr_bytes, first_bytes, middle_bytes, last_bytes, flag}
-use Rattle.olr_spec.specs.Bytes.{offset_bytes, status_byte, reference_bytes, HasBytes, V3Fault, Length, Status, Flags}
-use Rattle.olr_spec.specs.Bytes.{Reserved}
-use Rattle.olr_spec.specs.Bytes.{extra, bit, flags_of, attribute1_bytes, has_reserved, v3_fault}
+use Rattle.olr_spec.specs.Bytes.{attribute1, attr_bytes, first_bytes, middle_bytes, last_bytes, flag, offset_bytes, status_byte}
+use Rattle.olr_spec.specs.Bytes.{reference_bytes, HasBytes, V3Fault, Length, Status, Flags, Reserved, extra, bit, flags_of}
+use Rattle.olr_spec.specs.Bytes.{attribute1_bytes, has_reserved, v3_fault}
+use Rattle.olr_spec.specs.Laws.{NoFault}
 use Rattle.olr_spec.proofs.SectorLemmas.{le_test}
 use Rattle.olr_spec.proofs.BytesLemmas.{flag_below}
 
@@ -46,7 +45,6 @@ in_range a b z h k = and_from (int_le a z) (int_le z b) (le_test a z h) (le_test
 read16 : (a b : ℕ) → a < 256 → b < 256 → (z : ℤ) × IsTrue (fits16 z) × (signed16 z ≡ a ∷ b ∷ [])
 read16 a b la lb =
     let s = signed_of 32767 (256 * a + b) (omega arith) in
-    let r : residue 65536 s.0 ≡ 256 * a + b = s.3 in
     let p : residue 65536 s.0 / 256 % 256 ≡ a = omega arith in
     let q : residue 65536 s.0 % 256 ≡ b = omega arith in
     (s.0, in_range (negsuc 32767) (pos 32767) s.0 s.1 s.2, λ i. p i ∷ q i ∷ [])
@@ -54,7 +52,6 @@ read16 a b la lb =
 read24 : (a b c : ℕ) → a < 256 → b < 256 → c < 256 → (z : ℤ) × IsTrue (fits24 z) × (signed24 z ≡ a ∷ b ∷ c ∷ [])
 read24 a b c la lb lc =
     let s = signed_of 8388607 (65536 * a + 256 * b + c) (omega arith) in
-    let r : residue 16777216 s.0 ≡ 65536 * a + 256 * b + c = s.3 in
     let p : residue 16777216 s.0 / 65536 % 256 ≡ a = omega arith in
     let q : residue 16777216 s.0 / 256 % 256 ≡ b = omega arith in
     let t : residue 16777216 s.0 % 256 ≡ c = omega arith in
@@ -101,9 +98,7 @@ attributes_behind xs ys i zero = refl
 attributes_behind xs ys i (suc n) =
     let here = get_or-append-add xs ys i 0 in
     let on : length xs + i + 7 ≡ length xs + (i + 7) = omega arith in
-    let rest : attribute1_bytes (xs ++ ys) (length xs + i + 7) n ≡ attribute1_bytes ys (i + 7) n =
-    ap (λ (k : ℕ). attribute1_bytes (xs ++ ys) k n) on ∙ attributes_behind xs ys (i + 7) n in
-    λ j. here j ∷ rest j
+    λ j. here j ∷ (ap (λ (k : ℕ). attribute1_bytes (xs ++ ys) k n) on ∙ attributes_behind xs ys (i + 7) n) j
 
 abbrev reserved : List ℕ → Bool
 reserved xs = list_any (λ a. nat_le 64 a) xs
@@ -124,8 +119,7 @@ record Points (t : List ℕ) : Type 0 where
 
 -- the last LRP, with the flags of the offsets
 last_with : (a b c d f g : ℕ) (positive negative : Option ℕ) → AreBytes (a ∷ b ∷ c ∷ d ∷ f ∷ g ∷ []) → f < 64 →
-    64 * flag positive + 32 * flag negative + g % 32 ≡ g
-    → IfSome positive (λ n. n < 256) → IfSome negative (λ n. n < 256) →
+    64 * flag positive + 32 * flag negative + g % 32 ≡ g → IfSome positive (λ n. n < 256) → IfSome negative (λ n. n < 256) →
     Points (a ∷ b ∷ c ∷ d ∷ f ∷ g ∷ (offset_bytes positive ++ offset_bytes negative))
 last_with a b c d f g positive negative w lt e p n =
     let lon = read16 a b w.0 w.1.0 in
@@ -164,37 +158,19 @@ read_last a b c d f g (h ∷ k ∷ l ∷ rest) w lf lg e = absurd (omega arith)
 read_points : (m : ℕ) (t : List ℕ) → AreBytes t → 7 * m + 6 ≤ length t →
     bit 6 (slice_index t (7 * m + 5)) + bit 5 (slice_index t (7 * m + 5)) ≡ length t - (7 * m + 6)
     → slice_index t (7 * m + 5) < 128 → reserved (attribute1_bytes t 4 (suc m)) ≡ false → Points t
-read_points zero [] w long flags top free = absurd (omega arith)
-read_points zero (a ∷ []) w long flags top free = absurd (omega arith)
-read_points zero (a ∷ b ∷ []) w long flags top free = absurd (omega arith)
-read_points zero (a ∷ b ∷ c ∷ []) w long flags top free = absurd (omega arith)
-read_points zero (a ∷ b ∷ c ∷ d ∷ []) w long flags top free = absurd (omega arith)
-read_points zero (a ∷ b ∷ c ∷ d ∷ f ∷ []) w long flags top free = absurd (omega arith)
 read_points zero (a ∷ b ∷ c ∷ d ∷ f ∷ g ∷ rest) w long flags top free =
     let low : f < 64 = leb-false 64 f (or_parts (nat_le 64 f) false free).0 in
     read_last a b c d f g rest w low top (let size : suc (suc (suc (suc (suc (suc (length rest)))))) - 6 ≡ length rest =
     omega arith in flags ∙ size)
-read_points (suc m) [] w long flags top free = absurd (omega arith)
-read_points (suc m) (a ∷ []) w long flags top free = absurd (omega arith)
-read_points (suc m) (a ∷ b ∷ []) w long flags top free = absurd (omega arith)
-read_points (suc m) (a ∷ b ∷ c ∷ []) w long flags top free = absurd (omega arith)
-read_points (suc m) (a ∷ b ∷ c ∷ d ∷ []) w long flags top free = absurd (omega arith)
-read_points (suc m) (a ∷ b ∷ c ∷ d ∷ e ∷ []) w long flags top free = absurd (omega arith)
-read_points (suc m) (a ∷ b ∷ c ∷ d ∷ e ∷ f ∷ []) w long flags top free = absurd (omega arith)
 read_points (suc m) (a ∷ b ∷ c ∷ d ∷ e ∷ f ∷ g ∷ t) w long flags top free =
     let cut : List ℕ = a ∷ b ∷ c ∷ d ∷ e ∷ f ∷ g ∷ [] in
-    let front : AreBytes cut = bytes_before cut t w in
     let parts = or_parts (nat_le 64 e) (reserved (attribute1_bytes (cut ++ t) 11 (suc m))) free in
-    let p = read_middle a b c d e f g front (leb-false 64 e parts.0) in
+    let p = read_middle a b c d e f g (bytes_before cut t w) (leb-false 64 e parts.0) in
     let place : 7 * suc m + 5 ≡ 7 + (7 * m + 5) = omega arith in
-    let same : slice_index (cut ++ t) (7 * suc m + 5) ≡ slice_index t (7 * m + 5) =
-    ap (slice_index (cut ++ t)) place ∙ get_or-append-add cut t (7 * m + 5) 0 in
-    let left : suc (suc (suc (suc (suc (suc (suc (length t))))))) - (7 * suc m + 6) ≡ length t - (7 * m + 6) =
-    omega arith in
-    let rest =
-    read_points m t w.1.1.1.1.1.1.1 (omega arith) (ap (λ (x : ℕ). bit 6 x + bit 5 x) (sym same) ∙ flags ∙ left)
-    (subst (λ (x : ℕ). x < 128) same top)
-    (ap reserved (sym (attributes_behind cut t 4 (suc m))) ∙ parts.1) in
+    let same = ap (slice_index (cut ++ t)) place ∙ get_or-append-add cut t (7 * m + 5) 0 in
+    let left : suc (suc (suc (suc (suc (suc (suc (length t))))))) - (7 * suc m + 6) ≡ length t - (7 * m + 6) = omega arith in
+    let rest = read_points m t w.1.1.1.1.1.1.1 (omega arith) (ap (λ (x : ℕ). bit 6 x + bit 5 x) (sym same) ∙ flags ∙ left)
+    (coe 0 1 (i. (same i) < 128) top) (ap reserved (sym (attributes_behind cut t 4 (suc m))) ∙ parts.1) in
     record {
       middle = p.0 ∷ rest.middle;
       last = rest.last;
@@ -206,6 +182,7 @@ read_points (suc m) (a ∷ b ∷ c ∷ d ∷ e ∷ f ∷ g ∷ t) w long flags t
       is_negative = rest.is_negative;
       encoded = λ i. sym p.2 i ++ rest.encoded i;
     }
+read_points _ _ w long flags top free = absurd (omega arith)
 
 -- ---- bytes without a fault
 
@@ -243,34 +220,19 @@ passes b e =
 
 -- the first ten bytes, and the others
 read_bytes : (b : List ℕ) → AreBytes b → Passes b → (r : Reference) × HasBytes r b
-read_bytes [] w p = let h = p.long in absurd (omega arith)
-read_bytes (s ∷ []) w p = let h = p.long in absurd (omega arith)
-read_bytes (s ∷ a ∷ []) w p = let h = p.long in absurd (omega arith)
-read_bytes (s ∷ a ∷ b ∷ []) w p = let h = p.long in absurd (omega arith)
-read_bytes (s ∷ a ∷ b ∷ c ∷ []) w p = let h = p.long in absurd (omega arith)
-read_bytes (s ∷ a ∷ b ∷ c ∷ d ∷ []) w p = let h = p.long in absurd (omega arith)
-read_bytes (s ∷ a ∷ b ∷ c ∷ d ∷ e ∷ []) w p = let h = p.long in absurd (omega arith)
-read_bytes (s ∷ a ∷ b ∷ c ∷ d ∷ e ∷ f ∷ []) w p = let h = p.long in absurd (omega arith)
-read_bytes (s ∷ a ∷ b ∷ c ∷ d ∷ e ∷ f ∷ g ∷ []) w p = let h = p.long in absurd (omega arith)
-read_bytes (s ∷ a ∷ b ∷ c ∷ d ∷ e ∷ f ∷ g ∷ k ∷ []) w p = let h = p.long in absurd (omega arith)
 read_bytes (s ∷ a ∷ b ∷ c ∷ d ∷ e ∷ f ∷ g ∷ k ∷ l ∷ t) w p =
     let cut : List ℕ = s ∷ a ∷ b ∷ c ∷ d ∷ e ∷ f ∷ g ∷ k ∷ l ∷ [] in
-    let h = p.long in
-    let few = p.few in
     let m : ℕ = (length (cut ++ t) - 16) / 7 in
-    let front = bytes_before cut t w in
     let parts = or_parts (nat_le 64 g) (reserved (attribute1_bytes (cut ++ t) 14 (m + 1))) p.free in
-    let first = read_first a b c d e f g k l front.1 (leb-false 64 g parts.0) in
+    let first = read_first a b c d e f g k l (bytes_before cut t w).1 (leb-false 64 g parts.0) in
     let place : length (cut ++ t) - 1 - extra (cut ++ t) ≡ 10 + (7 * m + 5) = omega arith in
-    let same : flags_of (cut ++ t) ≡ slice_index t (7 * m + 5) =
-    ap (slice_index (cut ++ t)) place ∙ get_or-append-add cut t (7 * m + 5) 0 in
+    let same = ap (slice_index (cut ++ t)) place ∙ get_or-append-add cut t (7 * m + 5) 0 in
     let left : extra (cut ++ t) ≡ length t - (7 * m + 6) = omega arith in
     let count : m + 1 ≡ suc m = omega arith in
     let rest =
     read_points m t w.1.1.1.1.1.1.1.1.1.1 (omega arith) (ap (λ (x : ℕ). bit 6 x + bit 5 x) (sym same) ∙ p.flags ∙ left)
-    (subst (λ (x : ℕ). x < 128) same p.top)
-    (ap reserved (sym (attributes_behind cut t 4 (suc m)) ∙ ap (attribute1_bytes (cut ++ t) 14) (sym count))
-    ∙ parts.1) in (
+    (coe 0 1 (i. (same i) < 128) p.top)
+    (ap reserved (sym (attributes_behind cut t 4 (suc m)) ∙ ap (attribute1_bytes (cut ++ t) 14) (sym count)) ∙ parts.1) in (
       record { first = first.0; middle = rest.middle; last = rest.last; pos = rest.positive; neg = rest.negative },
       (
         record {
@@ -284,6 +246,7 @@ read_bytes (s ∷ a ∷ b ∷ c ∷ d ∷ e ∷ f ∷ g ∷ k ∷ l ∷ t) w p =
         λ i. p.status i ∷ sym first.2 i ++ rest.encoded i,
       ),
     )
+read_bytes _ w p = absurd (omega arith)
 
 pub read_encoded : (b : List ℕ) → All (λ x. x < 256) b → v3_fault b ≡ None → (r : Reference) × HasBytes r b
 read_encoded b h e = read_bytes b (are_bytes b h) (passes b e)
@@ -300,20 +263,13 @@ flag_is (Some n) = refl
 
 -- none of the LRPs' attribute bytes has a reserved bit
 unreserved : (ps : List Middle) (l : Last) (positive negative : Option ℕ) → AllByRecursion IsMiddle ps → IsLast l
-    → reserved (attribute1_bytes (flat_map middle_bytes ps ++ last_bytes l positive negative) 4 (suc (length ps)))
-    ≡ false
-unreserved [] l positive negative h k =
-    let low : nat_le 64 (attribute1 l.frc l.fow) ≡ false =
-    lt-leb 64 (attribute1 l.frc l.fow) (let f = k.frc in let g = k.fow in omega arith) in
-    ap (λ (b : Bool). b || false) low
+    → reserved (attribute1_bytes (flat_map middle_bytes ps ++ last_bytes l positive negative) 4 (suc (length ps))) ≡ false
+unreserved [] l positive negative h k = ap (λ (b : Bool). b || false) (lt-leb 64 (attribute1 l.frc l.fow) (omega arith))
 unreserved (p ∷ ps) l positive negative h k =
     let rest = flat_map middle_bytes ps ++ last_bytes l positive negative in
-    let low : nat_le 64 (attribute1 p.attrs.frc p.attrs.fow) ≡ false =
-    lt-leb 64 (attribute1 p.attrs.frc p.attrs.fow) (let f = h.0.attrs.frc in let g = h.0.attrs.fow in omega arith) in
     let others : reserved (attribute1_bytes (middle_bytes p ++ rest) 11 (suc (length ps))) ≡ false =
-    ap reserved (attributes_behind (middle_bytes p) rest 4 (suc (length ps)))
-    ∙ unreserved ps l positive negative h.1 k in
-    λ i. low i || others i
+    ap reserved (attributes_behind (middle_bytes p) rest 4 (suc (length ps))) ∙ unreserved ps l positive negative h.1 k in
+    λ i. lt-leb 64 (attribute1 p.attrs.frc p.attrs.fow) (omega arith) i || others i
 
 pub encoded_passes : (r : Reference) → IsReference r → v3_fault (reference_bytes r) ≡ None
 encoded_passes r h =
@@ -330,27 +286,19 @@ encoded_passes r h =
     let over : extra b ≡ n = omega arith in
     let count : (length b - 16) / 7 + 1 ≡ suc m = omega arith in
     let place : length b - 1 - extra b ≡ 10 + (length middles + 5) = omega (arith, middles_length r.middle) in
-    let flags : flags_of b ≡ attribute4 r.pos r.neg r.last.bearing =
-    ap (slice_index b) place ∙ get_or-append-add cut (middles ++ ends) (length middles + 5) 0
+    let flags = ap (slice_index b) place ∙ get_or-append-add cut (middles ++ ends) (length middles + 5) 0
     ∙ get_or-append-add middles ends 5 0 in
     let bearing = h.last.bearing in
     let sum : bit 6 (flags_of b) + bit 5 (flags_of b) ≡ extra b = omega (arith, flag_below r.pos, flag_below r.neg) in
     let long : nat_lt (length b) 16 ≡ false = le-ltb (length b) 16 (omega arith) in
-    let short : nat_lt 2 (extra b) ≡ false = le-ltb 2 (extra b) (omega arith) in
-    let flagged : (bit 6 (flags_of b) + bit 5 (flags_of b) == extra b) ≡ true =
-    eq-eqb (bit 6 (flags_of b) + bit 5 (flags_of b)) (extra b) sum in
-    let low : nat_le 64 (slice_index b 7) ≡ false =
-    lt-leb 64 (slice_index b 7) (let f = h.first.attrs.frc in let g = h.first.attrs.fow in omega arith) in
+    let low : nat_le 64 (slice_index b 7) ≡ false = lt-leb 64 (slice_index b 7) (omega arith) in
     let clear : reserved (attribute1_bytes b 14 ((length b - 16) / 7 + 1)) ≡ false =
-    ap (λ (k : ℕ). reserved (attribute1_bytes b 14 k)) count
-    ∙ ap reserved (attributes_behind cut (middles ++ ends) 4 (suc m))
+    ap (λ (k : ℕ). reserved (attribute1_bytes b 14 k)) count ∙ ap reserved (attributes_behind cut (middles ++ ends) 4 (suc m))
     ∙ unreserved r.middle r.last r.pos r.neg h.middle h.last in
-    let top : nat_le 128 (flags_of b) ≡ false =
-    lt-leb 128 (flags_of b) (omega (arith, flag_below r.pos, flag_below r.neg)) in
-    λ i. cond (long i || short i) (Some Length)
-    (cond (not true) (Some Status)
-    (cond (not (flagged i)) (Some Flags) (cond ((low i || clear i) || top i) (Some Reserved) None)))
+    let top : nat_le 128 (flags_of b) ≡ false = lt-leb 128 (flags_of b) (omega (arith, flag_below r.pos, flag_below r.neg)) in
+    λ i. cond (long i || (le-ltb 2 (extra b) (omega arith)) i) (Some Length) (cond (not true) (Some Status)
+    (cond (not (eq-eqb (bit 6 (flags_of b) + bit 5 (flags_of b)) (extra b) sum i)) (Some Flags)
+    (cond ((low i || clear i) || top i) (Some Reserved) None)))
 
-pub no_fault_where_encoded : (b : List ℕ) → All (λ x. x < 256) b → (v3_fault b ≡ None)
-    ↔ ((r : Reference) × HasBytes r b)
+pub no_fault_where_encoded : NoFault
 no_fault_where_encoded b h = (read_encoded b h, λ p. ap v3_fault p.1.1 ∙ encoded_passes p.0 p.1.0)

@@ -1,34 +1,42 @@
--- Every receiver recovers the legs between the remaining LRPs.
-use Rattle.std.proofs.Common.{◌≡◌, ℕ, suc, ◌+◌, ◌-◌, max, true, List, [], ◌∷◌, ◌++◌, length, take, drop, map, ◌<◌}
-use Rattle.std.proofs.Common.{ℤ, ◌≤◌, ◌↔◌, Some, None, IsTrue, refl, sym, ap, ◌∙◌, subst, arith, slice_get, take-add}
-use Rattle.std.proofs.Common.{drop-drop}
+-- Every receiver recovers the legs between the remaining LRPs, and what the lengths and nodes of these say.
+use Rattle.std.proofs.Common.{◌≡◌, ℕ, suc, ◌+◌, ◌-◌, max, true, List, [], ◌∷◌, ◌++◌, length, take, drop, map, ◌<◌, ℤ, ◌≤◌, ◌↔◌}
+use Rattle.std.proofs.Common.{Some, None, IsTrue, refl, sym, ap, ◌∙◌, subst, arith, slice_get, take-add, drop-drop, inl, inr}
+use Rattle.std.proofs.Common.{zero, Bool, ◌||◌, pos, nat_lt, ◌==◌, Option, unwrap_or, cond}
 use Rattle.std.specs.Bool.{⊤}
 use Rattle.std.specs.Option.{option_map}
-use Rattle.std.specs.List.{slice_index, concat, fold}
+use Rattle.std.specs.List.{slice_index, concat, fold, list_all, AllZip}
 use Rattle.std.proofs.lemmas.List.{get_or-map}
-use Rattle.olr_spec.specs.Map.{Map, IsMap, has_line}
-use Rattle.olr_spec.specs.Extension.{Path, is_path, none_twice, extended_path, first, last}
-use Rattle.olr_spec.specs.Points.{stretch, OfPath}
+use Rattle.std.proofs.lemmas.Bool.{cases_lt, or_cases, or_left, or_right, lt-ltb, le-ltb, and_parts, and_from}
+use Rattle.olr_spec.specs.Map.{Map, IsMap, coord_at, start, end}
+use Rattle.olr_spec.specs.Extension.{Path, is_path, none_twice, extended_path, first, last, AreJoined}
+use Rattle.olr_spec.specs.Points.{stretch, OfPath, node_at}
 use Rattle.olr_spec.specs.Bearings.{Leg, bearing_out, bearing_back}
 use Rattle.olr_spec.specs.Reference.{Reference, leg, legs, leg_at, no_leg, attrs, first_kept, last_kept, kept_points}
-use Rattle.olr_spec.specs.Reference.{from_front, to_back}
-use Rattle.olr_spec.specs.Reference.{Middle, middle_points, last_two, reference_by_kept, reference_by, reference}
-use Rattle.olr_spec.specs.Reference as fields
-use Rattle.olr_spec.specs.Encoding.{Points, path_fault, Encoding, Encodes}
+use Rattle.olr_spec.specs.Reference.{from_front, to_back, Middle, middle_points, last_two, reference_by_kept, reference_by}
+use Rattle.olr_spec.specs.Encoding.{Points, path_fault, Encoding}
 use Rattle.olr_spec.specs.Receiver.{Side, Outgoing, Incoming, lrp_at, last_number, last_lrp, decoded_coord, attributes}
-use Rattle.olr_spec.specs.Receiver.{Receiver, Within, RecoversTo, RecoversLast, RecoversFrom, Recovers, candidates}
-use Rattle.olr_spec.specs.Receiver.{is_nearest, has_no_twin}
-use Rattle.olr_spec.specs.Recovery.{line_by, IsLineAt, Distinct, stretches, IsStretches, IsKeptPart}
-use Rattle.olr_spec.proofs.ListLemmas.{Each, has_index, has_last}
-use Rattle.olr_spec.proofs.AnswerLemmas.{path_also, one_extension}
-use Rattle.olr_spec.proofs.JoinLemmas.{Linked, follow_linked, kept_linked, joins_to, joins_last}
-use Rattle.olr_spec.proofs.JoinLemmas.{empty_stretch}
+use Rattle.olr_spec.specs.Receiver.{Receiver, Within, RecoversTo, RecoversLast, RecoversFrom, Recovers, candidates, is_nearest}
+use Rattle.olr_spec.specs.Receiver.{has_no_twin, node_on, coordinate_on, Measure}
+use Rattle.olr_spec.specs.Recovery.{line_by, IsLineAt, Distinct, stretches, IsStretches, IsLeft, IsCut, IsClose, IsStep}
+use Rattle.olr_spec.specs.Recovery.{IsWeighted, is_spaced, are_spaced}
+use Rattle.olr_spec.specs.Routes.{dm_of}
+use Rattle.olr_spec.specs.Decoded.{IsNear}
+use Rattle.olr_spec.specs.Laws.{Recovered, StretchesJoin, Offsets, Distances, Nearest}
+use Rattle.olr_spec.specs.Reference as fields
+use Rattle.olr_spec.specs.Reference as fields
+use Rattle.olr_spec.specs.Reference as fields
+use Rattle.olr_spec.proofs.ListLemmas.{Each, has_index, has_last, last_index, Known}
+use Rattle.olr_spec.proofs.AnswerLemmas.{path_also, path_at}
+use Rattle.olr_spec.proofs.JoinLemmas.{Linked, follow_linked, kept_linked, joins_to, joins_last, empty_stretch, stretch_first}
 use Rattle.olr_spec.proofs.KeptLemmas.{two_kept}
-use Rattle.olr_spec.proofs.FieldLemmas.{range_legs, linked_above}
-use Rattle.olr_spec.proofs.FitLemmas.{kept_ends, extended_sound, answered}
-use Rattle.olr_spec.proofs.DecodedLemmas.{middle_count, two_of, by_fault}
-use Rattle.olr_spec.proofs.CandidateLemmas.{Own, takes_own}
+use Rattle.olr_spec.proofs.FieldLemmas.{range_legs, linked_above, dm_same, position_is, last_two_linked}
+use Rattle.olr_spec.proofs.FitLemmas.{kept_ends, extended_sound, answered, by_fault}
+use Rattle.olr_spec.proofs.DecodedLemmas.{middle_count, two_of, answer_decodes, got_index}
+use Rattle.olr_spec.proofs.CandidateLemmas.{Own, takes_own, offset_close, nearer}
 use Rattle.olr_spec.proofs.RecoverLemmas.{within_greatest, recovers_to, recovers_last, extended_once, once_apart}
+use Rattle.olr_spec.proofs.RouteLemmas.{positive}
+use Rattle.olr_spec.proofs.WayLemmas.{next_start}
+use Rattle.olr_spec.proofs.JoinedLemmas.{extended_joined}
 
 -- ---- one LRP
 
@@ -41,16 +49,14 @@ record Stands (R : Receiver) (M : Map) (s : Side) (p : ℤ × ℤ) (x : ℕ) : T
 abbrev Owns : Receiver → Map → List ℕ → Reference → ℕ → List ℕ → Type 0
 Owns R M ls r k [] = ⊤
 Owns R M ls r k (h ∷ []) = Stands R M Incoming (decoded_coord r (last_number r)) (slice_index ls (h - 1))
-Owns R M ls r k (h ∷ i ∷ js) = Stands R M Outgoing (decoded_coord r k) (slice_index ls h)
-    × Owns R M ls r (suc k) (i ∷ js)
+Owns R M ls r k (h ∷ i ∷ js) = Stands R M Outgoing (decoded_coord r k) (slice_index ls h) × Owns R M ls r (suc k) (i ∷ js)
 
-module _ (R : Receiver) (M : Map) (m : IsMap M) (ls : List ℕ) (known : Each (λ x. IsTrue (has_line M x)) ls)
+module _ (R : Receiver) (M : Map) (m : IsMap M) (ls : List ℕ) (known : Each (Known M) ls)
     (once : none_twice ls ≡ true) where
   leg_is : (i : ℕ) → i < length ls → leg_at (legs M ls) i ≡ leg M (slice_index ls i)
   leg_is i lt = get_or-map (leg M) ls i 0 no_leg lt
 
-  own_out : (r : Reference) (k i j : ℕ) → i < length ls →
-      Stands R M Outgoing (decoded_coord r k) (slice_index ls i) →
+  own_out : (r : Reference) (k i j : ℕ) → i < length ls → Stands R M Outgoing (decoded_coord r k) (slice_index ls i) →
       Own R M (lrp_at r k (attrs (legs M ls) i j)) (slice_index ls i)
   own_out r k i j lt s =
       record {
@@ -77,8 +83,7 @@ module _ (R : Receiver) (M : Map) (m : IsMap M) (ls : List ℕ) (known : Each (�
 
   within_stretch : (i j : ℕ) → Within M (attrs (legs M ls) i j).lfrc (stretch ls i j)
   within_stretch i j =
-      subst (λ (gs : List Leg). Within M (fold max 0 (map (λ (g : Leg). g.line.frc) gs)) (stretch ls i j))
-      (sym (range_legs M m ls known i j))
+      coe 1 0 (k. Within M (fold max 0 (map (λ (g : Leg). g.line.frc) (range_legs M m ls known i j k))) (stretch ls i j))
       (within_greatest M 0 (stretch ls i j))
 
   -- ---- one LRP after another
@@ -86,30 +91,23 @@ module _ (R : Receiver) (M : Map) (m : IsMap M) (ls : List ℕ) (known : Each (�
   -- the receiver that has chosen the path's own line at LRP k recovers the legs after it
   from_point : (r : Reference) (k h i : ℕ) (js : List ℕ) → Linked M ls (h ∷ i ∷ js) →
       r.last ≡ fields.last_point (legs M ls) (last_two h i js).0 (last_two h i js).1 → Owns R M ls r (suc k) (i ∷ js) →
-      (ws : List (List ℕ))
-      → RecoversFrom R M r k (slice_index ls h)
+      (ws : List (List ℕ)) → RecoversFrom R M r k (slice_index ls h)
       (attrs (legs M ls) h i ∷ map (λ (m : Middle). m.attrs) (middle_points (legs M ls) h i js)) ws
       ↔ (ws ≡ stretches ls (h ∷ i ∷ js))
   from_point r k h i [] l is o ws =
-      let lt = l.0.after in
-      let up = l.0.upto in
       let x = slice_index ls h in
       let y = slice_index ls (i - 1) in
       let c = (attrs (legs M ls) h i).lfrc in
       let own = own_in r h i (omega arith) is o in
       let apart : h + 1 < i → slice_index ls h ≡ slice_index ls (i - 1) → ⊥ =
       λ far. once_apart ls h (i - 1) once (omega arith) (omega arith) in
-      let route = recovers_last M ls c h i lt up apart (within_stretch h i) (joins_last M ls h i l.0) in (
+      let route = recovers_last M ls c h i l.0.after l.0.upto apart (within_stretch h i) (joins_last M ls h i l.0) in (
         (λ g.
             let yes = (takes_own R M (last_lrp r) y own g.0).0 g.2 in
-            let w : g.1 ≡ stretch ls h i = (route g.1).0 (subst (λ (z : ℕ). RecoversLast M c x z g.1) yes g.3) in
-            g.4 ∙ ap (λ (v : List ℕ). v ∷ []) w),
+            g.4 ∙ ap (λ (v : List ℕ). v ∷ []) ((route g.1).0 (coe 0 1 (i. RecoversLast M c x (yes i) g.1) g.3))),
         (λ e. (y, stretch ls h i, (takes_own R M (last_lrp r) y own y).1 refl, (route (stretch ls h i)).1 refl, e)),
       )
   from_point r k h i (j ∷ js) l is o ws =
-      let lt = l.1.0.after in
-      let up = l.1.0.upto in
-      let x = slice_index ls h in
       let y = slice_index ls i in
       let c = (attrs (legs M ls) h i).lfrc in
       let t = lrp_at r (suc k) (attrs (legs M ls) i j) in
@@ -119,10 +117,8 @@ module _ (R : Receiver) (M : Map) (m : IsMap M) (ls : List ℕ) (known : Each (�
       let later = attrs (legs M ls) i j ∷ map (λ (m : Middle). m.attrs) (middle_points (legs M ls) i j js) in (
         (λ g.
             let yes = (takes_own R M t y own g.0).0 g.3 in
-            let w : g.1 ≡ stretch ls h i = (route g.1).0 (subst (λ (z : ℕ). RecoversTo M c x z g.1) yes g.4) in
-            let on : g.2 ≡ stretches ls (i ∷ j ∷ js) =
-            (rest g.2).0 (subst (λ (z : ℕ). RecoversFrom R M r (suc k) z later g.2) yes g.6) in
-            g.5 ∙ (λ n. w n ∷ on n)),
+            let w : g.1 ≡ stretch ls h i = (route g.1).0 (coe 0 1 (i. RecoversTo M c (slice_index ls h) (yes i) g.1) g.4) in
+            g.5 ∙ (λ n. w n ∷ (rest g.2).0 (coe 0 1 (i. RecoversFrom R M r (suc k) (yes i) later g.2) g.6) n)),
         (λ e. (
           y,
           stretch ls h i,
@@ -139,18 +135,104 @@ module _ (R : Receiver) (M : Map) (m : IsMap M) (ls : List ℕ) (known : Each (�
       Owns R M ls (reference_by_kept (legs M ls) p q h i js) 0 (h ∷ i ∷ js) → (ws : List (List ℕ))
       → Recovers R M (reference_by_kept (legs M ls) p q h i js) ws ↔ (ws ≡ stretches ls (h ∷ i ∷ js))
   recovers_kept p q h i js l o ws =
-      let lt = l.0.after in
-      let up = l.0.upto in
       let r = reference_by_kept (legs M ls) p q h i js in
       let x = slice_index ls h in
       let t = lrp_at r 0 (attrs (legs M ls) h i) in
       let own = own_out r 0 h i (omega arith) o.0 in
       let rest = from_point r 0 h i js l refl o.1 ws in (
-        (λ g.
-            let yes = (takes_own R M t x own g.0).0 g.1 in
-            rest.0 (subst (λ (z : ℕ). RecoversFrom R M r 0 z (attributes r) ws) yes g.2)),
+        (λ g. rest.0 (subst (λ (z : ℕ). RecoversFrom R M r 0 z (attributes r) ws) ((takes_own R M t x own g.0).0 g.1) g.2)),
         (λ e. (x, (takes_own R M t x own x).1 refl, rest.1 e)),
       )
+
+-- ---- legs
+
+module _ (M : Map) (m : IsMap M) (ls : List ℕ) (known : Each (Known M) ls) where
+  some_length : (p q : ℕ) → p < q → p < length ls → 0 < dm_of M (stretch ls p q)
+  some_length p q lt h = grind (arith, stretch_first, h, positive, has_index)
+
+  last_length : (h i : ℕ) (js : List ℕ) →
+      last (map (dm_of M) (stretches ls (h ∷ i ∷ js))) ≡ dm_of M (stretch ls (last_two h i js).0 (last_two h i js).1)
+  last_length h i [] = refl
+  last_length h i (j ∷ js) = last_length i j js
+
+  steps_of : (h i : ℕ) (js : List ℕ) → AllZip (λ a w. IsStep a (dm_of M w))
+      (attrs (legs M ls) h i ∷ map (λ (p : Middle). p.attrs) (middle_points (legs M ls) h i js)) (stretches ls (h ∷ i ∷ js))
+  steps_of h i [] =
+      let same = dm_same M m ls known h i in (record { low = omega arith; high = omega arith }, tt)
+  steps_of h i (j ∷ js) =
+      let same = dm_same M m ls known h i in
+      (record { low = omega arith; high = omega arith }, steps_of i j js)
+
+  front_cut : (p q h i : ℕ) (js : List ℕ) → Linked M ls (h ∷ i ∷ js) → (n c : ℕ) → 0 < n →
+      IsCut n (first (map (dm_of M) (stretches ls (h ∷ i ∷ js)))) (reference_by_kept (legs M ls) p q h i js).pos c →
+      IsClose n (first (map (dm_of M) (stretches ls (h ∷ i ∷ js)))) p c
+  front_cut p q h i js l n c some k = grind (arith, offset_close, h, i, some_length, dm_same)
+
+  back_cut : (p q h i : ℕ) (js : List ℕ) → Linked M ls (h ∷ i ∷ js) → (n c : ℕ) → 0 < n →
+      IsCut n (last (map (dm_of M) (stretches ls (h ∷ i ∷ js)))) (reference_by_kept (legs M ls) p q h i js).neg c →
+      IsClose n (last (map (dm_of M) (stretches ls (h ∷ i ∷ js)))) q c
+  back_cut p q h i js l n c some k =
+      let two = last_two h i js in
+      let d = last_two_linked M ls h i js l in
+      let long = last_length h i js in
+      let size = dm_of M (stretch ls two.0 two.1) in
+      coe 1 0 (j. IsClose n (long j) q c)
+      (offset_close n size q c some (some_length two.0 two.1 d.after (omega arith))
+      (coe 0 1 (j. IsCut n (long j) (fields.offset q (dm_same M m ls known two.0 two.1 j)) c) k))
+
+-- ---- positions
+
+linked_bounds : (M : Map) (ls ks : List ℕ) → Linked M ls ks → (k : ℕ) → k + 1 < length ks →
+    (slice_index ks k < slice_index ks (k + 1)) × (slice_index ks (k + 1) ≤ length ls)
+linked_bounds M ls [] l k h = absurd (omega arith)
+linked_bounds M ls (p ∷ []) l k h = absurd (omega arith)
+linked_bounds M ls (p ∷ q ∷ ks) l zero h = (l.0.after, l.0.upto)
+linked_bounds M ls (p ∷ q ∷ ks) l (suc k) h =
+    let next : slice_index (p ∷ q ∷ ks) (suc k + 1) ≡ slice_index (q ∷ ks) (k + 1) =
+    let step : suc k + 1 ≡ suc (k + 1) = omega arith in
+    ap (slice_index (p ∷ q ∷ ks)) step in
+    let rest = linked_bounds M ls (q ∷ ks) l.1 k (omega arith) in
+    (omega (arith, next), omega (arith, next))
+
+at_start : (M : Map) (ls : List ℕ) (i : ℕ) → i < length ls → node_at M ls i ≡ start M (slice_index ls i)
+at_start M ls i h =
+    ap (λ (b : Bool). cond b (start M (slice_index ls i)) (end M (last ls))) (lt-ltb i (length ls) h)
+
+at_end : (M : Map) → IsMap M → (ls : List ℕ) → Each (Known M) ls → AreJoined M ls → (i : ℕ) →
+    0 < i → i ≤ length ls → node_at M ls i ≡ end M (slice_index ls (i - 1))
+at_end M m ls known joined i some up =
+    elim (cases_lt i (length ls)) [
+      | inl lt ↦
+          let on : i - 1 + 1 ≡ i = omega arith in
+          at_start M ls i lt ∙ ap (λ (k : ℕ). start M (slice_index ls k)) (sym on)
+          ∙ sym (next_start M (start M (first ls)) (end M (last ls)) ls (i - 1) joined (omega arith))
+      | inr ge ↦
+          let whole : length ls ≡ i = omega arith in
+          ap (λ (b : Bool). cond b (start M (slice_index ls i)) (end M (last ls))) (le-ltb i (length ls) ge)
+          ∙ ap (end M) (last_index ls (omega arith)) ∙ ap (λ (k : ℕ). end M (slice_index ls (k - 1))) whole
+    ]
+
+-- a weaker test passes for all candidates too
+weaker : (f g : ℕ × Leg → Bool) → ((c : ℕ × Leg) → f c ≡ true → g c ≡ true) → (cs : List (ℕ × Leg)) →
+    list_all f cs ≡ true → list_all g cs ≡ true
+weaker f g h [] a = refl
+weaker f g h (c ∷ cs) a =
+    let parts = and_parts (f c) (list_all f cs) a in
+    and_from (g c) (list_all g cs) (h c parts.0) (weaker f g h cs parts.1)
+
+spaced_nearest : (n d scale : ℕ) (far : Measure) → IsWeighted n d scale far → (k : ℕ) (p : ℤ × ℤ) (s : Side) (g : Leg) →
+    IsNear k p (coordinate_on s g) → (cs : List (ℕ × Leg)) → IsTrue (are_spaced n d k s g cs) → IsTrue (is_nearest far s p g cs)
+spaced_nearest n d scale far w k p s g near cs a =
+    weaker
+    (λ c. node_on s c.1 == node_on s g || is_spaced n d k (coordinate_on s g) (coordinate_on s c.1))
+    (λ c. node_on s c.1 == node_on s g || nat_lt (far p (coordinate_on s g)) (far p (coordinate_on s c.1)))
+    (λ c h. elim (or_cases (node_on s c.1 == node_on s g) (is_spaced n d k (coordinate_on s g) (coordinate_on s c.1))
+    h) [
+      | inl e ↦ or_left _ _ e
+      | inr f ↦ or_right _ _
+          (lt-ltb (far p (coordinate_on s g)) (far p (coordinate_on s c.1))
+          (nearer n d scale far w k p (coordinate_on s g) (coordinate_on s c.1) near f))
+    ]) cs a
 
 -- ---- an answer
 
@@ -169,14 +251,7 @@ module _ (M : Map) (m : IsMap M) (P : Path) (is : IsTrue (is_path P.lines)) (non
     (r : Reference) (e : Encoding M P (Points r)) where
   pub same_path : (Q : Path → List ℕ → Type 0) → OfPath M P (λ E _ _ js. Q E js) →
       Q (extended_path M P e.before e.after) e.points
-  same_path Q p =
-      let same =
-      one_extension M m P is none e.before e.after e.points p.before p.after p.points e.tried e.follow p.tried p.follow
-      in
-      let back : extended_path M P p.before p.after ≡ extended_path M P e.before e.after =
-      sym (λ k. extended_path M P (same.0 k) (same.1 k)) in
-      subst (λ (E : Path). Q E e.points) back
-      (subst (λ (js : List ℕ). Q (extended_path M P p.before p.after) js) (sym same.2) p.holds)
+  same_path Q p = path_at m is none e p
 
   -- the extended path, its LRPs, and those that remain
   abbrev pub Lines : List ℕ
@@ -230,8 +305,7 @@ module _ (M : Map) (m : IsMap M) (P : Path) (is : IsTrue (is_path P.lines)) (non
       let s = extended_sound M P is none e.before e.after e.tried in
       let ans = answered M E e.points r e.holds in
       let ends = kept_ends M Lines e.points E.pos E.neg e.follow ans.0 s.long in
-      let two = two_kept M Lines e.points E.pos E.neg e.follow ans.0 s.long in
-      let t = two_of Kept a b ends.0 ends.1 two in
+      let t = two_of Kept a b ends.0 ends.1 (two_kept M Lines e.points E.pos E.neg e.follow ans.0 s.long) in
       let fields_are : r ≡ reference_by_kept gs p q t.0 t.1 t.2 = ans.1 ∙ ap (reference_by gs p q) t.3 in
       let count = middle_count gs t.0 t.1 t.2 in
       let length_is = ap (λ (ks : List ℕ). length ks) t.3 in
@@ -247,23 +321,15 @@ module _ (M : Map) (m : IsMap M) (P : Path) (is : IsTrue (is_path P.lines)) (non
         size = omega arith;
       }
 
-  recovered_by : (R : Receiver) → Distinct R.far M P r → (ws : List (List ℕ)) →
-      Recovers R M r ws ↔ (ws ≡ stretches Lines Kept)
+  recovered_by : (R : Receiver) → Distinct R.far M P r → (ws : List (List ℕ)) → Recovers R M r ws ↔ (ws ≡ stretches Lines Kept)
   recovered_by R d ws =
-      let gs = legs M Lines in
       let f = form in
       let s = extended_sound M P is none e.before e.after e.tried in
       let once = extended_once M P e.before e.after is e.tried in
-      let size = f.size in
-      let ks = f.h ∷ f.i ∷ f.js in
-      let owns : Owns R M Lines r 0 ks =
-      subst (Owns R M Lines r 0) f.kept (owns_from R d 0 Kept (λ n. let z : 0 + n ≡ n = omega arith in
-      ap (slice_get Kept) z) (omega arith)) in
-      let by_kept =
-      recovers_kept R M m Lines s.known once Front Back f.h f.i f.js f.linked
-      (subst (λ (v : Reference). Owns R M Lines v 0 ks) f.fields_are owns) ws in
-      subst (λ (ns : List ℕ). Recovers R M r ws ↔ (ws ≡ stretches Lines ns)) (sym f.kept)
-      (subst (λ (v : Reference). Recovers R M v ws ↔ (ws ≡ stretches Lines ks)) (sym f.fields_are) by_kept)
+      let all = owns_from R d 0 Kept (λ n. let z : 0 + n ≡ n = omega arith in ap (slice_get Kept) z) (omega arith) in
+      let by_kept = recovers_kept R M m Lines s.known once Front Back f.h f.i f.js f.linked
+      (coe 0 1 (i. Owns R M Lines (f.fields_are i) 0 (f.kept i)) all) ws in
+      coe 1 0 (i. Recovers R M (f.fields_are i) ws ↔ (ws ≡ stretches Lines (f.kept i))) by_kept
 
   recovered_of : (R : Receiver) → Distinct R.far M P r → (ws : List (List ℕ)) → Recovers R M r ws ↔ IsStretches M P ws
   recovered_of R d ws =
@@ -272,8 +338,82 @@ module _ (M : Map) (m : IsMap M) (P : Path) (is : IsTrue (is_path P.lines)) (non
         (λ p. by.1 (same_path (λ E js. ws ≡ stretches E.lines (kept_points (legs M E.lines) E.pos E.neg js)) p)),
       )
 
-pub recovered : (R : Receiver) (M : Map) → IsMap M → (P : Path) → IsTrue (is_path P.lines) → (r : Reference) →
-    Encodes M P (Points r) → Distinct R.far M P r → (ws : List (List ℕ)) → Recovers R M r ws ↔ IsStretches M P ws
+  known_lines : Each (Known M) Lines
+  known_lines = (extended_sound M P is none e.before e.after e.tried).known
+
+  stretches_are : (ws : List (List ℕ)) → IsStretches M P ws → ws ≡ stretches Lines (form.h ∷ form.i ∷ form.js)
+  stretches_are ws s =
+      same_path (λ E js. ws ≡ stretches E.lines (kept_points (legs M E.lines) E.pos E.neg js)) s
+      ∙ ap (stretches Lines) form.kept
+
+  left_is : (front back : ℕ) → IsLeft M P front back → (front ≡ Front) × (back ≡ Back)
+  left_is front back =
+      same_path (λ E js. (front ≡ E.pos - from_front (legs M E.lines) (first_kept (legs M E.lines) E.pos js))
+      × (back ≡ E.neg - to_back (legs M E.lines) (last_kept (legs M E.lines) E.neg js)))
+
+  fronts : (ws : List (List ℕ)) → IsStretches M P ws → (front back : ℕ) → IsLeft M P front back → (n : ℕ) → 0 < n →
+      (c : ℕ) → IsCut n (first (map (dm_of M) ws)) r.pos c → IsClose n (first (map (dm_of M) ws)) front c
+  fronts ws s front back l n some c k =
+      let are = stretches_are ws s in
+      coe 1 0 (i. IsClose n (first (map (dm_of M) (are i))) ((left_is front back l).0 i) c)
+      (front_cut M m Lines known_lines Front Back form.h form.i form.js form.linked n c some
+      (coe 0 1 (i. IsCut n (first (map (dm_of M) (are i))) (form.fields_are i).pos c) k))
+
+  backs : (ws : List (List ℕ)) → IsStretches M P ws → (front back : ℕ) → IsLeft M P front back → (n : ℕ) → 0 < n →
+      (c : ℕ) → IsCut n (last (map (dm_of M) ws)) r.neg c → IsClose n (last (map (dm_of M) ws)) back c
+  backs ws s front back l n some c k =
+      let are = stretches_are ws s in
+      coe 1 0 (i. IsClose n (last (map (dm_of M) (are i))) ((left_is front back l).1 i) c)
+      (back_cut M m Lines known_lines Front Back form.h form.i form.js form.linked n c some
+      (coe 0 1 (i. IsCut n (last (map (dm_of M) (are i))) (form.fields_are i).neg c) k))
+
+  all_steps : (ws : List (List ℕ)) → IsStretches M P ws → AllZip (λ a w. IsStep a (dm_of M w)) (attributes r) ws
+  all_steps ws s =
+      coe 1 0 (i. AllZip (λ a w. IsStep a (dm_of M w)) (attributes (form.fields_are i)) (stretches_are ws s i))
+      (steps_of M m Lines known_lines form.h form.i form.js)
+
+  -- ---- the nearest node
+
+  place_below : (k : ℕ) → k ≤ last_number r → k < length Kept
+  place_below k h = let size = form.size in omega arith
+
+  bounds : (k : ℕ) → k < last_number r →
+      (slice_index Kept k < slice_index Kept (k + 1)) × (slice_index Kept (k + 1) ≤ length Lines)
+  bounds k h =
+      let size = form.size in
+      let all = ap (λ (ks : List ℕ). length ks) form.kept in
+      coe 1 0 (i. (slice_index (form.kept i) k < slice_index (form.kept i) (k + 1))
+      × (slice_index (form.kept i) (k + 1) ≤ length Lines))
+      (linked_bounds M Lines (form.h ∷ form.i ∷ form.js) form.linked k (omega arith))
+
+  -- LRP k is decoded near the node of its line x
+  near_line : (s : Side) (k x : ℕ) → k ≤ last_number r → IsLineAt M P s k x →
+      ((i : ℕ) → slice_index Kept k ≡ i → coord_at M (node_at M Lines i) ≡ coordinate_on s (leg M (line_by s Lines i))) →
+      IsNear k (decoded_coord r k) (coordinate_on s (leg M x))
+  near_line s k x h at on =
+      let there = same_path (λ E js. option_map (line_by s E.lines) (slice_get (kept_points (legs M E.lines) E.pos E.neg js) k)
+      ≡ Some x) at in
+      let near = (answer_decodes M P is none r e).near k (place_below k h) in
+      let some = (extended_sound M P is none e.before e.after e.tried).size in
+      let place_is = position_is M m Lines known_lines (slice_index Kept k) some ∙ on (slice_index Kept k) refl
+      ∙ ap (λ (y : ℕ). coordinate_on s (leg M y)) (got_index (line_by s Lines) Kept k x there).1 in
+      coe 0 1 (i. IsNear k (sym (ap (λ (o : Option (ℤ × ℤ)). unwrap_or o (pos 0, pos 0)) near.1) i) (place_is i)) near.2
+
+  near_out : (k x : ℕ) → k < last_number r → IsLineAt M P Outgoing k x → IsNear k (decoded_coord r k) (leg M x).begin
+  near_out k x h at =
+      let b = bounds k h in
+      near_line Outgoing k x (omega arith) at
+      (λ i is_i. ap (coord_at M) (at_start M Lines i (omega (arith, is_i, b.0, b.1))))
+
+  near_in : (x : ℕ) → IsLineAt M P Incoming (last_number r) x →
+      IsNear (last_number r) (decoded_coord r (last_number r)) (leg M x).finish
+  near_in x at =
+      let b = bounds (length r.middle) (omega arith) in
+      near_line Incoming (last_number r) x (omega arith) at
+      (λ i is_i. ap (coord_at M) (at_end M m Lines known_lines
+      (extended_joined M P is none e.before e.after e.tried) i (omega (arith, is_i, b.0)) (omega (arith, is_i, b.1))))
+
+pub recovered : Recovered
 recovered R M m P is r e d ws =
     let p = by_fault M P r (path_fault M P) refl e in
     recovered_of M m P is p.0 r p.1 R d ws
@@ -291,18 +431,36 @@ stretch_through ls p q t h k =
 joined : (M : Map) (ls ks : List ℕ) → Linked M ls ks → concat (stretches ls ks) ≡ stretch ls (first ks) (last ks)
 joined M ls [] l = sym (empty_stretch ls 0 0 (omega arith))
 joined M ls (p ∷ []) l = sym (empty_stretch ls p p (omega arith))
-joined M ls (p ∷ q ∷ ks) l =
-    let lt = l.0.after in
-    let top : q ≤ last (q ∷ ks) = linked_above M ls q ks l.1 (last (q ∷ ks)) (has_last (q ∷ ks) (omega arith)) in
-    ap (λ (xs : List ℕ). stretch ls p q ++ xs) (joined M ls (q ∷ ks) l.1)
-    ∙ stretch_through ls p q (last (q ∷ ks)) (omega arith) top
+joined M ls (p ∷ q ∷ ks) l = ap (λ (xs : List ℕ). stretch ls p q ++ xs) (joined M ls (q ∷ ks) l.1)
+    ∙ stretch_through ls p q (last (q ∷ ks)) (omega arith)
+    (linked_above M ls q ks l.1 (last (q ∷ ks)) (has_last (q ∷ ks) (omega arith)))
 
-pub stretches_join : (M : Map) (P : Path) (ws : List (List ℕ)) → IsStretches M P ws → IsKeptPart M P (concat ws)
+pub stretches_join : StretchesJoin
 stretches_join M P ws p =
     let E = extended_path M P p.before p.after in
     let gs = legs M E.lines in
     let ks = kept_points gs E.pos E.neg p.points in
-    let linked : Linked M E.lines ks =
-    kept_linked M E.lines (first_kept gs E.pos p.points) (last_kept gs E.neg p.points) (0 ∷ p.points)
+    let linked = kept_linked M E.lines (first_kept gs E.pos p.points) (last_kept gs E.neg p.points) (0 ∷ p.points)
     (follow_linked M E.lines 0 p.points p.follow) in
     path_also p (ap concat p.holds ∙ joined M E.lines ks linked)
+
+pub offsets_close : Offsets
+offsets_close M m P is r e ws s front back l n some =
+    let p = by_fault M P r (path_fault M P) refl e in
+    (fronts M m P is p.0 r p.1 ws s front back l n some, backs M m P is p.0 r p.1 ws s front back l n some)
+
+pub steps_close : Distances
+steps_close M m P is r e ws s =
+    let p = by_fault M P r (path_fault M P) refl e in
+    all_steps M m P is p.0 r p.1 ws s
+
+pub nearest_own : Nearest
+nearest_own M m P is r e n d scale far w =
+    let p = by_fault M P r (path_fault M P) refl e in (
+      (λ k x h at a.
+          spaced_nearest n d scale far w k (decoded_coord r k) Outgoing (leg M x) (near_out M m P is p.0 r p.1 k x h at)
+          (candidates M) a),
+      (λ x at a.
+          spaced_nearest n d scale far w (last_number r) (decoded_coord r (last_number r)) Incoming (leg M x)
+          (near_in M m P is p.0 r p.1 x at) (candidates M) a),
+    )

@@ -1,11 +1,13 @@
 -- Routes, and the shortest path.
-use Rattle.std.proofs.Common.{◌≡◌, ◌≢◌, ℕ, ◌+◌, ◌<◌, ◌≤◌, List, [], ◌∷◌, ◌++◌, reverse, inl, inr, refl, sym, ap, ◌∙◌}
-use Rattle.std.proofs.Common.{subst, arith, IsTrue}
+use Rattle.std.proofs.Common.{◌≡◌, ◌≢◌, ℕ, ◌+◌, ◌<◌, ◌≤◌, List, [], ◌∷◌, ◌++◌, reverse, inl, inr, refl, sym, ap, ◌∙◌, subst}
+use Rattle.std.proofs.Common.{arith, IsTrue}
 use Rattle.std.proofs.lemmas.Bool.{cases_order, and_parts}
 use Rattle.std.proofs.lemmas.Bool.Decides.{nat_tests}
 use Rattle.std.proofs.lemmas.List.{reverse-append, reverse-reverse, append_cancel_right}
 use Rattle.olr_spec.specs.Map.{Map, IsMap, Line, is_good, has_node, has_line, end, dm, line_at}
-use Rattle.olr_spec.specs.Routes.{IsRoute, dm_of, FirstSmaller, PrecedesInTieOrder, Least, UniqueShortest}
+use Rattle.olr_spec.specs.Routes.{IsRoute, dm_of, FirstSmaller, PrecedesInTieOrder}
+use Rattle.olr_spec.specs.Laws.{NoLongerSuffix, OneLeast, PrefixOfLeast, EmptyIsLeast, EmptyIsUnique, UniqueIsLeast}
+use Rattle.olr_spec.specs.Laws.{PrefixOfUnique}
 
 good_length : (l : Line) → IsTrue (is_good l) → 0 < l.len
 good_length l h = grind (arith, nat_tests, and_parts)
@@ -26,9 +28,8 @@ pub dm_of-append : (M : Map) (xs ys : List ℕ) → dm_of M (xs ++ ys) ≡ dm_of
 dm_of-append M [] ys = omega arith
 dm_of-append M (x ∷ xs) ys = omega (arith, dm_of-append M xs ys)
 
-pub IsRoute-append : (M : Map) (s v t : ℕ) (xs ys : List ℕ) → IsRoute M s v xs → IsRoute M v t ys →
-    IsRoute M s t (xs ++ ys)
-IsRoute-append M s v t [] ys w u = subst (λ (n : ℕ). IsRoute M n t ys) (sym w) u
+pub IsRoute-append : (M : Map) (s v t : ℕ) (xs ys : List ℕ) → IsRoute M s v xs → IsRoute M v t ys → IsRoute M s t (xs ++ ys)
+IsRoute-append M s v t [] ys w u = coe 1 0 (i. IsRoute M (w i) t ys) u
 IsRoute-append M s v t (x ∷ xs) ys w u = (w.0, w.1, IsRoute-append M (end M x) v t xs ys w.2 u)
 
 -- a route to a node of the map starts at a node of the map
@@ -42,10 +43,9 @@ pub IsRoute-split : (M : Map) (s t : ℕ) (xs ys : List ℕ) → IsRoute M s t (
 IsRoute-split M s t [] ys w = (s, refl, w)
 IsRoute-split M s t (x ∷ xs) ys w = let r = IsRoute-split M (end M x) t xs ys w.2 in (r.0, (w.0, w.1, r.1), r.2)
 
-pub longer : (M : Map) → IsMap M → (s t : ℕ) (front xs : List ℕ) → IsRoute M s t (front ++ xs) →
-    dm_of M (front ++ xs) ≡ dm_of M xs → front ≡ []
+pub longer : NoLongerSuffix
 longer M m s t [] xs w e = refl
-longer M m s t (x ∷ front) xs w e = let p = positive M m x w.0 in absurd (omega (arith, dm_of-append M front xs))
+longer M m s t (x ∷ front) xs w e = absurd (omega (arith, positive M m x w.0, dm_of-append M front xs))
 
 -- ---- the first difference
 
@@ -66,9 +66,8 @@ compare_lists : (xs ys : List ℕ) → Compared xs ys
 compare_lists [] ys = shorter ys refl
 compare_lists (x ∷ xs) [] = as_long (x ∷ xs) refl
 compare_lists (x ∷ xs) (y ∷ ys) =
-    let rest = compare_lists xs ys in
     elim (cases_order x y) [
-      | inl e ↦ subst (λ (z : ℕ). Compared (x ∷ xs) (z ∷ ys)) e (cons_compared x xs ys rest)
+      | inl e ↦ subst (λ (z : ℕ). Compared (x ∷ xs) (z ∷ ys)) e (cons_compared x xs ys (compare_lists xs ys))
       | inr o ↦ elim o [ inl h ↦ below (inl h) | inr h ↦ above (inl h) ]
     ]
 
@@ -91,30 +90,25 @@ pub not_before_itself : (M : Map) (xs : List ℕ) → ¬ PrecedesInTieOrder M xs
 not_before_itself M xs (inl h) = absurd (omega arith)
 not_before_itself M xs (inr h) = not_self (reverse xs) h.1
 
+-- a route that ends as an equally long one does is this one
+same_end : (M : Map) → IsMap M → (s t : ℕ) (xs ys rest : List ℕ) → reverse ys ≡ reverse xs ++ rest → IsRoute M s t ys →
+    dm_of M ys ≡ dm_of M xs → ys ≡ xs
+same_end M m s t xs ys rest is w e =
+    let split = sym (reverse-reverse ys) ∙ ap (λ (zs : List ℕ). reverse zs) is ∙ reverse-append (reverse xs) rest
+    ∙ ap (λ (zs : List ℕ). reverse rest ++ zs) (reverse-reverse xs) in
+    let none = longer M m s t (reverse rest) xs (coe 0 1 (i. IsRoute M s t (split i)) w) (ap (dm_of M) (sym split) ∙ e) in
+    split ∙ ap (λ (zs : List ℕ). zs ++ xs) none
+
 -- of two equally long routes one precedes the other, or they are the same
 equally_long : (M : Map) → IsMap M → (s t : ℕ) (xs ys : List ℕ) → IsRoute M s t xs → IsRoute M s t ys →
     dm_of M xs ≡ dm_of M ys → ¬ PrecedesInTieOrder M xs ys → ¬ PrecedesInTieOrder M ys xs →
     Compared (reverse xs) (reverse ys) → xs ≡ ys
 equally_long M m s t xs ys w u e a b (below h) = absurd (a (inr (e, h)))
 equally_long M m s t xs ys w u e a b (above h) = absurd (b (inr (sym e, h)))
-equally_long M m s t xs ys w u e a b (shorter rest is) =
-    let split : ys ≡ reverse rest ++ xs =
-    sym (reverse-reverse ys) ∙ ap (λ (zs : List ℕ). reverse zs) is ∙ reverse-append (reverse xs) rest
-    ∙ ap (λ (zs : List ℕ). reverse rest ++ zs) (reverse-reverse xs) in
-    let none =
-    longer M m s t (reverse rest) xs (subst (λ (zs : List ℕ). IsRoute M s t zs) split u)
-    (ap (dm_of M) (sym split) ∙ sym e) in
-    sym (split ∙ ap (λ (zs : List ℕ). zs ++ xs) none)
-equally_long M m s t xs ys w u e a b (as_long rest is) =
-    let split : xs ≡ reverse rest ++ ys =
-    sym (reverse-reverse xs) ∙ ap (λ (zs : List ℕ). reverse zs) is ∙ reverse-append (reverse ys) rest
-    ∙ ap (λ (zs : List ℕ). reverse rest ++ zs) (reverse-reverse ys) in
-    let none =
-    longer M m s t (reverse rest) ys (subst (λ (zs : List ℕ). IsRoute M s t zs) split w) (ap (dm_of M) (sym split) ∙ e)
-    in
-    split ∙ ap (λ (zs : List ℕ). zs ++ ys) none
+equally_long M m s t xs ys w u e a b (shorter rest is) = sym (same_end M m s t xs ys rest is u (sym e))
+equally_long M m s t xs ys w u e a b (as_long rest is) = same_end M m s t ys xs rest is w e
 
-pub one_least : (M : Map) → IsMap M → (s t : ℕ) (xs ys : List ℕ) → Least M s t xs → Least M s t ys → xs ≡ ys
+pub one_least : OneLeast
 one_least M m s t xs ys l k =
     elim (cases_order (dm_of M xs) (dm_of M ys)) [
       | inl e ↦ equally_long M m s t xs ys l.route k.route e (k.first xs l.route) (l.first ys k.route)
@@ -126,15 +120,12 @@ PrecedesInTieOrder-append : (M : Map) (xs ys zs : List ℕ) → PrecedesInTieOrd
     PrecedesInTieOrder M (xs ++ zs) (ys ++ zs)
 PrecedesInTieOrder-append M xs ys zs (inl h) = inl (omega (arith, dm_of-append M xs zs, dm_of-append M ys zs))
 PrecedesInTieOrder-append M xs ys zs (inr h) =
-    let e = h.0 in
     inr (
       omega (arith, dm_of-append M xs zs, dm_of-append M ys zs),
       rw (reverse-append xs zs, reverse-append ys zs) (with_front (reverse zs) (reverse xs) (reverse ys) h.1),
     )
 
-pub prefix_of_least : (M : Map) (s v t : ℕ) (xs ys : List ℕ) → Least M s t (xs ++ ys) → IsRoute M s v xs →
-    IsRoute M v t ys →
-    Least M s v xs
+pub prefix_of_least : PrefixOfLeast
 prefix_of_least M s v t xs ys l w u =
     record {
       route = w;
@@ -142,7 +133,7 @@ prefix_of_least M s v t xs ys l w u =
           (PrecedesInTieOrder-append M zs xs ys b);
     }
 
-pub empty_least : (M : Map) (s : ℕ) → Least M s s []
+pub empty_least : EmptyIsLeast
 empty_least M s =
     record {
       route = refl;
@@ -152,26 +143,23 @@ empty_least M s =
 
 -- ---- the unique shortest path
 
-pub empty_unique : (M : Map) → IsMap M → (s : ℕ) → UniqueShortest M s s []
+pub empty_unique : EmptyIsUnique
 empty_unique M m s = record { route = refl; others = λ ys w ne. nonempty ys w ne }
   where
     nonempty : (ys : List ℕ) → IsRoute M s s ys → ys ≢ [] → 0 < dm_of M ys
     nonempty [] w ne = absurd (ne refl)
-    nonempty (y ∷ ys) w ne = let p = positive M m y w.0 in omega arith
+    nonempty (y ∷ ys) w ne = omega (arith, positive M m y w.0)
 
-pub unique_least : (M : Map) (s t : ℕ) (xs : List ℕ) → UniqueShortest M s t xs → Least M s t xs
+pub unique_least : UniqueIsLeast
 unique_least M s t xs o =
     record {
       route = o.route;
       first = λ ys w b.
-          let h = o.others ys w (λ e. not_before_itself M xs (subst (λ (zs : List ℕ). PrecedesInTieOrder M zs xs) e b))
-          in
-          elim b [ inl k ↦ absurd (omega arith) | inr k ↦ let e = k.0 in absurd (omega arith) ];
+          let h = o.others ys w (λ e. not_before_itself M xs (coe 0 1 (i. PrecedesInTieOrder M (e i) xs) b)) in
+          elim b [ inl k ↦ absurd (omega arith) | inr k ↦ absurd (omega arith) ];
     }
 
-pub prefix_of_unique : (M : Map) (s v t : ℕ) (xs ys : List ℕ) → UniqueShortest M s t (xs ++ ys) → IsRoute M s v xs →
-    IsRoute M v t ys →
-    UniqueShortest M s v xs
+pub prefix_of_unique : PrefixOfUnique
 prefix_of_unique M s v t xs ys o w u =
     record {
       route = w;

@@ -1,9 +1,11 @@
 -- Unique shortest paths within a length are the same on two maps that agree around each node that a route within this
--- length reaches.
-use Rattle.std.proofs.Common.{inl, inr, ◌≡◌, ℕ, ◌+◌, List, [], ◌∷◌, ◌++◌, ◌≤◌, refl, sym, ◌∙◌, subst, arith}
+-- length reaches, or where no changed line offers a detour.
+use Rattle.std.proofs.Common.{inl, inr, ◌≡◌, ℕ, ◌+◌, List, [], ◌∷◌, ◌++◌, ◌≤◌, ◌↔◌, IsTrue, refl, sym, ◌∙◌, arith, ◌⊎◌}
+use Rattle.std.proofs.Common.{Contains, true, false, ◌-◌}
 use Rattle.std.proofs.lemmas.Bool.{cases_lt}
-use Rattle.olr_spec.specs.Map.{Map, end, dm, SameLine, SameRound}
+use Rattle.olr_spec.specs.Map.{Map, has_line, start, end, SameLine, SameRound, dm, has}
 use Rattle.olr_spec.specs.Routes.{IsRoute, dm_of, Reaches, UniqueShortest}
+use Rattle.olr_spec.specs.Detours.{ChangedLine, IsChangedLine, AccountsFor, Detour, Near}
 use Rattle.olr_spec.proofs.RouteLemmas.{IsRoute-append, dm_of-append}
 use Rattle.olr_spec.proofs.ListLemmas.{Each, Each-nil, Each-cons, Each-head, Each-tail}
 use Rattle.olr_spec.proofs.AgreeLemmas.{turned_round, by_leaving, same_known, same_start, same_end, same_dm, same_dm_of}
@@ -15,86 +17,201 @@ pub IsRoute-moves : (M N : Map) (s t : ℕ) (xs : List ℕ) → Each (SameLine M
 IsRoute-moves M N s t [] h w = w
 IsRoute-moves M N s t (x ∷ xs) h w =
     let e = Each-head (SameLine M N) x xs h in
-    let rest : IsRoute N (end N x) t xs =
-    subst (λ (n : ℕ). IsRoute N n t xs) (same_end M N x e)
+    let rest : IsRoute N (end N x) t xs = coe 0 1 (i. IsRoute N (same_end M N x e i) t xs)
     (IsRoute-moves M N (end M x) t xs (Each-tail (SameLine M N) x xs h) w.2) in
     (sym (same_known M N x e) ∙ w.0, sym (same_start M N x e) ∙ w.1, rest)
 
+-- the routes from s to t of at most d have the same lines on both maps
+abbrev pub SameRoutes : Map → Map → ℕ → ℕ → ℕ → Type 0
+SameRoutes M N s t d = (xs : List ℕ) → IsRoute M s t xs → dm_of M xs ≤ d → Each (SameLine M N) xs
+
+pub route_moves : (M N : Map) (s t d : ℕ) → SameRoutes M N s t d → (xs : List ℕ) → IsRoute M s t xs × (dm_of M xs ≤ d) →
+    IsRoute N s t xs × (dm_of N xs ≤ d)
+route_moves M N s t d same xs w =
+    let each = same xs w.0 w.1 in
+    (IsRoute-moves M N s t xs each w.0, omega (arith, same_dm_of M N xs each))
+
+unique_moves : (M N : Map) (s t d : ℕ) → SameRoutes M N s t d → SameRoutes N M s t d → (xs : List ℕ) → dm_of M xs ≤ d →
+    UniqueShortest M s t xs → UniqueShortest N s t xs
+unique_moves M N s t d there back xs h unique =
+    let each = there xs unique.route h in
+    let e = same_dm_of M N xs each in
+    record {
+      route = IsRoute-moves M N s t xs each unique.route;
+      others = λ ys w other. elim (cases_lt (dm_of N xs) (dm_of N ys)) [
+        | inl longer ↦ longer
+        | inr short ↦
+            let same = back ys w (omega arith) in
+            absurd (omega (arith, same_dm_of N M ys same, unique.others ys (IsRoute-moves N M s t ys same w) other))
+      ];
+    }
+
+pub unique_same : (M N : Map) (s t d : ℕ) → SameRoutes M N s t d → SameRoutes N M s t d → (xs : List ℕ) →
+    dm_of M xs ≡ dm_of N xs → dm_of M xs ≤ d → UniqueShortest M s t xs ↔ UniqueShortest N s t xs
+unique_same M N s t d there back xs e h =
+    (unique_moves M N s t d there back xs h, unique_moves N M s t d back there xs (omega arith))
+
 module _ (M N : Map) (s limit : ℕ) (round : (v : ℕ) → Reaches M s limit v → SameRound M N v) where
-  -- a route of the first map that continues from a node within reach
-  onward : (v t : ℕ) (front xs : List ℕ) → IsRoute M s v front → IsRoute M v t xs → dm_of M front + dm_of M xs ≤ limit →
+  -- a route of K that continues from a node within reach, where K is one of both maps
+  onward : (K : Map) → ((v x : ℕ) → SameRound M N v → IsTrue (has_line K x) → start K x ≡ v → SameLine M N x × SameLine K M x)
+      → (v t : ℕ) (front xs : List ℕ) → IsRoute M s v front → IsRoute K v t xs → dm_of M front + dm_of K xs ≤ limit →
       Each (SameLine M N) xs
-  onward v t front [] p w h = Each-nil (SameLine M N)
-  onward v t front (x ∷ xs) p w h =
-      let is : SameLine M N x = by_leaving M N v x (round v (front, p, omega arith)) w.0 w.1 in
-      let step : IsRoute M s (end M x) (front ++ x ∷ []) = IsRoute-append M s v (end M x) front (x ∷ []) p
-      (w.0, w.1, refl) in
-      Each-cons (SameLine M N) x xs is
-      (onward (end M x) t (front ++ x ∷ []) xs step w.2 (omega (arith, dm_of-append M front (x ∷ []))))
+  onward K same v t front [] p w h = Each-nil (SameLine M N)
+  onward K same v t front (x ∷ xs) p w h =
+      let is = same v x (round v (front, p, omega arith)) w.0 w.1 in
+      let one : IsRoute M v (end M x) (x ∷ []) = (sym (same_known K M x is.1) ∙ w.0, sym (same_start K M x is.1) ∙ w.1, refl) in
+      Each-cons (SameLine M N) x xs is.0
+      (onward K same (end M x) t (front ++ x ∷ []) xs (IsRoute-append M s v (end M x) front (x ∷ []) p one)
+      (coe 0 1 (i. IsRoute K (same_end K M x is.1 i) t xs) w.2)
+      (omega (arith, same_dm K M x is.1, dm_of-append M front (x ∷ []))))
 
-  -- a route of the second map that continues from a node within reach
-  onward_other : (v t : ℕ) (front xs : List ℕ) → IsRoute M s v front → IsRoute N v t xs →
-      dm_of M front + dm_of N xs ≤ limit →
-      Each (SameLine M N) xs
-  onward_other v t front [] p w h = Each-nil (SameLine M N)
-  onward_other v t front (x ∷ xs) p w h =
-      let is : SameLine M N x =
-      sym (by_leaving N M v x (turned_round M N v (round v (front, p, omega arith))) w.0 w.1) in
-      let step : IsRoute M s (end M x) (front ++ x ∷ []) =
-      IsRoute-append M s v (end M x) front (x ∷ []) p (same_known M N x is ∙ w.0, same_start M N x is ∙ w.1, refl) in
-      let rest : IsRoute N (end M x) t xs = subst (λ (n : ℕ). IsRoute N n t xs) (sym (same_end M N x is)) w.2 in
-      let long : dm M x ≡ dm N x = same_dm M N x is in
-      Each-cons (SameLine M N) x xs is
-      (onward_other (end M x) t (front ++ x ∷ []) xs step rest (omega (arith, dm_of-append M front (x ∷ []))))
+  pub within : (t : ℕ) → SameRoutes M N s t limit
+  within t xs w h = onward M (λ v x r k e. (by_leaving M N v x r k e, refl)) s t [] xs refl w (omega arith)
 
-  pub within : (t : ℕ) (xs : List ℕ) → IsRoute M s t xs → dm_of M xs ≤ limit → Each (SameLine M N) xs
-  within t xs w h = onward s t [] xs refl w (omega arith)
+  other : (v x : ℕ) → SameRound M N v → IsTrue (has_line N x) → start N x ≡ v → SameLine M N x × SameLine N M x
+  other v x r k e = let is = by_leaving N M v x (turned_round M N v r) k e in (sym is, is)
 
-  pub within_other : (t : ℕ) (xs : List ℕ) → IsRoute N s t xs → dm_of N xs ≤ limit → Each (SameLine M N) xs
-  within_other t xs w h = onward_other s t [] xs refl w (omega arith)
+  pub within_other : (t : ℕ) → SameRoutes N M s t limit
+  within_other t xs w h = turned_lines M N xs (onward N other s t [] xs refl w (omega arith))
 
   pub reach_moves : (v : ℕ) → Reaches M s limit v → Reaches N s limit v
-  reach_moves v r =
-      let each = within v r.0 r.1 r.2 in
-      let e = same_dm_of M N r.0 each in
-      let h : dm_of M r.0 ≤ limit = r.2 in
-      (r.0, IsRoute-moves M N s v r.0 each r.1, omega arith)
+  reach_moves v r = let p = route_moves M N s v limit (within v) r.0 (r.1, r.2) in (r.0, p.0, p.1)
 
   pub reach_back : (v : ℕ) → Reaches N s limit v → Reaches M s limit v
-  reach_back v r =
-      let each = within_other v r.0 r.1 r.2 in
-      let e = same_dm_of M N r.0 each in
-      let h : dm_of N r.0 ≤ limit = r.2 in
-      (r.0, IsRoute-moves N M s v r.0 (turned_lines M N r.0 each) r.1, omega arith)
+  reach_back v r = let p = route_moves N M s v limit (within_other v) r.0 (r.1, r.2) in (r.0, p.0, p.1)
 
-  pub unique_moves : (t : ℕ) (xs : List ℕ) → dm_of M xs ≤ limit → UniqueShortest M s t xs → UniqueShortest N s t xs
-  unique_moves t xs h o =
-      let each = within t xs o.route h in
-      let e = same_dm_of M N xs each in
+abbrev pub detour_of : {M : Map} {C : List ChangedLine} {s t d : ℕ} (first last : ChangedLine) → Contains C first → Contains C
+    last → (before after : List ℕ) → IsRoute M s first.from before → IsRoute M last.to t after →
+    dm_of M before + first.len + dm_of M after ≤ d → Detour M C s t d
+detour_of first last f l before after leads returns h =
+    record {
+      first = first;
+      last = last;
+      first_listed = f;
+      last_listed = l;
+      before = before;
+      after = after;
+      leads = leads;
+      returns = returns;
+      within = h;
+    }
+
+-- after its last changed line a route is one of both maps
+record Rest (M N : Map) (C : List ChangedLine) (t d : ℕ) : Type 0 where
+  last : ChangedLine
+  listed : Contains C last
+  after : List ℕ
+  same : Each (SameLine M N) after
+  returns : IsRoute M last.to t after
+  within : dm_of M after ≤ d
+
+-- a detour of both maps
+record Parts (M N : Map) (C : List ChangedLine) (s t d : ℕ) : Type 0 where
+  detour : Detour M C s t d
+  before_same : Each (SameLine M N) detour.before
+  after_same : Each (SameLine M N) detour.after
+
+module _ (M N : Map) (C : List ChangedLine) (accounts : AccountsFor C M N) (t : ℕ) where
+  after_change : (d x : ℕ) (xs : List ℕ) → IsChangedLine C M x → IsRoute M (end M x) t xs → Each (SameLine M N) xs →
+      dm_of M xs ≤ d → Rest M N C t d
+  after_change d x xs c w each h =
       record {
-        route = IsRoute-moves M N s t xs each o.route;
-        others = λ ys w ne. elim (cases_lt (dm_of N xs) (dm_of N ys)) [
-          | inl lt ↦ lt
-          | inr le ↦
-              let others = within_other t ys w (omega arith) in
-              let f = same_dm_of M N ys others in
-              let lt = o.others ys (IsRoute-moves N M s t ys (turned_lines M N ys others) w) ne in
-              omega arith
-        ];
+        last = c.change;
+        listed = c.listed;
+        after = xs;
+        same = each;
+        returns = coe 1 0 (i. IsRoute M (c.to i) t xs) w;
+        within = h;
       }
 
-  pub unique_back : (t : ℕ) (xs : List ℕ) → dm_of N xs ≤ limit → UniqueShortest N s t xs → UniqueShortest M s t xs
-  unique_back t xs h o =
-      let each = within_other t xs o.route h in
-      let e = same_dm_of M N xs each in
-      record {
-        route = IsRoute-moves N M s t xs (turned_lines M N xs each) o.route;
-        others = λ ys w ne. elim (cases_lt (dm_of M xs) (dm_of M ys)) [
-          | inl lt ↦ lt
-          | inr le ↦
-              let others = within t ys w (omega arith) in
-              let f = same_dm_of M N ys others in
-              let lt = o.others ys (IsRoute-moves M N s t ys others w) ne in
-              omega arith
-        ];
-      }
+  rest_of : (s d : ℕ) (xs : List ℕ) → IsRoute M s t xs → dm_of M xs ≤ d → Each (SameLine M N) xs ⊎ Rest M N C t d
+  rest_of s d [] w h = inl (Each-nil (SameLine M N))
+  rest_of s d (x ∷ xs) w h =
+      elim (rest_of (end M x) d xs w.2 (omega arith)) [
+        | inr r ↦ inr r
+        | inl each ↦ elim (accounts x w.0) [
+          | inl is ↦ inl (Each-cons (SameLine M N) x xs is each)
+          | inr c ↦ inr (after_change d x xs c w.2 each (omega arith))
+        ]
+      ]
+
+  -- the parts of a route before its first changed line and after its last one
+  parts_of : (s d : ℕ) (xs : List ℕ) → IsRoute M s t xs → dm_of M xs ≤ d → Each (SameLine M N) xs ⊎ Parts M N C s t d
+  parts_of s d [] w h = inl (Each-nil (SameLine M N))
+  parts_of s d (x ∷ xs) w h =
+      let left : dm_of M xs ≤ d - dm M x = omega arith in
+      elim (accounts x w.0) [
+        | inl is ↦ elim (parts_of (end M x) (d - dm M x) xs w.2 left) [
+          | inl each ↦ inl (Each-cons (SameLine M N) x xs is each)
+          | inr p ↦ let o = p.detour in inr (record {
+            detour = detour_of o.first o.last o.first_listed o.last_listed (x ∷ o.before) o.after (w.0, w.1, o.leads)
+                o.returns (omega arith);
+            before_same = Each-cons (SameLine M N) x o.before is p.before_same;
+            after_same = p.after_same;
+          })
+        ]
+        | inr c ↦
+            let r : Rest M N C t (d - dm M x) = elim (rest_of (end M x) (d - dm M x) xs w.2 left) [
+              | inl each ↦ after_change (d - dm M x) x xs c w.2 each left
+              | inr r ↦ r
+            ] in
+            inr (record {
+              detour = detour_of c.change r.last c.listed r.listed [] r.after (sym w.1 ∙ sym c.from) r.returns (omega arith);
+              before_same = Each-nil (SameLine M N);
+              after_same = r.same;
+            })
+      ]
+
+detour_there : (M N : Map) (C : List ChangedLine) (s t d : ℕ) → Parts M N C s t d → Detour N C s t d
+detour_there M N C s t d p =
+    let o = p.detour in
+    detour_of o.first o.last o.first_listed o.last_listed o.before o.after
+    (IsRoute-moves M N s o.first.from o.before p.before_same o.leads)
+    (IsRoute-moves M N o.last.to t o.after p.after_same o.returns)
+    (omega (arith, same_dm_of M N o.before p.before_same, same_dm_of M N o.after p.after_same))
+
+-- if N has no detour within d
+module _ (M N : Map) (C : List ChangedLine) (s t d : ℕ) (there : AccountsFor C M N) (here : AccountsFor C N M)
+    (clear : ¬ Detour N C s t d) where
+  pub same_there : SameRoutes M N s t d
+  same_there xs w h =
+      elim (parts_of M N C there t s d xs w h) [
+        | inl each ↦ each
+        | inr p ↦ absurd (clear (detour_there M N C s t d p))
+      ]
+
+  same_here : SameRoutes N M s t d
+  same_here xs w h = elim (parts_of N M C here t s d xs w h) [ inl each ↦ each | inr p ↦ absurd (clear p.detour) ]
+
+  pub routes_same : (xs : List ℕ) → (IsRoute M s t xs × (dm_of M xs ≤ d)) ↔ (IsRoute N s t xs × (dm_of N xs ≤ d))
+  routes_same xs = (route_moves M N s t d same_there xs, route_moves N M s t d same_here xs)
+
+  pub clear_unique : (xs : List ℕ) → dm_of M xs ≡ dm_of N xs → dm_of M xs ≤ d →
+      UniqueShortest M s t xs ↔ UniqueShortest N s t xs
+  clear_unique = unique_same M N s t d same_there same_here
+
+-- ---- near
+
+pub near_moves : (M N : Map) (T : List ℕ) → ((v : ℕ) → has T v ≡ false → SameRound M N v) → (s w d : ℕ) (xs : List ℕ)
+    → has T w ≡ true → IsRoute M s w xs → dm_of M xs ≤ d → Near N T s d
+near_moves M N T round s w d [] on route h =
+    record { node = s; route = []; touched = coe 1 0 (i. has T (route i) ≡ true) on; leads = refl; within = omega arith }
+near_moves M N T round s w d (x ∷ xs) on route h =
+    elim (has T s) as (λ b. has T s ≡ b → Near N T s d) [
+      | true ↦ λ e. record { node = s; route = []; touched = e; leads = refl; within = omega arith }
+      | false ↦ λ e.
+          let is : SameLine M N x = by_leaving M N s x (round s e) route.0 route.1 in
+          let n = near_moves M N T round (end M x) w (d - dm M x) xs on route.2 (omega arith) in
+          let rest = coe 0 1 (i. IsRoute N (same_end M N x is i) n.node n.route) n.leads in
+          record {
+            node = n.node;
+            route = x ∷ n.route;
+            touched = n.touched;
+            leads = (sym (same_known M N x is) ∙ route.0, sym (same_start M N x is) ∙ route.1, rest);
+            within = omega (arith, same_dm M N x is);
+          }
+    ] refl
+
+pub near_there : (M N : Map) (T : List ℕ) → ((v : ℕ) → has T v ≡ false → SameRound M N v) → (s d : ℕ) → Near M T s d
+    → Near N T s d
+near_there M N T round s d m = near_moves M N T round s m.node d m.route m.touched m.leads m.within

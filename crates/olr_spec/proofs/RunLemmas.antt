@@ -1,14 +1,15 @@
 -- From a degree-two node only one line leads on, so a run of such nodes is determined by its length.
-use Rattle.std.proofs.Common.{◌⊎◌, inl, inr, ◌≡◌, ◌≢◌, ℕ, ◌-◌, Bool, true, ◌&&◌, ◌||◌, List, [], ◌∷◌, ◌++◌, map, length}
-use Rattle.std.proofs.Common.{take, drop, ◌<◌, ◌≤◌, Option, Some, None, is_some, IsTrue, refl, sym, ap, ◌∙◌, subst}
-use Rattle.std.proofs.Common.{arith, ◌==◌, unwrap_or, length-drop, length-take, take-append-drop, append-nil}
-use Rattle.std.proofs.lemmas.Bool.{eq-eqb, cases_lt, and_parts}
+use Rattle.std.proofs.Common.{◌⊎◌, inl, inr, ◌≡◌, ◌≢◌, ℕ, ◌-◌, Bool, true, ◌&&◌, ◌||◌, List, [], ◌∷◌, ◌++◌, map, length, take}
+use Rattle.std.proofs.Common.{drop, ◌<◌, ◌≤◌, Option, Some, None, is_some, IsTrue, refl, sym, ap, ◌∙◌, subst, arith, ◌==◌}
+use Rattle.std.proofs.Common.{unwrap_or, length-drop, length-take, take-append-drop, append-nil, append_assoc}
+use Rattle.std.proofs.lemmas.Bool.{eq-eqb, cases_lt, and_parts, cond_both}
 use Rattle.std.proofs.lemmas.Bool.Decides.{nat_tests}
 use Rattle.std.specs.FinMap.{get}
 use Rattle.olr_spec.specs.Map.{Map, IsMap, Line, has_line, no_line, lines_in, lines_out, start, end, has}
 use Rattle.olr_spec.specs.Routes.{dm_of}
-use Rattle.olr_spec.specs.Extension.{passing, passes_between, apart, first, last, MayPrecede, MayFollow, StartRun}
-use Rattle.olr_spec.specs.Extension.{EndRun, LongestStart, LongestEnd, Tried, Path, from_start, taken_start, limit}
+use Rattle.olr_spec.specs.Extension.{passing, passes_between, apart, first, last, MayPrecede, MayFollow, StartRun, EndRun}
+use Rattle.olr_spec.specs.Extension.{LongestStart, LongestEnd, Tried, Path, from_start, taken_start, limit, extended_path}
+use Rattle.olr_spec.specs.Laws.{OneStartRun, OneEndRun}
 use Rattle.olr_spec.proofs.RouteLemmas.{positive, dm_of-append}
 use Rattle.olr_spec.proofs.MapLemmas.{has-lines_where, passes_at}
 
@@ -17,8 +18,7 @@ use Rattle.olr_spec.proofs.MapLemmas.{has-lines_where, passes_at}
 one_of_two : (a b x : ℕ) → has (a ∷ b ∷ []) x ≡ true → (x ≡ a) ⊎ (x ≡ b)
 one_of_two a b x h = grind (arith, nat_tests)
 
-same_pair : (u w p q : ℕ) → ((p == u && q == w) || (p == w && q == u)) ≡ true → ((p ≡ u) × (q ≡ w))
-    ⊎ ((p ≡ w) × (q ≡ u))
+same_pair : (u w p q : ℕ) → ((p == u && q == w) || (p == w && q == u)) ≡ true → ((p ≡ u) × (q ≡ w)) ⊎ ((p ≡ w) × (q ≡ u))
 same_pair u w p q h = grind (arith, nat_tests)
 
 -- of the lines that enter, only one doesn't come from the far end of a given line that leaves
@@ -72,12 +72,11 @@ one_precedes M ls x y k p q =
     (subst (λ (n : ℕ). passing M n ≡ true) p.joins p.through)
     (entering M v x p.known p.joins) (entering M v y q.known q.joins) (leaving M v (first ls) k refl) p.onward q.onward
 
-one_follows : (M : Map) (ls : List ℕ) (x y : ℕ) → IsTrue (has_line M (last ls)) → MayFollow M ls x → MayFollow M ls y →
-    x ≡ y
+one_follows : (M : Map) (ls : List ℕ) (x y : ℕ) → IsTrue (has_line M (last ls)) → MayFollow M ls x → MayFollow M ls y → x ≡ y
 one_follows M ls x y k p q =
     let v = end M (last ls) in
     one_way_out v (start M) (end M) (lines_in M v) (lines_out M v) x y (last ls)
-    (subst (λ (n : ℕ). passing M n ≡ true) p.joins p.through)
+    (coe 0 1 (i. passing M (p.joins i) ≡ true) p.through)
     (leaving M v x p.known p.joins) (leaving M v y q.known q.joins) (entering M v (last ls) k refl) p.onward q.onward
 
 pub last_push : (ls : List ℕ) (x : ℕ) → last (ls ++ x ∷ []) ≡ x
@@ -97,9 +96,7 @@ same_start_run M ls [] (y ∷ d) k p q e = absurd (omega arith)
 same_start_run M ls (x ∷ c) [] k p q e = absurd (omega arith)
 same_start_run M ls (x ∷ c) (y ∷ d) k p q e =
     let rest : c ≡ d = same_start_run M ls c d k p.1 q.1 (omega arith) in
-    let is : x ≡ y =
-    one_precedes M (c ++ ls) x y (first_known M c ls p.1 k) p.0
-    (subst (λ (zs : List ℕ). MayPrecede M y (zs ++ ls)) (sym rest) q.0) in
+    let is = one_precedes M (c ++ ls) x y (first_known M c ls p.1 k) p.0 (coe 1 0 (i. MayPrecede M y ((rest i) ++ ls)) q.0) in
     λ i. is i ∷ rest i
 
 pub same_end_run : (M : Map) (ls c d : List ℕ) → IsTrue (has_line M (last ls)) → EndRun M ls c → EndRun M ls d →
@@ -109,11 +106,8 @@ same_end_run M ls [] (y ∷ d) k p q e = absurd (omega arith)
 same_end_run M ls (x ∷ c) [] k p q e = absurd (omega arith)
 same_end_run M ls (x ∷ c) (y ∷ d) k p q e =
     let is : x ≡ y = one_follows M ls x y k p.0 q.0 in
-    let known : IsTrue (has_line M (last (ls ++ x ∷ []))) =
-    subst (λ (n : ℕ). IsTrue (has_line M n)) (sym (last_push ls x)) p.0.known in
-    let rest : c ≡ d =
-    same_end_run M (ls ++ x ∷ []) c d known p.1 (subst (λ (n : ℕ). EndRun M (ls ++ n ∷ []) d) (sym is) q.1)
-    (omega arith) in
+    let known : IsTrue (has_line M (last (ls ++ x ∷ []))) = coe 1 0 (i. IsTrue (has_line M (last_push ls x i))) p.0.known in
+    let rest = same_end_run M (ls ++ x ∷ []) c d known p.1 (coe 1 0 (i. EndRun M (ls ++ (is i) ∷ []) d) q.1) (omega arith) in
     λ i. is i ∷ rest i
 
 -- ---- parts of runs
@@ -126,8 +120,7 @@ pub EndRun-front : (M : Map) (ls c back : List ℕ) → EndRun M ls (c ++ back) 
 EndRun-front M ls [] back h = tt
 EndRun-front M ls (x ∷ c) back h = (h.0, EndRun-front M (ls ++ x ∷ []) c back h.1)
 
-EndRun-back : (M : Map) (ls c : List ℕ) (x : ℕ) (back : List ℕ) → EndRun M ls (c ++ x ∷ back) →
-    IsTrue (has_line M x)
+EndRun-back : (M : Map) (ls c : List ℕ) (x : ℕ) (back : List ℕ) → EndRun M ls (c ++ x ∷ back) → IsTrue (has_line M x)
 EndRun-back M ls [] x back h = h.0.known
 EndRun-back M ls (y ∷ c) x back h = EndRun-back M (ls ++ y ∷ []) c x back h.1
 
@@ -141,8 +134,7 @@ pub start_suffix : (M : Map) (ls c d : List ℕ) → IsTrue (has_line M (first l
 start_suffix M ls c d k p q h =
     let n = length d - length c in
     let parts : take n d ++ drop n d ≡ d = take-append-drop n d in
-    let back : StartRun M (drop n d) ls =
-    StartRun-back M ls (take n d) (drop n d) (subst (λ (zs : List ℕ). StartRun M zs ls) (sym parts) q) in
+    let back : StartRun M (drop n d) ls = StartRun-back M ls (take n d) (drop n d) (coe 1 0 (i. StartRun M (parts i) ls) q) in
     let same : c ≡ drop n d = same_start_run M ls c (drop n d) k p back (sym (back_of (length c) d h)) in
     (take n d, sym parts ∙ ap (λ (zs : List ℕ). take n d ++ zs) (sym same))
 
@@ -151,8 +143,7 @@ pub end_prefix : (M : Map) (ls c d : List ℕ) → IsTrue (has_line M (last ls))
 end_prefix M ls c d k p q h =
     let n = length c in
     let parts : take n d ++ drop n d ≡ d = take-append-drop n d in
-    let front : EndRun M ls (take n d) =
-    EndRun-front M ls (take n d) (drop n d) (subst (λ (zs : List ℕ). EndRun M ls zs) (sym parts) q) in
+    let front : EndRun M ls (take n d) = EndRun-front M ls (take n d) (drop n d) (coe 1 0 (i. EndRun M ls (parts i)) q) in
     let same : c ≡ take n d = same_end_run M ls c (take n d) k p front (omega (arith, length-take n d)) in
     (drop n d, sym parts ∙ ap (λ (zs : List ℕ). zs ++ drop n d) (sym same))
 
@@ -163,14 +154,12 @@ start_no_longer : (M : Map) → IsMap M → (ls front c d : List ℕ) → d ≡ 
 start_no_longer M m ls [] c d e q h = sym e
 start_no_longer M m ls (x ∷ front) c d e q h =
     let run : StartRun M (x ∷ (front ++ c)) ls = subst (λ (zs : List ℕ). StartRun M zs ls) e q in
-    let p = positive M m x run.0.known in
-    absurd (omega (arith, ap (dm_of M) e, dm_of-append M front c))
+    absurd (omega (arith, positive M m x run.0.known, ap (dm_of M) e, dm_of-append M front c))
 
-end_no_longer : (M : Map) → IsMap M → (ls c back d : List ℕ) → d ≡ c ++ back → EndRun M ls d → dm_of M d ≤ dm_of M c →
-    c ≡ d
+end_no_longer : (M : Map) → IsMap M → (ls c back d : List ℕ) → d ≡ c ++ back → EndRun M ls d → dm_of M d ≤ dm_of M c → c ≡ d
 end_no_longer M m ls c [] d e q h = sym (e ∙ append-nil c)
 end_no_longer M m ls c (x ∷ back) d e q h =
-    let p = positive M m x (EndRun-back M ls c x back (subst (λ (zs : List ℕ). EndRun M ls zs) e q)) in
+    let p = positive M m x (EndRun-back M ls c x back (coe 0 1 (i. EndRun M ls (e i)) q)) in
     absurd (omega (arith, ap (dm_of M) e, dm_of-append M c (x ∷ back)))
 
 pub longest_start : (M : Map) → IsMap M → (ls c d : List ℕ) → IsTrue (has_line M (first ls)) → LongestStart M c ls →
@@ -179,8 +168,7 @@ longest_start M m ls c d k p q w =
     elim (cases_lt (length c) (length d)) [
       | inl h ↦
           let r = start_suffix M ls c d k p.run q (omega arith) in
-          let e : c ≡ d = start_no_longer M m ls r.0 c d r.1 q (p.longest d q w) in
-          absurd (omega (arith, ap (λ (zs : List ℕ). length zs) e))
+          absurd (omega (arith, ap (λ (zs : List ℕ). length zs) (start_no_longer M m ls r.0 c d r.1 q (p.longest d q w))))
       | inr h ↦ start_suffix M ls d c k q p.run h
     ]
 
@@ -190,22 +178,15 @@ longest_end M m ls c d k p q w =
     elim (cases_lt (length c) (length d)) [
       | inl h ↦
           let r = end_prefix M ls c d k p.run q (omega arith) in
-          let e : c ≡ d = end_no_longer M m ls c r.0 d r.1 q (p.longest d q w) in
-          absurd (omega (arith, ap (λ (zs : List ℕ). length zs) e))
+          absurd (omega (arith, ap (λ (zs : List ℕ). length zs) (end_no_longer M m ls c r.0 d r.1 q (p.longest d q w))))
       | inr h ↦ end_prefix M ls d c k q p.run h
     ]
 
-pub one_start : (M : Map) → IsMap M → (ls c d : List ℕ) → IsTrue (has_line M (first ls)) → LongestStart M c ls →
-    LongestStart M d ls → c ≡ d
-one_start M m ls c d k p q =
-    let r = longest_start M m ls c d k p q.run q.within in
-    sym (start_no_longer M m ls r.0 d c r.1 p.run (q.longest c p.run p.within))
+pub one_start : OneStartRun
+one_start M m ls c d k p q = grind (arith, longest_start, start_no_longer)
 
-pub one_end : (M : Map) → IsMap M → (ls c d : List ℕ) → IsTrue (has_line M (last ls)) → LongestEnd M ls c →
-    LongestEnd M ls d → c ≡ d
-one_end M m ls c d k p q =
-    let r = longest_end M m ls c d k p q.run q.within in
-    sym (end_no_longer M m ls d r.0 c r.1 p.run (q.longest c p.run p.within))
+pub one_end : OneEndRun
+one_end M m ls c d k p q = grind (arith, longest_end, end_no_longer)
 
 -- ---- the path with its extended start
 
@@ -223,6 +204,21 @@ pub one_tried : (M : Map) → IsMap M → (P : Path) → 0 < length P.lines → 
     IsTrue (has_line M (last P.lines)) → (b a c d : List ℕ) → Tried M P b a → Tried M P c d → (b ≡ c) × (a ≡ d)
 one_tried M m P nonempty f l b a c d p q =
     let e : b ≡ c = one_start M m P.lines b c f p.before q.before in
-    let after : LongestEnd M (from_start M P b) d =
-    subst (λ (zs : List ℕ). LongestEnd M (from_start M P zs) d) (sym e) q.after in
+    let after : LongestEnd M (from_start M P b) d = coe 1 0 (i. LongestEnd M (from_start M P (e i)) d) q.after in
     (e, one_end M m (from_start M P b) a d (last_known M (taken_start M b P.lines) P.lines nonempty l) p.after after)
+
+-- ---- what holds of the extended path
+
+-- what lines that may precede or follow keep
+module _ (M : Map) (Q : List ℕ → Type 0) (front : (x : ℕ) (ls : List ℕ) → MayPrecede M x ls → Q ls → Q (x ∷ ls))
+    (back : (ls : List ℕ) (x : ℕ) → MayFollow M ls x → Q ls → Q (ls ++ x ∷ [])) where
+  start_keeps : (c ls : List ℕ) → StartRun M c ls → Q ls → Q (c ++ ls)
+  start_keeps [] ls s q = q
+  start_keeps (x ∷ c) ls s q = front x (c ++ ls) s.0 (start_keeps c ls s.1 q)
+
+  end_keeps : (ls c : List ℕ) → EndRun M ls c → Q ls → Q (ls ++ c)
+  end_keeps ls [] s q = subst Q (sym (append-nil ls)) q
+  end_keeps ls (x ∷ c) s q = subst Q (append_assoc ls (x ∷ []) c) (end_keeps (ls ++ x ∷ []) c s.1 (back ls x s.0 q))
+
+  pub extended_keeps : (P : Path) (b a : List ℕ) → Tried M P b a → Q P.lines → Q (extended_path M P b a).lines
+  extended_keeps P b a t q = grind (arith, cond_both, start_keeps, append-nil, end_keeps)

@@ -1,16 +1,16 @@
 -- The tried runs are the same on two maps that agree around their nodes.
-use Rattle.std.proofs.Common.{◌≡◌, ℕ, ◌+◌, List, [], ◌∷◌, ◌++◌, length, ◌<◌, ◌≤◌, IsTrue, refl, sym, ap, ◌∙◌, subst}
-use Rattle.std.proofs.Common.{arith, append_assoc, append-nil, length-append}
-use Rattle.olr_spec.specs.Map.{Map, IsMap, has_line, start, end, dm, SameLine, SameRound}
+use Rattle.std.proofs.Common.{◌≡◌, ℕ, ◌+◌, List, [], ◌∷◌, ◌++◌, length, ◌<◌, ◌≤◌, refl, sym, ap, ◌∙◌, subst, arith}
+use Rattle.std.proofs.Common.{append_assoc, append-nil, length-append}
+use Rattle.olr_spec.specs.Map.{Map, IsMap, start, end, SameLine}
 use Rattle.olr_spec.specs.Routes.{dm_of}
-use Rattle.olr_spec.specs.Extension.{passing, first, last, MayPrecede, MayFollow, StartRun, EndRun, LongestStart}
-use Rattle.olr_spec.specs.Extension.{LongestEnd, limit}
+use Rattle.olr_spec.specs.Extension.{passing, first, last, MayPrecede, MayFollow, StartRun, EndRun, LongestStart, LongestEnd}
+use Rattle.olr_spec.specs.Extension.{limit}
 use Rattle.olr_spec.proofs.RouteLemmas.{dm_of-append}
-use Rattle.olr_spec.proofs.ListLemmas.{Each, Each-nil, Each-cons, Each-head, Each-tail, Each-left, Each-right}
-use Rattle.olr_spec.proofs.ListLemmas.{Each-append, has_first, has_last}
+use Rattle.olr_spec.proofs.ListLemmas.{Each, Each-nil, Each-cons, Each-head, Each-tail, Each-left, Each-right, Each-append}
+use Rattle.olr_spec.proofs.ListLemmas.{has_first, has_last, Known, StartsSame, EndsSame}
 use Rattle.olr_spec.proofs.RunLemmas.{longest_start, longest_end}
-use Rattle.olr_spec.proofs.AgreeLemmas.{turned_round, by_entering, by_leaving, same_known, same_start, same_end}
-use Rattle.olr_spec.proofs.AgreeLemmas.{same_dm, same_dm_of, same_passing}
+use Rattle.olr_spec.proofs.AgreeLemmas.{turned_round, by_entering, by_leaving, same_known, same_start, same_end, same_dm}
+use Rattle.olr_spec.proofs.AgreeLemmas.{same_dm_of, same_passing}
 
 MayPrecede-moves : (M N : Map) (x : ℕ) (ls : List ℕ) → SameLine M N x → SameLine M N (first ls) →
     passing M (end M x) ≡ passing N (end M x) → MayPrecede M x ls → MayPrecede N x ls
@@ -34,14 +34,13 @@ MayFollow-moves M N ls x e f g p =
       fresh = p.fresh;
     }
 
-pub StartRun-known : (M : Map) (c ls : List ℕ) → StartRun M c ls → Each (λ x. IsTrue (has_line M x)) c
-StartRun-known M [] ls h = Each-nil (λ x. IsTrue (has_line M x))
-StartRun-known M (x ∷ c) ls h = Each-cons (λ y. IsTrue (has_line M y)) x c h.0.known (StartRun-known M c ls h.1)
+pub StartRun-known : (M : Map) (c ls : List ℕ) → StartRun M c ls → Each (Known M) c
+StartRun-known M [] ls h = Each-nil (Known M)
+StartRun-known M (x ∷ c) ls h = Each-cons (Known M) x c h.0.known (StartRun-known M c ls h.1)
 
-pub EndRun-known : (M : Map) (ls c : List ℕ) → EndRun M ls c → Each (λ x. IsTrue (has_line M x)) c
-EndRun-known M ls [] h = Each-nil (λ x. IsTrue (has_line M x))
-EndRun-known M ls (x ∷ c) h =
-    Each-cons (λ y. IsTrue (has_line M y)) x c h.0.known (EndRun-known M (ls ++ x ∷ []) c h.1)
+pub EndRun-known : (M : Map) (ls c : List ℕ) → EndRun M ls c → Each (Known M) c
+EndRun-known M ls [] h = Each-nil (Known M)
+EndRun-known M ls (x ∷ c) h = Each-cons (Known M) x c h.0.known (EndRun-known M (ls ++ x ∷ []) c h.1)
 
 pub first_of_both : (P : ℕ → Type 0) (c ls : List ℕ) → 0 < length ls → Each P c → Each P ls → P (first (c ++ ls))
 first_of_both P c ls n h k =
@@ -54,19 +53,19 @@ last_of_both P ls c n h k =
 -- ---- at the start
 
 StartRun-moves : (M N : Map) (c ls : List ℕ) → 0 < length ls → Each (SameLine M N) ls → Each (SameLine M N) c →
-    Each (λ x. SameRound M N (end M x)) c → StartRun M c ls → StartRun N c ls
+    Each (EndsSame M N) c → StartRun M c ls → StartRun N c ls
 StartRun-moves M N [] ls n s h r p = tt
 StartRun-moves M N (x ∷ c) ls n s h r p =
     let rest = Each-tail (SameLine M N) x c h in (
       MayPrecede-moves M N x (c ++ ls) (Each-head (SameLine M N) x c h) (first_of_both (SameLine M N) c ls n rest s)
-          (same_passing M N (end M x) (Each-head (λ y. SameRound M N (end M y)) x c r)) p.0,
-      StartRun-moves M N c ls n s rest (Each-tail (λ y. SameRound M N (end M y)) x c r) p.1,
+          (same_passing M N (end M x) (Each-head (EndsSame M N) x c r)) p.0,
+      StartRun-moves M N c ls n s rest (Each-tail (EndsSame M N) x c r) p.1,
     )
 
-module _ (M N : Map) (m : IsMap M) (ls b : List ℕ) (n : 0 < length ls) (known : Each (λ x. IsTrue (has_line M x)) ls)
+module _ (M N : Map) (m : IsMap M) (ls b : List ℕ) (n : 0 < length ls) (known : Each (Known M) ls)
     (same : Each (SameLine M N) ls)
-    (at_lines : Each (λ x. SameRound M N (start M x)) ls) (at_start : Each (λ x. SameRound M N (start M x)) b)
-    (at_end : Each (λ x. SameRound M N (end M x)) b)
+    (at_lines : Each (StartsSame M N) ls) (at_start : Each (StartsSame M N) b)
+    (at_end : Each (EndsSame M N) b)
     (tried : LongestStart M b ls) where
   pub start_same : Each (SameLine M N) b
   start_same x h = by_entering M N (end M x) x (at_end x h) (StartRun-known M b ls tried.run x h) refl
@@ -76,18 +75,15 @@ module _ (M N : Map) (m : IsMap M) (ls b : List ℕ) (n : 0 < length ls) (known 
   start_back [] p w = (tt, Each-nil (SameLine M N))
   start_back (x ∷ d) p w =
       let rest = start_back d p.1 (omega arith) in
-      let long = same_dm_of M N d rest.1 in
-      let suffix = longest_start M m ls b d (known (first ls) (has_first ls n)) tried rest.0 (omega arith) in
-      let part : Each (λ y. SameRound M N (start M y)) d =
-      Each-right (λ y. SameRound M N (start M y)) suffix.0 d
-      (subst (Each (λ y. SameRound M N (start M y))) suffix.1 at_start) in
-      let round = first_of_both (λ y. SameRound M N (start M y)) d ls n part at_lines in
+      let suffix = longest_start M m ls b d (known (first ls) (has_first ls n)) tried rest.0
+      (omega (arith, same_dm_of M N d rest.1)) in
+      let part = Each-right (StartsSame M N) suffix.0 d (subst (Each (StartsSame M N)) suffix.1 at_start) in
+      let round = first_of_both (StartsSame M N) d ls n part at_lines in
       let next : SameLine M N (first (d ++ ls)) = first_of_both (SameLine M N) d ls n rest.1 same in
       let v = start M (first (d ++ ls)) in
       let to : end N x ≡ v = p.0.joins ∙ sym (same_start M N (first (d ++ ls)) next) in
       let is : SameLine N M x = by_entering N M v x (turned_round M N v round) p.0.known to in
-      let pass : passing N (end N x) ≡ passing M (end N x) =
-      subst (λ (u : ℕ). passing N u ≡ passing M u) (sym to) (sym (same_passing M N v round)) in
+      let pass = coe 1 0 (i. passing N (to i) ≡ passing M (to i)) (sym (same_passing M N v round)) in
       ((MayPrecede-moves N M x (d ++ ls) is (sym next) pass p.0, rest.0), Each-cons (SameLine M N) x d (sym is) rest.1)
 
   pub longest_start_moves : LongestStart N b ls
@@ -95,41 +91,38 @@ module _ (M N : Map) (m : IsMap M) (ls b : List ℕ) (n : 0 < length ls) (known 
       let e = same_dm_of M N b start_same in
       record {
         run = StartRun-moves M N b ls n same start_same at_end tried.run;
-        within = let h = tried.within in omega arith;
+        within = omega arith;
         longest = λ d p w.
             let back = start_back d p w in
             let f = same_dm_of M N d back.1 in
-            let h = tried.longest d back.0 (omega arith) in
-            omega arith;
+            omega (arith, tried.longest d back.0 (omega arith));
       }
 
 -- ---- at the end
 
 EndRun-moves : (M N : Map) (ls c : List ℕ) → 0 < length ls → Each (SameLine M N) ls → Each (SameLine M N) c →
-    Each (λ x. SameRound M N (start M x)) c → EndRun M ls c → EndRun N ls c
+    Each (StartsSame M N) c → EndRun M ls c → EndRun N ls c
 EndRun-moves M N ls [] n s h r p = tt
 EndRun-moves M N ls (x ∷ c) n s h r p =
     let is = Each-head (SameLine M N) x c h in (
       MayFollow-moves M N ls x is (s (last ls) (has_last ls n))
-          (same_passing M N (start M x) (Each-head (λ y. SameRound M N (start M y)) x c r)) p.0,
+          (same_passing M N (start M x) (Each-head (StartsSame M N) x c r)) p.0,
       EndRun-moves M N (ls ++ x ∷ []) c (omega (arith, length-append ls (x ∷ [])))
           (Each-append (SameLine M N) ls (x ∷ []) s (Each-cons (SameLine M N) x [] is (Each-nil (SameLine M N))))
-          (Each-tail (SameLine M N) x c h) (Each-tail (λ y. SameRound M N (start M y)) x c r) p.1,
+          (Each-tail (SameLine M N) x c h) (Each-tail (StartsSame M N) x c r) p.1,
     )
 
-pub EndRun-push : (M : Map) (ls c : List ℕ) (x : ℕ) → EndRun M ls c → MayFollow M (ls ++ c) x →
-    EndRun M ls (c ++ x ∷ [])
-EndRun-push M ls [] x p q = (subst (λ (zs : List ℕ). MayFollow M zs x) (append-nil ls) q, tt)
+pub EndRun-push : (M : Map) (ls c : List ℕ) (x : ℕ) → EndRun M ls c → MayFollow M (ls ++ c) x → EndRun M ls (c ++ x ∷ [])
+EndRun-push M ls [] x p q = (coe 0 1 (i. MayFollow M (append-nil ls i) x) q, tt)
 EndRun-push M ls (y ∷ c) x p q = (
   p.0,
-  EndRun-push M (ls ++ y ∷ []) c x p.1
-      (subst (λ (zs : List ℕ). MayFollow M zs x) (sym (append_assoc ls (y ∷ []) c)) q),
+  EndRun-push M (ls ++ y ∷ []) c x p.1 (coe 1 0 (i. MayFollow M (append_assoc ls (y ∷ []) c i) x) q),
 )
 
-module _ (M N : Map) (m : IsMap M) (ls a : List ℕ) (n : 0 < length ls) (known : Each (λ x. IsTrue (has_line M x)) ls)
+module _ (M N : Map) (m : IsMap M) (ls a : List ℕ) (n : 0 < length ls) (known : Each (Known M) ls)
     (same : Each (SameLine M N) ls)
-    (at_lines : Each (λ x. SameRound M N (end M x)) ls) (at_start : Each (λ x. SameRound M N (start M x)) a)
-    (at_end : Each (λ x. SameRound M N (end M x)) a)
+    (at_lines : Each (EndsSame M N) ls) (at_start : Each (StartsSame M N) a)
+    (at_end : Each (EndsSame M N) a)
     (tried : LongestEnd M ls a) where
   pub end_same : Each (SameLine M N) a
   end_same x h = by_leaving M N (start M x) x (at_start x h) (EndRun-known M ls a tried.run x h) refl
@@ -137,28 +130,21 @@ module _ (M N : Map) (m : IsMap M) (ls a : List ℕ) (n : 0 < length ls) (known 
   -- a run c of the first map that d continues on the second: both together are a run of the first
   end_back : (c d : List ℕ) → EndRun M ls c → Each (SameLine M N) c → dm_of M c + dm_of N d ≤ limit →
       EndRun N (ls ++ c) d → EndRun M ls (c ++ d) × Each (SameLine M N) d
-  end_back c [] p s w q = (subst (λ (zs : List ℕ). EndRun M ls zs) (sym (append-nil c)) p, Each-nil (SameLine M N))
+  end_back c [] p s w q = (coe 1 0 (i. EndRun M ls (append-nil c i)) p, Each-nil (SameLine M N))
   end_back c (x ∷ d) p s w q =
       let prefix = longest_end M m ls a c (known (last ls) (has_last ls n)) tried p (omega arith) in
-      let part : Each (λ y. SameRound M N (end M y)) c =
-      Each-left (λ y. SameRound M N (end M y)) c prefix.0
-      (subst (Each (λ y. SameRound M N (end M y))) prefix.1 at_end) in
-      let round = last_of_both (λ y. SameRound M N (end M y)) ls c n at_lines part in
+      let part : Each (EndsSame M N) c = Each-left (EndsSame M N) c prefix.0 (subst (Each (EndsSame M N)) prefix.1 at_end) in
+      let round = last_of_both (EndsSame M N) ls c n at_lines part in
       let before : SameLine M N (last (ls ++ c)) = last_of_both (SameLine M N) ls c n same s in
       let v = end M (last (ls ++ c)) in
       let from : start N x ≡ v = q.0.joins ∙ sym (same_end M N (last (ls ++ c)) before) in
       let is : SameLine N M x = by_leaving N M v x (turned_round M N v round) q.0.known from in
-      let pass : passing N (start N x) ≡ passing M (start N x) =
-      subst (λ (u : ℕ). passing N u ≡ passing M u) (sym from) (sym (same_passing M N v round)) in
-      let step : EndRun M ls (c ++ x ∷ []) =
-      EndRun-push M ls c x p (MayFollow-moves N M (ls ++ c) x is (sym before) pass q.0) in
-      let one : Each (SameLine M N) (c ++ x ∷ []) =
-      Each-append (SameLine M N) c (x ∷ []) s (Each-cons (SameLine M N) x [] (sym is) (Each-nil (SameLine M N))) in
-      let long : dm M x ≡ dm N x = same_dm M N x (sym is) in
-      let rest =
-      end_back (c ++ x ∷ []) d step one (omega (arith, dm_of-append M c (x ∷ [])))
-      (subst (λ (zs : List ℕ). EndRun N zs d) (append_assoc ls c (x ∷ [])) q.1) in (
-        subst (λ (zs : List ℕ). EndRun M ls zs) (append_assoc c (x ∷ []) d) rest.0,
+      let pass = coe 1 0 (i. passing N (from i) ≡ passing M (from i)) (sym (same_passing M N v round)) in
+      let one = Each-append (SameLine M N) c (x ∷ []) s (Each-cons (SameLine M N) x [] (sym is) (Each-nil (SameLine M N))) in
+      let rest = end_back (c ++ x ∷ []) d (EndRun-push M ls c x p (MayFollow-moves N M (ls ++ c) x is (sym before) pass q.0))
+      one (omega (arith, same_dm M N x (sym is), dm_of-append M c (x ∷ [])))
+      (coe 0 1 (i. EndRun N (append_assoc ls c (x ∷ []) i) d) q.1) in (
+        coe 0 1 (i. EndRun M ls (append_assoc c (x ∷ []) d i)) rest.0,
         Each-cons (SameLine M N) x d (sym is) rest.1,
       )
 
@@ -167,12 +153,9 @@ module _ (M N : Map) (m : IsMap M) (ls a : List ℕ) (n : 0 < length ls) (known 
       let e = same_dm_of M N a end_same in
       record {
         run = EndRun-moves M N ls a n same end_same at_start tried.run;
-        within = let h = tried.within in omega arith;
+        within = omega arith;
         longest = λ d p w.
-            let back =
-            end_back [] d tt (Each-nil (SameLine M N)) (omega arith)
-            (subst (λ (zs : List ℕ). EndRun N zs d) (sym (append-nil ls)) p) in
+            let back = end_back [] d tt (Each-nil (SameLine M N)) (omega arith) (coe 1 0 (i. EndRun N (append-nil ls i) d) p) in
             let f = same_dm_of M N d back.1 in
-            let h = tried.longest d back.0 (omega arith) in
-            omega arith;
+            omega (arith, tried.longest d back.0 (omega arith));
       }

@@ -1,17 +1,16 @@
 -- Each direction is in one sector.
-use Rattle.std.proofs.Common.{inl, inr, ◌≡◌, ℕ, zero, suc, ◌+◌, ◌-◌, ◌*◌, ◌/◌, ◌%◌, ◌<◌, ◌≤◌, ℤ, pos, ◌≤ℤ◌, ◌<ℤ◌, ◌*ℤ◌}
-use Rattle.std.proofs.Common.{◌-ℤ◌, neg_ℤ, Bool, true, false, cond, T, List, [], ◌∷◌, ◌++◌, Some, unwrap_or, IsTrue}
-use Rattle.std.proofs.Common.{◌==◌, refl, sym, ap, ◌∙◌, subst, arith}
-use Rattle.std.proofs.lemmas.Bool.{and_parts, and_from, cases_order, eqb-true, eq-eqb, or_cases, or_left, or_right}
-use Rattle.std.proofs.lemmas.Bool.{both_ways}
+use Rattle.std.proofs.Common.{inl, inr, ◌≡◌, ℕ, zero, suc, ◌+◌, ◌-◌, ◌*◌, ◌/◌, ◌%◌, ◌<◌, ◌≤◌, ℤ, pos, ◌≤ℤ◌, ◌<ℤ◌, ◌*ℤ◌, ◌-ℤ◌}
+use Rattle.std.proofs.Common.{neg_ℤ, Bool, true, false, T, List, [], ◌∷◌, Some, unwrap_or, IsTrue, ◌==◌, map, refl, sym, ap}
+use Rattle.std.proofs.Common.{◌∙◌, subst, arith}
+use Rattle.std.proofs.lemmas.Bool.{and_parts, and_from, cases_order, eq-eqb, or_left, or_right, both_ways, cond_both}
 use Rattle.std.proofs.lemmas.List.Folds.{list_any-append}
 use Rattle.std.proofs.lemmas.Int.{ints, by_lt_z}
 use Rattle.std.specs.Int.RustNames.{int_le, int_lt}
-use Rattle.std.specs.List.{find, AllByRecursion}
-use Rattle.olr_spec.specs.Bearings.{Vector, vector, quarter_turn, boundary, beyond, lies_between, IsSector, sector}
-use Rattle.olr_spec.specs.Bearings.{up_to}
+use Rattle.std.specs.List.{find}
+use Rattle.olr_spec.specs.Bearings.{vector, quarter_turn, boundary, beyond, lies_between, IsSector, up_to}
 use Rattle.olr_spec.specs.Map.{has}
-use Rattle.olr_spec.proofs.ListLemmas.{Each, Each-nil, Each-cons, Each-append, Each-head, Each-weaker, Each-tail}
+use Rattle.olr_spec.specs.Laws.{OneSector, SomeSector}
+use Rattle.olr_spec.proofs.ListLemmas.{Each, Each-nil, Each-cons, Each-append, Each-head, Each-weaker, Each-tail, has_cases}
 
 -- ---- tests on whole numbers
 
@@ -31,21 +30,7 @@ le_test a b h = T_is (int_le a b) h.le
 lt_test : (a b : ℤ) → a <ℤ b → int_lt a b ≡ true
 lt_test a b h = T_is (int_lt a b) h.lt
 
--- ---- every number below n
-
-AllByRecursion-split : (P : ℕ → Type 0) (xs ys : List ℕ) → AllByRecursion P (xs ++ ys) → AllByRecursion P xs
-    × AllByRecursion P ys
-AllByRecursion-split P [] ys h = (tt, h)
-AllByRecursion-split P (x ∷ xs) ys h = let r = AllByRecursion-split P xs ys h.1 in ((h.0, r.0), r.1)
-
-all_below : (P : ℕ → Type 0) (n : ℕ) → AllByRecursion P (up_to n) → (k : ℕ) → k < n → P k
-all_below P zero h k lt = absurd (omega arith)
-all_below P (suc n) h k lt =
-    let parts = AllByRecursion-split P (up_to n) (n ∷ []) h in
-    elim (cases_order k n) [
-      | inl e ↦ subst P (sym e) parts.1.0
-      | inr o ↦ elim o [ inl below ↦ all_below P n parts.0 k below | inr above ↦ absurd (omega arith) ]
-    ]
+-- ---- the numbers below n
 
 pub up_to_below : (n : ℕ) → Each (λ k. k < n) (up_to n)
 up_to_below zero = Each-nil (λ k. k < zero)
@@ -53,6 +38,15 @@ up_to_below (suc n) =
     Each-append (λ k. k < suc n) (up_to n) (n ∷ [])
     (Each-weaker (λ k. k < n) (λ k. k < suc n) (up_to n) (λ k h. omega arith) (up_to_below n))
     (Each-cons (λ k. k < suc n) n [] (omega arith) (Each-nil (λ k. k < suc n)))
+
+has_below : (n k : ℕ) → k < n → has (up_to n) k ≡ true
+has_below zero k lt = absurd (omega arith)
+has_below (suc n) k lt =
+    list_any-append (λ y. y == k) (up_to n) (n ∷ [])
+    ∙ elim (cases_order k n) [
+      | inl e ↦ or_right _ _ (or_left _ _ (eq-eqb n k (sym e)))
+      | inr o ↦ elim o [ inl below ↦ or_left _ _ (has_below n k below) | inr above ↦ absurd (omega arith) ]
+    ]
 
 -- ---- quadrants
 
@@ -69,59 +63,15 @@ abbrev InQuadrant : ℕ → ℤ → ℤ → Type 0
 InQuadrant zero e n = (pos 0 ≤ℤ e) × (pos 0 <ℤ n)
 InQuadrant (suc q) e n = InQuadrant q (neg_ℤ n) e
 
-abbrev Turned : ℕ → Type 0
-Turned k = boundary (k + 8) ≡ quarter_turn (boundary k)
+same_at : {X : Type 0} (f g : ℕ → X) (xs : List ℕ) → map f xs ≡ map g xs → (k : ℕ) → has xs k ≡ true → f k ≡ g k
+same_at f g [] e k i = absurd cc
+same_at f g (x ∷ xs) e k i =
+    let here : f x ≡ g x = cc in
+    let rest : map f xs ≡ map g xs = cc in
+    elim (has_cases x xs k i) [ inl is ↦ subst (λ (y : ℕ). f y ≡ g y) is here | inr j ↦ same_at f g xs rest k j ]
 
-every_turned : AllByRecursion Turned (up_to 25)
-every_turned = (
-  refl,
-  (
-    refl,
-    (
-      refl,
-      (
-        refl,
-        (
-          refl,
-          (
-            refl,
-            (
-              refl,
-              (
-                refl,
-                (
-                  refl,
-                  (
-                    refl,
-                    (
-                      refl,
-                      (
-                        refl,
-                        (
-                          refl,
-                          (
-                            refl,
-                            (
-                              refl,
-                              (
-                                refl,
-                                (refl, (refl, (refl, (refl, (refl, (refl, (refl, (refl, (refl, tt))))))))),
-                              ),
-                            ),
-                          ),
-                        ),
-                      ),
-                    ),
-                  ),
-                ),
-              ),
-            ),
-          ),
-        ),
-      ),
-    ),
-  ),
-)
+turned : (k : ℕ) → k < 25 → boundary (k + 8) ≡ quarter_turn (boundary k)
+turned k lt = same_at (λ j. boundary (j + 8)) (λ j. quarter_turn (boundary j)) (up_to 25) refl k (has_below 25 k lt)
 
 pub neg_right : (a b : ℤ) → a *ℤ neg_ℤ b ≡ neg_ℤ (a *ℤ b)
 neg_right a b = grind (arith, ints)
@@ -131,14 +81,10 @@ neg_left a b = grind (arith, ints)
 
 turns_into : (x y e n : ℤ) → e *ℤ neg_ℤ x -ℤ n *ℤ y ≡ neg_ℤ n *ℤ y -ℤ e *ℤ x
 turns_into x y e n =
-    let p = neg_right e x in
-    let q = neg_left n y in
-    omega (arith, ints)
+    omega (arith, neg_right e x, neg_left n y, ints)
 
 side_turned : (k : ℕ) → k < 25 → (e n : ℤ) → side e n (k + 8) ≡ side (neg_ℤ n) e k
-side_turned k lt e n =
-    ap (λ (b : Vector). beyond b (vector e n)) (all_below Turned 25 every_turned k lt)
-    ∙ turns_into (boundary k).east (boundary k).north e n
+side_turned k lt e n = grind (arith, turned, turns_into)
 
 -- quarter q + 1 of a direction is quarter q of the direction turned back
 side_on : (e n : ℤ) (q j : ℕ) → q < 3 → j ≤ 8 → side e n (suc q * 8 + j) ≡ side (neg_ℤ n) e (q * 8 + j)
@@ -146,83 +92,45 @@ side_on e n q j lq lj =
     let on : suc q * 8 + j ≡ q * 8 + j + 8 = omega arith in
     ap (side e n) on ∙ side_turned (q * 8 + j) (omega arith) e n
 
--- a direction between two boundaries of a quarter is in this quarter
-abbrev FirstSits : ℕ → Type 0
-FirstSits j = (e n : ℤ) → At j e n → InQuadrant 0 e n
-
-first_sits : AllByRecursion FirstSits (up_to 8)
-first_sits = (
-  λ e n h. (omega (arith, ints), omega (arith, ints)),
-  (
-    λ e n h. (omega (arith, ints), omega (arith, ints)),
-    (
-      λ e n h. (omega (arith, ints), omega (arith, ints)),
-      (
-        λ e n h. (omega (arith, ints), omega (arith, ints)),
-        (
-          λ e n h. (omega (arith, ints), omega (arith, ints)),
-          (
-            λ e n h. (omega (arith, ints), omega (arith, ints)),
-            (
-              λ e n h. (omega (arith, ints), omega (arith, ints)),
-              (λ e n h. (omega (arith, ints), omega (arith, ints)), tt),
-            ),
-          ),
-        ),
-      ),
-    ),
-  ),
-)
+-- a direction between two boundaries of a quarter is in this quarter, where one before a boundary is before the next too
+of_quarter : (j : ℕ) → j < 8 → (e n : ℤ) → (At j e n → InQuadrant 0 e n)
+    × (InQuadrant 0 e n → side e n j <ℤ pos 0 → side e n (suc j) <ℤ pos 0)
+of_quarter zero lt e n = ((λ h. (omega (arith, ints), omega (arith, ints))), (λ h f. omega (arith, ints)))
+of_quarter (suc zero) lt e n = ((λ h. (omega (arith, ints), omega (arith, ints))), (λ h f. omega (arith, ints)))
+of_quarter (suc (suc zero)) lt e n = ((λ h. (omega (arith, ints), omega (arith, ints))), (λ h f. omega (arith, ints)))
+of_quarter (suc (suc (suc zero))) lt e n = ((λ h. (omega (arith, ints), omega (arith, ints))), (λ h f. omega (arith, ints)))
+of_quarter (suc (suc (suc (suc zero)))) lt e n =
+    ((λ h. (omega (arith, ints), omega (arith, ints))), (λ h f. omega (arith, ints)))
+of_quarter (suc (suc (suc (suc (suc zero))))) lt e n =
+    ((λ h. (omega (arith, ints), omega (arith, ints))), (λ h f. omega (arith, ints)))
+of_quarter (suc (suc (suc (suc (suc (suc zero)))))) lt e n =
+    ((λ h. (omega (arith, ints), omega (arith, ints))), (λ h f. omega (arith, ints)))
+of_quarter (suc (suc (suc (suc (suc (suc (suc zero))))))) lt e n =
+    ((λ h. (omega (arith, ints), omega (arith, ints))), (λ h f. omega (arith, ints)))
+of_quarter _ lt e n = absurd (omega arith)
 
 sits_in : (q j : ℕ) → q < 4 → j < 8 → (e n : ℤ) → At (q * 8 + j) e n → InQuadrant q e n
-sits_in zero j lq lj e n h = let is : 0 * 8 + j ≡ j =
-    omega arith in all_below FirstSits 8 first_sits j lj e n (subst (λ (m : ℕ). At m e n) is h)
+sits_in zero j lq lj e n h = let is : 0 * 8 + j ≡ j = omega arith in (of_quarter j lj e n).0 (coe 0 1 (i. At (is i) e n) h)
 sits_in (suc q) j lq lj e n h =
     let here = side_on e n q j (omega arith) (omega arith) in
     let next : side e n (suc (suc q * 8 + j)) ≡ side (neg_ℤ n) e (suc (q * 8 + j)) =
     (let on : suc (suc q * 8 + j) ≡ suc q * 8 + suc j = omega arith in ap (side e n) on)
     ∙ side_on e n q (suc j) (omega arith) (omega arith)
     ∙ (let back : q * 8 + suc j ≡ suc (q * 8 + j) = omega arith in ap (side (neg_ℤ n) e) back) in
-    sits_in q j (omega arith) lj (neg_ℤ n) e
-    (subst (λ (z : ℤ). pos 0 ≤ℤ z) here h.0, subst (λ (z : ℤ). z <ℤ pos 0) next h.1)
+    sits_in q j (omega arith) lj (neg_ℤ n) e (coe 0 1 (i. pos 0 ≤ℤ (here i)) h.0, coe 0 1 (i. (next i) <ℤ pos 0) h.1)
 
 sits : (k : ℕ) → k < 32 → (e n : ℤ) → At k e n → InQuadrant (k / 8) e n
 sits k lt e n h = let is : k ≡ k / 8 * 8 + k % 8 =
     omega arith in sits_in (k / 8) (k % 8) (omega arith) (omega arith) e n (subst (λ (m : ℕ). At m e n) is h)
-
--- in a quarter, a direction before a boundary is before the next one too
-abbrev FirstFalls : ℕ → Type 0
-FirstFalls j = (e n : ℤ) → InQuadrant 0 e n → side e n j <ℤ pos 0 → side e n (suc j) <ℤ pos 0
-
-first_falls : AllByRecursion FirstFalls (up_to 8)
-first_falls = (
-  λ e n h f. omega (arith, ints),
-  (
-    λ e n h f. omega (arith, ints),
-    (
-      λ e n h f. omega (arith, ints),
-      (
-        λ e n h f. omega (arith, ints),
-        (
-          λ e n h f. omega (arith, ints),
-          (λ e n h f. omega (arith, ints), (λ e n h f. omega (arith, ints), (λ e n h f. omega (arith, ints), tt))),
-        ),
-      ),
-    ),
-  ),
-)
 
 falls_in : (q j : ℕ) → q < 4 → j < 8 → (e n : ℤ) → InQuadrant q e n → side e n (q * 8 + j) <ℤ pos 0 →
     side e n (q * 8 + suc j) <ℤ pos 0
 falls_in zero j lq lj e n h f =
     let is : 0 * 8 + j ≡ j = omega arith in
     let next : suc j ≡ 0 * 8 + suc j = omega arith in
-    subst (λ (m : ℕ). side e n m <ℤ pos 0) next
-    (all_below FirstFalls 8 first_falls j lj e n h (subst (λ (m : ℕ). side e n m <ℤ pos 0) is f))
-falls_in (suc q) j lq lj e n h f =
-    subst (λ (z : ℤ). z <ℤ pos 0) (sym (side_on e n q (suc j) (omega arith) (omega arith)))
-    (falls_in q j (omega arith) lj (neg_ℤ n) e h
-    (subst (λ (z : ℤ). z <ℤ pos 0) (side_on e n q j (omega arith) (omega arith)) f))
+    coe 0 1 (i. side e n (next i) <ℤ pos 0) ((of_quarter j lj e n).1 h (coe 0 1 (i. side e n (is i) <ℤ pos 0) f))
+falls_in (suc q) j lq lj e n h f = coe 1 0 (i. (side_on e n q (suc j) (omega arith) (omega arith) i) <ℤ pos 0)
+    (falls_in q j (omega arith) lj (neg_ℤ n) e h (coe 0 1 (i. (side_on e n q j (omega arith) (omega arith) i) <ℤ pos 0) f))
 
 falls : (k : ℕ) → k < 32 → (e n : ℤ) → InQuadrant (k / 8) e n → side e n k <ℤ pos 0 → side e n (suc k) <ℤ pos 0
 falls k lt e n h f =
@@ -269,35 +177,26 @@ clash z a b = omega (arith, ints)
 later_fails : (e n : ℤ) (j k : ℕ) → j < k → k < 32 → At j e n → At k e n → ⊥
 later_fails e n j k lt h a b =
     let p = sits j (omega arith) e n a in
-    let q = sits k h e n b in
     elim (cases_order (j / 8) (k / 8)) [
       | inl same ↦
           let d = k - suc j in
           let on : suc j + d ≡ k = omega arith in
           let next : suc j / 8 ≡ j / 8 = omega arith in
-          let at : side e n (suc j + d) <ℤ pos 0 =
-          falls_on e n (suc j) d (omega arith) (omega arith) (subst (λ (m : ℕ). InQuadrant m e n) (sym next) p) a.1 in
-          let below : side e n k <ℤ pos 0 = subst (λ (m : ℕ). side e n m <ℤ pos 0) on at in
-          let above : pos 0 ≤ℤ side e n k = b.0 in
-          clash (side e n k) above below
+          clash (side e n k) b.0 (coe 0 1 (i. side e n (on i) <ℤ pos 0)
+          (falls_on e n (suc j) d (omega arith) (omega arith) (coe 1 0 (i. InQuadrant (next i) e n) p) a.1))
       | inr o ↦ elim o [
-        | inl less ↦ one_quadrant e n (j / 8) (k / 8) less (omega arith) p q
-        | inr more ↦
-            absurd (omega arith)
+        | inl less ↦ one_quadrant e n (j / 8) (k / 8) less (omega arith) p (sits k h e n b)
+        | inr more ↦ absurd (omega arith)
       ]
     ]
 
 at_of : (e n : ℤ) (k : ℕ) → IsTrue (lies_between (boundary k) (boundary (suc k)) (vector e n)) → At k e n
-at_of e n k h = let p =
-    and_parts (int_le (pos 0) (side e n k)) (int_lt (side e n (suc k)) (pos 0)) h in
-    (le_yes (pos 0) (side e n k) p.0, lt_yes (side e n (suc k)) (pos 0) p.1)
+at_of e n k h = grind (arith, and_parts, side, le_yes, lt_yes)
 
 of_at : (e n : ℤ) (k : ℕ) → At k e n → IsTrue (lies_between (boundary k) (boundary (suc k)) (vector e n))
-of_at e n k a =
-    and_from (int_le (pos 0) (side e n k)) (int_lt (side e n (suc k)) (pos 0)) (le_test (pos 0) (side e n k) a.0)
-    (lt_test (side e n (suc k)) (pos 0) a.1)
+of_at e n k a = grind (arith, and_from, side, le_test, lt_test)
 
-pub one_sector : (e n : ℤ) (j k : ℕ) → IsSector e n j → IsSector e n k → j ≡ k
+pub one_sector : OneSector
 one_sector e n j k p q =
     elim (cases_order j k) [
       | inl same ↦ same
@@ -316,21 +215,16 @@ Crossing e n a b = (k : ℕ) × (a ≤ k) × (k < b) × At k e n
 crossing : (e n : ℤ) (a d : ℕ) → pos 0 ≤ℤ side e n a → side e n (a + d) <ℤ pos 0 → Crossing e n a (a + d)
 crossing e n a zero h g =
     absurd (clash (side e n a) h (subst (λ (k : ℕ). side e n k <ℤ pos 0) (let is : a + zero ≡ a = omega arith in is) g))
-crossing e n a (suc d) h g =
-    by_lt_z {P = Crossing e n a (a + suc d)} (side e n (suc a)) (pos 0)
-    (λ below. (a, omega arith, omega arith, (h, below)))
-    (λ above.
+crossing e n a (suc d) h g = by_lt_z {P = Crossing e n a (a + suc d)} (side e n (suc a)) (pos 0)
+    (λ below. (a, omega arith, omega arith, (h, below))) (λ above.
     let on : a + suc d ≡ suc a + d = omega arith in
-    let r = crossing e n (suc a) d above (subst (λ (k : ℕ). side e n k <ℤ pos 0) on g) in
-    let lo : suc a ≤ r.0 = r.1 in
-    let hi : r.0 < suc a + d = r.2 in
+    let r = crossing e n (suc a) d above (coe 0 1 (i. side e n (on i) <ℤ pos 0) g) in
     (r.0, omega arith, omega arith, r.3))
 
 in_quadrant : (e n : ℤ) (q : ℕ) → q < 4 → InQuadrant q e n → (k : ℕ) × IsSector e n k
 in_quadrant e n q lt h =
     let t = turns q lt e n h in
     let r = crossing e n (q * 8) 8 t.0 t.1 in
-    let hi : r.0 < q * 8 + 8 = r.2 in
     (r.0, (omega arith, of_at e n r.0 r.3))
 
 pub some_sector : (e n : ℤ) → ¬ ((e ≡ pos 0) × (n ≡ pos 0)) → (k : ℕ) × IsSector e n k
@@ -353,27 +247,13 @@ find_some : (p : ℕ → Bool) (xs : List ℕ) (d : ℕ) (Q : ℕ → Type 0) �
     Q (unwrap_or (find p xs) d) × (p (unwrap_or (find p xs) d) ≡ true)
 find_some p [] d Q h k i e = absurd cc
 find_some p (x ∷ xs) d Q h k i e =
-    elim (p x) as (λ b. p x ≡ b → Q (unwrap_or (cond b (Some x) (find p xs)) d)
-    × (p (unwrap_or (cond b (Some x) (find p xs)) d) ≡ true)) [
-      | true ↦ λ t. (Each-head Q x xs h, t)
-      | false ↦ λ t. find_some p xs d Q (Each-tail Q x xs h) k
-          (elim (or_cases _ _ i) [
-            | inl is ↦
-                absurd (let y : x ≡ k = eqb-true x k is in both_ways (p k) (ap p (sym y) ∙ t) e)
-            | inr j ↦ j
-          ]) e
-    ] refl
+    cond_both (p x) (Some x) (find p xs) (λ o. Q (unwrap_or o d) × (p (unwrap_or o d) ≡ true)) (λ t. (Each-head Q x xs h, t))
+    (λ t. find_some p xs d Q (Each-tail Q x xs h) k (elim (has_cases x xs k i) [
+      | inl is ↦ absurd (both_ways (p k) (ap p (sym is) ∙ t) e)
+      | inr j ↦ j
+    ]) e)
 
-has_below : (n k : ℕ) → k < n → has (up_to n) k ≡ true
-has_below zero k lt = absurd (omega arith)
-has_below (suc n) k lt =
-    list_any-append (λ y. y == k) (up_to n) (n ∷ [])
-    ∙ elim (cases_order k n) [
-      | inl e ↦ or_right _ _ (or_left _ _ (eq-eqb n k (sym e)))
-      | inr o ↦ elim o [ inl below ↦ or_left _ _ (has_below n k below) | inr above ↦ absurd (omega arith) ]
-    ]
-
-pub sector_is : (e n : ℤ) → ¬ ((e ≡ pos 0) × (n ≡ pos 0)) → IsSector e n (sector e n)
+pub sector_is : SomeSector
 sector_is e n ne =
     let r = some_sector e n ne in
     find_some (λ k. lies_between (boundary k) (boundary (suc k)) (vector e n)) (up_to 32) 0 (λ k. k < 32)

@@ -1,36 +1,75 @@
 -- If nothing that a path depends on has changed, its answer, traversed nodes, coverage queries and footprint are the
 -- same.
-use Rattle.std.proofs.Common.{inl, inr, ◌≡◌, ℕ, ◌+◌, List, [], ◌∷◌, length, true, false, refl, ◌<◌, ◌≤◌, Option, None}
-use Rattle.std.proofs.Common.{Some, IsTrue, All, Contains, sym, ◌∙◌, subst, arith, MatchOption, ◌↔◌}
+use Rattle.std.proofs.Common.{inl, inr, ◌≡◌, ℕ, ◌+◌, List, [], ◌∷◌, length, true, refl, ◌<◌, ◌≤◌, Option, None, Some, IsTrue}
+use Rattle.std.proofs.Common.{All, Contains, sym, ◌∙◌, subst, arith, MatchOption, ◌↔◌}
 use Rattle.std.proofs.lemmas.Bool.{cases_lt, cases_Bool, both_ways}
 use Rattle.std.proofs.lemmas.List.Elements.{All-contains}
 use Rattle.std.specs.List.{AllZip}
-use Rattle.olr_spec.specs.Map.{Map, IsMap, has_line, start, end, SameLine, SameRound, has}
+use Rattle.olr_spec.specs.Map.{Map, IsMap, start, end, SameLine, SameRound, has}
 use Rattle.olr_spec.specs.Routes.{IsRoute, dm_of}
-use Rattle.olr_spec.specs.Extension.{Path, is_path, first, last, Tried, extended_path, limit}
+use Rattle.olr_spec.specs.Extension.{Path, is_path, first, last, Tried, extended_path, taken_start, limit}
 use Rattle.olr_spec.specs.Points.{stretch, Covered, Follow, OfPath}
 use Rattle.olr_spec.specs.Encoding.{Answer, Refused, Refusal, path_fault, answer_by_points, Encoding, Encodes}
-use Rattle.olr_spec.specs.Detours.{ChangedLine, AccountsFor, Difference}
-use Rattle.olr_spec.specs.Queries.{Traversed, TraversedOfExtended, TraversedOf, IsLastTested, CoverageQuery, query_to}
-use Rattle.olr_spec.specs.Queries.{IsQuery, IsClear, querying}
-use Rattle.olr_spec.specs.Queries.{QueriesOfExtended, QueriesOf}
-use Rattle.olr_spec.proofs.ListLemmas.{Each, Each-from, has_first, has_last}
-use Rattle.olr_spec.proofs.AnswerLemmas.{sound_lines, path_nonempty, one_answer, path_also}
+use Rattle.olr_spec.specs.Detours.{ChangedLine, AccountsFor}
+use Rattle.olr_spec.specs.Queries.{Traversed, TraversedOfExtended, TraversedOf, IsLastTested, CoverageQuery, query_to, IsQuery}
+use Rattle.olr_spec.specs.Queries.{IsClear, querying, QueriesOfExtended, QueriesOf, KnownQuery, IsKnownAt, FoundFor}
+use Rattle.olr_spec.specs.Queries.{KnownOfExtended, KnownOf}
+use Rattle.olr_spec.specs.Laws.{UntouchedRetained}
+use Rattle.olr_spec.proofs.ListLemmas.{Each, Each-from, has_first, has_last, Known}
+use Rattle.olr_spec.proofs.AnswerLemmas.{sound_lines, path_nonempty, one_answer, path_also, path_at}
 use Rattle.olr_spec.proofs.RunLemmas.{one_tried}
 use Rattle.olr_spec.proofs.RouteMoves.{turned_lines}
-use Rattle.olr_spec.proofs.FaultMoves.{fault_same}
+use Rattle.olr_spec.proofs.PointMoves.{fault_same, close_stays, Traversed-moves, tried_moves, b_same, a_same, ls_same}
+use Rattle.olr_spec.proofs.PointMoves.{front_same, extended_same, follow_same, answer_same}
 use Rattle.olr_spec.proofs.JoinedLemmas.{extended_joined}
-use Rattle.olr_spec.proofs.QueryLemmas.{RoutesStay, to_same, clear_routes, query_stays, covered_stays}
-use Rattle.olr_spec.proofs.QueryLists.{query_for, zip_moves}
-use Rattle.olr_spec.proofs.PointMoves.{close_stays, Traversed-moves, tried_moves, b_same, a_same, ls_same}
-use Rattle.olr_spec.proofs.PointMoves.{extended_same}
-use Rattle.olr_spec.proofs.PointMoves.{follow_same, answer_same}
+use Rattle.olr_spec.proofs.QueryLemmas.{RoutesStay, to_same, clear_routes, query_stays, covered_stays, covered_same}
+use Rattle.olr_spec.proofs.QueryLists.{query_for, queries_here, zip_moves}
+use Rattle.olr_spec.proofs.TestedLemmas.{one_last_tested}
+use Rattle.olr_spec.proofs.KnownLists.{found_moves}
 
 -- along any lines of both maps, each of these coverage queries has the same routes
 abbrev pub RoutesOf : Map → Map → List CoverageQuery → Type 0
 RoutesOf M N queries =
     (ls : List ℕ) → Each (SameLine M N) ls → (s t : ℕ) → IsRoute M s t ls → (i k : ℕ) → IsLastTested M ls i k →
     Contains queries (query_to M ls i k) → RoutesStay M N ls i k
+
+moved : (M N : Map) (ls : List ℕ) (lead own i : ℕ) (e : KnownQuery) → IsLastTested N ls i (lead + e.last) →
+    query_to M ls i (lead + e.last) ≡ query_to N ls i (lead + e.last) →
+    Covered M ls i (lead + e.last) ↔ Covered N ls i (lead + e.last) → IsKnownAt M ls lead own i e → IsKnownAt N ls lead own i e
+moved M N ls lead own i e tested to covers a =
+    record {
+      begins = a.begins;
+      order = a.order;
+      upto = a.upto;
+      tested = tested;
+      query = a.query ∙ to;
+      covered = ((λ c. covers.0 (a.covered.0 c)), (λ c. a.covered.1 (covers.1 c)));
+    }
+
+-- of two maps on which the routes from line i to position k are the same
+module _ (M N : Map) (ls : List ℕ) (same : Each (SameLine M N) ls) (s t : ℕ) (joined : IsRoute M s t ls)
+    (lead own i k : ℕ) (query : IsLastTested M ls i k) (routes : RoutesStay M N ls i k) (e : KnownQuery) where
+  abbrev Both : ℕ → Type 0
+  Both p = (query_to M ls i p ≡ query_to N ls i p) × (Covered M ls i p ↔ Covered N ls i p)
+
+  both : Both k
+  both =
+      (to_same M N ls same s t joined i k query, covered_same M N ls same s t joined i k query routes k (omega arith))
+
+  tested : IsLastTested N ls i k
+  tested = query_stays M N ls same s t joined i k query routes
+
+  known_as : IsKnownAt M ls lead own i e ↔ IsKnownAt N ls lead own i e
+  known_as = (
+    (λ a.
+        let is = one_last_tested M ls i k (lead + e.last) query a.tested in
+        let b = subst Both is both in
+        moved M N ls lead own i e (subst (IsLastTested N ls i) is tested) b.0 b.1 a),
+    (λ a.
+        let is = one_last_tested N ls i k (lead + e.last) tested a.tested in
+        let b = subst Both is both in
+        moved N M ls lead own i e (subst (IsLastTested M ls i) is query) (sym b.0) (b.1.1, b.1.0) a),
+  )
 
 module _ (M N : Map) (m : IsMap M) (n : IsMap N) (P : Path) (is : IsTrue (is_path P.lines))
     (sound : path_fault M P ≡ None) (same : Each (SameLine M N) P.lines)
@@ -40,8 +79,8 @@ module _ (M N : Map) (m : IsMap M) (n : IsMap N) (P : Path) (is : IsTrue (is_pat
   abbrev E : Path
   E = extended_path M P o.before o.after
 
-  known : Each (λ x. IsTrue (has_line M x)) P.lines
-  known = Each-from (λ x. IsTrue (has_line M x)) P.lines (sound_lines M P sound)
+  known : Each (Known M) P.lines
+  known = Each-from (Known M) P.lines (sound_lines M P sound)
 
   nonempty : 0 < length P.lines
   nonempty = path_nonempty P.lines is
@@ -128,17 +167,15 @@ module _ (M N : Map) (m : IsMap M) (n : IsMap N) (P : Path) (is : IsTrue (is_pat
   traversed_here : (v : ℕ) → TraversedOfExtended N P v → TraversedOfExtended M P v
   traversed_here v p =
       let r = rounds o.before o.after o.tried in
-      let e : path_fault N P ≡ None = sym (fault_same M N P same) ∙ sound in
-      let k = Each-from (λ x. IsTrue (has_line N x)) P.lines (sound_lines N P e) in
+      let k = Each-from (Known N) P.lines (sound_lines N P (sym (fault_same M N P same) ∙ sound)) in
       let runs = one_tried N n P nonempty (k (first P.lines) (has_first P.lines nonempty))
       (k (last P.lines) (has_last P.lines nonempty)) p.before p.after o.before o.after p.tried tried_there in
       let there : Traversed N (extended_path N P o.before o.after).lines o.before o.after v =
       coe 0 1 (i. Traversed N (extended_path N P (runs.0 i) (runs.1 i)).lines (runs.0 i) (runs.1 i) v) p.traversed in
-      let on : Traversed N E.lines o.before o.after v =
-      subst (λ (F : Path). Traversed N F.lines o.before o.after v) (sym path_there) there in
       let back = Traversed-moves N M E.lines o.before o.after v (turned_lines M N E.lines all_same)
       (turned_lines M N o.before (b_same M N m n P o.before o.after nonempty known same o.tried r))
-      (turned_lines M N o.after (a_same M N m n P o.before o.after nonempty known same o.tried r)) on in
+      (turned_lines M N o.after (a_same M N m n P o.before o.after nonempty known same o.tried r))
+      (subst (λ (F : Path). Traversed N F.lines o.before o.after v) (sym path_there) there) in
       record { before = o.before; after = o.after; tried = o.tried; traversed = back }
 
   pub traversed_stays : (v : ℕ) → TraversedOfExtended M P v ↔ TraversedOfExtended N P v
@@ -157,10 +194,30 @@ module _ (M N : Map) (m : IsMap M) (n : IsMap N) (P : Path) (is : IsTrue (is_pat
   pub queries_stay : QueriesOfExtended N P queries
   queries_stay =
       let each : AllZip (IsQuery N E.lines) (querying E.lines (0 ∷ o.points)) queries =
-      zip_moves (IsQuery M E.lines) (IsQuery N E.lines) (querying E.lines (0 ∷ o.points)) queries
-      one_query o.holds in
-      goes_over (subst (λ (F : Path). AllZip (IsQuery N F.lines) (querying F.lines (0 ∷ o.points)) queries) path_there
+      zip_moves (IsQuery M E.lines) (IsQuery N E.lines) (querying E.lines (0 ∷ o.points)) queries one_query o.holds in
+      goes_over (coe 0 1 (i. AllZip (IsQuery N (path_there i).lines) (querying (path_there i).lines (0 ∷ o.points)) queries)
       each)
+
+  -- the coverage queries along the path's own lines
+  known_query : (lead own i : ℕ) → has (querying E.lines (0 ∷ o.points)) i ≡ true → (e : KnownQuery)
+      → IsKnownAt M E.lines lead own i e ↔ IsKnownAt N E.lines lead own i e
+  known_query lead own i on e =
+      let s = start M (first E.lines) in
+      let t = end M (last E.lines) in
+      let at = queries_here E.lines (0 ∷ o.points) i on in
+      let l = query_for M E.lines (0 ∷ o.points) queries o.holds i at.0 at.1 in
+      let k = l.2.0 in
+      (known_as M N E.lines all_same s t joined lead own i k l.2.1 (stay i k l.2.1 (subst (Contains queries) l.2.2 l.1)) e)
+
+  pub known_stay : (ks : List KnownQuery) → KnownOfExtended M P ks → KnownOfExtended N P ks
+  known_stay ks p =
+      let lead = length (taken_start M o.before P.lines) in
+      let own = length P.lines in
+      let there = found_moves (IsKnownAt M E.lines lead own) (IsKnownAt N E.lines lead own) (querying E.lines (0 ∷ o.points))
+      (known_query lead own) ks (path_at m is sound o p) in
+      let leads = front_same M N m n P o.before o.after nonempty known same o.tried (rounds o.before o.after o.tried) in
+      goes_over (coe 0 1 (i. FoundFor (IsKnownAt N (path_there i).lines (length (leads i)) own)
+      (querying (path_there i).lines (0 ∷ o.points)) ks) there)
 
 -- ---- whether or not the path has a fault
 
@@ -170,10 +227,8 @@ module _ (M N : Map) (m : IsMap M) (n : IsMap N) (P : Path) (is : IsTrue (is_pat
       → ((v : ℕ) → MatchOption f (TraversedOfExtended M P v) (λ _. ⊥) → SameRound M N v)
       → MatchOption f (QueriesOfExtended M P queries) (λ _. queries ≡ [])
       → ((A : Answer) → MatchOption f (Encoding M P A) (λ r. A ≡ Refused r)
-      → MatchOption f (Encoding N P A) (λ r. A ≡ Refused r))
-      × ((v : ℕ) → MatchOption f (TraversedOfExtended M P v) (λ _. ⊥)
-      ↔ MatchOption f (TraversedOfExtended N P v) (λ _. ⊥))
-      × MatchOption f (QueriesOfExtended N P queries) (λ _. queries ≡ [])
+      → MatchOption f (Encoding N P A) (λ r. A ≡ Refused r)) × ((v : ℕ) → MatchOption f (TraversedOfExtended M P v) (λ _. ⊥)
+      ↔ MatchOption f (TraversedOfExtended N P v) (λ _. ⊥)) × MatchOption f (QueriesOfExtended N P queries) (λ _. queries ≡ [])
   by_case None e traversed o = (
     answer_stays M N m n P is e same traversed queries o routes,
     traversed_stays M N m n P is e same traversed queries o routes,
@@ -191,25 +246,37 @@ module _ (M N : Map) (m : IsMap M) (n : IsMap N) (P : Path) (is : IsTrue (is_pat
       (QueriesOfExtended N P queries) (λ _. queries ≡ []))
       (fault_same M N P same) (by_case (path_fault M P) refl traversed o)
 
+-- the coverage queries along the path's own lines too
+pub known_kept : (M N : Map) → IsMap M → IsMap N → (C : List ChangedLine) → AccountsFor C M N → AccountsFor C N M →
+    (P : Path) → IsTrue (is_path P.lines) → Each (SameLine M N) P.lines → (queries : List CoverageQuery) →
+    All (IsClear N C) queries → ((v : ℕ) → TraversedOf M P v → SameRound M N v) → QueriesOf M P queries →
+    (ks : List KnownQuery) → KnownOf M P ks → KnownOf N P ks
+known_kept M N m n C accounts back P is same queries clear traversed o ks known =
+    subst (λ (f : Option Refusal). MatchOption f (KnownOfExtended N P ks) (λ _. ks ≡ [])) (fault_same M N P same)
+    (by (path_fault M P) refl traversed o known)
+  where
+    by : (f : Option Refusal) → path_fault M P ≡ f
+        → ((v : ℕ) → MatchOption f (TraversedOfExtended M P v) (λ _. ⊥) → SameRound M N v)
+        → MatchOption f (QueriesOfExtended M P queries) (λ _. queries ≡ [])
+        → MatchOption f (KnownOfExtended M P ks) (λ _. ks ≡ []) → MatchOption f (KnownOfExtended N P ks) (λ _. ks ≡ [])
+    by None e traversed o known =
+        known_stay M N m n P is e same traversed queries o (λ ls each s t joined i k last on.
+        clear_routes M N ls each s t joined i k last C accounts back
+        (All-contains (IsClear N C) queries (query_to M ls i k) clear on)) ks known
+    by (Some r) e traversed o known = known
+
 -- if each coverage query is clear
 pub kept : (M N : Map) → IsMap M → IsMap N → (C : List ChangedLine) → AccountsFor C M N → AccountsFor C N M → (P : Path)
-    → IsTrue (is_path P.lines) → Each (SameLine M N) P.lines → (queries : List CoverageQuery) →
-    All (IsClear N C) queries
+    → IsTrue (is_path P.lines) → Each (SameLine M N) P.lines → (queries : List CoverageQuery) → All (IsClear N C) queries
     → ((v : ℕ) → TraversedOf M P v → SameRound M N v) → QueriesOf M P queries
-    → ((A : Answer) → Encodes M P A → Encodes N P A) × ((v : ℕ) → TraversedOf M P v ↔ TraversedOf N P v)
-    × QueriesOf N P queries
+    → ((A : Answer) → Encodes M P A → Encodes N P A) × ((v : ℕ) → TraversedOf M P v ↔ TraversedOf N P v) × QueriesOf N P queries
 kept M N m n C there here P is same queries clear =
     queried_kept M N m n P is same queries (λ ls each s t joined i k last on.
     clear_routes M N ls each s t joined i k last C there here
     (All-contains (IsClear N C) queries (query_to M ls i k) clear on))
 
 -- the same conclusion from what is touched
-pub untouched_retained : (M N : Map) → IsMap M → IsMap N → (T X : List ℕ) (C : List ChangedLine) → Difference T X C M N
-    → (P : Path) → IsTrue (is_path P.lines)
-    → ((x : ℕ) → has X x ≡ true → has P.lines x ≡ false) → ((v : ℕ) → has T v ≡ true → ¬ TraversedOf M P v)
-    → (queries : List CoverageQuery) → QueriesOf M P queries → All (IsClear N C) queries
-    → ((A : Answer) → Encodes M P A → Encodes N P A) × ((v : ℕ) → TraversedOf M P v ↔ TraversedOf N P v)
-    × QueriesOf N P queries
+pub untouched_retained : UntouchedRetained
 untouched_retained M N m n T X C d P is lines nodes queries o clear =
     let same : Each (SameLine M N) P.lines = λ x on.
     elim (cases_Bool (has X x)) [

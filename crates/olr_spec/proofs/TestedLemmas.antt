@@ -1,25 +1,23 @@
 -- A path has exactly one list of coverage queries, and they determine its footprint.
-use Rattle.std.proofs.Common.{inl, inr, ◌≡◌, ℕ, zero, suc, ◌+◌, ◌-◌, min, true, false, List, [], ◌∷◌, length, ◌<◌, ◌≤◌}
-use Rattle.std.proofs.Common.{Option, None, Some, IsTrue, Contains, refl, sym, ap, ◌∙◌, subst, arith, MatchOption, ◌↔◌}
-use Rattle.std.proofs.Common.{◌⊎◌}
+use Rattle.std.proofs.Common.{inl, inr, ◌≡◌, ℕ, zero, suc, ◌+◌, ◌-◌, min, true, List, [], ◌∷◌, length, ◌<◌, ◌≤◌, Option, None}
+use Rattle.std.proofs.Common.{Some, IsTrue, Contains, refl, sym, ap, ◌∙◌, subst, arith, MatchOption, ◌↔◌, ◌⊎◌}
 use Rattle.std.proofs.lemmas.Bool.{cases_lt, cases_eq, cases_order}
 use Rattle.std.specs.List.{AllZip}
-use Rattle.olr_spec.specs.Map.{Map, IsMap, SameRound, has}
+use Rattle.olr_spec.specs.Map.{Map, IsMap, has}
 use Rattle.olr_spec.specs.Routes.{dm_of}
 use Rattle.olr_spec.specs.Extension.{Path, is_path, extended_path, limit}
 use Rattle.olr_spec.specs.Points.{stretch, Covered, Greatest}
 use Rattle.olr_spec.specs.Encoding.{Refusal, path_fault}
-use Rattle.olr_spec.specs.Footprint.{Sees, Searched, Touched, On_path, On_start_run, On_end_run, Within_reach}
-use Rattle.olr_spec.specs.Footprint.{FootOf, Foot}
+use Rattle.olr_spec.specs.Footprint.{Sees, Touched, On_path, On_start_run, On_end_run, Within_reach, FootOf, Foot}
 use Rattle.olr_spec.specs.Detours.{Near}
-use Rattle.olr_spec.specs.Queries.{Traversed, TraversedOfExtended, TraversedOf, Needed, IsLastTested, CoverageQuery}
-use Rattle.olr_spec.specs.Queries.{query_to, IsQuery, querying}
-use Rattle.olr_spec.specs.Queries.{QueriesOfExtended, QueriesOf}
-use Rattle.olr_spec.proofs.AnswerLemmas.{one_extension, path_also}
+use Rattle.olr_spec.specs.Queries.{Traversed, TraversedOfExtended, TraversedOf, Needed, IsLastTested, CoverageQuery, query_to}
+use Rattle.olr_spec.specs.Queries.{IsQuery, querying, QueriesOfExtended}
+use Rattle.olr_spec.specs.Laws.{OneLastTested, SomeLastTested, OneQueries, SomeQueries, FootIsQueried, FootAffected}
+use Rattle.olr_spec.proofs.AnswerLemmas.{path_also, path_at, same_by}
 use Rattle.olr_spec.proofs.DecideLemmas.{dec_and, dec_le, dec_Covered, greatest_or_none, some_follow, some_encoding}
 use Rattle.olr_spec.proofs.ListLemmas.{has_here, has_there}
 use Rattle.olr_spec.proofs.AgreeLemmas.{turned_round}
-use Rattle.olr_spec.proofs.DetourLemmas.{near_there}
+use Rattle.olr_spec.proofs.RouteMoves.{near_there}
 use Rattle.olr_spec.proofs.JoinLemmas.{empty_stretch}
 use Rattle.olr_spec.proofs.QueryLists.{query_for, query_from, queries_here}
 
@@ -27,17 +25,15 @@ use Rattle.olr_spec.proofs.QueryLists.{query_for, query_from, queries_here}
 
 no_later : (M : Map) (ls : List ℕ) (i j k : ℕ) → IsLastTested M ls i j → IsLastTested M ls i k → ¬ (j < k)
 no_later M ls i j k p q lt =
-    let a = p.after in
     elim p.last [
-      | inl bare ↦ bare (q.before j a lt)
+      | inl bare ↦ bare (q.before j p.after lt)
       | inr all ↦ elim q.needed [
         | inl e ↦ absurd (omega arith)
-        | inr n ↦ let h : k ≤ j = all k n in
-            absurd (omega arith)
+        | inr n ↦ absurd (omega (arith, all k n))
       ]
     ]
 
-pub one_last_tested : (M : Map) (ls : List ℕ) (i j k : ℕ) → IsLastTested M ls i j → IsLastTested M ls i k → j ≡ k
+pub one_last_tested : OneLastTested
 one_last_tested M ls i j k p q =
     elim (cases_order j k) [
       | inl e ↦ e
@@ -52,7 +48,7 @@ module _ (M : Map) (m : IsMap M) (ls : List ℕ) (i f : ℕ)
   most = min f (length ls - 1)
 
   at_most : (k : ℕ) → Needed M ls i k → k ≤ most
-  at_most k n = let h = far.others n.0 (n.1, n.2) in let g = n.3 in omega arith
+  at_most k n = omega (arith, far.others n.0 (n.1, n.2))
 
   is_needed : (k : ℕ) → k ≤ most → Needed M ls i k
   is_needed k h = (f, far.holds.0, far.holds.1, h)
@@ -71,7 +67,7 @@ module _ (M : Map) (m : IsMap M) (ls : List ℕ) (i f : ℕ)
               inside = h;
               before = before;
               needed = n;
-              last = inr (λ j w. let g = at_most j w in omega arith);
+              last = inr (λ j w. omega (arith, at_most j w));
             },
           )
           | inl more ↦ test_on fuel (k + 1) (omega arith) (omega arith) (omega arith)
@@ -83,11 +79,11 @@ module _ (M : Map) (m : IsMap M) (ls : List ℕ) (i f : ℕ)
         ]
       ]
 
-pub some_last_tested : (M : Map) → IsMap M → (ls : List ℕ) (i : ℕ) → i + 1 < length ls → (k : ℕ) × IsLastTested M ls i k
+pub some_last_tested : SomeLastTested
 some_last_tested M m ls i h =
     let Near_enough : ℕ → Type 0 = λ j. (j ≤ length ls) × (dm_of M (stretch ls i j) ≤ limit) in
     elim (greatest_or_none Near_enough (λ j. dec_and (dec_le j (length ls)) (dec_le (dm_of M (stretch ls i j)) limit))
-    (suc (length ls)) (λ k n. let g = n.0 in omega arith)) [
+    (suc (length ls)) (λ k n. omega arith)) [
       | inl g ↦ test_on M m ls i g.0 g.1 (length ls) (i + 1) (omega arith) (omega arith) h
           (λ j b l. absurd (omega arith)) (inl refl)
       | inr none ↦ absurd (none i (
@@ -98,48 +94,35 @@ some_last_tested M m ls i h =
 
 -- ---- the coverage queries
 
-one_query : (M : Map) (ls : List ℕ) (i : ℕ) (k l : CoverageQuery) → IsQuery M ls i k → IsQuery M ls i l → k ≡ l
+pub one_query : (M : Map) (ls : List ℕ) (i : ℕ) (k l : CoverageQuery) → IsQuery M ls i k → IsQuery M ls i l → k ≡ l
 one_query M ls i k l p q = p.2 ∙ ap (query_to M ls i) (one_last_tested M ls i p.0 q.0 p.1 q.1) ∙ sym q.2
 
-one_zip : (M : Map) (ls is : List ℕ) (ks hs : List CoverageQuery) → AllZip (IsQuery M ls) is ks →
-    AllZip (IsQuery M ls) is hs
+one_zip : (M : Map) (ls is : List ℕ) (ks hs : List CoverageQuery) → AllZip (IsQuery M ls) is ks → AllZip (IsQuery M ls) is hs
     → ks ≡ hs
 one_zip M ls [] [] [] p q = refl
 one_zip M ls [] [] (h ∷ hs) p q = absurd q
 one_zip M ls [] (k ∷ ks) hs p q = absurd p
 one_zip M ls (i ∷ is) [] hs p q = absurd p
 one_zip M ls (i ∷ is) (k ∷ ks) [] p q = absurd q
-one_zip M ls (i ∷ is) (k ∷ ks) (h ∷ hs) p q =
-    let e : k ≡ h = one_query M ls i k h p.0 q.0 in
-    let r : ks ≡ hs = one_zip M ls is ks hs p.1 q.1 in
-    λ j. e j ∷ r j
+one_zip M ls (i ∷ is) (k ∷ ks) (h ∷ hs) p q = λ j. one_query M ls i k h p.0 q.0 j ∷ one_zip M ls is ks hs p.1 q.1 j
 
 some_zip : (M : Map) → IsMap M → (ls is : List ℕ) → ((i : ℕ) → has is i ≡ true → i + 2 < length ls)
     → (queries : List CoverageQuery) × AllZip (IsQuery M ls) is queries
 some_zip M m ls [] h = ([], tt)
 some_zip M m ls (i ∷ is) h =
-    let far = h i (has_here i is) in
-    let k = some_last_tested M m ls i (omega arith) in
+    let k = some_last_tested M m ls i (omega (arith, h i (has_here i is))) in
     let rest = some_zip M m ls is (λ j on. h j (has_there i is j on)) in
     (query_to M ls i k.0 ∷ rest.0, ((k.0, k.1, refl), rest.1))
 
 module _ (M : Map) (m : IsMap M) (P : Path) (is : IsTrue (is_path P.lines)) (sound : path_fault M P ≡ None) where
   one_list : (ks ls : List CoverageQuery) → QueriesOfExtended M P ks → QueriesOfExtended M P ls → ks ≡ ls
   one_list ks ls p q =
-      let same = one_extension M m P is sound q.before q.after q.points p.before p.after p.points q.tried q.follow
-      p.tried
-      p.follow in
-      let each : AllZip (IsQuery M (extended_path M P p.before p.after).lines)
-      (querying (extended_path M P p.before p.after).lines (0 ∷ p.points)) ls =
-      coe 0 1 (i. AllZip (IsQuery M (extended_path M P (same.0 i) (same.1 i)).lines)
-      (querying (extended_path M P (same.0 i) (same.1 i)).lines (0 ∷ same.2 i)) ls) q.holds in
-      one_zip M (extended_path M P p.before p.after).lines
-      (querying (extended_path M P p.before p.after).lines (0 ∷ p.points)) ks ls p.holds each
+      let E = (extended_path M P p.before p.after).lines in
+      one_zip M E (querying E (0 ∷ p.points)) ks ls p.holds (path_at m is sound p q)
 
   some_list : (queries : List CoverageQuery) × QueriesOfExtended M P queries
   some_list =
-      let a = some_encoding M m P is sound in
-      let p = a.1 in
+      let p = (some_encoding M m P is sound).1 in
       let ls = (extended_path M P p.before p.after).lines in
       let z = some_zip M m ls (querying ls (0 ∷ p.points)) (λ i on. (queries_here ls (0 ∷ p.points) i on).1) in (
         z.0,
@@ -149,25 +132,20 @@ module _ (M : Map) (m : IsMap M) (P : Path) (is : IsTrue (is_path P.lines)) (sou
   -- the footprint
   foot_there : (queries : List CoverageQuery) → QueriesOfExtended M P queries → (v : ℕ) → FootOf M P v
       → TraversedOfExtended M P v ⊎ ((l : CoverageQuery) × Contains queries l × Sees M l v)
-  foot_there queries o v f = by f.holds
+  foot_there queries o v f = by (path_at m is sound o f)
     where
-      traversed : Traversed M (extended_path M P f.before f.after).lines f.before f.after v → TraversedOfExtended M P v
-      traversed h = record { before = f.before; after = f.after; tried = f.tried; traversed = h }
+      traversed : Traversed M (extended_path M P o.before o.after).lines o.before o.after v → TraversedOfExtended M P v
+      traversed h = record { before = o.before; after = o.after; tried = o.tried; traversed = h }
 
-      by : Touched M (extended_path M P f.before f.after).lines f.before f.after f.points v
+      by : Touched M (extended_path M P o.before o.after).lines o.before o.after o.points v
           → TraversedOfExtended M P v ⊎ ((l : CoverageQuery) × Contains queries l × Sees M l v)
       by (On_path n) = inl (traversed (inl n))
       by (On_start_run n) = inl (traversed (inr (inl n)))
       by (On_end_run n) = inl (traversed (inr (inr n)))
-      by (Within_reach s) =
-          let same = one_extension M m P is sound f.before f.after f.points o.before o.after o.points f.tried f.follow
-          o.tried o.follow in
+      by (Within_reach t) =
           let ls = (extended_path M P o.before o.after).lines in
-          let t : Searched M ls (0 ∷ o.points) v =
-          coe 0 1 (i. Searched M (extended_path M P (same.0 i) (same.1 i)).lines (0 ∷ same.2 i) v) s in
           let l = query_for M ls (0 ∷ o.points) queries o.holds t.0 t.1 t.2 in
-          let one : t.3.0 ≡ l.0 = one_query M ls t.0 t.3.0 l.0 t.3.1 l.2 in
-          inr (l.0, l.1, subst (λ (k : CoverageQuery). Sees M k v) one t.3.2)
+          inr (l.0, l.1, subst (λ (k : CoverageQuery). Sees M k v) (one_query M ls t.0 t.3.0 l.0 t.3.1 l.2) t.3.2)
 
   foot_here : (queries : List CoverageQuery) → QueriesOfExtended M P queries → (v : ℕ)
       → TraversedOfExtended M P v ⊎ ((l : CoverageQuery) × Contains queries l × Sees M l v) → FootOf M P v
@@ -190,24 +168,15 @@ module _ (M : Map) (m : IsMap M) (P : Path) (is : IsTrue (is_path P.lines)) (sou
       by (inr (inl n)) = On_start_run n
       by (inr (inr n)) = On_end_run n
   foot_here queries o v (inr r) =
-      let ls = (extended_path M P o.before o.after).lines in
-      let i = query_from M ls (0 ∷ o.points) queries o.holds r.0 r.1 in
+      let i = query_from M ((extended_path M P o.before o.after).lines) (0 ∷ o.points) queries o.holds r.0 r.1 in
       path_also o (Within_reach (i.0, i.1, i.2, (r.0, i.3, r.2)))
 
 -- ---- whether or not the path has a fault
 
-pub one_queries : (M : Map) → IsMap M → (P : Path) → IsTrue (is_path P.lines) → (ks ls : List CoverageQuery) →
-    QueriesOf M P ks
-    → QueriesOf M P ls → ks ≡ ls
-one_queries M m P is ks ls = by (path_fault M P) refl
-  where
-    by : (o : Option Refusal) → path_fault M P ≡ o → MatchOption o (QueriesOfExtended M P ks) (λ _. ks ≡ [])
-        → MatchOption o (QueriesOfExtended M P ls) (λ _. ls ≡ []) → ks ≡ ls
-    by None e p q = one_list M m P is e ks ls p q
-    by (Some r) e p q = p ∙ sym q
+pub one_queries : OneQueries
+one_queries M m P is ks ls = same_by (path_fault M P) (QueriesOfExtended M P) ks ls (λ e. one_list M m P is e ks ls)
 
-pub some_queries : (M : Map) → IsMap M → (P : Path) → IsTrue (is_path P.lines) → (queries : List CoverageQuery)
-    × QueriesOf M P queries
+pub some_queries : SomeQueries
 some_queries M m P is = by (path_fault M P) refl
   where
     by : (o : Option Refusal) → path_fault M P ≡ o
@@ -215,15 +184,12 @@ some_queries M m P is = by (path_fault M P) refl
     by None e = some_list M m P is e
     by (Some r) e = ([], refl)
 
-pub foot_queried : (M : Map) → IsMap M → (P : Path) → IsTrue (is_path P.lines) → (queries : List CoverageQuery) →
-    QueriesOf M P queries
-    → (v : ℕ) → Foot M P v ↔ (TraversedOf M P v ⊎ ((l : CoverageQuery) × Contains queries l × Sees M l v))
+pub foot_queried : FootIsQueried
 foot_queried M m P is queries o v = by (path_fault M P) refl o
   where
     none : queries ≡ [] → ⊥ ⊎ ((l : CoverageQuery) × Contains queries l × Sees M l v) → ⊥
     none e (inl f) = f
-    none e (inr r) = let c = (r.2.0) in let h : r.1.0 < length queries = r.1.1 in
-        omega (arith, ap (λ (ks : List CoverageQuery). length ks) e)
+    none e (inr r) = let c = (r.2.0) in omega (arith, ap (λ (ks : List CoverageQuery). length ks) e)
 
     by : (o : Option Refusal) → path_fault M P ≡ o → MatchOption o (QueriesOfExtended M P queries) (λ _. queries ≡ [])
         → MatchOption o (FootOf M P v) (λ _. ⊥) ↔
@@ -233,11 +199,7 @@ foot_queried M m P is queries o v = by (path_fault M P) refl o
 
 -- ---- what touched nodes affect
 
-pub foot_affected : (M N : Map) → IsMap M → (T : List ℕ) → ((v : ℕ) → has T v ≡ false → SameRound M N v) → (P : Path)
-    → IsTrue (is_path P.lines) → (queries : List CoverageQuery) → QueriesOf M P queries
-    → ((v : ℕ) × IsTrue (has T v) × Foot M P v) ↔
-    (((v : ℕ) × IsTrue (has T v) × TraversedOf M P v) ⊎ ((l : CoverageQuery) × Contains queries l
-    × Near N T l.from l.within))
+pub foot_affected : FootAffected
 foot_affected M N m T round P is queries o = (there, here)
   where
     there : (v : ℕ) × IsTrue (has T v) × Foot M P v
@@ -259,8 +221,7 @@ foot_affected M N m T round P is queries o = (there, here)
     ]
 
     here : ((v : ℕ) × IsTrue (has T v) × TraversedOf M P v) ⊎
-        ((l : CoverageQuery) × Contains queries l × Near N T l.from l.within)
-        → (v : ℕ) × IsTrue (has T v) × Foot M P v
+        ((l : CoverageQuery) × Contains queries l × Near N T l.from l.within) → (v : ℕ) × IsTrue (has T v) × Foot M P v
     here (inl traversed) = (traversed.0, traversed.1, (foot_queried M m P is queries o traversed.0).1 (inl traversed.2))
     here (inr r) =
         let n = near_there N M T (λ v e. turned_round M N v (round v e)) r.0.from r.0.within r.2 in

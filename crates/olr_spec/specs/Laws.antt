@@ -38,6 +38,7 @@ use Rattle.olr_spec.specs.Recovery.{IsWeighted, are_spaced, lon_apart, lat_apart
 use Rattle.olr_spec.specs.Footprint.{Sees, Foot}
 use Rattle.olr_spec.specs.Detours.{ChangedLine, changes_of, AccountsFor, Difference, Detour, Near}
 use Rattle.olr_spec.specs.Queries.{TraversedOf, IsLastTested, CoverageQuery, query_to, QueriesOf, IsClear}
+use Rattle.olr_spec.specs.Queries.{KnownQuery, IsKnown, AreKnown, KnownOf, SearchedOf}
 
 -- ---- maps
 
@@ -356,6 +357,34 @@ QueriesStay =
     → IsLastTested N ls i k × (query_to M ls i k ≡ query_to N ls i k)
     × ((j : ℕ) → i < j → j ≤ length ls → dm_of M (stretch ls i j) ≤ limit → Covered M ls i j ↔ Covered N ls i j)
 
+-- if a coverage query along a path's own lines is clear, it is right on both maps
+abbrev pub KnownStays : Type 0
+KnownStays =
+    (M N : Map) (C : List ChangedLine) → AccountsFor C M N → AccountsFor C N M
+    → (ls : List ℕ) (e : KnownQuery) → IsKnown M ls e → IsClear N C e.query → IsKnown N ls e
+
+-- a path has at most one list of coverage queries along its own lines; each of them is right, and each begins at a later
+-- line than the one before it
+abbrev pub OneKnown : Type 0
+OneKnown =
+    (M : Map) → IsMap M → (P : Path) → IsTrue (is_path P.lines) → (ks ls : List KnownQuery) → KnownOf M P ks →
+    KnownOf M P ls → ks ≡ ls
+
+abbrev pub KnownHolds : Type 0
+KnownHolds =
+    (M : Map) (P : Path) → IsTrue (is_path P.lines) → (ks : List KnownQuery) → KnownOf M P ks → AreKnown M P.lines ks
+
+-- by given coverage queries there is at most one list of others, and where none are given these are all
+abbrev pub OneSearched : Type 0
+OneSearched =
+    (M : Map) → IsMap M → (P : Path) → IsTrue (is_path P.lines) → (given : List KnownQuery) (ks ls : List CoverageQuery)
+    → SearchedOf M P given ks → SearchedOf M P given ls → ks ≡ ls
+
+abbrev pub AllSearched : Type 0
+AllSearched =
+    (M : Map) → IsMap M → (P : Path) → IsTrue (is_path P.lines) → (ks ls : List CoverageQuery) → QueriesOf M P ks →
+    SearchedOf M P [] ls → ks ≡ ls
+
 -- if no traversed node of a path is touched, none of its lines is different, and each of its coverage queries is clear,
 -- then its answer, traversed nodes and coverage queries are the same on both maps
 abbrev pub AnswersRetained : Type 0
@@ -367,7 +396,16 @@ AnswersRetained =
     → ((A : Answer) → Encodes M P A → Encodes N P A) × ((v : ℕ) → TraversedOf M P v ↔ TraversedOf N P v)
     × QueriesOf N P queries
 
--- the same conclusion from what the edits touch and change
+-- and so are its coverage queries along its own lines
+abbrev pub KnownRetained : Type 0
+KnownRetained =
+    (M N : Map) → IsMap M → IsMap N → (C : List ChangedLine) → AccountsFor C M N → AccountsFor C N M
+    → (P : Path) → IsTrue (is_path P.lines) → AllByRecursion (SameLine M N) P.lines →
+    ((v : ℕ) → TraversedOf M P v → SameRound M N v)
+    → (queries : List CoverageQuery) → QueriesOf M P queries → All (IsClear N C) queries
+    → (ks : List KnownQuery) → KnownOf M P ks → KnownOf N P ks
+
+-- the same conclusion as of AnswersRetained, from what the edits touch and change
 abbrev pub UntouchedRetained : Type 0
 UntouchedRetained =
     (M N : Map) → IsMap M → IsMap N → (T X : List ℕ) (C : List ChangedLine) → Difference T X C M N

@@ -1,0 +1,318 @@
+-- Coverage queries along a path's own lines: what they say without the extension, and that they are the same on another
+-- map where they are clear.
+use Rattle.std.proofs.Common.{inr, ◌≡◌, ℕ, ◌+◌, ◌-◌, min, List, [], ◌∷◌, ◌++◌, length, ◌<◌, ◌≤◌, sym, ap, ◌∙◌, subst, arith}
+use Rattle.std.proofs.Common.{refl, ◌↔◌, Bool, true, false, IsTrue, Option, None, Some, MatchOption, nat_lt, length-append}
+use Rattle.std.proofs.lemmas.List.{drop-append-le, take-append-le, append_assoc, get_or_append_left, get_or-append-add}
+use Rattle.std.proofs.lemmas.List.{length-drop}
+use Rattle.std.proofs.Math.Seq.{drop-append-add}
+use Rattle.std.specs.List.{slice_index, AllZip}
+use Rattle.std.proofs.lemmas.List.Elements.{All-nil}
+use Rattle.olr_spec.specs.Map.{Map, IsMap, start, end, SameLine}
+use Rattle.olr_spec.specs.Routes.{IsRoute, dm_of, UniqueShortest, LrpRoute}
+use Rattle.olr_spec.specs.Extension.{Path, is_path, extended_path, from_start, taken_start, taken_end, AreJoined}
+use Rattle.olr_spec.specs.Points.{stretch, Covered, Follow}
+use Rattle.olr_spec.specs.Encoding.{Refusal, path_fault}
+use Rattle.olr_spec.specs.Detours.{ChangedLine, AccountsFor, Detour}
+use Rattle.olr_spec.specs.Queries.{IsLastTested, CoverageQuery, query_to, IsQuery, IsClear, KnownQuery, IsKnown, AreKnown}
+use Rattle.olr_spec.specs.Queries.{IsKnownAt, FoundFor, OfQuerying, KnownOfExtended, IsSearched, SearchedOfExtended, SearchedOf}
+use Rattle.olr_spec.specs.Queries.{QueriesOf, QueriesOfExtended, querying}
+use Rattle.olr_spec.specs.Laws.{OneKnown, OneSearched, KnownHolds, AllSearched}
+use Rattle.olr_spec.proofs.ListLemmas.{Each, Each-head, Each-left, Each-right}
+use Rattle.olr_spec.proofs.RouteLemmas.{dm_of-append, IsRoute-split}
+use Rattle.olr_spec.proofs.AgreeLemmas.{same_start, same_dm_of}
+use Rattle.olr_spec.proofs.RouteMoves.{IsRoute-moves, same_there, clear_unique}
+use Rattle.olr_spec.proofs.JoinLemmas.{stretch_first, follow_linked, Linked}
+use Rattle.olr_spec.proofs.JoinedLemmas.{extended_joined}
+use Rattle.olr_spec.proofs.AnswerLemmas.{path_also, path_at, same_by}
+use Rattle.olr_spec.proofs.WayLemmas.{way_between, next_start}
+use Rattle.olr_spec.proofs.QueryLemmas.{stretch_parts, onward}
+use Rattle.olr_spec.proofs.TestedLemmas.{one_last_tested, one_query}
+use Rattle.olr_spec.proofs.KnownLists.{one_found, found_each, found_increasing, Ascend, ascend_filter}
+
+-- ---- on another map
+
+module _ (M N : Map) (C : List ChangedLine) (there : AccountsFor C M N) (here : AccountsFor C N M) (ls : List ℕ)
+    (e : KnownQuery) (k : IsKnown M ls e) (clear : IsClear N C e.query) where
+  abbrev s : ℕ
+  s = e.query.from
+
+  abbrev t : ℕ
+  t = e.query.to
+
+  abbrev whole : List ℕ
+  whole = stretch ls e.first e.last
+
+  abbrev part : ℕ → List ℕ
+  part m = stretch ls e.first m
+
+  same : Each (SameLine M N) whole
+  same = same_there M N C s t e.query.within there here clear whole k.route (omega arith)
+
+  parts : (m : ℕ) → e.first ≤ m → m ≤ e.last → whole ≡ part m ++ stretch ls m e.last
+  parts m h g = stretch_parts ls e.first m e.last h g
+
+  part_same : (m : ℕ) → e.first ≤ m → m ≤ e.last → Each (SameLine M N) (part m)
+  part_same m h g = Each-left (SameLine M N) (part m) (stretch ls m e.last)
+      (subst (Each (SameLine M N)) (parts m h g) same)
+
+  rest_same : (m : ℕ) → e.first ≤ m → m ≤ e.last → Each (SameLine M N) (stretch ls m e.last)
+  rest_same m h g = Each-right (SameLine M N) (part m) (stretch ls m e.last)
+      (subst (Each (SameLine M N)) (parts m h g) same)
+
+  -- line m and those after it
+  rest_first : (m : ℕ) → e.first ≤ m → m < e.last → stretch ls m e.last ≡ slice_index ls m ∷ stretch ls (m + 1) e.last
+  rest_first m h g = stretch_first ls m e.last g (omega arith)
+
+  rest_route : (m : ℕ) → e.first ≤ m → m < e.last → IsRoute M (start M (slice_index ls m)) t (stretch ls m e.last)
+  rest_route m h g =
+      let r = IsRoute-split M s t (part m) (stretch ls m e.last)
+      (coe 0 1 (j. IsRoute M s t (parts m h (omega arith) j)) k.route) in
+      coe 1 0 (j. IsRoute M ((coe 0 1 (j. IsRoute M r.0 t (rest_first m h g j)) r.2).1 j) t (stretch ls m e.last)) r.2
+
+  start_same : (m : ℕ) → e.first ≤ m → m < e.last → start M (slice_index ls m) ≡ start N (slice_index ls m)
+  start_same m h g =
+      same_start M N (slice_index ls m) (Each-head (SameLine M N) (slice_index ls m) (stretch ls (m + 1) e.last)
+      (subst (Each (SameLine M N)) (rest_first m h g) (rest_same m h (omega arith))))
+
+  -- if no detour to the end is as short, none to line m is
+  clear_to : (m : ℕ) → e.first ≤ m → m < e.last → ¬ Detour N C s (start M (slice_index ls m)) (dm_of N (part m))
+  clear_to m h g = λ o.
+      let way = IsRoute-moves M N (start M (slice_index ls m)) t (stretch ls m e.last) (rest_same m h (omega arith))
+      (rest_route m h g) in
+      let longer = onward N C s (start M (slice_index ls m)) t (dm_of N (part m)) (stretch ls m e.last) o way in
+      let sum = sym (dm_of-append N (part m) (stretch ls m e.last)) ∙ ap (dm_of N) (sym (parts m h (omega arith)))
+      ∙ sym (same_dm_of M N whole same) ∙ sym k.within in
+      clear (coe 0 1 (i. Detour N C s t (sum i)) longer)
+
+  pub known_stays : IsKnown N ls e
+  known_stays =
+      let long : dm_of M whole ≡ dm_of N whole = same_dm_of M N whole same in
+      record {
+        order = k.order;
+        upto = k.upto;
+        route = IsRoute-moves M N s t whole same k.route;
+        within = k.within ∙ long;
+        before = λ m h g.
+            let as_long = same_dm_of M N (part m) (part_same m h (omega arith)) in
+            coe 0 1 (j. UniqueShortest N s (start_same m h g j) (part m))
+            ((clear_unique M N C s (start M (slice_index ls m)) (dm_of N (part m)) there here (clear_to m h g) (part m)
+            as_long (omega arith)).0 (k.before m h g));
+        covered =
+            let unique = clear_unique M N C s t e.query.within there here clear whole long (omega arith) in
+            ((λ c. unique.0 (k.covered.0 c)), (λ r. k.covered.1 (unique.1 r)));
+      }
+
+-- ---- on the extended path
+
+-- the lines of the path within those of the extended path
+module _ (b own a : List ℕ) where
+  abbrev pub lines_with : List ℕ
+  lines_with = (b ++ own) ++ a
+
+  pub own_line : (p : ℕ) → p < length own → slice_index lines_with (length b + p) ≡ slice_index own p
+  own_line p h = grind (arith, get_or_append_left, length-append, get_or-append-add)
+
+  pub own_stretch : (p q : ℕ) → p ≤ q → q ≤ length own → stretch lines_with (length b + p) (length b + q) ≡ stretch own p q
+  own_stretch p q h g = grind (arith, lines_with, append_assoc, drop-append-add, drop-append-le, take-append-le, length-drop)
+
+-- nothing is asked of the last line
+pub covered_unique : (M : Map) (ls : List ℕ) (i j : ℕ) → i < j → j < length ls →
+    Covered M ls i j ↔ LrpRoute M (end M (slice_index ls i)) (start M (slice_index ls j)) (stretch ls (i + 1) j)
+covered_unique M ls i j h g =
+    let is : j ≡ min j (length ls - 1) = omega arith in
+    let Route : ℕ → Type 0 = λ m. LrpRoute M (end M (slice_index ls i)) (start M (slice_index ls m)) (stretch ls (i + 1) m) in
+    coe 0 1 (k. (i < (is k) → Route (is k)) ↔ Route j) ((λ c. c h), (λ r lt. r))
+
+-- a route's lines lead to one node
+one_end : (M : Map) (s t u : ℕ) (xs : List ℕ) → IsRoute M s t xs → IsRoute M s u xs → t ≡ u
+one_end M s t u [] v w = sym v ∙ w
+one_end M s t u (x ∷ xs) v w = one_end M (end M x) t u xs v.2 w.2
+
+module _ (M : Map) (b own a : List ℕ) (joined : AreJoined M ((b ++ own) ++ a)) (i : ℕ) (e : KnownQuery)
+    (begins : i + 1 ≡ length b + e.first) (order : e.first < e.last) (upto : e.last ≤ length own)
+    (inside : length b + e.last < length ((b ++ own) ++ a)) where
+  abbrev ls : List ℕ
+  ls = (b ++ own) ++ a
+
+  abbrev from : ℕ
+  from = end M (slice_index ls i)
+
+  abbrev to : ℕ
+  to = start M (slice_index ls (length b + e.last))
+
+  part_is : (m : ℕ) → e.first ≤ m → m ≤ e.last → stretch ls (i + 1) (length b + m) ≡ stretch own e.first m
+  part_is m h g =
+      ap (λ (n : ℕ). stretch ls n (length b + m)) begins ∙ own_stretch b own a e.first m h (omega arith)
+
+  from_start_of : from ≡ start M (slice_index own e.first)
+  from_start_of = grind (arith, next_start, ls, own_line)
+
+  way : IsRoute M from to (stretch own e.first e.last)
+  way =
+      let next = next_start M _ _ ls i joined (omega arith) in
+      coe 0 1 (j. IsRoute M (sym next j) to (part_is e.last (omega arith) (omega arith) j))
+      (way_between M _ _ ls (i + 1) (length b + e.last) joined (omega arith) inside)
+
+  -- what is right of the path is right of the extended path
+  module _ (k : IsKnown M own e) where
+    first_is : start M (slice_index own e.first) ≡ e.query.from
+    first_is = (coe 0 1 (j. IsRoute M e.query.from e.query.to (stretch_first own e.first e.last order (omega arith) j))
+        k.route).1
+
+    pub from_known : e.query.from ≡ from
+    from_known = sym first_is ∙ sym from_start_of
+
+    pub to_known : e.query.to ≡ to
+    to_known = one_end M from e.query.to to (stretch own e.first e.last)
+        (coe 0 1 (i. IsRoute M (from_known i) e.query.to (stretch own e.first e.last)) k.route) way
+
+    pub query_known : e.query ≡ query_to M ls i (length b + e.last)
+    query_known = λ j. record {
+      from = from_known j;
+      to = to_known j;
+      within =
+          (k.within ∙ ap (dm_of M) (sym (part_is e.last (omega arith) (omega arith)))) j;
+    }
+
+    pub before_known : (m : ℕ) → e.first ≤ m → m < e.last →
+        UniqueShortest M from (start M (slice_index ls (length b + m))) (stretch ls (i + 1) (length b + m))
+    before_known m h g = grind (arith, own_line, from_known, part_is)
+
+    pub covered_known : IsTrue e.covered ↔ UniqueShortest M from to (stretch ls (i + 1) (length b + e.last))
+    covered_known =
+        let is = part_is e.last (omega arith) (omega arith) in
+        coe 0 1 (j. IsTrue e.covered ↔ UniqueShortest M (from_known j) (to_known j) (sym is j)) k.covered
+
+  -- and the other way round
+  module _ (tested : IsLastTested M ls i (length b + e.last)) (query : e.query ≡ query_to M ls i (length b + e.last))
+      (covered : IsTrue e.covered ↔ Covered M ls i (length b + e.last)) where
+    from_is : from ≡ e.query.from
+    from_is = sym (ap (λ (q : CoverageQuery). q.from) query)
+
+    to_is : to ≡ e.query.to
+    to_is = sym (ap (λ (q : CoverageQuery). q.to) query)
+
+    pub is_known : IsKnown M own e
+    is_known =
+        let c = covered_unique M ls i (length b + e.last) (omega arith) inside in
+        record {
+          order = order;
+          upto = upto;
+          route = coe 0 1 (j. IsRoute M (from_is j) (to_is j) (stretch own e.first e.last)) way;
+          within = ap (λ (q : CoverageQuery). q.within) query
+              ∙ ap (dm_of M) (part_is e.last (omega arith) (omega arith));
+          before = λ m h g.
+              let r = (covered_unique M ls i (length b + m) (omega arith) (omega arith)).0
+              (tested.before (length b + m) (omega arith) (omega arith)) in
+              let line = own_line b own a m (omega arith) in
+              coe 0 1 (j. LrpRoute M (from_is j) (start M (line j)) (part_is m h (omega arith) j)) r;
+          covered = coe 0 1 (j. IsTrue e.covered ↔ LrpRoute M (from_is j) (to_is j)
+              (part_is e.last (omega arith) (omega arith) j))
+              ((λ t. c.0 (covered.0 t)), (λ r. covered.1 (c.1 r)));
+        }
+
+-- ---- the lists of a path
+
+-- LRPs ascend
+linked_ascend : (M : Map) (ls : List ℕ) (k : ℕ) (js : List ℕ) → Linked M ls (k ∷ js) → Ascend k (k ∷ js)
+linked_ascend M ls k [] l = (omega arith, tt)
+linked_ascend M ls k (j ∷ js) l = (omega arith, (omega arith, (linked_ascend M ls j js l.1).1))
+
+pub querying_ascend : (M : Map) (ls js : List ℕ) → Follow M ls 0 js → Ascend 0 (querying ls (0 ∷ js))
+querying_ascend M ls js f =
+    ascend_filter (λ i. nat_lt (i + 2) (length ls)) 0 (0 ∷ js) (linked_ascend M ls 0 js (follow_linked M ls 0 js f))
+
+-- what holds for the LRPs of one extension and list holds for those of the other, which are the same
+module _ (M : Map) (m : IsMap M) (P : Path) (is : IsTrue (is_path P.lines)) (sound : path_fault M P ≡ None)
+    {X : Type 0} (R : List ℕ → ℕ → ℕ → X → Type 0)
+    (one : (ls : List ℕ) (lead i : ℕ) (x y : X) → R ls lead i x → R ls lead i y → x ≡ y) where
+  abbrev Found : List X → Type 0
+  Found xs = OfQuerying M P (λ ls lead is. FoundFor (R ls lead) is xs)
+
+  one_list : (xs ys : List X) → Found xs → Found ys → xs ≡ ys
+  one_list xs ys p q =
+      let E = (extended_path M P p.before p.after).lines in
+      let lead = length (taken_start M p.before P.lines) in
+      one_found (R E lead) (one E lead) (querying E (0 ∷ p.points)) xs ys p.holds (path_at m is sound p q)
+
+one_known_at : (M : Map) (ls : List ℕ) (lead own i : ℕ) (d e : KnownQuery) → IsKnownAt M ls lead own i d →
+    IsKnownAt M ls lead own i e → d ≡ e
+one_known_at M ls lead own i d e p q =
+    let first : d.first ≡ e.first = omega arith in
+    let same = one_last_tested M ls i (lead + d.last) (lead + e.last) p.tested q.tested in
+    let last : d.last ≡ e.last = omega arith in
+    let query : d.query ≡ e.query = p.query ∙ ap (query_to M ls i) same ∙ sym q.query in
+    let covers = coe 0 1 (j. Covered M ls i (lead + d.last) ↔ Covered M ls i (same j)) ((λ c. c), (λ c. c)) in
+    let covered : d.covered ≡ e.covered = same_bool d.covered e.covered (λ t. q.covered.1 (covers.0 (p.covered.0 t)))
+    (λ t. p.covered.1 (covers.1 (q.covered.0 t))) in
+    λ j. record { query = query j; first = first j; last = last j; covered = covered j }
+  where
+    same_bool : (x y : Bool) → (x ≡ true → y ≡ true) → (y ≡ true → x ≡ true) → x ≡ y
+    same_bool true y f g = sym (f refl)
+    same_bool false true f g = g refl
+    same_bool false false f g = refl
+
+-- ---- whether or not the path has a fault
+
+pub one_known : OneKnown
+one_known M m P is ks ls =
+    same_by (path_fault M P) (KnownOfExtended M P) ks ls (λ e. one_list M m P is e
+    (λ E lead. IsKnownAt M E lead (length P.lines)) (λ E lead. one_known_at M E lead (length P.lines)) ks ls)
+
+pub one_searched : OneSearched
+one_searched M m P is given ks ls =
+    same_by (path_fault M P) (SearchedOfExtended M P given) ks ls (λ e. one_list M m P is e
+    (λ E lead. IsSearched M E lead (length P.lines) given) (λ E lead i k l f g. one_query M E i k l f.0 g.0) ks ls)
+
+-- ---- the coverage queries along a path's own lines are right, and they ascend
+
+known_at : (M : Map) (b own a : List ℕ) → AreJoined M ((b ++ own) ++ a) → (i : ℕ) (e : KnownQuery) →
+    IsKnownAt M ((b ++ own) ++ a) (length b) (length own) i e → IsKnown M own e
+known_at M b own a joined i e k =
+    is_known M b own a joined i e k.begins k.order k.upto k.tested.inside k.tested k.query k.covered
+
+pub none_known : (M : Map) (ls : List ℕ) → AreKnown M ls []
+none_known M ls = record { right = All-nil (IsKnown M ls); ascend = λ j h. absurd (omega arith) }
+
+pub known_holds : KnownHolds
+known_holds M P is ks = by (path_fault M P) refl
+  where
+    by : (o : Option Refusal) → path_fault M P ≡ o → MatchOption o (KnownOfExtended M P ks) (λ _. ks ≡ []) →
+        AreKnown M P.lines ks
+    by None e p =
+        let b = taken_start M p.before P.lines in
+        let a = taken_end M (from_start M P p.before) p.after in
+        let ls = (b ++ P.lines) ++ a in
+        let At = IsKnownAt M ls (length b) (length P.lines) in
+        let joined = extended_joined M P is e p.before p.after p.tried in
+        record {
+          right = found_each At (IsKnown M P.lines) (known_at M b P.lines a joined) (querying ls (0 ∷ p.points)) ks
+              p.holds;
+          ascend = found_increasing At (λ e. e.first) (length b) (λ i x k. k.begins) (querying ls (0 ∷ p.points)) ks
+              (querying_ascend M ls p.points p.follow) p.holds;
+        }
+    by (Some r) e p = subst (AreKnown M P.lines) (sym p) (none_known M P.lines)
+
+-- ---- where nothing is given, everything is searched
+
+found_all : (M : Map) (ls : List ℕ) (lead own : ℕ) (is : List ℕ) (qs : List CoverageQuery) → AllZip (IsQuery M ls) is qs
+    → FoundFor (IsSearched M ls lead own []) is qs
+found_all M ls lead own [] [] z = refl
+found_all M ls lead own [] (q ∷ qs) z = absurd z
+found_all M ls lead own (i ∷ is) [] z = absurd z
+found_all M ls lead own (i ∷ is) (q ∷ qs) z =
+    inr (q, qs, refl, (z.0, λ r. absurd (omega arith)), found_all M ls lead own is qs z.1)
+
+pub searched_all : (M : Map) (P : Path) (ks : List CoverageQuery) → QueriesOf M P ks → SearchedOf M P [] ks
+searched_all M P ks = by (path_fault M P)
+  where
+    by : (o : Option Refusal) → MatchOption o (QueriesOfExtended M P ks) (λ _. ks ≡ []) →
+        MatchOption o (SearchedOfExtended M P [] ks) (λ _. ks ≡ [])
+    by None p =
+        let ls = (extended_path M P p.before p.after).lines in
+        path_also p (found_all M ls (length (taken_start M p.before P.lines)) (length P.lines)
+        (querying ls (0 ∷ p.points)) ks p.holds)
+    by (Some r) p = p
+
+pub all_searched : AllSearched
+all_searched M m P is ks ls p q = one_searched M m P is [] ks ls (searched_all M P ks p) q
