@@ -8,7 +8,7 @@ use olr_coords::Coord;
 use olr_map::{Edit, Line, LineEnd, LineId, MapRead, NodeId, RoadMap};
 use olr_refs::{Answer, Path, refer};
 use olr_register::Register;
-use olr_route::Work;
+use olr_search::Work;
 use std::alloc::Global;
 use std::io;
 

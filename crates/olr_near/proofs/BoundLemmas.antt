@@ -1,8 +1,6 @@
 -- How bounds change, and what follows from them if no line leads on.
-use Rattle.std.proofs.Common.{◌≡◌, ◌≢◌, nat_eq, ◌*◌, ◌^◌, get_or, length, ℕ, ◌+◌, ◌-◌, ◌<◌, ◌≤◌, ◌⊎◌, List, [], ◌∷◌}
-use Rattle.std.proofs.Common.{◌++◌}
-use Rattle.std.proofs.Common.{Option, Some, None, IsSome, IsTrue, Bool, refl, sym, ap, ◌∙◌, subst, inl, inr, arith}
-use Rattle.std.proofs.Common.{le_trans}
+use Rattle.std.proofs.Common.{◌≡◌, ◌≢◌, nat_eq, ◌*◌, ◌^◌, get_or, length, ℕ, ◌+◌, ◌-◌, ◌<◌, ◌≤◌, ◌⊎◌, List, [], ◌∷◌, ◌++◌}
+use Rattle.std.proofs.Common.{Option, Some, None, IsSome, IsTrue, Bool, refl, sym, ap, ◌∙◌, subst, inl, inr, arith, le_trans}
 use Rattle.std.proofs.lemmas.Bool.{cases_Bool, cases_eq, cases_lt, eqb-true, ne_eqb}
 use Rattle.std.specs.Prelude.{sum_by, unwrap_or, min}
 use Rattle.std.specs.Option.{option_map}
@@ -25,10 +23,10 @@ use Rattle.olr_spec.proofs.AgreeLemmas.{turned_round, by_leaving, same_known, sa
 use Rattle.olr_map.specs.Ends.{end_out, ends_out}
 use Rattle.olr_map.specs.declared.read.LineEnd.{LineEnd}
 use Rattle.olr_near.proofs.Waiting.{line_there, pushed_kept, pushed_there}
-use Rattle.olr_near.specs.Bounds.{Numbers, bound_of, IsSource, Within, ClosedAt, IsRight, IsWaiting, IsUnderWay}
-use Rattle.olr_near.specs.Bounds.{SameBut, Moves, IsReopened, IsLowered, IsFollowed, IsLed, lesser}
+use Rattle.olr_near.specs.Bounds.{Numbers, bound_of, IsSource, Within, ClosedAt, IsRight, IsWaiting, IsUnderWay, SameBut, Moves}
+use Rattle.olr_near.specs.Bounds.{IsReopened, IsLowered, IsFollowed, IsLed, lesser}
 use Rattle.olr_near.specs.declared.distance_bounds.DistanceBounds.{DistanceBounds}
-use Rattle.olr_route.proofs.WayLemmas.{no_end}
+use Rattle.olr_search.proofs.WayLemmas.{no_end}
 
 -- ---- bounds that did not increase
 
@@ -41,8 +39,6 @@ Better L K = (v d : ℕ) → L v ≡ Some d → Within K v d
 pub within_better : (L K : ℕ → Option ℕ) → Better L K → (v d : ℕ) → Within L v d → Within K v d
 within_better L K better v d w =
     let k = better v w.number w.at in
-    let low = k.low in
-    let was = w.low in
     record { number = k.number; at = k.at; low = omega arith }
 
 pub closed_better : (M : Map) (L K : ℕ → Option ℕ) → Better L K → (u d : ℕ) → ClosedAt M L u d → ClosedAt M K u d
@@ -93,19 +89,17 @@ module _ (L K : ℕ → Option ℕ) (v d : ℕ) (there : K v ≡ Some d) (others
 -- between f and g, after which node v is queued with that bound
 pub put_moves : (f g : DistanceBounds) (k v d : ℕ) → k ≡ v → Updates nat_eq f.bounds g.bounds k (Some d) →
     ((e : ℕ) → bound_of f k ≡ Some e → d < e)
-    → IsPermutation (record { 0 = (d, v) } ∷ heap_items f.waiting) (heap_items g.waiting) → g.known ≡ f.known →
-    Moves f g
+    → IsPermutation (record { 0 = (d, v) } ∷ heap_items f.waiting) (heap_items g.waiting) → g.known ≡ f.known → Moves f g
 put_moves f g k v d is updates less p known =
     let L = bound_of f in
     let K = bound_of g in
     let there : K v ≡ Some d = ap K (sym is) ∙ updates.1 in
     let others : (q : ℕ) → q ≢ v → K q ≡ L q = λ q ne. updates.2 q (ne_eqb k q (λ e. ne (sym e ∙ is))) in
     record {
-      better = put_better L K v d there others (λ e at. let lt = less e (ap L is ∙ at) in omega arith);
+      better = put_better L K v d there others (λ e at. omega (arith, less e (ap L is ∙ at)));
       fresh = λ q e at. elim (put_fresh L K v d there others q e at) [
         | inl was ↦ inl was
-        | inr h ↦ inr (subst (λ (n : ℕ). IsWaiting g n q) (sym h.0)
-            (subst (λ (u : ℕ). IsWaiting g d u) (sym h.1) (pushed_there _ _ _ p)))
+        | inr h ↦ inr (coe 1 0 (i. IsWaiting g (h.0 i) q) (coe 1 0 (i. IsWaiting g d (h.1 i)) (pushed_there _ _ _ p)))
       ];
       kept = λ e q w. pushed_kept _ _ _ e q p w;
       known = known;
@@ -126,17 +120,15 @@ pub kept_lowered : (f g : DistanceBounds) (k v d e : ℕ) → k ≡ v → Update
     Some e ≡ bound_of f k → e ≤ d → IsLowered f g v d
 kept_lowered f g k v d e is updates was le =
     let same : e ≡ min e d = omega arith in
-    let had : Some e ≡ bound_of f v = was ∙ ap (bound_of f) is in
     record {
-      at =
-          ap (bound_of g) (sym is) ∙ updates.1 ∙ ap (λ (n : ℕ). Some n) same
-          ∙ ap (λ (o : Option ℕ). Some (lesser o d)) had;
+      at = ap (bound_of g) (sym is) ∙ updates.1 ∙ ap (λ (n : ℕ). Some n) same
+          ∙ ap (λ (o : Option ℕ). Some (lesser o d)) (was ∙ ap (bound_of f) is);
       others = λ q ne. updates.2 q (ne_eqb k q (λ i. ne (sym i ∙ is)));
     }
 
 lesser_put : (o : Option ℕ) (d : ℕ) → ((e : ℕ) → o ≡ Some e → d < e) → d ≡ lesser o d
 lesser_put None d less = refl
-lesser_put (Some e) d less = let lt = less e refl in omega arith
+lesser_put (Some e) d less = omega (arith, less e refl)
 
 pub put_lowered : (f g : DistanceBounds) (k v d : ℕ) → k ≡ v → Updates nat_eq f.bounds g.bounds k (Some d) →
     ((e : ℕ) → bound_of f k ≡ Some e → d < e) → IsLowered f g v d
@@ -175,7 +167,7 @@ weight k = limit + 1 - k
 gain_by : (a b d : ℕ) (old : Option ℕ) → b + unwrap_or (option_map weight old) 0 ≡ a + weight d → d ≤ limit →
     ((e : ℕ) → old ≡ Some e → d < e) → a + 1 ≤ b
 gain_by a b d None sum short less = omega arith
-gain_by a b d (Some e) sum short less = let lt = less e refl in omega arith
+gain_by a b d (Some e) sum short less = omega (arith, less e refl)
 
 pub gain_put : (m n : Numbers) (v d : ℕ) (old : Option ℕ) → old ≡ get nat_eq m v → PutsEntry nat_eq m n v d old →
     d ≤ limit → ((e : ℕ) → get nat_eq m v ≡ Some e → d < e)
@@ -187,21 +179,19 @@ gain_put m n v d old was puts short less =
 -- if it was there already
 pub gain_same : (m n : Numbers) (v d : ℕ) → Some d ≡ get nat_eq m v → PutsEntry nat_eq m n v d (Some d) →
     sum_by weight (values n) ≡ sum_by weight (values m)
-gain_same m n v d was puts = let sum = sum_by_puts_entry weight nat_eq m n v d (Some d) was puts in omega arith
+gain_same m n v d was puts = omega (arith, sum_by_puts_entry weight nat_eq m n v d (Some d) was puts)
 
 -- there are no more bounds than nodes, and each counts at most the limit plus one
 pub gain_le : (m : Numbers) → ((v : ℕ) → IsSome (get nat_eq m v) → v < 2 ^ 32) → IsUnique nat_eq m →
     sum_by weight (values m) ≤ 2 ^ 32 * (limit + 1)
 gain_le m below unique =
-    let each = sum_by-le weight (limit + 1) (values m) (λ i k lt. omega arith) in
-    let few =
-    length-le_from_distinct_below (keys m) (2 ^ 32) unique
+    let few = length-le_from_distinct_below (keys m) (2 ^ 32) unique
     (λ q h. below q (IsSome-lookup_from_Contains nat_eq_equiv q m.entries
     (Contains-from_any (λ x y e. eqb-true x y e) q (keys m) h))) in
     let same : length (values m) ≡ length (keys m) =
     length-values_of m.entries ∙ sym (length-map m.entries (λ (e : ℕ × ℕ). e.0)) in
     let less : length (values m) ≤ 2 ^ 32 = omega arith in
-    le_trans each (mul-le-mul_right (limit + 1) less)
+    le_trans (sum_by-le weight (limit + 1) (values m) (λ i k lt. omega arith)) (mul-le-mul_right (limit + 1) less)
 
 -- ---- the queue
 
@@ -214,12 +204,11 @@ module _ (M : Map) (f g : DistanceBounds) (d v : ℕ) (same : g.bounds ≡ f.bou
   pub popped_skip : ¬ (bound_of f v ≡ Some d) → IsUnderWay M f → IsUnderWay M g
   popped_skip other under is u e at =
       let was : bound_of f u ≡ Some e = ap (λ (L : ℕ → Option ℕ). L u) (sym bounds_same) ∙ at in
-      elim (under (subst (λ (b : Bool). IsTrue b) known is) u e was) [
-        | inl closed ↦ inl (subst (λ (L : ℕ → Option ℕ). ClosedAt M L u e) (sym bounds_same) closed)
+      elim (under (coe 0 1 (i. IsTrue (known i)) is) u e was) [
+        | inl closed ↦ inl (coe 1 0 (i. ClosedAt M (bounds_same i) u e) closed)
         | inr w ↦ elim (others e u w) [
           | inl still ↦ inr still
-          | inr k ↦ absurd (other (subst (λ (n : ℕ). bound_of f v ≡ Some n) k.0
-              (subst (λ (q : ℕ). bound_of f q ≡ Some e) k.1 was)))
+          | inr k ↦ absurd (other (coe 0 1 (i. bound_of f v ≡ Some (k.0 i)) (coe 0 1 (i. bound_of f (k.1 i) ≡ Some e) was)))
         ]
       ]
 
@@ -246,8 +235,6 @@ led_itself M L v d at = record { from = v; number = d; at = at; route = []; lead
 
 pub led_on : (M : Map) (L : ℕ → Option ℕ) (u n v d : ℕ) → IsLed M L u n → IsFollowed M u n v d → IsLed M L v d
 led_on M L u n v d k f =
-    let before = k.long in
-    let more = f.long in
     let both = dm_of-append M k.route (f.line ∷ []) in
     record {
       from = k.from;
@@ -264,28 +251,23 @@ pub closed_same : (M N : Map) (L : ℕ → Option ℕ) (u d : ℕ) → SameRound
 closed_same M N L u d same closed x known from short =
     let is : SameLine N M x = by_leaving N M u x (turned_round M N u same) known from in
     let long = same_dm N M x is in
-    subst (λ (v : ℕ). Within L v (d + dm N x)) (sym (same_end N M x is))
-    (subst (λ (n : ℕ). Within L (end M x) (d + n)) (sym long)
-    (closed x (subst (λ (b : Bool). IsTrue b) (same_known N M x is) known) (sym (same_start N M x is) ∙ from)
-    (omega arith)))
+    coe 1 0 (i. Within L (same_end N M x is i) (d + long i))
+    (closed x (sym (same_known N M x is) ∙ known) (sym (same_start N M x is) ∙ from) (omega arith))
 
-pub reopened_sources : (T : List ℕ) (f g : DistanceBounds) → IsReopened T f g → (s w : ℕ) → IsSource f s w →
-    IsSource g s w
+pub reopened_sources : (T : List ℕ) (f g : DistanceBounds) → IsReopened T f g → (s w : ℕ) → IsSource f s w → IsSource g s w
 reopened_sources T f g r s w source is =
-    let k = source (subst (λ (b : Bool). IsTrue b) r.known is) in
+    let k = source (coe 0 1 (i. IsTrue (r.known i)) is) in
     record { number = k.number; at = ap (λ (m : Numbers). get nat_eq m s) r.same ∙ k.at; low = k.low }
 
-pub reopened_under_way : (M N : Map) (T : List ℕ) (f g : DistanceBounds) → IsReopened T f g → SameBut T M N →
-    IsUnderWay M f →
+pub reopened_under_way : (M N : Map) (T : List ℕ) (f g : DistanceBounds) → IsReopened T f g → SameBut T M N → IsUnderWay M f →
     IsUnderWay N g
 reopened_under_way M N T f g r same under is u d at =
     let bounds : bound_of g ≡ bound_of f = ap (λ (m : Numbers). λ (v : ℕ). get nat_eq m v) r.same in
     let was : bound_of f u ≡ Some d = ap (λ (L : ℕ → Option ℕ). L u) (sym bounds) ∙ at in
     elim (cases_Bool (has T u)) [
       | inl on ↦ inr (r.waits u d on was)
-      | inr off ↦ elim (under (subst (λ (b : Bool). IsTrue b) r.known is) u d was) [
-        | inl closed ↦ inl (subst (λ (L : ℕ → Option ℕ). ClosedAt N L u d) (sym bounds)
-            (closed_same M N (bound_of f) u d (same u off) closed))
+      | inr off ↦ elim (under (coe 0 1 (i. IsTrue (r.known i)) is) u d was) [
+        | inl closed ↦ inl (coe 1 0 (i. ClosedAt N (bounds i) u d) (closed_same M N (bound_of f) u d (same u off) closed))
         | inr w ↦ inr (r.kept d u w)
       ]
     ]
@@ -295,11 +277,9 @@ reopened_under_way M N T f g r same under is u d at =
 -- a route within the limit leads from a node with a bound to a node with a bound
 number_along : (M : Map) (f : DistanceBounds) → IsRight M f → IsTrue f.known → (u v d : ℕ) (xs : List ℕ) →
     bound_of f u ≡ Some d → IsRoute M u v xs → d + dm_of M xs ≤ limit → IsSome (bound_of f v)
-number_along M f right known u v d [] at w short =
-    subst (λ (o : Option ℕ). IsSome o) (sym (ap (bound_of f) (sym w) ∙ at)) refl
+number_along M f right known u v d [] at w short = coe 1 0 (i. IsSome ((ap (bound_of f) (sym w) ∙ at) i)) refl
 number_along M f right known u v d (x ∷ xs) at w short =
     let k = right known u d at x w.0 w.1 (omega arith) in
-    let low = k.low in
     number_along M f right known (end M x) v k.number xs k.at w.2 (omega arith)
 
 pub near_bounded : (M : Map) (f : DistanceBounds) (s w : ℕ) (T : List ℕ) → IsTrue f.known → IsRight M f →
@@ -308,7 +288,7 @@ pub near_bounded : (M : Map) (f : DistanceBounds) (s w : ℕ) (T : List ℕ) →
 near_bounded M f s w T known right source near =
     let k = source known in
     number_along M f right known s near.node k.number near.route k.at near.leads
-    (let short = near.within in let low = k.low in omega arith)
+    (omega arith)
 
 -- ---- the lines from a node
 
@@ -320,7 +300,6 @@ end_there M slot v x items is known from =
     let k = line_there M v x known from in
     let long : length items ≡ length (lines_out M v) =
     ap (λ (zs : List LineEnd). length zs) is ∙ length-map (lines_out M v) (end_out M slot) in
-    let lt = k.1 in
     let here : get_or items k.0 no_end ≡ end_out M slot x =
     ap (λ (zs : List LineEnd). get_or zs k.0 no_end) is ∙ get_or-map (end_out M slot) (lines_out M v) k.0 0 no_end k.1
     ∙ ap (end_out M slot) k.2 in

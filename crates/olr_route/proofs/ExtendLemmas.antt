@@ -11,9 +11,9 @@ use Rattle.olr_spec.proofs.OptionLemmas.{some_of, is_some_of}
 use Rattle.olr_route.specs.Labels.{Label, Labels, label_at, dist_at, last_at, last_of, AreLabels, LeastWithin}
 use Rattle.olr_route.specs.Labels.{UniqueWithin}
 use Rattle.olr_route.specs.Ends.{OnlyPredecessor}
-use Rattle.olr_route.proofs.RouteEnds.{last_of-append, ends_of, ended_by, dm_of-line, route_on, last_step, least_front}
-use Rattle.olr_route.proofs.RouteEnds.{same_last}
-use Rattle.olr_route.proofs.RouteEnds.Ends.{empty, ended}
+use Rattle.olr_search.proofs.RouteEnds.{ends_of, dm_of-line, route_on, last_step, same_last}
+use Rattle.olr_search.proofs.RouteEnds.Ends.{empty, ended}
+use Rattle.olr_route.proofs.LastLemmas.{last_of-append, ended_by, least_front}
 
 -- a label by its last line
 label_of_last : (k : Option Label) (x : ℕ) → option_and_then (λ k. k.1) k ≡ Some x → (d : ℕ) × (k ≡ Some (d, Some x))

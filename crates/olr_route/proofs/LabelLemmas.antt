@@ -8,8 +8,9 @@ use Rattle.olr_spec.proofs.LabelLemmas.{last_first}
 use Rattle.olr_spec.proofs.OptionLemmas.{some_of, is_some_of}
 use Rattle.olr_route.specs.Labels.{Label, Labels, label_at, last_of, IsLabel, AreLabels}
 use Rattle.olr_route.specs.Relaxed.{NotGreater, NotAfter, Capped, IsClosed, Found}
-use Rattle.olr_route.proofs.RouteEnds.{last_of-append, ends_of, dm_of-line, route_on, LastStep, last_step}
-use Rattle.olr_route.proofs.RouteEnds.Ends.{empty, ended}
+use Rattle.olr_search.proofs.RouteEnds.{ends_of, dm_of-line, route_on, LastStep, last_step}
+use Rattle.olr_search.proofs.RouteEnds.Ends.{empty, ended}
+use Rattle.olr_route.proofs.LastLemmas.{last_of-append}
 
 pub not_after_le : (d e : ℕ) (o p : Option ℕ) → NotAfter d o e p → d ≤ e
 not_after_le d e o p (inl h) = omega arith

@@ -9,19 +9,20 @@ use Rattle.olr_spec.specs.Routes.{IsRoute, dm_of}
 use Rattle.olr_spec.proofs.RouteLemmas.{positive}
 use Rattle.olr_route.specs.Labels.{Label, AreLabels, label_at}
 use Rattle.olr_route.specs.Listed.{listed_labels, IsTight, IsLastLine, IsReturned}
-use Rattle.olr_route.specs.Frontiers.{label_of}
+use Rattle.olr_search.specs.Frontiers.{label_of}
 use Rattle.olr_route.specs.Relaxed.{NotGreater, Capped, Found}
-use Rattle.olr_route.specs.Searches.{IsSearch, LiesWithin}
-use Rattle.olr_route.specs.declared.distances.Direction.TheVariants.{Along}
-use Rattle.olr_route.specs.declared.distances.Dijkstra.{Dijkstra}
-use Rattle.olr_route.proofs.NoteLemmas.{first_one}
+use Rattle.olr_search.specs.Searches.{IsSearch, LiesWithin}
+use Rattle.olr_search.specs.declared.distances.Direction.TheVariants.{Along}
+use Rattle.olr_search.specs.declared.distances.Dijkstra.{Dijkstra}
+use Rattle.olr_search.proofs.NoteLemmas.{first_one}
 use Rattle.olr_route.proofs.LabelLemmas.{Certified, labels_of_certified}
-use Rattle.olr_route.proofs.SearchLemmas.{is_distance, label_is, distance_node}
-use Rattle.olr_route.proofs.UniqueLemmas.{way_le, label_way}
+use Rattle.olr_search.proofs.SearchLemmas.{is_distance, label_is, distance_node}
+use Rattle.olr_search.proofs.UniqueLemmas.{way_le, label_way}
+use Rattle.olr_route.proofs.LastLemmas.{last_of-append}
 use Rattle.olr_route.proofs.ViewLemmas.{label_of_node, node_of_label}
-use Rattle.olr_route.proofs.RouteEnds.{last_of-append, ends_of, dm_of-line, route_on, last_step}
-use Rattle.olr_route.proofs.RouteEnds.Ends.{empty, ended}
-use Rattle.olr_route.proofs.WayLemmas.{leads_first}
+use Rattle.olr_search.proofs.RouteEnds.{ends_of, dm_of-line, route_on, last_step}
+use Rattle.olr_search.proofs.RouteEnds.Ends.{empty, ended}
+use Rattle.olr_search.proofs.WayLemmas.{leads_first}
 
 -- an option has a value, or none
 something : (o : Option ℕ) → (o ≡ None) ⊎ ((x : ℕ) × (o ≡ Some x))
@@ -32,21 +33,21 @@ module _ (M : Map) (slot : ℕ → ℕ) (s : ℕ) (q : Dijkstra) (h : IsSearch M
     (source : IsTrue (has_node M s)) (ks : List ℕ) (ls : List Label) (up : IsStrictlyIncreasing ks)
     (beside : length ls ≡ length ks)
     (near : (v : ℕ) → Contains ks v ↔ LiesWithin M Along ((s, 0) ∷ []) q.limit v)
-    (reported : (i : ℕ) → i < length ks → IsReturned M slot q.frontier (get_or ks i 0) (get_or ls i (0, None))) where
+    (reported : (i : ℕ) → i < length ks → IsReturned M slot q (get_or ks i 0) (get_or ls i (0, None))) where
   -- what a label says, and that it is within the limit
   record Says (v d : ℕ) (o : Option ℕ) : Type 0 where
     known : IsTrue (has_node M v)
     dist : label_of q.frontier (slot v) ≡ d
     within : d ≤ q.limit
-    last : IsLastLine M slot q.frontier v d o
+    last : IsLastLine M slot q v d o
 
   says : (v d : ℕ) (o : Option ℕ) → label_at (listed_labels s q.limit ks ls) v ≡ Some (d, o) → Says v d o
   says v d o at =
       let k = node_of_label s q.limit ks ls up beside v (d, o) at in
       let t = reported k.0 k.1 in
-      let here : IsReturned M slot q.frontier v (d, o) =
-      subst (λ (l : Label). IsReturned M slot q.frontier v l) k.3
-      (subst (λ (u : ℕ). IsReturned M slot q.frontier u (get_or ls k.0 (0, None))) k.2 t) in
+      let here : IsReturned M slot q v (d, o) =
+      subst (λ (l : Label). IsReturned M slot q v l) k.3
+      (subst (λ (u : ℕ). IsReturned M slot q u (get_or ls k.0 (0, None))) k.2 t) in
       let n = (near v).0 (k.0, k.1, get_or_default ks k.0 v 0 k.1 ∙ k.2) in
       let known = distance_node M slot Along ((s, 0) ∷ []) q h v n.0 n.1 in
       let is = label_is M slot Along ((s, 0) ∷ []) q h v n.0 known n.1 n.2 in
@@ -56,13 +57,13 @@ module _ (M : Map) (slot : ℕ → ℕ) (s : ℕ) (q : Dijkstra) (h : IsSearch M
 
   -- a node within the limit has a label
   labelled : (v : ℕ) → IsTrue (has_node M v) → label_of q.frontier (slot v) ≤ q.limit → (k : Label)
-      × (label_at (listed_labels s q.limit ks ls) v ≡ Some k) × IsReturned M slot q.frontier v k
+      × (label_at (listed_labels s q.limit ks ls) v ≡ Some k) × IsReturned M slot q v k
   labelled v known le =
       let c = (near v).1 (label_of q.frontier (slot v), is_distance M slot Along ((s, 0) ∷ []) q h v known le, le) in
       let is : get_or ks c.0 0 ≡ v = get_or_default ks c.0 0 v c.1 ∙ c.2 in (
         get_or ls c.0 (0, None),
         label_of_node s q.limit ks ls up beside v c.0 c.1 is,
-        subst (λ (u : ℕ). IsReturned M slot q.frontier u (get_or ls c.0 (0, None))) is (reported c.0 c.1),
+        subst (λ (u : ℕ). IsReturned M slot q u (get_or ls c.0 (0, None))) is (reported c.0 c.1),
       )
 
   -- a shortest route, and one more line
@@ -136,6 +137,10 @@ module _ (M : Map) (slot : ℕ → ℕ) (s : ℕ) (q : Dijkstra) (h : IsSearch M
       let w = label_way M slot s q h (start M y) (m.starts y tight.known) (omega arith) in
       let long = w.2 in
       let more = dm_of-line M w.0 y in
+      let dist = t.dist in
+      let low = on_by (start M y) y (m.starts y tight.known) tight.known refl (omega arith) in
+      let same : label_of q.frontier (slot (end M y)) ≡ label_of q.frontier (slot v) =
+      ap (λ (n : ℕ). label_of q.frontier (slot n)) tight.to in
       record {
         lines = w.0 ++ y ∷ [];
         route = subst (λ (u : ℕ). IsRoute M s u (w.0 ++ y ∷ [])) tight.to (route_on M s y w.0 w.1 tight.known);
@@ -161,7 +166,7 @@ module _ (M : Map) (slot : ℕ → ℕ) (s : ℕ) (q : Dijkstra) (h : IsSearch M
         low = elim (cases_lt r.0.0 (d + dm M x)) [
           | inl lt ↦ inl lt
           | inr ge ↦
-              let tight : IsTight M slot q.frontier (end M x) r.0.0 x =
+              let tight : IsTight M slot q (end M x) r.0.0 x =
               record { known = line; to = refl; long = omega arith } in
               elim (something r.0.1) [
                 | inl e ↦ absurd (r.2.last.none e x tight)
@@ -189,6 +194,3 @@ module _ (M : Map) (slot : ℕ → ℕ) (s : ℕ) (q : Dijkstra) (h : IsSearch M
 
   pub reported_labels : AreLabels M (listed_labels s q.limit ks ls)
   reported_labels = labels_of_certified M h.under_way.labelled.sound (listed_labels s q.limit ks ls) certified
-
-  pub node_there : (v : ℕ) → Contains ks v → IsTrue (has_node M v)
-  node_there v c = let n = (near v).0 c in distance_node M slot Along ((s, 0) ∷ []) q h v n.0 n.1

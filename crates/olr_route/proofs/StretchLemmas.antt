@@ -7,7 +7,7 @@ use Rattle.olr_spec.specs.Routes.{IsRoute, dm_of, Least, UniqueShortest}
 use Rattle.olr_spec.proofs.RouteLemmas.{dm_of-append, IsRoute-split, prefix_of_least, prefix_of_unique, empty_least}
 use Rattle.olr_spec.proofs.RouteLemmas.{empty_unique}
 use Rattle.olr_route.specs.Labels.{Labels, LeastWithin, UniqueWithin}
-use Rattle.olr_route.proofs.RouteEnds.{route_on, last_step}
+use Rattle.olr_search.proofs.RouteEnds.{route_on, last_step}
 
 -- line y is the one after the first i lines of a route from s to t
 pub record IsNext (M : Map) (s t : ℕ) (lines : List ℕ) (i y : ℕ) : Type 0 where

@@ -1,10 +1,7 @@
 -- Counts of work.
-use Rattle.std.specs.Prelude.{ℕ, ◌+◌, ◌-◌, ◌^◌, min}
-use Rattle.olr_route.specs.declared.work.Work.{Work}
-
--- a count saturates at the greatest number of 64 bits
-abbrev pub saturated_count : ℕ → ℕ
-saturated_count n = min n (2 ^ 64 - 1)
+use Rattle.std.specs.Prelude.{ℕ, ◌+◌}
+use Rattle.olr_search.specs.Counts.{saturated_count}
+use Rattle.olr_search.specs.declared.work.Work.{Work}
 
 -- one more search, which labelled so many nodes
 abbrev pub after_search : Work → ℕ → Work

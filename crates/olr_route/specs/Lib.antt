@@ -2,11 +2,4 @@ pub mod Labels
 pub mod Counts
 pub mod Relaxed
 pub mod Ends
-pub mod Entries
-pub mod Queues
-pub mod Notes
-pub mod Frontiers
 pub mod Listed
-pub mod Distances
-pub mod Searches
-pub mod Bounds

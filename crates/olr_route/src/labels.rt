@@ -3,8 +3,8 @@ ghost use Rattle.std.specs.Prelude.{◌≡◌, ◌≤◌, ◌↔◌, ◌⊎◌, 
 ghost use Rattle.olr_route.specs.Labels.{label_at, count_of};
 ghost use Rattle.olr_route.specs.Counts.{after_search};
 
-use crate::work::Work;
 use olr_map::{Footprint, LineId, NodeId};
+use olr_search::Work;
 use std::alloc::AllocError;
 use std::marker::Model;
 

@@ -1,5 +1,5 @@
-//! What the searches and the tests read of a line.
-ghost use Rattle.std.specs.Prelude.{◌≡◌, ◌≤◌, ◌↔◌, IsSome, IfSome, IsTrue};
+//! What the tests of routes read of a line.
+ghost use Rattle.std.specs.Prelude.{◌≡◌, ◌≤◌, IsTrue};
 ghost use Rattle.olr_spec.specs.Map.{has_line, start, end, dm};
 
 use olr_map::{LineId, MapRead, NodeId};
@@ -28,15 +28,4 @@ pub fn start_of<M: MapRead>(map: &M, id: LineId) -> (NodeId, u32)
         unreachable!()
     };
     (line.from, line.len)
-}
-
-/// Where a line begins and where it ends, and its length in decimetres. None if the line is not on the map.
-pub fn both_ends<M: MapRead>(map: &M, id: LineId) -> Option<(NodeId, NodeId, u32)>
-    ensures there { IsSome result ↔ IsTrue (has_line (M.map map.now) id) }
-    ensures start { IfSome result (λ x. x.0 ≡ start (M.map map.now) id) }
-    ensures end { IfSome result (λ x. x.1 ≡ end (M.map map.now) id) }
-    ensures length { IfSome result (λ x. x.2 ≡ dm (M.map map.now) id) }
-{
-    let line = map.line(id)?;
-    Some((line.from, line.to, line.len))
 }

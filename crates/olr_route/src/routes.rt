@@ -3,17 +3,31 @@ ghost use Rattle.std.specs.Prelude.{◌≡◌, ◌≤◌, ◌↔◌, ◌⊎◌, 
 ghost use Rattle.olr_spec.specs.Map.{has_node};
 ghost use Rattle.olr_route.specs.Labels.{AreLabels, label_at, count_of};
 ghost use Rattle.olr_route.specs.Counts.{after_search};
+ghost use Rattle.olr_search.specs.Searches.{IsSearch, limit_of};
 
-use crate::distances::{Direction, settled_search};
-use crate::frontier::nodes_of;
 use crate::labels::{Labels, note_labels};
 use crate::last_lines::labels_at;
-use crate::work::Work;
 use olr_map::{Footprint, MapRead, NodeId};
+use olr_search::{Dijkstra, Direction, GREATEST_LIMIT, Work};
 use std::alloc::{AllocError, Global};
 
-/// The greatest limit of a search, in decimetres: the greatest distance of two location reference points.
-pub const GREATEST_LIMIT: u32 = 150_000;
+/// A search from some nodes, each with a start value, settled to a limit. All in decimetres.
+pub fn settled_search<M: MapRead>(
+    alloc: Global,
+    map: &M,
+    direction: Direction,
+    from: &[(NodeId, u32)],
+    limit: u32,
+) -> Result<Dijkstra, AllocError>
+    requires { limit ≤ GREATEST_LIMIT }
+    ensures search { IfOk result (λ search. IsSearch (M.map map.now) (M.node_slot map.now) direction from.now search) }
+    ensures limit { IfOk result (λ search. limit_of search ≡ limit) }
+{
+    let mut search = Dijkstra::new(alloc);
+    search.begin(map, direction, from)?;
+    search.settle_to(map, limit)?;
+    Ok(search)
+}
 
 /// Labels the nodes that a route of at most `limit_dm` decimetres from the source reaches, each with the length and the
 /// last line of the shortest path there. Of equally long routes the shortest path is the one with the smaller line
@@ -39,9 +53,8 @@ pub fn search<M: MapRead>(
     ensures grows { OnOk result (length footprint.old ≤ length footprint.new) }
 {
     let settled = settled_search(alloc, map, Direction::Along, &[(source, 0)], limit_dm)?;
-    let reached = settled.reached_within(alloc)?;
-    let labels = labels_at(alloc, map, &settled.frontier, &reached)?;
-    let nodes = nodes_of(alloc, &reached)?;
+    let nodes = settled.nodes(alloc)?;
+    let labels = labels_at(alloc, map, &settled, &nodes)?;
     let labels = Labels::new(source, limit_dm, nodes, labels);
     note_labels(&labels, footprint, work)?;
     Ok(labels)

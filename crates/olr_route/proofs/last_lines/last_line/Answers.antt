@@ -5,14 +5,14 @@ use Rattle.std.proofs.lemmas.Grind.{get_or_default_zero}
 use Rattle.olr_spec.specs.Map.{start, dm}
 use Rattle.olr_spec.proofs.OrderLemmas.{ascend_in}
 use Rattle.olr_spec.proofs.AscendingLists.{ascends}
-use Rattle.olr_route.specs.Frontiers.{label_of}
+use Rattle.olr_search.specs.Bounds.{label_at}
 use Rattle.olr_route.specs.Listed.{IsTight}
-use Rattle.olr_route.proofs.ReadLemmas.{entering}
-use Rattle.olr_route.proofs.WayLemmas.{entry_is, as_many}
+use Rattle.olr_search.proofs.ReadLemmas.{entering}
+use Rattle.olr_search.proofs.WayLemmas.{entry_is, as_many}
 use Rattle.olr_route.proofs.last_lines.last_line.Goals as goal
 
-pub returns-then-is_at_length : goal.returns-then-is_at_length
-returns-then-is_at_length g c =
+pub returns-then-leads_within : goal.returns-then-leads_within
+returns-then-leads_within g c =
     let M = g.M.MapRead.map c.args.map.now in
     let slot = g.M.MapRead.node_slot c.args.map.now in
     let lines = c.in_lines_at-lines.result.now in
@@ -24,17 +24,17 @@ returns-then-is_at_length g c =
     let x = c.index-lines-index.result in
     let is : x ≡ get_or lines c.loop-index.index 0 =
     c.index-lines-index.is ∙ get_or_default_zero lines c.loop-index.index x e.within in
-    let at : label_of c.args.frontier.now c.index-ends-index.result.slot
-    ≡ label_of c.args.frontier.now (slot (start M (get_or lines c.loop-index.index 0))) =
-    ap (label_of c.args.frontier.now) e.there in
+    let at : label_at c.args.settled.now c.index-ends-index.result.slot
+    ≡ label_at c.args.settled.now (slot (start M (get_or lines c.loop-index.index 0))) =
+    ap (label_at c.args.settled.now) e.there in
     let len = e.len in
-    let sum = c.is_at_length.ensures.0 c.if-is_at_length.true in
-    let tight : IsTight M slot c.args.frontier.now c.args.node c.args.length (get_or lines c.loop-index.index 0) =
+    let sum = c.leads_within.ensures.0 c.if-leads_within.true in
+    let tight : IsTight M slot c.args.settled.now c.args.node c.args.length (get_or lines c.loop-index.index 0) =
     record { known = e.known; to = e.leads; long = omega arith } in
     record {
       tight = λ y same.
           let one : x ≡ y = cc in
-          subst (IsTight M slot c.args.frontier.now c.args.node c.args.length) (sym is ∙ one) tight;
+          subst (IsTight M slot c.args.settled.now c.args.node c.args.length) (sym is ∙ one) tight;
       least = λ y z same t.
           let one : x ≡ y = cc in
           let k =
@@ -42,7 +42,7 @@ returns-then-is_at_length g c =
           t.known t.to in
           elim (cases_lt k.0 c.loop-index.index) [
             | inl low ↦ absurd (c.loop-index.invariant k.0 low
-                (subst (IsTight M slot c.args.frontier.now c.args.node c.args.length) (sym k.2) t))
+                (subst (IsTight M slot c.args.settled.now c.args.node c.args.length) (sym k.2) t))
             | inr high ↦
                 let le =
                 ascends lines (subst (λ (zs : List ℕ). IsStrictlyIncreasing zs)
@@ -69,15 +69,15 @@ loop-index-preserved g c = λ j lt t.
           (c.in_lines_at-lines.ensures c.args.node c.requires.known c.requires.at)
           (c.in_ends_at-ends.ensures c.args.node c.requires.known c.requires.at) c.loop-index.index
           c.index-ends-index.result c.loop-index-test.true c.index-ends-index.is in
-          let at : label_of c.args.frontier.now c.index-ends-index.result.slot
-          ≡ label_of c.args.frontier.now (slot (start M (get_or lines j 0))) =
-          ap (label_of c.args.frontier.now) e.there
-          ∙ ap (λ (n : ℕ). label_of c.args.frontier.now (slot (start M (get_or lines n 0)))) (sym same) in
+          let at : label_at c.args.settled.now c.index-ends-index.result.slot
+          ≡ label_at c.args.settled.now (slot (start M (get_or lines j 0))) =
+          ap (label_at c.args.settled.now) e.there
+          ∙ ap (λ (n : ℕ). label_at c.args.settled.now (slot (start M (get_or lines n 0)))) (sym same) in
           let len : c.index-ends-index.result.len ≡ dm M (get_or lines j 0) =
           e.len ∙ ap (λ (n : ℕ). dm M (get_or lines n 0)) (sym same) in
           let long = t.long in
-          let yes = c.is_at_length.ensures.1 (omega arith) in
-          let never : ⊥ = cc (yes, c.if-is_at_length.false) in absurd never
+          let yes = c.leads_within.ensures.1 (omega arith) in
+          let never : ⊥ = cc (yes, c.if-leads_within.false) in absurd never
     ]
 
 pub returns : goal.returns
@@ -99,5 +99,5 @@ returns g c =
           t.known t.to in
           let lt = k.1 in
           c.loop-index.invariant k.0 (omega arith)
-          (subst (IsTight M slot c.args.frontier.now c.args.node c.args.length) (sym k.2) t);
+          (subst (IsTight M slot c.args.settled.now c.args.node c.args.length) (sym k.2) t);
     }

@@ -4,7 +4,7 @@ use Rattle.std.proofs.lemmas.Grind.{get_or_default_zero}
 use Rattle.olr_route.specs.Labels.{dist_at}
 use Rattle.olr_route.specs.Ends.{FartherThan}
 use Rattle.olr_route.proofs.EqualLemmas.{differ, agree}
-use Rattle.olr_route.proofs.ReadLemmas.{enters, entering}
+use Rattle.olr_search.proofs.ReadLemmas.{enters, entering}
 use Rattle.olr_route.proofs.shortest.is_only_predecessor.Goals as goal
 use Rattle.olr_route.proofs.shortest.is_only_predecessor.Goals.{then-ne+else-is_within, else-ne}
 

@@ -1,4 +1,4 @@
-use Rattle.std.proofs.Common.{ℕ, subst, arith}
+use Rattle.std.proofs.Common.{arith}
 use Rattle.olr_near.specs.Bounds.{IsLowered}
 use Rattle.olr_near.proofs.BoundLemmas.{source_better, moves_under_way}
 use Rattle.olr_near.proofs.distance_bounds.DistanceBounds.add.Goals as goal
@@ -6,8 +6,6 @@ use Rattle.olr_near.proofs.distance_bounds.DistanceBounds.add.Goals as goal
 pub returns-in-Ok-clause-source : goal.returns-in-Ok-clause-source
 returns-in-Ok-clause-source c = λ known.
     let k = c.in-Ok.ensures.within in
-    let low = k.low in
-    let left = c.saturating_sub.ensures in
     record { number = k.number; at = k.at; low = omega arith }
 
 pub returns-in-Ok-clause-sources : goal.returns-in-Ok-clause-sources
@@ -19,5 +17,4 @@ returns-in-Ok-clause-under_way c = λ M. moves_under_way M c.args.self.now c.rel
 
 pub returns-in-Ok-clause-lowered : goal.returns-in-Ok-clause-lowered
 returns-in-Ok-clause-lowered c =
-    subst (λ (d : ℕ). IsLowered c.args.self.now c.relax.new.self c.args.source d) c.saturating_sub.ensures
-    c.in-Ok.ensures.lowered
+    coe 0 1 (i. IsLowered c.args.self.now c.relax.new.self c.args.source (c.saturating_sub.ensures i)) c.in-Ok.ensures.lowered

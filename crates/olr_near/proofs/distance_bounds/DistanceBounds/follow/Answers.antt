@@ -5,10 +5,10 @@ use Rattle.olr_spec.specs.Map.{dm}
 use Rattle.olr_map.specs.declared.read.LineEnd.{LineEnd}
 use Rattle.olr_near.specs.Bounds.{bound_of, Within}
 use Rattle.olr_near.proofs.BoundLemmas.{within_better, moves_then, end_there, lowered_from}
-use Rattle.olr_route.proofs.WayLemmas.{no_end, end_is}
-use Rattle.olr_route.specs.declared.distances.Direction.TheVariants.{Along}
-use Rattle.olr_near.proofs.distance_bounds.DistanceBounds.follow.Goals as goal
+use Rattle.olr_search.proofs.WayLemmas.{no_end, end_is}
+use Rattle.olr_search.specs.declared.distances.Direction.TheVariants.{Along}
 use Rattle.olr_near.proofs.distance_bounds.DistanceBounds.follow.Goals.{then-end-room+in_ok-relax, else-end-room}
+use Rattle.olr_near.proofs.distance_bounds.DistanceBounds.follow.Goals as goal
 
 pub loop-end-preserved : goal.loop-end-preserved
 loop-end-preserved g c =
@@ -18,11 +18,9 @@ loop-end-preserved g c =
     let here : (j : ℕ) → j ≡ n → c.end-item.result ≡ get_or items j no_end =
     λ j same. c.end-item.is ∙ get_or_default items n c.end-item.result no_end c.loop-end-test.true
     ∙ ap (λ (k : ℕ). get_or items k no_end) (sym same) in
-    let paid = inv.paid in
     elim c.if-end-room.branch [
       | then-end-room+in_ok-relax w ↦
           let more = w.in_ok-relax.ensures in
-          let paid_more = more.paid in
           rw w.self-is (record {
             moves = moves_then c.args.self.now c.loop-end.self w.relax.new.self inv.moves more.moves;
             paid = omega arith;
@@ -34,8 +32,6 @@ loop-end-preserved g c =
                       let e =
                       end_is (g.M.MapRead.map c.args.map.now) (g.M.MapRead.node_slot c.args.map.now) Along c.args.node
                       items n c.end-item.result c.out_ends-end-items.ensures c.loop-end-test.true c.end-item.is in
-                      let len = e.len in
-                      let long = new.0 in
                       inr (record {
                         line = e.line;
                         known = e.known;
@@ -55,7 +51,6 @@ loop-end-preserved g c =
             ];
           })
       | else-end-room w ↦
-          let far = w.if-end-room.false in
           rw w.self-is (record {
             moves = inv.moves;
             paid = inv.paid;
@@ -73,14 +68,9 @@ loop-end-preserved g c =
 
 pub returns-clause-closed : goal.returns-clause-closed
 returns-clause-closed g c = λ x known from short.
-    let k =
-    end_there (g.M.MapRead.map c.args.map.now) (g.M.MapRead.node_slot c.args.map.now) c.args.node x
+    let k = end_there (g.M.MapRead.map c.args.map.now) (g.M.MapRead.node_slot c.args.map.now) c.args.node x
     c.out_ends-end-items.result.now c.out_ends-end-items.ensures known from in
-    let lt = k.1 in
-    let len = k.3 in
-    let past = c.loop-end-test.false in
     let w = c.loop-end.invariant.followed k.0 (omega arith) (omega arith) in
     let L = bound_of c.loop-end.self in
-    let e = get_or c.out_ends-end-items.result.now k.0 no_end in
-    subst (λ (v : ℕ). Within L v (c.args.number + dm (g.M.MapRead.map c.args.map.now) x)) k.2
-    (subst (λ (n : ℕ). Within L e.node (c.args.number + n)) len w)
+    coe 0 1 (i. Within L (k.2 i) (c.args.number + dm (g.M.MapRead.map c.args.map.now) x))
+    (coe 0 1 (i. Within L (get_or c.out_ends-end-items.result.now k.0 no_end).node (c.args.number + (k.3 i))) w)

@@ -1,7 +1,7 @@
 use Rattle.std.proofs.Common.{◌≡◌, ◌⊎◌, ◌<◌, ◌≤◌, ◌+◌, ℕ, Some, get_or}
 use Rattle.olr_near.specs.Bounds.{bound_of, Within, Moves, IsPaid, IsFollowed}
 use Rattle.olr_near.proofs.distance_bounds.DistanceBounds.follow.Given as goal
-use Rattle.olr_route.proofs.WayLemmas.{no_end}
+use Rattle.olr_search.proofs.WayLemmas.{no_end}
 
 abbrev pub invariant-loop-end : goal.invariant-loop-end
 invariant-loop-end g l = record {

@@ -8,11 +8,8 @@ use Rattle.olr_near.proofs.distance_bounds.DistanceBounds.is_far.Goals as goal
 pub returns-clause-far : goal.returns-clause-far
 returns-clause-far c = λ yes M s w right source near.
     let known : c.args.self.now.known ≡ true = cc in
-    let some = near_bounded M c.args.self.now s w c.args.nodes.now known right source near in
     let k = at_index c.args.nodes.now near.node near.touched in
-    let lt = k.1 in
-    let past = c.loop-node-test.false in
-    there_not (bound_of c.args.self.now near.node) some
+    there_not (bound_of c.args.self.now near.node) (near_bounded M c.args.self.now s w c.args.nodes.now known right source near)
     (ap (bound_of c.args.self.now) (sym k.2) ∙ c.loop-node.invariant k.0 (omega arith))
 
 -- each of the nodes was tested
@@ -22,8 +19,6 @@ returns-clause-exact c = (
     cc,
     λ v on.
         let k = at_index c.args.nodes.now v on in
-        let lt = k.1 in
-        let past = c.loop-node-test.false in
         ap (bound_of c.args.self.now) (sym k.2) ∙ c.loop-node.invariant k.0 (omega arith),
   ),
   λ h. refl,

@@ -1,0 +1,29 @@
+-- Lists and routes by their last line.
+use Rattle.std.proofs.Common.{◌≡◌, ℕ, List, [], ◌∷◌, ◌++◌, Option, Some, None, refl, sym, ap, ◌∙◌}
+use Rattle.olr_spec.specs.Map.{Map, start}
+use Rattle.olr_spec.specs.Routes.{Least}
+use Rattle.olr_spec.proofs.RouteLemmas.{prefix_of_least}
+use Rattle.olr_search.proofs.RouteEnds.{ends_of, last_step}
+use Rattle.olr_search.proofs.RouteEnds.Ends.{empty, ended}
+use Rattle.olr_route.specs.Labels.{last_of}
+
+pub last_of-append : (xs : List ℕ) (x : ℕ) → last_of (xs ++ x ∷ []) ≡ Some x
+last_of-append [] x = refl
+last_of-append (y ∷ []) x = refl
+last_of-append (y ∷ z ∷ xs) x = last_of-append (z ∷ xs) x
+
+-- a list with a last element ends with it
+pub ended_by : (xs : List ℕ) (x : ℕ) → last_of xs ≡ Some x → (front : List ℕ) × (xs ≡ front ++ x ∷ [])
+ended_by xs x e = elim (ends_of xs) [
+  | empty none ↦ let never : ◌≡◌ {A = Option ℕ} None (Some x) = ap last_of (sym none) ∙ e in cc
+  | ended front y is ↦
+      let both : ◌≡◌ {A = Option ℕ} (Some y) (Some x) = sym (last_of-append front y) ∙ ap last_of (sym is) ∙ e in
+      let same : y ≡ x = cc in
+      (front, is ∙ ap (λ (z : ℕ). front ++ z ∷ []) same)
+]
+
+-- a shortest path without its last line is a shortest path
+pub least_front : (M : Map) (s t x : ℕ) (xs : List ℕ) → Least M s t (xs ++ x ∷ []) → Least M s (start M x) xs
+least_front M s t x xs l =
+    let r = last_step M s t x xs l.route in
+    prefix_of_least M s (start M x) t xs (x ∷ []) l r.front (r.known, refl, r.to)

@@ -1,0 +1,10 @@
+pub mod RouteEnds
+pub mod ReadLemmas
+mod HeapLemmas
+pub mod NoteLemmas
+mod DistinctLemmas
+pub mod WayLemmas
+pub mod SearchLemmas
+pub mod CutLemmas
+mod CountLemmas
+pub mod UniqueLemmas

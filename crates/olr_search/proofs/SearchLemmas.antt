@@ -1,0 +1,456 @@
+-- The invariants of a search that can be continued.
+use Rattle.std.proofs.Common.{◌≡◌, ◌==◌, ℕ, zero, suc, ◌+◌, ◌<◌, ◌≤◌, ◌⊎◌, List, [], ◌∷◌, Contains, IsTrue, length}
+use Rattle.std.proofs.Common.{get_or, map, refl, sym, ap, ◌∙◌, subst, inl, inr, arith}
+use Rattle.std.specs.Prelude.{max, sum}
+use Rattle.std.proofs.Math.ListN.{set}
+use Rattle.std.specs.List.{IsDistinct}
+use Rattle.std.proofs.lemmas.Bool.{cases_eq, cases_lt}
+use Rattle.std.proofs.lemmas.List.{get_or-set_same, get_or-set_other}
+use Rattle.std.proofs.lemmas.List.Elements.{Contains-append_cases}
+use Rattle.std.proofs.lemmas.List.Sums.{sum_by-set}
+use Rattle.olr_spec.specs.Map.{Map, IsMap, has_node}
+use Rattle.olr_spec.specs.Routes.{dm_of}
+use Rattle.olr_spec.proofs.RouteLemmas.{positive}
+use Rattle.olr_spec.proofs.ListLemmas.{Contains-one}
+use Rattle.olr_search.specs.Distances.{Way, Leads, IsDistance, near_end, far_end}
+use Rattle.olr_search.specs.Notes.{label_in, NotesOnce}
+use Rattle.olr_search.specs.Frontiers.{label_of, frontier_len, queued_len, IsQueued, IsEmpty, IsRelaxed, NotedOnce}
+use Rattle.olr_search.specs.Frontiers.{Moves}
+use Rattle.olr_search.specs.Searches.{ClosedAt, CoversSlots, IsLabelledAt, IsLabelled, IsUnderWay, IsSearch, LiesWithin}
+use Rattle.olr_search.specs.Searches.{IsReached}
+use Rattle.olr_search.specs.declared.frontier.TheConstants.{GREATEST_LIMIT}
+use Rattle.olr_search.specs.declared.frontier.TheConstants.{UNREACHED}
+use Rattle.olr_search.specs.declared.frontier.Reached.{Reached}
+use Rattle.olr_search.specs.declared.frontier.Frontier.{Frontier}
+use Rattle.olr_search.specs.declared.distances.Direction.{Direction}
+use Rattle.olr_search.specs.declared.distances.Dijkstra.{Dijkstra}
+use Rattle.olr_search.proofs.DistinctLemmas.{distinct_more, distinct_none, found_slot}
+use Rattle.olr_search.proofs.WayLemmas.{LastLine, way_ends, near_node, leads_node}
+use Rattle.olr_search.proofs.WayLemmas.WayEnds.{stays, continues}
+
+-- ---- one label is lowered
+
+-- a smaller label is written in slot p, and p is queued
+pub put_by : (f g : Frontier) (v p d label : ℕ) → g.table.items ≡ set f.table.items p d → p < length f.table.items →
+    label ≡ label_of f p → d < label → NotesOnce f.reached.items g.reached.items label (record { node = v; slot = p })
+    → IsQueued g d p → ((e q : ℕ) → IsQueued f e q → IsQueued g e q) → frontier_len g ≡ frontier_len f →
+    queued_len g ≡ queued_len f + 1 → IsRelaxed f g v p d
+put_by f g v p d label table within was lt once there kept len more =
+    let here : label_of g p ≡ d =
+    ap (λ (t : List ℕ). label_in t p) table ∙ get_or-set_same f.table.items p d UNREACHED within in
+    record {
+      here = omega arith;
+      others = λ q ne. ap (λ (t : List ℕ). label_in t q) table ∙ get_or-set_other f.table.items p q d UNREACHED ne;
+      waits = inr (subst (λ (n : ℕ). IsQueued g n p) (sym here) there);
+      kept = kept;
+      noted = elim once [
+        | inl h ↦ let small = h.1 in inl (h.0, λ _. omega arith)
+        | inr h ↦ let none = h.1 in inr (h.0, omega arith, omega arith)
+      ];
+      len = len;
+      less =
+          let sums : sum (set f.table.items p d) + get_or f.table.items p UNREACHED ≡ sum f.table.items + d =
+          sum_by-set (λ (n : ℕ). n) f.table.items p d UNREACHED within in
+          let total : sum g.table.items ≡ sum (set f.table.items p d) = ap sum table in
+          let old : label_of f p ≡ get_or f.table.items p UNREACHED = refl in
+          omega arith;
+    }
+
+put_le : (f g : Frontier) (v p d : ℕ) → IsRelaxed f g v p d → (q : ℕ) → label_of g q ≤ label_of f q
+put_le f g v p d k q = elim (cases_eq q p) [
+  | inl is ↦ let h = k.here in subst (λ (n : ℕ). label_of g n ≤ label_of f n) (sym is) (omega arith)
+  | inr ne ↦ let h = k.others q ne in omega arith
+]
+
+pub put_here : (f g : Frontier) (v p d : ℕ) → IsRelaxed f g v p d → label_of g p ≤ d
+put_here f g v p d k = let h = k.here in omega arith
+
+pub put_moves : (f g : Frontier) (v p d : ℕ) → IsRelaxed f g v p d → Moves f g
+put_moves f g v p d k = record {
+  better = put_le f g v p d k;
+  fresh = λ q. elim (cases_eq q p) [
+    | inl is ↦ subst (λ (n : ℕ). (label_of g n ≡ label_of f n) ⊎ IsQueued g (label_of g n) n) (sym is) k.waits
+    | inr ne ↦ inl (k.others q ne)
+  ];
+  kept = k.kept;
+  len = k.len;
+  less = k.less;
+}
+
+pub moves_none : (f : Frontier) → Moves f f
+moves_none f =
+    record { better = λ p. omega arith; fresh = λ p. inl refl; kept = λ e q h. h; len = refl; less = omega arith }
+
+pub moves_then : (f g h : Frontier) → Moves f g → Moves g h → Moves f h
+moves_then f g h m n = record {
+  better = λ p. let a = m.better p in let b = n.better p in omega arith;
+  fresh = λ p. elim (n.fresh p) [
+    | inr q ↦ inr q
+    | inl same ↦ elim (m.fresh p) [
+      | inl was ↦ inl (same ∙ was)
+      | inr q ↦ inr (subst (λ (e : ℕ). IsQueued h e p) (sym same) (n.kept (label_of g p) p q))
+    ]
+  ];
+  kept = λ e q w. n.kept e q (m.kept e q w);
+  len = n.len ∙ m.len;
+  less = let a = m.less in let b = n.less in omega arith;
+}
+
+module _ (M : Map) (slot : ℕ → ℕ) (direction : Direction) (from : List (ℕ × ℕ)) where
+  -- the length of a route is written as a label at its node
+  module _ (f g : Frontier) (v p d : ℕ) (k : IsRelaxed f g v p d) (there : IsTrue (has_node M v)) (at : slot v ≡ p)
+      (way : Leads M direction from v d) (l : IsLabelled M slot direction from f) where
+    put_leads : (w : ℕ) → IsTrue (has_node M w) → label_of g (slot w) ≤ GREATEST_LIMIT →
+        Leads M direction from w (label_of g (slot w))
+    put_leads w known small = elim (cases_eq (slot w) p) [
+      | inr ne ↦
+          let same = k.others (slot w) ne in
+          subst (λ (e : ℕ). Leads M direction from w e) (sym same) (l.leads w known (omega arith))
+      | inl is ↦
+          let own : w ≡ v = l.own w v known there (is ∙ sym at) in
+          let here : label_of g (slot w) ≡ label_of g p = ap (label_of g) is in
+          let was : label_of f (slot w) ≡ label_of f p = ap (label_of f) is in
+          let least = k.here in
+          elim (cases_lt d (label_of f p)) [
+            | inl lt ↦
+                let new : d ≡ label_of g (slot w) = omega arith in
+                subst (λ (e : ℕ). Leads M direction from w e) new
+                (subst (λ (u : ℕ). Leads M direction from u d) (sym own) way)
+            | inr ge ↦
+                let old : label_of f (slot w) ≡ label_of g (slot w) = omega arith in
+                subst (λ (e : ℕ). Leads M direction from w e) old (l.leads w known (omega arith))
+          ]
+    ]
+
+    put_nodes : (q : ℕ) → label_of g q ≤ GREATEST_LIMIT → (w : ℕ) × IsTrue (has_node M w) × (slot w ≡ q)
+    put_nodes q small = elim (cases_eq q p) [
+      | inl is ↦ (v, there, at ∙ sym is)
+      | inr ne ↦ let same = k.others q ne in l.nodes q (omega arith)
+    ]
+
+    kept_listed : (r : Reached) → IsLabelledAt M slot f r → IsLabelledAt M slot g r
+    kept_listed r h = let le = put_le f g v p d k r.slot in let was =
+        h.label in record { there = h.there; at = h.at; label = omega arith }
+
+    put_listed : NotedOnce f g v p → (r : Reached) → Contains g.reached.items r → IsLabelledAt M slot g r
+    put_listed (inl h) r c = kept_listed r (l.listed r (subst (λ (xs : List Reached). Contains xs r) h.0 c))
+    put_listed (inr h) r c =
+        elim (Contains-append_cases f.reached.items (record { node = v; slot = p } ∷ []) r
+        (subst (λ (xs : List Reached). Contains xs r) h.0 c)) [
+          | inl old ↦ kept_listed r (l.listed r old)
+          | inr new ↦
+              let is : r ≡ record { node = v; slot = p } = Contains-one (record { node = v; slot = p }) r new in
+              let low = l.low p in
+              let less = h.2 in
+              subst (IsLabelledAt M slot g) (sym is) (record { there = there; at = at; label = omega arith })
+        ]
+
+    put_apart : NotedOnce f g v p → IsDistinct ◌==◌ (map (λ (r : Reached). r.node) g.reached.items)
+    put_apart (inl h) =
+        subst (λ (xs : List Reached). IsDistinct ◌==◌ (map (λ (r : Reached). r.node) xs)) (sym h.0) l.apart
+    put_apart (inr h) =
+        subst (λ (xs : List Reached). IsDistinct ◌==◌ (map (λ (r : Reached). r.node) xs)) (sym h.0)
+        (distinct_more f.reached.items (record { node = v; slot = p }) l.apart (λ r c same.
+        let x = l.listed r c in
+        let here : r.slot ≡ p = sym x.at ∙ ap slot same ∙ at in
+        let small = x.label in
+        let eq : label_of f r.slot ≡ label_of f p = ap (label_of f) here in
+        let none = h.1 in
+        absurd (omega arith)))
+
+    pub put_labelled : IsLabelled M slot direction from g
+    put_labelled = record {
+      sound = l.sound;
+      own = l.own;
+      room = λ w known. let was = l.room w known in let same = k.len in omega arith;
+      low = λ q. let was = l.low q in let le = put_le f g v p d k q in omega arith;
+      leads = put_leads;
+      nodes = put_nodes;
+      listed = put_listed k.noted;
+      apart = put_apart k.noted;
+    }
+
+  -- no labels at all
+  pub empty_labelled : (f : Frontier) → IsMap M →
+      ((v w : ℕ) → IsTrue (has_node M v) → IsTrue (has_node M w) → slot v ≡ slot w → v ≡ w) → CoversSlots M slot f →
+      IsEmpty f → IsLabelled M slot direction from f
+  empty_labelled f m own room e = record {
+    sound = m;
+    own = own;
+    room = room;
+    low = λ p. let h = e.labels p in omega arith;
+    leads = λ v known small. let h = e.labels (slot v) in absurd (omega arith);
+    nodes = λ p small. let h = e.labels p in absurd (omega arith);
+    listed = λ r c. let lt = (subst (λ (xs : List Reached). Contains xs r) e.reached c).1 in absurd (omega arith);
+    apart =
+        subst (λ (xs : List Reached). IsDistinct ◌==◌ (map (λ (r : Reached). r.node) xs)) (sym e.reached) distinct_none;
+  }
+
+  -- ---- the frontier
+
+  pub closed_better : (f g : Frontier) (v d : ℕ) → ((p : ℕ) → label_of g p ≤ label_of f p) →
+      ClosedAt M slot direction f v d → ClosedAt M slot direction g v d
+  closed_better f g v d better closed x known near = let was = closed x known near in let le =
+      better (slot (far_end M direction x)) in omega arith
+
+  -- what does not depend on the queue
+  pub labelled_same : (f g : Frontier) → ((p : ℕ) → label_of g p ≡ label_of f p) → frontier_len g ≡ frontier_len f →
+      g.reached.items ≡ f.reached.items → IsLabelled M slot direction from f → IsLabelled M slot direction from g
+  labelled_same f g same len reached l = record {
+    sound = l.sound;
+    own = l.own;
+    room = λ v known. let was = l.room v known in omega arith;
+    low = λ p. let was = l.low p in let is = same p in omega arith;
+    leads = λ v known small. let is =
+        same (slot v) in subst (λ (e : ℕ). Leads M direction from v e) (sym is) (l.leads v known (omega arith));
+    nodes = λ p small. let is = same p in l.nodes p (omega arith);
+    listed = λ r c. let was = l.listed r (subst (λ (xs : List Reached). Contains xs r) reached c) in let is =
+        same r.slot in let label = was.label in record { there = was.there; at = was.at; label = omega arith };
+    apart = subst (λ (xs : List Reached). IsDistinct ◌==◌ (map (λ (r : Reached). r.node) xs)) (sym reached) l.apart;
+  }
+
+  -- the place p is taken out of the queue at length d, between f and g. Each label is closed, in whatever sense, or
+  -- waits
+  module _ (Closed : Frontier → ℕ → ℕ → Type 0) (better : (f g : Frontier) (v d : ℕ) →
+      ((p : ℕ) → label_of g p ≤ label_of f p)
+      → Closed f v d → Closed g v d) (f g : Frontier) (d p : ℕ) (same : (q : ℕ) → label_of g q ≡ label_of f q)
+      (others : (e q : ℕ) → IsQueued f e q → IsQueued g e q ⊎ ((e ≡ d) × (q ≡ p))) where
+    -- its label is another one by now
+    pub front_skip : ¬ (label_of f p ≡ d) →
+        ((v : ℕ) → IsTrue (has_node M v) → label_of f (slot v) ≤ GREATEST_LIMIT →
+        Closed f v (label_of f (slot v)) ⊎ IsQueued f (label_of f (slot v)) (slot v))
+        → (v : ℕ) → IsTrue (has_node M v) → label_of g (slot v) ≤ GREATEST_LIMIT →
+        Closed g v (label_of g (slot v)) ⊎ IsQueued g (label_of g (slot v)) (slot v)
+    front_skip ne front v known small =
+        let is = same (slot v) in
+        let P : ℕ → Type 0 = λ e. Closed g v e ⊎ IsQueued g e (slot v) in
+        subst P (sym is) (elim (front v known (omega arith)) [
+          | inl closed ↦ inl (better f g v (label_of f (slot v)) (λ q. let k = same q in omega arith) closed)
+          | inr q ↦ elim (others (label_of f (slot v)) (slot v) q) [
+            | inl still ↦ inr still
+            | inr h ↦ absurd (ne (ap (label_of f) (sym h.1) ∙ h.0))
+          ]
+        ])
+
+    -- its label is d, and the lines from there are followed, up to h
+    pub front_more : (h : Frontier) → Moves g h →
+        ((v : ℕ) → IsTrue (has_node M v) → slot v ≡ p → Closed h v d)
+        → ((v : ℕ) → IsTrue (has_node M v) → label_of f (slot v) ≤ GREATEST_LIMIT →
+        Closed f v (label_of f (slot v)) ⊎ IsQueued f (label_of f (slot v)) (slot v))
+        → (v : ℕ) → IsTrue (has_node M v) → label_of h (slot v) ≤ GREATEST_LIMIT →
+        Closed h v (label_of h (slot v)) ⊎ IsQueued h (label_of h (slot v)) (slot v)
+    front_more h moves closed front v known small = elim (moves.fresh (slot v)) [
+      | inr q ↦ inr q
+      | inl kept ↦
+          let is : label_of h (slot v) ≡ label_of f (slot v) = kept ∙ same (slot v) in
+          let P : ℕ → Type 0 = λ e. Closed h v e ⊎ IsQueued h e (slot v) in
+          subst P (sym is) (elim (front v known (omega arith)) [
+            | inl c ↦ inl (better f h v (label_of f (slot v))
+                (λ q. let k = same q in let b = moves.better q in omega arith) c)
+            | inr q ↦ elim (others (label_of f (slot v)) (slot v) q) [
+              | inl still ↦ inr (moves.kept (label_of f (slot v)) (slot v) still)
+              | inr e ↦ inl (subst (Closed h v) (sym e.0) (closed v known e.1))
+            ]
+          ])
+    ]
+
+  -- the lines of a removed entry are followed, or the label there is another one by now
+  pub record Popped (f g : Frontier) (d p : ℕ) : Type 0 where
+    pub same : (q : ℕ) → label_of g q ≡ label_of f q
+    pub len : frontier_len g ≡ frontier_len f
+    pub reached : g.reached.items ≡ f.reached.items
+    pub others : (e q : ℕ) → IsQueued f e q → IsQueued g e q ⊎ ((e ≡ d) × (q ≡ p))
+
+  pub popped_by : (f g : Frontier) (d p : ℕ) → g.table.items ≡ f.table.items → frontier_len g ≡ frontier_len f →
+      g.reached.items ≡ f.reached.items → ((e q : ℕ) → IsQueued f e q → IsQueued g e q ⊎ ((e ≡ d) × (q ≡ p))) →
+      Popped f g d p
+  popped_by f g d p table len reached others =
+      record { same = λ q. ap (λ (t : List ℕ). label_in t q) table; len = len; reached = reached; others = others }
+
+  pub under_way_skip : (f g : Frontier) (d p : ℕ) → Popped f g d p → ¬ (label_of f p ≡ d) →
+      IsUnderWay M slot direction from f → IsUnderWay M slot direction from g
+  under_way_skip f g d p k ne u = record {
+    labelled = labelled_same f g k.same k.len k.reached u.labelled;
+    begun = λ s b listed there. let was = u.begun s b listed there in let is = k.same (slot s) in omega arith;
+    front = front_skip (ClosedAt M slot direction) closed_better f g d p k.same k.others ne u.front;
+  }
+
+  pub under_way_more : (f g h : Frontier) (d p : ℕ) → Popped f g d p → label_of f p ≡ d → d ≤ GREATEST_LIMIT → Moves g h
+      → ((v : ℕ) (ways : List (ℕ × ℕ)) → IsTrue (has_node M v) → slot v ≡ p → Leads M direction ways v d →
+      IsLabelled M slot direction ways g → IsLabelled M slot direction ways h)
+      → ((v : ℕ) → IsTrue (has_node M v) → slot v ≡ p → ClosedAt M slot direction h v d) →
+      IsUnderWay M slot direction from f → IsUnderWay M slot direction from h
+  under_way_more f g h d p k at small moves labelled closed u =
+      let own = u.labelled.nodes p (omega arith) in
+      let is : label_of f (slot own.0) ≡ d = ap (label_of f) own.2 ∙ at in
+      let way = subst (λ (e : ℕ). Leads M direction from own.0 e) is (u.labelled.leads own.0 own.1 (omega arith)) in
+      record {
+        labelled = labelled own.0 from own.1 own.2 way (labelled_same f g k.same k.len k.reached u.labelled);
+        begun = λ s b listed there. let was = u.begun s b listed there in let same = k.same (slot s) in let le =
+            moves.better (slot s) in omega arith;
+        front = front_more (ClosedAt M slot direction) closed_better f g d p k.same k.others h moves closed u.front;
+      }
+
+  -- nothing is removed
+  pub under_way_same : (f g : Frontier) → g.table.items ≡ f.table.items → frontier_len g ≡ frontier_len f →
+      g.reached.items ≡ f.reached.items → ((e q : ℕ) → IsQueued f e q → IsQueued g e q) →
+      IsUnderWay M slot direction from f → IsUnderWay M slot direction from g
+  under_way_same f g table len reached kept u =
+      let same : (q : ℕ) → label_of g q ≡ label_of f q = λ q. ap (λ (t : List ℕ). label_in t q) table in
+      record {
+        labelled = labelled_same f g same len reached u.labelled;
+        begun = λ s b listed there. let was = u.begun s b listed there in let is = same (slot s) in omega arith;
+        front = λ v known small.
+            let is = same (slot v) in
+            let P : ℕ → Type 0 = λ e. ClosedAt M slot direction g v e ⊎ IsQueued g e (slot v) in
+            subst P (sym is) (elim (u.front v known (omega arith)) [
+              | inl c ↦ inl (closed_better f g v (label_of f (slot v)) (λ q. let k = same q in omega arith) c)
+              | inr q ↦ inr (kept (label_of f (slot v)) (slot v) q)
+            ]);
+      }
+
+  -- ---- what is settled
+
+  module _ (f : Frontier) (limit : ℕ) (u : IsUnderWay M slot direction from f) (small : limit ≤ GREATEST_LIMIT)
+      (far : (d p : ℕ) → IsQueued f d p → limit < d) where
+    -- by one more line
+    settled_on : (s b v : ℕ) (lines : List ℕ) → b + dm_of M lines ≤ limit → (k : LastLine M direction s v lines) →
+        label_of f (slot (near_end M direction k.line)) ≤ b + dm_of M k.front →
+        label_of f (slot v) ≤ b + dm_of M lines
+    settled_on s b v lines short k low =
+        let long = k.long in
+        let w = near_end M direction k.line in
+        elim (u.front w (near_node M u.labelled.sound direction k.line k.known) (omega arith)) [
+          | inl closed ↦
+              let le = closed k.line k.known refl in
+              subst (λ (n : ℕ). label_of f (slot n) ≤ b + dm_of M lines) k.to (omega arith)
+          | inr q ↦ let lt = far (label_of f (slot w)) (slot w) q in absurd (omega arith)
+        ]
+
+    settled_by : (n s b v : ℕ) (lines : List ℕ) → length lines ≤ n → Contains from (s, b) → IsTrue (has_node M s) →
+        Way M direction s v lines → b + dm_of M lines ≤ limit → label_of f (slot v) ≤ b + dm_of M lines
+    settled_by zero s b v lines size listed there way short = elim (way_ends M direction s v lines way) [
+      | stays e none ↦ let le =
+          u.begun s b listed there in subst (λ (w : ℕ). label_of f (slot w) ≤ b + dm_of M lines) e (omega arith)
+      | continues k ↦ let more = k.size in absurd (omega arith)
+    ]
+    settled_by (suc n) s b v lines size listed there way short = elim (way_ends M direction s v lines way) [
+      | stays e none ↦ let le =
+          u.begun s b listed there in subst (λ (w : ℕ). label_of f (slot w) ≤ b + dm_of M lines) e (omega arith)
+      | continues k ↦
+          let more = k.size in
+          let long = k.long in
+          settled_on s b v lines short k
+          (settled_by n s b (near_end M direction k.line) k.front (omega arith) listed there k.way (omega arith))
+    ]
+
+    pub settled_far : (v d : ℕ) → IsTrue (has_node M v) → d ≤ limit → Leads M direction from v d →
+        label_of f (slot v) ≤ d
+    settled_far v d known le l =
+        let long = l.long in
+        subst (λ (e : ℕ). label_of f (slot v) ≤ e) long
+        (settled_by (length l.lines) l.source l.begun v l.lines (omega arith) l.listed l.there l.way (omega arith))
+
+  -- the search s is continued to a limit, up to the search t
+  pub settled_on_to : (s t : Dijkstra) (limit : ℕ) → IsSearch M slot direction from s → t.direction ≡ s.direction →
+      IsUnderWay M slot direction from t.frontier → limit ≤ GREATEST_LIMIT →
+      ((d p : ℕ) → IsQueued t.frontier d p → limit < d)
+      → ((p : ℕ) → label_of t.frontier p ≤ label_of s.frontier p) → t.limit ≡ max s.limit limit →
+      IsSearch M slot direction from t
+  settled_on_to s t limit h way u small far better is =
+      let was = h.small in
+      record {
+        way = way ∙ h.way;
+        under_way = u;
+        small = omega arith;
+        settled = λ v d known le l. elim (cases_lt limit d) [
+          | inl lt ↦ let low = h.settled v d known (omega arith) l in let less = better (slot v) in omega arith
+          | inr near ↦ settled_far t.frontier limit u small far v d known near l
+        ];
+      }
+
+  -- at first each route of length 0 stays where it begins
+  pub settled_none : (f : Frontier) → IsUnderWay M slot direction from f → (v d : ℕ) → IsTrue (has_node M v) → d ≤ 0 →
+      Leads M direction from v d → label_of f (slot v) ≤ d
+  settled_none f u v d known le l = let long = l.long in elim (way_ends M direction l.source v l.lines l.way) [
+    | stays e none ↦ let low =
+        u.begun l.source l.begun l.listed l.there in subst (λ (w : ℕ). label_of f (slot w) ≤ d) e (omega arith)
+    | continues k ↦ let some = positive M u.labelled.sound k.line k.known in let more = k.long in absurd (omega arith)
+  ]
+
+  -- ---- what the labels say
+
+  -- each node that has a label is in the list
+  pub labelled_listed : (f : Frontier) → IsLabelled M slot direction from f → (v : ℕ) → IsTrue (has_node M v) →
+      label_of f (slot v) ≤ GREATEST_LIMIT → Contains f.reached.items (record { node = v; slot = slot v })
+  labelled_listed f l v known small =
+      elim (found_slot f.reached.items (slot v)) [
+        | inr none ↦ let no_label = f.noted (slot v) none in absurd (omega arith)
+        | inl k ↦
+            let r = k.0 in
+            let x = l.listed r k.1 in
+            let own : r.node ≡ v = l.own r.node v x.there known (x.at ∙ k.2) in
+            let same : r ≡ record { node = v; slot = slot v } =
+            ap (λ (n : ℕ). record { node = n; slot = r.slot }) own
+            ∙ ap (λ (q : ℕ). record { node = v; slot = q }) k.2 in
+            subst (λ (y : Reached). Contains f.reached.items y) same k.1
+      ]
+
+  module _ (s : Dijkstra) (h : IsSearch M slot direction from s) where
+    pub is_distance : (v : ℕ) → IsTrue (has_node M v) → label_of s.frontier (slot v) ≤ s.limit →
+        IsDistance M direction from v (label_of s.frontier (slot v))
+    is_distance v known le =
+        let small = h.small in
+        record {
+          leads = h.under_way.labelled.leads v known (omega arith);
+          least = λ e l. elim (cases_lt s.limit e) [
+            | inl lt ↦ omega arith
+            | inr near ↦ h.settled v e known near l
+          ];
+        }
+
+    -- a node that a route within the limit reaches is near
+    pub near_leads : (v d : ℕ) → d ≤ s.limit → Leads M direction from v d → LiesWithin M direction from s.limit v
+    near_leads v d le l =
+        let known = leads_node M h.under_way.labelled.sound direction from v d l in
+        let low = h.settled v d known le l in
+        (label_of s.frontier (slot v), is_distance v known (omega arith), omega arith)
+
+    pub label_is : (v d : ℕ) → IsTrue (has_node M v) → IsDistance M direction from v d → d ≤ s.limit →
+        label_of s.frontier (slot v) ≡ d
+    label_is v d known x le =
+        let small = h.small in
+        let low = h.settled v d known le x.leads in
+        let high = x.least (label_of s.frontier (slot v)) (h.under_way.labelled.leads v known (omega arith)) in
+        omega arith
+
+    pub distance_node : (v d : ℕ) → IsDistance M direction from v d → IsTrue (has_node M v)
+    distance_node v d x = leads_node M h.under_way.labelled.sound direction from v d x.leads
+
+    -- each near node is in the list
+    pub near_listed : (v : ℕ) → LiesWithin M direction from s.limit v →
+        Contains s.frontier.reached.items (record { node = v; slot = slot v })
+    near_listed v near =
+        let known = distance_node v near.0 near.1 in
+        let is = label_is v near.0 known near.1 near.2 in
+        let le = near.2 in
+        let small = h.small in
+        labelled_listed s.frontier h.under_way.labelled v known (omega arith)
+
+    pub listed_reached : (r : Reached) → Contains s.frontier.reached.items r → IsReached M direction from r.node
+        × (slot r.node ≡ r.slot)
+    listed_reached r c =
+        let x = h.under_way.labelled.listed r c in
+        let is : label_of s.frontier (slot r.node) ≡ label_of s.frontier r.slot = ap (label_of s.frontier) x.at in
+        let label = x.label in (
+          (label_of s.frontier (slot r.node), h.under_way.labelled.leads r.node x.there (omega arith), omega arith),
+          x.at,
+        )
+
+    pub listed_near : (r : Reached) → Contains s.frontier.reached.items r → label_of s.frontier r.slot ≤ s.limit →
+        LiesWithin M direction from s.limit r.node
+    listed_near r c le =
+        let x = h.under_way.labelled.listed r c in
+        let is : label_of s.frontier (slot r.node) ≡ label_of s.frontier r.slot = ap (label_of s.frontier) x.at in
+        let near : label_of s.frontier (slot r.node) ≤ s.limit = omega arith in
+        (label_of s.frontier (slot r.node), is_distance r.node x.there near, near)

@@ -1,0 +1,222 @@
+-- Routes in one direction or the other, and the far ends of the lines at a node.
+use Rattle.std.proofs.Common.{◌≡◌, ℕ, ◌+◌, ◌<◌, List, [], ◌∷◌, ◌++◌, Contains, IsTrue, length, get_or, map, refl, sym}
+use Rattle.std.proofs.Common.{ap, ◌∙◌, subst, arith, length-append}
+use Rattle.std.proofs.lemmas.List.{get_or-map, length-map}
+use Rattle.std.proofs.lemmas.Grind.{get_or_default_zero}
+use Rattle.olr_spec.specs.Map.{Map, IsMap, has_node, has_line, start, end, dm, lines_in, lines_out}
+use Rattle.olr_spec.specs.Routes.{IsRoute, dm_of}
+use Rattle.olr_map.specs.Ends.{end_out, end_in, ends_in}
+use Rattle.olr_map.specs.declared.read.LineEnd.{LineEnd}
+use Rattle.olr_search.specs.Distances.{Way, Leads, near_end, far_end, ends_at}
+use Rattle.olr_search.specs.declared.distances.Direction.{Direction}
+use Rattle.olr_search.specs.declared.distances.Direction.TheVariants.{Along, Against}
+use Rattle.olr_search.proofs.ReadLemmas.{leaves, leaving, enters, entering}
+use Rattle.olr_search.proofs.RouteEnds.{ends_of, dm_of-line, route_on, last_step}
+use Rattle.olr_search.proofs.RouteEnds.Ends.{empty, ended}
+
+-- the line by which a route reaches its end
+pub record LastLine (M : Map) (direction : Direction) (s v : ℕ) (lines : List ℕ) : Type 0 where
+  pub line : ℕ
+  pub front : List ℕ
+  pub way : Way M direction s (near_end M direction line) front
+  pub known : IsTrue (has_line M line)
+  pub to : far_end M direction line ≡ v
+  pub long : dm_of M lines ≡ dm_of M front + dm M line
+  pub size : length lines ≡ length front + 1
+
+pub data WayEnds (M : Map) (direction : Direction) (s v : ℕ) (lines : List ℕ) : Type 0 where
+  stays : s ≡ v → dm_of M lines ≡ 0 → WayEnds M direction s v lines
+  continues : LastLine M direction s v lines → WayEnds M direction s v lines
+
+pub way_ends : (M : Map) (direction : Direction) (s v : ℕ) (lines : List ℕ) → Way M direction s v lines →
+    WayEnds M direction s v lines
+way_ends M Along s v lines w = elim (ends_of lines) [
+  | empty e ↦ stays (subst (λ (zs : List ℕ). IsRoute M s v zs) e w) (ap (dm_of M) e)
+  | ended front x e ↦
+      let step = last_step M s v x front (subst (λ (zs : List ℕ). IsRoute M s v zs) e w) in
+      let size : length lines ≡ length (front ++ x ∷ []) = ap (λ (zs : List ℕ). length zs) e in
+      continues (record {
+        line = x;
+        front = front;
+        way = step.front;
+        known = step.known;
+        to = step.to;
+        long =
+            ap (dm_of M) e ∙ dm_of-line M front x;
+        size = omega (arith, length-append front (x ∷ []));
+      })
+]
+way_ends M Against s v [] w = stays (sym w) refl
+way_ends M Against s v (x ∷ xs) w =
+    continues (record {
+      line = x;
+      front = xs;
+      way = w.2;
+      known = w.0;
+      to = w.1;
+      long = omega arith;
+      size = omega arith;
+    })
+
+pub near_node : (M : Map) → IsMap M → (direction : Direction) (x : ℕ) → IsTrue (has_line M x) →
+    IsTrue (has_node M (near_end M direction x))
+near_node M m Along x known = m.starts x known
+near_node M m Against x known = m.ends x known
+
+pub far_node : (M : Map) → IsMap M → (direction : Direction) (x : ℕ) → IsTrue (has_line M x) →
+    IsTrue (has_node M (far_end M direction x))
+far_node M m Along x known = m.ends x known
+far_node M m Against x known = m.starts x known
+
+-- a route without lines stays where it begins
+pub leads_first : (M : Map) (direction : Direction) (from : List (ℕ × ℕ)) (s b : ℕ) → Contains from (s, b) →
+    IsTrue (has_node M s) → Leads M direction from s b
+leads_first M Along from s b listed there =
+    record { source = s; begun = b; lines = []; listed = listed; there = there; way = refl; long = omega arith }
+leads_first M Against from s b listed there =
+    record { source = s; begun = b; lines = []; listed = listed; there = there; way = refl; long = omega arith }
+
+-- and a line extends a route
+pub leads_on : (M : Map) (direction : Direction) (from : List (ℕ × ℕ)) (x d : ℕ) → IsTrue (has_line M x) →
+    Leads M direction from (near_end M direction x) d → Leads M direction from (far_end M direction x) (d + dm M x)
+leads_on M Along from x d known l =
+    let long = l.long in
+    record {
+      source = l.source;
+      begun = l.begun;
+      lines = l.lines ++ x ∷ [];
+      listed = l.listed;
+      there = l.there;
+      way = route_on M l.source x l.lines l.way known;
+      long = omega (arith, dm_of-line M l.lines x);
+    }
+leads_on M Against from x d known l =
+    let long = l.long in
+    record {
+      source = l.source;
+      begun = l.begun;
+      lines = x ∷ l.lines;
+      listed = l.listed;
+      there = l.there;
+      way = (known, refl, l.way);
+      long = omega arith;
+    }
+
+pub leads_node : (M : Map) → IsMap M → (direction : Direction) (from : List (ℕ × ℕ)) (v d : ℕ) →
+    Leads M direction from v d → IsTrue (has_node M v)
+leads_node M m direction from v d l = elim (way_ends M direction l.source v l.lines l.way) [
+  | stays e none ↦ subst (λ (u : ℕ). IsTrue (has_node M u)) e l.there
+  | continues k ↦ subst (λ (u : ℕ). IsTrue (has_node M u)) k.to (far_node M m direction k.line k.known)
+]
+
+-- ---- the far ends at a node
+
+pub record IsEnd (M : Map) (slot : ℕ → ℕ) (direction : Direction) (v : ℕ) (e : LineEnd) : Type 0 where
+  pub line : ℕ
+  pub known : IsTrue (has_line M line)
+  pub near : near_end M direction line ≡ v
+  pub node : e.node ≡ far_end M direction line
+  pub there : e.slot ≡ slot (far_end M direction line)
+  pub len : e.len ≡ dm M line
+
+-- the element of a list that is made by a function
+made_at : (f : ℕ → LineEnd) (xs : List ℕ) (items : List LineEnd) (i : ℕ) (e : LineEnd) → items ≡ map f xs →
+    i < length items → e ≡ get_or items i e → (i < length xs) × (e ≡ f (get_or xs i 0))
+made_at f xs items i e is lt at =
+    let long : length items ≡ length xs = ap (λ (zs : List LineEnd). length zs) is ∙ length-map xs f in
+    (omega arith, at ∙ ap (λ (zs : List LineEnd). get_or zs i e) is ∙ get_or-map f xs i 0 e (omega arith))
+
+end_by : (M : Map) (slot : ℕ → ℕ) (direction : Direction) (v x : ℕ) (e made : LineEnd) → IsTrue (has_line M x) →
+    near_end M direction x ≡ v → e ≡ made → made.node ≡ far_end M direction x →
+    made.slot ≡ slot (far_end M direction x) → made.len ≡ dm M x
+    → IsEnd M slot direction v e
+end_by M slot direction v x e made known near is node at len = record {
+  line = x;
+  known = known;
+  near = near;
+  node = ap (λ (k : LineEnd). k.node) is ∙ node;
+  there = ap (λ (k : LineEnd). k.slot) is ∙ at;
+  len = ap (λ (k : LineEnd). k.len) is ∙ len;
+}
+
+pub end_is : (M : Map) (slot : ℕ → ℕ) (direction : Direction) (v : ℕ) (items : List LineEnd) (i : ℕ) (e : LineEnd) →
+    items ≡ ends_at M slot direction v → i < length items → e ≡ get_or items i e → IsEnd M slot direction v e
+end_is M slot Along v items i e is lt at =
+    let k = made_at (end_out M slot) (lines_out M v) items i e is lt at in
+    let x = get_or (lines_out M v) i 0 in
+    let own = leaves M v i x (lines_out M v) refl k.0 (sym (get_or_default_zero (lines_out M v) i x k.0)) in
+    end_by M slot Along v x e (end_out M slot x) own.0 own.1 k.1 refl refl refl
+end_is M slot Against v items i e is lt at =
+    let k = made_at (end_in M slot) (lines_in M v) items i e is lt at in
+    let x = get_or (lines_in M v) i 0 in
+    let own = enters M v i x (lines_in M v) refl k.0 (sym (get_or_default_zero (lines_in M v) i x k.0)) in
+    end_by M slot Against v x e (end_in M slot x) own.0 own.1 k.1 refl refl refl
+
+-- the default for a far end
+abbrev pub no_end : LineEnd
+no_end = record { node = 0; slot = 0; len = 0 }
+
+-- each line that is entered at v has its far end in the list
+pub record HasEnd (M : Map) (slot : ℕ → ℕ) (direction : Direction) (items : List LineEnd) (x : ℕ) : Type 0 where
+  pub index : ℕ
+  pub within : index < length items
+  pub node : (get_or items index no_end).node ≡ far_end M direction x
+  pub there : (get_or items index no_end).slot ≡ slot (far_end M direction x)
+  pub len : (get_or items index no_end).len ≡ dm M x
+
+has_by : (M : Map) (slot : ℕ → ℕ) (direction : Direction) (f : ℕ → LineEnd) (xs : List ℕ) (items : List LineEnd)
+    (i x : ℕ) → items ≡ map f xs → i < length xs → get_or xs i 0 ≡ x → (f x).node ≡ far_end M direction x →
+    (f x).slot ≡ slot (far_end M direction x) → (f x).len ≡ dm M x
+    → HasEnd M slot direction items x
+has_by M slot direction f xs items i x is lt at node there len =
+    let long : length items ≡ length xs = ap (λ (zs : List LineEnd). length zs) is ∙ length-map xs f in
+    let e : get_or items i no_end ≡ f x =
+    ap (λ (zs : List LineEnd). get_or zs i no_end) is ∙ get_or-map f xs i 0 no_end lt ∙ ap f at in
+    record {
+      index = i;
+      within = omega arith;
+      node = ap (λ (k : LineEnd). k.node) e ∙ node;
+      there = ap (λ (k : LineEnd). k.slot) e ∙ there;
+      len = ap (λ (k : LineEnd). k.len) e ∙ len;
+    }
+
+pub has_end : (M : Map) (slot : ℕ → ℕ) (direction : Direction) (v x : ℕ) (items : List LineEnd) →
+    items ≡ ends_at M slot direction v → IsTrue (has_line M x) → near_end M direction x ≡ v →
+    HasEnd M slot direction items x
+has_end M slot Along v x items is known near =
+    let k = leaving M v x (lines_out M v) refl known near in
+    has_by M slot Along (end_out M slot) (lines_out M v) items k.0 x is k.1 k.2 refl refl refl
+has_end M slot Against v x items is known near =
+    let k = entering M v x (lines_in M v) refl known near in
+    has_by M slot Against (end_in M slot) (lines_in M v) items k.0 x is k.1 k.2 refl refl refl
+
+-- the i-th line that enters a node, and its far end
+pub record IsEntry (M : Map) (slot : ℕ → ℕ) (to : ℕ) (lines : List ℕ) (i : ℕ) (e : LineEnd) : Type 0 where
+  pub within : i < length lines
+  pub known : IsTrue (has_line M (get_or lines i 0))
+  pub leads : end M (get_or lines i 0) ≡ to
+  pub there : e.slot ≡ slot (start M (get_or lines i 0))
+  pub len : e.len ≡ dm M (get_or lines i 0)
+
+pub entry_is : (M : Map) (slot : ℕ → ℕ) (to : ℕ) (lines : List ℕ) (items : List LineEnd) → lines ≡ lines_in M to →
+    items ≡ ends_in M slot to → (i : ℕ) (e : LineEnd) → i < length items → e ≡ get_or items i e →
+    IsEntry M slot to lines i e
+entry_is M slot to lines items same is i e lt at =
+    let k =
+    made_at (end_in M slot) lines items i e (is ∙ ap (λ (zs : List ℕ). map (end_in M slot) zs) (sym same)) lt at in
+    let x = get_or lines i 0 in
+    let own = enters M to i x lines same k.0 (sym (get_or_default_zero lines i x k.0)) in
+    record {
+      within = k.0;
+      known = own.0;
+      leads = own.1;
+      there = ap (λ (y : LineEnd). y.slot) k.1;
+      len =
+          ap (λ (y : LineEnd). y.len) k.1;
+    }
+
+pub as_many : (M : Map) (slot : ℕ → ℕ) (to : ℕ) (lines : List ℕ) (items : List LineEnd) → lines ≡ lines_in M to →
+    items ≡ ends_in M slot to → length items ≡ length lines
+as_many M slot to lines items same is =
+    ap (λ (zs : List LineEnd). length zs) is ∙ length-map (lines_in M to) (end_in M slot)
+    ∙ ap (λ (zs : List ℕ). length zs) (sym same)

@@ -1,0 +1,21 @@
+use Rattle.std.proofs.Common.{subst, arith}
+use Rattle.olr_search.specs.Notes.{AreAllReached}
+use Rattle.olr_search.proofs.NoteLemmas.{noted_less, noted_past}
+use Rattle.olr_search.proofs.frontier.Frontier.clear.Goals as goal
+
+pub invariant_of-self : goal.invariant_of-self
+invariant_of-self c =
+    let h = c.in-Some.ensures.items in
+    record {
+      noted = noted_less c.loop-reached.self.table.items c.pop.new.self.items c.in-Some.reached
+          (omega (arith, c.loop-reached.self.table.ok.0))
+          (subst (AreAllReached c.loop-reached.self.table.items) h c.loop-reached.self.noted);
+    }
+
+pub invariant_of-self-else-slot-len : goal.invariant_of-self-else-slot-len
+invariant_of-self-else-slot-len c =
+    record {
+      noted = noted_past c.loop-reached.self.table.items c.pop.new.self.items c.in-Some.reached
+          (omega (arith, c.loop-reached.self.table.ok.0))
+          (subst (AreAllReached c.loop-reached.self.table.items) c.in-Some.ensures.items c.loop-reached.self.noted);
+    }

@@ -1,0 +1,11 @@
+use Rattle.std.proofs.Common.{◌≡◌, take}
+use Rattle.std.specs.Prelude.{nat_le}
+use Rattle.std.specs.List.{filter}
+use Rattle.olr_search.specs.Frontiers.{label_of}
+use Rattle.olr_search.specs.Notes.{numbers_of}
+use Rattle.olr_search.proofs.frontier.Frontier.nodes_within.Given as goal
+
+abbrev pub invariant-loop-reached : goal.invariant-loop-reached
+invariant-loop-reached l =
+    l.nodes.items
+    ≡ numbers_of (filter (λ r. nat_le (label_of l.self r.slot) l.limit) (take l.reached-index l.reached-items))

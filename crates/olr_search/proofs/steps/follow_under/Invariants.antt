@@ -1,0 +1,21 @@
+use Rattle.std.proofs.Common.{◌≡◌, ◌≤◌, ◌<◌, ◌+◌, ℕ, List, IsTrue, get_or}
+use Rattle.olr_spec.specs.Map.{has_node}
+use Rattle.olr_search.specs.Distances.{Leads}
+use Rattle.olr_search.specs.Bounds.{IsUnder, bound_in}
+use Rattle.olr_search.specs.Frontiers.{Moves, label_of}
+use Rattle.olr_search.specs.Searches.{IsLabelled}
+use Rattle.olr_search.proofs.WayLemmas.{no_end}
+use Rattle.olr_search.proofs.steps.follow_under.Given as goal
+
+abbrev pub invariant-loop-end : goal.invariant-loop-end
+invariant-loop-end g l = record {
+  moves : Moves l.initial.frontier l.frontier;
+  labelled : (v : ℕ) (from : List (ℕ × ℕ)) → IsTrue (has_node (g.M.MapRead.map l.fn.map) v) →
+      g.M.MapRead.node_slot l.fn.map v ≡ l.fn.slot → Leads (g.M.MapRead.map l.fn.map) l.fn.direction from v l.dist
+      → IsLabelled (g.M.MapRead.map l.fn.map) (g.M.MapRead.node_slot l.fn.map) l.fn.direction from l.initial.frontier →
+      IsLabelled (g.M.MapRead.map l.fn.map) (g.M.MapRead.node_slot l.fn.map) l.fn.direction from l.frontier;
+  followed : (j : ℕ) → j < l.end-index
+      → IsUnder (bound_in l.fn.bounds) (get_or l.end-items j no_end).node (l.dist + (get_or l.end-items j no_end).len)
+      → label_of l.frontier (get_or l.end-items j no_end).slot ≤ l.dist
+      + (get_or l.end-items j no_end).len;
+}

@@ -1,0 +1,18 @@
+-- The entries of a queue.
+--     queue_key d p      the number for slot p at length d: the nearer first, and of equally near ones the smaller
+--         slot
+--     Queued q d p      slot p is queued, at length d
+--     queue_len q      how many entries there are
+use Rattle.std.specs.Prelude.{ℕ, ◌+◌, ◌*◌, ◌<◌, ◌^◌, Contains}
+use Rattle.std.specs.BinaryHeap.{heap_items, heap_len}
+use Rattle.olr_search.specs.declared.queue.Queue.{Queue}
+
+abbrev pub queue_key : ℕ → ℕ → ℕ
+queue_key d p = d * 2 ^ 32 + p
+
+pub record Queued (q : Queue) (d p : ℕ) : Type 0 where
+  pub small : p < 2 ^ 32
+  pub there : Contains (heap_items q.heap) (record { 0 = queue_key d p })
+
+abbrev pub queue_len : Queue → ℕ
+queue_len q = heap_len q.heap

@@ -1,0 +1,87 @@
+-- A search that can be continued.
+--     limit_of s      the limit in decimetres to which it is settled
+--     IsSearch M slot direction from s      its labels within this limit are the distances within it, on the map M
+--         with its nodes' slots
+--     LiesWithin M direction from limit v      v has a distance of at most the limit
+--     IsReached M direction from v      a route of at most the greatest limit leads to v
+--     Counts M direction from limit n      n nodes have a distance of at most the limit
+--     IsOnlyPredecessor M slot f x v length      no line but x leads to v within the length
+--     ClosedAt M slot direction f v d      each line from v, at the distance d, leads to a label of at most d plus its
+--         length
+--     IsLabelled M slot direction from f      each label is the length of a route, and the list has the labelled
+--         nodes
+--     IsUnderWay M slot direction from f      and each label is closed or queued, those where the search begins
+--         included
+use Rattle.std.specs.Prelude.{◌≡◌, ◌==◌, ℕ, ◌+◌, ◌<◌, ◌≤◌, ◌⊎◌, ◌↔◌, List, Contains, IsTrue, length, map}
+use Rattle.std.specs.List.{IsDistinct}
+use Rattle.olr_spec.specs.Map.{Map, IsMap, has_node, has_line, start, end, dm}
+use Rattle.olr_search.specs.Distances.{Leads, IsDistance, near_end, far_end}
+use Rattle.olr_search.specs.Frontiers.{label_of, frontier_len, IsQueued}
+use Rattle.olr_search.specs.declared.frontier.TheConstants.{GREATEST_LIMIT}
+use Rattle.olr_search.specs.declared.frontier.TheConstants.{UNREACHED}
+use Rattle.olr_search.specs.declared.frontier.Reached.{Reached}
+use Rattle.olr_search.specs.declared.frontier.Frontier.{Frontier}
+use Rattle.olr_search.specs.declared.distances.Direction.{Direction}
+use Rattle.olr_search.specs.declared.distances.Dijkstra.{Dijkstra}
+
+abbrev pub limit_of : Dijkstra → ℕ
+limit_of s = s.limit
+
+abbrev pub ClosedAt : Map → (ℕ → ℕ) → Direction → Frontier → ℕ → ℕ → Type 0
+ClosedAt M slot direction f v d =
+    (x : ℕ) → IsTrue (has_line M x) → near_end M direction x ≡ v →
+    label_of f (slot (far_end M direction x)) ≤ d + dm M x
+
+-- the table has the slot of each node
+abbrev pub CoversSlots : Map → (ℕ → ℕ) → Frontier → Type 0
+CoversSlots M slot f = (v : ℕ) → IsTrue (has_node M v) → slot v < frontier_len f
+
+-- a node of the list is on the map, in its slot, with a label
+pub record IsLabelledAt (M : Map) (slot : ℕ → ℕ) (f : Frontier) (r : Reached) : Type 0 where
+  pub there : IsTrue (has_node M r.node)
+  pub at : slot r.node ≡ r.slot
+  pub label : label_of f r.slot ≤ GREATEST_LIMIT
+
+pub record IsLabelled (M : Map) (slot : ℕ → ℕ) (direction : Direction) (from : List (ℕ × ℕ)) (f : Frontier) : Type 0
+  where
+    pub sound : IsMap M
+    pub own : (v w : ℕ) → IsTrue (has_node M v) → IsTrue (has_node M w) → slot v ≡ slot w → v ≡ w
+    pub room : CoversSlots M slot f
+    pub low : (p : ℕ) → label_of f p ≤ UNREACHED
+    pub leads : (v : ℕ) → IsTrue (has_node M v) → label_of f (slot v) ≤ GREATEST_LIMIT →
+        Leads M direction from v (label_of f (slot v))
+    pub nodes : (p : ℕ) → label_of f p ≤ GREATEST_LIMIT → (v : ℕ) × IsTrue (has_node M v) × (slot v ≡ p)
+    pub listed : (r : Reached) → Contains f.reached.items r → IsLabelledAt M slot f r
+    pub apart : IsDistinct ◌==◌ (map (λ (r : Reached). r.node) f.reached.items)
+
+pub record IsUnderWay (M : Map) (slot : ℕ → ℕ) (direction : Direction) (from : List (ℕ × ℕ)) (f : Frontier) : Type 0
+  where
+    pub labelled : IsLabelled M slot direction from f
+    pub begun : (s b : ℕ) → Contains from (s, b) → IsTrue (has_node M s) → label_of f (slot s) ≤ b
+    pub front : (v : ℕ) → IsTrue (has_node M v) → label_of f (slot v) ≤ GREATEST_LIMIT →
+        ClosedAt M slot direction f v (label_of f (slot v)) ⊎ IsQueued f (label_of f (slot v)) (slot v)
+
+pub record IsSearch (M : Map) (slot : ℕ → ℕ) (direction : Direction) (from : List (ℕ × ℕ)) (s : Dijkstra) : Type 0 where
+  pub way : s.direction ≡ direction
+  pub under_way : IsUnderWay M slot direction from s.frontier
+  pub small : s.limit ≤ GREATEST_LIMIT
+  pub settled : (v d : ℕ) → IsTrue (has_node M v) → d ≤ s.limit → Leads M direction from v d →
+      label_of s.frontier (slot v) ≤ d
+
+-- no line but x leads to v within a length
+abbrev pub IsOnlyPredecessor : Map → (ℕ → ℕ) → Frontier → ℕ → ℕ → ℕ → Type 0
+IsOnlyPredecessor M slot f x v length =
+    (y : ℕ) → IsTrue (has_line M y) → end M y ≡ v → label_of f (slot (start M y)) + dm M y ≤ length → y ≡ x
+
+abbrev pub LiesWithin : Map → Direction → List (ℕ × ℕ) → ℕ → ℕ → Type 0
+LiesWithin M direction from limit v = (d : ℕ) × IsDistance M direction from v d × (d ≤ limit)
+
+-- a route of at most the greatest limit leads to v
+abbrev pub IsReached : Map → Direction → List (ℕ × ℕ) → ℕ → Type 0
+IsReached M direction from v = (d : ℕ) × Leads M direction from v d × (d ≤ GREATEST_LIMIT)
+
+pub record Counts (M : Map) (direction : Direction) (from : List (ℕ × ℕ)) (limit n : ℕ) : Type 0 where
+  pub nodes : List ℕ
+  pub apart : IsDistinct ◌==◌ nodes
+  pub exactly : (v : ℕ) → Contains nodes v ↔ LiesWithin M direction from limit v
+  pub many : length nodes ≡ n

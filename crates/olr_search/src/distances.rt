@@ -1,0 +1,278 @@
+//! A Dijkstra search that can be continued: distances only, from one node or from several, along the lines or against
+//! them.
+ghost use Rattle.std.specs.Prelude.{◌≡◌, ◌==◌, ◌≢◌, ◌↔◌, ◌≤◌, ◌+◌, ℕ, List, [], ◌∷◌, ◌++◌, Some, Contains, OnOk, IfOk};
+ghost use Rattle.std.specs.Prelude.{IsTrue, max};
+ghost use Rattle.std.specs.List.{IsDistinct};
+ghost use Rattle.std.specs.List.Sorted.{IsStrictlyIncreasing};
+ghost use Rattle.olr_spec.specs.Map.{Map, has_node, start as start_node, end, dm};
+ghost use Rattle.olr_spec.specs.Routes.{UniqueShortest, dm_of};
+ghost use Rattle.olr_search.specs.Distances.{IsDistance, Leads};
+ghost use Rattle.olr_search.specs.Frontiers.{label_of};
+ghost use Rattle.olr_search.specs.Notes.{numbers_of};
+ghost use Rattle.olr_search.specs.Searches.{IsSearch, LiesWithin, IsReached, Counts, IsOnlyPredecessor, limit_of};
+ghost use Rattle.olr_search.specs.Bounds.{AreBounds, AreLengths, IsUnder, bound_in, label_at};
+ghost use Rattle.olr_search.specs.declared.frontier.Reached.{Reached as ReachedRecord};
+ghost use Rattle.olr_search.specs.declared.distances.Direction.TheVariants.{Along};
+
+use crate::bounds::Bounds;
+use crate::frontier::{Frontier, GREATEST_LIMIT, Reached};
+use crate::lines::both_ends;
+use crate::steps::{follow, follow_under, start};
+use olr_map::{LineEnd, LineId, MapRead, NodeId};
+use std::alloc::{AllocError, Global};
+
+/// Along the lines, or against them.
+#[derive(Clone, Copy, Debug, PartialEq, Eq)]
+pub enum Direction {
+    /// From where a line begins to where it ends.
+    Along,
+    /// From where a line ends to where it begins.
+    Against,
+}
+
+/// Shortest distances from some nodes, each with a start value. One search can be begun again any number of times: its
+/// table is allocated once, as long as the map needs, and only its labelled entries are reset.
+///
+/// All calls between one `begin` and the next must be given the same map. After an error the search must be begun again
+/// before it is used.
+#[derive(Drop)]
+pub struct Dijkstra {
+    direction: Direction,
+    limit: u32,
+    frontier: Frontier,
+}
+
+impl Dijkstra {
+    /// A search that has not begun. Does not allocate.
+    pub fn new(alloc: Global) -> Dijkstra
+        ensures { limit_of result ≡ 0 }
+    {
+        Dijkstra {
+            direction: Direction::Along,
+            limit: 0,
+            frontier: Frontier::new(alloc),
+        }
+    }
+
+    /// Discards the previous search, and begins one at these nodes, each with a start value in decimetres. Nodes that
+    /// are not on the map are skipped. Takes time proportional to the number of these nodes and of the previous
+    /// search's labels.
+    pub fn begin<M: MapRead>(
+        &mut self,
+        map: &M,
+        direction: Direction,
+        from: &[(NodeId, u32)],
+    ) -> Result<(), AllocError>
+        ensures search { OnOk result (IsSearch (M.map map.now) (M.node_slot map.now) direction from.now self.new) }
+        ensures limit { OnOk result (limit_of self.new ≡ 0) }
+    {
+        self.frontier.clear();
+        self.direction = direction;
+        self.limit = 0;
+        self.frontier.make_room(map.slot_count())?;
+        for begin in from {
+            let (node, length) = *begin;
+            start(map, node, length, &mut self.frontier)?;
+        }
+        Ok(())
+    }
+
+    /// Continues the search to a limit in decimetres. Its labels are then those of a search within this limit, or
+    /// within a
+    /// greater one to which it was settled before.
+    pub fn settle_to<M: MapRead>(&mut self, map: &M, limit: u32) -> Result<(), AllocError>
+        requires small { limit ≤ GREATEST_LIMIT }
+        requires begun { (direction : _) × (from : List (ℕ × ℕ))
+            × IsSearch (M.map map.now) (M.node_slot map.now) direction from self.old }
+        ensures search { OnOk result ((direction : _) (from : List (ℕ × ℕ))
+            → IsSearch (M.map map.now) (M.node_slot map.now) direction from self.old
+            → IsSearch (M.map map.now) (M.node_slot map.now) direction from self.new) }
+        ensures limit { OnOk result (limit_of self.new ≡ max (limit_of self.old) limit) }
+    {
+        while let Some(next) = self.frontier.pop_within(limit) {
+            let (dist, slot) = next;
+            if self.frontier.label(slot) == dist {
+                follow(map, self.direction, dist, slot, &mut self.frontier)?;
+            }
+        }
+        self.limit = self.limit.max(limit);
+        Ok(())
+    }
+
+    /// Settles on as far as bounds let it: a node is labelled only if the sum of its bound and its label is at most
+    /// `GREATEST_LIMIT`. If each line that is followed to a node with a bound begins at one whose bound is at most that
+    /// and the line's length together, a label is the least length wherever that sum is within the limit. Afterwards
+    /// only `is_within` and `labelled_nodes` may be called, until the search is begun again.
+    pub fn settle_under<M: MapRead>(&mut self, map: &M, bounds: &Bounds) -> Result<(), AllocError>
+        requires begun { (direction : _) × (from : List (ℕ × ℕ))
+            × IsSearch (M.map map.now) (M.node_slot map.now) direction from self.old }
+        ensures labelled { OnOk result ((direction : _) (from : List (ℕ × ℕ))
+            → IsSearch (M.map map.now) (M.node_slot map.now) direction from self.old
+            → AreLengths (M.map map.now) (M.node_slot map.now) direction from self.new) }
+        ensures settled { OnOk result ((direction : _) (from : List (ℕ × ℕ))
+            → IsSearch (M.map map.now) (M.node_slot map.now) direction from self.old
+            → AreBounds (M.map map.now) direction (bound_in bounds.now)
+            → (v d : ℕ) → IsUnder (bound_in bounds.now) v d → IsTrue (has_node (M.map map.now) v)
+            → Leads (M.map map.now) direction from v d → label_at self.new (M.node_slot map.now v) ≤ d) }
+    {
+        while let Some(next) = self.frontier.pop_within(GREATEST_LIMIT) {
+            let (dist, slot) = next;
+            if self.frontier.label(slot) == dist {
+                follow_under(map, self.direction, dist, slot, bounds, &mut self.frontier)?;
+            }
+        }
+        Ok(())
+    }
+
+    /// Whether the node in this slot of the map has a label of at most a length in decimetres.
+    pub fn is_within(&self, slot: u32, length: u32) -> bool
+        ensures { IsTrue result ↔ (label_at self.now slot ≤ length) }
+    {
+        self.frontier.label(slot) <= length
+    }
+
+    /// The distance of a node in decimetres. None where it is beyond the limit that the search has been settled to.
+    pub fn dist<M: MapRead>(&self, map: &M, node: NodeId) -> Option<u32>
+        ensures { (direction : _) (from : List (ℕ × ℕ)) (d : ℕ)
+            → IsSearch (M.map map.now) (M.node_slot map.now) direction from self.now
+            → ((result ≡ Some d) ↔ (IsDistance (M.map map.now) direction from node d × (d ≤ limit_of self.now))) }
+    {
+        match map.slot_of(node) {
+            None => None,
+            Some(slot) => self.dist_at(slot),
+        }
+    }
+
+    /// The distance, as in `dist`, of the node in this slot of the map.
+    pub fn dist_at(&self, slot: u32) -> Option<u32>
+        ensures { (M : Map) (node_slot : ℕ → ℕ) (direction : _) (from : List (ℕ × ℕ)) (v d : ℕ)
+            → IsSearch M node_slot direction from self.now → IsTrue (has_node M v) → node_slot v ≡ slot
+            → ((result ≡ Some d) ↔ (IsDistance M direction from v d × (d ≤ limit_of self.now))) }
+    {
+        let label = self.frontier.label(slot);
+        if label <= self.limit {
+            Some(label)
+        } else {
+            None
+        }
+    }
+
+    /// The limit to which the search has been settled since it began, in decimetres.
+    pub fn limit(&self) -> u32
+        ensures { result ≡ limit_of self.now }
+    {
+        self.limit
+    }
+
+    /// The nodes that the search has labelled, each once, with their slots: those within the limit to which it is
+    /// settled, and some beyond it, up to `GREATEST_LIMIT`. In no particular order.
+    pub fn labelled_nodes(&self) -> &[Reached]
+        ensures near { (M : Map) (node_slot : ℕ → ℕ) (direction : _) (from : List (ℕ × ℕ)) (v : ℕ)
+            → IsSearch M node_slot direction from self.now → LiesWithin M direction from (limit_of self.now) v
+            → Contains result.now (record { node = v; slot = node_slot v }) }
+        ensures labelled { (M : Map) (node_slot : ℕ → ℕ) (direction : _) (from : List (ℕ × ℕ)) (v : ℕ)
+            → AreLengths M node_slot direction from self.now → IsTrue (has_node M v)
+            → label_at self.now (node_slot v) ≤ GREATEST_LIMIT
+            → Contains result.now (record { node = v; slot = node_slot v }) }
+        ensures once { (M : Map) (node_slot : ℕ → ℕ) (direction : _) (from : List (ℕ × ℕ))
+            → IsSearch M node_slot direction from self.now → IsDistinct ◌==◌ (numbers_of result.now) }
+        ensures reached { (M : Map) (node_slot : ℕ → ℕ) (direction : _) (from : List (ℕ × ℕ)) (r : ReachedRecord)
+            → IsSearch M node_slot direction from self.now → Contains result.now r
+            → IsReached M direction from r.node × (node_slot r.node ≡ r.slot) }
+        ensures exactly { (M : Map) (node_slot : ℕ → ℕ) (direction : _) (from : List (ℕ × ℕ)) (r : ReachedRecord)
+            → IsSearch M node_slot direction from self.now → limit_of self.now ≡ GREATEST_LIMIT → Contains result.now r
+            → LiesWithin M direction from GREATEST_LIMIT r.node }
+    {
+        self.frontier.labelled_nodes()
+    }
+
+    /// The number of nodes that the search has settled since it began: those within the limit to which it is settled.
+    /// Takes time proportional to the number of nodes that it has labelled.
+    pub fn settled_count(&self) -> usize
+        ensures { (M : Map) (node_slot : ℕ → ℕ) (direction : _) (from : List (ℕ × ℕ))
+            → IsSearch M node_slot direction from self.now → Counts M direction from (limit_of self.now) result }
+    {
+        self.frontier.count_within(self.limit)
+    }
+
+    /// The nodes within the limit to which the search is settled, in ascending order.
+    pub fn nodes(&self, alloc: Global) -> Result<Vec<NodeId>, AllocError>
+        ensures ascending { IfOk result (λ nodes. (M : Map) (node_slot : ℕ → ℕ) (direction : _) (from : List (ℕ × ℕ))
+            → IsSearch M node_slot direction from self.now → IsStrictlyIncreasing nodes.items) }
+        ensures nodes { IfOk result (λ nodes. (M : Map) (node_slot : ℕ → ℕ) (direction : _) (from : List (ℕ × ℕ))
+            (v : ℕ)
+            → IsSearch M node_slot direction from self.now →
+            (Contains nodes.items v ↔ LiesWithin M direction from (limit_of self.now) v)) }
+    {
+        let mut nodes = self.frontier.nodes_within(alloc, self.limit)?;
+        nodes.sort_unstable();
+        Ok(nodes)
+    }
+
+    /// The label of a node; `UNREACHED` if it has none.
+    fn label<M: MapRead>(&self, map: &M, node: NodeId) -> u32
+        requires { IsTrue (has_node (M.map map.now) node) }
+        ensures { result ≡ label_of self.now.frontier (M.node_slot map.now node) }
+    {
+        match map.slot_of(node) {
+            None => unreachable!(),
+            Some(slot) => self.frontier.label(slot),
+        }
+    }
+
+    /// Whether `other`, as seen from where it ends, is not `line`, and leads there within a length in decimetres.
+    fn is_other(&self, line: LineId, other: LineId, end: &LineEnd, length: u32) -> bool
+        ensures { IsTrue result ↔ ((other ≢ line) × (label_of self.now.frontier end.now.slot + end.now.len ≤ length)) }
+    {
+        other != line && end.len <= length && self.frontier.label(end.slot) <= length - end.len
+    }
+
+    /// Whether no line but this one leads to a node within a length in decimetres.
+    fn is_only_predecessor<M: MapRead>(
+        &self,
+        map: &M,
+        line: LineId,
+        to: NodeId,
+        length: u32,
+    ) -> bool
+        ensures { IsTrue result ↔ IsOnlyPredecessor (M.map map.now) (M.node_slot map.now) self.now.frontier line to
+            length }
+    {
+        let lines = map.in_lines(to);
+        let ends = map.in_ends(to);
+        for (index, end) in ends.iter().enumerate() {
+            if self.is_other(line, lines[index], end, length) {
+                return false;
+            }
+        }
+        true
+    }
+
+    /// Whether a line extends the unique shortest path to its start to the unique shortest path to its end. Unspecified
+    /// if there is no unique shortest path to its start, or if the extended one is longer than the limit to which the
+    /// search is settled.
+    pub fn extends_unique_shortest<M: MapRead>(&self, map: &M, line: LineId) -> bool
+        ensures { (s : ℕ) (route : List ℕ)
+            → IsSearch (M.map map.now) (M.node_slot map.now) Along ((s, 0) ∷ []) self.now
+            → UniqueShortest (M.map map.now) s (start_node (M.map map.now) line) route
+            → dm_of (M.map map.now) route + dm (M.map map.now) line ≤ limit_of self.now
+            → (IsTrue result ↔ UniqueShortest (M.map map.now) s (end (M.map map.now) line) (route ++ line ∷ [])) }
+    {
+        let Some(ends) = both_ends(map, line) else {
+            return false;
+        };
+        let (from, to, len) = ends;
+        let length = self.label(map, to);
+        if !is_sum(self.label(map, from), len, length) {
+            return false;
+        }
+        self.is_only_predecessor(map, line, to, length)
+    }
+}
+
+/// Whether two lengths add up to a third one.
+fn is_sum(first: u32, second: u32, whole: u32) -> bool
+    ensures { IsTrue result ↔ (first + second ≡ whole) }
+{
+    second <= whole && first == whole - second
+}

@@ -1,0 +1,17 @@
+//! A Dijkstra search that can be continued, from one node or from several, along the lines or against them, and that
+//! distance bounds can cut. It computes distances only; by these it also tests whether a line extends a unique shortest
+//! path. Maps are read through `MapRead`.
+#![tactic(auto)]
+
+pub mod bounds;
+pub mod distances;
+mod frontier;
+mod lines;
+mod queue;
+mod steps;
+pub mod work;
+
+pub use bounds::Bounds;
+pub use distances::{Dijkstra, Direction};
+pub use frontier::{GREATEST_LIMIT, Reached};
+pub use work::Work;

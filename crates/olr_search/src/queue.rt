@@ -1,0 +1,69 @@
+//! The slots from which a search continues, the nearest first.
+ghost use Rattle.std.proofs.Props.{props};
+ghost use Rattle.std.specs.BinaryHeap.{IsHeap, heap_items};
+ghost use Rattle.olr_search.specs.Entries.{entry_cmp};
+
+use std::alloc::{AllocError, Global};
+use std::cmp::Reverse;
+use std::collections::BinaryHeap;
+
+/// How many slots there may be.
+const SLOTS: u64 = 4_294_967_296;
+
+/// Lengths, and the slots of the nodes that routes of these lengths reach, each pair as one number. Keeps its capacity
+/// when it is cleared.
+#[derive(Drop)]
+pub struct Queue {
+    heap: BinaryHeap<Reverse<u64>>,
+    ghost ordered: { IsHeap entry_cmp (heap_items heap) } by { Prim.hlevel props },
+}
+
+impl Queue {
+    ghost use Rattle.std.specs.Prelude.{◌≡◌, ◌≤◌, ◌<◌, ◌+◌, ◌⊎◌, ℕ, OnOk, IfSome, IfNone};
+    ghost use Rattle.olr_search.specs.Queues.{Queued, queue_len};
+
+    /// The empty queue. Does not allocate.
+    pub fn new(alloc: Global) -> Queue
+        ensures { queue_len result ≡ 0 }
+    {
+        Queue {
+            heap: BinaryHeap::new(alloc),
+        }
+    }
+
+    /// Removes all entries.
+    pub fn clear(&mut self)
+        ensures { queue_len self.new ≡ 0 }
+    {
+        self.heap.clear();
+    }
+
+    /// Adds a slot, at a length in decimetres.
+    pub fn push(&mut self, dist: u32, slot: u32) -> Result<(), AllocError>
+        ensures there { OnOk result (Queued self.new dist slot) }
+        ensures kept { OnOk result ((d p : ℕ) → Queued self.old d p → Queued self.new d p) }
+        ensures len { OnOk result (queue_len self.new ≡ queue_len self.old + 1) }
+    {
+        let entry = u64::from(dist) * SLOTS + u64::from(slot);
+        self.heap.push(Reverse(entry))?;
+        Ok(())
+    }
+
+    /// Removes the least length, and returns it with its slot. None if no length is at most `limit`.
+    pub fn pop_within(&mut self, limit: u32) -> Option<(u32, u32)>
+        ensures within { IfSome result (λ x. x.0 ≤ limit) }
+        ensures least { IfSome result (λ x. (d p : ℕ) → Queued self.old d p → x.0 ≤ d) }
+        ensures others { IfSome result (λ x. (d p : ℕ) → Queued self.old d p → Queued self.new d p
+            ⊎ ((d ≡ x.0) × (p ≡ x.1))) }
+        ensures len { IfSome result (λ x. queue_len self.new + 1 ≡ queue_len self.old) }
+        ensures far { IfNone result ((d p : ℕ) → Queued self.new d p → limit < d) }
+        ensures same { IfNone result (self.new ≡ self.old) }
+    {
+        let Reverse(next) = *self.heap.peek()?;
+        if next / SLOTS > u64::from(limit) {
+            return None;
+        }
+        let Reverse(nearest) = self.heap.pop()?;
+        Some(((nearest / SLOTS) as u32, (nearest % SLOTS) as u32))
+    }
+}

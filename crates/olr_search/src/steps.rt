@@ -1,0 +1,104 @@
+//! The steps of a search that can be continued: the nodes where it begins, and the lines from a node.
+ghost use Rattle.std.specs.Prelude.{◌≡◌, ◌≤◌, ℕ, List, Contains, OnOk, IsTrue};
+ghost use Rattle.olr_spec.specs.Map.{has_node};
+ghost use Rattle.olr_search.specs.Distances.{Leads, ends_at};
+ghost use Rattle.olr_search.specs.Frontiers.{Moves, label_of};
+ghost use Rattle.olr_search.specs.Searches.{ClosedAt, CoversSlots, IsLabelled};
+ghost use Rattle.olr_search.specs.Bounds.{CutAt, bound_in};
+
+use crate::bounds::{Bounds, is_under};
+use crate::distances::Direction;
+use crate::frontier::{Frontier, GREATEST_LIMIT};
+use olr_map::{LineEnd, MapRead, NodeId};
+use std::alloc::AllocError;
+
+/// Lowers a node's label to a length in decimetres. No effect if the label is no greater, or the node is not on the
+/// map.
+pub fn start<M: MapRead>(
+    map: &M,
+    node: NodeId,
+    length: u32,
+    frontier: &mut Frontier,
+) -> Result<(), AllocError>
+    requires { CoversSlots (M.map map.now) (M.node_slot map.now) frontier.old }
+    ensures moves { OnOk result (Moves frontier.old frontier.new) }
+    ensures labelled { OnOk result ((direction : _) (from : List (ℕ × ℕ)) → Contains from (node, length)
+        → IsLabelled (M.map map.now) (M.node_slot map.now) direction from frontier.old
+        → IsLabelled (M.map map.now) (M.node_slot map.now) direction from frontier.new) }
+    ensures begun { OnOk result (IsTrue (has_node (M.map map.now) node) →
+        label_of frontier.new (M.node_slot map.now node) ≤ length) }
+{
+    let Some(slot) = map.slot_of(node) else {
+        return Ok(());
+    };
+    frontier.relax(node, slot, length)?;
+    Ok(())
+}
+
+/// For each line that is entered in this direction at the node in this slot: its far end, and its length.
+fn ends_from<M: MapRead>(map: &M, direction: Direction, slot: u32) -> &[LineEnd]
+    requires { (v : ℕ) × IsTrue (has_node (M.map map.now) v) × (M.node_slot map.now v ≡ slot) }
+    ensures { (v : ℕ) → IsTrue (has_node (M.map map.now) v) → M.node_slot map.now v ≡ slot
+        → result.now ≡ ends_at (M.map map.now) (M.node_slot map.now) direction v }
+{
+    match direction {
+        Direction::Along => map.out_ends_at(slot),
+        Direction::Against => map.in_ends_at(slot),
+    }
+}
+
+/// Follows the lines from the node in this slot, at the distance `dist` in decimetres: labels their far ends.
+pub fn follow<M: MapRead>(
+    map: &M,
+    direction: Direction,
+    dist: u32,
+    slot: u32,
+    frontier: &mut Frontier,
+) -> Result<(), AllocError>
+    requires node { (v : ℕ) × IsTrue (has_node (M.map map.now) v) × (M.node_slot map.now v ≡ slot) }
+    requires within { dist ≤ GREATEST_LIMIT }
+    requires room { CoversSlots (M.map map.now) (M.node_slot map.now) frontier.old }
+    ensures moves { OnOk result (Moves frontier.old frontier.new) }
+    ensures labelled { OnOk result ((v : ℕ) (from : List (ℕ × ℕ)) → IsTrue (has_node (M.map map.now) v) →
+        M.node_slot map.now v ≡ slot
+        → Leads (M.map map.now) direction from v dist
+        → IsLabelled (M.map map.now) (M.node_slot map.now) direction from frontier.old
+        → IsLabelled (M.map map.now) (M.node_slot map.now) direction from frontier.new) }
+    ensures closed { OnOk result ((v : ℕ) → IsTrue (has_node (M.map map.now) v) → M.node_slot map.now v ≡ slot
+        → ClosedAt (M.map map.now) (M.node_slot map.now) direction frontier.new v dist) }
+{
+    for end in ends_from(map, direction, slot) {
+        frontier.relax(end.node, end.slot, dist + end.len)?;
+    }
+    Ok(())
+}
+
+/// As `follow`, but labels only the far ends that the bounds let it.
+pub fn follow_under<M: MapRead>(
+    map: &M,
+    direction: Direction,
+    dist: u32,
+    slot: u32,
+    bounds: &Bounds,
+    frontier: &mut Frontier,
+) -> Result<(), AllocError>
+    requires node { (v : ℕ) × IsTrue (has_node (M.map map.now) v) × (M.node_slot map.now v ≡ slot) }
+    requires within { dist ≤ GREATEST_LIMIT }
+    requires room { CoversSlots (M.map map.now) (M.node_slot map.now) frontier.old }
+    ensures moves { OnOk result (Moves frontier.old frontier.new) }
+    ensures labelled { OnOk result ((v : ℕ) (from : List (ℕ × ℕ)) → IsTrue (has_node (M.map map.now) v) →
+        M.node_slot map.now v ≡ slot
+        → Leads (M.map map.now) direction from v dist
+        → IsLabelled (M.map map.now) (M.node_slot map.now) direction from frontier.old
+        → IsLabelled (M.map map.now) (M.node_slot map.now) direction from frontier.new) }
+    ensures closed { OnOk result ((v : ℕ) → IsTrue (has_node (M.map map.now) v) → M.node_slot map.now v ≡ slot
+        → CutAt (M.map map.now) (M.node_slot map.now) direction (bound_in bounds.now) frontier.new v dist) }
+{
+    for end in ends_from(map, direction, slot) {
+        let length = dist + end.len;
+        if is_under(bounds, end.node, length) {
+            frontier.relax(end.node, end.slot, length)?;
+        }
+    }
+    Ok(())
+}
