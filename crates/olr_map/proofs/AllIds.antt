@@ -1,22 +1,22 @@
 -- The numbers of all nodes and of all lines, collected slot by slot and node by node, and then sorted.
-use Rattle.std.proofs.Common.{inl, inr, ◌⊎◌, ◌≡◌, ◌≢◌, ◌==◌, ◌||◌, ℕ, ◌+◌, ◌<◌, zero, suc, Bool, true, false, T, List, []}
+use Rattle.std.proofs.Common.{inl, inr, ◌⊎◌, ◌≡◌, ◌≢◌, ◌==◌, ℕ, ◌+◌, ◌<◌, zero, suc, true, false, T, List, []}
 use Rattle.std.proofs.Common.{◌∷◌, ◌++◌, map, length, get_or, take, Option, Some, None, is_some, nat_cmp, Ordering, Less, unwrap_or}
-use Rattle.std.proofs.Common.{Equal, Greater, is_lt, IsTrue, refl, sym, ap, ◌∙◌, subst, arith}
+use Rattle.std.proofs.Common.{Equal, Greater, is_lt, refl, sym, ap, ◌∙◌, subst, arith}
 use Rattle.std.specs.Option.{option_map}
 use Rattle.std.specs.List.{list_any, flat_map, AllByRecursion, IsDistinct}
-use Rattle.std.specs.List.Sorted.{IsPermutation, IsStrictlyIncreasing, IsStrictlySortedBy, IsSortedByKey}
+use Rattle.std.specs.List.Sorted.{IsPermutation, IsStrictlySortedBy, IsSortedByKey}
 use Rattle.std.specs.Ordering.{eq_by_cmp}
 use Rattle.std.specs.Cmp.{unsigned_tied, both_ways}
 use Rattle.std.specs.FinMap.{FinMap, get, entries, entries_sorted, get-entries}
 use Rattle.std.specs.FinMap.Entries.{below_all, is_sorted, is_some-find}
-use Rattle.std.proofs.lemmas.Bool.{eq-eqb, ne_eqb, eqb-true, cases_eq, cases_Bool}
+use Rattle.std.proofs.lemmas.Bool.{eq-eqb, ne_eqb, or_cases, or_left, or_right}
 use Rattle.std.proofs.lemmas.List.{append-nil, map-append, take_more}
 use Rattle.std.proofs.lemmas.Grind.{flat_map-append}
 use Rattle.std.proofs.lemmas.List.Folds.{list_any-append}
 use Rattle.std.proofs.lemmas.List.Sorted.{IsNonDecreasingBy-from_sort, list_any-IsPermutation}
 use Rattle.std.proofs.lemmas.Map.Keys.{IsDistinct-head, IsDistinct-tail, IsDistinct-cons, IsDistinct-IsPermutation}
 use Rattle.std.proofs.lemmas.Map.Keys.{IsStrictlyIncreasing-from_distinct, IsStrictlyIncreasing-from_sorted}
-use Rattle.olr_spec.specs.Map.{Map, IsMap, Line, has, has_node, has_line, line_at, no_line, lines_out}
+use Rattle.olr_spec.specs.Map.{Map, IsMap, Line, has, has_node, has_line, no_line, lines_out}
 use Rattle.olr_spec.proofs.ListLemmas.{has_here, has_there, has_cases}
 use Rattle.olr_spec.proofs.MapLemmas.{T_first, T_second}
 use Rattle.olr_spec.proofs.OrderLemmas.{ascend_out, exactly_out}
@@ -30,7 +30,7 @@ use Rattle.olr_map.specs.declared.slots.NodeEntry.{NodeEntry}
 use Rattle.olr_map.specs.declared.slots.NodeHead.{NodeHead}
 use Rattle.olr_map.proofs.Insertions.{eqb_flip}
 use Rattle.olr_map.proofs.Numbers.{distinct_from_ascending, same_ascending}
-use Rattle.olr_map.proofs.SlotMapLemmas.{same_some}
+use Rattle.std.proofs.lemmas.Option.{same_Some}
 use Rattle.olr_map.proofs.Reading.{node_there, node_missing}
 
 -- ---- lists of numbers
@@ -51,24 +51,20 @@ not_among x (y ∷ ys) a h =
       | inr later ↦ not_among x ys a.1 later
     ]
 
+in_either : (xs ys : List ℕ) (y : ℕ) → has (xs ++ ys) y ≡ true → (has xs y ≡ true) ⊎ (has ys y ≡ true)
+in_either xs ys y h = or_cases _ _ (sym (list_any-append (λ z. z == y) xs ys) ∙ h)
+
 distinct_append : (xs ys : List ℕ) → IsDistinct ◌==◌ xs → IsDistinct ◌==◌ ys →
     ((x : ℕ) → has xs x ≡ true → has ys x ≡ true → ⊥) → IsDistinct ◌==◌ (xs ++ ys)
 distinct_append [] ys a b apart = b
 distinct_append (x ∷ xs) ys a b apart =
     IsDistinct-cons ◌==◌ x (xs ++ ys)
     (none_equal x (xs ++ ys) (λ y i is.
-    elim (both xs ys y i) [
+    elim (in_either xs ys y i) [
       | inl left ↦ not_among x xs (IsDistinct-head ◌==◌ x xs a) (subst (λ (n : ℕ). has xs n ≡ true) (sym is) left)
       | inr right ↦ apart x (has_here x xs) (subst (λ (n : ℕ). has ys n ≡ true) (sym is) right)
     ]))
-    (distinct_append xs ys (IsDistinct-tail ◌==◌ x xs a) b (λ y i j. apart y (has_there x xs y i) j)) where
-      both : (xs ys : List ℕ) (y : ℕ) → has (xs ++ ys) y ≡ true → (has xs y ≡ true) ⊎ (has ys y ≡ true)
-      both [] ys y h = inr h
-      both (x ∷ xs) ys y h =
-          elim (has_cases x (xs ++ ys) y h) [
-            | inl is ↦ inl (subst (λ (n : ℕ). has (x ∷ xs) n ≡ true) is (has_here x xs))
-            | inr later ↦ elim (both xs ys y later) [ inl left ↦ inl (has_there x xs y left) | inr right ↦ inr right ]
-          ]
+    (distinct_append xs ys (IsDistinct-tail ◌==◌ x xs a) b (λ y i j. apart y (has_there x xs y i) j))
 
 -- ---- the numbers of a finite map
 
@@ -159,7 +155,7 @@ id_in_slot [] p v h = absurd cc
 id_in_slot (None ∷ es) zero v h = absurd cc
 id_in_slot (None ∷ es) (suc p) v h = id_in_slot es p v h
 id_in_slot (Some e ∷ es) zero v h =
-    subst (λ (n : ℕ). has (e.id ∷ ids_in es) n ≡ true) (same_some e.id v h) (has_here e.id (ids_in es))
+    subst (λ (n : ℕ). has (e.id ∷ ids_in es) n ≡ true) (same_Some e.id v h) (has_here e.id (ids_in es))
 id_in_slot (Some e ∷ es) (suc p) v h = has_there e.id (ids_in es) v (id_in_slot es p v h)
 
 ids_once : (es : List (Option NodeEntry)) → ((p q v : ℕ) → id_at es p ≡ Some v → id_at es q ≡ Some v → p ≡ q) →
@@ -177,7 +173,7 @@ ids_once (Some e ∷ es) h = (
 module _ (b : Blocks) (es : List (Option NodeEntry)) (x : IsIndexed b es) where
   pub nodes_once : IsDistinct ◌==◌ (ids_in es)
   nodes_once =
-      ids_once es (λ p q v i j. same_some p q (sym (x.named v p i) ∙ x.named v q j))
+      ids_once es (λ p q v i j. same_Some p q (sym (x.named v p i) ∙ x.named v q j))
 
   pub has_nodes : (F : FinMap nat_cmp Line) (v : ℕ) → has (ids_in es) v ≡ has_node (map_from b es F) v
   has_nodes F v = by (slot_by b v) refl where
@@ -207,14 +203,9 @@ module _ (M : Map) (m : IsMap M) where
       × (has (lines_out M v) x ≡ true)
   from_node [] x h = absurd cc
   from_node (v ∷ vs) x h =
-      elim (cases_Bool (has (lines_out M v) x)) [
+      elim (in_either (lines_out M v) (flat_map (lines_out M) vs) x h) [
         | inl here ↦ (v, has_here v vs, here)
-        | inr not_here ↦
-            let later : has (flat_map (lines_out M) vs) x ≡ true =
-            ap (λ (b : Bool). b || has (flat_map (lines_out M) vs) x) (sym not_here)
-            ∙ sym (list_any-append (λ y. y == x) (lines_out M v) (flat_map (lines_out M) vs)) ∙ h in
-            let r = from_node vs x later in
-            (r.0, has_there v vs r.0 r.1, r.2)
+        | inr later ↦ let r = from_node vs x later in (r.0, has_there v vs r.0 r.1, r.2)
       ]
 
   of_node : (vs : List ℕ) (v x : ℕ) → has vs v ≡ true → has (lines_out M v) x ≡ true →
@@ -223,20 +214,16 @@ module _ (M : Map) (m : IsMap M) where
   of_node (w ∷ vs) v x i h =
       list_any-append (λ y. y == x) (lines_out M w) (flat_map (lines_out M) vs)
       ∙ elim (has_cases w vs v i) [
-        | inl is ↦ ap (λ (b : Bool). b || has (flat_map (lines_out M) vs) x)
-            (ap (λ (n : ℕ). has (lines_out M n) x) is ∙ h)
-        | inr later ↦ or_last (has (lines_out M w) x) (has (flat_map (lines_out M) vs) x) (of_node vs v x later h)
-      ] where
-        or_last : (a c : Bool) → c ≡ true → (a || c) ≡ true
-        or_last true c e = refl
-        or_last false c e = e
+        | inl is ↦ or_left _ _ (ap (λ (n : ℕ). has (lines_out M n) x) is ∙ h)
+        | inr later ↦ or_right _ _ (of_node vs v x later h)
+      ]
 
   -- a line leaves one node
   one_start : (v w x : ℕ) → has (lines_out M v) x ≡ true → has (lines_out M w) x ≡ true → v ≡ w
   one_start v w x a c =
       let p = (exactly_out M v x).0 a in
       let q = (exactly_out M w x).0 c in
-      let same : p.0 ≡ q.0 = same_some p.0 q.0 (sym p.1.0 ∙ q.1.0) in
+      let same : p.0 ≡ q.0 = same_Some p.0 q.0 (sym p.1.0 ∙ q.1.0) in
       sym p.1.1 ∙ ap (λ (l : Line). l.from) same ∙ q.1.1
 
   lines_once : (vs : List ℕ) → IsDistinct ◌==◌ vs → IsDistinct ◌==◌ (flat_map (lines_out M) vs)

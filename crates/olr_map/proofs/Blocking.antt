@@ -1,19 +1,20 @@
 -- Slots in blocks: after another slot is stored in a block, and as a list.
 use Rattle.std.proofs.Common.{◌≡◌, ◌==◌, ℕ, ◌+◌, ◌-◌, ◌*◌, ◌/◌, ◌%◌, ◌<◌, zero, suc, Bool, true, false, cond, List, []}
 use Rattle.std.proofs.Common.{◌∷◌, ◌++◌, Option, Some, None, length, slice_index, nat_eq, refl, sym, ap, ◌∙◌, subst}
-use Rattle.std.proofs.Common.{inl, inr, arith, eqb-true}
+use Rattle.std.proofs.Common.{inl, inr, arith, eqb-true, Result, Ok, Err, IsOk, OnOk}
+use Rattle.std.specs.Option.{option_or}
 use Rattle.std.specs.List.{AllByRecursion, IsDistinct}
 use Rattle.std.specs.Map.{lookup, keys_of}
 use Rattle.std.specs.Cmp.Lexicographic.{pointwise, same_text, other_text}
 use Rattle.std.proofs.lemmas.Bool.{cases_eq, cases_order, eq-eqb, ne_eqb}
 use Rattle.std.proofs.lemmas.Map.Keys.{IsDistinct-head, IsDistinct-tail}
+use Rattle.std.proofs.lemmas.List.{get_or_past}
 use Rattle.std.proofs.lemmas.Nat.{div-add-mod'}
 use Rattle.std.proofs.Math.Nat.{mod-lt}
 use Rattle.olr_map.specs.Blocked.{number_before, slot_at, slot_in, found_in, IsBlank, AreUsed, from, all_in}
 use Rattle.olr_map.specs.SlotIndexes.{pairs_of, slot_by}
 use Rattle.olr_map.specs.declared.block.Block.{Block}
 use Rattle.olr_map.specs.declared.blocks.Blocks.{Blocks}
-use Rattle.olr_map.proofs.SlotLemmas.{none_above}
 
 -- ---- a number is its block and its position there
 
@@ -52,6 +53,11 @@ module _ (old new : List (ℕ × Block)) (n : ℕ) (o : Option Block) (w : Optio
 pub removed_again : {A : Type 0} (t : Bool) (o p : Option A) → cond t None (cond t o p) ≡ cond t None p
 removed_again true o p = refl
 removed_again false o p = refl
+
+-- what holds where there is a value
+pub on_ok : {T E P : Type 0} (r : Result T E) → IsOk r → OnOk r P → P
+on_ok (Ok x) h p = p
+on_ok (Err e) h p = absurd cc
 
 -- ---- no block is blank
 
@@ -113,25 +119,19 @@ used_removed old new key now u =
 
 -- ---- as a list
 
-lookup_both : {X : Type 0} (k : ℕ) (xs ys : List (ℕ × X)) (x : Option X) → lookup (λ q. k == q) xs ≡ x →
-    (x ≡ None → lookup (λ q. k == q) ys ≡ None) → lookup (λ q. k == q) (xs ++ ys) ≡ x
-lookup_both k [] ys x h none = none (sym h) ∙ h
-lookup_both k (e ∷ xs) ys x h none =
-    elim (k == e.0) as (λ t. cond t (Some e.1) (lookup (λ q. k == q) xs) ≡ x →
-    cond t (Some e.1) (lookup (λ q. k == q) (xs ++ ys)) ≡ x) [
-      | true ↦ λ g. g
-      | false ↦ λ g. lookup_both k xs ys x g none
-    ] h
+pub lookup-append : {X : Type 0} (test : ℕ → Bool) (xs ys : List (ℕ × X)) →
+    lookup test (xs ++ ys) ≡ option_or (lookup test xs) (lookup test ys)
+lookup-append test [] ys = refl
+lookup-append test (e ∷ xs) ys =
+    elim (test e.0) as (λ t. cond t (Some e.1) (lookup test (xs ++ ys))
+    ≡ option_or (cond t (Some e.1) (lookup test xs)) (lookup test ys)) [
+      | true ↦ refl
+      | false ↦ lookup-append test xs ys
+    ]
 
-pub lookup_second : {X : Type 0} (k : ℕ) (xs ys : List (ℕ × X)) → lookup (λ q. k == q) xs ≡ None →
-    lookup (λ q. k == q) (xs ++ ys) ≡ lookup (λ q. k == q) ys
-lookup_second k [] ys h = refl
-lookup_second k (e ∷ xs) ys h =
-    elim (k == e.0) as (λ t. cond t (Some e.1) (lookup (λ q. k == q) xs) ≡ None →
-    cond t (Some e.1) (lookup (λ q. k == q) (xs ++ ys)) ≡ lookup (λ q. k == q) ys) [
-      | true ↦ λ g. absurd cc
-      | false ↦ λ g. lookup_second k xs ys g
-    ] h
+pub or_none : {X : Type 0} (o p : Option X) → p ≡ None → option_or o p ≡ o
+or_none None p e = e
+or_none (Some x) p e = refl
 
 -- a number below the first has no slot there
 below : (n : ℕ) (xs : List ℕ) (k : ℕ) → k < n → lookup (λ q. k == q) (from n xs) ≡ None
@@ -163,7 +163,7 @@ outside b k ne =
       | inr o ↦ elim o [
         | inl low ↦ below (b.0 * 4) b.1.slots k (omega arith)
         | inr high ↦ within (b.0 * 4) b.1.slots (k - b.0 * 4) k (omega arith)
-            ∙ ap number_before (none_above b.1.slots (k - b.0 * 4) 0 (omega arith))
+            ∙ ap number_before (get_or_past b.1.slots (k - b.0 * 4) 0 (omega arith))
       ]
     ]
 
@@ -177,18 +177,18 @@ pub all_listed : (bs : List (ℕ × Block)) (k : ℕ) → IsDistinct ◌==◌ (k
 all_listed [] k apart = refl
 all_listed (b ∷ bs) k apart =
     let later = all_listed bs k (IsDistinct-tail ◌==◌ b.0 (keys_of bs) apart) in
-    elim (k / 4 == b.0) as (λ t. (k / 4 == b.0) ≡ t →
-    lookup (λ q. k == q) (from (b.0 * 4) b.1.slots ++ all_in bs)
+    lookup-append (λ q. k == q) (from (b.0 * 4) b.1.slots) (all_in bs)
+    ∙ elim (k / 4 == b.0) as (λ t. (k / 4 == b.0) ≡ t →
+    option_or (lookup (λ q. k == q) (from (b.0 * 4) b.1.slots)) (lookup (λ q. k == q) (all_in bs))
     ≡ slot_in (cond t (Some b.1) (lookup (λ q. k / 4 == q) bs)) (k % 4)) [
       | true ↦ λ e.
           let is : k / 4 ≡ b.0 = eqb-true (k / 4) b.0 e in
           let whole = div-add-mod' k 4 in
           let none : lookup (λ q. k / 4 == q) bs ≡ None =
           ap (λ n. lookup (λ q. n == q) bs) is ∙ no_key bs b.0 (IsDistinct-head ◌==◌ b.0 (keys_of bs) apart) in
-          lookup_both k (from (b.0 * 4) b.1.slots) (all_in bs) (slot_at b.1 (k % 4))
-          (within (b.0 * 4) b.1.slots (k % 4) k (omega arith))
-          (λ _. later ∙ ap (λ o. slot_in o (k % 4)) none)
-      | false ↦ λ e. lookup_second k (from (b.0 * 4) b.1.slots) (all_in bs) (outside b k e) ∙ later
+          or_none _ _ (later ∙ ap (λ o. slot_in o (k % 4)) none)
+          ∙ within (b.0 * 4) b.1.slots (k % 4) k (omega arith)
+      | false ↦ λ e. ap (λ o. option_or o (lookup (λ q. k == q) (all_in bs))) (outside b k e) ∙ later
     ] refl
 
 pub listed_found : (b : Blocks) (k : ℕ) → lookup (λ q. k == q) (pairs_of b) ≡ slot_by b k

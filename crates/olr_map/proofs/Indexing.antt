@@ -1,28 +1,66 @@
--- Numbers and slots that refer to each other, after a node is added, removed or changed.
-use Rattle.std.proofs.Common.{◌≡◌, ◌==◌, ℕ, Bool, true, false, cond, List, Option, Some, None, refl, sym, ap, ◌∙◌}
-use Rattle.std.proofs.Common.{is_some, eqb-true}
+-- Numbers and slots that refer to each other, after the entry of one node is added, removed or replaced.
+use Rattle.std.proofs.Common.{◌≡◌, ◌==◌, ◌&&◌, ℕ, Bool, true, false, cond, List, Option, Some, None, refl, sym, ap, ◌∙◌}
+use Rattle.std.proofs.Common.{is_some, inl, inr, eqb-true}
 use Rattle.std.specs.Option.{option_map}
-use Rattle.std.proofs.lemmas.Bool.{eq-eqb, ne_eqb}
+use Rattle.std.proofs.lemmas.Bool.{eq-eqb, ne_eqb, cond-true, cond-false}
+use Rattle.std.proofs.lemmas.Option.{same_Some}
+use Rattle.olr_spec.specs.Coordinates.{Coord}
 use Rattle.olr_map.specs.SlotIndexes.{slot_by}
-use Rattle.olr_map.specs.Slotted.{at, IsInserted, IsRemoved, IsReplaced}
+use Rattle.olr_map.specs.Slotted.{at, IsWritten}
 use Rattle.olr_map.specs.HavingSlots.{HaveSlots}
-use Rattle.olr_map.specs.Tables.{node_in, IsIndexed}
+use Rattle.olr_map.specs.NodeLinks.{links_at, with_links, IsRelinked}
+use Rattle.olr_map.specs.Tables.{node_in, links_in, IsIndexed}
 use Rattle.olr_map.specs.declared.blocks.Blocks.{Blocks}
+use Rattle.olr_map.specs.declared.links.Links.{Links}
 use Rattle.olr_map.specs.declared.slots.NodeEntry.{NodeEntry}
-use Rattle.olr_map.proofs.SlotMapLemmas.{same_some, filled_at, turned_held, stays, arrives, inserted_held, remains}
-use Rattle.olr_map.proofs.SlotMapLemmas.{removed_held}
+use Rattle.olr_map.specs.declared.slots.Side.{Side}
+use Rattle.olr_map.specs.declared.slots.Side.TheVariants.{Out, In}
+use Rattle.olr_map.proofs.Insertions.{over_cond, unchanged_at}
+use Rattle.olr_map.proofs.SlotMapLemmas.{slot_if, value_if, filled_at, held_was, stays, arrives, written_held, slot_from}
 
 abbrev pub id_of : NodeEntry → ℕ
 id_of e = e.id
 
-abbrev Slots : Type 0
+abbrev pub place_of : NodeEntry → Coord
+place_of e = e.place
+
+abbrev pub Slots : Type 0
 Slots = List (Option NodeEntry)
 
--- the entry in a slot has the node's number
+-- ---- lines on one side of a node
+
+abbrev pub same_side : Side → Side → Bool
+same_side Out Out = true
+same_side In In = true
+same_side _ _ = false
+
+pub links_with : (s side : Side) (e : NodeEntry) (l : Links) →
+    links_at s (with_links side e l) ≡ cond (same_side s side) l (links_at s e)
+links_with Out Out e l = refl
+links_with Out In e l = refl
+links_with In Out e l = refl
+links_with In In e l = refl
+
+same_id : (side : Side) (e : NodeEntry) (l : Links) → (with_links side e l).id ≡ e.id
+same_id Out e l = refl
+same_id In e l = refl
+
+same_place : (side : Side) (e : NodeEntry) (l : Links) → (with_links side e l).place ≡ e.place
+same_place Out e l = refl
+same_place In e l = refl
+
+-- the lines on one side of node v are others
+pub record Relisted (b : Blocks) (es es' : Slots) (side : Side) (v : ℕ) (old new : Links) : Type 0 where
+  pub indexed : IsIndexed b es'
+  pub places : (k : ℕ) → option_map place_of (node_in b es' k) ≡ option_map place_of (node_in b es k)
+  pub was : links_in side b es v ≡ Some old
+  pub now : (s : Side) (k : ℕ) → links_in s b es' k
+      ≡ cond (same_side s side && (v == k)) (Some new) (links_in s b es k)
+
 module _ (b : Blocks) (es : Slots) (indexed : IsIndexed b es) where
   -- two nodes are not in one slot
   pub one_node : (v w p : ℕ) → slot_by b v ≡ Some p → slot_by b w ≡ Some p → v ≡ w
-  one_node v w p h k = same_some _ _ (sym (indexed.filled v p h) ∙ indexed.filled w p k)
+  one_node v w p h k = same_Some _ _ (sym (indexed.filled v p h) ∙ indexed.filled w p k)
 
   mapped_some : (o : Option NodeEntry) (v : ℕ) → option_map id_of o ≡ Some v → is_some o ≡ true
   mapped_some None v h = absurd cc
@@ -35,88 +73,72 @@ module _ (b : Blocks) (es : Slots) (indexed : IsIndexed b es) where
   pub entry_of : (v p : ℕ) → slot_by b v ≡ Some p → (e : NodeEntry) × (at es p ≡ Some e)
   entry_of = filled_at b es nodes_filled
 
-  -- ---- another entry for a node
+  -- the entry has the number of its node
+  pub id_is : (v p : ℕ) (e : NodeEntry) → slot_by b v ≡ Some p → at es p ≡ Some e → Some e.id ≡ Some v
+  id_is v p e here is = ap (option_map id_of) (sym is) ∙ indexed.filled v p here
 
-  module _ (es' : Slots) (p v : ℕ) (e f : NodeEntry) (t : IsReplaced es es' p e f) (here : slot_by b v ≡ Some p)
-      (same : f.id ≡ e.id) where
-    ids : (q : ℕ) → option_map id_of (at es' q) ≡ option_map id_of (at es q)
-    ids q =
-        ap (option_map id_of) (t.now q)
-        ∙ elim (p == q) as (λ c. (p == q) ≡ c →
-        option_map id_of (cond c (Some f) (at es q)) ≡ option_map id_of (at es q)) [
-          | true ↦ λ i. ap (λ n. Some n) same ∙ ap (option_map id_of) (sym t.was ∙ ap (at es) (eqb-true p q i))
-          | false ↦ λ i. refl
-        ] refl
+  -- ---- node v has the entry w in place of o
 
-    pub turned_indexed : IsIndexed b es'
-    turned_indexed =
-        record { filled = λ w q h. ids q ∙ indexed.filled w q h; named = λ w q h. indexed.named w q (sym (ids q) ∙ h) }
+  module _ (b' : Blocks) (es' : Slots) (p v : ℕ) (o w : Option NodeEntry) (t : IsWritten es es' p o w)
+      (was : slot_by b v ≡ slot_if p o) (now : (k : ℕ) → slot_by b' k ≡ cond (v == k) (slot_if p w) (slot_by b k))
+      (id : option_map id_of w ≡ slot_if v w) where
+    pub node_was : node_in b es v ≡ o
+    node_was = held_was b es nodes_filled b' es' p v o w t was now
 
-    pub turned_node : (k : ℕ) → node_in b es' k ≡ cond (v == k) (Some f) (node_in b es k)
-    turned_node = turned_held b es nodes_filled es' p v e f t here
+    pub written_node : (k : ℕ) → node_in b' es' k ≡ cond (v == k) w (node_in b es k)
+    written_node = written_held b es nodes_filled b' es' p v o w t was now
 
-  -- ---- a node is added
-
-  module _ (b' : Blocks) (es' : Slots) (p v : ℕ) (e : NodeEntry) (c : IsInserted es es' p e) (id : e.id ≡ v)
-      (absent : slot_by b v ≡ None)
-      (put : (k : ℕ) → slot_by b' k ≡ cond (v == k) (Some p) (slot_by b k)) where
-    pub inserted_node : (k : ℕ) → node_in b' es' k ≡ cond (v == k) (Some e) (node_in b es k)
-    inserted_node = inserted_held b es nodes_filled b' es' p v e c put
-
-    pub inserted_indexed : IsIndexed b' es'
-    inserted_indexed =
+    pub written_indexed : IsIndexed b' es'
+    written_indexed =
         record {
-          filled = λ k q h.
-              elim (v == k) as (λ t. (v == k) ≡ t → cond t (Some p) (slot_by b k) ≡ Some q →
-              option_map id_of (at es' q) ≡ Some k) [
-                | true ↦ λ i g.
-                    ap (λ n. option_map id_of (at es' n)) (sym (same_some _ _ g))
-                    ∙ ap (option_map id_of) (arrives b es nodes_filled b' es' p v e c put)
-                    ∙ ap (λ n. Some n) (id ∙ eqb-true v k i)
-                | false ↦ λ i g. ap (option_map id_of) (stays b es nodes_filled b' es' p v e c put k q g)
-                    ∙ indexed.filled k q g
-              ] refl (sym (put k) ∙ h);
+          filled = λ k q h. elim (slot_from b es nodes_filled b' es' p v o w t was now k q h) [
+            | inl n ↦ ap (option_map id_of) (ap (at es') (sym n.1) ∙ arrives b es nodes_filled b' es' p v o w t was now)
+                ∙ id ∙ ap (slot_if v) n.2.1 ∙ ap (λ m. Some m) n.0
+            | inr l ↦ ap (option_map id_of) (stays b es nodes_filled b' es' p v o w t was now k q l.0 l.1)
+                ∙ indexed.filled k q l.1
+          ];
           named = λ k q h.
-              elim (p == q) as (λ t. (p == q) ≡ t → option_map id_of (cond t (Some e) (at es q)) ≡ Some k →
+              elim (p == q) as (λ c. (p == q) ≡ c → option_map id_of (cond c w (at es q)) ≡ Some k →
               slot_by b' k ≡ Some q) [
                 | true ↦ λ i g.
-                    let is : v ≡ k = sym id ∙ same_some _ _ g in
-                    put k ∙ ap (λ (t : Bool). cond t (Some p) (slot_by b k)) (eq-eqb v k is)
+                    let x = value_if v k w (sym id ∙ g) in
+                    now k ∙ cond-true (v == k) (slot_if p w) (slot_by b k) (eq-eqb v k x.2) ∙ ap (slot_if p) x.1
                     ∙ ap (λ n. Some n) (eqb-true p q i)
                 | false ↦ λ i g.
                     let old = indexed.named k q g in
                     let ne : (v == k) ≡ false =
-                    ne_eqb v k (λ j. let never : None ≡ Some q = sym absent ∙ ap (slot_by b) j ∙ old in cc) in
-                    put k ∙ ap (λ (t : Bool). cond t (Some p) (slot_by b k)) ne ∙ old
-              ] refl (ap (option_map id_of) (sym (c.now q)) ∙ h);
+                    ne_eqb v k (λ m. let x = value_if p q o (sym was ∙ ap (slot_by b) m ∙ old) in
+                    let is = eq-eqb p q x.2 in cc) in
+                    now k ∙ cond-false (v == k) (slot_if p w) (slot_by b k) ne ∙ old
+              ] refl (ap (option_map id_of) (sym (t.now q)) ∙ h);
         }
 
-  -- ---- a node is removed
+  -- ---- node v has other lines on one side
 
-  module _ (b' : Blocks) (es' : Slots) (p v : ℕ) (e : NodeEntry) (g : IsRemoved es es' p e)
-      (here : slot_by b v ≡ Some p)
-      (taken : (k : ℕ) → slot_by b' k ≡ cond (v == k) None (slot_by b k)) where
-    pub removed_node : (k : ℕ) → node_in b' es' k ≡ cond (v == k) None (node_in b es k)
-    removed_node = removed_held b es nodes_filled b' es' p v e g here taken
-
-    pub removed_indexed : IsIndexed b' es'
-    removed_indexed =
-        record {
-          filled = λ k q h.
-              elim (v == k) as (λ t. (v == k) ≡ t → cond t None (slot_by b k) ≡ Some q →
-              option_map id_of (at es' q) ≡ Some k) [
-                | true ↦ λ i j. absurd cc
-                | false ↦ λ i j. ap (option_map id_of) (remains b es nodes_filled b' es' p v e g here taken k q i j)
-                    ∙ indexed.filled k q j
-              ] refl (sym (taken k) ∙ h);
-          named = λ k q h.
-              elim (p == q) as (λ t. (p == q) ≡ t → option_map id_of (cond t None (at es q)) ≡ Some k →
-              slot_by b' k ≡ Some q) [
-                | true ↦ λ i j. absurd cc
-                | false ↦ λ i j.
-                    let old = indexed.named k q j in
-                    let ne : (v == k) ≡ false =
-                    ne_eqb v k (λ m. let is = eq-eqb p q (same_some _ _ (sym here ∙ ap (slot_by b) m ∙ old)) in cc) in
-                    taken k ∙ ap (λ (t : Bool). cond t None (slot_by b k)) ne ∙ old
-              ] refl (ap (option_map id_of) (sym (g.now q)) ∙ h);
-        }
+  pub relisted : (es' : Slots) (side : Side) (p v : ℕ) {R : Links → Links → Type 0} (r : IsRelinked es es' side p R) →
+      slot_by b v ≡ Some p → Relisted b es es' side v (links_at side r.entry) r.links
+  relisted es' side p v r here =
+      let e : NodeEntry = r.entry in
+      let f : NodeEntry = with_links side e r.links in
+      let stays = unchanged_at (slot_by b) v (Some p) here in
+      let id : Some f.id ≡ Some v = ap (λ n. Some n) (same_id side e r.links) ∙ id_is v p e here r.is.was in
+      let was : node_in b es v ≡ Some e = node_was b es' p v (Some e) (Some f) r.is here stays id in
+      let node = written_node b es' p v (Some e) (Some f) r.is here stays id in
+      record {
+        indexed = written_indexed b es' p v (Some e) (Some f) r.is here stays id;
+        places = λ k.
+            ap (option_map place_of) (node k) ∙ over_cond (option_map place_of) (v == k) (Some f) (node_in b es k)
+            ∙ sym (unchanged_at (λ n. option_map place_of (node_in b es n)) v (Some f.place)
+            (ap (option_map place_of) was ∙ ap (λ q. Some q) (sym (same_place side e r.links))) k);
+        was = ap (option_map (links_at side)) was;
+        now = λ s k.
+            ap (option_map (links_at s)) (node k)
+            ∙ over_cond (option_map (links_at s)) (v == k) (Some f) (node_in b es k)
+            ∙ elim (same_side s side) as (λ c. links_at s f ≡ cond c r.links (links_at s e) →
+            cond (v == k) (Some (links_at s f)) (links_in s b es k)
+            ≡ cond (c && (v == k)) (Some r.links) (links_in s b es k)) [
+              | true ↦ λ is. ap (λ m. cond (v == k) (Some m) (links_in s b es k)) is
+              | false ↦ λ is. sym (unchanged_at (links_in s b es) v (Some (links_at s f))
+                  (ap (option_map (links_at s)) was ∙ ap (λ m. Some m) (sym is)) k)
+            ] (links_with s side e r.links);
+      }

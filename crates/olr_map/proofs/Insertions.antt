@@ -1,11 +1,9 @@
--- Values of an option and of a map after an insert and a removal.
-use Rattle.std.proofs.Common.{◌≡◌, ◌==◌, ℕ, Bool, true, false, cond, Option, Some, None, refl, sym, ap, ◌∙◌, inl, inr}
-use Rattle.std.proofs.Common.{nat_cmp}
-use Rattle.std.specs.Option.{option_map, option_map_or}
+-- Values of a function at one number, and of a map after an insert and a removal.
+use Rattle.std.proofs.Common.{◌≡◌, ◌==◌, ℕ, Bool, true, false, cond, Some, None, refl, sym, ap, ◌∙◌, inl, inr, nat_cmp}
 use Rattle.std.specs.Cmp.{nat_cmp_total, unsigned_tied}
 use Rattle.std.specs.FinMap as finmap
 use Rattle.std.specs.FinMap.{FinMap, get, get-insert, get-remove, same_map, nat_cmp-IsAntisymmetric}
-use Rattle.std.proofs.lemmas.Bool.{cases_eq, eq-eqb, ne_eqb}
+use Rattle.std.proofs.lemmas.Bool.{cases_eq, eq-eqb, eqb-true, ne_eqb}
 
 pub eqb_flip : (a b : ℕ) → (a == b) ≡ (b == a)
 eqb_flip a b =
@@ -15,20 +13,18 @@ eqb_flip a b =
           ∙ sym (ne_eqb b a (λ e. ne (sym e)))
     ]
 
-pub map_cond : {A B : Type 0} (f : A → B) (b : Bool) (x : A) (o : Option A) →
-    option_map f (cond b (Some x) o) ≡ cond b (Some (f x)) (option_map f o)
-map_cond f true x o = refl
-map_cond f false x o = refl
+-- a function of one of two values
+pub over_cond : {A B : Type 0} (f : A → B) (b : Bool) (x y : A) → f (cond b x y) ≡ cond b (f x) (f y)
+over_cond f true x y = refl
+over_cond f false x y = refl
 
-pub map_or_cond : {A B : Type 0} (f : A → B) (d : B) (b : Bool) (x : A) (o : Option A) →
-    option_map_or f (cond b (Some x) o) d ≡ cond b (f x) (option_map_or f o d)
-map_or_cond f d true x o = refl
-map_or_cond f d false x o = refl
-
-pub map_or_none : {A B : Type 0} (f : A → B) (d : B) (b : Bool) (o : Option A) →
-    option_map_or f (cond b None o) d ≡ cond b d (option_map_or f o d)
-map_or_none f d true o = refl
-map_or_none f d false o = refl
+-- a function that has its own value put in at one number
+pub unchanged_at : {A : Type 0} (f : ℕ → A) (v : ℕ) (x : A) → f v ≡ x → (k : ℕ) → f k ≡ cond (v == k) x (f k)
+unchanged_at f v x is k =
+    elim (v == k) as (λ c. (v == k) ≡ c → f k ≡ cond c x (f k)) [
+      | true ↦ λ i. ap f (sym (eqb-true v k i)) ∙ is
+      | false ↦ λ i. refl
+    ] refl
 
 -- the value of a map at a key after an insert and a removal
 pub got_insert : {Y : Type 0} (m : FinMap nat_cmp Y) (k : ℕ) (v : Y) (q : ℕ) →

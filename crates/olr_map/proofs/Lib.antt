@@ -1,14 +1,12 @@
 pub mod Insertions
 pub mod Lookups
 pub mod Numbers
-pub mod Matching
 pub mod SlotLemmas
 pub mod Blocking
 pub mod SlotMapLemmas
 pub mod ColumnLemmas
 pub mod Indexing
-pub mod Undoing
-pub mod LineLists
+pub mod LineRecords
 pub mod Listing
 pub mod Reading
 pub mod AllIds
@@ -16,7 +14,7 @@ pub mod Making
 pub mod Verdicts
 pub mod NodeChanges
 pub mod LineChanges
-pub mod Growing
+pub mod Capacity
 pub mod Merging
 pub mod Using
 pub mod Sizes

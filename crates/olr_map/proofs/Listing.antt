@@ -1,16 +1,19 @@
 -- The lines of a node with their far ends, after a line is added, removed or set, and after nodes are added or removed.
-use Rattle.std.proofs.Common.{◌≡◌, ◌==◌, ◌&&◌, ◌||◌, ℕ, zero, suc, ◌<◌, ◌≤◌, Bool, true, false, cond, not, List, []}
-use Rattle.std.proofs.Common.{◌∷◌, map, Option, Some, None, unwrap_or, length, get_or, set, refl, sym, ap, ◌∙◌, subst}
-use Rattle.std.proofs.Common.{arith}
-use Rattle.std.specs.List.{insert, remove, AllByRecursion, IsDistinct}
+use Rattle.std.proofs.Common.{◌≡◌, ◌==◌, ◌&&◌, ◌||◌, ℕ, zero, suc, ◌<◌, ◌≤◌, Bool, true, false, cond, not, List, [], ◌∷◌}
+use Rattle.std.proofs.Common.{map, Option, Some, None, is_some, unwrap_or, length, get_or, set, inl, inr, refl, sym, ap}
+use Rattle.std.proofs.Common.{◌∙◌, subst, arith}
+use Rattle.std.specs.Option.{option_map}
+use Rattle.std.specs.List.{insert, remove}
 use Rattle.std.specs.List.Sorted.{IsStrictlyIncreasing}
-use Rattle.std.specs.FinMap as finmap
 use Rattle.std.specs.FinMap.{FinMap, get}
 use Rattle.std.specs.Ordering.{nat_cmp}
-use Rattle.std.proofs.lemmas.Bool.{eq-eqb, ne_eqb, or_left, or_right}
-use Rattle.std.proofs.lemmas.Map.Keys.{IsDistinct-head, IsDistinct-tail}
+use Rattle.std.proofs.lemmas.Bool.{cases_order, cond-true, cond-false, eq-eqb, eqb-true, ne_eqb, false_from_ne_true, or_parts}
+use Rattle.std.proofs.lemmas.List.{ext_get_or, get_or-map, length-map, length-set}
+use Rattle.std.proofs.lemmas.Map.Keys.{below_from_sorted, sorted_from_strictly_increasing}
 use Rattle.olr_spec.specs.Coordinates.{Coord}
-use Rattle.olr_spec.specs.Map.{Map, Line, has_line, line_at, no_line, has}
+use Rattle.olr_spec.specs.Map.{Map, IsMap, Line, has_node, line_at, no_line, in_use, has}
+use Rattle.olr_spec.proofs.AscendingLists.{has-insert, has-remove, has_at}
+use Rattle.olr_spec.proofs.ListLemmas.{map_same}
 use Rattle.olr_spec.proofs.MapLemmas.{has-lines_where, passes_at}
 use Rattle.olr_spec.proofs.OrderLemmas.{ascend_in, ascend_out}
 use Rattle.olr_map.specs.Tables.{near, far, lines_at, end_at, IsListed}
@@ -19,27 +22,14 @@ use Rattle.olr_map.specs.declared.links.Links.{Links}
 use Rattle.olr_map.specs.declared.read.LineEnd.{LineEnd}
 use Rattle.olr_map.specs.declared.slots.Side.{Side}
 use Rattle.olr_map.specs.declared.slots.Side.TheVariants.{Out, In}
-use Rattle.olr_map.proofs.Insertions.{got_insert, got_remove}
-use Rattle.olr_spec.proofs.AscendingLists.{has-insert, has-remove}
-use Rattle.olr_spec.proofs.OptionLemmas.{none_of}
-use Rattle.olr_map.proofs.Numbers.{distinct_from_ascending, same_ascending}
-use Rattle.olr_map.proofs.LineLists.{has_added, has_removed, has_set, not_listed, or_true, or_false}
+use Rattle.olr_map.proofs.Insertions.{over_cond, unchanged_at}
+use Rattle.olr_map.proofs.Numbers.{same_ascending}
+use Rattle.olr_map.proofs.SlotLemmas.{get_or-written}
+use Rattle.olr_map.proofs.LineRecords.{none_passes, used_by, other_node, line_starts, line_ends}
 
 -- ---- lists
 
-differs_at : (z : ℕ) (zs : List ℕ) (i : ℕ) → AllByRecursion (λ (y : ℕ). (z == y) ≡ false) zs → i < length zs →
-    (z == get_or zs i 0) ≡ false
-differs_at z [] i d lt = absurd (omega arith)
-differs_at z (y ∷ ys) zero d lt = d.0
-differs_at z (y ∷ ys) (suc i) d lt = differs_at z ys i d.1 (omega arith)
-
 module _ {Y : Type 0} where
-  pub map_on : (f g : ℕ → Y) (xs : List ℕ) → ((x : ℕ) → has xs x ≡ true → f x ≡ g x) → map f xs ≡ map g xs
-  map_on f g [] h = refl
-  map_on f g (x ∷ xs) h =
-      λ i. h x (or_left (x == x) (has xs x) (eq-eqb x x refl)) i ∷ map_on f g xs
-      (λ y k. h y (or_right (x == y) (has xs y) k)) i
-
   map-inserted : (f : ℕ → Y) (xs : List ℕ) (i x : ℕ) → i ≤ length xs → map f (insert xs i x) ≡ insert (map f xs) i (f x)
   map-inserted f xs zero x le = refl
   map-inserted f [] (suc i) x le = absurd (omega arith)
@@ -50,204 +40,218 @@ module _ {Y : Type 0} where
   map-removed f (x ∷ xs) zero lt = refl
   map-removed f (x ∷ xs) (suc i) lt = ap (λ zs. f x ∷ zs) (map-removed f xs i (omega arith))
 
-  map_off : (f g : ℕ → Y) (x : ℕ) (zs : List ℕ) → ((y : ℕ) → (x == y) ≡ false → f y ≡ g y) →
-      AllByRecursion (λ (y : ℕ). (x == y) ≡ false) zs → map f zs ≡ map g zs
-  map_off f g x [] h d = refl
-  map_off f g x (z ∷ zs) h d = λ i. h z d.0 i ∷ map_off f g x zs h d.1 i
+  -- functions that differ at one number of an ascending list
+  map_set_at : (f g : ℕ → Y) (x : ℕ) (xs : List ℕ) (i : ℕ) → IsStrictlyIncreasing xs → i < length xs → get_or xs i 0 ≡ x
+      → ((y : ℕ) → (x == y) ≡ false → f y ≡ g y) → set (map f xs) i (g x) ≡ map g xs
+  map_set_at f g x xs i up lt is h =
+      let f_long = length-map xs f in
+      let g_long = length-map xs g in
+      let long = length-set (map f xs) i (g x) in
+      ext_get_or (g x) (set (map f xs) i (g x)) (map g xs) (omega arith)
+      (λ q inside. get_or-written (map f xs) i q (g x) (g x) (omega arith) ∙ step q (omega arith)) where
+        other : (q : ℕ) → q < length xs → (i == q) ≡ false → x ≡ get_or xs q 0 → ⊥
+        other q at' ne e =
+            let sorted = sorted_from_strictly_increasing xs up in
+            elim (cases_order i q) [
+              | inl s ↦ let t = eq-eqb i q s in cc
+              | inr o ↦ elim o [
+                | inl low ↦ let below = below_from_sorted xs i q 0 sorted low at' in omega arith
+                | inr high ↦ let below = below_from_sorted xs q i 0 sorted high lt in omega arith
+              ]
+            ]
 
-  -- functions that differ at one number, which is in the list once
-  map_set_at : (f g : ℕ → Y) (x : ℕ) (xs : List ℕ) (i : ℕ) → IsDistinct ◌==◌ xs → i < length xs → get_or xs i 0 ≡ x →
-      ((y : ℕ) → (x == y) ≡ false → f y ≡ g y) → set (map f xs) i (g x) ≡ map g xs
-  map_set_at f g x [] i apart lt is h = absurd (omega arith)
-  map_set_at f g x (z ∷ zs) zero apart lt is h =
-      let others : map f zs ≡ map g zs =
-      map_off f g x zs h (subst (λ (k : ℕ). AllByRecursion (λ (y : ℕ). (k == y) ≡ false) zs) is
-      (IsDistinct-head ◌==◌ z zs apart)) in
-      λ i. g (sym is i) ∷ others i
-  map_set_at f g x (z ∷ zs) (suc i) apart lt is h =
-      let ne : (z == x) ≡ false =
-      ap (λ (n : ℕ). z == n) (sym is) ∙ differs_at z zs i (IsDistinct-head ◌==◌ z zs apart) (omega arith) in
-      let ne' : (x == z) ≡ false = ne_eqb x z (λ e. let t = eq-eqb z x (sym e) in cc) in
-      let rest = map_set_at f g x zs i (IsDistinct-tail ◌==◌ z zs apart) (omega arith) is h in
-      λ j. h z ne' j ∷ rest j
+        step : (q : ℕ) → q < length xs → cond (i == q) (g x) (get_or (map f xs) q (g x)) ≡ get_or (map g xs) q (g x)
+        step q at' =
+            let to : get_or (map g xs) q (g x) ≡ g (get_or xs q 0) = get_or-map g xs q 0 (g x) at' in
+            elim (i == q) as (λ c. (i == q) ≡ c →
+            cond c (g x) (get_or (map f xs) q (g x)) ≡ get_or (map g xs) q (g x)) [
+              | true ↦ λ e. ap g (sym is ∙ ap (λ n. get_or xs n 0) (eqb-true i q e)) ∙ sym to
+              | false ↦ λ e. get_or-map f xs q 0 (g x) at' ∙ h (get_or xs q 0) (ne_eqb x (get_or xs q 0) (other q at' e))
+                  ∙ sym to
+            ] refl
+
+or_cond : (b c : Bool) → (b || c) ≡ cond b true c
+or_cond true c = refl
+or_cond false c = refl
+
+and_cond : (b c : Bool) → (not b && c) ≡ cond b false c
+and_cond true c = refl
+and_cond false c = refl
+
+-- ---- a list in which number x is now o
+
+pub record IsChanged (old new : Links) (x : ℕ) (o : Option LineEnd) : Type 0 where
+  pub ascends : IsStrictlyIncreasing (lines_on new)
+  pub numbers : (n : ℕ) → has (lines_on new) n ≡ cond (x == n) (is_some o) (has (lines_on old) n)
+  pub ends : (f g : ℕ → LineEnd) → ends_on old ≡ map f (lines_on old) → ((n : ℕ) → (x == n) ≡ false → f n ≡ g n) →
+      ((e : LineEnd) → o ≡ Some e → e ≡ g x) → ends_on new ≡ map g (lines_on new)
+
+module _ (old new : Links) (x : ℕ) where
+  abbrev xs : List ℕ
+  xs = lines_on old
+
+  pub linked : (e : LineEnd) → has xs x ≡ false → IsLinked old new x e → IsChanged old new x (Some e)
+  linked e absent k =
+      let other : (y : ℕ) → has xs y ≡ true → (x == y) ≡ false =
+      λ y t. ne_eqb x y (λ is. let no = ap (has xs) (sym is) ∙ absent in cc) in
+      record {
+        ascends = k.ascends;
+        numbers = λ n. ap (λ zs. has zs n) k.lines ∙ has-insert xs k.index x n ∙ or_cond (x == n) (has xs n);
+        ends = λ f g before same last.
+            k.ends ∙ ap (λ zs. insert zs k.index e) (before ∙ map_same f g xs (λ y t. same y (other y t)))
+            ∙ ap (insert (map g xs) k.index) (last e refl) ∙ sym (map-inserted g xs k.index x k.within)
+            ∙ ap (map g) (sym k.lines);
+      }
+
+  module _ (up : IsStrictlyIncreasing xs) where
+    pub unlinked : IsUnlinked old new x → IsChanged old new x None
+    unlinked k =
+        let less : (n : ℕ) → has (remove xs k.index) n ≡ cond (x == n) false (has xs n) =
+        λ n. has-remove xs k.index x n up k.within k.is ∙ and_cond (x == n) (has xs n) in
+        record {
+          ascends = k.ascends;
+          numbers = λ n. ap (λ zs. has zs n) k.lines ∙ less n;
+          ends = λ f g before same last.
+              k.ends ∙ ap (λ zs. remove zs k.index) before ∙ sym (map-removed f xs k.index k.within)
+              ∙ map_same f g (remove xs k.index) (λ y t. same y (other (x == y) (has xs y) (sym (less y) ∙ t)))
+              ∙ ap (map g) (sym k.lines);
+        } where
+          other : (b c : Bool) → cond b false c ≡ true → b ≡ false
+          other true c h = absurd cc
+          other false c h = refl
+
+    pub reset : (e : LineEnd) → IsReset old new x e → IsChanged old new x (Some e)
+    reset e k =
+        record {
+          ascends = subst IsStrictlyIncreasing (sym k.lines) up;
+          numbers = λ n.
+              ap (λ zs. has zs n) k.lines ∙ unchanged_at (has xs) x true (has_at xs k.index x k.within k.is) n;
+          ends = λ f g before same last.
+              k.ends ∙ ap (λ zs. set zs k.index e) before ∙ ap (set (map f xs) k.index) (last e refl)
+              ∙ map_set_at f g x xs k.index up k.within k.is same ∙ ap (map g) (sym k.lines);
+        }
+
+-- ---- one side of a node
 
 pub ascends_at : (side : Side) (M : Map) (v : ℕ) → IsStrictlyIncreasing (lines_at side M v)
 ascends_at Out M v = ascend_out M v
 ascends_at In M v = ascend_in M v
 
--- ---- one side of a node
+pub near_there : (side : Side) (M : Map) (x : ℕ) (l : Line) → IsMap M → get M.lines x ≡ Some l →
+    has_node M (near side l) ≡ true
+near_there Out M x l sound e = line_starts M sound x l e
+near_there In M x l sound e = line_ends M sound x l e
 
-module _ (side : Side) (P : ℕ → ℕ) where
-  abbrev test : ℕ → Line → Bool
-  test v l = near side l == v
+pub far_there : (side : Side) (M : Map) (x : ℕ) (l : Line) → IsMap M → get M.lines x ≡ Some l →
+    has_node M (far side l) ≡ true
+far_there Out M x l sound e = line_ends M sound x l e
+far_there In M x l sound e = line_starts M sound x l e
 
-  -- a line as seen from its end on this side
-  abbrev pub seen : Line → LineEnd
-  seen l = record { node = far side l; slot = P (far side l); len = l.len }
+-- a line has neither end at a node that no line uses
+unused_fails : (M : Map) (v x : ℕ) (l : Line) → in_use M v ≡ false → get M.lines x ≡ Some l → ((l.to == v) ≡ false)
+    × ((l.from == v) ≡ false)
+unused_fails M v x l free e =
+    or_parts (l.to == v) (l.from == v)
+    (false_from_ne_true (l.to == v || l.from == v) (λ t. let used = used_by M (λ k. k.to == v || k.from == v) x l e t in
+    cc))
 
-  -- a line that is in a list is on the map
-  listed_there : (M : Map) (v y : ℕ) → has (lines_at side M v) y ≡ true → passes_at (test v) (get M.lines y) ≡ true
-  listed_there M v y h = sym (has-lines_where M (test v) y) ∙ h
+pub near_unused : (side : Side) (M : Map) (v x : ℕ) (l : Line) → in_use M v ≡ false → get M.lines x ≡ Some l →
+    (near side l == v) ≡ false
+near_unused Out M v x l free e = (unused_fails M v x l free e).1
+near_unused In M v x l free e = (unused_fails M v x l free e).0
 
-  module _ (M : Map) (x : ℕ) (l : Line) where
-    abbrev added : Map
-    added = record M { lines = finmap.insert M.lines x l }
+pub far_unused : (side : Side) (M : Map) (v x : ℕ) (l : Line) → in_use M v ≡ false → get M.lines x ≡ Some l →
+    (far side l == v) ≡ false
+far_unused Out M v x l free e = (unused_fails M v x l free e).0
+far_unused In M v x l free e = (unused_fails M v x l free e).1
 
-    abbrev removed : Map
-    removed = record M { lines = finmap.remove M.lines x }
+module _ (side : Side) (M : Map) (v : ℕ) where
+  abbrev test : Line → Bool
+  test l = near side l == v
 
-    added_same : (y : ℕ) → (x == y) ≡ false → seen (line_at M y) ≡ seen (line_at added y)
-    added_same y ne =
-        ap (λ (o : Option Line). seen (unwrap_or o no_line))
-        (sym (got_insert M.lines x l y ∙ ap (λ (b : Bool). cond b (Some l) (get M.lines y)) ne))
+  ascending_none : IsStrictlyIncreasing []
+  ascending_none k lt = absurd (omega arith)
 
-    removed_same : (y : ℕ) → (x == y) ≡ false → seen (line_at M y) ≡ seen (line_at removed y)
-    removed_same y ne =
-        ap (λ (o : Option Line). seen (unwrap_or o no_line))
-        (sym (got_remove M.lines x y ∙ ap (λ (b : Bool). cond b None (get M.lines y)) ne))
+  none_listed : ((x : ℕ) (l : Line) → get M.lines x ≡ Some l → test l ≡ false) → [] ≡ lines_at side M v
+  none_listed h =
+      same_ascending [] (lines_at side M v) ascending_none (ascends_at side M v)
+      (λ n. sym (has-lines_where M test n ∙ none_passes test (get M.lines n) (h n)))
 
-    -- ---- a line is added
+  pub absent_lines : IsMap M → has_node M v ≡ false → [] ≡ lines_at side M v
+  absent_lines sound absent =
+      none_listed (λ x l e. other_node M (near side l) v (near_there side M x l sound e) absent)
 
-    module _ (absent : has_line M x ≡ false) where
-      not_it : (v y : ℕ) → has (lines_at side M v) y ≡ true → (x == y) ≡ false
-      not_it v y h =
-          ne_eqb x y (λ e.
-          let none : passes_at (test v) (get M.lines y) ≡ false =
-          ap (λ n. passes_at (test v) (get M.lines n)) (sym e)
-          ∙ ap (passes_at (test v)) (none_of (get M.lines x) absent) in
-          let some = listed_there M v y h in cc)
+  pub unused_lines : in_use M v ≡ false → [] ≡ lines_at side M v
+  unused_lines free = none_listed (λ x l e. near_unused side M v x l free e)
 
-      pub put_other : (v : ℕ) (k : Links) → (near side l == v) ≡ false → IsListed side M P v k →
-          IsListed side added P v k
-      put_other v k ne h =
-          let same : lines_at side M v ≡ lines_at side added v =
-          same_ascending (lines_at side M v) (lines_at side added v) (ascends_at side M v) (ascends_at side added v)
-          (λ n. sym (has_added M x l (test v) absent n ∙ or_false (near side l == v) ne (x == n) _)) in
-          record {
-            numbers = h.numbers ∙ same;
-            ends =
-                h.ends ∙ map_on (end_at side M P) (end_at side added P) (lines_at side M v)
-                (λ y t. added_same y (not_it v y t)) ∙ ap (map (end_at side added P)) same;
-          }
+-- ---- line x has the record w in place of o
 
-      pub put_here : (old new : Links) (e : LineEnd) → e ≡ end_at side added P x → IsListed side M P (near side l) old →
-          IsLinked old new x e → IsListed side added P (near side l) new
-      put_here old new e is h k =
-          let v : ℕ = near side l in
-          let yes : (near side l == v) ≡ true = eq-eqb v v refl in
-          let numbers : lines_on new ≡ lines_at side added v =
-          same_ascending (lines_on new) (lines_at side added v) k.ascends (ascends_at side added v)
-          (λ n. ap (λ zs. has zs n) k.lines ∙ has-insert (lines_on old) k.index x n
-          ∙ ap (λ zs. (x == n) || has zs n) h.numbers
-          ∙ sym (has_added M x l (test v) absent n ∙ or_true (near side l == v) yes (x == n) _)) in
-          let before : ends_on old ≡ map (end_at side added P) (lines_on old) =
-          h.ends ∙ map_on (end_at side M P) (end_at side added P) (lines_at side M v)
-          (λ y t. added_same y (not_it v y t)) ∙ ap (map (end_at side added P)) (sym h.numbers) in
-          record {
-            numbers = numbers;
-            ends =
-                k.ends ∙ ap (λ zs. insert zs k.index e) before
-                ∙ ap (insert (map (end_at side added P) (lines_on old)) k.index) is
-                ∙ sym (map-inserted (end_at side added P) (lines_on old) k.index x k.within)
-                ∙ ap (map (end_at side added P)) (sym k.lines ∙ numbers);
-          }
+-- a line as seen from its end on this side
+abbrev pub seen : Side → (ℕ → ℕ) → Line → LineEnd
+seen side P l = record { node = far side l; slot = P (far side l); len = l.len }
 
-    -- ---- a line is removed
+all_pass : {X : Type 0} (f : Line → X) (test : Line → Bool) (w : Option Line) → ((l : Line) → w ≡ Some l → test l ≡ true)
+    → is_some (option_map f w) ≡ passes_at test w
+all_pass f test None h = refl
+all_pass f test (Some l) h = sym (h l refl)
 
-    module _ (was : get M.lines x ≡ Some l) where
-      -- the line is in no other list
-      elsewhere : (v y : ℕ) → (near side l == v) ≡ false → has (lines_at side M v) y ≡ true → (x == y) ≡ false
-      elsewhere v y ne h =
-          ne_eqb x y (λ e.
-          let none : passes_at (test v) (get M.lines y) ≡ false =
-          ap (λ n. passes_at (test v) (get M.lines n)) (sym e) ∙ ap (passes_at (test v)) was ∙ ne in
-          let some = listed_there M v y h in cc)
+some_seen : (f : Line → LineEnd) (w : Option Line) (e : LineEnd) → option_map f w ≡ Some e → e ≡ f (unwrap_or w no_line)
+some_seen f None e h = absurd cc
+some_seen f (Some l) e h = cc
 
-      pub take_other : (v : ℕ) (k : Links) → (near side l == v) ≡ false → IsListed side M P v k →
-          IsListed side removed P v k
-      take_other v k ne h =
-          let same : lines_at side M v ≡ lines_at side removed v =
-          same_ascending (lines_at side M v) (lines_at side removed v) (ascends_at side M v) (ascends_at side removed v)
-          (λ n. sym (has_removed M x l (test v) n ∙ not_listed M x l (test v) was ne n)) in
-          record {
-            numbers = h.numbers ∙ same;
-            ends =
-                h.ends ∙ map_on (end_at side M P) (end_at side removed P) (lines_at side M v)
-                (λ y t. removed_same y (elsewhere v y ne t)) ∙ ap (map (end_at side removed P)) same;
-          }
+module _ (side : Side) (P : ℕ → ℕ) (M N : Map) (x : ℕ) (o w : Option Line) (was : get M.lines x ≡ o)
+    (now : (n : ℕ) → get N.lines n ≡ cond (x == n) w (get M.lines n)) where
+  end_stays : (y : ℕ) → (x == y) ≡ false → end_at side M P y ≡ end_at side N P y
+  end_stays y ne =
+      ap (λ (r : Option Line). seen side P (unwrap_or r no_line)) (sym (now y ∙ cond-false (x == y) w (get M.lines y) ne))
 
-      pub take_here : (old new : Links) → IsListed side M P (near side l) old → IsUnlinked old new x →
-          IsListed side removed P (near side l) new
-      take_here old new h k =
-          let v : ℕ = near side l in
-          let up : IsStrictlyIncreasing (lines_on old) =
-          subst IsStrictlyIncreasing (sym h.numbers) (ascends_at side M v) in
-          let less : (n : ℕ) → has (remove (lines_on old) k.index) n ≡ (not (x == n) && has (lines_on old) n) =
-          λ n. has-remove (lines_on old) k.index x n up k.within k.is in
-          let numbers : lines_on new ≡ lines_at side removed v =
-          same_ascending (lines_on new) (lines_at side removed v) k.ascends (ascends_at side removed v)
-          (λ n. ap (λ zs. has zs n) k.lines ∙ less n ∙ ap (λ zs. not (x == n) && has zs n) h.numbers
-          ∙ sym (has_removed M x l (test v) n)) in
-          let before : ends_on old ≡ map (end_at side M P) (lines_on old) =
-          h.ends ∙ ap (map (end_at side M P)) (sym h.numbers) in
-          record {
-            numbers = numbers;
-            ends =
-                k.ends ∙ ap (λ zs. remove zs k.index) before
-                ∙ sym (map-removed (end_at side M P) (lines_on old) k.index k.within)
-                ∙ map_on (end_at side M P) (end_at side removed P) (remove (lines_on old) k.index)
-                (λ y t. removed_same y (not_x (x == y) (has (lines_on old) y) (sym (less y) ∙ t)))
-                ∙ ap (map (end_at side removed P)) (sym k.lines ∙ numbers);
-          } where
-            not_x : (a b : Bool) → (not a && b) ≡ true → a ≡ false
-            not_x true b h = absurd cc
-            not_x false b h = refl
+  now_here : get N.lines x ≡ w
+  now_here = now x ∙ cond-true (x == x) w (get M.lines x) (eq-eqb x x refl)
 
-      -- ---- a line is set
+  module _ (v : ℕ) where
+    abbrev at_v : Line → Bool
+    at_v l = near side l == v
 
-      module _ (k : Line) (same : near side k ≡ near side l) where
-        abbrev changed : Map
-        changed = record M { lines = finmap.insert M.lines x k }
+    listed_after : (n : ℕ) → has (lines_at side N v) n ≡ cond (x == n) (passes_at at_v w) (has (lines_at side M v) n)
+    listed_after n =
+        has-lines_where N at_v n ∙ ap (passes_at at_v) (now n) ∙ over_cond (passes_at at_v) (x == n) w (get M.lines n)
+        ∙ ap (cond (x == n) (passes_at at_v w)) (sym (has-lines_where M at_v n))
 
-        changed_same : (y : ℕ) → (x == y) ≡ false → seen (line_at M y) ≡ seen (line_at changed y)
-        changed_same y ne =
-            ap (λ (o : Option Line). seen (unwrap_or o no_line))
-            (sym (got_insert M.lines x k y ∙ ap (λ (b : Bool). cond b (Some k) (get M.lines y)) ne))
+    listed_before : has (lines_at side M v) x ≡ passes_at at_v o
+    listed_before = has-lines_where M at_v x ∙ ap (passes_at at_v) was
 
-        same_lines : (v : ℕ) → lines_at side M v ≡ lines_at side changed v
-        same_lines v =
-            same_ascending (lines_at side M v) (lines_at side changed v) (ascends_at side M v)
-            (ascends_at side changed v)
-            (λ n. sym (has_set M x l (test v) k was (ap (λ n. n == v) same) n))
+    -- a node that is not at an end of the line on this side
+    pub other_listed : ((l : Line) → o ≡ Some l → at_v l ≡ false) → ((l : Line) → w ≡ Some l → at_v l ≡ false) →
+        (k : Links) → IsListed side M P v k → IsListed side N P v k
+    other_listed not_before not_now k h =
+        let before : has (lines_at side M v) x ≡ false = listed_before ∙ none_passes at_v o not_before in
+        let same : lines_at side M v ≡ lines_at side N v =
+        same_ascending (lines_at side M v) (lines_at side N v) (ascends_at side M v) (ascends_at side N v)
+        (λ n. unchanged_at (has (lines_at side M v)) x (passes_at at_v w) (before ∙ sym (none_passes at_v w not_now)) n
+        ∙ sym (listed_after n)) in
+        record {
+          numbers = h.numbers ∙ same;
+          ends = h.ends ∙ map_same (end_at side M P) (end_at side N P) (lines_at side M v)
+              (λ y t. end_stays y (ne_eqb x y (λ is. let no = ap (has (lines_at side M v)) (sym is) ∙ before in cc)))
+              ∙ ap (map (end_at side N P)) same;
+        }
 
-        pub set_other : (v : ℕ) (h : Links) → (near side l == v) ≡ false → IsListed side M P v h →
-            IsListed side changed P v h
-        set_other v h ne i =
-            record {
-              numbers = i.numbers ∙ same_lines v;
-              ends =
-                  i.ends ∙ map_on (end_at side M P) (end_at side changed P) (lines_at side M v)
-                  (λ y t. changed_same y (elsewhere v y ne t)) ∙ ap (map (end_at side changed P)) (same_lines v);
-            }
-
-        pub set_here : (old new : Links) (e : LineEnd) → e ≡ end_at side changed P x →
-            IsListed side M P (near side l) old → IsReset old new x e → IsListed side changed P (near side l) new
-        set_here old new e is h r =
-            let v : ℕ = near side l in
-            let up : IsStrictlyIncreasing (lines_on old) =
-            subst IsStrictlyIncreasing (sym h.numbers) (ascends_at side M v) in
-            let numbers : lines_on new ≡ lines_at side changed v = r.lines ∙ h.numbers ∙ same_lines v in
-            let before : ends_on old ≡ map (end_at side M P) (lines_on old) =
-            h.ends ∙ ap (map (end_at side M P)) (sym h.numbers) in
-            record {
-              numbers = numbers;
-              ends =
-                  r.ends ∙ ap (λ zs. set zs r.index e) before
-                  ∙ ap (set (map (end_at side M P) (lines_on old)) r.index) is
-                  ∙ map_set_at (end_at side M P) (end_at side changed P) x (lines_on old) r.index
-                  (distinct_from_ascending (lines_on old) up) r.within r.is changed_same
-                  ∙ ap (map (end_at side changed P)) (sym r.lines ∙ numbers);
-            }
+    -- a node at an end
+    pub here_listed : ((l : Line) → w ≡ Some l → at_v l ≡ true) → (old new : Links) →
+        IsChanged old new x (option_map (seen side P) w) → IsListed side M P v old → IsListed side N P v new
+    here_listed now_at old new k h =
+        let numbers : lines_on new ≡ lines_at side N v =
+        same_ascending (lines_on new) (lines_at side N v) k.ascends (ascends_at side N v)
+        (λ n. k.numbers n ∙ (λ i. cond (x == n) (all_pass (seen side P) at_v w now_at i) (has (h.numbers i) n))
+        ∙ sym (listed_after n)) in
+        record {
+          numbers = numbers;
+          ends =
+              k.ends (end_at side M P) (end_at side N P) (h.ends ∙ ap (map (end_at side M P)) (sym h.numbers)) end_stays
+              (λ e is. some_seen (seen side P) w e is
+              ∙ ap (λ (r : Option Line). seen side P (unwrap_or r no_line)) (sym now_here))
+              ∙ ap (map (end_at side N P)) numbers;
+        }
 
 -- ---- other nodes, and other slots
 
@@ -258,6 +262,6 @@ replaced side M nodes P Q v l h k =
     record {
       numbers = k.numbers;
       ends =
-          k.ends ∙ map_on (end_at side M P) (end_at side (record M { nodes = nodes }) Q) (lines_at side M v)
+          k.ends ∙ map_same (end_at side M P) (end_at side (record M { nodes = nodes }) Q) (lines_at side M v)
           (λ y t i. record { node = far side (line_at M y); slot = h y t i; len = (line_at M y).len });
     }

@@ -12,15 +12,6 @@ use Rattle.olr_map.specs.declared.change.TableChange.TheVariants.{PutNode, MoveN
 use Rattle.olr_map.specs.declared.change.TableChange.TheVariants.{TakeLine}
 use Rattle.olr_map.proofs.Making.{made_ok}
 
-pub within_trans : (R S T : Room) → IsRoomWithin R S → IsRoomWithin S T → IsRoomWithin R T
-within_trans R S T a b =
-    let n = a.nodes in let m = b.nodes in
-    record {
-      nodes = omega arith;
-      outs = λ v. let p = a.outs v in let q = b.outs v in omega arith;
-      ins = λ v. let p = a.ins v in let q = b.ins v in omega arith;
-    }
-
 changed_within : (f g : ℕ → ℕ) (k m n : ℕ) → ((v : ℕ) → f v ≤ g v) → m ≤ n → (v : ℕ) →
     changed_at k m f v ≤ changed_at k n g v
 changed_within f g k m n h le v = elim (k == v) as (λ b. cond b m (f v) ≤ cond b n (g v)) [ true ↦ le | false ↦ h v ]
@@ -38,44 +29,32 @@ room_fits R S (map.Add_line x l) w h =
 room_fits R S (map.Set_line x frc fow len shape) w h = tt
 room_fits R S (map.Drop_line x) w h = tt
 
+changed_both : (R S : Room) (k j m n a b c d : ℕ) → IsRoomWithin R S → m ≤ n → a ≤ b → c ≤ d →
+    IsRoomWithin (record { nodes = m; outs = changed_at k a R.outs; ins = changed_at j c R.ins })
+    (record { nodes = n; outs = changed_at k b S.outs; ins = changed_at j d S.ins })
+changed_both R S k j m n a b c d w nodes outs ins =
+    record {
+      nodes = nodes;
+      outs = changed_within R.outs S.outs k a b w.outs outs;
+      ins = changed_within R.ins S.ins j c d w.ins ins;
+    }
+
 after_within : (M : Map) (R S : Room) (c : TableChange) → IsRoomWithin R S →
     IsRoomWithin (room_after M R c) (room_after M S c)
 after_within M R S (PutNode v place o i) w =
-    let n = w.nodes in
-    record {
-      nodes = omega arith;
-      outs = changed_within R.outs S.outs v _ _ w.outs (omega arith);
-      ins =
-          changed_within R.ins S.ins v _ _ w.ins (omega arith);
-    }
+    let n = w.nodes in changed_both R S v v _ _ _ _ _ _ w (omega arith) (omega arith) (omega arith)
 after_within M R S (MoveNode v c) w = w
 after_within M R S (TakeNode v) w =
-    let n = w.nodes in
-    record {
-      nodes = omega arith;
-      outs = changed_within R.outs S.outs v _ _ w.outs (omega arith);
-      ins =
-          changed_within R.ins S.ins v _ _ w.ins (omega arith);
-    }
+    let n = w.nodes in changed_both R S v v _ _ _ _ _ _ w (omega arith) (omega arith) (omega arith)
 after_within M R S (PutLine x l) w =
     let p = w.outs l.from in
     let q = w.ins l.to in
-    record {
-      nodes = w.nodes;
-      outs = changed_within R.outs S.outs l.from _ _ w.outs (omega arith);
-      ins =
-          changed_within R.ins S.ins l.to _ _ w.ins (omega arith);
-    }
+    changed_both R S l.from l.to _ _ _ _ _ _ w w.nodes (omega arith) (omega arith)
 after_within M R S (SetLine x l) w = w
 after_within M R S (TakeLine x) w =
     let p = w.outs (start M x) in
     let q = w.ins (end M x) in
-    record {
-      nodes = w.nodes;
-      outs = changed_within R.outs S.outs (start M x) _ _ w.outs (omega arith);
-      ins =
-          changed_within R.ins S.ins (end M x) _ _ w.ins (omega arith);
-    }
+    changed_both R S (start M x) (end M x) _ _ _ _ _ _ w w.nodes (omega arith) (omega arith)
 
 pub can_with_more : (M : Map) (R S : Room) (c : TableChange) → IsRoomWithin R S → CanMake M R c → CanMake M S c
 can_with_more M R S c w can =

@@ -1,11 +1,19 @@
--- An accepted change has a map as its result, and another change undoes it.
-use Rattle.std.proofs.Common.{◌≡◌, ◌==◌, ℕ, ◌≤◌, Bool, true, false, cond, Result, Ok, Err, IsOk, refl, ap, ◌∙◌, arith}
+-- An accepted change has a map as its result, and the change that undoes it can be made there.
+use Rattle.std.proofs.Common.{◌≡◌, ◌==◌, ℕ, ◌+◌, ◌≤◌, true, false, cond, Result, Ok, Err, IsOk, refl, sym, ap, ◌∙◌}
+use Rattle.std.proofs.Common.{subst, arith}
 use Rattle.std.specs.Result.{result_unwrap_or}
-use Rattle.std.proofs.lemmas.Bool.{eqb-true, eq-eqb}
-use Rattle.olr_spec.specs.Map.{Map, edited}
+use Rattle.std.proofs.lemmas.Bool.{eqb-true, eq-eqb, cond-true}
+use Rattle.olr_spec.specs.Map as map
+use Rattle.olr_spec.specs.Map.{Map, IsMap, edited, HasCoord}
+use Rattle.olr_spec.proofs.EditLemmas.{Made, made_by, edits_keep}
+use Rattle.olr_spec.proofs.UndoLemmas.{back_of, takes_back}
 use Rattle.olr_spec.proofs.OptionLemmas.{is_ok_of}
-use Rattle.olr_map.specs.Changes.{change_edit, changed_at, map_after}
+use Rattle.olr_map.specs.SlotIndexes.{spare_of}
+use Rattle.olr_map.specs.SlotMaps.{spare_numbers}
+use Rattle.olr_map.specs.Changes.{change_edit, changed_at, map_after, tables_map, room_of, room_after, CanMake}
+use Rattle.olr_map.specs.Changes.{HasRoomFor, IsWhole, IsRoomWithin, IsChangeMade, node_puts, line_puts}
 use Rattle.olr_map.specs.declared.change.TableChange.{TableChange}
+use Rattle.olr_map.specs.declared.road_map.RoadMap.{RoadMap}
 
 -- an accepted edit has a map as its result
 ok_is : {A F : Type 0} (r : Result A F) (d : A) → IsOk r → r ≡ Ok (result_unwrap_or r d)
@@ -16,15 +24,52 @@ pub made_ok : (M : Map) (c : TableChange) → IsOk (edited M (change_edit c)) �
     edited M (change_edit c) ≡ Ok (map_after M c)
 made_ok M c h = ok_is (edited M (change_edit c)) M h
 
--- and it has one on an equal map
-pub record Accepted (M N K : Map) (c : TableChange) : Type 0 where
-  pub accepted : IsOk (edited K (change_edit c))
-  pub before : map_after K c ≡ M
+pub made_as : (M : Map) (c : TableChange) → IsOk (edited M (change_edit c)) → Made M (change_edit c) (map_after M c)
+made_as M c h = made_by M (map_after M c) (change_edit c) (made_ok M c h)
 
-pub accepted_from : (M N K : Map) (c : TableChange) → K ≡ N → edited N (change_edit c) ≡ Ok M → Accepted M N K c
-accepted_from M N K c same ok =
-    let here : edited K (change_edit c) ≡ Ok M = ap (λ (m : Map). edited m (change_edit c)) same ∙ ok in
-    record { accepted = is_ok_of (edited K (change_edit c)) M here; before = ap (λ r. result_unwrap_or r K) here }
+-- the edit that undoes an edit adds coordinates of the map
+back_placed : (M N : Map) (e : map.Edit) → IsMap M → edited M e ≡ Ok N → HasCoord (back_of M e)
+back_placed M N (map.Add_node v c) sound e = tt
+back_placed M N (map.Move_node v c) sound e = sound.places v (made_by M N (map.Move_node v c) e).0
+back_placed M N (map.Drop_node v) sound e = sound.places v (made_by M N (map.Drop_node v) e).0
+back_placed M N (map.Add_line x l) sound e = tt
+back_placed M N (map.Set_line x frc fow len shape) sound e =
+    sound.shapes x (made_by M N (map.Set_line x frc fow len shape) e).0
+back_placed M N (map.Drop_line x) sound e = sound.shapes x (made_by M N (map.Drop_line x) e).0
+
+module _ (t : RoadMap) (c : TableChange) (can : CanMake (tables_map t) (room_of t) c) where
+  pub sound_after : (N : Map) → N ≡ map_after (tables_map t) c → IsMap N
+  sound_after N is =
+      edits_keep (tables_map t) N (change_edit c) t.kept.sound can.placed
+      (made_ok (tables_map t) c can.accepted ∙ ap (λ (m : Map). Ok m) (sym is))
+
+  -- a change that was made, with the one that undoes it
+  pub change_made : (new : RoadMap) (back : TableChange) → tables_map new ≡ map_after (tables_map t) c →
+      change_edit back ≡ back_of (tables_map t) (change_edit c) → HasRoomFor (room_of new) (change_edit back) →
+      IsWhole (tables_map new) back → IsRoomWithin (room_after (tables_map t) (room_of t) c) (room_of new)
+      → IsRoomWithin (room_of t) (room_after (tables_map new) (room_of new) back)
+      → spare_of t.index ≤ spare_of new.index + node_puts c
+      → spare_numbers t.lines ≤ spare_numbers new.lines + line_puts c → IsChangeMade t new c back
+  change_made new back is inverse fits whole room room_before nodes lines =
+      let M : Map = tables_map t in
+      let ok = made_ok M c can.accepted in
+      let undone : edited (tables_map new) (change_edit back) ≡ Ok M =
+      ap (λ (m : Map). edited m (change_edit back)) is ∙ ap (edited (map_after M c)) inverse
+      ∙ takes_back M t.kept.sound (map_after M c) (change_edit c) ok in
+      record {
+        map = is;
+        room = room;
+        can_back = record {
+          accepted = is_ok_of (edited (tables_map new) (change_edit back)) M undone;
+          placed = subst HasCoord (sym inverse) (back_placed M (map_after M c) (change_edit c) t.kept.sound ok);
+          fits = fits;
+          whole = whole;
+        };
+        before = ap (λ r. result_unwrap_or r (tables_map new)) undone;
+        room_before = room_before;
+        node_numbers = nodes;
+        line_numbers = lines;
+      }
 
 -- ---- functions that differ at one number
 
@@ -41,4 +86,9 @@ changed_back f h k n m is le v =
     ] refl (is v)
 
 pub changed_here : (f : ℕ → ℕ) (k n : ℕ) → changed_at k n f k ≡ n
-changed_here f k n = ap (λ (b : Bool). cond b n (f k)) (eq-eqb k k refl)
+changed_here f k n = cond-true (k == k) n (f k) (eq-eqb k k refl)
+
+-- a bound after a change, at an equal number
+pub changed_at_same : (j : ℕ → ℕ) (f h : ℕ → ℕ) (k v : ℕ) → k ≡ v → ((u : ℕ) → f u ≤ changed_at v (j (h v)) h u) →
+    (u : ℕ) → f u ≤ changed_at k (j (h k)) h u
+changed_at_same j f h k v e le u = subst (λ (m : ℕ). f u ≤ changed_at m (j (h m)) h u) (sym e) (le u)

@@ -51,6 +51,18 @@ module _ (left right both : List ℕ) (i j i' j' x : ℕ) (m : Merging left righ
         (λ (new : get_or right k 0 ≡ x). rw new (Contains-push both x)) (more_right k lt);
   }
 
+-- the lists change places
+swap : (left right both : List ℕ) (i j : ℕ) → Merging left right i j both → Merging right left j i both
+swap left right both i j m =
+    record {
+      ascending = m.ascending;
+      below_left = m.below_right;
+      below_right = m.below_left;
+      holds = λ n c. ⊎_elim (λ (h : Contains left n). inr h) (λ (h : Contains right n). inl h) (m.holds n c);
+      has_left = m.has_right;
+      has_right = m.has_left;
+    }
+
 upto : (i k : ℕ) → k < i + 1 → (k < i) ⊎ (k ≡ i)
 upto i k lt = ⊎_elim (λ (low : k < i). inl low) (λ (at : i ≤ k). inr (omega arith)) (cases_lt k i)
 
@@ -66,15 +78,6 @@ module _ (left right both : List ℕ) (i j : ℕ) (up_left : IsStrictlyIncreasin
       (λ k h. ⊎_elim (λ (low : k < i). inl low) (λ (at : k ≡ i). inr (ap (λ n. get_or left n 0) at)) (upto i k h))
       (λ k h. inl h)
 
-  pub merging_right : j < length right → (i < length left → get_or right j 0 < get_or left i 0) →
-      Merging left right i (j + 1) (both ++ get_or right j 0 ∷ [])
-  merging_right in' lt =
-      merging_push left right both i j i (j + 1) (get_or right j 0) m (λ k h. m.below_right k h in')
-      (inr (Contains-get_or right j 0 in'))
-      lt (λ h. up_right j h)
-      (λ k h. inl h) (λ k h. ⊎_elim (λ (low : k < j). inl low) (λ (at : k ≡ j). inr (ap (λ n. get_or right n 0) at))
-      (upto j k h))
-
   -- a number that is next in both
   pub merging_both : i < length left → j < length right → get_or left i 0 ≡ get_or right j 0 →
       Merging left right (i + 1) (j + 1) (both ++ get_or left i 0 ∷ [])
@@ -85,6 +88,13 @@ module _ (left right both : List ℕ) (i j : ℕ) (up_left : IsStrictlyIncreasin
       (λ k h. ⊎_elim (λ (low : k < i). inl low) (λ (at : k ≡ i). inr (ap (λ n. get_or left n 0) at)) (upto i k h))
       (λ k h. ⊎_elim (λ (low : k < j). inl low) (λ (at : k ≡ j). inr (ap (λ n. get_or right n 0) at ∙ sym e))
       (upto j k h))
+
+pub merging_right : (left right both : List ℕ) (i j : ℕ) → IsStrictlyIncreasing left → IsStrictlyIncreasing right →
+    Merging left right i j both → j < length right → (i < length left → get_or right j 0 < get_or left i 0) →
+    Merging left right i (j + 1) (both ++ get_or right j 0 ∷ [])
+merging_right left right both i j up_left up_right m in' lt =
+    swap right left (both ++ get_or right j 0 ∷ []) (j + 1) i
+    (merging_left right left both j i up_right up_left (swap left right both i j m) in' lt)
 
 -- the rest of one list, of n numbers, where the other list is used up
 left_end : (left right both : List ℕ) (n i j : ℕ) → IsStrictlyIncreasing left → IsStrictlyIncreasing right →
@@ -100,20 +110,6 @@ left_end left right both (suc n) i j up_left up_right e past m =
     let rest =
     left_end left right (both ++ get_or left i 0 ∷ []) n (i + 1) j up_left up_right (omega arith) past step in
     rw (more, ← append_assoc both (get_or left i 0 ∷ []) (drop (i + 1) left)) rest
-
-right_end : (left right both : List ℕ) (n i j : ℕ) → IsStrictlyIncreasing left → IsStrictlyIncreasing right →
-    j + n ≡ length right → length left ≤ i → Merging left right i j both →
-    Merging left right i (length right) (both ++ drop j right)
-right_end left right both zero i j up_left up_right e past m =
-    let none : drop j right ≡ [] = drop_all j right (omega arith) in
-    let at : j ≡ length right = omega arith in
-    rw (none, append-nil) (rw at at m)
-right_end left right both (suc n) i j up_left up_right e past m =
-    let more : drop j right ≡ get_or right j 0 ∷ drop (j + 1) right = drop_more right j 0 (omega arith) in
-    let step = merging_right left right both i j up_left up_right m (omega arith) (λ h. absurd (omega arith)) in
-    let rest =
-    right_end left right (both ++ get_or right j 0 ∷ []) n i (j + 1) up_left up_right (omega arith) past step in
-    rw (more, ← append_assoc both (get_or right j 0 ∷ []) (drop (j + 1) right)) rest
 
 pub record IsMerged (left right both : List ℕ) : Type 0 where
   pub ascending : IsStrictlyIncreasing both
@@ -141,8 +137,10 @@ merged_all left right both i j up_left up_right le_left le_right past m = ⊎_el
     (λ (end : length left ≤ i).
     let none : drop i left ≡ [] = drop_all i left end in
     let at : i ≡ length left = omega arith in
-    let done = right_end left right both (length right - j) i j up_left up_right (omega arith) end m in
-    rw (none, append-nil) (all_put left right (both ++ drop j right) (rw at at done)))
+    let done =
+    left_end right left both (length right - j) j i up_right up_left (omega arith) end (swap left right both i j m) in
+    rw (none, append-nil) (all_put left right (both ++ drop j right)
+    (swap right left (both ++ drop j right) (length right) (length left) (rw at at done))))
     (λ (end : length right ≤ j).
     let none : drop j right ≡ [] = drop_all j right end in
     let at : j ≡ length right = omega arith in

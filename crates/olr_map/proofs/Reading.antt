@@ -1,45 +1,33 @@
 -- The map that the tables represent.
-use Rattle.std.proofs.Common.{◌≡◌, ◌==◌, ℕ, ◌<◌, ◌≤◌, ◌^◌, true, false, cond, List, [], ◌∷◌, map, Option, Some, None}
+use Rattle.std.proofs.Common.{◌≡◌, ◌==◌, ℕ, ◌<◌, ◌≤◌, ◌^◌, true, false, List, [], map, Option, Some, None}
 use Rattle.std.proofs.Common.{is_some, IsTrue, SomeIff, unwrap_or, length, refl, sym, ap, subst, ◌∙◌, arith}
 use Rattle.std.specs.Option.{option_map, option_map_or}
-use Rattle.std.specs.Map.{lookup}
+use Rattle.std.proofs.lemmas.Map.Made.{lookup-map_values}
 use Rattle.std.specs.FinMap.{FinMap, get}
 use Rattle.std.specs.Ordering.{nat_cmp}
-use Rattle.olr_spec.specs.Coordinates.{Coord}
-use Rattle.olr_spec.specs.Map.{Map, Line, IsMap, has_node, has_line, lines_in, lines_out, no_coord}
+use Rattle.olr_spec.specs.Map.{Map, Line, IsMap, has_node, has_line, no_coord}
 use Rattle.olr_spec.proofs.OptionLemmas.{none_of, some_of}
 use Rattle.olr_map.specs.SlotIndexes.{pairs_of, slot_by}
 use Rattle.olr_map.specs.Slotted.{at}
 use Rattle.olr_map.specs.Columns.{node_slots}
 use Rattle.olr_map.specs.NodeLinks.{links_at}
-use Rattle.olr_map.specs.Tables.{node_in, links_in, coord_in, map_from, node_slot, IsListed, IsIndexed, AreTables}
+use Rattle.olr_map.specs.Tables.{node_in, links_in, lines_at, end_at, coord_in, map_from, node_slot, IsListed, IsIndexed}
+use Rattle.olr_map.specs.Tables.{AreTables}
 use Rattle.olr_map.specs.Changes.{tables_map}
 use Rattle.olr_map.specs.Ends.{HaveSlotsApart}
 use Rattle.olr_map.specs.declared.blocks.Blocks.{Blocks}
 use Rattle.olr_map.specs.declared.links.Links.{Links}
 use Rattle.olr_map.specs.declared.slots.NodeEntry.{NodeEntry}
 use Rattle.olr_map.specs.declared.slots.Side.{Side}
-use Rattle.olr_map.specs.declared.tables.Tables.{Tables}
-use Rattle.olr_map.proofs.Insertions.{map_cond}
+use Rattle.olr_map.specs.declared.road_map.RoadMap.{RoadMap}
 use Rattle.olr_map.proofs.Lookups.{all_get}
 use Rattle.olr_map.proofs.Blocking.{listed_found}
 use Rattle.olr_map.proofs.SlotLemmas.{holds_within}
-use Rattle.olr_map.proofs.Indexing.{id_of, entry_of, one_node}
-use Rattle.olr_map.proofs.LineLists.{absent_outs, absent_ins}
+use Rattle.olr_map.proofs.Indexing.{id_of, place_of, entry_of, one_node}
+use Rattle.olr_map.proofs.Listing.{absent_lines}
 use Rattle.olr_map.specs.SlotMaps.{held, all_held}
 use Rattle.olr_map.specs.HavingSlots.{in_slot}
 use Rattle.olr_map.proofs.SlotMapLemmas.{held_get}
-use Rattle.olr_map.proofs.Undoing.{line_starts, line_ends}
-
-abbrev pub place_of : NodeEntry → Coord
-place_of e = e.place
-
-lookup_mapped : {X Y : Type 0} (g : X → Y) (es : List (ℕ × X)) (k : ℕ) →
-    lookup (λ q. k == q) (map (λ (e : ℕ × X). (e.0, g e.1)) es) ≡ option_map g (lookup (λ q. k == q) es)
-lookup_mapped g [] k = refl
-lookup_mapped g (e ∷ es) k =
-    ap (cond (k == e.0) (Some (g e.1))) (lookup_mapped g es k)
-    ∙ sym (map_cond g (k == e.0) e.1 (lookup (λ q. k == q) es))
 
 or_there : {X Y : Type 0} (f : X → Y) (d : Y) (o : Option X) (x : X) → o ≡ Some x →
     Some (option_map_or f o d) ≡ option_map f o
@@ -51,7 +39,7 @@ module _ (b : Blocks) (es : List (Option NodeEntry)) (indexed : IsIndexed b es) 
       get (map_from b es F).nodes v ≡ option_map place_of (node_in b es v)
   got_node F v =
       all_get (map (λ (e : ℕ × ℕ). (e.0, coord_in es e.1)) (pairs_of b)) v
-      ∙ lookup_mapped (coord_in es) (pairs_of b) v ∙ ap (option_map (coord_in es)) (listed_found b v)
+      ∙ lookup-map_values (coord_in es) (λ q. v == q) (pairs_of b) ∙ ap (option_map (coord_in es)) (listed_found b v)
       ∙ step (slot_by b v) refl where
         step : (o : Option ℕ) → slot_by b v ≡ o → option_map (coord_in es) o ≡ option_map place_of (in_slot es o)
         step None h = refl
@@ -117,7 +105,7 @@ module _ (b : Blocks) (es : List (Option NodeEntry)) (F : FinMap nat_cmp Line) (
 
 -- ---- tables
 
-module _ (t : Tables) where
+module _ (t : RoadMap) where
   abbrev b : Blocks
   b = t.index
 
@@ -133,16 +121,13 @@ module _ (t : Tables) where
   pub line_missing : (x : ℕ) → has_line M x ≡ false → held t.lines x ≡ None
   line_missing x h = sym (got_line x) ∙ none_of (get M.lines x) h
 
-  pub no_line_there : (x : ℕ) → held t.lines x ≡ None → has_line M x ≡ false
-  no_line_there x h = ap (λ o. is_some o) (got_line x ∙ h)
+  -- what a lookup by the number n of line x found
+  pub line_read : (x n : ℕ) → n ≡ x → (o : Option Line) → o ≡ held t.lines n → get M.lines x ≡ o
+  line_read x n same o is = got_line x ∙ ap (held t.lines) (sym same) ∙ sym is
 
   -- a line of the map is found
   pub line_found : (x : ℕ) → has_line M x ≡ true → (l : Line) × (held t.lines x ≡ Some l)
   line_found x h = some_of (held t.lines x) (ap (λ o. is_some o) (sym (got_line x)) ∙ h)
-
-  -- the ends of a line are on the map
-  pub start_found : (x : ℕ) (l : Line) → held t.lines x ≡ Some l → (has_node M l.from ≡ true) × (has_node M l.to ≡ true)
-  start_found x l h = (line_starts M t.kept.sound x l (got_line x ∙ h), line_ends M t.kept.sound x l (got_line x ∙ h))
 
   pub node_read : (v p : ℕ) (e : NodeEntry) → slot_by b v ≡ Some p → at es p ≡ Some e → get M.nodes v ≡ Some e.place
   node_read v p e h is =
@@ -171,20 +156,37 @@ module _ (t : Tables) where
   listed_as side v p l h is = let x =
       entry_at v p h in subst (IsListed side M (node_slot b) v) (sym (is x.0 x.1)) (listed_at side v p x.0 h x.1)
 
-  -- the slot that a lookup found
-  pub found_at : (v n : ℕ) (o : Option ℕ) → n ≡ v → o ≡ slot_by b n → slot_by b v ≡ o
-  found_at v n o same is = ap (slot_by b) (sym same) ∙ sym is
+  -- what a lookup by the number n of node v found
+  module _ (v n : ℕ) (same : n ≡ v) where
+    pub found_at : (o : Option ℕ) → o ≡ slot_by b n → slot_by b v ≡ o
+    found_at o is = ap (slot_by b) (sym same) ∙ sym is
 
-  pub no_outs : (v : ℕ) → slot_by b v ≡ None → [] ≡ lines_out M v
-  no_outs v h = absent_outs M v t.kept.sound (node_missing b es t.kept.indexed (all_held t.lines) v h)
+    pub found_filled : (p : ℕ) → Some p ≡ slot_by b n → is_some (at es p) ≡ true
+    found_filled p is = filled_in v p (found_at (Some p) is)
 
-  pub no_ins : (v : ℕ) → slot_by b v ≡ None → [] ≡ lines_in M v
-  no_ins v h = absent_ins M v t.kept.sound (node_missing b es t.kept.indexed (all_held t.lines) v h)
+    pub found_lines : (side : Side) (p : ℕ) (l : Links) → Some p ≡ slot_by b n →
+        ((e : NodeEntry) → at es p ≡ Some e → l ≡ links_at side e) → IsListed side M (node_slot b) v l
+    found_lines side p l is h = listed_as side v p l (found_at (Some p) is) h
+
+    pub no_lines : (side : Side) → None ≡ slot_by b n → [] ≡ lines_at side M v
+    no_lines side is =
+        absent_lines side M v t.kept.sound
+        (node_missing b es t.kept.indexed (all_held t.lines) v (found_at None is))
+
+    pub no_ends : (side : Side) → None ≡ slot_by b n → [] ≡ map (end_at side M (node_slot b)) (lines_at side M v)
+    no_ends side is = ap (map (end_at side M (node_slot b))) (no_lines side is)
 
   -- the slot of a node, by `node_slot`
   pub slot_is : (v p : ℕ) → has_node M v ≡ true → node_slot b v ≡ p → slot_by b v ≡ Some p
   slot_is v p h e = let s =
       slot_of b es t.kept.indexed (all_held t.lines) v h in s.1 ∙ ap (λ n. Some n) (sym (place_is b v s.0 s.1) ∙ e)
+
+  pub slot_filled : (p : ℕ) → (v : ℕ) × IsTrue (has_node M v) × (node_slot b v ≡ p) → is_some (at es p) ≡ true
+  slot_filled p h = filled_in h.0 p (slot_is h.0 p h.1 h.2)
+
+  pub slot_lines : (side : Side) (v p : ℕ) (l : Links) → has_node M v ≡ true → node_slot b v ≡ p →
+      ((e : NodeEntry) → at es p ≡ Some e → l ≡ links_at side e) → IsListed side M (node_slot b) v l
+  slot_lines side v p l h e is = listed_as side v p l (slot_is v p h e) is
 
   pub place_found : (v : ℕ) (o : Option ℕ) → o ≡ slot_by b v → SomeIff o (IsTrue (has_node M v)) (node_slot b v)
   place_found v None e = λ h. let s =

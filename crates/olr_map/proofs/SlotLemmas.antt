@@ -1,37 +1,40 @@
 -- Slots, after a value is added, removed or replaced.
-use Rattle.std.proofs.Common.{◌≡◌, ◌==◌, ℕ, ◌+◌, ◌<◌, ◌≤◌, ◌^◌, zero, suc, Bool, true, false, cond, List, [], ◌∷◌, ◌++◌}
+use Rattle.std.proofs.Common.{◌≡◌, ◌==◌, ℕ, ◌+◌, ◌<◌, ◌≤◌, ◌^◌, zero, suc, Bool, true, cond, List, [], ◌∷◌, ◌++◌}
 use Rattle.std.proofs.Common.{Option, Some, None, is_some, IsNone, length, get_or, set, slice_index, refl, sym, ap, ◌∙◌}
-use Rattle.std.proofs.Common.{subst, inl, inr, arith}
-use Rattle.std.proofs.lemmas.Bool.{cases_eq, cases_order, eq-eqb, ne_eqb}
-use Rattle.std.proofs.lemmas.List.{get_or-set_same, get_or-set_other, get_or_default, length-set, length_push}
-use Rattle.olr_spec.proofs.OptionLemmas.{none_of}
-use Rattle.olr_map.specs.Slotted.{present, at, IsSlotted, IsInserted, IsRemoved, IsReplaced}
+use Rattle.std.proofs.Common.{subst, inl, inr, ◌⊎◌, arith}
+use Rattle.std.proofs.lemmas.Bool.{cases_eq, cases_order, eq-eqb, ne_eqb, cond-true, cond-false}
+use Rattle.std.proofs.lemmas.List.{get_or-set_same, get_or-set_other, get_or_default, get_or_past, get_or_push}
+use Rattle.std.proofs.lemmas.List.{get_or_append_left, length-set, length_push}
+use Rattle.olr_spec.proofs.OptionLemmas.{none_of, some_of}
+use Rattle.olr_map.specs.Slotted.{present, at, IsSlotted, IsInserted, IsWritten}
 
--- ---- one more at the end of a list
+-- ---- the element at each index after one was written, and after one was appended
 
-pushed_below : {Y : Type 0} (ys : List Y) (y : Y) (i : ℕ) (d : Y) → i < length ys →
-    get_or (ys ++ y ∷ []) i d ≡ get_or ys i d
-pushed_below [] y i d lt = absurd (omega arith)
-pushed_below (z ∷ ys) y zero d lt = refl
-pushed_below (z ∷ ys) y (suc i) d lt = pushed_below ys y i d (omega arith)
+module _ {Y : Type 0} (ys : List Y) where
+  pub get_or-written : (p q : ℕ) (y d : Y) → p < length ys → get_or (set ys p y) q d ≡ cond (p == q) y (get_or ys q d)
+  get_or-written p q y d lt =
+      elim (cases_eq p q) [
+        | inl e ↦ ap (λ n. get_or (set ys p y) n d) (sym e) ∙ get_or-set_same ys p y d lt
+            ∙ sym (cond-true (p == q) y (get_or ys q d) (eq-eqb p q e))
+        | inr ne ↦ get_or-set_other ys p q y d (λ e. ne (sym e))
+            ∙ sym (cond-false (p == q) y (get_or ys q d) (ne_eqb p q ne))
+      ]
 
-pushed_last : {Y : Type 0} (ys : List Y) (y d : Y) → get_or (ys ++ y ∷ []) (length ys) d ≡ y
-pushed_last [] y d = refl
-pushed_last (z ∷ ys) y d = pushed_last ys y d
+  pub get_or-pushed : (p q : ℕ) (y d : Y) → p ≡ length ys → get_or (ys ++ y ∷ []) q d ≡ cond (p == q) y (get_or ys q d)
+  get_or-pushed p q y d is =
+      elim (cases_order p q) [
+        | inl e ↦ get_or_push ys y d q (omega arith) ∙ sym (cond-true (p == q) y (get_or ys q d) (eq-eqb p q e))
+        | inr o ↦ other o ∙ sym (cond-false (p == q) y (get_or ys q d) (ne_eqb p q (λ e. apart o e)))
+      ] where
+        apart : (p < q) ⊎ (q < p) → p ≡ q → ⊥
+        apart (inl lt) e = omega arith
+        apart (inr lt) e = omega arith
 
-pub none_above : {Y : Type 0} (ys : List Y) (i : ℕ) (d : Y) → length ys ≤ i → get_or ys i d ≡ d
-none_above [] i d le = refl
-none_above (z ∷ ys) zero d le = absurd (omega arith)
-none_above (z ∷ ys) (suc i) d le = none_above ys i d (omega arith)
-
-pushed_above : {Y : Type 0} (ys : List Y) (y : Y) (i : ℕ) (d : Y) → length ys < i → get_or (ys ++ y ∷ []) i d ≡ d
-pushed_above ys y i d lt = let long = length_push ys y in none_above (ys ++ y ∷ []) i d (omega arith)
-
-push_below : (fs : List ℕ) (p i : ℕ) → i < length fs → slice_index (fs ++ p ∷ []) i ≡ slice_index fs i
-push_below fs p i lt = pushed_below fs p i 0 lt
-
-push_last : (fs : List ℕ) (p : ℕ) → slice_index (fs ++ p ∷ []) (length fs) ≡ p
-push_last fs p = pushed_last fs p 0
+        other : (p < q) ⊎ (q < p) → get_or (ys ++ y ∷ []) q d ≡ get_or ys q d
+        other (inl high) =
+            let long = length_push ys y in
+            get_or_past (ys ++ y ∷ []) q d (omega arith) ∙ sym (get_or_past ys q d (omega arith))
+        other (inr low) = get_or_append_left ys (y ∷ []) d q (omega arith)
 
 module _ {X : Type 0} where
   pub holds_within : (es : List (Option X)) (p : ℕ) (e : X) → at es p ≡ Some e → p < length es
@@ -39,48 +42,13 @@ module _ {X : Type 0} where
   holds_within (x ∷ es) zero e h = omega arith
   holds_within (x ∷ es) (suc p) e h = let lt = holds_within es p e h in omega arith
 
-  pub slots_set : (es : List (Option X)) (p q : ℕ) (v : Option X) →
-      p < length es → at (set es p v) q ≡ cond (p == q) v (at es q)
-  slots_set es p q v lt =
-      elim (cases_eq p q) [
-        | inl e ↦ ap (at (set es p v)) (sym e) ∙ get_or-set_same es p v None lt
-            ∙ ap (λ (b : Bool). cond b v (at es q)) (sym (eq-eqb p q e))
-        | inr ne ↦ get_or-set_other es p q v None (λ e. ne (sym e))
-            ∙ ap (λ (b : Bool). cond b v (at es q)) (sym (ne_eqb p q ne))
-      ]
+  pub written : (es : List (Option X)) (p : ℕ) (o w : Option X) → p < length es → at es p ≡ o →
+      IsWritten es (set es p w) p o w
+  written es p o w lt h = record { was = h; now = λ q. get_or-written es p q w None lt }
 
-  pub slots_push : (es : List (Option X)) (q : ℕ) (v : Option X) → at (es ++ v ∷ []) q
-      ≡ cond (length es == q) v (at es q)
-  slots_push es q v =
-      elim (cases_order q (length es)) [
-        | inl e ↦ ap (λ n. get_or (es ++ v ∷ []) n None) e ∙ pushed_last es v None
-            ∙ ap (λ (b : Bool). cond b v (at es q)) (sym (eq-eqb (length es) q (sym e)))
-        | inr o ↦ elim o [
-          | inl low ↦ pushed_below es v q None low
-              ∙ ap (λ (b : Bool). cond b v (at es q)) (sym (ne_eqb (length es) q (λ e. omega arith)))
-          | inr high ↦ pushed_above es v q None high ∙ sym (none_above es q None (omega arith))
-              ∙ ap (λ (b : Bool). cond b v (at es q)) (sym (ne_eqb (length es) q (λ e. omega arith)))
-        ]
-      ]
-
-  pub turns : (es : List (Option X)) (p : ℕ) (e f : X) → at es p ≡ Some e → IsReplaced es (set es p (Some f)) p e f
-  turns es p e f h = record { was = h; now = λ q. slots_set es p q (Some f) (holds_within es p e h) }
-
-  pub removes : (es : List (Option X)) (p : ℕ) (e : X) → at es p ≡ Some e → IsRemoved es (set es p None) p e
-  removes es p e h = record { was = h; now = λ q. slots_set es p q None (holds_within es p e h) }
-
-  pub inserts_free : (es : List (Option X)) (p : ℕ) (f : X) → p < length es → at es p ≡ None →
-      IsInserted es (set es p (Some f)) p f
-  inserts_free es p f lt h = record { was = h; now = λ q. slots_set es p q (Some f) lt }
-
-  beyond : (es : List (Option X)) → at es (length es) ≡ None
-  beyond [] = refl
-  beyond (x ∷ es) = beyond es
-
-  pub inserts_last : (es : List (Option X)) (p : ℕ) (f : X) → p ≡ length es → IsInserted es (es ++ Some f ∷ []) p f
-  inserts_last es p f is =
-      subst (λ (n : ℕ). IsInserted es (es ++ Some f ∷ []) n f) (sym is)
-      (record { was = beyond es; now = λ q. slots_push es q (Some f) })
+  pub appended : (es : List (Option X)) (p : ℕ) (w : Option X) → p ≡ length es → IsWritten es (es ++ w ∷ []) p None w
+  appended es p w is =
+      record { was = get_or_past es p None (omega arith); now = λ q. get_or-pushed es p q w None is }
 
   -- slots are numbered by `u32`
   pub few_slots : {es : List (Option X)} {fs : List ℕ} {room : ℕ} → IsSlotted es fs room → length es ≤ 2 ^ 32
@@ -95,35 +63,38 @@ module _ {X : Type 0} where
 
   -- ---- how many values there are
 
-  length-turned : (es : List (Option X)) (p : ℕ) (e f : X) → at es p ≡ Some e →
-      length (present (set es p (Some f))) ≡ length (present es)
-  length-turned [] p e f h = absurd cc
-  length-turned (None ∷ es) zero e f h = absurd cc
-  length-turned (Some x ∷ es) zero e f h = refl
-  length-turned (None ∷ es) (suc p) e f h = length-turned es p e f h
-  length-turned (Some x ∷ es) (suc p) e f h = let l = length-turned es p e f h in omega arith
+  abbrev one : Option X → ℕ
+  one o = length (present (o ∷ []))
 
-  length-removed : (es : List (Option X)) (p : ℕ) (e : X) → at es p ≡ Some e →
-      length (present (set es p None)) + 1 ≡ length (present es)
-  length-removed [] p e h = absurd cc
-  length-removed (None ∷ es) zero e h = absurd cc
-  length-removed (Some x ∷ es) zero e h = omega arith
-  length-removed (None ∷ es) (suc p) e h = length-removed es p e h
-  length-removed (Some x ∷ es) (suc p) e h = let l = length-removed es p e h in omega arith
+  length-first : (x : Option X) (es : List (Option X)) → length (present (x ∷ es)) ≡ one x + length (present es)
+  length-first None es = omega arith
+  length-first (Some x) es = omega arith
 
-  length-insertion : (es : List (Option X)) (p : ℕ) (f : X) → p < length es → at es p ≡ None →
-      length (present (set es p (Some f))) ≡ length (present es) + 1
-  length-insertion [] p f lt h = absurd (omega arith)
-  length-insertion (None ∷ es) zero f lt h = omega arith
-  length-insertion (Some x ∷ es) zero f lt h = absurd cc
-  length-insertion (None ∷ es) (suc p) f lt h = length-insertion es p f (omega arith) h
-  length-insertion (Some x ∷ es) (suc p) f lt h = let l = length-insertion es p f (omega arith) h in omega arith
+  length-written : (es : List (Option X)) (p : ℕ) (w : Option X) → p < length es →
+      length (present (set es p w)) + one (at es p) ≡ length (present es) + one w
+  length-written [] p w lt = absurd (omega arith)
+  length-written (x ∷ es) zero w lt = let a = length-first x es in let b = length-first w es in omega arith
+  length-written (x ∷ es) (suc p) w lt =
+      let a = length-first x es in
+      let b = length-first x (set es p w) in
+      let rest = length-written es p w (omega arith) in
+      omega arith
 
-  length-insertion_last : (es : List (Option X)) (f : X) → length (present (es ++ Some f ∷ []))
-      ≡ length (present es) + 1
-  length-insertion_last [] f = refl
-  length-insertion_last (None ∷ es) f = length-insertion_last es f
-  length-insertion_last (Some x ∷ es) f = let l = length-insertion_last es f in omega arith
+  length-appended : (es : List (Option X)) (w : Option X) →
+      length (present (es ++ w ∷ [])) ≡ length (present es) + one w
+  length-appended [] w = omega arith
+  length-appended (x ∷ es) w =
+      let a = length-first x es in
+      let b = length-first x (es ++ w ∷ []) in
+      let rest = length-appended es w in
+      omega arith
+
+  -- the number of values after a slot that held o is written
+  counted_after : (es : List (Option X)) (p : ℕ) (o w : Option X) → p < length es → at es p ≡ o →
+      length (present (set es p w)) + one o ≡ length (present es) + one w
+  counted_after es p o w lt h =
+      subst (λ (x : Option X). length (present (set es p w)) + one x ≡ length (present es) + one w) h
+      (length-written es p w lt)
 
   -- ---- the free slots
 
@@ -131,9 +102,7 @@ module _ {X : Type 0} where
   none_at o e = ap (λ p. is_some p) e
 
   pub some_within : (es : List (Option X)) (p : ℕ) → is_some (at es p) ≡ true → p < length es
-  some_within [] p h = absurd cc
-  some_within (x ∷ es) zero h = omega arith
-  some_within (x ∷ es) (suc p) h = let lt = some_within es p h in omega arith
+  some_within es p h = let x = some_of (at es p) h in holds_within es p x.0 x.1
 
   -- the value that a write replaced
   pub stood : (es : List (Option X)) (p : ℕ) (w : Option X) (e : X) → is_some (at es p) ≡ true → w ≡ get_or es p w →
@@ -141,58 +110,58 @@ module _ {X : Type 0} where
   stood es p w e there value is = get_or_default es p None w (some_within es p there) ∙ sym value ∙ is
 
   module _ (es : List (Option X)) (fs : List ℕ) (room : ℕ) (s : IsSlotted es fs room) where
+    free_at : (i : ℕ) → i < length fs → at es (slice_index fs i) ≡ None
+    free_at i lt = none_of _ (s.vacant i lt)
+
+    still_free : (p q : ℕ) (w : Option X) → p < length es → (p ≡ q → ⊥) → at es q ≡ None → IsNone (at (set es p w) q)
+    still_free p q w lt ne free =
+        none_at _ (get_or-written es p q w None lt ∙ cond-false (p == q) w (at es q) (ne_eqb p q ne) ∙ free)
+
     pub turned_slotted : (p : ℕ) (e f : X) → at es p ≡ Some e → IsSlotted (set es p (Some f)) fs room
     turned_slotted p e f h =
+        let lt = holds_within es p e h in
         let long : length (set es p (Some f)) ≡ length es = length-set es p (Some f) in
-        let many = length-turned es p e f h in
+        let many = counted_after es p (Some e) (Some f) lt h in
         let counted = s.counted in
         let roomy = s.roomy in
         let few = s.few in
         record {
           counted = omega arith;
-          inside = λ i lt. let a = s.inside i lt in omega arith;
-          vacant = λ i lt. none_at _ (slots_set es p (slice_index fs i) (Some f) (holds_within es p e h) ∙ other i lt);
+          inside = λ i at'. let a = s.inside i at' in omega arith;
+          vacant = λ i at'. still_free p (slice_index fs i) (Some f) lt
+              (λ same. let t = ap (at es) same in let free = free_at i at' in cc) (free_at i at');
           apart = s.apart;
           roomy = omega arith;
           few = omega arith;
-        } where
-          other : (i : ℕ) → i < length fs → cond (p == slice_index fs i) (Some f) (at es (slice_index fs i)) ≡ None
-          other i lt =
-              let free : at es (slice_index fs i) ≡ None = none_of _ (s.vacant i lt) in
-              let ne : (p == slice_index fs i) ≡ false =
-              ne_eqb p (slice_index fs i) (λ same. let t = ap (at es) same in cc) in
-              ap (λ (b : Bool). cond b (Some f) (at es (slice_index fs i))) ne ∙ free
+        }
 
     pub popped : (gs : List ℕ) (p : ℕ) → fs ≡ gs ++ p ∷ [] → (p < length es) × (at es p ≡ None)
     popped gs p is =
         let long : length fs ≡ length gs + 1 = ap (λ xs. length xs) is ∙ length_push gs p in
-        let here : slice_index fs (length gs) ≡ p = ap (λ xs. slice_index xs (length gs)) is ∙ push_last gs p in
+        let here : slice_index fs (length gs) ≡ p =
+        ap (λ xs. slice_index xs (length gs)) is ∙ get_or_push gs p 0 (length gs) refl in
         let lt = s.inside (length gs) (omega arith) in
-        (omega arith, ap (at es) (sym here) ∙ none_of _ (s.vacant (length gs) (omega arith)))
+        (omega arith, ap (at es) (sym here) ∙ free_at (length gs) (omega arith))
 
     pub put_slotted : (gs : List ℕ) (p : ℕ) (f : X) → fs ≡ gs ++ p ∷ [] → IsSlotted (set es p (Some f)) gs room
     put_slotted gs p f is =
         let pop = popped gs p is in
         let long : length fs ≡ length gs + 1 = ap (λ xs. length xs) is ∙ length_push gs p in
-        let here : slice_index fs (length gs) ≡ p = ap (λ xs. slice_index xs (length gs)) is ∙ push_last gs p in
+        let here : slice_index fs (length gs) ≡ p =
+        ap (λ xs. slice_index xs (length gs)) is ∙ get_or_push gs p 0 (length gs) refl in
         let same : (i : ℕ) → i < length gs → slice_index fs i ≡ slice_index gs i =
-        λ i lt. ap (λ xs. slice_index xs i) is ∙ push_below gs p i lt in
+        λ i lt. ap (λ xs. slice_index xs i) is ∙ get_or_append_left gs (p ∷ []) 0 i lt in
         let size : length (set es p (Some f)) ≡ length es = length-set es p (Some f) in
-        let many = length-insertion es p f pop.0 pop.1 in
+        let many = counted_after es p None (Some f) pop.0 pop.1 in
         let counted = s.counted in
         let roomy = s.roomy in
         let few = s.few in
         record {
           counted = omega arith;
           inside = λ i lt. let a = s.inside i (omega arith) in let e = same i lt in omega arith;
-          vacant = λ i lt.
-              let ne : (p == slice_index gs i) ≡ false =
-              ne_eqb p (slice_index gs i)
-              (λ e. s.apart i (length gs) lt (omega arith) (same i lt ∙ sym e ∙ sym here)) in
-              let free : at es (slice_index gs i) ≡ None =
-              ap (at es) (sym (same i lt)) ∙ none_of _ (s.vacant i (omega arith)) in
-              none_at _ (slots_set es p (slice_index gs i) (Some f) pop.0
-              ∙ ap (λ (b : Bool). cond b (Some f) (at es (slice_index gs i))) ne ∙ free);
+          vacant = λ i lt. still_free p (slice_index gs i) (Some f) pop.0
+              (λ e. s.apart i (length gs) lt (omega arith) (same i lt ∙ sym e ∙ sym here))
+              (ap (at es) (sym (same i lt)) ∙ free_at i (omega arith));
           apart = λ i j lt h e. s.apart i j lt (omega arith) (same i (omega arith) ∙ e ∙ sym (same j h));
           roomy = omega arith;
           few = omega arith;
@@ -200,7 +169,7 @@ module _ {X : Type 0} where
 
     pub free_room : (p : ℕ) (e : X) → at es p ≡ Some e → length fs < room
     free_room p e h =
-        let many = length-removed es p e h in
+        let many = counted_after es p (Some e) None (holds_within es p e h) h in
         let counted = s.counted in
         let roomy = s.roomy in
         omega arith
@@ -209,7 +178,7 @@ module _ {X : Type 0} where
         more ≡ room → length es + 1 ≤ room → length es + 1 < 2 ^ 32 → now ≡ es ++ Some f ∷ [] → IsSlotted now gs more
     push_none f gs more now none none' same le lt is =
         let size = length_push es (Some f) in
-        let many = length-insertion_last es f in
+        let many = length-appended es (Some f) in
         let counted = s.counted in
         subst (λ (xs : List (Option X)). IsSlotted xs gs more) (sym is) (record {
           counted = omega arith;
@@ -226,38 +195,31 @@ module _ {X : Type 0} where
         let inside = holds_within es p e h in
         let size : length (set es p None) ≡ length es = length-set es p None in
         let long = length_push fs p in
-        let many = length-removed es p e h in
+        let many = counted_after es p (Some e) None inside h in
         let counted = s.counted in
         let roomy = s.roomy in
         let few = s.few in
-        let free : (q : ℕ) → at es q ≡ None → IsNone (at (set es p None) q) =
-        λ q was. none_at _ (slots_set es p q None inside ∙ ap (cond (p == q) None) was ∙ either (p == q)) in
-        let last : at (set es p None) p ≡ None =
-        slots_set es p p None inside ∙ ap (λ (b : Bool). cond b None (at es p)) (eq-eqb p p refl) in
+        let old : (i : ℕ) → i < length fs → slice_index (fs ++ p ∷ []) i ≡ slice_index fs i =
+        λ i lt. get_or_append_left fs (p ∷ []) 0 i lt in
+        let last : (i : ℕ) → i ≡ length fs → slice_index (fs ++ p ∷ []) i ≡ p =
+        λ i at'. get_or_push fs p 0 i (sym at') in
+        let others : (i : ℕ) → i < length fs → p ≡ slice_index fs i → ⊥ =
+        λ i lt same. let t = ap (at es) same in let free = free_at i lt in cc in
         subst (λ (xs : List ℕ). IsSlotted (set es p None) xs more) (sym is) (record {
           counted = omega arith;
           inside = λ i lt. elim (cases_eq i (length fs)) [
-            | inl is ↦ let here : slice_index (fs ++ p ∷ []) i ≡ p =
-                ap (slice_index (fs ++ p ∷ [])) is ∙ push_last fs p in omega arith
-            | inr ne ↦ let here = push_below fs p i (omega arith) in let a = s.inside i (omega arith) in omega arith
+            | inl is ↦ let here = last i is in omega arith
+            | inr ne ↦ let here = old i (omega arith) in let a = s.inside i (omega arith) in omega arith
           ];
           vacant = λ i lt. elim (cases_eq i (length fs)) [
-            | inl is ↦ none_at _ (ap (at (set es p None)) (ap (slice_index (fs ++ p ∷ [])) is ∙ push_last fs p) ∙ last)
-            | inr ne ↦ subst (λ (q : ℕ). IsNone (at (set es p None) q)) (sym (push_below fs p i (omega arith)))
-                (free (slice_index fs i) (none_of _ (s.vacant i (omega arith))))
+            | inl is ↦ none_at _ (ap (at (set es p None)) (last i is) ∙ get_or-set_same es p None None inside)
+            | inr ne ↦ subst (λ (q : ℕ). IsNone (at (set es p None) q)) (sym (old i (omega arith)))
+                (still_free p (slice_index fs i) None inside (others i (omega arith)) (free_at i (omega arith)))
           ];
           apart = λ i j lt k. elim (cases_eq j (length fs)) [
-            | inl is ↦ λ same.
-                let was : slice_index fs i ≡ p =
-                sym (push_below fs p i (omega arith)) ∙ same ∙ ap (slice_index (fs ++ p ∷ [])) is ∙ push_last fs p in
-                let none : at es p ≡ None = ap (at es) (sym was) ∙ none_of _ (s.vacant i (omega arith)) in
-                cc
-            | inr ne ↦ λ same. s.apart i j lt (omega arith)
-                (sym (push_below fs p i (omega arith)) ∙ same ∙ push_below fs p j (omega arith))
+            | inl is ↦ λ same. others i (omega arith) (sym (last j is) ∙ sym same ∙ old i (omega arith))
+            | inr ne ↦ λ same. s.apart i j lt (omega arith) (sym (old i (omega arith)) ∙ same ∙ old j (omega arith))
           ];
           roomy = omega arith;
           few = omega arith;
-        }) where
-          either : (b : Bool) → ◌≡◌ {A = Option X} (cond b None None) None
-          either true = refl
-          either false = refl
+        })

@@ -1,12 +1,15 @@
 -- The slots of an edit's nodes stay where no node's slot changes.
-use Rattle.std.proofs.Common.{◌≡◌, ℕ, ap, ◌∙◌}
+use Rattle.std.proofs.Common.{◌≡◌, ℕ, sym, ap, ◌∙◌, subst}
 use Rattle.olr_spec.specs.Map as maps
 use Rattle.olr_spec.specs.Map.{Map, start, end}
 use Rattle.olr_map.specs.SlotIndexes.{slot_by}
 use Rattle.olr_map.specs.EditPlans.{AreSlots}
+use Rattle.olr_map.specs.Changes.{tables_map, change_edit, IsReserved}
 use Rattle.olr_map.specs.declared.blocks.Blocks.{Blocks}
+use Rattle.olr_map.specs.declared.change.TableChange.{TableChange}
+use Rattle.olr_map.specs.declared.road_map.RoadMap.{RoadMap}
 
-pub slots_stay : (b b' : Blocks) (M M' : Map) (at : ℕ × ℕ) (e : maps.Edit) →
+slots_stay : (b b' : Blocks) (M M' : Map) (at : ℕ × ℕ) (e : maps.Edit) →
     ((v : ℕ) → slot_by b' v ≡ slot_by b v) → M' ≡ M → AreSlots b M at e → AreSlots b' M' at e
 slots_stay b b' M M' at (maps.Add_node v c) same is h = h
 slots_stay b b' M M' at (maps.Move_node v c) same is h = same v ∙ h
@@ -20,3 +23,10 @@ slots_stay b b' M M' at (maps.Drop_line x) same is h = (
   ap (λ N. slot_by b' (start N x)) is ∙ same (start M x) ∙ h.0,
   ap (λ N. slot_by b' (end N x)) is ∙ same (end M x) ∙ h.1,
 )
+
+-- after more capacity is reserved, for the change that makes the edit
+pub slots_reserved : (old mid : RoadMap) (at : ℕ × ℕ) (e : maps.Edit) (c : TableChange) → IsReserved old mid →
+    change_edit c ≡ e → AreSlots old.index (tables_map old) at e → AreSlots mid.index (tables_map mid) at (change_edit c)
+slots_reserved old mid at e c r same h =
+    subst (AreSlots mid.index (tables_map mid) at) (sym same)
+    (slots_stay old.index mid.index (tables_map old) (tables_map mid) at e r.slots r.map h)

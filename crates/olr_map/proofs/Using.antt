@@ -14,7 +14,7 @@ use Rattle.olr_map.specs.Ends.{end_in, end_out}
 use Rattle.olr_map.specs.declared.edit.EditFault.{EditFault}
 use Rattle.olr_map.specs.declared.judging.EditPlan.{EditPlan}
 use Rattle.olr_map.specs.declared.read.LineEnd.{LineEnd}
-use Rattle.olr_map.proofs.Undoing.{used_by, unused_by}
+use Rattle.olr_map.proofs.LineRecords.{used_by, unused_by}
 
 -- a line in the list uses the node
 module _ (M : Map) (v : ℕ) (f : Line → ℕ) (uses : (l : Line) → (f l == v) ≡ true →

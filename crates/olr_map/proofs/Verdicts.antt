@@ -18,7 +18,7 @@ use Rattle.olr_map.specs.declared.edit.EditFault.{EditFault}
 use Rattle.olr_map.specs.declared.edit.EditFault.TheVariants.{NodeExists, NoNode, LineExists, NoLine, NodeInUse}
 use Rattle.olr_map.specs.declared.edit.EditFault.TheVariants.{BadShape, Memory}
 use Rattle.olr_map.specs.declared.judging.EditPlan.{EditPlan}
-use Rattle.olr_map.specs.declared.tables.Tables.{Tables}
+use Rattle.olr_map.specs.declared.road_map.RoadMap.{RoadMap}
 use Rattle.olr_map.proofs.Reading.{slot_is}
 
 -- the ends of the one changed line
@@ -45,7 +45,7 @@ accepted_is : {A F : Type 0} (r : Result A F) → IsOk r → (x : A) × (r ≡ O
 accepted_is (Ok x) h = (x, refl)
 accepted_is (Err f) h = absurd cc
 
-module _ (t : Tables) where
+module _ (t : RoadMap) where
   abbrev b : Blocks
   b = t.index
 

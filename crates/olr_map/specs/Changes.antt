@@ -3,20 +3,21 @@
 --     Room, room_of t      the capacity for more nodes, and for more lines at each node
 --     CanMake M R c      on this map, with this capacity, the change is accepted and does not allocate
 --     made M c, room_after M R c      the map and the capacity after it
+--     IsReserved old new      the same map, with at least the capacity
 --     IsChangeMade old new c back      the change was made, and `back` can undo it
 use Rattle.std.specs.Prelude.{◌≡◌, ◌==◌, ℕ, ◌+◌, ◌-◌, ◌<◌, ◌≤◌, if◌then◌else◌, List, [], ◌∷◌, ⊤, IsOk}
 use Rattle.std.specs.Option.{option_map_or}
 use Rattle.std.specs.Result.{result_unwrap_or}
 use Rattle.olr_spec.specs.Map as map
 use Rattle.olr_spec.specs.Map.{Map, start, end, edited, HasCoord}
-use Rattle.olr_map.specs.SlotIndexes.{spare_of}
+use Rattle.olr_map.specs.SlotIndexes.{slot_by, spare_of}
 use Rattle.olr_map.specs.SlotMaps.{all_held, spare_numbers}
 use Rattle.olr_map.specs.Linked.{lines_kept, spare_kept, spare_links}
 use Rattle.olr_map.specs.Columns.{node_slots, node_room}
 use Rattle.olr_map.specs.Tables.{map_from, links_in}
 use Rattle.olr_map.specs.declared.slots.Side.{Side}
 use Rattle.olr_map.specs.declared.slots.Side.TheVariants.{Out, In}
-use Rattle.olr_map.specs.declared.tables.Tables.{Tables}
+use Rattle.olr_map.specs.declared.road_map.RoadMap.{RoadMap}
 use Rattle.olr_map.specs.declared.change.TableChange.{TableChange}
 use Rattle.olr_map.specs.declared.change.TableChange.TheVariants.{PutNode, MoveNode, TakeNode, PutLine, SetLine}
 use Rattle.olr_map.specs.declared.change.TableChange.TheVariants.{TakeLine}
@@ -35,13 +36,13 @@ pub record Room : Type 0 where
   pub outs : ℕ → ℕ
   pub ins : ℕ → ℕ
 
-abbrev pub tables_map : Tables → Map
+abbrev pub tables_map : RoadMap → Map
 tables_map t = map_from t.index (node_slots t.nodes) (all_held t.lines)
 
-abbrev pub spare_at : Side → Tables → ℕ → ℕ
+abbrev pub spare_at : Side → RoadMap → ℕ → ℕ
 spare_at side t v = option_map_or (λ l. spare_links l) (links_in side t.index (node_slots t.nodes) v) 0
 
-abbrev pub room_of : Tables → Room
+abbrev pub room_of : RoadMap → Room
 room_of t = record { nodes = node_room t.nodes; outs = spare_at Out t; ins = spare_at In t }
 
 -- how many node numbers, and line numbers, a change inserts
@@ -73,7 +74,7 @@ line_numbers (map.Drop_line id) = 1
 line_numbers _ = 0
 
 -- there is capacity for the numbers
-pub record HasNumbers (t : Tables) (n l : ℕ) : Type 0 where
+pub record HasNumbers (t : RoadMap) (n l : ℕ) : Type 0 where
   pub nodes : n ≤ spare_of t.index
   pub lines : l ≤ spare_numbers t.lines
 
@@ -82,6 +83,14 @@ pub record IsRoomWithin (R S : Room) : Type 0 where
   pub nodes : R.nodes ≤ S.nodes
   pub outs : (v : ℕ) → R.outs v ≤ S.outs v
   pub ins : (v : ℕ) → R.ins v ≤ S.ins v
+
+-- the same map, with its nodes in the same slots, and at least as much capacity
+pub record IsReserved (old new : RoadMap) : Type 0 where
+  pub map : tables_map new ≡ tables_map old
+  pub more : IsRoomWithin (room_of old) (room_of new)
+  pub nodes : spare_of old.index ≤ spare_of new.index
+  pub lines : spare_numbers old.lines ≤ spare_numbers new.lines
+  pub slots : (v : ℕ) → slot_by new.index v ≡ slot_by old.index v
 
 -- capacity for each node and line that the edit adds
 abbrev pub HasRoomFor : Room → map.Edit → Type 0
@@ -135,7 +144,7 @@ pub record CanMake (M : Map) (R : Room) (c : TableChange) : Type 0 where
 abbrev pub map_after : Map → TableChange → Map
 map_after M c = result_unwrap_or (edited M (change_edit c)) M
 
-pub record IsChangeMade (old new : Tables) (c back : TableChange) : Type 0 where
+pub record IsChangeMade (old new : RoadMap) (c back : TableChange) : Type 0 where
   pub map : tables_map new ≡ map_after (tables_map old) c
   pub room : IsRoomWithin (room_after (tables_map old) (room_of old) c) (room_of new)
   pub can_back : CanMake (tables_map new) (room_of new) back

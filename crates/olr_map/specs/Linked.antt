@@ -4,6 +4,7 @@
 --     lines_kept s, spare_kept s      the lines in the memory of an empty list, which are none, and its capacity
 --     IsLinked old new id end, IsUnlinked old new id, IsReset old new id end      a line was inserted, was removed, or
 --         has another far end
+--     IsRoomier old new      the same lines, with at least the capacity for more
 use Rattle.std.specs.Prelude.{◌≡◌, ℕ, ◌+◌, ◌-◌, ◌<◌, ◌≤◌, List, [], min, length, take, set, slice_index, vec_len}
 use Rattle.std.specs.Vec.{vec_capacity}
 use Rattle.std.specs.List.{insert, remove}
@@ -62,3 +63,8 @@ pub record IsReset (old new : Links) (id : ℕ) (end : LineEnd) : Type 0 where
   pub lines : lines_on new ≡ lines_on old
   pub ends : ends_on new ≡ set (ends_on old) index end
   pub room : spare_links new ≡ spare_links old
+
+pub record IsRoomier (old new : Links) : Type 0 where
+  pub lines : lines_on new ≡ lines_on old
+  pub ends : ends_on new ≡ ends_on old
+  pub spare : spare_links old ≤ spare_links new

@@ -1,5 +1,8 @@
 -- The lines of a node on one side.
 --     links_at side e, with_links side e l      those that leave it or enter it;  the entry with others instead
+--     IsRelinked old new side p R      the node in slot p has other lines on this side, which R ties to those before
+use Rattle.std.specs.Prelude.{ℕ, List, Option}
+use Rattle.olr_map.specs.Slotted.{IsReplaced}
 use Rattle.olr_map.specs.declared.links.Links.{Links}
 use Rattle.olr_map.specs.declared.slots.NodeEntry.{NodeEntry}
 use Rattle.olr_map.specs.declared.slots.Side.{Side}
@@ -12,3 +15,9 @@ links_at In e = e.ins
 abbrev pub with_links : Side → NodeEntry → Links → NodeEntry
 with_links Out e l = record { id = e.id; place = e.place; outs = l; ins = e.ins }
 with_links In e l = record { id = e.id; place = e.place; outs = e.outs; ins = l }
+
+pub record IsRelinked (old new : List (Option NodeEntry)) (side : Side) (p : ℕ) (R : Links → Links → Type 0) : Type 0 where
+  pub entry : NodeEntry
+  pub links : Links
+  pub is : IsReplaced old new p entry (with_links side entry links)
+  pub holds : R (links_at side entry) links

@@ -4,35 +4,39 @@
 --         the map before the edit
 --     CanUndoAll m log, map_before m log      both, for all edits of a log
 use Rattle.std.specs.Prelude.{ℕ}
+use Rattle.std.specs.Coded.{×_prop}
 use Rattle.olr_spec.specs.Map.{Map}
 use Rattle.olr_map.specs.Tables.{node_slot}
-use Rattle.olr_map.specs.Changes.{tables_map}
-use Rattle.olr_map.specs.Undos.{CanUndoIn, undone_in, CanUndoAllIn, before_in, CanUndoIn-prop, CanUndoAllIn-prop}
+use Rattle.olr_map.specs.Changes.{tables_map, room_of, CanMake, HasNumbers, map_after, node_puts, line_puts}
+use Rattle.olr_map.specs.Undos.{log_changes, CanMakeAll, made_all, CanMake-prop, CanMakeAll-prop, HasNumbers-prop}
 use Rattle.olr_map.specs.declared.road_map.RoadMap.{RoadMap}
 use Rattle.olr_map.specs.declared.undo.Undo.{Undo}
 use Rattle.olr_map.specs.declared.undo.UndoLog.{UndoLog}
 
 abbrev pub map_of : RoadMap → Map
-map_of m = tables_map m.tables
+map_of m = tables_map m
 
 abbrev pub slot_of : RoadMap → ℕ → ℕ
-slot_of m = node_slot m.tables.index
+slot_of m = node_slot m.index
 
 abbrev pub CanUndo : RoadMap → Undo → Type 0
-CanUndo m u = CanUndoIn m.tables u
+CanUndo m u = CanMake (map_of m) (room_of m) u.change × HasNumbers m (node_puts u.change) (line_puts u.change)
 
 abbrev pub map_undone : RoadMap → Undo → Map
-map_undone m u = undone_in m.tables u
+map_undone m u = map_after (map_of m) u.change
 
 abbrev pub CanUndoAll : RoadMap → UndoLog → Type 0
-CanUndoAll m log = CanUndoAllIn m.tables log
+CanUndoAll m log = CanMakeAll (map_of m) (room_of m) (log_changes log) × HasNumbers m log.nodes log.lines
 
 abbrev pub map_before : RoadMap → UndoLog → Map
-map_before m log = before_in m.tables log
+map_before m log = made_all (map_of m) (log_changes log)
 
 -- for a ghost field beside a map and its undo records
 pub CanUndo-prop : (m : RoadMap) (u : Undo) → IsProp (CanUndo m u)
-CanUndo-prop m u = CanUndoIn-prop m.tables u
+CanUndo-prop m u =
+    ×_prop (CanMake-prop (map_of m) (room_of m) u.change)
+    (HasNumbers-prop m (node_puts u.change) (line_puts u.change))
 
 pub CanUndoAll-prop : (m : RoadMap) (log : UndoLog) → IsProp (CanUndoAll m log)
-CanUndoAll-prop m log = CanUndoAllIn-prop m.tables log
+CanUndoAll-prop m log =
+    ×_prop (CanMakeAll-prop (map_of m) (room_of m) (log_changes log)) (HasNumbers-prop m log.nodes log.lines)

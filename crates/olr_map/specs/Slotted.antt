@@ -27,17 +27,17 @@ module _ {X : Type 0} where
   pub IsSlotted-prop : (es : List (Option X)) (free : List ℕ) (room : ℕ) → IsProp (IsSlotted es free room)
   IsSlotted-prop es free room = hlevel (props, Coded-set coded_ℕ, le_prop)
 
-  -- slot p, which was free, holds e; the other slots are unchanged
-  pub record IsInserted (old new : List (Option X)) (p : ℕ) (e : X) : Type 0 where
-    pub was : at old p ≡ None
-    pub now : (q : ℕ) → at new q ≡ cond (p == q) (Some e) (at old q)
+  -- slot p, which held o, holds w; the other slots are unchanged
+  pub record IsWritten (old new : List (Option X)) (p : ℕ) (o w : Option X) : Type 0 where
+    pub was : at old p ≡ o
+    pub now : (q : ℕ) → at new q ≡ cond (p == q) w (at old q)
 
-  -- slot p, which held e, is free; the other slots are unchanged
-  pub record IsRemoved (old new : List (Option X)) (p : ℕ) (e : X) : Type 0 where
-    pub was : at old p ≡ Some e
-    pub now : (q : ℕ) → at new q ≡ cond (p == q) None (at old q)
+  -- a value was added in a free slot, was removed from its slot, or was replaced in it
+  abbrev pub IsInserted : List (Option X) → List (Option X) → ℕ → X → Type 0
+  IsInserted old new p e = IsWritten old new p None (Some e)
 
-  -- slot p, which held e, holds f; the other slots are unchanged
-  pub record IsReplaced (old new : List (Option X)) (p : ℕ) (e f : X) : Type 0 where
-    pub was : at old p ≡ Some e
-    pub now : (q : ℕ) → at new q ≡ cond (p == q) (Some f) (at old q)
+  abbrev pub IsRemoved : List (Option X) → List (Option X) → ℕ → X → Type 0
+  IsRemoved old new p e = IsWritten old new p (Some e) None
+
+  abbrev pub IsReplaced : List (Option X) → List (Option X) → ℕ → X → X → Type 0
+  IsReplaced old new p e f = IsWritten old new p (Some e) (Some f)

@@ -2,21 +2,17 @@
 --     CanMakeAll M R cs      the changes can be made one after the other, without allocation
 --     made_all M cs      the map after them
 --     log_changes log      the changes that undo the edits of a log, from the last edit to the first
---     CanUndoIn t u, undone_in t u      the tables are as the edit left them, with capacity for what the undo puts
---         back; the map before the edit
---     CanUndoAllIn t log, before_in t log      both, for all edits of a log
 use Rattle.std.specs.Prelude.{ℕ, List, [], ◌∷◌, reverse, ⊤}
 use Rattle.std.specs.Coded.{×_prop, Unit-prop, le_prop, coded_ℕ, coded_list, Coded-set}
 use Rattle.std.proofs.Props.{props}
 use Rattle.olr_spec.specs.Map as map
 use Rattle.olr_spec.specs.Map.{Map, HasCoord}
-use Rattle.olr_map.specs.Changes.{Room, CanMake, HasRoomFor, HasNumbers, IsWhole, change_edit, map_after, node_puts}
-use Rattle.olr_map.specs.Changes.{line_puts, room_after, room_of, tables_map}
+use Rattle.olr_map.specs.Changes.{Room, CanMake, HasRoomFor, HasNumbers, IsWhole, change_edit, map_after}
+use Rattle.olr_map.specs.Changes.{room_after}
 use Rattle.olr_map.specs.declared.change.TableChange.{TableChange}
 use Rattle.olr_map.specs.declared.change.TableChange.TheVariants.{PutNode, MoveNode, TakeNode, PutLine, SetLine}
 use Rattle.olr_map.specs.declared.change.TableChange.TheVariants.{TakeLine}
-use Rattle.olr_map.specs.declared.tables.Tables.{Tables}
-use Rattle.olr_map.specs.declared.undo.Undo.{Undo}
+use Rattle.olr_map.specs.declared.road_map.RoadMap.{RoadMap}
 use Rattle.olr_map.specs.declared.undo.UndoLog.{UndoLog}
 
 abbrev pub CanMakeAll : Map → Room → List TableChange → Type 0
@@ -29,18 +25,6 @@ made_all M (c ∷ cs) = made_all (map_after M c) cs
 
 abbrev pub log_changes : UndoLog → List TableChange
 log_changes log = reverse log.changes.items
-
-abbrev pub CanUndoIn : Tables → Undo → Type 0
-CanUndoIn t u = CanMake (tables_map t) (room_of t) u.change × HasNumbers t (node_puts u.change) (line_puts u.change)
-
-abbrev pub undone_in : Tables → Undo → Map
-undone_in t u = map_after (tables_map t) u.change
-
-abbrev pub CanUndoAllIn : Tables → UndoLog → Type 0
-CanUndoAllIn t log = CanMakeAll (tables_map t) (room_of t) (log_changes log) × HasNumbers t log.nodes log.lines
-
-abbrev pub before_in : Tables → UndoLog → Map
-before_in t log = made_all (tables_map t) (log_changes log)
 
 -- these statements have at most one proof
 HasCoord-prop : (e : map.Edit) → IsProp (HasCoord e)
@@ -74,14 +58,5 @@ pub CanMakeAll-prop : (M : Map) (R : Room) (cs : List TableChange) → IsProp (C
 CanMakeAll-prop M R [] = Unit-prop
 CanMakeAll-prop M R (c ∷ cs) = ×_prop (CanMake-prop M R c) (CanMakeAll-prop (map_after M c) (room_after M R c) cs)
 
-HasNumbers-prop : (t : Tables) (n l : ℕ) → IsProp (HasNumbers t n l)
+pub HasNumbers-prop : (t : RoadMap) (n l : ℕ) → IsProp (HasNumbers t n l)
 HasNumbers-prop t n l = hlevel (props, le_prop)
-
-pub CanUndoIn-prop : (t : Tables) (u : Undo) → IsProp (CanUndoIn t u)
-CanUndoIn-prop t u =
-    ×_prop (CanMake-prop (tables_map t) (room_of t) u.change)
-    (HasNumbers-prop t (node_puts u.change) (line_puts u.change))
-
-pub CanUndoAllIn-prop : (t : Tables) (log : UndoLog) → IsProp (CanUndoAllIn t log)
-CanUndoAllIn-prop t log =
-    ×_prop (CanMakeAll-prop (tables_map t) (room_of t) (log_changes log)) (HasNumbers-prop t log.nodes log.lines)

@@ -1,4 +1,4 @@
-//! Edits of the tables of a map, and their undo records.
+//! Edits of a road map, and their undo records.
 
 use crate::change::TableChange;
 use crate::edit::{Edit, EditFault};
@@ -6,23 +6,23 @@ use crate::ids::NodeId;
 use crate::judging::{EditPlan, judge};
 use crate::line::Line;
 use crate::links::EmptyLinks;
+use crate::road_map::RoadMap;
 use crate::slots::Side;
-use crate::tables::Tables;
 use crate::undo::{Undo, UndoLog};
 use std::alloc::AllocError;
 
-impl Tables {
+impl RoadMap {
     ghost use Rattle.std.specs.Prelude.{◌≡◌, ◌↔◌, ◌+◌, ◌≤◌, IsOk, IfOk, OnOk, OnErr, Ok, Err, IsTrue};
     ghost use Rattle.olr_spec.specs.Map.{MapFault, edited};
     ghost use Rattle.olr_map.specs.SlotIndexes.{spare_of};
     ghost use Rattle.olr_map.specs.SlotMaps.{spare_numbers};
-    ghost use Rattle.olr_map.specs.Tables.{node_slot};
+    ghost use Rattle.olr_map.specs.RoadMaps.{map_of, slot_of, CanUndo, map_undone, CanUndoAll, map_before};
     ghost use Rattle.olr_map.specs.EditPlans.{IsEditPlan, AreEnds, AreSlots};
     ghost use Rattle.olr_map.specs.Edits.{edit_of, edit_fault_of, allocates};
     ghost use Rattle.olr_map.specs.Changes.{tables_map, room_of, change_edit, node_puts, line_puts, node_numbers};
-    ghost use Rattle.olr_map.specs.Changes.{line_numbers, HasRoomFor, HasNumbers, IsWhole, IsRoomWithin, CanMake};
+    ghost use Rattle.olr_map.specs.Changes.{line_numbers, HasRoomFor, HasNumbers, IsWhole, IsRoomWithin, CanMake, IsReserved};
     ghost use Rattle.olr_map.specs.Changes.{IsChangeMade, map_after, room_after};
-    ghost use Rattle.olr_map.specs.Undos.{log_changes, CanUndoIn, undone_in, CanUndoAllIn, before_in};
+    ghost use Rattle.olr_map.specs.Undos.{log_changes};
 
     /// The slots of the nodes that a change touches and that exist before it.
     fn slots_for(&self, change: &TableChange) -> (u32, u32)
@@ -91,8 +91,7 @@ impl Tables {
     }
 
     /// Reserves capacity for what an edit adds at these slots and for its undo, in addition to the numbers of nodes and
-    /// of
-    /// lines that other undo records may put back.
+    /// of lines that other undo records may put back.
     fn make_room(
         &mut self,
         edit: &Edit,
@@ -102,10 +101,7 @@ impl Tables {
     ) -> Result<(), AllocError>
         requires slots { AreSlots self.old.index (tables_map self.old) slots (edit_of edit.now) }
         requires numbers { HasNumbers self.old nodes lines }
-        ensures same { tables_map self.new ≡ tables_map self.old }
-        ensures more { IsRoomWithin (room_of self.old) (room_of self.new) }
-        ensures kept { HasNumbers self.new nodes lines }
-        ensures slots { AreSlots self.new.index (tables_map self.new) slots (edit_of edit.now) }
+        ensures same { IsReserved self.old self.new }
         ensures room { OnOk result (HasRoomFor (room_of self.new) (edit_of edit.now)) }
         ensures numbers { OnOk result (HasNumbers self.new (nodes + node_numbers (edit_of edit.now))
             (lines + line_numbers (edit_of edit.now))) }
@@ -167,14 +163,16 @@ impl Tables {
         }
     }
 
-    /// Makes an edit, and returns its undo record.
+    /// Makes an edit. Any fault leaves the map as it was. `Memory` has the last place among the faults, and is
+    /// reported only for an edit that adds or removes a node or a line. What it returns must be spent by `undo` or by
+    /// `keep`.
     pub fn apply(&mut self, edit: Edit) -> Result<Undo, EditFault>
         ensures refused { (f : MapFault) → (result ≡ Err (edit_fault_of f))
-            ↔ (edited (tables_map self.old) (edit_of edit) ≡ Err f) }
-        ensures done { OnOk result (edited (tables_map self.old) (edit_of edit) ≡ Ok (tables_map self.new)) }
-        ensures same { OnErr result (tables_map self.new ≡ tables_map self.old) }
-        ensures can_undo { IfOk result (CanUndoIn self.new) }
-        ensures before { IfOk result (λ undo. undone_in self.new undo ≡ tables_map self.old) }
+            ↔ (edited (map_of self.old) (edit_of edit) ≡ Err f) }
+        ensures done { OnOk result (edited (map_of self.old) (edit_of edit) ≡ Ok (map_of self.new)) }
+        ensures same { OnErr result (map_of self.new ≡ map_of self.old) }
+        ensures can_undo { IfOk result (CanUndo self.new) }
+        ensures before { IfOk result (λ undo. map_undone self.new undo ≡ map_of self.old) }
         ensures lacks { result ≡ Err EditFault.Memory → IsTrue (allocates (edit_of edit)) }
     {
         match judge(self, &edit) {
@@ -186,13 +184,14 @@ impl Tables {
         }
     }
 
-    /// Makes an edit that `judge` accepted on this map, and returns its undo record.
+    /// Makes an edit that was judged on this map. An error leaves the map as it was, and is returned only for an edit
+    /// that adds or removes a node or a line. What it returns must be spent by `undo` or by `keep`.
     pub fn make(&mut self, edit: Edit, plan: &EditPlan) -> Result<Undo, AllocError>
-        requires { IsEditPlan (tables_map self.old) (node_slot self.old.index) (edit_of edit) plan.now }
-        ensures done { OnOk result (edited (tables_map self.old) (edit_of edit) ≡ Ok (tables_map self.new)) }
-        ensures same { OnErr result (tables_map self.new ≡ tables_map self.old) }
-        ensures can_undo { IfOk result (CanUndoIn self.new) }
-        ensures before { IfOk result (λ undo. undone_in self.new undo ≡ tables_map self.old) }
+        requires { IsEditPlan (map_of self.old) (slot_of self.old) (edit_of edit) plan.now }
+        ensures done { OnOk result (edited (map_of self.old) (edit_of edit) ≡ Ok (map_of self.new)) }
+        ensures same { OnErr result (map_of self.new ≡ map_of self.old) }
+        ensures can_undo { IfOk result (CanUndo self.new) }
+        ensures before { IfOk result (λ undo. map_undone self.new undo ≡ map_of self.old) }
         ensures lacks { OnErr result (IsTrue (allocates (edit_of edit))) }
     {
         self.make_room(&edit, plan.slots, 0, 0)?;
@@ -204,23 +203,25 @@ impl Tables {
 
     /// Undoes an edit: the map is as it was before. Does not allocate.
     pub fn undo(&mut self, undo: Undo)
-        requires { CanUndoIn self.old undo }
-        ensures { tables_map self.new ≡ undone_in self.old undo }
+        requires { CanUndo self.old undo }
+        ensures { map_of self.new ≡ map_undone self.old undo }
     {
         let Undo { change } = undo;
         self.take_back(change);
     }
 
-    /// Makes an edit, and appends its undo record to a log.
+    /// Makes an edit, and appends its undo record to a log. The faults are those of `apply`; after a fault, map and log
+    /// are
+    /// unchanged.
     pub fn apply_into(&mut self, edit: Edit, log: &mut UndoLog) -> Result<(), EditFault>
-        requires { CanUndoAllIn self.old log.old }
+        requires { CanUndoAll self.old log.old }
         ensures refused { (f : MapFault) → (result ≡ Err (edit_fault_of f))
-            ↔ (edited (tables_map self.old) (edit_of edit) ≡ Err f) }
-        ensures done { OnOk result (edited (tables_map self.old) (edit_of edit) ≡ Ok (tables_map self.new)) }
-        ensures same { OnErr result (tables_map self.new ≡ tables_map self.old) }
+            ↔ (edited (map_of self.old) (edit_of edit) ≡ Err f) }
+        ensures done { OnOk result (edited (map_of self.old) (edit_of edit) ≡ Ok (map_of self.new)) }
+        ensures same { OnErr result (map_of self.new ≡ map_of self.old) }
         ensures same_log { OnErr result (log_changes log.new ≡ log_changes log.old) }
-        ensures can_undo { CanUndoAllIn self.new log.new }
-        ensures before { before_in self.new log.new ≡ before_in self.old log.old }
+        ensures can_undo { CanUndoAll self.new log.new }
+        ensures before { map_before self.new log.new ≡ map_before self.old log.old }
     {
         match judge(self, &edit) {
             Ok(plan) => match self.make_into(edit, &plan, log) {
@@ -231,20 +232,22 @@ impl Tables {
         }
     }
 
-    /// Makes an edit that `judge` accepted on this map, and appends its undo record to a log.
+    /// Makes an edit that `judge` accepted on this map, and appends its undo record to a log. If an allocation fails,
+    /// map
+    /// and log are unchanged.
     pub fn make_into(
         &mut self,
         edit: Edit,
         plan: &EditPlan,
         log: &mut UndoLog,
     ) -> Result<(), AllocError>
-        requires plan { IsEditPlan (tables_map self.old) (node_slot self.old.index) (edit_of edit) plan.now }
-        requires log { CanUndoAllIn self.old log.old }
-        ensures done { OnOk result (edited (tables_map self.old) (edit_of edit) ≡ Ok (tables_map self.new)) }
-        ensures same { OnErr result (tables_map self.new ≡ tables_map self.old) }
+        requires plan { IsEditPlan (map_of self.old) (slot_of self.old) (edit_of edit) plan.now }
+        requires log { CanUndoAll self.old log.old }
+        ensures done { OnOk result (edited (map_of self.old) (edit_of edit) ≡ Ok (map_of self.new)) }
+        ensures same { OnErr result (map_of self.new ≡ map_of self.old) }
         ensures same_log { OnErr result (log_changes log.new ≡ log_changes log.old) }
-        ensures can_undo { CanUndoAllIn self.new log.new }
-        ensures before { before_in self.new log.new ≡ before_in self.old log.old }
+        ensures can_undo { CanUndoAll self.new log.new }
+        ensures before { map_before self.new log.new ≡ map_before self.old log.old }
     {
         log.reserve()?;
         self.make_room(&edit, plan.slots, log.nodes, log.lines)?;
@@ -256,8 +259,8 @@ impl Tables {
 
     /// Undoes all edits of a log, the last one first: the map is as it was before the first. Does not allocate.
     pub fn undo_all(&mut self, log: UndoLog)
-        requires { CanUndoAllIn self.old log }
-        ensures { tables_map self.new ≡ before_in self.old log }
+        requires { CanUndoAll self.old log }
+        ensures { map_of self.new ≡ map_before self.old log }
     {
         let UndoLog {
             changes,

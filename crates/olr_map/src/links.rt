@@ -36,7 +36,8 @@ pub struct Spilled {
 }
 
 impl Links {
-    ghost use Rattle.olr_map.specs.Linked.{lines_on, ends_on, spare_links, lines_kept, spare_kept, IsReset};
+    ghost use Rattle.olr_map.specs.Linked.{lines_on, ends_on, spare_links, lines_kept, spare_kept};
+    ghost use Rattle.olr_map.specs.Linked.{IsLinked, IsUnlinked, IsReset, IsRoomier};
 
     /// No lines. Does not allocate.
     pub fn new() -> Links
@@ -92,9 +93,7 @@ impl Links {
 
     /// Reserves capacity for one more line.
     pub fn reserve(&mut self, alloc: Global) -> Result<(), AllocError>
-        ensures lines { lines_on self.new ≡ lines_on self.old }
-        ensures ends { ends_on self.new ≡ ends_on self.old }
-        ensures more { spare_links self.old ≤ spare_links self.new }
+        ensures same { IsRoomier self.old self.new }
         ensures room { OnOk result (0 < spare_links self.new) }
     {
         match self {
@@ -118,11 +117,7 @@ impl Links {
         requires ascending { IsStrictlyIncreasing (lines_on self.old) }
         requires absent { IsFalse (has (lines_on self.old) id) }
         requires room { 0 < spare_links self.old }
-        ensures ascending { IsStrictlyIncreasing (lines_on self.new) }
-        ensures put { (i : ℕ) × (i ≤ length (lines_on self.old))
-            × (lines_on self.new ≡ insert (lines_on self.old) i id)
-            × (ends_on self.new ≡ insert (ends_on self.old) i end) }
-        ensures room { spare_links self.new + 1 ≡ spare_links self.old }
+        ensures { IsLinked self.old self.new id end }
     {
         match self.lines().binary_search(&id) {
             Ok(_) => unreachable!(),
@@ -134,12 +129,7 @@ impl Links {
     pub fn unlink(&mut self, id: LineId)
         requires ascending { IsStrictlyIncreasing (lines_on self.old) }
         requires there { IsTrue (has (lines_on self.old) id) }
-        ensures ascending { IsStrictlyIncreasing (lines_on self.new) }
-        ensures taken { (i : ℕ) × (i < length (lines_on self.old))
-            × (slice_index (lines_on self.old) i ≡ id)
-            × (lines_on self.new ≡ remove (lines_on self.old) i)
-            × (ends_on self.new ≡ remove (ends_on self.old) i) }
-        ensures room { spare_links self.new ≡ spare_links self.old + 1 }
+        ensures { IsUnlinked self.old self.new id }
     {
         match self.lines().binary_search(&id) {
             Ok(at) => self.remove(at),

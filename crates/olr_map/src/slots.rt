@@ -84,10 +84,9 @@ pub struct NodeSlots {
 impl NodeSlots {
     ghost use Rattle.olr_map.specs.Slotted.{IsInserted, IsRemoved, IsReplaced};
     ghost use Rattle.olr_map.specs.Columns.{node_slots, node_room};
-    ghost use Rattle.olr_map.specs.NodeLinks.{links_at, with_links};
-    ghost use Rattle.olr_map.specs.Linked.{lines_on, ends_on, spare_links, IsLinked, IsUnlinked, IsReset};
+    ghost use Rattle.olr_map.specs.NodeLinks.{links_at, IsRelinked};
+    ghost use Rattle.olr_map.specs.Linked.{lines_on, spare_links, IsLinked, IsUnlinked, IsReset, IsRoomier};
     ghost use Rattle.olr_spec.specs.Map.{has};
-    ghost use Rattle.olr_map.specs.declared.links.Links.{Links as AllLinks};
     ghost use Rattle.olr_map.specs.declared.slots.NodeEntry.{NodeEntry as Entry};
 
     /// No slots. Does not allocate.
@@ -208,10 +207,8 @@ impl NodeSlots {
     /// Reserves capacity for one more line on one side of the node in a slot.
     pub fn reserve_link(&mut self, side: Side, slot: u32) -> Result<(), AllocError>
         requires { IsSome (at (node_slots self.old) slot) }
-        ensures turns { (e : Entry) × (l : AllLinks)
-            × IsReplaced (node_slots self.old) (node_slots self.new) slot e (with_links side e l)
-            × (lines_on l ≡ lines_on (links_at side e)) × (ends_on l ≡ ends_on (links_at side e))
-            × (spare_links (links_at side e) ≤ spare_links l) × OnOk result (0 < spare_links l) }
+        ensures turns { IsRelinked (node_slots self.old) (node_slots self.new) side slot
+            (λ o n. IsRoomier o n × OnOk result (0 < spare_links n)) }
         ensures room { node_room self.new ≡ node_room self.old }
     {
         let alloc = *self.outs.allocator();
@@ -227,9 +224,8 @@ impl NodeSlots {
             × IsStrictlyIncreasing (lines_on (links_at side e))
             × IsFalse (has (lines_on (links_at side e)) id)
             × (0 < spare_links (links_at side e)) }
-        ensures turns { (e : Entry) × (l : AllLinks)
-            × IsReplaced (node_slots self.old) (node_slots self.new) slot e (with_links side e l)
-            × IsLinked (links_at side e) l id end }
+        ensures turns { IsRelinked (node_slots self.old) (node_slots self.new) side slot
+            (λ o n. IsLinked o n id end) }
         ensures room { node_room self.new ≡ node_room self.old }
     {
         match side {
@@ -243,9 +239,8 @@ impl NodeSlots {
         requires { (e : Entry) × (at (node_slots self.old) slot ≡ Some e)
             × IsStrictlyIncreasing (lines_on (links_at side e))
             × IsTrue (has (lines_on (links_at side e)) id) }
-        ensures turns { (e : Entry) × (l : AllLinks)
-            × IsReplaced (node_slots self.old) (node_slots self.new) slot e (with_links side e l)
-            × IsUnlinked (links_at side e) l id }
+        ensures turns { IsRelinked (node_slots self.old) (node_slots self.new) side slot
+            (λ o n. IsUnlinked o n id) }
         ensures room { node_room self.new ≡ node_room self.old }
     {
         match side {
@@ -259,9 +254,8 @@ impl NodeSlots {
         requires { (e : Entry) × (at (node_slots self.old) slot ≡ Some e)
             × IsStrictlyIncreasing (lines_on (links_at side e))
             × IsTrue (has (lines_on (links_at side e)) id) }
-        ensures turns { (e : Entry) × (l : AllLinks)
-            × IsReplaced (node_slots self.old) (node_slots self.new) slot e (with_links side e l)
-            × IsReset (links_at side e) l id end }
+        ensures turns { IsRelinked (node_slots self.old) (node_slots self.new) side slot
+            (λ o n. IsReset o n id end) }
         ensures room { node_room self.new ≡ node_room self.old }
     {
         match side {

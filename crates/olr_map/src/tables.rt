@@ -1,149 +1,50 @@
-//! The nodes and the lines of a map: slots by node number, the nodes' entries by slot, and the lines by number.
+//! The numbers of a road map, and the changes of its tables.
 ghost use Rattle.std.specs.Prelude.{◌≡◌};
-ghost use Rattle.olr_map.specs.SlotMaps.{all_held};
-ghost use Rattle.olr_map.specs.Columns.{node_slots};
-ghost use Rattle.olr_map.specs.Tables.{AreTables, AreTables-prop};
 
-use crate::blocks::Blocks;
 use crate::change::TableChange;
 use crate::ids::{LineId, NodeId};
 use crate::line::Line;
 use crate::links::{EmptyLinks, Links};
 use crate::read::{LineEnd, MapRead};
-use crate::slot_map::SlotMap;
-use crate::slots::{NodeEntry, NodeSlots, Side};
+use crate::road_map::RoadMap;
+use crate::slots::{NodeEntry, Side};
 use olr_coords::Coord;
 use std::alloc::{AllocError, Global};
 
-/// The slots of the nodes by number, their entries, and the lines by number.
-#[derive(Drop)]
-pub struct Tables {
-    pub index: Blocks,
-    pub nodes: NodeSlots,
-    pub lines: SlotMap<Line>,
-    pub ghost kept: { AreTables index (node_slots nodes) (all_held lines) } by { AreTables-prop index (node_slots nodes) (all_held lines) },
-}
-
-impl MapRead for Tables {
-    ghost use Rattle.std.specs.Prelude.{length};
-    ghost use Rattle.olr_map.specs.Changes.{tables_map};
-    ghost use Rattle.olr_map.specs.Tables.{node_slot as slot_in};
-
-    ghost map = { tables_map };
-
-    ghost node_slot = { λ t. slot_in t.index };
-
-    ghost count = { λ t. length (node_slots t.nodes) };
-
-    fn node(&self, id: NodeId) -> Option<Coord> {
-        match self.index.get(id.number()) {
-            Some(slot) => Some(self.nodes.place(slot)),
-            None => None,
-        }
-    }
-
-    fn line(&self, id: LineId) -> Option<&Line> {
-        self.lines.get(id.number())
-    }
-
-    fn out_lines(&self, id: NodeId) -> &[LineId] {
-        match self.index.get(id.number()) {
-            Some(slot) => self.nodes.outs(slot).lines(),
-            None => &[],
-        }
-    }
-
-    fn in_lines(&self, id: NodeId) -> &[LineId] {
-        match self.index.get(id.number()) {
-            Some(slot) => self.nodes.ins(slot).lines(),
-            None => &[],
-        }
-    }
-
-    fn out_ends(&self, id: NodeId) -> &[LineEnd] {
-        match self.index.get(id.number()) {
-            Some(slot) => self.nodes.outs(slot).ends(),
-            None => &[],
-        }
-    }
-
-    fn in_ends(&self, id: NodeId) -> &[LineEnd] {
-        match self.index.get(id.number()) {
-            Some(slot) => self.nodes.ins(slot).ends(),
-            None => &[],
-        }
-    }
-
-    fn slot_count(&self) -> usize {
-        self.nodes.count()
-    }
-
-    fn slot_of(&self, id: NodeId) -> Option<u32> {
-        self.index.get(id.number())
-    }
-
-    fn in_lines_at(&self, slot: u32) -> &[LineId] {
-        self.nodes.ins(slot).lines()
-    }
-
-    fn out_ends_at(&self, slot: u32) -> &[LineEnd] {
-        self.nodes.outs(slot).ends()
-    }
-
-    fn in_ends_at(&self, slot: u32) -> &[LineEnd] {
-        self.nodes.ins(slot).ends()
-    }
-
-    ghost sound = { λ t. t.kept.sound };
-
-    ghost placed = { λ t. t.kept.placed };
-}
-
-impl Tables {
+impl RoadMap {
     ghost use Rattle.std.specs.Prelude.{◌+◌, ◌<◌, ◌≤◌, ℕ, IfOk, OnOk, IsTrue, Some, flat_map, ◌↔◌};
-    ghost use Rattle.olr_map.specs.Tables.{node_slot};
+    ghost use Rattle.olr_map.specs.RoadMaps.{map_of, slot_of};
     ghost use Rattle.std.specs.Prelude.{map as list_map};
     ghost use Rattle.std.specs.FinMap.{entries};
-    ghost use Rattle.olr_spec.specs.Map.{empty_map, has_node, has_line, start, end, lines_out};
+    ghost use Rattle.olr_spec.specs.Map.{has_node, has_line, start, end, lines_out};
     ghost use Rattle.olr_map.specs.SlotIndexes.{slot_by, spare_of};
     ghost use Rattle.olr_map.specs.SlotMaps.{spare_numbers};
-    ghost use Rattle.olr_map.specs.Changes.{tables_map, room_of, spare_at, node_puts, line_puts, IsRoomWithin};
+    ghost use Rattle.olr_map.specs.Changes.{tables_map, room_of, spare_at, node_puts, line_puts, IsReserved};
     ghost use Rattle.olr_map.specs.Changes.{HasNumbers, CanMake, IsChangeMade};
     ghost use Rattle.olr_map.specs.declared.change.TableChange.TheVariants.{PutNode, MoveNode, TakeNode, PutLine};
     ghost use Rattle.olr_map.specs.declared.change.TableChange.TheVariants.{SetLine};
     ghost use Rattle.olr_map.specs.declared.change.TableChange.TheVariants.{TakeLine};
 
-    /// No nodes and no lines. Does not allocate.
-    pub fn new(alloc: Global) -> Tables
-        ensures { tables_map result ≡ empty_map }
-    {
-        Tables {
-            index: Blocks::new(alloc),
-            nodes: NodeSlots::new(alloc),
-            lines: SlotMap::new(alloc),
-        }
-    }
-
-    /// The number of the node in a slot. None if the slot is free, or if there is no such slot.
+    /// The number of the node in a slot, see `MapRead::slot_of`. None if the slot is free, or if there is no such slot.
     pub fn id_at(&self, slot: usize) -> Option<NodeId>
         ensures { (v : ℕ) → (result ≡ Some v)
-            ↔ (IsTrue (has_node (tables_map self.now) v) × (node_slot self.now.index v ≡ slot)) }
+            ↔ (IsTrue (has_node (map_of self.now) v) × (slot_of self.now v ≡ slot)) }
     {
         self.nodes.id_at(slot)
     }
 
-    /// The numbers of the nodes, in ascending order.
+    /// The numbers of the nodes, in ascending order. An error means that an allocation failed.
     pub fn node_ids(&self, alloc: Global) -> Result<Vec<NodeId>, AllocError>
-        ensures { IfOk result (λ ids. ids.items ≡ list_map (λ e. e.0) (entries (tables_map self.now).nodes)) }
+        ensures { IfOk result (λ ids. ids.items ≡ list_map (λ e. e.0) (entries (map_of self.now).nodes)) }
     {
         let mut ids = self.nodes.ids(alloc)?;
         ids.sort_unstable();
         Ok(ids)
     }
 
-    /// The numbers of the lines, in ascending order.
+    /// The numbers of the lines, in ascending order. An error means that an allocation failed.
     pub fn line_ids(&self, alloc: Global) -> Result<Vec<LineId>, AllocError>
-        ensures { IfOk result (λ ids. ids.items ≡ list_map (λ e. e.0) (entries (tables_map self.now).lines)) }
+        ensures { IfOk result (λ ids. ids.items ≡ list_map (λ e. e.0) (entries (map_of self.now).lines)) }
     {
         let nodes = self.nodes.ids(alloc)?;
         let mut ids = self.lines_from(alloc, &nodes)?;
@@ -163,7 +64,7 @@ impl Tables {
     }
 
     /// The slot of a node of the map.
-    pub fn slot(&self, id: NodeId) -> u32
+    pub(crate) fn slot(&self, id: NodeId) -> u32
         requires { IsTrue (has_node (tables_map self.now) id) }
         ensures { slot_by self.now.index id ≡ Some result }
     {
@@ -174,7 +75,7 @@ impl Tables {
     }
 
     /// The slots where a line of the map begins and ends.
-    pub fn end_slots(&self, id: LineId) -> (u32, u32)
+    pub(crate) fn end_slots(&self, id: LineId) -> (u32, u32)
         requires { IsTrue (has_line (tables_map self.now) id) }
         ensures from { slot_by self.now.index (start (tables_map self.now) id) ≡ Some result.0 }
         ensures to { slot_by self.now.index (end (tables_map self.now) id) ≡ Some result.1 }
@@ -186,12 +87,8 @@ impl Tables {
     }
 
     /// Reserves capacity for one more node number, in addition to `owed` numbers that undo records may put back.
-    pub fn reserve_nodes(&mut self, owed: usize) -> Result<(), AllocError>
-        ensures map { tables_map self.new ≡ tables_map self.old }
-        ensures more { IsRoomWithin (room_of self.old) (room_of self.new) }
-        ensures nodes { spare_of self.old.index ≤ spare_of self.new.index }
-        ensures lines { spare_numbers self.new.lines ≡ spare_numbers self.old.lines }
-        ensures slots { (v : ℕ) → slot_by self.new.index v ≡ slot_by self.old.index v }
+    pub(crate) fn reserve_nodes(&mut self, owed: usize) -> Result<(), AllocError>
+        ensures same { IsReserved self.old self.new }
         ensures room { OnOk result (owed + 1 ≤ spare_of self.new.index) }
     {
         match owed.checked_add(1) {
@@ -201,12 +98,8 @@ impl Tables {
     }
 
     /// Reserves capacity for one more line, in addition to `owed` lines that undo records may put back.
-    pub fn reserve_lines(&mut self, owed: usize) -> Result<(), AllocError>
-        ensures map { tables_map self.new ≡ tables_map self.old }
-        ensures more { IsRoomWithin (room_of self.old) (room_of self.new) }
-        ensures nodes { spare_of self.new.index ≡ spare_of self.old.index }
-        ensures lines { spare_numbers self.old.lines ≤ spare_numbers self.new.lines }
-        ensures slots { (v : ℕ) → slot_by self.new.index v ≡ slot_by self.old.index v }
+    pub(crate) fn reserve_lines(&mut self, owed: usize) -> Result<(), AllocError>
+        ensures same { IsReserved self.old self.new }
         ensures room { OnOk result (owed + 1 ≤ spare_numbers self.new.lines) }
     {
         match owed.checked_add(1) {
@@ -216,32 +109,24 @@ impl Tables {
     }
 
     /// Reserves capacity for one more node's entry.
-    pub fn reserve_slot(&mut self) -> Result<(), AllocError>
-        ensures map { tables_map self.new ≡ tables_map self.old }
-        ensures more { IsRoomWithin (room_of self.old) (room_of self.new) }
-        ensures nodes { spare_of self.new.index ≡ spare_of self.old.index }
-        ensures lines { spare_numbers self.new.lines ≡ spare_numbers self.old.lines }
-        ensures slots { (v : ℕ) → slot_by self.new.index v ≡ slot_by self.old.index v }
+    pub(crate) fn reserve_slot(&mut self) -> Result<(), AllocError>
+        ensures same { IsReserved self.old self.new }
         ensures room { OnOk result (0 < (room_of self.new).nodes) }
     {
         self.nodes.reserve(1)
     }
 
     /// Reserves capacity for one more line on one side of the node in a slot.
-    pub fn reserve_link(&mut self, side: Side, slot: u32) -> Result<(), AllocError>
+    pub(crate) fn reserve_link(&mut self, side: Side, slot: u32) -> Result<(), AllocError>
         requires { (v : ℕ) × (slot_by self.old.index v ≡ Some slot) }
-        ensures map { tables_map self.new ≡ tables_map self.old }
-        ensures more { IsRoomWithin (room_of self.old) (room_of self.new) }
-        ensures nodes { spare_of self.new.index ≡ spare_of self.old.index }
-        ensures lines { spare_numbers self.new.lines ≡ spare_numbers self.old.lines }
-        ensures slots { (v : ℕ) → slot_by self.new.index v ≡ slot_by self.old.index v }
+        ensures same { IsReserved self.old self.new }
         ensures room { OnOk result ((v : ℕ) → slot_by self.old.index v ≡ Some slot → 0 < spare_at side self.new v) }
     {
         self.nodes.reserve_link(side, slot)
     }
 
     /// Inserts a node without lines, with the memory for its lines.
-    pub fn put_node(&mut self, id: NodeId, place: Coord, outs: EmptyLinks, ins: EmptyLinks)
+    pub(crate) fn put_node(&mut self, id: NodeId, place: Coord, outs: EmptyLinks, ins: EmptyLinks)
         requires can { CanMake (tables_map self.old) (room_of self.old) (PutNode id place outs ins) }
         requires numbers { HasNumbers self.old 1 0 }
         ensures { IsChangeMade self.old self.new (PutNode id place outs ins) (TakeNode id) }
@@ -258,7 +143,7 @@ impl Tables {
     }
 
     /// Removes a node, and returns the change that puts it back.
-    pub fn take_node(&mut self, id: NodeId) -> TableChange
+    pub(crate) fn take_node(&mut self, id: NodeId) -> TableChange
         requires { CanMake (tables_map self.old) (room_of self.old) (TakeNode id) }
         ensures made { IsChangeMade self.old self.new (TakeNode id) result }
         ensures nodes { node_puts result ≡ 1 }
@@ -283,7 +168,7 @@ impl Tables {
     }
 
     /// Moves the node in this slot to another coordinate, and returns the previous one.
-    pub fn move_node(&mut self, id: NodeId, place: Coord, slot: u32) -> Coord
+    pub(crate) fn move_node(&mut self, id: NodeId, place: Coord, slot: u32) -> Coord
         requires can { CanMake (tables_map self.old) (room_of self.old) (MoveNode id place) }
         requires here { slot_by self.old.index id ≡ Some slot }
         ensures { IsChangeMade self.old self.new (MoveNode id place) (MoveNode id result) }
@@ -292,7 +177,7 @@ impl Tables {
     }
 
     /// Inserts a line, and its number into the lists of its ends, which are in these slots.
-    pub fn put_line(&mut self, id: LineId, line: Line, from: u32, to: u32)
+    pub(crate) fn put_line(&mut self, id: LineId, line: Line, from: u32, to: u32)
         requires can { CanMake (tables_map self.old) (room_of self.old) (PutLine id line) }
         requires numbers { HasNumbers self.old 0 1 }
         requires begin { slot_by self.old.index line.from ≡ Some from }
@@ -306,7 +191,7 @@ impl Tables {
     }
 
     /// Removes a line, and its number from the lists of its ends, which are in these slots.
-    pub fn take_line(&mut self, id: LineId, from: u32, to: u32) -> Line
+    pub(crate) fn take_line(&mut self, id: LineId, from: u32, to: u32) -> Line
         requires can { CanMake (tables_map self.old) (room_of self.old) (TakeLine id) }
         requires begin { slot_by self.old.index (start (tables_map self.old) id) ≡ Some from }
         requires end { slot_by self.old.index (end (tables_map self.old) id) ≡ Some to }
@@ -318,7 +203,7 @@ impl Tables {
     }
 
     /// Replaces a line by another one with the same ends, which are in these slots, and returns the previous line.
-    pub fn set_line(&mut self, id: LineId, line: Line, from: u32, to: u32) -> Line
+    pub(crate) fn set_line(&mut self, id: LineId, line: Line, from: u32, to: u32) -> Line
         requires can { CanMake (tables_map self.old) (room_of self.old) (SetLine id line) }
         requires begin { slot_by self.old.index (start (tables_map self.old) id) ≡ Some from }
         requires end { slot_by self.old.index (end (tables_map self.old) id) ≡ Some to }

@@ -2,8 +2,7 @@ use Rattle.std.proofs.Common.{◌<◌, subst, sym, ap, ◌∙◌, ◌==◌, ◌/
 use Rattle.std.specs.HashMap.{spare}
 use Rattle.std.specs.Map.{lookup}
 use Rattle.olr_map.specs.Blocked.{slot_in}
-use Rattle.olr_map.proofs.Matching.{on_ok}
-use Rattle.olr_map.proofs.Blocking.{block_changed, not_blank, used_put}
+use Rattle.olr_map.proofs.Blocking.{on_ok, block_changed, not_blank, used_put}
 use Rattle.olr_map.proofs.blocks.Blocks.put.Goals as goal
 
 pub invariant_of-self : goal.invariant_of-self

@@ -1,7 +1,7 @@
-use Rattle.std.proofs.Common.{◌≡◌, true, false, Ok}
+use Rattle.std.proofs.Common.{◌≡◌, true, false, Ok, Err}
 use Rattle.olr_spec.specs.Map.{has}
 use Rattle.olr_map.specs.Linked.{lines_on}
-use Rattle.olr_spec.proofs.AscendingLists.{found_has, put_ascends}
+use Rattle.olr_spec.proofs.AscendingLists.{place_of, found_has, put_ascends}
 use Rattle.olr_map.proofs.links.Links.link.Goals as goal
 
 pub unreachable-requires : goal.unreachable-requires
@@ -12,8 +12,15 @@ unreachable-requires c =
     let was : has xs c.args.id ≡ false = c.requires.absent in
     cc
 
-pub returns-clause-ascending : goal.returns-clause-ascending
-returns-clause-ascending c =
+pub returns : goal.returns
+returns c =
     let xs = lines_on c.args.self.now in
-    rw c.insert.ensures.lines
-    (put_ascends xs c.args.id c.in-Err.at c.requires.ascending (rw c.lines.ensures at c.in-Err.ensures.position))
+    let search = rw c.lines.ensures at c.in-Err.ensures.position in
+    record {
+      index = c.in-Err.at;
+      within = (place_of xs c.args.id (Err c.in-Err.at) c.requires.ascending search).0;
+      lines = c.insert.ensures.lines;
+      ends = c.insert.ensures.ends;
+      ascends = rw c.insert.ensures.lines (put_ascends xs c.args.id c.in-Err.at c.requires.ascending search);
+      room = c.insert.ensures.room;
+    }

@@ -13,9 +13,17 @@ unreachable-requires c =
     let was : has xs c.args.id ≡ true = c.requires.there in
     cc
 
-pub returns-clause-ascending : goal.returns-clause-ascending
-returns-clause-ascending c =
+pub returns : goal.returns
+returns c =
     let xs = lines_on c.args.self.now in
     let place =
     place_of xs c.args.id (Ok c.in-Ok.at) c.requires.ascending (rw c.lines.ensures at c.in-Ok.ensures.position) in
-    rw c.remove.ensures.lines (ascends-remove xs c.in-Ok.at c.requires.ascending place.0)
+    record {
+      index = c.in-Ok.at;
+      within = place.0;
+      is = place.1;
+      lines = c.remove.ensures.lines;
+      ends = c.remove.ensures.ends;
+      ascends = rw c.remove.ensures.lines (ascends-remove xs c.in-Ok.at c.requires.ascending place.0);
+      room = c.remove.ensures.room;
+    }

@@ -1,8 +1,8 @@
-use Rattle.std.proofs.Common.{◌≡◌, ◌<◌, Some, sym, set, subst, length, vec_len, arith}
+use Rattle.std.proofs.Common.{◌≡◌, ◌<◌, Some, None, sym, set, subst, length, vec_len, arith}
 use Rattle.std.specs.Vec.{vec_capacity}
 use Rattle.olr_map.specs.Slotted.{IsSlotted}
 use Rattle.olr_map.specs.Slabs.{room_in}
-use Rattle.olr_map.proofs.SlotLemmas.{popped, put_slotted, push_none, inserts_free, inserts_last}
+use Rattle.olr_map.proofs.SlotLemmas.{popped, put_slotted, push_none, written, appended}
 use Rattle.olr_map.proofs.slab.Slab.put.Goals as goal
 
 pub invariant_of-self : goal.invariant_of-self
@@ -22,7 +22,7 @@ returns-in-Some-clause-inserts g c =
     let s = c.args.self.now in
     let pop =
     popped s.entries.items s.free.items _ s.slotted c.pop.new.self.items c.in-Some.slot c.in-Some.ensures.items in
-    inserts_free s.entries.items c.in-Some.slot c.args.entry pop.0 pop.1
+    written s.entries.items c.in-Some.slot None (Some c.args.entry) pop.0 pop.1
 
 pub invariant_of-self-in-None : goal.invariant_of-self-in-None
 invariant_of-self-in-None g c =
@@ -48,4 +48,4 @@ returns-in-None-clause-inserts g c =
     let s = c.args.self.now in
     let len = s.entries.ok.0 in
     let is = c.len-slot.ensures in
-    rw c.push_reserved.ensures.items (inserts_last s.entries.items c.len-slot.result c.args.entry (omega arith))
+    rw c.push_reserved.ensures.items (appended s.entries.items c.len-slot.result (Some c.args.entry) (omega arith))

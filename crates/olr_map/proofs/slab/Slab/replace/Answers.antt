@@ -1,4 +1,5 @@
-use Rattle.olr_map.proofs.SlotLemmas.{stood, turned_slotted, turns}
+use Rattle.std.proofs.Common.{Some}
+use Rattle.olr_map.proofs.SlotLemmas.{stood, turned_slotted, written, holds_within}
 use Rattle.olr_map.proofs.slab.Slab.replace.Goals as goal
 
 pub invariant_of-self : goal.invariant_of-self
@@ -16,4 +17,4 @@ returns-clause-turns g c =
     stood s.entries.items c.args.slot c.index_mut.result.now c.in-Some.place c.requires c.index_mut.ensures.value
     c.in-Some.is in
     rw (c.replace.ensures.after, c.replace.ensures.value)
-    (turns s.entries.items c.args.slot c.in-Some.place c.args.entry here)
+    (written s.entries.items c.args.slot _ (Some c.args.entry) (holds_within s.entries.items c.args.slot _ here) here)

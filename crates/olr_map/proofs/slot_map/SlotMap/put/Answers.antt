@@ -1,6 +1,7 @@
+use Rattle.std.proofs.Common.{None}
 use Rattle.olr_map.specs.Slabs.{slots_of}
 use Rattle.olr_map.proofs.SlotLemmas.{inserted_fits}
-use Rattle.olr_map.proofs.SlotMapLemmas.{inserted_held, inserted_slots}
+use Rattle.olr_map.proofs.SlotMapLemmas.{has_slot, written_held, written_slots}
 use Rattle.olr_map.proofs.slot_map.SlotMap.put.Goals as goal
 
 pub put-requires-clause-fits : goal.put-requires-clause-fits
@@ -12,12 +13,14 @@ pub invariant_of-self : goal.invariant_of-self
 invariant_of-self g c =
     let n = c.args.self.now in
     record {
-      kept = inserted_slots n.index (slots_of n.slab) n.kept c.put.new.self (slots_of c.put-slot.new.self)
-          c.put-slot.result c.args.number c.args.value c.put-slot.ensures.inserts c.put.ensures.put;
+      kept = written_slots n.index (slots_of n.slab) n.kept c.put.new.self _ c.put-slot.result c.args.number None _
+          c.put-slot.ensures.inserts (has_slot n.index (slots_of n.slab) n.kept c.args.number None c.requires.absent).1
+          c.put.ensures.put;
     }
 
 pub returns-clause-put : goal.returns-clause-put
 returns-clause-put g c =
     let n = c.args.self.now in
-    inserted_held n.index (slots_of n.slab) n.kept c.put.new.self (slots_of c.put-slot.new.self) c.put-slot.result
-    c.args.number c.args.value c.put-slot.ensures.inserts c.put.ensures.put
+    written_held n.index (slots_of n.slab) n.kept c.put.new.self _ c.put-slot.result c.args.number None _
+    c.put-slot.ensures.inserts (has_slot n.index (slots_of n.slab) n.kept c.args.number None c.requires.absent).1
+    c.put.ensures.put

@@ -1,7 +1,9 @@
 use Rattle.std.proofs.Common.{sym, ap, ◌∙◌}
 use Rattle.olr_map.specs.Slabs.{slots_of}
 use Rattle.olr_map.specs.HavingSlots.{in_slot}
-use Rattle.olr_map.proofs.SlotMapLemmas.{turned_held, turned_slots}
+use Rattle.olr_map.proofs.SlotMapLemmas.{written_held, written_slots}
+use Rattle.olr_map.specs.SlotIndexes.{slot_by}
+use Rattle.olr_map.proofs.Insertions.{unchanged_at}
 use Rattle.olr_map.proofs.slot_map.SlotMap.replace.Goals as goal
 
 pub replace-requires : goal.replace-requires
@@ -10,9 +12,10 @@ replace-requires g c = c.args.self.now.kept.filled c.args.number c.in-Some.slot 
 pub invariant_of-self : goal.invariant_of-self
 invariant_of-self g c =
     let n = c.args.self.now in
+    let here = sym c.in-Some.ensures in
     record {
-      kept = turned_slots n.index (slots_of n.slab) n.kept (slots_of c.replace.new.self) c.in-Some.slot
-          c.args.number c.replace.result c.args.value c.replace.ensures.turns (sym c.in-Some.ensures);
+      kept = written_slots n.index (slots_of n.slab) n.kept n.index _ c.in-Some.slot c.args.number _ _
+          c.replace.ensures.turns here (unchanged_at (slot_by n.index) c.args.number _ here);
     }
 
 pub returns-clause-was : goal.returns-clause-was
@@ -22,5 +25,6 @@ returns-clause-was g c =
 pub returns-clause-put : goal.returns-clause-put
 returns-clause-put g c =
     let n = c.args.self.now in
-    turned_held n.index (slots_of n.slab) n.kept (slots_of c.replace.new.self) c.in-Some.slot c.args.number
-    c.replace.result c.args.value c.replace.ensures.turns (sym c.in-Some.ensures)
+    let here = sym c.in-Some.ensures in
+    written_held n.index (slots_of n.slab) n.kept n.index _ c.in-Some.slot c.args.number _ _ c.replace.ensures.turns here
+    (unchanged_at (slot_by n.index) c.args.number _ here)

@@ -1,4 +1,4 @@
-use Rattle.std.proofs.Common.{ℕ, List, Option, ap, ◌∙◌}
+use Rattle.std.proofs.Common.{List, Option, ap, ◌∙◌}
 use Rattle.std.specs.Option.{option_map}
 use Rattle.olr_map.specs.Slabs.{slots_of}
 use Rattle.olr_map.specs.Slotted.{at}

@@ -1,4 +1,3 @@
-use Rattle.olr_map.specs.Slabs.{slots_of}
 use Rattle.olr_map.proofs.ColumnLemmas.{inside_outs, outs_read}
 use Rattle.olr_map.proofs.slots.NodeSlots.outs.Goals as goal
 
@@ -6,6 +5,4 @@ pub index-requires : goal.index-requires
 index-requires c = inside_outs c.args.self.now c.args.slot c.requires
 
 pub returns : goal.returns
-returns c = λ e h.
-    let s = c.args.self.now in
-    outs_read (slots_of s.heads) s.outs.items s.ins.items c.args.slot e c.index.result.now h c.index.ensures
+returns c = λ e h. outs_read c.args.self.now c.args.slot e c.index.result.now h c.index.ensures

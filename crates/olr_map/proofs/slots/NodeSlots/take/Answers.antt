@@ -1,14 +1,12 @@
-use Rattle.std.proofs.Common.{subst, get_or, sym, ◌≡◌}
+use Rattle.std.proofs.Common.{◌≡◌, get_or, sym, subst}
 use Rattle.olr_spec.proofs.OptionLemmas.{some_of}
 use Rattle.olr_map.specs.Slabs.{slots_of}
 use Rattle.olr_map.specs.declared.links.Links.{Links}
-use Rattle.olr_map.proofs.ColumnLemmas.{head_there, entry_read, row_removed}
+use Rattle.olr_map.proofs.ColumnLemmas.{head_there, entry_is, row_removed}
 use Rattle.olr_map.proofs.slots.NodeSlots.take.Goals as goal
 
 pub take-id-requires : goal.take-id-requires
-take-id-requires c =
-    let s = c.args.self.now in
-    head_there (slots_of s.heads) s.outs.items s.ins.items c.args.slot c.requires
+take-id-requires c = let e = some_of _ c.requires in head_there c.args.self.now c.args.slot e.0 e.1
 
 pub returns-clause-removes : goal.returns-clause-removes
 returns-clause-removes c =
@@ -20,8 +18,6 @@ returns-clause-removes c =
     subst (λ (w : Links). w ≡ get_or s.outs.items p w) (sym c.replace-outs.ensures.value) c.index_mut.ensures.value in
     let i : c.replace-ins.result ≡ get_or s.ins.items p c.replace-ins.result =
     subst (λ (w : Links). w ≡ get_or s.ins.items p w) (sym c.replace-ins.ensures.value) c.index_mut-2.ensures.value in
-    let is =
-    entry_read (slots_of s.heads) s.outs.items s.ins.items p e.0 c.take-id.result c.replace-outs.result
-    c.replace-ins.result e.1 taken.removes.was o i in
-    rw (← is) (row_removed s (slots_of c.take-id.new.self) p e.0 c.take-id.result c.replace-outs.new.dest
-    c.replace-ins.new.dest e.1 taken.removes taken.count)
+    let is = entry_is s p e.0 e.1 c.take-id.result c.replace-outs.result c.replace-ins.result taken.removes.was o i in
+    rw (← is) (row_removed s p e.0 e.1 (slots_of c.take-id.new.self) c.take-id.result c.replace-outs.new.dest
+    c.replace-ins.new.dest taken.removes taken.count)

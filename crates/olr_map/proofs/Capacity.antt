@@ -1,0 +1,248 @@
+-- Empty tables, and tables with more capacity.
+use Rattle.std.proofs.Common.{◌≡◌, ◌==◌, ◌&&◌, ℕ, ◌<◌, ◌≤◌, Bool, true, false, cond, [], Option, Some, None, is_some}
+use Rattle.std.proofs.Common.{unwrap_or, refl, sym, ap, ◌∙◌, subst, arith}
+use Rattle.std.specs.Option.{option_map, option_map_or}
+use Rattle.std.specs.FinMap.{FinMap}
+use Rattle.std.specs.Map.{lookup}
+use Rattle.std.specs.Ordering.{nat_cmp}
+use Rattle.std.proofs.lemmas.Bool.{and_from, and_parts, cond-true, eqb-true, eq-eqb}
+use Rattle.std.proofs.lemmas.Option.{same_Some}
+use Rattle.olr_spec.specs.Coordinates.{Coord}
+use Rattle.olr_spec.specs.Map.{Map, IsMap, Line, has_node, has_line, line_at}
+use Rattle.olr_map.specs.SlotIndexes.{pairs_of, slot_by, spare_of}
+use Rattle.olr_map.specs.Slotted.{at}
+use Rattle.olr_map.specs.SlotMaps.{held, things_of, all_held, spare_numbers}
+use Rattle.olr_map.specs.HavingSlots.{in_slot}
+use Rattle.olr_map.specs.Columns.{node_slots, node_room}
+use Rattle.olr_map.specs.NodeLinks.{links_at}
+use Rattle.olr_map.specs.Linked.{spare_links, IsRoomier}
+use Rattle.olr_map.specs.Tables.{far, node_in, links_in, map_from, node_slot, IsListed, IsIndexed, AreTables}
+use Rattle.olr_map.specs.Changes.{Room, tables_map, room_of, spare_at, IsRoomWithin, IsReserved}
+use Rattle.olr_map.specs.declared.blocks.Blocks.{Blocks}
+use Rattle.olr_map.specs.declared.links.Links.{Links}
+use Rattle.olr_map.specs.declared.slots.NodeSlots.{NodeSlots}
+use Rattle.olr_map.specs.declared.slots.Side.{Side}
+use Rattle.olr_map.specs.declared.slots.Side.TheVariants.{Out, In}
+use Rattle.olr_map.specs.declared.slot_map.SlotMap.{SlotMap}
+use Rattle.olr_map.specs.declared.road_map.RoadMap.{RoadMap}
+use Rattle.olr_map.proofs.ColumnLemmas.{few_nodes}
+use Rattle.olr_map.proofs.Insertions.{same_answers}
+use Rattle.olr_map.proofs.Lookups.{all_get}
+use Rattle.olr_map.proofs.Blocking.{listed_found}
+use Rattle.olr_map.proofs.SlotMapLemmas.{held_get}
+use Rattle.olr_map.proofs.Indexing.{id_of, place_of, one_node, same_side, Relisted}
+use Rattle.olr_map.proofs.Listing.{replaced}
+use Rattle.olr_map.proofs.Reading.{got_node, got_line, kept_from, node_missing}
+
+-- ---- empty tables
+
+empty_map_sound : (M : Map) → ((v : ℕ) → has_node M v ≡ false) → ((x : ℕ) → has_line M x ≡ false) → IsMap M
+empty_map_sound M no_node no_line =
+    record {
+      good = λ x h. never (has_line M x) (no_line x) h;
+      starts = λ x h. never (has_line M x) (no_line x) h;
+      ends = λ x h. never (has_line M x) (no_line x) h;
+      places = λ v h. never (has_node M v) (no_node v) h;
+      shapes = λ x h. never (has_line M x) (no_line x) h;
+    } where
+      never : {A : Type 0} (b : Bool) → b ≡ false → b ≡ true → A
+      never true e h = absurd cc
+      never false e h = absurd cc
+
+pub kept_none : (b : Blocks) (s : NodeSlots) (ls : SlotMap Line) → pairs_of b ≡ [] → node_slots s ≡ [] →
+    things_of ls ≡ [] → AreTables b (node_slots s) (all_held ls)
+kept_none b s ls no_nodes no_slots no_lines =
+    let none : (v : ℕ) → slot_by b v ≡ None = λ v. sym (listed_found b v) ∙ ap (lookup (λ q. v == q)) no_nodes in
+    let free : (p : ℕ) → at (node_slots s) p ≡ None = λ p. ap (λ es. at es p) no_slots in
+    let indexed : IsIndexed b (node_slots s) =
+    record {
+      filled = λ v p h. let x : ◌≡◌ {A = Option ℕ} None (Some p) = sym (none v) ∙ h in absurd (no_some p x);
+      named = λ v p h. let x : ◌≡◌ {A = Option ℕ} None (Some v) =
+          ap (option_map id_of) (sym (free p)) ∙ h in absurd (no_some v x);
+    } in
+    kept_from b (node_slots s) (all_held ls) indexed (few_nodes s)
+    (empty_map_sound (map_from b (node_slots s) (all_held ls))
+    (λ v. node_missing b (node_slots s) indexed (all_held ls) v (none v))
+    (λ x. ap (λ o. is_some o) (all_get (things_of ls) x ∙ ap (lookup (λ q. x == q)) no_lines)))
+    (λ side v l h. let x : ◌≡◌ {A = Option Links} None (Some l) =
+    ap (λ o. option_map (links_at side) (in_slot (node_slots s) o)) (sym (none v)) ∙ h in absurd (no_some l x)) where
+      no_some : {A : Type 0} (x : A) → ◌≡◌ {A = Option A} None (Some x) → ⊥
+      no_some x h = cc
+
+-- ---- at least as much capacity
+
+pub within_same : (R : Room) → IsRoomWithin R R
+within_same R = record { nodes = omega arith; outs = λ v. omega arith; ins = λ v. omega arith }
+
+pub within_trans : (R S T : Room) → IsRoomWithin R S → IsRoomWithin S T → IsRoomWithin R T
+within_trans R S T a b =
+    let n = a.nodes in let m = b.nodes in
+    record {
+      nodes = omega arith;
+      outs = λ v. let p = a.outs v in let q = b.outs v in omega arith;
+      ins = λ v. let p = a.ins v in let q = b.ins v in omega arith;
+    }
+
+pub reserved_trans : (s t u : RoadMap) → IsReserved s t → IsReserved t u → IsReserved s u
+reserved_trans s t u a b =
+    let nodes = a.nodes in
+    let lines = a.lines in
+    let more_nodes = b.nodes in
+    let more_lines = b.lines in
+    record {
+      map = b.map ∙ a.map;
+      more = within_trans (room_of s) (room_of t) (room_of u) a.more b.more;
+      nodes = omega arith;
+      lines = omega arith;
+      slots = λ v. b.slots v ∙ a.slots v;
+    }
+
+-- ---- more capacity for numbers
+
+module _ (t : RoadMap) (b' : Blocks) (same : (k : ℕ) → slot_by b' k ≡ slot_by t.index k) where
+  index_indexed : IsIndexed b' (node_slots t.nodes)
+  index_indexed =
+      record {
+        filled = λ v p h. t.kept.indexed.filled v p (sym (same v) ∙ h);
+        named = λ v p h. same v
+            ∙ t.kept.indexed.named v p h;
+      }
+
+  index_node : (v : ℕ) → node_in b' (node_slots t.nodes) v ≡ node_in t.index (node_slots t.nodes) v
+  index_node v = ap (in_slot (node_slots t.nodes)) (same v)
+
+  index_map : map_from b' (node_slots t.nodes) (all_held t.lines) ≡ tables_map t
+  index_map = ap (λ (ns : FinMap nat_cmp Coord). record (tables_map t) { nodes = ns }) (same_answers _ _ (λ k.
+      got_node b' (node_slots t.nodes) index_indexed (all_held t.lines) k ∙ ap (option_map place_of) (index_node k)
+      ∙ sym (got_node t.index (node_slots t.nodes) t.kept.indexed (all_held t.lines) k)))
+
+  pub index_kept : AreTables b' (node_slots t.nodes) (all_held t.lines)
+  index_kept =
+      kept_from b' (node_slots t.nodes) (all_held t.lines) index_indexed (few_nodes t.nodes)
+      (subst IsMap (sym index_map) t.kept.sound)
+      (λ side v l h.
+      replaced side (tables_map t) (map_from b' (node_slots t.nodes) (all_held t.lines)).nodes (node_slot t.index)
+      (node_slot b') v l
+      (λ y there. ap (λ o. unwrap_or o 0) (sym (same (far side (line_at (tables_map t) y)))))
+      (t.kept.listed side v l (ap (option_map (links_at side)) (sym (index_node v)) ∙ h)))
+
+  pub index_reserved : (kept' : AreTables b' (node_slots t.nodes) (all_held t.lines)) → spare_of t.index ≤ spare_of b' →
+      IsReserved t (record { index = b'; nodes = t.nodes; lines = t.lines; kept = kept' })
+  index_reserved kept' le =
+      let stays : (side : Side) (v : ℕ) → spare_at side t v
+      ≤ option_map_or (λ l. spare_links l) (links_in side b' (node_slots t.nodes) v) 0 =
+      λ side v.
+      let is = ap (λ o. option_map_or (λ l. spare_links l) (option_map (links_at side) o) 0) (index_node v) in
+      omega arith in
+      record {
+        map = index_map;
+        more = record { nodes = omega arith; outs = stays Out; ins = stays In };
+        nodes = le;
+        lines = omega arith;
+        slots = same;
+      }
+
+module _ (t : RoadMap) (ls' : SlotMap Line) (same : (k : ℕ) → held ls' k ≡ held t.lines k) where
+  same_lines : all_held ls' ≡ all_held t.lines
+  same_lines = same_answers _ _ (λ k. held_get ls' k ∙ same k ∙ sym (got_line t k))
+
+  pub lines_kept : AreTables t.index (node_slots t.nodes) (all_held ls')
+  lines_kept = subst (λ (F : FinMap nat_cmp Line). AreTables t.index (node_slots t.nodes) F) (sym same_lines) t.kept
+
+  pub lines_reserved : (kept' : AreTables t.index (node_slots t.nodes) (all_held ls')) →
+      spare_numbers t.lines ≤ spare_numbers ls' →
+      IsReserved t (record { index = t.index; nodes = t.nodes; lines = ls'; kept = kept' })
+  lines_reserved kept' le =
+      record {
+        map = ap (λ (F : FinMap nat_cmp Line). record (tables_map t) { lines = F }) same_lines;
+        more = within_same (room_of t);
+        nodes = omega arith;
+        lines = le;
+        slots = λ v. refl;
+      }
+
+-- ---- more capacity for a node's lines
+
+side_is : (s side : Side) → same_side s side ≡ true → s ≡ side
+side_is Out Out h = refl
+side_is Out In h = absurd cc
+side_is In Out h = absurd cc
+side_is In In h = refl
+
+itself : (side : Side) → same_side side side ≡ true
+itself Out = refl
+itself In = refl
+
+module _ (t : RoadMap) (nodes' : NodeSlots) (side : Side) (v : ℕ) (old new : Links)
+    (r : Relisted t.index (node_slots t.nodes) (node_slots nodes') side v old new) (more : IsRoomier old new) where
+  roomier_map : map_from t.index (node_slots nodes') (all_held t.lines) ≡ tables_map t
+  roomier_map = ap (λ (ns : FinMap nat_cmp Coord). record (tables_map t) { nodes = ns }) (same_answers _ _ (λ k.
+      got_node t.index (node_slots nodes') r.indexed (all_held t.lines) k ∙ r.places k
+      ∙ sym (got_node t.index (node_slots t.nodes) t.kept.indexed (all_held t.lines) k)))
+
+  -- each list of lines was one with the same lines, and at most the capacity
+  roomier_links : (s : Side) (k : ℕ) (h : Links) → links_in s t.index (node_slots nodes') k ≡ Some h → (m : Links)
+      × (links_in s t.index (node_slots t.nodes) k ≡ Some m) × IsRoomier m h
+  roomier_links s k h is =
+      elim (same_side s side && (v == k)) as (λ c. (same_side s side && (v == k)) ≡ c →
+      cond c (Some new) (links_in s t.index (node_slots t.nodes) k) ≡ Some h → (m : Links)
+      × (links_in s t.index (node_slots t.nodes) k ≡ Some m) × IsRoomier m h) [
+        | true ↦ λ i j.
+            let both = and_parts (same_side s side) (v == k) i in (
+              old,
+              ap (λ n. links_in s t.index (node_slots t.nodes) n) (sym (eqb-true v k both.1))
+                  ∙ ap (λ z. links_in z t.index (node_slots t.nodes) v) (side_is s side both.0) ∙ r.was,
+              subst (IsRoomier old) (same_Some _ _ j) more,
+            )
+        | false ↦ λ i j. (h, j, record { lines = refl; ends = refl; spare = omega arith })
+      ] refl (sym (r.now s k) ∙ is)
+
+  pub roomier_kept : AreTables t.index (node_slots nodes') (all_held t.lines)
+  roomier_kept =
+      kept_from t.index (node_slots nodes') (all_held t.lines) r.indexed (few_nodes nodes')
+      (subst IsMap (sym roomier_map) t.kept.sound)
+      (λ s k h is.
+      let m = roomier_links s k h is in
+      let before = t.kept.listed s k m.0 m.1 in
+      subst (λ (K : Map). IsListed s K (node_slot t.index) k h) (sym roomier_map)
+      (record { numbers = m.2.lines ∙ before.numbers; ends = m.2.ends ∙ before.ends }))
+
+  pub roomier_reserved : (kept' : AreTables t.index (node_slots nodes') (all_held t.lines)) →
+      node_room nodes' ≡ node_room t.nodes →
+      IsReserved t (record { index = t.index; nodes = nodes'; lines = t.lines; kept = kept' })
+  roomier_reserved kept' room =
+      record {
+        map = roomier_map;
+        more = record { nodes = omega arith; outs = stays Out; ins = stays In };
+        nodes = omega arith;
+        lines = omega arith;
+        slots = λ u. refl;
+      } where
+        stays : (s : Side) (k : ℕ) → option_map_or (λ l. spare_links l) (links_in s t.index (node_slots t.nodes) k) 0
+            ≤ option_map_or (λ l. spare_links l) (links_in s t.index (node_slots nodes') k) 0
+        stays s k = step (links_in s t.index (node_slots nodes') k) refl where
+          step : (o : Option Links) → links_in s t.index (node_slots nodes') k ≡ o →
+              option_map_or (λ l. spare_links l) (links_in s t.index (node_slots t.nodes) k) 0
+              ≤ option_map_or (λ l. spare_links l) o 0
+          step (Some h) e =
+              let m = roomier_links s k h e in
+              let le = m.2.spare in
+              let is = ap (λ o. option_map_or (λ l. spare_links l) o 0) m.1 in
+              omega arith
+          step None e =
+              elim (same_side s side && (v == k)) as (λ c.
+              cond c (Some new) (links_in s t.index (node_slots t.nodes) k) ≡ None →
+              option_map_or (λ l. spare_links l) (links_in s t.index (node_slots t.nodes) k) 0 ≤ 0) [
+                | true ↦ λ j. absurd cc
+                | false ↦ λ j. let is = ap (λ o. option_map_or (λ l. spare_links l) o 0) j in omega arith
+              ] (sym (r.now s k) ∙ e)
+
+  -- the node in this slot has capacity
+  pub roomier_here : (p u : ℕ) → slot_by t.index v ≡ Some p → slot_by t.index u ≡ Some p → 0 < spare_links new →
+      0 < option_map_or (λ l. spare_links l) (links_in side t.index (node_slots nodes') u) 0
+  roomier_here p u here there lt =
+      let one = one_node t.index (node_slots t.nodes) t.kept.indexed v u p here there in
+      let is = ap (λ o. option_map_or (λ l. spare_links l) o 0) (r.now side u
+      ∙ cond-true (same_side side side && (v == u)) (Some new) _
+      (and_from (same_side side side) (v == u) (itself side) (eq-eqb v u one))) in
+      omega arith

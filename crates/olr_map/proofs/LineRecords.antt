@@ -1,0 +1,61 @@
+-- Lines that pass a test, and the records of the lines of a map.
+use Rattle.std.proofs.Common.{◌≡◌, ◌==◌, ℕ, Bool, true, false, cond, List, [], ◌∷◌, Option, Some, None, unwrap_or}
+use Rattle.std.proofs.Common.{refl, sym, ap, ◌∙◌, subst, nat_cmp, ◌||◌}
+use Rattle.std.specs.List.{list_any}
+use Rattle.std.specs.Ordering.{eq_by_cmp}
+use Rattle.std.specs.FinMap.{get, entries, get-entries}
+use Rattle.std.specs.FinMap.Entries.{find}
+use Rattle.std.proofs.lemmas.Bool.{ne_eqb, or_left, or_right, false_from_ne_true}
+use Rattle.olr_spec.specs.Map.{Map, IsMap, Line, has_node, line_at, no_line}
+use Rattle.olr_spec.proofs.MapLemmas.{has-lines_where, passes_at}
+use Rattle.olr_spec.proofs.UndoLemmas.{any_has}
+use Rattle.olr_spec.proofs.OptionLemmas.{is_some_of}
+
+-- ---- lines that pass a test
+
+any_found : (test : Line → Bool) (x : ℕ) (l : Line) (es : List (ℕ × Line)) → find nat_cmp x es ≡ Some l →
+    test l ≡ true → list_any (λ e. test e.1) es ≡ true
+any_found test x l [] e h = absurd cc
+any_found test x l (f ∷ es) e h =
+    elim (eq_by_cmp nat_cmp x f.0) as (λ b. cond b (Some f.1) (find nat_cmp x es) ≡ Some l →
+    (test f.1 || list_any (λ e. test e.1) es) ≡ true) [
+      | true ↦ λ g. let is : f.1 ≡ l = cc in or_left _ _ (ap test is ∙ h)
+      | false ↦ λ g. or_right _ _ (any_found test x l es g h)
+    ] e
+
+pub used_by : (M : Map) (test : Line → Bool) (x : ℕ) (l : Line) → get M.lines x ≡ Some l → test l ≡ true →
+    list_any (λ e. test e.1) (entries M.lines) ≡ true
+used_by M test x l e h = any_found test x l (entries M.lines) (sym (get-entries M.lines x) ∙ e) h
+
+pub none_passes : (test : Line → Bool) (o : Option Line) → ((l : Line) → o ≡ Some l → test l ≡ false) →
+    passes_at test o ≡ false
+none_passes test None h = refl
+none_passes test (Some l) h = h l refl
+
+pub unused_by : (M : Map) (test : Line → Bool) → ((x : ℕ) (l : Line) → get M.lines x ≡ Some l → test l ≡ false) →
+    list_any (λ e. test e.1) (entries M.lines) ≡ false
+unused_by M test h =
+    false_from_ne_true _ (λ t.
+    let p = any_has test (entries M.lines) t in
+    let yes : passes_at test (get M.lines p.0) ≡ true = sym (has-lines_where M test p.0) ∙ p.1 in
+    let no : passes_at test (get M.lines p.0) ≡ false = none_passes test (get M.lines p.0) (h p.0) in
+    cc)
+
+-- ---- lines of a sound map
+
+-- the record of a line of the map
+pub record_of : (M : Map) (x : ℕ) (l : Line) → get M.lines x ≡ Some l → line_at M x ≡ l
+record_of M x l e = ap (λ (o : Option Line). unwrap_or o no_line) e
+
+-- both ends of a line are on the map
+pub line_starts : (M : Map) → IsMap M → (x : ℕ) (l : Line) → get M.lines x ≡ Some l → has_node M l.from ≡ true
+line_starts M sound x l e =
+    subst (λ (k : Line). has_node M k.from ≡ true) (record_of M x l e) (sound.starts x (is_some_of (get M.lines x) l e))
+
+pub line_ends : (M : Map) → IsMap M → (x : ℕ) (l : Line) → get M.lines x ≡ Some l → has_node M l.to ≡ true
+line_ends M sound x l e =
+    subst (λ (k : Line). has_node M k.to ≡ true) (record_of M x l e) (sound.ends x (is_some_of (get M.lines x) l e))
+
+-- a node of the map is not an absent node
+pub other_node : (M : Map) (u v : ℕ) → has_node M u ≡ true → has_node M v ≡ false → (u == v) ≡ false
+other_node M u v a b = ne_eqb u v (λ e. let same : has_node M u ≡ has_node M v = ap (has_node M) e in cc)

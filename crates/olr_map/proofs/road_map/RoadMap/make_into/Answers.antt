@@ -1,0 +1,74 @@
+use Rattle.std.proofs.Common.{◌≡◌, ◌+◌, ◌≤◌, ◌∷◌, List, ◌∙◌, ap, sym, subst, arith}
+use Rattle.olr_map.specs.SlotIndexes.{spare_of}
+use Rattle.olr_map.specs.Edits.{edit_of}
+use Rattle.olr_map.specs.Changes.{tables_map, room_of, node_numbers, line_numbers, node_puts, line_puts}
+use Rattle.olr_map.specs.Undos.{CanMakeAll, log_changes}
+use Rattle.olr_map.specs.declared.change.TableChange.{TableChange}
+use Rattle.olr_map.proofs.Capacity.{within_trans}
+use Rattle.olr_map.proofs.Log.{done_by, one_more, all_on}
+use Rattle.olr_map.proofs.SlotsStay.{slots_reserved}
+use Rattle.olr_map.proofs.Verdicts.{plan_slots}
+use Rattle.olr_map.specs.SlotMaps.{spare_numbers}
+use Rattle.olr_map.proofs.road_map.RoadMap.make_into.Goals as goal
+
+pub make_room-requires-clause-slots : goal.make_room-requires-clause-slots
+make_room-requires-clause-slots c =
+    plan_slots c.args.self.now (edit_of c.args.edit) c.args.plan.now c.requires.plan
+
+pub make_change-back-requires-clause-slots : goal.make_change-back-requires-clause-slots
+make_change-back-requires-clause-slots c =
+    slots_reserved c.args.self.now c.make_room.new.self c.args.plan.now.slots (edit_of c.args.edit)
+    c.change_for-change.result c.make_room.ensures.same c.change_for-change.ensures.same
+    (plan_slots c.args.self.now (edit_of c.args.edit) c.args.plan.now c.requires.plan)
+
+pub returns-clause-done : goal.returns-clause-done
+returns-clause-done c =
+    done_by (tables_map c.args.self.now) (tables_map c.make_room.new.self) _ (edit_of c.args.edit)
+    c.change_for-change.result c.change_for-change.ensures.same c.make_room.ensures.same.map
+    c.requires.plan.accepted c.make_change-back.ensures.made.map
+
+pub returns-clause-can_undo : goal.returns-clause-can_undo
+returns-clause-can_undo c =
+    let old = c.args.self.now in
+    let mid = c.make_room.new.self in
+    let new = c.make_change-back.new.self in
+    let back = c.make_change-back.result in
+    let made = c.make_change-back.ensures.made in
+    let order = c.push.ensures.more ∙ ap (λ (cs : List TableChange). back ∷ cs) c.reserve.ensures.same in
+    let all =
+    subst (λ (cs : List TableChange). CanMakeAll (tables_map new) (room_of new) cs) (sym order)
+    (one_more (tables_map old) (tables_map new) (room_of old) (room_of new) back (log_changes c.args.log.now)
+    c.requires.log.0 made.can_back
+    (made.before ∙ c.make_room.ensures.same.map)
+    (within_trans (room_of old) (room_of mid) _ c.make_room.ensures.same.more made.room_before)) in
+    let nodes : c.reserve.new.self.nodes + node_numbers (edit_of c.args.edit) ≤ spare_of mid.index =
+    c.in_ok-make_room.ensures.numbers.nodes in
+    let lines : c.reserve.new.self.lines + line_numbers (edit_of c.args.edit) ≤ spare_numbers mid.lines =
+    c.in_ok-make_room.ensures.numbers.lines in
+    let nodes_put : node_puts c.change_for-change.result + node_puts back ≡ node_numbers (edit_of c.args.edit) =
+    c.make_change-back.ensures.nodes ∙ ap (λ e. node_numbers e) c.change_for-change.ensures.same in
+    let lines_put : line_puts c.change_for-change.result + line_puts back ≡ line_numbers (edit_of c.args.edit) =
+    c.make_change-back.ensures.lines ∙ ap (λ e. line_numbers e) c.change_for-change.ensures.same in
+    let nodes_left : spare_of mid.index ≤ spare_of new.index + node_puts c.change_for-change.result =
+    made.node_numbers in
+    let lines_left : spare_numbers mid.lines ≤ spare_numbers new.lines + line_puts c.change_for-change.result =
+    made.line_numbers in
+    let nodes_new = c.push.ensures.nodes in
+    let lines_new = c.push.ensures.lines in
+    (all, record { nodes = omega arith; lines = omega arith })
+
+pub returns-in_err-make_room-clause-can_undo : goal.returns-in_err-make_room-clause-can_undo
+returns-in_err-make_room-clause-can_undo c =
+    let old = c.args.self.now in
+    let mid = c.make_room.new.self in
+    let nodes = c.make_room.ensures.same.nodes in
+    let lines = c.make_room.ensures.same.lines in
+    let old_nodes = c.requires.log.1.nodes in
+    let old_lines = c.requires.log.1.lines in
+    let log_nodes = c.reserve.ensures.nodes in
+    let log_lines = c.reserve.ensures.lines in (
+      subst (λ (cs : List TableChange). CanMakeAll (tables_map mid) (room_of mid) cs) (sym c.reserve.ensures.same)
+          (all_on (tables_map old) (tables_map mid) (room_of old) (room_of mid) (log_changes c.args.log.now)
+          c.make_room.ensures.same.map c.make_room.ensures.same.more c.requires.log.0),
+      record { nodes = omega arith; lines = omega arith },
+    )

@@ -1,0 +1,9 @@
+use Rattle.olr_map.proofs.Capacity.{index_kept, index_reserved}
+use Rattle.olr_map.proofs.road_map.RoadMap.reserve_nodes.Goals as goal
+
+pub invariant_of-self : goal.invariant_of-self
+invariant_of-self c = record { kept = index_kept c.args.self.now c.reserve.new.self c.reserve.ensures.same }
+
+pub returns-in-Some-clause-same : goal.returns-in-Some-clause-same
+returns-in-Some-clause-same c =
+    index_reserved c.args.self.now c.reserve.new.self c.reserve.ensures.same _ c.reserve.ensures.more

@@ -1,0 +1,43 @@
+use Rattle.std.proofs.Common.{is_some, ap, ◌∙◌}
+use Rattle.olr_map.specs.SlotIndexes.{slot_by}
+use Rattle.olr_map.specs.declared.slots.Side.TheVariants.{Out, In}
+use Rattle.olr_map.proofs.Reading.{filled_in}
+use Rattle.olr_map.proofs.NodeChanges.{slot_taken, take_node_kept, taken_empty, take_node_made}
+use Rattle.olr_map.proofs.road_map.RoadMap.take_node.Goals as goal
+
+pub take-slot-requires : goal.take-slot-requires
+take-slot-requires c =
+    let t = c.args.self.now in
+    let s = slot_taken t c.args.id c.requires in
+    ap (λ o. is_some o) (ap (slot_by t.index) c.number.ensures.same ∙ s.1)
+
+pub take-entry-requires : goal.take-entry-requires
+take-entry-requires c = filled_in c.args.self.now _ c.take-slot.result c.take-slot.ensures.was
+
+pub into_empty-outs-requires : goal.into_empty-outs-requires
+into_empty-outs-requires c =
+    taken_empty c.args.self.now c.take-slot.new.self c.take-entry.new.self c.take-slot.result _ c.args.id
+    c.take-entry.result c.take-entry.ensures.removes c.number.ensures.same c.take-slot.ensures.was
+    c.take-slot.ensures.taken c.requires Out
+
+pub into_empty-ins-requires : goal.into_empty-ins-requires
+into_empty-ins-requires c =
+    taken_empty c.args.self.now c.take-slot.new.self c.take-entry.new.self c.take-slot.result _ c.args.id
+    c.take-entry.result c.take-entry.ensures.removes c.number.ensures.same c.take-slot.ensures.was
+    c.take-slot.ensures.taken c.requires In
+
+pub invariant_of-self : goal.invariant_of-self
+invariant_of-self c =
+    record {
+      kept = take_node_kept c.args.self.now c.take-slot.new.self c.take-entry.new.self c.take-slot.result _ c.args.id
+          c.take-entry.result c.take-entry.ensures.removes c.number.ensures.same c.take-slot.ensures.was
+          c.take-slot.ensures.taken c.requires;
+    }
+
+pub returns-clause-made : goal.returns-clause-made
+returns-clause-made c =
+    take_node_made c.args.self.now c.take-slot.new.self c.take-entry.new.self c.take-slot.result _ c.args.id
+    c.take-entry.result c.take-entry.ensures.removes c.number.ensures.same c.take-slot.ensures.was
+    c.take-slot.ensures.taken c.requires _ c.take-entry.ensures.room c.take-slot.ensures.spare _ _
+    c.into_empty-outs.ensures.lines c.into_empty-ins.ensures.lines c.into_empty-outs.ensures.room
+    c.into_empty-ins.ensures.room

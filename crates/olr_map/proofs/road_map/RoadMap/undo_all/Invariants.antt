@@ -1,0 +1,20 @@
+use Rattle.std.proofs.Common.{◌≡◌, ◌≤◌, reverse, vec_len}
+use Rattle.olr_map.specs.SlotIndexes.{spare_of}
+use Rattle.olr_map.specs.Changes.{tables_map, room_of, all_node_puts, all_line_puts}
+use Rattle.olr_map.specs.Undos.{CanMakeAll, made_all}
+use Rattle.olr_map.specs.SlotMaps.{spare_numbers}
+use Rattle.olr_map.proofs.road_map.RoadMap.undo_all.Given as goal
+
+-- the rest of the log can be undone, and leads to the same map
+abbrev pub invariant-loop-change : goal.invariant-loop-change
+invariant-loop-change l =
+    record {
+      can : CanMakeAll (tables_map l.self) (room_of l.self) (reverse l.changes.items);
+      nodes : all_node_puts (reverse l.changes.items) ≤ spare_of l.self.index;
+      lines : all_line_puts (reverse l.changes.items) ≤ spare_numbers l.self.lines;
+      before : made_all (tables_map l.self) (reverse l.changes.items)
+          ≡ made_all (tables_map l.initial.self) (reverse l.initial.changes.items);
+    }
+
+abbrev pub decreases-loop-change : goal.decreases-loop-change
+decreases-loop-change l = vec_len l.changes
