@@ -1,7 +1,9 @@
 -- The mirror image: a run of degree-two nodes that leads from a list of lines, extended by one line at a time.
 use Rattle.std.proofs.Common.{◌⊎◌, inl, inr, ◌≡◌, ◌≢◌, ℕ, ◌+◌, ◌<◌, ◌≤◌, true, false, ◌==◌, List, [], ◌∷◌, ◌++◌, length}
 use Rattle.std.proofs.Common.{get_or, ◌-◌, suc, IsTrue, refl, sym, ap, ◌∙◌, subst, arith, append_assoc, append-nil}
-use Rattle.std.proofs.Common.{length-append}
+use Rattle.std.proofs.Common.{length-append, Bool, Option, Some, None, MatchOption, is_some}
+use Rattle.std.specs.Prelude.{⊤}
+use Rattle.std.proofs.lemmas.List.{map-append}
 use Rattle.std.proofs.lemmas.Bool.{both_ways, cases_Bool, cases_lt, or_from, or_left}
 use Rattle.std.proofs.lemmas.List.Folds.{list_any-append}
 use Rattle.olr_spec.specs.Map.{Map, has_line, start, end, dm, has}
@@ -12,7 +14,10 @@ use Rattle.olr_spec.proofs.RunMoves.{EndRun-push}
 use Rattle.olr_spec.proofs.DecideLemmas.{last_of_list}
 use Rattle.olr_spec.proofs.ListLemmas.{has_last, has_cases}
 use Rattle.olr_spec.proofs.RouteLemmas.{dm_of-append}
+use Rattle.olr_refs.specs.Beyond.{LiesAfter}
+use Rattle.olr_refs.specs.ResolvedLines.{ResolvedLine, record_of, ids, AreRecords}
 use Rattle.olr_refs.proofs.Before.{not_has_one}
+use Rattle.olr_refs.proofs.Resolving.{records_append}
 
 -- ---- the line after a line
 
@@ -57,7 +62,7 @@ preceded M z x k p =
       fresh = not_has_one x z (λ is. follows_another M z x p.joins p.onward (sym is));
     }
 
-pub one_after : (M : Map) (z x y : ℕ) → IsTrue (has_line M z) → MayFollow M (z ∷ []) x → MayFollow M (z ∷ []) y → x ≡ y
+one_after : (M : Map) (z x y : ℕ) → IsTrue (has_line M z) → MayFollow M (z ∷ []) x → MayFollow M (z ∷ []) y → x ≡ y
 one_after M z x y k p q =
     let same : x ∷ [] ≡ y ∷ [] = same_end_run M (z ∷ []) (x ∷ []) (y ∷ []) k (p, tt) (q, tt) refl in cc
 
@@ -125,14 +130,14 @@ module _ (M : Map) (ls : List ℕ) (some : 0 < length ls) (known : IsTrue (has_l
       ap (λ (zs : List ℕ). has zs x) s.2
       ∙ fresh_behind s.0 s.1 x (subst (λ (zs : List ℕ). EndRun M ls zs) s.2 p) follow
 
-  pub grown_after : (c : List ℕ) (x : ℕ) → EndRun M ls c → MayFollow M (last (ls ++ c) ∷ []) x → has ls x ≡ false →
+  grown_after : (c : List ℕ) (x : ℕ) → EndRun M ls c → MayFollow M (last (ls ++ c) ∷ []) x → has ls x ≡ false →
       EndRun M ls (c ++ x ∷ [])
   grown_after c x p q h =
       EndRun-push M ls c x p
       (follows_all M (ls ++ c) x q (list_any-append (λ y. y == x) ls c ∙ or_from _ _ h (fresh_after c x p q)))
 
   -- a run that no line extends, or none within the limit, is the longest
-  pub stops_after : (c : List ℕ) → EndRun M ls c → dm_of M c ≤ limit →
+  stops_after : (c : List ℕ) → EndRun M ls c → dm_of M c ≤ limit →
       ((x : ℕ) → MayFollow M (last (ls ++ c) ∷ []) x → (has ls x ≡ true) ⊎ (limit < dm_of M c + dm M x)) →
       LongestEnd M ls c
   stops_after c p w stops = record { run = p; within = w; longest = λ d q v. no_longer d q v }
@@ -156,15 +161,26 @@ module _ (M : Map) (ls : List ℕ) (some : 0 < length ls) (known : IsTrue (has_l
             | inr le ↦ let r = end_prefix M ls d c known q p le in omega (arith, ap (dm_of M) r.1, dm_of-append M d r.0)
           ]
 
--- a run c, its last line, or that of the list, and its length
-pub record GrowsAfter (M : Map) (ls c : List ℕ) (back len : ℕ) : Type 0 where
-  pub run : EndRun M ls c
-  pub ends : back ≡ last (ls ++ c)
-  pub long : len ≡ dm_of M c
-  pub within : len ≤ limit
+-- the run so far, its length, and what lies after the list and it
+pub record GrowsAfter (M : Map) (ls : List ℕ) (rs : List ResolvedLine) (len : ℕ) (through : Bool) (line : Option ℕ)
+    : Type 0
+  where
+    pub run : EndRun M ls (ids rs)
+    pub are : AreRecords M rs
+    pub long : len ≡ dm_of M (ids rs)
+    pub within : len ≤ limit
+    pub after : LiesAfter M (last (ls ++ ids rs)) through line
 
-pub nothing_after : (M : Map) (ls : List ℕ) → GrowsAfter M ls [] (last ls) 0
-nothing_after M ls = record { run = tt; ends = ap last (sym (append-nil ls)); long = refl; within = omega arith }
+pub nothing_after : (M : Map) (ls : List ℕ) (through : Bool) (line : Option ℕ) →
+    LiesAfter M (last ls) through line → GrowsAfter M ls [] 0 through line
+nothing_after M ls through line after =
+    record {
+      run = tt;
+      are = refl;
+      long = refl;
+      within = omega arith;
+      after = subst (λ (zs : List ℕ). LiesAfter M (last zs) through line) (sym (append-nil ls)) after;
+    }
 
 -- the last line of a list and a run after it is a line of the map
 end_known : (M : Map) (ls c : List ℕ) → IsTrue (has_line M (last ls)) → EndRun M ls c →
@@ -174,40 +190,61 @@ end_known M ls (y ∷ c) known p =
     subst (λ (zs : List ℕ). IsTrue (has_line M (last zs))) (pushed ls y c)
     (end_known M (ls ++ y ∷ []) c (subst (λ (n : ℕ). IsTrue (has_line M n)) (sym (last_push ls y)) p.0.known) p.1)
 
-module _ (M : Map) (ls : List ℕ) (some : 0 < length ls) (known : IsTrue (has_line M (last ls))) (c : List ℕ)
-    (back len : ℕ) (grows : GrowsAfter M ls c back len) where
-  pub back_known : IsTrue (has_line M back)
-  back_known = subst (λ (n : ℕ). IsTrue (has_line M n)) (sym grows.ends) (end_known M ls c known grows.run)
+-- the line after another one is the one that was found
+found_after : (M : Map) (z : ℕ) (P : ℕ → Type 0) (line : Option ℕ) → IsTrue (has_line M z) →
+    MatchOption line ((x : ℕ) → ¬ MayFollow M (z ∷ []) x) (λ x. MayFollow M (z ∷ []) x) → MatchOption line ⊤ P →
+    (x : ℕ) → MayFollow M (z ∷ []) x → P x
+found_after M z P None known next p x q = absurd (next x q)
+found_after M z P (Some y) known next p x q = subst P (one_after M z y x known next q) p
 
-  pub grows_after : (x : ℕ) → MayFollow M (back ∷ []) x → has ls x ≡ false → len + dm M x ≤ limit →
-      GrowsAfter M ls (c ++ x ∷ []) x (len + dm M x)
-  grows_after x p fresh near =
+module _ (M : Map) (ls : List ℕ) (some : 0 < length ls) (known : IsTrue (has_line M (last ls)))
+    (rs : List ResolvedLine) (len : ℕ) (through : Bool) (line : Option ℕ)
+    (grows : GrowsAfter M ls rs len through line) where
+  pub grows_after : (qs : List ResolvedLine) (n : ℕ) (r : ResolvedLine) (passes : Bool) (next : Option ℕ) →
+      qs ≡ rs ++ r ∷ [] → n ≡ r.len → line ≡ Some r.id → r ≡ record_of M r.id → has ls r.id ≡ false →
+      len + r.len ≤ limit → LiesAfter M r.id passes next → GrowsAfter M ls qs (len + n) passes next
+  grows_after qs n r passes next pushed added is record_is fresh near after =
+      let e = grows.long in
+      let l = ap (λ (s : ResolvedLine). s.len) record_is in
+      let more : ids qs ≡ ids rs ++ r.id ∷ [] =
+      ap ids pushed ∙ map-append (λ (s : ResolvedLine). s.id) rs (r ∷ []) in
       record {
-        run =
-            grown_after M ls some known c x grows.run (subst (λ (n : ℕ). MayFollow M (n ∷ []) x) grows.ends p) fresh;
-        ends = sym (last_pushed ls c x);
-        long = let e = grows.long in omega (arith, dm_of-append M c (x ∷ []));
-        within = near;
+        run = subst (EndRun M ls) (sym more)
+            (grown_after M ls some known (ids rs) r.id grows.run
+            (subst (λ (o : Option ℕ). MatchOption o ((x : ℕ) → ¬ MayFollow M (last (ls ++ ids rs) ∷ []) x)
+            (λ x. MayFollow M (last (ls ++ ids rs) ∷ []) x)) is grows.after.next) fresh);
+        are = subst (AreRecords M) (sym pushed) (records_append M rs (r ∷ []) grows.are (λ i. record_is i ∷ []));
+        long = omega (arith, ap (dm_of M) more, dm_of-append M (ids rs) (r.id ∷ []));
+        within = omega arith;
+        after = subst (λ (z : ℕ). LiesAfter M z passes next)
+            (sym (ap (λ (zs : List ℕ). last (ls ++ zs)) more ∙ last_pushed ls (ids rs) r.id)) after;
       }
 
-  pub longest_after : ((x : ℕ) → MayFollow M (back ∷ []) x → (has ls x ≡ true) ⊎ (limit < len + dm M x)) →
-      LongestEnd M ls c
-  longest_after stops =
+  pub longest_after : (used : List ℕ) → ((x : ℕ) → has used x ≡ has ls x) →
+      MatchOption line ⊤ (λ x. (has used x ≡ true) ⊎ (limit < len + dm M x)) → LongestEnd M ls (ids rs)
+  longest_after used same none =
       let e = grows.long in
       let w = grows.within in
-      stops_after M ls some known c grows.run (omega arith)
-      (λ x p. subst (λ (n : ℕ). (has ls x ≡ true) ⊎ (limit < n + dm M x)) e
-      (stops x (subst (λ (n : ℕ). MayFollow M (n ∷ []) x) (sym grows.ends) p)))
+      stops_after M ls some known (ids rs) grows.run (omega arith)
+      (λ x p. elim (found_after M _ _ line (end_known M ls (ids rs) known grows.run) grows.after.next none x p) [
+        | inl h ↦ inl (sym (same x) ∙ h)
+        | inr far ↦ inr (omega arith)
+      ])
 
 -- if no line follows the list, no run does
-pub none_after : (M : Map) (ls : List ℕ) → 0 < length ls → IsTrue (has_line M (last ls)) →
-    ((x : ℕ) → ¬ MayFollow M (last ls ∷ []) x) → LongestEnd M ls []
-none_after M ls some known none =
-    longest_after M ls some known [] (last ls) 0 (nothing_after M ls) (λ x p. absurd (none x p))
+pub none_after : (M : Map) (ls : List ℕ) (through : Bool) (line : Option ℕ) → 0 < length ls →
+    IsTrue (has_line M (last ls)) → LiesAfter M (last ls) through line → is_some line ≡ false → LongestEnd M ls []
+none_after M ls through None some known after none =
+    longest_after M ls some known [] 0 through None (nothing_after M ls through None after) ls (λ x. refl) tt
+none_after M ls through (Some y) some known after none = absurd cc
 
-pub last_read : (ls : List ℕ) (x : ℕ) → 0 < length ls → x ≡ get_or ls (length ls - 1) x → x ≡ last ls
-last_read [] x h is = absurd (omega arith)
-last_read (y ∷ []) x h is = is
-last_read (y ∷ z ∷ ls) x h is =
-    let one_less : length (y ∷ z ∷ ls) - 1 ≡ suc (length (z ∷ ls) - 1) = omega arith in
-    last_read (z ∷ ls) x (omega arith) (is ∙ ap (λ (k : ℕ). get_or (y ∷ z ∷ ls) k x) one_less)
+-- what lies after the last line, as it was read
+pub after_last : (M : Map) (rs : List ResolvedLine) (r : ResolvedLine) (through : Bool) (line : Option ℕ) →
+    0 < length rs → r ≡ get_or rs (length rs - 1) r → LiesAfter M r.id through line →
+    LiesAfter M (last (ids rs)) through line
+after_last M [] r through line h is after = absurd (omega arith)
+after_last M (s ∷ []) r through line h is after =
+    subst (λ (s : ResolvedLine). LiesAfter M s.id through line) is after
+after_last M (s ∷ t ∷ rs) r through line h is after =
+    let one_less : length (s ∷ t ∷ rs) - 1 ≡ suc (length (t ∷ rs) - 1) = omega arith in
+    after_last M (t ∷ rs) r through line (omega arith) (is ∙ ap (λ (k : ℕ). get_or (s ∷ t ∷ rs) k r) one_less) after

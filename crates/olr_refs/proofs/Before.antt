@@ -1,7 +1,9 @@
 -- A run of degree-two nodes that leads to a list of lines, extended by one line at a time: the line before it is
 -- determined by its first line, and is in the run already only if it is in the list.
 use Rattle.std.proofs.Common.{false, ◌⊎◌, inl, inr, ◌≡◌, ◌≢◌, ℕ, ◌+◌, ◌<◌, ◌≤◌, true, ◌==◌, List, [], ◌∷◌, ◌++◌, length}
-use Rattle.std.proofs.Common.{get_or, IsTrue, refl, sym, ap, ◌∙◌, subst, arith, append_assoc, length-append}
+use Rattle.std.proofs.Common.{Bool, Option, Some, None, MatchOption, is_some, get_or, IsTrue, refl, sym, ap, ◌∙◌}
+use Rattle.std.proofs.Common.{subst, arith, append_assoc, length-append}
+use Rattle.std.specs.Prelude.{⊤}
 use Rattle.std.proofs.lemmas.Bool.{both_ways, cases_Bool, cases_lt, ne_eqb, or_from, or_right}
 use Rattle.std.proofs.lemmas.List.Folds.{list_any-append}
 use Rattle.olr_spec.specs.Map.{Map, has_line, start, end, dm, has}
@@ -11,6 +13,8 @@ use Rattle.olr_spec.proofs.RunLemmas.{same_start_run, same_end_run, StartRun-bac
 use Rattle.olr_spec.proofs.DecideLemmas.{last_of_list}
 use Rattle.olr_spec.proofs.ListLemmas.{has_first, has_there, has_cases}
 use Rattle.olr_spec.proofs.RouteLemmas.{dm_of-append}
+use Rattle.olr_refs.specs.Beyond.{LiesBefore}
+use Rattle.olr_refs.specs.ResolvedLines.{ResolvedLine, record_of, ids, AreRecords}
 
 -- ---- the line before a line
 
@@ -58,7 +62,7 @@ followed M x z k p =
       fresh = not_has_one x z (λ is. precedes_another M x z p.joins p.onward (sym is));
     }
 
-pub one_before : (M : Map) (x y z : ℕ) → IsTrue (has_line M z) → MayPrecede M x (z ∷ []) → MayPrecede M y (z ∷ []) →
+one_before : (M : Map) (x y z : ℕ) → IsTrue (has_line M z) → MayPrecede M x (z ∷ []) → MayPrecede M y (z ∷ []) →
     x ≡ y
 one_before M x y z k p q =
     let same : x ∷ [] ≡ y ∷ [] = same_start_run M (z ∷ []) (x ∷ []) (y ∷ []) k (p, tt) (q, tt) refl in cc
@@ -102,13 +106,13 @@ module _ (M : Map) (ls : List ℕ) (some : 0 < length ls) (known : IsTrue (has_l
         | inr none ↦ none
       ]
 
-  pub grown_before : (c : List ℕ) (x : ℕ) → StartRun M c ls → MayPrecede M x (first (c ++ ls) ∷ []) →
+  grown_before : (c : List ℕ) (x : ℕ) → StartRun M c ls → MayPrecede M x (first (c ++ ls) ∷ []) →
       has ls x ≡ false → StartRun M (x ∷ c) ls
   grown_before c x p q h =
       (precedes_all M x (c ++ ls) q (list_any-append (λ y. y == x) c ls ∙ or_from _ _ (fresh_before c x p q) h), p)
 
   -- a run that no line extends, or none within the limit, is the longest
-  pub stops_before : (c : List ℕ) → StartRun M c ls → dm_of M c ≤ limit →
+  stops_before : (c : List ℕ) → StartRun M c ls → dm_of M c ≤ limit →
       ((x : ℕ) → MayPrecede M x (first (c ++ ls) ∷ []) → (has ls x ≡ true) ⊎ (limit < dm_of M c + dm M x)) →
       LongestStart M c ls
   stops_before c p w stops = record { run = p; within = w; longest = λ d q v. no_longer d q v }
@@ -134,48 +138,70 @@ module _ (M : Map) (ls : List ℕ) (some : 0 < length ls) (known : IsTrue (has_l
                 start_suffix M ls d c known q p le in omega (arith, ap (dm_of M) r.1, dm_of-append M r.0 d)
           ]
 
--- a run c, its first line, or that of the list, and its length
-pub record GrowsBefore (M : Map) (ls c : List ℕ) (front len : ℕ) : Type 0 where
-  pub run : StartRun M c ls
-  pub begins : front ≡ first (c ++ ls)
-  pub long : len ≡ dm_of M c
-  pub within : len ≤ limit
+-- the run so far, its length, and what lies before it and the list
+pub record GrowsBefore (M : Map) (ls : List ℕ) (rs : List ResolvedLine) (len : ℕ) (through : Bool) (line : Option ℕ)
+    : Type 0
+  where
+    pub run : StartRun M (ids rs) ls
+    pub are : AreRecords M rs
+    pub long : len ≡ dm_of M (ids rs)
+    pub within : len ≤ limit
+    pub before : LiesBefore M (first (ids rs ++ ls)) through line
 
-pub nothing_before : (M : Map) (ls : List ℕ) → GrowsBefore M ls [] (first ls) 0
-nothing_before M ls = record { run = tt; begins = refl; long = refl; within = omega arith }
+pub nothing_before : (M : Map) (ls : List ℕ) (through : Bool) (line : Option ℕ) →
+    LiesBefore M (first ls) through line → GrowsBefore M ls [] 0 through line
+nothing_before M ls through line before =
+    record { run = tt; are = refl; long = refl; within = omega arith; before = before }
 
-module _ (M : Map) (ls : List ℕ) (some : 0 < length ls) (known : IsTrue (has_line M (first ls))) (c : List ℕ)
-    (front len : ℕ) (grows : GrowsBefore M ls c front len) where
-  pub front_known : IsTrue (has_line M front)
-  front_known = subst (λ (n : ℕ). IsTrue (has_line M n)) (sym grows.begins) (first_known M c ls grows.run known)
+-- the line before another one is the one that was found
+found_before : (M : Map) (z : ℕ) (P : ℕ → Type 0) (line : Option ℕ) → IsTrue (has_line M z) →
+    MatchOption line ((x : ℕ) → ¬ MayPrecede M x (z ∷ [])) (λ x. MayPrecede M x (z ∷ [])) → MatchOption line ⊤ P →
+    (x : ℕ) → MayPrecede M x (z ∷ []) → P x
+found_before M z P None known next p x q = absurd (next x q)
+found_before M z P (Some y) known next p x q = subst P (one_before M y x z known next q) p
 
-  pub grows_before : (x : ℕ) → MayPrecede M x (front ∷ []) → has ls x ≡ false → len + dm M x ≤ limit →
-      GrowsBefore M ls (x ∷ c) x (len + dm M x)
-  grows_before x p fresh near =
-      record {
+module _ (M : Map) (ls : List ℕ) (some : 0 < length ls) (known : IsTrue (has_line M (first ls)))
+    (rs : List ResolvedLine) (len : ℕ) (through : Bool) (line : Option ℕ)
+    (grows : GrowsBefore M ls rs len through line) where
+  pub grows_before : (qs : List ResolvedLine) (n : ℕ) (r : ResolvedLine) (passes : Bool) (next : Option ℕ) →
+      qs ≡ r ∷ rs → n ≡ r.len → line ≡ Some r.id → r ≡ record_of M r.id → has ls r.id ≡ false → len + r.len ≤ limit →
+      LiesBefore M r.id passes next → GrowsBefore M ls qs (len + n) passes next
+  grows_before qs n r passes next pushed added is record_is fresh near before =
+      let e = grows.long in
+      let l = ap (λ (s : ResolvedLine). s.len) record_is in
+      subst (λ (xs : List ResolvedLine). GrowsBefore M ls xs (len + n) passes next) (sym pushed) (record {
         run =
-            grown_before M ls some known c x grows.run (subst (λ (n : ℕ). MayPrecede M x (n ∷ [])) grows.begins p)
-            fresh;
-        begins = refl;
-        long = let e = grows.long in omega arith;
-        within = near;
-      }
+            grown_before M ls some known (ids rs) r.id grows.run
+            (subst (λ (o : Option ℕ). MatchOption o ((x : ℕ) → ¬ MayPrecede M x (first (ids rs ++ ls) ∷ []))
+            (λ x. MayPrecede M x (first (ids rs ++ ls) ∷ []))) is grows.before.next) fresh;
+        are = λ i. record_is i ∷ grows.are i;
+        long = omega arith;
+        within = omega arith;
+        before = before;
+      })
 
-  pub longest_before : ((x : ℕ) → MayPrecede M x (front ∷ []) → (has ls x ≡ true) ⊎ (limit < len + dm M x)) →
-      LongestStart M c ls
-  longest_before stops =
+  pub longest_before : (used : List ℕ) → ((x : ℕ) → has used x ≡ has ls x) →
+      MatchOption line ⊤ (λ x. (has used x ≡ true) ⊎ (limit < len + dm M x)) → LongestStart M (ids rs) ls
+  longest_before used same none =
       let e = grows.long in
       let w = grows.within in
-      stops_before M ls some known c grows.run (omega arith)
-      (λ x p. subst (λ (n : ℕ). (has ls x ≡ true) ⊎ (limit < n + dm M x)) e
-      (stops x (subst (λ (n : ℕ). MayPrecede M x (n ∷ [])) (sym grows.begins) p)))
+      stops_before M ls some known (ids rs) grows.run (omega arith)
+      (λ x p. elim (found_before M _ _ line (first_known M (ids rs) ls grows.run known) grows.before.next none x p) [
+        | inl h ↦ inl (sym (same x) ∙ h)
+        | inr far ↦ inr (omega arith)
+      ])
 
 -- if no line precedes the list, no run does
-pub none_before : (M : Map) (ls : List ℕ) → 0 < length ls → IsTrue (has_line M (first ls)) →
-    ((x : ℕ) → ¬ MayPrecede M x (first ls ∷ [])) → LongestStart M [] ls
-none_before M ls some known none =
-    longest_before M ls some known [] (first ls) 0 (nothing_before M ls) (λ x p. absurd (none x p))
+pub none_before : (M : Map) (ls : List ℕ) (through : Bool) (line : Option ℕ) → 0 < length ls →
+    IsTrue (has_line M (first ls)) → LiesBefore M (first ls) through line → is_some line ≡ false →
+    LongestStart M [] ls
+none_before M ls through None some known before none =
+    longest_before M ls some known [] 0 through None (nothing_before M ls through None before) ls (λ x. refl) tt
+none_before M ls through (Some y) some known before none = absurd cc
 
-pub first_read : (ls : List ℕ) (x : ℕ) → 0 < length ls → x ≡ get_or ls 0 x → x ≡ first ls
-first_read [] x h is = absurd (omega arith)
-first_read (y ∷ ls) x h is = is
+-- what lies before the first line, as it was read
+pub before_first : (M : Map) (rs : List ResolvedLine) (r : ResolvedLine) (through : Bool) (line : Option ℕ) →
+    0 < length rs → r ≡ get_or rs 0 r → LiesBefore M r.id through line → LiesBefore M (first (ids rs)) through line
+before_first M [] r through line h is before = absurd (omega arith)
+before_first M (s ∷ rs) r through line h is before =
+    subst (λ (s : ResolvedLine). LiesBefore M s.id through line) is before

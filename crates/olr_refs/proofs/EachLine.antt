@@ -1,6 +1,6 @@
 -- The lines that enter a node, and those that leave it, as they are read by a loop.
-use Rattle.std.proofs.Common.{◌≡◌, ℕ, ◌<◌, ◌≤◌, true, List, length, take, get_or, IsTrue, MatchOption, false, Option}
-use Rattle.std.proofs.Common.{Some, None, is_some, unwrap_or, ap, ◌∙◌, subst}
+use Rattle.std.proofs.Common.{◌≡◌, ℕ, ◌<◌, ◌≤◌, true, List, length, take, get_or, IsTrue, Option}
+use Rattle.std.proofs.Common.{is_some, unwrap_or, ap, ◌∙◌, subst}
 use Rattle.std.proofs.lemmas.List.{take_all}
 use Rattle.olr_spec.specs.Map.{Map, Line, no_line, has_line, lines_in, lines_out, start, end, has}
 use Rattle.olr_spec.proofs.ListLemmas.{Each, has_read}
@@ -30,8 +30,3 @@ entered_read M v xs i x all h is =
 pub left_read : (M : Map) (v : ℕ) (xs : List ℕ) (i x : ℕ) → xs ≡ lines_out M v → i < length xs → x ≡ get_or xs i x →
     IsTrue (has_line M x)
 left_read M v xs i x all h is = (left M v x (subst (λ (zs : List ℕ). has zs x ≡ true) all (has_read xs i x h is))).0
-
--- the statement for None, if there is no value
-pub where_none : (o : Option ℕ) (P : Type 0) (Q : ℕ → Type 0) → is_some o ≡ false → MatchOption o P Q → P
-where_none None P Q e h = h
-where_none (Some x) P Q e h = absurd cc

@@ -22,22 +22,22 @@ HasEnds M F ls ns = (v : ℕ) → Contains ns v ↔ (Contains F v ⊎ NodeOf M l
 pub no_ends : (M : Map) (F : List ℕ) → HasEnds M F [] F
 no_ends M F v = (λ h. inl h, λ h. elim h [ inl k ↦ k | inr n ↦ absurd cc ])
 
-module _ (M : Map) (ls : List ℕ) (i x : ℕ) (inside : i < length ls) (is : x ≡ get_or ls i x) where
-  more : (y : ℕ) → has (take (i + 1) ls) y ≡ (has (take i ls) y || (get_or ls i x == y))
-  more y = list_any_more (λ z. z == y) ls i x inside
+module _ (M : Map) (ls : List ℕ) (i x : ℕ) (inside : i < length ls) (is : x ≡ get_or ls i 0) where
+  more : (y : ℕ) → has (take (i + 1) ls) y ≡ (has (take i ls) y || (get_or ls i 0 == y))
+  more y = list_any_more (λ z. z == y) ls i 0 inside
 
   ends_cases : (v : ℕ) → NodeOf M (take (i + 1) ls) v → NodeOf M (take i ls) v ⊎ EndOf M x v
   ends_cases v n =
-      elim (or_cases (has (take i ls) n.0) (get_or ls i x == n.0) (sym (more n.0) ∙ n.1)) [
+      elim (or_cases (has (take i ls) n.0) (get_or ls i 0 == n.0) (sym (more n.0) ∙ n.1)) [
         | inl low ↦ inl (n.0, low, n.2)
-        | inr e ↦ inr (subst (λ (y : ℕ). EndOf M y v) (sym (is ∙ eqb-true (get_or ls i x) n.0 e)) n.2)
+        | inr e ↦ inr (subst (λ (y : ℕ). EndOf M y v) (sym (is ∙ eqb-true (get_or ls i 0) n.0 e)) n.2)
       ]
 
   ends_kept : (v : ℕ) → NodeOf M (take i ls) v → NodeOf M (take (i + 1) ls) v
   ends_kept v n = (n.0, more n.0 ∙ or_left _ _ n.1, n.2)
 
   ends_here : (v : ℕ) → EndOf M x v → NodeOf M (take (i + 1) ls) v
-  ends_here v e = (x, more x ∙ or_right _ _ (eq-eqb (get_or ls i x) x (sym is)), e)
+  ends_here v e = (x, more x ∙ or_right _ _ (eq-eqb (get_or ls i 0) x (sym is)), e)
 
   pub ends_more : (F ns : List ℕ) → HasEnds M F (take i ls) ns →
       HasEnds M F (take (i + 1) ls) ((ns ++ start M x ∷ []) ++ end M x ∷ [])

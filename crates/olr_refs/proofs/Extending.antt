@@ -1,120 +1,132 @@
 -- The extended path, composed of the path and the parts of the tried runs.
-use Rattle.std.proofs.Common.{◌⊎◌, ◌↔◌, ◌≡◌, ℕ, ◌+◌, ◌<◌, ◌==◌, Bool, true, false, not, cond, List, [], ◌++◌, length}
-use Rattle.std.proofs.Common.{get_or, Contains, None, IsTrue, refl, ap, ◌∙◌, subst, arith, length-append}
-use Rattle.std.specs.List.{All}
-use Rattle.std.proofs.lemmas.Bool.{eq-eqb}
-use Rattle.std.proofs.lemmas.List.Folds.{list_any_at}
+use Rattle.std.proofs.Common.{◌⊎◌, ◌↔◌, ◌≡◌, ℕ, ◌+◌, ◌<◌, Bool, true, false, not, cond, List, [], ◌∷◌, ◌++◌, length}
+use Rattle.std.proofs.Common.{Contains, None, IsTrue, refl, sym, ap, ◌∙◌, subst, arith, length-append}
+use Rattle.std.proofs.lemmas.List.{length-map, map-append}
 use Rattle.olr_spec.specs.Map.{Map, has_line, start, end}
 use Rattle.olr_spec.specs.Routes.{dm_of}
 use Rattle.olr_spec.specs.Encoding.{first_unknown}
 use Rattle.olr_spec.specs.Extension.{Path, is_path, first, last, passing, LongestStart, LongestEnd, taken_start}
-use Rattle.olr_spec.specs.Extension.{taken_end, from_start, Tried}
+use Rattle.olr_spec.specs.Extension.{taken_end, from_start}
 use Rattle.olr_spec.specs.Queries.{NodeOf}
 use Rattle.olr_refs.specs.Extends.{Extends}
-use Rattle.olr_spec.proofs.AnswerLemmas.{no_unknown, path_nonempty}
-use Rattle.olr_spec.proofs.RunMoves.{StartRun-known, EndRun-known}
-use Rattle.olr_spec.proofs.ListLemmas.{Each, Each-from, Each-nil, Each-append, has_last}
+use Rattle.olr_refs.specs.ResolvedLines.{ResolvedLine, records_of, ids, AreRecords}
+use Rattle.olr_spec.proofs.AnswerLemmas.{no_unknown, path_nonempty, all_first, all_last}
+use Rattle.olr_refs.proofs.Resolving.{ids_are, are_records, records_append, records_length}
 
--- ---- lines of the map
-
-abbrev pub Known : Map → ℕ → Type 0
-Known M x = IsTrue (has_line M x)
-
-pub all_known : (M : Map) (ls : List ℕ) → first_unknown M ls ≡ None → Each (Known M) ls
-all_known M ls e = Each-from (Known M) ls (no_unknown M ls e)
-
-pub All-from_each : (P : ℕ → Type 0) (xs : List ℕ) → Each P xs → All P xs
-All-from_each P xs h k d lt =
-    h (get_or xs k d) (list_any_at (λ y. y == get_or xs k d) xs k d lt (eq-eqb (get_or xs k d) (get_or xs k d) refl))
+last_behind : (xs ys : List ℕ) → 0 < length ys → last (xs ++ ys) ≡ last ys
+last_behind [] ys h = refl
+last_behind (x ∷ []) [] h = absurd (omega arith)
+last_behind (x ∷ []) (y ∷ ys) h = refl
+last_behind (x ∷ y ∷ xs) ys h = last_behind (y ∷ xs) ys h
 
 -- ---- the part of a run, by whether it leads to a valid node
 
-abbrev pub if_valid : Bool → List ℕ → List ℕ
-if_valid valid c = cond valid c []
+taken_is : (valid through : Bool) (rs : List ResolvedLine) → valid ≡ not through →
+    ids (cond valid rs []) ≡ cond through [] (ids rs)
+taken_is valid true rs e = ap (λ (b : Bool). ids (cond b rs [])) e
+taken_is valid false rs e = ap (λ (b : Bool). ids (cond b rs [])) e
 
-Each-if_valid : (P : ℕ → Type 0) (valid : Bool) (c : List ℕ) → Each P c → Each P (if_valid valid c)
-Each-if_valid P true c h = h
-Each-if_valid P false c h = Each-nil P
+taken_records : (M : Map) (valid : Bool) (rs : List ResolvedLine) → AreRecords M rs → AreRecords M (cond valid rs [])
+taken_records M true rs are = are
+taken_records M false rs are = refl
 
-not_passing : (valid through : Bool) (c : List ℕ) → valid ≡ not through → if_valid valid c ≡ cond through [] c
-not_passing valid true c e = ap (λ b. if_valid b c) e
-not_passing valid false c e = ap (λ b. if_valid b c) e
-
-len_taken : (M : Map) (valid : Bool) (c : List ℕ) → cond valid (dm_of M c) 0 ≡ dm_of M (if_valid valid c)
-len_taken M true c = refl
-len_taken M false c = refl
+len_taken : (M : Map) (valid : Bool) (rs : List ResolvedLine) →
+    cond valid (dm_of M (ids rs)) 0 ≡ dm_of M (ids (cond valid rs []))
+len_taken M true rs = refl
+len_taken M false rs = refl
 
 module _ (M : Map) (P : Path) (good : IsTrue (is_path P.lines)) (unknown : first_unknown M P.lines ≡ None)
-    (b : List ℕ) (before_valid : Bool) (longest : LongestStart M b P.lines)
-    (is_valid : before_valid ≡ not (passing M (start M (first (b ++ P.lines))))) where
-  pub path_known : Each (Known M) P.lines
-  path_known = all_known M P.lines unknown
+    (own : List ResolvedLine) (own_is : own ≡ records_of M P.lines) where
+  path_some : 0 < length P.lines
+  path_some = path_nonempty P.lines good
+
+  own_ids : ids own ≡ P.lines
+  own_ids = ids_are M P.lines own own_is
+
+  pub own_some : 0 < length own
+  own_some = let n = path_some in let l = records_length M P.lines own own_is in omega arith
+
+  pub own_first : IsTrue (has_line M (first (ids own)))
+  own_first =
+      subst (λ (ls : List ℕ). IsTrue (has_line M (first ls))) (sym own_ids)
+      (all_first (λ x. IsTrue (has_line M x)) P.lines path_some (no_unknown M P.lines unknown))
+
+module _ (M : Map) (P : Path) (good : IsTrue (is_path P.lines)) (unknown : first_unknown M P.lines ≡ None)
+    (own : List ResolvedLine) (own_is : own ≡ records_of M P.lines) (before : List ResolvedLine) (before_valid : Bool)
+    (longest : LongestStart M (ids before) (ids own)) (before_are : AreRecords M before)
+    (is_valid : before_valid ≡ not (passing M (start M (first (ids before ++ ids own)))))
+    (front : List ResolvedLine) (front_is : front ≡ cond before_valid before [] ++ own) where
+  own_same : ids own ≡ P.lines
+  own_same = own_ids M P good unknown own own_is
+
+  start_is : ids (cond before_valid before []) ≡ taken_start M (ids before) P.lines
+  start_is =
+      taken_is before_valid _ before
+      (is_valid ∙ ap (λ (ls : List ℕ). not (passing M (start M (first (ids before ++ ls))))) own_same)
 
   -- the path, extended at its start
-  abbrev pub front : List ℕ
-  front = if_valid before_valid b ++ P.lines
+  from_is : ids front ≡ from_start M P (ids before)
+  from_is =
+      ap ids front_is ∙ map-append (λ (r : ResolvedLine). r.id) (cond before_valid before []) own
+      ∙ (λ i. start_is i ++ own_same i)
 
-  start_is : if_valid before_valid b ≡ taken_start M b P.lines
-  start_is = not_passing before_valid (passing M (start M (first (b ++ P.lines)))) b is_valid
-
-  pub front_is : front ≡ from_start M P b
-  front_is = ap (λ (zs : List ℕ). zs ++ P.lines) start_is
-
-  pub before_known : Each (Known M) b
-  before_known = StartRun-known M b P.lines longest.run
-
-  pub front_known : Each (Known M) front
-  front_known =
-      Each-append (Known M) (if_valid before_valid b) P.lines (Each-if_valid (Known M) before_valid b before_known)
-      path_known
+  pub front_records : AreRecords M front
+  front_records =
+      subst (AreRecords M) (sym front_is)
+      (records_append M (cond before_valid before []) own (taken_records M before_valid before before_are)
+      (are_records M P.lines own own_is))
 
   pub front_some : 0 < length front
-  front_some = let n = path_nonempty P.lines good in omega (arith, length-append (if_valid before_valid b) P.lines)
+  front_some =
+      let n = own_some M P good unknown own own_is in
+      omega (arith, ap (λ (rs : List ResolvedLine). length rs) front_is, length-append (cond before_valid before []) own)
 
-  pub front_last : Known M (last front)
-  front_last = front_known (last front) (has_last front front_some)
+  pub front_last : IsTrue (has_line M (last (ids front)))
+  front_last =
+      subst (λ (x : ℕ). IsTrue (has_line M x))
+      (sym (ap last from_is ∙ last_behind (taken_start M (ids before) P.lines) P.lines (path_nonempty P.lines good)))
+      (all_last (λ x. IsTrue (has_line M x)) P.lines (path_nonempty P.lines good) (no_unknown M P.lines unknown))
 
-  module _ (a : List ℕ) (after_valid : Bool) (longest_after : LongestEnd M front a)
-      (ends_valid : after_valid ≡ not (passing M (end M (last (front ++ a))))) where
-    abbrev pub whole : List ℕ
-    whole = front ++ if_valid after_valid a
-
-    pub after_known : Each (Known M) a
-    after_known = EndRun-known M front a longest_after.run
-
-    pub whole_known : Each (Known M) whole
-    whole_known =
-        Each-append (Known M) front (if_valid after_valid a) front_known
-        (Each-if_valid (Known M) after_valid a after_known)
-
-    pub tried : Tried M P b a
-    tried = record { before = longest; after = subst (λ (zs : List ℕ). LongestEnd M zs a) front_is longest_after }
-
-    back_is : if_valid after_valid a ≡ taken_end M (from_start M P b) a
+  module _ (after : List ResolvedLine) (after_valid : Bool) (longest_after : LongestEnd M (ids front) (ids after))
+      (after_are : AreRecords M after)
+      (ends_valid : after_valid ≡ not (passing M (end M (last (ids front ++ ids after)))))
+      (whole : List ResolvedLine) (whole_is : whole ≡ front ++ cond after_valid after []) where
+    back_is : ids (cond after_valid after []) ≡ taken_end M (from_start M P (ids before)) (ids after)
     back_is =
-        not_passing after_valid (passing M (end M (last (from_start M P b ++ a)))) a
-        (ends_valid ∙ ap (λ (zs : List ℕ). not (passing M (end M (last (zs ++ a))))) front_is)
+        taken_is after_valid _ after
+        (ends_valid ∙ ap (λ (zs : List ℕ). not (passing M (end M (last (zs ++ ids after))))) from_is)
 
-    whole_is : whole ≡ from_start M P b ++ taken_end M (from_start M P b) a
-    whole_is =
-        ap (λ (zs : List ℕ). zs ++ if_valid after_valid a) front_is
-        ∙ ap (λ (zs : List ℕ). from_start M P b ++ zs) back_is
+    pub whole_records : AreRecords M whole
+    whole_records =
+        subst (AreRecords M) (sym whole_is)
+        (records_append M front (cond after_valid after []) front_records
+        (taken_records M after_valid after after_are))
 
     -- what the code composes is the extended path
-    pub extends : (E : Path) (F G : List ℕ) → E.lines ≡ whole → E.pos ≡ P.pos + cond before_valid (dm_of M b) 0 →
-        E.neg ≡ P.neg + cond after_valid (dm_of M a) 0 →
-        ((v : ℕ) → Contains G v ↔ (Contains F v ⊎ (NodeOf M E.lines v ⊎ (NodeOf M b v ⊎ NodeOf M a v)))) →
-        Extends M P E F G
-    extends E F G lines pos neg noted =
-        let lines_are : E.lines ≡ from_start M P b ++ taken_end M (from_start M P b) a = lines ∙ whole_is in
-        let pos_is : E.pos ≡ P.pos + dm_of M (taken_start M b P.lines) =
-        pos ∙ ap (λ n. P.pos + n) (len_taken M before_valid b ∙ ap (dm_of M) start_is) in
-        let neg_is : E.neg ≡ P.neg + dm_of M (taken_end M (from_start M P b) a) =
-        neg ∙ ap (λ n. P.neg + n) (len_taken M after_valid a ∙ ap (dm_of M) back_is) in
+    pub extends : (E : Path) (lead : ℕ) (F G : List ℕ) → lead ≡ length (cond before_valid before []) →
+        E.lines ≡ ids whole → E.pos ≡ P.pos + cond before_valid (dm_of M (ids before)) 0 →
+        E.neg ≡ P.neg + cond after_valid (dm_of M (ids after)) 0 →
+        ((v : ℕ) → Contains G v ↔ (Contains F v ⊎ (NodeOf M (ids whole) v
+        ⊎ (NodeOf M (ids before) v ⊎ NodeOf M (ids after) v)))) →
+        Extends M P E lead F G
+    extends E lead F G leads lines pos neg noted =
+        let lines_are : E.lines ≡ from_start M P (ids before) ++ taken_end M (from_start M P (ids before)) (ids after) =
+        lines ∙ ap ids whole_is ∙ map-append (λ (r : ResolvedLine). r.id) front (cond after_valid after [])
+        ∙ (λ i. from_is i ++ back_is i) in
+        let pos_is : E.pos ≡ P.pos + dm_of M (taken_start M (ids before) P.lines) =
+        pos ∙ ap (λ n. P.pos + n) (len_taken M before_valid before ∙ ap (dm_of M) start_is) in
+        let neg_is : E.neg ≡ P.neg + dm_of M (taken_end M (from_start M P (ids before)) (ids after)) =
+        neg ∙ ap (λ n. P.neg + n) (len_taken M after_valid after ∙ ap (dm_of M) back_is) in
         record {
-          before = b;
-          after = a;
-          tried = tried;
+          before = ids before;
+          after = ids after;
+          tried = record {
+            before = subst (LongestStart M (ids before)) own_same longest;
+            after = subst (λ (zs : List ℕ). LongestEnd M zs (ids after)) from_is longest_after;
+          };
           path = λ i. record { lines = lines_are i; pos = pos_is i; neg = neg_is i };
-          noted = noted;
+          leads = leads ∙ sym (length-map (cond before_valid before []) (λ (r : ResolvedLine). r.id))
+              ∙ ap (λ (ls : List ℕ). length ls) start_is;
+          noted = subst (λ (ls : List ℕ). (v : ℕ) → Contains G v ↔ (Contains F v ⊎ (NodeOf M ls v
+              ⊎ (NodeOf M (ids before) v ⊎ NodeOf M (ids after) v)))) (sym lines) noted;
         }

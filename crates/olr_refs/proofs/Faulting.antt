@@ -10,8 +10,14 @@ use Rattle.olr_spec.specs.Map.{Map, has_line, start, end}
 use Rattle.olr_spec.specs.Routes.{IsRoute}
 use Rattle.olr_spec.specs.Extension.{last, AreJoined}
 use Rattle.olr_spec.specs.Encoding.{first_unknown, first_break}
-use Rattle.olr_spec.proofs.ListLemmas.{Each, Each-head, Each-tail, has_index}
-use Rattle.olr_refs.proofs.Extending.{Known, all_known}
+use Rattle.olr_spec.proofs.AnswerLemmas.{no_unknown}
+use Rattle.olr_spec.proofs.ListLemmas.{Each, Each-head, Each-tail, Each-from, has_index}
+
+abbrev Known : Map → ℕ → Type 0
+Known M x = IsTrue (has_line M x)
+
+all_known : (M : Map) (ls : List ℕ) → first_unknown M ls ≡ None → Each (Known M) ls
+all_known M ls e = Each-from (Known M) ls (no_unknown M ls e)
 
 -- the line that was read at index k is on the map
 pub each_read : (M : Map) (ls : List ℕ) (k x : ℕ) → first_unknown M ls ≡ None → k < length ls → x ≡ get_or ls k x →

@@ -1,5 +1,5 @@
 -- What is known of joined lines.
-use Rattle.std.proofs.Common.{◌≡◌, ◌<◌, ◌≤◌, ◌-◌, ◌+◌, ◌*◌, ◌^◌, ℕ, zero, suc, List, [], ◌∷◌, ◌++◌, length, take}
+use Rattle.std.proofs.Common.{◌≡◌, ◌<◌, ◌-◌, ◌+◌, ℕ, suc, List, [], ◌∷◌, ◌++◌, length, take}
 use Rattle.std.proofs.Common.{get_or, refl, sym, ap, ◌∙◌, subst, arith, inl, inr, length-append}
 use Rattle.std.proofs.lemmas.Bool.{cases_order}
 use Rattle.std.proofs.lemmas.List.{get_or_default, get_or_append_left, take_more}
@@ -9,7 +9,7 @@ use Rattle.std.specs.Prelude.{IsTrue}
 use Rattle.olr_spec.specs.Map.{Map, IsMap, has_line, has_node, start, end, dm}
 use Rattle.olr_spec.specs.Routes.{IsRoute, dm_of}
 use Rattle.olr_spec.specs.Extension.{last, AreJoined}
-use Rattle.olr_spec.proofs.RouteLemmas.{dm_of-append, line_short}
+use Rattle.olr_spec.proofs.RouteLemmas.{dm_of-append}
 use Rattle.olr_spec.proofs.ListLemmas.{Each, Each-cons, Each-nil, has_index}
 use Rattle.olr_refs.specs.Along.{DistancesTo}
 
@@ -46,20 +46,6 @@ start_known M m x n h e = subst (λ v. IsTrue (has_node M v)) (sym e) (m.starts 
 pub end_known : (M : Map) → IsMap M → (x n : ℕ) → IsTrue (has_line M x) → n ≡ end M x → IsTrue (has_node M n)
 end_known M m x n h e = subst (λ v. IsTrue (has_node M v)) (sym e) (m.ends x h)
 
--- ---- sums of lengths
-
--- k lines are at most k times 10^6 dm long
-pub route_short : (M : Map) → IsMap M → (s t : ℕ) (xs : List ℕ) (k : ℕ) → IsRoute M s t xs →
-    dm_of M (take k xs) ≤ 1000000 * k
-route_short M m s t [] zero w = omega arith
-route_short M m s t [] (suc k) w = omega arith
-route_short M m s t (x ∷ xs) zero w = omega arith
-route_short M m s t (x ∷ xs) (suc k) w = let here = line_short M m x w.0 in let rest =
-    route_short M m (end M x) t xs k w.2 in omega arith
-
-pub sum_fits : (a b k : ℕ) → a ≤ 1000000 * k → k < 2 ^ 64 → b < 2 ^ 32 → a + b < 2 ^ 128
-sum_fits a b k h i j = omega arith
-
 -- ---- distances
 
 pub no_distance : (M : Map) (ls : List ℕ) (ds : List ℕ) → ds ≡ 0 ∷ [] → DistancesTo M ls 0 ds
@@ -71,11 +57,10 @@ no_distance M ls ds e =
     }
 
 -- the length of one more line
-pub longer_by : (M : Map) (ls : List ℕ) (k x : ℕ) → k < length ls → x ≡ get_or ls k x →
-    dm_of M (take (k + 1) ls) ≡ dm_of M (take k ls) + dm M x
-longer_by M ls k x h r =
-    ap (dm_of M) (take_more ls k x h) ∙ dm_of-append M (take k ls) (get_or ls k x ∷ [])
-    ∙ ap (λ (y : ℕ). dm_of M (take k ls) + (dm M y + 0)) (sym r) ∙ omega arith
+pub longer_by : (M : Map) (ls : List ℕ) (k : ℕ) → k < length ls →
+    dm_of M (take (k + 1) ls) ≡ dm_of M (take k ls) + dm M (slice_index ls k)
+longer_by M ls k h =
+    ap (dm_of M) (take_more ls k 0 h) ∙ dm_of-append M (take k ls) (slice_index ls k ∷ []) ∙ omega arith
 
 pub one_more : (M : Map) (ls ds es : List ℕ) (k a : ℕ) → DistancesTo M ls k ds → es ≡ ds ++ a ∷ [] →
     a ≡ dm_of M (take (k + 1) ls) → DistancesTo M ls (k + 1) es

@@ -1,12 +1,11 @@
 -- The coverage queries of a choice of LRPs, and the counts that its searches raise.
 use Rattle.std.proofs.Common.{◌≡◌, ◌<◌, ◌≤◌, ◌+◌, ◌*◌, ℕ, zero, suc, List, [], ◌∷◌, ◌++◌, length, Contains, refl, sym}
 use Rattle.std.proofs.Common.{ap, ◌∙◌, subst, arith, inl, inr, length-append}
-use Rattle.std.specs.Prelude.{IsTrue, ◌↔◌, nat_lt}
+use Rattle.std.specs.Prelude.{IsTrue, ◌↔◌}
 use Rattle.std.specs.Cmp.{nat_eq_equiv}
 use Rattle.std.specs.List.{AllZip}
 use Rattle.std.proofs.lemmas.Bool.{eqb-true}
-use Rattle.std.proofs.lemmas.Bool.Decides.{nat_tests}
-use Rattle.std.proofs.lemmas.List.Elements.{filter-append, Contains-append_right}
+use Rattle.std.proofs.lemmas.List.Elements.{Contains-append_right}
 use Rattle.std.proofs.lemmas.Map.Made.{length-le_from_is_member}
 use Rattle.std.proofs.lemmas.Map.Views.{Contains-from_any, list_any-from_Contains}
 use Rattle.olr_spec.specs.Map.{Map, has_node}
@@ -14,19 +13,17 @@ use Rattle.olr_spec.specs.Routes.{IsRoute, dm_of, Reaches}
 use Rattle.olr_spec.specs.Extension.{limit}
 use Rattle.olr_spec.specs.Points.{Next, Follow, NoNext, last_position, stretch}
 use Rattle.olr_spec.specs.Footprint.{Sees}
-use Rattle.olr_spec.specs.Queries.{CoverageQuery, IsLastTested, IsQuery, QueriesFrom, querying}
+use Rattle.olr_spec.specs.Queries.{CoverageQuery, IsLastTested}
 use Rattle.olr_spec.proofs.ListLemmas.{Contains-here, Contains-cases}
-use Rattle.olr_spec.proofs.AnswerLemmas.{Next-candidate}
-use Rattle.olr_route.specs.declared.work.Work.{Work}
-use Rattle.olr_route.specs.declared.distances.Direction.TheVariants.{Along}
-use Rattle.olr_route.specs.Counts.{saturated_count}
-use Rattle.olr_route.specs.declared.distances.Dijkstra.{Dijkstra}
-use Rattle.olr_route.specs.Searches.{IsSearch, LiesWithin, Counts, limit_of}
-use Rattle.olr_route.proofs.SearchLemmas.{near_leads}
-use Rattle.olr_refs.specs.Choice.{CountOf, Queried, QueriedAfter, SeenBy, SettledBy, raised_count}
+use Rattle.olr_search.specs.declared.work.Work.{Work}
+use Rattle.olr_search.specs.declared.distances.Direction.TheVariants.{Along}
+use Rattle.olr_search.specs.Counts.{saturated_count}
+use Rattle.olr_search.specs.declared.distances.Dijkstra.{Dijkstra}
+use Rattle.olr_search.specs.Searches.{IsSearch, LiesWithin, Counts, limit_of}
+use Rattle.olr_search.proofs.SearchLemmas.{near_leads}
+use Rattle.olr_refs.specs.Choice.{CountOf, Queried, SeenBy, SettledBy, raised_count}
 use Rattle.olr_refs.proofs.Stretches.{later_stretch, longer_stretch}
 use Rattle.olr_refs.proofs.Reaching.{empty_stretch}
-use Rattle.std.proofs.lemmas.List.{append-nil}
 
 -- ---- what a search settles
 
@@ -170,7 +167,7 @@ one_query M place l s n q before after h there begun far c encodings searches se
 
 -- ---- coverage queries
 
-zip_append : {X Y : Type 0} (R : X → Y → Type 0) (ws xs : List X) (bs ys : List Y) → AllZip R ws bs → AllZip R xs ys →
+pub zip_append : {X Y : Type 0} (R : X → Y → Type 0) (ws xs : List X) (bs ys : List Y) → AllZip R ws bs → AllZip R xs ys →
     AllZip R (ws ++ xs) (bs ++ ys)
 zip_append R [] xs [] ys z w = w
 zip_append R [] xs (b ∷ bs) ys z w = absurd z
@@ -184,32 +181,6 @@ zip_length R [] (y ∷ ys) z = absurd z
 zip_length R (x ∷ xs) [] z = absurd z
 zip_length R (x ∷ xs) (y ∷ ys) z = let rest = zip_length R xs ys z.1 in omega arith
 
--- where at most one line follows line i nothing is searched
-pub queries_nowhere : (M : Map) (ls : List ℕ) (i : ℕ) (queries : List CoverageQuery) (w : Work) → length ls ≤ i + 2 →
-    QueriedAfter M ls i queries queries w w
-queries_nowhere M ls i queries w h =
-    let none : [] ≡ querying ls (i ∷ []) = grind (arith, nat_tests) in
-    record {
-      added = [];
-      each = subst (λ (is : List ℕ). QueriesFrom M ls is []) none tt;
-      grown = sym (append-nil queries);
-      counts = queried_none M w;
-    }
-
--- and else there is one
-pub queries_once : (M : Map) (ls : List ℕ) (i : ℕ) (query : CoverageQuery) (old new : List CoverageQuery)
-    (before after : Work) →
-    i + 2 < length ls → IsQuery M ls i query → new ≡ old ++ query ∷ []
-    → Queried M (query ∷ []) before after → QueriedAfter M ls i old new before after
-queries_once M ls i query old new before after h is grown counts =
-    let one : i ∷ [] ≡ querying ls (i ∷ []) = grind (arith, nat_tests) in
-    record {
-      added = query ∷ [];
-      each = subst (λ (is : List ℕ). QueriesFrom M ls is (query ∷ [])) one (is, tt);
-      grown = grown;
-      counts = counts;
-    }
-
 -- ---- from LRP to LRP
 
 -- each of js is the next after the one before it, from i on, and k is the last
@@ -217,7 +188,7 @@ abbrev pub Led : Map → List ℕ → ℕ → List ℕ → ℕ → Type 0
 Led M ls i [] k = i ≡ k
 Led M ls i (j ∷ js) k = Next M ls i j × Led M ls j js k
 
-led_more : (M : Map) (ls : List ℕ) (i k m : ℕ) (js : List ℕ) → Led M ls i js k → Next M ls k m →
+pub led_more : (M : Map) (ls : List ℕ) (i k m : ℕ) (js : List ℕ) → Led M ls i js k → Next M ls k m →
     Led M ls i (js ++ m ∷ []) m
 led_more M ls i k m [] l n = (subst (λ (v : ℕ). Next M ls v m) (sym l) n, refl)
 led_more M ls i k m (j ∷ js) l n = (l.0, led_more M ls j k m js l.1 n)
@@ -229,88 +200,6 @@ led_follow M ls i k (j ∷ js) l n = (l.0, led_follow M ls j k js l.1 n)
 led_last : (M : Map) (ls : List ℕ) (i k : ℕ) (js : List ℕ) → Led M ls i js k → last_position i js ≡ k
 led_last M ls i k [] l = l
 led_last M ls i k (j ∷ js) l = led_last M ls j k js l.1
-
--- the LRPs so far, up to the last, from which no search was made yet; the coverage queries, and the counts
-pub record Gone (M : Map) (ls ps : List ℕ) (last : ℕ) (queries : List CoverageQuery) (before work : Work) : Type 0 where
-  pub done : List ℕ
-  pub points : List ℕ
-  pub positions : ps ≡ done ++ last ∷ []
-  pub first : done ++ last ∷ [] ≡ 0 ∷ points
-  pub led : Led M ls 0 points last
-  pub within : last ≤ length ls
-  pub each : QueriesFrom M ls (querying ls done) queries
-  pub counts : Queried M queries before work
-
-pub gone_none : (M : Map) (ls ps : List ℕ) (queries : List CoverageQuery) (w : Work) → ps ≡ 0 ∷ [] → queries ≡ [] →
-    Gone M ls ps 0 queries w w
-gone_none M ls ps queries w p l =
-    record {
-      done = [];
-      points = [];
-      positions = p;
-      first = refl;
-      led = refl;
-      within = omega arith;
-      each = subst (λ (xs : List CoverageQuery). QueriesFrom M ls [] xs) (sym l) tt;
-      counts = subst (λ (xs : List CoverageQuery). Queried M xs w w) (sym l) (queried_none M w);
-    }
-
--- a search was made from the last LRP too
-each_more : (M : Map) (ls done : List ℕ) (k : ℕ) (old new : List CoverageQuery) (work after : Work) →
-    QueriesFrom M ls (querying ls done) old → (a : QueriedAfter M ls k old new work after) →
-    QueriesFrom M ls (querying ls (done ++ k ∷ [])) new
-each_more M ls done k old new work after e a =
-    let both : QueriesFrom M ls (querying ls done ++ querying ls (k ∷ [])) (old ++ a.added) =
-    zip_append (IsQuery M ls) (querying ls done) (querying ls (k ∷ [])) old a.added e a.each in
-    let there : QueriesFrom M ls (querying ls (done ++ k ∷ [])) (old ++ a.added) =
-    subst (λ (is : List ℕ). QueriesFrom M ls is (old ++ a.added))
-    (sym (filter-append (λ i. nat_lt (i + 2) (length ls)) done (k ∷ []))) both in
-    subst (QueriesFrom M ls (querying ls (done ++ k ∷ []))) (sym a.grown) there
-
-counts_more : (M : Map) (ls : List ℕ) (k : ℕ) (old new : List CoverageQuery) (before work after : Work) →
-    Queried M old before work → (a : QueriedAfter M ls k old new work after) → Queried M new before after
-counts_more M ls k old new before work after c a =
-    subst (λ (ks : List CoverageQuery). Queried M ks before after) (sym a.grown)
-    (queried_more M old a.added before work after c a.counts)
-
-pub gone_more : (M : Map) (ls ps qs : List ℕ) (last m : ℕ) (old new : List CoverageQuery) (before work after : Work) →
-    Gone M ls ps last old before work
-    → QueriedAfter M ls last old new work after → Next M ls last m → qs ≡ ps ++ m ∷ [] → Gone M ls qs m new before after
-gone_more M ls ps qs last m old new before work after s a n e =
-    record {
-      done = s.done ++ last ∷ [];
-      points = s.points ++ m ∷ [];
-      positions = e ∙ ap (λ (xs : List ℕ). xs ++ m ∷ []) s.positions;
-      first = ap (λ (xs : List ℕ). xs ++ m ∷ []) s.first;
-      led = led_more M ls 0 last m s.points s.led n;
-      within = (Next-candidate M ls last m n).upto;
-      each = each_more M ls s.done last old new work after s.each a;
-      counts = counts_more M ls last old new before work after s.counts a;
-    }
-
--- ---- at the end
-
--- the coverage queries and the counts after a search was made from the last LRP too
-pub record Ended (M : Map) (ls points : List ℕ) (queries : List CoverageQuery) (before after : Work) : Type 0 where
-  pub each : QueriesFrom M ls (querying ls (0 ∷ points)) queries
-  pub counts : Queried M queries before after
-
-pub ended : (M : Map) (ls ps : List ℕ) (last : ℕ) (old new : List CoverageQuery) (before work after : Work) →
-    (s : Gone M ls ps last old before work)
-    → QueriedAfter M ls last old new work after → Ended M ls s.points new before after
-ended M ls ps last old new before work after s a =
-    record {
-      each =
-          subst (λ (is : List ℕ). QueriesFrom M ls (querying ls is) new) s.first
-          (each_more M ls s.done last old new work after s.each a);
-      counts = counts_more M ls last old new before work after s.counts a;
-    }
-
--- no search is made from the end
-pub ended_there : (M : Map) (ls ps : List ℕ) (last : ℕ) (queries : List CoverageQuery) (before work : Work) →
-    (s : Gone M ls ps last queries before work) → length ls ≤ last → Ended M ls s.points queries before work
-ended_there M ls ps last queries before work s h =
-    ended M ls ps last queries queries before work work s (queries_nowhere M ls last queries work (omega arith))
 
 -- no position follows the end
 no_next_end : (M : Map) (ls : List ℕ) (k : ℕ) → length ls ≤ k → NoNext M ls k

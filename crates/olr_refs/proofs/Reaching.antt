@@ -13,9 +13,9 @@ use Rattle.olr_spec.proofs.RouteLemmas.{empty_unique, prefix_of_unique, dm_of-ap
 use Rattle.olr_spec.proofs.JoinLemmas.{stretch_last}
 use Rattle.olr_spec.proofs.QueryLemmas.{stretch_parts}
 use Rattle.olr_spec.proofs.WayLemmas.{next_start, way_between}
-use Rattle.olr_route.specs.declared.distances.Direction.TheVariants.{Along}
-use Rattle.olr_route.specs.declared.distances.Dijkstra.{Dijkstra}
-use Rattle.olr_route.specs.Searches.{IsSearch, limit_of}
+use Rattle.olr_search.specs.declared.distances.Direction.TheVariants.{Along}
+use Rattle.olr_search.specs.declared.distances.Dijkstra.{Dijkstra}
+use Rattle.olr_search.specs.Searches.{IsSearch, limit_of}
 use Rattle.olr_refs.specs.Along.{IsFar, IsReach}
 
 -- the lines after line i, up to line k, are the unique shortest path
@@ -148,7 +148,7 @@ tested_before : (M : Map) (ls : List ℕ) (i k : ℕ) → AreJoined M ls → i <
 tested_before M ls i k w h g r m a b = covered_by M ls i m m (omega arith) (unique_shorter M ls i m k w a b g r)
 
 -- no position is needed after those that are within the limit
-needed_most : (M : Map) (ls : List ℕ) (i far : ℕ) → IsFar M ls i far → (m : ℕ) → Needed M ls i m →
+pub needed_most : (M : Map) (ls : List ℕ) (i far : ℕ) → IsFar M ls i far → (m : ℕ) → Needed M ls i m →
     m ≤ min far (length ls - 1)
 needed_most M ls i far f m n =
     elim (cases_order far n.0) [
@@ -157,7 +157,7 @@ needed_most M ls i far f m n =
       | inr (inr gt) ↦ let le = n.3 in omega arith
     ]
 
-needed_far : (M : Map) (ls : List ℕ) (i far k : ℕ) → IsFar M ls i far → i < far → k ≤ min far (length ls - 1) →
+pub needed_far : (M : Map) (ls : List ℕ) (i far k : ℕ) → IsFar M ls i far → i < far → k ≤ min far (length ls - 1) →
     Needed M ls i k
 needed_far M ls i far k f h g = let from = f.from in (far, f.upto, f.near far h (omega arith), g)
 

@@ -1,20 +1,20 @@
 -- The encoding of a path, by its extension, its LRPs, its coverage queries and its reference.
-use Rattle.std.proofs.Common.{◌≡◌, ◌<◌, ◌≤◌, ◌+◌, ◌*◌, ◌==◌, ◌↔◌, ℕ, Bool, true, cond, List, [], ◌∷◌, length, Option}
+use Rattle.std.proofs.Common.{◌≡◌, ◌<◌, ◌+◌, ◌==◌, ◌&&◌, ◌↔◌, ℕ, Bool, true, cond, List, [], ◌∷◌, length, Option}
 use Rattle.std.proofs.Common.{Some, None}
-use Rattle.std.proofs.Common.{MatchOption, Contains, sym, ap, ◌∙◌, subst, arith, inl, inr}
-use Rattle.std.proofs.lemmas.Bool.{eq-eqb}
-use Rattle.std.specs.Prelude.{IsTrue, nat_lt, Result, Ok, Err, IfOk}
+use Rattle.std.proofs.Common.{MatchOption, Contains, refl, sym, ap, ◌∙◌, subst, arith, inl, inr}
+use Rattle.std.proofs.lemmas.Bool.{eq-eqb, and_parts, leb-true}
+use Rattle.std.specs.Prelude.{IsTrue, nat_lt, nat_le, Result, Ok, Err, IfOk, OnOk}
 use Rattle.olr_spec.specs.Map.{Map, IsMap, Agree, has_line}
 use Rattle.olr_spec.specs.Routes.{dm_of}
 use Rattle.olr_spec.specs.Extension.{Path, Tried, is_path, extended_path, from_start, taken_start, taken_end}
-use Rattle.olr_spec.specs.Extension.{AreJoined}
+use Rattle.olr_spec.specs.Extension.{AreJoined, none_twice}
 use Rattle.olr_spec.specs.Points.{Follow, last_position, OfPath}
 use Rattle.olr_spec.specs.Reference.{Reference, legs, reference, first_kept, last_kept, kept_points}
 use Rattle.olr_spec.specs.Encoding as spec
 use Rattle.olr_spec.specs.Encoding.{first_unknown, first_break, path_fault, answer_by_points, Encoding, Encodes}
 use Rattle.olr_spec.specs.Footprint.{Foot}
-use Rattle.olr_spec.specs.Queries.{CoverageQuery, IsQuery, Traversed, TraversedOfExtended, QueriesFrom, QueriesOf}
-use Rattle.olr_spec.specs.Queries.{QueriesOfExtended, querying}
+use Rattle.olr_spec.specs.Queries.{CoverageQuery, IsQuery, Traversed, TraversedOfExtended, QueriesOf}
+use Rattle.olr_spec.specs.Queries.{QueriesOfExtended, querying, KnownQuery, AreKnown}
 use Rattle.olr_spec.proofs.AnswerLemmas.{path_nonempty, sound_lines, all_first, all_last, path_also}
 use Rattle.olr_spec.proofs.RunLemmas.{one_tried}
 use Rattle.olr_spec.proofs.DecodedLemmas.{two_of}
@@ -22,13 +22,14 @@ use Rattle.olr_spec.proofs.FitLemmas.{long_enough, kept_ends, extended_sound, an
 use Rattle.olr_spec.proofs.JoinLemmas.{routes_join}
 use Rattle.olr_spec.proofs.KeptLemmas.{two_kept}
 use Rattle.olr_spec.proofs.LocalLemmas.{local_answer}
-use Rattle.olr_spec.proofs.TestedLemmas.{foot_queried}
 use Rattle.olr_spec.proofs.RouteLemmas.{dm_of-append}
 use Rattle.olr_refs.specs.declared.answer.Answer.{Answer}
 use Rattle.olr_refs.specs.declared.answer.Answer.TheVariants.{Points, Refused}
 use Rattle.olr_refs.specs.Answers as answers
-use Rattle.olr_refs.specs.Choice.{ForPoints, SettledBy, searches_of}
-use Rattle.olr_refs.proofs.Noting.{settled_most, zip_length}
+use Rattle.olr_refs.specs.Choice.{ForPoints, searches_of}
+use Rattle.olr_refs.specs.Reuse.{Reuses, Asks, AsksOf}
+use Rattle.olr_search.specs.declared.work.Work.{Work}
+use Rattle.olr_refs.proofs.Noting.{zip_length}
 use Rattle.std.proofs.lemmas.List.Sums.{length-filter}
 use Rattle.olr_refs.specs.Extends.{Extends}
 use Rattle.olr_refs.specs.KeptPoints.{later}
@@ -37,14 +38,14 @@ use Rattle.olr_spec.proofs.JoinedLemmas.{extended_joined}
 
 -- ---- a path for which none of reasons 1 to 3 holds
 
-pub whole_joined : (M : Map) (P E : Path) (F G : List ℕ) → IsTrue (is_path P.lines) → path_fault M P ≡ None →
-    Extends M P E F G → AreJoined M E.lines
-whole_joined M P E F G is none x =
+pub whole_joined : (M : Map) (P E : Path) (lead : ℕ) (F G : List ℕ) → IsTrue (is_path P.lines) → path_fault M P ≡ None →
+    Extends M P E lead F G → AreJoined M E.lines
+whole_joined M P E lead F G is none x =
     subst (λ (e : Path). AreJoined M e.lines) (sym x.path) (extended_joined M P is none x.before x.after x.tried)
 
-pub whole_short : (M : Map) (P E : Path) (F G : List ℕ) → IsTrue (is_path P.lines) → path_fault M P ≡ None →
-    Extends M P E F G → E.pos + E.neg < dm_of M E.lines
-whole_short M P E F G is none x =
+pub whole_short : (M : Map) (P E : Path) (lead : ℕ) (F G : List ℕ) → IsTrue (is_path P.lines) → path_fault M P ≡ None →
+    Extends M P E lead F G → E.pos + E.neg < dm_of M E.lines
+whole_short M P E lead F G is none x =
     subst (λ (e : Path). e.pos + e.neg < dm_of M e.lines) (sym x.path)
     (extended_sound M P is none x.before x.after x.tried).long
 
@@ -68,9 +69,9 @@ points_answer M E ls ps r e c a =
     )
 
 -- what holds for the extension and its LRPs, whatever the tried runs
-pub of_path : (M : Map) (P E : Path) (F G : List ℕ) (Q : Path → List ℕ → Type 0) → Extends M P E F G →
+pub of_path : (M : Map) (P E : Path) (lead : ℕ) (F G : List ℕ) (Q : Path → List ℕ → Type 0) → Extends M P E lead F G →
     ForPoints M E.lines (Q E) → OfPath M P (λ e _ _ js. Q e js)
-of_path M P E F G Q x a =
+of_path M P E lead F G Q x a =
     record {
       before = x.before;
       after = x.after;
@@ -80,9 +81,9 @@ of_path M P E F G Q x a =
       holds = subst (λ (e : Path). Q e a.0) x.path a.2;
     }
 
-pub encoding_of : (M : Map) (P E : Path) (F G : List ℕ) (A : spec.Answer) → Extends M P E F G →
+pub encoding_of : (M : Map) (P E : Path) (lead : ℕ) (F G : List ℕ) (A : spec.Answer) → Extends M P E lead F G →
     ForPoints M E.lines (λ js. A ≡ answer_by_points M E js) → Encoding M P A
-encoding_of M P E F G A x a = of_path M P E F G (λ e js. A ≡ answer_by_points M e js) x a
+encoding_of M P E lead F G A x a = of_path M P E lead F G (λ e js. A ≡ answer_by_points M e js) x a
 
 -- ---- the routes
 
@@ -134,10 +135,10 @@ one_traversed M m P is none b a t v traversed =
     traversed.traversed in
     subst (λ (c : List ℕ). Traversed M (extended_path M P b c).lines b c v) runs.1 first
 
-pub traversed_of : (M : Map) → IsMap M → (P E : Path) (F G : List ℕ) → IsTrue (is_path P.lines) → path_fault M P ≡ None
+pub traversed_of : (M : Map) → IsMap M → (P E : Path) (lead : ℕ) (F G : List ℕ) → IsTrue (is_path P.lines) → path_fault M P ≡ None
     →
-    F ≡ [] → Extends M P E F G → (v : ℕ) → Contains G v ↔ TraversedOfExtended M P v
-traversed_of M m P E F G is none empty x v = (forth, back)
+    F ≡ [] → Extends M P E lead F G → (v : ℕ) → Contains G v ↔ TraversedOfExtended M P v
+traversed_of M m P E lead F G is none empty x v = (forth, back)
   where
     none_before : Contains F v → ⊥
     none_before c = let c' : Contains [] v = subst (λ (f : List ℕ). Contains f v) empty c in let never : c'.0 < 0 =
@@ -160,28 +161,45 @@ traversed_of M m P E F G is none empty x v = (forth, back)
         (x.noted v).1 (inr (subst (λ (e : Path). Traversed M e.lines x.before x.after v) (sym x.path)
         (one_traversed M m P is none x.before x.after x.tried v traversed)))
 
-pub queries_of : (M : Map) (P E : Path) (F G : List ℕ) (queries : List CoverageQuery) → Extends M P E F G →
-    ForPoints M E.lines (λ js. QueriesFrom M E.lines (querying E.lines (0 ∷ js)) queries) →
-    QueriesOfExtended M P queries
-queries_of M P E F G queries x a = of_path M P E F G (λ e js. QueriesFrom M e.lines (querying e.lines (0 ∷ js))
-    queries) x a
+-- the coverage queries, by the extension
+pub asks_of : (M : Map) (P E : Path) (lead : ℕ) (F G : List ℕ) (given : List KnownQuery) (queries : List CoverageQuery)
+    (known : List KnownQuery) (a b : Work) (s t : Option (List ℕ)) → Extends M P E lead F G →
+    ForPoints M E.lines (λ js. Asks M E.lines lead (length P.lines) given (0 ∷ js) queries known a b s t) →
+    AsksOf M P given queries known a b s t
+asks_of M P E lead F G given queries known a b s t x f =
+    let led : Asks M E.lines (length (taken_start M x.before P.lines)) (length P.lines) given (0 ∷ f.0) queries known a b
+    s t =
+    subst (λ (n : ℕ). Asks M E.lines n (length P.lines) given (0 ∷ f.0) queries known a b s t) x.leads f.2 in
+    record {
+      before = x.before;
+      after = x.after;
+      points = f.0;
+      tried = x.tried;
+      follow = subst (λ (e : Path). Follow M e.lines 0 f.0) x.path f.1;
+      holds = subst (λ (e : Path). Asks M e.lines (length (taken_start M x.before P.lines)) (length P.lines) given
+          (0 ∷ f.0) queries known a b s t) x.path led;
+    }
+
+-- the path's own lines lie on the extended path
+pub whole_reuses : (M : Map) (P E : Path) (lead : ℕ) (F G : List ℕ) (known : List KnownQuery) →
+    IsTrue (is_path P.lines) → Extends M P E lead F G → AreKnown M P.lines known →
+    Reuses M E.lines lead (length P.lines) known
+whole_reuses M P E lead F G known is x are =
+    let few : nat_le (length P.lines) 10000 ≡ true =
+    (and_parts (nat_le 1 (length P.lines)) (nat_le (length P.lines) 10000)
+    (and_parts (nat_le 1 (length P.lines) && nat_le (length P.lines) 10000) (none_twice P.lines) is).0).1 in
+    record {
+      before = taken_start M x.before P.lines;
+      path = P.lines;
+      after = taken_end M (from_start M P x.before) x.after;
+      lines = sym (ap (λ (e : Path). e.lines) x.path);
+      leads = sym x.leads;
+      owns = refl;
+      few = leb-true _ _ few;
+      are = are;
+    }
 
 -- ---- by the path's fault
-
--- the queries of a path without a fault
-pub queries_whole : (M : Map) (P : Path) (queries : List CoverageQuery) → path_fault M P ≡ None →
-    QueriesOfExtended M P queries →
-    QueriesOf M P queries
-queries_whole M P queries none l =
-    subst (λ (o : Option spec.Refusal). MatchOption o (QueriesOfExtended M P queries) (λ _. queries ≡ [])) (sym none) l
-
--- the footprint holds what the queries reach
-pub settled_foot : (M : Map) → IsMap M → (P : Path) → IsTrue (is_path P.lines) → (queries : List CoverageQuery) →
-    QueriesOf M P queries
-    → (a c : ℕ) → SettledBy M queries a c → (all : List ℕ) → ((v : ℕ) → Foot M P v → Contains all v) →
-    c ≤ a + length queries * length all
-settled_foot M m P is queries o a c s all h =
-    settled_most M queries a c s all (λ v r. h v ((foot_queried M m P is queries o v).1 (inr r)))
 
 pub local_by : (M : Map) → IsMap M → (P : Path) → IsTrue (is_path P.lines) → (A : spec.Answer) (H : List ℕ) →
     Encodes M P A → ((v : ℕ) → (Contains H v) ↔ Foot M P v)
@@ -191,10 +209,18 @@ local_by M m P is A H e f N n g =
 
 -- ---- where a result is a success
 
-pub if_both : {A F : Type 0} (r : Result A F) (P Q R : A → Type 0) → ((x : A) → P x → Q x → R x) → IfOk r P →
-    IfOk r Q → IfOk r R
-if_both (Ok x) P Q R f p q = f x p q
-if_both (Err e) P Q R f p q = tt
+pub if_weaker : {A F : Type 0} (r : Result A F) (P Q : A → Type 0) → ((x : A) → P x → Q x) → IfOk r P → IfOk r Q
+if_weaker (Ok x) P Q f p = f x p
+if_weaker (Err e) P Q f p = tt
+
+pub on_if : {A F : Type 0} (r : Result A F) (P : A → Type 0) (Q : Type 0) → ((x : A) → P x → Q) → IfOk r P → OnOk r Q
+on_if (Ok x) P Q f p = f x p
+on_if (Err e) P Q f p = tt
+
+pub if_on : {A F : Type 0} (r : Result A F) (P : A → Type 0) (Q : Type 0) (R : A → Type 0) →
+    ((x : A) → P x → Q → R x) → IfOk r P → OnOk r Q → IfOk r R
+if_on (Ok x) P Q R f p q = f x p q
+if_on (Err e) P Q R f p q = tt
 
 -- ---- counts
 

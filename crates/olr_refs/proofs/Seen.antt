@@ -1,8 +1,7 @@
 -- What the searches of an encoding note.
-use Rattle.std.proofs.Common.{◌≡◌, ◌<◌, ℕ, List, [], ◌∷◌, ◌++◌, length, Contains, None, Some, Option, refl, sym, ap}
+use Rattle.std.proofs.Common.{◌≡◌, ◌<◌, ℕ, List, [], ◌∷◌, ◌++◌, length, Contains, None, Some, Option, sym, ap}
 use Rattle.std.proofs.Common.{subst, arith, inl, inr, ◌⊎◌}
 use Rattle.std.specs.Prelude.{IsTrue, ◌↔◌, MatchOption}
-use Rattle.std.proofs.lemmas.List.{append-nil}
 use Rattle.std.proofs.lemmas.List.Elements.{Contains-append_left, Contains-append_right, Contains-append_cases}
 use Rattle.olr_spec.specs.Map.{Map, IsMap, has_node}
 use Rattle.olr_spec.specs.Extension.{Path, is_path}
@@ -10,15 +9,15 @@ use Rattle.olr_spec.specs.Footprint.{Sees, Foot}
 use Rattle.olr_spec.specs.Queries.{CoverageQuery, TraversedOf, QueriesOf}
 use Rattle.olr_spec.proofs.TestedLemmas.{foot_queried}
 use Rattle.olr_spec.proofs.ListLemmas.{Contains-here, Contains-cases}
-use Rattle.olr_route.specs.Searches.{IsSearch, LiesWithin, limit_of}
-use Rattle.olr_route.specs.declared.distances.Direction.TheVariants.{Along}
-use Rattle.olr_route.specs.declared.distances.Dijkstra.{Dijkstra}
-use Rattle.olr_refs.specs.Choice.{SeenBy, Notes, NotedAfter}
+use Rattle.olr_search.specs.Searches.{IsSearch, LiesWithin, limit_of}
+use Rattle.olr_search.specs.declared.distances.Direction.TheVariants.{Along}
+use Rattle.olr_search.specs.declared.distances.Dijkstra.{Dijkstra}
+use Rattle.olr_refs.specs.Choice.{SeenBy, Notes}
 use Rattle.olr_refs.proofs.Noting.{search_sees}
 
 -- ---- what is noted
 
-notes_same : (P Q : ℕ → Type 0) (a b : Option (List ℕ)) → ((v : ℕ) → P v ↔ Q v) → Notes P a b → Notes Q a b
+pub notes_same : (P Q : ℕ → Type 0) (a b : Option (List ℕ)) → ((v : ℕ) → P v ↔ Q v) → Notes P a b → Notes Q a b
 notes_same P Q None None e n = tt
 notes_same P Q None (Some g) e n = absurd n
 notes_same P Q (Some f) None e n = absurd n
@@ -31,7 +30,7 @@ notes_same P Q (Some f) (Some g) e n = λ v. (forth v, back v)
     back v (inl o) = (n v).1 (inl o)
     back v (inr q) = (n v).1 (inr ((e v).1 q))
 
-notes_none : (P : ℕ → Type 0) (a : Option (List ℕ)) → ((v : ℕ) → P v → ⊥) → Notes P a a
+pub notes_none : (P : ℕ → Type 0) (a : Option (List ℕ)) → ((v : ℕ) → P v → ⊥) → Notes P a a
 notes_none P None e = tt
 notes_none P (Some f) e = λ v. (λ c. inl c, back v)
   where
@@ -39,7 +38,7 @@ notes_none P (Some f) e = λ v. (λ c. inl c, back v)
     back v (inl o) = o
     back v (inr p) = absurd (e v p)
 
-notes_more : (P Q R : ℕ → Type 0) (a b c : Option (List ℕ)) → ((v : ℕ) → R v ↔ (P v ⊎ Q v)) → Notes P a b →
+pub notes_more : (P Q R : ℕ → Type 0) (a b c : Option (List ℕ)) → ((v : ℕ) → R v ↔ (P v ⊎ Q v)) → Notes P a b →
     Notes Q b c → Notes R a c
 notes_more P Q R None None c e n m = more c m
   where
@@ -82,10 +81,10 @@ query_noted M place l s q a b h there begun far n = notes_same _ _ a b (search_s
 
 -- ---- what the queries reach
 
-seen_none : (M : Map) (v : ℕ) → SeenBy M [] v → ⊥
+pub seen_none : (M : Map) (v : ℕ) → SeenBy M [] v → ⊥
 seen_none M v s = let h = s.1.1 in absurd (omega arith)
 
-seen_one : (M : Map) (l : CoverageQuery) (v : ℕ) → Sees M l v ↔ SeenBy M (l ∷ []) v
+pub seen_one : (M : Map) (l : CoverageQuery) (v : ℕ) → Sees M l v ↔ SeenBy M (l ∷ []) v
 seen_one M l v = (λ s. (l, Contains-here l [], s), forth)
   where
     forth : SeenBy M (l ∷ []) v → Sees M l v
@@ -94,7 +93,7 @@ seen_one M l v = (λ s. (l, Contains-here l [], s), forth)
       | inr none ↦ let never : none.0 < 0 = none.1 in absurd (omega arith)
     ]
 
-seen_append : (M : Map) (ks ls : List CoverageQuery) (v : ℕ) → SeenBy M (ks ++ ls) v ↔ (SeenBy M ks v ⊎ SeenBy M ls v)
+pub seen_append : (M : Map) (ks ls : List CoverageQuery) (v : ℕ) → SeenBy M (ks ++ ls) v ↔ (SeenBy M ks v ⊎ SeenBy M ls v)
 seen_append M ks ls v = (forth, back)
   where
     forth : SeenBy M (ks ++ ls) v → SeenBy M ks v ⊎ SeenBy M ls v
@@ -111,22 +110,6 @@ pub noted_none : (M : Map) (queries : List CoverageQuery) (a : Option (List ℕ)
     Notes (SeenBy M queries) a a
 noted_none M queries a e =
     subst (λ (ks : List CoverageQuery). Notes (SeenBy M ks) a a) (sym e) (notes_none (SeenBy M []) a (seen_none M))
-
--- no further query
-pub noted_nowhere : (M : Map) (queries : List CoverageQuery) (a : Option (List ℕ)) → NotedAfter M queries queries a a
-noted_nowhere M queries a = ([], sym (append-nil queries), noted_none M [] a refl)
-
--- and one more
-pub noted_once : (M : Map) (l : CoverageQuery) (old new : List CoverageQuery) (a b : Option (List ℕ)) →
-    new ≡ old ++ l ∷ [] →
-    Notes (Sees M l) a b → NotedAfter M old new a b
-noted_once M l old new a b e n = (l ∷ [], e, notes_same _ _ a b (seen_one M l) n)
-
-pub noted_more : (M : Map) (old new : List CoverageQuery) (a b c : Option (List ℕ)) → Notes (SeenBy M old) a b →
-    NotedAfter M old new b c → Notes (SeenBy M new) a c
-noted_more M old new a b c n m =
-    subst (λ (ks : List CoverageQuery). Notes (SeenBy M ks) a c) (sym m.1)
-    (notes_more (SeenBy M old) (SeenBy M m.0) _ a b c (seen_append M old m.0) n m.2)
 
 -- ---- the footprint
 

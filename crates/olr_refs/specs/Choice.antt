@@ -7,20 +7,17 @@
 --     SettledBy M queries old new      a count is raised for each of the queries, by the number of nodes that the query
 --         sees
 --     Queried M queries old new      one search more for each of the queries, which settles the nodes that it reaches
---     QueriedAfter M ls i old new before after      where two lines or more follow line i there is one query more, and
---         its search is counted
 --     SeenBy M queries v      one of the queries reaches node v
 --     Notes near old new      where nodes are noted, those that are `near` are noted besides
---     NotedAfter M old new before after      the queries that were added are noted: the nodes that they reach
-use Rattle.std.specs.Prelude.{◌≡◌, ◌≢◌, ◌==◌, ℕ, zero, suc, ◌+◌, ◌≤◌, List, [], ◌∷◌, ◌++◌, length, count_by, nat_lt}
+use Rattle.std.specs.Prelude.{◌≡◌, ◌≢◌, ◌==◌, ℕ, zero, suc, ◌+◌, ◌≤◌, List, [], ◌∷◌, length, count_by, nat_lt}
 use Rattle.std.specs.Prelude.{Contains, Option, Some, None, ◌↔◌, ◌⊎◌, ⊤}
 use Rattle.std.specs.List.{IsDistinct}
 use Rattle.olr_spec.specs.Map.{Map}
 use Rattle.olr_spec.specs.Points.{Follow, last_position}
 use Rattle.olr_spec.specs.Footprint.{Sees}
-use Rattle.olr_spec.specs.Queries.{CoverageQuery, QueriesFrom, querying}
-use Rattle.olr_route.specs.declared.work.Work.{Work}
-use Rattle.olr_route.specs.Counts.{saturated_count}
+use Rattle.olr_spec.specs.Queries.{CoverageQuery}
+use Rattle.olr_search.specs.declared.work.Work.{Work}
+use Rattle.olr_search.specs.Counts.{saturated_count}
 use Rattle.olr_refs.specs.declared.chosen.Choice.{Choice}
 use Rattle.olr_refs.specs.declared.chosen.Choice.TheVariants.{Positions, NoNext}
 
@@ -55,13 +52,6 @@ pub record Queried (M : Map) (queries : List CoverageQuery) (old new : Work) : T
   pub ascends : saturated_count old.settled ≤ new.settled
   pub settled : SettledBy M queries old.settled new.settled
 
-pub record QueriedAfter (M : Map) (ls : List ℕ) (i : ℕ) (old new : List CoverageQuery) (before after : Work) : Type 0
-  where
-    pub added : List CoverageQuery
-    pub each : QueriesFrom M ls (querying ls (i ∷ [])) added
-    pub grown : new ≡ old ++ added
-    pub counts : Queried M added before after
-
 abbrev pub SeenBy : Map → List CoverageQuery → ℕ → Type 0
 SeenBy M queries v = (l : CoverageQuery) × Contains queries l × Sees M l v
 
@@ -71,7 +61,3 @@ Notes near None None = ⊤
 Notes near None (Some new) = ⊥
 Notes near (Some old) None = ⊥
 Notes near (Some old) (Some new) = (v : ℕ) → Contains new v ↔ (Contains old v ⊎ near v)
-
-abbrev pub NotedAfter : Map → List CoverageQuery → List CoverageQuery → Option (List ℕ) → Option (List ℕ) → Type 0
-NotedAfter M old new before after = (added : List CoverageQuery) × (new ≡ old ++ added)
-    × Notes (SeenBy M added) before after

@@ -1,12 +1,13 @@
 -- Parts of the fields of a reference.
---     lowest_class gs      the lowest class of some legs, which is the greatest number
+--     lowest_class rs      the lowest class of some lines, which is the greatest number
 --     middle_points_of gs ps      the LRPs of ps between the first and the last
 use Rattle.std.specs.Prelude.{ℕ, max, List, [], ◌∷◌, map, fold}
 use Rattle.olr_spec.specs.Bearings.{Leg}
 use Rattle.olr_spec.specs.Reference.{Middle, middle_points}
+use Rattle.olr_refs.specs.ResolvedLines.{ResolvedLine}
 
-abbrev pub lowest_class : List Leg → ℕ
-lowest_class gs = fold max 0 (map (λ g. g.line.frc) gs)
+abbrev pub lowest_class : List ResolvedLine → ℕ
+lowest_class rs = fold max 0 (map (λ r. r.frc) rs)
 
 abbrev pub middle_points_of : List Leg → List ℕ → List Middle
 middle_points_of gs [] = []

@@ -1,10 +1,13 @@
 pub mod Along
 pub mod Answers
+pub mod Beyond
 pub mod Choice
 pub mod Coded
+pub mod ResolvedLines
 pub mod ResolvedPaths
 pub mod Extends
 pub mod Fields
 pub mod KeptPoints
 pub mod Recovered
 pub mod Referring
+pub mod Reuse

@@ -1,11 +1,12 @@
--- What a value states about its lines and distances has at most one proof, as the compiler requires for a fact that a
+-- What a value states about its lines, their records and their distances has at most one proof, as the compiler requires for a fact that a
 -- value carries.
-use Rattle.std.specs.Prelude.{ℕ, List, [], ◌∷◌}
-use Rattle.std.specs.Coded.{Coded-set, coded_ℕ, coded_bool}
+use Rattle.std.specs.Prelude.{◌≡◌, ℕ, List, [], ◌∷◌}
+use Rattle.std.specs.Coded.{Coded-set, coded_ℕ, coded_bool, coded_list}
 use Rattle.olr_spec.specs.Map.{Map, start, end}
 use Rattle.olr_spec.specs.Routes.{IsRoute}
 use Rattle.olr_spec.specs.Extension.{first, last, AreJoined}
 use Rattle.olr_refs.specs.Along.{AreDistances}
+use Rattle.olr_refs.specs.ResolvedLines.{ResolvedLine, records_of, coded_resolved_line}
 
 pub IsRoute-prop : (M : Map) (s t : ℕ) (xs : List ℕ) → IsProp (IsRoute M s t xs)
 IsRoute-prop M s t [] = Coded-set coded_ℕ s t
@@ -19,6 +20,9 @@ IsRoute-prop M s t (x ∷ xs) =
 
 pub AreJoined-prop : (M : Map) (ls : List ℕ) → IsProp (AreJoined M ls)
 AreJoined-prop M ls = IsRoute-prop M (start M (first ls)) (end M (last ls)) ls
+
+pub AreRecords-prop : (M : Map) (ls : List ℕ) (rs : List ResolvedLine) → IsProp (rs ≡ records_of M ls)
+AreRecords-prop M ls rs = Coded-set (coded_list coded_resolved_line) rs (records_of M ls)
 
 pub AreDistances-prop : (M : Map) (ls ds : List ℕ) → IsProp (AreDistances M ls ds)
 AreDistances-prop M ls ds = λ d e i. record {

@@ -1,30 +1,34 @@
 //! Positions along the lines of a path: position `k` below the number of lines is the start of line `k`, and the last
 //! position is the end of the last line.
-ghost use Rattle.std.specs.Prelude.{◌≡◌, ◌<◌, ◌≤◌, IsTrue, IfOk, length, slice_index};
-ghost use Rattle.olr_spec.specs.Map.{has_line, has_node, end, is_good, line_at, coord_at};
+ghost use Rattle.std.specs.Prelude.{◌≡◌, ◌<◌, ◌≤◌, ℕ, List, IsTrue, IfOk, length, slice_index};
+ghost use Rattle.olr_spec.specs.Map.{Map, has_line, has_node, end, is_good, line_at, coord_at};
 ghost use Rattle.olr_spec.specs.Routes.{dm_of};
 ghost use Rattle.olr_spec.specs.Points.{node_at, stretch};
 ghost use Rattle.olr_spec.specs.Reference.{legs, dm_between, position};
 ghost use Rattle.olr_refs.specs.Along.{AreDistances};
 ghost use Rattle.olr_spec.specs.Extension.{AreJoined};
-ghost use Rattle.olr_refs.specs.ResolvedPaths.{AreJoined-prop, AreDistances-prop};
+ghost use Rattle.olr_refs.specs.ResolvedLines.{records_of};
+ghost use Rattle.olr_refs.specs.ResolvedPaths.{AreJoined-prop, AreRecords-prop, AreDistances-prop};
 
-use crate::lines::{end_of, len_of, start_of};
+use crate::resolved::ResolvedLine;
 use olr_coords::Coord;
 use olr_map::{Line, LineId, MapRead, NodeId};
 use std::alloc::{AllocError, Global};
 
-/// Joined lines of a map, each of which ends where the next begins, with the distances of their positions: the lines
-/// along which a path is encoded.
+/// Joined lines of a map, each of which ends where the next begins, as the map has them, with the distances of their
+/// positions: the lines along which a path is encoded.
 #[derive(Drop)]
 pub struct ResolvedPath<'a, M: MapRead> {
     /// The map.
     pub map: &'a M,
     /// The lines, in the order of travel.
     pub lines: &'a [LineId],
+    /// What an encoding needs of each of them.
+    pub records: &'a [ResolvedLine],
     /// The distance of each position from the start, in decimetres.
     pub distances: &'a [u128],
     ghost joined: { AreJoined (M.map map.now) lines.now } by { AreJoined-prop (M.map map.now) lines.now },
+    ghost resolved: { records.now ≡ records_of (M.map map.now) lines.now } by { AreRecords-prop (M.map map.now) lines.now records.now },
     ghost measured: { AreDistances (M.map map.now) lines.now distances.now } by { AreDistances-prop (M.map map.now) lines.now distances.now },
 }
 
@@ -47,10 +51,11 @@ impl<M: MapRead> ResolvedPath<'_, M> {
         ensures value { result ≡ node_at (M.map self.now.map.now) self.now.lines.now k }
         ensures known { IsTrue (has_node (M.map self.now.map.now) result) }
     {
-        if k < self.lines.len() {
-            start_of(self.map, self.lines[k])
+        if k < self.records.len() {
+            let record = self.records[k];
+            record.from
         } else {
-            end_of(self.map, self.lines[self.lines.len() - 1])
+            self.end(self.records.len() - 1)
         }
     }
 
@@ -60,7 +65,8 @@ impl<M: MapRead> ResolvedPath<'_, M> {
         ensures value { result ≡ end (M.map self.now.map.now) (slice_index self.now.lines.now k) }
         ensures known { IsTrue (has_node (M.map self.now.map.now) result) }
     {
-        end_of(self.map, self.lines[k])
+        let record = self.records[k];
+        record.to
     }
 
     /// The coordinate of position `k`.
@@ -102,19 +108,15 @@ pub fn coord_of<M: MapRead>(map: &M, node: NodeId) -> Coord
 }
 
 /// The distance of each position from the start, in decimetres. 128 bits suffice for any list of lines.
-pub fn distances<M: MapRead>(
-    alloc: Global,
-    map: &M,
-    lines: &[LineId],
-) -> Result<Vec<u128>, AllocError>
-    requires joined { AreJoined (M.map map.now) lines.now }
-    ensures { IfOk result (λ distances. AreDistances (M.map map.now) lines.now distances.items) }
+pub fn distances(alloc: Global, records: &[ResolvedLine]) -> Result<Vec<u128>, AllocError>
+    ensures { IfOk result (λ distances. (M : Map) (ls : List ℕ) → records.now ≡ records_of M ls
+        → AreDistances M ls distances.items) }
 {
-    let mut distances = Vec::new(alloc);
+    let mut distances = Vec::with_capacity(alloc, records.len() + 1)?;
     let mut along: u128 = 0;
     distances.push(along)?;
-    for line in lines {
-        along += u128::from(len_of(map, *line));
+    for record in records {
+        along += u128::from(record.len);
         distances.push(along)?;
     }
     Ok(distances)

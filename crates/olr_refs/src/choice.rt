@@ -11,7 +11,7 @@ use crate::along::ResolvedPath;
 use crate::nodes::passing;
 use olr_coords::{Coord, rel16};
 use olr_map::MapRead;
-use olr_route::GREATEST_LIMIT;
+use olr_search::GREATEST_LIMIT;
 
 /// The last position, from `i` on, that is at most 150,000 dm from position `i`.
 fn last_within(distances: &[u128], i: usize) -> usize

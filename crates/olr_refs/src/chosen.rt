@@ -1,18 +1,21 @@
 //! The location reference points of an extended path.
-ghost use Rattle.std.specs.Prelude.{ℕ, List, ◌+◌, ◌<◌, ◌≤◌, [], ◌∷◌, IfOk, OnOk, length};
+ghost use Rattle.std.specs.Prelude.{◌≡◌, ℕ, List, ◌+◌, ◌<◌, ◌≤◌, [], ◌∷◌, ◌++◌, IfOk, OnOk, length};
 ghost use Rattle.olr_spec.specs.Map.{Map};
 ghost use Rattle.olr_spec.specs.Footprint.{Sees};
-ghost use Rattle.olr_spec.specs.Queries.{IsQuery, QueriesFrom, querying};
-ghost use Rattle.olr_route.specs.Searches.{IsSearch, LiesWithin, limit_of};
-ghost use Rattle.olr_refs.specs.Along.{IsReach};
-ghost use Rattle.olr_refs.specs.Choice.{ForPoints, IsChoice, Queried, QueriedAfter, NotedAfter, Notes, SeenBy};
+ghost use Rattle.olr_spec.specs.Queries.{IsLastTested, query_to};
+ghost use Rattle.olr_search.specs.Searches.{IsSearch, LiesWithin, limit_of};
+ghost use Rattle.olr_refs.specs.Along.{IsFar, IsReach};
+ghost use Rattle.olr_refs.specs.Choice.{ForPoints, IsChoice, Queried, Notes};
+ghost use Rattle.std.specs.Option.{option_to_list};
+ghost use Rattle.olr_refs.specs.Reuse.{Reuses, Asks, AsksAfter};
 
 use crate::along::ResolvedPath;
 use crate::choice::{last_within_limit, next_of};
-use crate::coverage_query::CoverageQuery;
-use crate::reach::covered_to;
+use crate::coverage_query::{CoverageQuery, KnownQuery};
+use crate::reach::{Tested, covered_to};
+use crate::reuse::{Reuse, known_after, own_query, query_of, reach_by};
 use olr_map::{Footprint, MapRead};
-use olr_route::{Dijkstra, Direction, Work};
+use olr_search::{Dijkstra, Direction, Work};
 use std::alloc::{AllocError, Global};
 
 /// The LRPs of an extended path, or why there are none.
@@ -24,13 +27,22 @@ pub enum Choice {
     NoNext(usize),
 }
 
+/// Coverage queries of a path.
+#[derive(Drop, Debug)]
+pub struct Queries {
+    /// One coverage query from each LRP whose line is followed by two lines or more.
+    pub all: Vec<CoverageQuery>,
+    /// Those of them that are along the path's own lines.
+    pub own: Vec<KnownQuery>,
+}
+
 /// The LRPs of an extended path, and the coverage queries by which they were found.
 #[derive(Drop, Debug)]
 pub struct Chosen {
     /// The LRPs, or why there are none.
     pub choice: Choice,
-    /// One coverage query from each LRP whose line is followed by two lines or more.
-    pub queries: Vec<CoverageQuery>,
+    /// The coverage queries.
+    pub queries: Queries,
 }
 
 /// Adds the nodes that a search has settled to those that were seen, where these are noted.
@@ -52,25 +64,30 @@ fn note_settled(
     Ok(())
 }
 
-/// How far the positions after `i` are covered and near enough, where two lines or more follow line `i`; and the query
-/// for that, by one search, which settles the nodes that the query reaches. These are noted where any are.
-fn query_after<M: MapRead>(
+/// How far the positions after `i` are covered and near enough, where two lines or more follow line `i`, and how far
+/// that was tested; and the query for that, by one search, which settles the nodes that the query reaches. These are
+/// noted where any are. Positions up to `far` are near enough.
+fn search_after<M: MapRead>(
     alloc: Global,
     resolved: &ResolvedPath<M>,
     i: usize,
+    far: usize,
     search: &mut Dijkstra,
     seen: &mut Option<Footprint>,
     work: &mut Work,
-) -> Result<(usize, CoverageQuery), AllocError>
-    requires { i + 2 < length resolved.now.lines.now }
-    ensures reach { IfOk result (λ r. IsReach (M.map resolved.now.map.now) resolved.now.lines.now i r.0) }
-    ensures query { IfOk result (λ r. IsQuery (M.map resolved.now.map.now) resolved.now.lines.now i r.1) }
+) -> Result<(Tested, CoverageQuery), AllocError>
+    requires some { i + 2 < length resolved.now.lines.now }
+    requires far { IsFar (M.map resolved.now.map.now) resolved.now.lines.now i far }
+    ensures reach { IfOk result (λ r. IsReach (M.map resolved.now.map.now) resolved.now.lines.now i r.0.reach) }
+    ensures last { IfOk result (λ r. IsLastTested (M.map resolved.now.map.now) resolved.now.lines.now i r.0.last) }
+    ensures query { IfOk result
+        (λ r. r.1 ≡ query_to (M.map resolved.now.map.now) resolved.now.lines.now i r.0.last) }
     ensures seen { IfOk result (λ r. Notes (Sees (M.map resolved.now.map.now) r.1) seen.old seen.new) }
     ensures work { IfOk result (λ r. Queried (M.map resolved.now.map.now) (r.1 ∷ []) work.old work.new) }
 {
     let from = resolved.end(i);
     search.begin(resolved.map, Direction::Along, &[(from, 0)])?;
-    let tested = covered_to(resolved, i, last_within_limit(resolved, i), search)?;
+    let tested = covered_to(resolved, i, far, search)?;
     note_settled(alloc, search, seen)?;
     work.searches = work.searches.saturating_add(1);
     work.settled = work.settled.saturating_add(search.settled_count() as u64);
@@ -79,65 +96,114 @@ fn query_after<M: MapRead>(
         to: resolved.node(tested.last),
         within: resolved.between(i + 1, tested.last) as u32,
     };
-    Ok((tested.reach, query))
+    Ok((tested, query))
+}
+
+/// How far the positions after `i` are covered and near enough, where two lines or more follow line `i`; the query for
+/// that; and this as a query along the path's own lines, where it is one. It is searched where it isn't known, and then
+/// what it sees is noted where anything is.
+fn query_after<M: MapRead>(
+    alloc: Global,
+    resolved: &ResolvedPath<M>,
+    reuse: &Reuse,
+    i: usize,
+    search: &mut Dijkstra,
+    seen: &mut Option<Footprint>,
+    work: &mut Work,
+) -> Result<(usize, CoverageQuery, Option<KnownQuery>), AllocError>
+    requires some { i + 2 < length resolved.now.lines.now }
+    requires reuse { Reuses (M.map resolved.now.map.now) resolved.now.lines.now reuse.now.lead reuse.now.own
+        reuse.now.known.now }
+    ensures reach { IfOk result (λ r. IsReach (M.map resolved.now.map.now) resolved.now.lines.now i r.0) }
+    ensures asks { IfOk result (λ r. Asks (M.map resolved.now.map.now) resolved.now.lines.now reuse.now.lead
+        reuse.now.own reuse.now.known.now (i ∷ []) (r.1 ∷ []) (option_to_list r.2) work.old work.new seen.old seen.new) }
+{
+    let far = last_within_limit(resolved, i);
+    match known_after(resolved, reuse, i, far) {
+        Some(known) => {
+            let reach = reach_by(&known, reuse.lead, far);
+            Ok((reach, query_of(&known), Some(known)))
+        }
+        None => {
+            let (tested, query) = search_after(alloc, resolved, i, far, search, seen, work)?;
+            let own = own_query(resolved, reuse, i, query, tested);
+            Ok((tested.reach, query, own))
+        }
+    }
 }
 
 /// How far the positions after `i` are covered and near enough. The query for that, where two lines or more follow line
-/// `i`, is put behind the others, and what it sees is noted where anything is.
+/// `i`, is put behind the others.
 fn reach_of<M: MapRead>(
     alloc: Global,
     resolved: &ResolvedPath<M>,
+    reuse: &Reuse,
     i: usize,
-    queries: &mut Vec<CoverageQuery>,
+    queries: &mut Queries,
     search: &mut Dijkstra,
     seen: &mut Option<Footprint>,
     work: &mut Work,
 ) -> Result<usize, AllocError>
-    requires { i < length resolved.now.lines.now }
+    requires some { i < length resolved.now.lines.now }
+    requires reuse { Reuses (M.map resolved.now.map.now) resolved.now.lines.now reuse.now.lead reuse.now.own
+        reuse.now.known.now }
     ensures reach { IfOk result (IsReach (M.map resolved.now.map.now) resolved.now.lines.now i) }
-    ensures queries { IfOk result (λ _. QueriedAfter (M.map resolved.now.map.now) resolved.now.lines.now i
-        queries.old.items queries.new.items work.old work.new) }
-    ensures seen { IfOk result (λ _. NotedAfter (M.map resolved.now.map.now) queries.old.items queries.new.items
-        seen.old seen.new) }
+    ensures asks { IfOk result (λ _. AsksAfter (M.map resolved.now.map.now) resolved.now.lines.now reuse.now.lead
+        reuse.now.own reuse.now.known.now i queries.old.all.items queries.new.all.items queries.old.own.items
+        queries.new.own.items work.old work.new seen.old seen.new) }
 {
     if resolved.lines.len() - i <= 2 {
         return Ok(last_within_limit(resolved, i));
     }
-    let (reach, query) = query_after(alloc, resolved, i, search, seen, work)?;
-    queries.push(query)?;
+    let (reach, query, own) = query_after(alloc, resolved, reuse, i, search, seen, work)?;
+    queries.all.push(query)?;
+    if let Some(own) = own {
+        queries.own.push(own)?;
+    }
     Ok(reach)
 }
 
 /// The location reference points of an extended path, by position: the first position, the one that follows it as a
 /// point, and so on to the end, or the position that none can follow (White Paper, intermediate points and the 15,000 m
 /// rule; which one follows is the profile's choice). Each point that two lines or more follow is searched from once, no
-/// farther than it takes to find the next one. The nodes that these searches settle are added to those that were seen,
-/// where these are noted; `None` notes nothing. If it is out of memory, the work may hold more than before, and so may
-/// what was seen; and the search has to be begun again.
+/// farther than it takes to find the next one, unless its coverage query is known. The nodes that these searches settle
+/// are added to those that were seen, where these are noted; `None` notes nothing. If it is out of memory, the work may
+/// hold more than before, and so may what was seen; and the search has to be begun again.
 pub fn points<M: MapRead>(
     alloc: Global,
     resolved: &ResolvedPath<M>,
+    reuse: &Reuse,
     search: &mut Dijkstra,
     seen: &mut Option<Footprint>,
     work: &mut Work,
 ) -> Result<Chosen, AllocError>
+    requires { Reuses (M.map resolved.now.map.now) resolved.now.lines.now reuse.now.lead reuse.now.own
+        reuse.now.known.now }
     ensures choice { IfOk result (λ chosen. ForPoints (M.map resolved.now.map.now) resolved.now.lines.now
         (λ js. IsChoice resolved.now.lines.now js chosen.choice)) }
-    ensures queries { IfOk result (λ chosen. ForPoints (M.map resolved.now.map.now) resolved.now.lines.now
-        (λ js. QueriesFrom (M.map resolved.now.map.now) resolved.now.lines.now
-        (querying resolved.now.lines.now (0 ∷ js))
-        chosen.queries.items)) }
-    ensures seen { IfOk result
-        (λ chosen. Notes (SeenBy (M.map resolved.now.map.now) chosen.queries.items) seen.old seen.new) }
-    ensures work { IfOk result
-        (λ chosen. Queried (M.map resolved.now.map.now) chosen.queries.items work.old work.new) }
+    ensures asks { IfOk result (λ chosen. ForPoints (M.map resolved.now.map.now) resolved.now.lines.now
+        (λ js. Asks (M.map resolved.now.map.now) resolved.now.lines.now reuse.now.lead reuse.now.own
+        reuse.now.known.now (0 ∷ js) chosen.queries.all.items chosen.queries.own.items work.old work.new seen.old
+        seen.new)) }
 {
-    let mut queries = Vec::new(alloc);
+    let mut queries = Queries {
+        all: Vec::new(alloc),
+        own: Vec::new(alloc),
+    };
     let mut positions = Vec::new(alloc);
     positions.push(0)?;
     let mut last = 0;
     while last < resolved.lines.len() {
-        let reach = reach_of(alloc, resolved, last, &mut queries, search, seen, work)?;
+        let reach = reach_of(
+            alloc,
+            resolved,
+            reuse,
+            last,
+            &mut queries,
+            search,
+            seen,
+            work,
+        )?;
         match next_of(resolved, last, reach) {
             Some(next) => {
                 positions.push(next)?;

@@ -28,3 +28,30 @@ impl Model for CoverageQuery {
 
     ghost inverse = { λ l. record { from = l.from; to = l.to; within = l.within } };
 }
+
+/// A coverage query along a path's own lines, and its positions in them. On another map it is right as well where the
+/// changes between the maps offer no detour that is as short: then it is not searched again.
+#[derive(Clone, Copy, Debug, PartialEq, Eq)]
+pub struct KnownQuery {
+    /// The query.
+    pub query: CoverageQuery,
+    /// The line of the path at whose start the query begins.
+    pub first: u32,
+    /// The position in the path's lines where it ends: the number of the lines up to there.
+    pub last: u32,
+    /// Whether that position is covered.
+    pub covered: bool,
+}
+
+impl Model for KnownQuery {
+    ghost use Rattle.olr_spec.specs.Queries.{KnownQuery as Record};
+    ghost use Rattle.olr_refs.specs.Coded.{coded_known};
+
+    ghost Value = { Record };
+
+    ghost coded = { coded_known };
+
+    ghost view = { λ e. record { query = e.query; first = e.first; last = e.last; covered = e.covered } };
+
+    ghost inverse = { λ e. record { query = e.query; first = e.first; last = e.last; covered = e.covered } };
+}

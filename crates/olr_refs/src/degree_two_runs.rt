@@ -1,23 +1,25 @@
 //! Runs of degree-two nodes, by which the ends of a path are extended to valid nodes.
-ghost use Rattle.std.specs.Prelude.{◌≡◌, ◌<◌, ◌≤◌, ◌+◌, ◌⊎◌, ℕ, IsTrue, IsFalse, not, if◌then◌else◌, IfOk, IfSome};
-ghost use Rattle.std.specs.Prelude.{IfNone, MatchOption, length, [], ◌∷◌, ◌++◌};
-ghost use Rattle.olr_spec.specs.Map.{has_line, start, end, dm, has};
+ghost use Rattle.std.specs.Prelude.{◌≡◌, ◌<◌, ◌≤◌, ◌+◌, ◌⊎◌, IsTrue, IsFalse, not, if◌then◌else◌, IfOk, IfSome, IfNone};
+ghost use Rattle.std.specs.Prelude.{MatchOption, Some, length, [], ◌++◌, ⊤};
+ghost use Rattle.olr_spec.specs.Map.{has_line, start, end, has};
 ghost use Rattle.olr_spec.specs.Routes.{dm_of};
-ghost use Rattle.olr_spec.specs.Extension.{passing, first, last, limit, MayPrecede, MayFollow, LongestStart};
-ghost use Rattle.olr_spec.specs.Extension.{LongestEnd};
+ghost use Rattle.olr_spec.specs.Extension.{passing, first, last, limit, LongestStart, LongestEnd};
+ghost use Rattle.olr_refs.specs.Beyond.{LiesBefore, LiesAfter};
+ghost use Rattle.olr_refs.specs.ResolvedLines.{record_of, ids, AreRecords};
 
 use crate::line_set::LineSet;
-use crate::lines::{end_of, ends_of, len_of, start_of};
+use crate::lines::{end_of, start_of};
 use crate::nodes::passing;
+use crate::resolved::{ResolvedLine, record_of};
 use olr_map::{LineId, MapRead};
-use olr_route::GREATEST_LIMIT;
+use olr_search::GREATEST_LIMIT;
 use std::alloc::{AllocError, Global};
 
 /// A run of degree-two nodes: lines that lead through such nodes to the first line of a list, or from its last one.
 #[derive(Drop)]
 pub(crate) struct DegreeTwoRun {
     /// The lines, in the order of travel.
-    pub(crate) lines: Vec<LineId>,
+    pub(crate) records: Vec<ResolvedLine>,
     /// Their total length, in decimetres.
     pub(crate) len: u32,
     /// Whether the node at the far end is valid; for an empty run, the node at that end of the list.
@@ -27,43 +29,52 @@ pub(crate) struct DegreeTwoRun {
 impl DegreeTwoRun {
     /// The part by which a path is extended, and its length: the whole run if it leads to a valid node, otherwise
     /// nothing.
-    pub(crate) fn taken_part(&self) -> (&[LineId], u32)
-        ensures lines { result.0.now ≡ (if self.now.valid then self.now.lines.items else []) }
+    pub(crate) fn taken_part(&self) -> (&[ResolvedLine], u32)
+        ensures records { result.0.now ≡ (if self.now.valid then self.now.records.items else []) }
         ensures len { result.1 ≡ (if self.now.valid then self.now.len else 0) }
     {
         if self.valid {
-            (&self.lines, self.len)
+            (&self.records, self.len)
         } else {
             (&[], 0)
         }
     }
 }
 
+/// What lies beyond an end of some lines.
+#[derive(Clone, Copy)]
+struct Beyond {
+    /// Whether the node there is a degree-two node.
+    passing: bool,
+    /// The one line that leads on through it. None if the node is valid.
+    line: Option<LineId>,
+}
+
 /// The longest run of degree-two nodes within the limit that leads to the first of these lines. Does not allocate in
-/// the
-/// common case, a valid start of the list.
+/// the common case, a valid start of the list.
 pub(crate) fn run_before<M: MapRead>(
     alloc: Global,
     map: &M,
-    lines: &[LineId],
+    records: &[ResolvedLine],
 ) -> Result<DegreeTwoRun, AllocError>
-    requires some { 0 < length lines.now }
-    requires known { IsTrue (has_line (M.map map.now) (first lines.now)) }
-    ensures longest { IfOk result
-        (λ run. LongestStart (M.map map.now) run.lines.items lines.now) }
-    ensures len { IfOk result (λ run. run.len ≡ dm_of (M.map map.now) run.lines.items) }
-    ensures valid { IfOk result (λ run. run.valid
-        ≡ not (passing (M.map map.now) (start (M.map map.now) (first (run.lines.items ++ lines.now))))) }
+    requires some { 0 < length records.now }
+    requires known { IsTrue (has_line (M.map map.now) (first (ids records.now))) }
+    requires records { AreRecords (M.map map.now) records.now }
+    ensures longest { IfOk result (λ run. LongestStart (M.map map.now) (ids run.records.items) (ids records.now)) }
+    ensures records { IfOk result (λ run. AreRecords (M.map map.now) run.records.items) }
+    ensures len { IfOk result (λ run. run.len ≡ dm_of (M.map map.now) (ids run.records.items)) }
+    ensures valid { IfOk result (λ run. run.valid ≡ not (passing (M.map map.now)
+        (start (M.map map.now) (first (ids run.records.items ++ ids records.now))))) }
 {
-    let first = lines[0];
-    if line_before(map, first).is_some() {
-        return grown_before(alloc, map, lines);
+    let beyond = line_before(map, records[0]);
+    if beyond.line.is_none() {
+        return Ok(DegreeTwoRun {
+            records: Vec::new(alloc),
+            len: 0,
+            valid: !beyond.passing,
+        });
     }
-    Ok(DegreeTwoRun {
-        lines: Vec::new(alloc),
-        len: 0,
-        valid: !passing(map, start_of(map, first)),
-    })
+    grown_before(alloc, map, records, beyond)
 }
 
 /// The longest run of degree-two nodes within the limit that leads from the last of these lines. Does not allocate in
@@ -71,158 +82,161 @@ pub(crate) fn run_before<M: MapRead>(
 pub(crate) fn run_after<M: MapRead>(
     alloc: Global,
     map: &M,
-    lines: &[LineId],
+    records: &[ResolvedLine],
 ) -> Result<DegreeTwoRun, AllocError>
-    requires some { 0 < length lines.now }
-    requires known { IsTrue (has_line (M.map map.now) (last lines.now)) }
-    ensures longest { IfOk result
-        (λ run. LongestEnd (M.map map.now) lines.now run.lines.items) }
-    ensures len { IfOk result (λ run. run.len ≡ dm_of (M.map map.now) run.lines.items) }
-    ensures valid { IfOk result (λ run. run.valid
-        ≡ not (passing (M.map map.now) (end (M.map map.now) (last (lines.now ++ run.lines.items))))) }
+    requires some { 0 < length records.now }
+    requires known { IsTrue (has_line (M.map map.now) (last (ids records.now))) }
+    requires records { AreRecords (M.map map.now) records.now }
+    ensures longest { IfOk result (λ run. LongestEnd (M.map map.now) (ids records.now) (ids run.records.items)) }
+    ensures records { IfOk result (λ run. AreRecords (M.map map.now) run.records.items) }
+    ensures len { IfOk result (λ run. run.len ≡ dm_of (M.map map.now) (ids run.records.items)) }
+    ensures valid { IfOk result (λ run. run.valid ≡ not (passing (M.map map.now)
+        (end (M.map map.now) (last (ids records.now ++ ids run.records.items))))) }
 {
-    let last = lines[lines.len() - 1];
-    if line_after(map, last).is_some() {
-        return grown_after(alloc, map, lines);
+    let beyond = line_after(map, records[records.len() - 1]);
+    if beyond.line.is_none() {
+        return Ok(DegreeTwoRun {
+            records: Vec::new(alloc),
+            len: 0,
+            valid: !beyond.passing,
+        });
     }
-    Ok(DegreeTwoRun {
-        lines: Vec::new(alloc),
-        len: 0,
-        valid: !passing(map, end_of(map, last)),
-    })
+    grown_after(alloc, map, records, beyond)
 }
 
-/// The longest run before these lines, built line by line.
+/// The longest run before these lines, built line by line, by what lies beyond the first of them.
 fn grown_before<M: MapRead>(
     alloc: Global,
     map: &M,
-    lines: &[LineId],
+    records: &[ResolvedLine],
+    beyond: Beyond,
 ) -> Result<DegreeTwoRun, AllocError>
-    requires some { 0 < length lines.now }
-    requires known { IsTrue (has_line (M.map map.now) (first lines.now)) }
-    ensures longest { IfOk result
-        (λ run. LongestStart (M.map map.now) run.lines.items lines.now) }
-    ensures len { IfOk result (λ run. run.len ≡ dm_of (M.map map.now) run.lines.items) }
-    ensures valid { IfOk result (λ run. run.valid
-        ≡ not (passing (M.map map.now) (start (M.map map.now) (first (run.lines.items ++ lines.now))))) }
+    requires some { 0 < length records.now }
+    requires known { IsTrue (has_line (M.map map.now) (first (ids records.now))) }
+    requires beyond { LiesBefore (M.map map.now) (first (ids records.now)) beyond.passing beyond.line }
+    ensures longest { IfOk result (λ run. LongestStart (M.map map.now) (ids run.records.items) (ids records.now)) }
+    ensures records { IfOk result (λ run. AreRecords (M.map map.now) run.records.items) }
+    ensures len { IfOk result (λ run. run.len ≡ dm_of (M.map map.now) (ids run.records.items)) }
+    ensures valid { IfOk result (λ run. run.valid ≡ not (passing (M.map map.now)
+        (start (M.map map.now) (first (ids run.records.items ++ ids records.now))))) }
 {
-    let ahead = LineSet::of(alloc, lines)?;
+    let ahead = LineSet::of(alloc, records)?;
     let mut run = Vec::new(alloc);
-    let mut first = lines[0];
     let mut len = 0;
-    while let Some(line) = step_before(map, first, len, &ahead) {
-        run.push(line)?;
-        len += len_of(map, line);
-        first = line;
+    let mut at = beyond;
+    while let Some(record) = next_within(map, at.line, len, &ahead) {
+        run.push(record)?;
+        len += record.len;
+        at = line_before(map, record);
     }
     run.reverse();
     Ok(DegreeTwoRun {
-        lines: run,
+        records: run,
         len,
-        valid: !passing(map, start_of(map, first)),
+        valid: !at.passing,
     })
 }
 
-/// The longest run after these lines, built line by line.
+/// The longest run after these lines, built line by line, by what lies beyond the last of them.
 fn grown_after<M: MapRead>(
     alloc: Global,
     map: &M,
-    lines: &[LineId],
+    records: &[ResolvedLine],
+    beyond: Beyond,
 ) -> Result<DegreeTwoRun, AllocError>
-    requires some { 0 < length lines.now }
-    requires known { IsTrue (has_line (M.map map.now) (last lines.now)) }
-    ensures longest { IfOk result
-        (λ run. LongestEnd (M.map map.now) lines.now run.lines.items) }
-    ensures len { IfOk result (λ run. run.len ≡ dm_of (M.map map.now) run.lines.items) }
-    ensures valid { IfOk result (λ run. run.valid
-        ≡ not (passing (M.map map.now) (end (M.map map.now) (last (lines.now ++ run.lines.items))))) }
+    requires some { 0 < length records.now }
+    requires known { IsTrue (has_line (M.map map.now) (last (ids records.now))) }
+    requires beyond { LiesAfter (M.map map.now) (last (ids records.now)) beyond.passing beyond.line }
+    ensures longest { IfOk result (λ run. LongestEnd (M.map map.now) (ids records.now) (ids run.records.items)) }
+    ensures records { IfOk result (λ run. AreRecords (M.map map.now) run.records.items) }
+    ensures len { IfOk result (λ run. run.len ≡ dm_of (M.map map.now) (ids run.records.items)) }
+    ensures valid { IfOk result (λ run. run.valid ≡ not (passing (M.map map.now)
+        (end (M.map map.now) (last (ids records.now ++ ids run.records.items))))) }
 {
-    let passed = LineSet::of(alloc, lines)?;
+    let passed = LineSet::of(alloc, records)?;
     let mut run = Vec::new(alloc);
-    let mut last = lines[lines.len() - 1];
     let mut len = 0;
-    while let Some(line) = step_after(map, last, len, &passed) {
-        run.push(line)?;
-        len += len_of(map, line);
-        last = line;
+    let mut at = beyond;
+    while let Some(record) = next_within(map, at.line, len, &passed) {
+        run.push(record)?;
+        len += record.len;
+        at = line_after(map, record);
     }
     Ok(DegreeTwoRun {
-        lines: run,
+        records: run,
         len,
-        valid: !passing(map, end_of(map, last)),
+        valid: !at.passing,
     })
 }
 
-/// The line that extends a run of the length `len` at its first line: the line before that one. None if it is in
-/// `used`, the list to which the run leads, or if the run would exceed its limit. A run never reaches one of its own
+/// The line by which a run of the length `len` is extended, as the map has it. None if there is none, if it is in
+/// `used`, the list where the run begins, or if the run would exceed its limit. A run never reaches one of its own
 /// lines before one of the list.
-fn step_before<M: MapRead>(map: &M, first: LineId, len: u32, used: &LineSet) -> Option<LineId>
-    requires known { IsTrue (has_line (M.map map.now) first) }
+fn next_within<M: MapRead>(
+    map: &M,
+    line: Option<LineId>,
+    len: u32,
+    used: &LineSet,
+) -> Option<ResolvedLine>
+    requires known { MatchOption line ⊤ (λ x. IsTrue (has_line (M.map map.now) x)) }
     requires within { len ≤ limit }
-    ensures before { IfSome result (λ line. MayPrecede (M.map map.now) line (first ∷ [])) }
-    ensures fresh { IfSome result (λ line. IsFalse (has used.now line)) }
-    ensures near { IfSome result (λ line. len + dm (M.map map.now) line ≤ limit) }
-    ensures none { IfNone result ((x : ℕ) → MayPrecede (M.map map.now) x (first ∷ [])
-        → IsTrue (has used.now x) ⊎ (limit < len + dm (M.map map.now) x)) }
+    ensures line { IfSome result (λ r. line ≡ Some r.id) }
+    ensures record { IfSome result (λ r. r ≡ record_of (M.map map.now) r.id) }
+    ensures fresh { IfSome result (λ r. IsFalse (has used.now r.id)) }
+    ensures near { IfSome result (λ r. len + r.len ≤ limit) }
+    ensures none { IfNone result (MatchOption line ⊤
+        (λ x. IsTrue (has used.now x) ⊎ (limit < len + (record_of (M.map map.now) x).len))) }
 {
-    let before = line_before(map, first)?;
-    if used.has(before) || len_of(map, before) > GREATEST_LIMIT - len {
+    let line = line?;
+    let record = record_of(map, line).unwrap();
+    if used.has(line) || record.len > GREATEST_LIMIT - len {
         return None;
     }
-    Some(before)
+    Some(record)
 }
 
-/// The line that extends a run of the length `len` at its last line: the line after that one. None if it is in `used`,
-/// the list from which the run leads, or if the run would exceed its limit. A run never reaches one of its own lines
-/// before one of the list.
-fn step_after<M: MapRead>(map: &M, last: LineId, len: u32, used: &LineSet) -> Option<LineId>
-    requires known { IsTrue (has_line (M.map map.now) last) }
-    requires within { len ≤ limit }
-    ensures behind { IfSome result (λ line. MayFollow (M.map map.now) (last ∷ []) line) }
-    ensures fresh { IfSome result (λ line. IsFalse (has used.now line)) }
-    ensures near { IfSome result (λ line. len + dm (M.map map.now) line ≤ limit) }
-    ensures none { IfNone result ((x : ℕ) → MayFollow (M.map map.now) (last ∷ []) x
-        → IsTrue (has used.now x) ⊎ (limit < len + dm (M.map map.now) x)) }
+/// What lies before the line `next`: the one line that may precede it enters the degree-two node where `next` begins,
+/// and does not begin where `next` ends.
+fn line_before<M: MapRead>(map: &M, next: ResolvedLine) -> Beyond
+    requires { next ≡ record_of (M.map map.now) next.id }
+    ensures { LiesBefore (M.map map.now) next.id result.passing result.line }
 {
-    let behind = line_after(map, last)?;
-    if used.has(behind) || len_of(map, behind) > GREATEST_LIMIT - len {
-        return None;
-    }
-    Some(behind)
-}
-
-/// The one line that may precede `next`: it enters the degree-two node where `next` begins, and does not begin where
-/// `next` ends. None if that node is valid.
-fn line_before<M: MapRead>(map: &M, next: LineId) -> Option<LineId>
-    requires { IsTrue (has_line (M.map map.now) next) }
-    ensures { MatchOption result ((x : ℕ) → ¬ MayPrecede (M.map map.now) x (next ∷ []))
-        (λ line. MayPrecede (M.map map.now) line (next ∷ [])) }
-{
-    let (node, beyond) = ends_of(map, next);
-    if passing(map, node) {
-        for line in map.in_lines(node) {
-            if start_of(map, *line) != beyond {
-                return Some(*line);
+    let through = passing(map, next.from);
+    if through {
+        for line in map.in_lines(next.from) {
+            if start_of(map, *line) != next.to {
+                return Beyond {
+                    passing: through,
+                    line: Some(*line),
+                };
             }
         }
     }
-    None
+    Beyond {
+        passing: through,
+        line: None,
+    }
 }
 
-/// The one line that may follow `last`: it leaves the degree-two node where `last` ends, and does not end where `last`
-/// begins. None if that node is valid.
-fn line_after<M: MapRead>(map: &M, last: LineId) -> Option<LineId>
-    requires { IsTrue (has_line (M.map map.now) last) }
-    ensures { MatchOption result ((x : ℕ) → ¬ MayFollow (M.map map.now) (last ∷ []) x)
-        (λ line. MayFollow (M.map map.now) (last ∷ []) line) }
+/// What lies after the line `last`: the one line that may follow it leaves the degree-two node where `last` ends, and
+/// does not end where `last` begins.
+fn line_after<M: MapRead>(map: &M, last: ResolvedLine) -> Beyond
+    requires { last ≡ record_of (M.map map.now) last.id }
+    ensures { LiesAfter (M.map map.now) last.id result.passing result.line }
 {
-    let (beyond, node) = ends_of(map, last);
-    if passing(map, node) {
-        for line in map.out_lines(node) {
-            if end_of(map, *line) != beyond {
-                return Some(*line);
+    let through = passing(map, last.to);
+    if through {
+        for line in map.out_lines(last.to) {
+            if end_of(map, *line) != last.from {
+                return Beyond {
+                    passing: through,
+                    line: Some(*line),
+                };
             }
         }
     }
-    None
+    Beyond {
+        passing: through,
+        line: None,
+    }
 }

@@ -4,24 +4,27 @@ ghost use Rattle.std.specs.Prelude.{Contains, length};
 ghost use Rattle.olr_spec.specs.Extension.{is_path, AreJoined};
 ghost use Rattle.olr_spec.specs.Encoding.{path_fault, Encoding as EncodingRecord, Encodes};
 ghost use Rattle.olr_spec.specs.Footprint.{Foot};
-ghost use Rattle.olr_spec.specs.Queries.{QueriesFrom, QueriesOf, QueriesOfExtended, TraversedOf, TraversedOfExtended};
-ghost use Rattle.olr_spec.specs.Queries.{querying};
+ghost use Rattle.olr_spec.specs.Queries.{QueriesOf, TraversedOf, TraversedOfExtended, AreKnown, KnownOf, SearchedOf};
+ghost use Rattle.olr_spec.specs.Queries.{CoverageQuery as QueryRecord};
 ghost use Rattle.olr_refs.specs.Answers.{answer_of};
 ghost use Rattle.olr_spec.specs.Encoding.{answer_by_points as answer_along};
 ghost use Rattle.olr_spec.specs.Routes.{dm_of};
-ghost use Rattle.olr_refs.specs.Choice.{ForPoints, IsChoice, Queried, Notes, SeenBy, SettledBy, raised_count};
+ghost use Rattle.olr_refs.specs.Choice.{ForPoints, IsChoice, Notes, SeenBy, SettledBy, raised_count};
 ghost use Rattle.olr_refs.specs.Referring.{JoinsOf};
+ghost use Rattle.olr_refs.specs.ResolvedLines.{records_of};
+ghost use Rattle.olr_refs.specs.Reuse.{Reuses, Asks, AsksOf, Searched};
 
 use crate::along::{ResolvedPath, distances};
 use crate::answer::{Answer, Refusal};
-use crate::chosen::{Choice, points};
-use crate::coverage_query::CoverageQuery;
+use crate::chosen::{Choice, Queries, points};
+use crate::coverage_query::{CoverageQuery, KnownQuery};
 use crate::extension::{Extended, extend};
-use crate::faults::path_fault;
+use crate::faults::{Own, own_lines};
 use crate::path::Path;
 use crate::reference::reference_of;
+use crate::reuse::Reuse;
 use olr_map::{Footprint, MapRead};
-use olr_route::{Dijkstra, Work};
+use olr_search::{Dijkstra, Work};
 use std::alloc::{AllocError, Global};
 
 /// The answer of a path on a map, and what it depends on. An edit that affects none of that leaves the answer
@@ -36,6 +39,9 @@ pub struct Encoding {
     pub traversed: Footprint,
     /// The coverage queries, in the order of the LRPs where they begin.
     pub queries: Vec<CoverageQuery>,
+    /// Those of them that are along the path's own lines, in the same order. After edits they are known to be right
+    /// where they are clear of the changed lines.
+    pub known: Vec<KnownQuery>,
 }
 
 /// The encoding of a path on a map, by searches that are settled no farther than it takes to find the LRPs.
@@ -53,9 +59,9 @@ pub fn encode<M: MapRead>(
     ensures joins { IfOk result (λ e. JoinsOf (M.map map.now) path.now e.answer) }
     ensures traversed { IfOk result (λ e. (v : ℕ) → Contains e.traversed v ↔ TraversedOf (M.map map.now) path.now v) }
     ensures queries { IfOk result (λ e. QueriesOf (M.map map.now) path.now e.queries.items) }
+    ensures known { IfOk result (λ e. KnownOf (M.map map.now) path.now e.known.items) }
     ensures path { IsTrue (is_path path.now.lines) }
-    ensures encodings { OnOk result
-        (work.old.encodings + 1 < 2 ^ 64 → work.new.encodings ≡ work.old.encodings + 1) }
+    ensures encodings { OnOk result (work.new.encodings ≡ raised_count work.old.encodings 1) }
     ensures searches { IfOk result (λ e. work.new.searches ≡ raised_count work.old.searches (length e.queries.items)) }
     ensures settled_rises { OnOk result (work.old.settled < 2 ^ 64 → work.old.settled ≤ work.new.settled) }
     ensures settled { IfOk result (λ e. (all : List ℕ) → ((v : ℕ) → Foot (M.map map.now) path.now v → Contains all v)
@@ -63,45 +69,77 @@ pub fn encode<M: MapRead>(
     ensures settled_exactly { IfOk result
         (λ e. SettledBy (M.map map.now) e.queries.items work.old.settled work.new.settled) }
 {
-    let mut seen = None;
-    encode_noting(alloc, map, path, search, &mut seen, work)
+    encode_again(alloc, map, path, &[], search, work)
 }
 
-/// The encoding of a path on a map, as `encode` makes it. The nodes that its searches settle are added to those that
-/// were seen, where these are noted; `None` notes nothing.
+/// The encoding of a path on a map, as `encode` makes it, without a search for the coverage queries along the path's
+/// own lines that are known to be right on this map, as those of an earlier encoding which are clear of all changes
+/// since. They are in the order of the lines where they begin.
+///
+/// Counts one encoding, and one search for each other coverage query. If an allocation fails, the work may hold more
+/// than before, and the search must be begun again.
+pub fn encode_again<M: MapRead>(
+    alloc: Global,
+    map: &M,
+    path: &Path,
+    known: &[KnownQuery],
+    search: &mut Dijkstra,
+    work: &mut Work,
+) -> Result<Encoding, AllocError>
+    requires { AreKnown (M.map map.now) path.now.lines known.now }
+    ensures answer { IfOk result (λ e. Encodes (M.map map.now) path.now (answer_of e.answer)) }
+    ensures joins { IfOk result (λ e. JoinsOf (M.map map.now) path.now e.answer) }
+    ensures traversed { IfOk result (λ e. (v : ℕ) → Contains e.traversed v ↔ TraversedOf (M.map map.now) path.now v) }
+    ensures queries { IfOk result (λ e. QueriesOf (M.map map.now) path.now e.queries.items) }
+    ensures known { IfOk result (λ e. KnownOf (M.map map.now) path.now e.known.items) }
+    ensures path { IsTrue (is_path path.now.lines) }
+    ensures encodings { OnOk result (work.new.encodings ≡ raised_count work.old.encodings 1) }
+    ensures searched { OnOk result (Searched (M.map map.now) path.now known.now work.old work.new) }
+    ensures settled_rises { OnOk result (work.old.settled < 2 ^ 64 → work.old.settled ≤ work.new.settled) }
+    ensures settled { IfOk result (λ e. (all : List ℕ) → ((v : ℕ) → Foot (M.map map.now) path.now v → Contains all v)
+        → work.new.settled ≤ work.old.settled + length e.queries.items * length all) }
+{
+    let mut seen = None;
+    encode_noting(alloc, map, path, known, search, &mut seen, work)
+}
+
+/// The encoding of a path on a map, as `encode_again` makes it. The nodes that its searches settle are added to those
+/// that were seen, where these are noted; `None` notes nothing.
 ///
 /// If it is out of memory, what was seen may be more than before.
 pub fn encode_noting<M: MapRead>(
     alloc: Global,
     map: &M,
     path: &Path,
+    known: &[KnownQuery],
     search: &mut Dijkstra,
     seen: &mut Option<Footprint>,
     work: &mut Work,
 ) -> Result<Encoding, AllocError>
+    requires { AreKnown (M.map map.now) path.now.lines known.now }
     ensures answer { IfOk result (λ e. Encodes (M.map map.now) path.now (answer_of e.answer)) }
     ensures joins { IfOk result (λ e. JoinsOf (M.map map.now) path.now e.answer) }
     ensures traversed { IfOk result (λ e. (v : ℕ) → Contains e.traversed v ↔ TraversedOf (M.map map.now) path.now v) }
     ensures queries { IfOk result (λ e. QueriesOf (M.map map.now) path.now e.queries.items) }
+    ensures known { IfOk result (λ e. KnownOf (M.map map.now) path.now e.known.items) }
     ensures path { IsTrue (is_path path.now.lines) }
-    ensures encodings { OnOk result
-        (work.old.encodings + 1 < 2 ^ 64 → work.new.encodings ≡ work.old.encodings + 1) }
-    ensures searches { IfOk result (λ e. work.new.searches ≡ raised_count work.old.searches (length e.queries.items)) }
+    ensures encodings { OnOk result (work.new.encodings ≡ raised_count work.old.encodings 1) }
+    ensures searched { OnOk result (Searched (M.map map.now) path.now known.now work.old work.new) }
     ensures settled_rises { OnOk result (work.old.settled < 2 ^ 64 → work.old.settled ≤ work.new.settled) }
     ensures settled { IfOk result (λ e. (all : List ℕ) → ((v : ℕ) → Foot (M.map map.now) path.now v → Contains all v)
         → work.new.settled ≤ work.old.settled + length e.queries.items * length all) }
-    ensures settled_exactly { IfOk result
-        (λ e. SettledBy (M.map map.now) e.queries.items work.old.settled work.new.settled) }
-    ensures seen { IfOk result (λ e. Notes (SeenBy (M.map map.now) e.queries.items) seen.old seen.new) }
+    ensures seen { OnOk result ((queries : List QueryRecord) × SearchedOf (M.map map.now) path.now known.now queries
+        × Notes (SeenBy (M.map map.now) queries) seen.old seen.new) }
 {
     work.encodings = work.encodings.saturating_add(1);
-    match path_fault(map, path) {
-        Some(refusal) => Ok(Encoding {
+    match own_lines(alloc, map, path)? {
+        Err(refusal) => Ok(Encoding {
             answer: Answer::Refused(refusal),
             traversed: Footprint::new(alloc),
             queries: Vec::new(alloc),
+            known: Vec::new(alloc),
         }),
-        None => encode_whole(alloc, map, path, search, seen, work),
+        Ok(own) => encode_whole(alloc, map, path, &own, known, search, seen, work),
     }
 }
 
@@ -110,27 +148,36 @@ fn encode_whole<M: MapRead>(
     alloc: Global,
     map: &M,
     path: &Path,
+    own: &Own,
+    known: &[KnownQuery],
     search: &mut Dijkstra,
     seen: &mut Option<Footprint>,
     work: &mut Work,
 ) -> Result<Encoding, AllocError>
     requires path { IsTrue (is_path path.now.lines) }
     requires sound { path_fault (M.map map.now) path.now ≡ None }
+    requires own { own.now.records.items ≡ records_of (M.map map.now) path.now.lines }
+    requires known { AreKnown (M.map map.now) path.now.lines known.now }
     ensures answer { IfOk result (λ e. EncodingRecord (M.map map.now) path.now (answer_of e.answer)) }
     ensures joins { IfOk result (λ e. JoinsOf (M.map map.now) path.now e.answer) }
     ensures traversed { IfOk result (λ e. (v : ℕ) → Contains e.traversed v
         ↔ TraversedOfExtended (M.map map.now) path.now v) }
-    ensures queries { IfOk result (λ e. QueriesOfExtended (M.map map.now) path.now e.queries.items) }
-    ensures seen { IfOk result (λ e. Notes (SeenBy (M.map map.now) e.queries.items) seen.old seen.new) }
-    ensures work { IfOk result (λ e. Queried (M.map map.now) e.queries.items work.old work.new) }
+    ensures asks { IfOk result (λ e. AsksOf (M.map map.now) path.now known.now e.queries.items e.known.items work.old
+        work.new seen.old seen.new) }
 {
     let mut traversed = Footprint::new(alloc);
-    let extended = extend(alloc, map, path, &mut traversed)?;
-    let (answer, queries) = encode_along(alloc, map, &extended, search, seen, work)?;
+    let extended = extend(alloc, map, path, &own.records, &mut traversed)?;
+    let reuse = Reuse {
+        known,
+        lead: extended.lead,
+        own: path.lines().len(),
+    };
+    let (answer, queries) = encode_along(alloc, map, &extended, &reuse, search, seen, work)?;
     Ok(Encoding {
         answer,
         traversed,
-        queries,
+        queries: queries.all,
+        known: queries.own,
     })
 }
 
@@ -139,27 +186,31 @@ fn encode_along<M: MapRead>(
     alloc: Global,
     map: &M,
     extended: &Extended,
+    reuse: &Reuse,
     search: &mut Dijkstra,
     seen: &mut Option<Footprint>,
     work: &mut Work,
-) -> Result<(Answer, Vec<CoverageQuery>), AllocError>
-    requires joined { AreJoined (M.map map.now) extended.now.lines }
-    requires short { extended.now.pos + extended.now.neg < dm_of (M.map map.now) extended.now.lines }
-    ensures answer { IfOk result (λ r. ForPoints (M.map map.now) extended.now.lines
-        (λ js. answer_of r.0 ≡ answer_along (M.map map.now) extended.now js)) }
-    ensures queries { IfOk result (λ r. ForPoints (M.map map.now) extended.now.lines
-        (λ js. QueriesFrom (M.map map.now) extended.now.lines (querying extended.now.lines (0 ∷ js)) r.1.items)) }
-    ensures seen { IfOk result (λ r. Notes (SeenBy (M.map map.now) r.1.items) seen.old seen.new) }
-    ensures work { IfOk result (λ r. Queried (M.map map.now) r.1.items work.old work.new) }
+) -> Result<(Answer, Queries), AllocError>
+    requires joined { AreJoined (M.map map.now) extended.now.path.lines }
+    requires records { extended.now.records ≡ records_of (M.map map.now) extended.now.path.lines }
+    requires short { extended.now.path.pos + extended.now.path.neg < dm_of (M.map map.now) extended.now.path.lines }
+    requires reuse { Reuses (M.map map.now) extended.now.path.lines reuse.now.lead reuse.now.own reuse.now.known.now }
+    ensures answer { IfOk result (λ r. ForPoints (M.map map.now) extended.now.path.lines
+        (λ js. answer_of r.0 ≡ answer_along (M.map map.now) extended.now.path js)) }
+    ensures asks { IfOk result (λ r. ForPoints (M.map map.now) extended.now.path.lines
+        (λ js. Asks (M.map map.now) extended.now.path.lines reuse.now.lead reuse.now.own reuse.now.known.now (0 ∷ js)
+        r.1.all.items r.1.own.items work.old work.new seen.old seen.new)) }
 {
     let lines = extended.lines.as_slice();
-    let distances = distances(alloc, map, lines)?;
+    let records = extended.records.as_slice();
+    let distances = distances(alloc, records)?;
     let resolved = ResolvedPath {
         map,
         lines,
+        records,
         distances: &distances,
     };
-    let chosen = points(alloc, &resolved, search, seen, work)?;
+    let chosen = points(alloc, &resolved, reuse, search, seen, work)?;
     let answer = answer_by(alloc, &resolved, chosen.choice, extended.pos, extended.neg)?;
     Ok((answer, chosen.queries))
 }

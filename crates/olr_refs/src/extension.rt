@@ -1,14 +1,15 @@
 //! Paths whose ends are extended to valid nodes.
-ghost use Rattle.std.specs.Prelude.{◌≡◌, ◌⊎◌, ◌↔◌, ℕ, IsTrue, IfOk, OnOk, OnErr, None, Contains};
-ghost use Rattle.std.specs.List.{All};
-ghost use Rattle.olr_spec.specs.Map.{has_line};
+ghost use Rattle.std.specs.Prelude.{◌≡◌, ◌⊎◌, ◌↔◌, ℕ, List, IsTrue, IfOk, OnOk, OnErr, None, Contains};
+ghost use Rattle.olr_spec.specs.Map.{Map};
 ghost use Rattle.olr_spec.specs.Encoding.{first_unknown};
+ghost use Rattle.olr_spec.specs.Extension.{is_path};
 ghost use Rattle.olr_spec.specs.Queries.{NodeOf};
 ghost use Rattle.olr_refs.specs.Extends.{Extends};
+ghost use Rattle.olr_refs.specs.ResolvedLines.{records_of};
 
 use crate::degree_two_runs::{run_after, run_before};
-use crate::lines::ends_of;
 use crate::path::Path;
+use crate::resolved::{ResolvedLine, ids_of};
 use olr_map::{Footprint, LineId, MapRead, NodeId};
 use std::alloc::{AllocError, Global};
 use std::marker::Model;
@@ -19,94 +20,101 @@ use std::marker::Model;
 pub struct Extended {
     /// The lines, in the order of travel.
     pub lines: Vec<LineId>,
+    /// The same lines as the map has them.
+    pub records: Vec<ResolvedLine>,
     /// The length that is cut off at the start, in decimetres.
     pub pos: u64,
     /// The length that is cut off at the end, in decimetres.
     pub neg: u64,
+    /// How many of the lines precede the path's own.
+    pub lead: usize,
 }
 
 impl Model for Extended {
-    ghost use Rattle.olr_spec.specs.Extension.{Path as Record};
-    ghost use Rattle.olr_refs.specs.Coded.{coded_path};
+    ghost use Rattle.olr_refs.specs.Extends.{ExtendedPath};
+    ghost use Rattle.olr_refs.specs.Coded.{coded_extended};
 
-    ghost Value = { Record };
+    ghost Value = { ExtendedPath };
 
-    ghost coded = { coded_path };
+    ghost coded = { coded_extended };
 
-    ghost view = { λ e. record { lines = e.lines.items; pos = e.pos; neg = e.neg } };
+    ghost view = { λ e. record {
+      path = record { lines = e.lines.items; pos = e.pos; neg = e.neg };
+      records = e.records.items;
+      lead = e.lead;
+    } };
 }
 
 /// Extends the ends of a path to valid nodes (White Paper, rules on valid nodes; the limits are the profile's). At each
 /// end the longest run of degree-two nodes of at most 15,000 m is tried, and added if it leads to a valid node; at the
 /// end, the lines that were added at the start count as part of the path. Adds the nodes of the extended path and of
 /// both tried runs to the footprint, and no others. If an allocation fails, the footprint is unchanged.
+///
+/// `own` are the path's own lines as the map has them.
 pub fn extend<M: MapRead>(
     alloc: Global,
     map: &M,
     path: &Path,
+    own: &[ResolvedLine],
     footprint: &mut Footprint,
 ) -> Result<Extended, AllocError>
-    requires { first_unknown (M.map map.now) path.now.lines ≡ None }
+    requires path { IsTrue (is_path path.now.lines) }
+    requires known { first_unknown (M.map map.now) path.now.lines ≡ None }
+    requires own { own.now ≡ records_of (M.map map.now) path.now.lines }
     ensures ok { IfOk result
-        (λ extended. Extends (M.map map.now) path.now extended footprint.old footprint.new) }
+        (λ extended. Extends (M.map map.now) path.now extended.path extended.lead footprint.old footprint.new) }
+    ensures records { IfOk result (λ extended. extended.records ≡ records_of (M.map map.now) extended.path.lines) }
     ensures err { OnErr result (footprint.new ≡ footprint.old) }
 {
-    let before = run_before(alloc, map, path.lines())?;
+    let before = run_before(alloc, map, own)?;
     let (front, front_len) = before.taken_part();
-    let mut lines = Vec::from_slice(alloc, front)?;
-    lines.extend_from_slice(path.lines())?;
-    let after = run_after(alloc, map, &lines)?;
+    let mut records = Vec::from_slice(alloc, front)?;
+    records.extend_from_slice(own)?;
+    let after = run_after(alloc, map, &records)?;
     let (back, back_len) = after.taken_part();
-    lines.extend_from_slice(back)?;
-    note_ends(alloc, map, &lines, &before.lines, &after.lines, footprint)?;
+    records.extend_from_slice(back)?;
+    let lines = ids_of(alloc, &records)?;
+    note_ends(alloc, &records, &before.records, &after.records, footprint)?;
     Ok(Extended {
         lines,
+        records,
         pos: u64::from(path.pos()) + u64::from(front_len),
         neg: u64::from(path.neg()) + u64::from(back_len),
+        lead: front.len(),
     })
 }
 
 /// Adds the ends of the lines of an extended path and of both tried runs to the footprint.
-fn note_ends<M: MapRead>(
+fn note_ends(
     alloc: Global,
-    map: &M,
-    lines: &[LineId],
-    before: &[LineId],
-    after: &[LineId],
+    records: &[ResolvedLine],
+    before: &[ResolvedLine],
+    after: &[ResolvedLine],
     footprint: &mut Footprint,
 ) -> Result<(), AllocError>
-    requires lines { All (λ x. IsTrue (has_line (M.map map.now) x)) lines.now }
-    requires before { All (λ x. IsTrue (has_line (M.map map.now) x)) before.now }
-    requires after { All (λ x. IsTrue (has_line (M.map map.now) x)) after.now }
-    ensures ok { OnOk result ((v : ℕ) → Contains footprint.new v
-        ↔ (Contains footprint.old v
-        ⊎ (NodeOf (M.map map.now) lines.now v
-        ⊎ (NodeOf (M.map map.now) before.now v ⊎ NodeOf (M.map map.now) after.now v)))) }
+    ensures ok { OnOk result ((M : Map) (ls b a : List ℕ)
+        → records.now ≡ records_of M ls → before.now ≡ records_of M b → after.now ≡ records_of M a
+        → (v : ℕ) → Contains footprint.new v
+        ↔ (Contains footprint.old v ⊎ (NodeOf M ls v ⊎ (NodeOf M b v ⊎ NodeOf M a v)))) }
     ensures err { OnErr result (footprint.new ≡ footprint.old) }
 {
     let mut nodes = Vec::new(alloc);
-    push_ends(map, lines, &mut nodes)?;
-    push_ends(map, before, &mut nodes)?;
-    push_ends(map, after, &mut nodes)?;
+    push_ends(records, &mut nodes)?;
+    push_ends(before, &mut nodes)?;
+    push_ends(after, &mut nodes)?;
     nodes.sort_unstable();
     nodes.dedup();
     footprint.note_all(&nodes)
 }
 
 /// Appends both ends of each of these lines to the nodes.
-fn push_ends<M: MapRead>(
-    map: &M,
-    lines: &[LineId],
-    nodes: &mut Vec<NodeId>,
-) -> Result<(), AllocError>
-    requires { All (λ x. IsTrue (has_line (M.map map.now) x)) lines.now }
-    ensures { OnOk result ((v : ℕ) → Contains nodes.new.items v
-        ↔ (Contains nodes.old.items v ⊎ NodeOf (M.map map.now) lines.now v)) }
+fn push_ends(records: &[ResolvedLine], nodes: &mut Vec<NodeId>) -> Result<(), AllocError>
+    ensures { OnOk result ((M : Map) (ls : List ℕ) → records.now ≡ records_of M ls
+        → (v : ℕ) → Contains nodes.new.items v ↔ (Contains nodes.old.items v ⊎ NodeOf M ls v)) }
 {
-    for line in lines {
-        let (from, to) = ends_of(map, *line);
-        nodes.push(from)?;
-        nodes.push(to)?;
+    for record in records {
+        nodes.push(record.from)?;
+        nodes.push(record.to)?;
     }
     Ok(())
 }

@@ -11,11 +11,12 @@ ghost use Rattle.olr_refs.specs.Along.{AreDistances};
 ghost use Rattle.olr_refs.specs.Fields.{lowest_class, middle_points_of};
 ghost use Rattle.olr_refs.specs.KeptPoints.{AreLinked};
 
-use crate::along::{ResolvedPath, coord_of, line_of};
+use crate::along::{ResolvedPath, coord_of};
+use crate::resolved::ResolvedLine;
 use olr_bearing::{Ends, bearing_back, bearing_out};
 use olr_binary::{Attrs, First, Last, Middle};
 use olr_coords::{Coord, abs24, rel16};
-use olr_map::{Line, LineId, MapRead};
+use olr_map::{Line, MapRead};
 use std::alloc::{AllocError, Global};
 
 /// One step of the distance to the next point (DNP), in decimetres: 58.6 m.
@@ -62,13 +63,12 @@ fn differences(from: Coord, to: Coord) -> (i16, i16)
 }
 
 /// The lowest functional road class of some lines, which is the greatest number.
-fn lowest_class<M: MapRead>(map: &M, lines: &[LineId]) -> u8
-    requires { (k : ℕ) → k < length lines.now → IsTrue (has_line (M.map map.now) (slice_index lines.now k)) }
-    ensures { result ≡ lowest_class (legs (M.map map.now) lines.now) }
+fn lowest_class(records: &[ResolvedLine]) -> u8
+    ensures { result ≡ lowest_class records.now }
 {
     let mut lowest = 0;
-    for line in lines {
-        lowest = line_of(map, *line).frc.max(lowest);
+    for record in records {
+        lowest = record.frc.max(lowest);
     }
     lowest
 }
@@ -82,7 +82,7 @@ fn attrs<M: MapRead>(resolved: &ResolvedPath<M>, i: usize, j: usize) -> Attrs
     Attrs {
         frc: line.frc,
         fow: line.fow,
-        lfrc: lowest_class(resolved.map, &resolved.lines[i..j]),
+        lfrc: lowest_class(&resolved.records[i..j]),
         bearing: bearing_out(line, ends_of(resolved.map, line)),
         dnp: (resolved.between(i, j) / DISTANCE_STEP) as u8,
     }

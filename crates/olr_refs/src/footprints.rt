@@ -14,7 +14,7 @@ use crate::answer::Answer;
 use crate::encoding::encode_noting;
 use crate::path::Path;
 use olr_map::{Footprint, MapRead};
-use olr_route::{Dijkstra, Work};
+use olr_search::{Dijkstra, Work};
 use std::alloc::{AllocError, Global};
 
 /// A path's traversed nodes, and those that were seen.
@@ -50,8 +50,7 @@ pub fn refer<M: MapRead>(
     ensures footprint { IfOk result (λ r. (v : ℕ) → Contains r.1 v ↔ Foot (M.map map.now) path.now v) }
     ensures local { IfOk result (λ r. (other : Map) → IsMap other
         → Agree (M.map map.now) other path.now.lines (Contains r.1) → Encodes other path.now (answer_of r.0)) }
-    ensures encodings { OnOk result
-        (work.old.encodings + 1 < 2 ^ 64 → work.new.encodings ≡ work.old.encodings + 1) }
+    ensures encodings { OnOk result (work.new.encodings ≡ raised_count work.old.encodings 1) }
     ensures searches { OnOk result ((n : ℕ) × SearchesOf (M.map map.now) path.now n
         × (work.new.searches ≡ raised_count work.old.searches n)) }
     ensures settled_rises { OnOk result (work.old.settled < 2 ^ 64 → work.old.settled ≤ work.new.settled) }
@@ -63,7 +62,7 @@ pub fn refer<M: MapRead>(
 {
     let mut search = Dijkstra::new(alloc);
     let mut seen = Some(Footprint::new(alloc));
-    let encoding = encode_noting(alloc, map, path, &mut search, &mut seen, work)?;
+    let encoding = encode_noting(alloc, map, path, &[], &mut search, &mut seen, work)?;
     let footprint = with_seen(encoding.traversed, seen)?;
     Ok((encoding.answer, footprint))
 }

@@ -1,7 +1,9 @@
 //! The lines of a list, for lookups.
 ghost use Rattle.std.specs.Prelude.{◌≡◌, ℕ, IfOk};
 ghost use Rattle.olr_spec.specs.Map.{has};
+ghost use Rattle.olr_refs.specs.ResolvedLines.{ids};
 
+use crate::resolved::{ResolvedLine, ids_of};
 use olr_map::LineId;
 use std::alloc::{AllocError, Global};
 use std::marker::Model;
@@ -25,10 +27,10 @@ impl Model for LineSet {
 
 impl LineSet {
     /// The lines of this list.
-    pub(crate) fn of(alloc: Global, lines: &[LineId]) -> Result<LineSet, AllocError>
-        ensures { IfOk result (λ set. (x : ℕ) → has set x ≡ has lines.now x) }
+    pub(crate) fn of(alloc: Global, records: &[ResolvedLine]) -> Result<LineSet, AllocError>
+        ensures { IfOk result (λ set. (x : ℕ) → has set x ≡ has (ids records.now) x) }
     {
-        let mut sorted = Vec::from_slice(alloc, lines)?;
+        let mut sorted = ids_of(alloc, records)?;
         sorted.sort_unstable();
         Ok(LineSet { sorted })
     }

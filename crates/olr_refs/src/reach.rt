@@ -4,13 +4,13 @@ ghost use Rattle.olr_spec.specs.Map.{end};
 ghost use Rattle.olr_spec.specs.Routes.{dm_of};
 ghost use Rattle.olr_spec.specs.Points.{stretch};
 ghost use Rattle.olr_spec.specs.Queries.{IsLastTested};
-ghost use Rattle.olr_route.specs.declared.distances.Direction.TheVariants.{Along};
-ghost use Rattle.olr_route.specs.Searches.{IsSearch, limit_of};
+ghost use Rattle.olr_search.specs.declared.distances.Direction.TheVariants.{Along};
+ghost use Rattle.olr_search.specs.Searches.{IsSearch, limit_of};
 ghost use Rattle.olr_refs.specs.Along.{IsFar, IsReach};
 
 use crate::along::ResolvedPath;
 use olr_map::MapRead;
-use olr_route::Dijkstra;
+use olr_search::Dijkstra;
 use std::alloc::AllocError;
 
 /// How far the lines after a position are the unique shortest path, and how far that was tested.

@@ -1,11 +1,13 @@
 //! The location reference points (LRPs) of extended paths, by position.
+ghost use Rattle.std.specs.Prelude.{◌≡◌};
 ghost use Rattle.std.specs.Bool.{OnTrue};
+ghost use Rattle.olr_spec.specs.Encoding.{first_unknown};
 ghost use Rattle.olr_spec.specs.Extension.{AreJoined};
 
 use crate::maps::{BARE, LONG, LONG_BARE, PASSING, PlainPath, path_of};
 use made_maps::{Place, Plan, STRAIGHT, WORKED, end_of, map_of, start_of};
 use olr_map::{Footprint, LineId, MapRead, RoadMap};
-use olr_refs::{Choice, distances, extend, points, unknown_line};
+use olr_refs::{Choice, Reuse, distances, extend, points, resolve};
 use olr_route::{Dijkstra, Work};
 use std::alloc::{AllocError, Global};
 use std::process::Abort;
@@ -15,6 +17,13 @@ use std::test::Fail;
 /// chosen
 /// on it, and how many searches that takes.
 type Expected = (&'static [u32], (u64, u64), &'static [usize], u64);
+
+/// The first of these lines that is not on the map. None if all are.
+fn unknown_line<M: MapRead>(map: &M, lines: &[LineId]) -> Option<LineId>
+    ensures { result ≡ first_unknown (M.map map.now) lines.now }
+{
+    lines.iter().copied().find(|line| map.line(*line).is_none())
+}
 
 /// Whether there are lines, all on the map, each of which ends where the next one begins.
 fn are_joined<M: MapRead>(map: &M, lines: &[LineId]) -> bool
@@ -50,22 +59,31 @@ fn expect_chosen(
     searches: u64,
 ) -> Result<(), Fail> {
     assert!(rt; are_joined(map, lines));
-    let distances = distances(alloc, map, lines)?;
+    let Ok(records) = resolve(alloc, map, lines)? else {
+        panic!(rt; "a line is not on the map")
+    };
+    let distances = distances(alloc, &records)?;
     let along = olr_refs::ResolvedPath {
         map,
         lines,
+        records: &records,
         distances: &distances,
     };
     let mut search = Dijkstra::new(alloc);
     let mut work = Work::default();
     let mut seen = None;
-    let chosen = points(alloc, &along, &mut search, &mut seen, &mut work)?;
+    let nothing = Reuse {
+        known: &[],
+        lead: 0,
+        own: 0,
+    };
+    let chosen = points(alloc, &along, &nothing, &mut search, &mut seen, &mut work)?;
     let olr_refs::Chosen { choice, queries } = chosen;
     match choice {
         Choice::Positions(found) => assert_eq!(rt; found.as_slice(), positions, "the points"),
         Choice::NoNext(k) => panic!(rt; "no point after position {k}"),
     }
-    let counted = (queries.len() as u64, work.encodings, work.searches);
+    let counted = (queries.all.len() as u64, work.encodings, work.searches);
     assert_eq!(rt; counted, (searches, 0, searches), "of {positions:?}");
     Ok(())
 }
@@ -80,9 +98,11 @@ fn expect_points(
 ) -> Result<(), Fail> {
     let (wanted, offsets, positions, searches) = expected;
     let path = path_of(rt, alloc, plain);
-    assert!(rt; unknown_line(map, path.lines()).is_none());
+    let Ok(own) = resolve(alloc, map, path.lines())? else {
+        panic!(rt; "a line of {plain:?} is not on the map")
+    };
     let mut footprint = Footprint::new(alloc);
-    let extended = extend(alloc, map, &path, &mut footprint)?;
+    let extended = extend(alloc, map, &path, &own, &mut footprint)?;
     let lines = numbers_of(alloc, &extended.lines).expect(rt, "memory");
     let found = (lines.as_slice(), (extended.pos, extended.neg));
     assert_eq!(rt; found, (wanted, offsets), "of {plain:?}");

@@ -1,6 +1,6 @@
 use made_maps::{Plain, line, lines, node, plain_map};
 use olr_map::{Footprint, LineId};
-use olr_refs::{Path, PathFault, extend, passing, unknown_line};
+use olr_refs::{Path, PathFault, extend, passing, resolve};
 use std::alloc::{AllocError, Global};
 use std::process::Abort;
 use std::test::Fail;
@@ -38,9 +38,11 @@ fn expect_extended(
     let (roads, numbers, pos, neg) = given;
     let map = plain_map(alloc, 4, roads)?;
     let path = Path::new(alloc, lines(alloc, numbers)?, pos, neg)?;
-    assert!(rt; unknown_line(&map, path.lines()).is_none());
+    let Ok(own) = resolve(alloc, &map, path.lines())? else {
+        panic!(rt; "a line of {numbers:?} is not on the map")
+    };
     let mut footprint = Footprint::new(alloc);
-    let answer = extend(alloc, &map, &path, &mut footprint)?;
+    let answer = extend(alloc, &map, &path, &own, &mut footprint)?;
     let (found, nodes) = numbers_of(alloc, &answer.lines, &footprint)?;
     let found = (found.as_slice(), (answer.pos, answer.neg), nodes.as_slice());
     assert_eq!(rt; found, expected, "of {numbers:?}");
@@ -136,9 +138,12 @@ fn unknown_lines(rt: HostRuntime) -> Result<(), Fail> {
     let alloc = rt.alloc();
     let map = plain_map(alloc, 2, &[(10, 1, 2, 1000), (20, 2, 1, 1000)])?;
     let known = lines(alloc, &[10, 20])?;
-    assert_eq!(rt; unknown_line(&map, &known), None);
+    assert!(rt; resolve(alloc, &map, &known)?.is_ok());
     let unknown = lines(alloc, &[10, 40, 20, 30])?;
-    assert_eq!(rt; unknown_line(&map, &unknown), Some(line(40)));
+    match resolve(alloc, &map, &unknown)? {
+        Ok(_) => panic!(rt; "lines 40 and 30 are not on the map"),
+        Err(first) => assert_eq!(rt; first, line(40)),
+    }
     Ok(())
 }
 

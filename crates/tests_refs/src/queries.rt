@@ -119,7 +119,7 @@ fn expect_queries_on(
 }
 
 /// The worked map with a side road as long as the line beside it.
-const EQUAL: Plan = (
+pub const EQUAL: Plan = (
     PLACES,
     &[FIRST, SECOND, THIRD, (99, 2, 3, 4, 3, 2000, STRAIGHT)],
 );
@@ -128,7 +128,7 @@ const EQUAL: Plan = (
 const BROKEN: Plan = (PLACES, &[FIRST, THIRD, SIDE]);
 
 /// The worked map without its side road, with a detour around the second line by nodes 6 and 7.
-const DETOUR: Plan = (
+pub const DETOUR: Plan = (
     &[
         (1, 612_683, 4_960_852),
         (2, 612_838, 4_960_399),
@@ -155,7 +155,7 @@ const LONGEST: Plan = (ROW, &[(10, 1, 2, 0, 1, 150_000, STRAIGHT)]);
 
 const TOO_LONG: Plan = (ROW, &[(10, 1, 2, 0, 1, 150_001, STRAIGHT)]);
 
-const TOO_LONG_FIRST: Plan = (
+pub const TOO_LONG_FIRST: Plan = (
     ROW,
     &[
         (10, 1, 2, 0, 1, 150_001, STRAIGHT),
@@ -165,7 +165,7 @@ const TOO_LONG_FIRST: Plan = (
 );
 
 /// A loop from node 2 to node 2.
-const ROUND: Plan = (
+pub const ROUND: Plan = (
     &[
         (1, 0, 0),
         (2, 100, 0),
@@ -182,9 +182,9 @@ const ROUND: Plan = (
     ],
 );
 
-const WHOLE: PlainPath = (&[10, 20, 30], 1500, 0);
+pub const WHOLE: PlainPath = (&[10, 20, 30], 1500, 0);
 
-const ROAD: PlainPath = (&[10, 20, 30], 0, 0);
+pub const ROAD: PlainPath = (&[10, 20, 30], 0, 0);
 
 const FOUR: &[u32] = &[1, 2, 3, 4];
 
@@ -240,7 +240,7 @@ fn road(alloc: Global, number: u32, from: u32, to: u32) -> Edit {
 
 /// A grid of five by five nodes, row by row, with a line each way between neighbours, so long that at most three in a
 /// row are within 150,000 dm. From node n lines 100 + n, 200 + n, 300 + n and 400 + n lead east, west, north and south.
-fn grid_map(rt: &impl Abort, alloc: Global) -> RoadMap {
+pub fn grid_map(rt: &impl Abort, alloc: Global) -> RoadMap {
     let mut map = RoadMap::new(alloc);
     for node in 0..25 {
         let (column, row) = ((node % 5) as i32, (node / 5) as i32);

@@ -1,10 +1,15 @@
-use Rattle.std.proofs.Common.{◌≡◌, take}
+use Rattle.std.proofs.Common.{◌≡◌, ◌≤◌, ◌*◌, ℕ, List, take}
+use Rattle.olr_spec.specs.Map.{Map}
 use Rattle.olr_spec.specs.Routes.{dm_of}
 use Rattle.olr_refs.specs.Along.{DistancesTo}
+use Rattle.olr_refs.specs.ResolvedLines.{records_of}
 use Rattle.olr_refs.proofs.along.distances.Given as goal
 
 -- the distances so far, the last of which is `along`
-abbrev pub invariant-loop-line : goal.invariant-loop-line
-invariant-loop-line g l =
-    DistancesTo (g.M.MapRead.map l.map) l.lines l.line-index l.distances.items
-    × (l.along ≡ dm_of (g.M.MapRead.map l.map) (take l.line-index l.lines))
+abbrev pub invariant-loop-record : goal.invariant-loop-record
+invariant-loop-record l =
+    record {
+      are : (M : Map) (ls : List ℕ) → l.records ≡ records_of M ls →
+          DistancesTo M ls l.record-index l.distances.items × (l.along ≡ dm_of M (take l.record-index ls));
+      small : l.along ≤ 4294967296 * l.record-index;
+    }

@@ -1,15 +1,11 @@
 use Rattle.std.proofs.Common.{◌-◌, length}
-use Rattle.olr_refs.specs.Choice.{Notes, SeenBy}
-use Rattle.olr_refs.proofs.Noting.{Gone}
+use Rattle.olr_refs.proofs.Asking.{Gone}
 use Rattle.olr_refs.proofs.chosen.points.Given as goal
 
 abbrev pub invariant-loop-last : goal.invariant-loop-last
 invariant-loop-last g l =
-    record {
-      gone : Gone (g.M.MapRead.map l.resolved.map.now) l.resolved.lines.now l.positions.items l.last l.queries.items
-          l.initial.work l.work;
-      seen : Notes (SeenBy (g.M.MapRead.map l.resolved.map.now) l.queries.items) l.initial.seen l.seen;
-    }
+    Gone (g.M.MapRead.map l.resolved.map.now) l.resolved.lines.now l.reuse.lead l.reuse.own l.reuse.known.now
+    l.positions.items l.last l.queries.all.items l.queries.own.items l.initial.work l.work l.initial.seen l.seen
 
 -- the remaining positions
 abbrev pub decreases-loop-last : goal.decreases-loop-last

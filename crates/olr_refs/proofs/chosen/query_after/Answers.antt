@@ -1,40 +1,23 @@
-use Rattle.std.proofs.Common.{ℕ, refl, sym, ◌∙◌, subst, arith}
-use Rattle.std.specs.Prelude.{IsTrue}
-use Rattle.olr_spec.specs.Map.{has_node}
+use Rattle.std.proofs.Common.{[], ◌∷◌, sym, subst, refl}
 use Rattle.olr_spec.specs.Queries.{CoverageQuery}
-use Rattle.olr_refs.proofs.Noting.{query_short, one_query}
-use Rattle.olr_refs.proofs.Seen.{query_noted}
+use Rattle.olr_refs.specs.Along.{IsReach}
+use Rattle.olr_refs.specs.Reuse.{Asks}
+use Rattle.olr_refs.proofs.Asking.{asks_known, asks_searched}
 use Rattle.olr_refs.proofs.chosen.query_after.Goals as goal
 
-pub overflow_cast-query : goal.overflow_cast-query
-overflow_cast-query g c =
-    let short =
-    query_short (g.M.MapRead.map c.args.resolved.now.map.now) c.args.resolved.now.lines.now c.args.i _
-    c.in_ok-tested.ensures.last in
-    let is = c.between.ensures.value in
-    record { fits = omega arith }
+pub returns-in-Some-clause-reach : goal.returns-in-Some-clause-reach
+returns-in-Some-clause-reach g c =
+    subst (IsReach (g.M.MapRead.map c.args.resolved.now.map.now) c.args.resolved.now.lines.now c.args.i) (sym c.reach_by-reach.ensures) c.in-Some.ensures.reach
 
-pub note_settled-requires : goal.note_settled-requires
-note_settled-requires g c = (_, _, _, _, c.in_ok-tested.ensures.search)
+pub returns-in-Some-clause-asks : goal.returns-in-Some-clause-asks
+returns-in-Some-clause-asks g c =
+    subst (λ (q : CoverageQuery). Asks (g.M.MapRead.map c.args.resolved.now.map.now) c.args.resolved.now.lines.now c.args.reuse.now.lead c.args.reuse.now.own c.args.reuse.now.known.now (c.args.i ∷ []) (q ∷ []) (c.in-Some.known ∷ []) c.args.work.now
+    c.args.work.now c.args.seen.now c.args.seen.now) (sym c.query_of.ensures)
+    (asks_known (g.M.MapRead.map c.args.resolved.now.map.now) c.args.resolved.now.lines.now c.args.reuse.now.lead c.args.reuse.now.own c.args.reuse.now.known.now c.args.i c.in-Some.known c.args.work.now c.args.seen.now c.requires.some
+    c.in-Some.ensures.known c.in-Some.ensures.given)
 
-pub returns-clause-seen : goal.returns-clause-seen
-returns-clause-seen g c =
-    let M = g.M.MapRead.map c.args.resolved.now.map.now in
-    let place = g.M.MapRead.node_slot c.args.resolved.now.map.now in
-    let query : CoverageQuery = record { from = c.end-from.result; to = c.node.result; within = c.between.result } in
-    query_noted M place query _ c.covered_to.new.search _ _ c.in_ok-tested.ensures.search
-    (subst (λ (v : ℕ). IsTrue (has_node M v)) c.end-from.ensures.value c.end-from.ensures.known)
-    (sym c.end-from.ensures.value)
-    (c.in_ok-tested.ensures.no_farther ∙ sym c.between.ensures.value)
-    (c.in_ok-note_settled.ensures M place _ _ c.in_ok-tested.ensures.search)
-
-pub returns-clause-work : goal.returns-clause-work
-returns-clause-work g c =
-    let M = g.M.MapRead.map c.args.resolved.now.map.now in
-    let place = g.M.MapRead.node_slot c.args.resolved.now.map.now in
-    let query : CoverageQuery = record { from = c.end-from.result; to = c.node.result; within = c.between.result } in
-    one_query M place query _ c.settled_count.result c.covered_to.new.search c.args.work.now _
-    c.in_ok-tested.ensures.search (subst (λ (v : ℕ). IsTrue (has_node M v)) c.end-from.ensures.value
-    c.end-from.ensures.known) (sym c.end-from.ensures.value)
-    (c.in_ok-tested.ensures.no_farther ∙ sym c.between.ensures.value)
-    (c.settled_count.ensures _ _ _ _ c.in_ok-tested.ensures.search) refl (omega arith) (omega arith)
+pub returns-in_ok-tested-in-None-clause-asks : goal.returns-in_ok-tested-in-None-clause-asks
+returns-in_ok-tested-in-None-clause-asks g c =
+    asks_searched (g.M.MapRead.map c.args.resolved.now.map.now) c.args.resolved.now.lines.now c.args.reuse.now.lead c.args.reuse.now.own c.args.reuse.now.known.now c.args.i c.in_ok-tested-in-None.query c.own_query-own.result _ _ _ _ c.requires.some
+    (c.in_ok-tested-in-None.tested.last, c.in_ok-tested-in-None.ensures.last, c.in_ok-tested-in-None.ensures.query)
+    (c.in-None.ensures.none refl) c.own_query-own.ensures c.in_ok-tested-in-None.ensures.work c.in_ok-tested-in-None.ensures.seen

@@ -1,24 +1,33 @@
-use Rattle.std.proofs.Common.{sym}
-use Rattle.olr_refs.proofs.Noting.{settled_none}
-use Rattle.olr_refs.proofs.Referring.{queries_whole, settled_foot, if_both}
-use Rattle.olr_refs.proofs.Seen.{noted_none}
+use Rattle.std.proofs.Common.{refl}
+use Rattle.olr_refs.proofs.Referring.{if_weaker, on_if}
+use Rattle.olr_refs.proofs.Asking.{queries_whole, known_whole, searched_whole, searched_of, searched_few}
 use Rattle.olr_refs.proofs.encoding.encode_noting.Goals as goal
 
-pub returns-in-None-clause-settled : goal.returns-in-None-clause-settled
-returns-in-None-clause-settled g c =
-    let M = g.M.MapRead.map c.args.map.now in
-    if_both c.encode_whole.result _ _ _
-    (λ e l w. settled_foot M (g.met.M.MapRead.sound c.args.map.now) c.args.path.now c.path_fault.ensures.path
-    e.queries.items (queries_whole M c.args.path.now e.queries.items (sym c.in-None.ensures.fault) l) _ _ w.settled)
-    c.encode_whole.ensures.queries c.encode_whole.ensures.work
+pub returns-in-Ok-clause-queries : goal.returns-in-Ok-clause-queries
+returns-in-Ok-clause-queries g c =
+    if_weaker c.encode_whole.result _ _ (λ e a. queries_whole (g.M.MapRead.map c.args.map.now) c.args.path.now _ _ _ _ _
+    _ _ (rw c.in-Ok.is at c.in_ok-refusal.ensures.own).0 a) c.encode_whole.ensures.asks
 
-pub returns-in-None-clause-settled_exactly : goal.returns-in-None-clause-settled_exactly
-returns-in-None-clause-settled_exactly g c =
-    if_both c.encode_whole.result _ _ _ (λ e l w. w.settled) c.encode_whole.ensures.queries c.encode_whole.ensures.work
+pub returns-in-Ok-clause-known : goal.returns-in-Ok-clause-known
+returns-in-Ok-clause-known g c =
+    if_weaker c.encode_whole.result _ _ (λ e a. known_whole (g.M.MapRead.map c.args.map.now) c.args.path.now _ _ _ _ _
+    _ _ (rw c.in-Ok.is at c.in_ok-refusal.ensures.own).0 a) c.encode_whole.ensures.asks
 
-pub returns-in-Some-clause-settled_exactly : goal.returns-in-Some-clause-settled_exactly
-returns-in-Some-clause-settled_exactly g c =
-    settled_none (g.M.MapRead.map c.args.map.now) _ _ c.new-in-Some.ensures.items
+pub returns-in-Ok-clause-searched : goal.returns-in-Ok-clause-searched
+returns-in-Ok-clause-searched g c =
+    on_if c.encode_whole.result _ _ (λ e a. searched_of (g.M.MapRead.map c.args.map.now) c.args.path.now _ _ _ _ _
+    _ _ (rw c.in-Ok.is at c.in_ok-refusal.ensures.own).0 a c.args.work.now refl refl) c.encode_whole.ensures.asks
 
-pub returns-in-Some-clause-seen : goal.returns-in-Some-clause-seen
-returns-in-Some-clause-seen g c = noted_none (g.M.MapRead.map c.args.map.now) _ _ c.new-in-Some.ensures.items
+pub returns-in-Ok-clause-settled : goal.returns-in-Ok-clause-settled
+returns-in-Ok-clause-settled g c =
+    if_weaker c.encode_whole.result _ _ (λ e a. searched_few (g.M.MapRead.map c.args.map.now)
+    (g.met.M.MapRead.sound c.args.map.now) c.args.path.now c.in_ok-refusal.ensures.path (rw c.in-Ok.is at c.in_ok-refusal.ensures.own).0
+    _ _ _ _ _ _ _ a) c.encode_whole.ensures.asks
+
+pub returns-in-Ok-clause-seen : goal.returns-in-Ok-clause-seen
+returns-in-Ok-clause-seen g c =
+    on_if c.encode_whole.result _ _ (λ e a. (
+      a.holds.searched,
+      searched_whole (g.M.MapRead.map c.args.map.now) c.args.path.now _ _ _ _ _ _ _ (rw c.in-Ok.is at c.in_ok-refusal.ensures.own).0 a,
+      a.holds.notes,
+    )) c.encode_whole.ensures.asks

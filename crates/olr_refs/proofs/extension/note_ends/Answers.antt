@@ -7,29 +7,24 @@ use Rattle.olr_refs.proofs.Ends.{same_once, three_lists, grown_by}
 use Rattle.olr_refs.proofs.extension.note_ends.Goals as goal
 
 pub note_all-requires : goal.note_all-requires
-note_all-requires g c =
+note_all-requires c =
     record {
       ascending = rw (c.deref.ensures.value, dedup_is _ _ _ c.dedup.ensures.filtered)
           (IsStrictlyIncreasing-dedup c.sort_unstable.new.self.items c.sort_unstable.ensures.sorted);
     }
 
 pub returns-clause-ok : goal.returns-clause-ok
-returns-clause-ok g c =
-    let M = g.M.MapRead.map c.args.map.now in
-    let ls : List ℕ = c.args.lines.now in
-    let b : List ℕ = c.args.before.now in
-    let a : List ℕ = c.args.after.now in
-    let nodes : List ℕ = c.push_ends-3.new.nodes.items in
+returns-clause-ok c =
     let once : List ℕ = c.dedup.new.self.items in
     let members =
-    same_once nodes c.sort_unstable.new.self.items once c.sort_unstable.ensures.permutation
+    same_once c.push_ends-3.new.nodes.items c.sort_unstable.new.self.items once c.sort_unstable.ensures.permutation
     (dedup_is _ _ _ c.dedup.ensures.filtered) in
-    let ends =
-    three_lists M ls b a c.push_ends.new.nodes.items c.push_ends-2.new.nodes.items nodes
-    (rw c.new-nodes.ensures.items at c.in_ok-push_ends.ensures) c.in_ok-push_ends-2.ensures
-    c.in_ok-push_ends-3.ensures in
-    let Is : ℕ → Type 0 = λ v. NodeOf M ls v ⊎ (NodeOf M b v ⊎ NodeOf M a v) in
     on_ok_weaker c.note_all.result
-    (grown_by c.args.footprint.now c.note_all.new.self once Is
-    (λ v. (λ h. (ends v).0 ((members v).0 h), λ h. (members v).1 ((ends v).1 h))))
+    (λ noted M ls b a is b_is a_is.
+    let ends =
+    three_lists M ls b a c.push_ends.new.nodes.items c.push_ends-2.new.nodes.items c.push_ends-3.new.nodes.items
+    (rw c.new-nodes.ensures.items at (c.in_ok-push_ends.ensures M ls is)) (c.in_ok-push_ends-2.ensures M b b_is)
+    (c.in_ok-push_ends-3.ensures M a a_is) in
+    grown_by c.args.footprint.now c.note_all.new.self once (λ v. NodeOf M ls v ⊎ (NodeOf M b v ⊎ NodeOf M a v))
+    (λ v. (λ h. (ends v).0 ((members v).0 h), λ h. (members v).1 ((ends v).1 h))) noted)
     (rw c.deref.ensures.value at c.note_all.ensures.ok)

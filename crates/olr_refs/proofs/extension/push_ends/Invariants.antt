@@ -1,8 +1,11 @@
-use Rattle.std.proofs.Common.{take}
+use Rattle.std.proofs.Common.{◌≡◌, ℕ, List, take}
+use Rattle.olr_spec.specs.Map.{Map}
+use Rattle.olr_refs.specs.ResolvedLines.{records_of}
 use Rattle.olr_refs.proofs.Ends.{HasEnds}
 use Rattle.olr_refs.proofs.extension.push_ends.Given as goal
 
 -- the nodes have the ends of the lines so far
-abbrev pub invariant-loop-line : goal.invariant-loop-line
-invariant-loop-line g l =
-    HasEnds (g.M.MapRead.map l.map) l.initial.nodes.items (take l.line-index l.lines) l.nodes.items
+abbrev pub invariant-loop-record : goal.invariant-loop-record
+invariant-loop-record l =
+    (M : Map) (ls : List ℕ) → l.records ≡ records_of M ls →
+    HasEnds M l.initial.nodes.items (take l.record-index ls) l.nodes.items

@@ -1,47 +1,31 @@
 use Rattle.std.proofs.Common.{◌≡◌, ◌-◌, ◌+◌, ◌∙◌, ℕ, ap, sym, arith, drop}
-use Rattle.std.proofs.lemmas.List.{get_or_default}
-use Rattle.std.specs.List.{slice_index}
-use Rattle.olr_spec.specs.Map.{start, end}
 use Rattle.olr_spec.specs.Encoding.{first_break}
-use Rattle.olr_refs.proofs.Faulting.{each_read, no_break_at, break_at, no_break_left}
+use Rattle.olr_refs.specs.ResolvedLines.{ResolvedLine}
+use Rattle.olr_refs.proofs.Faulting.{no_break_at, break_at, no_break_left}
+use Rattle.olr_refs.proofs.Resolving.{record_at, records_length}
 use Rattle.olr_refs.proofs.faults.first_break.Goals as goal
 
-pub end_of-requires : goal.end_of-requires
-end_of-requires g c =
-    each_read (g.M.MapRead.map c.args.map.now) c.args.lines.now _ _ c.requires (omega arith) c.index-lines-k.is
-
-pub start_of-requires : goal.start_of-requires
-start_of-requires g c =
-    each_read (g.M.MapRead.map c.args.map.now) c.args.lines.now _ _ c.requires c.loop-k-test.true
-    c.index-lines-k-in-loop-k.is
-
 pub loop-k-preserved : goal.loop-k-preserved
-loop-k-preserved g c =
-    let M = g.M.MapRead.map c.args.map.now in
-    let before : c.index-lines-k.result ≡ slice_index c.args.lines.now (c.loop-k.k - 1) =
-    c.index-lines-k.is ∙ get_or_default c.args.lines.now _ _ 0 (omega arith) in
-    let here : c.index-lines-k-in-loop-k.result ≡ slice_index c.args.lines.now c.loop-k.k =
-    c.index-lines-k-in-loop-k.is ∙ get_or_default c.args.lines.now _ _ 0 c.loop-k-test.true in
+loop-k-preserved c = λ M ls e.
+    let long = records_length M ls _ e in
+    let before = c.before-in-loop-k.view_is ∙ c.index-records-k.is ∙ record_at M ls _ _ _ e (omega arith) in
+    let here = c.record.view_is ∙ c.index-records-k-in-loop-k.is ∙ record_at M ls _ _ _ e (omega arith) in
     let n : c.loop-k.k + 1 - 1 ≡ c.loop-k.k = omega arith in
-    ap (λ (j : ℕ). first_break M j (drop j c.args.lines.now)) n
-    ∙ sym (no_break_at M c.args.lines.now c.loop-k.k c.end_of.result c.start_of.result c.ne.result (omega arith)
-    c.loop-k-test.true
-    (c.end_of.ensures ∙ ap (end M) before) (c.start_of.ensures ∙ ap (start M) here) c.ne.ensures c.if-ne.false)
-    ∙ c.loop-k.invariant
+    ap (λ (j : ℕ). first_break M j (drop j ls)) n
+    ∙ sym (no_break_at M ls c.loop-k.k _ _ _ (omega arith) (omega arith) (ap (λ (r : ResolvedLine). r.to) before)
+    (ap (λ (r : ResolvedLine). r.from) here) c.ne.ensures c.if-ne.false)
+    ∙ c.loop-k.invariant M ls e
 
 pub returns-then-ne : goal.returns-then-ne
-returns-then-ne g c =
-    let M = g.M.MapRead.map c.args.map.now in
-    let before : c.index-lines-k.result ≡ slice_index c.args.lines.now (c.loop-k.k - 1) =
-    c.index-lines-k.is ∙ get_or_default c.args.lines.now _ _ 0 (omega arith) in
-    let here : c.index-lines-k-in-loop-k.result ≡ slice_index c.args.lines.now c.loop-k.k =
-    c.index-lines-k-in-loop-k.is ∙ get_or_default c.args.lines.now _ _ 0 c.loop-k-test.true in
-    sym (break_at M c.args.lines.now c.loop-k.k c.end_of.result c.start_of.result c.ne.result (omega arith)
-    c.loop-k-test.true
-    (c.end_of.ensures ∙ ap (end M) before) (c.start_of.ensures ∙ ap (start M) here) c.ne.ensures c.if-ne.true)
-    ∙ c.loop-k.invariant
+returns-then-ne c = λ M ls e.
+    let long = records_length M ls _ e in
+    let before = c.before-in-loop-k.view_is ∙ c.index-records-k.is ∙ record_at M ls _ _ _ e (omega arith) in
+    let here = c.record.view_is ∙ c.index-records-k-in-loop-k.is ∙ record_at M ls _ _ _ e (omega arith) in
+    sym (break_at M ls c.loop-k.k _ _ _ (omega arith) (omega arith) (ap (λ (r : ResolvedLine). r.to) before)
+    (ap (λ (r : ResolvedLine). r.from) here) c.ne.ensures c.if-ne.true)
+    ∙ c.loop-k.invariant M ls e
 
 pub returns : goal.returns
-returns g c =
-    sym (no_break_left (g.M.MapRead.map c.args.map.now) c.args.lines.now (c.loop-k.k - 1) (omega arith))
-    ∙ c.loop-k.invariant
+returns c = λ M ls e.
+    let long = records_length M ls _ e in
+    sym (no_break_left M ls (c.loop-k.k - 1) (omega arith)) ∙ c.loop-k.invariant M ls e

@@ -1,9 +1,11 @@
-use Rattle.std.proofs.Common.{◌≡◌, ◌-◌, drop}
+use Rattle.std.proofs.Common.{◌≡◌, ◌-◌, ℕ, List, drop}
+use Rattle.olr_spec.specs.Map.{Map}
 use Rattle.olr_spec.specs.Encoding.{first_break}
+use Rattle.olr_refs.specs.ResolvedLines.{records_of}
 use Rattle.olr_refs.proofs.faults.first_break.Given as goal
 
 -- the first break of the remaining lines is the first of all
 abbrev pub invariant-loop-k : goal.invariant-loop-k
-invariant-loop-k g l =
-    first_break (g.M.MapRead.map l.map) (l.k - 1) (drop (l.k - 1) l.lines)
-    ≡ first_break (g.M.MapRead.map l.map) 0 l.fn.lines
+invariant-loop-k l =
+    (M : Map) (ls : List ℕ) → l.records ≡ records_of M ls →
+    first_break M (l.k - 1) (drop (l.k - 1) ls) ≡ first_break M 0 ls

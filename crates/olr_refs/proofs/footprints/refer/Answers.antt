@@ -1,3 +1,8 @@
+use Rattle.std.proofs.Common.{List, Some, length, refl, sym, ap, ◌∙◌, subst}
+use Rattle.olr_spec.specs.Queries.{CoverageQuery}
+use Rattle.olr_spec.proofs.KnownLemmas.{all_searched}
+use Rattle.olr_refs.specs.Choice.{Notes, SeenBy, SettledBy, raised_count}
+use Rattle.olr_refs.proofs.Asking.{searched_all}
 use Rattle.olr_refs.specs.Answers.{answer_of}
 use Rattle.olr_refs.proofs.Recovering.{recovered_of}
 use Rattle.olr_refs.proofs.Referring.{local_by, searches_queried}
@@ -14,7 +19,13 @@ returns-clause-footprint g c =
     noted_foot (g.M.MapRead.map c.args.map.now) (g.met.M.MapRead.sound c.args.map.now) c.args.path.now
     c.encode_noting.ensures.path c.in_ok-encoding.encoding.queries.items c.in_ok-encoding.ensures.queries
     c.in_ok-encoding.encoding.traversed c.new.result c.encode_noting.new.seen c.in_ok-footprint.footprint
-    c.in_ok-encoding.ensures.traversed c.new.ensures c.in_ok-encoding.ensures.seen c.in_ok-footprint.ensures
+    c.in_ok-encoding.ensures.traversed c.new.ensures
+    (subst (λ (qs : List CoverageQuery). Notes (SeenBy (g.M.MapRead.map c.args.map.now) qs) (Some c.new.result)
+    c.encode_noting.new.seen)
+    (sym (all_searched (g.M.MapRead.map c.args.map.now) (g.met.M.MapRead.sound c.args.map.now) c.args.path.now
+    c.encode_noting.ensures.path c.in_ok-encoding.encoding.queries.items c.in_ok-encoding.ensures.seen.0
+    c.in_ok-encoding.ensures.queries c.in_ok-encoding.ensures.seen.1)) c.in_ok-encoding.ensures.seen.2)
+    c.in_ok-footprint.ensures
 
 pub returns-clause-local : goal.returns-clause-local
 returns-clause-local g c =
@@ -27,7 +38,10 @@ returns-clause-searches g c = (
   _,
   searches_queried (g.M.MapRead.map c.args.map.now) c.args.path.now c.in_ok-encoding.encoding.queries.items
       c.in_ok-encoding.ensures.queries,
-  c.in_ok-encoding.ensures.searches,
+  c.in_ok-encoding.ensures.searched.searches ∙ ap (λ (qs : List CoverageQuery). raised_count c.args.work.now.searches
+      (length qs)) (sym (searched_all (g.M.MapRead.map c.args.map.now) (g.met.M.MapRead.sound c.args.map.now) c.args.path.now
+      c.encode_noting.ensures.path _ c.in_ok-encoding.encoding.queries.items _ _ refl c.in_ok-encoding.ensures.queries
+      c.in_ok-encoding.ensures.searched)),
 )
 
 pub returns-clause-settled : goal.returns-clause-settled
@@ -39,4 +53,11 @@ returns-clause-settled g c = (
 )
 
 pub returns-clause-settled_exactly : goal.returns-clause-settled_exactly
-returns-clause-settled_exactly g c = (_, c.in_ok-encoding.ensures.queries, c.in_ok-encoding.ensures.settled_exactly)
+returns-clause-settled_exactly g c = (
+  _,
+  c.in_ok-encoding.ensures.queries,
+  subst (λ (qs : List CoverageQuery). SettledBy (g.M.MapRead.map c.args.map.now) qs c.args.work.now.settled
+      c.encode_noting.new.work.settled) (sym (searched_all (g.M.MapRead.map c.args.map.now) (g.met.M.MapRead.sound c.args.map.now) c.args.path.now
+      c.encode_noting.ensures.path _ c.in_ok-encoding.encoding.queries.items _ _ refl c.in_ok-encoding.ensures.queries
+      c.in_ok-encoding.ensures.searched)) c.in_ok-encoding.ensures.searched.settled,
+)

@@ -2,8 +2,8 @@ use Rattle.std.proofs.Common.{◌≡◌, ◌+◌, ℕ, subst, arith, min, ◌-�
 use Rattle.std.proofs.lemmas.List.{get_or_default}
 use Rattle.olr_spec.specs.Routes.{dm_of}
 use Rattle.olr_spec.specs.Points.{stretch}
-use Rattle.olr_route.specs.declared.distances.Direction.TheVariants.{Along}
-use Rattle.olr_route.specs.Searches.{limit_of}
+use Rattle.olr_search.specs.declared.distances.Direction.TheVariants.{Along}
+use Rattle.olr_search.specs.Searches.{limit_of}
 use Rattle.olr_refs.proofs.Stretches.{later_stretch}
 use Rattle.olr_refs.proofs.Reaching.{UniqueTo, tests_start, settled_on, unique_if, not_unique_if, reach_far, reach_to}
 use Rattle.olr_refs.proofs.Reaching.{last_far, last_to}

@@ -1,4 +1,5 @@
 use Rattle.std.proofs.lemmas.List.Sorted.{IsNonDecreasingBy-from_sort}
+use Rattle.olr_refs.specs.ResolvedLines.{ids}
 use Rattle.olr_refs.proofs.Sets.{same_members}
 use Rattle.olr_refs.proofs.line_set.LineSet.of.Goals as goal
 
@@ -8,5 +9,5 @@ invariant_of-result c =
 
 pub returns : goal.returns
 returns c =
-    same_members c.args.lines.now c.sort_unstable.new.self.items
-    (rw c.in_ok-sorted.ensures.items at c.sort_unstable.ensures.permutation)
+    same_members (ids c.args.records.now) c.sort_unstable.new.self.items
+    (rw c.in_ok-sorted.ensures at c.sort_unstable.ensures.permutation)

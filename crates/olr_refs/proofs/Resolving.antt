@@ -1,0 +1,35 @@
+-- Lines of a path as a map has them.
+use Rattle.std.proofs.Common.{◌≡◌, ◌<◌, ℕ, List, [], ◌∷◌, ◌++◌, length, get_or, refl, sym, ap, ◌∙◌, subst, arith}
+use Rattle.std.proofs.lemmas.List.{get_or-map, length-map, map-append}
+use Rattle.std.specs.List.{slice_index}
+use Rattle.olr_spec.specs.Map.{Map}
+use Rattle.olr_refs.specs.ResolvedLines.{ResolvedLine, record_of, records_of, ids, AreRecords}
+
+-- the record of line k
+pub record_at : (M : Map) (ls : List ℕ) (rs : List ResolvedLine) (k : ℕ) (d : ResolvedLine) → rs ≡ records_of M ls →
+    k < length ls → get_or rs k d ≡ record_of M (slice_index ls k)
+record_at M ls rs k d e h =
+    ap (λ (xs : List ResolvedLine). get_or xs k d) e ∙ get_or-map (record_of M) ls k 0 d h
+
+pub records_length : (M : Map) (ls : List ℕ) (rs : List ResolvedLine) → rs ≡ records_of M ls → length rs ≡ length ls
+records_length M ls rs e = ap (λ (xs : List ResolvedLine). length xs) e ∙ length-map ls (record_of M)
+
+-- ---- the numbers of the lines
+
+pub some_ids : (rs : List ResolvedLine) → 0 < length rs → 0 < length (ids rs)
+some_ids rs h = subst (λ (n : ℕ). 0 < n) (sym (length-map rs (λ (r : ResolvedLine). r.id))) h
+
+pub ids_are : (M : Map) (ls : List ℕ) (rs : List ResolvedLine) → rs ≡ records_of M ls → ids rs ≡ ls
+ids_are M ls rs e = ap ids e ∙ same ls
+  where
+    same : (ls : List ℕ) → ids (records_of M ls) ≡ ls
+    same [] = refl
+    same (x ∷ ls) = ap (λ (xs : List ℕ). x ∷ xs) (same ls)
+
+pub are_records : (M : Map) (ls : List ℕ) (rs : List ResolvedLine) → rs ≡ records_of M ls → AreRecords M rs
+are_records M ls rs e = e ∙ ap (records_of M) (sym (ids_are M ls rs e))
+
+pub records_append : (M : Map) (rs ss : List ResolvedLine) → AreRecords M rs → AreRecords M ss → AreRecords M (rs ++ ss)
+records_append M rs ss r s =
+    (λ i. r i ++ s i) ∙ sym (map-append (record_of M) (ids rs) (ids ss))
+    ∙ ap (records_of M) (sym (map-append (λ (t : ResolvedLine). t.id) rs ss))

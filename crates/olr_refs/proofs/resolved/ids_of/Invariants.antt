@@ -1,0 +1,6 @@
+use Rattle.std.proofs.Common.{◌≡◌, take}
+use Rattle.olr_refs.specs.ResolvedLines.{ids}
+use Rattle.olr_refs.proofs.resolved.ids_of.Given as goal
+
+abbrev pub invariant-loop-record : goal.invariant-loop-record
+invariant-loop-record l = l.lines.items ≡ ids (take l.record-index l.records)
