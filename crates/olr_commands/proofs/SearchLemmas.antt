@@ -11,7 +11,7 @@ use Rattle.olr_commands.specs.State.{Named, Content, same_name, path_named, has_
 use Rattle.olr_commands.specs.State.{Path_exists, No_path, Bad_path, when, Change, Add_path, Set_path, with_change}
 use Rattle.olr_commands.specs.State.{State, Make, step, changes_made, IsState}
 use Rattle.olr_commands.specs.Counts.{CountIs, all_nodes, all_lines, all_names, Retains, EncodesAgain, Spares}
-use Rattle.olr_commands.specs.Counts.{SearchedFor, Collects, Searches}
+use Rattle.olr_commands.specs.Counts.{SearchedFor, SearchedAgain, Either, SearchesFor, Collects, Searches, all_changed}
 use Rattle.olr_commands.proofs.NameLemmas.{same_is, not_named, set_name}
 use Rattle.olr_commands.proofs.StateLemmas.{when_ok}
 use Rattle.olr_commands.proofs.CountLemmas.{only_name, by_name, paths_after, ok_made}
@@ -26,10 +26,11 @@ none_collected E Q name only (p ∷ ps) h =
     let r = not_named p ps name h in
     inr ((λ e. both_ways (same_name p.name name) r.0 (only p e)), none_collected E Q name only ps r.1)
 
-one_collected : (E : Named → Type 0) (Q : Path → List CoverageQuery → Type 0) (name : List ℕ) (path : Path)
+one_collected : (E : Named → Type 0) (Q : Named → List CoverageQuery → Type 0) (name : List ℕ) (path : Path)
     (own : List CoverageQuery) → ((p : Named) → E p → same_name p.name name ≡ true) →
-    ((p : Named) → same_name p.name name ≡ true → E p) → Q path own → (ps : List Named) → NamesDiffer ps →
-    path_named ps name ≡ Some path → Collects E (λ p. Q p.path) ps own
+    ((p : Named) → same_name p.name name ≡ true → E p) →
+    ((p : Named) → same_name p.name name ≡ true → p.path ≡ path → Q p own) → (ps : List Named) → NamesDiffer ps →
+    path_named ps name ≡ Some path → Collects E Q ps own
 one_collected E Q name path own only all made [] d h = absurd cc
 one_collected E Q name path own only all made (p ∷ ps) d h =
     elim (cases_Bool (same_name p.name name)) [
@@ -43,8 +44,8 @@ one_collected E Q name path own only all made (p ∷ ps) d h =
             (
               own,
               [],
-              subst (λ (P : Path). Q P own) (sym path_is) made,
-              none_collected E (λ q. Q q.path) name only ps
+              made p e path_is,
+              none_collected E Q name only ps
                   (ap (λ (n : List ℕ). is_some (path_named ps n)) (sym is) ∙ d.0),
               sym (append-nil own),
             ),
@@ -89,13 +90,15 @@ path_set name path (p ∷ ps) h =
 
 module _ (c d : Content) (x : Change) (name : List ℕ) (nodes : all_nodes c (x ∷ []) ≡ [])
     (lines : all_lines (x ∷ []) ≡ []) (names : all_names (x ∷ []) ≡ name ∷ []) where
+  is_named : (p : Named) → same_name p.name name ≡ true → list_any (same_name p.name) (all_names (x ∷ [])) ≡ true
+  is_named p same =
+      subst (λ (ns : List (List ℕ)). list_any (same_name p.name) ns ≡ true) (sym names)
+      (ap (λ (b : Bool). b || false) same)
+
   retains_none : (p : Named) → ¬ Retains c d (x ∷ []) p
   retains_none p h =
-      let same = only_name c x name nodes lines names p h.affected in
-      let named : list_any (same_name p.name) (all_names (x ∷ [])) ≡ true =
-      subst (λ (ns : List (List ℕ)). list_any (same_name p.name) ns ≡ true) (sym names)
-      (ap (λ (b : Bool). b || false) same) in
-      both_ways (list_any (same_name p.name) (all_names (x ∷ []))) h.unnamed named
+      both_ways (list_any (same_name p.name) (all_names (x ∷ []))) h.unnamed
+      (is_named p (only_name c x name nodes lines names p h.affected))
 
   no_spares : (ps : List Named) → CountIs (Retains c d (x ∷ [])) ps 0
   no_spares [] = refl
@@ -103,11 +106,14 @@ module _ (c d : Content) (x : Change) (name : List ℕ) (nodes : all_nodes c (x 
 
   one_search : (ps : List Named) (path : Path) (own : List CoverageQuery) → NamesDiffer ps →
       path_named ps name ≡ Some path → SearchedFor d.map path own →
-      Collects (EncodesAgain c d (x ∷ [])) (λ p. SearchedFor d.map p.path) ps own
+      Collects (EncodesAgain c d (x ∷ [])) (SearchesFor c d (x ∷ [])) ps own
   one_search ps path own differ there made =
-      one_collected (EncodesAgain c d (x ∷ [])) (SearchedFor d.map) name path own
+      one_collected (EncodesAgain c d (x ∷ [])) (SearchesFor c d (x ∷ [])) name path own
       (λ p e. only_name c x name nodes lines names p e.0)
-      (λ p e. (by_name c x name names p e, retains_none p)) made ps differ there
+      (λ p e. (by_name c x name names p e, retains_none p))
+      (λ p e is. subst (λ (b : Bool). Either b (SearchedFor d.map p.path own)
+      (SearchedAgain c.map d.map (all_changed c (x ∷ [])) p.path own)) (sym (is_named p e))
+      (subst (λ (P : Path). SearchedFor d.map P own) (sym is) made)) ps differ there
 
 -- outside a batch
 module _ (s t : State) (x : Change) (name : List ℕ) (path : Path) (i : IsState s) (closed : s.batch ≡ None)
@@ -125,7 +131,7 @@ module _ (s t : State) (x : Change) (name : List ℕ) (path : Path) (i : IsState
       path_named t.content.paths name ≡ Some path → SearchedFor t.content.map path own → Searches s (Make x) t own
   searches_one own differ there made =
       subst (λ (xs : List Change). Collects (EncodesAgain s.content t.content xs)
-      (λ p. SearchedFor t.content.map p.path) t.content.paths own) (sym brings)
+      (SearchesFor s.content t.content xs) t.content.paths own) (sym brings)
       (one_search s.content t.content x name nodes lines names t.content.paths path own differ there made)
 
 pub added_path : (s t : State) (name : List ℕ) (path : Path) → s.batch ≡ None →

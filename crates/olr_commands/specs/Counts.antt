@@ -4,19 +4,25 @@
 --         C, let the path keep its answer
 --     Retains c d xs p      the changes xs lead from c to d, and affect the path, which retains its answer
 --     EncodesAgain c d xs p      they affect it, and it does not
+--     IsOnMap N l      a coverage query within the limit whose ends are on the map
+--     IsAgainClear N C l      one that is not searched again after changes that led to N: not too many lines changed, and
+--         it is clear of them
+--     Picks P xs ys      ys are the elements of xs for which P holds, in order
+--     SearchedFor N P qs      the coverage queries for which an encoding from scratch searches
+--     SearchedAgain M N C P qs      those for which an encoding on N searches after one on M
 --     CountIs P ps n      P holds of n of the elements
---     RisesBy old n new      a count of 64 bits rises by n, or by less where it would overflow
 --     Raises s c t n      the accepted command, which leads from s to t, raises the count of encodings by n
 --     Spares s c t n      it raises the count of retained answers by n
 --     Collects E Q ps qs      the lists that Q gives the elements of which E holds, joined in order
 --     Searches s c t qs      the coverage queries for which it searches
 use Rattle.std.specs.Prelude.{◌≡◌, ℕ, suc, ◌+◌, ◌<◌, ◌≤◌, ◌^◌, List, [], ◌∷◌, ◌++◌, flat_map, length, All, ◌⊎◌, IsTrue, IsFalse}
+use Rattle.std.specs.Prelude.{Bool, true, false}
 use Rattle.std.specs.List.{list_any}
-use Rattle.olr_spec.specs.Map.{Map, touched_nodes, touched_lines, has}
-use Rattle.olr_spec.specs.Extension.{Path}
+use Rattle.olr_spec.specs.Map.{Map, has_node, touched_nodes, touched_lines, has}
+use Rattle.olr_spec.specs.Extension.{Path, limit}
 use Rattle.olr_spec.specs.Footprint.{Foot}
 use Rattle.olr_spec.specs.Detours.{ChangedLine, changes_of}
-use Rattle.olr_spec.specs.Queries.{CoverageQuery, TraversedOf, QueriesOf, IsClear}
+use Rattle.olr_spec.specs.Queries.{CoverageQuery, TraversedOf, QueriesOf, IsClear, KnownQuery, KnownOf, SearchedOf}
 use Rattle.olr_commands.specs.State.{Named, Content, same_name, Change, On_map, Add_path, Set_path, next, State}
 use Rattle.olr_commands.specs.State.{Command, changes_made}
 
@@ -81,16 +87,35 @@ pub record Retains (c d : Content) (xs : List Change) (p : Named) : Type 0 where
 abbrev pub EncodesAgain : Content → Content → List Change → Named → Type 0
 EncodesAgain c d xs p = Affects c xs p × ¬ Retains c d xs p
 
--- the coverage queries for which an encoding of a path on a map searches
+-- the coverage queries for which an encoding of a path from scratch searches: all
 abbrev pub SearchedFor : Map → Path → List CoverageQuery → Type 0
 SearchedFor N P queries = QueriesOf N P queries
+
+pub record IsOnMap (N : Map) (l : CoverageQuery) : Type 0 where
+  pub from : IsTrue (has_node N l.from)
+  pub to : IsTrue (has_node N l.to)
+  pub within : l.within ≤ limit
+
+pub record IsAgainClear (N : Map) (C : List ChangedLine) (l : CoverageQuery) : Type 0 where
+  pub few : length C ≤ most_changed
+  pub on_map : IsOnMap N l
+  pub clear : IsClear N C l
+
+abbrev pub Picks : {A : Type 0} → (A → Type 0) → List A → List A → Type 0
+Picks P [] ys = ys ≡ []
+Picks {A} P (x ∷ xs) ys =
+    (P x × ((rest : List A) × Picks P xs rest × (ys ≡ x ∷ rest))) ⊎ ((¬ P x) × Picks P xs ys)
+
+-- after an encoding on M of the same path, the coverage queries along the path's own lines that are clear of the changed
+-- lines are not searched again
+abbrev pub SearchedAgain : Map → Map → List ChangedLine → Path → List CoverageQuery → Type 0
+SearchedAgain M N C P queries =
+    (known : List KnownQuery) × (given : List KnownQuery) × KnownOf M P known
+    × Picks (λ e. IsAgainClear N C e.query) known given × SearchedOf N P given queries
 
 abbrev pub CountIs : {A : Type 0} → (A → Type 0) → List A → ℕ → Type 0
 CountIs P [] n = n ≡ 0
 CountIs P (x ∷ xs) n = (P x × ((m : ℕ) × CountIs P xs m × (n ≡ suc m))) ⊎ ((¬ P x) × CountIs P xs n)
-
-abbrev pub RisesBy : ℕ → ℕ → ℕ → Type 0
-RisesBy old n new = (old + n < 2 ^ 64 → new ≡ old + n) × (new ≤ old + n)
 
 -- the number of affected paths of the later list, each counted once
 abbrev pub Raises : State → Command → State → ℕ → Type 0
@@ -107,8 +132,19 @@ Collects E Q (x ∷ xs) queries =
     (E x × ((own : List CoverageQuery) × (rest : List CoverageQuery) × Q x own × Collects E Q xs rest
     × (queries ≡ own ++ rest))) ⊎ ((¬ E x) × Collects E Q xs queries)
 
+-- the first of two statements if the condition is true, and the second if it is not
+abbrev pub Either : Bool → Type 0 → Type 0 → Type 0
+Either true A B = A
+Either false A B = B
+
+-- a path that a change names is encoded from scratch
+abbrev pub SearchesFor : Content → Content → List Change → Named → List CoverageQuery → Type 0
+SearchesFor c d xs p queries =
+    Either (list_any (same_name p.name) (all_names xs)) (SearchedFor d.map p.path queries)
+    (SearchedAgain c.map d.map (all_changed c xs) p.path queries)
+
 -- those of the affected paths that do not retain their answer, in the order of the paths
 abbrev pub Searches : State → Command → State → List CoverageQuery → Type 0
 Searches s c t queries =
-    Collects (EncodesAgain s.content t.content (changes_made s c)) (λ p. SearchedFor t.content.map p.path)
+    Collects (EncodesAgain s.content t.content (changes_made s c)) (SearchesFor s.content t.content (changes_made s c))
     t.content.paths queries

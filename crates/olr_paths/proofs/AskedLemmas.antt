@@ -12,9 +12,9 @@ use Rattle.olr_spec.specs.Detours.{ChangedLine, Near}
 use Rattle.olr_spec.specs.Map.{Map, has}
 use Rattle.olr_paths.specs.Items.{Made, Item}
 use Rattle.olr_paths.specs.Changes.{QueryTouched, Touches}
-use Rattle.olr_route.specs.Bounds.{AreLengths}
-use Rattle.olr_route.specs.declared.distances.Dijkstra.{Dijkstra}
-use Rattle.olr_route.specs.declared.distances.Direction.TheVariants.{Against}
+use Rattle.olr_search.specs.Bounds.{AreLengths}
+use Rattle.olr_search.specs.declared.distances.Dijkstra.{Dijkstra}
+use Rattle.olr_search.specs.declared.distances.Direction.TheVariants.{Against}
 use Rattle.olr_spec.specs.Extension.{Path, limit}
 use Rattle.olr_paths.specs.Touching.{nodes_of}
 use Rattle.olr_paths.specs.Searching.{sources, IsExactAt, IsAsked, AreAsked, LacksQueries, LackQueries}
@@ -117,8 +117,8 @@ longest_made N T X most P made m is h = subst (λ (o : Option Made). IfSome o (I
 longer : (N : Map) (T X : List ℕ) (a b : Option ℕ) (P : Path) (made : Option Made) → IsNoLess a b →
     IfSome made (IsLongest N T X a P) → IfSome made (IsLongest N T X b P)
 longer N T X a b P None le h = tt
-longer N T X a b P (Some m) le h = λ touched nodes lines.
-    let was = h touched nodes lines in
+longer N T X a b P (Some m) le h = λ touched.
+    let was = h touched in
     let now = le was.0 was.1 in
     (now.0, now.1, λ l on. let low = was.2 l on in let up = now.2 in omega arith)
 
@@ -142,12 +142,12 @@ longest_more N T X is a here b found k position lt there before one low high q i
 
 reached_one : (N : Map) (T X : List ℕ) (C : List ChangedLine) (most far : Option ℕ) (P : Path) (m : Made) →
     ((long : ℕ) → most ≡ Some long → IsFarAs C long far) → IsLongest N T X most P m → IsReached N T X C far P m
-reached_one N T X C most far P m as_far h touched nodes lines =
-    let r = h touched nodes lines in
+reached_one N T X C most far P m as_far h touched =
+    let r = h touched in
     by far (as_far r.0 r.1) r.2
   where
-    by : (o : Option ℕ) → IsFarAs C (h touched nodes lines).0 o → ((l : CoverageQuery) → Contains m.queries l →
-        l.within ≤ (h touched nodes lines).0) → ReachesQueries C o m
+    by : (o : Option ℕ) → IsFarAs C (h touched).0 o → ((l : CoverageQuery) → Contains m.queries l →
+        l.within ≤ (h touched).0) → ReachesQueries C o m
     by None many low = many
     by (Some f) is low = λ l on within. let le = low l on in omega (arith, is, within, le)
 

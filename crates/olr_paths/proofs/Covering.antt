@@ -28,8 +28,8 @@ use Rattle.olr_spec.specs.Map.{has_node}
 use Rattle.olr_spec.specs.Routes.{dm_of}
 use Rattle.olr_spec.specs.Queries.{CoverageQuery}
 use Rattle.olr_spec.specs.Extension.{limit}
-use Rattle.olr_route.specs.Bounds.{AreLengths, label_at}
-use Rattle.olr_route.specs.declared.distances.Direction.TheVariants.{Against}
+use Rattle.olr_search.specs.Bounds.{AreLengths, label_at}
+use Rattle.olr_search.specs.declared.distances.Direction.TheVariants.{Against}
 use Rattle.olr_paths.specs.Items.{Made, made_of}
 use Rattle.olr_paths.specs.Changes.{TraversedTouched, LineTouched, QueryTouched}
 use Rattle.olr_paths.specs.Touching.{nodes_of, lines_of}

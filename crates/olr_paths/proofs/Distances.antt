@@ -6,9 +6,9 @@ use Rattle.olr_spec.specs.Map.{Map, IsMap, has_node, end, has}
 use Rattle.olr_spec.specs.Routes.{IsRoute, dm_of}
 use Rattle.olr_spec.specs.Detours.{ChangedLine, Detour, Near}
 use Rattle.olr_spec.proofs.RouteLemmas.{route_start}
-use Rattle.olr_route.specs.Distances.{Leads, IsDistance}
-use Rattle.olr_route.specs.declared.distances.Direction.{Direction}
-use Rattle.olr_route.specs.declared.distances.Direction.TheVariants.{Along, Against}
+use Rattle.olr_search.specs.Distances.{Leads, IsDistance}
+use Rattle.olr_search.specs.declared.distances.Direction.{Direction}
+use Rattle.olr_search.specs.declared.distances.Direction.TheVariants.{Along, Against}
 use Rattle.olr_paths.specs.Touching.{change_of, changed_of}
 use Rattle.olr_paths.specs.Searching.{starts, ends, AreFarther}
 use Rattle.olr_paths.specs.declared.change_set.ChangeSet.{ChangeSet}

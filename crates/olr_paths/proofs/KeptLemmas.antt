@@ -3,12 +3,13 @@ use Rattle.std.proofs.Common.{inl, inr, ◌≡◌, ℕ, ◌≤◌, List, All, Co
 use Rattle.std.proofs.Common.{get_or, min}
 use Rattle.std.proofs.lemmas.Bool.{cases_Bool, both_ways}
 use Rattle.std.proofs.lemmas.List.Elements.{Contains-get_or}
-use Rattle.olr_spec.specs.Map.{Map, IsMap, has}
+use Rattle.olr_spec.specs.Map.{Map, IsMap, has, SameLine, SameRound}
 use Rattle.olr_spec.specs.Extension.{Path, is_path, limit}
 use Rattle.olr_spec.specs.Footprint.{Foot}
 use Rattle.olr_spec.specs.Detours.{ChangedLine, Difference, Near}
 use Rattle.olr_spec.specs.Queries.{CoverageQuery, IsClear, QueriesOf, TraversedOf}
-use Rattle.olr_spec.proofs.StayLemmas.{untouched_retained}
+use Rattle.olr_spec.proofs.ListLemmas.{Each}
+use Rattle.olr_spec.proofs.StayLemmas.{known_kept, untouched_retained}
 use Rattle.olr_spec.proofs.TestedLemmas.{foot_affected, one_queries}
 use Rattle.olr_commands.specs.Counts.{IsUnchanged}
 use Rattle.olr_paths.specs.Items.{Made, Item, IsEncodingOf}
@@ -28,10 +29,20 @@ module _ (M N : Map) (n : IsMap N) (T X : List ℕ) (C : List ChangedLine) (P : 
       let traversed : (v : ℕ) → has T v ≡ true → ¬ TraversedOf M P v = λ v on o. nodes_free
       (v, on, (made.traversed v).1 o) in
       let k = untouched_retained M N sound n T X C difference P is lines traversed m.queries made.queries clear in
+      let same : Each (SameLine M N) P.lines = λ x on.
+      elim (cases_Bool (has X x)) [
+        | inl e ↦ absurd (both_ways (has P.lines x) (lines x e) on)
+        | inr off ↦ difference.lines x off
+      ] in
+      let round : (v : ℕ) → TraversedOf M P v → SameRound M N v = λ v on.
+      elim (cases_Bool (has T v)) [ inl e ↦ absurd (traversed v e on) | inr off ↦ difference.nodes v off ] in
       record {
         answer = k.0 m.answer made.answer;
         traversed = λ v. ((λ o. (k.1 v).0 ((made.traversed v).0 o)), (λ o. (made.traversed v).1 ((k.1 v).1 o)));
         queries = k.2;
+        known =
+            known_kept M N sound n C difference.there difference.here P is same m.queries clear round made.queries
+            m.known made.known;
       }
 
   -- a detour begins with a route to a touched node

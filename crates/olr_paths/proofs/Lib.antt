@@ -15,8 +15,10 @@ pub mod Changed
 pub mod EntryLists
 pub mod Placing
 pub mod QueryLengths
+pub mod Picking
 pub mod KeptLemmas
 pub mod Following
+pub mod GivenQueries
 pub mod RenewedPrefix
 pub mod Covering
 pub mod Yielded

@@ -12,7 +12,7 @@ use Rattle.olr_spec.specs.Queries.{TraversedOfExtended, TraversedOf, CoverageQue
 use Rattle.olr_spec.proofs.ListLemmas.{Each-cons, has_index}
 use Rattle.olr_spec.proofs.JoinedLemmas.{extended_joined}
 use Rattle.olr_spec.proofs.QueryLists.{query_from}
-use Rattle.olr_paths.specs.Changes.{IsOnMap}
+use Rattle.olr_commands.specs.Counts.{IsOnMap}
 use Rattle.olr_paths.proofs.QueryLengths.{within_limit}
 
 route_lines : (M : Map) (s v : ℕ) (xs : List ℕ) → IsRoute M s v xs → (x : ℕ) → has xs x ≡ true → IsTrue (has_line M x)

@@ -3,9 +3,8 @@
 --     Through Q N T X C before is ps es t      the paths is are renewed when ps are stored, es reports them, and t are
 --         their totals, from each map that satisfies Q
 use Rattle.std.proofs.Common.{◌≡◌, ◌≢◌, ℕ, map, zero, suc, take, ◌+◌, List}
-use Rattle.std.proofs.Common.{[], ◌∷◌, ◌++◌, length, slice_get, Option, None, Some, option_map, IfSome, ◌⊎◌, inl, inr}
+use Rattle.std.proofs.Common.{[], ◌∷◌, ◌++◌, length, slice_get, Option, None, Some, option_map, ◌⊎◌, inl, inr}
 use Rattle.std.proofs.Common.{refl, sym, ap, subst, ◌∙◌, append-nil, append_assoc, arith, IsTrue}
-use Rattle.std.specs.List.{AllByRecursion}
 use Rattle.std.proofs.lemmas.List.{length-append, length-take-le, map-append, take_all}
 use Rattle.std.proofs.lemmas.Option.{slice_get_within}
 use Rattle.olr_spec.specs.Map.{Map, IsMap}
@@ -13,23 +12,27 @@ use Rattle.olr_spec.specs.Extension.{is_path}
 use Rattle.olr_spec.specs.Encoding.{Answer}
 use Rattle.olr_spec.specs.Detours.{ChangedLine}
 use Rattle.olr_commands.specs.State.{Named}
-use Rattle.olr_spec.specs.Queries.{CoverageQuery}
-use Rattle.olr_route.specs.declared.work.Work.{Work}
+use Rattle.olr_spec.specs.Queries.{CoverageQuery, KnownQuery, SearchedOf}
+use Rattle.olr_search.specs.declared.work.Work.{Work}
 use Rattle.olr_refs.specs.Choice.{SettledBy, raised_count}
-use Rattle.olr_commands.specs.Counts.{CountIs, RisesBy, SearchedFor, Collects}
+use Rattle.olr_commands.specs.Counts.{CountIs, Collects}
 use Rattle.olr_commands.specs.Words.{entry_of}
 use Rattle.olr_commands.specs.Reply.{Entry, entry}
-use Rattle.olr_paths.specs.Items.{Made, Item, IsEncodingOf, AreEncodingsIfAny, named_of, all_named, answer_in}
+use Rattle.olr_paths.specs.Items.{Made, Item, IsEncodingOf, named_of, all_named, answer_in}
 use Rattle.olr_paths.specs.Changes.{with_made, IsBefore, IsAffected, By_name, Touches, IsRemade, AreRemade, Reported}
-use Rattle.olr_paths.specs.Changes.{Follows, IsSpared, IsEncodedAgain, Totals, AreTotals, AreSearched, AreCounted}
+use Rattle.olr_paths.specs.Changes.{SearchesItem, Follows, IsSpared, IsEncodedAgain, Totals, AreTotals, AreSearched, AreCounted}
 use Rattle.olr_paths.specs.Renewing.{Put, all_put, made_at, puts_of, entries_of, ReportsIfOther, ToStay, ToKeep}
-use Rattle.olr_paths.specs.Renewing.{ToEncode}
-use Rattle.olr_paths.specs.Renewing.{IsStep, Left, Retained, EncodedAgain, Rises, OneSpared, OneEncoded}
+use Rattle.olr_paths.specs.Renewing.{ToEncode, Gives}
+use Rattle.olr_paths.specs.Renewing.{IsStep, Left, Retained, EncodedAgain, OneSpared, OneEncoded}
+use Rattle.olr_paths.specs.Renewing.{after_renewal, WasBefore, IsRenewal}
+use Rattle.olr_paths.specs.Touching.{nodes_of, lines_of, changed_of}
+use Rattle.olr_paths.specs.declared.change_set.ChangeSet.{ChangeSet}
 use Rattle.olr_paths.specs.declared.renewal.Renewal.{Renewal}
 use Rattle.olr_paths.specs.declared.renewal.Counted.{Counted}
 use Rattle.olr_spec.proofs.ListLemmas.{take_more_at}
 use Rattle.olr_refs.proofs.Noting.{raised_more, settled_append}
 use Rattle.olr_paths.proofs.Placing.{put_behind, all_put-push}
+use Rattle.olr_paths.proofs.GivenQueries.{made_before, path_before, searches_item}
 use Rattle.olr_paths.proofs.KeptLemmas.{stays_unless, stays_retained, unchanged_by, stays_by, affected_by, touched_by}
 
 AreRemade-push : (N : Map) (is js : List Item) (i j : Item) → AreRemade N is js → IsRemade N i j →
@@ -96,7 +99,7 @@ module _ (L N : Map) (T X : List ℕ) (C : List ChangedLine) (is : List Item) (t
         affected = Count-same (IsAffected L T X) is t.affected i h.affected free;
         spared = Count-same (IsSpared L N T X C) is t.spared i h.spared (λ o. free o.affected);
         queries =
-            Collects-same (IsEncodedAgain L N T X C) (λ j. SearchedFor N j.path) is t.queries i h.queries
+            Collects-same (IsEncodedAgain L N T X C) (SearchesItem L N C) is t.queries i h.queries
             (λ o. free o.0);
       }
 
@@ -106,18 +109,18 @@ module _ (L N : Map) (T X : List ℕ) (C : List ChangedLine) (is : List Item) (t
         affected = Count-more (IsAffected L T X) is t.affected i h.affected on.affected;
         spared = Count-more (IsSpared L N T X C) is t.spared i h.spared on;
         queries =
-            Collects-same (IsEncodedAgain L N T X C) (λ j. SearchedFor N j.path) is t.queries i h.queries
+            Collects-same (IsEncodedAgain L N T X C) (SearchesItem L N C) is t.queries i h.queries
             (λ o. o.1 on);
       }
 
-  totals_encoded : (own : List CoverageQuery) → IsEncodedAgain L N T X C i → SearchedFor N i.path own →
+  totals_encoded : (own : List CoverageQuery) → IsEncodedAgain L N T X C i → SearchesItem L N C i own →
       AreTotals L N T X C (is ++ i ∷ []) (with_encoded t own)
   totals_encoded own on made =
       record {
         affected = Count-more (IsAffected L T X) is t.affected i h.affected on.0;
         spared = Count-same (IsSpared L N T X C) is t.spared i h.spared on.1;
         queries =
-            Collects-more (IsEncodedAgain L N T X C) (λ j. SearchedFor N j.path) is t.queries own i h.queries on made;
+            Collects-more (IsEncodedAgain L N T X C) (SearchesItem L N C) is t.queries own i h.queries on made;
       }
 
 -- ---- counts, with one path more
@@ -133,16 +136,17 @@ searched_both N xs ys a b c h k =
       settled = settled_append N xs ys a.settled b.settled c.settled h.settled k.settled;
     }
 
+raised_once : (a n b c : ℕ) → b ≡ raised_count a n → c ≡ raised_count b 1 → c ≡ raised_count a (n + 1)
+raised_once a n b c h k = k ∙ ap (λ (m : ℕ). raised_count m 1) h ∙ raised_more a n 1
+
 module _ (N : Map) (t : Totals) (old now later : Counted)
     (h : AreCounted N t old.work now.work old.kept now.kept) where
   counted_spared : OneSpared now later → AreCounted N (with_spared t) old.work later.work old.kept later.kept
   counted_spared one =
       record {
-        encodings = λ few. let e = h.encodings (omega arith) in let u = one.encodings (omega arith) in omega arith;
-        spared = (
-          (λ few. let e = h.spared.0 (omega arith) in let u = one.spared.0 (omega arith) in omega arith),
-          (let e = h.spared.1 in let u = one.spared.1 in omega arith),
-        );
+        encodings = raised_once old.work.encodings t.affected now.work.encodings later.work.encodings h.encodings
+            one.encodings;
+        spared = raised_once old.kept t.spared now.kept later.kept h.spared one.spared;
         searched =
             record {
               searches = one.searches ∙ h.searched.searches;
@@ -155,8 +159,9 @@ module _ (N : Map) (t : Totals) (old now later : Counted)
       AreCounted N (with_encoded t own) old.work later.work old.kept later.kept
   counted_encoded own one =
       record {
-        encodings = λ few. let e = h.encodings (omega arith) in let u = one.encodings (omega arith) in omega arith;
-        spared = subst (RisesBy old.kept t.spared) (sym one.spared) h.spared;
+        encodings = raised_once old.work.encodings t.affected now.work.encodings later.work.encodings h.encodings
+            one.encodings;
+        spared = one.spared ∙ h.spared;
         searched = searched_both N t.queries own old.work now.work later.work h.searched one.searched;
       }
 
@@ -244,19 +249,6 @@ follows_at before (x ∷ is) (suc k) i h at = follows_at before is k i h.1 at
 
 -- ---- one path of the earlier list
 
-made_at_position : (M : Map) (is : List Item) (k : ℕ) (i : Item) → AreEncodingsIfAny M is → slice_get is k ≡ Some i →
-    IfSome i.made (IsEncodingOf M i.path)
-made_at_position M [] k i h at = let never : ⊥ = cc in absurd never
-made_at_position M (x ∷ is) zero i h at = let e : x ≡ i =
-    cc in subst (λ (j : Item). IfSome j.made (IsEncodingOf M j.path)) e h.0
-made_at_position M (x ∷ is) (suc k) i h at = made_at_position M is k i h.1 at
-
-path_at_position : (is : List Item) (k : ℕ) (i : Item) → AllByRecursion (λ j. IsTrue (is_path j.path.lines)) is →
-    slice_get is k ≡ Some i → IsTrue (is_path i.path.lines)
-path_at_position [] k i h at = let never : ⊥ = cc in absurd never
-path_at_position (x ∷ is) zero i h at = let e : x ≡ i = cc in subst (λ (j : Item). IsTrue (is_path j.path.lines)) e h.0
-path_at_position (x ∷ is) (suc k) i h at = path_at_position is k i h.1 at
-
 -- the same item, built again
 again : (i : Item) (m : Made) → i.made ≡ Some m → i ≡ with_made i m
 again i m e = λ j. record { name = i.name; path = i.path; made = e j }
@@ -273,11 +265,10 @@ module _ (N : Map) (n : IsMap N) (T X : List ℕ) (C : List ChangedLine) (before
   long = length-take-le position is (omega (arith, slice_get_within is position i at))
 
   is_made : (L : Map) → Q L → (m : Made) → i.made ≡ Some m → IsEncodingOf L i.path m
-  is_made L q m e =
-      subst (λ (o : Option Made). IfSome o (IsEncodingOf L i.path)) e (made_at_position L is position i q.made at)
+  is_made L q m e = made_before L N n T X C is q position i at m e
 
   is_a_path : (L : Map) → Q L → IsTrue (is_path i.path.lines)
-  is_a_path L q = path_at_position is position i q.paths at
+  is_a_path L q = path_before L N n T X C is q position i at
 
   answered : (m : Made) → i.made ≡ Some m → answer_in before i.name ≡ Some m.answer
   answered m e =
@@ -342,23 +333,25 @@ module _ (N : Map) (n : IsMap N) (T X : List ℕ) (C : List ChangedLine) (before
         o.unchanged)),
   )
 
-  through_encoded : (ps : List Put) (es fs : List Entry) (t : Totals) (m : Made) →
-      Through Q N T X C before (take position is) ps es t → ToEncode N T X C i.made i.path →
-      IsEncodingOf N i.path m → ReportsIfOther before i.name m.answer es fs
+  through_encoded : (ps : List Put) (es fs : List Entry) (t : Totals) (m : Made) (given : List KnownQuery)
+      (queries : List CoverageQuery) → Through Q N T X C before (take position is) ps es t →
+      ToEncode N T X C i.made i.path → IsEncodingOf N i.path m → ReportsIfOther before i.name m.answer es fs →
+      Gives N C i.made given → SearchedOf N i.path given queries
       → Through Q N T X C before (take position is ++ i ∷ [])
-      (ps ++ record { position = position; path = i.path; made = Some m } ∷ []) fs (with_encoded t m.queries)
-  through_encoded ps es fs t m h f made returned =
+      (ps ++ record { position = position; path = i.path; made = Some m } ∷ []) fs (with_encoded t queries)
+  through_encoded ps es fs t m given queries h f made returned gives those =
       subst (λ (k : ℕ). Through Q N T X C before (take position is ++ i ∷ [])
-      (ps ++ record { position = k; path = i.path; made = Some m } ∷ []) fs (with_encoded t m.queries)) long
+      (ps ++ record { position = k; path = i.path; made = Some m } ∷ []) fs (with_encoded t queries)) long
       (grown Q N T X C before (take position is) ps
       (ps ++ record { position = length (take position is); path = i.path; made = Some m } ∷ []) es fs t
-      (with_encoded t m.queries) i (with_made i m) m.answer h
+      (with_encoded t queries) i (with_made i m) m.answer h
       (λ ys. all_put-push (take position is ++ i ∷ ys) ps
       (record { position = length (take position is); path = i.path; made = Some m })
       ∙ ap (λ (zs : List Item). all_put zs ps) (put_behind (take position is) i ys i.path (Some m))
       ∙ h.local (with_made i m ∷ ys))
       refl (λ L q. (m, made, refl)) refl returned
-      (λ L q. totals_encoded L N T X C (take position is) t (h.totals L q) i m.queries (to_encode L q f) made.queries))
+      (λ L q. totals_encoded L N T X C (take position is) t (h.totals L q) i queries (to_encode L q f)
+      (searches_item L N n T X C is q position i at given queries m made gives those)))
 
 -- ---- the paths before a position, with the work
 
@@ -367,16 +360,6 @@ pub record SoFar (N : Map) (T X : List ℕ) (C : List ChangedLine) (before is : 
   pub many : Totals
   pub through : Through (λ L. IsBefore L N T X C is) N T X C before (take position is) (made_at r) (entries_of r) many
   pub raised : AreCounted N many old.work now.work old.kept now.kept
-  pub ascends : Rises old now
-
-ascends_none : (work : Counted) → Rises work work
-ascends_none work = record { searches = omega arith; settled = omega arith; kept = omega arith }
-
-ascends_more : (old now later : Counted) → Rises old now → Rises now later → Rises old later
-ascends_more old now later r s =
-    let a = r.searches in let b = s.searches in let c = r.settled in let d = s.settled in
-    let e = r.kept in let f = s.kept in
-    record { searches = omega arith; settled = omega arith; kept = omega arith }
 
 pub so_far_none : (N : Map) (T X : List ℕ) (C : List ChangedLine) (before is : List Item) (r : Renewal)
     (work : Counted) → r.fresh.items ≡ [] → r.entries.items ≡ [] → SoFar N T X C before is 0 r work work
@@ -391,11 +374,10 @@ so_far_none N T X C before is r work fresh entries =
           (subst (λ (ps : List Put). Through Q N T X C before [] ps [] no_totals) made (through_none Q N T X C before));
       raised =
           record {
-            encodings = λ few. omega arith;
-            spared = ((λ few. omega arith), omega arith);
+            encodings = refl;
+            spared = refl;
             searched = record { searches = refl; settled = refl };
           };
-      ascends = ascends_none work;
     }
 
 -- for a list without paths
@@ -407,26 +389,21 @@ so_far_all N T X C before is r work none fresh entries =
     (so_far_none N T X C before is r work fresh entries)
 
 -- for the whole list
-pub record Whole (N : Map) (T X : List ℕ) (C : List ChangedLine) (before is : List Item) (r : Renewal)
-    (old now : Counted) : Type 0 where
-  pub remade : (L : Map) → IsBefore L N T X C is → AreRemade N is (all_put is (made_at r))
-  pub names : all_named (all_put is (made_at r)) ≡ all_named is
-  pub reported : Reported before (all_put is (made_at r)) (entries_of r)
-  pub counted : (L : Map) → IsBefore L N T X C is → (t : Totals) × AreTotals L N T X C is t
-      × AreCounted N t old.work now.work old.kept now.kept
-
-pub whole : (N : Map) (T X : List ℕ) (C : List ChangedLine) (before is : List Item) (r : Renewal) (old now : Counted) →
-    SoFar N T X C before is (length is) r old now → Whole N T X C before is r old now
-whole N T X C before is r old now h =
+pub whole : (N : Map) (t : ChangeSet) (before is : List Item) (r : Renewal) (old now : Counted) →
+    ((L : Map) × WasBefore L N t is) →
+    SoFar N (nodes_of t) (lines_of t) (changed_of t) before is (length is) r old now →
+    IsRenewal N t before is (after_renewal r is) (entries_of r) old.work now.work old.kept now.kept
+whole N t before is r old now b h =
+    let Q : Map → Type 0 = λ L. WasBefore L N t is in
     let all : take (length is) is ≡ is = take_all (length is) is (omega arith) in
-    let t : Through (λ L. IsBefore L N T X C is) N T X C before is (made_at r) (entries_of r) h.many =
-    subst (λ (js : List Item). Through (λ L. IsBefore L N T X C is) N T X C before js (made_at r) (entries_of r) h.many)
-    all h.through in
+    let w : Through Q N (nodes_of t) (lines_of t) (changed_of t) before is (made_at r) (entries_of r) h.many =
+    subst (λ (js : List Item). Through Q N (nodes_of t) (lines_of t) (changed_of t) before js (made_at r) (entries_of r)
+    h.many) all h.through in
     record {
-      remade = t.remade;
-      names = t.names;
-      reported = t.reported;
-      counted = λ L q. (h.many, t.totals L q, h.raised);
+      remade = w.remade b.0 b.1;
+      named = w.names;
+      reported = w.reported;
+      counted = λ L q. (h.many, w.totals L q, h.raised);
     }
 
 module _ (N : Map) (n : IsMap N) (T X : List ℕ) (C : List ChangedLine) (before is : List Item) (position : ℕ) (i : Item)
@@ -443,7 +420,6 @@ module _ (N : Map) (n : IsMap N) (T X : List ℕ) (C : List ChangedLine) (before
             h.many) (sym (take_more_at is position i at))
             (through_left N n T X C before is position i follows at (made_at r) (entries_of r) h.many h.through f);
         raised = h.raised;
-        ascends = h.ascends;
       }))
   so_far_step r s now later h (Retained f same one) =
       subst (λ (q : Renewal). SoFar N T X C before is (position + 1) q old later) (sym same)
@@ -454,19 +430,16 @@ module _ (N : Map) (n : IsMap N) (T X : List ℕ) (C : List ChangedLine) (before
             (with_spared h.many)) (sym (take_more_at is position i at))
             (through_retained N n T X C before is position i follows at (made_at r) (entries_of r) h.many h.through f);
         raised = counted_spared N h.many old now later h.raised one;
-        ascends = ascends_more old now later h.ascends one.ascends;
       })
-  so_far_step r s now later h (EncodedAgain f m made puts returned one) =
+  so_far_step r s now later h (EncodedAgain f m made puts returned given queries gives those one) =
       record {
-        many = with_encoded h.many m.queries;
+        many = with_encoded h.many queries;
         through =
             subst (λ (js : List Item). Through (λ L. IsBefore L N T X C is) N T X C before js (made_at s) (entries_of s)
-            (with_encoded h.many m.queries)) (sym (take_more_at is position i at))
+            (with_encoded h.many queries)) (sym (take_more_at is position i at))
             (subst (λ (ps : List Put). Through (λ L. IsBefore L N T X C is) N T X C before (take position is ++ i ∷ [])
-            ps (entries_of s) (with_encoded h.many m.queries)) (sym puts)
+            ps (entries_of s) (with_encoded h.many queries)) (sym puts)
             (through_encoded N n T X C before is position i follows at (made_at r) (entries_of r) (entries_of s) h.many
-            m
-            h.through f made returned));
-        raised = counted_encoded N h.many old now later h.raised m.queries one;
-        ascends = ascends_more old now later h.ascends one.ascends;
+            m given queries h.through f made returned gives those));
+        raised = counted_encoded N h.many old now later h.raised queries one;
       }

@@ -4,8 +4,7 @@
 --     AreFound      the same for each number
 --     Covers N T X is found      a path whose position isn't found is not affected
 --     CoversAsked N slot t s is found      the same for the paths for which the search was made.
---     AreLongest N T X is most found      the length is no less than that of each query of the found paths whose decision
---         depends on detours
+--     AreLongest N T X is most found      the length is no less than that of each query of the found paths that are affected
 --     FindsChanged cs is found      a path whose position isn't found is not changed
 use Rattle.std.specs.Prelude.{◌≡◌, ℕ, ◌<◌, List, All, Option, Some, None, IfSome, false, length, get_or, slice_get, IsTrue}
 use Rattle.olr_spec.specs.Map.{Map, has}

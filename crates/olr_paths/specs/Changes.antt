@@ -6,28 +6,31 @@
 --         lines was touched
 --     IsSpared M N T X C i      the changes affect it, and it retains its answer
 --     IsEncodedAgain M N T X C i      they affect it, and it does not
+--     SearchesItem M N C i queries      the coverage queries for which the path is searched if it is encoded again
 --     Totals, AreTotals M N T X C is t      how many paths are affected and how many of these retain their answers; the
 --         coverage queries for which the others are searched
 --     AreSearched N queries old new      the work of searching for these
+--     AreCounts w      the counts of work have 64 bits
+--     Rises old new      none of them falls
 --     AreCounted N t old new before after      the work and the count of retained answers rise by these totals
---     IsOnMap N l, IsKnownClear N C l      a coverage query within the limit whose ends are on the map;  it is clear too
+--     IsKnownClear N C l      a coverage query within the limit whose ends are on the map, and that is clear
 --     AreRemade N is js      each path has results that are right on N
 --     Reported before js es      an entry for each path whose answer is not the earlier one of its name, in order
 --     AreEncoded is      each path was encoded
 --     Follows before is      each path that was encoded has the earlier answer of its name
 use Rattle.std.specs.Prelude.{◌≡◌, ◌≢◌, ℕ, List, [], ◌∷◌, Contains, Option, Some, None, option_map, ◌⊎◌, IsTrue, ⊤}
-use Rattle.std.specs.Prelude.{min, if◌then◌else◌, ◌+◌, ◌<◌, ◌≤◌, ◌^◌, length}
+use Rattle.std.specs.Prelude.{min, if◌then◌else◌, ◌<◌, ◌≤◌, ◌^◌, length, MatchOption}
 use Rattle.std.specs.List.{AllByRecursion}
-use Rattle.olr_spec.specs.Map.{Map, IsMap, has_node, has}
+use Rattle.olr_spec.specs.Map.{Map, IsMap, has}
 use Rattle.olr_spec.specs.Extension.{Path, is_path, limit}
 use Rattle.olr_spec.specs.Encoding.{Answer}
 use Rattle.olr_spec.specs.Footprint.{Foot}
 use Rattle.olr_spec.specs.Detours.{ChangedLine, Difference, Near}
 use Rattle.olr_spec.specs.Queries.{CoverageQuery, IsClear}
-use Rattle.olr_route.specs.declared.work.Work.{Work}
+use Rattle.olr_search.specs.declared.work.Work.{Work}
 use Rattle.olr_refs.specs.Choice.{SettledBy, raised_count}
 use Rattle.olr_commands.specs.State.{same_name}
-use Rattle.olr_commands.specs.Counts.{IsUnchanged, CountIs, RisesBy, SearchedFor, Collects}
+use Rattle.olr_commands.specs.Counts.{IsUnchanged, CountIs, SearchedFor, SearchedAgain, Collects, IsOnMap}
 use Rattle.olr_commands.specs.Reply.{Entry, entry}
 use Rattle.olr_paths.specs.Items.{Made, Item, IsEncodingOf, AreEncodingsIfAny, answer_in}
 
@@ -66,6 +69,11 @@ pub record IsSpared (M N : Map) (T X : List ℕ) (C : List ChangedLine) (i : Ite
 abbrev pub IsEncodedAgain : Map → Map → List ℕ → List ℕ → List ChangedLine → Item → Type 0
 IsEncodedAgain M N T X C i = IsAffected M T X i × ¬ IsSpared M N T X C i
 
+-- a path that was not encoded yet is encoded from scratch
+abbrev pub SearchesItem : Map → Map → List ChangedLine → Item → List CoverageQuery → Type 0
+SearchesItem M N C i queries =
+    MatchOption i.made (SearchedFor N i.path queries) (λ _. SearchedAgain M N C i.path queries)
+
 pub record Totals : Type 0 where
   pub affected : ℕ
   pub spared : ℕ
@@ -74,22 +82,29 @@ pub record Totals : Type 0 where
 pub record AreTotals (M N : Map) (T X : List ℕ) (C : List ChangedLine) (is : List Item) (t : Totals) : Type 0 where
   pub affected : CountIs (IsAffected M T X) is t.affected
   pub spared : CountIs (IsSpared M N T X C) is t.spared
-  pub queries : Collects (IsEncodedAgain M N T X C) (λ i. SearchedFor N i.path) is t.queries
+  pub queries : Collects (IsEncodedAgain M N T X C) (SearchesItem M N C) is t.queries
 
 -- one search each, and the nodes that it settles
 pub record AreSearched (N : Map) (queries : List CoverageQuery) (old new : Work) : Type 0 where
   pub searches : new.searches ≡ raised_count old.searches (length queries)
   pub settled : SettledBy N queries old.settled new.settled
 
-pub record AreCounted (N : Map) (t : Totals) (old new : Work) (before after : ℕ) : Type 0 where
-  pub encodings : old.encodings + t.affected < 2 ^ 64 → new.encodings ≡ old.encodings + t.affected
-  pub spared : RisesBy before t.spared after
-  pub searched : AreSearched N t.queries old new
+-- counts of 64 bits
+pub record AreCounts (w : Work) : Type 0 where
+  pub encodings : w.encodings < 2 ^ 64
+  pub searches : w.searches < 2 ^ 64
+  pub settled : w.settled < 2 ^ 64
 
-pub record IsOnMap (N : Map) (l : CoverageQuery) : Type 0 where
-  pub from : IsTrue (has_node N l.from)
-  pub to : IsTrue (has_node N l.to)
-  pub within : l.within ≤ limit
+-- no count falls
+pub record Rises (old new : Work) : Type 0 where
+  pub encodings : old.encodings ≤ new.encodings
+  pub searches : old.searches ≤ new.searches
+  pub settled : old.settled ≤ new.settled
+
+pub record AreCounted (N : Map) (t : Totals) (old new : Work) (before after : ℕ) : Type 0 where
+  pub encodings : new.encodings ≡ raised_count old.encodings t.affected
+  pub spared : after ≡ raised_count before t.spared
+  pub searched : AreSearched N t.queries old new
 
 abbrev pub IsKnownClear : Map → List ChangedLine → CoverageQuery → Type 0
 IsKnownClear N C l = IsOnMap N l × IsClear N C l

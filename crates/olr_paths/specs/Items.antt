@@ -1,5 +1,5 @@
 -- A list of named paths, each with what is published of it.
---     Made      the results of a path: answer, traversed nodes and coverage queries.
+--     Made      the results of a path: answer, traversed nodes, coverage queries, and those along its own lines.
 --     IsEncodingOf M P m      they are the results of the path on the map
 --     Item      a name, its path and, if it was encoded, its results.
 --     items l      the items of a list
@@ -10,7 +10,7 @@ use Rattle.std.specs.Prelude.{IfSome, string_bytes, ◌↔◌, ⊤}
 use Rattle.olr_spec.specs.Map.{Map}
 use Rattle.olr_spec.specs.Extension.{Path}
 use Rattle.olr_spec.specs.Encoding.{Answer, Encodes}
-use Rattle.olr_spec.specs.Queries.{CoverageQuery, TraversedOf, QueriesOf}
+use Rattle.olr_spec.specs.Queries.{CoverageQuery, KnownQuery, TraversedOf, QueriesOf, KnownOf}
 use Rattle.olr_refs.specs.Answers.{answer_of}
 use Rattle.olr_commands.specs.State.{Named, same_name}
 use Rattle.olr_paths.specs.declared.published.Published.{Published as Encoded}
@@ -20,6 +20,7 @@ pub record Made : Type 0 where
   pub answer : Answer
   pub traversed : List ℕ
   pub queries : List CoverageQuery
+  pub known : List KnownQuery
 
 pub record Item : Type 0 where
   pub name : List ℕ
@@ -29,7 +30,13 @@ pub record Item : Type 0 where
 -- ---- Rust's values as these
 
 abbrev pub made_of : Encoded → Made
-made_of p = record { answer = answer_of p.answer; traversed = p.traversed; queries = p.queries.items }
+made_of p =
+    record {
+      answer = answer_of p.answer;
+      traversed = p.traversed;
+      queries = p.queries.items;
+      known = p.known.items;
+    }
 
 abbrev pub items : PathList → List Item
 items l =
@@ -46,6 +53,7 @@ pub record IsEncodingOf (M : Map) (P : Path) (m : Made) : Type 0 where
   pub answer : Encodes M P m.answer
   pub traversed : (v : ℕ) → Contains m.traversed v ↔ TraversedOf M P v
   pub queries : QueriesOf M P m.queries
+  pub known : KnownOf M P m.known
 
 abbrev pub AreEncodings : Map → List Item → Type 0
 AreEncodings M [] = ⊤

@@ -7,23 +7,33 @@
 --     Stays N T X C m P      not too many lines have changed, no traversed node and no line of the path is touched, and
 --         each coverage query is clear
 --     IsActionFor, IsStep      the action for a path, and its effect
---     Rises old new      no count falls
+--     IsEncode a      the action is that the path is encoded again
+--     Gives N C made given      the encoding is given those coverage queries along the path's own lines that are clear of
+--         the changed lines
+--     IsRenewal N t before is js es old new spared spares      the list js is the list is, renewed on N, after changes t
+--         that led from a map where its results were right;  es reports the answers that are not those of the list
+--         before, and the counts rise by what was encoded and retained
 --     OneSpared old new, OneEncoded N queries old new      the counts after an answer is retained;  after an encoding
 --     ReportsIfOther before name A es fs      an entry is appended if the answer is not the earlier one of the
 --         name
-use Rattle.std.specs.Prelude.{◌≡◌, ◌≢◌, ℕ, zero, suc, List, [], ◌∷◌, ◌++◌, map, All, ◌+◌, ◌<◌, ◌≤◌, ◌^◌, Option, Some}
-use Rattle.std.specs.Prelude.{None, option_map, unwrap_or, ◌⊎◌, length}
+use Rattle.std.specs.Prelude.{◌≡◌, ◌≢◌, ℕ, zero, suc, List, [], ◌∷◌, ◌++◌, map, All, ◌≤◌, Option, Some}
+use Rattle.std.specs.Prelude.{None, option_map, unwrap_or, ◌⊎◌, length, ⊤}
 use Rattle.std.specs.Borrow.{Bor}
 use Rattle.olr_spec.specs.Map.{Map}
 use Rattle.olr_spec.specs.Detours.{ChangedLine}
 use Rattle.olr_spec.specs.Extension.{Path}
-use Rattle.olr_spec.specs.Queries.{CoverageQuery}
-use Rattle.olr_commands.specs.Counts.{most_changed, RisesBy}
+use Rattle.olr_spec.specs.Queries.{CoverageQuery, KnownQuery, SearchedOf}
+use Rattle.olr_search.specs.declared.work.Work.{Work}
+use Rattle.olr_refs.specs.Choice.{raised_count}
+use Rattle.olr_commands.specs.Counts.{most_changed, Picks, IsAgainClear}
 use Rattle.olr_commands.specs.Words.{entry_of}
 use Rattle.olr_spec.specs.Encoding.{Answer}
 use Rattle.olr_commands.specs.Reply.{Entry, entry}
-use Rattle.olr_paths.specs.Items.{Made, Item, IsEncodingOf, made_of, items, answer_in}
-use Rattle.olr_paths.specs.Changes.{TraversedTouched, LineTouched, Touches, IsKnownClear, AreSearched}
+use Rattle.olr_paths.specs.Items.{Made, Item, IsEncodingOf, made_of, items, answer_in, all_named}
+use Rattle.olr_paths.specs.Changes.{TraversedTouched, LineTouched, Touches, IsKnownClear, AreSearched, IsBefore}
+use Rattle.olr_paths.specs.Changes.{Totals, AreTotals, AreCounted, AreRemade, Reported}
+use Rattle.olr_paths.specs.Touching.{nodes_of, lines_of, changed_of}
+use Rattle.olr_paths.specs.declared.change_set.ChangeSet.{ChangeSet}
 use Rattle.olr_paths.specs.declared.path_list.NamedPath.{NamedPath}
 use Rattle.olr_paths.specs.declared.path_list.PathList.{PathList}
 use Rattle.olr_paths.specs.declared.renewal.Renewal.{Renewal}
@@ -95,26 +105,28 @@ IsActionFor N T X C made P Stay = ToStay N T X made P
 IsActionFor N T X C made P Keep = ToKeep N T X C made P
 IsActionFor N T X C made P Encode = ToEncode N T X C made P
 
--- no count falls
-pub record Rises (old new : Counted) : Type 0 where
-  pub searches : old.work.searches ≤ new.work.searches
-  pub settled : old.work.settled ≤ new.work.settled
-  pub kept : old.kept ≤ new.kept
+abbrev pub IsEncode : Action → Type 0
+IsEncode Stay = ⊥
+IsEncode Keep = ⊥
+IsEncode Encode = ⊤
+
+-- these are not searched again
+abbrev pub Gives : Map → List ChangedLine → Option Made → List KnownQuery → Type 0
+Gives N C None given = given ≡ []
+Gives N C (Some m) given = Picks (λ e. IsAgainClear N C e.query) m.known given
 
 -- an affected path is counted, whose answer is retained
 pub record OneSpared (old new : Counted) : Type 0 where
-  pub encodings : old.work.encodings + 1 < 2 ^ 64 → new.work.encodings ≡ old.work.encodings + 1
-  pub spared : RisesBy old.kept 1 new.kept
+  pub encodings : new.work.encodings ≡ raised_count old.work.encodings 1
+  pub spared : new.kept ≡ raised_count old.kept 1
   pub searches : new.work.searches ≡ old.work.searches
   pub settled : new.work.settled ≡ old.work.settled
-  pub ascends : Rises old new
 
 -- a path is counted, which is encoded
 pub record OneEncoded (N : Map) (queries : List CoverageQuery) (old new : Counted) : Type 0 where
-  pub encodings : old.work.encodings + 1 < 2 ^ 64 → new.work.encodings ≡ old.work.encodings + 1
+  pub encodings : new.work.encodings ≡ raised_count old.work.encodings 1
   pub spared : new.kept ≡ old.kept
   pub searched : AreSearched N queries old.work new.work
-  pub ascends : Rises old new
 
 pub data IsStep (N : Map) (T X : List ℕ) (C : List ChangedLine) (before : List Item) (i : Item) (k : ℕ) (r s : Renewal)
     (c d : Counted) : Type 0 where
@@ -123,4 +135,20 @@ pub data IsStep (N : Map) (T X : List ℕ) (C : List ChangedLine) (before : List
   EncodedAgain : ToEncode N T X C i.made i.path → (m : Made) → IsEncodingOf N i.path m →
       made_at s ≡ made_at r ++ record { position = k; path = i.path; made = Some m } ∷ [] →
       ReportsIfOther before i.name m.answer (entries_of r) (entries_of s)
-      → OneEncoded N m.queries c d → IsStep N T X C before i k r s c d
+      → (given : List KnownQuery) (queries : List CoverageQuery) → Gives N C i.made given
+      → SearchedOf N i.path given queries → OneEncoded N queries c d → IsStep N T X C before i k r s c d
+
+-- ---- the whole list
+
+-- the results of the list are right on L, and the changes led from L to N
+abbrev pub WasBefore : Map → Map → ChangeSet → List Item → Type 0
+WasBefore L N t is = IsBefore L N (nodes_of t) (lines_of t) (changed_of t) is
+
+pub record IsRenewal (N : Map) (t : ChangeSet) (before is js : List Item) (es : List Entry) (old new : Work)
+    (spared spares : ℕ) : Type 0
+  where
+    pub remade : AreRemade N is js
+    pub named : all_named js ≡ all_named is
+    pub reported : Reported before js es
+    pub counted : (L : Map) → WasBefore L N t is → (u : Totals)
+        × AreTotals L N (nodes_of t) (lines_of t) (changed_of t) is u × AreCounted N u old new spared spares

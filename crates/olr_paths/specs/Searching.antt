@@ -8,22 +8,23 @@
 --     IsWithin far l, IsFarAs C most far      the limit of these searches reaches as far as the query, or as the length
 --         `most`; without a limit there are too many changed lines
 --     ReachesQueries C far m      as far as each query
---     IsReached N T X C far m P, AreReached      the same if the decision for the path depends on it;  so for each path
+--     ReachesKnown C far ks      as far as each of the queries ks along a path's own lines
+--     IsReached N T X C far P m, AreReached      as far as each query of the path if it is affected;  so for each path
 --     AreFarther p q d      two distances together are more than d, or one is none
 use Rattle.std.specs.Prelude.{◌≡◌, ℕ, ◌+◌, ◌<◌, ◌≤◌, min, List, [], map, length, Contains, Option, Some, None, IfSome}
 use Rattle.std.specs.Prelude.{IsTrue, IsFalse, ⊤}
 use Rattle.olr_spec.specs.Map.{Map, has_node}
-use Rattle.olr_spec.specs.Queries.{CoverageQuery}
-use Rattle.olr_route.specs.Bounds.{AreLengths, label_at}
-use Rattle.olr_route.specs.Distances.{Leads}
-use Rattle.olr_route.specs.Searches.{IsSearch, limit_of}
-use Rattle.olr_route.specs.declared.distances.Dijkstra.{Dijkstra}
-use Rattle.olr_route.specs.declared.distances.Direction.TheVariants.{Along, Against}
+use Rattle.olr_spec.specs.Queries.{CoverageQuery, KnownQuery}
+use Rattle.olr_search.specs.Bounds.{AreLengths, label_at}
+use Rattle.olr_search.specs.Distances.{Leads}
+use Rattle.olr_search.specs.Searches.{IsSearch, limit_of}
+use Rattle.olr_search.specs.declared.distances.Dijkstra.{Dijkstra}
+use Rattle.olr_search.specs.declared.distances.Direction.TheVariants.{Along, Against}
 use Rattle.olr_spec.specs.Extension.{Path, limit}
 use Rattle.olr_spec.specs.Detours.{ChangedLine}
 use Rattle.olr_commands.specs.Counts.{most_changed}
 use Rattle.olr_paths.specs.Items.{Made, Item}
-use Rattle.olr_paths.specs.Changes.{QueryTouched, TraversedTouched, LineTouched, Touches}
+use Rattle.olr_paths.specs.Changes.{QueryTouched, Touches}
 use Rattle.olr_paths.specs.Touching.{nodes_of, changed_of}
 use Rattle.olr_paths.specs.declared.change_set.ChangeSet.{ChangeSet}
 use Rattle.olr_paths.specs.declared.searches.Searches.{Searches}
@@ -75,19 +76,21 @@ abbrev pub ReachesQueries : List ChangedLine → Option ℕ → Made → Type 0
 ReachesQueries C None m = most_changed < length C
 ReachesQueries C (Some far) m = (l : CoverageQuery) → Contains m.queries l → IsWithin far l
 
--- the decision depends on it if the path is affected, though none of its traversed nodes and lines is touched
+abbrev pub ReachesKnown : List ChangedLine → Option ℕ → List KnownQuery → Type 0
+ReachesKnown C None ks = most_changed < length C
+ReachesKnown C (Some far) ks = (e : KnownQuery) → Contains ks e → IsWithin far e.query
+
+-- the decision depends on it if the path is affected, and so do the coverage queries that are not searched again
 abbrev pub IsReached : Map → List ℕ → List ℕ → List ChangedLine → Option ℕ → Path → Made → Type 0
-IsReached N T X C far P m =
-    Touches N T X m P → ¬ TraversedTouched T m → ¬ LineTouched X P → ReachesQueries C far m
+IsReached N T X C far P m = Touches N T X m P → ReachesQueries C far m
 
 abbrev pub AreReached : Map → List ℕ → List ℕ → List ChangedLine → Option ℕ → List Item → Type 0
 AreReached N T X C far is = (i : Item) → Contains is i → IfSome i.made (IsReached N T X C far i.path)
 
--- the length is no less than that of each query of the path, if its decision depends on detours
+-- the length is no less than that of each query of the path, if the path is affected
 abbrev pub IsLongest : Map → List ℕ → List ℕ → Option ℕ → Path → Made → Type 0
 IsLongest N T X most P m =
-    Touches N T X m P → ¬ TraversedTouched T m → ¬ LineTouched X P →
-    (long : ℕ) × (most ≡ Some long) × ((l : CoverageQuery) → Contains m.queries l → l.within ≤ long)
+    Touches N T X m P → (long : ℕ) × (most ≡ Some long) × ((l : CoverageQuery) → Contains m.queries l → l.within ≤ long)
 
 abbrev pub IsNoLess : Option ℕ → Option ℕ → Type 0
 IsNoLess a b = (n : ℕ) → a ≡ Some n → (m : ℕ) × (b ≡ Some m) × (n ≤ m)

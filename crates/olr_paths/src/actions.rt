@@ -4,7 +4,6 @@ ghost use Rattle.olr_paths.specs.Items.{made_of};
 ghost use Rattle.olr_paths.specs.Showing.{shown_item};
 ghost use Rattle.olr_paths.specs.Touching.{nodes_of, lines_of, changed_of};
 ghost use Rattle.olr_paths.specs.Searching.{AreDetours, IsAsked, IsReached, ReachesQueries};
-ghost use Rattle.olr_paths.specs.Changes.{TraversedTouched, LineTouched};
 ghost use Rattle.olr_paths.specs.Renewing.{Stays, IsActionFor};
 
 use crate::asking::{is_line_touched, is_touched, is_traversed_touched};
@@ -37,9 +36,7 @@ fn is_unchanged<M: MapRead>(
     published: &Published,
 ) -> bool
     requires detours { IfSome asked (AreDetours (M.map map.now) (M.node_slot map.now) touched.now searches.now) }
-    requires reached { ¬ TraversedTouched (nodes_of touched.now) (made_of published.now)
-        → ¬ LineTouched (lines_of touched.now) path.now
-        → ReachesQueries (changed_of touched.now) asked (made_of published.now) }
+    requires reached { ReachesQueries (changed_of touched.now) asked (made_of published.now) }
     ensures { IsTrue result ↔ Stays (M.map map.now) (nodes_of touched.now) (lines_of touched.now)
         (changed_of touched.now)
         (made_of published.now) path.now }

@@ -10,7 +10,7 @@ ghost use Rattle.olr_paths.specs.Candidates.{Covers};
 ghost use Rattle.std.specs.List.Sorted.{IsNonDecreasing};
 ghost use Rattle.olr_paths.specs.Origins.{AreBoundsOf};
 
-use crate::asking::{is_line_touched, is_touched, is_traversed_touched, search_near};
+use crate::asking::{is_touched, search_near};
 use crate::candidates::candidates;
 use crate::change_set::ChangeSet;
 use crate::detours::search_detours;
@@ -43,8 +43,7 @@ fn longest_of(queries: &[CoverageQuery]) -> u32
     longest
 }
 
-/// The length of the path's longest coverage query, if it is affected though none of its traversed nodes and lines is
-/// touched.
+/// The length of the path's longest coverage query in decimetres, if the path is affected.
 fn longest_asked<M: MapRead>(
     map: &M,
     touched: &ChangeSet,
@@ -57,12 +56,6 @@ fn longest_asked<M: MapRead>(
         (made_of published.now) }
 {
     if !is_touched(map, touched, searches, path, published) {
-        return None;
-    }
-    if is_traversed_touched(touched, &published.traversed) {
-        return None;
-    }
-    if is_line_touched(touched, path.lines()) {
         return None;
     }
     Some(longest_of(&published.queries))
@@ -99,8 +92,8 @@ fn longest_at<M: MapRead>(
     longest_asked(map, touched, searches, shown.path, published)
 }
 
-/// How far detours have to be searched, in decimetres: the length of the longest coverage query of those affected paths
-/// at these positions of which no traversed node and no line is touched. None if there is no such path.
+/// How far detours have to be searched, in decimetres: the length of the longest coverage query of the affected paths
+/// at these positions. None if there is no such path.
 fn longest<M: MapRead>(
     map: &M,
     overlaid: OverlaidList<'_>,
@@ -153,7 +146,7 @@ fn search_touched<M: MapRead>(
     Ok(())
 }
 
-/// Searches from the changed lines, if a path at these positions depends on it. Returns the limit of the searches for
+/// Searches from the changed lines, if a path at these positions is affected. Returns the limit of the searches for
 /// detours, if they were made.
 fn ask_detours<M: MapRead>(
     alloc: Global,
@@ -181,8 +174,7 @@ fn ask_detours<M: MapRead>(
 }
 
 /// Searches from the touched nodes, finds the paths that the edits may affect, and searches from the changed lines if
-/// one of
-/// these paths depends on it.
+/// one of these paths is affected.
 pub(crate) fn ask<M: MapRead>(
     alloc: Global,
     map: &M,

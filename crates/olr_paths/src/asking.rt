@@ -5,9 +5,9 @@ ghost use Rattle.olr_spec.specs.Map.{has};
 ghost use Rattle.olr_spec.specs.Extension.{limit};
 ghost use Rattle.olr_spec.specs.Detours.{Near};
 ghost use Rattle.olr_spec.specs.Queries.{CoverageQuery};
-ghost use Rattle.olr_route.specs.Bounds.{AreLengths};
+ghost use Rattle.olr_search.specs.Bounds.{AreLengths};
 ghost use Rattle.olr_near.specs.Bounds.{IsRight, IsSource};
-ghost use Rattle.olr_route.specs.declared.distances.Direction.TheVariants.{Against};
+ghost use Rattle.olr_search.specs.declared.distances.Direction.TheVariants.{Against};
 ghost use Rattle.olr_paths.specs.Items.{made_of};
 ghost use Rattle.olr_paths.specs.Touching.{nodes_of, lines_of};
 ghost use Rattle.olr_paths.specs.Searching.{sources, IsExactAt, IsAsked};
@@ -19,7 +19,7 @@ use crate::searches::Searches;
 use olr_map::{Footprint, LineId, MapRead, NodeId};
 use olr_near::DistanceBounds;
 use olr_refs::Path;
-use olr_route::{Dijkstra, Direction, GREATEST_LIMIT};
+use olr_search::{Dijkstra, Direction, GREATEST_LIMIT};
 use std::alloc::{AllocError, Global};
 
 /// The touched nodes, as sources of a search.

@@ -15,7 +15,7 @@ use crate::path_list::PathList;
 use crate::searches::Searches;
 use olr_index::Index;
 use olr_map::{LineId, MapRead, NodeId};
-use olr_route::Reached;
+use olr_search::Reached;
 use std::alloc::{AllocError, Global};
 
 /// The position of the path with this id, by binary search.

@@ -1,17 +1,18 @@
 //! Whether changed lines offer a detour that is as short as a coverage query.
 ghost use Rattle.std.specs.Prelude.{◌≡◌, ◌≤◌, ◌↔◌, Contains, IsTrue, IfOk, IfSome, OnOk};
 ghost use Rattle.olr_spec.specs.Queries.{CoverageQuery as QueryRecord};
-ghost use Rattle.olr_route.specs.Searches.{IsSearch, limit_of};
+ghost use Rattle.olr_search.specs.Searches.{IsSearch, limit_of};
 ghost use Rattle.olr_paths.specs.Touching.{changed_of};
-ghost use Rattle.olr_paths.specs.Searching.{AreDetours, AreFarther, IsFarAs, IsWithin, starts, ends};
+ghost use Rattle.olr_paths.specs.Searching.{AreDetours, AreFarther, IsFarAs, IsWithin, ReachesKnown, starts, ends};
+ghost use Rattle.olr_commands.specs.Counts.{Picks, IsAgainClear};
 ghost use Rattle.olr_paths.specs.Changes.{IsKnownClear};
 ghost use Rattle.std.specs.Prelude.{All};
 
 use crate::change_set::ChangeSet;
 use crate::searches::Searches;
 use olr_map::{MapRead, NodeId};
-use olr_refs::CoverageQuery;
-use olr_route::{Dijkstra, Direction, GREATEST_LIMIT};
+use olr_refs::{CoverageQuery, KnownQuery};
+use olr_search::{Dijkstra, Direction, GREATEST_LIMIT};
 use std::alloc::{AllocError, Global};
 
 /// With more changed lines than this, no detours are searched: nearly every path is encoded anyway.
@@ -145,4 +146,31 @@ pub(crate) fn are_clear<M: MapRead>(
         }
     }
     true
+}
+
+/// Those of the coverage queries along a path's own lines that are clear of the changed lines; none if too many lines
+/// changed, so that no detours were searched.
+pub(crate) fn clear_known<M: MapRead>(
+    alloc: Global,
+    map: &M,
+    touched: &ChangeSet,
+    searches: &Searches,
+    asked: Option<u32>,
+    known: &[KnownQuery],
+) -> Result<Vec<KnownQuery>, AllocError>
+    requires detours { IfSome asked (AreDetours (M.map map.now) (M.node_slot map.now) touched.now searches.now) }
+    requires reached { ReachesKnown (changed_of touched.now) asked known.now }
+    ensures { IfOk result
+        (λ clear. Picks (λ e. IsAgainClear (M.map map.now) (changed_of touched.now) e.query) known.now clear.items) }
+{
+    let mut clear = Vec::new(alloc);
+    let Some(limit) = asked else {
+        return Ok(clear);
+    };
+    for one in known {
+        if is_clear(map, touched, searches, limit, &one.query) {
+            clear.push(*one)?;
+        }
+    }
+    Ok(clear)
 }

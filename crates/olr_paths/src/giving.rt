@@ -1,25 +1,26 @@
 //! Paths that are added or replaced one at a time, and encoded at once.
-ghost use Rattle.std.specs.Prelude.{◌≡◌, ◌≢◌, ◌+◌, ◌^◌, ◌<◌, ◌≤◌, ◌⊎◌, [], ◌∷◌, ◌++◌, ℕ, List, Contains, false};
+ghost use Rattle.std.specs.Prelude.{◌≡◌, ◌≢◌, ◌⊎◌, [], ◌∷◌, ◌++◌, List, Contains, false};
 ghost use Rattle.std.specs.Prelude.{map as list_map, Some, is_some, string_bytes, option_map, IfOk, OnOk, OnErr};
 ghost use Rattle.olr_spec.specs.Encoding.{Answer};
+ghost use Rattle.olr_refs.specs.Choice.{raised_count};
 ghost use Rattle.olr_commands.specs.State.{path_named};
 ghost use Rattle.olr_commands.specs.Counts.{SearchedFor};
 ghost use Rattle.olr_commands.specs.Reply.{entry};
 ghost use Rattle.olr_commands.specs.Words.{entry_of};
 ghost use Rattle.olr_spec.specs.Queries.{CoverageQuery as QueryRecord};
 ghost use Rattle.olr_paths.specs.Items.{Made, IsEncodingOf, items, made_of, all_named, answer_in};
-ghost use Rattle.olr_paths.specs.Changes.{AreSearched, set_item};
+ghost use Rattle.olr_paths.specs.Changes.{AreSearched, Rises, set_item};
 ghost use Rattle.olr_paths.specs.Origins.{Begins, new_origins_in};
 
 use crate::begins::note_queries;
-use crate::encoding::publish;
+use crate::encoding::{have_64_bits, publish};
 use crate::path_list::{NamedPath, PathList};
 use crate::renewal::push_if_changed;
 use crate::searches::Searches;
 use olr_commands::Entry;
 use olr_map::MapRead;
 use olr_refs::Path;
-use olr_route::Work;
+use olr_search::Work;
 use std::alloc::{AllocError, Global};
 use std::rc::Rc;
 
@@ -38,19 +39,18 @@ impl PathList {
         ensures added { IfOk result (λ es. (m : Made) × IsEncodingOf (M.map map.now) path m
             × (items self.new ≡ items self.old ++ record { name = string_bytes name; path = path; made = Some m } ∷ [])
             × (list_map entry_of es.items ≡ entry (string_bytes name) m.answer ∷ [])) }
-        ensures counted { OnOk result
-            (work.old.encodings + 1 < 2 ^ 64 → work.new.encodings ≡ work.old.encodings + 1) }
+        ensures counted { OnOk result (work.new.encodings ≡ raised_count work.old.encodings 1) }
         ensures searched { OnOk result ((queries : List QueryRecord) × SearchedFor (M.map map.now) path queries
             × AreSearched (M.map map.now) queries work.old work.new) }
-        ensures searches { OnOk result (work.old.searches ≤ work.new.searches) }
-        ensures settled { OnOk result (work.old.settled ≤ work.new.settled) }
+        ensures rises { OnOk result (Rises work.old work.new) }
         ensures new_origins { OnOk result ((v : QueryRecord) → Begins (items self.new) v
             → Begins (items self.old) v ⊎ Contains (new_origins_in searches.new) v) }
         ensures err { OnErr result (items self.new ≡ items self.old) }
         ensures err_work { OnErr result (work.new ≡ work.old) }
     {
+        have_64_bits(work);
         let mut tried = *work;
-        let published = publish(alloc, map, &path, &mut searches.query, &mut tried)?;
+        let published = publish(alloc, map, &path, &[], &mut searches.query, &mut tried)?;
         searches.new_origins.clear();
         note_queries(&published.queries, &mut searches.new_origins)?;
         let mut entries = Vec::with_capacity(alloc, 1)?;
@@ -82,19 +82,18 @@ impl PathList {
             × (((answer_in (items self.old) name.now ≡ Some m.answer) × (list_map entry_of es.items ≡ []))
             ⊎ ((answer_in (items self.old) name.now ≢ Some m.answer)
             × (list_map entry_of es.items ≡ entry name.now m.answer ∷ [])))) }
-        ensures counted { OnOk result
-            (work.old.encodings + 1 < 2 ^ 64 → work.new.encodings ≡ work.old.encodings + 1) }
+        ensures counted { OnOk result (work.new.encodings ≡ raised_count work.old.encodings 1) }
         ensures searched { OnOk result ((queries : List QueryRecord) × SearchedFor (M.map map.now) path queries
             × AreSearched (M.map map.now) queries work.old work.new) }
-        ensures searches { OnOk result (work.old.searches ≤ work.new.searches) }
-        ensures settled { OnOk result (work.old.settled ≤ work.new.settled) }
+        ensures rises { OnOk result (Rises work.old work.new) }
         ensures new_origins { OnOk result ((v : QueryRecord) → Begins (items self.new) v
             → Begins (items self.old) v ⊎ Contains (new_origins_in searches.new) v) }
         ensures err { OnErr result (items self.new ≡ items self.old) }
         ensures err_work { OnErr result (work.new ≡ work.old) }
     {
+        have_64_bits(work);
         let mut tried = *work;
-        let published = publish(alloc, map, &path, &mut searches.query, &mut tried)?;
+        let published = publish(alloc, map, &path, &[], &mut searches.query, &mut tried)?;
         searches.new_origins.clear();
         note_queries(&published.queries, &mut searches.new_origins)?;
         let mut entries = Vec::new(alloc);

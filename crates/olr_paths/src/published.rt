@@ -6,16 +6,17 @@ ghost use Rattle.olr_commands.specs.Reply.{published_text};
 
 use olr_commands::Entry;
 use olr_map::Footprint;
-use olr_refs::{Answer, CoverageQuery};
+use olr_refs::{Answer, CoverageQuery, KnownQuery};
 use std::alloc::{AllocError, Global};
 
-/// A path's answer, its text, its traversed nodes and its coverage queries.
+/// A path's answer, its text, its traversed nodes, its coverage queries, and those along its own lines.
 #[derive(Drop, Debug)]
 pub struct Published {
     pub(crate) answer: Answer,
     pub(crate) text: Option<String>,
     pub(crate) traversed: Footprint,
     pub(crate) queries: Vec<CoverageQuery>,
+    pub(crate) known: Vec<KnownQuery>,
     ghost encoded: { option_map string_bytes text ≡ result_ok (published_text (answer_of answer)) },
 }
 
@@ -56,6 +57,13 @@ impl Published {
         ensures { result.now ≡ (made_of self.now).queries }
     {
         self.queries.as_slice()
+    }
+
+    /// The coverage queries along the path's own lines, in the order of the lines where they begin.
+    pub fn known(&self) -> &[KnownQuery]
+        ensures { result.now ≡ (made_of self.now).known }
+    {
+        self.known.as_slice()
     }
 
     /// Whether the other has the same answer, by their texts or their reasons.

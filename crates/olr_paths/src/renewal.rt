@@ -5,22 +5,24 @@ ghost use Rattle.olr_spec.specs.Map.{Map};
 ghost use Rattle.olr_commands.specs.Words.{entry_of};
 ghost use Rattle.std.specs.Prelude.{List};
 ghost use Rattle.olr_spec.specs.Detours.{ChangedLine};
-ghost use Rattle.olr_spec.specs.Queries.{CoverageQuery as QueryRecord};
-ghost use Rattle.olr_paths.specs.Items.{made_of, items, answer_in, all_named};
-ghost use Rattle.olr_paths.specs.Changes.{IsBefore, Totals, AreTotals, AreCounted, AreRemade, Reported, Follows};
+ghost use Rattle.olr_spec.specs.Queries.{CoverageQuery as QueryRecord, AreKnown};
+ghost use Rattle.olr_paths.specs.Items.{Item, made_of, items, answer_in, all_named};
+ghost use Rattle.olr_paths.specs.Changes.{Rises, Follows};
 ghost use Rattle.olr_paths.specs.Showing.{shown_items, shown_item};
 ghost use Rattle.olr_paths.specs.Touching.{nodes_of, lines_of, changed_of};
-ghost use Rattle.olr_paths.specs.Searching.{AreDetours, AreAsked, AreReached};
+ghost use Rattle.olr_paths.specs.Searching.{AreDetours, AreAsked, AreReached, IsReached};
 ghost use Rattle.olr_paths.specs.Candidates.{Covers};
 ghost use Rattle.std.specs.List.Sorted.{IsNonDecreasing};
 ghost use Rattle.olr_paths.specs.Origins.{BeginsPut, AreBoundsOf, new_origins_in};
-ghost use Rattle.olr_paths.specs.Renewing.{made_at, after_renewal, ReportsIfOther, IsActionFor, IsStep, OneSpared};
+ghost use Rattle.olr_paths.specs.Renewing.{made_at, after_renewal, ReportsIfOther, IsActionFor, IsEncode, Gives, IsStep};
+ghost use Rattle.olr_paths.specs.Renewing.{OneSpared, WasBefore, IsRenewal};
 
 use crate::actions::{Action, decide};
 use crate::asked::{Asked, ask};
 use crate::begins::note_fresh;
 use crate::change_set::ChangeSet;
-use crate::encoding::publish;
+use crate::detours::clear_known;
+use crate::encoding::{have_64_bits, publish};
 use crate::overlaid_list::OverlaidList;
 use crate::path_list::{NamedPath, PathList};
 use crate::published::Published;
@@ -29,7 +31,8 @@ use crate::showing::PathView;
 use olr_commands::Entry;
 use olr_map::MapRead;
 use olr_near::DistanceBounds;
-use olr_route::{Dijkstra, Work};
+use olr_refs::KnownQuery;
+use olr_search::{Dijkstra, Work};
 use std::alloc::{AllocError, Global};
 use std::mem;
 use std::rc::Rc;
@@ -100,10 +103,13 @@ impl Renewal {
         action: Action,
         position: usize,
         shown: PathView<'_>,
+        known: &[KnownQuery],
         query: &mut Dijkstra,
         counted: &mut Counted,
     ) -> Result<(), AllocError>
+        requires known { AreKnown (M.map map.now) (shown_item shown).path.lines known.now }
         ensures { OnOk result ((T X : List ℕ) (C : List ChangedLine)
+            → (IsEncode action → Gives (M.map map.now) C (shown_item shown.entry).made known.now)
             → IsActionFor (M.map map.now) T X C (shown_item shown.entry).made (shown_item shown.entry).path action
             → IsStep (M.map map.now) T X C (items before.now) (shown_item shown.entry)
             position self.old self.new counted.old counted.new) }
@@ -112,7 +118,7 @@ impl Renewal {
             Action::Stay => (),
             Action::Keep => counted.keep(),
             Action::Encode => {
-                let published = publish(alloc, map, shown.path, query, &mut counted.work)?;
+                let published = publish(alloc, map, shown.path, known, query, &mut counted.work)?;
                 push_if_changed(alloc, before, shown.name, &published, &mut self.entries)?;
                 let named = NamedPath {
                     path: shown.path.clone()?,
@@ -122,6 +128,36 @@ impl Renewal {
             }
         }
         Ok(())
+    }
+}
+
+/// The coverage queries that are not searched again if the path is encoded again: those along its own lines that are
+/// clear of the changed lines.
+fn known_for<M: MapRead>(
+    alloc: Global,
+    map: &M,
+    touched: &ChangeSet,
+    searches: &Searches,
+    asked: Option<u32>,
+    action: Action,
+    shown: PathView<'_>,
+) -> Result<Vec<KnownQuery>, AllocError>
+    requires detours { IfSome asked (AreDetours (M.map map.now) (M.node_slot map.now) touched.now searches.now) }
+    requires reached { IfSome (shown_item shown).made (IsReached (M.map map.now) (nodes_of touched.now)
+        (lines_of touched.now) (changed_of touched.now) asked (shown_item shown).path) }
+    requires action { IsActionFor (M.map map.now) (nodes_of touched.now) (lines_of touched.now) (changed_of touched.now)
+        (shown_item shown).made (shown_item shown).path action }
+    requires before { (L : Map) × (items : List Item) × Contains items (shown_item shown)
+        × WasBefore L (M.map map.now) touched.now items }
+    ensures known { IfOk result (λ ks. AreKnown (M.map map.now) (shown_item shown.entry).path.lines ks.items) }
+    ensures given { IfOk result
+        (λ ks. IsEncode action → Gives (M.map map.now) (changed_of touched.now) (shown_item shown.entry).made ks.items) }
+{
+    match (action, shown.published) {
+        (Action::Encode, Some(published)) => {
+            clear_known(alloc, map, touched, searches, asked, &published.known)
+        }
+        _ => Ok(Vec::new(alloc)),
     }
 }
 
@@ -146,24 +182,11 @@ fn renewal_by<M: MapRead>(
     requires reached { AreReached (M.map map.now) (nodes_of touched.now) (lines_of touched.now)
         (changed_of touched.now) asked.now.detours (shown_items overlaid) }
     requires follows { Follows (items before.now) (shown_items overlaid) }
-    ensures renewed { IfOk result (λ r. (L : Map)
-        → IsBefore L (M.map map.now) (nodes_of touched.now) (lines_of touched.now) (changed_of touched.now)
-        (shown_items overlaid.entry)
-        → AreRemade (M.map map.now) (shown_items overlaid.entry) (after_renewal r (shown_items overlaid.entry))) }
-    ensures named { IfOk result
-        (λ r. all_named (after_renewal r (shown_items overlaid.entry)) ≡ all_named (shown_items overlaid.entry)) }
-    ensures reported { IfOk result
-        (λ r. Reported (items before.now) (after_renewal r (shown_items overlaid.entry))
-        (list_map entry_of r.entries.items)) }
-    ensures counted { OnOk result ((L : Map)
-        → IsBefore L (M.map map.now) (nodes_of touched.now) (lines_of touched.now) (changed_of touched.now)
-        (shown_items overlaid.entry)
-        → (t : Totals) × AreTotals L (M.map map.now) (nodes_of touched.now) (lines_of touched.now)
-        (changed_of touched.now) (shown_items overlaid.entry) t
-        × AreCounted (M.map map.now) t counted.old.work counted.new.work counted.old.kept counted.new.kept) }
-    ensures searches { OnOk result (counted.old.work.searches ≤ counted.new.work.searches) }
-    ensures settled { OnOk result (counted.old.work.settled ≤ counted.new.work.settled) }
-    ensures kept { OnOk result (counted.old.kept ≤ counted.new.kept) }
+    requires before { (L : Map) × WasBefore L (M.map map.now) touched.now (shown_items overlaid) }
+    ensures renewed { IfOk result (λ r. IsRenewal (M.map map.now) touched.now (items before.now)
+        (shown_items overlaid.entry) (after_renewal r (shown_items overlaid.entry)) (list_map entry_of r.entries.items)
+        counted.old.work counted.new.work counted.old.kept
+        counted.new.kept) }
 {
     let mut renewal = Renewal {
         fresh: Vec::new(alloc),
@@ -179,7 +202,10 @@ fn renewal_by<M: MapRead>(
             continue;
         }
         let action = decide(map, touched, searches, asked.detours, shown);
-        renewal.advance(alloc, map, before, action, position, shown, query, counted)?;
+        let known = known_for(alloc, map, touched, searches, asked.detours, action, shown)?;
+        renewal.advance(
+            alloc, map, before, action, position, shown, &known, query, counted,
+        )?;
         next = position + 1;
     }
     Ok(renewal)
@@ -199,24 +225,12 @@ pub(crate) fn renewal_of<M: MapRead>(
     kept: &mut u64,
 ) -> Result<Renewal, AllocError>
     requires follows { Follows (items before.now) (shown_items overlaid) }
+    requires before { (L : Map) × WasBefore L (M.map map.now) touched.now (shown_items overlaid) }
     requires bounds { AreBoundsOf (M.map map.now) bounds.now (shown_items overlaid) }
-    ensures renewed { IfOk result (λ r. (L : Map)
-        → IsBefore L (M.map map.now) (nodes_of touched.now) (lines_of touched.now) (changed_of touched.now)
-        (shown_items overlaid.entry)
-        → AreRemade (M.map map.now) (shown_items overlaid.entry) (after_renewal r (shown_items overlaid.entry))) }
-    ensures named { IfOk result
-        (λ r. all_named (after_renewal r (shown_items overlaid.entry)) ≡ all_named (shown_items overlaid.entry)) }
-    ensures reported { IfOk result
-        (λ r. Reported (items before.now) (after_renewal r (shown_items overlaid.entry))
-        (list_map entry_of r.entries.items)) }
-    ensures counted { OnOk result ((L : Map)
-        → IsBefore L (M.map map.now) (nodes_of touched.now) (lines_of touched.now) (changed_of touched.now)
-        (shown_items overlaid.entry)
-        → (t : Totals) × AreTotals L (M.map map.now) (nodes_of touched.now) (lines_of touched.now)
-        (changed_of touched.now) (shown_items overlaid.entry) t
-        × AreCounted (M.map map.now) t work.old work.new kept.old kept.new) }
-    ensures searches { OnOk result (work.old.searches ≤ work.new.searches) }
-    ensures settled { OnOk result (work.old.settled ≤ work.new.settled) }
+    ensures renewed { IfOk result (λ r. IsRenewal (M.map map.now) touched.now (items before.now)
+        (shown_items overlaid.entry) (after_renewal r (shown_items overlaid.entry)) (list_map entry_of r.entries.items)
+        work.old work.new kept.old kept.new) }
+    ensures rises { OnOk result (Rises work.old work.new) }
     ensures kept { OnOk result (kept.old ≤ kept.new) }
     ensures new_origins { IfOk result (λ r. (v : QueryRecord) → BeginsPut (made_at r) v →
         Contains (new_origins_in searches.new) v) }
@@ -230,6 +244,7 @@ pub(crate) fn renewal_of<M: MapRead>(
             entries: Vec::new(alloc),
         });
     }
+    have_64_bits(work);
     let asked = ask(alloc, map, overlaid, touched, bounds, searches)?;
     let mut query = mem::replace(&mut searches.query, Dijkstra::new(alloc));
     let mut counted = Counted {

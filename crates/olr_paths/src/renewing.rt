@@ -6,11 +6,10 @@ ghost use Rattle.olr_commands.specs.State.{NamesDiffer};
 ghost use Rattle.olr_commands.specs.Words.{entry_of};
 ghost use Rattle.olr_spec.specs.Queries.{CoverageQuery as QueryRecord};
 ghost use Rattle.olr_paths.specs.Items.{items, all_named};
-ghost use Rattle.olr_paths.specs.Changes.{IsBefore, Totals, AreTotals, AreCounted, AreRemade, Reported, Follows};
+ghost use Rattle.olr_paths.specs.Changes.{Rises, Follows};
 ghost use Rattle.olr_paths.specs.Laying.{TakesNone, overlay_changes, under_overlay};
-ghost use Rattle.olr_paths.specs.Touching.{nodes_of, lines_of, changed_of};
 ghost use Rattle.olr_paths.specs.Origins.{Begins, AreBoundsOf, new_origins_in};
-ghost use Rattle.olr_paths.specs.Renewing.{items_before};
+ghost use Rattle.olr_paths.specs.Renewing.{items_before, WasBefore, IsRenewal};
 
 use crate::change_set::ChangeSet;
 use crate::overlaid_list::OverlaidList;
@@ -22,14 +21,16 @@ use crate::searches::Searches;
 use olr_commands::Entry;
 use olr_map::MapRead;
 use olr_near::DistanceBounds;
-use olr_route::Work;
+use olr_search::Work;
 use std::alloc::{AllocError, Global};
 
 impl PathList {
     /// Encodes on a map the paths that are new and those whose answer changes of it can have changed, and returns those
     /// whose answer changed. Each affected path is counted as an encoding; `spared` counts those of them that retained
-    /// their answer, and `searches` the coverage queries of the others. The bounds are distance bounds that are right on the map, for all coverage queries of the list:
-    /// they cut the search from touched nodes. If an allocation fails, list and counts are as before.
+    /// their answer, and `searches` the coverage queries of the others that are not known from the map before. On that
+    /// map, from which the changes led, the results in the list are right. The bounds are distance bounds that are right
+    /// on the map, for all coverage queries of the list: they cut the search from touched nodes. If an allocation fails,
+    /// list and counts are as before.
     pub fn renew<M: MapRead>(
         &mut self,
         alloc: Global,
@@ -40,21 +41,11 @@ impl PathList {
         work: &mut Work,
         kept: &mut u64,
     ) -> Result<Vec<Entry>, AllocError>
-        requires { AreBoundsOf (M.map map.now) bounds.now (items self.old) }
-        ensures renewed { OnOk result ((L : Map)
-            → IsBefore L (M.map map.now) (nodes_of touched.now) (lines_of touched.now) (changed_of touched.now)
-            (items self.old)
-            → AreRemade (M.map map.now) (items self.old) (items self.new)) }
-        ensures named { OnOk result (all_named (items self.new) ≡ all_named (items self.old)) }
-        ensures reported { IfOk result (λ es. Reported (items self.old) (items self.new) (list_map entry_of es.items)) }
-        ensures counted { OnOk result ((L : Map)
-            → IsBefore L (M.map map.now) (nodes_of touched.now) (lines_of touched.now) (changed_of touched.now)
-            (items self.old)
-            → (t : Totals) × AreTotals L (M.map map.now) (nodes_of touched.now) (lines_of touched.now)
-            (changed_of touched.now) (items self.old) t
-            × AreCounted (M.map map.now) t work.old work.new kept.old kept.new) }
-        ensures searches { OnOk result (work.old.searches ≤ work.new.searches) }
-        ensures settled { OnOk result (work.old.settled ≤ work.new.settled) }
+        requires bounds { AreBoundsOf (M.map map.now) bounds.now (items self.old) }
+        requires before { (L : Map) × WasBefore L (M.map map.now) touched.now (items self.old) }
+        ensures renewed { IfOk result (λ es. IsRenewal (M.map map.now) touched.now (items self.old) (items self.old)
+            (items self.new) (list_map entry_of es.items) work.old work.new kept.old kept.new) }
+        ensures rises { OnOk result (Rises work.old work.new) }
         ensures kept { OnOk result (kept.old ≤ kept.new) }
         ensures new_origins { OnOk result ((v : QueryRecord) → Begins (items self.new) v
             → Begins (items self.old) v ⊎ Contains (new_origins_in searches.new) v) }
@@ -89,22 +80,12 @@ impl PathList {
         requires names { NamesDiffer (all_named (under_overlay (items self.old) overlay.now)) }
         requires follows { Follows (items_before before self.old) (under_overlay (items self.old) overlay.now) }
         requires bounds { AreBoundsOf (M.map map.now) bounds.now (under_overlay (items self.old) overlay.now) }
-        ensures renewed { OnOk result
-            ((L : Map) → IsBefore L (M.map map.now) (nodes_of touched.now) (lines_of touched.now)
-            (changed_of touched.now) (under_overlay (items self.old) overlay.now)
-            → AreRemade (M.map map.now) (under_overlay (items self.old) overlay.now) (items self.new)) }
-        ensures named { OnOk result
-            (all_named (items self.new) ≡ all_named (under_overlay (items self.old) overlay.now)) }
-        ensures reported { IfOk result (λ es. Reported (items_before before.entry self.old) (items self.new)
-            (list_map entry_of es.items)) }
-        ensures counted { OnOk result
-            ((L : Map) → IsBefore L (M.map map.now) (nodes_of touched.now) (lines_of touched.now)
-            (changed_of touched.now) (under_overlay (items self.old) overlay.now) → (t : Totals)
-            × AreTotals L (M.map map.now) (nodes_of touched.now) (lines_of touched.now) (changed_of touched.now)
-            (under_overlay (items self.old) overlay.now) t
-            × AreCounted (M.map map.now) t work.old work.new kept.old kept.new) }
-        ensures searches { OnOk result (work.old.searches ≤ work.new.searches) }
-        ensures settled { OnOk result (work.old.settled ≤ work.new.settled) }
+        requires before { (L : Map) × WasBefore L (M.map map.now) touched.now
+            (under_overlay (items self.old) overlay.now) }
+        ensures renewed { IfOk result (λ es. IsRenewal (M.map map.now) touched.now (items_before before.entry self.old)
+            (under_overlay (items self.old) overlay.now) (items self.new) (list_map entry_of es.items) work.old work.new
+            kept.old kept.new) }
+        ensures rises { OnOk result (Rises work.old work.new) }
         ensures kept { OnOk result (kept.old ≤ kept.new) }
         ensures new_origins { OnOk result ((v : QueryRecord) → Begins (items self.new) v
             → Begins (under_overlay (items self.old) overlay.now) v ⊎ Contains (new_origins_in searches.new) v) }
@@ -154,21 +135,12 @@ impl PathList {
         requires names { NamesDiffer (all_named (under_overlay (items self.old) overlay.now)) }
         requires follows { Follows (items self.old) (under_overlay (items self.old) overlay.now) }
         requires bounds { AreBoundsOf (M.map map.now) bounds.now (under_overlay (items self.old) overlay.now) }
-        ensures renewed { OnOk result
-            ((L : Map) → IsBefore L (M.map map.now) (nodes_of touched.now) (lines_of touched.now)
-            (changed_of touched.now) (under_overlay (items self.old) overlay.now)
-            → AreRemade (M.map map.now) (under_overlay (items self.old) overlay.now) (items self.new)) }
-        ensures named { OnOk result
-            (all_named (items self.new) ≡ all_named (under_overlay (items self.old) overlay.now)) }
-        ensures reported { IfOk result (λ es. Reported (items self.old) (items self.new) (list_map entry_of es.items)) }
-        ensures counted { OnOk result
-            ((L : Map) → IsBefore L (M.map map.now) (nodes_of touched.now) (lines_of touched.now)
-            (changed_of touched.now) (under_overlay (items self.old) overlay.now) → (t : Totals)
-            × AreTotals L (M.map map.now) (nodes_of touched.now) (lines_of touched.now) (changed_of touched.now)
-            (under_overlay (items self.old) overlay.now) t
-            × AreCounted (M.map map.now) t work.old work.new kept.old kept.new) }
-        ensures searches { OnOk result (work.old.searches ≤ work.new.searches) }
-        ensures settled { OnOk result (work.old.settled ≤ work.new.settled) }
+        requires before { (L : Map) × WasBefore L (M.map map.now) touched.now
+            (under_overlay (items self.old) overlay.now) }
+        ensures renewed { IfOk result (λ es. IsRenewal (M.map map.now) touched.now (items self.old)
+            (under_overlay (items self.old) overlay.now) (items self.new) (list_map entry_of es.items) work.old work.new
+            kept.old kept.new) }
+        ensures rises { OnOk result (Rises work.old work.new) }
         ensures kept { OnOk result (kept.old ≤ kept.new) }
         ensures new_origins { OnOk result ((v : QueryRecord) → Begins (items self.new) v
             → Begins (under_overlay (items self.old) overlay.now) v ⊎ Contains (new_origins_in searches.new) v) }

@@ -3,7 +3,7 @@ ghost use Rattle.std.specs.Prelude.{◌≡◌};
 ghost use Rattle.olr_paths.specs.Origins.{new_origins_in};
 
 use olr_refs::CoverageQuery;
-use olr_route::Dijkstra;
+use olr_search::Dijkstra;
 use std::alloc::Global;
 
 /// Searches that are restarted for each renewal, so that their tables are allocated once.

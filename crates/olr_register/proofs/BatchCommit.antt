@@ -9,7 +9,7 @@ use Rattle.olr_commands.specs.State.{Named, Content, Memory, Count_differs, when
 use Rattle.olr_commands.specs.State.{changes_made, IsContent}
 use Rattle.olr_commands.specs.Reply as replies
 use Rattle.olr_commands.specs.Reply.{IsRefusal, ByState, Lacks, IsOutcome, may_want}
-use Rattle.olr_commands.specs.Counts.{Affects, CountIs, Raises, Retains, EncodesAgain, Spares, SearchedFor, Collects}
+use Rattle.olr_commands.specs.Counts.{Affects, CountIs, Raises, Retains, EncodesAgain, Spares, SearchesFor, Collects}
 use Rattle.olr_commands.specs.Counts.{Searches}
 use Rattle.olr_commands.specs.Words.{entry_of, reply_of}
 use Rattle.olr_commands.specs.declared.reply.Entry.{Entry}
@@ -17,7 +17,7 @@ use Rattle.olr_commands.specs.declared.reply.Reply.{Reply}
 use Rattle.olr_commands.specs.declared.fault.CommandFault.TheVariants as rust
 use Rattle.olr_paths.specs.Items.{Item, AreEncodings, all_named}
 use Rattle.olr_paths.specs.Laying.{under_overlay}
-use Rattle.olr_paths.specs.Changes.{IsBefore, Totals, AreTotals, AreSearched, AreCounted, AreRemade, Reported}
+use Rattle.olr_paths.specs.Changes.{IsBefore, Rises, Totals, AreTotals, AreSearched, AreCounted, AreRemade, Reported}
 use Rattle.olr_paths.specs.Touching.{nodes_of, lines_of, changed_of}
 use Rattle.olr_register.specs.RegisterState.{IsBatchOf, Represents}
 use Rattle.olr_register.specs.Registered.{Registered}
@@ -169,11 +169,10 @@ module _ (roads new : RoadMap) (is js : List Item) (b : Batch) (n : ℕ) (u : To
   commit_searches s t h g =
       in_batch c (batch_of roads is b)
       (λ a. Collects (EncodesAgain a.content t.content (changes_made a (Commit n)))
-      (λ p. SearchedFor t.content.map p.path) t.content.paths u.queries)
+      (SearchesFor a.content t.content (changes_made a (Commit n))) t.content.paths u.queries)
       (λ xs i.
-      subst (λ (e : Content). Collects (EncodesAgain c e xs) (λ p. SearchedFor e.map p.path) e.paths u.queries) g.0
-      (subst (λ (ps : List Named). Collects (EncodesAgain c d xs) (λ p. SearchedFor d.map p.path) ps u.queries)
-      (sym names)
+      subst (λ (e : Content). Collects (EncodesAgain c e xs) (SearchesFor c e xs) e.paths u.queries) g.0
+      (subst (λ (ps : List Named). Collects (EncodesAgain c d xs) (SearchesFor c d xs) ps u.queries) (sym names)
       (searched_changes c d xs (nodes_of b.touched) (lines_of b.touched) (changed_of b.touched) i.nodes i.lines
       i.changed
       (under_overlay is b.overlay) u totals_new i.given))) s h
@@ -185,8 +184,7 @@ module _ (roads new : RoadMap) (is js : List Item) (b : Batch) (w v : Tally) (n 
     (totals : AreTotals (map_before roads b.log) (map_of roads) (nodes_of b.touched) (lines_of b.touched)
     (changed_of b.touched) (under_overlay is b.overlay) u)
     (counts : AreCounted (map_of roads) u w.work v.work w.spared v.spared)
-    (searches : w.work.searches ≤ v.work.searches) (settled : w.work.settled ≤ v.work.settled)
-    (rises : w.spared ≤ v.spared) where
+    (rises : Rises w.work v.work) (kept : w.spared ≤ v.spared) where
   commit_answered : IsRegister roads is (Some b) →
       Answered (of_parts roads is (Some b) w) (Commit n) (Ok r) (of_parts new js None v)
   commit_answered reg =
@@ -218,7 +216,7 @@ module _ (roads new : RoadMap) (is js : List Item) (b : Batch) (w v : Tally) (n 
               subst (λ (e : Content). AreSearched e.map u.queries w.work v.work) g.0
                   (subst (λ (M : Map). AreSearched M u.queries w.work v.work) (sym same) counts.searched),
             );
-        rises = record { searches = searches; settled = settled; spared = rises };
+        rises = record { work = rises; spared = kept };
         same = λ off. let no : true ≡ false = off in absurd cc;
         unchanged = tt;
       }

@@ -164,7 +164,7 @@ begun_held roads is None b none r e =
       made = subst (λ (M : Map). AreEncodings M is) (sym same) r.made;
       held = record {
         undo = (
-          subst (CanMakeAll (map_of roads) (room_of roads.tables)) (sym e.log) tt,
+          subst (CanMakeAll (map_of roads) (room_of roads)) (sym e.log) tt,
           let nodes : b.log.nodes ≡ 0 = b.log.nodes_counted ∙ ap all_node_puts e.log in
               let lines : b.log.lines ≡ 0 = b.log.lines_counted ∙ ap all_line_puts e.log in
               record { nodes = omega arith; lines = omega arith },

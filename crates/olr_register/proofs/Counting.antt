@@ -1,7 +1,7 @@
 -- How many paths the changes affect, counted by the stored results; none if there are no changes.
 use Rattle.std.proofs.Common.{inl, inr, ◌≡◌, ℕ, ◌≤◌, true, false, List, [], ◌∷◌, map, length, All, Option, Some, None}
 use Rattle.std.proofs.Common.{refl, sym, ap, ◌∙◌, subst, arith}
-use Rattle.std.specs.Prelude.{is_none}
+use Rattle.std.specs.Prelude.{Bool, is_none, MatchOption}
 use Rattle.std.specs.List.{list_any, AllByRecursion}
 use Rattle.std.proofs.lemmas.Bool.{both_ways}
 use Rattle.olr_spec.specs.Map.{Map, has}
@@ -11,9 +11,9 @@ use Rattle.olr_spec.specs.Queries.{CoverageQuery, IsClear}
 use Rattle.olr_commands.specs.State.{Named, Content, same_name, Change, State, Command, changes_made}
 use Rattle.olr_commands.specs.Counts.{Affects, By_name, By_node, By_line, CountIs, Raises, all_nodes, all_lines}
 use Rattle.olr_commands.specs.Counts.{all_changed, all_names, most_changed, IsUnchanged, Retains, EncodesAgain, Spares}
-use Rattle.olr_commands.specs.Counts.{RisesBy, SearchedFor, Collects, Searches}
+use Rattle.olr_commands.specs.Counts.{SearchedFor, SearchedAgain, Either, SearchesFor, Collects, Searches}
 use Rattle.olr_paths.specs.Items.{Made, Item, named_of, all_named}
-use Rattle.olr_paths.specs.Changes.{IsAffected, IsSpared, IsEncodedAgain, Totals, AreTotals}
+use Rattle.olr_paths.specs.Changes.{IsAffected, IsSpared, IsEncodedAgain, SearchesItem, Totals, AreTotals}
 use Rattle.olr_paths.specs.Changes as made
 use Rattle.olr_register.specs.Holding.{held_of}
 use Rattle.olr_commands.proofs.CountLemmas.{unconcerned}
@@ -57,15 +57,29 @@ module _ (names : List (List ℕ)) (P : Item → Type 0) (Q : Named → Type 0)
       inl (to i given.0 h.0, (h.1.0, count_named is h.1.0 given.1 h.1.1, h.1.2))
   count_named (i ∷ is) n given (inr h) = inr ((λ k. h.0 (back i given.0 k)), count_named is n given.1 h.1)
 
-  collect_named : (N : Map) (is : List Item) (queries : List CoverageQuery) →
-      AllByRecursion (λ h. h.given ≡ list_any (same_name h.name) names) (map held_of is)
-      → Collects P (λ i. SearchedFor N i.path) is queries →
-      Collects Q (λ p. SearchedFor N p.path) (all_named is) queries
-  collect_named N [] queries given h = h
-  collect_named N (i ∷ is) queries given (inl h) =
-      inl (to i given.0 h.0, (h.1.0, h.1.1, h.1.2, collect_named N is h.1.1 given.1 h.1.3, h.1.4))
-  collect_named N (i ∷ is) queries given (inr h) =
-      inr ((λ k. h.0 (back i given.0 k)), collect_named N is queries given.1 h.1)
+  collect_named : (R : Item → List CoverageQuery → Type 0) (S : Named → List CoverageQuery → Type 0) →
+      ((i : Item) (own : List CoverageQuery) → Given names i → R i own → S (named_of i) own) → (is : List Item)
+      (queries : List CoverageQuery) → AllByRecursion (λ h. h.given ≡ list_any (same_name h.name) names)
+      (map held_of is) → Collects P R is queries → Collects Q S (all_named is) queries
+  collect_named R S moved [] queries given h = h
+  collect_named R S moved (i ∷ is) queries given (inl h) =
+      inl (
+        to i given.0 h.0,
+        (
+          h.1.0,
+          h.1.1,
+          moved i h.1.0 given.0 h.1.2,
+          collect_named R S moved is h.1.1 given.1 h.1.3,
+          h.1.4,
+        ),
+      )
+  collect_named R S moved (i ∷ is) queries given (inr h) =
+      inr ((λ k. h.0 (back i given.0 k)), collect_named R S moved is queries given.1 h.1)
+
+-- a statement of the two cases of an option, by whether it is none
+either_by : (o : Option Made) (A B : Type 0) → MatchOption o A (λ _. B) → Either (is_none o) A B
+either_by None A B h = h
+either_by (Some m) A B h = h
 
 module _ (M N : Map) (T X U Y : List ℕ) (C D : List ChangedLine) (P : Path) where
   unchanged_moves : ((v : ℕ) → has T v ≡ has U v) → ((x : ℕ) → has X x ≡ has Y x) → C ≡ D →
@@ -116,6 +130,16 @@ module _ (c d : Content) (changes : List Change) (ns xs : List ℕ) (cs : List C
       IsEncodedAgain c.map d.map ns xs cs i
   encodes_back i given h = (affects_back i given h.0, λ k. h.1 (retains_to i given k))
 
+  -- a path that no change names was encoded on the map before
+  searches_to : (i : Item) (queries : List CoverageQuery) → Given (all_names changes) i →
+      SearchesItem c.map d.map cs i queries → SearchesFor c d changes (named_of i) queries
+  searches_to i queries given h =
+      let from : List ChangedLine = all_changed c changes in
+      subst (λ (b : Bool). Either b (SearchedFor d.map i.path queries) (SearchedAgain c.map d.map from i.path queries))
+      given
+      (either_by i.made (SearchedFor d.map i.path queries) (SearchedAgain c.map d.map from i.path queries)
+      (subst (λ (ks : List ChangedLine). SearchesItem c.map d.map ks i queries) same_changed h))
+
   module _ (is : List Item) (t : Totals) (totals : AreTotals c.map d.map ns xs cs is t)
       (given : AllByRecursion (λ h. h.given ≡ list_any (same_name h.name) (all_names changes)) (map held_of is)) where
     pub counted_changes : CountIs (Affects c changes) (all_named is) t.affected
@@ -128,15 +152,13 @@ module _ (c d : Content) (changes : List Change) (ns xs : List ℕ) (cs : List C
         count_named (all_names changes) (IsSpared c.map d.map ns xs cs) (Retains c d changes) retains_to retains_back is
         t.spared given totals.spared
 
-    pub searched_changes : Collects (EncodesAgain c d changes) (λ p. SearchedFor d.map p.path) (all_named is) t.queries
+    pub searched_changes : Collects (EncodesAgain c d changes) (SearchesFor c d changes) (all_named is) t.queries
     searched_changes =
         collect_named (all_names changes) (IsEncodedAgain c.map d.map ns xs cs) (EncodesAgain c d changes) encodes_to
-        encodes_back d.map is t.queries given totals.queries
+        encodes_back (SearchesItem c.map d.map cs) (SearchesFor c d changes) searches_to is t.queries given
+        totals.queries
 
 -- ---- a count of 0
-
-pub rises_none : (n : ℕ) → RisesBy n 0 n
-rises_none n = ((λ few. omega arith), omega arith)
 
 pub none_counted : {A : Type 0} (P : A → Type 0) → ((x : A) → ¬ P x) → (xs : List A) → CountIs P xs 0
 none_counted P none [] = refl
@@ -159,7 +181,7 @@ spares_none s t x e =
 
 pub searches_none : (s t : State) (x : Command) → changes_made s x ≡ [] → Searches s x t []
 searches_none s t x e =
-    subst (λ (ys : List Change). Collects (EncodesAgain s.content t.content ys)
-    (λ p. SearchedFor t.content.map p.path) t.content.paths []) (sym e)
-    (none_collected (EncodesAgain s.content t.content []) (λ p. SearchedFor t.content.map p.path)
+    subst (λ (ys : List Change). Collects (EncodesAgain s.content t.content ys) (SearchesFor s.content t.content ys)
+    t.content.paths []) (sym e)
+    (none_collected (EncodesAgain s.content t.content []) (SearchesFor s.content t.content [])
     (λ p h. unconcerned s.content p h.0) t.content.paths)

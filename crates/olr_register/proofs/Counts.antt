@@ -3,7 +3,7 @@ use Rattle.std.proofs.Common.{arith, append-nil, ◌≡◌, ℕ, ◌+◌, ◌<�
 use Rattle.std.proofs.Common.{[], ◌∷◌, ◌++◌, map, Option, Some, None, Ok, refl, sym, ap, ◌∙◌, subst}
 use Rattle.std.specs.Prelude.{is_none}
 use Rattle.std.proofs.lemmas.Bool.{both_ways}
-use Rattle.olr_route.specs.declared.work.Work.{Work}
+use Rattle.olr_search.specs.declared.work.Work.{Work}
 use Rattle.std.specs.List.{AllByRecursion}
 use Rattle.olr_spec.specs.Map.{Map, Edit, touched_nodes, touched_lines, has}
 use Rattle.olr_spec.specs.Extension.{Path}
@@ -12,7 +12,8 @@ use Rattle.olr_spec.specs.Queries.{CoverageQuery}
 use Rattle.olr_commands.specs.State.{Named, Content, IsContent, Change, On_map, Add_path, Set_path, Drop_path}
 use Rattle.olr_commands.specs.State.{with_change, State, Make, at_once, step, path_named, HasCoords, IsState}
 use Rattle.olr_commands.specs.Counts.{Affects, By_name, By_node, By_line, CountIs, Raises, Retains, EncodesAgain}
-use Rattle.olr_commands.specs.Counts.{Spares, RisesBy, SearchedFor, Collects, Searches, all_nodes, all_lines, all_names}
+use Rattle.olr_commands.specs.Counts.{Spares, SearchedFor, SearchesFor, Collects, Searches, all_nodes, all_lines}
+use Rattle.olr_commands.specs.Counts.{all_names}
 use Rattle.olr_commands.proofs.StateLemmas.{steps_keep}
 use Rattle.olr_commands.proofs.CountLemmas.{paths_raise}
 use Rattle.olr_commands.proofs.SearchLemmas.{spares_none as path_spares, searches_one, added_path, replaced_path}
@@ -21,6 +22,7 @@ use Rattle.olr_paths.specs.Changes.{Totals, AreTotals, AreSearched, AreCounted}
 use Rattle.olr_register.specs.RegisterState.{RegisterState, Represents, RepresentsBatch}
 use Rattle.olr_register.specs.Registered.{Registered}
 use Rattle.olr_register.specs.Holding.{held_of}
+use Rattle.olr_refs.specs.Choice.{raised_count}
 use Rattle.olr_register.specs.Sparing.{encodes, NoneFalls, SameCounts}
 use Rattle.olr_register.proofs.Counting.{counted_changes, spared_changes, searched_changes, none_counted, none_collected}
 use Rattle.olr_register.proofs.Tallies.{Tallied}
@@ -53,10 +55,10 @@ from_states old new P was later p s t h k =
 pub record Rise (old new : Registered) (x : Change) : Type 0 where
   pub affected : ℕ
   pub raises : Raises (closed_state old) (Make x) (closed_state new) affected
-  pub encodings : old.work.encodings + affected < 2 ^ 64 → new.work.encodings ≡ old.work.encodings + affected
+  pub encodings : new.work.encodings ≡ raised_count old.work.encodings affected
   pub retained : ℕ
   pub spares : Spares (closed_state old) (Make x) (closed_state new) retained
-  pub spared : RisesBy old.spared retained new.spared
+  pub spared : new.spared ≡ raised_count old.spared retained
   pub queries : List CoverageQuery
   pub searches : Searches (closed_state old) (Make x) (closed_state new) queries
   pub searched : AreSearched new.kept.content.map queries old.work new.work
@@ -136,7 +138,7 @@ tallied_edit old new M N is e ns xs cs t was later to_is a nodes lines changed t
       spared = counts.spared;
       queries = t.queries;
       searches =
-          coe 0 1 (i. Collects (EncodesAgain (from i) (to i) changes) (λ p. SearchedFor (to i).map p.path) (to i).paths
+          coe 0 1 (i. Collects (EncodesAgain (from i) (to i) changes) (SearchesFor (from i) (to i) changes) (to i).paths
           t.queries) found;
       searched = subst (λ (b : Content). AreSearched b.map t.queries old.work new.work) to counts.searched;
     })
@@ -154,7 +156,7 @@ module _ (old new : Registered) (x : Change) (name : List ℕ) (path : Path) (qu
     (placed : HasCoords (Make x)) (is : with_change old.kept.content x ≡ Ok new.kept.content)
     (made : SearchedFor new.kept.content.map path queries)
     (searched : AreSearched new.kept.content.map queries old.work new.work)
-    (encodings : old.work.encodings + 1 < 2 ^ 64 → new.work.encodings ≡ old.work.encodings + 1)
+    (encodings : new.work.encodings ≡ raised_count old.work.encodings 1)
     (spared : new.spared ≡ old.spared) (falls : NoneFalls old new) where
   state_before : IsState (closed_state old)
   state_before = record { content = content; batch = tt }
@@ -175,7 +177,7 @@ module _ (old new : Registered) (x : Change) (name : List ℕ) (path : Path) (qu
             encodings = encodings;
             retained = 0;
             spares = path_spares (closed_state old) (closed_state new) x name path state_before refl nodes lines names;
-            spared = ((λ few. omega arith), omega arith);
+            spared = spared;
             queries = queries;
             searches =
                 searches_one (closed_state old) (closed_state new) x name path state_before refl nodes lines names queries
@@ -189,7 +191,7 @@ pub tallied_add : (old new : Registered) (name : List ℕ) (path : Path) (querie
     IsContent old.kept.content → old.kept.batch ≡ None → new.kept.batch ≡ None
     → with_change old.kept.content (Add_path name path) ≡ Ok new.kept.content →
     SearchedFor new.kept.content.map path queries → AreSearched new.kept.content.map queries old.work new.work
-    → (old.work.encodings + 1 < 2 ^ 64 → new.work.encodings ≡ old.work.encodings + 1) → new.spared ≡ old.spared →
+    → new.work.encodings ≡ raised_count old.work.encodings 1 → new.spared ≡ old.spared →
     NoneFalls old new → Tallied old (Make (Add_path name path)) new
 tallied_add old new name path queries content was later is made searched encodings spared falls =
     let before : IsState (closed_state old) = record { content = content; batch = tt } in
@@ -202,7 +204,7 @@ pub tallied_set : (old new : Registered) (name : List ℕ) (path : Path) (querie
     IsContent old.kept.content → old.kept.batch ≡ None → new.kept.batch ≡ None
     → with_change old.kept.content (Set_path name path) ≡ Ok new.kept.content →
     SearchedFor new.kept.content.map path queries → AreSearched new.kept.content.map queries old.work new.work
-    → (old.work.encodings + 1 < 2 ^ 64 → new.work.encodings ≡ old.work.encodings + 1) → new.spared ≡ old.spared →
+    → new.work.encodings ≡ raised_count old.work.encodings 1 → new.spared ≡ old.spared →
     NoneFalls old new → Tallied old (Make (Set_path name path)) new
 tallied_set old new name path queries content was later is made searched encodings spared falls =
     let before : IsState (closed_state old) = record { content = content; batch = tt } in
@@ -210,6 +212,18 @@ tallied_set old new name path queries content was later is made searched encodin
     tallied_path old new (Set_path name path) name path queries content was later tt is made searched encodings spared
     falls refl refl refl (replaced_path (closed_state old) (closed_state new) name path refl step_is)
     ((paths_raise (closed_state old) (closed_state new) name path before refl).1 step_is) refl
+
+-- counts that are the same don't fall
+pub none_falls : (old new : Registered) → SameCounts old new → NoneFalls old new
+none_falls old new same =
+    let encodings : new.work.encodings ≡ old.work.encodings = ap (λ (w : Work). w.encodings) same.0 in
+    let searches : new.work.searches ≡ old.work.searches = ap (λ (w : Work). w.searches) same.0 in
+    let settled : new.work.settled ≡ old.work.settled = ap (λ (w : Work). w.settled) same.0 in
+    let spared : new.spared ≡ old.spared = same.1 in
+    record {
+      work = record { encodings = omega arith; searches = omega arith; settled = omega arith };
+      spared = omega arith;
+    }
 
 -- a dropped path raises it by none
 drop_affects : (c : Content) (name : List ℕ) (p : Named) → ¬ Affects c (Drop_path name ∷ []) p
@@ -231,15 +245,14 @@ tallied_drop old new name was later same =
     (record {
       affected = 0;
       raises = none_counted (Affects c xs) (drop_affects c name) d.paths;
-      encodings = λ room. omega arith;
+      encodings = encodings;
       retained = 0;
       spares = none_counted (Retains c d xs) (λ p h. drop_affects c name p h.affected) d.paths;
-      spared = ((λ few. omega arith), omega arith);
+      spared = spared;
       queries = [];
       searches =
-          none_collected (EncodesAgain c d xs) (λ p. SearchedFor d.map p.path) (λ p h. drop_affects c name p h.0)
-          d.paths;
+          none_collected (EncodesAgain c d xs) (SearchesFor c d xs) (λ p h. drop_affects c name p h.0) d.paths;
       searched = record { searches = searches; settled = settled };
     })
-    (record { searches = omega arith; settled = omega arith; spared = omega arith })
+    (none_falls old new same)
     (λ off. same)

@@ -3,7 +3,7 @@ use Rattle.std.proofs.Common.{◌≡◌, Bool, true, false, not, List, [], Optio
 use Rattle.std.specs.List.{concat}
 use Rattle.olr_map.specs.RoadMaps.{map_of, map_before}
 use Rattle.olr_map.specs.declared.road_map.RoadMap.{RoadMap}
-use Rattle.olr_commands.specs.State.{Content, Change, State, when, is_recordable, Batch_open, Not_a_record, Memory, Dump}
+use Rattle.olr_commands.specs.State.{Content, State, when, is_recordable, Batch_open, Not_a_record, Memory, Dump}
 use Rattle.olr_commands.specs.State.{changes_made}
 use Rattle.olr_commands.specs.Reply as replies
 use Rattle.olr_commands.specs.Reply.{IsRefusal, ByState, Lacks, IsOutcome, may_want}

@@ -17,7 +17,7 @@ use Rattle.olr_commands.specs.declared.fault.CommandFault.{CommandFault}
 use Rattle.olr_register.specs.RegisterState.{RegisterState, Represents}
 use Rattle.olr_register.specs.Registered.{Registered}
 use Rattle.olr_register.specs.Answering.{Answered}
-use Rattle.olr_register.proofs.Counting.{raises_none, spares_none, searches_none, rises_none}
+use Rattle.olr_register.proofs.Counting.{raises_none, spares_none, searches_none}
 
 -- an accepted command that applies no change raises no count
 pub answered_uncounted : (old : Registered) (k : RegisterState) (c : Command) (r : Reply) →
@@ -26,12 +26,16 @@ pub answered_uncounted : (old : Registered) (k : RegisterState) (c : Command) (r
     Answered old c (Ok r) (record { kept = k; work = old.work; spared = old.spared })
 answered_uncounted old k c r none outcome = record {
   outcome = outcome;
-  counted = λ s t represents later. (0, raises_none s t c (none s represents), λ few. sym (add-zero _));
-  spares = λ s t represents later. (0, spares_none s t c (none s represents), rises_none old.spared);
+  counted = λ s t represents later. (0, raises_none s t c (none s represents), refl);
+  spares = λ s t represents later. (0, spares_none s t c (none s represents), refl);
   searches =
       λ s t represents later.
       ([], searches_none s t c (none s represents), record { searches = refl; settled = refl });
-  rises = record { searches = omega arith; settled = omega arith; spared = omega arith };
+  rises =
+      record {
+        work = record { encodings = omega arith; searches = omega arith; settled = omega arith };
+        spared = omega arith;
+      };
   same = λ e. (refl, refl);
   unchanged = tt;
 }

@@ -113,6 +113,17 @@ noted_plan M place e j t plan nodes lines with_change = record {
 
 -- ---- accepted
 
+-- what a renewal requires
+pub edit_before : (roads : RoadMap) (is : List Item) (b : Option Batch) (w : Tally) (x : Registered) (e : Edit) (N : Map)
+    (t : ChangeSet) → of_parts roads is b w ≡ x → x.kept.batch ≡ None → IsRegister roads is b
+    → edited (map_of roads) e ≡ Ok N → IsNotedOf (map_of roads) e t →
+    IsBefore (map_of roads) N (nodes_of t) (lines_of t) (changed_of t) is
+edit_before roads is b w x e N t view none right taken noted =
+    let was : IsRegister roads is None = subst (IsRegister roads is) (closed_by roads is b w x view none) right in
+    is_before (map_of roads) N (nodes_of t) (lines_of t) (changed_of t) is
+    (noted_edit (map_of roads) N e (nodes_of t) (lines_of t) (changed_of t) taken noted.nodes noted.lines noted.changed)
+    was.content.map was.content.paths (made_if_any (map_of roads) is was.made)
+
 module _ (roads later : RoadMap) (is js : List Item) (b : Option Batch) (w : Tally) (x : Registered) (e : Edit)
     (es : List returned.Entry)
     (view : of_parts roads is b w ≡ x) (none : x.kept.batch ≡ None) (right : IsRegister roads is b) (place : HasCoord e)
@@ -127,15 +138,6 @@ module _ (roads later : RoadMap) (is js : List Item) (b : Option Batch) (w : Tal
       (nodes : (v : ℕ) → has ns v ≡ has (touched_nodes (map_of roads) e) v)
       (lines : (y : ℕ) → has xs y ≡ has (touched_lines e) y)
       (changed_lines : cs ≡ changes_of (map_of roads) e) where
-    -- what a renewal requires
-    pub edit_before : (N : Map) → N ≡ map_of later → IsBefore (map_of roads) N ns xs cs is
-    edit_before N same =
-        subst (λ (M : Map). IsBefore (map_of roads) M ns xs cs is) (sym same)
-        (is_before (map_of roads) (map_of later) ns xs cs is
-        (noted_edit (map_of roads) (map_of later) e ns xs cs taken nodes lines changed_lines) was_right.content.map
-        was_right.content.paths
-        (made_if_any (map_of roads) is was_right.made))
-
     module _ (remade : AreRemade (map_of later) is js) (names : all_named js ≡ all_named is)
         (reported : Reported is js es) where
       all_renewed : RenewedAll (map_of roads) (map_of later) is js es
@@ -204,8 +206,11 @@ module _ (roads later : RoadMap) (is : List Item) (b : Option Batch) (w : Tally)
       (touched_lines e) (changes_of (map_of roads) e) (λ v. refl) (λ y. refl) refl none_remade refl none_reported
       w q (record { affected = 0; spared = 0; queries = [] }) says none_affected
       (record {
-        encodings = λ few. sym (add-zero _);
-        spared = ((λ few. omega arith), omega arith);
+        encodings = refl;
+        spared = refl;
         searched = record { searches = refl; settled = refl };
       })
-      (record { searches = omega arith; settled = omega arith; spared = omega arith })
+      (record {
+        work = record { encodings = omega arith; searches = omega arith; settled = omega arith };
+        spared = omega arith;
+      })

@@ -20,10 +20,11 @@ use Rattle.olr_commands.specs.declared.fault.CommandFault.TheVariants as fault
 use Rattle.olr_commands.specs.Counts.{SearchedFor}
 use Rattle.olr_commands.proofs.StateLemmas.{changes_keep}
 use Rattle.olr_paths.specs.Items.{Made, Item, IsEncodingOf, AreEncodings, all_named, answer_in}
-use Rattle.olr_paths.specs.Changes.{AreSearched, set_item}
+use Rattle.olr_paths.specs.Changes.{AreSearched, Rises, set_item}
 use Rattle.olr_register.specs.Registered.{Registered}
 use Rattle.olr_register.specs.Holding.{IsRegister}
 use Rattle.olr_register.specs.Answering.{Answered}
+use Rattle.olr_refs.specs.Choice.{raised_count}
 use Rattle.olr_register.specs.Sparing.{NoneFalls}
 use Rattle.olr_register.specs.declared.batch.Batch.{Batch}
 use Rattle.olr_register.proofs.Tallies.{Tally, of_parts}
@@ -155,9 +156,9 @@ module _ (roads : RoadMap) (is : List Item) (b : Option Batch) (w : Tally) (x : 
 
   -- ---- added and replaced
 
-  none_fall : (js : List Item) (w u : Tally) → w.work.searches ≤ u.work.searches → w.work.settled ≤ u.work.settled →
-      u.spared ≡ w.spared → NoneFalls (of_parts roads is None w) (of_parts roads js None u)
-  none_fall js w u searches settled kept = record { searches = searches; settled = settled; spared = omega arith }
+  none_fall : (js : List Item) (w u : Tally) → Rises w.work u.work → u.spared ≡ w.spared →
+      NoneFalls (of_parts roads is None w) (of_parts roads js None u)
+  none_fall js w u rises kept = record { work = rises; spared = omega arith }
 
   module _ (path : Path) (m : Made) (good : IsTrue (is_path path.lines))
       (encoded : IsEncodingOf (map_of roads) path m) where
@@ -181,11 +182,10 @@ module _ (roads : RoadMap) (is : List Item) (b : Option Batch) (w : Tally) (x : 
     pub add_done : (target : Path) (js : List Item) (u : Tally) (q : Reply) (es : List returned.Entry) → path ≡ target →
         has_path x.kept.content name ≡ false → js ≡ list_added → reply_of q ≡ returned.Paths es →
         es ≡ entry name m.answer ∷ []
-        → (w.work.encodings + 1 < 2 ^ 64 → u.work.encodings ≡ w.work.encodings + 1)
-        → w.work.searches ≤ u.work.searches → w.work.settled ≤ u.work.settled → u.spared ≡ w.spared
+        → u.work.encodings ≡ raised_count w.work.encodings 1 → Rises w.work u.work → u.spared ≡ w.spared
         → (queries : List CoverageQuery) → SearchedFor (map_of roads) path queries →
         AreSearched (map_of roads) queries w.work u.work → Answered x (Make (Add_path name target)) (Ok q) (of_parts roads js b u)
-    add_done target js u q es along free same says listed counts searches settled kept queries made searched =
+    add_done target js u q es along free same says listed counts rises kept queries made searched =
         subst (λ (p : Path). Answered x (Make (Add_path name p)) (Ok q) (of_parts roads js b u)) along
         (subst (λ (ks : List Item). Answered x (Make (Add_path name path)) (Ok q) (of_parts roads ks b u)) (sym same)
         (reach roads is list_added b w u x (Make (Add_path name path)) q view was_closed
@@ -195,7 +195,7 @@ module _ (roads : RoadMap) (is : List Item) (b : Option Batch) (w : Tally) (x : 
         listed)
         (tallied_add (of_parts roads is None w) (of_parts roads list_added None u) name path queries was_right.content
         refl refl (is_added free) made searched counts kept
-        (none_fall list_added w u searches settled kept)))))
+        (none_fall list_added w u rises kept)))))
 
     abbrev list_set : List Item
     list_set = map (set_item name path (Some m)) is
@@ -218,11 +218,10 @@ module _ (roads : RoadMap) (is : List Item) (b : Option Batch) (w : Tally) (x : 
         has_path x.kept.content name ≡ true → js ≡ list_set → reply_of q ≡ returned.Paths es
         → ((answer_in is name ≡ Some m.answer) × (es ≡ []))
         ⊎ ((answer_in is name ≢ Some m.answer) × (es ≡ entry name m.answer ∷ []))
-        → (w.work.encodings + 1 < 2 ^ 64 → u.work.encodings ≡ w.work.encodings + 1)
-        → w.work.searches ≤ u.work.searches → w.work.settled ≤ u.work.settled → u.spared ≡ w.spared
+        → u.work.encodings ≡ raised_count w.work.encodings 1 → Rises w.work u.work → u.spared ≡ w.spared
         → (queries : List CoverageQuery) → SearchedFor (map_of roads) path queries →
         AreSearched (map_of roads) queries w.work u.work → Answered x (Make (Set_path name target)) (Ok q) (of_parts roads js b u)
-    set_done target js u q es along taken same says listed counts searches settled kept queries made searched =
+    set_done target js u q es along taken same says listed counts rises kept queries made searched =
         subst (λ (p : Path). Answered x (Make (Set_path name p)) (Ok q) (of_parts roads js b u)) along
         (subst (λ (ks : List Item). Answered x (Make (Set_path name path)) (Ok q) (of_parts roads ks b u)) (sym same)
         (reach roads is list_set b w u x (Make (Set_path name path)) q view was_closed
@@ -232,4 +231,4 @@ module _ (roads : RoadMap) (is : List Item) (b : Option Batch) (w : Tally) (x : 
         listed)
         (tallied_set (of_parts roads is None w) (of_parts roads list_set None u) name path queries was_right.content
         refl refl (is_set taken) made searched counts kept
-        (none_fall list_set w u searches settled kept)))))
+        (none_fall list_set w u rises kept)))))

@@ -2,7 +2,7 @@
 use Rattle.std.proofs.Common.{ℕ, List, Option}
 use Rattle.std.specs.Prelude.{is_some, IsFalse}
 use Rattle.olr_map.specs.declared.road_map.RoadMap.{RoadMap}
-use Rattle.olr_route.specs.declared.work.Work.{Work}
+use Rattle.olr_search.specs.declared.work.Work.{Work}
 use Rattle.olr_commands.specs.State.{Command}
 use Rattle.olr_register.specs.Registered.{Registered, Counted}
 use Rattle.olr_paths.specs.Items.{Item}

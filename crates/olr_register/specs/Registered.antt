@@ -11,7 +11,8 @@ use Rattle.std.specs.Prelude.{◌≡◌, ℕ, ◌+◌, ◌<◌, ◌^◌, List, O
 use Rattle.std.specs.Coded.{Coded, code_by, coded_ℕ, coded×}
 use Rattle.std.proofs.Common.{refl}
 use Rattle.olr_spec.specs.Map.{Map}
-use Rattle.olr_route.specs.declared.work.Work.{Work}
+use Rattle.olr_search.specs.declared.work.Work.{Work}
+use Rattle.olr_refs.specs.Choice.{raised_count}
 use Rattle.olr_commands.specs.State.{State, Content, Named, no_content, path_named, Command}
 use Rattle.olr_commands.specs.Reply.{Outcome, IsOutcome}
 use Rattle.olr_commands.specs.Counts.{Raises}
@@ -61,8 +62,8 @@ AllPublished c xs = HaveEncodings c.map c.paths xs
 abbrev pub Applied : Registered → Command → Outcome → Registered → Type 0
 Applied old c o new = (s : State) → Represents old.kept s → (t : State) × Represents new.kept t × IsOutcome s c o t
 
--- for each two states of such a step: the number of encodings by which it raises the count, unless 64 bits overflow
+-- for each two states of such a step: the number of encodings by which it raises the count, which saturates at 64 bits
 abbrev pub Counted : Registered → Command → Registered → Type 0
 Counted old c new =
     (s t : State) → Represents old.kept s → Represents new.kept t → (n : ℕ) × Raises s c t n
-    × (old.work.encodings + n < 2 ^ 64 → new.work.encodings ≡ old.work.encodings + n)
+    × (new.work.encodings ≡ raised_count old.work.encodings n)

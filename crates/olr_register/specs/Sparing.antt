@@ -8,8 +8,9 @@
 use Rattle.std.specs.Prelude.{◌≡◌, ℕ, ◌≤◌, List, Bool, true, false}
 use Rattle.olr_spec.specs.Queries.{CoverageQuery}
 use Rattle.olr_commands.specs.State.{State, On_map, Add_path, Set_path, Command, Make, Commit}
-use Rattle.olr_commands.specs.Counts.{Spares, RisesBy, Searches}
-use Rattle.olr_paths.specs.Changes.{AreSearched}
+use Rattle.olr_commands.specs.Counts.{Spares, Searches}
+use Rattle.olr_refs.specs.Choice.{raised_count}
+use Rattle.olr_paths.specs.Changes.{AreSearched, Rises}
 use Rattle.olr_register.specs.RegisterState.{Represents}
 use Rattle.olr_register.specs.Registered.{Registered}
 
@@ -23,7 +24,7 @@ encodes _ _ = false
 abbrev pub SparesCounted : Registered → Command → Registered → Type 0
 SparesCounted old c new =
     (s t : State) → Represents old.kept s → Represents new.kept t → (n : ℕ) × Spares s c t n
-    × RisesBy old.spared n new.spared
+    × (new.spared ≡ raised_count old.spared n)
 
 abbrev pub SearchesCounted : Registered → Command → Registered → Type 0
 SearchesCounted old c new =
@@ -31,8 +32,7 @@ SearchesCounted old c new =
     × Searches s c t queries × AreSearched t.content.map queries old.work new.work
 
 pub record NoneFalls (old new : Registered) : Type 0 where
-  pub searches : old.work.searches ≤ new.work.searches
-  pub settled : old.work.settled ≤ new.work.settled
+  pub work : Rises old.work new.work
   pub spared : old.spared ≤ new.spared
 
 abbrev pub SameCounts : Registered → Registered → Type 0

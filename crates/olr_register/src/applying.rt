@@ -58,6 +58,10 @@ impl Register {
     /// once, and the reply has the paths that are new or have another answer than before. After a fault, map, paths,
     /// answers, texts, counts and an open batch are unchanged. `Memory` is returned only if no fault takes precedence
     /// over it.
+    ///
+    /// The counts say exactly how many paths are affected, how many of these retain their answer, and for which coverage
+    /// queries of the others searches are made: all those of a path that the command adds or replaces, and of other
+    /// paths those that are not known from the map before.
     pub fn apply(&mut self, command: Command) -> Result<Reply, CommandFault>
         ensures outcome { Applied self.old (command_of command) (outcome_of result) self.new }
         ensures counted { OnOk result (Counted self.old (command_of command) self.new) }

@@ -5,7 +5,7 @@ use olr_map::RoadMap;
 use olr_near::DistanceBounds;
 use olr_paths::{ChangeSet, Iter, PathList, Searches};
 use olr_refs::Answer;
-use olr_route::Work;
+use olr_search::Work;
 use std::alloc::Global;
 use std::marker::Model;
 

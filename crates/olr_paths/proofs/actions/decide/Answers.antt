@@ -1,9 +1,9 @@
-use Rattle.std.proofs.Common.{◌≡◌, true, false, IsTrue, ◌↔◌, inr, Option, ap, sym, subst}
+use Rattle.std.proofs.Common.{◌≡◌, true, false, IsTrue, ◌↔◌, inr, Option, ap, subst}
 use Rattle.std.specs.Prelude.{option_map, IfSome}
 use Rattle.olr_spec.specs.Extension.{Path}
 use Rattle.olr_paths.specs.Items.{Made, made_of}
-use Rattle.olr_paths.specs.Changes.{Touches, TraversedTouched, LineTouched}
-use Rattle.olr_paths.specs.Searching.{IsReached, ReachesQueries}
+use Rattle.olr_paths.specs.Changes.{Touches}
+use Rattle.olr_paths.specs.Searching.{IsReached}
 use Rattle.olr_paths.specs.Touching.{nodes_of, lines_of, changed_of}
 use Rattle.olr_paths.specs.Renewing.{Stays}
 use Rattle.olr_paths.proofs.actions.decide.Goals as goal
@@ -36,8 +36,7 @@ is_unchanged-requires-clause-reached g c =
     let reached : IsReached N T X C c.args.asked path m =
     subst (λ (o : Option Made). IfSome o (IsReached N T X C c.args.asked path))
     (ap (option_map (λ p. made_of p.now)) c.in-Some.is) c.requires.reached in
-    subst (λ (P : Path). ¬ TraversedTouched T m → ¬ LineTouched X P → ReachesQueries C c.args.asked m)
-    (sym c.deref-2.ensures) (reached (iff.0 on))
+    reached (iff.0 on)
 
 pub returns : goal.returns
 returns g c =

@@ -11,9 +11,7 @@ pub are_clear-requires-clause-within : goal.are_clear-requires-clause-within
 are_clear-requires-clause-within g c =
     let t = c.args.touched.now in
     let m = made_of c.args.published.now in
-    let none : (¬ TraversedTouched (nodes_of t) m) × (¬ LineTouched (lines_of t) c.args.path.now) = search rules in
-    let far = subst (λ (o : Option ℕ). ReachesQueries (changed_of t) o m) c.in-Some.is (c.requires.reached none.0 none.1)
-    in
+    let far = subst (λ (o : Option ℕ). ReachesQueries (changed_of t) o m) c.in-Some.is c.requires.reached in
     λ l on. far l (subst (λ (ls : List CoverageQuery). Contains ls l) c.deref.ensures.value on)
 
 pub returns-in-Some : goal.returns-in-Some

@@ -3,7 +3,7 @@ use Rattle.olr_spec.specs.Queries.{CoverageQuery}
 use Rattle.olr_paths.proofs.asked.longest_asked.Goals as goal
 
 pub returns : goal.returns
-returns g c = λ touched nodes lines. (
+returns g c = λ touched. (
   c.longest_of.result,
   refl,
   λ l on. c.longest_of.ensures l

@@ -1,5 +1,5 @@
 use Rattle.std.proofs.Common.{◌∙◌, ap}
-use Rattle.olr_route.specs.declared.frontier.Reached.{Reached}
+use Rattle.olr_search.specs.declared.frontier.Reached.{Reached}
 use Rattle.olr_paths.proofs.Covering.{put_all_none, put_all_more, put_all_end}
 use Rattle.olr_paths.proofs.candidates.put_reached.Goals as goal
 

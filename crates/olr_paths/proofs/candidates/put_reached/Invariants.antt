@@ -1,5 +1,5 @@
 use Rattle.std.proofs.Common.{take}
-use Rattle.olr_route.specs.declared.frontier.Reached.{Reached}
+use Rattle.olr_search.specs.declared.frontier.Reached.{Reached}
 use Rattle.olr_paths.proofs.Covering.{PutAll}
 use Rattle.olr_paths.proofs.candidates.put_reached.Given as goal
 

@@ -1,7 +1,7 @@
 use Rattle.std.proofs.Common.{◌≡◌, true, ℕ, All, refl}
 use Rattle.std.proofs.lemmas.List.Elements.{All-contains}
-use Rattle.olr_route.specs.declared.frontier.Reached.{Reached}
-use Rattle.olr_route.specs.declared.distances.Direction.TheVariants.{Against}
+use Rattle.olr_search.specs.declared.frontier.Reached.{Reached}
+use Rattle.olr_search.specs.declared.distances.Direction.TheVariants.{Against}
 use Rattle.olr_paths.specs.Searching.{sources}
 use Rattle.olr_paths.specs.Touching.{nodes_of, lines_of}
 use Rattle.olr_paths.specs.Candidates.{Finds, AreFound}

@@ -1,6 +1,6 @@
 use Rattle.std.proofs.Common.{◌≡◌, ℕ, ◌≤◌, List, sym, ap, subst, arith, IsTrue}
-use Rattle.olr_route.specs.declared.distances.Direction.TheVariants.{Along, Against}
-use Rattle.olr_route.specs.Searches.{limit_of}
+use Rattle.olr_search.specs.declared.distances.Direction.TheVariants.{Along, Against}
+use Rattle.olr_search.specs.Searches.{limit_of}
 use Rattle.olr_paths.specs.Touching.{changed_of}
 use Rattle.olr_spec.specs.Map.{has_node}
 use Rattle.olr_spec.specs.Queries.{CoverageQuery}

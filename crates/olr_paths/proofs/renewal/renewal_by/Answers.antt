@@ -1,12 +1,13 @@
-use Rattle.std.proofs.Common.{inl, inr, ◌≡◌, ◌<◌, ◌≤◌, ℕ, List, Some, length, get_or, slice_get, ap, subst}
+use Rattle.std.proofs.Common.{inl, inr, ◌≡◌, ◌<◌, ◌≤◌, ℕ, List, Some, length, get_or, slice_get, sym, ap, subst}
 use Rattle.std.proofs.lemmas.Option.{slice_get_within}
+use Rattle.olr_spec.specs.Queries.{AreKnown}
 use Rattle.olr_paths.specs.Items.{Item, items, made_of}
 use Rattle.olr_paths.specs.Searching.{IsAsked}
 use Rattle.olr_paths.specs.Touching.{nodes_of, lines_of, changed_of}
-use Rattle.olr_paths.specs.Renewing.{IsStep}
+use Rattle.olr_paths.specs.Renewing.{Gives, IsStep}
 use Rattle.olr_paths.specs.Showing.{shown_items, shown_item}
 use Rattle.olr_paths.proofs.AskedLemmas.{listed_at, made_if}
-use Rattle.olr_paths.proofs.RenewedPrefix.{SoFar, Whole, so_far_none, so_far_step, whole}
+use Rattle.olr_paths.proofs.RenewedPrefix.{SoFar, so_far_none, so_far_step, whole}
 use Rattle.olr_paths.proofs.Covering.{passed_none, passed_over, passed_to, to_candidate, to_end, past_end}
 use Rattle.olr_paths.proofs.renewal.renewal_by.Goals as goal
 
@@ -23,6 +24,25 @@ pub decide-action-requires-clause-reached : goal.decide-action-requires-clause-r
 decide-action-requires-clause-reached g c =
     c.requires.reached (shown_item c.in-Some.shown)
     (listed_at (shown_items c.args.overlaid) _ (shown_item c.in-Some.shown) c.in-Some.ensures.shown)
+
+pub known_for-requires-clause-reached : goal.known_for-requires-clause-reached
+known_for-requires-clause-reached g c =
+    c.requires.reached (shown_item c.in-Some.shown)
+    (listed_at (shown_items c.args.overlaid) _ (shown_item c.in-Some.shown) c.in-Some.ensures.shown)
+
+pub known_for-requires-clause-before : goal.known_for-requires-clause-before
+known_for-requires-clause-before g c =
+    let is = shown_items c.args.overlaid in
+    let b = c.requires.before in
+    (b.0, is, listed_at is _ (shown_item c.in-Some.shown) c.in-Some.ensures.shown, b.1)
+
+pub advance-requires : goal.advance-requires
+advance-requires g c =
+    record {
+      known =
+          subst (AreKnown (g.M.MapRead.map c.args.map.now) (shown_item c.in-Some.shown).path.lines)
+          (sym c.deref.ensures.value) c.in_ok-known.ensures.known;
+    }
 
 pub loop-candidate-init : goal.loop-candidate-init
 loop-candidate-init g c = (
@@ -82,61 +102,30 @@ loop-candidate-preserved g c =
     c.loop-candidate.renewal c.loop-candidate.counted k next position c.requires.ascending c.loop-candidate.invariant.1
     is_there lt within le c.loop-candidate.invariant.0 in
     let step : IsStep N T X C before i position c.loop-candidate.renewal c.advance.new.self c.loop-candidate.counted
-    c.advance.new.counted = c.in_ok-advance.ensures T X C c.decide-action.ensures in (
+    c.advance.new.counted =
+    c.in_ok-advance.ensures T X C
+    (λ e. subst (Gives N C i.made) (sym c.deref.ensures.value) (c.in_ok-known.ensures.given e)) c.decide-action.ensures
+    in (
       so_far_step N sound T X C before is position i c.requires.follows at c.args.counted.now c.loop-candidate.renewal
           c.advance.new.self c.loop-candidate.counted c.advance.new.counted so_far step,
       passed_to found (length is) k next position c.loop-candidate.invariant.1 is_there le within,
     )
 
-end : (g : _) (c : goal.After-loop-candidate g) →
-    SoFar (g.M.MapRead.map c.args.map.now) (nodes_of c.args.touched.now) (lines_of c.args.touched.now)
-    (changed_of c.args.touched.now) (items c.args.before.now) (shown_items c.args.overlaid)
-    (length (shown_items c.args.overlaid)) c.loop-candidate.renewal c.args.counted.now c.loop-candidate.counted
-end g c =
+pub returns : goal.returns
+returns g c =
     let N = g.M.MapRead.map c.args.map.now in
-    let T = nodes_of c.args.touched.now in
-    let X = lines_of c.args.touched.now in
-    let C = changed_of c.args.touched.now in
+    let t = c.args.touched.now in
     let before = items c.args.before.now in
     let is = shown_items c.args.overlaid in
     let found = c.args.asked.now.found.items in
     let past : length found ≤ c.loop-candidate.candidate-index =
     subst (λ (xs : List ℕ). length xs ≤ c.loop-candidate.candidate-index) c.deref-candidate-items.ensures.value
     c.loop-candidate-test.false in
-    to_end N (g.met.M.MapRead.sound c.args.map.now) T X C before is found c.requires.follows c.requires.covers
-    c.args.counted.now c.loop-candidate.renewal c.loop-candidate.counted c.loop-candidate.candidate-index
-    c.loop-candidate.next past c.loop-candidate.invariant.1 c.loop-candidate.invariant.0
-
-done : (g : _) (c : goal.After-loop-candidate g) →
-    Whole (g.M.MapRead.map c.args.map.now) (nodes_of c.args.touched.now) (lines_of c.args.touched.now)
-    (changed_of c.args.touched.now) (items c.args.before.now) (shown_items c.args.overlaid) c.loop-candidate.renewal
-    c.args.counted.now c.loop-candidate.counted
-done g c =
-    let N = g.M.MapRead.map c.args.map.now in
-    let T = nodes_of c.args.touched.now in
-    let X = lines_of c.args.touched.now in
-    let C = changed_of c.args.touched.now in
-    let before = items c.args.before.now in
-    let is = shown_items c.args.overlaid in
-    whole N T X C before is c.loop-candidate.renewal c.args.counted.now c.loop-candidate.counted (end g c)
-
-pub returns-clause-renewed : goal.returns-clause-renewed
-returns-clause-renewed g c = (done g c).remade
-
-pub returns-clause-named : goal.returns-clause-named
-returns-clause-named g c = (done g c).names
-
-pub returns-clause-reported : goal.returns-clause-reported
-returns-clause-reported g c = (done g c).reported
-
-pub returns-clause-counted : goal.returns-clause-counted
-returns-clause-counted g c = (done g c).counted
-
-pub returns-clause-searches : goal.returns-clause-searches
-returns-clause-searches g c = c.loop-candidate.invariant.0.ascends.searches
-
-pub returns-clause-settled : goal.returns-clause-settled
-returns-clause-settled g c = c.loop-candidate.invariant.0.ascends.settled
-
-pub returns-clause-kept : goal.returns-clause-kept
-returns-clause-kept g c = c.loop-candidate.invariant.0.ascends.kept
+    record {
+      renewed =
+          whole N t before is c.loop-candidate.renewal c.args.counted.now c.loop-candidate.counted c.requires.before
+          (to_end N (g.met.M.MapRead.sound c.args.map.now) (nodes_of t) (lines_of t) (changed_of t) before is found
+          c.requires.follows c.requires.covers c.args.counted.now c.loop-candidate.renewal c.loop-candidate.counted
+          c.loop-candidate.candidate-index c.loop-candidate.next past c.loop-candidate.invariant.1
+          c.loop-candidate.invariant.0);
+    }

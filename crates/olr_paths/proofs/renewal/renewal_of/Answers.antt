@@ -12,6 +12,7 @@ use Rattle.olr_spec.proofs.OptionLemmas.{none_of}
 use Rattle.olr_paths.proofs.Covering.{past_end}
 use Rattle.olr_paths.proofs.AskedLemmas.{asked_again}
 use Rattle.olr_paths.proofs.RenewedPrefix.{whole, so_far_all}
+use Rattle.olr_paths.proofs.Raising.{kept_up, work_up}
 use Rattle.olr_paths.proofs.renewal.renewal_of.Goals as goal
 
 pub renewal_by-requires-clause-asked : goal.renewal_by-requires-clause-asked
@@ -35,19 +36,27 @@ returns-then-is_none g c =
     ∙ ap (option_map shown_item) (none_of c.at.result c.if-is_none.ensures)) in omega arith in
     let r : Renewal = record { fresh = c.new.result; entries = c.new-then-is_none.result } in
     let counted : Counted = record { work = c.args.work.now; kept = c.args.kept.now } in
-    let w =
-    whole N T X C before is r counted counted
-    (so_far_all N T X C before is r counted none c.new.ensures.items c.new-then-is_none.ensures.items) in
     record {
-      renewed = w.remade;
-      named = w.names;
-      reported = w.reported;
-      counted = w.counted;
-      searches = omega arith;
-      settled = omega arith;
+      renewed =
+          whole N c.args.touched.now before is r counted counted c.requires.before
+          (so_far_all N T X C before is r counted none c.new.ensures.items c.new-then-is_none.ensures.items);
+      rises = record { encodings = omega arith; searches = omega arith; settled = omega arith };
       kept = omega arith;
       new_origins = λ v b. absurd (subst (λ (es : List (ℕ × NamedPath)). BeginsPut (puts_of es) v) c.new.ensures.items
           b);
       err_work = tt;
       err_kept = tt;
     }
+
+pub returns-clause-rises : goal.returns-clause-rises
+returns-clause-rises g c =
+    let b = c.requires.before in
+    let t = c.in_ok-renewal.ensures.renewed.counted b.0 b.1 in
+    work_up (g.M.MapRead.map c.args.map.now) t.0.queries t.0.affected c.args.work.now c.renewal_by.new.counted.work
+    c.have_64_bits.ensures t.2.encodings t.2.searched
+
+pub returns-clause-kept : goal.returns-clause-kept
+returns-clause-kept g c =
+    let b = c.requires.before in
+    let t = c.in_ok-renewal.ensures.renewed.counted b.0 b.1 in
+    kept_up c.args.kept.now c.renewal_by.new.counted.kept t.0.spared (omega arith) t.2.spared

@@ -1,7 +1,7 @@
 use Rattle.std.proofs.Common.{arith, sym, ◌∙◌, subst}
 use Rattle.std.proofs.lemmas.Iterator.Adapters.{YieldsList-from_vec}
 use Rattle.std.proofs.lemmas.Iterator.Consumers.{YieldsList-end}
-use Rattle.olr_commands.specs.State.{IsContent, start_state}
+use Rattle.olr_commands.specs.State.{start_state}
 use Rattle.olr_commands.specs.Reply.{IsOutcome}
 use Rattle.olr_commands.proofs.HistoryLemmas.{SoundOutcome, run_each, headline_of_outcomes, start_sound}
 use Rattle.olr_register.proofs.Runs.{HasRun, map_same, run_starts, sound_at_start, run_continues}

@@ -1,4 +1,4 @@
-use Rattle.std.proofs.Common.{◌≡◌, ◌<◌, List, [], ℕ, length, sym, arith}
+use Rattle.std.proofs.Common.{◌<◌, List, [], length, sym, arith}
 use Rattle.std.proofs.lemmas.List.{length-map}
 use Rattle.olr_commands.specs.Recordable.{is_name}
 use Rattle.olr_commands.specs.State.{Named}

@@ -1,4 +1,4 @@
-use Rattle.std.proofs.Common.{◌≡◌, refl, sym, arith}
+use Rattle.std.proofs.Common.{refl, sym, arith}
 use Rattle.olr_map.specs.RoadMaps.{map_of}
 use Rattle.olr_register.proofs.DumpTexts.{not_by_node, by_nodes}
 use Rattle.olr_register.proofs.dumps.is_recordable_map.Goals as goal
@@ -10,7 +10,7 @@ returns-then-not-is_recordable_slot c =
 
 pub returns : goal.returns
 returns c =
-    let kept = c.args.roads.now.tables.kept in
+    let kept = c.args.roads.now.kept in
     sym (by_nodes (map_of c.args.roads.now) kept.sound
     (λ v there. c.loop-slot.invariant v there
     (omega (arith, kept.placed.below v there, c.slot_count-slot-end.ensures, c.loop-slot-test.false))))

@@ -7,6 +7,9 @@ use Rattle.olr_commands.specs.Words.{entry_of}
 use Rattle.olr_paths.specs.Items.{Made, Item, items, made_of}
 use Rattle.olr_paths.specs.Origins.{Begins}
 use Rattle.olr_paths.proofs.OriginLemmas.{begins_add}
+use Rattle.olr_spec.proofs.KnownLemmas.{none_known}
+use Rattle.olr_paths.proofs.GivenQueries.{searched_from_none}
+use Rattle.olr_paths.proofs.Raising.{work_up}
 use Rattle.olr_paths.proofs.path_list.PathList.add.Goals as goal
 
 so_on_err : {T E A : Type 0} (r : Result T E) → A → OnErr r A
@@ -37,18 +40,17 @@ returns-clause-added g c =
 pub returns-clause-counted : goal.returns-clause-counted
 returns-clause-counted g c = c.in_ok-published.ensures.counted
 
-pub returns-clause-searches : goal.returns-clause-searches
-returns-clause-searches g c = c.in_ok-published.ensures.searches
-
 pub returns-clause-searched : goal.returns-clause-searched
-returns-clause-searched g c = (
-  (made_of c.in_ok-published.published).queries,
-  c.in_ok-published.ensures.made.queries,
-  c.in_ok-published.ensures.searched,
-)
+returns-clause-searched g c =
+    let s = c.in_ok-published.ensures.searched in (
+      s.0,
+      searched_from_none (g.M.MapRead.map c.args.map.now) (g.met.M.MapRead.sound c.args.map.now) c.args.path
+          c.publish.ensures.path (made_of c.in_ok-published.published) s.0 c.in_ok-published.ensures.made s.1,
+      s.2,
+    )
 
-pub returns-clause-settled : goal.returns-clause-settled
-returns-clause-settled g c = c.in_ok-published.ensures.settled
+pub publish-requires : goal.publish-requires
+publish-requires g c = record { known = none_known (g.M.MapRead.map c.args.map.now) c.args.path.lines }
 
 pub returns-in_err-put_last-clause-err_work : goal.returns-in_err-put_last-clause-err_work
 returns-in_err-put_last-clause-err_work g c = so_on_err c.from_residual-in_err-put_last.result refl
@@ -71,3 +73,9 @@ returns-clause-new_origins g c = λ v h.
       | inr b ↦ inr (c.in_ok-note_queries.ensures.queries v
           (subst (λ (ls : List CoverageQuery). Contains ls v) (sym c.deref.ensures.value) b))
     ]
+
+pub returns-clause-rises : goal.returns-clause-rises
+returns-clause-rises g c =
+    let s = c.in_ok-published.ensures.searched in
+    work_up (g.M.MapRead.map c.args.map.now) s.0 1 c.args.work.now c.publish.new.work c.have_64_bits.ensures
+    c.in_ok-published.ensures.counted s.2

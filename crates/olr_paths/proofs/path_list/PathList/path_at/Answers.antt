@@ -1,6 +1,4 @@
-use Rattle.std.proofs.Common.{◌∙◌, ap, sym, Some, List, ℕ}
-use Rattle.olr_spec.specs.Extension.{Path}
-use Rattle.olr_commands.specs.State.{Named}
+use Rattle.std.proofs.Common.{◌∙◌, sym, Some}
 use Rattle.olr_paths.proofs.NamedEntries.{path_at}
 use Rattle.olr_paths.proofs.path_list.PathList.path_at.Goals as goal
 

@@ -1,15 +1,13 @@
 use Rattle.std.proofs.Common.{Bor, ◌≡◌, ◌++◌, ◌∙◌, List, Option, Some, None, map, inl, inr, refl, ap, sym, subst}
 use Rattle.std.proofs.Common.{unwrap_or}
 use Rattle.std.specs.Prelude.{option_map}
-use Rattle.olr_spec.specs.Map.{Map}
 use Rattle.olr_commands.specs.Reply.{Entry}
 use Rattle.olr_commands.specs.Words.{entry_of}
-use Rattle.olr_paths.specs.Items.{Item, items, all_named}
+use Rattle.olr_paths.specs.Items.{Item, items}
 use Rattle.olr_paths.specs.Origins.{Begins}
-use Rattle.olr_paths.specs.Changes.{Reported, IsBefore, AreRemade}
-use Rattle.olr_paths.specs.Touching.{nodes_of, lines_of, changed_of}
+use Rattle.olr_paths.specs.Changes.{Reported}
 use Rattle.olr_paths.specs.Laying.{TakesNone, overlay_changes, under_overlay}
-use Rattle.olr_paths.specs.Renewing.{all_put, puts_of, after_renewal}
+use Rattle.olr_paths.specs.Renewing.{all_put, puts_of, after_renewal, IsRenewal}
 use Rattle.olr_paths.specs.declared.path_list.PathList.{PathList}
 use Rattle.olr_paths.specs.declared.overlay.Overlay.{Overlay}
 use Rattle.olr_paths.specs.declared.renewal.Renewal.{Renewal}
@@ -38,7 +36,7 @@ pub returns-clause-new_origins : goal.returns-clause-new_origins
 returns-clause-new_origins g c = λ v h.
     let same =
     renewed (items c.unwrap_or.result.now) (items c.args.self.now) c.args.overlay.now c.in_ok-fresh.field-0
-    (items c.put_in.new.list) c.requires.keeps c.in_ok-fresh.ensures.reported c.in_ok-put_in.ensures.ok in
+    (items c.put_in.new.list) c.requires.keeps c.in_ok-fresh.ensures.renewed.reported c.in_ok-put_in.ensures.ok in
     elim (begins_all_put (under_overlay (items c.args.self.now) c.args.overlay.now)
     (puts_of c.in_ok-fresh.field-0.fresh.items) v (subst (λ (is : List Item). Begins is v) same h)) [
       | inl a ↦ inl a
@@ -49,31 +47,16 @@ pub returns-clause-renewed : goal.returns-clause-renewed
 returns-clause-renewed g c =
     let same =
     renewed (items c.unwrap_or.result.now) (items c.args.self.now) c.args.overlay.now c.in_ok-fresh.field-0
-    (items c.put_in.new.list) c.requires.keeps c.in_ok-fresh.ensures.reported c.in_ok-put_in.ensures.ok in
+    (items c.put_in.new.list) c.requires.keeps c.in_ok-fresh.ensures.renewed.reported c.in_ok-put_in.ensures.ok in
     let N = g.M.MapRead.map c.args.map.now in
-    let t = c.args.touched.now in
-    let overlaid = under_overlay (items c.args.self.now) c.args.overlay.now in
-    subst (λ (js : List Item). (L : Map) → IsBefore L N (nodes_of t) (lines_of t) (changed_of t) overlaid →
-    AreRemade N overlaid js) (sym same) c.in_ok-fresh.ensures.renewed
-
-pub returns-clause-named : goal.returns-clause-named
-returns-clause-named g c =
-    let same =
-    renewed (items c.unwrap_or.result.now) (items c.args.self.now) c.args.overlay.now c.in_ok-fresh.field-0
-    (items c.put_in.new.list) c.requires.keeps c.in_ok-fresh.ensures.reported c.in_ok-put_in.ensures.ok in
-    ap all_named same ∙ c.in_ok-fresh.ensures.named
-
-pub returns-clause-reported : goal.returns-clause-reported
-returns-clause-reported g c =
-    let same =
-    renewed (items c.unwrap_or.result.now) (items c.args.self.now) c.args.overlay.now c.in_ok-fresh.field-0
-    (items c.put_in.new.list) c.requires.keeps c.in_ok-fresh.ensures.reported c.in_ok-put_in.ensures.ok in
     let es : List Entry = map entry_of c.in_ok-fresh.field-0.entries.items in
-    let returned : Reported (items c.unwrap_or.result.now) (items c.put_in.new.list) es =
-    subst (λ (js : List Item). Reported (items c.unwrap_or.result.now) js es) (sym same)
-    c.in_ok-fresh.ensures.reported in
-    subst (λ (before : List Item). Reported before (items c.put_in.new.list) es)
-    (ap (λ (b : Bor PathList). items b.now) c.unwrap_or.ensures ∙ before_is c.args.before _) returned
+    let overlaid = under_overlay (items c.args.self.now) c.args.overlay.now in
+    subst (λ (before : List Item). IsRenewal N c.args.touched.now before overlaid (items c.put_in.new.list) es
+    c.args.work.now c.renewal_of.new.work c.args.kept.now c.renewal_of.new.kept)
+    (ap (λ (b : Bor PathList). items b.now) c.unwrap_or.ensures ∙ before_is c.args.before _)
+    (subst (λ (js : List Item). IsRenewal N c.args.touched.now (items c.unwrap_or.result.now) overlaid js es
+    c.args.work.now c.renewal_of.new.work c.args.kept.now c.renewal_of.new.kept) (sym same)
+    c.in_ok-fresh.ensures.renewed)
 
 pub put_in-requires : goal.put_in-requires
 put_in-requires g c =
@@ -87,12 +70,12 @@ invariant_of-self g c =
     let es : List Entry = map entry_of c.in_ok-fresh.field-0.entries.items in
     let same =
     renewed before (items c.args.self.now) c.args.overlay.now c.in_ok-fresh.field-0 (items l) c.requires.keeps
-    c.in_ok-fresh.ensures.reported c.in_ok-put_in.ensures.ok in
+    c.in_ok-fresh.ensures.renewed.reported c.in_ok-put_in.ensures.ok in
     record {
       long = l.long;
       ascend = l.ascend;
       noted = l.noted;
       encoded =
           λ _. all_encoded before l.paths.entries es
-          (subst (λ (is : List Item). Reported before is es) (sym same) c.in_ok-fresh.ensures.reported);
+          (subst (λ (is : List Item). Reported before is es) (sym same) c.in_ok-fresh.ensures.renewed.reported);
     }

@@ -7,6 +7,9 @@ use Rattle.olr_paths.specs.Items.{Made, Item, items, made_of}
 use Rattle.olr_paths.specs.Changes.{set_item}
 use Rattle.olr_paths.specs.Origins.{Begins}
 use Rattle.olr_paths.proofs.OriginLemmas.{begins_set}
+use Rattle.olr_spec.proofs.KnownLemmas.{none_known}
+use Rattle.olr_paths.proofs.GivenQueries.{searched_from_none}
+use Rattle.olr_paths.proofs.Raising.{work_up}
 use Rattle.olr_paths.proofs.path_list.PathList.set.Goals as goal
 
 pub returns-clause-set : goal.returns-clause-set
@@ -28,18 +31,17 @@ returns-clause-set g c =
 pub returns-clause-counted : goal.returns-clause-counted
 returns-clause-counted g c = c.in_ok-published.ensures.counted
 
-pub returns-clause-searches : goal.returns-clause-searches
-returns-clause-searches g c = c.in_ok-published.ensures.searches
-
 pub returns-clause-searched : goal.returns-clause-searched
-returns-clause-searched g c = (
-  (made_of c.in_ok-published.published).queries,
-  c.in_ok-published.ensures.made.queries,
-  c.in_ok-published.ensures.searched,
-)
+returns-clause-searched g c =
+    let s = c.in_ok-published.ensures.searched in (
+      s.0,
+      searched_from_none (g.M.MapRead.map c.args.map.now) (g.met.M.MapRead.sound c.args.map.now) c.args.path
+          c.publish.ensures.path (made_of c.in_ok-published.published) s.0 c.in_ok-published.ensures.made s.1,
+      s.2,
+    )
 
-pub returns-clause-settled : goal.returns-clause-settled
-returns-clause-settled g c = c.in_ok-published.ensures.settled
+pub publish-requires : goal.publish-requires
+publish-requires g c = record { known = none_known (g.M.MapRead.map c.args.map.now) c.args.path.lines }
 
 pub returns-clause-new_origins : goal.returns-clause-new_origins
 returns-clause-new_origins g c = λ v h.
@@ -54,3 +56,9 @@ returns-clause-new_origins g c = λ v h.
       | inr b ↦ inr (c.in_ok-note_queries.ensures.queries v
           (subst (λ (ls : List CoverageQuery). Contains ls v) (sym c.deref.ensures.value) b))
     ]
+
+pub returns-clause-rises : goal.returns-clause-rises
+returns-clause-rises g c =
+    let s = c.in_ok-published.ensures.searched in
+    work_up (g.M.MapRead.map c.args.map.now) s.0 1 c.args.work.now c.publish.new.work c.have_64_bits.ensures
+    c.in_ok-published.ensures.counted s.2

@@ -1,9 +1,10 @@
-use Rattle.std.proofs.Common.{refl, arith, ◌≡◌, ◌∷◌, [], ◌++◌, ℕ, Some, ap, ◌∙◌, subst}
+use Rattle.std.proofs.Common.{refl, ◌≡◌, ◌∷◌, [], ◌++◌, ℕ, Some, sym, ap, ◌∙◌, subst}
 use Rattle.std.proofs.lemmas.List.{map-append}
 use Rattle.std.specs.Prelude.{option_map}
 use Rattle.olr_spec.specs.Extension.{Path}
+use Rattle.olr_spec.specs.Queries.{SearchedOf}
 use Rattle.olr_paths.specs.Items.{Made, IsEncodingOf, made_of}
-use Rattle.olr_paths.specs.Renewing.{Put, puts_of, IsActionFor, EncodedAgain}
+use Rattle.olr_paths.specs.Renewing.{Put, puts_of, IsActionFor, IsEncode, EncodedAgain}
 use Rattle.olr_paths.specs.Showing.{shown_item}
 use Rattle.olr_paths.specs.declared.published.Published.{Published}
 use Rattle.olr_paths.specs.declared.path_list.NamedPath.{NamedPath}
@@ -11,7 +12,7 @@ use Rattle.olr_paths.specs.declared.actions.Action.{Action}
 use Rattle.olr_paths.proofs.renewal.Renewal.advance.Goals as goal
 
 pub returns-in_ok-push-in-Encode : goal.returns-in_ok-push-in-Encode
-returns-in_ok-push-in-Encode g c = λ T X C f.
+returns-in_ok-push-in-Encode g c = λ T X C gives f.
     let N = g.M.MapRead.map c.args.map.now in
     let old = c.args.self.now.fresh.items in
     let position = c.args.position in
@@ -24,6 +25,10 @@ returns-in_ok-push-in-Encode g c = λ T X C f.
     let put : Put = record { position = position; path = i.path; made = Some m } in
     let made : IsEncodingOf N i.path m =
     subst (λ (P : Path). IsEncodingOf N P m) c.deref.ensures c.in_ok-published-in-Encode.ensures.made in
+    let given = c.args.known.now in
+    let s = c.in_ok-published-in-Encode.ensures.searched in
+    let those : SearchedOf N i.path given s.0 =
+    subst (λ (P : Path). SearchedOf N P given s.0) c.deref.ensures s.1 in
     EncodedAgain (subst (λ (action : Action). IsActionFor N T X C i.made i.path action) c.in-Encode.is f)
     m
     made
@@ -39,16 +44,9 @@ returns-in_ok-push-in-Encode g c = λ T X C f.
     } ∷ []) path
     ∙ ap (λ (p : Published). puts_of old ++ record { position = position; path = i.path; made = Some (made_of p) } ∷ [])
     c.in_ok-new-in-Encode.ensures.ok)
-    c.in_ok-push_if_changed-in-Encode.ensures
+    c.in_ok-push_if_changed-in-Encode.ensures given s.0 (gives (subst IsEncode (sym c.in-Encode.is) tt)) those
     (record {
       encodings = c.in_ok-published-in-Encode.ensures.counted;
       spared = refl;
-      searched = c.in_ok-published-in-Encode.ensures.searched;
-      ascends =
-          record {
-            searches = c.in_ok-published-in-Encode.ensures.searches;
-            settled =
-                c.in_ok-published-in-Encode.ensures.settled;
-            kept = omega arith;
-          };
+      searched = s.2;
     })

@@ -36,21 +36,18 @@ returns c =
     let b = c.in-Some.batch in
     let e = sym c.in-Some.ensures.value in
     let before = commit_before s.roads (items s.paths) s.batch b e c.self.invariant.register in
-    let count = c.in-Ok.ensures.counted _ before in
+    let renewal = c.in-Ok.ensures.renewed in
+    let count = renewal.counted _ before in
     rw (← c.self.view_is)
     (commit_done s.roads c.keep_all.new.self (items s.paths) (items c.renew_over.new.self) b (tally s.work s.spared)
     (tally c.renew_over.new.work c.renew_over.new.kept) c.args.count count.0 _ c.in-Ok.entries.items
-    refl c.if-batch-count.false c.keep_all.ensures (c.in-Ok.ensures.renewed _ before) c.in-Ok.ensures.named
-    c.in-Ok.ensures.reported count.1 count.2
-    c.in-Ok.ensures.searches c.in-Ok.ensures.settled c.in-Ok.ensures.kept s.batch c.take.new.self e c.take.ensures.after
+    refl c.if-batch-count.false c.keep_all.ensures renewal.remade renewal.named renewal.reported count.1 count.2
+    c.in-Ok.ensures.rises c.in-Ok.ensures.kept s.batch c.take.new.self e c.take.ensures.after
     c.self.invariant.register)
 
 pub invariant_of-self-2 : goal.invariant_of-self-2
 invariant_of-self-2 c =
     let s = c.self.inside in
-    let before =
-    commit_before s.roads (items s.paths) s.batch c.in-Some.batch (sym c.in-Some.ensures.value)
-    c.self.invariant.register in
     let held =
     commit_from s.roads (items s.paths) s.batch c.in-Some.batch (sym c.in-Some.ensures.value)
     c.self.invariant.register in
@@ -66,7 +63,7 @@ invariant_of-self-2 c =
       register =
           commit_held s.roads c.keep_all.new.self (items s.paths) (items c.renew_over.new.self) s.batch c.take.new.self
           c.in-Some.batch (sym c.in-Some.ensures.value) c.take.ensures.after c.self.invariant.register
-          c.keep_all.ensures (c.in-Ok.ensures.renewed _ before) c.in-Ok.ensures.named;
+          c.keep_all.ensures c.in-Ok.ensures.renewed.remade c.in-Ok.ensures.renewed.named;
       bounded =
           bounded_same (map_of c.keep_all.new.self) (map_kept c.keep_all.new.self c.take.new.self) _ _
           (kept_closed c.keep_all.new.self c.take.new.self c.take.ensures.after)
@@ -102,6 +99,11 @@ renew_over-requires c =
           (under_overlay (items s.paths) c.in-Some.batch.overlay) (nodes_of c.in-Some.batch.touched) c.nodes.result.now
           s.near c.ask_near.new.near c.nodes.ensures
           held.noted.difference.nodes was c.ask_near.ensures.right c.ask_near.ensures.sources;
+      before = (
+        map_before s.roads c.in-Some.batch.log,
+        commit_before s.roads (items s.paths) s.batch c.in-Some.batch (sym c.in-Some.ensures.value)
+            c.self.invariant.register,
+      );
     }
 
 pub invariant_of-self-in_default-renew_over : goal.invariant_of-self-in_default-renew_over

@@ -1,10 +1,8 @@
 use Rattle.std.proofs.Common.{length, Ok, refl, ap, ◌∙◌, subst, sym}
 use Rattle.std.proofs.lemmas.Bool.{ne_eqb}
-use Rattle.std.specs.Prelude.{map as list_map}
 use Rattle.olr_spec.specs.Map.{Map}
 use Rattle.olr_map.specs.Edits.{edit_of}
 use Rattle.olr_map.specs.RoadMaps.{map_of}
-use Rattle.olr_commands.specs.Words.{entry_of}
 use Rattle.olr_paths.specs.Items.{items}
 use Rattle.olr_paths.specs.Changes.{Totals, AreTotals, AreCounted, AreRemade}
 use Rattle.olr_paths.specs.Touching.{nodes_of, lines_of, changed_of}
@@ -110,19 +108,14 @@ invariant_of-self-2 c =
     let now =
     bounded_asked (map_of r.roads) (map_of c.make.new.self) (items r.paths) (nodes_of t) c.nodes.result.now r.near
     c.ask_near.new.near c.nodes.ensures but was c.ask_near.ensures.right c.ask_near.ensures.sources in
-    let before =
-    edit_before r.roads c.keep.new.self (items r.paths) (items c.renew.new.self) r.batch (tally r.work r.spared)
-    c.args.self.now e (list_map entry_of c.in-Ok-renew.entries.items) c.self.view_is c.requires
-    c.self.invariant.register
-    c.in-Ok.ensures.plan.placed ok (nodes_of t) (lines_of t) (changed_of t) noted.nodes noted.lines noted.changed
-    (map_of c.make.new.self) (sym c.keep.ensures) in
+    let renewal = c.in-Ok-renew.ensures.renewed in
     record {
       register =
           edit_keeps r.roads c.keep.new.self (items r.paths) (items c.renew.new.self) r.batch (tally r.work r.spared)
           c.args.self.now e _ c.self.view_is c.requires c.self.invariant.register c.in-Ok.ensures.plan.placed ok
           (nodes_of t) (lines_of t) (changed_of t) noted.nodes noted.lines noted.changed
           (subst (λ (M : Map). AreRemade M (items r.paths) (items c.renew.new.self)) (sym c.keep.ensures)
-          (c.in-Ok-renew.ensures.renewed _ before)) c.in-Ok-renew.ensures.named c.in-Ok-renew.ensures.reported;
+          renewal.remade) renewal.named renewal.reported;
       bounded =
           bounded_same (map_of c.keep.new.self) (map_kept c.keep.new.self r.batch) _ _
           (kept_closed c.keep.new.self r.batch none)
@@ -142,27 +135,20 @@ returns c =
     in
     let ok = c.in-Ok-make.ensures.done ∙ ap (λ (M : Map). Ok M) (sym c.keep.ensures) in
     let before =
-    edit_before r.roads c.keep.new.self (items r.paths) (items c.renew.new.self) r.batch (tally r.work r.spared)
-    c.args.self.now e (list_map entry_of c.in-Ok-renew.entries.items) c.self.view_is c.requires
-    c.self.invariant.register
-    c.in-Ok.ensures.plan.placed ok (nodes_of t) (lines_of t) (changed_of t) noted.nodes noted.lines noted.changed
-    (map_of c.make.new.self) (sym c.keep.ensures) in
+    edit_before r.roads (items r.paths) r.batch (tally r.work r.spared) c.args.self.now e (map_of c.make.new.self) t
+    c.self.view_is c.requires c.self.invariant.register c.in-Ok-make.ensures.done noted in
+    let renewal = c.in-Ok-renew.ensures.renewed in
     let count =
     subst (λ (M : Map). (u : Totals) × AreTotals (map_of r.roads) M (nodes_of t) (lines_of t) (changed_of t)
     (items r.paths) u × AreCounted M u r.work c.renew.new.work r.spared c.renew.new.kept) (sym c.keep.ensures)
-    (c.in-Ok-renew.ensures.counted (map_of r.roads) before) in
+    (renewal.counted (map_of r.roads) before) in
     edit_done r.roads c.keep.new.self (items r.paths) (items c.renew.new.self) r.batch (tally r.work r.spared)
     c.args.self.now e _ c.self.view_is c.requires c.self.invariant.register c.in-Ok.ensures.plan.placed ok
     (nodes_of t) (lines_of t) (changed_of t) noted.nodes noted.lines noted.changed
     (subst (λ (M : Map). AreRemade M (items r.paths) (items c.renew.new.self)) (sym c.keep.ensures)
-    (c.in-Ok-renew.ensures.renewed _ before)) c.in-Ok-renew.ensures.named c.in-Ok-renew.ensures.reported
+    renewal.remade) renewal.named renewal.reported
     (tally c.renew.new.work c.renew.new.kept) _ count.0 refl count.1 count.2
-    (record {
-      searches = c.in-Ok-renew.ensures.searches;
-      settled = c.in-Ok-renew.ensures.settled;
-      spared =
-          c.in-Ok-renew.ensures.kept;
-    })
+    (record { work = c.in-Ok-renew.ensures.rises; spared = c.in-Ok-renew.ensures.kept })
 
 pub renew-requires : goal.renew-requires
 renew-requires c =
@@ -180,5 +166,13 @@ renew-requires c =
     let was =
     bounded_same (map_kept r.roads r.batch) (map_of r.roads) (items r.paths) r.near
     (sym (kept_closed r.roads r.batch none)) c.self.invariant.bounded in
-    bounded_asked (map_of r.roads) (map_of c.make.new.self) (items r.paths) (nodes_of t) c.nodes.result.now r.near
-    c.ask_near.new.near c.nodes.ensures but was c.ask_near.ensures.right c.ask_near.ensures.sources
+    record {
+      bounds =
+          bounded_asked (map_of r.roads) (map_of c.make.new.self) (items r.paths) (nodes_of t) c.nodes.result.now r.near
+          c.ask_near.new.near c.nodes.ensures but was c.ask_near.ensures.right c.ask_near.ensures.sources;
+      before = (
+        map_of r.roads,
+        edit_before r.roads (items r.paths) r.batch (tally r.work r.spared) c.args.self.now e (map_of c.make.new.self)
+            t c.self.view_is c.requires c.self.invariant.register c.in-Ok-make.ensures.done noted,
+      );
+    }

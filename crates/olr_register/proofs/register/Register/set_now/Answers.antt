@@ -77,5 +77,5 @@ returns c =
     set_done r.roads (items r.paths) r.batch (tally r.work r.spared) x _ c.self.view_is c.requires
     c.self.invariant.register path new.0 good new.1 _ _ (tally c.set.new.work r.spared) _ _ c.in_ok-path.ensures.ok
     (has_in r.roads (items r.paths) r.batch (tally r.work r.spared) x _ _ _ c.self.view_is refl c.if-not-has.ensures)
-    new.2 refl new.3 c.in-Ok.ensures.counted c.in-Ok.ensures.searches c.in-Ok.ensures.settled refl
+    new.2 refl new.3 c.in-Ok.ensures.counted c.in-Ok.ensures.rises refl
     c.in-Ok.ensures.searched.0 c.in-Ok.ensures.searched.1 c.in-Ok.ensures.searched.2

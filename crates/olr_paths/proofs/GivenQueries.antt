@@ -1,0 +1,103 @@
+-- The coverage queries that an encoding is given, which are not searched again: they are right on the map.
+use Rattle.std.proofs.Common.{◌≡◌, ℕ, zero, suc, List, [], ◌∷◌, Contains, Option, None, Some}
+use Rattle.std.proofs.Common.{inl, inr, MatchOption, IsTrue, IfSome, slice_get, refl, sym, ap, ◌∙◌, subst}
+use Rattle.std.specs.List.{AllByRecursion}
+use Rattle.std.proofs.lemmas.List.Elements.{All-contains}
+use Rattle.std.proofs.lemmas.Option.{slice_get-get_or}
+use Rattle.olr_spec.specs.Map.{Map, IsMap}
+use Rattle.olr_spec.specs.Detours.{ChangedLine}
+use Rattle.olr_spec.specs.Extension.{Path, is_path}
+use Rattle.olr_spec.specs.Queries.{CoverageQuery, KnownQuery, AreKnown, QueriesOf, SearchedOf}
+use Rattle.olr_spec.proofs.KnownLemmas.{all_searched, known_holds, none_known}
+use Rattle.olr_commands.specs.Counts.{SearchedFor, SearchedAgain, Picks, IsAgainClear}
+use Rattle.olr_paths.specs.Items.{Made, Item, IsEncodingOf, AreEncodingsIfAny}
+use Rattle.olr_paths.specs.Changes.{IsBefore, SearchesItem, Touches}
+use Rattle.olr_paths.specs.Renewing.{Gives, ToEncode}
+use Rattle.olr_paths.specs.Searching.{ReachesQueries, ReachesKnown, IsReached}
+use Rattle.olr_paths.proofs.Picking.{picked_known, known_among}
+
+-- ---- how far they reach
+
+module _ (L : Map) (sound : IsMap L) (P : Path) (is : IsTrue (is_path P.lines)) where
+  -- a search that reaches all queries of the path reaches these
+  pub reaches_known : (C : List ChangedLine) (far : Option ℕ) (m : Made) → IsEncodingOf L P m → ReachesQueries C far m →
+      ReachesKnown C far m.known
+  reaches_known C None m made reached = reached
+  reaches_known C (Some far) m made reached =
+      λ e on. reached e.query (All-contains (λ (k : KnownQuery). Contains m.queries k.query) m.known e
+      (known_among L sound P is m.known m.queries made.known made.queries) on)
+
+-- ---- where none are given
+
+-- everything is searched
+pub searched_from_none : (N : Map) → IsMap N → (P : Path) → IsTrue (is_path P.lines) → (m : Made)
+    (queries : List CoverageQuery) → IsEncodingOf N P m → SearchedOf N P [] queries → SearchedFor N P queries
+searched_from_none N n P is m queries made searched =
+    subst (QueriesOf N P) (all_searched N n P is m.queries queries made.queries searched) made.queries
+
+-- ---- one path of the earlier list
+
+pub gives_picked : (N : Map) (C : List ChangedLine) (made : Option Made) (m : Made) (ks given : List KnownQuery) →
+    made ≡ Some m → ks ≡ m.known → Picks (λ e. IsAgainClear N C e.query) ks given → Gives N C made given
+gives_picked N C made m ks given e same picks =
+    subst (λ (o : Option Made). Gives N C o given) (sym e)
+    (subst (λ (es : List KnownQuery). Picks (λ e. IsAgainClear N C e.query) es given) same picks)
+
+pub listed_there : (is : List Item) (i : Item) (on : Contains is i) → slice_get is on.0 ≡ Some i
+listed_there is i on = slice_get-get_or is on.0 i on.1 ∙ ap (λ (j : Item). Some j) on.2
+
+made_at_position : (M : Map) (is : List Item) (k : ℕ) (i : Item) → AreEncodingsIfAny M is → slice_get is k ≡ Some i →
+    IfSome i.made (IsEncodingOf M i.path)
+made_at_position M [] k i h at = let never : ⊥ = cc in absurd never
+made_at_position M (x ∷ is) zero i h at = let e : x ≡ i =
+    cc in subst (λ (j : Item). IfSome j.made (IsEncodingOf M j.path)) e h.0
+made_at_position M (x ∷ is) (suc k) i h at = made_at_position M is k i h.1 at
+
+path_at_position : (is : List Item) (k : ℕ) (i : Item) → AllByRecursion (λ j. IsTrue (is_path j.path.lines)) is →
+    slice_get is k ≡ Some i → IsTrue (is_path i.path.lines)
+path_at_position [] k i h at = let never : ⊥ = cc in absurd never
+path_at_position (x ∷ is) zero i h at = let e : x ≡ i = cc in subst (λ (j : Item). IsTrue (is_path j.path.lines)) e h.0
+path_at_position (x ∷ is) (suc k) i h at = path_at_position is k i h.1 at
+
+module _ (L N : Map) (n : IsMap N) (T X : List ℕ) (C : List ChangedLine) (is : List Item) (before : IsBefore L N T X C is)
+    (k : ℕ) (i : Item) (at : slice_get is k ≡ Some i) where
+  pub made_before : (m : Made) → i.made ≡ Some m → IsEncodingOf L i.path m
+  made_before m e =
+      subst (λ (o : Option Made). IfSome o (IsEncodingOf L i.path)) e (made_at_position L is k i before.made at)
+
+  pub path_before : IsTrue (is_path i.path.lines)
+  path_before = path_at_position is k i before.paths at
+
+  -- the given ones are right on the map
+  pub given_known : (given : List KnownQuery) → Gives N C i.made given → AreKnown N i.path.lines given
+  given_known given gives =
+      elim i.made as (λ o. i.made ≡ o → Gives N C o given → AreKnown N i.path.lines given) [
+        | None ↦ λ e none. subst (AreKnown N i.path.lines) (sym none) (none_known N i.path.lines)
+        | Some m ↦ λ e picks.
+            let d = before.difference in
+            picked_known L N C d.there d.here i.path.lines m.known given
+            (known_holds L i.path path_before m.known (made_before m e).known) picks
+      ] refl gives
+
+  -- and as far as the searches for detours reach, they are known
+  pub known_reached : (far : Option ℕ) → IfSome i.made (IsReached N T X C far i.path) → ToEncode N T X C i.made i.path →
+      (m : Made) → i.made ≡ Some m → ReachesKnown C far m.known
+  known_reached far reached (inl none) m e = let never : ⊥ = cc (none, e) in absurd never
+  known_reached far reached (inr f) m e =
+      let same : f.0 ≡ m = cc (f.1, e) in
+      let touches : Touches N T X m i.path = subst (λ (k : Made). Touches N T X k i.path) same f.2 in
+      let all : IsReached N T X C far i.path m =
+      subst (λ (o : Option Made). IfSome o (IsReached N T X C far i.path)) e reached in
+      reaches_known L before.sound i.path path_before C far m (made_before m e) (all touches)
+
+  -- what is searched, if they are not
+  pub searches_item : (given : List KnownQuery) (queries : List CoverageQuery) (m : Made) → IsEncodingOf N i.path m →
+      Gives N C i.made given → SearchedOf N i.path given queries → SearchesItem L N C i queries
+  searches_item given queries m made gives searched =
+      elim i.made as (λ o. i.made ≡ o → Gives N C o given →
+      MatchOption o (SearchedFor N i.path queries) (λ _. SearchedAgain L N C i.path queries)) [
+        | None ↦ λ e none.
+            searched_from_none N n i.path path_before m queries made
+            (subst (λ (ks : List KnownQuery). SearchedOf N i.path ks queries) none searched)
+        | Some old ↦ λ e picks. (old.known, given, (made_before old e).known, picks, searched)
+      ] refl gives

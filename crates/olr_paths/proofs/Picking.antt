@@ -1,0 +1,131 @@
+-- The coverage queries along a path's own lines: each is one of the path's coverage queries, and those of them that are
+-- clear are right on the next map.
+use Rattle.std.proofs.Common.{inl, inr, ◌≡◌, ℕ, suc, ◌+◌, ◌<◌, List, [], ◌∷◌, ◌++◌, map, length, All, Contains, IsTrue}
+use Rattle.std.proofs.Common.{Option, Some, None, MatchOption, true, refl, sym, ap, subst, arith}
+use Rattle.std.proofs.lemmas.List.Elements.{All-nil, All-cons, All-head, All-tail}
+use Rattle.std.proofs.lemmas.List.Kept.{AllPairs-cons, AllPairs-from_increasing}
+use Rattle.std.specs.List.{AllPairs}
+use Rattle.std.specs.List.Sorted.{IsStrictlyIncreasing}
+use Rattle.olr_spec.specs.Map.{Map, IsMap, has}
+use Rattle.olr_spec.specs.Extension.{Path, is_path, extended_path, taken_start}
+use Rattle.olr_spec.specs.Encoding.{Refusal, path_fault}
+use Rattle.olr_spec.specs.Detours.{ChangedLine, AccountsFor}
+use Rattle.olr_spec.specs.Queries.{CoverageQuery, KnownQuery, IsKnown, AreKnown, IsKnownAt, FoundFor, KnownOfExtended}
+use Rattle.olr_spec.specs.Queries.{KnownOf, IsQuery, QueriesOfExtended, QueriesOf, querying}
+use Rattle.olr_spec.proofs.AnswerLemmas.{one_extension}
+use Rattle.olr_spec.proofs.KnownLemmas.{known_stays}
+use Rattle.olr_spec.proofs.KnownLists.{found_each, found_moves}
+use Rattle.olr_spec.proofs.QueryLists.{zip_right}
+use Rattle.olr_spec.proofs.TestedLemmas.{one_query}
+use Rattle.olr_commands.specs.Counts.{Picks, IsAgainClear}
+
+-- ---- elements that are picked from a list
+
+module _ {A : Type 0} (P : A → Type 0) where
+  pub picks_none : ((x : A) → ¬ P x) → (xs : List A) → Picks P xs []
+  picks_none none [] = refl
+  picks_none none (x ∷ xs) = inr (none x, picks_none none xs)
+
+  -- with one element more
+  pub picks_more : (xs ys : List A) (x : A) → Picks P xs ys → P x → Picks P (xs ++ x ∷ []) (ys ++ x ∷ [])
+  picks_more [] ys x h p = inl (p, ([], refl, ap (λ (zs : List A). zs ++ x ∷ []) h))
+  picks_more (y ∷ xs) ys x (inl h) p =
+      let r = h.1 in inl (h.0, (r.0 ++ x ∷ [], picks_more xs r.0 x r.1 p, ap (λ (zs : List A). zs ++ x ∷ []) r.2))
+  picks_more (y ∷ xs) ys x (inr h) p = inr (h.0, picks_more xs ys x h.1 p)
+
+  pub picks_same : (xs ys : List A) (x : A) → Picks P xs ys → ¬ P x → Picks P (xs ++ x ∷ []) ys
+  picks_same [] ys x h none = inr (none, h)
+  picks_same (y ∷ xs) ys x (inl h) none = let r = h.1 in inl (h.0, (r.0, picks_same xs r.0 x r.1 none, r.2))
+  picks_same (y ∷ xs) ys x (inr h) none = inr (h.0, picks_same xs ys x h.1 none)
+
+  -- what holds of each element and of those that are picked
+  picked_each : (Q R : A → Type 0) → ((x : A) → P x → Q x → R x) → (xs ys : List A) → Picks P xs ys → All Q xs →
+      All R ys
+  picked_each Q R f [] ys h all = subst (λ (zs : List A). All R zs) (sym h) (All-nil R)
+  picked_each Q R f (x ∷ xs) ys (inl h) all =
+      let r = h.1 in
+      subst (λ (zs : List A). All R zs) (sym r.2)
+      (All-cons R x r.0 (f x h.0 (All-head Q x xs all)) (picked_each Q R f xs r.0 r.1 (All-tail Q x xs all)))
+  picked_each Q R f (x ∷ xs) ys (inr h) all = picked_each Q R f xs ys h.1 (All-tail Q x xs all)
+
+  -- numbers of the elements ascend
+  module _ (f : A → ℕ) where
+    picked_all : (Q : ℕ → Type 0) (xs ys : List A) → Picks P xs ys → All Q (map f xs) → All Q (map f ys)
+    picked_all Q [] ys h all = subst (λ (zs : List A). All Q (map f zs)) (sym h) (All-nil Q)
+    picked_all Q (x ∷ xs) ys (inl h) all =
+        let r = h.1 in
+        subst (λ (zs : List A). All Q (map f zs)) (sym r.2)
+        (All-cons Q (f x) (map f r.0) (All-head Q (f x) (map f xs) all)
+        (picked_all Q xs r.0 r.1 (All-tail Q (f x) (map f xs) all)))
+    picked_all Q (x ∷ xs) ys (inr h) all = picked_all Q xs ys h.1 (All-tail Q (f x) (map f xs) all)
+
+    abbrev Below : ℕ → ℕ → Type 0
+    Below a b = a < b
+
+    later : (a : ℕ) (ns : List ℕ) → AllPairs Below (a ∷ ns) → AllPairs Below ns
+    later a ns all = λ i j d lt h. all (suc i) (suc j) d (omega arith) (omega arith)
+
+    picked_pairs : (xs ys : List A) → Picks P xs ys → AllPairs Below (map f xs) → AllPairs Below (map f ys)
+    picked_pairs [] ys h all =
+        subst (λ (zs : List A). AllPairs Below (map f zs)) (sym h) (λ i j d lt k. absurd (omega arith))
+    picked_pairs (x ∷ xs) ys (inl h) all =
+        let r = h.1 in
+        subst (λ (zs : List A). AllPairs Below (map f zs)) (sym r.2)
+        (AllPairs-cons Below (f x) (map f r.0)
+        (picked_all (Below (f x)) xs r.0 r.1 (λ k d lt. all 0 (suc k) d (omega arith) (omega arith)))
+        (picked_pairs xs r.0 r.1 (later (f x) (map f xs) all)))
+    picked_pairs (x ∷ xs) ys (inr h) all = picked_pairs xs ys h.1 (later (f x) (map f xs) all)
+
+    picked_increasing : (xs ys : List A) → Picks P xs ys → IsStrictlyIncreasing (map f xs) →
+        IsStrictlyIncreasing (map f ys)
+    picked_increasing xs ys h up = λ k lt.
+        picked_pairs xs ys h (AllPairs-from_increasing (map f xs) up) k (k + 1) 0 (omega arith) lt
+
+-- ---- the clear ones
+
+pub picked_known : (M N : Map) (C : List ChangedLine) → AccountsFor C M N → AccountsFor C N M → (ls : List ℕ)
+    (known given : List KnownQuery) → AreKnown M ls known → Picks (λ e. IsAgainClear N C e.query) known given →
+    AreKnown N ls given
+picked_known M N C there here ls known given are picks =
+    let Clear : KnownQuery → Type 0 = λ e. IsAgainClear N C e.query in
+    record {
+      right =
+          picked_each Clear (IsKnown M ls) (IsKnown N ls)
+          (λ e clear right. known_stays M N C there here ls e right clear.clear) known given picks are.right;
+      ascend = picked_increasing Clear (λ e. e.first) known given picks are.ascend;
+    }
+
+-- ---- among the coverage queries
+
+module _ (M : Map) (m : IsMap M) (P : Path) (is : IsTrue (is_path P.lines)) (ks : List KnownQuery)
+    (queries : List CoverageQuery) where
+  among : path_fault M P ≡ None → KnownOfExtended M P ks → QueriesOfExtended M P queries →
+      All (λ e. Contains queries e.query) ks
+  among sound p o =
+      let same = one_extension M m P is sound p.before p.after p.points o.before o.after o.points p.tried p.follow
+      o.tried o.follow in
+      let Holds : List ℕ → List ℕ → List ℕ → Type 0 =
+      λ b a js. FoundFor (IsKnownAt M (extended_path M P b a).lines (length (taken_start M b P.lines)) (length P.lines))
+      (querying (extended_path M P b a).lines (0 ∷ js)) ks in
+      let here : Holds o.before o.after o.points = coe 0 1 (i. Holds (same.0 i) (same.1 i) (same.2 i)) p.holds in
+      let ls : List ℕ = (extended_path M P o.before o.after).lines in
+      let lead : ℕ = length (taken_start M o.before P.lines) in
+      let js : List ℕ = querying ls (0 ∷ o.points) in
+      let At : ℕ → KnownQuery → Type 0 = IsKnownAt M ls lead (length P.lines) in
+      let On : ℕ → KnownQuery → Type 0 = λ i e. (has js i ≡ true) × At i e in
+      found_each On (λ e. Contains queries e.query)
+      (λ i e k.
+      let l = zip_right (IsQuery M ls) js queries o.holds i k.0 in
+      let one : e.query ≡ l.0 = one_query M ls i e.query l.0 (lead + e.last, k.1.tested, k.1.query) l.2 in
+      subst (λ (q : CoverageQuery). Contains queries q) (sym one) l.1) js ks
+      (found_moves At On js (λ i on e. ((λ k. (on, k)), (λ k. k.1))) ks here)
+
+  pub known_among : KnownOf M P ks → QueriesOf M P queries → All (λ e. Contains queries e.query) ks
+  known_among = by (path_fault M P) refl
+    where
+      by : (o : Option Refusal) → path_fault M P ≡ o → MatchOption o (KnownOfExtended M P ks) (λ _. ks ≡ []) →
+          MatchOption o (QueriesOfExtended M P queries) (λ _. queries ≡ []) → All (λ e. Contains queries e.query) ks
+      by None e p o = among e p o
+      by (Some r) e p o =
+          subst (λ (es : List KnownQuery). All (λ e. Contains queries e.query) es) (sym p)
+          (All-nil (λ e. Contains queries e.query))
