@@ -1,7 +1,7 @@
 //! A register and its twin.
 ghost use Rattle.std.specs.Prelude.{◌<◌, ◌≤◌};
 
-use crate::twin::{Named, Twin};
+use crate::twin::{Named, Rise, Twin};
 use csv::{ByteRecord, ReaderBuilder};
 use made_maps::{line, next, node};
 use olr_binary::to_text;
@@ -75,23 +75,41 @@ impl Pair {
         }
     }
 
-    /// Applies the command of a record to both, and compares: whether it is accepted, the rise of the count, and all
+    /// Applies the command of a record to both, and compares: whether it is accepted, the rise of the counts, and all
     /// answers.
     pub fn step<R: Abort + AllocGlobal>(&mut self, rt: &R, record: &str) -> Result<(), Fail> {
         let alloc = rt.alloc();
-        let before = self.register.work().encodings;
+        let before = self.counts();
         let rise = self.expected_rise(alloc, record)?;
         let command = command(alloc, record)?;
         let accepted = self.register.apply(command).is_ok();
         assert!(rt; accepted == rise.is_some(), "whether {record} is accepted");
-        let wanted = before.saturating_add(rise.unwrap_or(0));
-        let after = self.register.work().encodings;
-        assert!(rt; after == wanted, "{after} encodings after {record}");
+        self.assert_counts(rt, before, rise.unwrap_or_default(), record);
         self.assert_alike(rt, record)
     }
 
-    /// Changes the twin. Returns by how much the command raises the count, if it is accepted.
-    fn expected_rise(&mut self, alloc: Global, record: &str) -> Result<Option<u64>, Fail> {
+    /// The counts of the register.
+    fn counts(&self) -> Rise {
+        Rise {
+            encodings: self.register.work().encodings,
+            spared: self.register.spared_count(),
+            searches: self.register.work().searches,
+        }
+    }
+
+    /// Asserts that the counts of the register have risen so.
+    fn assert_counts(&self, rt: &impl Abort, before: Rise, rise: Rise, record: &str) {
+        let after = self.counts();
+        let encodings = before.encodings.saturating_add(rise.encodings);
+        assert!(rt; after.encodings == encodings, "encodings after {record}");
+        let spared = before.spared.saturating_add(rise.spared);
+        assert!(rt; after.spared == spared, "retained answers after {record}");
+        let searches = before.searches.saturating_add(rise.searches);
+        assert!(rt; after.searches == searches, "searches after {record}");
+    }
+
+    /// Changes the twin. Returns by how much the command raises the counts, if it is accepted.
+    fn expected_rise(&mut self, alloc: Global, record: &str) -> Result<Option<Rise>, Fail> {
         match command(alloc, record)? {
             Command::Begin if self.is_open => Ok(None),
             Command::Begin => {
@@ -99,50 +117,50 @@ impl Pair {
                 self.spare.forget();
                 self.pending.clear();
                 self.count = 0;
-                Ok(Some(0))
+                Ok(Some(Rise::default()))
             }
             Command::Commit(count) => self.commit(alloc, count),
             Command::Abort if self.is_open => {
                 self.is_open = false;
                 self.spare = Twin::new(alloc);
                 replay(alloc, &mut self.spare, &self.history)?;
-                Ok(Some(0))
+                Ok(Some(Rise::default()))
             }
             Command::Abort => Ok(None),
-            Command::Show(name) => Ok(self.register.answer(&name).map(|_| 0)),
-            Command::Report => Ok(Some(0)),
+            Command::Show(name) => Ok(self.register.answer(&name).map(|_| Rise::default())),
+            Command::Report => Ok(Some(Rise::default())),
             change if self.is_open => self.hold(alloc, change, record),
             change => self.make(alloc, change, record),
         }
     }
 
     /// Holds a change in the open batch.
-    fn hold(&mut self, alloc: Global, change: Command, record: &str) -> Result<Option<u64>, Fail> {
+    fn hold(&mut self, alloc: Global, change: Command, record: &str) -> Result<Option<Rise>, Fail> {
         if !self.spare.change(alloc, change)? {
             return Ok(None);
         }
         self.count = self.count.saturating_add(1);
         push_line(&mut self.pending, record)?;
-        Ok(Some(0))
+        Ok(Some(Rise::default()))
     }
 
     /// Makes a change at once.
-    fn make(&mut self, alloc: Global, change: Command, record: &str) -> Result<Option<u64>, Fail> {
+    fn make(&mut self, alloc: Global, change: Command, record: &str) -> Result<Option<Rise>, Fail> {
         self.twin.forget();
         if !self.twin.change(alloc, change)? {
             return Ok(None);
         }
-        let rise = self.twin.affected_count(alloc, &self.spare.roads)?;
+        let rise = self.twin.rise(alloc, &self.spare.roads)?;
         push_line(&mut self.history, record)?;
         replay(alloc, &mut self.spare, record)?;
         Ok(Some(rise))
     }
 
-    fn commit(&mut self, alloc: Global, count: u32) -> Result<Option<u64>, Fail> {
+    fn commit(&mut self, alloc: Global, count: u32) -> Result<Option<Rise>, Fail> {
         if !self.is_open || count != self.count {
             return Ok(None);
         }
-        let rise = self.spare.affected_count(alloc, &self.twin.roads)?;
+        let rise = self.spare.rise(alloc, &self.twin.roads)?;
         replay(alloc, &mut self.twin, &self.pending)?;
         self.history.push_str(&self.pending)?;
         self.is_open = false;
@@ -211,6 +229,8 @@ impl Pair {
         assert!(rt; traversed, "traversed nodes of {name} after {record}");
         let queries = kept.queries() == fresh.queries.as_slice();
         assert!(rt; queries, "queries of {name} after {record}");
+        let known = kept.known() == fresh.known.as_slice();
+        assert!(rt; known, "queries along the lines of {name} after {record}");
     }
 
     /// Asserts that it has the footprint of a path, unless a batch is open.

@@ -1,9 +1,10 @@
 //! A map and named paths that are changed by the same commands as a register, and encoded from scratch.
 
+use crate::changes::{ChangedLine, changed_line, is_clear};
 use olr_commands::Command;
 use olr_map::{Edit, Footprint, LineId, NodeId, RoadMap, judge};
-use olr_refs::{Encoding, Path, encode, refer};
-use olr_route::{Dijkstra, Work};
+use olr_refs::{CoverageQuery, Encoding, Path, encode, refer};
+use olr_search::{Dijkstra, Work};
 use std::alloc::Global;
 use std::test::Fail;
 
@@ -16,13 +17,25 @@ pub struct Named {
     pub neg: u32,
 }
 
-/// A map, named paths, and the nodes, lines and names that the commands of a batch touched.
+/// With more changed lines than this, no answer is retained and each coverage query is searched again.
+const MOST_CHANGED: usize = 8;
+
+/// By how much a command raises the counts of encodings, of retained answers and of searches.
+#[derive(Clone, Copy, Default)]
+pub struct Rise {
+    pub encodings: u64,
+    pub spared: u64,
+    pub searches: u64,
+}
+
+/// A map, named paths, and the nodes, lines and names that the commands of a batch touched, and the lines that they changed.
 #[derive(Drop)]
 pub struct Twin {
     pub roads: RoadMap,
     pub paths: Vec<Named>,
     nodes: Vec<NodeId>,
     lines: Vec<LineId>,
+    changed: Vec<ChangedLine>,
     given: Vec<String>,
 }
 
@@ -56,6 +69,7 @@ impl Twin {
             paths: Vec::new(alloc),
             nodes: Vec::new(alloc),
             lines: Vec::new(alloc),
+            changed: Vec::new(alloc),
             given: Vec::new(alloc),
         }
     }
@@ -71,6 +85,7 @@ impl Twin {
     pub fn forget(&mut self) {
         self.nodes.clear();
         self.lines.clear();
+        self.changed.clear();
         self.given.clear();
     }
 
@@ -140,6 +155,9 @@ impl Twin {
             Ok(plan) => plan,
             Err(_) => return Ok(false),
         };
+        if let Some(line) = changed_line(&self.roads, &edit) {
+            self.changed.push(line)?;
+        }
         let undo = self.roads.make(edit, &plan)?;
         self.roads.keep(undo);
         let (from, to) = plan.nodes;
@@ -151,19 +169,87 @@ impl Twin {
         Ok(true)
     }
 
-    /// How many of this twin's paths are affected by the changes since `forget`, which began with the map `before`.
-    pub fn affected_count(&self, alloc: Global, before: &RoadMap) -> Result<u64, Fail> {
-        let mut count = 0u64;
+    /// By how much the changes since `forget`, which began with the map `before`, raise the counts.
+    pub fn rise(&self, alloc: Global, before: &RoadMap) -> Result<Rise, Fail> {
+        let mut rise = Rise::default();
         for named in &self.paths {
-            let footprint = named.footprint(alloc, before)?;
-            let given = self
-                .given
-                .iter()
-                .any(|name| name.as_str() == named.name.as_str());
-            if given
-                || self.nodes.iter().any(|node| footprint.has(*node))
-                || self.lines.iter().any(|line| named.lines.contains(line))
-            {
+            self.count(alloc, before, named, &mut rise)?;
+        }
+        Ok(rise)
+    }
+
+    /// Counts a path, if the changes affect it.
+    fn count(
+        &self,
+        alloc: Global,
+        before: &RoadMap,
+        named: &Named,
+        rise: &mut Rise,
+    ) -> Result<(), Fail> {
+        let is_given = self
+            .given
+            .iter()
+            .any(|name| name.as_str() == named.name.as_str());
+        let footprint = named.footprint(alloc, before)?;
+        if !is_given && !self.touches(&footprint) && !self.has_touched_line(named) {
+            return Ok(());
+        }
+        rise.encodings = rise.encodings.saturating_add(1);
+        let old = named.encoding(alloc, before)?;
+        if !is_given && self.is_retained(alloc, named, &old)? {
+            rise.spared = rise.spared.saturating_add(1);
+            return Ok(());
+        }
+        let new = named.encoding(alloc, &self.roads)?;
+        let reused = if is_given {
+            0
+        } else {
+            self.reused_count(alloc, &old, &new)?
+        };
+        let searched = (new.queries.len() as u64).saturating_sub(reused);
+        rise.searches = rise.searches.saturating_add(searched);
+        Ok(())
+    }
+
+    /// Whether the changes touch a node of the footprint.
+    fn touches(&self, footprint: &Footprint) -> bool {
+        self.nodes.iter().any(|node| footprint.has(*node))
+    }
+
+    /// Whether they touch a line of the path.
+    fn has_touched_line(&self, named: &Named) -> bool {
+        self.lines.iter().any(|line| named.lines.contains(line))
+    }
+
+    /// Whether few lines have changed, and no route over these is as short as the coverage query.
+    fn is_clear(&self, alloc: Global, query: &CoverageQuery) -> Result<bool, Fail> {
+        Ok(
+            self.changed.len() <= MOST_CHANGED
+                && is_clear(alloc, &self.roads, &self.changed, query)?,
+        )
+    }
+
+    /// Whether a path, whose encoding before the changes is given, retains its answer.
+    fn is_retained(&self, alloc: Global, named: &Named, old: &Encoding) -> Result<bool, Fail> {
+        if self.changed.len() > MOST_CHANGED
+            || self.touches(&old.traversed)
+            || self.has_touched_line(named)
+        {
+            return Ok(false);
+        }
+        for query in &old.queries {
+            if !self.is_clear(alloc, query)? {
+                return Ok(false);
+            }
+        }
+        Ok(true)
+    }
+
+    /// How many coverage queries along the path's own lines are those of the encoding before the changes, and clear.
+    fn reused_count(&self, alloc: Global, old: &Encoding, new: &Encoding) -> Result<u64, Fail> {
+        let mut count = 0u64;
+        for known in &new.known {
+            if old.known.contains(known) && self.is_clear(alloc, &known.query)? {
                 count = count.saturating_add(1);
             }
         }

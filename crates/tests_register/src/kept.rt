@@ -1,13 +1,13 @@
-//! Answers that are retained without a search for their LRPs, and footprints.
+//! Answers that are retained without a search for their LRPs, coverage queries that are not searched again, and footprints.
 
 use crate::worked::{
     TEXT, add, edits, ends, expect_counts, expect_reported, expect_text, holds, three_points,
 };
-use made_maps::{line, new_node, node, plain_line};
+use made_maps::{STRAIGHT, line, new_node, node, other_line, plain_line};
 use olr_commands::{Command, CommandFault};
 use olr_map::Edit;
 use olr_register::Register;
-use olr_route::Work;
+use olr_search::Work;
 use std::alloc::Global;
 use std::process::Abort;
 
@@ -52,6 +52,21 @@ fn an_answer_is_retained_by_a_batch(rt: HostRuntime) {
     expect_searches(&rt, &register, before.searches);
     expect_text(&rt, &register, "a", Some(TEXT));
     ends(&rt, register, 4, 2);
+}
+
+#[test]
+fn a_coverage_query_that_is_clear_is_not_searched_again(rt: HostRuntime) {
+    let mut register = three_points(&rt, rt.alloc());
+    expect_searches(&rt, &register, 1);
+    // The path is encoded again: line 60 begins at one of its nodes, but leads nowhere.
+    add_blind_road(&rt, rt.alloc(), &mut register);
+    expect_searches(&rt, &register, 1);
+    // The side road is a detour beside the second line.
+    let longer = other_line(rt.alloc(), 99, 1900, STRAIGHT).expect(&rt, "memory");
+    edits(&rt, &mut register, longer);
+    expect_searches(&rt, &register, 2);
+    expect_text(&rt, &register, "a", Some(TEXT));
+    ends(&rt, register, 4, 1);
 }
 
 /// Asserts that the path's footprint has these nodes, and not node 5.

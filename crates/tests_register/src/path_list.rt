@@ -1,12 +1,19 @@
 //! What edits touched, and what a list of paths stores of earlier paths.
-ghost use Rattle.std.specs.Prelude.{◌≡◌, string_bytes};
+ghost use Rattle.std.specs.Prelude.{◌≡◌, string_bytes, map as list_map};
+ghost use Rattle.std.specs.Option.{option_to_list};
+ghost use Rattle.olr_spec.specs.Map.{Map};
+ghost use Rattle.olr_map.specs.EditPlans.{planned_changes};
+ghost use Rattle.olr_map.specs.RoadMaps.{map_of};
+ghost use Rattle.olr_paths.specs.Items.{items};
+ghost use Rattle.olr_paths.specs.Touching.{change_of};
+ghost use Rattle.tests_register.specs.Lists.{IsRight};
 
-use made_maps::{Plain, STRAIGHT, line, lines, make, node, other_line, plain_map};
-use olr_map::{Edit, RoadMap};
+use made_maps::{Plain, STRAIGHT, line, lines, new_node, node, other_line, plain_map};
+use olr_map::{Edit, EditPlan, RoadMap, judge};
 use olr_near::DistanceBounds;
 use olr_paths::{ChangeSet, ChangedLine, PathList, Searches};
 use olr_refs::Path;
-use olr_route::Work;
+use olr_search::Work;
 use std::alloc::Global;
 use std::process::Abort;
 
@@ -38,43 +45,55 @@ fn touched_nodes_and_lines(rt: HostRuntime) {
 const APART: &[Plain] = &[(10, 1, 2, 1000), (30, 4, 5, 1000)];
 
 /// Appends a path of one line, not encoded yet.
-fn hold(rt: &impl Abort, alloc: Global, list: &mut PathList, name: &str, number: u32) {
+fn hold(rt: &impl Abort, alloc: Global, list: &mut PathList, name: &str, number: u32)
+    requires { (M : Map) → IsRight M (items list.old) }
+    ensures { (M : Map) → IsRight M (items list.new) }
+{
     let lines = lines(alloc, &[number]).expect(rt, "memory");
     let path = Path::new(alloc, lines, 0, 0).expect(rt, "a path");
     assert!(rt; !list.has(name));
     let name = String::from_str(alloc, name).expect(rt, "memory");
     let held = list.hold(alloc, name, path);
-    assert!(rt; held.is_ok());
+    held.expect(rt, "memory");
 }
 
 /// The list of the paths b and a on two roads, neither of them encoded yet.
-fn two_paths(rt: &impl Abort, alloc: Global) -> PathList {
+fn two_paths(rt: &impl Abort, alloc: Global) -> PathList
+    ensures { (M : Map) → IsRight M (items result) }
+{
     let mut list = PathList::new(alloc);
     hold(rt, alloc, &mut list, "b", 30);
     hold(rt, alloc, &mut list, "a", 10);
     list
 }
 
-/// Encodes the new paths, and those that a change of the line between two nodes may affect.
+/// The line that a judged edit changes. None if the edit is one of a node.
+fn line_changed(plan: &EditPlan) -> Option<ChangedLine>
+    ensures { list_map change_of (option_to_list result) ≡ planned_changes plan.now }
+{
+    match plan.line {
+        Some(_) => Some(ChangedLine {
+            from: plan.nodes.0,
+            to: plan.nodes.1,
+            len: plan.len,
+        }),
+        None => None,
+    }
+}
+
+/// Makes an edit of a map, and encodes the new paths of a list and those that the edit may affect.
 #[tactic(auto, using(olr_register::proofs::Bounded::bounded_unknown))]
-fn renew(
-    rt: &impl Abort,
-    alloc: Global,
-    list: &mut PathList,
-    map: &RoadMap,
-    changed: (u32, u32, u32),
-) {
-    let (number, from, to) = changed;
-    let (from, to) = (node(from), node(to));
+fn renew(rt: &impl Abort, alloc: Global, list: &mut PathList, map: &mut RoadMap, edit: Edit)
+    requires { IsRight (map_of map.old) (items list.old) }
+    ensures { IsRight (map_of map.new) (items list.new) }
+{
+    let plan = judge(&*map, &edit).expect(rt, "an edit");
     let mut touched = ChangeSet::new(alloc);
     let room = touched.reserve();
     assert!(rt; room.is_ok());
-    let change = ChangedLine {
-        from,
-        to,
-        len: 1000,
-    };
-    touched.note((from, to), Some(line(number)), Some(change));
+    touched.note(plan.nodes, plan.line, line_changed(&plan));
+    let undo = map.make(edit, &plan).expect(rt, "memory");
+    map.keep(undo);
     // Unknown bounds cut nothing.
     let mut bounds = DistanceBounds::new(alloc);
     bounds.forget();
@@ -82,31 +101,26 @@ fn renew(
     let (mut work, mut kept) = (Work::default(), 0);
     let renewed = list.renew(
         alloc,
-        map,
+        &*map,
         &touched,
         &bounds,
         &mut searches,
         &mut work,
         &mut kept,
     );
-    assert!(rt; renewed.is_ok());
+    let entries = renewed.expect(rt, "memory");
+    assert!(rt; entries.len() <= list.len());
 }
 
-/// Makes an edit, and drops its undo record.
-fn edit(rt: &impl Abort, map: &mut RoadMap, edit: Edit) {
-    let made = make(map, edit);
-    assert!(rt; made.is_ok());
-}
-
-/// Renews a list on two roads: as it is, with a longer line 30, and without line 10.
-fn renew_thrice(rt: &impl Abort, alloc: Global, list: &mut PathList) {
+/// Renews a list on two roads: with one more node, with a longer line 30, and without line 10.
+fn renew_thrice(rt: &impl Abort, alloc: Global, list: &mut PathList)
+    requires { (M : Map) → IsRight M (items list.old) }
+{
     let mut map = plain_map(alloc, 5, APART).expect(rt, "a map");
-    renew(rt, alloc, list, &map, (10, 1, 2));
+    renew(rt, alloc, list, &mut map, new_node((6, 0, 0)));
     let longer = other_line(alloc, 30, 9000, STRAIGHT).expect(rt, "memory");
-    edit(rt, &mut map, longer);
-    renew(rt, alloc, list, &map, (30, 4, 5));
-    edit(rt, &mut map, Edit::DropLine(line(10)));
-    renew(rt, alloc, list, &map, (10, 1, 2));
+    renew(rt, alloc, list, &mut map, longer);
+    renew(rt, alloc, list, &mut map, Edit::DropLine(line(10)));
 }
 
 /// The printed form of everything that a list stores.

@@ -1,0 +1,62 @@
+-- Lists whose results are right on a map.
+use Rattle.std.proofs.Common.{◌≡◌, ℕ, not, IsTrue, List, [], ◌∷◌, ◌++◌, None, Result, Ok, OnOk, sym, subst}
+use Rattle.std.specs.Result.{IfOk}
+use Rattle.std.specs.List.{filter}
+use Rattle.olr_spec.specs.Map.{Map, IsMap, Edit, edited}
+use Rattle.olr_spec.specs.Extension.{Path, is_path}
+use Rattle.olr_commands.specs.State.{ArePaths, same_name}
+use Rattle.olr_commands.proofs.NameLemmas.{paths_push, paths_filter}
+use Rattle.olr_paths.specs.Items.{Item, all_named}
+use Rattle.olr_paths.specs.Changes.{IsBefore, AreRemade}
+use Rattle.olr_paths.specs.Touching.{nodes_of, lines_of, changed_of}
+use Rattle.olr_paths.specs.declared.change_set.ChangeSet.{ChangeSet}
+use Rattle.olr_register.proofs.Listed.{names_add, names_drop, any_add, any_drop}
+use Rattle.olr_register.proofs.Noted.{noted_edit, is_before}
+use Rattle.olr_register.proofs.Renewed.{remade_made, made_if_any}
+use Rattle.olr_register.proofs.SingleEdit.{IsNotedOf}
+use Rattle.tests_register.specs.Lists.{IsRight}
+
+-- what is true of a result that is Ok
+pub on_ok_at : {T E : Type 0} (r : Result T E) (x : T) (P : Type 0) → OnOk r P → r ≡ Ok x → P
+on_ok_at {T} {E} r x P h e = subst (λ (s : Result T E). OnOk s P) e h
+
+pub if_ok_at : {T E : Type 0} (r : Result T E) (x : T) (P : T → Type 0) → IfOk r P → r ≡ Ok x → P x
+if_ok_at {T} {E} r x P h e = subst (λ (s : Result T E). IfOk s P) e h
+
+-- ---- lists
+
+pub right_add : (M : Map) (is : List Item) (name : List ℕ) (path : Path) → IsTrue (is_path path.lines) → IsRight M is →
+    IsRight M (is ++ record { name = name; path = path; made = None } ∷ [])
+right_add M is name path good h =
+    record {
+      paths =
+          subst ArePaths (sym (names_add is (record { name = name; path = path; made = None })))
+          (paths_push (all_named is) (record { name = name; path = path }) h.paths good);
+      made = any_add M is name path h.made;
+    }
+
+pub right_drop : (M : Map) (is : List Item) (name : List ℕ) → IsRight M is →
+    IsRight M (filter (λ i. not (same_name i.name name)) is)
+right_drop M is name h =
+    record {
+      paths =
+          subst ArePaths (sym (names_drop name is))
+          (paths_filter (λ p. not (same_name p.name name)) (all_named is) h.paths);
+      made = any_drop M is name h.made;
+    }
+
+pub right_renewed : (M N : Map) (is js : List Item) → IsRight M is → AreRemade N is js →
+    all_named js ≡ all_named is → IsRight N js
+right_renewed M N is js h remade names =
+    record {
+      paths = subst ArePaths (sym names) h.paths;
+      made = made_if_any N js (remade_made N is js remade);
+    }
+
+-- what a renewal after an edit requires
+pub right_before : (M N : Map) (e : Edit) (t : ChangeSet) (is : List Item) → IsMap M → edited M e ≡ Ok N →
+    IsNotedOf M e t → IsRight M is → IsBefore M N (nodes_of t) (lines_of t) (changed_of t) is
+right_before M N e t is sound ok noted h =
+    is_before M N (nodes_of t) (lines_of t) (changed_of t) is
+    (noted_edit M N e (nodes_of t) (lines_of t) (changed_of t) ok noted.nodes noted.lines noted.changed) sound h.paths
+    h.made
