@@ -1,11 +1,10 @@
 -- A quarter turn of a direction turns its sector, so the sectors of one quarter determine those of the others.
-use Rattle.std.proofs.Common.{◌≡◌, ℕ, suc, ◌+◌, ◌<◌, ℤ, pos, ◌-ℤ◌, ◌*ℤ◌, neg_ℤ, ◌<ℤ◌, ◌&&◌, map, take, drop, get_or}
-use Rattle.std.proofs.Common.{IsTrue, refl, sym, ap, ◌∙◌, subst, arith}
+use Rattle.std.proofs.Common.{◌≡◌, ℕ, suc, ◌+◌, ◌<◌, ℤ, pos, ◌-ℤ◌, ◌*ℤ◌, neg_ℤ, ◌<ℤ◌, ◌&&◌, map, take, drop, get_or, IsTrue}
+use Rattle.std.proofs.Common.{refl, sym, ap, ◌∙◌, subst, arith}
 use Rattle.std.proofs.lemmas.Int.{ints}
 use Rattle.std.proofs.lemmas.List.{get_or-drop, get_or-take, get_or-map}
 use Rattle.std.specs.Int.RustNames.{int_le, int_lt}
-use Rattle.olr_spec.specs.Bearings.{Vector, vector, boundary, boundaries, quarter_turn, beyond, lies_between, IsSector}
-use Rattle.olr_spec.specs.Bearings.{sector}
+use Rattle.olr_spec.specs.Bearings.{Vector, vector, boundary, boundaries, quarter_turn, beyond, lies_between, IsSector, sector}
 use Rattle.olr_spec.proofs.SectorLemmas.{one_sector, sector_is, neg_right, neg_left}
 
 -- ---- one quarter turn
@@ -46,14 +45,11 @@ between_these b c v b' c' p q h =
 -- (e, n) is (a, b) turned by a quarter
 sector_turned : (a b e n : ℤ) (j k : ℕ) → IsSector a b k → e ≡ b → n ≡ neg_ℤ a → k < 24 → j ≡ 8 + k → IsSector e n j
 sector_turned a b e n j k s p q h is =
-    let here : boundary (8 + k) ≡ quarter_turn (boundary k) = boundary_turned k (omega arith) in
     let after : suc (8 + k) ≡ 8 + suc k = omega arith in
-    let next : boundary (suc (8 + k)) ≡ quarter_turn (boundary (suc k)) =
-    ap boundary after ∙ boundary_turned (suc k) (omega arith) in
     let whole : IsSector b (neg_ℤ a) (8 + k) = (
       omega arith,
       between_these (boundary k) (boundary (suc k)) (vector a b) (boundary (8 + k)) (boundary (suc (8 + k)))
-          here next s.1,
+          (boundary_turned k (omega arith)) (ap boundary after ∙ boundary_turned (suc k) (omega arith)) s.1,
     ) in
     subst (IsSector e n) (sym is)
     (subst (λ m. IsSector e m (8 + k)) (sym q) (subst (λ d. IsSector d (neg_ℤ a) (8 + k)) (sym p) whole))
@@ -84,11 +80,10 @@ second_quarter_is e n a b k s p q h east =
 
 pub third_quarter_is : (e n a b : ℤ) (k : ℕ) → IsSector a b k → a ≡ neg_ℤ e → b ≡ neg_ℤ n → k < 8 → n <ℤ pos 0 →
     16 + k ≡ sector e n
-third_quarter_is e n a b k s p q h south =
-    let once : IsSector (neg_ℤ n) e (8 + k) =
-    sector_turned a b (neg_ℤ n) e (8 + k) k s (sym q) (omega (arith, ints)) (omega arith) refl in
-    the_sector e n (16 + k) (λ z. omega (arith, ints, z.1))
-    (sector_turned (neg_ℤ n) e e n (16 + k) (8 + k) once refl (omega (arith, ints)) (omega arith) (omega arith))
+third_quarter_is e n a b k s p q h south = the_sector e n (16 + k) (λ z. omega (arith, ints, z.1))
+    (sector_turned (neg_ℤ n) e e n (16 + k) (8 + k)
+    (sector_turned a b (neg_ℤ n) e (8 + k) k s (sym q) (omega (arith, ints)) (omega arith) refl) refl (omega (arith, ints))
+    (omega arith) (omega arith))
 
 pub fourth_quarter_is : (e n a b : ℤ) (k : ℕ) → IsSector a b k → a ≡ n → b ≡ neg_ℤ e → k < 8 → e <ℤ pos 0 →
     24 + k ≡ sector e n

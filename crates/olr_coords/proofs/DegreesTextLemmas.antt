@@ -1,21 +1,18 @@
 -- The text of degrees is read as the same number of units.
-use Rattle.std.proofs.Common.{◌≡◌, ℕ, ◌+◌, ◌*◌, ◌-◌, ◌/◌, ◌%◌, ◌<◌, ◌≤◌, ◌^◌, true, false, Bool, ◌==◌, not, ◌&&◌}
-use Rattle.std.proofs.Common.{ℤ, pos, negsuc, List, [], ◌∷◌, ◌++◌, length, drop, fold, refl, ap, IsTrue, Some, None, Ok}
-use Rattle.std.proofs.Common.{Err}
-use Rattle.std.proofs.Common.{sym, subst, ◌∙◌, arith, rules, zero, suc, Option}
-use Rattle.std.specs.Prelude.{decimal, if◌then◌else◌, option_map, option_and_then, nat_abs, neg_ℤ, nat_le, IfSome}
+use Rattle.std.proofs.Common.{◌≡◌, ℕ, ◌+◌, ◌*◌, ◌-◌, ◌/◌, ◌%◌, ◌<◌, ◌≤◌, ◌^◌, true, false, Bool, ◌==◌, not, ℤ, pos, negsuc}
+use Rattle.std.proofs.Common.{List, [], ◌∷◌, ◌++◌, length, fold, refl, ap, IsTrue, Some, None, Ok, Err, sym, subst, ◌∙◌, arith}
+use Rattle.std.proofs.Common.{zero, suc, Option}
+use Rattle.std.specs.Prelude.{decimal, if◌then◌else◌, option_map, option_and_then, nat_abs, neg_ℤ, IfSome}
 use Rattle.std.specs.List.{list_all}
 use Rattle.std.specs.Char.{is_ascii_digit}
-use Rattle.std.proofs.lemmas.Bool.{and_parts, and_from, eqb-true, eqb-false, le-leb, eq-eqb, ne_eqb}
+use Rattle.std.proofs.lemmas.Bool.{cond_both, and_parts, and_from, eqb-true, le-leb, eq-eqb, ne_eqb}
 use Rattle.std.proofs.lemmas.Bool.Decides.{nat_tests}
-use Rattle.std.proofs.lemmas.Int.{ints}
 use Rattle.std.proofs.lemmas.Fmt.{digits_decimal, digits_value-decimal, decimal_nonempty, length-decimal-le}
-use Rattle.std.proofs.Math.Nat.{pow-succ', div-add-mod, mod-lt, mul_assoc, mul_comm, add-mul, div-lt_iff_lt-mul}
-use Rattle.std.proofs.Math.Nat.{one-le-pow, pow-le-pow_right}
+use Rattle.std.proofs.Math.Nat.{pow-succ', div-add-mod, mod-lt, mul_assoc, mul_comm, add-mul, div-lt_iff_lt-mul, one-le-pow}
+use Rattle.std.proofs.Math.Nat.{pow-le-pow_right}
 use Rattle.std.proofs.Math.Seq.{drop-append_seam}
-use Rattle.olr_spec.specs.Coordinates.{unit4, within}
-use Rattle.olr_spec.specs.Degrees.{are_digits, before_point, digits_value, whole, fraction, unsigned_degrees, degrees}
-use Rattle.olr_spec.specs.Degrees.{read_degrees, unit7, at_most_180, degrees_or_fault, Range}
+use Rattle.olr_spec.specs.Degrees.{before_point, digits_value, whole, fraction, unsigned_degrees, degrees, unit7}
+use Rattle.olr_spec.specs.Degrees.{degrees_or_fault, Range}
 use Rattle.olr_coords.specs.Bounds.{is_degrees}
 use Rattle.olr_coords.specs.DegreesText.{decimals, after_point, steps_text, degrees_text, has_degrees_text}
 use Rattle.olr_coords.specs.Laws.{TextsRead, ReadHaveText}
@@ -25,14 +22,8 @@ use Rattle.olr_coords.proofs.DigitLemmas.{own, before-more, before-none}
 one-more : (a q p r n : ℕ) → p * q + r ≡ n → (10 * a + ((48 + q) - 48)) * p + r ≡ a * (10 * p) + n
 one-more a q p r n e =
     let same : (48 + q) - 48 ≡ q = omega arith in
-    let wide : (10 * a + q) * p ≡ 10 * (a * p) + q * p = add-mul (10 * a) q p
-    ∙ ap (λ (m : ℕ). m + q * p) (mul_assoc 10 a p)
-    in
-    let far : a * (10 * p) ≡ 10 * (a * p) =
-    sym (mul_assoc a 10 p) ∙ ap (λ (m : ℕ). m * p) (mul_comm a 10) ∙ mul_assoc 10 a p
-    in
-    let turned : q * p ≡ p * q = mul_comm q p in
-    rw same (omega (arith, wide, far, turned))
+    let far : a * (10 * p) ≡ 10 * (a * p) = sym (mul_assoc a 10 p) ∙ ap (λ (m : ℕ). m * p) (mul_comm a 10) ∙ mul_assoc 10 a p in
+    rw same (omega (arith, add-mul (10 * a) q p ∙ ap (λ (m : ℕ). m + q * p) (mul_assoc 10 a p), far, mul_comm q p))
 
 ten-positive : (k : ℕ) → 0 < 10 ^ k
 ten-positive k = one-le-pow k 10 (omega arith)
@@ -52,8 +43,7 @@ decimals-fold (suc k) n a h =
       | true ↦
           λ e.
           let all : suc k - 0 ≡ suc k = omega arith in
-          let none : n ≡ 0 = eqb-true n 0 e in
-          omega (arith, ap (λ (m : ℕ). a * 10 ^ m) all)
+          omega (arith, eqb-true n 0 e, ap (λ (m : ℕ). a * 10 ^ m) all)
       | false ↦
           λ e.
           let fewer : suc k - suc (length ds) ≡ k - length ds = omega arith in
@@ -68,13 +58,12 @@ pub decimals-short : (k n : ℕ) → length (decimals k n) ≤ k
 unfolding decimals
 decimals-short zero n = omega arith
 decimals-short (suc k) n =
-    elim (n == 0) as (λ b. length (if b then [] else (48 + n / 10 ^ k) ∷ decimals k (n % 10 ^ k)) ≤ suc k)
-    [ true ↦ omega arith | false ↦ omega (arith, decimals-short k (n % 10 ^ k)) ]
+    cond_both (n == 0) [] ((48 + n / 10 ^ k) ∷ decimals k (n % 10 ^ k)) (λ ds. length ds ≤ suc k) (λ _. omega arith)
+    (λ _. omega (arith, decimals-short k (n % 10 ^ k)))
 
 -- a digit of a number below ten times a scale
 digit-small : (k n : ℕ) → n < 10 ^ suc k → n / 10 ^ k < 10
-digit-small k n h =
-    (div-lt_iff_lt-mul {k = 10 ^ k} {x = n} {y = 10} (ten-positive k)).1 (subst (λ (m : ℕ). n < m) (pow-succ' 10 k) h)
+digit-small k n h = (div-lt_iff_lt-mul {k = 10 ^ k} {x = n} {y = 10} (ten-positive k)).1 (coe 0 1 (i. n < (pow-succ' 10 k i)) h)
 
 is-digit : (q : ℕ) → q < 10 → is_ascii_digit (48 + q) ≡ true
 is-digit q h = grind (arith, nat_tests)
@@ -83,14 +72,9 @@ pub decimals-digits : (k n : ℕ) → n < 10 ^ k → list_all is_ascii_digit (de
 unfolding decimals
 decimals-digits zero n h = refl
 decimals-digits (suc k) n h =
-    elim (n == 0) as (λ b. list_all is_ascii_digit (if b then [] else (48 + n / 10 ^ k) ∷ decimals k (n % 10 ^ k))
-    ≡ true) [
-      | true ↦ refl
-      | false ↦
-          and_from (is_ascii_digit (48 + n / 10 ^ k)) (list_all is_ascii_digit (decimals k (n % 10 ^ k)))
-          (is-digit (n / 10 ^ k) (digit-small k n h))
-          (decimals-digits k (n % 10 ^ k) (mod-lt n (ten-positive k)))
-    ]
+    cond_both (n == 0) [] ((48 + n / 10 ^ k) ∷ decimals k (n % 10 ^ k)) (λ ds. list_all is_ascii_digit ds ≡ true) (λ _. refl)
+    (λ _. and_from (is_ascii_digit (48 + n / 10 ^ k)) (list_all is_ascii_digit (decimals k (n % 10 ^ k)))
+    (is-digit (n / 10 ^ k) (digit-small k n h)) (decimals-digits k (n % 10 ^ k) (mod-lt n (ten-positive k))))
 
 no-point-byte : (d : ℕ) → is_ascii_digit d ≡ true → not (d == 46) ≡ true
 no-point-byte d h = grind (arith, nat_tests)
@@ -114,9 +98,7 @@ fraction-digits : (ds : List ℕ) (n : ℕ) → list_all is_ascii_digit ds ≡ t
     digits_value ds * 10 ^ (7 - length ds) ≡ n → fraction (after_point ds) ≡ Some n
 fraction-digits [] n all few e = ap (λ (m : ℕ). Some m) e
 fraction-digits (d ∷ ds) n all few e =
-    let least : nat_le 1 (length (d ∷ ds)) ≡ true = le-leb 1 (length (d ∷ ds)) (omega arith) in
-    let most : nat_le (length (d ∷ ds)) 7 ≡ true = le-leb (length (d ∷ ds)) 7 few in
-    rw (least, all, most) (ap (λ (m : ℕ). Some m) e)
+    rw (le-leb 1 (length (d ∷ ds)) (omega arith), all, le-leb (length (d ∷ ds)) 7 few) (ap (λ (m : ℕ). Some m) e)
 
 fraction-text : (n : ℕ) → n < 10 ^ 7 → fraction (after_point (decimals 7 n)) ≡ Some n
 fraction-text n h =
@@ -125,9 +107,7 @@ fraction-text n h =
 whole-digits : (ds : List ℕ) (n : ℕ) → list_all is_ascii_digit ds ≡ true → 0 < length ds → length ds ≤ 3 →
     digits_value ds ≡ n → whole ds ≡ Some (n * 10 ^ 7)
 whole-digits ds n all some few e =
-    let least : nat_le 1 (length ds) ≡ true = le-leb 1 (length ds) some in
-    let most : nat_le (length ds) 3 ≡ true = le-leb (length ds) 3 few in
-    rw (least, all, most) (ap (λ (m : ℕ). Some (m * 10 ^ 7)) e)
+    rw (le-leb 1 (length ds) some, all, le-leb (length ds) 3 few) (ap (λ (m : ℕ). Some (m * 10 ^ 7)) e)
 
 whole-text : (n : ℕ) → n < 1000 → whole (decimal n) ≡ Some (n * 10 ^ 7)
 whole-text n h =
@@ -136,9 +116,8 @@ whole-text n h =
     (length-decimal-le 3 n (omega arith) h small) (digits_value-decimal own n small)
 
 -- a text of digits before a tail without digits
-split-text : (ds tail : List ℕ) (w f : ℕ) → before_point (ds ++ tail) ≡ ds → whole ds ≡ Some w → fraction tail ≡ Some f
-    →
-    unsigned_degrees (ds ++ tail) ≡ Some ((w + f) * unit7)
+split-text : (ds tail : List ℕ) (w f : ℕ) → before_point (ds ++ tail) ≡ ds → whole ds ≡ Some w →
+    fraction tail ≡ Some f → unsigned_degrees (ds ++ tail) ≡ Some ((w + f) * unit7)
 split-text ds tail w f before e g = rw (before, drop-append_seam, e, g) refl
 
 pub steps-read : (n : ℕ) → n < 10 ^ 10 → unsigned_degrees (steps_text n) ≡ Some (n * unit7)
@@ -156,10 +135,9 @@ steps-read n h =
 no-sign : (ds tail : List ℕ) → list_all is_ascii_digit ds ≡ true → 0 < length ds →
     degrees (ds ++ tail) ≡ option_map pos (unsigned_degrees (ds ++ tail))
 no-sign [] tail all some = absurd (omega arith)
-no-sign (d ∷ ds) tail all some =
-    let p = and_parts (is_ascii_digit d) (list_all is_ascii_digit ds) all in
-    ap (λ (b : Bool). if b then option_map (λ n. neg_ℤ (pos n)) (unsigned_degrees (ds ++ tail))
-    else option_map pos (unsigned_degrees (d ∷ (ds ++ tail)))) (no-minus-byte d p.0)
+no-sign (d ∷ ds) tail all some = ap (λ (b : Bool). if b then option_map (λ n. neg_ℤ (pos n)) (unsigned_degrees (ds ++ tail))
+    else option_map pos (unsigned_degrees (d ∷ (ds ++ tail))))
+    (no-minus-byte d (and_parts (is_ascii_digit d) (list_all is_ascii_digit ds) all).0)
 
 plain-read : (n : ℕ) → n < 10 ^ 10 → degrees (steps_text n) ≡ Some (pos (n * unit7))
 plain-read n h =
@@ -171,22 +149,18 @@ plain-read n h =
 -- a coordinate that is written is read as the same
 pub degrees-read : (z : ℤ) → IsTrue (has_degrees_text z) → degrees (degrees_text z) ≡ Some z
 degrees-read (pos n) h =
-    let p = and_parts (is_degrees (pos n)) (n % unit7 == 0) h in
-    let even : n % unit7 ≡ 0 = eqb-true (n % unit7) 0 p.1 in
+    let even : n % unit7 ≡ 0 = eqb-true (n % unit7) 0 (and_parts (is_degrees (pos n)) (n % unit7 == 0) h).1 in
     let most : n ≤ 58982400000000 = grind (arith, nat_tests) in
     plain-read (n / unit7) (omega arith) ∙ ap (λ (m : ℕ). Some (pos m)) (omega arith)
 degrees-read (negsuc n) h =
-    let p = and_parts (is_degrees (negsuc n)) (suc n % unit7 == 0) h in
-    let even : suc n % unit7 ≡ 0 = eqb-true (suc n % unit7) 0 p.1 in
+    let even : suc n % unit7 ≡ 0 = eqb-true (suc n % unit7) 0 (and_parts (is_degrees (negsuc n)) (suc n % unit7 == 0) h).1 in
     let most : suc n ≤ 58982400000000 = grind (arith, nat_tests) in
     let same : suc n / unit7 * unit7 ≡ suc n = omega arith in
     ap (λ (o : Option ℕ). option_map (λ n. neg_ℤ (pos n)) o) (steps-read (suc n / unit7) (omega arith))
     ∙ ap (λ (m : ℕ). Some (neg_ℤ (pos m))) same
 
 pub texts-read : TextsRead
-texts-read z h =
-    let p = and_parts (is_degrees z) (nat_abs z % unit7 == 0) h in
-    ap degrees_or_fault (degrees-read z h) ∙ rw p.0 refl
+texts-read z h = ap degrees_or_fault (degrees-read z h) ∙ rw (and_parts (is_degrees z) (nat_abs z % unit7 == 0) h).0 refl
 
 -- ---- coordinates that are read are whole steps
 
@@ -209,11 +183,10 @@ minus-whole (Some (suc n)) h = h
 pub degrees-whole : (text : List ℕ) → IfSome (degrees text) (λ z. nat_abs z % unit7 ≡ 0)
 degrees-whole [] = tt
 degrees-whole (c ∷ text) =
-    elim (c == 45) as (λ b. IfSome (if b then option_map (λ n. neg_ℤ (pos n)) (unsigned_degrees text)
-    else option_map pos (unsigned_degrees (c ∷ text))) (λ z. nat_abs z % unit7 ≡ 0)) [
-      | true ↦ minus-whole (unsigned_degrees text) (units-whole (whole (before_point text)) _)
-      | false ↦ plain-whole (unsigned_degrees (c ∷ text)) (units-whole (whole (before_point (c ∷ text))) _)
-    ]
+    cond_both (c == 45) (option_map (λ n. neg_ℤ (pos n)) (unsigned_degrees text))
+    (option_map pos (unsigned_degrees (c ∷ text))) (λ o. IfSome o (λ z. nat_abs z % unit7 ≡ 0))
+    (λ _. minus-whole (unsigned_degrees text) (units-whole (whole (before_point text)) _))
+    (λ _. plain-whole (unsigned_degrees (c ∷ text)) (units-whole (whole (before_point (c ∷ text))) _))
 
 -- a value that passes a test
 passed : (b : Bool) (y z : ℤ) → (if b then Ok y else Err Range) ≡ Ok z → (b ≡ true) × (y ≡ z)
@@ -240,9 +213,7 @@ decimals-end (suc k) n e = rw (eq-eqb n 0 e) refl
 
 next-digit : (k n : ℕ) → 0 < n → decimals (suc k) n ≡ (48 + n / 10 ^ k) ∷ decimals k (n % 10 ^ k)
 unfolding decimals
-next-digit k n more =
-    let left : (n == 0) ≡ false = ne_eqb n 0 (λ e. omega arith) in
-    rw left refl
+next-digit k n more = rw (ne_eqb n 0 (λ e. omega arith)) refl
 
 places-left : (k n : ℕ) → n < 10 ^ k → 0 < n → 0 < k
 places-left zero n h more = absurd (omega arith)
@@ -259,20 +230,18 @@ pub record IsStep (k n : ℕ) : Type 0 where
 
 step-at : (k j n : ℕ) → k ≤ 7 → n < 10 ^ k → 0 < n → k ≡ suc j → k - 1 ≡ j → IsStep k n
 step-at k j n few h more e f =
-    let below : n < 10 ^ suc j = subst (λ (m : ℕ). n < 10 ^ m) e h in
     record {
       places = omega arith;
       positive = ten-positive (k - 1);
       small = pow-le-pow_right {n = 10} (omega arith) {i = k - 1} {j = 7} (omega arith);
-      digit = rw f (digit-small j n below);
+      digit = rw f (digit-small j n (subst (λ (m : ℕ). n < 10 ^ m) e h));
       rest = mod-lt n (ten-positive (k - 1));
       next = rw f (ap (λ (m : ℕ). decimals m n) e ∙ next-digit j n more);
     }
 
 pub step : (k n : ℕ) → k ≤ 7 → n < 10 ^ k → 0 < n → IsStep k n
 step k n few h more =
-    let left : 0 < k = places-left k n h more in
-    step-at k (k - 1) n few h more (omega arith) refl
+    step-at k (k - 1) n few h more (omega (arith, places-left k n h more)) refl
 
 pub point-first : (n : ℕ) → n < 10 ^ 7 → 0 < n → after_point (decimals 7 n) ≡ 46 ∷ decimals 7 n
 point-first n h more = ap after_point (next-digit 6 n more) ∙ ap (λ (ds : List ℕ). 46 ∷ ds) (sym (next-digit 6 n more))

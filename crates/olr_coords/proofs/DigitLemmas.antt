@@ -1,6 +1,6 @@
 -- The values of digits.
-use Rattle.std.proofs.Common.{◌≡◌, ℕ, ◌+◌, ◌*◌, ◌-◌, ◌<◌, ◌≤◌, ◌^◌, true, ◌==◌, List, [], ◌∷◌, length, fold, refl, ap}
-use Rattle.std.proofs.Common.{sym, subst, ◌∙◌, arith, rules, take, not, get_or, zero, suc}
+use Rattle.std.proofs.Common.{◌≡◌, ℕ, ◌+◌, ◌*◌, ◌-◌, ◌<◌, ◌≤◌, ◌^◌, true, ◌==◌, List, [], ◌∷◌, length, fold, refl, ap, sym, ◌∙◌}
+use Rattle.std.proofs.Common.{arith, rules, take, not, get_or, zero, suc}
 use Rattle.std.specs.List.{list_all}
 use Rattle.std.specs.Char.{is_ascii_digit}
 use Rattle.std.proofs.lemmas.Bool.{and_parts}
@@ -29,10 +29,9 @@ pub scaled-lt : (n k : ℕ) → n < 10 ^ k → k ≤ 7 → n * 10 ^ (7 - k) < 10
 scaled-lt n k below few =
     let whole : 10 ^ k * 10 ^ (7 - k) ≡ 10 ^ 7 =
     let e : k + (7 - k) ≡ 7 = omega arith in
-    sym (pow-add 10 k (7 - k)) ∙ ap (λ (m : ℕ). 10 ^ m) e
-    in
+    sym (pow-add 10 k (7 - k)) ∙ ap (λ (m : ℕ). 10 ^ m) e in
     let scale : 0 < 10 ^ (7 - k) = search rules in
-    subst (λ (m : ℕ). n * 10 ^ (7 - k) < m) whole (mul-lt-mul_of_pos_right below scale)
+    coe 0 1 (i. n * 10 ^ (7 - k) < (whole i)) (mul-lt-mul_of_pos_right below scale)
 
 pub before-more : (c : ℕ) (text : List ℕ) → not (c == 46) ≡ true → before_point (c ∷ text) ≡ c ∷ before_point text
 before-more c text other = take_while-cons (λ d. not (d == 46)) c text ∙ rw other refl

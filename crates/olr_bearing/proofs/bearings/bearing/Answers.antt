@@ -43,7 +43,6 @@ returns-clause-value c =
     let lat : passed.lat ≡ to.lat = ap (λ (s : Scaled). s.lat) c.place.view_is in
     let width : passed.width ≡ to.width = ap (λ (s : Scaled). s.width) c.place.view_is in
     let range = c.requires.in_range in
-    let short = c.requires.short in
     let east : c.part-east.result ≡ above *ℤ (to.lon -ℤ pos to.width *ℤ from.lon) =
     part_is c.part-east.result (held w128 cosine.numerator) (held w128 passed.lon) (held w64 c.lon.result) above to.lon
     from.lon passed.width to.width c.part-east.ensures.value

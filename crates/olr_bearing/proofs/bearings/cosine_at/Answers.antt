@@ -16,13 +16,11 @@ record Square (m x : ℤ) : Type 0 where
 here : (c : goal.After-from-thousandths) → Square (thousandths c.args.place.lat) c.from-thousandths.result
 here c =
     let m = thousandths c.args.place.lat in
-    let lat = (coord_within c.args.place c.lat.ensures.range).1 in
-    let short : IsWithin 90000 m = thousandths_within c.args.place.lat lat in
+    let short : IsWithin 90000 m = thousandths_within c.args.place.lat ((coord_within c.args.place c.lat.ensures.range).1) in
     let square = square_within 90000 m short in
     let x = c.from-thousandths.result in
     let lat_is : held w64 c.lat.result ≡ c.args.place.lat = omega (arith, ints) in
-    let m_is : thousandths (held w64 c.lat.result) ≡ m = ap thousandths lat_is in
-    let is : held w128 x ≡ m = omega (arith, ints, m_is, short.0, short.1) in
+    let is : held w128 x ≡ m = omega (arith, ints, ap thousandths lat_is, short.0, short.1) in
     record { value = same_product (held w128 x) m (held w128 x) m is is; least = square.0; most = square.1 }
 
 pub overflow_sub-result : goal.overflow_sub-result

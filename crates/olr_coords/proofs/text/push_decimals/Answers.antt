@@ -1,8 +1,7 @@
-use Rattle.std.proofs.Common.{◌≡◌, List, ℕ, [], ◌∷◌, ◌++◌, ◌+◌, ◌-◌, ◌/◌, ◌%◌, ◌^◌, ap, ◌∙◌, sym, arith, append_assoc}
-use Rattle.std.proofs.Common.{refl}
+use Rattle.std.proofs.Common.{List, ℕ, [], ◌∷◌, ◌++◌, ◌+◌, ◌-◌, ◌/◌, ◌%◌, ◌^◌, ap, ◌∙◌, sym, arith, append_assoc}
 use Rattle.std.proofs.lemmas.List.{append-nil}
 use Rattle.olr_coords.specs.DegreesText.{decimals}
-use Rattle.olr_coords.proofs.DegreesTextLemmas.{IsStep, step, decimals-end}
+use Rattle.olr_coords.proofs.DegreesTextLemmas.{step, decimals-end}
 use Rattle.olr_coords.proofs.text.push_decimals.Goals as goal
 
 pub overflow_sub-places : goal.overflow_sub-places
