@@ -1,3 +1,5 @@
+pub mod OnLiterals
+mod TestLemmas
 pub mod FieldLemmas
 pub mod LoopLemmas
 pub mod PartLemmas

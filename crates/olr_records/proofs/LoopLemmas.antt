@@ -8,7 +8,7 @@ use Rattle.olr_spec.specs.Map.{ShapePoint}
 use Rattle.olr_records.specs.Records.{Field, Read, Bad_form, Out_of_range, ◌⊛◌, number, numbers, point, shape}
 use Rattle.olr_records.specs.Words.{Gathers}
 use Rattle.olr_records.specs.declared.faults.ReadFault.{ReadFault}
-use Rattle.olr_records.specs.declared.faults.ReadFault.TheVariants.{Syntax, Range, Memory}
+use Rattle.olr_records.specs.declared.faults.ReadFault.TheVariants.{Memory}
 
 abbrev pub onto : {A : Type 0} → Read (List A) → Read (List A) → Read (List A)
 onto x y = Ok (λ xs ys. xs ++ ys) ⊛ x ⊛ y
@@ -22,22 +22,20 @@ nothing-onto (Ok ys) = refl
 nothing-onto (Err f) = refl
 
 pub onto-bad : {A : Type 0} (x : Read (List A)) → onto x (Err Bad_form) ≡ Err Bad_form
-onto-bad (Ok xs) = refl
 onto-bad (Err Bad_form) = refl
-onto-bad (Err Out_of_range) = refl
+onto-bad x = refl
 
 -- with one item more
 onto_more : {A : Type 0} (x : Read (List A)) (p : Read A) (y : Read (List A))
     → onto (Ok (λ ts t. ts ++ t ∷ []) ⊛ x ⊛ p) y ≡ onto x (Ok (λ t ts. t ∷ ts) ⊛ p ⊛ y)
 onto_more (Ok xs) (Ok a) (Ok ys) = ap (λ zs. Ok zs) (append_assoc xs (a ∷ []) ys)
-onto_more (Ok xs) (Ok a) (Err f) = refl
-onto_more (Ok xs) (Err f) (Ok ys) = refl
-onto_more (Ok xs) (Err f) (Err g) = refl
-onto_more (Err f) (Ok a) (Ok ys) = refl
-onto_more (Err f) (Ok a) (Err g) = refl
-onto_more (Err f) (Err g) (Ok ys) = refl
 onto_more (Err Bad_form) (Err g) (Err h) = refl
 onto_more (Err Out_of_range) (Err g) (Err h) = refl
+onto_more (Err f) (Err g) (Ok ys) = refl
+onto_more (Err f) (Ok a) (Ok ys) = refl
+onto_more (Err f) (Ok a) (Err g) = refl
+onto_more (Ok xs) (Err f) (Ok ys) = refl
+onto_more x p y = refl
 
 -- the items read so far, and one more
 abbrev pub with : {A : Type 0} → Read (List A) → Read A → Read (List A)
@@ -49,9 +47,8 @@ at fs k = slice_index_or fs k []
 
 short : (fs : List Field) → 0 < length fs → length fs < 3 → shape fs ≡ Err Bad_form
 short [] some few = absurd (omega arith)
-short (a ∷ []) some few = refl
-short (a ∷ b ∷ []) some few = refl
 short (a ∷ b ∷ c ∷ fs) some few = absurd (omega arith)
+short fs some few = refl
 
 module _ (fs : List Field) (k : ℕ) where
   numbers_next : k < length fs → numbers (drop k fs) ≡ Ok (λ x xs. x ∷ xs) ⊛ number (at fs k) ⊛ numbers
@@ -112,20 +109,16 @@ okay P Q (Err f) h m = absurd m
 -- it is returned only by what takes memory
 pub gathers-only : {A B : Type 0} (P Q : B → Type 0) (view : A → B) (x : Read B) (r : Result A ReadFault) → IfOk x Q →
     Gathers P view x r → Gathers Q view x r
-gathers-only P Q view x (Ok a) h g = g
-gathers-only P Q view x (Err Syntax) h g = g
-gathers-only P Q view x (Err Range) h g = g
 gathers-only P Q view x (Err Memory) h g = okay P Q x h g
+gathers-only P Q view x r h g = g
 
 one_more : {A : Type 0} (p : Read A) (ps : Read (List A)) → IfOk (Ok (λ p ps. p ∷ ps) ⊛ p ⊛ ps) (λ qs. 0 < length qs)
 one_more (Ok a) (Ok bs) = omega arith
-one_more (Ok a) (Err f) = tt
 one_more (Err f) (Ok bs) = tt
-one_more (Err f) (Err g) = tt
+one_more p ps = tt
 
 -- fields in threes are at least one shape point
 pub some-points : (fs : List Field) → 0 < length fs → IfOk (shape fs) (λ ps. 0 < length ps)
 some-points [] some = absurd (omega arith)
-some-points (at ∷ []) some = tt
-some-points (at ∷ lon ∷ []) some = tt
 some-points (at ∷ lon ∷ lat ∷ fs) some = one_more (point at lon lat) (shape fs)
+some-points fs some = tt

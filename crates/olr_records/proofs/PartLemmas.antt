@@ -4,33 +4,27 @@ use Rattle.std.specs.Prelude.{IsOkAnd}
 use Rattle.olr_records.specs.Records.{Read, ◌⊛◌}
 use Rattle.olr_records.specs.Words.{Reads, Gathers, both}
 use Rattle.olr_records.specs.declared.faults.ReadFault.{ReadFault}
-use Rattle.olr_records.specs.declared.faults.ReadFault.TheVariants.{Syntax, Range, Memory}
+use Rattle.olr_records.specs.declared.faults.ReadFault.TheVariants.{Memory}
 
 -- a part that takes no memory
 pub no-memory : {A B : Type 0} (P : B → Type 0) (view : A → B) (x : Read B) (r : Result A ReadFault) → Reads view x r →
     Gathers P view x r
-no-memory P view x (Ok a) h = h
-no-memory P view x (Err Syntax) h = h
-no-memory P view x (Err Range) h = h
 no-memory P view x (Err Memory) h = absurd h
+no-memory P view x r h = h
 
 -- the first part
 pub first-part : {A Y Z : Type 0} (g : Y → Z) (v : A → Y) (y : Read Y) (r : Result A ReadFault) → Reads v y r →
     Reads (λ a. g (v a)) (Ok g ⊛ y) r
-first-part g v y (Ok a) h = ap (λ (q : Read _). Ok g ⊛ q) h
-first-part g v y (Err Syntax) h = ap (λ (q : Read _). Ok g ⊛ q) h
-first-part g v y (Err Range) h = ap (λ (q : Read _). Ok g ⊛ q) h
 first-part g v y (Err Memory) h = h
+first-part g v y r h = ap (λ (q : Read _). Ok g ⊛ q) h
 
 -- one part, converted
 pub made-part : {A Y Z : Type 0} (P : Y → Type 0) (R : Z → Type 0) (g : Y → Z) (v : A → Y) (y : Read Y)
     (r : Result A ReadFault) → ((b : Y) → P b → R (g b))
     → Gathers P v y r → Gathers R (λ a. g (v a)) (Ok g ⊛ y) r
-made-part P R g v y (Ok a) makes h = ap (λ (q : Read _). Ok g ⊛ q) h
-made-part P R g v y (Err Syntax) makes h = ap (λ (q : Read _). Ok g ⊛ q) h
-made-part P R g v y (Err Range) makes h = ap (λ (q : Read _). Ok g ⊛ q) h
 made-part P R g v (Ok b) (Err Memory) makes h = makes b h
 made-part P R g v (Err f) (Err Memory) makes h = h
+made-part P R g v y r makes h = ap (λ (q : Read _). Ok g ⊛ q) h
 
 -- ---- two parts
 
@@ -42,47 +36,24 @@ parts {A} {B} u v x y r s q is h k =
     subst (λ (t : Result (A × B) ReadFault). Reads (λ p. u p.0 (v p.1)) (x ⊛ y) t) (sym is) (by r s h k) where
       by : (r : Result A ReadFault) (s : Result B ReadFault) → Reads u x r → Reads v y s →
           Reads (λ p. u p.0 (v p.1)) (x ⊛ y) (both r s)
-      by (Ok a) (Ok b) h k = (λ i. h i ⊛ k i)
-      by (Ok a) (Err Syntax) h k = (λ i. h i ⊛ k i)
-      by (Ok a) (Err Range) h k = (λ i. h i ⊛ k i)
-      by (Ok a) (Err Memory) h k = absurd k
-      by (Err Syntax) (Ok b) h k = (λ i. h i ⊛ k i)
-      by (Err Syntax) (Err Syntax) h k = (λ i. h i ⊛ k i)
-      by (Err Syntax) (Err Range) h k = (λ i. h i ⊛ k i)
-      by (Err Syntax) (Err Memory) h k = absurd k
-      by (Err Range) (Ok b) h k = (λ i. h i ⊛ k i)
-      by (Err Range) (Err Syntax) h k = (λ i. h i ⊛ k i)
-      by (Err Range) (Err Range) h k = (λ i. h i ⊛ k i)
-      by (Err Range) (Err Memory) h k = absurd k
       by (Err Memory) s h k = absurd h
+      by r (Err Memory) h k = absurd k
+      by r s h k = (λ i. h i ⊛ k i)
 
 module _ {A B Y Z : Type 0} (P : (Y → Z) → Type 0) (Q : Y → Type 0) (R : Z → Type 0) (u : A → Y → Z) (v : B → Y) where
   reported : (x : Read (Y → Z)) (y : Read Y) (r : Result A ReadFault) (s : Result B ReadFault) →
       ((g : Y → Z) (b : Y) → P g → R (g b)) → ((a : A) (b : Y) → Q b → R (u a b))
       → Gathers P u x r → Gathers Q v y s → Gathers R (λ p. u p.0 (v p.1)) (x ⊛ y) (both r s)
-  reported x y (Ok a) (Ok b) first second h k = (λ i. h i ⊛ k i)
-  reported x y (Ok a) (Err Syntax) first second h k = (λ i. h i ⊛ k i)
-  reported x y (Ok a) (Err Range) first second h k = (λ i. h i ⊛ k i)
-  reported x (Ok b) (Ok a) (Err Memory) first second h k =
-      subst (λ (q : Read (Y → Z)). IsOkAnd (q ⊛ Ok b) R) (sym h) (second a b k)
-  reported x (Err f) (Ok a) (Err Memory) first second h k = absurd k
-  reported x y (Err Syntax) (Ok b) first second h k = (λ i. h i ⊛ k i)
-  reported x y (Err Syntax) (Err Syntax) first second h k = (λ i. h i ⊛ k i)
-  reported x y (Err Syntax) (Err Range) first second h k = (λ i. h i ⊛ k i)
-  reported x (Ok b) (Err Syntax) (Err Memory) first second h k = ap (λ (q : Read (Y → Z)). q ⊛ Ok b) h
-  reported x (Err f) (Err Syntax) (Err Memory) first second h k = absurd k
-  reported x y (Err Range) (Ok b) first second h k = (λ i. h i ⊛ k i)
-  reported x y (Err Range) (Err Syntax) first second h k = (λ i. h i ⊛ k i)
-  reported x y (Err Range) (Err Range) first second h k = (λ i. h i ⊛ k i)
-  reported x (Ok b) (Err Range) (Err Memory) first second h k = ap (λ (q : Read (Y → Z)). q ⊛ Ok b) h
-  reported x (Err f) (Err Range) (Err Memory) first second h k = absurd k
+  reported (Err f) y (Err Memory) s first second h k = absurd h
+  reported (Ok g) (Ok b) (Err Memory) (Err Memory) first second h k = first g b h
   reported (Ok g) y (Err Memory) (Ok b) first second h k =
       subst (λ (q : Read Y). IsOkAnd (Ok g ⊛ q) R) (sym k) (first g (v b) h)
-  reported (Ok g) y (Err Memory) (Err Syntax) first second h k = ap (λ (q : Read Y). Ok g ⊛ q) k
-  reported (Ok g) y (Err Memory) (Err Range) first second h k = ap (λ (q : Read Y). Ok g ⊛ q) k
-  reported (Ok g) (Ok b) (Err Memory) (Err Memory) first second h k = first g b h
-  reported (Ok g) (Err f) (Err Memory) (Err Memory) first second h k = absurd k
-  reported (Err f) y (Err Memory) s first second h k = absurd h
+  reported x (Err f) r (Err Memory) first second h k = absurd k
+  reported (Ok g) y (Err Memory) s first second h k = ap (λ (q : Read Y). Ok g ⊛ q) k
+  reported x (Ok b) (Ok a) (Err Memory) first second h k =
+      subst (λ (q : Read (Y → Z)). IsOkAnd (q ⊛ Ok b) R) (sym h) (second a b k)
+  reported x (Ok b) r (Err Memory) first second h k = ap (λ (q : Read (Y → Z)). q ⊛ Ok b) h
+  reported x y r s first second h k = (λ i. h i ⊛ k i)
 
   -- the results of both
   pub both-parts : (x : Read (Y → Z)) (y : Read Y) (r : Result A ReadFault) (s : Result B ReadFault)
@@ -96,9 +67,8 @@ module _ {A B Y Z : Type 0} (P : (Y → Z) → Type 0) (Q : Y → Type 0) (R : Z
 -- and a fault that is passed on
 handed : {A C B : Type 0} (P : B → Type 0) (view : A → B) (query : C → B) (x : Read B) (f : ReadFault) →
     Gathers P view x (Err f) → Gathers P query x (Err f)
-handed P view query x Syntax h = h
-handed P view query x Range h = h
 handed P view query x Memory h = h
+handed P view query x f h = h
 
 pub handed-on : {A C B : Type 0} (P : B → Type 0) (view : A → B) (query : C → B) (x : Read B) (r : Result A ReadFault)
     (q : Result C ReadFault) (f : ReadFault)

@@ -1,10 +1,11 @@
 -- A change that is read has a record, and its coordinates are in range.
-use Rattle.std.proofs.Common.{◌≡◌, ℕ, ℤ, Bool, true, false, List, [], ◌∷◌, Option, Some, None, Ok, Err, IsTrue, refl}
-use Rattle.std.proofs.Common.{subst, nat_le, ◌&&◌, ◌==◌, ◌%◌, pos, negsuc, arith}
+use Rattle.std.proofs.Common.{◌≡◌, ℕ, ℤ, Bool, true, false, List, [], ◌∷◌, Option, Some, None, Ok, Err, IsTrue, refl, subst}
+use Rattle.std.proofs.Common.{nat_le, ◌&&◌, ◌%◌, pos, negsuc, arith}
 use Rattle.std.specs.Prelude.{IfOk, IfSome, if◌then◌else◌, nat_abs, ⊤}
 use Rattle.std.specs.List.{AllByRecursion, list_all}
-use Rattle.std.proofs.lemmas.Bool.{and_from, and_parts, eq-eqb}
+use Rattle.std.proofs.lemmas.Bool.{and_parts, eq-eqb}
 use Rattle.std.proofs.lemmas.Bool.Decides.{nat_tests}
+use Rattle.std.proofs.lemmas.Result.{IfOk-weaker}
 use Rattle.olr_spec.specs.Coordinates.{Coord, is_coord, is_longitude, is_latitude}
 use Rattle.olr_spec.specs.Degrees.{degrees, unit7, are_digits, digits_value}
 use Rattle.olr_spec.specs.Map.{ShapePoint, Line, are_coords, Edit, Add_node, Move_node, Drop_node, Add_line, Set_line}
@@ -13,16 +14,16 @@ use Rattle.olr_spec.specs.Extension.{Path}
 use Rattle.olr_coords.specs.Bounds.{is_degrees}
 use Rattle.olr_coords.specs.DegreesText.{has_degrees_text}
 use Rattle.olr_coords.proofs.DegreesTextLemmas.{degrees-whole}
-use Rattle.olr_commands.specs.State.{same_name, Change, On_map, Add_path, Set_path, Drop_path, Command, Make, Show}
-use Rattle.olr_commands.specs.Recordable.{is_name, is_recordable_coord}
-use Rattle.olr_commands.specs.State.{Report, Dump, Explain, Begin, Commit, Abort, HasCoords}
-use Rattle.olr_records.specs.Records.{Field, Read, ◌⊛◌, value_or_fault, digits, max32, number, amount, class}
-use Rattle.olr_records.specs.Records.{coordinate, Bad_form, longitude, latitude, place, name, numbers, point}
-use Rattle.olr_records.specs.Records.{shape, node_fields, edit, one, none, node_record, line_between, attributes}
-use Rattle.olr_records.specs.Records.{whole_line, line_record, set_line_record, path_fields, path_record, forms}
-use Rattle.olr_records.specs.Records.{read_by, read}
-use Rattle.olr_records.specs.Recorded.{is_number, is_amount, is_place, is_point, are_attributes, is_named_path}
-use Rattle.olr_records.specs.Recorded.{has_record, Recorded}
+use Rattle.olr_commands.specs.State.{same_name, Change, On_map, Add_path, Set_path, Drop_path, Command, Make, Show, Report}
+use Rattle.olr_commands.specs.State.{Dump, Explain, Begin, Commit, Abort, HasCoords}
+use Rattle.olr_commands.specs.Recordable.{is_name}
+use Rattle.olr_records.specs.Records.{Field, Read, ◌⊛◌, value_or_fault, digits, max32, number, amount, class, coordinate}
+use Rattle.olr_records.specs.Records.{Bad_form, longitude, latitude, place, name, numbers, point, shape, node_fields, edit, one}
+use Rattle.olr_records.specs.Records.{none, node_record, line_between, attributes, whole_line, line_record, set_line_record}
+use Rattle.olr_records.specs.Records.{path_fields, path_record, forms, read_by, read}
+use Rattle.olr_records.specs.Recorded.{is_number, is_amount, is_place, is_point, are_attributes, is_named_path, has_record}
+use Rattle.olr_records.specs.Recorded.{Recorded}
+use Rattle.olr_records.proofs.TestLemmas.{all_weaker, ◌also◌}
 
 if_read : {A : Type 0} (P : A → Type 0) (b : Bool) (r q : Read A) → IfOk r P → IfOk q P → IfOk (if b then r else q) P
 if_read P true r q h g = h
@@ -39,9 +40,10 @@ given P Q (Ok g) (Err f) q h = tt
 given P Q (Err f) (Ok a) q h = tt
 given P Q (Err f) (Err k) q h = tt
 
-weaker : {A : Type 0} (P Q : A → Type 0) (r : Read A) → ((a : A) → P a → Q a) → IfOk r P → IfOk r Q
-weaker P Q (Ok a) w h = w a h
-weaker P Q (Err f) w h = tt
+-- two parts
+two : {A B C : Type 0} (P : C → Type 0) (Q : A → Type 0) (S : B → Type 0) (g : Read (A → B → C)) (r : Read A)
+    (s : Read B) → IfOk r Q → IfOk s S → IfOk g (Takes Q (Takes S P)) → IfOk (g ⊛ r ⊛ s) P
+two P Q S g r s q t h = given P S (g ⊛ r) s t (given (Takes S P) Q g r q h)
 
 -- ---- fields
 
@@ -59,8 +61,8 @@ digits_pass low high f =
 
 at_most_pass : (low high : ℕ) (f : Field) → IfOk (digits low high f) (λ n. IsTrue (nat_le n high))
 at_most_pass low high f =
-    weaker _ (λ n. IsTrue (nat_le n high)) (digits low high f) (λ n h. (and_parts (nat_le low n) (nat_le n high) h).1)
-    (digits_pass low high f)
+    IfOk-weaker (digits low high f) _ (λ n. IsTrue (nat_le n high))
+    (λ n h. (and_parts (nat_le low n) (nat_le n high) h).1) (digits_pass low high f)
 
 -- a coordinate in range, with a text of degrees
 abbrev Written : (ℤ → Bool) → ℤ → Type 0
@@ -70,11 +72,10 @@ found_passes : (test : ℤ → Bool) → ((z : ℤ) → IsTrue (test z) → IsTr
     IfSome o (λ z. nat_abs z % unit7 ≡ 0) → IfOk (coordinate test o) (Written test)
 found_passes test wide None whole = tt
 found_passes test wide (Some z) whole =
-    weaker _ (Written test) (value_or_fault (test z) z) (λ y h. h)
-    (elim (test z) as (λ b. test z ≡ b → IfOk (value_or_fault b z) (Written test)) [
-      | true ↦ λ e. (e, and_from (is_degrees z) (nat_abs z % unit7 == 0) (wide z e) (eq-eqb (nat_abs z % unit7) 0 whole))
+    elim (test z) as (λ b. test z ≡ b → IfOk (value_or_fault b z) (Written test)) [
+      | true ↦ λ e. (let w = wide z e in let n = eq-eqb (nat_abs z % unit7) 0 whole in (e, λ i. w i && n i))
       | false ↦ λ e. tt
-    ] refl)
+    ] refl
 
 longitude_wide : (z : ℤ) → IsTrue (is_longitude z) → IsTrue (is_degrees z)
 longitude_wide (pos n) h = grind (arith, nat_tests)
@@ -97,16 +98,16 @@ Place p = IsTrue (is_place p)
 
 place_passes : (lon lat : Field) → IfOk (place lon lat) Place
 place_passes lon lat =
-    given Place (Written is_latitude) (Ok (λ x y. record { lon = x; lat = y }) ⊛ longitude lon) (latitude lat)
-    (latitude_passes lat)
-    (given (Takes (Written is_latitude) Place) (Written is_longitude) (Ok (λ x y. record { lon = x; lat = y }))
-    (longitude lon) (longitude_passes lon)
-    (λ x h y g. and_from (is_longitude x && is_latitude y) (has_degrees_text x && has_degrees_text y)
-    (and_from (is_longitude x) (is_latitude y) h.0 g.0) (and_from (has_degrees_text x) (has_degrees_text y) h.1 g.1)))
+    two Place (Written is_longitude) (Written is_latitude) (Ok (λ x y. record { lon = x; lat = y })) (longitude lon)
+    (latitude lat) (longitude_passes lon) (latitude_passes lat)
+    (λ x h y g i. (h.0 i && g.0 i) && (h.1 i && g.1 i))
 
-name_passes : (f : Field) → IfOk (name f) (λ n. IsTrue (is_name n))
+abbrev Name : List ℕ → Type 0
+Name n = IsTrue (is_name n)
+
+name_passes : (f : Field) → IfOk (name f) Name
 name_passes f =
-    elim (is_name f) as (λ b. is_name f ≡ b → IfOk (if b then Ok f else Err Bad_form) (λ n. IsTrue (is_name n)))
+    elim (is_name f) as (λ b. is_name f ≡ b → IfOk (if b then Ok f else Err Bad_form) Name)
     [ true ↦ λ e. e | false ↦ λ e. tt ]
     refl
 
@@ -122,9 +123,8 @@ number_passes f = digits_pass 1 max32 f
 numbers_pass : (fs : List Field) → IfOk (numbers fs) Numbers
 numbers_pass [] = refl
 numbers_pass (f ∷ fs) =
-    given Numbers Numbers (Ok (λ x xs. x ∷ xs) ⊛ number f) (numbers fs) (numbers_pass fs)
-    (given (Takes Numbers Numbers) Number (Ok (λ x xs. x ∷ xs)) (number f) (number_passes f)
-    (λ x h xs g. and_from (is_number x) (list_all is_number xs) h g))
+    two Numbers Number Numbers (Ok (λ x xs. x ∷ xs)) (number f) (numbers fs) (number_passes f) (numbers_pass fs)
+    (λ x h xs g i. h i && g i)
 
 -- ---- parts of records
 
@@ -133,38 +133,30 @@ Node p = IsTrue (is_number p.0 && is_place p.1)
 
 node_passes : (fs : List Field) → IfOk (node_fields fs) Node
 node_passes (node ∷ lon ∷ lat ∷ []) =
-    given Node Place (Ok (λ x p. (x, p)) ⊛ number node) (place lon lat) (place_passes lon lat)
-    (given (Takes Place Node) Number (Ok (λ x p. (x, p))) (number node) (number_passes node)
-    (λ x h p g. and_from (is_number x) (is_place p) h g))
-node_passes [] = tt
-node_passes (node ∷ []) = tt
-node_passes (node ∷ lon ∷ []) = tt
-node_passes (node ∷ lon ∷ lat ∷ x ∷ fs) = tt
-
-abbrev Point : ShapePoint → Type 0
-Point s = IsTrue (is_point s)
+    two Node Number Place (Ok (λ x p. (x, p))) (number node) (place lon lat) (number_passes node) (place_passes lon lat)
+    (λ x h p g i. h i && g i)
+node_passes fs = tt
 
 abbrev Shape : List ShapePoint → Type 0
 Shape ss = IsTrue (list_all is_point ss)
+
+abbrev Point : ShapePoint → Type 0
+Point s = IsTrue (is_point s)
 
 abbrev On : ℕ → Type 0
 On n = IsTrue (nat_le 1 n && nat_le n 999999)
 
 point_passes : (at lon lat : Field) → IfOk (point at lon lat) Point
 point_passes at lon lat =
-    given Point Place (Ok (λ x p. record { at = x; place = p }) ⊛ digits 1 999999 at) (place lon lat)
-    (place_passes lon lat)
-    (given (Takes Place Point) On (Ok (λ x p. record { at = x; place = p })) (digits 1 999999 at)
-    (digits_pass 1 999999 at) (λ x h p g. and_from (nat_le 1 x && nat_le x 999999) (is_place p) h g))
+    two Point On Place (Ok (λ x p. record { at = x; place = p })) (digits 1 999999 at) (place lon lat)
+    (digits_pass 1 999999 at) (place_passes lon lat) (λ x h p g i. h i && g i)
 
 shape_passes : (fs : List Field) → IfOk (shape fs) Shape
 shape_passes [] = refl
-shape_passes (at ∷ []) = tt
-shape_passes (at ∷ lon ∷ []) = tt
 shape_passes (at ∷ lon ∷ lat ∷ fs) =
-    given Shape Shape (Ok (λ p ps. p ∷ ps) ⊛ point at lon lat) (shape fs) (shape_passes fs)
-    (given (Takes Shape Shape) Point (Ok (λ p ps. p ∷ ps)) (point at lon lat) (point_passes at lon lat)
-    (λ p h ps g. and_from (is_point p) (list_all is_point ps) h g))
+    two Shape Point Shape (Ok (λ p ps. p ∷ ps)) (point at lon lat) (shape fs) (point_passes at lon lat) (shape_passes fs)
+    (λ p h ps g i. h i && g i)
+shape_passes fs = tt
 
 abbrev Class : ℕ → Type 0
 Class n = IsTrue (nat_le n 7)
@@ -177,31 +169,23 @@ Attributes c = IsTrue (are_attributes c.0 c.1 c.2 c.3)
 
 attributes_pass : (frc fow len : Field) (fs : List Field) → IfOk (attributes frc fow len fs) Attributes
 attributes_pass frc fow len fs =
-    given Attributes Shape (Ok (λ a b c d. (a, b, c, d)) ⊛ class frc ⊛ class fow ⊛ digits 1 1000000 len) (shape fs)
-    (shape_passes fs)
-    (given (Takes Shape Attributes) Long (Ok (λ a b c d. (a, b, c, d)) ⊛ class frc ⊛ class fow)
-    (digits 1 1000000 len) (digits_pass 1 1000000 len)
-    (given (Takes Long (Takes Shape Attributes)) Class (Ok (λ a b c d. (a, b, c, d)) ⊛ class frc) (class fow)
-    (at_most_pass 0 7 fow)
-    (given (Takes Class (Takes Long (Takes Shape Attributes))) Class (Ok (λ a b c d. (a, b, c, d))) (class frc)
-    (at_most_pass 0 7 frc)
-    (λ a h b g c l d s.
-    let p = and_parts (nat_le 1 c) (nat_le c 1000000) l in
-    and_from _ (list_all is_point d) (and_from _ (nat_le c 1000000) (and_from _ (nat_le 1 c)
-    (and_from (nat_le a 7) (nat_le b 7) h g) p.0) p.1) s))))
+    two Attributes Long Shape (Ok (λ a b c d. (a, b, c, d)) ⊛ class frc ⊛ class fow) (digits 1 1000000 len) (shape fs)
+    (digits_pass 1 1000000 len) (shape_passes fs)
+    (two (Takes Long (Takes Shape Attributes)) Class Class (Ok (λ a b c d. (a, b, c, d))) (class frc) (class fow)
+    (at_most_pass 0 7 frc) (at_most_pass 0 7 fow)
+    (λ a h b g c l d s. let p = and_parts (nat_le 1 c) (nat_le c 1000000) l in
+    λ i. h i && g i && p.0 i && p.1 i && s i))
 
 abbrev Ends : Line → Type 0
-Ends l = IsTrue (is_number l.from && is_number l.to) × IsTrue (are_attributes l.frc l.fow l.len l.shape)
+Ends l = IsTrue (is_number l.from) × IsTrue (is_number l.to) × IsTrue (are_attributes l.frc l.fow l.len l.shape)
 
 line_passes : (from to frc fow len : Field) (fs : List Field) →
     IfOk (whole_line from to (attributes frc fow len fs)) Ends
 line_passes from to frc fow len fs =
     given Ends Attributes (Ok (λ a b c. line_between a b c.0 c.1 c.2 c.3) ⊛ number from ⊛ number to)
     (attributes frc fow len fs) (attributes_pass frc fow len fs)
-    (given (Takes Attributes Ends) Number (Ok (λ a b c. line_between a b c.0 c.1 c.2 c.3) ⊛ number from) (number to)
-    (number_passes to)
-    (given (Takes Number (Takes Attributes Ends)) Number (Ok (λ a b c. line_between a b c.0 c.1 c.2 c.3))
-    (number from) (number_passes from) (λ a h b g c d. (and_from (is_number a) (is_number b) h g, d))))
+    (two (Takes Attributes Ends) Number Number (Ok (λ a b c. line_between a b c.0 c.1 c.2 c.3)) (number from) (number to)
+    (number_passes from) (number_passes to) (λ a h b g c d. (h, g, d)))
 
 -- ---- records
 
@@ -216,72 +200,43 @@ node_record_passes g h fs =
 
 line_record_passes : (fs : List Field) → IfOk (line_record fs) OfEdit
 line_record_passes (x ∷ from ∷ to ∷ frc ∷ fow ∷ len ∷ fs) =
-    given OfEdit Ends (Ok (λ x l. Add_line x l) ⊛ number x) (whole_line from to (attributes frc fow len fs))
-    (line_passes from to frc fow len fs)
-    (given (Takes Ends OfEdit) Number (Ok (λ x l. Add_line x l)) (number x) (number_passes x)
-    (λ x h l g.
-    let p = and_parts (is_number l.from) (is_number l.to) g.0 in
-    and_from _ (are_attributes l.frc l.fow l.len l.shape) (and_from _ (is_number l.to)
-    (and_from (is_number x) (is_number l.from) h p.0) p.1) g.1))
-line_record_passes [] = tt
-line_record_passes (a ∷ []) = tt
-line_record_passes (a ∷ b ∷ []) = tt
-line_record_passes (a ∷ b ∷ c ∷ []) = tt
-line_record_passes (a ∷ b ∷ c ∷ d ∷ []) = tt
-line_record_passes (a ∷ b ∷ c ∷ d ∷ e ∷ []) = tt
+    two OfEdit Number Ends (Ok (λ x l. Add_line x l)) (number x) (whole_line from to (attributes frc fow len fs))
+    (number_passes x) (line_passes from to frc fow len fs) (λ x h l g i. h i && g.0 i && g.1 i && g.2 i)
+line_record_passes fs = tt
 
 set_line_record_passes : (fs : List Field) → IfOk (set_line_record fs) OfEdit
 set_line_record_passes (x ∷ frc ∷ fow ∷ len ∷ fs) =
-    given OfEdit Attributes (Ok (λ x c. Set_line x c.0 c.1 c.2 c.3) ⊛ number x) (attributes frc fow len fs)
-    (attributes_pass frc fow len fs)
-    (given (Takes Attributes OfEdit) Number (Ok (λ x c. Set_line x c.0 c.1 c.2 c.3)) (number x) (number_passes x)
-    (λ x h c g. and_from (is_number x) (are_attributes c.0 c.1 c.2 c.3) h g))
-set_line_record_passes [] = tt
-set_line_record_passes (a ∷ []) = tt
-set_line_record_passes (a ∷ b ∷ []) = tt
-set_line_record_passes (a ∷ b ∷ c ∷ []) = tt
+    two OfEdit Number Attributes (Ok (λ x c. Set_line x c.0 c.1 c.2 c.3)) (number x) (attributes frc fow len fs)
+    (number_passes x) (attributes_pass frc fow len fs) (λ x h c g i. h i && g i)
+set_line_record_passes fs = tt
 
-edit_passes : (r : Read Edit) → IfOk r OfEdit → IfOk (edit r) Recorded
-edit_passes (Ok e) h = h
-edit_passes (Err f) h = tt
+edit_passes : (r : List Field → Read Edit) → ((fs : List Field) → IfOk (r fs) OfEdit) → (fs : List Field) →
+    IfOk (edit (r fs)) Recorded
+edit_passes r h fs = given Recorded OfEdit (Ok (λ x. Make (On_map x))) (r fs) (h fs) (λ e i. i)
 
-one_passes : {A B : Type 0} (P : B → Type 0) (Q : A → Type 0) (g : A → B) (r : Field → Read A) (fs : List Field) →
-    ((f : Field) → IfOk (r f) Q) → ((a : A) → Q a → P (g a)) → IfOk (one g r fs) P
-one_passes P Q g r [] q h = tt
-one_passes P Q g r (f ∷ []) q h = given P Q (Ok g) (r f) (q f) h
-one_passes P Q g r (f ∷ k ∷ fs) q h = tt
+one_passes : {A B : Type 0} (P : B → Type 0) (Q : A → Type 0) (g : A → B) (r : Field → Read A) →
+    ((f : Field) → IfOk (r f) Q) → ((a : A) → Q a → P (g a)) → (fs : List Field) → IfOk (one g r fs) P
+one_passes P Q g r q h (f ∷ []) = given P Q (Ok g) (r f) (q f) h
+one_passes P Q g r q h fs = tt
 
-none_passes : (c : Command) (fs : List Field) → Recorded c → IfOk (none c fs) Recorded
-none_passes c [] h = h
-none_passes c (f ∷ fs) h = tt
+none_passes : (c : Command) → Recorded c → (fs : List Field) → IfOk (none c fs) Recorded
+none_passes c h [] = h
+none_passes c h fs = tt
 
 abbrev NamedPath : List ℕ × Path → Type 0
 NamedPath p = IsTrue (is_named_path p.0 p.1)
-
-abbrev Name : List ℕ → Type 0
-Name n = IsTrue (is_name n)
 
 abbrev Amount : ℕ → Type 0
 Amount n = IsTrue (is_amount n)
 
 path_fields_pass : (fs : List Field) → IfOk (path_fields fs) NamedPath
 path_fields_pass (n ∷ first ∷ last ∷ fs) =
-    given NamedPath Numbers
-    (Ok (λ n p q ls. (n, record { lines = ls; pos = p; neg = q })) ⊛ name n ⊛ amount first ⊛ amount last) (numbers fs)
-    (numbers_pass fs)
-    (given (Takes Numbers NamedPath) Amount
-    (Ok (λ n p q ls. (n, record { lines = ls; pos = p; neg = q })) ⊛ name n ⊛ amount first) (amount last)
-    (at_most_pass 0 max32 last)
-    (given (Takes Amount (Takes Numbers NamedPath)) Amount
-    (Ok (λ n p q ls. (n, record { lines = ls; pos = p; neg = q })) ⊛ name n) (amount first)
-    (at_most_pass 0 max32 first)
-    (given (Takes Amount (Takes Amount (Takes Numbers NamedPath))) Name
-    (Ok (λ n p q ls. (n, record { lines = ls; pos = p; neg = q }))) (name n) (name_passes n)
-    (λ n a p b q c ls d. and_from _ (list_all is_number ls) (and_from _ (is_amount q)
-    (and_from (is_name n) (is_amount p) a b) c) d))))
-path_fields_pass [] = tt
-path_fields_pass (n ∷ []) = tt
-path_fields_pass (n ∷ first ∷ []) = tt
+    let whole : List ℕ → ℕ → ℕ → List ℕ → List ℕ × Path = λ n p q ls. (n, record { lines = ls; pos = p; neg = q }) in
+    two NamedPath Amount Numbers (Ok whole ⊛ name n ⊛ amount first) (amount last) (numbers fs)
+    (at_most_pass 0 max32 last) (numbers_pass fs)
+    (two (Takes Amount (Takes Numbers NamedPath)) Name Amount (Ok whole) (name n) (amount first) (name_passes n)
+    (at_most_pass 0 max32 first) (λ n a p b q c ls d i. a i && b i && c i && d i))
+path_fields_pass fs = tt
 
 path_record_passes : (g : List ℕ → Path → Change) →
     ((n : List ℕ) (p : Path) → NamedPath (n, p) → IsTrue (has_record (g n p))) → (fs : List Field) →
@@ -301,54 +256,24 @@ by_passes (r ∷ rs) h word fs =
 
 forms_pass : AllByRecursion (λ r. Passes r.1) forms
 unfolding Passes
-forms_pass = (
-  λ fs. edit_passes (node_record Add_node fs) (node_record_passes Add_node (λ n c h. h) fs),
-  (
-    λ fs. edit_passes (node_record Move_node fs) (node_record_passes Move_node (λ n c h. h) fs),
-    (
-      λ fs. edit_passes (one Drop_node number fs) (one_passes OfEdit Number Drop_node number fs number_passes (λ n h. h)),
-      (
-        λ fs. edit_passes (line_record fs) (line_record_passes fs),
-        (
-          λ fs. edit_passes (set_line_record fs) (set_line_record_passes fs),
-          (
-            λ fs.
-                edit_passes (one Drop_line number fs)
-                (one_passes OfEdit Number Drop_line number fs number_passes (λ n h. h)),
-            (
-              λ fs. path_record_passes Add_path (λ n p h. h) fs,
-              (
-                λ fs. path_record_passes Set_path (λ n p h. h) fs,
-                (
-                  λ fs. one_passes Recorded Name (λ n. Make (Drop_path n)) name fs name_passes (λ n h. h),
-                  (
-                    λ fs. one_passes Recorded Name Show name fs name_passes (λ n h. tt),
-                    (
-                      λ fs. none_passes Report fs tt,
-                      (
-                        λ fs. none_passes Dump fs tt,
-                        (
-                          λ fs. one_passes Recorded (λ f. ⊤) Explain (λ f. Ok f) fs (λ f. tt) (λ f h. tt),
-                          (
-                            λ fs. none_passes Begin fs tt,
-                            (
-                              λ fs. one_passes Recorded Amount Commit amount fs (at_most_pass 0 max32) (λ n h. tt),
-                              (λ fs. none_passes Abort fs tt, tt),
-                            ),
-                          ),
-                        ),
-                      ),
-                    ),
-                  ),
-                ),
-              ),
-            ),
-          ),
-        ),
-      ),
-    ),
-  ),
-)
+forms_pass =
+    edit_passes (node_record Add_node) (node_record_passes Add_node (λ n c h. h))
+    also edit_passes (node_record Move_node) (node_record_passes Move_node (λ n c h. h))
+    also edit_passes (one Drop_node number) (one_passes OfEdit Number Drop_node number number_passes (λ n h. h))
+    also edit_passes line_record line_record_passes
+    also edit_passes set_line_record set_line_record_passes
+    also edit_passes (one Drop_line number) (one_passes OfEdit Number Drop_line number number_passes (λ n h. h))
+    also path_record_passes Add_path (λ n p h. h)
+    also path_record_passes Set_path (λ n p h. h)
+    also one_passes Recorded Name (λ n. Make (Drop_path n)) name name_passes (λ n h. h)
+    also one_passes Recorded Name Show name name_passes (λ n h. tt)
+    also none_passes Report tt
+    also none_passes Dump tt
+    also one_passes Recorded (λ f. ⊤) Explain (λ f. Ok f) (λ f. tt) (λ f h. tt)
+    also none_passes Begin tt
+    also one_passes Recorded Amount Commit amount (at_most_pass 0 max32) (λ n h. tt)
+    also none_passes Abort tt
+    also tt
 
 recorded : (fields : List Field) → IfOk (read fields) Recorded
 recorded [] = tt
@@ -360,41 +285,26 @@ read_recorded fields c e = subst (λ (r : Read Command). IfOk r Recorded) e (rec
 -- ---- its coordinates are in range
 
 place_coord : (p : Coord) → IsTrue (is_place p) → IsTrue (is_coord p)
-place_coord p h = (and_parts (is_coord p) (is_recordable_coord p) h).0
-
-shape_coords : (ss : List ShapePoint) → IsTrue (list_all is_point ss) → IsTrue (are_coords ss)
-shape_coords [] h = refl
-shape_coords (s ∷ ss) h =
-    let p = and_parts (is_point s) (list_all is_point ss) h in
-    let q = and_parts _ (is_place s.place) p.0 in
-    and_from (is_coord s.place) (are_coords ss) (place_coord s.place q.1) (shape_coords ss p.1)
+place_coord p h = (and_parts (is_coord p) _ h).0
 
 attributes_coords : (frc fow len : ℕ) (ss : List ShapePoint) → IsTrue (are_attributes frc fow len ss) →
     IsTrue (are_coords ss)
-attributes_coords frc fow len ss h = shape_coords ss (and_parts _ (list_all is_point ss) h).1
+attributes_coords frc fow len ss h =
+    all_weaker is_point (λ s. is_coord s.place) (λ s g. place_coord s.place (and_parts _ (is_place s.place) g).1) ss
+    (and_parts _ (list_all is_point ss) h).1
 
 edit_coords : (e : Edit) → OfEdit e → HasCoord e
 edit_coords (Add_node v p) h = place_coord p (and_parts (is_number v) (is_place p) h).1
 edit_coords (Move_node v p) h = place_coord p (and_parts (is_number v) (is_place p) h).1
-edit_coords (Drop_node v) h = tt
 edit_coords (Add_line x l) h =
     attributes_coords l.frc l.fow l.len l.shape (and_parts _ (are_attributes l.frc l.fow l.len l.shape) h).1
 edit_coords (Set_line x frc fow len ss) h =
     attributes_coords frc fow len ss (and_parts (is_number x) (are_attributes frc fow len ss) h).1
-edit_coords (Drop_line x) h = tt
+edit_coords e h = tt
 
 coords : (c : Command) → Recorded c → HasCoords c
 coords (Make (On_map e)) h = edit_coords e h
-coords (Make (Add_path n p)) h = tt
-coords (Make (Set_path n p)) h = tt
-coords (Make (Drop_path n)) h = tt
-coords (Show n) h = tt
-coords Report h = tt
-coords Dump h = tt
-coords (Explain text) h = tt
-coords Begin h = tt
-coords (Commit n) h = tt
-coords Abort h = tt
+coords c h = tt
 
 pub coords_read : (fields : List Field) (c : Command) → read fields ≡ Ok c → HasCoords c
 coords_read fields c e = coords c (read_recorded fields c e)

@@ -1,11 +1,10 @@
 -- The text of records is split into their fields.
-use Rattle.std.proofs.Common.{◌≡◌, ℕ, zero, suc, ◌+◌, ◌/◌, ◌%◌, ◌^◌, ◌<◌, ◌≤◌, ℤ, pos, negsuc, Bool, true, false, ◌&&◌, ◌||◌}
-use Rattle.std.proofs.Common.{List, [], ◌∷◌, ◌++◌, length, map, Some, nat_le, IsTrue, refl, sym, ap, ◌∙◌}
-use Rattle.std.proofs.Common.{arith, ◌==◌}
+use Rattle.std.proofs.Common.{◌≡◌, ℕ, zero, suc, ◌+◌, ◌/◌, ◌%◌, ◌^◌, ◌<◌, ◌≤◌, ℤ, pos, negsuc, true, false, ◌&&◌, ◌||◌, List}
+use Rattle.std.proofs.Common.{[], ◌∷◌, ◌++◌, length, map, Some, nat_le, IsTrue, refl, sym, ap, ◌∙◌, arith, ◌==◌}
 use Rattle.std.specs.Prelude.{decimal, if◌then◌else◌}
 use Rattle.std.specs.List.{list_all, list_any, join_with_byte, concat, AllByRecursion}
 use Rattle.std.specs.Char.{is_ascii_digit}
-use Rattle.std.proofs.lemmas.Bool.{and_parts, and_from, leb-true}
+use Rattle.std.proofs.lemmas.Bool.{and_parts, leb-true}
 use Rattle.std.proofs.lemmas.Bool.Decides.{nat_tests}
 use Rattle.std.proofs.lemmas.Fmt.{digits_decimal}
 use Rattle.std.proofs.lemmas.List.{length-append}
@@ -27,12 +26,13 @@ use Rattle.olr_coords.proofs.DegreesTextLemmas.{decimals-digits}
 use Rattle.olr_coords.proofs.DigitLemmas.{own}
 use Rattle.olr_commands.specs.State.{Change, On_map, Add_path, Set_path, Drop_path}
 use Rattle.olr_commands.specs.Recordable.{is_name_byte, is_name, is_recordable_coord}
-use Rattle.olr_commands.specs.RecordText.{after_commas, fields_of_coord, fields_of_shape, fields_of_path}
-use Rattle.olr_commands.specs.RecordText.{fields_of_change, record_line}
+use Rattle.olr_commands.specs.RecordText.{after_commas, fields_of_coord, fields_of_shape, fields_of_path, fields_of_change}
+use Rattle.olr_commands.specs.RecordText.{record_line}
 use Rattle.olr_records.specs.Records.{Field, max32}
-use Rattle.olr_records.specs.Recorded.{is_number, is_amount, is_place, is_point, are_attributes, is_named_path}
-use Rattle.olr_records.specs.Recorded.{has_record, HaveRecords}
+use Rattle.olr_records.specs.Recorded.{is_number, is_amount, is_place, is_point, are_attributes, is_named_path, has_record}
+use Rattle.olr_records.specs.Recorded.{HaveRecords}
 use Rattle.olr_commands.proofs.RecordLemmas.{joined}
+use Rattle.olr_records.proofs.TestLemmas.{and_three, and_four, and_five, all_weaker, ◌also◌}
 
 -- ---- the bytes of fields
 
@@ -46,10 +46,7 @@ digit_byte : (c : ℕ) → is_ascii_digit c ≡ true → is_name_byte c ≡ true
 digit_byte c h = grind (arith, nat_tests)
 
 digits_plain : (f : Field) → list_all is_ascii_digit f ≡ true → Plain f
-digits_plain [] h = refl
-digits_plain (c ∷ f) h =
-    let p = and_parts (is_ascii_digit c) (list_all is_ascii_digit f) h in
-    and_from (is_name_byte c) (list_all is_name_byte f) (digit_byte c p.0) (digits_plain f p.1)
+digits_plain f h = all_weaker is_ascii_digit is_name_byte digit_byte f h
 
 decimal_plain : (n : ℕ) → n < 2 ^ 64 → Plain (decimal n)
 decimal_plain n small = digits_plain (decimal n) (digits_decimal own n small)
@@ -61,8 +58,7 @@ number_plain : (n : ℕ) → IsTrue (is_number n) → Plain (decimal n)
 number_plain n h = bounded_plain n max32 (omega arith) (and_parts (nat_le 1 n) (nat_le n max32) h).1
 
 joined_plain : (f g : Field) → Plain f → Plain g → Plain (f ++ g)
-joined_plain f g p q =
-    list_all-append is_name_byte f g ∙ and_from (list_all is_name_byte f) (list_all is_name_byte g) p q
+joined_plain f g p q = list_all-append is_name_byte f g ∙ (λ i. p i && q i)
 
 point_plain : (f : Field) → Plain f → Plain (after_point f)
 point_plain [] h = refl
@@ -90,16 +86,15 @@ place_plain : (p : Coord) → IsTrue (is_place p) → AllPlain (fields_of_coord 
 place_plain p h =
     let both = and_parts (is_coord p) (is_recordable_coord p) h in
     let texts = and_parts (has_degrees_text p.lon) (has_degrees_text p.lat) both.1 in
-    (degrees_plain p.lon texts.0, (degrees_plain p.lat texts.1, tt))
+    degrees_plain p.lon texts.0 also degrees_plain p.lat texts.1 also tt
 
 shape_plain : (ss : List ShapePoint) → IsTrue (list_all is_point ss) → AllPlain (fields_of_shape ss)
 shape_plain [] h = tt
 shape_plain (s ∷ ss) h =
     let p = and_parts (is_point s) (list_all is_point ss) h in
-    let q = and_parts _ (is_place s.place) p.0 in
-    let r = and_parts (nat_le 1 s.at) (nat_le s.at 999999) q.0 in
-    let there = place_plain s.place q.1 in
-    (bounded_plain s.at 999999 (omega arith) r.1, (there.0, (there.1.0, shape_plain ss p.1)))
+    let q = and_three (nat_le 1 s.at) (nat_le s.at 999999) (is_place s.place) p.0 in
+    let there = place_plain s.place q.2 in
+    bounded_plain s.at 999999 (omega arith) q.1 also there.0 also there.1.0 also shape_plain ss p.1
 
 numbers_plain : (xs : List ℕ) → IsTrue (list_all is_number xs) → AllPlain (map decimal xs)
 numbers_plain [] h = tt
@@ -113,28 +108,15 @@ name_plain f h = (and_parts (nat_le 1 (length f) && nat_le (length f) 64) (list_
 attributes_plain : (frc fow len : ℕ) (ss : List ShapePoint) → IsTrue (are_attributes frc fow len ss) →
     AllPlain (decimal frc ∷ decimal fow ∷ decimal len ∷ fields_of_shape ss)
 attributes_plain frc fow len ss h =
-    let a = and_parts _ (list_all is_point ss) h in
-    let b = and_parts _ (nat_le len 1000000) a.0 in
-    let c = and_parts _ (nat_le 1 len) b.0 in
-    let d = and_parts (nat_le frc 7) (nat_le fow 7) c.0 in (
-      bounded_plain frc 7 (omega arith) d.0,
-      (
-        bounded_plain fow 7 (omega arith) d.1,
-        (bounded_plain len 1000000 (omega arith) b.1, shape_plain ss a.1),
-      ),
-    )
+    let p = and_five (nat_le frc 7) (nat_le fow 7) (nat_le 1 len) (nat_le len 1000000) (list_all is_point ss) h in
+    bounded_plain frc 7 (omega arith) p.0 also bounded_plain fow 7 (omega arith) p.1
+    also bounded_plain len 1000000 (omega arith) p.3 also shape_plain ss p.4
 
 path_plain : (n : List ℕ) (p : Path) → IsTrue (is_named_path n p) → AllPlain (fields_of_path n p)
 path_plain n p h =
-    let a = and_parts _ (list_all is_number p.lines) h in
-    let b = and_parts _ (is_amount p.neg) a.0 in
-    let c = and_parts (is_name n) (is_amount p.pos) b.0 in (
-      name_plain n c.0,
-      (
-        bounded_plain p.pos max32 (omega arith) c.1,
-        (bounded_plain p.neg max32 (omega arith) b.1, numbers_plain p.lines a.1),
-      ),
-    )
+    let a = and_four (is_name n) (is_amount p.pos) (is_amount p.neg) (list_all is_number p.lines) h in
+    name_plain n a.0 also bounded_plain p.pos max32 (omega arith) a.1 also bounded_plain p.neg max32 (omega arith) a.2
+    also numbers_plain p.lines a.3
 
 record_plain : (x : Change) → IsTrue (has_record x) → AllPlain (fields_of_change x)
 record_plain (On_map (Add_node v p)) h =
@@ -143,18 +125,9 @@ record_plain (On_map (Move_node v p)) h =
     let a = and_parts (is_number v) (is_place p) h in (refl, (number_plain v a.0, place_plain p a.1))
 record_plain (On_map (Drop_node v)) h = (refl, (number_plain v h, tt))
 record_plain (On_map (Add_line x l)) h =
-    let a = and_parts _ (are_attributes l.frc l.fow l.len l.shape) h in
-    let b = and_parts _ (is_number l.to) a.0 in
-    let c = and_parts (is_number x) (is_number l.from) b.0 in (
-      refl,
-      (
-        number_plain x c.0,
-        (
-          number_plain l.from c.1,
-          (number_plain l.to b.1, attributes_plain l.frc l.fow l.len l.shape a.1),
-        ),
-      ),
-    )
+    let a = and_four (is_number x) (is_number l.from) (is_number l.to) (are_attributes l.frc l.fow l.len l.shape) h in
+    refl also number_plain x a.0 also number_plain l.from a.1 also number_plain l.to a.2
+    also attributes_plain l.frc l.fow l.len l.shape a.3
 record_plain (On_map (Set_line x frc fow len ss)) h =
     let a = and_parts (is_number x) (are_attributes frc fow len ss) h in
     (refl, (number_plain x a.0, attributes_plain frc fow len ss a.1))
@@ -168,45 +141,31 @@ record_plain (Drop_path n) h = (refl, (name_plain n h, tt))
 plain_byte : (c : ℕ) → is_name_byte c ≡ true → needs_byte default_writer c ≡ false
 plain_byte c h = grind (arith, nat_tests)
 
-neither : (a b : Bool) → a ≡ false → b ≡ false → (a || b) ≡ false
-neither a b p q = λ i. p i || q i
-
 no_quotes : (f : Field) → Plain f → list_any (needs_byte default_writer) f ≡ false
 no_quotes [] h = refl
 no_quotes (c ∷ f) h =
-    let p = and_parts (is_name_byte c) (list_all is_name_byte f) h in
-    neither (needs_byte default_writer c) (list_any (needs_byte default_writer) f) (plain_byte c p.0)
-    (no_quotes f p.1)
+    let p = and_parts (is_name_byte c) (list_all is_name_byte f) h in λ i. plain_byte c p.0 i || no_quotes f p.1 i
 
 field_is : (f : Field) → Plain f → field_text default_writer f ≡ f
-field_is f h = let none = no_quotes f h in λ i. if none i then quoted default_writer f else f
+field_is f h = λ i. if no_quotes f h i then quoted default_writer f else f
 
 fields_are : (fs : List Field) → AllPlain fs → fields_text default_writer fs ≡ after_commas fs
 unfolding fields_text
 fields_are [] h = refl
-fields_are (f ∷ fs) h = let a = field_is f h.0 in let b = fields_are fs h.1 in λ i. 44 ∷ (a i ++ b i)
+fields_are (f ∷ fs) h = λ i. 44 ∷ (field_is f h.0 i ++ fields_are fs h.1 i)
 
 -- a record of two fields or more
 row_is : (fs : List Field) → 2 ≤ length fs → AllPlain fs →
     row_text default_writer fs ≡ join_with_byte 44 fs ++ 10 ∷ []
 unfolding is_blank
-row_is [] two h = absurd (omega arith)
-row_is (f ∷ []) two h = absurd (omega arith)
 row_is (f ∷ g ∷ fs) two h =
-    let a = field_is f h.0 in
-    let b = fields_are (g ∷ fs) h.1 in
-    (λ i. (a i ++ b i) ++ 10 ∷ []) ∙ ap (λ (t : List ℕ). t ++ 10 ∷ []) (sym (joined f (g ∷ fs)))
+    (λ i. (field_is f h.0 i ++ fields_are (g ∷ fs) h.1 i) ++ 10 ∷ [])
+    ∙ ap (λ (t : List ℕ). t ++ 10 ∷ []) (sym (joined f (g ∷ fs)))
+row_is fs two h = absurd (omega arith)
 
 two_fields : (x : Change) → 2 ≤ length (fields_of_change x)
 two_fields (On_map (Add_node v p)) = omega arith
-two_fields (On_map (Move_node v p)) = omega arith
-two_fields (On_map (Drop_node v)) = omega arith
-two_fields (On_map (Add_line x l)) = omega arith
-two_fields (On_map (Set_line x frc fow len ss)) = omega arith
-two_fields (On_map (Drop_line x)) = omega arith
-two_fields (Add_path n p) = omega arith
-two_fields (Set_path n p) = omega arith
-two_fields (Drop_path n) = omega arith
+two_fields x = omega arith
 
 read_as_fields : (fs : List Field) → 2 ≤ length fs → read_back fs ≡ fs
 read_as_fields [] two = absurd (omega arith)
@@ -250,14 +209,7 @@ no_mark : (xs : List Change) → strip_bom (concat (map record_line xs)) ≡ con
 unfolding strip_bom
 no_mark [] = refl
 no_mark (On_map (Add_node v p) ∷ xs) = refl
-no_mark (On_map (Move_node v p) ∷ xs) = refl
-no_mark (On_map (Drop_node v) ∷ xs) = refl
-no_mark (On_map (Add_line x l) ∷ xs) = refl
-no_mark (On_map (Set_line x frc fow len ss) ∷ xs) = refl
-no_mark (On_map (Drop_line x) ∷ xs) = refl
-no_mark (Add_path n p ∷ xs) = refl
-no_mark (Set_path n p ∷ xs) = refl
-no_mark (Drop_path n ∷ xs) = refl
+no_mark xs = refl
 
 pub records_split : (xs : List Change) → HaveRecords xs →
     records default_config (strip_bom (concat (map record_line xs))) ≡ map fields_of_change xs

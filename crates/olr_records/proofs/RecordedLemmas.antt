@@ -1,29 +1,29 @@
 -- Commands whose changes have records lead to contents that have records.
-use Rattle.std.proofs.Common.{inl, inr, ◌≡◌, ℕ, Bool, true, false, cond, not, List, [], ◌∷◌, ◌++◌, map}
-use Rattle.std.proofs.Common.{filter, length, Option, Some, None, is_some, unwrap_or, Result, Ok, Err, IsTrue, refl, sym}
-use Rattle.std.proofs.Common.{ap, ◌∙◌, subst, nat_cmp}
-use Rattle.std.specs.Prelude.{nat_le, ◌==◌, IfSome}
+use Rattle.std.proofs.Common.{inl, inr, ◌≡◌, ℕ, Bool, true, false, cond, not, List, [], ◌∷◌, ◌++◌, map, filter, length, Option}
+use Rattle.std.proofs.Common.{Some, None, is_some, unwrap_or, Result, Ok, Err, IsTrue, refl, sym, ap, ◌∙◌, subst, nat_cmp}
+use Rattle.std.specs.Prelude.{nat_le, ◌==◌, ◌&&◌, IfSome}
 use Rattle.std.specs.List.{list_all, AllByRecursion}
 use Rattle.std.specs.FinMap.{FinMap, get, insert, remove, empty, entries, entries_sorted, get-entries, get-empty}
 use Rattle.std.specs.FinMap.Entries.{find}
 use Rattle.std.specs.Cmp.{unsigned_tied}
-use Rattle.std.proofs.lemmas.Bool.{and_parts, and_from, cases_eq, eq-eqb, ne_eqb}
+use Rattle.std.proofs.lemmas.Bool.{and_parts, cases_eq, eq-eqb, ne_eqb}
 use Rattle.olr_spec.specs.Coordinates.{Coord, is_coord}
-use Rattle.olr_spec.specs.Map.{Map, MapFault, Line, no_line, start, end, Edit, edited, Add_node, Move_node}
-use Rattle.olr_spec.specs.Map.{Drop_node, Add_line, Set_line, Drop_line, ShapePoint}
+use Rattle.olr_spec.specs.Map.{Map, MapFault, Line, no_line, start, end, Edit, edited, Add_node, Move_node, Drop_node, Add_line}
+use Rattle.olr_spec.specs.Map.{Set_line, Drop_line}
 use Rattle.olr_spec.specs.Extension.{Path, is_path}
 use Rattle.olr_spec.proofs.EditLemmas.{Made, made_by, got_same, got_other, left_same, left_other}
-use Rattle.olr_commands.specs.State.{Named, Content, has_path, same_name, with_path, TextFault, Fault, Path_exists}
-use Rattle.olr_commands.specs.State.{No_path, Bad_path, Batch_full, Count_differs, when, Change, On_map, Add_path}
-use Rattle.olr_commands.specs.State.{Set_path, Drop_path, with_map, with_change, after, Command, Make, Show}
-use Rattle.olr_commands.specs.Recordable.{is_name, is_recordable_coord, is_recordable_shape, is_recordable_map}
-use Rattle.olr_commands.specs.State.{Not_a_record, no_content, is_recordable, start_state, Report, Dump, Explain, Begin, Commit, Abort, State, full, at_once, into_batch}
+use Rattle.olr_commands.specs.State.{Named, Content, has_path, same_name, with_path, TextFault, Fault, Path_exists, No_path}
+use Rattle.olr_commands.specs.State.{Bad_path, Batch_full, Count_differs, when, Change, On_map, Add_path, Set_path, Drop_path}
+use Rattle.olr_commands.specs.State.{with_map, with_change, after, Command, Make, Show, Not_a_record, no_content, is_recordable}
+use Rattle.olr_commands.specs.State.{start_state, Report, Dump, Explain, Begin, Commit, Abort, State, full, at_once, into_batch}
 use Rattle.olr_commands.specs.State.{text_fault, unless_fault, step}
+use Rattle.olr_commands.specs.Recordable.{is_name, is_recordable_coord, is_recordable_shape}
 use Rattle.olr_commands.specs.Dump.{node_change, line_change, path_change}
 use Rattle.olr_commands.proofs.DumpLemmas.{of_entries}
 use Rattle.olr_commands.proofs.StateLemmas.{when_ok, next_ok, after_push}
-use Rattle.olr_records.specs.Recorded.{is_number, is_amount, is_place, is_point, are_attributes}
-use Rattle.olr_records.specs.Recorded.{has_record, Recorded, IsRecorded, StaysRecorded}
+use Rattle.olr_records.specs.Recorded.{is_number, is_amount, is_place, is_point, are_attributes, has_record, Recorded}
+use Rattle.olr_records.specs.Recorded.{IsRecorded, StaysRecorded}
+use Rattle.olr_records.proofs.TestLemmas.{and_four, and_five, all_weaker, ◌also◌}
 
 -- ---- lists
 
@@ -136,15 +136,22 @@ of_parts c m h =
     (join_all Has (map line_change (entries c.map.lines)) (map path_change c.paths)
     (to_mapped line_change Has (entries c.map.lines) m.lines) (to_mapped path_change Has c.paths h))
 
+line_parts : (x : ℕ) (l : Line) → HasLine (x, l) → IsTrue (is_number x) × IsTrue (is_number l.from)
+    × IsTrue (is_number l.to) × IsTrue (are_attributes l.frc l.fow l.len l.shape)
+line_parts x l h =
+    and_four (is_number x) (is_number l.from) (is_number l.to) (are_attributes l.frc l.fow l.len l.shape) h
+
+path_parts : (p : Named) → HasPath p → IsTrue (is_name p.name) × IsTrue (is_amount p.path.pos)
+    × IsTrue (is_amount p.path.neg) × IsTrue (list_all is_number p.path.lines)
+path_parts p h =
+    and_four (is_name p.name) (is_amount p.path.pos) (is_amount p.path.neg) (list_all is_number p.path.lines) h
+
 -- the ends of a line that is on the map
 ends_are : (M : Map) (x : ℕ) (o : Option Line) → MapRecorded M → get M.lines x ≡ o → is_some o ≡ true →
     IsTrue (is_number (unwrap_or o no_line).from) × IsTrue (is_number (unwrap_or o no_line).to)
 ends_are M x None m is h = absurd cc
 ends_are M x (Some l) m is h =
-    let p = all_at HasLine M.lines m.lines x l is in
-    let a = and_parts _ (are_attributes l.frc l.fow l.len l.shape) p in
-    let b = and_parts _ (is_number l.to) a.0 in
-    ((and_parts (is_number x) (is_number l.from) b.0).1, b.1)
+    let p = line_parts x l (all_at HasLine M.lines m.lines x l is) in (p.1, p.2)
 
 map_stays : (M N : Map) (e : Edit) → MapRecorded M → Has (On_map e) → Made M e N → MapRecorded N
 map_stays M N (Add_node v c) m h made =
@@ -159,19 +166,23 @@ map_stays M N (Set_line x frc fow len ss) m h made =
     let l : Line = record { from = start M x; to = end M x; frc = frc; fow = fow; len = len; shape = ss } in
     let ends = ends_are M x (get M.lines x) m refl made.0 in
     let p = and_parts (is_number x) (are_attributes frc fow len ss) h in
-    let has : HasLine (x, l) =
-    and_from _ (are_attributes frc fow len ss) (and_from _ (is_number (end M x))
-    (and_from (is_number x) (is_number (start M x)) p.0 ends.0) ends.1) p.1 in
+    let has : HasLine (x, l) = λ i. p.0 i && ends.0 i && ends.1 i && p.1 i in
     subst MapRecorded made.2 (record { nodes = m.nodes; lines = inserted HasLine M.lines x l m.lines has })
 map_stays M N (Drop_line x) m h made =
     subst MapRecorded made.1 (record { nodes = m.nodes; lines = removed HasLine M.lines x m.lines })
+
+-- what is accepted, at once or if a test passes
+accepted : {A : Type 0} (P : A → Type 0) (a b : A) → ◌≡◌ {A = Result A Fault} (Ok a) (Ok b) → P a → P b
+accepted P a b e h = let same : a ≡ b = cc in subst P same h
+
+passed : {A : Type 0} (P : A → Type 0) (t : Bool) (f : Fault) (a b : A) → when t f (Ok a) ≡ Ok b → P a → P b
+passed P t f a b e h = accepted P a b (when_ok t f (Ok a) b e).1 h
 
 edit_stays : (c d : Content) (e : Edit) (r : Result Map MapFault) → edited c.map e ≡ r → IsRecorded c →
     Has (On_map e) → with_map c r ≡ Ok d → IsRecorded d
 edit_stays c d e (Ok m) is i h to =
     let p = parts_of c i in
-    let same : record c { map = m } ≡ d = cc in
-    subst IsRecorded same
+    accepted IsRecorded (record c { map = m }) d to
     (of_parts (record c { map = m }) (map_stays c.map m e p.0 h (made_by c.map m e is)) p.1)
 edit_stays c d e (Err f) is i h to = absurd cc
 
@@ -180,19 +191,12 @@ set_stays : (name : List ℕ) (path : Path) (ps : List Named) → Has (Set_path 
     AllByRecursion HasPath (map (with_path name path) ps)
 set_stays name path [] h g = tt
 set_stays name path (p ∷ ps) h g =
-    let a = and_parts _ (list_all is_number path.lines) h in
-    let b = and_parts _ (is_amount path.neg) a.0 in
-    let c = and_parts (is_name name) (is_amount path.pos) b.0 in
-    let d = and_parts _ (list_all is_number p.path.lines) g.0 in
-    let e = and_parts _ (is_amount p.path.neg) d.0 in
-    let f = and_parts (is_name p.name) (is_amount p.path.pos) e.0 in
-    let new : Named = record { name = p.name; path = path } in
-    let has : HasPath new =
-    and_from _ (list_all is_number path.lines) (and_from _ (is_amount path.neg)
-    (and_from (is_name p.name) (is_amount path.pos) f.0 c.1) b.1) a.1 in (
-      elim (same_name p.name name) as (λ x. HasPath (cond x new p)) [ true ↦ has | false ↦ g.0 ],
-      set_stays name path ps h g.1,
-    )
+    let old = path_parts p g.0 in
+    let new = path_parts (record { name = name; path = path }) h in
+    let has : HasPath (record { name = p.name; path = path }) = λ i. old.0 i && new.1 i && new.2 i && new.3 i in
+    elim (same_name p.name name) as (λ x. HasPath (cond x (record { name = p.name; path = path }) p))
+    [ true ↦ has | false ↦ g.0 ]
+    also set_stays name path ps h g.1
 
 change_stays : (c d : Content) (x : Change) → IsRecorded c → Has x → with_change c x ≡ Ok d → IsRecorded d
 change_stays c d (On_map e) i h is = edit_stays c d e (edited c.map e) refl i h is
@@ -200,45 +204,41 @@ change_stays c d (Add_path name path) i h is =
     let n : Named = record { name = name; path = path } in
     let to : Content = record c { paths = c.paths ++ n ∷ [] } in
     let p = when_ok (has_path c name) Path_exists (when (not (is_path path.lines)) Bad_path (Ok to)) d is in
-    let q = when_ok (not (is_path path.lines)) Bad_path (Ok to) d p.1 in
-    let same : to ≡ d = cc in
     let parts = parts_of c i in
-    subst IsRecorded same (of_parts to parts.0 (join_all HasPath c.paths (n ∷ []) parts.1 (h, tt)))
+    passed IsRecorded (not (is_path path.lines)) Bad_path to d p.1
+    (of_parts to parts.0 (join_all HasPath c.paths (n ∷ []) parts.1 (h, tt)))
 change_stays c d (Set_path name path) i h is =
     let to : Content = record c { paths = map (with_path name path) c.paths } in
     let p = when_ok (not (has_path c name)) No_path (when (not (is_path path.lines)) Bad_path (Ok to)) d is in
-    let q = when_ok (not (is_path path.lines)) Bad_path (Ok to) d p.1 in
-    let same : to ≡ d = cc in
     let parts = parts_of c i in
-    subst IsRecorded same (of_parts to parts.0 (set_stays name path c.paths h parts.1))
+    passed IsRecorded (not (is_path path.lines)) Bad_path to d p.1
+    (of_parts to parts.0 (set_stays name path c.paths h parts.1))
 change_stays c d (Drop_path name) i h is =
     let test : Named → Bool = λ p. not (same_name p.name name) in
     let to : Content = record c { paths = filter test c.paths } in
-    let p = when_ok (not (has_path c name)) No_path (Ok to) d is in
-    let same : to ≡ d = cc in
     let parts = parts_of c i in
-    subst IsRecorded same (of_parts to parts.0 (left_all HasPath test c.paths parts.1))
+    passed IsRecorded (not (has_path c name)) No_path to d is
+    (of_parts to parts.0 (left_all HasPath test c.paths parts.1))
 
 -- ---- commands
 
 make_stays : (c : Content) (x : Change) (r : Result Content Fault) (t : State) → with_change c x ≡ r → IsRecorded c →
     Has x → at_once r ≡ Ok t → StaysRecorded t
 make_stays c x (Ok d) t is i h to =
-    let same : record { content = d; batch = None } ≡ t = cc in
-    subst StaysRecorded same (change_stays c d x i h is, tt)
+    accepted StaysRecorded (record { content = d; batch = None }) t to (change_stays c d x i h is, tt)
 make_stays c x (Err f) t is i h to = absurd cc
 
 hold_stays : (c : Content) (xs : List Change) (x : Change) (r : Result Content Fault) (t : State) →
     with_change (after c xs) x ≡ r → IsRecorded c → IsRecorded (after c xs) → Has x →
     into_batch c (xs ++ x ∷ []) r ≡ Ok t → StaysRecorded t
 hold_stays c xs x (Ok d) t is i k h to =
-    let same : record { content = c; batch = Some (xs ++ x ∷ []) } ≡ t = cc in
     let there : after c (xs ++ x ∷ []) ≡ d = after_push c xs x ∙ next_ok (after c xs) d x is in
-    subst StaysRecorded same (i, subst IsRecorded (sym there) (change_stays (after c xs) d x k h is))
+    accepted StaysRecorded (record { content = c; batch = Some (xs ++ x ∷ []) }) t to
+    (i, subst IsRecorded (sym there) (change_stays (after c xs) d x k h is))
 hold_stays c xs x (Err f) t is i k h to = absurd cc
 
 text_stays : (s t : State) (o : Option TextFault) → StaysRecorded s → unless_fault s o ≡ Ok t → StaysRecorded t
-text_stays s t None i is = let same : s ≡ t = cc in subst StaysRecorded same i
+text_stays s t None i is = accepted StaysRecorded s t is i
 text_stays s t (Some f) i is = absurd cc
 
 pub step_stays : (s t : State) (c : Command) → StaysRecorded s → Recorded c → step s c ≡ Ok t → StaysRecorded t
@@ -252,30 +252,18 @@ step_stays s t c i h is = by_batch s.content s.batch t c i.0 i.1 h is where
       when_ok (nat_le full (length xs)) Batch_full (into_batch c (xs ++ x ∷ []) (with_change (after c xs) x)) t is in
       hold_stays c xs x (with_change (after c xs) x) t refl i k h p.1
   by_batch c b t (Show name) i k h is =
-      let p = when_ok (not (has_path c name)) No_path (Ok (record { content = c; batch = b })) t is in
-      let same : record { content = c; batch = b } ≡ t = cc in
-      subst StaysRecorded same (i, k)
-  by_batch c b t Report i k h is =
-      let same : record { content = c; batch = b } ≡ t = cc in subst StaysRecorded same (i, k)
+      passed StaysRecorded (not (has_path c name)) No_path (record { content = c; batch = b }) t is (i, k)
+  by_batch c b t Report i k h is = accepted StaysRecorded (record { content = c; batch = b }) t is (i, k)
   by_batch c None t Dump i k h is =
-      let p = when_ok (not (is_recordable c)) Not_a_record (Ok (record { content = c; batch = None })) t is in
-      let same : record { content = c; batch = None } ≡ t = cc in
-      subst StaysRecorded same (i, k)
-  by_batch c (Some xs) t Dump i k h is = absurd cc
+      passed StaysRecorded (not (is_recordable c)) Not_a_record (record { content = c; batch = None }) t is (i, k)
   by_batch c b t (Explain text) i k h is =
       text_stays (record { content = c; batch = b }) t (text_fault text) (i, k) is
-  by_batch c None t Begin i k h is =
-      let same : record { content = c; batch = Some [] } ≡ t = cc in subst StaysRecorded same (i, i)
-  by_batch c (Some xs) t Begin i k h is = absurd cc
-  by_batch c None t (Commit count) i k h is = absurd cc
+  by_batch c None t Begin i k h is = accepted StaysRecorded (record { content = c; batch = Some [] }) t is (i, i)
   by_batch c (Some xs) t (Commit count) i k h is =
-      let to : State = record { content = after c xs; batch = None } in
-      let p = when_ok (not (length xs == count)) Count_differs (Ok to) t is in
-      let same : to ≡ t = cc in
-      subst StaysRecorded same (k, tt)
-  by_batch c None t Abort i k h is = absurd cc
-  by_batch c (Some xs) t Abort i k h is =
-      let same : record { content = c; batch = None } ≡ t = cc in subst StaysRecorded same (i, tt)
+      passed StaysRecorded (not (length xs == count)) Count_differs (record { content = after c xs; batch = None }) t is
+      (k, tt)
+  by_batch c (Some xs) t Abort i k h is = accepted StaysRecorded (record { content = c; batch = None }) t is (i, tt)
+  by_batch c b t x i k h is = absurd cc
 
 -- ---- the empty register
 
@@ -295,36 +283,26 @@ start_recorded = (
 passes : {X : Type 0} (P : X → Type 0) (test : X → Bool) (xs : List X) → ((x : X) → P x → IsTrue (test x)) →
     AllByRecursion P xs → IsTrue (list_all test xs)
 passes P test [] f h = refl
-passes P test (x ∷ xs) f h = and_from (test x) (list_all test xs) (f x h.0) (passes P test xs f h.1)
+passes P test (x ∷ xs) f h = λ i. f x h.0 i && passes P test xs f h.1 i
 
 place_dumps : (p : Coord) → IsTrue (is_place p) → IsTrue (is_recordable_coord p)
 place_dumps p h = (and_parts (is_coord p) (is_recordable_coord p) h).1
 
-shape_dumps : (ss : List ShapePoint) → IsTrue (list_all is_point ss) → IsTrue (is_recordable_shape ss)
-shape_dumps [] h = refl
-shape_dumps (s ∷ ss) h =
-    let p = and_parts (is_point s) (list_all is_point ss) h in
-    let q = and_parts _ (is_place s.place) p.0 in
-    and_from (is_recordable_coord s.place) (is_recordable_shape ss) (place_dumps s.place q.1) (shape_dumps ss p.1)
-
 line_dumps : (e : ℕ × Line) → HasLine e → IsTrue (is_recordable_shape e.1.shape)
 line_dumps e h =
-    let a = and_parts _ (are_attributes e.1.frc e.1.fow e.1.len e.1.shape) h in
-    shape_dumps e.1.shape (and_parts _ (list_all is_point e.1.shape) a.1).1
-
-name_dumps : (p : Named) → HasPath p → IsTrue (is_name p.name)
-name_dumps p h =
-    let a = and_parts _ (list_all is_number p.path.lines) h in
-    let b = and_parts _ (is_amount p.path.neg) a.0 in
-    (and_parts (is_name p.name) (is_amount p.path.pos) b.0).0
+    let l = e.1 in
+    let p =
+    and_five (nat_le l.frc 7) (nat_le l.fow 7) (nat_le 1 l.len) (nat_le l.len 1000000) (list_all is_point l.shape)
+    (line_parts e.0 l h).3 in
+    all_weaker is_point (λ s. is_recordable_coord s.place)
+    (λ s g. place_dumps s.place (and_parts _ (is_place s.place) g).1) l.shape p.4
 
 pub recorded_dumps : (c : Content) → IsRecorded c → IsTrue (is_recordable c)
 recorded_dumps c h =
     let p = parts_of c h in
-    and_from (is_recordable_map c.map) (list_all (λ q. is_name q.name) c.paths)
-    (and_from (list_all (λ e. is_recordable_coord e.1) (entries c.map.nodes))
-    (list_all (λ e. is_recordable_shape e.1.shape) (entries c.map.lines))
-    (passes HasNode (λ e. is_recordable_coord e.1) (entries c.map.nodes)
-    (λ e g. place_dumps e.1 (and_parts (is_number e.0) (is_place e.1) g).1) p.0.nodes)
-    (passes HasLine (λ e. is_recordable_shape e.1.shape) (entries c.map.lines) line_dumps p.0.lines))
-    (passes HasPath (λ q. is_name q.name) c.paths name_dumps p.1)
+    let nodes =
+    passes HasNode (λ e. is_recordable_coord e.1) (entries c.map.nodes)
+    (λ e g. place_dumps e.1 (and_parts (is_number e.0) (is_place e.1) g).1) p.0.nodes in
+    let lines = passes HasLine (λ e. is_recordable_shape e.1.shape) (entries c.map.lines) line_dumps p.0.lines in
+    let paths = passes HasPath (λ q. is_name q.name) c.paths (λ q g. (path_parts q g).0) p.1 in
+    λ i. nodes i && lines i && paths i

@@ -11,9 +11,8 @@ use Rattle.olr_commands.specs.Words.{entry_of}
 use Rattle.olr_commands.specs.declared.reply.Entry.{Entry}
 use Rattle.olr_commands.specs.RecordText.{after_commas}
 use Rattle.olr_commands.proofs.RecordLemmas.{joined}
-use Rattle.olr_records.specs.ReplyText.{reply_line, entry_line, accepted_text, first_line, middle_line}
-use Rattle.olr_records.specs.ReplyText.{last_line}
-use Rattle.olr_records.specs.ReplyText.{offset_lines, reference_lines}
+use Rattle.olr_records.specs.ReplyText.{reply_line, entry_line, accepted_text, first_line, middle_line, last_line, offset_lines}
+use Rattle.olr_records.specs.ReplyText.{reference_lines}
 
 -- a line of a word, two fields and more
 pub fields-line : (t w a b : List ℕ) (fs : List (List ℕ))

@@ -50,6 +50,7 @@ impl<T: Drop> From<AllocFailed<T>> for ReadFault {
 const MEMORY: &str = "fault,13,Memory\n";
 
 /// The line of a rejected command. It takes no memory, so that out of memory can be reported too.
+#[tactic(auto, unfolding(crate::proofs::OnLiterals::on_literals))]
 pub fn fault_text(fault: CommandFault) -> &'static str
     ensures { result.now ≡ texts.fault_text (command_fault_of fault) }
 {
@@ -69,6 +70,7 @@ pub fn fault_text(fault: CommandFault) -> &'static str
 }
 
 /// The line of an edit that the map rejects.
+#[tactic(auto, unfolding(crate::proofs::OnLiterals::on_literals))]
 fn map_fault_text(fault: EditFault) -> &'static str
     ensures { result.now ≡ texts.fault_text (map_fault_of fault) }
 {
@@ -84,6 +86,7 @@ fn map_fault_text(fault: EditFault) -> &'static str
 }
 
 /// The line of a text that encodes no reference, with the number of its cause.
+#[tactic(auto, unfolding(crate::proofs::OnLiterals::on_literals))]
 fn text_fault_text(fault: TextFault) -> &'static str
     ensures { result.now ≡ texts.fault_text (text_fault_of fault) }
 {
@@ -98,6 +101,7 @@ fn text_fault_text(fault: TextFault) -> &'static str
 }
 
 /// The line of a record that decodes to no command. It takes no memory.
+#[tactic(auto, unfolding(crate::proofs::OnLiterals::on_literals))]
 pub fn read_fault_text(fault: ReadFault) -> &'static str
     ensures { result.now ≡ texts.fault_text (read_fault_of fault) }
 {

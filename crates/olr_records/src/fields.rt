@@ -194,8 +194,7 @@ pub(crate) fn name(alloc: Global, field: &[u8]) -> Result<String, ReadFault>
     if !is_name(field) {
         return Err(ReadFault::Syntax);
     }
-    match std::str::from_utf8(field) {
-        Ok(text) => Ok(String::from_str(alloc, text)?),
-        Err(_) => Err(ReadFault::Syntax),
-    }
+    // The bytes of a name are ASCII.
+    let text = unsafe { std::str::from_utf8_unchecked(field) };
+    Ok(String::from_str(alloc, text)?)
 }

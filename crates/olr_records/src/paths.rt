@@ -14,20 +14,9 @@ use olr_commands::Command;
 use olr_map::LineId;
 use std::alloc::Global;
 
-/// The fields of a path in a record.
-#[derive(Drop)]
-struct NamedPath {
-    name: String,
-    /// The positive offset, in decimetres.
-    pos: u32,
-    /// The negative offset, in decimetres.
-    neg: u32,
-    lines: Vec<LineId>,
-}
-
-/// A name, two offsets and line numbers: all fields after the first.
-fn path(alloc: Global, fields: &ByteRecord) -> Result<NamedPath, ReadFault>
-    ensures { Gathers (λ _. ⊤) (λ p. (string_bytes p.name, path_along p.lines.items p.pos p.neg))
+/// A path: all fields after the first. Returns its name, its lines, and its positive and negative offset in decimetres.
+fn path(alloc: Global, fields: &ByteRecord) -> Result<(String, Vec<LineId>, u32, u32), ReadFault>
+    ensures { Gathers (λ _. ⊤) (λ p. (string_bytes p.0, path_along p.1.items p.2 p.3))
         (records.path_fields (drop 1 (fields_of fields.now)))
         result }
 {
@@ -37,12 +26,7 @@ fn path(alloc: Global, fields: &ByteRecord) -> Result<NamedPath, ReadFault>
     let started = both(name(alloc, field(fields, 1)), amount(field(fields, 2)));
     let offset = both(started, amount(field(fields, 3)));
     let (((name, pos), neg), lines) = both(offset, line_ids(alloc, fields))?;
-    Ok(NamedPath {
-        name,
-        pos,
-        neg,
-        lines,
-    })
+    Ok((name, lines, pos, neg))
 }
 
 /// The line numbers from the fifth field on.
@@ -60,16 +44,16 @@ fn line_ids(alloc: Global, fields: &ByteRecord) -> Result<Vec<LineId>, ReadFault
 pub(crate) fn add_path(alloc: Global, fields: &ByteRecord) -> Result<Command, ReadFault>
     ensures { IsRead (records.path_record Add_path (drop 1 (fields_of fields.now))) result }
 {
-    let path = path(alloc, fields)?;
-    Ok(Command::AddPath(path.name, path.lines, path.pos, path.neg))
+    let (name, lines, pos, neg) = path(alloc, fields)?;
+    Ok(Command::AddPath(name, lines, pos, neg))
 }
 
 /// `repath,NAME,POS,NEG[,LINE]*`
 pub(crate) fn set_path(alloc: Global, fields: &ByteRecord) -> Result<Command, ReadFault>
     ensures { IsRead (records.path_record Set_path (drop 1 (fields_of fields.now))) result }
 {
-    let path = path(alloc, fields)?;
-    Ok(Command::SetPath(path.name, path.lines, path.pos, path.neg))
+    let (name, lines, pos, neg) = path(alloc, fields)?;
+    Ok(Command::SetPath(name, lines, pos, neg))
 }
 
 /// `drop-path,NAME`

@@ -14,6 +14,7 @@ use olr_refs::Refusal;
 use std::alloc::{AllocError, Global};
 
 /// The line of a reply that names no path. It takes no memory.
+#[tactic(auto, unfolding(crate::proofs::OnLiterals::on_literals))]
 pub fn no_paths_text() -> &'static str
     ensures { result.now ≡ texts.reply_text (Paths []) }
 {

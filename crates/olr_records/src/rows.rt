@@ -124,6 +124,7 @@ pub fn paths()
 {}
 
 /// Texts of replies.
+#[tactic(auto, unfolding(crate::proofs::OnLiterals::on_literals))]
 pub fn replies()
     ensures nothing { reply_text (reply.Paths []) ≡ text_of_lines (codes "ok,0" ∷ []) }
     ensures text { reply_text
@@ -150,6 +151,7 @@ pub fn replies()
 {}
 
 /// Texts of faults.
+#[tactic(auto, unfolding(crate::proofs::OnLiterals::on_literals))]
 pub fn faults()
     ensures syntax { fault_text state.Syntax ≡ text_of_lines (codes "fault,1,Syntax" ∷ []) }
     ensures range { fault_text state.Range ≡ text_of_lines (codes "fault,2,Range" ∷ []) }

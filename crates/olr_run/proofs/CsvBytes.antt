@@ -2,10 +2,11 @@
 use Rattle.std.proofs.Common.{◌≡◌, ◌≤◌, ◌<◌, ◌+◌, ◌-◌, ◌++◌, ℕ, List, [], ◌∷◌, Some, None, true, false, refl}
 use Rattle.std.proofs.Common.{length, take, drop, get_or, sym, ap, ◌∙◌, arith, append_assoc, append-nil}
 use Rattle.std.proofs.Common.{length-drop, get_or-drop, drop-cons, add-one}
+use Rattle.std.specs.Prelude.{if◌then◌else◌}
 use Rattle.std.proofs.lemmas.List.{take_more}
 use Rattle.std.proofs.Math.Seq.{drop-length, take-length}
 use Rattle.std.proofs.Math.ListN.{drop_of_length-le}
-use Rattle.csv.specs.Machine.{next_record, step, ends_at_end}
+use Rattle.csv.specs.Machine.{next_record, step, ends_at_end, is_end, fields_after, field_after}
 use Rattle.csv.specs.Reading.{default_config, is_bom, strip_bom}
 use Rattle.csv.specs.declared.parser.Action.{Action as CsvAction}
 use Rattle.csv.specs.declared.parser.Action.TheVariants as act
@@ -21,27 +22,11 @@ pub did : (r : Here × Action) (a : Action) (x : State × CsvAction) → csv_ste
 did r a x e h = sym e ∙ ap (λ (k : Action). (csv_state r.0, csv_action k)) h
 
 -- the effect of a byte on a record
-pub of_copy : (s t : State) (f : List (List ℕ)) (p rest : List ℕ) (c : ℕ) → step default_config s c ≡ (t, act.Copy) →
-    next_record default_config s f p (c ∷ rest) ≡ next_record default_config t f (p ++ c ∷ []) rest
+of_byte : (s t : State) (a : CsvAction) (f : List (List ℕ)) (p rest : List ℕ) (c : ℕ) → step default_config s c ≡ (t, a) →
+    next_record default_config s f p (c ∷ rest) ≡ (if is_end a then Some (fields_after a f p, t, rest) else
+    next_record default_config t (fields_after a f p) (field_after a c p) rest)
 unfolding next_record
-of_copy s t f p rest c e = rw e refl
-
-pub of_skip : (s t : State) (f : List (List ℕ)) (p rest : List ℕ) (c : ℕ) → step default_config s c ≡ (t, act.Skip) →
-    next_record default_config s f p (c ∷ rest) ≡ next_record default_config t f p rest
-unfolding next_record
-of_skip s t f p rest c e = rw e refl
-
-pub of_end_field : (s t : State) (f : List (List ℕ)) (p rest : List ℕ) (c : ℕ) →
-    step default_config s c ≡ (t, act.EndField) →
-    next_record default_config s f p (c ∷ rest) ≡ next_record default_config t (f ++ p ∷ []) [] rest
-unfolding next_record
-of_end_field s t f p rest c e = rw e refl
-
-pub of_end_record : (s t : State) (f : List (List ℕ)) (p rest : List ℕ) (c : ℕ) →
-    step default_config s c ≡ (t, act.EndRecord) →
-    next_record default_config s f p (c ∷ rest) ≡ Some (f ++ p ∷ [], t, rest)
-unfolding next_record
-of_end_record s t f p rest c e = rw e refl
+of_byte s t a f p rest c e = rw e refl
 
 -- the bytes from an index on, with the first of them
 at : (text : List ℕ) (i : ℕ) → i < length text → drop i text ≡ get_or text i 0 ∷ drop (i + 1) text
@@ -73,7 +58,7 @@ copied s t f field text start i from low e =
     append_assoc field part (get_or text i 0 ∷ [])
     ∙ ap (λ (xs : List ℕ). field ++ xs) (sym (longer text start i from low)) in
     ap (λ (xs : List ℕ). next_record default_config s f (field ++ part) xs) (at text i low)
-    ∙ of_copy s t f (field ++ part) (drop (i + 1) text) (get_or text i 0) e
+    ∙ of_byte s t act.Copy f (field ++ part) (drop (i + 1) text) (get_or text i 0) e
     ∙ ap (λ (xs : List ℕ). next_record default_config t f xs (drop (i + 1) text)) bytes
 
 pub skipped : (s t : State) (f : List (List ℕ)) (field p text : List ℕ) (i : ℕ) → i < length text → field ≡ p →
@@ -82,7 +67,7 @@ pub skipped : (s t : State) (f : List (List ℕ)) (field p text : List ℕ) (i :
     ≡ next_record default_config t f (field ++ take (i + 1 - (i + 1)) (drop (i + 1) text)) (drop (i + 1) text)
 skipped s t f field p text i low same e =
     ap (λ (xs : List ℕ). next_record default_config s f p xs) (at text i low)
-    ∙ of_skip s t f p (drop (i + 1) text) (get_or text i 0) e
+    ∙ of_byte s t act.Skip f p (drop (i + 1) text) (get_or text i 0) e
     ∙ ap (λ (xs : List ℕ). next_record default_config t f xs (drop (i + 1) text))
     (sym same ∙ sym (append-nil field) ∙ ap (λ (xs : List ℕ). field ++ xs) (sym (empty text i)))
 
@@ -92,7 +77,7 @@ pub field_ended : (s t : State) (f g : List (List ℕ)) (field p text : List ℕ
     ≡ next_record default_config t g (field ++ take (i + 1 - (i + 1)) (drop (i + 1) text)) (drop (i + 1) text)
 field_ended s t f g field p text i low none more e =
     ap (λ (xs : List ℕ). next_record default_config s f p xs) (at text i low)
-    ∙ of_end_field s t f p (drop (i + 1) text) (get_or text i 0) e
+    ∙ of_byte s t act.EndField f p (drop (i + 1) text) (get_or text i 0) e
     ∙ ap (λ (fs : List (List ℕ)). next_record default_config t fs [] (drop (i + 1) text)) (sym more)
     ∙ ap (λ (xs : List ℕ). next_record default_config t g xs (drop (i + 1) text))
     (sym (ap (λ (xs : List ℕ). field ++ xs) (empty text i) ∙ append-nil field ∙ none))
@@ -102,7 +87,7 @@ pub record_ended : (s t : State) (f g : List (List ℕ)) (p text : List ℕ) (i 
     next_record default_config s f p (drop i text) ≡ Some (g, t, drop (i + 1) text)
 record_ended s t f g p text i low more e =
     ap (λ (xs : List ℕ). next_record default_config s f p xs) (at text i low)
-    ∙ of_end_record s t f p (drop (i + 1) text) (get_or text i 0) e
+    ∙ of_byte s t act.EndRecord f p (drop (i + 1) text) (get_or text i 0) e
     ∙ ap (λ (fs : List (List ℕ)). Some (fs, t, drop (i + 1) text)) (sym more)
 
 -- the end of the text

@@ -1,6 +1,6 @@
 -- Dumps in runs of records.
-use Rattle.std.proofs.Common.{inl, inr, ◌≡◌, ◌≢◌, ℕ, Bool, true, false, List, [], ◌∷◌, ◌++◌, map, length, None, Result}
-use Rattle.std.proofs.Common.{Ok, Err, IsTrue, refl, sym, ap, ◌∙◌, subst, arith}
+use Rattle.std.proofs.Common.{inl, inr, ◌≡◌, ◌≢◌, ℕ, Bool, true, false, List, [], ◌∷◌, ◌++◌, map, length, None, Result, Ok, Err}
+use Rattle.std.proofs.Common.{IsTrue, refl, sym, ap, ◌∙◌, subst, arith}
 use Rattle.std.specs.Prelude.{◌||◌, IfErr, IsFalse, is_err, if◌then◌else◌}
 use Rattle.std.specs.List.{list_any, concat}
 use Rattle.std.proofs.lemmas.Bool.{both_ways, or_parts}
@@ -9,20 +9,18 @@ use Rattle.olr_commands.specs.State.{Content, IsContent, Fault, Memory, Not_a_re
 use Rattle.olr_commands.specs.State.{is_recordable, start_state, step}
 use Rattle.olr_commands.specs.RecordText.{fields_line, fields_of_change, record_line}
 use Rattle.olr_commands.specs.Dump.{dump_changes, dump_lines, steps_then, steps}
-use Rattle.olr_commands.specs.Reply.{Reply, IsReply, Outcome, IsRefusal, ByState, Lacks}
-use Rattle.olr_commands.specs.Reply.{lacks_memory}
-use Rattle.olr_commands.specs.History.{Run}
+use Rattle.olr_commands.specs.Reply.{Reply, IsReply, Outcome, IsRefusal, ByState, Lacks, lacks_memory}
 use Rattle.olr_commands.proofs.DumpLemmas.{dumps_run}
-use Rattle.olr_records.specs.Records.{Field, ReadFault, Bad_form, Out_of_range, Read, read}
-use Rattle.olr_records.specs.Recorded.{HaveRecords, Recorded, IsRecorded, StaysRecorded}
+use Rattle.olr_records.specs.Records.{Field, Bad_form, Out_of_range, Read, read}
+use Rattle.olr_records.specs.Recorded.{HaveRecords, IsRecorded, StaysRecorded}
 use Rattle.olr_records.specs.ReplyText.{count_line, reply_text}
 use Rattle.olr_records.proofs.ReadLemmas.{read_recorded}
 use Rattle.olr_records.proofs.RecordLines.{records_split}
 use Rattle.olr_records.proofs.RecordedLemmas.{step_stays, recorded_dumps}
 use Rattle.olr_records.proofs.WrittenLemmas.{record_back}
-use Rattle.olr_run.specs.Output.{records_of, CommandOutcome, RecordOutcome, SoundOutcome, SoundOutcomes, Builds}
-use Rattle.olr_run.specs.Output.{IsDumpOf, Dumps, Outcomes, AllHadMemory, any_refused, AreAnswered, Ran, Status}
-use Rattle.olr_run.specs.Output.{All_accepted, Some_refused, Stopped}
+use Rattle.olr_run.specs.Output.{records_of, CommandOutcome, RecordOutcome, SoundOutcomes, Builds, IsDumpOf}
+use Rattle.olr_run.specs.Output.{Dumps, Outcomes, AllHadMemory, any_refused, AreAnswered, Ran, Status, All_accepted}
+use Rattle.olr_run.specs.Output.{Some_refused, Stopped}
 use Rattle.olr_run.proofs.Lacking.{IsOwn, step_own}
 
 -- ---- the text

@@ -75,18 +75,6 @@ happens_as a b before later (Cut front) h = (ap reader_of h.0, h.1)
 abbrev OfBytes : {W : Type 0} → (W → Known) → InMemory × W → Event → InMemory × W → Type 0
 OfBytes contents a e b = BytesHappens a.0 b.0 (contents a.1) (contents b.1) e
 
-history_as : {W : Type 0} (contents : W → Known) (a b : InMemory × W) (es : List Event) →
-    History (OfBytes contents) a es b
-    → History (OfReader all_known contents) (reader_of a.0, a.1) es (reader_of b.0, b.1)
-history_as contents a b [] h = ap (λ (p : InMemory × _). (reader_of p.0, p.1)) h
-history_as contents a b (e ∷ es) h = (
-  (reader_of h.0.0, h.0.1),
-  happens_as a.0 h.0.0 (contents a.1) (contents h.0.1) e h.1,
-  history_as contents h.0 b es h.2,
-)
-
--- ---- runs
-
 pub starts_in_memory : (s : InMemory) (bytes : List ℕ) → s.rest.now ≡ strip_bom bytes → s.state ≡ StartRecord →
     s.failed ≡ false → Starts all_known (reader_of s) (Some bytes)
 unfolding reader_of
@@ -97,26 +85,36 @@ starts_in_memory s bytes rest first fresh =
       source = source_is s fresh ∙ ap (λ (xs : List ℕ). Some xs) rest;
     }
 
-pub ran_in_as : {W : Type 0} (contents : W → Known) (stop : Bool) (old new : Registered) (a b : InMemory × W)
-    (end : Status) → RanIn (OfBytes contents) stop old a new b end →
-    RanIn (OfReader all_known contents) stop old (reader_of a.0, a.1) new (reader_of b.0, b.1) end
-ran_in_as contents stop old new a b end h =
-    record {
-      records = h.records;
-      texts = h.texts;
-      each = h.each;
-      history = history_as contents a b _ h.history;
-      answered = h.answered;
-    }
+-- ---- runs
 
-pub cut_in_as : {W : Type 0} (contents : W → Known) (stop : Bool) (old new : Registered) (a b : InMemory × W)
-    (e : RunFault) → CutIn (OfBytes contents) stop old a new b e →
-    CutIn (OfReader all_known contents) stop old (reader_of a.0, a.1) new (reader_of b.0, b.1) e
-cut_in_as contents stop old new a b e (In_taking of rs ws l history answered) =
-    In_taking of rs ws l (history_as contents a b _ history) answered
-cut_in_as contents stop old new a b e (Past_the_most is rs ws l most r history answered) =
-    Past_the_most is rs ws l most r (history_as contents a b _ history) answered
-cut_in_as contents stop old new a b e (No_text is rs ws l r w history answered) =
-    No_text is rs ws l r w (history_as contents a b _ history) answered
-cut_in_as contents stop old new a b e (In_text is rs ws l r front rest some history answered) =
-    In_text is rs ws l r front rest some (history_as contents a b _ history) answered
+module _ {W : Type 0} (contents : W → Known) where
+  history_as : (a b : InMemory × W) (es : List Event) → History (OfBytes contents) a es b
+      → History (OfReader all_known contents) (reader_of a.0, a.1) es (reader_of b.0, b.1)
+  history_as a b [] h = ap (λ (p : InMemory × W). (reader_of p.0, p.1)) h
+  history_as a b (e ∷ es) h = (
+    (reader_of h.0.0, h.0.1),
+    happens_as a.0 h.0.0 (contents a.1) (contents h.0.1) e h.1,
+    history_as h.0 b es h.2,
+  )
+
+  module _ (stop : Bool) (old new : Registered) (a b : InMemory × W) where
+    pub ran_in_as : (end : Status) → RanIn (OfBytes contents) stop old a new b end →
+        RanIn (OfReader all_known contents) stop old (reader_of a.0, a.1) new (reader_of b.0, b.1) end
+    ran_in_as end h =
+        record {
+          records = h.records;
+          texts = h.texts;
+          each = h.each;
+          history = history_as a b _ h.history;
+          answered = h.answered;
+        }
+
+    pub cut_in_as : (e : RunFault) → CutIn (OfBytes contents) stop old a new b e →
+        CutIn (OfReader all_known contents) stop old (reader_of a.0, a.1) new (reader_of b.0, b.1) e
+    cut_in_as e (In_taking of rs ws l history answered) = In_taking of rs ws l (history_as a b _ history) answered
+    cut_in_as e (Past_the_most is rs ws l most r history answered) =
+        Past_the_most is rs ws l most r (history_as a b _ history) answered
+    cut_in_as e (No_text is rs ws l r w history answered) =
+        No_text is rs ws l r w (history_as a b _ history) answered
+    cut_in_as e (In_text is rs ws l r front rest some history answered) =
+        In_text is rs ws l r front rest some (history_as a b _ history) answered

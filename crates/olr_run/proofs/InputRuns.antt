@@ -1,6 +1,7 @@
 -- Runs over an input of known bytes, from the history of their session.
 use Rattle.std.proofs.Common.{◌≡◌, ◌≢◌, ◌∙◌, ◌+◌, ◌<◌, ℕ, Bool, true, false, List, [], ◌∷◌, ◌++◌, length, map}
 use Rattle.std.proofs.Common.{option_map, None, Some, inl, inr, refl, sym, ap, subst, arith, length-append}
+use Rattle.std.specs.Prelude.{◌&&◌, IsFalse, ⊤}
 use Rattle.std.proofs.lemmas.List.{append-nil, append_assoc, length-map}
 use Rattle.std.specs.Io.KnownBytes.{Appends}
 use Rattle.std.proofs.KnownBytes.{Appends-nil, Appends-trans}
@@ -12,7 +13,7 @@ use Rattle.csv.specs.declared.reader.Reader.{Reader}
 use Rattle.csv.proofs.ReadFacts.{rows-more, rows-end}
 use Rattle.csv.specs.declared.parser.State.TheVariants as st
 use Rattle.olr_commands.specs.Reply.{Outcome}
-use Rattle.olr_commands.specs.State.{IsContent, State}
+use Rattle.olr_commands.specs.State.{IsContent}
 use Rattle.olr_commands.proofs.HistoryLemmas.{run_longer}
 use Rattle.olr_records.specs.Records.{Field}
 use Rattle.olr_records.specs.ReplyText.{outcome_text}
@@ -43,12 +44,6 @@ unfolding joined
 joined_texts [] = refl
 joined_texts (o ∷ os) = ap (λ (xs : List ℕ). outcome_text o ++ xs) (joined_texts os)
 
-joined_more : (ws : List (List ℕ)) (front : List ℕ) → joined (ws ++ front ∷ []) ≡ joined ws ++ front
-unfolding joined
-joined_more [] front = append-nil front
-joined_more (w ∷ ws) front = ap (λ (xs : List ℕ). w ++ xs) (joined_more ws front)
-    ∙ sym (append_assoc w (joined ws) front)
-
 -- the outcome of the last text
 last_of : (os : List Outcome) (ws : List (List ℕ)) (w : List ℕ) → map outcome_text os ≡ ws ++ w ∷ [] →
     (before : List Outcome) × (last : Outcome) × (os ≡ before ++ last ∷ []) × (map outcome_text before ≡ ws)
@@ -59,45 +54,39 @@ last_of (o ∷ []) [] w e = ([], o, refl, refl, cc)
 last_of (o ∷ p ∷ os) [] w e = absurd cc
 last_of (o ∷ os) (x ∷ ws) w e =
     let r = last_of os ws w cc in
-    (o ∷ r.0, r.1, ap (λ (zs : List Outcome). o ∷ zs) r.2, (let h : outcome_text o ≡ x = cc in λ i. h i ∷ r.3 i), r.4)
+    (o ∷ r.0, r.1, (λ i. o ∷ r.2 i), (let h : outcome_text o ≡ x = cc in λ i. h i ∷ r.3 i), r.4)
 
 -- ---- records of the bytes
 
 abbrev pub OfReader : {R W : Type 0} → (R → Known) → (W → Known) → Reader R × W → Event → Reader R × W → Type 0
 OfReader remaining contents a e b = CsvHappens remaining a.0 b.0 (contents a.1) (contents b.1) e
 
--- the later reader has read these records after those of the earlier reader
-abbrev Follows : {R : Type 0} → (R → Known) → Reader R → List (List Field) → Reader R → Type 0
-Follows remaining a rs b =
-    (input : List ℕ) (records : List (List Field)) (left : List ℕ) → source_of remaining a ≡ Some left →
-    Reached default_config st.StartRecord (strip_bom input) records (reader_state a) left
-    → (z : List ℕ) × (source_of remaining b ≡ Some z)
-    × Reached default_config st.StartRecord (strip_bom input) (records ++ rs) (reader_state b) z
+-- these records of the input were read, up to this state of a reader
+abbrev After : {R : Type 0} → List ℕ → List (List Field) → Reader R → List ℕ → Type 0
+After input records r left = Reached default_config st.StartRecord (strip_bom input) records (reader_state r) left
 
-follows_none : {R : Type 0} (remaining : R → Known) (a : Reader R) → Follows remaining a [] a
-follows_none remaining a input records left source h = (
-  left,
-  source,
-  subst (λ (rs : List (List Field)). Reached default_config st.StartRecord (strip_bom input) rs (reader_state a) left)
-      (sym (append-nil records)) h,
-)
+module _ {R : Type 0} (remaining : R → Known) where
+  -- the later reader has read these records after those of the earlier reader
+  abbrev Follows : Reader R → List (List Field) → Reader R → Type 0
+  Follows a rs b =
+      (input : List ℕ) (records : List (List Field)) (left : List ℕ) → source_of remaining a ≡ Some left →
+      After input records a left
+      → (z : List ℕ) × (source_of remaining b ≡ Some z) × After input (records ++ rs) b z
 
-follows_one : {R : Type 0} (remaining : R → Known) (a b : Reader R) (r : List Field) → IsPlain a →
-    ReadRecord remaining a b true r → Follows remaining a (r ∷ []) b
-follows_one remaining a b r plain read input records left source h =
-    rows-more remaining a b r default_config st.StartRecord (strip_bom input) left records plain.config source h read
+  follows_none : (a : Reader R) → Follows a [] a
+  follows_none a input records left source h =
+      (left, source, subst (λ (rs : List (List Field)). After input rs a left) (sym (append-nil records)) h)
 
-follows_join : {R : Type 0} (remaining : R → Known) (a b c : Reader R) (rs ms : List (List Field)) →
-    Follows remaining a rs b → Follows remaining b ms c → Follows remaining a (rs ++ ms) c
-follows_join remaining a b c rs ms h k input records left source reached =
-    let p = h input records left source reached in
-    let q = k input (records ++ rs) p.0 p.1 p.2 in (
-      q.0,
-      q.1,
-      subst (λ (xs : List (List Field)). Reached default_config st.StartRecord (strip_bom input) xs (reader_state c)
-          q.0)
-          (append_assoc records rs ms) q.2,
-    )
+  follows_one : (a b : Reader R) (r : List Field) → IsPlain a → ReadRecord remaining a b true r → Follows a (r ∷ []) b
+  follows_one a b r plain read input records left source h =
+      rows-more remaining a b r default_config st.StartRecord (strip_bom input) left records plain.config source h read
+
+  follows_join : (a b c : Reader R) (rs ms : List (List Field)) → Follows a rs b → Follows b ms c →
+      Follows a (rs ++ ms) c
+  follows_join a b c rs ms h k input records left source reached =
+      let p = h input records left source reached in
+      let q = k input (records ++ rs) p.0 p.1 p.2 in
+      (q.0, q.1, subst (λ (xs : List (List Field)). After input xs c q.0) (append_assoc records rs ms) q.2)
 
 -- the rest of the history follows these exchanges
 pub record Exchanged {R W : Type 0} (remaining : R → Known) (contents : W → Known) (a : Reader R × W)
@@ -120,8 +109,6 @@ exchanged remaining contents a b [] [] es l plain h =
       read = follows_none remaining a.0;
       rest = h;
     }
-exchanged remaining contents a b [] (w ∷ ws) es l plain h = absurd (omega arith)
-exchanged remaining contents a b (r ∷ rs) [] es l plain h = absurd (omega arith)
 exchanged remaining contents a b (r ∷ rs) (w ∷ ws) es l plain h =
     let one = h.1.0 plain in
     let same : h.2.0.0 ≡ h.0.0 = h.2.1.0 in
@@ -140,6 +127,7 @@ exchanged remaining contents a b (r ∷ rs) (w ∷ ws) es l plain h =
       read = follows_join remaining a.0 h.2.0.0 next.mid.0 (r ∷ []) rs read next.read;
       rest = next.rest;
     }
+exchanged remaining contents a b rs ws es l plain h = absurd (omega arith)
 
 -- the reader of an input before its first record
 pub record Starts {R : Type 0} (remaining : R → Known) (a : Reader R) (known : Known) : Type 0 where
@@ -164,85 +152,132 @@ first_of : {R : Type 0} (remaining : R → Known) (a b : Reader R) (input : List
     × (records_of input ≡ rs ++ rest) × (next_record default_config (reader_state b) [] [] z ≡ None → rest ≡ [])
 unfolding Reached
 first_of remaining a b input rs starts h =
-    let start : Reached default_config st.StartRecord (strip_bom input) [] (reader_state a) (strip_bom input) =
-    (sym starts.state, refl) in
-    let r = h input [] (strip_bom input) starts.source start in
+    let r = h input [] (strip_bom input) starts.source (sym starts.state, refl) in
     let all = first_records input rs (reader_state b) r.0 r.2 in (r.0, all.0, r.1, all.1, all.2)
 
 -- ---- runs
 
-longer : (s t : State) (rs rest all : List (List Field)) (os : List Outcome) → IsContent s.content → all ≡ rs ++ rest →
-    Claims s rs os t → Claims s all os t
-longer s t rs rest all os sound e h =
-    claims_of s all os t sound
-    (subst (λ (xs : List (List Field)). SoundOutcomes s xs os t) (sym e) (run_longer SoundOutcome s t rs rest os h.headline.run))
+written_is : (before later now : Known) (ws : List (List ℕ)) (os : List Outcome) → now ≡ later →
+    map outcome_text os ≡ ws → Appends before later (joined ws) → Appends before now (texts os)
+written_is before later now ws os same e h =
+    subst (λ (k : Known). Appends before k (texts os)) (sym same)
+    (subst (Appends before later) (ap joined (sym e) ∙ joined_texts os) h)
 
-written_is : (before later : Known) (ws : List (List ℕ)) (os : List Outcome) → map outcome_text os ≡ ws →
-    Appends before later (joined ws) → Appends before later (texts os)
-written_is before later ws os e h =
-    subst (Appends before later) (ap joined (sym e) ∙ joined_texts os) h
+not_writing : (e : RunFault) → IsOfTaking e → e ≢ fault.Write
+not_writing fault.Write h = absurd h
+not_writing e h = λ is. cc
 
-all_answered : (ws : List (List ℕ)) (os : List Outcome) (rs : List (List Field)) → map outcome_text os ≡ ws →
-    length ws ≡ length rs → length os ≡ length rs
-all_answered ws os rs e l = sym (length-map os outcome_text) ∙ ap length e ∙ l
+module _ {R W : Type 0} (remaining : R → Known) (contents : W → Known) (stop : Bool) (old new : Registered)
+    (a b : Reader R × W) (input : List ℕ) (starts : Starts remaining a.0 (Some input)) where
+  -- one more record was taken
+  taken : (rs : List (List Field)) (r : List Field) (ws : List (List ℕ)) (es : List Event) →
+      (x : Exchanged remaining contents a rs ws (Took r ∷ es) b)
+      → Appends (contents a.1) (contents x.rest.0.1) (joined ws) × Follows remaining a.0 (rs ++ r ∷ []) x.rest.0.0
+  taken rs r ws es x = (
+    subst (λ (k : Known). Appends (contents a.1) k (joined ws)) (sym x.rest.1.1) x.wrote,
+    follows_join remaining a.0 x.mid.0 x.rest.0.0 rs (r ∷ []) x.read
+        (follows_one remaining x.mid.0 x.rest.0.0 r x.plain (x.rest.1.0 x.plain).1),
+  )
 
--- the end of a run after the last record of the input
-ended_whole : {R W : Type 0} (remaining : R → Known) (contents : W → Known) (stop : Bool) (old new : Registered)
-    (a b : Reader R × W) (input : List ℕ) (end : Status) (rs : List (List Field)) (ws : List (List ℕ))
-    → IsContent old.kept.content → Starts remaining a.0 (Some input) → length ws ≡ length rs
-    → Exchanged remaining contents a rs ws (Ended ∷ []) b
-    → AnsweredOn stop (λ os. status_of end ≡ output.run_status stop os) old rs ws new
-    → RanOn Claims stop old (Some (records_of input)) (contents a.1) new (contents b.1) end
-ended_whole remaining contents stop old new a b input end rs ws base starts l x answered s represents =
-    let f = first_of remaining a.0 x.mid.0 input rs starts x.read in
-    let h = answered s represents in
-    let sound = represented old s base represents in
-    let none =
-    rows-end remaining x.mid.0 x.rest.0.0 x.rest.1.0.0 default_config f.0 x.plain.config f.2
-    ((x.rest.1.0.1 x.plain).1) in
-    let rows_are : records_of input ≡ rs =
-    f.3 ∙ ap (λ (ms : List (List Field)). rs ++ ms) (f.4 none) ∙ append-nil rs in
-    let later : contents b.1 ≡ contents x.mid.1 = ap (λ (p : Reader _ × _). contents p.1) (sym x.rest.2)
-    ∙ x.rest.1.1 in (
-      h.0,
-      h.1,
-      texts h.2,
-      subst (λ (k : Known). Appends (contents a.1) k (texts h.2)) (sym later)
-          (written_is (contents a.1) (contents x.mid.1) ws h.2 h.4 x.wrote),
-      record {
-        outcomes = h.2;
-        each = longer s h.0 rs f.1 (records_of input) h.2 sound f.3 h.3;
-        stops = h.5;
-        all = inl (all_answered ws h.2 rs h.4 l ∙ ap length (sym rows_are));
-        wrote = refl;
-        ended = h.6;
-      },
-    )
+  module _ (base : IsContent old.kept.content) where
+    -- the claims are those of all records of the input
+    of_all : (And : List Outcome → Type 0) (m : Reader R) (rs : List (List Field)) (ws : List (List ℕ)) →
+        Follows remaining a.0 rs m → AnsweredOn stop And old rs ws new → AnsweredOn stop And old (records_of input) ws new
+    of_all And m rs ws read answered s represents =
+        let f = first_of remaining a.0 m input rs starts read in
+        let h = answered s represents in
+        let all = subst (λ (xs : List (List Field)). SoundOutcomes s xs h.2 h.0) (sym f.3)
+        (run_longer SoundOutcome s h.0 rs f.1 h.2 h.3.headline.run) in (
+          h.0,
+          h.1,
+          h.2,
+          claims_of s (records_of input) h.2 h.0 (represented old s base represents) all,
+          h.4,
+          h.5,
+          h.6,
+        )
 
-ended_stopped : {R W : Type 0} (remaining : R → Known) (contents : W → Known) (stop : Bool) (old new : Registered)
-    (a b : Reader R × W) (input : List ℕ) (rs : List (List Field)) (ws : List (List ℕ)) → IsContent old.kept.content
-    → Starts remaining a.0 (Some input) → Exchanged remaining contents a rs ws [] b
-    → AnsweredOn stop (λ os. output.Stopped ≡ output.run_status stop os) old rs ws new
-    → RanOn Claims stop old (Some (records_of input)) (contents a.1) new (contents b.1) ended.Stopped
-ended_stopped remaining contents stop old new a b input rs ws base starts x answered s represents =
-    let f = first_of remaining a.0 x.mid.0 input rs starts x.read in
-    let h = answered s represents in
-    let sound = represented old s base represents in
-    let later : contents b.1 ≡ contents x.mid.1 = ap (λ (p : Reader _ × _). contents p.1) (sym x.rest) in (
-      h.0,
-      h.1,
-      texts h.2,
-      subst (λ (k : Known). Appends (contents a.1) k (texts h.2)) (sym later)
-          (written_is (contents a.1) (contents x.mid.1) ws h.2 h.4 x.wrote),
-      record {
-        outcomes = h.2;
-        each = longer s h.0 rs f.1 (records_of input) h.2 sound f.3 h.3;
-        stops = h.5;
-        all = inr (stopped_is stop (output.any_refused h.2) h.6);
-        wrote = refl;
-        ended = h.6;
-      },
-    )
+    -- the end of a run after the last record of the input
+    ended_whole : (end : Status) (rs : List (List Field)) (ws : List (List ℕ)) → length ws ≡ length rs →
+        Exchanged remaining contents a rs ws (Ended ∷ []) b
+        → AnsweredOn stop (λ os. status_of end ≡ output.run_status stop os) old rs ws new
+        → RanOn Claims stop old (Some (records_of input)) (contents a.1) new (contents b.1) end
+    ended_whole end rs ws l x answered s represents =
+        let f = first_of remaining a.0 x.mid.0 input rs starts x.read in
+        let h = of_all _ x.mid.0 rs ws x.read answered s represents in
+        let none =
+        rows-end remaining x.mid.0 x.rest.0.0 x.rest.1.0.0 default_config f.0 x.plain.config f.2
+        ((x.rest.1.0.1 x.plain).1) in
+        let rows_are : records_of input ≡ rs =
+        f.3 ∙ ap (λ (ms : List (List Field)). rs ++ ms) (f.4 none) ∙ append-nil rs in
+        let later : contents b.1 ≡ contents x.mid.1 =
+        ap (λ (p : Reader R × W). contents p.1) (sym x.rest.2) ∙ x.rest.1.1 in (
+          h.0,
+          h.1,
+          texts h.2,
+          written_is (contents a.1) (contents x.mid.1) (contents b.1) ws h.2 later h.4 x.wrote,
+          record {
+            outcomes = h.2;
+            each = h.3;
+            stops = h.5;
+            all = inl (sym (length-map h.2 outcome_text) ∙ ap length h.4 ∙ l ∙ ap length (sym rows_are));
+            wrote = refl;
+            ended = h.6;
+          },
+        )
+
+    ended_stopped : (rs : List (List Field)) (ws : List (List ℕ)) → Exchanged remaining contents a rs ws [] b
+        → AnsweredOn stop (λ os. output.Stopped ≡ output.run_status stop os) old rs ws new
+        → RanOn Claims stop old (Some (records_of input)) (contents a.1) new (contents b.1) ended.Stopped
+    ended_stopped rs ws x answered s represents =
+        let h = of_all _ x.mid.0 rs ws x.read answered s represents in
+        let later : contents b.1 ≡ contents x.mid.1 = ap (λ (p : Reader R × W). contents p.1) (sym x.rest) in (
+          h.0,
+          h.1,
+          texts h.2,
+          written_is (contents a.1) (contents x.mid.1) (contents b.1) ws h.2 later h.4 x.wrote,
+          record {
+            outcomes = h.2;
+            each = h.3;
+            stops = h.5;
+            all = inr (stopped_is stop (output.any_refused h.2) h.6);
+            wrote = refl;
+            ended = h.6;
+          },
+        )
+
+    -- cut off before the next record
+    cut_before : (e : RunFault) (rs : List (List Field)) (ws : List (List ℕ)) (m : Reader R × W) → e ≢ fault.Write →
+        Follows remaining a.0 rs m.0 → Appends (contents a.1) (contents m.1) (joined ws) → contents b.1 ≡ contents m.1
+        → AnsweredOn stop (λ os. IsFalse (stop && output.any_refused os)) old rs ws new
+        → FaultedOn Claims stop old (Some (records_of input)) (contents a.1) new (contents b.1) e
+    cut_before e rs ws m no_write read wrote later answered s represents =
+        let h = of_all _ m.0 rs ws read answered s represents in (
+          h.0,
+          h.1,
+          texts h.2,
+          written_is (contents a.1) (contents m.1) (contents b.1) ws h.2 later h.4 wrote,
+          record { outcomes = h.2; each = h.3; stops = h.5; wrote = output.Before_next no_write h.6 refl },
+        )
+
+    -- cut off in the answer to the last record, of which only the first bytes were written
+    cut_last : (e : RunFault) (rs : List (List Field)) (ws : List (List ℕ)) (text front : List ℕ) (m : Reader R × W) →
+        Follows remaining a.0 rs m.0 → Appends (contents a.1) (contents m.1) (joined ws)
+        → Appends (contents m.1) (contents b.1) front
+        → AnsweredOn stop (λ os. ⊤) old rs (ws ++ text ∷ []) new
+        → ((os before : List Outcome) (last : Outcome) → os ≡ before ++ last ∷ [] → outcome_text last ≡ text →
+        output.CutOff stop os (texts before ++ front) e)
+        → FaultedOn Claims stop old (Some (records_of input)) (contents a.1) new (contents b.1) e
+    cut_last e rs ws text front m read wrote more answered cut s represents =
+        let h = of_all _ m.0 rs (ws ++ text ∷ []) read answered s represents in
+        let o = last_of h.2 ws text h.4 in (
+          h.0,
+          h.1,
+          texts o.0 ++ front,
+          Appends-trans (contents a.1) (contents m.1) (contents b.1) (texts o.0) front
+              (written_is (contents a.1) (contents m.1) (contents m.1) ws o.0 refl o.3 wrote) more,
+          record { outcomes = h.2; each = h.3; stops = h.5; wrote = cut h.2 o.0 o.1 o.2 o.4 },
+        )
 
 pub ran_on : {R W : Type 0} (remaining : R → Known) (contents : W → Known) (stop : Bool) (old new : Registered)
     (a b : Reader R × W) (known : Known) (end : Status) → IsContent old.kept.content → Starts remaining a.0 known
@@ -250,44 +285,11 @@ pub ran_on : {R W : Type 0} (remaining : R → Known) (contents : W → Known) (
     → RanOn Claims stop old (known_records known) (contents a.1) new (contents b.1) end
 ran_on remaining contents stop old new a b None end base starts h = tt
 ran_on remaining contents stop old new a b (Some input) ended.Stopped base starts h =
-    ended_stopped remaining contents stop old new a b input h.records h.texts base starts
+    ended_stopped remaining contents stop old new a b input starts base h.records h.texts
     (exchanged remaining contents a b h.records h.texts [] h.each starts.plain h.history) h.answered
-ran_on remaining contents stop old new a b (Some input) ended.AllAccepted base starts h =
-    ended_whole remaining contents stop old new a b input ended.AllAccepted h.records h.texts base starts h.each
+ran_on remaining contents stop old new a b (Some input) end base starts h =
+    ended_whole remaining contents stop old new a b input starts base end h.records h.texts h.each
     (exchanged remaining contents a b h.records h.texts (Ended ∷ []) h.each starts.plain h.history) h.answered
-ran_on remaining contents stop old new a b (Some input) ended.SomeRefused base starts h =
-    ended_whole remaining contents stop old new a b input ended.SomeRefused h.records h.texts base starts h.each
-    (exchanged remaining contents a b h.records h.texts (Ended ∷ []) h.each starts.plain h.history) h.answered
-
--- ---- runs that were cut off
-
-not_writing : (e : RunFault) → IsOfTaking e → e ≢ fault.Write
-not_writing fault.Read h = λ e. cc
-not_writing fault.Memory h = λ e. cc
-not_writing fault.Write h = absurd h
-not_writing fault.TooMany h = absurd h
-
--- one more record was taken
-record TakenOne {R W : Type 0} (remaining : R → Known) (contents : W → Known) (a : Reader R × W)
-    (rs : List (List Field)) (r : List Field) (ws : List (List ℕ)) (es : List Event) (b : Reader R × W) : Type 0 where
-  mid : Reader R × W
-  wrote : Appends (contents a.1) (contents mid.1) (joined ws)
-  read : Follows remaining a.0 (rs ++ r ∷ []) mid.0
-  rest : History (OfReader remaining contents) mid es b
-
-taken_one : {R W : Type 0} (remaining : R → Known) (contents : W → Known) (a b : Reader R × W) (rs : List (List Field))
-    (r : List Field) (ws : List (List ℕ)) (es : List Event) → Exchanged remaining contents a rs ws (Took r ∷ es) b
-    → TakenOne remaining contents a rs r ws es b
-taken_one remaining contents a b rs r ws es x =
-    let one = x.rest.1.0 x.plain in
-    record {
-      mid = x.rest.0;
-      wrote = subst (λ (k : Known). Appends (contents a.1) k (joined ws)) (sym x.rest.1.1) x.wrote;
-      read =
-          follows_join remaining a.0 x.mid.0 x.rest.0.0 rs (r ∷ []) x.read
-          (follows_one remaining x.mid.0 x.rest.0.0 r x.plain one.1);
-      rest = x.rest.2;
-    }
 
 pub cut_on : {R W : Type 0} (remaining : R → Known) (contents : W → Known) (stop : Bool) (old new : Registered)
     (a b : Reader R × W) (known : Known) (e : RunFault) → IsContent old.kept.content → Starts remaining a.0 known
@@ -295,92 +297,30 @@ pub cut_on : {R W : Type 0} (remaining : R → Known) (contents : W → Known) (
     → FaultedOn Claims stop old (known_records known) (contents a.1) new (contents b.1) e
 cut_on remaining contents stop old new a b None e base starts h = tt
 cut_on remaining contents stop old new a b (Some input) e base starts (In_taking of rs ws l history answered) =
-    λ s represents.
     let x = exchanged remaining contents a b rs ws (Not_taken e ∷ []) l starts.plain history in
-    let f = first_of remaining a.0 x.mid.0 input rs starts x.read in
-    let h = answered s represents in
-    let sound = represented old s base represents in
-    let later : contents b.1 ≡ contents x.mid.1 = ap (λ (p : Reader _ × _). contents p.1) (sym x.rest.2)
-    ∙ x.rest.1.1 in (
-      h.0,
-      h.1,
-      texts h.2,
-      subst (λ (k : Known). Appends (contents a.1) k (texts h.2)) (sym later)
-          (written_is (contents a.1) (contents x.mid.1) ws h.2 h.4 x.wrote),
-      record {
-        outcomes = h.2;
-        each = longer s h.0 rs f.1 (records_of input) h.2 sound f.3 h.3;
-        stops = h.5;
-        wrote = output.Before_next (not_writing e of) h.6 refl;
-      },
-    )
+    cut_before remaining contents stop old new a b input starts base e rs ws x.mid (not_writing e of) x.read x.wrote
+    (ap (λ (p : Reader _ × _). contents p.1) (sym x.rest.2) ∙ x.rest.1.1) answered
 cut_on remaining contents stop old new a b (Some input) e base starts (Past_the_most is rs ws l most r history answered)
     =
-    λ s represents.
     let x = exchanged remaining contents a b rs ws (Took r ∷ []) l starts.plain history in
-    let f = first_of remaining a.0 x.mid.0 input rs starts x.read in
-    let h = answered s represents in
-    let sound = represented old s base represents in
-    let later : contents b.1 ≡ contents x.mid.1 = ap (λ (p : Reader _ × _). contents p.1) (sym x.rest.2)
-    ∙ x.rest.1.1 in (
-      h.0,
-      h.1,
-      texts h.2,
-      subst (λ (k : Known). Appends (contents a.1) k (texts h.2)) (sym later)
-          (written_is (contents a.1) (contents x.mid.1) ws h.2 h.4 x.wrote),
-      record {
-        outcomes = h.2;
-        each = longer s h.0 rs f.1 (records_of input) h.2 sound f.3 h.3;
-        stops = h.5;
-        wrote = output.Before_next (λ write. let never : fault.TooMany ≡ fault.Write = sym is ∙ write in cc) h.6 refl;
-      },
-    )
+    cut_before remaining contents stop old new a b input starts base e rs ws x.mid
+    (λ write. let never : fault.TooMany ≡ fault.Write = sym is ∙ write in cc) x.read x.wrote
+    (ap (λ (p : Reader _ × _). contents p.1) (sym x.rest.2) ∙ x.rest.1.1) answered
 cut_on remaining contents stop old new a b (Some input) e base starts (No_text is rs ws l r w history answered) =
-    λ s represents.
-    let x =
-    taken_one remaining contents a b rs r ws [] (exchanged remaining contents a b rs ws (Took r ∷ []) l starts.plain
-    history) in
-    let f = first_of remaining a.0 x.mid.0 input (rs ++ r ∷ []) starts x.read in
-    let h = answered s represents in
-    let sound = represented old s base represents in
-    let o = last_of h.2 ws w h.4 in
-    let later : contents b.1 ≡ contents x.mid.1 = ap (λ (p : Reader _ × _). contents p.1) (sym x.rest) in (
-      h.0,
-      h.1,
-      texts o.0,
-      subst (λ (k : Known). Appends (contents a.1) k (texts o.0)) (sym later)
-          (written_is (contents a.1) (contents x.mid.1) ws o.0 o.3 x.wrote),
-      record {
-        outcomes = h.2;
-        each = longer s h.0 (rs ++ r ∷ []) f.1 (records_of input) h.2 sound f.3 h.3;
-        stops = h.5;
-        wrote = output.No_text is o.0 o.1 o.2 refl;
-      },
-    )
+    let x = exchanged remaining contents a b rs ws (Took r ∷ []) l starts.plain history in
+    let t = taken remaining contents stop old new a b input starts rs r ws [] x in
+    cut_last remaining contents stop old new a b input starts base e (rs ++ r ∷ []) ws w [] x.rest.0 t.1 t.0
+    (subst (λ (p : Reader _ × _). Appends (contents x.rest.0.1) (contents p.1) []) x.rest.2
+    (Appends-nil (contents x.rest.0.1))) answered
+    (λ os before last are text. output.No_text is before last are (append-nil (texts before)))
 cut_on remaining contents stop old new a b (Some input) e base starts (In_text is rs ws l r front rest some history
     answered) =
-    λ s represents.
-    let x =
-    taken_one remaining contents a b rs r ws (Cut front ∷ []) (exchanged remaining contents a b rs ws
-    (Took r ∷ Cut front ∷ []) l starts.plain history) in
-    let f = first_of remaining a.0 x.mid.0 input (rs ++ r ∷ []) starts x.read in
-    let h = answered s represents in
-    let sound = represented old s base represents in
-    let o = last_of h.2 ws (front ++ rest) h.4 in
-    let later : contents b.1 ≡ contents x.rest.0.1 = ap (λ (p : Reader _ × _). contents p.1) (sym x.rest.2) in (
-      h.0,
-      h.1,
-      texts o.0 ++ front,
-      subst (λ (k : Known). Appends (contents a.1) k (texts o.0 ++ front)) (sym later)
-          (Appends-trans (contents a.1) (contents x.mid.1) (contents x.rest.0.1) (texts o.0) front
-          (written_is (contents a.1) (contents x.mid.1) ws o.0 o.3 x.wrote) x.rest.1.1),
-      record {
-        outcomes = h.2;
-        each = longer s h.0 (rs ++ r ∷ []) f.1 (records_of input) h.2 sound f.3 h.3;
-        stops = h.5;
-        wrote = output.In_last is o.0 o.1 front rest o.2 o.4 some refl;
-      },
-    )
+    let x = exchanged remaining contents a b rs ws (Took r ∷ Cut front ∷ []) l starts.plain history in
+    let t = taken remaining contents stop old new a b input starts rs r ws (Cut front ∷ []) x in
+    cut_last remaining contents stop old new a b input starts base e (rs ++ r ∷ []) ws (front ++ rest) front x.rest.0
+    t.1 t.0
+    (subst (λ (p : Reader _ × _). Appends (contents x.rest.0.1) (contents p.1) front) x.rest.2.2 x.rest.2.1.1) answered
+    (λ os before last are text. output.In_last is before last front rest are text some refl)
 
 pub too_many : {R W : Type 0} (remaining : R → Known) (contents : W → Known) (stop : Bool) (old new : Registered)
     (a b : Reader R × W) (known : Known) (e : RunFault) → Starts remaining a.0 known
@@ -390,10 +330,9 @@ too_many remaining contents stop old new a b (Some input) e starts (In_taking of
     absurd (subst IsOfTaking is of)
 too_many remaining contents stop old new a b (Some input) e starts (Past_the_most _ rs ws l most r history answered) is
     =
-    let x =
-    taken_one remaining contents a b rs r ws [] (exchanged remaining contents a b rs ws (Took r ∷ []) l starts.plain
-    history) in
-    let f = first_of remaining a.0 x.mid.0 input (rs ++ r ∷ []) starts x.read in
+    let x = exchanged remaining contents a b rs ws (Took r ∷ []) l starts.plain history in
+    let t = taken remaining contents stop old new a b input starts rs r ws [] x in
+    let f = first_of remaining a.0 x.rest.0.0 input (rs ++ r ∷ []) starts t.1 in
     let size : length (records_of input) ≡ (length rs + 1) + length f.1 =
     ap length f.3 ∙ length-append (rs ++ r ∷ []) f.1 ∙ ap (λ (k : ℕ). k + length f.1) (length-append rs (r ∷ [])) in
     subst (λ (k : ℕ). most_records < k) (sym size)

@@ -1,7 +1,8 @@
 -- Two runs on one register are one run over the records of both.
-use Rattle.std.proofs.Common.{◌≡◌, ◌∙◌, ◌≢◌, ◌+◌, ℕ, Bool, true, false, List, [], ◌∷◌, ◌++◌, length, length-append}
-use Rattle.std.proofs.Common.{None, Some, inl, inr, refl, sym, ap, subst}
+use Rattle.std.proofs.Common.{◌≡◌, ◌∙◌, ◌≢◌, ◌+◌, ℕ, Bool, true, false, List, [], ◌∷◌, ◌++◌, length, length-append, None, Some}
+use Rattle.std.proofs.Common.{inl, inr, refl, sym, ap, subst}
 use Rattle.std.specs.Prelude.{◌&&◌, ◌||◌, is_err, if◌then◌else◌}
+use Rattle.std.proofs.lemmas.Bool.{both_ways, or_from, or_right}
 use Rattle.std.proofs.lemmas.List.{append_assoc}
 use Rattle.std.proofs.lemmas.List.Concat.{flat_map-append}
 use Rattle.std.proofs.lemmas.List.Folds.{list_any-append}
@@ -14,8 +15,7 @@ use Rattle.olr_records.specs.Records.{Field}
 use Rattle.olr_records.specs.ReplyText.{outcome_text}
 use Rattle.olr_register.specs.Registered.{Registered}
 use Rattle.olr_run.specs.Output as output
-use Rattle.olr_run.specs.Output.{SoundOutcome, SoundOutcomes, Claims, StopsAtFault, any_refused, AreAnswered, texts}
-use Rattle.olr_run.specs.Output.{Ran}
+use Rattle.olr_run.specs.Output.{SoundOutcome, SoundOutcomes, Claims, StopsAtFault, any_refused, AreAnswered, texts, Ran}
 use Rattle.olr_run.specs.Output.{CutOff, Before_next, No_text, In_last, Faulted, greater}
 use Rattle.olr_run.specs.Sessions.{Known}
 use Rattle.olr_run.specs.Runs.{Records, known_records, known_both, status_of, RanOn, FaultedOn}
@@ -23,7 +23,7 @@ use Rattle.olr_run.specs.declared.ends.RunFault.{RunFault}
 use Rattle.olr_run.specs.declared.ends.Status.{Status}
 use Rattle.olr_run.specs.declared.ends.Status.TheVariants as status
 use Rattle.olr_run.proofs.RunLemmas.{claims_of}
-use Rattle.olr_run.proofs.Running.{represented}
+use Rattle.olr_run.proofs.Running.{represented, status_by, stopped_by, stops_join}
 
 -- no bytes have no records
 pub no_file : (stop : Bool) (old : Registered) (before : Known) →
@@ -72,19 +72,6 @@ only_sound_faulted stop old (Some rs) before new later e h =
 
 -- ---- outcomes of both
 
--- if stop is set and a record was rejected, that record is the last
-both_false : (stop a b : Bool) → (stop && (a || b)) ≡ false → ((stop && a) ≡ false) × ((stop && b) ≡ false)
-both_false true true b e = absurd cc
-both_false true false b e = (refl, e)
-both_false false a b e = (refl, refl)
-
-stops_join : (stop : Bool) (os qs : List Outcome) → (stop && any_refused os) ≡ false → StopsAtFault stop os →
-    StopsAtFault stop qs → StopsAtFault stop (os ++ qs)
-stops_join stop [] qs n h k = k
-stops_join stop (o ∷ os) qs n h k =
-    let parts = both_false stop (is_err o) (any_refused os) n in
-    (λ e. let never : true ≡ false = sym e ∙ parts.0 in absurd cc, stops_join stop os qs parts.1 h.1 k)
-
 -- a run that was not stopped rejected nothing if stop is set
 continues : (stop : Bool) (p : Status) (os : List Outcome) → p ≢ status.Stopped →
     status_of p ≡ output.run_status stop os → (stop && any_refused os) ≡ false
@@ -92,69 +79,44 @@ continues false p os n e = refl
 continues true p os n e = by p (any_refused os) n e where
   by : (p : Status) (b : Bool) → p ≢ status.Stopped →
       status_of p ≡ (if b then output.Stopped else output.All_accepted) → b ≡ false
-  by p false n e = refl
-  by status.AllAccepted true n e = absurd cc
-  by status.SomeRefused true n e = absurd cc
   by status.Stopped true n e = absurd (n refl)
+  by p false n e = refl
+  by p true n e = absurd cc
 
 all_whole : (stop : Bool) (rs : List (List Field)) (os : List Outcome) → (stop && any_refused os) ≡ false →
     AreAnswered stop rs os → length os ≡ length rs
 all_whole stop rs os n (inl h) = h
-all_whole stop rs os n (inr h) = let never : true ≡ false = sym h ∙ n in absurd cc
+all_whole stop rs os n (inr h) = absurd (both_ways (stop && any_refused os) n h)
 
 all_join : (stop : Bool) (rs ms : List (List Field)) (os qs : List Outcome) → length os ≡ length rs →
     AreAnswered stop ms qs → AreAnswered stop (rs ++ ms) (os ++ qs)
 all_join stop rs ms os qs l (inl h) = inl (length-append os qs ∙ (λ i. l i + h i) ∙ sym (length-append rs ms))
 all_join stop rs ms os qs l (inr h) =
-    inr (ap (λ (x : Bool). stop && x) (list_any-append is_err os qs)
-    ∙ still stop (any_refused os) (any_refused qs) h) where
-      still : (stop a b : Bool) → (stop && b) ≡ true → (stop && (a || b)) ≡ true
-      still true true b h = refl
-      still true false b h = h
-      still false a b h = absurd cc
+    inr (stopped_by stop os qs ∙ or_right (stop && any_refused os) (stop && any_refused qs) h)
 
-pub stopped_is : (stop b : Bool) →
-    output.Stopped ≡ (if b then (if stop then output.Stopped else output.Some_refused) else output.All_accepted) →
-    (stop && b) ≡ true
+pub stopped_is : (stop b : Bool) → output.Stopped ≡ status_by stop b → (stop && b) ≡ true
 stopped_is true true e = refl
-stopped_is true false e = absurd cc
-stopped_is false true e = absurd cc
-stopped_is false false e = absurd cc
+stopped_is stop true e = absurd cc
+stopped_is stop false e = absurd cc
 
 status_join : (stop : Bool) (os qs : List Outcome) → (stop && any_refused os) ≡ false →
     greater (output.run_status stop os) (output.run_status stop qs) ≡ output.run_status stop (os ++ qs)
 status_join stop os qs n =
-    by stop (any_refused os) (any_refused qs) n
-    ∙ ap (λ (x : Bool). if x then (if stop then output.Stopped else output.Some_refused) else output.All_accepted)
-    (sym (list_any-append is_err os qs))
+    by stop (any_refused os) (any_refused qs) n ∙ ap (status_by stop) (sym (list_any-append is_err os qs))
   where
-    by : (stop a b : Bool) → (stop && a) ≡ false
-        → greater (if a then (if stop then output.Stopped else output.Some_refused) else output.All_accepted)
-        (if b then (if stop then output.Stopped else output.Some_refused) else output.All_accepted)
-        ≡ (if a || b then (if stop then output.Stopped else output.Some_refused) else output.All_accepted)
+    by : (stop a b : Bool) → (stop && a) ≡ false → greater (status_by stop a) (status_by stop b) ≡ status_by stop (a || b)
     by true true b n = absurd cc
-    by true false b n = refl
     by false true true n = refl
     by false true false n = refl
-    by false false b n = refl
+    by stop a b n = refl
 
 texts_join : (os qs : List Outcome) → texts (os ++ qs) ≡ texts os ++ texts qs
 texts_join os qs = flat_map-append outcome_text os qs
 
-none_stopped : (stop : Bool) (os qs : List Outcome) → (stop && any_refused os) ≡ false →
-    (stop && any_refused qs) ≡ false → (stop && any_refused (os ++ qs)) ≡ false
-none_stopped stop os qs n m =
-    ap (λ (x : Bool). stop && x) (list_any-append is_err os qs) ∙ by stop (any_refused os) (any_refused qs) n m
-  where
-    by : (stop a b : Bool) → (stop && a) ≡ false → (stop && b) ≡ false → (stop && (a || b)) ≡ false
-    by true true b n m = absurd cc
-    by true false b n m = m
-    by false a b n m = refl
-
 cut_join : (stop : Bool) (os qs : List Outcome) (second : List ℕ) (e : RunFault) → (stop && any_refused os) ≡ false →
     CutOff stop qs second e → CutOff stop (os ++ qs) (texts os ++ second) e
 cut_join stop os qs second e n (Before_next no_write none wrote) =
-    Before_next no_write (none_stopped stop os qs n none)
+    Before_next no_write (stopped_by stop os qs ∙ or_from (stop && any_refused os) (stop && any_refused qs) n none)
     (ap (λ (x : List ℕ). texts os ++ x) wrote ∙ sym (texts_join os qs))
 cut_join stop os qs second e n (No_text is before last are wrote) =
     No_text is (os ++ before) last (ap (λ (x : List Outcome). os ++ x) are ∙ sym (append_assoc os before (last ∷ [])))
@@ -170,8 +132,6 @@ cut_join stop os qs second e n (In_last is before last front rest are text some 
 pub both_stopped : (stop : Bool) (old mid : Registered) (first second : Records) (before later : Known) (p : Status) →
     IsContent old.kept.content → RanOn SoundOutcomes stop old first before mid later p → p ≡ status.Stopped
     → RanOn Claims stop old (known_both first second) before mid later p
-both_stopped stop old mid None second before later p base h e = tt
-both_stopped stop old mid (Some rs) None before later p base h e = tt
 both_stopped stop old mid (Some rs) (Some ms) before later p base h e =
     λ s represents.
     let r = h s represents in
@@ -192,14 +152,13 @@ both_stopped stop old mid (Some rs) (Some ms) before later p base h e =
         ended = ran.ended;
       },
     )
+both_stopped stop old mid first second before later p base h e = tt
 
 pub both_ran : (stop : Bool) (old mid new : Registered) (first second : Records) (before now later : Known)
     (p q end : Status) → IsContent old.kept.content → RanOn SoundOutcomes stop old first before mid now p →
     p ≢ status.Stopped
     → RanOn Claims stop mid second now new later q → status_of end ≡ greater (status_of p) (status_of q) →
     RanOn Claims stop old (known_both first second) before new later end
-both_ran stop old mid new None second before now later p q end base h n k e = tt
-both_ran stop old mid new (Some rs) None before now later p q end base h n k e = tt
 both_ran stop old mid new (Some rs) (Some ms) before now later p q end base h n k e =
     λ s represents.
     let a = h s represents in
@@ -225,12 +184,11 @@ both_ran stop old mid new (Some rs) (Some ms) before now later p q end base h n 
         ended = ended;
       },
     )
+both_ran stop old mid new first second before now later p q end base h n k e = tt
 
 pub both_faulted_first : (stop : Bool) (old mid : Registered) (first second : Records) (before later : Known)
     (e : RunFault) → IsContent old.kept.content → FaultedOn SoundOutcomes stop old first before mid later e
     → FaultedOn Claims stop old (known_both first second) before mid later e
-both_faulted_first stop old mid None second before later e base h = tt
-both_faulted_first stop old mid (Some rs) None before later e base h = tt
 both_faulted_first stop old mid (Some rs) (Some ms) before later e base h =
     λ s represents.
     let r = h s represents in
@@ -248,13 +206,12 @@ both_faulted_first stop old mid (Some rs) (Some ms) before later e base h =
         wrote = cut.wrote;
       },
     )
+both_faulted_first stop old mid first second before later e base h = tt
 
 pub both_faulted_second : (stop : Bool) (old mid new : Registered) (first second : Records) (before now later : Known)
     (p : Status) (e : RunFault) → IsContent old.kept.content → RanOn SoundOutcomes stop old first before mid now p
     → p ≢ status.Stopped → FaultedOn Claims stop mid second now new later e →
     FaultedOn Claims stop old (known_both first second) before new later e
-both_faulted_second stop old mid new None second before now later p e base h n k = tt
-both_faulted_second stop old mid new (Some rs) None before now later p e base h n k = tt
 both_faulted_second stop old mid new (Some rs) (Some ms) before now later p e base h n k =
     λ s represents.
     let a = h s represents in
@@ -277,3 +234,4 @@ both_faulted_second stop old mid new (Some rs) (Some ms) before now later p e ba
             (cut_join stop one.outcomes cut.outcomes b.2 e on cut.wrote);
       },
     )
+both_faulted_second stop old mid new first second before now later p e base h n k = tt

@@ -1,14 +1,13 @@
 -- The faults that a command has by its state, and where out of memory may be reported.
-use Rattle.std.proofs.Common.{Bool, true, false, List, [], ◌∷◌, ◌++◌, Option, Some, None, Result, Ok, Err, inl}
-use Rattle.std.proofs.Common.{inr, ◌⊎◌, IsTrue, refl, subst}
+use Rattle.std.proofs.Common.{Bool, true, false, List, [], ◌∷◌, ◌++◌, Option, Some, None, Result, Ok, Err, inl, inr, ◌⊎◌}
+use Rattle.std.proofs.Common.{IsTrue, refl, subst}
 use Rattle.std.specs.Prelude.{◌≡◌, IfErr, IsOkAnd, not, nat_le, ◌==◌, length, ⊤}
 use Rattle.olr_spec.specs.Map.{Map, MapFault, edited}
 use Rattle.olr_spec.specs.Extension.{is_path}
-use Rattle.olr_commands.specs.State.{Fault, Memory, No_path, Path_exists, Bad_path, Count_differs, Batch_full}
-use Rattle.olr_commands.specs.State.{TextFault, Content, State, Change, On_map, Add_path, Set_path, Drop_path, Command}
-use Rattle.olr_commands.specs.State.{Make, Show, Report, Explain, Begin, Commit, Abort, full, has_path, when}
-use Rattle.olr_commands.specs.State.{with_change, with_map, at_once, into_batch, after, text_fault, unless_fault}
-use Rattle.olr_commands.specs.State.{step_in, Dump, Not_a_record, is_recordable}
+use Rattle.olr_commands.specs.State.{Fault, Memory, No_path, Path_exists, Bad_path, Count_differs, Batch_full, TextFault}
+use Rattle.olr_commands.specs.State.{Content, State, Change, On_map, Add_path, Set_path, Drop_path, Command, Make, Show}
+use Rattle.olr_commands.specs.State.{Explain, Commit, full, has_path, when, with_change, with_map, at_once}
+use Rattle.olr_commands.specs.State.{into_batch, after, text_fault, unless_fault, step_in, Dump, Not_a_record, is_recordable}
 use Rattle.olr_commands.specs.Reply.{may_lack, IsRefusal, ByState, Lacks}
 use Rattle.olr_records.specs.Records.{Field, Bad_form, Out_of_range, Read, read, HoldsList}
 use Rattle.olr_run.specs.Output.{CommandOutcome, RecordOutcome}
@@ -64,24 +63,14 @@ step_own c (Some xs) (Make x) =
     when_own (is_recordable c) (nat_le full (length xs)) Batch_full
     (into_batch c (xs ++ x ∷ []) (with_change (after c xs) x)) tt
     (held_own (is_recordable c) c _ (with_change (after c xs) x) (change_own (is_recordable c) (after c xs) x))
-step_own c None (Show name) =
-    when_own (is_recordable c) (not (has_path c name)) No_path (Ok (record { content = c; batch = None })) tt tt
-step_own c (Some xs) (Show name) =
-    when_own (is_recordable c) (not (has_path c name)) No_path (Ok (record { content = c; batch = Some xs })) tt tt
-step_own c None Report = tt
-step_own c (Some xs) Report = tt
+step_own c b (Show name) =
+    when_own (is_recordable c) (not (has_path c name)) No_path (Ok (record { content = c; batch = b })) tt tt
 step_own c None Dump = dump_own (is_recordable c) (record { content = c; batch = None })
-step_own c (Some xs) Dump = tt
-step_own c None (Explain text) = text_own (is_recordable c) _ (text_fault text)
-step_own c (Some xs) (Explain text) = text_own (is_recordable c) _ (text_fault text)
-step_own c None Begin = tt
-step_own c (Some xs) Begin = tt
-step_own c None (Commit count) = tt
+step_own c b (Explain text) = text_own (is_recordable c) _ (text_fault text)
 step_own c (Some xs) (Commit count) =
     when_own (is_recordable c) (not (length xs == count)) Count_differs
     (Ok (record { content = after c xs; batch = None })) tt tt
-step_own c None Abort = tt
-step_own c (Some xs) Abort = tt
+step_own c b x = tt
 
 -- ---- of a record
 

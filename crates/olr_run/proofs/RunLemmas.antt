@@ -1,6 +1,6 @@
 -- Runs.
-use Rattle.std.proofs.Common.{inl, inr, ◌≡◌, ℕ, Bool, true, false, List, [], ◌∷◌, Option, None, Some, Ok, Err, IsFalse}
-use Rattle.std.proofs.Common.{refl, sym, ap, ◌∙◌, subst, arith}
+use Rattle.std.proofs.Common.{inl, inr, ◌≡◌, ℕ, Bool, true, false, List, [], ◌∷◌, Option, None, Some, Ok, Err, IsFalse, refl}
+use Rattle.std.proofs.Common.{sym, ap, ◌∙◌, subst, arith}
 use Rattle.std.specs.Prelude.{◌&&◌, ◌||◌, is_err, IfSome}
 use Rattle.std.specs.Result.{result_ok}
 use Rattle.std.specs.List.{list_any}
@@ -8,13 +8,12 @@ use Rattle.std.proofs.lemmas.Bool.{cases_Bool, both_ways, or_parts}
 use Rattle.olr_commands.specs.State.{IsContent, Fault, Memory, State, Command, HasCoords, IsState}
 use Rattle.olr_commands.specs.Reply.{Outcome, lacks_memory}
 use Rattle.olr_commands.specs.History.{IsNamed}
-use Rattle.olr_commands.proofs.HistoryLemmas.{Leads, outcome_leads, outcome_keeps, is_named, is_refused, is_dumped}
-use Rattle.olr_commands.proofs.HistoryLemmas.{Claimed, headline_of}
+use Rattle.olr_commands.proofs.HistoryLemmas.{Leads, outcome_leads, outcome_keeps, is_named, is_refused, is_dumped, Claimed}
+use Rattle.olr_commands.proofs.HistoryLemmas.{headline_of}
 use Rattle.olr_commands.proofs.OutcomeLemmas.{one_outcome}
 use Rattle.olr_records.specs.Records.{Field, Read, read}
 use Rattle.olr_run.specs.Output.{CommandOutcome, OutOfMemory, RecordOutcome, Outcomes, SoundOutcome, SoundOutcomes}
-use Rattle.olr_run.specs.Output.{decoded_command, Claims, StopsAtFault, any_refused, AreAnswered, texts, run_status}
-use Rattle.olr_run.specs.Output.{Status}
+use Rattle.olr_run.specs.Output.{decoded_command, Claims, StopsAtFault, any_refused, AreAnswered, texts, run_status, Status}
 use Rattle.olr_run.specs.Output.{Ran, AllHadMemory}
 use Rattle.olr_records.proofs.ReadLemmas.{coords_read}
 use Rattle.olr_run.proofs.Dumping.{dumps_of}

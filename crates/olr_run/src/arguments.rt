@@ -1,9 +1,7 @@
 //! What the command-line arguments ask for.
 
-use thiserror::Error;
-
 /// What the command-line arguments ask for.
-#[derive(Clone, Copy, Debug, PartialEq, Eq)]
+#[derive(Clone, Copy)]
 pub struct Options<'a> {
     /// The file whose commands come before those of standard input.
     pub file: Option<&'a str>,
@@ -12,12 +10,10 @@ pub struct Options<'a> {
 }
 
 /// Why arguments give no options.
-#[derive(Debug, Drop, Error)]
+#[derive(Drop)]
 pub enum OptionsFault {
     /// Help or the version was asked for, or an argument is invalid. The text for the user is that of this error.
-    #[error(transparent)]
     Clap(clap::Error),
     /// Out of memory.
-    #[error("no memory")]
     Memory,
 }

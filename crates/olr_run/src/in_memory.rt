@@ -15,7 +15,7 @@ use std::alloc::{AllocError, Global};
 use std::io::Write;
 
 /// Where in a record a byte is.
-#[derive(Clone, Copy, PartialEq, Eq)]
+#[derive(Clone, Copy)]
 pub enum State {
     /// Before its first byte.
     StartRecord,
@@ -32,7 +32,7 @@ pub enum State {
 }
 
 /// The effect of a byte.
-#[derive(Clone, Copy, PartialEq, Eq)]
+#[derive(Clone, Copy)]
 pub enum Action {
     /// Nothing.
     Skip,
@@ -226,10 +226,7 @@ impl<'a, W: Write> Session<W> for InMemory<'a> {
     ghost happens = { λ a e b. BytesHappens a.0 b.0 (W.contents a.1) (W.contents b.1) e };
 
     fn take(&mut self, _output: &mut W, fields: &mut ByteRecord) -> Result<bool, RunFault> {
-        match self.take_record(fields) {
-            Ok(found) => Ok(found),
-            Err(_) => Err(RunFault::Memory),
-        }
+        Ok(self.take_record(fields)?)
     }
 
     fn answer(&mut self, output: &mut W, text: &[u8]) -> Result<(), RunFault> {

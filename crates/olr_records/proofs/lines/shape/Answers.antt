@@ -5,8 +5,7 @@ use Rattle.csv.specs.Records.{fields_of}
 use Rattle.olr_spec.specs.Map.{ShapePoint}
 use Rattle.olr_records.specs.Records.{Read, point, shape}
 use Rattle.olr_records.specs.Words.{Gathers, Reads}
-use Rattle.olr_records.proofs.LoopLemmas.{at, with, nothing-onto, shape-end, shape-more, shape-over, gathers-only}
-use Rattle.olr_records.proofs.LoopLemmas.{some-points}
+use Rattle.olr_records.proofs.LoopLemmas.{at, with, nothing-onto, shape-end, shape-more, shape-over, gathers-only, some-points}
 use Rattle.olr_records.proofs.lines.shape.Goals as goal
 
 pub loop-k-init : goal.loop-k-init

@@ -1,5 +1,4 @@
-use Rattle.std.proofs.Common.{take, ◌-◌, arith, ◌≡◌, ℤ, to_z, of_z, w32, rules, List, ℕ, [], ◌∷◌, ◌++◌, map, drop, ap}
-use Rattle.std.proofs.Common.{◌∙◌}
+use Rattle.std.proofs.Common.{take, ◌-◌, arith, ◌≡◌, ℤ, to_z, of_z, w32, rules, List, ℕ, [], ◌∷◌, ◌++◌, map, drop, ap, ◌∙◌}
 use Rattle.std.specs.Prelude.{decimal}
 use Rattle.std.specs.Fmt.{signed_decimal}
 use Rattle.std.proofs.lemmas.List.{take_all, length-drop}

@@ -1,5 +1,5 @@
 -- After each byte, the part that was read and the rest still make the same record.
-use Rattle.std.proofs.Common.{◌≡◌, ◌∙◌, ◌++◌, ◌-◌, sym, arith, true, false, rules, take, drop, length}
+use Rattle.std.proofs.Common.{◌≡◌, ◌∙◌, ◌++◌, ◌-◌, sym, arith, rules, take, drop, length}
 use Rattle.olr_run.specs.declared.in_memory.Action.TheVariants as act
 use Rattle.olr_run.proofs.CsvBytes.{did, copied, skipped, field_ended, record_ended, text_ended, none_left}
 use Rattle.olr_run.proofs.in_memory.first_record.Goals as goal

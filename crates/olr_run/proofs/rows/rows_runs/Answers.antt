@@ -7,8 +7,7 @@ use Rattle.std.specs.Fmt.{digits}
 use Rattle.csv.proofs.OnLiterals.{csv_on_literals}
 use Rattle.olr_spec.specs.Coordinates.{Coord}
 use Rattle.olr_spec.specs.Map.{empty_map, unless, Node_exists, No_node, Node_in_use, Add_node, Drop_node, in_use}
-use Rattle.olr_commands.specs.State.{no_content, start_state, Syntax, Range, Map_fault, On_map, Make, with_map, at_once}
-use Rattle.olr_commands.specs.State.{step}
+use Rattle.olr_commands.specs.State.{no_content, start_state, Syntax, Range, Map_fault, On_map, Make, with_map, at_once, step}
 use Rattle.olr_commands.specs.Reply.{Paths, ByState}
 use Rattle.olr_run.specs.Output.{Before_next, In_last}
 use Rattle.olr_records.specs.Rows.{zero}
