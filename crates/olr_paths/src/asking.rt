@@ -75,18 +75,36 @@ fn is_near<M: MapRead>(
     }
 }
 
-/// Whether one of the traversed nodes was touched.
+/// Whether one of the nodes is in a footprint, by a look-up of each.
+fn is_any_in(footprint: &Footprint, nodes: &[NodeId]) -> bool
+    ensures { IsTrue result ↔ ((v : ℕ) × IsTrue (has nodes.now v) × Contains footprint.now v) }
+{
+    for node in nodes {
+        if footprint.has(*node) {
+            return true;
+        }
+    }
+    false
+}
+
+/// Whether one of the traversed nodes was touched, by a look-up of each node of the shorter list.
 pub(crate) fn is_traversed_touched(touched: &ChangeSet, traversed: &Footprint) -> bool
     ensures { IsTrue result ↔ ((v : ℕ) × IsTrue (has (nodes_of touched.now) v) × Contains traversed.now v) }
 {
     let nodes = traversed.as_slice();
+    if touched.nodes.len() < nodes.len() {
+        return is_any_in(traversed, &touched.nodes);
+    }
     nodes.iter().any(|node| touched.has_node(*node))
 }
 
-/// Whether one of the lines was touched, by a test of each.
+/// Whether one of the lines was touched, by a test of each. An edit outside of batches touches at most one line.
 fn is_any_touched(touched: &ChangeSet, lines: &[LineId]) -> bool
     ensures { result ≡ list_any (λ x. has (lines_of touched.now) x) lines.now }
 {
+    if let [only] = touched.lines.as_slice() {
+        return lines.contains(only);
+    }
     lines.iter().any(|line| touched.has_line(*line))
 }
 
@@ -130,7 +148,7 @@ pub(crate) fn is_touched<M: MapRead>(
     ensures { IsTrue result
         ↔ Touches (M.map map.now) (nodes_of touched.now) (lines_of touched.now) (made_of published.now) path.now }
 {
-    is_traversed_touched(touched, &published.traversed)
+    (!searches.far && is_query_touched(map, touched, &searches.near, published))
+        || is_traversed_touched(touched, &published.traversed)
         || is_line_touched(touched, path.lines())
-        || (!searches.far && is_query_touched(map, touched, &searches.near, published))
 }

@@ -1,0 +1,37 @@
+use Rattle.std.proofs.Common.{◌≡◌, ℕ, List, All, Contains, true, false, refl, sym, subst, arith}
+use Rattle.std.proofs.lemmas.List.{take_all}
+use Rattle.std.proofs.lemmas.List.Elements.{All-contains, Contains-get_or}
+use Rattle.olr_paths.proofs.Alls.{all_more}
+use Rattle.olr_paths.proofs.Sets.{has_from, in_from}
+use Rattle.olr_paths.proofs.asking.is_any_in.Goals as goal
+
+pub returns-then-has : goal.returns-then-has
+returns-then-has c =
+    let nodes = c.args.nodes.now in
+    let item : ℕ = c.node-item.result in
+    let on : Contains nodes item =
+    subst (λ (v : ℕ). Contains nodes v) (sym c.node-item.is)
+    (Contains-get_or nodes c.loop-node.node-index item c.loop-node-test.true) in
+    let yes : c.has.result ≡ true = cc in (
+      (λ t. (item, has_from nodes item on, c.has.ensures.0 yes)),
+      (λ h. refl),
+    )
+
+pub loop-node-preserved : goal.loop-node-preserved
+loop-node-preserved c =
+    let P : ℕ → Type 0 = λ v. ¬ Contains c.args.footprint.now v in
+    let item : ℕ = c.node-item.result in
+    let off : c.has.result ≡ false = cc in
+    let no : P item = λ in_it. let on : c.has.result ≡ true = c.has.ensures.1 in_it in cc in
+    all_more P c.args.nodes.now c.loop-node.node-index item c.loop-node-test.true c.loop-node.invariant
+    (subst P c.node-item.is no)
+
+pub returns : goal.returns
+returns c =
+    let P : ℕ → Type 0 = λ v. ¬ Contains c.args.footprint.now v in
+    let all : All P c.args.nodes.now =
+    subst (λ (vs : List ℕ). All P vs)
+    (take_all c.loop-node.node-index c.args.nodes.now (omega (arith, c.loop-node-test.false))) c.loop-node.invariant in (
+      (λ no. absurd cc),
+      (λ h. absurd (All-contains P c.args.nodes.now h.0 all (in_from c.args.nodes.now h.0 h.1) h.2)),
+    )
