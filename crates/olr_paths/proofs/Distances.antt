@@ -1,6 +1,6 @@
 -- What distances say about touched nodes that are near, and about detours.
 use Rattle.std.proofs.Common.{inl, inr, ◌≡◌, ℕ, zero, suc, ◌+◌, ◌<◌, ◌≤◌, true, List, [], ◌∷◌, map, IsTrue, ◌↔◌, Option}
-use Rattle.std.proofs.Common.{Some, None, refl, sym, ap, subst, arith, ⊎_elim}
+use Rattle.std.proofs.Common.{Some, None, IfSome, refl, sym, ap, subst, arith, ⊎_elim}
 use Rattle.std.proofs.lemmas.Bool.{cases_lt}
 use Rattle.olr_spec.specs.Map.{Map, IsMap, has_node, end, has}
 use Rattle.olr_spec.specs.Routes.{IsRoute, dm_of}
@@ -110,7 +110,7 @@ abbrev pub all_ends : List ChangedLine → List (ℕ × ℕ)
 all_ends C = map {A = ChangedLine} {B = ℕ × ℕ} (λ c. (c.to, 0)) C
 
 module _ (N : Map) (n : IsMap N) (C : List ChangedLine) (s t d most far : ℕ) (from_there : IsTrue (has_node N s))
-    (to_there : IsTrue (has_node N t)) (le : d ≤ most) (le_far : d ≤ far) where
+    (to_there : IsTrue (has_node N t)) (le : d ≤ most) where
   leads_to : (h : Detour N C s t d) → Leads N Against (all_starts C) s (h.first.len + dm_of N h.before)
   leads_to h =
       record {
@@ -140,10 +140,13 @@ module _ (N : Map) (n : IsMap N) (C : List ChangedLine) (s t d most far : ℕ) (
       reported_none N Against (all_starts C) s most r reports is (h.first.len + dm_of N h.before)
       (let w = h.within in omega arith) (leads_to h)
 
-  pub no_end : (r : Option ℕ) → ReturnsDistance N Along (all_ends C) t far r → r ≡ None → ¬ Detour N C s t d
-  no_end r reports is h =
-      reported_none N Along (all_ends C) t far r reports is (dm_of N h.after) (let w = h.within in omega arith)
-      (leads_back h)
+  -- what is left after the distance to the start was searched
+  pub no_end : (a : ℕ) (q r : Option ℕ) → ReturnsDistance N Against (all_starts C) s most q → q ≡ Some a → d ≤ a + far →
+      ReturnsDistance N Along (all_ends C) t far r → r ≡ None → ¬ Detour N C s t d
+  no_end a q r before is_a rest after is h =
+      let first = ((before a).0 is_a).0.least (h.first.len + dm_of N h.before) (leads_to h) in
+      let w = h.within in
+      reported_none N Along (all_ends C) t far r after is (dm_of N h.after) (omega arith) (leads_back h)
 
   pub too_far : (a b : ℕ) (q r : Option ℕ) → ReturnsDistance N Against (all_starts C) s most q → q ≡ Some a →
       ReturnsDistance N Along (all_ends C) t far r → r ≡ Some b → d < a + b → ¬ Detour N C s t d
@@ -187,11 +190,17 @@ module _ (N : Map) (n : IsMap N) (C : List ChangedLine) (s t d most far : ℕ) (
       ]
 
   pub clear_by : (q r : Option ℕ) → ReturnsDistance N Against (all_starts C) s most q →
-      ReturnsDistance N Along (all_ends C) t far r →
+      ReturnsDistance N Along (all_ends C) t far r → IfSome q (λ a. d ≤ a + far) →
       AreFarther q r d → ¬ Detour N C s t d
-  clear_by None r before after h = no_start None before refl
-  clear_by (Some a) None before after h = no_end None after refl
-  clear_by (Some a) (Some b) before after h = too_far a b (Some a) (Some b) before refl after refl h
+  clear_by None r before after rest h = no_start None before refl
+  clear_by (Some a) None before after rest h = no_end a (Some a) None before refl rest after refl
+  clear_by (Some a) (Some b) before after rest h = too_far a b (Some a) (Some b) before refl after refl h
+
+-- as far as what is left, or farther
+pub rest_more : (d within rest far : ℕ) (q : Option ℕ) → within ≡ d → rest ≤ far → IfSome q (λ b. within ≤ b + rest) →
+    IfSome q (λ b. d ≤ b + far)
+rest_more d within rest far None is le h = tt
+rest_more d within rest far (Some b) is le h = omega arith
 
 -- ---- in the form in which they are recorded
 

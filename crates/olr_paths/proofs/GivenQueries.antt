@@ -1,8 +1,7 @@
 -- The coverage queries that an encoding is given, which are not searched again: they are right on the map.
 use Rattle.std.proofs.Common.{◌≡◌, ℕ, zero, suc, List, [], ◌∷◌, Contains, Option, None, Some}
-use Rattle.std.proofs.Common.{inl, inr, MatchOption, IsTrue, IfSome, slice_get, refl, sym, ap, ◌∙◌, subst}
+use Rattle.std.proofs.Common.{MatchOption, IsTrue, IfSome, slice_get, refl, sym, ap, ◌∙◌, subst}
 use Rattle.std.specs.List.{AllByRecursion}
-use Rattle.std.proofs.lemmas.List.Elements.{All-contains}
 use Rattle.std.proofs.lemmas.Option.{slice_get-get_or}
 use Rattle.olr_spec.specs.Map.{Map, IsMap}
 use Rattle.olr_spec.specs.Detours.{ChangedLine}
@@ -11,21 +10,9 @@ use Rattle.olr_spec.specs.Queries.{CoverageQuery, KnownQuery, AreKnown, QueriesO
 use Rattle.olr_spec.proofs.KnownLemmas.{all_searched, known_holds, none_known}
 use Rattle.olr_commands.specs.Counts.{SearchedFor, SearchedAgain, Picks, IsAgainClear}
 use Rattle.olr_paths.specs.Items.{Made, Item, IsEncodingOf, AreEncodingsIfAny}
-use Rattle.olr_paths.specs.Changes.{IsBefore, SearchesItem, Touches}
-use Rattle.olr_paths.specs.Renewing.{Gives, ToEncode}
-use Rattle.olr_paths.specs.Searching.{ReachesQueries, ReachesKnown, IsReached}
-use Rattle.olr_paths.proofs.Picking.{picked_known, known_among}
-
--- ---- how far they reach
-
-module _ (L : Map) (sound : IsMap L) (P : Path) (is : IsTrue (is_path P.lines)) where
-  -- a search that reaches all queries of the path reaches these
-  pub reaches_known : (C : List ChangedLine) (far : Option ℕ) (m : Made) → IsEncodingOf L P m → ReachesQueries C far m →
-      ReachesKnown C far m.known
-  reaches_known C None m made reached = reached
-  reaches_known C (Some far) m made reached =
-      λ e on. reached e.query (All-contains (λ (k : KnownQuery). Contains m.queries k.query) m.known e
-      (known_among L sound P is m.known m.queries made.known made.queries) on)
+use Rattle.olr_paths.specs.Changes.{IsBefore, SearchesItem}
+use Rattle.olr_paths.specs.Renewing.{Gives}
+use Rattle.olr_paths.proofs.Picking.{picked_known}
 
 -- ---- where none are given
 
@@ -78,17 +65,6 @@ module _ (L N : Map) (n : IsMap N) (T X : List ℕ) (C : List ChangedLine) (is :
             picked_known L N C d.there d.here i.path.lines m.known given
             (known_holds L i.path path_before m.known (made_before m e).known) picks
       ] refl gives
-
-  -- and as far as the searches for detours reach, they are known
-  pub known_reached : (far : Option ℕ) → IfSome i.made (IsReached N T X C far i.path) → ToEncode N T X C i.made i.path →
-      (m : Made) → i.made ≡ Some m → ReachesKnown C far m.known
-  known_reached far reached (inl none) m e = let never : ⊥ = cc (none, e) in absurd never
-  known_reached far reached (inr f) m e =
-      let same : f.0 ≡ m = cc (f.1, e) in
-      let touches : Touches N T X m i.path = subst (λ (k : Made). Touches N T X k i.path) same f.2 in
-      let all : IsReached N T X C far i.path m =
-      subst (λ (o : Option Made). IfSome o (IsReached N T X C far i.path)) e reached in
-      reaches_known L before.sound i.path path_before C far m (made_before m e) (all touches)
 
   -- what is searched, if they are not
   pub searches_item : (given : List KnownQuery) (queries : List CoverageQuery) (m : Made) → IsEncodingOf N i.path m →

@@ -1,22 +1,15 @@
 -- The coverage queries along a path's own lines: each is one of the path's coverage queries, and those of them that are
 -- clear are right on the next map.
-use Rattle.std.proofs.Common.{inl, inr, ◌≡◌, ℕ, suc, ◌+◌, ◌<◌, List, [], ◌∷◌, ◌++◌, map, length, All, Contains, IsTrue}
-use Rattle.std.proofs.Common.{Option, Some, None, MatchOption, true, refl, sym, ap, subst, arith}
+use Rattle.std.proofs.Common.{inl, inr, ℕ, suc, ◌+◌, ◌<◌, List, [], ◌∷◌, ◌++◌, map, All}
+use Rattle.std.proofs.Common.{refl, sym, ap, subst, arith}
 use Rattle.std.proofs.lemmas.List.Elements.{All-nil, All-cons, All-head, All-tail}
 use Rattle.std.proofs.lemmas.List.Kept.{AllPairs-cons, AllPairs-from_increasing}
 use Rattle.std.specs.List.{AllPairs}
 use Rattle.std.specs.List.Sorted.{IsStrictlyIncreasing}
-use Rattle.olr_spec.specs.Map.{Map, IsMap, has}
-use Rattle.olr_spec.specs.Extension.{Path, is_path, extended_path, taken_start}
-use Rattle.olr_spec.specs.Encoding.{Refusal, path_fault}
+use Rattle.olr_spec.specs.Map.{Map}
 use Rattle.olr_spec.specs.Detours.{ChangedLine, AccountsFor}
-use Rattle.olr_spec.specs.Queries.{CoverageQuery, KnownQuery, IsKnown, AreKnown, IsKnownAt, FoundFor, KnownOfExtended}
-use Rattle.olr_spec.specs.Queries.{KnownOf, IsQuery, QueriesOfExtended, QueriesOf, querying}
-use Rattle.olr_spec.proofs.AnswerLemmas.{one_extension}
+use Rattle.olr_spec.specs.Queries.{KnownQuery, IsKnown, AreKnown}
 use Rattle.olr_spec.proofs.KnownLemmas.{known_stays}
-use Rattle.olr_spec.proofs.KnownLists.{found_each, found_moves}
-use Rattle.olr_spec.proofs.QueryLists.{zip_right}
-use Rattle.olr_spec.proofs.TestedLemmas.{one_query}
 use Rattle.olr_commands.specs.Counts.{Picks, IsAgainClear}
 
 -- ---- elements that are picked from a list
@@ -94,38 +87,3 @@ picked_known M N C there here ls known given are picks =
           (λ e clear right. known_stays M N C there here ls e right clear.clear) known given picks are.right;
       ascend = picked_increasing Clear (λ e. e.first) known given picks are.ascend;
     }
-
--- ---- among the coverage queries
-
-module _ (M : Map) (m : IsMap M) (P : Path) (is : IsTrue (is_path P.lines)) (ks : List KnownQuery)
-    (queries : List CoverageQuery) where
-  among : path_fault M P ≡ None → KnownOfExtended M P ks → QueriesOfExtended M P queries →
-      All (λ e. Contains queries e.query) ks
-  among sound p o =
-      let same = one_extension M m P is sound p.before p.after p.points o.before o.after o.points p.tried p.follow
-      o.tried o.follow in
-      let Holds : List ℕ → List ℕ → List ℕ → Type 0 =
-      λ b a js. FoundFor (IsKnownAt M (extended_path M P b a).lines (length (taken_start M b P.lines)) (length P.lines))
-      (querying (extended_path M P b a).lines (0 ∷ js)) ks in
-      let here : Holds o.before o.after o.points = coe 0 1 (i. Holds (same.0 i) (same.1 i) (same.2 i)) p.holds in
-      let ls : List ℕ = (extended_path M P o.before o.after).lines in
-      let lead : ℕ = length (taken_start M o.before P.lines) in
-      let js : List ℕ = querying ls (0 ∷ o.points) in
-      let At : ℕ → KnownQuery → Type 0 = IsKnownAt M ls lead (length P.lines) in
-      let On : ℕ → KnownQuery → Type 0 = λ i e. (has js i ≡ true) × At i e in
-      found_each On (λ e. Contains queries e.query)
-      (λ i e k.
-      let l = zip_right (IsQuery M ls) js queries o.holds i k.0 in
-      let one : e.query ≡ l.0 = one_query M ls i e.query l.0 (lead + e.last, k.1.tested, k.1.query) l.2 in
-      subst (λ (q : CoverageQuery). Contains queries q) (sym one) l.1) js ks
-      (found_moves At On js (λ i on e. ((λ k. (on, k)), (λ k. k.1))) ks here)
-
-  pub known_among : KnownOf M P ks → QueriesOf M P queries → All (λ e. Contains queries e.query) ks
-  known_among = by (path_fault M P) refl
-    where
-      by : (o : Option Refusal) → path_fault M P ≡ o → MatchOption o (KnownOfExtended M P ks) (λ _. ks ≡ []) →
-          MatchOption o (QueriesOfExtended M P queries) (λ _. queries ≡ []) → All (λ e. Contains queries e.query) ks
-      by None e p o = among e p o
-      by (Some r) e p o =
-          subst (λ (es : List KnownQuery). All (λ e. Contains queries e.query) es) (sym p)
-          (All-nil (λ e. Contains queries e.query))

@@ -4,9 +4,8 @@
 --     AreFound      the same for each number
 --     Covers N T X is found      a path whose position isn't found is not affected
 --     CoversAsked N slot t s is found      the same for the paths for which the search was made.
---     AreLongest N T X is most found      the length is no less than that of each query of the found paths that are affected
 --     FindsChanged cs is found      a path whose position isn't found is not changed
-use Rattle.std.specs.Prelude.{◌≡◌, ℕ, ◌<◌, List, All, Option, Some, None, IfSome, false, length, get_or, slice_get, IsTrue}
+use Rattle.std.specs.Prelude.{◌≡◌, ℕ, ◌<◌, List, All, Some, None, IfSome, false, length, get_or, slice_get, IsTrue}
 use Rattle.olr_spec.specs.Map.{Map, has}
 use Rattle.olr_index.specs.PathIds.{holds}
 use Rattle.olr_index.specs.declared.Index.{Index}
@@ -14,7 +13,7 @@ use Rattle.olr_paths.specs.Items.{Item}
 use Rattle.olr_paths.specs.Renewing.{ToStay}
 use Rattle.olr_paths.specs.Laying.{Changes, change_at}
 use Rattle.olr_paths.specs.Touching.{nodes_of, lines_of}
-use Rattle.olr_paths.specs.Searching.{IsAsked, IsLongest}
+use Rattle.olr_paths.specs.Searching.{IsAsked}
 use Rattle.olr_paths.specs.declared.change_set.ChangeSet.{ChangeSet}
 use Rattle.olr_paths.specs.declared.searches.Searches.{Searches}
 
@@ -35,10 +34,6 @@ abbrev pub CoversAsked : Map → (ℕ → ℕ) → ChangeSet → Searches → Li
 CoversAsked N slot t s is found =
     (k : ℕ) (i : Item) → slice_get is k ≡ Some i → has found k ≡ false → IfSome i.made (IsAsked N slot t s)
     → ToStay N (nodes_of t) (lines_of t) i.made i.path
-
-abbrev pub AreLongest : Map → List ℕ → List ℕ → List Item → Option ℕ → List ℕ → Type 0
-AreLongest N T X is most found =
-    (k : ℕ) (i : Item) → slice_get is k ≡ Some i → IsTrue (has found k) → IfSome i.made (IsLongest N T X most i.path)
 
 abbrev pub FindsChanged : Changes → List Item → List ℕ → Type 0
 FindsChanged cs is found =

@@ -1,19 +1,21 @@
 //! Which action a renewal takes for a path.
-ghost use Rattle.std.specs.Prelude.{◌↔◌, Some, IsTrue, IfSome};
+ghost use Rattle.std.specs.Prelude.{◌↔◌, ◌≤◌, length, IsTrue, IfOk, IfSome, OnOk};
 ghost use Rattle.olr_paths.specs.Items.{made_of};
 ghost use Rattle.olr_paths.specs.Showing.{shown_item};
 ghost use Rattle.olr_paths.specs.Touching.{nodes_of, lines_of, changed_of};
-ghost use Rattle.olr_paths.specs.Searching.{AreDetours, IsAsked, IsReached, ReachesQueries};
+ghost use Rattle.olr_paths.specs.Searching.{AreDetours, IsAsked};
+ghost use Rattle.olr_commands.specs.Counts.{most_changed};
 ghost use Rattle.olr_paths.specs.Renewing.{Stays, IsActionFor};
 
 use crate::asking::{is_line_touched, is_touched, is_traversed_touched};
 use crate::change_set::ChangeSet;
-use crate::detours::are_clear;
+use crate::detours::{Detours, are_clear, are_few};
 use crate::published::Published;
 use crate::searches::Searches;
 use crate::showing::PathView;
 use olr_map::MapRead;
 use olr_refs::Path;
+use std::alloc::AllocError;
 
 /// The action for a path.
 #[derive(Clone, Copy)]
@@ -30,27 +32,27 @@ pub(crate) enum Action {
 fn is_unchanged<M: MapRead>(
     map: &M,
     touched: &ChangeSet,
-    searches: &Searches,
-    asked: Option<u32>,
+    detours: &mut Detours,
     path: &Path,
     published: &Published,
-) -> bool
-    requires detours { IfSome asked (AreDetours (M.map map.now) (M.node_slot map.now) touched.now searches.now) }
-    requires reached { ReachesQueries (changed_of touched.now) asked (made_of published.now) }
-    ensures { IsTrue result ↔ Stays (M.map map.now) (nodes_of touched.now) (lines_of touched.now)
-        (changed_of touched.now)
-        (made_of published.now) path.now }
+) -> Result<bool, AllocError>
+    requires { length (changed_of touched.now) ≤ most_changed
+        → AreDetours (M.map map.now) (M.node_slot map.now) touched.now detours.old }
+    ensures stays { IfOk result (λ stays. IsTrue stays ↔ Stays (M.map map.now) (nodes_of touched.now)
+        (lines_of touched.now) (changed_of touched.now) (made_of published.now) path.now) }
+    ensures detours { OnOk result (length (changed_of touched.now) ≤ most_changed
+        → AreDetours (M.map map.now) (M.node_slot map.now) touched.now detours.new) }
 {
+    if !are_few(touched) {
+        return Ok(false);
+    }
     if is_traversed_touched(touched, &published.traversed) {
-        return false;
+        return Ok(false);
     }
     if is_line_touched(touched, path.lines()) {
-        return false;
+        return Ok(false);
     }
-    match asked {
-        Some(limit) => are_clear(map, touched, searches, limit, &published.queries),
-        None => false,
-    }
+    are_clear(map, touched, detours, &published.queries)
 }
 
 /// The action for a path.
@@ -58,25 +60,26 @@ pub(crate) fn decide<M: MapRead>(
     map: &M,
     touched: &ChangeSet,
     searches: &Searches,
-    asked: Option<u32>,
+    detours: &mut Detours,
     shown: PathView<'_>,
-) -> Action
+) -> Result<Action, AllocError>
     requires asked { IfSome shown.published
         (λ p. IsAsked (M.map map.now) (M.node_slot map.now) touched.now searches.now (made_of p.now)) }
-    requires detours { IfSome asked (AreDetours (M.map map.now) (M.node_slot map.now) touched.now searches.now) }
-    requires reached { IfSome (shown_item shown).made (IsReached (M.map map.now) (nodes_of touched.now)
-        (lines_of touched.now) (changed_of touched.now) asked (shown_item shown).path) }
-    ensures { IsActionFor (M.map map.now) (nodes_of touched.now) (lines_of touched.now) (changed_of touched.now)
-        (shown_item shown.entry).made (shown_item shown.entry).path result }
+    requires detours { length (changed_of touched.now) ≤ most_changed
+        → AreDetours (M.map map.now) (M.node_slot map.now) touched.now detours.old }
+    ensures action { IfOk result (λ action. IsActionFor (M.map map.now) (nodes_of touched.now) (lines_of touched.now)
+        (changed_of touched.now) (shown_item shown.entry).made (shown_item shown.entry).path action) }
+    ensures detours { OnOk result (length (changed_of touched.now) ≤ most_changed
+        → AreDetours (M.map map.now) (M.node_slot map.now) touched.now detours.new) }
 {
     let Some(published) = shown.published else {
-        return Action::Encode;
+        return Ok(Action::Encode);
     };
     if !is_touched(map, touched, searches, shown.path, published) {
-        return Action::Stay;
+        return Ok(Action::Stay);
     }
-    if is_unchanged(map, touched, searches, asked, shown.path, published) {
-        return Action::Keep;
+    if is_unchanged(map, touched, detours, shown.path, published)? {
+        return Ok(Action::Keep);
     }
-    Action::Encode
+    Ok(Action::Encode)
 }

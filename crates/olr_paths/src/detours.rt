@@ -1,19 +1,35 @@
 //! Whether changed lines offer a detour that is as short as a coverage query.
-ghost use Rattle.std.specs.Prelude.{◌≡◌, ◌≤◌, ◌↔◌, Contains, IsTrue, IfOk, IfSome, OnOk};
-ghost use Rattle.olr_spec.specs.Queries.{CoverageQuery as QueryRecord};
-ghost use Rattle.olr_search.specs.Searches.{IsSearch, limit_of};
+ghost use Rattle.std.specs.Prelude.{◌≡◌, ◌≤◌, ◌+◌, ◌↔◌, length, IsTrue, IfOk, IfSome, OnOk};
 ghost use Rattle.olr_paths.specs.Touching.{changed_of};
-ghost use Rattle.olr_paths.specs.Searching.{AreDetours, AreFarther, IsFarAs, IsWithin, ReachesKnown, starts, ends};
-ghost use Rattle.olr_commands.specs.Counts.{Picks, IsAgainClear};
+ghost use Rattle.olr_paths.specs.Searching.{AreDetours, AreFarther, starts, ends};
+ghost use Rattle.olr_commands.specs.Counts.{Picks, IsAgainClear, most_changed};
 ghost use Rattle.olr_paths.specs.Changes.{IsKnownClear};
 ghost use Rattle.std.specs.Prelude.{All};
 
 use crate::change_set::ChangeSet;
-use crate::searches::Searches;
 use olr_map::{MapRead, NodeId};
 use olr_refs::{CoverageQuery, KnownQuery};
 use olr_search::{Dijkstra, Direction, GREATEST_LIMIT};
 use std::alloc::{AllocError, Global};
+
+/// The searches for detours over changed lines. They begin with each renewal, and go as far as they are asked.
+#[derive(Drop)]
+pub struct Detours {
+    /// The reverse search from the starts of changed lines.
+    pub(crate) before: Dijkstra,
+    /// The forward search from the ends of changed lines.
+    pub(crate) after: Dijkstra,
+}
+
+impl Detours {
+    /// Searches that have not begun. Takes no memory.
+    pub(crate) fn new(alloc: Global) -> Detours {
+        Detours {
+            before: Dijkstra::new(alloc),
+            after: Dijkstra::new(alloc),
+        }
+    }
+}
 
 /// With more changed lines than this, no detours are searched: nearly every path is encoded anyway.
 const MOST_CHANGED: usize = 8;
@@ -42,52 +58,30 @@ fn ends_of(alloc: Global, touched: &ChangeSet) -> Result<Vec<(NodeId, u32)>, All
     Ok(ends)
 }
 
-/// Searches, up to a length in decimetres or the greatest limit, for distances to the starts of changed lines and from
-/// their ends, unless there are too many changed lines. Returns the limit, if the searches were made.
-pub(crate) fn search_detours<M: MapRead>(
+/// Whether so few lines changed that detours over them are searched.
+pub(crate) fn are_few(touched: &ChangeSet) -> bool
+    ensures { IsTrue result ↔ (length (changed_of touched.now) ≤ most_changed) }
+{
+    touched.changed.len() <= MOST_CHANGED
+}
+
+/// Begins the searches for distances to the starts of changed lines and from their ends, unless too many lines changed.
+pub(crate) fn begin_detours<M: MapRead>(
     alloc: Global,
     map: &M,
     touched: &ChangeSet,
-    most: u32,
-    searches: &mut Searches,
-) -> Result<Option<u32>, AllocError>
-    ensures asked { IfOk result
-        (λ asked. IfSome asked (AreDetours (M.map map.now) (M.node_slot map.now) touched.now searches.new)) }
-    ensures limit { IfOk result (λ asked. IsFarAs (changed_of touched.now) most asked) }
-    ensures near { searches.new.near ≡ searches.old.near }
-    ensures far { searches.new.far ≡ searches.old.far }
+    detours: &mut Detours,
+) -> Result<(), AllocError>
+    ensures { OnOk result (length (changed_of touched.now) ≤ most_changed
+        → AreDetours (M.map map.now) (M.node_slot map.now) touched.now detours.new) }
 {
-    if touched.changed.len() > MOST_CHANGED {
-        return Ok(None);
+    if !are_few(touched) {
+        return Ok(());
     }
-    let limit = most.min(GREATEST_LIMIT);
     let starts = starts_of(alloc, touched)?;
     let ends = ends_of(alloc, touched)?;
-    search_to(
-        map,
-        Direction::Against,
-        &starts,
-        limit,
-        &mut searches.before,
-    )?;
-    search_to(map, Direction::Along, &ends, limit, &mut searches.after)?;
-    Ok(Some(limit))
-}
-
-/// Starts a search, and settles it to a limit in decimetres.
-fn search_to<M: MapRead>(
-    map: &M,
-    direction: Direction,
-    from: &[(NodeId, u32)],
-    limit: u32,
-    search: &mut Dijkstra,
-) -> Result<(), AllocError>
-    requires { limit ≤ GREATEST_LIMIT }
-    ensures search { OnOk result (IsSearch (M.map map.now) (M.node_slot map.now) direction from.now search.new) }
-    ensures limit { OnOk result (limit_of search.new ≡ limit) }
-{
-    search.begin(map, direction, from)?;
-    search.settle_to(map, limit)?;
+    detours.before.begin(map, Direction::Against, &starts)?;
+    detours.after.begin(map, Direction::Along, &ends)?;
     Ok(())
 }
 
@@ -101,74 +95,88 @@ fn is_farther(before: Option<u32>, after: Option<u32>, within: u32) -> bool
     }
 }
 
+/// How much of a length is left after a distance, both in decimetres; 0 if there is no distance, or it is greater.
+fn rest_of(before: Option<u32>, within: u32) -> u32
+    ensures rest { IfSome before (λ b. within ≤ b + result) }
+    ensures most { result ≤ within }
+{
+    match before {
+        Some(before) => within.saturating_sub(before),
+        None => 0,
+    }
+}
+
 /// Whether the coverage query is on the map, within the greatest limit, and no detour over the changed lines is as
-/// short.
+/// short. The searches go no farther than it takes to tell.
 fn is_clear<M: MapRead>(
     map: &M,
     touched: &ChangeSet,
-    searches: &Searches,
-    limit: u32,
+    detours: &mut Detours,
     query: &CoverageQuery,
-) -> bool
-    requires detours { AreDetours (M.map map.now) (M.node_slot map.now) touched.now searches.now limit }
-    requires within { IsWithin limit query.now }
-    ensures { IsTrue result ↔ IsKnownClear (M.map map.now) (changed_of touched.now) query.now }
+) -> Result<bool, AllocError>
+    requires { AreDetours (M.map map.now) (M.node_slot map.now) touched.now detours.old }
+    ensures clear { IfOk result
+        (λ clear. IsTrue clear ↔ IsKnownClear (M.map map.now) (changed_of touched.now) query.now) }
+    ensures detours { OnOk result (AreDetours (M.map map.now) (M.node_slot map.now) touched.now detours.new) }
 {
-    if query.within > limit {
-        return false;
+    if query.within > GREATEST_LIMIT {
+        return Ok(false);
     }
     let Some(from) = map.slot_of(query.from) else {
-        return false;
+        return Ok(false);
     };
     let Some(to) = map.slot_of(query.to) else {
-        return false;
+        return Ok(false);
     };
-    let before = searches.before.dist_at(from);
-    let after = searches.after.dist_at(to);
-    is_farther(before, after, query.within)
+    detours.before.settle_to(map, query.within)?;
+    let before = detours.before.dist_at(from);
+    detours.after.settle_to(map, rest_of(before, query.within))?;
+    let after = detours.after.dist_at(to);
+    Ok(is_farther(before, after, query.within))
 }
 
 /// Whether each coverage query is on the map, within the greatest limit, and clear.
 pub(crate) fn are_clear<M: MapRead>(
     map: &M,
     touched: &ChangeSet,
-    searches: &Searches,
-    limit: u32,
+    detours: &mut Detours,
     queries: &[CoverageQuery],
-) -> bool
-    requires detours { AreDetours (M.map map.now) (M.node_slot map.now) touched.now searches.now limit }
-    requires within { (l : QueryRecord) → Contains queries.now l → IsWithin limit l }
-    ensures { IsTrue result ↔ All (IsKnownClear (M.map map.now) (changed_of touched.now)) queries.now }
+) -> Result<bool, AllocError>
+    requires { AreDetours (M.map map.now) (M.node_slot map.now) touched.now detours.old }
+    ensures clear { IfOk result
+        (λ clear. IsTrue clear ↔ All (IsKnownClear (M.map map.now) (changed_of touched.now)) queries.now) }
+    ensures detours { OnOk result (AreDetours (M.map map.now) (M.node_slot map.now) touched.now detours.new) }
 {
     for query in queries {
-        if !is_clear(map, touched, searches, limit, query) {
-            return false;
+        if !is_clear(map, touched, detours, query)? {
+            return Ok(false);
         }
     }
-    true
+    Ok(true)
 }
 
 /// Those of the coverage queries along a path's own lines that are clear of the changed lines; none if too many lines
-/// changed, so that no detours were searched.
+/// changed.
 pub(crate) fn clear_known<M: MapRead>(
     alloc: Global,
     map: &M,
     touched: &ChangeSet,
-    searches: &Searches,
-    asked: Option<u32>,
+    detours: &mut Detours,
     known: &[KnownQuery],
 ) -> Result<Vec<KnownQuery>, AllocError>
-    requires detours { IfSome asked (AreDetours (M.map map.now) (M.node_slot map.now) touched.now searches.now) }
-    requires reached { ReachesKnown (changed_of touched.now) asked known.now }
-    ensures { IfOk result
+    requires { length (changed_of touched.now) ≤ most_changed
+        → AreDetours (M.map map.now) (M.node_slot map.now) touched.now detours.old }
+    ensures clear { IfOk result
         (λ clear. Picks (λ e. IsAgainClear (M.map map.now) (changed_of touched.now) e.query) known.now clear.items) }
+    ensures detours { OnOk result (length (changed_of touched.now) ≤ most_changed
+        → AreDetours (M.map map.now) (M.node_slot map.now) touched.now detours.new) }
 {
     let mut clear = Vec::new(alloc);
-    let Some(limit) = asked else {
+    if !are_few(touched) {
         return Ok(clear);
-    };
+    }
     for one in known {
-        if is_clear(map, touched, searches, limit, &one.query) {
+        if is_clear(map, touched, detours, &one.query)? {
             clear.push(*one)?;
         }
     }

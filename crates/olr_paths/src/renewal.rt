@@ -1,6 +1,6 @@
 //! Encoding again the paths whose answer a change of the map may have changed.
 ghost use Rattle.std.specs.Prelude.{◌≡◌, ◌≤◌, ◌↔◌, ℕ, Contains, Some, map as list_map, IsTrue, IfOk};
-ghost use Rattle.std.specs.Prelude.{IfSome, OnOk, OnErr};
+ghost use Rattle.std.specs.Prelude.{◌<◌, length, OnOk, OnErr};
 ghost use Rattle.olr_spec.specs.Map.{Map};
 ghost use Rattle.olr_commands.specs.Words.{entry_of};
 ghost use Rattle.std.specs.Prelude.{List};
@@ -10,7 +10,8 @@ ghost use Rattle.olr_paths.specs.Items.{Item, made_of, items, answer_in, all_nam
 ghost use Rattle.olr_paths.specs.Changes.{Rises, Follows};
 ghost use Rattle.olr_paths.specs.Showing.{shown_items, shown_item};
 ghost use Rattle.olr_paths.specs.Touching.{nodes_of, lines_of, changed_of};
-ghost use Rattle.olr_paths.specs.Searching.{AreDetours, AreAsked, AreReached, IsReached};
+ghost use Rattle.olr_paths.specs.Searching.{AreDetours, AreAsked};
+ghost use Rattle.olr_commands.specs.Counts.{most_changed};
 ghost use Rattle.olr_paths.specs.Candidates.{Covers};
 ghost use Rattle.std.specs.List.Sorted.{IsNonDecreasing};
 ghost use Rattle.olr_paths.specs.Origins.{BeginsPut, AreBoundsOf, new_origins_in};
@@ -18,10 +19,10 @@ ghost use Rattle.olr_paths.specs.Renewing.{made_at, after_renewal, ReportsIfOthe
 ghost use Rattle.olr_paths.specs.Renewing.{OneSpared, WasBefore, IsRenewal};
 
 use crate::actions::{Action, decide};
-use crate::asked::{Asked, ask};
+use crate::asked::ask;
 use crate::begins::note_fresh;
 use crate::change_set::ChangeSet;
-use crate::detours::clear_known;
+use crate::detours::{Detours, clear_known};
 use crate::encoding::{have_64_bits, publish};
 use crate::overlaid_list::OverlaidList;
 use crate::path_list::{NamedPath, PathList};
@@ -137,25 +138,23 @@ fn known_for<M: MapRead>(
     alloc: Global,
     map: &M,
     touched: &ChangeSet,
-    searches: &Searches,
-    asked: Option<u32>,
+    detours: &mut Detours,
     action: Action,
     shown: PathView<'_>,
 ) -> Result<Vec<KnownQuery>, AllocError>
-    requires detours { IfSome asked (AreDetours (M.map map.now) (M.node_slot map.now) touched.now searches.now) }
-    requires reached { IfSome (shown_item shown).made (IsReached (M.map map.now) (nodes_of touched.now)
-        (lines_of touched.now) (changed_of touched.now) asked (shown_item shown).path) }
-    requires action { IsActionFor (M.map map.now) (nodes_of touched.now) (lines_of touched.now) (changed_of touched.now)
-        (shown_item shown).made (shown_item shown).path action }
+    requires detours { length (changed_of touched.now) ≤ most_changed
+        → AreDetours (M.map map.now) (M.node_slot map.now) touched.now detours.old }
     requires before { (L : Map) × (items : List Item) × Contains items (shown_item shown)
         × WasBefore L (M.map map.now) touched.now items }
     ensures known { IfOk result (λ ks. AreKnown (M.map map.now) (shown_item shown.entry).path.lines ks.items) }
     ensures given { IfOk result
         (λ ks. IsEncode action → Gives (M.map map.now) (changed_of touched.now) (shown_item shown.entry).made ks.items) }
+    ensures detours { OnOk result (length (changed_of touched.now) ≤ most_changed
+        → AreDetours (M.map map.now) (M.node_slot map.now) touched.now detours.new) }
 {
     match (action, shown.published) {
         (Action::Encode, Some(published)) => {
-            clear_known(alloc, map, touched, searches, asked, &published.known)
+            clear_known(alloc, map, touched, detours, &published.known)
         }
         _ => Ok(Vec::new(alloc)),
     }
@@ -169,18 +168,17 @@ fn renewal_by<M: MapRead>(
     before: &PathList,
     touched: &ChangeSet,
     searches: &Searches,
-    asked: &Asked,
+    found: &[usize],
+    detours: &mut Detours,
     query: &mut Dijkstra,
     counted: &mut Counted,
 ) -> Result<Renewal, AllocError>
     requires asked { AreAsked (M.map map.now) (M.node_slot map.now) touched.now searches.now (shown_items overlaid) }
-    requires ascending { IsNonDecreasing asked.now.found.items }
+    requires ascending { IsNonDecreasing found.now }
     requires covers { Covers (M.map map.now) (nodes_of touched.now) (lines_of touched.now) (shown_items overlaid)
-        asked.now.found.items }
-    requires detours { IfSome asked.now.detours
-        (AreDetours (M.map map.now) (M.node_slot map.now) touched.now searches.now) }
-    requires reached { AreReached (M.map map.now) (nodes_of touched.now) (lines_of touched.now)
-        (changed_of touched.now) asked.now.detours (shown_items overlaid) }
+        found.now }
+    requires detours { 0 < length found.now → length (changed_of touched.now) ≤ most_changed
+        → AreDetours (M.map map.now) (M.node_slot map.now) touched.now detours.old }
     requires follows { Follows (items before.now) (shown_items overlaid) }
     requires before { (L : Map) × WasBefore L (M.map map.now) touched.now (shown_items overlaid) }
     ensures renewed { IfOk result (λ r. IsRenewal (M.map map.now) touched.now (items before.now)
@@ -193,7 +191,7 @@ fn renewal_by<M: MapRead>(
         entries: Vec::new(alloc),
     };
     let mut next = 0;
-    for candidate in &asked.found {
+    for candidate in found {
         let position = *candidate;
         let Some(shown) = overlaid.at(position) else {
             continue;
@@ -201,8 +199,8 @@ fn renewal_by<M: MapRead>(
         if position < next {
             continue;
         }
-        let action = decide(map, touched, searches, asked.detours, shown);
-        let known = known_for(alloc, map, touched, searches, asked.detours, action, shown)?;
+        let action = decide(map, touched, searches, detours, shown)?;
+        let known = known_for(alloc, map, touched, detours, action, shown)?;
         renewal.advance(
             alloc, map, before, action, position, shown, &known, query, counted,
         )?;
@@ -245,7 +243,8 @@ pub(crate) fn renewal_of<M: MapRead>(
         });
     }
     have_64_bits(work);
-    let asked = ask(alloc, map, overlaid, touched, bounds, searches)?;
+    let found = ask(alloc, map, overlaid, touched, bounds, searches)?;
+    let mut detours = mem::replace(&mut searches.detours, Detours::new(alloc));
     let mut query = mem::replace(&mut searches.query, Dijkstra::new(alloc));
     let mut counted = Counted {
         work: *work,
@@ -258,10 +257,12 @@ pub(crate) fn renewal_of<M: MapRead>(
         before,
         touched,
         searches,
-        &asked,
+        &found,
+        &mut detours,
         &mut query,
         &mut counted,
     )?;
+    searches.detours = detours;
     searches.query = query;
     searches.count(counted.work.encodings != work.encodings);
     note_fresh(&renewal.fresh, &mut searches.new_origins)?;

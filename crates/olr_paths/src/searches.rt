@@ -2,6 +2,7 @@
 ghost use Rattle.std.specs.Prelude.{◌≡◌};
 ghost use Rattle.olr_paths.specs.Origins.{new_origins_in};
 
+use crate::detours::Detours;
 use olr_refs::CoverageQuery;
 use olr_search::Dijkstra;
 use std::alloc::Global;
@@ -13,10 +14,8 @@ pub struct Searches {
     pub(crate) near: Dijkstra,
     /// Whether it was known without that search that no coverage query is affected.
     pub(crate) far: bool,
-    /// The reverse search from the starts of changed lines.
-    pub(crate) before: Dijkstra,
-    /// The forward search from the ends of changed lines.
-    pub(crate) after: Dijkstra,
+    /// The searches from changed lines.
+    pub(crate) detours: Detours,
     /// The search of the encoder.
     pub(crate) query: Dijkstra,
     /// The coverage queries that the last renewal made.
@@ -31,8 +30,7 @@ impl Searches {
         Searches {
             near: Dijkstra::new(alloc),
             far: false,
-            before: Dijkstra::new(alloc),
-            after: Dijkstra::new(alloc),
+            detours: Detours::new(alloc),
             query: Dijkstra::new(alloc),
             new_origins: Vec::new(alloc),
             wasted_labels: 0,

@@ -1,36 +1,17 @@
-use Rattle.std.proofs.Common.{Bor, ◌≡◌, List, Option, Some, sym, ap, subst}
+use Rattle.std.proofs.Common.{Bor, ◌≡◌, Option, Some, ap}
 use Rattle.std.specs.Prelude.{option_map}
 use Rattle.std.proofs.lemmas.Result.{IfOk-weaker}
-use Rattle.olr_spec.specs.Queries.{KnownQuery}
 use Rattle.olr_paths.specs.Items.{made_of}
 use Rattle.olr_paths.specs.Touching.{nodes_of, lines_of, changed_of}
 use Rattle.olr_paths.specs.Showing.{shown_item}
-use Rattle.olr_paths.specs.Searching.{ReachesKnown}
-use Rattle.olr_paths.specs.Renewing.{IsActionFor}
 use Rattle.olr_paths.specs.declared.published.Published.{Published}
-use Rattle.olr_paths.specs.declared.actions.Action.{Action}
-use Rattle.olr_paths.proofs.GivenQueries.{known_reached, given_known, gives_picked, listed_there}
+use Rattle.olr_paths.proofs.GivenQueries.{given_known, gives_picked, listed_there}
 use Rattle.olr_paths.proofs.renewal.known_for.Goals as goal
 
 -- the results of a path that has some
 made_is : (o : Option (Bor Published)) (p : Bor Published) → o ≡ Some p →
     option_map (λ (q : Bor Published). made_of q.now) o ≡ Some (made_of p.now)
 made_is o p is = ap (option_map (λ (q : Bor Published). made_of q.now)) is
-
-pub clear_known-requires-clause-reached : goal.clear_known-requires-clause-reached
-clear_known-requires-clause-reached g c =
-    let N = g.M.MapRead.map c.args.map.now in
-    let T = nodes_of c.args.touched.now in
-    let X = lines_of c.args.touched.now in
-    let C = changed_of c.args.touched.now in
-    let i = shown_item c.args.shown in
-    let p = c.in-Encode-Some.published in
-    let b = c.requires.before in
-    subst (λ (ks : List KnownQuery). ReachesKnown C c.args.asked ks) (sym c.deref.ensures.value)
-    (known_reached b.0 N (g.met.M.MapRead.sound c.args.map.now) T X C b.1 b.3 b.2.0 i (listed_there b.1 i b.2)
-    c.args.asked c.requires.reached
-    (subst (λ (a : Action). IsActionFor N T X C i.made i.path a) c.in-Encode-Some.is-0 c.requires.action)
-    (made_of p.now) (made_is c.args.shown.published p c.in-Encode-Some.is-1))
 
 pub returns-in-Encode-Some-clause-known : goal.returns-in-Encode-Some-clause-known
 returns-in-Encode-Some-clause-known g c =
@@ -43,7 +24,7 @@ returns-in-Encode-Some-clause-known g c =
     (λ ks picks. given_known b.0 N (g.met.M.MapRead.sound c.args.map.now) (nodes_of c.args.touched.now)
     (lines_of c.args.touched.now) C b.1 b.3 b.2.0 i (listed_there b.1 i b.2) ks.items
     (gives_picked N C i.made (made_of p.now) c.deref.result.now ks.items
-    (made_is c.args.shown.published p c.in-Encode-Some.is-1) c.deref.ensures.value picks)) c.clear_known.ensures
+    (made_is c.args.shown.published p c.in-Encode-Some.is-1) c.deref.ensures.value picks)) c.clear_known.ensures.clear
 
 pub returns-in-Encode-Some-clause-given : goal.returns-in-Encode-Some-clause-given
 returns-in-Encode-Some-clause-given g c =
@@ -51,4 +32,4 @@ returns-in-Encode-Some-clause-given g c =
     IfOk-weaker c.clear_known.result _ _
     (λ ks picks _. gives_picked (g.M.MapRead.map c.args.map.now) (changed_of c.args.touched.now)
     (shown_item c.args.shown).made (made_of p.now) c.deref.result.now ks.items
-    (made_is c.args.shown.published p c.in-Encode-Some.is-1) c.deref.ensures.value picks) c.clear_known.ensures
+    (made_is c.args.shown.published p c.in-Encode-Some.is-1) c.deref.ensures.value picks) c.clear_known.ensures.clear

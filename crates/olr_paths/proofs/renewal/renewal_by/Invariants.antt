@@ -1,4 +1,6 @@
-use Rattle.std.proofs.Common.{length}
+use Rattle.std.proofs.Common.{◌<◌, ◌≤◌, length}
+use Rattle.olr_commands.specs.Counts.{most_changed}
+use Rattle.olr_paths.specs.Searching.{AreDetours}
 use Rattle.olr_paths.specs.Items.{items}
 use Rattle.olr_paths.specs.Showing.{shown_items}
 use Rattle.olr_paths.specs.Touching.{nodes_of, lines_of, changed_of}
@@ -6,9 +8,12 @@ use Rattle.olr_paths.proofs.RenewedPrefix.{SoFar}
 use Rattle.olr_paths.proofs.Covering.{Passed}
 use Rattle.olr_paths.proofs.renewal.renewal_by.Given as goal
 
--- the paths before the next position are renewed, reported and counted, and the candidates so far are among them
+-- the paths before the next position are renewed, reported and counted, and the candidates so far are among them;  the
+-- searches for detours are right
 abbrev pub invariant-loop-candidate : goal.invariant-loop-candidate
 invariant-loop-candidate g l =
     SoFar (g.M.MapRead.map l.map) (nodes_of l.touched) (lines_of l.touched) (changed_of l.touched) (items l.before)
     (shown_items l.overlaid) l.next l.renewal l.initial.counted l.counted
-    × Passed l.asked.found.items (length (shown_items l.overlaid)) l.candidate-index l.next
+    × Passed l.found (length (shown_items l.overlaid)) l.candidate-index l.next
+    × (0 < length l.found → length (changed_of l.touched) ≤ most_changed
+    → AreDetours (g.M.MapRead.map l.map) (g.M.MapRead.node_slot l.map) l.touched l.detours)

@@ -1,9 +1,10 @@
-use Rattle.std.proofs.Common.{refl, arith, ◌≡◌, ℕ, List, length, ◌∙◌, ap, true, subst}
+use Rattle.std.proofs.Common.{refl, sym, arith, ◌≡◌, ℕ, List, length, ◌∙◌, ap, true, subst}
 use Rattle.std.specs.Prelude.{option_map}
 use Rattle.olr_paths.specs.Items.{Item, items}
 use Rattle.olr_paths.specs.Showing.{shown_items, shown_item}
 use Rattle.olr_paths.specs.Touching.{nodes_of, lines_of, changed_of}
 use Rattle.olr_paths.specs.Origins.{BeginsPut}
+use Rattle.olr_paths.specs.Candidates.{Covers}
 use Rattle.olr_paths.specs.Renewing.{puts_of}
 use Rattle.olr_paths.specs.declared.path_list.NamedPath.{NamedPath}
 use Rattle.olr_paths.specs.declared.renewal.Renewal.{Renewal}
@@ -18,9 +19,14 @@ use Rattle.olr_paths.proofs.renewal.renewal_of.Goals as goal
 pub renewal_by-requires-clause-asked : goal.renewal_by-requires-clause-asked
 renewal_by-requires-clause-asked g c =
     asked_again (g.M.MapRead.map c.args.map.now) (g.M.MapRead.node_slot c.args.map.now) c.args.touched.now
-    c.ask.new.searches (record c.ask.new.searches { query = c.replace-query.new.dest }) (shown_items c.args.overlaid)
-    refl
-    refl c.in_ok-asked.ensures.asked
+    c.ask.new.searches
+    (record c.ask.new.searches { detours = c.replace-detours.new.dest; query = c.replace-query.new.dest })
+    (shown_items c.args.overlaid) refl refl c.in_ok-found.ensures.asked
+
+pub renewal_by-requires-clause-covers : goal.renewal_by-requires-clause-covers
+renewal_by-requires-clause-covers g c =
+    subst (Covers (g.M.MapRead.map c.args.map.now) (nodes_of c.args.touched.now) (lines_of c.args.touched.now)
+    (shown_items c.args.overlaid)) (sym c.deref.ensures.value) c.in_ok-found.ensures.covers
 
 pub returns-then-is_none : goal.returns-then-is_none
 returns-then-is_none g c =
