@@ -1,21 +1,21 @@
 -- The path's own line at an LRP is preferred to every other candidate: its node is the nearest if other nodes are three
 -- times the bound of decoding away. And the length that an offset byte cuts off.
-use Rattle.std.proofs.Common.{inl, inr, ◌≡◌, ◌≢◌, ℕ, ◌+◌, ◌-◌, Bool, true, false, not, ◌||◌, List, [], ◌∷◌, map, ◌<◌, ◌≤◌, ◌↔◌}
-use Rattle.std.proofs.Common.{IsTrue, IsFalse, refl, sym, ap, ◌∙◌, subst, arith, nat_lt, ◌==◌, ◌*◌, ℤ, pos, negsuc, ◌-ℤ◌, ◌+ℤ◌}
-use Rattle.std.proofs.Common.{nat_le, ◌/◌, cond, Some, None}
-use Rattle.std.proofs.lemmas.Bool.{cases_Bool, cases_eq, cases_lt, both_ways, and_parts, and_from, or_cases, eqb-true, eq-eqb}
-use Rattle.std.proofs.lemmas.Bool.{ltb-true, lt-ltb, le-ltb, leb-true}
+use Rattle.std.proofs.Common.{inl, inr, ◌≡◌, ◌≢◌, ℕ, ◌+◌, ◌-◌, Bool, true, false, not, ◌||◌, List, ◌∷◌, map, ◌<◌, ◌≤◌}
+use Rattle.std.proofs.Common.{◌↔◌, IsTrue, IsFalse, refl, sym, ap, ◌∙◌, subst, arith, nat_lt, ◌==◌, ◌*◌, ℤ, pos, negsuc}
+use Rattle.std.proofs.Common.{◌-ℤ◌, ◌+ℤ◌, nat_le, ◌/◌, cond, Some, None, []}
+use Rattle.std.proofs.lemmas.Bool.{cases_Bool, cases_eq, cases_lt, both_ways, and_parts, and_from, or_cases, eqb-true}
+use Rattle.std.proofs.lemmas.Bool.{eq-eqb, ltb-true, lt-ltb, le-ltb, leb-true}
 use Rattle.std.specs.List.{list_all}
 use Rattle.std.specs.Prelude.{nat_abs}
-use Rattle.std.proofs.Math.Nat.{mul-le-mul_left, mul-le-mul_right, mul-lt-mul_of_pos_left, le_of_mul-le-mul_left, mul-add}
-use Rattle.std.proofs.Math.Nat.{mul_left_comm, mul_assoc, mul_comm, mul-pos, div-mul-le_self, lt-div-mul-add}
+use Rattle.std.proofs.Math.Nat.{mul-le-mul_left, mul-le-mul_right, mul-lt-mul_of_pos_left, le_of_mul-le-mul_left}
+use Rattle.std.proofs.Math.Nat.{mul-add, mul_left_comm, mul_assoc, mul_comm, mul-pos, div-mul-le_self, lt-div-mul-add}
 use Rattle.std.proofs.lemmas.Int.{ints}
 use Rattle.olr_spec.specs.Map.{Map, has_line, line_at, coord_at, lines_where, has}
 use Rattle.olr_spec.specs.Bearings.{Leg}
 use Rattle.olr_spec.specs.Reference.{leg, offset}
-use Rattle.olr_spec.specs.Receiver.{Side, Outgoing, Incoming, node_on, coordinate_on, sector_on, candidates, Lrp, Rating}
-use Rattle.olr_spec.specs.Receiver.{NowhereWorse, SomewhereBetter, IsDifference, Receiver, rating, Takes, is_nearest, are_twins}
-use Rattle.olr_spec.specs.Receiver.{has_no_twin, Measure}
+use Rattle.olr_spec.specs.Receiver.{Side, Outgoing, Incoming, node_on, coordinate_on, sector_on, candidates, Lrp}
+use Rattle.olr_spec.specs.Receiver.{Rating, NowhereWorse, SomewhereBetter, IsDifference, Receiver, rating, Takes}
+use Rattle.olr_spec.specs.Receiver.{is_nearest, are_twins, has_no_twin, Measure}
 use Rattle.olr_spec.specs.Laws.{SomeReceiver, SomeWeighted}
 use Rattle.olr_spec.specs.Coordinates.{Coord}
 use Rattle.olr_spec.specs.Decoded.{decoded_bound, IsNear}

@@ -1,15 +1,17 @@
 -- What one edit changes, and what consecutive edits change.
-use Rattle.std.proofs.Common.{inl, ◌≡◌, ◌≢◌, ℕ, false, true, List, [], ◌∷◌, ◌++◌, min, ◌≤◌, Ok, Option, is_some, Contains}
-use Rattle.std.proofs.Common.{IsTrue, refl, sym, ap, ◌∙◌, subst, arith, ◌==◌, unwrap_or}
+use Rattle.std.proofs.Common.{inl, ◌≡◌, ◌≢◌, ℕ, false, true, List, ◌∷◌, ◌++◌, ◌≤◌, Ok, Contains, IsTrue, refl, sym, ◌∙◌}
+use Rattle.std.proofs.Common.{arith, ◌==◌, ◌↔◌, Some, T, nat_cmp, []}
 use Rattle.std.proofs.lemmas.Bool.{cases_eq, both_ways, or_parts, ne_eqb}
 use Rattle.std.proofs.lemmas.List.Elements.{Contains-append_left, Contains-append_right}
 use Rattle.std.proofs.lemmas.List.Folds.{list_any-append}
-use Rattle.std.specs.FinMap.{get, insert, remove}
-use Rattle.olr_spec.specs.Map.{Map, Line, has_line, line_at, no_line, start, end, dm, Edit, Add_node, Move_node, Drop_node}
-use Rattle.olr_spec.specs.Map.{Add_line, Set_line, Drop_line, edited, touched_nodes, touched_lines, SameLine, SameRound, has}
+use Rattle.std.specs.FinMap.{get, FinMap}
+use Rattle.olr_spec.specs.Map.{Map, Line, has_line, line_at, start, end, dm, Edit, Add_node, Move_node, Drop_node}
+use Rattle.olr_spec.specs.Map.{Add_line, Set_line, Drop_line, edited, touched_nodes, touched_lines, SameLine, SameRound}
+use Rattle.olr_spec.specs.Map.{has}
 use Rattle.olr_spec.specs.Detours.{ChangedLine, changes_of, IsChangedLine, AccountsFor}
 use Rattle.olr_spec.specs.Laws.{EditsDiffer, NoDifference, DifferencesAdd}
-use Rattle.olr_spec.proofs.AgreeLemmas.{same_known, same_start, same_end, same_dm}
+use Rattle.olr_spec.specs.Coordinates.{Coord}
+use Rattle.olr_spec.proofs.AgreeLemmas.{same_known, same_start, same_end, same_dm, known_record}
 use Rattle.olr_spec.proofs.EditLemmas.{made_by, got_other, got_same, left_other, left_same, edits_are_local}
 use Rattle.olr_spec.proofs.ListLemmas.{Contains-here}
 
@@ -25,52 +27,40 @@ accounted_alone : (M : Map) (y : ℕ) (c : ChangedLine) → c.from ≡ start M y
     → IsChangedLine (c ∷ []) M y
 accounted_alone M y c a b h = record { change = c; listed = Contains-here c []; from = a; to = b; len = h }
 
--- line y with the record that is set
-set_accounted : (M : Map) (y : ℕ) (l : Line) (c : ChangedLine) → c.from ≡ l.from → c.to ≡ l.to → c.len ≤ l.len
-    → let N = record M { lines = insert M.lines y l } in AccountsFor (c ∷ []) N M
-set_accounted M y l c a b h =
-    let N = record M { lines = insert M.lines y l } in
-    let set : line_at N y ≡ l = ap (λ (o : Option Line). unwrap_or o no_line) (got_same M.lines y l) in
-    let from : c.from ≡ start N y = a ∙ sym (ap (λ (k : Line). k.from) set) in
-    let to : c.to ≡ end N y = b ∙ sym (ap (λ (k : Line). k.to) set) in
-    let short : c.len ≤ dm N y = subst (λ (k : Line). c.len ≤ k.len) (sym set) h in
-    accounts_one (c ∷ []) N M y (λ x ne. got_other M.lines y l x ne) (λ known. accounted_alone N y c from to short)
-
 abbrev BothAccount : List ChangedLine → Map → Map → Type 0
 BothAccount C M N = AccountsFor C M N × AccountsFor C N M
 
-nodes_accounted : (M N : Map) → ((x : ℕ) → SameLine M N x) → BothAccount [] M N
-nodes_accounted M N same = ((λ x h. inl (same x)), (λ x h. inl (sym (same x))))
+nodes_accounted : (M N : Map) (nodes : FinMap nat_cmp Coord) → record M { nodes = nodes } ≡ N → BothAccount [] M N
+nodes_accounted M N nodes is = rw (← is) ((λ x h. inl refl), (λ x h. inl refl))
+
+lines_accounted : (M N : Map) (y : ℕ) (lines : FinMap nat_cmp Line) (c : ChangedLine) → record M { lines = lines } ≡ N →
+    ((x : ℕ) → x ≢ y → get lines x ≡ get M.lines x) → (IsTrue (has_line M y) → IsChangedLine (c ∷ []) M y) →
+    ((l : Line) → get lines y ≡ Some l → (c.from ≡ l.from) × (c.to ≡ l.to) × (c.len ≤ l.len)) →
+    BothAccount (c ∷ []) M N
+lines_accounted M N y lines c is other before after =
+    let to = record M { lines = lines } in
+    rw (← is) (
+      accounts_one (c ∷ []) M to y (λ x ne. sym (other x ne)) before,
+      accounts_one (c ∷ []) to M y other
+          (λ known. let p = after (line_at to y) (known_record to y known) in accounted_alone to y c p.0 p.1 p.2),
+    )
 
 edit_accounted : (M N : Map) (e : Edit) → edited M e ≡ Ok N → BothAccount (changes_of M e) M N
-edit_accounted M N (Add_node v c) e = nodes_accounted M N (λ x. ap (λ (K : Map). get K.lines x)
-    (made_by M N (Add_node v c) e).1)
-edit_accounted M N (Move_node v c) e =
-    nodes_accounted M N (λ x. ap (λ (K : Map). get K.lines x) (made_by M N (Move_node v c) e).1)
-edit_accounted M N (Drop_node v) e = nodes_accounted M N (λ x. ap (λ (K : Map). get K.lines x) (made_by M N (Drop_node v) e).2)
+edit_accounted M N (Add_node v c) e = nodes_accounted M N _ (made_by M N (Add_node v c) e).1
+edit_accounted M N (Move_node v c) e = nodes_accounted M N _ (made_by M N (Move_node v c) e).1
+edit_accounted M N (Drop_node v) e = nodes_accounted M N _ (made_by M N (Drop_node v) e).2
 edit_accounted M N (Add_line x l) e =
-    let to = record M { lines = insert M.lines x l } in
     let p = made_by M N (Add_line x l) e in
-    let c : ChangedLine = record { from = l.from; to = l.to; len = l.len } in
-    let there : AccountsFor (c ∷ []) M to = accounts_one (c ∷ []) M to x (λ y ne. sym (got_other M.lines x l y ne))
-    (λ known. absurd (both_ways (has_line M x) p.0 known)) in
-    subst (BothAccount (c ∷ []) M) p.4 (there, set_accounted M x l c refl refl (omega arith))
+    lines_accounted M N x _ _ p.4 (got_other M.lines x l) (λ known. absurd (both_ways (has_line M x) p.0 known))
+    (λ k h. let is : l ≡ k = cc (got_same M.lines x l) in rw (← is) (refl, refl, omega arith))
 edit_accounted M N (Set_line x frc fow len shape) e =
     let l : Line = record { from = start M x; to = end M x; frc = frc; fow = fow; len = len; shape = shape } in
-    let to = record M { lines = insert M.lines x l } in
-    let c : ChangedLine = record { from = start M x; to = end M x; len = min (dm M x) len } in
-    let there : AccountsFor (c ∷ []) M to = accounts_one (c ∷ []) M to x (λ y ne. sym (got_other M.lines x l y ne))
-    (λ known. accounted_alone M x c refl refl (omega arith)) in
-    subst (BothAccount (c ∷ []) M) (made_by M N (Set_line x frc fow len shape) e).2
-    (there, set_accounted M x l c refl refl (omega arith))
+    lines_accounted M N x _ _ (made_by M N (Set_line x frc fow len shape) e).2 (got_other M.lines x l)
+    (λ known. accounted_alone M x _ refl refl (omega arith))
+    (λ k h. let is : l ≡ k = cc (got_same M.lines x l) in rw (← is) (refl, refl, omega arith))
 edit_accounted M N (Drop_line x) e =
-    let to = record M { lines = remove M.lines x } in
-    let c : ChangedLine = record { from = start M x; to = end M x; len = dm M x } in
-    let gone : has_line to x ≡ false = ap (λ (o : Option Line). is_some o) (left_same M.lines x) in
-    let there : AccountsFor (c ∷ []) M to = accounts_one (c ∷ []) M to x (λ y ne. sym (left_other M.lines x y ne))
-    (λ known. accounted_alone M x c refl refl (omega arith)) in
-    let here = accounts_one (c ∷ []) to M x (left_other M.lines x) (λ known. absurd (both_ways (has_line to x) gone known)) in
-    subst (BothAccount (c ∷ []) M) (made_by M N (Drop_line x) e).1 (there, here)
+    lines_accounted M N x _ _ (made_by M N (Drop_line x) e).1 (left_other M.lines x)
+    (λ known. accounted_alone M x _ refl refl (omega arith)) (λ k h. absurd (cc (left_same M.lines x)))
 
 pub edit_differs : EditsDiffer
 edit_differs M N e p =
@@ -89,17 +79,7 @@ edit_differs M N e p =
 -- ---- no difference
 
 pub none_differs : NoDifference
-none_differs M = record {
-  nodes = λ v off. record {
-    place = refl;
-    entering = λ x l. ((λ h. h), (λ h. h));
-    leaving = λ x l.
-        ((λ h. h), (λ h. h));
-  };
-  lines = λ x off. refl;
-  there = λ x h. inl refl;
-  here = λ x h. inl refl;
-}
+none_differs M = search (inl)
 
 -- ---- consecutive changes
 
@@ -120,15 +100,14 @@ accounts_on : (C D E : List ChangedLine) (L M N : Map) → ((c : ChangedLine) �
 accounts_on C D E L M N left right p q x h = grind (arith, accounted_as, same_known)
 
 round_on : (L M N : Map) (v : ℕ) → SameRound L M v → SameRound M N v → SameRound L N v
-round_on L M N v r s =
-    record {
-      place = r.place ∙ s.place;
-      entering = λ x l. (
-        (λ h. (s.entering x l).0 ((r.entering x l).0 h)),
-        (λ h. (r.entering x l).1 ((s.entering x l).1 h)),
-      );
-      leaving = λ x l. ((λ h. (s.leaving x l).0 ((r.leaving x l).0 h)), (λ h. (r.leaving x l).1 ((s.leaving x l).1 h)));
-    }
+round_on L M N v r s = record {
+  place = r.place ∙ s.place;
+  entering = λ x l. then (r.entering x l) (s.entering x l);
+  leaving = λ x l. then (r.leaving x l) (s.leaving x l);
+}
+  where
+    then : {A B C : Type 0} → A ↔ B → B ↔ C → A ↔ C
+    then f g = ((λ a. g.0 (f.0 a)), (λ c. f.1 (g.1 c)))
 
 not_either : (xs ys : List ℕ) (v : ℕ) → has (xs ++ ys) v ≡ false → (has xs v ≡ false) × (has ys v ≡ false)
 not_either xs ys v h = or_parts (has xs v) (has ys v) (sym (list_any-append (λ y. y == v) xs ys) ∙ h)

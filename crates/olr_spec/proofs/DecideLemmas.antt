@@ -1,17 +1,17 @@
 -- Each definition is decidable, so each path has an answer.
-use Rattle.std.proofs.Common.{◌⊎◌, inl, inr, ◌≡◌, ℕ, zero, suc, ◌+◌, Bool, true, List, [], ◌∷◌, ◌++◌, length, ◌<◌, ◌≤◌, Option}
-use Rattle.std.proofs.Common.{Some, None, is_some, IsTrue, IsFalse, refl, sym, ap, ◌∙◌, subst, arith, MatchOption}
-use Rattle.std.proofs.Common.{length-append, append_assoc, append-nil}
+use Rattle.std.proofs.Common.{◌⊎◌, inl, inr, ◌≡◌, ℕ, zero, suc, ◌+◌, Bool, true, List, ◌∷◌, ◌++◌, length, ◌<◌, ◌≤◌}
+use Rattle.std.proofs.Common.{Option, Some, None, is_some, IsTrue, IsFalse, refl, sym, ap, ◌∙◌, subst, arith}
+use Rattle.std.proofs.Common.{MatchOption, length-append, append_assoc, append-nil, []}
 use Rattle.std.proofs.lemmas.Bool.{cases_lt, cases_eq, cases_Bool, both_ways}
 use Rattle.std.specs.Prelude.{nat_eq, ◌≢◌}
 use Rattle.std.specs.FinMap.{get}
 use lib.Pointwise.{pointwise, bytes_decides}
 use Rattle.olr_spec.specs.Map.{Map, IsMap, Line, has_line, start, end, dm, coord_at, lines_where, has}
 use Rattle.olr_spec.specs.Routes.{IsRoute, dm_of, UniqueShortest}
-use Rattle.olr_spec.specs.Extension.{Path, is_path, first, last, passing, MayPrecede, MayFollow, StartRun, EndRun, LongestStart}
-use Rattle.olr_spec.specs.Extension.{LongestEnd, Tried, from_start, taken_start, extended_path, limit}
-use Rattle.olr_spec.specs.Points.{node_at, stretch, Covered, fit16, Candidate, ValidCandidate, Greatest, Next, To_end, To_valid}
-use Rattle.olr_spec.specs.Points.{To_passing, NoNext, Follow}
+use Rattle.olr_spec.specs.Extension.{Path, is_path, first, last, passing, MayPrecede, MayFollow, StartRun, EndRun}
+use Rattle.olr_spec.specs.Extension.{LongestStart, LongestEnd, Tried, from_start, taken_start, extended_path, limit}
+use Rattle.olr_spec.specs.Points.{node_at, stretch, Covered, fit16, Candidate, ValidCandidate, Greatest, Next, To_end}
+use Rattle.olr_spec.specs.Points.{To_valid, To_passing, NoNext, Follow}
 use Rattle.olr_spec.specs.Encoding.{Answer, Refused, Refusal, path_fault, answer_by_points, Encoding}
 use Rattle.olr_spec.specs.Laws.{OneUnique, SomeAnswer}
 use Rattle.olr_spec.proofs.RouteLemmas.{positive, dm_of-append}

@@ -1,7 +1,7 @@
 -- The coordinates that the LRPs of an answer are decoded as.
-use Rattle.std.proofs.Common.{inl, inr, ◌≡◌, ℕ, zero, suc, ◌+◌, ◌*◌, ◌/◌, ℤ, pos, negsuc, neg_ℤ, ◌<ℤ◌, ◌*ℤ◌, ◌+ℤ◌, ◌-ℤ◌, true}
-use Rattle.std.proofs.Common.{false, List, [], ◌∷◌, ◌++◌, length, take, map, ◌<◌, ◌≤◌, Some, None, is_some, IsTrue, cond, Bool}
-use Rattle.std.proofs.Common.{refl, sym, ap, ◌∙◌, subst, arith, nat_le}
+use Rattle.std.proofs.Common.{inl, inr, ◌≡◌, ℕ, zero, suc, ◌+◌, ◌*◌, ◌/◌, ℤ, pos, negsuc, neg_ℤ, ◌<ℤ◌, ◌*ℤ◌, ◌+ℤ◌, ◌-ℤ◌}
+use Rattle.std.proofs.Common.{true, false, List, ◌∷◌, ◌++◌, length, take, map, ◌<◌, ◌≤◌, Some, None, is_some, IsTrue}
+use Rattle.std.proofs.Common.{cond, Bool, refl, sym, ap, ◌∙◌, subst, arith, nat_le, []}
 use Rattle.std.specs.Prelude.{nat_abs, slice_get, option_map}
 use Rattle.std.proofs.lemmas.Bool.{le-leb, leb-true}
 use Rattle.std.proofs.lemmas.Int.{ints}
@@ -13,12 +13,10 @@ use Rattle.olr_spec.specs.Extension.{Path, is_path, extended_path}
 use Rattle.olr_spec.specs.Points.{node_at}
 use Rattle.olr_spec.specs.Bearings.{Leg}
 use Rattle.olr_spec.specs.Reference.{Middle, Reference, legs, position, first_kept, last_kept, kept_points, last_two}
-use Rattle.olr_spec.specs.Reference.{middle_points, reference_by_kept, reference_by}
+use Rattle.olr_spec.specs.Reference.{middle_points, reference_by_kept, reference_by, last_point}
 use Rattle.olr_spec.specs.Encoding.{Points, path_fault, Encoding, IsPoint}
 use Rattle.olr_spec.specs.Decoded.{lon_steps, lat_steps, steps_sum, decoded, decoded_bound, IsNear}
 use Rattle.olr_spec.specs.Laws.{DecodedNear, DecodedPoints}
-use Rattle.olr_spec.specs.Reference as fields
-use Rattle.olr_spec.specs.Reference as fields
 use Rattle.olr_spec.specs.Reference as fields
 use Rattle.olr_spec.proofs.ListLemmas.{has_cases}
 use Rattle.olr_spec.proofs.AnswerLemmas.{path_also, path_at}

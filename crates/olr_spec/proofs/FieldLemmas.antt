@@ -1,7 +1,7 @@
 -- The fields of an answer fit their bits.
-use Rattle.std.proofs.Common.{inl, inr, ◌≡◌, ℕ, zero, suc, ◌+◌, ◌-◌, ◌*◌, ◌/◌, max, ℤ, pos, negsuc, ◌≤ℤ◌, min, Bool, true}
-use Rattle.std.proofs.Common.{false, List, [], ◌∷◌, length, take, drop, map, ◌<◌, ◌≤◌, Some, None, IfSome, unwrap_or, IsTrue}
-use Rattle.std.proofs.Common.{refl, sym, ap, ◌∙◌, subst, arith, ◌==◌, take-add, div-lt_iff_lt-mul}
+use Rattle.std.proofs.Common.{inl, inr, ◌≡◌, ℕ, zero, suc, ◌+◌, ◌-◌, ◌*◌, ◌/◌, max, ℤ, pos, negsuc, ◌≤ℤ◌, min, Bool}
+use Rattle.std.proofs.Common.{true, false, List, ◌∷◌, length, take, drop, map, ◌<◌, ◌≤◌, Some, None, IfSome, unwrap_or}
+use Rattle.std.proofs.Common.{IsTrue, refl, sym, ap, ◌∙◌, subst, arith, ◌==◌, take-add, div-lt_iff_lt-mul, []}
 use Rattle.std.proofs.lemmas.Bool.{cases_lt, and_parts, ltb-true, and_from, cond_both}
 use Rattle.std.proofs.lemmas.Bool.Decides.{nat_tests}
 use Rattle.std.proofs.lemmas.Int.{ints}
@@ -13,7 +13,7 @@ use Rattle.olr_spec.specs.Routes.{dm_of}
 use Rattle.olr_spec.specs.Points.{node_at, stretch, Candidate, fit16}
 use Rattle.olr_spec.specs.Bearings.{Leg, Scaled, scaled_coord, bearing, sector, up_to, vector, boundary, lies_between}
 use Rattle.olr_spec.specs.Reference.{leg, legs, no_leg, leg_at, position, dm_along, dm_between, from_front, last_where}
-use Rattle.olr_spec.specs.Reference.{first_where, attrs, last_two, middle_points, offset}
+use Rattle.olr_spec.specs.Reference.{first_where, attrs, last_two, middle_points, offset, last_point}
 use Rattle.olr_spec.specs.Bytes.{AreAttrs, IsMiddle, IsLast, fits24}
 use Rattle.olr_spec.specs.Reference as fields
 use Rattle.olr_spec.proofs.ListLemmas.{Each, Each-nil, Each-cons, Each-head, Each-tail, Each-range, has_index, has_here}

@@ -1,6 +1,6 @@
 -- The fields of an answer's reference fit, so it can be encoded as bytes.
-use Rattle.std.proofs.Common.{inl, inr, ◌≡◌, ℕ, ◌+◌, ◌-◌, true, List, [], ◌∷◌, length, ◌<◌, ◌≤◌, Option, Some, None, IsTrue}
-use Rattle.std.proofs.Common.{refl, sym, ap, ◌∙◌, subst, arith, nat_le, ◌==◌, length-append, MatchOption}
+use Rattle.std.proofs.Common.{inl, inr, ◌≡◌, ℕ, ◌+◌, ◌-◌, true, List, ◌∷◌, length, ◌<◌, ◌≤◌, Option, Some, None, IsTrue}
+use Rattle.std.proofs.Common.{refl, sym, ap, ◌∙◌, subst, arith, nat_le, ◌==◌, length-append, MatchOption, []}
 use Rattle.std.proofs.lemmas.Bool.{cases_Bool, eqb-true, leb-false, cond_both}
 use Rattle.std.proofs.lemmas.Bool.Decides.{nat_tests}
 use Rattle.std.proofs.lemmas.List.{length-map}
@@ -8,21 +8,22 @@ use Rattle.olr_spec.specs.Map.{Map, IsMap, has}
 use Rattle.olr_spec.specs.Routes.{dm_of}
 use Rattle.olr_spec.specs.Extension.{Path, Tried, is_path, extended_path, from_start, taken_start, taken_end}
 use Rattle.olr_spec.specs.Points.{Follow, last_position}
-use Rattle.olr_spec.specs.Reference.{Reference, leg, legs, dm_between, from_front, to_back, first_kept, last_kept, kept_points}
-use Rattle.olr_spec.specs.Reference.{last_two, reference_by, reference}
+use Rattle.olr_spec.specs.Reference.{Reference, leg, legs, dm_between, from_front, to_back, first_kept, last_kept}
+use Rattle.olr_spec.specs.Reference.{kept_points, last_two, reference_by, reference}
 use Rattle.olr_spec.specs.Encoding.{Points, Refused, Refusal, No_next_point, path_fault, answer_by_points, Encoding}
 use Rattle.olr_spec.specs.Bytes.{IsReference}
 use Rattle.olr_spec.specs.Laws.{AnswerFits}
 use Rattle.olr_spec.proofs.RouteLemmas.{dm_of-append}
-use Rattle.olr_spec.proofs.ListLemmas.{Each, Each-append, Each-from, has_here, has_there, has_cases, has_filter, filter_has}
-use Rattle.olr_spec.proofs.ListLemmas.{Known}
+use Rattle.olr_spec.proofs.ListLemmas.{Each, Each-append, Each-from, has_here, has_there, has_cases, has_filter}
+use Rattle.olr_spec.proofs.ListLemmas.{filter_has, Known}
 use Rattle.olr_spec.proofs.AnswerLemmas.{sound_lines, path_nonempty, or_None}
 use Rattle.olr_spec.proofs.RunMoves.{StartRun-known, EndRun-known}
 use Rattle.olr_spec.proofs.PointMoves.{Each-cond}
 use Rattle.olr_spec.proofs.JoinLemmas.{Linked, follow_linked, kept_linked, between, between_is}
 use Rattle.olr_spec.proofs.KeptLemmas.{whole, front_within, back_within, two_kept}
-use Rattle.olr_spec.proofs.FieldLemmas.{linked_above, linked_last, has_last_two, last_two_linked, has_last_where, none_after}
-use Rattle.olr_spec.proofs.FieldLemmas.{none_before, attrs_fit, first_fits, middles_fit, last_fits, offset_fits, from_front-add}
+use Rattle.olr_spec.proofs.FieldLemmas.{linked_above, linked_last, has_last_two, last_two_linked, has_last_where}
+use Rattle.olr_spec.proofs.FieldLemmas.{none_after, none_before, attrs_fit, first_fits, middles_fit, last_fits}
+use Rattle.olr_spec.proofs.FieldLemmas.{offset_fits, from_front-add}
 
 module _ (M : Map) (m : IsMap M) (ls : List ℕ) (known : Each (Known M) ls) (n : 0 < length ls)
     (positive negative a b : ℕ) (two : a < b)

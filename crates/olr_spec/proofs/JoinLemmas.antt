@@ -1,6 +1,7 @@
 -- The routes between the remaining LRPs join to the extended path.
-use Rattle.std.proofs.Common.{◌⊎◌, inl, inr, ◌≡◌, ℕ, zero, suc, ◌+◌, ◌-◌, min, Bool, true, false, cond, ◌&&◌, List, [], ◌∷◌}
-use Rattle.std.proofs.Common.{◌++◌, length, take, drop, ◌<◌, ◌≤◌, refl, sym, ap, ◌∙◌, subst, arith, nat_le, length-drop, ◌↔◌}
+use Rattle.std.proofs.Common.{◌⊎◌, inl, inr, ◌≡◌, ℕ, zero, suc, ◌+◌, ◌-◌, min, Bool, true, false, cond, ◌&&◌, List, ◌∷◌}
+use Rattle.std.proofs.Common.{◌++◌, length, take, drop, ◌<◌, ◌≤◌, refl, sym, ap, ◌∙◌, subst, arith, nat_le, length-drop}
+use Rattle.std.proofs.Common.{◌↔◌, []}
 use Rattle.std.proofs.lemmas.Bool.{cases_eq, and_parts, and_from, leb-true, le-leb, cond_both}
 use Rattle.std.proofs.lemmas.Bool.Decides.{nat_tests}
 use Rattle.std.proofs.lemmas.List.{drop_more, take_more, get_or-drop}

@@ -1,5 +1,5 @@
 -- The lines of a path without fault join, and so do those of the extended path.
-use Rattle.std.proofs.Common.{◌≡◌, ◌<◌, ℕ, suc, List, [], ◌∷◌, ◌++◌, length, None, refl, arith, length-append, ◌==◌}
+use Rattle.std.proofs.Common.{◌≡◌, ◌<◌, ℕ, suc, List, ◌∷◌, ◌++◌, length, None, refl, arith, length-append, ◌==◌, []}
 use Rattle.std.proofs.lemmas.Bool.{eqb-true, cond_both}
 use Rattle.std.specs.Prelude.{IsTrue, Some}
 use Rattle.olr_spec.specs.Map.{Map, start, end}

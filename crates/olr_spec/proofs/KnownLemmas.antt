@@ -1,7 +1,8 @@
 -- Coverage queries along a path's own lines: what they say without the extension, and that they are the same on another
 -- map where they are clear.
-use Rattle.std.proofs.Common.{inr, ◌≡◌, ℕ, ◌+◌, ◌-◌, min, List, [], ◌∷◌, ◌++◌, length, ◌<◌, ◌≤◌, sym, ap, ◌∙◌, subst, arith}
-use Rattle.std.proofs.Common.{refl, ◌↔◌, Bool, true, false, IsTrue, Option, None, Some, MatchOption, nat_lt, length-append}
+use Rattle.std.proofs.Common.{inr, ◌≡◌, ℕ, ◌+◌, ◌-◌, min, List, ◌∷◌, ◌++◌, length, ◌<◌, ◌≤◌, sym, ap, ◌∙◌, subst, arith}
+use Rattle.std.proofs.Common.{refl, ◌↔◌, Bool, true, false, IsTrue, Option, None, Some, MatchOption, nat_lt}
+use Rattle.std.proofs.Common.{length-append, []}
 use Rattle.std.proofs.lemmas.List.{drop-append-le, take-append-le, append_assoc, get_or_append_left, get_or-append-add}
 use Rattle.std.proofs.lemmas.List.{length-drop}
 use Rattle.std.proofs.Math.Seq.{drop-append-add}
@@ -13,9 +14,9 @@ use Rattle.olr_spec.specs.Extension.{Path, is_path, extended_path, from_start, t
 use Rattle.olr_spec.specs.Points.{stretch, Covered, Follow}
 use Rattle.olr_spec.specs.Encoding.{Refusal, path_fault}
 use Rattle.olr_spec.specs.Detours.{ChangedLine, AccountsFor, Detour}
-use Rattle.olr_spec.specs.Queries.{IsLastTested, CoverageQuery, query_to, IsQuery, IsClear, KnownQuery, IsKnown, AreKnown}
-use Rattle.olr_spec.specs.Queries.{IsKnownAt, FoundFor, OfQuerying, KnownOfExtended, IsSearched, SearchedOfExtended, SearchedOf}
-use Rattle.olr_spec.specs.Queries.{QueriesOf, QueriesOfExtended, querying}
+use Rattle.olr_spec.specs.Queries.{IsLastTested, CoverageQuery, query_to, IsQuery, IsClear, KnownQuery, IsKnown}
+use Rattle.olr_spec.specs.Queries.{AreKnown, IsKnownAt, FoundFor, OfQuerying, KnownOfExtended, IsSearched}
+use Rattle.olr_spec.specs.Queries.{SearchedOfExtended, SearchedOf, QueriesOf, QueriesOfExtended, querying}
 use Rattle.olr_spec.specs.Laws.{OneKnown, OneSearched, KnownHolds, AllSearched}
 use Rattle.olr_spec.proofs.ListLemmas.{Each, Each-head, Each-left, Each-right}
 use Rattle.olr_spec.proofs.RouteLemmas.{dm_of-append, IsRoute-split}

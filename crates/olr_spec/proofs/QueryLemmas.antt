@@ -1,7 +1,7 @@
 -- If the routes that an LRP's coverage query tests are the same, since it is clear of changes or two maps agree on the
 -- nodes that it reaches, then the same positions after the LRP are covered on both maps.
-use Rattle.std.proofs.Common.{inl, inr, ◌≡◌, ℕ, ◌+◌, ◌-◌, min, List, ◌++◌, length, take, drop, ◌<◌, ◌≤◌, sym, ap, ◌∙◌, subst}
-use Rattle.std.proofs.Common.{arith, drop-drop, ◌↔◌}
+use Rattle.std.proofs.Common.{inl, inr, ◌≡◌, ℕ, ◌+◌, ◌-◌, min, List, ◌++◌, length, take, drop, ◌<◌, ◌≤◌, sym, ap, ◌∙◌}
+use Rattle.std.proofs.Common.{subst, arith, drop-drop, ◌↔◌}
 use Rattle.std.proofs.lemmas.Bool.{cases_lt}
 use Rattle.std.proofs.Math.Seq.{take-add}
 use Rattle.std.specs.List.{slice_index}

@@ -1,11 +1,12 @@
 -- Lists of coverage queries: each LRP of the list has one.
-use Rattle.std.proofs.Common.{inl, inr, ◌≡◌, ℕ, ◌+◌, true, List, [], ◌∷◌, length, ◌<◌, Contains, subst, arith, nat_lt, IsTrue}
+use Rattle.std.proofs.Common.{inl, inr, ◌≡◌, ℕ, ◌+◌, true, List, ◌∷◌, length, ◌<◌, Contains, subst, arith, nat_lt}
+use Rattle.std.proofs.Common.{IsTrue, []}
 use Rattle.std.proofs.lemmas.Bool.{lt-ltb, ltb-true}
 use Rattle.std.specs.List.{AllZip}
 use Rattle.olr_spec.specs.Map.{Map, has}
 use Rattle.olr_spec.specs.Queries.{CoverageQuery, IsQuery, querying}
-use Rattle.olr_spec.proofs.ListLemmas.{has_filter, filter_has, has_here, has_there, has_cases, Contains-here, Contains-later}
-use Rattle.olr_spec.proofs.ListLemmas.{Contains-cases}
+use Rattle.olr_spec.proofs.ListLemmas.{has_filter, filter_has, has_here, has_there, has_cases, Contains-here}
+use Rattle.olr_spec.proofs.ListLemmas.{Contains-later, Contains-cases}
 
 module _ {X : Type 0} (R S : ℕ → X → Type 0) where
   pub zip_moves : (is : List ℕ) (xs : List X) → ((i : ℕ) (x : X) → Contains xs x → R i x → S i x) → AllZip R is xs

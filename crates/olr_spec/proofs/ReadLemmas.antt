@@ -1,7 +1,7 @@
 -- Bytes have no fault exactly if some reference encodes as them.
-use Rattle.std.proofs.Common.{inl, inr, ◌≡◌, ℕ, zero, suc, ◌+◌, ◌-◌, ◌*◌, ◌/◌, ◌%◌, ◌<◌, ◌≤◌, ℤ, pos, negsuc, ◌≤ℤ◌, Bool, true}
-use Rattle.std.proofs.Common.{false, cond, not, ◌||◌, List, [], ◌∷◌, ◌++◌, length, Option, Some, None, IfSome, IsTrue, refl}
-use Rattle.std.proofs.Common.{sym, ap, ◌∙◌, arith, nat_lt, nat_le, ◌==◌, length-append}
+use Rattle.std.proofs.Common.{inl, inr, ◌≡◌, ℕ, zero, suc, ◌+◌, ◌-◌, ◌*◌, ◌/◌, ◌%◌, ◌<◌, ◌≤◌, ℤ, pos, negsuc, ◌≤ℤ◌}
+use Rattle.std.proofs.Common.{Bool, true, false, cond, not, ◌||◌, List, ◌∷◌, ◌++◌, length, Option, Some, None, IfSome}
+use Rattle.std.proofs.Common.{IsTrue, refl, sym, ap, ◌∙◌, arith, nat_lt, nat_le, ◌==◌, length-append, []}
 use Rattle.std.proofs.lemmas.Bool.{cases_lt, and_from, or_parts, eqb-true, eq-eqb, leb-false, le-ltb, lt-leb, ltb-false}
 use Rattle.std.proofs.lemmas.Bool.{not-false}
 use Rattle.std.proofs.lemmas.Int.{ints}
@@ -11,9 +11,9 @@ use Rattle.std.specs.List.{All, AllByRecursion, flat_map, list_any, slice_index}
 use Rattle.olr_spec.specs.Coordinates.{within, fits16}
 use Rattle.olr_spec.specs.Reference.{Attrs, First, Middle, Last, Reference}
 use Rattle.olr_spec.specs.Bytes.{AreAttrs, IsFirst, IsMiddle, IsLast, IsReference, fits24, residue, signed16, signed24}
-use Rattle.olr_spec.specs.Bytes.{attribute1, attr_bytes, first_bytes, middle_bytes, last_bytes, flag, offset_bytes, status_byte}
-use Rattle.olr_spec.specs.Bytes.{reference_bytes, HasBytes, V3Fault, Length, Status, Flags, Reserved, extra, bit, flags_of}
-use Rattle.olr_spec.specs.Bytes.{attribute1_bytes, has_reserved, v3_fault}
+use Rattle.olr_spec.specs.Bytes.{attribute1, attr_bytes, first_bytes, middle_bytes, last_bytes, flag, offset_bytes}
+use Rattle.olr_spec.specs.Bytes.{status_byte, reference_bytes, HasBytes, V3Fault, Length, Status, Flags, Reserved}
+use Rattle.olr_spec.specs.Bytes.{extra, bit, flags_of, attribute1_bytes, has_reserved, v3_fault}
 use Rattle.olr_spec.specs.Laws.{NoFault}
 use Rattle.olr_spec.proofs.SectorLemmas.{le_test}
 use Rattle.olr_spec.proofs.BytesLemmas.{flag_below}

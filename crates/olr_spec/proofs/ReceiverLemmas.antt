@@ -1,7 +1,7 @@
 -- Every receiver recovers the legs between the remaining LRPs, and what the lengths and nodes of these say.
-use Rattle.std.proofs.Common.{◌≡◌, ℕ, suc, ◌+◌, ◌-◌, max, true, List, [], ◌∷◌, ◌++◌, length, take, drop, map, ◌<◌, ℤ, ◌≤◌, ◌↔◌}
-use Rattle.std.proofs.Common.{Some, None, IsTrue, refl, sym, ap, ◌∙◌, subst, arith, slice_get, take-add, drop-drop, inl, inr}
-use Rattle.std.proofs.Common.{zero, Bool, ◌||◌, pos, nat_lt, ◌==◌, Option, unwrap_or, cond}
+use Rattle.std.proofs.Common.{◌≡◌, ℕ, suc, ◌+◌, ◌-◌, max, true, List, ◌∷◌, ◌++◌, length, take, drop, map, ◌<◌, ℤ, ◌≤◌}
+use Rattle.std.proofs.Common.{◌↔◌, Some, None, IsTrue, refl, sym, ap, ◌∙◌, subst, arith, slice_get, take-add, drop-drop}
+use Rattle.std.proofs.Common.{inl, inr, zero, Bool, ◌||◌, pos, nat_lt, ◌==◌, Option, unwrap_or, cond, []}
 use Rattle.std.specs.Bool.{⊤}
 use Rattle.std.specs.Option.{option_map}
 use Rattle.std.specs.List.{slice_index, concat, fold, list_all, AllZip}
@@ -12,22 +12,22 @@ use Rattle.olr_spec.specs.Extension.{Path, is_path, none_twice, extended_path, f
 use Rattle.olr_spec.specs.Points.{stretch, OfPath, node_at}
 use Rattle.olr_spec.specs.Bearings.{Leg, bearing_out, bearing_back}
 use Rattle.olr_spec.specs.Reference.{Reference, leg, legs, leg_at, no_leg, attrs, first_kept, last_kept, kept_points}
-use Rattle.olr_spec.specs.Reference.{from_front, to_back, Middle, middle_points, last_two, reference_by_kept, reference_by}
+use Rattle.olr_spec.specs.Reference.{from_front, to_back, Middle, middle_points, last_two, reference_by_kept}
+use Rattle.olr_spec.specs.Reference.{reference_by, Last, last_point}
 use Rattle.olr_spec.specs.Encoding.{Points, path_fault, Encoding}
 use Rattle.olr_spec.specs.Receiver.{Side, Outgoing, Incoming, lrp_at, last_number, last_lrp, decoded_coord, attributes}
-use Rattle.olr_spec.specs.Receiver.{Receiver, Within, RecoversTo, RecoversLast, RecoversFrom, Recovers, candidates, is_nearest}
-use Rattle.olr_spec.specs.Receiver.{has_no_twin, node_on, coordinate_on, Measure}
+use Rattle.olr_spec.specs.Receiver.{Receiver, Within, RecoversTo, RecoversLast, RecoversFrom, Recovers, candidates}
+use Rattle.olr_spec.specs.Receiver.{is_nearest, has_no_twin, node_on, coordinate_on, Measure}
 use Rattle.olr_spec.specs.Recovery.{line_by, IsLineAt, Distinct, stretches, IsStretches, IsLeft, IsCut, IsClose, IsStep}
 use Rattle.olr_spec.specs.Recovery.{IsWeighted, is_spaced, are_spaced}
 use Rattle.olr_spec.specs.Routes.{dm_of}
 use Rattle.olr_spec.specs.Decoded.{IsNear}
 use Rattle.olr_spec.specs.Laws.{Recovered, StretchesJoin, Offsets, Distances, Nearest}
 use Rattle.olr_spec.specs.Reference as fields
-use Rattle.olr_spec.specs.Reference as fields
-use Rattle.olr_spec.specs.Reference as fields
 use Rattle.olr_spec.proofs.ListLemmas.{Each, has_index, has_last, last_index, Known}
 use Rattle.olr_spec.proofs.AnswerLemmas.{path_also, path_at}
-use Rattle.olr_spec.proofs.JoinLemmas.{Linked, follow_linked, kept_linked, joins_to, joins_last, empty_stretch, stretch_first}
+use Rattle.olr_spec.proofs.JoinLemmas.{Linked, follow_linked, kept_linked, joins_to, joins_last, empty_stretch}
+use Rattle.olr_spec.proofs.JoinLemmas.{stretch_first}
 use Rattle.olr_spec.proofs.KeptLemmas.{two_kept}
 use Rattle.olr_spec.proofs.FieldLemmas.{range_legs, linked_above, dm_same, position_is, last_two_linked}
 use Rattle.olr_spec.proofs.FitLemmas.{kept_ends, extended_sound, answered, by_fault}

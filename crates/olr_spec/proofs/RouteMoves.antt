@@ -1,11 +1,12 @@
 -- Unique shortest paths within a length are the same on two maps that agree around each node that a route within this
 -- length reaches, or where no changed line offers a detour.
-use Rattle.std.proofs.Common.{inl, inr, ◌≡◌, ℕ, ◌+◌, List, [], ◌∷◌, ◌++◌, ◌≤◌, ◌↔◌, IsTrue, refl, sym, ◌∙◌, arith, ◌⊎◌}
-use Rattle.std.proofs.Common.{Contains, true, false, ◌-◌}
-use Rattle.std.proofs.lemmas.Bool.{cases_lt}
+use Rattle.std.proofs.Common.{inl, inr, ◌≡◌, ℕ, ◌+◌, List, ◌∷◌, ◌++◌, ◌≤◌, ◌↔◌, IsTrue, refl, sym, ◌∙◌, arith, ◌⊎◌}
+use Rattle.std.proofs.Common.{Contains, true, false, ◌-◌, []}
+use Rattle.std.proofs.lemmas.Bool.{cases_lt, cases_Bool}
 use Rattle.olr_spec.specs.Map.{Map, has_line, start, end, SameLine, SameRound, dm, has}
 use Rattle.olr_spec.specs.Routes.{IsRoute, dm_of, Reaches, UniqueShortest}
 use Rattle.olr_spec.specs.Detours.{ChangedLine, IsChangedLine, AccountsFor, Detour, Near}
+use Rattle.olr_spec.specs.Laws.{NearStays}
 use Rattle.olr_spec.proofs.RouteLemmas.{IsRoute-append, dm_of-append}
 use Rattle.olr_spec.proofs.ListLemmas.{Each, Each-nil, Each-cons, Each-head, Each-tail}
 use Rattle.olr_spec.proofs.AgreeLemmas.{turned_round, by_leaving, same_known, same_start, same_end, same_dm, same_dm_of}
@@ -17,9 +18,8 @@ pub IsRoute-moves : (M N : Map) (s t : ℕ) (xs : List ℕ) → Each (SameLine M
 IsRoute-moves M N s t [] h w = w
 IsRoute-moves M N s t (x ∷ xs) h w =
     let e = Each-head (SameLine M N) x xs h in
-    let rest : IsRoute N (end N x) t xs = coe 0 1 (i. IsRoute N (same_end M N x e i) t xs)
-    (IsRoute-moves M N (end M x) t xs (Each-tail (SameLine M N) x xs h) w.2) in
-    (sym (same_known M N x e) ∙ w.0, sym (same_start M N x e) ∙ w.1, rest)
+    let rest = IsRoute-moves M N (end M x) t xs (Each-tail (SameLine M N) x xs h) w.2 in
+    (sym (same_known M N x e) ∙ w.0, sym (same_start M N x e) ∙ w.1, rw (← same_end M N x e) rest)
 
 -- the routes from s to t of at most d have the same lines on both maps
 abbrev pub SameRoutes : Map → Map → ℕ → ℕ → ℕ → Type 0
@@ -97,32 +97,19 @@ detour_of first last f l before after leads returns h =
     }
 
 -- after its last changed line a route is one of both maps
-record Rest (M N : Map) (C : List ChangedLine) (t d : ℕ) : Type 0 where
-  last : ChangedLine
-  listed : Contains C last
-  after : List ℕ
-  same : Each (SameLine M N) after
-  returns : IsRoute M last.to t after
-  within : dm_of M after ≤ d
+abbrev Rest : Map → Map → List ChangedLine → ℕ → ℕ → Type 0
+Rest M N C t d =
+    (last : ChangedLine) × (after : List ℕ) × Contains C last × Each (SameLine M N) after × IsRoute M last.to t after
+    × (dm_of M after ≤ d)
 
 -- a detour of both maps
-record Parts (M N : Map) (C : List ChangedLine) (s t d : ℕ) : Type 0 where
-  detour : Detour M C s t d
-  before_same : Each (SameLine M N) detour.before
-  after_same : Each (SameLine M N) detour.after
+abbrev Parts : Map → Map → List ChangedLine → ℕ → ℕ → ℕ → Type 0
+Parts M N C s t d = (o : Detour M C s t d) × Each (SameLine M N) o.before × Each (SameLine M N) o.after
 
 module _ (M N : Map) (C : List ChangedLine) (accounts : AccountsFor C M N) (t : ℕ) where
   after_change : (d x : ℕ) (xs : List ℕ) → IsChangedLine C M x → IsRoute M (end M x) t xs → Each (SameLine M N) xs →
       dm_of M xs ≤ d → Rest M N C t d
-  after_change d x xs c w each h =
-      record {
-        last = c.change;
-        listed = c.listed;
-        after = xs;
-        same = each;
-        returns = coe 1 0 (i. IsRoute M (c.to i) t xs) w;
-        within = h;
-      }
+  after_change d x xs c w each h = (c.change, xs, c.listed, each, rw c.to w, h)
 
   rest_of : (s d : ℕ) (xs : List ℕ) → IsRoute M s t xs → dm_of M xs ≤ d → Each (SameLine M N) xs ⊎ Rest M N C t d
   rest_of s d [] w h = inl (Each-nil (SameLine M N))
@@ -143,45 +130,45 @@ module _ (M N : Map) (C : List ChangedLine) (accounts : AccountsFor C M N) (t : 
       elim (accounts x w.0) [
         | inl is ↦ elim (parts_of (end M x) (d - dm M x) xs w.2 left) [
           | inl each ↦ inl (Each-cons (SameLine M N) x xs is each)
-          | inr p ↦ let o = p.detour in inr (record {
-            detour = detour_of o.first o.last o.first_listed o.last_listed (x ∷ o.before) o.after (w.0, w.1, o.leads)
-                o.returns (omega arith);
-            before_same = Each-cons (SameLine M N) x o.before is p.before_same;
-            after_same = p.after_same;
-          })
+          | inr p ↦
+              let o = p.0 in
+              inr (
+                detour_of o.first o.last o.first_listed o.last_listed (x ∷ o.before) o.after (w.0, w.1, o.leads)
+                    o.returns (omega arith),
+                Each-cons (SameLine M N) x o.before is p.1,
+                p.2,
+              )
         ]
         | inr c ↦
             let r : Rest M N C t (d - dm M x) = elim (rest_of (end M x) (d - dm M x) xs w.2 left) [
               | inl each ↦ after_change (d - dm M x) x xs c w.2 each left
               | inr r ↦ r
             ] in
-            inr (record {
-              detour = detour_of c.change r.last c.listed r.listed [] r.after (sym w.1 ∙ sym c.from) r.returns (omega arith);
-              before_same = Each-nil (SameLine M N);
-              after_same = r.same;
-            })
+            inr (
+              detour_of c.change r.0 c.listed r.2 [] r.1 (sym w.1 ∙ sym c.from) r.4 (omega arith),
+              Each-nil (SameLine M N),
+              r.3,
+            )
       ]
 
 detour_there : (M N : Map) (C : List ChangedLine) (s t d : ℕ) → Parts M N C s t d → Detour N C s t d
 detour_there M N C s t d p =
-    let o = p.detour in
+    let o = p.0 in
     detour_of o.first o.last o.first_listed o.last_listed o.before o.after
-    (IsRoute-moves M N s o.first.from o.before p.before_same o.leads)
-    (IsRoute-moves M N o.last.to t o.after p.after_same o.returns)
-    (omega (arith, same_dm_of M N o.before p.before_same, same_dm_of M N o.after p.after_same))
+    (IsRoute-moves M N s o.first.from o.before p.1 o.leads) (IsRoute-moves M N o.last.to t o.after p.2 o.returns)
+    (omega (arith, same_dm_of M N o.before p.1, same_dm_of M N o.after p.2))
 
 -- if N has no detour within d
 module _ (M N : Map) (C : List ChangedLine) (s t d : ℕ) (there : AccountsFor C M N) (here : AccountsFor C N M)
     (clear : ¬ Detour N C s t d) where
   pub same_there : SameRoutes M N s t d
-  same_there xs w h =
-      elim (parts_of M N C there t s d xs w h) [
-        | inl each ↦ each
-        | inr p ↦ absurd (clear (detour_there M N C s t d p))
-      ]
+  same_there xs w h = elim (parts_of M N C there t s d xs w h) [
+    | inl each ↦ each
+    | inr p ↦ absurd (clear (detour_there M N C s t d p))
+  ]
 
   same_here : SameRoutes N M s t d
-  same_here xs w h = elim (parts_of N M C here t s d xs w h) [ inl each ↦ each | inr p ↦ absurd (clear p.detour) ]
+  same_here xs w h = elim (parts_of N M C here t s d xs w h) [ inl each ↦ each | inr p ↦ absurd (clear p.0) ]
 
   pub routes_same : (xs : List ℕ) → (IsRoute M s t xs × (dm_of M xs ≤ d)) ↔ (IsRoute N s t xs × (dm_of N xs ≤ d))
   routes_same xs = (route_moves M N s t d same_there xs, route_moves N M s t d same_here xs)
@@ -192,26 +179,29 @@ module _ (M N : Map) (C : List ChangedLine) (s t d : ℕ) (there : AccountsFor C
 
 -- ---- near
 
-pub near_moves : (M N : Map) (T : List ℕ) → ((v : ℕ) → has T v ≡ false → SameRound M N v) → (s w d : ℕ) (xs : List ℕ)
+near_moves : (M N : Map) (T : List ℕ) → ((v : ℕ) → has T v ≡ false → SameRound M N v) → (s w d : ℕ) (xs : List ℕ)
     → has T w ≡ true → IsRoute M s w xs → dm_of M xs ≤ d → Near N T s d
 near_moves M N T round s w d [] on route h =
-    record { node = s; route = []; touched = coe 1 0 (i. has T (route i) ≡ true) on; leads = refl; within = omega arith }
+    record { node = s; route = []; touched = rw route on; leads = refl; within = omega arith }
 near_moves M N T round s w d (x ∷ xs) on route h =
-    elim (has T s) as (λ b. has T s ≡ b → Near N T s d) [
-      | true ↦ λ e. record { node = s; route = []; touched = e; leads = refl; within = omega arith }
-      | false ↦ λ e.
+    elim (cases_Bool (has T s)) [
+      | inl e ↦ record { node = s; route = []; touched = e; leads = refl; within = omega arith }
+      | inr e ↦
           let is : SameLine M N x = by_leaving M N s x (round s e) route.0 route.1 in
           let n = near_moves M N T round (end M x) w (d - dm M x) xs on route.2 (omega arith) in
-          let rest = coe 0 1 (i. IsRoute N (same_end M N x is i) n.node n.route) n.leads in
           record {
             node = n.node;
             route = x ∷ n.route;
             touched = n.touched;
-            leads = (sym (same_known M N x is) ∙ route.0, sym (same_start M N x is) ∙ route.1, rest);
+            leads = (sym (same_known M N x is) ∙ route.0, sym (same_start M N x is) ∙ route.1, coe 0 1 (i. IsRoute N (same_end M N x is i) n.node n.route) n.leads);
             within = omega (arith, same_dm M N x is);
           }
-    ] refl
+    ]
 
-pub near_there : (M N : Map) (T : List ℕ) → ((v : ℕ) → has T v ≡ false → SameRound M N v) → (s d : ℕ) → Near M T s d
+near_there : (M N : Map) (T : List ℕ) → ((v : ℕ) → has T v ≡ false → SameRound M N v) → (s d : ℕ) → Near M T s d
     → Near N T s d
 near_there M N T round s d m = near_moves M N T round s m.node d m.route m.touched m.leads m.within
+
+pub near_same : NearStays
+near_same M N T round s d =
+    (near_there M N T round s d, near_there N M T (λ v e. turned_round M N v (round v e)) s d)

@@ -1,14 +1,16 @@
 -- From a degree-two node only one line leads on, so a run of such nodes is determined by its length.
-use Rattle.std.proofs.Common.{◌⊎◌, inl, inr, ◌≡◌, ◌≢◌, ℕ, ◌-◌, Bool, true, ◌&&◌, ◌||◌, List, [], ◌∷◌, ◌++◌, map, length, take}
-use Rattle.std.proofs.Common.{drop, ◌<◌, ◌≤◌, Option, Some, None, is_some, IsTrue, refl, sym, ap, ◌∙◌, subst, arith, ◌==◌}
-use Rattle.std.proofs.Common.{unwrap_or, length-drop, length-take, take-append-drop, append-nil, append_assoc}
+use Rattle.std.proofs.Common.{◌⊎◌, inl, inr, ◌≡◌, ◌≢◌, ℕ, ◌-◌, Bool, true, ◌&&◌, ◌||◌, List, ◌∷◌, ◌++◌, map, length}
+use Rattle.std.proofs.Common.{take, drop, ◌<◌, ◌≤◌, Option, Some, None, is_some, IsTrue, refl, sym, ap, ◌∙◌, subst}
+use Rattle.std.proofs.Common.{arith, ◌==◌, unwrap_or, length-drop, length-take, take-append-drop, append-nil}
+use Rattle.std.proofs.Common.{append_assoc, []}
 use Rattle.std.proofs.lemmas.Bool.{eq-eqb, cases_lt, and_parts, cond_both}
 use Rattle.std.proofs.lemmas.Bool.Decides.{nat_tests}
 use Rattle.std.specs.FinMap.{get}
 use Rattle.olr_spec.specs.Map.{Map, IsMap, Line, has_line, no_line, lines_in, lines_out, start, end, has}
 use Rattle.olr_spec.specs.Routes.{dm_of}
-use Rattle.olr_spec.specs.Extension.{passing, passes_between, apart, first, last, MayPrecede, MayFollow, StartRun, EndRun}
-use Rattle.olr_spec.specs.Extension.{LongestStart, LongestEnd, Tried, Path, from_start, taken_start, limit, extended_path}
+use Rattle.olr_spec.specs.Extension.{passing, passes_between, apart, first, last, MayPrecede, MayFollow, StartRun}
+use Rattle.olr_spec.specs.Extension.{EndRun, LongestStart, LongestEnd, Tried, Path, from_start, taken_start, limit}
+use Rattle.olr_spec.specs.Extension.{extended_path}
 use Rattle.olr_spec.specs.Laws.{OneStartRun, OneEndRun}
 use Rattle.olr_spec.proofs.RouteLemmas.{positive, dm_of-append}
 use Rattle.olr_spec.proofs.MapLemmas.{has-lines_where, passes_at}

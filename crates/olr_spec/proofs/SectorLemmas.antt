@@ -1,7 +1,7 @@
 -- Each direction is in one sector.
-use Rattle.std.proofs.Common.{inl, inr, ◌≡◌, ℕ, zero, suc, ◌+◌, ◌-◌, ◌*◌, ◌/◌, ◌%◌, ◌<◌, ◌≤◌, ℤ, pos, ◌≤ℤ◌, ◌<ℤ◌, ◌*ℤ◌, ◌-ℤ◌}
-use Rattle.std.proofs.Common.{neg_ℤ, Bool, true, false, T, List, [], ◌∷◌, Some, unwrap_or, IsTrue, ◌==◌, map, refl, sym, ap}
-use Rattle.std.proofs.Common.{◌∙◌, subst, arith}
+use Rattle.std.proofs.Common.{inl, inr, ◌≡◌, ℕ, zero, suc, ◌+◌, ◌-◌, ◌*◌, ◌/◌, ◌%◌, ◌<◌, ◌≤◌, ℤ, pos, ◌≤ℤ◌, ◌<ℤ◌, ◌*ℤ◌}
+use Rattle.std.proofs.Common.{◌-ℤ◌, neg_ℤ, Bool, true, false, T, List, ◌∷◌, Some, unwrap_or, IsTrue, ◌==◌, map, refl}
+use Rattle.std.proofs.Common.{sym, ap, ◌∙◌, subst, arith, []}
 use Rattle.std.proofs.lemmas.Bool.{and_parts, and_from, cases_order, eq-eqb, or_left, or_right, both_ways, cond_both}
 use Rattle.std.proofs.lemmas.List.Folds.{list_any-append}
 use Rattle.std.proofs.lemmas.Int.{ints, by_lt_z}
@@ -10,7 +10,7 @@ use Rattle.std.specs.List.{find}
 use Rattle.olr_spec.specs.Bearings.{vector, quarter_turn, boundary, beyond, lies_between, IsSector, up_to}
 use Rattle.olr_spec.specs.Map.{has}
 use Rattle.olr_spec.specs.Laws.{OneSector, SomeSector}
-use Rattle.olr_spec.proofs.ListLemmas.{Each, Each-nil, Each-cons, Each-append, Each-head, Each-weaker, Each-tail, has_cases}
+use Rattle.olr_spec.proofs.ListLemmas.{Each, Each-nil, Each-head, Each-tail, has_cases, Each-push}
 
 -- ---- tests on whole numbers
 
@@ -34,10 +34,7 @@ lt_test a b h = T_is (int_lt a b) h.lt
 
 pub up_to_below : (n : ℕ) → Each (λ k. k < n) (up_to n)
 up_to_below zero = Each-nil (λ k. k < zero)
-up_to_below (suc n) =
-    Each-append (λ k. k < suc n) (up_to n) (n ∷ [])
-    (Each-weaker (λ k. k < n) (λ k. k < suc n) (up_to n) (λ k h. omega arith) (up_to_below n))
-    (Each-cons (λ k. k < suc n) n [] (omega arith) (Each-nil (λ k. k < suc n)))
+up_to_below (suc n) = Each-push (λ k. k < suc n) (up_to n) n (λ k h. omega (arith, up_to_below n k h)) (omega arith)
 
 has_below : (n k : ℕ) → k < n → has (up_to n) k ≡ true
 has_below zero k lt = absurd (omega arith)

@@ -1,31 +1,37 @@
 -- If nothing that a path depends on has changed, its answer, traversed nodes, coverage queries and footprint are the
 -- same.
-use Rattle.std.proofs.Common.{inl, inr, ◌≡◌, ℕ, ◌+◌, List, [], ◌∷◌, length, true, refl, ◌<◌, ◌≤◌, Option, None, Some, IsTrue}
-use Rattle.std.proofs.Common.{All, Contains, sym, ◌∙◌, subst, arith, MatchOption, ◌↔◌}
+use Rattle.std.proofs.Common.{inl, inr, ◌≡◌, ℕ, ◌+◌, List, ◌∷◌, length, true, refl, ◌<◌, ◌≤◌, Option, None, Some}
+use Rattle.std.proofs.Common.{IsTrue, All, Contains, sym, ◌∙◌, subst, arith, MatchOption, ◌↔◌, ◌++◌, length-append}
+use Rattle.std.proofs.Common.{cond, T, [], ap, ◌==◌}
 use Rattle.std.proofs.lemmas.Bool.{cases_lt, cases_Bool, both_ways}
 use Rattle.std.proofs.lemmas.List.Elements.{All-contains}
-use Rattle.std.specs.List.{AllZip}
 use Rattle.olr_spec.specs.Map.{Map, IsMap, start, end, SameLine, SameRound, has}
 use Rattle.olr_spec.specs.Routes.{IsRoute, dm_of}
-use Rattle.olr_spec.specs.Extension.{Path, is_path, first, last, Tried, extended_path, taken_start, limit}
-use Rattle.olr_spec.specs.Points.{stretch, Covered, Follow, OfPath}
+use Rattle.olr_spec.specs.Extension.{Path, is_path, first, last, Tried, extended_path, taken_start, limit, from_start}
+use Rattle.olr_spec.specs.Extension.{taken_end, AreJoined, LongestEnd, passing}
+use Rattle.olr_spec.specs.Points.{stretch, Covered, Follow, OfPath, last_position}
 use Rattle.olr_spec.specs.Encoding.{Answer, Refused, Refusal, path_fault, answer_by_points, Encoding, Encodes}
+use Rattle.olr_spec.specs.Encoding.{No_next_point, Points}
 use Rattle.olr_spec.specs.Detours.{ChangedLine, AccountsFor}
-use Rattle.olr_spec.specs.Queries.{Traversed, TraversedOfExtended, TraversedOf, IsLastTested, CoverageQuery, query_to, IsQuery}
-use Rattle.olr_spec.specs.Queries.{IsClear, querying, QueriesOfExtended, QueriesOf, KnownQuery, IsKnownAt, FoundFor}
-use Rattle.olr_spec.specs.Queries.{KnownOfExtended, KnownOf}
+use Rattle.olr_spec.specs.Queries.{Traversed, TraversedOfExtended, TraversedOf, IsLastTested, CoverageQuery, query_to}
+use Rattle.olr_spec.specs.Queries.{IsQuery, IsClear, querying, QueriesOfExtended, QueriesOf, KnownQuery, IsKnownAt}
+use Rattle.olr_spec.specs.Queries.{FoundFor, KnownOfExtended, KnownOf, QueriesFrom}
 use Rattle.olr_spec.specs.Laws.{UntouchedRetained}
-use Rattle.olr_spec.proofs.ListLemmas.{Each, Each-from, has_first, has_last, Known}
-use Rattle.olr_spec.proofs.AnswerLemmas.{sound_lines, path_nonempty, one_answer, path_also, path_at}
+use Rattle.olr_spec.specs.Reference.{reference}
+use Rattle.olr_spec.proofs.ListLemmas.{Each, Each-from, has_first, has_last, Known, EndsSame, Each-append, Each-left}
+use Rattle.olr_spec.proofs.ListLemmas.{Each-right}
+use Rattle.olr_spec.proofs.AnswerLemmas.{sound_lines, path_nonempty, path_at}
 use Rattle.olr_spec.proofs.RunLemmas.{one_tried}
 use Rattle.olr_spec.proofs.RouteMoves.{turned_lines}
-use Rattle.olr_spec.proofs.PointMoves.{fault_same, close_stays, Traversed-moves, tried_moves, b_same, a_same, ls_same}
-use Rattle.olr_spec.proofs.PointMoves.{front_same, extended_same, follow_same, answer_same}
+use Rattle.olr_spec.proofs.PointMoves.{fault_same, close_stays, Traversed-moves, follow_moves, Each-cond, legs_same}
 use Rattle.olr_spec.proofs.JoinedLemmas.{extended_joined}
 use Rattle.olr_spec.proofs.QueryLemmas.{RoutesStay, to_same, clear_routes, query_stays, covered_stays, covered_same}
 use Rattle.olr_spec.proofs.QueryLists.{query_for, queries_here, zip_moves}
 use Rattle.olr_spec.proofs.TestedLemmas.{one_last_tested}
 use Rattle.olr_spec.proofs.KnownLists.{found_moves}
+use Rattle.olr_spec.proofs.RunMoves.{start_same, longest_start_moves, StartRun-known, end_same, first_of_both}
+use Rattle.olr_spec.proofs.RunMoves.{last_of_both, longest_end_moves}
+use Rattle.olr_spec.proofs.AgreeLemmas.{same_dm_of, same_end, same_known, same_passing, same_start}
 
 -- along any lines of both maps, each of these coverage queries has the same routes
 abbrev pub RoutesOf : Map → Map → List CoverageQuery → Type 0
@@ -73,151 +79,208 @@ module _ (M N : Map) (ls : List ℕ) (same : Each (SameLine M N) ls) (s t : ℕ)
 
 module _ (M N : Map) (m : IsMap M) (n : IsMap N) (P : Path) (is : IsTrue (is_path P.lines))
     (sound : path_fault M P ≡ None) (same : Each (SameLine M N) P.lines)
-    (traversed : (v : ℕ) → TraversedOfExtended M P v
-    → SameRound M N v) (queries : List CoverageQuery) (o : QueriesOfExtended M P queries)
-    (routes : RoutesOf M N queries) where
-  abbrev E : Path
-  E = extended_path M P o.before o.after
-
+    (traversed : (v : ℕ) → TraversedOfExtended M P v → SameRound M N v) where
   known : Each (Known M) P.lines
   known = Each-from (Known M) P.lines (sound_lines M P sound)
 
   nonempty : 0 < length P.lines
   nonempty = path_nonempty P.lines is
 
-  rounds : (b a : List ℕ) → Tried M P b a → (v : ℕ) → Traversed M (extended_path M P b a).lines b a v → SameRound M N v
-  rounds b a tried v h = traversed v (record { before = b; after = a; tried = tried; traversed = h })
+  module _ (b a : List ℕ) (tried : Tried M P b a) where
+    abbrev fs : List ℕ
+    fs = from_start M P b
 
-  all_same : Each (SameLine M N) E.lines
-  all_same = ls_same M N m n P o.before o.after nonempty known same o.tried (rounds o.before o.after o.tried)
+    abbrev ls : List ℕ
+    ls = (extended_path M P b a).lines
 
-  joined : IsRoute M (start M (first E.lines)) (end M (last E.lines)) E.lines
-  joined = extended_joined M P is sound o.before o.after o.tried
+    round : (v : ℕ) → Traversed M ls b a v → SameRound M N v
+    round v h = traversed v (record { before = b; after = a; tried = tried; traversed = h })
 
-  stay : (i k : ℕ) → IsLastTested M E.lines i k → Contains queries (query_to M E.lines i k) → RoutesStay M N E.lines i k
-  stay = routes E.lines all_same (start M (first E.lines)) (end M (last E.lines)) joined
+    ls_round : Each (EndsSame M N) ls
+    ls_round x h = (round (start M x) (inl (x, h, inl refl)), round (end M x) (inl (x, h, inr refl)))
 
-  covers : (i j : ℕ) → has (0 ∷ o.points) i ≡ true → i < j → j ≤ length E.lines → dm_of M (stretch E.lines i j) ≤ limit
-      → Covered M E.lines i j ↔ Covered N E.lines i j
-  covers i j on h g near =
-      elim (cases_lt (i + 2) (length E.lines)) [
-        | inl far ↦
-            let l = query_for M E.lines (0 ∷ o.points) queries o.holds i on far in
-            let k = l.2 in
-            covered_stays M N E.lines all_same (start M (first E.lines)) (end M (last E.lines)) joined i k.0 k.1
-            (stay i k.0 k.1 (subst (Contains queries) k.2 l.1)) j h g near
-        | inr close ↦ close_stays M N m n E.lines all_same i j h g (omega arith)
-      ]
+    b_round : Each (EndsSame M N) b
+    b_round x h = (round (start M x) (inr (inl (x, h, inl refl))), round (end M x) (inr (inl (x, h, inr refl))))
 
-  tried_there : Tried N P o.before o.after
-  tried_there = tried_moves M N m n P o.before o.after nonempty known same o.tried (rounds o.before o.after o.tried)
+    a_round : Each (EndsSame M N) a
+    a_round x h = (round (start M x) (inr (inr (x, h, inl refl))), round (end M x) (inr (inr (x, h, inr refl))))
 
-  path_there : E ≡ extended_path N P o.before o.after
-  path_there = extended_same M N m n P o.before o.after nonempty known same o.tried (rounds o.before o.after o.tried)
+    fs_round : Each (EndsSame M N) fs
+    fs_round = Each-left (EndsSame M N) fs (taken_end M fs a) ls_round
 
-  follow_there : Follow N (extended_path N P o.before o.after).lines 0 o.points
-  follow_there = follow_same M N m n P o.before o.after nonempty known same o.tried
-      (rounds o.before o.after o.tried) o.points covers o.follow
+    path_round : Each (EndsSame M N) P.lines
+    path_round = Each-right (EndsSame M N) (taken_start M b P.lines) P.lines fs_round
 
-  -- the same runs and LRPs, with a property of them on the other map
-  goes_over : {R : Path → List ℕ → List ℕ → List ℕ → Type 0} →
-      R (extended_path N P o.before o.after) o.before o.after o.points → OfPath N P R
-  goes_over h =
-      record {
-        before = o.before;
-        after = o.after;
-        points = o.points;
-        tried = tried_there;
-        follow = follow_there;
-        holds = h;
-      }
+    b_same : Each (SameLine M N) b
+    b_same = start_same M N m P.lines b nonempty known same path_round b_round tried.before
 
-  -- the answer
-  encoding_there : Encoding N P (answer_by_points M E o.points)
-  encoding_there =
-      goes_over (answer_same M N m n P o.before o.after nonempty known same o.tried (rounds o.before o.after o.tried)
-      o.points)
+    front_same : taken_start M b P.lines ≡ taken_start N b P.lines
+    front_same =
+        let z = first (b ++ P.lines) in
+        let there = first_of_both (EndsSame M N) b P.lines nonempty b_round path_round in
+        let is : SameLine M N z = first_of_both (SameLine M N) b P.lines nonempty b_same same in
+        λ i. cond ((same_passing M N (start M z) there.0 ∙ ap (passing N) (same_start M N z is)) i) [] b
 
-  encoding_here : Encoding M P (answer_by_points M E o.points)
-  encoding_here = path_also o refl
+    fs_same : fs ≡ from_start N P b
+    fs_same = λ i. front_same i ++ P.lines
 
-  by_fault : (A : Answer) → Encoding M P A → Encodes M P A
-  by_fault A p = subst (λ (f : Option Refusal). MatchOption f (Encoding M P A) (λ r. A ≡ Refused r)) (sym sound) p
+    fs_lines : Each (SameLine M N) fs
+    fs_lines = Each-append (SameLine M N) (taken_start M b P.lines) P.lines (Each-cond (SameLine M N) _ b b_same) same
 
-  pub answer_stays : (A : Answer) → Encoding M P A → Encoding N P A
-  answer_stays A p = subst (Encoding N P) (one_answer M m P is (answer_by_points M E o.points) A
-      (by_fault (answer_by_points M E o.points) encoding_here) (by_fault A p)) encoding_there
+    fs_known : Each (Known M) fs
+    fs_known = Each-append (Known M) (taken_start M b P.lines) P.lines
+        (Each-cond (Known M) _ b (StartRun-known M b P.lines tried.before.run)) known
 
-  -- the traversed nodes
-  traversed_there : (v : ℕ) → TraversedOfExtended M P v → TraversedOfExtended N P v
-  traversed_there v p =
-      let r = rounds p.before p.after p.tried in
-      let lines = ls_same M N m n P p.before p.after nonempty known same p.tried r in
-      let path = extended_same M N m n P p.before p.after nonempty known same p.tried r in
-      let moved = Traversed-moves M N (extended_path M P p.before p.after).lines p.before p.after v lines
-      (b_same M N m n P p.before p.after nonempty known same p.tried r)
-      (a_same M N m n P p.before p.after nonempty known same p.tried r) p.traversed in
-      record {
+    fs_nonempty : 0 < length fs
+    fs_nonempty = omega (arith, nonempty, length-append (taken_start M b P.lines) P.lines)
+
+    a_same : Each (SameLine M N) a
+    a_same = end_same M N m fs a fs_nonempty fs_known fs_lines fs_round a_round tried.after
+
+    tried_there : Tried N P b a
+    tried_there = record {
+      before = longest_start_moves M N m P.lines b nonempty known same path_round b_round tried.before;
+      after = subst (λ (zs : List ℕ). LongestEnd N zs a) fs_same
+          (longest_end_moves M N m fs a fs_nonempty fs_known fs_lines fs_round a_round tried.after);
+    }
+
+    back_same : taken_end M fs a ≡ taken_end N (from_start N P b) a
+    back_same =
+        let z = last (fs ++ a) in
+        let is : SameLine M N z = last_of_both (SameLine M N) fs a fs_nonempty fs_lines a_same in
+        let there = last_of_both (EndsSame M N) fs a fs_nonempty fs_round a_round in
+        let pass = same_passing M N (end M z) there.1 ∙ ap (passing N) (same_end M N z is)
+        ∙ ap (λ (zs : List ℕ). passing N (end N (last (zs ++ a)))) fs_same in
+        λ i. cond (pass i) [] a
+
+    ls_same : Each (SameLine M N) ls
+    ls_same = Each-append (SameLine M N) fs (taken_end M fs a) fs_lines (Each-cond (SameLine M N) _ a a_same)
+
+    path_there : extended_path M P b a ≡ extended_path N P b a
+    path_there =
+        let front = same_dm_of M N (taken_start M b P.lines) (Each-cond (SameLine M N) _ b b_same) ∙ ap (dm_of N) front_same in
+        let back = same_dm_of M N (taken_end M fs a) (Each-cond (SameLine M N) _ a a_same) ∙ ap (dm_of N) back_same in
+        λ i. record { lines = fs_same i ++ back_same i; pos = P.pos + front i; neg = P.neg + back i }
+
+    follow_there : (js : List ℕ) → ((i j : ℕ) → has (0 ∷ js) i ≡ true → i < j → j ≤ length ls
+        → dm_of M (stretch ls i j) ≤ limit → Covered M ls i j ↔ Covered N ls i j) → Follow M ls 0 js →
+        Follow N (extended_path N P b a).lines 0 js
+    follow_there js covers f = coe 0 1 (i. Follow N (path_there i).lines 0 js) (follow_moves M N ls
+        (omega (arith, fs_nonempty, length-append fs (taken_end M fs a))) ls_same ls_round (0 ∷ js) covers 0 js (λ k h. h) f)
+
+    answer_there : (js : List ℕ) →
+        answer_by_points M (extended_path M P b a) js ≡ answer_by_points N (extended_path N P b a) js
+    answer_there js =
+        let E = extended_path M P b a in
+        (λ i. cond (last_position 0 js == length E.lines) (Points (reference (legs_same M N ls ls_same ls_round i) E.pos E.neg js))
+        (Refused (No_next_point (last_position 0 js))))
+        ∙ ap (λ (E : Path). answer_by_points N E js) path_there
+
+    traversed_moves : (v : ℕ) → Traversed M ls b a v ↔ Traversed N (extended_path N P b a).lines b a v
+    traversed_moves v = coe 0 1 (i. Traversed M ls b a v ↔ Traversed N (path_there i).lines b a v) (
+      Traversed-moves M N ls b a v ls_same b_same a_same,
+      Traversed-moves N M ls b a v (turned_lines M N ls ls_same) (turned_lines M N b b_same) (turned_lines M N a a_same),
+    )
+
+  module _ (queries : List CoverageQuery) (o : QueriesOfExtended M P queries) (routes : RoutesOf M N queries) where
+    abbrev E : Path
+    E = extended_path M P o.before o.after
+
+    all_same : Each (SameLine M N) E.lines
+    all_same = ls_same o.before o.after o.tried
+
+    joined : AreJoined M E.lines
+    joined = extended_joined M P is sound o.before o.after o.tried
+
+    stay : (i k : ℕ) → IsLastTested M E.lines i k → Contains queries (query_to M E.lines i k) → RoutesStay M N E.lines i k
+    stay = routes E.lines all_same (start M (first E.lines)) (end M (last E.lines)) joined
+
+    covers : (i j : ℕ) → has (0 ∷ o.points) i ≡ true → i < j → j ≤ length E.lines → dm_of M (stretch E.lines i j) ≤ limit
+        → Covered M E.lines i j ↔ Covered N E.lines i j
+    covers i j on h g near =
+        elim (cases_lt (i + 2) (length E.lines)) [
+          | inl far ↦
+              let l = query_for M E.lines (0 ∷ o.points) queries o.holds i on far in
+              let k = l.2 in
+              covered_stays M N E.lines all_same (start M (first E.lines)) (end M (last E.lines)) joined i k.0 k.1
+              (stay i k.0 k.1 (subst (Contains queries) k.2 l.1)) j h g near
+          | inr close ↦ close_stays M N m n E.lines all_same i j h g (omega arith)
+        ]
+
+    -- the same runs and LRPs, with a property of them on the other map
+    goes_over : {R : Path → List ℕ → List ℕ → List ℕ → Type 0} →
+        R (extended_path N P o.before o.after) o.before o.after o.points → OfPath N P R
+    goes_over h = record {
+      before = o.before;
+      after = o.after;
+      points = o.points;
+      tried = tried_there o.before o.after o.tried;
+      follow = follow_there o.before o.after o.tried o.points covers o.follow;
+      holds = h;
+    }
+
+    -- the answer
+    answer_stays : (A : Answer) → Encoding M P A → Encoding N P A
+    answer_stays A p =
+        goes_over (path_at m is sound o p ∙ answer_there o.before o.after o.tried o.points)
+
+    -- the traversed nodes
+    traversed_stays : (v : ℕ) → TraversedOfExtended M P v ↔ TraversedOfExtended N P v
+    traversed_stays v = (
+      (λ p. record {
         before = p.before;
         after = p.after;
-        tried = tried_moves M N m n P p.before p.after nonempty known same p.tried r;
-        traversed = subst (λ (F : Path). Traversed N F.lines p.before p.after v) path moved;
-      }
+        tried = tried_there p.before p.after p.tried;
+        traversed = (traversed_moves p.before p.after p.tried v).0 p.traversed;
+      }),
+      (λ p.
+          let there = tried_there o.before o.after o.tried in
+          let k : Each (Known N) P.lines = λ x h. sym (same_known M N x (same x h)) ∙ known x h in
+          let runs = one_tried N n P nonempty (k (first P.lines) (has_first P.lines nonempty))
+          (k (last P.lines) (has_last P.lines nonempty)) p.before p.after o.before o.after p.tried there in
+          record {
+            before = o.before;
+            after = o.after;
+            tried = o.tried;
+            traversed = (traversed_moves o.before o.after o.tried v).1
+                (coe 0 1 (i. Traversed N (extended_path N P (runs.0 i) (runs.1 i)).lines (runs.0 i) (runs.1 i) v) p.traversed);
+          }),
+    )
 
-  traversed_here : (v : ℕ) → TraversedOfExtended N P v → TraversedOfExtended M P v
-  traversed_here v p =
-      let r = rounds o.before o.after o.tried in
-      let k = Each-from (Known N) P.lines (sound_lines N P (sym (fault_same M N P same) ∙ sound)) in
-      let runs = one_tried N n P nonempty (k (first P.lines) (has_first P.lines nonempty))
-      (k (last P.lines) (has_last P.lines nonempty)) p.before p.after o.before o.after p.tried tried_there in
-      let there : Traversed N (extended_path N P o.before o.after).lines o.before o.after v =
-      coe 0 1 (i. Traversed N (extended_path N P (runs.0 i) (runs.1 i)).lines (runs.0 i) (runs.1 i) v) p.traversed in
-      let back = Traversed-moves N M E.lines o.before o.after v (turned_lines M N E.lines all_same)
-      (turned_lines M N o.before (b_same M N m n P o.before o.after nonempty known same o.tried r))
-      (turned_lines M N o.after (a_same M N m n P o.before o.after nonempty known same o.tried r))
-      (subst (λ (F : Path). Traversed N F.lines o.before o.after v) (sym path_there) there) in
-      record { before = o.before; after = o.after; tried = o.tried; traversed = back }
+    -- the coverage queries
+    one_query : (i : ℕ) (l : CoverageQuery) → Contains queries l → IsQuery M E.lines i l → IsQuery N E.lines i l
+    one_query i l on k =
+        let s = start M (first E.lines) in
+        let t = end M (last E.lines) in (
+          k.0,
+          query_stays M N E.lines all_same s t joined i k.0 k.1 (stay i k.0 k.1 (subst (Contains queries) k.2 on)),
+          k.2 ∙ to_same M N E.lines all_same s t joined i k.0 k.1,
+        )
 
-  pub traversed_stays : (v : ℕ) → TraversedOfExtended M P v ↔ TraversedOfExtended N P v
-  traversed_stays v = (traversed_there v, traversed_here v)
+    queries_stay : QueriesOfExtended N P queries
+    queries_stay = goes_over (coe 0 1 (i. QueriesFrom N (path_there o.before o.after o.tried i).lines
+        (querying (path_there o.before o.after o.tried i).lines (0 ∷ o.points)) queries)
+        (zip_moves (IsQuery M E.lines) (IsQuery N E.lines) (querying E.lines (0 ∷ o.points)) queries one_query o.holds))
 
-  -- the coverage queries
-  one_query : (i : ℕ) (l : CoverageQuery) → Contains queries l → IsQuery M E.lines i l → IsQuery N E.lines i l
-  one_query i l on k =
-      let s = start M (first E.lines) in
-      let t = end M (last E.lines) in (
-        k.0,
-        query_stays M N E.lines all_same s t joined i k.0 k.1 (stay i k.0 k.1 (subst (Contains queries) k.2 on)),
-        k.2 ∙ to_same M N E.lines all_same s t joined i k.0 k.1,
-      )
+    -- the coverage queries along the path's own lines
+    known_query : (lead own i : ℕ) → has (querying E.lines (0 ∷ o.points)) i ≡ true → (e : KnownQuery)
+        → IsKnownAt M E.lines lead own i e ↔ IsKnownAt N E.lines lead own i e
+    known_query lead own i on e =
+        let at = queries_here E.lines (0 ∷ o.points) i on in
+        let l = query_for M E.lines (0 ∷ o.points) queries o.holds i at.0 at.1 in
+        let k = l.2.0 in
+        known_as M N E.lines all_same (start M (first E.lines)) (end M (last E.lines)) joined lead own i k l.2.1
+        (stay i k l.2.1 (subst (Contains queries) l.2.2 l.1)) e
 
-  pub queries_stay : QueriesOfExtended N P queries
-  queries_stay =
-      let each : AllZip (IsQuery N E.lines) (querying E.lines (0 ∷ o.points)) queries =
-      zip_moves (IsQuery M E.lines) (IsQuery N E.lines) (querying E.lines (0 ∷ o.points)) queries one_query o.holds in
-      goes_over (coe 0 1 (i. AllZip (IsQuery N (path_there i).lines) (querying (path_there i).lines (0 ∷ o.points)) queries)
-      each)
-
-  -- the coverage queries along the path's own lines
-  known_query : (lead own i : ℕ) → has (querying E.lines (0 ∷ o.points)) i ≡ true → (e : KnownQuery)
-      → IsKnownAt M E.lines lead own i e ↔ IsKnownAt N E.lines lead own i e
-  known_query lead own i on e =
-      let s = start M (first E.lines) in
-      let t = end M (last E.lines) in
-      let at = queries_here E.lines (0 ∷ o.points) i on in
-      let l = query_for M E.lines (0 ∷ o.points) queries o.holds i at.0 at.1 in
-      let k = l.2.0 in
-      (known_as M N E.lines all_same s t joined lead own i k l.2.1 (stay i k l.2.1 (subst (Contains queries) l.2.2 l.1)) e)
-
-  pub known_stay : (ks : List KnownQuery) → KnownOfExtended M P ks → KnownOfExtended N P ks
-  known_stay ks p =
-      let lead = length (taken_start M o.before P.lines) in
-      let own = length P.lines in
-      let there = found_moves (IsKnownAt M E.lines lead own) (IsKnownAt N E.lines lead own) (querying E.lines (0 ∷ o.points))
-      (known_query lead own) ks (path_at m is sound o p) in
-      let leads = front_same M N m n P o.before o.after nonempty known same o.tried (rounds o.before o.after o.tried) in
-      goes_over (coe 0 1 (i. FoundFor (IsKnownAt N (path_there i).lines (length (leads i)) own)
-      (querying (path_there i).lines (0 ∷ o.points)) ks) there)
+    known_stay : (ks : List KnownQuery) → KnownOfExtended M P ks → KnownOfExtended N P ks
+    known_stay ks p =
+        let lead = length (taken_start M o.before P.lines) in
+        let own = length P.lines in
+        let there = found_moves (IsKnownAt M E.lines lead own) (IsKnownAt N E.lines lead own)
+        (querying E.lines (0 ∷ o.points)) (known_query lead own) ks (path_at m is sound o p) in
+        let path = path_there o.before o.after o.tried in
+        goes_over (coe 0 1 (i. FoundFor (IsKnownAt N (path i).lines (length (front_same o.before o.after o.tried i)) own)
+        (querying (path i).lines (0 ∷ o.points)) ks) there)
 
 -- ---- whether or not the path has a fault
 

@@ -1,6 +1,7 @@
 -- A path has exactly one list of coverage queries, and they determine its footprint.
-use Rattle.std.proofs.Common.{inl, inr, ◌≡◌, ℕ, zero, suc, ◌+◌, ◌-◌, min, true, List, [], ◌∷◌, length, ◌<◌, ◌≤◌, Option, None}
-use Rattle.std.proofs.Common.{Some, IsTrue, Contains, refl, sym, ap, ◌∙◌, subst, arith, MatchOption, ◌↔◌, ◌⊎◌}
+use Rattle.std.proofs.Common.{inl, inr, ◌≡◌, ℕ, zero, suc, ◌+◌, ◌-◌, min, true, List, ◌∷◌, length, ◌<◌, ◌≤◌, Option}
+use Rattle.std.proofs.Common.{None, Some, IsTrue, Contains, refl, sym, ap, ◌∙◌, subst, arith, MatchOption, ◌↔◌, ◌⊎◌, T}
+use Rattle.std.proofs.Common.{[]}
 use Rattle.std.proofs.lemmas.Bool.{cases_lt, cases_eq, cases_order}
 use Rattle.std.specs.List.{AllZip}
 use Rattle.olr_spec.specs.Map.{Map, IsMap, has}
@@ -8,16 +9,14 @@ use Rattle.olr_spec.specs.Routes.{dm_of}
 use Rattle.olr_spec.specs.Extension.{Path, is_path, extended_path, limit}
 use Rattle.olr_spec.specs.Points.{stretch, Covered, Greatest}
 use Rattle.olr_spec.specs.Encoding.{Refusal, path_fault}
-use Rattle.olr_spec.specs.Footprint.{Sees, Touched, On_path, On_start_run, On_end_run, Within_reach, FootOf, Foot}
-use Rattle.olr_spec.specs.Detours.{Near}
-use Rattle.olr_spec.specs.Queries.{Traversed, TraversedOfExtended, TraversedOf, Needed, IsLastTested, CoverageQuery, query_to}
+use Rattle.olr_spec.specs.Footprint.{Sees, Touched, On_path, On_start_run, On_end_run, Within_reach, FootOf}
+use Rattle.olr_spec.specs.Queries.{Traversed, TraversedOfExtended, Needed, IsLastTested, CoverageQuery, query_to}
 use Rattle.olr_spec.specs.Queries.{IsQuery, querying, QueriesOfExtended}
 use Rattle.olr_spec.specs.Laws.{OneLastTested, SomeLastTested, OneQueries, SomeQueries, FootIsQueried, FootAffected}
 use Rattle.olr_spec.proofs.AnswerLemmas.{path_also, path_at, same_by}
 use Rattle.olr_spec.proofs.DecideLemmas.{dec_and, dec_le, dec_Covered, greatest_or_none, some_follow, some_encoding}
 use Rattle.olr_spec.proofs.ListLemmas.{has_here, has_there}
-use Rattle.olr_spec.proofs.AgreeLemmas.{turned_round}
-use Rattle.olr_spec.proofs.RouteMoves.{near_there}
+use Rattle.olr_spec.proofs.RouteMoves.{near_same}
 use Rattle.olr_spec.proofs.JoinLemmas.{empty_stretch}
 use Rattle.olr_spec.proofs.QueryLists.{query_for, query_from, queries_here}
 
@@ -200,29 +199,25 @@ foot_queried M m P is queries o v = by (path_fault M P) refl o
 -- ---- what touched nodes affect
 
 pub foot_affected : FootAffected
-foot_affected M N m T round P is queries o = (there, here)
-  where
-    there : (v : ℕ) × IsTrue (has T v) × Foot M P v
-        → ((v : ℕ) × IsTrue (has T v) × TraversedOf M P v) ⊎ ((l : CoverageQuery) × Contains queries l
-        × Near N T l.from l.within)
-    there f = elim ((foot_queried M m P is queries o f.0).0 f.2) [
-      | inl traversed ↦ inl (f.0, f.1, traversed)
-      | inr r ↦ inr (
-        r.0,
-        r.1,
-        near_there M N T round r.0.from r.0.within (record {
-          node = f.0;
-          route = r.2.0;
-          touched = f.1;
-          leads = r.2.1;
-          within = r.2.2;
-        }),
-      )
-    ]
-
-    here : ((v : ℕ) × IsTrue (has T v) × TraversedOf M P v) ⊎
-        ((l : CoverageQuery) × Contains queries l × Near N T l.from l.within) → (v : ℕ) × IsTrue (has T v) × Foot M P v
-    here (inl traversed) = (traversed.0, traversed.1, (foot_queried M m P is queries o traversed.0).1 (inl traversed.2))
-    here (inr r) =
-        let n = near_there N M T (λ v e. turned_round M N v (round v e)) r.0.from r.0.within r.2 in
-        (n.node, n.touched, (foot_queried M m P is queries o n.node).1 (inr (r.0, r.1, (n.route, n.leads, n.within))))
+foot_affected M N m T round P is queries o = (
+  (λ f. elim ((foot_queried M m P is queries o f.0).0 f.2) [
+    | inl traversed ↦ inl (f.0, f.1, traversed)
+    | inr (l, on, r) ↦ inr (
+      l,
+      on,
+      (near_same M N T round l.from l.within).0 (record {
+        node = f.0;
+        route = r.0;
+        touched = f.1;
+        leads = r.1;
+        within = r.2;
+      }),
+    )
+  ]),
+  elim [
+    | inl traversed ↦ (traversed.0, traversed.1, (foot_queried M m P is queries o traversed.0).1 (inl traversed.2))
+    | inr (l, on, r) ↦
+        let n = (near_same M N T round l.from l.within).1 r in
+        (n.node, n.touched, (foot_queried M m P is queries o n.node).1 (inr (l, on, (n.route, n.leads, n.within))))
+  ],
+)

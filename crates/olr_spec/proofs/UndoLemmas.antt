@@ -1,15 +1,15 @@
 -- One edit restores the map from before an accepted edit, and the empty map is sound.
-use Rattle.std.proofs.Common.{inl, inr, ◌≡◌, ◌≢◌, ℕ, Bool, true, false, cond, not, ◌||◌, List, [], ◌∷◌, map, Option, Some, None}
-use Rattle.std.proofs.Common.{is_some, Result, Ok, refl, sym, ap, ◌∙◌, nat_cmp, ◌==◌, unwrap_or}
+use Rattle.std.proofs.Common.{inl, inr, ◌≡◌, ◌≢◌, ℕ, Bool, true, false, cond, not, ◌||◌, List, ◌∷◌, map, Option, Some}
+use Rattle.std.proofs.Common.{None, is_some, Result, Ok, refl, sym, ap, ◌∙◌, nat_cmp, ◌==◌, unwrap_or, []}
 use Rattle.std.proofs.lemmas.Bool.{cases_eq, cases_Bool, eqb-true, both_ways, and_from, or_cases}
 use Rattle.std.specs.List.{list_any, filter}
 use Rattle.std.specs.Cmp.{nat_cmp_total}
 use Rattle.std.specs.FinMap.{FinMap, get, insert, remove, entries, get-empty, same_map, nat_cmp-IsAntisymmetric}
-use Rattle.olr_spec.specs.Coordinates.{Coord}
-use Rattle.olr_spec.specs.Map.{Map, empty_map, IsMap, Line, is_good, has_node, has_line, line_at, coord_at, no_line, start, end}
-use Rattle.olr_spec.specs.Map.{Edit, Add_node, Move_node, Drop_node, Add_line, Set_line, Drop_line, Node_exists, No_node}
-use Rattle.olr_spec.specs.Map.{Line_exists, No_line, Node_in_use, Bad_shape, edited, unless, in_use, has}
-use Rattle.olr_spec.specs.Laws.{EmptyIsSound}
+use Rattle.olr_spec.specs.Map.{Map, empty_map, IsMap, Line, is_good, has_node, has_line, line_at, coord_at, no_line}
+use Rattle.olr_spec.specs.Map.{start, end, Edit, Add_node, Move_node, Drop_node, Add_line, Set_line, Drop_line}
+use Rattle.olr_spec.specs.Map.{Node_exists, No_node, Line_exists, No_line, Node_in_use, Bad_shape, edited, unless}
+use Rattle.olr_spec.specs.Map.{in_use, has}
+use Rattle.olr_spec.specs.Laws.{EmptyIsSound, EditsUndo}
 use Rattle.olr_spec.proofs.MapLemmas.{has-lines_where, passes_at}
 use Rattle.olr_spec.proofs.ListLemmas.{has_here}
 use Rattle.olr_spec.proofs.AgreeLemmas.{some_is}
@@ -20,25 +20,21 @@ use Rattle.olr_spec.proofs.OptionLemmas.{none_of, there_not}
 
 module _ {X : Type 0} (m : FinMap nat_cmp X) (k : ℕ) where
   restored : (n : FinMap nat_cmp X) → get n k ≡ get m k → ((q : ℕ) → q ≢ k → get n q ≡ get m q) → n ≡ m
-  restored n here other =
-      same_map nat_cmp_total nat_cmp-IsAntisymmetric n m (λ q. elim (cases_eq q k) [
-        | inl is ↦ coe 1 0 (i. get n (is i) ≡ get m (is i)) here
-        | inr ne ↦ other q ne
-      ])
+  restored n here other = same_map nat_cmp_total nat_cmp-IsAntisymmetric n m (λ q. elim (cases_eq q k) [
+    | inl is ↦ rw is here
+    | inr ne ↦ other q ne
+  ])
 
   drop_added : (v : X) → get m k ≡ None → remove (insert m k v) k ≡ m
-  drop_added v e =
-      restored (remove (insert m k v) k) (left_same (insert m k v) k ∙ sym e)
+  drop_added v e = restored (remove (insert m k v) k) (left_same (insert m k v) k ∙ sym e)
       (λ q ne. left_other (insert m k v) k q ne ∙ got_other m k v q ne)
 
   put_back : (v : X) → get m k ≡ Some v → insert (remove m k) k v ≡ m
-  put_back v e =
-      restored (insert (remove m k) k v) (got_same (remove m k) k v ∙ sym e)
+  put_back v e = restored (insert (remove m k) k v) (got_same (remove m k) k v ∙ sym e)
       (λ q ne. got_other (remove m k) k v q ne ∙ left_other m k q ne)
 
   set_back : (v w : X) → get m k ≡ Some v → insert (insert m k w) k v ≡ m
-  set_back v w e =
-      restored (insert (insert m k w) k v) (got_same (insert m k w) k v ∙ sym e)
+  set_back v w e = restored (insert (insert m k w) k v) (got_same (insert m k w) k v ∙ sym e)
       (λ q ne. got_other (insert m k w) k v q ne ∙ got_other m k w q ne)
 
 -- ---- tests
@@ -72,12 +68,11 @@ unused_where_absent M m v absent =
           let line = passed_line test (get M.lines x.0) (sym (has-lines_where M test x.0) ∙ x.1) in
           let there : has_line M x.0 ≡ true = ap (λ (o : Option Line). is_some o) line.1 in
           let is : line_at M x.0 ≡ line.0 = ap (λ (o : Option Line). unwrap_or o no_line) line.1 in
-          absurd (elim (or_cases (line.0.to == v) (line.0.from == v) line.2) [
-            | inl t ↦ both_ways (has_node M v) absent
-                (sym (ap (has_node M) (ap (λ (l : Line). l.to) is ∙ eqb-true line.0.to v t)) ∙ m.ends x.0 there)
-            | inr f ↦ both_ways (has_node M v) absent
-                (sym (ap (has_node M) (ap (λ (l : Line). l.from) is ∙ eqb-true line.0.from v f)) ∙ m.starts x.0 there)
-          ])
+          let at = rw (← is) at line.2 in
+          absurd (both_ways (has_node M v) absent (elim (or_cases _ _ at) [
+            | inl t ↦ rw (eqb-true (end M x.0) v t) at (m.ends x.0 there)
+            | inr f ↦ rw (eqb-true (start M x.0) v f) at (m.starts x.0 there)
+          ]))
     ]
 
 -- ---- edits
@@ -91,89 +86,57 @@ back_of M (Add_line x l) = Drop_line x
 back_of M (Set_line x frc fow len shape) = let l = line_at M x in Set_line x l.frc l.fow l.len l.shape
 back_of M (Drop_line x) = Add_line x (line_at M x)
 
-module _ (M : Map) (m : IsMap M) where
-  abbrev with_nodes : FinMap nat_cmp Coord → Map
-  with_nodes nodes = record M { nodes = nodes }
+pub takes_back : (M : Map) → IsMap M → (N : Map) (e : Edit) → edited M e ≡ Ok N → edited N (back_of M e) ≡ Ok M
+takes_back M m N (Add_node v c) e =
+    let p = made_by M N (Add_node v c) e in
+    let back = drop_added M.nodes v c (none_of (get M.nodes v) p.0) in
+    coe 0 1 (i. edited (p.1 i) (Drop_node v) ≡ Ok M) (λ i. unless (not (is_some (got_same M.nodes v c i))) No_node
+    (unless (unused_where_absent M m v p.0 i) Node_in_use (Ok (record M { nodes = back i }))))
+takes_back M m N (Move_node v c) e =
+    let p = made_by M N (Move_node v c) e in
+    let back = set_back M.nodes v (coord_at M v) c (some_is (get M.nodes v) _ p.0) in
+    coe 0 1 (i. edited (p.1 i) (back_of M (Move_node v c)) ≡ Ok M)
+    (λ i. unless (not (is_some (got_same M.nodes v c i))) No_node (Ok (record M { nodes = back i })))
+takes_back M m N (Drop_node v) e =
+    let p = made_by M N (Drop_node v) e in
+    let back = put_back M.nodes v (coord_at M v) (some_is (get M.nodes v) _ p.0) in
+    coe 0 1 (i. edited (p.2 i) (back_of M (Drop_node v)) ≡ Ok M)
+    (λ i. unless (is_some (left_same M.nodes v i)) Node_exists (Ok (record M { nodes = back i })))
+takes_back M m N (Add_line x l) e =
+    let p = made_by M N (Add_line x l) e in
+    let back = drop_added M.lines x l (none_of (get M.lines x) p.0) in
+    coe 0 1 (i. edited (p.4 i) (Drop_line x) ≡ Ok M)
+    (λ i. unless (not (is_some (got_same M.lines x l i))) No_line (Ok (record M { lines = back i })))
+takes_back M m N (Set_line x frc fow len shape) e =
+    let k : Line = record { from = start M x; to = end M x; frc = frc; fow = fow; len = len; shape = shape } in
+    let l = line_at M x in
+    let p = made_by M N (Set_line x frc fow len shape) e in
+    let got = got_same M.lines x k in
+    let old : Line → Line = λ j. record l { from = j.from; to = j.to } in
+    let is : old (line_at (record M { lines = insert M.lines x k }) x) ≡ l =
+    ap (λ (o : Option Line). old (unwrap_or o no_line)) got in
+    let good = ap is_good is ∙ m.good x p.0 in
+    let back = ap (insert (insert M.lines x k) x) is ∙ set_back M.lines x l k (some_is (get M.lines x) no_line p.0) in
+    coe 0 1 (i. edited (p.2 i) (back_of M (Set_line x frc fow len shape)) ≡ Ok M)
+    (λ i. unless (not (is_some (got i))) No_line (unless (not (good i)) Bad_shape (Ok (record M { lines = back i }))))
+takes_back M m N (Drop_line x) e =
+    let p = made_by M N (Drop_line x) e in
+    let ends = and_from (has_node M (start M x)) (has_node M (end M x)) (m.starts x p.0) (m.ends x p.0) in
+    let back = put_back M.lines x (line_at M x) (some_is (get M.lines x) no_line p.0) in
+    coe 0 1 (i. edited (p.1 i) (back_of M (Drop_line x)) ≡ Ok M)
+    (λ i. unless (is_some (left_same M.lines x i)) Line_exists
+    (unless (not (ends i)) No_node (unless (not (m.good x p.0 i)) Bad_shape (Ok (record M { lines = back i })))))
 
-  abbrev with_lines : FinMap nat_cmp Line → Map
-  with_lines lines = record M { lines = lines }
-
-  drop_new_node : (v : ℕ) (c : Coord) → has_node M v ≡ false → edited (with_nodes (insert M.nodes v c)) (Drop_node v) ≡ Ok M
-  drop_new_node v c absent =
-      let free : in_use M v ≡ false = unused_where_absent M m v absent in
-      let back = drop_added M.nodes v c (none_of (get M.nodes v) absent) in
-      λ i. unless (not (is_some (got_same M.nodes v c i))) No_node (unless (free i) Node_in_use (Ok (with_nodes (back i))))
-
-  move_back : (v : ℕ) (c : Coord) → has_node M v ≡ true →
-      edited (with_nodes (insert M.nodes v c)) (Move_node v (coord_at M v)) ≡ Ok M
-  move_back v c there =
-      let back = set_back M.nodes v (coord_at M v) c (some_is (get M.nodes v) _ there) in
-      λ i. unless (not (is_some (got_same M.nodes v c i))) No_node (Ok (with_nodes (back i)))
-
-  add_back : (v : ℕ) → has_node M v ≡ true → edited (with_nodes (remove M.nodes v)) (Add_node v (coord_at M v)) ≡ Ok M
-  add_back v there =
-      let back = put_back M.nodes v (coord_at M v) (some_is (get M.nodes v) _ there) in
-      λ i. unless (is_some (left_same M.nodes v i)) Node_exists (Ok (with_nodes (back i)))
-
-  drop_new_line : (x : ℕ) (l : Line) → has_line M x ≡ false → edited (with_lines (insert M.lines x l)) (Drop_line x) ≡ Ok M
-  drop_new_line x l absent =
-      let got = got_same M.lines x l in
-      λ i. unless (not (is_some (got i))) No_line (Ok (with_lines (drop_added M.lines x l (none_of (get M.lines x) absent) i)))
-
-  line_back : (x : ℕ) → has_line M x ≡ true → edited (with_lines (remove M.lines x)) (Add_line x (line_at M x)) ≡ Ok M
-  line_back x there =
-      let ends = and_from (has_node M (start M x)) (has_node M (end M x)) (m.starts x there) (m.ends x there) in
-      let back = put_back M.lines x (line_at M x) (some_is (get M.lines x) no_line there) in
-      λ i. unless (is_some (left_same M.lines x i)) Line_exists
-      (unless (not (ends i)) No_node (unless (not (m.good x there i)) Bad_shape (Ok (with_lines (back i)))))
-
-  -- the line's old record replaces one with the same ends
-  line_set_back : (x : ℕ) (k : Line) → has_line M x ≡ true → k.from ≡ start M x → k.to ≡ end M x
-      → edited (with_lines (insert M.lines x k))
-      (Set_line x (line_at M x).frc (line_at M x).fow (line_at M x).len (line_at M x).shape) ≡ Ok M
-  line_set_back x k there from to =
-      let l = line_at M x in
-      let got = got_same M.lines x k in
-      let new : line_at (with_lines (insert M.lines x k)) x ≡ k = ap (λ (o : Option Line). unwrap_or o no_line) got in
-      let begins = ap (λ (j : Line). j.from) new ∙ from in
-      let old : Line = record l {
-        from = start (with_lines (insert M.lines x k)) x;
-        to = end (with_lines (insert M.lines x k)) x;
-      } in
-      let is : old ≡ l = λ i. record l { from = begins i; to = (ap (λ (j : Line). j.to) new ∙ to) i } in
-      let good = ap is_good is ∙ m.good x there in
-      let back = ap (insert (insert M.lines x k) x) is ∙ set_back M.lines x l k (some_is (get M.lines x) no_line there) in
-      λ i. unless (not (is_some (got i))) No_line (unless (not (good i)) Bad_shape (Ok (with_lines (back i))))
-
-  pub takes_back : (N : Map) (e : Edit) → edited M e ≡ Ok N → edited N (back_of M e) ≡ Ok M
-  takes_back N (Add_node v c) e =
-      let p = made_by M N (Add_node v c) e in coe 0 1 (i. edited (p.1 i) (Drop_node v) ≡ Ok M) (drop_new_node v c p.0)
-  takes_back N (Move_node v c) e =
-      let p = made_by M N (Move_node v c) e in
-      coe 0 1 (i. edited (p.1 i) (back_of M (Move_node v c)) ≡ Ok M) (move_back v c p.0)
-  takes_back N (Drop_node v) e =
-      let p = made_by M N (Drop_node v) e in coe 0 1 (i. edited (p.2 i) (back_of M (Drop_node v)) ≡ Ok M) (add_back v p.0)
-  takes_back N (Add_line x l) e =
-      let p = made_by M N (Add_line x l) e in coe 0 1 (i. edited (p.4 i) (Drop_line x) ≡ Ok M) (drop_new_line x l p.0)
-  takes_back N (Set_line x frc fow len shape) e =
-      let k : Line = record { from = start M x; to = end M x; frc = frc; fow = fow; len = len; shape = shape } in
-      let p = made_by M N (Set_line x frc fow len shape) e in
-      coe 0 1 (i. edited (p.2 i) (back_of M (Set_line x frc fow len shape)) ≡ Ok M) (line_set_back x k p.0 refl refl)
-  takes_back N (Drop_line x) e =
-      let p = made_by M N (Drop_line x) e in coe 0 1 (i. edited (p.1 i) (back_of M (Drop_line x)) ≡ Ok M) (line_back x p.0)
-
-  pub edits_undo : (N : Map) (e : Edit) → edited M e ≡ Ok N → (f : Edit) × (edited N f ≡ Ok M)
-  edits_undo N e h = (back_of M e, takes_back N e h)
+pub edits_undo : EditsUndo
+edits_undo M N e m h = (back_of M e, takes_back M m N e h)
 
 pub empty_sound : EmptyIsSound
 empty_sound =
+    let none : (x : ℕ) → has_line empty_map x ≡ true → ⊥ = λ x h. there_not (get empty_map.lines x) h (get-empty nat_cmp x) in
     record {
-      good = λ x h. absurd (no_line_there x h);
-      starts = λ x h. absurd (no_line_there x h);
-      ends = λ x h. absurd (no_line_there x h);
+      good = λ x h. absurd (none x h);
+      starts = λ x h. absurd (none x h);
+      ends = λ x h. absurd (none x h);
       places = λ v h. absurd (there_not (get empty_map.nodes v) h (get-empty nat_cmp v));
-      shapes = λ x h. absurd (no_line_there x h);
+      shapes = λ x h. absurd (none x h);
     }
-  where
-    no_line_there : (x : ℕ) → has_line empty_map x ≡ true → ⊥
-    no_line_there x h = there_not (get empty_map.lines x) h (get-empty nat_cmp x)

@@ -4,10 +4,4 @@ use Rattle.olr_spec.proofs.DecodedLemmas.{decoded_near, decoded_points}
 use Rattle.olr_spec.proofs.laws_of_points.Goals as goal
 
 pub returns : goal.returns
-returns c =
-    record {
-      two_kept = two_kept;
-      routes_join = routes_join;
-      decoded_near = decoded_near;
-      decoded_points = decoded_points;
-    }
+returns c = assumption (two_kept, routes_join, decoded_near, decoded_points)

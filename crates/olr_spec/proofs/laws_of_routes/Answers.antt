@@ -4,14 +4,13 @@ use Rattle.olr_spec.proofs.DecideLemmas.{one_unique}
 use Rattle.olr_spec.proofs.laws_of_routes.Goals as goal
 
 pub returns : goal.returns
-returns c =
-    record {
-      suffixes = longer;
-      one_least = one_least;
-      prefix_of_least = prefix_of_least;
-      empty_least = empty_least;
-      unique_is_least = unique_least;
-      one_unique = one_unique;
-      prefix_of_unique = prefix_of_unique;
-      empty_unique = empty_unique;
-    }
+returns c = assumption (
+  longer,
+  one_least,
+  prefix_of_least,
+  empty_least,
+  unique_least,
+  one_unique,
+  prefix_of_unique,
+  empty_unique,
+)
